@@ -30,6 +30,7 @@ distinct_lits (l ∷ c) = not (has c l) && distinct_lits c
 abbrev pub has_opposites : List Literal → Bool
 has_opposites c = list_any (λ l. has c (opposite l)) c
 
+-- no literal at all
 abbrev pub is_empty : List Literal → Bool
 is_empty [] = true
 is_empty (l ∷ c) = false

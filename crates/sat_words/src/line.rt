@@ -1,11 +1,16 @@
-ghost use Rattle.std.specs.Prelude.{◌≡◌, IfOk};
+ghost use Rattle.std.specs.Prelude.{◌≡◌, ◌==◌, IfOk};
+ghost use Rattle.std.proofs.Common.{rules};
+ghost use Rattle.std.specs.Cmp.Lexicographic.{pointwise};
+ghost use Rattle.std.specs.Cmp.Rules.{comparing};
+ghost use Rattle.std.specs.Ordering.{on};
+ghost use Rattle.sat_words.specs.Literal.{code_of};
 
 use crate::literal::Lit;
 use std::alloc::{AllocError, Global};
 use std::marker::Model;
 
 /// Literals in the order given, repeats and all, as a line of a proof spells them.
-#[derive(Drop)]
+#[derive(Clone, Debug, Drop)]
 pub struct Lits {
     items: Vec<Lit>,
 }
@@ -17,6 +22,20 @@ impl Model for Lits {
     ghost Value = { List Literal };
 
     ghost view = { λ lits. lits.items.items };
+}
+
+impl PartialEq for Lits {
+    ghost eq = { pointwise (on code_of ◌==◌) };
+
+    ghost laws = { Prim.search (comparing, rules) };
+
+    fn eq(&self, other: &Lits) -> bool {
+        self.as_slice() == other.as_slice()
+    }
+}
+
+impl Eq for Lits {
+    ghost laws = { Prim.search (comparing, rules) };
 }
 
 impl Lits {
@@ -52,12 +71,12 @@ impl Lits {
     }
 }
 
-/// A line of a DRAT proof: a clause that is added, or one that is deleted. The first literal of an addition is the
-/// one on which it may be a resolution asymmetric tautology.
-#[derive(Drop)]
+/// A line of a proof in the DRAT format of the SAT Competition: a clause that is added, or one that is deleted.
+#[derive(Clone, PartialEq, Eq, Debug, Drop)]
 pub enum Line {
-    /// Adds a clause.
+    /// Adds a clause with these literals. Where unit propagation does not show that it follows, the first of them is
+    /// the one on which it may be a resolution asymmetric tautology.
     Add(Lits),
-    /// Deletes a clause with these literals.
+    /// Deletes one clause with these literals, in whatever order.
     Del(Lits),
 }

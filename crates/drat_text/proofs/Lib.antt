@@ -1,0 +1,7 @@
+pub mod Text
+pub mod Cut
+pub mod LitText
+mod LineText
+mod Tokens
+mod Unique
+mod Progress

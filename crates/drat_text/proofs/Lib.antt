@@ -4,4 +4,4 @@ pub mod LitText
 mod LineText
 mod Tokens
 mod Unique
-mod Progress
+pub mod Progress

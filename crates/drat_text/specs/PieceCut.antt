@@ -1,4 +1,4 @@
--- What a sink has of a line whose piece was written only in part.
+-- What a sink has of a text whose piece was written only in part.
 use Rattle.std.specs.Prelude.{◌≡◌, ℕ, ◌+◌, ◌-◌, ◌^◌, ◌<◌, List, length, min}
 use Rattle.std.specs.declared.option.Option.{Option}
 use Rattle.io_edge.specs.Bytes.{GrowsByPart}

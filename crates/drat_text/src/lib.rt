@@ -1,4 +1,5 @@
-//! The text of a DRAT proof: what stands in its lines, and writing one.
+//! The text of a DRAT proof: what stands in its lines, and writing one. `Piece` is the fixed buffer that a text is
+//! written over.
 #![tactic(auto)]
 
 mod laws;
@@ -7,6 +8,7 @@ mod piece;
 
 pub use laws::text_determines_lines;
 pub use line::put_line;
+pub use piece::{CAPACITY, Piece};
 
 #[cfg(test)]
 mod tests;

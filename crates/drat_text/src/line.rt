@@ -1,14 +1,16 @@
 // Writing a line of a proof.
-ghost use Rattle.std.specs.Prelude.{◌≡◌, ◌+◌, ◌-◌, ◌^◌, ◌≤◌, ◌++◌, [], min, length, codes, IfOk, IfErr, OnOk};
+ghost use Rattle.std.specs.Prelude.{◌≡◌, ◌+◌, ◌≤◌, ◌++◌, length, codes, IfErr, OnOk};
 ghost use Rattle.io_edge.specs.Bytes.{GrowsBy};
 ghost use Rattle.io_edge.specs.Causes.{HasCause};
 ghost use Rattle.drat_text.specs.Text.{lits_text, line_text};
 ghost use Rattle.drat_text.specs.Cut.{WasCut};
-ghost use Rattle.drat_text.specs.PieceCut.{PieceWasCut};
 
-use crate::piece::{CAPACITY, END, Piece};
-use io_edge::{Sink, WriteStop, write_all_of};
+use crate::piece::{CAPACITY, LITERAL, Piece};
+use io_edge::{Sink, WriteStop};
 use sat_words::{Line, Lit};
+
+/// The bytes of a line's end: `0` and a newline.
+const END: usize = 2;
 
 /// Writes the line as textual DRAT, the format that the proof checker drat-trim reads: for the clause 1 or not 2 it is
 /// `1 -2 0` where it is added, and `d 1 -2 0` where it is deleted. It does not flush, and takes no memory.
@@ -44,32 +46,12 @@ fn put_lits<S: Sink>(sink: &mut S, piece: &mut Piece, lits: &[Lit]) -> Result<()
 {
     let mut taken = 0;
     for lit in lits {
-        if !piece.has_room() {
-            taken = write_piece(sink, piece, taken)?;
+        if !piece.has_room(LITERAL + END) {
+            taken = piece.write_to(sink, taken)?;
         }
         piece.push_lit(*lit);
     }
     piece.push_bytes(b"0\n");
-    write_piece(sink, piece, taken)?;
+    piece.write_to(sink, taken)?;
     Ok(())
-}
-
-/// Writes the piece and empties it. `taken` bytes of the line were written before, and the answer adds the piece's. A
-/// count past `usize::MAX` stands still there.
-fn write_piece<S: Sink>(sink: &mut S, piece: &mut Piece, taken: usize) -> Result<usize, WriteStop>
-    ensures all { OnOk result (GrowsBy (S.written sink.old) (S.written sink.new) piece.old) }
-    ensures empty { OnOk result (piece.new ≡ []) }
-    ensures count { IfOk result (λ count. count ≡ min (taken + length piece.old) (2 ^ 64 - 1)) }
-    ensures part { IfErr result (λ stop. PieceWasCut taken (S.written sink.old) (S.written sink.new) piece.old stop.taken) }
-    ensures flushed { S.flushed sink.new ≡ S.flushed sink.old }
-    ensures target { S.target sink.new ≡ S.target sink.old }
-    ensures cause { HasCause (S.faults sink.old) (S.faults sink.new) result }
-{
-    if let Err(stop) = write_all_of(sink, piece.as_slice()) {
-        let taken = taken.saturating_add(stop.taken);
-        return Err(WriteStop { taken });
-    }
-    let count = taken.saturating_add(piece.as_slice().len());
-    piece.clear();
-    Ok(count)
 }

@@ -1,23 +1,25 @@
-// A fixed buffer between a line's literals and the sink.
-ghost use Rattle.std.specs.Prelude.{◌≡◌, ◌+◌, ◌≤◌, ◌++◌, [], IsTrue, ◌↔◌, length, codes};
+// A fixed buffer between a text and the sink that it is written to.
+ghost use Rattle.std.specs.Prelude.{◌≡◌, ◌+◌, ◌-◌, ◌^◌, ◌≤◌, ◌++◌, [], IsTrue, ◌↔◌, min, length, codes, IfOk, IfErr, OnOk, OnErr};
+ghost use Rattle.io_edge.specs.Bytes.{GrowsBy};
+ghost use Rattle.io_edge.specs.Causes.{HasCause};
 ghost use Rattle.drat_text.specs.Text.{lit_text};
+ghost use Rattle.drat_text.specs.PieceCut.{PieceWasCut};
 
+use io_edge::{Sink, WriteStop, write_all_of};
 use itoa::Buffer;
 use sat_words::Lit;
 use std::marker::Model;
 
-/// How many bytes are handed over at once, at most.
-pub(crate) const CAPACITY: usize = 4096;
+/// How many bytes a piece has room for: the most that are handed over at once.
+pub const CAPACITY: usize = 4096;
 
 /// The most bytes of a literal: `-`, ten digits and a space.
 pub(crate) const LITERAL: usize = 12;
 
-/// The bytes of a line's end: `0` and a newline.
-pub(crate) const END: usize = 2;
-
-/// The bytes that were put last and are still to be handed over. It takes no memory but its own.
+/// The bytes of a text that were put last and are still to be handed over, so that a text that is made of short words
+/// is written in few calls. It takes no memory but its own.
 #[derive(Drop)]
-pub(crate) struct Piece {
+pub struct Piece {
     bytes: [u8; CAPACITY],
     len: usize,
 }
@@ -34,7 +36,8 @@ impl Model for Piece {
 }
 
 impl Piece {
-    pub(crate) fn new() -> Piece
+    /// No bytes.
+    pub fn new() -> Piece
         ensures { result ≡ [] }
     {
         Piece {
@@ -43,14 +46,15 @@ impl Piece {
         }
     }
 
-    /// Whether a literal and the end of the line have room.
-    pub(crate) fn has_room(&self) -> bool
-        ensures { IsTrue result ↔ (length self.now + (LITERAL + END) ≤ CAPACITY) }
+    /// Whether so many bytes more have room.
+    pub fn has_room(&self, count: usize) -> bool
+        ensures { IsTrue result ↔ (length self.now + count ≤ CAPACITY) }
     {
-        self.len + (LITERAL + END) <= CAPACITY
+        count <= CAPACITY - self.len
     }
 
-    pub(crate) fn push_bytes(&mut self, bytes: &[u8])
+    /// Adds the bytes.
+    pub fn push_bytes(&mut self, bytes: &[u8])
         requires { length self.old + length bytes.now ≤ CAPACITY }
         ensures { self.new ≡ self.old ++ bytes.now }
     {
@@ -73,13 +77,35 @@ impl Piece {
         self.push_bytes(b" ");
     }
 
-    pub(crate) fn as_slice(&self) -> &[u8]
+    /// Writes the bytes and empties the piece. `taken` bytes of the text were written before, and the answer adds the
+    /// piece's. At `WriteStop` the sink failed and has exactly the first `taken` bytes of the text, and the piece is as
+    /// it was. A count past `usize::MAX` stands still there.
+    pub fn write_to<S: Sink>(&mut self, sink: &mut S, taken: usize) -> Result<usize, WriteStop>
+        ensures all { OnOk result (GrowsBy (S.written sink.old) (S.written sink.new) self.old) }
+        ensures empty { OnOk result (self.new ≡ []) }
+        ensures count { IfOk result (λ count. count ≡ min (taken + length self.old) (2 ^ 64 - 1)) }
+        ensures part { IfErr result (λ stop. PieceWasCut taken (S.written sink.old) (S.written sink.new) self.old stop.taken) }
+        ensures kept { OnErr result (self.new ≡ self.old) }
+        ensures flushed { S.flushed sink.new ≡ S.flushed sink.old }
+        ensures target { S.target sink.new ≡ S.target sink.old }
+        ensures cause { HasCause (S.faults sink.old) (S.faults sink.new) result }
+    {
+        if let Err(stop) = write_all_of(sink, self.as_slice()) {
+            let taken = taken.saturating_add(stop.taken);
+            return Err(WriteStop { taken });
+        }
+        let count = taken.saturating_add(self.as_slice().len());
+        self.clear();
+        Ok(count)
+    }
+
+    fn as_slice(&self) -> &[u8]
         ensures { result.now ≡ self.now }
     {
         &self.bytes[..self.len]
     }
 
-    pub(crate) fn clear(&mut self)
+    fn clear(&mut self)
         ensures { self.new ≡ [] }
     {
         self.len = 0;

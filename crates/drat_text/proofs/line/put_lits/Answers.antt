@@ -12,7 +12,7 @@ returns-in_err-taken-clause-part g c =
     let i = c.loop-lit.lit-index in
     let lits = c.args.lits.now in
     rw (p.1, p.2, lits_text_split c.args.piece.now lits i)
-    (progress_cut (g.S.Sink.written c.args.sink.now) (g.S.Sink.written c.loop-lit.sink) (g.S.Sink.written c.write_piece.new.sink)
+    (progress_cut (g.S.Sink.written c.args.sink.now) (g.S.Sink.written c.loop-lit.sink) (g.S.Sink.written c.write_to.new.sink)
     (c.args.piece.now ++ lits_text (take i lits)) c.loop-lit.piece (lits_text (drop i lits) ++ codes "0\n") c.loop-lit.taken c.in_err-taken.field-0.0.taken
     c.loop-lit.invariant.progress c.in_err-taken.ensures.part)
 
@@ -31,8 +31,8 @@ loop-lit-preserved g c =
       | then-not-has_room+in_ok-taken w ↦ record {
         room = omega (arith, c.push_lit.ensures.fits, ap length (w.piece-is ∙ w.in_ok-taken.ensures.empty));
         progress = put
-            (progress_renamed start (g.S.Sink.written w.write_piece.new.sink) after line line [] c.if-not-has_room.piece w.in_ok-taken.taken c.if-not-has_room.taken
-            (progress_written start now (g.S.Sink.written w.write_piece.new.sink) line c.loop-lit.piece c.loop-lit.taken w.in_ok-taken.taken
+            (progress_renamed start (g.S.Sink.written w.write_to.new.sink) after line line [] c.if-not-has_room.piece w.in_ok-taken.taken c.if-not-has_room.taken
+            (progress_written start now (g.S.Sink.written w.write_to.new.sink) line c.loop-lit.piece c.loop-lit.taken w.in_ok-taken.taken
             c.loop-lit.invariant.progress w.in_ok-taken.ensures.all w.in_ok-taken.ensures.count)
             (ap (g.S.Sink.written) w.sink-is) refl (w.piece-is ∙ w.in_ok-taken.ensures.empty) w.taken-is);
         flushed = ap (g.S.Sink.flushed) w.sink-is ∙ w.in_ok-taken.ensures.flushed ∙ c.loop-lit.invariant.flushed;
@@ -50,13 +50,13 @@ loop-lit-preserved g c =
       }
     ]
 
-pub returns-in_err-write_piece-clause-part : goal.returns-in_err-write_piece-clause-part
-returns-in_err-write_piece-clause-part g c =
-    let p = err_from_is_err_and c.from_residual-in_err-write_piece.result c.from_residual-in_err-write_piece.ensures.1 in
+pub returns-in_err-write_to-clause-part : goal.returns-in_err-write_to-clause-part
+returns-in_err-write_to-clause-part g c =
+    let p = err_from_is_err_and c.from_residual-in_err-write_to.result c.from_residual-in_err-write_to.ensures.1 in
     let start = g.S.Sink.written c.args.sink.now in
     let now = g.S.Sink.written c.loop-lit.sink in
     let text = (c.args.piece.now ++ lits_text c.args.lits.now) ++ codes "0\n" in
     let ended = progress_ended start now c.args.piece.now c.loop-lit.piece c.push_bytes.new.self c.args.lits.now c.loop-lit.lit-index c.loop-lit.taken
     c.loop-lit.invariant.progress c.loop-lit-test.false c.push_bytes.ensures in
-    rw (p.1, p.2) (progress_cut_last start now (g.S.Sink.written c.write_piece-2.new.sink) text c.push_bytes.new.self c.loop-lit.taken c.in_err-write_piece.field-0.0.taken
-    ended c.in_err-write_piece.ensures.part)
+    rw (p.1, p.2) (progress_cut_last start now (g.S.Sink.written c.write_to-2.new.sink) text c.push_bytes.new.self c.loop-lit.taken c.in_err-write_to.field-0.0.taken
+    ended c.in_err-write_to.ensures.part)

@@ -1,5 +1,6 @@
 use Rattle.std.proofs.Common.{◌≡◌, ◌+◌, ◌≤◌, ◌++◌, length, take}
-use Rattle.drat_text.specs.declared.piece.TheConstants.{CAPACITY, END}
+use Rattle.drat_text.specs.declared.line.TheConstants.{END}
+use Rattle.drat_text.specs.declared.piece.TheConstants.{CAPACITY}
 use Rattle.drat_text.specs.Text.{lits_text}
 use Rattle.drat_text.proofs.Progress.{Progress}
 use Rattle.drat_text.proofs.line.put_lits.Given as goal

@@ -1,5 +1,5 @@
 use Rattle.std.proofs.Common.{rules}
-use Rattle.drat_text.proofs.line.write_piece.Goals as goal
+use Rattle.drat_text.proofs.piece.Piece.write_to.Goals as goal
 
 pub returns-in-Err-clause-part : goal.returns-in-Err-clause-part
 returns-in-Err-clause-part g c =

@@ -1,0 +1,272 @@
+"""Checks the built program against exhaustive search and a naive DRAT checker, both of their own.
+
+Seeded random formulas of up to 12 variables, pigeonhole formulas and formulas with the empty clause go through the
+program with `--proof`. Its answer is compared with a truth table, its `v` lines with the clauses and the format, and
+every line of its proof with the definition of DRAT. Before that, a damaged proof and a wrong model are tried, which
+must be caught. Nothing here shares code with the program.
+"""
+
+import os
+import random
+import re
+import subprocess
+import sys
+import tempfile
+import time
+
+SEED = 20261126
+RANDOM_FORMULAS = 300
+MOST_VARIABLES = 12
+SECONDS = 100
+LINE = re.compile(r"(d )?((?:-?[1-9][0-9]* )*)0")
+
+
+class Wrong(Exception):
+    """The program said something that does not hold."""
+
+
+def pigeons(holes):
+    """One pigeon more than holes: variable holes * i + j + 1 puts pigeon i into hole j."""
+    at = lambda i, j: holes * i + j + 1
+    clauses = [[at(i, j) for j in range(holes)] for i in range(holes + 1)]
+    for j in range(holes):
+        for i in range(holes + 1):
+            clauses += [[-at(i, j), -at(k, j)] for k in range(i + 1, holes + 1)]
+    return holes * (holes + 1), clauses
+
+
+def random_formula(rng):
+    variables = rng.randint(0, MOST_VARIABLES)
+    count = rng.randint(0, 6 * variables + 2)
+    clauses = []
+    for _ in range(count):
+        size = rng.choice([0] + [1] * 5 + [2] * 30 + [3] * 60 + [4] * 10) if rng.random() < 0.5 else rng.randint(2, 3)
+        if variables == 0:
+            size = 0
+        if size == 0 and rng.random() < 0.7:
+            size = min(3, variables)
+        clauses.append([rng.choice([1, -1]) * rng.randint(1, variables) for _ in range(size)])
+    return variables, clauses
+
+
+def spelled(variables, clauses):
+    """The formula in DIMACS, a clause a line."""
+    lines = ["p cnf %d %d" % (variables, len(clauses))]
+    lines += [" ".join(map(str, clause + [0])) for clause in clauses]
+    return ("\n".join(lines) + "\n").encode()
+
+
+def is_satisfiable(variables, clauses):
+    """By truth table: each variable is a number with a bit for each assignment."""
+    rows = 1 << variables
+    every = (1 << rows) - 1
+    column = []
+    for variable in range(variables):
+        block = ((1 << (1 << variable)) - 1) << (1 << variable)
+        width = 1 << (variable + 1)
+        value = 0
+        for start in range(0, rows, width):
+            value |= block << start
+        column.append(value)
+    left = every
+    for clause in clauses:
+        row = 0
+        for literal in clause:
+            value = column[abs(literal) - 1]
+            row |= value if literal > 0 else every ^ value
+        left &= row
+    return left != 0
+
+
+def conflicts(clauses, assumed):
+    """Whether unit propagation from the assumed literals makes a clause false."""
+    true = set(assumed)
+    if any(-literal in true for literal in true):
+        return True
+    while True:
+        changed = False
+        for clause in clauses:
+            if any(literal in true for literal in clause):
+                continue
+            rest = [literal for literal in clause if -literal not in true]
+            if not rest:
+                return True
+            if len(rest) == 1:
+                true.add(rest[0])
+                changed = True
+        if not changed:
+            return False
+
+
+def is_rup(clauses, literals):
+    return conflicts(clauses, [-literal for literal in literals])
+
+
+def is_rat(clauses, literals):
+    """On the first literal."""
+    if not literals:
+        return False
+    pivot = literals[0]
+    return all(
+        is_rup(clauses, literals + [literal for literal in clause if literal != -pivot])
+        for clause in clauses
+        if -pivot in clause
+    )
+
+
+def check_proof(clauses, text):
+    """Whether each line is valid where it stands; answers whether the empty clause was added."""
+    alive = [frozenset(clause) for clause in clauses]
+    ended = False
+    if text and not text.endswith("\n"):
+        raise Wrong("the proof's last line has no newline")
+    for number, line in enumerate(text.splitlines(), 1):
+        parts = LINE.fullmatch(line)
+        if parts is None:
+            raise Wrong("line %d of the proof is not in the format: %r" % (number, line))
+        literals = [int(word) for word in parts.group(2).split()]
+        if ended:
+            raise Wrong("line %d of the proof stands behind the empty clause" % number)
+        if parts.group(1):
+            clause = frozenset(literals)
+            if clause not in alive or len(clause) == 1:
+                raise Wrong("line %d of the proof deletes no clause of two literals or more" % number)
+            alive.remove(clause)
+            continue
+        if not is_rup(alive, literals) and not is_rat(alive, literals):
+            raise Wrong("line %d of the proof does not follow" % number)
+        alive.append(frozenset(literals))
+        ended = not literals
+    return ended
+
+
+def check_model(variables, clauses, lines):
+    """Whether the value lines are in the format and make each clause true."""
+    words = []
+    for line in lines:
+        if not line.startswith("v") or len(line) > 78:
+            raise Wrong("a bad value line: %r" % line)
+        words += line[1:].split()
+        if line != "v" + "".join(" " + word for word in line[1:].split()):
+            raise Wrong("a value line with other blanks: %r" % line)
+    for here, after in zip(lines, lines[1:]):
+        if len(here) + 1 + len(after.split()[1]) <= 78:
+            raise Wrong("a value line that is broken too early: %r" % here)
+    if not words or words[-1] != "0":
+        raise Wrong("the value lines do not end with 0")
+    literals = [int(word) for word in words[:-1]]
+    if [abs(literal) for literal in literals] != list(range(1, variables + 1)):
+        raise Wrong("the value lines do not name each variable in order")
+    true = set(literals)
+    for clause in clauses:
+        if not any(literal in true for literal in clause):
+            raise Wrong("the model makes a clause false: %r" % clause)
+    named = {abs(literal) for clause in clauses for literal in clause}
+    for variable in range(1, variables + 1):
+        if variable not in named and variable in true:
+            raise Wrong("variable %d occurs in no clause and is true" % variable)
+
+
+def check_answer(variables, clauses, status, out, err, proof, satisfiable):
+    lines = out.split("\n")
+    if lines[-1] != "":
+        raise Wrong("the answer's last line has no newline")
+    lines = lines[:-1]
+    if err:
+        raise Wrong("something on standard error: %r" % err)
+    ended = check_proof(clauses, proof)
+    if status == 10:
+        if lines[:1] != ["s SATISFIABLE"] or ended:
+            raise Wrong("status 10 with another answer or with a refutation")
+        if satisfiable is False:
+            raise Wrong("10 for a formula that no assignment satisfies")
+        check_model(variables, clauses, lines[1:])
+    elif status == 20:
+        if lines != ["s UNSATISFIABLE"] or not ended:
+            raise Wrong("status 20 with another answer or without a refutation")
+        if satisfiable is True:
+            raise Wrong("20 for a formula that an assignment satisfies")
+    else:
+        raise Wrong("status %d" % status)
+
+
+def run(program, folder, variables, clauses, satisfiable):
+    path = os.path.join(folder, "proof")
+    done = subprocess.run(
+        [program, "--proof", path],
+        input=spelled(variables, clauses),
+        stdout=subprocess.PIPE,
+        stderr=subprocess.PIPE,
+        timeout=60,
+    )
+    with open(path, "rb") as proof:
+        text = proof.read().decode("ascii")
+    os.remove(path)
+    check_answer(
+        variables, clauses, done.returncode, done.stdout.decode("ascii"), done.stderr.decode("ascii"), text, satisfiable
+    )
+
+
+def must_catch(what, check):
+    try:
+        check()
+    except Wrong:
+        return
+    print("crosscheck: it does not catch %s" % what)
+    sys.exit(1)
+
+
+def try_itself():
+    clauses = [[1, 2], [1, -2], [-1, 2], [-1, -2]]
+    check_answer(2, clauses, 20, "s UNSATISFIABLE\n", "", "1 0\n0\n", False)
+    must_catch("a lemma left out", lambda: check_answer(2, clauses, 20, "s UNSATISFIABLE\n", "", "0\n", False))
+    must_catch("a lemma changed", lambda: check_proof([[1, 2], [1, -2]], "-1 0\n"))
+    must_catch("a deletion of no clause", lambda: check_proof([[1, 2]], "d 1 3 0\n"))
+    must_catch("a line cut short", lambda: check_proof(clauses, "1 0\n0"))
+    must_catch("a proof without its end", lambda: check_answer(2, clauses, 20, "s UNSATISFIABLE\n", "", "1 0\n", False))
+    check_model(2, [[1, -2]], ["v 1 2 0"])
+    must_catch("a wrong model", lambda: check_model(2, [[1, -2]], ["v -1 2 0"]))
+    must_catch("a variable left out", lambda: check_model(2, [[1]], ["v 1 0"]))
+    must_catch("a long line", lambda: check_model(60, [], ["v " + " ".join(str(-v) for v in range(1, 61)) + " 0"]))
+
+
+def cases():
+    rng = random.Random(SEED)
+    for _ in range(RANDOM_FORMULAS):
+        variables, clauses = random_formula(rng)
+        yield variables, clauses, is_satisfiable(variables, clauses)
+    yield 0, [], True
+    yield 0, [[]], False
+    yield 3, [[1, 2], [], [3]], False
+    yield 40, [[-1, 40], [7]], None
+    for holes in range(1, 6):
+        variables, clauses = pigeons(holes)
+        yield variables, clauses, False
+
+
+def main():
+    root = os.path.join(os.path.dirname(os.path.abspath(__file__)), os.pardir)
+    program = os.path.normpath(os.path.join(root, "crates", "gimsatul", "out", "gimsatul"))
+    if not os.access(program, os.X_OK):
+        print("crosscheck: skipped, the program is not built")
+        return 0
+    try_itself()
+    tried = wrong = 0
+    start = time.monotonic()
+    with tempfile.TemporaryDirectory() as folder:
+        for variables, clauses, satisfiable in cases():
+            if time.monotonic() - start > SECONDS:
+                print("crosscheck: out of time")
+                break
+            tried += 1
+            try:
+                run(program, folder, variables, clauses, satisfiable)
+            except Wrong as fault:
+                wrong += 1
+                print("wrong: %s\n%s" % (fault, spelled(variables, clauses).decode("ascii")))
+    print("crosscheck: %d tried, %d wrong" % (tried, wrong))
+    return 1 if wrong else 0
+
+
+if __name__ == "__main__":
+    sys.exit(main())

@@ -1,0 +1,108 @@
+-- How the plain search ends, from what stands between its steps.
+use Rattle.std.proofs.Common.{◌≡◌, ℕ, ◌+◌, ◌<◌, ◌≤◌, Bool, true, false, List, [], ◌∷◌, ◌++◌, length, take, drop, map, Some, None, refl, sym, ap, ◌∙◌, subst, inl, inr, arith, Ok, Err, append-nil, length-append}
+use Rattle.std.specs.Prelude.{Result, IfOk}
+use Rattle.std.specs.declared.option.Option.{Option}
+use Rattle.std.specs.List.{list_any}
+use Rattle.std.proofs.lemmas.Bool.{true≢false, false≢true}
+use Rattle.io_edge.specs.Bytes.{GrowsBy, GrowsByPart}
+use Rattle.io_edge.specs.Causes.{Rose}
+use Rattle.sat_words.specs.Literal.{Literal}
+use Rattle.sat_words.specs.Truth.{clause_true, formula_true}
+use Rattle.sat_words.specs.FormulaData.{FormulaData}
+use Rattle.sat_words.specs.declared.line.Line.TheVariants.{Add as AddLine}
+use Rattle.rup_model.specs.Rup.{rup}
+use Rattle.rup_model.specs.Log.{Refutes}
+use Rattle.rup_model.specs.Basics.{EachAfter}
+use Rattle.rup_model.specs.Journal.{lines, learned, IsSpaced}
+use Rattle.rup_model.specs.Spent.{rings_part}
+use Rattle.rup_model.specs.declared.journal.Kind.TheVariants.{Learn, Derive}
+use Rattle.rup_model.specs.declared.journal.Entry.{Entry}
+use Rattle.rup_model.proofs.RoundsLemmas.{rup_true}
+use Rattle.rup_model.proofs.Additions.{learned-append}
+use Rattle.drat_text.specs.Text.{line_text}
+use Rattle.gimsatul.specs.declared.report.Verdict.{Verdict}
+use Rattle.gimsatul.specs.declared.report.Verdict.TheVariants.{Satisfiable, Unsatisfiable, Unknown}
+use Rattle.gimsatul.specs.declared.search.SearchStop.{SearchStop}
+use Rattle.gimsatul.specs.declared.search.SearchStop.TheVariants.{ProofFault, Memory}
+use Rattle.gimsatul.specs.declared.search.TheConstants.{LEMMA_LIMIT}
+use Rattle.gimsatul.specs.Decided.{IsModel, Decides}
+use Rattle.gimsatul.specs.Searched.{Concludes, IsSearch, WasPut}
+use Rattle.gimsatul.proofs.Ledgers.{Ledger, ledger_learn, stands_whole, stands_next, accepted_next, lines_next, held_next, short_next, rest_stays, entry}
+
+module _ (formula : FormulaData) (G : List (List Literal)) (count : ℕ) (written : Option (List ℕ)) (h : Ledger formula.clauses G count written) where
+  -- the search stops where it stands
+  still : (found : Result Verdict SearchStop) (faults : ℕ) → faults ≡ 0 → Concludes formula h.journal faults found → IsSearch formula (record { verdict = found; learned = count }) faults written
+  still found faults quiet conclusion = record {
+    journal = h.journal;
+    stands = stands_whole formula.clauses G count written h;
+    counts = sym h.counts;
+    conclusion = conclusion;
+    whole = λ none. h.held;
+    short = λ some. absurd (some quiet);
+  }
+
+  pub ends_in_memory : (faults : ℕ) → faults ≡ 0 → IsSearch formula (record { verdict = Err Memory; learned = count }) faults written
+  ends_in_memory faults quiet = still (Err Memory) faults quiet quiet
+
+  pub ends_in_model : (model : List Bool) (faults : ℕ) → faults ≡ 0 → IsModel formula model → IsSearch formula (record { verdict = Ok (Satisfiable model); learned = count }) faults written
+  ends_in_model model faults quiet is = still (Ok (Satisfiable model)) faults quiet (quiet, is)
+
+  pub ends_spent : (faults : ℕ) → faults ≡ 0 → count ≡ LEMMA_LIMIT → IsSearch formula (record { verdict = Ok Unknown; learned = count }) faults written
+  ends_spent faults quiet full = still (Ok Unknown) faults quiet (quiet, record {
+    of_rings = (stands_whole formula.clauses G count written h).of_rings;
+    fits = h.fits;
+    learns = λ r lt. only r (omega arith);
+    spaced = h.spaced;
+    going = h.going;
+  })
+    where
+      only : (r : ℕ) → r ≡ 0 → length (learned r h.journal) ≡ LEMMA_LIMIT
+      only r is = ap (λ (n : ℕ). length (learned n h.journal)) is ∙ h.counts ∙ full
+
+  -- a write failed
+  pub ends_in_fault : (lits : List Literal) (new : Option (List ℕ)) (before after : ℕ) → rup G lits ≡ true → before ≡ 0 → Rose before after → GrowsByPart written new (line_text (AddLine lits))
+      → IsSearch formula (record { verdict = Err ProofFault; learned = count }) after new
+  ends_in_fault lits new before after follows quiet rose grown = record {
+    journal = h.journal;
+    stands = stands_whole formula.clauses G count written h;
+    counts = sym h.counts;
+    conclusion = subst (λ (n : ℕ). Rose n after) quiet rose;
+    whole = λ none. absurd (omega (arith, rose, none));
+    short = λ some. short_next formula.clauses G count written h Learn lits follows new grown;
+  }
+
+  -- the empty clause was written
+  pub ends_refuted : (new : Option (List ℕ)) (faults : ℕ) → rup G [] ≡ true → faults ≡ 0 → GrowsBy written new (line_text (AddLine []))
+      → IsSearch formula (record { verdict = Ok Unsatisfiable; learned = count }) faults new
+  ends_refuted new faults follows quiet grown = record {
+    journal = h.journal ++ entry formula.clauses h.journal Derive [] ∷ [];
+    stands = stands_next formula.clauses G count written h Derive [] follows;
+    counts = sym (ap length (learned-append 0 h.journal (entry formula.clauses h.journal Derive [] ∷ [])) ∙ ap length (append-nil (learned 0 h.journal)) ∙ h.counts);
+    conclusion = (quiet, record {
+      refuted = record {
+        accepted = accepted_next formula.clauses G count written h Derive [] follows;
+        ends = (lines formula.clauses h.journal, lines_next formula.clauses G count written h Derive [] follows);
+      };
+      no_model = λ model holds. false≢true (rup_true model G [] follows (h.entailed model holds));
+    });
+    whole = λ none. held_next formula.clauses G count written h Derive [] follows new grown;
+    short = λ some. absurd (some quiet);
+  }
+
+  -- the empty clause was to be written
+  pub refute_end : (found : Result Verdict SearchStop) (new : Option (List ℕ)) (before after : ℕ) → rup G [] ≡ true → before ≡ 0
+      → WasPut [] found written new before after → IfOk found (λ verdict. verdict ≡ Unsatisfiable)
+      → IsSearch formula (record { verdict = found; learned = count }) after new
+  refute_end (Ok verdict) new before after follows quiet put is =
+      subst (λ (v : Verdict). IsSearch formula (record { verdict = Ok v; learned = count }) after new) (sym is) (ends_refuted new after follows (put.1 ∙ quiet) put.0)
+  refute_end (Err ProofFault) new before after follows quiet put is = ends_in_fault [] new before after follows quiet put.1 put.0
+  refute_end (Err Memory) new before after follows quiet put is =
+      subst (λ (w : Option (List ℕ)). IsSearch formula (record { verdict = Err Memory; learned = count }) after w) (sym put.0) (ends_in_memory after (put.1 ∙ quiet))
+
+  -- a lemma was to be written, and was not
+  pub learn_end : (stop : SearchStop) (lits : List Literal) (new : Option (List ℕ)) (before after : ℕ) → rup G lits ≡ true → before ≡ 0
+      → WasPut {T = Unit {0}} lits (Err stop) written new before after
+      → IsSearch formula (record { verdict = Err stop; learned = count }) after new
+  learn_end ProofFault lits new before after follows quiet put = ends_in_fault lits new before after follows quiet put.1 put.0
+  learn_end Memory lits new before after follows quiet put =
+      subst (λ (w : Option (List ℕ)). IsSearch formula (record { verdict = Err Memory; learned = count }) after w) (sym put.0) (ends_in_memory after (put.1 ∙ quiet))

@@ -1,0 +1,15 @@
+pub mod Journals
+pub mod Finishes
+pub mod Lawful
+pub mod StatusLemmas
+pub mod Assumed
+pub mod Models
+pub mod Ledgers
+pub mod Conclusions
+pub mod Steps
+mod AnswerText
+mod PlainNumbers
+mod PlainHeader
+mod PlainLiterals
+mod PlainLines
+mod PlainInputs

@@ -1,0 +1,22 @@
+use Rattle.std.proofs.Common.{[], inl}
+use Rattle.gimsatul.proofs.Finishes.{no_formula, unread, unread_end}
+use Rattle.gimsatul.proofs.decide.decide_over.Goals as goal
+
+pub returns-in-Err-clause-outcome : goal.returns-in-Err-clause-outcome
+returns-in-Err-clause-outcome g c =
+    let flush = c.flush in
+    let none = unread _ _ _ c.args.tally.now _ _ _ _ _ _ flush.result c.requires.quiet c.requires.empty c.requires.uncounted flush.ensures.bytes flush.ensures.cause flush.ensures.flushed in
+    record {
+      formula = no_formula;
+      journal = [];
+      outcome = unread_end c.in-Err.stop c.read_end.result _ _ _ _ _ c.read_end.ensures (λ e. c.in-Err.ensures.not_plain (cc e)) (λ e. c.in-Err.ensures.fault (cc e)) none;
+    }
+
+pub returns-in-Err-with_ring-clause-outcome : goal.returns-in-Err-with_ring-clause-outcome
+returns-in-Err-with_ring-clause-outcome g c =
+    let flush = c.flush-in-Err-with_ring in
+    record {
+      formula = no_formula;
+      journal = [];
+      outcome = inl (unread _ _ _ _ _ _ _ _ _ _ flush.result c.requires.quiet c.requires.empty c.requires.uncounted flush.ensures.bytes flush.ensures.cause flush.ensures.flushed);
+    }

@@ -1,0 +1,41 @@
+-- What a verdict says of the clauses and of the journal.
+use Rattle.std.specs.Prelude.{◌≡◌, ℕ, List, Bool, true, false, length, ◌==◌}
+use Rattle.std.specs.List.{list_any}
+use Rattle.sat_words.specs.Literal.{Literal}
+use Rattle.sat_words.specs.Truth.{value_of, formula_true}
+use Rattle.sat_words.specs.FormulaData.{FormulaData}
+use Rattle.rup_model.specs.declared.journal.Entry.{Entry}
+use Rattle.rup_model.specs.Log.{Refutes}
+use Rattle.rup_model.specs.Journal.{lines}
+use Rattle.rup_model.specs.Spent.{Spent}
+use Rattle.gimsatul.specs.declared.search.TheConstants.{LEMMA_LIMIT}
+use Rattle.gimsatul.specs.declared.report.Verdict.{Verdict}
+use Rattle.gimsatul.specs.declared.report.Verdict.TheVariants.{Satisfiable, Unsatisfiable, Unknown}
+
+-- the test whether the variable occurs in the clause
+abbrev pub mentions : List Literal → ℕ → Bool
+mentions clause var = list_any (λ l. l.var == var) clause
+
+-- the test whether the variable occurs in a clause of the list
+abbrev pub occurs : List (List Literal) → ℕ → Bool
+occurs clauses var = list_any (λ clause. mentions clause var) clauses
+
+-- a value for each variable, which make each clause true; a variable that occurs in no clause is false
+pub record IsModel (formula : FormulaData) (model : List Bool) : Type 0 where
+  pub holds : formula_true model formula.clauses ≡ true
+  pub long : length model ≡ formula.vars
+  pub idle : (var : ℕ) → occurs formula.clauses var ≡ false → value_of model var ≡ false
+
+-- the journal's lines lead to the empty clause, and no assignment makes each clause true
+pub record IsRefutation (clauses : List (List Literal)) (journal : List Entry) : Type 0 where
+  pub refuted : Refutes clauses (lines clauses journal)
+  pub no_model : (model : List Bool) → formula_true model clauses ≡ true → ⊥
+
+-- one ring has learned its limit of lemmas
+abbrev pub IsSpent : List (List Literal) → List Entry → Type 0
+IsSpent clauses journal = Spent clauses journal 1 LEMMA_LIMIT
+
+abbrev pub Decides : FormulaData → List Entry → Verdict → Type 0
+Decides formula journal (Satisfiable model) = IsModel formula model
+Decides formula journal Unsatisfiable = IsRefutation formula.clauses journal
+Decides formula journal Unknown = IsSpent formula.clauses journal

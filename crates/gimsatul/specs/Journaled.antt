@@ -1,0 +1,40 @@
+-- The journal of a run, and what the writer of its proof holds.
+use Rattle.std.specs.Prelude.{◌≡◌, ◌<◌, ℕ, List, [], ◌∷◌, ◌++◌, take, All, ⊤, Some, None}
+use Rattle.std.specs.declared.option.Option.{Option}
+use Rattle.sat_words.specs.Literal.{Literal}
+use Rattle.sat_words.specs.declared.line.Line.{Line}
+use Rattle.rup_model.specs.declared.journal.Entry.{Entry}
+use Rattle.rup_model.specs.Log.{Accepted}
+use Rattle.rup_model.specs.Journal.{lines, ring_of, Fits, EmptyLast}
+use Rattle.rup_model.specs.Spent.{rings_part}
+use Rattle.drat_text.specs.Text.{text, line_text}
+use Rattle.gimsatul.specs.Run.{Writer}
+
+-- a journal of this many rings: its numbers fit, each line is valid where it stands, nothing follows the empty clause,
+-- and what the ruler didn't write is of one of the rings
+pub record IsJournal (rings : ℕ) (clauses : List (List Literal)) (journal : List Entry) : Type 0 where
+  pub fits : Fits clauses journal
+  pub accepted : Accepted clauses (lines clauses journal)
+  pub last : EmptyLast journal
+  pub of_rings : All (λ e. ring_of e < rings) (rings_part journal)
+
+-- where bytes are told, they are this text
+abbrev pub HoldsText : Option (List ℕ) → List ℕ → Type 0
+HoldsText None text = ⊤
+HoldsText (Some bytes) text = bytes ≡ text
+
+-- some lines of the journal, and the front of one line more; all of them are accepted
+pub record IsCutShort (clauses : List (List Literal)) (journal : List Entry) (written : Option (List ℕ)) : Type 0 where
+  pub front : List Line
+  pub rest : List Line
+  pub front_of : lines clauses journal ≡ front ++ rest
+  pub line : Line
+  pub cut : ℕ
+  pub accepted : Accepted clauses (front ++ line ∷ [])
+  pub bytes : HoldsText written (text front ++ take cut (line_text line))
+
+-- a writer holds the journal's lines, and has made sure of them; where a call of it failed, they may be cut short
+pub record HoldsLog (clauses : List (List Literal)) (journal : List Entry) (writer : Writer) : Type 0 where
+  pub whole : writer.faults ≡ 0 → HoldsText writer.written (text (lines clauses journal))
+  pub sure : writer.faults ≡ 0 → writer.flushed ≡ writer.written
+  pub short : (writer.faults ≡ 0 → ⊥) → IsCutShort clauses journal writer.written

@@ -1,0 +1,14 @@
+pub mod Words
+pub mod Plain
+pub mod PlainParts
+pub mod Answer
+pub mod Ends
+pub mod Run
+pub mod Journaled
+pub mod Decided
+pub mod Decisions
+pub mod Searched
+pub mod Tallied
+pub mod Outcome
+pub mod Statuses
+pub mod Headline

@@ -1,0 +1,119 @@
+-- What each end of a call says, by cases, of the formula that was read and of the one journal of the run.
+use Rattle.std.specs.Prelude.{◌≡◌, ◌⊎◌, ℕ, List, [], length, IfSome, IsSome, IsSomeAnd, Some, None}
+use Rattle.std.specs.declared.option.Option.{Option}
+use Rattle.io_edge.specs.Causes.{Rose}
+use Rattle.io_edge.specs.Paths.{IsEmptyWhereTold}
+use Rattle.sat_words.specs.FormulaData.{FormulaData}
+use Rattle.rup_model.specs.declared.journal.Entry.{Entry}
+use Rattle.rup_model.specs.Journal.{learned}
+use Rattle.gimsatul.specs.declared.report.Tally.{Tally}
+use Rattle.gimsatul.specs.declared.report.End.{End}
+use Rattle.gimsatul.specs.declared.report.End.TheVariants as end
+use Rattle.gimsatul.specs.declared.report.Verdict.{Verdict}
+use Rattle.gimsatul.specs.declared.report.Verdict.TheVariants as verdict
+use Rattle.gimsatul.specs.Words.{command_of, proof_path}
+use Rattle.gimsatul.specs.Plain.{WasRead, IsUnreadable}
+use Rattle.gimsatul.specs.Answer.{answer_text}
+use Rattle.gimsatul.specs.Run.{Count, Writer, Output, Run, Call, RoseIn, IsStill, Prints, PrintsPart}
+use Rattle.gimsatul.specs.Journaled.{IsJournal, HoldsLog}
+use Rattle.gimsatul.specs.Decided.{Decides}
+use Rattle.gimsatul.specs.Tallied.{no_tally, ring_tally}
+
+-- the proof's writer is there, and holds the journal
+abbrev pub HasLog : FormulaData → List Entry → Run → Type 0
+HasLog formula journal run = IsSomeAnd run.proof (HoldsLog formula.clauses journal)
+
+-- no formula was read: the proof's writer is there, with no byte, and nothing was counted
+pub record IsUnread (formula : FormulaData) (journal : List Entry) (tally : Tally) (run : Run) : Type 0 where
+  pub log : HasLog formula journal run
+  pub nothing : journal ≡ []
+  pub empty : IfSome run.proof (λ writer. IsEmptyWhereTold writer.written)
+  pub counts : tally ≡ no_tally
+
+-- the formula was read and the ring started; its journal stands, and counts the lemmas
+pub record IsStarted (formula : FormulaData) (journal : List Entry) (tally : Tally) (run : Run) : Type 0 where
+  pub read : WasRead run.text formula
+  pub journal_stands : IsJournal 1 formula.clauses journal
+  pub log : HasLog formula journal run
+  pub counts : tally ≡ ring_tally (length (learned 0 journal))
+
+-- no call of the source, the proof or the output failed
+pub record IsQuiet (run : Run) : Type 0 where
+  pub source : IsStill run.source
+  pub proof : IsSomeAnd run.proof (λ writer. writer.faults ≡ 0)
+  pub out : IsStill run.out.faults
+
+-- the verdict holds, and its text is printed, and nothing else
+pub record IsAnswered (verdict : Verdict) (formula : FormulaData) (journal : List Entry) (tally : Tally) (run : Run) : Type 0 where
+  pub started : IsStarted formula journal tally run
+  pub decided : Decides formula journal verdict
+  pub printed : Prints run.out (answer_text formula.vars verdict)
+  pub quiet : IsQuiet run
+
+-- the output failed in printing a verdict that holds
+pub record IsCutOff (formula : FormulaData) (journal : List Entry) (tally : Tally) (run : Run) : Type 0 where
+  pub started : IsStarted formula journal tally run
+  pub verdict : Verdict
+  pub decided : Decides formula journal verdict
+  pub printed : PrintsPart run.out (answer_text formula.vars verdict)
+  pub rose : RoseIn run.out.faults
+
+-- the proof failed
+pub record IsUnproved (formula : FormulaData) (journal : List Entry) (tally : Tally) (run : Run) : Type 0 where
+  pub started : IsStarted formula journal tally run
+  pub rose : IsSomeAnd run.proof (λ writer. Rose 0 writer.faults)
+
+abbrev pub Outcome : End → FormulaData → List Entry → Tally → Run → Type 0
+Outcome (end.Satisfiable model) F J tally run = IsAnswered (verdict.Satisfiable model) F J tally run
+Outcome end.Unsatisfiable F J tally run = IsAnswered verdict.Unsatisfiable F J tally run
+Outcome end.Unknown F J tally run = IsAnswered verdict.Unknown F J tally run
+Outcome end.Usage F J tally run = ⊥
+Outcome end.BadInput F J tally run = IsUnreadable run.text × IsUnread F J tally run
+Outcome end.CannotCreate F J tally run = ⊥
+Outcome end.ReadFault F J tally run = RoseIn run.source × IsUnread F J tally run
+Outcome end.WriteFault F J tally run = IsCutOff F J tally run
+Outcome end.ProofFault F J tally run = IsUnproved F J tally run
+Outcome end.Memory F J tally run = IsUnread F J tally run ⊎ IsStarted F J tally run
+
+-- how a run over a source ended
+pub record IsRun (end : End) (tally : Tally) (run : Run) : Type 0 where
+  pub formula : FormulaData
+  pub journal : List Entry
+  pub outcome : Outcome end formula journal tally run
+
+-- how a run ended whose formula was read, over every source that it may have been read from
+abbrev pub Concluded : FormulaData → End → Tally → Writer → Output → Type 0
+Concluded formula end tally writer out = (text : Option (List ℕ)) (source : Count) → WasRead text formula → IsStill source
+    → IsRun end tally (record { text = text; source = source; proof = Some writer; out = out })
+
+-- nothing was created, so nothing was read, logged or counted
+pub record IsBarren (journal : List Entry) (tally : Tally) (call : Call) : Type 0 where
+  pub no_proof : call.run.proof ≡ None
+  pub nothing : journal ≡ []
+  pub counts : tally ≡ no_tally
+  pub input : IsStill call.input
+
+-- the words were lawful, no file failed, and standard input was read
+pub record IsWhole (end : End) (formula : FormulaData) (journal : List Entry) (tally : Tally) (call : Call) : Type 0 where
+  pub lawful : IsSome (command_of call.words)
+  pub outcome : Outcome end formula journal tally call.run
+  pub files : IsStill call.files
+  pub from_input : call.run.source ≡ call.input
+
+abbrev pub CallOutcome : End → FormulaData → List Entry → Tally → Call → Type 0
+CallOutcome (end.Satisfiable model) F J tally call = IsWhole (end.Satisfiable model) F J tally call
+CallOutcome end.Unsatisfiable F J tally call = IsWhole end.Unsatisfiable F J tally call
+CallOutcome end.Unknown F J tally call = IsWhole end.Unknown F J tally call
+CallOutcome end.Usage F J tally call = (command_of call.words ≡ None) × IsBarren J tally call
+CallOutcome end.BadInput F J tally call = IsWhole end.BadInput F J tally call
+CallOutcome end.CannotCreate F J tally call = RoseIn call.files × IsSome (proof_path (command_of call.words)) × IsBarren J tally call
+CallOutcome end.ReadFault F J tally call = IsWhole end.ReadFault F J tally call
+CallOutcome end.WriteFault F J tally call = IsWhole end.WriteFault F J tally call
+CallOutcome end.ProofFault F J tally call = IsWhole end.ProofFault F J tally call
+CallOutcome end.Memory F J tally call = IsWhole end.Memory F J tally call
+
+-- how a call ended
+pub record IsCall (end : End) (tally : Tally) (call : Call) : Type 0 where
+  pub formula : FormulaData
+  pub journal : List Entry
+  pub outcome : CallOutcome end formula journal tally call

@@ -1,0 +1,37 @@
+-- What a search says: its verdict holds of one journal, which the proof's writer has been given.
+use Rattle.std.specs.Prelude.{◌≡◌, ℕ, List, length, Result, Ok, Err}
+use Rattle.std.specs.declared.option.Option.{Option}
+use Rattle.io_edge.specs.Causes.{Rose}
+use Rattle.sat_words.specs.FormulaData.{FormulaData}
+use Rattle.rup_model.specs.declared.journal.Entry.{Entry}
+use Rattle.rup_model.specs.Journal.{lines, learned}
+use Rattle.sat_words.specs.Literal.{Literal}
+use Rattle.sat_words.specs.declared.line.Line.TheVariants.{Add}
+use Rattle.io_edge.specs.Bytes.{GrowsBy, GrowsByPart}
+use Rattle.drat_text.specs.Text.{text, line_text}
+use Rattle.gimsatul.specs.declared.report.Verdict.{Verdict}
+use Rattle.gimsatul.specs.declared.search.Searched.{Searched}
+use Rattle.gimsatul.specs.declared.search.SearchStop.{SearchStop}
+use Rattle.gimsatul.specs.declared.search.SearchStop.TheVariants.{ProofFault, Memory}
+use Rattle.gimsatul.specs.Journaled.{IsJournal, HoldsText, IsCutShort}
+use Rattle.gimsatul.specs.Decided.{Decides}
+
+-- a verdict that holds of the journal; or the cause of none
+abbrev pub Concludes : FormulaData → List Entry → ℕ → Result Verdict SearchStop → Type 0
+Concludes formula journal faults (Ok verdict) = (faults ≡ 0) × Decides formula journal verdict
+Concludes formula journal faults (Err ProofFault) = Rose 0 faults
+Concludes formula journal faults (Err Memory) = faults ≡ 0
+
+pub record IsSearch (formula : FormulaData) (searched : Searched) (faults : ℕ) (written : Option (List ℕ)) : Type 0 where
+  pub journal : List Entry
+  pub stands : IsJournal 1 formula.clauses journal
+  pub counts : searched.learned ≡ length (learned 0 journal)
+  pub conclusion : Concludes formula journal faults searched.verdict
+  pub whole : faults ≡ 0 → HoldsText written (text (lines formula.clauses journal))
+  pub short : (faults ≡ 0 → ⊥) → IsCutShort formula.clauses journal written
+
+-- the line that adds the literals was written; or a part of it where the sink failed; or nothing
+abbrev pub WasPut : {T : Type 0} → List Literal → Result T SearchStop → Option (List ℕ) → Option (List ℕ) → ℕ → ℕ → Type 0
+WasPut lits (Ok done) old new before after = GrowsBy old new (line_text (Add lits)) × (after ≡ before)
+WasPut lits (Err ProofFault) old new before after = GrowsByPart old new (line_text (Add lits)) × Rose before after
+WasPut lits (Err Memory) old new before after = (new ≡ old) × (after ≡ before)

@@ -1,0 +1,148 @@
+// From a source to a printed answer, once the proof is there.
+ghost use Rattle.std.specs.Prelude.{◌≡◌, ◌≤◌, ◌<◌, ◌^◌, All, Bool, false, ℕ, Some, IfOk, OnOk, OnErr, length};
+ghost use Rattle.sat_words.specs.Truth.{value_of, formula_true};
+ghost use Rattle.io_edge.specs.Bytes.{GrowsBy, GrowsByPart};
+ghost use Rattle.io_edge.specs.Causes.{HasCause};
+ghost use Rattle.io_edge.specs.Paths.{IsEmptyWhereTold};
+ghost use Rattle.gimsatul.specs.Answer.{answer_text};
+ghost use Rattle.gimsatul.specs.Ends.{end_of, end_of_stop, end_of_read, prints};
+ghost use Rattle.gimsatul.specs.Plain.{IsOn};
+ghost use Rattle.gimsatul.specs.Outcome.{Concluded, IsRun};
+ghost use Rattle.gimsatul.specs.Tallied.{no_tally, ring_tally};
+
+use crate::answer::answer_text_to;
+use crate::plain::{PlainStop, read_plain};
+use crate::report::{End, Tally, Verdict};
+use crate::search::{SearchStop, Searched, search};
+use io_edge::{Failed, Sink, Source};
+use sat_words::Formula;
+use std::alloc::Global;
+
+fn into_end(verdict: Verdict) -> End
+    ensures { result ≡ end_of verdict }
+{
+    match verdict {
+        Verdict::Satisfiable(model) => End::Satisfiable(model),
+        Verdict::Unsatisfiable => End::Unsatisfiable,
+        Verdict::Unknown => End::Unknown,
+    }
+}
+
+/// Prints the answer, and flushes it.
+#[tactic(auto, using(io_edge::proofs::Growth::whole_part, io_edge::proofs::Growth::front_part))]
+fn print<O: Sink>(out: &mut O, vars: u32, verdict: &Verdict) -> Result<(), Failed>
+    requires { vars ≤ 2 ^ 30 }
+    ensures all { OnOk result (GrowsBy (O.written out.old) (O.written out.new) (answer_text vars verdict.now)) }
+    ensures sure { OnOk result (O.flushed out.new ≡ O.written out.new) }
+    ensures part { OnErr result (GrowsByPart (O.written out.old) (O.written out.new) (answer_text vars verdict.now)) }
+    ensures cause { HasCause (O.faults out.old) (O.faults out.new) result }
+{
+    match answer_text_to(out, vars, verdict) {
+        Ok(()) => out.flush(),
+        Err(_) => Err(Failed),
+    }
+}
+
+fn stop_end(stop: SearchStop) -> End
+    ensures { result ≡ end_of_stop stop }
+{
+    match stop {
+        SearchStop::ProofFault => End::ProofFault,
+        SearchStop::Memory => End::Memory,
+    }
+}
+
+/// Searches, writes and flushes the proof, and prints the answer.
+fn decide_formula<P: Sink, O: Sink>(
+    alloc: Global,
+    formula: &Formula,
+    proof: &mut P,
+    out: &mut O,
+    tally: &mut Tally,
+) -> End
+    requires few { formula.now.vars < 2 ^ 28 }
+    requires on_variables { All (All (IsOn formula.now.vars)) formula.now.clauses }
+    requires empty { IsEmptyWhereTold (P.written proof.old) }
+    requires quiet { P.faults proof.old ≡ 0 }
+    requires started { tally.old ≡ ring_tally 0 }
+    ensures outcome { Concluded formula.now result tally.new
+      (record { faults = P.faults proof.new; written = P.written proof.new; flushed = P.flushed proof.new })
+      (record {
+        faults = record { before = O.faults out.old; after = O.faults out.new };
+        before = O.written out.old;
+        after = O.written out.new;
+        flushed = O.flushed out.new;
+      }) }
+    ensures target { P.target proof.new ≡ P.target proof.old }
+    ensures unprinted { prints result ≡ false → out.new ≡ out.old }
+{
+    let Searched { verdict, learned } = search(alloc, formula, proof);
+    tally.learned.set(0, learned);
+    let verdict = match verdict {
+        Ok(verdict) => verdict,
+        Err(stop) => {
+            let _ = proof.flush();
+            return stop_end(stop);
+        }
+    };
+    match proof.flush() {
+        Ok(()) => {}
+        Err(Failed) => return End::ProofFault,
+    }
+    match print(out, formula.vars(), &verdict) {
+        Ok(()) => into_end(verdict),
+        Err(Failed) => End::WriteFault,
+    }
+}
+
+fn read_end(stop: PlainStop) -> End
+    ensures { result ≡ end_of_read stop }
+{
+    match stop {
+        PlainStop::NotPlain => End::BadInput,
+        PlainStop::Fault => End::ReadFault,
+        PlainStop::Memory => End::Memory,
+    }
+}
+
+/// Reads the source, searches, writes and flushes the proof, and prints the answer.
+pub fn decide_over<S: Source, P: Sink, O: Sink>(
+    alloc: Global,
+    source: &mut S,
+    proof: &mut P,
+    out: &mut O,
+    tally: &mut Tally,
+) -> End
+    requires empty { IsEmptyWhereTold (P.written proof.old) }
+    requires quiet { P.faults proof.old ≡ 0 }
+    requires uncounted { tally.old ≡ no_tally }
+    ensures outcome { IsRun result tally.new (record {
+      text = S.left source.old;
+      source = record { before = S.faults source.old; after = S.faults source.new };
+      proof = Some (record { faults = P.faults proof.new; written = P.written proof.new; flushed = P.flushed proof.new });
+      out = record {
+        faults = record { before = O.faults out.old; after = O.faults out.new };
+        before = O.written out.old;
+        after = O.written out.new;
+        flushed = O.flushed out.new;
+      };
+    }) }
+    ensures target { P.target proof.new ≡ P.target proof.old }
+    ensures unprinted { prints result ≡ false → out.new ≡ out.old }
+{
+    let formula = match read_plain(alloc, source) {
+        Ok(formula) => formula,
+        Err(stop) => {
+            let _ = proof.flush();
+            return read_end(stop);
+        }
+    };
+    match Tally::with_ring(alloc) {
+        Ok(started) => *tally = started,
+        Err(_) => {
+            let _ = proof.flush();
+            return End::Memory;
+        }
+    }
+    decide_formula(alloc, &formula, proof, out, tally)
+}

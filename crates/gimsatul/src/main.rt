@@ -1,0 +1,102 @@
+//! `gimsatul [--proof PATH]` reads a formula from standard input, decides it, prints the answer, and writes a DRAT
+//! proof to the path. `gimsatul` is the whole of it, over any files and streams; `main` gives it the real ones.
+#![tactic(auto)]
+
+mod answer;
+mod decide;
+mod plain;
+mod plain_number;
+mod plain_text;
+mod report;
+mod search;
+#[cfg(test)]
+mod tests;
+mod top;
+mod words;
+
+pub use answer::answer_text_to;
+use io_edge::{StdFiles, StdSink, StdSource, write_all_of};
+pub use report::{End, Numbers, Report, Tally, Verdict};
+pub use search::LEMMA_LIMIT;
+use std::alloc::AllocFailed;
+use std::env;
+use std::io;
+use std::process::ExitCode;
+pub use top::gimsatul;
+
+/// Why the call was not made.
+#[derive(Clone, Copy)]
+enum Stop {
+    /// The arguments cannot be told as text.
+    Words,
+    /// Memory ran out.
+    Memory,
+}
+
+impl<T: Drop> From<AllocFailed<T>> for Stop {
+    fn from(_: AllocFailed<T>) -> Self {
+        Stop::Memory
+    }
+}
+
+impl From<io::Error> for Stop {
+    fn from(error: io::Error) -> Self {
+        match error.kind() {
+            io::ErrorKind::OutOfMemory => Stop::Memory,
+            _ => Stop::Words,
+        }
+    }
+}
+
+impl Stop {
+    fn status(&self) -> u8 {
+        match self {
+            Stop::Words => 1,
+            Stop::Memory => 9,
+        }
+    }
+
+    fn message(&self) -> &'static [u8] {
+        match self {
+            Stop::Words => b"gimsatul: bad command line\n",
+            Stop::Memory => b"gimsatul: out of memory\n",
+        }
+    }
+}
+
+/// The arguments without the program's name.
+fn words_of(rt: &HostRuntime) -> Result<Vec<String>, Stop> {
+    let mut words = Vec::new(rt.alloc());
+    for word in env::args(rt)?.skip(1) {
+        words.push(word)?;
+    }
+    Ok(words)
+}
+
+/// Calls `gimsatul` on the real files and streams, and gives its status.
+fn run(rt: &HostRuntime) -> Result<u8, Stop> {
+    let words = words_of(rt)?;
+    let mut files = StdFiles::new(rt);
+    let mut input = StdSource::new(rt.stdin());
+    let mut out = StdSink::new(rt.stdout());
+    let mut err = StdSink::new(rt.stderr());
+    let report = gimsatul(
+        rt.alloc(),
+        &words,
+        &mut files,
+        &mut input,
+        &mut out,
+        &mut err,
+    );
+    Ok(report.status)
+}
+
+fn main(rt: HostRuntime) -> ExitCode {
+    match run(&rt) {
+        Ok(status) => ExitCode::from(status),
+        Err(stop) => {
+            let _ = write_all_of(&mut StdSink::new(rt.stderr()), stop.message());
+            ExitCode::from(stop.status())
+        }
+    }
+}

@@ -1,0 +1,148 @@
+// What a call comes to: its verdict, how it ended, and what it reports.
+ghost use Rattle.std.specs.Prelude.{◌≡◌, ◌<◌, List, ℕ, length, replicate, slice_set, IfOk, OnOk, OnErr, []};
+ghost use Rattle.gimsatul.specs.Tallied.{no_tally, ring_tally};
+
+use sat_words::Assignment;
+use std::alloc::{AllocError, Global};
+use std::marker::Model;
+
+/// What the search found of the clauses.
+#[derive(Drop)]
+pub enum Verdict {
+    /// This assignment makes each clause true.
+    Satisfiable(Assignment),
+    /// No assignment does, and the log shows it.
+    Unsatisfiable,
+    /// The ring learned its limit of lemmas before it knew.
+    Unknown,
+}
+
+/// How a call ends. Each case has its exit status.
+#[derive(Drop)]
+pub enum End {
+    Satisfiable(Assignment),
+    Unsatisfiable,
+    Unknown,
+    Usage,
+    BadInput,
+    CannotCreate,
+    ReadFault,
+    WriteFault,
+    ProofFault,
+    Memory,
+}
+
+/// A number for each ring, in the order of the rings.
+#[derive(Drop)]
+pub struct Numbers {
+    numbers: Vec<u64>,
+}
+
+impl Model for Numbers {
+    ghost use Rattle.std.specs.Prelude.{List, ℕ};
+
+    ghost Value = { List ℕ };
+
+    ghost view = { λ n. n.numbers.items };
+}
+
+impl Numbers {
+    /// No number, and no memory taken.
+    pub fn new(alloc: Global) -> Numbers
+        ensures { result ≡ [] }
+    {
+        Numbers {
+            numbers: Vec::new(alloc),
+        }
+    }
+
+    /// A zero for each of the rings.
+    pub fn zeros(alloc: Global, rings: u32) -> Result<Numbers, AllocError>
+        ensures { IfOk result (λ numbers. numbers ≡ replicate rings 0) }
+    {
+        Ok(Numbers {
+            numbers: vec![in alloc; 0; rings as usize]?,
+        })
+    }
+
+    /// Sets a ring's number.
+    pub fn set(&mut self, ring: u32, number: u64)
+        requires { ring < length self.old }
+        ensures { self.new ≡ slice_set self.old ring number }
+    {
+        self.numbers[ring as usize] = number;
+    }
+
+    /// The numbers, in the order of the rings.
+    pub fn as_slice(&self) -> &[u64]
+        ensures { result.now ≡ self.now }
+    {
+        self.numbers.as_slice()
+    }
+}
+
+/// The numbers of a report. The lists have a number for each ring once the rings were to start, and are empty before.
+#[derive(Drop)]
+pub struct Tally {
+    /// How many lemmas each ring learned.
+    pub learned: Numbers,
+    /// How many clauses each ring put into the slots of others.
+    pub offered: Numbers,
+    /// How many of its lemmas each ring offered.
+    pub exported: Numbers,
+    /// The words that a clause needed where there was no room, else 0.
+    pub need: u64,
+    /// The longest range of free words where there was no room, else 0.
+    pub largest: u64,
+    /// The fault of the input, from 1, where one is named, else 0.
+    pub code: u8,
+    /// The line of that fault, from 1, else 0.
+    pub line: u64,
+}
+
+impl Tally {
+    /// That of a call whose rings haven't started. It takes no memory.
+    pub fn new(alloc: Global) -> Tally
+        ensures { result ≡ no_tally }
+    {
+        Tally {
+            learned: Numbers::new(alloc),
+            offered: Numbers::new(alloc),
+            exported: Numbers::new(alloc),
+            need: 0,
+            largest: 0,
+            code: 0,
+            line: 0,
+        }
+    }
+
+    /// That of a call whose one ring starts.
+    pub fn with_ring(alloc: Global) -> Result<Tally, AllocError>
+        ensures { IfOk result (λ tally. tally ≡ ring_tally 0) }
+    {
+        Ok(Tally {
+            learned: Numbers::zeros(alloc, 1)?,
+            offered: Numbers::zeros(alloc, 1)?,
+            exported: Numbers::zeros(alloc, 1)?,
+            need: 0,
+            largest: 0,
+            code: 0,
+            line: 0,
+        })
+    }
+}
+
+/// What a call reports to its caller.
+#[derive(Drop)]
+pub struct Report<R, W> {
+    /// The exit status.
+    pub status: u8,
+    /// A model of the clauses that were read, at status 10 alone.
+    pub model: Option<Assignment>,
+    /// The input that was opened. None yet, since standard input alone is read.
+    pub file: Option<R>,
+    /// The writer of the proof that was created; without `--proof`, one that leads nowhere.
+    pub proof: Option<W>,
+    /// The numbers.
+    pub tally: Tally,
+}

@@ -1,8 +1,8 @@
 -- The values that decisions make.
-use Rattle.std.proofs.Common.{◌≡◌, ℕ, ◌+◌, ◌<◌, Bool, true, false, not, ◌||◌, List, [], ◌∷◌, ◌++◌, length, take, get_or, map, Some, None, refl, sym, ap, ◌∙◌, subst, inl, inr, arith}
+use Rattle.std.proofs.Common.{◌≡◌, ℕ, ◌+◌, ◌<◌, Bool, true, false, not, ◌||◌, List, [], ◌∷◌, ◌++◌, length, take, get_or, map, Some, refl, sym, ap, ◌∙◌, subst, inl, inr}
 use Rattle.std.specs.declared.option.Option.{Option}
 use Rattle.std.proofs.Math.ListN.{set}
-use Rattle.std.proofs.lemmas.Bool.{or_left, or_right, or_cases, cases_Bool, true≢false, false≢true}
+use Rattle.std.proofs.lemmas.Bool.{or_left, or_right, or_cases, false≢true}
 use Rattle.std.proofs.lemmas.List.{take_more}
 use Rattle.sat_words.specs.Literal.{Literal, opposite, same}
 use Rattle.sat_words.specs.Clause.{has}
@@ -66,8 +66,8 @@ next_place a ds i v at is lt exact l =
     one_more a (take i ds) v lt exact l
     ∙ shape (same l (no_literal v))
     ∙ sym (ap (λ (xs : List ℕ). has (map no_literal xs) l) more
-      ∙ ap (λ (c : List Literal). has c l) (map-append no_literal (take i ds) (v ∷ []))
-      ∙ has-append (map no_literal (take i ds)) (no_literal v ∷ []) l)
+    ∙ ap (λ (c : List Literal). has c l) (map-append no_literal (take i ds) (v ∷ []))
+    ∙ has-append (map no_literal (take i ds)) (no_literal v ∷ []) l)
   where
     shape : (b : Bool) → has (map no_literal (take i ds)) l || b ≡ has (map no_literal (take i ds)) l || (b || false)
     shape true = refl

@@ -1,22 +1,16 @@
 -- How the plain search ends, from what stands between its steps.
-use Rattle.std.proofs.Common.{◌≡◌, ℕ, ◌+◌, ◌<◌, ◌≤◌, Bool, true, false, List, [], ◌∷◌, ◌++◌, length, take, drop, map, Some, None, refl, sym, ap, ◌∙◌, subst, inl, inr, arith, Ok, Err, append-nil, length-append}
+use Rattle.std.proofs.Common.{◌≡◌, ℕ, Bool, true, List, [], ◌∷◌, ◌++◌, length, sym, ap, ◌∙◌, subst, arith, Ok, Err, append-nil}
 use Rattle.std.specs.Prelude.{Result, IfOk}
 use Rattle.std.specs.declared.option.Option.{Option}
-use Rattle.std.specs.List.{list_any}
-use Rattle.std.proofs.lemmas.Bool.{true≢false, false≢true}
+use Rattle.std.proofs.lemmas.Bool.{false≢true}
 use Rattle.io_edge.specs.Bytes.{GrowsBy, GrowsByPart}
 use Rattle.io_edge.specs.Causes.{Rose}
 use Rattle.sat_words.specs.Literal.{Literal}
-use Rattle.sat_words.specs.Truth.{clause_true, formula_true}
 use Rattle.sat_words.specs.FormulaData.{FormulaData}
 use Rattle.sat_words.specs.declared.line.Line.TheVariants.{Add as AddLine}
 use Rattle.rup_model.specs.Rup.{rup}
-use Rattle.rup_model.specs.Log.{Refutes}
-use Rattle.rup_model.specs.Basics.{EachAfter}
-use Rattle.rup_model.specs.Journal.{lines, learned, IsSpaced}
-use Rattle.rup_model.specs.Spent.{rings_part}
+use Rattle.rup_model.specs.Journal.{lines, learned}
 use Rattle.rup_model.specs.declared.journal.Kind.TheVariants.{Learn, Derive}
-use Rattle.rup_model.specs.declared.journal.Entry.{Entry}
 use Rattle.rup_model.proofs.RoundsLemmas.{rup_true}
 use Rattle.rup_model.proofs.Additions.{learned-append}
 use Rattle.drat_text.specs.Text.{line_text}
@@ -25,9 +19,9 @@ use Rattle.gimsatul.specs.declared.report.Verdict.TheVariants.{Satisfiable, Unsa
 use Rattle.gimsatul.specs.declared.search.SearchStop.{SearchStop}
 use Rattle.gimsatul.specs.declared.search.SearchStop.TheVariants.{ProofFault, Memory}
 use Rattle.gimsatul.specs.declared.search.TheConstants.{LEMMA_LIMIT}
-use Rattle.gimsatul.specs.Decided.{IsModel, Decides}
+use Rattle.gimsatul.specs.Decided.{IsModel}
 use Rattle.gimsatul.specs.Searched.{Concludes, IsSearch, WasPut}
-use Rattle.gimsatul.proofs.Ledgers.{Ledger, ledger_learn, stands_whole, stands_next, accepted_next, lines_next, held_next, short_next, rest_stays, entry}
+use Rattle.gimsatul.proofs.Ledgers.{Ledger, stands_whole, stands_next, accepted_next, lines_next, held_next, short_next, entry}
 
 module _ (formula : FormulaData) (G : List (List Literal)) (count : ℕ) (written : Option (List ℕ)) (h : Ledger formula.clauses G count written) where
   -- the search stops where it stands
@@ -48,13 +42,16 @@ module _ (formula : FormulaData) (G : List (List Literal)) (count : ℕ) (writte
   ends_in_model model faults quiet is = still (Ok (Satisfiable model)) faults quiet (quiet, is)
 
   pub ends_spent : (faults : ℕ) → faults ≡ 0 → count ≡ LEMMA_LIMIT → IsSearch formula (record { verdict = Ok Unknown; learned = count }) faults written
-  ends_spent faults quiet full = still (Ok Unknown) faults quiet (quiet, record {
-    of_rings = (stands_whole formula.clauses G count written h).of_rings;
-    fits = h.fits;
-    learns = λ r lt. only r (omega arith);
-    spaced = h.spaced;
-    going = h.going;
-  })
+  ends_spent faults quiet full = still (Ok Unknown) faults quiet (
+    quiet,
+    record {
+      of_rings = (stands_whole formula.clauses G count written h).of_rings;
+      fits = h.fits;
+      learns = λ r lt. only r (omega arith);
+      spaced = h.spaced;
+      going = h.going;
+    },
+  )
     where
       only : (r : ℕ) → r ≡ 0 → length (learned r h.journal) ≡ LEMMA_LIMIT
       only r is = ap (λ (n : ℕ). length (learned n h.journal)) is ∙ h.counts ∙ full
@@ -78,13 +75,16 @@ module _ (formula : FormulaData) (G : List (List Literal)) (count : ℕ) (writte
     journal = h.journal ++ entry formula.clauses h.journal Derive [] ∷ [];
     stands = stands_next formula.clauses G count written h Derive [] follows;
     counts = sym (ap length (learned-append 0 h.journal (entry formula.clauses h.journal Derive [] ∷ [])) ∙ ap length (append-nil (learned 0 h.journal)) ∙ h.counts);
-    conclusion = (quiet, record {
-      refuted = record {
-        accepted = accepted_next formula.clauses G count written h Derive [] follows;
-        ends = (lines formula.clauses h.journal, lines_next formula.clauses G count written h Derive [] follows);
-      };
-      no_model = λ model holds. false≢true (rup_true model G [] follows (h.entailed model holds));
-    });
+    conclusion = (
+      quiet,
+      record {
+        refuted = record {
+          accepted = accepted_next formula.clauses G count written h Derive [] follows;
+          ends = (lines formula.clauses h.journal, lines_next formula.clauses G count written h Derive [] follows);
+        };
+        no_model = λ model holds. false≢true (rup_true model G [] follows (h.entailed model holds));
+      },
+    );
     whole = λ none. held_next formula.clauses G count written h Derive [] follows new grown;
     short = λ some. absurd (some quiet);
   }

@@ -1,13 +1,13 @@
 -- How a run over a source ends, from what its parts say.
-use Rattle.std.proofs.Common.{◌≡◌, ◌≤◌, ◌⊎◌, ℕ, List, [], ◌∷◌, refl, sym, ap, ◌∙◌, subst, inl, inr, arith, Some, None, length, take, Ok, Err}
+use Rattle.std.proofs.Common.{◌≡◌, ◌≤◌, ℕ, List, [], ◌∷◌, refl, sym, ap, ◌∙◌, subst, inl, inr, arith, Some, Ok, Err}
 use Rattle.std.specs.Prelude.{Result, slice_set}
 use Rattle.std.specs.declared.option.Option.{Option}
 use Rattle.io_edge.specs.Bytes.{WasFlushed, GrowsBy, GrowsByPart}
-use Rattle.io_edge.specs.Causes.{Rose, HasCause}
+use Rattle.io_edge.specs.Causes.{HasCause}
 use Rattle.io_edge.specs.Paths.{IsEmptyWhereTold}
 use Rattle.sat_words.specs.FormulaData.{FormulaData}
 use Rattle.rup_model.specs.declared.journal.Entry.{Entry}
-use Rattle.rup_model.specs.Journal.{lines, learned}
+use Rattle.rup_model.specs.Journal.{learned}
 use Rattle.gimsatul.specs.declared.report.Tally.{Tally}
 use Rattle.gimsatul.specs.declared.report.End.{End}
 use Rattle.gimsatul.specs.declared.report.Verdict.{Verdict}
@@ -21,7 +21,6 @@ use Rattle.gimsatul.specs.declared.plain.PlainStop.TheVariants.{NotPlain, Fault}
 use Rattle.gimsatul.specs.declared.plain.PlainStop.TheVariants as plain_stop
 use Rattle.gimsatul.specs.Ends.{end_of, end_of_stop, end_of_read}
 use Rattle.gimsatul.specs.Run.{Run, Count, Writer, Output, RoseIn, IsStill, Prints}
-use Rattle.gimsatul.specs.Journaled.{IsJournal, HoldsLog}
 use Rattle.gimsatul.specs.Decided.{Decides}
 use Rattle.gimsatul.specs.Searched.{Concludes, IsSearch}
 use Rattle.gimsatul.specs.Tallied.{no_tally, ring_tally}

@@ -1,5 +1,5 @@
 -- The journal with no entry, and what a flush makes of a writer that holds a journal.
-use Rattle.std.proofs.Common.{◌≡◌, ◌≤◌, ◌<◌, ◌+◌, ◌-◌, ◌^◌, ◌&&◌, ◌||◌, min, Bool, true, false, ℕ, zero, suc, List, [], ◌∷◌, ◌++◌, length, map, take, refl, sym, ap, ◌∙◌, subst, arith, Some, None, append-nil, Ok, Err}
+use Rattle.std.proofs.Common.{◌≡◌, true, false, ℕ, zero, suc, List, [], ◌∷◌, ◌++◌, map, take, refl, sym, ap, ◌∙◌, subst, arith, Some, None, append-nil, Ok, Err}
 use Rattle.std.specs.Prelude.{Result}
 use Rattle.std.specs.declared.option.Option.{Option}
 use Rattle.std.proofs.lemmas.Bool.{or_left}
@@ -16,7 +16,6 @@ use Rattle.rup_model.specs.Log.{alive, is_valid, Accepted}
 use Rattle.rup_model.specs.Journal.{lines}
 use Rattle.rup_model.specs.declared.journal.Entry.{Entry}
 use Rattle.drat_text.specs.Text.{text, line_text}
-use Rattle.gimsatul.specs.Run.{Writer}
 use Rattle.gimsatul.specs.Journaled.{IsJournal, HoldsText, IsCutShort, HoldsLog}
 
 pub empty_journal : (clauses : List (List Literal)) → IsJournal 1 clauses []

@@ -1,46 +1,39 @@
 -- What stands between the steps of the plain search: a journal of its lemmas, and what the proof's writer holds.
-use Rattle.std.proofs.Common.{◌≡◌, ◌≢◌, ◌⊎◌, ℕ, zero, suc, ◌+◌, ◌*◌, ◌-◌, ◌<◌, ◌≤◌, ◌==◌, Bool, true, false, not, ◌||◌, List, [], ◌∷◌, ◌++◌, length, take, drop, map, Some, None, refl, sym, ap, ◌∙◌, subst, inl, inr, ⊎_elim, arith, append-nil, length-append, append_assoc, Ok, Err}
+use Rattle.std.proofs.Common.{◌≡◌, ℕ, zero, suc, ◌+◌, ◌<◌, Bool, true, false, ◌||◌, List, [], ◌∷◌, ◌++◌, length, take, drop, Some, None, refl, sym, ap, ◌∙◌, subst, inl, inr, ⊎_elim, arith, append-nil, length-append, append_assoc}
 use Rattle.std.specs.Prelude.{All, cond}
 use Rattle.std.specs.declared.option.Option.{Option}
-use Rattle.std.specs.List.{list_any, list_all, flat_map, fold, filter_map, prefix_len}
-use Rattle.std.specs.Io.KnownBytes.{append_known}
-use Rattle.std.proofs.lemmas.Bool.{or_left, or_right, or_cases, or_parts, and_from, cases_Bool, true≢false, false≢true}
+use Rattle.std.specs.List.{list_any, prefix_len}
+use Rattle.std.proofs.lemmas.Bool.{or_left, and_from, true≢false}
 use Rattle.io_edge.specs.Bytes.{GrowsBy, GrowsByPart}
-use Rattle.io_edge.specs.Causes.{Rose}
 use Rattle.io_edge.specs.Paths.{IsEmptyWhereTold}
-use Rattle.sat_words.specs.Literal.{Literal, opposite}
-use Rattle.sat_words.specs.Clause.{has, is_empty, clause_of, same_set}
+use Rattle.sat_words.specs.Literal.{Literal}
+use Rattle.sat_words.specs.Clause.{is_empty, clause_of, same_set}
 use Rattle.sat_words.specs.Truth.{clause_true, formula_true}
-use Rattle.sat_words.specs.FormulaData.{FormulaData}
 use Rattle.sat_words.specs.declared.line.Line.{Line}
 use Rattle.sat_words.specs.declared.line.Line.TheVariants.{Add as AddLine}
 use Rattle.sat_words.proofs.Members.{clause_true_alike}
 use Rattle.sat_words.proofs.Insertion.{has-clause_of, same_set-clause_of}
 use Rattle.rup_model.specs.Basics.{EachAfter}
 use Rattle.rup_model.specs.Rup.{rup}
-use Rattle.rup_model.specs.Log.{alive_after, alive, is_valid, Accepted, Refutes}
-use Rattle.rup_model.specs.Journal.{ring_of, book, lines, lines_after, IsFit, Fits, added, learned, IsSpaced, EmptyLast}
+use Rattle.rup_model.specs.Log.{alive_after, alive, is_valid, Accepted}
+use Rattle.rup_model.specs.Journal.{ring_of, book, lines, IsFit, Fits, added, learned, IsSpaced, EmptyLast}
 use Rattle.rup_model.specs.Opening.{is_rulers}
-use Rattle.rup_model.specs.Spent.{ruler_part, rings_part, Spent}
+use Rattle.rup_model.specs.Spent.{rings_part}
 use Rattle.rup_model.specs.declared.journal.Kind.{Kind}
-use Rattle.rup_model.specs.declared.journal.Kind.TheVariants.{Learn, Derive}
+use Rattle.rup_model.specs.declared.journal.Kind.TheVariants.{Learn}
 use Rattle.rup_model.specs.declared.journal.Entry.{Entry}
 use Rattle.rup_model.specs.declared.journal.Entry.TheVariants.{Add}
-use Rattle.rup_model.proofs.Lists.{In, In_append, In_append_left, In_append_right, In_all, all_In}
+use Rattle.rup_model.proofs.Lists.{In, In_append, In_append_left}
 use Rattle.rup_model.proofs.Sequences.{fold_last, each_last}
 use Rattle.rup_model.proofs.Covers.{Covered, rup_covered, same_back, same_self}
 use Rattle.rup_model.proofs.RoundsLemmas.{rup_true}
 use Rattle.rup_model.proofs.Numbers.{lines_last}
 use Rattle.rup_model.proofs.Additions.{added-append, learned-append}
 use Rattle.drat_text.specs.Text.{text, line_text}
-use Rattle.gimsatul.specs.declared.report.Verdict.{Verdict}
-use Rattle.gimsatul.specs.declared.search.SearchStop.{SearchStop}
 use Rattle.std.proofs.lemmas.List.Elements.{All-append}
 use Rattle.std.proofs.lemmas.List.Folds.{list_any-append, list_all-append}
 use Rattle.gimsatul.proofs.Journals.{holds_nothing}
 use Rattle.gimsatul.specs.Journaled.{IsJournal, HoldsText, IsCutShort}
-use Rattle.gimsatul.specs.Decided.{IsModel}
-use Rattle.gimsatul.specs.Searched.{IsSearch}
 
 pub one_of_all : {X : Type 0} (P : X → Type 0) (x : X) → P x → All P (x ∷ [])
 one_of_all P x p zero d lt = p

@@ -1,18 +1,17 @@
 -- The model that values give.
-use Rattle.std.proofs.Common.{◌≡◌, ◌≢◌, ◌⊎◌, ℕ, zero, suc, ◌+◌, ◌-◌, ◌<◌, ◌≤◌, ◌==◌, Bool, true, false, not, ◌||◌, ◌&&◌, List, [], ◌∷◌, ◌++◌, length, take, get_or, map, replicate, Some, None, refl, sym, ap, ◌∙◌, subst, inl, inr, arith, length-set, eq-eqb}
+use Rattle.std.proofs.Common.{◌≡◌, ◌≢◌, ℕ, zero, suc, ◌+◌, ◌-◌, ◌<◌, ◌≤◌, ◌==◌, Bool, true, false, not, ◌||◌, ◌&&◌, List, [], ◌∷◌, ◌++◌, length, take, get_or, replicate, Some, None, refl, sym, ap, ◌∙◌, subst, inl, inr, arith, length-set, eq-eqb}
 use Rattle.std.specs.Prelude.{IsSome, cond, All}
 use Rattle.std.specs.declared.option.Option.{Option}
 use Rattle.std.specs.List.{list_any, list_all}
 use Rattle.std.proofs.Math.ListN.{set}
-use Rattle.std.proofs.lemmas.Bool.{or_left, or_right, or_cases, or_parts, cases_Bool, true≢false, false≢true}
+use Rattle.std.proofs.lemmas.Bool.{or_parts, cases_Bool, true≢false, false≢true}
 use Rattle.std.proofs.lemmas.List.{take_more, get_or-set_same, get_or-set_other}
 use Rattle.sat_words.specs.Literal.{Literal, opposite, same}
-use Rattle.sat_words.specs.Clause.{has}
-use Rattle.sat_words.specs.Truth.{value_of, lit_true, clause_true, formula_true}
+use Rattle.sat_words.specs.Truth.{value_of, lit_true, clause_true}
 use Rattle.rup_model.specs.Assigned.{value_of as value_in, is_value, is_true}
 use Rattle.rup_model.specs.Rounds.{Rounds, falsifies}
 use Rattle.rup_model.specs.Rup.{conflicts}
-use Rattle.rup_model.proofs.Lists.{In, In_any, any_In, none_In, all_In, In_all}
+use Rattle.rup_model.proofs.Lists.{In, any_In, none_In, In_all}
 use Rattle.rup_model.proofs.AssignedLemmas.{no_value}
 use Rattle.sat_words.specs.FormulaData.{FormulaData}
 use Rattle.gimsatul.specs.Plain.{IsOn}
@@ -124,13 +123,11 @@ lit_from values model l is h = by (value_in values l.var) l.neg (value_of model 
     by (Some false) true b e t = ap not e
     by (Some false) false b e t = absurd (false≢true t)
 
-
 -- a model of clauses that nothing falsifies, where each variable has a value
 module _ (G : List (List Literal)) (A : List Literal) (values : List (Option Bool)) (vars : ℕ) (model : List Bool)
     (quiet : conflicts G A ≡ false)
     (exact : (l : Literal) → is_true values l ≡ Rounds G A l)
     (all : (v : ℕ) → 1 ≤ v → v ≤ vars → IsSome (value_in values v)) where
-
   some_value : (o : Option Bool) → IsSome o → o ≡ None → ⊥
   some_value None h e = cc h
   some_value (Some x) h e = cc e

@@ -9,9 +9,14 @@ use Rattle.sat_words.specs.declared.line.Line.TheVariants.{Add}
 use Rattle.drat_text.specs.Text.{lit_text, lits_text, line_text, text}
 use Rattle.drat_text.proofs.Text.{text-push}
 use Rattle.gimsatul.specs.Plain.{IsOn, IsWritten}
-use Rattle.gimsatul.specs.PlainParts.{DigitsAt, SignAt, LiteralAt, LitsBefore, LineAt, LinesBefore, LinesAre}
+use Rattle.gimsatul.specs.PlainParts.{DigitsAt, SignAt, LiteralAt, LineAt, LinesBefore, LinesAre}
 use Rattle.gimsatul.proofs.PlainNumbers.{number_front, no_digit}
 use Rattle.gimsatul.proofs.PlainLiterals.{literal_parts, same_literal}
+
+-- literals on the variables, each with a space
+pub record LitsBefore (bytes : List ℕ) (vars : ℕ) (lits : List Literal) (rest : List ℕ) : Type 0 where
+  pub spelled : bytes ≡ lits_text lits ++ rest
+  pub written : IsWritten vars lits
 
 lits_first : (l : Literal) (c : List Literal) (s : List ℕ) → lits_text (l ∷ c) ++ s ≡ lit_text l ++ 32 ∷ (lits_text c ++ s)
 lits_first l c s = append_assoc (lit_text l ++ 32 ∷ []) (lits_text c) s ∙ append_assoc (lit_text l) (32 ∷ []) (lits_text c ++ s)
@@ -64,18 +69,18 @@ more_lits bytes left rest vars done lits few before line =
     more_by done lits left rest vars few before.written.on_variables line.written.on_variables (sym before.spelled ∙ line.spelled ∙ line_end lits rest)
 
 -- what follows the literals is neither the line's end nor another literal
-ends_no_line : (bytes left rest : List ℕ) (vars : ℕ) (done lits : List Literal) (more : List Literal) → vars < 2 ^ 28
+ends_no_line : (left rest : List ℕ) (vars : ℕ) (more : List Literal) → vars < 2 ^ 28
     → ((rest : List ℕ) → left ≡ codes "0\n" ++ rest → ⊥) → ((l : Literal) (rest : List ℕ) → LiteralAt left vars l rest → ⊥)
     → left ≡ lits_text more ++ 48 ∷ 10 ∷ rest → All (IsOn vars) more → ⊥
-ends_no_line bytes left rest vars done lits [] few no_end no_literal e on = no_end rest e
-ends_no_line bytes left rest vars done lits (m ∷ more) few no_end no_literal e on = no_literal m (lits_text more ++ 48 ∷ 10 ∷ rest) (first_at left vars m more (48 ∷ 10 ∷ rest) on e)
+ends_no_line left rest vars [] few no_end no_literal e on = no_end rest e
+ends_no_line left rest vars (m ∷ more) few no_end no_literal e on = no_literal m (lits_text more ++ 48 ∷ 10 ∷ rest) (first_at left vars m more (48 ∷ 10 ∷ rest) on e)
 
 pub no_line : (bytes left : List ℕ) (vars : ℕ) (done : List Literal) → vars < 2 ^ 28 → LitsBefore bytes vars done left
     → ((rest : List ℕ) → left ≡ codes "0\n" ++ rest → ⊥) → ((l : Literal) (rest : List ℕ) → LiteralAt left vars l rest → ⊥)
     → (lits : List Literal) (rest : List ℕ) → LineAt bytes vars lits rest → ⊥
 no_line bytes left vars done few before no_end no_literal lits rest line =
     let more = more_lits bytes left rest vars done lits few before line in
-    ends_no_line bytes left rest vars done lits more.more few no_end no_literal more.left_is more.on_variables
+    ends_no_line left rest vars more.more few no_end no_literal more.left_is more.on_variables
 
 -- no literal has room
 full_no_line : (left rest : List ℕ) (done lits more : List Literal) → length done ≡ 2 ^ 20 → length lits ≤ 2 ^ 20

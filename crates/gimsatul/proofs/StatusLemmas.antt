@@ -1,8 +1,7 @@
 -- What single statuses say, from the case of a call's end.
-use Rattle.std.proofs.Common.{◌≡◌, ◌≢◌, ◌⊎◌, ℕ, List, [], Bool, Some, None, refl, sym, inl, inr, subst, ⊎_elim, arith, rules}
+use Rattle.std.proofs.Common.{◌≡◌, ◌≢◌, ◌⊎◌, ℕ, List, Bool, Some, None, refl, sym, inl, inr, subst, ⊎_elim, arith, rules}
 use Rattle.std.specs.Prelude.{IfSome, IsSome, IsSomeAnd}
 use Rattle.std.specs.declared.option.Option.{Option}
-use Rattle.sat_words.specs.Literal.{Literal}
 use Rattle.sat_words.specs.FormulaData.{FormulaData}
 use Rattle.rup_model.specs.declared.journal.Entry.{Entry}
 use Rattle.io_edge.specs.Causes.{Rose}
@@ -11,14 +10,13 @@ use Rattle.gimsatul.specs.declared.report.End.{End}
 use Rattle.gimsatul.specs.declared.report.End.TheVariants.{Satisfiable, Unsatisfiable, Unknown, Usage, BadInput, CannotCreate, ReadFault, WriteFault, ProofFault, Memory}
 use Rattle.gimsatul.specs.declared.report.Verdict.TheVariants as verdict
 use Rattle.gimsatul.specs.Words.{Command, command_of, proof_path}
-use Rattle.gimsatul.specs.Run.{Call, Run, Writer, RoseIn, IsStill}
+use Rattle.gimsatul.specs.Run.{Call, Writer, RoseIn, IsStill}
 use Rattle.gimsatul.specs.Journaled.{IsJournal, HoldsLog}
-use Rattle.gimsatul.specs.Plain.{WasRead, IsUnreadable}
-use Rattle.gimsatul.specs.Outcome.{CallOutcome, IsCall, HasLog, IsUnread, IsStarted, IsBarren}
-use Rattle.gimsatul.specs.Headline.{status_of, model_of, Reports, Headline}
+use Rattle.gimsatul.specs.Plain.{IsUnreadable}
+use Rattle.gimsatul.specs.Outcome.{CallOutcome, IsCall, IsUnread, IsStarted, IsBarren}
+use Rattle.gimsatul.specs.Headline.{status_of, model_of, Headline}
 use Rattle.gimsatul.specs.Statuses.{Answers, HasModel, LeftUnread, LeftUnprinted, LeftUnproved, HasJournal, MustAnswer, IsAnswer, Statuses}
 use Rattle.gimsatul.proofs.Journals.{empty_journal}
-
 
 -- a writer that must be there is there
 there : (P : Writer → Type 0) (proof : Option Writer) → IsSomeAnd proof P → IsSome proof

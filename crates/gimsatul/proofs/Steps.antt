@@ -1,11 +1,11 @@
 -- The steps of the plain search: a conflict under the decisions gives a lemma; an open variable is no decision yet.
-use Rattle.std.proofs.Common.{◌≡◌, ◌≢◌, ℕ, zero, suc, ◌+◌, ◌*◌, ◌-◌, ◌<◌, ◌≤◌, Bool, true, false, not, List, [], ◌∷◌, ◌++◌, length, get_or, map, nat_eq, Some, None, Ok, Err, refl, sym, ap, ◌∙◌, subst, inl, inr, arith, length-append, append-nil, suc-mul}
+use Rattle.std.proofs.Common.{◌≡◌, ℕ, suc, ◌+◌, ◌*◌, ◌-◌, ◌<◌, ◌≤◌, Bool, true, false, List, [], ◌∷◌, ◌++◌, length, get_or, map, nat_eq, Some, None, Ok, refl, sym, ap, ◌∙◌, subst, inl, inr, arith, length-append, append-nil, suc-mul}
 use Rattle.std.proofs.Math.ListN.{get_or-append}
 use Rattle.std.specs.Option.{option_to_list}
 use Rattle.std.specs.Prelude.{All, Result}
 use Rattle.std.specs.declared.option.Option.{Option}
 use Rattle.std.specs.List.{IsDistinct, AllByRecursion, list_any}
-use Rattle.std.proofs.lemmas.Bool.{or_cases, true≢false, false≢true, cases_Bool}
+use Rattle.std.proofs.lemmas.Bool.{or_cases, false≢true, cases_Bool}
 use Rattle.std.proofs.lemmas.Map.Steps.{length-le_from_distinct_below}
 use Rattle.sat_words.specs.Literal.{Literal, opposite, same}
 use Rattle.sat_words.specs.Clause.{has, clause_of, is_empty}
@@ -168,9 +168,10 @@ all_front P xs ys h k d lt =
     subst P (get_or-append xs ys d k lt) (h k d (omega arith))
 
 pub taken_back : (n : ℕ) (old new : List ℕ) (last : Option ℕ) → old ≡ new ++ option_to_list last → All (IsDecided n) old → IsDistinct nat_eq old → All (IsDecided n) new × IsDistinct nat_eq new
-taken_back n old new last is decided distinct =
-    (all_front (IsDecided n) new (option_to_list last) (subst (λ (xs : List ℕ). All (IsDecided n) xs) is decided),
-    front last (subst (λ (xs : List ℕ). IsDistinct nat_eq xs) is distinct))
+taken_back n old new last is decided distinct = (
+  all_front (IsDecided n) new (option_to_list last) (subst (λ (xs : List ℕ). All (IsDecided n) xs) is decided),
+  front last (subst (λ (xs : List ℕ). IsDistinct nat_eq xs) is distinct),
+)
   where
     front : (o : Option ℕ) → IsDistinct nat_eq (new ++ option_to_list o) → IsDistinct nat_eq new
     front None h = subst (λ (xs : List ℕ). IsDistinct nat_eq xs) (append-nil new) h

@@ -1,5 +1,5 @@
 -- Decisions of the plain search: variables, each decided false.
-use Rattle.std.specs.Prelude.{◌≡◌, ◌≤◌, ◌<◌, ℕ, Bool, true, false, List, length, Option, Some}
+use Rattle.std.specs.Prelude.{◌≡◌, ◌≤◌, ◌<◌, ℕ, Bool, true, false, List, length, Option}
 use Rattle.sat_words.specs.Literal.{Literal}
 use Rattle.sat_words.specs.Truth.{value_of}
 use Rattle.rup_model.specs.Assigned.{value_of as value_in, is_value}

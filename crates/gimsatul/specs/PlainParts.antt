@@ -6,7 +6,7 @@ use Rattle.sat_words.specs.Literal.{Literal}
 use Rattle.sat_words.specs.Clause.{clause_of}
 use Rattle.sat_words.specs.FormulaData.{FormulaData}
 use Rattle.sat_words.specs.declared.line.Line.TheVariants.{Add}
-use Rattle.drat_text.specs.Text.{lit_text, lits_text, line_text, text}
+use Rattle.drat_text.specs.Text.{lit_text, line_text, text}
 use Rattle.gimsatul.specs.Plain.{header, IsOn, IsWritten}
 
 -- bytes of which the first, if there is one, is no digit
@@ -46,11 +46,6 @@ pub record SignAt (bytes : List ℕ) (neg : Bool) (rest : List ℕ) : Type 0 whe
 pub record LiteralAt (bytes : List ℕ) (vars : ℕ) (l : Literal) (rest : List ℕ) : Type 0 where
   pub spelled : bytes ≡ lit_text l ++ 32 ∷ rest
   pub on_variables : IsOn vars l
-
--- literals on the variables, each with a space
-pub record LitsBefore (bytes : List ℕ) (vars : ℕ) (lits : List Literal) (rest : List ℕ) : Type 0 where
-  pub spelled : bytes ≡ lits_text lits ++ rest
-  pub written : IsWritten vars lits
 
 -- the line of a clause
 pub record LineAt (bytes : List ℕ) (vars : ℕ) (lits : List Literal) (rest : List ℕ) : Type 0 where

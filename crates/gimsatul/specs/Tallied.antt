@@ -1,5 +1,5 @@
 -- The numbers of a report.
-use Rattle.std.specs.Prelude.{◌≡◌, ℕ, [], ◌∷◌}
+use Rattle.std.specs.Prelude.{ℕ, [], ◌∷◌}
 use Rattle.gimsatul.specs.declared.report.Tally.{Tally}
 
 -- before the ring was to start

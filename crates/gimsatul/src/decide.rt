@@ -66,13 +66,13 @@ fn decide_formula<P: Sink, O: Sink>(
     requires quiet { P.faults proof.old ≡ 0 }
     requires started { tally.old ≡ ring_tally 0 }
     ensures outcome { Concluded formula.now result tally.new
-      (record { faults = P.faults proof.new; written = P.written proof.new; flushed = P.flushed proof.new })
-      (record {
-        faults = record { before = O.faults out.old; after = O.faults out.new };
-        before = O.written out.old;
-        after = O.written out.new;
-        flushed = O.flushed out.new;
-      }) }
+        (record { faults = P.faults proof.new; written = P.written proof.new; flushed = P.flushed proof.new })
+        (record {
+          faults = record { before = O.faults out.old; after = O.faults out.new };
+          before = O.written out.old;
+          after = O.written out.new;
+          flushed = O.flushed out.new;
+        }) }
     ensures target { P.target proof.new ≡ P.target proof.old }
     ensures unprinted { prints result ≡ false → out.new ≡ out.old }
 {

@@ -19,9 +19,8 @@ use io_edge::{StdFiles, StdSink, StdSource, write_all_of};
 pub use report::{End, Numbers, Report, Tally, Verdict};
 pub use search::LEMMA_LIMIT;
 use std::alloc::AllocFailed;
-use std::env;
-use std::io;
 use std::process::ExitCode;
+use std::{env, io};
 pub use top::gimsatul;
 
 /// Why the call was not made.

@@ -1,5 +1,5 @@
 use Rattle.std.proofs.Common.{◌-◌, ◌^◌, length}
-use Rattle.gimsatul.specs.PlainParts.{LitsBefore}
+use Rattle.gimsatul.proofs.PlainLines.{LitsBefore}
 use Rattle.gimsatul.proofs.plain_text.take_line.Given as goal
 
 abbrev pub invariant-loop-rest : goal.invariant-loop-rest

@@ -1,4 +1,4 @@
-use Rattle.std.proofs.Common.{◌<◌, ap, sym, ◌∙◌, arith, length, length-set, get_or, None}
+use Rattle.std.proofs.Common.{◌<◌, ap, ◌∙◌, arith, length, length-set, get_or}
 use Rattle.std.proofs.lemmas.List.{length-replicate}
 use Rattle.rup_model.proofs.Negated.{Negates-none}
 use Rattle.gimsatul.proofs.Assumed.{next_decision}

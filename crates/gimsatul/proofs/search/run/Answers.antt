@@ -1,12 +1,10 @@
-use Rattle.std.proofs.Common.{◌≡◌, List, [], ◌∷◌, ◌++◌, length, map, refl, sym, ap, ◌∙◌, subst, arith, rules, ℕ, ◌+◌, ◌<◌, true, length-append}
-use Rattle.std.specs.declared.option.Option.{Option}
-use Rattle.sat_words.specs.Literal.{Literal}
+use Rattle.std.proofs.Common.{◌≡◌, List, [], ◌∷◌, length, map, refl, sym, ap, ◌∙◌, subst, arith, rules, ℕ, ◌+◌, ◌<◌, true, length-append}
 use Rattle.std.proofs.lemmas.List.{length-replicate}
 use Rattle.std.proofs.lemmas.List.Elements.{All-append}
 use Rattle.gimsatul.specs.Decisions.{yes_literal, IsDecided}
 use Rattle.gimsatul.proofs.Ledgers.{ledger_start, one_of_all}
 use Rattle.gimsatul.proofs.Conclusions.{ends_in_model, ends_spent, refute_end, learn_end}
-use Rattle.gimsatul.proofs.Steps.{lent_conflict, nothing_decided, learned_step, taken_back, clauses_in_range, formula_in_range, distinct_none, distinct_front, new_decision, few_decisions, one_decision_more}
+use Rattle.gimsatul.proofs.Steps.{lent_conflict, nothing_decided, learned_step, taken_back, clauses_in_range, formula_in_range, distinct_none, new_decision, few_decisions, one_decision_more}
 use Rattle.gimsatul.proofs.Models.{is_model}
 use Rattle.rup_model.specs.Rup.{rup}
 use Rattle.rup_model.specs.Assigned.{literals_of}

@@ -1,4 +1,4 @@
-use Rattle.std.proofs.Common.{[], refl, ap, sym, subst}
+use Rattle.std.proofs.Common.{[], refl}
 use Rattle.gimsatul.proofs.Finishes.{no_formula}
 use Rattle.gimsatul.proofs.Lawful.{asked_path, lawful, whole_call}
 use Rattle.gimsatul.proofs.top.run.Goals as goal

@@ -1,5 +1,5 @@
 -- How the plain search ends, from what stands between its steps.
-use Rattle.std.proofs.Common.{◌≡◌, ℕ, Bool, true, List, [], ◌∷◌, ◌++◌, length, sym, ap, ◌∙◌, subst, arith, Ok, Err, append-nil}
+use Rattle.std.proofs.Common.{refl, ◌^◌, All, ◌≡◌, ℕ, Bool, true, List, [], ◌∷◌, ◌++◌, length, sym, ap, ◌∙◌, subst, arith, Ok, Err, append-nil}
 use Rattle.std.specs.Prelude.{Result, IfOk}
 use Rattle.std.specs.declared.option.Option.{Option}
 use Rattle.std.proofs.lemmas.Bool.{false≢true}
@@ -19,9 +19,14 @@ use Rattle.gimsatul.specs.declared.report.Verdict.TheVariants.{Satisfiable, Unsa
 use Rattle.gimsatul.specs.declared.search.SearchStop.{SearchStop}
 use Rattle.gimsatul.specs.declared.search.SearchStop.TheVariants.{ProofFault, Memory}
 use Rattle.gimsatul.specs.declared.search.TheConstants.{LEMMA_LIMIT}
+use Rattle.gimsatul.specs.Plain.{IsOn}
 use Rattle.gimsatul.specs.Decided.{IsModel}
 use Rattle.gimsatul.specs.Searched.{Concludes, IsSearch, WasPut}
 use Rattle.gimsatul.proofs.Ledgers.{Ledger, stands_whole, stands_next, accepted_next, lines_next, held_next, short_next, entry}
+
+-- no literal at all
+nothing_named : All (IsOn (2 ^ 30)) []
+nothing_named k l lt = absurd (omega arith)
 
 module _ (formula : FormulaData) (G : List (List Literal)) (count : ℕ) (written : Option (List ℕ)) (h : Ledger formula.clauses G count written) where
   -- the search stops where it stands
@@ -57,15 +62,15 @@ module _ (formula : FormulaData) (G : List (List Literal)) (count : ℕ) (writte
       only r is = ap (λ (n : ℕ). length (learned n h.journal)) is ∙ h.counts ∙ full
 
   -- a write failed
-  pub ends_in_fault : (lits : List Literal) (new : Option (List ℕ)) (before after : ℕ) → rup G lits ≡ true → before ≡ 0 → Rose before after → GrowsByPart written new (line_text (AddLine lits))
+  pub ends_in_fault : (lits : List Literal) (new : Option (List ℕ)) (before after : ℕ) → rup G lits ≡ true → All (IsOn (2 ^ 30)) lits → before ≡ 0 → Rose before after → GrowsByPart written new (line_text (AddLine lits))
       → IsSearch formula (record { verdict = Err ProofFault; learned = count }) after new
-  ends_in_fault lits new before after follows quiet rose grown = record {
+  ends_in_fault lits new before after follows named quiet rose grown = record {
     journal = h.journal;
     stands = stands_whole formula.clauses G count written h;
     counts = sym h.counts;
     conclusion = subst (λ (n : ℕ). Rose n after) quiet rose;
     whole = λ none. absurd (omega (arith, rose, none));
-    short = λ some. short_next formula.clauses G count written h Learn lits follows new grown;
+    short = λ some. short_next formula.clauses G count written h Learn lits follows named new grown;
   }
 
   -- the empty clause was written
@@ -73,19 +78,19 @@ module _ (formula : FormulaData) (G : List (List Literal)) (count : ℕ) (writte
       → IsSearch formula (record { verdict = Ok Unsatisfiable; learned = count }) faults new
   ends_refuted new faults follows quiet grown = record {
     journal = h.journal ++ entry formula.clauses h.journal Derive [] ∷ [];
-    stands = stands_next formula.clauses G count written h Derive [] follows;
+    stands = stands_next formula.clauses G count written h Derive [] follows nothing_named refl;
     counts = sym (ap length (learned-append 0 h.journal (entry formula.clauses h.journal Derive [] ∷ [])) ∙ ap length (append-nil (learned 0 h.journal)) ∙ h.counts);
     conclusion = (
       quiet,
       record {
         refuted = record {
-          accepted = accepted_next formula.clauses G count written h Derive [] follows;
-          ends = (lines formula.clauses h.journal, lines_next formula.clauses G count written h Derive [] follows);
+          accepted = accepted_next formula.clauses G count written h Derive [] follows nothing_named;
+          ends = (lines formula.clauses h.journal, lines_next formula.clauses G count written h Derive [] follows nothing_named);
         };
         no_model = λ model holds. false≢true (rup_true model G [] follows (h.entailed model holds));
       },
     );
-    whole = λ none. held_next formula.clauses G count written h Derive [] follows new grown;
+    whole = λ none. held_next formula.clauses G count written h Derive [] follows nothing_named new grown;
     short = λ some. absurd (some quiet);
   }
 
@@ -95,14 +100,14 @@ module _ (formula : FormulaData) (G : List (List Literal)) (count : ℕ) (writte
       → IsSearch formula (record { verdict = found; learned = count }) after new
   refute_end (Ok verdict) new before after follows quiet put is =
       subst (λ (v : Verdict). IsSearch formula (record { verdict = Ok v; learned = count }) after new) (sym is) (ends_refuted new after follows (put.1 ∙ quiet) put.0)
-  refute_end (Err ProofFault) new before after follows quiet put is = ends_in_fault [] new before after follows quiet put.1 put.0
+  refute_end (Err ProofFault) new before after follows quiet put is = ends_in_fault [] new before after follows nothing_named quiet put.1 put.0
   refute_end (Err Memory) new before after follows quiet put is =
       subst (λ (w : Option (List ℕ)). IsSearch formula (record { verdict = Err Memory; learned = count }) after w) (sym put.0) (ends_in_memory after (put.1 ∙ quiet))
 
   -- a lemma was to be written, and was not
-  pub learn_end : (stop : SearchStop) (lits : List Literal) (new : Option (List ℕ)) (before after : ℕ) → rup G lits ≡ true → before ≡ 0
+  pub learn_end : (stop : SearchStop) (lits : List Literal) (new : Option (List ℕ)) (before after : ℕ) → rup G lits ≡ true → All (IsOn (2 ^ 30)) lits → before ≡ 0
       → WasPut {T = Unit {0}} lits (Err stop) written new before after
       → IsSearch formula (record { verdict = Err stop; learned = count }) after new
-  learn_end ProofFault lits new before after follows quiet put = ends_in_fault lits new before after follows quiet put.1 put.0
-  learn_end Memory lits new before after follows quiet put =
+  learn_end ProofFault lits new before after follows named quiet put = ends_in_fault lits new before after follows named quiet put.1 put.0
+  learn_end Memory lits new before after follows named quiet put =
       subst (λ (w : Option (List ℕ)). IsSearch formula (record { verdict = Err Memory; learned = count }) after w) (sym put.0) (ends_in_memory after (put.1 ∙ quiet))

@@ -45,10 +45,11 @@ unread text source out tally f0 f1 w0 w1 fl0 fl1 result quiet empty counts same 
 
 -- the search came to its end, and the proof was flushed
 pub started : {T E : Type 0} (text : Option (List ℕ)) (source : Count) (out : Output) (formula : FormulaData) (searched : Searched) (tally : Tally) (f0 f1 : ℕ) (w0 w1 fl0 fl1 : Option (List ℕ)) (result : Result T E)
-    → (s : IsSearch formula searched f0 w0) → WasRead text formula → tally ≡ ring_tally searched.learned → w1 ≡ w0 → HasCause f0 f1 result → WasFlushed w1 fl0 fl1 result
+    → (s : IsSearch formula searched f0 w0) → WasRead text formula → IsStill source → tally ≡ ring_tally searched.learned → w1 ≡ w0 → HasCause f0 f1 result → WasFlushed w1 fl0 fl1 result
     → IsStarted formula s.journal tally (record { text = text; source = source; proof = Some (record { faults = f1; written = w1; flushed = fl1 }); out = out })
-started text source out formula searched tally f0 f1 w0 w1 fl0 fl1 result s read counts same cause flush = record {
+started text source out formula searched tally f0 f1 w0 w1 fl0 fl1 result s read still counts same cause flush = record {
   read = read;
+  source = still;
   journal_stands = s.stands;
   log = flushed_log formula.clauses s.journal s.stands f0 f1 w0 w1 fl0 fl1 result s.whole s.short same cause flush;
   counts = counts ∙ ap ring_tally s.counts;
@@ -89,34 +90,34 @@ concluded verdict found F J f0 is why = subst (λ (r : Result Verdict SearchStop
 
 -- the verdict was printed
 pub answered : (verdict : Verdict) (end : End) (vars : ℕ) (F : FormulaData) (J : List Entry) (tally : Tally) (text : Option (List ℕ)) (source : Count) (out : Output) (writer : Writer)
-    → end ≡ end_of verdict → vars ≡ F.vars → Decides F J verdict → IsStill source → writer.faults ≡ 0 → IsStill out.faults
+    → end ≡ end_of verdict → vars ≡ F.vars → Decides F J verdict → writer.faults ≡ 0 → IsStill out.faults
     → GrowsBy out.before out.after (answer_text vars verdict) → out.flushed ≡ out.after
     → IsStarted F J tally (record { text = text; source = source; proof = Some writer; out = out })
     → Outcome end F J tally (record { text = text; source = source; proof = Some writer; out = out })
-answered verdict end vars F J tally text source out writer is same decided still quiet told grown sure s =
+answered verdict end vars F J tally text source out writer is same decided quiet told grown sure s =
     let run : Run = record { text = text; source = source; proof = Some writer; out = out } in
     let printed : Prints out (answer_text F.vars verdict) = record { grown = subst (λ (n : ℕ). GrowsBy out.before out.after (answer_text n verdict)) same grown; sure = sure } in
     subst (λ (e : End). Outcome e F J tally run) (sym is)
-    (answered_end verdict F J tally run (record { started = s; decided = decided; printed = printed; quiet = record { source = still; proof = quiet; out = told } }))
+    (answered_end verdict F J tally run (record { started = s; decided = decided; printed = printed; quiet = record { proof = quiet; out = told } }))
 
 -- a part of the text was printed
 pub part_printed : (verdict : Verdict) (vars : ℕ) (F : FormulaData) (before after : Option (List ℕ)) → vars ≡ F.vars → GrowsByPart before after (answer_text vars verdict) → GrowsByPart before after (answer_text F.vars verdict)
 part_printed verdict vars F before after same grown = subst (λ (n : ℕ). GrowsByPart before after (answer_text n verdict)) same grown
 
 read_cases : (stop : PlainStop) (tally : Tally) (run : Run)
-    → (stop ≡ NotPlain → IsUnreadable run.text) → (stop ≡ Fault → RoseIn run.source)
+    → (stop ≡ NotPlain → IsUnreadable run.text) → (stop ≡ NotPlain → IsStill run.source) → (stop ≡ Fault → RoseIn run.source)
     → IsUnread no_formula [] tally run
     → Outcome (end_of_read stop) no_formula [] tally run
-read_cases NotPlain tally run bad rose u = (bad refl, u)
-read_cases Fault tally run bad rose u = (rose refl, u)
-read_cases plain_stop.Memory tally run bad rose u = inl u
+read_cases NotPlain tally run bad still rose u = (bad refl, still refl, u)
+read_cases Fault tally run bad still rose u = (rose refl, u)
+read_cases plain_stop.Memory tally run bad still rose u = inl u
 
 -- nothing was read
 pub unread_end : (stop : PlainStop) (end : End) (tally : Tally) (text : Option (List ℕ)) (source : Count) (out : Output) (writer : Writer)
     → end ≡ end_of_read stop
-    → (stop ≡ NotPlain → IsUnreadable text) → (stop ≡ Fault → RoseIn source)
+    → (stop ≡ NotPlain → IsUnreadable text) → (stop ≡ NotPlain → IsStill source) → (stop ≡ Fault → RoseIn source)
     → IsUnread no_formula [] tally (record { text = text; source = source; proof = Some writer; out = out })
     → Outcome end no_formula [] tally (record { text = text; source = source; proof = Some writer; out = out })
-unread_end stop end tally text source out writer is bad rose u =
+unread_end stop end tally text source out writer is bad still rose u =
     let run : Run = record { text = text; source = source; proof = Some writer; out = out } in
-    subst (λ (e : End). Outcome e no_formula [] tally run) (sym is) (read_cases stop tally run bad rose u)
+    subst (λ (e : End). Outcome e no_formula [] tally run) (sym is) (read_cases stop tally run bad still rose u)

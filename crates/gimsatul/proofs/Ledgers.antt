@@ -1,5 +1,5 @@
 -- What stands between the steps of the plain search: a journal of its lemmas, and what the proof's writer holds.
-use Rattle.std.proofs.Common.{◌≡◌, ℕ, zero, suc, ◌+◌, ◌<◌, Bool, true, false, ◌||◌, List, [], ◌∷◌, ◌++◌, length, take, drop, Some, None, refl, sym, ap, ◌∙◌, subst, inl, inr, ⊎_elim, arith, append-nil, length-append, append_assoc}
+use Rattle.std.proofs.Common.{◌^◌, ◌≡◌, ℕ, zero, suc, ◌+◌, ◌<◌, Bool, true, false, ◌||◌, List, [], ◌∷◌, ◌++◌, length, take, drop, Some, None, refl, sym, ap, ◌∙◌, subst, inl, inr, ⊎_elim, arith, append-nil, length-append, append_assoc}
 use Rattle.std.specs.Prelude.{All, cond}
 use Rattle.std.specs.declared.option.Option.{Option}
 use Rattle.std.specs.List.{list_any, prefix_len}
@@ -15,12 +15,12 @@ use Rattle.sat_words.proofs.Members.{clause_true_alike}
 use Rattle.sat_words.proofs.Insertion.{has-clause_of, same_set-clause_of}
 use Rattle.rup_model.specs.Basics.{EachAfter}
 use Rattle.rup_model.specs.Rup.{rup}
-use Rattle.rup_model.specs.Log.{alive_after, alive, is_valid, Accepted}
+use Rattle.rup_model.specs.Log.{alive_after, alive, is_valid, lits_of, Accepted}
 use Rattle.rup_model.specs.Journal.{ring_of, book, lines, IsFit, Fits, added, learned, IsSpaced, EmptyLast}
 use Rattle.rup_model.specs.Opening.{is_rulers}
 use Rattle.rup_model.specs.Spent.{rings_part}
 use Rattle.rup_model.specs.declared.journal.Kind.{Kind}
-use Rattle.rup_model.specs.declared.journal.Kind.TheVariants.{Learn}
+use Rattle.rup_model.specs.declared.journal.Kind.TheVariants.{Learn, Derive}
 use Rattle.rup_model.specs.declared.journal.Entry.{Entry}
 use Rattle.rup_model.specs.declared.journal.Entry.TheVariants.{Add}
 use Rattle.rup_model.proofs.Lists.{In, In_append, In_append_left}
@@ -33,7 +33,8 @@ use Rattle.drat_text.specs.Text.{text, line_text}
 use Rattle.std.proofs.lemmas.List.Elements.{All-append}
 use Rattle.std.proofs.lemmas.List.Folds.{list_any-append, list_all-append}
 use Rattle.gimsatul.proofs.Journals.{holds_nothing}
-use Rattle.gimsatul.specs.Journaled.{IsJournal, HoldsText, IsCutShort}
+use Rattle.gimsatul.specs.Plain.{IsOn}
+use Rattle.gimsatul.specs.Journaled.{CanBeSpelled, IsPlainEntry, IsJournal, HoldsText, IsCutShort}
 
 pub one_of_all : {X : Type 0} (P : X → Type 0) (x : X) → P x → All P (x ∷ [])
 one_of_all P x p zero d lt = p
@@ -81,6 +82,8 @@ pub record Ledger (F : List (List Literal)) (G : List (List Literal)) (count : �
   pub fits : Fits F journal
   pub accepted : Accepted F (lines F journal)
   pub last : EmptyLast journal
+  pub spelled : CanBeSpelled (lines F journal)
+  pub plain : All IsPlainEntry journal
   pub going : list_any is_empty (added journal) ≡ false
   pub mine : prefix_len is_rulers journal ≡ 0
   pub of_ring : All (λ e. ring_of e < 1) journal
@@ -97,6 +100,8 @@ ledger_start F written empty = record {
   fits = tt;
   accepted = tt;
   last = tt;
+  spelled = λ k x lt. absurd (omega arith);
+  plain = λ k x lt. absurd (omega arith);
   going = refl;
   mine = refl;
   of_ring = λ k x lt. absurd (omega arith);
@@ -110,9 +115,16 @@ ledger_start F written empty = record {
 
 module _ (F G : List (List Literal)) (count : ℕ) (written : Option (List ℕ)) (h : Ledger F G count written) where
   pub stands_whole : IsJournal 1 F h.journal
-  stands_whole = record { fits = h.fits; accepted = h.accepted; last = h.last; of_rings = subst (λ (J : List Entry). All (λ e. ring_of e < 1) J) (sym (rest_stays h.journal h.mine)) h.of_ring }
+  stands_whole = record {
+    fits = h.fits;
+    accepted = h.accepted;
+    last = h.last;
+    spelled = h.spelled;
+    of_rings = subst (λ (J : List Entry). All (λ e. ring_of e < 1) J) (sym (rest_stays h.journal h.mine)) h.of_ring;
+    plain = h.plain;
+  }
 
-  module _ (kind : Kind) (lits : List Literal) (follows : rup G lits ≡ true) where
+  module _ (kind : Kind) (lits : List Literal) (follows : rup G lits ≡ true) (named : All (IsOn (2 ^ 30)) lits) where
     rup_next : rup (alive F (lines F h.journal)) lits ≡ true
     rup_next = rup_covered G (alive F (lines F h.journal)) lits h.covered follows
 
@@ -137,11 +149,22 @@ module _ (F G : List (List Literal)) (count : ℕ) (written : Option (List ℕ))
     of_ring_next : All (λ e. ring_of e < 1) (h.journal ++ entry F h.journal kind lits ∷ [])
     of_ring_next = All-append (λ e. ring_of e < 1) h.journal (entry F h.journal kind lits ∷ []) h.of_ring (one_of_all (λ e. ring_of e < 1) (entry F h.journal kind lits) (omega arith))
 
-    pub stands_next : IsJournal 1 F (h.journal ++ entry F h.journal kind lits ∷ [])
-    stands_next = record {
+    line_spelled : CanBeSpelled (lines F h.journal ++ AddLine lits ∷ [])
+    line_spelled = All-append (λ x. All (IsOn (2 ^ 30)) (lits_of x)) (lines F h.journal) (AddLine lits ∷ []) h.spelled (one_of_all (λ x. All (IsOn (2 ^ 30)) (lits_of x)) (AddLine lits) named)
+
+    spelled_next : CanBeSpelled (lines F (h.journal ++ entry F h.journal kind lits ∷ []))
+    spelled_next = subst CanBeSpelled (sym lines_next) line_spelled
+
+    plain_next : kind ≡ cond (is_empty lits) Derive Learn → All IsPlainEntry (h.journal ++ entry F h.journal kind lits ∷ [])
+    plain_next right = All-append IsPlainEntry h.journal (entry F h.journal kind lits ∷ []) h.plain (one_of_all IsPlainEntry (entry F h.journal kind lits) (refl, right))
+
+    pub stands_next : kind ≡ cond (is_empty lits) Derive Learn → IsJournal 1 F (h.journal ++ entry F h.journal kind lits ∷ [])
+    stands_next right = record {
       fits = fits_next;
       accepted = accepted_next;
       last = last_next;
+      spelled = spelled_next;
+      plain = plain_next right;
       of_rings = subst (λ (J : List Entry). All (λ e. ring_of e < 1) J) (sym (rest_stays (h.journal ++ entry F h.journal kind lits ∷ []) mine_next)) of_ring_next;
     }
 
@@ -157,6 +180,7 @@ module _ (F G : List (List Literal)) (count : ℕ) (written : Option (List ℕ))
       line = AddLine lits;
       cut = grown.cut;
       accepted = line_accepted;
+      spelled = line_spelled;
       bytes = held_grown written new (text (lines F h.journal)) (take grown.cut (line_text (AddLine lits))) h.held grown.grown;
     }
 
@@ -193,20 +217,22 @@ module _ (F G : List (List Literal)) (count : ℕ) (written : Option (List ℕ))
         neither false true e f = absurd (true≢false f)
 
 -- a lemma was learned, and its line written
-pub ledger_learn : (F G : List (List Literal)) (count : ℕ) (old new : Option (List ℕ)) (lits : List Literal) → Ledger F G count old → rup G lits ≡ true → is_empty lits ≡ false → GrowsBy old new (line_text (AddLine lits))
+pub ledger_learn : (F G : List (List Literal)) (count : ℕ) (old new : Option (List ℕ)) (lits : List Literal) → Ledger F G count old → rup G lits ≡ true → All (IsOn (2 ^ 30)) lits → is_empty lits ≡ false → GrowsBy old new (line_text (AddLine lits))
     → Ledger F (G ++ clause_of lits ∷ []) (count + 1) new
-ledger_learn F G count old new lits h follows some grown = record {
+ledger_learn F G count old new lits h follows named some grown = record {
   journal = h.journal ++ entry F h.journal Learn lits ∷ [];
-  fits = fits_next F G count old h Learn lits follows;
-  accepted = accepted_next F G count old h Learn lits follows;
-  last = last_next F G count old h Learn lits follows;
-  going = going_next F G count old h Learn lits follows some;
-  mine = mine_next F G count old h Learn lits follows;
-  of_ring = of_ring_next F G count old h Learn lits follows;
-  counts = counts_next F G count old h Learn lits follows refl;
+  fits = fits_next F G count old h Learn lits follows named;
+  accepted = accepted_next F G count old h Learn lits follows named;
+  last = last_next F G count old h Learn lits follows named;
+  spelled = spelled_next F G count old h Learn lits follows named;
+  plain = plain_next F G count old h Learn lits follows named (sym (ap (λ (b : Bool). cond b Derive Learn) some));
+  going = going_next F G count old h Learn lits follows named some;
+  mine = mine_next F G count old h Learn lits follows named;
+  of_ring = of_ring_next F G count old h Learn lits follows named;
+  counts = counts_next F G count old h Learn lits follows named refl;
   spaced = each_last IsSpaced [] h.journal (entry F h.journal Learn lits) h.spaced tt;
-  covered = covered_next F G count old h Learn lits follows;
+  covered = covered_next F G count old h Learn lits follows named;
   among = λ c i. In_append_left G (clause_of lits ∷ []) c (h.among c i);
-  entailed = entailed_next F G count old h Learn lits follows;
-  held = held_next F G count old h Learn lits follows new grown;
+  entailed = entailed_next F G count old h Learn lits follows named;
+  held = held_next F G count old h Learn lits follows named new grown;
 }

@@ -45,7 +45,7 @@ unhurt (Some writer) h k = k h
 
 module _ (F : FormulaData) (J : List Entry) (tally : Tally) (call : Call) where
   satisfiable : (end : End) → CallOutcome end F J tally call → status_of end ≡ 10 → HasModel call (model_of end) tally
-  satisfiable (Satisfiable model) o e = record { values = model; reported = refl; answers = record { formula = F; journal = J; answered = o.outcome; files = o.files; input = subst IsStill o.from_input o.outcome.quiet.source } }
+  satisfiable (Satisfiable model) o e = record { values = model; reported = refl; answers = record { formula = F; journal = J; answered = o.outcome; files = o.files; input = subst IsStill o.from_input o.outcome.started.source } }
   satisfiable Unsatisfiable o e = absurd (omega arith)
   satisfiable Unknown o e = absurd (omega arith)
   satisfiable Usage o e = absurd (omega arith)
@@ -58,7 +58,7 @@ module _ (F : FormulaData) (J : List Entry) (tally : Tally) (call : Call) where
 
   unsatisfiable : (end : End) → CallOutcome end F J tally call → status_of end ≡ 20 → Answers call verdict.Unsatisfiable tally
   unsatisfiable (Satisfiable model) o e = absurd (omega arith)
-  unsatisfiable Unsatisfiable o e = record { formula = F; journal = J; answered = o.outcome; files = o.files; input = subst IsStill o.from_input o.outcome.quiet.source }
+  unsatisfiable Unsatisfiable o e = record { formula = F; journal = J; answered = o.outcome; files = o.files; input = subst IsStill o.from_input o.outcome.started.source }
   unsatisfiable Unknown o e = absurd (omega arith)
   unsatisfiable Usage o e = absurd (omega arith)
   unsatisfiable BadInput o e = absurd (omega arith)
@@ -71,7 +71,7 @@ module _ (F : FormulaData) (J : List Entry) (tally : Tally) (call : Call) where
   unknown : (end : End) → CallOutcome end F J tally call → status_of end ≡ 0 → Answers call verdict.Unknown tally
   unknown (Satisfiable model) o e = absurd (omega arith)
   unknown Unsatisfiable o e = absurd (omega arith)
-  unknown Unknown o e = record { formula = F; journal = J; answered = o.outcome; files = o.files; input = subst IsStill o.from_input o.outcome.quiet.source }
+  unknown Unknown o e = record { formula = F; journal = J; answered = o.outcome; files = o.files; input = subst IsStill o.from_input o.outcome.started.source }
   unknown Usage o e = absurd (omega arith)
   unknown BadInput o e = absurd (omega arith)
   unknown CannotCreate o e = absurd (omega arith)
@@ -104,12 +104,12 @@ module _ (F : FormulaData) (J : List Entry) (tally : Tally) (call : Call) where
   refused ProofFault o e = absurd (unlawful (command_of call.words) o.lawful e)
   refused Memory o e = inr refl
 
-  bad_input : (end : End) → CallOutcome end F J tally call → status_of end ≡ 2 → IsUnreadable call.run.text × LeftUnread call tally
+  bad_input : (end : End) → CallOutcome end F J tally call → status_of end ≡ 2 → IsUnreadable call.run.text × IsStill call.run.source × LeftUnread call tally
   bad_input (Satisfiable model) o e = absurd (omega arith)
   bad_input Unsatisfiable o e = absurd (omega arith)
   bad_input Unknown o e = absurd (omega arith)
   bad_input Usage o e = absurd (omega arith)
-  bad_input BadInput o e = (o.outcome.0, record { formula = F; journal = J; unread = o.outcome.1 })
+  bad_input BadInput o e = (o.outcome.0, o.outcome.1, record { formula = F; journal = J; unread = o.outcome.2 })
   bad_input CannotCreate o e = absurd (omega arith)
   bad_input ReadFault o e = absurd (omega arith)
   bad_input WriteFault o e = absurd (omega arith)
@@ -193,7 +193,7 @@ module _ (F : FormulaData) (J : List Entry) (tally : Tally) (call : Call) where
   proof_there Unsatisfiable o n m = there (HoldsLog F.clauses J) call.run.proof o.outcome.started.log
   proof_there Unknown o n m = there (HoldsLog F.clauses J) call.run.proof o.outcome.started.log
   proof_there Usage o n m = absurd (n refl)
-  proof_there BadInput o n m = there (HoldsLog F.clauses J) call.run.proof o.outcome.1.log
+  proof_there BadInput o n m = there (HoldsLog F.clauses J) call.run.proof o.outcome.2.log
   proof_there CannotCreate o n m = absurd (m refl)
   proof_there ReadFault o n m = there (HoldsLog F.clauses J) call.run.proof o.outcome.1.log
   proof_there WriteFault o n m = there (HoldsLog F.clauses J) call.run.proof o.outcome.started.log
@@ -214,7 +214,7 @@ module _ (F : FormulaData) (J : List Entry) (tally : Tally) (call : Call) where
   journaled Unsatisfiable o = started o.outcome.started
   journaled Unknown o = started o.outcome.started
   journaled Usage o = barren o.1
-  journaled BadInput o = unread o.outcome.1
+  journaled BadInput o = unread o.outcome.2
   journaled CannotCreate o = barren o.2
   journaled ReadFault o = unread o.outcome.1
   journaled WriteFault o = started o.outcome.started

@@ -1,5 +1,5 @@
 -- The steps of the plain search: a conflict under the decisions gives a lemma; an open variable is no decision yet.
-use Rattle.std.proofs.Common.{◌≡◌, ℕ, suc, ◌+◌, ◌*◌, ◌-◌, ◌<◌, ◌≤◌, Bool, true, false, List, [], ◌∷◌, ◌++◌, length, get_or, map, nat_eq, Some, None, Ok, refl, sym, ap, ◌∙◌, subst, inl, inr, arith, length-append, append-nil, suc-mul}
+use Rattle.std.proofs.Common.{◌^◌, ◌≡◌, ℕ, suc, ◌+◌, ◌*◌, ◌-◌, ◌<◌, ◌≤◌, Bool, true, false, List, [], ◌∷◌, ◌++◌, length, get_or, map, nat_eq, Some, None, Ok, refl, sym, ap, ◌∙◌, subst, inl, inr, arith, length-append, append-nil, suc-mul}
 use Rattle.std.proofs.Math.ListN.{get_or-append}
 use Rattle.std.specs.Option.{option_to_list}
 use Rattle.std.specs.Prelude.{All, Result}
@@ -76,6 +76,15 @@ lemma_in_range n ds decided = all_from_In (λ (k : Literal). k.var < n) (clause_
     let d = In_from_all (IsDecided n) ds t.0 decided t.1 in
     subst (λ (m : Literal). m.var < n) t.2 d.high)
 
+-- a proof may name them
+pub named_decisions : (vars : ℕ) (ds es : List ℕ) → es ≡ ds → vars < 2 ^ 28 → All (IsDecided (vars + 1)) ds → All (IsOn (2 ^ 30)) (map yes_literal es)
+named_decisions vars ds es same few decided = all_from_In (IsOn (2 ^ 30)) (map yes_literal es) (λ l i.
+    let t = map_In yes_literal es l i in
+    let d = In_from_all (IsDecided (vars + 1)) ds t.0 decided (subst (λ (xs : List ℕ). In t.0 xs) same t.1) in
+    let low = d.low in
+    let high = d.high in
+    subst (IsOn (2 ^ 30)) t.2 (record { low = omega arith; high = omega arith }))
+
 -- decisions differ
 
 rec_last : {X : Type 0} (P : X → Type 0) (xs : List X) (y : X) → AllByRecursion P xs → P y → AllByRecursion P (xs ++ y ∷ [])
@@ -141,14 +150,14 @@ one_lemma_less limit n m d e lt le =
     omega arith
 
 -- a lemma was written
-pub learned_step : (F G H : List (List Literal)) (count : ℕ) (old new : Option (List ℕ)) (before after : ℕ) (ds es : List ℕ) {T : Type 0} (done : Result T SearchStop) (u : T) → es ≡ ds → Ledger F G count old → rup G (map yes_literal ds) ≡ true → 0 < length ds
+pub learned_step : (F G H : List (List Literal)) (count : ℕ) (old new : Option (List ℕ)) (before after : ℕ) (ds es : List ℕ) {T : Type 0} (done : Result T SearchStop) (u : T) → es ≡ ds → Ledger F G count old → rup G (map yes_literal ds) ≡ true → All (IsOn (2 ^ 30)) (map yes_literal ds) → 0 < length ds
     → done ≡ Ok u → H ≡ G ++ clause_of (map yes_literal es) ∷ [] → WasPut (map yes_literal es) done old new before after
     → Ledger F H (count + 1) new × (after ≡ before)
-learned_step F G H count old new before after ds es done u same h follows some is added put =
+learned_step F G H count old new before after ds es done u same h follows named some is added put =
     let p : WasPut (map yes_literal es) (Ok u) old new before after = subst (λ (r : Result _ SearchStop). WasPut (map yes_literal es) r old new before after) is put in
     let grown : GrowsBy old new (line_text (AddLine (map yes_literal ds))) = subst (λ (xs : List ℕ). GrowsBy old new (line_text (AddLine (map yes_literal xs)))) same p.0 in
     let clauses : H ≡ G ++ clause_of (map yes_literal ds) ∷ [] = added ∙ ap (λ (xs : List ℕ). G ++ clause_of (map yes_literal xs) ∷ []) same in
-    (subst (λ (K : List (List Literal)). Ledger F K (count + 1) new) (sym clauses) (ledger_learn F G count old new (map yes_literal ds) h follows (some_literal ds some) grown), p.1)
+    (subst (λ (K : List (List Literal)). Ledger F K (count + 1) new) (sym clauses) (ledger_learn F G count old new (map yes_literal ds) h follows named (some_literal ds some) grown), p.1)
 
 -- the clauses at hand, once more in range
 pub clauses_in_range : (n : ℕ) (G H : List (List Literal)) (ds es : List ℕ) → es ≡ ds → H ≡ G ++ clause_of (map yes_literal es) ∷ [] → All (All (λ (k : Literal). k.var < n)) G → All (IsDecided n) ds → All (All (λ (k : Literal). k.var < n)) H

@@ -1,22 +1,38 @@
 -- The journal of a run, and what the writer of its proof holds.
-use Rattle.std.specs.Prelude.{◌≡◌, ◌<◌, ℕ, List, [], ◌∷◌, ◌++◌, take, All, ⊤, Some, None}
+use Rattle.std.specs.Prelude.{◌≡◌, ◌<◌, ◌^◌, ℕ, if◌then◌else◌, List, [], ◌∷◌, ◌++◌, take, All, ⊤, Some, None}
 use Rattle.std.specs.declared.option.Option.{Option}
 use Rattle.sat_words.specs.Literal.{Literal}
+use Rattle.sat_words.specs.Clause.{is_empty}
 use Rattle.sat_words.specs.declared.line.Line.{Line}
 use Rattle.rup_model.specs.declared.journal.Entry.{Entry}
-use Rattle.rup_model.specs.Log.{Accepted}
+use Rattle.rup_model.specs.declared.journal.Entry.TheVariants.{Add, Del, Reduce}
+use Rattle.rup_model.specs.declared.journal.Kind.TheVariants.{Learn, Derive}
+use Rattle.rup_model.specs.Log.{Accepted, lits_of}
 use Rattle.rup_model.specs.Journal.{lines, ring_of, Fits, EmptyLast}
 use Rattle.rup_model.specs.Spent.{rings_part}
 use Rattle.drat_text.specs.Text.{text, line_text}
+use Rattle.gimsatul.specs.Plain.{IsOn}
 use Rattle.gimsatul.specs.Run.{Writer}
 
+-- each variable of the lines is one that a proof may name: 1 to 2^30
+abbrev pub CanBeSpelled : List Line → Type 0
+CanBeSpelled L = All (λ x. All (IsOn (2 ^ 30)) (lits_of x)) L
+
+-- an entry of the one ring that searches: it learns clauses, derives the empty one, and deletes none
+abbrev pub IsPlainEntry : Entry → Type 0
+IsPlainEntry (Add x) = (x.ring ≡ 0) × (x.kind ≡ (if is_empty x.lits then Derive else Learn))
+IsPlainEntry (Del r n) = ⊥
+IsPlainEntry (Reduce r) = ⊥
+
 -- a journal of this many rings: its numbers fit, each line is valid where it stands, nothing follows the empty clause,
--- and what the ruler didn't write is of one of the rings
+-- its lines can be spelled, and what the ruler didn't write is of one of the rings; today one ring searches alone
 pub record IsJournal (rings : ℕ) (clauses : List (List Literal)) (journal : List Entry) : Type 0 where
   pub fits : Fits clauses journal
   pub accepted : Accepted clauses (lines clauses journal)
   pub last : EmptyLast journal
+  pub spelled : CanBeSpelled (lines clauses journal)
   pub of_rings : All (λ e. ring_of e < rings) (rings_part journal)
+  pub plain : All IsPlainEntry journal
 
 -- where bytes are told, they are this text
 abbrev pub HoldsText : Option (List ℕ) → List ℕ → Type 0
@@ -31,6 +47,7 @@ pub record IsCutShort (clauses : List (List Literal)) (journal : List Entry) (wr
   pub line : Line
   pub cut : ℕ
   pub accepted : Accepted clauses (front ++ line ∷ [])
+  pub spelled : CanBeSpelled (front ++ line ∷ [])
   pub bytes : HoldsText written (text front ++ take cut (line_text line))
 
 -- a writer holds the journal's lines, and has made sure of them; where a call of it failed, they may be cut short

@@ -12,3 +12,4 @@ pub mod Tallied
 pub mod Outcome
 pub mod Statuses
 pub mod Headline
+pub mod Stopped

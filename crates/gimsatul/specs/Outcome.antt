@@ -30,16 +30,16 @@ pub record IsUnread (formula : FormulaData) (journal : List Entry) (tally : Tall
   pub empty : IfSome run.proof (λ writer. IsEmptyWhereTold writer.written)
   pub counts : tally ≡ no_tally
 
--- the formula was read and the ring started; its journal stands, and counts the lemmas
+-- the formula was read without a fault and the ring started; its journal stands, and counts the lemmas
 pub record IsStarted (formula : FormulaData) (journal : List Entry) (tally : Tally) (run : Run) : Type 0 where
   pub read : WasRead run.text formula
+  pub source : IsStill run.source
   pub journal_stands : IsJournal 1 formula.clauses journal
   pub log : HasLog formula journal run
   pub counts : tally ≡ ring_tally (length (learned 0 journal))
 
--- no call of the source, the proof or the output failed
+-- no call of the proof or the output failed
 pub record IsQuiet (run : Run) : Type 0 where
-  pub source : IsStill run.source
   pub proof : IsSomeAnd run.proof (λ writer. writer.faults ≡ 0)
   pub out : IsStill run.out.faults
 
@@ -50,11 +50,12 @@ pub record IsAnswered (verdict : Verdict) (formula : FormulaData) (journal : Lis
   pub printed : Prints run.out (answer_text formula.vars verdict)
   pub quiet : IsQuiet run
 
--- the output failed in printing a verdict that holds
+-- the output failed in printing a verdict that holds; the proof didn't fail before
 pub record IsCutOff (formula : FormulaData) (journal : List Entry) (tally : Tally) (run : Run) : Type 0 where
   pub started : IsStarted formula journal tally run
   pub verdict : Verdict
   pub decided : Decides formula journal verdict
+  pub proof : IsSomeAnd run.proof (λ writer. writer.faults ≡ 0)
   pub printed : PrintsPart run.out (answer_text formula.vars verdict)
   pub rose : RoseIn run.out.faults
 
@@ -68,7 +69,7 @@ Outcome (end.Satisfiable model) F J tally run = IsAnswered (verdict.Satisfiable 
 Outcome end.Unsatisfiable F J tally run = IsAnswered verdict.Unsatisfiable F J tally run
 Outcome end.Unknown F J tally run = IsAnswered verdict.Unknown F J tally run
 Outcome end.Usage F J tally run = ⊥
-Outcome end.BadInput F J tally run = IsUnreadable run.text × IsUnread F J tally run
+Outcome end.BadInput F J tally run = IsUnreadable run.text × IsStill run.source × IsUnread F J tally run
 Outcome end.CannotCreate F J tally run = ⊥
 Outcome end.ReadFault F J tally run = RoseIn run.source × IsUnread F J tally run
 Outcome end.WriteFault F J tally run = IsCutOff F J tally run

@@ -75,7 +75,7 @@ pub record Statuses (call : Call) (status : ℕ) (model : Option (List Bool)) (t
   pub unknown : status ≡ 0 → Answers call Unknown tally
   pub usage : status ≡ 1 → command_of call.words ≡ None
   pub refused : command_of call.words ≡ None → (status ≡ 1) ⊎ (status ≡ 9)
-  pub bad_input : status ≡ 2 → IsUnreadable call.run.text × LeftUnread call tally
+  pub bad_input : status ≡ 2 → IsUnreadable call.run.text × IsStill call.run.source × LeftUnread call tally
   pub cannot_create : status ≡ 4 → RoseIn call.files × IsSome (proof_path (command_of call.words)) × (call.run.proof ≡ None)
   pub read_fault : status ≡ 5 → RoseIn call.run.source × LeftUnread call tally
   pub write_fault : status ≡ 6 → RoseIn call.run.out.faults × LeftUnprinted call tally

@@ -2,6 +2,10 @@
 //! proof to the path. `gimsatul` is the whole of it, over any files and streams; `main` gives it the real ones.
 #![tactic(auto)]
 
+ghost use Rattle.std.specs.Prelude.{◌≡◌, ◌↔◌};
+ghost use Rattle.std.specs.declared.io.ErrorKind.{ErrorKind};
+ghost use Rattle.gimsatul.specs.Stopped.{stop_status};
+
 mod answer;
 mod decide;
 mod plain;
@@ -18,7 +22,6 @@ pub use answer::answer_text_to;
 use io_edge::{StdFiles, StdSink, StdSource, write_all_of};
 pub use report::{End, Numbers, Report, Tally, Verdict};
 pub use search::LEMMA_LIMIT;
-use std::alloc::AllocFailed;
 use std::process::ExitCode;
 use std::{env, io};
 pub use top::gimsatul;
@@ -32,23 +35,20 @@ enum Stop {
     Memory,
 }
 
-impl<T: Drop> From<AllocFailed<T>> for Stop {
-    fn from(_: AllocFailed<T>) -> Self {
-        Stop::Memory
-    }
-}
-
-impl From<io::Error> for Stop {
-    fn from(error: io::Error) -> Self {
-        match error.kind() {
+impl Stop {
+    /// What a failed look at the arguments says.
+    fn from_kind(kind: io::ErrorKind) -> Stop
+        ensures { (result ≡ Stop.Memory) ↔ (kind ≡ ErrorKind.OutOfMemory) }
+    {
+        match kind {
             io::ErrorKind::OutOfMemory => Stop::Memory,
             _ => Stop::Words,
         }
     }
-}
 
-impl Stop {
-    fn status(&self) -> u8 {
+    fn status(&self) -> u8
+        ensures { result ≡ stop_status self.now }
+    {
         match self {
             Stop::Words => 1,
             Stop::Memory => 9,
@@ -65,9 +65,15 @@ impl Stop {
 
 /// The arguments without the program's name.
 fn words_of(rt: &HostRuntime) -> Result<Vec<String>, Stop> {
+    let args = match env::args(rt) {
+        Ok(args) => args,
+        Err(error) => return Err(Stop::from_kind(error.kind())),
+    };
     let mut words = Vec::new(rt.alloc());
-    for word in env::args(rt)?.skip(1) {
-        words.push(word)?;
+    for word in args.skip(1) {
+        if words.push(word).is_err() {
+            return Err(Stop::Memory);
+        }
     }
     Ok(words)
 }

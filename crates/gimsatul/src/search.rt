@@ -197,8 +197,12 @@ fn run<P: Sink>(
     ensures target { P.target proof.new ≡ P.target proof.old }
 {
     let vars = formula.vars();
-    let mut clauses = copy_of(alloc, formula.clauses())?;
-    let mut values = Assigned::new(alloc, vars)?;
+    let Ok(mut clauses) = copy_of(alloc, formula.clauses()) else {
+        return Err(SearchStop::Memory);
+    };
+    let Ok(mut values) = Assigned::new(alloc, vars) else {
+        return Err(SearchStop::Memory);
+    };
     let mut decisions = Vec::new(alloc);
     'search: loop {
         assume(&mut values, &decisions);

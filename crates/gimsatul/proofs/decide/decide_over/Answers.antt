@@ -9,7 +9,7 @@ returns-in-Err-clause-outcome g c =
     record {
       formula = no_formula;
       journal = [];
-      outcome = unread_end c.in-Err.stop c.read_end.result _ _ _ _ _ c.read_end.ensures (λ e. c.in-Err.ensures.not_plain (cc e)) (λ e. c.in-Err.ensures.fault (cc e)) none;
+      outcome = unread_end c.in-Err.stop c.read_end.result _ _ _ _ _ c.read_end.ensures (λ e. c.in-Err.ensures.not_plain (cc e)) (λ e. c.in-Err.ensures.quiet (cc e)) (λ e. c.in-Err.ensures.fault (cc e)) none;
     }
 
 pub returns-in-Err-with_ring-clause-outcome : goal.returns-in-Err-with_ring-clause-outcome

@@ -1,10 +1,10 @@
-use Rattle.std.proofs.Common.{◌≡◌, List, [], ◌∷◌, length, map, refl, sym, ap, ◌∙◌, subst, arith, rules, ℕ, ◌+◌, ◌<◌, true, length-append}
+use Rattle.std.proofs.Common.{◌^◌, ◌≡◌, List, [], ◌∷◌, length, map, refl, sym, ap, ◌∙◌, subst, arith, rules, ℕ, ◌+◌, ◌<◌, true, length-append}
 use Rattle.std.proofs.lemmas.List.{length-replicate}
 use Rattle.std.proofs.lemmas.List.Elements.{All-append}
 use Rattle.gimsatul.specs.Decisions.{yes_literal, IsDecided}
 use Rattle.gimsatul.proofs.Ledgers.{ledger_start, one_of_all}
 use Rattle.gimsatul.proofs.Conclusions.{ends_in_model, ends_spent, refute_end, learn_end}
-use Rattle.gimsatul.proofs.Steps.{lent_conflict, nothing_decided, learned_step, taken_back, clauses_in_range, formula_in_range, distinct_none, new_decision, few_decisions, one_decision_more}
+use Rattle.gimsatul.proofs.Steps.{lent_conflict, nothing_decided, learned_step, taken_back, named_decisions, clauses_in_range, formula_in_range, distinct_none, new_decision, few_decisions, one_decision_more}
 use Rattle.gimsatul.proofs.Models.{is_model}
 use Rattle.rup_model.specs.Rup.{rup}
 use Rattle.rup_model.specs.Assigned.{literals_of}
@@ -12,12 +12,12 @@ use Rattle.gimsatul.proofs.search.run.Goals as goal
 
 pub search-init : goal.search-init
 search-init g c =
-    let same = c.in_ok-clauses.ensures ∙ c.clauses.ensures in
+    let same = c.in-Ok.ensures ∙ c.clauses.ensures in
     record {
       ledger = rw (same, c.requires.uncounted) (ledger_start _ _ c.requires.empty);
       quiet = c.requires.quiet;
       target = refl;
-      range = ap length c.in_ok-values.ensures ∙ length-replicate _ _;
+      range = ap length c.in-Ok-new.ensures ∙ length-replicate _ _;
       decided = rw c.new-decisions.ensures.items (λ k d lt. absurd (omega arith));
       distinct = rw c.new-decisions.ensures.items distinct_none;
       in_range = rw (same, c.vars-vars.ensures) (formula_in_range _ _ c.requires.on_variables);
@@ -33,21 +33,24 @@ returns-then-is_empty-clause-searched g c =
 pub returns-in-Err-clause-searched : goal.returns-in-Err-clause-searched
 returns-in-Err-clause-searched g c =
     let follows = lent_conflict c.search.clauses.items c.deref-in-search.result.now c.assume.new.values c.search.decisions.items c.deref.result.now c.deref-in-search.ensures.value c.deref.ensures.value c.assume.ensures.exact c.in-Conflict.ensures.outcome in
+    let few : c.vars-vars.result < 2 ^ 28 = rw c.vars-vars.ensures c.requires.few in
     let lent = subst (λ (ds : List ℕ). rup c.search.clauses.items (map yes_literal ds) ≡ true) (sym c.deref-in-Conflict.ensures.value) follows in
-    learn_end c.args.formula.now c.search.clauses.items c.search.learned _ c.search.invariant.ledger c.in-Err.stop (map yes_literal c.deref-in-Conflict.result.now) _ _ _ lent c.search.invariant.quiet c.in-Err.ensures.put
+    learn_end c.args.formula.now c.search.clauses.items c.search.learned _ c.search.invariant.ledger c.in-Err.stop (map yes_literal c.deref-in-Conflict.result.now) _ _ _ lent (named_decisions c.vars-vars.result c.search.decisions.items c.deref-in-Conflict.result.now c.deref-in-Conflict.ensures.value few c.search.invariant.decided) c.search.invariant.quiet c.in-Err.ensures.put
 
 pub returns-then-learned-eq-LEMMA_LIMIT-clause-searched : goal.returns-then-learned-eq-LEMMA_LIMIT-clause-searched
 returns-then-learned-eq-LEMMA_LIMIT-clause-searched g c =
     let follows = lent_conflict c.search.clauses.items c.deref-in-search.result.now c.assume.new.values c.search.decisions.items c.deref.result.now c.deref-in-search.ensures.value c.deref.ensures.value c.assume.ensures.exact c.in-Conflict.ensures.outcome in
+    let few : c.vars-vars.result < 2 ^ 28 = rw c.vars-vars.ensures c.requires.few in
     let some : 0 < length c.search.decisions.items = search rules in
-    let more = learned_step c.args.formula.now.clauses c.search.clauses.items c.learn.new.clauses.items c.search.learned _ _ _ _ c.search.decisions.items c.deref-in-Conflict.result.now c.learn.result tt c.deref-in-Conflict.ensures.value c.search.invariant.ledger follows some c.in_default.is c.in_default.ensures.added c.learn.ensures.put in
+    let more = learned_step c.args.formula.now.clauses c.search.clauses.items c.learn.new.clauses.items c.search.learned _ _ _ _ c.search.decisions.items c.deref-in-Conflict.result.now c.learn.result tt c.deref-in-Conflict.ensures.value c.search.invariant.ledger follows (named_decisions c.vars-vars.result c.search.decisions.items c.search.decisions.items refl few c.search.invariant.decided) some c.in_default-learn.is c.in_default-learn.ensures.added c.learn.ensures.put in
     ends_spent c.args.formula.now c.learn.new.clauses.items (c.search.learned + 1) _ more.0 _ (more.1 ∙ c.search.invariant.quiet) c.if-learned-eq-LEMMA_LIMIT.true
 
 pub search-preserved-else-learned-eq-LEMMA_LIMIT : goal.search-preserved-else-learned-eq-LEMMA_LIMIT
 search-preserved-else-learned-eq-LEMMA_LIMIT g c =
     let follows = lent_conflict c.search.clauses.items c.deref-in-search.result.now c.assume.new.values c.search.decisions.items c.deref.result.now c.deref-in-search.ensures.value c.deref.ensures.value c.assume.ensures.exact c.in-Conflict.ensures.outcome in
+    let few : c.vars-vars.result < 2 ^ 28 = rw c.vars-vars.ensures c.requires.few in
     let some : 0 < length c.search.decisions.items = search rules in
-    let more = learned_step c.args.formula.now.clauses c.search.clauses.items c.learn.new.clauses.items c.search.learned _ _ _ _ c.search.decisions.items c.deref-in-Conflict.result.now c.learn.result tt c.deref-in-Conflict.ensures.value c.search.invariant.ledger follows some c.in_default.is c.in_default.ensures.added c.learn.ensures.put in
+    let more = learned_step c.args.formula.now.clauses c.search.clauses.items c.learn.new.clauses.items c.search.learned _ _ _ _ c.search.decisions.items c.deref-in-Conflict.result.now c.learn.result tt c.deref-in-Conflict.ensures.value c.search.invariant.ledger follows (named_decisions c.vars-vars.result c.search.decisions.items c.search.decisions.items refl few c.search.invariant.decided) some c.in_default-learn.is c.in_default-learn.ensures.added c.learn.ensures.put in
     let fewer = taken_back (c.vars-vars.result + 1) c.search.decisions.items c.pop.new.self.items c.pop.result c.pop.ensures.items c.search.invariant.decided c.search.invariant.distinct in
     record {
       ledger = more.0;
@@ -56,7 +59,7 @@ search-preserved-else-learned-eq-LEMMA_LIMIT g c =
       range = c.propagate.ensures.range ∙ c.assume.ensures.range ∙ c.search.invariant.range;
       decided = fewer.0;
       distinct = fewer.1;
-      in_range = clauses_in_range (c.vars-vars.result + 1) c.search.clauses.items c.learn.new.clauses.items c.search.decisions.items c.deref-in-Conflict.result.now c.deref-in-Conflict.ensures.value c.in_default.ensures.added c.search.invariant.in_range c.search.invariant.decided;
+      in_range = clauses_in_range (c.vars-vars.result + 1) c.search.clauses.items c.learn.new.clauses.items c.search.decisions.items c.deref-in-Conflict.result.now c.deref-in-Conflict.ensures.value c.in_default-learn.ensures.added c.search.invariant.in_range c.search.invariant.decided;
       below_limit = omega (arith, c.search.invariant.below_limit, c.if-learned-eq-LEMMA_LIMIT.false);
     }
 

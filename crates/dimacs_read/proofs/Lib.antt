@@ -1,0 +1,9 @@
+mod Rows
+mod OneOutcome
+mod Saturation
+mod OnVariables
+mod Numbers
+mod Steps
+mod Undecided
+mod Late
+mod Taken

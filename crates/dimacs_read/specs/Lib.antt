@@ -1,0 +1,9 @@
+pub mod Grammar
+pub mod Input
+pub mod Answer
+pub mod Codes
+pub mod Bytes
+pub mod Header
+pub mod Body
+pub mod State
+pub mod Reader

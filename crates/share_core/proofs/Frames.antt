@@ -1,0 +1,166 @@
+-- What an event leaves sound where it does not touch it.
+use Rattle.std.proofs.Common.{◌≡◌, ◌≢◌, ◌⊎◌, ℕ, ◌+◌, ◌<◌, ◌≤◌, Bool, true, List, [], ◌∷◌, ◌++◌, length, map, All, Option, Some, None, refl, sym, ap, ◌∙◌, subst, inr, ⊎_elim, arith, append_assoc, length-append}
+use mathlib.Core.Path.{Path}
+use Rattle.sat_words.specs.Literal.{Literal}
+use Rattle.sat_words.specs.Clause.{has, same_set}
+use Rattle.rup_model.specs.declared.journal.Entry.{Entry}
+use Rattle.rup_model.specs.Basics.{put, one_if}
+use Rattle.rup_model.specs.Rup.{rup}
+use Rattle.rup_model.specs.Log.{alive}
+use Rattle.rup_model.specs.Journal.{ring_of, Book, book_after, book, lines, LogSound, is_ring, IsFresh, IsSpaced}
+use Rattle.rup_model.specs.Opening.{IsLong}
+use Rattle.rup_model.proofs.Lists.{In, In_has, In_append, In_append_left, map_In}
+use Rattle.rup_model.proofs.Sums.{at_put, put_here, put_else}
+use Rattle.rup_model.proofs.Sequences.{each_last}
+use Rattle.rup_model.proofs.Covers.{same_self}
+use Rattle.rup_model.proofs.Numbers.{clause_below, journal_matches, book_last, rup_alive_sets}
+use Rattle.rup_model.proofs.Additions.{ended_more, told_more}
+use Rattle.rup_model.proofs.Told.{told_alive}
+use Rattle.share_core.specs.declared.event.TheConstants.{MAX_ENTRIES, MAX_SHARES}
+use Rattle.share_core.specs.declared.event.Stop.{Stop}
+use Rattle.share_core.specs.declared.stored.ClauseAt.{ClauseAt}
+use Rattle.share_core.specs.declared.stored.Cell.{Cell}
+use Rattle.share_core.specs.State.{times_at, CoreOpening, Part, State, count_at, number_at, lits_at, maker_at, clause_at}
+use Rattle.share_core.specs.Enabled.{known, follows}
+use Rattle.share_core.specs.Events.{noted}
+use Rattle.share_core.specs.Sound.{idle_at, Counts, IsCopy, CopiesSound, CellsSound, SlotsSound, JournalSound, FreshSound, UnitsSound, StopSound, Sound}
+use Rattle.share_core.proofs.ClauseLists.{all_in, all_last}
+use Rattle.share_core.proofs.Counting.{counts_moved, slots_some}
+use Rattle.share_core.proofs.Copies.{Keeps, keeps_same, copies_all}
+use Rattle.share_core.proofs.Slots.{puts_same, slots_kept}
+
+-- What a ring knows is alive
+
+known_alive : (c : State) (r : ℕ) → Sound c → r < c.opening.rings → (d : List Literal) → In d (known (c.part r))
+    → (n : ℕ) × (e : List Literal) × ((book c.opening.formula c.journal).clause n ≡ Some e) × (same_set d e ≡ true)
+known_alive c r s lt d i = ⊎_elim
+    (λ (h : In d (map (λ (q : ClauseAt). q.lits) (c.part r).held)). (let t = map_In (λ (q : ClauseAt). q.lits) (c.part r).held d h in
+    let x = all_in (IsCopy c.cell) (c.part r).held t.0 t.1 (s.copies.held r lt) in
+    (x.0.number, d, s.cells.alive t.0.address x.0 x.1 ∙ ap (λ (q : List Literal). Some q) (x.3 ∙ t.2), same_self d)))
+    (λ (h : In d (map (λ (l : Literal). l ∷ []) (c.part r).seen)). (let t = map_In (λ (l : Literal). l ∷ []) (c.part r).seen d h in
+    let rest = s.units.seen r in
+    let listed = s.units.told t.0 (ap (λ (q : List Literal). has q t.0) rest.1 ∙ In_has ((c.part r).seen ++ rest.0) t.0 (In_append_left (c.part r).seen rest.0 t.0 t.1)) in
+    subst (λ (q : List Literal). (n : ℕ) × (e : List Literal) × ((book c.opening.formula c.journal).clause n ≡ Some e) × (same_set q e ≡ true)) t.2 (told_alive c.opening.formula c.journal t.0 s.log.log.fits listed)))
+    (In_append (map (λ (q : ClauseAt). q.lits) (c.part r).held) (map (λ (l : Literal). l ∷ []) (c.part r).seen) d i)
+
+pub follows_alive : (c : State) (r : ℕ) (lits : List Literal) → Sound c → r < c.opening.rings → follows (c.part r) lits ≡ true → rup (alive c.opening.formula (lines c.opening.formula c.journal)) lits ≡ true
+follows_alive c r lits s lt f = rup_alive_sets (book c.opening.formula c.journal) (alive c.opening.formula (lines c.opening.formula c.journal)) (known (c.part r)) lits (journal_matches c.opening.formula c.journal s.log.log.fits) (known_alive c r s lt) f
+
+-- One more entry
+
+pub journal_more : (o : CoreOpening) (J : List Entry) (e : Entry) → JournalSound o J → LogSound o.formula (J ++ e ∷ []) → length J < MAX_ENTRIES → ring_of e < o.rings → JournalSound o (J ++ e ∷ [])
+journal_more o J e h log room lt = record {
+  log = log;
+  room = let q = length-append J (e ∷ []) in omega arith;
+  begins = let b = h.begins in (b.0 ++ e ∷ [], ap (λ (K : List Entry). K ++ e ∷ []) b.1 ∙ append_assoc o.journal b.0 (e ∷ []), all_last (λ (x : Entry). ring_of x < o.rings) b.0 e b.2 lt);
+}
+
+pub fresh_more : (starts : List (List Literal)) (J : List Entry) (e : Entry) → FreshSound starts J → IsFresh starts J e → IsSpaced J e → FreshSound starts (J ++ e ∷ [])
+fresh_more starts J e h f s = record {
+  fresh = each_last (IsFresh starts) [] J e h.fresh f;
+  spaced = each_last IsSpaced [] J e h.spaced s;
+}
+
+units_more : (F : List (List Literal)) (J : List Entry) (units : List Literal) (part : ℕ → Part) (e : Entry) → UnitsSound F J units part → UnitsSound F (J ++ e ∷ []) units part
+units_more F J units part e h = record { told = λ l i. told_more F J (e ∷ []) l (h.told l i); distinct = h.distinct; seen = h.seen }
+
+pub stop_more : (F : List (List Literal)) (J : List Entry) (n : ℕ) (stop : Option Stop) (e : Entry) → StopSound F J n stop → StopSound F (J ++ e ∷ []) n stop
+stop_more F J n stop e h = record { refuted = λ s is k. ended_more F J (e ∷ []) (h.refuted s is k); kinds = h.kinds }
+
+-- Cells
+
+-- each new cell is an old one with another count, and its clause is alive as before
+pub cells_kept : (b b' : Book) (f f' : ℕ → Option Cell) → CellsSound b f
+    → ((i : ℕ) (x : Cell) → f' i ≡ Some x → (y : Cell) × (f i ≡ Some y) × (y.number ≡ x.number) × (y.lits ≡ x.lits) × (b'.clause x.number ≡ b.clause x.number))
+    → CellsSound b' f'
+cells_kept b b' f f' h old = record {
+  alive = λ a x is. let t = old a x is in t.4 ∙ ap b.clause (sym t.2) ∙ h.alive a t.0 t.1 ∙ ap (λ (q : List Literal). Some q) t.3;
+  shape = λ a x is. let t = old a x is in subst IsLong t.3 (h.shape a t.0 t.1);
+  own = λ i j x y isx isy e. let s = old i x isx in let t = old j y isy in h.own i j s.0 t.0 s.1 t.1 (s.2 ∙ e ∙ sym t.2);
+}
+
+-- a journal entry that touches no cell
+pub cells_same : (c : State) (e : Entry) → Sound c → ((n : ℕ) → n < (book c.opening.formula c.journal).next → (book_after (book c.opening.formula c.journal) e).clause n ≡ (book c.opening.formula c.journal).clause n)
+    → CellsSound (book c.opening.formula (noted c e)) c.cell
+cells_same c e s same_low =
+    let b : Book = book c.opening.formula c.journal in
+    subst (λ (q : Book). CellsSound q c.cell) (sym (book_last c.opening.formula c.journal e))
+    (cells_kept b (book_after b e) c.cell c.cell s.cells
+    (λ i x is. (x, is, refl, refl, same_low x.number (clause_below b (alive c.opening.formula (lines c.opening.formula c.journal)) x.number x.lits (journal_matches c.opening.formula c.journal s.log.log.fits) (s.cells.alive i x is)))))
+
+-- Counts
+
+-- nothing that is counted changes
+pub counts_same : (o : CoreOpening) (c d : State) → Counts o c → Path (ℕ → Option Cell) d.cell c.cell → Path (ℕ → Bool) d.granted c.granted → Path (ℕ → Part) d.part c.part → Path (ℕ → ℕ) d.slot c.slot → Counts o d
+counts_same o c d s dc dg dp ds = subst (λ (q : State). Counts o q)
+    (λ j. record { opening = d.opening; journal = d.journal; cell = sym dc j; granted = sym dg j; part = sym dp j; slot = sym ds j; units = d.units; turn = d.turn; stop = d.stop })
+    (record { counts = s.counts; waits = s.waits; making = s.making; makes = s.makes; nowhere = s.nowhere; addresses = s.addresses; few = s.few; bounded = s.bounded; named = s.named })
+
+-- one part and cells change
+pub part_moves : (c d : State) (r : ℕ) (p : Part) → Sound c → r < c.opening.rings → Path (ℕ → Part) d.part (put c.part r p) → Path (ℕ → Bool) d.granted c.granted → Path (ℕ → ℕ) d.slot c.slot
+    → ((b : ℕ) → b ≢ 0 → count_at (d.cell b) + times_at b (c.part r).held ≡ count_at (c.cell b) + times_at b p.held)
+    → ((b : ℕ) → idle_at (d.cell b) + times_at b (c.part r).waiting ≡ idle_at (c.cell b) + times_at b p.waiting)
+    → ((a : ℕ) (x : Cell) (i : ℕ) → d.cell a ≡ Some x → x.maker ≡ Some i → (x.count ≡ 0) × (i < c.opening.rings))
+    → ((b : ℕ) → times_at b p.making ≡ one_if (is_ring r (maker_at (d.cell b)))) → ((i b : ℕ) → i ≢ r → one_if (is_ring i (maker_at (d.cell b))) ≡ one_if (is_ring i (maker_at (c.cell b))))
+    → d.cell 0 ≡ None → times_at 0 p.held ≡ 0 → p.shared ≤ MAX_SHARES
+    → ((b : ℕ) → (count_at (d.cell b) ≤ c.opening.rings) ⊎ (count_at (d.cell b) + (c.part r).shared ≤ count_at (c.cell b) + p.shared))
+    → p.ring ≡ r
+    → Counts c.opening d
+part_moves c d r p s lt dp dg ds balance waits making makes_here makes_else nowhere address few bounded named = counts_moved c.opening c d r 0 (c.slot 0) (c.granted r) p s.counts (record {
+  ring = lt;
+  place = slots_some c.opening s.opens.some_ring;
+  part_here = (λ j. dp j r) ∙ put_here c.part r p;
+  part_else = λ i n. (λ j. dp j i) ∙ put_else c.part r p i n;
+  granted_here = λ j. dg j r;
+  granted_else = λ i n j. dg j i;
+  slot_here = λ j. ds j 0;
+  slot_else = λ i n j. ds j i;
+  balance = λ b nz. let e = balance b nz in omega arith;
+  waits = waits;
+  making = making;
+  makes_here = makes_here;
+  makes_else = makes_else;
+  nowhere = nowhere;
+  address = address;
+  few = few;
+  bounded = bounded;
+  named = named;
+})
+
+pub same_here : (c d : State) (r : ℕ) → Sound c → r < c.opening.rings → ((b : ℕ) → maker_at (d.cell b) ≡ maker_at (c.cell b)) → (b : ℕ) → times_at b (c.part r).making ≡ one_if (is_ring r (maker_at (d.cell b)))
+same_here c d r s lt same b = let e = same b in s.counts.makes r b lt ∙ (λ j. one_if (is_ring r (sym e j)))
+
+pub same_else : (c d : State) (r : ℕ) → ((b : ℕ) → maker_at (d.cell b) ≡ maker_at (c.cell b)) → (i b : ℕ) → i ≢ r → one_if (is_ring i (maker_at (d.cell b))) ≡ one_if (is_ring i (maker_at (c.cell b)))
+same_else c d r same i b n = let e = same b in (λ j. one_if (is_ring i (e j)))
+
+-- only a part changes, and not what is counted in it
+pub part_only : (c d : State) (r : ℕ) (p : Part) → Sound c → r < c.opening.rings → Path (ℕ → Option Cell) d.cell c.cell → Path (ℕ → Part) d.part (put c.part r p) → Path (ℕ → Bool) d.granted c.granted → Path (ℕ → ℕ) d.slot c.slot
+    → Path (List ClauseAt) p.held (c.part r).held → Path (List ClauseAt) p.making (c.part r).making → Path (List ClauseAt) p.waiting (c.part r).waiting → p.shared ≡ (c.part r).shared → p.ring ≡ r → Counts c.opening d
+part_only c d r p s lt dc dp dg ds held making waiting shared ring = part_moves c d r p s lt dp dg ds
+    (λ b nz. let n : count_at (d.cell b) ≡ count_at (c.cell b) = (λ j. count_at (dc j b)) in let h : times_at b p.held ≡ times_at b (c.part r).held = (λ j. times_at b (held j)) in omega arith)
+    (λ b. let n : idle_at (d.cell b) ≡ idle_at (c.cell b) = (λ j. idle_at (dc j b)) in let h : times_at b p.waiting ≡ times_at b (c.part r).waiting = (λ j. times_at b (waiting j)) in omega arith)
+    (λ a x i is. s.counts.making a x i ((λ j. sym dc j a) ∙ is))
+    (λ b. (λ j. times_at b (making j)) ∙ same_here c d r s lt (λ k j. maker_at (dc j k)) b) (same_else c d r (λ k j. maker_at (dc j k)))
+    ((λ j. dc j 0) ∙ s.counts.nowhere)
+    ((λ j. times_at 0 (held j)) ∙ s.counts.addresses r)
+    (let q = s.counts.few r in omega arith)
+    (λ b. let n : count_at (d.cell b) ≡ count_at (c.cell b) = (λ j. count_at (dc j b)) in inr (omega arith))
+    ring
+
+-- One part
+
+pub part_slots : (c d : State) (r : ℕ) (p : Part) → Sound c → Path (ℕ → ℕ) d.slot c.slot → Path (ℕ → Part) d.part (put c.part r p) → p.puts ≡ (c.part r).puts → SlotsSound c.opening d
+part_slots c d r p s ds dp same = slots_kept c.opening c d s.slots ds (λ i. (λ j. (dp j i).puts) ∙ puts_same c r p same i)
+
+pub copies_put : (c : State) (r : ℕ) (p : Part) → Sound c → All (IsCopy c.cell) p.held → All (IsCopy c.cell) p.making → All (IsCopy c.cell) p.waiting → CopiesSound c.opening.rings c.cell (put c.part r p)
+copies_put c r p s held making waiting = copies_all c.opening.rings c.cell c.cell c.part r p s.copies (keeps_same c.cell) held making waiting
+
+pub units_part : (c : State) (r : ℕ) (p : Part) → Sound c → (rest : List Literal) × (c.units ≡ p.seen ++ rest) → UnitsSound c.opening.formula c.journal c.units (put c.part r p)
+units_part c r p s h = record { told = s.units.told; distinct = s.units.distinct; seen = λ i. at_put c.part r p (λ (q : Part). (rest : List Literal) × (c.units ≡ q.seen ++ rest)) i (λ _. h) (λ _. s.units.seen i) }
+
+pub units_written : (c : State) (r : ℕ) (p : Part) (e : Entry) → Sound c → (rest : List Literal) × (c.units ≡ p.seen ++ rest) → UnitsSound c.opening.formula (noted c e) c.units (put c.part r p)
+units_written c r p e s h = units_more c.opening.formula c.journal c.units (put c.part r p) e (units_part c r p s h)
+
+-- a known cell is as the rings have it
+pub clause_is : (c : State) (a : ℕ) (x : Cell) (f' : ℕ → Option Cell) → c.cell a ≡ Some x → ((b : ℕ) → Keeps c.cell f' b) → IsCopy f' (clause_at c a)
+clause_is c a x f' is keep = let t = keep a x is in (t.0, t.1, t.2 ∙ sym (ap number_at is), t.3 ∙ sym (ap lits_at is))

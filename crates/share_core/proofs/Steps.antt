@@ -1,0 +1,73 @@
+-- Every event keeps the state sound.
+use Rattle.std.proofs.Common.{◌≡◌, List, [], ◌++◌, Some, None, refl, sym, append-nil}
+use Rattle.rup_model.specs.declared.journal.Entry.{Entry}
+use Rattle.share_core.specs.declared.event.Event.{Event}
+use Rattle.share_core.specs.declared.event.Event.TheVariants.{Grant, TakeTurn, GiveTurn, AddClause, AddUnit, AddEmpty, Reduce, OpenCell, Read, Share, DropCount, Bury, Put, Get, Publish, See, Stop}
+use Rattle.share_core.specs.State.{State}
+use Rattle.share_core.specs.Enabled.{IsEnabled}
+use Rattle.share_core.specs.Events.{after}
+use Rattle.share_core.specs.Sound.{Sound}
+use Rattle.share_core.proofs.Writing.{adds_clause, adds_unit, adds_empty, reduces}
+use Rattle.share_core.proofs.Burying.{buries}
+use Rattle.share_core.proofs.Recounting.{opens_cell, shares, drops}
+use Rattle.share_core.proofs.Exchanging.{grants, puts, gets}
+use Rattle.share_core.proofs.Listing.{publishes, sees, stops, turns}
+
+pub event_sound : (c : State) (e : Event) → Sound c → IsEnabled c e → Sound (after c e)
+event_sound c (Grant r) s e = grants c r s e
+event_sound c (TakeTurn r) s e = turns c (Some r) s
+event_sound c (GiveTurn r) s e = turns c None s
+event_sound c (AddClause r kind lits a) s e = adds_clause c r kind lits a s e
+event_sound c (AddUnit r kind l) s e = adds_unit c r kind l s e
+event_sound c (AddEmpty r) s e = adds_empty c r s e
+event_sound c (Reduce r) s e = reduces c r s e
+event_sound c (OpenCell r a) s e = opens_cell c r a s e
+event_sound c (Read r a) s e = s
+event_sound c (Share r a) s e = shares c r a s e
+event_sound c (DropCount r a) s e = drops c r a s e
+event_sound c (Bury r a) s e = buries c r a s e
+event_sound c (Put r to k a) s e = puts c r to k a s e
+event_sound c (Get r from k) s e = gets c r from k s e
+event_sound c (Publish r l) s e = publishes c r l s e
+event_sound c (See r) s e = sees c r s e
+event_sound c (Stop r kind) s e = stops c r kind s e
+
+-- the journal only grows
+pub event_grows : (c : State) (e : Event) → (K : List Entry) × ((after c e).journal ≡ c.journal ++ K)
+event_grows c (Grant r) = ([], sym (append-nil c.journal))
+event_grows c (TakeTurn r) = ([], sym (append-nil c.journal))
+event_grows c (GiveTurn r) = ([], sym (append-nil c.journal))
+event_grows c (AddClause r kind lits a) = (_, refl)
+event_grows c (AddUnit r kind l) = (_, refl)
+event_grows c (AddEmpty r) = (_, refl)
+event_grows c (Reduce r) = (_, refl)
+event_grows c (OpenCell r a) = ([], sym (append-nil c.journal))
+event_grows c (Read r a) = ([], sym (append-nil c.journal))
+event_grows c (Share r a) = ([], sym (append-nil c.journal))
+event_grows c (DropCount r a) = ([], sym (append-nil c.journal))
+event_grows c (Bury r a) = (_, refl)
+event_grows c (Put r to k a) = ([], sym (append-nil c.journal))
+event_grows c (Get r from k) = ([], sym (append-nil c.journal))
+event_grows c (Publish r l) = ([], sym (append-nil c.journal))
+event_grows c (See r) = ([], sym (append-nil c.journal))
+event_grows c (Stop r kind) = ([], sym (append-nil c.journal))
+
+-- what the core was opened with stays
+pub event_opening : (c : State) (e : Event) → (after c e).opening ≡ c.opening
+event_opening c (Grant r) = refl
+event_opening c (TakeTurn r) = refl
+event_opening c (GiveTurn r) = refl
+event_opening c (AddClause r kind lits a) = refl
+event_opening c (AddUnit r kind l) = refl
+event_opening c (AddEmpty r) = refl
+event_opening c (Reduce r) = refl
+event_opening c (OpenCell r a) = refl
+event_opening c (Read r a) = refl
+event_opening c (Share r a) = refl
+event_opening c (DropCount r a) = refl
+event_opening c (Bury r a) = refl
+event_opening c (Put r to k a) = refl
+event_opening c (Get r from k) = refl
+event_opening c (Publish r l) = refl
+event_opening c (See r) = refl
+event_opening c (Stop r kind) = refl

@@ -1,0 +1,13 @@
+use Rattle.std.proofs.Common.{◌≡◌, ◌∙◌, ◌∷◌, Bool, [], IfOk, sym, subst}
+use Rattle.share_core.specs.State.{State}
+use Rattle.share_core.specs.Enabled.{follows}
+use Rattle.share_core.specs.Guards.{writes, may_tell}
+use Rattle.share_core.specs.Machine.{data_of, state_of}
+use Rattle.share_core.proofs.Tests.{two_more}
+use Rattle.share_core.proofs.progress.Progress.may_add_unit.Goals as goal
+
+pub returns : goal.returns
+returns c =
+    let d : State = state_of (data_of c.args.origin.now c.args.self.now) in
+    subst (λ (b : Bool). IfOk c.follows.result (λ yes. yes ≡ b))
+    (two_more (writes d c.args.ring) (may_tell d c.args.ring c.args.kind (c.args.lit ∷ [])) (follows (d.part c.args.ring) (c.args.lit ∷ [])) (sym c.may_tell.ensures ∙ c.if-not-may_tell.false)) (c.follows.ensures c.args.origin.now)

@@ -1,0 +1,104 @@
+-- When an event is enabled.
+use Rattle.std.specs.Prelude.{◌≡◌, ◌≢◌, ℕ, ◌<◌, ◌≤◌, Bool, true, false, ⊤, List, [], ◌∷◌, ◌++◌, map, length, fold, Some, None}
+use Rattle.std.specs.List.{list_any}
+use Rattle.sat_words.specs.Literal.{Literal}
+use Rattle.sat_words.specs.Clause.{has, includes}
+use Rattle.rup_model.specs.declared.journal.TheConstants.{LEARNED_PER_REDUCTION}
+use Rattle.rup_model.specs.declared.journal.Kind.{Kind}
+use Rattle.rup_model.specs.declared.journal.Kind.TheVariants.{Ruler, Learn, Derive, UnitLine}
+use Rattle.rup_model.specs.declared.journal.Entry.{Entry}
+use Rattle.rup_model.specs.Basics.{EachAfter}
+use Rattle.rup_model.specs.Rup.{rup}
+use Rattle.rup_model.specs.Journal.{ended, is_told, recent, fresh}
+use Rattle.rup_model.specs.Opening.{start_clauses, IsLong}
+use Rattle.share_core.specs.declared.event.TheConstants.{MAX_ENTRIES, MAX_SHARES}
+use Rattle.share_core.specs.declared.event.Event.{Event}
+use Rattle.share_core.specs.declared.event.Event.TheVariants.{Grant, TakeTurn, GiveTurn, AddClause, AddUnit, AddEmpty, Reduce, OpenCell, Read, Share, DropCount, Bury, Put, Get, Publish, See, Stop}
+use Rattle.share_core.specs.State.{times_at, CoreOpening, opening_of, Part, State}
+use Rattle.share_core.specs.Events.{after}
+
+-- What a ring knows
+
+-- the clauses of the cells that it holds, and the units that it has seen
+abbrev pub known : Part → List (List Literal)
+known p = map (λ h. h.lits) p.held ++ map (λ l. l ∷ []) p.seen
+
+-- the clause follows from what the ring knows
+abbrev pub follows : Part → List Literal → Bool
+follows p lits = rup (known p) lits
+
+-- Parts of guards
+
+-- it is a ring's number
+abbrev pub IsRing : State → ℕ → Type 0
+IsRing c r = r < c.opening.rings
+
+-- the ring holds the cell
+abbrev pub Holds : State → ℕ → ℕ → Type 0
+Holds c r a = 0 < times_at a (c.part r).held
+
+-- the ring has the turn, and there is room for one more entry of a log that is not ended
+pub record Writes (c : State) (r : ℕ) : Type 0 where
+  pub turn : c.turn ≡ Some r
+  pub going : ended c.opening.formula c.journal ≡ false
+  pub room : length c.journal < MAX_ENTRIES
+
+-- what the ring learns contains no start clause and nothing that it learned since it last reduced
+abbrev pub may_learn : CoreOpening → List Entry → ℕ → List Literal → Bool
+may_learn o J r lits = fresh (start_clauses (opening_of o)) J r lits
+
+-- the ring holds a clause that has all these literals
+abbrev pub may_derive : Part → List Literal → Bool
+may_derive p lits = list_any (λ h. includes h.lits lits) p.held
+
+-- a clause is learned or derived
+abbrev pub MayAddClause : CoreOpening → List Entry → Part → ℕ → Kind → List Literal → Type 0
+MayAddClause o J p r Ruler lits = ⊥
+MayAddClause o J p r Learn lits = may_learn o J r lits ≡ true
+MayAddClause o J p r Derive lits = may_derive p lits ≡ true
+MayAddClause o J p r UnitLine lits = ⊥
+
+-- a unit is learned or propagated
+abbrev pub MayAddUnit : CoreOpening → List Entry → ℕ → Kind → List Literal → Type 0
+MayAddUnit o J r Ruler lits = ⊥
+MayAddUnit o J r Learn lits = may_learn o J r lits ≡ true
+MayAddUnit o J r Derive lits = ⊥
+MayAddUnit o J r UnitLine lits = ⊤
+
+-- Guards
+
+abbrev pub IsEnabled : State → Event → Type 0
+-- the ring's grant is open
+IsEnabled c (Grant r) = IsRing c r × (c.granted r ≡ false)
+-- the turn is free
+IsEnabled c (TakeTurn r) = IsRing c r × (c.turn ≡ None)
+-- the turn is the ring's
+IsEnabled c (GiveTurn r) = IsRing c r × (c.turn ≡ Some r)
+-- two literals or more without repeats or opposites, which follow from what the ring knows; a free address
+IsEnabled c (AddClause r kind lits a) =
+    IsRing c r × Writes c r × MayAddClause c.opening c.journal (c.part r) r kind lits × IsLong lits × (c.cell a ≡ None) × (a ≢ 0) × (follows (c.part r) lits ≡ true)
+IsEnabled c (AddUnit r kind lit) = IsRing c r × Writes c r × MayAddUnit c.opening c.journal r kind (lit ∷ []) × (follows (c.part r) (lit ∷ []) ≡ true)
+IsEnabled c (AddEmpty r) = IsRing c r × Writes c r × (follows (c.part r) [] ≡ true)
+-- the ring has learned enough since it last reduced
+IsEnabled c (Reduce r) = IsRing c r × Writes c r × (LEARNED_PER_REDUCTION ≤ length (recent r c.journal))
+-- the ring builds the cell
+IsEnabled c (OpenCell r a) = IsRing c r × (0 < times_at a (c.part r).making)
+IsEnabled c (Read r a) = IsRing c r × Holds c r a
+IsEnabled c (Share r a) = IsRing c r × Holds c r a × ((c.part r).shared < MAX_SHARES)
+IsEnabled c (DropCount r a) = IsRing c r × Holds c r a
+-- the cell waits at the ring
+IsEnabled c (Bury r a) = IsRing c r × Writes c r × (0 < times_at a (c.part r).waiting)
+-- for another ring, of one of the four classes
+IsEnabled c (Put r to k a) = IsRing c r × IsRing c to × (to ≢ r) × (k < 4) × Holds c r a
+IsEnabled c (Get r from k) = IsRing c r × IsRing c from × (from ≢ r) × (k < 4)
+-- the turn is the ring's; the unit is in the formula or was added; the ring has seen all units, and this is none
+IsEnabled c (Publish r lit) =
+    IsRing c r × (c.turn ≡ Some r) × (is_told c.opening.formula c.journal lit ≡ true) × (length (c.part r).seen ≡ length c.units) × (has c.units lit ≡ false)
+-- the ring has not seen all units
+IsEnabled c (See r) = IsRing c r × (length (c.part r).seen < length c.units)
+-- a kind from 1 to 5; a refutation only where the log is ended
+IsEnabled c (Stop r kind) = IsRing c r × (1 ≤ kind) × (kind ≤ 5) × (kind ≡ 2 → ended c.opening.formula c.journal ≡ true)
+
+-- each event of the list is enabled after those before it
+abbrev pub AllEnabled : State → List Event → Type 0
+AllEnabled c es = EachAfter (λ before e. IsEnabled (fold after c before) e) [] es

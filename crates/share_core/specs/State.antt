@@ -1,0 +1,143 @@
+-- The state of the core: what it was opened with, the journal, the cells with their counts, what each ring has, the
+-- slots of the pools, the listed units, the turn and the stop.
+use Rattle.std.specs.Prelude.{◌≢◌, ℕ, ◌+◌, ◌*◌, ◌≤◌, Bool, false, ◌==◌, List, [], ◌∷◌, ◌++◌, map, length, All, Option, Some, None, if◌then◌else◌}
+use Rattle.sat_words.specs.Literal.{Literal}
+use Rattle.rup_model.specs.declared.journal.TheConstants.{RULER_RING}
+use Rattle.rup_model.specs.declared.journal.Entry.{Entry}
+use Rattle.rup_model.specs.Basics.{one_if}
+use Rattle.rup_model.specs.Opening.{Opening, IsOpening}
+use Rattle.share_core.specs.declared.event.TheConstants.{MAX_ENTRIES}
+use Rattle.share_core.specs.declared.event.Stop.{Stop}
+use Rattle.share_core.specs.declared.stored.ClauseAt.{ClauseAt}
+use Rattle.share_core.specs.declared.stored.Cell.{Cell}
+use Rattle.share_core.specs.declared.stored.PutNote.{PutNote}
+
+-- Lists of cells, each as often as it is held
+
+-- how often an address stands in the list
+abbrev pub times_at : ℕ → List ClauseAt → ℕ
+times_at a [] = 0
+times_at a (h ∷ hs) = one_if (h.address == a) + times_at a hs
+
+-- the list without its first cell at the address
+abbrev pub without_at : ℕ → List ClauseAt → List ClauseAt
+without_at a [] = []
+without_at a (h ∷ hs) = if h.address == a then hs else h ∷ without_at a hs
+
+-- the list with the cell behind it; at address 0 there is none
+abbrev pub with_cell : ClauseAt → List ClauseAt → List ClauseAt
+with_cell h hs = if h.address == 0 then hs else hs ++ h ∷ []
+
+-- Openings
+
+-- the formula, the number of rings, the ruler's journal, the start clauses in their cells, and the units that are
+-- listed from the start
+pub record CoreOpening : Type 0 where
+  pub formula : List (List Literal)
+  pub rings : ℕ
+  pub journal : List Entry
+  pub starts : List ClauseAt
+  pub units : List Literal
+
+-- the opening without its addresses
+abbrev pub opening_of : CoreOpening → Opening
+opening_of o = record { journal = o.journal; starts = map (λ s. record { number = s.number; lits = s.lits }) o.starts; units = o.units }
+
+-- an opening for 1 to 16 rings, with its start clauses at addresses that are not 0 and differ
+pub record IsCoreOpening (o : CoreOpening) : Type 0 where
+  pub some_ring : 1 ≤ o.rings
+  pub few_rings : o.rings ≤ RULER_RING
+  pub opens : IsOpening o.formula (opening_of o)
+  pub room : length o.journal ≤ MAX_ENTRIES
+  pub placed : All (λ s. s.address ≢ 0) o.starts
+  pub apart : (a : ℕ) → times_at a o.starts ≤ 1
+
+-- Rings
+
+-- an entry with its place in the journal
+pub record Placed : Type 0 where
+  pub place : ℕ
+  pub entry : Entry
+
+-- what one ring has: the cells that it holds, builds, and is to delete; the units that it has seen; how often it has
+-- shared; and in order what it wrote and put
+pub record Part : Type 0 where
+  pub ring : ℕ
+  pub held : List ClauseAt
+  pub making : List ClauseAt
+  pub waiting : List ClauseAt
+  pub seen : List Literal
+  pub shared : ℕ
+  pub wrote : List Placed
+  pub puts : List PutNote
+
+-- a ring before its first step
+abbrev pub blank : ℕ → Part
+blank r = record { ring = r; held = []; making = []; waiting = []; seen = []; shared = 0; wrote = []; puts = [] }
+
+-- States
+
+-- cells by address, grants that were taken and parts by ring, slots by place, with 0 for an empty one
+pub record State : Type 0 where
+  pub opening : CoreOpening
+  pub journal : List Entry
+  pub cell : ℕ → Option Cell
+  pub granted : ℕ → Bool
+  pub part : ℕ → Part
+  pub slot : ℕ → ℕ
+  pub units : List Literal
+  pub turn : Option ℕ
+  pub stop : Option Stop
+
+-- the open cells of the start clauses, each with this count
+abbrev pub start_cell : ℕ → List ClauseAt → ℕ → Option Cell
+start_cell n [] a = None
+start_cell n (s ∷ ss) a = if a == s.address then Some (record { lits = s.lits; number = s.number; count = n; maker = None }) else start_cell n ss a
+
+-- as the core is opened: each start clause is counted once for each ring, whose grants are all open
+abbrev pub opened : CoreOpening → State
+opened o = record {
+  opening = o;
+  journal = o.journal;
+  cell = start_cell o.rings o.starts;
+  granted = λ _. false;
+  part = blank;
+  slot = λ _. 0;
+  units = o.units;
+  turn = None;
+  stop = None;
+}
+
+-- Cells and slots, read
+
+-- the count of the cell, 0 where there is none
+abbrev pub count_at : Option Cell → ℕ
+count_at None = 0
+count_at (Some x) = x.count
+
+-- the number of its clause
+abbrev pub number_at : Option Cell → ℕ
+number_at None = 0
+number_at (Some x) = x.number
+
+-- its literals
+abbrev pub lits_at : Option Cell → List Literal
+lits_at None = []
+lits_at (Some x) = x.lits
+
+-- the ring that builds it
+abbrev pub maker_at : Option Cell → Option ℕ
+maker_at None = None
+maker_at (Some x) = x.maker
+
+-- the clause at an address, as the rings know it
+abbrev pub clause_at : State → ℕ → ClauseAt
+clause_at c a = record { address = a; number = number_at (c.cell a); lits = lits_at (c.cell a) }
+
+-- how many slots there are: for each two rings one for each of four classes
+abbrev pub slots : CoreOpening → ℕ
+slots o = 4 * (o.rings * o.rings)
+
+-- the place of a ring's slot for another ring
+abbrev pub slot_of : CoreOpening → ℕ → ℕ → ℕ → ℕ
+slot_of o from to class = 4 * (from * o.rings + to) + class

@@ -1,0 +1,324 @@
+ghost use Rattle.std.specs.Prelude.{◌≡◌, ◌<◌, ◌≤◌, ◌∷◌, [], ◌++◌, length, map, replicate, IfOk, OnErr, OnOk, List, ℕ};
+ghost use Rattle.std.specs.Option.{unwrap_or};
+ghost use Rattle.rup_model.specs.Journal.{formula_clause, lines};
+ghost use Rattle.share_core.specs.State.{times_at, IsCoreOpening, opened, count_at, slot_of};
+ghost use Rattle.share_core.specs.Events.{after};
+ghost use Rattle.share_core.specs.Enabled.{IsEnabled};
+ghost use Rattle.share_core.specs.Machine.{data_of, state_of, Logged, Kept, has_at, no_ring, start_at, start_stored, core_opening};
+ghost use Rattle.share_core.specs.Guards.{is_enabled};
+ghost use Rattle.share_core.specs.Steps.{Steps, and_then, Runs};
+
+use crate::cells::count_of;
+use crate::event::Event;
+use crate::items::Items;
+use crate::progress::{Origin, Progress};
+use crate::ring::{Ring, has_at, times_of};
+use crate::stored::{Cell, ClauseAt, StoredCell};
+use sat_words::{Clause, Formula, Line, Lit, Lits};
+use std::alloc::{AllocError, Global};
+use std::marker::Model;
+
+/// The machine over events, by plain lists: the state that a list of events leaves.
+#[derive(Drop)]
+pub struct Core {
+    origin: Origin,
+    progress: Progress,
+}
+
+impl Model for Core {
+    ghost use Rattle.share_core.specs.Machine.{CoreData, data_of, Kept};
+
+    ghost Value = { CoreData };
+
+    ghost view = { λ c. data_of c.origin c.progress };
+
+    ghost invariant = { λ c. Kept (data_of c.origin c.progress) };
+}
+
+/// What became of an event.
+#[derive(Clone, Copy, PartialEq, Eq, Debug)]
+pub enum Step {
+    /// It was enabled, and had its effect.
+    Done,
+    /// It was not enabled, and nothing has changed.
+    Refused,
+}
+
+impl Progress {
+    /// What the event does, where it is enabled.
+    fn make(&mut self, alloc: Global, origin: &Origin, event: &Event) -> Result<(), AllocError>
+        requires kept { Kept (data_of origin.now self.old) }
+        requires enabled { IsEnabled (state_of (data_of origin.now self.old)) event.now }
+        ensures after { OnOk result (state_of (data_of origin.now self.new) ≡ after (state_of (data_of origin.now self.old)) event.now) }
+        ensures logged { OnOk result (Logged (data_of origin.now self.new)) }
+        ensures wide { OnOk result (length self.new.slots.items ≡ length self.old.slots.items) }
+    {
+        match event {
+            Event::Grant { ring } => self.grant(alloc, origin, *ring),
+            Event::TakeTurn { ring } => {
+                self.turn = Some(*ring);
+                Ok(())
+            }
+            Event::GiveTurn { .. } => {
+                self.turn = None;
+                Ok(())
+            }
+            Event::AddClause {
+                ring,
+                kind,
+                lits,
+                address,
+            } => self.add_clause(alloc, origin, *ring, *kind, lits.as_slice(), *address),
+            Event::AddUnit { ring, kind, lit } => {
+                self.add_unit(alloc, origin, *ring, *kind, *lit)
+            }
+            Event::AddEmpty { ring } => self.add_empty(alloc, origin, *ring),
+            Event::Reduce { ring } => self.reduce(origin, *ring),
+            Event::OpenCell { ring, address } => self.open_cell(alloc, origin, *ring, *address),
+            Event::Read { .. } => Ok(()),
+            Event::Share { ring, address } => self.share(alloc, origin, *ring, *address),
+            Event::DropCount { ring, address } => self.drop_count(alloc, origin, *ring, *address),
+            Event::Bury { ring, address } => self.bury(alloc, origin, *ring, *address),
+            Event::Put {
+                ring,
+                to,
+                class,
+                address,
+            } => self.put(alloc, origin, *ring, *to, *class, *address),
+            Event::Get { ring, from, class } => self.get(alloc, origin, *ring, *from, *class),
+            Event::Publish { ring, lit } => self.publish(origin, *ring, *lit),
+            Event::See { ring } => self.see(origin, *ring),
+            Event::Stop { ring, kind } => {
+                self.set_stop(origin, *ring, *kind);
+                Ok(())
+            }
+        }
+    }
+
+    /// One event, where it is enabled.
+    fn step(&mut self, alloc: Global, origin: &Origin, event: &Event) -> Result<Step, AllocError>
+        requires { Kept (data_of origin.now self.old) }
+        ensures steps { IfOk result (λ s. Steps (state_of (data_of origin.now self.old)) event.now s (state_of (data_of origin.now self.new))) }
+        ensures kept { OnOk result (Kept (data_of origin.now self.new)) }
+    {
+        if !self.is_enabled(alloc, origin, event)? {
+            return Ok(Step::Refused);
+        }
+        self.make(alloc, origin, event)?;
+        Ok(Step::Done)
+    }
+
+    /// The events in order, each where it is enabled.
+    fn run(&mut self, alloc: Global, origin: &Origin, events: &[Event]) -> Result<Step, AllocError>
+        requires { Kept (data_of origin.now self.old) }
+        ensures runs { IfOk result (λ s. Runs (state_of (data_of origin.now self.old)) events.now s (state_of (data_of origin.now self.new))) }
+        ensures kept { OnOk result (Kept (data_of origin.now self.new)) }
+    {
+        let mut all = Step::Done;
+        for event in events {
+            let step = self.step(alloc, origin, event)?;
+            all = and_then(all, step);
+        }
+        Ok(all)
+    }
+}
+
+/// Done where both are.
+fn and_then(first: Step, second: Step) -> Step
+    ensures { result ≡ and_then first second }
+{
+    match first {
+        Step::Done => second,
+        Step::Refused => Step::Refused,
+    }
+}
+
+/// The literals of the formula's clause with this number, none where there is no such clause.
+fn lits_under(alloc: Global, clauses: &[Clause], number: u64) -> Result<Lits, AllocError>
+    ensures { IfOk result (λ lits. lits ≡ unwrap_or (formula_clause clauses.now number) []) }
+{
+    if number == 0 || number > clauses.len() as u64 {
+        return Lits::from_slice(alloc, &[]);
+    }
+    let index = (number - 1) as usize;
+    Lits::from_slice(alloc, clauses[index].lits())
+}
+
+/// The clause with this number, at an address.
+fn start_clause(
+    alloc: Global,
+    clauses: &[Clause],
+    address: u64,
+    number: u64,
+) -> Result<ClauseAt, AllocError>
+    ensures { IfOk result (λ h. h ≡ record { address = address; number = number; lits = unwrap_or (formula_clause clauses.now number) [] }) }
+{
+    Ok(ClauseAt {
+        address,
+        number,
+        lits: lits_under(alloc, clauses, number)?,
+    })
+}
+
+fn start_clauses(
+    alloc: Global,
+    clauses: &[Clause],
+    start: &[(u64, u64)],
+) -> Result<Items<ClauseAt>, AllocError>
+    ensures { IfOk result (λ hs. hs ≡ map (start_at clauses.now) start.now) }
+{
+    let mut starts = Items::new(alloc);
+    for pair in start {
+        starts.push(start_clause(alloc, clauses, pair.0, pair.1)?)?;
+    }
+    Ok(starts)
+}
+
+fn start_cells(
+    alloc: Global,
+    starts: &[ClauseAt],
+    rings: u32,
+) -> Result<Vec<StoredCell>, AllocError>
+    ensures { IfOk result (λ cells. cells.items ≡ map (start_stored rings) starts.now) }
+{
+    let mut cells = Vec::new(alloc);
+    for s in starts {
+        cells.push(StoredCell {
+            address: s.address,
+            cell: Cell {
+                lits: Lits::from_slice(alloc, s.lits.as_slice())?,
+                number: s.number,
+                count: rings as u64,
+                maker: None,
+            },
+        })?;
+    }
+    Ok(cells)
+}
+
+fn blank_rings(alloc: Global, rings: u32) -> Result<Vec<Ring>, AllocError>
+    ensures { IfOk result (λ all. all.items ≡ replicate rings no_ring) }
+{
+    let mut all = Vec::new(alloc);
+    for _ in 0..rings {
+        all.push(Ring::new(alloc))?;
+    }
+    Ok(all)
+}
+
+fn empty_slots(alloc: Global, count: usize) -> Result<Vec<u64>, AllocError>
+    ensures { IfOk result (λ all. all.items ≡ replicate count 0) }
+{
+    let mut all = Vec::new(alloc);
+    all.resize(count, 0)?;
+    Ok(all)
+}
+
+fn listed(alloc: Global, units: &[Lit]) -> Result<Items<Lit>, AllocError>
+    ensures { IfOk result (λ all. all ≡ units.now) }
+{
+    let mut all = Items::new(alloc);
+    all.extend(alloc, units)?;
+    Ok(all)
+}
+
+impl Core {
+    /// The machine before the first event. Start clauses are given by their addresses and their numbers in the formula,
+    /// from 1.
+    pub fn new(
+        alloc: Global,
+        formula: Formula,
+        start: &[(u64, u64)],
+        units: &[Lit],
+        rings: u32,
+    ) -> Result<Core, AllocError>
+        requires { IsCoreOpening (core_opening formula.clauses start.now units.now rings) }
+        ensures { IfOk result (λ core. state_of core ≡ opened (core_opening formula.clauses start.now units.now rings)) }
+    {
+        let starts = start_clauses(alloc, formula.clauses(), start)?;
+        let cells = start_cells(alloc, starts.as_slice(), rings)?;
+        let progress = Progress {
+            journal: Items::new(alloc),
+            lines: Items::new(alloc),
+            cells,
+            rings: blank_rings(alloc, rings)?,
+            slots: empty_slots(alloc, 4 * (rings as usize * rings as usize))?,
+            units: listed(alloc, units)?,
+            turn: None,
+            stop: None,
+        };
+        Ok(Core {
+            origin: Origin {
+                formula,
+                starts,
+                units: listed(alloc, units)?,
+            },
+            progress,
+        })
+    }
+
+    /// How many hold the cell at the address; 0 where there is none.
+    pub fn count(&self, address: u64) -> u64
+        ensures { result ≡ count_at ((state_of self.now).cell address) }
+    {
+        count_of(self.progress.cells.as_slice(), address)
+    }
+
+    /// How often the ring holds the cell at the address.
+    pub fn held(&self, ring: u32, address: u64) -> u64
+        ensures { result ≡ times_at address ((state_of self.now).part ring).held }
+    {
+        if !self.progress.is_ring(ring) {
+            return 0;
+        }
+        times_of(self.progress.ring(ring).held.as_slice(), address)
+    }
+
+    /// Whether the cell at the address waits at the ring for its deletion.
+    pub fn waits(&self, ring: u32, address: u64) -> bool
+        ensures { result ≡ has_at address ((state_of self.now).part ring).waiting }
+    {
+        self.progress.is_ring(ring) && has_at(&self.progress.ring(ring).waiting, address)
+    }
+
+    /// The address in a ring's slot for another ring, 0 where it is empty.
+    pub fn slot(&self, from: u32, to: u32, class: u8) -> u64
+        requires from { from < (state_of self.now).opening.rings }
+        requires to { to < (state_of self.now).opening.rings }
+        requires class { class < 4 }
+        ensures { let c = state_of self.now in result ≡ c.slot (slot_of c.opening from to class) }
+    {
+        let place = self.progress.slot_of(from, to, class);
+        self.progress.slots[place]
+    }
+
+    /// One event, where it is enabled. After an error nothing has changed.
+    pub fn step(&mut self, alloc: Global, event: &Event) -> Result<Step, AllocError>
+        ensures ok { IfOk result (λ s. Steps (state_of self.old) event.now s (state_of self.new)) }
+        ensures err { OnErr result (self.new ≡ self.old) }
+    {
+        let mut next = self.progress.copied(alloc)?;
+        let step = next.step(alloc, &self.origin, event)?;
+        self.progress = next;
+        Ok(step)
+    }
+
+    /// The events in order; those that are not enabled are passed over. The answer is Done exactly where each event was.
+    /// After an error nothing has changed.
+    pub fn run(&mut self, alloc: Global, events: &[Event]) -> Result<Step, AllocError>
+        ensures ok { IfOk result (λ s. Runs (state_of self.old) events.now s (state_of self.new)) }
+        ensures err { OnErr result (self.new ≡ self.old) }
+    {
+        let mut next = self.progress.copied(alloc)?;
+        let all = next.run(alloc, &self.origin, events)?;
+        self.progress = next;
+        Ok(all)
+    }
+
+    /// The lines of the log, in order.
+    pub fn lines(&self) -> &[Line]
+        ensures { result.now ≡ lines self.now.formula self.now.journal }
+    {
+        self.progress.lines.as_slice()
+    }
+}

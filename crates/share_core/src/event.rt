@@ -1,0 +1,143 @@
+use rup_model::Kind;
+use sat_words::{Lit, Lits};
+
+/// No more entries than this are ever written into a journal.
+pub const MAX_ENTRIES: u64 = 1 << 48;
+
+/// No ring shares its clauses more often than this, so that no count overflows a word.
+pub const MAX_SHARES: u64 = 1 << 56;
+
+/// Why the rings stop, and who said so. The kinds are 1 for a model, 2 for a refutation, 3 for want of room, 4 for a
+/// fault of the proof's output and 5 for want of memory.
+#[derive(Clone, Copy, PartialEq, Eq, Debug)]
+pub struct Stop {
+    /// 1 to 5.
+    pub kind: u8,
+    /// The ring that set it.
+    pub ring: u32,
+}
+
+/// One step of one ring. Addresses are plain names of cells, never 0. Rings are numbered from 0, and classes, by which
+/// pools order clauses, are 0 to 3.
+#[derive(Drop)]
+pub enum Event {
+    /// Takes the ring's grant: from then on the ring itself holds each start clause.
+    Grant {
+        /// Whose step it is.
+        ring: u32,
+    },
+    /// Takes the turn to write into the log.
+    TakeTurn {
+        /// Whose step it is.
+        ring: u32,
+    },
+    /// Gives the turn back.
+    GiveTurn {
+        /// Whose step it is.
+        ring: u32,
+    },
+    /// Adds a clause of two literals or more to the log, and begins a cell for it.
+    AddClause {
+        /// Whose step it is.
+        ring: u32,
+        /// Learned or derived.
+        kind: Kind,
+        /// The literals, in the order of the line.
+        lits: Lits,
+        /// Where the cell is to stand.
+        address: u64,
+    },
+    /// Adds a unit to the log.
+    AddUnit {
+        /// Whose step it is.
+        ring: u32,
+        /// Learned, or made true by propagation.
+        kind: Kind,
+        /// The unit.
+        lit: Lit,
+    },
+    /// Adds the empty clause, which ends the log.
+    AddEmpty {
+        /// Whose step it is.
+        ring: u32,
+    },
+    /// Notes that the ring reduces what it has learned.
+    Reduce {
+        /// Whose step it is.
+        ring: u32,
+    },
+    /// Opens a cell that the ring has built. The ring then holds it once.
+    OpenCell {
+        /// Whose step it is.
+        ring: u32,
+        /// Where the cell stands.
+        address: u64,
+    },
+    /// Reads a cell that the ring holds.
+    Read {
+        /// Whose step it is.
+        ring: u32,
+        /// Where the cell stands.
+        address: u64,
+    },
+    /// Holds a cell once more, so that it may be handed on.
+    Share {
+        /// Whose step it is.
+        ring: u32,
+        /// Where the cell stands.
+        address: u64,
+    },
+    /// Holds a cell once less. A cell that nobody holds any more waits at the ring for its deletion.
+    DropCount {
+        /// Whose step it is.
+        ring: u32,
+        /// Where the cell stands.
+        address: u64,
+    },
+    /// Deletes the clause of a cell that waits from the log, and with it the cell.
+    Bury {
+        /// Whose step it is.
+        ring: u32,
+        /// Where the cell stands.
+        address: u64,
+    },
+    /// Puts a cell that the ring holds into its slot for another ring, and takes back what was there.
+    Put {
+        /// Whose step it is.
+        ring: u32,
+        /// For whom.
+        to: u32,
+        /// The class of the slot.
+        class: u8,
+        /// Where the cell stands.
+        address: u64,
+    },
+    /// Takes what is in the slot that another ring has for this one.
+    Get {
+        /// Whose step it is.
+        ring: u32,
+        /// From whom.
+        from: u32,
+        /// The class of the slot.
+        class: u8,
+    },
+    /// Lists a unit.
+    Publish {
+        /// Whose step it is.
+        ring: u32,
+        /// The unit.
+        lit: Lit,
+    },
+    /// Sees the next listed unit.
+    See {
+        /// Whose step it is.
+        ring: u32,
+    },
+    /// Tells all rings to stop, where none has said so before.
+    Stop {
+        /// Whose step it is.
+        ring: u32,
+        /// Why, by number as in `Stop`.
+        kind: u8,
+    },
+}

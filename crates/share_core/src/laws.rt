@@ -1,0 +1,47 @@
+//! What every list of enabled events keeps.
+ghost use Rattle.std.specs.Prelude.{◌≡◌, ◌<◌, ℕ, List, ◌++◌, map, fold, All};
+ghost use Rattle.rup_model.specs.declared.journal.Entry.{Entry};
+ghost use Rattle.rup_model.specs.Journal.{ring_of, recent};
+ghost use Rattle.share_core.specs.declared.event.Event.{Event};
+ghost use Rattle.share_core.specs.State.{Placed, CoreOpening, IsCoreOpening, State, opened};
+ghost use Rattle.share_core.specs.Enabled.{IsEnabled, AllEnabled};
+ghost use Rattle.share_core.specs.Events.{after};
+ghost use Rattle.share_core.specs.Sound.{Sound};
+ghost use Rattle.share_core.specs.Readable.{Plain};
+
+/// Every list of enabled events from an opening leaves a sound state. A front of such a list is one too, so the state
+/// is sound after each event.
+pub fn events_keep_sound()
+    ensures { (o : CoreOpening) → IsCoreOpening o → (es : List Event) → AllEnabled (opened o) es → Sound (fold after (opened o) es) }
+{}
+
+/// An opening is a sound state.
+pub fn openings_are_sound()
+    ensures { (o : CoreOpening) → IsCoreOpening o → Sound (opened o) }
+{}
+
+/// An enabled event leaves a sound state sound.
+pub fn enabled_events_keep_sound()
+    ensures { (c : State) (e : Event) → Sound c → IsEnabled c e → Sound (after c e) }
+{}
+
+/// Events only add to the journal, and never change what the core was opened with.
+pub fn journals_grow()
+    ensures journal { (c : State) (es : List Event) → (added : List Entry) × ((fold after c es).journal ≡ c.journal ++ added) }
+    ensures opening { (c : State) (es : List Event) → (fold after c es).opening ≡ c.opening }
+{}
+
+/// Behind the ruler's part of the journal all entries are those of the rings.
+pub fn entries_are_of_rings()
+    ensures { (c : State) → Sound c → (added : List Entry) × (c.journal ≡ c.opening.journal ++ added) × All (λ e. ring_of e < c.opening.rings) added }
+{}
+
+/// What a ring learned since it last reduced is told by its own entries.
+pub fn recent_by_own_entries()
+    ensures { (c : State) (r : ℕ) → Sound c → r < c.opening.rings → recent r c.journal ≡ recent r (map (λ (p : Placed). p.entry) (c.part r).wrote) }
+{}
+
+/// What a sound state says in plain words.
+pub fn sound_is_plain()
+    ensures { (c : State) → Sound c → Plain c }
+{}

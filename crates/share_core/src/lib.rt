@@ -1,0 +1,27 @@
+//! The pure core of the solver's rings: a machine over events, with counted cells that hold the shared clauses, pools
+//! of slots through which rings hand them to each other, a list of units, and one journal that all write.
+//!
+//! `State` of specs/ is what it is in, `IsEnabled` and `after` say when each event may come and what it does, and
+//! `Sound` what every list of enabled events keeps: each count is the number of holders, and each line of the log is
+//! valid where it stands.
+#![tactic(auto)]
+
+mod cells;
+mod core;
+mod effects;
+mod event;
+mod guards;
+mod items;
+mod journal;
+mod laws;
+mod progress;
+mod ring;
+mod stored;
+
+pub use core::{Core, Step};
+pub use event::{Event, MAX_ENTRIES, MAX_SHARES, Stop};
+pub use laws::{
+    enabled_events_keep_sound, entries_are_of_rings, events_keep_sound, journals_grow,
+    openings_are_sound, recent_by_own_entries, sound_is_plain,
+};
+pub use stored::{Cell, ClauseAt, PutNote};

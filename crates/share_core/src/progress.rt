@@ -1,0 +1,106 @@
+ghost use Rattle.std.specs.Prelude.{◌≡◌, ◌<◌, ◌&&◌, ◌==◌, ◌∷◌, [], ◌++◌, map, nat_lt, not, length, IfOk, fold};
+ghost use Rattle.std.specs.List.{list_any};
+ghost use Rattle.sat_words.specs.Literal.{Literal};
+ghost use Rattle.rup_model.specs.Rup.{rup};
+ghost use Rattle.share_core.specs.declared.stored.ClauseAt.{ClauseAt};
+ghost use Rattle.share_core.specs.declared.progress.Origin.{Origin};
+ghost use Rattle.rup_model.specs.Journal.{is_ring};
+ghost use Rattle.share_core.specs.Machine.{has_at, ring_in, data_of};
+
+use crate::event::Stop;
+use crate::items::{Items, copies};
+use crate::ring::{Ring, has_at};
+use crate::stored::{ClauseAt, StoredCell};
+use rup_model::{Entry, is_rup};
+use sat_words::{Formula, Line, Lit, Lits};
+use std::alloc::{AllocError, Global};
+
+/// What a core was opened with.
+#[derive(Drop)]
+pub(crate) struct Origin {
+    pub(crate) formula: Formula,
+    pub(crate) starts: Items<ClauseAt>,
+    pub(crate) units: Items<Lit>,
+}
+
+/// What the events have changed so far.
+#[derive(Drop)]
+pub(crate) struct Progress {
+    pub(crate) journal: Items<Entry>,
+    pub(crate) lines: Items<Line>,
+    pub(crate) cells: Vec<StoredCell>,
+    pub(crate) rings: Vec<Ring>,
+    pub(crate) slots: Vec<u64>,
+    pub(crate) units: Items<Lit>,
+    pub(crate) turn: Option<u32>,
+    pub(crate) stop: Option<Stop>,
+}
+
+impl Progress {
+    /// An equal one.
+    pub(crate) fn copied(&self, alloc: Global) -> Result<Progress, AllocError>
+        ensures same { (o : Origin) → IfOk result (λ copy. data_of o copy ≡ data_of o self.now) }
+    {
+        Ok(Progress {
+            journal: self.journal.copied(alloc)?,
+            lines: self.lines.copied(alloc)?,
+            cells: copies(alloc, self.cells.as_slice())?,
+            rings: copies(alloc, self.rings.as_slice())?,
+            slots: Vec::from_slice(alloc, self.slots.as_slice())?,
+            units: self.units.copied(alloc)?,
+            turn: self.turn,
+            stop: self.stop,
+        })
+    }
+
+    /// Whether it is a ring's number.
+    pub(crate) fn is_ring(&self, ring: u32) -> bool
+        ensures { result ≡ nat_lt ring (length self.now.rings.items) }
+    {
+        (ring as usize) < self.rings.len()
+    }
+
+    /// The ring with this number.
+    pub(crate) fn ring(&self, ring: u32) -> &Ring
+        requires { ring < length self.now.rings.items }
+        ensures { result.now ≡ ring_in self.now.rings.items ring }
+    {
+        &self.rings[ring as usize]
+    }
+
+    /// Whether the turn is the ring's.
+    pub(crate) fn has_turn(&self, ring: u32) -> bool
+        ensures { result ≡ is_ring ring self.now.turn }
+    {
+        match self.turn {
+            Some(other) => other == ring,
+            None => false,
+        }
+    }
+
+    /// Whether it is a ring, and holds the cell.
+    pub(crate) fn holds(&self, ring: u32, address: u64) -> bool
+        ensures { result ≡ (nat_lt ring (length self.now.rings.items) && has_at address (ring_in self.now.rings.items ring).held) }
+    {
+        self.is_ring(ring) && has_at(&self.ring(ring).held, address)
+    }
+}
+
+/// Whether the literals follow by unit propagation from the clauses and the units.
+pub(crate) fn follows(
+    alloc: Global,
+    held: &[ClauseAt],
+    seen: &[Lit],
+    lits: &[Lit],
+) -> Result<bool, AllocError>
+    ensures { IfOk result (λ yes. yes ≡ rup (map (λ (h : ClauseAt). h.lits) held.now ++ map (λ (l : Literal). l ∷ []) seen.now) lits.now) }
+{
+    let mut known = Vec::new(alloc);
+    for h in held {
+        known.push(Lits::from_slice(alloc, h.lits.as_slice())?)?;
+    }
+    for unit in seen {
+        known.push(Lits::from_slice(alloc, &[*unit])?)?;
+    }
+    is_rup(alloc, known.as_slice(), lits)
+}

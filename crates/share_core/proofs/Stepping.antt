@@ -1,8 +1,8 @@
 -- A step keeps a core; steps make a run.
 use Rattle.std.proofs.Common.{◌≡◌, ◌*◌, List, [], ◌∷◌, ◌++◌, length, refl, sym, ap, ◌∙◌, subst}
 use Rattle.share_core.specs.declared.event.Event.{Event}
-use Rattle.share_core.specs.declared.core.Step.{Step}
-use Rattle.share_core.specs.declared.core.Step.TheVariants.{Done, Refused}
+use Rattle.share_core.specs.declared.running.Step.{Step}
+use Rattle.share_core.specs.declared.running.Step.TheVariants.{Done, Refused}
 use Rattle.share_core.specs.State.{State}
 use Rattle.share_core.specs.Enabled.{IsEnabled}
 use Rattle.share_core.specs.Events.{after}

@@ -1,8 +1,8 @@
 -- What became of events.
 use Rattle.std.specs.Prelude.{◌≡◌, List, [], ◌∷◌}
 use Rattle.share_core.specs.declared.event.Event.{Event}
-use Rattle.share_core.specs.declared.core.Step.{Step}
-use Rattle.share_core.specs.declared.core.Step.TheVariants.{Done, Refused}
+use Rattle.share_core.specs.declared.running.Step.{Step}
+use Rattle.share_core.specs.declared.running.Step.TheVariants.{Done, Refused}
 use Rattle.share_core.specs.State.{State}
 use Rattle.share_core.specs.Enabled.{IsEnabled}
 use Rattle.share_core.specs.Events.{after}

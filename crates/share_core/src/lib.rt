@@ -7,7 +7,6 @@
 #![tactic(auto)]
 
 mod cells;
-mod core;
 mod effects;
 mod event;
 mod guards;
@@ -16,12 +15,13 @@ mod journal;
 mod laws;
 mod progress;
 mod ring;
+mod running;
 mod stored;
 
-pub use core::{Core, Step};
 pub use event::{Event, MAX_ENTRIES, MAX_SHARES, Stop};
 pub use laws::{
     enabled_events_keep_sound, entries_are_of_rings, events_keep_sound, journals_grow,
     openings_are_sound, recent_by_own_entries, sound_is_plain,
 };
+pub use running::{Core, Step};
 pub use stored::{Cell, ClauseAt, PutNote};

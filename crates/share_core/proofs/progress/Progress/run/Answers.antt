@@ -1,6 +1,6 @@
 use Rattle.std.proofs.Common.{◌++◌, ◌∷◌, [], List, take, sym, subst}
 use Rattle.share_core.specs.declared.event.Event.{Event}
-use Rattle.share_core.specs.declared.core.Step.{Step}
+use Rattle.share_core.specs.declared.running.Step.{Step}
 use Rattle.share_core.specs.State.{State}
 use Rattle.share_core.specs.Machine.{data_of, state_of}
 use Rattle.share_core.specs.Steps.{Runs}

@@ -3,7 +3,7 @@ use Rattle.sat_words.specs.Literal.{Literal}
 use Rattle.share_core.specs.State.{CoreOpening}
 use Rattle.share_core.specs.Machine.{CoreData, start_at, start_stored, core_opening}
 use Rattle.share_core.proofs.Beginning.{new_data, new_shown, new_kept}
-use Rattle.share_core.proofs.core.Core.new.Goals as goal
+use Rattle.share_core.proofs.running.Core.new.Goals as goal
 
 pub invariant_of-result : goal.invariant_of-result
 invariant_of-result c =

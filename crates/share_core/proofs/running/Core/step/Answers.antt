@@ -1,7 +1,7 @@
 use Rattle.std.proofs.Common.{◌∙◌, sym, subst}
 use Rattle.share_core.specs.Machine.{CoreData, data_of, state_of, Kept}
 use Rattle.share_core.specs.Steps.{Steps}
-use Rattle.share_core.proofs.core.Core.step.Goals as goal
+use Rattle.share_core.proofs.running.Core.step.Goals as goal
 
 pub step-requires : goal.step-requires
 step-requires c = subst Kept (sym (c.in_ok-next.ensures.same c.self.inside.origin)) c.self.invariant

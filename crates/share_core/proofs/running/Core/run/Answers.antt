@@ -1,7 +1,7 @@
 use Rattle.std.proofs.Common.{◌∙◌, sym, subst}
 use Rattle.share_core.specs.Machine.{CoreData, data_of, state_of, Kept}
 use Rattle.share_core.specs.Steps.{Runs}
-use Rattle.share_core.proofs.core.Core.run.Goals as goal
+use Rattle.share_core.proofs.running.Core.run.Goals as goal
 
 pub run-requires : goal.run-requires
 run-requires c = subst Kept (sym (c.in_ok-next.ensures.same c.self.inside.origin)) c.self.invariant

@@ -2,7 +2,7 @@ use Rattle.std.proofs.Common.{◌≡◌, ◌∙◌, ◌-◌, ℕ, suc, List, IfO
 use Rattle.sat_words.specs.Literal.{Literal}
 use Rattle.sat_words.specs.Clause.{InOrder}
 use Rattle.share_core.proofs.Beginning.{lits_under}
-use Rattle.share_core.proofs.core.lits_under.Goals as goal
+use Rattle.share_core.proofs.running.lits_under.Goals as goal
 
 pub returns : goal.returns
 returns c =

@@ -23,6 +23,28 @@ fn formula_of(alloc: Global, vars: u32, clauses: &[&[Lit]]) -> Result<Formula, A
     Ok(formula)
 }
 
+/// Whether the text is read as the formula, however few bytes a read gives.
+fn is_read_as(alloc: Global, text: &str, formula: &Formula) -> bool {
+    for piece in [1, 7, 1 << 20] {
+        match read_text(alloc, text.as_bytes(), piece) {
+            Ok(found) if found == *formula => {}
+            _ => return false,
+        }
+    }
+    true
+}
+
+/// Whether the first bad place of the text is found, however few bytes a read gives.
+fn is_bad(alloc: Global, text: &[u8], code: Code, line: u64) -> bool {
+    for piece in [1, 7, 1 << 20] {
+        match read_text(alloc, text, piece) {
+            Err(stop) if stop == ReadStop::Bad { code, line } => {}
+            _ => return false,
+        }
+    }
+    true
+}
+
 #[test]
 fn formulas(rt: HostRuntime) -> Result<(), Fail> {
     let alloc = rt.alloc();
@@ -48,13 +70,22 @@ fn formulas(rt: HostRuntime) -> Result<(), Fail> {
                 &[&[one], &[two, two.not()], &[one.not(), two.not()]],
             )?,
         ),
+    ];
+    for (text, formula) in &table {
+        assert!(rt; is_read_as(alloc, text, formula), "{text}");
+    }
+    Ok(())
+}
+
+#[test]
+fn odd_spellings(rt: HostRuntime) -> Result<(), Fail> {
+    let alloc = rt.alloc();
+    let one = Lit::new(1, false);
+    let two = Lit::new(2, false);
+    let table = [
         (
             "p cnf 1 1\n-1 0\n%\n0\n",
             formula_of(alloc, 1, &[&[one.not()]])?,
-        ),
-        (
-            "p cnf 3 2\n1 0\n-2 0\n",
-            formula_of(alloc, 3, &[&[one], &[two.not()]])?,
         ),
         ("p  cnf  1  1\n01 0\n", formula_of(alloc, 1, &[&[one]])?),
         ("p cnf 1 1\n00\n", formula_of(alloc, 1, &[&[]])?),
@@ -68,42 +99,37 @@ fn formulas(rt: HostRuntime) -> Result<(), Fail> {
         ),
     ];
     for (text, formula) in &table {
-        for piece in [1, 7, 1 << 20] {
-            match read_text(alloc, text.as_bytes(), piece) {
-                Ok(found) => assert!(rt; found == *formula, "{text}"),
-                Err(_) => assert!(rt; false, "{text}"),
-            }
-        }
+        assert!(rt; is_read_as(alloc, text, formula), "{text}");
     }
     Ok(())
 }
 
 #[test]
-fn bad_places(rt: HostRuntime) {
+fn bad_headers(rt: HostRuntime) {
     let alloc = rt.alloc();
     let table = [
-        ("p cnf 1 1\n2 0\n", Code::LiteralRange, 2),
-        ("p cnf 2 2\n1 0\n", Code::TooFewClauses, 3),
-        ("p cnf 2 0\n1 0\n", Code::TooManyClauses, 2),
-        ("p cnf 2 1\n1 -2\n", Code::OpenClause, 3),
-        ("p cnf 2 1\n1 -2", Code::OpenClause, 2),
         ("1 0\n", Code::NoHeader, 1),
-        ("p cnf x 1\n", Code::BadHeader, 1),
-        ("p cnf 268435456 0\n", Code::Limit, 1),
-        ("p cnf 0 268435456", Code::Limit, 1),
-        ("p cnf 2 1\n1 +2 0\n", Code::BadToken, 2),
         ("", Code::NoHeader, 1),
         ("c\n\n", Code::NoHeader, 3),
-        ("p cnf 1 1\n-0\n", Code::BadToken, 2),
-        ("p cnf 1 1\n1 c 0\n", Code::BadToken, 2),
+        ("p cnf x 1\n", Code::BadHeader, 1),
         ("pcnf 1 1\n", Code::BadHeader, 1),
         ("p cnf 1 1 x\n", Code::BadHeader, 1),
-        ("p cnf 1 1\np cnf 1 1\n", Code::BadToken, 2),
-        ("p cnf 0 0\n0\n", Code::TooManyClauses, 2),
-        ("p cnf 1 1\n1\n%\n", Code::BadToken, 3),
-        ("p cnf 2 2\n1 0\n%\n", Code::TooFewClauses, 3),
-        ("\u{1f}", Code::NoHeader, 1),
+    ];
+    for (text, code, line) in table {
+        assert!(rt; is_bad(alloc, text.as_bytes(), code, line), "{text}");
+    }
+    // The front of a gzip file.
+    assert!(rt; is_bad(alloc, &[31, 139, 8], Code::NoHeader, 1));
+}
+
+#[test]
+fn bad_sizes(rt: HostRuntime) {
+    let alloc = rt.alloc();
+    let table = [
+        ("p cnf 268435456 0\n", Code::Limit, 1),
+        ("p cnf 0 268435456", Code::Limit, 1),
         ("p cnf 99999999999999999999999 1\n", Code::Limit, 1),
+        ("p cnf 1 1\n2 0\n", Code::LiteralRange, 2),
         (
             "p cnf 1 1\n99999999999999999999999 0\n",
             Code::LiteralRange,
@@ -111,12 +137,38 @@ fn bad_places(rt: HostRuntime) {
         ),
     ];
     for (text, code, line) in table {
-        for piece in [1, 7, 1 << 20] {
-            match read_text(alloc, text.as_bytes(), piece) {
-                Err(stop) => assert_eq!(rt; stop, ReadStop::Bad { code, line }, "{text}"),
-                Ok(_) => assert!(rt; false, "{text}"),
-            }
-        }
+        assert!(rt; is_bad(alloc, text.as_bytes(), code, line), "{text}");
+    }
+}
+
+#[test]
+fn bad_tokens(rt: HostRuntime) {
+    let alloc = rt.alloc();
+    let table = [
+        ("p cnf 2 1\n1 +2 0\n", Code::BadToken, 2),
+        ("p cnf 1 1\n-0\n", Code::BadToken, 2),
+        ("p cnf 1 1\n1 c 0\n", Code::BadToken, 2),
+        ("p cnf 1 1\np cnf 1 1\n", Code::BadToken, 2),
+        ("p cnf 1 1\n1\n%\n", Code::BadToken, 3),
+    ];
+    for (text, code, line) in table {
+        assert!(rt; is_bad(alloc, text.as_bytes(), code, line), "{text}");
+    }
+}
+
+#[test]
+fn bad_counts(rt: HostRuntime) {
+    let alloc = rt.alloc();
+    let table = [
+        ("p cnf 2 0\n1 0\n", Code::TooManyClauses, 2),
+        ("p cnf 0 0\n0\n", Code::TooManyClauses, 2),
+        ("p cnf 2 2\n1 0\n", Code::TooFewClauses, 3),
+        ("p cnf 2 2\n1 0\n%\n", Code::TooFewClauses, 3),
+        ("p cnf 2 1\n1 -2\n", Code::OpenClause, 3),
+        ("p cnf 2 1\n1 -2", Code::OpenClause, 2),
+    ];
+    for (text, code, line) in table {
+        assert!(rt; is_bad(alloc, text.as_bytes(), code, line), "{text}");
     }
 }
 

@@ -1,9 +1,9 @@
 """Checks the built program against exhaustive search and a naive DRAT checker, both of their own.
 
 Seeded random formulas of up to 12 variables, pigeonhole formulas and formulas with the empty clause go through the
-program with `--proof`. Its answer is compared with a truth table, its `v` lines with the clauses and the format, and
-every line of its proof with the definition of DRAT. Before that, a damaged proof and a wrong model are tried, which
-must be caught. Nothing here shares code with the program.
+program with `--proof`, most of them in odd spellings, on standard input or as a file. Its answer is compared with a truth
+table, its `v` lines with the clauses and the format, and every line of its proof with the definition of DRAT. Before
+that, a damaged proof and a wrong model are tried, which must be caught. Nothing here shares code with the program.
 """
 
 import os
@@ -54,6 +54,36 @@ def spelled(variables, clauses):
     lines = ["p cnf %d %d" % (variables, len(clauses))]
     lines += [" ".join(map(str, clause + [0])) for clause in clauses]
     return ("\n".join(lines) + "\n").encode()
+
+
+def oddly_spelled(rng, variables, clauses):
+    """The same formula as few tools write it: blank lines and comments before the header, between and inside clauses,
+    tabs, several clauses a line, leading zeros, CR LF, text behind a `%`, no newline at the end."""
+    newline = rng.choice(["\n", "\n", "\r\n"])
+
+    def blank():
+        return rng.choice([" ", " ", "\t", "  ", " \t "])
+
+    def idle_lines():
+        lines = ["", blank(), "c", "c 1 2 0", " c p cnf 1 1", "comment %", "\tc" + blank() + "-1 0"]
+        return "".join(rng.choice(lines) + newline for _ in range(rng.choice([0, 0, 1, 2])))
+
+    def word(number):
+        zeros = "0" * rng.choice([0, 0, 0, 1, 3])
+        return ("-" if number < 0 else "") + zeros + str(abs(number))
+
+    def gap():
+        return blank() if rng.random() < 0.7 else rng.choice(["", blank()]) + newline + idle_lines() + rng.choice(["", blank()])
+
+    header = ["p", "cnf", word(variables), word(len(clauses))]
+    text = idle_lines() + rng.choice(["", blank()]) + "".join(part + blank() for part in header[:-1]) + header[-1]
+    text += rng.choice(["", blank()]) + newline + idle_lines()
+    words = [word(number) for clause in clauses for number in clause + [0]]
+    text += "".join(part + gap() for part in words[:-1]) + "".join(words[-1:])
+    end = rng.choice(["", newline, newline + idle_lines(), newline + idle_lines() + "%" + newline + "0" + newline, blank()])
+    if end == "" and not words:
+        end = newline
+    return (text + end).encode()
 
 
 def is_satisfiable(variables, clauses):
@@ -190,11 +220,17 @@ def check_answer(variables, clauses, status, out, err, proof, satisfiable):
         raise Wrong("status %d" % status)
 
 
-def run(program, folder, variables, clauses, satisfiable):
+def run(program, folder, variables, clauses, satisfiable, text, from_file):
+    """Runs the program on the text, as a file or on standard input."""
     path = os.path.join(folder, "proof")
+    words = [program, "--proof", path]
+    if from_file:
+        words.append(os.path.join(folder, "input"))
+        with open(words[-1], "wb") as file:
+            file.write(text)
     done = subprocess.run(
-        [program, "--proof", path],
-        input=spelled(variables, clauses),
+        words,
+        input=b"p cnf 1 1\n2 0\n" if from_file else text,
         stdout=subprocess.PIPE,
         stderr=subprocess.PIPE,
         timeout=60,
@@ -230,8 +266,7 @@ def try_itself():
     must_catch("a long line", lambda: check_model(60, [], ["v " + " ".join(str(-v) for v in range(1, 61)) + " 0"]))
 
 
-def cases():
-    rng = random.Random(SEED)
+def cases(rng):
     for _ in range(RANDOM_FORMULAS):
         variables, clauses = random_formula(rng)
         yield variables, clauses, is_satisfiable(variables, clauses)
@@ -253,17 +288,20 @@ def main():
     try_itself()
     tried = wrong = 0
     start = time.monotonic()
+    rng = random.Random(SEED)
     with tempfile.TemporaryDirectory() as folder:
-        for variables, clauses, satisfiable in cases():
+        for variables, clauses, satisfiable in cases(rng):
             if time.monotonic() - start > SECONDS:
                 print("crosscheck: out of time")
                 break
             tried += 1
+            odd = rng.random() < 0.7
+            text = oddly_spelled(rng, variables, clauses) if odd else spelled(variables, clauses)
             try:
-                run(program, folder, variables, clauses, satisfiable)
+                run(program, folder, variables, clauses, satisfiable, text, rng.random() < 0.5)
             except Wrong as fault:
                 wrong += 1
-                print("wrong: %s\n%s" % (fault, spelled(variables, clauses).decode("ascii")))
+                print("wrong: %s\n%s" % (fault, text.decode("ascii")))
     print("crosscheck: %d tried, %d wrong" % (tried, wrong))
     return 1 if wrong else 0
 

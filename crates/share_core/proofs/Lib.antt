@@ -15,7 +15,7 @@ pub mod Plainly
 pub mod Scans
 pub mod Places
 pub mod Deciding
-pub mod Tests
+pub mod Conjunctions
 pub mod Shown
 pub mod Lookups
 pub mod Stepping

@@ -1,4 +1,4 @@
-ghost use Rattle.std.specs.Prelude.{◌≡◌, ◌<◌, ◌≤◌, ◌∷◌, [], ◌++◌, length, map, replicate, IfOk, OnErr, OnOk, List, ℕ};
+ghost use Rattle.std.specs.Prelude.{◌≡◌, ◌⊎◌, ◌<◌, ◌≤◌, ◌∷◌, [], ◌++◌, length, map, replicate, IfOk, OnErr, OnOk, List, ℕ};
 ghost use Rattle.std.specs.Option.{unwrap_or};
 ghost use Rattle.rup_model.specs.Journal.{formula_clause, lines};
 ghost use Rattle.share_core.specs.State.{times_at, IsCoreOpening, opened, count_at, slot_of};
@@ -281,13 +281,14 @@ impl Core {
         self.progress.is_ring(ring) && has_at(&self.progress.ring(ring).waiting, address)
     }
 
-    /// The address in a ring's slot for another ring, 0 where it is empty.
+    /// The address in a ring's slot for another ring; 0 where it is empty, or there is none.
     pub fn slot(&self, from: u32, to: u32, class: u8) -> u64
-        requires from { from < (state_of self.now).opening.rings }
-        requires to { to < (state_of self.now).opening.rings }
-        requires class { class < 4 }
-        ensures { let c = state_of self.now in result ≡ c.slot (slot_of c.opening from to class) }
+        ensures there { let c = state_of self.now in from < c.opening.rings → to < c.opening.rings → class < 4 → result ≡ c.slot (slot_of c.opening from to class) }
+        ensures none { let c = state_of self.now in (c.opening.rings ≤ from) ⊎ (c.opening.rings ≤ to) ⊎ (4 ≤ class) → result ≡ 0 }
     {
+        if !self.progress.is_ring(from) || !self.progress.is_ring(to) || class >= 4 {
+            return 0;
+        }
         let place = self.progress.slot_of(from, to, class);
         self.progress.slots[place]
     }

@@ -4,7 +4,7 @@ use Rattle.share_core.specs.State.{State}
 use Rattle.share_core.specs.Enabled.{follows}
 use Rattle.share_core.specs.Guards.{writes, may_add, is_long}
 use Rattle.share_core.specs.Machine.{data_of, state_of}
-use Rattle.share_core.proofs.Tests.{five_more}
+use Rattle.share_core.proofs.Conjunctions.{five_more}
 use Rattle.share_core.proofs.progress.Progress.may_add_clause.Goals as goal
 
 pub returns : goal.returns

@@ -3,7 +3,7 @@ use Rattle.share_core.specs.State.{State}
 use Rattle.share_core.specs.Enabled.{follows}
 use Rattle.share_core.specs.Guards.{writes, may_tell}
 use Rattle.share_core.specs.Machine.{data_of, state_of}
-use Rattle.share_core.proofs.Tests.{two_more}
+use Rattle.share_core.proofs.Conjunctions.{two_more}
 use Rattle.share_core.proofs.progress.Progress.may_add_unit.Goals as goal
 
 pub returns : goal.returns

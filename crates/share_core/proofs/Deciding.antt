@@ -145,3 +145,6 @@ enabled_from c e h = (decides c e).yes h
 
 pub enabled_to : (c : State) (e : Event) → is_enabled c e ≡ false → IsEnabled c e → ⊥
 enabled_to c e h p = true≢false (sym ((decides c e).back p) ∙ h)
+
+pub long_from : (c : List Literal) → is_long c ≡ true → IsLong c
+long_from c h = (long c).yes h

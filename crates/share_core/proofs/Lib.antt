@@ -20,3 +20,4 @@ pub mod Shown
 pub mod Lookups
 pub mod Stepping
 pub mod Beginning
+pub mod Openings

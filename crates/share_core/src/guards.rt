@@ -20,7 +20,7 @@ use rup_model::{Kind, LEARNED_PER_REDUCTION};
 use sat_words::Lit;
 use std::alloc::{AllocError, Global};
 
-fn are_distinct(lits: &[Lit]) -> bool
+pub(crate) fn are_distinct(lits: &[Lit]) -> bool
     ensures { result ≡ distinct_lits lits.now }
 {
     match lits {
@@ -36,7 +36,7 @@ fn has_opposites(lits: &[Lit]) -> bool
 }
 
 /// Whether it has two literals or more without repeats or opposites.
-fn is_long(lits: &[Lit]) -> bool
+pub(crate) fn is_long(lits: &[Lit]) -> bool
     ensures { result ≡ is_long lits.now }
 {
     lits.len() >= 2 && are_distinct(lits) && !has_opposites(lits)

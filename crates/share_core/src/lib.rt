@@ -25,3 +25,10 @@ pub use laws::{
 };
 pub use running::{Core, Step};
 pub use stored::{Cell, ClauseAt, PutNote};
+
+#[cfg(test)]
+mod tests;
+#[cfg(test)]
+mod tests_guards;
+#[cfg(test)]
+mod tests_opening;

@@ -16,15 +16,17 @@ use Rattle.gimsatul.specs.declared.search.Searched.{Searched}
 use Rattle.gimsatul.specs.Answer.{answer_text}
 use Rattle.gimsatul.specs.declared.search.SearchStop.{SearchStop}
 use Rattle.gimsatul.specs.declared.search.SearchStop.TheVariants.{ProofFault, Memory}
-use Rattle.gimsatul.specs.declared.plain.PlainStop.{PlainStop}
-use Rattle.gimsatul.specs.declared.plain.PlainStop.TheVariants.{NotPlain, Fault}
-use Rattle.gimsatul.specs.declared.plain.PlainStop.TheVariants as plain_stop
-use Rattle.gimsatul.specs.Ends.{end_of, end_of_stop, end_of_read}
+use Rattle.dimacs_read.specs.declared.stop.Code.{Code}
+use Rattle.dimacs_read.specs.declared.stop.ReadStop.{ReadStop}
+use Rattle.dimacs_read.specs.declared.stop.ReadStop.TheVariants.{Bad, ReadFault}
+use Rattle.dimacs_read.specs.declared.stop.ReadStop.TheVariants as read_stop
+use Rattle.dimacs_read.specs.Answer.{IsAnswer}
+use Rattle.gimsatul.specs.Ends.{end_of, end_of_stop, end_of_read, tally_of_read}
 use Rattle.gimsatul.specs.Run.{Run, Count, Writer, Output, RoseIn, IsStill, Prints}
 use Rattle.gimsatul.specs.Decided.{Decides}
 use Rattle.gimsatul.specs.Searched.{Concludes, IsSearch}
 use Rattle.gimsatul.specs.Tallied.{no_tally, ring_tally}
-use Rattle.gimsatul.specs.Plain.{WasRead, IsUnreadable}
+use Rattle.gimsatul.specs.Input.{WasRead}
 use Rattle.gimsatul.specs.Outcome.{Outcome, IsUnread, IsStarted, IsAnswered}
 use Rattle.gimsatul.proofs.Journals.{empty_journal, flushed_log, holds_nothing}
 
@@ -33,21 +35,20 @@ abbrev pub no_formula : FormulaData
 no_formula = record { vars = 0; clauses = [] }
 
 -- no formula was read, and the proof was flushed
-pub unread : {T E : Type 0} (text : Option (List ℕ)) (source : Count) (out : Output) (tally : Tally) (f0 f1 : ℕ) (w0 w1 fl0 fl1 : Option (List ℕ)) (result : Result T E)
-    → f0 ≡ 0 → IsEmptyWhereTold w0 → tally ≡ no_tally → w1 ≡ w0 → HasCause f0 f1 result → WasFlushed w1 fl0 fl1 result
-    → IsUnread no_formula [] tally (record { text = text; source = source; proof = Some (record { faults = f1; written = w1; flushed = fl1 }); out = out })
-unread text source out tally f0 f1 w0 w1 fl0 fl1 result quiet empty counts same cause flush = record {
+pub unread : {T E : Type 0} (limit : ℕ) (text : Option (List ℕ)) (source : Count) (out : Output) (f0 f1 : ℕ) (w0 w1 fl0 fl1 : Option (List ℕ)) (result : Result T E)
+    → f0 ≡ 0 → IsEmptyWhereTold w0 → w1 ≡ w0 → HasCause f0 f1 result → WasFlushed w1 fl0 fl1 result
+    → IsUnread no_formula [] (record { limit = limit; text = text; source = source; proof = Some (record { faults = f1; written = w1; flushed = fl1 }); out = out })
+unread limit text source out f0 f1 w0 w1 fl0 fl1 result quiet empty same cause flush = record {
   log = flushed_log no_formula.clauses [] (empty_journal no_formula.clauses) f0 f1 w0 w1 fl0 fl1 result (λ none. holds_nothing w0 empty) (λ some. absurd (some quiet)) same cause flush;
   nothing = refl;
   empty = subst IsEmptyWhereTold (sym same) empty;
-  counts = counts;
 }
 
 -- the search came to its end, and the proof was flushed
-pub started : {T E : Type 0} (text : Option (List ℕ)) (source : Count) (out : Output) (formula : FormulaData) (searched : Searched) (tally : Tally) (f0 f1 : ℕ) (w0 w1 fl0 fl1 : Option (List ℕ)) (result : Result T E)
-    → (s : IsSearch formula searched f0 w0) → WasRead text formula → IsStill source → tally ≡ ring_tally searched.learned → w1 ≡ w0 → HasCause f0 f1 result → WasFlushed w1 fl0 fl1 result
-    → IsStarted formula s.journal tally (record { text = text; source = source; proof = Some (record { faults = f1; written = w1; flushed = fl1 }); out = out })
-started text source out formula searched tally f0 f1 w0 w1 fl0 fl1 result s read still counts same cause flush = record {
+pub started : {T E : Type 0} (limit : ℕ) (text : Option (List ℕ)) (source : Count) (out : Output) (formula : FormulaData) (searched : Searched) (tally : Tally) (f0 f1 : ℕ) (w0 w1 fl0 fl1 : Option (List ℕ)) (result : Result T E)
+    → (s : IsSearch limit formula searched f0 w0) → WasRead text formula → IsStill source → tally ≡ ring_tally searched.learned → w1 ≡ w0 → HasCause f0 f1 result → WasFlushed w1 fl0 fl1 result
+    → IsStarted formula s.journal tally (record { limit = limit; text = text; source = source; proof = Some (record { faults = f1; written = w1; flushed = fl1 }); out = out })
+started limit text source out formula searched tally f0 f1 w0 w1 fl0 fl1 result s read still counts same cause flush = record {
   read = read;
   source = still;
   journal_stands = s.stands;
@@ -66,36 +67,36 @@ counted t learned n start set =
     let one : learned ≡ n ∷ [] = set ∙ ap (λ (u : Tally). slice_set u.learned 0 n) start in
     λ i. record (start i) { learned = one i }
 
-stop_cases : (stop : SearchStop) (F : FormulaData) (J : List Entry) (tally : Tally) (text : Option (List ℕ)) (source : Count) (out : Output) (f0 : ℕ) (writer : Writer)
-    → Concludes F J f0 (Err stop) → f0 ≤ writer.faults
-    → IsStarted F J tally (record { text = text; source = source; proof = Some writer; out = out })
-    → Outcome (end_of_stop stop) F J tally (record { text = text; source = source; proof = Some writer; out = out })
-stop_cases ProofFault F J tally text source out f0 writer rose later s = record { started = s; rose = omega arith }
-stop_cases Memory F J tally text source out f0 writer rose later s = inr s
+stop_cases : (stop : SearchStop) (limit : ℕ) (F : FormulaData) (J : List Entry) (tally : Tally) (text : Option (List ℕ)) (source : Count) (out : Output) (f0 : ℕ) (writer : Writer)
+    → Concludes limit F J f0 (Err stop) → f0 ≤ writer.faults
+    → IsStarted F J tally (record { limit = limit; text = text; source = source; proof = Some writer; out = out })
+    → Outcome (end_of_stop stop) F J tally (record { limit = limit; text = text; source = source; proof = Some writer; out = out })
+stop_cases ProofFault limit F J tally text source out f0 writer rose later s = record { started = s; rose = omega arith }
+stop_cases Memory limit F J tally text source out f0 writer rose later s = inr s
 
 -- the search stopped without a verdict
-pub stopped : (stop : SearchStop) (end : End) (found : Result Verdict SearchStop) (F : FormulaData) (J : List Entry) (tally : Tally) (text : Option (List ℕ)) (source : Count) (out : Output) (f0 : ℕ) (writer : Writer)
+pub stopped : (stop : SearchStop) (end : End) (limit : ℕ) (found : Result Verdict SearchStop) (F : FormulaData) (J : List Entry) (tally : Tally) (text : Option (List ℕ)) (source : Count) (out : Output) (f0 : ℕ) (writer : Writer)
     → end ≡ end_of_stop stop → found ≡ Err stop
-    → Concludes F J f0 found → f0 ≤ writer.faults
-    → IsStarted F J tally (record { text = text; source = source; proof = Some writer; out = out })
-    → Outcome end F J tally (record { text = text; source = source; proof = Some writer; out = out })
-stopped stop end found F J tally text source out f0 writer is err why later s =
-    let run : Run = record { text = text; source = source; proof = Some writer; out = out } in
+    → Concludes limit F J f0 found → f0 ≤ writer.faults
+    → IsStarted F J tally (record { limit = limit; text = text; source = source; proof = Some writer; out = out })
+    → Outcome end F J tally (record { limit = limit; text = text; source = source; proof = Some writer; out = out })
+stopped stop end limit found F J tally text source out f0 writer is err why later s =
+    let run : Run = record { limit = limit; text = text; source = source; proof = Some writer; out = out } in
     subst (λ (e : End). Outcome e F J tally run) (sym is)
-    (stop_cases stop F J tally text source out f0 writer (subst (λ (r : Result Verdict SearchStop). Concludes F J f0 r) err why) later s)
+    (stop_cases stop limit F J tally text source out f0 writer (subst (λ (r : Result Verdict SearchStop). Concludes limit F J f0 r) err why) later s)
 
 -- the search found a verdict, and met no fault
-pub concluded : (verdict : Verdict) (found : Result Verdict SearchStop) (F : FormulaData) (J : List Entry) (f0 : ℕ) → found ≡ Ok verdict → Concludes F J f0 found → (f0 ≡ 0) × Decides F J verdict
-concluded verdict found F J f0 is why = subst (λ (r : Result Verdict SearchStop). Concludes F J f0 r) is why
+pub concluded : (verdict : Verdict) (limit : ℕ) (found : Result Verdict SearchStop) (F : FormulaData) (J : List Entry) (f0 : ℕ) → found ≡ Ok verdict → Concludes limit F J f0 found → (f0 ≡ 0) × Decides limit F J verdict
+concluded verdict limit found F J f0 is why = subst (λ (r : Result Verdict SearchStop). Concludes limit F J f0 r) is why
 
 -- the verdict was printed
-pub answered : (verdict : Verdict) (end : End) (vars : ℕ) (F : FormulaData) (J : List Entry) (tally : Tally) (text : Option (List ℕ)) (source : Count) (out : Output) (writer : Writer)
-    → end ≡ end_of verdict → vars ≡ F.vars → Decides F J verdict → writer.faults ≡ 0 → IsStill out.faults
+pub answered : (verdict : Verdict) (end : End) (limit : ℕ) (vars : ℕ) (F : FormulaData) (J : List Entry) (tally : Tally) (text : Option (List ℕ)) (source : Count) (out : Output) (writer : Writer)
+    → end ≡ end_of verdict → vars ≡ F.vars → Decides limit F J verdict → writer.faults ≡ 0 → IsStill out.faults
     → GrowsBy out.before out.after (answer_text vars verdict) → out.flushed ≡ out.after
-    → IsStarted F J tally (record { text = text; source = source; proof = Some writer; out = out })
-    → Outcome end F J tally (record { text = text; source = source; proof = Some writer; out = out })
-answered verdict end vars F J tally text source out writer is same decided quiet told grown sure s =
-    let run : Run = record { text = text; source = source; proof = Some writer; out = out } in
+    → IsStarted F J tally (record { limit = limit; text = text; source = source; proof = Some writer; out = out })
+    → Outcome end F J tally (record { limit = limit; text = text; source = source; proof = Some writer; out = out })
+answered verdict end limit vars F J tally text source out writer is same decided quiet told grown sure s =
+    let run : Run = record { limit = limit; text = text; source = source; proof = Some writer; out = out } in
     let printed : Prints out (answer_text F.vars verdict) = record { grown = subst (λ (n : ℕ). GrowsBy out.before out.after (answer_text n verdict)) same grown; sure = sure } in
     subst (λ (e : End). Outcome e F J tally run) (sym is)
     (answered_end verdict F J tally run (record { started = s; decided = decided; printed = printed; quiet = record { proof = quiet; out = told } }))
@@ -104,20 +105,24 @@ answered verdict end vars F J tally text source out writer is same decided quiet
 pub part_printed : (verdict : Verdict) (vars : ℕ) (F : FormulaData) (before after : Option (List ℕ)) → vars ≡ F.vars → GrowsByPart before after (answer_text vars verdict) → GrowsByPart before after (answer_text F.vars verdict)
 part_printed verdict vars F before after same grown = subst (λ (n : ℕ). GrowsByPart before after (answer_text n verdict)) same grown
 
-read_cases : (stop : PlainStop) (tally : Tally) (run : Run)
-    → (stop ≡ NotPlain → IsUnreadable run.text) → (stop ≡ NotPlain → IsStill run.source) → (stop ≡ Fault → RoseIn run.source)
-    → IsUnread no_formula [] tally run
+read_cases : (stop : ReadStop) (tally : Tally) (rest : Option (List ℕ)) (run : Run)
+    → IsAnswer run.text rest (Err stop)
+    → ((code : Code) (line : ℕ) → stop ≡ Bad code line → IsStill run.source) → (stop ≡ ReadFault → RoseIn run.source)
+    → tally ≡ tally_of_read stop no_tally
+    → IsUnread no_formula [] run
     → Outcome (end_of_read stop) no_formula [] tally run
-read_cases NotPlain tally run bad still rose u = (bad refl, still refl, u)
-read_cases Fault tally run bad still rose u = (rose refl, u)
-read_cases plain_stop.Memory tally run bad still rose u = inl u
+read_cases (Bad code line) tally rest run bad still rose counts u = record { bad = bad; counts = counts; source = still code line refl; unread = u }
+read_cases ReadFault tally rest run bad still rose counts u = (rose refl, record { unread = u; counts = counts })
+read_cases read_stop.Memory tally rest run bad still rose counts u = inl (record { unread = u; counts = counts })
 
 -- nothing was read
-pub unread_end : (stop : PlainStop) (end : End) (tally : Tally) (text : Option (List ℕ)) (source : Count) (out : Output) (writer : Writer)
+pub unread_end : (stop : ReadStop) (end : End) (before tally : Tally) (rest : Option (List ℕ)) (run : Run)
     → end ≡ end_of_read stop
-    → (stop ≡ NotPlain → IsUnreadable text) → (stop ≡ NotPlain → IsStill source) → (stop ≡ Fault → RoseIn source)
-    → IsUnread no_formula [] tally (record { text = text; source = source; proof = Some writer; out = out })
-    → Outcome end no_formula [] tally (record { text = text; source = source; proof = Some writer; out = out })
-unread_end stop end tally text source out writer is bad still rose u =
-    let run : Run = record { text = text; source = source; proof = Some writer; out = out } in
-    subst (λ (e : End). Outcome e no_formula [] tally run) (sym is) (read_cases stop tally run bad still rose u)
+    → IsAnswer run.text rest (Err stop)
+    → ((code : Code) (line : ℕ) → stop ≡ Bad code line → IsStill run.source) → (stop ≡ ReadFault → RoseIn run.source)
+    → before ≡ no_tally → tally ≡ tally_of_read stop before
+    → IsUnread no_formula [] run
+    → Outcome end no_formula [] tally run
+unread_end stop end before tally rest run is bad still rose none counts u =
+    subst (λ (e : End). Outcome e no_formula [] tally run) (sym is)
+    (read_cases stop tally rest run bad still rose (counts ∙ ap (tally_of_read stop) none) u)

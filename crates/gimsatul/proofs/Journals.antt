@@ -14,7 +14,7 @@ use Rattle.rup_model.specs.Basics.{EachAfter}
 use Rattle.rup_model.specs.Rup.{rup, conflicts}
 use Rattle.rup_model.specs.Log.{alive, is_valid, Accepted, lits_of}
 use Rattle.std.proofs.lemmas.List.Elements.{All-append}
-use Rattle.gimsatul.specs.Plain.{IsOn}
+use Rattle.dimacs_read.specs.Input.{IsOn}
 use Rattle.rup_model.specs.Journal.{lines}
 use Rattle.rup_model.specs.declared.journal.Entry.{Entry}
 use Rattle.drat_text.specs.Text.{text, line_text}

@@ -1,34 +1,98 @@
 -- Words that are lawful, and calls with such words.
-use Rattle.std.proofs.Common.{◌≡◌, ℕ, List, Some, ap, sym, subst}
-use Rattle.std.specs.Prelude.{IsSome, is_some}
+use Rattle.std.proofs.Common.{◌≡◌, ◌⊎◌, ℕ, List, [], Some, None, refl, ap, sym, subst, inl, inr, ◌∙◌}
+use Rattle.std.specs.Prelude.{IsSome, is_some, IfSome, option_map}
 use Rattle.std.specs.declared.option.Option.{Option}
+use Rattle.io_edge.specs.Causes.{Rose}
+use Rattle.io_edge.specs.Paths.{PathMap}
 use Rattle.sat_words.specs.FormulaData.{FormulaData}
 use Rattle.rup_model.specs.declared.journal.Entry.{Entry}
 use Rattle.gimsatul.specs.declared.report.Tally.{Tally}
 use Rattle.gimsatul.specs.declared.report.End.{End}
-use Rattle.gimsatul.specs.declared.report.End.TheVariants.{Satisfiable, Unsatisfiable, Unknown, Usage, BadInput, CannotCreate, ReadFault, WriteFault, ProofFault, Memory}
-use Rattle.gimsatul.specs.Words.{Command, command_of, proof_path}
-use Rattle.gimsatul.specs.Run.{Call, IsStill}
+use Rattle.gimsatul.specs.declared.report.End.TheVariants.{Satisfiable, Unsatisfiable, Unknown, Usage, BadInput, CannotOpen, CannotCreate, ReadFault, WriteFault, ProofFault, Memory}
+use Rattle.gimsatul.specs.Words.{Command, command_of, conflicts_limit, proof_path, file_path}
+use Rattle.gimsatul.specs.Run.{Call, Run, IsStill, HasFile, IsOpened, text_in, text_left, source_of, run_of}
 use Rattle.gimsatul.specs.Outcome.{Outcome, CallOutcome}
+use Rattle.gimsatul.specs.Tallied.{no_tally}
+use Rattle.gimsatul.specs.Ends.{end_of_words}
+use Rattle.gimsatul.specs.declared.words.WordsStop.{WordsStop}
+use Rattle.gimsatul.specs.declared.words.WordsStop.TheVariants as words_stop
+use Rattle.gimsatul.proofs.Finishes.{no_formula}
 
 -- a path that was given is the command's
-pub asked_path : (found : Option Command) (path : Option (List ℕ)) → found ≡ Some (record { proof = path }) → IsSome path → IsSome (proof_path found)
-asked_path found path is some = subst (λ (x : Option Command). IsSome (proof_path x)) (sym is) some
+pub asked_proof : (found : Option Command) (command : Command) → found ≡ Some command → IsSome command.proof → IsSome (proof_path found)
+asked_proof found command is some = subst (λ (x : Option Command). IsSome (proof_path x)) (sym is) some
 
--- words that ask for something are lawful
-pub lawful : (found : Option Command) (path : Option (List ℕ)) → found ≡ Some (record { proof = path }) → IsSome found
-lawful found path is = ap (λ (x : Option Command). is_some x) is
+pub asked_file : (found : Option Command) (command : Command) → found ≡ Some command → IsSome command.file → IsSome (file_path found)
+asked_file found command is some = subst (λ (x : Option Command). IsSome (file_path x)) (sym is) some
+
+module _ {R : Type 0} (left : R → Option (List ℕ)) (faults : R → ℕ) (contents : Option PathMap) where
+  -- the text that an opened input has left is its path's
+  pub opened_text : (path : Option (List ℕ)) (file : Option R) (input : Option (List ℕ)) → IsOpened left faults contents path file → text_left left file input ≡ text_in contents input path
+  opened_text None file input is = ap (λ (f : Option R). text_left left f input) is
+  opened_text (Some path) None input is = absurd is
+  opened_text (Some path) (Some reader) input is = is.0
+
+  pub opened_fresh : (path : Option (List ℕ)) (file : Option R) → IsOpened left faults contents path file → IfSome file (λ reader. faults reader ≡ 0)
+  opened_fresh None file is = subst (λ (f : Option R). IfSome f (λ reader. faults reader ≡ 0)) (sym is) tt
+  opened_fresh (Some path) None is = absurd is
+  opened_fresh (Some path) (Some reader) is = is.1
+
+  -- an input is opened exactly where a path is given
+  pub opened_there : (path : Option (List ℕ)) (file : Option R) → IsOpened left faults contents path file → is_some file ≡ is_some path
+  opened_there None file is = ap (λ (f : Option R). is_some f) is
+  opened_there (Some path) None is = absurd is
+  opened_there (Some path) (Some reader) is = refl
+
+-- the path of a command that the words ask for
+pub same_file : (found : Option Command) (command : Command) → found ≡ Some command → is_some (file_path found) ≡ is_some command.file
+same_file found command is = ap (λ (x : Option Command). is_some (file_path x)) is
 
 -- a run of a lawful call is how the call ended
-pub whole_call : (end : End) (F : FormulaData) (J : List Entry) (tally : Tally) (call : Call) → IsSome (command_of call.words) → IsStill call.files → call.run.source ≡ call.input
-    → Outcome end F J tally call.run → CallOutcome end F J tally call
-whole_call (Satisfiable model) F J tally call lawful files input o = record { lawful = lawful; outcome = o; files = files; from_input = input }
-whole_call Unsatisfiable F J tally call lawful files input o = record { lawful = lawful; outcome = o; files = files; from_input = input }
-whole_call Unknown F J tally call lawful files input o = record { lawful = lawful; outcome = o; files = files; from_input = input }
-whole_call Usage F J tally call lawful files input o = absurd o
-whole_call BadInput F J tally call lawful files input o = record { lawful = lawful; outcome = o; files = files; from_input = input }
-whole_call CannotCreate F J tally call lawful files input o = absurd o
-whole_call ReadFault F J tally call lawful files input o = record { lawful = lawful; outcome = o; files = files; from_input = input }
-whole_call WriteFault F J tally call lawful files input o = record { lawful = lawful; outcome = o; files = files; from_input = input }
-whole_call ProofFault F J tally call lawful files input o = record { lawful = lawful; outcome = o; files = files; from_input = input }
-whole_call Memory F J tally call lawful files input o = record { lawful = lawful; outcome = o; files = files; from_input = input }
+whole : (end : End) (F : FormulaData) (J : List Entry) (tally : Tally) (call : Call) → IsSome (command_of call.words) → HasFile call → IsStill call.files → ((call.file ≡ None) ⊎ IsStill call.input)
+    → Outcome end F J tally (run_of call) → CallOutcome end F J tally call
+whole (Satisfiable model) F J tally call lawful file files input o = record { lawful = lawful; file = file; outcome = o; files = files; input = input }
+whole Unsatisfiable F J tally call lawful file files input o = record { lawful = lawful; file = file; outcome = o; files = files; input = input }
+whole Unknown F J tally call lawful file files input o = record { lawful = lawful; file = file; outcome = o; files = files; input = input }
+whole Usage F J tally call lawful file files input o = absurd o
+whole (BadInput code line) F J tally call lawful file files input o = record { lawful = lawful; file = file; outcome = o; files = files; input = input }
+whole CannotOpen F J tally call lawful file files input o = absurd o
+whole CannotCreate F J tally call lawful file files input o = absurd o
+whole ReadFault F J tally call lawful file files input o = record { lawful = lawful; file = file; outcome = o; files = files; input = input }
+whole WriteFault F J tally call lawful file files input o = record { lawful = lawful; file = file; outcome = o; files = files; input = input }
+whole ProofFault F J tally call lawful file files input o = record { lawful = lawful; file = file; outcome = o; files = files; input = input }
+whole Memory F J tally call lawful file files input o = inr (record { lawful = lawful; file = file; outcome = o; files = files; input = input })
+
+pub whole_call : (end : End) (F : FormulaData) (J : List Entry) (tally : Tally) (call : Call) (command : Command) (text : Option (List ℕ)) → command_of call.words ≡ Some command
+    → text ≡ text_in call.contents call.left command.file → is_some call.file ≡ is_some command.file → IsStill call.files → ((call.file ≡ None) ⊎ IsStill call.input)
+    → Outcome end F J tally (record { limit = command.conflicts; text = text; source = source_of call; proof = call.proof; out = call.out })
+    → CallOutcome end F J tally call
+whole_call end F J tally call command text is same file files input o =
+    let run : Option Command → Run = λ found. record { limit = conflicts_limit found; text = text_in call.contents call.left (file_path found); source = source_of call; proof = call.proof; out = call.out } in
+    let here : Outcome end F J tally (run (Some command)) = subst (λ (t : Option (List ℕ)). Outcome end F J tally (record { limit = command.conflicts; text = t; source = source_of call; proof = call.proof; out = call.out })) same o in
+    whole end F J tally call (ap (λ (x : Option Command). is_some x) is) (file ∙ sym (same_file _ _ is)) files input
+    (subst (λ (found : Option Command). Outcome end F J tally (run found)) (sym is) here)
+
+-- what shows as some number is there
+pub same_there : {R : Type 0} (faults : R → ℕ) (file : Option R) → is_some (option_map faults file) ≡ is_some file
+same_there faults None = refl
+same_there faults (Some reader) = refl
+
+-- an input that was opened for a command is the call's
+pub has_file : {R : Type 0} (left : R → Option (List ℕ)) (faults : R → ℕ) (contents : Option PathMap) (found : Option Command) (command : Command) (file : Option R)
+    → found ≡ Some command → IsOpened left faults contents command.file file → is_some (option_map faults file) ≡ is_some (file_path found)
+has_file left faults contents found command file is opened = same_there faults file ∙ opened_there left faults contents command.file file opened ∙ sym (same_file found command is)
+
+words_cases : (stop : WordsStop) (tally : Tally) (call : Call) → (stop ≡ words_stop.Usage → command_of call.words ≡ None) → tally ≡ no_tally → call.file ≡ None → call.proof ≡ None → IsStill call.files → IsStill call.input
+    → CallOutcome (end_of_words stop) no_formula [] tally call
+words_cases words_stop.Usage tally call usage counts file proof files input = (usage refl, record { barren = record { no_proof = proof; nothing = refl; counts = counts; input = input }; no_file = file })
+words_cases words_stop.Memory tally call usage counts file proof files input = inl (files, record { barren = record { no_proof = proof; nothing = refl; counts = counts; input = input }; no_file = file })
+
+-- the words asked for nothing
+pub words_stopped : (stop : WordsStop) (end : End) (tally : Tally) (call : Call) → end ≡ end_of_words stop → (stop ≡ words_stop.Usage → command_of call.words ≡ None) → tally ≡ no_tally → call.file ≡ None → call.proof ≡ None → IsStill call.files → IsStill call.input
+    → CallOutcome end no_formula [] tally call
+words_stopped stop end tally call is usage counts file proof files input =
+    subst (λ (e : End). CallOutcome e no_formula [] tally call) (sym is) (words_cases stop tally call usage counts file proof files input)
+
+-- a count that rose behind a call that left it
+pub rose_behind : (before between after : ℕ) → between ≡ before → Rose between after → Rose before after
+rose_behind before between after same rose = subst (λ (n : ℕ). Rose n after) same rose

@@ -33,7 +33,7 @@ use Rattle.drat_text.specs.Text.{text, line_text}
 use Rattle.std.proofs.lemmas.List.Elements.{All-append}
 use Rattle.std.proofs.lemmas.List.Folds.{list_any-append, list_all-append}
 use Rattle.gimsatul.proofs.Journals.{holds_nothing}
-use Rattle.gimsatul.specs.Plain.{IsOn}
+use Rattle.dimacs_read.specs.Input.{IsOn}
 use Rattle.gimsatul.specs.Journaled.{CanBeSpelled, IsPlainEntry, IsJournal, HoldsText, IsCutShort}
 
 pub one_of_all : {X : Type 0} (P : X → Type 0) (x : X) → P x → All P (x ∷ [])

@@ -1,6 +1,7 @@
 pub mod Journals
 pub mod Finishes
 pub mod Lawful
+pub mod CommandLine
 pub mod StatusLemmas
 pub mod Assumed
 pub mod Models
@@ -8,8 +9,3 @@ pub mod Ledgers
 pub mod Conclusions
 pub mod Steps
 mod AnswerText
-mod PlainNumbers
-mod PlainHeader
-mod PlainLiterals
-mod PlainLines
-mod PlainInputs

@@ -14,7 +14,7 @@ use Rattle.rup_model.specs.Rup.{conflicts}
 use Rattle.rup_model.proofs.Lists.{In, any_In, none_In, In_all}
 use Rattle.rup_model.proofs.AssignedLemmas.{no_value}
 use Rattle.sat_words.specs.FormulaData.{FormulaData}
-use Rattle.gimsatul.specs.Plain.{IsOn}
+use Rattle.dimacs_read.specs.Input.{IsOn}
 use Rattle.gimsatul.specs.Decided.{mentions, occurs, IsModel}
 use Rattle.gimsatul.specs.Decisions.{SetsValues, IsModelOf}
 

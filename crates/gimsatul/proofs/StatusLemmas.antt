@@ -1,21 +1,24 @@
 -- What single statuses say, from the case of a call's end.
-use Rattle.std.proofs.Common.{◌≡◌, ◌≢◌, ◌⊎◌, ℕ, List, Bool, Some, None, refl, sym, inl, inr, subst, ⊎_elim, arith, rules}
+use Rattle.std.proofs.Common.{◌≡◌, ◌≢◌, ◌⊎◌, ◌∙◌, ℕ, List, Bool, Some, None, refl, sym, inl, inr, subst, ⊎_elim, arith, rules, ap}
 use Rattle.std.specs.Prelude.{IfSome, IsSome, IsSomeAnd}
 use Rattle.std.specs.declared.option.Option.{Option}
 use Rattle.sat_words.specs.FormulaData.{FormulaData}
 use Rattle.rup_model.specs.declared.journal.Entry.{Entry}
 use Rattle.io_edge.specs.Causes.{Rose}
+use Rattle.dimacs_read.specs.Input.{Reads, Bad}
+use Rattle.dimacs_read.specs.Codes.{number_of}
+use Rattle.dimacs_read.specs.declared.stop.Code.{Code}
 use Rattle.gimsatul.specs.declared.report.Tally.{Tally}
 use Rattle.gimsatul.specs.declared.report.End.{End}
-use Rattle.gimsatul.specs.declared.report.End.TheVariants.{Satisfiable, Unsatisfiable, Unknown, Usage, BadInput, CannotCreate, ReadFault, WriteFault, ProofFault, Memory}
+use Rattle.gimsatul.specs.declared.report.End.TheVariants.{Satisfiable, Unsatisfiable, Unknown, Usage, BadInput, CannotOpen, CannotCreate, ReadFault, WriteFault, ProofFault, Memory}
 use Rattle.gimsatul.specs.declared.report.Verdict.TheVariants as verdict
-use Rattle.gimsatul.specs.Words.{Command, command_of, proof_path}
-use Rattle.gimsatul.specs.Run.{Call, Writer, RoseIn, IsStill}
+use Rattle.gimsatul.specs.Words.{Command, command_of, file_path, proof_path}
+use Rattle.gimsatul.specs.Input.{WasBad}
+use Rattle.gimsatul.specs.Run.{Call, Count, Writer, RoseIn, IsStill, HasFile, run_of, source_of, source_in, text_of}
 use Rattle.gimsatul.specs.Journaled.{IsJournal, HoldsLog}
-use Rattle.gimsatul.specs.Plain.{IsUnreadable}
-use Rattle.gimsatul.specs.Outcome.{CallOutcome, IsCall, IsUnread, IsStarted, IsBarren}
+use Rattle.gimsatul.specs.Outcome.{CallOutcome, IsCall, IsWhole, IsUnread, IsRefused, IsBroken, IsStarted, IsBarren, IsIdle}
 use Rattle.gimsatul.specs.Headline.{status_of, model_of, Headline}
-use Rattle.gimsatul.specs.Statuses.{Answers, HasModel, LeftUnread, LeftUnprinted, LeftUnproved, HasJournal, MustAnswer, IsAnswer, Statuses}
+use Rattle.gimsatul.specs.Statuses.{Answers, HasModel, HasBadPlace, LeftUnread, LeftUnprinted, LeftUnproved, HasJournal, MustAnswer, MadeNothing, MadeAll, IsUnopened, IsUncreated, IsAnswer, Statuses}
 use Rattle.gimsatul.proofs.Journals.{empty_journal}
 
 -- a writer that must be there is there
@@ -39,17 +42,31 @@ unlawful_path : (x : Option Command) → IsSome (proof_path x) → x ≡ None �
 unlawful_path None h e = cc h
 unlawful_path (Some y) h e = cc e
 
+unlawful_file : (x : Option Command) → IsSome (file_path x) → x ≡ None → ⊥
+unlawful_file None h e = cc h
+unlawful_file (Some y) h e = cc e
+
 unhurt : (proof : Option Writer) → IsSomeAnd proof (λ w. Rose 0 w.faults) → IfSome proof (λ w. Rose 0 w.faults → ⊥) → ⊥
 unhurt None h k = h
 unhurt (Some writer) h k = k h
 
+-- standard input didn't fail, where it wasn't read or is what was read
+input_still : (input : Count) (file : Option ℕ) → (file ≡ None) ⊎ IsStill input → IsStill (source_in input file) → IsStill input
+input_still input file (inl none) still = subst (λ (f : Option ℕ). IsStill (source_in input f)) none still
+input_still input file (inr same) still = same
+
+-- a text that spells a formula has no bad place
+abbrev pub Apart : Type 0
+Apart = (text : List ℕ) (formula : FormulaData) (code : Code) (line : ℕ) → Reads text formula → Bad text code line → ⊥
+
 module _ (F : FormulaData) (J : List Entry) (tally : Tally) (call : Call) where
   satisfiable : (end : End) → CallOutcome end F J tally call → status_of end ≡ 10 → HasModel call (model_of end) tally
-  satisfiable (Satisfiable model) o e = record { values = model; reported = refl; answers = record { formula = F; journal = J; answered = o.outcome; files = o.files; input = subst IsStill o.from_input o.outcome.started.source } }
+  satisfiable (Satisfiable model) o e = record { values = model; reported = refl; answers = record { formula = F; journal = J; answered = o.outcome; files = o.files; input = input_still call.input call.file o.input o.outcome.started.source } }
   satisfiable Unsatisfiable o e = absurd (omega arith)
   satisfiable Unknown o e = absurd (omega arith)
   satisfiable Usage o e = absurd (omega arith)
-  satisfiable BadInput o e = absurd (omega arith)
+  satisfiable (BadInput code line) o e = absurd (omega arith)
+  satisfiable CannotOpen o e = absurd (omega arith)
   satisfiable CannotCreate o e = absurd (omega arith)
   satisfiable ReadFault o e = absurd (omega arith)
   satisfiable WriteFault o e = absurd (omega arith)
@@ -58,10 +75,11 @@ module _ (F : FormulaData) (J : List Entry) (tally : Tally) (call : Call) where
 
   unsatisfiable : (end : End) → CallOutcome end F J tally call → status_of end ≡ 20 → Answers call verdict.Unsatisfiable tally
   unsatisfiable (Satisfiable model) o e = absurd (omega arith)
-  unsatisfiable Unsatisfiable o e = record { formula = F; journal = J; answered = o.outcome; files = o.files; input = subst IsStill o.from_input o.outcome.started.source }
+  unsatisfiable Unsatisfiable o e = record { formula = F; journal = J; answered = o.outcome; files = o.files; input = input_still call.input call.file o.input o.outcome.started.source }
   unsatisfiable Unknown o e = absurd (omega arith)
   unsatisfiable Usage o e = absurd (omega arith)
-  unsatisfiable BadInput o e = absurd (omega arith)
+  unsatisfiable (BadInput code line) o e = absurd (omega arith)
+  unsatisfiable CannotOpen o e = absurd (omega arith)
   unsatisfiable CannotCreate o e = absurd (omega arith)
   unsatisfiable ReadFault o e = absurd (omega arith)
   unsatisfiable WriteFault o e = absurd (omega arith)
@@ -71,9 +89,10 @@ module _ (F : FormulaData) (J : List Entry) (tally : Tally) (call : Call) where
   unknown : (end : End) → CallOutcome end F J tally call → status_of end ≡ 0 → Answers call verdict.Unknown tally
   unknown (Satisfiable model) o e = absurd (omega arith)
   unknown Unsatisfiable o e = absurd (omega arith)
-  unknown Unknown o e = record { formula = F; journal = J; answered = o.outcome; files = o.files; input = subst IsStill o.from_input o.outcome.started.source }
+  unknown Unknown o e = record { formula = F; journal = J; answered = o.outcome; files = o.files; input = input_still call.input call.file o.input o.outcome.started.source }
   unknown Usage o e = absurd (omega arith)
-  unknown BadInput o e = absurd (omega arith)
+  unknown (BadInput code line) o e = absurd (omega arith)
+  unknown CannotOpen o e = absurd (omega arith)
   unknown CannotCreate o e = absurd (omega arith)
   unknown ReadFault o e = absurd (omega arith)
   unknown WriteFault o e = absurd (omega arith)
@@ -85,7 +104,8 @@ module _ (F : FormulaData) (J : List Entry) (tally : Tally) (call : Call) where
   usage Unsatisfiable o e = absurd (omega arith)
   usage Unknown o e = absurd (omega arith)
   usage Usage o e = o.0
-  usage BadInput o e = absurd (omega arith)
+  usage (BadInput code line) o e = absurd (omega arith)
+  usage CannotOpen o e = absurd (omega arith)
   usage CannotCreate o e = absurd (omega arith)
   usage ReadFault o e = absurd (omega arith)
   usage WriteFault o e = absurd (omega arith)
@@ -97,79 +117,128 @@ module _ (F : FormulaData) (J : List Entry) (tally : Tally) (call : Call) where
   refused Unsatisfiable o e = absurd (unlawful (command_of call.words) o.lawful e)
   refused Unknown o e = absurd (unlawful (command_of call.words) o.lawful e)
   refused Usage o e = inl refl
-  refused BadInput o e = absurd (unlawful (command_of call.words) o.lawful e)
+  refused (BadInput code line) o e = absurd (unlawful (command_of call.words) o.lawful e)
+  refused CannotOpen o e = absurd (unlawful_file (command_of call.words) o.1 e)
   refused CannotCreate o e = absurd (unlawful_path (command_of call.words) o.1 e)
   refused ReadFault o e = absurd (unlawful (command_of call.words) o.lawful e)
   refused WriteFault o e = absurd (unlawful (command_of call.words) o.lawful e)
   refused ProofFault o e = absurd (unlawful (command_of call.words) o.lawful e)
   refused Memory o e = inr refl
 
-  bad_input : (end : End) → CallOutcome end F J tally call → status_of end ≡ 2 → IsUnreadable call.run.text × IsStill call.run.source × LeftUnread call tally
+  bad_place : (code : Code) (line : ℕ) → IsRefused code line F J tally (run_of call) → HasBadPlace call tally
+  bad_place code line r =
+      let same : tally.line ≡ line = ap (λ (t : Tally). t.line) r.counts in
+      record { code = code; formula = F; journal = J; refused = subst (λ (n : ℕ). IsRefused code n F J tally (run_of call)) (sym same) r }
+
+  bad_input : (end : End) → CallOutcome end F J tally call → status_of end ≡ 2 → HasBadPlace call tally
   bad_input (Satisfiable model) o e = absurd (omega arith)
   bad_input Unsatisfiable o e = absurd (omega arith)
   bad_input Unknown o e = absurd (omega arith)
   bad_input Usage o e = absurd (omega arith)
-  bad_input BadInput o e = (o.outcome.0, o.outcome.1, record { formula = F; journal = J; unread = o.outcome.2 })
+  bad_input (BadInput code line) o e = bad_place code line o.outcome
+  bad_input CannotOpen o e = absurd (omega arith)
   bad_input CannotCreate o e = absurd (omega arith)
   bad_input ReadFault o e = absurd (omega arith)
   bad_input WriteFault o e = absurd (omega arith)
   bad_input ProofFault o e = absurd (omega arith)
   bad_input Memory o e = absurd (omega arith)
 
-  cannot_create : (end : End) → CallOutcome end F J tally call → status_of end ≡ 4 → RoseIn call.files × IsSome (proof_path (command_of call.words)) × (call.run.proof ≡ None)
+  cannot_open : (end : End) → CallOutcome end F J tally call → status_of end ≡ 3 → IsUnopened call
+  cannot_open (Satisfiable model) o e = absurd (omega arith)
+  cannot_open Unsatisfiable o e = absurd (omega arith)
+  cannot_open Unknown o e = absurd (omega arith)
+  cannot_open Usage o e = absurd (omega arith)
+  cannot_open (BadInput code line) o e = absurd (omega arith)
+  cannot_open CannotOpen o e = record { rose = o.0; asked = o.1; nothing = record { no_file = o.2.no_file; no_proof = o.2.barren.no_proof } }
+  cannot_open CannotCreate o e = absurd (omega arith)
+  cannot_open ReadFault o e = absurd (omega arith)
+  cannot_open WriteFault o e = absurd (omega arith)
+  cannot_open ProofFault o e = absurd (omega arith)
+  cannot_open Memory o e = absurd (omega arith)
+
+  cannot_create : (end : End) → CallOutcome end F J tally call → status_of end ≡ 4 → IsUncreated call
   cannot_create (Satisfiable model) o e = absurd (omega arith)
   cannot_create Unsatisfiable o e = absurd (omega arith)
   cannot_create Unknown o e = absurd (omega arith)
   cannot_create Usage o e = absurd (omega arith)
-  cannot_create BadInput o e = absurd (omega arith)
-  cannot_create CannotCreate o e = (o.0, o.1, o.2.no_proof)
+  cannot_create (BadInput code line) o e = absurd (omega arith)
+  cannot_create CannotOpen o e = absurd (omega arith)
+  cannot_create CannotCreate o e = record { rose = o.0; asked = o.1; file = o.2; no_proof = o.3.no_proof }
   cannot_create ReadFault o e = absurd (omega arith)
   cannot_create WriteFault o e = absurd (omega arith)
   cannot_create ProofFault o e = absurd (omega arith)
   cannot_create Memory o e = absurd (omega arith)
 
-  read_fault : (end : End) → CallOutcome end F J tally call → status_of end ≡ 5 → RoseIn call.run.source × LeftUnread call tally
+  read_fault : (end : End) → CallOutcome end F J tally call → status_of end ≡ 5 → RoseIn (source_of call) × LeftUnread call tally
   read_fault (Satisfiable model) o e = absurd (omega arith)
   read_fault Unsatisfiable o e = absurd (omega arith)
   read_fault Unknown o e = absurd (omega arith)
   read_fault Usage o e = absurd (omega arith)
-  read_fault BadInput o e = absurd (omega arith)
+  read_fault (BadInput code line) o e = absurd (omega arith)
+  read_fault CannotOpen o e = absurd (omega arith)
   read_fault CannotCreate o e = absurd (omega arith)
-  read_fault ReadFault o e = (o.outcome.0, record { formula = F; journal = J; unread = o.outcome.1 })
+  read_fault ReadFault o e = (o.outcome.0, record { formula = F; journal = J; broken = o.outcome.1 })
   read_fault WriteFault o e = absurd (omega arith)
   read_fault ProofFault o e = absurd (omega arith)
   read_fault Memory o e = absurd (omega arith)
 
-  write_fault : (end : End) → CallOutcome end F J tally call → status_of end ≡ 6 → RoseIn call.run.out.faults × LeftUnprinted call tally
+  write_fault : (end : End) → CallOutcome end F J tally call → status_of end ≡ 6 → RoseIn call.out.faults × LeftUnprinted call tally
   write_fault (Satisfiable model) o e = absurd (omega arith)
   write_fault Unsatisfiable o e = absurd (omega arith)
   write_fault Unknown o e = absurd (omega arith)
   write_fault Usage o e = absurd (omega arith)
-  write_fault BadInput o e = absurd (omega arith)
+  write_fault (BadInput code line) o e = absurd (omega arith)
+  write_fault CannotOpen o e = absurd (omega arith)
   write_fault CannotCreate o e = absurd (omega arith)
   write_fault ReadFault o e = absurd (omega arith)
   write_fault WriteFault o e = (o.outcome.rose, record { formula = F; journal = J; cut_off = o.outcome })
   write_fault ProofFault o e = absurd (omega arith)
   write_fault Memory o e = absurd (omega arith)
 
-  proof_fault : (end : End) → CallOutcome end F J tally call → status_of end ≡ 7 → IsSomeAnd call.run.proof (λ writer. Rose 0 writer.faults) × LeftUnproved call tally
+  proof_fault : (end : End) → CallOutcome end F J tally call → status_of end ≡ 7 → IsSomeAnd call.proof (λ writer. Rose 0 writer.faults) × LeftUnproved call tally
   proof_fault (Satisfiable model) o e = absurd (omega arith)
   proof_fault Unsatisfiable o e = absurd (omega arith)
   proof_fault Unknown o e = absurd (omega arith)
   proof_fault Usage o e = absurd (omega arith)
-  proof_fault BadInput o e = absurd (omega arith)
+  proof_fault (BadInput code line) o e = absurd (omega arith)
+  proof_fault CannotOpen o e = absurd (omega arith)
   proof_fault CannotCreate o e = absurd (omega arith)
   proof_fault ReadFault o e = absurd (omega arith)
   proof_fault WriteFault o e = absurd (omega arith)
   proof_fault ProofFault o e = (o.outcome.rose, record { formula = F; journal = J; unproved = o.outcome })
   proof_fault Memory o e = absurd (omega arith)
 
-  known : (end : End) → CallOutcome end F J tally call → IsAnswer (status_of end) ⊎ (status_of end ≡ 1) ⊎ (status_of end ≡ 2) ⊎ (status_of end ≡ 4) ⊎ (status_of end ≡ 5) ⊎ (status_of end ≡ 6) ⊎ (status_of end ≡ 7) ⊎ (status_of end ≡ 9)
+  made_broken : IsBroken F J tally (run_of call) → IsSome call.proof
+  made_broken b = there (HoldsLog F.clauses J) call.proof b.unread.log
+
+  made_started : IsStarted F J tally (run_of call) → IsSome call.proof
+  made_started s = there (HoldsLog F.clauses J) call.proof s.log
+
+  -- memory ran out before anything was made, or behind that
+  out_of_memory : (IsStill call.files × IsIdle J tally call) ⊎ IsWhole Memory F J tally call → (MadeNothing call × IsStill call.files × IsStill call.input) ⊎ MadeAll call
+  out_of_memory (inl h) = inl (record { no_file = h.1.no_file; no_proof = h.1.barren.no_proof }, h.0, h.1.barren.input)
+  out_of_memory (inr o) = inr (record { file = o.file; proof = ⊎_elim made_broken made_started o.outcome })
+
+  memory : (end : End) → CallOutcome end F J tally call → status_of end ≡ 9 → (MadeNothing call × IsStill call.files × IsStill call.input) ⊎ MadeAll call
+  memory (Satisfiable model) o e = absurd (omega arith)
+  memory Unsatisfiable o e = absurd (omega arith)
+  memory Unknown o e = absurd (omega arith)
+  memory Usage o e = absurd (omega arith)
+  memory (BadInput code line) o e = absurd (omega arith)
+  memory CannotOpen o e = absurd (omega arith)
+  memory CannotCreate o e = absurd (omega arith)
+  memory ReadFault o e = absurd (omega arith)
+  memory WriteFault o e = absurd (omega arith)
+  memory ProofFault o e = absurd (omega arith)
+  memory Memory o e = out_of_memory o
+
+  known : (end : End) → CallOutcome end F J tally call → IsAnswer (status_of end) ⊎ (status_of end ≡ 1) ⊎ (status_of end ≡ 2) ⊎ (status_of end ≡ 3) ⊎ (status_of end ≡ 4) ⊎ (status_of end ≡ 5) ⊎ (status_of end ≡ 6) ⊎ (status_of end ≡ 7) ⊎ (status_of end ≡ 9)
   known (Satisfiable model) o = search rules
   known Unsatisfiable o = search rules
   known Unknown o = search rules
   known Usage o = search rules
-  known BadInput o = search rules
+  known (BadInput code line) o = search rules
+  known CannotOpen o = search rules
   known CannotCreate o = search rules
   known ReadFault o = search rules
   known WriteFault o = search rules
@@ -181,86 +250,96 @@ module _ (F : FormulaData) (J : List Entry) (tally : Tally) (call : Call) where
   no_model Unsatisfiable o n = refl
   no_model Unknown o n = refl
   no_model Usage o n = refl
-  no_model BadInput o n = refl
+  no_model (BadInput code line) o n = refl
+  no_model CannotOpen o n = refl
   no_model CannotCreate o n = refl
   no_model ReadFault o n = refl
   no_model WriteFault o n = refl
   no_model ProofFault o n = refl
   no_model Memory o n = refl
 
-  proof_there : (end : End) → CallOutcome end F J tally call → status_of end ≢ 1 → status_of end ≢ 4 → IsSome call.run.proof
-  proof_there (Satisfiable model) o n m = there (HoldsLog F.clauses J) call.run.proof o.outcome.started.log
-  proof_there Unsatisfiable o n m = there (HoldsLog F.clauses J) call.run.proof o.outcome.started.log
-  proof_there Unknown o n m = there (HoldsLog F.clauses J) call.run.proof o.outcome.started.log
-  proof_there Usage o n m = absurd (n refl)
-  proof_there BadInput o n m = there (HoldsLog F.clauses J) call.run.proof o.outcome.2.log
-  proof_there CannotCreate o n m = absurd (m refl)
-  proof_there ReadFault o n m = there (HoldsLog F.clauses J) call.run.proof o.outcome.1.log
-  proof_there WriteFault o n m = there (HoldsLog F.clauses J) call.run.proof o.outcome.started.log
-  proof_there ProofFault o n m = there (HoldsLog F.clauses J) call.run.proof o.outcome.started.log
-  proof_there Memory o n m = ⊎_elim (λ (u : IsUnread F J tally call.run). there (HoldsLog F.clauses J) call.run.proof u.log) (λ (s : IsStarted F J tally call.run). there (HoldsLog F.clauses J) call.run.proof s.log) o.outcome
+  made : (end : End) → CallOutcome end F J tally call → status_of end ≢ 1 → status_of end ≢ 3 → status_of end ≢ 4 → status_of end ≢ 9 → MadeAll call
+  made (Satisfiable model) o a b c d = record { file = o.file; proof = made_started o.outcome.started }
+  made Unsatisfiable o a b c d = record { file = o.file; proof = made_started o.outcome.started }
+  made Unknown o a b c d = record { file = o.file; proof = made_started o.outcome.started }
+  made Usage o a b c d = absurd (a refl)
+  made (BadInput code line) o a b c d = record { file = o.file; proof = there (HoldsLog F.clauses J) call.proof o.outcome.unread.log }
+  made CannotOpen o a b c d = absurd (b refl)
+  made CannotCreate o a b c d = absurd (c refl)
+  made ReadFault o a b c d = record { file = o.file; proof = made_broken o.outcome.1 }
+  made WriteFault o a b c d = record { file = o.file; proof = made_started o.outcome.started }
+  made ProofFault o a b c d = record { file = o.file; proof = made_started o.outcome.started }
+  made Memory o a b c d = absurd (d refl)
 
-  started : IsStarted F J tally call.run → HasJournal call
-  started s = record { formula = F; journal = J; stands = s.journal_stands; of_input = inr s.read; held = if_there (HoldsLog F.clauses J) call.run.proof s.log }
+  started : IsStarted F J tally (run_of call) → HasJournal call
+  started s = record { formula = F; journal = J; stands = s.journal_stands; of_input = inr s.read; held = if_there (HoldsLog F.clauses J) call.proof s.log }
 
-  unread : IsUnread F J tally call.run → HasJournal call
-  unread u = record { formula = F; journal = J; stands = subst (IsJournal 1 F.clauses) (sym u.nothing) (empty_journal F.clauses); of_input = inl u.nothing; held = if_there (HoldsLog F.clauses J) call.run.proof u.log }
+  unread : IsUnread F J (run_of call) → HasJournal call
+  unread u = record { formula = F; journal = J; stands = subst (IsJournal 1 F.clauses) (sym u.nothing) (empty_journal F.clauses); of_input = inl u.nothing; held = if_there (HoldsLog F.clauses J) call.proof u.log }
 
   barren : IsBarren J tally call → HasJournal call
-  barren b = record { formula = F; journal = J; stands = subst (IsJournal 1 F.clauses) (sym b.nothing) (empty_journal F.clauses); of_input = inl b.nothing; held = if_none (HoldsLog F.clauses J) call.run.proof b.no_proof }
+  barren b = record { formula = F; journal = J; stands = subst (IsJournal 1 F.clauses) (sym b.nothing) (empty_journal F.clauses); of_input = inl b.nothing; held = if_none (HoldsLog F.clauses J) call.proof b.no_proof }
+
+  stopped : (IsStill call.files × IsIdle J tally call) ⊎ IsWhole Memory F J tally call → HasJournal call
+  stopped (inl h) = barren h.1.barren
+  stopped (inr o) = ⊎_elim (λ (b : IsBroken F J tally (run_of call)). unread b.unread) started o.outcome
 
   journaled : (end : End) → CallOutcome end F J tally call → HasJournal call
   journaled (Satisfiable model) o = started o.outcome.started
   journaled Unsatisfiable o = started o.outcome.started
   journaled Unknown o = started o.outcome.started
-  journaled Usage o = barren o.1
-  journaled BadInput o = unread o.outcome.2
-  journaled CannotCreate o = barren o.2
-  journaled ReadFault o = unread o.outcome.1
+  journaled Usage o = barren o.1.barren
+  journaled (BadInput code line) o = unread o.outcome.unread
+  journaled CannotOpen o = barren o.2.barren
+  journaled CannotCreate o = barren o.3
+  journaled ReadFault o = unread o.outcome.1.unread
   journaled WriteFault o = started o.outcome.started
   journaled ProofFault o = started o.outcome.started
-  journaled Memory o = ⊎_elim unread started o.outcome
+  journaled Memory o = stopped o
 
-  module _ (must : MustAnswer call) where
-    readable : IsUnreadable call.run.text → ⊥
-    readable no_formula = let P : Option (List ℕ) → Type 0 = IsUnreadable in (subst P must.told no_formula) must.formula must.spelled
+  module _ (apart : Apart) (must : MustAnswer call) where
+    readable : (code : Code) (line : ℕ) → WasBad (text_of call) code line → ⊥
+    readable code line bad = apart must.text must.formula code line must.spelled (subst (λ (t : Option (List ℕ)). WasBad t code line) must.told bad)
 
     complete : (end : End) → CallOutcome end F J tally call → IsAnswer (status_of end) ⊎ (status_of end ≡ 9)
     complete (Satisfiable model) o = search rules
     complete Unsatisfiable o = search rules
     complete Unknown o = search rules
     complete Usage o = absurd (cc (must.lawful, o.0))
-    complete BadInput o = absurd (readable o.outcome.0)
+    complete (BadInput code line) o = absurd (readable code line o.outcome.bad)
+    complete CannotOpen o = absurd (must.files o.0)
     complete CannotCreate o = absurd (must.files o.0)
     complete ReadFault o = absurd (must.source o.outcome.0)
     complete WriteFault o = absurd (must.out o.outcome.rose)
-    complete ProofFault o = absurd (unhurt call.run.proof o.outcome.rose must.proof)
+    complete ProofFault o = absurd (unhurt call.proof o.outcome.rose must.proof)
     complete Memory o = search rules
 
-  statuses_of : (end : End) → CallOutcome end F J tally call → Statuses call (status_of end) (model_of end) tally
-  statuses_of end o = record {
+  statuses_of : (apart : Apart) (end : End) → CallOutcome end F J tally call → Statuses call (status_of end) (model_of end) tally
+  statuses_of apart end o = record {
     satisfiable = satisfiable end o;
     unsatisfiable = unsatisfiable end o;
     unknown = unknown end o;
     usage = usage end o;
     refused = refused end o;
     bad_input = bad_input end o;
+    cannot_open = cannot_open end o;
     cannot_create = cannot_create end o;
     read_fault = read_fault end o;
     write_fault = write_fault end o;
     proof_fault = proof_fault end o;
+    memory = memory end o;
     known = known end o;
     no_model = no_model end o;
-    proof_there = proof_there end o;
+    made = made end o;
     journal = journaled end o;
-    complete = λ must. complete must end o;
+    complete = λ must. complete apart must end o;
   }
 
 -- what a report says by its end, it says by its status
-pub headline : (call : Call) (end : End) (tally : Tally) (status : ℕ) (model : Option (List Bool)) → IsCall end tally call → status ≡ status_of end → model ≡ model_of end → Headline call status model tally
-headline call end tally status model c s m =
+pub headline : (apart : Apart) (call : Call) (end : End) (tally : Tally) (status : ℕ) (model : Option (List Bool)) → IsCall end tally call → status ≡ status_of end → model ≡ model_of end → Headline call status model tally
+headline apart call end tally status model c s m =
     let o = c.outcome in
-    let start = statuses_of c.formula c.journal tally call end o in
+    let start = statuses_of c.formula c.journal tally call apart end o in
     let at_status = subst (λ (n : ℕ). Statuses call n (model_of end) tally) (sym s) start in
     record {
       reports = record { end = end; formula = c.formula; journal = c.journal; status_is = s; model_is = m; outcome = o };

@@ -23,7 +23,7 @@ use Rattle.drat_text.specs.Text.{line_text}
 use Rattle.gimsatul.specs.declared.search.SearchStop.{SearchStop}
 use Rattle.gimsatul.specs.Searched.{WasPut}
 use Rattle.gimsatul.proofs.Ledgers.{Ledger, ledger_learn, one_of_all}
-use Rattle.gimsatul.specs.Plain.{IsOn}
+use Rattle.dimacs_read.specs.Input.{IsOn}
 use Rattle.gimsatul.specs.Decisions.{no_literal, yes_literal, IsDecided}
 
 -- a conflict

@@ -8,7 +8,6 @@ use Rattle.rup_model.specs.declared.journal.Entry.{Entry}
 use Rattle.rup_model.specs.Log.{Refutes}
 use Rattle.rup_model.specs.Journal.{lines}
 use Rattle.rup_model.specs.Spent.{Spent}
-use Rattle.gimsatul.specs.declared.search.TheConstants.{LEMMA_LIMIT}
 use Rattle.gimsatul.specs.declared.report.Verdict.{Verdict}
 use Rattle.gimsatul.specs.declared.report.Verdict.TheVariants.{Satisfiable, Unsatisfiable, Unknown}
 
@@ -31,11 +30,12 @@ pub record IsRefutation (clauses : List (List Literal)) (journal : List Entry) :
   pub refuted : Refutes clauses (lines clauses journal)
   pub no_model : (model : List Bool) → formula_true model clauses ≡ true → ⊥
 
--- one ring has learned its limit of lemmas
-abbrev pub IsSpent : List (List Literal) → List Entry → Type 0
-IsSpent clauses journal = Spent clauses journal 1 LEMMA_LIMIT
+-- one ring has learned so many lemmas, its limit
+abbrev pub IsSpent : ℕ → List (List Literal) → List Entry → Type 0
+IsSpent limit clauses journal = Spent clauses journal 1 limit
 
-abbrev pub Decides : FormulaData → List Entry → Verdict → Type 0
-Decides formula journal (Satisfiable model) = IsModel formula model
-Decides formula journal Unsatisfiable = IsRefutation formula.clauses journal
-Decides formula journal Unknown = IsSpent formula.clauses journal
+-- the verdict holds, of a ring that may learn so many lemmas
+abbrev pub Decides : ℕ → FormulaData → List Entry → Verdict → Type 0
+Decides limit formula journal (Satisfiable model) = IsModel formula model
+Decides limit formula journal Unsatisfiable = IsRefutation formula.clauses journal
+Decides limit formula journal Unknown = IsSpent limit formula.clauses journal

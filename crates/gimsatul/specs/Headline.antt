@@ -5,7 +5,7 @@ use Rattle.std.specs.declared.option.Option.{Option}
 use Rattle.sat_words.specs.FormulaData.{FormulaData}
 use Rattle.rup_model.specs.declared.journal.Entry.{Entry}
 use Rattle.gimsatul.specs.declared.report.End.{End}
-use Rattle.gimsatul.specs.declared.report.End.TheVariants.{Satisfiable, Unsatisfiable, Unknown, Usage, BadInput, CannotCreate, ReadFault, WriteFault, ProofFault, Memory}
+use Rattle.gimsatul.specs.declared.report.End.TheVariants.{Satisfiable, Unsatisfiable, Unknown, Usage, BadInput, CannotOpen, CannotCreate, ReadFault, WriteFault, ProofFault, Memory}
 use Rattle.gimsatul.specs.declared.report.Tally.{Tally}
 use Rattle.gimsatul.specs.Run.{Call}
 use Rattle.gimsatul.specs.Outcome.{CallOutcome}
@@ -16,7 +16,8 @@ status_of (Satisfiable model) = 10
 status_of Unsatisfiable = 20
 status_of Unknown = 0
 status_of Usage = 1
-status_of BadInput = 2
+status_of (BadInput code line) = 2
+status_of CannotOpen = 3
 status_of CannotCreate = 4
 status_of ReadFault = 5
 status_of WriteFault = 6
@@ -28,7 +29,8 @@ model_of (Satisfiable model) = Some model
 model_of Unsatisfiable = None
 model_of Unknown = None
 model_of Usage = None
-model_of BadInput = None
+model_of (BadInput code line) = None
+model_of CannotOpen = None
 model_of CannotCreate = None
 model_of ReadFault = None
 model_of WriteFault = None

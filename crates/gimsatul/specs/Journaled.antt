@@ -11,7 +11,7 @@ use Rattle.rup_model.specs.Log.{Accepted, lits_of}
 use Rattle.rup_model.specs.Journal.{lines, ring_of, Fits, EmptyLast}
 use Rattle.rup_model.specs.Spent.{rings_part}
 use Rattle.drat_text.specs.Text.{text, line_text}
-use Rattle.gimsatul.specs.Plain.{IsOn}
+use Rattle.dimacs_read.specs.Input.{IsOn}
 use Rattle.gimsatul.specs.Run.{Writer}
 
 -- each variable of the lines is one that a proof may name: 1 to 2^30

@@ -1,6 +1,6 @@
 pub mod Words
 pub mod Plain
-pub mod PlainParts
+pub mod Input
 pub mod Answer
 pub mod Ends
 pub mod Run

@@ -6,28 +6,41 @@ use Rattle.io_edge.specs.Paths.{IsEmptyWhereTold}
 use Rattle.sat_words.specs.FormulaData.{FormulaData}
 use Rattle.rup_model.specs.declared.journal.Entry.{Entry}
 use Rattle.rup_model.specs.Journal.{learned}
+use Rattle.dimacs_read.specs.Codes.{number_of}
+use Rattle.dimacs_read.specs.declared.stop.Code.{Code}
 use Rattle.gimsatul.specs.declared.report.Tally.{Tally}
 use Rattle.gimsatul.specs.declared.report.End.{End}
 use Rattle.gimsatul.specs.declared.report.End.TheVariants as end
 use Rattle.gimsatul.specs.declared.report.Verdict.{Verdict}
 use Rattle.gimsatul.specs.declared.report.Verdict.TheVariants as verdict
-use Rattle.gimsatul.specs.Words.{command_of, proof_path}
-use Rattle.gimsatul.specs.Plain.{WasRead, IsUnreadable}
+use Rattle.gimsatul.specs.Words.{command_of, file_path, proof_path}
+use Rattle.gimsatul.specs.Input.{WasRead, WasBad}
 use Rattle.gimsatul.specs.Answer.{answer_text}
-use Rattle.gimsatul.specs.Run.{Count, Writer, Output, Run, Call, RoseIn, IsStill, Prints, PrintsPart}
+use Rattle.gimsatul.specs.Run.{Count, Writer, Output, Run, Call, run_of, HasFile, RoseIn, IsStill, Prints, PrintsPart}
 use Rattle.gimsatul.specs.Journaled.{IsJournal, HoldsLog}
 use Rattle.gimsatul.specs.Decided.{Decides}
-use Rattle.gimsatul.specs.Tallied.{no_tally, ring_tally}
+use Rattle.gimsatul.specs.Tallied.{no_tally, ring_tally, bad_tally}
 
 -- the proof's writer is there, and holds the journal
 abbrev pub HasLog : FormulaData → List Entry → Run → Type 0
 HasLog formula journal run = IsSomeAnd run.proof (HoldsLog formula.clauses journal)
 
--- no formula was read: the proof's writer is there, with no byte, and nothing was counted
-pub record IsUnread (formula : FormulaData) (journal : List Entry) (tally : Tally) (run : Run) : Type 0 where
+-- no formula was read: the proof's writer is there, with no byte
+pub record IsUnread (formula : FormulaData) (journal : List Entry) (run : Run) : Type 0 where
   pub log : HasLog formula journal run
   pub nothing : journal ≡ []
   pub empty : IfSome run.proof (λ writer. IsEmptyWhereTold writer.written)
+
+-- the text is bad first in this line, with this code, and the source didn't fail
+pub record IsRefused (code : Code) (line : ℕ) (formula : FormulaData) (journal : List Entry) (tally : Tally) (run : Run) : Type 0 where
+  pub bad : WasBad run.text code line
+  pub counts : tally ≡ bad_tally (number_of code) line
+  pub source : IsStill run.source
+  pub unread : IsUnread formula journal run
+
+-- the source failed, or memory ran out, before a formula was read
+pub record IsBroken (formula : FormulaData) (journal : List Entry) (tally : Tally) (run : Run) : Type 0 where
+  pub unread : IsUnread formula journal run
   pub counts : tally ≡ no_tally
 
 -- the formula was read without a fault and the ring started; its journal stands, and counts the lemmas
@@ -46,7 +59,7 @@ pub record IsQuiet (run : Run) : Type 0 where
 -- the verdict holds, and its text is printed, and nothing else
 pub record IsAnswered (verdict : Verdict) (formula : FormulaData) (journal : List Entry) (tally : Tally) (run : Run) : Type 0 where
   pub started : IsStarted formula journal tally run
-  pub decided : Decides formula journal verdict
+  pub decided : Decides run.limit formula journal verdict
   pub printed : Prints run.out (answer_text formula.vars verdict)
   pub quiet : IsQuiet run
 
@@ -54,7 +67,7 @@ pub record IsAnswered (verdict : Verdict) (formula : FormulaData) (journal : Lis
 pub record IsCutOff (formula : FormulaData) (journal : List Entry) (tally : Tally) (run : Run) : Type 0 where
   pub started : IsStarted formula journal tally run
   pub verdict : Verdict
-  pub decided : Decides formula journal verdict
+  pub decided : Decides run.limit formula journal verdict
   pub proof : IsSomeAnd run.proof (λ writer. writer.faults ≡ 0)
   pub printed : PrintsPart run.out (answer_text formula.vars verdict)
   pub rose : RoseIn run.out.faults
@@ -69,12 +82,13 @@ Outcome (end.Satisfiable model) F J tally run = IsAnswered (verdict.Satisfiable 
 Outcome end.Unsatisfiable F J tally run = IsAnswered verdict.Unsatisfiable F J tally run
 Outcome end.Unknown F J tally run = IsAnswered verdict.Unknown F J tally run
 Outcome end.Usage F J tally run = ⊥
-Outcome end.BadInput F J tally run = IsUnreadable run.text × IsStill run.source × IsUnread F J tally run
+Outcome (end.BadInput code line) F J tally run = IsRefused code line F J tally run
+Outcome end.CannotOpen F J tally run = ⊥
 Outcome end.CannotCreate F J tally run = ⊥
-Outcome end.ReadFault F J tally run = RoseIn run.source × IsUnread F J tally run
+Outcome end.ReadFault F J tally run = RoseIn run.source × IsBroken F J tally run
 Outcome end.WriteFault F J tally run = IsCutOff F J tally run
 Outcome end.ProofFault F J tally run = IsUnproved F J tally run
-Outcome end.Memory F J tally run = IsUnread F J tally run ⊎ IsStarted F J tally run
+Outcome end.Memory F J tally run = IsBroken F J tally run ⊎ IsStarted F J tally run
 
 -- how a run over a source ended
 pub record IsRun (end : End) (tally : Tally) (run : Run) : Type 0 where
@@ -83,35 +97,42 @@ pub record IsRun (end : End) (tally : Tally) (run : Run) : Type 0 where
   pub outcome : Outcome end formula journal tally run
 
 -- how a run ended whose formula was read, over every source that it may have been read from
-abbrev pub Concluded : FormulaData → End → Tally → Writer → Output → Type 0
-Concluded formula end tally writer out = (text : Option (List ℕ)) (source : Count) → WasRead text formula → IsStill source
-    → IsRun end tally (record { text = text; source = source; proof = Some writer; out = out })
+abbrev pub Concluded : ℕ → FormulaData → End → Tally → Writer → Output → Type 0
+Concluded limit formula end tally writer out = (text : Option (List ℕ)) (source : Count) → WasRead text formula → IsStill source
+    → IsRun end tally (record { limit = limit; text = text; source = source; proof = Some writer; out = out })
 
--- nothing was created, so nothing was read, logged or counted
+-- no proof was created, so nothing was read, logged or counted
 pub record IsBarren (journal : List Entry) (tally : Tally) (call : Call) : Type 0 where
-  pub no_proof : call.run.proof ≡ None
+  pub no_proof : call.proof ≡ None
   pub nothing : journal ≡ []
   pub counts : tally ≡ no_tally
   pub input : IsStill call.input
 
--- the words were lawful, no file failed, and standard input was read
+-- nothing was opened either
+pub record IsIdle (journal : List Entry) (tally : Tally) (call : Call) : Type 0 where
+  pub barren : IsBarren journal tally call
+  pub no_file : call.file ≡ None
+
+-- the words were lawful, and no file failed; the file was read where one is given, else standard input
 pub record IsWhole (end : End) (formula : FormulaData) (journal : List Entry) (tally : Tally) (call : Call) : Type 0 where
   pub lawful : IsSome (command_of call.words)
-  pub outcome : Outcome end formula journal tally call.run
+  pub file : HasFile call
+  pub outcome : Outcome end formula journal tally (run_of call)
   pub files : IsStill call.files
-  pub from_input : call.run.source ≡ call.input
+  pub input : (call.file ≡ None) ⊎ IsStill call.input
 
 abbrev pub CallOutcome : End → FormulaData → List Entry → Tally → Call → Type 0
 CallOutcome (end.Satisfiable model) F J tally call = IsWhole (end.Satisfiable model) F J tally call
 CallOutcome end.Unsatisfiable F J tally call = IsWhole end.Unsatisfiable F J tally call
 CallOutcome end.Unknown F J tally call = IsWhole end.Unknown F J tally call
-CallOutcome end.Usage F J tally call = (command_of call.words ≡ None) × IsBarren J tally call
-CallOutcome end.BadInput F J tally call = IsWhole end.BadInput F J tally call
-CallOutcome end.CannotCreate F J tally call = RoseIn call.files × IsSome (proof_path (command_of call.words)) × IsBarren J tally call
+CallOutcome end.Usage F J tally call = (command_of call.words ≡ None) × IsIdle J tally call
+CallOutcome (end.BadInput code line) F J tally call = IsWhole (end.BadInput code line) F J tally call
+CallOutcome end.CannotOpen F J tally call = RoseIn call.files × IsSome (file_path (command_of call.words)) × IsIdle J tally call
+CallOutcome end.CannotCreate F J tally call = RoseIn call.files × IsSome (proof_path (command_of call.words)) × HasFile call × IsBarren J tally call
 CallOutcome end.ReadFault F J tally call = IsWhole end.ReadFault F J tally call
 CallOutcome end.WriteFault F J tally call = IsWhole end.WriteFault F J tally call
 CallOutcome end.ProofFault F J tally call = IsWhole end.ProofFault F J tally call
-CallOutcome end.Memory F J tally call = IsWhole end.Memory F J tally call
+CallOutcome end.Memory F J tally call = (IsStill call.files × IsIdle J tally call) ⊎ IsWhole end.Memory F J tally call
 
 -- how a call ended
 pub record IsCall (end : End) (tally : Tally) (call : Call) : Type 0 where

@@ -1,20 +1,15 @@
 -- The plain form of input: the line `p cnf V C`, and after it C clauses, each a line of literals that ends with 0.
-use Rattle.std.specs.Prelude.{◌≡◌, ◌≤◌, ◌<◌, ◌^◌, ℕ, List, ◌++◌, map, length, All, codes, decimal, IfSome}
-use Rattle.std.specs.declared.option.Option.{Option}
+use Rattle.std.specs.Prelude.{◌≡◌, ◌≤◌, ◌<◌, ◌^◌, ℕ, List, ◌++◌, map, length, All, codes, decimal}
 use Rattle.sat_words.specs.Literal.{Literal}
 use Rattle.sat_words.specs.Clause.{clause_of}
 use Rattle.sat_words.specs.FormulaData.{FormulaData}
 use Rattle.sat_words.specs.declared.line.Line.TheVariants.{Add}
 use Rattle.drat_text.specs.Text.{text}
+use Rattle.dimacs_read.specs.Input.{IsOn}
 
 -- the first line: one space between its parts, and numbers without leading zeros
 abbrev pub header : ℕ → ℕ → List ℕ
 header vars clauses = codes "p cnf " ++ decimal vars ++ codes " " ++ decimal clauses ++ codes "\n"
-
--- the literal is on one of the variables 1 to `vars`
-pub record IsOn (vars : ℕ) (l : Literal) : Type 0 where
-  pub low : 1 ≤ l.var
-  pub high : l.var ≤ vars
 
 -- a clause as it is written: at most 2^20 literals, each on the variables
 pub record IsWritten (vars : ℕ) (lits : List Literal) : Type 0 where
@@ -30,11 +25,3 @@ pub record Plain (bytes : List ℕ) (formula : FormulaData) : Type 0 where
   pub few_variables : formula.vars < 2 ^ 28
   pub few_clauses : length written < 2 ^ 28
   pub few_bytes : length bytes ≤ 2 ^ 33
-
--- the text, where it is told, spells the formula
-abbrev pub WasRead : Option (List ℕ) → FormulaData → Type 0
-WasRead text formula = IfSome text (λ bytes. Plain bytes formula)
-
--- the text, where it is told, spells no formula
-abbrev pub IsUnreadable : Option (List ℕ) → Type 0
-IsUnreadable text = IfSome text (λ bytes. (formula : FormulaData) → Plain bytes formula → ⊥)

@@ -17,16 +17,16 @@ use Rattle.gimsatul.specs.Journaled.{IsJournal, HoldsText, IsCutShort}
 use Rattle.gimsatul.specs.Decided.{Decides}
 
 -- a verdict that holds of the journal; or the cause of none
-abbrev pub Concludes : FormulaData → List Entry → ℕ → Result Verdict SearchStop → Type 0
-Concludes formula journal faults (Ok verdict) = (faults ≡ 0) × Decides formula journal verdict
-Concludes formula journal faults (Err ProofFault) = Rose 0 faults
-Concludes formula journal faults (Err Memory) = faults ≡ 0
+abbrev pub Concludes : ℕ → FormulaData → List Entry → ℕ → Result Verdict SearchStop → Type 0
+Concludes limit formula journal faults (Ok verdict) = (faults ≡ 0) × Decides limit formula journal verdict
+Concludes limit formula journal faults (Err ProofFault) = Rose 0 faults
+Concludes limit formula journal faults (Err Memory) = faults ≡ 0
 
-pub record IsSearch (formula : FormulaData) (searched : Searched) (faults : ℕ) (written : Option (List ℕ)) : Type 0 where
+pub record IsSearch (limit : ℕ) (formula : FormulaData) (searched : Searched) (faults : ℕ) (written : Option (List ℕ)) : Type 0 where
   pub journal : List Entry
   pub stands : IsJournal 1 formula.clauses journal
   pub counts : searched.learned ≡ length (learned 0 journal)
-  pub conclusion : Concludes formula journal faults searched.verdict
+  pub conclusion : Concludes limit formula journal faults searched.verdict
   pub whole : faults ≡ 0 → HoldsText written (text (lines formula.clauses journal))
   pub short : (faults ≡ 0 → ⊥) → IsCutShort formula.clauses journal written
 

@@ -9,3 +9,7 @@ no_tally = record { learned = []; offered = []; exported = []; need = 0; largest
 -- once the ring was to start: so many lemmas learned, none of them offered
 abbrev pub ring_tally : ℕ → Tally
 ring_tally learned = record { learned = learned ∷ []; offered = 0 ∷ []; exported = 0 ∷ []; need = 0; largest = 0; code = 0; line = 0 }
+
+-- where the input was refused, with the number of the code and the line
+abbrev pub bad_tally : ℕ → ℕ → Tally
+bad_tally code line = record no_tally { code = code; line = line }

@@ -1,28 +1,97 @@
--- The lawful words of the command line: none, or `--proof PATH`, where the path doesn't begin with a dash.
-use Rattle.std.specs.Prelude.{ℕ, List, [], ◌∷◌, Bool, true, not, ◌&&◌, ◌==◌, Some, None, if◌then◌else◌, codes}
-use Rattle.std.specs.Str.{bytes_eq}
+-- The command line, as `clap` reads it: the arguments that the program has, and what the words ask for.
+use Rattle.std.specs.Prelude.{◌≡◌, ℕ, ◌^◌, List, [], ◌∷◌, true, Some, None, codes}
 use Rattle.std.specs.declared.option.Option.{Option}
+use Rattle.std.specs.Str.Parse.{digits_value, without_leading_plus}
+use Rattle.clap.specs.Words.{App, Kinds, Row, Rule, fault_of, first_of, matches_of, one_of, found_of, one_text, IsUnsignedIn, new_app, new_rule, with_rule}
+use Rattle.clap.specs.Simple.{on_top}
+use Rattle.clap.specs.declared.parser.matches.ArgMatches.{ArgMatches}
+use Rattle.clap.specs.declared.builder.action.ArgAction.TheVariants.{Set, SetTrue}
+use Rattle.clap.specs.declared.builder.value_parser.ValueParser.TheVariants.{Unsigned}
+
+-- `--conflicts N`, with N from 1 to 10^12; without it N is 10^9
+abbrev pub conflicts_rule : Rule
+conflicts_rule = record (new_rule (codes "conflicts")) {
+  long = Some (codes "conflicts");
+  action = Some Set;
+  parser = Some (Unsigned 1 (10 ^ 12));
+  defaults = codes "1000000000" ∷ [];
+}
+
+-- `--threads N`, with N from 1 to 1; without it N is 1
+abbrev pub threads_rule : Rule
+threads_rule = record (new_rule (codes "threads")) {
+  long = Some (codes "threads");
+  parser = Some (Unsigned 1 1);
+  defaults = codes "1" ∷ [];
+}
+
+-- `--proof PATH`
+abbrev pub proof_rule : Rule
+proof_rule = record (new_rule (codes "proof")) { long = Some (codes "proof") }
+
+-- `--no-simplify`
+abbrev pub no_simplify_rule : Rule
+no_simplify_rule = record (new_rule (codes "no-simplify")) { long = Some (codes "no-simplify"); action = Some SetTrue }
+
+-- FILE
+abbrev pub file_rule : Rule
+file_rule = new_rule (codes "file")
+
+-- a command whose words have no program's name before them, with no flag for help and none for the version
+abbrev pub bare_app : App
+bare_app = on_top (λ s. record s { no_binary_name = true; disable_help_flag = true; disable_version_flag = true }) (new_app (codes "gimsatul"))
+
+-- the program's command
+abbrev pub solver_app : App
+solver_app = with_rule (with_rule (with_rule (with_rule (with_rule bare_app conflicts_rule) threads_rule) proof_rule) no_simplify_rule) file_rule
 
 pub record Command : Type 0 where
+  -- how many lemmas the ring may learn
+  pub conflicts : ℕ
   -- where the proof goes, if it is wanted
   pub proof : Option (List ℕ)
+  -- where the input comes from, if not from standard input
+  pub file : Option (List ℕ)
 
--- a word that doesn't begin with a dash; the empty one is lawful
-abbrev pub is_path : List ℕ → Bool
-is_path [] = true
-is_path (byte ∷ rest) = not (byte == 45)
+-- the value of digits, with a plus sign before them or none
+abbrev pub number_in : Option (List ℕ) → ℕ
+number_in None = 0
+number_in (Some text) = digits_value 10 (without_leading_plus text)
 
-abbrev pub is_proof_flag : List ℕ → Bool
-is_proof_flag word = bytes_eq word (codes "--proof")
+-- what the matches say
+abbrev pub command_in : List Row → Command
+command_in rows = record {
+  conflicts = number_in (one_of (codes "conflicts") rows);
+  proof = first_of (codes "proof") rows;
+  file = first_of (codes "file") rows;
+}
 
--- what the words ask for; none where they are refused
-abbrev pub command_of : List (List ℕ) → Option Command
-command_of [] = Some (record { proof = None })
-command_of (a ∷ []) = None
-command_of (a ∷ b ∷ []) = if is_proof_flag a && is_path b then Some (record { proof = Some b }) else None
-command_of (a ∷ b ∷ c ∷ rest) = None
+-- the command, unless an error of some kind stands against the words
+abbrev pub unless_refused : Kinds → Command → Option Command
+unless_refused [] command = Some command
+unless_refused (kind ∷ kinds) command = None
+
+-- what the words ask for; none where `clap` refuses them for another cause than want of memory
+unfoldable pub command_of : List (List ℕ) → Option Command
+command_of words = unless_refused (fault_of solver_app words) (command_in (matches_of solver_app words))
 
 -- the path that is given for the proof
 abbrev pub proof_path : Option Command → Option (List ℕ)
 proof_path None = None
 proof_path (Some command) = command.proof
+
+-- the path that is given for the input
+abbrev pub file_path : Option Command → Option (List ℕ)
+file_path None = None
+file_path (Some command) = command.file
+
+-- how many lemmas the ring may learn
+abbrev pub conflicts_limit : Option Command → ℕ
+conflicts_limit None = 0
+conflicts_limit (Some command) = command.conflicts
+
+-- the matches have a number for `--conflicts`, in its range
+pub record HasLimit (matches : ArgMatches) : Type 0 where
+  pub text : List ℕ
+  pub given : one_text (found_of matches) (codes "conflicts") ≡ Some text
+  pub accepted : IsUnsignedIn 1 (10 ^ 12) text

@@ -5,15 +5,15 @@ ghost use Rattle.io_edge.specs.Bytes.{GrowsBy, GrowsByPart};
 ghost use Rattle.io_edge.specs.Causes.{HasCause};
 ghost use Rattle.io_edge.specs.Paths.{IsEmptyWhereTold};
 ghost use Rattle.gimsatul.specs.Answer.{answer_text};
-ghost use Rattle.gimsatul.specs.Ends.{end_of, end_of_stop, end_of_read, prints};
-ghost use Rattle.gimsatul.specs.Plain.{IsOn};
+ghost use Rattle.gimsatul.specs.Ends.{end_of, end_of_stop, end_of_read, tally_of_read, prints};
+ghost use Rattle.dimacs_read.specs.Input.{IsOn};
 ghost use Rattle.gimsatul.specs.Outcome.{Concluded, IsRun};
 ghost use Rattle.gimsatul.specs.Tallied.{no_tally, ring_tally};
 
 use crate::answer::answer_text_to;
-use crate::plain::{PlainStop, read_plain};
 use crate::report::{End, Tally, Verdict};
 use crate::search::{SearchStop, Searched, search};
+use dimacs_read::{ReadStop, read};
 use io_edge::{Failed, Sink, Source};
 use sat_words::Formula;
 use std::alloc::Global;
@@ -56,16 +56,18 @@ fn stop_end(stop: SearchStop) -> End
 fn decide_formula<P: Sink, O: Sink>(
     alloc: Global,
     formula: &Formula,
+    limit: u64,
     proof: &mut P,
     out: &mut O,
     tally: &mut Tally,
 ) -> End
+    requires some { 1 ≤ limit }
     requires few { formula.now.vars < 2 ^ 28 }
     requires on_variables { All (All (IsOn formula.now.vars)) formula.now.clauses }
     requires empty { IsEmptyWhereTold (P.written proof.old) }
     requires quiet { P.faults proof.old ≡ 0 }
     requires started { tally.old ≡ ring_tally 0 }
-    ensures outcome { Concluded formula.now result tally.new
+    ensures outcome { Concluded limit formula.now result tally.new
         (record { faults = P.faults proof.new; written = P.written proof.new; flushed = P.flushed proof.new })
         (record {
           faults = record { before = O.faults out.old; after = O.faults out.new };
@@ -76,7 +78,7 @@ fn decide_formula<P: Sink, O: Sink>(
     ensures target { P.target proof.new ≡ P.target proof.old }
     ensures unprinted { prints result ≡ false → out.new ≡ out.old }
 {
-    let Searched { verdict, learned } = search(alloc, formula, proof);
+    let Searched { verdict, learned } = search(alloc, formula, limit, proof);
     tally.learned.set(0, learned);
     let verdict = match verdict {
         Ok(verdict) => verdict,
@@ -95,13 +97,19 @@ fn decide_formula<P: Sink, O: Sink>(
     }
 }
 
-fn read_end(stop: PlainStop) -> End
-    ensures { result ≡ end_of_read stop }
+/// How a call ends whose input was not read. The tally takes the first bad place.
+fn read_end(stop: ReadStop, tally: &mut Tally) -> End
+    ensures end { result ≡ end_of_read stop }
+    ensures tally { tally.new ≡ tally_of_read stop tally.old }
 {
     match stop {
-        PlainStop::NotPlain => End::BadInput,
-        PlainStop::Fault => End::ReadFault,
-        PlainStop::Memory => End::Memory,
+        ReadStop::Bad { code, line } => {
+            tally.code = code.number();
+            tally.line = line;
+            End::BadInput { code, line }
+        }
+        ReadStop::ReadFault => End::ReadFault,
+        ReadStop::Memory => End::Memory,
     }
 }
 
@@ -109,14 +117,17 @@ fn read_end(stop: PlainStop) -> End
 pub fn decide_over<S: Source, P: Sink, O: Sink>(
     alloc: Global,
     source: &mut S,
+    limit: u64,
     proof: &mut P,
     out: &mut O,
     tally: &mut Tally,
 ) -> End
+    requires some { 1 ≤ limit }
     requires empty { IsEmptyWhereTold (P.written proof.old) }
     requires quiet { P.faults proof.old ≡ 0 }
     requires uncounted { tally.old ≡ no_tally }
     ensures outcome { IsRun result tally.new (record {
+      limit = limit;
       text = S.left source.old;
       source = record { before = S.faults source.old; after = S.faults source.new };
       proof = Some (record { faults = P.faults proof.new; written = P.written proof.new; flushed = P.flushed proof.new });
@@ -130,11 +141,11 @@ pub fn decide_over<S: Source, P: Sink, O: Sink>(
     ensures target { P.target proof.new ≡ P.target proof.old }
     ensures unprinted { prints result ≡ false → out.new ≡ out.old }
 {
-    let formula = match read_plain(alloc, source) {
+    let formula = match read(alloc, source) {
         Ok(formula) => formula,
         Err(stop) => {
             let _ = proof.flush();
-            return read_end(stop);
+            return read_end(stop, tally);
         }
     };
     match Tally::with_ring(alloc) {
@@ -144,5 +155,5 @@ pub fn decide_over<S: Source, P: Sink, O: Sink>(
             return End::Memory;
         }
     }
-    decide_formula(alloc, &formula, proof, out, tally)
+    decide_formula(alloc, &formula, limit, proof, out, tally)
 }

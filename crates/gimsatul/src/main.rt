@@ -1,5 +1,6 @@
-//! `gimsatul [--proof PATH]` reads a formula from standard input, decides it, prints the answer, and writes a DRAT
-//! proof to the path. `gimsatul` is the whole of it, over any files and streams; `main` gives it the real ones.
+//! `gimsatul [--threads N] [--conflicts N] [--proof PATH] [--no-simplify] [FILE]` reads a formula in DIMACS CNF from the
+//! file, or from standard input where none is given, decides it, prints the answer, and writes a DRAT proof to the path.
+//! `gimsatul` is the whole of it, over any files and streams; `main` gives it the real ones.
 #![tactic(auto)]
 
 ghost use Rattle.std.specs.Prelude.{◌≡◌, ◌↔◌};
@@ -8,9 +9,7 @@ ghost use Rattle.gimsatul.specs.Stopped.{stop_status};
 
 mod answer;
 mod decide;
-mod plain;
-mod plain_number;
-mod plain_text;
+mod message;
 mod report;
 mod search;
 #[cfg(test)]
@@ -21,7 +20,6 @@ mod words;
 pub use answer::answer_text_to;
 use io_edge::{StdFiles, StdSink, StdSource, write_all_of};
 pub use report::{End, Numbers, Report, Tally, Verdict};
-pub use search::LEMMA_LIMIT;
 use std::process::ExitCode;
 use std::{env, io};
 pub use top::gimsatul;

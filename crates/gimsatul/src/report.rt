@@ -2,6 +2,7 @@
 ghost use Rattle.std.specs.Prelude.{◌≡◌, ◌<◌, List, ℕ, length, replicate, slice_set, IfOk, OnOk, OnErr, []};
 ghost use Rattle.gimsatul.specs.Tallied.{no_tally, ring_tally};
 
+use dimacs_read::Code;
 use sat_words::Assignment;
 use std::alloc::{AllocError, Global};
 use std::marker::Model;
@@ -24,7 +25,14 @@ pub enum End {
     Unsatisfiable,
     Unknown,
     Usage,
-    BadInput,
+    /// The first bad place of the input.
+    BadInput {
+        /// What is wrong there.
+        code: Code,
+        /// Its line, from 1.
+        line: u64,
+    },
+    CannotOpen,
     CannotCreate,
     ReadFault,
     WriteFault,
@@ -94,9 +102,9 @@ pub struct Tally {
     pub need: u64,
     /// The longest range of free words where there was no room, else 0.
     pub largest: u64,
-    /// The fault of the input, from 1, where one is named, else 0.
+    /// The number of the code of the input's first bad place, from 1, where the input was refused, else 0.
     pub code: u8,
-    /// The line of that fault, from 1, else 0.
+    /// The line of that place, from 1, else 0.
     pub line: u64,
 }
 
@@ -139,7 +147,7 @@ pub struct Report<R, W> {
     pub status: u8,
     /// A model of the clauses that were read, at status 10 alone.
     pub model: Option<Assignment>,
-    /// The input that was opened. None yet, since standard input alone is read.
+    /// The input that was opened, where a file was given.
     pub file: Option<R>,
     /// The writer of the proof that was created; without `--proof`, one that leads nowhere.
     pub proof: Option<W>,

@@ -10,7 +10,7 @@ ghost use Rattle.sat_words.specs.Clause.{has, clause_of};
 ghost use Rattle.sat_words.specs.Truth.{value_of as truth_of};
 ghost use Rattle.rup_model.specs.Assigned.{value_of, is_true};
 ghost use Rattle.rup_model.specs.Rup.{conflicts};
-ghost use Rattle.gimsatul.specs.Plain.{IsOn};
+ghost use Rattle.dimacs_read.specs.Input.{IsOn};
 ghost use Rattle.gimsatul.specs.Decided.{occurs, IsModel};
 ghost use Rattle.gimsatul.specs.Searched.{IsSearch, WasPut};
 ghost use Rattle.gimsatul.specs.Decisions.{yes_literal, no_literal, IsDecided, SetsValues, IsModelOf};
@@ -21,9 +21,6 @@ use io_edge::Sink;
 use rup_model::{Assigned, Outcome, propagate};
 use sat_words::{Assignment, Clause, Formula, Line, Lit, Lits};
 use std::alloc::{AllocError, AllocFailed, Global};
-
-/// How many lemmas a ring may learn.
-pub const LEMMA_LIMIT: u64 = 1_000_000_000;
 
 /// Why the search stopped without a verdict.
 #[derive(Clone, Copy, Debug, PartialEq, Eq)]
@@ -185,6 +182,7 @@ fn copy_of(alloc: Global, clauses: &[Clause]) -> Result<Vec<Clause>, AllocError>
 fn run<P: Sink>(
     alloc: Global,
     formula: &Formula,
+    limit: u64,
     learned: &mut u64,
     proof: &mut P,
 ) -> Result<Verdict, SearchStop>
@@ -193,7 +191,8 @@ fn run<P: Sink>(
     requires empty { IsEmptyWhereTold (P.written proof.old) }
     requires quiet { P.faults proof.old ≡ 0 }
     requires uncounted { learned.old ≡ 0 }
-    ensures searched { IsSearch formula.now (record { verdict = result; learned = learned.new }) (P.faults proof.new) (P.written proof.new) }
+    requires some { 1 ≤ limit }
+    ensures searched { IsSearch limit formula.now (record { verdict = result; learned = learned.new }) (P.faults proof.new) (P.written proof.new) }
     ensures target { P.target proof.new ≡ P.target proof.old }
 {
     let vars = formula.vars();
@@ -216,7 +215,7 @@ fn run<P: Sink>(
                 }
                 decisions.pop();
                 *learned += 1;
-                if *learned == LEMMA_LIMIT {
+                if *learned == limit {
                     return Ok(Verdict::Unknown);
                 }
             }
@@ -231,16 +230,17 @@ fn run<P: Sink>(
     }
 }
 
-/// Searches for a model of the formula, and writes each lemma to the proof.
-pub fn search<P: Sink>(alloc: Global, formula: &Formula, proof: &mut P) -> Searched
+/// Searches for a model of the formula, and writes each lemma to the proof. It learns at most `limit` lemmas.
+pub fn search<P: Sink>(alloc: Global, formula: &Formula, limit: u64, proof: &mut P) -> Searched
     requires few { formula.now.vars < 2 ^ 28 }
     requires on_variables { All (All (IsOn formula.now.vars)) formula.now.clauses }
     requires empty { IsEmptyWhereTold (P.written proof.old) }
     requires quiet { P.faults proof.old ≡ 0 }
-    ensures searched { IsSearch formula.now result (P.faults proof.new) (P.written proof.new) }
+    requires some { 1 ≤ limit }
+    ensures searched { IsSearch limit formula.now result (P.faults proof.new) (P.written proof.new) }
     ensures target { P.target proof.new ≡ P.target proof.old }
 {
     let mut learned = 0;
-    let verdict = run(alloc, formula, &mut learned, proof);
+    let verdict = run(alloc, formula, limit, &mut learned, proof);
     Searched { verdict, learned }
 }

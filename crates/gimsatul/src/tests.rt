@@ -1,6 +1,6 @@
 // Whole calls over objects in memory.
 use crate::gimsatul;
-use io_edge::{MemFiles, MemOutput, MemSink, MemSource};
+use io_edge::{MemFile, MemFiles, MemOutput, MemSink, MemSource};
 use std::process::Abort;
 use std::test::Fail;
 
@@ -10,13 +10,17 @@ const NEVER: &[u64] = &[];
 
 const FIRST: &[u64] = &[1];
 
+const SECOND: &[u64] = &[2];
+
 /// What goes in, which calls fail, and what must come out.
 #[derive(Clone, Copy)]
 struct Row {
     words: &'static [&'static str],
     input: &'static [u8],
-    piece: usize,
     input_fails: &'static [u64],
+    /// The bytes of the file `a.cnf`.
+    file: &'static [u8],
+    file_fails: &'static [u64],
     files_fail: &'static [u64],
     proof_fails: &'static [u64],
     out_fails: &'static [u64],
@@ -24,28 +28,35 @@ struct Row {
     status: u8,
     out: &'static [u8],
     err: &'static [u8],
+    opened: bool,
     /// None where no proof's writer may be there; its bytes are compared where `compares_proof` says so.
     proof: Option<&'static [u8]>,
     compares_proof: bool,
     learned: &'static [u64],
+    code: u8,
+    line: u64,
 }
 
-/// A call without words on an input that is refused.
+/// A call without words on a formula with a model.
 const PLAIN: Row = Row {
     words: &[],
-    input: b"",
-    piece: 65536,
+    input: b"p cnf 0 0\n",
     input_fails: NEVER,
+    file: b"",
+    file_fails: NEVER,
     files_fail: NEVER,
     proof_fails: NEVER,
     out_fails: NEVER,
     err_fails: NEVER,
-    status: 2,
+    status: 10,
     out: b"",
-    err: b"gimsatul: input not in the plain form\n",
+    err: b"",
+    opened: false,
     proof: Some(b""),
     compares_proof: true,
     learned: &[],
+    code: 0,
+    line: 0,
 };
 
 fn is_same(found: &[u8], wanted: &[u8]) -> bool {
@@ -56,7 +67,8 @@ fn are_same(found: &[u64], wanted: &[u64]) -> bool {
     found == wanted
 }
 
-fn check_row(rt: &(impl Abort + AllocGlobal), row: Row) -> Result<(), Fail> {
+/// Makes the call with a standard input that gives at most so many bytes a read.
+fn check_row(rt: &(impl Abort + AllocGlobal), row: Row, piece: usize) -> Result<(), Fail> {
     let alloc = rt.alloc();
     let mut words = Vec::new(alloc);
     for word in row.words {
@@ -65,11 +77,16 @@ fn check_row(rt: &(impl Abort + AllocGlobal), row: Row) -> Result<(), Fail> {
     let mut outputs = Vec::new(alloc);
     outputs.push(MemOutput::new(alloc, "P", ROOM, row.proof_fails)?)?;
     let spare = MemSink::new(alloc, ROOM, row.proof_fails)?;
-    let mut files = MemFiles::new(alloc, &[], outputs, spare, row.files_fail);
-    if row.piece == 0 {
+    let inputs = [MemFile {
+        path: "a.cnf",
+        bytes: row.file,
+        fails: row.file_fails,
+    }];
+    let mut files = MemFiles::new(alloc, &inputs, outputs, spare, row.files_fail);
+    if piece == 0 {
         return Err(Fail::from("a piece of no byte"));
     }
-    let mut input = MemSource::in_pieces(row.input, row.piece, row.input_fails);
+    let mut input = MemSource::in_pieces(row.input, piece, row.input_fails);
     let mut out = MemSink::new(alloc, ROOM, row.out_fails)?;
     let mut err = MemSink::new(alloc, ROOM, row.err_fails)?;
     let report = gimsatul(alloc, &words, &mut files, &mut input, &mut out, &mut err);
@@ -77,11 +94,14 @@ fn check_row(rt: &(impl Abort + AllocGlobal), row: Row) -> Result<(), Fail> {
     assert!(rt; is_same(out.bytes(), row.out));
     assert!(rt; is_same(err.bytes(), row.err));
     assert_eq!(rt; report.model.is_some(), row.status == 10);
+    assert_eq!(rt; report.file.is_some(), row.opened);
     assert!(rt; are_same(report.tally.learned.as_slice(), row.learned));
+    assert_eq!(rt; report.tally.code, row.code);
+    assert_eq!(rt; report.tally.line, row.line);
     match (report.proof, row.proof) {
         (Some(proof), Some(wanted)) => {
             assert!(rt; !row.compares_proof || is_same(proof.bytes(), wanted));
-            assert_eq!(rt; proof.target().is_some(), !row.words.is_empty());
+            assert_eq!(rt; proof.target().is_some(), row.words.contains(&"--proof"));
         }
         (None, None) => {}
         _ => return Err(Fail::from("the proof's writer is there or not")),
@@ -89,129 +109,312 @@ fn check_row(rt: &(impl Abort + AllocGlobal), row: Row) -> Result<(), Fail> {
     Ok(())
 }
 
+/// Makes each call whole and one byte a read.
+fn check_rows(rt: &(impl Abort + AllocGlobal), rows: &[Row]) -> Result<(), Fail> {
+    for row in rows {
+        check_row(rt, *row, 65536)?;
+        check_row(rt, *row, 1)?;
+    }
+    Ok(())
+}
+
+/// An answer with a model.
+const MODEL: Row = Row {
+    learned: &[0],
+    ..PLAIN
+};
+
 #[test]
-fn answers(rt: HostRuntime) -> Result<(), Fail> {
+fn models(rt: HostRuntime) -> Result<(), Fail> {
     let rows = [
         Row {
-            input: b"p cnf 0 0\n",
-            status: 10,
             out: b"s SATISFIABLE\nv 0\n",
-            err: b"",
-            learned: &[0],
-            ..PLAIN
+            ..MODEL
         },
         Row {
-            words: &["--proof", "P"],
-            input: b"p cnf 0 1\n0\n",
-            status: 20,
-            out: b"s UNSATISFIABLE\n",
-            err: b"",
-            proof: Some(b"0\n"),
-            learned: &[0],
-            ..PLAIN
+            input: b"c x\np cnf 3 3\n1 0 -1 2\n0 -2 -3 0\n",
+            out: b"s SATISFIABLE\nv 1 2 -3 0\n",
+            ..MODEL
         },
         Row {
-            words: &["--proof", "P"],
-            input: b"p cnf 1 2\n1 0\n-1 0\n",
-            piece: 1,
-            status: 20,
-            out: b"s UNSATISFIABLE\n",
-            err: b"",
-            proof: Some(b"0\n"),
-            learned: &[0],
-            ..PLAIN
+            input: b"p cnf 2 3\n1 1 0\n2 -2 0\n-1 -2 -2 0",
+            out: b"s SATISFIABLE\nv 1 -2 0\n",
+            ..MODEL
         },
         Row {
-            words: &["--proof", "P"],
-            input: b"p cnf 2 4\n1 2 0\n1 -2 0\n-1 2 0\n-1 -2 0\n",
-            status: 20,
-            out: b"s UNSATISFIABLE\n",
-            err: b"",
-            proof: Some(b"1 0\n0\n"),
-            learned: &[1],
-            ..PLAIN
+            input: b"p cnf 1 1\n-1 0\n%\n0\n",
+            out: b"s SATISFIABLE\nv -1 0\n",
+            ..MODEL
         },
         Row {
-            words: &["--proof", "P"],
             input: b"p cnf 3 2\n1 0\n-2 0\n",
-            status: 10,
             out: b"s SATISFIABLE\nv 1 -2 -3 0\n",
-            err: b"",
-            learned: &[0],
-            ..PLAIN
-        },
-        Row {
-            input: b"p cnf 30 30\n1 0\n2 0\n3 0\n4 0\n5 0\n6 0\n7 0\n8 0\n9 0\n10 0\n11 0\n12 0\n13 0\n14 0\n15 0\n16 0\n17 0\n18 0\n19 0\n20 0\n21 0\n22 0\n23 0\n24 0\n25 0\n26 0\n27 0\n28 0\n29 0\n30 0\n",
-            status: 10,
-            out: b"s SATISFIABLE\nv 1 2 3 4 5 6 7 8 9 10 11 12 13 14 15 16 17 18 19 20 21 22 23 24 25 26 27 28\nv 29 30 0\n",
-            err: b"",
-            learned: &[0],
-            ..PLAIN
+            ..MODEL
         },
     ];
-    for row in rows {
-        check_row(&rt, row)?;
+    check_rows(&rt, &rows)
+}
+
+#[test]
+fn a_model_of_two_lines(rt: HostRuntime) -> Result<(), Fail> {
+    let row = Row {
+        input: b"p cnf 30 30\n1 0\n2 0\n3 0\n4 0\n5 0\n6 0\n7 0\n8 0\n9 0\n10 0\n11 0\n12 0\n13 0\n14 0\n15 0\n16 0\n17 0\n18 0\n19 0\n20 0\n21 0\n22 0\n23 0\n24 0\n25 0\n26 0\n27 0\n28 0\n29 0\n30 0\n",
+        out: b"s SATISFIABLE\nv 1 2 3 4 5 6 7 8 9 10 11 12 13 14 15 16 17 18 19 20 21 22 23 24 25 26 27 28\nv 29 30 0\n",
+        ..MODEL
+    };
+    check_row(&rt, row, 1)
+}
+
+#[test]
+fn refutations(rt: HostRuntime) -> Result<(), Fail> {
+    let refuted = Row {
+        words: &["--proof", "P"],
+        status: 20,
+        out: b"s UNSATISFIABLE\n",
+        proof: Some(b"0\n"),
+        ..MODEL
+    };
+    let rows = [
+        Row {
+            input: b"p cnf 0 1\n0\n",
+            ..refuted
+        },
+        Row {
+            input: b"p cnf 1 2\n1 0\n-1 0\n",
+            ..refuted
+        },
+        Row {
+            input: b"p cnf 2 4\n1 2 0\n1 -2 0\n-1 2 0\n-1 -2 0\n",
+            proof: Some(b"1 0\n0\n"),
+            learned: &[1],
+            ..refuted
+        },
+    ];
+    check_rows(&rt, &rows)
+}
+
+#[test]
+fn bad_headers(rt: HostRuntime) -> Result<(), Fail> {
+    let bad = Row {
+        status: 2,
+        line: 1,
+        ..PLAIN
+    };
+    let rows = [
+        Row {
+            input: b"1 0\n",
+            err: b"gimsatul: input line 1: NoHeader\n",
+            code: 1,
+            ..bad
+        },
+        Row {
+            input: b"",
+            err: b"gimsatul: input line 1: NoHeader\n",
+            code: 1,
+            ..bad
+        },
+        Row {
+            input: b"p cnf x 1\n",
+            err: b"gimsatul: input line 1: BadHeader\n",
+            code: 2,
+            ..bad
+        },
+        Row {
+            input: b"p cnf 268435456 0\n",
+            err: b"gimsatul: input line 1: Limit\n",
+            code: 8,
+            ..bad
+        },
+    ];
+    check_rows(&rt, &rows)
+}
+
+#[test]
+fn bad_clauses(rt: HostRuntime) -> Result<(), Fail> {
+    let bad = Row { status: 2, ..PLAIN };
+    let rows = [
+        Row {
+            input: b"p cnf 2 1\n1 +2 0\n",
+            err: b"gimsatul: input line 2: BadToken\n",
+            code: 3,
+            line: 2,
+            ..bad
+        },
+        Row {
+            input: b"p cnf 1 1\n2 0\n",
+            err: b"gimsatul: input line 2: LiteralRange\n",
+            code: 4,
+            line: 2,
+            ..bad
+        },
+        Row {
+            input: b"p cnf 2 0\n1 0\n",
+            err: b"gimsatul: input line 2: TooManyClauses\n",
+            code: 5,
+            line: 2,
+            ..bad
+        },
+        Row {
+            input: b"p cnf 2 2\n1 0\n",
+            err: b"gimsatul: input line 3: TooFewClauses\n",
+            code: 6,
+            line: 3,
+            ..bad
+        },
+        Row {
+            input: b"p cnf 2 1\n1 -2\n",
+            err: b"gimsatul: input line 3: OpenClause\n",
+            code: 7,
+            line: 3,
+            ..bad
+        },
+        Row {
+            input: b"p cnf 2 1\n1 -2",
+            err: b"gimsatul: input line 2: OpenClause\n",
+            code: 7,
+            line: 2,
+            ..bad
+        },
+    ];
+    check_rows(&rt, &rows)
+}
+
+/// The same call with other words, each of which is refused or not.
+fn check_words(
+    rt: &(impl Abort + AllocGlobal),
+    row: Row,
+    words: &[&'static [&'static str]],
+) -> Result<(), Fail> {
+    for words in words {
+        check_row(rt, Row { words, ..row }, 65536)?;
     }
     Ok(())
 }
 
 #[test]
-fn refusals(rt: HostRuntime) -> Result<(), Fail> {
+fn words_that_are_refused(rt: HostRuntime) -> Result<(), Fail> {
     let usage = Row {
+        input_fails: FIRST,
         status: 1,
         err: b"gimsatul: bad command line\n",
         proof: None,
         ..PLAIN
     };
-    let empty = Row {
-        input: b"p cnf 0 0\n",
+    let table: [&[&str]; 12] = [
+        &["--threads", "0"],
+        &["--threads", "17"],
+        &["--help"],
+        &["--version"],
+        &["-h"],
+        &["--proof"],
+        &["--proof", "-P"],
+        &["--proof", "P", "--proof", "P"],
+        &["--conflicts", "0"],
+        &["--conflicts", "1000000000001"],
+        &["--no-simplify=1"],
+        &["a.cnf", "b.cnf"],
+    ];
+    check_words(&rt, usage, &table)
+}
+
+#[test]
+fn words_that_are_taken(rt: HostRuntime) -> Result<(), Fail> {
+    let row = Row {
+        out: b"s SATISFIABLE\nv 0\n",
+        ..MODEL
+    };
+    let table: [&[&str]; 6] = [
+        &["--threads", "1"],
+        &["--threads=+1"],
+        &["--threads", "01"],
+        &["--conflicts", "1000000000000"],
+        &["--no-simplify", "--conflicts=+07"],
+        &["--"],
+    ];
+    check_words(&rt, row, &table)
+}
+
+#[test]
+fn a_file_in_place_of_standard_input(rt: HostRuntime) -> Result<(), Fail> {
+    let given = Row {
+        words: &["--proof", "P", "a.cnf"],
+        input_fails: FIRST,
+        file: b"p cnf 0 1\n0\n",
+        opened: true,
         ..PLAIN
     };
     let rows = [
         Row {
-            words: &["--threads", "0"],
-            ..usage
+            status: 20,
+            out: b"s UNSATISFIABLE\n",
+            proof: Some(b"0\n"),
+            learned: &[0],
+            ..given
         },
         Row {
-            words: &["--threads", "17"],
-            ..usage
+            file: b"p cnf 0 1\n",
+            status: 2,
+            err: b"gimsatul: input line 2: TooFewClauses\n",
+            code: 6,
+            line: 2,
+            ..given
         },
         Row {
-            words: &["--help"],
-            ..usage
+            file_fails: FIRST,
+            status: 5,
+            err: b"gimsatul: read fault\n",
+            ..given
         },
         Row {
-            words: &["--proof", "-P"],
-            ..usage
+            files_fail: SECOND,
+            status: 4,
+            err: b"gimsatul: cannot create proof\n",
+            proof: None,
+            ..given
         },
         Row {
-            words: &["--proof"],
-            ..usage
+            files_fail: FIRST,
+            status: 3,
+            err: b"gimsatul: cannot open input\n",
+            opened: false,
+            proof: None,
+            ..given
         },
         Row {
-            input: b"c x\np cnf 3 3\n1 0 -1 2\n0 -2 -3 0\n",
-            ..PLAIN
+            words: &["b.cnf"],
+            status: 3,
+            err: b"gimsatul: cannot open input\n",
+            opened: false,
+            proof: None,
+            ..given
         },
+    ];
+    check_rows(&rt, &rows)
+}
+
+#[test]
+fn faults(rt: HostRuntime) -> Result<(), Fail> {
+    let rows = [
         Row {
             words: &["--proof", "P"],
+            input_fails: FIRST,
             files_fail: FIRST,
             status: 4,
             err: b"gimsatul: cannot create proof\n",
             proof: None,
-            ..empty
+            ..PLAIN
         },
         Row {
             input_fails: FIRST,
             status: 5,
             err: b"gimsatul: read fault\n",
-            ..empty
+            ..PLAIN
         },
         Row {
             out_fails: FIRST,
             status: 6,
             err: b"gimsatul: write fault\n",
-            learned: &[0],
-            ..empty
+            ..MODEL
         },
         Row {
             words: &["--proof", "P"],
@@ -219,21 +422,37 @@ fn refusals(rt: HostRuntime) -> Result<(), Fail> {
             proof_fails: FIRST,
             status: 7,
             err: b"gimsatul: proof fault\n",
-            learned: &[0],
-            ..PLAIN
+            ..MODEL
         },
         Row {
             input_fails: FIRST,
             err_fails: FIRST,
             status: 5,
-            err: b"",
-            ..empty
+            ..PLAIN
+        },
+        Row {
+            input: b"1 0\n",
+            err_fails: SECOND,
+            status: 2,
+            err: b"gimsatul: input line ",
+            code: 1,
+            line: 1,
+            ..PLAIN
         },
     ];
-    for row in rows {
-        check_row(&rt, row)?;
-    }
-    Ok(())
+    check_rows(&rt, &rows)
+}
+
+#[test]
+fn a_read_fails_after_ten_bytes(rt: HostRuntime) -> Result<(), Fail> {
+    let row = Row {
+        input: b"c x\np cnf 3 3\n1 0 -1 2\n0 -2 -3 0\n",
+        input_fails: &[11],
+        status: 5,
+        err: b"gimsatul: read fault\n",
+        ..PLAIN
+    };
+    check_row(&rt, row, 1)
 }
 
 /// Six pigeons in five holes: the clause of each pigeon, and of each hole and pair of pigeons.
@@ -247,10 +466,23 @@ fn six_pigeons_in_five_holes(rt: HostRuntime) -> Result<(), Fail> {
         input: PIGEONS,
         status: 20,
         out: b"s UNSATISFIABLE\n",
-        err: b"",
         compares_proof: false,
         learned: &[374],
         ..PLAIN
     };
-    check_row(&rt, row)
+    check_row(&rt, row, 65536)
+}
+
+#[test]
+fn one_lemma_and_no_more(rt: HostRuntime) -> Result<(), Fail> {
+    let row = Row {
+        words: &["--threads", "1", "--conflicts", "1", "--no-simplify"],
+        input: PIGEONS,
+        status: 0,
+        out: b"s UNKNOWN\n",
+        compares_proof: false,
+        learned: &[1],
+        ..PLAIN
+    };
+    check_row(&rt, row, 65536)
 }

@@ -1,24 +1,53 @@
 // The top call.
-ghost use Rattle.std.specs.Prelude.{◌≡◌, ◌⊎◌, Bool, true, false, ℕ, Some, None, map, string_bytes, option_copied, IfOk, OnErr, IfSome, IsSome};
+ghost use Rattle.std.specs.Prelude.{◌≡◌, ◌≤◌, ◌⊎◌, Bool, true, false, ℕ, Some, None, map, string_bytes, option_copied, option_map, is_some, IfOk, OnErr, IfSome, IsSome, IsSomeAnd};
 ghost use Rattle.io_edge.specs.Causes.{HasCause};
 ghost use Rattle.io_edge.specs.Paths.{IsEmptyWhereTold};
-ghost use Rattle.gimsatul.specs.Words.{command_of, proof_path};
-ghost use Rattle.gimsatul.specs.Run.{target_in, writer_of};
-ghost use Rattle.gimsatul.specs.Outcome.{IsCall};
-ghost use Rattle.gimsatul.specs.Ends.{prints, prints_at, leaves_input, leaves_files};
+ghost use Rattle.gimsatul.specs.Words.{command_of, file_path, proof_path};
+ghost use Rattle.gimsatul.specs.Run.{target_in, text_left, source_in, writer_of, IsOpened};
+ghost use Rattle.gimsatul.specs.Outcome.{IsCall, IsRun};
+ghost use Rattle.gimsatul.specs.Tallied.{no_tally};
+ghost use Rattle.gimsatul.specs.Ends.{end_of_words, prints, prints_at, leaves_input, leaves_files};
 ghost use Rattle.gimsatul.specs.Headline.{status_of, model_of, Headline};
 
 use crate::decide::decide_over;
+use crate::message::put_message;
 use crate::report::{End, Report, Tally};
-use crate::words::parse;
-use io_edge::{Failed, Files, Sink, Source, write_all_of};
+use crate::words::{WordsStop, parse};
+use dimacs_read::read_or_bad;
+use io_edge::{Failed, Files, Sink, Source};
 use std::alloc::Global;
 
-// How a call ended, with the proof's writer, if it was created.
-struct Ended<W> {
+// How a call ended, with the input and the proof's writer that it made.
+struct Ended<R, W> {
     end: End,
+    file: Option<R>,
     proof: Option<W>,
     tally: Tally,
+}
+
+fn words_end(stop: WordsStop) -> End
+    ensures { result ≡ end_of_words stop }
+{
+    match stop {
+        WordsStop::Usage => End::Usage,
+        WordsStop::Memory => End::Memory,
+    }
+}
+
+/// Opens the input where a path is given for it.
+fn open<F: Files>(files: &mut F, path: Option<&str>) -> Result<Option<F::Reader>, Failed>
+    ensures opened { IfOk result (λ file. IsOpened F.Reader.left F.Reader.faults (F.contents files.old) (option_copied path.entry) file) }
+    ensures contents { F.contents files.new ≡ F.contents files.old }
+    ensures cause { HasCause (F.faults files.old) (F.faults files.new) result }
+    ensures asked { OnErr result (IsSome (option_copied path.entry)) }
+{
+    match path {
+        None => Ok(None),
+        Some(path) => match files.open_input(path) {
+            Ok(reader) => Ok(Some(reader)),
+            Err(Failed) => Err(Failed),
+        },
+    }
 }
 
 /// Creates the proof where a path is given for it, else a writer that leads nowhere.
@@ -35,82 +64,142 @@ fn create<F: Files>(files: &mut F, path: Option<&str>) -> Result<F::Writer, Fail
     }
 }
 
+/// Decides what the file has, or where there is none what standard input has.
+fn decide<R: Source, I: Source, W: Sink, O: Sink>(
+    alloc: Global,
+    file: Option<R>,
+    input: &mut I,
+    limit: u64,
+    proof: W,
+    out: &mut O,
+    tally: Tally,
+) -> Ended<R, W>
+    requires some { 1 ≤ limit }
+    requires fresh { IfSome file (λ reader. R.faults reader ≡ 0) }
+    requires empty { IsEmptyWhereTold (W.written proof) }
+    requires quiet { W.faults proof ≡ 0 }
+    requires uncounted { tally ≡ no_tally }
+    ensures outcome { IsRun result.end result.tally (record {
+      limit = limit;
+      text = text_left R.left file (I.left input.old);
+      source = source_in (record { before = I.faults input.old; after = I.faults input.new }) (option_map R.faults result.file);
+      proof = writer_of W.faults W.written W.flushed result.proof;
+      out = record {
+        faults = record { before = O.faults out.old; after = O.faults out.new };
+        before = O.written out.old;
+        after = O.written out.new;
+        flushed = O.flushed out.new;
+      };
+    }) }
+    ensures file { is_some result.file ≡ is_some file }
+    ensures proof { is_some result.proof ≡ true }
+    ensures target { IfSome result.proof (λ writer. W.target writer ≡ W.target proof) }
+    ensures unprinted { prints result.end ≡ false → out.new ≡ out.old }
+    ensures unread { is_some file ≡ true → input.new ≡ input.old }
+    ensures ends { leaves_input result.end ≡ false }
+    ensures opened { leaves_files result.end true ≡ false }
+{
+    let mut proof = proof;
+    let mut tally = tally;
+    match file {
+        Some(reader) => {
+            let mut reader = reader;
+            let end = decide_over(alloc, &mut reader, limit, &mut proof, out, &mut tally);
+            Ended {
+                end,
+                file: Some(reader),
+                proof: Some(proof),
+                tally,
+            }
+        }
+        None => {
+            let end = decide_over(alloc, input, limit, &mut proof, out, &mut tally);
+            Ended {
+                end,
+                file: None,
+                proof: Some(proof),
+                tally,
+            }
+        }
+    }
+}
+
 fn run<F: Files, I: Source, O: Sink>(
     alloc: Global,
     words: &[String],
     files: &mut F,
     input: &mut I,
     out: &mut O,
-) -> Ended<F::Writer>
+) -> Ended<F::Reader, F::Writer>
     ensures outcome { IsCall result.end result.tally (record {
       words = map string_bytes words.now;
+      contents = F.contents files.old;
       files = record { before = F.faults files.old; after = F.faults files.new };
+      left = I.left input.old;
       input = record { before = I.faults input.old; after = I.faults input.new };
-      run = record {
-        text = I.left input.old;
-        source = record { before = I.faults input.old; after = I.faults input.new };
-        proof = writer_of F.Writer.faults F.Writer.written F.Writer.flushed result.proof;
-        out = record {
-          faults = record { before = O.faults out.old; after = O.faults out.new };
-          before = O.written out.old;
-          after = O.written out.new;
-          flushed = O.flushed out.new;
-        };
+      file = option_map F.Reader.faults result.file;
+      proof = writer_of F.Writer.faults F.Writer.written F.Writer.flushed result.proof;
+      out = record {
+        faults = record { before = O.faults out.old; after = O.faults out.new };
+        before = O.written out.old;
+        after = O.written out.new;
+        flushed = O.flushed out.new;
       };
     }) }
     ensures target { IfSome result.proof (λ writer. F.Writer.target writer ≡ target_in (F.contents files.old) (proof_path (command_of (map string_bytes words.now)))) }
     ensures unprinted { prints result.end ≡ false → out.new ≡ out.old }
     ensures unread { leaves_input result.end ≡ true → input.new ≡ input.old }
-    ensures unopened { leaves_files result.end ≡ true → files.new ≡ files.old }
+    ensures idle { result.proof ≡ None → input.new ≡ input.old }
+    ensures file_alone { is_some (file_path (command_of (map string_bytes words.now))) ≡ true → input.new ≡ input.old }
+    ensures unopened { leaves_files result.end (is_some result.proof) ≡ true → files.new ≡ files.old }
 {
-    let mut tally = Tally::new(alloc);
-    let Some(command) = parse(words) else {
-        return Ended {
-            end: End::Usage,
-            proof: None,
-            tally,
-        };
-    };
-    let mut proof = match create(files, command.proof) {
-        Ok(writer) => writer,
-        Err(Failed) => {
+    let tally = Tally::new(alloc);
+    let command = match parse(alloc, words) {
+        Ok(command) => command,
+        Err(stop) => {
             return Ended {
-                end: End::CannotCreate,
+                end: words_end(stop),
+                file: None,
                 proof: None,
                 tally,
             };
         }
     };
-    let end = decide_over(alloc, input, &mut proof, out, &mut tally);
-    Ended {
-        end,
-        proof: Some(proof),
-        tally,
+    let file = match open(files, command.file) {
+        Ok(file) => file,
+        Err(Failed) => {
+            return Ended {
+                end: End::CannotOpen,
+                file: None,
+                proof: None,
+                tally,
+            };
+        }
+    };
+    match create(files, command.proof) {
+        Ok(proof) => decide(alloc, file, input, command.conflicts, proof, out, tally),
+        Err(Failed) => Ended {
+            end: End::CannotCreate,
+            file,
+            proof: None,
+            tally,
+        },
     }
 }
 
-/// The line on standard error: none where there is an answer.
-fn message_of(end: &End) -> &'static [u8] {
-    match end {
-        End::Satisfiable(_) | End::Unsatisfiable | End::Unknown => b"",
-        End::Usage => b"gimsatul: bad command line\n",
-        End::BadInput => b"gimsatul: input not in the plain form\n",
-        End::CannotCreate => b"gimsatul: cannot create proof\n",
-        End::ReadFault => b"gimsatul: read fault\n",
-        End::WriteFault => b"gimsatul: write fault\n",
-        End::ProofFault => b"gimsatul: proof fault\n",
-        End::Memory => b"gimsatul: out of memory\n",
-    }
-}
-
-fn report_of<R, W>(ended: Ended<W>) -> Report<R, W>
+fn report_of<R, W>(ended: Ended<R, W>) -> Report<R, W>
     ensures status { result.status ≡ status_of ended.end }
     ensures model { result.model ≡ model_of ended.end }
-    ensures file { result.file ≡ None }
+    ensures file { result.file ≡ ended.file }
     ensures proof { result.proof ≡ ended.proof }
     ensures tally { result.tally ≡ ended.tally }
 {
-    let Ended { end, proof, tally } = ended;
+    let Ended {
+        end,
+        file,
+        proof,
+        tally,
+    } = ended;
     let mut model = None;
     let status = match end {
         End::Satisfiable(assignment) => {
@@ -120,7 +209,8 @@ fn report_of<R, W>(ended: Ended<W>) -> Report<R, W>
         End::Unsatisfiable => 20,
         End::Unknown => 0,
         End::Usage => 1,
-        End::BadInput => 2,
+        End::BadInput { .. } => 2,
+        End::CannotOpen => 3,
         End::CannotCreate => 4,
         End::ReadFault => 5,
         End::WriteFault => 6,
@@ -130,7 +220,7 @@ fn report_of<R, W>(ended: Ended<W>) -> Report<R, W>
     Report {
         status,
         model,
-        file: None,
+        file,
         proof,
         tally,
     }
@@ -138,10 +228,9 @@ fn report_of<R, W>(ended: Ended<W>) -> Report<R, W>
 
 /// All that the program does: reads the words and the input, searches, writes the proof and the answer, and reports.
 ///
-/// `words` are the arguments without the program's name. A fault of `err` changes nothing. The first refusal that is
-/// met decides, and nothing after it is begun, except that a proof that was created is always flushed as far as it
-/// goes.
-#[tactic(auto, using(crate::proofs::StatusLemmas::headline))]
+/// `words` are the arguments without the program's name. The input is FILE where it is given, and standard input is then
+/// left alone. A fault of `err` changes nothing. The first refusal that is met decides, and nothing after it is begun,
+/// except that a proof that was created is always flushed as far as it goes.
 pub fn gimsatul<F: Files, I: Source, O: Sink, E: Sink>(
     alloc: Global,
     words: &[String],
@@ -152,27 +241,30 @@ pub fn gimsatul<F: Files, I: Source, O: Sink, E: Sink>(
 ) -> Report<F::Reader, F::Writer>
     ensures headline { Headline (record {
       words = map string_bytes words.now;
+      contents = F.contents files.old;
       files = record { before = F.faults files.old; after = F.faults files.new };
+      left = I.left input.old;
       input = record { before = I.faults input.old; after = I.faults input.new };
-      run = record {
-        text = I.left input.old;
-        source = record { before = I.faults input.old; after = I.faults input.new };
-        proof = writer_of F.Writer.faults F.Writer.written F.Writer.flushed result.proof;
-        out = record {
-          faults = record { before = O.faults out.old; after = O.faults out.new };
-          before = O.written out.old;
-          after = O.written out.new;
-          flushed = O.flushed out.new;
-        };
+      file = option_map F.Reader.faults result.file;
+      proof = writer_of F.Writer.faults F.Writer.written F.Writer.flushed result.proof;
+      out = record {
+        faults = record { before = O.faults out.old; after = O.faults out.new };
+        before = O.written out.old;
+        after = O.written out.new;
+        flushed = O.flushed out.new;
       };
     }) result.status result.model result.tally }
     ensures target { IfSome result.proof (λ writer. F.Writer.target writer ≡ target_in (F.contents files.old) (proof_path (command_of (map string_bytes words.now)))) }
-    ensures file { result.file ≡ None }
     ensures unprinted { prints_at result.status ≡ false → out.new ≡ out.old }
-    ensures unread { (result.status ≡ 1) ⊎ (result.status ≡ 4) → input.new ≡ input.old }
+    ensures unread { (result.status ≡ 1) ⊎ (result.status ≡ 3) ⊎ (result.status ≡ 4) → input.new ≡ input.old }
+    ensures idle { result.proof ≡ None → input.new ≡ input.old }
+    ensures file_alone { is_some (file_path (command_of (map string_bytes words.now))) ≡ true → input.new ≡ input.old }
     ensures unopened { result.status ≡ 1 → files.new ≡ files.old }
+    ensures unmade { result.status ≡ 9 → result.proof ≡ None → files.new ≡ files.old }
 {
+    // A text that spells a formula has no bad place, so where the call must answer it does not refuse the input.
+    read_or_bad();
     let ended = run(alloc, words, files, input, out);
-    let _ = write_all_of(err, message_of(&ended.end));
+    let _ = put_message(err, &ended.end);
     report_of(ended)
 }

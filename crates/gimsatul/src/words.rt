@@ -1,36 +1,142 @@
 // The words of the command line.
-ghost use Rattle.std.specs.Prelude.{◌≡◌, map, string_bytes, option_copied, MatchOption, Some, None};
-ghost use Rattle.gimsatul.specs.Words.{is_path, is_proof_flag, command_of};
+ghost use Rattle.std.specs.Prelude.{◌≡◌, ◌≤◌, ◌↔◌, false, map, string_bytes, option_copied, IfOk, IsErrOf, Some, None};
+ghost use Rattle.clap.specs.Words.{app_of, found_of, rows_of, rule_of};
+ghost use Rattle.clap.specs.declared.error.kind.ErrorKind.TheVariants.{OutOfMemory};
+ghost use Rattle.gimsatul.specs.Words.{HasLimit, command_in, command_of, solver_app, conflicts_rule, threads_rule, proof_rule, no_simplify_rule, file_rule};
+
+use clap::builder::ValueParser;
+use clap::error::ErrorKind;
+use clap::{Arg, ArgAction, ArgMatches};
+use std::alloc::{AllocError, Global};
+
+/// The most lemmas that a ring may be allowed to learn.
+const MOST_CONFLICTS: u64 = 1_000_000_000_000;
 
 /// What the words ask for.
 #[derive(Clone, Copy)]
 pub struct Command<'a> {
+    /// How many lemmas the ring may learn.
+    pub conflicts: u64,
     /// Where the proof goes, if it is wanted.
     pub proof: Option<&'a str>,
+    /// Where the input comes from, if not from standard input.
+    pub file: Option<&'a str>,
 }
 
-fn is_a_path(word: &str) -> bool
-    ensures { result ≡ is_path word.now }
-{
-    !matches!(word.as_bytes(), [b'-', ..])
+/// Why the words ask for nothing.
+#[derive(Clone, Copy, Debug, PartialEq, Eq)]
+pub enum WordsStop {
+    /// They are refused.
+    Usage,
+    /// Memory ran out.
+    Memory,
 }
 
-fn is_flag(word: &str) -> bool
-    ensures { result ≡ is_proof_flag word.now }
+fn conflicts_arg<'a>(alloc: Global) -> Arg<'a>
+    ensures rule { rule_of result ≡ conflicts_rule }
+    ensures local { result.global ≡ false }
 {
-    word == "--proof"
+    Arg::new(alloc, "conflicts")
+        .long("conflicts")
+        .action(ArgAction::Set)
+        .value_parser(ValueParser::unsigned(1, MOST_CONFLICTS))
+        .default_value("1000000000")
 }
 
-/// Reads the words, without the program's name: none, or `--proof PATH`. None where they are refused.
-pub fn parse(words: &[String]) -> Option<Command<'_>>
-    ensures { MatchOption result (command_of (map string_bytes words.now) ≡ None)
-        (λ command. command_of (map string_bytes words.now) ≡ Some (record { proof = option_copied command.proof })) }
+fn threads_arg<'a>(alloc: Global) -> Arg<'a>
+    ensures rule { rule_of result ≡ threads_rule }
+    ensures local { result.global ≡ false }
 {
-    match words {
-        [] => Some(Command { proof: None }),
-        [flag, path] if is_flag(flag.as_str()) && is_a_path(path.as_str()) => Some(Command {
-            proof: Some(path.as_str()),
-        }),
-        _ => None,
+    Arg::new(alloc, "threads")
+        .long("threads")
+        .value_parser(ValueParser::unsigned(1, 1))
+        .default_value("1")
+}
+
+fn proof_arg<'a>(alloc: Global) -> Arg<'a>
+    ensures rule { rule_of result ≡ proof_rule }
+    ensures local { result.global ≡ false }
+{
+    Arg::new(alloc, "proof").long("proof")
+}
+
+fn no_simplify_arg<'a>(alloc: Global) -> Arg<'a>
+    ensures rule { rule_of result ≡ no_simplify_rule }
+    ensures local { result.global ≡ false }
+{
+    Arg::new(alloc, "no-simplify")
+        .long("no-simplify")
+        .action(ArgAction::SetTrue)
+}
+
+fn file_arg<'a>(alloc: Global) -> Arg<'a>
+    ensures rule { rule_of result ≡ file_rule }
+    ensures local { result.global ≡ false }
+{
+    Arg::new(alloc, "file")
+}
+
+/// The command of the program, with no flag for help and none for the version.
+fn solver<'a>(alloc: Global) -> Result<clap::Command<'a>, AllocError>
+    ensures { IfOk result (λ command. app_of command ≡ solver_app) }
+{
+    let bare = clap::Command::new(alloc, "gimsatul")
+        .no_binary_name(true)
+        .disable_help_flag(true)
+        .disable_version_flag(true);
+    bare.arg(conflicts_arg(alloc))?
+        .arg(threads_arg(alloc))?
+        .arg(proof_arg(alloc))?
+        .arg(no_simplify_arg(alloc))?
+        .arg(file_arg(alloc))
+}
+
+/// How many lemmas the ring may learn.
+fn conflicts_in(matches: &ArgMatches<'_>) -> u64
+    requires { HasLimit matches.now }
+    ensures number { result ≡ (command_in (rows_of (found_of matches.now))).conflicts }
+    ensures some { 1 ≤ result }
+{
+    match matches.get_one::<u64>("conflicts") {
+        Some(number) => number,
+        None => unreachable!(),
+    }
+}
+
+/// What the matches ask for.
+fn command_in<'a>(matches: &ArgMatches<'a>) -> Command<'a>
+    requires { HasLimit matches.now }
+    ensures asks { command_in (rows_of (found_of matches.now)) ≡ record { conflicts = result.conflicts; proof = option_copied result.proof; file = option_copied result.file } }
+    ensures some { 1 ≤ result.conflicts }
+{
+    Command {
+        conflicts: conflicts_in(matches),
+        proof: matches.get_str("proof"),
+        file: matches.get_str("file"),
+    }
+}
+
+fn stop_of(kind: ErrorKind) -> WordsStop
+    ensures { (result ≡ WordsStop.Memory) ↔ (kind ≡ OutOfMemory) }
+{
+    match kind {
+        ErrorKind::OutOfMemory => WordsStop::Memory,
+        _ => WordsStop::Usage,
+    }
+}
+
+/// Reads the words, without the program's name. They are refused exactly where `clap` refuses them.
+pub fn parse<'a>(alloc: Global, words: &'a [String]) -> Result<Command<'a>, WordsStop>
+    ensures asks { IfOk result (λ command. command_of (map string_bytes words.entry.now) ≡ Some (record { conflicts = command.conflicts; proof = option_copied command.proof; file = option_copied command.file })) }
+    ensures some { IfOk result (λ command. 1 ≤ command.conflicts) }
+    ensures usage { IsErrOf result WordsStop.Usage → command_of (map string_bytes words.entry.now) ≡ None }
+{
+    let command = match solver(alloc) {
+        Ok(command) => command,
+        Err(_) => return Err(WordsStop::Memory),
+    };
+    match command.try_get_matches_from(words) {
+        Ok(matches) => Ok(command_in(&matches)),
+        Err(error) => Err(stop_of(error.kind())),
     }
 }

@@ -10,8 +10,8 @@ returns-in-Err-clause-outcome g c = λ text source read still.
     record {
       formula = c.args.formula.now;
       journal = s.journal;
-      outcome = stopped c.in-Err.stop c.stop_end.result c.search-verdict.result.verdict c.args.formula.now s.journal _ text source _ _ _ c.stop_end.ensures c.in-Err.is s.conclusion flush.ensures.cause.later
-          (started text source _ c.args.formula.now c.search-verdict.result _ _ _ _ _ _ _ flush.result s read still counts flush.ensures.bytes flush.ensures.cause flush.ensures.flushed);
+      outcome = stopped c.in-Err.stop c.stop_end.result c.args.limit c.search-verdict.result.verdict c.args.formula.now s.journal _ text source _ _ _ c.stop_end.ensures c.in-Err.is s.conclusion flush.ensures.cause.later
+          (started c.args.limit text source _ c.args.formula.now c.search-verdict.result _ _ _ _ _ _ _ flush.result s read still counts flush.ensures.bytes flush.ensures.cause flush.ensures.flushed);
     }
 
 pub returns-in-Err-flush-clause-outcome : goal.returns-in-Err-flush-clause-outcome
@@ -19,12 +19,12 @@ returns-in-Err-flush-clause-outcome g c = λ text source read still.
     let s = c.search-verdict.ensures.searched in
     let flush = c.flush-2 in
     let counts = counted c.args.tally.now c.set.new.self c.search-verdict.result.learned c.requires.started c.set.ensures in
-    let found = concluded c.in-Ok.verdict c.search-verdict.result.verdict c.args.formula.now s.journal _ c.in-Ok.is s.conclusion in
+    let found = concluded c.in-Ok.verdict c.args.limit c.search-verdict.result.verdict c.args.formula.now s.journal _ c.in-Ok.is s.conclusion in
     record {
       formula = c.args.formula.now;
       journal = s.journal;
       outcome = record {
-        started = started text source _ c.args.formula.now c.search-verdict.result _ _ _ _ _ _ _ flush.result s read still counts flush.ensures.bytes flush.ensures.cause flush.ensures.flushed;
+        started = started c.args.limit text source _ c.args.formula.now c.search-verdict.result _ _ _ _ _ _ _ flush.result s read still counts flush.ensures.bytes flush.ensures.cause flush.ensures.flushed;
         rose = omega (arith, found.0, c.in-Err-flush.ensures.cause.failed);
       };
     }
@@ -34,12 +34,12 @@ returns-in-Ok-print-clause-outcome g c = λ text source read still.
     let s = c.search-verdict.ensures.searched in
     let flush = c.flush-2 in
     let counts = counted c.args.tally.now c.set.new.self c.search-verdict.result.learned c.requires.started c.set.ensures in
-    let found = concluded c.in-Ok.verdict c.search-verdict.result.verdict c.args.formula.now s.journal _ c.in-Ok.is s.conclusion in
+    let found = concluded c.in-Ok.verdict c.args.limit c.search-verdict.result.verdict c.args.formula.now s.journal _ c.in-Ok.is s.conclusion in
     record {
       formula = c.args.formula.now;
       journal = s.journal;
-      outcome = answered c.in-Ok.verdict c.into_end.result c.vars.result c.args.formula.now s.journal _ text source _ _ c.into_end.ensures c.vars.ensures found.1 (c.in-Ok-flush.ensures.cause.quiet ∙ found.0) c.in-Ok-print.ensures.cause.quiet c.in-Ok-print.ensures.all c.in-Ok-print.ensures.sure
-          (started text source _ c.args.formula.now c.search-verdict.result _ _ _ _ _ _ _ flush.result s read still counts flush.ensures.bytes flush.ensures.cause flush.ensures.flushed);
+      outcome = answered c.in-Ok.verdict c.into_end.result c.args.limit c.vars.result c.args.formula.now s.journal _ text source _ _ c.into_end.ensures c.vars.ensures found.1 (c.in-Ok-flush.ensures.cause.quiet ∙ found.0) c.in-Ok-print.ensures.cause.quiet c.in-Ok-print.ensures.all c.in-Ok-print.ensures.sure
+          (started c.args.limit text source _ c.args.formula.now c.search-verdict.result _ _ _ _ _ _ _ flush.result s read still counts flush.ensures.bytes flush.ensures.cause flush.ensures.flushed);
     }
 
 pub returns-in-Err-print-clause-outcome : goal.returns-in-Err-print-clause-outcome
@@ -47,12 +47,12 @@ returns-in-Err-print-clause-outcome g c = λ text source read still.
     let s = c.search-verdict.ensures.searched in
     let flush = c.flush-2 in
     let counts = counted c.args.tally.now c.set.new.self c.search-verdict.result.learned c.requires.started c.set.ensures in
-    let found = concluded c.in-Ok.verdict c.search-verdict.result.verdict c.args.formula.now s.journal _ c.in-Ok.is s.conclusion in
+    let found = concluded c.in-Ok.verdict c.args.limit c.search-verdict.result.verdict c.args.formula.now s.journal _ c.in-Ok.is s.conclusion in
     record {
       formula = c.args.formula.now;
       journal = s.journal;
       outcome = record {
-        started = started text source _ c.args.formula.now c.search-verdict.result _ _ _ _ _ _ _ flush.result s read still counts flush.ensures.bytes flush.ensures.cause flush.ensures.flushed;
+        started = started c.args.limit text source _ c.args.formula.now c.search-verdict.result _ _ _ _ _ _ _ flush.result s read still counts flush.ensures.bytes flush.ensures.cause flush.ensures.flushed;
         verdict = c.in-Ok.verdict;
         decided = found.1;
         proof = c.in-Ok-flush.ensures.cause.quiet ∙ found.0;

@@ -1,15 +1,15 @@
-use Rattle.std.proofs.Common.{[], inl}
+use Rattle.std.proofs.Common.{[], inl, ap}
 use Rattle.gimsatul.proofs.Finishes.{no_formula, unread, unread_end}
 use Rattle.gimsatul.proofs.decide.decide_over.Goals as goal
 
 pub returns-in-Err-clause-outcome : goal.returns-in-Err-clause-outcome
 returns-in-Err-clause-outcome g c =
     let flush = c.flush in
-    let none = unread _ _ _ c.args.tally.now _ _ _ _ _ _ flush.result c.requires.quiet c.requires.empty c.requires.uncounted flush.ensures.bytes flush.ensures.cause flush.ensures.flushed in
+    let none = unread c.args.limit _ _ _ _ _ _ _ _ _ flush.result c.requires.quiet c.requires.empty flush.ensures.bytes flush.ensures.cause flush.ensures.flushed in
     record {
       formula = no_formula;
       journal = [];
-      outcome = unread_end c.in-Err.stop c.read_end.result _ _ _ _ _ c.read_end.ensures (λ e. c.in-Err.ensures.not_plain (cc e)) (λ e. c.in-Err.ensures.quiet (cc e)) (λ e. c.in-Err.ensures.fault (cc e)) none;
+      outcome = unread_end c.in-Err.stop c.read_end.result c.args.tally.now _ _ _ c.read_end.ensures.end c.in-Err.ensures.answer (λ code line e. c.in-Err.ensures.quiet code line (cc e)) (λ e. c.in-Err.ensures.fault (cc e)) c.requires.uncounted c.read_end.ensures.tally none;
     }
 
 pub returns-in-Err-with_ring-clause-outcome : goal.returns-in-Err-with_ring-clause-outcome
@@ -18,5 +18,5 @@ returns-in-Err-with_ring-clause-outcome g c =
     record {
       formula = no_formula;
       journal = [];
-      outcome = inl (unread _ _ _ _ _ _ _ _ _ _ flush.result c.requires.quiet c.requires.empty c.requires.uncounted flush.ensures.bytes flush.ensures.cause flush.ensures.flushed);
+      outcome = inl (record { unread = unread c.args.limit _ _ _ _ _ _ _ _ _ flush.result c.requires.quiet c.requires.empty flush.ensures.bytes flush.ensures.cause flush.ensures.flushed; counts = c.requires.uncounted });
     }

@@ -1,7 +1,6 @@
 use Rattle.std.proofs.Common.{◌≡◌, ◌<◌, ◌+◌, ◌*◌, ◌-◌, length, nat_eq}
 use Rattle.std.specs.Prelude.{All}
 use Rattle.std.specs.List.{IsDistinct}
-use Rattle.gimsatul.specs.declared.search.TheConstants.{LEMMA_LIMIT}
 use Rattle.gimsatul.specs.Decisions.{IsDecided}
 use Rattle.gimsatul.proofs.Ledgers.{Ledger}
 use Rattle.gimsatul.proofs.search.run.Given as goal
@@ -15,8 +14,8 @@ invariant-search g l = record {
   decided : All (λ var. IsDecided (l.vars + 1) var) l.decisions.items;
   distinct : IsDistinct nat_eq l.decisions.items;
   in_range : All (All (λ k. k.var < l.vars + 1)) l.clauses.items;
-  below_limit : l.learned < LEMMA_LIMIT;
+  below_limit : l.learned < l.fn.limit;
 }
 
 abbrev pub decreases-search : goal.decreases-search
-decreases-search g l = (LEMMA_LIMIT - l.learned) * (l.vars + 3) + (l.vars + 2 - length l.decisions.items)
+decreases-search g l = (l.fn.limit - l.learned) * (l.vars + 3) + (l.vars + 2 - length l.decisions.items)

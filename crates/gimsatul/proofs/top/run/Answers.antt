@@ -1,27 +1,30 @@
 use Rattle.std.proofs.Common.{[], refl}
 use Rattle.gimsatul.proofs.Finishes.{no_formula}
-use Rattle.gimsatul.proofs.Lawful.{asked_path, lawful, whole_call}
+use Rattle.gimsatul.proofs.Lawful.{asked_proof, asked_file, has_file, rose_behind, words_stopped}
 use Rattle.gimsatul.proofs.top.run.Goals as goal
-
-pub returns-in_default-clause-outcome : goal.returns-in_default-clause-outcome
-returns-in_default-clause-outcome g c = record {
-  formula = no_formula;
-  journal = [];
-  outcome = (c.in_default.ensures, record { no_proof = refl; nothing = refl; counts = c.new-tally.ensures; input = refl });
-}
 
 pub returns-in-Err-clause-outcome : goal.returns-in-Err-clause-outcome
 returns-in-Err-clause-outcome g c = record {
   formula = no_formula;
   journal = [];
-  outcome = (c.in-Err.ensures.cause.failed, asked_path _ _ c.in-Some.ensures c.in-Err.ensures.asked, record { no_proof = refl; nothing = refl; counts = c.new-tally.ensures; input = refl });
+  outcome = words_stopped c.in-Err.stop c.words_end.result _ _ c.words_end.ensures (λ e. c.in-Err.ensures.usage (cc e)) c.new-tally.ensures refl refl refl refl;
 }
 
-pub returns-clause-outcome : goal.returns-clause-outcome
-returns-clause-outcome g c =
-    let run = c.decide_over-end.ensures.outcome in
-    record {
-      formula = run.formula;
-      journal = run.journal;
-      outcome = whole_call c.decide_over-end.result _ _ _ _ (lawful _ _ c.in-Some.ensures) c.in-Ok.ensures.cause.quiet refl run.outcome;
-    }
+pub returns-in-Err-open-clause-outcome : goal.returns-in-Err-open-clause-outcome
+returns-in-Err-open-clause-outcome g c = record {
+  formula = no_formula;
+  journal = [];
+  outcome = (c.in-Err-open.ensures.cause.failed, asked_file _ _ c.in-Ok.ensures.asks c.in-Err-open.ensures.asked, record { barren = record { no_proof = refl; nothing = refl; counts = c.new-tally.ensures; input = refl }; no_file = refl });
+}
+
+pub returns-in-Err-create-clause-outcome : goal.returns-in-Err-create-clause-outcome
+returns-in-Err-create-clause-outcome g c = record {
+  formula = no_formula;
+  journal = [];
+  outcome = (
+    rose_behind _ _ _ c.in-Ok-open.ensures.cause.quiet c.in-Err-create.ensures.cause.failed,
+    asked_proof _ _ c.in-Ok.ensures.asks c.in-Err-create.ensures.asked,
+    has_file _ _ _ _ _ c.in-Ok-open.file c.in-Ok.ensures.asks c.in-Ok-open.ensures.opened,
+    record { no_proof = refl; nothing = refl; counts = c.new-tally.ensures; input = refl },
+  );
+}

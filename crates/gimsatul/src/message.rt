@@ -1,0 +1,30 @@
+// The line on standard error.
+use crate::report::End;
+use dimacs_read::Code;
+use io_edge::{Sink, WriteStop, write_all_of};
+use itoa::Buffer;
+
+/// Writes the line that names a bad place.
+fn put_bad_place<E: Sink>(err: &mut E, code: Code, line: u64) -> Result<(), WriteStop> {
+    let mut digits = Buffer::new();
+    write_all_of(err, b"gimsatul: input line ")?;
+    write_all_of(err, digits.format(line).as_bytes())?;
+    write_all_of(err, b": ")?;
+    write_all_of(err, code.name().as_bytes())?;
+    write_all_of(err, b"\n")
+}
+
+/// Writes why there is no answer: nothing where there is one.
+pub fn put_message<E: Sink>(err: &mut E, end: &End) -> Result<(), WriteStop> {
+    match end {
+        End::Satisfiable(_) | End::Unsatisfiable | End::Unknown => Ok(()),
+        End::Usage => write_all_of(err, b"gimsatul: bad command line\n"),
+        End::BadInput { code, line } => put_bad_place(err, *code, *line),
+        End::CannotOpen => write_all_of(err, b"gimsatul: cannot open input\n"),
+        End::CannotCreate => write_all_of(err, b"gimsatul: cannot create proof\n"),
+        End::ReadFault => write_all_of(err, b"gimsatul: read fault\n"),
+        End::WriteFault => write_all_of(err, b"gimsatul: write fault\n"),
+        End::ProofFault => write_all_of(err, b"gimsatul: proof fault\n"),
+        End::Memory => write_all_of(err, b"gimsatul: out of memory\n"),
+    }
+}

@@ -8,9 +8,8 @@ use Rattle.std.specs.declared.option.Option.{Option}
 use Rattle.std.proofs.lemmas.List.{get_or-map, length-map}
 use Rattle.std.proofs.lemmas.List.Elements.{All-get_or}
 use Rattle.std.proofs.lemmas.Slice.Eq.{bytes_eq-Decides}
-use Rattle.clap.specs.Words.{Accepts, App, IsAmong, IsParsedFrom, IsPlain, IsPlainArg, Kinds, Rule, SameRules, app_of, args_of, fault_of, found_of, groups_of, is_simple, is_simple_and_free, items_of, matched_of, matches_of, one_text, parser_of, read_as, reading_of, rule_of}
-use Rattle.clap.specs.Built.{IsAuto}
-use Rattle.clap.specs.Facts.{Entry, EntryPasses, HasIn, PassesArg, WantsDefault, least_values, parser_of_value, unwrap_or_range}
+use Rattle.clap.specs.Words.{Accepts, App, IsAmong, IsParsedFrom, IsPlain, IsPlainArg, Kinds, Rule, SameRules, app_of, args_of, fault_of, found_of, groups_of, is_simple, is_simple_and_free, items_of, matched_of, matches_of, parser_of, read_as, reading_of, rule_of}
+use Rattle.clap.specs.Facts.{Entry, EntryPasses, HasIn, PassesArg, least_values, parser_of_value, unwrap_or_range}
 use Rattle.clap.specs.Walk.{is_free_arg, is_simple_arg}
 use Rattle.clap.specs.declared.builder.action.ArgAction.TheVariants.{Set, Count}
 use Rattle.clap.specs.declared.builder.arg.Arg.{Arg}

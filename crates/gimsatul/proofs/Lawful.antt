@@ -1,17 +1,14 @@
 -- Words that are lawful, and calls with such words.
-use Rattle.std.proofs.Common.{◌≡◌, ◌⊎◌, ℕ, List, [], Some, None, refl, ap, sym, subst, inl, inr, ◌∙◌}
-use Rattle.std.specs.Prelude.{IsSome, is_some, IfSome, option_map}
+use Rattle.std.proofs.Common.{◌≡◌, ℕ, List, [], Some, None, refl, ap, sym, subst, inl, ◌∙◌}
+use Rattle.std.specs.Prelude.{IsSome, is_some, option_map}
 use Rattle.std.specs.declared.option.Option.{Option}
 use Rattle.io_edge.specs.Causes.{Rose}
 use Rattle.io_edge.specs.Paths.{PathMap}
-use Rattle.sat_words.specs.FormulaData.{FormulaData}
-use Rattle.rup_model.specs.declared.journal.Entry.{Entry}
 use Rattle.gimsatul.specs.declared.report.Tally.{Tally}
 use Rattle.gimsatul.specs.declared.report.End.{End}
-use Rattle.gimsatul.specs.declared.report.End.TheVariants.{Satisfiable, Unsatisfiable, Unknown, Usage, BadInput, CannotOpen, CannotCreate, ReadFault, WriteFault, ProofFault, Memory}
-use Rattle.gimsatul.specs.Words.{Command, command_of, conflicts_limit, proof_path, file_path}
-use Rattle.gimsatul.specs.Run.{Call, Run, IsStill, HasFile, IsOpened, text_in, text_left, source_of, run_of}
-use Rattle.gimsatul.specs.Outcome.{Outcome, CallOutcome}
+use Rattle.gimsatul.specs.Words.{Command, command_of, proof_path, file_path}
+use Rattle.gimsatul.specs.Run.{Call, IsStill, IsOpened}
+use Rattle.gimsatul.specs.Outcome.{CallOutcome}
 use Rattle.gimsatul.specs.Tallied.{no_tally}
 use Rattle.gimsatul.specs.Ends.{end_of_words}
 use Rattle.gimsatul.specs.declared.words.WordsStop.{WordsStop}
@@ -26,17 +23,6 @@ pub asked_file : (found : Option Command) (command : Command) → found ≡ Some
 asked_file found command is some = subst (λ (x : Option Command). IsSome (file_path x)) (sym is) some
 
 module _ {R : Type 0} (left : R → Option (List ℕ)) (faults : R → ℕ) (contents : Option PathMap) where
-  -- the text that an opened input has left is its path's
-  pub opened_text : (path : Option (List ℕ)) (file : Option R) (input : Option (List ℕ)) → IsOpened left faults contents path file → text_left left file input ≡ text_in contents input path
-  opened_text None file input is = ap (λ (f : Option R). text_left left f input) is
-  opened_text (Some path) None input is = absurd is
-  opened_text (Some path) (Some reader) input is = is.0
-
-  pub opened_fresh : (path : Option (List ℕ)) (file : Option R) → IsOpened left faults contents path file → IfSome file (λ reader. faults reader ≡ 0)
-  opened_fresh None file is = subst (λ (f : Option R). IfSome f (λ reader. faults reader ≡ 0)) (sym is) tt
-  opened_fresh (Some path) None is = absurd is
-  opened_fresh (Some path) (Some reader) is = is.1
-
   -- an input is opened exactly where a path is given
   pub opened_there : (path : Option (List ℕ)) (file : Option R) → IsOpened left faults contents path file → is_some file ≡ is_some path
   opened_there None file is = ap (λ (f : Option R). is_some f) is
@@ -46,31 +32,6 @@ module _ {R : Type 0} (left : R → Option (List ℕ)) (faults : R → ℕ) (con
 -- the path of a command that the words ask for
 pub same_file : (found : Option Command) (command : Command) → found ≡ Some command → is_some (file_path found) ≡ is_some command.file
 same_file found command is = ap (λ (x : Option Command). is_some (file_path x)) is
-
--- a run of a lawful call is how the call ended
-whole : (end : End) (F : FormulaData) (J : List Entry) (tally : Tally) (call : Call) → IsSome (command_of call.words) → HasFile call → IsStill call.files → ((call.file ≡ None) ⊎ IsStill call.input)
-    → Outcome end F J tally (run_of call) → CallOutcome end F J tally call
-whole (Satisfiable model) F J tally call lawful file files input o = record { lawful = lawful; file = file; outcome = o; files = files; input = input }
-whole Unsatisfiable F J tally call lawful file files input o = record { lawful = lawful; file = file; outcome = o; files = files; input = input }
-whole Unknown F J tally call lawful file files input o = record { lawful = lawful; file = file; outcome = o; files = files; input = input }
-whole Usage F J tally call lawful file files input o = absurd o
-whole (BadInput code line) F J tally call lawful file files input o = record { lawful = lawful; file = file; outcome = o; files = files; input = input }
-whole CannotOpen F J tally call lawful file files input o = absurd o
-whole CannotCreate F J tally call lawful file files input o = absurd o
-whole ReadFault F J tally call lawful file files input o = record { lawful = lawful; file = file; outcome = o; files = files; input = input }
-whole WriteFault F J tally call lawful file files input o = record { lawful = lawful; file = file; outcome = o; files = files; input = input }
-whole ProofFault F J tally call lawful file files input o = record { lawful = lawful; file = file; outcome = o; files = files; input = input }
-whole Memory F J tally call lawful file files input o = inr (record { lawful = lawful; file = file; outcome = o; files = files; input = input })
-
-pub whole_call : (end : End) (F : FormulaData) (J : List Entry) (tally : Tally) (call : Call) (command : Command) (text : Option (List ℕ)) → command_of call.words ≡ Some command
-    → text ≡ text_in call.contents call.left command.file → is_some call.file ≡ is_some command.file → IsStill call.files → ((call.file ≡ None) ⊎ IsStill call.input)
-    → Outcome end F J tally (record { limit = command.conflicts; text = text; source = source_of call; proof = call.proof; out = call.out })
-    → CallOutcome end F J tally call
-whole_call end F J tally call command text is same file files input o =
-    let run : Option Command → Run = λ found. record { limit = conflicts_limit found; text = text_in call.contents call.left (file_path found); source = source_of call; proof = call.proof; out = call.out } in
-    let here : Outcome end F J tally (run (Some command)) = subst (λ (t : Option (List ℕ)). Outcome end F J tally (record { limit = command.conflicts; text = t; source = source_of call; proof = call.proof; out = call.out })) same o in
-    whole end F J tally call (ap (λ (x : Option Command). is_some x) is) (file ∙ sym (same_file _ _ is)) files input
-    (subst (λ (found : Option Command). Outcome end F J tally (run found)) (sym is) here)
 
 -- what shows as some number is there
 pub same_there : {R : Type 0} (faults : R → ℕ) (file : Option R) → is_some (option_map faults file) ≡ is_some file

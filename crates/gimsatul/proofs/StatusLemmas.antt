@@ -1,12 +1,11 @@
 -- What single statuses say, from the case of a call's end.
-use Rattle.std.proofs.Common.{◌≡◌, ◌≢◌, ◌⊎◌, ◌∙◌, ℕ, List, Bool, Some, None, refl, sym, inl, inr, subst, ⊎_elim, arith, rules, ap}
+use Rattle.std.proofs.Common.{◌≡◌, ◌≢◌, ◌⊎◌, ℕ, List, Bool, Some, None, refl, sym, inl, inr, subst, ⊎_elim, arith, rules, ap}
 use Rattle.std.specs.Prelude.{IfSome, IsSome, IsSomeAnd}
 use Rattle.std.specs.declared.option.Option.{Option}
 use Rattle.sat_words.specs.FormulaData.{FormulaData}
 use Rattle.rup_model.specs.declared.journal.Entry.{Entry}
 use Rattle.io_edge.specs.Causes.{Rose}
 use Rattle.dimacs_read.specs.Input.{Reads, Bad}
-use Rattle.dimacs_read.specs.Codes.{number_of}
 use Rattle.dimacs_read.specs.declared.stop.Code.{Code}
 use Rattle.gimsatul.specs.declared.report.Tally.{Tally}
 use Rattle.gimsatul.specs.declared.report.End.{End}
@@ -14,7 +13,7 @@ use Rattle.gimsatul.specs.declared.report.End.TheVariants.{Satisfiable, Unsatisf
 use Rattle.gimsatul.specs.declared.report.Verdict.TheVariants as verdict
 use Rattle.gimsatul.specs.Words.{Command, command_of, file_path, proof_path}
 use Rattle.gimsatul.specs.Input.{WasBad}
-use Rattle.gimsatul.specs.Run.{Call, Count, Writer, RoseIn, IsStill, HasFile, run_of, source_of, source_in, text_of}
+use Rattle.gimsatul.specs.Run.{Call, Count, Writer, RoseIn, IsStill, run_of, source_of, source_in, text_of}
 use Rattle.gimsatul.specs.Journaled.{IsJournal, HoldsLog}
 use Rattle.gimsatul.specs.Outcome.{CallOutcome, IsCall, IsWhole, IsUnread, IsRefused, IsBroken, IsStarted, IsBarren, IsIdle}
 use Rattle.gimsatul.specs.Headline.{status_of, model_of, Headline}

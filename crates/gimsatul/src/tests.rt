@@ -18,9 +18,7 @@ struct Row {
     words: &'static [&'static str],
     input: &'static [u8],
     input_fails: &'static [u64],
-    /// The bytes of the file `a.cnf`.
-    file: &'static [u8],
-    file_fails: &'static [u64],
+    inputs: &'static [MemFile<'static>],
     files_fail: &'static [u64],
     proof_fails: &'static [u64],
     out_fails: &'static [u64],
@@ -42,8 +40,7 @@ const PLAIN: Row = Row {
     words: &[],
     input: b"p cnf 0 0\n",
     input_fails: NEVER,
-    file: b"",
-    file_fails: NEVER,
+    inputs: &[],
     files_fail: NEVER,
     proof_fails: NEVER,
     out_fails: NEVER,
@@ -77,12 +74,7 @@ fn check_row(rt: &(impl Abort + AllocGlobal), row: Row, piece: usize) -> Result<
     let mut outputs = Vec::new(alloc);
     outputs.push(MemOutput::new(alloc, "P", ROOM, row.proof_fails)?)?;
     let spare = MemSink::new(alloc, ROOM, row.proof_fails)?;
-    let inputs = [MemFile {
-        path: "a.cnf",
-        bytes: row.file,
-        fails: row.file_fails,
-    }];
-    let mut files = MemFiles::new(alloc, &inputs, outputs, spare, row.files_fail);
+    let mut files = MemFiles::new(alloc, row.inputs, outputs, spare, row.files_fail);
     if piece == 0 {
         return Err(Fail::from("a piece of no byte"));
     }
@@ -334,12 +326,31 @@ fn words_that_are_taken(rt: HostRuntime) -> Result<(), Fail> {
     check_words(&rt, row, &table)
 }
 
+/// A store with one file.
+const REFUTED: &[MemFile<'static>] = &[MemFile {
+    path: "a.cnf",
+    bytes: b"p cnf 0 1\n0\n",
+    fails: NEVER,
+}];
+
+const REFUSED: &[MemFile<'static>] = &[MemFile {
+    path: "a.cnf",
+    bytes: b"p cnf 0 1\n",
+    fails: NEVER,
+}];
+
+const FAILING: &[MemFile<'static>] = &[MemFile {
+    path: "a.cnf",
+    bytes: b"p cnf 0 1\n0\n",
+    fails: FIRST,
+}];
+
 #[test]
 fn a_file_in_place_of_standard_input(rt: HostRuntime) -> Result<(), Fail> {
     let given = Row {
         words: &["--proof", "P", "a.cnf"],
         input_fails: FIRST,
-        file: b"p cnf 0 1\n0\n",
+        inputs: REFUTED,
         opened: true,
         ..PLAIN
     };
@@ -352,7 +363,7 @@ fn a_file_in_place_of_standard_input(rt: HostRuntime) -> Result<(), Fail> {
             ..given
         },
         Row {
-            file: b"p cnf 0 1\n",
+            inputs: REFUSED,
             status: 2,
             err: b"gimsatul: input line 2: TooFewClauses\n",
             code: 6,
@@ -360,7 +371,7 @@ fn a_file_in_place_of_standard_input(rt: HostRuntime) -> Result<(), Fail> {
             ..given
         },
         Row {
-            file_fails: FIRST,
+            inputs: FAILING,
             status: 5,
             err: b"gimsatul: read fault\n",
             ..given

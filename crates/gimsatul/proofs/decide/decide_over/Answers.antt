@@ -1,4 +1,4 @@
-use Rattle.std.proofs.Common.{[], inl, ap}
+use Rattle.std.proofs.Common.{[], inl}
 use Rattle.gimsatul.proofs.Finishes.{no_formula, unread, unread_end}
 use Rattle.gimsatul.proofs.decide.decide_over.Goals as goal
 

@@ -1,4 +1,4 @@
-use Rattle.std.proofs.Common.{◌≡◌, ◌∙◌, ap, sym, codes}
+use Rattle.std.proofs.Common.{◌∙◌, ap, sym, codes}
 use Rattle.clap.specs.Words.{found_of}
 use Rattle.gimsatul.specs.Words.{number_in}
 use Rattle.clap.proofs.WalkLemmas.{one_text-rows}

@@ -1,4 +1,4 @@
-use Rattle.std.proofs.Common.{◌≡◌, ◌∙◌, ap, sym, map, inl, inr, Some}
+use Rattle.std.proofs.Common.{◌∙◌, ap, sym, map, inl, inr, Some}
 use Rattle.std.specs.Prelude.{string_bytes}
 use Rattle.clap.specs.Words.{App, fault_of, is_simple, is_simple_and_free, kind_of, matches_of}
 use Rattle.gimsatul.specs.Words.{command_in}

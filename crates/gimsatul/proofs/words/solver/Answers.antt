@@ -1,8 +1,8 @@
-use Rattle.std.proofs.Common.{◌≡◌, ◌∙◌, ap, ap₂, sym, true, codes, rules}
+use Rattle.std.proofs.Common.{◌≡◌, ◌∙◌, ap, ap₂, true, codes}
 use Rattle.std.proofs.lemmas.Result.{IfOk-weaker}
 use Rattle.clap.specs.Words.{App, app_of, with_rule, new_app}
 use Rattle.clap.specs.Simple.{app_of_fields}
-use Rattle.gimsatul.specs.Words.{bare_app, conflicts_rule, threads_rule, proof_rule, no_simplify_rule, file_rule}
+use Rattle.gimsatul.specs.Words.{bare_app, conflicts_rule, threads_rule, proof_rule, no_simplify_rule}
 use Rattle.gimsatul.proofs.words.solver.Goals as goal
 
 pub returns : goal.returns

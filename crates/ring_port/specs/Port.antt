@@ -1,0 +1,165 @@
+-- What each call of a port does, from the state before it to the state after it.
+use Rattle.std.specs.Prelude.{◌≡◌, ◌≢◌, ℕ, ◌<◌, ◌≤◌, ◌==◌, ◌||◌, Bool, true, false, List, [], ◌∷◌, ◌++◌, length, All, Option, Some, None, IsSome, Result, Ok, Err, MatchOption, not, ⊤}
+use Rattle.std.specs.List.{list_any}
+use Rattle.sat_words.specs.Literal.{Literal, same}
+use Rattle.sat_words.specs.Clause.{has, distinct_lits, has_opposites}
+use Rattle.sat_words.specs.declared.shared.Cref.{Cref}
+use Rattle.sat_words.specs.declared.shared.Stop.{Stop}
+use Rattle.rup_model.specs.declared.journal.Kind.{Kind}
+use Rattle.rup_model.specs.declared.journal.Kind.TheVariants.{Learn, Derive, UnitLine}
+use Rattle.rup_model.specs.declared.journal.Entry.{Entry}
+use Rattle.rup_model.specs.declared.journal.Entry.TheVariants.{Add}
+use Rattle.ring_port.specs.declared.stops.PortStop.{PortStop}
+use Rattle.ring_port.specs.declared.stops.PortStop.TheVariants.{Ended, Broken, ProofFault, NoHole, Memory}
+use Rattle.ring_port.specs.declared.stops.Set.{Set}
+use Rattle.ring_port.specs.declared.stops.Set.TheVariants.{Won, Lost}
+use Rattle.ring_port.specs.PortState.{Holding, PortState, IsOn, held_at}
+
+-- What the calls ask for
+
+-- the writing of a line has not failed yet
+abbrev pub is_fault : PortStop → Bool
+is_fault Ended = false
+is_fault Broken = true
+is_fault ProofFault = true
+is_fault (NoHole need largest) = false
+is_fault Memory = false
+
+-- no line has failed, as far as the port knows
+abbrev pub is_usable : Option PortStop → Bool
+is_usable None = true
+is_usable (Some stop) = not (is_fault stop)
+
+-- literals on the variables, without repeats or opposites
+pub record IsClause (vars : ℕ) (c : List Literal) : Type 0 where
+  pub on : All (IsOn vars) c
+  pub distinct : distinct_lits c ≡ true
+  pub no_opposites : has_opposites c ≡ false
+
+-- Refusals
+
+-- the port after an answer that refuses: the answer is noted, and that the log is ended where it says so; want of memory
+-- leaves no trace
+abbrev pub after_refusal : PortState → PortStop → PortState
+after_refusal s Ended = record s { refused = Some Ended; ended = true }
+after_refusal s Broken = record s { refused = Some Broken }
+after_refusal s ProofFault = record s { refused = Some ProofFault }
+after_refusal s (NoHole need largest) = record s { refused = Some (NoHole need largest) }
+after_refusal s Memory = s
+
+-- a log that is ended is answered before anything else, but for want of memory; there is no hole where more is needed than
+-- the largest has
+abbrev pub HasReason : PortState → PortStop → Type 0
+HasReason s Ended = ⊤
+HasReason s Broken = s.ended ≡ false
+HasReason s ProofFault = s.ended ≡ false
+HasReason s (NoHole need largest) = (s.ended ≡ false) × (largest < need)
+HasReason s Memory = ⊤
+
+-- a call that writes was refused, and did nothing else
+pub record Refused (old new : PortState) (stop : PortStop) : Type 0 where
+  pub reason : HasReason old stop
+  pub state : new ≡ after_refusal old stop
+
+-- Lines
+
+-- the ring's entry that adds the clause
+abbrev pub entry_of : PortState → ℕ → List Literal → Kind → Entry
+entry_of s number lits kind = Add (record { ring = s.ring; number = number; lits = lits; kind = kind })
+
+-- no clause is held at the address, or waits there
+pub record IsFreeAddress (s : PortState) (a : ℕ) : Type 0 where
+  pub not_held : held_at s a ≡ None
+  pub not_waiting : list_any (λ b. b == a) s.waiting ≡ false
+
+-- the units are those seen before, and this one
+abbrev pub Sees : List Literal → List Literal → Literal → Type 0
+Sees old new l = (k : Literal) → has new k ≡ (has old k || same l k)
+
+-- a clause of two literals or more was learned: it is held at an address that was free, under the number of its line, and
+-- is the one learned last
+pub record LearnedClause (old new : PortState) (lits : List Literal) (glue : ℕ) (c : Cref) : Type 0 where
+  pub number : ℕ
+  pub going : old.ended ≡ false
+  pub long : 2 ≤ length lits
+  pub free : IsFreeAddress old c.address
+  pub state : new ≡ record old {
+    held = old.held ++ record { address = c.address; number = number; glue = glue; lits = lits } ∷ [];
+    mine = old.mine ++ entry_of old number lits Learn ∷ [];
+    last = Some c.address;
+  }
+
+-- the line of a unit was added, and the unit is seen; a clause that was learned before it may still be offered, or not
+pub record WroteUnit (old new : PortState) (l : Literal) (kind : Kind) (last : Option ℕ) : Type 0 where
+  pub number : ℕ
+  pub going : old.ended ≡ false
+  pub sees : Sees old.seen new.seen l
+  pub state : new ≡ record old {
+    seen = new.seen;
+    mine = old.mine ++ entry_of old number (l ∷ []) kind ∷ [];
+    last = last;
+  }
+
+-- a unit was learned
+pub record LearnedUnit (old new : PortState) (lits : List Literal) : Type 0 where
+  pub lit : Literal
+  pub unit : lits ≡ lit ∷ []
+  pub wrote : WroteUnit old new lit Learn None
+
+-- what `learn` did: a clause is held from then on; a unit is seen
+abbrev pub Learned : PortState → PortState → List Literal → ℕ → Result (Option Cref) PortStop → Type 0
+Learned old new lits glue (Ok None) = LearnedUnit old new lits
+Learned old new lits glue (Ok (Some c)) = LearnedClause old new lits glue c
+Learned old new lits glue (Err stop) = Refused old new stop
+
+-- what is held stays held
+abbrev pub KeepsHeld : PortState → PortState → Type 0
+KeepsHeld old new = (a : ℕ) → IsSome (held_at old a) → held_at new a ≡ held_at old a
+
+-- what `unit` did
+abbrev pub UnitWritten : PortState → PortState → Literal → Result (Unit {0}) PortStop → Type 0
+UnitWritten old new l (Ok done) = WroteUnit old new l UnitLine old.last
+UnitWritten old new l (Err stop) = Refused old new stop
+
+-- the empty clause was added, and the log is ended
+pub record EndedLog (old new : PortState) : Type 0 where
+  pub number : ℕ
+  pub going : old.ended ≡ false
+  pub state : new ≡ record old { mine = old.mine ++ entry_of old number [] Derive ∷ []; ended = true }
+
+-- what `empty` did
+abbrev pub EmptyWritten : PortState → PortState → Result (Unit {0}) PortStop → Type 0
+EmptyWritten old new (Ok done) = EndedLog old new
+EmptyWritten old new (Err stop) = Refused old new stop
+
+-- Units and stops
+
+-- the unit is seen now, and one fewer may come
+pub record TookUnit (old new : PortState) (l : Literal) : Type 0 where
+  pub sees : Sees old.seen new.seen l
+  pub fewer : new.coming < old.coming
+  pub state : new ≡ record old { seen = new.seen; coming = new.coming }
+
+-- none is left: every unit of the opening is seen
+pub record TookNone (old new : PortState) : Type 0 where
+  pub all : (l : Literal) → has old.opening l ≡ true → has old.seen l ≡ true
+  pub state : new ≡ old
+
+-- what `next_unit` did
+abbrev pub Took : PortState → PortState → Option Literal → Type 0
+Took old new None = TookNone old new
+Took old new (Some l) = TookUnit old new l
+
+-- the stop is the one seen before; where none was seen it is another ring's
+abbrev pub Stands : PortState → Stop → Type 0
+Stands old x = MatchOption old.stop (x.ring ≢ old.ring) (λ y. x ≡ y)
+
+-- what `stopped` saw
+abbrev pub Looked : PortState → PortState → Option Stop → Type 0
+Looked old new None = (old.stop ≡ None) × (new ≡ old)
+Looked old new (Some x) = Stands old x × (new ≡ record old { stop = Some x })
+
+-- what `stop` did: the ring's stop stands where none stood; else what stands is told
+abbrev pub SetStop : PortState → PortState → ℕ → Set → Type 0
+SetStop old new kind Won = (old.stop ≡ None) × (new ≡ record old { stop = Some (record { kind = kind; ring = old.ring }) })
+SetStop old new kind (Lost x) = Stands old x × (new ≡ record old { stop = Some x })

@@ -1,0 +1,140 @@
+-- What is known of a ring's port: what the ring holds and has seen, what it wrote, and how its search began.
+use Rattle.std.specs.Prelude.{◌≡◌, ℕ, ◌<◌, ◌≤◌, ◌==◌, Bool, List, [], ◌∷◌, ◌++◌, map, length, find, All, Contains, Option, Some, None, IfSome}
+use Rattle.std.specs.List.{count_by}
+use Rattle.std.specs.Option.{option_map_or}
+use Rattle.sat_words.specs.Literal.{Literal}
+use Rattle.sat_words.specs.declared.shared.Head.{Head}
+use Rattle.sat_words.specs.declared.shared.Stop.{Stop}
+use Rattle.rup_model.specs.declared.journal.Entry.{Entry}
+use Rattle.sat_words.specs.declared.shared.TheConstants.{STOP_SAT, STOP_MEMORY}
+use Rattle.rup_model.specs.Opening.{Opening, Start, IsLong}
+use Rattle.drat_text.specs.LineState.{LineState}
+use Rattle.ring_port.specs.declared.stops.PortStop.{PortStop}
+
+-- a clause where it is held: its address, its number in the log, its glue and its literals in their order
+pub record Holding : Type 0 where
+  pub address : ℕ
+  pub number : ℕ
+  pub glue : ℕ
+  pub lits : List Literal
+
+-- a clause that was put where another ring may get it: for which ring, in which class, and its address
+pub record Offer : Type 0 where
+  pub ring : ℕ
+  pub class : ℕ
+  pub address : ℕ
+
+-- what the port was made over: the formula, the ruler's journal, and the state of the line output
+pub record Origin : Type 0 where
+  pub formula : List (List Literal)
+  pub journal : List Entry
+  pub output : LineState
+
+pub record PortState : Type 0 where
+  -- the clauses held, each as often as it is held
+  pub held : List Holding
+  -- the addresses of clauses that are to be deleted
+  pub waiting : List ℕ
+  -- the units that `next_unit` gave or the port wrote
+  pub seen : List Literal
+  -- how many units `next_unit` may yet give
+  pub coming : ℕ
+  -- the start clauses at their addresses, with glue 0
+  pub start : List Holding
+  -- the units that are listed from the start
+  pub opening : List Literal
+  -- the ring's journal entries, in order
+  pub mine : List Entry
+  -- how often the ring has shared a clause
+  pub shared : ℕ
+  -- how often it has looked for a clause of another ring
+  pub polled : ℕ
+  -- what it has put for other rings, in order
+  pub puts : List Offer
+  -- the addresses that it has taken from other rings since its last Reduce entry
+  pub taken : List ℕ
+  -- every literal is on a variable from 1 to this one
+  pub vars : ℕ
+  -- this ring's number
+  pub ring : ℕ
+  -- how many rings there are
+  pub rings : ℕ
+  -- the address of the clause that was learned last, until it is offered
+  pub last : Option ℕ
+  -- the stop that was seen or set
+  pub stop : Option Stop
+  -- the last answer that refused, but for want of memory
+  pub refused : Option PortStop
+  -- the empty clause stands in the log
+  pub ended : Bool
+  -- what no call changes
+  pub origin : Origin
+
+-- Looking up
+
+-- the clause held at an address
+unfoldable pub held_at : PortState → ℕ → Option Holding
+held_at s a = find (λ h. h.address == a) s.held
+
+-- the literals of the clause at an address; none where no clause is held there
+abbrev pub lits_at : PortState → ℕ → List Literal
+lits_at s a = option_map_or (λ h. h.lits) (held_at s a) []
+
+-- how often the address is held
+abbrev pub times_held : PortState → ℕ → ℕ
+times_held s a = count_by (λ h. h.address == a) s.held
+
+-- what stands before the literals of a clause that is held
+abbrev pub head_of : Holding → Head
+head_of h = record { size = length h.lits; glue = h.glue; number = h.number }
+
+-- the clauses that propagation may use: those held, and the units seen
+unfoldable pub known : PortState → List (List Literal)
+known s = map (λ h. h.lits) s.held ++ map (λ l. l ∷ []) s.seen
+
+-- What is kept of every port
+
+-- a variable from 1 to this one
+pub record IsOn (vars : ℕ) (l : Literal) : Type 0 where
+  pub low : 1 ≤ l.var
+  pub high : l.var ≤ vars
+
+-- two literals or more without repeats or opposites, on the variables
+pub record IsKept (vars : ℕ) (h : Holding) : Type 0 where
+  pub shape : IsLong h.lits
+  pub on : All (IsOn vars) h.lits
+
+-- of one of the five kinds, by one of the rings
+pub record IsStop (rings : ℕ) (x : Stop) : Type 0 where
+  pub low : STOP_SAT ≤ x.kind
+  pub high : x.kind ≤ STOP_MEMORY
+  pub of_ring : x.ring < rings
+
+-- each clause held is long and on the variables, and an address has one clause, however often it is held; start clauses
+-- and units are on the variables; the stop is one of the rings'
+pub record IsPort (s : PortState) : Type 0 where
+  pub held : All (IsKept s.vars) s.held
+  pub one : (h k : Holding) → Contains s.held h → Contains s.held k → h.address ≡ k.address → h ≡ k
+  pub start : All (IsKept s.vars) s.start
+  pub seen : All (IsOn s.vars) s.seen
+  pub opening : All (IsOn s.vars) s.opening
+  pub stop : IfSome s.stop (IsStop s.rings)
+  pub ring : s.ring < s.rings
+
+-- The opening
+
+-- each start clause is held at its address
+abbrev pub HoldsStart : PortState → Type 0
+HoldsStart s = All (λ h. held_at s h.address ≡ Some h) s.start
+
+-- a start clause without its address
+abbrev pub start_of : Holding → Start
+start_of h = record { number = h.number; lits = h.lits }
+
+-- the opening that the port was made over
+abbrev pub opening_of : PortState → Opening
+opening_of s = record { journal = s.origin.journal; starts = map start_of s.start; units = s.opening }
+
+-- the log as far as the port knows it: the ruler's entries, and its own
+abbrev pub journal_of : PortState → List Entry
+journal_of s = s.origin.journal ++ s.mine

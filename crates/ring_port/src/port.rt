@@ -1,0 +1,84 @@
+ghost use Rattle.std.specs.Prelude.{◌≡◌, ◌<◌, ◌≤◌, ◌∷◌, [], true, All, Some, IfSome, IsSome, length, slice_get};
+ghost use Rattle.sat_words.specs.Literal.{Literal};
+ghost use Rattle.sat_words.specs.declared.shared.TheConstants.{STOP_SAT, STOP_REFUTED, STOP_MEMORY};
+ghost use Rattle.rup_model.specs.Rup.{rup};
+ghost use Rattle.ring_port.specs.PortState.{PortState, IsPort, IsOn, held_at, lits_at, head_of, known};
+ghost use Rattle.ring_port.specs.Port.{is_usable, IsClause, Learned, KeepsHeld, UnitWritten, EmptyWritten, Took, Looked, SetStop};
+
+use crate::stops::{PortStop, Set};
+use sat_words::{Cref, Head, Lit, Stop};
+
+/// The whole outside of a ring: the clauses that it holds, the log that it writes, the units and the stop that it shares
+/// with other rings.
+///
+/// The ring names a clause by its address, and reads it only while it holds it. What is written into the log has to
+/// follow by unit propagation (RUP) from the clauses held and the units seen.
+pub trait Port {
+    /// What contracts see of a port.
+    ghost state: { Self → PortState };
+
+    /// The greatest variable. It tells what no call changes.
+    fn vars(&self) -> u32
+        ensures value { result ≡ (state self.now).vars }
+        ensures port { IsPort (state self.now) };
+
+    /// The size, the glue and the number of a clause that is held.
+    fn head(&mut self, c: Cref) -> Head
+        requires { IsSome (held_at (state self.old) c.address) }
+        ensures value { IfSome (held_at (state self.old) c.address) (λ h. result ≡ head_of h) }
+        ensures size { result.size ≡ length (lits_at (state self.old) c.address) }
+        ensures same { state self.new ≡ state self.old }
+        ensures port { IsPort (state self.new) };
+
+    /// The literal at place `i`, from 0, of a clause that is held.
+    fn read_lit(&mut self, c: Cref, i: u32) -> Lit
+        requires held { IsSome (held_at (state self.old) c.address) }
+        requires inside { i < length (lits_at (state self.old) c.address) }
+        ensures value { slice_get (lits_at (state self.old) c.address) i ≡ Some result }
+        ensures same { state self.new ≡ state self.old }
+        ensures port { IsPort (state self.new) };
+
+    /// Learns a clause that was found at a conflict: its line is written, and it is held from then on with its literals
+    /// in this order. The glue is that of `Head`. Of one literal it is a unit, which has no address and is seen.
+    fn learn(&mut self, lits: &[Lit], glue: u32) -> Result<Option<Cref>, PortStop>
+        requires usable { is_usable (state self.old).refused ≡ true }
+        requires some { 1 ≤ length lits.now }
+        requires clause { IsClause (state self.old).vars lits.now }
+        requires rup { rup (known (state self.old)) lits.now ≡ true }
+        ensures learned { Learned (state self.old) (state self.new) lits.now glue result }
+        ensures kept { KeepsHeld (state self.old) (state self.new) }
+        ensures port { IsPort (state self.new) };
+
+    /// Writes the line of a literal that propagation made true for good, and tells the other rings.
+    fn unit(&mut self, lit: Lit) -> Result<(), PortStop>
+        requires usable { is_usable (state self.old).refused ≡ true }
+        requires on { IsOn (state self.old).vars lit }
+        requires rup { rup (known (state self.old)) (lit ∷ []) ≡ true }
+        ensures written { UnitWritten (state self.old) (state self.new) lit result }
+        ensures port { IsPort (state self.new) };
+
+    /// Writes the empty clause, which ends the log.
+    fn empty(&mut self) -> Result<(), PortStop>
+        requires usable { is_usable (state self.old).refused ≡ true }
+        requires rup { rup (known (state self.old)) [] ≡ true }
+        ensures written { EmptyWritten (state self.old) (state self.new) result }
+        ensures port { IsPort (state self.new) };
+
+    /// The next unit that this ring has not been given: one of those listed from the start, or of another ring.
+    fn next_unit(&mut self) -> Option<Lit>
+        ensures took { Took (state self.old) (state self.new) result }
+        ensures port { IsPort (state self.new) };
+
+    /// The stop that stands, if any.
+    fn stopped(&mut self) -> Option<Stop>
+        ensures looked { Looked (state self.old) (state self.new) result }
+        ensures port { IsPort (state self.new) };
+
+    /// Sets this ring's stop, one of the kinds from `STOP_SAT` to `STOP_MEMORY`, where none stands.
+    fn stop(&mut self, kind: u8) -> Set
+        requires low { STOP_SAT ≤ kind }
+        requires high { kind ≤ STOP_MEMORY }
+        requires refuted { kind ≡ STOP_REFUTED → (state self.old).ended ≡ true }
+        ensures set { SetStop (state self.old) (state self.new) kind result }
+        ensures port { IsPort (state self.new) };
+}

@@ -2,3 +2,5 @@ pub mod Text
 pub mod Cut
 pub mod PieceCut
 pub mod LineState
+pub mod LineOut
+pub mod SinkData

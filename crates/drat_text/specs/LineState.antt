@@ -1,19 +1,26 @@
 -- What is known of a place that takes the lines of a log one by one.
-use Rattle.std.specs.Prelude.{ℕ, List}
+use Rattle.std.specs.Prelude.{ℕ, ◌+◌, Bool, List}
 use Rattle.std.specs.declared.option.Option.{Option}
 use Rattle.sat_words.specs.declared.line.Line.{Line}
+use Rattle.sat_words.specs.declared.line.Line.TheVariants.{Add, Del}
 
--- the path that the lines are for, and the bytes that a flush has made sure of, where these are told
-pub record LinesFor : Type 0 where
-  pub target : Option (List ℕ)
-  pub flushed : Option (List ℕ)
-
--- how many lines stand, the last number given, the line at which writing failed, how often it has failed, all lines put
--- so far where they are told, and where they go
+-- how many lines stand, and the last number given; whether writing failed, and how often; the text of the lines put so far,
+-- the path that they are for and the bytes that a flush has made sure of, where these are told
 pub record LineState : Type 0 where
   pub entries : ℕ
   pub last : ℕ
-  pub spent : Option Line
+  pub spent : Bool
   pub faults : ℕ
-  pub lines : Option (List Line)
-  pub goes : LinesFor
+  pub written : Option (List ℕ)
+  pub target : Option (List ℕ)
+  pub flushed : Option (List ℕ)
+
+-- the last number given once the line stands: an addition takes the next
+abbrev pub last_after : ℕ → Line → ℕ
+last_after n (Add lits) = n + 1
+last_after n (Del lits) = n
+
+-- the number of the line: a deletion has none, which is told as 0
+abbrev pub number_given : ℕ → Line → ℕ
+number_given n (Add lits) = n + 1
+number_given n (Del lits) = 0

@@ -1,2 +1,3 @@
 pub mod PortState
 pub mod Port
+pub mod Log

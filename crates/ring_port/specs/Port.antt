@@ -13,6 +13,7 @@ use Rattle.ring_port.specs.declared.stops.PortStop.{PortStop}
 use Rattle.ring_port.specs.declared.stops.PortStop.TheVariants.{Ended, Broken, ProofFault, NoHole, Memory}
 use Rattle.ring_port.specs.declared.stops.Set.{Set}
 use Rattle.ring_port.specs.declared.stops.Set.TheVariants.{Won, Lost}
+use Rattle.drat_text.specs.LineState.{LineState}
 use Rattle.ring_port.specs.PortState.{Holding, PortState, IsOn, held_at}
 
 -- What the calls ask for
@@ -38,14 +39,14 @@ pub record IsClause (vars : ℕ) (c : List Literal) : Type 0 where
 
 -- Refusals
 
--- the port after an answer that refuses: the answer is noted, and that the log is ended where it says so; want of memory
--- leaves no trace
-abbrev pub after_refusal : PortState → PortStop → PortState
-after_refusal s Ended = record s { refused = Some Ended; ended = true }
-after_refusal s Broken = record s { refused = Some Broken }
-after_refusal s ProofFault = record s { refused = Some ProofFault }
-after_refusal s (NoHole need largest) = record s { refused = Some (NoHole need largest) }
-after_refusal s Memory = s
+-- the port after an answer that refuses, and its output after a fault: the answer is noted, and that the log is ended where
+-- it says so; want of memory leaves no trace
+abbrev pub after_refusal : PortState → Option LineState → PortStop → PortState
+after_refusal s output Ended = record s { refused = Some Ended; ended = true }
+after_refusal s output Broken = record s { refused = Some Broken }
+after_refusal s output ProofFault = record s { refused = Some ProofFault; output = output }
+after_refusal s output (NoHole need largest) = record s { refused = Some (NoHole need largest) }
+after_refusal s output Memory = s
 
 -- a log that is ended is answered before anything else, but for want of memory; there is no hole where more is needed than
 -- the largest has
@@ -59,7 +60,7 @@ HasReason s Memory = ⊤
 -- a call that writes was refused, and did nothing else
 pub record Refused (old new : PortState) (stop : PortStop) : Type 0 where
   pub reason : HasReason old stop
-  pub state : new ≡ after_refusal old stop
+  pub state : new ≡ after_refusal old new.output stop
 
 -- Lines
 
@@ -76,6 +77,10 @@ pub record IsFreeAddress (s : PortState) (a : ℕ) : Type 0 where
 abbrev pub Sees : List Literal → List Literal → Literal → Type 0
 Sees old new l = (k : Literal) → has new k ≡ (has old k || same l k)
 
+-- the clause as it is held once it is learned
+abbrev pub holding_of : Cref → ℕ → ℕ → List Literal → Holding
+holding_of c number glue lits = record { address = c.address; number = number; glue = glue; lits = lits }
+
 -- a clause of two literals or more was learned: it is held at an address that was free, under the number of its line, and
 -- is the one learned last
 pub record LearnedClause (old new : PortState) (lits : List Literal) (glue : ℕ) (c : Cref) : Type 0 where
@@ -83,10 +88,12 @@ pub record LearnedClause (old new : PortState) (lits : List Literal) (glue : ℕ
   pub going : old.ended ≡ false
   pub long : 2 ≤ length lits
   pub free : IsFreeAddress old c.address
+  pub there : held_at new c.address ≡ Some (holding_of c number glue lits)
   pub state : new ≡ record old {
-    held = old.held ++ record { address = c.address; number = number; glue = glue; lits = lits } ∷ [];
+    held = old.held ++ holding_of c number glue lits ∷ [];
     mine = old.mine ++ entry_of old number lits Learn ∷ [];
     last = Some c.address;
+    output = new.output;
   }
 
 -- the line of a unit was added, and the unit is seen; a clause that was learned before it may still be offered, or not
@@ -98,6 +105,7 @@ pub record WroteUnit (old new : PortState) (l : Literal) (kind : Kind) (last : O
     seen = new.seen;
     mine = old.mine ++ entry_of old number (l ∷ []) kind ∷ [];
     last = last;
+    output = new.output;
   }
 
 -- a unit was learned
@@ -125,7 +133,11 @@ UnitWritten old new l (Err stop) = Refused old new stop
 pub record EndedLog (old new : PortState) : Type 0 where
   pub number : ℕ
   pub going : old.ended ≡ false
-  pub state : new ≡ record old { mine = old.mine ++ entry_of old number [] Derive ∷ []; ended = true }
+  pub state : new ≡ record old {
+    mine = old.mine ++ entry_of old number [] Derive ∷ [];
+    ended = true;
+    output = new.output;
+  }
 
 -- what `empty` did
 abbrev pub EmptyWritten : PortState → PortState → Result (Unit {0}) PortStop → Type 0

@@ -7,7 +7,7 @@ use Rattle.sat_words.specs.declared.shared.Head.{Head}
 use Rattle.sat_words.specs.declared.shared.Stop.{Stop}
 use Rattle.rup_model.specs.declared.journal.Entry.{Entry}
 use Rattle.sat_words.specs.declared.shared.TheConstants.{STOP_SAT, STOP_MEMORY}
-use Rattle.rup_model.specs.Opening.{Opening, Start, IsLong}
+use Rattle.rup_model.specs.Opening.{IsLong}
 use Rattle.drat_text.specs.LineState.{LineState}
 use Rattle.ring_port.specs.declared.stops.PortStop.{PortStop}
 
@@ -23,12 +23,6 @@ pub record Offer : Type 0 where
   pub ring : ℕ
   pub class : ℕ
   pub address : ℕ
-
--- what the port was made over: the formula, the ruler's journal, and the state of the line output
-pub record Origin : Type 0 where
-  pub formula : List (List Literal)
-  pub journal : List Entry
-  pub output : LineState
 
 pub record PortState : Type 0 where
   -- the clauses held, each as often as it is held
@@ -67,8 +61,8 @@ pub record PortState : Type 0 where
   pub refused : Option PortStop
   -- the empty clause stands in the log
   pub ended : Bool
-  -- what no call changes
-  pub origin : Origin
+  -- its line output, where the port has one of its own
+  pub output : Option LineState
 
 -- Looking up
 
@@ -126,15 +120,3 @@ pub record IsPort (s : PortState) : Type 0 where
 -- each start clause is held at its address
 abbrev pub HoldsStart : PortState → Type 0
 HoldsStart s = All (λ h. held_at s h.address ≡ Some h) s.start
-
--- a start clause without its address
-abbrev pub start_of : Holding → Start
-start_of h = record { number = h.number; lits = h.lits }
-
--- the opening that the port was made over
-abbrev pub opening_of : PortState → Opening
-opening_of s = record { journal = s.origin.journal; starts = map start_of s.start; units = s.opening }
-
--- the log as far as the port knows it: the ruler's entries, and its own
-abbrev pub journal_of : PortState → List Entry
-journal_of s = s.origin.journal ++ s.mine

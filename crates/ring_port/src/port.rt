@@ -3,6 +3,7 @@ ghost use Rattle.sat_words.specs.Literal.{Literal};
 ghost use Rattle.sat_words.specs.declared.shared.TheConstants.{STOP_SAT, STOP_REFUTED, STOP_MEMORY};
 ghost use Rattle.rup_model.specs.Rup.{rup};
 ghost use Rattle.ring_port.specs.PortState.{PortState, IsPort, IsOn, held_at, lits_at, head_of, known};
+ghost use Rattle.ring_port.specs.Log.{KeepsLog};
 ghost use Rattle.ring_port.specs.Port.{is_usable, IsClause, Learned, KeepsHeld, UnitWritten, EmptyWritten, Took, Looked, SetStop};
 
 use crate::stops::{PortStop, Set};
@@ -12,7 +13,8 @@ use sat_words::{Cref, Head, Lit, Stop};
 /// with other rings.
 ///
 /// The ring names a clause by its address, and reads it only while it holds it. What is written into the log has to
-/// follow by unit propagation (RUP) from the clauses held and the units seen.
+/// follow by unit propagation (RUP) from the clauses held and the units seen. Of a port that writes alone each call keeps
+/// that one journal stands behind it (`log`), each line of which is valid where it stands.
 pub trait Port {
     /// What contracts see of a port.
     ghost state: { Self → PortState };
@@ -47,6 +49,7 @@ pub trait Port {
         requires rup { rup (known (state self.old)) lits.now ≡ true }
         ensures learned { Learned (state self.old) (state self.new) lits.now glue result }
         ensures kept { KeepsHeld (state self.old) (state self.new) }
+        ensures log { KeepsLog (state self.old) (state self.new) }
         ensures port { IsPort (state self.new) };
 
     /// Writes the line of a literal that propagation made true for good, and tells the other rings.
@@ -55,6 +58,7 @@ pub trait Port {
         requires on { IsOn (state self.old).vars lit }
         requires rup { rup (known (state self.old)) (lit ∷ []) ≡ true }
         ensures written { UnitWritten (state self.old) (state self.new) lit result }
+        ensures log { KeepsLog (state self.old) (state self.new) }
         ensures port { IsPort (state self.new) };
 
     /// Writes the empty clause, which ends the log.
@@ -62,16 +66,19 @@ pub trait Port {
         requires usable { is_usable (state self.old).refused ≡ true }
         requires rup { rup (known (state self.old)) [] ≡ true }
         ensures written { EmptyWritten (state self.old) (state self.new) result }
+        ensures log { KeepsLog (state self.old) (state self.new) }
         ensures port { IsPort (state self.new) };
 
     /// The next unit that this ring has not been given: one of those listed from the start, or of another ring.
     fn next_unit(&mut self) -> Option<Lit>
         ensures took { Took (state self.old) (state self.new) result }
+        ensures log { KeepsLog (state self.old) (state self.new) }
         ensures port { IsPort (state self.new) };
 
     /// The stop that stands, if any.
     fn stopped(&mut self) -> Option<Stop>
         ensures looked { Looked (state self.old) (state self.new) result }
+        ensures log { KeepsLog (state self.old) (state self.new) }
         ensures port { IsPort (state self.new) };
 
     /// Sets this ring's stop, one of the kinds from `STOP_SAT` to `STOP_MEMORY`, where none stands.
@@ -80,5 +87,6 @@ pub trait Port {
         requires high { kind ≤ STOP_MEMORY }
         requires refuted { kind ≡ STOP_REFUTED → (state self.old).ended ≡ true }
         ensures set { SetStop (state self.old) (state self.new) kind result }
+        ensures log { KeepsLog (state self.old) (state self.new) }
         ensures port { IsPort (state self.new) };
 }

@@ -1,0 +1,41 @@
+-- What becomes of a line that is put.
+use Rattle.std.specs.Prelude.{◌≡◌, ℕ, ◌+◌, ◌<◌, ◌≤◌, true, Result, Ok, Err}
+use Rattle.std.specs.Io.KnownBytes.{append_known}
+use Rattle.sat_words.specs.declared.line.Line.{Line}
+use Rattle.io_edge.specs.Bytes.{GrowsByPart}
+use Rattle.io_edge.specs.Causes.{Rose}
+use Rattle.drat_text.specs.declared.stop.TheConstants.{MAX_ENTRIES}
+use Rattle.drat_text.specs.declared.stop.LineStop.{LineStop}
+use Rattle.drat_text.specs.declared.stop.LineStop.TheVariants.{ProofFault, Full, Memory}
+use Rattle.drat_text.specs.Text.{line_text}
+use Rattle.drat_text.specs.LineState.{LineState, last_after, number_given}
+
+-- the line stands, under this number
+pub record PutLine (old new : LineState) (x : Line) (number : ℕ) : Type 0 where
+  pub room : old.entries < MAX_ENTRIES
+  pub given : number ≡ number_given old.last x
+  pub state : new ≡ record old {
+    entries = old.entries + 1;
+    last = last_after old.last x;
+    written = append_known old.written (line_text x);
+  }
+
+-- writing failed: a part of the line's text was written, and no more lines are
+pub record FailedLine (old new : LineState) (x : Line) : Type 0 where
+  pub room : old.entries < MAX_ENTRIES
+  pub rose : Rose old.faults new.faults
+  pub later : old.faults ≤ new.faults
+  pub part : GrowsByPart old.written new.written (line_text x)
+  pub state : new ≡ record old { spent = true; faults = new.faults; written = new.written }
+
+-- as many lines stand as can
+pub record FoundFull (old new : LineState) : Type 0 where
+  pub full : old.entries ≡ MAX_ENTRIES
+  pub state : new ≡ old
+
+-- what `put` did
+abbrev pub WasPut : LineState → LineState → Line → Result ℕ LineStop → Type 0
+WasPut old new x (Ok number) = PutLine old new x number
+WasPut old new x (Err ProofFault) = FailedLine old new x
+WasPut old new x (Err Full) = FoundFull old new
+WasPut old new x (Err Memory) = new ≡ old

@@ -1,0 +1,76 @@
+-- The log of a port that writes alone: one journal, of the ruler's entries and the ring's own, whose lines its output has.
+use Rattle.std.specs.Prelude.{◌≡◌, ℕ, ◌+◌, Bool, true, false, not, List, [], ◌∷◌, ◌++◌, map, length, take, All, Option, Some, None, IsSomeAnd}
+use Rattle.std.specs.Io.KnownBytes.{append_known}
+use Rattle.sat_words.specs.Literal.{Literal}
+use Rattle.sat_words.specs.declared.line.Line.{Line}
+use Rattle.rup_model.specs.declared.journal.Entry.{Entry}
+use Rattle.rup_model.specs.Log.{Accepted, lits_of}
+use Rattle.rup_model.specs.Journal.{book, lines, lines_from, added, ended, is_told, ring_of, LogSound}
+use Rattle.rup_model.specs.Opening.{Opening, Start, IsOpening}
+use Rattle.io_edge.specs.Causes.{Rose}
+use Rattle.drat_text.specs.Text.{text, line_text}
+use Rattle.drat_text.specs.LineState.{LineState}
+use Rattle.ring_port.specs.PortState.{Holding, PortState, IsOn}
+use Rattle.ring_port.specs.Port.{is_usable}
+
+-- what a port was made over: the formula, the ruler's journal, and the line output as it then was
+pub record Origin : Type 0 where
+  pub formula : List (List Literal)
+  pub journal : List Entry
+  pub output : LineState
+
+-- the ruler's entries, then the ring's own
+abbrev pub journal_of : Origin → PortState → List Entry
+journal_of o s = o.journal ++ s.mine
+
+-- a start clause without its address
+abbrev pub start_of : Holding → Start
+start_of h = record { number = h.number; lits = h.lits }
+
+-- the opening of the search
+abbrev pub opening_of : Origin → PortState → Opening
+opening_of o s = record { journal = o.journal; starts = map start_of s.start; units = s.opening }
+
+-- the text of the ring's own lines
+abbrev pub own_text : Origin → PortState → List ℕ
+own_text o s = text (lines_from (book o.formula o.journal) s.mine)
+
+-- the output has the text of the ring's lines, and has not failed
+pub record IsWhole (o : Origin) (s : PortState) (out : LineState) : Type 0 where
+  pub quiet : out.faults ≡ o.output.faults
+  pub bytes : out.written ≡ append_known o.output.written (own_text o s)
+
+-- the output failed at a line that is accepted behind the others; it has their text, and a part of the line's
+pub record IsCut (o : Origin) (s : PortState) (out : LineState) : Type 0 where
+  pub line : Line
+  pub cut : ℕ
+  pub accepted : Accepted o.formula (lines o.formula (journal_of o s) ++ line ∷ [])
+  pub on : All (IsOn s.vars) (lits_of line)
+  pub rose : Rose o.output.faults out.faults
+  pub bytes : out.written ≡ append_known o.output.written (own_text o s ++ take cut (line_text line))
+
+-- what the output has of the journal's lines
+pub record HasLines (o : Origin) (s : PortState) (out : LineState) : Type 0 where
+  pub entries : out.entries ≡ length (lines o.formula (journal_of o s))
+  pub last : (book o.formula (journal_of o s)).next ≡ out.last + 1
+  pub usable : is_usable s.refused ≡ not out.spent
+  pub whole : out.spent ≡ false → IsWhole o s out
+  pub short : out.spent ≡ true → IsCut o s out
+  pub target : out.target ≡ o.output.target
+  pub flushed : out.flushed ≡ o.output.flushed
+
+-- the port stands over this origin: each line of the one journal is valid where it stands, all that the ring holds and has
+-- seen is alive in the log, and the output has the lines
+pub record StandsOver (o : Origin) (s : PortState) : Type 0 where
+  pub opens : IsOpening o.formula (opening_of o s)
+  pub sound : LogSound o.formula (journal_of o s)
+  pub of_ring : All (λ e. ring_of e ≡ s.ring) s.mine
+  pub on : All (All (IsOn s.vars)) (added s.mine)
+  pub ended : s.ended ≡ ended o.formula (journal_of o s)
+  pub held : All (λ h. (book o.formula (journal_of o s)).clause h.number ≡ Some h.lits) s.held
+  pub seen : All (λ l. is_told o.formula (journal_of o s) l ≡ true) s.seen
+  pub output : IsSomeAnd s.output (HasLines o s)
+
+-- whatever a port stands over, it still does
+abbrev pub KeepsLog : PortState → PortState → Type 0
+KeepsLog old new = (o : Origin) → StandsOver o old → StandsOver o new

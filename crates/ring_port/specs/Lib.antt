@@ -1,3 +1,4 @@
 pub mod PortState
 pub mod Port
 pub mod Log
+pub mod Store

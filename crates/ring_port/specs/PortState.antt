@@ -70,9 +70,13 @@ pub record PortState : Type 0 where
 unfoldable pub held_at : PortState → ℕ → Option Holding
 held_at s a = find (λ h. h.address == a) s.held
 
+-- the literals of a clause, where there is one
+abbrev pub lits_in : Option Holding → List Literal
+lits_in h = option_map_or (λ k. k.lits) h []
+
 -- the literals of the clause at an address; none where no clause is held there
 abbrev pub lits_at : PortState → ℕ → List Literal
-lits_at s a = option_map_or (λ h. h.lits) (held_at s a) []
+lits_at s a = lits_in (held_at s a)
 
 -- how often the address is held
 abbrev pub times_held : PortState → ℕ → ℕ

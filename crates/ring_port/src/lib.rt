@@ -1,9 +1,11 @@
 //! What a ring sees of the outside: the clauses that it holds, the log, the units and the stop that rings share.
 #![tactic(auto)]
 
+mod cell;
 mod laws;
 mod port;
 mod stops;
+mod store;
 
 pub use laws::{held_clauses_are_known, held_clauses_are_long, seen_units_are_known};
 pub use port::Port;

@@ -2,3 +2,4 @@ pub mod PortState
 pub mod Port
 pub mod Log
 pub mod Store
+pub mod OwnLog

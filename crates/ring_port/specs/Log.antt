@@ -1,5 +1,5 @@
 -- The log of a port that writes alone: one journal, of the ruler's entries and the ring's own, whose lines its output has.
-use Rattle.std.specs.Prelude.{◌≡◌, ℕ, ◌+◌, Bool, true, false, not, List, [], ◌∷◌, ◌++◌, map, length, take, All, Option, Some, None, IsSomeAnd}
+use Rattle.std.specs.Prelude.{◌≡◌, ℕ, ◌+◌, Bool, true, false, not, List, [], ◌∷◌, ◌++◌, map, length, take, All, Option, Some, None, IsSomeAnd, ⊤}
 use Rattle.std.specs.Io.KnownBytes.{append_known}
 use Rattle.sat_words.specs.Literal.{Literal}
 use Rattle.sat_words.specs.declared.line.Line.{Line}
@@ -8,8 +8,11 @@ use Rattle.rup_model.specs.Log.{Accepted, lits_of}
 use Rattle.rup_model.specs.Journal.{book, lines, lines_from, added, ended, is_told, ring_of, LogSound}
 use Rattle.rup_model.specs.Opening.{Opening, Start, IsOpening}
 use Rattle.io_edge.specs.Causes.{Rose}
+use Rattle.drat_text.specs.declared.stop.TheConstants.{MAX_ENTRIES}
 use Rattle.drat_text.specs.Text.{text, line_text}
 use Rattle.drat_text.specs.LineState.{LineState}
+use Rattle.ring_port.specs.declared.stops.PortStop.{PortStop}
+use Rattle.ring_port.specs.declared.stops.PortStop.TheVariants.{Ended, Broken, ProofFault, NoHole, Memory}
 use Rattle.ring_port.specs.PortState.{Holding, PortState, IsOn}
 use Rattle.ring_port.specs.Port.{is_usable}
 
@@ -49,11 +52,21 @@ pub record IsCut (o : Origin) (s : PortState) (out : LineState) : Type 0 where
   pub rose : Rose o.output.faults out.faults
   pub bytes : out.written ≡ append_known o.output.written (own_text o s ++ take cut (line_text line))
 
+-- an answer that refused has its cause: the log is ended; the output failed; as many lines stand as can
+abbrev pub IsCaused : PortState → LineState → Option PortStop → Type 0
+IsCaused s out None = ⊤
+IsCaused s out (Some Ended) = s.ended ≡ true
+IsCaused s out (Some Broken) = ⊥
+IsCaused s out (Some ProofFault) = out.spent ≡ true
+IsCaused s out (Some (NoHole need largest)) = (out.entries ≡ MAX_ENTRIES) × (need ≡ MAX_ENTRIES + 1) × (largest ≡ MAX_ENTRIES)
+IsCaused s out (Some Memory) = ⊥
+
 -- what the output has of the journal's lines
 pub record HasLines (o : Origin) (s : PortState) (out : LineState) : Type 0 where
   pub entries : out.entries ≡ length (lines o.formula (journal_of o s))
   pub last : (book o.formula (journal_of o s)).next ≡ out.last + 1
   pub usable : is_usable s.refused ≡ not out.spent
+  pub caused : IsCaused s out s.refused
   pub whole : out.spent ≡ false → IsWhole o s out
   pub short : out.spent ≡ true → IsCut o s out
   pub target : out.target ≡ o.output.target

@@ -3,6 +3,7 @@
 
 mod cell;
 mod laws;
+mod own_log;
 mod port;
 mod stops;
 mod store;

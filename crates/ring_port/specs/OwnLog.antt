@@ -1,0 +1,74 @@
+-- The log of a ring that writes alone, and what a line and an addition do to it.
+use Rattle.std.specs.Prelude.{◌≡◌, ℕ, ◌+◌, true, false, List, [], ◌∷◌, ◌++◌, Bool, Option, Some, Result, Ok, Err, ⊤}
+use Rattle.sat_words.specs.Literal.{Literal}
+use Rattle.sat_words.specs.declared.line.Line.{Line}
+use Rattle.sat_words.specs.declared.line.Line.TheVariants.{Add as AddLine, Del as DelLine}
+use Rattle.rup_model.specs.declared.journal.Kind.{Kind}
+use Rattle.rup_model.specs.declared.journal.Entry.{Entry}
+use Rattle.rup_model.specs.declared.journal.Entry.TheVariants.{Add}
+use Rattle.drat_text.specs.declared.stop.TheConstants.{MAX_ENTRIES}
+use Rattle.drat_text.specs.LineState.{LineState}
+use Rattle.drat_text.specs.LineOut.{PutLine, FailedLine}
+use Rattle.ring_port.specs.declared.stops.PortStop.{PortStop}
+use Rattle.ring_port.specs.declared.stops.PortStop.TheVariants.{Ended, Broken, ProofFault, NoHole, Memory}
+
+-- the output, the ring's entries, how many more there is room for, whether the log is ended, and the last answer that refused
+pub record LogData : Type 0 where
+  pub output : LineState
+  pub mine : List Entry
+  pub room : ℕ
+  pub ended : Bool
+  pub refused : Option PortStop
+
+-- the line adds a clause
+abbrev pub IsAddition : Line → Type 0
+IsAddition (AddLine lits) = ⊤
+IsAddition (DelLine lits) = ⊥
+
+-- ring 0 adds the clause
+abbrev pub own_entry : ℕ → List Literal → Kind → Entry
+own_entry number lits kind = Add (record { ring = 0; number = number; lits = lits; kind = kind })
+
+-- the line stands
+pub record StandingLine (old new : LogData) (x : Line) (number : ℕ) : Type 0 where
+  pub going : old.ended ≡ false
+  pub put : PutLine old.output new.output x number
+  pub state : new ≡ record old { output = new.output }
+
+-- the output failed at the line
+pub record FaultyLine (old new : LogData) (x : Line) : Type 0 where
+  pub going : old.ended ≡ false
+  pub put : FailedLine old.output new.output x
+  pub state : new ≡ record old { output = new.output; refused = Some ProofFault }
+
+-- as many lines stand as can
+pub record FullLog (old new : LogData) (need largest : ℕ) : Type 0 where
+  pub going : old.ended ≡ false
+  pub full : old.output.entries ≡ MAX_ENTRIES
+  pub needed : need ≡ MAX_ENTRIES + 1
+  pub found : largest ≡ MAX_ENTRIES
+  pub state : new ≡ record old { refused = Some (NoHole need largest) }
+
+-- why the line does not stand, and how that leaves the log
+abbrev pub NotPut : LogData → LogData → Line → PortStop → Type 0
+NotPut old new x Ended = (old.ended ≡ true) × (new ≡ record old { refused = Some Ended })
+NotPut old new x Broken = ⊥
+NotPut old new x ProofFault = FaultyLine old new x
+NotPut old new x (NoHole need largest) = FullLog old new need largest
+NotPut old new x Memory = new ≡ old
+
+-- what became of the line
+abbrev pub WasPut : LogData → LogData → Line → Result ℕ PortStop → Type 0
+WasPut old new x (Ok number) = StandingLine old new x number
+WasPut old new x (Err stop) = NotPut old new x stop
+
+-- the line that adds the clause stands, and its entry
+pub record AddedEntry (old new : LogData) (lits : List Literal) (kind : Kind) (number : ℕ) : Type 0 where
+  pub going : old.ended ≡ false
+  pub put : PutLine old.output new.output (AddLine lits) number
+  pub state : new ≡ record old { output = new.output; mine = old.mine ++ own_entry number lits kind ∷ []; room = new.room }
+
+-- what the addition of a clause did
+abbrev pub WasAdded : LogData → LogData → List Literal → Kind → Result ℕ PortStop → Type 0
+WasAdded old new lits kind (Ok number) = AddedEntry old new lits kind number
+WasAdded old new lits kind (Err stop) = NotPut old new (AddLine lits) stop

@@ -1,0 +1,144 @@
+// The log of a ring that writes alone: where its lines go, and its journal.
+ghost use Rattle.std.specs.Prelude.{◌≡◌, ◌<◌, ◌≤◌, [], false, true, None, OnOk, IfErr};
+ghost use Rattle.rup_model.specs.Log.{lits_of};
+ghost use Rattle.ring_port.specs.OwnLog.{IsAddition, WasPut, WasAdded, own_entry};
+ghost use Rattle.ring_port.specs.Port.{is_usable};
+
+use crate::stops::PortStop;
+use drat_text::{LineOut, LineStop, MAX_ENTRIES};
+use rup_model::{Addition, Entry, Kind};
+use sat_words::{Line, Lits};
+use std::alloc::Global;
+use std::marker::Model;
+
+/// The number of the one ring.
+const RING: u32 = 0;
+
+/// As many lines stand as can.
+const NO_ENTRY: PortStop = PortStop::NoHole {
+    need: MAX_ENTRIES + 1,
+    largest: MAX_ENTRIES,
+};
+
+/// A line output, with the entries of the lines that were put.
+#[derive(Drop)]
+pub(crate) struct OwnLog<L: LineOut> {
+    output: L,
+    mine: Vec<Entry>,
+    ended: bool,
+    refused: Option<PortStop>,
+}
+
+impl<L: LineOut> Model for OwnLog<L> {
+    ghost use Rattle.std.specs.Prelude.{◌≡◌, ◌-◌, not, vec_len, vec_capacity};
+    ghost use Rattle.ring_port.specs.OwnLog.{LogData};
+    ghost use Rattle.ring_port.specs.Port.{is_usable};
+
+    ghost Value = { LogData };
+
+    ghost view = { λ p. record {
+      output = L.told p.output;
+      mine = p.mine.items;
+      room = vec_capacity p.mine - vec_len p.mine;
+      ended = p.ended;
+      refused = p.refused;
+    } };
+
+    ghost invariant = { λ p. is_usable p.refused ≡ not (L.told p.output).spent };
+}
+
+/// The entry of a line that adds a clause.
+fn entry_of(line: Line, number: u64, kind: Kind) -> Entry
+    requires { IsAddition line }
+    ensures { result ≡ own_entry number (lits_of line) kind }
+{
+    match line {
+        Line::Add(lits) => Entry::Add(Addition {
+            ring: RING,
+            number,
+            lits,
+            kind,
+        }),
+        Line::Del(_) => unreachable!(),
+    }
+}
+
+impl<L: LineOut> OwnLog<L> {
+    /// No entry yet.
+    pub(crate) fn new(alloc: Global, output: L) -> Self
+        requires { (L.told output).spent ≡ false }
+        ensures output { result.output ≡ L.told output }
+        ensures mine { result.mine ≡ [] }
+        ensures ended { result.ended ≡ false }
+        ensures refused { result.refused ≡ None }
+    {
+        OwnLog {
+            output,
+            mine: Vec::new(alloc),
+            ended: false,
+            refused: None,
+        }
+    }
+
+    /// Takes room for one more entry.
+    pub(crate) fn make_room(&mut self) -> Result<(), PortStop>
+        ensures same { self.new ≡ record self.old { room = self.new.room } }
+        ensures room { OnOk result (1 ≤ self.new.room) }
+        ensures memory { IfErr result (λ stop. stop ≡ PortStop.Memory) }
+    {
+        match self.mine.reserve(1) {
+            Ok(()) => Ok(()),
+            Err(_) => Err(PortStop::Memory),
+        }
+    }
+
+    /// Puts the line, unless the log is ended. Answers its number.
+    fn put(&mut self, line: &Line) -> Result<u64, PortStop>
+        requires usable { is_usable self.old.refused ≡ true }
+        ensures { WasPut self.old self.new line.now result }
+    {
+        if self.ended {
+            self.refused = Some(PortStop::Ended);
+            return Err(PortStop::Ended);
+        }
+        match self.output.put(line) {
+            Ok(number) => Ok(number),
+            Err(LineStop::ProofFault) => {
+                self.refused = Some(PortStop::ProofFault);
+                Err(PortStop::ProofFault)
+            }
+            Err(LineStop::Full) => {
+                self.refused = Some(NO_ENTRY);
+                Err(NO_ENTRY)
+            }
+            Err(LineStop::Memory) => Err(PortStop::Memory),
+        }
+    }
+
+    /// Puts the line that adds the literals, and its entry, for which room was made. Answers its number.
+    pub(crate) fn add(&mut self, lits: Lits, kind: Kind) -> Result<u64, PortStop>
+        requires usable { is_usable self.old.refused ≡ true }
+        requires room { 1 ≤ self.old.room }
+        ensures { WasAdded self.old self.new lits kind result }
+    {
+        let line = Line::Add(lits);
+        let number = self.put(&line)?;
+        self.mine.push_reserved(entry_of(line, number, kind));
+        Ok(number)
+    }
+
+    /// Notes that the empty clause stands.
+    pub(crate) fn end(&mut self)
+        ensures { self.new ≡ record self.old { ended = true } }
+    {
+        self.ended = true;
+    }
+
+    /// Gives the line output back.
+    pub(crate) fn into_output(self) -> L
+        ensures { L.told result ≡ self.output }
+    {
+        let OwnLog { output, .. } = self;
+        output
+    }
+}

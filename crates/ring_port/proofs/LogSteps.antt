@@ -1,0 +1,296 @@
+-- What an addition of the ring keeps of the one journal behind its port.
+use Rattle.std.proofs.Common.{◌≡◌, ◌≢◌, ℕ, zero, suc, ◌+◌, ◌<◌, ◌≤◌, ◌==◌, ◌||◌, Bool, true, false, not, cond, List, [], ◌∷◌, ◌++◌, length, map, take, sym, refl, ap, subst, ◌∙◌, inl, inr, ◌⊎◌, ⊎_elim, arith, Some, None, append_assoc, append-nil, length-append}
+use Rattle.std.specs.List.{list_any, All, Contains}
+use Rattle.std.specs.Option.{option_map}
+use Rattle.std.specs.Prelude.{IsSomeAnd}
+use Rattle.std.specs.declared.option.Option.{Option}
+use Rattle.std.specs.Io.KnownBytes.{append_known}
+use Rattle.std.proofs.lemmas.Bool.{or_cases, or_left, or_right, false≢true}
+use Rattle.std.proofs.lemmas.List.Elements.{All-append}
+use Rattle.std.proofs.lemmas.List.Folds.{list_any-append}
+use Rattle.sat_words.specs.Literal.{Literal, same}
+use Rattle.sat_words.specs.Clause.{has, same_set, is_empty, clause_of}
+use Rattle.sat_words.specs.declared.line.Line.{Line}
+use Rattle.sat_words.specs.declared.line.Line.TheVariants.{Add as AddLine}
+use Rattle.sat_words.proofs.Members.{same-true}
+use Rattle.rup_model.specs.declared.journal.TheConstants.{RULER_RING}
+use Rattle.rup_model.specs.declared.journal.Kind.{Kind}
+use Rattle.rup_model.specs.declared.journal.Addition.{Addition}
+use Rattle.rup_model.specs.declared.journal.Entry.{Entry}
+use Rattle.rup_model.specs.declared.journal.Entry.TheVariants.{Add}
+use Rattle.rup_model.specs.Basics.{put}
+use Rattle.rup_model.specs.Rup.{rup}
+use Rattle.rup_model.specs.Log.{Accepted, alive, lits_of}
+use Rattle.rup_model.specs.Journal.{Book, spelled, book_after, book, lines, lines_after, lines_from, added, ended, is_told, ring_of, LogSound}
+use Rattle.rup_model.specs.Opening.{IsOpening}
+use Rattle.rup_model.proofs.Lists.{In, In_append, In_append_left, map_In, has_In, In_has, any_In, Contains_In}
+use Rattle.rup_model.proofs.Sums.{put_here, put_else}
+use Rattle.rup_model.proofs.Covers.{same_self}
+use Rattle.rup_model.proofs.Numbers.{journal_matches, clause_below, book_last, lines_last, rup_alive_sets}
+use Rattle.rup_model.proofs.JournalSteps.{log_adds}
+use Rattle.rup_model.proofs.Additions.{added-append, told_more}
+use Rattle.rup_model.proofs.Told.{told_alive}
+use Rattle.drat_text.specs.Text.{text, line_text}
+use Rattle.drat_text.specs.LineState.{LineState}
+use Rattle.drat_text.specs.LineOut.{PutLine, FailedLine}
+use Rattle.sat_words.specs.declared.shared.Stop.{Stop}
+use Rattle.io_edge.specs.Causes.{Rose}
+use Rattle.drat_text.specs.declared.stop.TheConstants.{MAX_ENTRIES}
+use Rattle.ring_port.specs.declared.stops.PortStop.{PortStop}
+use Rattle.ring_port.specs.declared.stops.PortStop.TheVariants.{Ended, Broken, ProofFault, NoHole, Memory}
+use Rattle.ring_port.specs.PortState.{Holding, PortState, IsOn, known}
+use Rattle.ring_port.specs.Port.{entry_of, is_usable}
+use Rattle.ring_port.specs.Log.{Origin, StandsOver, HasLines, IsCaused, IsWhole, IsCut, journal_of, opening_of, own_text}
+use Rattle.ring_port.proofs.Holdings.{All_In}
+
+-- Lists
+
+pub In_All : {X : Type 0} (P : X → Type 0) (xs : List X) → ((x : X) → In x xs → P x) → All P xs
+In_All P [] f k d lt = absurd (omega arith)
+In_All P (x ∷ xs) f zero d lt = f x (inl refl)
+In_All P (x ∷ xs) f (suc k) d lt = In_All P xs (λ y h. f y (inr h)) k d (omega arith)
+
+pub one_All : {X : Type 0} (P : X → Type 0) (x : X) → P x → All P (x ∷ [])
+one_All P x p zero d lt = p
+one_All P x p (suc k) d lt = absurd (omega arith)
+
+-- Texts
+
+pub text_last : (L : List Line) (x : Line) → text (L ++ x ∷ []) ≡ text L ++ line_text x
+text_last [] x = append-nil (line_text x)
+text_last (y ∷ L) x = ap (λ t. line_text y ++ t) (text_last L x) ∙ sym (append_assoc (line_text y) (text L) (line_text x))
+
+pub known_twice : (w : Option (List ℕ)) (t u : List ℕ) → append_known (append_known w t) u ≡ append_known w (t ++ u)
+known_twice None t u = refl
+known_twice (Some xs) t u = ap Some (append_assoc xs t u)
+
+pub own_last : (b : Book) (J : List Entry) (x : Addition) → lines_from b (J ++ Add x ∷ []) ≡ lines_from b J ++ AddLine x.lits ∷ []
+own_last b [] x = refl
+own_last b (y ∷ J) x =
+    ap (λ (L : List Line). lines_after b y ++ L) (own_last (book_after b y) J x)
+    ∙ sym (append_assoc (lines_after b y) (lines_from (book_after b y) J) (AddLine x.lits ∷ []))
+
+-- one addition more
+module _ (o : Origin) (s : PortState) (h : StandsOver o s) (ring : s.ring ≡ 0) (lits : List Literal) (kind : Kind) (number : ℕ) where
+  abbrev F : List (List Literal)
+  F = o.formula
+
+  abbrev J : List Entry
+  J = journal_of o s
+
+  abbrev x : Addition
+  x = record { ring = s.ring; number = number; lits = lits; kind = kind }
+
+  abbrev grown : List Entry
+  grown = o.journal ++ (s.mine ++ Add x ∷ [])
+
+  grown_is : grown ≡ J ++ Add x ∷ []
+  grown_is = sym (append_assoc o.journal s.mine (Add x ∷ []))
+
+  -- what the ring knows is alive
+  alive_known : (d : List Literal) → In d (known s) → (n : ℕ) × (e : List Literal) × ((book F J).clause n ≡ Some e) × (same_set d e ≡ true)
+  unfolding known
+  alive_known d i =
+      ⊎_elim
+      (λ k.
+      (let t = map_In (λ c. c.lits) s.held d k in
+      (t.0.number, d, All_In (λ c. (book F J).clause c.number ≡ Some c.lits) s.held t.0 h.held t.1 ∙ ap Some t.2, same_self d)))
+      (λ k.
+      (let t = map_In (λ l. l ∷ []) s.seen d k in
+      let u = told_alive F J t.0 h.sound.fits (All_In (λ l. is_told F J l ≡ true) s.seen t.0 h.seen t.1) in
+      (u.0, u.1, u.2, subst (λ (e : List Literal). same_set e u.1 ≡ true) t.2 u.3)))
+      (In_append (map (λ c. c.lits) s.held) (map (λ l. l ∷ []) s.seen) d i)
+
+  -- the line follows, the log is not ended, and the number is the next
+  module _ (follows : rup (known s) lits ≡ true) (going : s.ended ≡ false) (next : number ≡ (book F J).next) where
+    rup_alive_lits : rup (alive F (lines F J)) lits ≡ true
+    rup_alive_lits = rup_alive_sets (book F J) (alive F (lines F J)) (known s) lits (journal_matches F J h.sound.fits) alive_known follows
+
+    sound_last : LogSound F (J ++ Add x ∷ [])
+    sound_last = log_adds F J h.sound x next rup_alive_lits (sym h.ended ∙ going)
+
+    pub sound_next : LogSound F grown
+    sound_next = subst (LogSound F) (sym grown_is) sound_last
+
+    pub lines_next : lines F grown ≡ lines F J ++ AddLine lits ∷ []
+    lines_next = ap (lines F) grown_is ∙ lines_last F J (Add x)
+
+    pub accepted_next : Accepted F (lines F J ++ AddLine lits ∷ [])
+    accepted_next = subst (Accepted F) lines_next sound_next.accepted
+
+  pub book_next : book F grown ≡ book_after (book F J) (Add x)
+  book_next = ap (book F) grown_is ∙ book_last F J (Add x)
+
+  spelled_is : spelled x ≡ lits
+  spelled_is = ap (λ r. cond (r == RULER_RING) (clause_of lits) lits) ring
+
+  -- what was alive under a number stays
+  pub alive_next : (n : ℕ) (c : List Literal) → (book F J).clause n ≡ Some c → (book F grown).clause n ≡ Some c
+  alive_next n c is =
+      ap (λ (b : Book). b.clause n) book_next
+      ∙ put_else (book F J).clause (book F J).next (Some (spelled x)) n (λ e. (let lt = clause_below (book F J) (alive F (lines F J)) n c (journal_matches F J h.sound.fits) is in omega arith))
+      ∙ is
+
+  pub added_here : number ≡ (book F J).next → (book F grown).clause number ≡ Some lits
+  added_here next =
+      ap (λ (b : Book). b.clause number) book_next
+      ∙ ap (put (book F J).clause (book F J).next (Some (spelled x))) next
+      ∙ put_here (book F J).clause (book F J).next (Some (spelled x))
+      ∙ ap Some spelled_is
+
+  pub held_next : All (λ c. (book F grown).clause c.number ≡ Some c.lits) s.held
+  held_next k d lt = alive_next _ _ (h.held k d lt)
+
+  -- what was told stays told
+  pub told_next : (l : Literal) → is_told F J l ≡ true → is_told F grown l ≡ true
+  told_next l t = subst (λ (K : List Entry). is_told F K l ≡ true) (sym grown_is) (told_more F J (Add x ∷ []) l t)
+
+  pub ended_next : ended F grown ≡ (ended F J || is_empty lits)
+  ended_next =
+      ap (λ K. list_any is_empty (F ++ added K)) grown_is
+      ∙ ap (λ G. list_any is_empty (F ++ G)) (added-append J (Add x ∷ []))
+      ∙ ap (list_any is_empty) (sym (append_assoc F (added J) (lits ∷ [])))
+      ∙ list_any-append is_empty (F ++ added J) (lits ∷ [])
+      ∙ ap (λ b. ended F J || b) (or_none (is_empty lits))
+    where
+      or_none : (b : Bool) → (b || false) ≡ b
+      or_none true = refl
+      or_none false = refl
+
+  pub own_next : text (lines_from (book F o.journal) (s.mine ++ Add x ∷ [])) ≡ own_text o s ++ line_text (AddLine lits)
+  own_next = ap text (own_last (book F o.journal) s.mine x) ∙ text_last (lines_from (book F o.journal) s.mine) (AddLine lits)
+
+-- the output of a port that stands
+pub output_of : (o : Origin) (s : PortState) (a : LineState) → StandsOver o s → s.output ≡ Some a → HasLines o s a
+output_of o s a h e = subst (λ (w : Option LineState). IsSomeAnd w (HasLines o s)) e h.output
+
+-- an answer before an addition still has its cause after it
+caused_later : (s t : PortState) (a b : LineState) (r : Option PortStop) → s.ended ≡ false → a.entries < MAX_ENTRIES → b.spent ≡ a.spent → IsCaused s a r → IsCaused t b r
+caused_later s t a b None going room same c = tt
+caused_later s t a b (Some Ended) going room same c = absurd (false≢true (sym going ∙ c))
+caused_later s t a b (Some Broken) going room same c = absurd c
+caused_later s t a b (Some ProofFault) going room same c = same ∙ c
+caused_later s t a b (Some (NoHole need largest)) going room same c = let full = c.0 in absurd (omega arith)
+caused_later s t a b (Some Memory) going room same c = absurd c
+
+-- A line that was put
+module _ (o : Origin) (s : PortState) (h : StandsOver o s) (ring : s.ring ≡ 0) (lits : List Literal) (kind : Kind) (number : ℕ)
+    (follows : rup (known s) lits ≡ true) (going : s.ended ≡ false) (on : All (IsOn s.vars) lits) (a b : LineState) (out : s.output ≡ Some a) (unspent : a.spent ≡ false) (put : PutLine a b (AddLine lits) number) where
+  abbrev put_output : LineState
+  put_output = record a { entries = a.entries + 1; last = a.last + 1; written = append_known a.written (line_text (AddLine lits)) }
+
+  pub number_is : number ≡ (book o.formula (journal_of o s)).next
+  number_is = put.given ∙ sym (output_of o s a h out).last
+
+  -- the port after it, with what it then holds and has seen
+  abbrev after : List Holding → List Literal → Option ℕ → Bool → PortState
+  after H S la en = record s { held = H; seen = S; mine = s.mine ++ entry_of s number lits kind ∷ []; last = la; ended = en; output = Some b }
+
+  has_lines : (H : List Holding) (S : List Literal) (la : Option ℕ) (en : Bool) → HasLines o (after H S la en) put_output
+  has_lines H S la en =
+      let was = output_of o s a h out in
+      let more = lines_next o s h ring lits kind number follows going number_is in
+      let books = book_next o s h ring lits kind number in
+      record {
+        entries = (let e = was.entries in let n = ap (λ L. length L) more in let m = length-append (lines o.formula (journal_of o s)) (AddLine lits ∷ []) in omega arith);
+        last = (let l = was.last in let n = ap (λ (k : Book). k.next) books in omega arith);
+        usable = was.usable;
+        caused = caused_later s (after H S la en) a put_output s.refused going put.room refl was.caused;
+        whole = λ q. record {
+          quiet = (was.whole q).quiet;
+          bytes = ap (λ w. append_known w (line_text (AddLine lits))) (was.whole q).bytes ∙ known_twice o.output.written (own_text o s) (line_text (AddLine lits)) ∙ ap (append_known o.output.written) (sym (own_next o s h ring lits kind number));
+        };
+        short = λ q. absurd (false≢true (sym unspent ∙ q));
+        target = was.target;
+        flushed = was.flushed;
+      }
+
+  pub stands_after : (H : List Holding) (S : List Literal) (la : Option ℕ) (en : Bool)
+      → All (λ c. (book o.formula (o.journal ++ (s.mine ++ entry_of s number lits kind ∷ []))).clause c.number ≡ Some c.lits) H
+      → All (λ l. is_told o.formula (o.journal ++ (s.mine ++ entry_of s number lits kind ∷ [])) l ≡ true) S
+      → en ≡ ended o.formula (o.journal ++ (s.mine ++ entry_of s number lits kind ∷ []))
+      → StandsOver o (after H S la en)
+  stands_after H S la en held seen end = record {
+    opens = h.opens;
+    sound = sound_next o s h ring lits kind number follows going number_is;
+    of_ring = All-append (λ e. ring_of e ≡ s.ring) s.mine (entry_of s number lits kind ∷ []) h.of_ring (one_All (λ e. ring_of e ≡ s.ring) (entry_of s number lits kind) refl);
+    on = subst (λ G. All (All (IsOn s.vars)) G) (sym (added-append s.mine (entry_of s number lits kind ∷ []))) (All-append (All (IsOn s.vars)) (added s.mine) (lits ∷ []) h.on (one_All (All (IsOn s.vars)) lits on));
+    ended = end;
+    held = held;
+    seen = seen;
+    output = subst (λ w. HasLines o (after H S la en) w) (sym put.state) (has_lines H S la en);
+  }
+
+-- A line at which the output failed
+pub stands_failed : (o : Origin) (s : PortState) (h : StandsOver o s) → s.ring ≡ 0 → (lits : List Literal) (kind : Kind) → rup (known s) lits ≡ true → s.ended ≡ false → All (IsOn s.vars) lits
+    → (a b : LineState) → s.output ≡ Some a → a.spent ≡ false → FailedLine a b (AddLine lits) → StandsOver o (record s { refused = Some ProofFault; output = Some b })
+stands_failed o s h ring lits kind follows going on a b out unspent failed =
+    let was = output_of o s a h out in
+    let t : PortState = record s { refused = Some ProofFault; output = Some b } in
+    let w : LineState = record a { spent = true; faults = b.faults; written = b.written } in
+    let lines_are : HasLines o t w =
+      record {
+        entries = was.entries;
+        last = was.last;
+        usable = refl;
+        caused = refl;
+        whole = λ q. absurd (false≢true (sym q));
+        short = λ q. record {
+          line = AddLine lits;
+          cut = failed.part.cut;
+          accepted = accepted_next o s h ring lits kind (book o.formula (journal_of o s)).next follows going refl;
+          on = on;
+          rose = subst (λ n. Rose n b.faults) (was.whole unspent).quiet failed.rose;
+          bytes = failed.part.grown ∙ ap (λ v. append_known v (take failed.part.cut (line_text (AddLine lits)))) (was.whole unspent).bytes ∙ known_twice o.output.written (own_text o s) (take failed.part.cut (line_text (AddLine lits)));
+        };
+        target = was.target;
+        flushed = was.flushed;
+      }
+    in record {
+      opens = h.opens;
+      sound = h.sound;
+      of_ring = h.of_ring;
+      on = h.on;
+      ended = h.ended;
+      held = h.held;
+      seen = h.seen;
+      output = subst (λ v. HasLines o t v) (sym failed.state) lines_are;
+    }
+
+-- No line
+pub stands_with : (o : Origin) (s : PortState) (h : StandsOver o s) (a : LineState) → s.output ≡ Some a
+    → (S : List Literal) (n : ℕ) (st : Option Stop) (r : Option PortStop) (en : Bool)
+    → All (λ l. is_told o.formula (journal_of o s) l ≡ true) S → is_usable r ≡ not a.spent → en ≡ s.ended → IsCaused (record s { ended = en }) a r
+    → StandsOver o (record s { seen = S; coming = n; stop = st; refused = r; ended = en })
+stands_with o s h a out S n st r en seen usable end caused =
+    let was = output_of o s a h out in
+    let t : PortState = record s { seen = S; coming = n; stop = st; refused = r; ended = en } in
+    let lines_are : HasLines o t a =
+      record {
+        entries = was.entries;
+        last = was.last;
+        usable = usable;
+        caused = caused_as r caused;
+        whole = λ q. record { quiet = (was.whole q).quiet; bytes = (was.whole q).bytes };
+        short = λ q. (let c = was.short q in record { line = c.line; cut = c.cut; accepted = c.accepted; on = c.on; rose = c.rose; bytes = c.bytes });
+        target = was.target;
+        flushed = was.flushed;
+      }
+    in record {
+      opens = h.opens;
+      sound = h.sound;
+      of_ring = h.of_ring;
+      on = h.on;
+      ended = end ∙ h.ended;
+      held = h.held;
+      seen = seen;
+      output = subst (λ (w : Option LineState). IsSomeAnd w (HasLines o t)) (sym out) lines_are;
+    }
+  where
+    caused_as : (q : Option PortStop) → IsCaused (record s { ended = en }) a q → IsCaused (record s { seen = S; coming = n; stop = st; refused = r; ended = en }) a q
+    caused_as None c = tt
+    caused_as (Some Ended) c = c
+    caused_as (Some Broken) c = c
+    caused_as (Some ProofFault) c = c
+    caused_as (Some (NoHole need largest)) c = c
+    caused_as (Some Memory) c = c

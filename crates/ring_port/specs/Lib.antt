@@ -3,3 +3,4 @@ pub mod Port
 pub mod Log
 pub mod Store
 pub mod OwnLog
+pub mod PlainPort

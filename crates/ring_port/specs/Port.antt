@@ -124,6 +124,16 @@ Learned old new lits glue (Err stop) = Refused old new stop
 abbrev pub KeepsHeld : PortState → PortState → Type 0
 KeepsHeld old new = (a : ℕ) → IsSome (held_at old a) → held_at new a ≡ held_at old a
 
+-- what a call that writes the line of a unit did
+abbrev pub UnitPut : PortState → PortState → Literal → Kind → Option ℕ → Result (Unit {0}) PortStop → Type 0
+UnitPut old new l kind last (Ok done) = WroteUnit old new l kind last
+UnitPut old new l kind last (Err stop) = Refused old new stop
+
+-- what a call that writes the line of a longer clause did
+abbrev pub ClausePut : PortState → PortState → List Literal → ℕ → Result Cref PortStop → Type 0
+ClausePut old new lits glue (Ok c) = LearnedClause old new lits glue c
+ClausePut old new lits glue (Err stop) = Refused old new stop
+
 -- what `unit` did
 abbrev pub UnitWritten : PortState → PortState → Literal → Result (Unit {0}) PortStop → Type 0
 UnitWritten old new l (Ok done) = WroteUnit old new l UnitLine old.last

@@ -4,10 +4,12 @@
 mod cell;
 mod laws;
 mod own_log;
+mod plain_port;
 mod port;
 mod stops;
 mod store;
 
 pub use laws::{held_clauses_are_known, held_clauses_are_long, seen_units_are_known};
+pub use plain_port::PlainPort;
 pub use port::Port;
 pub use stops::{PortStop, Set};

@@ -1,0 +1,119 @@
+-- What a port in memory has, and what is kept of it.
+use Rattle.std.specs.Prelude.{◌≡◌, ℕ, ◌+◌, ◌-◌, ◌<◌, ◌≤◌, true, false, suc, List, [], ◌∷◌, ◌++◌, map, length, take, All, Option, Some, None, IfSome}
+use Rattle.std.specs.List.{slice_index_or, list_any}
+use Rattle.std.specs.Option.{option_map}
+use Rattle.sat_words.specs.Literal.{Literal}
+use Rattle.sat_words.specs.Clause.{distinct_lits}
+use Rattle.sat_words.specs.declared.shared.Cref.{Cref}
+use Rattle.sat_words.specs.declared.shared.Stop.{Stop}
+use Rattle.sat_words.specs.declared.shared.TheConstants.{STOP_SAT, STOP_MEMORY}
+use Rattle.rup_model.specs.declared.journal.Entry.{Entry}
+use Rattle.rup_model.specs.Journal.{book, lines}
+use Rattle.rup_model.specs.Opening.{Opening, Start, IsOpening}
+use Rattle.drat_text.specs.LineState.{LineState}
+use Rattle.ring_port.specs.PortState.{Holding, PortState, IsKept, IsOn}
+use Rattle.ring_port.specs.OwnLog.{LogData}
+
+-- the clauses held; the addresses of the start clauses, which are held first; the units of the opening, and how many of
+-- them were given; the units written; the log; the clause learned last; the stop
+pub record PlainData : Type 0 where
+  pub vars : ℕ
+  pub held : List Holding
+  pub start : List Cref
+  pub opening : List Literal
+  pub given : ℕ
+  pub written : List Literal
+  pub log : LogData
+  pub last : Option Cref
+  pub stop : Option Stop
+
+-- the port of ring 0, of 1 ring
+abbrev pub state_of : PlainData → PortState
+state_of p = record {
+  held = p.held;
+  waiting = [];
+  seen = take p.given p.opening ++ p.written;
+  coming = length p.opening - p.given;
+  start = take (length p.start) p.held;
+  opening = p.opening;
+  mine = p.log.mine;
+  shared = 0;
+  polled = 0;
+  puts = [];
+  taken = [];
+  vars = p.vars;
+  ring = 0;
+  rings = 1;
+  last = option_map (λ c. c.address) p.last;
+  stop = p.stop;
+  refused = p.log.refused;
+  ended = p.log.ended;
+  output = Some p.log.output;
+}
+
+-- each clause stands at the address of its place
+abbrev pub IsIndexed : List Holding → Type 0
+IsIndexed hs = (k : ℕ) (d : Holding) → k < length hs → (slice_index_or hs k d).address ≡ k
+
+-- of one of the five kinds, by ring 0
+pub record IsOwnStop (x : Stop) : Type 0 where
+  pub low : STOP_SAT ≤ x.kind
+  pub high : x.kind ≤ STOP_MEMORY
+  pub own : x.ring ≡ 0
+
+-- what is kept of the port
+pub record IsPlain (p : PlainData) : Type 0 where
+  pub held : All (IsKept p.vars) p.held
+  pub indexed : IsIndexed p.held
+  pub begun : length p.start ≤ length p.held
+  pub start : map (λ c. c.address) p.start ≡ map (λ h. h.address) (take (length p.start) p.held)
+  pub opening : All (IsOn p.vars) p.opening
+  pub distinct : distinct_lits p.opening ≡ true
+  pub given : p.given ≤ length p.opening
+  pub written : All (IsOn p.vars) p.written
+  pub stop : IfSome p.stop IsOwnStop
+
+-- How it begins
+
+-- the start clauses, each with its number
+abbrev pub starts_of : List (ℕ × List Literal) → List Start
+starts_of ss = map (λ s. record { number = s.0; lits = s.1 }) ss
+
+-- the start clauses at the addresses from a on
+abbrev pub placed_from : ℕ → List (ℕ × List Literal) → List Holding
+placed_from a [] = []
+placed_from a (s ∷ ss) = record { address = a; number = s.0; glue = 0; lits = s.1 } ∷ placed_from (suc a) ss
+
+-- the port holds the start clauses, and nothing has happened yet
+abbrev pub begun_with : ℕ → List (ℕ × List Literal) → List Literal → LineState → PortState
+begun_with vars starts units output = record {
+  held = placed_from 0 starts;
+  waiting = [];
+  seen = [];
+  coming = length units;
+  start = placed_from 0 starts;
+  opening = units;
+  mine = [];
+  shared = 0;
+  polled = 0;
+  puts = [];
+  taken = [];
+  vars = vars;
+  ring = 0;
+  rings = 1;
+  last = None;
+  stop = None;
+  refused = None;
+  ended = false;
+  output = Some output;
+}
+
+-- the output has the lines of this journal
+pub record HasJournal (clauses : List (List Literal)) (journal : List Entry) (output : LineState) : Type 0 where
+  pub entries : output.entries ≡ length (lines clauses journal)
+  pub last : (book clauses journal).next ≡ output.last + 1
+
+-- the ruler left this journal, whose lines the output has; the start clauses and the units open the search over it
+pub record OpensOver (clauses : List (List Literal)) (starts : List Start) (units : List Literal) (output : LineState) (journal : List Entry) : Type 0 where
+  pub opens : IsOpening clauses (record { journal = journal; starts = starts; units = units })
+  pub lines : HasJournal clauses journal output

@@ -1,0 +1,180 @@
+ghost use Rattle.std.specs.Prelude.{◌≡◌, ◌<◌, ◌≤◌, ◌∷◌, ◌++◌, [], true, false, not, All, Some, None, IfOk, IfErr, IfSome, IsSome, MatchResult, length, map, slice_get, position, List};
+ghost use Rattle.sat_words.specs.Literal.{Literal};
+ghost use Rattle.sat_words.specs.Clause.{has, is_empty};
+ghost use Rattle.std.specs.List.{list_any};
+ghost use Rattle.std.specs.Option.{option_map};
+ghost use Rattle.rup_model.specs.declared.journal.Entry.{Entry};
+ghost use Rattle.rup_model.specs.Rup.{rup};
+ghost use Rattle.ring_port.specs.PortState.{IsPort, IsOn, held_at, lits_at, head_of, known, HoldsStart};
+ghost use Rattle.ring_port.specs.Log.{KeepsLog, StandsOver};
+ghost use Rattle.ring_port.specs.Port.{is_usable, IsClause, Learned, KeepsHeld, UnitWritten, UnitPut, ClausePut, EmptyWritten, Took, Looked, SetStop};
+ghost use Rattle.ring_port.specs.PlainPort.{OpensOver, starts_of, placed_from, begun_with};
+
+use crate::own_log::OwnLog;
+use crate::port::Port;
+use crate::stops::{PortStop, Set};
+use crate::store::Store;
+use drat_text::LineOut;
+use rup_model::Kind;
+use sat_words::{Clause, Cref, Formula, Head, Lit, Lits, Stop};
+use std::alloc::{AllocFailed, Global};
+use std::marker::Model;
+
+/// The port of one ring in memory, which writes alone.
+#[derive(Drop)]
+pub struct PlainPort<L: LineOut> {
+    alloc: Global,
+    vars: u32,
+    store: Store,
+    start: Vec<Cref>,
+    opening: Vec<Lit>,
+    given: usize,
+    written: Vec<Lit>,
+    log: OwnLog<L>,
+    last: Option<Cref>,
+    stop: Option<Stop>,
+}
+
+impl<L: LineOut> Model for PlainPort<L> {
+    ghost use Rattle.ring_port.specs.PortState.{PortState};
+    ghost use Rattle.ring_port.specs.PlainPort.{state_of, IsPlain};
+
+    ghost Value = { PortState };
+
+    ghost view = { λ p. state_of (record {
+      vars = p.vars;
+      held = p.store.held;
+      start = p.start.items;
+      opening = p.opening.items;
+      given = p.given;
+      written = p.written.items;
+      log = p.log;
+      last = p.last;
+      stop = p.stop;
+    }) };
+
+    ghost invariant = { λ p. IsPlain (record {
+      vars = p.vars;
+      held = p.store.held;
+      start = p.start.items;
+      opening = p.opening.items;
+      given = p.given;
+      written = p.written.items;
+      log = p.log;
+      last = p.last;
+      stop = p.stop;
+    }) };
+}
+
+/// The place of the first unit that was not written.
+fn first_new(units: &[Lit], written: &[Lit]) -> Option<usize>
+    ensures { result ≡ position (λ l. not (has written.now l)) units.now }
+{
+    units.iter().position(|lit| !written.contains(lit))
+}
+
+impl<L: LineOut> Port for PlainPort<L> {
+    ghost state = { λ p. p };
+
+    fn vars(&self) -> u32 {
+        self.vars
+    }
+
+    fn head(&mut self, c: Cref) -> Head {
+        self.store.head(c)
+    }
+
+    fn read_lit(&mut self, c: Cref, i: u32) -> Lit {
+        self.store.lit(c, i)
+    }
+
+    fn learn(&mut self, lits: &[Lit], glue: u32) -> Result<Option<Cref>, PortStop> {
+        match lits {
+            [lit] => {
+                self.put_unit(*lit, Kind::Learn, None)?;
+                Ok(None)
+            }
+            _ => Ok(Some(self.put_clause(lits, glue)?)),
+        }
+    }
+
+    fn unit(&mut self, lit: Lit) -> Result<(), PortStop> {
+        let last = self.last;
+        self.put_unit(lit, Kind::UnitLine, last)
+    }
+
+    fn empty(&mut self) -> Result<(), PortStop> {
+        self.log.make_room()?;
+        self.log
+            .add(Lits::from_vec(Vec::new(self.alloc)), Kind::Derive)?;
+        self.log.end();
+        Ok(())
+    }
+
+    fn next_unit(&mut self) -> Option<Lit> {
+        let skipped = first_new(&self.opening[self.given..], &self.written)?;
+        let place = self.given + skipped;
+        self.given = place + 1;
+        Some(self.opening[place])
+    }
+
+    fn stopped(&mut self) -> Option<Stop> {
+        self.stop
+    }
+
+    fn stop(&mut self, kind: u8) -> Set {
+        match self.stop {
+            Some(stop) => Set::Lost(stop),
+            None => {
+                self.stop = Some(Stop { kind, ring: 0 });
+                Set::Won
+            }
+        }
+    }
+}
+
+impl<L: LineOut> PlainPort<L> {
+    /// Writes the line of a unit, which is seen from then on.
+    fn put_unit(&mut self, lit: Lit, kind: Kind, last: Option<Cref>) -> Result<(), PortStop>
+        requires usable { is_usable self.old.refused ≡ true }
+        requires on { IsOn self.old.vars lit }
+        requires rup { rup (known self.old) (lit ∷ []) ≡ true }
+        ensures put { UnitPut self.old self.new lit kind (option_map (λ c. c.address) last) result }
+        ensures log { KeepsLog self.old self.new }
+        ensures port { IsPort self.new }
+    {
+        self.log.make_room()?;
+        if self.written.reserve(1).is_err() {
+            return Err(PortStop::Memory);
+        }
+        let Ok(lits) = Lits::from_slice(self.alloc, &[lit]) else {
+            return Err(PortStop::Memory);
+        };
+        self.log.add(lits, kind)?;
+        self.written.push_reserved(lit);
+        self.last = last;
+        Ok(())
+    }
+
+    /// Writes the line of a clause of two literals or more, which is held from then on.
+    fn put_clause(&mut self, lits: &[Lit], glue: u32) -> Result<Cref, PortStop>
+        requires usable { is_usable self.old.refused ≡ true }
+        requires long { 2 ≤ length lits.now }
+        requires clause { IsClause self.old.vars lits.now }
+        requires rup { rup (known self.old) lits.now ≡ true }
+        ensures put { ClausePut self.old self.new lits.now glue result }
+        ensures kept { KeepsHeld self.old self.new }
+        ensures log { KeepsLog self.old self.new }
+        ensures port { IsPort self.new }
+    {
+        self.store.make_room(lits)?;
+        self.log.make_room()?;
+        let Ok(copy) = Lits::from_slice(self.alloc, lits) else {
+            return Err(PortStop::Memory);
+        };
+        let number = self.log.add(copy, Kind::Learn)?;
+        let c = self.store.push(lits, number, glue);
+        self.last = Some(c);
+        Ok(c)
+    }
+}

@@ -1,3 +1,5 @@
 pub mod Holdings
 pub mod StoreLemmas
 pub mod LogSteps
+pub mod PlainLemmas
+pub mod PlainSteps

@@ -70,6 +70,10 @@ own_last b (y ∷ J) x =
     ap (λ (L : List Line). lines_after b y ++ L) (own_last (book_after b y) J x)
     ∙ sym (append_assoc (lines_after b y) (lines_from (book_after b y) J) (AddLine x.lits ∷ []))
 
+or_none : (b : Bool) → (b || false) ≡ b
+or_none true = refl
+or_none false = refl
+
 -- one addition more
 module _ (o : Origin) (s : PortState) (h : StandsOver o s) (ring : s.ring ≡ 0) (lits : List Literal) (kind : Kind) (number : ℕ) where
   abbrev F : List (List Literal)
@@ -152,10 +156,21 @@ module _ (o : Origin) (s : PortState) (h : StandsOver o s) (ring : s.ring ≡ 0)
       ∙ ap (list_any is_empty) (sym (append_assoc F (added J) (lits ∷ [])))
       ∙ list_any-append is_empty (F ++ added J) (lits ∷ [])
       ∙ ap (λ b. ended F J || b) (or_none (is_empty lits))
-    where
-      or_none : (b : Bool) → (b || false) ≡ b
-      or_none true = refl
-      or_none false = refl
+
+  pub ended_stays : is_empty lits ≡ false → ended F grown ≡ ended F J
+  ended_stays some = ended_next ∙ ap (λ b. ended F J || b) some ∙ or_none (ended F J)
+
+  -- the unit that is added is told
+  pub told_here : (l : Literal) → lits ≡ l ∷ [] → is_told F grown l ≡ true
+  told_here l unit =
+      ap (λ K. list_any (same_set (l ∷ [])) (F ++ added K)) grown_is
+      ∙ ap (λ G. list_any (same_set (l ∷ [])) (F ++ G)) (added-append J (Add x ∷ []))
+      ∙ ap (list_any (same_set (l ∷ []))) (sym (append_assoc F (added J) (lits ∷ [])))
+      ∙ list_any-append (same_set (l ∷ [])) (F ++ added J) (lits ∷ [])
+      ∙ or_right _ _ (or_left _ _ (ap (same_set (l ∷ [])) unit ∙ same_self (l ∷ [])))
+
+  pub all_told_next : (ls : List Literal) → All (λ l. is_told F J l ≡ true) ls → All (λ l. is_told F grown l ≡ true) ls
+  all_told_next ls all k d lt = told_next _ (all k d lt)
 
   pub own_next : text (lines_from (book F o.journal) (s.mine ++ Add x ∷ [])) ≡ own_text o s ++ line_text (AddLine lits)
   own_next = ap text (own_last (book F o.journal) s.mine x) ∙ text_last (lines_from (book F o.journal) s.mine) (AddLine lits)
@@ -229,23 +244,23 @@ stands_failed o s h ring lits kind follows going on a b out unspent failed =
     let t : PortState = record s { refused = Some ProofFault; output = Some b } in
     let w : LineState = record a { spent = true; faults = b.faults; written = b.written } in
     let lines_are : HasLines o t w =
-      record {
-        entries = was.entries;
-        last = was.last;
-        usable = refl;
-        caused = refl;
-        whole = λ q. absurd (false≢true (sym q));
-        short = λ q. record {
-          line = AddLine lits;
-          cut = failed.part.cut;
-          accepted = accepted_next o s h ring lits kind (book o.formula (journal_of o s)).next follows going refl;
-          on = on;
-          rose = subst (λ n. Rose n b.faults) (was.whole unspent).quiet failed.rose;
-          bytes = failed.part.grown ∙ ap (λ v. append_known v (take failed.part.cut (line_text (AddLine lits)))) (was.whole unspent).bytes ∙ known_twice o.output.written (own_text o s) (take failed.part.cut (line_text (AddLine lits)));
-        };
-        target = was.target;
-        flushed = was.flushed;
-      }
+    record {
+      entries = was.entries;
+      last = was.last;
+      usable = refl;
+      caused = refl;
+      whole = λ q. absurd (false≢true (sym q));
+      short = λ q. record {
+        line = AddLine lits;
+        cut = failed.part.cut;
+        accepted = accepted_next o s h ring lits kind (book o.formula (journal_of o s)).next follows going refl;
+        on = on;
+        rose = subst (λ n. Rose n b.faults) (was.whole unspent).quiet failed.rose;
+        bytes = failed.part.grown ∙ ap (λ v. append_known v (take failed.part.cut (line_text (AddLine lits)))) (was.whole unspent).bytes ∙ known_twice o.output.written (own_text o s) (take failed.part.cut (line_text (AddLine lits)));
+      };
+      target = was.target;
+      flushed = was.flushed;
+    }
     in record {
       opens = h.opens;
       sound = h.sound;
@@ -266,16 +281,16 @@ stands_with o s h a out S n st r en seen usable end caused =
     let was = output_of o s a h out in
     let t : PortState = record s { seen = S; coming = n; stop = st; refused = r; ended = en } in
     let lines_are : HasLines o t a =
-      record {
-        entries = was.entries;
-        last = was.last;
-        usable = usable;
-        caused = caused_as r caused;
-        whole = λ q. record { quiet = (was.whole q).quiet; bytes = (was.whole q).bytes };
-        short = λ q. (let c = was.short q in record { line = c.line; cut = c.cut; accepted = c.accepted; on = c.on; rose = c.rose; bytes = c.bytes });
-        target = was.target;
-        flushed = was.flushed;
-      }
+    record {
+      entries = was.entries;
+      last = was.last;
+      usable = usable;
+      caused = caused_as r caused;
+      whole = λ q. record { quiet = (was.whole q).quiet; bytes = (was.whole q).bytes };
+      short = λ q. (let c = was.short q in record { line = c.line; cut = c.cut; accepted = c.accepted; on = c.on; rose = c.rose; bytes = c.bytes });
+      target = was.target;
+      flushed = was.flushed;
+    }
     in record {
       opens = h.opens;
       sound = h.sound;

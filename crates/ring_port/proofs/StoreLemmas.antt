@@ -50,7 +50,8 @@ lits_last lits more = ap (take (length more)) (drop-append_seam lits more) ∙ w
 pub length-placed : (lits : List Literal) (x : Cell) → IsPlaced lits x → length (take x.size (drop x.first lits)) ≡ x.size
 length-placed lits x h = let e = length-drop x.first lits in let t = length-take x.size (drop x.first lits) in omega arith
 
-slice_get_is : {X : Type 0} (xs : List X) (i : ℕ) (d : X) → i < length xs → slice_get xs i ≡ Some (get_or xs i d)
+-- the element at a place
+pub slice_get_is : {X : Type 0} (xs : List X) (i : ℕ) (d : X) → i < length xs → slice_get xs i ≡ Some (get_or xs i d)
 slice_get_is [] i d h = absurd (omega arith)
 slice_get_is (x ∷ xs) zero d h = refl
 slice_get_is (x ∷ xs) (suc i) d h = slice_get_is xs i d (omega arith)

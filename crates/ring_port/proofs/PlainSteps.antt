@@ -1,0 +1,128 @@
+-- What the calls of a port in memory keep of the one journal behind it.
+use Rattle.std.proofs.Common.{◌≡◌, ℕ, zero, suc, ◌+◌, ◌-◌, ◌<◌, ◌≤◌, ◌||◌, Bool, true, false, not, List, [], ◌∷◌, ◌++◌, length, take, sym, refl, ap, subst, ◌∙◌, arith, Some, None, append_assoc, length-append}
+use Rattle.std.specs.List.{All}
+use Rattle.std.specs.Option.{option_map}
+use Rattle.std.specs.declared.option.Option.{Option}
+use Rattle.std.proofs.lemmas.Bool.{not-true, or_right}
+use Rattle.std.proofs.lemmas.List.{get_or-append-add}
+use Rattle.std.proofs.lemmas.List.Elements.{All-append, All-take}
+use Rattle.sat_words.specs.Literal.{Literal}
+use Rattle.sat_words.specs.Clause.{is_empty}
+use Rattle.sat_words.specs.declared.shared.Cref.{Cref}
+use Rattle.sat_words.specs.declared.line.Line.TheVariants.{Add as AddLine}
+use Rattle.rup_model.specs.declared.journal.Kind.{Kind}
+use Rattle.rup_model.specs.declared.journal.Kind.TheVariants.{Learn}
+use Rattle.rup_model.specs.Rup.{rup}
+use Rattle.rup_model.specs.Journal.{book, is_told}
+use Rattle.rup_model.proofs.Additions.{told_more}
+use Rattle.drat_text.specs.LineState.{LineState}
+use Rattle.ring_port.specs.declared.stops.PortStop.{PortStop}
+use Rattle.ring_port.specs.declared.stops.PortStop.TheVariants.{Ended, Broken, ProofFault, NoHole, Memory}
+use Rattle.ring_port.specs.PortState.{Holding, PortState, IsOn, held_at, known}
+use Rattle.ring_port.specs.Port.{is_usable, holding_of, LearnedClause}
+use Rattle.ring_port.specs.Log.{Origin, StandsOver, KeepsLog, journal_of}
+use Rattle.ring_port.specs.OwnLog.{LogData, AddedEntry, NotPut, own_entry}
+use Rattle.ring_port.specs.PlainPort.{PlainData, state_of, IsPlain}
+use Rattle.ring_port.proofs.PlainLemmas.{start_stays, free_behind, found_pushed}
+use Rattle.ring_port.proofs.LogSteps.{one_All, output_of, held_next, added_here, all_told_next, told_here, ended_next, ended_stays, number_is, stands_after, stands_failed, stands_with}
+
+some_literal : (lits : List Literal) → 2 ≤ length lits → is_empty lits ≡ false
+some_literal [] long = absurd (omega arith)
+some_literal (l ∷ lits) long = refl
+
+unspent_of : (o : Origin) (p : PlainData) → StandsOver o (state_of p) → is_usable p.log.refused ≡ true → p.log.output.spent ≡ false
+unspent_of o p h usable = not-true p.log.output.spent (sym (output_of o (state_of p) p.log.output h refl).usable ∙ usable)
+
+-- the line of a unit
+pub unit_keeps : (p : PlainData) (r : ℕ) (g : LogData) (l : Literal) (kind : Kind) (number : ℕ) (last : Option Cref)
+    → is_usable p.log.refused ≡ true → IsOn p.vars l → rup (known (state_of p)) (l ∷ []) ≡ true → AddedEntry (record p.log { room = r }) g (l ∷ []) kind number
+    → KeepsLog (state_of p) (state_of (record p { written = p.written ++ l ∷ []; log = g; last = last }))
+unit_keeps p r g l kind number last usable on follows added o h =
+    let s = state_of p in
+    let next = number_is o s h refl (l ∷ []) kind number follows added.going (one_All (IsOn p.vars) l on) p.log.output g.output refl (unspent_of o p h usable) added.put in
+    let seen = subst (λ (ls : List Literal). All (λ k. is_told o.formula (o.journal ++ (p.log.mine ++ own_entry number (l ∷ []) kind ∷ [])) k ≡ true) ls) (append_assoc (take p.given p.opening) p.written (l ∷ []))
+    (All-append (λ k. is_told o.formula (o.journal ++ (p.log.mine ++ own_entry number (l ∷ []) kind ∷ [])) k ≡ true) (take p.given p.opening ++ p.written) (l ∷ [])
+    (all_told_next o s h refl (l ∷ []) kind number (take p.given p.opening ++ p.written) h.seen)
+    (one_All (λ k. is_told o.formula (o.journal ++ (p.log.mine ++ own_entry number (l ∷ []) kind ∷ [])) k ≡ true) l (told_here o s h refl (l ∷ []) kind number l refl))) in
+    subst (λ k. StandsOver o (state_of (record p { written = p.written ++ l ∷ []; log = k; last = last }))) (sym added.state)
+    (stands_after o s h refl (l ∷ []) kind number follows added.going (one_All (IsOn p.vars) l on) p.log.output g.output refl (unspent_of o p h usable) added.put
+    p.held (take p.given p.opening ++ (p.written ++ l ∷ [])) (option_map (λ c. c.address) last) p.log.ended
+    (held_next o s h refl (l ∷ []) kind number) seen (h.ended ∙ sym (ended_stays o s h refl (l ∷ []) kind number refl)))
+
+-- the line of a longer clause
+pub clause_keeps : (p : PlainData) (r : ℕ) (g : LogData) (lits : List Literal) (kind : Kind) (number glue address : ℕ) (last : Option Cref) → length p.start ≤ length p.held
+    → is_usable p.log.refused ≡ true → 2 ≤ length lits → All (IsOn p.vars) lits → rup (known (state_of p)) lits ≡ true → AddedEntry (record p.log { room = r }) g lits kind number
+    → KeepsLog (state_of p) (state_of (record p { held = p.held ++ record { address = address; number = number; glue = glue; lits = lits } ∷ []; log = g; last = last }))
+clause_keeps p r g lits kind number glue address last begun usable long on follows added o h =
+    let s = state_of p in
+    let x : Holding = record { address = address; number = number; glue = glue; lits = lits } in
+    let next = number_is o s h refl lits kind number follows added.going on p.log.output g.output refl (unspent_of o p h usable) added.put in
+    let held = All-append (λ c. (book o.formula (o.journal ++ (p.log.mine ++ own_entry number lits kind ∷ []))).clause c.number ≡ Some c.lits) p.held (x ∷ []) (held_next o s h refl lits kind number)
+    (one_All (λ c. (book o.formula (o.journal ++ (p.log.mine ++ own_entry number lits kind ∷ []))).clause c.number ≡ Some c.lits) x (added_here o s h refl lits kind number next)) in
+    subst (λ hs. StandsOver o (record (state_of (record p { held = p.held ++ x ∷ []; log = g; last = last })) { start = hs })) (sym (start_stays (length p.start) p.held x begun))
+    (subst (λ k. StandsOver o (record (state_of (record p { held = p.held ++ x ∷ []; log = k; last = last })) { start = take (length p.start) p.held })) (sym added.state)
+    (stands_after o s h refl lits kind number follows added.going on p.log.output g.output refl (unspent_of o p h usable) added.put
+    (p.held ++ x ∷ []) (take p.given p.opening ++ p.written) (option_map (λ c. c.address) last) p.log.ended
+    held (all_told_next o s h refl lits kind number (take p.given p.opening ++ p.written) h.seen)
+    (h.ended ∙ sym (ended_stays o s h refl lits kind number (some_literal lits long)))))
+
+-- the empty clause
+pub empty_keeps : (p : PlainData) (r : ℕ) (g : LogData) (kind : Kind) (number : ℕ)
+    → is_usable p.log.refused ≡ true → rup (known (state_of p)) [] ≡ true → AddedEntry (record p.log { room = r }) g [] kind number
+    → KeepsLog (state_of p) (state_of (record p { log = record g { ended = true } }))
+empty_keeps p r g kind number usable follows added o h =
+    let s = state_of p in
+    let none : All (IsOn p.vars) [] = λ k d lt. absurd (omega arith) in
+    subst (λ k. StandsOver o (state_of (record p { log = record k { ended = true } }))) (sym added.state)
+    (stands_after o s h refl [] kind number follows added.going none p.log.output g.output refl (unspent_of o p h usable) added.put
+    p.held (take p.given p.opening ++ p.written) (option_map (λ c. c.address) p.last) true
+    (held_next o s h refl [] kind number) (all_told_next o s h refl [] kind number (take p.given p.opening ++ p.written) h.seen)
+    (sym (ended_next o s h refl [] kind number ∙ or_right _ _ refl)))
+
+-- no line
+pub refused_keeps : (p : PlainData) (r : ℕ) (g : LogData) (lits : List Literal) (stop : PortStop)
+    → is_usable p.log.refused ≡ true → All (IsOn p.vars) lits → rup (known (state_of p)) lits ≡ true → NotPut (record p.log { room = r }) g (AddLine lits) stop
+    → KeepsLog (state_of p) (state_of (record p { log = g }))
+refused_keeps p r g lits Ended usable on follows why o h =
+    subst (λ k. StandsOver o (state_of (record p { log = k }))) (sym why.1)
+    (stands_with o (state_of p) h p.log.output refl (take p.given p.opening ++ p.written) (length p.opening - p.given) p.stop (Some Ended) p.log.ended
+    h.seen (sym (ap not (unspent_of o p h usable))) refl why.0)
+refused_keeps p r g lits Broken usable on follows why o h = absurd why
+refused_keeps p r g lits ProofFault usable on follows why o h =
+    subst (λ k. StandsOver o (state_of (record p { log = k }))) (sym why.state)
+    (stands_failed o (state_of p) h refl lits Learn follows why.going on p.log.output g.output refl (unspent_of o p h usable) why.put)
+refused_keeps p r g lits (NoHole need largest) usable on follows why o h =
+    subst (λ k. StandsOver o (state_of (record p { log = k }))) (sym why.state)
+    (stands_with o (state_of p) h p.log.output refl (take p.given p.opening ++ p.written) (length p.opening - p.given) p.stop (Some (NoHole need largest)) p.log.ended
+    h.seen (sym (ap not (unspent_of o p h usable))) refl (why.full, why.needed, why.found))
+refused_keeps p r g lits Memory usable on follows why o h = subst (λ k. StandsOver o (state_of (record p { log = k }))) (sym why) h
+
+-- a unit of the opening that is given
+pub given_keeps : (p : PlainData) (n : ℕ) → KeepsLog (state_of p) (state_of (record p { given = n }))
+given_keeps p n o h =
+    let was = output_of o (state_of p) p.log.output h refl in
+    let told : All (λ k. is_told o.formula (journal_of o (state_of p)) k ≡ true) p.opening = λ k d lt. told_more o.formula o.journal p.log.mine _ (h.opens.told k d lt) in
+    let front = take p.given p.opening in
+    let written : All (λ k. is_told o.formula (journal_of o (state_of p)) k ≡ true) p.written = λ k d lt.
+    subst (λ l. is_told o.formula (journal_of o (state_of p)) l ≡ true) (get_or-append-add front p.written k d)
+    (h.seen (length front + k) d (let e = length-append front p.written in omega arith)) in
+    stands_with o (state_of p) h p.log.output refl (take n p.opening ++ p.written) (length p.opening - n) p.stop p.log.refused p.log.ended
+    (All-append (λ k. is_told o.formula (journal_of o (state_of p)) k ≡ true) (take n p.opening) p.written (All-take (λ k. is_told o.formula (journal_of o (state_of p)) k ≡ true) n p.opening told) written) was.usable refl was.caused
+
+-- what a longer clause did to the port
+pub clause_put : (p : PlainData) → IsPlain p → (r : ℕ) (g : LogData) (lits : List Literal) (number glue : ℕ) (c : Cref) → c.address ≡ length p.held
+    → 2 ≤ length lits → AddedEntry (record p.log { room = r }) g lits Learn number
+    → LearnedClause (state_of p) (state_of (record p { held = p.held ++ holding_of c number glue lits ∷ []; log = g; last = Some c })) lits glue c
+clause_put p plain r g lits number glue c at long added =
+    let x : Holding = holding_of c number glue lits in
+    let grown : LogData = record p.log { room = g.room; output = g.output; mine = p.log.mine ++ own_entry number lits Learn ∷ [] } in
+    let none : held_at (state_of p) c.address ≡ None = ap (held_at (state_of p)) at ∙ free_behind p plain in
+    record {
+      number = number;
+      going = added.going;
+      long = long;
+      free = record { not_held = none; not_waiting = refl };
+      there = found_pushed (state_of p) (state_of (record p { held = p.held ++ x ∷ []; log = g; last = Some c })) x refl none;
+      state = ap (λ k. state_of (record p { held = p.held ++ x ∷ []; log = k; last = Some c })) added.state
+          ∙ ap (λ hs. record (state_of (record p { held = p.held ++ x ∷ []; log = grown; last = Some c })) { start = hs }) (start_stays (length p.start) p.held x plain.begun);
+    }

@@ -3,3 +3,4 @@ pub mod StoreLemmas
 pub mod LogSteps
 pub mod PlainLemmas
 pub mod PlainSteps
+pub mod Units

@@ -66,6 +66,10 @@ free_behind p h = is_none (held_at (state_of p) (length p.held)) (λ some. let l
 pub plain_log : (p : PlainData) → IsPlain p → (g : LogData) (last : Option Cref) → IsPlain (record p { log = g; last = last })
 plain_log p h g last = record { held = h.held; indexed = h.indexed; begun = h.begun; start = h.start; opening = h.opening; distinct = h.distinct; given = h.given; written = h.written; stop = h.stop }
 
+-- more units are given
+pub plain_given : (p : PlainData) → IsPlain p → (n : ℕ) → n ≤ length p.opening → IsPlain (record p { given = n })
+plain_given p h n le = record { held = h.held; indexed = h.indexed; begun = h.begun; start = h.start; opening = h.opening; distinct = h.distinct; given = le; written = h.written; stop = h.stop }
+
 -- a unit more
 pub plain_unit : (p : PlainData) → IsPlain p → (l : Literal) → IsOn p.vars l → (g : LogData) (last : Option Cref) → IsPlain (record p { written = p.written ++ l ∷ []; log = g; last = last })
 plain_unit p h l on g last = record {

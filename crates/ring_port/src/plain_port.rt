@@ -1,4 +1,4 @@
-ghost use Rattle.std.specs.Prelude.{◌≡◌, ◌<◌, ◌≤◌, ◌∷◌, ◌++◌, [], true, false, not, All, Some, None, IfOk, IfErr, IfSome, IsSome, MatchResult, length, map, slice_get, position, List};
+ghost use Rattle.std.specs.Prelude.{◌≡◌, ◌<◌, ◌≤◌, ◌∷◌, ◌++◌, [], true, false, not, All, Some, None, IfOk, IfErr, IfSome, IsSome, MatchResult, length, map, slice_get, position, drop, List};
 ghost use Rattle.sat_words.specs.Literal.{Literal};
 ghost use Rattle.sat_words.specs.Clause.{has, is_empty};
 ghost use Rattle.std.specs.List.{list_any};
@@ -73,6 +73,14 @@ fn first_new(units: &[Lit], written: &[Lit]) -> Option<usize>
     units.iter().position(|lit| !written.contains(lit))
 }
 
+/// How many units from a place on were written, up to the first that was not.
+fn first_new_from(units: &[Lit], from: usize, written: &[Lit]) -> Option<usize>
+    requires { from ≤ length units.now }
+    ensures { result ≡ position (λ l. not (has written.now l)) (drop from units.now) }
+{
+    first_new(&units[from..], written)
+}
+
 impl<L: LineOut> Port for PlainPort<L> {
     ghost state = { λ p. p };
 
@@ -112,7 +120,7 @@ impl<L: LineOut> Port for PlainPort<L> {
     }
 
     fn next_unit(&mut self) -> Option<Lit> {
-        let skipped = first_new(&self.opening[self.given..], &self.written)?;
+        let skipped = first_new_from(&self.opening, self.given, &self.written)?;
         let place = self.given + skipped;
         self.given = place + 1;
         Some(self.opening[place])

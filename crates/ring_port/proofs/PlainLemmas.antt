@@ -12,9 +12,13 @@ use Rattle.sat_words.specs.Literal.{Literal}
 use Rattle.sat_words.specs.declared.shared.Cref.{Cref}
 use Rattle.sat_words.specs.declared.shared.Head.{Head}
 use Rattle.sat_words.specs.declared.shared.Stop.{Stop}
+use Rattle.rup_model.specs.declared.journal.Kind.{Kind}
+use Rattle.drat_text.specs.LineState.{LineState}
+use Rattle.ring_port.specs.declared.stops.PortStop.{PortStop}
+use Rattle.ring_port.specs.declared.stops.PortStop.TheVariants.{Ended, Broken, ProofFault, NoHole, Memory}
 use Rattle.rup_model.proofs.Lists.{In, In_Contains, Contains_In}
 use Rattle.ring_port.specs.PortState.{Holding, PortState, IsPort, IsKept, IsOn, IsStop, held_at, head_of, lits_in}
-use Rattle.ring_port.specs.Port.{KeepsHeld}
+use Rattle.ring_port.specs.Port.{KeepsHeld, WroteUnit, Refused, after_refusal}
 use Rattle.ring_port.specs.OwnLog.{LogData}
 use Rattle.ring_port.specs.PlainPort.{PlainData, state_of, IsIndexed, IsOwnStop, IsPlain}
 use Rattle.ring_port.proofs.Holdings.{holding, found_in_front}
@@ -138,3 +142,17 @@ found_pushed s t x e none = ap (find (λ h. h.address == x.address)) e ∙ find-
 pub size_of : (q : Option Holding) (r : Head) → IsSome q → IfSome q (λ h. r ≡ head_of h) → r.size ≡ length (lits_in q)
 size_of None r some is = absurd (false≢true some)
 size_of (Some h) r some is = ap (λ x. x.size) is
+
+-- a refusal leaves what is held
+pub refused_held : (s : PortState) (out : Option LineState) (stop : PortStop) → (after_refusal s out stop).held ≡ s.held
+refused_held s out Ended = refl
+refused_held s out Broken = refl
+refused_held s out ProofFault = refl
+refused_held s out (NoHole need largest) = refl
+refused_held s out Memory = refl
+
+pub kept_refused : (s t : PortState) (stop : PortStop) → Refused s t stop → KeepsHeld s t
+kept_refused s t stop refused a some = same_lookup s t a (ap (λ u. u.held) refused.state ∙ refused_held s t.output stop)
+
+pub kept_unit : (s t : PortState) (l : Literal) (kind : Kind) (last : Option ℕ) → WroteUnit s t l kind last → KeepsHeld s t
+kept_unit s t l kind last wrote a some = same_lookup s t a (ap (λ u. u.held) wrote.state)

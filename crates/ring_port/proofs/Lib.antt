@@ -4,3 +4,4 @@ pub mod LogSteps
 pub mod PlainLemmas
 pub mod PlainSteps
 pub mod Units
+pub mod Beginnings

@@ -141,7 +141,82 @@ impl<L: LineOut> Port for PlainPort<L> {
     }
 }
 
+/// Keeps the start clauses, and tells their addresses.
+fn keep_all(alloc: Global, start: &[(u64, Clause)]) -> Result<(Store, Vec<Cref>), PortStop>
+    ensures held { IfOk result (λ kept. kept.0.held ≡ placed_from 0 start.now) }
+    ensures start { IfOk result (λ kept. map (λ c. c.address) kept.1.items ≡ map (λ h. h.address) (placed_from 0 start.now)) }
+{
+    let mut store = Store::new(alloc);
+    let mut kept = Vec::new(alloc);
+    for entry in start {
+        let lits = entry.1.lits();
+        store.make_room(lits)?;
+        if kept.reserve(1).is_err() {
+            return Err(PortStop::Memory);
+        }
+        kept.push_reserved(store.push(lits, entry.0, 0));
+    }
+    Ok((store, kept))
+}
+
 impl<L: LineOut> PlainPort<L> {
+    /// The port of ring 0, of one ring, that holds the start clauses, each under its number, with glue 0 and at the
+    /// address of its place. Each has two literals or more and is alive in the log; the units are listed, and have no
+    /// line of the ring's. The log is continued where the line output stands. Refused for memory it gives that back.
+    pub fn new(
+        alloc: Global,
+        formula: &Formula,
+        vars: u32,
+        start: &[(u64, Clause)],
+        units: &[Lit],
+        output: L,
+    ) -> Result<PlainPort<L>, AllocFailed<L>>
+        requires opening { (J : List Entry) × OpensOver formula.now.clauses (starts_of start.now) units.now (L.told output) J }
+        requires going { list_any is_empty formula.now.clauses ≡ false }
+        requires unspent { (L.told output).spent ≡ false }
+        requires starts_on { All (λ s. All (IsOn vars) s.1) start.now }
+        requires units_on { All (IsOn vars) units.now }
+        ensures made { IfOk result (λ port. port ≡ begun_with vars start.now units.now (L.told output)) }
+        ensures stands { IfOk result (λ port. (J : List Entry) → OpensOver formula.now.clauses (starts_of start.now) units.now (L.told output) J → StandsOver (record { formula = formula.now.clauses; journal = J; output = L.told output }) port) }
+        ensures holds { IfOk result HoldsStart }
+        ensures port { IfOk result IsPort }
+        ensures back { IfErr result (λ refused. refused.value ≡ output) }
+    {
+        let Ok((store, start)) = keep_all(alloc, start) else {
+            return Err(AllocFailed { value: output });
+        };
+        let Ok(opening) = Vec::from_slice(alloc, units) else {
+            return Err(AllocFailed { value: output });
+        };
+        Ok(PlainPort {
+            alloc,
+            vars,
+            store,
+            start,
+            opening,
+            given: 0,
+            written: Vec::new(alloc),
+            log: OwnLog::new(alloc, output),
+            last: None,
+            stop: None,
+        })
+    }
+
+    /// The addresses of the start clauses, in their order.
+    pub fn start(&self) -> &[Cref]
+        ensures { map (λ c. c.address) result.now ≡ map (λ h. h.address) self.now.start }
+    {
+        &self.start
+    }
+
+    /// Gives the line output back.
+    pub fn into_lines(self) -> L
+        ensures { Some (L.told result) ≡ self.output }
+    {
+        let PlainPort { log, .. } = self;
+        log.into_output()
+    }
+
     /// Writes the line of a unit, which is seen from then on.
     fn put_unit(&mut self, lit: Lit, kind: Kind, last: Option<Cref>) -> Result<(), PortStop>
         requires usable { is_usable self.old.refused ≡ true }

@@ -15,7 +15,7 @@ returns-clause-took g c =
     let i = c.self.inside in
     let p : PlainData = record { vars = i.vars; held = i.store.held; start = i.start.items; opening = i.opening.items; given = i.given; written = i.written.items; log = i.log; last = i.last; stop = i.stop } in
     let some : position (λ j. not (has i.written.items j)) (drop i.given i.opening.items) ≡ Some c.in_ok-skipped.skipped =
-      (λ x. position (λ j. not (has (sym c.deref-2.ensures.value x) j)) (drop i.given (sym c.deref.ensures.value x))) ∙ sym c.in_ok-skipped.ensures in
+    (λ x. position (λ j. not (has (sym c.deref-2.ensures.value x) j)) (drop i.given (sym c.deref.ensures.value x))) ∙ sym c.in_ok-skipped.ensures in
     subst (λ s. TookUnit s (state_of (record p { given = i.given + c.in_ok-skipped.skipped + 1 })) c.index.result.now) c.self.view_is
     (took_unit p c.in_ok-skipped.skipped c.index.result.now some c.index.ensures)
 
@@ -31,7 +31,7 @@ returns-clause-port g c =
     let i = c.self.inside in
     let p : PlainData = record { vars = i.vars; held = i.store.held; start = i.start.items; opening = i.opening.items; given = i.given; written = i.written.items; log = i.log; last = i.last; stop = i.stop } in
     let some : position (λ j. not (has i.written.items j)) (drop i.given i.opening.items) ≡ Some c.in_ok-skipped.skipped =
-      (λ x. position (λ j. not (has (sym c.deref-2.ensures.value x) j)) (drop i.given (sym c.deref.ensures.value x))) ∙ sym c.in_ok-skipped.ensures in
+    (λ x. position (λ j. not (has (sym c.deref-2.ensures.value x) j)) (drop i.given (sym c.deref.ensures.value x))) ∙ sym c.in_ok-skipped.ensures in
     let lt = in_range i.given c.in_ok-skipped.skipped i.opening.items i.written.items c.index.result.now some c.index.ensures in
     plain_port _ (plain_given p c.self.invariant (i.given + c.in_ok-skipped.skipped + 1) (omega arith))
 
@@ -40,6 +40,6 @@ returns-in_err-skipped-clause-took g c =
     let i = c.self.inside in
     let p : PlainData = record { vars = i.vars; held = i.store.held; start = i.start.items; opening = i.opening.items; given = i.given; written = i.written.items; log = i.log; last = i.last; stop = i.stop } in
     let none : position (λ j. not (has i.written.items j)) (drop i.given i.opening.items) ≡ None =
-      (λ x. position (λ j. not (has (sym c.deref-2.ensures.value x) j)) (drop i.given (sym c.deref.ensures.value x))) ∙ sym c.in_err-skipped.ensures in
+    (λ x. position (λ j. not (has (sym c.deref-2.ensures.value x) j)) (drop i.given (sym c.deref.ensures.value x))) ∙ sym c.in_err-skipped.ensures in
     subst (λ r. Took c.args.self.now c.args.self.now r) (sym c.from_residual.ensures)
     (subst (λ s. TookNone s s) c.self.view_is (took_none p none))

@@ -1,0 +1,163 @@
+-- How a port in memory begins.
+use Rattle.std.proofs.Common.{◌≡◌, ℕ, zero, suc, ◌+◌, ◌-◌, ◌<◌, ◌≤◌, ◌||◌, Bool, true, false, not, List, [], ◌∷◌, ◌++◌, length, map, take, drop, get_or, sym, refl, ap, subst, ◌∙◌, arith, Some, None, append_assoc, append-nil, length-append, cond, ◌==◌, eq-eqb, ne_eqb}
+use Rattle.std.specs.List.{list_any, All, slice_get, find}
+use Rattle.std.specs.declared.option.Option.{Option}
+use Rattle.std.specs.Io.KnownBytes.{append_known}
+use Rattle.std.proofs.lemmas.Bool.{or_parts, false≢true}
+use Rattle.std.proofs.lemmas.List.{take_all, length-map, map-append}
+use Rattle.std.proofs.lemmas.List.Folds.{list_any-append}
+use Rattle.sat_words.specs.Literal.{Literal}
+use Rattle.sat_words.specs.Clause.{is_empty, distinct_lits}
+use Rattle.sat_words.specs.declared.shared.Cref.{Cref}
+use Rattle.sat_words.specs.declared.shared.Stop.{Stop}
+use Rattle.rup_model.specs.Basics.{EachAfter}
+use Rattle.rup_model.specs.declared.journal.Entry.{Entry}
+use Rattle.rup_model.specs.Journal.{book, lines, added, ended, EmptyLast, LogSound}
+use Rattle.rup_model.specs.Opening.{Start, Opening, IsOpening, IsStart, IsLong}
+use Rattle.rup_model.proofs.Additions.{added-append}
+use Rattle.drat_text.specs.LineState.{LineState}
+use Rattle.ring_port.specs.PortState.{Holding, PortState, IsPort, IsKept, IsOn, HoldsStart, held_at}
+use Rattle.ring_port.specs.Log.{Origin, StandsOver, HasLines, start_of}
+use Rattle.ring_port.specs.OwnLog.{LogData}
+use Rattle.ring_port.specs.PlainPort.{PlainData, state_of, IsIndexed, IsPlain, HasJournal, OpensOver, starts_of, placed_from, begun_with}
+use Rattle.ring_port.proofs.PlainLemmas.{place_of, at_place}
+
+-- Lists of start clauses
+
+pub length-placed_from : (a : ℕ) (ss : List (ℕ × List Literal)) → length (placed_from a ss) ≡ length ss
+length-placed_from a [] = refl
+length-placed_from a (s ∷ ss) = ap suc (length-placed_from (suc a) ss)
+
+pub placed_from-push : (a : ℕ) (ss : List (ℕ × List Literal)) (s : ℕ × List Literal) → placed_from a (ss ++ s ∷ []) ≡ placed_from a ss ++ record { address = a + length ss; number = s.0; glue = 0; lits = s.1 } ∷ []
+placed_from-push a [] s = ap (λ b. record { address = b; number = s.0; glue = 0; lits = s.1 } ∷ []) (omega arith)
+placed_from-push a (t ∷ ss) s =
+    ap (λ hs. record { address = a; number = t.0; glue = 0; lits = t.1 } ∷ hs)
+    (placed_from-push (suc a) ss s ∙ ap (λ b. placed_from (suc a) ss ++ record { address = b; number = s.0; glue = 0; lits = s.1 } ∷ []) (omega arith))
+
+indexed_from : (a : ℕ) (ss : List (ℕ × List Literal)) (k : ℕ) (d : Holding) → k < length (placed_from a ss) → (get_or (placed_from a ss) k d).address ≡ a + k
+indexed_from a [] k d lt = absurd (omega arith)
+indexed_from a (s ∷ ss) zero d lt = omega arith
+indexed_from a (s ∷ ss) (suc k) d lt = let e = indexed_from (suc a) ss k d (omega arith) in omega arith
+
+starts_placed : (a : ℕ) (ss : List (ℕ × List Literal)) → map start_of (placed_from a ss) ≡ starts_of ss
+starts_placed a [] = refl
+starts_placed a (s ∷ ss) = ap (λ ts. record { number = s.0; lits = s.1 } ∷ ts) (starts_placed (suc a) ss)
+
+same_lengths : (refs : List Cref) (hs : List Holding) → map (λ c. c.address) refs ≡ map (λ h. h.address) hs → length refs ≡ length hs
+same_lengths refs hs same = let a = length-map refs (λ (c : Cref). c.address) in let b = length-map hs (λ (h : Holding). h.address) in let e : length (map (λ c. c.address) refs) ≡ length (map (λ h. h.address) hs) = ap (λ xs. length xs) same in omega arith
+
+-- a fact of each start clause, at its place
+placed_All : (P : Start → Type 0) (Q : ℕ × List Literal → Type 0) (R : Holding → Type 0) (a : ℕ) (ss : List (ℕ × List Literal))
+    → ((b : ℕ) (s : ℕ × List Literal) → P (record { number = s.0; lits = s.1 }) → Q s → R (record { address = b; number = s.0; glue = 0; lits = s.1 }))
+    → All P (starts_of ss) → All Q ss → All R (placed_from a ss)
+placed_All P Q R a [] f p q k d lt = absurd (omega arith)
+placed_All P Q R a (s ∷ ss) f p q zero d lt = f a s (p 0 (record { number = s.0; lits = s.1 }) (omega arith)) (q 0 s (omega arith))
+placed_All P Q R a (s ∷ ss) f p q (suc k) d lt =
+    placed_All P Q R (suc a) ss f (λ i x less. p (suc i) x (omega arith)) (λ i x less. q (suc i) x (omega arith)) k d (omega arith)
+
+-- Journals
+
+empty_last_from : (before rest : List Entry) → list_any is_empty (added (before ++ rest)) ≡ false → EachAfter (λ b e. list_any is_empty (added b) ≡ false) before rest
+empty_last_from before [] none = tt
+empty_last_from before (e ∷ rest) none = (
+  (or_parts (list_any is_empty (added before)) (list_any is_empty (added (e ∷ rest))) (sym (ap (list_any is_empty) (added-append before (e ∷ rest)) ∙ list_any-append is_empty (added before) (added (e ∷ rest))) ∙ none)).0,
+  empty_last_from (before ++ e ∷ []) rest (ap (λ J. list_any is_empty (added J)) (append_assoc before (e ∷ []) rest) ∙ none),
+)
+
+pub known_none : (w : Option (List ℕ)) → append_known w [] ≡ w
+known_none None = refl
+known_none (Some xs) = ap Some (append-nil xs)
+
+-- what a port has when it is made
+abbrev pub begun_data : ℕ → List (ℕ × List Literal) → List Cref → List Literal → LogData → PlainData
+begun_data vars ss refs units g = record { vars = vars; held = placed_from 0 ss; start = refs; opening = units; given = 0; written = []; log = g; last = None; stop = None }
+
+module _ (F : List (List Literal)) (vars : ℕ) (ss : List (ℕ × List Literal)) (units : List Literal) (out : LineState) where
+  kept_start : (J : List Entry) → OpensOver F (starts_of ss) units out J → All (λ s. All (IsOn vars) s.1) ss → All (IsKept vars) (placed_from 0 ss)
+  kept_start J h on = placed_All (IsStart (book F J)) (λ s. All (IsOn vars) s.1) (IsKept vars) 0 ss (λ b s is ons. record { shape = is.shape; on = ons }) h.opens.starts on
+
+  pub begun_plain : (refs : List Cref) (g : LogData) (J : List Entry) → OpensOver F (starts_of ss) units out J → All (λ s. All (IsOn vars) s.1) ss → All (IsOn vars) units
+      → map (λ c. c.address) refs ≡ map (λ h. h.address) (placed_from 0 ss) → IsPlain (begun_data vars ss refs units g)
+  begun_plain refs g J h on units_on same =
+      let n : length refs ≡ length (placed_from 0 ss) = same_lengths refs (placed_from 0 ss) same in
+      record {
+        held = kept_start J h on;
+        indexed = λ k d lt. (indexed_from 0 ss k d lt ∙ omega arith);
+        begun = omega arith;
+        start = same ∙ ap (map (λ x. x.address)) (sym (take_all (length refs) (placed_from 0 ss) (omega arith)));
+        opening = units_on;
+        distinct = h.opens.distinct;
+        given = omega arith;
+        written = λ k d lt. absurd (omega arith);
+        stop = tt;
+      }
+
+  pub begun_state : (refs : List Cref) (g : LogData) → map (λ c. c.address) refs ≡ map (λ h. h.address) (placed_from 0 ss) → g.output ≡ out → g.mine ≡ [] → g.ended ≡ false → g.refused ≡ None
+      → state_of (begun_data vars ss refs units g) ≡ begun_with vars ss units out
+  begun_state refs g same output mine going quiet =
+      let n : length refs ≡ length (placed_from 0 ss) = same_lengths refs (placed_from 0 ss) same in
+      let whole : take (length refs) (placed_from 0 ss) ≡ placed_from 0 ss = take_all (length refs) (placed_from 0 ss) (omega arith) in
+      let all : length units - 0 ≡ length units = omega arith in
+      λ i. record (begun_with vars ss units out) { coming = all i; start = whole i; output = Some (output i); mine = mine i; ended = going i; refused = quiet i }
+
+  -- the state of a port that has this
+  pub begun_is : (H : List Holding) (refs : List Cref) (O W : List Literal) (g : LogData) → H ≡ placed_from 0 ss → map (λ c. c.address) refs ≡ map (λ h. h.address) (placed_from 0 ss) → O ≡ units → W ≡ []
+      → g.output ≡ out → g.mine ≡ [] → g.ended ≡ false → g.refused ≡ None
+      → state_of (record { vars = vars; held = H; start = refs; opening = O; given = 0; written = W; log = g; last = None; stop = None }) ≡ begun_with vars ss units out
+  begun_is H refs O W g held same opening written output mine going quiet =
+      (λ i. state_of (record { vars = vars; held = held i; start = refs; opening = opening i; given = 0; written = written i; log = g; last = None; stop = None }))
+      ∙ begun_state refs g same output mine going quiet
+
+  pub begun_stands : (J : List Entry) → OpensOver F (starts_of ss) units out J → list_any is_empty F ≡ false → out.spent ≡ false
+      → StandsOver (record { formula = F; journal = J; output = out }) (begun_with vars ss units out)
+  begun_stands J h none unspent =
+      let o : Origin = record { formula = F; journal = J; output = out } in
+      let s = begun_with vars ss units out in
+      let alone : J ++ [] ≡ J = append-nil J in
+      let log : LogSound F J = record { fits = h.opens.rulers_part.fits; accepted = h.opens.rulers_part.accepted; empty_last = empty_last_from [] J h.opens.rulers_part.going } in
+      record {
+        opens = subst (λ ts. IsOpening F (record { journal = J; starts = ts; units = units })) (sym (starts_placed 0 ss)) h.opens;
+        sound = subst (LogSound F) (sym alone) log;
+        of_ring = λ k d lt. absurd (omega arith);
+        on = λ k d lt. absurd (omega arith);
+        ended = sym (ap (λ K. list_any is_empty (F ++ added K)) alone ∙ list_any-append is_empty F (added J) ∙ ap (λ b. b || list_any is_empty (added J)) none ∙ h.opens.rulers_part.going);
+        held = subst (λ K. All (λ c. (book F K).clause c.number ≡ Some c.lits) (placed_from 0 ss)) (sym alone)
+            (placed_All (IsStart (book F J)) (λ t. t ≡ t) (λ c. (book F J).clause c.number ≡ Some c.lits) 0 ss (λ b t is same. is.alive) h.opens.starts (λ k d lt. refl));
+        seen = λ k d lt. absurd (omega arith);
+        output = record {
+          entries = h.lines.entries ∙ ap (λ K. length (lines F K)) (sym alone);
+          last = ap (λ K. (book F K).next) alone ∙ h.lines.last;
+          usable = sym (ap not unspent);
+          caused = tt;
+          whole = λ q. record { quiet = refl; bytes = sym (known_none out.written) };
+          short = λ q. absurd (false≢true (sym unspent ∙ q));
+          target = refl;
+          flushed = refl;
+        };
+      }
+
+-- each start clause is held at its address
+found_from : (a : ℕ) (ss : List (ℕ × List Literal)) (k : ℕ) (d : Holding) → k < length (placed_from a ss) → find (λ h. h.address == (a + k)) (placed_from a ss) ≡ Some (get_or (placed_from a ss) k d)
+found_from a [] k d lt = absurd (omega arith)
+found_from a (s ∷ ss) zero d lt = ap (λ b. cond b (Some (record { address = a; number = s.0; glue = 0; lits = s.1 })) (find (λ h. h.address == (a + 0)) (placed_from (suc a) ss))) (eq-eqb a (a + 0) (omega arith))
+found_from a (s ∷ ss) (suc k) d lt =
+    ap (λ b. cond b (Some (record { address = a; number = s.0; glue = 0; lits = s.1 })) (find (λ h. h.address == (a + suc k)) (placed_from (suc a) ss))) (ne_eqb a (a + suc k) (λ e. absurd (omega arith)))
+    ∙ ap (λ n. find (λ h. h.address == n) (placed_from (suc a) ss)) (omega arith)
+    ∙ found_from (suc a) ss k d (omega arith)
+
+pub begun_holds : (vars : ℕ) (ss : List (ℕ × List Literal)) (units : List Literal) (out : LineState) → HoldsStart (begun_with vars ss units out)
+unfolding held_at
+begun_holds vars ss units out k d lt = ap (λ n. find (λ h. h.address == n) (placed_from 0 ss)) (indexed_from 0 ss k d lt) ∙ found_from 0 ss k d lt
+
+-- one start clause more
+pub kept_one : (ss : List (ℕ × List Literal)) (s : ℕ × List Literal) (hs : List Holding) (lits : List Literal) → hs ≡ placed_from 0 ss → lits ≡ s.1
+    → hs ++ record { address = length hs; number = s.0; glue = 0; lits = lits } ∷ [] ≡ placed_from 0 (ss ++ s ∷ [])
+kept_one ss s hs lits held same =
+    ap (λ xs. xs ++ record { address = length xs; number = s.0; glue = 0; lits = lits } ∷ []) held
+    ∙ ap (λ c. placed_from 0 ss ++ record { address = length (placed_from 0 ss); number = s.0; glue = 0; lits = c } ∷ []) same
+    ∙ ap (λ a. placed_from 0 ss ++ record { address = a; number = s.0; glue = 0; lits = s.1 } ∷ []) (let n = length-placed_from 0 ss in omega arith)
+    ∙ sym (placed_from-push 0 ss s)
+
+pub address_one : (refs : List Cref) (c : Cref) (hs : List Holding) (x : Holding) → map (λ r. r.address) refs ≡ map (λ h. h.address) hs → c.address ≡ x.address
+    → map (λ r. r.address) (refs ++ c ∷ []) ≡ map (λ h. h.address) (hs ++ x ∷ [])
+address_one refs c hs x same at = map-append (λ r. r.address) refs (c ∷ []) ∙ (λ i. same i ++ at i ∷ []) ∙ sym (map-append (λ h. h.address) hs (x ∷ []))

@@ -1,0 +1,32 @@
+use Rattle.std.proofs.Common.{◌≡◌, sym, subst, None}
+use Rattle.std.specs.List.{All}
+use Rattle.sat_words.specs.Literal.{Literal}
+use Rattle.ring_port.specs.PortState.{IsPort, HoldsStart}
+use Rattle.ring_port.specs.Log.{StandsOver}
+use Rattle.ring_port.specs.PlainPort.{PlainData, state_of, IsPlain, begun_with, placed_from}
+use Rattle.ring_port.proofs.PlainLemmas.{plain_port}
+use Rattle.ring_port.proofs.Beginnings.{begun_plain, begun_is, begun_stands, begun_holds}
+use Rattle.ring_port.proofs.plain_port.PlainPort.new.Goals as goal
+
+pub invariant_of-result : goal.invariant_of-result
+invariant_of-result g c =
+    let plain = begun_plain c.args.formula.now.clauses c.args.vars c.args.start.now c.args.units.now (g.L.LineOut.told c.args.output) c.in-Ok.start.items c.new-2.result c.requires.opening.0 c.requires.opening.1 c.requires.starts_on c.requires.units_on c.in-Ok.ensures.start in
+    subst (λ (p : PlainData). IsPlain p)
+    (λ i. record { vars = c.args.vars; held = sym c.in-Ok.ensures.held i; start = c.in-Ok.start.items; opening = sym c.in-Ok-from_slice.ensures.items i; given = 0; written = sym c.new.ensures.items i; log = c.new-2.result; last = None; stop = None })
+    plain
+
+pub returns-clause-stands : goal.returns-clause-stands
+returns-clause-stands g c =
+    let is = begun_is c.args.formula.now.clauses c.args.vars c.args.start.now c.args.units.now (g.L.LineOut.told c.args.output) c.in-Ok.store.held c.in-Ok.start.items c.in-Ok-from_slice.opening.items c.new.result.items c.new-2.result
+    c.in-Ok.ensures.held c.in-Ok.ensures.start c.in-Ok-from_slice.ensures.items c.new.ensures.items c.new-2.ensures.output c.new-2.ensures.mine c.new-2.ensures.ended c.new-2.ensures.refused in
+    λ J opens. subst (λ s. StandsOver (record { formula = c.args.formula.now.clauses; journal = J; output = g.L.LineOut.told c.args.output }) s) (sym is)
+    (begun_stands c.args.formula.now.clauses c.args.vars c.args.start.now c.args.units.now (g.L.LineOut.told c.args.output) J opens c.requires.going c.requires.unspent)
+
+pub returns-clause-holds : goal.returns-clause-holds
+returns-clause-holds g c =
+    let is = begun_is c.args.formula.now.clauses c.args.vars c.args.start.now c.args.units.now (g.L.LineOut.told c.args.output) c.in-Ok.store.held c.in-Ok.start.items c.in-Ok-from_slice.opening.items c.new.result.items c.new-2.result
+    c.in-Ok.ensures.held c.in-Ok.ensures.start c.in-Ok-from_slice.ensures.items c.new.ensures.items c.new-2.ensures.output c.new-2.ensures.mine c.new-2.ensures.ended c.new-2.ensures.refused in
+    subst (λ s. HoldsStart s) (sym is) (begun_holds c.args.vars c.args.start.now c.args.units.now (g.L.LineOut.told c.args.output))
+
+pub returns-clause-port : goal.returns-clause-port
+returns-clause-port g c = plain_port _ (invariant_of-result g c)

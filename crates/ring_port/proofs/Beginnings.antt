@@ -1,26 +1,24 @@
 -- How a port in memory begins.
-use Rattle.std.proofs.Common.{◌≡◌, ℕ, zero, suc, ◌+◌, ◌-◌, ◌<◌, ◌≤◌, ◌||◌, Bool, true, false, not, List, [], ◌∷◌, ◌++◌, length, map, take, drop, get_or, sym, refl, ap, subst, ◌∙◌, arith, Some, None, append_assoc, append-nil, length-append, cond, ◌==◌, eq-eqb, ne_eqb}
-use Rattle.std.specs.List.{list_any, All, slice_get, find}
+use Rattle.std.proofs.Common.{◌≡◌, ℕ, zero, suc, ◌+◌, ◌-◌, ◌<◌, ◌||◌, false, not, List, [], ◌∷◌, ◌++◌, length, map, take, get_or, sym, refl, ap, subst, ◌∙◌, arith, Some, None, append_assoc, append-nil, cond, ◌==◌, eq-eqb, ne_eqb}
+use Rattle.std.specs.List.{list_any, All, find}
 use Rattle.std.specs.declared.option.Option.{Option}
 use Rattle.std.specs.Io.KnownBytes.{append_known}
 use Rattle.std.proofs.lemmas.Bool.{or_parts, false≢true}
 use Rattle.std.proofs.lemmas.List.{take_all, length-map, map-append}
 use Rattle.std.proofs.lemmas.List.Folds.{list_any-append}
 use Rattle.sat_words.specs.Literal.{Literal}
-use Rattle.sat_words.specs.Clause.{is_empty, distinct_lits}
+use Rattle.sat_words.specs.Clause.{is_empty}
 use Rattle.sat_words.specs.declared.shared.Cref.{Cref}
-use Rattle.sat_words.specs.declared.shared.Stop.{Stop}
 use Rattle.rup_model.specs.Basics.{EachAfter}
 use Rattle.rup_model.specs.declared.journal.Entry.{Entry}
-use Rattle.rup_model.specs.Journal.{book, lines, added, ended, EmptyLast, LogSound}
-use Rattle.rup_model.specs.Opening.{Start, Opening, IsOpening, IsStart, IsLong}
+use Rattle.rup_model.specs.Journal.{book, lines, added, LogSound}
+use Rattle.rup_model.specs.Opening.{Start, IsOpening, IsStart}
 use Rattle.rup_model.proofs.Additions.{added-append}
 use Rattle.drat_text.specs.LineState.{LineState}
-use Rattle.ring_port.specs.PortState.{Holding, PortState, IsPort, IsKept, IsOn, HoldsStart, held_at}
-use Rattle.ring_port.specs.Log.{Origin, StandsOver, HasLines, start_of}
+use Rattle.ring_port.specs.PortState.{Holding, IsKept, IsOn, HoldsStart, held_at}
+use Rattle.ring_port.specs.Log.{Origin, StandsOver, start_of}
 use Rattle.ring_port.specs.OwnLog.{LogData}
-use Rattle.ring_port.specs.PlainPort.{PlainData, state_of, IsIndexed, IsPlain, HasJournal, OpensOver, starts_of, placed_from, begun_with}
-use Rattle.ring_port.proofs.PlainLemmas.{place_of, at_place}
+use Rattle.ring_port.specs.PlainPort.{PlainData, state_of, IsPlain, OpensOver, starts_of, placed_from, begun_with}
 
 -- Lists of start clauses
 
@@ -117,6 +115,7 @@ module _ (F : List (List Literal)) (vars : ℕ) (ss : List (ℕ × List Literal)
       let log : LogSound F J = record { fits = h.opens.rulers_part.fits; accepted = h.opens.rulers_part.accepted; empty_last = empty_last_from [] J h.opens.rulers_part.going } in
       record {
         opens = subst (λ ts. IsOpening F (record { journal = J; starts = ts; units = units })) (sym (starts_placed 0 ss)) h.opens;
+        given = none;
         sound = subst (LogSound F) (sym alone) log;
         of_ring = λ k d lt. absurd (omega arith);
         on = λ k d lt. absurd (omega arith);

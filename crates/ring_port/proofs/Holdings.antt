@@ -1,13 +1,13 @@
 -- Looking up what is held, and what of it propagation may use.
-use Rattle.std.proofs.Common.{◌≡◌, ℕ, suc, ◌<◌, ◌≤◌, ◌==◌, cond, Bool, true, false, List, [], ◌∷◌, ◌++◌, length, map, get_or, sym, refl, ap, subst, ◌∙◌, inl, inr, ◌⊎◌, arith, Some, None, IsSome}
-use Rattle.std.specs.List.{find, All, Contains, slice_index_or}
+use Rattle.std.proofs.Common.{◌≡◌, ℕ, suc, ◌==◌, cond, Bool, true, false, List, [], ◌∷◌, ◌++◌, map, sym, refl, ap, subst, ◌∙◌, inl, inr, arith, Some, IsSome}
+use Rattle.std.specs.List.{find, All, Contains}
 use Rattle.std.proofs.lemmas.Bool.{false≢true, eqb-true}
 use Rattle.std.specs.Option.{option_map_or}
 use Rattle.std.specs.declared.option.Option.{Option}
 use Rattle.sat_words.specs.Literal.{Literal}
 use Rattle.sat_words.specs.Clause.{has}
 use Rattle.rup_model.specs.Opening.{IsLong}
-use Rattle.rup_model.proofs.Lists.{In, In_append_left, In_append_right, In_map, In_Contains, Contains_In, has_In}
+use Rattle.rup_model.proofs.Lists.{In, In_append_left, In_append_right, In_map, In_Contains, has_In}
 use Rattle.ring_port.specs.PortState.{Holding, PortState, IsPort, IsKept, IsOn, held_at, lits_at, known}
 
 -- what is found passes, and is in the list

@@ -5,3 +5,4 @@ pub mod PlainLemmas
 pub mod PlainSteps
 pub mod Units
 pub mod Beginnings
+pub mod Refuted

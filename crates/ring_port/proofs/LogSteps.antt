@@ -1,18 +1,16 @@
 -- What an addition of the ring keeps of the one journal behind its port.
-use Rattle.std.proofs.Common.{◌≡◌, ◌≢◌, ℕ, zero, suc, ◌+◌, ◌<◌, ◌≤◌, ◌==◌, ◌||◌, Bool, true, false, not, cond, List, [], ◌∷◌, ◌++◌, length, map, take, sym, refl, ap, subst, ◌∙◌, inl, inr, ◌⊎◌, ⊎_elim, arith, Some, None, append_assoc, append-nil, length-append}
-use Rattle.std.specs.List.{list_any, All, Contains}
-use Rattle.std.specs.Option.{option_map}
+use Rattle.std.proofs.Common.{◌≡◌, ℕ, zero, suc, ◌+◌, ◌<◌, ◌==◌, ◌||◌, Bool, true, false, not, cond, List, [], ◌∷◌, ◌++◌, length, map, take, sym, refl, ap, subst, ◌∙◌, inl, inr, ⊎_elim, arith, Some, None, append_assoc, append-nil, length-append}
+use Rattle.std.specs.List.{list_any, All}
 use Rattle.std.specs.Prelude.{IsSomeAnd}
 use Rattle.std.specs.declared.option.Option.{Option}
 use Rattle.std.specs.Io.KnownBytes.{append_known}
-use Rattle.std.proofs.lemmas.Bool.{or_cases, or_left, or_right, false≢true}
+use Rattle.std.proofs.lemmas.Bool.{or_left, or_right, false≢true}
 use Rattle.std.proofs.lemmas.List.Elements.{All-append}
 use Rattle.std.proofs.lemmas.List.Folds.{list_any-append}
 use Rattle.sat_words.specs.Literal.{Literal, same}
-use Rattle.sat_words.specs.Clause.{has, same_set, is_empty, clause_of}
+use Rattle.sat_words.specs.Clause.{same_set, is_empty, clause_of}
 use Rattle.sat_words.specs.declared.line.Line.{Line}
 use Rattle.sat_words.specs.declared.line.Line.TheVariants.{Add as AddLine}
-use Rattle.sat_words.proofs.Members.{same-true}
 use Rattle.rup_model.specs.declared.journal.TheConstants.{RULER_RING}
 use Rattle.rup_model.specs.declared.journal.Kind.{Kind}
 use Rattle.rup_model.specs.declared.journal.Addition.{Addition}
@@ -20,10 +18,9 @@ use Rattle.rup_model.specs.declared.journal.Entry.{Entry}
 use Rattle.rup_model.specs.declared.journal.Entry.TheVariants.{Add}
 use Rattle.rup_model.specs.Basics.{put}
 use Rattle.rup_model.specs.Rup.{rup}
-use Rattle.rup_model.specs.Log.{Accepted, alive, lits_of}
+use Rattle.rup_model.specs.Log.{Accepted, alive}
 use Rattle.rup_model.specs.Journal.{Book, spelled, book_after, book, lines, lines_after, lines_from, added, ended, is_told, ring_of, LogSound}
-use Rattle.rup_model.specs.Opening.{IsOpening}
-use Rattle.rup_model.proofs.Lists.{In, In_append, In_append_left, map_In, has_In, In_has, any_In, Contains_In}
+use Rattle.rup_model.proofs.Lists.{In, In_append, map_In}
 use Rattle.rup_model.proofs.Sums.{put_here, put_else}
 use Rattle.rup_model.proofs.Covers.{same_self}
 use Rattle.rup_model.proofs.Numbers.{journal_matches, clause_below, book_last, lines_last, rup_alive_sets}
@@ -40,7 +37,7 @@ use Rattle.ring_port.specs.declared.stops.PortStop.{PortStop}
 use Rattle.ring_port.specs.declared.stops.PortStop.TheVariants.{Ended, Broken, ProofFault, NoHole, Memory}
 use Rattle.ring_port.specs.PortState.{Holding, PortState, IsOn, known}
 use Rattle.ring_port.specs.Port.{entry_of, is_usable}
-use Rattle.ring_port.specs.Log.{Origin, StandsOver, HasLines, IsCaused, IsWhole, IsCut, journal_of, opening_of, own_text}
+use Rattle.ring_port.specs.Log.{Origin, StandsOver, HasLines, IsCaused, journal_of, own_text}
 use Rattle.ring_port.proofs.Holdings.{All_In}
 
 -- Lists
@@ -227,6 +224,7 @@ module _ (o : Origin) (s : PortState) (h : StandsOver o s) (ring : s.ring ≡ 0)
       → StandsOver o (after H S la en)
   stands_after H S la en held seen end = record {
     opens = h.opens;
+    given = h.given;
     sound = sound_next o s h ring lits kind number follows going number_is;
     of_ring = All-append (λ e. ring_of e ≡ s.ring) s.mine (entry_of s number lits kind ∷ []) h.of_ring (one_All (λ e. ring_of e ≡ s.ring) (entry_of s number lits kind) refl);
     on = subst (λ G. All (All (IsOn s.vars)) G) (sym (added-append s.mine (entry_of s number lits kind ∷ []))) (All-append (All (IsOn s.vars)) (added s.mine) (lits ∷ []) h.on (one_All (All (IsOn s.vars)) lits on));
@@ -263,6 +261,7 @@ stands_failed o s h ring lits kind follows going on a b out unspent failed =
     }
     in record {
       opens = h.opens;
+      given = h.given;
       sound = h.sound;
       of_ring = h.of_ring;
       on = h.on;
@@ -293,6 +292,7 @@ stands_with o s h a out S n st r en seen usable end caused =
     }
     in record {
       opens = h.opens;
+      given = h.given;
       sound = h.sound;
       of_ring = h.of_ring;
       on = h.on;

@@ -1,7 +1,7 @@
 -- What is kept of a port in memory, and what its calls find.
-use Rattle.std.proofs.Common.{◌≡◌, ℕ, zero, suc, ◌+◌, ◌-◌, ◌<◌, ◌≤◌, ◌==◌, Bool, true, false, not, List, [], ◌∷◌, ◌++◌, length, map, take, get_or, sym, refl, ap, subst, ◌∙◌, inl, inr, ⊎_elim, arith, Some, None, IsSome, IfSome, append_assoc, length-append, cond, eq-eqb}
-use Rattle.std.specs.List.{All, Contains, slice_get, find}
-use Rattle.std.specs.Option.{option_map, option_or}
+use Rattle.std.proofs.Common.{◌≡◌, ℕ, zero, suc, ◌<◌, ◌≤◌, ◌==◌, List, [], ◌∷◌, ◌++◌, length, map, take, get_or, sym, refl, ap, subst, ◌∙◌, ⊎_elim, arith, Some, None, IsSome, IfSome, length-append, cond, eq-eqb}
+use Rattle.std.specs.List.{All, slice_get, find}
+use Rattle.std.specs.Option.{option_or}
 use Rattle.std.proofs.lemmas.List.Folds.{find-append}
 use Rattle.std.specs.declared.option.Option.{Option}
 use Rattle.std.proofs.lemmas.Bool.{false≢true, cases_lt}

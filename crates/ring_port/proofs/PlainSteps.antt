@@ -1,5 +1,5 @@
 -- What the calls of a port in memory keep of the one journal behind it.
-use Rattle.std.proofs.Common.{◌≡◌, ℕ, zero, suc, ◌+◌, ◌-◌, ◌<◌, ◌≤◌, ◌||◌, Bool, true, false, not, List, [], ◌∷◌, ◌++◌, length, take, sym, refl, ap, subst, ◌∙◌, arith, Some, None, append_assoc, length-append}
+use Rattle.std.proofs.Common.{◌≡◌, ℕ, ◌+◌, ◌-◌, ◌≤◌, true, false, not, List, [], ◌∷◌, ◌++◌, length, take, sym, refl, ap, subst, ◌∙◌, arith, Some, None, append_assoc, length-append}
 use Rattle.std.specs.List.{All}
 use Rattle.std.specs.Option.{option_map}
 use Rattle.std.specs.declared.option.Option.{Option}
@@ -15,10 +15,9 @@ use Rattle.rup_model.specs.declared.journal.Kind.TheVariants.{Learn}
 use Rattle.rup_model.specs.Rup.{rup}
 use Rattle.rup_model.specs.Journal.{book, is_told}
 use Rattle.rup_model.proofs.Additions.{told_more}
-use Rattle.drat_text.specs.LineState.{LineState}
 use Rattle.ring_port.specs.declared.stops.PortStop.{PortStop}
 use Rattle.ring_port.specs.declared.stops.PortStop.TheVariants.{Ended, Broken, ProofFault, NoHole, Memory}
-use Rattle.ring_port.specs.PortState.{Holding, PortState, IsOn, held_at, known}
+use Rattle.ring_port.specs.PortState.{Holding, IsOn, held_at, known}
 use Rattle.ring_port.specs.Port.{is_usable, holding_of, LearnedClause}
 use Rattle.ring_port.specs.Log.{Origin, StandsOver, KeepsLog, journal_of}
 use Rattle.ring_port.specs.OwnLog.{LogData, AddedEntry, NotPut, own_entry}

@@ -1,9 +1,8 @@
 -- Clauses at their places, read and added.
-use Rattle.std.proofs.Common.{◌≡◌, ℕ, zero, suc, ◌+◌, ◌<◌, ◌≤◌, List, [], ◌∷◌, ◌++◌, length, take, drop, get_or, sym, refl, ap, subst, ◌∙◌, arith, Some, None, IfSome}
-use Rattle.std.specs.List.{All, slice_get, slice_index_or}
-use Rattle.std.specs.declared.option.Option.{Option}
+use Rattle.std.proofs.Common.{◌≡◌, ℕ, zero, suc, ◌+◌, ◌<◌, ◌≤◌, List, [], ◌∷◌, ◌++◌, length, take, drop, get_or, sym, refl, ap, subst, ◌∙◌, arith, Some}
+use Rattle.std.specs.List.{All, slice_get}
 use Rattle.std.proofs.lemmas.List.{take-append-le, drop-append-le, length-drop, get_or-take, get_or-drop, length-take}
-use Rattle.std.proofs.Math.Seq.{drop-append_seam, take-append_seam}
+use Rattle.std.proofs.Math.Seq.{drop-append_seam}
 use Rattle.sat_words.specs.Literal.{Literal}
 use Rattle.ring_port.specs.declared.cell.Cell.{Cell}
 use Rattle.ring_port.specs.PortState.{Holding, lits_in}

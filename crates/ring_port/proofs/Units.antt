@@ -1,13 +1,13 @@
 -- Which unit of the opening is given next.
-use Rattle.std.proofs.Common.{◌≡◌, ℕ, zero, suc, ◌+◌, ◌-◌, ◌<◌, ◌≤◌, ◌||◌, cond, Bool, true, false, not, List, [], ◌∷◌, ◌++◌, length, take, drop, get_or, sym, refl, ap, subst, ◌∙◌, inl, inr, ⊎_elim, arith, Some, None}
+use Rattle.std.proofs.Common.{◌≡◌, ℕ, zero, suc, ◌+◌, ◌<◌, ◌≤◌, ◌||◌, cond, Bool, true, false, not, List, [], ◌∷◌, ◌++◌, length, take, drop, get_or, sym, refl, ap, subst, ◌∙◌, ⊎_elim, arith, Some, None}
 use Rattle.std.specs.List.{position, prefix_len}
-use Rattle.std.specs.Prelude.{nat_lt}
-use Rattle.std.proofs.lemmas.Bool.{or_left, or_right, or_cases, not-false, false≢true, true≢false, cases_lt, lt-ltb}
+use Rattle.std.proofs.lemmas.Bool.{or_left, or_right, or_cases, not-false, not-true, and_parts, false≢true, true≢false, cases_lt, lt-ltb}
 use Rattle.std.proofs.lemmas.List.{take-append-drop, get_or-take, get_or-drop, length-drop, length-take}
 use Rattle.std.proofs.lemmas.List.Quantifiers.{position-Some}
 use Rattle.std.proofs.Math.Seq.{take-add}
 use Rattle.sat_words.specs.Literal.{Literal, same}
-use Rattle.sat_words.specs.Clause.{has}
+use Rattle.sat_words.specs.Clause.{has, distinct_lits}
+use Rattle.std.proofs.lemmas.List.Folds.{list_any-append}
 use Rattle.sat_words.proofs.Members.{same-true, same-refl}
 use Rattle.rup_model.proofs.Lists.{In, In_append, In_append_left, In_append_right, In_Contains, In_get_or, has_In, In_has}
 use Rattle.rup_model.proofs.Covers.{both_true}
@@ -130,3 +130,31 @@ took_unit p k l some is = record {
 
 pub took_none : (p : PlainData) → position (λ j. not (has p.written j)) (drop p.given p.opening) ≡ None → TookNone (state_of p) (state_of p)
 took_none p none = record { all = none_left p.given p.opening p.written none; state = refl }
+
+-- a literal of a list without repeats does not stand before its place
+before_place : (c : List Literal) (n m : ℕ) (d : Literal) → distinct_lits c ≡ true → n ≤ m → m < length c → has (take n c) (get_or c m d) ≡ false
+before_place [] n m d dist le lt = absurd (omega arith)
+before_place (l ∷ c) zero m d dist le lt = refl
+before_place (l ∷ c) (suc n) zero d dist le lt = absurd (omega arith)
+before_place (l ∷ c) (suc n) (suc m) d dist le lt =
+    let parts = and_parts (not (has c l)) (distinct_lits c) dist in
+    let there : m < length c = omega arith in
+    let rest : has (take n c) (get_or c m d) ≡ false = before_place c n m d parts.1 (omega arith) there in
+    (λ i. apart (same (get_or c m d) l) refl parts.0 there i || rest i)
+  where
+    apart : (b : Bool) → same (get_or c m d) l ≡ b → not (has c l) ≡ true → m < length c → same (get_or c m d) l ≡ false
+    apart false e none there = e
+    apart true e none there =
+        let it : get_or c m d ≡ l = same-true (get_or c m d) l e in
+        absurd (true≢false (sym (In_has c l (subst (λ x. In x c) it (In_get_or c m d there))) ∙ not-true (has c l) none))
+
+-- the unit that is given was not seen
+pub given_fresh : (p : PlainData) → IsPlain p → (k : ℕ) (l : Literal) → position (λ j. not (has p.written j)) (drop p.given p.opening) ≡ Some k → l ≡ get_or p.opening (p.given + k) l
+    → has (take p.given p.opening ++ p.written) l ≡ false
+given_fresh p h k l some is =
+    let lt = in_range p.given k p.opening p.written l some is in
+    let t = position-Some (λ j. not (has p.written j)) (drop p.given p.opening) k l some in
+    let here : get_or (drop p.given p.opening) k l ≡ l = get_or-drop p.given p.opening k l ∙ sym is in
+    let apart : has p.written l ≡ false = not-true (has p.written l) (subst (λ x. not (has p.written x) ≡ true) here t.1) in
+    let before : has (take p.given p.opening) l ≡ false = ap (has (take p.given p.opening)) is ∙ before_place p.opening p.given (p.given + k) l h.distinct (omega arith) lt in
+    list_any-append (same l) (take p.given p.opening) p.written ∙ (λ i. before i || apart i)

@@ -1,7 +1,9 @@
 -- The log of a port that writes alone: one journal, of the ruler's entries and the ring's own, whose lines its output has.
-use Rattle.std.specs.Prelude.{◌≡◌, ℕ, ◌+◌, Bool, true, false, not, List, [], ◌∷◌, ◌++◌, map, length, take, All, Option, Some, None, IsSomeAnd, ⊤}
+use Rattle.std.specs.Prelude.{◌≡◌, ℕ, ◌+◌, true, false, not, List, [], ◌∷◌, ◌++◌, map, length, take, All, Option, Some, None, IsSomeAnd, ⊤}
 use Rattle.std.specs.Io.KnownBytes.{append_known}
+use Rattle.std.specs.List.{list_any}
 use Rattle.sat_words.specs.Literal.{Literal}
+use Rattle.sat_words.specs.Clause.{is_empty}
 use Rattle.sat_words.specs.declared.line.Line.{Line}
 use Rattle.rup_model.specs.declared.journal.Entry.{Entry}
 use Rattle.rup_model.specs.Log.{Accepted, lits_of}
@@ -72,10 +74,11 @@ pub record HasLines (o : Origin) (s : PortState) (out : LineState) : Type 0 wher
   pub target : out.target ≡ o.output.target
   pub flushed : out.flushed ≡ o.output.flushed
 
--- the port stands over this origin: each line of the one journal is valid where it stands, all that the ring holds and has
--- seen is alive in the log, and the output has the lines
+-- the port stands over this origin: the formula has no empty clause, each line of the one journal is valid where it stands,
+-- all that the ring holds and has seen is alive in the log, and the output has the lines
 pub record StandsOver (o : Origin) (s : PortState) : Type 0 where
   pub opens : IsOpening o.formula (opening_of o s)
+  pub given : list_any is_empty o.formula ≡ false
   pub sound : LogSound o.formula (journal_of o s)
   pub of_ring : All (λ e. ring_of e ≡ s.ring) s.mine
   pub on : All (All (IsOn s.vars)) (added s.mine)

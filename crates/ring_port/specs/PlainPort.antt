@@ -1,6 +1,6 @@
 -- What a port in memory has, and what is kept of it.
-use Rattle.std.specs.Prelude.{◌≡◌, ℕ, ◌+◌, ◌-◌, ◌<◌, ◌≤◌, true, false, suc, List, [], ◌∷◌, ◌++◌, map, length, take, All, Option, Some, None, IfSome}
-use Rattle.std.specs.List.{slice_index_or, list_any}
+use Rattle.std.specs.Prelude.{◌≡◌, ℕ, ◌+◌, ◌-◌, ◌<◌, ◌≤◌, true, false, suc, List, [], ◌∷◌, ◌++◌, map, length, take, All, Option, Some, None, IfSome, Result, Ok, Err, ⊤}
+use Rattle.std.specs.List.{slice_index_or}
 use Rattle.std.specs.Option.{option_map}
 use Rattle.sat_words.specs.Literal.{Literal}
 use Rattle.sat_words.specs.Clause.{distinct_lits}
@@ -9,8 +9,12 @@ use Rattle.sat_words.specs.declared.shared.Stop.{Stop}
 use Rattle.sat_words.specs.declared.shared.TheConstants.{STOP_SAT, STOP_MEMORY}
 use Rattle.rup_model.specs.declared.journal.Entry.{Entry}
 use Rattle.rup_model.specs.Journal.{book, lines}
-use Rattle.rup_model.specs.Opening.{Opening, Start, IsOpening}
+use Rattle.rup_model.specs.Opening.{Start, IsOpening}
+use Rattle.io_edge.specs.Causes.{Rose}
+use Rattle.drat_text.specs.declared.stop.TheConstants.{MAX_ENTRIES}
 use Rattle.drat_text.specs.LineState.{LineState}
+use Rattle.ring_port.specs.declared.stops.PortStop.{PortStop}
+use Rattle.ring_port.specs.declared.stops.PortStop.TheVariants.{Ended, Broken, ProofFault, NoHole, Memory}
 use Rattle.ring_port.specs.PortState.{Holding, PortState, IsKept, IsOn}
 use Rattle.ring_port.specs.OwnLog.{LogData}
 
@@ -117,3 +121,31 @@ pub record HasJournal (clauses : List (List Literal)) (journal : List Entry) (ou
 pub record OpensOver (clauses : List (List Literal)) (starts : List Start) (units : List Literal) (output : LineState) (journal : List Entry) : Type 0 where
   pub opens : IsOpening clauses (record { journal = journal; starts = starts; units = units })
   pub lines : HasJournal clauses journal output
+
+-- Answers
+
+-- the fault count rose, where one more entry could stand
+abbrev pub FaultRose : Option LineState → Option LineState → Type 0
+FaultRose (Some a) (Some b) = Rose a.faults b.faults × (a.entries < MAX_ENTRIES)
+FaultRose (Some a) None = ⊥
+FaultRose None b = ⊥
+
+-- as many entries stand as can
+abbrev pub IsFull : Option LineState → Type 0
+IsFull None = ⊥
+IsFull (Some a) = a.entries ≡ MAX_ENTRIES
+
+-- one more entry could stand
+abbrev pub HasRoom : Option LineState → Type 0
+HasRoom None = ⊥
+HasRoom (Some a) = a.entries < MAX_ENTRIES
+
+-- why a call that writes answers as it does: a line needs room for an entry; the log was ended; the output failed; there is
+-- no room for an entry; memory ran out
+abbrev pub HasCauseAlone : {T : Type 0} → PortState → PortState → Result T PortStop → Type 0
+HasCauseAlone old new (Ok x) = HasRoom old.output
+HasCauseAlone old new (Err Ended) = old.ended ≡ true
+HasCauseAlone old new (Err Broken) = ⊥
+HasCauseAlone old new (Err ProofFault) = FaultRose old.output new.output
+HasCauseAlone old new (Err (NoHole need largest)) = IsFull old.output × (need ≡ MAX_ENTRIES + 1) × (largest ≡ MAX_ENTRIES)
+HasCauseAlone old new (Err Memory) = ⊤

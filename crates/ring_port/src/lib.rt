@@ -9,7 +9,9 @@ mod port;
 mod stops;
 mod store;
 
-pub use laws::{held_clauses_are_known, held_clauses_are_long, seen_units_are_known};
+pub use laws::{
+    a_log_is_accepted, held_clauses_are_known, held_clauses_are_long, seen_units_are_known,
+};
 pub use plain_port::PlainPort;
 pub use port::Port;
 pub use stops::{PortStop, Set};

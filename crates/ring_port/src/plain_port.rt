@@ -8,7 +8,7 @@ ghost use Rattle.rup_model.specs.Rup.{rup};
 ghost use Rattle.ring_port.specs.PortState.{IsPort, IsOn, held_at, lits_at, head_of, known, HoldsStart};
 ghost use Rattle.ring_port.specs.Log.{KeepsLog, StandsOver};
 ghost use Rattle.ring_port.specs.Port.{is_usable, IsClause, Learned, KeepsHeld, UnitWritten, UnitPut, ClausePut, EmptyWritten, Took, Looked, SetStop};
-ghost use Rattle.ring_port.specs.PlainPort.{OpensOver, starts_of, placed_from, begun_with};
+ghost use Rattle.ring_port.specs.PlainPort.{OpensOver, HasCauseAlone, starts_of, placed_from, begun_with};
 
 use crate::own_log::OwnLog;
 use crate::port::Port;
@@ -96,7 +96,17 @@ impl<L: LineOut> Port for PlainPort<L> {
         self.store.lit(c, i)
     }
 
-    fn learn(&mut self, lits: &[Lit], glue: u32) -> Result<Option<Cref>, PortStop> {
+    fn learn(&mut self, lits: &[Lit], glue: u32) -> Result<Option<Cref>, PortStop>
+        requires usable { is_usable self.old.refused ≡ true }
+        requires some { 1 ≤ length lits.now }
+        requires clause { IsClause self.old.vars lits.now }
+        requires rup { rup (known self.old) lits.now ≡ true }
+        ensures cause { HasCauseAlone self.old self.new result }
+        ensures learned { Learned self.old self.new lits.now glue result }
+        ensures kept { KeepsHeld self.old self.new }
+        ensures log { KeepsLog self.old self.new }
+        ensures port { IsPort self.new }
+    {
         match lits {
             [lit] => {
                 self.put_unit(*lit, Kind::Learn, None)?;
@@ -106,12 +116,27 @@ impl<L: LineOut> Port for PlainPort<L> {
         }
     }
 
-    fn unit(&mut self, lit: Lit) -> Result<(), PortStop> {
+    fn unit(&mut self, lit: Lit) -> Result<(), PortStop>
+        requires usable { is_usable self.old.refused ≡ true }
+        requires on { IsOn self.old.vars lit }
+        requires rup { rup (known self.old) (lit ∷ []) ≡ true }
+        ensures cause { HasCauseAlone self.old self.new result }
+        ensures written { UnitWritten self.old self.new lit result }
+        ensures log { KeepsLog self.old self.new }
+        ensures port { IsPort self.new }
+    {
         let last = self.last;
         self.put_unit(lit, Kind::UnitLine, last)
     }
 
-    fn empty(&mut self) -> Result<(), PortStop> {
+    fn empty(&mut self) -> Result<(), PortStop>
+        requires usable { is_usable self.old.refused ≡ true }
+        requires rup { rup (known self.old) [] ≡ true }
+        ensures cause { HasCauseAlone self.old self.new result }
+        ensures written { EmptyWritten self.old self.new result }
+        ensures log { KeepsLog self.old self.new }
+        ensures port { IsPort self.new }
+    {
         self.log.make_room()?;
         self.log
             .add(Lits::from_vec(Vec::new(self.alloc)), Kind::Derive)?;
@@ -119,7 +144,12 @@ impl<L: LineOut> Port for PlainPort<L> {
         Ok(())
     }
 
-    fn next_unit(&mut self) -> Option<Lit> {
+    fn next_unit(&mut self) -> Option<Lit>
+        ensures fresh { IfSome result (λ lit. has self.old.seen lit ≡ false) }
+        ensures took { Took self.old self.new result }
+        ensures log { KeepsLog self.old self.new }
+        ensures port { IsPort self.new }
+    {
         let skipped = first_new_from(&self.opening, self.given, &self.written)?;
         let place = self.given + skipped;
         self.given = place + 1;
@@ -222,6 +252,7 @@ impl<L: LineOut> PlainPort<L> {
         requires usable { is_usable self.old.refused ≡ true }
         requires on { IsOn self.old.vars lit }
         requires rup { rup (known self.old) (lit ∷ []) ≡ true }
+        ensures cause { HasCauseAlone self.old self.new result }
         ensures put { UnitPut self.old self.new lit kind (option_map (λ c. c.address) last) result }
         ensures log { KeepsLog self.old self.new }
         ensures port { IsPort self.new }
@@ -245,6 +276,7 @@ impl<L: LineOut> PlainPort<L> {
         requires long { 2 ≤ length lits.now }
         requires clause { IsClause self.old.vars lits.now }
         requires rup { rup (known self.old) lits.now ≡ true }
+        ensures cause { HasCauseAlone self.old self.new result }
         ensures put { ClausePut self.old self.new lits.now glue result }
         ensures kept { KeepsHeld self.old self.new }
         ensures log { KeepsLog self.old self.new }

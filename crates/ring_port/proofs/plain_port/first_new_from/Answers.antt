@@ -1,4 +1,4 @@
-use Rattle.std.proofs.Common.{◌≡◌, ap, ◌∙◌, not, drop, length, arith}
+use Rattle.std.proofs.Common.{ap, ◌∙◌, not, drop, arith}
 use Rattle.std.specs.List.{position}
 use Rattle.std.proofs.lemmas.List.{take_all, length-drop}
 use Rattle.sat_words.specs.Literal.{Literal}

@@ -1,9 +1,7 @@
-use Rattle.std.proofs.Common.{◌≡◌, sym, subst, None}
-use Rattle.std.specs.List.{All}
-use Rattle.sat_words.specs.Literal.{Literal}
-use Rattle.ring_port.specs.PortState.{IsPort, HoldsStart}
+use Rattle.std.proofs.Common.{sym, subst, None}
+use Rattle.ring_port.specs.PortState.{HoldsStart}
 use Rattle.ring_port.specs.Log.{StandsOver}
-use Rattle.ring_port.specs.PlainPort.{PlainData, state_of, IsPlain, begun_with, placed_from}
+use Rattle.ring_port.specs.PlainPort.{PlainData, IsPlain}
 use Rattle.ring_port.proofs.PlainLemmas.{plain_port}
 use Rattle.ring_port.proofs.Beginnings.{begun_plain, begun_is, begun_stands, begun_holds}
 use Rattle.ring_port.proofs.plain_port.PlainPort.new.Goals as goal

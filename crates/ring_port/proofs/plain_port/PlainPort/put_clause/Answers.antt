@@ -1,13 +1,11 @@
-use Rattle.std.proofs.Common.{◌≡◌, ◌≤◌, length, sym, ap, subst, ◌∙◌, refl, true, ◌∷◌, [], ◌++◌, Some}
-use Rattle.std.specs.List.{All}
+use Rattle.std.proofs.Common.{◌≡◌, length, sym, ap, subst, ◌∙◌, true, ◌∷◌, [], ◌++◌, Some}
 use Rattle.sat_words.specs.declared.line.Line.TheVariants.{Add as AddLine}
 use Rattle.rup_model.specs.declared.journal.Kind.TheVariants.{Learn}
 use Rattle.rup_model.specs.Rup.{rup}
-use Rattle.rup_model.specs.Opening.{IsLong}
-use Rattle.ring_port.specs.PortState.{Holding, PortState, IsPort, IsOn, IsKept, held_at, known}
+use Rattle.ring_port.specs.PortState.{Holding, IsPort, IsKept, known}
 use Rattle.ring_port.specs.Port.{is_usable, holding_of, IsClause, KeepsHeld, LearnedClause}
 use Rattle.ring_port.specs.Log.{KeepsLog}
-use Rattle.ring_port.specs.OwnLog.{LogData, AddedEntry, NotPut}
+use Rattle.ring_port.specs.OwnLog.{AddedEntry, NotPut}
 use Rattle.ring_port.specs.PlainPort.{PlainData, state_of, IsPlain}
 use Rattle.ring_port.proofs.PlainLemmas.{plain_port, plain_log, plain_pushed, kept_pushed, same_lookup}
 use Rattle.ring_port.proofs.PlainSteps.{clause_keeps, clause_put, refused_keeps}

@@ -1,12 +1,11 @@
-use Rattle.std.proofs.Common.{◌≡◌, sym, ap, subst, ◌∙◌, refl, true, ◌∷◌, [], ◌++◌}
-use Rattle.std.specs.List.{All}
+use Rattle.std.proofs.Common.{◌≡◌, sym, ap, subst, ◌∙◌, true, ◌∷◌, [], ◌++◌}
 use Rattle.sat_words.specs.declared.line.Line.TheVariants.{Add as AddLine}
 use Rattle.rup_model.specs.Rup.{rup}
 use Rattle.ring_port.proofs.LogSteps.{one_All}
 use Rattle.ring_port.specs.PortState.{IsPort, IsOn, known}
 use Rattle.ring_port.specs.Port.{is_usable}
 use Rattle.ring_port.specs.Log.{KeepsLog}
-use Rattle.ring_port.specs.OwnLog.{LogData, AddedEntry, NotPut}
+use Rattle.ring_port.specs.OwnLog.{AddedEntry, NotPut}
 use Rattle.ring_port.specs.PlainPort.{PlainData, state_of, IsPlain}
 use Rattle.ring_port.proofs.PlainLemmas.{plain_port, plain_log, plain_unit}
 use Rattle.ring_port.proofs.PlainSteps.{unit_keeps, refused_keeps}

@@ -1,13 +1,13 @@
-use Rattle.std.proofs.Common.{◌≡◌, ◌<◌, sym, ap, subst, ◌∙◌, refl, true, [], arith}
+use Rattle.std.proofs.Common.{◌≡◌, sym, subst, ◌∙◌, true, [], arith}
 use Rattle.std.specs.List.{All}
 use Rattle.sat_words.specs.declared.line.Line.TheVariants.{Add as AddLine}
 use Rattle.rup_model.specs.declared.journal.Kind.TheVariants.{Derive}
 use Rattle.rup_model.specs.Rup.{rup}
-use Rattle.ring_port.specs.PortState.{IsPort, IsOn, known}
+use Rattle.ring_port.specs.PortState.{IsOn, known}
 use Rattle.ring_port.specs.Port.{is_usable}
 use Rattle.ring_port.specs.Log.{KeepsLog}
-use Rattle.ring_port.specs.OwnLog.{LogData, AddedEntry, NotPut}
-use Rattle.ring_port.specs.PlainPort.{PlainData, state_of, IsPlain}
+use Rattle.ring_port.specs.OwnLog.{AddedEntry, NotPut}
+use Rattle.ring_port.specs.PlainPort.{PlainData, state_of}
 use Rattle.ring_port.proofs.PlainLemmas.{plain_port, plain_log}
 use Rattle.ring_port.proofs.PlainSteps.{empty_keeps, refused_keeps}
 use Rattle.ring_port.proofs.plain_port.PlainPortPort.empty.Goals as goal

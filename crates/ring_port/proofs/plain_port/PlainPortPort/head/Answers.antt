@@ -1,7 +1,7 @@
-use Rattle.std.proofs.Common.{◌≡◌, sym, ap, subst, ◌∙◌, Some, IsSome, IfSome}
+use Rattle.std.proofs.Common.{◌≡◌, sym, ap, subst, ◌∙◌, IsSome, IfSome}
 use Rattle.std.specs.List.{slice_get}
 use Rattle.std.specs.declared.option.Option.{Option}
-use Rattle.ring_port.specs.PortState.{Holding, IsPort, head_of, held_at, lits_at}
+use Rattle.ring_port.specs.PortState.{Holding, IsPort, head_of, held_at}
 use Rattle.ring_port.proofs.PlainLemmas.{plain_port, at_place, size_of}
 use Rattle.ring_port.proofs.plain_port.PlainPortPort.head.Goals as goal
 

@@ -1,4 +1,4 @@
-use Rattle.std.proofs.Common.{◌≡◌, ℕ, ◌<◌, length, sym, ap, subst, arith, Some, IfSome}
+use Rattle.std.proofs.Common.{◌≡◌, length, sym, ap, subst, arith, IfSome}
 use Rattle.std.specs.declared.option.Option.{Option}
 use Rattle.sat_words.specs.declared.shared.Head.{Head}
 use Rattle.ring_port.specs.PortState.{Holding, head_of}

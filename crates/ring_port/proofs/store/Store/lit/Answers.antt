@@ -1,6 +1,6 @@
-use Rattle.std.proofs.Common.{◌≡◌, ℕ, ◌+◌, ◌<◌, ◌≤◌, length, sym, ap, ◌∙◌, arith, Some}
+use Rattle.std.proofs.Common.{◌≡◌, length, sym, ap, ◌∙◌, arith, Some}
 use Rattle.ring_port.specs.Store.{holdings}
-use Rattle.ring_port.proofs.StoreLemmas.{IsAt, length-holdings, is_at, lit_inside, lit_at}
+use Rattle.ring_port.proofs.StoreLemmas.{length-holdings, is_at, lit_inside, lit_at}
 use Rattle.ring_port.proofs.store.Store.lit.Goals as goal
 
 pub index-cell-requires : goal.index-cell-requires

@@ -1,8 +1,5 @@
-use Rattle.std.proofs.Common.{◌≡◌, ℕ, ◌+◌, ◌++◌, ◌∷◌, [], length, List, sym, ap, ◌∙◌, arith, take, drop}
-use Rattle.sat_words.specs.Literal.{Literal}
-use Rattle.ring_port.specs.declared.cell.Cell.{Cell}
-use Rattle.ring_port.specs.PortState.{Holding}
-use Rattle.ring_port.specs.Store.{holdings, holding_in}
+use Rattle.std.proofs.Common.{◌≡◌, ◌++◌, ◌∷◌, [], length, ap, ◌∙◌, arith}
+use Rattle.ring_port.specs.Store.{holdings}
 use Rattle.ring_port.proofs.StoreLemmas.{length-holdings, holding_pushed}
 use Rattle.ring_port.proofs.store.Store.push.Goals as goal
 

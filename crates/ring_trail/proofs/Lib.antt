@@ -1,0 +1,4 @@
+pub mod Values
+pub mod Levels
+pub mod Shape
+pub mod Causes

@@ -1,0 +1,4 @@
+pub mod TrailData
+pub mod Reasoned
+pub mod Closed
+pub mod Inside

@@ -1,0 +1,133 @@
+-- A trail: the literals that are true, in the order in which they became so. A place is an index among its steps.
+use Rattle.std.specs.Prelude.{◌≡◌, ℕ, ◌+◌, ◌<◌, ◌≤◌, ◌^◌, ◌++◌, min, Bool, true, false, not, nat_eq, nat_le, nat_lt, List, [], ◌∷◌, Option, None, length, filter}
+use Rattle.std.specs.List.{find, slice_index_or}
+use Rattle.std.specs.Option.{option_map, option_and_then}
+use Rattle.sat_words.specs.Literal.{Literal, opposite}
+use Rattle.sat_words.specs.Clause.{has}
+use Rattle.sat_words.specs.declared.shared.Cref.{Cref}
+use Rattle.ring_trail.specs.declared.step.Step.{Step}
+
+-- for the variables from 1 to `vars`: the present level, the steps, and how many of the first of them were propagated
+pub record TrailData : Type 0 where
+  pub vars : ℕ
+  pub level : ℕ
+  pub steps : List Step
+  pub done : ℕ
+
+abbrev pub no_step : Step
+no_step = record { lit = record { var = 0; neg = false }; level = 0; reason = None }
+
+abbrev pub step_at : List Step → ℕ → Step
+step_at steps p = slice_index_or steps p no_step
+
+-- the literal at a place
+abbrev pub lit_at : List Step → ℕ → Literal
+lit_at steps p = (step_at steps p).lit
+
+-- the variable of the literal at a place
+abbrev pub var_at : List Step → ℕ → ℕ
+var_at steps p = (step_at steps p).lit.var
+
+-- the level of the literal at a place
+abbrev pub level_at : List Step → ℕ → ℕ
+level_at steps p = (step_at steps p).level
+
+-- the clause that forced the literal at a place
+abbrev pub reason_at : List Step → ℕ → Option Cref
+reason_at steps p = (step_at steps p).reason
+
+-- the variable's literal stands there
+pub record IsPlaceOf (steps : List Step) (v p : ℕ) : Type 0 where
+  pub in_range : p < length steps
+  pub var : var_at steps p ≡ v
+
+-- no literal of the variable is true
+abbrev pub HasNoPlace : List Step → ℕ → Type 0
+HasNoPlace steps v = (p : ℕ) → p < length steps → var_at steps p ≡ v → ⊥
+
+-- the step of a variable
+abbrev pub step_of : List Step → ℕ → Option Step
+step_of steps v = find (λ s. nat_eq s.lit.var v) steps
+
+-- the value of a variable
+abbrev pub value_of : List Step → ℕ → Option Bool
+value_of steps v = option_map (λ s. not s.lit.neg) (step_of steps v)
+
+-- the level of a variable
+abbrev pub level_of : List Step → ℕ → Option ℕ
+level_of steps v = option_map (λ s. s.level) (step_of steps v)
+
+-- the clause that forced a variable
+abbrev pub reason_of : List Step → ℕ → Option Cref
+reason_of steps v = option_and_then (λ s. s.reason) (step_of steps v)
+
+-- the literal is true, and became so before this place
+pub record TrueBefore (steps : List Step) (n : ℕ) (l : Literal) : Type 0 where
+  pub place : ℕ
+  pub before : place < n
+  pub true_there : lit_at steps place ≡ l
+
+-- the literal is false, and became so before this place
+pub record FalseBefore (steps : List Step) (n : ℕ) (l : Literal) : Type 0 where
+  pub place : ℕ
+  pub before : place < n
+  pub false_there : lit_at steps place ≡ opposite l
+
+-- the literal is true on the trail
+abbrev pub IsTrueOn : List Step → Literal → Type 0
+IsTrueOn steps l = TrueBefore steps (length steps) l
+
+-- the literal is false on the trail
+abbrev pub IsFalseOn : List Step → Literal → Type 0
+IsFalseOn steps l = FalseBefore steps (length steps) l
+
+-- each literal of the clause is false on the trail
+abbrev pub IsFalseClause : List Step → List Literal → Type 0
+IsFalseClause steps c = (l : Literal) → has c l ≡ true → IsFalseOn steps l
+
+-- the steps up to a level
+abbrev pub up_to : ℕ → List Step → List Step
+up_to k steps = filter (λ s. nat_le s.level k) steps
+
+-- where a level starts: behind the steps of lower levels
+abbrev pub start_of : List Step → ℕ → ℕ
+start_of steps k = length (filter (λ s. nat_lt s.level k) steps)
+
+-- the trail with one more step, whose level is the present one from then on
+abbrev pub grown : TrailData → Step → TrailData
+grown t s = record t { level = s.level; steps = t.steps ++ s ∷ [] }
+
+-- the trail with a literal at a level of its own
+abbrev pub decided : TrailData → Literal → TrailData
+decided t l = grown t (record { lit = l; level = t.level + 1; reason = None })
+
+-- the trail with a literal at the present level
+abbrev pub assigned : TrailData → Literal → Option Cref → TrailData
+assigned t l r = grown t (record { lit = l; level = t.level; reason = r })
+
+-- the trail with exactly the levels up to k
+abbrev pub cut_back : TrailData → ℕ → TrailData
+cut_back t k = record t { level = k; steps = up_to k t.steps; done = min t.done (length (up_to k t.steps)) }
+
+-- what holds of every trail
+pub record IsTrail (t : TrailData) : Type 0 where
+  -- levels do not fall, and none is above the present one
+  pub rising : (p q : ℕ) → p ≤ q → q < length t.steps → level_at t.steps p ≤ level_at t.steps q
+  pub within : (p : ℕ) → p < length t.steps → level_at t.steps p ≤ t.level
+  -- each level from 1 to the present one has a step
+  pub opened : (k : ℕ) → k < t.level → (p : ℕ) × (p < length t.steps) × (level_at t.steps p ≡ k + 1)
+  -- so a level is at most one more than the place
+  pub shallow : (p : ℕ) → p < length t.steps → level_at t.steps p ≤ p + 1
+  pub levels : t.level ≤ length t.steps
+  -- no variable stands twice, and each is one of the trail's
+  pub distinct : (p q : ℕ) → p < length t.steps → q < length t.steps → var_at t.steps p ≡ var_at t.steps q → p ≡ q
+  pub low : (p : ℕ) → p < length t.steps → 1 ≤ var_at t.steps p
+  pub high : (p : ℕ) → p < length t.steps → var_at t.steps p ≤ t.vars
+  pub short : length t.steps ≤ t.vars
+  pub small : t.vars ≤ 2 ^ 30
+  pub done : t.done ≤ length t.steps
+
+-- the first step that wasn't propagated has this literal
+pub record IsNext (t : TrailData) (l : Literal) : Type 0 where
+  pub open_yet : t.done < length t.steps
+  pub lit : lit_at t.steps t.done ≡ l

@@ -1,5 +1,5 @@
 -- Causes look back only, so they stay where the trail grows or is cut.
-use Rattle.std.proofs.Common.{◌≡◌, ◌∙◌, ℕ, zero, suc, ◌+◌, ◌<◌, ◌≤◌, true, List, [], ◌∷◌, ◌++◌, length, take, Option, None, Some, sym, refl, ap, subst, inl, inr, ◌⊎◌, arith, length-append, length-take}
+use Rattle.std.proofs.Common.{◌≡◌, ◌∙◌, ℕ, zero, suc, ◌+◌, ◌<◌, ◌≤◌, true, List, [], ◌∷◌, ◌++◌, length, take, Option, None, Some, sym, refl, ap, subst, inl, inr, ◌⊎◌, arith, length-append, length-take, All, append_assoc, append-nil}
 use Rattle.std.proofs.lemmas.Bool.{cases_eq, cases_lt}
 use Rattle.std.proofs.lemmas.List.{get_or-take, get_or_append_left, get_or_push}
 use Rattle.sat_words.specs.Literal.{Literal, opposite}
@@ -234,3 +234,10 @@ IsClosed-back cs t j k shape le closed =
       level = (let e = ap (λ (y : Step). y.level) s in let a = w.level in omega arith);
     })
     closed)
+
+-- so do several
+pub IsClosed-more : (cs : List (List Literal)) (t more : List Step) (k : ℕ) → All (λ (x : Step). k < x.level) more → IsClosed cs t k → IsClosed cs (t ++ more) k
+IsClosed-more cs t [] k high closed = subst (λ (xs : List Step). IsClosed cs xs k) (sym (append-nil t)) closed
+IsClosed-more cs t (x ∷ more) k high closed =
+    subst (λ (xs : List Step). IsClosed cs xs k) (append_assoc t (x ∷ []) more)
+    (IsClosed-more cs (t ++ x ∷ []) more k (λ p d h. high (suc p) d (omega arith)) (IsClosed-grown cs t x k (high 0 x (omega arith)) closed))

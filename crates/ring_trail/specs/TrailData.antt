@@ -1,5 +1,5 @@
 -- A trail: the literals that are true, in the order in which they became so. A place is an index among its steps.
-use Rattle.std.specs.Prelude.{◌≡◌, ℕ, ◌+◌, ◌<◌, ◌≤◌, ◌^◌, ◌++◌, min, Bool, true, false, not, nat_eq, nat_le, nat_lt, List, [], ◌∷◌, Option, None, length, filter}
+use Rattle.std.specs.Prelude.{◌≡◌, ℕ, ◌+◌, ◌<◌, ◌≤◌, ◌^◌, ◌++◌, min, Bool, true, false, not, nat_eq, nat_le, nat_lt, List, [], ◌∷◌, Option, None, length, filter, All}
 use Rattle.std.specs.List.{find, slice_index_or}
 use Rattle.std.specs.Option.{option_map, option_and_then}
 use Rattle.sat_words.specs.Literal.{Literal, opposite}
@@ -131,3 +131,11 @@ pub record IsTrail (t : TrailData) : Type 0 where
 pub record IsNext (t : TrailData) (l : Literal) : Type 0 where
   pub open_yet : t.done < length t.steps
   pub lit : lit_at t.steps t.done ≡ l
+
+-- the trail has grown, if at all, by literals at its present level; more of it may be propagated
+pub record HasGrown (t u : TrailData) : Type 0 where
+  pub vars : u.vars ≡ t.vars
+  pub level : u.level ≡ t.level
+  pub more : List Step
+  pub steps : u.steps ≡ t.steps ++ more
+  pub at_level : All (λ (s : Step). s.level ≡ t.level) more

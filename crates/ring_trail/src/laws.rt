@@ -4,7 +4,7 @@ ghost use Rattle.sat_words.specs.Literal.{Literal};
 ghost use Rattle.sat_words.specs.Clause.{has};
 ghost use Rattle.sat_words.specs.declared.shared.Cref.{Cref};
 ghost use Rattle.ring_trail.specs.declared.step.Step.{Step};
-ghost use Rattle.ring_trail.specs.TrailData.{TrailData, IsTrail, IsPlaceOf, HasNoPlace, step_at, lit_at, value_of, level_of, reason_of, step_of, decided, assigned, cut_back};
+ghost use Rattle.ring_trail.specs.TrailData.{TrailData, IsTrail, HasGrown, IsPlaceOf, HasNoPlace, step_at, lit_at, value_of, level_of, reason_of, step_of, decided, assigned, cut_back};
 ghost use Rattle.ring_trail.specs.Reasoned.{Held, IsReasoned, KeepsReasons, ForcesAt};
 ghost use Rattle.ring_trail.specs.Closed.{IsClosed};
 
@@ -58,4 +58,14 @@ pub fn an_assignment_keeps_closed_below()
 /// Going back to a level keeps clauses closed at each level up to it.
 pub fn going_back_keeps_closed()
     ensures { (cs : List (List Literal)) (t : TrailData) (j k : ℕ) → IsTrail t → j ≤ k → IsClosed cs t.steps j → IsClosed cs (cut_back t k).steps j }
+{}
+
+/// A trail has grown by nothing, and goes on growing by each assignment and each pass. Clauses that are closed at a level
+/// below its present one stay so.
+pub fn growth_is_by_assignments()
+    ensures none { (t : TrailData) → HasGrown t t }
+    ensures assigned { (t u : TrailData) (l : Literal) (r : Option Cref) → HasGrown t u → HasGrown t (assigned u l r) }
+    ensures passed { (t u : TrailData) (n : ℕ) → HasGrown t u → HasGrown t (record u { done = n }) }
+    ensures again { (t u w : TrailData) → HasGrown t u → HasGrown u w → HasGrown t w }
+    ensures closed { (cs : List (List Literal)) (t u : TrailData) (k : ℕ) → HasGrown t u → k < t.level → IsClosed cs t.steps k → IsClosed cs u.steps k }
 {}

@@ -1,0 +1,230 @@
+-- The lemma that the walk leaves.
+use Rattle.std.proofs.Common.{◌≡◌, ◌∙◌, ℕ, ◌<◌, ◌≤◌, Bool, true, false, not, cond, nat_eq, nat_lt, List, [], ◌∷◌, length, get_or, map, filter, sym, refl, ap, subst, inl, inr, Contains, All, arith}
+use Rattle.std.specs.List.{IsDistinct, AllByRecursion}
+use Rattle.std.specs.Set.{is_member, distinct_count}
+use Rattle.std.proofs.lemmas.Cmp.{nat_eq_equiv}
+use Rattle.std.proofs.lemmas.Map.Made.{is_member-filter}
+use Rattle.std.proofs.lemmas.Bool.{false≢true, true≢false, and_from, and_parts, eqb-true, eqb-false, lt-ltb, ltb-true, false_from_ne_true}
+use Rattle.std.proofs.lemmas.Map.Keys.{IsDistinct-cons, IsDistinct-head, IsDistinct-tail}
+use Rattle.std.proofs.lemmas.Map.Steps.{length-le_from_distinct_below}
+use Rattle.sat_words.specs.Literal.{Literal, opposite}
+use Rattle.sat_words.specs.Clause.{has, distinct_lits, has_opposites}
+use Rattle.sat_words.proofs.Members.{opposite-opposite}
+use Rattle.rup_model.specs.Rup.{rup}
+use Rattle.rup_model.proofs.Lists.{In, In_get_or, In_map, map_In, In_has, has_In, In_any}
+use Rattle.rup_model.proofs.Counting.{In_member, member_In}
+use Rattle.ring_port.specs.PortState.{PortState, IsOn, known}
+use Rattle.ring_port.specs.Port.{IsClause}
+use Rattle.ring_trail.specs.TrailData.{TrailData, IsTrail, IsFalseClause, lit_at, level_at}
+use Rattle.ring_trail.specs.Reasoned.{IsReasoned}
+use Rattle.analyze.specs.Levels.{clause_at, greatest, level_of_lit, levels_of, clause_level}
+use Rattle.analyze.specs.Marks.{marked, IsMarking, IsWalked, lower_of}
+use Rattle.analyze.specs.Lemma.{negated_at, IsWalkClause, IsFalseAbove, IsLemma}
+use Rattle.analyze.proofs.Chains.{has-map, rup-Refuted}
+use Rattle.analyze.proofs.Marking.{listed_in_range, touched_few}
+use Rattle.analyze.proofs.LevelLemmas.{level_of_lit-at}
+use Rattle.analyze.proofs.Refuting.{Refuted-walk}
+
+apart_In : (x : ℕ) (ys : List ℕ) (y : ℕ) → AllByRecursion (λ z. nat_eq x z ≡ false) ys → In y ys → nat_eq x y ≡ false
+apart_In x [] y a h = absurd h
+apart_In x (z ∷ ys) y a (inl e) = subst (λ (w : ℕ). nat_eq x w ≡ false) e a.0
+apart_In x (z ∷ ys) y a (inr h) = apart_In x ys y a.1 h
+
+all_apart : (x : ℕ) (ys : List ℕ) → ((y : ℕ) → In y ys → x ≡ y → ⊥) → AllByRecursion (λ z. nat_eq x z ≡ false) ys
+all_apart x [] g = tt
+all_apart x (y ∷ ys) g = (false_from_ne_true _ (λ e. g y (inl refl) (eqb-true x y e)), all_apart x ys (λ z h. g z (inr h)))
+
+-- what a filter keeps
+filter_In : (f : ℕ → Bool) (xs : List ℕ) (x : ℕ) → In x (filter f xs) → In x xs × (f x ≡ true)
+filter_In f xs x h =
+    let b = and_parts (is_member nat_eq xs x) (f x) (sym (is_member-filter nat_eq_equiv f x (λ y e. ap f (eqb-true x y e)) xs) ∙ In_member (filter f xs) x h) in
+    (member_In xs x b.0, b.1)
+
+In_filter : (f : ℕ → Bool) (xs : List ℕ) (x : ℕ) → In x xs → f x ≡ true → In x (filter f xs)
+In_filter f xs x h y =
+    member_In (filter f xs) x (is_member-filter nat_eq_equiv f x (λ z e. ap f (eqb-true x z e)) xs ∙ and_from _ _ (In_member xs x h) y)
+
+distinct_filter : (f : ℕ → Bool) (xs : List ℕ) → IsDistinct nat_eq xs → IsDistinct nat_eq (filter f xs)
+distinct_filter f [] d = d
+distinct_filter f (x ∷ xs) d = by (f x) (distinct_filter f xs (IsDistinct-tail nat_eq x xs d))
+  where
+    apart : AllByRecursion (λ z. nat_eq x z ≡ false) (filter f xs)
+    apart = all_apart x (filter f xs) (λ y h e. eqb-false x y (apart_In x xs y (IsDistinct-head nat_eq x xs d) (filter_In f xs y h).0) e)
+
+    by : (b : Bool) → IsDistinct nat_eq (filter f xs) → IsDistinct nat_eq (cond b (x ∷ filter f xs) (filter f xs))
+    by true r = IsDistinct-cons nat_eq x (filter f xs) apart r
+    by false r = r
+
+-- no literal is its own opposite
+pub own_opposite : (l : Literal) → l ≡ opposite l → ⊥
+own_opposite l e = by l.neg (ap (λ (x : Literal). x.neg) e)
+  where
+    by : (b : Bool) → b ≡ not b → ⊥
+    by true e = true≢false e
+    by false e = false≢true e
+
+-- the levels of the negations are those of the places
+levels_at : (t : TrailData) (ps : List ℕ) → IsTrail t → ((p : ℕ) → In p ps → p < length t.steps) → levels_of t.steps (map (negated_at t.steps) ps) ≡ map (level_at t.steps) ps
+levels_at t [] shape h = refl
+levels_at t (p ∷ ps) shape h =
+    let a = level_of_lit-at t (negated_at t.steps p) p shape (record { in_range = h p (inl refl); var = refl }) in
+    let r = levels_at t ps shape (λ q i. h q (inr i)) in
+    cc
+
+-- places that differ have literals that differ
+distinct_negated : (t : TrailData) (ps : List ℕ) → IsTrail t → IsDistinct nat_eq ps → ((p : ℕ) → In p ps → p < length t.steps) → distinct_lits (map (negated_at t.steps) ps) ≡ true
+distinct_negated t [] shape d h = refl
+distinct_negated t (p ∷ ps) shape d h =
+    let rest = map (negated_at t.steps) ps in
+    let no : has rest (negated_at t.steps p) ≡ false = false_from_ne_true _ (λ y.
+    let q = map_In (negated_at t.steps) ps (negated_at t.steps p) (has_In rest (negated_at t.steps p) y) in
+    let e : p ≡ q.0 = shape.distinct p q.0 (h p (inl refl)) (h q.0 (inr q.1)) (sym (ap (λ (l : Literal). l.var) q.2)) in
+    eqb-false p q.0 (apart_In p ps q.0 (IsDistinct-head nat_eq p ps d) q.1) e) in
+    and_from _ _ (ap not no) (distinct_negated t ps shape (IsDistinct-tail nat_eq p ps d) (λ q i. h q (inr i)))
+
+-- the negations of true literals have no opposites among them
+no_opposites : (t : TrailData) (ps : List ℕ) → IsTrail t → ((p : ℕ) → In p ps → p < length t.steps) → has_opposites (map (negated_at t.steps) ps) ≡ false
+no_opposites t ps shape h = false_from_ne_true _ (λ y.
+    let lits = map (negated_at t.steps) ps in
+    let l = In_any (λ (k : Literal). has lits (opposite k)) lits y in
+    let p = map_In (negated_at t.steps) ps l.0 l.1 in
+    let q = map_In (negated_at t.steps) ps (opposite l.0) (has_In lits (opposite l.0) l.2) in
+    let e : p.0 ≡ q.0 = shape.distinct p.0 q.0 (h p.0 p.1) (h q.0 q.1) (ap (λ (k : Literal). k.var) p.2 ∙ sym (ap (λ (k : Literal). k.var) q.2)) in
+    own_opposite l.0 (sym p.2 ∙ ap (negated_at t.steps) e ∙ q.2))
+
+module _ (s : PortState) (t : TrailData) (c : List Literal) (u : ℕ) (ms : List Bool) (touched : List ℕ)
+    (shape : IsTrail t) (reasoned : IsReasoned (clause_at s) s.seen t.steps) (inG : Contains (known s) c) (bad : IsFalseClause t.steps c)
+    (k : IsMarking t.steps t.vars (clause_level t.steps c) ms touched) (w : IsWalked (clause_at s) t.steps (clause_level t.steps c) c ms u) (pos : 1 ≤ clause_level t.steps c) where
+  -- what was put aside
+  aside : List ℕ
+  aside = lower_of t.steps (clause_level t.steps c) touched
+
+  aside_marked : (p : ℕ) → In p aside → (marked ms p ≡ true) × (level_at t.steps p < clause_level t.steps c)
+  unfolding aside
+  aside_marked p h =
+      let f = filter_In (λ q. nat_lt (level_at t.steps q) (clause_level t.steps c)) touched p h in
+      (sym (k.listed p) ∙ In_member touched p f.0, ltb-true _ _ f.1)
+
+  In_aside : (p : ℕ) → marked ms p ≡ true → level_at t.steps p < clause_level t.steps c → In p aside
+  unfolding aside
+  In_aside p y low = In_filter (λ q. nat_lt (level_at t.steps q) (clause_level t.steps c)) touched p (member_In touched p (k.listed p ∙ y)) (lt-ltb _ _ low)
+
+  places_lt : (p : ℕ) → In p (u ∷ aside) → p < length t.steps
+  places_lt p (inl e) = let h = w.point.in_range in omega arith
+  places_lt p (inr h) = k.in_range p (aside_marked p h).0
+
+  places_above : (p : ℕ) → In p (u ∷ aside) → 0 < level_at t.steps p
+  places_above p (inl e) = subst (λ (q : ℕ). 0 < level_at t.steps q) e (let l = w.point.level in omega arith)
+  places_above p (inr h) = k.above p (aside_marked p h).0
+
+  level_here : (p : ℕ) → p < length t.steps → level_of_lit t.steps (negated_at t.steps p) ≡ level_at t.steps p
+  level_here p h = level_of_lit-at t (negated_at t.steps p) p shape (record { in_range = h; var = refl })
+
+  aside_distinct : IsDistinct nat_eq aside
+  unfolding aside
+  aside_distinct = distinct_filter (λ q. nat_lt (level_at t.steps q) (clause_level t.steps c)) touched k.distinct
+
+  places_distinct : IsDistinct nat_eq (u ∷ aside)
+  places_distinct = IsDistinct-cons nat_eq u aside (all_apart u aside (λ p h e. let l = (aside_marked p h).1 in let i = w.point.level in let z = ap (level_at t.steps) e in omega arith)) aside_distinct
+
+  lemma_lits : List Literal
+  lemma_lits = map (negated_at t.steps) (u ∷ aside)
+
+  in_lemma : (p : ℕ) → In p (u ∷ aside) → has (map opposite lemma_lits) (lit_at t.steps p) ≡ true
+  unfolding lemma_lits
+  in_lemma p h =
+      subst (λ (x : Literal). has (map opposite lemma_lits) x ≡ true) (opposite-opposite (lit_at t.steps p))
+      (has-map opposite lemma_lits (negated_at t.steps p) (In_has lemma_lits (negated_at t.steps p) (In_map (negated_at t.steps) (u ∷ aside) p h)))
+
+  lemma_implied : rup (known s) lemma_lits ≡ true
+  lemma_implied =
+      rup-Refuted (known s) lemma_lits
+      (Refuted-walk s t (clause_level t.steps c) u c ms (map opposite lemma_lits) shape reasoned inG bad w k.within pos (in_lemma u (inl refl)) (λ p y low. in_lemma p (inr (In_aside p y low))))
+
+  lemma_clause : IsClause t.vars lemma_lits
+  unfolding lemma_lits
+  lemma_clause = record {
+    on = λ i d lt. (
+        let p = map_In (negated_at t.steps) (u ∷ aside) (get_or lemma_lits i d) (In_get_or lemma_lits i d lt) in
+        subst (λ (l : Literal). IsOn t.vars l) p.2 (record { low = shape.low p.0 (places_lt p.0 p.1); high = shape.high p.0 (places_lt p.0 p.1) }));
+    distinct = distinct_negated t (u ∷ aside) shape places_distinct places_lt;
+    no_opposites = no_opposites t (u ∷ aside) shape places_lt;
+  }
+
+  lemma_walk : IsWalkClause s t.steps c (negated_at t.steps u) (map (negated_at t.steps) aside)
+  lemma_walk = record {
+    place = u;
+    point = w.point;
+    first_is = refl;
+    all = λ p l. In_has (map (negated_at t.steps) aside) (negated_at t.steps p) (In_map (negated_at t.steps) aside p (In_aside p (w.complete p l.reached) l.lower));
+    only = λ l h. (
+        let p = map_In (negated_at t.steps) aside l (has_In (map (negated_at t.steps) aside) l h) in
+        let a = aside_marked p.0 p.1 in
+        (p.0, record { in_range = k.in_range p.0 a.0; above = k.above p.0 a.0; lower = a.1; reached = w.sound p.0 a.0 }, sym p.2));
+  }
+
+  IsLemma-walked : (back glue : ℕ) → back ≡ greatest (map (level_at t.steps) aside) → glue ≡ distinct_count nat_eq (map (level_at t.steps) aside) → IsLemma s t c lemma_lits back glue
+  unfolding lemma_lits
+  IsLemma-walked back glue b g = record {
+    first = negated_at t.steps u;
+    rest = map (negated_at t.steps) aside;
+    parts = refl;
+    implied = lemma_implied;
+    clause = lemma_clause;
+    all_false = λ l h. literal_false l (map_In (negated_at t.steps) (u ∷ aside) l (has_In lemma_lits l h));
+    asserting = level_here u w.point.in_range ∙ w.point.level;
+    below = λ l h. literal_low l (map_In (negated_at t.steps) aside l (has_In (map (negated_at t.steps) aside) l h));
+    back_is = b ∙ ap greatest (sym (levels_at t aside shape (λ p h. places_lt p (inr h))));
+    glue_is = g ∙ ap (distinct_count nat_eq) (sym (levels_at t aside shape (λ p h. places_lt p (inr h))));
+    walked = lemma_walk;
+  }
+    where
+      literal_false : (l : Literal) → ((p : ℕ) × In p (u ∷ aside) × (negated_at t.steps p ≡ l)) → IsFalseAbove t.steps l
+      literal_false l p = record {
+        false_now = record { place = p.0; before = places_lt p.0 p.1; false_there = sym (opposite-opposite (lit_at t.steps p.0)) ∙ ap opposite p.2 };
+        above = (let e = ap (level_of_lit t.steps) p.2 in let a = places_above p.0 p.1 in let h = level_here p.0 (places_lt p.0 p.1) in omega arith);
+      }
+
+      literal_low : (l : Literal) → ((p : ℕ) × In p aside × (negated_at t.steps p ≡ l)) → level_of_lit t.steps l < clause_level t.steps c
+      literal_low l p =
+          let e = ap (level_of_lit t.steps) p.2 in
+          let a = (aside_marked p.0 p.1).1 in
+          let h = level_here p.0 (places_lt p.0 (inr p.1)) in
+          omega arith
+
+-- what the walk marked and put aside makes the lemma
+pub IsLemma-from : (s : PortState) (t : TrailData) (m : ℕ) (c : List Literal) (u : ℕ) (ms : List Bool) (touched : List ℕ)
+    → IsTrail t → IsReasoned (clause_at s) s.seen t.steps → Contains (known s) c → IsFalseClause t.steps c → m ≡ clause_level t.steps c → 1 ≤ m
+    → IsMarking t.steps t.vars m ms touched → IsWalked (clause_at s) t.steps m c ms u
+    → (back glue : ℕ) → back ≡ greatest (map (level_at t.steps) (lower_of t.steps m touched)) → glue ≡ distinct_count nat_eq (map (level_at t.steps) (lower_of t.steps m touched))
+    → IsLemma s t c (negated_at t.steps u ∷ map (negated_at t.steps) (lower_of t.steps m touched)) back glue
+IsLemma-from s t m c u ms touched shape reasoned inG bad e pos k w back glue b g =
+    subst (λ (n : ℕ). 1 ≤ n → IsMarking t.steps t.vars n ms touched → IsWalked (clause_at s) t.steps n c ms u
+    → back ≡ greatest (map (level_at t.steps) (lower_of t.steps n touched)) → glue ≡ distinct_count nat_eq (map (level_at t.steps) (lower_of t.steps n touched))
+    → IsLemma s t c (negated_at t.steps u ∷ map (negated_at t.steps) (lower_of t.steps n touched)) back glue) (sym e)
+    (λ p k w b g. from p k w b g) pos k w b g
+  where
+    from : 1 ≤ clause_level t.steps c → IsMarking t.steps t.vars (clause_level t.steps c) ms touched → IsWalked (clause_at s) t.steps (clause_level t.steps c) c ms u
+        → back ≡ greatest (map (level_at t.steps) (lower_of t.steps (clause_level t.steps c) touched)) → glue ≡ distinct_count nat_eq (map (level_at t.steps) (lower_of t.steps (clause_level t.steps c) touched))
+        → IsLemma s t c (negated_at t.steps u ∷ map (negated_at t.steps) (lower_of t.steps (clause_level t.steps c) touched)) back glue
+    from p k w b g = unfold lemma_lits in unfold aside in IsLemma-walked s t c u ms touched shape reasoned inG bad k w p back glue b g
+
+module _ (t : TrailData) (m : ℕ) (ms : List Bool) (touched : List ℕ) (shape : IsTrail t) (k : IsMarking t.steps t.vars m ms touched) where
+  listed_lt : (p : ℕ) → In p touched → p < length t.steps
+  listed_lt p h = listed_in_range t m ms touched shape k p (In_member touched p h)
+
+  pub touched_in_range : All (λ p. p < length t.steps) touched
+  touched_in_range i d h = listed_lt (get_or touched i d) (In_get_or touched i d h)
+
+  pub touched_in_table : All (λ p. p < length ms) touched
+  touched_in_table i d h = let a = touched_in_range i d h in let s = shape.short in let z = k.size in omega arith
+
+  pub lower_in_range : All (λ p. p < length t.steps) (lower_of t.steps m touched)
+  lower_in_range i d h = listed_lt (get_or (lower_of t.steps m touched) i d) (filter_In (λ q. nat_lt (level_at t.steps q) m) touched (get_or (lower_of t.steps m touched) i d) (In_get_or (lower_of t.steps m touched) i d h)).0
+
+  pub lower_few : length (lower_of t.steps m touched) ≤ length t.steps
+  lower_few = length-le_from_distinct_below (lower_of t.steps m touched) (length t.steps) (distinct_filter (λ q. nat_lt (level_at t.steps q) m) touched k.distinct)
+      (λ q y. listed_lt q (filter_In (λ p. nat_lt (level_at t.steps p) m) touched q (member_In (lower_of t.steps m touched) q y)).0)
+
+  pub touched_short : length touched ≤ length t.steps
+  touched_short = touched_few t m ms touched shape k

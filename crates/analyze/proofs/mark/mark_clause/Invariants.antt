@@ -1,0 +1,15 @@
+use Rattle.std.proofs.Common.{◌≡◌, ◌≤◌, length, take}
+use Rattle.std.specs.Vec.{vec_capacity}
+use Rattle.ring_port.specs.PortState.{lits_at}
+use Rattle.analyze.specs.Marks.{IsMarking, Marks}
+use Rattle.analyze.proofs.mark.mark_clause.Given as goal
+
+abbrev pub invariant-loop-i : goal.invariant-loop-i
+invariant-loop-i g l = record {
+  same : g.P.Port.state l.port ≡ g.P.Port.state l.fn.port;
+  size : l.size ≡ length (lits_at (g.P.Port.state l.fn.port) l.c.address);
+  counted : l.count ≤ l.i;
+  marking : IsMarking l.trail.steps l.trail.vars l.level l.marks.items l.touched.items;
+  marks : Marks l.trail.steps l.level l.fn.marks.items l.marks.items l.bound (take l.i (lits_at (g.P.Port.state l.fn.port) l.c.address)) l.count;
+  room : vec_capacity l.touched ≡ vec_capacity l.fn.touched;
+}

@@ -1,0 +1,32 @@
+-- Levels of the literals of a clause.
+use Rattle.std.specs.Prelude.{ℕ, max, List, [], ◌∷◌, map, Option, unwrap_or, nat_eq}
+use Rattle.std.specs.Option.{option_map}
+use Rattle.std.specs.Set.{distinct_count}
+use Rattle.sat_words.specs.Literal.{Literal}
+use Rattle.ring_port.specs.PortState.{PortState, held_at}
+use Rattle.ring_trail.specs.declared.step.Step.{Step}
+use Rattle.ring_trail.specs.TrailData.{level_of}
+
+-- the literals of the clause at an address, where one is held there
+abbrev pub clause_at : PortState → ℕ → Option (List Literal)
+clause_at s a = option_map (λ h. h.lits) (held_at s a)
+
+-- the greatest number of a list, 0 of none
+abbrev pub greatest : List ℕ → ℕ
+greatest [] = 0
+greatest (n ∷ ns) = max n (greatest ns)
+
+-- the level at which the literal's variable got its value, 0 where it has none
+abbrev pub level_of_lit : List Step → Literal → ℕ
+level_of_lit steps l = unwrap_or (level_of steps l.var) 0
+
+abbrev pub levels_of : List Step → List Literal → List ℕ
+levels_of steps c = map (level_of_lit steps) c
+
+-- the greatest level of a clause's literals; where it is false, the level at which it became so
+abbrev pub clause_level : List Step → List Literal → ℕ
+clause_level steps c = greatest (levels_of steps c)
+
+-- how many levels a clause's literals have
+abbrev pub count_of_levels : List Step → List Literal → ℕ
+count_of_levels steps c = distinct_count nat_eq (levels_of steps c)

@@ -1,0 +1,5 @@
+pub mod Levels
+pub mod Walk
+pub mod Marks
+pub mod Lemma
+pub mod AnalysisData

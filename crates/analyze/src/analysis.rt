@@ -1,0 +1,114 @@
+ghost use Rattle.std.specs.Prelude.{◌≡◌, ◌≤◌, ◌^◌, [], IfOk, IsSome};
+ghost use Rattle.ring_port.specs.PortState.{held_at, lits_at};
+ghost use Rattle.ring_trail.specs.TrailData.{IsFalseClause};
+ghost use Rattle.ring_trail.specs.Reasoned.{IsReasoned};
+ghost use Rattle.analyze.specs.Levels.{clause_at};
+ghost use Rattle.analyze.specs.Lemma.{IsConclusion};
+
+use crate::lemma::{count_levels, greatest_level, write_lemma};
+use crate::mark::unmark;
+use crate::walk::{find_point, level_of_clause, put_aside};
+use ring_port::Port;
+use ring_trail::Trail;
+use sat_words::{Cref, Lit};
+use std::alloc::{AllocError, Global};
+use std::marker::Model;
+
+/// What a conflict teaches.
+#[derive(Clone, Copy, PartialEq, Eq, Debug)]
+pub enum Conclusion {
+    /// The conflict is at level 0, and the empty clause follows.
+    Empty,
+    /// A clause, whose literals are those of `Analysis::lits`.
+    Lemma {
+        /// The greatest level of its literals but the asserting one, 0 where there are none: going back to it leaves that
+        /// one the only literal that isn't false.
+        back: u32,
+        /// How many levels its literals but the asserting one have (LBD; Audemard and Simon 2009).
+        glue: u32,
+    },
+}
+
+/// The buffers of conflict analysis for one number of variables, and the lemma found last. No call but `new` takes memory.
+#[derive(Drop)]
+pub struct Analysis {
+    vars: u32,
+    marks: Vec<bool>,
+    touched: Vec<u32>,
+    aside: Vec<u32>,
+    levels: Vec<bool>,
+    lits: Vec<Lit>,
+}
+
+impl Model for Analysis {
+    ghost use Rattle.analyze.specs.AnalysisData.{AnalysisData};
+
+    ghost Value = { AnalysisData };
+
+    ghost use Rattle.analyze.specs.AnalysisData.{IsReady};
+
+    ghost view = { λ a. record { vars = a.vars; lits = a.lits.items } };
+
+    ghost invariant = { IsReady };
+}
+
+impl Analysis {
+    /// For trails over so many variables. It has no lemma yet.
+    pub fn new(alloc: Global, vars: u32) -> Result<Analysis, AllocError>
+        requires { vars ≤ 2 ^ 30 }
+        ensures { IfOk result (λ a. a ≡ record { vars = vars; lits = [] }) }
+    {
+        let room = vars as usize;
+        Ok(Analysis {
+            vars,
+            marks: vec![in alloc; false; room]?,
+            touched: Vec::with_capacity(alloc, room)?,
+            aside: Vec::with_capacity(alloc, room)?,
+            levels: vec![in alloc; false; room + 1]?,
+            lits: Vec::with_capacity(alloc, room + 1)?,
+        })
+    }
+
+    /// The literals of the lemma found last, the asserting one first.
+    pub fn lits(&self) -> &[Lit]
+        ensures { result.now ≡ self.now.lits }
+    {
+        self.lits.as_slice()
+    }
+
+    /// Analyses a conflict, a clause that is false on the trail: the walk back to the first unique implication point
+    /// (Marques-Silva and Sakallah 1999), from the clause's level, which is the greatest of its literals'. After a lemma
+    /// `lits` has its literals, and nothing after `Empty`.
+    pub fn analyze<P: Port>(&mut self, port: &mut P, trail: &Trail, conflict: Cref) -> Conclusion
+        requires vars { trail.now.vars ≡ self.old.vars }
+        requires held { IsSome (held_at (P.state port.old) conflict.address) }
+        requires conflict { IsFalseClause trail.now.steps (lits_at (P.state port.old) conflict.address) }
+        requires reasoned { IsReasoned (clause_at (P.state port.old)) (P.state port.old).seen trail.now.steps }
+        ensures same { P.state port.new ≡ P.state port.old }
+        ensures vars { self.new.vars ≡ self.old.vars }
+        ensures found { IsConclusion (P.state port.old) trail.now (lits_at (P.state port.old) conflict.address) self.new.lits result }
+        ensures none { result ≡ Conclusion.Empty → self.new.lits ≡ [] }
+    {
+        let level = level_of_clause(port, trail, conflict);
+        if level == 0 {
+            self.lits.clear();
+            return Conclusion::Empty;
+        }
+        self.touched.clear();
+        let point = find_point(
+            port,
+            trail,
+            conflict,
+            level,
+            &mut self.marks,
+            &mut self.touched,
+        );
+        put_aside(trail, level, self.touched.as_slice(), &mut self.aside);
+        unmark(&mut self.marks, self.touched.as_slice());
+        let aside = self.aside.as_slice();
+        write_lemma(trail, point, aside, &mut self.lits);
+        let back = greatest_level(trail, aside);
+        let glue = count_levels(trail, aside, &mut self.levels);
+        Conclusion::Lemma { back, glue }
+    }
+}

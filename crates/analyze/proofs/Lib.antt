@@ -5,3 +5,4 @@ pub mod LevelLemmas
 pub mod Refuting
 pub mod Parts
 pub mod Freshness
+pub mod Row

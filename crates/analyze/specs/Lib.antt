@@ -3,3 +3,4 @@ pub mod Walk
 pub mod Marks
 pub mod Lemma
 pub mod AnalysisData
+pub mod Row

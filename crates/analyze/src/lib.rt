@@ -11,3 +11,6 @@ mod walk;
 
 pub use analysis::{Analysis, Conclusion};
 pub use laws::contains_no_closed;
+
+#[cfg(test)]
+mod tests;

@@ -1,0 +1,142 @@
+-- What holds of the port of the tests.
+use Rattle.std.proofs.Common.{◌≡◌, ◌∙◌, ℕ, zero, suc, ◌<◌, true, false, List, [], ◌∷◌, Some, None, IsSome, sym, refl, ap, inl, inr, ◌⊎◌, arith}
+use Rattle.std.specs.Option.{option_map}
+use Rattle.std.specs.List.{slice_get}
+use Rattle.std.proofs.lemmas.Bool.{cases_eq, ne_eqb, false≢true}
+use Rattle.sat_words.specs.Literal.{Literal, opposite}
+use Rattle.rup_model.proofs.Lists.{In, has_In}
+use Rattle.ring_port.specs.PortState.{Holding, held_at}
+use Rattle.ring_trail.specs.declared.step.Step.{Step}
+use Rattle.ring_trail.specs.TrailData.{TrailData, FalseBefore, IsFalseClause, lit_at, level_at, decided, assigned}
+use Rattle.ring_trail.specs.Reasoned.{WasUnit, IsForced, IsSeen, IsDecision, IsReasoned}
+use Rattle.analyze.specs.Levels.{clause_at}
+use Rattle.analyze.specs.Row.{lit, first, second, third, row_state}
+
+-- what is held at an address
+pub held_first : held_at row_state 1 ≡ Some first
+unfolding held_at
+held_first = refl
+
+pub held_second : held_at row_state 2 ≡ Some second
+unfolding held_at
+held_second = refl
+
+pub held_third : held_at row_state 3 ≡ Some third
+unfolding held_at
+held_third = refl
+
+held_none : (a : ℕ) → (1 ≡ a → ⊥) → (2 ≡ a → ⊥) → (3 ≡ a → ⊥) → held_at row_state a ≡ None
+unfolding held_at
+held_none a x y z = rw (ne_eqb 1 a x, ne_eqb 2 a y, ne_eqb 3 a z) refl
+
+-- the addresses at which a clause is held
+held_only : (a : ℕ) → IsSome (held_at row_state a) → (a ≡ 1) ⊎ ((a ≡ 2) ⊎ (a ≡ 3))
+held_only a h =
+    elim (cases_eq 1 a) as (λ _. (a ≡ 1) ⊎ ((a ≡ 2) ⊎ (a ≡ 3))) [
+      | inl e ↦ inl (sym e)
+      | inr x ↦ (elim (cases_eq 2 a) as (λ _. (a ≡ 1) ⊎ ((a ≡ 2) ⊎ (a ≡ 3))) [
+        | inl e ↦ inr (inl (sym e))
+        | inr y ↦ (elim (cases_eq 3 a) as (λ _. (a ≡ 1) ⊎ ((a ≡ 2) ⊎ (a ≡ 3))) [
+          | inl e ↦ inr (inr (sym e))
+          | inr z ↦ absurd (false≢true (rw (held_none a x y z) at h))
+        ])
+      ])
+    ]
+
+pub at_first : (a : ℕ) → a ≡ 1 → held_at row_state a ≡ Some first
+at_first a e = ap (held_at row_state) e ∙ held_first
+
+pub at_second : (a : ℕ) → a ≡ 2 → held_at row_state a ≡ Some second
+at_second a e = ap (held_at row_state) e ∙ held_second
+
+pub at_third : (a : ℕ) → (a ≡ 1 → ⊥) → (a ≡ 2 → ⊥) → IsSome (held_at row_state a) → held_at row_state a ≡ Some third
+at_third a one two h =
+    elim (held_only a h) as (λ _. held_at row_state a ≡ Some third) [
+      | inl e ↦ absurd (one e)
+      | inr r ↦ (elim r as (λ _. held_at row_state a ≡ Some third) [ inl e ↦ absurd (two e) | inr e ↦ ap (held_at row_state) e ∙ held_third ])
+    ]
+
+abbrev pub row_steps : List Step
+row_steps =
+    record { lit = lit 1 false; level = 1; reason = None }
+    ∷ record { lit = lit 2 false; level = 1; reason = Some (record { address = 1 }) }
+    ∷ record { lit = lit 4 false; level = 2; reason = None }
+    ∷ record { lit = lit 5 false; level = 2; reason = Some (record { address = 2 }) }
+    ∷ []
+
+pub steps_are : (t0 t1 t2 t3 t4 : TrailData) → t0 ≡ record { vars = 5; level = 0; steps = []; done = 0 } → t1 ≡ decided t0 (lit 1 false) → t2 ≡ assigned t1 (lit 2 false) (Some (record { address = 1 }))
+    → t3 ≡ decided t2 (lit 4 false) → t4 ≡ assigned t3 (lit 5 false) (Some (record { address = 2 })) → t4.steps ≡ row_steps
+steps_are t0 t1 t2 t3 t4 e0 e1 e2 e3 e4 =
+    ap (λ (t : TrailData). t.steps)
+    (e4 ∙ ap (λ (t : TrailData). assigned t (lit 5 false) (Some (record { address = 2 })))
+    (e3 ∙ ap (λ (t : TrailData). decided t (lit 4 false))
+    (e2 ∙ ap (λ (t : TrailData). assigned t (lit 2 false) (Some (record { address = 1 })))
+    (e1 ∙ ap (λ (t : TrailData). decided t (lit 1 false)) e0))))
+
+false_at : (n p : ℕ) (k l : Literal) → p < n → lit_at row_steps p ≡ opposite k → k ≡ l → FalseBefore row_steps n l
+false_at n p k l lt e s = record { place = p; before = lt; false_there = e ∙ ap opposite s }
+
+-- the third clause is false
+pub third_false : IsFalseClause row_steps third.lits
+third_false l h = by (has_In third.lits l h)
+  where
+    by : In l third.lits → FalseBefore row_steps 4 l
+    by (inl e) = false_at 4 2 (lit 4 true) l (omega arith) refl e
+    by (inr (inl e)) = false_at 4 1 (lit 2 true) l (omega arith) refl e
+    by (inr (inr (inl e))) = false_at 4 3 (lit 5 true) l (omega arith) refl e
+    by (inr (inr (inr e))) = absurd e
+
+unit_first : WasUnit row_steps 1 first.lits
+unit_first = record { has_lit = refl; others = λ k h. by k (has_In first.lits k h) }
+  where
+    by : (k : Literal) → In k first.lits → (k ≡ lit 2 false) ⊎ FalseBefore row_steps 1 k
+    by k (inl e) = inr (false_at 1 0 (lit 1 true) k (omega arith) refl e)
+    by k (inr (inl e)) = inl (sym e)
+    by k (inr (inr e)) = absurd e
+
+unit_second : WasUnit row_steps 3 second.lits
+unit_second = record { has_lit = refl; others = λ k h. by k (has_In second.lits k h) }
+  where
+    by : (k : Literal) → In k second.lits → (k ≡ lit 5 false) ⊎ FalseBefore row_steps 3 k
+    by k (inl e) = inr (false_at 3 2 (lit 4 true) k (omega arith) refl e)
+    by k (inr (inl e)) = inr (false_at 3 0 (lit 1 true) k (omega arith) refl e)
+    by k (inr (inr (inl e))) = inl (sym e)
+    by k (inr (inr (inr e))) = absurd e
+
+-- the reasons are held
+pub row_reasoned : IsReasoned (clause_at row_state) [] row_steps
+row_reasoned = record { caused = by }
+  where
+    by : (p : ℕ) → p < 4 → IsForced (clause_at row_state) row_steps p ⊎ (IsSeen [] row_steps p ⊎ IsDecision row_steps p)
+    by zero h = inr (inr (record { none = refl; above = omega arith; first = λ q l. absurd (omega arith) }))
+    by (suc zero) h = inl (record {
+      reason = record { address = 1 };
+      lits = first.lits;
+      reason_is = refl;
+      held_is = ap (option_map (λ (k : Holding). k.lits)) held_first;
+      unit = unit_first;
+    })
+    by (suc (suc zero)) h = inr (inr (record { none = refl; above = omega arith; first = lower }))
+      where
+        lower : (q : ℕ) → q < 2 → level_at row_steps q < 2
+        lower zero l = omega arith
+        lower (suc zero) l = omega arith
+        lower (suc (suc q)) l = absurd (omega arith)
+    by (suc (suc (suc zero))) h = inl (record {
+      reason = record { address = 2 };
+      lits = second.lits;
+      reason_is = refl;
+      held_is = ap (option_map (λ (k : Holding). k.lits)) held_second;
+      unit = unit_second;
+    })
+    by (suc (suc (suc (suc p)))) h = absurd (omega arith)
+
+-- equal lists read alike
+pub read_same : (c d : List Literal) (i : ℕ) (r : Literal) → c ≡ d → slice_get c i ≡ Some r → slice_get d i ≡ Some r
+read_same c d i r e h = ap (λ (xs : List Literal). slice_get xs i) (sym e) ∙ h
+
+pub same_two : (x y k l : Literal) → x ≡ k → y ≡ l → (x ∷ y ∷ []) ≡ (k ∷ l ∷ [])
+same_two x y k l e f = cc
+
+pub same_three : (x y z k l m : Literal) → x ≡ k → y ≡ l → z ≡ m → (x ∷ y ∷ z ∷ []) ≡ (k ∷ l ∷ m ∷ [])
+same_three x y z k l m e f g = cc

@@ -1,0 +1,82 @@
+-- How a run begins, and what it leaves.
+use Rattle.std.proofs.Common.{◌≡◌, ◌∙◌, ℕ, List, [], length, map, sym, subst, ap, arith, Some, IsSome, refl, Contains, get_or}
+use Rattle.std.specs.Prelude.{All}
+use Rattle.std.specs.List.{list_any}
+use Rattle.std.specs.declared.option.Option.{Option}
+use Rattle.std.proofs.lemmas.Bool.{false≢true}
+use Rattle.sat_words.specs.Literal.{Literal}
+use Rattle.sat_words.specs.Clause.{has, is_empty}
+use Rattle.sat_words.specs.declared.shared.Cref.{Cref}
+use Rattle.rup_model.specs.declared.journal.Entry.{Entry}
+use Rattle.rup_model.specs.Journal.{added, learned}
+use Rattle.rup_model.proofs.Lists.{Contains_In, In_Contains, In_map, map_In, In_get_or}
+use Rattle.ring_port.specs.PortState.{PortState, Holding, IsPort, held_at}
+use Rattle.ring_port.proofs.Holdings.{All_In}
+use Rattle.ring_trail.specs.TrailData.{TrailData, IsTrail}
+use Rattle.ring_run.specs.Ended.{IsJobOf, IsUntouched, IsOwn, IsCounted}
+use Rattle.ring_run.specs.Scanned.{IsHeldBy}
+use Rattle.ring_run.specs.Searching.{Runs, GoesOn}
+use Rattle.ring_run.specs.Finding.{IsBegun, Finds}
+use Rattle.ring_run.specs.declared.job.Job.{Job}
+use Rattle.ring_run.specs.declared.search.Ring.{Ring}
+use Rattle.ring_run.specs.declared.search.Finding.{Finding}
+use Rattle.ring_run.specs.declared.search.Finding.TheVariants.{Model, Refuted, Spent, Stopped, Refused}
+
+pub runs_begin : (s : PortState) → IsUntouched s → IsPort s → Runs s s 0
+runs_begin s p port = record {
+  stays = record { start = refl; opening = refl; vars = refl; ring = refl; rings = refl; waiting = refl; shared = refl; polled = refl; puts = refl; taken = refl; log = λ o h. h };
+  wrote = subst (All (IsOwn s.ring s.vars)) (sym p.mine) (λ k d h. absurd (omega arith));
+  counted = sym (ap (λ (J : List Entry). length (learned s.ring J)) p.mine);
+  port = port;
+}
+
+pub goes_begin : (s : PortState) → IsUntouched s → IsPort s → GoesOn s s 0
+goes_begin s p port = record {
+  runs = runs_begin s p port;
+  going = ap (λ (J : List Entry). list_any is_empty (added J)) p.mine;
+  stop = p.stop;
+  refused = p.refused;
+  held = p.held;
+}
+
+-- a ring over the job's clauses, with nothing true
+pub begun : (s : PortState) (job : Job) (ring : Ring) → IsJobOf s job → IsUntouched s → IsPort s → ring.trail ≡ record { vars = job.vars; level = 0; steps = []; done = 0 } → IsTrail ring.trail
+    → ring.clauses.items ≡ job.start → IsBegun s ring
+begun s job ring asked p port trail shape clauses =
+    let is : ring.clauses.items ≡ map (λ (h : Holding). record { address = h.address }) s.start = clauses ∙ asked.start in
+    record {
+      stands = record {
+        vars = ap (λ (t : TrailData). t.vars) trail ∙ asked.vars;
+        reasoned = record { caused = λ q h. absurd (omega (arith, ap (λ (t : TrailData). length t.steps) trail)) };
+        seen = λ l h. absurd (false≢true (ap (λ (ls : List Literal). has ls l) (sym p.seen) ∙ h));
+      };
+      trail = shape;
+      level = ap (λ (t : TrailData). t.level) trail;
+      held = subst (All (IsHeldBy s)) (sym is) held_starts;
+      starts = λ h there. subst (λ (cs : List Cref). Contains cs (record { address = h.address })) (sym is)
+          (In_Contains (map (λ (k : Holding). record { address = k.address }) s.start) (record { address = h.address }) (In_map (λ (k : Holding). record { address = k.address }) s.start h (Contains_In s.start h there)));
+      refused = p.refused;
+      stop = p.stop;
+      port = port;
+    }
+  where
+    refs : List Cref
+    refs = map (λ (k : Holding). record { address = k.address }) s.start
+
+    of_start : (h : Holding) → held_at s h.address ≡ Some h → IsSome (held_at s h.address)
+    of_start h e = subst (λ (o : Option Holding). IsSome o) (sym e) refl
+
+    held_starts : All (IsHeldBy s) refs
+    held_starts = λ k d h.
+        (let t = map_In (λ (x : Holding). record { address = x.address }) s.start (get_or refs k d) (In_get_or refs k d h) in
+        subst (IsHeldBy s) t.2 (of_start t.0 (All_In (λ (x : Holding). held_at s x.address ≡ Some x) s.start t.0 p.held t.1)))
+
+pub finds_runs : (start s : PortState) (n limit : ℕ) (f : Finding) → Finds start s n limit f → Runs start s n
+finds_runs start s n limit (Model a) p = p.0.runs
+finds_runs start s n limit Refuted p = p.0.runs
+finds_runs start s n limit Spent p = p.0.runs
+finds_runs start s n limit (Stopped x) p = p.0.runs
+finds_runs start s n limit (Refused stop) p = p.0.runs
+
+pub counted_by : (start s : PortState) (n : ℕ) → Runs start s n → IsCounted s (record { learned = n; exported = 0; offered = 0; restarts = 0 })
+counted_by start s n p = record { learned_is = p.counted; exported = refl; offered = refl; restarts = refl }

@@ -1,0 +1,325 @@
+-- What each call of the port leaves of a run.
+use Rattle.std.proofs.Common.{◌≡◌, ◌∙◌, ℕ, ◌+◌, ◌≤◌, Bool, true, false, List, [], ◌∷◌, ◌++◌, length, map, sym, subst, ap, arith, Some, None, IsSome, refl, length-append, slice_index_or, cond, nat_eq, eq-eqb}
+use Rattle.std.specs.Prelude.{All, ◌&&◌}
+use Rattle.std.specs.List.{list_any}
+use Rattle.std.specs.declared.option.Option.{Option}
+use Rattle.std.proofs.lemmas.List.Elements.{All-append, All-cons, All-nil}
+use Rattle.std.proofs.lemmas.Bool.{or_left}
+use Rattle.sat_words.specs.Literal.{Literal, same}
+use Rattle.sat_words.specs.Clause.{has, is_empty}
+use Rattle.sat_words.specs.declared.shared.Cref.{Cref}
+use Rattle.rup_model.specs.declared.journal.Kind.{Kind}
+use Rattle.rup_model.specs.declared.journal.Kind.TheVariants.{Learn, Derive, UnitLine}
+use Rattle.rup_model.specs.declared.journal.Entry.{Entry}
+use Rattle.rup_model.specs.declared.journal.Entry.TheVariants.{Add}
+use Rattle.rup_model.specs.declared.journal.Addition.{Addition}
+use Rattle.drat_text.specs.LineState.{LineState}
+use Rattle.rup_model.specs.Journal.{added, learned, is_learn}
+use Rattle.rup_model.proofs.Additions.{added-append, learned-append}
+use Rattle.ring_port.specs.PortState.{PortState, Holding, IsPort, IsOn, HoldsStart, held_at}
+use Rattle.ring_port.specs.Port.{WroteUnit, LearnedUnit, LearnedClause, EndedLog, Refused, KeepsHeld, entry_of, after_refusal, IsClause}
+use Rattle.ring_port.specs.Log.{KeepsLog}
+use Rattle.ring_port.specs.declared.stops.PortStop.{PortStop}
+use Rattle.ring_port.specs.declared.stops.PortStop.TheVariants.{Ended, Broken, ProofFault, NoHole, Memory}
+use Rattle.ring_run.specs.Ended.{Stays, IsOwn}
+use Rattle.ring_run.specs.Searching.{Runs, GoesOn, OnlySaw, OnlyWrote, IsOver, IsRefuted, IsNoted}
+
+pub stays_by : (s u w : PortState) → Stays s u → Stays u w → Stays s w
+stays_by s u w p q = record {
+  start = q.start ∙ p.start;
+  opening = q.opening ∙ p.opening;
+  vars = q.vars ∙ p.vars;
+  ring = q.ring ∙ p.ring;
+  rings = q.rings ∙ p.rings;
+  waiting = q.waiting ∙ p.waiting;
+  shared = q.shared ∙ p.shared;
+  polled = q.polled ∙ p.polled;
+  puts = q.puts ∙ p.puts;
+  taken = q.taken ∙ p.taken;
+  log = λ o h. q.log o (p.log o h);
+}
+
+-- a run goes on by an entry of its ring
+pub runs_adds : (start s u : PortState) (n m : ℕ) (e : Entry) → Runs start s n → Stays s u → u.mine ≡ s.mine ++ e ∷ [] → IsOwn start.ring start.vars e
+    → m ≡ n + length (learned s.ring (e ∷ [])) → IsPort u → Runs start u m
+runs_adds start s u n m e p stays is own count port = record {
+  stays = stays_by start s u p.stays stays;
+  wrote = subst (All (IsOwn start.ring start.vars)) (sym is)
+      (All-append (IsOwn start.ring start.vars) s.mine (e ∷ []) p.wrote (All-cons (IsOwn start.ring start.vars) e [] own (All-nil (IsOwn start.ring start.vars))));
+  counted =
+      (let split = ap length (learned-append s.ring s.mine (e ∷ [])) in
+      let both = length-append (learned s.ring s.mine) (learned s.ring (e ∷ [])) in
+      let here = ap (λ (r : ℕ). length (learned r u.mine)) stays.ring in
+      let there = ap (λ (J : List Entry). length (learned s.ring J)) is in
+      omega (arith, count, p.counted, split, both, here, there));
+  port = port;
+}
+
+-- and by a call that writes nothing
+pub runs_same : (start s u : PortState) (n : ℕ) → Runs start s n → Stays s u → u.mine ≡ s.mine → IsPort u → Runs start u n
+runs_same start s u n p stays is port = record {
+  stays = stays_by start s u p.stays stays;
+  wrote = subst (All (IsOwn start.ring start.vars)) (sym is) p.wrote;
+  counted = p.counted ∙ ap (λ (J : List Entry). length (learned s.ring J)) (sym is) ∙ ap (λ (r : ℕ). length (learned r u.mine)) (sym stays.ring);
+  port = port;
+}
+
+pub starts_kept : (s u : PortState) → u.start ≡ s.start → KeepsHeld s u → HoldsStart s → HoldsStart u
+starts_kept s u same kept held = subst (All (λ h. held_at u h.address ≡ Some h)) (sym same)
+    (λ k d lt. (let is = held k d lt in kept (slice_index_or s.start k d).address (subst (λ (o : Option Holding). IsSome o) (sym is) refl) ∙ is))
+
+pub held_same : (s u : PortState) (a : ℕ) → u.held ≡ s.held → held_at u a ≡ held_at s a
+unfolding held_at
+held_same s u a e = ap (λ (hs : List Holding). held_at (record s { held = hs }) a) e
+
+pub going_more : (s u : PortState) (e : Entry) → u.mine ≡ s.mine ++ e ∷ [] → list_any is_empty (added s.mine) ≡ false → list_any is_empty (added (e ∷ [])) ≡ false
+    → list_any is_empty (added u.mine) ≡ false
+going_more s u e is old new =
+    ap (λ (J : List Entry). list_any is_empty (added J)) is ∙ ap (list_any is_empty) (added-append s.mine (e ∷ []))
+    ∙ any_append (added s.mine) (added (e ∷ [])) old new
+  where
+    any_append : (xs ys : List (List Literal)) → list_any is_empty xs ≡ false → list_any is_empty ys ≡ false → list_any is_empty (xs ++ ys) ≡ false
+    any_append [] ys p q = q
+    any_append ([] ∷ xs) ys p q = cc
+    any_append ((l ∷ c) ∷ xs) ys p q = any_append xs ys p q
+
+-- a unit's line
+stays_unit : (s u : PortState) (l : Literal) (kind : Kind) (last : Option ℕ) → WroteUnit s u l kind last → KeepsLog s u → Stays s u
+stays_unit s u l kind last w log = record {
+  start = ap (λ (x : PortState). x.start) w.state;
+  opening = ap (λ (x : PortState). x.opening) w.state;
+  vars = ap (λ (x : PortState). x.vars) w.state;
+  ring = ap (λ (x : PortState). x.ring) w.state;
+  rings = ap (λ (x : PortState). x.rings) w.state;
+  waiting = ap (λ (x : PortState). x.waiting) w.state;
+  shared = ap (λ (x : PortState). x.shared) w.state;
+  polled = ap (λ (x : PortState). x.polled) w.state;
+  puts = ap (λ (x : PortState). x.puts) w.state;
+  taken = ap (λ (x : PortState). x.taken) w.state;
+  log = log;
+}
+
+counted_if : (b : Bool) (x : Addition) → length (map (λ (y : Addition). y.lits) (cond b (x ∷ []) [])) ≡ cond b 1 0
+counted_if true x = refl
+counted_if false x = refl
+
+-- an entry that isn't learned
+pub not_learned : (r : ℕ) (x : Addition) → is_learn x.kind ≡ false → length (learned r (Add x ∷ [])) ≡ 0
+not_learned r x e = ap (λ (b : Bool). length (map (λ (y : Addition). y.lits) (cond b (x ∷ []) []))) (both (nat_eq x.ring r) (is_learn x.kind) e)
+  where
+    both : (a b : Bool) → b ≡ false → (a && b) ≡ false
+    both true b e = e
+    both false b e = refl
+
+-- a clause that the ring learned
+pub one_learned : (r : ℕ) (x : Addition) → x.ring ≡ r → is_learn x.kind ≡ true → length (learned r (Add x ∷ [])) ≡ 1
+one_learned r x same_ring e = ap (λ (b : Bool). length (map (λ (y : Addition). y.lits) (cond b (x ∷ []) []))) (both (nat_eq x.ring r) (is_learn x.kind) (eq-eqb x.ring r same_ring) e)
+  where
+    both : (a b : Bool) → a ≡ true → b ≡ true → (a && b) ≡ true
+    both true b p q = q
+    both false b p q = cc
+
+-- a unit's line by propagation
+pub unit_goes_on : (start s u : PortState) (n : ℕ) (l : Literal) → GoesOn start s n → IsOn s.vars l → WroteUnit s u l UnitLine s.last → KeepsLog s u → IsPort u → GoesOn start u n
+unit_goes_on start s u n l p on w log port =
+    let e : Entry = entry_of s w.number (l ∷ []) UnitLine in
+    let stays = stays_unit s u l UnitLine s.last w log in
+    let is : u.mine ≡ s.mine ++ e ∷ [] = ap (λ (x : PortState). x.mine) w.state in
+    let held : u.held ≡ s.held = ap (λ (x : PortState). x.held) w.state in
+    record {
+      runs = runs_adds start s u n n e p.runs stays is
+          (p.runs.stays.ring, subst (λ (v : ℕ). All (IsOn v) (l ∷ [])) p.runs.stays.vars (All-cons (IsOn s.vars) l [] on (All-nil (IsOn s.vars))), refl)
+          (no_lemma s.ring w.number l) port;
+      going = going_more s u e is p.going refl;
+      stop = ap (λ (x : PortState). x.stop) w.state ∙ p.stop;
+      refused = ap (λ (x : PortState). x.refused) w.state ∙ p.refused;
+      held = starts_kept s u stays.start (λ a h. held_same s u a held) p.held;
+    }
+  where
+    no_lemma : (r number : ℕ) (l : Literal) → n ≡ n + length (learned s.ring (entry_of s number (l ∷ []) UnitLine ∷ []))
+    no_lemma r number l = omega (arith, not_learned s.ring (record { ring = s.ring; number = number; lits = l ∷ []; kind = UnitLine }) refl)
+
+-- a refusal changes nothing but what it notes
+record Same (s u : PortState) : Type 0 where
+  pub start : u.start ≡ s.start
+  pub opening : u.opening ≡ s.opening
+  pub vars : u.vars ≡ s.vars
+  pub ring : u.ring ≡ s.ring
+  pub rings : u.rings ≡ s.rings
+  pub waiting : u.waiting ≡ s.waiting
+  pub shared : u.shared ≡ s.shared
+  pub polled : u.polled ≡ s.polled
+  pub puts : u.puts ≡ s.puts
+  pub taken : u.taken ≡ s.taken
+  pub mine : u.mine ≡ s.mine
+  pub stop : u.stop ≡ s.stop
+  pub held : u.held ≡ s.held
+
+but_noted : (s : PortState) (refused : Option PortStop) (ended : Bool) (output : Option LineState) → Same s (record s { refused = refused; ended = ended; output = output })
+but_noted s refused ended output = record {
+  start = refl;
+  opening = refl;
+  vars = refl;
+  ring = refl;
+  rings = refl;
+  waiting = refl;
+  shared = refl;
+  polled = refl;
+  puts = refl;
+  taken = refl;
+  mine = refl;
+  stop = refl;
+  held = refl;
+}
+
+same_refused : (s : PortState) (output : Option LineState) (stop : PortStop) → Same s (after_refusal s output stop)
+same_refused s output Ended = but_noted s (Some Ended) true s.output
+same_refused s output Broken = but_noted s (Some Broken) s.ended s.output
+same_refused s output ProofFault = but_noted s (Some ProofFault) s.ended output
+same_refused s output (NoHole need largest) = but_noted s (Some (NoHole need largest)) s.ended s.output
+same_refused s output Memory = but_noted s s.refused s.ended s.output
+
+noted_refused : (s : PortState) (output : Option LineState) (stop : PortStop) → IsNoted (after_refusal s output stop) stop
+noted_refused s output Ended = refl
+noted_refused s output Broken = refl
+noted_refused s output ProofFault = refl
+noted_refused s output (NoHole need largest) = refl
+noted_refused s output Memory = tt
+
+stays_same : (s u : PortState) → Same s u → KeepsLog s u → Stays s u
+stays_same s u p log = record {
+  start = p.start;
+  opening = p.opening;
+  vars = p.vars;
+  ring = p.ring;
+  rings = p.rings;
+  waiting = p.waiting;
+  shared = p.shared;
+  polled = p.polled;
+  puts = p.puts;
+  taken = p.taken;
+  log = log;
+}
+
+pub refused_over : (start s u : PortState) (n : ℕ) (stop : PortStop) → GoesOn start s n → Refused s u stop → KeepsLog s u → IsPort u → IsOver start u n stop
+refused_over start s u n stop p r log port =
+    let same : Same s u = subst (Same s) (sym r.state) (same_refused s u.output stop) in
+    record {
+      runs = runs_same start s u n p.runs (stays_same s u same log) same.mine port;
+      stop_is = same.stop ∙ p.stop;
+      noted = subst (λ (x : PortState). IsNoted x stop) (sym r.state) (noted_refused s u.output stop);
+    }
+
+pub refused_held : (s u : PortState) (stop : PortStop) → Refused s u stop → u.held ≡ s.held
+refused_held s u stop r = (subst (Same s) (sym r.state) (same_refused s u.output stop)).held
+
+-- a clause that was learned
+stays_learned : (s u : PortState) (lits : List Literal) (glue : ℕ) (c : Cref) → LearnedClause s u lits glue c → KeepsLog s u → Stays s u
+stays_learned s u lits glue c w log = record {
+  start = ap (λ (x : PortState). x.start) w.state;
+  opening = ap (λ (x : PortState). x.opening) w.state;
+  vars = ap (λ (x : PortState). x.vars) w.state;
+  ring = ap (λ (x : PortState). x.ring) w.state;
+  rings = ap (λ (x : PortState). x.rings) w.state;
+  waiting = ap (λ (x : PortState). x.waiting) w.state;
+  shared = ap (λ (x : PortState). x.shared) w.state;
+  polled = ap (λ (x : PortState). x.polled) w.state;
+  puts = ap (λ (x : PortState). x.puts) w.state;
+  taken = ap (λ (x : PortState). x.taken) w.state;
+  log = log;
+}
+
+some_literal : (c : List Literal) → 1 ≤ length c → list_any is_empty (c ∷ []) ≡ false
+some_literal [] h = absurd (omega arith)
+some_literal (l ∷ c) h = refl
+
+-- the entry of a lemma goes on with one more
+learned_goes_on : (start s u : PortState) (n number : ℕ) (lits : List Literal) → GoesOn start s n → Stays s u → IsClause s.vars lits → 1 ≤ length lits
+    → u.mine ≡ s.mine ++ entry_of s number lits Learn ∷ [] → u.stop ≡ s.stop → u.refused ≡ s.refused → KeepsHeld s u → IsPort u → GoesOn start u (n + 1)
+learned_goes_on start s u n number lits p stays clause some is stop refused kept port =
+    let e : Entry = entry_of s number lits Learn in
+    record {
+      runs = runs_adds start s u n (n + 1) e p.runs stays is
+          (p.runs.stays.ring, subst (λ (v : ℕ). All (IsOn v) lits) p.runs.stays.vars clause.on, some)
+          (omega (arith, one_learned s.ring (record { ring = s.ring; number = number; lits = lits; kind = Learn }) refl refl)) port;
+      going = going_more s u e is p.going (some_literal lits some);
+      stop = stop ∙ p.stop;
+      refused = refused ∙ p.refused;
+      held = starts_kept s u stays.start kept p.held;
+    }
+
+pub clause_goes_on : (start s u : PortState) (n glue : ℕ) (lits : List Literal) (c : Cref) → GoesOn start s n → IsClause s.vars lits → LearnedClause s u lits glue c → KeepsHeld s u → KeepsLog s u → IsPort u
+    → GoesOn start u (n + 1)
+clause_goes_on start s u n glue lits c p clause w kept log port =
+    learned_goes_on start s u n w.number lits p (stays_learned s u lits glue c w log) clause (omega (arith, w.long))
+    (ap (λ (x : PortState). x.mine) w.state) (ap (λ (x : PortState). x.stop) w.state) (ap (λ (x : PortState). x.refused) w.state) kept port
+
+pub unit_learned_goes_on : (start s u : PortState) (n : ℕ) (lits : List Literal) → GoesOn start s n → IsClause s.vars lits → LearnedUnit s u lits → KeepsHeld s u → KeepsLog s u → IsPort u
+    → GoesOn start u (n + 1)
+unit_learned_goes_on start s u n lits p clause w kept log port =
+    let wrote = w.wrote in
+    learned_goes_on start s u n wrote.number lits p (stays_unit s u w.lit Learn None wrote log) clause (omega (arith, ap length w.unit))
+    (ap (λ (x : PortState). x.mine) wrote.state ∙ ap (λ (c : List Literal). s.mine ++ entry_of s wrote.number c Learn ∷ []) (sym w.unit))
+    (ap (λ (x : PortState). x.stop) wrote.state) (ap (λ (x : PortState). x.refused) wrote.state) kept port
+
+-- the empty clause
+pub empty_refutes : (start s u : PortState) (n : ℕ) → GoesOn start s n → EndedLog s u → KeepsLog s u → IsPort u → IsRefuted start u n
+empty_refutes start s u n p w log port =
+    let e : Entry = entry_of s w.number [] Derive in
+    let stays : Stays s u = record {
+      start = ap (λ (x : PortState). x.start) w.state;
+      opening = ap (λ (x : PortState). x.opening) w.state;
+      vars = ap (λ (x : PortState). x.vars) w.state;
+      ring = ap (λ (x : PortState). x.ring) w.state;
+      rings = ap (λ (x : PortState). x.rings) w.state;
+      waiting = ap (λ (x : PortState). x.waiting) w.state;
+      shared = ap (λ (x : PortState). x.shared) w.state;
+      polled = ap (λ (x : PortState). x.polled) w.state;
+      puts = ap (λ (x : PortState). x.puts) w.state;
+      taken = ap (λ (x : PortState). x.taken) w.state;
+      log = log;
+    } in
+    record {
+      runs = runs_adds start s u n n e p.runs stays (ap (λ (x : PortState). x.mine) w.state)
+          (p.runs.stays.ring, All-nil (IsOn start.vars), refl)
+          (omega (arith, not_learned s.ring (record { ring = s.ring; number = w.number; lits = []; kind = Derive }) refl)) port;
+      stop = ap (λ (x : PortState). x.stop) w.state ∙ p.stop;
+      ended = ap (λ (x : PortState). x.ended) w.state;
+    }
+
+-- a run that has seen units
+pub saw_goes_on : (start s u : PortState) (n : ℕ) → GoesOn start s n → OnlySaw s u → IsPort u → GoesOn start u n
+saw_goes_on start s u n p w port = record {
+  runs = runs_same start s u n p.runs w.stays w.mine port;
+  going = ap (λ (J : List Entry). list_any is_empty (added J)) w.mine ∙ p.going;
+  stop = w.stop ∙ p.stop;
+  refused = w.refused ∙ p.refused;
+  held = starts_kept s u w.stays.start (λ a h. held_same s u a w.held) p.held;
+}
+
+pub wrote_none : (s : PortState) → OnlyWrote s s
+wrote_none s = record {
+  stays = record { start = refl; opening = refl; vars = refl; ring = refl; rings = refl; waiting = refl; shared = refl; polled = refl; puts = refl; taken = refl; log = λ o h. h };
+  held = refl;
+  stop = refl;
+  refused = refl;
+  more = λ l h. h;
+}
+
+pub wrote_by : (s u w : PortState) → OnlyWrote s u → OnlyWrote u w → OnlyWrote s w
+wrote_by s u w p q = record {
+  stays = stays_by s u w p.stays q.stays;
+  held = q.held ∙ p.held;
+  stop = q.stop ∙ p.stop;
+  refused = q.refused ∙ p.refused;
+  more = λ l h. q.more l (p.more l h);
+}
+
+pub wrote_unit : (s u : PortState) (l : Literal) → WroteUnit s u l UnitLine s.last → KeepsLog s u → OnlyWrote s u
+wrote_unit s u l w log = record {
+  stays = stays_unit s u l UnitLine s.last w log;
+  held = ap (λ (x : PortState). x.held) w.state;
+  stop = ap (λ (x : PortState). x.stop) w.state;
+  refused = ap (λ (x : PortState). x.refused) w.state;
+  more = λ k h. w.sees k ∙ or_left (has s.seen k) (same l k) h;
+}

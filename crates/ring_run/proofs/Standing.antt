@@ -1,0 +1,177 @@
+-- What is seen, and what is true for good.
+use Rattle.std.proofs.Common.{◌≡◌, ◌∙◌, ℕ, ◌<◌, ◌≤◌, true, false, List, [], ◌∷◌, ◌++◌, length, sym, subst, ap, arith, inl, inr, ◌⊎◌, None, length-append}
+use Rattle.std.specs.Option.{option_map}
+use Rattle.std.specs.declared.option.Option.{Option}
+use Rattle.std.proofs.lemmas.Bool.{or_left, or_right, or_cases, false≢true}
+use Rattle.std.proofs.lemmas.List.{get_or_append_left}
+use Rattle.std.proofs.Math.Seq.{get_or-append_seam}
+use Rattle.sat_words.specs.Literal.{Literal, same}
+use Rattle.sat_words.specs.Clause.{has}
+use Rattle.sat_words.proofs.Members.{same-true, same-refl}
+use Rattle.rup_model.specs.Rup.{rup}
+use Rattle.ring_port.specs.PortState.{PortState, Holding, IsPort, held_at, known}
+use Rattle.ring_port.specs.Port.{TookUnit, WroteUnit, Sees}
+use Rattle.rup_model.specs.declared.journal.Kind.{Kind}
+use Rattle.rup_model.specs.declared.journal.Kind.TheVariants.{UnitLine}
+use Rattle.ring_port.specs.Log.{KeepsLog}
+use Rattle.ring_port.specs.PortState.{IsOn}
+use Rattle.ring_port.proofs.Holdings.{seen_is_known, All_In}
+use Rattle.rup_model.proofs.Lists.{has_In}
+use Rattle.ring_trail.specs.declared.step.Step.{Step}
+use Rattle.ring_trail.specs.TrailData.{TrailData, IsTrail, IsTrueOn, IsFalseOn, FalseBefore, no_step, step_at, lit_at, assigned}
+use Rattle.ring_trail.specs.Reasoned.{IsReasoned}
+use Rattle.ring_trail.specs.Closed.{TrueWithin}
+use Rattle.ring_trail.proofs.Causes.{IsReasoned-seen, IsReasoned-held}
+use Rattle.analyze.specs.Levels.{clause_at}
+use Rattle.ring_run.specs.Searching.{OnlySaw, Stands}
+use Rattle.ring_run.proofs.LevelZero.{false_at_zero}
+
+-- a literal that is true stays so as the trail grows
+pub within_more : (steps more : List Step) (k : ℕ) (l : Literal) → TrueWithin steps k l → TrueWithin (steps ++ more) k l
+within_more steps more k l w =
+    let is : step_at (steps ++ more) w.place ≡ step_at steps w.place = get_or_append_left steps more no_step w.place w.in_range in
+    record {
+      place = w.place;
+      in_range = omega (arith, length-append steps more, w.in_range);
+      true_there = ap (λ (s : Step). s.lit) is ∙ w.true_there;
+      level = omega (arith, ap (λ (s : Step). s.level) is, w.level);
+    }
+
+-- the last literal is true at its level
+pub within_last : (steps : List Step) (x : Step) (k : ℕ) → x.level ≤ k → TrueWithin (steps ++ x ∷ []) k x.lit
+within_last steps x k h =
+    let is : step_at (steps ++ x ∷ []) (length steps) ≡ x = get_or-append_seam steps x [] no_step in
+    record {
+      place = length steps;
+      in_range = omega (arith, length-append steps (x ∷ []));
+      true_there = ap (λ (s : Step). s.lit) is;
+      level = omega (arith, ap (λ (s : Step). s.level) is, h);
+    }
+
+-- at level 0, what is true is so without a decision
+pub within_zero : (t : TrailData) (l : Literal) → IsTrail t → t.level ≡ 0 → IsTrueOn t.steps l → TrueWithin t.steps 0 l
+within_zero t l shape zero_level w = record {
+  place = w.place;
+  in_range = w.before;
+  true_there = w.true_there;
+  level = omega (arith, shape.within w.place w.before);
+}
+
+pub clause_at_same : (s u : PortState) → u.held ≡ s.held → (a : ℕ) → clause_at u a ≡ clause_at s a
+unfolding held_at
+clause_at_same s u e a = ap (λ (hs : List Holding). option_map (λ (h : Holding). h.lits) (held_at (record s { held = hs }) a)) e
+
+-- the reasons stay where nothing that is held changes and more is seen
+pub reasoned_more : (s u : PortState) (steps : List Step) → u.held ≡ s.held → ((l : Literal) → has s.seen l ≡ true → has u.seen l ≡ true)
+    → IsReasoned (clause_at s) s.seen steps → IsReasoned (clause_at u) u.seen steps
+reasoned_more s u steps e more r =
+    IsReasoned-held (clause_at s) (clause_at u) s.seen u.seen steps r
+    (λ p c d h is held. inl (clause_at_same s u e c.address ∙ held)) more
+
+pub sees_old : (old new : List Literal) (l k : Literal) → Sees old new l → has old k ≡ true → has new k ≡ true
+sees_old old new l k sees h = sees k ∙ or_left (has old k) (same l k) h
+
+pub sees_new : (old new : List Literal) (l : Literal) → Sees old new l → has new l ≡ true
+sees_new old new l sees = sees l ∙ or_right (has old l) (same l l) (same-refl l)
+
+pub saw_more : (s u w : PortState) (l : Literal) → OnlySaw s u → TookUnit u w l → KeepsLog u w → OnlySaw s w
+saw_more s u w l p took log =
+    record {
+      stays = record {
+        start = ap (λ (x : PortState). x.start) took.state ∙ p.stays.start;
+        opening = ap (λ (x : PortState). x.opening) took.state ∙ p.stays.opening;
+        vars = ap (λ (x : PortState). x.vars) took.state ∙ p.stays.vars;
+        ring = ap (λ (x : PortState). x.ring) took.state ∙ p.stays.ring;
+        rings = ap (λ (x : PortState). x.rings) took.state ∙ p.stays.rings;
+        waiting = ap (λ (x : PortState). x.waiting) took.state ∙ p.stays.waiting;
+        shared = ap (λ (x : PortState). x.shared) took.state ∙ p.stays.shared;
+        polled = ap (λ (x : PortState). x.polled) took.state ∙ p.stays.polled;
+        puts = ap (λ (x : PortState). x.puts) took.state ∙ p.stays.puts;
+        taken = ap (λ (x : PortState). x.taken) took.state ∙ p.stays.taken;
+        log = λ o h. log o (p.stays.log o h);
+      };
+      held = ap (λ (x : PortState). x.held) took.state ∙ p.held;
+      mine = ap (λ (x : PortState). x.mine) took.state ∙ p.mine;
+      stop = ap (λ (x : PortState). x.stop) took.state ∙ p.stop;
+      refused = ap (λ (x : PortState). x.refused) took.state ∙ p.refused;
+      more = λ k h. sees_old u.seen w.seen l k took.sees (p.more k h);
+    }
+
+-- what is seen is the literal, or was seen before
+pub seen_case : (u w : PortState) (l k : Literal) → TookUnit u w l → has w.seen k ≡ true → (has u.seen k ≡ true) ⊎ (l ≡ k)
+seen_case u w l k took h =
+    elim (or_cases (has u.seen k) (same l k) (sym (took.sees k) ∙ h)) as (λ _. (has u.seen k ≡ true) ⊎ (l ≡ k)) [
+      | inl old ↦ inl old
+      | inr e ↦ inr (same-true l k e)
+    ]
+
+-- a unit that is true already
+pub stands_seen : (u w : PortState) (t : TrailData) (l : Literal) → Stands u t → TookUnit u w l → TrueWithin t.steps 0 l → Stands w t
+stands_seen u w t l p took within =
+    record {
+      vars = p.vars ∙ sym (ap (λ (x : PortState). x.vars) took.state);
+      reasoned = reasoned_more u w t.steps (ap (λ (x : PortState). x.held) took.state) (λ k h. sees_old u.seen w.seen l k took.sees h) p.reasoned;
+      seen = λ k h. elim (seen_case u w l k took h) as (λ _. TrueWithin t.steps 0 k) [
+        | inl old ↦ p.seen k old
+        | inr e ↦ subst (TrueWithin t.steps 0) e within
+      ];
+    }
+
+-- a unit that is made true at level 0
+pub stands_taken : (u w : PortState) (t : TrailData) (l : Literal) → Stands u t → TookUnit u w l → t.level ≡ 0 → Stands w (assigned t l None)
+stands_taken u w t l p took zero_level =
+    let x : Step = record { lit = l; level = t.level; reason = None } in
+    record {
+      vars = p.vars ∙ sym (ap (λ (y : PortState). y.vars) took.state);
+      reasoned = IsReasoned-seen (clause_at w) w.seen t l None
+          (reasoned_more u w t.steps (ap (λ (y : PortState). y.held) took.state) (λ k h. sees_old u.seen w.seen l k took.sees h) p.reasoned)
+          zero_level (sees_new u.seen w.seen l took.sees);
+      seen = λ k h. elim (seen_case u w l k took h) as (λ _. TrueWithin (t.steps ++ x ∷ []) 0 k) [
+        | inl old ↦ within_more t.steps (x ∷ []) 0 k (p.seen k old)
+        | inr e ↦ subst (TrueWithin (t.steps ++ x ∷ []) 0) e (within_last t.steps x 0 (omega arith))
+      ];
+    }
+
+-- a unit that is false at level 0
+pub opposed : (u w : PortState) (t : TrailData) (l : Literal) → Stands u t → TookUnit u w l → IsTrail t → t.level ≡ 0 → IsFalseOn t.steps l → rup (known w) [] ≡ true
+opposed u w t l p took shape zero_level bad =
+    false_at_zero w t.steps (length t.steps) (l ∷ [])
+    (reasoned_more u w t.steps (ap (λ (y : PortState). y.held) took.state) (λ k h. sees_old u.seen w.seen l k took.sees h) p.reasoned)
+    (omega arith) (λ q h. (let within = shape.within q h in omega arith))
+    (seen_is_known w l (sees_new u.seen w.seen l took.sees))
+    (λ k h. elim (or_cases (same k l) false h) as (λ _. FalseBefore t.steps (length t.steps) k) [
+      | inl e ↦ subst (FalseBefore t.steps (length t.steps)) (sym (same-true k l e)) bad
+      | inr none ↦ absurd (false≢true none)
+    ])
+
+-- a unit that has come is on the trail's variables
+pub took_on : (u w : PortState) (t : TrailData) (l : Literal) → Stands u t → TookUnit u w l → IsPort w → l.var ≤ t.vars
+took_on u w t l p took port =
+    let on = All_In (IsOn w.vars) w.seen l port.seen (has_In w.seen l (sees_new u.seen w.seen l took.sees)) in
+    omega (arith, on.high, p.vars, ap (λ (y : PortState). y.vars) took.state)
+
+-- the literal at a place is on the port's variables
+pub place_on : (s : PortState) (t : TrailData) (p : ℕ) → Stands s t → IsTrail t → p < length t.steps → IsOn s.vars (lit_at t.steps p)
+place_on s t p st shape h = record { low = shape.low p h; high = omega (arith, shape.high p h, st.vars) }
+
+-- what is seen after a unit's line is the unit, or was seen before
+pub seen_of : (s u : PortState) (l : Literal) (kind : Kind) (last : Option ℕ) (k : Literal) → WroteUnit s u l kind last → has u.seen k ≡ true → (has s.seen k ≡ true) ⊎ (l ≡ k)
+seen_of s u l kind last k w h =
+    elim (or_cases (has s.seen k) (same l k) (sym (w.sees k) ∙ h)) as (λ _. (has s.seen k ≡ true) ⊎ (l ≡ k)) [
+      | inl old ↦ inl old
+      | inr e ↦ inr (same-true l k e)
+    ]
+
+-- the line of a unit that is true at level 0
+pub stands_written : (s u : PortState) (t : TrailData) (place : ℕ) (l : Literal) → Stands s t → IsTrail t → t.level ≡ 0 → place < length t.steps → l ≡ lit_at t.steps place
+    → WroteUnit s u l UnitLine s.last → Stands u t
+stands_written s u t place l p shape zero_level h is w =
+    record {
+      vars = p.vars ∙ sym (ap (λ (x : PortState). x.vars) w.state);
+      reasoned = reasoned_more s u t.steps (ap (λ (x : PortState). x.held) w.state) (λ k had. sees_old s.seen u.seen l k w.sees had) p.reasoned;
+      seen = λ k had. elim (or_cases (has s.seen k) (same l k) (sym (w.sees k) ∙ had)) as (λ _. TrueWithin t.steps 0 k) [
+        | inl old ↦ p.seen k old
+        | inr e ↦ subst (TrueWithin t.steps 0) (same-true l k e)
+            (within_zero t l shape zero_level (record { place = place; before = h; true_there = sym is }))
+      ];
+    }

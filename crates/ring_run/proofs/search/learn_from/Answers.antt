@@ -1,0 +1,20 @@
+use Rattle.std.proofs.Common.{subst, sym, List}
+use Rattle.sat_words.specs.Literal.{Literal}
+use Rattle.ring_port.specs.PortState.{PortState, lits_at}
+use Rattle.ring_run.specs.Searching.{IsAsserting, GoesOn}
+use Rattle.ring_run.proofs.Asserting.{lemma_asserts}
+use Rattle.ring_run.proofs.search.learn_from.Goals as goal
+
+pub learn_lemma-requires-clause-lemma : goal.learn_lemma-requires-clause-lemma
+learn_lemma-requires-clause-lemma g c =
+    let s = g.P.Port.state c.args.port.now in
+    let found = c.in-Lemma.ensures.found in
+    let asserting : IsAsserting s c.args.ring.now.trail c.analyze.new.self.lits c.in-Lemma.back =
+    lemma_asserts s c.args.ring.now.trail (lits_at s c.args.conflict.address) c.analyze.new.self.lits c.in-Lemma.back c.in-Lemma.glue found.0 found.1 in
+    subst (λ (ls : List Literal). IsAsserting (g.P.Port.state c.analyze.new.port) c.args.ring.now.trail ls c.in-Lemma.back) (sym c.lits.ensures)
+    (subst (λ (x : PortState). IsAsserting x c.args.ring.now.trail c.analyze.new.self.lits c.in-Lemma.back) (sym c.analyze.ensures.same) asserting)
+
+pub returns-in-Empty-clause-found : goal.returns-in-Empty-clause-found
+returns-in-Empty-clause-found g c = λ start p.
+    c.refute.ensures.found start c.args.ring.now.learned c.args.limit c.requires.below
+    (subst (λ (x : PortState). GoesOn start x c.args.ring.now.learned) (sym c.analyze.ensures.same) p)

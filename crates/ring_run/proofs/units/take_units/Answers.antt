@@ -1,0 +1,45 @@
+use Rattle.std.proofs.Common.{◌≡◌, ◌∙◌, subst, sym, None}
+use Rattle.std.specs.Prelude.{MatchBool}
+use Rattle.ring_trail.specs.TrailData.{HasGrown, IsTrueOn, IsFalseOn}
+use Rattle.ring_run.specs.Searching.{Stands}
+use Rattle.ring_run.proofs.Scanning.{grown_by}
+use Rattle.ring_run.proofs.Standing.{took_on, within_zero, saw_more, stands_seen, stands_taken, opposed}
+use Rattle.ring_run.proofs.units.take_units.Goals as goal
+
+pub truth-requires : goal.truth-requires
+truth-requires g c = took_on (g.P.Port.state c.loop-lit.port) (g.P.Port.state c.next_unit.new.self) c.loop-lit.trail c.in-Some.lit c.loop-lit.invariant.stands c.in-Some.ensures.took c.next_unit.ensures.port
+
+pub loop-lit-preserved-in-Some-true : goal.loop-lit-preserved-in-Some-true
+loop-lit-preserved-in-Some-true g c =
+    let here : IsTrueOn c.loop-lit.trail.steps c.in-Some.lit = subst (λ b. MatchBool b (IsTrueOn c.loop-lit.trail.steps c.in-Some.lit) (IsFalseOn c.loop-lit.trail.steps c.in-Some.lit)) c.in-Some-true.field-0-test c.in-Some-true.ensures.truth in
+    let level : c.loop-lit.trail.level ≡ 0 = c.loop-lit.invariant.grown.level ∙ c.requires.level in
+    record {
+      saw = saw_more (g.P.Port.state c.args.port.now) (g.P.Port.state c.loop-lit.port) (g.P.Port.state c.next_unit.new.self) c.in-Some.lit c.loop-lit.invariant.saw c.in-Some.ensures.took c.next_unit.ensures.log;
+      grown = c.loop-lit.invariant.grown;
+      stands = stands_seen (g.P.Port.state c.loop-lit.port) (g.P.Port.state c.next_unit.new.self) c.loop-lit.trail c.in-Some.lit c.loop-lit.invariant.stands c.in-Some.ensures.took
+          (within_zero c.loop-lit.trail c.in-Some.lit c.loop-lit.invariant.trail level here);
+      trail = c.loop-lit.invariant.trail;
+      port = c.next_unit.ensures.port;
+    }
+
+pub returns-in-Some-false-clause-taken : goal.returns-in-Some-false-clause-taken
+returns-in-Some-false-clause-taken g c =
+    let here : IsFalseOn c.loop-lit.trail.steps c.in-Some.lit = subst (λ b. MatchBool b (IsTrueOn c.loop-lit.trail.steps c.in-Some.lit) (IsFalseOn c.loop-lit.trail.steps c.in-Some.lit)) c.in-Some-false.field-0-test c.in-Some-false.ensures.truth in
+    opposed (g.P.Port.state c.loop-lit.port) (g.P.Port.state c.next_unit.new.self) c.loop-lit.trail c.in-Some.lit c.loop-lit.invariant.stands c.in-Some.ensures.took
+    c.loop-lit.invariant.trail (c.loop-lit.invariant.grown.level ∙ c.requires.level) here
+
+pub assign-requires-clause-in_range : goal.assign-requires-clause-in_range
+assign-requires-clause-in_range g c = took_on (g.P.Port.state c.loop-lit.port) (g.P.Port.state c.next_unit.new.self) c.loop-lit.trail c.in-Some.lit c.loop-lit.invariant.stands c.in-Some.ensures.took c.next_unit.ensures.port
+
+pub loop-lit-preserved : goal.loop-lit-preserved
+loop-lit-preserved g c =
+    let s = g.P.Port.state c.loop-lit.port in
+    let w = g.P.Port.state c.next_unit.new.self in
+    record {
+      saw = saw_more (g.P.Port.state c.args.port.now) s w c.in-Some.lit c.loop-lit.invariant.saw c.in-Some.ensures.took c.next_unit.ensures.log;
+      grown = subst (HasGrown c.args.trail.now) (sym c.assign.ensures.step) (grown_by c.args.trail.now c.loop-lit.trail c.in-Some.lit None c.loop-lit.invariant.grown);
+      stands = subst (Stands w) (sym c.assign.ensures.step)
+          (stands_taken s w c.loop-lit.trail c.in-Some.lit c.loop-lit.invariant.stands c.in-Some.ensures.took (c.loop-lit.invariant.grown.level ∙ c.requires.level));
+      trail = c.assign.ensures.trail;
+      port = c.next_unit.ensures.port;
+    }

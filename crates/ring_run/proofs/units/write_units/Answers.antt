@@ -1,0 +1,27 @@
+use Rattle.std.proofs.Common.{◌∙◌, refl}
+use Rattle.ring_run.proofs.Progress.{wrote_none, wrote_by}
+use Rattle.ring_run.proofs.units.write_units.Goals as goal
+
+pub loop-place-init : goal.loop-place-init
+loop-place-init g c = record {
+  keeps = λ start n p. p;
+  stands = c.requires.stands;
+  held = refl;
+  wrote = wrote_none (g.P.Port.state c.args.port.now);
+  port = c.requires.port;
+}
+
+pub write_unit-requires-clause-refused : goal.write_unit-requires-clause-refused
+write_unit-requires-clause-refused g c = c.loop-place.invariant.wrote.refused ∙ c.requires.refused
+
+pub returns-in-Err-clause-over : goal.returns-in-Err-clause-over
+returns-in-Err-clause-over g c = λ start n p. c.in-Err.ensures.over start n (c.loop-place.invariant.keeps start n p)
+
+pub loop-place-preserved : goal.loop-place-preserved
+loop-place-preserved g c = record {
+  keeps = λ start n p. c.in-Ok.ensures.ok start n (c.loop-place.invariant.keeps start n p);
+  stands = c.in-Ok.ensures.stands;
+  held = c.in-Ok.ensures.held ∙ c.loop-place.invariant.held;
+  wrote = wrote_by (g.P.Port.state c.args.port.now) (g.P.Port.state c.loop-place.port) (g.P.Port.state c.write_unit.new.port) c.loop-place.invariant.wrote c.in-Ok.ensures.wrote;
+  port = c.in-Ok.ensures.port;
+}

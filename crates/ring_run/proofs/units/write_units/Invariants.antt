@@ -1,0 +1,13 @@
+use Rattle.std.proofs.Common.{◌≡◌}
+use Rattle.ring_port.specs.PortState.{IsPort}
+use Rattle.ring_run.specs.Searching.{Stands, OnlyWrote, KeepsOn}
+use Rattle.ring_run.proofs.units.write_units.Given as goal
+
+abbrev pub invariant-loop-place : goal.invariant-loop-place
+invariant-loop-place g l = record {
+  keeps : KeepsOn (g.P.Port.state l.fn.port) (g.P.Port.state l.port);
+  stands : Stands (g.P.Port.state l.port) l.trail;
+  held : (g.P.Port.state l.port).held ≡ (g.P.Port.state l.fn.port).held;
+  wrote : OnlyWrote (g.P.Port.state l.fn.port) (g.P.Port.state l.port);
+  port : IsPort (g.P.Port.state l.port);
+}

@@ -1,0 +1,118 @@
+-- What a ring has while it searches, and what its findings say.
+use Rattle.std.specs.Prelude.{◌≡◌, ◌≢◌, ◌⊎◌, ℕ, ◌+◌, ◌<◌, ◌≤◌, true, List, ◌∷◌, ◌++◌, take, length, All, Option, Some, None, Contains}
+use Rattle.std.specs.Option.{option_to_list}
+use Rattle.sat_words.specs.Literal.{Literal}
+use Rattle.sat_words.specs.declared.shared.Cref.{Cref}
+use Rattle.sat_words.specs.declared.shared.Stop.{Stop}
+use Rattle.sat_words.specs.Truth.{lit_true}
+use Rattle.ring_port.specs.PortState.{PortState, Holding, IsPort, lits_at}
+use Rattle.ring_port.specs.declared.stops.PortStop.TheVariants.{Memory}
+use Rattle.ring_trail.specs.declared.step.Step.{Step}
+use Rattle.ring_trail.specs.TrailData.{TrailData, IsTrail, IsTrueOn, IsFalseClause, HasNoPlace, cut_back, assigned}
+use Rattle.ring_run.specs.Ended.{IsModelOf}
+use Rattle.ring_run.specs.Scanned.{IsHeldBy, IsSettled}
+use Rattle.ring_run.specs.Searching.{Stands, OpeningSeen, Runs, GoesOn, IsOver, IsRefuted}
+use Rattle.ring_run.specs.declared.search.Ring.{Ring}
+use Rattle.ring_run.specs.declared.search.Finding.{Finding}
+use Rattle.ring_run.specs.declared.search.Finding.TheVariants.{Model, Refuted, Spent, Stopped, Refused}
+
+-- the trail and the clauses are of what the port holds; nothing has been refused, and all units of the opening are true
+pub record InSearch (s : PortState) (ring : Ring) : Type 0 where
+  pub stands : Stands s ring.trail
+  pub trail : IsTrail ring.trail
+  pub held : All (IsHeldBy s) ring.clauses.items
+  pub starts : (h : Holding) → Contains s.start h → Contains ring.clauses.items (record { address = h.address })
+  pub opening : OpeningSeen s
+  pub refused : s.refused ≡ None
+  pub stop : s.stop ≡ None
+  pub port : IsPort s
+
+-- the stop of another ring was seen
+pub record IsStoppedBy (start s : PortState) (count : ℕ) (x : Stop) : Type 0 where
+  pub runs : Runs start s count
+  pub stop : s.stop ≡ Some x
+  pub others : x.ring ≢ s.ring
+
+-- what each finding says of a run
+abbrev pub Finds : PortState → PortState → ℕ → ℕ → Finding → Type 0
+Finds start s count limit (Model a) = GoesOn start s count × IsModelOf s a × (count < limit)
+Finds start s count limit Refuted = IsRefuted start s count × (count < limit)
+Finds start s count limit Spent = GoesOn start s count × (count ≡ limit)
+Finds start s count limit (Stopped x) = IsStoppedBy start s count x × (count < limit)
+Finds start s count limit (Refused stop) = IsOver start s count stop × (count < limit)
+
+-- a run that went on before comes to this finding
+abbrev pub FoundBy : PortState → ℕ → PortState → ℕ → ℕ → Finding → Type 0
+FoundBy old before new count limit finding = (start : PortState) → GoesOn start old before → Finds start new count limit finding
+
+-- the log was ended, or that was refused
+abbrev pub IsRefutedBy : PortState → PortState → Finding → Type 0
+IsRefutedBy old new finding = (start : PortState) (count limit : ℕ) → count < limit → GoesOn start old count → Finds start new count limit finding
+
+-- the search goes on, below its limit
+pub record GoesOnBy (old : PortState) (before : Ring) (new : PortState) (ring : Ring) (limit : ℕ) : Type 0 where
+  pub search : InSearch new ring
+  pub below : ring.learned < limit
+  pub goes : (start : PortState) → GoesOn start old before.learned → GoesOn start new ring.learned
+
+-- what going back leaves of the trail
+pub record WentBack (t v : TrailData) (back : ℕ) : Type 0 where
+  pub is : v ≡ cut_back t back
+  pub prefix : v.steps ≡ take (length v.steps) t.steps
+  pub short : length v.steps ≤ length t.steps
+  pub shape : IsTrail v
+
+-- the trail can go back to this level, and the first literal has no value there
+pub record IsAttachable (t : TrailData) (lits : List Literal) (back : ℕ) : Type 0 where
+  pub shape : IsTrail t
+  pub level : back ≤ t.level
+  pub first : Literal
+  pub rest : List Literal
+  pub parts : lits ≡ first ∷ rest
+  pub on : first.var ≤ t.vars
+  pub free : (v : TrailData) → WentBack t v back → HasNoPlace v.steps first.var
+
+-- the trail went back, the first literal was made true, and the clause, where it has an address, is one of the ring's
+pub record Attached (old new : Ring) (lits : List Literal) (back : ℕ) (address : Option Cref) : Type 0 where
+  pub middle : TrailData
+  pub went : WentBack old.trail middle back
+  pub first : Literal
+  pub rest : List Literal
+  pub parts : lits ≡ first ∷ rest
+  pub trail : new.trail ≡ assigned middle first address
+  pub shape : IsTrail new.trail
+  pub clauses : new.clauses.items ≡ old.clauses.items ++ option_to_list address
+  pub learned : new.learned ≡ old.learned
+  pub written : new.written ≡ old.written
+
+-- a clause that is held is false
+pub record IsConflictOn (s : PortState) (steps : List Step) (c : Cref) : Type 0 where
+  pub held : IsHeldBy s c
+  pub all_false : IsFalseClause steps (lits_at s c.address)
+
+-- no clause of the ring asks for a literal
+abbrev pub IsSettledAll : PortState → List Step → List Cref → Type 0
+IsSettledAll s steps clauses = All (λ (c : Cref). IsSettled steps (lits_at s c.address)) clauses
+
+-- the assignment makes the literals of the trail true; or memory ran out
+abbrev pub IsAnswerOf : TrailData → Finding → Type 0
+IsAnswerOf t (Model a) = (length a ≡ t.vars) × ((l : Literal) → IsTrueOn t.steps l → lit_true a l ≡ true)
+IsAnswerOf t Refuted = ⊥
+IsAnswerOf t Spent = ⊥
+IsAnswerOf t (Stopped x) = ⊥
+IsAnswerOf t (Refused stop) = stop ≡ Memory
+
+-- one lemma more, or a longer trail
+abbrev pub IsFurther : Ring → Ring → Type 0
+IsFurther old new = (new.learned ≡ old.learned + 1) ⊎ ((new.learned ≡ old.learned) × (length old.trail.steps < length new.trail.steps))
+
+-- nothing is true yet, and the start clauses are held
+pub record IsBegun (s : PortState) (ring : Ring) : Type 0 where
+  pub stands : Stands s ring.trail
+  pub trail : IsTrail ring.trail
+  pub level : ring.trail.level ≡ 0
+  pub held : All (IsHeldBy s) ring.clauses.items
+  pub starts : (h : Holding) → Contains s.start h → Contains ring.clauses.items (record { address = h.address })
+  pub refused : s.refused ≡ None
+  pub stop : s.stop ≡ None
+  pub port : IsPort s

@@ -1,0 +1,5 @@
+pub mod Scanned
+pub mod Ended
+pub mod Searching
+pub mod Finding
+pub mod Ending

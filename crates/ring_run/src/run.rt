@@ -1,0 +1,121 @@
+// A run of a ring, from its job to its end.
+ghost use Rattle.std.specs.Prelude.{◌≡◌, ◌≤◌, ◌<◌, ◌^◌, ◌↔◌, All, IfOk, [], None, false};
+ghost use Rattle.sat_words.specs.declared.shared.TheConstants.{STOP_SAT, STOP_REFUTED, STOP_MEMORY};
+ghost use Rattle.ring_port.specs.PortState.{IsPort};
+ghost use Rattle.ring_trail.specs.TrailData.{IsTrail};
+ghost use Rattle.ring_run.specs.Ended.{IsJobOf, IsUntouched, Stays, IsOwn, IsCounted, Ends};
+ghost use Rattle.ring_run.specs.Searching.{IsNoted};
+ghost use Rattle.ring_run.specs.Ending.{Cause, kind_of, KeepsRuns, IsFinding, is_spent, has_spent};
+
+use crate::job::{Counts, End, Job};
+use crate::search::{Finding, Ring, search};
+use analyze::Analysis;
+use ring_port::{Port, PortStop, Set};
+use ring_trail::Trail;
+use sat_words::{STOP_MEMORY, STOP_PROOF, STOP_REFUTED, STOP_ROOM, STOP_SAT};
+use std::alloc::{AllocError, Global};
+
+/// A ring that has done nothing yet.
+fn make_ring(alloc: Global, job: &Job) -> Result<Ring, AllocError>
+    requires { job.now.vars ≤ 2 ^ 30 }
+    ensures trail { IfOk result (λ ring. ring.trail ≡ record { vars = job.now.vars; level = 0; steps = []; done = 0 }) }
+    ensures shape { IfOk result (λ ring. IsTrail ring.trail) }
+    ensures clauses { IfOk result (λ ring. ring.clauses.items ≡ job.now.start) }
+    ensures learned { IfOk result (λ ring. ring.learned ≡ 0) }
+{
+    Ok(Ring {
+        trail: Trail::new(alloc, job.vars)?,
+        clauses: Vec::from_slice(alloc, job.start.as_slice())?,
+        learned: 0,
+        written: 0,
+    })
+}
+
+/// The end, if its stop is the first; else that of the ring whose stop stands.
+fn claim<P: Port>(port: &mut P, kind: u8, end: End) -> End
+    requires kind { kind ≡ kind_of end }
+    requires low { STOP_SAT ≤ kind }
+    requires high { kind ≤ STOP_MEMORY }
+    requires cause { Cause (P.state port.old) end }
+    requires stop { (P.state port.old).stop ≡ None }
+    ensures ends { Ends (P.state port.new) result }
+    ensures runs { KeepsRuns (P.state port.old) (P.state port.new) }
+    ensures spent { is_spent result ≡ false }
+    ensures port { IsPort (P.state port.new) }
+{
+    match port.stop(kind) {
+        Set::Won => end,
+        Set::Lost(stop) => End::Stopped(stop),
+    }
+}
+
+/// The end of a ring whose port has refused a call.
+fn end_refused<P: Port>(port: &mut P, stop: PortStop) -> End
+    requires noted { IsNoted (P.state port.old) stop }
+    requires stop { (P.state port.old).stop ≡ None }
+    ensures ends { Ends (P.state port.new) result }
+    ensures runs { KeepsRuns (P.state port.old) (P.state port.new) }
+    ensures spent { is_spent result ≡ false }
+    ensures port { IsPort (P.state port.new) }
+{
+    match stop {
+        PortStop::Ended => claim(port, STOP_REFUTED, End::Refuted),
+        PortStop::Broken | PortStop::ProofFault => claim(port, STOP_PROOF, End::ProofFault),
+        PortStop::NoHole { need, largest } => {
+            claim(port, STOP_ROOM, End::NoHole { need, largest })
+        }
+        PortStop::Memory => claim(port, STOP_MEMORY, End::Memory),
+    }
+}
+
+/// The end that a finding comes to.
+fn end_of<P: Port>(port: &mut P, finding: Finding) -> End
+    requires finding { IsFinding (P.state port.old) finding }
+    requires port { IsPort (P.state port.old) }
+    ensures ends { Ends (P.state port.new) result }
+    ensures runs { KeepsRuns (P.state port.old) (P.state port.new) }
+    ensures spent { is_spent result ≡ has_spent finding }
+    ensures port { IsPort (P.state port.new) }
+{
+    match finding {
+        Finding::Model(model) => claim(port, STOP_SAT, End::Sat(model)),
+        Finding::Refuted => claim(port, STOP_REFUTED, End::Refuted),
+        Finding::Spent => End::Spent,
+        Finding::Stopped(stop) => End::Stopped(stop),
+        Finding::Refused(stop) => end_refused(port, stop),
+    }
+}
+
+/// Runs a ring until it has an answer, sees the stop of another ring, or has learned its limit of lemmas.
+///
+/// It asks that the ring holds each start clause and has done nothing yet. All ends but `Spent` and `Stopped` have set the
+/// ring's stop, and were the first to do so; a ring that comes later answers `Stopped` with the stop that stands. After
+/// an end nothing that was held is given up.
+pub fn run_ring<P: Port>(alloc: Global, port: &mut P, job: &Job) -> (End, Counts)
+    requires job { IsJobOf (P.state port.old) job.now }
+    requires untouched { IsUntouched (P.state port.old) }
+    requires port { IsPort (P.state port.old) }
+    ensures stays { Stays (P.state port.old) (P.state port.new) }
+    ensures wrote { All (IsOwn (P.state port.old).ring (P.state port.old).vars) (P.state port.new).mine }
+    ensures counts { IsCounted (P.state port.new) result.1 }
+    ensures within { result.1.learned ≤ job.now.conflicts }
+    ensures spent { (result.0 ≡ End.Spent) ↔ (result.1.learned ≡ job.now.conflicts) }
+    ensures ends { Ends (P.state port.new) result.0 }
+    ensures port { IsPort (P.state port.new) }
+{
+    let mut counts = Counts {
+        learned: 0,
+        exported: 0,
+        offered: 0,
+        restarts: 0,
+    };
+    let Ok(mut ring) = make_ring(alloc, job) else {
+        return (end_refused(port, PortStop::Memory), counts);
+    };
+    let Ok(mut analysis) = Analysis::new(alloc, job.vars) else {
+        return (end_refused(port, PortStop::Memory), counts);
+    };
+    let finding = search(alloc, port, &mut ring, &mut analysis, job.conflicts);
+    counts.learned = ring.learned;
+    (end_of(port, finding), counts)
+}

@@ -1,0 +1,288 @@
+// The steps of a ring's search: learning from a conflict, and deciding.
+ghost use Rattle.std.specs.Prelude.{◌≡◌, ◌<◌, ◌≤◌, ◌+◌, ◌^◌, [], true, length, None, Some, MatchOption, IfOk, IfSome, IsSome, OnOk, IfErr, ℕ, Contains, vec_len, vec_capacity};
+ghost use Rattle.sat_words.specs.Literal.{Literal};
+ghost use Rattle.sat_words.specs.Truth.{lit_true};
+ghost use Rattle.rup_model.specs.Rup.{rup};
+ghost use Rattle.ring_port.specs.PortState.{IsPort, known};
+ghost use Rattle.ring_port.specs.Port.{is_usable};
+ghost use Rattle.ring_trail.specs.TrailData.{IsTrail, IsTrueOn, value_of};
+ghost use Rattle.ring_run.specs.Searching.{IsAsserting, KeepsOn, EndsBy, GoesOn};
+ghost use Rattle.ring_run.specs.Finding.{InSearch, GoesOnBy, FoundBy, IsRefutedBy, IsAttachable, Attached, IsConflictOn, IsSettledAll, IsAnswerOf, IsFurther, IsBegun, Finds};
+
+use crate::scan::{Propagated, propagate};
+use crate::units::{Units, take_units, write_units};
+use analyze::{Analysis, Conclusion};
+use ring_port::{Port, PortStop};
+use ring_trail::Trail;
+use sat_words::{Assignment, Cref, Lit, Stop};
+use std::alloc::{AllocError, Global};
+
+/// What a ring has of its own.
+#[derive(Drop)]
+pub(crate) struct Ring {
+    /// What is true.
+    pub trail: Trail,
+    /// The start clauses, and behind them the lemmas.
+    pub clauses: Vec<Cref>,
+    /// How many lemmas were learned.
+    pub learned: u64,
+    /// How many of the first literals at level 0 have their lines.
+    pub written: u32,
+}
+
+/// What a search comes to.
+#[derive(Drop)]
+pub(crate) enum Finding {
+    /// This assignment makes each clause true.
+    Model(Assignment),
+    /// The empty clause was written.
+    Refuted,
+    /// The limit of lemmas was learned.
+    Spent,
+    /// A stop was seen.
+    Stopped(Stop),
+    /// A call of the port was refused, or memory ran out.
+    Refused(PortStop),
+}
+
+/// Writes the empty clause.
+pub(crate) fn refute<P: Port>(port: &mut P) -> Finding
+    requires usable { (P.state port.old).refused ≡ None }
+    requires rup { rup (known (P.state port.old)) [] ≡ true }
+    ensures found { IsRefutedBy (P.state port.old) (P.state port.new) result }
+    ensures port { IsPort (P.state port.new) }
+{
+    match port.empty() {
+        Ok(()) => Finding::Refuted,
+        Err(stop) => Finding::Refused(stop),
+    }
+}
+
+/// Goes back, and makes the first literal of a lemma true, which is the only one that isn't false there.
+fn attach(ring: &mut Ring, lits: &[Lit], back: u32, address: Option<Cref>)
+    requires room { vec_len ring.old.clauses < vec_capacity ring.old.clauses }
+    requires attachable { IsAttachable ring.old.trail lits.now back }
+    ensures attached { Attached ring.old ring.new lits.now back address }
+{
+    ring.trail.back_to(back);
+    ring.trail.assign(lits[0], address);
+    if let Some(c) = address {
+        ring.clauses.push_reserved(c);
+    }
+}
+
+/// Learns a lemma, and goes back to where it forces its first literal. None where the search goes on.
+fn learn_lemma<P: Port>(
+    port: &mut P,
+    ring: &mut Ring,
+    lits: &[Lit],
+    back: u32,
+    glue: u32,
+    limit: u64,
+) -> Option<Finding>
+    requires search { InSearch (P.state port.old) ring.old }
+    requires below { ring.old.learned < limit }
+    requires lemma { IsAsserting (P.state port.old) ring.old.trail lits.now back }
+    ensures found { MatchOption result (GoesOnBy (P.state port.old) ring.old (P.state port.new) ring.new limit) (FoundBy (P.state port.old) ring.old.learned (P.state port.new) ring.new.learned limit) }
+    ensures more { result ≡ None → ring.new.learned ≡ ring.old.learned + 1 }
+    ensures port { IsPort (P.state port.new) }
+{
+    if ring.clauses.reserve(1).is_err() {
+        return Some(Finding::Refused(PortStop::Memory));
+    }
+    let address = match port.learn(lits, glue) {
+        Ok(address) => address,
+        Err(stop) => return Some(Finding::Refused(stop)),
+    };
+    ring.learned += 1;
+    if ring.learned == limit {
+        return Some(Finding::Spent);
+    }
+    attach(ring, lits, back, address);
+    None
+}
+
+/// Learns from a conflict. None where the search goes on.
+fn learn_from<P: Port>(
+    port: &mut P,
+    ring: &mut Ring,
+    analysis: &mut Analysis,
+    conflict: Cref,
+    limit: u64,
+) -> Option<Finding>
+    requires search { InSearch (P.state port.old) ring.old }
+    requires below { ring.old.learned < limit }
+    requires vars { analysis.old.vars ≡ ring.old.trail.vars }
+    requires conflict { IsConflictOn (P.state port.old) ring.old.trail.steps conflict }
+    ensures found { MatchOption result (GoesOnBy (P.state port.old) ring.old (P.state port.new) ring.new limit) (FoundBy (P.state port.old) ring.old.learned (P.state port.new) ring.new.learned limit) }
+    ensures more { result ≡ None → ring.new.learned ≡ ring.old.learned + 1 }
+    ensures vars { analysis.new.vars ≡ analysis.old.vars }
+    ensures port { IsPort (P.state port.new) }
+{
+    match analysis.analyze(port, &ring.trail, conflict) {
+        Conclusion::Empty => Some(refute(port)),
+        Conclusion::Lemma { back, glue } => {
+            learn_lemma(port, ring, analysis.lits(), back, glue, limit)
+        }
+    }
+}
+
+/// The least variable without a value.
+fn least_open(trail: &Trail) -> Option<u32>
+    requires { IsTrail trail.now }
+    ensures low { IfSome result (λ var. 1 ≤ var) }
+    ensures high { IfSome result (λ var. var ≤ trail.now.vars) }
+    ensures open { IfSome result (λ var. value_of trail.now.steps var ≡ None) }
+    ensures all { result ≡ None → (var : ℕ) → 1 ≤ var → var ≤ trail.now.vars → IsSome (value_of trail.now.steps var) }
+{
+    for var in 1..trail.vars() + 1 {
+        if trail.value(var).is_none() {
+            return Some(var);
+        }
+    }
+    None
+}
+
+/// The assignment that makes the literals of the trail true.
+fn model_of(alloc: Global, trail: &Trail) -> Result<Assignment, AllocError>
+    requires { IsTrail trail.now }
+    ensures long { IfOk result (λ model. length model ≡ trail.now.vars) }
+    ensures all { IfOk result (λ model. (l : Literal) → IsTrueOn trail.now.steps l → lit_true model l ≡ true) }
+{
+    let mut model = Assignment::new(alloc, trail.vars())?;
+    for place in 0..trail.len() {
+        let lit = trail.lit_at(place);
+        model.set(lit.var(), !lit.is_neg());
+    }
+    Ok(model)
+}
+
+/// Where every variable has a value.
+fn answer(alloc: Global, trail: &Trail) -> Finding
+    requires { IsTrail trail.now }
+    ensures { IsAnswerOf trail.now result }
+{
+    match model_of(alloc, trail) {
+        Ok(model) => Finding::Model(model),
+        Err(_) => Finding::Refused(PortStop::Memory),
+    }
+}
+
+/// Decides the least variable without a value, false. Where there is none, each clause is true. None where the search
+/// goes on.
+fn decide_least<P: Port>(
+    alloc: Global,
+    port: &mut P,
+    ring: &mut Ring,
+    limit: u64,
+) -> Option<Finding>
+    requires search { InSearch (P.state port.old) ring.old }
+    requires below { ring.old.learned < limit }
+    requires settled { IsSettledAll (P.state port.old) ring.old.trail.steps ring.old.clauses.items }
+    ensures found { MatchOption result (GoesOnBy (P.state port.old) ring.old (P.state port.new) ring.new limit) (FoundBy (P.state port.old) ring.old.learned (P.state port.new) ring.new.learned limit) }
+    ensures learned { ring.new.learned ≡ ring.old.learned }
+    ensures longer { result ≡ None → length ring.old.trail.steps < length ring.new.trail.steps }
+    ensures port { IsPort (P.state port.new) }
+    ensures same { P.state port.new ≡ P.state port.old }
+{
+    match least_open(&ring.trail) {
+        Some(var) => {
+            ring.trail.decide(Lit::new(var, true));
+            None
+        }
+        None => Some(answer(alloc, &ring.trail)),
+    }
+}
+
+/// Writes the lines of literals that are true without a decision, as far as they have none yet.
+fn write_pending<P: Port>(port: &mut P, ring: &mut Ring) -> Result<(), PortStop>
+    requires search { InSearch (P.state port.old) ring.old }
+    ensures ok { OnOk result (KeepsOn (P.state port.old) (P.state port.new)) }
+    ensures over { IfErr result (EndsBy (P.state port.old) (P.state port.new)) }
+    ensures search { OnOk result (InSearch (P.state port.new) ring.new) }
+    ensures held { (P.state port.new).held ≡ (P.state port.old).held }
+    ensures trail { ring.new.trail ≡ ring.old.trail }
+    ensures clauses { ring.new.clauses ≡ ring.old.clauses }
+    ensures learned { ring.new.learned ≡ ring.old.learned }
+    ensures port { IsPort (P.state port.new) }
+{
+    if ring.trail.present() != 0 {
+        return Ok(());
+    }
+    match write_units(port, &ring.trail, ring.written) {
+        Ok(()) => {
+            ring.written = ring.trail.len();
+            Ok(())
+        }
+        Err(stop) => Err(stop),
+    }
+}
+
+/// Where nothing is left to propagate: looks for a stop, writes what is true for good, and decides. None where the
+/// search goes on.
+fn decide_next<P: Port>(alloc: Global, port: &mut P, ring: &mut Ring, limit: u64) -> Option<Finding>
+    requires search { InSearch (P.state port.old) ring.old }
+    requires below { ring.old.learned < limit }
+    requires settled { IsSettledAll (P.state port.old) ring.old.trail.steps ring.old.clauses.items }
+    ensures found { MatchOption result (GoesOnBy (P.state port.old) ring.old (P.state port.new) ring.new limit) (FoundBy (P.state port.old) ring.old.learned (P.state port.new) ring.new.learned limit) }
+    ensures learned { ring.new.learned ≡ ring.old.learned }
+    ensures longer { result ≡ None → length ring.old.trail.steps < length ring.new.trail.steps }
+    ensures port { IsPort (P.state port.new) }
+{
+    if let Some(stop) = port.stopped() {
+        return Some(Finding::Stopped(stop));
+    }
+    match write_pending(port, ring) {
+        Ok(()) => decide_least(alloc, port, ring, limit),
+        Err(stop) => Some(Finding::Refused(stop)),
+    }
+}
+
+/// Propagates, and then learns or decides. None where the search goes on.
+fn turn<P: Port>(
+    alloc: Global,
+    port: &mut P,
+    ring: &mut Ring,
+    analysis: &mut Analysis,
+    limit: u64,
+) -> Option<Finding>
+    requires search { InSearch (P.state port.old) ring.old }
+    requires below { ring.old.learned < limit }
+    requires vars { analysis.old.vars ≡ ring.old.trail.vars }
+    ensures found { MatchOption result (GoesOnBy (P.state port.old) ring.old (P.state port.new) ring.new limit) (FoundBy (P.state port.old) ring.old.learned (P.state port.new) ring.new.learned limit) }
+    ensures further { result ≡ None → IsFurther ring.old ring.new }
+    ensures vars { analysis.new.vars ≡ analysis.old.vars }
+    ensures port { IsPort (P.state port.new) }
+{
+    match propagate(port, &mut ring.trail, &ring.clauses) {
+        Propagated::Conflict(conflict) => learn_from(port, ring, analysis, conflict, limit),
+        Propagated::Quiet => decide_next(alloc, port, ring, limit),
+    }
+}
+
+/// Searches until there is a finding, as MiniSat does: propagates, and at a conflict learns from it and goes back, or
+/// else decides.
+pub(crate) fn search<P: Port>(
+    alloc: Global,
+    port: &mut P,
+    ring: &mut Ring,
+    analysis: &mut Analysis,
+    limit: u64,
+) -> Finding
+    requires begun { IsBegun (P.state port.old) ring.old }
+    requires goes { GoesOn (P.state port.old) (P.state port.old) ring.old.learned }
+    requires below { ring.old.learned < limit }
+    requires vars { analysis.old.vars ≡ ring.old.trail.vars }
+    ensures found { Finds (P.state port.old) (P.state port.new) ring.new.learned limit result }
+    ensures port { IsPort (P.state port.new) }
+{
+    match take_units(port, &mut ring.trail) {
+        Units::Opposed => return refute(port),
+        Units::True => {}
+    }
+    loop {
+        if let Some(finding) = turn(alloc, port, ring, analysis, limit) {
+            return finding;
+        }
+    }
+}

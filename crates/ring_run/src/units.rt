@@ -1,0 +1,87 @@
+// Units: those that come from outside, and those that propagation makes true for good.
+ghost use Rattle.std.specs.Prelude.{◌≡◌, ◌≤◌, ◌<◌, None, OnOk, IfErr, length};
+ghost use Rattle.ring_port.specs.PortState.{IsPort};
+ghost use Rattle.ring_trail.specs.TrailData.{HasGrown, IsTrail};
+ghost use Rattle.ring_run.specs.Searching.{OnlySaw, Stands, AreTaken, OnlyWrote, KeepsOn, EndsBy};
+
+use ring_port::{Port, PortStop};
+use ring_trail::Trail;
+
+/// Whether the units that came can all be true.
+#[derive(Clone, Copy)]
+pub(crate) enum Units {
+    /// One of them is false at level 0.
+    Opposed,
+    /// Each is true.
+    True,
+}
+
+/// Makes the units true that come from outside. The trail is at level 0.
+pub(crate) fn take_units<P: Port>(port: &mut P, trail: &mut Trail) -> Units
+    requires level { trail.old.level ≡ 0 }
+    requires trail { IsTrail trail.old }
+    requires port { IsPort (P.state port.old) }
+    requires stands { Stands (P.state port.old) trail.old }
+    ensures saw { OnlySaw (P.state port.old) (P.state port.new) }
+    ensures grown { HasGrown trail.old trail.new }
+    ensures taken { AreTaken (P.state port.new) trail.new result }
+    ensures trail { IsTrail trail.new }
+    ensures port { IsPort (P.state port.new) }
+{
+    while let Some(lit) = port.next_unit() {
+        match trail.truth(lit) {
+            Some(true) => {}
+            Some(false) => return Units::Opposed,
+            None => trail.assign(lit, None),
+        }
+    }
+    Units::True
+}
+
+/// Writes a unit's line for the literal at this place, if it has a reason: one without has its line already.
+fn write_unit<P: Port>(port: &mut P, trail: &Trail, place: u32) -> Result<(), PortStop>
+    requires level { trail.now.level ≡ 0 }
+    requires trail { IsTrail trail.now }
+    requires place { place < length trail.now.steps }
+    requires stands { Stands (P.state port.old) trail.now }
+    requires port { IsPort (P.state port.old) }
+    requires refused { (P.state port.old).refused ≡ None }
+    ensures ok { OnOk result (KeepsOn (P.state port.old) (P.state port.new)) }
+    ensures over { IfErr result (EndsBy (P.state port.old) (P.state port.new)) }
+    ensures stands { OnOk result (Stands (P.state port.new) trail.now) }
+    ensures wrote { OnOk result (OnlyWrote (P.state port.old) (P.state port.new)) }
+    ensures held { (P.state port.new).held ≡ (P.state port.old).held }
+    ensures port { IsPort (P.state port.new) }
+{
+    if trail.reason_at(place).is_none() {
+        return Ok(());
+    }
+    port.unit(trail.lit_at(place))
+}
+
+/// Writes a unit's line for each literal from the place `written` on that has a reason. The trail is at level 0.
+pub(crate) fn write_units<P: Port>(
+    port: &mut P,
+    trail: &Trail,
+    written: u32,
+) -> Result<(), PortStop>
+    requires level { trail.now.level ≡ 0 }
+    requires trail { IsTrail trail.now }
+    requires stands { Stands (P.state port.old) trail.now }
+    requires port { IsPort (P.state port.old) }
+    requires refused { (P.state port.old).refused ≡ None }
+    ensures ok { OnOk result (KeepsOn (P.state port.old) (P.state port.new)) }
+    ensures over { IfErr result (EndsBy (P.state port.old) (P.state port.new)) }
+    ensures stands { OnOk result (Stands (P.state port.new) trail.now) }
+    ensures wrote { OnOk result (OnlyWrote (P.state port.old) (P.state port.new)) }
+    ensures held { (P.state port.new).held ≡ (P.state port.old).held }
+    ensures port { IsPort (P.state port.new) }
+{
+    for place in written..trail.len() {
+        match write_unit(port, trail, place) {
+            Ok(()) => {}
+            Err(stop) => return Err(stop),
+        }
+    }
+    Ok(())
+}

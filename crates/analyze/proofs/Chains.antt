@@ -14,7 +14,7 @@ use Rattle.rup_model.proofs.Lists.{In_all, In_has}
 use Rattle.rup_model.proofs.Derivation.{conflicts_from_derivation}
 use Rattle.ring_port.specs.PortState.{Holding, PortState, held_at, lits_at, known}
 use Rattle.ring_port.proofs.Holdings.{held_is_known}
-use Rattle.analyze.specs.Levels.{clause_at}
+use Rattle.ring_port.specs.PortState.{clause_at}
 
 -- a clause that is looked up is held, with these literals
 pub clause_held : (s : PortState) (a : ℕ) (d : List Literal) → clause_at s a ≡ Some d → IsSome (held_at s a) × (lits_at s a ≡ d)

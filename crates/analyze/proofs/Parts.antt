@@ -17,7 +17,8 @@ use Rattle.ring_port.specs.PortState.{PortState, IsOn, known}
 use Rattle.ring_port.specs.Port.{IsClause}
 use Rattle.ring_trail.specs.TrailData.{TrailData, IsTrail, IsFalseClause, lit_at, level_at}
 use Rattle.ring_trail.specs.Reasoned.{IsReasoned}
-use Rattle.analyze.specs.Levels.{clause_at, greatest, level_of_lit, levels_of, clause_level}
+use Rattle.analyze.specs.Levels.{greatest, level_of_lit, levels_of, clause_level}
+use Rattle.ring_port.specs.PortState.{clause_at}
 use Rattle.analyze.specs.Marks.{marked, IsMarking, IsWalked, lower_of}
 use Rattle.analyze.specs.Lemma.{negated_at, IsWalkClause, IsFalseAbove, IsLemma}
 use Rattle.analyze.proofs.Chains.{has-map, rup-Refuted}

@@ -9,7 +9,8 @@ use Rattle.ring_port.proofs.Holdings.{seen_is_known}
 use Rattle.ring_trail.specs.declared.step.Step.{Step}
 use Rattle.ring_trail.specs.TrailData.{TrailData, IsTrail, FalseBefore, IsFalseClause, lit_at, level_at}
 use Rattle.ring_trail.specs.Reasoned.{IsForced, IsSeen, IsDecision, IsReasoned}
-use Rattle.analyze.specs.Levels.{clause_at, clause_level}
+use Rattle.analyze.specs.Levels.{clause_level}
+use Rattle.ring_port.specs.PortState.{clause_at}
 use Rattle.analyze.specs.Marks.{marked, IsWalked}
 use Rattle.analyze.proofs.Chains.{Refuted, Refuted-false, Refuted-forced, rup-Refuted, has-head, has-tail, has-one, clause_known}
 use Rattle.analyze.proofs.Walking.{makes_false}

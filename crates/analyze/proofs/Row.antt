@@ -9,7 +9,7 @@ use Rattle.ring_port.specs.PortState.{Holding, held_at}
 use Rattle.ring_trail.specs.declared.step.Step.{Step}
 use Rattle.ring_trail.specs.TrailData.{TrailData, FalseBefore, IsFalseClause, lit_at, level_at, decided, assigned}
 use Rattle.ring_trail.specs.Reasoned.{WasUnit, IsForced, IsSeen, IsDecision, IsReasoned}
-use Rattle.analyze.specs.Levels.{clause_at}
+use Rattle.ring_port.specs.PortState.{clause_at}
 use Rattle.analyze.specs.Row.{lit, first, second, third, row_state}
 
 -- what is held at an address

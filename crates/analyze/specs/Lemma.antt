@@ -7,7 +7,8 @@ use Rattle.ring_port.specs.PortState.{PortState, known}
 use Rattle.ring_port.specs.Port.{IsClause}
 use Rattle.ring_trail.specs.declared.step.Step.{Step}
 use Rattle.ring_trail.specs.TrailData.{TrailData, FalseBefore, lit_at}
-use Rattle.analyze.specs.Levels.{clause_at, greatest, level_of_lit, levels_of, clause_level, count_of_levels}
+use Rattle.analyze.specs.Levels.{greatest, level_of_lit, levels_of, clause_level, count_of_levels}
+use Rattle.ring_port.specs.PortState.{clause_at}
 use Rattle.analyze.specs.Walk.{IsFirstPoint, IsLeft}
 use Rattle.analyze.specs.declared.analysis.Conclusion.{Conclusion}
 use Rattle.analyze.specs.declared.analysis.Conclusion.TheVariants.{Empty, Lemma}

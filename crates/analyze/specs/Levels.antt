@@ -1,15 +1,9 @@
 -- Levels of the literals of a clause.
-use Rattle.std.specs.Prelude.{ℕ, max, List, [], ◌∷◌, map, Option, unwrap_or, nat_eq}
-use Rattle.std.specs.Option.{option_map}
+use Rattle.std.specs.Prelude.{ℕ, max, List, [], ◌∷◌, map, unwrap_or, nat_eq}
 use Rattle.std.specs.Set.{distinct_count}
 use Rattle.sat_words.specs.Literal.{Literal}
-use Rattle.ring_port.specs.PortState.{PortState, held_at}
 use Rattle.ring_trail.specs.declared.step.Step.{Step}
 use Rattle.ring_trail.specs.TrailData.{level_of}
-
--- the literals of the clause at an address, where one is held there
-abbrev pub clause_at : PortState → ℕ → Option (List Literal)
-clause_at s a = option_map (λ h. h.lits) (held_at s a)
 
 -- the greatest number of a list, 0 of none
 abbrev pub greatest : List ℕ → ℕ

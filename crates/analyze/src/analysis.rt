@@ -2,7 +2,7 @@ ghost use Rattle.std.specs.Prelude.{◌≡◌, ◌≤◌, ◌^◌, [], IfOk, IsS
 ghost use Rattle.ring_port.specs.PortState.{held_at, lits_at};
 ghost use Rattle.ring_trail.specs.TrailData.{IsFalseClause};
 ghost use Rattle.ring_trail.specs.Reasoned.{IsReasoned};
-ghost use Rattle.analyze.specs.Levels.{clause_at};
+ghost use Rattle.ring_port.specs.PortState.{clause_at};
 ghost use Rattle.analyze.specs.Lemma.{IsConclusion};
 
 use crate::lemma::{count_levels, greatest_level, write_lemma};

@@ -3,7 +3,8 @@ ghost use Rattle.std.specs.Vec.{vec_capacity};
 ghost use Rattle.ring_port.specs.PortState.{held_at, lits_at};
 ghost use Rattle.ring_trail.specs.TrailData.{IsTrail, IsFalseClause};
 ghost use Rattle.ring_trail.specs.Reasoned.{IsReasoned};
-ghost use Rattle.analyze.specs.Levels.{clause_at, clause_level};
+ghost use Rattle.analyze.specs.Levels.{clause_level};
+ghost use Rattle.ring_port.specs.PortState.{clause_at};
 ghost use Rattle.analyze.specs.Marks.{IsClear, IsMarking, IsWalked, lower_of};
 
 use crate::mark::mark_clause;

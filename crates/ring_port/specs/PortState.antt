@@ -1,7 +1,7 @@
 -- What is known of a ring's port: what the ring holds and has seen, what it wrote, and how its search began.
 use Rattle.std.specs.Prelude.{◌≡◌, ℕ, ◌<◌, ◌≤◌, ◌==◌, Bool, List, [], ◌∷◌, ◌++◌, map, length, find, All, Contains, Option, Some, IfSome}
 use Rattle.std.specs.List.{count_by}
-use Rattle.std.specs.Option.{option_map_or}
+use Rattle.std.specs.Option.{option_map, option_map_or}
 use Rattle.sat_words.specs.Literal.{Literal}
 use Rattle.sat_words.specs.declared.shared.Head.{Head}
 use Rattle.sat_words.specs.declared.shared.Stop.{Stop}
@@ -77,6 +77,10 @@ lits_in h = option_map_or (λ k. k.lits) h []
 -- the literals of the clause at an address; none where no clause is held there
 abbrev pub lits_at : PortState → ℕ → List Literal
 lits_at s a = lits_in (held_at s a)
+
+-- the literals of the clause at an address, where one is held there
+abbrev pub clause_at : PortState → ℕ → Option (List Literal)
+clause_at s a = option_map (λ h. h.lits) (held_at s a)
 
 -- how often the address is held
 abbrev pub times_held : PortState → ℕ → ℕ

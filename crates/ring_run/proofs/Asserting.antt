@@ -17,7 +17,8 @@ use Rattle.ring_trail.specs.Reasoned.{IsReasoned, ForcesAt}
 use Rattle.ring_trail.specs.Closed.{TrueWithin, IsClosedClause}
 use Rattle.ring_trail.proofs.Shape.{step_at_place}
 use Rattle.ring_trail.proofs.Causes.{IsReasoned-back, IsReasoned-held, IsReasoned-forced, IsReasoned-seen, IsClosed-back}
-use Rattle.analyze.specs.Levels.{clause_at, greatest, level_of_lit, levels_of, clause_level}
+use Rattle.analyze.specs.Levels.{greatest, level_of_lit, levels_of, clause_level}
+use Rattle.ring_port.specs.PortState.{clause_at}
 use Rattle.analyze.specs.Lemma.{IsLemma}
 use Rattle.ring_run.specs.Searching.{Stands, IsAsserting}
 use Rattle.ring_run.specs.Finding.{WentBack, IsAttachable}

@@ -15,7 +15,7 @@ use Rattle.ring_trail.specs.declared.step.Step.{Step}
 use Rattle.ring_trail.specs.TrailData.{TrailData, IsTrail, IsTrueOn, HasNoPlace, value_of, decided}
 use Rattle.ring_trail.specs.Closed.{TrueWithin}
 use Rattle.ring_trail.proofs.Causes.{IsReasoned-decided}
-use Rattle.analyze.specs.Levels.{clause_at}
+use Rattle.ring_port.specs.PortState.{clause_at}
 use Rattle.ring_run.specs.Ended.{IsModelOf}
 use Rattle.ring_run.specs.Scanned.{IsSettled}
 use Rattle.ring_run.specs.Searching.{Stands, GoesOn, IsOver}

@@ -16,7 +16,7 @@ use Rattle.ring_port.specs.PortState.{PortState, Holding, held_at, lits_at, know
 use Rattle.ring_port.proofs.Holdings.{held_is_known, seen_is_known}
 use Rattle.ring_trail.specs.declared.step.Step.{Step}
 use Rattle.ring_trail.specs.TrailData.{FalseBefore, lit_at, level_at}
-use Rattle.analyze.specs.Levels.{clause_at}
+use Rattle.ring_port.specs.PortState.{clause_at}
 use Rattle.ring_trail.specs.Reasoned.{IsReasoned}
 
 -- one more literal at the end

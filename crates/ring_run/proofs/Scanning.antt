@@ -13,7 +13,7 @@ use Rattle.rup_model.proofs.Lists.{has_In}
 use Rattle.ring_trail.specs.declared.step.Step.{Step}
 use Rattle.ring_trail.specs.TrailData.{TrailData, HasNoPlace, value_of, assigned}
 use Rattle.ring_trail.proofs.Values.{step_of-no_place}
-use Rattle.analyze.specs.Levels.{clause_at}
+use Rattle.ring_port.specs.PortState.{clause_at}
 use Rattle.ring_trail.specs.TrailData.{HasGrown}
 use Rattle.ring_run.specs.Scanned.{IsUnitOn}
 

@@ -22,7 +22,7 @@ use Rattle.ring_trail.specs.TrailData.{TrailData, IsTrail, IsTrueOn, IsFalseOn, 
 use Rattle.ring_trail.specs.Reasoned.{IsReasoned}
 use Rattle.ring_trail.specs.Closed.{TrueWithin}
 use Rattle.ring_trail.proofs.Causes.{IsReasoned-seen, IsReasoned-held}
-use Rattle.analyze.specs.Levels.{clause_at}
+use Rattle.ring_port.specs.PortState.{clause_at}
 use Rattle.ring_run.specs.Searching.{OnlySaw, Stands}
 use Rattle.ring_run.proofs.LevelZero.{false_at_zero}
 

@@ -13,7 +13,8 @@ use Rattle.ring_trail.specs.declared.step.Step.{Step}
 use Rattle.ring_trail.specs.TrailData.{TrailData, IsFalseOn}
 use Rattle.ring_trail.specs.Reasoned.{IsReasoned}
 use Rattle.ring_trail.specs.Closed.{TrueWithin}
-use Rattle.analyze.specs.Levels.{clause_at, level_of_lit}
+use Rattle.analyze.specs.Levels.{level_of_lit}
+use Rattle.ring_port.specs.PortState.{clause_at}
 use Rattle.ring_run.specs.Ended.{Stays, IsOwn}
 use Rattle.ring_run.specs.declared.units.Units.{Units}
 use Rattle.ring_run.specs.declared.units.Units.TheVariants.{Opposed, True}

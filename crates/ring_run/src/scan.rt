@@ -4,7 +4,7 @@ ghost use Rattle.sat_words.specs.declared.shared.Cref.{Cref as CrefOf};
 ghost use Rattle.ring_port.specs.PortState.{IsPort, held_at, lits_at};
 ghost use Rattle.ring_trail.specs.TrailData.{IsTrail, HasGrown};
 ghost use Rattle.ring_trail.specs.Reasoned.{IsReasoned};
-ghost use Rattle.analyze.specs.Levels.{clause_at};
+ghost use Rattle.ring_port.specs.PortState.{clause_at};
 ghost use Rattle.ring_run.specs.Scanned.{IsStatus, IsHeldBy, IsConflict, IsScanned};
 
 use ring_port::Port;

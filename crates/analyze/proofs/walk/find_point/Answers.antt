@@ -3,7 +3,7 @@ use Rattle.std.proofs.lemmas.List.{get_or_default}
 use Rattle.std.proofs.lemmas.Bool.{and_left, ne_eqb, and_right}
 use Rattle.ring_port.specs.PortState.{lits_at}
 use Rattle.ring_trail.specs.TrailData.{reason_at, level_at}
-use Rattle.analyze.specs.Levels.{clause_at}
+use Rattle.ring_port.specs.PortState.{clause_at}
 use Rattle.analyze.specs.Marks.{marked, is_open}
 use Rattle.analyze.proofs.Chains.{clause_held}
 use Rattle.analyze.proofs.Marking.{IsMarking-none}

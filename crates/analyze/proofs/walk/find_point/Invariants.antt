@@ -1,7 +1,7 @@
 use Rattle.std.proofs.Common.{◌≡◌}
 use Rattle.std.specs.Vec.{vec_capacity}
 use Rattle.ring_port.specs.PortState.{lits_at}
-use Rattle.analyze.specs.Levels.{clause_at}
+use Rattle.ring_port.specs.PortState.{clause_at}
 use Rattle.analyze.proofs.Walking.{Walking}
 use Rattle.analyze.proofs.walk.find_point.Given as goal
 

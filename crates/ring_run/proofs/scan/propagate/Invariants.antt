@@ -1,6 +1,6 @@
 use Rattle.std.proofs.Common.{◌≡◌, ◌-◌, length}
 use Rattle.ring_trail.specs.Reasoned.{IsReasoned}
-use Rattle.analyze.specs.Levels.{clause_at}
+use Rattle.ring_port.specs.PortState.{clause_at}
 use Rattle.ring_trail.specs.TrailData.{HasGrown}
 use Rattle.ring_run.proofs.scan.propagate.Given as goal
 

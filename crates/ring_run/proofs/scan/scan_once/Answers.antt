@@ -11,7 +11,7 @@ use Rattle.ring_trail.proofs.Causes.{IsReasoned-forced}
 use Rattle.ring_run.specs.Scanned.{IsHeldBy, IsUnitOn, IsSettled}
 use Rattle.ring_run.proofs.Scanning.{grown_not, grown_by, grown_longer, no_value, forced_on, held_some}
 use Rattle.ring_run.proofs.scan.scan_once.Goals as goal
-use Rattle.analyze.specs.Levels.{clause_at}
+use Rattle.ring_port.specs.PortState.{clause_at}
 use Rattle.ring_trail.specs.TrailData.{HasGrown}
 use Rattle.ring_run.proofs.scan.scan_once.Goals.{in-Settled, in-Unit}
 

@@ -4,7 +4,7 @@ use Rattle.ring_trail.specs.TrailData.{IsTrail}
 use Rattle.ring_trail.specs.Reasoned.{IsReasoned}
 use Rattle.ring_run.specs.Scanned.{IsScanned}
 use Rattle.ring_run.specs.declared.scan.Propagated.TheVariants.{Quiet}
-use Rattle.analyze.specs.Levels.{clause_at}
+use Rattle.ring_port.specs.PortState.{clause_at}
 use Rattle.ring_trail.specs.TrailData.{HasGrown}
 use Rattle.ring_run.proofs.scan.scan_once.Given as goal
 

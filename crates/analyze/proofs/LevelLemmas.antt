@@ -135,3 +135,18 @@ found_again f ps i found n at h e same y =
 -- a false literal's variable is one of the trail's
 pub false_var_in_range : (t : TrailData) (k : Literal) → IsTrail t → FalseBefore t.steps (length t.steps) k → k.var ≤ t.vars
 false_var_in_range t k shape f = (let h = shape.high f.place f.before in let e = ap (λ (l : Literal). l.var) f.false_there in omega arith)
+
+-- a bound of each literal's level bounds the clause's
+pub levels_within : (steps : List Step) (c : List Literal) (n : ℕ) → ((l : Literal) → has c l ≡ true → level_of_lit steps l ≤ n) → greatest (levels_of steps c) ≤ n
+levels_within steps [] n h = omega arith
+levels_within steps (l ∷ c) n h =
+    let a = h l (or_left (same l l) (has c l) (same-refl l)) in
+    let r = levels_within steps c n (λ k y. h k (or_right (same k l) (has c k) y)) in
+    omega arith
+
+pub levels_lower : (steps : List Step) (c : List Literal) (n : ℕ) → 0 < n → ((l : Literal) → has c l ≡ true → level_of_lit steps l < n) → greatest (levels_of steps c) < n
+levels_lower steps [] n pos h = omega arith
+levels_lower steps (l ∷ c) n pos h =
+    let a = h l (or_left (same l l) (has c l) (same-refl l)) in
+    let r = levels_lower steps c n pos (λ k y. h k (or_right (same k l) (has c k) y)) in
+    omega arith

@@ -1,8 +1,9 @@
-ghost use Rattle.std.specs.Prelude.{◌≡◌, ◌<◌, ℕ, true, List, Contains};
+ghost use Rattle.std.specs.Prelude.{◌≡◌, ◌<◌, ℕ, true, None, List, Contains, length};
 ghost use Rattle.sat_words.specs.Literal.{Literal};
 ghost use Rattle.sat_words.specs.Clause.{has};
 ghost use Rattle.ring_port.specs.PortState.{PortState};
-ghost use Rattle.ring_trail.specs.TrailData.{TrailData, IsTrail};
+ghost use Rattle.ring_trail.specs.TrailData.{TrailData, IsTrail, IsFalseClause, value_of, cut_back};
+ghost use Rattle.ring_trail.specs.Reasoned.{ForcesAt};
 ghost use Rattle.ring_trail.specs.Closed.{IsClosed};
 ghost use Rattle.analyze.specs.Levels.{clause_level};
 ghost use Rattle.analyze.specs.Lemma.{IsLemma};
@@ -13,4 +14,22 @@ pub fn contains_no_closed()
         → IsTrail t → 0 < clause_level t.steps conflict → IsLemma s t conflict lits back glue
         → ((k : ℕ) → k < clause_level t.steps conflict → IsClosed cs t.steps k) → Contains cs c
         → ((l : Literal) → has c l ≡ true → has lits l ≡ true) → ⊥ }
+{}
+
+/// Where the trail was closed at each level below the present one, a clause of those that is false is so at the present
+/// level.
+pub fn conflicts_are_at_the_present_level()
+    ensures { (t : TrailData) (cs : List (List Literal)) (c : List Literal) → IsTrail t
+        → ((k : ℕ) → k < t.level → IsClosed cs t.steps k) → Contains cs c → IsFalseClause t.steps c → clause_level t.steps c ≡ t.level }
+{}
+
+/// Going back to the level that came with a lemma takes the value of its first literal away and leaves its others false:
+/// the lemma forces the first one then.
+pub fn a_lemma_forces_its_first_literal()
+    ensures lower { (s : PortState) (t : TrailData) (conflict lits : List Literal) (back glue : ℕ) → IsTrail t → 0 < clause_level t.steps conflict
+        → IsLemma s t conflict lits back glue → back < clause_level t.steps conflict }
+    ensures open_first { (s : PortState) (t : TrailData) (conflict lits : List Literal) (back glue : ℕ) → IsTrail t → 0 < clause_level t.steps conflict
+        → (i : IsLemma s t conflict lits back glue) → value_of (cut_back t back).steps i.first.var ≡ None }
+    ensures forces { (s : PortState) (t : TrailData) (conflict lits : List Literal) (back glue : ℕ) → IsTrail t → 0 < clause_level t.steps conflict
+        → (i : IsLemma s t conflict lits back glue) → ForcesAt (cut_back t back).steps (length (cut_back t back).steps) i.first lits }
 {}

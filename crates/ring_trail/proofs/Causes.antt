@@ -241,3 +241,20 @@ IsClosed-more cs t [] k high closed = subst (λ (xs : List Step). IsClosed cs xs
 IsClosed-more cs t (x ∷ more) k high closed =
     subst (λ (xs : List Step). IsClosed cs xs k) (append_assoc t (x ∷ []) more)
     (IsClosed-more cs (t ++ x ∷ []) more k (λ p d h. high (suc p) d (omega arith)) (IsClosed-grown cs t x k (high 0 x (omega arith)) closed))
+
+-- what going back keeps, by place
+pub back-kept : (t : TrailData) (k p : ℕ) → IsTrail t → p < length t.steps → level_at t.steps p ≤ k → (p < length (cut_back t k).steps) × (step_at (cut_back t k).steps p ≡ step_at t.steps p)
+back-kept t k p shape lt le =
+    let f = firsts t.steps k shape.rising in
+    let before : p < f.0 = (elim (cases_lt p f.0) as (λ _. p < f.0) [ inl h ↦ h | inr g ↦ absurd (let a = f.3 p g lt in omega arith) ]) in
+    subst (λ (s : List Step). (p < length s) × (step_at s p ≡ step_at t.steps p)) (sym (up_to-take k t.steps f.0 (λ q a b. f.2 q a) (λ q a b. f.3 q a b)))
+    (omega (arith, length-take f.0 t.steps), get_or-take f.0 t.steps p no_step before)
+
+pub back-only : (t : TrailData) (k p : ℕ) → IsTrail t → p < length (cut_back t k).steps → (p < length t.steps) × (level_at t.steps p ≤ k) × (step_at (cut_back t k).steps p ≡ step_at t.steps p)
+back-only t k p shape lt =
+    let f = firsts t.steps k shape.rising in
+    let e = up_to-take k t.steps f.0 (λ q a b. f.2 q a) (λ q a b. f.3 q a b) in
+    let n = ap (λ (s : List Step). length s) e in
+    let m = length-take f.0 t.steps in
+    let before : p < f.0 = omega arith in
+    (omega arith, f.2 p before, ap (λ (s : List Step). step_at s p) e ∙ get_or-take f.0 t.steps p no_step before)

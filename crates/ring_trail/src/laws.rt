@@ -4,7 +4,7 @@ ghost use Rattle.sat_words.specs.Literal.{Literal};
 ghost use Rattle.sat_words.specs.Clause.{has};
 ghost use Rattle.sat_words.specs.declared.shared.Cref.{Cref};
 ghost use Rattle.ring_trail.specs.declared.step.Step.{Step};
-ghost use Rattle.ring_trail.specs.TrailData.{TrailData, IsTrail, HasGrown, IsPlaceOf, HasNoPlace, step_at, lit_at, value_of, level_of, reason_of, step_of, decided, assigned, cut_back};
+ghost use Rattle.ring_trail.specs.TrailData.{TrailData, IsTrail, HasGrown, IsPlaceOf, HasNoPlace, step_at, lit_at, level_at, value_of, level_of, reason_of, step_of, decided, assigned, cut_back};
 ghost use Rattle.ring_trail.specs.Reasoned.{Held, IsReasoned, KeepsReasons, ForcesAt};
 ghost use Rattle.ring_trail.specs.Closed.{IsClosed};
 
@@ -36,6 +36,14 @@ pub fn a_seen_unit_keeps_reasons()
 /// Going back keeps the reasons.
 pub fn going_back_keeps_reasons()
     ensures { (held : Held) (seen : List Literal) (t : TrailData) (k : ℕ) → IsTrail t → IsReasoned held seen t.steps → IsReasoned held seen (cut_back t k).steps }
+{}
+
+/// Going back keeps exactly the steps at levels up to the one gone back to, each at its place.
+pub fn going_back_keeps_places()
+    ensures kept { (t : TrailData) (k p : ℕ) → IsTrail t → p < length t.steps → level_at t.steps p ≤ k
+        → (p < length (cut_back t k).steps) × (step_at (cut_back t k).steps p ≡ step_at t.steps p) }
+    ensures only { (t : TrailData) (k p : ℕ) → IsTrail t → p < length (cut_back t k).steps
+        → (p < length t.steps) × (level_at t.steps p ≤ k) × (step_at (cut_back t k).steps p ≡ step_at t.steps p) }
 {}
 
 /// What is held and seen may change: the reasons stay where each is held as before, or is that of a literal at level 0

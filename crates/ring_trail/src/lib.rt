@@ -12,7 +12,8 @@ mod trail;
 pub use laws::{
     a_decision_keeps_closed_below, a_decision_keeps_reasons, a_forced_literal_keeps_reasons,
     a_seen_unit_keeps_reasons, an_assignment_keeps_closed_below, going_back_keeps_closed,
-    going_back_keeps_reasons, growth_is_by_assignments, more_held_keeps_reasons, places_are_values,
+    going_back_keeps_places, going_back_keeps_reasons, growth_is_by_assignments,
+    more_held_keeps_reasons, places_are_values,
 };
 pub use step::Step;
 pub use trail::Trail;

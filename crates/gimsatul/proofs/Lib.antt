@@ -9,3 +9,7 @@ pub mod Ledgers
 pub mod Conclusions
 pub mod Steps
 mod AnswerText
+pub mod PlainNumbers
+pub mod PlainTokens
+pub mod PlainClauses
+pub mod PlainReads

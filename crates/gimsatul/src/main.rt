@@ -9,6 +9,7 @@ ghost use Rattle.gimsatul.specs.Stopped.{stop_status};
 
 mod answer;
 mod decide;
+mod laws;
 mod message;
 mod report;
 mod search;
@@ -19,6 +20,7 @@ mod words;
 
 pub use answer::answer_text_to;
 use io_edge::{StdFiles, StdSink, StdSource, write_all_of};
+pub use laws::the_plain_form_is_read;
 pub use report::{End, Numbers, Report, Tally, Verdict};
 use std::process::ExitCode;
 use std::{env, io};

@@ -1,4 +1,4 @@
-use crate::{put_line, text_determines_lines};
+use crate::{LineOut, LineStop, SinkLines, put_line, text_determines_lines};
 use io_edge::{MemSink, WriteStop};
 use sat_words::{Line, Lit, Lits};
 use std::alloc::{AllocError, Global};
@@ -78,5 +78,20 @@ fn a_long_line_in_pieces(rt: HostRuntime) -> Result<(), Fail> {
         assert_eq!(rt; sink.bytes().len(), taken, "at {failing}");
         assert!(rt; text.starts_with(sink.bytes()), "at {failing}");
     }
+    Ok(())
+}
+
+#[test]
+fn lines_put_one_by_one(rt: HostRuntime) -> Result<(), Fail> {
+    let alloc = rt.alloc();
+    let three = Line::Add(Lits::from_slice(alloc, &[Lit::new(3, false)])?);
+    let gone = Line::Del(Lits::from_slice(alloc, &[Lit::new(3, false)])?);
+    let mut lines = SinkLines::new(7, MemSink::new(alloc, 64, &[4])?);
+    assert!(rt; lines.put(&three) == Ok(8));
+    assert!(rt; lines.put(&gone) == Ok(0));
+    assert!(rt; lines.put(&three) == Ok(9));
+    assert!(rt; lines.put(&gone) == Err(LineStop::ProofFault));
+    let sink = lines.into_sink();
+    assert!(rt; sink.bytes() == b"3 0\nd 3 0\n3 0\n".as_slice());
     Ok(())
 }

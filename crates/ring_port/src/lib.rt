@@ -15,3 +15,6 @@ pub use laws::{
 pub use plain_port::PlainPort;
 pub use port::Port;
 pub use stops::{PortStop, Set};
+
+#[cfg(test)]
+mod tests;

@@ -1,13 +1,12 @@
 -- What the tests show of their calls.
-use Rattle.std.proofs.Common.{◌≡◌, ℕ, zero, suc, ◌+◌, ◌<◌, ◌||◌, Bool, true, false, List, [], ◌∷◌, ◌++◌, length, map, refl, sym, ap, subst, ◌∙◌, arith}
+use Rattle.std.proofs.Common.{◌≡◌, zero, suc, true, List, [], ◌∷◌, ◌++◌, length, refl, ap, ◌∙◌, arith}
 use Rattle.std.specs.List.{All, list_any, IsDistinct}
 use Rattle.std.proofs.lemmas.Bool.{or_left, or_right, and_from}
-use Rattle.sat_words.specs.Literal.{Literal, opposite, same}
+use Rattle.sat_words.specs.Literal.{Literal, opposite}
 use Rattle.sat_words.specs.Clause.{has, same_set}
 use Rattle.sat_words.proofs.Members.{same-refl}
 use Rattle.rup_model.specs.Rup.{rup}
-use Rattle.rup_model.specs.Journal.{book, is_told}
-use Rattle.rup_model.specs.Opening.{IsOpening}
+use Rattle.rup_model.specs.Journal.{is_told}
 use Rattle.rup_model.proofs.Covers.{same_self}
 use Rattle.rup_model.proofs.Lists.{has_In}
 use Rattle.rup_model.proofs.Derivation.{conflicts_from_derivation}

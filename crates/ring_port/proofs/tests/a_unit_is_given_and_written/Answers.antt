@@ -1,5 +1,5 @@
-use Rattle.std.proofs.Common.{◌≡◌, [], ◌∷◌, ◌++◌, ap, sym, subst, ◌∙◌}
-use Rattle.ring_port.proofs.Examples.{opens_unit, given_seen, seen_follows, seen_on}
+use Rattle.std.proofs.Common.{[], ◌∷◌, ◌++◌, ap, ◌∙◌}
+use Rattle.ring_port.proofs.Examples.{opens_unit, given_seen, seen_follows}
 use Rattle.ring_port.proofs.tests.a_unit_is_given_and_written.Goals as goal
 
 pub new-requires-2-clause-opening : goal.new-requires-2-clause-opening

@@ -25,6 +25,7 @@ use Rattle.ring_run.specs.declared.search.Finding.TheVariants.{Model, Refuted, S
 pub runs_begin : (s : PortState) → IsUntouched s → IsPort s → Runs s s 0
 runs_begin s p port = record {
   stays = record { start = refl; opening = refl; vars = refl; ring = refl; rings = refl; waiting = refl; shared = refl; polled = refl; puts = refl; taken = refl; log = λ o h. h };
+  kept = λ a h. refl;
   wrote = subst (All (IsOwn s.ring s.vars)) (sym p.mine) (λ k d h. absurd (omega arith));
   counted = sym (ap (λ (J : List Entry). length (learned s.ring J)) p.mine);
   port = port;

@@ -1,6 +1,6 @@
 -- What each call of the port leaves of a run.
 use Rattle.std.proofs.Common.{◌≡◌, ◌∙◌, ℕ, ◌+◌, ◌≤◌, Bool, true, false, List, [], ◌∷◌, ◌++◌, length, map, sym, subst, ap, arith, Some, None, IsSome, refl, length-append, slice_index_or, cond, nat_eq, eq-eqb}
-use Rattle.std.specs.Prelude.{All, ◌&&◌}
+use Rattle.std.specs.Prelude.{All, ◌&&◌, ◌≢◌, MatchOption, IfErr, Result, Ok, Err}
 use Rattle.std.specs.List.{list_any}
 use Rattle.std.specs.declared.option.Option.{Option}
 use Rattle.std.proofs.lemmas.List.Elements.{All-append, All-cons, All-nil}
@@ -8,6 +8,7 @@ use Rattle.std.proofs.lemmas.Bool.{or_left}
 use Rattle.sat_words.specs.Literal.{Literal, same}
 use Rattle.sat_words.specs.Clause.{has, is_empty}
 use Rattle.sat_words.specs.declared.shared.Cref.{Cref}
+use Rattle.sat_words.specs.declared.shared.Stop.{Stop}
 use Rattle.rup_model.specs.declared.journal.Kind.{Kind}
 use Rattle.rup_model.specs.declared.journal.Kind.TheVariants.{Learn, Derive, UnitLine}
 use Rattle.rup_model.specs.declared.journal.Entry.{Entry}
@@ -17,12 +18,13 @@ use Rattle.drat_text.specs.LineState.{LineState}
 use Rattle.rup_model.specs.Journal.{added, learned, is_learn}
 use Rattle.rup_model.proofs.Additions.{added-append, learned-append}
 use Rattle.ring_port.specs.PortState.{PortState, Holding, IsPort, IsOn, HoldsStart, held_at}
-use Rattle.ring_port.specs.Port.{WroteUnit, LearnedUnit, LearnedClause, EndedLog, Refused, KeepsHeld, entry_of, after_refusal, IsClause}
+use Rattle.ring_port.specs.Port.{WroteUnit, UnitWritten, LearnedUnit, LearnedClause, EndedLog, Refused, HasReason, KeepsHeld, Looked, entry_of, after_refusal, IsClause}
 use Rattle.ring_port.specs.Log.{KeepsLog}
 use Rattle.ring_port.specs.declared.stops.PortStop.{PortStop}
 use Rattle.ring_port.specs.declared.stops.PortStop.TheVariants.{Ended, Broken, ProofFault, NoHole, Memory}
 use Rattle.ring_run.specs.Ended.{Stays, IsOwn}
-use Rattle.ring_run.specs.Searching.{Runs, GoesOn, OnlySaw, OnlyWrote, IsOver, IsRefuted, IsNoted}
+use Rattle.ring_run.specs.Searching.{Runs, GoesOn, EndsBy, OnlySaw, OnlyWrote, IsOver, IsRefuted, IsNoted}
+use Rattle.ring_run.specs.Finding.{IsStoppedBy}
 
 pub stays_by : (s u w : PortState) → Stays s u → Stays u w → Stays s w
 stays_by s u w p q = record {
@@ -39,11 +41,19 @@ stays_by s u w p q = record {
   log = λ o h. q.log o (p.log o h);
 }
 
+pub held_same : (s u : PortState) (a : ℕ) → u.held ≡ s.held → held_at u a ≡ held_at s a
+unfolding held_at
+held_same s u a e = ap (λ (hs : List Holding). held_at (record s { held = hs }) a) e
+
+kept_by : (s u w : PortState) → KeepsHeld s u → KeepsHeld u w → KeepsHeld s w
+kept_by s u w p q = λ a h. q a (subst (λ (o : Option Holding). IsSome o) (sym (p a h)) h) ∙ p a h
+
 -- a run goes on by an entry of its ring
-pub runs_adds : (start s u : PortState) (n m : ℕ) (e : Entry) → Runs start s n → Stays s u → u.mine ≡ s.mine ++ e ∷ [] → IsOwn start.ring start.vars e
+pub runs_adds : (start s u : PortState) (n m : ℕ) (e : Entry) → Runs start s n → Stays s u → KeepsHeld s u → u.mine ≡ s.mine ++ e ∷ [] → IsOwn start.ring start.vars e
     → m ≡ n + length (learned s.ring (e ∷ [])) → IsPort u → Runs start u m
-runs_adds start s u n m e p stays is own count port = record {
+runs_adds start s u n m e p stays kept is own count port = record {
   stays = stays_by start s u p.stays stays;
+  kept = kept_by start s u p.kept kept;
   wrote = subst (All (IsOwn start.ring start.vars)) (sym is)
       (All-append (IsOwn start.ring start.vars) s.mine (e ∷ []) p.wrote (All-cons (IsOwn start.ring start.vars) e [] own (All-nil (IsOwn start.ring start.vars))));
   counted =
@@ -56,9 +66,10 @@ runs_adds start s u n m e p stays is own count port = record {
 }
 
 -- and by a call that writes nothing
-pub runs_same : (start s u : PortState) (n : ℕ) → Runs start s n → Stays s u → u.mine ≡ s.mine → IsPort u → Runs start u n
-runs_same start s u n p stays is port = record {
+pub runs_same : (start s u : PortState) (n : ℕ) → Runs start s n → Stays s u → u.held ≡ s.held → u.mine ≡ s.mine → IsPort u → Runs start u n
+runs_same start s u n p stays held is port = record {
   stays = stays_by start s u p.stays stays;
+  kept = kept_by start s u p.kept (λ a h. held_same s u a held);
   wrote = subst (All (IsOwn start.ring start.vars)) (sym is) p.wrote;
   counted = p.counted ∙ ap (λ (J : List Entry). length (learned s.ring J)) (sym is) ∙ ap (λ (r : ℕ). length (learned r u.mine)) (sym stays.ring);
   port = port;
@@ -67,10 +78,6 @@ runs_same start s u n p stays is port = record {
 pub starts_kept : (s u : PortState) → u.start ≡ s.start → KeepsHeld s u → HoldsStart s → HoldsStart u
 starts_kept s u same kept held = subst (All (λ h. held_at u h.address ≡ Some h)) (sym same)
     (λ k d lt. (let is = held k d lt in kept (slice_index_or s.start k d).address (subst (λ (o : Option Holding). IsSome o) (sym is) refl) ∙ is))
-
-pub held_same : (s u : PortState) (a : ℕ) → u.held ≡ s.held → held_at u a ≡ held_at s a
-unfolding held_at
-held_same s u a e = ap (λ (hs : List Holding). held_at (record s { held = hs }) a) e
 
 pub going_more : (s u : PortState) (e : Entry) → u.mine ≡ s.mine ++ e ∷ [] → list_any is_empty (added s.mine) ≡ false → list_any is_empty (added (e ∷ [])) ≡ false
     → list_any is_empty (added u.mine) ≡ false
@@ -127,7 +134,7 @@ unit_goes_on start s u n l p on w log port =
     let is : u.mine ≡ s.mine ++ e ∷ [] = ap (λ (x : PortState). x.mine) w.state in
     let held : u.held ≡ s.held = ap (λ (x : PortState). x.held) w.state in
     record {
-      runs = runs_adds start s u n n e p.runs stays is
+      runs = runs_adds start s u n n e p.runs stays (λ a h. held_same s u a held) is
           (p.runs.stays.ring, subst (λ (v : ℕ). All (IsOn v) (l ∷ [])) p.runs.stays.vars (All-cons (IsOn s.vars) l [] on (All-nil (IsOn s.vars))), refl)
           (no_lemma s.ring w.number l) port;
       going = going_more s u e is p.going refl;
@@ -179,12 +186,12 @@ same_refused s output ProofFault = but_noted s (Some ProofFault) s.ended output
 same_refused s output (NoHole need largest) = but_noted s (Some (NoHole need largest)) s.ended s.output
 same_refused s output Memory = but_noted s s.refused s.ended s.output
 
-noted_refused : (s : PortState) (output : Option LineState) (stop : PortStop) → IsNoted (after_refusal s output stop) stop
-noted_refused s output Ended = refl
-noted_refused s output Broken = refl
-noted_refused s output ProofFault = refl
-noted_refused s output (NoHole need largest) = refl
-noted_refused s output Memory = tt
+noted_refused : (s : PortState) (output : Option LineState) (stop : PortStop) → HasReason s stop → IsNoted (after_refusal s output stop) stop
+noted_refused s output Ended reason = refl
+noted_refused s output Broken reason = refl
+noted_refused s output ProofFault reason = refl
+noted_refused s output (NoHole need largest) reason = (refl, reason.1)
+noted_refused s output Memory reason = tt
 
 stays_same : (s u : PortState) → Same s u → KeepsLog s u → Stays s u
 stays_same s u p log = record {
@@ -205,10 +212,14 @@ pub refused_over : (start s u : PortState) (n : ℕ) (stop : PortStop) → GoesO
 refused_over start s u n stop p r log port =
     let same : Same s u = subst (Same s) (sym r.state) (same_refused s u.output stop) in
     record {
-      runs = runs_same start s u n p.runs (stays_same s u same log) same.mine port;
+      runs = runs_same start s u n p.runs (stays_same s u same log) same.held same.mine port;
       stop_is = same.stop ∙ p.stop;
-      noted = subst (λ (x : PortState). IsNoted x stop) (sym r.state) (noted_refused s u.output stop);
+      noted = subst (λ (x : PortState). IsNoted x stop) (sym r.state) (noted_refused s u.output stop r.reason);
     }
+
+pub unit_over : (s u : PortState) (l : Literal) (r : Result (Unit {0}) PortStop) → UnitWritten s u l r → KeepsLog s u → IsPort u → IfErr r (EndsBy s u)
+unit_over s u l (Ok done) w log port = tt
+unit_over s u l (Err stop) w log port = λ start n p. refused_over start s u n stop p w log port
 
 pub refused_held : (s u : PortState) (stop : PortStop) → Refused s u stop → u.held ≡ s.held
 refused_held s u stop r = (subst (Same s) (sym r.state) (same_refused s u.output stop)).held
@@ -239,7 +250,7 @@ learned_goes_on : (start s u : PortState) (n number : ℕ) (lits : List Literal)
 learned_goes_on start s u n number lits p stays clause some is stop refused kept port =
     let e : Entry = entry_of s number lits Learn in
     record {
-      runs = runs_adds start s u n (n + 1) e p.runs stays is
+      runs = runs_adds start s u n (n + 1) e p.runs stays kept is
           (p.runs.stays.ring, subst (λ (v : ℕ). All (IsOn v) lits) p.runs.stays.vars clause.on, some)
           (omega (arith, one_learned s.ring (record { ring = s.ring; number = number; lits = lits; kind = Learn }) refl refl)) port;
       going = going_more s u e is p.going (some_literal lits some);
@@ -280,7 +291,7 @@ empty_refutes start s u n p w log port =
       log = log;
     } in
     record {
-      runs = runs_adds start s u n n e p.runs stays (ap (λ (x : PortState). x.mine) w.state)
+      runs = runs_adds start s u n n e p.runs stays (λ a h. held_same s u a (ap (λ (x : PortState). x.held) w.state)) (ap (λ (x : PortState). x.mine) w.state)
           (p.runs.stays.ring, All-nil (IsOn start.vars), refl)
           (omega (arith, not_learned s.ring (record { ring = s.ring; number = w.number; lits = []; kind = Derive }) refl)) port;
       stop = ap (λ (x : PortState). x.stop) w.state ∙ p.stop;
@@ -290,7 +301,7 @@ empty_refutes start s u n p w log port =
 -- a run that has seen units
 pub saw_goes_on : (start s u : PortState) (n : ℕ) → GoesOn start s n → OnlySaw s u → IsPort u → GoesOn start u n
 saw_goes_on start s u n p w port = record {
-  runs = runs_same start s u n p.runs w.stays w.mine port;
+  runs = runs_same start s u n p.runs w.stays w.held w.mine port;
   going = ap (λ (J : List Entry). list_any is_empty (added J)) w.mine ∙ p.going;
   stop = w.stop ∙ p.stop;
   refused = w.refused ∙ p.refused;
@@ -323,3 +334,30 @@ wrote_unit s u l w log = record {
   refused = ap (λ (x : PortState). x.refused) w.state;
   more = λ k h. w.sees k ∙ or_left (has s.seen k) (same l k) h;
 }
+
+-- a stop that was seen or set
+pub runs_stopped : (start s u : PortState) (n : ℕ) (stop : Option Stop) → Runs start s n → u ≡ record s { stop = stop } → KeepsLog s u → IsPort u → Runs start u n
+runs_stopped start s u n stop p is log port =
+    let stays : Stays s u = record {
+      start = ap (λ (x : PortState). x.start) is;
+      opening = ap (λ (x : PortState). x.opening) is;
+      vars = ap (λ (x : PortState). x.vars) is;
+      ring = ap (λ (x : PortState). x.ring) is;
+      rings = ap (λ (x : PortState). x.rings) is;
+      waiting = ap (λ (x : PortState). x.waiting) is;
+      shared = ap (λ (x : PortState). x.shared) is;
+      polled = ap (λ (x : PortState). x.polled) is;
+      puts = ap (λ (x : PortState). x.puts) is;
+      taken = ap (λ (x : PortState). x.taken) is;
+      log = log;
+    } in
+    runs_same start s u n p stays (ap (λ (x : PortState). x.held) is) (ap (λ (x : PortState). x.mine) is) port
+
+pub stop_seen : (start s u : PortState) (n : ℕ) (x : Stop) → GoesOn start s n → Looked s u (Some x) → KeepsLog s u → IsPort u → IsStoppedBy start u n x
+stop_seen start s u n x p looked log port =
+    let others : x.ring ≢ s.ring = subst (λ (o : Option Stop). MatchOption o (x.ring ≢ s.ring) (λ y. x ≡ y)) p.stop looked.0 in
+    record {
+      runs = runs_stopped start s u n (Some x) p.runs looked.1 log port;
+      stop = ap (λ (y : PortState). y.stop) looked.1;
+      others = λ e. others (e ∙ ap (λ (y : PortState). y.ring) looked.1);
+    }

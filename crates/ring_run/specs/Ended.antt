@@ -1,5 +1,5 @@
 -- What a run of a ring says: what it asks of its port, what it wrote, and what each end says.
-use Rattle.std.specs.Prelude.{◌≡◌, ◌≢◌, ◌≤◌, ℕ, ◌^◌, Bool, true, false, List, [], map, length, All, Some, None, IfSome}
+use Rattle.std.specs.Prelude.{◌≡◌, ◌≢◌, ◌≤◌, ◌<◌, ℕ, ◌^◌, Bool, true, false, List, [], map, length, All, Some, None, IfSome}
 use Rattle.std.specs.List.{list_any}
 use Rattle.sat_words.specs.Literal.{Literal}
 use Rattle.sat_words.specs.Clause.{is_empty}
@@ -100,6 +100,6 @@ Ends s (Sat a) = IsModelOf s a × HasWon s STOP_SAT
 Ends s Refuted = (s.ended ≡ true) × HasWon s STOP_REFUTED
 Ends s Spent = IsSpent s
 Ends s (Stopped x) = (s.stop ≡ Some x) × (x.ring ≢ s.ring)
-Ends s (NoHole need largest) = (s.refused ≡ Some (NoHoleAnswer need largest)) × HasWon s STOP_ROOM
+Ends s (NoHole need largest) = (s.refused ≡ Some (NoHoleAnswer need largest)) × (largest < need) × HasWon s STOP_ROOM
 Ends s ProofFault = (is_usable s.refused ≡ false) × HasWon s STOP_PROOF
 Ends s Memory = HasWon s STOP_MEMORY

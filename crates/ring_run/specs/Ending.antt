@@ -1,5 +1,5 @@
 -- From a finding to the end that it comes to.
-use Rattle.std.specs.Prelude.{◌≡◌, ◌≢◌, ℕ, Bool, true, false, Some, None, ⊤}
+use Rattle.std.specs.Prelude.{◌≡◌, ◌≢◌, ℕ, ◌<◌, Bool, true, false, Some, None, ⊤}
 use Rattle.sat_words.specs.declared.shared.TheConstants.{STOP_SAT, STOP_REFUTED, STOP_ROOM, STOP_PROOF, STOP_MEMORY}
 use Rattle.ring_port.specs.PortState.{PortState}
 use Rattle.ring_port.specs.Port.{is_usable}
@@ -25,7 +25,7 @@ kind_of (Stopped x) = 0
 abbrev pub Cause : PortState → End → Type 0
 Cause s (Sat a) = IsModelOf s a
 Cause s Refuted = s.ended ≡ true
-Cause s (NoHole need largest) = s.refused ≡ Some (NoHoleAnswer need largest)
+Cause s (NoHole need largest) = (s.refused ≡ Some (NoHoleAnswer need largest)) × (largest < need)
 Cause s ProofFault = is_usable s.refused ≡ false
 Cause s Memory = ⊤
 Cause s Spent = ⊥

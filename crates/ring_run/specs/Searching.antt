@@ -5,7 +5,7 @@ use Rattle.sat_words.specs.Literal.{Literal}
 use Rattle.sat_words.specs.Clause.{has, is_empty}
 use Rattle.rup_model.specs.Journal.{added, learned}
 use Rattle.rup_model.specs.Rup.{rup}
-use Rattle.ring_port.specs.Port.{is_usable, IsClause}
+use Rattle.ring_port.specs.Port.{is_usable, IsClause, KeepsHeld}
 use Rattle.ring_port.specs.declared.stops.PortStop.{PortStop}
 use Rattle.ring_port.specs.declared.stops.PortStop.TheVariants.{Ended, Broken, ProofFault, NoHole, Memory}
 use Rattle.ring_port.specs.PortState.{PortState, HoldsStart, IsPort, known}
@@ -58,6 +58,7 @@ AreTaken s t Opposed = rup (known s) [] ≡ true
 -- a run that began in one state and stands in another, with as many lemmas as are counted
 pub record Runs (start s : PortState) (count : ℕ) : Type 0 where
   pub stays : Stays start s
+  pub kept : KeepsHeld start s
   pub wrote : All (IsOwn start.ring start.vars) s.mine
   pub counted : count ≡ length (learned s.ring s.mine)
   pub port : IsPort s
@@ -75,7 +76,7 @@ abbrev pub IsNoted : PortState → PortStop → Type 0
 IsNoted s Ended = s.ended ≡ true
 IsNoted s Broken = is_usable s.refused ≡ false
 IsNoted s ProofFault = is_usable s.refused ≡ false
-IsNoted s (NoHole need largest) = s.refused ≡ Some (NoHole need largest)
+IsNoted s (NoHole need largest) = (s.refused ≡ Some (NoHole need largest)) × (largest < need)
 IsNoted s Memory = ⊤
 
 -- a call of the port was refused

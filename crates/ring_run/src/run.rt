@@ -2,6 +2,7 @@
 ghost use Rattle.std.specs.Prelude.{◌≡◌, ◌≤◌, ◌<◌, ◌^◌, ◌↔◌, All, IfOk, [], None, false};
 ghost use Rattle.sat_words.specs.declared.shared.TheConstants.{STOP_SAT, STOP_REFUTED, STOP_MEMORY};
 ghost use Rattle.ring_port.specs.PortState.{IsPort};
+ghost use Rattle.ring_port.specs.Port.{KeepsHeld};
 ghost use Rattle.ring_trail.specs.TrailData.{IsTrail};
 ghost use Rattle.ring_run.specs.Ended.{IsJobOf, IsUntouched, Stays, IsOwn, IsCounted, Ends};
 ghost use Rattle.ring_run.specs.Searching.{IsNoted};
@@ -96,6 +97,7 @@ pub fn run_ring<P: Port>(alloc: Global, port: &mut P, job: &Job) -> (End, Counts
     requires untouched { IsUntouched (P.state port.old) }
     requires port { IsPort (P.state port.old) }
     ensures stays { Stays (P.state port.old) (P.state port.new) }
+    ensures kept { KeepsHeld (P.state port.old) (P.state port.new) }
     ensures wrote { All (IsOwn (P.state port.old).ring (P.state port.old).vars) (P.state port.new).mine }
     ensures counts { IsCounted (P.state port.new) result.1 }
     ensures within { result.1.learned ≤ job.now.conflicts }

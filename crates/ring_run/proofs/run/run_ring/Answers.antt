@@ -8,6 +8,11 @@ returns-in_default-clause-stays g c =
     let s = g.P.Port.state c.args.port.now in
     (c.end_refused.ensures.runs s 0 (runs_begin s c.requires.untouched c.requires.port)).stays
 
+pub returns-in_default-clause-kept : goal.returns-in_default-clause-kept
+returns-in_default-clause-kept g c =
+    let s = g.P.Port.state c.args.port.now in
+    (c.end_refused.ensures.runs s 0 (runs_begin s c.requires.untouched c.requires.port)).kept
+
 pub returns-in_default-clause-wrote : goal.returns-in_default-clause-wrote
 returns-in_default-clause-wrote g c =
     let s = g.P.Port.state c.args.port.now in
@@ -22,6 +27,11 @@ pub returns-in_default-new-clause-stays : goal.returns-in_default-new-clause-sta
 returns-in_default-new-clause-stays g c =
     let s = g.P.Port.state c.args.port.now in
     (c.end_refused-in_default-new.ensures.runs s 0 (runs_begin s c.requires.untouched c.requires.port)).stays
+
+pub returns-in_default-new-clause-kept : goal.returns-in_default-new-clause-kept
+returns-in_default-new-clause-kept g c =
+    let s = g.P.Port.state c.args.port.now in
+    (c.end_refused-in_default-new.ensures.runs s 0 (runs_begin s c.requires.untouched c.requires.port)).kept
 
 pub returns-in_default-new-clause-wrote : goal.returns-in_default-new-clause-wrote
 returns-in_default-new-clause-wrote g c =
@@ -47,6 +57,12 @@ returns-clause-stays g c =
     let s = g.P.Port.state c.args.port.now in
     (c.end_of.ensures.runs s c.search-finding.new.ring.learned
     (finds_runs s (g.P.Port.state c.search-finding.new.port) c.search-finding.new.ring.learned c.args.job.now.conflicts c.search-finding.result c.search-finding.ensures.found)).stays
+
+pub returns-clause-kept : goal.returns-clause-kept
+returns-clause-kept g c =
+    let s = g.P.Port.state c.args.port.now in
+    (c.end_of.ensures.runs s c.search-finding.new.ring.learned
+    (finds_runs s (g.P.Port.state c.search-finding.new.port) c.search-finding.new.ring.learned c.args.job.now.conflicts c.search-finding.result c.search-finding.ensures.found)).kept
 
 pub returns-clause-wrote : goal.returns-clause-wrote
 returns-clause-wrote g c =

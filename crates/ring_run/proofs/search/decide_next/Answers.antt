@@ -2,6 +2,7 @@ use Rattle.std.proofs.Common.{subst, sym, arith}
 use Rattle.ring_port.specs.PortState.{PortState}
 use Rattle.ring_run.specs.Searching.{GoesOn, IsOver}
 use Rattle.ring_run.specs.Finding.{IsSettledAll}
+use Rattle.ring_run.proofs.Progress.{stop_seen}
 use Rattle.ring_run.proofs.Turning.{settled_same, compose}
 use Rattle.ring_run.proofs.search.decide_next.Goals as goal
 
@@ -23,3 +24,7 @@ returns-in-Err-clause-found g c = λ start p. (
       (c.in-Err.ensures.over start c.args.ring.now.learned (subst (λ (x : PortState). GoesOn start x c.args.ring.now.learned) (sym c.in_default.ensures.looked.1) p)),
   omega (arith, c.write_pending.ensures.learned, c.requires.below),
 )
+
+pub returns-in-Some-clause-found : goal.returns-in-Some-clause-found
+returns-in-Some-clause-found g c = λ start p.
+    (stop_seen start (g.P.Port.state c.args.port.now) (g.P.Port.state c.stopped.new.self) c.args.ring.now.learned c.in-Some.stop p c.in-Some.ensures.looked c.stopped.ensures.log c.stopped.ensures.port, c.requires.below)

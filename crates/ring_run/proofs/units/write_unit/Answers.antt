@@ -10,7 +10,7 @@ use Rattle.ring_trail.specs.TrailData.{TrailData, IsTrail, lit_at}
 use Rattle.rup_model.specs.Rup.{rup}
 use Rattle.ring_run.specs.Searching.{Stands, KeepsOn, OnlyWrote}
 use Rattle.ring_run.proofs.LevelZero.{true_at_zero}
-use Rattle.ring_run.proofs.Progress.{unit_goes_on, wrote_none, wrote_unit}
+use Rattle.ring_run.proofs.Progress.{unit_goes_on, wrote_none, wrote_unit, unit_over}
 use Rattle.ring_run.proofs.Standing.{stands_written, place_on}
 use Rattle.ring_run.proofs.units.write_unit.Goals as goal
 
@@ -49,3 +49,7 @@ returns-then-is_none-clause-wrote g c = wrote_none (g.P.Port.state c.args.port.n
 
 pub returns-clause-wrote : goal.returns-clause-wrote
 returns-clause-wrote g c = only_wrote (g.P.Port.state c.args.port.now) (g.P.Port.state c.unit.new.self) c.lit_at.result c.unit.result c.unit.ensures.written c.unit.ensures.log
+
+pub returns-clause-over : goal.returns-clause-over
+returns-clause-over g c =
+    unit_over (g.P.Port.state c.args.port.now) (g.P.Port.state c.unit.new.self) c.lit_at.result c.unit.result c.unit.ensures.written c.unit.ensures.log c.unit.ensures.port

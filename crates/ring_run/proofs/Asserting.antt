@@ -9,7 +9,7 @@ use Rattle.sat_words.specs.Clause.{has}
 use Rattle.sat_words.specs.declared.shared.Cref.{Cref}
 use Rattle.sat_words.proofs.Members.{same-true, same-refl}
 use Rattle.rup_model.proofs.Lists.{Contains_In}
-use Rattle.ring_port.specs.PortState.{PortState, Holding, held_at}
+use Rattle.ring_port.specs.PortState.{PortState, Holding, held_at, clause_at}
 use Rattle.ring_port.specs.Port.{LearnedClause, LearnedUnit, KeepsHeld}
 use Rattle.ring_trail.specs.declared.step.Step.{Step}
 use Rattle.ring_trail.specs.TrailData.{TrailData, IsTrail, IsPlaceOf, HasNoPlace, IsFalseOn, FalseBefore, no_step, step_at, level_at, cut_back, assigned}
@@ -18,7 +18,6 @@ use Rattle.ring_trail.specs.Closed.{TrueWithin, IsClosedClause}
 use Rattle.ring_trail.proofs.Shape.{step_at_place}
 use Rattle.ring_trail.proofs.Causes.{IsReasoned-back, IsReasoned-held, IsReasoned-forced, IsReasoned-seen, IsClosed-back}
 use Rattle.analyze.specs.Levels.{greatest, level_of_lit, levels_of, clause_level}
-use Rattle.ring_port.specs.PortState.{clause_at}
 use Rattle.analyze.specs.Lemma.{IsLemma}
 use Rattle.ring_run.specs.Searching.{Stands, IsAsserting}
 use Rattle.ring_run.specs.Finding.{WentBack, IsAttachable}

@@ -9,13 +9,12 @@ use Rattle.sat_words.specs.Truth.{lit_true, clause_true}
 use Rattle.sat_words.specs.declared.shared.Cref.{Cref}
 use Rattle.sat_words.proofs.Members.{same-true}
 use Rattle.rup_model.proofs.Lists.{Contains_In, In_Contains, In_get_or, In_has, has_In}
-use Rattle.ring_port.specs.PortState.{PortState, Holding, IsKept, IsOn, held_at, lits_at, lits_in}
+use Rattle.ring_port.specs.PortState.{PortState, Holding, IsKept, IsOn, held_at, lits_at, lits_in, clause_at}
 use Rattle.ring_port.proofs.Holdings.{All_In}
 use Rattle.ring_trail.specs.declared.step.Step.{Step}
 use Rattle.ring_trail.specs.TrailData.{TrailData, IsTrail, IsTrueOn, HasNoPlace, value_of, decided}
 use Rattle.ring_trail.specs.Closed.{TrueWithin}
 use Rattle.ring_trail.proofs.Causes.{IsReasoned-decided}
-use Rattle.ring_port.specs.PortState.{clause_at}
 use Rattle.ring_run.specs.Ended.{IsModelOf}
 use Rattle.ring_run.specs.Scanned.{IsSettled}
 use Rattle.ring_run.specs.Searching.{Stands, GoesOn, IsOver}

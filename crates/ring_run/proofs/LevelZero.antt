@@ -12,11 +12,10 @@ use Rattle.rup_model.proofs.Lists.{In_all, In_has}
 use Rattle.rup_model.proofs.Derivation.{conflicts_from_derivation}
 use Rattle.rup_model.specs.Rup.{rup, conflicts}
 use Rattle.rup_model.specs.Derivation.{Derives, with_derived}
-use Rattle.ring_port.specs.PortState.{PortState, Holding, held_at, lits_at, known}
+use Rattle.ring_port.specs.PortState.{PortState, Holding, held_at, lits_at, known, clause_at}
 use Rattle.ring_port.proofs.Holdings.{held_is_known, seen_is_known}
 use Rattle.ring_trail.specs.declared.step.Step.{Step}
 use Rattle.ring_trail.specs.TrailData.{FalseBefore, lit_at, level_at}
-use Rattle.ring_port.specs.PortState.{clause_at}
 use Rattle.ring_trail.specs.Reasoned.{IsReasoned}
 
 -- one more literal at the end

@@ -8,3 +8,4 @@ pub mod Learning
 pub mod Deciding
 pub mod Turning
 pub mod Beginning
+mod ProblemsReady

@@ -7,13 +7,12 @@ use Rattle.std.proofs.lemmas.List.Elements.{All-append, All-cons, All-nil}
 use Rattle.std.proofs.lemmas.Bool.{false≢true}
 use Rattle.sat_words.specs.Literal.{Literal}
 use Rattle.sat_words.specs.declared.shared.Cref.{Cref}
-use Rattle.ring_port.specs.PortState.{PortState, Holding, IsPort, IsOn, held_at, lits_at}
+use Rattle.ring_port.specs.PortState.{PortState, Holding, IsPort, IsOn, held_at, lits_at, clause_at}
 use Rattle.ring_port.proofs.Holdings.{held_is_kept, All_In}
 use Rattle.rup_model.proofs.Lists.{has_In}
 use Rattle.ring_trail.specs.declared.step.Step.{Step}
 use Rattle.ring_trail.specs.TrailData.{TrailData, HasNoPlace, value_of, assigned}
 use Rattle.ring_trail.proofs.Values.{step_of-no_place}
-use Rattle.ring_port.specs.PortState.{clause_at}
 use Rattle.ring_trail.specs.TrailData.{HasGrown}
 use Rattle.ring_run.specs.Scanned.{IsUnitOn}
 

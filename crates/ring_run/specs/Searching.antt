@@ -8,13 +8,12 @@ use Rattle.rup_model.specs.Rup.{rup}
 use Rattle.ring_port.specs.Port.{is_usable, IsClause, KeepsHeld}
 use Rattle.ring_port.specs.declared.stops.PortStop.{PortStop}
 use Rattle.ring_port.specs.declared.stops.PortStop.TheVariants.{Ended, Broken, ProofFault, NoHole, Memory}
-use Rattle.ring_port.specs.PortState.{PortState, HoldsStart, IsPort, known}
+use Rattle.ring_port.specs.PortState.{PortState, HoldsStart, IsPort, known, clause_at}
 use Rattle.ring_trail.specs.declared.step.Step.{Step}
 use Rattle.ring_trail.specs.TrailData.{TrailData, IsFalseOn}
 use Rattle.ring_trail.specs.Reasoned.{IsReasoned}
 use Rattle.ring_trail.specs.Closed.{TrueWithin}
 use Rattle.analyze.specs.Levels.{level_of_lit}
-use Rattle.ring_port.specs.PortState.{clause_at}
 use Rattle.ring_run.specs.Ended.{Stays, IsOwn}
 use Rattle.ring_run.specs.declared.units.Units.{Units}
 use Rattle.ring_run.specs.declared.units.Units.TheVariants.{Opposed, True}

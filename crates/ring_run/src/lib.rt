@@ -1,4 +1,10 @@
 //! A ring: conflict-driven clause learning over any port, on one thread.
+//!
+//! `run_ring` is the loop of MiniSat (Eén and Sörensson 2003), with neither restarts nor deletions. It propagates. At a
+//! conflict it learns the clause of the first unique implication point, goes back to where that forces its first literal,
+//! and makes this true. Where nothing is left to propagate it decides the least variable without a value, false. A
+//! conflict without decisions refutes the clauses, and where every variable has a value there is a model. Propagation
+//! scans each clause that the ring started with or learned.
 #![tactic(auto)]
 
 mod job;
@@ -9,3 +15,6 @@ mod units;
 
 pub use job::{Addresses, Counts, End, Job};
 pub use run::run_ring;
+
+#[cfg(test)]
+mod tests;

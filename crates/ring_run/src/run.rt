@@ -16,6 +16,45 @@ use ring_trail::Trail;
 use sat_words::{STOP_MEMORY, STOP_PROOF, STOP_REFUTED, STOP_ROOM, STOP_SAT};
 use std::alloc::{AllocError, Global};
 
+/// Runs a ring until it has an answer, sees the stop of another ring, or has learned its limit of lemmas.
+///
+/// The port holds each start clause of the job, and has done nothing for this ring yet. Units of the opening get no line.
+/// A literal that propagation makes true without a decision gets the line of a unit before the next decision.
+///
+/// Every end but `Spent` and `Stopped` has set this ring's stop, and was the first to set one: a ring that comes second
+/// answers `Stopped` with the stop that stands. A call of the port that was refused for want of memory, room or a write
+/// ends the run; what was held and written before it stays. After `Memory` the ring has no answer, and its stop tells the
+/// other rings so.
+pub fn run_ring<P: Port>(alloc: Global, port: &mut P, job: &Job) -> (End, Counts)
+    requires job { IsJobOf (P.state port.old) job.now }
+    requires untouched { IsUntouched (P.state port.old) }
+    requires port { IsPort (P.state port.old) }
+    ensures stays { Stays (P.state port.old) (P.state port.new) }
+    ensures kept { KeepsHeld (P.state port.old) (P.state port.new) }
+    ensures wrote { All (IsOwn (P.state port.old).ring (P.state port.old).vars) (P.state port.new).mine }
+    ensures counts { IsCounted (P.state port.new) result.1 }
+    ensures within { result.1.learned ≤ job.now.conflicts }
+    ensures spent { (result.0 ≡ End.Spent) ↔ (result.1.learned ≡ job.now.conflicts) }
+    ensures ends { Ends (P.state port.new) result.0 }
+    ensures port { IsPort (P.state port.new) }
+{
+    let mut counts = Counts {
+        learned: 0,
+        exported: 0,
+        offered: 0,
+        restarts: 0,
+    };
+    let Ok(mut ring) = make_ring(alloc, job) else {
+        return (end_refused(port, PortStop::Memory), counts);
+    };
+    let Ok(mut analysis) = Analysis::new(alloc, job.vars) else {
+        return (end_refused(port, PortStop::Memory), counts);
+    };
+    let finding = search(alloc, port, &mut ring, &mut analysis, job.conflicts);
+    counts.learned = ring.learned;
+    (end_of(port, finding), counts)
+}
+
 /// A ring that has done nothing yet.
 fn make_ring(alloc: Global, job: &Job) -> Result<Ring, AllocError>
     requires { job.now.vars ≤ 2 ^ 30 }
@@ -85,39 +124,4 @@ fn end_of<P: Port>(port: &mut P, finding: Finding) -> End
         Finding::Stopped(stop) => End::Stopped(stop),
         Finding::Refused(stop) => end_refused(port, stop),
     }
-}
-
-/// Runs a ring until it has an answer, sees the stop of another ring, or has learned its limit of lemmas.
-///
-/// It asks that the ring holds each start clause and has done nothing yet. All ends but `Spent` and `Stopped` have set the
-/// ring's stop, and were the first to do so; a ring that comes later answers `Stopped` with the stop that stands. After
-/// an end nothing that was held is given up.
-pub fn run_ring<P: Port>(alloc: Global, port: &mut P, job: &Job) -> (End, Counts)
-    requires job { IsJobOf (P.state port.old) job.now }
-    requires untouched { IsUntouched (P.state port.old) }
-    requires port { IsPort (P.state port.old) }
-    ensures stays { Stays (P.state port.old) (P.state port.new) }
-    ensures kept { KeepsHeld (P.state port.old) (P.state port.new) }
-    ensures wrote { All (IsOwn (P.state port.old).ring (P.state port.old).vars) (P.state port.new).mine }
-    ensures counts { IsCounted (P.state port.new) result.1 }
-    ensures within { result.1.learned ≤ job.now.conflicts }
-    ensures spent { (result.0 ≡ End.Spent) ↔ (result.1.learned ≡ job.now.conflicts) }
-    ensures ends { Ends (P.state port.new) result.0 }
-    ensures port { IsPort (P.state port.new) }
-{
-    let mut counts = Counts {
-        learned: 0,
-        exported: 0,
-        offered: 0,
-        restarts: 0,
-    };
-    let Ok(mut ring) = make_ring(alloc, job) else {
-        return (end_refused(port, PortStop::Memory), counts);
-    };
-    let Ok(mut analysis) = Analysis::new(alloc, job.vars) else {
-        return (end_refused(port, PortStop::Memory), counts);
-    };
-    let finding = search(alloc, port, &mut ring, &mut analysis, job.conflicts);
-    counts.learned = ring.learned;
-    (end_of(port, finding), counts)
 }

@@ -1,10 +1,9 @@
 // Unit propagation by scans over every clause that the ring holds.
 ghost use Rattle.std.specs.Prelude.{◌≡◌, ◌≤◌, length, All, IsSome};
 ghost use Rattle.sat_words.specs.declared.shared.Cref.{Cref as CrefOf};
-ghost use Rattle.ring_port.specs.PortState.{IsPort, held_at, lits_at};
+ghost use Rattle.ring_port.specs.PortState.{IsPort, held_at, lits_at, clause_at};
 ghost use Rattle.ring_trail.specs.TrailData.{IsTrail, HasGrown};
 ghost use Rattle.ring_trail.specs.Reasoned.{IsReasoned};
-ghost use Rattle.ring_port.specs.PortState.{clause_at};
 ghost use Rattle.ring_run.specs.Scanned.{IsStatus, IsHeldBy, IsConflict, IsScanned};
 
 use ring_port::Port;

@@ -1,0 +1,135 @@
+-- The problems of the tests are ready to be searched.
+use Rattle.std.proofs.Common.{◌≡◌, ℕ, ◌≤◌, Bool, true, false, List, [], ◌∷◌, map, ap, sym, subst, refl, arith, Some, nat_eq}
+use Rattle.std.specs.Prelude.{All}
+use Rattle.std.specs.List.{IsDistinct}
+use Rattle.std.proofs.lemmas.List.Elements.{All-cons, All-nil, All-from_recursion}
+use Rattle.sat_words.specs.Literal.{Literal}
+use Rattle.sat_words.specs.FormulaData.{FormulaData}
+use Rattle.sat_words.specs.Clause.{distinct_lits, has_opposites}
+use Rattle.sat_words.specs.declared.shared.Cref.{Cref}
+use Rattle.rup_model.specs.declared.journal.Entry.{Entry}
+use Rattle.rup_model.specs.Journal.{book, is_told}
+use Rattle.rup_model.specs.Opening.{is_rulers, IsRulersPart, IsStart}
+use Rattle.ring_port.specs.PortState.{Holding, IsOn}
+use Rattle.ring_port.specs.PlainPort.{starts_of}
+use Rattle.ring_run.specs.Problems.{IsReady, lit, square, square_starts, chain, chain_starts, chain_units, opposed, opposed_units}
+
+-- before the ruler has written anything
+no_entries : (F : List (List Literal)) → IsRulersPart F []
+no_entries F = record { rulers = All-nil (λ (e : Entry). is_rulers e ≡ true); going = refl; fits = tt; accepted = tt }
+
+-- a clause of two literals on two variables
+on : (n v : ℕ) (b : Bool) → 1 ≤ v → v ≤ n → IsOn n (lit v b)
+on n v b low high = record { low = low; high = high }
+
+on_two : (n : ℕ) (k l : Literal) → IsOn n k → IsOn n l → All (IsOn n) (k ∷ l ∷ [])
+on_two n k l p q = All-cons (IsOn n) k (l ∷ []) p (All-cons (IsOn n) l [] q (All-nil (IsOn n)))
+
+-- addresses, told by their numbers
+pub addresses : (cs : List Cref) (hs : List Holding) → map (λ (c : Cref). c.address) cs ≡ map (λ (h : Holding). h.address) hs → cs ≡ map (λ (h : Holding). record { address = h.address }) hs
+addresses [] [] e = refl
+addresses [] (h ∷ hs) e = absurd (let no : ⊥ = cc in no)
+addresses (c ∷ cs) [] e = absurd (let no : ⊥ = cc in no)
+addresses (c ∷ cs) (h ∷ hs) e =
+    let first : c.address ≡ h.address = cc in
+    let rest : map (λ (c : Cref). c.address) cs ≡ map (λ (h : Holding). h.address) hs = cc in
+    let all = addresses cs hs rest in
+    let one : c ≡ record { address = h.address } = ap (λ (a : ℕ). record { address = a }) first in
+    cc
+
+-- what is equal to one that is ready
+pub same_ready : (f g : FormulaData) (starts starts2 : List (ℕ × List Literal)) (units units2 : List Literal) → f ≡ g → starts ≡ starts2 → units ≡ units2
+    → IsReady g.clauses starts2 units2 g.vars → IsReady f.clauses starts units f.vars
+same_ready f g starts starts2 units units2 same_formula same_starts same_units p =
+    subst (λ (x : FormulaData). IsReady x.clauses starts units x.vars) (sym same_formula)
+    (subst (λ (x : List (ℕ × List Literal)). IsReady g.clauses x units g.vars) (sym same_starts)
+    (subst (λ (x : List Literal). IsReady g.clauses starts2 x g.vars) (sym same_units) p))
+
+-- a start clause of two literals
+long : (F : List (List Literal)) (n : ℕ) (k l : Literal) → (book F []).clause n ≡ Some (k ∷ l ∷ []) → distinct_lits (k ∷ l ∷ []) ≡ true → has_opposites (k ∷ l ∷ []) ≡ false
+    → IsStart (book F []) (record { number = n; lits = k ∷ l ∷ [] })
+long F n k l alive distinct opposites = record { alive = alive; shape = record { long = omega arith; distinct = distinct; no_opposites = opposites } }
+
+abbrev On : ℕ → ℕ × List Literal → Type 0
+On n s = All (IsOn n) s.1
+
+numbers_1_to_4 : IsDistinct nat_eq (1 ∷ 2 ∷ 3 ∷ 4 ∷ [])
+unfolding IsDistinct
+numbers_1_to_4 = ((refl, (refl, (refl, tt))), ((refl, (refl, tt)), ((refl, tt), (tt, tt))))
+
+numbers_1_and_2 : IsDistinct nat_eq (1 ∷ 2 ∷ [])
+unfolding IsDistinct
+numbers_1_and_2 = ((refl, tt), (tt, tt))
+
+no_numbers : IsDistinct nat_eq []
+unfolding IsDistinct
+no_numbers = tt
+
+pub square_ready : IsReady square square_starts [] 2
+square_ready =
+    let one = λ (b : Bool). on 2 1 b (omega arith) (omega arith) in
+    let two = λ (b : Bool). on 2 2 b (omega arith) (omega arith) in
+    record {
+      opens = record {
+        rulers_part = no_entries square;
+        starts = All-from_recursion (IsStart (book square [])) (starts_of square_starts) (
+          long square 1 (lit 1 false) (lit 2 false) refl refl refl,
+          (
+            long square 2 (lit 1 false) (lit 2 true) refl refl refl,
+            (long square 3 (lit 1 true) (lit 2 false) refl refl refl, (long square 4 (lit 1 true) (lit 2 true) refl refl refl, tt)),
+          ),
+        );
+        numbers = numbers_1_to_4;
+        told = All-nil (λ (l : Literal). is_told square [] l ≡ true);
+        distinct = refl;
+      };
+      going = refl;
+      starts_on = All-from_recursion (On 2) square_starts (
+        on_two 2 (lit 1 false) (lit 2 false) (one false) (two false),
+        (
+          on_two 2 (lit 1 false) (lit 2 true) (one false) (two true),
+          (on_two 2 (lit 1 true) (lit 2 false) (one true) (two false), (on_two 2 (lit 1 true) (lit 2 true) (one true) (two true), tt)),
+        ),
+      );
+      units_on = All-nil (IsOn 2);
+      small = omega arith;
+      few = omega arith;
+    }
+
+pub chain_ready : IsReady chain chain_starts chain_units 4
+chain_ready =
+    record {
+      opens = record {
+        rulers_part = no_entries chain;
+        starts = All-from_recursion (IsStart (book chain [])) (starts_of chain_starts)
+            (long chain 1 (lit 1 false) (lit 2 false) refl refl refl, (long chain 2 (lit 1 true) (lit 3 false) refl refl refl, tt));
+        numbers = numbers_1_and_2;
+        told = All-from_recursion (λ (l : Literal). is_told chain [] l ≡ true) chain_units (refl, tt);
+        distinct = refl;
+      };
+      going = refl;
+      starts_on = All-from_recursion (On 4) chain_starts (
+        on_two 4 (lit 1 false) (lit 2 false) (on 4 1 false (omega arith) (omega arith)) (on 4 2 false (omega arith) (omega arith)),
+        (on_two 4 (lit 1 true) (lit 3 false) (on 4 1 true (omega arith) (omega arith)) (on 4 3 false (omega arith) (omega arith)), tt),
+      );
+      units_on = All-from_recursion (IsOn 4) chain_units (on 4 2 true (omega arith) (omega arith), tt);
+      small = omega arith;
+      few = omega arith;
+    }
+
+pub opposed_ready : IsReady opposed [] opposed_units 1
+opposed_ready =
+    record {
+      opens = record {
+        rulers_part = no_entries opposed;
+        starts = All-nil (IsStart (book opposed []));
+        numbers = no_numbers;
+        told = All-from_recursion (λ (l : Literal). is_told opposed [] l ≡ true) opposed_units (refl, (refl, tt));
+        distinct = refl;
+      };
+      going = refl;
+      starts_on = All-nil (On 1);
+      units_on = All-from_recursion (IsOn 1) opposed_units (on 1 1 false (omega arith) (omega arith), (on 1 1 true (omega arith) (omega arith), tt));
+      small = omega arith;
+      few = omega arith;
+    }

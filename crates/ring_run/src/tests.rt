@@ -1,0 +1,185 @@
+// A ring over the port in memory, on small formulas.
+ghost use Rattle.std.specs.Prelude.{◌≡◌, ◌≤◌, ◌+◌, ◌++◌, ◌∷◌, [], IfOk, OnOk, length};
+ghost use Rattle.sat_words.specs.Clause.{clause_of};
+ghost use Rattle.ring_run.specs.Problems.{IsReady, square, square_starts, chain, chain_starts, opposed};
+
+use crate::{Addresses, Counts, End, Job, run_ring};
+use drat_text::SinkLines;
+use io_edge::MemSink;
+use ring_port::PlainPort;
+use sat_words::{Clause, Formula, Lit};
+use std::alloc::{AllocError, Global};
+use std::test::Fail;
+
+/// Room for the text of a proof, in bytes.
+const ROOM: usize = 64;
+
+/// Puts a clause behind those of the formula, and among the start clauses.
+fn put(
+    alloc: Global,
+    formula: &mut Formula,
+    start: &mut Vec<(u64, Clause)>,
+    lits: &[Lit],
+) -> Result<(), AllocError>
+    ensures formula { OnOk result (formula.new ≡ record formula.old { clauses = formula.old.clauses ++ clause_of lits.now ∷ [] }) }
+    ensures start { OnOk result (start.new.items ≡ start.old.items ++ (length formula.old.clauses + 1, clause_of lits.now) ∷ []) }
+{
+    formula.push(Clause::from_lits(alloc, lits)?)?;
+    let number = formula.clauses().len() as u64;
+    start.push((number, Clause::from_lits(alloc, lits)?))?;
+    Ok(())
+}
+
+/// The four clauses on two variables, which no assignment makes true.
+fn four_clauses(alloc: Global) -> Result<(Formula, Vec<(u64, Clause)>), AllocError>
+    ensures formula { IfOk result (λ made. made.0 ≡ record { vars = 2; clauses = square }) }
+    ensures start { IfOk result (λ made. made.1.items ≡ square_starts) }
+{
+    let one = Lit::new(1, false);
+    let two = Lit::new(2, false);
+    let mut formula = Formula::new(alloc, 2);
+    let mut start = Vec::new(alloc);
+    put(alloc, &mut formula, &mut start, &[one, two])?;
+    put(alloc, &mut formula, &mut start, &[one, two.not()])?;
+    put(alloc, &mut formula, &mut start, &[one.not(), two])?;
+    put(alloc, &mut formula, &mut start, &[one.not(), two.not()])?;
+    Ok((formula, start))
+}
+
+/// A unit that forces 1, which forces 3; 4 occurs nowhere.
+fn three_clauses(alloc: Global) -> Result<(Formula, Vec<(u64, Clause)>), AllocError>
+    ensures formula { IfOk result (λ made. made.0 ≡ record { vars = 4; clauses = chain }) }
+    ensures start { IfOk result (λ made. made.1.items ≡ chain_starts) }
+{
+    let one = Lit::new(1, false);
+    let two = Lit::new(2, false);
+    let mut formula = Formula::new(alloc, 4);
+    let mut start = Vec::new(alloc);
+    put(alloc, &mut formula, &mut start, &[one, two])?;
+    put(
+        alloc,
+        &mut formula,
+        &mut start,
+        &[one.not(), Lit::new(3, false)],
+    )?;
+    formula.push(Clause::from_lits(alloc, &[two.not()])?)?;
+    Ok((formula, start))
+}
+
+/// Two units that differ in sign.
+fn two_units(alloc: Global) -> Result<Formula, AllocError>
+    ensures { IfOk result (λ formula. formula ≡ record { vars = 1; clauses = opposed }) }
+{
+    let one = Lit::new(1, false);
+    let mut formula = Formula::new(alloc, 1);
+    formula.push(Clause::from_lits(alloc, &[one])?)?;
+    formula.push(Clause::from_lits(alloc, &[one.not()])?)?;
+    Ok(formula)
+}
+
+/// Runs a ring from these clauses and units, with its proof into a sink of which the calls listed fail.
+fn run_on<'a>(
+    alloc: Global,
+    formula: &Formula,
+    start: &[(u64, Clause)],
+    units: &[Lit],
+    conflicts: u64,
+    failing: &'a [u64],
+) -> Result<(End, Counts, MemSink<'a>), Fail>
+    requires ready { IsReady formula.now.clauses start.now units.now formula.now.vars }
+    requires some { 1 ≤ conflicts }
+{
+    let sink = MemSink::new(alloc, ROOM, failing)?;
+    let lines = SinkLines::new(formula.clauses().len() as u64, sink);
+    let Ok(mut port) = PlainPort::new(alloc, formula, formula.vars(), start, units, lines) else {
+        return Err(Fail::from("no memory for the port"));
+    };
+    let job = Job {
+        ring: 0,
+        rings: 1,
+        vars: formula.vars(),
+        start: Addresses::from_vec(Vec::from_slice(alloc, port.start())?),
+        conflicts,
+    };
+    let (end, counts) = run_ring(alloc, &mut port, &job);
+    Ok((end, counts, port.into_lines().into_sink()))
+}
+
+/// Runs a ring on the four clauses.
+fn run_on_four<'a>(
+    alloc: Global,
+    conflicts: u64,
+    failing: &'a [u64],
+) -> Result<(End, Counts, MemSink<'a>), Fail>
+    requires { 1 ≤ conflicts }
+{
+    let (formula, start) = four_clauses(alloc)?;
+    run_on(alloc, &formula, &start, &[], conflicts, failing)
+}
+
+fn counted(learned: u64) -> Counts {
+    Counts {
+        learned,
+        exported: 0,
+        offered: 0,
+        restarts: 0,
+    }
+}
+
+// 1 false makes 2 and its negation true: the lemma is 1. With it the last two clauses oppose each other.
+#[test]
+fn refutes_four_clauses(rt: HostRuntime) -> Result<(), Fail> {
+    let (end, counts, sink) = run_on_four(rt.alloc(), 2, &[])?;
+    assert!(rt; matches!(end, End::Refuted));
+    assert_eq!(rt; counts, counted(1));
+    assert!(rt; sink.bytes() == b"1 0\n0\n".as_slice());
+    Ok(())
+}
+
+#[test]
+fn stops_at_its_limit(rt: HostRuntime) -> Result<(), Fail> {
+    let (end, counts, sink) = run_on_four(rt.alloc(), 1, &[])?;
+    assert!(rt; matches!(end, End::Spent));
+    assert_eq!(rt; counts, counted(1));
+    assert!(rt; sink.bytes() == b"1 0\n".as_slice());
+    Ok(())
+}
+
+#[test]
+fn tells_that_its_proof_failed(rt: HostRuntime) -> Result<(), Fail> {
+    let (end, counts, sink) = run_on_four(rt.alloc(), 2, &[1])?;
+    assert!(rt; matches!(end, End::ProofFault));
+    assert_eq!(rt; counts, counted(0));
+    assert!(rt; sink.bytes().is_empty());
+    Ok(())
+}
+
+// The literals that the unit makes true get lines, and it gets none.
+#[test]
+fn finds_a_model(rt: HostRuntime) -> Result<(), Fail> {
+    let alloc = rt.alloc();
+    let (formula, start) = three_clauses(alloc)?;
+    let (end, counts, sink) = run_on(alloc, &formula, &start, &[Lit::new(2, true)], 1, &[])?;
+    let End::Sat(model) = end else {
+        return Err(Fail::from("no model"));
+    };
+    assert_eq!(rt; model.len(), 4);
+    for (var, value) in [(1, true), (2, false), (3, true), (4, false)] {
+        assert_eq!(rt; model.truth_of_lit(Lit::new(var, false)), value);
+    }
+    assert_eq!(rt; counts, counted(0));
+    assert!(rt; sink.bytes() == b"1 0\n3 0\n".as_slice());
+    Ok(())
+}
+
+#[test]
+fn refutes_opposed_units(rt: HostRuntime) -> Result<(), Fail> {
+    let alloc = rt.alloc();
+    let formula = two_units(alloc)?;
+    let units = [Lit::new(1, false), Lit::new(1, true)];
+    let (end, counts, sink) = run_on(alloc, &formula, &[], &units, 1, &[])?;
+    assert!(rt; matches!(end, End::Refuted));
+    assert_eq!(rt; counts, counted(0));
+    assert!(rt; sink.bytes() == b"0\n".as_slice());
+    Ok(())
+}

@@ -12,7 +12,7 @@ use Rattle.rup_model.specs.Journal.{book, is_told}
 use Rattle.rup_model.specs.Opening.{is_rulers, IsRulersPart, IsStart}
 use Rattle.ring_port.specs.PortState.{Holding, IsOn}
 use Rattle.ring_port.specs.PlainPort.{starts_of}
-use Rattle.ring_run.specs.Problems.{IsReady, lit, square, square_starts, chain, chain_starts, chain_units, opposed, opposed_units}
+use Rattle.ring_run.specs.Problems.{IsReady, lit, square, square_starts, chain, chain_starts, chain_units, triples, triples_starts, opposed, opposed_units}
 
 -- before the ruler has written anything
 no_entries : (F : List (List Literal)) → IsRulersPart F []
@@ -113,6 +113,31 @@ chain_ready =
         (on_two 4 (lit 1 true) (lit 3 false) (on 4 1 true (omega arith) (omega arith)) (on 4 3 false (omega arith) (omega arith)), tt),
       );
       units_on = All-from_recursion (IsOn 4) chain_units (on 4 2 true (omega arith) (omega arith), tt);
+      small = omega arith;
+      few = omega arith;
+    }
+
+-- a clause of three literals on three variables
+on_three : (b : Bool) → All (IsOn 3) (lit 1 false ∷ lit 2 false ∷ lit 3 b ∷ [])
+on_three b = All-from_recursion (IsOn 3) (lit 1 false ∷ lit 2 false ∷ lit 3 b ∷ [])
+    (on 3 1 false (omega arith) (omega arith), (on 3 2 false (omega arith) (omega arith), (on 3 3 b (omega arith) (omega arith), tt)))
+
+pub triples_ready : IsReady triples triples_starts [] 3
+triples_ready =
+    record {
+      opens = record {
+        rulers_part = no_entries triples;
+        starts = All-from_recursion (IsStart (book triples [])) (starts_of triples_starts) (
+          record { alive = refl; shape = record { long = omega arith; distinct = refl; no_opposites = refl } },
+          (record { alive = refl; shape = record { long = omega arith; distinct = refl; no_opposites = refl } }, tt),
+        );
+        numbers = numbers_1_and_2;
+        told = All-nil (λ (l : Literal). is_told triples [] l ≡ true);
+        distinct = refl;
+      };
+      going = refl;
+      starts_on = All-from_recursion (On 3) triples_starts (on_three false, (on_three true, tt));
+      units_on = All-nil (IsOn 3);
       small = omega arith;
       few = omega arith;
     }

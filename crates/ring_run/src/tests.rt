@@ -1,7 +1,7 @@
 // A ring over the port in memory, on small formulas.
 ghost use Rattle.std.specs.Prelude.{◌≡◌, ◌≤◌, ◌+◌, ◌++◌, ◌∷◌, [], IfOk, OnOk, length};
 ghost use Rattle.sat_words.specs.Clause.{clause_of};
-ghost use Rattle.ring_run.specs.Problems.{IsReady, square, square_starts, chain, chain_starts, opposed};
+ghost use Rattle.ring_run.specs.Problems.{IsReady, square, square_starts, chain, chain_starts, triples, triples_starts, opposed};
 
 use crate::{Addresses, Counts, End, Job, run_ring};
 use drat_text::SinkLines;
@@ -63,6 +63,21 @@ fn three_clauses(alloc: Global) -> Result<(Formula, Vec<(u64, Clause)>), AllocEr
         &[one.not(), Lit::new(3, false)],
     )?;
     formula.push(Clause::from_lits(alloc, &[two.not()])?)?;
+    Ok((formula, start))
+}
+
+/// Two clauses that oppose each other where 1 and 2 are false.
+fn two_clauses(alloc: Global) -> Result<(Formula, Vec<(u64, Clause)>), AllocError>
+    ensures formula { IfOk result (λ made. made.0 ≡ record { vars = 3; clauses = triples }) }
+    ensures start { IfOk result (λ made. made.1.items ≡ triples_starts) }
+{
+    let one = Lit::new(1, false);
+    let two = Lit::new(2, false);
+    let three = Lit::new(3, false);
+    let mut formula = Formula::new(alloc, 3);
+    let mut start = Vec::new(alloc);
+    put(alloc, &mut formula, &mut start, &[one, two, three])?;
+    put(alloc, &mut formula, &mut start, &[one, two, three.not()])?;
     Ok((formula, start))
 }
 
@@ -169,6 +184,23 @@ fn finds_a_model(rt: HostRuntime) -> Result<(), Fail> {
     }
     assert_eq!(rt; counts, counted(0));
     assert!(rt; sink.bytes() == b"1 0\n3 0\n".as_slice());
+    Ok(())
+}
+
+// 1 and 2 are decided false, and oppose the clauses: the lemma makes 2 true where 1 is false, and 3 is decided.
+#[test]
+fn learns_a_clause(rt: HostRuntime) -> Result<(), Fail> {
+    let alloc = rt.alloc();
+    let (formula, start) = two_clauses(alloc)?;
+    let (end, counts, sink) = run_on(alloc, &formula, &start, &[], 2, &[])?;
+    let End::Sat(model) = end else {
+        return Err(Fail::from("no model"));
+    };
+    for (var, value) in [(1, false), (2, true), (3, false)] {
+        assert_eq!(rt; model.truth_of_lit(Lit::new(var, false)), value);
+    }
+    assert_eq!(rt; counts, counted(1));
+    assert!(rt; sink.bytes() == b"2 1 0\n".as_slice());
     Ok(())
 }
 

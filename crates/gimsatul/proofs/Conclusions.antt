@@ -17,7 +17,7 @@ use Rattle.drat_text.specs.Text.{line_text}
 use Rattle.gimsatul.specs.declared.report.Verdict.{Verdict}
 use Rattle.gimsatul.specs.declared.report.Verdict.TheVariants.{Satisfiable, Unsatisfiable, Unknown}
 use Rattle.gimsatul.specs.declared.search.SearchStop.{SearchStop}
-use Rattle.gimsatul.specs.declared.search.SearchStop.TheVariants.{ProofFault, Memory}
+use Rattle.gimsatul.specs.declared.search.SearchStop.TheVariants.{ProofFault, Room, Memory}
 use Rattle.dimacs_read.specs.Input.{IsOn}
 use Rattle.gimsatul.specs.Decided.{IsModel}
 use Rattle.gimsatul.specs.Searched.{Concludes, IsSearch, WasPut}
@@ -29,7 +29,7 @@ nothing_named k l lt = absurd (omega arith)
 
 module _ (limit : ℕ) (formula : FormulaData) (G : List (List Literal)) (count : ℕ) (written : Option (List ℕ)) (h : Ledger formula.clauses G count written) where
   -- the search stops where it stands
-  still : (found : Result Verdict SearchStop) (faults : ℕ) → faults ≡ 0 → Concludes limit formula h.journal faults found → IsSearch limit formula (record { verdict = found; learned = count }) faults written
+  still : (found : Result Verdict SearchStop) (faults : ℕ) → faults ≡ 0 → Concludes limit formula h.journal faults found → IsSearch limit formula found count faults written
   still found faults quiet conclusion = record {
     journal = h.journal;
     stands = stands_whole formula.clauses G count written h;
@@ -39,13 +39,13 @@ module _ (limit : ℕ) (formula : FormulaData) (G : List (List Literal)) (count 
     short = λ some. absurd (some quiet);
   }
 
-  pub ends_in_memory : (faults : ℕ) → faults ≡ 0 → IsSearch limit formula (record { verdict = Err Memory; learned = count }) faults written
+  pub ends_in_memory : (faults : ℕ) → faults ≡ 0 → IsSearch limit formula (Err Memory) count faults written
   ends_in_memory faults quiet = still (Err Memory) faults quiet quiet
 
-  pub ends_in_model : (model : List Bool) (faults : ℕ) → faults ≡ 0 → IsModel formula model → IsSearch limit formula (record { verdict = Ok (Satisfiable model); learned = count }) faults written
+  pub ends_in_model : (model : List Bool) (faults : ℕ) → faults ≡ 0 → IsModel formula model → IsSearch limit formula (Ok (Satisfiable model)) count faults written
   ends_in_model model faults quiet is = still (Ok (Satisfiable model)) faults quiet (quiet, is)
 
-  pub ends_spent : (faults : ℕ) → faults ≡ 0 → count ≡ limit → IsSearch limit formula (record { verdict = Ok Unknown; learned = count }) faults written
+  pub ends_spent : (faults : ℕ) → faults ≡ 0 → count ≡ limit → IsSearch limit formula (Ok Unknown) count faults written
   ends_spent faults quiet full = still (Ok Unknown) faults quiet (
     quiet,
     record {
@@ -62,7 +62,7 @@ module _ (limit : ℕ) (formula : FormulaData) (G : List (List Literal)) (count 
 
   -- a write failed
   pub ends_in_fault : (lits : List Literal) (new : Option (List ℕ)) (before after : ℕ) → rup G lits ≡ true → All (IsOn (2 ^ 30)) lits → before ≡ 0 → Rose before after → GrowsByPart written new (line_text (AddLine lits))
-      → IsSearch limit formula (record { verdict = Err ProofFault; learned = count }) after new
+      → IsSearch limit formula (Err ProofFault) count after new
   ends_in_fault lits new before after follows named quiet rose grown = record {
     journal = h.journal;
     stands = stands_whole formula.clauses G count written h;
@@ -74,10 +74,10 @@ module _ (limit : ℕ) (formula : FormulaData) (G : List (List Literal)) (count 
 
   -- the empty clause was written
   pub ends_refuted : (new : Option (List ℕ)) (faults : ℕ) → rup G [] ≡ true → faults ≡ 0 → GrowsBy written new (line_text (AddLine []))
-      → IsSearch limit formula (record { verdict = Ok Unsatisfiable; learned = count }) faults new
+      → IsSearch limit formula (Ok Unsatisfiable) count faults new
   ends_refuted new faults follows quiet grown = record {
     journal = h.journal ++ entry formula.clauses h.journal Derive [] ∷ [];
-    stands = stands_next formula.clauses G count written h Derive [] follows nothing_named refl;
+    stands = stands_next formula.clauses G count written h Derive [] follows nothing_named (refl, refl);
     counts = sym (ap length (learned-append 0 h.journal (entry formula.clauses h.journal Derive [] ∷ [])) ∙ ap length (append-nil (learned 0 h.journal)) ∙ h.counts);
     conclusion = (
       quiet,
@@ -96,17 +96,19 @@ module _ (limit : ℕ) (formula : FormulaData) (G : List (List Literal)) (count 
   -- the empty clause was to be written
   pub refute_end : (found : Result Verdict SearchStop) (new : Option (List ℕ)) (before after : ℕ) → rup G [] ≡ true → before ≡ 0
       → WasPut [] found written new before after → IfOk found (λ verdict. verdict ≡ Unsatisfiable)
-      → IsSearch limit formula (record { verdict = found; learned = count }) after new
+      → IsSearch limit formula found count after new
   refute_end (Ok verdict) new before after follows quiet put is =
-      subst (λ (v : Verdict). IsSearch limit formula (record { verdict = Ok v; learned = count }) after new) (sym is) (ends_refuted new after follows (put.1 ∙ quiet) put.0)
+      subst (λ (v : Verdict). IsSearch limit formula (Ok v) count after new) (sym is) (ends_refuted new after follows (put.1 ∙ quiet) put.0)
   refute_end (Err ProofFault) new before after follows quiet put is = ends_in_fault [] new before after follows nothing_named quiet put.1 put.0
+  refute_end (Err (Room need largest)) new before after follows quiet put is = absurd put
   refute_end (Err Memory) new before after follows quiet put is =
-      subst (λ (w : Option (List ℕ)). IsSearch limit formula (record { verdict = Err Memory; learned = count }) after w) (sym put.0) (ends_in_memory after (put.1 ∙ quiet))
+      subst (λ (w : Option (List ℕ)). IsSearch limit formula (Err Memory) count after w) (sym put.0) (ends_in_memory after (put.1 ∙ quiet))
 
   -- a lemma was to be written, and was not
   pub learn_end : (stop : SearchStop) (lits : List Literal) (new : Option (List ℕ)) (before after : ℕ) → rup G lits ≡ true → All (IsOn (2 ^ 30)) lits → before ≡ 0
       → WasPut {T = Unit {0}} lits (Err stop) written new before after
-      → IsSearch limit formula (record { verdict = Err stop; learned = count }) after new
+      → IsSearch limit formula (Err stop) count after new
   learn_end ProofFault lits new before after follows named quiet put = ends_in_fault lits new before after follows named quiet put.1 put.0
+  learn_end (Room need largest) lits new before after follows named quiet put = absurd put
   learn_end Memory lits new before after follows named quiet put =
-      subst (λ (w : Option (List ℕ)). IsSearch limit formula (record { verdict = Err Memory; learned = count }) after w) (sym put.0) (ends_in_memory after (put.1 ∙ quiet))
+      subst (λ (w : Option (List ℕ)). IsSearch limit formula (Err Memory) count after w) (sym put.0) (ends_in_memory after (put.1 ∙ quiet))

@@ -12,16 +12,15 @@ use Rattle.gimsatul.specs.declared.report.Tally.{Tally}
 use Rattle.gimsatul.specs.declared.report.End.{End}
 use Rattle.gimsatul.specs.declared.report.Verdict.{Verdict}
 use Rattle.gimsatul.specs.declared.report.Verdict.TheVariants.{Satisfiable, Unsatisfiable, Unknown}
-use Rattle.gimsatul.specs.declared.search.Searched.{Searched}
 use Rattle.gimsatul.specs.Answer.{answer_text}
 use Rattle.gimsatul.specs.declared.search.SearchStop.{SearchStop}
-use Rattle.gimsatul.specs.declared.search.SearchStop.TheVariants.{ProofFault, Memory}
+use Rattle.gimsatul.specs.declared.search.SearchStop.TheVariants.{ProofFault, Room, Memory}
 use Rattle.dimacs_read.specs.declared.stop.Code.{Code}
 use Rattle.dimacs_read.specs.declared.stop.ReadStop.{ReadStop}
 use Rattle.dimacs_read.specs.declared.stop.ReadStop.TheVariants.{Bad, ReadFault}
 use Rattle.dimacs_read.specs.declared.stop.ReadStop.TheVariants as read_stop
 use Rattle.dimacs_read.specs.Answer.{IsAnswer}
-use Rattle.gimsatul.specs.Ends.{end_of, end_of_stop, end_of_read, tally_of_read}
+use Rattle.gimsatul.specs.Ends.{end_of, end_of_stop, tally_of_stop, end_of_read, tally_of_read}
 use Rattle.gimsatul.specs.Run.{Run, Count, Writer, Output, RoseIn, IsStill, Prints}
 use Rattle.gimsatul.specs.Decided.{Decides}
 use Rattle.gimsatul.specs.Searched.{Concludes, IsSearch}
@@ -45,10 +44,10 @@ unread limit text source out f0 f1 w0 w1 fl0 fl1 result quiet empty same cause f
 }
 
 -- the search came to its end, and the proof was flushed
-pub started : {T E : Type 0} (limit : ℕ) (text : Option (List ℕ)) (source : Count) (out : Output) (formula : FormulaData) (searched : Searched) (tally : Tally) (f0 f1 : ℕ) (w0 w1 fl0 fl1 : Option (List ℕ)) (result : Result T E)
-    → (s : IsSearch limit formula searched f0 w0) → WasRead text formula → IsStill source → tally ≡ ring_tally searched.learned → w1 ≡ w0 → HasCause f0 f1 result → WasFlushed w1 fl0 fl1 result
+pub started : {T E : Type 0} (limit : ℕ) (text : Option (List ℕ)) (source : Count) (out : Output) (formula : FormulaData) (found : Result Verdict SearchStop) (count : ℕ) (tally : Tally) (f0 f1 : ℕ) (w0 w1 fl0 fl1 : Option (List ℕ)) (result : Result T E)
+    → (s : IsSearch limit formula found count f0 w0) → WasRead text formula → IsStill source → tally ≡ ring_tally count → w1 ≡ w0 → HasCause f0 f1 result → WasFlushed w1 fl0 fl1 result
     → IsStarted formula s.journal tally (record { limit = limit; text = text; source = source; proof = Some (record { faults = f1; written = w1; flushed = fl1 }); out = out })
-started limit text source out formula searched tally f0 f1 w0 w1 fl0 fl1 result s read still counts same cause flush = record {
+started limit text source out formula found count tally f0 f1 w0 w1 fl0 fl1 result s read still counts same cause flush = record {
   read = read;
   source = still;
   journal_stands = s.stands;
@@ -67,23 +66,35 @@ counted t learned n start set =
     let one : learned ≡ n ∷ [] = set ∙ ap (λ (u : Tally). slice_set u.learned 0 n) start in
     λ i. record (start i) { learned = one i }
 
-stop_cases : (stop : SearchStop) (limit : ℕ) (F : FormulaData) (J : List Entry) (tally : Tally) (text : Option (List ℕ)) (source : Count) (out : Output) (f0 : ℕ) (writer : Writer)
-    → Concludes limit F J f0 (Err stop) → f0 ≤ writer.faults
-    → IsStarted F J tally (record { limit = limit; text = text; source = source; proof = Some writer; out = out })
+stop_cases : (stop : SearchStop) (limit : ℕ) (F : FormulaData) (J : List Entry) (before tally : Tally) (text : Option (List ℕ)) (source : Count) (out : Output) (f0 : ℕ) (writer : Writer)
+    → Concludes limit F J f0 (Err stop) → f0 ≤ writer.faults → tally ≡ tally_of_stop stop before
+    → IsStarted F J before (record { limit = limit; text = text; source = source; proof = Some writer; out = out })
     → Outcome (end_of_stop stop) F J tally (record { limit = limit; text = text; source = source; proof = Some writer; out = out })
-stop_cases ProofFault limit F J tally text source out f0 writer rose later s = record { started = s; rose = omega arith }
-stop_cases Memory limit F J tally text source out f0 writer rose later s = inr s
+stop_cases ProofFault limit F J before tally text source out f0 writer rose later counts s =
+    let run : Run = record { limit = limit; text = text; source = source; proof = Some writer; out = out } in
+    record { started = subst (λ (t : Tally). IsStarted F J t run) (sym counts) s; rose = omega arith }
+stop_cases (Room need largest) limit F J before tally text source out f0 writer why later counts s = record {
+  read = s.read;
+  source = s.source;
+  journal_stands = s.journal_stands;
+  log = s.log;
+  counts = counts ∙ ap (tally_of_stop (Room need largest)) s.counts;
+  full = why.1;
+}
+stop_cases Memory limit F J before tally text source out f0 writer why later counts s =
+    let run : Run = record { limit = limit; text = text; source = source; proof = Some writer; out = out } in
+    inr (subst (λ (t : Tally). IsStarted F J t run) (sym counts) s)
 
 -- the search stopped without a verdict
-pub stopped : (stop : SearchStop) (end : End) (limit : ℕ) (found : Result Verdict SearchStop) (F : FormulaData) (J : List Entry) (tally : Tally) (text : Option (List ℕ)) (source : Count) (out : Output) (f0 : ℕ) (writer : Writer)
+pub stopped : (stop : SearchStop) (end : End) (limit : ℕ) (found : Result Verdict SearchStop) (F : FormulaData) (J : List Entry) (before tally : Tally) (text : Option (List ℕ)) (source : Count) (out : Output) (f0 : ℕ) (writer : Writer)
     → end ≡ end_of_stop stop → found ≡ Err stop
-    → Concludes limit F J f0 found → f0 ≤ writer.faults
-    → IsStarted F J tally (record { limit = limit; text = text; source = source; proof = Some writer; out = out })
+    → Concludes limit F J f0 found → f0 ≤ writer.faults → tally ≡ tally_of_stop stop before
+    → IsStarted F J before (record { limit = limit; text = text; source = source; proof = Some writer; out = out })
     → Outcome end F J tally (record { limit = limit; text = text; source = source; proof = Some writer; out = out })
-stopped stop end limit found F J tally text source out f0 writer is err why later s =
+stopped stop end limit found F J before tally text source out f0 writer is err why later counts s =
     let run : Run = record { limit = limit; text = text; source = source; proof = Some writer; out = out } in
     subst (λ (e : End). Outcome e F J tally run) (sym is)
-    (stop_cases stop limit F J tally text source out f0 writer (subst (λ (r : Result Verdict SearchStop). Concludes limit F J f0 r) err why) later s)
+    (stop_cases stop limit F J before tally text source out f0 writer (subst (λ (r : Result Verdict SearchStop). Concludes limit F J f0 r) err why) later counts s)
 
 -- the search found a verdict, and met no fault
 pub concluded : (verdict : Verdict) (limit : ℕ) (found : Result Verdict SearchStop) (F : FormulaData) (J : List Entry) (f0 : ℕ) → found ≡ Ok verdict → Concludes limit F J f0 found → (f0 ≡ 0) × Decides limit F J verdict

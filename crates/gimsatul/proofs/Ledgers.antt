@@ -1,5 +1,5 @@
 -- What stands between the steps of the plain search: a journal of its lemmas, and what the proof's writer holds.
-use Rattle.std.proofs.Common.{◌^◌, ◌≡◌, ℕ, zero, suc, ◌+◌, ◌<◌, Bool, true, false, ◌||◌, List, [], ◌∷◌, ◌++◌, length, take, drop, Some, None, refl, sym, ap, ◌∙◌, subst, inl, inr, ⊎_elim, arith, append-nil, length-append, append_assoc}
+use Rattle.std.proofs.Common.{◌^◌, ◌≡◌, ℕ, zero, suc, ◌+◌, ◌<◌, ◌≤◌, Bool, true, false, ◌||◌, List, [], ◌∷◌, ◌++◌, length, take, drop, Some, None, refl, sym, ap, ◌∙◌, subst, inl, inr, ⊎_elim, arith, append-nil, length-append, append_assoc}
 use Rattle.std.specs.Prelude.{All, cond}
 use Rattle.std.specs.declared.option.Option.{Option}
 use Rattle.std.specs.List.{list_any, prefix_len}
@@ -20,7 +20,7 @@ use Rattle.rup_model.specs.Journal.{ring_of, book, lines, IsFit, Fits, added, le
 use Rattle.rup_model.specs.Opening.{is_rulers}
 use Rattle.rup_model.specs.Spent.{rings_part}
 use Rattle.rup_model.specs.declared.journal.Kind.{Kind}
-use Rattle.rup_model.specs.declared.journal.Kind.TheVariants.{Learn, Derive}
+use Rattle.rup_model.specs.declared.journal.Kind.TheVariants.{Learn}
 use Rattle.rup_model.specs.declared.journal.Entry.{Entry}
 use Rattle.rup_model.specs.declared.journal.Entry.TheVariants.{Add}
 use Rattle.rup_model.proofs.Lists.{In, In_append, In_append_left}
@@ -155,10 +155,10 @@ module _ (F G : List (List Literal)) (count : ℕ) (written : Option (List ℕ))
     spelled_next : CanBeSpelled (lines F (h.journal ++ entry F h.journal kind lits ∷ []))
     spelled_next = subst CanBeSpelled (sym lines_next) line_spelled
 
-    plain_next : kind ≡ cond (is_empty lits) Derive Learn → All IsPlainEntry (h.journal ++ entry F h.journal kind lits ∷ [])
-    plain_next right = All-append IsPlainEntry h.journal (entry F h.journal kind lits ∷ []) h.plain (one_of_all IsPlainEntry (entry F h.journal kind lits) (refl, right))
+    plain_next : IsPlainEntry (entry F h.journal kind lits) → All IsPlainEntry (h.journal ++ entry F h.journal kind lits ∷ [])
+    plain_next right = All-append IsPlainEntry h.journal (entry F h.journal kind lits ∷ []) h.plain (one_of_all IsPlainEntry (entry F h.journal kind lits) right)
 
-    pub stands_next : kind ≡ cond (is_empty lits) Derive Learn → IsJournal 1 F (h.journal ++ entry F h.journal kind lits ∷ [])
+    pub stands_next : IsPlainEntry (entry F h.journal kind lits) → IsJournal 1 F (h.journal ++ entry F h.journal kind lits ∷ [])
     stands_next right = record {
       fits = fits_next;
       accepted = accepted_next;
@@ -216,6 +216,10 @@ module _ (F G : List (List Literal)) (count : ℕ) (written : Option (List ℕ))
         neither true y e f = absurd (true≢false e)
         neither false true e f = absurd (true≢false f)
 
+not_empty : (lits : List Literal) → is_empty lits ≡ false → 1 ≤ length lits
+not_empty [] some = absurd (true≢false some)
+not_empty (l ∷ lits) some = omega arith
+
 -- a lemma was learned, and its line written
 pub ledger_learn : (F G : List (List Literal)) (count : ℕ) (old new : Option (List ℕ)) (lits : List Literal) → Ledger F G count old → rup G lits ≡ true → All (IsOn (2 ^ 30)) lits → is_empty lits ≡ false → GrowsBy old new (line_text (AddLine lits))
     → Ledger F (G ++ clause_of lits ∷ []) (count + 1) new
@@ -225,7 +229,7 @@ ledger_learn F G count old new lits h follows named some grown = record {
   accepted = accepted_next F G count old h Learn lits follows named;
   last = last_next F G count old h Learn lits follows named;
   spelled = spelled_next F G count old h Learn lits follows named;
-  plain = plain_next F G count old h Learn lits follows named (sym (ap (λ (b : Bool). cond b Derive Learn) some));
+  plain = plain_next F G count old h Learn lits follows named (refl, not_empty lits some);
   going = going_next F G count old h Learn lits follows named some;
   mine = mine_next F G count old h Learn lits follows named;
   of_ring = of_ring_next F G count old h Learn lits follows named;

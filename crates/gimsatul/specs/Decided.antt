@@ -1,5 +1,5 @@
--- What a verdict says of the clauses and of the journal.
-use Rattle.std.specs.Prelude.{◌≡◌, ℕ, List, Bool, true, false, length, ◌==◌}
+-- What a verdict says of the clauses and of the journal, and what want of room says of the journal.
+use Rattle.std.specs.Prelude.{◌≡◌, ◌+◌, ℕ, List, Bool, true, false, length, ◌==◌}
 use Rattle.std.specs.List.{list_any}
 use Rattle.sat_words.specs.Literal.{Literal}
 use Rattle.sat_words.specs.Truth.{value_of, formula_true}
@@ -8,6 +8,7 @@ use Rattle.rup_model.specs.declared.journal.Entry.{Entry}
 use Rattle.rup_model.specs.Log.{Refutes}
 use Rattle.rup_model.specs.Journal.{lines}
 use Rattle.rup_model.specs.Spent.{Spent}
+use Rattle.drat_text.specs.declared.stop.TheConstants.{MAX_ENTRIES}
 use Rattle.gimsatul.specs.declared.report.Verdict.{Verdict}
 use Rattle.gimsatul.specs.declared.report.Verdict.TheVariants.{Satisfiable, Unsatisfiable, Unknown}
 
@@ -39,3 +40,9 @@ abbrev pub Decides : ℕ → FormulaData → List Entry → Verdict → Type 0
 Decides limit formula journal (Satisfiable model) = IsModel formula model
 Decides limit formula journal Unsatisfiable = IsRefutation formula.clauses journal
 Decides limit formula journal Unknown = IsSpent limit formula.clauses journal
+
+-- the journal has as many entries as may stand: one more is needed than there is room for
+pub record IsFull (journal : List Entry) (need largest : ℕ) : Type 0 where
+  pub entries : length journal ≡ MAX_ENTRIES
+  pub needed : need ≡ MAX_ENTRIES + 1
+  pub found : largest ≡ MAX_ENTRIES

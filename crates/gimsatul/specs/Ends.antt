@@ -20,7 +20,14 @@ end_of verdict.Unknown = end.Unknown
 
 abbrev pub end_of_stop : SearchStop → End
 end_of_stop search_stop.ProofFault = end.ProofFault
+end_of_stop (search_stop.Room need largest) = end.Room need largest
 end_of_stop search_stop.Memory = end.Memory
+
+-- the tally, once the search has stopped without a verdict
+abbrev pub tally_of_stop : SearchStop → Tally → Tally
+tally_of_stop search_stop.ProofFault tally = tally
+tally_of_stop (search_stop.Room need largest) tally = record tally { need = need; largest = largest }
+tally_of_stop search_stop.Memory tally = tally
 
 abbrev pub end_of_read : ReadStop → End
 end_of_read (read_stop.Bad code line) = end.BadInput code line
@@ -49,6 +56,7 @@ prints end.CannotCreate = false
 prints end.ReadFault = false
 prints end.WriteFault = true
 prints end.ProofFault = false
+prints (end.Room need largest) = false
 prints end.Memory = false
 
 -- the test whether standard input stays as it is at this end
@@ -63,6 +71,7 @@ leaves_input end.CannotCreate = true
 leaves_input end.ReadFault = false
 leaves_input end.WriteFault = false
 leaves_input end.ProofFault = false
+leaves_input (end.Room need largest) = false
 leaves_input end.Memory = false
 
 -- the test whether the files stay as they are at this end, by whether a proof was created
@@ -77,6 +86,7 @@ leaves_files end.CannotCreate made = false
 leaves_files end.ReadFault made = false
 leaves_files end.WriteFault made = false
 leaves_files end.ProofFault made = false
+leaves_files (end.Room need largest) made = false
 leaves_files end.Memory made = not made
 
 -- the test whether something may be printed at this status

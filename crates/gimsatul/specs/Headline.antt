@@ -5,7 +5,7 @@ use Rattle.std.specs.declared.option.Option.{Option}
 use Rattle.sat_words.specs.FormulaData.{FormulaData}
 use Rattle.rup_model.specs.declared.journal.Entry.{Entry}
 use Rattle.gimsatul.specs.declared.report.End.{End}
-use Rattle.gimsatul.specs.declared.report.End.TheVariants.{Satisfiable, Unsatisfiable, Unknown, Usage, BadInput, CannotOpen, CannotCreate, ReadFault, WriteFault, ProofFault, Memory}
+use Rattle.gimsatul.specs.declared.report.End.TheVariants.{Satisfiable, Unsatisfiable, Unknown, Usage, BadInput, CannotOpen, CannotCreate, ReadFault, WriteFault, ProofFault, Room, Memory}
 use Rattle.gimsatul.specs.declared.report.Tally.{Tally}
 use Rattle.gimsatul.specs.Run.{Call}
 use Rattle.gimsatul.specs.Outcome.{CallOutcome}
@@ -22,6 +22,7 @@ status_of CannotCreate = 4
 status_of ReadFault = 5
 status_of WriteFault = 6
 status_of ProofFault = 7
+status_of (Room need largest) = 8
 status_of Memory = 9
 
 abbrev pub model_of : End → Option (List Bool)
@@ -35,6 +36,7 @@ model_of CannotCreate = None
 model_of ReadFault = None
 model_of WriteFault = None
 model_of ProofFault = None
+model_of (Room need largest) = None
 model_of Memory = None
 
 pub record Reports (call : Call) (status : ℕ) (model : Option (List Bool)) (tally : Tally) : Type 0 where

@@ -1,12 +1,14 @@
 -- The journal of a run, and what the writer of its proof holds.
-use Rattle.std.specs.Prelude.{◌≡◌, ◌<◌, ◌^◌, ℕ, if◌then◌else◌, List, [], ◌∷◌, ◌++◌, take, All, ⊤, Some, None}
+use Rattle.std.specs.Prelude.{◌≡◌, ◌≤◌, ◌<◌, ◌^◌, ℕ, List, [], ◌∷◌, ◌++◌, length, take, All, ⊤, Some, None}
 use Rattle.std.specs.declared.option.Option.{Option}
 use Rattle.sat_words.specs.Literal.{Literal}
-use Rattle.sat_words.specs.Clause.{is_empty}
 use Rattle.sat_words.specs.declared.line.Line.{Line}
+use Rattle.rup_model.specs.declared.journal.TheConstants.{RULER_RING}
+use Rattle.rup_model.specs.declared.journal.Addition.{Addition}
 use Rattle.rup_model.specs.declared.journal.Entry.{Entry}
 use Rattle.rup_model.specs.declared.journal.Entry.TheVariants.{Add, Del, Reduce}
-use Rattle.rup_model.specs.declared.journal.Kind.TheVariants.{Learn, Derive}
+use Rattle.rup_model.specs.declared.journal.Kind.{Kind}
+use Rattle.rup_model.specs.declared.journal.Kind.TheVariants.{Ruler, Learn, Derive, UnitLine}
 use Rattle.rup_model.specs.Log.{Accepted, lits_of}
 use Rattle.rup_model.specs.Journal.{lines, ring_of, Fits, EmptyLast}
 use Rattle.rup_model.specs.Spent.{rings_part}
@@ -18,9 +20,17 @@ use Rattle.gimsatul.specs.Run.{Writer}
 abbrev pub CanBeSpelled : List Line → Type 0
 CanBeSpelled L = All (λ x. All (IsOn (2 ^ 30)) (lits_of x)) L
 
--- an entry of the one ring that searches: it learns clauses, derives the empty one, and deletes none
+-- an addition of this kind: the ruler's is the empty clause; the one ring learns clauses of a literal or more, adds the
+-- lines of units, and derives the empty clause
+abbrev pub IsPlainAddition : Kind → Addition → Type 0
+IsPlainAddition Ruler x = (x.ring ≡ RULER_RING) × (x.lits ≡ [])
+IsPlainAddition Learn x = (x.ring ≡ 0) × (1 ≤ length x.lits)
+IsPlainAddition Derive x = (x.ring ≡ 0) × (x.lits ≡ [])
+IsPlainAddition UnitLine x = (x.ring ≡ 0) × (length x.lits ≡ 1)
+
+-- an entry of the ruler, or of the one ring that searches: an addition; none is deleted, and nothing is reduced
 abbrev pub IsPlainEntry : Entry → Type 0
-IsPlainEntry (Add x) = (x.ring ≡ 0) × (x.kind ≡ (if is_empty x.lits then Derive else Learn))
+IsPlainEntry (Add x) = IsPlainAddition x.kind x
 IsPlainEntry (Del r n) = ⊥
 IsPlainEntry (Reduce r) = ⊥
 

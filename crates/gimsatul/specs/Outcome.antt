@@ -18,8 +18,8 @@ use Rattle.gimsatul.specs.Input.{WasRead, WasBad}
 use Rattle.gimsatul.specs.Answer.{answer_text}
 use Rattle.gimsatul.specs.Run.{Count, Writer, Output, Run, Call, run_of, HasFile, RoseIn, IsStill, Prints, PrintsPart}
 use Rattle.gimsatul.specs.Journaled.{IsJournal, HoldsLog}
-use Rattle.gimsatul.specs.Decided.{Decides}
-use Rattle.gimsatul.specs.Tallied.{no_tally, ring_tally, bad_tally}
+use Rattle.gimsatul.specs.Decided.{Decides, IsFull}
+use Rattle.gimsatul.specs.Tallied.{no_tally, ring_tally, room_tally, bad_tally}
 
 -- the proof's writer is there, and holds the journal
 abbrev pub HasLog : FormulaData → List Entry → Run → Type 0
@@ -77,6 +77,15 @@ pub record IsUnproved (formula : FormulaData) (journal : List Entry) (tally : Ta
   pub started : IsStarted formula journal tally run
   pub rose : IsSomeAnd run.proof (λ writer. Rose 0 writer.faults)
 
+-- as many lines stand as may, so that there was no room for one more; the tally has what was needed and what there is
+pub record IsCrowded (need largest : ℕ) (formula : FormulaData) (journal : List Entry) (tally : Tally) (run : Run) : Type 0 where
+  pub read : WasRead run.text formula
+  pub source : IsStill run.source
+  pub journal_stands : IsJournal 1 formula.clauses journal
+  pub log : HasLog formula journal run
+  pub counts : tally ≡ room_tally (length (learned 0 journal)) need largest
+  pub full : IsFull journal need largest
+
 abbrev pub Outcome : End → FormulaData → List Entry → Tally → Run → Type 0
 Outcome (end.Satisfiable model) F J tally run = IsAnswered (verdict.Satisfiable model) F J tally run
 Outcome end.Unsatisfiable F J tally run = IsAnswered verdict.Unsatisfiable F J tally run
@@ -88,6 +97,7 @@ Outcome end.CannotCreate F J tally run = ⊥
 Outcome end.ReadFault F J tally run = RoseIn run.source × IsBroken F J tally run
 Outcome end.WriteFault F J tally run = IsCutOff F J tally run
 Outcome end.ProofFault F J tally run = IsUnproved F J tally run
+Outcome (end.Room need largest) F J tally run = IsCrowded need largest F J tally run
 Outcome end.Memory F J tally run = IsBroken F J tally run ⊎ IsStarted F J tally run
 
 -- how a run over a source ended
@@ -132,6 +142,7 @@ CallOutcome end.CannotCreate F J tally call = RoseIn call.files × IsSome (proof
 CallOutcome end.ReadFault F J tally call = IsWhole end.ReadFault F J tally call
 CallOutcome end.WriteFault F J tally call = IsWhole end.WriteFault F J tally call
 CallOutcome end.ProofFault F J tally call = IsWhole end.ProofFault F J tally call
+CallOutcome (end.Room need largest) F J tally call = IsWhole (end.Room need largest) F J tally call
 CallOutcome end.Memory F J tally call = (IsStill call.files × IsIdle J tally call) ⊎ IsWhole end.Memory F J tally call
 
 -- how a call ended

@@ -10,23 +10,24 @@ use Rattle.sat_words.specs.declared.line.Line.TheVariants.{Add}
 use Rattle.io_edge.specs.Bytes.{GrowsBy, GrowsByPart}
 use Rattle.drat_text.specs.Text.{text, line_text}
 use Rattle.gimsatul.specs.declared.report.Verdict.{Verdict}
-use Rattle.gimsatul.specs.declared.search.Searched.{Searched}
 use Rattle.gimsatul.specs.declared.search.SearchStop.{SearchStop}
-use Rattle.gimsatul.specs.declared.search.SearchStop.TheVariants.{ProofFault, Memory}
+use Rattle.gimsatul.specs.declared.search.SearchStop.TheVariants.{ProofFault, Room, Memory}
 use Rattle.gimsatul.specs.Journaled.{IsJournal, HoldsText, IsCutShort}
-use Rattle.gimsatul.specs.Decided.{Decides}
+use Rattle.gimsatul.specs.Decided.{Decides, IsFull}
 
 -- a verdict that holds of the journal; or the cause of none
 abbrev pub Concludes : ℕ → FormulaData → List Entry → ℕ → Result Verdict SearchStop → Type 0
 Concludes limit formula journal faults (Ok verdict) = (faults ≡ 0) × Decides limit formula journal verdict
 Concludes limit formula journal faults (Err ProofFault) = Rose 0 faults
+Concludes limit formula journal faults (Err (Room need largest)) = (faults ≡ 0) × IsFull journal need largest
 Concludes limit formula journal faults (Err Memory) = faults ≡ 0
 
-pub record IsSearch (limit : ℕ) (formula : FormulaData) (searched : Searched) (faults : ℕ) (written : Option (List ℕ)) : Type 0 where
+-- a search with this result, which counted so many lemmas, and left the proof's writer with these faults and bytes
+pub record IsSearch (limit : ℕ) (formula : FormulaData) (verdict : Result Verdict SearchStop) (count : ℕ) (faults : ℕ) (written : Option (List ℕ)) : Type 0 where
   pub journal : List Entry
   pub stands : IsJournal 1 formula.clauses journal
-  pub counts : searched.learned ≡ length (learned 0 journal)
-  pub conclusion : Concludes limit formula journal faults searched.verdict
+  pub counts : count ≡ length (learned 0 journal)
+  pub conclusion : Concludes limit formula journal faults verdict
   pub whole : faults ≡ 0 → HoldsText written (text (lines formula.clauses journal))
   pub short : (faults ≡ 0 → ⊥) → IsCutShort formula.clauses journal written
 
@@ -34,4 +35,5 @@ pub record IsSearch (limit : ℕ) (formula : FormulaData) (searched : Searched) 
 abbrev pub WasPut : {T : Type 0} → List Literal → Result T SearchStop → Option (List ℕ) → Option (List ℕ) → ℕ → ℕ → Type 0
 WasPut lits (Ok done) old new before after = GrowsBy old new (line_text (Add lits)) × (after ≡ before)
 WasPut lits (Err ProofFault) old new before after = GrowsByPart old new (line_text (Add lits)) × Rose before after
+WasPut lits (Err (Room need largest)) old new before after = ⊥
 WasPut lits (Err Memory) old new before after = (new ≡ old) × (after ≡ before)

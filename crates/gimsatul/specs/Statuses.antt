@@ -13,7 +13,7 @@ use Rattle.gimsatul.specs.Words.{Command, command_of, file_path, proof_path}
 use Rattle.gimsatul.specs.Input.{WasRead}
 use Rattle.gimsatul.specs.Run.{Call, HasFile, run_of, source_of, text_of, RoseIn, IsStill}
 use Rattle.gimsatul.specs.Journaled.{IsJournal, HoldsLog}
-use Rattle.gimsatul.specs.Outcome.{IsBroken, IsRefused, IsAnswered, IsCutOff, IsUnproved}
+use Rattle.gimsatul.specs.Outcome.{IsBroken, IsRefused, IsAnswered, IsCutOff, IsUnproved, IsCrowded}
 
 -- the verdict holds of the formula that was read and the one journal of the run; nothing failed but perhaps a write to `err`
 pub record Answers (call : Call) (verdict : Verdict) (tally : Tally) : Type 0 where
@@ -53,6 +53,12 @@ pub record LeftUnproved (call : Call) (tally : Tally) : Type 0 where
   pub formula : FormulaData
   pub journal : List Entry
   pub unproved : IsUnproved formula journal tally (run_of call)
+
+-- there was no room for one line more: the journal is full, and the tally has what was needed and what there is
+pub record LeftNoRoom (call : Call) (tally : Tally) : Type 0 where
+  pub formula : FormulaData
+  pub journal : List Entry
+  pub crowded : IsCrowded tally.need tally.largest formula journal tally (run_of call)
 
 -- one journal stands for the run, and the proof, where there is one, holds it: of the formula that was read, or empty
 pub record HasJournal (call : Call) : Type 0 where
@@ -113,9 +119,10 @@ pub record Statuses (call : Call) (status : ℕ) (model : Option (List Bool)) (t
   pub read_fault : status ≡ 5 → RoseIn (source_of call) × LeftUnread call tally
   pub write_fault : status ≡ 6 → RoseIn call.out.faults × LeftUnprinted call tally
   pub proof_fault : status ≡ 7 → IsSomeAnd call.proof (λ writer. Rose 0 writer.faults) × LeftUnproved call tally
+  pub room : status ≡ 8 → LeftNoRoom call tally
   pub memory : status ≡ 9 → (MadeNothing call × IsStill call.files × IsStill call.input) ⊎ MadeAll call
-  pub known : IsAnswer status ⊎ (status ≡ 1) ⊎ (status ≡ 2) ⊎ (status ≡ 3) ⊎ (status ≡ 4) ⊎ (status ≡ 5) ⊎ (status ≡ 6) ⊎ (status ≡ 7) ⊎ (status ≡ 9)
+  pub known : IsAnswer status ⊎ (status ≡ 1) ⊎ (status ≡ 2) ⊎ (status ≡ 3) ⊎ (status ≡ 4) ⊎ (status ≡ 5) ⊎ (status ≡ 6) ⊎ (status ≡ 7) ⊎ (status ≡ 8) ⊎ (status ≡ 9)
   pub no_model : status ≢ 10 → model ≡ None
   pub made : status ≢ 1 → status ≢ 3 → status ≢ 4 → status ≢ 9 → MadeAll call
   pub journal : HasJournal call
-  pub complete : MustAnswer call → IsAnswer status ⊎ (status ≡ 9)
+  pub complete : MustAnswer call → IsAnswer status ⊎ (status ≡ 8) ⊎ (status ≡ 9)

@@ -5,7 +5,7 @@ ghost use Rattle.io_edge.specs.Bytes.{GrowsBy, GrowsByPart};
 ghost use Rattle.io_edge.specs.Causes.{HasCause};
 ghost use Rattle.io_edge.specs.Paths.{IsEmptyWhereTold};
 ghost use Rattle.gimsatul.specs.Answer.{answer_text};
-ghost use Rattle.gimsatul.specs.Ends.{end_of, end_of_stop, end_of_read, tally_of_read, prints};
+ghost use Rattle.gimsatul.specs.Ends.{end_of, end_of_stop, tally_of_stop, end_of_read, tally_of_read, prints};
 ghost use Rattle.dimacs_read.specs.Input.{IsOn};
 ghost use Rattle.gimsatul.specs.Outcome.{Concluded, IsRun};
 ghost use Rattle.gimsatul.specs.Tallied.{no_tally, ring_tally};
@@ -17,6 +17,12 @@ use dimacs_read::{ReadStop, read};
 use io_edge::{Failed, Sink, Source};
 use sat_words::Formula;
 use std::alloc::Global;
+
+/// How a run over a source ended, and the proof's writer, given back.
+pub struct Decided<P> {
+    pub end: End,
+    pub proof: P,
+}
 
 fn into_end(verdict: Verdict) -> End
     ensures { result ≡ end_of verdict }
@@ -43,11 +49,18 @@ fn print<O: Sink>(out: &mut O, vars: u32, verdict: &Verdict) -> Result<(), Faile
     }
 }
 
-fn stop_end(stop: SearchStop) -> End
-    ensures { result ≡ end_of_stop stop }
+/// How a call ends whose search stopped without a verdict. Where there was no room, the tally takes the two numbers.
+fn stop_end(stop: SearchStop, tally: &mut Tally) -> End
+    ensures end { result ≡ end_of_stop stop }
+    ensures tally { tally.new ≡ tally_of_stop stop tally.old }
 {
     match stop {
         SearchStop::ProofFault => End::ProofFault,
+        SearchStop::Room { need, largest } => {
+            tally.need = need;
+            tally.largest = largest;
+            End::Room { need, largest }
+        }
         SearchStop::Memory => End::Memory,
     }
 }
@@ -57,43 +70,62 @@ fn decide_formula<P: Sink, O: Sink>(
     alloc: Global,
     formula: &Formula,
     limit: u64,
-    proof: &mut P,
+    proof: P,
     out: &mut O,
     tally: &mut Tally,
-) -> End
+) -> Decided<P>
     requires some { 1 ≤ limit }
     requires few { formula.now.vars < 2 ^ 28 }
     requires on_variables { All (All (IsOn formula.now.vars)) formula.now.clauses }
-    requires empty { IsEmptyWhereTold (P.written proof.old) }
-    requires quiet { P.faults proof.old ≡ 0 }
+    requires empty { IsEmptyWhereTold (P.written proof) }
+    requires quiet { P.faults proof ≡ 0 }
     requires started { tally.old ≡ ring_tally 0 }
-    ensures outcome { Concluded limit formula.now result tally.new
-        (record { faults = P.faults proof.new; written = P.written proof.new; flushed = P.flushed proof.new })
+    ensures outcome { Concluded limit formula.now result.end tally.new
+        (record { faults = P.faults result.proof; written = P.written result.proof; flushed = P.flushed result.proof })
         (record {
           faults = record { before = O.faults out.old; after = O.faults out.new };
           before = O.written out.old;
           after = O.written out.new;
           flushed = O.flushed out.new;
         }) }
-    ensures target { P.target proof.new ≡ P.target proof.old }
-    ensures unprinted { prints result ≡ false → out.new ≡ out.old }
+    ensures target { P.target result.proof ≡ P.target proof }
+    ensures unprinted { prints result.end ≡ false → out.new ≡ out.old }
 {
-    let Searched { verdict, learned } = search(alloc, formula, limit, proof);
+    let Searched {
+        verdict,
+        learned,
+        proof,
+    } = search(alloc, formula, limit, proof);
+    let mut proof = proof;
     tally.learned.set(0, learned);
     let verdict = match verdict {
         Ok(verdict) => verdict,
         Err(stop) => {
             let _ = proof.flush();
-            return stop_end(stop);
+            return Decided {
+                end: stop_end(stop, tally),
+                proof,
+            };
         }
     };
     match proof.flush() {
         Ok(()) => {}
-        Err(Failed) => return End::ProofFault,
+        Err(Failed) => {
+            return Decided {
+                end: End::ProofFault,
+                proof,
+            };
+        }
     }
     match print(out, formula.vars(), &verdict) {
-        Ok(()) => into_end(verdict),
-        Err(Failed) => End::WriteFault,
+        Ok(()) => Decided {
+            end: into_end(verdict),
+            proof,
+        },
+        Err(Failed) => Decided {
+            end: End::WriteFault,
+            proof,
+        },
     }
 }
 
@@ -118,19 +150,19 @@ pub fn decide_over<S: Source, P: Sink, O: Sink>(
     alloc: Global,
     source: &mut S,
     limit: u64,
-    proof: &mut P,
+    proof: P,
     out: &mut O,
     tally: &mut Tally,
-) -> End
+) -> Decided<P>
     requires some { 1 ≤ limit }
-    requires empty { IsEmptyWhereTold (P.written proof.old) }
-    requires quiet { P.faults proof.old ≡ 0 }
+    requires empty { IsEmptyWhereTold (P.written proof) }
+    requires quiet { P.faults proof ≡ 0 }
     requires uncounted { tally.old ≡ no_tally }
-    ensures outcome { IsRun result tally.new (record {
+    ensures outcome { IsRun result.end tally.new (record {
       limit = limit;
       text = S.left source.old;
       source = record { before = S.faults source.old; after = S.faults source.new };
-      proof = Some (record { faults = P.faults proof.new; written = P.written proof.new; flushed = P.flushed proof.new });
+      proof = Some (record { faults = P.faults result.proof; written = P.written result.proof; flushed = P.flushed result.proof });
       out = record {
         faults = record { before = O.faults out.old; after = O.faults out.new };
         before = O.written out.old;
@@ -138,21 +170,28 @@ pub fn decide_over<S: Source, P: Sink, O: Sink>(
         flushed = O.flushed out.new;
       };
     }) }
-    ensures target { P.target proof.new ≡ P.target proof.old }
-    ensures unprinted { prints result ≡ false → out.new ≡ out.old }
+    ensures target { P.target result.proof ≡ P.target proof }
+    ensures unprinted { prints result.end ≡ false → out.new ≡ out.old }
 {
+    let mut proof = proof;
     let formula = match read(alloc, source) {
         Ok(formula) => formula,
         Err(stop) => {
             let _ = proof.flush();
-            return read_end(stop, tally);
+            return Decided {
+                end: read_end(stop, tally),
+                proof,
+            };
         }
     };
     match Tally::with_ring(alloc) {
         Ok(started) => *tally = started,
         Err(_) => {
             let _ = proof.flush();
-            return End::Memory;
+            return Decided {
+                end: End::Memory,
+                proof,
+            };
         }
     }
     decide_formula(alloc, &formula, limit, proof, out, tally)

@@ -14,6 +14,16 @@ fn put_bad_place<E: Sink>(err: &mut E, code: Code, line: u64) -> Result<(), Writ
     write_all_of(err, b"\n")
 }
 
+/// Writes the line that says how much room was needed, and how much there is.
+fn put_no_room<E: Sink>(err: &mut E, need: u64, largest: u64) -> Result<(), WriteStop> {
+    let mut digits = Buffer::new();
+    write_all_of(err, b"gimsatul: no room: need ")?;
+    write_all_of(err, digits.format(need).as_bytes())?;
+    write_all_of(err, b", largest hole ")?;
+    write_all_of(err, digits.format(largest).as_bytes())?;
+    write_all_of(err, b"\n")
+}
+
 /// Writes why there is no answer: nothing where there is one.
 pub fn put_message<E: Sink>(err: &mut E, end: &End) -> Result<(), WriteStop> {
     match end {
@@ -25,6 +35,7 @@ pub fn put_message<E: Sink>(err: &mut E, end: &End) -> Result<(), WriteStop> {
         End::ReadFault => write_all_of(err, b"gimsatul: read fault\n"),
         End::WriteFault => write_all_of(err, b"gimsatul: write fault\n"),
         End::ProofFault => write_all_of(err, b"gimsatul: proof fault\n"),
+        End::Room { need, largest } => put_no_room(err, *need, *largest),
         End::Memory => write_all_of(err, b"gimsatul: out of memory\n"),
     }
 }

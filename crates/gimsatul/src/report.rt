@@ -37,6 +37,13 @@ pub enum End {
     ReadFault,
     WriteFault,
     ProofFault,
+    /// There was no room for a clause, or for one line more of the proof.
+    Room {
+        /// How much was needed.
+        need: u64,
+        /// How much there is in one piece.
+        largest: u64,
+    },
     Memory,
 }
 
@@ -98,9 +105,9 @@ pub struct Tally {
     pub offered: Numbers,
     /// How many of its lemmas each ring offered.
     pub exported: Numbers,
-    /// The words that a clause needed where there was no room, else 0.
+    /// How much was needed where there was no room: of a line more than may stand, the number of lines with it. Else 0.
     pub need: u64,
-    /// The longest range of free words where there was no room, else 0.
+    /// How much there is in one piece where there was no room: of lines, how many may stand. Else 0.
     pub largest: u64,
     /// The number of the code of the input's first bad place, from 1, where the input was refused, else 0.
     pub code: u8,

@@ -27,6 +27,13 @@ use std::alloc::{AllocError, AllocFailed, Global};
 pub enum SearchStop {
     /// The proof's sink failed; its fault count rose.
     ProofFault,
+    /// No more lines can stand.
+    Room {
+        /// How much is needed.
+        need: u64,
+        /// How much there is.
+        largest: u64,
+    },
     /// Memory ran out.
     Memory,
 }
@@ -51,11 +58,15 @@ impl<T: Drop> From<AllocFailed<T>> for SearchStop {
     }
 }
 
-/// A verdict, or why there is none, and how many lemmas were learned.
+/// What a search came to.
 #[derive(Drop)]
-pub struct Searched {
+pub struct Searched<P> {
+    /// A verdict, or why there is none.
     pub verdict: Result<Verdict, SearchStop>,
+    /// How many lemmas were learned.
     pub learned: u64,
+    /// The proof's sink, given back.
+    pub proof: P,
 }
 
 /// The values that the decisions make, each of them false.
@@ -192,7 +203,7 @@ fn run<P: Sink>(
     requires quiet { P.faults proof.old ≡ 0 }
     requires uncounted { learned.old ≡ 0 }
     requires some { 1 ≤ limit }
-    ensures searched { IsSearch limit formula.now (record { verdict = result; learned = learned.new }) (P.faults proof.new) (P.written proof.new) }
+    ensures searched { IsSearch limit formula.now result learned.new (P.faults proof.new) (P.written proof.new) }
     ensures target { P.target proof.new ≡ P.target proof.old }
 {
     let vars = formula.vars();
@@ -231,16 +242,21 @@ fn run<P: Sink>(
 }
 
 /// Searches for a model of the formula, and writes each lemma to the proof. It learns at most `limit` lemmas.
-pub fn search<P: Sink>(alloc: Global, formula: &Formula, limit: u64, proof: &mut P) -> Searched
+pub fn search<P: Sink>(alloc: Global, formula: &Formula, limit: u64, proof: P) -> Searched<P>
     requires few { formula.now.vars < 2 ^ 28 }
     requires on_variables { All (All (IsOn formula.now.vars)) formula.now.clauses }
-    requires empty { IsEmptyWhereTold (P.written proof.old) }
-    requires quiet { P.faults proof.old ≡ 0 }
+    requires empty { IsEmptyWhereTold (P.written proof) }
+    requires quiet { P.faults proof ≡ 0 }
     requires some { 1 ≤ limit }
-    ensures searched { IsSearch limit formula.now result (P.faults proof.new) (P.written proof.new) }
-    ensures target { P.target proof.new ≡ P.target proof.old }
+    ensures searched { IsSearch limit formula.now result.verdict result.learned (P.faults result.proof) (P.written result.proof) }
+    ensures target { P.target result.proof ≡ P.target proof }
 {
+    let mut proof = proof;
     let mut learned = 0;
-    let verdict = run(alloc, formula, limit, &mut learned, proof);
-    Searched { verdict, learned }
+    let verdict = run(alloc, formula, limit, &mut learned, &mut proof);
+    Searched {
+        verdict,
+        learned,
+        proof,
+    }
 }

@@ -9,7 +9,7 @@ ghost use Rattle.gimsatul.specs.Tallied.{no_tally};
 ghost use Rattle.gimsatul.specs.Ends.{end_of_words, prints, prints_at, leaves_input, leaves_files};
 ghost use Rattle.gimsatul.specs.Headline.{status_of, model_of, Headline};
 
-use crate::decide::decide_over;
+use crate::decide::{Decided, decide_over};
 use crate::message::put_message;
 use crate::report::{End, Report, Tally};
 use crate::words::{WordsStop, parse};
@@ -99,12 +99,18 @@ fn decide<R: Source, I: Source, W: Sink, O: Sink>(
     ensures ends { leaves_input result.end ≡ false }
     ensures opened { leaves_files result.end true ≡ false }
 {
-    let mut proof = proof;
     let mut tally = tally;
     match file {
         Some(reader) => {
             let mut reader = reader;
-            let end = decide_over(alloc, &mut reader, limit, &mut proof, out, &mut tally);
+            let Decided { end, proof } = decide_over(
+                alloc,
+                &mut reader,
+                limit,
+                proof,
+                out,
+                &mut tally,
+            );
             Ended {
                 end,
                 file: Some(reader),
@@ -113,7 +119,7 @@ fn decide<R: Source, I: Source, W: Sink, O: Sink>(
             }
         }
         None => {
-            let end = decide_over(alloc, input, limit, &mut proof, out, &mut tally);
+            let Decided { end, proof } = decide_over(alloc, input, limit, proof, out, &mut tally);
             Ended {
                 end,
                 file: None,
@@ -215,6 +221,7 @@ fn report_of<R, W>(ended: Ended<R, W>) -> Report<R, W>
         End::ReadFault => 5,
         End::WriteFault => 6,
         End::ProofFault => 7,
+        End::Room { .. } => 8,
         End::Memory => 9,
     };
     Report {

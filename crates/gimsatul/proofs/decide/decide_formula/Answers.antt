@@ -10,8 +10,8 @@ returns-in-Err-clause-outcome g c = λ text source read still.
     record {
       formula = c.args.formula.now;
       journal = s.journal;
-      outcome = stopped c.in-Err.stop c.stop_end.result c.args.limit c.search-verdict.result.verdict c.args.formula.now s.journal _ text source _ _ _ c.stop_end.ensures c.in-Err.is s.conclusion flush.ensures.cause.later
-          (started c.args.limit text source _ c.args.formula.now c.search-verdict.result _ _ _ _ _ _ _ flush.result s read still counts flush.ensures.bytes flush.ensures.cause flush.ensures.flushed);
+      outcome = stopped c.in-Err.stop c.stop_end.result c.args.limit c.search-verdict.result.verdict c.args.formula.now s.journal _ _ text source _ _ _ c.stop_end.ensures.end c.in-Err.is s.conclusion flush.ensures.cause.later c.stop_end.ensures.tally
+          (started c.args.limit text source _ c.args.formula.now c.search-verdict.result.verdict c.search-verdict.result.learned _ _ _ _ _ _ _ flush.result s read still counts flush.ensures.bytes flush.ensures.cause flush.ensures.flushed);
     }
 
 pub returns-in-Err-flush-clause-outcome : goal.returns-in-Err-flush-clause-outcome
@@ -24,7 +24,7 @@ returns-in-Err-flush-clause-outcome g c = λ text source read still.
       formula = c.args.formula.now;
       journal = s.journal;
       outcome = record {
-        started = started c.args.limit text source _ c.args.formula.now c.search-verdict.result _ _ _ _ _ _ _ flush.result s read still counts flush.ensures.bytes flush.ensures.cause flush.ensures.flushed;
+        started = started c.args.limit text source _ c.args.formula.now c.search-verdict.result.verdict c.search-verdict.result.learned _ _ _ _ _ _ _ flush.result s read still counts flush.ensures.bytes flush.ensures.cause flush.ensures.flushed;
         rose = omega (arith, found.0, c.in-Err-flush.ensures.cause.failed);
       };
     }
@@ -39,7 +39,7 @@ returns-in-Ok-print-clause-outcome g c = λ text source read still.
       formula = c.args.formula.now;
       journal = s.journal;
       outcome = answered c.in-Ok.verdict c.into_end.result c.args.limit c.vars.result c.args.formula.now s.journal _ text source _ _ c.into_end.ensures c.vars.ensures found.1 (c.in-Ok-flush.ensures.cause.quiet ∙ found.0) c.in-Ok-print.ensures.cause.quiet c.in-Ok-print.ensures.all c.in-Ok-print.ensures.sure
-          (started c.args.limit text source _ c.args.formula.now c.search-verdict.result _ _ _ _ _ _ _ flush.result s read still counts flush.ensures.bytes flush.ensures.cause flush.ensures.flushed);
+          (started c.args.limit text source _ c.args.formula.now c.search-verdict.result.verdict c.search-verdict.result.learned _ _ _ _ _ _ _ flush.result s read still counts flush.ensures.bytes flush.ensures.cause flush.ensures.flushed);
     }
 
 pub returns-in-Err-print-clause-outcome : goal.returns-in-Err-print-clause-outcome
@@ -52,7 +52,7 @@ returns-in-Err-print-clause-outcome g c = λ text source read still.
       formula = c.args.formula.now;
       journal = s.journal;
       outcome = record {
-        started = started c.args.limit text source _ c.args.formula.now c.search-verdict.result _ _ _ _ _ _ _ flush.result s read still counts flush.ensures.bytes flush.ensures.cause flush.ensures.flushed;
+        started = started c.args.limit text source _ c.args.formula.now c.search-verdict.result.verdict c.search-verdict.result.learned _ _ _ _ _ _ _ flush.result s read still counts flush.ensures.bytes flush.ensures.cause flush.ensures.flushed;
         verdict = c.in-Ok.verdict;
         decided = found.1;
         proof = c.in-Ok-flush.ensures.cause.quiet ∙ found.0;

@@ -39,3 +39,6 @@ pub fn put_message<E: Sink>(err: &mut E, end: &End) -> Result<(), WriteStop> {
         End::Memory => write_all_of(err, b"gimsatul: out of memory\n"),
     }
 }
+
+#[cfg(test)]
+mod tests;

@@ -49,6 +49,13 @@ impl<S: Sink> SinkLines<S> {
         }
     }
 
+    /// Whether the sink has failed, so that no further line can be put.
+    pub fn is_spent(&self) -> bool
+        ensures { result ≡ self.now.spent }
+    {
+        self.spent
+    }
+
     /// Gives the sink back.
     pub fn into_sink(self) -> S
         ensures { result ≡ self.sink }

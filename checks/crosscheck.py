@@ -1,6 +1,6 @@
 """Checks the built program against exhaustive search and a naive DRAT checker, both of their own.
 
-Seeded random formulas of up to 12 variables, pigeonhole formulas and formulas with the empty clause go through the
+Seeded random formulas of up to 16 variables, pigeonhole formulas and formulas with the empty clause go through the
 program with `--proof`, most of them in odd spellings, on standard input or as a file. Its answer is compared with a truth
 table, its `v` lines with the clauses and the format, and every line of its proof with the definition of DRAT. Before
 that, a damaged proof and a wrong model are tried, which must be caught. Nothing here shares code with the program.
@@ -16,7 +16,7 @@ import time
 
 SEED = 20261126
 RANDOM_FORMULAS = 300
-MOST_VARIABLES = 12
+MOST_VARIABLES = 16
 SECONDS = 100
 LINE = re.compile(r"(d )?((?:-?[1-9][0-9]* )*)0")
 

@@ -3,11 +3,14 @@ pub mod Finishes
 pub mod Lawful
 pub mod CommandLine
 pub mod StatusLemmas
-pub mod Assumed
+pub mod Opposites
+pub mod Pairs
+pub mod Units
+pub mod Opens
+pub mod Starting
 pub mod Models
-pub mod Ledgers
-pub mod Conclusions
-pub mod Steps
+pub mod Standing
+pub mod Refuting
 mod AnswerText
 pub mod PlainNumbers
 pub mod PlainTokens

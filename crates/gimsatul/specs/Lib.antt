@@ -6,8 +6,10 @@ pub mod Ends
 pub mod Run
 pub mod Journaled
 pub mod Decided
-pub mod Decisions
 pub mod Searched
+pub mod Opened
+pub mod Begun
+pub mod Concluded
 pub mod Tallied
 pub mod Outcome
 pub mod Statuses

@@ -31,9 +31,3 @@ pub record IsSearch (limit : ℕ) (formula : FormulaData) (verdict : Result Verd
   pub whole : faults ≡ 0 → HoldsText written (text (lines formula.clauses journal))
   pub short : (faults ≡ 0 → ⊥) → IsCutShort formula.clauses journal written
 
--- the line that adds the literals was written; or a part of it where the sink failed; or nothing
-abbrev pub WasPut : {T : Type 0} → List Literal → Result T SearchStop → Option (List ℕ) → Option (List ℕ) → ℕ → ℕ → Type 0
-WasPut lits (Ok done) old new before after = GrowsBy old new (line_text (Add lits)) × (after ≡ before)
-WasPut lits (Err ProofFault) old new before after = GrowsByPart old new (line_text (Add lits)) × Rose before after
-WasPut lits (Err (Room need largest)) old new before after = ⊥
-WasPut lits (Err Memory) old new before after = (new ≡ old) × (after ≡ before)

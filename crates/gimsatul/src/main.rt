@@ -8,11 +8,14 @@ ghost use Rattle.std.specs.declared.io.ErrorKind.{ErrorKind};
 ghost use Rattle.gimsatul.specs.Stopped.{stop_status};
 
 mod answer;
+mod conclude;
 mod decide;
 mod laws;
 mod message;
+mod opening;
 mod report;
 mod search;
+mod start;
 #[cfg(test)]
 mod tests;
 mod top;

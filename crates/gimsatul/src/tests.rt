@@ -126,11 +126,13 @@ fn models(rt: HostRuntime) -> Result<(), Fail> {
         Row {
             input: b"c x\np cnf 3 3\n1 0 -1 2\n0 -2 -3 0\n",
             out: b"s SATISFIABLE\nv 1 2 -3 0\n",
+            proof: Some(b"2 0\n-3 0\n"),
             ..MODEL
         },
         Row {
             input: b"p cnf 2 3\n1 1 0\n2 -2 0\n-1 -2 -2 0",
             out: b"s SATISFIABLE\nv 1 -2 0\n",
+            proof: Some(b"-2 0\n"),
             ..MODEL
         },
         Row {
@@ -478,7 +480,7 @@ fn six_pigeons_in_five_holes(rt: HostRuntime) -> Result<(), Fail> {
         status: 20,
         out: b"s UNSATISFIABLE\n",
         compares_proof: false,
-        learned: &[374],
+        learned: &[49],
         ..PLAIN
     };
     check_row(&rt, row, 65536)

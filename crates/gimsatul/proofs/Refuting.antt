@@ -1,0 +1,138 @@
+-- A formula that has the empty clause: its refutation is one line, and what the search says of the line.
+use Rattle.std.proofs.Common.{◌≡◌, ◌^◌, ◌∙◌, ℕ, zero, suc, ◌+◌, ◌<◌, ◌≤◌, Bool, true, false, not, List, [], ◌∷◌, ◌++◌, length, map, take, Some, None, Ok, Err, refl, sym, ap, subst, inl, inr, arith, append-nil, get_or}
+use Rattle.std.specs.Prelude.{All, Result}
+use Rattle.std.specs.declared.option.Option.{Option}
+use Rattle.std.specs.List.{list_any}
+use Rattle.std.specs.Io.KnownBytes.{append_known}
+use Rattle.std.proofs.lemmas.Bool.{or_left, or_right, true≢false, false≢true}
+use Rattle.io_edge.specs.Causes.{Rose}
+use Rattle.io_edge.specs.Paths.{IsEmptyWhereTold}
+use Rattle.sat_words.specs.Literal.{Literal, opposite}
+use Rattle.sat_words.specs.Clause.{is_empty, has_opposites}
+use Rattle.sat_words.specs.Truth.{formula_true}
+use Rattle.sat_words.specs.FormulaData.{FormulaData}
+use Rattle.sat_words.specs.declared.line.Line.{Line}
+use Rattle.sat_words.specs.declared.line.Line.TheVariants.{Add as AddLine}
+use Rattle.rup_model.specs.Rup.{rup, rat, conflicts}
+use Rattle.rup_model.specs.Log.{Accepted, Refutes, lits_of}
+use Rattle.rup_model.specs.Journal.{book, lines}
+use Rattle.rup_model.specs.declared.journal.TheConstants.{RULER_RING}
+use Rattle.rup_model.specs.declared.journal.Kind.TheVariants.{Ruler}
+use Rattle.rup_model.specs.declared.journal.Entry.{Entry}
+use Rattle.rup_model.specs.declared.journal.Entry.TheVariants.{Add}
+use Rattle.rup_model.proofs.Lists.{In, In_any, In_Contains}
+use Rattle.rup_model.proofs.Derivation.{conflicts_from_derivation}
+use Rattle.rup_model.proofs.LogLaw.{refutes_none}
+use Rattle.drat_text.specs.LineState.{LineState}
+use Rattle.drat_text.specs.LineOut.{PutLine, FailedLine, WasPut}
+use Rattle.drat_text.specs.declared.stop.LineStop.{LineStop}
+use Rattle.drat_text.specs.declared.stop.LineStop.TheVariants.{ProofFault, Memory}
+use Rattle.drat_text.specs.Text.{text, line_text}
+use Rattle.dimacs_read.specs.Input.{IsOn}
+use Rattle.gimsatul.specs.declared.report.Verdict.{Verdict}
+use Rattle.gimsatul.specs.declared.report.Verdict.TheVariants.{Unsatisfiable}
+use Rattle.gimsatul.specs.declared.search.SearchStop.{SearchStop}
+use Rattle.gimsatul.specs.declared.search.SearchStop.TheVariants.{ProofFault as Faulty, Memory as NoMemory}
+use Rattle.gimsatul.specs.Journaled.{CanBeSpelled, IsPlainEntry, IsJournal, HoldsText, IsCutShort}
+use Rattle.gimsatul.specs.Decided.{IsRefutation}
+use Rattle.gimsatul.specs.Searched.{IsSearch}
+use Rattle.gimsatul.proofs.Standing.{told_whole, on_variables}
+
+pub none_told : (written : Option (List ℕ)) → IsEmptyWhereTold written → HoldsText written []
+none_told None h = tt
+none_told (Some bytes) h = h
+
+pub empty_journal : (F : List (List Literal)) → IsJournal 1 F []
+empty_journal F = record { fits = tt; accepted = tt; last = tt; spelled = λ k x lt. absurd (omega arith); of_rings = λ k x lt. absurd (omega arith); plain = λ k x lt. absurd (omega arith) }
+
+-- no entry, and nothing written
+pub untouched : (limit : ℕ) (formula : FormulaData) (faults : ℕ) (written : Option (List ℕ)) → faults ≡ 0 → IsEmptyWhereTold written → IsSearch limit formula (Err NoMemory) 0 faults written
+untouched limit formula faults written quiet empty = record {
+  journal = [];
+  stands = empty_journal formula.clauses;
+  counts = refl;
+  conclusion = quiet;
+  whole = λ _. none_told written empty;
+  short = λ some. absurd (some quiet);
+}
+
+module _ (limit : ℕ) (formula : FormulaData) (given : list_any is_empty formula.clauses ≡ true) (old : LineState) (empty : IsEmptyWhereTold old.written) (quiet : old.faults ≡ 0) where
+  abbrev F : List (List Literal)
+  F = formula.clauses
+
+  abbrev entry : Entry
+  entry = Add (record { ring = RULER_RING; number = (book F []).next; lits = []; kind = Ruler })
+
+  given_one : (c : List Literal) × In c F × (is_empty c ≡ true)
+  given_one = In_any is_empty F given
+
+  none : (c : List Literal) → is_empty c ≡ true → c ≡ []
+  none [] e = refl
+  none (l ∷ c) e = absurd (false≢true e)
+
+  given_empty : In [] F
+  given_empty = subst (λ (c : List Literal). In c F) (none given_one.0 given_one.2) given_one.1
+
+  implied : rup F [] ≡ true
+  unfolding rup
+  implied = or_right (has_opposites []) (conflicts F (map opposite [])) (conflicts_from_derivation F [] [] [] tt (In_Contains F [] given_empty) refl)
+
+  accepted : Accepted F (AddLine [] ∷ [])
+  accepted = (or_left (rup F []) (rat F []) implied, tt)
+
+  spelled : CanBeSpelled (AddLine [] ∷ [])
+  spelled zero x lt j l less = absurd (omega arith)
+  spelled (suc k) x lt j l less = absurd (omega arith)
+
+  refutes : Refutes F (AddLine [] ∷ [])
+  refutes = record { accepted = accepted; ends = ([], refl) }
+
+  stands : IsJournal 1 F (entry ∷ [])
+  stands = record {
+    fits = (record { numbered = refl; names = tt }, tt);
+    accepted = accepted;
+    last = (refl, tt);
+    spelled = spelled;
+    of_rings = λ k x lt. absurd (omega arith);
+    plain = λ k x lt. by k x lt;
+  }
+    where
+      by : (k : ℕ) (x : Entry) → k < 1 → IsPlainEntry (get_or (entry ∷ []) k x)
+      by zero x lt = (refl, refl)
+      by (suc k) x lt = absurd (omega arith)
+
+  pub refuted : (new : LineState) (number : ℕ) → PutLine old new (AddLine []) number → IsSearch limit formula (Ok Unsatisfiable) 0 new.faults new.written
+  refuted new number put =
+      let faults : new.faults ≡ 0 = ap (λ (s : LineState). s.faults) put.state ∙ quiet in
+      record {
+        journal = entry ∷ [];
+        stands = stands;
+        counts = refl;
+        conclusion = (faults, record { refuted = refutes; no_model = λ m t. refutes_none F (AddLine [] ∷ []) refutes (on_variables (AddLine [] ∷ []) spelled) (m, t) });
+        whole = λ _. subst (λ (t : List ℕ). HoldsText new.written t) (sym (append-nil (line_text (AddLine [])))) (told_whole old.written new.written (line_text (AddLine [])) empty (ap (λ (s : LineState). s.written) put.state));
+        short = λ some. absurd (some faults);
+      }
+
+  pub failed : (new : LineState) → FailedLine old new (AddLine []) → IsSearch limit formula (Err Faulty) 0 new.faults new.written
+  failed new put =
+      let rose : Rose 0 new.faults = subst (λ (n : ℕ). Rose n new.faults) quiet put.rose in
+      record {
+        journal = [];
+        stands = empty_journal F;
+        counts = refl;
+        conclusion = rose;
+        whole = λ no_faults. absurd (omega arith);
+        short = λ _. record {
+          front = [];
+          rest = [];
+          front_of = refl;
+          line = AddLine [];
+          cut = put.part.cut;
+          accepted = accepted;
+          spelled = spelled;
+          bytes = told_whole old.written new.written (take put.part.cut (line_text (AddLine []))) empty put.part.grown;
+        };
+      }
+
+  pub no_memory : (new : LineState) → new ≡ old → IsSearch limit formula (Err NoMemory) 0 new.faults new.written
+  no_memory new is = subst (λ (s : LineState). IsSearch limit formula (Err NoMemory) 0 s.faults s.written) (sym is) (untouched limit formula old.faults old.written quiet empty)

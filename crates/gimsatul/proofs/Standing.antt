@@ -1,0 +1,256 @@
+-- From the port after the run to what the search says.
+use Rattle.std.proofs.Common.{◌≡◌, ◌≢◌, ◌^◌, ◌∙◌, ℕ, zero, suc, ◌+◌, ◌<◌, ◌≤◌, Bool, true, false, not, List, [], ◌∷◌, ◌++◌, length, take, Some, None, Ok, Err, refl, sym, ap, subst, inl, inr, arith, append-nil, lit≤}
+use Rattle.std.specs.Prelude.{All, Result, IsSomeAnd, IfSome}
+use Rattle.std.specs.declared.option.Option.{Option}
+use Rattle.std.specs.List.{list_any}
+use Rattle.std.specs.Io.KnownBytes.{append_known}
+use Rattle.std.proofs.lemmas.Bool.{cases_Bool, true≢false, false≢true}
+use Rattle.std.proofs.lemmas.List.Elements.{All-append}
+use Rattle.io_edge.specs.Causes.{Rose}
+use Rattle.io_edge.specs.Paths.{IsEmptyWhereTold}
+use Rattle.sat_words.specs.Literal.{Literal}
+use Rattle.sat_words.specs.Clause.{is_empty}
+use Rattle.sat_words.specs.Truth.{lit_true, clause_true, formula_true}
+use Rattle.sat_words.specs.FormulaData.{FormulaData}
+use Rattle.sat_words.specs.declared.line.Line.{Line}
+use Rattle.sat_words.specs.declared.line.Line.TheVariants.{Add as AddLine}
+use Rattle.sat_words.specs.declared.shared.Stop.{Stop}
+use Rattle.rup_model.specs.Basics.{EachAfter}
+use Rattle.rup_model.specs.Log.{lits_of, Accepted, Refutes, OnVariables}
+use Rattle.rup_model.specs.Journal.{Book, book, formula_book, book_after, lines, lines_from, learned, added, ring_of, LogSound, IsSpaced}
+use Rattle.rup_model.specs.Spent.{Spent, rings_part}
+use Rattle.rup_model.specs.declared.journal.TheConstants.{RULER_RING}
+use Rattle.rup_model.specs.declared.journal.Kind.{Kind}
+use Rattle.rup_model.specs.declared.journal.Kind.TheVariants.{Ruler, Learn, Derive, UnitLine}
+use Rattle.rup_model.specs.declared.journal.Entry.{Entry}
+use Rattle.rup_model.specs.declared.journal.Entry.TheVariants.{Add, Del, Reduce}
+use Rattle.rup_model.proofs.Parts.{rings_part-append}
+use Rattle.rup_model.proofs.LogLaw.{refutes_none}
+use Rattle.ring_port.proofs.Refuted.{ended_refutes}
+use Rattle.drat_text.specs.declared.stop.TheConstants.{MAX_ENTRIES}
+use Rattle.drat_text.specs.LineState.{LineState}
+use Rattle.drat_text.specs.Text.{text, line_text}
+use Rattle.dimacs_read.specs.Input.{IsOn}
+use Rattle.ring_port.specs.PortState.{Holding, PortState, IsPort, IsStop, IsOn as IsPortOn}
+use Rattle.ring_port.specs.Port.{is_usable}
+use Rattle.ring_port.specs.declared.stops.PortStop.TheVariants.{NoHole as NoHoleAnswer}
+use Rattle.ring_port.specs.Log.{Origin, StandsOver, HasLines, IsCaused, journal_of, own_text}
+use Rattle.ring_run.specs.declared.job.End.{End}
+use Rattle.ring_run.specs.declared.job.End.TheVariants.{Sat, Refuted, Spent as SpentEnd, Stopped, NoHole, ProofFault, Memory}
+use Rattle.ring_run.specs.Ended.{Stays, IsOwn, IsOfKind, IsModelOf, IsSpent, Ends}
+use Rattle.gimsatul.specs.declared.report.Verdict.{Verdict}
+use Rattle.gimsatul.specs.declared.report.Verdict.TheVariants.{Satisfiable, Unsatisfiable, Unknown}
+use Rattle.gimsatul.specs.declared.search.SearchStop.{SearchStop}
+use Rattle.gimsatul.specs.declared.search.SearchStop.TheVariants.{ProofFault as Faulty, Room, Memory as NoMemory}
+use Rattle.gimsatul.specs.Journaled.{CanBeSpelled, IsPlainEntry, IsPlainAddition, IsJournal, HoldsText, IsCutShort}
+use Rattle.gimsatul.specs.Decided.{IsModel, IsRefutation, Decides, IsFull}
+use Rattle.gimsatul.specs.Searched.{Concludes, IsSearch}
+use Rattle.gimsatul.specs.Concluded.{IsWithoutIdle, IsCleared, IsVerdictOf, IsAlone}
+use Rattle.gimsatul.specs.Begun.{origin_of, Begins}
+use Rattle.gimsatul.proofs.Models.{cleared}
+
+-- Texts
+
+pub told_whole : (old new : Option (List ℕ)) (t : List ℕ) → IsEmptyWhereTold old → new ≡ append_known old t → HoldsText new t
+told_whole None new t empty e = subst (λ (w : Option (List ℕ)). HoldsText w t) (sym e) tt
+told_whole (Some bytes) new t empty e = subst (λ (w : Option (List ℕ)). HoldsText w t) (sym e) (ap (λ (bs : List ℕ). bs ++ t) empty)
+
+-- The ring's own entries
+
+cons_All : {X : Type 0} (P : X → Type 0) (x : X) (xs : List X) → P x → All P xs → All P (x ∷ xs)
+cons_All P x xs p ps zero d lt = p
+cons_All P x xs p ps (suc k) d lt = ps k d (omega arith)
+
+later_All : {X : Type 0} (P : X → Type 0) (x : X) (xs : List X) → All P (x ∷ xs) → All P xs
+later_All P x xs all k d lt = all (suc k) d (omega arith)
+
+first_All : {X : Type 0} (P : X → Type 0) (x : X) (xs : List X) → All P (x ∷ xs) → P x
+first_All P x xs all = all 0 x (omega arith)
+
+one_line : (vars : ℕ) (b : Book) (es : List Entry) → All (IsOwn 0 vars) es → length (lines_from b es) ≡ length es
+one_line vars b [] own = refl
+one_line vars b (Add x ∷ es) own = ap suc (one_line vars (book_after b (Add x)) es (later_All (IsOwn 0 vars) (Add x) es own))
+one_line vars b (Del r n ∷ es) own = absurd (first_All (IsOwn 0 vars) (Del r n) es own)
+one_line vars b (Reduce r ∷ es) own = absurd (first_All (IsOwn 0 vars) (Reduce r) es own)
+
+spell_all : (vars : ℕ) → vars ≤ 2 ^ 30 → (c : List Literal) → All (IsPortOn vars) c → All (IsOn (2 ^ 30)) c
+spell_all vars few c on k d lt = let h = on k d lt in let high = h.high in record { low = h.low; high = omega arith }
+
+spelled_from : (vars : ℕ) → vars ≤ 2 ^ 30 → (b : Book) (es : List Entry) → All (IsOwn 0 vars) es → CanBeSpelled (lines_from b es)
+spelled_from vars few b [] own = λ k d lt. absurd (omega arith)
+spelled_from vars few b (Add x ∷ es) own =
+    cons_All (λ y. All (IsOn (2 ^ 30)) (lits_of y)) (AddLine x.lits) (lines_from (book_after b (Add x)) es) (spell_all vars few x.lits (first_All (IsOwn 0 vars) (Add x) es own).1)
+    (spelled_from vars few (book_after b (Add x)) es (later_All (IsOwn 0 vars) (Add x) es own))
+spelled_from vars few b (Del r n ∷ es) own = absurd (first_All (IsOwn 0 vars) (Del r n) es own)
+spelled_from vars few b (Reduce r ∷ es) own = absurd (first_All (IsOwn 0 vars) (Reduce r) es own)
+
+plain_from : (vars : ℕ) (es : List Entry) → All (IsOwn 0 vars) es → All IsPlainEntry es
+plain_from vars [] own = λ k d lt. absurd (omega arith)
+plain_from vars (Add x ∷ es) own =
+    let h = first_All (IsOwn 0 vars) (Add x) es own in
+    cons_All IsPlainEntry (Add x) es (by x.kind h.0 h.2) (plain_from vars es (later_All (IsOwn 0 vars) (Add x) es own))
+  where
+    by : (kind : Kind) → x.ring ≡ 0 → IsOfKind kind x.lits → IsPlainAddition kind x
+    by Ruler ring h = absurd h
+    by Learn ring h = (ring, h)
+    by Derive ring h = (ring, h)
+    by UnitLine ring h = (ring, h)
+plain_from vars (Del r n ∷ es) own = absurd (first_All (IsOwn 0 vars) (Del r n) es own)
+plain_from vars (Reduce r ∷ es) own = absurd (first_All (IsOwn 0 vars) (Reduce r) es own)
+
+of_ring : (end vars : ℕ) → 1 ≤ end → (es : List Entry) → All (IsOwn 0 vars) es → All (λ e. ring_of e < end) es
+of_ring end vars some [] own = λ k d lt. absurd (omega arith)
+of_ring end vars some (Add x ∷ es) own =
+    let h = first_All (IsOwn 0 vars) (Add x) es own in
+    cons_All (λ e. ring_of e < end) (Add x) es (let ring = h.0 in omega arith) (of_ring end vars some es (later_All (IsOwn 0 vars) (Add x) es own))
+of_ring end vars some (Del r n ∷ es) own = absurd (first_All (IsOwn 0 vars) (Del r n) es own)
+of_ring end vars some (Reduce r ∷ es) own = absurd (first_All (IsOwn 0 vars) (Reduce r) es own)
+
+spaced_from : (vars : ℕ) (before es : List Entry) → All (IsOwn 0 vars) es → EachAfter IsSpaced before es
+spaced_from vars before [] own = tt
+spaced_from vars before (Add x ∷ es) own = (tt, spaced_from vars (before ++ Add x ∷ []) es (later_All (IsOwn 0 vars) (Add x) es own))
+spaced_from vars before (Del r n ∷ es) own = absurd (first_All (IsOwn 0 vars) (Del r n) es own)
+spaced_from vars before (Reduce r ∷ es) own = absurd (first_All (IsOwn 0 vars) (Reduce r) es own)
+
+pub on_variables : (L : List Line) → CanBeSpelled L → OnVariables L
+on_variables L spelled k d lt j l less = (spelled k d lt j l less).low
+
+module _ (formula : FormulaData) (output : LineState) (p s : PortState) (limit count : ℕ) (end : End) (out : LineState)
+    (begins : Begins formula output p) (few : formula.vars < 2 ^ 28) (empty : IsEmptyWhereTold output.written) (quiet : output.faults ≡ 0)
+    (stays : Stays p s) (wrote : All (IsOwn p.ring p.vars) s.mine) (counted : count ≡ length (learned s.ring s.mine))
+    (spent : end ≡ SpentEnd → count ≡ limit) (ends : Ends s end) (is_port : IsPort s) (lines_are : Some out ≡ s.output) where
+  abbrev F : List (List Literal)
+  F = formula.clauses
+
+  abbrev J : List Entry
+  J = s.mine
+
+  abbrev over : Origin
+  over = origin_of F output
+
+  stands : StandsOver over s
+  stands = stays.log over begins.stands
+
+  own : All (IsOwn 0 formula.vars) J
+  own = subst (λ (v : ℕ). All (IsOwn 0 v) J) begins.vars (subst (λ (r : ℕ). All (IsOwn r p.vars) J) begins.ring wrote)
+
+  ring_is : s.ring ≡ 0
+  ring_is = stays.ring ∙ begins.ring
+
+  has_lines : HasLines over s out
+  has_lines = subst (λ (w : Option LineState). IsSomeAnd w (HasLines over s)) (sym lines_are) stands.output
+
+  spelled : CanBeSpelled (lines F J)
+  spelled = spelled_from formula.vars (omega arith) (formula_book F) J own
+
+  rings : rings_part J ≡ J
+  rings = rings_part-append [] J (λ k d lt. absurd (omega arith)) (of_ring RULER_RING formula.vars (lit≤ tt) J own)
+
+  journal_stands : IsJournal 1 F J
+  journal_stands = record {
+    fits = stands.sound.fits;
+    accepted = stands.sound.accepted;
+    last = stands.sound.empty_last;
+    spelled = spelled;
+    of_rings = subst (λ (K : List Entry). All (λ e. ring_of e < 1) K) (sym rings) (of_ring 1 formula.vars (omega arith) J own);
+    plain = plain_from formula.vars J own;
+  }
+
+  counts : count ≡ length (learned 0 J)
+  counts = counted ∙ ap (λ (r : ℕ). length (learned r J)) ring_is
+
+  rose : out.spent ≡ true → Rose 0 out.faults
+  rose e = subst (λ (n : ℕ). Rose n out.faults) quiet (has_lines.short e).rose
+
+  still : out.spent ≡ false → out.faults ≡ 0
+  still e = (has_lines.whole e).quiet ∙ quiet
+
+  not_both : out.spent ≡ true → out.faults ≡ 0 → ⊥
+  not_both e none = let r = rose e in omega arith
+
+  whole : out.faults ≡ 0 → HoldsText out.written (text (lines F J))
+  whole none = elim (cases_Bool out.spent) as (λ _. HoldsText out.written (text (lines F J))) [
+    | inl e ↦ absurd (not_both e none)
+    | inr e ↦ told_whole output.written out.written (text (lines F J)) empty (has_lines.whole e).bytes
+  ]
+
+  short_by : out.spent ≡ true → IsCutShort F J out.written
+  short_by e =
+      let h = has_lines.short e in
+      record {
+        front = lines F J;
+        rest = [];
+        front_of = sym (append-nil (lines F J));
+        line = h.line;
+        cut = h.cut;
+        accepted = h.accepted;
+        spelled = All-append (λ x. All (IsOn (2 ^ 30)) (lits_of x)) (lines F J) (h.line ∷ []) spelled
+            (cons_All (λ x. All (IsOn (2 ^ 30)) (lits_of x)) h.line [] (spell_all s.vars (let a = stays.vars in let b = begins.vars in omega arith) (lits_of h.line) h.on) (λ k d lt. absurd (omega arith)));
+        bytes = told_whole output.written out.written (text (lines F J) ++ take h.cut (line_text h.line)) empty h.bytes;
+      }
+
+  short : (out.faults ≡ 0 → ⊥) → IsCutShort F J out.written
+  short some = elim (cases_Bool out.spent) as (λ _. IsCutShort F J out.written) [
+    | inl e ↦ short_by e
+    | inr e ↦ absurd (some (still e))
+  ]
+
+  -- the model, of the port as it began
+  model : (a : List Bool) → IsModelOf s a → formula_true a F ≡ true
+  model a m = begins.covers a (record {
+    long = m.long ∙ stays.vars;
+    start = subst (All (λ (h : Holding). clause_true a h.lits ≡ true)) stays.start m.start;
+    opening = subst (All (λ l. lit_true a l ≡ true)) stays.opening m.opening;
+    seen = subst (All (λ l. lit_true a l ≡ true)) (sym begins.untouched.seen) (λ k d lt. absurd (omega arith));
+  })
+
+  refutation : s.ended ≡ true → IsRefutation F J
+  refutation e =
+      let r = ended_refutes over s stands e in
+      record { refuted = r; no_model = λ m t. refutes_none F (lines F J) r (on_variables (lines F J) spelled) (m, t) }
+
+  spent_all : IsSpent s → count ≡ limit → Spent F J 1 limit
+  spent_all h is = record {
+    of_rings = journal_stands.of_rings;
+    fits = stands.sound.fits;
+    learns = λ r lt. (let zero_ring : r ≡ 0 = omega arith in subst (λ (q : ℕ). length (learned q J) ≡ limit) (sym zero_ring) (sym counts ∙ is));
+    spaced = spaced_from formula.vars [] J own;
+    going = h.going;
+  }
+
+  full : (need largest : ℕ) → s.refused ≡ Some (NoHoleAnswer need largest) → IsFull J need largest
+  full need largest e =
+      let t : IsCaused s out (Some (NoHoleAnswer need largest)) = subst (IsCaused s out) e has_lines.caused in
+      record { entries = sym (sym t.0 ∙ has_lines.entries ∙ one_line formula.vars (formula_book F) J own); needed = t.1; found = t.2 }
+
+  unusable : out.spent ≡ false → is_usable s.refused ≡ false → ⊥
+  unusable e u = true≢false (sym (ap not e) ∙ sym has_lines.usable ∙ u)
+
+  pub concludes_faulty : out.spent ≡ true → Concludes limit formula J out.faults (Err Faulty)
+  concludes_faulty e = rose e
+
+  pub concludes : out.spent ≡ false → (result : Result Verdict SearchStop) → IsVerdictOf formula end result → Concludes limit formula J out.faults result
+  concludes e result = by end spent ends result
+    where
+      model_by : (a : List Bool) → IsModelOf s a → (r : Result Verdict SearchStop) → IsCleared formula a r → Concludes limit formula J out.faults r
+      model_by a m (Ok v) h = subst (λ (w : Verdict). Concludes limit formula J out.faults (Ok w)) (sym h.1) (still e, cleared formula a h.0 (model a m) h.2)
+      model_by a m (Err stop) h = subst (λ (w : SearchStop). Concludes limit formula J out.faults (Err w)) (sym h) (still e)
+
+      by : (x : End) → (x ≡ SpentEnd → count ≡ limit) → Ends s x → (r : Result Verdict SearchStop) → IsVerdictOf formula x r → Concludes limit formula J out.faults r
+      by (Sat a) sp en r v = model_by a en.0 r v
+      by Refuted sp en r v = subst (λ (w : Result Verdict SearchStop). Concludes limit formula J out.faults w) (sym v) (still e, refutation en.0)
+      by SpentEnd sp en r v = subst (λ (w : Result Verdict SearchStop). Concludes limit formula J out.faults w) (sym v) (still e, spent_all en (sp refl))
+      by (Stopped x) sp en r v = absurd v
+      by (NoHole need largest) sp en r v = subst (λ (w : Result Verdict SearchStop). Concludes limit formula J out.faults w) (sym v) (still e, full need largest en.0)
+      by ProofFault sp en r v = absurd (unusable e en.0)
+      by Memory sp en r v = subst (λ (w : Result Verdict SearchStop). Concludes limit formula J out.faults w) (sym v) (still e)
+
+  pub is_search : (result : Result Verdict SearchStop) → Concludes limit formula J out.faults result → IsSearch limit formula result count out.faults out.written
+  is_search result h = record { journal = J; stands = journal_stands; counts = counts; conclusion = h; whole = whole; short = short }
+
+  -- one ring alone sees no other's stop
+  pub alone : IsAlone end
+  alone x e =
+      let t : Ends s (Stopped x) = subst (Ends s) e ends in
+      let stop = subst (λ (w : Option Stop). IfSome w (IsStop s.rings)) t.0 is_port.stop in
+      t.1 (let low = stop.of_ring in let one = stays.rings ∙ begins.rings in let none = ring_is in omega arith)

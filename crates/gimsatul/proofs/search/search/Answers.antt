@@ -1,0 +1,42 @@
+use Rattle.std.proofs.Common.{◌≡◌, ◌∙◌, ap, sym, refl, subst, ℕ, List, [], All, length, false, true, Some, None, Err}
+use Rattle.std.specs.Prelude.{Result}
+use Rattle.std.specs.declared.option.Option.{Option}
+use Rattle.sat_words.specs.FormulaData.{FormulaData}
+use Rattle.drat_text.specs.SinkData.{SinkData, told_by}
+use Rattle.drat_text.specs.LineState.{LineState}
+use Rattle.ring_port.specs.PortState.{PortState}
+use Rattle.ring_run.specs.declared.job.End.{End}
+use Rattle.ring_run.specs.Ended.{IsCounted}
+use Rattle.gimsatul.specs.declared.report.Verdict.{Verdict}
+use Rattle.gimsatul.specs.declared.search.SearchStop.{SearchStop}
+use Rattle.gimsatul.specs.declared.search.SearchStop.TheVariants.{ProofFault}
+use Rattle.gimsatul.specs.Searched.{Concludes, IsSearch}
+use Rattle.gimsatul.specs.Concluded.{IsVerdictOf}
+use Rattle.gimsatul.specs.Begun.{Begins}
+use Rattle.gimsatul.proofs.Standing.{concludes, concludes_faulty, is_search, alone}
+use Rattle.gimsatul.proofs.search.search.Goals as goal
+use Rattle.gimsatul.proofs.search.search.Goals.{then-is_spent, else-is_spent}
+
+pub returns-clause-searched : goal.returns-clause-searched
+returns-clause-searched g c =
+    let F : FormulaData = c.args.formula.now in
+    let told : SinkData g.row.P.Denot → LineState = told_by g.P.Sink.written g.P.Sink.flushed g.P.Sink.target g.P.Sink.faults in
+    let output : LineState = told (record { entries = 0; last = length F.clauses; spent = false; sink = c.args.proof }) in
+    let out : LineState = told c.into_lines-lines.result in
+    let before : PortState = c.in-Ok.port in
+    let after : PortState = c.run_ring-end.new.port in
+    let end : End = c.run_ring-end.result.0 in
+    let count : ℕ = c.run_ring-end.result.1.learned in
+    let begins : Begins F output before = c.in-Ok.ensures.begins in
+    let counted : IsCounted after c.run_ring-end.result.1 = c.run_ring-end.ensures.counts in
+    let spent : end ≡ End.Spent → count ≡ c.args.limit = λ e. c.run_ring-end.ensures.spent.0 e ∙ c.in-Ok-job_of.ensures.limit in
+    let v : Result Verdict SearchStop = c.if-is_spent.verdict in
+    let how : Concludes c.args.limit F after.mine out.faults v = elim c.if-is_spent.branch as (λ _. Concludes c.args.limit F after.mine out.faults v) [
+      | then-is_spent w ↦ subst (λ (r : Result Verdict SearchStop). Concludes c.args.limit F after.mine out.faults r) (sym w.verdict-is)
+          (concludes_faulty F output before after c.args.limit count end out begins c.requires.few c.requires.empty c.requires.quiet c.run_ring-end.ensures.stays c.run_ring-end.ensures.wrote counted.learned_is spent c.run_ring-end.ensures.ends c.run_ring-end.ensures.port c.into_lines-lines.ensures (sym c.is_spent.ensures ∙ w.if-is_spent.true))
+      | else-is_spent w ↦ subst (λ (r : Result Verdict SearchStop). Concludes c.args.limit F after.mine out.faults r) (sym w.verdict-is)
+          (concludes F output before after c.args.limit count end out begins c.requires.few c.requires.empty c.requires.quiet c.run_ring-end.ensures.stays c.run_ring-end.ensures.wrote counted.learned_is spent c.run_ring-end.ensures.ends c.run_ring-end.ensures.port c.into_lines-lines.ensures (sym c.is_spent.ensures ∙ w.if-is_spent.false) w.verdict_of-verdict.result w.verdict_of-verdict.ensures)
+    ] in
+    let all : IsSearch c.args.limit F v count out.faults out.written =
+        is_search F output before after c.args.limit count end out begins c.requires.few c.requires.empty c.requires.quiet c.run_ring-end.ensures.stays c.run_ring-end.ensures.wrote counted.learned_is spent c.run_ring-end.ensures.ends c.run_ring-end.ensures.port c.into_lines-lines.ensures v how in
+    subst (λ (x : g.row.P.Denot). IsSearch c.args.limit F v count (g.P.Sink.faults x) (g.P.Sink.written x)) (sym c.into_sink-2.ensures) all

@@ -1,0 +1,27 @@
+-- How the port of the one ring stands over a formula before and after the search.
+use Rattle.std.specs.Prelude.{◌≡◌, ℕ, Bool, true, List, [], All}
+use Rattle.sat_words.specs.Literal.{Literal}
+use Rattle.sat_words.specs.Truth.{formula_true}
+use Rattle.sat_words.specs.FormulaData.{FormulaData}
+use Rattle.drat_text.specs.LineState.{LineState}
+use Rattle.ring_port.specs.PortState.{PortState, IsPort}
+use Rattle.ring_port.specs.Log.{Origin, StandsOver}
+use Rattle.ring_run.specs.Ended.{IsUntouched, IsModelOf}
+
+-- the lines of a proof over these clauses, where none is written yet
+abbrev pub origin_of : List (List Literal) → LineState → Origin
+origin_of clauses output = record { formula = clauses; journal = []; output = output }
+
+-- each assignment that is true on what the port began with is true on the clauses
+abbrev pub Covers : PortState → List (List Literal) → Type 0
+Covers s clauses = (a : List Bool) → IsModelOf s a → formula_true a clauses ≡ true
+
+-- the port of ring 0, of one ring, over the formula, and nothing has happened yet
+pub record Begins (formula : FormulaData) (output : LineState) (s : PortState) : Type 0 where
+  pub stands : StandsOver (origin_of formula.clauses output) s
+  pub untouched : IsUntouched s
+  pub port : IsPort s
+  pub vars : s.vars ≡ formula.vars
+  pub ring : s.ring ≡ 0
+  pub rings : s.rings ≡ 1
+  pub covers : Covers s formula.clauses

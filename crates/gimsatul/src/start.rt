@@ -1,0 +1,60 @@
+// How the ring's port begins.
+ghost use Rattle.std.specs.Prelude.{◌≡◌, ◌≤◌, ◌<◌, ◌^◌, [], true, false, All, IfOk, IfErr, length};
+ghost use Rattle.std.specs.List.{list_any};
+ghost use Rattle.io_edge.specs.Paths.{IsEmptyWhereTold};
+ghost use Rattle.sat_words.specs.Clause.{is_empty, InOrder};
+ghost use Rattle.dimacs_read.specs.Input.{IsOn};
+ghost use Rattle.drat_text.specs.SinkData.{told_by};
+ghost use Rattle.gimsatul.specs.Begun.{Begins};
+
+use crate::opening::{starts_of, units_of};
+use drat_text::SinkLines;
+use io_edge::Sink;
+use ring_port::PlainPort;
+use sat_words::{Clause, Formula, a_clause_is_a_set};
+use std::alloc::{AllocFailed, Global};
+
+/// Whether a clause is empty.
+pub(crate) fn has_empty(clauses: &[Clause]) -> bool
+    ensures empty { result ≡ list_any is_empty clauses.now }
+    ensures ordered { result ≡ false → All InOrder clauses.now }
+{
+    a_clause_is_a_set();
+    for clause in clauses {
+        if clause.lits().is_empty() {
+            return true;
+        }
+    }
+    false
+}
+
+/// The port of the one ring over the formula. Refused for memory it gives the sink back.
+pub(crate) fn open_port<S: Sink>(
+    alloc: Global,
+    formula: &Formula,
+    proof: S,
+) -> Result<PlainPort<SinkLines<S>>, AllocFailed<S>>
+    requires few { formula.now.vars < 2 ^ 28 }
+    requires on_variables { All (All (IsOn formula.now.vars)) formula.now.clauses }
+    requires going { list_any is_empty formula.now.clauses ≡ false }
+    requires ordered { All InOrder formula.now.clauses }
+    requires empty { IsEmptyWhereTold (S.written proof) }
+    ensures begins { IfOk result (λ port. Begins formula.now (told_by S.written S.flushed S.target S.faults (record { entries = 0; last = length formula.now.clauses; spent = false; sink = proof })) port) }
+    ensures back { IfErr result (λ refused. refused.value ≡ proof) }
+{
+    let vars = formula.vars();
+    let clauses = formula.clauses();
+    let Ok(starts) = starts_of(alloc, clauses) else {
+        return Err(AllocFailed { value: proof });
+    };
+    let Ok(units) = units_of(alloc, clauses, vars) else {
+        return Err(AllocFailed { value: proof });
+    };
+    let lines = SinkLines::new(clauses.len() as u64, proof);
+    match PlainPort::new(alloc, formula, vars, &starts, &units, lines) {
+        Ok(port) => Ok(port),
+        Err(refused) => Err(AllocFailed {
+            value: refused.value.into_sink(),
+        }),
+    }
+}

@@ -32,3 +32,5 @@ mod tests;
 mod tests_guards;
 #[cfg(test)]
 mod tests_opening;
+#[cfg(test)]
+mod tests_rows;

@@ -1,4 +1,4 @@
-// Worked rows and guards, as tables of events with what becomes of each.
+// Guards, as tables of events with what becomes of each.
 use crate::tests_guards::{CELLS, CLAUSES, EXCHANGE, NO_RINGS, TURNS, UNITS};
 use crate::tests_opening::{FOUR, THREE, open};
 use crate::{Core, Event, Step};
@@ -98,7 +98,7 @@ pub(crate) fn walk(
 }
 
 /// Compares counts of cells.
-fn check_counts(rt: &impl Abort, core: &Core, wanted: &[(u64, u64)]) {
+pub(crate) fn check_counts(rt: &impl Abort, core: &Core, wanted: &[(u64, u64)]) {
     for (address, count) in wanted {
         assert_eq!(rt; core.count(*address), *count, "at {address}");
     }

@@ -1,9 +1,10 @@
-// Events that are refused for want of one part of their guard, each beside one that is not.
+// Events that are refused for want of some part of their guard, beside such as are not.
 use crate::Step;
 use crate::tests::Move;
 use rup_model::Kind;
 
-/// Of two rings, one that does not exist, under guards that hold else.
+/// With two rings, events that name another. Grant, TakeTurn, Stop, and the slots of ring 0 for it lack nothing else;
+/// the other rows lack more of their guard too.
 pub(crate) const NO_RINGS: &[(Move, Step)] = &[
     (Move::Grant(2), Step::Refused),
     (Move::TakeTurn(2), Step::Refused),

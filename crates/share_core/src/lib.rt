@@ -33,4 +33,6 @@ mod tests_guards;
 #[cfg(test)]
 mod tests_opening;
 #[cfg(test)]
+mod tests_reduce;
+#[cfg(test)]
 mod tests_rows;

@@ -36,3 +36,5 @@ mod tests_opening;
 mod tests_reduce;
 #[cfg(test)]
 mod tests_rows;
+#[cfg(test)]
+mod tests_walk;

@@ -1,6 +1,5 @@
-use Rattle.std.proofs.Common.{◌≡◌, Bool, true, List, map, sym, ap, ◌∙◌}
+use Rattle.std.proofs.Common.{◌≡◌, List, map, sym, ap, ◌∙◌}
 use Rattle.sat_words.specs.Literal.{Literal}
-use Rattle.share_core.specs.declared.stored.ClauseAt.{ClauseAt}
 use Rattle.share_core.specs.Machine.{start_at}
 use Rattle.share_core.specs.Openings.{opens}
 use Rattle.share_core.proofs.Openings.{opening_from}

@@ -1,13 +1,13 @@
 -- A model without values for variables that don't occur.
-use Rattle.std.proofs.Common.{◌≡◌, ◌≢◌, ℕ, zero, suc, ◌+◌, ◌-◌, ◌<◌, ◌≤◌, ◌==◌, Bool, true, false, not, ◌||◌, ◌&&◌, List, [], ◌∷◌, ◌++◌, length, take, get_or, replicate, refl, sym, ap, ◌∙◌, subst, inl, inr, arith, length-set, eq-eqb, cond, All}
-use Rattle.std.specs.List.{list_any, list_all}
+use Rattle.std.proofs.Common.{◌≡◌, ◌≢◌, ℕ, zero, suc, ◌+◌, ◌-◌, ◌<◌, ◌≤◌, ◌==◌, Bool, true, false, not, ◌||◌, List, [], ◌∷◌, ◌++◌, length, take, get_or, replicate, refl, sym, ap, ◌∙◌, subst, inl, inr, arith, length-set, eq-eqb, cond}
+use Rattle.std.specs.List.{list_any}
 use Rattle.std.proofs.Math.ListN.{set}
-use Rattle.std.proofs.lemmas.Bool.{or_parts, and_parts, and_from, cases_Bool, true≢false, false≢true}
+use Rattle.std.proofs.lemmas.Bool.{or_parts, cases_Bool, true≢false, false≢true}
 use Rattle.std.proofs.lemmas.List.{take_more, get_or-set_same, get_or-set_other}
 use Rattle.sat_words.specs.Literal.{Literal}
 use Rattle.sat_words.specs.Truth.{value_of, lit_true, clause_true, formula_true}
 use Rattle.sat_words.specs.FormulaData.{FormulaData}
-use Rattle.rup_model.proofs.Lists.{In, any_In, In_any, all_In, In_all}
+use Rattle.rup_model.proofs.Lists.{any_In, In_any, all_In, In_all}
 use Rattle.gimsatul.specs.Decided.{mentions, occurs, IsModel}
 use Rattle.gimsatul.specs.Concluded.{TakesValues, IsWithoutIdle}
 

@@ -1,24 +1,21 @@
 -- The start clauses and the units of a formula open the search over it.
-use Rattle.std.proofs.Common.{◌≡◌, ◌∙◌, ℕ, zero, suc, ◌+◌, ◌<◌, ◌≤◌, ◌==◌, nat_eq, Bool, true, false, not, ◌&&◌, cond, List, [], ◌∷◌, ◌++◌, map, length, All, Option, Some, None, refl, sym, ap, subst, inl, inr, ◌⊎◌, arith, ne_eqb, append-nil, Contains}
-use Rattle.std.specs.Prelude.{◌||◌}
-use Rattle.std.specs.List.{list_any, list_all, cons_option, slice_get, AllByRecursion, IsDistinct}
+use Rattle.std.proofs.Common.{◌≡◌, ◌∙◌, ℕ, zero, suc, ◌+◌, ◌<◌, nat_eq, Bool, true, false, not, ◌&&◌, cond, List, [], ◌∷◌, ◌++◌, map, length, All, Option, Some, None, refl, sym, ap, subst, inl, inr, arith, ne_eqb, append-nil}
+use Rattle.std.specs.List.{cons_option, slice_get, AllByRecursion, IsDistinct}
 use Rattle.std.specs.Option.{option_map}
-use Rattle.std.proofs.lemmas.Bool.{and_parts, and_from, cases_Bool, not-true, or_cases, true≢false, false≢true}
-use Rattle.sat_words.specs.Literal.{Literal, same, opposite}
-use Rattle.sat_words.specs.Truth.{lit_true, clause_true, formula_true}
-use Rattle.sat_words.specs.Clause.{has, InOrder, same_set, distinct_lits, has_opposites, two_or_more, clause_of, is_empty}
-use Rattle.sat_words.proofs.Members.{same-true, clause_true_alike}
-use Rattle.sat_words.proofs.Insertion.{InOrder-clause_of, has-clause_of, clause_of_in_order}
-use Rattle.rup_model.specs.Journal.{book, added, is_told, formula_clause, lines}
-use Rattle.rup_model.specs.Opening.{Start, IsStart, IsLong, IsRulersPart, IsOpening}
-use Rattle.rup_model.proofs.Lists.{In, any_In, In_any, has_In, In_has, Contains_In, In_Contains, In_all, In_map, map_In, In_get_or}
+use Rattle.std.proofs.lemmas.Bool.{and_parts, not-true}
+use Rattle.sat_words.specs.Literal.{Literal}
+use Rattle.sat_words.specs.Clause.{has, same_set, has_opposites, two_or_more, clause_of}
+use Rattle.sat_words.proofs.Insertion.{InOrder-clause_of, has-clause_of}
+use Rattle.rup_model.specs.Journal.{book, is_told, formula_clause}
+use Rattle.rup_model.specs.Opening.{Start, IsStart, IsLong, IsOpening}
+use Rattle.rup_model.proofs.Lists.{In, any_In, has_In, In_has, Contains_In, map_In}
 use Rattle.rup_model.proofs.Units.{two_long}
 use Rattle.rup_model.proofs.Covers.{same_self}
 use Rattle.rup_model.proofs.ProgramOpening.{All_from_In, distinct_in_order}
 use Rattle.drat_text.specs.LineState.{LineState}
 use Rattle.dimacs_read.specs.Input.{IsOn}
-use Rattle.ring_port.specs.PortState.{Holding, IsOn as IsPortOn}
-use Rattle.ring_port.specs.PlainPort.{HasJournal, OpensOver, starts_of, placed_from}
+use Rattle.ring_port.specs.PortState.{IsOn as IsPortOn}
+use Rattle.ring_port.specs.PlainPort.{OpensOver, starts_of}
 use Rattle.ring_port.proofs.Holdings.{All_In}
 use Rattle.gimsatul.specs.Opened.{start_of_clause, start_pairs, IsUnits}
 

@@ -1,15 +1,15 @@
 -- In a list in order, a literal and its negation stand side by side.
-use Rattle.std.proofs.Common.{◌≡◌, ◌∙◌, ℕ, zero, suc, ◌+◌, ◌*◌, ◌<◌, ◌≤◌, Bool, true, false, not, cond, List, [], ◌∷◌, length, get_or, refl, sym, ap, subst, inl, inr, ◌⊎◌, arith}
+use Rattle.std.proofs.Common.{◌≡◌, ◌∙◌, ℕ, suc, ◌+◌, ◌*◌, ◌<◌, ◌≤◌, Bool, true, false, not, cond, List, [], ◌∷◌, length, get_or, refl, sym, ap, inl, inr, arith}
 use Rattle.std.specs.declared.cmp.Ordering.TheVariants.{Less}
 use Rattle.std.specs.Ordering.{nat_cmp}
-use Rattle.std.specs.List.{list_any, AllByRecursion}
+use Rattle.std.specs.List.{AllByRecursion}
 use Rattle.std.specs.List.Sorted.{IsStrictlySortedBy}
 use Rattle.std.proofs.lemmas.Bool.{or_cases, cases_Bool, false≢true}
 use Rattle.std.proofs.lemmas.Bool.Decides.{nat_tests}
 use Rattle.sat_words.specs.Literal.{Literal, same, opposite, code_of, lit_cmp}
 use Rattle.sat_words.specs.Clause.{has, has_opposites, two_or_more, InOrder}
 use Rattle.sat_words.proofs.Members.{same-true, opposite-opposite}
-use Rattle.rup_model.proofs.Lists.{In, In_any, In_has, has_In}
+use Rattle.rup_model.proofs.Lists.{In_any, In_has}
 
 less_by : (a b : ℕ) → nat_cmp a b ≡ Less → a < b
 less_by a b e = grind (arith, nat_tests)

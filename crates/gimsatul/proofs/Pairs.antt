@@ -1,12 +1,11 @@
 -- Start clauses, one after another.
-use Rattle.std.proofs.Common.{◌≡◌, ◌∙◌, ℕ, zero, suc, ◌+◌, Bool, true, false, not, cond, List, [], ◌∷◌, ◌++◌, length, refl, sym, ap, subst, arith, Some, None, take, get_or, ◌<◌}
+use Rattle.std.proofs.Common.{◌≡◌, ◌∙◌, ℕ, suc, ◌+◌, Bool, true, false, not, cond, List, [], ◌∷◌, ◌++◌, length, refl, sym, ap, arith, Some, None, take, get_or, ◌<◌}
 use Rattle.std.specs.Prelude.{◌&&◌, Option}
 use Rattle.std.specs.List.{cons_option}
 use Rattle.std.proofs.lemmas.List.{take_more, length-take-le}
 use Rattle.sat_words.specs.Literal.{Literal}
-use Rattle.sat_words.specs.Clause.{has_opposites, two_or_more, clause_of, InOrder}
+use Rattle.sat_words.specs.Clause.{has_opposites, two_or_more, clause_of}
 use Rattle.gimsatul.specs.Opened.{start_of_clause, start_pairs}
-use Rattle.gimsatul.proofs.Opposites.{short_list, long_list}
 
 cons_append : {X : Type 0} (o : Option X) (xs ys : List X) → cons_option o (xs ++ ys) ≡ cons_option o xs ++ ys
 cons_append None xs ys = refl

@@ -1,21 +1,17 @@
 -- A formula that has the empty clause: its refutation is one line, and what the search says of the line.
-use Rattle.std.proofs.Common.{◌≡◌, ◌^◌, ◌∙◌, ℕ, zero, suc, ◌+◌, ◌<◌, ◌≤◌, Bool, true, false, not, List, [], ◌∷◌, ◌++◌, length, map, take, Some, None, Ok, Err, refl, sym, ap, subst, inl, inr, arith, append-nil, get_or}
-use Rattle.std.specs.Prelude.{All, Result}
+use Rattle.std.proofs.Common.{◌≡◌, ◌∙◌, ℕ, zero, suc, ◌<◌, true, List, [], ◌∷◌, map, take, Some, None, Ok, Err, refl, sym, ap, subst, arith, append-nil, get_or}
 use Rattle.std.specs.declared.option.Option.{Option}
 use Rattle.std.specs.List.{list_any}
-use Rattle.std.specs.Io.KnownBytes.{append_known}
-use Rattle.std.proofs.lemmas.Bool.{or_left, or_right, true≢false, false≢true}
+use Rattle.std.proofs.lemmas.Bool.{or_left, or_right, false≢true}
 use Rattle.io_edge.specs.Causes.{Rose}
 use Rattle.io_edge.specs.Paths.{IsEmptyWhereTold}
 use Rattle.sat_words.specs.Literal.{Literal, opposite}
 use Rattle.sat_words.specs.Clause.{is_empty, has_opposites}
-use Rattle.sat_words.specs.Truth.{formula_true}
 use Rattle.sat_words.specs.FormulaData.{FormulaData}
-use Rattle.sat_words.specs.declared.line.Line.{Line}
 use Rattle.sat_words.specs.declared.line.Line.TheVariants.{Add as AddLine}
 use Rattle.rup_model.specs.Rup.{rup, rat, conflicts}
-use Rattle.rup_model.specs.Log.{Accepted, Refutes, lits_of}
-use Rattle.rup_model.specs.Journal.{book, lines}
+use Rattle.rup_model.specs.Log.{Accepted, Refutes}
+use Rattle.rup_model.specs.Journal.{book}
 use Rattle.rup_model.specs.declared.journal.TheConstants.{RULER_RING}
 use Rattle.rup_model.specs.declared.journal.Kind.TheVariants.{Ruler}
 use Rattle.rup_model.specs.declared.journal.Entry.{Entry}
@@ -24,17 +20,11 @@ use Rattle.rup_model.proofs.Lists.{In, In_any, In_Contains}
 use Rattle.rup_model.proofs.Derivation.{conflicts_from_derivation}
 use Rattle.rup_model.proofs.LogLaw.{refutes_none}
 use Rattle.drat_text.specs.LineState.{LineState}
-use Rattle.drat_text.specs.LineOut.{PutLine, FailedLine, WasPut}
-use Rattle.drat_text.specs.declared.stop.LineStop.{LineStop}
-use Rattle.drat_text.specs.declared.stop.LineStop.TheVariants.{ProofFault, Memory}
-use Rattle.drat_text.specs.Text.{text, line_text}
-use Rattle.dimacs_read.specs.Input.{IsOn}
-use Rattle.gimsatul.specs.declared.report.Verdict.{Verdict}
+use Rattle.drat_text.specs.LineOut.{PutLine, FailedLine}
+use Rattle.drat_text.specs.Text.{line_text}
 use Rattle.gimsatul.specs.declared.report.Verdict.TheVariants.{Unsatisfiable}
-use Rattle.gimsatul.specs.declared.search.SearchStop.{SearchStop}
 use Rattle.gimsatul.specs.declared.search.SearchStop.TheVariants.{ProofFault as Faulty, Memory as NoMemory}
-use Rattle.gimsatul.specs.Journaled.{CanBeSpelled, IsPlainEntry, IsJournal, HoldsText, IsCutShort}
-use Rattle.gimsatul.specs.Decided.{IsRefutation}
+use Rattle.gimsatul.specs.Journaled.{CanBeSpelled, IsPlainEntry, IsJournal, HoldsText}
 use Rattle.gimsatul.specs.Searched.{IsSearch}
 use Rattle.gimsatul.proofs.Standing.{told_whole, on_variables}
 

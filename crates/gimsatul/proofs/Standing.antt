@@ -1,23 +1,21 @@
 -- From the port after the run to what the search says.
-use Rattle.std.proofs.Common.{◌≡◌, ◌≢◌, ◌^◌, ◌∙◌, ℕ, zero, suc, ◌+◌, ◌<◌, ◌≤◌, Bool, true, false, not, List, [], ◌∷◌, ◌++◌, length, take, Some, None, Ok, Err, refl, sym, ap, subst, inl, inr, arith, append-nil, lit≤}
+use Rattle.std.proofs.Common.{◌≡◌, ◌^◌, ◌∙◌, ℕ, zero, suc, ◌<◌, ◌≤◌, Bool, true, false, not, List, [], ◌∷◌, ◌++◌, length, take, Some, None, Ok, Err, refl, sym, ap, subst, inl, inr, arith, append-nil, lit≤}
 use Rattle.std.specs.Prelude.{All, Result, IsSomeAnd, IfSome}
 use Rattle.std.specs.declared.option.Option.{Option}
-use Rattle.std.specs.List.{list_any}
 use Rattle.std.specs.Io.KnownBytes.{append_known}
-use Rattle.std.proofs.lemmas.Bool.{cases_Bool, true≢false, false≢true}
+use Rattle.std.proofs.lemmas.Bool.{cases_Bool, true≢false}
 use Rattle.std.proofs.lemmas.List.Elements.{All-append}
 use Rattle.io_edge.specs.Causes.{Rose}
 use Rattle.io_edge.specs.Paths.{IsEmptyWhereTold}
 use Rattle.sat_words.specs.Literal.{Literal}
-use Rattle.sat_words.specs.Clause.{is_empty}
 use Rattle.sat_words.specs.Truth.{lit_true, clause_true, formula_true}
 use Rattle.sat_words.specs.FormulaData.{FormulaData}
 use Rattle.sat_words.specs.declared.line.Line.{Line}
 use Rattle.sat_words.specs.declared.line.Line.TheVariants.{Add as AddLine}
 use Rattle.sat_words.specs.declared.shared.Stop.{Stop}
 use Rattle.rup_model.specs.Basics.{EachAfter}
-use Rattle.rup_model.specs.Log.{lits_of, Accepted, Refutes, OnVariables}
-use Rattle.rup_model.specs.Journal.{Book, book, formula_book, book_after, lines, lines_from, learned, added, ring_of, LogSound, IsSpaced}
+use Rattle.rup_model.specs.Log.{lits_of, OnVariables}
+use Rattle.rup_model.specs.Journal.{Book, formula_book, book_after, lines, lines_from, learned, ring_of, IsSpaced}
 use Rattle.rup_model.specs.Spent.{Spent, rings_part}
 use Rattle.rup_model.specs.declared.journal.TheConstants.{RULER_RING}
 use Rattle.rup_model.specs.declared.journal.Kind.{Kind}
@@ -27,25 +25,23 @@ use Rattle.rup_model.specs.declared.journal.Entry.TheVariants.{Add, Del, Reduce}
 use Rattle.rup_model.proofs.Parts.{rings_part-append}
 use Rattle.rup_model.proofs.LogLaw.{refutes_none}
 use Rattle.ring_port.proofs.Refuted.{ended_refutes}
-use Rattle.drat_text.specs.declared.stop.TheConstants.{MAX_ENTRIES}
 use Rattle.drat_text.specs.LineState.{LineState}
 use Rattle.drat_text.specs.Text.{text, line_text}
 use Rattle.dimacs_read.specs.Input.{IsOn}
 use Rattle.ring_port.specs.PortState.{Holding, PortState, IsPort, IsStop, IsOn as IsPortOn}
 use Rattle.ring_port.specs.Port.{is_usable}
 use Rattle.ring_port.specs.declared.stops.PortStop.TheVariants.{NoHole as NoHoleAnswer}
-use Rattle.ring_port.specs.Log.{Origin, StandsOver, HasLines, IsCaused, journal_of, own_text}
+use Rattle.ring_port.specs.Log.{Origin, StandsOver, HasLines, IsCaused}
 use Rattle.ring_run.specs.declared.job.End.{End}
 use Rattle.ring_run.specs.declared.job.End.TheVariants.{Sat, Refuted, Spent as SpentEnd, Stopped, NoHole, ProofFault, Memory}
 use Rattle.ring_run.specs.Ended.{Stays, IsOwn, IsOfKind, IsModelOf, IsSpent, Ends}
 use Rattle.gimsatul.specs.declared.report.Verdict.{Verdict}
-use Rattle.gimsatul.specs.declared.report.Verdict.TheVariants.{Satisfiable, Unsatisfiable, Unknown}
 use Rattle.gimsatul.specs.declared.search.SearchStop.{SearchStop}
-use Rattle.gimsatul.specs.declared.search.SearchStop.TheVariants.{ProofFault as Faulty, Room, Memory as NoMemory}
+use Rattle.gimsatul.specs.declared.search.SearchStop.TheVariants.{ProofFault as Faulty}
 use Rattle.gimsatul.specs.Journaled.{CanBeSpelled, IsPlainEntry, IsPlainAddition, IsJournal, HoldsText, IsCutShort}
-use Rattle.gimsatul.specs.Decided.{IsModel, IsRefutation, Decides, IsFull}
+use Rattle.gimsatul.specs.Decided.{IsRefutation, IsFull}
 use Rattle.gimsatul.specs.Searched.{Concludes, IsSearch}
-use Rattle.gimsatul.specs.Concluded.{IsWithoutIdle, IsCleared, IsVerdictOf, IsAlone}
+use Rattle.gimsatul.specs.Concluded.{IsCleared, IsVerdictOf, IsAlone}
 use Rattle.gimsatul.specs.Begun.{origin_of, Begins}
 use Rattle.gimsatul.proofs.Models.{cleared}
 

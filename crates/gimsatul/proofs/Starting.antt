@@ -1,26 +1,24 @@
 -- What the port begins with covers the formula.
-use Rattle.std.proofs.Common.{◌≡◌, ◌∙◌, ℕ, zero, suc, ◌+◌, ◌<◌, ◌≤◌, Bool, true, false, not, ◌&&◌, cond, List, [], ◌∷◌, ◌++◌, map, length, take, get_or, All, Option, Some, None, refl, sym, ap, subst, inl, inr, ◌⊎◌, arith, Contains}
+use Rattle.std.proofs.Common.{◌≡◌, ◌∙◌, ℕ, suc, ◌+◌, ◌<◌, Bool, true, false, not, cond, List, [], ◌∷◌, ◌++◌, length, take, get_or, All, Option, Some, None, refl, sym, ap, subst, inl, inr, arith}
 use Rattle.std.specs.Prelude.{◌||◌}
-use Rattle.std.specs.List.{list_any, list_all, cons_option}
-use Rattle.std.proofs.lemmas.Bool.{and_parts, and_from, cases_Bool, not-true, or_cases, or_left, true≢false, false≢true}
+use Rattle.std.specs.List.{list_any, cons_option}
+use Rattle.std.proofs.lemmas.Bool.{cases_Bool, or_left, true≢false}
 use Rattle.std.proofs.lemmas.List.{take_more}
-use Rattle.sat_words.specs.Literal.{Literal, same, opposite}
+use Rattle.sat_words.specs.Literal.{Literal, opposite}
 use Rattle.sat_words.specs.Truth.{value_of, lit_true, clause_true, formula_true}
-use Rattle.sat_words.specs.Clause.{has, InOrder, has_opposites, two_or_more, clause_of, is_empty}
+use Rattle.sat_words.specs.Clause.{has, InOrder, has_opposites, two_or_more, is_empty}
 use Rattle.sat_words.specs.FormulaData.{FormulaData}
 use Rattle.sat_words.proofs.Insertion.{clause_of_in_order}
-use Rattle.rup_model.proofs.Lists.{In, any_In, In_any, has_In, In_has, In_Contains, In_all, none_In}
+use Rattle.rup_model.proofs.Lists.{In, any_In, In_any, has_In, In_Contains, In_all, none_In}
 use Rattle.drat_text.specs.LineState.{LineState}
 use Rattle.ring_port.specs.PortState.{Holding, PortState, IsPort, HoldsStart}
 use Rattle.ring_port.specs.PlainPort.{placed_from, begun_with}
 use Rattle.ring_port.specs.Log.{StandsOver}
 use Rattle.ring_port.proofs.Holdings.{All_In}
-use Rattle.ring_run.specs.Ended.{IsModelOf}
 use Rattle.gimsatul.specs.Opened.{start_of_clause, start_pairs, IsUnits}
-use Rattle.gimsatul.specs.Begun.{origin_of, Covers, Begins}
+use Rattle.gimsatul.specs.Begun.{origin_of, Begins}
 use Rattle.gimsatul.proofs.Opposites.{long_list}
 use Rattle.gimsatul.proofs.Pairs.{a_start}
-use Rattle.gimsatul.proofs.Opens.{made}
 
 abbrev Pair : Type 0
 Pair = ℕ × List Literal

@@ -1,13 +1,11 @@
 -- Units, one after another, each once.
-use Rattle.std.proofs.Common.{◌≡◌, ◌∙◌, ℕ, zero, suc, ◌+◌, ◌*◌, ◌<◌, ◌≤◌, Bool, true, false, not, List, [], ◌∷◌, ◌++◌, length, take, get_or, refl, sym, ap, subst, arith, inl, inr, ◌⊎◌, Contains}
-use Rattle.std.specs.Prelude.{◌&&◌, ◌||◌}
-use Rattle.std.specs.List.{slice_index_or, slice_set}
+use Rattle.std.proofs.Common.{◌≡◌, ◌∙◌, ℕ, zero, suc, ◌<◌, ◌≤◌, Bool, true, false, not, List, [], ◌∷◌, ◌++◌, length, get_or, refl, sym, ap, subst, arith, inl, inr, Contains}
+use Rattle.std.specs.Prelude.{◌||◌}
 use Rattle.std.proofs.lemmas.Bool.{or_cases, or_left, or_right, and_from, and_parts, cases_Bool, false≢true}
-use Rattle.std.proofs.lemmas.List.{take_more, length-take-le}
 use Rattle.sat_words.specs.Literal.{Literal, same, code_of}
 use Rattle.sat_words.specs.Clause.{has, distinct_lits}
 use Rattle.sat_words.proofs.Members.{same-true, same-refl}
-use Rattle.rup_model.proofs.Lists.{Contains_In, In_Contains, In_append, In_append_left, In_append_right, In}
+use Rattle.rup_model.proofs.Lists.{Contains_In, In_Contains, In_append, In_append_left, In_append_right}
 use Rattle.gimsatul.specs.Opened.{IsUnits, IsFound}
 
 has_append : (xs ys : List Literal) (l : Literal) → has (xs ++ ys) l ≡ (has xs l || has ys l)

@@ -1,5 +1,5 @@
 -- How the port of the one ring stands over a formula before and after the search.
-use Rattle.std.specs.Prelude.{◌≡◌, ℕ, Bool, true, List, [], All}
+use Rattle.std.specs.Prelude.{◌≡◌, Bool, true, List, []}
 use Rattle.sat_words.specs.Literal.{Literal}
 use Rattle.sat_words.specs.Truth.{formula_true}
 use Rattle.sat_words.specs.FormulaData.{FormulaData}

@@ -5,10 +5,7 @@ use Rattle.io_edge.specs.Causes.{Rose}
 use Rattle.sat_words.specs.FormulaData.{FormulaData}
 use Rattle.rup_model.specs.declared.journal.Entry.{Entry}
 use Rattle.rup_model.specs.Journal.{lines, learned}
-use Rattle.sat_words.specs.Literal.{Literal}
-use Rattle.sat_words.specs.declared.line.Line.TheVariants.{Add}
-use Rattle.io_edge.specs.Bytes.{GrowsBy, GrowsByPart}
-use Rattle.drat_text.specs.Text.{text, line_text}
+use Rattle.drat_text.specs.Text.{text}
 use Rattle.gimsatul.specs.declared.report.Verdict.{Verdict}
 use Rattle.gimsatul.specs.declared.search.SearchStop.{SearchStop}
 use Rattle.gimsatul.specs.declared.search.SearchStop.TheVariants.{ProofFault, Room, Memory}

@@ -1,4 +1,4 @@
-use Rattle.std.proofs.Common.{◌≡◌, ◌∙◌, ap, sym, refl, subst, arith, ℕ, ◌<◌, ◌≤◌, ◌-◌, ◌+◌, take, length, get_or, List, [], Bool, All, false, replicate}
+use Rattle.std.proofs.Common.{sym, subst, ℕ, List, [], Bool, All}
 use Rattle.std.proofs.lemmas.List.{take_all}
 use Rattle.sat_words.specs.Literal.{Literal}
 use Rattle.dimacs_read.specs.Input.{IsOn}

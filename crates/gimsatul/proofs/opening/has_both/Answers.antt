@@ -1,4 +1,4 @@
-use Rattle.std.proofs.Common.{sym, ◌<◌, suc, length, arith}
+use Rattle.std.proofs.Common.{sym, arith}
 use Rattle.gimsatul.proofs.Opposites.{no_opposites}
 use Rattle.gimsatul.proofs.opening.has_both.Goals as goal
 

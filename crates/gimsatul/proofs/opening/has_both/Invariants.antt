@@ -1,4 +1,4 @@
-use Rattle.std.proofs.Common.{◌≡◌, ℕ, suc, ◌<◌, ◌≤◌, get_or}
+use Rattle.std.proofs.Common.{◌≡◌, ℕ, suc, ◌<◌, get_or}
 use Rattle.sat_words.specs.Literal.{Literal, opposite}
 use Rattle.gimsatul.proofs.opening.has_both.Given as goal
 

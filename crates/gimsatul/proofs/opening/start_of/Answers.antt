@@ -1,7 +1,6 @@
-use Rattle.std.proofs.Common.{◌≡◌, ◌∙◌, ◌≤◌, ℕ, sym, ap, subst, arith, length, List, Some}
+use Rattle.std.proofs.Common.{◌≡◌, ◌∙◌, sym, ap, arith, length, List, Some}
 use Rattle.sat_words.specs.Literal.{Literal}
 use Rattle.sat_words.specs.Clause.{clause_of, has_opposites}
-use Rattle.gimsatul.specs.Opened.{start_of_clause}
 use Rattle.gimsatul.proofs.Opposites.{long_list}
 use Rattle.gimsatul.proofs.Pairs.{a_start}
 use Rattle.gimsatul.proofs.opening.start_of.Goals as goal

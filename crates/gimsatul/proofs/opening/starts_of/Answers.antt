@@ -1,9 +1,8 @@
-use Rattle.std.proofs.Common.{◌≡◌, ◌∙◌, ◌+◌, ℕ, sym, ap, subst, arith, length, List, [], ◌∷◌, ◌++◌, take, Some, None, append-nil, refl}
+use Rattle.std.proofs.Common.{◌≡◌, ◌∙◌, ◌+◌, ℕ, sym, ap, List, [], ◌∷◌, ◌++◌, take, append-nil}
 use Rattle.std.specs.Prelude.{Option}
 use Rattle.std.specs.List.{cons_option}
-use Rattle.std.proofs.lemmas.List.{take_more, length-take-le}
 use Rattle.sat_words.specs.Literal.{Literal}
-use Rattle.gimsatul.specs.Opened.{start_of_clause, start_pairs}
+use Rattle.gimsatul.specs.Opened.{start_pairs}
 use Rattle.gimsatul.proofs.Pairs.{pairs_step}
 use Rattle.gimsatul.proofs.opening.starts_of.Goals as goal
 use Rattle.gimsatul.proofs.opening.starts_of.Goals.{in-Some+in_ok-push, in_default}

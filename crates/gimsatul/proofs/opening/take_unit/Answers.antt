@@ -1,5 +1,4 @@
-use Rattle.std.proofs.Common.{◌≡◌, ◌∙◌, ◌<◌, sym, ap, subst, arith, length, get_or, ℕ}
-use Rattle.std.specs.Prelude.{All}
+use Rattle.std.proofs.Common.{◌∙◌, ◌<◌, sym, ap, subst, arith, length, get_or, ℕ}
 use Rattle.std.proofs.lemmas.List.Elements.{All-get_or}
 use Rattle.sat_words.specs.Literal.{Literal, code_of}
 use Rattle.gimsatul.proofs.Units.{known_unit, takes_known, takes_new}

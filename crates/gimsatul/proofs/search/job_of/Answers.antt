@@ -1,7 +1,6 @@
-use Rattle.std.proofs.Common.{◌≡◌, ◌∙◌, ap, sym, refl, subst, arith, ℕ, ◌<◌, ◌≤◌, ◌^◌, lit≤, List, map, zero, suc, [], ◌∷◌}
+use Rattle.std.proofs.Common.{◌≡◌, ◌∙◌, ap, sym, refl, arith, ℕ, List, map, [], ◌∷◌}
 use Rattle.sat_words.specs.declared.shared.Cref.{Cref}
 use Rattle.ring_port.specs.PortState.{Holding}
-use Rattle.ring_run.specs.Ended.{IsJobOf}
 use Rattle.gimsatul.proofs.search.job_of.Goals as goal
 
 same_refs : (refs : List Cref) (hs : List Holding) → map (λ c. c.address) refs ≡ map (λ h. h.address) hs → refs ≡ map (λ (h : Holding). record { address = h.address }) hs

@@ -1,6 +1,5 @@
-use Rattle.std.proofs.Common.{◌≡◌, ◌∙◌, ap, sym, refl, subst, ℕ, List, [], All, length, false, true, Some, None, Err}
+use Rattle.std.proofs.Common.{◌≡◌, ◌∙◌, sym, subst, ℕ, length, false}
 use Rattle.std.specs.Prelude.{Result}
-use Rattle.std.specs.declared.option.Option.{Option}
 use Rattle.sat_words.specs.FormulaData.{FormulaData}
 use Rattle.drat_text.specs.SinkData.{SinkData, told_by}
 use Rattle.drat_text.specs.LineState.{LineState}
@@ -9,11 +8,9 @@ use Rattle.ring_run.specs.declared.job.End.{End}
 use Rattle.ring_run.specs.Ended.{IsCounted}
 use Rattle.gimsatul.specs.declared.report.Verdict.{Verdict}
 use Rattle.gimsatul.specs.declared.search.SearchStop.{SearchStop}
-use Rattle.gimsatul.specs.declared.search.SearchStop.TheVariants.{ProofFault}
 use Rattle.gimsatul.specs.Searched.{Concludes, IsSearch}
-use Rattle.gimsatul.specs.Concluded.{IsVerdictOf}
 use Rattle.gimsatul.specs.Begun.{Begins}
-use Rattle.gimsatul.proofs.Standing.{concludes, concludes_faulty, is_search, alone}
+use Rattle.gimsatul.proofs.Standing.{concludes, concludes_faulty, is_search}
 use Rattle.gimsatul.proofs.search.search.Goals as goal
 use Rattle.gimsatul.proofs.search.search.Goals.{then-is_spent, else-is_spent}
 

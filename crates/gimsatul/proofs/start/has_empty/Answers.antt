@@ -1,11 +1,9 @@
-use Rattle.std.proofs.Common.{◌≡◌, ◌∙◌, ap, sym, refl, subst, arith, ℕ, ◌+◌, ◌⊎◌, ◌<◌, ◌≤◌, zero, suc, take, length, List, [], ◌∷◌, get_or, inl, inr, false, true}
+use Rattle.std.proofs.Common.{◌≡◌, ◌∙◌, ap, sym, refl, subst, arith, ℕ, ◌+◌, ◌⊎◌, ◌<◌, zero, suc, length, List, [], ◌∷◌, get_or, inl, inr}
 use Rattle.std.specs.List.{list_any}
-use Rattle.std.proofs.lemmas.Bool.{false≢true}
 use Rattle.std.proofs.lemmas.Bool.Decides.{nat_tests}
 use Rattle.std.proofs.lemmas.List.{take_all}
 use Rattle.sat_words.specs.Literal.{Literal}
 use Rattle.sat_words.specs.Clause.{is_empty, InOrder}
-use Rattle.rup_model.proofs.Lists.{any_In, In_get_or}
 use Rattle.gimsatul.proofs.Starting.{none_yet, some_literal}
 use Rattle.gimsatul.proofs.start.has_empty.Goals as goal
 

@@ -1,10 +1,8 @@
-use Rattle.std.proofs.Common.{◌≡◌, ◌∙◌, ap, sym, refl, subst, ℕ, List, [], All, length, false}
+use Rattle.std.proofs.Common.{◌≡◌, ◌∙◌, ap, sym, subst, ℕ, List, [], All, length, false}
 use Rattle.sat_words.specs.Literal.{Literal}
-use Rattle.sat_words.specs.FormulaData.{FormulaData}
-use Rattle.dimacs_read.specs.Input.{IsOn}
 use Rattle.drat_text.specs.SinkData.{SinkData, told_by}
 use Rattle.drat_text.specs.LineState.{LineState}
-use Rattle.ring_port.specs.PortState.{PortState, IsOn as IsPortOn}
+use Rattle.ring_port.specs.PortState.{IsOn as IsPortOn}
 use Rattle.ring_port.specs.PlainPort.{OpensOver, starts_of, begun_with}
 use Rattle.ring_port.specs.Log.{StandsOver}
 use Rattle.gimsatul.specs.Opened.{start_pairs, IsUnits}

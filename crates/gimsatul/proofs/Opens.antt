@@ -129,9 +129,9 @@ module _ (F : List (List Literal)) where
   pairs_on vars on = All_from_In (λ (p : Pair). All (IsPortOn vars) p.1) pairs (λ p i.
       (let t = of_clause p i in
       All_from_In (IsPortOn vars) p.1 (λ l j.
-          (let k : has t.0 l ≡ true = sym (has-clause_of t.0 l) ∙ ap (λ (d : List Literal). has d l) t.2 ∙ In_has p.1 l j in
-          let h = All_In (IsOn vars) t.0 l (All_In (All (IsOn vars)) F t.0 on t.1) (has_In t.0 l k) in
-          record { low = h.low; high = h.high }))))
+      (let k : has t.0 l ≡ true = sym (has-clause_of t.0 l) ∙ ap (λ (d : List Literal). has d l) t.2 ∙ In_has p.1 l j in
+      let h = All_In (IsOn vars) t.0 l (All_In (All (IsOn vars)) F t.0 on t.1) (has_In t.0 l k) in
+      record { low = h.low; high = h.high }))))
 
   pub units_on : (vars : ℕ) (units : List Literal) → IsUnits F units → All (All (IsOn vars)) F → All (IsPortOn vars) units
   units_on vars units u on = All_from_In (IsPortOn vars) units (λ l i.

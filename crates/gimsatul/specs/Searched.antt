@@ -27,4 +27,3 @@ pub record IsSearch (limit : ℕ) (formula : FormulaData) (verdict : Result Verd
   pub conclusion : Concludes limit formula journal faults verdict
   pub whole : faults ≡ 0 → HoldsText written (text (lines formula.clauses journal))
   pub short : (faults ≡ 0 → ⊥) → IsCutShort formula.clauses journal written
-

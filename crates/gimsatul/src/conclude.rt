@@ -38,11 +38,7 @@ fn without_idle(
 }
 
 /// The verdict of an end, where no writing has failed.
-pub(crate) fn verdict_of(
-    alloc: Global,
-    formula: &Formula,
-    end: End,
-) -> Result<Verdict, SearchStop>
+pub(crate) fn verdict_of(alloc: Global, formula: &Formula, end: End) -> Result<Verdict, SearchStop>
     requires on_variables { All (All (IsOn formula.now.vars)) formula.now.clauses }
     requires alone { IsAlone end }
     ensures { IsVerdictOf formula.now end result }

@@ -25,9 +25,9 @@ loop-lit-preserved c =
     let C : List Literal = c.args.clause.now in
     let A : List Bool = c.args.from.now in
     let next : TakesValues (take (c.loop-lit.lit-index + 1) C) A c.args.model.now (set c.loop-lit.model (c.lit-item.result.var - 1) (value_of A c.lit-item.result.var)) =
-        takes_next C A c.args.model.now c.loop-lit.model c.loop-lit.lit-index c.lit-item.result c.loop-lit-test.true c.lit-item.is on.low on.high c.loop-lit.invariant in
+    takes_next C A c.args.model.now c.loop-lit.model c.loop-lit.lit-index c.lit-item.result c.loop-lit-test.true c.lit-item.is on.low on.high c.loop-lit.invariant in
     let is : c.set.new.self ≡ set c.loop-lit.model (c.lit-item.result.var - 1) (value_of A c.lit-item.result.var) =
-        c.set.ensures ∙ ap (λ (b : Bool). set c.loop-lit.model (c.var-var.result - 1) b) c.value.ensures ∙ ap (λ (v : ℕ). set c.loop-lit.model (v - 1) (value_of A v)) c.var-var.ensures.value in
+    c.set.ensures ∙ ap (λ (b : Bool). set c.loop-lit.model (c.var-var.result - 1) b) c.value.ensures ∙ ap (λ (v : ℕ). set c.loop-lit.model (v - 1) (value_of A v)) c.var-var.ensures.value in
     subst (λ (m : List Bool). TakesValues (take (c.loop-lit.lit-index + 1) C) A c.args.model.now m) (sym is) next
 
 pub returns : goal.returns

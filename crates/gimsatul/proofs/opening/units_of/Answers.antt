@@ -9,7 +9,7 @@ loop-clause-preserved c =
     let i = c.loop-clause.clause-index in
     let cs = c.args.clauses.now in
     let more : take (i + 1) cs ≡ take i cs ++ c.lits.result.now ∷ [] =
-      take_more cs i c.clause-item.result c.loop-clause-test.true ∙ ap (λ (x : List Literal). take i cs ++ x ∷ []) (sym c.clause-item.is ∙ sym c.lits.ensures.value) in
+    take_more cs i c.clause-item.result c.loop-clause-test.true ∙ ap (λ (x : List Literal). take i cs ++ x ∷ []) (sym c.clause-item.is ∙ sym c.lits.ensures.value) in
     record {
       units = subst (λ (ds : List (List Literal)). IsUnits ds c.take_unit.new.units.items) (sym more) (c.in_ok-take_unit.ensures.takes (take i cs) c.loop-clause.invariant.units);
       found = c.in_ok-take_unit.ensures.found;

@@ -27,9 +27,9 @@ returns-clause-searched g c =
     let lits : c.from_vec.result ≡ [] = c.from_vec.ensures ∙ c.new.ensures.items in
     let put : WasPut old new (AddLine []) c.put.result = subst (λ (ls : List Literal). WasPut old new (AddLine ls) c.put.result) lits c.put.ensures.put in
     let as_result : (r : Result Verdict SearchStop) → c.match-put.verdict ≡ r → IsSearch c.args.limit F r 0 new.faults new.written
-        → IsSearch c.args.limit F c.match-put.verdict 0 (g.P.Sink.faults c.into_sink.result) (g.P.Sink.written c.into_sink.result) =
-        λ r e h. subst (λ (x : g.row.P.Denot). IsSearch c.args.limit F c.match-put.verdict 0 (g.P.Sink.faults x) (g.P.Sink.written x)) (sym c.into_sink.ensures)
-        (subst (λ (v : Result Verdict SearchStop). IsSearch c.args.limit F v 0 new.faults new.written) (sym e) h) in
+    → IsSearch c.args.limit F c.match-put.verdict 0 (g.P.Sink.faults c.into_sink.result) (g.P.Sink.written c.into_sink.result) =
+    λ r e h. subst (λ (x : g.row.P.Denot). IsSearch c.args.limit F c.match-put.verdict 0 (g.P.Sink.faults x) (g.P.Sink.written x)) (sym c.into_sink.ensures)
+    (subst (λ (v : Result Verdict SearchStop). IsSearch c.args.limit F v 0 new.faults new.written) (sym e) h) in
     elim c.match-put.branch as (λ _. IsSearch c.args.limit F c.match-put.verdict 0 (g.P.Sink.faults c.into_sink.result) (g.P.Sink.written c.into_sink.result)) [
       | in-Ok w ↦ as_result (Ok Verdict.Unsatisfiable) w.verdict-is
           (refuted c.args.limit F c.requires.given old empty quiet new w.in-Ok.field-0 (subst (WasPut old new (AddLine [])) w.in-Ok.is put))

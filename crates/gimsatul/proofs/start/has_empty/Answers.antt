@@ -17,12 +17,13 @@ at_place (y ∷ cs) (suc i) x d h e = at_place cs i x d (omega arith) e
 
 pub loop-clause-preserved : goal.loop-clause-preserved
 loop-clause-preserved c =
-    let some : 0 < length c.clause-item.result = (let e = ap (λ (xs : List Literal). length xs) c.lits.ensures.value in let n = c.if-is_empty.ensures in grind (arith, nat_tests)) in
-    (none_yet c.args.clauses.now c.loop-clause.clause-index c.clause-item.result c.loop-clause-test.true c.clause-item.is (some_literal c.clause-item.result some) c.loop-clause.invariant.0,
-    λ k d lt less. elim (split k c.loop-clause.clause-index lt) as (λ _. InOrder (get_or c.args.clauses.now k d)) [
-      | inl before ↦ c.loop-clause.invariant.1 k d before less
-      | inr here ↦ subst (λ (j : ℕ). InOrder (get_or c.args.clauses.now j d)) (sym here) (subst InOrder (sym (at_place c.args.clauses.now c.loop-clause.clause-index c.clause-item.result d c.loop-clause-test.true c.clause-item.is)) c.lits.ensures.ordered)
-    ])
+    let some : 0 < length c.clause-item.result = (let e = ap (λ (xs : List Literal). length xs) c.lits.ensures.value in let n = c.if-is_empty.ensures in grind (arith, nat_tests)) in (
+      none_yet c.args.clauses.now c.loop-clause.clause-index c.clause-item.result c.loop-clause-test.true c.clause-item.is (some_literal c.clause-item.result some) c.loop-clause.invariant.0,
+      λ k d lt less. elim (split k c.loop-clause.clause-index lt) as (λ _. InOrder (get_or c.args.clauses.now k d)) [
+        | inl before ↦ c.loop-clause.invariant.1 k d before less
+        | inr here ↦ subst (λ (j : ℕ). InOrder (get_or c.args.clauses.now j d)) (sym here) (subst InOrder (sym (at_place c.args.clauses.now c.loop-clause.clause-index c.clause-item.result d c.loop-clause-test.true c.clause-item.is)) c.lits.ensures.ordered)
+      ],
+    )
   where
     split : (k i : ℕ) → k < i + 1 → (k < i) ⊎ (k ≡ i)
     split k zero lt = inr (omega arith)

@@ -52,6 +52,6 @@ returns-in-Ok-new-clause-begins g c =
     let over : OpensOver F (starts_of c.deref.result.now) c.deref-2.result.now out [] = subst (λ (ss : List (ℕ × List Literal)). OpensOver F (starts_of ss) c.deref-2.result.now out []) (sym starts) (opens_over F c.deref-2.result.now out units none count) in
     let stands : StandsOver (origin_of F out) c.in-Ok-new.port = c.in-Ok-new.ensures.stands [] over in
     let made : c.in-Ok-new.port ≡ begun_with c.args.formula.now.vars (start_pairs 1 F) c.deref-2.result.now out =
-        c.in-Ok-new.ensures.made ∙ ap (λ (v : ℕ). begun_with v c.deref.result.now c.deref-2.result.now out) c.vars-vars.ensures ∙ ap (λ (ss : List (ℕ × List Literal)). begun_with c.args.formula.now.vars ss c.deref-2.result.now out) starts in
+    c.in-Ok-new.ensures.made ∙ ap (λ (v : ℕ). begun_with v c.deref.result.now c.deref-2.result.now out) c.vars-vars.ensures ∙ ap (λ (ss : List (ℕ × List Literal)). begun_with c.args.formula.now.vars ss c.deref-2.result.now out) starts in
     subst (λ (p : SinkData g.row.S.Denot). Begins c.args.formula.now (told p) c.in-Ok-new.port) is
     (begins c.args.formula.now out c.deref-2.result.now c.in-Ok-new.port units c.requires.going c.requires.ordered made stands (c.in-Ok-new.ensures.holds) (c.in-Ok-new.ensures.port))

@@ -1,0 +1,72 @@
+-- What an entry of a list says of its clause.
+use Rattle.std.proofs.Common.{◌≡◌, ℕ, ◌≤◌, ◌⊎◌, true, List, sym, subst, inl, inr, arith, All, Contains, IsSome}
+use Rattle.sat_words.specs.Literal.{Literal}
+use Rattle.sat_words.specs.Clause.{has}
+use Rattle.sat_words.specs.declared.shared.Cref.{Cref}
+use Rattle.rup_model.proofs.Lists.{has_In}
+use Rattle.ring_port.specs.PortState.{PortState, IsOn, held_at, lits_at}
+use Rattle.ring_port.proofs.Holdings.{All_In}
+use Rattle.ring_trail.specs.TrailData.{TrailData, IsTrail, IsTrueOn, IsFalseOn, HasNoPlace}
+use Rattle.watch_prop.specs.declared.watch.Entry.{Entry}
+use Rattle.watch_prop.specs.WatchData.{WatchData, Lits, attached}
+use Rattle.watch_prop.specs.Watched.{Watched, IsAttachable}
+use Rattle.watch_prop.specs.Propagation.{IsConflict}
+use Rattle.watch_prop.specs.Visiting.{IsEntry, AllFalseBut, IsForcing, IsSatisfied}
+use Rattle.watch_prop.proofs.Growing.{clause_in, TrueOn-within}
+use Rattle.watch_prop.proofs.Reasons.{long_held}
+
+pub entry_attachable : (w : WatchData) (h : Lits) (t : TrailData) (i : ℕ) (l : Literal) (e : Entry) → Watched w h t → IsEntry w i l e → IsAttachable w.vars (h e.clause.address)
+entry_attachable w h t i l e k n = subst (λ (c : Cref). IsAttachable w.vars (h c.address)) n.clause (k.clauses i n.watch n.there)
+
+pub entry_pair : (w : WatchData) (h : Lits) (t : TrailData) (i : ℕ) (l : Literal) (e : Entry) → Watched w h t → IsEntry w i l e → (has (h e.clause.address) l ≡ true) × (has (h e.clause.address) e.other ≡ true)
+entry_pair w h t i l e k n =
+    let p = k.pairs i n.watch n.there in
+    let c = h n.watch.clause.address in
+    let here : (has c l ≡ true) × (has c e.other ≡ true) = elim n.sides as (λ _. (has c l ≡ true) × (has c e.other ≡ true)) [
+      | inl q ↦ (subst (λ (y : Literal). has c y ≡ true) q.0 p.first, subst (λ (y : Literal). has c y ≡ true) q.1 p.second)
+      | inr q ↦ (subst (λ (y : Literal). has c y ≡ true) q.0 p.second, subst (λ (y : Literal). has c y ≡ true) q.1 p.first)
+    ] in
+    subst (λ (d : Cref). (has (h d.address) l ≡ true) × (has (h d.address) e.other ≡ true)) n.clause here
+
+pub on_vars : (vars n : ℕ) (c : List Literal) (l : Literal) → n ≡ vars → IsAttachable vars c → has c l ≡ true → l.var ≤ n
+on_vars vars n c l e ok there = (let on = All_In (IsOn vars) c l ok.on (has_In c l there) in let z = on.high in omega arith)
+
+pub all_on_vars : (vars n : ℕ) (c : List Literal) → n ≡ vars → IsAttachable vars c → All (λ (l : Literal). l.var ≤ n) c
+all_on_vars vars n c e ok = λ k d lt. (let z = (ok.on k d lt).high in omega arith)
+
+-- an attached clause is held
+pub attachable_held : (vars : ℕ) (s : PortState) (a : ℕ) → IsAttachable vars (lits_at s a) → IsSome (held_at s a)
+attachable_held vars s a ok = long_held s a (let z = ok.shape.long in omega arith)
+
+pub entry_conflict : (w : WatchData) (h : Lits) (t : TrailData) (i : ℕ) (l : Literal) (e : Entry) → IsEntry w i l e → IsFalseOn t.steps l → IsFalseOn t.steps e.other → AllFalseBut t.steps (h e.clause.address) l e.other → IsConflict w h t e.clause
+entry_conflict w h t i l e n f g all = record {
+  member = subst (λ (c : Cref). Contains (attached w) c) n.clause (clause_in w i n.watch n.there);
+  false_all = λ k there. elim (all k there) as (λ _. IsFalseOn t.steps k) [
+    | inl q ↦ subst (λ (y : Literal). IsFalseOn t.steps y) (sym q) f
+    | inr r ↦ elim r as (λ _. IsFalseOn t.steps k) [ inl q ↦ subst (λ (y : Literal). IsFalseOn t.steps y) (sym q) g | inr z ↦ z ]
+  ];
+}
+
+pub entry_forces : (w : WatchData) (h : Lits) (t : TrailData) (i : ℕ) (l : Literal) (e : Entry) → Watched w h t → IsEntry w i l e → IsFalseOn t.steps l → HasNoPlace t.steps e.other.var → AllFalseBut t.steps (h e.clause.address) l e.other → IsForcing w h t i e.other e.clause
+entry_forces w h t i l e k n f free all = record {
+  at = record { watch = n.watch; there = n.there; clause = n.clause };
+  free = free;
+  forces = record {
+    has_lit = (entry_pair w h t i l e k n).1;
+    others = λ m there. elim (all m there) as (λ _. (m ≡ e.other) ⊎ IsFalseOn t.steps m) [
+      | inl q ↦ inr (subst (λ (y : Literal). IsFalseOn t.steps y) (sym q) f)
+      | inr r ↦ r
+    ];
+  };
+}
+
+pub entry_satisfied : (w : WatchData) (h : Lits) (t : TrailData) (i : ℕ) (l : Literal) (e : Entry) → IsTrail t → Watched w h t → IsEntry w i l e → IsTrueOn t.steps e.other → IsSatisfied w h t i
+entry_satisfied w h t i l e trail k n f = record {
+  watch = n.watch;
+  there = n.there;
+  has_true = record {
+    lit = e.other;
+    has_lit = subst (λ (d : Cref). has (h d.address) e.other ≡ true) (sym n.clause) (entry_pair w h t i l e k n).1;
+    within = TrueOn-within t e.other trail f;
+  };
+}

@@ -1,0 +1,107 @@
+-- Lists of places, one for each literal.
+use Rattle.std.proofs.Common.{◌≡◌, ◌≢◌, ℕ, ◌<◌, ◌≤◌, ◌+◌, ◌-◌, ◌⊎◌, true, false, List, [], ◌∷◌, ◌++◌, length, get_or, take, nat_eq, map, sym, ap, subst, ◌∙◌, inl, inr, arith, Contains}
+use Rattle.std.proofs.Math.ListN.{set}
+use Rattle.std.specs.List.{swap_remove}
+use Rattle.std.proofs.lemmas.Bool.{cases_Bool, cases_lt}
+use Rattle.std.proofs.lemmas.Bool.Decides.{nat_tests}
+use Rattle.std.proofs.lemmas.List.{length-set, get_or-set_same, get_or-set_other, length-take-le, get_or-take, get_or_default, take-take, take-set, take_more, map-set, get_or-map, set-get_or, length-take}
+use Rattle.std.proofs.lemmas.List.Elements.{Contains-append_left, Contains-push, Contains-push_cases}
+use Rattle.sat_words.specs.Literal.{Literal, code_of, literal_of}
+use Rattle.sat_words.specs.Codes.{literal_of-code_of}
+use Rattle.watch_prop.specs.WatchData.{list_at}
+use Rattle.watch_prop.specs.Lists.{Added, Removed, ListsOf}
+use Rattle.std.specs.Global.{Vec}
+
+test_true : (i j : ℕ) → nat_eq i j ≡ true → i ≡ j
+test_true i j e = grind (arith, nat_tests)
+
+test_false : (i j : ℕ) → nat_eq i j ≡ false → i ≢ j
+test_false i j e = grind (arith, nat_tests)
+
+pub cases_eq : (i j : ℕ) → (i ≡ j) ⊎ (i ≢ j)
+cases_eq i j = elim (cases_Bool (nat_eq i j)) as (λ _. (i ≡ j) ⊎ (i ≢ j)) [ inl e ↦ inl (test_true i j e) | inr e ↦ inr (test_false i j e) ]
+
+pub same_code : (m l : Literal) → code_of m ≡ code_of l → m ≡ l
+same_code m l e = sym (literal_of-code_of m) ∙ ap literal_of e ∙ literal_of-code_of l
+
+pub cases_lit : (m l : Literal) → (m ≡ l) ⊎ (m ≢ l)
+cases_lit m l = elim (cases_eq (code_of m) (code_of l)) as (λ _. (m ≡ l) ⊎ (m ≢ l)) [ inl e ↦ inl (same_code m l e) | inr n ↦ inr (λ q. n (ap code_of q)) ]
+
+at_same : (lists : List (List ℕ)) (l : Literal) (xs : List ℕ) → code_of l < length lists → list_at (set lists (code_of l) xs) l ≡ xs
+at_same lists l xs lt = get_or-set_same lists (code_of l) xs [] lt
+
+at_other : (lists : List (List ℕ)) (l m : Literal) (xs : List ℕ) → m ≢ l → list_at (set lists (code_of l) xs) m ≡ list_at lists m
+at_other lists l m xs ne = get_or-set_other lists (code_of l) (code_of m) xs [] (λ q. ne (same_code m l q))
+
+pub Added-set : (lists : List (List ℕ)) (l : Literal) (i : ℕ) → code_of l < length lists → Added lists (set lists (code_of l) (list_at lists l ++ i ∷ [])) l i
+Added-set lists l i lt =
+    let xs = list_at lists l ++ i ∷ [] in
+    record {
+      len = length-set lists (code_of l) xs;
+      there = subst (λ (ys : List ℕ). Contains ys i) (sym (at_same lists l xs lt)) (Contains-push (list_at lists l) i);
+      kept = λ m j h.
+          elim (cases_lit m l) as (λ _. Contains (list_at (set lists (code_of l) xs) m) j) [
+            | inl e ↦ (
+                let h' : Contains (list_at lists l) j = subst (λ (k : Literal). Contains (list_at lists k) j) e h in
+                subst (λ (k : Literal). Contains (list_at (set lists (code_of l) xs) k) j) (sym e)
+                (subst (λ (ys : List ℕ). Contains ys j) (sym (at_same lists l xs lt)) (Contains-append_left (list_at lists l) (i ∷ []) j h')))
+            | inr n ↦ subst (λ (ys : List ℕ). Contains ys j) (sym (at_other lists l m xs n)) h
+          ];
+      same = λ m n. at_other lists l m xs n;
+    }
+
+length-swap_remove : (xs : List ℕ) (p d : ℕ) → length (swap_remove xs p d) ≡ length xs - 1
+length-swap_remove xs p d =
+    let y = get_or xs (length xs - 1) d in
+    length-take-le (length xs - 1) (set xs p y) (omega (arith, length-set xs p y))
+
+kept-swap_remove : (xs : List ℕ) (p d : ℕ) → p < length xs → (j : ℕ) → Contains xs j → j ≢ get_or xs p 0 → Contains (swap_remove xs p d) j
+kept-swap_remove xs p d lt j h ne =
+    let n = length xs in
+    let y = get_or xs (n - 1) d in
+    let len = length-swap_remove xs p d in
+    let apart : h.0 ≢ p = λ q. ne (sym h.2 ∙ ap (λ (k : ℕ). get_or xs k j) q ∙ get_or_default xs p j 0 lt) in
+    elim (cases_lt h.0 (n - 1)) as (λ _. Contains (swap_remove xs p d) j) [
+      | inl l ↦ (h.0, omega (arith, len), get_or-take (n - 1) (set xs p y) h.0 j l ∙ get_or-set_other xs p h.0 y j apart ∙ h.2)
+      | inr g ↦ (
+          let last : h.0 ≡ n - 1 = omega (arith, h.1) in
+          let before : p < n - 1 = omega (arith, apart) in
+          (p, omega (arith, len), get_or-take (n - 1) (set xs p y) p j before ∙ get_or-set_same xs p y j lt ∙ get_or_default xs (n - 1) d j (omega (arith, h.1)) ∙ ap (λ (k : ℕ). get_or xs k j) (sym last) ∙ h.2))
+    ]
+
+pub Removed-set : (lists : List (List ℕ)) (l : Literal) (p d : ℕ) → code_of l < length lists → p < length (list_at lists l) → Removed lists (set lists (code_of l) (swap_remove (list_at lists l) p d)) l p
+Removed-set lists l p d lt inside =
+    let xs = list_at lists l in
+    let ys = swap_remove xs p d in
+    record {
+      len = length-set lists (code_of l) ys;
+      kept = λ j h ne. subst (λ (zs : List ℕ). Contains zs j) (sym (at_same lists l ys lt)) (kept-swap_remove xs p d inside j h ne);
+      same = λ m n. at_other lists l m ys n;
+      before = ap (λ (zs : List ℕ). take p zs) (at_same lists l ys lt) ∙ take-take p (length xs - 1) (set xs p (get_or xs (length xs - 1) d)) (omega arith) ∙ take-set xs p (get_or xs (length xs - 1) d);
+    }
+
+-- what is listed stays listed, but for the entry that went
+pub Listed-removed : (old new : List (List ℕ)) (l : Literal) (p : ℕ) (m : Literal) (i : ℕ) → Removed old new l p → Contains (list_at old m) i → (m ≡ l → i ≢ get_or (list_at old l) p 0) → Contains (list_at new m) i
+Listed-removed old new l p m i r h ne =
+    elim (cases_lit m l) as (λ _. Contains (list_at new m) i) [
+      | inl e ↦ subst (λ (k : Literal). Contains (list_at new k) i) (sym e) (r.kept i (subst (λ (k : Literal). Contains (list_at old k) i) e h) (ne e))
+      | inr n ↦ subst (λ (ys : List ℕ). Contains ys i) (sym (r.same m n)) h
+    ]
+
+pub take_split : (xs : List ℕ) (p i : ℕ) → p < length xs → Contains (take (p + 1) xs) i → Contains (take p xs) i ⊎ (get_or xs p 0 ≡ i)
+take_split xs p i lt h = Contains-push_cases (take p xs) (get_or xs p 0) i (subst (λ (ys : List ℕ). Contains ys i) (take_more xs p 0 lt) h)
+
+-- the list of a literal, as it stands in the vector
+pub items_at : (v : Vec (Vec ℕ)) (l : Literal) (x : Vec ℕ) (code : ℕ) → code ≡ code_of l → code_of l < length v.items → x ≡ get_or v.items code x → x.items ≡ list_at (ListsOf v) l
+items_at v l x code e lt q =
+    ap (λ (y : Vec ℕ). y.items) (q ∙ ap (λ (n : ℕ). get_or v.items n x) e) ∙ sym (get_or-map (λ (y : Vec ℕ). y.items) v.items (code_of l) x [] lt)
+
+pub lists_with : (v : Vec (Vec ℕ)) (l : Literal) (y : Vec ℕ) (code : ℕ) → code ≡ code_of l → map (λ (z : Vec ℕ). z.items) (set v.items code y) ≡ set (ListsOf v) (code_of l) y.items
+lists_with v l y code e = map-set (λ (z : Vec ℕ). z.items) v.items code y ∙ ap (λ (n : ℕ). set (ListsOf v) n y.items) e
+
+pub lists_as_were : (v : Vec (Vec ℕ)) (l : Literal) (y x : Vec ℕ) (code : ℕ) → code ≡ code_of l → code_of l < length v.items → x ≡ get_or v.items code x → y.items ≡ x.items → map (λ (z : Vec ℕ). z.items) (set v.items code y) ≡ ListsOf v
+lists_as_were v l y x code e lt q same =
+    lists_with v l y code e ∙ ap (λ (ys : List ℕ). set (ListsOf v) (code_of l) ys) (same ∙ items_at v l x code e lt q) ∙ set-get_or (ListsOf v) (code_of l) []
+
+pub Removed-len : (old new : List (List ℕ)) (l : Literal) (p : ℕ) → p < length (list_at old l) → Removed old new l p → p ≤ length (list_at new l)
+Removed-len old new l p lt r = omega (arith, length-take p (list_at new l), length-take p (list_at old l), ap (λ (xs : List ℕ). length xs) r.before)

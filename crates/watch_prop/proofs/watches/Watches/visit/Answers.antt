@@ -1,0 +1,130 @@
+use Rattle.std.proofs.Common.{Contains, ◌≡◌, ℕ, ◌<◌, ◌≤◌, ◌+◌, List, ap, subst, sym, refl, ◌∙◌, arith, length, map, get_or, Some, None, not}
+use Rattle.std.specs.Option.{option_map}
+use Rattle.sat_words.specs.Literal.{Literal}
+use Rattle.sat_words.specs.declared.shared.Cref.{Cref}
+use Rattle.ring_port.specs.PortState.{lits_at}
+use Rattle.ring_trail.specs.declared.step.Step.{Step}
+use Rattle.ring_trail.specs.TrailData.{TrailData, HasNoPlace, value_of}
+use Rattle.ring_trail.proofs.Values.{step_of-no_place}
+use Rattle.ring_trail.proofs.Causes.{IsReasoned-forced}
+use Rattle.watch_prop.specs.declared.watch.Watch.{Watch}
+use Rattle.watch_prop.specs.declared.watch.Entry.{Entry}
+use Rattle.watch_prop.specs.WatchData.{WatchData, Lits, attached, list_at}
+use Rattle.watch_prop.specs.Watched.{At, Watched, IsAttachable}
+use Rattle.watch_prop.specs.Lists.{ListsOf, Removed}
+use Rattle.watch_prop.specs.Propagation.{attached_at, HasReasons}
+use Rattle.watch_prop.specs.Visiting.{IsVisiting, IsStale, CanMove, IsForcing, Replaced}
+use Rattle.watch_prop.proofs.ListsLemmas.{Removed-len}
+use Rattle.watch_prop.proofs.Growing.{HasGrown-step, clause_in}
+use Rattle.watch_prop.proofs.Reasons.{attached_some}
+use Rattle.watch_prop.proofs.Entries.{entry_attachable, on_vars, attachable_held}
+use Rattle.watch_prop.proofs.Settling.{attached-set}
+use Rattle.watch_prop.proofs.Visits.{visiting-stale, visiting-settled, visiting-moved, visiting-forced}
+use Rattle.watch_prop.proofs.watches.Watches.visit.Given.{Over}
+use Rattle.watch_prop.proofs.watches.Watches.visit.Goals as goal
+
+pub replace-requires-clause-new_in_range : goal.replace-requires-clause-new_in_range
+replace-requires-clause-new_in_range g c =
+    let w = c.args.self.now in
+    let s = g.P.Port.state c.args.port.now in
+    let can = c.in-Moves.ensures.verdict in
+    on_vars w.vars w.vars (lits_at s c.in-Moves.entry.clause.address) c.in-Moves.new refl
+    (entry_attachable w (lits_at s) c.args.trail.now (get_or (list_at w.lists c.args.lit) c.args.place 0) c.args.lit c.in-Moves.entry c.requires.visiting.watched can.entry) can.is_open.inside
+
+-- the clause of a watch that forces a literal
+forcing_attachable : (w : WatchData) (h : Lits) (t : TrailData) (i : ℕ) (k : Literal) (c : Cref) → Watched w h t → IsForcing w h t i k c → IsAttachable w.vars (h c.address)
+forcing_attachable w h t i k c v f = subst (λ (d : Cref). IsAttachable w.vars (h d.address)) f.at.clause (v.clauses i f.at.watch f.at.there)
+
+pub assign-requires-clause-in_range : goal.assign-requires-clause-in_range
+assign-requires-clause-in_range g c =
+    let w = c.args.self.now in
+    let s = g.P.Port.state c.args.port.now in
+    let f = c.in-Forced.ensures.verdict in
+    on_vars w.vars c.args.trail.now.vars (lits_at s c.in-Forced.clause.address) c.in-Forced.other c.requires.visiting.watched.vars
+    (forcing_attachable w (lits_at s) c.args.trail.now (get_or (list_at w.lists c.args.lit) c.args.place 0) c.in-Forced.other c.in-Forced.clause c.requires.visiting.watched f) f.forces.has_lit
+
+no_value : (steps : List Step) (v : ℕ) → HasNoPlace steps v → value_of steps v ≡ None
+no_value steps v free = ap (option_map (λ (s : Step). not s.lit.neg)) (step_of-no_place steps v free)
+
+pub assign-requires-clause-free : goal.assign-requires-clause-free
+assign-requires-clause-free g c = no_value c.args.trail.now.steps c.in-Forced.other.var c.in-Forced.ensures.verdict.free
+
+stale_visiting : (w v : WatchData) (h : Lits) (t : TrailData) (l : Literal) (place : ℕ) (lists : List (List ℕ)) → v ≡ w → place < length (list_at w.lists l) → IsVisiting w h t l (place + 1)
+    → IsStale w (get_or (list_at w.lists l) place 0) l → Removed v.lists lists l place → IsVisiting record v { lists = lists } h t l place × (place ≤ length (list_at lists l))
+stale_visiting w v h t l place lists e lt k s r =
+    let lt' = subst (λ (x : WatchData). place < length (list_at x.lists l)) (sym e) lt in (
+      visiting-stale v h t l place lists lt'
+          (subst (λ (x : WatchData). IsVisiting x h t l (place + 1)) (sym e) k)
+          (subst (λ (x : WatchData). IsStale x (get_or (list_at x.lists l) place 0) l) (sym e) s) r,
+      Removed-len v.lists lists l place lt' r,
+    )
+
+pub returns-in-Stale-clause-watched : goal.returns-in-Stale-clause-watched
+returns-in-Stale-clause-watched g c =
+    (stale_visiting c.args.self.now record { vars = c.self.inside.vars; watches = c.self.inside.watches.items; lists = ListsOf c.self.inside.lists; settled = c.self.inside.settled } (lits_at (g.P.Port.state c.args.port.now)) c.args.trail.now c.args.lit c.args.place (ListsOf c.take_from.new.lists) c.self.view_is c.requires.there c.requires.visiting c.in-Stale.ensures.verdict c.take_from.ensures).0.watched
+
+pub returns-in-Stale-clause-visited : goal.returns-in-Stale-clause-visited
+returns-in-Stale-clause-visited g c =
+    stale_visiting c.args.self.now record { vars = c.self.inside.vars; watches = c.self.inside.watches.items; lists = ListsOf c.self.inside.lists; settled = c.self.inside.settled } (lits_at (g.P.Port.state c.args.port.now)) c.args.trail.now c.args.lit c.args.place (ListsOf c.take_from.new.lists) c.self.view_is c.requires.there c.requires.visiting c.in-Stale.ensures.verdict c.take_from.ensures
+
+pub returns-in-Settled-clause-visited : goal.returns-in-Settled-clause-visited
+returns-in-Settled-clause-visited g c =
+    (visiting-settled c.args.self.now (lits_at (g.P.Port.state c.args.port.now)) c.args.trail.now c.args.lit c.args.place c.requires.there c.requires.visiting c.in-Settled.ensures.verdict, (let q = c.requires.there in omega arith))
+
+-- a watch that changes its literals keeps its clause
+clauses_same : (w x : WatchData) (h : Lits) (t : TrailData) (l m : Literal) (index place : ℕ) (e : Entry) → CanMove w h t l index e m → Replaced w x e l m place → attached x ≡ attached w
+clauses_same w x h t l m index place e can r =
+    let old_at : At w.watches e.index can.entry.watch = subst (λ (n : ℕ). At w.watches n can.entry.watch) (sym can.entry.at_index) can.entry.there in
+    ap (λ (ws : List Watch). map (λ (s : Watch). s.clause) ws) r.watches
+    ∙ attached-set w.watches e.index can.entry.watch record { clause = e.clause; first = e.other; second = m } old_at (sym can.entry.clause)
+
+moved : (g : Over) (c : goal.In_ok-replace-in-Moves g) → IsVisiting c.replace.new.self (lits_at (g.P.Port.state c.args.port.now)) c.args.trail.now c.args.lit c.args.place
+moved g c =
+    visiting-moved c.args.self.now c.replace.new.self (lits_at (g.P.Port.state c.args.port.now)) c.args.trail.now c.args.lit c.in-Moves.new c.args.place c.in-Moves.entry
+    c.present-level.ensures.trail.done c.requires.there c.requires.visiting c.in-Moves.ensures.verdict c.in_ok-replace-in-Moves.ensures.ok
+
+pub returns-in_ok-replace-in-Moves-clause-attached : goal.returns-in_ok-replace-in-Moves-clause-attached
+returns-in_ok-replace-in-Moves-clause-attached g c =
+    clauses_same c.args.self.now c.replace.new.self (lits_at (g.P.Port.state c.args.port.now)) c.args.trail.now c.args.lit c.in-Moves.new (get_or (list_at c.args.self.now.lists c.args.lit) c.args.place 0) c.args.place c.in-Moves.entry c.in-Moves.ensures.verdict c.in_ok-replace-in-Moves.ensures.ok
+
+pub returns-in_ok-replace-in-Moves-clause-watched : goal.returns-in_ok-replace-in-Moves-clause-watched
+returns-in_ok-replace-in-Moves-clause-watched g c = (moved g c).watched
+
+pub returns-in_ok-replace-in-Moves-clause-visited : goal.returns-in_ok-replace-in-Moves-clause-visited
+returns-in_ok-replace-in-Moves-clause-visited g c =
+    let r = c.in_ok-replace-in-Moves.ensures.ok in
+    let can = c.in-Moves.ensures.verdict in
+    let between : list_at r.between c.args.lit ≡ list_at c.args.self.now.lists c.args.lit = r.added.same c.args.lit (λ q. can.is_open.not_l (sym q)) in
+    (moved g c, Removed-len r.between c.replace.new.self.lists c.args.lit c.args.place (subst (λ (xs : List ℕ). c.args.place < length xs) (sym between) c.requires.there) r.removed)
+
+forced : (g : Over) (c : goal.After-assign g) → IsVisiting c.args.self.now (lits_at (g.P.Port.state c.args.port.now)) c.assign.new.self c.args.lit c.args.place
+forced g c =
+    let t = c.args.trail.now in
+    let s : Step = record { lit = c.in-Forced.other; level = t.level; reason = Some c.in-Forced.clause } in
+    let e = c.assign.ensures.step in
+    visiting-forced c.args.self.now (lits_at (g.P.Port.state c.args.port.now)) t c.assign.new.self c.args.lit c.in-Forced.other c.args.place c.in-Forced.clause s c.present-level.ensures.trail.done c.requires.there c.requires.visiting
+    c.in-Forced.ensures.verdict refl refl (ap (λ (u : TrailData). u.steps) e) (HasGrown-step t c.assign.new.self s e refl) (ap (λ (u : TrailData). u.done) e)
+
+pub returns-in-Forced-clause-watched : goal.returns-in-Forced-clause-watched
+returns-in-Forced-clause-watched g c = (forced g c).watched
+
+pub returns-in-Forced-clause-visited : goal.returns-in-Forced-clause-visited
+returns-in-Forced-clause-visited g c = (forced g c, (let q = c.requires.there in omega arith))
+
+pub returns-in-Forced-clause-grown : goal.returns-in-Forced-clause-grown
+returns-in-Forced-clause-grown g c =
+    let t = c.args.trail.now in
+    HasGrown-step t c.assign.new.self record { lit = c.in-Forced.other; level = t.level; reason = Some c.in-Forced.clause } c.assign.ensures.step refl
+
+pub returns-in-Forced-clause-reasons : goal.returns-in-Forced-clause-reasons
+returns-in-Forced-clause-reasons g c =
+    let t = c.args.trail.now in
+    let w = c.args.self.now in
+    let s = g.P.Port.state c.args.port.now in
+    let f = c.in-Forced.ensures.verdict in
+    let i = get_or (list_at w.lists c.args.lit) c.args.place 0 in
+    let d = lits_at s c.in-Forced.clause.address in
+    let member = subst (λ (x : Cref). Contains (attached w) x) f.at.clause (clause_in w i f.at.watch f.at.there) in
+    subst (λ (u : TrailData). HasReasons (attached w) s u.steps) (sym c.assign.ensures.step)
+    (IsReasoned-forced (attached_at (attached w) s) s.seen t c.in-Forced.other c.in-Forced.clause d c.requires.reasons
+    (attached_some (attached w) s c.in-Forced.clause member (attachable_held w.vars s c.in-Forced.clause.address (forcing_attachable w (lits_at s) t i c.in-Forced.other c.in-Forced.clause c.requires.visiting.watched f))) f.forces)

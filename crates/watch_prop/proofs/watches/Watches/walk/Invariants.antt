@@ -1,0 +1,23 @@
+use Rattle.std.proofs.Common.{◌≡◌, ◌≤◌, length}
+use Rattle.ring_port.specs.PortState.{lits_at}
+use Rattle.ring_trail.specs.TrailData.{HasGrown}
+use Rattle.watch_prop.specs.WatchData.{attached, list_at}
+use Rattle.watch_prop.specs.Propagation.{HasReasons}
+use Rattle.watch_prop.specs.Visiting.{IsVisiting}
+use Rattle.watch_prop.proofs.watches.Watches.walk.Given as goal
+
+abbrev pub invariant-loop-place : goal.invariant-loop-place
+invariant-loop-place g l = record {
+  reasons : HasReasons (attached l.fn.self) (g.P.Port.state l.fn.port) l.trail.steps;
+  same : g.P.Port.state l.port ≡ g.P.Port.state l.fn.port;
+  attached : attached l.self ≡ attached l.fn.self;
+  settled : l.self.settled ≡ l.fn.self.settled;
+  vars : l.self.vars ≡ l.fn.self.vars;
+  grown : HasGrown l.fn.trail l.trail;
+  done : l.trail.done ≡ l.fn.trail.done;
+  visiting : IsVisiting l.self (lits_at (g.P.Port.state l.fn.port)) l.trail l.lit l.place;
+  inside : l.place ≤ length (list_at l.self.lists l.lit);
+}
+
+abbrev pub decreases-loop-place : goal.decreases-loop-place
+decreases-loop-place g l = l.place

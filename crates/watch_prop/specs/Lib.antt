@@ -1,0 +1,6 @@
+pub mod WatchData
+pub mod Watched
+pub mod Propagation
+pub mod Lists
+pub mod Choice
+pub mod Visiting

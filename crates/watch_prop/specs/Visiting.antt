@@ -1,0 +1,132 @@
+-- The walk down the list of a literal that became false.
+use Rattle.std.specs.Prelude.{◌≡◌, ◌≢◌, ℕ, ◌<◌, ◌≤◌, ◌+◌, ◌⊎◌, true, List, Contains, length, take, slice_set}
+use Rattle.sat_words.specs.Literal.{Literal}
+use Rattle.sat_words.specs.Clause.{has}
+use Rattle.sat_words.specs.declared.shared.Cref.{Cref}
+use Rattle.ring_trail.specs.declared.step.Step.{Step}
+use Rattle.ring_trail.specs.TrailData.{TrailData, IsFalseOn, HasNoPlace}
+use Rattle.ring_trail.specs.Reasoned.{ForcesAt}
+use Rattle.ring_trail.specs.Closed.{HasTrue}
+use Rattle.watch_prop.specs.declared.watch.Watch.{Watch}
+use Rattle.watch_prop.specs.declared.watch.Entry.{Entry}
+use Rattle.watch_prop.specs.declared.watch.Verdict.{Verdict}
+use Rattle.watch_prop.specs.declared.watch.Verdict.TheVariants.{Stale, Settled, Moves, Forced, False}
+use Rattle.watch_prop.specs.declared.watch.Visit.{Visit}
+use Rattle.watch_prop.specs.declared.watch.Visit.TheVariants.{Done, Falsified}
+use Rattle.watch_prop.specs.declared.propagated.Propagated.{Propagated}
+use Rattle.watch_prop.specs.declared.propagated.Propagated.TheVariants.{Quiet, Conflict}
+use Rattle.watch_prop.specs.WatchData.{WatchData, Lits, list_at}
+use Rattle.watch_prop.specs.Watched.{At, Watched}
+use Rattle.watch_prop.specs.Propagation.{IsConflict}
+use Rattle.watch_prop.specs.Lists.{Added, Removed}
+
+-- the literal is not false
+abbrev pub NotFalse : List Step → Literal → Type 0
+NotFalse steps l = IsFalseOn steps l → ⊥
+
+-- a literal of the clause beside these two that isn't false
+pub record IsOpenIn (steps : List Step) (c : List Literal) (l other k : Literal) : Type 0 where
+  pub inside : has c k ≡ true
+  pub not_l : k ≢ l
+  pub not_other : k ≢ other
+  pub not_false : NotFalse steps k
+
+-- each literal of the clause beside these two is false
+abbrev pub AllFalseBut : List Step → List Literal → Literal → Literal → Type 0
+AllFalseBut steps c l other = (k : Literal) → has c k ≡ true → (k ≡ l) ⊎ ((k ≡ other) ⊎ IsFalseOn steps k)
+
+-- those watches of the literal that are not below this place in its list are satisfied
+pub record IsVisiting (w : WatchData) (lits : Lits) (t : TrailData) (l : Literal) (place : ℕ) : Type 0 where
+  pub watched : Watched w lits t
+  pub left : (i : ℕ) (s : Watch) → i < w.settled → At w.watches i s → (s.first ≡ l) ⊎ (s.second ≡ l) → Contains (take place (list_at w.lists l)) i ⊎ HasTrue t.steps t.level (lits s.clause.address)
+
+-- the watch at the index, seen from one of its literals
+pub record IsEntry (w : WatchData) (index : ℕ) (l : Literal) (e : Entry) : Type 0 where
+  pub at_index : e.index ≡ index
+  pub watch : Watch
+  pub there : At w.watches index watch
+  pub clause : watch.clause ≡ e.clause
+  pub sides : ((watch.first ≡ l) × (watch.second ≡ e.other)) ⊎ ((watch.second ≡ l) × (watch.first ≡ e.other))
+
+-- the watch at the index is not one of the literal
+abbrev pub IsStale : WatchData → ℕ → Literal → Type 0
+IsStale w index l = (s : Watch) → At w.watches index s → (s.first ≢ l) × (s.second ≢ l)
+
+-- a new literal watches, and its list has the watch
+pub record Replaced (old new : WatchData) (e : Entry) (l k : Literal) (place : ℕ) : Type 0 where
+  pub vars : new.vars ≡ old.vars
+  pub settled : new.settled ≡ old.settled
+  pub watches : new.watches ≡ slice_set old.watches e.index record { clause = e.clause; first = e.other; second = k }
+  pub between : List (List ℕ)
+  pub added : Added old.lists between k e.index
+  pub removed : Removed between new.lists l place
+
+-- the watch at the index may be moved to another literal of its clause
+pub record CanMove (w : WatchData) (lits : Lits) (t : TrailData) (l : Literal) (index : ℕ) (e : Entry) (k : Literal) : Type 0 where
+  pub entry : IsEntry w index l e
+  pub is_open : IsOpenIn t.steps (lits e.clause.address) l e.other k
+
+-- a watch of the clause at this index
+pub record WatchOf (w : WatchData) (index : ℕ) (c : Cref) : Type 0 where
+  pub watch : Watch
+  pub there : At w.watches index watch
+  pub clause : watch.clause ≡ c
+
+-- the clause of the watch at the index forces the literal, which has no value
+pub record IsForcing (w : WatchData) (lits : Lits) (t : TrailData) (index : ℕ) (k : Literal) (c : Cref) : Type 0 where
+  pub at : WatchOf w index c
+  pub free : HasNoPlace t.steps k.var
+  pub forces : ForcesAt t.steps (length t.steps) k (lits c.address)
+
+-- a literal of the clause of the watch is true
+pub record IsSatisfied (w : WatchData) (lits : Lits) (t : TrailData) (index : ℕ) : Type 0 where
+  pub watch : Watch
+  pub there : At w.watches index watch
+  pub has_true : HasTrue t.steps t.level (lits watch.clause.address)
+
+abbrev pub IsVerdict : WatchData → Lits → TrailData → Literal → ℕ → Verdict → Type 0
+IsVerdict w lits t l index Stale = IsStale w index l
+IsVerdict w lits t l index Settled = IsSatisfied w lits t index
+IsVerdict w lits t l index (Moves e k) = CanMove w lits t l index e k
+IsVerdict w lits t l index (Forced k c) = IsForcing w lits t index k c
+IsVerdict w lits t l index (False c) = IsConflict w lits t c
+
+abbrev pub IsVisited : WatchData → Lits → TrailData → Literal → ℕ → Visit → Type 0
+IsVisited w lits t l place Done = IsVisiting w lits t l place × (place ≤ length (list_at w.lists l))
+IsVisited w lits t l place (Falsified c) = IsConflict w lits t c
+
+abbrev pub IsWalked : WatchData → Lits → TrailData → Literal → Propagated → Type 0
+IsWalked w lits t l Quiet = IsVisiting w lits t l 0
+IsWalked w lits t l (Conflict c) = IsConflict w lits t c
+
+-- at Quiet every step is propagated
+abbrev pub IsEnd : WatchData → Lits → TrailData → Propagated → Type 0
+IsEnd w lits t Quiet = t.done ≡ length t.steps
+IsEnd w lits t (Conflict c) = IsConflict w lits t c
+
+-- Clauses that wait
+
+-- more places in the lists, and nothing else changed
+pub record ListsMore (old new : WatchData) : Type 0 where
+  pub vars : new.vars ≡ old.vars
+  pub watches : new.watches ≡ old.watches
+  pub settled : new.settled ≡ old.settled
+  pub len : length new.lists ≡ length old.lists
+  pub kept : (m : Literal) (j : ℕ) → Contains (list_at old.lists m) j → Contains (list_at new.lists m) j
+
+-- the first clause that waits is listed at these literals
+pub record Listed (old new : WatchData) (c : Cref) (k l : Literal) : Type 0 where
+  pub vars : new.vars ≡ old.vars
+  pub settled : new.settled ≡ old.settled + 1
+  pub watches : new.watches ≡ slice_set old.watches old.settled record { clause = c; first = k; second = l }
+  pub between : List (List ℕ)
+  pub added : Added old.lists between k old.settled
+  pub added_too : Added between new.lists l old.settled
+
+abbrev pub IsSettledTo : WatchData → WatchData → Lits → TrailData → Visit → Type 0
+IsSettledTo old w lits t Done = w.settled ≡ old.settled + 1
+IsSettledTo old w lits t (Falsified c) = IsConflict w lits t c
+
+abbrev pub IsAllSettled : WatchData → Lits → TrailData → Propagated → Type 0
+IsAllSettled w lits t Quiet = w.settled ≡ length w.watches
+IsAllSettled w lits t (Conflict c) = IsConflict w lits t c

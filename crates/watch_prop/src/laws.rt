@@ -1,0 +1,44 @@
+//! What growing and going back keep of the invariant between watches, clauses and trail.
+ghost use Rattle.std.specs.Prelude.{◌≡◌, ◌≤◌, ◌+◌, ℕ, List, Option, true, length, Contains};
+ghost use Rattle.sat_words.specs.Literal.{Literal};
+ghost use Rattle.sat_words.specs.Clause.{has};
+ghost use Rattle.sat_words.specs.declared.shared.Cref.{Cref};
+ghost use Rattle.ring_port.specs.PortState.{PortState, clause_at};
+ghost use Rattle.ring_trail.specs.declared.step.Step.{Step};
+ghost use Rattle.ring_trail.specs.TrailData.{TrailData, IsTrail, decided, assigned, cut_back};
+ghost use Rattle.ring_trail.specs.Reasoned.{IsReasoned};
+ghost use Rattle.watch_prop.specs.WatchData.{WatchData, Lits, attached};
+ghost use Rattle.watch_prop.specs.Watched.{Watched};
+ghost use Rattle.watch_prop.specs.Propagation.{HasReasons};
+
+/// A literal at the present level keeps the watches.
+pub fn an_assignment_keeps_watches()
+    ensures { (w : WatchData) (lits : Lits) (t : TrailData) (l : Literal) (r : Option Cref) → IsTrail t → Watched w lits t → Watched w lits (assigned t l r) }
+{}
+
+/// A decision keeps the watches, once every literal is propagated.
+pub fn a_decision_keeps_watches()
+    ensures { (w : WatchData) (lits : Lits) (t : TrailData) (l : Literal) → t.done ≡ length t.steps → Watched w lits t → Watched w lits (decided t l) }
+{}
+
+/// Going back to a level keeps the watches.
+pub fn going_back_keeps_watches()
+    ensures { (w : WatchData) (lits : Lits) (t : TrailData) (k : ℕ) → IsTrail t → k ≤ t.level → Watched w lits t → Watched w lits (cut_back t k) }
+{}
+
+/// What else is held may change: the watches stay where each attached clause has its literals.
+pub fn attached_clauses_keep_watches()
+    ensures { (w : WatchData) (lits more : Lits) (t : TrailData) → ((c : Cref) → Contains (attached w) c → more c.address ≡ lits c.address) → Watched w lits t → Watched w more t }
+{}
+
+/// What is attached, held and seen may change: the reasons stay where each attached clause stays attached and held with its
+/// literals, and each unit seen stays so.
+pub fn attached_clauses_keep_reasons()
+    ensures { (cs ds : List Cref) (s r : PortState) (steps : List Step) → ((c : Cref) → Contains cs c → Contains ds c × (clause_at r c.address ≡ clause_at s c.address))
+        → ((l : Literal) → has s.seen l ≡ true → has r.seen l ≡ true) → HasReasons cs s steps → HasReasons ds r steps }
+{}
+
+/// Reasons that are attached are held.
+pub fn attached_reasons_are_held()
+    ensures { (cs : List Cref) (s : PortState) (steps : List Step) → HasReasons cs s steps → IsReasoned (clause_at s) s.seen steps }
+{}

@@ -1,0 +1,20 @@
+//! Unit propagation by two watched literals (MiniSat, Eén and Sörensson 2003), over the clauses that any port holds.
+//!
+//! `Watched` of specs/ is the invariant between watches, clauses and trail, `Propagation` says what propagation comes to,
+//! and `laws` that the trail's calls keep the invariant.
+#![tactic(auto)]
+
+mod choice;
+mod clause_scan;
+mod laws;
+mod lists;
+mod propagated;
+mod watch;
+mod watches;
+
+pub use laws::{
+    a_decision_keeps_watches, an_assignment_keeps_watches, attached_clauses_keep_reasons,
+    attached_clauses_keep_watches, attached_reasons_are_held, going_back_keeps_watches,
+};
+pub use propagated::Propagated;
+pub use watches::Watches;

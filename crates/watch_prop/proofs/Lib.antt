@@ -6,3 +6,4 @@ pub mod Entries
 pub mod Ranks
 pub mod Settling
 pub mod TrailLaws
+pub mod Row

@@ -4,3 +4,4 @@ pub mod Propagation
 pub mod Lists
 pub mod Choice
 pub mod Visiting
+pub mod Row

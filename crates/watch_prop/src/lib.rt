@@ -18,3 +18,6 @@ pub use laws::{
 };
 pub use propagated::Propagated;
 pub use watches::Watches;
+
+#[cfg(test)]
+mod tests;

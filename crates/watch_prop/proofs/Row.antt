@@ -1,0 +1,61 @@
+-- What holds of the port of the tests.
+use Rattle.std.proofs.Common.{◌≡◌, ◌∙◌, ℕ, List, [], ◌∷◌, Some, None, IsSome, sym, refl, ap, inl, inr, ◌⊎◌}
+use Rattle.std.specs.List.{slice_get}
+use Rattle.std.proofs.lemmas.Bool.{cases_eq, ne_eqb, false≢true}
+use Rattle.sat_words.specs.Literal.{Literal}
+use Rattle.ring_port.specs.PortState.{held_at}
+use Rattle.watch_prop.specs.Row.{first, second, third, row_state}
+
+-- what is held at an address
+pub held_first : held_at row_state 1 ≡ Some first
+unfolding held_at
+held_first = refl
+
+pub held_second : held_at row_state 2 ≡ Some second
+unfolding held_at
+held_second = refl
+
+pub held_third : held_at row_state 3 ≡ Some third
+unfolding held_at
+held_third = refl
+
+held_none : (a : ℕ) → (1 ≡ a → ⊥) → (2 ≡ a → ⊥) → (3 ≡ a → ⊥) → held_at row_state a ≡ None
+unfolding held_at
+held_none a x y z = rw (ne_eqb 1 a x, ne_eqb 2 a y, ne_eqb 3 a z) refl
+
+-- the addresses at which a clause is held
+held_only : (a : ℕ) → IsSome (held_at row_state a) → (a ≡ 1) ⊎ ((a ≡ 2) ⊎ (a ≡ 3))
+held_only a h =
+    elim (cases_eq 1 a) as (λ _. (a ≡ 1) ⊎ ((a ≡ 2) ⊎ (a ≡ 3))) [
+      | inl e ↦ inl (sym e)
+      | inr x ↦ (elim (cases_eq 2 a) as (λ _. (a ≡ 1) ⊎ ((a ≡ 2) ⊎ (a ≡ 3))) [
+        | inl e ↦ inr (inl (sym e))
+        | inr y ↦ (elim (cases_eq 3 a) as (λ _. (a ≡ 1) ⊎ ((a ≡ 2) ⊎ (a ≡ 3))) [
+          | inl e ↦ inr (inr (sym e))
+          | inr z ↦ absurd (false≢true (rw (held_none a x y z) at h))
+        ])
+      ])
+    ]
+
+pub at_first : (a : ℕ) → a ≡ 1 → held_at row_state a ≡ Some first
+at_first a e = ap (held_at row_state) e ∙ held_first
+
+pub at_second : (a : ℕ) → a ≡ 2 → held_at row_state a ≡ Some second
+at_second a e = ap (held_at row_state) e ∙ held_second
+
+pub at_third : (a : ℕ) → (a ≡ 1 → ⊥) → (a ≡ 2 → ⊥) → IsSome (held_at row_state a) → held_at row_state a ≡ Some third
+at_third a one two h =
+    elim (held_only a h) as (λ _. held_at row_state a ≡ Some third) [
+      | inl e ↦ absurd (one e)
+      | inr r ↦ (elim r as (λ _. held_at row_state a ≡ Some third) [ inl e ↦ absurd (two e) | inr e ↦ ap (held_at row_state) e ∙ held_third ])
+    ]
+
+-- equal lists read alike
+pub read_same : (c d : List Literal) (i : ℕ) (r : Literal) → c ≡ d → slice_get c i ≡ Some r → slice_get d i ≡ Some r
+read_same c d i r e h = ap (λ (xs : List Literal). slice_get xs i) (sym e) ∙ h
+
+pub same_two : (x y k l : Literal) → x ≡ k → y ≡ l → (x ∷ y ∷ []) ≡ (k ∷ l ∷ [])
+same_two x y k l e f = cc
+
+pub same_three : (x y z k l m : Literal) → x ≡ k → y ≡ l → z ≡ m → (x ∷ y ∷ z ∷ []) ≡ (k ∷ l ∷ m ∷ [])
+same_three x y z k l m e f g = cc

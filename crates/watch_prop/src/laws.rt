@@ -1,15 +1,15 @@
 //! What growing and going back keep of the invariant between watches, clauses and trail.
-ghost use Rattle.std.specs.Prelude.{◌≡◌, ◌≤◌, ◌+◌, ℕ, List, Option, true, length, Contains};
+ghost use Rattle.std.specs.Prelude.{◌≡◌, ◌≤◌, ◌+◌, ℕ, List, Option, Some, IsSome, true, length, Contains};
 ghost use Rattle.sat_words.specs.Literal.{Literal};
 ghost use Rattle.sat_words.specs.Clause.{has};
 ghost use Rattle.sat_words.specs.declared.shared.Cref.{Cref};
-ghost use Rattle.ring_port.specs.PortState.{PortState, clause_at};
+ghost use Rattle.ring_port.specs.PortState.{PortState, held_at, lits_at, clause_at};
 ghost use Rattle.ring_trail.specs.declared.step.Step.{Step};
 ghost use Rattle.ring_trail.specs.TrailData.{TrailData, IsTrail, decided, assigned, cut_back};
 ghost use Rattle.ring_trail.specs.Reasoned.{IsReasoned};
 ghost use Rattle.watch_prop.specs.WatchData.{WatchData, Lits, attached};
 ghost use Rattle.watch_prop.specs.Watched.{Watched};
-ghost use Rattle.watch_prop.specs.Propagation.{HasReasons};
+ghost use Rattle.watch_prop.specs.Propagation.{attached_at, HasReasons};
 
 /// A literal at the present level keeps the watches.
 pub fn an_assignment_keeps_watches()
@@ -41,4 +41,9 @@ pub fn attached_clauses_keep_reasons()
 /// Reasons that are attached are held.
 pub fn attached_reasons_are_held()
     ensures { (cs : List Cref) (s : PortState) (steps : List Step) → HasReasons cs s steps → IsReasoned (clause_at s) s.seen steps }
+{}
+
+/// An attached clause that is held may be the reason of a literal that it forces.
+pub fn attached_clauses_may_be_reasons()
+    ensures { (cs : List Cref) (s : PortState) (c : Cref) → Contains cs c → IsSome (held_at s c.address) → attached_at cs s c.address ≡ Some (lits_at s c.address) }
 {}

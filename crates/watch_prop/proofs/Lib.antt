@@ -7,3 +7,6 @@ pub mod Ranks
 pub mod Settling
 pub mod TrailLaws
 pub mod Row
+pub mod TrailRounds
+pub mod Decisions
+pub mod Agreeing

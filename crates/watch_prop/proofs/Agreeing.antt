@@ -1,0 +1,104 @@
+-- What propagation over watches came to is what plain rounds come to.
+use Rattle.std.proofs.Common.{◌≡◌, ◌∙◌, ◌↔◌, ℕ, ◌==◌, true, false, List, [], ◌∷◌, map, Option, None, Some, sym, refl, ap, subst, inl, inr, Contains}
+use Rattle.std.specs.List.{list_any}
+use Rattle.std.specs.Option.{option_map, option_map_or}
+use Rattle.std.proofs.lemmas.Bool.{cases_Bool, eqb-true, true≢false}
+use Rattle.sat_words.specs.Literal.{Literal}
+use Rattle.sat_words.specs.declared.shared.Cref.{Cref}
+use Rattle.rup_model.specs.Rounds.{Rounds}
+use Rattle.rup_model.specs.Rup.{conflicts}
+use Rattle.rup_model.proofs.Lists.{In, In_any, In_map, map_In, In_append, In_has, In_Contains, Contains_In}
+use Rattle.ring_port.specs.PortState.{Holding, PortState, held_at, lits_at, clause_at}
+use Rattle.ring_trail.specs.TrailData.{TrailData, IsTrail, IsTrueOn}
+use Rattle.ring_trail.specs.Closed.{IsClosed, IsClosedClause}
+use Rattle.watch_prop.specs.WatchData.{WatchData, attached, clauses_of}
+use Rattle.watch_prop.specs.Propagation.{attached_at, HasReasons, IsConflict, IsQuiet}
+use Rattle.watch_prop.specs.Rounds.{decisions_of, fixed_of, with_units, AllTrueOn, IsDerived}
+use Rattle.watch_prop.proofs.TrailRounds.{derived_in_rounds, derived_conflict, rounds_true, closed_quiet, unit_closed}
+use Rattle.watch_prop.proofs.Decisions.{decisions_true, fixed_true, derived_seen, derived_fixed, clause_with}
+
+-- the literals of a clause that is looked up
+lits_of : (s : PortState) (a : ℕ) (d : List Literal) → clause_at s a ≡ Some d → lits_at s a ≡ d
+lits_of s a d e = by (held_at s a) e
+  where
+    by : (o : Option Holding) → option_map (λ (h : Holding). h.lits) o ≡ Some d → option_map_or (λ (h : Holding). h.lits) o [] ≡ d
+    by None e = absurd (cc)
+    by (Some h) e = cc
+
+-- a clause that is looked up among the attached ones is one of them
+attached_in : (cs : List Cref) (s : PortState) (a : ℕ) (d : List Literal) → attached_at cs s a ≡ Some d → Contains (map (λ (c : Cref). lits_at s c.address) cs) d
+attached_in cs s a d e =
+    elim (cases_Bool (list_any (λ (c : Cref). c.address == a) cs)) as (λ _. Contains (map (λ (c : Cref). lits_at s c.address) cs) d) [
+      | inl found ↦ (
+          let m = In_any (λ (c : Cref). c.address == a) cs found in
+          let here : attached_at cs s a ≡ clause_at s a = rw found refl in
+          let lits : lits_at s m.0.address ≡ d = ap (lits_at s) (eqb-true m.0.address a m.2) ∙ lits_of s a d (sym here ∙ e) in
+          In_Contains (map (λ (c : Cref). lits_at s c.address) cs) d
+          (subst (λ (x : List Literal). In x (map (λ (c : Cref). lits_at s c.address) cs)) lits (In_map (λ (c : Cref). lits_at s c.address) cs m.0 m.1)))
+      | inr missing ↦ absurd (let here : attached_at cs s a ≡ None = rw missing refl in let z : None ≡ Some d = sym here ∙ e in cc)
+    ]
+
+-- clauses that are closed stay so with units that are true
+closed_with : (cs : List (List Literal)) (units : List Literal) (t : TrailData) → IsTrail t → AllTrueOn t.steps units → IsClosed cs t.steps t.level → IsClosed (with_units cs units) t.steps t.level
+closed_with cs units t shape given closed c h =
+    elim (In_append cs (map (λ l. l ∷ []) units) c (Contains_In (with_units cs units) c h)) as (λ _. IsClosedClause c t.steps t.level) [
+      | inl old ↦ closed c (In_Contains cs c old)
+      | inr new ↦ (
+          let m = map_In (λ l. l ∷ []) units c new in
+          subst (λ (x : List Literal). IsClosedClause x t.steps t.level) m.2 (unit_closed t shape m.0 (given m.0 (In_has units m.0 m.1))))
+    ]
+
+-- over units that are true
+module _ (cs : List (List Literal)) (units : List Literal) (t : TrailData) where
+  pub quiet_with : IsTrail t → AllTrueOn t.steps units → IsClosed cs t.steps t.level → conflicts (with_units cs units) (decisions_of t.steps) ≡ false
+  quiet_with shape given closed = closed_quiet t shape (with_units cs units) (decisions_of t.steps) (closed_with cs units t shape given closed) (decisions_true t.steps)
+
+  pub same_with : (l : Literal) → IsTrail t → AllTrueOn t.steps units → IsClosed cs t.steps t.level → IsDerived (with_units cs units) (decisions_of t.steps) t.steps
+      → (Rounds (with_units cs units) (decisions_of t.steps) l ≡ true) ↔ IsTrueOn t.steps l
+  same_with l shape given closed d = (
+    rounds_true t shape (with_units cs units) (decisions_of t.steps) (closed_with cs units t shape given closed) (decisions_true t.steps) l,
+    λ h. elim (derived_in_rounds (with_units cs units) (decisions_of t.steps) t.steps l d h) as (λ _. Rounds (with_units cs units) (decisions_of t.steps) l ≡ true) [
+      | inl r ↦ r
+      | inr bad ↦ absurd (true≢false (sym bad ∙ quiet_with shape given closed))
+    ],
+  )
+
+-- over the attached clauses of a port
+module _ (w : WatchData) (s : PortState) (t : TrailData) where
+  held_in : (a : ℕ) (c : List Literal) → attached_at (attached w) s a ≡ Some c → Contains (clauses_of w (lits_at s)) c
+  held_in a c e = attached_in (attached w) s a c e
+
+  conflict_in : (c : Cref) → IsConflict w (lits_at s) t c → Contains (clauses_of w (lits_at s)) (lits_at s c.address)
+  conflict_in c k =
+      In_Contains (clauses_of w (lits_at s)) (lits_at s c.address)
+      (In_map (λ (c : Cref). lits_at s c.address) (attached w) c (Contains_In (attached w) c k.member))
+
+  pub units_same : (l : Literal) → IsTrail t → HasReasons (attached w) s t.steps → AllTrueOn t.steps s.seen → IsQuiet w (lits_at s) t
+      → (Rounds (with_units (clauses_of w (lits_at s)) s.seen) (decisions_of t.steps) l ≡ true) ↔ IsTrueOn t.steps l
+  units_same l shape r given q =
+      same_with (clauses_of w (lits_at s)) s.seen t l shape given (q.closed t.level)
+      (derived_seen (attached_at (attached w) s) s.seen (clauses_of w (lits_at s)) t.steps r held_in)
+
+  pub units_quiet : IsTrail t → AllTrueOn t.steps s.seen → IsQuiet w (lits_at s) t → conflicts (with_units (clauses_of w (lits_at s)) s.seen) (decisions_of t.steps) ≡ false
+  units_quiet shape given q = quiet_with (clauses_of w (lits_at s)) s.seen t shape given (q.closed t.level)
+
+  pub units_conflict : (c : Cref) → HasReasons (attached w) s t.steps → IsConflict w (lits_at s) t c → conflicts (with_units (clauses_of w (lits_at s)) s.seen) (decisions_of t.steps) ≡ true
+  units_conflict c r k =
+      derived_conflict (with_units (clauses_of w (lits_at s)) s.seen) (decisions_of t.steps) t.steps (lits_at s c.address)
+      (derived_seen (attached_at (attached w) s) s.seen (clauses_of w (lits_at s)) t.steps r held_in)
+      (clause_with (clauses_of w (lits_at s)) s.seen (lits_at s c.address) (conflict_in c k)) k.false_all
+
+  pub fixed_same : (l : Literal) → IsTrail t → HasReasons (attached w) s t.steps → IsQuiet w (lits_at s) t
+      → (Rounds (with_units (clauses_of w (lits_at s)) (fixed_of t.steps)) (decisions_of t.steps) l ≡ true) ↔ IsTrueOn t.steps l
+  fixed_same l shape r q =
+      same_with (clauses_of w (lits_at s)) (fixed_of t.steps) t l shape (fixed_true t.steps) (q.closed t.level)
+      (derived_fixed (attached_at (attached w) s) s.seen (clauses_of w (lits_at s)) t.steps r held_in)
+
+  pub fixed_quiet : IsTrail t → IsQuiet w (lits_at s) t → conflicts (with_units (clauses_of w (lits_at s)) (fixed_of t.steps)) (decisions_of t.steps) ≡ false
+  fixed_quiet shape q = quiet_with (clauses_of w (lits_at s)) (fixed_of t.steps) t shape (fixed_true t.steps) (q.closed t.level)
+
+  pub fixed_conflict : (c : Cref) → HasReasons (attached w) s t.steps → IsConflict w (lits_at s) t c → conflicts (with_units (clauses_of w (lits_at s)) (fixed_of t.steps)) (decisions_of t.steps) ≡ true
+  fixed_conflict c r k =
+      derived_conflict (with_units (clauses_of w (lits_at s)) (fixed_of t.steps)) (decisions_of t.steps) t.steps (lits_at s c.address)
+      (derived_fixed (attached_at (attached w) s) s.seen (clauses_of w (lits_at s)) t.steps r held_in)
+      (clause_with (clauses_of w (lits_at s)) (fixed_of t.steps) (lits_at s c.address) (conflict_in c k)) k.false_all

@@ -1,20 +1,20 @@
 -- What propagation over watches came to is what plain rounds come to.
-use Rattle.std.proofs.Common.{◌≡◌, ◌∙◌, ◌↔◌, ℕ, ◌==◌, true, false, List, [], ◌∷◌, map, Option, None, Some, sym, refl, ap, subst, inl, inr, Contains}
+use Rattle.std.proofs.Common.{◌≡◌, ◌∙◌, ◌↔◌, ℕ, ◌==◌, true, false, List, [], map, Option, None, Some, sym, refl, ap, subst, inl, inr, Contains}
 use Rattle.std.specs.List.{list_any}
 use Rattle.std.specs.Option.{option_map, option_map_or}
-use Rattle.std.proofs.lemmas.Bool.{cases_Bool, eqb-true, true≢false}
+use Rattle.std.proofs.lemmas.Bool.{cases_Bool, eqb-true}
 use Rattle.sat_words.specs.Literal.{Literal}
 use Rattle.sat_words.specs.declared.shared.Cref.{Cref}
 use Rattle.rup_model.specs.Rounds.{Rounds}
 use Rattle.rup_model.specs.Rup.{conflicts}
-use Rattle.rup_model.proofs.Lists.{In, In_any, In_map, map_In, In_append, In_has, In_Contains, Contains_In}
+use Rattle.rup_model.proofs.Lists.{In, In_any, In_map, In_Contains, Contains_In}
 use Rattle.ring_port.specs.PortState.{Holding, PortState, held_at, lits_at, clause_at}
 use Rattle.ring_trail.specs.TrailData.{TrailData, IsTrail, IsTrueOn}
-use Rattle.ring_trail.specs.Closed.{IsClosed, IsClosedClause}
+use Rattle.ring_trail.specs.Closed.{IsClosed}
 use Rattle.watch_prop.specs.WatchData.{WatchData, attached, clauses_of}
 use Rattle.watch_prop.specs.Propagation.{attached_at, HasReasons, IsConflict, IsQuiet}
 use Rattle.watch_prop.specs.Rounds.{decisions_of, fixed_of, with_units, AllTrueOn, IsDerived}
-use Rattle.watch_prop.proofs.TrailRounds.{derived_in_rounds, derived_conflict, rounds_true, closed_quiet, unit_closed}
+use Rattle.watch_prop.proofs.TrailRounds.{derived_conflict, closed_quiet, closed_same, closed_with}
 use Rattle.watch_prop.proofs.Decisions.{decisions_true, fixed_true, derived_seen, derived_fixed, clause_with}
 
 -- the literals of a clause that is looked up
@@ -26,7 +26,7 @@ lits_of s a d e = by (held_at s a) e
     by (Some h) e = cc
 
 -- a clause that is looked up among the attached ones is one of them
-attached_in : (cs : List Cref) (s : PortState) (a : ℕ) (d : List Literal) → attached_at cs s a ≡ Some d → Contains (map (λ (c : Cref). lits_at s c.address) cs) d
+pub attached_in : (cs : List Cref) (s : PortState) (a : ℕ) (d : List Literal) → attached_at cs s a ≡ Some d → Contains (map (λ (c : Cref). lits_at s c.address) cs) d
 attached_in cs s a d e =
     elim (cases_Bool (list_any (λ (c : Cref). c.address == a) cs)) as (λ _. Contains (map (λ (c : Cref). lits_at s c.address) cs) d) [
       | inl found ↦ (
@@ -38,30 +38,14 @@ attached_in cs s a d e =
       | inr missing ↦ absurd (let here : attached_at cs s a ≡ None = rw missing refl in let z : None ≡ Some d = sym here ∙ e in cc)
     ]
 
--- clauses that are closed stay so with units that are true
-closed_with : (cs : List (List Literal)) (units : List Literal) (t : TrailData) → IsTrail t → AllTrueOn t.steps units → IsClosed cs t.steps t.level → IsClosed (with_units cs units) t.steps t.level
-closed_with cs units t shape given closed c h =
-    elim (In_append cs (map (λ l. l ∷ []) units) c (Contains_In (with_units cs units) c h)) as (λ _. IsClosedClause c t.steps t.level) [
-      | inl old ↦ closed c (In_Contains cs c old)
-      | inr new ↦ (
-          let m = map_In (λ l. l ∷ []) units c new in
-          subst (λ (x : List Literal). IsClosedClause x t.steps t.level) m.2 (unit_closed t shape m.0 (given m.0 (In_has units m.0 m.1))))
-    ]
-
 -- over units that are true
 module _ (cs : List (List Literal)) (units : List Literal) (t : TrailData) where
-  pub quiet_with : IsTrail t → AllTrueOn t.steps units → IsClosed cs t.steps t.level → conflicts (with_units cs units) (decisions_of t.steps) ≡ false
-  quiet_with shape given closed = closed_quiet t shape (with_units cs units) (decisions_of t.steps) (closed_with cs units t shape given closed) (decisions_true t.steps)
+  quiet_with : IsTrail t → AllTrueOn t.steps units → IsClosed cs t.steps t.level → conflicts (with_units cs units) (decisions_of t.steps) ≡ false
+  quiet_with shape given closed = closed_quiet t shape (with_units cs units) (decisions_of t.steps) (closed_with t shape cs units closed given) (decisions_true t.steps)
 
-  pub same_with : (l : Literal) → IsTrail t → AllTrueOn t.steps units → IsClosed cs t.steps t.level → IsDerived (with_units cs units) (decisions_of t.steps) t.steps
+  same_with : (l : Literal) → IsTrail t → AllTrueOn t.steps units → IsClosed cs t.steps t.level → IsDerived (with_units cs units) (decisions_of t.steps) t.steps
       → (Rounds (with_units cs units) (decisions_of t.steps) l ≡ true) ↔ IsTrueOn t.steps l
-  same_with l shape given closed d = (
-    rounds_true t shape (with_units cs units) (decisions_of t.steps) (closed_with cs units t shape given closed) (decisions_true t.steps) l,
-    λ h. elim (derived_in_rounds (with_units cs units) (decisions_of t.steps) t.steps l d h) as (λ _. Rounds (with_units cs units) (decisions_of t.steps) l ≡ true) [
-      | inl r ↦ r
-      | inr bad ↦ absurd (true≢false (sym bad ∙ quiet_with shape given closed))
-    ],
-  )
+  same_with l shape given closed d = closed_same t shape (with_units cs units) (decisions_of t.steps) l (closed_with t shape cs units closed given) (decisions_true t.steps) d
 
 -- over the attached clauses of a port
 module _ (w : WatchData) (s : PortState) (t : TrailData) where

@@ -12,8 +12,9 @@ use Rattle.rup_model.proofs.Lists.{In, has_In, In_has, In_map, map_In, In_get_or
 use Rattle.ring_port.specs.PortState.{Holding, PortState, held_at, clause_at, known}
 use Rattle.ring_port.proofs.Holdings.{All_In, held_is_known, seen_is_known}
 use Rattle.ring_trail.specs.declared.step.Step.{Step}
-use Rattle.ring_trail.specs.TrailData.{TrailData, IsTrail, HasGrown, no_step, step_at, lit_at, level_at, decided}
+use Rattle.ring_trail.specs.TrailData.{TrailData, IsTrail, HasGrown, no_step, step_at, lit_at, level_at, decided, cut_back}
 use Rattle.ring_trail.specs.Reasoned.{Held, IsForced, IsSeen, IsDecision, IsReasoned}
+use Rattle.ring_trail.proofs.Levels.{up_to-all}
 use Rattle.watch_prop.specs.Rounds.{decisions_of, fixed_of, with_units, AllTrueOn, IsImplied, IsDerived}
 use Rattle.watch_prop.proofs.TrailRounds.{place_of}
 
@@ -231,3 +232,19 @@ decisions_grown held seen t u shape g r =
             let is = q.2 in
             let less = d.first q.0 (omega arith) in
             omega arith
+
+-- a second filter that passes more changes nothing
+filter_twice : {X : Type 0} (p q : X → Bool) (xs : List X) → ((x : X) → p x ≡ true → q x ≡ true) → filter p (filter q xs) ≡ filter p xs
+filter_twice p q [] f = refl
+filter_twice {X} p q (x ∷ xs) f = by (q x) (p x) refl refl (filter_twice p q xs f)
+  where
+    by : (b d : Bool) → q x ≡ b → p x ≡ d → filter p (filter q xs) ≡ filter p xs → filter p (cond b (x ∷ filter q xs) (filter q xs)) ≡ cond d (x ∷ filter p xs) (filter p xs)
+    by true d is e rest = ap (λ (c : Bool). cond c (x ∷ filter p (filter q xs)) (filter p (filter q xs))) e ∙ ap (λ (ys : List X). cond d (x ∷ ys) ys) rest
+    by false true is e rest = absurd (true≢false (sym (f x e) ∙ is))
+    by false false is e rest = rest
+
+pub fixed_back : (t : TrailData) (k : ℕ) → fixed_of (cut_back t k).steps ≡ fixed_of t.steps
+fixed_back t k = ap (map (λ (s : Step). s.lit)) (filter_twice (λ s. nat_le s.level 0) (λ s. nat_le s.level k) t.steps (λ s e. (let low = leb-true _ _ e in le-leb _ _ (omega arith))))
+
+pub fixed_all : (t : TrailData) → IsTrail t → t.level ≡ 0 → fixed_of t.steps ≡ map (λ (s : Step). s.lit) t.steps
+fixed_all t shape z = ap (map (λ (s : Step). s.lit)) (up_to-all 0 t.steps (λ p lt. (let low = shape.within p lt in omega arith)))

@@ -1,5 +1,5 @@
 -- A trail and plain rounds of propagation: what is derived is in the rounds, and what is closed holds them.
-use Rattle.std.proofs.Common.{◌≡◌, ◌∙◌, ℕ, zero, suc, ◌<◌, Bool, true, false, not, ◌&&◌, ◌||◌, List, [], ◌∷◌, length, map, sym, refl, ap, subst, inl, inr, ◌⊎◌, arith, Contains}
+use Rattle.std.proofs.Common.{◌≡◌, ◌∙◌, ◌↔◌, ℕ, zero, suc, ◌<◌, Bool, true, false, not, ◌&&◌, ◌||◌, List, [], ◌∷◌, length, map, sym, refl, ap, subst, inl, inr, ◌⊎◌, arith, Contains}
 use Rattle.std.specs.List.{list_any, list_all}
 use Rattle.std.proofs.lemmas.Bool.{or_left, or_right, or_cases, or_parts, cases_Bool, true≢false, false≢true}
 use Rattle.sat_words.specs.Literal.{Literal, opposite, same}
@@ -7,14 +7,14 @@ use Rattle.sat_words.specs.Clause.{has}
 use Rattle.sat_words.proofs.Members.{same-true, same-refl}
 use Rattle.rup_model.specs.Rounds.{falsifies, forces, Rounds}
 use Rattle.rup_model.specs.Rup.{conflicts}
-use Rattle.rup_model.proofs.Lists.{In, In_any, any_In, In_all, all_In, none_In, has_In, In_has, In_map, map_In, In_get_or, Contains_In, In_Contains}
+use Rattle.rup_model.proofs.Lists.{In, In_any, any_In, In_all, all_In, none_In, has_In, In_has, In_map, map_In, In_get_or, In_append, Contains_In, In_Contains}
 use Rattle.rup_model.proofs.RoundsLemmas.{Within, falsifies-Within, forces-parts}
 use Rattle.rup_model.proofs.Closed.{Rounds-step, Rounds-has, Rounds-least}
 use Rattle.ring_trail.specs.declared.step.Step.{Step}
 use Rattle.ring_trail.specs.TrailData.{TrailData, IsTrail, IsTrueOn, IsFalseOn, IsFalseClause, HasNoPlace, no_step, step_at, lit_at}
 use Rattle.ring_trail.specs.Closed.{TrueWithin, IsClosedClause, IsClosed}
 use Rattle.ring_trail.proofs.Shape.{same_lit}
-use Rattle.watch_prop.specs.Rounds.{AllTrueOn, IsDerived, IsUnitNow, IsUnfinished}
+use Rattle.watch_prop.specs.Rounds.{with_units, AllTrueOn, IsImplied, IsDerived, IsUnitNow, IsUnfinished}
 
 -- The trail's literals as a test
 
@@ -106,6 +106,45 @@ derived_conflict G A steps c d inG bad =
           derived_true G A steps (opposite k) quiet d (let f = bad k (In_has c k m) in record { place = f.place; before = f.before; true_there = f.false_there })))
     ]
 
+-- more is given, and more clauses
+pub derived_more : (G H : List (List Literal)) (A B : List Literal) (steps : List Step) → ((c : List Literal) → Contains G c → Contains H c) → ((l : Literal) → has A l ≡ true → has B l ≡ true)
+    → IsDerived G A steps → IsDerived H B steps
+derived_more G H A B steps clauses lits d p lt =
+    elim (d p lt) as (λ _. (has B (lit_at steps p) ≡ true) ⊎ IsImplied H steps p) [
+      | inl given ↦ inl (lits (lit_at steps p) given)
+      | inr i ↦ inr (record { clause = i.clause; member = clauses i.clause i.member; unit = i.unit })
+    ]
+
+refuted_at : (G : List (List Literal)) (A : List Literal) (steps : List Step) (p : ℕ) → p < length steps → IsDerived G A steps
+    → (has A (lit_at steps p) ≡ true) ⊎ (conflicts G (opposite (lit_at steps p) ∷ A) ≡ true)
+unfolding conflicts
+refuted_at G A steps p lt d =
+    elim (d p lt) as (λ _. (has A (lit_at steps p) ≡ true) ⊎ (conflicts G B ≡ true)) [
+      | inl given ↦ inl given
+      | inr i ↦ inr (elim (cases_Bool (conflicts G B)) as (λ _. conflicts G B ≡ true) [
+        | inl e ↦ e
+        | inr quiet ↦ falsified i quiet
+      ])
+    ]
+  where
+    B : List Literal
+    B = opposite (lit_at steps p) ∷ A
+
+    derived_B : IsDerived G B steps
+    derived_B = derived_more G G A B steps (λ c h. h) (λ l h. or_right _ _ h) d
+
+    falsified : (i : IsImplied G steps p) → conflicts G B ≡ false → conflicts G B ≡ true
+    falsified i quiet = any_In (falsifies (Rounds G B)) G i.clause (Contains_In G i.clause i.member) (In_all (λ k. Rounds G B (opposite k)) i.clause (λ k m.
+        elim (i.unit.others k (In_has i.clause k m)) as (λ _. Rounds G B (opposite k) ≡ true) [
+          | inl e ↦ subst (λ (x : Literal). Rounds G B (opposite x) ≡ true) (sym e) (Rounds-has G B (opposite (lit_at steps p)) (In_has B (opposite (lit_at steps p)) (inl refl)))
+          | inr f ↦ (let b = f.before in derived_true G B steps (opposite k) quiet derived_B (record { place = f.place; before = omega arith; true_there = f.false_there }))
+        ]))
+
+-- a literal of the trail is given, or its negation beside what is given shows a conflict
+pub derived_refuted : (G : List (List Literal)) (A : List Literal) (steps : List Step) (l : Literal) → IsDerived G A steps → IsTrueOn steps l → (has A l ≡ true) ⊎ (conflicts G (opposite l ∷ A) ≡ true)
+derived_refuted G A steps l d h =
+    subst (λ (x : Literal). (has A x ≡ true) ⊎ (conflicts G (opposite x ∷ A) ≡ true)) h.true_there (refuted_at G A steps h.place h.before d)
+
 -- What is closed
 
 not_all : {X : Type 0} (p : X → Bool) (xs : List X) → list_all p xs ≡ false → (x : X) × In x xs × (p x ≡ false)
@@ -132,7 +171,7 @@ module _ (t : TrailData) (shape : IsTrail t) where
   within_level l h = let x = true_on t.steps l h in record { place = x.place; in_range = x.before; true_there = x.true_there; level = shape.within x.place x.before }
 
   -- the unit clause of a literal that is true
-  pub unit_closed : (l : Literal) → IsTrueOn t.steps l → IsClosedClause (l ∷ []) t.steps t.level
+  unit_closed : (l : Literal) → IsTrueOn t.steps l → IsClosedClause (l ∷ []) t.steps t.level
   unit_closed l h = inl (record { lit = l; has_lit = In_has (l ∷ []) l (inl refl); within = within_level l (on_true t.steps l h) })
 
   on_within : (l : Literal) (k : ℕ) → TrueWithin t.steps k l → on t.steps l ≡ true
@@ -265,6 +304,26 @@ module _ (t : TrailData) (shape : IsTrail t) where
               absurd (true≢false (sym (falsifies-Within (Rounds G A) (on t.steps) rounds_on c.0 c.2) ∙ none_false c.0 c.1)))
           | inr fine ↦ fine
         ]
+
+  -- what is derived and closed has exactly the literals of the rounds
+  pub closed_same : (G : List (List Literal)) (A : List Literal) (l : Literal) → IsClosed G t.steps t.level → AllTrueOn t.steps A → IsDerived G A t.steps → (Rounds G A l ≡ true) ↔ IsTrueOn t.steps l
+  closed_same G A l closed given d = (
+    rounds_true G A closed given l,
+    λ h. elim (derived_in_rounds G A t.steps l d h) as (λ _. Rounds G A l ≡ true) [
+      | inl r ↦ r
+      | inr bad ↦ absurd (true≢false (sym bad ∙ closed_quiet G A closed given))
+    ],
+  )
+
+  -- clauses that are closed stay so with units that are true
+  pub closed_with : (cs : List (List Literal)) (units : List Literal) → IsClosed cs t.steps t.level → AllTrueOn t.steps units → IsClosed (with_units cs units) t.steps t.level
+  closed_with cs units closed given c h =
+      elim (In_append cs (map (λ l. l ∷ []) units) c (Contains_In (with_units cs units) c h)) as (λ _. IsClosedClause c t.steps t.level) [
+        | inl old ↦ closed c (In_Contains cs c old)
+        | inr new ↦ (
+            let m = map_In (λ l. l ∷ []) units c new in
+            subst (λ (x : List Literal). IsClosedClause x t.steps t.level) m.2 (unit_closed m.0 (given m.0 (In_has units m.0 m.1))))
+      ]
 
   pub conflict_unfinished : (G : List (List Literal)) (A : List Literal) → AllTrueOn t.steps A → conflicts G A ≡ true → IsUnfinished G t.steps
   conflict_unfinished G A given bad =

@@ -1,51 +1,58 @@
 //! What a trail has to do with plain rounds of unit propagation, over any clauses and from any literals.
-ghost use Rattle.std.specs.Prelude.{◌≡◌, ◌⊎◌, ◌↔◌, ◌<◌, ◌++◌, ◌∷◌, [], ℕ, List, Option, Some, true, false, length, Contains};
-ghost use Rattle.sat_words.specs.Literal.{Literal};
+ghost use Rattle.std.specs.Prelude.{◌≡◌, ◌⊎◌, ◌↔◌, ◌<◌, ◌++◌, ◌∷◌, [], ℕ, List, Option, Some, true, false, map, length, Contains};
+ghost use Rattle.sat_words.specs.Literal.{Literal, opposite};
 ghost use Rattle.sat_words.specs.Clause.{has};
 ghost use Rattle.sat_words.specs.declared.shared.Cref.{Cref};
 ghost use Rattle.rup_model.specs.Rounds.{Rounds};
 ghost use Rattle.rup_model.specs.Rup.{conflicts};
 ghost use Rattle.ring_port.specs.PortState.{PortState, lits_at, clause_at, known};
 ghost use Rattle.ring_trail.specs.declared.step.Step.{Step};
-ghost use Rattle.ring_trail.specs.TrailData.{TrailData, IsTrail, IsTrueOn, IsFalseClause, HasGrown, lit_at, decided};
+ghost use Rattle.ring_trail.specs.TrailData.{TrailData, IsTrail, IsTrueOn, IsFalseClause, HasGrown, lit_at, decided, cut_back};
 ghost use Rattle.ring_trail.specs.Reasoned.{Held, IsSeen, IsReasoned};
 ghost use Rattle.ring_trail.specs.Closed.{IsClosed};
 ghost use Rattle.watch_prop.specs.WatchData.{WatchData, attached, clauses_of};
-ghost use Rattle.watch_prop.specs.Propagation.{HasReasons, IsConflict, IsQuiet};
+ghost use Rattle.watch_prop.specs.Propagation.{attached_at, HasReasons, IsConflict, IsQuiet};
 ghost use Rattle.watch_prop.specs.Rounds.{decisions_of, fixed_of, with_units, AllTrueOn, IsDerived, IsUnfinished};
 
 /// Each literal of a derived trail is in the rounds, unless they falsify a clause. (One round may add a literal and its
-/// negation together.) They falsify one where a clause is false on the trail.
+/// negation together.) They falsify one where a clause is false on the trail, and where a literal of the trail that wasn't
+/// given is negated.
 pub fn derived_literals_are_in_the_rounds()
     ensures in_rounds { (G : List (List Literal)) (A : List Literal) (steps : List Step) (l : Literal) → IsDerived G A steps → IsTrueOn steps l
         → (Rounds G A l ≡ true) ⊎ (conflicts G A ≡ true) }
     ensures conflict { (G : List (List Literal)) (A : List Literal) (steps : List Step) (c : List Literal) → IsDerived G A steps → Contains G c
         → IsFalseClause steps c → conflicts G A ≡ true }
+    ensures refuted { (G : List (List Literal)) (A : List Literal) (steps : List Step) (l : Literal) → IsDerived G A steps → IsTrueOn steps l
+        → (has A l ≡ true) ⊎ (conflicts G (opposite l ∷ A) ≡ true) }
 {}
 
 /// Rounds from literals that are true on the trail add only such where the clauses are closed at its present level, and
-/// falsify none.
+/// falsify none. So a trail that is derived has exactly the literals of the rounds then.
 pub fn closed_trails_hold_the_rounds()
     ensures on_trail { (G : List (List Literal)) (A : List Literal) (t : TrailData) (l : Literal) → IsTrail t → IsClosed G t.steps t.level → AllTrueOn t.steps A
         → Rounds G A l ≡ true → IsTrueOn t.steps l }
     ensures quiet { (G : List (List Literal)) (A : List Literal) (t : TrailData) → IsTrail t → IsClosed G t.steps t.level → AllTrueOn t.steps A
         → conflicts G A ≡ false }
+    ensures same { (G : List (List Literal)) (A : List Literal) (t : TrailData) (l : Literal) → IsTrail t → IsClosed G t.steps t.level → AllTrueOn t.steps A
+        → IsDerived G A t.steps → (Rounds G A l ≡ true) ↔ IsTrueOn t.steps l }
 {}
 
-/// Where rounds from literals that are true on the trail falsify a clause, one is false on the trail, or propagation has
-/// one to go on with.
+/// Where rounds from literals that are true on the trail falsify a clause, one of the clauses is false or unit on the
+/// trail.
 pub fn conflicts_of_rounds_are_unfinished()
     ensures { (G : List (List Literal)) (A : List Literal) (t : TrailData) → IsTrail t → AllTrueOn t.steps A → conflicts G A ≡ true → IsUnfinished G t.steps }
 {}
 
-/// The clauses are closed at the present level exactly where none is false or unit.
+/// The clauses are closed at the present level exactly where none is false or unit. They stay so with units that are true.
 pub fn trails_are_closed_or_unfinished()
     ensures either { (G : List (List Literal)) (t : TrailData) → IsTrail t → IsClosed G t.steps t.level ⊎ IsUnfinished G t.steps }
     ensures apart { (G : List (List Literal)) (t : TrailData) → IsTrail t → IsClosed G t.steps t.level → IsUnfinished G t.steps → ⊥ }
+    ensures more { (cs : List (List Literal)) (units : List Literal) (t : TrailData) → IsTrail t → IsClosed cs t.steps t.level → AllTrueOn t.steps units
+        → IsClosed (with_units cs units) t.steps t.level }
 {}
 
 /// A trail whose literals have their reasons is derived: from its decisions, where the units seen or the literals at level
-/// 0 are clauses.
+/// 0 are clauses. An attached clause that is looked up is one of those attached, and more may be given.
 pub fn reasoned_trails_are_derived()
     ensures given { (held : Held) (seen : List Literal) (G : List (List Literal)) (A : List Literal) (steps : List Step) → IsReasoned held seen steps
         → ((a : ℕ) (c : List Literal) → held a ≡ Some c → Contains G c)
@@ -56,17 +63,26 @@ pub fn reasoned_trails_are_derived()
     ensures fixed { (held : Held) (seen : List Literal) (cs : List (List Literal)) (steps : List Step) → IsReasoned held seen steps
         → ((a : ℕ) (c : List Literal) → held a ≡ Some c → Contains cs c) → IsDerived (with_units cs (fixed_of steps)) (decisions_of steps) steps }
     ensures known { (s : PortState) (steps : List Step) → IsReasoned (clause_at s) s.seen steps → IsDerived (known s) (decisions_of steps) steps }
+    ensures attached { (cs : List Cref) (s : PortState) (a : ℕ) (c : List Literal) → attached_at cs s a ≡ Some c → Contains (map (λ (x : Cref). lits_at s x.address) cs) c }
+    ensures more { (G H : List (List Literal)) (A B : List Literal) (steps : List Step) → ((c : List Literal) → Contains G c → Contains H c)
+        → ((l : Literal) → has A l ≡ true → has B l ≡ true) → IsDerived G A steps → IsDerived H B steps }
 {}
 
-/// Deciding adds one decision, and propagation none. Both leave level 0 as it is, once a level above it is present.
+/// Deciding adds one decision, and propagation none.
 pub fn decisions_are_those_made()
     ensures none { (t : TrailData) → IsTrail t → t.level ≡ 0 → decisions_of t.steps ≡ [] }
     ensures all_true { (steps : List Step) → AllTrueOn steps (decisions_of steps) }
     ensures decided { (t : TrailData) (l : Literal) → decisions_of (decided t l).steps ≡ decisions_of t.steps ++ l ∷ [] }
     ensures grown { (held : Held) (seen : List Literal) (t u : TrailData) → IsTrail t → HasGrown t u → IsReasoned held seen u.steps → decisions_of u.steps ≡ decisions_of t.steps }
-    ensures fixed_true { (steps : List Step) → AllTrueOn steps (fixed_of steps) }
-    ensures fixed_decided { (t : TrailData) (l : Literal) → fixed_of (decided t l).steps ≡ fixed_of t.steps }
-    ensures fixed_grown { (t u : TrailData) → 0 < t.level → HasGrown t u → fixed_of u.steps ≡ fixed_of t.steps }
+{}
+
+/// At level 0 every literal is one of that level. Above it nothing adds any, and going back takes none away.
+pub fn fixed_literals_stay()
+    ensures whole { (t : TrailData) → IsTrail t → t.level ≡ 0 → fixed_of t.steps ≡ map (λ (s : Step). s.lit) t.steps }
+    ensures all_true { (steps : List Step) → AllTrueOn steps (fixed_of steps) }
+    ensures decided { (t : TrailData) (l : Literal) → fixed_of (decided t l).steps ≡ fixed_of t.steps }
+    ensures grown { (t u : TrailData) → 0 < t.level → HasGrown t u → fixed_of u.steps ≡ fixed_of t.steps }
+    ensures back { (t : TrailData) (k : ℕ) → fixed_of (cut_back t k).steps ≡ fixed_of t.steps }
 {}
 
 /// Where propagation over watches is quiet, the trail has exactly the literals of the rounds from its decisions over the

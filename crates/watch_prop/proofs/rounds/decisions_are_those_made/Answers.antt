@@ -1,4 +1,4 @@
-use Rattle.watch_prop.proofs.Decisions.{decisions_none, decisions_true, decisions_decided, decisions_grown, fixed_true, fixed_decided, fixed_grown}
+use Rattle.watch_prop.proofs.Decisions.{decisions_none, decisions_true, decisions_decided, decisions_grown}
 use Rattle.watch_prop.proofs.rounds.decisions_are_those_made.Goals as goal
 
 pub returns-clause-none : goal.returns-clause-none
@@ -12,12 +12,3 @@ returns-clause-decided c = decisions_decided
 
 pub returns-clause-grown : goal.returns-clause-grown
 returns-clause-grown c = decisions_grown
-
-pub returns-clause-fixed_true : goal.returns-clause-fixed_true
-returns-clause-fixed_true c = fixed_true
-
-pub returns-clause-fixed_decided : goal.returns-clause-fixed_decided
-returns-clause-fixed_decided c = fixed_decided
-
-pub returns-clause-fixed_grown : goal.returns-clause-fixed_grown
-returns-clause-fixed_grown c = fixed_grown

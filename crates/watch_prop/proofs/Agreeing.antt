@@ -1,20 +1,22 @@
 -- What propagation over watches came to is what plain rounds come to.
-use Rattle.std.proofs.Common.{◌≡◌, ◌∙◌, ◌↔◌, ℕ, ◌==◌, true, false, List, [], map, Option, None, Some, sym, refl, ap, subst, inl, inr, Contains}
+use Rattle.std.proofs.Common.{◌≡◌, ◌∙◌, ◌↔◌, ℕ, ◌==◌, true, false, List, [], map, Option, None, Some, sym, refl, ap, subst, inl, inr, ◌⊎◌, Contains}
 use Rattle.std.specs.List.{list_any}
 use Rattle.std.specs.Option.{option_map, option_map_or}
-use Rattle.std.proofs.lemmas.Bool.{cases_Bool, eqb-true}
+use Rattle.std.proofs.lemmas.Bool.{cases_Bool, eqb-true, true≢false}
 use Rattle.sat_words.specs.Literal.{Literal}
 use Rattle.sat_words.specs.declared.shared.Cref.{Cref}
 use Rattle.rup_model.specs.Rounds.{Rounds}
 use Rattle.rup_model.specs.Rup.{conflicts}
 use Rattle.rup_model.proofs.Lists.{In, In_any, In_map, In_Contains, Contains_In}
 use Rattle.ring_port.specs.PortState.{Holding, PortState, held_at, lits_at, clause_at}
-use Rattle.ring_trail.specs.TrailData.{TrailData, IsTrail, IsTrueOn}
+use Rattle.ring_trail.specs.declared.step.Step.{Step}
+use Rattle.ring_trail.specs.TrailData.{TrailData, IsTrail, IsTrueOn, IsFalseClause}
+use Rattle.ring_trail.specs.Reasoned.{Held, IsReasoned}
 use Rattle.ring_trail.specs.Closed.{IsClosed}
 use Rattle.watch_prop.specs.WatchData.{WatchData, attached, clauses_of}
 use Rattle.watch_prop.specs.Propagation.{attached_at, HasReasons, IsConflict, IsQuiet}
-use Rattle.watch_prop.specs.Rounds.{decisions_of, fixed_of, with_units, AllTrueOn, IsDerived}
-use Rattle.watch_prop.proofs.TrailRounds.{derived_conflict, closed_quiet, closed_same, closed_with}
+use Rattle.watch_prop.specs.Rounds.{decisions_of, fixed_of, with_units, AllTrueOn, HeldAmong, IsDerived, IsUnfinished}
+use Rattle.watch_prop.proofs.TrailRounds.{derived_in_rounds, derived_conflict, closed_quiet, closed_same, closed_with, closed_or_unfinished}
 use Rattle.watch_prop.proofs.Decisions.{decisions_true, fixed_true, derived_seen, derived_fixed, clause_with}
 
 -- the literals of a clause that is looked up
@@ -26,7 +28,7 @@ lits_of s a d e = by (held_at s a) e
     by (Some h) e = cc
 
 -- a clause that is looked up among the attached ones is one of them
-pub attached_in : (cs : List Cref) (s : PortState) (a : ℕ) (d : List Literal) → attached_at cs s a ≡ Some d → Contains (map (λ (c : Cref). lits_at s c.address) cs) d
+pub attached_in : (cs : List Cref) (s : PortState) → HeldAmong (attached_at cs s) (map (λ (c : Cref). lits_at s c.address) cs)
 attached_in cs s a d e =
     elim (cases_Bool (list_any (λ (c : Cref). c.address == a) cs)) as (λ _. Contains (map (λ (c : Cref). lits_at s c.address) cs) d) [
       | inl found ↦ (
@@ -40,17 +42,38 @@ attached_in cs s a d e =
 
 -- over units that are true
 module _ (cs : List (List Literal)) (units : List Literal) (t : TrailData) where
-  quiet_with : IsTrail t → AllTrueOn t.steps units → IsClosed cs t.steps t.level → conflicts (with_units cs units) (decisions_of t.steps) ≡ false
+  pub quiet_with : IsTrail t → AllTrueOn t.steps units → IsClosed cs t.steps t.level → conflicts (with_units cs units) (decisions_of t.steps) ≡ false
   quiet_with shape given closed = closed_quiet t shape (with_units cs units) (decisions_of t.steps) (closed_with t shape cs units closed given) (decisions_true t.steps)
 
-  same_with : (l : Literal) → IsTrail t → AllTrueOn t.steps units → IsClosed cs t.steps t.level → IsDerived (with_units cs units) (decisions_of t.steps) t.steps
+  pub same_with : (l : Literal) → IsTrail t → AllTrueOn t.steps units → IsClosed cs t.steps t.level → IsDerived (with_units cs units) (decisions_of t.steps) t.steps
       → (Rounds (with_units cs units) (decisions_of t.steps) l ≡ true) ↔ IsTrueOn t.steps l
   same_with l shape given closed d = closed_same t shape (with_units cs units) (decisions_of t.steps) l (closed_with t shape cs units closed given) (decisions_true t.steps) d
 
+-- over clauses that have what is held, and the units seen
+pub reasoned_in_rounds : (held : Held) (seen : List Literal) (cs : List (List Literal)) (steps : List Step) (l : Literal) → IsReasoned held seen steps → HeldAmong held cs
+    → IsTrueOn steps l → (Rounds (with_units cs seen) (decisions_of steps) l ≡ true) ⊎ (conflicts (with_units cs seen) (decisions_of steps) ≡ true)
+reasoned_in_rounds held seen cs steps l r among = derived_in_rounds (with_units cs seen) (decisions_of steps) steps l (derived_seen held seen cs steps r among)
+
+pub reasoned_conflict : (held : Held) (seen : List Literal) (cs : List (List Literal)) (steps : List Step) (c : List Literal) → IsReasoned held seen steps → HeldAmong held cs
+    → Contains (with_units cs seen) c → IsFalseClause steps c → conflicts (with_units cs seen) (decisions_of steps) ≡ true
+reasoned_conflict held seen cs steps c r among = derived_conflict (with_units cs seen) (decisions_of steps) steps c (derived_seen held seen cs steps r among)
+
+pub reasoned_same : (held : Held) (seen : List Literal) (cs : List (List Literal)) (t : TrailData) (l : Literal) → IsTrail t → IsReasoned held seen t.steps → HeldAmong held cs
+    → IsClosed cs t.steps t.level → AllTrueOn t.steps seen → (Rounds (with_units cs seen) (decisions_of t.steps) l ≡ true) ↔ IsTrueOn t.steps l
+reasoned_same held seen cs t l shape r among closed given = same_with cs seen t l shape given closed (derived_seen held seen cs t.steps r among)
+
+pub reasoned_unfinished : (seen : List Literal) (cs : List (List Literal)) (t : TrailData) → IsTrail t → AllTrueOn t.steps seen
+    → conflicts (with_units cs seen) (decisions_of t.steps) ≡ true → IsUnfinished cs t.steps
+reasoned_unfinished seen cs t shape given bad =
+    elim (closed_or_unfinished t shape cs) as (λ _. IsUnfinished cs t.steps) [
+      | inl closed ↦ absurd (true≢false (sym bad ∙ quiet_with cs seen t shape given closed))
+      | inr u ↦ u
+    ]
+
 -- over the attached clauses of a port
 module _ (w : WatchData) (s : PortState) (t : TrailData) where
-  held_in : (a : ℕ) (c : List Literal) → attached_at (attached w) s a ≡ Some c → Contains (clauses_of w (lits_at s)) c
-  held_in a c e = attached_in (attached w) s a c e
+  held_in : HeldAmong (attached_at (attached w) s) (clauses_of w (lits_at s))
+  held_in = attached_in (attached w) s
 
   conflict_in : (c : Cref) → IsConflict w (lits_at s) t c → Contains (clauses_of w (lits_at s)) (lits_at s c.address)
   conflict_in c k =

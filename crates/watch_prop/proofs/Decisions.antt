@@ -15,7 +15,7 @@ use Rattle.ring_trail.specs.declared.step.Step.{Step}
 use Rattle.ring_trail.specs.TrailData.{TrailData, IsTrail, HasGrown, no_step, step_at, lit_at, level_at, decided, cut_back}
 use Rattle.ring_trail.specs.Reasoned.{Held, IsForced, IsSeen, IsDecision, IsReasoned}
 use Rattle.ring_trail.proofs.Levels.{up_to-all}
-use Rattle.watch_prop.specs.Rounds.{decisions_of, fixed_of, with_units, AllTrueOn, IsImplied, IsDerived}
+use Rattle.watch_prop.specs.Rounds.{decisions_of, fixed_of, with_units, AllTrueOn, HeldAmong, IsImplied, IsDerived}
 use Rattle.watch_prop.proofs.TrailRounds.{place_of}
 
 -- Filters
@@ -79,7 +79,7 @@ fixed_has steps p lt z = among_has steps (λ s. nat_le s.level 0) p lt (le-leb _
 -- Trails that are derived
 
 pub reasoned_derived : (held : Held) (seen : List Literal) (G : List (List Literal)) (A : List Literal) (steps : List Step) → IsReasoned held seen steps
-    → ((a : ℕ) (c : List Literal) → held a ≡ Some c → Contains G c)
+    → HeldAmong held G
     → ((p : ℕ) → p < length steps → IsSeen seen steps p → (has A (lit_at steps p) ≡ true) ⊎ Contains G (lit_at steps p ∷ []))
     → ((l : Literal) → has (decisions_of steps) l ≡ true → has A l ≡ true) → IsDerived G A steps
 reasoned_derived held seen G A steps r of_held of_seen of_decisions p lt = by (r.caused p lt)
@@ -107,7 +107,7 @@ unit_with : (cs : List (List Literal)) (units : List Literal) (l : Literal) → 
 unit_with cs units l h = In_Contains (with_units cs units) (l ∷ []) (In_append_right cs (map (λ l. l ∷ []) units) (l ∷ []) (In_map (λ l. l ∷ []) units l (has_In units l h)))
 
 pub derived_seen : (held : Held) (seen : List Literal) (cs : List (List Literal)) (steps : List Step) → IsReasoned held seen steps
-    → ((a : ℕ) (c : List Literal) → held a ≡ Some c → Contains cs c) → IsDerived (with_units cs seen) (decisions_of steps) steps
+    → HeldAmong held cs → IsDerived (with_units cs seen) (decisions_of steps) steps
 derived_seen held seen cs steps r of_held =
     reasoned_derived held seen (with_units cs seen) (decisions_of steps) steps r
     (λ a c e. clause_with cs seen c (of_held a c e))
@@ -115,7 +115,7 @@ derived_seen held seen cs steps r of_held =
     (λ l h. h)
 
 pub derived_fixed : (held : Held) (seen : List Literal) (cs : List (List Literal)) (steps : List Step) → IsReasoned held seen steps
-    → ((a : ℕ) (c : List Literal) → held a ≡ Some c → Contains cs c) → IsDerived (with_units cs (fixed_of steps)) (decisions_of steps) steps
+    → HeldAmong held cs → IsDerived (with_units cs (fixed_of steps)) (decisions_of steps) steps
 derived_fixed held seen cs steps r of_held =
     reasoned_derived held seen (with_units cs (fixed_of steps)) (decisions_of steps) steps r
     (λ a c e. clause_with cs (fixed_of steps) c (of_held a c e))

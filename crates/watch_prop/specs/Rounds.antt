@@ -1,10 +1,10 @@
 -- What a trail has to do with plain rounds of unit propagation over some clauses, from some literals.
-use Rattle.std.specs.Prelude.{◌≡◌, ℕ, ◌<◌, ◌&&◌, true, ◌⊎◌, nat_lt, is_none, List, [], ◌∷◌, ◌++◌, map, filter, length, Contains}
+use Rattle.std.specs.Prelude.{◌≡◌, ℕ, ◌<◌, ◌&&◌, true, ◌⊎◌, nat_lt, is_none, List, [], ◌∷◌, ◌++◌, map, filter, length, Contains, Some}
 use Rattle.sat_words.specs.Literal.{Literal}
 use Rattle.sat_words.specs.Clause.{has}
 use Rattle.ring_trail.specs.declared.step.Step.{Step}
 use Rattle.ring_trail.specs.TrailData.{IsTrueOn, IsFalseClause, HasNoPlace, lit_at, up_to}
-use Rattle.ring_trail.specs.Reasoned.{ForcesAt, WasUnit}
+use Rattle.ring_trail.specs.Reasoned.{Held, ForcesAt, WasUnit}
 
 -- the literals that were decided, in order: those above level 0 without a reason
 abbrev pub decisions_of : List Step → List Literal
@@ -17,6 +17,10 @@ fixed_of steps = map (λ s. s.lit) (up_to 0 steps)
 -- the clauses, and each of the literals as a clause of its own
 abbrev pub with_units : List (List Literal) → List Literal → List (List Literal)
 with_units cs units = cs ++ map (λ l. l ∷ []) units
+
+-- each clause that is held is one of these
+abbrev pub HeldAmong : Held → List (List Literal) → Type 0
+HeldAmong held cs = (a : ℕ) (c : List Literal) → held a ≡ Some c → Contains cs c
 
 -- each of the literals is true on the trail
 abbrev pub AllTrueOn : List Step → List Literal → Type 0

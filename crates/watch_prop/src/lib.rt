@@ -23,7 +23,8 @@ pub use rounds::{
     closed_trails_hold_the_rounds, conflicts_of_rounds_are_unfinished, decisions_are_those_made,
     derived_literals_are_in_the_rounds, fixed_literals_stay,
     propagation_from_level_0_agrees_with_rounds, propagation_from_units_agrees_with_rounds,
-    reasoned_trails_are_derived, trails_are_closed_or_unfinished,
+    reasoned_trails_agree_with_rounds, reasoned_trails_are_derived,
+    trails_are_closed_or_unfinished,
 };
 pub use watches::Watches;
 

@@ -12,7 +12,7 @@ ghost use Rattle.ring_trail.specs.Reasoned.{Held, IsSeen, IsReasoned};
 ghost use Rattle.ring_trail.specs.Closed.{IsClosed};
 ghost use Rattle.watch_prop.specs.WatchData.{WatchData, attached, clauses_of};
 ghost use Rattle.watch_prop.specs.Propagation.{attached_at, HasReasons, IsConflict, IsQuiet};
-ghost use Rattle.watch_prop.specs.Rounds.{decisions_of, fixed_of, with_units, AllTrueOn, IsDerived, IsUnfinished};
+ghost use Rattle.watch_prop.specs.Rounds.{decisions_of, fixed_of, with_units, AllTrueOn, HeldAmong, IsDerived, IsUnfinished};
 
 /// Each literal of a derived trail is in the rounds, unless they falsify a clause. (One round may add a literal and its
 /// negation together.) They falsify one where a clause is false on the trail, and where a literal of the trail that wasn't
@@ -52,20 +52,36 @@ pub fn trails_are_closed_or_unfinished()
 {}
 
 /// A trail whose literals have their reasons is derived: from its decisions, where the units seen or the literals at level
-/// 0 are clauses. An attached clause that is looked up is one of those attached, and more may be given.
+/// 0 are clauses. What is looked up among attached clauses is one of them, and more may be given.
 pub fn reasoned_trails_are_derived()
-    ensures given { (held : Held) (seen : List Literal) (G : List (List Literal)) (A : List Literal) (steps : List Step) → IsReasoned held seen steps
-        → ((a : ℕ) (c : List Literal) → held a ≡ Some c → Contains G c)
+    ensures given { (held : Held) (seen : List Literal) (G : List (List Literal)) (A : List Literal) (steps : List Step) → IsReasoned held seen steps → HeldAmong held G
         → ((p : ℕ) → p < length steps → IsSeen seen steps p → (has A (lit_at steps p) ≡ true) ⊎ Contains G (lit_at steps p ∷ []))
         → ((l : Literal) → has (decisions_of steps) l ≡ true → has A l ≡ true) → IsDerived G A steps }
-    ensures seen { (held : Held) (seen : List Literal) (cs : List (List Literal)) (steps : List Step) → IsReasoned held seen steps
-        → ((a : ℕ) (c : List Literal) → held a ≡ Some c → Contains cs c) → IsDerived (with_units cs seen) (decisions_of steps) steps }
-    ensures fixed { (held : Held) (seen : List Literal) (cs : List (List Literal)) (steps : List Step) → IsReasoned held seen steps
-        → ((a : ℕ) (c : List Literal) → held a ≡ Some c → Contains cs c) → IsDerived (with_units cs (fixed_of steps)) (decisions_of steps) steps }
+    ensures seen { (held : Held) (seen : List Literal) (cs : List (List Literal)) (steps : List Step) → IsReasoned held seen steps → HeldAmong held cs
+        → IsDerived (with_units cs seen) (decisions_of steps) steps }
+    ensures fixed { (held : Held) (seen : List Literal) (cs : List (List Literal)) (steps : List Step) → IsReasoned held seen steps → HeldAmong held cs
+        → IsDerived (with_units cs (fixed_of steps)) (decisions_of steps) steps }
     ensures known { (s : PortState) (steps : List Step) → IsReasoned (clause_at s) s.seen steps → IsDerived (known s) (decisions_of steps) steps }
-    ensures attached { (cs : List Cref) (s : PortState) (a : ℕ) (c : List Literal) → attached_at cs s a ≡ Some c → Contains (map (λ (x : Cref). lits_at s x.address) cs) c }
+    ensures attached { (cs : List Cref) (s : PortState) → HeldAmong (attached_at cs s) (map (λ (c : Cref). lits_at s c.address) cs) }
     ensures more { (G H : List (List Literal)) (A B : List Literal) (steps : List Step) → ((c : List Literal) → Contains G c → Contains H c)
         → ((l : Literal) → has A l ≡ true → has B l ≡ true) → IsDerived G A steps → IsDerived H B steps }
+{}
+
+/// A trail whose literals have their reasons, against the rounds from its decisions over clauses and the units seen: its
+/// literals are in them, or they falsify a clause, as they do where one is false on the trail. Where the clauses are closed
+/// at the present level and the units are true, its literals are exactly theirs and they falsify none. Rounds that falsify
+/// one show a clause that is false or unit.
+pub fn reasoned_trails_agree_with_rounds()
+    ensures in_rounds { (held : Held) (seen : List Literal) (cs : List (List Literal)) (steps : List Step) (l : Literal) → IsReasoned held seen steps → HeldAmong held cs
+        → IsTrueOn steps l → (Rounds (with_units cs seen) (decisions_of steps) l ≡ true) ⊎ (conflicts (with_units cs seen) (decisions_of steps) ≡ true) }
+    ensures conflict { (held : Held) (seen : List Literal) (cs : List (List Literal)) (steps : List Step) (c : List Literal) → IsReasoned held seen steps → HeldAmong held cs
+        → Contains (with_units cs seen) c → IsFalseClause steps c → conflicts (with_units cs seen) (decisions_of steps) ≡ true }
+    ensures same { (held : Held) (seen : List Literal) (cs : List (List Literal)) (t : TrailData) (l : Literal) → IsTrail t → IsReasoned held seen t.steps → HeldAmong held cs
+        → IsClosed cs t.steps t.level → AllTrueOn t.steps seen → (Rounds (with_units cs seen) (decisions_of t.steps) l ≡ true) ↔ IsTrueOn t.steps l }
+    ensures quiet { (seen : List Literal) (cs : List (List Literal)) (t : TrailData) → IsTrail t → IsClosed cs t.steps t.level → AllTrueOn t.steps seen
+        → conflicts (with_units cs seen) (decisions_of t.steps) ≡ false }
+    ensures unfinished { (seen : List Literal) (cs : List (List Literal)) (t : TrailData) → IsTrail t → AllTrueOn t.steps seen
+        → conflicts (with_units cs seen) (decisions_of t.steps) ≡ true → IsUnfinished cs t.steps }
 {}
 
 /// Deciding adds one decision, and propagation none.

@@ -2,6 +2,9 @@ pub mod Chains
 pub mod Marking
 pub mod Walking
 pub mod LevelLemmas
+pub mod Frames
+pub mod Judging
+pub mod Removing
 pub mod Refuting
 pub mod Parts
 pub mod Freshness

@@ -170,7 +170,7 @@ Marks-same t m ms bound q l shape i done = record {
   count = omega arith;
 }
 
-has-append : (c d : List Literal) (l : Literal) → has (c ++ d) l ≡ (has c l || has d l)
+pub has-append : (c d : List Literal) (l : Literal) → has (c ++ d) l ≡ (has c l || has d l)
 has-append c d l = list_any-append (same l) c d
 
 -- one more literal of a clause

@@ -1,10 +1,11 @@
--- The lemma that the walk leaves.
-use Rattle.std.proofs.Common.{◌≡◌, ◌∙◌, ℕ, ◌<◌, ◌≤◌, Bool, true, false, not, cond, nat_eq, nat_lt, List, [], ◌∷◌, length, get_or, map, filter, sym, refl, ap, subst, inl, inr, Contains, All, arith}
+-- The lemma that the walk and minimisation leave.
+use Rattle.std.proofs.Common.{◌≡◌, ◌∙◌, ℕ, zero, suc, ◌+◌, ◌<◌, ◌≤◌, ◌⊎◌, Bool, true, false, not, cond, nat_eq, nat_lt, List, [], ◌∷◌, length, get_or, take, drop, add-one, drop-cons, map, filter, sym, refl, ap, subst, inl, inr, Contains, All, arith}
 use Rattle.std.specs.List.{IsDistinct, AllByRecursion}
 use Rattle.std.specs.Set.{is_member, distinct_count}
 use Rattle.std.proofs.lemmas.Cmp.{nat_eq_equiv}
+use Rattle.std.proofs.lemmas.List.{take_more}
 use Rattle.std.proofs.lemmas.Map.Made.{is_member-filter}
-use Rattle.std.proofs.lemmas.Bool.{false≢true, true≢false, and_from, and_parts, eqb-true, eqb-false, lt-ltb, ltb-true, false_from_ne_true}
+use Rattle.std.proofs.lemmas.Bool.{false≢true, true≢false, or_right, or_cases, and_from, and_parts, eqb-true, eqb-false, lt-ltb, ltb-true, false_from_ne_true}
 use Rattle.std.proofs.lemmas.Map.Keys.{IsDistinct-cons, IsDistinct-head, IsDistinct-tail}
 use Rattle.std.proofs.lemmas.Map.Steps.{length-le_from_distinct_below}
 use Rattle.sat_words.specs.Literal.{Literal, opposite}
@@ -15,16 +16,21 @@ use Rattle.rup_model.proofs.Lists.{In, In_get_or, In_map, map_In, In_has, has_In
 use Rattle.rup_model.proofs.Counting.{In_member, member_In}
 use Rattle.ring_port.specs.PortState.{PortState, IsOn, known}
 use Rattle.ring_port.specs.Port.{IsClause}
+use Rattle.ring_trail.specs.declared.step.Step.{Step}
 use Rattle.ring_trail.specs.TrailData.{TrailData, IsTrail, IsFalseClause, lit_at, level_at}
-use Rattle.ring_trail.specs.Reasoned.{IsReasoned}
+use Rattle.ring_trail.specs.Reasoned.{Held, IsReasoned}
 use Rattle.analyze.specs.Levels.{greatest, level_of_lit, levels_of, clause_level}
 use Rattle.ring_port.specs.PortState.{clause_at}
-use Rattle.analyze.specs.Marks.{marked, IsMarking, IsWalked, lower_of}
-use Rattle.analyze.specs.Lemma.{negated_at, IsWalkClause, IsFalseAbove, IsLemma}
+use Rattle.analyze.specs.Marks.{marked, IsMarking, IsWalked}
+use Rattle.analyze.specs.Removable.{RestsOn, IsNeeded}
+use Rattle.analyze.specs.Verdicts.{verdict_at, is_removable, is_known, is_kept, IsSettled, IsJudged, kept_of}
+use Rattle.analyze.specs.declared.minimise.Verdict.{Verdict}
+use Rattle.analyze.specs.Lemma.{negated_at, IsMinimisedClause, IsFalseAbove, IsLemma}
 use Rattle.analyze.proofs.Chains.{has-map, rup-Refuted}
-use Rattle.analyze.proofs.Marking.{listed_in_range, touched_few}
+use Rattle.analyze.proofs.Marking.{listed_in_range, touched_few, member_push}
 use Rattle.analyze.proofs.LevelLemmas.{level_of_lit-at}
 use Rattle.analyze.proofs.Refuting.{Refuted-walk}
+use Rattle.analyze.proofs.Removing.{removable_is, removable_or_not, found_needed, removable_sound, needed_stays}
 
 apart_In : (x : ℕ) (ys : List ℕ) (y : ℕ) → AllByRecursion (λ z. nat_eq x z ≡ false) ys → In y ys → nat_eq x y ≡ false
 apart_In x [] y a h = absurd h
@@ -34,6 +40,36 @@ apart_In x (z ∷ ys) y a (inr h) = apart_In x ys y a.1 h
 all_apart : (x : ℕ) (ys : List ℕ) → ((y : ℕ) → In y ys → x ≡ y → ⊥) → AllByRecursion (λ z. nat_eq x z ≡ false) ys
 all_apart x [] g = tt
 all_apart x (y ∷ ys) g = (false_from_ne_true _ (λ e. g y (inl refl) (eqb-true x y e)), all_apart x ys (λ z h. g z (inr h)))
+
+-- an entry of a list of places that differ isn't among those behind it
+distinct_behind : (xs : List ℕ) (i : ℕ) → IsDistinct nat_eq xs → i < length xs → is_member nat_eq (drop (suc i) xs) (get_or xs i 0) ≡ true → ⊥
+distinct_behind [] i d h y = absurd (omega arith)
+distinct_behind (x ∷ xs) zero d h y = eqb-false x x (apart_In x xs x (IsDistinct-head nat_eq x xs d) (member_In xs x y)) refl
+distinct_behind (x ∷ xs) (suc i) d h y = distinct_behind xs i (IsDistinct-tail nat_eq x xs d) (omega arith) y
+
+pub distinct_ahead : (xs : List ℕ) (i : ℕ) → IsDistinct nat_eq xs → i < length xs → is_member nat_eq (drop (i + 1) xs) (get_or xs i 0) ≡ true → ⊥
+distinct_ahead xs i d h y = distinct_behind xs i d h (rw add-one at y)
+
+-- what stands behind an entry stands behind the one before
+pub member_ahead : (xs : List ℕ) (i p : ℕ) → i < length xs → is_member nat_eq (drop (i + 1) xs) p ≡ true → is_member nat_eq (drop i xs) p ≡ true
+member_ahead xs i p h y = ap (λ (ys : List ℕ). is_member nat_eq ys p) (drop-cons xs i 0 h) ∙ or_right (nat_eq p (get_or xs i 0)) _ (rw add-one at y)
+
+pub member_drop : (xs : List ℕ) (n p : ℕ) → is_member nat_eq (drop n xs) p ≡ true → is_member nat_eq xs p ≡ true
+member_drop xs zero p y = y
+member_drop [] (suc n) p y = y
+member_drop (x ∷ xs) (suc n) p y = or_right (nat_eq p x) _ (member_drop xs n p y)
+
+-- with one more place that has a verdict if it is of a lower level, those listed so far have one
+pub found_more : (steps : List Step) (m i : ℕ) (ps : List ℕ) (vs ws : List Verdict) → i < length ps
+    → ((p : ℕ) → is_member nat_eq (take i ps) p ≡ true → level_at steps p < m → is_known vs p ≡ true)
+    → ((p : ℕ) → is_known vs p ≡ true → is_known ws p ≡ true) → (level_at steps (get_or ps i 0) < m → is_known ws (get_or ps i 0) ≡ true)
+    → (p : ℕ) → is_member nat_eq (take (i + 1) ps) p ≡ true → level_at steps p < m → is_known ws p ≡ true
+found_more steps m i ps vs ws h found grown here p y low =
+    let o = ap (λ (xs : List ℕ). is_member nat_eq xs p) (sym (take_more ps i 0 h)) ∙ y in
+    elim (or_cases (is_member nat_eq (take i ps) p) (nat_eq p (get_or ps i 0)) (sym (member_push (take i ps) (get_or ps i 0) p) ∙ o)) as (λ _. is_known ws p ≡ true) [
+      | inl old ↦ grown p (found p old low)
+      | inr e ↦ (let s = eqb-true p (get_or ps i 0) e in subst (λ (q : ℕ). is_known ws q ≡ true) (sym s) (here (subst (λ (q : ℕ). level_at steps q < m) s low)))
+    ]
 
 -- what a filter keeps
 filter_In : (f : ℕ → Bool) (xs : List ℕ) (x : ℕ) → In x (filter f xs) → In x xs × (f x ≡ true)
@@ -93,22 +129,28 @@ no_opposites t ps shape h = false_from_ne_true _ (λ y.
     let e : p.0 ≡ q.0 = shape.distinct p.0 q.0 (h p.0 p.1) (h q.0 q.1) (ap (λ (k : Literal). k.var) p.2 ∙ sym (ap (λ (k : Literal). k.var) q.2)) in
     own_opposite l.0 (sym p.2 ∙ ap (negated_at t.steps) e ∙ q.2))
 
-module _ (s : PortState) (t : TrailData) (c : List Literal) (u : ℕ) (ms : List Bool) (touched : List ℕ)
+module _ (s : PortState) (t : TrailData) (c : List Literal) (u : ℕ) (ms : List Bool) (touched : List ℕ) (vs : List Verdict) (judged : List ℕ)
     (shape : IsTrail t) (reasoned : IsReasoned (clause_at s) s.seen t.steps) (inG : Contains (known s) c) (bad : IsFalseClause t.steps c)
-    (k : IsMarking t.steps t.vars (clause_level t.steps c) ms touched) (w : IsWalked (clause_at s) t.steps (clause_level t.steps c) c ms u) (pos : 1 ≤ clause_level t.steps c) where
+    (k : IsMarking t.steps t.vars (clause_level t.steps c) ms touched) (w : IsWalked (clause_at s) t.steps (clause_level t.steps c) c ms u) (pos : 1 ≤ clause_level t.steps c)
+    (j : IsJudged (clause_at s) t.steps t.vars ms vs judged) (found : (p : ℕ) → marked ms p ≡ true → level_at t.steps p < clause_level t.steps c → is_known vs p ≡ true) where
   -- what was put aside
   aside : List ℕ
-  aside = lower_of t.steps (clause_level t.steps c) touched
+  aside = kept_of t.steps (clause_level t.steps c) vs touched
+
+  aside_kept : (p : ℕ) → In p aside → (marked ms p ≡ true) × (level_at t.steps p < clause_level t.steps c) × (not (is_removable (verdict_at vs p)) ≡ true)
+  unfolding aside
+  aside_kept p h =
+      let f = filter_In (is_kept t.steps (clause_level t.steps c) vs) touched p h in
+      let b = and_parts (nat_lt (level_at t.steps p) (clause_level t.steps c)) (not (is_removable (verdict_at vs p))) f.1 in
+      (sym (k.listed p) ∙ In_member touched p f.0, ltb-true _ _ b.0, b.1)
 
   aside_marked : (p : ℕ) → In p aside → (marked ms p ≡ true) × (level_at t.steps p < clause_level t.steps c)
-  unfolding aside
-  aside_marked p h =
-      let f = filter_In (λ q. nat_lt (level_at t.steps q) (clause_level t.steps c)) touched p h in
-      (sym (k.listed p) ∙ In_member touched p f.0, ltb-true _ _ f.1)
+  aside_marked p h = let a = aside_kept p h in (a.0, a.1)
 
-  In_aside : (p : ℕ) → marked ms p ≡ true → level_at t.steps p < clause_level t.steps c → In p aside
+  In_aside : (p : ℕ) → marked ms p ≡ true → level_at t.steps p < clause_level t.steps c → not (is_removable (verdict_at vs p)) ≡ true → In p aside
   unfolding aside
-  In_aside p y low = In_filter (λ q. nat_lt (level_at t.steps q) (clause_level t.steps c)) touched p (member_In touched p (k.listed p ∙ y)) (lt-ltb _ _ low)
+  In_aside p y low n =
+      In_filter (is_kept t.steps (clause_level t.steps c) vs) touched p (member_In touched p (k.listed p ∙ y)) (and_from _ _ (lt-ltb _ _ low) n)
 
   places_lt : (p : ℕ) → In p (u ∷ aside) → p < length t.steps
   places_lt p (inl e) = let h = w.point.in_range in omega arith
@@ -123,7 +165,7 @@ module _ (s : PortState) (t : TrailData) (c : List Literal) (u : ℕ) (ms : List
 
   aside_distinct : IsDistinct nat_eq aside
   unfolding aside
-  aside_distinct = distinct_filter (λ q. nat_lt (level_at t.steps q) (clause_level t.steps c)) touched k.distinct
+  aside_distinct = distinct_filter (is_kept t.steps (clause_level t.steps c) vs) touched k.distinct
 
   places_distinct : IsDistinct nat_eq (u ∷ aside)
   places_distinct = IsDistinct-cons nat_eq u aside (all_apart u aside (λ p h e. let l = (aside_marked p h).1 in let i = w.point.level in let z = ap (level_at t.steps) e in omega arith)) aside_distinct
@@ -137,10 +179,31 @@ module _ (s : PortState) (t : TrailData) (c : List Literal) (u : ℕ) (ms : List
       subst (λ (x : Literal). has (map opposite lemma_lits) x ≡ true) (opposite-opposite (lit_at t.steps p))
       (has-map opposite lemma_lits (negated_at t.steps p) (In_has lemma_lits (negated_at t.steps p) (In_map (negated_at t.steps) (u ∷ aside) p h)))
 
+  -- what was removed
+  removed : ℕ → Bool
+  removed q = is_removable (verdict_at vs q)
+
+  removed_rests : (p : ℕ) → removed p ≡ true → RestsOn (clause_at s) t.steps (λ q. (marked ms q ≡ true) ⊎ (removed q ≡ true)) p
+  unfolding removed
+  removed_rests p y =
+      let o : RestsOn (clause_at s) t.steps (IsSettled ms vs) p = j.cleared p (removable_is (verdict_at vs p) y) in
+      record {
+        lits = o.lits;
+        reason = o.reason;
+        others = λ q b f. elim (o.others q b f) as (λ _. (marked ms q ≡ true) ⊎ (is_removable (verdict_at vs q) ≡ true)) [ inl m ↦ inl m | inr e ↦ inr (ap is_removable e) ];
+      }
+
+  lemma_lower : (p : ℕ) → marked ms p ≡ true → level_at t.steps p < clause_level t.steps c → (removed p ≡ true) ⊎ (has (map opposite lemma_lits) (lit_at t.steps p) ≡ true)
+  unfolding removed
+  lemma_lower p y low = elim (removable_or_not (verdict_at vs p)) as (λ _. (is_removable (verdict_at vs p) ≡ true) ⊎ (has (map opposite lemma_lits) (lit_at t.steps p) ≡ true)) [
+    | inl e ↦ inl e
+    | inr n ↦ inr (in_lemma p (inr (In_aside p y low n)))
+  ]
+
   lemma_implied : rup (known s) lemma_lits ≡ true
   lemma_implied =
       rup-Refuted (known s) lemma_lits
-      (Refuted-walk s t (clause_level t.steps c) u c ms (map opposite lemma_lits) shape reasoned inG bad w k.within pos (in_lemma u (inl refl)) (λ p y low. in_lemma p (inr (In_aside p y low))))
+      (Refuted-walk s t (clause_level t.steps c) u c ms removed (map opposite lemma_lits) shape reasoned inG bad w k.within pos removed_rests (in_lemma u (inl refl)) lemma_lower)
 
   lemma_clause : IsClause t.vars lemma_lits
   unfolding lemma_lits
@@ -152,17 +215,32 @@ module _ (s : PortState) (t : TrailData) (c : List Literal) (u : ℕ) (ms : List
     no_opposites = no_opposites t (u ∷ aside) shape places_lt;
   }
 
-  lemma_walk : IsWalkClause s t.steps c (negated_at t.steps u) (map (negated_at t.steps) aside)
-  lemma_walk = record {
+  lemma_minimised : IsMinimisedClause s t.steps c (negated_at t.steps u) (map (negated_at t.steps) aside)
+  lemma_minimised = record {
     place = u;
     point = w.point;
     first_is = refl;
-    all = λ p l. In_has (map (negated_at t.steps) aside) (negated_at t.steps p) (In_map (negated_at t.steps) aside p (In_aside p (w.complete p l.reached) l.lower));
+    all = λ p n. In_has (map (negated_at t.steps) aside) (negated_at t.steps p) (In_map (negated_at t.steps) aside p (needed_In p n));
     only = λ l h. (
         let p = map_In (negated_at t.steps) aside l (has_In (map (negated_at t.steps) aside) l h) in
-        let a = aside_marked p.0 p.1 in
-        (p.0, record { in_range = k.in_range p.0 a.0; above = k.above p.0 a.0; lower = a.1; reached = w.sound p.0 a.0 }, sym p.2));
+        (p.0, In_needed p.0 p.1, sym p.2));
   }
+    where
+      needed_In : (p : ℕ) → IsNeeded (clause_at s) t.steps (clause_level t.steps c) c u p → In p aside
+      needed_In p n =
+          let y = w.complete p n.left.reached in
+          elim (removable_or_not (verdict_at vs p)) as (λ _. In p aside) [
+            | inl e ↦ absurd (n.not_removable (removable_sound (clause_at s) t ms vs judged (clause_level t.steps c) c u shape j w (suc p) p (omega arith) n.left.in_range n.left.lower (removable_is (verdict_at vs p) e)))
+            | inr stay ↦ In_aside p y n.left.lower stay
+          ]
+
+      In_needed : (p : ℕ) → In p aside → IsNeeded (clause_at s) t.steps (clause_level t.steps c) c u p
+      In_needed p h =
+          let a = aside_kept p h in
+          record {
+            left = record { in_range = k.in_range p a.0; above = k.above p a.0; lower = a.1; reached = w.sound p a.0 };
+            not_removable = needed_stays (clause_at s) t ms vs judged (clause_level t.steps c) c u shape j w p (found_needed (verdict_at vs p) (found p a.0 a.1) a.2);
+          }
 
   IsLemma-walked : (back glue : ℕ) → back ≡ greatest (map (level_at t.steps) aside) → glue ≡ distinct_count nat_eq (map (level_at t.steps) aside) → IsLemma s t c lemma_lits back glue
   unfolding lemma_lits
@@ -177,7 +255,7 @@ module _ (s : PortState) (t : TrailData) (c : List Literal) (u : ℕ) (ms : List
     below = λ l h. literal_low l (map_In (negated_at t.steps) aside l (has_In (map (negated_at t.steps) aside) l h));
     back_is = b ∙ ap greatest (sym (levels_at t aside shape (λ p h. places_lt p (inr h))));
     glue_is = g ∙ ap (distinct_count nat_eq) (sym (levels_at t aside shape (λ p h. places_lt p (inr h))));
-    walked = lemma_walk;
+    minimised = lemma_minimised;
   }
     where
       literal_false : (l : Literal) → ((p : ℕ) × In p (u ∷ aside) × (negated_at t.steps p ≡ l)) → IsFalseAbove t.steps l
@@ -194,21 +272,23 @@ module _ (s : PortState) (t : TrailData) (c : List Literal) (u : ℕ) (ms : List
           omega arith
 
 -- what the walk marked and put aside makes the lemma
-pub IsLemma-from : (s : PortState) (t : TrailData) (m : ℕ) (c : List Literal) (u : ℕ) (ms : List Bool) (touched : List ℕ)
+pub IsLemma-from : (s : PortState) (t : TrailData) (m : ℕ) (c : List Literal) (u : ℕ) (ms : List Bool) (touched : List ℕ) (vs : List Verdict) (judged : List ℕ)
     → IsTrail t → IsReasoned (clause_at s) s.seen t.steps → Contains (known s) c → IsFalseClause t.steps c → m ≡ clause_level t.steps c → 1 ≤ m
     → IsMarking t.steps t.vars m ms touched → IsWalked (clause_at s) t.steps m c ms u
-    → (back glue : ℕ) → back ≡ greatest (map (level_at t.steps) (lower_of t.steps m touched)) → glue ≡ distinct_count nat_eq (map (level_at t.steps) (lower_of t.steps m touched))
-    → IsLemma s t c (negated_at t.steps u ∷ map (negated_at t.steps) (lower_of t.steps m touched)) back glue
-IsLemma-from s t m c u ms touched shape reasoned inG bad e pos k w back glue b g =
-    subst (λ (n : ℕ). 1 ≤ n → IsMarking t.steps t.vars n ms touched → IsWalked (clause_at s) t.steps n c ms u
-    → back ≡ greatest (map (level_at t.steps) (lower_of t.steps n touched)) → glue ≡ distinct_count nat_eq (map (level_at t.steps) (lower_of t.steps n touched))
-    → IsLemma s t c (negated_at t.steps u ∷ map (negated_at t.steps) (lower_of t.steps n touched)) back glue) (sym e)
-    (λ p k w b g. from p k w b g) pos k w b g
+    → IsJudged (clause_at s) t.steps t.vars ms vs judged → ((p : ℕ) → marked ms p ≡ true → level_at t.steps p < m → is_known vs p ≡ true)
+    → (back glue : ℕ) → back ≡ greatest (map (level_at t.steps) (kept_of t.steps m vs touched)) → glue ≡ distinct_count nat_eq (map (level_at t.steps) (kept_of t.steps m vs touched))
+    → IsLemma s t c (negated_at t.steps u ∷ map (negated_at t.steps) (kept_of t.steps m vs touched)) back glue
+IsLemma-from s t m c u ms touched vs judged shape reasoned inG bad e pos k w j found back glue b g =
+    subst (λ (n : ℕ). 1 ≤ n → IsMarking t.steps t.vars n ms touched → IsWalked (clause_at s) t.steps n c ms u → ((p : ℕ) → marked ms p ≡ true → level_at t.steps p < n → is_known vs p ≡ true)
+    → back ≡ greatest (map (level_at t.steps) (kept_of t.steps n vs touched)) → glue ≡ distinct_count nat_eq (map (level_at t.steps) (kept_of t.steps n vs touched))
+    → IsLemma s t c (negated_at t.steps u ∷ map (negated_at t.steps) (kept_of t.steps n vs touched)) back glue) (sym e)
+    (λ p k w f b g. from p k w f b g) pos k w found b g
   where
     from : 1 ≤ clause_level t.steps c → IsMarking t.steps t.vars (clause_level t.steps c) ms touched → IsWalked (clause_at s) t.steps (clause_level t.steps c) c ms u
-        → back ≡ greatest (map (level_at t.steps) (lower_of t.steps (clause_level t.steps c) touched)) → glue ≡ distinct_count nat_eq (map (level_at t.steps) (lower_of t.steps (clause_level t.steps c) touched))
-        → IsLemma s t c (negated_at t.steps u ∷ map (negated_at t.steps) (lower_of t.steps (clause_level t.steps c) touched)) back glue
-    from p k w b g = unfold lemma_lits in unfold aside in IsLemma-walked s t c u ms touched shape reasoned inG bad k w p back glue b g
+        → ((p : ℕ) → marked ms p ≡ true → level_at t.steps p < clause_level t.steps c → is_known vs p ≡ true)
+        → back ≡ greatest (map (level_at t.steps) (kept_of t.steps (clause_level t.steps c) vs touched)) → glue ≡ distinct_count nat_eq (map (level_at t.steps) (kept_of t.steps (clause_level t.steps c) vs touched))
+        → IsLemma s t c (negated_at t.steps u ∷ map (negated_at t.steps) (kept_of t.steps (clause_level t.steps c) vs touched)) back glue
+    from p k w f b g = unfold lemma_lits in unfold aside in IsLemma-walked s t c u ms touched vs judged shape reasoned inG bad k w p j f back glue b g
 
 module _ (t : TrailData) (m : ℕ) (ms : List Bool) (touched : List ℕ) (shape : IsTrail t) (k : IsMarking t.steps t.vars m ms touched) where
   listed_lt : (p : ℕ) → In p touched → p < length t.steps
@@ -220,12 +300,24 @@ module _ (t : TrailData) (m : ℕ) (ms : List Bool) (touched : List ℕ) (shape 
   pub touched_in_table : All (λ p. p < length ms) touched
   touched_in_table i d h = let a = touched_in_range i d h in let s = shape.short in let z = k.size in omega arith
 
-  pub lower_in_range : All (λ p. p < length t.steps) (lower_of t.steps m touched)
-  lower_in_range i d h = listed_lt (get_or (lower_of t.steps m touched) i d) (filter_In (λ q. nat_lt (level_at t.steps q) m) touched (get_or (lower_of t.steps m touched) i d) (In_get_or (lower_of t.steps m touched) i d h)).0
-
-  pub lower_few : length (lower_of t.steps m touched) ≤ length t.steps
-  lower_few = length-le_from_distinct_below (lower_of t.steps m touched) (length t.steps) (distinct_filter (λ q. nat_lt (level_at t.steps q) m) touched k.distinct)
-      (λ q y. listed_lt q (filter_In (λ p. nat_lt (level_at t.steps p) m) touched q (member_In (lower_of t.steps m touched) q y)).0)
-
   pub touched_short : length touched ≤ length t.steps
   touched_short = touched_few t m ms touched shape k
+
+  module _ (vs : List Verdict) where
+    kept_listed : (p : ℕ) → In p (kept_of t.steps m vs touched) → In p touched
+    kept_listed p h = (filter_In (is_kept t.steps m vs) touched p h).0
+
+    pub kept_in_range : All (λ p. p < length t.steps) (kept_of t.steps m vs touched)
+    kept_in_range i d h = listed_lt (get_or (kept_of t.steps m vs touched) i d) (kept_listed (get_or (kept_of t.steps m vs touched) i d) (In_get_or (kept_of t.steps m vs touched) i d h))
+
+    pub kept_few : length (kept_of t.steps m vs touched) ≤ length t.steps
+    kept_few = length-le_from_distinct_below (kept_of t.steps m vs touched) (length t.steps) (distinct_filter (is_kept t.steps m vs) touched k.distinct)
+        (λ q y. listed_lt q (kept_listed q (member_In (kept_of t.steps m vs touched) q y)))
+
+-- the places that have a verdict stand in the table
+pub judged_in_table : (held : Held) (t : TrailData) (ms : List Bool) (vs : List Verdict) (judged : List ℕ) → IsTrail t → IsJudged held t.steps t.vars ms vs judged → All (λ p. p < length vs) judged
+judged_in_table held t ms vs judged shape j i d h =
+    let a = j.in_range (get_or judged i d) (sym (j.listed (get_or judged i d)) ∙ In_member judged (get_or judged i d) (In_get_or judged i d h)) in
+    let s = shape.short in
+    let z = j.size in
+    omega arith

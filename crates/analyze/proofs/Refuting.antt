@@ -1,4 +1,4 @@
--- The clause of the walk follows by unit propagation.
+-- What minimisation leaves of the clause of the walk follows by unit propagation.
 use Rattle.std.proofs.Common.{◌≡◌, ◌∙◌, ℕ, zero, suc, ◌+◌, ◌<◌, ◌≤◌, Bool, true, ◌&&◌, ◌||◌, nat_eq, nat_lt, List, [], ◌∷◌, length, sym, ap, subst, inl, inr, ◌⊎◌, Contains, arith}
 use Rattle.std.proofs.lemmas.Bool.{or_cases, cases_Bool, cases_eq, cases_lt, false≢true, and_from, and_parts, eq-eqb, eqb-true, lt-ltb, ltb-true, or_left, or_right}
 use Rattle.sat_words.specs.Literal.{Literal, opposite}
@@ -12,8 +12,11 @@ use Rattle.ring_trail.specs.Reasoned.{IsForced, IsSeen, IsDecision, IsReasoned}
 use Rattle.analyze.specs.Levels.{clause_level}
 use Rattle.ring_port.specs.PortState.{clause_at}
 use Rattle.analyze.specs.Marks.{marked, IsWalked}
+use Rattle.analyze.specs.Walk.{MakesFalse}
+use Rattle.analyze.specs.Removable.{RestsOn}
 use Rattle.analyze.proofs.Chains.{Refuted, Refuted-false, Refuted-forced, rup-Refuted, has-head, has-tail, has-one, clause_known}
 use Rattle.analyze.proofs.Walking.{makes_false}
+use Rattle.analyze.proofs.Judging.{one_reason, forced_above}
 use Rattle.analyze.proofs.LevelLemmas.{level_of_lit-at, clause_level-above, false_place}
 
 -- a place that has its cause among earlier places and what is given, if it is in R
@@ -93,28 +96,36 @@ rup-none s t c shape r inG bad z =
     let a = clause_level-above t.steps c k h in
     subst (λ (x : Literal). has B x ≡ true) f.false_there (cov f.place f.before (eq-eqb _ _ (omega arith))))))
 
--- what the walk left and the point refute the clauses
-module _ (s : PortState) (t : TrailData) (m u : ℕ) (c : List Literal) (ms : List Bool) (A : List Literal)
+-- the point and those places of what the walk left that weren't removed refute the clauses
+module _ (s : PortState) (t : TrailData) (m u : ℕ) (c : List Literal) (ms : List Bool) (removed : ℕ → Bool) (A : List Literal)
     (shape : IsTrail t) (r : IsReasoned (clause_at s) s.seen t.steps) (inG : Contains (known s) c) (bad : IsFalseClause t.steps c)
     (w : IsWalked (clause_at s) t.steps m c ms u) (within : (p : ℕ) → marked ms p ≡ true → level_at t.steps p ≤ m) (pos : 1 ≤ m)
-    (head : has A (lit_at t.steps u) ≡ true) (lower : (p : ℕ) → marked ms p ≡ true → level_at t.steps p < m → has A (lit_at t.steps p) ≡ true) where
-  -- the places that are derived: at level 0, or marked, of the level and behind the point
+    (rests : (p : ℕ) → removed p ≡ true → RestsOn (clause_at s) t.steps (λ q. (marked ms q ≡ true) ⊎ (removed q ≡ true)) p)
+    (head : has A (lit_at t.steps u) ≡ true) (lower : (p : ℕ) → marked ms p ≡ true → level_at t.steps p < m → (removed p ≡ true) ⊎ (has A (lit_at t.steps p) ≡ true)) where
+  -- the places that are derived: at level 0, removed, or marked, of the level and behind the point
   derived : ℕ → Bool
-  derived p = nat_eq (level_at t.steps p) 0 || (marked ms p && (nat_eq (level_at t.steps p) m && nat_lt u p))
+  derived p = nat_eq (level_at t.steps p) 0 || (removed p || (marked ms p && (nat_eq (level_at t.steps p) m && nat_lt u p)))
 
   derived_zero : (p : ℕ) → level_at t.steps p ≡ 0 → derived p ≡ true
   unfolding derived
   derived_zero p z = or_left _ _ (eq-eqb _ _ z)
 
+  derived_removed : (p : ℕ) → removed p ≡ true → derived p ≡ true
+  unfolding derived
+  derived_removed p y = or_right _ _ (or_left _ _ y)
+
   derived_behind : (p : ℕ) → marked ms p ≡ true → level_at t.steps p ≡ m → u < p → derived p ≡ true
   unfolding derived
-  derived_behind p y e lt = or_right _ _ (and_from _ _ y (and_from _ _ (eq-eqb _ _ e) (lt-ltb _ _ lt)))
+  derived_behind p y e lt = or_right _ _ (or_right _ _ (and_from _ _ y (and_from _ _ (eq-eqb _ _ e) (lt-ltb _ _ lt))))
 
   -- a marked place is given or derived
   covered : (p : ℕ) → marked ms p ≡ true → (derived p ≡ true) ⊎ (has A (lit_at t.steps p) ≡ true)
   covered p y =
       elim (cases_lt (level_at t.steps p) m) as (λ _. (derived p ≡ true) ⊎ (has A (lit_at t.steps p) ≡ true)) [
-        | inl low ↦ inr (lower p y low)
+        | inl low ↦ elim (lower p y low) as (λ _. (derived p ≡ true) ⊎ (has A (lit_at t.steps p) ≡ true)) [
+          | inl gone ↦ inl (derived_removed p gone)
+          | inr stays ↦ inr stays
+        ]
         | inr high ↦ (
             let e : level_at t.steps p ≡ m = (let le = within p y in omega arith) in
             elim (cases_lt u p) as (λ _. (derived p ≡ true) ⊎ (has A (lit_at t.steps p) ≡ true)) [
@@ -126,13 +137,33 @@ module _ (s : PortState) (t : TrailData) (m u : ℕ) (c : List Literal) (ms : Li
             ])
       ]
 
-  -- so is the place of a false literal where the walk goes on to it
-  reached : (p : ℕ) → (0 < level_at t.steps p → marked ms p ≡ true) → (derived p ≡ true) ⊎ (has A (lit_at t.steps p) ≡ true)
+  -- so is the place of a false literal that is marked or removed if it is above level 0
+  reached : (p : ℕ) → (0 < level_at t.steps p → (marked ms p ≡ true) ⊎ (removed p ≡ true)) → (derived p ≡ true) ⊎ (has A (lit_at t.steps p) ≡ true)
   reached p go =
       elim (cases_eq (level_at t.steps p) 0) as (λ _. (derived p ≡ true) ⊎ (has A (lit_at t.steps p) ≡ true)) [
         | inl z ↦ inl (derived_zero p z)
-        | inr ne ↦ covered p (go (omega arith))
+        | inr ne ↦ (elim (go (omega arith)) as (λ _. (derived p ≡ true) ⊎ (has A (lit_at t.steps p) ≡ true)) [
+          | inl y ↦ covered p y
+          | inr gone ↦ inl (derived_removed p gone)
+        ])
       ]
+
+  -- a forced place is derived where the others of its reason that are above level 0 are marked or removed
+  forced_up : (p : ℕ) → p < length t.steps → (f : IsForced (clause_at s) t.steps p) → ((q : ℕ) → q < p → MakesFalse t.steps f.lits q → (marked ms q ≡ true) ⊎ (removed q ≡ true)) → IsUp (known s) t.steps A derived p
+  forced_up p lt f go = record {
+    clause = f.lits;
+    known = clause_known s f.reason.address f.lits f.held_is;
+    has_lit = f.unit.has_lit;
+    others = λ k h. elim (f.unit.others k h) as (λ _. (k ≡ lit_at t.steps p) ⊎ ((q : ℕ) × (q < p) × (lit_at t.steps q ≡ opposite k) × ((derived q ≡ true) ⊎ (has A (lit_at t.steps q) ≡ true)))) [
+      | inl same ↦ inl same
+      | inr q ↦ inr (
+        q.place,
+        q.before,
+        q.false_there,
+        reached q.place (λ above. go q.place q.before (makes_false t.steps f.lits k q.place (let b = q.before in omega arith) above q.false_there h)),
+      )
+    ];
+  }
 
   behind_up : (p : ℕ) → p < length t.steps → marked ms p ≡ true → level_at t.steps p ≡ m → u < p → IsUp (known s) t.steps A derived p
   behind_up p lt y e gt = by (r.caused p lt)
@@ -140,48 +171,48 @@ module _ (s : PortState) (t : TrailData) (m u : ℕ) (c : List Literal) (ms : Li
       by : IsForced (clause_at s) t.steps p ⊎ (IsSeen s.seen t.steps p ⊎ IsDecision t.steps p) → IsUp (known s) t.steps A derived p
       by (inr (inl z)) = absurd (let a = z.level in omega arith)
       by (inr (inr d)) = absurd (let a = d.first u gt in let b = w.point.level in omega arith)
-      by (inl f) = record {
-        clause = f.lits;
-        known = clause_known s f.reason.address f.lits f.held_is;
-        has_lit = f.unit.has_lit;
-        others = λ k h. elim (f.unit.others k h) as (λ _. (k ≡ lit_at t.steps p) ⊎ ((q : ℕ) × (q < p) × (lit_at t.steps q ≡ opposite k) × ((derived q ≡ true) ⊎ (has A (lit_at t.steps q) ≡ true)))) [
-          | inl same ↦ inl same
-          | inr q ↦ inr (
-            q.place,
-            q.before,
-            q.false_there,
-            reached q.place (λ above.
-                w.complete q.place (λ R set. set.goes_on p q.place (w.sound p y R set) (record {
-                  in_range = lt;
-                  from_here = omega arith;
-                  level = e;
-                  reason = f.reason;
-                  lits = f.lits;
-                  reason_is = f.reason_is;
-                  held_is = f.held_is;
-                  before = q.before;
-                  falsifies = makes_false t.steps f.lits k q.place (let b = q.before in omega arith) above q.false_there h;
-                }))),
-          )
-        ];
-      }
+      by (inl f) = forced_up p lt f (λ q before falsifies.
+          inl (w.complete q (λ R set. set.goes_on p q (w.sound p y R set) (record {
+            in_range = lt;
+            from_here = omega arith;
+            level = e;
+            reason = f.reason;
+            lits = f.lits;
+            reason_is = f.reason_is;
+            held_is = f.held_is;
+            before = before;
+            falsifies = falsifies;
+          }))))
+
+  removed_up : (p : ℕ) → p < length t.steps → removed p ≡ true → (level_at t.steps p ≡ 0 → ⊥) → IsUp (known s) t.steps A derived p
+  removed_up p lt y above =
+      let rest : RestsOn (clause_at s) t.steps (λ q. (marked ms q ≡ true) ⊎ (removed q ≡ true)) p = rests p y in
+      let f : IsForced (clause_at s) t.steps p = forced_above (clause_at s) s.seen t.steps p rest.reason.reason r lt (omega arith) rest.reason.reason_is in
+      let same : rest.lits ≡ f.lits = one_reason (clause_at s) t.steps p f.reason rest.lits f.lits rest.reason f.reason_is f.held_is in
+      forced_up p lt f (λ q before falsifies. rest.others q before (subst (λ (x : List Literal). MakesFalse t.steps x q) (sym same) falsifies))
 
   each_up : (p : ℕ) → p < length t.steps → derived p ≡ true → IsUp (known s) t.steps A derived p
   unfolding derived
   each_up p lt d =
-      elim (or_cases (nat_eq (level_at t.steps p) 0) (marked ms p && (nat_eq (level_at t.steps p) m && nat_lt u p)) d) as (λ _. IsUp (known s) t.steps A derived p) [
-        | inl z ↦ zero_up s t A derived shape r (λ q h e. derived_zero q e) p lt (eqb-true _ _ z)
-        | inr b ↦ (
-            let one = and_parts (marked ms p) (nat_eq (level_at t.steps p) m && nat_lt u p) b in
-            let two = and_parts (nat_eq (level_at t.steps p) m) (nat_lt u p) one.1 in
-            behind_up p lt one.0 (eqb-true _ _ two.0) (ltb-true _ _ two.1))
+      elim (cases_eq (level_at t.steps p) 0) as (λ _. IsUp (known s) t.steps A derived p) [
+        | inl z ↦ zero_up s t A derived shape r (λ q h e. derived_zero q e) p lt z
+        | inr above ↦ (elim (or_cases (nat_eq (level_at t.steps p) 0) (removed p || (marked ms p && (nat_eq (level_at t.steps p) m && nat_lt u p))) d) as (λ _. IsUp (known s) t.steps A derived p) [
+          | inl z ↦ absurd (above (eqb-true _ _ z))
+          | inr b ↦ (elim (or_cases (removed p) (marked ms p && (nat_eq (level_at t.steps p) m && nat_lt u p)) b) as (λ _. IsUp (known s) t.steps A derived p) [
+            | inl y ↦ removed_up p lt y above
+            | inr e ↦ (
+                let one = and_parts (marked ms p) (nat_eq (level_at t.steps p) m && nat_lt u p) e in
+                let two = and_parts (nat_eq (level_at t.steps p) m) (nat_lt u p) one.1 in
+                behind_up p lt one.0 (eqb-true _ _ two.0) (ltb-true _ _ two.1))
+          ])
+        ])
       ]
 
   pub Refuted-walk : Refuted (known s) A
   Refuted-walk = Refuted-up (known s) t.steps A derived each_up (λ B more cov. Refuted-false (known s) B c inG (λ k h.
       let f : FalseBefore t.steps (length t.steps) k = bad k h in
       subst (λ (x : Literal). has B x ≡ true) f.false_there
-      (elim (reached f.place (λ above. w.complete f.place (λ R set. set.starts f.place (makes_false t.steps c k f.place f.before above f.false_there h)))) as (λ _. has B (lit_at t.steps f.place) ≡ true) [
+      (elim (reached f.place (λ above. inl (w.complete f.place (λ R set. set.starts f.place (makes_false t.steps c k f.place f.before above f.false_there h))))) as (λ _. has B (lit_at t.steps f.place) ≡ true) [
         | inl d ↦ cov f.place f.before d
         | inr a ↦ more (lit_at t.steps f.place) a
       ])))

@@ -1,5 +1,5 @@
 -- What holds of the port of the tests.
-use Rattle.std.proofs.Common.{◌≡◌, ◌∙◌, ℕ, zero, suc, ◌<◌, true, false, List, [], ◌∷◌, Some, None, IsSome, sym, refl, ap, inl, inr, ◌⊎◌, arith}
+use Rattle.std.proofs.Common.{◌≡◌, ◌∙◌, ℕ, zero, suc, ◌<◌, Bool, true, false, List, [], ◌∷◌, Some, None, IsSome, sym, refl, ap, inl, inr, ◌⊎◌, arith}
 use Rattle.std.specs.Option.{option_map}
 use Rattle.std.specs.List.{slice_get}
 use Rattle.std.proofs.lemmas.Bool.{cases_eq, ne_eqb, false≢true}
@@ -56,80 +56,105 @@ at_third a one two h =
       | inr r ↦ (elim r as (λ _. held_at row_state a ≡ Some third) [ inl e ↦ absurd (two e) | inr e ↦ ap (held_at row_state) e ∙ held_third ])
     ]
 
-abbrev pub row_steps : List Step
-row_steps =
+-- the trail, where the variable 5 gets its value from the clause at an address
+abbrev pub row_steps : Bool → ℕ → List Step
+row_steps n a =
     record { lit = lit 1 false; level = 1; reason = None }
     ∷ record { lit = lit 2 false; level = 1; reason = Some (record { address = 1 }) }
     ∷ record { lit = lit 4 false; level = 2; reason = None }
-    ∷ record { lit = lit 5 false; level = 2; reason = Some (record { address = 2 }) }
+    ∷ record { lit = lit 5 n; level = 2; reason = Some (record { address = a }) }
     ∷ []
 
-pub steps_are : (t0 t1 t2 t3 t4 : TrailData) → t0 ≡ record { vars = 5; level = 0; steps = []; done = 0 } → t1 ≡ decided t0 (lit 1 false) → t2 ≡ assigned t1 (lit 2 false) (Some (record { address = 1 }))
-    → t3 ≡ decided t2 (lit 4 false) → t4 ≡ assigned t3 (lit 5 false) (Some (record { address = 2 })) → t4.steps ≡ row_steps
-steps_are t0 t1 t2 t3 t4 e0 e1 e2 e3 e4 =
+pub steps_are : (n : Bool) (a : ℕ) (t0 t1 t2 t3 t4 : TrailData) → t0 ≡ record { vars = 5; level = 0; steps = []; done = 0 } → t1 ≡ decided t0 (lit 1 false) → t2 ≡ assigned t1 (lit 2 false) (Some (record { address = 1 }))
+    → t3 ≡ decided t2 (lit 4 false) → t4 ≡ assigned t3 (lit 5 n) (Some (record { address = a })) → t4.steps ≡ row_steps n a
+steps_are n a t0 t1 t2 t3 t4 e0 e1 e2 e3 e4 =
     ap (λ (t : TrailData). t.steps)
-    (e4 ∙ ap (λ (t : TrailData). assigned t (lit 5 false) (Some (record { address = 2 })))
+    (e4 ∙ ap (λ (t : TrailData). assigned t (lit 5 n) (Some (record { address = a })))
     (e3 ∙ ap (λ (t : TrailData). decided t (lit 4 false))
     (e2 ∙ ap (λ (t : TrailData). assigned t (lit 2 false) (Some (record { address = 1 })))
     (e1 ∙ ap (λ (t : TrailData). decided t (lit 1 false)) e0))))
 
-false_at : (n p : ℕ) (k l : Literal) → p < n → lit_at row_steps p ≡ opposite k → k ≡ l → FalseBefore row_steps n l
-false_at n p k l lt e s = record { place = p; before = lt; false_there = e ∙ ap opposite s }
+false_at : (n : Bool) (a m p : ℕ) (k l : Literal) → p < m → lit_at (row_steps n a) p ≡ opposite k → k ≡ l → FalseBefore (row_steps n a) m l
+false_at n a m p k l lt e s = record { place = p; before = lt; false_there = e ∙ ap opposite s }
 
--- the third clause is false
-pub third_false : IsFalseClause row_steps third.lits
+-- where 5 is true the third clause is false, and where it is false the second one
+pub third_false : IsFalseClause (row_steps false 2) third.lits
 third_false l h = by (has_In third.lits l h)
   where
-    by : In l third.lits → FalseBefore row_steps 4 l
-    by (inl e) = false_at 4 2 (lit 4 true) l (omega arith) refl e
-    by (inr (inl e)) = false_at 4 1 (lit 2 true) l (omega arith) refl e
-    by (inr (inr (inl e))) = false_at 4 3 (lit 5 true) l (omega arith) refl e
+    by : In l third.lits → FalseBefore (row_steps false 2) 4 l
+    by (inl e) = false_at false 2 4 2 (lit 4 true) l (omega arith) refl e
+    by (inr (inl e)) = false_at false 2 4 1 (lit 2 true) l (omega arith) refl e
+    by (inr (inr (inl e))) = false_at false 2 4 3 (lit 5 true) l (omega arith) refl e
     by (inr (inr (inr e))) = absurd e
 
-unit_first : WasUnit row_steps 1 first.lits
-unit_first = record { has_lit = refl; others = λ k h. by k (has_In first.lits k h) }
+pub second_false : IsFalseClause (row_steps true 3) second.lits
+second_false l h = by (has_In second.lits l h)
   where
-    by : (k : Literal) → In k first.lits → (k ≡ lit 2 false) ⊎ FalseBefore row_steps 1 k
-    by k (inl e) = inr (false_at 1 0 (lit 1 true) k (omega arith) refl e)
+    by : In l second.lits → FalseBefore (row_steps true 3) 4 l
+    by (inl e) = false_at true 3 4 2 (lit 4 true) l (omega arith) refl e
+    by (inr (inl e)) = false_at true 3 4 0 (lit 1 true) l (omega arith) refl e
+    by (inr (inr (inl e))) = false_at true 3 4 3 (lit 5 false) l (omega arith) refl e
+    by (inr (inr (inr e))) = absurd e
+
+unit_first : (n : Bool) (a : ℕ) → WasUnit (row_steps n a) 1 first.lits
+unit_first n a = record { has_lit = refl; others = λ k h. by k (has_In first.lits k h) }
+  where
+    by : (k : Literal) → In k first.lits → (k ≡ lit 2 false) ⊎ FalseBefore (row_steps n a) 1 k
+    by k (inl e) = inr (false_at n a 1 0 (lit 1 true) k (omega arith) refl e)
     by k (inr (inl e)) = inl (sym e)
     by k (inr (inr e)) = absurd e
 
-unit_second : WasUnit row_steps 3 second.lits
+unit_second : WasUnit (row_steps false 2) 3 second.lits
 unit_second = record { has_lit = refl; others = λ k h. by k (has_In second.lits k h) }
   where
-    by : (k : Literal) → In k second.lits → (k ≡ lit 5 false) ⊎ FalseBefore row_steps 3 k
-    by k (inl e) = inr (false_at 3 2 (lit 4 true) k (omega arith) refl e)
-    by k (inr (inl e)) = inr (false_at 3 0 (lit 1 true) k (omega arith) refl e)
+    by : (k : Literal) → In k second.lits → (k ≡ lit 5 false) ⊎ FalseBefore (row_steps false 2) 3 k
+    by k (inl e) = inr (false_at false 2 3 2 (lit 4 true) k (omega arith) refl e)
+    by k (inr (inl e)) = inr (false_at false 2 3 0 (lit 1 true) k (omega arith) refl e)
+    by k (inr (inr (inl e))) = inl (sym e)
+    by k (inr (inr (inr e))) = absurd e
+
+unit_third : WasUnit (row_steps true 3) 3 third.lits
+unit_third = record { has_lit = refl; others = λ k h. by k (has_In third.lits k h) }
+  where
+    by : (k : Literal) → In k third.lits → (k ≡ lit 5 true) ⊎ FalseBefore (row_steps true 3) 3 k
+    by k (inl e) = inr (false_at true 3 3 2 (lit 4 true) k (omega arith) refl e)
+    by k (inr (inl e)) = inr (false_at true 3 3 1 (lit 2 true) k (omega arith) refl e)
     by k (inr (inr (inl e))) = inl (sym e)
     by k (inr (inr (inr e))) = absurd e
 
 -- the reasons are held
-pub row_reasoned : IsReasoned (clause_at row_state) [] row_steps
-row_reasoned = record { caused = by }
+reasoned_by : (n : Bool) (a : ℕ) (h : Holding) → held_at row_state a ≡ Some h → WasUnit (row_steps n a) 3 h.lits → IsReasoned (clause_at row_state) [] (row_steps n a)
+reasoned_by n a h held unit = record { caused = by }
   where
-    by : (p : ℕ) → p < 4 → IsForced (clause_at row_state) row_steps p ⊎ (IsSeen [] row_steps p ⊎ IsDecision row_steps p)
-    by zero h = inr (inr (record { none = refl; above = omega arith; first = λ q l. absurd (omega arith) }))
-    by (suc zero) h = inl (record {
+    by : (p : ℕ) → p < 4 → IsForced (clause_at row_state) (row_steps n a) p ⊎ (IsSeen [] (row_steps n a) p ⊎ IsDecision (row_steps n a) p)
+    by zero lt = inr (inr (record { none = refl; above = omega arith; first = λ q l. absurd (omega arith) }))
+    by (suc zero) lt = inl (record {
       reason = record { address = 1 };
       lits = first.lits;
       reason_is = refl;
       held_is = ap (option_map (λ (k : Holding). k.lits)) held_first;
-      unit = unit_first;
+      unit = unit_first n a;
     })
-    by (suc (suc zero)) h = inr (inr (record { none = refl; above = omega arith; first = lower }))
+    by (suc (suc zero)) lt = inr (inr (record { none = refl; above = omega arith; first = lower }))
       where
-        lower : (q : ℕ) → q < 2 → level_at row_steps q < 2
+        lower : (q : ℕ) → q < 2 → level_at (row_steps n a) q < 2
         lower zero l = omega arith
         lower (suc zero) l = omega arith
         lower (suc (suc q)) l = absurd (omega arith)
-    by (suc (suc (suc zero))) h = inl (record {
-      reason = record { address = 2 };
-      lits = second.lits;
+    by (suc (suc (suc zero))) lt = inl (record {
+      reason = record { address = a };
+      lits = h.lits;
       reason_is = refl;
-      held_is = ap (option_map (λ (k : Holding). k.lits)) held_second;
-      unit = unit_second;
+      held_is = ap (option_map (λ (k : Holding). k.lits)) held;
+      unit = unit;
     })
-    by (suc (suc (suc (suc p)))) h = absurd (omega arith)
+    by (suc (suc (suc (suc p)))) lt = absurd (omega arith)
+
+pub reasoned_second : IsReasoned (clause_at row_state) [] (row_steps false 2)
+reasoned_second = reasoned_by false 2 second held_second unit_second
+
+pub reasoned_third : IsReasoned (clause_at row_state) [] (row_steps true 3)
+reasoned_third = reasoned_by true 3 third held_third unit_third
 
 -- equal lists read alike
 pub read_same : (c d : List Literal) (i : ℕ) (r : Literal) → c ≡ d → slice_get c i ≡ Some r → slice_get d i ≡ Some r

@@ -9,7 +9,8 @@ use Rattle.ring_trail.specs.declared.step.Step.{Step}
 use Rattle.ring_trail.specs.TrailData.{TrailData, FalseBefore, lit_at}
 use Rattle.analyze.specs.Levels.{greatest, level_of_lit, levels_of, clause_level, count_of_levels}
 use Rattle.ring_port.specs.PortState.{clause_at}
-use Rattle.analyze.specs.Walk.{IsFirstPoint, IsLeft}
+use Rattle.analyze.specs.Walk.{IsFirstPoint}
+use Rattle.analyze.specs.Removable.{IsNeeded}
 use Rattle.analyze.specs.declared.analysis.Conclusion.{Conclusion}
 use Rattle.analyze.specs.declared.analysis.Conclusion.TheVariants.{Empty, Lemma}
 
@@ -17,13 +18,13 @@ use Rattle.analyze.specs.declared.analysis.Conclusion.TheVariants.{Empty, Lemma}
 abbrev pub negated_at : List Step → ℕ → Literal
 negated_at steps p = opposite (lit_at steps p)
 
--- the clause of the walk: the negation of the point's literal, and in whatever order those of what it left of lower levels
-pub record IsWalkClause (s : PortState) (steps : List Step) (conflict : List Literal) (first : Literal) (rest : List Literal) : Type 0 where
+-- the minimised clause of the walk: the negation of the point's literal, and in whatever order those of what it left and isn't removable
+pub record IsMinimisedClause (s : PortState) (steps : List Step) (conflict : List Literal) (first : Literal) (rest : List Literal) : Type 0 where
   pub place : ℕ
   pub point : IsFirstPoint (clause_at s) steps (clause_level steps conflict) conflict place
   pub first_is : first ≡ negated_at steps place
-  pub all : (p : ℕ) → IsLeft (clause_at s) steps (clause_level steps conflict) conflict place p → has rest (negated_at steps p) ≡ true
-  pub only : (k : Literal) → has rest k ≡ true → (p : ℕ) × IsLeft (clause_at s) steps (clause_level steps conflict) conflict place p × (k ≡ negated_at steps p)
+  pub all : (p : ℕ) → IsNeeded (clause_at s) steps (clause_level steps conflict) conflict place p → has rest (negated_at steps p) ≡ true
+  pub only : (k : Literal) → has rest k ≡ true → (p : ℕ) × IsNeeded (clause_at s) steps (clause_level steps conflict) conflict place p × (k ≡ negated_at steps p)
 
 -- the literal is false, and above level 0
 pub record IsFalseAbove (steps : List Step) (k : Literal) : Type 0 where
@@ -47,8 +48,8 @@ pub record IsLemma (s : PortState) (t : TrailData) (conflict lits : List Literal
   -- the level to go back to is the greatest of the others, and the glue is how many levels they have
   pub back_is : back ≡ greatest (levels_of t.steps rest)
   pub glue_is : glue ≡ count_of_levels t.steps rest
-  -- they are those of the walk
-  pub walked : IsWalkClause s t.steps conflict first rest
+  -- they are those of the walk but for the removable ones
+  pub minimised : IsMinimisedClause s t.steps conflict first rest
 
 -- nothing at level 0, where the empty clause follows; else a lemma
 abbrev pub IsConclusion : PortState → TrailData → List Literal → List Literal → Conclusion → Type 0

@@ -1,5 +1,5 @@
 -- Marks on places.
-use Rattle.std.specs.Prelude.{◌≡◌, ℕ, zero, suc, ◌+◌, ◌<◌, ◌≤◌, Bool, true, false, ◌&&◌, ◌⊎◌, nat_eq, nat_lt, cond, List, length, filter}
+use Rattle.std.specs.Prelude.{◌≡◌, ℕ, zero, suc, ◌+◌, ◌<◌, ◌≤◌, Bool, true, false, ◌&&◌, ◌⊎◌, nat_eq, cond, List, length}
 use Rattle.std.specs.List.{slice_index_or, IsDistinct}
 use Rattle.std.specs.Set.{is_member}
 use Rattle.sat_words.specs.Literal.{Literal}
@@ -55,7 +55,3 @@ pub record IsWalked (held : Held) (steps : List Step) (m : ℕ) (conflict : List
   pub point : IsFirstPoint held steps m conflict u
   pub sound : (p : ℕ) → marked marks p ≡ true → IsReached held steps m conflict (suc u) p
   pub complete : (p : ℕ) → IsReached held steps m conflict (suc u) p → marked marks p ≡ true
-
--- the places of lower levels
-abbrev pub lower_of : List Step → ℕ → List ℕ → List ℕ
-lower_of steps m touched = filter (λ p. nat_lt (level_at steps p) m) touched

@@ -7,7 +7,8 @@ ghost use Rattle.analyze.specs.Lemma.{IsConclusion};
 
 use crate::lemma::{count_levels, greatest_level, write_lemma};
 use crate::mark::unmark;
-use crate::walk::{find_point, level_of_clause, put_aside};
+use crate::minimise::{Verdict, Verdicts, clear_verdicts, judge_all, put_aside};
+use crate::walk::{find_point, level_of_clause};
 use ring_port::Port;
 use ring_trail::Trail;
 use sat_words::{Cref, Lit};
@@ -37,6 +38,7 @@ pub struct Analysis {
     touched: Vec<u32>,
     aside: Vec<u32>,
     levels: Vec<bool>,
+    verdicts: Verdicts,
     lits: Vec<Lit>,
 }
 
@@ -65,6 +67,11 @@ impl Analysis {
             touched: Vec::with_capacity(alloc, room)?,
             aside: Vec::with_capacity(alloc, room)?,
             levels: vec![in alloc; false; room + 1]?,
+            verdicts: Verdicts {
+                table: vec![in alloc; Verdict::Unknown; room]?,
+                judged: Vec::with_capacity(alloc, room)?,
+                waiting: Vec::with_capacity(alloc, room)?,
+            },
             lits: Vec::with_capacity(alloc, room + 1)?,
         })
     }
@@ -77,8 +84,9 @@ impl Analysis {
     }
 
     /// Analyses a conflict, a clause that is false on the trail: the walk back to the first unique implication point
-    /// (Marques-Silva and Sakallah 1999), from the clause's level, which is the greatest of its literals'. After a lemma
-    /// `lits` has its literals, and nothing after `Empty`.
+    /// (Marques-Silva and Sakallah 1999), from the clause's level, which is the greatest of its literals'. Of what it leaves
+    /// of lower levels, a literal goes where the others of its reason are at level 0, left too, or of the same kind
+    /// (Sörensson and Biere 2009). After a lemma `lits` has its literals, and nothing after `Empty`.
     pub fn analyze<P: Port>(&mut self, port: &mut P, trail: &Trail, conflict: Cref) -> Conclusion
         requires vars { trail.now.vars ≡ self.old.vars }
         requires held { IsSome (held_at (P.state port.old) conflict.address) }
@@ -103,8 +111,23 @@ impl Analysis {
             &mut self.marks,
             &mut self.touched,
         );
-        put_aside(trail, level, self.touched.as_slice(), &mut self.aside);
+        judge_all(
+            port,
+            trail,
+            level,
+            self.marks.as_slice(),
+            self.touched.as_slice(),
+            &mut self.verdicts,
+        );
+        put_aside(
+            trail,
+            level,
+            self.touched.as_slice(),
+            self.verdicts.table.as_slice(),
+            &mut self.aside,
+        );
         unmark(&mut self.marks, self.touched.as_slice());
+        clear_verdicts(&mut self.verdicts.table, self.verdicts.judged.as_slice());
         let aside = self.aside.as_slice();
         write_lemma(trail, point, aside, &mut self.lits);
         let back = greatest_level(trail, aside);

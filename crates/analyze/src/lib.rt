@@ -1,12 +1,15 @@
-//! What a conflict teaches: the clause of its first unique implication point, the level to go back to and its glue.
+//! What a conflict teaches: the minimised clause of its first unique implication point, the level to go back to and its
+//! glue.
 //!
-//! `Walk` of specs/ says what the walk from the conflict marks and where it ends, and `Lemma` what is learned there.
+//! `Walk` of specs/ says what the walk from the conflict marks and where it ends, `Removable` what of it can go again, and
+//! `Lemma` what is learned there.
 #![tactic(auto)]
 
 mod analysis;
 mod laws;
 mod lemma;
 mod mark;
+mod minimise;
 mod walk;
 
 pub use analysis::{Analysis, Conclusion};

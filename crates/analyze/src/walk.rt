@@ -1,11 +1,11 @@
-ghost use Rattle.std.specs.Prelude.{◌≡◌, ◌≤◌, ◌<◌, IsSome, All, [], length};
+ghost use Rattle.std.specs.Prelude.{◌≡◌, ◌≤◌, IsSome, [], length};
 ghost use Rattle.std.specs.Vec.{vec_capacity};
 ghost use Rattle.ring_port.specs.PortState.{held_at, lits_at};
 ghost use Rattle.ring_trail.specs.TrailData.{IsTrail, IsFalseClause};
 ghost use Rattle.ring_trail.specs.Reasoned.{IsReasoned};
 ghost use Rattle.analyze.specs.Levels.{clause_level};
 ghost use Rattle.ring_port.specs.PortState.{clause_at};
-ghost use Rattle.analyze.specs.Marks.{IsClear, IsMarking, IsWalked, lower_of};
+ghost use Rattle.analyze.specs.Marks.{IsClear, IsMarking, IsWalked};
 
 use crate::mark::mark_clause;
 use ring_port::Port;
@@ -68,21 +68,6 @@ pub(crate) fn find_point<P: Port>(
             };
             let more = mark_clause(port, trail, reason, place, level, marks, touched);
             open = open - 1 + more;
-        }
-    }
-}
-
-/// Puts the places of lower levels aside, in their order.
-pub(crate) fn put_aside(trail: &Trail, level: u32, touched: &[u32], aside: &mut Vec<u32>)
-    requires in_range { All (λ p. p < length trail.now.steps) touched.now }
-    requires room { length touched.now ≤ vec_capacity aside.old }
-    ensures lower { aside.new.items ≡ lower_of trail.now.steps level touched.now }
-    ensures room { vec_capacity aside.new ≡ vec_capacity aside.old }
-{
-    aside.clear();
-    for place in touched {
-        if trail.level_at(*place) < level {
-            aside.push_reserved(*place);
         }
     }
 }

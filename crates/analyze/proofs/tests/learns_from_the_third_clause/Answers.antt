@@ -1,5 +1,5 @@
-use Rattle.std.proofs.Common.{refl}
-use Rattle.analyze.proofs.Row.{steps_are, held_third, third_false, row_reasoned}
+use Rattle.std.proofs.Common.{refl, false}
+use Rattle.analyze.proofs.Row.{steps_are, held_third, third_false, reasoned_second}
 use Rattle.analyze.proofs.tests.learns_from_the_third_clause.Goals as goal
 
 pub analyze-conclusion-requires-clause-held : goal.analyze-conclusion-requires-clause-held
@@ -11,7 +11,7 @@ analyze-conclusion-requires-clause-conflict g c =
     let b = rw c.new-3.ensures at c.assign.ensures.step in
     let d = rw c.new-4.ensures at c.decide-2.ensures.step in
     let e = rw c.new-5.ensures at c.assign-2.ensures.step in
-    let steps = steps_are _ _ _ _ _ (c.in_ok-trail.ensures {u = tt}).empty a b d e in
+    let steps = steps_are false 2 _ _ _ _ _ (c.in_ok-trail.ensures {u = tt}).empty a b d e in
     rw (steps, held_third) third_false
 
 pub analyze-conclusion-requires-clause-reasoned : goal.analyze-conclusion-requires-clause-reasoned
@@ -20,5 +20,5 @@ analyze-conclusion-requires-clause-reasoned g c =
     let b = rw c.new-3.ensures at c.assign.ensures.step in
     let d = rw c.new-4.ensures at c.decide-2.ensures.step in
     let e = rw c.new-5.ensures at c.assign-2.ensures.step in
-    let steps = steps_are _ _ _ _ _ (c.in_ok-trail.ensures {u = tt}).empty a b d e in
-    rw steps row_reasoned
+    let steps = steps_are false 2 _ _ _ _ _ (c.in_ok-trail.ensures {u = tt}).empty a b d e in
+    rw steps reasoned_second

@@ -1,0 +1,17 @@
+use Rattle.std.proofs.Common.{◌≡◌, ◌<◌, ℕ, true, nat_eq, take, drop}
+use Rattle.std.specs.Set.{is_member}
+use Rattle.std.specs.Vec.{vec_capacity}
+use Rattle.ring_port.specs.PortState.{clause_at}
+use Rattle.ring_trail.specs.TrailData.{level_at}
+use Rattle.analyze.specs.Verdicts.{IsJudged, is_known}
+use Rattle.analyze.proofs.minimise.judge_all.Given as goal
+
+abbrev pub invariant-loop-place : goal.invariant-loop-place
+invariant-loop-place g l = record {
+  same : g.P.Port.state l.port ≡ g.P.Port.state l.fn.port;
+  judged : IsJudged (clause_at (g.P.Port.state l.fn.port)) l.trail.steps l.trail.vars l.marks l.verdicts.table.items l.verdicts.judged.items;
+  found : (p : ℕ) → is_member nat_eq (take l.place-index l.touched) p ≡ true → level_at l.trail.steps p < l.level → is_known l.verdicts.table.items p ≡ true;
+  ahead : (p : ℕ) → is_member nat_eq (drop l.place-index l.touched) p ≡ true → is_known l.verdicts.table.items p ≡ true → ⊥;
+  judged_room : vec_capacity l.verdicts.judged ≡ vec_capacity l.fn.verdicts.judged;
+  waiting_room : vec_capacity l.verdicts.waiting ≡ vec_capacity l.fn.verdicts.waiting;
+}

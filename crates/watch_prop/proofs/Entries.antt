@@ -4,8 +4,8 @@ use Rattle.sat_words.specs.Literal.{Literal}
 use Rattle.sat_words.specs.Clause.{has}
 use Rattle.sat_words.specs.declared.shared.Cref.{Cref}
 use Rattle.rup_model.proofs.Lists.{has_In}
-use Rattle.ring_port.specs.PortState.{PortState, IsOn, held_at, lits_at}
-use Rattle.ring_port.proofs.Holdings.{All_In}
+use Rattle.ring_port.specs.PortState.{PortState, IsPort, IsOn, held_at, lits_at}
+use Rattle.ring_port.proofs.Holdings.{All_In, held_is_kept}
 use Rattle.ring_trail.specs.TrailData.{TrailData, IsTrail, IsTrueOn, IsFalseOn, HasNoPlace}
 use Rattle.watch_prop.specs.declared.watch.Entry.{Entry}
 use Rattle.watch_prop.specs.WatchData.{WatchData, Lits, attached}
@@ -33,6 +33,10 @@ on_vars vars n c l e ok there = (let on = All_In (IsOn vars) c l ok.on (has_In c
 
 pub all_on_vars : (vars n : ℕ) (c : List Literal) → n ≡ vars → IsAttachable vars c → All (λ (l : Literal). l.var ≤ n) c
 all_on_vars vars n c e ok = λ k d lt. (let z = (ok.on k d lt).high in omega arith)
+
+-- a clause that is held may be attached
+pub held_attachable : (s : PortState) (a vars : ℕ) → IsPort s → IsSome (held_at s a) → s.vars ≡ vars → IsAttachable vars (lits_at s a)
+held_attachable s a vars port held e = let k = held_is_kept s a port held in subst (λ (n : ℕ). IsAttachable n (lits_at s a)) e record { shape = k.0; on = k.1 }
 
 -- an attached clause is held
 pub attachable_held : (vars : ℕ) (s : PortState) (a : ℕ) → IsAttachable vars (lits_at s a) → IsSome (held_at s a)

@@ -1,8 +1,7 @@
 -- A trail that grows keeps what is satisfied, guarded and watched.
-use Rattle.std.proofs.Common.{◌≡◌, ◌≢◌, ℕ, zero, suc, ◌<◌, ◌≤◌, ◌-◌, ◌⊎◌, List, [], ◌∷◌, ◌++◌, length, get_or, sym, refl, ap, subst, ◌∙◌, inl, inr, arith, Contains}
-use Rattle.std.proofs.Math.ListN.{set}
+use Rattle.std.proofs.Common.{◌≡◌, ℕ, zero, suc, ◌<◌, ◌≤◌, ◌-◌, ◌⊎◌, List, [], ◌∷◌, ◌++◌, length, Some, sym, refl, ap, subst, ◌∙◌, inl, inr, arith, Contains}
 use Rattle.std.proofs.lemmas.Bool.{cases_lt}
-use Rattle.std.proofs.lemmas.List.{length-set, get_or-set_same, get_or-set_other, get_or_default, length-append, get_or_append_left, get_or-append_right, append-nil, append_assoc}
+use Rattle.std.proofs.lemmas.List.{length-append, get_or_append_left, get_or-append_right, append-nil, append_assoc}
 use Rattle.std.proofs.lemmas.List.Elements.{All-append, All-cons, All-nil}
 use Rattle.sat_words.specs.Literal.{Literal, opposite}
 use Rattle.sat_words.specs.declared.shared.Cref.{Cref}
@@ -16,6 +15,7 @@ use Rattle.watch_prop.specs.WatchData.{WatchData, Lits, attached, clauses_of}
 use Rattle.watch_prop.specs.Watched.{At, IsPair, IsGuarded, IsSettled, Watched}
 use Rattle.watch_prop.specs.Visiting.{NotFalse}
 use Rattle.watch_prop.proofs.ListsLemmas.{cases_eq, cases_lit}
+use Rattle.watch_prop.proofs.Slots.{slot_in, slot_of}
 
 -- Steps
 
@@ -71,7 +71,6 @@ IsSettled-grow lists steps more n c i s le h = record {
 pub Watched-grow : (w : WatchData) (lits : Lits) (t u : TrailData) → t.done ≤ length t.steps → Watched w lits t → HasGrown t u → u.done ≡ t.done → Watched w lits u
 Watched-grow w lits t u le k g d = record {
   vars = g.vars ∙ k.vars;
-  lists = k.lists;
   few = k.few;
   clauses = k.clauses;
   pairs = k.pairs;
@@ -86,39 +85,21 @@ Watched-grow w lits t u le k g d = record {
       ]);
 }
 
--- Places of watches
-
-pub At-same : {X : Type 0} (xs : List X) (i : ℕ) (x y : X) → At xs i x → At xs i y → x ≡ y
-At-same xs i x y a b = sym a.1 ∙ get_or_default xs i x y a.0 ∙ b.1
-
-pub At-set : {X : Type 0} (xs : List X) (j i : ℕ) (y x : X) → At (set xs j y) i x → ((i ≡ j) × (x ≡ y)) ⊎ ((i ≢ j) × At xs i x)
-At-set {X} xs j i y x a =
-    let lt : i < length xs = omega (arith, a.0, length-set xs j y) in
-    elim (cases_eq i j) as (λ _. ((i ≡ j) × (x ≡ y)) ⊎ ((i ≢ j) × At xs i x)) [
-      | inl e ↦ (
-          let b : get_or (set xs j y) j x ≡ x = subst (λ (k : ℕ). get_or (set xs j y) k x ≡ x) e a.1 in
-          inl (e, sym b ∙ get_or-set_same xs j y x (omega arith)))
-      | inr n ↦ inr (n, (lt, sym (get_or-set_other xs j i y x n) ∙ a.1))
-    ]
-
 pub opposite-eq : (m l : Literal) → opposite m ≡ opposite l → m ≡ l
 opposite-eq m l e = sym (opposite-opposite m) ∙ ap opposite e ∙ opposite-opposite l
 
 -- an attached clause
-pub clause_in : (w : WatchData) (i : ℕ) (s : Watch) → At w.watches i s → Contains (attached w) s.clause
-clause_in w i s at = In_Contains (attached w) s.clause (In_map (λ (x : Watch). x.clause) w.watches s (Contains_In w.watches s (i, at.0, at.1)))
+pub clause_in : (w : WatchData) (i : ℕ) (s : Watch) → At w.slots i (Some s) → Contains (attached w) s.clause
+clause_in w i s at = slot_in w.slots i s at
 
-pub clause_of : (w : WatchData) (lits : Lits) (i : ℕ) (s : Watch) → At w.watches i s → Contains (clauses_of w lits) (lits s.clause.address)
+pub clause_of : (w : WatchData) (lits : Lits) (i : ℕ) (s : Watch) → At w.slots i (Some s) → Contains (clauses_of w lits) (lits s.clause.address)
 clause_of w lits i s at =
     In_Contains (clauses_of w lits) (lits s.clause.address)
     (In_map (λ (c : Cref). lits c.address) (attached w) s.clause (Contains_In (attached w) s.clause (clause_in w i s at)))
 
 -- the watch of an attached clause
-pub watch_of : (w : WatchData) (c : Cref) → Contains (attached w) c → (i : ℕ) × (s : Watch) × At w.watches i s × (s.clause ≡ c)
-watch_of w c there =
-    let m = map_In (λ (x : Watch). x.clause) w.watches c (Contains_In (attached w) c there) in
-    let k = In_Contains w.watches m.0 m.1 in
-    (k.0, m.0, (k.1, k.2), m.2)
+pub watch_of : (w : WatchData) (c : Cref) → Contains (attached w) c → (i : ℕ) × (s : Watch) × At w.slots i (Some s) × (s.clause ≡ c)
+watch_of w c there = slot_of w.slots c there
 
 -- Closed
 
@@ -164,7 +145,7 @@ closed_watch lists t k c i s pair z seen =
     ]
 
 -- at a level whose steps were all propagated, each attached clause is closed, once all are settled
-pub closed_at : (w : WatchData) (lits : Lits) (t : TrailData) (k : ℕ) → Watched w lits t → w.settled ≡ length w.watches → ((p : ℕ) → p < length t.steps → level_at t.steps p ≤ k → p < t.done)
+pub closed_at : (w : WatchData) (lits : Lits) (t : TrailData) (k : ℕ) → Watched w lits t → w.settled ≡ length w.slots → ((p : ℕ) → p < length t.steps → level_at t.steps p ≤ k → p < t.done)
     → IsClosed (clauses_of w lits) t.steps k
 closed_at w lits t k v all seen c there =
     let m = map_In (λ (x : Cref). lits x.address) (attached w) c (Contains_In (clauses_of w lits) c there) in

@@ -1,10 +1,12 @@
 pub mod ListsLemmas
+pub mod Slots
 pub mod Growing
 pub mod Reasons
 pub mod Visits
 pub mod Entries
 pub mod Ranks
 pub mod Settling
+pub mod Detaching
 pub mod TrailLaws
 pub mod Row
 pub mod TrailRounds

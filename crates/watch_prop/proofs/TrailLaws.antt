@@ -29,7 +29,6 @@ Watched-decide w lits t l all k =
     let s : Step = record { lit = l; level = t.level + 1; reason = None } in
     record {
       vars = k.vars;
-      lists = k.lists;
       few = k.few;
       clauses = k.clauses;
       pairs = k.pairs;
@@ -53,7 +52,6 @@ Watched-back w lits t k trail below v =
     subst (λ (s : Step). HasTrue u.steps s.level c) (sym e) record { lit = h.lit; has_lit = h.has_lit; within = true_back (level_at t.steps p) h.lit le h.within } in
     record {
       vars = v.vars;
-      lists = v.lists;
       few = v.few;
       clauses = v.clauses;
       pairs = v.pairs;
@@ -70,10 +68,9 @@ Watched-back w lits t k trail below v =
 
 pub Watched-port : (w : WatchData) (lits more : Lits) (t : TrailData) → ((c : Cref) → Contains (attached w) c → more c.address ≡ lits c.address) → Watched w lits t → Watched w more t
 Watched-port w lits more t same v =
-    let e : (i : ℕ) (s : Watch) → At w.watches i s → lits s.clause.address ≡ more s.clause.address = λ i s at. sym (same s.clause (clause_in w i s at)) in
+    let e : (i : ℕ) (s : Watch) → At w.slots i (Some s) → lits s.clause.address ≡ more s.clause.address = λ i s at. sym (same s.clause (clause_in w i s at)) in
     record {
       vars = v.vars;
-      lists = v.lists;
       few = v.few;
       clauses = λ i s at. subst (λ (c : List Literal). IsAttachable w.vars c) (e i s at) (v.clauses i s at);
       pairs = λ i s at. subst (λ (c : List Literal). IsPair c s) (e i s at) (v.pairs i s at);

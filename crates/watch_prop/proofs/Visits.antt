@@ -1,5 +1,5 @@
 -- What each verdict leaves to be visited.
-use Rattle.std.proofs.Common.{◌≡◌, ◌≢◌, ℕ, ◌<◌, ◌≤◌, ◌+◌, ◌⊎◌, true, List, [], ◌∷◌, ◌++◌, length, get_or, take, ◌*◌, sym, refl, ap, subst, ◌∙◌, inl, inr, arith, Contains}
+use Rattle.std.proofs.Common.{◌≡◌, ◌≢◌, ℕ, ◌<◌, ◌≤◌, ◌+◌, ◌⊎◌, true, List, [], ◌∷◌, ◌++◌, length, get_or, take, Option, Some, sym, refl, ap, subst, ◌∙◌, inl, inr, arith, Contains}
 use Rattle.std.proofs.lemmas.List.{length-set, length-append, get_or_push, take_all}
 use Rattle.sat_words.specs.Literal.{Literal, opposite}
 use Rattle.sat_words.specs.Clause.{has}
@@ -14,7 +14,8 @@ use Rattle.watch_prop.specs.Watched.{At, Watched, IsGuarded, IsSettled, IsPair, 
 use Rattle.watch_prop.specs.Lists.{Removed}
 use Rattle.watch_prop.specs.Visiting.{IsVisiting, IsStale, Replaced, CanMove, IsForcing, IsSatisfied}
 use Rattle.watch_prop.proofs.ListsLemmas.{cases_eq, Listed-removed, take_split}
-use Rattle.watch_prop.proofs.Growing.{opposite-eq, Watched-grow, HasTrue-grow, At-same, At-set, IsGuarded-open}
+use Rattle.watch_prop.proofs.Growing.{opposite-eq, Watched-grow, HasTrue-grow, IsGuarded-open}
+use Rattle.watch_prop.proofs.Slots.{watch-same, watch-set}
 
 pub visiting-start : (w : WatchData) (h : Lits) (t : TrailData) (l : Literal) (n : ℕ) → n ≡ length (list_at w.lists l) → Watched w h t → IsVisiting w h t l n
 visiting-start w h t l n e v = record {
@@ -31,13 +32,12 @@ pub visiting-stale : (w : WatchData) (h : Lits) (t : TrailData) (l : Literal) (p
 visiting-stale w h t l place lists lt v stale r =
     let k = v.watched in
     let index = get_or (list_at w.lists l) place 0 in
-    let listed : (i : ℕ) (s : Watch) (m : Literal) → At w.watches i s → ((m ≡ s.first) ⊎ (m ≡ s.second)) → Contains (list_at w.lists m) i → Contains (list_at lists m) i
+    let listed : (i : ℕ) (s : Watch) (m : Literal) → At w.slots i (Some s) → ((m ≡ s.first) ⊎ (m ≡ s.second)) → Contains (list_at w.lists m) i → Contains (list_at lists m) i
     = λ i s m at side h. Listed-removed w.lists lists l place m i r h
-    (λ e q. let x = stale s (subst (λ (n : ℕ). At w.watches n s) q at) in elim side as (λ _. ⊥) [ inl f ↦ x.0 (sym f ∙ e) | inr f ↦ x.1 (sym f ∙ e) ]) in
+    (λ e q. let x = stale s (subst (λ (n : ℕ). At w.slots n (Some s)) q at) in elim side as (λ _. ⊥) [ inl f ↦ x.0 (sym f ∙ e) | inr f ↦ x.1 (sym f ∙ e) ]) in
     record {
       watched = record {
         vars = k.vars;
-        lists = r.len ∙ k.lists;
         few = k.few;
         clauses = k.clauses;
         pairs = k.pairs;
@@ -56,7 +56,7 @@ visiting-stale w h t l place lists lt v stale r =
             | inl c ↦ elim (take_split (list_at w.lists l) place i lt c) as (λ _. Contains (take place (list_at lists l)) i ⊎ HasTrue t.steps t.level (h s.clause.address)) [
               | inl b ↦ inl (subst (λ (xs : List ℕ). Contains xs i) (sym r.before) b)
               | inr q ↦ absurd (
-                  let x = stale s (subst (λ (n : ℕ). At w.watches n s) (sym q) at) in
+                  let x = stale s (subst (λ (n : ℕ). At w.slots n (Some s)) (sym q) at) in
                   elim side as (λ _. ⊥) [ inl f ↦ x.0 f | inr f ↦ x.1 f ])
             ]
             | inr s ↦ inr s
@@ -72,7 +72,7 @@ visiting-settled w h t l place lt v one = record {
         | inl c ↦ elim (take_split (list_at w.lists l) place i lt c) as (λ _. Contains (take place (list_at w.lists l)) i ⊎ HasTrue t.steps t.level (h s.clause.address)) [
           | inl b ↦ inl b
           | inr q ↦ inr (
-              let e : one.watch ≡ s = At-same w.watches i one.watch s (subst (λ (n : ℕ). At w.watches n one.watch) q one.there) at in
+              let e : one.watch ≡ s = watch-same w.slots i one.watch s (subst (λ (n : ℕ). At w.slots n (Some one.watch)) q one.there) at in
               subst (λ (x : Watch). HasTrue t.steps t.level (h x.clause.address)) e one.has_true)
         ]
         | inr s ↦ inr s
@@ -95,7 +95,7 @@ visiting-moved w x h t l m place e le lt v can r =
     let k = v.watched in
     let index = get_or (list_at w.lists l) place 0 in
     let old = can.entry.watch in
-    let old_at : At w.watches e.index old = subst (λ (n : ℕ). At w.watches n old) (sym can.entry.at_index) can.entry.there in
+    let old_at : At w.slots e.index (Some old) = subst (λ (n : ℕ). At w.slots n (Some old)) (sym can.entry.at_index) can.entry.there in
     let between : list_at r.between l ≡ list_at w.lists l = r.added.same l (λ q. can.is_open.not_l (sym q)) in
     let index_is : get_or (list_at r.between l) place 0 ≡ e.index = ap (λ (xs : List ℕ). get_or xs place 0) between ∙ sym can.entry.at_index in
     let pair = k.pairs e.index old old_at in
@@ -116,8 +116,8 @@ visiting-moved w x h t l m place e le lt v can r =
       | inr q ↦ subst (λ (y : Literal). Contains (list_at w.lists y) e.index × IsGuarded t.steps t.done (h old.clause.address) y) q.1 (z.first_listed, z.first_guarded)
     ]) in
     let new : Watch = record { clause = e.clause; first = e.other; second = m } in
-    let split : (i : ℕ) (s : Watch) → At x.watches i s → ((i ≡ e.index) × (s ≡ new)) ⊎ ((i ≢ e.index) × At w.watches i s)
-    = λ i s at. At-set w.watches e.index i new s (subst (λ (ws : List Watch). At ws i s) r.watches at) in
+    let split : (i : ℕ) (s : Watch) → At x.slots i (Some s) → ((i ≡ e.index) × (s ≡ new)) ⊎ ((i ≢ e.index) × At w.slots i (Some s))
+    = λ i s at. watch-set w.slots e.index i new s (subst (λ (ws : List (Option Watch)). At ws i (Some s)) r.slots at) in
     let new_settled : e.index < w.settled → IsSettled x.lists t.steps t.done (h e.clause.address) e.index new
     = λ small.
     let z = other_settled small in
@@ -130,8 +130,7 @@ visiting-moved w x h t l m place e le lt v can r =
     record {
       watched = record {
         vars = k.vars ∙ sym r.vars;
-        lists = r.removed.len ∙ r.added.len ∙ k.lists ∙ ap (λ (n : ℕ). 2 * n + 2) (sym r.vars);
-        few = omega (arith, r.settled, k.few, ap (λ (ws : List Watch). length ws) r.watches, length-set w.watches e.index new);
+        few = omega (arith, r.settled, k.few, ap (λ (ws : List (Option Watch)). length ws) r.slots, length-set w.slots e.index (Some new));
         clauses = λ i s at. elim (split i s at) as (λ _. IsAttachable x.vars (h s.clause.address)) [
           | inl q ↦ subst (λ (c : Cref). IsAttachable x.vars (h c.address)) (can.entry.clause ∙ ap (λ (y : Watch). y.clause) (sym q.1)) (subst (λ (n : ℕ). IsAttachable n (h old.clause.address)) (sym r.vars) (k.clauses e.index old old_at))
           | inr q ↦ subst (λ (n : ℕ). IsAttachable n (h s.clause.address)) (sym r.vars) (k.clauses i s q.1)
@@ -189,7 +188,7 @@ pub Watched-pass : (w : WatchData) (h : Lits) (t : TrailData) (l : Literal) → 
 Watched-pass w h t l open_yet made v =
     let k = v.watched in
     let level : level_at t.steps t.done ≡ t.level = k.fresh t.done (omega arith) open_yet in
-    let guard : (i : ℕ) (s : Watch) (m : Literal) → i < w.settled → At w.watches i s → ((s.first ≡ m) ⊎ (s.second ≡ m)) → IsGuarded t.steps t.done (h s.clause.address) m → IsGuarded t.steps (t.done + 1) (h s.clause.address) m
+    let guard : (i : ℕ) (s : Watch) (m : Literal) → i < w.settled → At w.slots i (Some s) → ((s.first ≡ m) ⊎ (s.second ≡ m)) → IsGuarded t.steps t.done (h s.clause.address) m → IsGuarded t.steps (t.done + 1) (h s.clause.address) m
     = λ i s m small there side old p lt q.
     elim (cases_eq p t.done) as (λ _. HasTrue t.steps (level_at t.steps p) (h s.clause.address)) [
       | inr ne ↦ old p (omega arith) q
@@ -203,7 +202,6 @@ Watched-pass w h t l open_yet made v =
     ] in
     record {
       vars = k.vars;
-      lists = k.lists;
       few = k.few;
       clauses = k.clauses;
       pairs = k.pairs;

@@ -5,4 +5,5 @@ pub mod Rounds
 pub mod Lists
 pub mod Choice
 pub mod Visiting
+pub mod Detaching
 pub mod Row

@@ -1,5 +1,5 @@
 -- The walk down the list of a literal that became false.
-use Rattle.std.specs.Prelude.{◌≡◌, ◌≢◌, ℕ, ◌<◌, ◌≤◌, ◌+◌, ◌⊎◌, true, List, Contains, length, take, slice_set}
+use Rattle.std.specs.Prelude.{◌≡◌, ◌≢◌, ℕ, ◌<◌, ◌≤◌, ◌+◌, ◌⊎◌, true, List, Some, Contains, length, take, slice_set}
 use Rattle.sat_words.specs.Literal.{Literal}
 use Rattle.sat_words.specs.Clause.{has}
 use Rattle.sat_words.specs.declared.shared.Cref.{Cref}
@@ -38,25 +38,25 @@ AllFalseBut steps c l other = (k : Literal) → has c k ≡ true → (k ≡ l) �
 -- those watches of the literal that are not below this place in its list are satisfied
 pub record IsVisiting (w : WatchData) (lits : Lits) (t : TrailData) (l : Literal) (place : ℕ) : Type 0 where
   pub watched : Watched w lits t
-  pub left : (i : ℕ) (s : Watch) → i < w.settled → At w.watches i s → (s.first ≡ l) ⊎ (s.second ≡ l) → Contains (take place (list_at w.lists l)) i ⊎ HasTrue t.steps t.level (lits s.clause.address)
+  pub left : (i : ℕ) (s : Watch) → i < w.settled → At w.slots i (Some s) → (s.first ≡ l) ⊎ (s.second ≡ l) → Contains (take place (list_at w.lists l)) i ⊎ HasTrue t.steps t.level (lits s.clause.address)
 
 -- the watch at the index, seen from one of its literals
 pub record IsEntry (w : WatchData) (index : ℕ) (l : Literal) (e : Entry) : Type 0 where
   pub at_index : e.index ≡ index
   pub watch : Watch
-  pub there : At w.watches index watch
+  pub there : At w.slots index (Some watch)
   pub clause : watch.clause ≡ e.clause
   pub sides : ((watch.first ≡ l) × (watch.second ≡ e.other)) ⊎ ((watch.second ≡ l) × (watch.first ≡ e.other))
 
 -- the watch at the index is not one of the literal
 abbrev pub IsStale : WatchData → ℕ → Literal → Type 0
-IsStale w index l = (s : Watch) → At w.watches index s → (s.first ≢ l) × (s.second ≢ l)
+IsStale w index l = (s : Watch) → At w.slots index (Some s) → (s.first ≢ l) × (s.second ≢ l)
 
 -- a new literal watches, and its list has the watch
 pub record Replaced (old new : WatchData) (e : Entry) (l k : Literal) (place : ℕ) : Type 0 where
   pub vars : new.vars ≡ old.vars
   pub settled : new.settled ≡ old.settled
-  pub watches : new.watches ≡ slice_set old.watches e.index record { clause = e.clause; first = e.other; second = k }
+  pub slots : new.slots ≡ slice_set old.slots e.index (Some record { clause = e.clause; first = e.other; second = k })
   pub between : List (List ℕ)
   pub added : Added old.lists between k e.index
   pub removed : Removed between new.lists l place
@@ -69,7 +69,7 @@ pub record CanMove (w : WatchData) (lits : Lits) (t : TrailData) (l : Literal) (
 -- a watch of the clause at this index
 pub record WatchOf (w : WatchData) (index : ℕ) (c : Cref) : Type 0 where
   pub watch : Watch
-  pub there : At w.watches index watch
+  pub there : At w.slots index (Some watch)
   pub clause : watch.clause ≡ c
 
 -- the clause of the watch at the index forces the literal, which has no value
@@ -81,7 +81,7 @@ pub record IsForcing (w : WatchData) (lits : Lits) (t : TrailData) (index : ℕ)
 -- a literal of the clause of the watch is true
 pub record IsSatisfied (w : WatchData) (lits : Lits) (t : TrailData) (index : ℕ) : Type 0 where
   pub watch : Watch
-  pub there : At w.watches index watch
+  pub there : At w.slots index (Some watch)
   pub has_true : HasTrue t.steps t.level (lits watch.clause.address)
 
 abbrev pub IsVerdict : WatchData → Lits → TrailData → Literal → ℕ → Verdict → Type 0
@@ -109,7 +109,7 @@ IsEnd w lits t (Conflict c) = IsConflict w lits t c
 -- more places in the lists, and nothing else changed
 pub record ListsMore (old new : WatchData) : Type 0 where
   pub vars : new.vars ≡ old.vars
-  pub watches : new.watches ≡ old.watches
+  pub slots : new.slots ≡ old.slots
   pub settled : new.settled ≡ old.settled
   pub len : length new.lists ≡ length old.lists
   pub kept : (m : Literal) (j : ℕ) → Contains (list_at old.lists m) j → Contains (list_at new.lists m) j
@@ -118,7 +118,7 @@ pub record ListsMore (old new : WatchData) : Type 0 where
 pub record Listed (old new : WatchData) (c : Cref) (k l : Literal) : Type 0 where
   pub vars : new.vars ≡ old.vars
   pub settled : new.settled ≡ old.settled + 1
-  pub watches : new.watches ≡ slice_set old.watches old.settled record { clause = c; first = k; second = l }
+  pub slots : new.slots ≡ slice_set old.slots old.settled (Some record { clause = c; first = k; second = l })
   pub between : List (List ℕ)
   pub added : Added old.lists between k old.settled
   pub added_too : Added between new.lists l old.settled
@@ -128,5 +128,5 @@ IsSettledTo old w lits t Done = w.settled ≡ old.settled + 1
 IsSettledTo old w lits t (Falsified c) = IsConflict w lits t c
 
 abbrev pub IsAllSettled : WatchData → Lits → TrailData → Propagated → Type 0
-IsAllSettled w lits t Quiet = w.settled ≡ length w.watches
+IsAllSettled w lits t Quiet = w.settled ≡ length w.slots
 IsAllSettled w lits t (Conflict c) = IsConflict w lits t c

@@ -1,20 +1,30 @@
 -- Clauses with the two literals that watch them, and for each literal a list of the places of its watches.
-use Rattle.std.specs.Prelude.{ℕ, List, [], map}
-use Rattle.std.specs.List.{slice_index_or}
+use Rattle.std.specs.Prelude.{ℕ, not, ◌==◌, List, [], map, Option}
+use Rattle.std.specs.List.{slice_index_or, filter, filter_map}
+use Rattle.std.specs.Option.{option_map}
 use Rattle.sat_words.specs.Literal.{Literal, code_of}
 use Rattle.sat_words.specs.declared.shared.Cref.{Cref}
 use Rattle.watch_prop.specs.declared.watch.Watch.{Watch}
 
--- the watches, one for each attached clause; the lists, one for each literal; how many of the first watches are listed
+-- the slots, each with the watch of an attached clause or free; the lists, one for each literal; how many of the first slots
+-- are settled, so that their watches are listed
 pub record WatchData : Type 0 where
   pub vars : ℕ
-  pub watches : List Watch
+  pub slots : List (Option Watch)
   pub lists : List (List ℕ)
   pub settled : ℕ
 
+-- the clause whose watch a slot has
+abbrev pub clause_in : Option Watch → Option Cref
+clause_in s = option_map (λ (x : Watch). x.clause) s
+
 -- the clauses attached, in the order in which they came
 abbrev pub attached : WatchData → List Cref
-attached w = map (λ s. s.clause) w.watches
+attached w = filter_map clause_in w.slots
+
+-- the clauses without those at this address
+abbrev pub without : List Cref → ℕ → List Cref
+without cs a = filter (λ (c : Cref). not (c.address == a)) cs
 
 -- the list of a literal
 abbrev pub list_at : List (List ℕ) → Literal → List ℕ

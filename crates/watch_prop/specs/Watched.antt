@@ -1,5 +1,5 @@
 -- What holds between watches, the clauses held and the trail: the invariant of two watched literals.
-use Rattle.std.specs.Prelude.{◌≡◌, ◌≢◌, ℕ, ◌<◌, ◌≤◌, ◌+◌, ◌*◌, true, List, Contains, All, length}
+use Rattle.std.specs.Prelude.{◌≡◌, ◌≢◌, ℕ, ◌<◌, ◌≤◌, true, List, Some, Contains, All, length}
 use Rattle.std.specs.List.{slice_index_or}
 use Rattle.sat_words.specs.Literal.{Literal, opposite}
 use Rattle.sat_words.specs.Clause.{has}
@@ -44,9 +44,8 @@ IsFresh t = (p : ℕ) → t.done ≤ p → p < length t.steps → level_at t.ste
 -- each attached clause is watched by two of its literals, and each watch that is settled is guarded from the steps propagated
 pub record Watched (w : WatchData) (lits : Lits) (t : TrailData) : Type 0 where
   pub vars : t.vars ≡ w.vars
-  pub lists : length w.lists ≡ 2 * w.vars + 2
-  pub few : w.settled ≤ length w.watches
-  pub clauses : (i : ℕ) (s : Watch) → At w.watches i s → IsAttachable w.vars (lits s.clause.address)
-  pub pairs : (i : ℕ) (s : Watch) → At w.watches i s → IsPair (lits s.clause.address) s
-  pub settled : (i : ℕ) (s : Watch) → i < w.settled → At w.watches i s → IsSettled w.lists t.steps t.done (lits s.clause.address) i s
+  pub few : w.settled ≤ length w.slots
+  pub clauses : (i : ℕ) (s : Watch) → At w.slots i (Some s) → IsAttachable w.vars (lits s.clause.address)
+  pub pairs : (i : ℕ) (s : Watch) → At w.slots i (Some s) → IsPair (lits s.clause.address) s
+  pub settled : (i : ℕ) (s : Watch) → i < w.settled → At w.slots i (Some s) → IsSettled w.lists t.steps t.done (lits s.clause.address) i s
   pub fresh : IsFresh t

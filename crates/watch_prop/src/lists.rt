@@ -37,3 +37,12 @@ pub(crate) fn take_from(lists: &mut Vec<Vec<usize>>, lit: Lit, place: usize)
 {
     lists[lit.code() as usize].swap_remove(place);
 }
+
+/// Empties all lists.
+pub(crate) fn clear_lists(lists: &mut Vec<Vec<usize>>)
+    ensures { length lists.new.items ≡ length lists.old.items }
+{
+    for i in 0..lists.len() {
+        lists[i].clear();
+    }
+}

@@ -1,19 +1,22 @@
 ghost use Rattle.std.specs.Prelude.{◌≡◌, ◌≢◌, ◌≤◌, ◌<◌, ◌+◌, ◌*◌, ◌^◌, ◌++◌, ◌∷◌, [], IfOk, OnOk, OnErr, IfSome, IfNone, IsSome, length, slice_index};
-ghost use Rattle.std.specs.Prelude.{List, Some};
+ghost use Rattle.std.specs.Prelude.{List, ℕ, Some, true, take};
 ghost use Rattle.sat_words.specs.Literal.{Literal, code_of};
+ghost use Rattle.sat_words.specs.Clause.{has};
 ghost use Rattle.sat_words.specs.declared.shared.Cref.{Cref};
 ghost use Rattle.ring_port.specs.PortState.{PortState, held_at, lits_at};
 ghost use Rattle.ring_trail.specs.TrailData.{TrailData, HasGrown, IsFalseOn};
 ghost use Rattle.ring_trail.specs.Reasoned.{ForcesAt};
 ghost use Rattle.ring_trail.specs.Closed.{TrueWithin};
-ghost use Rattle.watch_prop.specs.WatchData.{WatchData, Lits, attached, list_at};
-ghost use Rattle.watch_prop.specs.Watched.{Watched, IsFresh};
+ghost use Rattle.watch_prop.specs.declared.watch.Watch.{Watch};
+ghost use Rattle.watch_prop.specs.WatchData.{WatchData, Lits, attached, list_at, without};
+ghost use Rattle.watch_prop.specs.Watched.{At, Watched, IsFresh};
+ghost use Rattle.watch_prop.specs.Detaching.{Freed, IsGoneFrom, Compacted};
 ghost use Rattle.watch_prop.specs.Propagation.{HasReasons, IsClosedBelow, IsPropagated, attached_at};
 ghost use Rattle.watch_prop.specs.Visiting.{NotFalse, IsVisiting, IsEntry, IsStale, IsVerdict, Replaced, IsVisited, IsWalked, IsEnd, Listed, ListsMore, IsSettledTo, IsAllSettled};
 
 use crate::choice::choose;
 use crate::clause_scan::find_open;
-use crate::lists::{add_to, empty_lists, take_from};
+use crate::lists::{add_to, clear_lists, empty_lists, take_from};
 use crate::propagated::Propagated;
 use crate::watch::{Entry, Verdict, Visit, Watch};
 use ring_port::Port;
@@ -29,21 +32,22 @@ use std::marker::Model;
 /// first, then those false at the highest levels.
 #[derive(Drop)]
 pub struct Watches {
-    watches: Vec<Watch>,
+    slots: Vec<Option<Watch>>,
     lists: Vec<Vec<usize>>,
     settled: usize,
+    dead: usize,
     vars: u32,
 }
 
 impl Model for Watches {
-    ghost use Rattle.std.specs.Prelude.{◌≤◌, ◌^◌, map};
+    ghost use Rattle.std.specs.Prelude.{◌≡◌, ◌≤◌, ◌+◌, ◌*◌, ◌^◌, length, map};
     ghost use Rattle.watch_prop.specs.WatchData.{WatchData};
 
     ghost Value = { WatchData };
 
-    ghost view = { λ w. record { vars = w.vars; watches = w.watches.items; lists = map (λ l. l.items) w.lists.items; settled = w.settled } };
+    ghost view = { λ w. record { vars = w.vars; slots = w.slots.items; lists = map (λ l. l.items) w.lists.items; settled = w.settled } };
 
-    ghost invariant = { λ w. w.vars ≤ 2 ^ 30 };
+    ghost invariant = { λ w. (w.vars ≤ 2 ^ 30) × (length w.lists.items ≡ 2 * w.vars + 2) };
 }
 
 impl Watches {
@@ -55,9 +59,10 @@ impl Watches {
         ensures watched { IfOk result (λ w. (lits : Lits) (t : TrailData) → t.vars ≡ vars → IsFresh t → Watched w lits t) }
     {
         Ok(Watches {
-            watches: Vec::new(alloc),
+            slots: Vec::new(alloc),
             lists: empty_lists(alloc, 2 * vars as usize + 2)?,
             settled: 0,
+            dead: 0,
             vars,
         })
     }
@@ -81,12 +86,102 @@ impl Watches {
         let _vars = port.vars();
         let first = port.read_lit(c, 0);
         let second = port.read_lit(c, 1);
-        self.watches.push(Watch {
+        self.slots.push(Some(Watch {
             clause: c,
             first,
             second,
-        })?;
+        }))?;
         Ok(())
+    }
+
+    /// Detaches a clause that is held: it is watched no more, however often it was attached. One that isn't attached
+    /// changes nothing.
+    ///
+    /// The clause is looked for among those that wait and in the lists of its own literals. It takes no memory.
+    pub fn detach<P: Port>(&mut self, port: &mut P, c: Cref)
+        requires held { IsSome (held_at (P.state port.old) c.address) }
+        requires vars { (P.state port.old).vars ≡ self.old.vars }
+        ensures same { P.state port.new ≡ P.state port.old }
+        ensures attached { (t : TrailData) → Watched self.old (lits_at (P.state port.old)) t → attached self.new ≡ without (attached self.old) c.address }
+        ensures vars { self.new.vars ≡ self.old.vars }
+        ensures watched { (t : TrailData) → Watched self.old (lits_at (P.state port.old)) t → Watched self.new (lits_at (P.state port.old)) t }
+    {
+        self.free_waiting(c);
+        self.free_listed(port, c);
+    }
+
+    /// Frees the slots of a clause that wait.
+    fn free_waiting(&mut self, c: Cref)
+        ensures freed { Freed self.old self.new c.address }
+        ensures gone { (i : ℕ) (s : Watch) → self.old.settled ≤ i → At self.new.slots i (Some s) → s.clause.address ≢ c.address }
+    {
+        for index in self.settled..self.slots.len() {
+            self.free(index, c);
+        }
+    }
+
+    /// Frees the slots of a clause that are listed at one of its literals.
+    fn free_listed<P: Port>(&mut self, port: &mut P, c: Cref)
+        requires held { IsSome (held_at (P.state port.old) c.address) }
+        requires vars { (P.state port.old).vars ≡ self.old.vars }
+        ensures same { P.state port.new ≡ P.state port.old }
+        ensures freed { Freed self.old self.new c.address }
+        ensures gone { (l : Literal) → has (lits_at (P.state port.old) c.address) l ≡ true → IsGoneFrom self.old self.new c.address l }
+    {
+        let _vars = port.vars();
+        let size = port.head(c).size;
+        for i in 0..size {
+            let lit = port.read_lit(c, i);
+            self.free_at(lit, c);
+        }
+    }
+
+    /// Frees the slots of a clause that are listed at a literal, and drops the entries there that are stale.
+    fn free_at(&mut self, lit: Lit, c: Cref)
+        requires in_range { lit.var ≤ self.old.vars }
+        ensures freed { Freed self.old self.new c.address }
+        ensures gone { IsGoneFrom self.old self.new c.address lit }
+    {
+        let mut left = self.list_len(lit);
+        while left > 0 {
+            left -= 1;
+            self.free_entry(lit, left, c);
+        }
+    }
+
+    /// Frees the slot of an entry where it is this clause's, and drops the entry where it is stale.
+    fn free_entry(&mut self, lit: Lit, place: usize, c: Cref)
+        requires in_range { lit.var ≤ self.old.vars }
+        requires there { place < length (list_at self.old.lists lit) }
+        ensures freed { Freed self.old self.new c.address }
+        ensures gone { (s : Watch) → At self.new.slots (slice_index (list_at self.old.lists lit) place) (Some s) → s.clause.address ≢ c.address }
+        ensures before { take place (list_at self.new.lists lit) ≡ take place (list_at self.old.lists lit) }
+    {
+        let index = self.index_at(lit, place);
+        self.free(index, c);
+        if self.entry(index, lit).is_none() {
+            take_from(&mut self.lists, lit, place);
+        }
+    }
+
+    /// Frees the slot at an index where it is this clause's.
+    fn free(&mut self, index: usize, c: Cref)
+        ensures freed { Freed self.old self.new c.address }
+        ensures lists { self.new.lists ≡ self.old.lists }
+        ensures gone { (s : Watch) → At self.new.slots index (Some s) → s.clause.address ≢ c.address }
+    {
+        if index >= self.slots.len() {
+            return;
+        }
+        match self.slots[index] {
+            None => {}
+            Some(watch) => {
+                if watch.clause.address == c.address {
+                    self.slots[index] = None;
+                    self.dead = self.dead.saturating_add(1);
+                }
+            }
+        }
     }
 
     /// Makes true at the present level what the attached clauses force, until nothing more is forced or one of them is
@@ -109,10 +204,36 @@ impl Watches {
         ensures watched { Watched self.new (lits_at (P.state port.old)) trail.new }
         ensures propagated { IfOk result (IsPropagated self.new (lits_at (P.state port.old)) trail.new) }
     {
+        self.tidy();
         match self.settle(port, trail)? {
             Propagated::Conflict(clause) => Ok(Propagated::Conflict(clause)),
             Propagated::Quiet => Ok(self.run(port, trail)?),
         }
+    }
+
+    /// Compacts the slots where most of them are free. All clauses wait then.
+    ///
+    /// The clauses and the lists that have to be looked at again are fewer than the clauses that were detached since the
+    /// slots were last compacted.
+    fn tidy(&mut self)
+        ensures attached { attached self.new ≡ attached self.old }
+        ensures vars { self.new.vars ≡ self.old.vars }
+        ensures watched { (lits : Lits) (t : TrailData) → Watched self.old lits t → Watched self.new lits t }
+    {
+        let used = self.slots.len().saturating_sub(self.dead);
+        if self.dead > used.saturating_add(self.lists.len()) {
+            self.compact();
+        }
+    }
+
+    /// Takes the free slots out and empties the lists, so that all clauses wait.
+    fn compact(&mut self)
+        ensures { Compacted self.old self.new }
+    {
+        self.slots.retain(|slot| slot.is_some());
+        clear_lists(&mut self.lists);
+        self.settled = 0;
+        self.dead = 0;
     }
 
     /// Looks at all clauses that wait.
@@ -128,7 +249,7 @@ impl Watches {
         ensures watched { Watched self.new (lits_at (P.state port.old)) trail.new }
         ensures settled { IfOk result (IsAllSettled self.new (lits_at (P.state port.old)) trail.new) }
     {
-        while self.settled < self.watches.len() {
+        while self.settled < self.slots.len() {
             match self.settle_one(port, trail)? {
                 Visit::Done => {}
                 Visit::Falsified(clause) => return Ok(Propagated::Conflict(clause)),
@@ -137,10 +258,10 @@ impl Watches {
         Ok(Propagated::Quiet)
     }
 
-    /// Looks at the first clause that waits, and lists it.
+    /// Looks at the first slot that waits, and lists its clause where it isn't free.
     fn settle_one<P: Port>(&mut self, port: &mut P, trail: &mut Trail) -> Result<Visit, AllocError>
         requires watched { Watched self.old (lits_at (P.state port.old)) trail.old }
-        requires there { self.old.settled < length self.old.watches }
+        requires there { self.old.settled < length self.old.slots }
         requires below { IsClosedBelow self.old (lits_at (P.state port.old)) trail.old }
         requires reasons { HasReasons (attached self.old) (P.state port.old) trail.old.steps }
         ensures same { P.state port.new ≡ P.state port.old }
@@ -150,9 +271,16 @@ impl Watches {
         ensures done { trail.new.done ≡ trail.old.done }
         ensures reasons { HasReasons (attached self.old) (P.state port.old) trail.new.steps }
         ensures watched { Watched self.new (lits_at (P.state port.old)) trail.new }
+        ensures len { length self.new.slots ≡ length self.old.slots }
         ensures settled { IfOk result (IsSettledTo self.old self.new (lits_at (P.state port.old)) trail.new) }
     {
-        let clause = self.watches[self.settled].clause;
+        let clause = match self.slots[self.settled] {
+            None => {
+                self.settled += 1;
+                return Ok(Visit::Done);
+            }
+            Some(watch) => watch.clause,
+        };
         let best = choose(port, trail, clause);
         let present = trail.present();
         if best.high <= present {
@@ -169,8 +297,7 @@ impl Watches {
 
     /// Lists the first clause that waits, at two of its literals.
     fn list(&mut self, clause: Cref, first: Lit, second: Lit) -> Result<(), AllocError>
-        requires lists { length self.old.lists ≡ 2 * self.old.vars + 2 }
-        requires there { self.old.settled < length self.old.watches }
+        requires there { self.old.settled < length self.old.slots }
         requires first { first.var ≤ self.old.vars }
         requires second { second.var ≤ self.old.vars }
         ensures ok { OnOk result (Listed self.old self.new clause first second) }
@@ -178,11 +305,11 @@ impl Watches {
     {
         add_to(&mut self.lists, first, self.settled)?;
         add_to(&mut self.lists, second, self.settled)?;
-        self.watches[self.settled] = Watch {
+        self.slots[self.settled] = Some(Watch {
             clause,
             first,
             second,
-        };
+        });
         self.settled += 1;
         Ok(())
     }
@@ -194,6 +321,7 @@ impl Watches {
         ensures same { P.state port.new ≡ P.state port.old }
         ensures attached { attached self.new ≡ attached self.old }
         ensures settled { self.new.settled ≡ self.old.settled }
+        ensures len { length self.new.slots ≡ length self.old.slots }
         ensures vars { self.new.vars ≡ self.old.vars }
         ensures grown { HasGrown trail.old trail.new }
         ensures reasons { HasReasons (attached self.old) (P.state port.old) trail.new.steps }
@@ -223,6 +351,7 @@ impl Watches {
         ensures same { P.state port.new ≡ P.state port.old }
         ensures attached { attached self.new ≡ attached self.old }
         ensures settled { self.new.settled ≡ self.old.settled }
+        ensures len { length self.new.slots ≡ length self.old.slots }
         ensures vars { self.new.vars ≡ self.old.vars }
         ensures grown { HasGrown trail.old trail.new }
         ensures reasons { HasReasons (attached self.old) (P.state port.old) trail.new.steps }
@@ -257,6 +386,7 @@ impl Watches {
         ensures same { P.state port.new ≡ P.state port.old }
         ensures attached { attached self.new ≡ attached self.old }
         ensures settled { self.new.settled ≡ self.old.settled }
+        ensures len { length self.new.slots ≡ length self.old.slots }
         ensures vars { self.new.vars ≡ self.old.vars }
         ensures grown { HasGrown trail.old trail.new }
         ensures reasons { HasReasons (attached self.old) (P.state port.old) trail.new.steps }
@@ -304,7 +434,6 @@ impl Watches {
 
     /// Lets a new literal watch in the place of one that became false.
     fn replace(&mut self, entry: Entry, lit: Lit, new: Lit, place: usize) -> Result<(), AllocError>
-        requires lists { length self.old.lists ≡ 2 * self.old.vars + 2 }
         requires entry { IsEntry self.old (slice_index (list_at self.old.lists lit) place) lit entry }
         requires in_range { lit.var ≤ self.old.vars }
         requires new_in_range { new.var ≤ self.old.vars }
@@ -315,11 +444,11 @@ impl Watches {
     {
         add_to(&mut self.lists, new, entry.index)?;
         take_from(&mut self.lists, lit, place);
-        self.watches[entry.index] = Watch {
+        self.slots[entry.index] = Some(Watch {
             clause: entry.clause,
             first: entry.other,
             second: new,
-        };
+        });
         Ok(())
     }
 
@@ -328,10 +457,13 @@ impl Watches {
         ensures found { IfSome result (IsEntry self.now index lit) }
         ensures stale { IfNone result (IsStale self.now index lit) }
     {
-        if index >= self.watches.len() {
+        if index >= self.slots.len() {
             return None;
         }
-        let watch = &self.watches[index];
+        let watch = match &self.slots[index] {
+            None => return None,
+            Some(watch) => watch,
+        };
         if watch.first == lit {
             return Some(Entry {
                 index,
@@ -350,14 +482,14 @@ impl Watches {
     }
 
     fn list_len(&self, lit: Lit) -> usize
-        requires { code_of lit < length self.now.lists }
+        requires { lit.var ≤ self.now.vars }
         ensures { result ≡ length (list_at self.now.lists lit) }
     {
         self.lists[lit.code() as usize].len()
     }
 
     fn index_at(&self, lit: Lit, place: usize) -> usize
-        requires in_range { code_of lit < length self.now.lists }
+        requires in_range { lit.var ≤ self.now.vars }
         requires there { place < length (list_at self.now.lists lit) }
         ensures { result ≡ slice_index (list_at self.now.lists lit) place }
     {

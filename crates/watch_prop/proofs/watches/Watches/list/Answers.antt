@@ -12,9 +12,9 @@ on_err (Err e) P p = p
 more : (v w : WatchData) (a b : List (List ℕ)) (l : Literal) (i : ℕ) → v ≡ w → Added v.lists a l i → b ≡ a → ListsMore w record v { lists = b }
 more v w a b l i e r q =
     subst (λ (x : WatchData). ListsMore x record v { lists = b }) e
-    record { vars = refl; watches = refl; settled = refl; len = ap (λ (xs : List (List ℕ)). length xs) q ∙ r.len; kept = λ m j h. subst (λ (xs : List (List ℕ)). Contains (list_at xs m) j) (sym q) (r.kept m j h) }
+    record { vars = refl; slots = refl; settled = refl; len = ap (λ (xs : List (List ℕ)). length xs) q ∙ r.len; kept = λ m j h. subst (λ (xs : List (List ℕ)). Contains (list_at xs m) j) (sym q) (r.kept m j h) }
 
 pub returns-in_err-add_to-2-clause-err : goal.returns-in_err-add_to-2-clause-err
 returns-in_err-add_to-2-clause-err c =
     on_err c.from_residual-in_err-add_to-2.result _
-    (more record { vars = c.self.inside.vars; watches = c.self.inside.watches.items; lists = ListsOf c.self.inside.lists; settled = c.self.inside.settled } c.args.self.now (ListsOf c.add_to.new.lists) (ListsOf c.add_to-2.new.lists) c.args.first c.self.inside.settled c.self.view_is c.in_ok-add_to.ensures.ok c.in_err-add_to-2.ensures.err)
+    (more record { vars = c.self.inside.vars; slots = c.self.inside.slots.items; lists = ListsOf c.self.inside.lists; settled = c.self.inside.settled } c.args.self.now (ListsOf c.add_to.new.lists) (ListsOf c.add_to-2.new.lists) c.args.first c.self.inside.settled c.self.view_is c.in_ok-add_to.ensures.ok c.in_err-add_to-2.ensures.err)

@@ -1,9 +1,6 @@
-use Rattle.std.proofs.Common.{◌≡◌, List, subst, ap, length, arith}
-use Rattle.std.proofs.lemmas.List.{length-map}
-use Rattle.sat_words.specs.declared.shared.Cref.{Cref}
+use Rattle.std.proofs.Common.{◌≡◌, ◌∙◌, subst, length, arith}
 use Rattle.ring_port.specs.PortState.{PortState, lits_at}
 use Rattle.ring_trail.specs.TrailData.{TrailData}
-use Rattle.watch_prop.specs.declared.watch.Watch.{Watch}
 use Rattle.watch_prop.specs.declared.propagated.Propagated.{Propagated}
 use Rattle.watch_prop.specs.declared.propagated.Propagated.TheVariants.{Quiet, Conflict}
 use Rattle.watch_prop.specs.WatchData.{WatchData, Lits, attached}
@@ -14,24 +11,27 @@ use Rattle.watch_prop.proofs.Growing.{HasGrown-trans, closed_at}
 use Rattle.watch_prop.proofs.Reasons.{Reasons-over, Reasons-back}
 use Rattle.watch_prop.proofs.watches.Watches.propagate.Goals as goal
 
-came_to : (x y : WatchData) (h : Lits) (u : TrailData) (o : Propagated) → x.settled ≡ length x.watches → attached y ≡ attached x → y.settled ≡ x.settled → Watched y h u → IsEnd y h u o → IsPropagated y h u o
-came_to x y h u Quiet all same settled k end = record {
+came_to : (x y : WatchData) (h : Lits) (u : TrailData) (o : Propagated) → x.settled ≡ length x.slots → length y.slots ≡ length x.slots → y.settled ≡ x.settled → Watched y h u → IsEnd y h u o → IsPropagated y h u o
+came_to x y h u Quiet all len settled k end = record {
   done = end;
   closed = λ n. closed_at y h u n k
-      (let f = λ (s : Watch). s.clause in omega (arith, all, settled, length-map y.watches f, length-map x.watches f, ap (λ (cs : List Cref). length cs) same))
+      (omega (arith, all, settled, len))
       (λ p lt le. omega (arith, end));
 }
-came_to x y h u (Conflict c) all same settled k end = end
+came_to x y h u (Conflict c) all len settled k end = end
+
+pub settle-requires-clause-watched : goal.settle-requires-clause-watched
+settle-requires-clause-watched g c = c.tidy.ensures.watched (lits_at (g.P.Port.state c.args.port.now)) c.args.trail.now c.requires.watched
 
 pub run-requires-clause-reasons : goal.run-requires-clause-reasons
-run-requires-clause-reasons g c = Reasons-over (attached c.args.self.now) (attached c.settle.new.self) (g.P.Port.state c.args.port.now) (g.P.Port.state c.settle.new.port) c.settle.new.trail.steps c.settle.ensures.attached c.settle.ensures.same c.settle.ensures.reasons
+run-requires-clause-reasons g c = Reasons-over (attached c.tidy.new.self) (attached c.settle.new.self) (g.P.Port.state c.args.port.now) (g.P.Port.state c.settle.new.port) c.settle.new.trail.steps c.settle.ensures.attached c.settle.ensures.same c.settle.ensures.reasons
 
 pub returns-in_ok-run-in-Quiet-clause-propagated : goal.returns-in_ok-run-in-Quiet-clause-propagated
 returns-in_ok-run-in-Quiet-clause-propagated g c =
     let lits = lits_at (g.P.Port.state c.args.port.now) in
-    let all : c.settle.new.self.settled ≡ length c.settle.new.self.watches
+    let all : c.settle.new.self.settled ≡ length c.settle.new.self.slots
     = subst (λ (o : Propagated). IsAllSettled c.settle.new.self lits c.settle.new.trail o) c.in-Quiet.is c.in_ok-clause.ensures.settled in
-    came_to c.settle.new.self c.run.new.self lits c.run.new.trail c.in_ok-run-in-Quiet.field-0 all c.run.ensures.attached c.run.ensures.settled
+    came_to c.settle.new.self c.run.new.self lits c.run.new.trail c.in_ok-run-in-Quiet.field-0 all c.run.ensures.len c.run.ensures.settled
     (subst (λ (s : PortState). Watched c.run.new.self (lits_at s) c.run.new.trail) c.settle.ensures.same c.run.ensures.watched)
     (subst (λ (s : PortState). IsEnd c.run.new.self (lits_at s) c.run.new.trail c.in_ok-run-in-Quiet.field-0) c.settle.ensures.same c.in_ok-run-in-Quiet.ensures.ended)
 
@@ -42,7 +42,7 @@ pub returns-in_ok-run-in-Quiet-clause-grown : goal.returns-in_ok-run-in-Quiet-cl
 returns-in_ok-run-in-Quiet-clause-grown g c = HasGrown-trans c.args.trail.now c.settle.new.trail c.run.new.trail c.settle.ensures.grown c.run.ensures.grown
 
 pub returns-in_err-run-in-Quiet-clause-reasons : goal.returns-in_err-run-in-Quiet-clause-reasons
-returns-in_err-run-in-Quiet-clause-reasons g c = Reasons-back (attached c.args.self.now) (attached c.settle.new.self) (g.P.Port.state c.args.port.now) (g.P.Port.state c.settle.new.port) c.run.new.trail.steps c.settle.ensures.attached c.settle.ensures.same c.run.ensures.reasons
+returns-in_err-run-in-Quiet-clause-reasons g c = Reasons-back (attached c.args.self.now) (attached c.settle.new.self) (g.P.Port.state c.args.port.now) (g.P.Port.state c.settle.new.port) c.run.new.trail.steps (c.settle.ensures.attached ∙ c.tidy.ensures.attached) c.settle.ensures.same c.run.ensures.reasons
 
 pub returns-in_ok-run-in-Quiet-clause-reasons : goal.returns-in_ok-run-in-Quiet-clause-reasons
-returns-in_ok-run-in-Quiet-clause-reasons g c = Reasons-back (attached c.args.self.now) (attached c.settle.new.self) (g.P.Port.state c.args.port.now) (g.P.Port.state c.settle.new.port) c.run.new.trail.steps c.settle.ensures.attached c.settle.ensures.same c.run.ensures.reasons
+returns-in_ok-run-in-Quiet-clause-reasons g c = Reasons-back (attached c.args.self.now) (attached c.settle.new.self) (g.P.Port.state c.args.port.now) (g.P.Port.state c.settle.new.port) c.run.new.trail.steps (c.settle.ensures.attached ∙ c.tidy.ensures.attached) c.settle.ensures.same c.run.ensures.reasons

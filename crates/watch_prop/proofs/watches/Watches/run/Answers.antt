@@ -74,6 +74,7 @@ loop-lit-preserved g c =
       same = c.walk.ensures.same ∙ i.same;
       attached = c.walk.ensures.attached ∙ i.attached;
       settled = c.walk.ensures.settled ∙ i.settled;
+      len = c.walk.ensures.len ∙ i.len;
       vars = c.walk.ensures.vars ∙ i.vars;
       grown = rw c.pass.ensures.done (HasGrown-pass c.args.trail.now u (u.done + 1) (HasGrown-trans c.args.trail.now t u i.grown grown));
       reasons = rw c.pass.ensures.done (Reasons-back (attached c.args.self.now) (attached c.loop-lit.self) (g.P.Port.state c.args.port.now) (g.P.Port.state c.loop-lit.port) u.steps i.attached i.same c.walk.ensures.reasons);

@@ -1,4 +1,4 @@
-use Rattle.std.proofs.Common.{◌≡◌, ◌-◌}
+use Rattle.std.proofs.Common.{◌≡◌, ◌-◌, length}
 use Rattle.ring_port.specs.PortState.{lits_at}
 use Rattle.ring_trail.specs.TrailData.{HasGrown}
 use Rattle.watch_prop.specs.WatchData.{attached}
@@ -12,6 +12,7 @@ invariant-loop-lit g l = record {
   same : g.P.Port.state l.port ≡ g.P.Port.state l.fn.port;
   attached : attached l.self ≡ attached l.fn.self;
   settled : l.self.settled ≡ l.fn.self.settled;
+  len : length l.self.slots ≡ length l.fn.self.slots;
   vars : l.self.vars ≡ l.fn.self.vars;
   grown : HasGrown l.fn.trail l.trail;
   watched : Watched l.self (lits_at (g.P.Port.state l.fn.port)) l.trail;

@@ -18,4 +18,4 @@ invariant-loop-self g l = record {
 }
 
 abbrev pub decreases-loop-self : goal.decreases-loop-self
-decreases-loop-self g l = length l.self.watches - l.self.settled
+decreases-loop-self g l = length l.self.slots - l.self.settled

@@ -1,48 +1,60 @@
-use Rattle.std.proofs.Common.{refl, length, arith}
+use Rattle.std.proofs.Common.{◌≡◌, ◌<◌, ◌+◌, Option, None, sym, subst, refl, length, get_or, arith}
 use Rattle.ring_port.specs.PortState.{lits_at}
-use Rattle.watch_prop.specs.WatchData.{attached}
+use Rattle.ring_trail.specs.TrailData.{TrailData}
+use Rattle.watch_prop.specs.declared.watch.Watch.{Watch}
+use Rattle.watch_prop.specs.WatchData.{WatchData, Lits, attached}
+use Rattle.watch_prop.specs.Watched.{Watched}
 use Rattle.watch_prop.specs.Lists.{ListsOf}
 use Rattle.watch_prop.proofs.Growing.{HasGrown-refl, Watched-grow, clause_in}
 use Rattle.watch_prop.proofs.Reasons.{attached_some}
 use Rattle.watch_prop.proofs.Entries.{on_vars, attachable_held}
 use Rattle.watch_prop.proofs.Ranks.{among_has, best-forces, rank-open}
-use Rattle.watch_prop.proofs.Settling.{waiting, same_clauses, best-conflict, Watched-listed, Watched-more}
+use Rattle.watch_prop.proofs.Slots.{free_read}
+use Rattle.watch_prop.proofs.Settling.{waiting, Watched-skip, same_clauses, best-conflict, Watched-listed, Watched-more}
 use Rattle.watch_prop.proofs.watches.Watches.settle_one.Goals as goal
+
+skipped : (v w : WatchData) (h : Lits) (t : TrailData) (o : Option Watch) → v ≡ w → w.settled < length w.slots → o ≡ get_or v.slots v.settled o → o ≡ None → Watched w h t → Watched record v { settled = v.settled + 1 } h t
+skipped v w h t o e lt q is k =
+    Watched-skip v h t (v.settled + 1) (subst (λ (x : WatchData). Watched x h t) (sym e) k) (subst (λ (x : WatchData). x.settled < length x.slots) (sym e) lt) refl (λ s at. free_read v.slots v.settled o s q is at)
+
+pub returns-in-None-clause-watched : goal.returns-in-None-clause-watched
+returns-in-None-clause-watched g c =
+    skipped record { vars = c.self.inside.vars; slots = c.self.inside.slots.items; lists = ListsOf c.self.inside.lists; settled = c.self.inside.settled } c.args.self.now (lits_at (g.P.Port.state c.args.port.now)) c.args.trail.now c.index.result.now c.self.view_is c.requires.there c.index.ensures c.in-None.is c.requires.watched
 
 pub returns-then-best-present-clause-settled : goal.returns-then-best-present-clause-settled
 returns-then-best-present-clause-settled g c =
-    let at = waiting record { vars = c.self.inside.vars; watches = c.self.inside.watches.items; lists = ListsOf c.self.inside.lists; settled = c.self.inside.settled } c.args.self.now c.index.result.now c.self.view_is c.requires.there c.index.ensures in
-    best-conflict c.args.self.now (lits_at (g.P.Port.state c.args.port.now)) c.args.trail.now c.index.result.now c.args.self.now.settled c.choose-best.result at c.choose-best.ensures.best (let q = c.if-best-present.true in omega (arith, q, c.present-present.ensures.level))
+    let at = waiting record { vars = c.self.inside.vars; slots = c.self.inside.slots.items; lists = ListsOf c.self.inside.lists; settled = c.self.inside.settled } c.args.self.now c.index.result.now c.in-Some.watch c.self.view_is c.requires.there c.index.ensures c.in-Some.is in
+    best-conflict c.args.self.now (lits_at (g.P.Port.state c.args.port.now)) c.args.trail.now c.in-Some.watch c.args.self.now.settled c.choose-best.result at c.choose-best.ensures.best (let q = c.if-best-present.true in omega (arith, q, c.present-present.ensures.level))
 
 pub list-requires-clause-first : goal.list-requires-clause-first
 list-requires-clause-first g c =
-    let at = waiting record { vars = c.self.inside.vars; watches = c.self.inside.watches.items; lists = ListsOf c.self.inside.lists; settled = c.self.inside.settled } c.args.self.now c.index.result.now c.self.view_is c.requires.there c.index.ensures in
-    let d = lits_at (g.P.Port.state c.args.port.now) c.index.result.now.clause.address in
-    on_vars c.args.self.now.vars c.args.self.now.vars d c.choose-best.result.first refl (c.requires.watched.clauses c.args.self.now.settled c.index.result.now at) (among_has d (length d) c.choose-best.result.first c.choose-best.ensures.best.first_in)
+    let at = waiting record { vars = c.self.inside.vars; slots = c.self.inside.slots.items; lists = ListsOf c.self.inside.lists; settled = c.self.inside.settled } c.args.self.now c.index.result.now c.in-Some.watch c.self.view_is c.requires.there c.index.ensures c.in-Some.is in
+    let d = lits_at (g.P.Port.state c.args.port.now) c.in-Some.watch.clause.address in
+    on_vars c.args.self.now.vars c.args.self.now.vars d c.choose-best.result.first refl (c.requires.watched.clauses c.args.self.now.settled c.in-Some.watch at) (among_has d (length d) c.choose-best.result.first c.choose-best.ensures.best.first_in)
 
 pub list-requires-clause-second : goal.list-requires-clause-second
 list-requires-clause-second g c =
-    let at = waiting record { vars = c.self.inside.vars; watches = c.self.inside.watches.items; lists = ListsOf c.self.inside.lists; settled = c.self.inside.settled } c.args.self.now c.index.result.now c.self.view_is c.requires.there c.index.ensures in
-    let d = lits_at (g.P.Port.state c.args.port.now) c.index.result.now.clause.address in
-    on_vars c.args.self.now.vars c.args.self.now.vars d c.choose-best.result.second refl (c.requires.watched.clauses c.args.self.now.settled c.index.result.now at) (among_has d (length d) c.choose-best.result.second c.choose-best.ensures.best.second_in)
+    let at = waiting record { vars = c.self.inside.vars; slots = c.self.inside.slots.items; lists = ListsOf c.self.inside.lists; settled = c.self.inside.settled } c.args.self.now c.index.result.now c.in-Some.watch c.self.view_is c.requires.there c.index.ensures c.in-Some.is in
+    let d = lits_at (g.P.Port.state c.args.port.now) c.in-Some.watch.clause.address in
+    on_vars c.args.self.now.vars c.args.self.now.vars d c.choose-best.result.second refl (c.requires.watched.clauses c.args.self.now.settled c.in-Some.watch at) (among_has d (length d) c.choose-best.result.second c.choose-best.ensures.best.second_in)
 
 pub list-requires-2-clause-first : goal.list-requires-2-clause-first
 list-requires-2-clause-first g c =
-    let at = waiting record { vars = c.self.inside.vars; watches = c.self.inside.watches.items; lists = ListsOf c.self.inside.lists; settled = c.self.inside.settled } c.args.self.now c.index.result.now c.self.view_is c.requires.there c.index.ensures in
-    let d = lits_at (g.P.Port.state c.args.port.now) c.index.result.now.clause.address in
-    on_vars c.args.self.now.vars c.args.self.now.vars d c.choose-best.result.first refl (c.requires.watched.clauses c.args.self.now.settled c.index.result.now at) (among_has d (length d) c.choose-best.result.first c.choose-best.ensures.best.first_in)
+    let at = waiting record { vars = c.self.inside.vars; slots = c.self.inside.slots.items; lists = ListsOf c.self.inside.lists; settled = c.self.inside.settled } c.args.self.now c.index.result.now c.in-Some.watch c.self.view_is c.requires.there c.index.ensures c.in-Some.is in
+    let d = lits_at (g.P.Port.state c.args.port.now) c.in-Some.watch.clause.address in
+    on_vars c.args.self.now.vars c.args.self.now.vars d c.choose-best.result.first refl (c.requires.watched.clauses c.args.self.now.settled c.in-Some.watch at) (among_has d (length d) c.choose-best.result.first c.choose-best.ensures.best.first_in)
 
 pub list-requires-2-clause-second : goal.list-requires-2-clause-second
 list-requires-2-clause-second g c =
-    let at = waiting record { vars = c.self.inside.vars; watches = c.self.inside.watches.items; lists = ListsOf c.self.inside.lists; settled = c.self.inside.settled } c.args.self.now c.index.result.now c.self.view_is c.requires.there c.index.ensures in
-    let d = lits_at (g.P.Port.state c.args.port.now) c.index.result.now.clause.address in
-    on_vars c.args.self.now.vars c.args.self.now.vars d c.choose-best.result.second refl (c.requires.watched.clauses c.args.self.now.settled c.index.result.now at) (among_has d (length d) c.choose-best.result.second c.choose-best.ensures.best.second_in)
+    let at = waiting record { vars = c.self.inside.vars; slots = c.self.inside.slots.items; lists = ListsOf c.self.inside.lists; settled = c.self.inside.settled } c.args.self.now c.index.result.now c.in-Some.watch c.self.view_is c.requires.there c.index.ensures c.in-Some.is in
+    let d = lits_at (g.P.Port.state c.args.port.now) c.in-Some.watch.clause.address in
+    on_vars c.args.self.now.vars c.args.self.now.vars d c.choose-best.result.second refl (c.requires.watched.clauses c.args.self.now.settled c.in-Some.watch at) (among_has d (length d) c.choose-best.result.second c.choose-best.ensures.best.second_in)
 
 pub make_true-requires-clause-in_range : goal.make_true-requires-clause-in_range
 make_true-requires-clause-in_range g c =
-    let at = waiting record { vars = c.self.inside.vars; watches = c.self.inside.watches.items; lists = ListsOf c.self.inside.lists; settled = c.self.inside.settled } c.args.self.now c.index.result.now c.self.view_is c.requires.there c.index.ensures in
-    let d = lits_at (g.P.Port.state c.args.port.now) c.index.result.now.clause.address in
-    on_vars c.args.self.now.vars c.args.trail.now.vars d c.choose-best.result.first c.requires.watched.vars (c.requires.watched.clauses c.args.self.now.settled c.index.result.now at) (among_has d (length d) c.choose-best.result.first c.choose-best.ensures.best.first_in)
+    let at = waiting record { vars = c.self.inside.vars; slots = c.self.inside.slots.items; lists = ListsOf c.self.inside.lists; settled = c.self.inside.settled } c.args.self.now c.index.result.now c.in-Some.watch c.self.view_is c.requires.there c.index.ensures c.in-Some.is in
+    let d = lits_at (g.P.Port.state c.args.port.now) c.in-Some.watch.clause.address in
+    on_vars c.args.self.now.vars c.args.trail.now.vars d c.choose-best.result.first c.requires.watched.vars (c.requires.watched.clauses c.args.self.now.settled c.in-Some.watch at) (among_has d (length d) c.choose-best.result.first c.choose-best.ensures.best.first_in)
 
 pub make_true-requires-clause-not_false : goal.make_true-requires-clause-not_false
 make_true-requires-clause-not_false g c =
@@ -50,14 +62,14 @@ make_true-requires-clause-not_false g c =
 
 pub returns-then-best-present-2-clause-attached : goal.returns-then-best-present-2-clause-attached
 returns-then-best-present-2-clause-attached g c =
-    let at = waiting record { vars = c.self.inside.vars; watches = c.self.inside.watches.items; lists = ListsOf c.self.inside.lists; settled = c.self.inside.settled } c.args.self.now c.index.result.now c.self.view_is c.requires.there c.index.ensures in
-    same_clauses c.args.self.now c.list.new.self c.index.result.now c.choose-best.result.first c.choose-best.result.second at c.in_ok-list.ensures.ok
+    let at = waiting record { vars = c.self.inside.vars; slots = c.self.inside.slots.items; lists = ListsOf c.self.inside.lists; settled = c.self.inside.settled } c.args.self.now c.index.result.now c.in-Some.watch c.self.view_is c.requires.there c.index.ensures c.in-Some.is in
+    same_clauses c.args.self.now c.list.new.self c.in-Some.watch c.choose-best.result.first c.choose-best.result.second at c.in_ok-list.ensures.ok
 
 pub returns-then-best-present-2-clause-watched : goal.returns-then-best-present-2-clause-watched
 returns-then-best-present-2-clause-watched g c =
-    let at = waiting record { vars = c.self.inside.vars; watches = c.self.inside.watches.items; lists = ListsOf c.self.inside.lists; settled = c.self.inside.settled } c.args.self.now c.index.result.now c.self.view_is c.requires.there c.index.ensures in
+    let at = waiting record { vars = c.self.inside.vars; slots = c.self.inside.slots.items; lists = ListsOf c.self.inside.lists; settled = c.self.inside.settled } c.args.self.now c.index.result.now c.in-Some.watch c.self.view_is c.requires.there c.index.ensures c.in-Some.is in
     let t = c.args.trail.now in
-    Watched-listed c.args.self.now c.list.new.self (lits_at (g.P.Port.state c.args.port.now)) t t c.index.result.now c.choose-best.result c.requires.watched c.present-present.ensures.trail at c.choose-best.ensures.best
+    Watched-listed c.args.self.now c.list.new.self (lits_at (g.P.Port.state c.args.port.now)) t t c.in-Some.watch c.choose-best.result c.requires.watched c.present-present.ensures.trail at c.choose-best.ensures.best
     (let q = c.if-best-present.false in omega (arith, q, c.present-present.ensures.level)) (HasGrown-refl t) refl
     (λ le. absurd (let q = c.if-best-present-2.true in omega (arith, q, c.present-present.ensures.level, le))) c.requires.below c.in_ok-list.ensures.ok
 
@@ -68,33 +80,33 @@ returns-in_err-list-2-clause-watched g c =
 
 pub returns-clause-attached : goal.returns-clause-attached
 returns-clause-attached g c =
-    let at = waiting record { vars = c.self.inside.vars; watches = c.self.inside.watches.items; lists = ListsOf c.self.inside.lists; settled = c.self.inside.settled } c.args.self.now c.index.result.now c.self.view_is c.requires.there c.index.ensures in
-    same_clauses c.args.self.now c.list-2.new.self c.index.result.now c.choose-best.result.first c.choose-best.result.second at c.in_ok-list-2.ensures.ok
+    let at = waiting record { vars = c.self.inside.vars; slots = c.self.inside.slots.items; lists = ListsOf c.self.inside.lists; settled = c.self.inside.settled } c.args.self.now c.index.result.now c.in-Some.watch c.self.view_is c.requires.there c.index.ensures c.in-Some.is in
+    same_clauses c.args.self.now c.list-2.new.self c.in-Some.watch c.choose-best.result.first c.choose-best.result.second at c.in_ok-list-2.ensures.ok
 
 pub returns-clause-watched : goal.returns-clause-watched
 returns-clause-watched g c =
-    let at = waiting record { vars = c.self.inside.vars; watches = c.self.inside.watches.items; lists = ListsOf c.self.inside.lists; settled = c.self.inside.settled } c.args.self.now c.index.result.now c.self.view_is c.requires.there c.index.ensures in
+    let at = waiting record { vars = c.self.inside.vars; slots = c.self.inside.slots.items; lists = ListsOf c.self.inside.lists; settled = c.self.inside.settled } c.args.self.now c.index.result.now c.in-Some.watch c.self.view_is c.requires.there c.index.ensures c.in-Some.is in
     let t = c.args.trail.now in
-    Watched-listed c.args.self.now c.list-2.new.self (lits_at (g.P.Port.state c.args.port.now)) t c.make_true.new.trail c.index.result.now c.choose-best.result c.requires.watched c.present-present.ensures.trail at c.choose-best.ensures.best
+    Watched-listed c.args.self.now c.list-2.new.self (lits_at (g.P.Port.state c.args.port.now)) t c.make_true.new.trail c.in-Some.watch c.choose-best.result c.requires.watched c.present-present.ensures.trail at c.choose-best.ensures.best
     (let q = c.if-best-present.false in omega (arith, q, c.present-present.ensures.level)) c.make_true.ensures.grown c.make_true.ensures.done
     (λ le. c.make_true.ensures.made) c.requires.below c.in_ok-list-2.ensures.ok
 
 pub returns-in_err-list-2-clause-reasons : goal.returns-in_err-list-2-clause-reasons
 returns-in_err-list-2-clause-reasons g c =
-    let at = waiting record { vars = c.self.inside.vars; watches = c.self.inside.watches.items; lists = ListsOf c.self.inside.lists; settled = c.self.inside.settled } c.args.self.now c.index.result.now c.self.view_is c.requires.there c.index.ensures in
+    let at = waiting record { vars = c.self.inside.vars; slots = c.self.inside.slots.items; lists = ListsOf c.self.inside.lists; settled = c.self.inside.settled } c.args.self.now c.index.result.now c.in-Some.watch c.self.view_is c.requires.there c.index.ensures c.in-Some.is in
     let s = g.P.Port.state c.args.port.now in
     let w = c.args.self.now in
-    let d = lits_at s c.index.result.now.clause.address in
+    let d = lits_at s c.in-Some.watch.clause.address in
     c.make_true.ensures.reasons (attached w) s d
-    (attached_some (attached w) s c.index.result.now.clause (clause_in w w.settled c.index.result.now at) (attachable_held w.vars s c.index.result.now.clause.address (c.requires.watched.clauses w.settled c.index.result.now at)))
+    (attached_some (attached w) s c.in-Some.watch.clause (clause_in w w.settled c.in-Some.watch at) (attachable_held w.vars s c.in-Some.watch.clause.address (c.requires.watched.clauses w.settled c.in-Some.watch at)))
     (best-forces c.args.trail.now d c.choose-best.result c.choose-best.ensures.best (let q = c.if-best-present-2.false in omega (arith, q, c.present-present.ensures.level))) c.requires.reasons
 
 pub returns-clause-reasons : goal.returns-clause-reasons
 returns-clause-reasons g c =
-    let at = waiting record { vars = c.self.inside.vars; watches = c.self.inside.watches.items; lists = ListsOf c.self.inside.lists; settled = c.self.inside.settled } c.args.self.now c.index.result.now c.self.view_is c.requires.there c.index.ensures in
+    let at = waiting record { vars = c.self.inside.vars; slots = c.self.inside.slots.items; lists = ListsOf c.self.inside.lists; settled = c.self.inside.settled } c.args.self.now c.index.result.now c.in-Some.watch c.self.view_is c.requires.there c.index.ensures c.in-Some.is in
     let s = g.P.Port.state c.args.port.now in
     let w = c.args.self.now in
-    let d = lits_at s c.index.result.now.clause.address in
+    let d = lits_at s c.in-Some.watch.clause.address in
     c.make_true.ensures.reasons (attached w) s d
-    (attached_some (attached w) s c.index.result.now.clause (clause_in w w.settled c.index.result.now at) (attachable_held w.vars s c.index.result.now.clause.address (c.requires.watched.clauses w.settled c.index.result.now at)))
+    (attached_some (attached w) s c.in-Some.watch.clause (clause_in w w.settled c.in-Some.watch at) (attachable_held w.vars s c.in-Some.watch.clause.address (c.requires.watched.clauses w.settled c.in-Some.watch at)))
     (best-forces c.args.trail.now d c.choose-best.result c.choose-best.ensures.best (let q = c.if-best-present-2.false in omega (arith, q, c.present-present.ensures.level))) c.requires.reasons

@@ -1,4 +1,5 @@
-use Rattle.std.proofs.Common.{Contains, ◌≡◌, ℕ, ◌<◌, ◌≤◌, ◌+◌, List, ap, subst, sym, refl, ◌∙◌, arith, length, map, get_or, Some, None, not}
+use Rattle.std.proofs.Common.{Contains, ◌≡◌, ℕ, ◌<◌, ◌≤◌, ◌+◌, List, ap, subst, sym, refl, ◌∙◌, arith, length, get_or, Option, Some, None, not}
+use Rattle.std.specs.List.{filter_map}
 use Rattle.std.specs.Option.{option_map}
 use Rattle.sat_words.specs.Literal.{Literal}
 use Rattle.sat_words.specs.declared.shared.Cref.{Cref}
@@ -9,7 +10,7 @@ use Rattle.ring_trail.proofs.Values.{step_of-no_place}
 use Rattle.ring_trail.proofs.Causes.{IsReasoned-forced}
 use Rattle.watch_prop.specs.declared.watch.Watch.{Watch}
 use Rattle.watch_prop.specs.declared.watch.Entry.{Entry}
-use Rattle.watch_prop.specs.WatchData.{WatchData, Lits, attached, list_at}
+use Rattle.watch_prop.specs.WatchData.{WatchData, Lits, clause_in as slot_clause, attached, list_at}
 use Rattle.watch_prop.specs.Watched.{At, Watched, IsAttachable}
 use Rattle.watch_prop.specs.Lists.{ListsOf, Removed}
 use Rattle.watch_prop.specs.Propagation.{attached_at, HasReasons}
@@ -18,7 +19,7 @@ use Rattle.watch_prop.proofs.ListsLemmas.{Removed-len}
 use Rattle.watch_prop.proofs.Growing.{HasGrown-step, clause_in}
 use Rattle.watch_prop.proofs.Reasons.{attached_some}
 use Rattle.watch_prop.proofs.Entries.{entry_attachable, on_vars, attachable_held}
-use Rattle.watch_prop.proofs.Settling.{attached-set}
+use Rattle.watch_prop.proofs.Slots.{clauses-set}
 use Rattle.watch_prop.proofs.Visits.{visiting-stale, visiting-settled, visiting-moved, visiting-forced}
 use Rattle.watch_prop.proofs.watches.Watches.visit.Given.{Over}
 use Rattle.watch_prop.proofs.watches.Watches.visit.Goals as goal
@@ -61,11 +62,11 @@ stale_visiting w v h t l place lists e lt k s r =
 
 pub returns-in-Stale-clause-watched : goal.returns-in-Stale-clause-watched
 returns-in-Stale-clause-watched g c =
-    (stale_visiting c.args.self.now record { vars = c.self.inside.vars; watches = c.self.inside.watches.items; lists = ListsOf c.self.inside.lists; settled = c.self.inside.settled } (lits_at (g.P.Port.state c.args.port.now)) c.args.trail.now c.args.lit c.args.place (ListsOf c.take_from.new.lists) c.self.view_is c.requires.there c.requires.visiting c.in-Stale.ensures.verdict c.take_from.ensures).0.watched
+    (stale_visiting c.args.self.now record { vars = c.self.inside.vars; slots = c.self.inside.slots.items; lists = ListsOf c.self.inside.lists; settled = c.self.inside.settled } (lits_at (g.P.Port.state c.args.port.now)) c.args.trail.now c.args.lit c.args.place (ListsOf c.take_from.new.lists) c.self.view_is c.requires.there c.requires.visiting c.in-Stale.ensures.verdict c.take_from.ensures).0.watched
 
 pub returns-in-Stale-clause-visited : goal.returns-in-Stale-clause-visited
 returns-in-Stale-clause-visited g c =
-    stale_visiting c.args.self.now record { vars = c.self.inside.vars; watches = c.self.inside.watches.items; lists = ListsOf c.self.inside.lists; settled = c.self.inside.settled } (lits_at (g.P.Port.state c.args.port.now)) c.args.trail.now c.args.lit c.args.place (ListsOf c.take_from.new.lists) c.self.view_is c.requires.there c.requires.visiting c.in-Stale.ensures.verdict c.take_from.ensures
+    stale_visiting c.args.self.now record { vars = c.self.inside.vars; slots = c.self.inside.slots.items; lists = ListsOf c.self.inside.lists; settled = c.self.inside.settled } (lits_at (g.P.Port.state c.args.port.now)) c.args.trail.now c.args.lit c.args.place (ListsOf c.take_from.new.lists) c.self.view_is c.requires.there c.requires.visiting c.in-Stale.ensures.verdict c.take_from.ensures
 
 pub returns-in-Settled-clause-visited : goal.returns-in-Settled-clause-visited
 returns-in-Settled-clause-visited g c =
@@ -74,9 +75,9 @@ returns-in-Settled-clause-visited g c =
 -- a watch that changes its literals keeps its clause
 clauses_same : (w x : WatchData) (h : Lits) (t : TrailData) (l m : Literal) (index place : ℕ) (e : Entry) → CanMove w h t l index e m → Replaced w x e l m place → attached x ≡ attached w
 clauses_same w x h t l m index place e can r =
-    let old_at : At w.watches e.index can.entry.watch = subst (λ (n : ℕ). At w.watches n can.entry.watch) (sym can.entry.at_index) can.entry.there in
-    ap (λ (ws : List Watch). map (λ (s : Watch). s.clause) ws) r.watches
-    ∙ attached-set w.watches e.index can.entry.watch record { clause = e.clause; first = e.other; second = m } old_at (sym can.entry.clause)
+    let old_at : At w.slots e.index (Some can.entry.watch) = subst (λ (n : ℕ). At w.slots n (Some can.entry.watch)) (sym can.entry.at_index) can.entry.there in
+    ap (λ (ws : List (Option Watch)). filter_map slot_clause ws) r.slots
+    ∙ clauses-set w.slots e.index can.entry.watch record { clause = e.clause; first = e.other; second = m } old_at (sym can.entry.clause)
 
 moved : (g : Over) (c : goal.In_ok-replace-in-Moves g) → IsVisiting c.replace.new.self (lits_at (g.P.Port.state c.args.port.now)) c.args.trail.now c.args.lit c.args.place
 moved g c =

@@ -12,6 +12,7 @@ invariant-loop-place g l = record {
   same : g.P.Port.state l.port ≡ g.P.Port.state l.fn.port;
   attached : attached l.self ≡ attached l.fn.self;
   settled : l.self.settled ≡ l.fn.self.settled;
+  len : length l.self.slots ≡ length l.fn.self.slots;
   vars : l.self.vars ≡ l.fn.self.vars;
   grown : HasGrown l.fn.trail l.trail;
   done : l.trail.done ≡ l.fn.trail.done;

@@ -1,0 +1,18 @@
+use Rattle.std.proofs.Common.{◌≡◌, ℕ, Some, None, subst, arith}
+use Rattle.std.proofs.Math.ListN.{set}
+use Rattle.watch_prop.specs.declared.watch.Watch.{Watch}
+use Rattle.watch_prop.specs.WatchData.{WatchData}
+use Rattle.watch_prop.specs.Watched.{At}
+use Rattle.watch_prop.specs.Lists.{ListsOf}
+use Rattle.watch_prop.specs.Detaching.{Freed}
+use Rattle.watch_prop.proofs.Slots.{watch_read}
+use Rattle.watch_prop.proofs.Detaching.{Freed-slot}
+use Rattle.watch_prop.proofs.watches.Watches.free.Goals as goal
+
+freed : (v w : WatchData) (i : ℕ) (s : Watch) (a : ℕ) → v ≡ w → At v.slots i (Some s) → s.clause.address ≡ a → Freed w record v { slots = set v.slots i None } a
+freed v w i s a e at q = subst (λ (x : WatchData). Freed x record v { slots = set v.slots i None } a) e (Freed-slot v i s a at q)
+
+pub returns-then-watch-c-clause-freed : goal.returns-then-watch-c-clause-freed
+returns-then-watch-c-clause-freed c =
+    freed record { vars = c.self.inside.vars; slots = c.self.inside.slots.items; lists = ListsOf c.self.inside.lists; settled = c.self.inside.settled } c.args.self.now c.args.index c.in-Some.watch c.args.c.address c.self.view_is
+    (watch_read c.self.inside.slots.items c.args.index c.index.result.now c.in-Some.watch (let q = c.if-index-len.false in omega (arith, q, c.len.ensures)) c.index.ensures c.in-Some.is) c.if-watch-c.true

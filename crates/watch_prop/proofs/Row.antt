@@ -1,10 +1,18 @@
 -- What holds of the port of the tests.
-use Rattle.std.proofs.Common.{◌≡◌, ◌∙◌, ℕ, List, [], ◌∷◌, Some, None, IsSome, sym, refl, ap, inl, inr, ◌⊎◌}
+use Rattle.std.proofs.Common.{◌≡◌, ◌∙◌, ℕ, ◌<◌, ◌≤◌, List, [], ◌∷◌, ◌++◌, Some, None, IsSome, Contains, sym, refl, ap, subst, inl, inr, ◌⊎◌, arith}
 use Rattle.std.specs.List.{slice_get}
 use Rattle.std.proofs.lemmas.Bool.{cases_eq, ne_eqb, false≢true}
+use Rattle.std.proofs.lemmas.List.Elements.{Contains-append_left}
 use Rattle.sat_words.specs.Literal.{Literal}
-use Rattle.ring_port.specs.PortState.{held_at}
-use Rattle.watch_prop.specs.Row.{first, second, third, row_state}
+use Rattle.sat_words.specs.declared.shared.Cref.{Cref}
+use Rattle.ring_port.specs.PortState.{held_at, lits_at}
+use Rattle.ring_trail.specs.declared.step.Step.{Step}
+use Rattle.ring_trail.specs.TrailData.{TrailData, level_at}
+use Rattle.watch_prop.specs.WatchData.{WatchData, attached}
+use Rattle.watch_prop.specs.Watched.{Watched, IsFresh}
+use Rattle.watch_prop.specs.Propagation.{HasReasons}
+use Rattle.watch_prop.specs.Row.{first, second, third, row_state, IsReady}
+use Rattle.watch_prop.proofs.TrailLaws.{Reasons-more}
 
 -- what is held at an address
 pub held_first : held_at row_state 1 ≡ Some first
@@ -59,3 +67,45 @@ same_two x y k l e f = cc
 
 pub same_three : (x y z k l m : Literal) → x ≡ k → y ≡ l → z ≡ m → (x ∷ y ∷ z ∷ []) ≡ (k ∷ l ∷ m ∷ [])
 same_three x y z k l m e f g = cc
+
+-- Trails without steps
+
+abbrev pub empty_trail : TrailData
+empty_trail = record { vars = 5; level = 0; steps = []; done = 0 }
+
+nothing : (p : ℕ) → 0 ≤ p → p < 0 → level_at [] p ≡ 0
+nothing p ge lt = absurd (omega arith)
+
+pub fresh : (t : TrailData) → t ≡ empty_trail → IsFresh t
+fresh t e = subst (λ (u : TrailData). IsFresh u) (sym e) nothing
+
+-- no step needs a reason
+pub reasons_of_none : (cs : List Cref) (steps : List Step) → steps ≡ [] → HasReasons cs row_state steps
+reasons_of_none cs steps e = subst (λ (xs : List Step). HasReasons cs row_state xs) (sym e) (record { caused = λ p h. absurd (omega arith) })
+
+pub ready : (w : WatchData) (t : TrailData) → t ≡ empty_trail → Watched w (lits_at row_state) t → IsReady w t
+ready w t e k = record {
+  watched = k;
+  level = ap (λ (u : TrailData). u.level) e;
+  vars = ap (λ (u : TrailData). u.vars) e;
+  reasons = reasons_of_none (attached w) t.steps (ap (λ (u : TrailData). u.steps) e);
+}
+
+-- over another trail
+pub Watched-anew : (w : WatchData) (t u : TrailData) → IsReady w t → u ≡ empty_trail → Watched w (lits_at row_state) u
+Watched-anew w t u r e = subst (λ (x : TrailData). Watched w (lits_at row_state) x) (sym e) (record {
+  vars = sym r.vars ∙ r.watched.vars;
+  few = r.watched.few;
+  clauses = r.watched.clauses;
+  pairs = r.watched.pairs;
+  settled = λ i s small at.
+      let z = r.watched.settled i s small at in
+      record { first_listed = z.first_listed; second_listed = z.second_listed; first_guarded = λ p lt q. absurd (omega arith); second_guarded = λ p lt q. absurd (omega arith) };
+  fresh = nothing;
+})
+
+-- one clause more
+pub reasons_with : (w x : WatchData) (c : Cref) (steps : List Step) → attached x ≡ attached w ++ c ∷ [] → HasReasons (attached w) row_state steps → HasReasons (attached x) row_state steps
+reasons_with w x c steps e h =
+    Reasons-more (attached w) (attached x) row_state row_state steps
+    (λ d there. (subst (λ (cs : List Cref). Contains cs d) (sym e) (Contains-append_left (attached w) (c ∷ []) d there), refl)) (λ l q. q) h

@@ -1,4 +1,4 @@
-ghost use Rattle.std.specs.Prelude.{◌≡◌, ◌<◌, ◌≤◌, Some, None, true, OnOk, length, slice_get};
+ghost use Rattle.std.specs.Prelude.{◌≡◌, ◌<◌, ◌≤◌, [], Some, None, true, OnOk, length, slice_get};
 ghost use Rattle.sat_words.specs.Clause.{has};
 ghost use Rattle.ring_port.specs.PortState.{lits_at};
 ghost use Rattle.ring_trail.specs.TrailData.{value_of};
@@ -136,5 +136,85 @@ fn two_units(rt: HostRuntime) -> Result<(), Fail> {
     let outcome = propagate_unit(&mut watches, &mut trail, Lit::new(4, false))?;
     assert!(rt; outcome != Propagated::Quiet);
     assert_eq!(rt; trail.present(), 0);
+    Ok(())
+}
+
+// Without the first clause, 1 gives nothing, and then 4 gives 5 by the second and -2 by the third. Without the second, 1
+// and 4 give nothing, until the first is back, which gives 2, and -5 by the third.
+#[test]
+fn detached(rt: HostRuntime) -> Result<(), Fail> {
+    let mut watches = Watches::new(rt.alloc(), 5)?;
+    let mut trail = Trail::new(rt.alloc(), 5)?;
+    watches.attach(&mut Row, &trail, Cref { address: 1 })?;
+    watches.attach(&mut Row, &trail, Cref { address: 2 })?;
+    watches.attach(&mut Row, &trail, Cref { address: 3 })?;
+    watches.detach(&mut Row, Cref { address: 1 });
+    assert_eq!(rt; trail.value(1), None);
+    assert_eq!(rt;
+        propagate_unit(&mut watches, &mut trail, Lit::new(1, false))?,
+        Propagated::Quiet
+    );
+    assert_eq!(rt; trail.value(2), None);
+    assert_eq!(rt; trail.value(4), None);
+    assert_eq!(rt;
+        propagate_unit(&mut watches, &mut trail, Lit::new(4, false))?,
+        Propagated::Quiet
+    );
+    assert_eq!(rt; trail.value(5), Some(true));
+    assert_eq!(rt; trail.value(2), Some(false));
+    let mut again = Trail::new(rt.alloc(), 5)?;
+    watches.detach(&mut Row, Cref { address: 2 });
+    assert_eq!(rt; again.value(1), None);
+    assert_eq!(rt;
+        propagate_unit(&mut watches, &mut again, Lit::new(1, false))?,
+        Propagated::Quiet
+    );
+    assert_eq!(rt; again.value(4), None);
+    assert_eq!(rt;
+        propagate_unit(&mut watches, &mut again, Lit::new(4, false))?,
+        Propagated::Quiet
+    );
+    assert_eq!(rt; again.value(5), None);
+    watches.attach(&mut Row, &again, Cref { address: 1 })?;
+    assert_eq!(rt; watches.propagate(&mut Row, &mut again)?, Propagated::Quiet);
+    assert_eq!(rt; again.value(2), Some(true));
+    assert_eq!(rt; again.value(5), Some(false));
+    Ok(())
+}
+
+/// Attaches the third clause and detaches it, so many times, over a trail without steps.
+fn come_and_go(watches: &mut Watches, trail: &Trail, count: u32) -> Result<(), AllocError>
+    requires ready { IsReady watches.old trail.now }
+    requires no_steps { trail.now.steps ≡ [] }
+    ensures ready { IsReady watches.new trail.now }
+{
+    for _ in 0..count {
+        watches.attach(&mut Row, trail, Cref { address: 3 })?;
+        watches.detach(&mut Row, Cref { address: 3 });
+    }
+    Ok(())
+}
+
+// Once most slots are free they are compacted, and the two other clauses stay: 1 gives 2 by the first, and then 4 gives 5
+// by the second, which the third would make false.
+#[test]
+fn compacted(rt: HostRuntime) -> Result<(), Fail> {
+    let mut watches = Watches::new(rt.alloc(), 5)?;
+    let mut trail = Trail::new(rt.alloc(), 5)?;
+    watches.attach(&mut Row, &trail, Cref { address: 1 })?;
+    watches.attach(&mut Row, &trail, Cref { address: 2 })?;
+    come_and_go(&mut watches, &trail, 40)?;
+    assert_eq!(rt; trail.value(1), None);
+    assert_eq!(rt;
+        propagate_unit(&mut watches, &mut trail, Lit::new(1, false))?,
+        Propagated::Quiet
+    );
+    assert_eq!(rt; trail.value(2), Some(true));
+    assert_eq!(rt; trail.value(4), None);
+    assert_eq!(rt;
+        propagate_unit(&mut watches, &mut trail, Lit::new(4, false))?,
+        Propagated::Quiet
+    );
+    assert_eq!(rt; trail.value(5), Some(true));
     Ok(())
 }

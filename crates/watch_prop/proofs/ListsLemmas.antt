@@ -4,7 +4,7 @@ use Rattle.std.proofs.Math.ListN.{set}
 use Rattle.std.specs.List.{swap_remove}
 use Rattle.std.proofs.lemmas.Bool.{cases_Bool, cases_lt}
 use Rattle.std.proofs.lemmas.Bool.Decides.{nat_tests}
-use Rattle.std.proofs.lemmas.List.{length-set, get_or-set_same, get_or-set_other, length-take-le, get_or-take, get_or_default, take-take, take-set, take_more, map-set, get_or-map, set-get_or, length-take}
+use Rattle.std.proofs.lemmas.List.{length-set, get_or-set_same, get_or-set_other, length-take-le, get_or-take, get_or_default, take-take, take-set, take_more, map-set, get_or-map, set-get_or, length-take, length-map}
 use Rattle.std.proofs.lemmas.List.Elements.{Contains-append_left, Contains-push, Contains-push_cases}
 use Rattle.sat_words.specs.Literal.{Literal, code_of, literal_of}
 use Rattle.sat_words.specs.Codes.{literal_of-code_of}
@@ -105,3 +105,7 @@ lists_as_were v l y x code e lt q same =
 
 pub Removed-len : (old new : List (List ℕ)) (l : Literal) (p : ℕ) → p < length (list_at old l) → Removed old new l p → p ≤ length (list_at new l)
 Removed-len old new l p lt r = omega (arith, length-take p (list_at new l), length-take p (list_at old l), ap (λ (xs : List ℕ). length xs) r.before)
+
+-- how many lists there are
+pub same_many : (u v : Vec (Vec ℕ)) → length (ListsOf v) ≡ length (ListsOf u) → length v.items ≡ length u.items
+same_many u v e = omega (arith, e, length-map v.items (λ x. x.items), length-map u.items (λ x. x.items))

@@ -1,7 +1,8 @@
 -- Slots, and the clauses whose watches they have.
-use Rattle.std.proofs.Common.{◌≡◌, ◌≢◌, ℕ, zero, suc, ◌<◌, ◌⊎◌, ◌==◌, Bool, true, false, not, cond, List, [], ◌∷◌, ◌++◌, length, get_or, Option, Some, None, sym, refl, ap, subst, ◌∙◌, inl, inr, arith, Contains}
+use Rattle.std.proofs.Common.{◌≡◌, ◌≢◌, ℕ, zero, suc, ◌<◌, ◌+◌, ◌⊎◌, ◌==◌, Bool, true, false, not, cond, List, [], ◌∷◌, ◌++◌, length, get_or, Option, Some, None, sym, refl, ap, subst, ◌∙◌, inl, inr, arith, Contains}
 use Rattle.std.proofs.Math.ListN.{set}
 use Rattle.std.specs.List.{filter, filter_map}
+use Rattle.std.specs.Option.{is_some}
 use Rattle.std.proofs.lemmas.Bool.Decides.{nat_tests}
 use Rattle.std.proofs.lemmas.List.{length-set, get_or-set_same, get_or-set_other, get_or_default, get_or_append_left, get_or_push, length-append}
 use Rattle.std.proofs.lemmas.List.Elements.{filter_map-append}
@@ -136,3 +137,35 @@ clauses-kept (None ∷ ws) test some = skip (test None) ∙ clauses-kept ws test
     skip : (b : Bool) → clauses (cond b (None ∷ filter test ws) (filter test ws)) ≡ clauses (filter test ws)
     skip true = refl
     skip false = refl
+
+-- How many slots are free
+
+pub one-freed : (ws : List (Option Watch)) (i : ℕ) (s : Watch) → At ws i (Some s) → length (clauses ws) ≡ length (clauses (set ws i None)) + 1
+one-freed [] i s at = absurd (let q = at.0 in omega arith)
+one-freed (None ∷ ws) zero s at = absurd (let z : None ≡ Some s = at.1 in cc)
+one-freed (Some x ∷ ws) zero s at = omega arith
+one-freed (None ∷ ws) (suc i) s at = one-freed ws i s (let q = at.0 in omega arith, at.1)
+one-freed (Some x ∷ ws) (suc i) s at = let r = one-freed ws i s (let q = at.0 in omega arith, at.1) in omega (arith, r)
+
+each-kept : (ws : List (Option Watch)) → length (clauses (filter is_some ws)) ≡ length (filter is_some ws)
+each-kept [] = refl
+each-kept (Some x ∷ ws) = let r = each-kept ws in omega (arith, r)
+each-kept (None ∷ ws) = each-kept ws
+
+-- so many slots are free
+abbrev pub HasFree : List (Option Watch) → ℕ → Type 0
+HasFree ws n = length (clauses ws) + n ≡ length ws
+
+pub HasFree-push : (ws xs : List (Option Watch)) (s : Watch) (n : ℕ) → xs ≡ ws ++ Some s ∷ [] → HasFree ws n → HasFree xs n
+HasFree-push ws xs s n e h =
+    subst (λ (ys : List (Option Watch)). HasFree ys n) (sym e)
+    (omega (arith, h, length-append ws (Some s ∷ []), ap (λ (cs : List Cref). length cs) (clauses-push ws s), length-append (clauses ws) (s.clause ∷ [])))
+
+pub HasFree-freed : (ws : List (Option Watch)) (i : ℕ) (s : Watch) (n : ℕ) → At ws i (Some s) → HasFree ws n → HasFree (set ws i None) (n + 1)
+HasFree-freed ws i s n at h = omega (arith, h, one-freed ws i s at, length-set ws i None)
+
+pub HasFree-set : (ws : List (Option Watch)) (i : ℕ) (s new : Watch) (n : ℕ) → At ws i (Some s) → new.clause ≡ s.clause → HasFree ws n → HasFree (set ws i (Some new)) n
+HasFree-set ws i s new n at e h = omega (arith, h, length-set ws i (Some new), ap (λ (cs : List Cref). length cs) (clauses-set ws i s new at e))
+
+pub HasFree-none : (ws xs : List (Option Watch)) → xs ≡ filter is_some ws → HasFree xs 0
+HasFree-none ws xs e = subst (λ (ys : List (Option Watch)). HasFree ys 0) (sym e) (let r = each-kept ws in omega (arith, r))

@@ -18,9 +18,10 @@ pub record Freed (old new : WatchData) (a : ℕ) : Type 0 where
 abbrev pub IsGoneFrom : WatchData → WatchData → ℕ → Literal → Type 0
 IsGoneFrom old new a l = (i : ℕ) (s : Watch) → At new.slots i (Some s) → (s.first ≡ l) ⊎ (s.second ≡ l) → Contains (list_at old.lists l) i → s.clause.address ≢ a
 
--- the slots in use are those before, all of which wait
+-- the slots are those that were in use before, and all wait
 pub record Compacted (old new : WatchData) : Type 0 where
   pub vars : new.vars ≡ old.vars
   pub settled : new.settled ≡ 0
+  pub full : length new.slots ≡ length (attached new)
   pub attached : attached new ≡ attached old
   pub only : (i : ℕ) (s : Watch) → At new.slots i (Some s) → Contains old.slots (Some s)

@@ -12,7 +12,7 @@ ghost use Rattle.watch_prop.specs.WatchData.{WatchData, Lits, attached, list_at,
 ghost use Rattle.watch_prop.specs.Watched.{At, Watched, IsFresh};
 ghost use Rattle.watch_prop.specs.Detaching.{Freed, IsGoneFrom, Compacted};
 ghost use Rattle.watch_prop.specs.Propagation.{HasReasons, IsClosedBelow, IsPropagated, attached_at};
-ghost use Rattle.watch_prop.specs.Visiting.{NotFalse, IsVisiting, IsEntry, IsStale, IsVerdict, Replaced, IsVisited, IsWalked, IsEnd, Listed, ListsMore, IsSettledTo, IsAllSettled};
+ghost use Rattle.watch_prop.specs.Visiting.{NotFalse, IsVisiting, IsEntry, IsStale, IsVerdict, WatchOf, Replaced, IsVisited, IsWalked, IsEnd, Listed, ListsMore, IsSettledTo, IsAllSettled};
 
 use crate::choice::choose;
 use crate::clause_scan::find_open;
@@ -41,13 +41,14 @@ pub struct Watches {
 
 impl Model for Watches {
     ghost use Rattle.std.specs.Prelude.{◌≡◌, ◌≤◌, ◌+◌, ◌*◌, ◌^◌, length, map};
-    ghost use Rattle.watch_prop.specs.WatchData.{WatchData};
+    ghost use Rattle.std.specs.List.{filter_map};
+    ghost use Rattle.watch_prop.specs.WatchData.{WatchData, clause_in};
 
     ghost Value = { WatchData };
 
     ghost view = { λ w. record { vars = w.vars; slots = w.slots.items; lists = map (λ l. l.items) w.lists.items; settled = w.settled } };
 
-    ghost invariant = { λ w. (w.vars ≤ 2 ^ 30) × (length w.lists.items ≡ 2 * w.vars + 2) };
+    ghost invariant = { λ w. (w.vars ≤ 2 ^ 30) × (length w.lists.items ≡ 2 * w.vars + 2) × (length (filter_map clause_in w.slots.items) + w.dead ≡ length w.slots.items) };
 }
 
 impl Watches {
@@ -178,7 +179,7 @@ impl Watches {
             Some(watch) => {
                 if watch.clause.address == c.address {
                     self.slots[index] = None;
-                    self.dead = self.dead.saturating_add(1);
+                    self.dead += 1;
                 }
             }
         }
@@ -219,9 +220,10 @@ impl Watches {
         ensures attached { attached self.new ≡ attached self.old }
         ensures vars { self.new.vars ≡ self.old.vars }
         ensures watched { (lits : Lits) (t : TrailData) → Watched self.old lits t → Watched self.new lits t }
+        ensures few { length self.new.slots ≤ 2 * length (attached self.new) + length self.new.lists }
     {
-        let used = self.slots.len().saturating_sub(self.dead);
-        if self.dead > used.saturating_add(self.lists.len()) {
+        let used = self.slots.len() - self.dead;
+        if self.dead.saturating_sub(used) > self.lists.len() {
             self.compact();
         }
     }
@@ -297,7 +299,7 @@ impl Watches {
 
     /// Lists the first clause that waits, at two of its literals.
     fn list(&mut self, clause: Cref, first: Lit, second: Lit) -> Result<(), AllocError>
-        requires there { self.old.settled < length self.old.slots }
+        requires there { WatchOf self.old self.old.settled clause }
         requires first { first.var ≤ self.old.vars }
         requires second { second.var ≤ self.old.vars }
         ensures ok { OnOk result (Listed self.old self.new clause first second) }

@@ -11,7 +11,7 @@ use Rattle.watch_prop.specs.Watched.{Watched, IsAttachable, IsPair}
 use Rattle.watch_prop.specs.Lists.{ListsOf}
 use Rattle.watch_prop.proofs.Entries.{held_attachable}
 use Rattle.watch_prop.proofs.Ranks.{has_at, two_apart}
-use Rattle.watch_prop.proofs.Slots.{clauses-push}
+use Rattle.watch_prop.proofs.Slots.{clauses-push, HasFree-push}
 use Rattle.watch_prop.proofs.Settling.{Watched-push}
 use Rattle.watch_prop.proofs.watches.Watches.attach.Goals as goal
 
@@ -50,3 +50,9 @@ returns-clause-watched g c t k =
     let ok = held_attachable p c.args.c.address c.args.self.now.vars c.vars-vars.ensures.port c.requires.held c.requires.vars in
     pushed record { vars = c.self.inside.vars; slots = c.self.inside.slots.items; lists = ListsOf c.self.inside.lists; settled = c.self.inside.settled } c.args.self.now c.push.new.self.items s (lits_at p) t c.self.view_is c.in_ok-push.ensures.items k ok
     (pair_of (lits_at p c.args.c.address) s ok.shape c.read_lit-first.ensures.value (subst (λ (f : PortState). slice_get (lits_at f c.args.c.address) 1 ≡ Some c.read_lit-second.result) c.read_lit-first.ensures.same c.read_lit-second.ensures.value))
+
+pub invariant_of-self-2 : goal.invariant_of-self-2
+invariant_of-self-2 g c =
+    let i = c.self.invariant in
+    let s : Watch = record { clause = c.args.c; first = c.read_lit-first.result; second = c.read_lit-second.result } in
+    (i.0, i.1, HasFree-push c.self.inside.slots.items c.push.new.self.items s c.self.inside.dead c.in_ok-push.ensures.items i.2)

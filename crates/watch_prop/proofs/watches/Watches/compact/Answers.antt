@@ -1,4 +1,4 @@
-use Rattle.std.proofs.Common.{rules, ◌≡◌, ℕ, List, Option, Some, ap, refl, subst, ◌∙◌, Contains}
+use Rattle.std.proofs.Common.{arith, rules, ◌≡◌, ℕ, List, Option, Some, ap, refl, subst, ◌∙◌, Contains}
 use Rattle.std.specs.List.{filter, filter_map}
 use Rattle.std.specs.Option.{is_some}
 use Rattle.std.proofs.lemmas.Fn.{filter_same}
@@ -8,7 +8,7 @@ use Rattle.watch_prop.specs.WatchData.{WatchData, clause_in}
 use Rattle.watch_prop.specs.Watched.{At}
 use Rattle.watch_prop.specs.Lists.{ListsOf}
 use Rattle.watch_prop.specs.Detaching.{Compacted}
-use Rattle.watch_prop.proofs.Slots.{clauses-kept}
+use Rattle.watch_prop.proofs.Slots.{clauses-kept, HasFree-none}
 use Rattle.watch_prop.proofs.watches.Watches.compact.Goals as goal
 
 -- a slot that is kept was there before
@@ -20,10 +20,14 @@ compacted v w ws lists e q = subst (λ (x : WatchData). Compacted x record { var
   vars = refl;
   settled = refl;
   attached = ap (λ (xs : List (Option Watch)). filter_map clause_in xs) q ∙ clauses-kept v.slots is_some (λ s. refl);
+  full = (let n = HasFree-none v.slots ws q in omega (arith, n));
   only = λ i s at. kept v.slots i s (subst (λ (xs : List (Option Watch)). At xs i (Some s)) q at);
 }
 
 pub returns : goal.returns
-returns c =
-    compacted record { vars = c.self.inside.vars; slots = c.self.inside.slots.items; lists = ListsOf c.self.inside.lists; settled = c.self.inside.settled } c.args.self.now c.retain.new.self.items (ListsOf c.clear_lists.new.lists) c.self.view_is
-    (filter_same _ is_some _ (λ x b f k. search rules) _ _ c.retain.ensures.filtered)
+returns c = compacted record { vars = c.self.inside.vars; slots = c.self.inside.slots.items; lists = ListsOf c.self.inside.lists; settled = c.self.inside.settled } c.args.self.now c.retain.new.self.items (ListsOf c.clear_lists.new.lists) c.self.view_is (filter_same _ is_some _ (λ x b f k. search rules) _ _ c.retain.ensures.filtered)
+
+pub invariant_of-self : goal.invariant_of-self
+invariant_of-self c =
+    let i = c.self.invariant in
+    (i.0, c.clear_lists.ensures ∙ i.1, HasFree-none c.self.inside.slots.items c.retain.new.self.items (filter_same _ is_some _ (λ x b f k. search rules) _ _ c.retain.ensures.filtered))

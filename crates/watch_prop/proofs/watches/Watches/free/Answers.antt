@@ -5,7 +5,7 @@ use Rattle.watch_prop.specs.WatchData.{WatchData}
 use Rattle.watch_prop.specs.Watched.{At}
 use Rattle.watch_prop.specs.Lists.{ListsOf}
 use Rattle.watch_prop.specs.Detaching.{Freed}
-use Rattle.watch_prop.proofs.Slots.{watch_read}
+use Rattle.watch_prop.proofs.Slots.{watch_read, HasFree-freed}
 use Rattle.watch_prop.proofs.Detaching.{Freed-slot}
 use Rattle.watch_prop.proofs.watches.Watches.free.Goals as goal
 
@@ -16,3 +16,9 @@ pub returns-then-watch-c-clause-freed : goal.returns-then-watch-c-clause-freed
 returns-then-watch-c-clause-freed c =
     freed record { vars = c.self.inside.vars; slots = c.self.inside.slots.items; lists = ListsOf c.self.inside.lists; settled = c.self.inside.settled } c.args.self.now c.args.index c.in-Some.watch c.args.c.address c.self.view_is
     (watch_read c.self.inside.slots.items c.args.index c.index.result.now c.in-Some.watch (let q = c.if-index-len.false in omega (arith, q, c.len.ensures)) c.index.ensures c.in-Some.is) c.if-watch-c.true
+
+pub invariant_of-self : goal.invariant_of-self
+invariant_of-self c =
+    let i = c.self.invariant in
+    let ws = c.self.inside.slots.items in
+    (i.0, i.1, HasFree-freed ws c.args.index c.in-Some.watch c.self.inside.dead (watch_read ws c.args.index c.index.result.now c.in-Some.watch (let q = c.if-index-len.false in omega (arith, q, c.len.ensures)) c.index.ensures c.in-Some.is) i.2)

@@ -1,8 +1,11 @@
-use Rattle.std.proofs.Common.{◌≡◌, ℕ, List, subst, sym, ap, refl, ◌∙◌, length, Result, Ok, Err, OnErr, Contains}
+use Rattle.std.proofs.Common.{◌≡◌, ℕ, List, Some, subst, sym, ap, refl, ◌∙◌, length, Result, Ok, Err, OnErr, Contains}
 use Rattle.sat_words.specs.Literal.{Literal}
 use Rattle.watch_prop.specs.WatchData.{WatchData, list_at}
+use Rattle.watch_prop.specs.Watched.{At}
 use Rattle.watch_prop.specs.Lists.{ListsOf, Added}
 use Rattle.watch_prop.specs.Visiting.{ListsMore}
+use Rattle.watch_prop.proofs.ListsLemmas.{same_many}
+use Rattle.watch_prop.proofs.Slots.{HasFree-set}
 use Rattle.watch_prop.proofs.watches.Watches.list.Goals as goal
 
 on_err : {T E : Type 0} (r : Result T E) (P : Type 0) → P → OnErr r P
@@ -18,3 +21,12 @@ pub returns-in_err-add_to-2-clause-err : goal.returns-in_err-add_to-2-clause-err
 returns-in_err-add_to-2-clause-err c =
     on_err c.from_residual-in_err-add_to-2.result _
     (more record { vars = c.self.inside.vars; slots = c.self.inside.slots.items; lists = ListsOf c.self.inside.lists; settled = c.self.inside.settled } c.args.self.now (ListsOf c.add_to.new.lists) (ListsOf c.add_to-2.new.lists) c.args.first c.self.inside.settled c.self.view_is c.in_ok-add_to.ensures.ok c.in_err-add_to-2.ensures.err)
+
+pub invariant_of-self-2 : goal.invariant_of-self-2
+invariant_of-self-2 c =
+    let i = c.self.invariant in
+    let at = subst (λ (x : WatchData). At x.slots x.settled (Some c.requires.there.watch)) (sym c.self.view_is) c.requires.there.there in (
+      i.0,
+      same_many c.add_to.new.lists c.add_to-2.new.lists c.in_ok-add_to-2.ensures.ok.len ∙ same_many c.self.inside.lists c.add_to.new.lists c.in_ok-add_to.ensures.ok.len ∙ i.1,
+      HasFree-set c.self.inside.slots.items c.self.inside.settled c.requires.there.watch record { clause = c.args.clause; first = c.args.first; second = c.args.second } c.self.inside.dead at (sym c.requires.there.clause) i.2,
+    )

@@ -110,3 +110,13 @@ returns-clause-reasons g c =
     c.make_true.ensures.reasons (attached w) s d
     (attached_some (attached w) s c.in-Some.watch.clause (clause_in w w.settled c.in-Some.watch at) (attachable_held w.vars s c.in-Some.watch.clause.address (c.requires.watched.clauses w.settled c.in-Some.watch at)))
     (best-forces c.args.trail.now d c.choose-best.result c.choose-best.ensures.best (let q = c.if-best-present-2.false in omega (arith, q, c.present-present.ensures.level))) c.requires.reasons
+
+pub list-requires-clause-there : goal.list-requires-clause-there
+list-requires-clause-there g c =
+    let at = waiting record { vars = c.self.inside.vars; slots = c.self.inside.slots.items; lists = ListsOf c.self.inside.lists; settled = c.self.inside.settled } c.args.self.now c.index.result.now c.in-Some.watch c.self.view_is c.requires.there c.index.ensures c.in-Some.is in
+    record { watch = c.in-Some.watch; there = at; clause = refl }
+
+pub list-requires-2-clause-there : goal.list-requires-2-clause-there
+list-requires-2-clause-there g c =
+    let at = waiting record { vars = c.self.inside.vars; slots = c.self.inside.slots.items; lists = ListsOf c.self.inside.lists; settled = c.self.inside.settled } c.args.self.now c.index.result.now c.in-Some.watch c.self.view_is c.requires.there c.index.ensures c.in-Some.is in
+    record { watch = c.in-Some.watch; there = at; clause = refl }

@@ -8,6 +8,7 @@ pub mod Ranks
 pub mod Settling
 pub mod Detaching
 pub mod TrailLaws
+pub mod DetachingLaws
 pub mod Row
 pub mod TrailRounds
 pub mod Decisions

@@ -104,10 +104,10 @@ other_number : (m n : ℕ) → m ≢ n → (m == n) ≡ false
 other_number m n ne = grind (arith, nat_tests)
 
 -- without a clause that has the address, and with one that has another
-without-there : (c : Cref) (cs : List Cref) (a : ℕ) → c.address ≡ a → without (c ∷ cs) a ≡ without cs a
+pub without-there : (c : Cref) (cs : List Cref) (a : ℕ) → c.address ≡ a → without (c ∷ cs) a ≡ without cs a
 without-there c cs a e = ap (λ (b : Bool). cond (not b) (c ∷ without cs a) (without cs a)) (ap (λ (n : ℕ). c.address == n) (sym e) ∙ same_number c.address)
 
-without-other : (c : Cref) (cs : List Cref) (a : ℕ) → c.address ≢ a → without (c ∷ cs) a ≡ c ∷ without cs a
+pub without-other : (c : Cref) (cs : List Cref) (a : ℕ) → c.address ≢ a → without (c ∷ cs) a ≡ c ∷ without cs a
 without-other c cs a ne = ap (λ (b : Bool). cond (not b) (c ∷ without cs a) (without cs a)) (other_number c.address a ne)
 
 -- the other clauses stay where one's slot is freed

@@ -79,7 +79,7 @@ Watched-port w lits more t same v =
     }
 
 -- the clause at the address of an attached one
-attached_is : (cs : List Cref) (s : PortState) (a : ℕ) (d : List Literal) → attached_at cs s a ≡ Some d → (c : Cref) × Contains cs c × (c.address ≡ a) × (clause_at s a ≡ Some d)
+pub attached_is : (cs : List Cref) (s : PortState) (a : ℕ) (d : List Literal) → attached_at cs s a ≡ Some d → (c : Cref) × Contains cs c × (c.address ≡ a) × (clause_at s a ≡ Some d)
 attached_is cs s a d e =
     elim (cases_Bool (list_any (λ (c : Cref). c.address == a) cs)) as (λ _. (c : Cref) × Contains cs c × (c.address ≡ a) × (clause_at s a ≡ Some d)) [
       | inl found ↦ (
@@ -89,7 +89,7 @@ attached_is cs s a d e =
       | inr missing ↦ absurd (let here : attached_at cs s a ≡ None = rw missing refl in let z : None ≡ Some d = sym here ∙ e in cc)
     ]
 
-attached_at-in : (cs : List Cref) (s : PortState) (c : Cref) → Contains cs c → attached_at cs s c.address ≡ clause_at s c.address
+pub attached_at-in : (cs : List Cref) (s : PortState) (c : Cref) → Contains cs c → attached_at cs s c.address ≡ clause_at s c.address
 attached_at-in cs s c there =
     let yes : list_any (λ (x : Cref). x.address == c.address) cs ≡ true = any_In (λ (x : Cref). x.address == c.address) cs c (Contains_In cs c there) (same_number c.address) in
     rw yes refl

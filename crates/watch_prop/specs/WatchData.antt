@@ -6,8 +6,7 @@ use Rattle.sat_words.specs.Literal.{Literal, code_of}
 use Rattle.sat_words.specs.declared.shared.Cref.{Cref}
 use Rattle.watch_prop.specs.declared.watch.Watch.{Watch}
 
--- the slots, each with the watch of an attached clause or free; the lists, one for each literal; how many of the first slots
--- are settled, so that their watches are listed
+-- the slots, each free or with an attached clause's watch; the lists, one for each literal; how many of the first slots are settled
 pub record WatchData : Type 0 where
   pub vars : ℕ
   pub slots : List (Option Watch)

@@ -1,15 +1,15 @@
-//! What growing and going back keep of the invariant between watches, clauses and trail.
-ghost use Rattle.std.specs.Prelude.{◌≡◌, ◌≤◌, ◌+◌, ℕ, List, Option, Some, IsSome, true, length, Contains};
+//! What growing, going back and detaching keep of the invariant between watches, clauses and trail.
+ghost use Rattle.std.specs.Prelude.{◌≡◌, ◌≢◌, ◌≤◌, ◌<◌, ◌+◌, ◌↔◌, ℕ, List, Option, Some, IsSome, true, length, Contains};
 ghost use Rattle.sat_words.specs.Literal.{Literal};
 ghost use Rattle.sat_words.specs.Clause.{has};
 ghost use Rattle.sat_words.specs.declared.shared.Cref.{Cref};
 ghost use Rattle.ring_port.specs.PortState.{PortState, held_at, lits_at, clause_at};
 ghost use Rattle.ring_trail.specs.declared.step.Step.{Step};
-ghost use Rattle.ring_trail.specs.TrailData.{TrailData, IsTrail, decided, assigned, cut_back};
-ghost use Rattle.ring_trail.specs.Reasoned.{IsReasoned};
-ghost use Rattle.watch_prop.specs.WatchData.{WatchData, Lits, attached};
+ghost use Rattle.ring_trail.specs.TrailData.{TrailData, IsTrail, reason_at, decided, assigned, cut_back};
+ghost use Rattle.ring_trail.specs.Reasoned.{IsReasoned, IsSeen};
+ghost use Rattle.watch_prop.specs.WatchData.{WatchData, Lits, attached, without};
 ghost use Rattle.watch_prop.specs.Watched.{Watched};
-ghost use Rattle.watch_prop.specs.Propagation.{attached_at, HasReasons};
+ghost use Rattle.watch_prop.specs.Propagation.{attached_at, HasReasons, IsClosedBelow};
 
 /// A literal at the present level keeps the watches.
 pub fn an_assignment_keeps_watches()
@@ -46,4 +46,20 @@ pub fn attached_reasons_are_held()
 /// An attached clause that is held may be the reason of a literal that it forces.
 pub fn attached_clauses_may_be_reasons()
     ensures { (cs : List Cref) (s : PortState) (c : Cref) → Contains cs c → IsSome (held_at s c.address) → attached_at cs s c.address ≡ Some (lits_at s c.address) }
+{}
+
+/// Once a clause is detached, those at other addresses are left.
+pub fn detaching_leaves_the_others()
+    ensures { (cs : List Cref) (a : ℕ) (c : Cref) → Contains (without cs a) c ↔ (Contains cs c × (c.address ≢ a)) }
+{}
+
+/// Detaching a clause keeps the reasons where it is none of them, or one at level 0 whose unit is seen.
+pub fn detaching_keeps_reasons()
+    ensures { (cs : List Cref) (s : PortState) (steps : List Step) (a : ℕ) → ((p : ℕ) (c : Cref) → p < length steps → reason_at steps p ≡ Some c → c.address ≡ a → IsSeen s.seen steps p)
+        → HasReasons cs s steps → HasReasons (without cs a) s steps }
+{}
+
+/// Detaching a clause leaves the others closed.
+pub fn detaching_keeps_closed()
+    ensures { (w x : WatchData) (lits : Lits) (t : TrailData) (a : ℕ) → attached x ≡ without (attached w) a → IsClosedBelow w lits t → IsClosedBelow x lits t }
 {}

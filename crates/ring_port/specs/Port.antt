@@ -1,10 +1,11 @@
 -- What each call of a port does, from the state before it to the state after it.
-use Rattle.std.specs.Prelude.{◌≡◌, ◌≢◌, ℕ, ◌<◌, ◌≤◌, ◌==◌, ◌||◌, Bool, true, false, List, [], ◌∷◌, ◌++◌, length, All, Option, Some, None, IsSome, Result, Ok, Err, MatchOption, not, ⊤}
+use Rattle.std.specs.Prelude.{◌≡◌, ◌≢◌, ℕ, ◌<◌, ◌≤◌, ◌==◌, ◌||◌, Bool, true, false, List, [], ◌∷◌, ◌++◌, map, length, All, Option, Some, None, IsSome, Result, Ok, Err, MatchOption, not, ⊤}
 use Rattle.std.specs.List.{list_any}
 use Rattle.sat_words.specs.Literal.{Literal, same}
-use Rattle.sat_words.specs.Clause.{has, distinct_lits, has_opposites}
+use Rattle.sat_words.specs.Clause.{has, includes, distinct_lits, has_opposites}
 use Rattle.sat_words.specs.declared.shared.Cref.{Cref}
 use Rattle.sat_words.specs.declared.shared.Stop.{Stop}
+use Rattle.rup_model.specs.Journal.{fresh}
 use Rattle.rup_model.specs.declared.journal.Kind.{Kind}
 use Rattle.rup_model.specs.declared.journal.Kind.TheVariants.{Learn, Derive, UnitLine}
 use Rattle.rup_model.specs.declared.journal.Entry.{Entry}
@@ -14,7 +15,7 @@ use Rattle.ring_port.specs.declared.stops.PortStop.TheVariants.{Ended, Broken, P
 use Rattle.ring_port.specs.declared.stops.Set.{Set}
 use Rattle.ring_port.specs.declared.stops.Set.TheVariants.{Won, Lost}
 use Rattle.drat_text.specs.LineState.{LineState}
-use Rattle.ring_port.specs.PortState.{Holding, PortState, IsOn, held_at}
+use Rattle.ring_port.specs.PortState.{Holding, PortState, IsOn, held_at, lits_at}
 
 -- What the calls ask for
 
@@ -36,6 +37,16 @@ pub record IsClause (vars : ℕ) (c : List Literal) : Type 0 where
   pub on : All (IsOn vars) c
   pub distinct : distinct_lits c ≡ true
   pub no_opposites : has_opposites c ≡ false
+
+-- the start clauses, as lists of literals
+abbrev pub start_lits : PortState → List (List Literal)
+start_lits s = map (λ h. h.lits) s.start
+
+-- the clause contains no start clause, none that the ring learned since its last Reduce entry, and none that it has taken
+-- from another ring since then
+pub record IsFreshClause (s : PortState) (c : List Literal) : Type 0 where
+  pub own : fresh (start_lits s) s.mine s.ring c ≡ true
+  pub others : All (λ a. includes c (lits_at s a) ≡ false) s.taken
 
 -- Refusals
 

@@ -4,7 +4,7 @@ ghost use Rattle.sat_words.specs.declared.shared.TheConstants.{STOP_SAT, STOP_RE
 ghost use Rattle.rup_model.specs.Rup.{rup};
 ghost use Rattle.ring_port.specs.PortState.{PortState, IsPort, IsOn, held_at, lits_at, head_of, known};
 ghost use Rattle.ring_port.specs.Log.{KeepsLog};
-ghost use Rattle.ring_port.specs.Port.{is_usable, IsClause, Learned, KeepsHeld, UnitWritten, EmptyWritten, Took, Looked, SetStop};
+ghost use Rattle.ring_port.specs.Port.{is_usable, IsClause, IsFreshClause, Learned, KeepsHeld, UnitWritten, EmptyWritten, Took, Looked, SetStop};
 
 use crate::stops::{PortStop, Set};
 use sat_words::{Cref, Head, Lit, Stop};
@@ -41,12 +41,14 @@ pub trait Port {
         ensures port { IsPort (state self.new) };
 
     /// Learns a clause that was found at a conflict: its line is written, and it is held from then on with its literals
-    /// in this order. The glue is that of `Head`. Of one literal it is a unit, which has no address and is seen.
+    /// in this order. The glue is that of `Head`. Of one literal it is a unit, which has no address and is seen. The clause
+    /// contains none that the ring started with, learned or took since it last reduced.
     fn learn(&mut self, lits: &[Lit], glue: u32) -> Result<Option<Cref>, PortStop>
         requires usable { is_usable (state self.old).refused ≡ true }
         requires some { 1 ≤ length lits.now }
         requires clause { IsClause (state self.old).vars lits.now }
         requires rup { rup (known (state self.old)) lits.now ≡ true }
+        requires fresh { IsFreshClause (state self.old) lits.now }
         ensures learned { Learned (state self.old) (state self.new) lits.now glue result }
         ensures kept { KeepsHeld (state self.old) (state self.new) }
         ensures log { KeepsLog (state self.old) (state self.new) }

@@ -1,8 +1,53 @@
+ghost use Rattle.std.specs.Prelude.{◌≡◌, IfOk};
+
 use crate::{PlainPort, Port, PortStop, Set};
-use drat_text::SinkLines;
+use drat_text::{LineOut, LineStop, MAX_ENTRIES, SinkLines};
 use io_edge::MemSink;
-use sat_words::{Clause, Formula, Lit, STOP_SAT, Stop};
+use sat_words::{Clause, Formula, Line, Lit, Lits, STOP_SAT, Stop};
+use std::alloc::{AllocError, Global};
 use std::test::Fail;
+
+/// The lines of a log in memory, behind those that a formula's clauses have the numbers of.
+#[derive(Drop)]
+struct ListLines {
+    alloc: Global,
+    lines: Vec<Line>,
+    last: u64,
+}
+
+fn copy_of(alloc: Global, line: &Line) -> Result<Line, AllocError>
+    ensures { IfOk result (λ copy. copy ≡ line.now) }
+{
+    match line {
+        Line::Add(lits) => Ok(Line::Add(Lits::from_slice(alloc, lits.as_slice())?)),
+        Line::Del(lits) => Ok(Line::Del(Lits::from_slice(alloc, lits.as_slice())?)),
+    }
+}
+
+impl LineOut for ListLines {
+    ghost use Rattle.std.specs.Prelude.{None, false, vec_len};
+
+    ghost told = { λ l. record { entries = vec_len l.lines; last = l.last; spent = false; faults = 0; written = None; target = None; flushed = None } };
+
+    fn put(&mut self, line: &Line) -> Result<u64, LineStop> {
+        if self.lines.len() as u64 >= MAX_ENTRIES || self.last == u64::MAX {
+            return Err(LineStop::Memory);
+        }
+        let Ok(copy) = copy_of(self.alloc, line) else {
+            return Err(LineStop::Memory);
+        };
+        if self.lines.push(copy).is_err() {
+            return Err(LineStop::Memory);
+        }
+        match line {
+            Line::Add(_) => {
+                self.last += 1;
+                Ok(self.last)
+            }
+            Line::Del(_) => Ok(0),
+        }
+    }
+}
 
 #[test]
 fn a_unit_is_given_and_written(rt: HostRuntime) -> Result<(), Fail> {
@@ -51,5 +96,31 @@ fn a_fault_of_the_sink_is_told(rt: HostRuntime) -> Result<(), Fail> {
     let sink = port.into_lines().into_sink();
     assert!(rt; sink.bytes().is_empty());
     assert_eq!(rt; sink.faults(), 1);
+    Ok(())
+}
+
+#[test]
+fn lines_go_to_a_list(rt: HostRuntime) -> Result<(), Fail> {
+    let alloc = rt.alloc();
+    let one = Lit::new(1, false);
+    let mut formula = Formula::new(alloc, 2);
+    formula.push(Clause::from_lits(alloc, &[one])?)?;
+    let lines = ListLines {
+        alloc,
+        lines: Vec::new(alloc),
+        last: 1,
+    };
+    let Ok(mut port) = PlainPort::new(alloc, &formula, 2, &[], &[one], lines) else {
+        return Err("no memory".into());
+    };
+    let Some(unit) = port.next_unit() else {
+        return Err("no unit".into());
+    };
+    assert_eq!(rt; port.unit(unit), Ok(()));
+    let written = port.into_lines();
+    assert_eq!(rt; written.last, 2);
+    assert!(rt;
+        written.lines.as_slice() == [Line::Add(Lits::from_slice(alloc, &[one])?)].as_slice()
+    );
     Ok(())
 }

@@ -1,28 +1,30 @@
 -- A lemma, once it is learned and the trail has gone back, forces its first literal.
-use Rattle.std.proofs.Common.{◌≡◌, ◌∙◌, ℕ, ◌<◌, ◌≤◌, true, false, List, [], ◌∷◌, ◌++◌, length, take, sym, subst, ap, arith, inl, inr, ◌⊎◌, Some, None, IsSome, refl, Contains}
+use Rattle.std.proofs.Common.{◌≡◌, ◌∙◌, ℕ, ◌-◌, ◌<◌, ◌≤◌, true, false, List, [], ◌∷◌, length, take, sym, subst, ap, arith, inl, inr, ◌⊎◌, refl, Contains}
 use Rattle.std.specs.Option.{option_map, unwrap_or}
 use Rattle.std.specs.declared.option.Option.{Option}
-use Rattle.std.proofs.lemmas.Bool.{or_left, or_right, or_cases, false≢true}
+use Rattle.std.proofs.lemmas.Bool.{or_left, or_right, or_cases, false≢true, cases_lt}
 use Rattle.std.proofs.lemmas.List.{get_or-take}
 use Rattle.sat_words.specs.Literal.{Literal, same, opposite}
 use Rattle.sat_words.specs.Clause.{has}
 use Rattle.sat_words.specs.declared.shared.Cref.{Cref}
 use Rattle.sat_words.proofs.Members.{same-true, same-refl}
 use Rattle.rup_model.proofs.Lists.{Contains_In}
-use Rattle.ring_port.specs.PortState.{PortState, Holding, held_at, clause_at}
-use Rattle.ring_port.specs.Port.{LearnedClause, LearnedUnit, KeepsHeld}
+use Rattle.ring_port.specs.PortState.{PortState, lits_at}
 use Rattle.ring_trail.specs.declared.step.Step.{Step}
-use Rattle.ring_trail.specs.TrailData.{TrailData, IsTrail, IsPlaceOf, HasNoPlace, IsFalseOn, FalseBefore, no_step, step_at, level_at, cut_back, assigned}
-use Rattle.ring_trail.specs.Reasoned.{IsReasoned, ForcesAt}
+use Rattle.ring_trail.specs.TrailData.{TrailData, IsTrail, IsPlaceOf, HasNoPlace, IsFalseOn, FalseBefore, no_step, step_at, level_at, cut_back}
+use Rattle.ring_trail.specs.Reasoned.{ForcesAt}
 use Rattle.ring_trail.specs.Closed.{TrueWithin, IsClosedClause}
 use Rattle.ring_trail.proofs.Shape.{step_at_place}
-use Rattle.ring_trail.proofs.Causes.{IsReasoned-back, IsReasoned-held, IsReasoned-forced, IsReasoned-seen, IsClosed-back}
+use Rattle.ring_trail.proofs.Causes.{IsClosed-back}
 use Rattle.analyze.specs.Levels.{greatest, level_of_lit, levels_of, clause_level}
 use Rattle.analyze.specs.Lemma.{IsLemma}
+use Rattle.analyze.proofs.Freshness.{contains_none, present_conflict}
+use Rattle.watch_prop.specs.WatchData.{WatchData, attached, clauses_of}
+use Rattle.watch_prop.specs.Propagation.{IsConflict}
 use Rattle.ring_run.specs.Searching.{Stands, IsAsserting}
-use Rattle.ring_run.specs.Finding.{WentBack, IsAttachable}
-use Rattle.ring_run.proofs.Standing.{within_more, within_last, sees_old, sees_new, seen_of}
-use Rattle.rup_model.specs.declared.journal.Kind.TheVariants.{Learn}
+use Rattle.ring_run.specs.Finding.{Searches, WentBack, CanAssert}
+use Rattle.ring_run.proofs.Remembering.{stands_there}
+use Rattle.ring_run.proofs.News.{new_to}
 
 -- the greatest of the levels
 level_of_member : (steps : List Step) (c : List Literal) (k : Literal) → has c k ≡ true → level_of_lit steps k ≤ greatest (levels_of steps c)
@@ -40,28 +42,86 @@ greatest_below steps (l ∷ c) n h below =
     let rest = greatest_below steps c n h (λ k m. below k (or_right (same k l) (has c k) m)) in
     omega arith
 
-pub lemma_asserts : (s : PortState) (t : TrailData) (conflict lits : List Literal) (back glue : ℕ) → 0 < clause_level t.steps conflict
-    → IsLemma s t conflict lits back glue → IsAsserting s t lits back
-lemma_asserts s t conflict lits back glue above p = record {
-  first = p.first;
-  rest = p.rest;
-  parts = p.parts;
-  implied = p.implied;
-  clause = p.clause;
-  first_false = (p.all_false p.first (subst (λ (c : List Literal). has c p.first ≡ true) (sym p.parts) (or_left (same p.first p.first) (has p.rest p.first) (same-refl p.first)))).false_now;
-  ahead = omega (arith, p.back_is, p.asserting, greatest_below t.steps p.rest (clause_level t.steps conflict) above p.below);
-  behind = λ k h. (
-    (p.all_false k (subst (λ (c : List Literal). has c k ≡ true) (sym p.parts) (or_right (same k p.first) (has p.rest k) h))).false_now,
-    omega (arith, p.back_is, level_of_member t.steps p.rest k h),
-  );
-  of_unit = λ e. p.back_is ∙ ap (λ (c : List Literal). greatest (levels_of t.steps c)) e;
-}
+-- a literal of the greatest level, where that isn't 0
+attained : (steps : List Step) (c : List Literal) → 0 < greatest (levels_of steps c) → (k : Literal) × (has c k ≡ true) × (level_of_lit steps k ≡ greatest (levels_of steps c))
+attained steps [] h = absurd (omega arith)
+attained steps (l ∷ c) h =
+    elim (cases_lt (level_of_lit steps l) (greatest (levels_of steps c))) as (λ _. (k : Literal) × (has (l ∷ c) k ≡ true) × (level_of_lit steps k ≡ greatest (levels_of steps (l ∷ c)))) [
+      | inl lt ↦ (
+          let r : (k : Literal) × (has c k ≡ true) × (level_of_lit steps k ≡ greatest (levels_of steps c)) = attained steps c (omega arith) in
+          (r.0, or_right (same r.0 l) (has c r.0) r.1, omega (arith, r.2)))
+      | inr ge ↦ (l, or_left (same l l) (has c l) (same-refl l), omega arith)
+    ]
 
 -- where a literal is false, that place has its level
 level_at_place : (t : TrailData) (k : Literal) (f : FalseBefore t.steps (length t.steps) k) → IsTrail t → level_of_lit t.steps k ≡ level_at t.steps f.place
 level_at_place t k f shape =
     let at : IsPlaceOf t.steps k.var f.place = record { in_range = f.before; var = ap (λ (l : Literal). l.var) f.false_there } in
     ap (λ (o : Option Step). unwrap_or (option_map (λ (x : Step). x.level) o) 0) (step_at_place t k.var f.place shape at)
+
+-- a literal that is false at a level of at most k has such a level
+false_within : (t : TrailData) (l : Literal) (k : ℕ) → IsTrail t → TrueWithin t.steps k (opposite l) → level_of_lit t.steps l ≤ k
+false_within t l k shape w =
+    let at = level_at_place t l (record { place = w.place; before = w.in_range; false_there = w.true_there }) shape in
+    omega (arith, w.level)
+
+module _ (s : PortState) (t : TrailData) (w : WatchData) (c : Cref) (lits : List Literal) (back glue : ℕ) (p : Searches s t w) (conflict : IsConflict w (lits_at s) t c)
+    (above : 0 < clause_level t.steps (lits_at s c.address)) (i : IsLemma s t (lits_at s c.address) lits back glue) where
+  has_first : has lits i.first ≡ true
+  has_first = subst (λ (d : List Literal). has d i.first ≡ true) (sym i.parts) (or_left (same i.first i.first) (has i.rest i.first) (same-refl i.first))
+
+  has_rest : (k : Literal) → has i.rest k ≡ true → has lits k ≡ true
+  has_rest k h = subst (λ (d : List Literal). has d k ≡ true) (sym i.parts) (or_right (same k i.first) (has i.rest k) h)
+
+  back_lower : back < clause_level t.steps (lits_at s c.address)
+  back_lower = omega (arith, i.back_is, greatest_below t.steps i.rest (clause_level t.steps (lits_at s c.address)) above i.below)
+
+  -- it is no unit below the level to go back to: the first literal has no value there, and one other has that level
+  closed_below : (k : ℕ) → k < back → IsClosedClause lits t.steps k
+  closed_below k below =
+      let last : (l : Literal) × (has i.rest l ≡ true) × (level_of_lit t.steps l ≡ greatest (levels_of t.steps i.rest)) = attained t.steps i.rest (omega (arith, i.back_is)) in
+      inr (record {
+        one = i.first;
+        other = last.0;
+        has_one = has_first;
+        has_other = has_rest last.0 last.1;
+        differ = λ e. absurd (omega (arith, ap (level_of_lit t.steps) e, i.asserting, last.2, i.back_is, back_lower));
+        one_open = λ v. absurd (omega (arith, false_within t i.first k p.trail v, i.asserting, back_lower));
+        other_open = λ v. absurd (omega (arith, false_within t last.0 k p.trail v, last.2, i.back_is));
+      })
+
+  -- the clauses attached were closed below the conflict's level
+  at_present : clause_level t.steps (lits_at s c.address) ≡ t.level
+  at_present = present_conflict t (clauses_of w (lits_at s)) (lits_at s c.address) p.trail p.closed (stands_there s (attached w) c conflict.member) conflict.false_all
+
+  -- so it contains none of them
+  none_inside : (d : List Literal) → Contains (clauses_of w (lits_at s)) d → ((l : Literal) → has d l ≡ true → has lits l ≡ true) → ⊥
+  none_inside d there sub =
+      contains_none s t (lits_at s c.address) lits back glue p.trail above i d
+      (p.closed (clause_level t.steps (lits_at s c.address) - 1) (omega (arith, at_present)) d there) sub
+
+  -- and none of its literals is true at level 0
+  none_seen : (l : Literal) → has lits l ≡ true → has s.seen l ≡ true → ⊥
+  none_seen l h seen =
+      let v = p.stands.seen l seen in
+      let f = (i.all_false l h).false_now in
+      let e : v.place ≡ f.place = p.trail.distinct v.place f.place v.in_range f.before (ap (λ (x : Literal). x.var) v.true_there ∙ sym (ap (λ (x : Literal). x.var) f.false_there)) in
+      absurd (omega (arith, level_at_place t l f p.trail, ap (level_at t.steps) e, v.level, (i.all_false l h).above))
+
+  pub lemma_asserts : IsAsserting s t lits back
+  lemma_asserts = record {
+    first = i.first;
+    rest = i.rest;
+    parts = i.parts;
+    implied = i.implied;
+    clause = i.clause;
+    first_false = (i.all_false i.first has_first).false_now;
+    ahead = omega (arith, i.asserting, back_lower);
+    behind = λ k h. ((i.all_false k (has_rest k h)).false_now, omega (arith, i.back_is, level_of_member t.steps i.rest k h));
+    of_unit = λ e. i.back_is ∙ ap (λ (d : List Literal). greatest (levels_of t.steps d)) e;
+    closed = closed_below;
+    is_new_to = new_to s (attached w) lits p.clauses p.opening none_inside none_seen;
+  }
 
 only_one : (k l : Literal) → has (l ∷ []) k ≡ true → k ≡ l
 only_one k l e =
@@ -106,7 +166,7 @@ first_free t v back l shape shape2 level is short f ahead = λ p h var.
     absurd (omega arith)
 
 -- the lemma forces its first literal there
-forces_first : (s : PortState) (t v : TrailData) (lits : List Literal) (back : ℕ) (p : IsAsserting s t lits back) → IsTrail t → v ≡ cut_back t back
+pub forces_first : (s : PortState) (t v : TrailData) (lits : List Literal) (back : ℕ) (p : IsAsserting s t lits back) → IsTrail t → v ≡ cut_back t back
     → ForcesAt v.steps (length v.steps) p.first lits
 forces_first s t v lits back p shape is = record {
   has_lit = subst (λ (c : List Literal). has c p.first ≡ true) (sym p.parts) (or_left (same p.first p.first) (has p.rest p.first) (same-refl p.first));
@@ -116,60 +176,8 @@ forces_first s t v lits back p shape is = record {
   ];
 }
 
--- going back, with all that stands
-stands_back : (s u : PortState) (t v : TrailData) (back : ℕ) → Stands s t → IsTrail t → v ≡ cut_back t back → u.vars ≡ s.vars → KeepsHeld s u
-    → ((l : Literal) → has s.seen l ≡ true → has u.seen l ≡ true) → IsReasoned (clause_at u) u.seen v.steps
-stands_back s u t v back p shape is vars kept more =
-    subst (λ (x : TrailData). IsReasoned (clause_at u) u.seen x.steps) (sym is)
-    (IsReasoned-back (clause_at u) u.seen t back shape
-    (IsReasoned-held (clause_at s) (clause_at u) s.seen u.seen t.steps p.reasoned
-    (λ q c d h reason held. inl (clause_kept s u c.address d kept held)) more))
-  where
-    clause_kept : (s u : PortState) (a : ℕ) (d : List Literal) → KeepsHeld s u → clause_at s a ≡ Some d → clause_at u a ≡ Some d
-    clause_kept s u a d kept e = by (held_at s a) refl e
-      where
-        by : (o : Option Holding) → held_at s a ≡ o → option_map (λ (h : Holding). h.lits) o ≡ Some d → clause_at u a ≡ Some d
-        by (Some h) is e = ap (option_map (λ (x : Holding). x.lits)) (kept a (subst (λ (o : Option Holding). IsSome o) (sym is) refl) ∙ is) ∙ e
-        by None is e = cc
-
-seen_back : (s : PortState) (t v : TrailData) (back : ℕ) (l : Literal) → Stands s t → IsTrail t → WentBack t v back → has s.seen l ≡ true → TrueWithin v.steps 0 l
+pub seen_back : (s : PortState) (t v : TrailData) (back : ℕ) (l : Literal) → Stands s t → IsTrail t → WentBack t v back → has s.seen l ≡ true → TrueWithin v.steps 0 l
 seen_back s t v back l p shape w h = subst (λ (x : TrailData). TrueWithin x.steps 0 l) (sym w.is) (within_back t 0 back l shape (omega arith) (p.seen l h))
-
-pub learned_clause_stands : (s u : PortState) (t v : TrailData) (lits : List Literal) (back glue : ℕ) (c : Cref) (a : IsAsserting s t lits back) → Stands s t → IsTrail t → WentBack t v back
-    → LearnedClause s u lits glue c → KeepsHeld s u → Stands u (assigned v a.first (Some c))
-learned_clause_stands s u t v lits back glue c a p shape w learned kept =
-    let x : Step = record { lit = a.first; level = v.level; reason = Some c } in
-    let vars = ap (λ (y : PortState). y.vars) learned.state in
-    let seen = ap (λ (y : PortState). y.seen) learned.state in
-    record {
-      vars = ap (λ (y : TrailData). y.vars) w.is ∙ p.vars ∙ sym vars;
-      reasoned = IsReasoned-forced (clause_at u) u.seen v a.first c lits
-          (stands_back s u t v back p shape w.is vars kept (λ l h. ap (λ (ls : List Literal). has ls l) seen ∙ h))
-          (ap (option_map (λ (h : Holding). h.lits)) learned.there)
-          (forces_first s t v lits back a shape w.is);
-      seen = λ l h. within_more v.steps (x ∷ []) 0 l (seen_back s t v back l p shape w (sym (ap (λ (ls : List Literal). has ls l) seen) ∙ h));
-    }
-
-pub learned_unit_stands : (s u : PortState) (t v : TrailData) (lits : List Literal) (back : ℕ) (a : IsAsserting s t lits back) → Stands s t → IsTrail t → WentBack t v back
-    → LearnedUnit s u lits → KeepsHeld s u → Stands u (assigned v a.first None)
-learned_unit_stands s u t v lits back a p shape w learned kept =
-    let x : Step = record { lit = a.first; level = v.level; reason = None } in
-    let wrote = learned.wrote in
-    let both : a.first ∷ a.rest ≡ learned.lit ∷ [] = sym a.parts ∙ learned.unit in
-    let first : a.first ≡ learned.lit = cc in
-    let rest : a.rest ≡ [] = cc in
-    let level : v.level ≡ 0 = ap (λ (y : TrailData). y.level) w.is ∙ a.of_unit rest in
-    let vars = ap (λ (y : PortState). y.vars) wrote.state in
-    record {
-      vars = ap (λ (y : TrailData). y.vars) w.is ∙ p.vars ∙ sym vars;
-      reasoned = IsReasoned-seen (clause_at u) u.seen v a.first None
-          (stands_back s u t v back p shape w.is vars kept (λ l h. sees_old s.seen u.seen learned.lit l wrote.sees h))
-          level (ap (has u.seen) first ∙ sees_new s.seen u.seen learned.lit wrote.sees);
-      seen = λ l h. elim (seen_of s u learned.lit Learn None l wrote h) as (λ _. TrueWithin (v.steps ++ x ∷ []) 0 l) [
-        | inl old ↦ within_more v.steps (x ∷ []) 0 l (seen_back s t v back l p shape w old)
-        | inr e ↦ subst (TrueWithin (v.steps ++ x ∷ []) 0) (first ∙ e) (within_last v.steps x 0 (omega arith))
-      ];
-    }
 
 pub first_has_no_value : (s : PortState) (t v : TrailData) (lits : List Literal) (back : ℕ) (a : IsAsserting s t lits back) → IsTrail t → WentBack t v back → HasNoPlace v.steps a.first.var
 first_has_no_value s t v lits back a shape w =
@@ -182,8 +190,8 @@ back_within s t lits back a shape =
     let within = shape.within a.first_false.place a.first_false.before in
     omega (arith, a.ahead)
 
-pub attachable : (s : PortState) (t : TrailData) (lits : List Literal) (back : ℕ) → IsAsserting s t lits back → IsTrail t → IsAttachable t lits back
-attachable s t lits back a shape = record {
+pub can_assert : (s : PortState) (t : TrailData) (lits : List Literal) (back : ℕ) → IsAsserting s t lits back → IsTrail t → CanAssert t lits back
+can_assert s t lits back a shape = record {
   shape = shape;
   level = back_within s t lits back a shape;
   first = a.first;

@@ -8,14 +8,17 @@ use Rattle.sat_words.specs.Literal.{Literal}
 use Rattle.sat_words.specs.Clause.{has, is_empty}
 use Rattle.sat_words.specs.declared.shared.Cref.{Cref}
 use Rattle.rup_model.specs.declared.journal.Entry.{Entry}
-use Rattle.rup_model.specs.Journal.{added, learned}
+use Rattle.rup_model.specs.Basics.{EachAfter}
+use Rattle.rup_model.specs.Journal.{added, learned, recent}
+use Rattle.rup_model.specs.Opening.{adds_unit, IsNew}
 use Rattle.rup_model.proofs.Lists.{Contains_In, In_Contains, In_map, map_In, In_get_or}
-use Rattle.ring_port.specs.PortState.{PortState, Holding, IsPort, held_at}
+use Rattle.ring_port.specs.PortState.{PortState, Holding, IsPort, held_at, lits_at}
 use Rattle.ring_port.proofs.Holdings.{All_In}
 use Rattle.ring_trail.specs.TrailData.{TrailData, IsTrail}
-use Rattle.ring_run.specs.Ended.{IsJobOf, IsUntouched, IsOwn, IsCounted}
-use Rattle.ring_run.specs.Scanned.{IsHeldBy}
-use Rattle.ring_run.specs.Searching.{Runs, GoesOn}
+use Rattle.watch_prop.specs.WatchData.{attached}
+use Rattle.watch_prop.specs.Watched.{Watched, IsFresh}
+use Rattle.ring_run.specs.Ended.{IsJobOf, IsUntouched, IsOwn, IsCounted, opening_of}
+use Rattle.ring_run.specs.Searching.{IsHeldBy, Runs, GoesOn}
 use Rattle.ring_run.specs.Finding.{IsBegun, Finds}
 use Rattle.ring_run.specs.declared.job.Job.{Job}
 use Rattle.ring_run.specs.declared.search.Ring.{Ring}
@@ -28,8 +31,13 @@ runs_begin s p port = record {
   kept = λ a h. refl;
   wrote = subst (All (IsOwn s.ring s.vars)) (sym p.mine) (λ k d h. absurd (omega arith));
   counted = sym (ap (λ (J : List Entry). length (learned s.ring J)) p.mine);
+  each_new = subst (EachAfter (IsNew (opening_of s)) []) (sym p.mine) tt;
   port = port;
 }
+
+-- also where the ring has been made since
+pub runs_made : (s m : PortState) → m ≡ s → IsUntouched s → IsPort s → Runs s m 0
+runs_made s m is p port = subst (λ (x : PortState). Runs s x 0) (sym is) (runs_begin s p port)
 
 pub goes_begin : (s : PortState) → IsUntouched s → IsPort s → GoesOn s s 0
 goes_begin s p port = record {
@@ -40,12 +48,38 @@ goes_begin s p port = record {
   held = p.held;
 }
 
--- a ring over the job's clauses, with nothing true
+-- the start clauses of the job are held
+pub starts_held : (s : PortState) (job : Job) → IsJobOf s job → IsUntouched s → All (IsHeldBy s) job.start
+starts_held s job asked p = subst (All (IsHeldBy s)) (sym asked.start) held
+  where
+    of_start : (h : Holding) → held_at s h.address ≡ Some h → IsSome (held_at s h.address)
+    of_start h e = subst (λ (o : Option Holding). IsSome o) (sym e) refl
+
+    held : All (IsHeldBy s) (map (λ (h : Holding). record { address = h.address }) s.start)
+    held = λ k d h.
+        (let t = map_In (λ (x : Holding). record { address = x.address }) s.start (get_or (map (λ (x : Holding). record { address = x.address }) s.start) k d) (In_get_or (map (λ (x : Holding). record { address = x.address }) s.start) k d h) in
+        subst (IsHeldBy s) t.2 (of_start t.0 (All_In (λ (x : Holding). held_at s x.address ≡ Some x) s.start t.0 p.held t.1)))
+
+-- a ring that has attached the job's clauses, with nothing true
 pub begun : (s : PortState) (job : Job) (ring : Ring) → IsJobOf s job → IsUntouched s → IsPort s → ring.trail ≡ record { vars = job.vars; level = 0; steps = []; done = 0 } → IsTrail ring.trail
-    → ring.clauses.items ≡ job.start → IsBegun s ring
-begun s job ring asked p port trail shape clauses =
-    let is : ring.clauses.items ≡ map (λ (h : Holding). record { address = h.address }) s.start = clauses ∙ asked.start in
+    → attached ring.watches ≡ job.start → ((t : TrailData) → t.vars ≡ job.vars → IsFresh t → Watched ring.watches (lits_at s) t) → IsBegun s ring
+begun s job ring asked p port trail shape clauses watched =
+    let is : attached ring.watches ≡ map (λ (h : Holding). record { address = h.address }) s.start = clauses ∙ asked.start in
     record {
+      clauses = record {
+        held = subst (All (IsHeldBy s)) (sym clauses) (starts_held s job asked p);
+        starts = λ h there. subst (λ (cs : List Cref). Contains cs (record { address = h.address })) (sym is)
+            (In_Contains (map (λ (k : Holding). record { address = k.address }) s.start) (record { address = h.address }) (In_map (λ (k : Holding). record { address = k.address }) s.start h (Contains_In s.start h there)));
+        starts_held = p.held;
+        own = record {
+          lemmas = λ c h. absurd (Contains_In [] c (subst (λ (J : List Entry). Contains (recent s.ring J) c) p.mine h));
+          units = λ l h. absurd (false≢true (ap (λ (J : List Entry). adds_unit s.ring J l) (sym p.mine) ∙ h));
+        };
+        taken = p.taken;
+        refused = p.refused;
+        stop = p.stop;
+        port = port;
+      };
       stands = record {
         vars = ap (λ (t : TrailData). t.vars) trail ∙ asked.vars;
         reasoned = record { caused = λ q h. absurd (omega (arith, ap (λ (t : TrailData). length t.steps) trail)) };
@@ -53,24 +87,9 @@ begun s job ring asked p port trail shape clauses =
       };
       trail = shape;
       level = ap (λ (t : TrailData). t.level) trail;
-      held = subst (All (IsHeldBy s)) (sym is) held_starts;
-      starts = λ h there. subst (λ (cs : List Cref). Contains cs (record { address = h.address })) (sym is)
-          (In_Contains (map (λ (k : Holding). record { address = k.address }) s.start) (record { address = h.address }) (In_map (λ (k : Holding). record { address = k.address }) s.start h (Contains_In s.start h there)));
-      refused = p.refused;
-      stop = p.stop;
-      port = port;
+      watched = λ t vars fresh. watched t (vars ∙ sym asked.vars) fresh;
+      reasons = record { caused = λ q h. absurd (omega (arith, ap (λ (t : TrailData). length t.steps) trail)) };
     }
-  where
-    refs : List Cref
-    refs = map (λ (k : Holding). record { address = k.address }) s.start
-
-    of_start : (h : Holding) → held_at s h.address ≡ Some h → IsSome (held_at s h.address)
-    of_start h e = subst (λ (o : Option Holding). IsSome o) (sym e) refl
-
-    held_starts : All (IsHeldBy s) refs
-    held_starts = λ k d h.
-        (let t = map_In (λ (x : Holding). record { address = x.address }) s.start (get_or refs k d) (In_get_or refs k d h) in
-        subst (IsHeldBy s) t.2 (of_start t.0 (All_In (λ (x : Holding). held_at s x.address ≡ Some x) s.start t.0 p.held t.1)))
 
 pub finds_runs : (start s : PortState) (n limit : ℕ) (f : Finding) → Finds start s n limit f → Runs start s n
 finds_runs start s n limit (Model a) p = p.0.runs
@@ -78,6 +97,9 @@ finds_runs start s n limit Refuted p = p.0.runs
 finds_runs start s n limit Spent p = p.0.runs
 finds_runs start s n limit (Stopped x) p = p.0.runs
 finds_runs start s n limit (Refused stop) p = p.0.runs
+
+pub finds_made : (s m u : PortState) (n limit : ℕ) (f : Finding) → m ≡ s → Finds m u n limit f → Runs s u n
+finds_made s m u n limit f is p = subst (λ (x : PortState). Runs x u n) is (finds_runs m u n limit f p)
 
 pub counted_by : (start s : PortState) (n : ℕ) → Runs start s n → IsCounted s (record { learned = n; exported = 0; offered = 0; restarts = 0 })
 counted_by start s n p = record { learned_is = p.counted; exported = refl; offered = refl; restarts = refl }

@@ -1,8 +1,8 @@
 pub mod LevelZero
-pub mod Judging
-pub mod Scanning
+pub mod Remembering
 pub mod Standing
 pub mod Progress
+pub mod News
 pub mod Asserting
 pub mod Learning
 pub mod Deciding

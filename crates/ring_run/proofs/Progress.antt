@@ -4,7 +4,7 @@ use Rattle.std.specs.Prelude.{All, ◌&&◌, ◌≢◌, MatchOption, IfErr, Resu
 use Rattle.std.specs.List.{list_any}
 use Rattle.std.specs.declared.option.Option.{Option}
 use Rattle.std.proofs.lemmas.List.Elements.{All-append, All-cons, All-nil}
-use Rattle.std.proofs.lemmas.Bool.{or_left}
+use Rattle.std.proofs.lemmas.Bool.{or_left, false≢true}
 use Rattle.sat_words.specs.Literal.{Literal, same}
 use Rattle.sat_words.specs.Clause.{has, is_empty}
 use Rattle.sat_words.specs.declared.shared.Cref.{Cref}
@@ -15,16 +15,20 @@ use Rattle.rup_model.specs.declared.journal.Entry.{Entry}
 use Rattle.rup_model.specs.declared.journal.Entry.TheVariants.{Add}
 use Rattle.rup_model.specs.declared.journal.Addition.{Addition}
 use Rattle.drat_text.specs.LineState.{LineState}
+use Rattle.rup_model.specs.Basics.{EachAfter}
 use Rattle.rup_model.specs.Journal.{added, learned, is_learn}
+use Rattle.rup_model.specs.Opening.{Opening, IsNew}
+use Rattle.rup_model.proofs.Sequences.{each_last}
 use Rattle.rup_model.proofs.Additions.{added-append, learned-append}
 use Rattle.ring_port.specs.PortState.{PortState, Holding, IsPort, IsOn, HoldsStart, held_at}
-use Rattle.ring_port.specs.Port.{WroteUnit, UnitWritten, LearnedUnit, LearnedClause, EndedLog, Refused, HasReason, KeepsHeld, Looked, entry_of, after_refusal, IsClause}
-use Rattle.ring_port.specs.Log.{KeepsLog}
+use Rattle.ring_port.specs.Port.{WroteUnit, UnitWritten, LearnedUnit, LearnedClause, EndedLog, Refused, HasReason, KeepsHeld, Looked, entry_of, after_refusal, IsClause, is_usable}
+use Rattle.ring_port.specs.Log.{KeepsLog, start_of}
 use Rattle.ring_port.specs.declared.stops.PortStop.{PortStop}
 use Rattle.ring_port.specs.declared.stops.PortStop.TheVariants.{Ended, Broken, ProofFault, NoHole, Memory}
-use Rattle.ring_run.specs.Ended.{Stays, IsOwn}
-use Rattle.ring_run.specs.Searching.{Runs, GoesOn, EndsBy, OnlySaw, OnlyWrote, IsOver, IsRefuted, IsNoted}
+use Rattle.ring_run.specs.Ended.{Stays, IsOwn, AreNew, opening_of}
+use Rattle.ring_run.specs.Searching.{Runs, GoesOn, EndsBy, OnlySaw, OnlyWrote, IsOver, IsRefuted, IsNoted, IsNewTo}
 use Rattle.ring_run.specs.Finding.{IsStoppedBy}
+use Rattle.ring_run.proofs.Remembering.{held_same, unit_remembered}
 
 pub stays_by : (s u w : PortState) → Stays s u → Stays u w → Stays s w
 stays_by s u w p q = record {
@@ -41,17 +45,24 @@ stays_by s u w p q = record {
   log = λ o h. q.log o (p.log o h);
 }
 
-pub held_same : (s u : PortState) (a : ℕ) → u.held ≡ s.held → held_at u a ≡ held_at s a
-unfolding held_at
-held_same s u a e = ap (λ (hs : List Holding). held_at (record s { held = hs }) a) e
-
 kept_by : (s u w : PortState) → KeepsHeld s u → KeepsHeld u w → KeepsHeld s w
 kept_by s u w p q = λ a h. q a (subst (λ (o : Option Holding). IsSome o) (sym (p a h)) h) ∙ p a h
 
+-- what a run starts from
+opening_moved : (s u : PortState) → Stays s u → opening_of u ≡ opening_of s
+opening_moved s u p = ap (λ (hs : List Holding). made hs u.opening) p.start ∙ ap (made s.start) p.opening
+  where
+    made : List Holding → List Literal → Opening
+    made hs ls = record { journal = []; starts = map start_of hs; units = ls }
+
+-- entries whose clauses are new
+news_moved : (s u : PortState) (J : List Entry) → Stays s u → u.mine ≡ J → EachAfter (IsNew (opening_of s)) [] J → AreNew u
+news_moved s u J stays is p = subst (EachAfter (IsNew (opening_of u)) []) (sym is) (subst (λ (o : Opening). EachAfter (IsNew o) [] J) (sym (opening_moved s u stays)) p)
+
 -- a run goes on by an entry of its ring
 pub runs_adds : (start s u : PortState) (n m : ℕ) (e : Entry) → Runs start s n → Stays s u → KeepsHeld s u → u.mine ≡ s.mine ++ e ∷ [] → IsOwn start.ring start.vars e
-    → m ≡ n + length (learned s.ring (e ∷ [])) → IsPort u → Runs start u m
-runs_adds start s u n m e p stays kept is own count port = record {
+    → m ≡ n + length (learned s.ring (e ∷ [])) → IsNew (opening_of s) s.mine e → IsPort u → Runs start u m
+runs_adds start s u n m e p stays kept is own count fresh port = record {
   stays = stays_by start s u p.stays stays;
   kept = kept_by start s u p.kept kept;
   wrote = subst (All (IsOwn start.ring start.vars)) (sym is)
@@ -62,6 +73,7 @@ runs_adds start s u n m e p stays kept is own count port = record {
       let here = ap (λ (r : ℕ). length (learned r u.mine)) stays.ring in
       let there = ap (λ (J : List Entry). length (learned s.ring J)) is in
       omega (arith, count, p.counted, split, both, here, there));
+  each_new = news_moved s u (s.mine ++ e ∷ []) stays is (each_last (IsNew (opening_of s)) [] s.mine e p.each_new fresh);
   port = port;
 }
 
@@ -72,6 +84,7 @@ runs_same start s u n p stays held is port = record {
   kept = kept_by start s u p.kept (λ a h. held_same s u a held);
   wrote = subst (All (IsOwn start.ring start.vars)) (sym is) p.wrote;
   counted = p.counted ∙ ap (λ (J : List Entry). length (learned s.ring J)) (sym is) ∙ ap (λ (r : ℕ). length (learned r u.mine)) (sym stays.ring);
+  each_new = news_moved s u s.mine stays is p.each_new;
   port = port;
 }
 
@@ -136,7 +149,7 @@ unit_goes_on start s u n l p on w log port =
     record {
       runs = runs_adds start s u n n e p.runs stays (λ a h. held_same s u a held) is
           (p.runs.stays.ring, subst (λ (v : ℕ). All (IsOn v) (l ∷ [])) p.runs.stays.vars (All-cons (IsOn s.vars) l [] on (All-nil (IsOn s.vars))), refl)
-          (no_lemma s.ring w.number l) port;
+          (no_lemma s.ring w.number l) (λ learns. absurd (false≢true learns)) port;
       going = going_more s u e is p.going refl;
       stop = ap (λ (x : PortState). x.stop) w.state ∙ p.stop;
       refused = ap (λ (x : PortState). x.refused) w.state ∙ p.refused;
@@ -186,12 +199,16 @@ same_refused s output ProofFault = but_noted s (Some ProofFault) s.ended output
 same_refused s output (NoHole need largest) = but_noted s (Some (NoHole need largest)) s.ended s.output
 same_refused s output Memory = but_noted s s.refused s.ended s.output
 
-noted_refused : (s : PortState) (output : Option LineState) (stop : PortStop) → HasReason s stop → IsNoted (after_refusal s output stop) stop
-noted_refused s output Ended reason = refl
-noted_refused s output Broken reason = refl
-noted_refused s output ProofFault reason = refl
-noted_refused s output (NoHole need largest) reason = (refl, reason.1)
-noted_refused s output Memory reason = tt
+noted_refused : (s : PortState) (output : Option LineState) (stop : PortStop) → HasReason s stop → is_usable s.refused ≡ true → IsNoted (after_refusal s output stop) stop
+noted_refused s output Ended reason usable = (refl, refl)
+noted_refused s output Broken reason usable = refl
+noted_refused s output ProofFault reason usable = refl
+noted_refused s output (NoHole need largest) reason usable = (refl, reason.1)
+noted_refused s output Memory reason usable = usable
+
+-- where nothing has been refused the port may be used
+pub usable_none : (s : PortState) → s.refused ≡ None → is_usable s.refused ≡ true
+usable_none s e = ap is_usable e
 
 stays_same : (s u : PortState) → Same s u → KeepsLog s u → Stays s u
 stays_same s u p log = record {
@@ -208,13 +225,17 @@ stays_same s u p log = record {
   log = log;
 }
 
+-- memory ran out in the ring
+pub out_of_memory : (start s : PortState) (n : ℕ) → GoesOn start s n → IsOver start s n Memory
+out_of_memory start s n p = record { runs = p.runs; stop_is = p.stop; noted = usable_none s p.refused }
+
 pub refused_over : (start s u : PortState) (n : ℕ) (stop : PortStop) → GoesOn start s n → Refused s u stop → KeepsLog s u → IsPort u → IsOver start u n stop
 refused_over start s u n stop p r log port =
     let same : Same s u = subst (Same s) (sym r.state) (same_refused s u.output stop) in
     record {
       runs = runs_same start s u n p.runs (stays_same s u same log) same.held same.mine port;
       stop_is = same.stop ∙ p.stop;
-      noted = subst (λ (x : PortState). IsNoted x stop) (sym r.state) (noted_refused s u.output stop r.reason);
+      noted = subst (λ (x : PortState). IsNoted x stop) (sym r.state) (noted_refused s u.output stop r.reason (usable_none s p.refused));
     }
 
 pub unit_over : (s u : PortState) (l : Literal) (r : Result (Unit {0}) PortStop) → UnitWritten s u l r → KeepsLog s u → IsPort u → IfErr r (EndsBy s u)
@@ -245,31 +266,31 @@ some_literal [] h = absurd (omega arith)
 some_literal (l ∷ c) h = refl
 
 -- the entry of a lemma goes on with one more
-learned_goes_on : (start s u : PortState) (n number : ℕ) (lits : List Literal) → GoesOn start s n → Stays s u → IsClause s.vars lits → 1 ≤ length lits
+learned_goes_on : (start s u : PortState) (n number : ℕ) (lits : List Literal) → GoesOn start s n → Stays s u → IsClause s.vars lits → IsNewTo s lits → 1 ≤ length lits
     → u.mine ≡ s.mine ++ entry_of s number lits Learn ∷ [] → u.stop ≡ s.stop → u.refused ≡ s.refused → KeepsHeld s u → IsPort u → GoesOn start u (n + 1)
-learned_goes_on start s u n number lits p stays clause some is stop refused kept port =
+learned_goes_on start s u n number lits p stays clause fresh some is stop refused kept port =
     let e : Entry = entry_of s number lits Learn in
     record {
       runs = runs_adds start s u n (n + 1) e p.runs stays kept is
           (p.runs.stays.ring, subst (λ (v : ℕ). All (IsOn v) lits) p.runs.stays.vars clause.on, some)
-          (omega (arith, one_learned s.ring (record { ring = s.ring; number = number; lits = lits; kind = Learn }) refl refl)) port;
+          (omega (arith, one_learned s.ring (record { ring = s.ring; number = number; lits = lits; kind = Learn }) refl refl)) (λ learns. fresh.unlisted) port;
       going = going_more s u e is p.going (some_literal lits some);
       stop = stop ∙ p.stop;
       refused = refused ∙ p.refused;
       held = starts_kept s u stays.start kept p.held;
     }
 
-pub clause_goes_on : (start s u : PortState) (n glue : ℕ) (lits : List Literal) (c : Cref) → GoesOn start s n → IsClause s.vars lits → LearnedClause s u lits glue c → KeepsHeld s u → KeepsLog s u → IsPort u
+pub clause_goes_on : (start s u : PortState) (n glue : ℕ) (lits : List Literal) (c : Cref) → GoesOn start s n → IsClause s.vars lits → IsNewTo s lits → LearnedClause s u lits glue c → KeepsHeld s u → KeepsLog s u → IsPort u
     → GoesOn start u (n + 1)
-clause_goes_on start s u n glue lits c p clause w kept log port =
-    learned_goes_on start s u n w.number lits p (stays_learned s u lits glue c w log) clause (omega (arith, w.long))
+clause_goes_on start s u n glue lits c p clause fresh w kept log port =
+    learned_goes_on start s u n w.number lits p (stays_learned s u lits glue c w log) clause fresh (omega (arith, w.long))
     (ap (λ (x : PortState). x.mine) w.state) (ap (λ (x : PortState). x.stop) w.state) (ap (λ (x : PortState). x.refused) w.state) kept port
 
-pub unit_learned_goes_on : (start s u : PortState) (n : ℕ) (lits : List Literal) → GoesOn start s n → IsClause s.vars lits → LearnedUnit s u lits → KeepsHeld s u → KeepsLog s u → IsPort u
+pub unit_learned_goes_on : (start s u : PortState) (n : ℕ) (lits : List Literal) → GoesOn start s n → IsClause s.vars lits → IsNewTo s lits → LearnedUnit s u lits → KeepsHeld s u → KeepsLog s u → IsPort u
     → GoesOn start u (n + 1)
-unit_learned_goes_on start s u n lits p clause w kept log port =
+unit_learned_goes_on start s u n lits p clause fresh w kept log port =
     let wrote = w.wrote in
-    learned_goes_on start s u n wrote.number lits p (stays_unit s u w.lit Learn None wrote log) clause (omega (arith, ap length w.unit))
+    learned_goes_on start s u n wrote.number lits p (stays_unit s u w.lit Learn None wrote log) clause fresh (omega (arith, ap length w.unit))
     (ap (λ (x : PortState). x.mine) wrote.state ∙ ap (λ (c : List Literal). s.mine ++ entry_of s wrote.number c Learn ∷ []) (sym w.unit))
     (ap (λ (x : PortState). x.stop) wrote.state) (ap (λ (x : PortState). x.refused) wrote.state) kept port
 
@@ -293,9 +314,10 @@ empty_refutes start s u n p w log port =
     record {
       runs = runs_adds start s u n n e p.runs stays (λ a h. held_same s u a (ap (λ (x : PortState). x.held) w.state)) (ap (λ (x : PortState). x.mine) w.state)
           (p.runs.stays.ring, All-nil (IsOn start.vars), refl)
-          (omega (arith, not_learned s.ring (record { ring = s.ring; number = w.number; lits = []; kind = Derive }) refl)) port;
+          (omega (arith, not_learned s.ring (record { ring = s.ring; number = w.number; lits = []; kind = Derive }) refl)) (λ learns. absurd (false≢true learns)) port;
       stop = ap (λ (x : PortState). x.stop) w.state ∙ p.stop;
       ended = ap (λ (x : PortState). x.ended) w.state;
+      usable = usable_none u (ap (λ (x : PortState). x.refused) w.state ∙ p.refused);
     }
 
 -- a run that has seen units
@@ -312,6 +334,7 @@ pub wrote_none : (s : PortState) → OnlyWrote s s
 wrote_none s = record {
   stays = record { start = refl; opening = refl; vars = refl; ring = refl; rings = refl; waiting = refl; shared = refl; polled = refl; puts = refl; taken = refl; log = λ o h. h };
   held = refl;
+  own = λ cs p. p;
   stop = refl;
   refused = refl;
   more = λ l h. h;
@@ -321,6 +344,7 @@ pub wrote_by : (s u w : PortState) → OnlyWrote s u → OnlyWrote u w → OnlyW
 wrote_by s u w p q = record {
   stays = stays_by s u w p.stays q.stays;
   held = q.held ∙ p.held;
+  own = λ cs r. q.own cs (p.own cs r);
   stop = q.stop ∙ p.stop;
   refused = q.refused ∙ p.refused;
   more = λ l h. q.more l (p.more l h);
@@ -330,6 +354,7 @@ pub wrote_unit : (s u : PortState) (l : Literal) → WroteUnit s u l UnitLine s.
 wrote_unit s u l w log = record {
   stays = stays_unit s u l UnitLine s.last w log;
   held = ap (λ (x : PortState). x.held) w.state;
+  own = unit_remembered s u l UnitLine s.last w;
   stop = ap (λ (x : PortState). x.stop) w.state;
   refused = ap (λ (x : PortState). x.refused) w.state;
   more = λ k h. w.sees k ∙ or_left (has s.seen k) (same l k) h;

@@ -1,15 +1,17 @@
 -- What is seen, and what is true for good.
-use Rattle.std.proofs.Common.{◌≡◌, ◌∙◌, ℕ, ◌<◌, ◌≤◌, true, false, List, [], ◌∷◌, ◌++◌, length, sym, subst, ap, arith, inl, inr, ◌⊎◌, None, length-append}
+use Rattle.std.proofs.Common.{◌≡◌, ◌∙◌, ℕ, ◌<◌, ◌≤◌, true, false, not, List, [], ◌∷◌, ◌++◌, length, sym, subst, ap, arith, inl, inr, ◌⊎◌, None, append_assoc, length-append}
 use Rattle.std.specs.Option.{option_map}
 use Rattle.std.specs.declared.option.Option.{Option}
 use Rattle.std.proofs.lemmas.Bool.{or_left, or_right, or_cases, false≢true}
 use Rattle.std.proofs.lemmas.List.{get_or_append_left}
+use Rattle.std.proofs.lemmas.List.Elements.{All-append, All-cons, All-nil}
 use Rattle.std.proofs.Math.Seq.{get_or-append_seam}
 use Rattle.sat_words.specs.Literal.{Literal, same}
 use Rattle.sat_words.specs.Clause.{has}
+use Rattle.sat_words.specs.declared.shared.Cref.{Cref}
 use Rattle.sat_words.proofs.Members.{same-true, same-refl}
 use Rattle.rup_model.specs.Rup.{rup}
-use Rattle.ring_port.specs.PortState.{PortState, Holding, IsPort, held_at, known}
+use Rattle.ring_port.specs.PortState.{PortState, IsPort, known}
 use Rattle.ring_port.specs.Port.{TookUnit, WroteUnit, Sees}
 use Rattle.rup_model.specs.declared.journal.Kind.{Kind}
 use Rattle.rup_model.specs.declared.journal.Kind.TheVariants.{UnitLine}
@@ -18,13 +20,17 @@ use Rattle.ring_port.specs.PortState.{IsOn}
 use Rattle.ring_port.proofs.Holdings.{seen_is_known, All_In}
 use Rattle.rup_model.proofs.Lists.{has_In}
 use Rattle.ring_trail.specs.declared.step.Step.{Step}
-use Rattle.ring_trail.specs.TrailData.{TrailData, IsTrail, IsTrueOn, IsFalseOn, FalseBefore, no_step, step_at, lit_at, assigned}
+use Rattle.ring_trail.specs.TrailData.{TrailData, IsTrail, IsTrueOn, IsFalseOn, FalseBefore, HasNoPlace, HasGrown, no_step, step_at, lit_at, value_of, assigned}
 use Rattle.ring_trail.specs.Reasoned.{IsReasoned}
 use Rattle.ring_trail.specs.Closed.{TrueWithin}
+use Rattle.ring_trail.proofs.Values.{step_of-no_place}
 use Rattle.ring_trail.proofs.Causes.{IsReasoned-seen, IsReasoned-held}
+use Rattle.watch_prop.specs.Propagation.{attached_at, HasReasons}
+use Rattle.watch_prop.proofs.TrailLaws.{Reasons-more}
 use Rattle.ring_port.specs.PortState.{clause_at}
 use Rattle.ring_run.specs.Searching.{OnlySaw, Stands}
 use Rattle.ring_run.proofs.LevelZero.{false_at_zero}
+use Rattle.ring_run.proofs.Remembering.{clause_at_same}
 
 -- a literal that is true stays so as the trail grows
 pub within_more : (steps more : List Step) (k : ℕ) (l : Literal) → TrueWithin steps k l → TrueWithin (steps ++ more) k l
@@ -57,9 +63,20 @@ within_zero t l shape zero_level w = record {
   level = omega (arith, shape.within w.place w.before);
 }
 
-pub clause_at_same : (s u : PortState) → u.held ≡ s.held → (a : ℕ) → clause_at u a ≡ clause_at s a
-unfolding held_at
-clause_at_same s u e a = ap (λ (hs : List Holding). option_map (λ (h : Holding). h.lits) (held_at (record s { held = hs }) a)) e
+pub no_value : (steps : List Step) (v : ℕ) → HasNoPlace steps v → value_of steps v ≡ None
+no_value steps v free = ap (option_map (λ (s : Step). not s.lit.neg)) (step_of-no_place steps v free)
+
+-- one literal more at the present level
+pub grown_by : (t u : TrailData) (l : Literal) (r : Option Cref) → HasGrown t u → HasGrown t (assigned u l r)
+grown_by t u l r p =
+    let x : Step = record { lit = l; level = u.level; reason = r } in
+    record {
+      vars = p.vars;
+      level = p.level;
+      more = p.more ++ x ∷ [];
+      steps = ap (λ (ss : List Step). ss ++ x ∷ []) p.steps ∙ append_assoc t.steps p.more (x ∷ []);
+      at_level = All-append (λ (s : Step). s.level ≡ t.level) p.more (x ∷ []) p.at_level (All-cons (λ (s : Step). s.level ≡ t.level) x [] p.level (All-nil (λ (s : Step). s.level ≡ t.level)));
+    }
 
 -- the reasons stay where nothing that is held changes and more is seen
 pub reasoned_more : (s u : PortState) (steps : List Step) → u.held ≡ s.held → ((l : Literal) → has s.seen l ≡ true → has u.seen l ≡ true)
@@ -131,6 +148,14 @@ stands_taken u w t l p took zero_level =
         | inr e ↦ subst (TrueWithin (t.steps ++ x ∷ []) 0) e (within_last t.steps x 0 (omega arith))
       ];
     }
+
+-- where no clause is a reason none is after a unit has come
+pub no_reasons_seen : (u w : PortState) (steps : List Step) (l : Literal) → TookUnit u w l → HasReasons [] u steps → HasReasons [] w steps
+no_reasons_seen u w steps l took r = Reasons-more [] [] u w steps (λ c there. absurd (omega (arith, there.1))) (λ k h. sees_old u.seen w.seen l k took.sees h) r
+
+pub no_reasons_taken : (u w : PortState) (t : TrailData) (l : Literal) → TookUnit u w l → t.level ≡ 0 → HasReasons [] u t.steps → HasReasons [] w (assigned t l None).steps
+no_reasons_taken u w t l took zero_level r =
+    IsReasoned-seen (attached_at [] w) w.seen t l None (no_reasons_seen u w t.steps l took r) zero_level (sees_new u.seen w.seen l took.sees)
 
 -- a unit that is false at level 0
 pub opposed : (u w : PortState) (t : TrailData) (l : Literal) → Stands u t → TookUnit u w l → IsTrail t → t.level ≡ 0 → IsFalseOn t.steps l → rup (known w) [] ≡ true

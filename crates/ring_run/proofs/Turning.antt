@@ -1,67 +1,98 @@
 -- Steps of a search, one after another.
-use Rattle.std.proofs.Common.{◌≡◌, ◌∙◌, ℕ, ◌+◌, ◌-◌, ◌*◌, ◌<◌, ◌≤◌, ◌⊎◌, inl, inr, List, length, sym, subst, ap, arith, Some, None, IsSome, Contains, get_or}
+use Rattle.std.proofs.Common.{◌≡◌, ◌∙◌, ℕ, ◌+◌, ◌-◌, ◌*◌, ◌<◌, ◌≤◌, ◌⊎◌, inl, inr, List, [], map, length, sym, subst, ap, arith, Some, None, IsSome, Contains, get_or}
 use Rattle.std.specs.Prelude.{All, MatchOption}
 use Rattle.std.specs.declared.option.Option.{Option}
 use Rattle.sat_words.specs.Literal.{Literal}
 use Rattle.sat_words.specs.Clause.{has}
 use Rattle.sat_words.specs.declared.shared.Cref.{Cref}
-use Rattle.ring_port.specs.PortState.{PortState, Holding, IsPort, lits_in}
-use Rattle.ring_trail.specs.TrailData.{TrailData, IsTrail}
-use Rattle.ring_run.specs.Scanned.{IsHeldBy, IsSettled}
-use Rattle.ring_run.specs.Searching.{Stands, OnlySaw, OnlyWrote, OpeningSeen, GoesOn}
-use Rattle.ring_run.specs.Finding.{InSearch, IsBegun, GoesOnBy, FoundBy, IsSettledAll, IsFurther}
+use Rattle.ring_port.specs.PortState.{PortState, Holding, IsPort, lits_at}
+use Rattle.ring_trail.specs.declared.step.Step.{Step}
+use Rattle.ring_trail.specs.TrailData.{TrailData, IsTrail, HasGrown}
+use Rattle.ring_trail.specs.Closed.{TrueWithin, IsClosed}
+use Rattle.ring_trail.proofs.Causes.{IsClosed-more}
+use Rattle.watch_prop.specs.WatchData.{WatchData, Lits, attached, clauses_of}
+use Rattle.watch_prop.specs.Watched.{Watched, IsFresh}
+use Rattle.watch_prop.specs.Propagation.{HasReasons, IsClosedBelow, IsQuiet}
+use Rattle.watch_prop.proofs.TrailLaws.{Reasons-more, Reasons-held}
+use Rattle.ring_run.specs.Ended.{Stays}
+use Rattle.ring_run.specs.Searching.{IsHeldBy, HasClauses, Remembers, Stands, OnlySaw, OnlyWrote, OpeningSeen, GoesOn}
+use Rattle.ring_run.specs.Finding.{Searches, InSearch, IsBegun, GoesOnBy, FoundBy, IsFurther}
 use Rattle.ring_run.specs.declared.search.Ring.{Ring}
 use Rattle.ring_run.specs.declared.search.Finding.{Finding}
-use Rattle.ring_run.proofs.Progress.{held_same}
+use Rattle.ring_run.proofs.Remembering.{held_same, lits_same, clause_at_same, remembered_same}
+use Rattle.ring_run.proofs.Standing.{within_more}
+use Rattle.ring_run.proofs.Progress.{starts_kept}
 
 held_by_same : (s u : PortState) (cs : List Cref) → u.held ≡ s.held → All (IsHeldBy s) cs → All (IsHeldBy u) cs
 held_by_same s u cs e all = λ k d h. subst (λ (o : Option Holding). IsSome o) (sym (held_same s u (get_or cs k d).address e)) (all k d h)
 
--- lines of units leave a search as it is
-pub wrote_search : (s u : PortState) (old new : Ring) → InSearch s old → OnlyWrote s u → IsPort u → new.trail ≡ old.trail → new.clauses ≡ old.clauses → Stands u old.trail → InSearch u new
-wrote_search s u old new p w port trail clauses stands = record {
-  stands = subst (Stands u) (sym trail) stands;
-  trail = subst IsTrail (sym trail) p.trail;
-  held = subst (λ cs. All (IsHeldBy u) cs.items) (sym clauses) (held_by_same s u old.clauses.items w.held p.held);
-  starts = λ h there. subst (λ cs. Contains cs.items (record { address = h.address })) (sym clauses) (p.starts h (subst (λ (hs : List Holding). Contains hs h) w.stays.start there));
-  opening = λ l h. w.more l (p.opening l (ap (λ (ls : List Literal). has ls l) (sym w.stays.opening) ∙ h));
-  refused = w.refused ∙ p.refused;
-  stop = w.stop ∙ p.stop;
+-- what stays of the clauses attached where nothing that is held changes
+clauses_same : (s u : PortState) (cs : List Cref) → HasClauses s cs → Stays s u → u.held ≡ s.held → u.stop ≡ s.stop → u.refused ≡ s.refused → Remembers u cs → IsPort u → HasClauses u cs
+clauses_same s u cs p stays held stop refused own port = record {
+  held = held_by_same s u cs held p.held;
+  starts = λ h there. p.starts h (subst (λ (hs : List Holding). Contains hs h) stays.start there);
+  starts_held = starts_kept s u stays.start (λ a h. held_same s u a held) p.starts_held;
+  own = own;
+  taken = stays.taken ∙ p.taken;
+  refused = refused ∙ p.refused;
+  stop = stop ∙ p.stop;
   port = port;
 }
 
--- and leave the clauses as they are
-pub settled_same : (s u : PortState) (old new : Ring) → u.held ≡ s.held → new.trail ≡ old.trail → new.clauses ≡ old.clauses → IsSettledAll s old.trail.steps old.clauses.items → IsSettledAll u new.trail.steps new.clauses.items
-settled_same s u old new held trail clauses all =
-    subst (λ (t : TrailData). IsSettledAll u t.steps new.clauses.items) (sym trail)
-    (subst (λ cs. IsSettledAll u old.trail.steps cs.items) (sym clauses)
-    (λ k d h. subst (λ (c : List Literal). IsSettled old.trail.steps c) (sym (ap lits_in (held_same s u (get_or old.clauses.items k d).address held))) (all k d h)))
+-- lines of units leave a search as it is
+pub wrote_search : (s u : PortState) (t : TrailData) (w : WatchData) → Searches s t w → OnlyWrote s u → IsPort u → Stands u t → Searches u t w
+wrote_search s u t w p wrote port stands = record {
+  clauses = clauses_same s u (attached w) p.clauses wrote.stays wrote.held wrote.stop wrote.refused (wrote.own (attached w) p.clauses.own) port;
+  opening = λ l h. wrote.more l (p.opening l (ap (λ (ls : List Literal). has ls l) (sym wrote.stays.opening) ∙ h));
+  stands = stands;
+  trail = p.trail;
+  watched = subst (λ (f : Lits). Watched w f t) (sym (lits_same s u wrote.held)) p.watched;
+  closed = subst (λ (f : Lits). IsClosedBelow w f t) (sym (lits_same s u wrote.held)) p.closed;
+  reasons = Reasons-more (attached w) (attached w) s u t.steps (λ c there. (there, clause_at_same s u wrote.held c.address)) wrote.more p.reasons;
+}
+
+-- and what propagation came to
+pub quiet_same : (s u : PortState) (t v : TrailData) (w x : WatchData) → u.held ≡ s.held → v ≡ t → x ≡ w → IsQuiet w (lits_at s) t → IsQuiet x (lits_at u) v
+quiet_same s u t v w x held trail watches q =
+    subst (λ (y : TrailData). IsQuiet x (lits_at u) y) (sym trail) (subst (λ (y : WatchData). IsQuiet y (lits_at u) t) (sym watches) (subst (λ (f : Lits). IsQuiet w f t) (sym (lits_same s u held)) q))
 
 -- units that have come leave a search that has begun in its course
-pub begun_search : (s u : PortState) (old new : Ring) → IsBegun s old → OnlySaw s u → IsPort u → IsTrail new.trail → new.clauses ≡ old.clauses → Stands u new.trail → OpeningSeen u → InSearch u new
-begun_search s u old new p w port shape clauses stands opening = record {
-  stands = stands;
-  trail = shape;
-  held = subst (λ cs. All (IsHeldBy u) cs.items) (sym clauses) (held_by_same s u old.clauses.items w.held p.held);
-  starts = λ h there. subst (λ cs. Contains cs.items (record { address = h.address })) (sym clauses) (p.starts h (subst (λ (hs : List Holding). Contains hs h) w.stays.start there));
-  opening = opening;
-  refused = w.refused ∙ p.refused;
-  stop = w.stop ∙ p.stop;
-  port = port;
-}
+pub begun_search : (s u : PortState) (ring : Ring) (t : TrailData) → IsBegun s ring → OnlySaw s u → IsPort u → IsTrail t → HasGrown ring.trail t → Stands u t → OpeningSeen u → HasReasons [] u t.steps
+    → Searches u t ring.watches
+begun_search s u ring t p saw port shape grown stands opening reasons =
+    let cs = attached ring.watches in
+    let level : t.level ≡ 0 = grown.level ∙ p.level in
+    let fresh : IsFresh t = λ q low h. (let at = shape.within q h in omega arith) in
+    record {
+      clauses = clauses_same s u cs p.clauses saw.stays saw.held saw.stop saw.refused
+          (remembered_same s u cs saw.stays.ring saw.mine (λ c there. ap (λ (f : Lits). f c.address) (lits_same s u saw.held)) saw.more p.clauses.own) port;
+      opening = opening;
+      stands = stands;
+      trail = shape;
+      watched = subst (λ (f : Lits). Watched ring.watches f t) (sym (lits_same s u saw.held)) (p.watched t (stands.vars ∙ saw.stays.vars) fresh);
+      closed = λ k below. absurd (omega arith);
+      reasons = Reasons-more [] cs u u t.steps (λ c there. absurd (omega (arith, there.1))) (λ l h. h) reasons;
+    }
 
--- a longer trail at the same port
-pub grown_search : (s u : PortState) (old new : Ring) → InSearch s old → u ≡ s → IsPort u → IsTrail new.trail → new.clauses ≡ old.clauses → Stands u new.trail → InSearch u new
-grown_search s u old new p is port shape clauses stands = record {
-  stands = stands;
+-- a trail that has grown by propagation
+pub grown_search : (s u : PortState) (t v : TrailData) (w x : WatchData) → Searches s t w → u ≡ s → IsTrail v → attached x ≡ attached w → HasGrown t v → HasReasons (attached w) s v.steps → Watched x (lits_at s) v
+    → Searches u v x
+grown_search s u t v w x p is shape same grown reasons watched = subst (λ (y : PortState). Searches y v x) (sym is) (record {
+  clauses = subst (HasClauses s) (sym same) p.clauses;
+  opening = p.opening;
+  stands = record {
+    vars = grown.vars ∙ p.stands.vars;
+    reasoned = Reasons-held (attached w) s v.steps reasons;
+    seen = λ l h. subst (λ (steps : List Step). TrueWithin steps 0 l) (sym grown.steps) (within_more t.steps grown.more 0 l (p.stands.seen l h));
+  };
   trail = shape;
-  held = subst (λ cs. All (IsHeldBy u) cs.items) (sym clauses) (subst (λ (x : PortState). All (IsHeldBy x) old.clauses.items) (sym is) p.held);
-  starts = λ h there. subst (λ cs. Contains cs.items (record { address = h.address })) (sym clauses) (p.starts h (subst (λ (x : PortState). Contains x.start h) is there));
-  opening = subst OpeningSeen (sym is) p.opening;
-  refused = ap (λ (x : PortState). x.refused) is ∙ p.refused;
-  stop = ap (λ (x : PortState). x.stop) is ∙ p.stop;
-  port = port;
-}
+  watched = watched;
+  closed = λ k below. subst (λ (cs : List Cref). IsClosed (map (λ (c : Cref). lits_at s c.address) cs) v.steps k) (sym same)
+      (subst (λ (steps : List Step). IsClosed (clauses_of w (lits_at s)) steps k) (sym grown.steps)
+      (IsClosed-more (clauses_of w (lits_at s)) t.steps grown.more k (λ q d h. (let e = grown.at_level q d h in omega (arith, grown.level, below)))
+      (p.closed k (omega (arith, grown.level, below)))));
+  reasons = subst (λ (cs : List Cref). HasReasons cs s v.steps) (sym same) reasons;
+})
 
 -- one step after another
 pub compose : (r : Option Finding) (s middle u : PortState) (old between new : Ring) (limit : ℕ) → ((start : PortState) → GoesOn start s old.learned → GoesOn start middle between.learned)

@@ -9,10 +9,12 @@ use Rattle.rup_model.specs.declared.journal.Entry.{Entry}
 use Rattle.rup_model.specs.declared.journal.Entry.TheVariants.{Add, Del, Reduce}
 use Rattle.rup_model.specs.declared.journal.Kind.{Kind}
 use Rattle.rup_model.specs.declared.journal.Kind.TheVariants.{Ruler, Learn, Derive, UnitLine}
+use Rattle.rup_model.specs.Basics.{EachAfter}
 use Rattle.rup_model.specs.Journal.{added, learned}
+use Rattle.rup_model.specs.Opening.{Opening, IsNew}
 use Rattle.ring_port.specs.PortState.{PortState, Holding, IsOn, HoldsStart}
 use Rattle.ring_port.specs.Port.{is_usable}
-use Rattle.ring_port.specs.Log.{KeepsLog}
+use Rattle.ring_port.specs.Log.{KeepsLog, start_of}
 use Rattle.ring_port.specs.declared.stops.PortStop.TheVariants.{NoHole as NoHoleAnswer}
 use Rattle.ring_run.specs.declared.job.Job.{Job}
 use Rattle.ring_run.specs.declared.job.Counts.{Counts}
@@ -70,6 +72,15 @@ IsOwn ring vars (Add x) = (x.ring ≡ ring) × All (IsOn vars) x.lits × IsOfKin
 IsOwn ring vars (Del r n) = ⊥
 IsOwn ring vars (Reduce r) = ⊥
 
+-- what the ring starts from: the start clauses with their numbers, and the units that are listed from the start
+abbrev pub opening_of : PortState → Opening
+opening_of s = record { journal = []; starts = map start_of s.start; units = s.opening }
+
+-- each clause that the ring learned was new when it was added: it contains no start clause and none that the ring had
+-- learned since it last reduced, and no literal that is listed as a unit or whose unit clause the ring had added
+abbrev pub AreNew : PortState → Type 0
+AreNew s = EachAfter (IsNew (opening_of s)) [] s.mine
+
 -- as many clauses were learned as are counted, and none was offered
 pub record IsCounted (s : PortState) (counts : Counts) : Type 0 where
   pub learned_is : counts.learned ≡ length (learned s.ring s.mine)
@@ -88,18 +99,19 @@ pub record IsModelOf (s : PortState) (a : List Bool) : Type 0 where
   pub opening : All (λ l. lit_true a l ≡ true) s.opening
   pub seen : All (λ l. lit_true a l ≡ true) s.seen
 
--- each start clause is still held; the ring set no stop and did not end the log
+-- each start clause is still held; the ring set no stop and did not end the log, and no line has failed
 pub record IsSpent (s : PortState) : Type 0 where
   pub held : HoldsStart s
   pub stop : IfSome s.stop (λ x. x.ring ≢ s.ring)
   pub going : list_any is_empty (added s.mine) ≡ false
+  pub usable : is_usable s.refused ≡ true
 
--- the cause of each end
+-- the cause of each end; no line has failed but at `ProofFault`, and perhaps at `Stopped`
 abbrev pub Ends : PortState → End → Type 0
-Ends s (Sat a) = IsModelOf s a × HasWon s STOP_SAT
-Ends s Refuted = (s.ended ≡ true) × HasWon s STOP_REFUTED
+Ends s (Sat a) = IsModelOf s a × HasWon s STOP_SAT × (is_usable s.refused ≡ true)
+Ends s Refuted = (s.ended ≡ true) × HasWon s STOP_REFUTED × (is_usable s.refused ≡ true)
 Ends s Spent = IsSpent s
 Ends s (Stopped x) = (s.stop ≡ Some x) × (x.ring ≢ s.ring)
 Ends s (NoHole need largest) = (s.refused ≡ Some (NoHoleAnswer need largest)) × (largest < need) × HasWon s STOP_ROOM
 Ends s ProofFault = (is_usable s.refused ≡ false) × HasWon s STOP_PROOF
-Ends s Memory = HasWon s STOP_MEMORY
+Ends s Memory = HasWon s STOP_MEMORY × (is_usable s.refused ≡ true)

@@ -1,31 +1,36 @@
 -- What a ring has while it searches, and what its findings say.
-use Rattle.std.specs.Prelude.{◌≡◌, ◌≢◌, ◌⊎◌, ℕ, ◌+◌, ◌<◌, ◌≤◌, true, List, ◌∷◌, ◌++◌, take, length, All, Option, Some, None, Contains}
+use Rattle.std.specs.Prelude.{◌≡◌, ◌≢◌, ◌⊎◌, ℕ, ◌+◌, ◌<◌, ◌≤◌, true, List, [], ◌∷◌, ◌++◌, take, length, Option, Some}
 use Rattle.std.specs.Option.{option_to_list}
 use Rattle.sat_words.specs.Literal.{Literal}
 use Rattle.sat_words.specs.declared.shared.Cref.{Cref}
 use Rattle.sat_words.specs.declared.shared.Stop.{Stop}
 use Rattle.sat_words.specs.Truth.{lit_true}
-use Rattle.ring_port.specs.PortState.{PortState, Holding, IsPort, lits_at}
+use Rattle.ring_port.specs.PortState.{PortState, lits_at}
 use Rattle.ring_port.specs.declared.stops.PortStop.TheVariants.{Memory}
-use Rattle.ring_trail.specs.declared.step.Step.{Step}
-use Rattle.ring_trail.specs.TrailData.{TrailData, IsTrail, IsTrueOn, IsFalseClause, HasNoPlace, cut_back, assigned}
+use Rattle.ring_trail.specs.TrailData.{TrailData, IsTrail, IsTrueOn, HasNoPlace, cut_back, assigned}
+use Rattle.watch_prop.specs.WatchData.{WatchData, attached}
+use Rattle.watch_prop.specs.Watched.{Watched, IsFresh}
+use Rattle.watch_prop.specs.Propagation.{HasReasons, IsClosedBelow}
 use Rattle.ring_run.specs.Ended.{IsModelOf}
-use Rattle.ring_run.specs.Scanned.{IsHeldBy, IsSettled}
-use Rattle.ring_run.specs.Searching.{Stands, OpeningSeen, Runs, GoesOn, IsOver, IsRefuted}
+use Rattle.ring_run.specs.Searching.{HasClauses, Stands, OpeningSeen, Runs, GoesOn, IsOver, IsRefuted}
 use Rattle.ring_run.specs.declared.search.Ring.{Ring}
 use Rattle.ring_run.specs.declared.search.Finding.{Finding}
 use Rattle.ring_run.specs.declared.search.Finding.TheVariants.{Model, Refuted, Spent, Stopped, Refused}
 
--- the trail and the clauses are of what the port holds; nothing has been refused, and all units of the opening are true
-pub record InSearch (s : PortState) (ring : Ring) : Type 0 where
-  pub stands : Stands s ring.trail
-  pub trail : IsTrail ring.trail
-  pub held : All (IsHeldBy s) ring.clauses.items
-  pub starts : (h : Holding) → Contains s.start h → Contains ring.clauses.items (record { address = h.address })
+-- the trail and the watches search: the clauses attached are watched, closed below the present level and the only reasons,
+-- and all units of the opening are true
+pub record Searches (s : PortState) (t : TrailData) (w : WatchData) : Type 0 where
+  pub clauses : HasClauses s (attached w)
   pub opening : OpeningSeen s
-  pub refused : s.refused ≡ None
-  pub stop : s.stop ≡ None
-  pub port : IsPort s
+  pub stands : Stands s t
+  pub trail : IsTrail t
+  pub watched : Watched w (lits_at s) t
+  pub closed : IsClosedBelow w (lits_at s) t
+  pub reasons : HasReasons (attached w) s t.steps
+
+-- so do those of the ring
+abbrev pub InSearch : PortState → Ring → Type 0
+InSearch s ring = Searches s ring.trail ring.watches
 
 -- the stop of another ring was seen
 pub record IsStoppedBy (start s : PortState) (count : ℕ) (x : Stop) : Type 0 where
@@ -63,7 +68,7 @@ pub record WentBack (t v : TrailData) (back : ℕ) : Type 0 where
   pub shape : IsTrail v
 
 -- the trail can go back to this level, and the first literal has no value there
-pub record IsAttachable (t : TrailData) (lits : List Literal) (back : ℕ) : Type 0 where
+pub record CanAssert (t : TrailData) (lits : List Literal) (back : ℕ) : Type 0 where
   pub shape : IsTrail t
   pub level : back ≤ t.level
   pub first : Literal
@@ -72,8 +77,8 @@ pub record IsAttachable (t : TrailData) (lits : List Literal) (back : ℕ) : Typ
   pub on : first.var ≤ t.vars
   pub free : (v : TrailData) → WentBack t v back → HasNoPlace v.steps first.var
 
--- the trail went back, the first literal was made true, and the clause, where it has an address, is one of the ring's
-pub record Attached (old new : Ring) (lits : List Literal) (back : ℕ) (address : Option Cref) : Type 0 where
+-- the trail went back, the clause was attached where it has an address, and the first literal was made true
+pub record Asserted (s : PortState) (old new : Ring) (lits : List Literal) (back : ℕ) (address : Option Cref) : Type 0 where
   pub middle : TrailData
   pub went : WentBack old.trail middle back
   pub first : Literal
@@ -81,18 +86,8 @@ pub record Attached (old new : Ring) (lits : List Literal) (back : ℕ) (address
   pub parts : lits ≡ first ∷ rest
   pub trail : new.trail ≡ assigned middle first address
   pub shape : IsTrail new.trail
-  pub clauses : new.clauses.items ≡ old.clauses.items ++ option_to_list address
-  pub learned : new.learned ≡ old.learned
-  pub written : new.written ≡ old.written
-
--- a clause that is held is false
-pub record IsConflictOn (s : PortState) (steps : List Step) (c : Cref) : Type 0 where
-  pub held : IsHeldBy s c
-  pub all_false : IsFalseClause steps (lits_at s c.address)
-
--- no clause of the ring asks for a literal
-abbrev pub IsSettledAll : PortState → List Step → List Cref → Type 0
-IsSettledAll s steps clauses = All (λ (c : Cref). IsSettled steps (lits_at s c.address)) clauses
+  pub clauses : attached new.watches ≡ attached old.watches ++ option_to_list address
+  pub watched : (t : TrailData) → Watched old.watches (lits_at s) t → Watched new.watches (lits_at s) t
 
 -- the assignment makes the literals of the trail true; or memory ran out
 abbrev pub IsAnswerOf : TrailData → Finding → Type 0
@@ -106,13 +101,11 @@ IsAnswerOf t (Refused stop) = stop ≡ Memory
 abbrev pub IsFurther : Ring → Ring → Type 0
 IsFurther old new = (new.learned ≡ old.learned + 1) ⊎ ((new.learned ≡ old.learned) × (length old.trail.steps < length new.trail.steps))
 
--- nothing is true yet, and the start clauses are held
+-- nothing is true yet, and the clauses attached are watched on any trail at level 0
 pub record IsBegun (s : PortState) (ring : Ring) : Type 0 where
+  pub clauses : HasClauses s (attached ring.watches)
   pub stands : Stands s ring.trail
   pub trail : IsTrail ring.trail
   pub level : ring.trail.level ≡ 0
-  pub held : All (IsHeldBy s) ring.clauses.items
-  pub starts : (h : Holding) → Contains s.start h → Contains ring.clauses.items (record { address = h.address })
-  pub refused : s.refused ≡ None
-  pub stop : s.stop ≡ None
-  pub port : IsPort s
+  pub watched : (t : TrailData) → t.vars ≡ s.vars → IsFresh t → Watched ring.watches (lits_at s) t
+  pub reasons : HasReasons [] s ring.trail.steps

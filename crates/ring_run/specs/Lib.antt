@@ -1,4 +1,3 @@
-pub mod Scanned
 pub mod Ended
 pub mod Searching
 pub mod Finding

@@ -1,22 +1,59 @@
 -- What a search keeps of its port and its trail.
-use Rattle.std.specs.Prelude.{◌≡◌, ℕ, ◌<◌, ◌≤◌, true, false, List, [], ◌∷◌, length, All, Some, None, ⊤}
+use Rattle.std.specs.Prelude.{◌≡◌, ◌⊎◌, ℕ, ◌<◌, ◌≤◌, true, false, List, [], ◌∷◌, map, length, All, Contains, Some, None, IsSome}
 use Rattle.std.specs.List.{list_any}
 use Rattle.sat_words.specs.Literal.{Literal}
 use Rattle.sat_words.specs.Clause.{has, is_empty}
-use Rattle.rup_model.specs.Journal.{added, learned}
+use Rattle.sat_words.specs.declared.shared.Cref.{Cref}
+use Rattle.rup_model.specs.Journal.{added, learned, recent}
+use Rattle.rup_model.specs.Opening.{adds_unit, is_new}
 use Rattle.rup_model.specs.Rup.{rup}
-use Rattle.ring_port.specs.Port.{is_usable, IsClause, KeepsHeld}
+use Rattle.ring_port.specs.Port.{is_usable, IsClause, IsFreshClause, KeepsHeld}
 use Rattle.ring_port.specs.declared.stops.PortStop.{PortStop}
 use Rattle.ring_port.specs.declared.stops.PortStop.TheVariants.{Ended, Broken, ProofFault, NoHole, Memory}
-use Rattle.ring_port.specs.PortState.{PortState, HoldsStart, IsPort, known, clause_at}
+use Rattle.ring_port.specs.PortState.{PortState, Holding, HoldsStart, IsPort, held_at, lits_at, known, clause_at}
 use Rattle.ring_trail.specs.declared.step.Step.{Step}
 use Rattle.ring_trail.specs.TrailData.{TrailData, IsFalseOn}
 use Rattle.ring_trail.specs.Reasoned.{IsReasoned}
-use Rattle.ring_trail.specs.Closed.{TrueWithin}
+use Rattle.ring_trail.specs.Closed.{TrueWithin, IsClosedClause}
 use Rattle.analyze.specs.Levels.{level_of_lit}
-use Rattle.ring_run.specs.Ended.{Stays, IsOwn}
+use Rattle.ring_run.specs.Ended.{Stays, IsOwn, AreNew, opening_of}
 use Rattle.ring_run.specs.declared.units.Units.{Units}
 use Rattle.ring_run.specs.declared.units.Units.TheVariants.{Opposed, True}
+
+-- What is attached
+
+-- a clause is held at the address
+abbrev pub IsHeldBy : PortState → Cref → Type 0
+IsHeldBy s c = IsSome (held_at s c.address)
+
+-- the unit is seen
+pub record IsSeenUnit (s : PortState) (c : List Literal) : Type 0 where
+  pub lit : Literal
+  pub unit : c ≡ lit ∷ []
+  pub seen : has s.seen lit ≡ true
+
+-- the clause stands at one of the addresses, or is a unit that is seen
+abbrev pub IsAmong : PortState → List Cref → List Literal → Type 0
+IsAmong s cs c = Contains (map (λ (x : Cref). lits_at s x.address) cs) c ⊎ IsSeenUnit s c
+
+-- each clause that the ring learned since it last reduced is attached or seen, and each unit that it added is seen
+pub record Remembers (s : PortState) (cs : List Cref) : Type 0 where
+  pub lemmas : (c : List Literal) → Contains (recent s.ring s.mine) c → IsAmong s cs c
+  pub units : (l : Literal) → adds_unit s.ring s.mine l ≡ true → has s.seen l ≡ true
+
+-- the clauses attached are held, each start clause and what the ring learned are among them, and nothing was taken from
+-- another ring; nothing has been refused, and no stop is known
+pub record HasClauses (s : PortState) (cs : List Cref) : Type 0 where
+  pub held : All (IsHeldBy s) cs
+  pub starts : (h : Holding) → Contains s.start h → Contains cs (record { address = h.address })
+  pub starts_held : HoldsStart s
+  pub own : Remembers s cs
+  pub taken : s.taken ≡ []
+  pub refused : s.refused ≡ None
+  pub stop : s.stop ≡ None
+  pub port : IsPort s
+
+-- What calls change
 
 -- no call has changed more than what is seen and what may yet be seen
 pub record OnlySaw (old new : PortState) : Type 0 where
@@ -31,6 +68,7 @@ pub record OnlySaw (old new : PortState) : Type 0 where
 pub record OnlyWrote (old new : PortState) : Type 0 where
   pub stays : Stays old new
   pub held : new.held ≡ old.held
+  pub own : (cs : List Cref) → Remembers old cs → Remembers new cs
   pub stop : new.stop ≡ old.stop
   pub refused : new.refused ≡ old.refused
   pub more : (l : Literal) → has old.seen l ≡ true → has new.seen l ≡ true
@@ -60,6 +98,7 @@ pub record Runs (start s : PortState) (count : ℕ) : Type 0 where
   pub kept : KeepsHeld start s
   pub wrote : All (IsOwn start.ring start.vars) s.mine
   pub counted : count ≡ length (learned s.ring s.mine)
+  pub each_new : AreNew s
   pub port : IsPort s
 
 -- nothing has ended it yet
@@ -72,11 +111,11 @@ pub record GoesOn (start s : PortState) (count : ℕ) : Type 0 where
 
 -- what a refusal leaves
 abbrev pub IsNoted : PortState → PortStop → Type 0
-IsNoted s Ended = s.ended ≡ true
+IsNoted s Ended = (s.ended ≡ true) × (is_usable s.refused ≡ true)
 IsNoted s Broken = is_usable s.refused ≡ false
 IsNoted s ProofFault = is_usable s.refused ≡ false
 IsNoted s (NoHole need largest) = (s.refused ≡ Some (NoHole need largest)) × (largest < need)
-IsNoted s Memory = ⊤
+IsNoted s Memory = is_usable s.refused ≡ true
 
 -- a call of the port was refused
 pub record IsOver (start s : PortState) (count : ℕ) (stop : PortStop) : Type 0 where
@@ -89,6 +128,7 @@ pub record IsRefuted (start s : PortState) (count : ℕ) : Type 0 where
   pub runs : Runs start s count
   pub stop : s.stop ≡ None
   pub ended : s.ended ≡ true
+  pub usable : is_usable s.refused ≡ true
 
 -- a run that goes on in one state does so in the other, with as many lemmas
 abbrev pub KeepsOn : PortState → PortState → Type 0
@@ -98,7 +138,13 @@ KeepsOn old new = (start : PortState) (count : ℕ) → GoesOn start old count �
 abbrev pub EndsBy : PortState → PortState → PortStop → Type 0
 EndsBy old new stop = (start : PortState) (count : ℕ) → GoesOn start old count → IsOver start new count stop
 
--- a clause that follows and, after going back, leaves its first literal the only one that isn't false
+-- the clause is new to the port and to the journal
+pub record IsNewTo (s : PortState) (c : List Literal) : Type 0 where
+  pub unknown : IsFreshClause s c
+  pub unlisted : is_new (opening_of s) s.mine s.ring c ≡ true
+
+-- a new clause that follows and, after going back, leaves its first literal the only one that isn't false; below that level
+-- it asks for nothing
 pub record IsAsserting (s : PortState) (t : TrailData) (lits : List Literal) (back : ℕ) : Type 0 where
   pub first : Literal
   pub rest : List Literal
@@ -109,3 +155,5 @@ pub record IsAsserting (s : PortState) (t : TrailData) (lits : List Literal) (ba
   pub ahead : back < level_of_lit t.steps first
   pub behind : (k : Literal) → has rest k ≡ true → IsFalseOn t.steps k × (level_of_lit t.steps k ≤ back)
   pub of_unit : rest ≡ [] → back ≡ 0
+  pub closed : (k : ℕ) → k < back → IsClosedClause lits t.steps k
+  pub is_new_to : IsNewTo s lits

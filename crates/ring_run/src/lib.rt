@@ -3,13 +3,12 @@
 //! `run_ring` is the loop of MiniSat (Eén and Sörensson 2003), with neither restarts nor deletions. It propagates. At a
 //! conflict it learns the clause of the first unique implication point, goes back to where that forces its first literal,
 //! and makes this true. Where nothing is left to propagate it decides the least variable without a value, false. A
-//! conflict without decisions refutes the clauses, and where every variable has a value there is a model. Propagation
-//! scans each clause that the ring started with or learned.
+//! conflict without decisions refutes the clauses, and where every variable has a value there is a model. The clauses that
+//! it started with or learned are propagated by two watched literals.
 #![tactic(auto)]
 
 mod job;
 mod run;
-mod scan;
 mod search;
 mod units;
 

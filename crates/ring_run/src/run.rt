@@ -1,11 +1,13 @@
 // A run of a ring, from its job to its end.
-ghost use Rattle.std.specs.Prelude.{◌≡◌, ◌≤◌, ◌<◌, ◌^◌, ◌↔◌, All, IfOk, [], None, false};
+ghost use Rattle.std.specs.Prelude.{◌≡◌, ◌≤◌, ◌<◌, ◌++◌, ◌^◌, ◌↔◌, All, IfOk, OnOk, [], None, false};
 ghost use Rattle.sat_words.specs.declared.shared.TheConstants.{STOP_SAT, STOP_REFUTED, STOP_MEMORY};
-ghost use Rattle.ring_port.specs.PortState.{IsPort};
+ghost use Rattle.ring_port.specs.PortState.{IsPort, lits_at};
 ghost use Rattle.ring_port.specs.Port.{KeepsHeld};
-ghost use Rattle.ring_trail.specs.TrailData.{IsTrail};
-ghost use Rattle.ring_run.specs.Ended.{IsJobOf, IsUntouched, Stays, IsOwn, IsCounted, Ends};
-ghost use Rattle.ring_run.specs.Searching.{IsNoted};
+ghost use Rattle.ring_trail.specs.TrailData.{TrailData, IsTrail};
+ghost use Rattle.watch_prop.specs.WatchData.{attached};
+ghost use Rattle.watch_prop.specs.Watched.{Watched, IsFresh};
+ghost use Rattle.ring_run.specs.Ended.{IsJobOf, IsUntouched, Stays, IsOwn, IsCounted, AreNew, Ends};
+ghost use Rattle.ring_run.specs.Searching.{IsHeldBy, IsNoted};
 ghost use Rattle.ring_run.specs.Ending.{Cause, kind_of, KeepsRuns, IsFinding, is_spent, has_spent};
 
 use crate::job::{Counts, End, Job};
@@ -13,8 +15,9 @@ use crate::search::{Finding, Ring, search};
 use analyze::Analysis;
 use ring_port::{Port, PortStop, Set};
 use ring_trail::Trail;
-use sat_words::{STOP_MEMORY, STOP_PROOF, STOP_REFUTED, STOP_ROOM, STOP_SAT};
+use sat_words::{Cref, STOP_MEMORY, STOP_PROOF, STOP_REFUTED, STOP_ROOM, STOP_SAT};
 use std::alloc::{AllocError, Global};
+use watch_prop::Watches;
 
 /// Runs a ring until it has an answer, sees the stop of another ring, or has learned its limit of lemmas.
 ///
@@ -32,6 +35,7 @@ pub fn run_ring<P: Port>(alloc: Global, port: &mut P, job: &Job) -> (End, Counts
     ensures stays { Stays (P.state port.old) (P.state port.new) }
     ensures kept { KeepsHeld (P.state port.old) (P.state port.new) }
     ensures wrote { All (IsOwn (P.state port.old).ring (P.state port.old).vars) (P.state port.new).mine }
+    ensures new { AreNew (P.state port.new) }
     ensures counts { IsCounted (P.state port.new) result.1 }
     ensures within { result.1.learned ≤ job.now.conflicts }
     ensures spent { (result.0 ≡ End.Spent) ↔ (result.1.learned ≡ job.now.conflicts) }
@@ -44,7 +48,7 @@ pub fn run_ring<P: Port>(alloc: Global, port: &mut P, job: &Job) -> (End, Counts
         offered: 0,
         restarts: 0,
     };
-    let Ok(mut ring) = make_ring(alloc, job) else {
+    let Ok(mut ring) = make_ring(alloc, port, job) else {
         return (end_refused(port, PortStop::Memory), counts);
     };
     let Ok(mut analysis) = Analysis::new(alloc, job.vars) else {
@@ -55,17 +59,43 @@ pub fn run_ring<P: Port>(alloc: Global, port: &mut P, job: &Job) -> (End, Counts
     (end_of(port, finding), counts)
 }
 
-/// A ring that has done nothing yet.
-fn make_ring(alloc: Global, job: &Job) -> Result<Ring, AllocError>
-    requires { job.now.vars ≤ 2 ^ 30 }
+/// Attaches clauses that are held, in their order.
+fn attach_all<P: Port>(
+    port: &mut P,
+    trail: &Trail,
+    watches: &mut Watches,
+    clauses: &[Cref],
+) -> Result<(), AllocError>
+    requires held { All (IsHeldBy (P.state port.old)) clauses.now }
+    requires vars { (P.state port.old).vars ≡ watches.old.vars }
+    ensures same { P.state port.new ≡ P.state port.old }
+    ensures attached { OnOk result (attached watches.new ≡ attached watches.old ++ clauses.now) }
+    ensures watched { OnOk result ((t : TrailData) → Watched watches.old (lits_at (P.state port.old)) t → Watched watches.new (lits_at (P.state port.old)) t) }
+{
+    for clause in clauses {
+        watches.attach(port, trail, *clause)?;
+    }
+    Ok(())
+}
+
+/// A ring that has attached the start clauses, and done nothing else.
+fn make_ring<P: Port>(alloc: Global, port: &mut P, job: &Job) -> Result<Ring, AllocError>
+    requires small { job.now.vars ≤ 2 ^ 30 }
+    requires vars { job.now.vars ≡ (P.state port.old).vars }
+    requires held { All (IsHeldBy (P.state port.old)) job.now.start }
+    ensures same { P.state port.new ≡ P.state port.old }
     ensures trail { IfOk result (λ ring. ring.trail ≡ record { vars = job.now.vars; level = 0; steps = []; done = 0 }) }
     ensures shape { IfOk result (λ ring. IsTrail ring.trail) }
-    ensures clauses { IfOk result (λ ring. ring.clauses.items ≡ job.now.start) }
+    ensures attached { IfOk result (λ ring. attached ring.watches ≡ job.now.start) }
+    ensures watched { IfOk result (λ ring. (t : TrailData) → t.vars ≡ job.now.vars → IsFresh t → Watched ring.watches (lits_at (P.state port.old)) t) }
     ensures learned { IfOk result (λ ring. ring.learned ≡ 0) }
 {
+    let trail = Trail::new(alloc, job.vars)?;
+    let mut watches = Watches::new(alloc, job.vars)?;
+    attach_all(port, &trail, &mut watches, job.start.as_slice())?;
     Ok(Ring {
-        trail: Trail::new(alloc, job.vars)?,
-        clauses: Vec::from_slice(alloc, job.start.as_slice())?,
+        trail,
+        watches,
         learned: 0,
         written: 0,
     })

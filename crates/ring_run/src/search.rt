@@ -1,29 +1,33 @@
 // The steps of a ring's search: learning from a conflict, and deciding.
-ghost use Rattle.std.specs.Prelude.{◌≡◌, ◌<◌, ◌≤◌, ◌+◌, ◌^◌, [], true, length, None, Some, MatchOption, IfOk, IfSome, IsSome, OnOk, IfErr, ℕ, Contains, vec_len, vec_capacity};
+ghost use Rattle.std.specs.Prelude.{◌≡◌, ◌<◌, ◌≤◌, ◌+◌, ◌++◌, ◌^◌, [], true, length, None, Some, MatchOption, IfOk, IfSome, IsSome, OnOk, IfErr, ℕ};
+ghost use Rattle.std.specs.Option.{option_to_list};
 ghost use Rattle.sat_words.specs.Literal.{Literal};
 ghost use Rattle.sat_words.specs.Truth.{lit_true};
 ghost use Rattle.rup_model.specs.Rup.{rup};
-ghost use Rattle.ring_port.specs.PortState.{IsPort, known};
+ghost use Rattle.ring_port.specs.PortState.{IsPort, held_at, lits_at, known};
 ghost use Rattle.ring_port.specs.Port.{is_usable};
-ghost use Rattle.ring_trail.specs.TrailData.{IsTrail, IsTrueOn, value_of};
+ghost use Rattle.ring_trail.specs.TrailData.{TrailData, IsTrail, IsTrueOn, value_of};
+ghost use Rattle.watch_prop.specs.WatchData.{attached};
+ghost use Rattle.watch_prop.specs.Watched.{Watched};
+ghost use Rattle.watch_prop.specs.Propagation.{IsConflict, IsQuiet};
 ghost use Rattle.ring_run.specs.Searching.{IsAsserting, KeepsOn, EndsBy, GoesOn};
-ghost use Rattle.ring_run.specs.Finding.{InSearch, GoesOnBy, FoundBy, IsRefutedBy, IsAttachable, Attached, IsConflictOn, IsSettledAll, IsAnswerOf, IsFurther, IsBegun, Finds};
+ghost use Rattle.ring_run.specs.Finding.{InSearch, GoesOnBy, FoundBy, IsRefutedBy, CanAssert, Asserted, IsAnswerOf, IsFurther, IsBegun, Finds};
 
-use crate::scan::{Propagated, propagate};
 use crate::units::{Units, take_units, write_units};
 use analyze::{Analysis, Conclusion};
 use ring_port::{Port, PortStop};
 use ring_trail::Trail;
 use sat_words::{Assignment, Cref, Lit, Stop};
 use std::alloc::{AllocError, Global};
+use watch_prop::{Propagated, Watches};
 
 /// What a ring has of its own.
 #[derive(Drop)]
 pub(crate) struct Ring {
     /// What is true.
     pub trail: Trail,
-    /// The start clauses, and behind them the lemmas.
-    pub clauses: Vec<Cref>,
+    /// The start clauses, and behind them the lemmas, each watched by two of its literals.
+    pub watches: Watches,
     /// How many lemmas were learned.
     pub learned: u64,
     /// How many of the first literals at level 0 have their lines.
@@ -58,17 +62,44 @@ pub(crate) fn refute<P: Port>(port: &mut P) -> Finding
     }
 }
 
-/// Goes back, and makes the first literal of a lemma true, which is the only one that isn't false there.
-fn attach(ring: &mut Ring, lits: &[Lit], back: u32, address: Option<Cref>)
-    requires room { vec_len ring.old.clauses < vec_capacity ring.old.clauses }
-    requires attachable { IsAttachable ring.old.trail lits.now back }
-    ensures attached { Attached ring.old ring.new lits.now back address }
+/// Attaches a lemma that is held. A unit has no address, and isn't.
+fn attach_lemma<P: Port>(
+    port: &mut P,
+    trail: &Trail,
+    watches: &mut Watches,
+    address: Option<Cref>,
+) -> Result<(), AllocError>
+    requires held { IfSome address (λ c. IsSome (held_at (P.state port.old) c.address)) }
+    requires vars { (P.state port.old).vars ≡ watches.old.vars }
+    ensures same { P.state port.new ≡ P.state port.old }
+    ensures attached { OnOk result (attached watches.new ≡ attached watches.old ++ option_to_list address) }
+    ensures watched { OnOk result ((t : TrailData) → Watched watches.old (lits_at (P.state port.old)) t → Watched watches.new (lits_at (P.state port.old)) t) }
+{
+    match address {
+        Some(clause) => watches.attach(port, trail, clause),
+        None => Ok(()),
+    }
+}
+
+/// Goes back, attaches the lemma, and makes its first literal true, which is the only one that isn't false there.
+fn assert_lemma<P: Port>(
+    port: &mut P,
+    ring: &mut Ring,
+    lits: &[Lit],
+    back: u32,
+    address: Option<Cref>,
+) -> Result<(), AllocError>
+    requires held { IfSome address (λ c. IsSome (held_at (P.state port.old) c.address)) }
+    requires vars { (P.state port.old).vars ≡ ring.old.watches.vars }
+    requires can { CanAssert ring.old.trail lits.now back }
+    ensures same { P.state port.new ≡ P.state port.old }
+    ensures asserted { OnOk result (Asserted (P.state port.old) ring.old ring.new lits.now back address) }
+    ensures learned { ring.new.learned ≡ ring.old.learned }
 {
     ring.trail.back_to(back);
+    attach_lemma(port, &ring.trail, &mut ring.watches, address)?;
     ring.trail.assign(lits[0], address);
-    if let Some(c) = address {
-        ring.clauses.push_reserved(c);
-    }
+    Ok(())
 }
 
 /// Learns a lemma, and goes back to where it forces its first literal. None where the search goes on.
@@ -87,9 +118,6 @@ fn learn_lemma<P: Port>(
     ensures more { result ≡ None → ring.new.learned ≡ ring.old.learned + 1 }
     ensures port { IsPort (P.state port.new) }
 {
-    if ring.clauses.reserve(1).is_err() {
-        return Some(Finding::Refused(PortStop::Memory));
-    }
     let address = match port.learn(lits, glue) {
         Ok(address) => address,
         Err(stop) => return Some(Finding::Refused(stop)),
@@ -98,8 +126,10 @@ fn learn_lemma<P: Port>(
     if ring.learned == limit {
         return Some(Finding::Spent);
     }
-    attach(ring, lits, back, address);
-    None
+    match assert_lemma(port, ring, lits, back, address) {
+        Ok(()) => None,
+        Err(_) => Some(Finding::Refused(PortStop::Memory)),
+    }
 }
 
 /// Learns from a conflict. None where the search goes on.
@@ -113,7 +143,7 @@ fn learn_from<P: Port>(
     requires search { InSearch (P.state port.old) ring.old }
     requires below { ring.old.learned < limit }
     requires vars { analysis.old.vars ≡ ring.old.trail.vars }
-    requires conflict { IsConflictOn (P.state port.old) ring.old.trail.steps conflict }
+    requires conflict { IsConflict ring.old.watches (lits_at (P.state port.old)) ring.old.trail conflict }
     ensures found { MatchOption result (GoesOnBy (P.state port.old) ring.old (P.state port.new) ring.new limit) (FoundBy (P.state port.old) ring.old.learned (P.state port.new) ring.new.learned limit) }
     ensures more { result ≡ None → ring.new.learned ≡ ring.old.learned + 1 }
     ensures vars { analysis.new.vars ≡ analysis.old.vars }
@@ -178,7 +208,7 @@ fn decide_least<P: Port>(
 ) -> Option<Finding>
     requires search { InSearch (P.state port.old) ring.old }
     requires below { ring.old.learned < limit }
-    requires settled { IsSettledAll (P.state port.old) ring.old.trail.steps ring.old.clauses.items }
+    requires quiet { IsQuiet ring.old.watches (lits_at (P.state port.old)) ring.old.trail }
     ensures found { MatchOption result (GoesOnBy (P.state port.old) ring.old (P.state port.new) ring.new limit) (FoundBy (P.state port.old) ring.old.learned (P.state port.new) ring.new.learned limit) }
     ensures learned { ring.new.learned ≡ ring.old.learned }
     ensures longer { result ≡ None → length ring.old.trail.steps < length ring.new.trail.steps }
@@ -202,7 +232,7 @@ fn write_pending<P: Port>(port: &mut P, ring: &mut Ring) -> Result<(), PortStop>
     ensures search { OnOk result (InSearch (P.state port.new) ring.new) }
     ensures held { (P.state port.new).held ≡ (P.state port.old).held }
     ensures trail { ring.new.trail ≡ ring.old.trail }
-    ensures clauses { ring.new.clauses ≡ ring.old.clauses }
+    ensures watches { ring.new.watches ≡ ring.old.watches }
     ensures learned { ring.new.learned ≡ ring.old.learned }
     ensures port { IsPort (P.state port.new) }
 {
@@ -223,7 +253,7 @@ fn write_pending<P: Port>(port: &mut P, ring: &mut Ring) -> Result<(), PortStop>
 fn decide_next<P: Port>(alloc: Global, port: &mut P, ring: &mut Ring, limit: u64) -> Option<Finding>
     requires search { InSearch (P.state port.old) ring.old }
     requires below { ring.old.learned < limit }
-    requires settled { IsSettledAll (P.state port.old) ring.old.trail.steps ring.old.clauses.items }
+    requires quiet { IsQuiet ring.old.watches (lits_at (P.state port.old)) ring.old.trail }
     ensures found { MatchOption result (GoesOnBy (P.state port.old) ring.old (P.state port.new) ring.new limit) (FoundBy (P.state port.old) ring.old.learned (P.state port.new) ring.new.learned limit) }
     ensures learned { ring.new.learned ≡ ring.old.learned }
     ensures longer { result ≡ None → length ring.old.trail.steps < length ring.new.trail.steps }
@@ -254,7 +284,11 @@ fn turn<P: Port>(
     ensures vars { analysis.new.vars ≡ analysis.old.vars }
     ensures port { IsPort (P.state port.new) }
 {
-    match propagate(port, &mut ring.trail, &ring.clauses) {
+    let Ok(propagated) = ring.watches.propagate(port, &mut ring.trail) else {
+        return Some(Finding::Refused(PortStop::Memory));
+    };
+    let _lawful = ring.trail.present();
+    match propagated {
         Propagated::Conflict(conflict) => learn_from(port, ring, analysis, conflict, limit),
         Propagated::Quiet => decide_next(alloc, port, ring, limit),
     }

@@ -1,7 +1,8 @@
 // Units: those that come from outside, and those that propagation makes true for good.
-ghost use Rattle.std.specs.Prelude.{◌≡◌, ◌≤◌, ◌<◌, None, OnOk, IfErr, length};
+ghost use Rattle.std.specs.Prelude.{◌≡◌, ◌≤◌, ◌<◌, [], None, OnOk, IfErr, length};
 ghost use Rattle.ring_port.specs.PortState.{IsPort};
 ghost use Rattle.ring_trail.specs.TrailData.{HasGrown, IsTrail};
+ghost use Rattle.watch_prop.specs.Propagation.{HasReasons};
 ghost use Rattle.ring_run.specs.Searching.{OnlySaw, Stands, AreTaken, OnlyWrote, KeepsOn, EndsBy};
 
 use ring_port::{Port, PortStop};
@@ -16,15 +17,17 @@ pub(crate) enum Units {
     True,
 }
 
-/// Makes the units true that come from outside. The trail is at level 0.
+/// Makes the units true that come from outside. The trail is at level 0, where no clause is a reason yet.
 pub(crate) fn take_units<P: Port>(port: &mut P, trail: &mut Trail) -> Units
     requires level { trail.old.level ≡ 0 }
     requires trail { IsTrail trail.old }
     requires port { IsPort (P.state port.old) }
     requires stands { Stands (P.state port.old) trail.old }
+    requires reasons { HasReasons [] (P.state port.old) trail.old.steps }
     ensures saw { OnlySaw (P.state port.old) (P.state port.new) }
     ensures grown { HasGrown trail.old trail.new }
     ensures taken { AreTaken (P.state port.new) trail.new result }
+    ensures reasons { HasReasons [] (P.state port.new) trail.new.steps }
     ensures trail { IsTrail trail.new }
     ensures port { IsPort (P.state port.new) }
 {

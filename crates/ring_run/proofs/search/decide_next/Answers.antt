@@ -1,15 +1,16 @@
 use Rattle.std.proofs.Common.{subst, sym, arith}
-use Rattle.ring_port.specs.PortState.{PortState}
+use Rattle.ring_port.specs.PortState.{PortState, lits_at}
 use Rattle.ring_run.specs.Searching.{GoesOn, IsOver}
-use Rattle.ring_run.specs.Finding.{IsSettledAll}
+use Rattle.watch_prop.specs.Propagation.{IsQuiet}
 use Rattle.ring_run.proofs.Progress.{stop_seen}
-use Rattle.ring_run.proofs.Turning.{settled_same, compose}
+use Rattle.ring_run.proofs.Turning.{quiet_same, compose}
 use Rattle.ring_run.proofs.search.decide_next.Goals as goal
 
-pub decide_least-requires-clause-settled : goal.decide_least-requires-clause-settled
-decide_least-requires-clause-settled g c =
-    settled_same (g.P.Port.state c.stopped.new.self) (g.P.Port.state c.write_pending.new.port) c.args.ring.now c.write_pending.new.ring c.write_pending.ensures.held c.write_pending.ensures.trail c.write_pending.ensures.clauses
-    (subst (λ (x : PortState). IsSettledAll x c.args.ring.now.trail.steps c.args.ring.now.clauses.items) (sym c.in_default.ensures.looked.1) c.requires.settled)
+pub decide_least-requires-clause-quiet : goal.decide_least-requires-clause-quiet
+decide_least-requires-clause-quiet g c =
+    quiet_same (g.P.Port.state c.stopped.new.self) (g.P.Port.state c.write_pending.new.port) c.args.ring.now.trail c.write_pending.new.ring.trail c.args.ring.now.watches c.write_pending.new.ring.watches
+    c.write_pending.ensures.held c.write_pending.ensures.trail c.write_pending.ensures.watches
+    (subst (λ (x : PortState). IsQuiet c.args.ring.now.watches (lits_at x) c.args.ring.now.trail) (sym c.in_default.ensures.looked.1) c.requires.quiet)
 
 pub returns-in-Ok-clause-found : goal.returns-in-Ok-clause-found
 returns-in-Ok-clause-found g c =

@@ -1,31 +1,47 @@
-use Rattle.std.proofs.Common.{◌+◌, ℕ, subst, sym, arith, refl}
-use Rattle.ring_port.specs.Port.{IsClause}
-use Rattle.ring_run.specs.Searching.{GoesOn}
+use Rattle.std.proofs.Common.{◌+◌, subst, sym, arith}
+use Rattle.ring_port.specs.PortState.{PortState}
+use Rattle.ring_port.specs.declared.stops.PortStop.TheVariants.{Memory}
+use Rattle.ring_run.specs.Searching.{GoesOn, IsOver}
+use Rattle.ring_run.specs.Finding.{GoesOnBy}
 use Rattle.ring_run.specs.declared.search.Ring.{Ring}
-use Rattle.ring_run.proofs.Asserting.{attachable}
-use Rattle.ring_run.proofs.Learning.{learned_any, goes_on_by, in_search_after, in_search_same}
+use Rattle.ring_run.proofs.Asserting.{can_assert}
+use Rattle.ring_run.proofs.Learning.{learned_any, goes_on_by, in_search_after}
+use Rattle.ring_run.proofs.Progress.{out_of_memory}
 use Rattle.ring_run.proofs.search.learn_lemma.Goals as goal
 
 pub returns-then-ring-limit-clause-found : goal.returns-then-ring-limit-clause-found
 returns-then-ring-limit-clause-found g c = λ start p. (
-  learned_any start (g.P.Port.state c.args.port.now) (g.P.Port.state c.learn.new.self) c.args.ring.now.learned c.args.glue c.args.lits.now c.in-Ok.address p
-      (subst (λ (v : ℕ). IsClause v c.args.lits.now) c.requires.search.stands.vars c.requires.lemma.clause) c.in-Ok.ensures.learned c.learn.ensures.kept c.learn.ensures.log c.learn.ensures.port,
+  learned_any start (g.P.Port.state c.args.port.now) (g.P.Port.state c.learn.new.self) c.args.ring.now.learned c.args.glue c.args.ring.now.trail c.args.lits.now c.args.back c.in-Ok.address p
+      c.requires.search.stands c.requires.lemma c.in-Ok.ensures.learned c.learn.ensures.kept c.learn.ensures.log c.learn.ensures.port,
   c.if-ring-limit.true,
 )
 
-pub attach-requires-clause-attachable : goal.attach-requires-clause-attachable
-attach-requires-clause-attachable g c = attachable (g.P.Port.state c.args.port.now) c.args.ring.now.trail c.args.lits.now c.args.back c.requires.lemma c.requires.search.trail
+pub assert_lemma-requires-clause-can : goal.assert_lemma-requires-clause-can
+assert_lemma-requires-clause-can g c = can_assert (g.P.Port.state c.args.port.now) c.args.ring.now.trail c.args.lits.now c.args.back c.requires.lemma c.requires.search.trail
 
-pub returns-clause-found : goal.returns-clause-found
-returns-clause-found g c =
+pub returns-in-Ok-assert_lemma-clause-found : goal.returns-in-Ok-assert_lemma-clause-found
+returns-in-Ok-assert_lemma-clause-found g c =
     let s = g.P.Port.state c.args.port.now in
     let u = g.P.Port.state c.learn.new.self in
-    let at = c.attach.ensures.attached in
-    let middle : Ring = record c.args.ring.now { clauses = c.reserve.new.self; learned = c.args.ring.now.learned + 1 } in
-    goes_on_by s u c.args.ring.now c.attach.new.ring c.args.limit
-    (in_search_after s u middle c.attach.new.ring c.args.lits.now c.args.back c.args.glue c.in-Ok.address
-    (in_search_same s c.args.ring.now middle c.requires.search refl c.reserve.ensures.items) c.requires.lemma c.in-Ok.ensures.learned c.learn.ensures.kept c.learn.ensures.port at)
-    (omega (arith, at.learned, c.requires.below, c.if-ring-limit.false))
-    (λ start p. subst (GoesOn start u) (sym at.learned)
-    (learned_any start s u c.args.ring.now.learned c.args.glue c.args.lits.now c.in-Ok.address p
-    (subst (λ (v : ℕ). IsClause v c.args.lits.now) c.requires.search.stands.vars c.requires.lemma.clause) c.in-Ok.ensures.learned c.learn.ensures.kept c.learn.ensures.log c.learn.ensures.port))
+    let middle : Ring = record c.args.ring.now { learned = c.args.ring.now.learned + 1 } in
+    let at = c.in-Ok-assert_lemma.ensures.asserted in
+    let count = c.assert_lemma.ensures.learned in
+    subst (λ (x : PortState). GoesOnBy s c.args.ring.now x c.assert_lemma.new.ring c.args.limit) (sym c.assert_lemma.ensures.same)
+    (goes_on_by s u c.args.ring.now c.assert_lemma.new.ring c.args.limit
+    (in_search_after s u middle c.assert_lemma.new.ring c.args.lits.now c.args.back c.args.glue c.in-Ok.address c.requires.search c.requires.lemma c.in-Ok.ensures.learned c.learn.ensures.kept c.learn.ensures.port at)
+    (omega (arith, count, c.requires.below, c.if-ring-limit.false))
+    (λ start p. subst (GoesOn start u) (sym count)
+    (learned_any start s u c.args.ring.now.learned c.args.glue c.args.ring.now.trail c.args.lits.now c.args.back c.in-Ok.address p
+    c.requires.search.stands c.requires.lemma c.in-Ok.ensures.learned c.learn.ensures.kept c.learn.ensures.log c.learn.ensures.port)))
+
+pub returns-in-Err-assert_lemma-clause-found : goal.returns-in-Err-assert_lemma-clause-found
+returns-in-Err-assert_lemma-clause-found g c = λ start p.
+    let s = g.P.Port.state c.args.port.now in
+    let u = g.P.Port.state c.learn.new.self in
+    let count = c.assert_lemma.ensures.learned in (
+      subst (λ (x : PortState). IsOver start x c.assert_lemma.new.ring.learned Memory) (sym c.assert_lemma.ensures.same)
+          (out_of_memory start u c.assert_lemma.new.ring.learned (subst (GoesOn start u) (sym count)
+          (learned_any start s u c.args.ring.now.learned c.args.glue c.args.ring.now.trail c.args.lits.now c.args.back c.in-Ok.address p
+          c.requires.search.stands c.requires.lemma c.in-Ok.ensures.learned c.learn.ensures.kept c.learn.ensures.log c.learn.ensures.port))),
+      omega (arith, count, c.requires.below, c.if-ring-limit.false),
+    )

@@ -1,5 +1,4 @@
 use Rattle.std.proofs.Common.{◌∙◌, sym, refl}
-use Rattle.ring_run.specs.declared.search.Ring.{Ring}
 use Rattle.ring_run.proofs.Progress.{saw_goes_on}
 use Rattle.ring_run.proofs.Turning.{begun_search, less_to_do}
 use Rattle.ring_run.proofs.search.search.Goals as goal
@@ -11,10 +10,10 @@ returns-in-Opposed-clause-found g c =
 
 pub loop-finding-init : goal.loop-finding-init
 loop-finding-init g c =
-    let after : Ring = record c.args.ring.now { trail = c.take_units.new.trail } in
     let taken = c.in-True.ensures.taken in
     record {
-      search = begun_search (g.P.Port.state c.args.port.now) (g.P.Port.state c.take_units.new.port) c.args.ring.now after c.requires.begun c.take_units.ensures.saw c.take_units.ensures.port c.take_units.ensures.trail refl taken.0 taken.1;
+      search = begun_search (g.P.Port.state c.args.port.now) (g.P.Port.state c.take_units.new.port) c.args.ring.now c.take_units.new.trail c.requires.begun c.take_units.ensures.saw c.take_units.ensures.port c.take_units.ensures.trail
+          c.take_units.ensures.grown taken.0 taken.1 c.take_units.ensures.reasons;
       goes = saw_goes_on (g.P.Port.state c.args.port.now) (g.P.Port.state c.args.port.now) (g.P.Port.state c.take_units.new.port) c.args.ring.now.learned c.requires.goes c.take_units.ensures.saw c.take_units.ensures.port;
       below = c.requires.below;
       vars = c.requires.vars ∙ sym c.take_units.ensures.grown.vars;

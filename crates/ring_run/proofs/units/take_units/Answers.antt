@@ -1,9 +1,9 @@
-use Rattle.std.proofs.Common.{◌≡◌, ◌∙◌, subst, sym, None}
+use Rattle.std.proofs.Common.{◌≡◌, ◌∙◌, [], subst, sym, None}
 use Rattle.std.specs.Prelude.{MatchBool}
 use Rattle.ring_trail.specs.TrailData.{HasGrown, IsTrueOn, IsFalseOn}
 use Rattle.ring_run.specs.Searching.{Stands}
-use Rattle.ring_run.proofs.Scanning.{grown_by}
-use Rattle.ring_run.proofs.Standing.{took_on, within_zero, saw_more, stands_seen, stands_taken, opposed}
+use Rattle.watch_prop.specs.Propagation.{HasReasons}
+use Rattle.ring_run.proofs.Standing.{took_on, within_zero, saw_more, stands_seen, stands_taken, opposed, grown_by, no_reasons_seen, no_reasons_taken}
 use Rattle.ring_run.proofs.units.take_units.Goals as goal
 
 pub truth-requires : goal.truth-requires
@@ -18,6 +18,7 @@ loop-lit-preserved-in-Some-true g c =
       grown = c.loop-lit.invariant.grown;
       stands = stands_seen (g.P.Port.state c.loop-lit.port) (g.P.Port.state c.next_unit.new.self) c.loop-lit.trail c.in-Some.lit c.loop-lit.invariant.stands c.in-Some.ensures.took
           (within_zero c.loop-lit.trail c.in-Some.lit c.loop-lit.invariant.trail level here);
+      reasons = no_reasons_seen (g.P.Port.state c.loop-lit.port) (g.P.Port.state c.next_unit.new.self) c.loop-lit.trail.steps c.in-Some.lit c.in-Some.ensures.took c.loop-lit.invariant.reasons;
       trail = c.loop-lit.invariant.trail;
       port = c.next_unit.ensures.port;
     }
@@ -40,6 +41,8 @@ loop-lit-preserved g c =
       grown = subst (HasGrown c.args.trail.now) (sym c.assign.ensures.step) (grown_by c.args.trail.now c.loop-lit.trail c.in-Some.lit None c.loop-lit.invariant.grown);
       stands = subst (Stands w) (sym c.assign.ensures.step)
           (stands_taken s w c.loop-lit.trail c.in-Some.lit c.loop-lit.invariant.stands c.in-Some.ensures.took (c.loop-lit.invariant.grown.level ∙ c.requires.level));
+      reasons = subst (λ t. HasReasons [] w t.steps) (sym c.assign.ensures.step)
+          (no_reasons_taken s w c.loop-lit.trail c.in-Some.lit c.in-Some.ensures.took (c.loop-lit.invariant.grown.level ∙ c.requires.level) c.loop-lit.invariant.reasons);
       trail = c.assign.ensures.trail;
       port = c.next_unit.ensures.port;
     }

@@ -1,5 +1,7 @@
+use Rattle.std.proofs.Common.{[]}
 use Rattle.ring_port.specs.PortState.{IsPort}
 use Rattle.ring_trail.specs.TrailData.{HasGrown, IsTrail}
+use Rattle.watch_prop.specs.Propagation.{HasReasons}
 use Rattle.ring_run.specs.Searching.{OnlySaw, Stands}
 use Rattle.ring_run.proofs.units.take_units.Given as goal
 
@@ -8,6 +10,7 @@ invariant-loop-lit g l = record {
   saw : OnlySaw (g.P.Port.state l.fn.port) (g.P.Port.state l.port);
   grown : HasGrown l.fn.trail l.trail;
   stands : Stands (g.P.Port.state l.port) l.trail;
+  reasons : HasReasons [] (g.P.Port.state l.port) l.trail.steps;
   trail : IsTrail l.trail;
   port : IsPort (g.P.Port.state l.port);
 }

@@ -7,6 +7,7 @@ pub mod Opposites
 pub mod Pairs
 pub mod Units
 pub mod Opens
+pub mod Newness
 pub mod Starting
 pub mod Models
 pub mod Standing

@@ -1,5 +1,5 @@
 -- From the port after the run to what the search says.
-use Rattle.std.proofs.Common.{◌≡◌, ◌^◌, ◌∙◌, ℕ, zero, suc, ◌<◌, ◌≤◌, Bool, true, false, not, List, [], ◌∷◌, ◌++◌, length, take, Some, None, Ok, Err, refl, sym, ap, subst, inl, inr, arith, append-nil, lit≤}
+use Rattle.std.proofs.Common.{◌≡◌, ◌^◌, ◌∙◌, ℕ, zero, suc, ◌<◌, ◌≤◌, Bool, true, false, not, List, [], ◌∷◌, ◌++◌, map, length, take, Some, None, Ok, Err, refl, sym, ap, subst, inl, inr, arith, append-nil, lit≤}
 use Rattle.std.specs.Prelude.{All, Result, IsSomeAnd, IfSome}
 use Rattle.std.specs.declared.option.Option.{Option}
 use Rattle.std.specs.Io.KnownBytes.{append_known}
@@ -8,6 +8,7 @@ use Rattle.std.proofs.lemmas.List.Elements.{All-append}
 use Rattle.io_edge.specs.Causes.{Rose}
 use Rattle.io_edge.specs.Paths.{IsEmptyWhereTold}
 use Rattle.sat_words.specs.Literal.{Literal}
+use Rattle.sat_words.specs.Clause.{has}
 use Rattle.sat_words.specs.Truth.{lit_true, clause_true, formula_true}
 use Rattle.sat_words.specs.FormulaData.{FormulaData}
 use Rattle.sat_words.specs.declared.line.Line.{Line}
@@ -16,13 +17,15 @@ use Rattle.sat_words.specs.declared.shared.Stop.{Stop}
 use Rattle.rup_model.specs.Basics.{EachAfter}
 use Rattle.rup_model.specs.Log.{lits_of, OnVariables}
 use Rattle.rup_model.specs.Journal.{Book, formula_book, book_after, lines, lines_from, learned, ring_of, IsSpaced}
-use Rattle.rup_model.specs.Spent.{Spent, rings_part}
+use Rattle.rup_model.specs.Spent.{SpentAll, ruler_part, rings_part}
+use Rattle.rup_model.specs.Opening.{Start, IsNew, program_opening}
 use Rattle.rup_model.specs.declared.journal.TheConstants.{RULER_RING}
 use Rattle.rup_model.specs.declared.journal.Kind.{Kind}
 use Rattle.rup_model.specs.declared.journal.Kind.TheVariants.{Ruler, Learn, Derive, UnitLine}
 use Rattle.rup_model.specs.declared.journal.Entry.{Entry}
 use Rattle.rup_model.specs.declared.journal.Entry.TheVariants.{Add, Del, Reduce}
-use Rattle.rup_model.proofs.Parts.{rings_part-append}
+use Rattle.rup_model.proofs.Parts.{ruler_part-append, rings_part-append}
+use Rattle.rup_model.proofs.Sequences.{each_weaker}
 use Rattle.rup_model.proofs.LogLaw.{refutes_none}
 use Rattle.ring_port.proofs.Refuted.{ended_refutes}
 use Rattle.drat_text.specs.LineState.{LineState}
@@ -31,10 +34,10 @@ use Rattle.dimacs_read.specs.Input.{IsOn}
 use Rattle.ring_port.specs.PortState.{Holding, PortState, IsPort, IsStop, IsOn as IsPortOn}
 use Rattle.ring_port.specs.Port.{is_usable}
 use Rattle.ring_port.specs.declared.stops.PortStop.TheVariants.{NoHole as NoHoleAnswer}
-use Rattle.ring_port.specs.Log.{Origin, StandsOver, HasLines, IsCaused}
+use Rattle.ring_port.specs.Log.{Origin, StandsOver, HasLines, IsCaused, start_of}
 use Rattle.ring_run.specs.declared.job.End.{End}
 use Rattle.ring_run.specs.declared.job.End.TheVariants.{Sat, Refuted, Spent as SpentEnd, Stopped, NoHole, ProofFault, Memory}
-use Rattle.ring_run.specs.Ended.{Stays, IsOwn, IsOfKind, IsModelOf, IsSpent, Ends}
+use Rattle.ring_run.specs.Ended.{Stays, IsOwn, IsOfKind, IsModelOf, IsSpent, Ends, AreNew, opening_of}
 use Rattle.gimsatul.specs.declared.report.Verdict.{Verdict}
 use Rattle.gimsatul.specs.declared.search.SearchStop.{SearchStop}
 use Rattle.gimsatul.specs.declared.search.SearchStop.TheVariants.{ProofFault as Faulty}
@@ -42,8 +45,9 @@ use Rattle.gimsatul.specs.Journaled.{CanBeSpelled, IsPlainEntry, IsPlainAddition
 use Rattle.gimsatul.specs.Decided.{IsRefutation, IsFull}
 use Rattle.gimsatul.specs.Searched.{Concludes, IsSearch}
 use Rattle.gimsatul.specs.Concluded.{IsCleared, IsVerdictOf, IsAlone}
-use Rattle.gimsatul.specs.Begun.{origin_of, Begins}
+use Rattle.gimsatul.specs.Begun.{origin_of, Begins, IsAlike}
 use Rattle.gimsatul.proofs.Models.{cleared}
+use Rattle.gimsatul.proofs.Newness.{still_new}
 
 -- Texts
 
@@ -113,7 +117,7 @@ on_variables L spelled k d lt j l less = (spelled k d lt j l less).low
 
 module _ (formula : FormulaData) (output : LineState) (p s : PortState) (limit count : ℕ) (end : End) (out : LineState)
     (begins : Begins formula output p) (few : formula.vars < 2 ^ 28) (empty : IsEmptyWhereTold output.written) (quiet : output.faults ≡ 0)
-    (stays : Stays p s) (wrote : All (IsOwn p.ring p.vars) s.mine) (counted : count ≡ length (learned s.ring s.mine))
+    (stays : Stays p s) (wrote : All (IsOwn p.ring p.vars) s.mine) (each_new : AreNew s) (counted : count ≡ length (learned s.ring s.mine))
     (spent : end ≡ SpentEnd → count ≡ limit) (ends : Ends s end) (is_port : IsPort s) (lines_are : Some out ≡ s.output) where
   abbrev F : List (List Literal)
   F = formula.clauses
@@ -205,13 +209,27 @@ module _ (formula : FormulaData) (output : LineState) (p s : PortState) (limit c
       let r = ended_refutes over s stands e in
       record { refuted = r; no_model = λ m t. refutes_none F (lines F J) r (on_variables (lines F J) spelled) (m, t) }
 
-  spent_all : IsSpent s → count ≡ limit → Spent F J 1 limit
+  -- the port's start clauses and units are those of the program's opening
+  opens : IsAlike (opening_of s) (program_opening F [])
+  opens = record {
+    starts = ap (λ (hs : List Holding). map (λ (x : Start). x.lits) (map start_of hs)) stays.start ∙ begins.opens.starts;
+    units = λ l. ap (λ (ls : List Literal). has ls l) stays.opening ∙ begins.opens.units l;
+  }
+
+  ruler : ruler_part J ≡ []
+  ruler = ruler_part-append [] J (λ k d lt. absurd (omega arith)) (of_ring RULER_RING formula.vars (lit≤ tt) J own)
+
+  spent_all : IsSpent s → count ≡ limit → SpentAll F J 1 limit
   spent_all h is = record {
-    of_rings = journal_stands.of_rings;
-    fits = stands.sound.fits;
-    learns = λ r lt. (let zero_ring : r ≡ 0 = omega arith in subst (λ (q : ℕ). length (learned q J) ≡ limit) (sym zero_ring) (sym counts ∙ is));
-    spaced = spaced_from formula.vars [] J own;
-    going = h.going;
+    spent = record {
+      of_rings = journal_stands.of_rings;
+      fits = stands.sound.fits;
+      learns = λ r lt. (let zero_ring : r ≡ 0 = omega arith in subst (λ (q : ℕ). length (learned q J) ≡ limit) (sym zero_ring) (sym counts ∙ is));
+      spaced = spaced_from formula.vars [] J own;
+      going = h.going;
+    };
+    each_new = subst (λ (J0 : List Entry). EachAfter (IsNew (program_opening F J0)) [] J) (sym ruler)
+        (each_weaker (IsNew (opening_of s)) (IsNew (program_opening F [])) (still_new (opening_of s) (program_opening F []) opens) [] J each_new);
   }
 
   full : (need largest : ℕ) → s.refused ≡ Some (NoHoleAnswer need largest) → IsFull J need largest

@@ -10,13 +10,16 @@ use Rattle.sat_words.specs.Clause.{has, InOrder, has_opposites, two_or_more, is_
 use Rattle.sat_words.specs.FormulaData.{FormulaData}
 use Rattle.sat_words.proofs.Insertion.{clause_of_in_order}
 use Rattle.rup_model.proofs.Lists.{In, any_In, In_any, has_In, In_Contains, In_all, none_In}
+use Rattle.rup_model.specs.Opening.{program_opening}
 use Rattle.drat_text.specs.LineState.{LineState}
 use Rattle.ring_port.specs.PortState.{Holding, PortState, IsPort, HoldsStart}
 use Rattle.ring_port.specs.PlainPort.{placed_from, begun_with}
 use Rattle.ring_port.specs.Log.{StandsOver}
 use Rattle.ring_port.proofs.Holdings.{All_In}
+use Rattle.ring_run.specs.Ended.{opening_of}
 use Rattle.gimsatul.specs.Opened.{start_of_clause, start_pairs, IsUnits}
-use Rattle.gimsatul.specs.Begun.{origin_of, Begins}
+use Rattle.gimsatul.specs.Begun.{origin_of, Begins, IsAlike}
+use Rattle.gimsatul.proofs.Newness.{alike}
 use Rattle.gimsatul.proofs.Opposites.{long_list}
 use Rattle.gimsatul.proofs.Pairs.{a_start}
 
@@ -104,6 +107,7 @@ begins formula output units s u going ordered is stands holds port = record {
   covers = λ a m. all_true formula.clauses units u going ordered a
       (subst (λ (hs : List Holding). All (λ (h : Holding). clause_true a h.lits ≡ true) hs) (ap (λ (x : PortState). x.start) is) m.start)
       (subst (λ (ls : List Literal). All (λ (l : Literal). lit_true a l ≡ true) ls) (ap (λ (x : PortState). x.opening) is) m.opening);
+  opens = subst (λ (x : PortState). IsAlike (opening_of x) (program_opening formula.clauses [])) (sym is) (alike formula.clauses units u ordered);
 }
 
 -- a look through the clauses

@@ -7,7 +7,7 @@ use Rattle.sat_words.specs.FormulaData.{FormulaData}
 use Rattle.rup_model.specs.declared.journal.Entry.{Entry}
 use Rattle.rup_model.specs.Log.{Refutes}
 use Rattle.rup_model.specs.Journal.{lines}
-use Rattle.rup_model.specs.Spent.{Spent}
+use Rattle.rup_model.specs.Spent.{SpentAll}
 use Rattle.drat_text.specs.declared.stop.TheConstants.{MAX_ENTRIES}
 use Rattle.gimsatul.specs.declared.report.Verdict.{Verdict}
 use Rattle.gimsatul.specs.declared.report.Verdict.TheVariants.{Satisfiable, Unsatisfiable, Unknown}
@@ -31,9 +31,9 @@ pub record IsRefutation (clauses : List (List Literal)) (journal : List Entry) :
   pub refuted : Refutes clauses (lines clauses journal)
   pub no_model : (model : List Bool) → formula_true model clauses ≡ true → ⊥
 
--- one ring has learned so many lemmas, its limit
+-- one ring has learned so many lemmas, its limit, and each was new when it was learned
 abbrev pub IsSpent : ℕ → List (List Literal) → List Entry → Type 0
-IsSpent limit clauses journal = Spent clauses journal 1 limit
+IsSpent limit clauses journal = SpentAll clauses journal 1 limit
 
 -- the verdict holds, of a ring that may learn so many lemmas
 abbrev pub Decides : ℕ → FormulaData → List Entry → Verdict → Type 0

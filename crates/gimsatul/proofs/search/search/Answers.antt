@@ -30,10 +30,10 @@ returns-clause-searched g c =
     let v : Result Verdict SearchStop = c.if-is_spent.verdict in
     let how : Concludes c.args.limit F after.mine out.faults v = elim c.if-is_spent.branch as (λ _. Concludes c.args.limit F after.mine out.faults v) [
       | then-is_spent w ↦ subst (λ (r : Result Verdict SearchStop). Concludes c.args.limit F after.mine out.faults r) (sym w.verdict-is)
-          (concludes_faulty F output before after c.args.limit count end out begins c.requires.few c.requires.empty c.requires.quiet c.run_ring-end.ensures.stays c.run_ring-end.ensures.wrote counted.learned_is spent c.run_ring-end.ensures.ends c.run_ring-end.ensures.port c.into_lines-lines.ensures (sym c.is_spent.ensures ∙ w.if-is_spent.true))
+          (concludes_faulty F output before after c.args.limit count end out begins c.requires.few c.requires.empty c.requires.quiet c.run_ring-end.ensures.stays c.run_ring-end.ensures.wrote c.run_ring-end.ensures.new counted.learned_is spent c.run_ring-end.ensures.ends c.run_ring-end.ensures.port c.into_lines-lines.ensures (sym c.is_spent.ensures ∙ w.if-is_spent.true))
       | else-is_spent w ↦ subst (λ (r : Result Verdict SearchStop). Concludes c.args.limit F after.mine out.faults r) (sym w.verdict-is)
-          (concludes F output before after c.args.limit count end out begins c.requires.few c.requires.empty c.requires.quiet c.run_ring-end.ensures.stays c.run_ring-end.ensures.wrote counted.learned_is spent c.run_ring-end.ensures.ends c.run_ring-end.ensures.port c.into_lines-lines.ensures (sym c.is_spent.ensures ∙ w.if-is_spent.false) w.verdict_of-verdict.result w.verdict_of-verdict.ensures)
+          (concludes F output before after c.args.limit count end out begins c.requires.few c.requires.empty c.requires.quiet c.run_ring-end.ensures.stays c.run_ring-end.ensures.wrote c.run_ring-end.ensures.new counted.learned_is spent c.run_ring-end.ensures.ends c.run_ring-end.ensures.port c.into_lines-lines.ensures (sym c.is_spent.ensures ∙ w.if-is_spent.false) w.verdict_of-verdict.result w.verdict_of-verdict.ensures)
     ] in
     let all : IsSearch c.args.limit F v count out.faults out.written =
-    is_search F output before after c.args.limit count end out begins c.requires.few c.requires.empty c.requires.quiet c.run_ring-end.ensures.stays c.run_ring-end.ensures.wrote counted.learned_is spent c.run_ring-end.ensures.ends c.run_ring-end.ensures.port c.into_lines-lines.ensures v how in
+    is_search F output before after c.args.limit count end out begins c.requires.few c.requires.empty c.requires.quiet c.run_ring-end.ensures.stays c.run_ring-end.ensures.wrote c.run_ring-end.ensures.new counted.learned_is spent c.run_ring-end.ensures.ends c.run_ring-end.ensures.port c.into_lines-lines.ensures v how in
     subst (λ (x : g.row.P.Denot). IsSearch c.args.limit F v count (g.P.Sink.faults x) (g.P.Sink.written x)) (sym c.into_sink-2.ensures) all

@@ -1,7 +1,7 @@
 //! Unit propagation by two watched literals (MiniSat, Eén and Sörensson 2003), over the clauses that any port holds.
 //!
 //! `Watched` of specs/ is the invariant between watches, clauses and trail, `Propagation` says what propagation comes to,
-//! and `laws` that the trail's calls keep the invariant.
+//! and `laws` that the trail's calls keep the invariant, and what detaching leaves.
 #![tactic(auto)]
 
 mod choice;

@@ -30,12 +30,15 @@ use std::marker::Model;
 ///
 /// A clause that is attached waits for the next `propagate`, which chooses the literals that watch it: those not false
 /// first, then those false at the highest levels.
+///
+/// A clause that is detached leaves its slot free. What lists still have of it drops out when it is met, and `propagate`
+/// takes the free slots out once they outnumber the others and the lists.
 #[derive(Drop)]
 pub struct Watches {
     slots: Vec<Option<Watch>>,
     lists: Vec<Vec<usize>>,
     settled: usize,
-    dead: usize,
+    free_slots: usize,
     vars: u32,
 }
 
@@ -48,7 +51,7 @@ impl Model for Watches {
 
     ghost view = { λ w. record { vars = w.vars; slots = w.slots.items; lists = map (λ l. l.items) w.lists.items; settled = w.settled } };
 
-    ghost invariant = { λ w. (w.vars ≤ 2 ^ 30) × (length w.lists.items ≡ 2 * w.vars + 2) × (length (filter_map clause_in w.slots.items) + w.dead ≡ length w.slots.items) };
+    ghost invariant = { λ w. (w.vars ≤ 2 ^ 30) × (length w.lists.items ≡ 2 * w.vars + 2) × (length (filter_map clause_in w.slots.items) + w.free_slots ≡ length w.slots.items) };
 }
 
 impl Watches {
@@ -63,7 +66,7 @@ impl Watches {
             slots: Vec::new(alloc),
             lists: empty_lists(alloc, 2 * vars as usize + 2)?,
             settled: 0,
-            dead: 0,
+            free_slots: 0,
             vars,
         })
     }
@@ -179,7 +182,7 @@ impl Watches {
             Some(watch) => {
                 if watch.clause.address == c.address {
                     self.slots[index] = None;
-                    self.dead += 1;
+                    self.free_slots += 1;
                 }
             }
         }
@@ -212,18 +215,17 @@ impl Watches {
         }
     }
 
-    /// Compacts the slots where most of them are free. All clauses wait then.
+    /// Takes the free slots out where they outnumber the others and the lists. All clauses wait then.
     ///
-    /// The clauses and the lists that have to be looked at again are fewer than the clauses that were detached since the
-    /// slots were last compacted.
+    /// So the clauses and the lists that are gone through again are fewer than the clauses detached since the last time.
     fn tidy(&mut self)
         ensures attached { attached self.new ≡ attached self.old }
         ensures vars { self.new.vars ≡ self.old.vars }
         ensures watched { (lits : Lits) (t : TrailData) → Watched self.old lits t → Watched self.new lits t }
         ensures few { length self.new.slots ≤ 2 * length (attached self.new) + length self.new.lists }
     {
-        let used = self.slots.len() - self.dead;
-        if self.dead.saturating_sub(used) > self.lists.len() {
+        let used = self.slots.len() - self.free_slots;
+        if self.free_slots.saturating_sub(used) > self.lists.len() {
             self.compact();
         }
     }
@@ -235,7 +237,7 @@ impl Watches {
         self.slots.retain(|slot| slot.is_some());
         clear_lists(&mut self.lists);
         self.settled = 0;
-        self.dead = 0;
+        self.free_slots = 0;
     }
 
     /// Looks at all clauses that wait.

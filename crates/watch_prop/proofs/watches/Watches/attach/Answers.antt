@@ -55,4 +55,4 @@ pub invariant_of-self-2 : goal.invariant_of-self-2
 invariant_of-self-2 g c =
     let i = c.self.invariant in
     let s : Watch = record { clause = c.args.c; first = c.read_lit-first.result; second = c.read_lit-second.result } in
-    (i.0, i.1, HasFree-push c.self.inside.slots.items c.push.new.self.items s c.self.inside.dead c.in_ok-push.ensures.items i.2)
+    (i.0, i.1, HasFree-push c.self.inside.slots.items c.push.new.self.items s c.self.inside.free_slots c.in_ok-push.ensures.items i.2)

@@ -21,4 +21,4 @@ pub invariant_of-self : goal.invariant_of-self
 invariant_of-self c =
     let i = c.self.invariant in
     let ws = c.self.inside.slots.items in
-    (i.0, i.1, HasFree-freed ws c.args.index c.in-Some.watch c.self.inside.dead (watch_read ws c.args.index c.index.result.now c.in-Some.watch (let q = c.if-index-len.false in omega (arith, q, c.len.ensures)) c.index.ensures c.in-Some.is) i.2)
+    (i.0, i.1, HasFree-freed ws c.args.index c.in-Some.watch c.self.inside.free_slots (watch_read ws c.args.index c.index.result.now c.in-Some.watch (let q = c.if-index-len.false in omega (arith, q, c.len.ensures)) c.index.ensures c.in-Some.is) i.2)

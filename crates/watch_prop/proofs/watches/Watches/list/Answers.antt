@@ -28,5 +28,5 @@ invariant_of-self-2 c =
     let at = subst (λ (x : WatchData). At x.slots x.settled (Some c.requires.there.watch)) (sym c.self.view_is) c.requires.there.there in (
       i.0,
       same_many c.add_to.new.lists c.add_to-2.new.lists c.in_ok-add_to-2.ensures.ok.len ∙ same_many c.self.inside.lists c.add_to.new.lists c.in_ok-add_to.ensures.ok.len ∙ i.1,
-      HasFree-set c.self.inside.slots.items c.self.inside.settled c.requires.there.watch record { clause = c.args.clause; first = c.args.first; second = c.args.second } c.self.inside.dead at (sym c.requires.there.clause) i.2,
+      HasFree-set c.self.inside.slots.items c.self.inside.settled c.requires.there.watch _ c.self.inside.free_slots at (sym c.requires.there.clause) i.2,
     )

@@ -13,5 +13,5 @@ invariant_of-self-2 c =
     let at = subst (λ (x : WatchData). At x.slots c.args.entry.index (Some e.watch)) (sym c.self.view_is) there in (
       i.0,
       same_many c.add_to.new.lists c.take_from.new.lists c.take_from.ensures.len ∙ same_many c.self.inside.lists c.add_to.new.lists c.in_ok-add_to.ensures.ok.len ∙ i.1,
-      HasFree-set c.self.inside.slots.items c.args.entry.index e.watch record { clause = c.args.entry.clause; first = c.args.entry.other; second = c.args.new } c.self.inside.dead at (sym e.clause) i.2,
+      HasFree-set c.self.inside.slots.items c.args.entry.index e.watch _ c.self.inside.free_slots at (sym e.clause) i.2,
     )

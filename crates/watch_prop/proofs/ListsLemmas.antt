@@ -4,7 +4,7 @@ use Rattle.std.proofs.Math.ListN.{set}
 use Rattle.std.specs.List.{swap_remove}
 use Rattle.std.proofs.lemmas.Bool.{cases_Bool, cases_lt}
 use Rattle.std.proofs.lemmas.Bool.Decides.{nat_tests}
-use Rattle.std.proofs.lemmas.List.{length-set, get_or-set_same, get_or-set_other, length-take-le, get_or-take, get_or_default, take-take, take-set, take_more, map-set, get_or-map, set-get_or, length-take, length-map}
+use Rattle.std.proofs.lemmas.List.{length-set, get_or-set_same, get_or-set_other, length-take-le, get_or-take, get_or_default, take-take, take-set, take_more, map-set, get_or-map, set-get_or, length-take, length-map, get_or_past}
 use Rattle.std.proofs.lemmas.List.Elements.{Contains-append_left, Contains-push, Contains-push_cases}
 use Rattle.sat_words.specs.Literal.{Literal, code_of, literal_of}
 use Rattle.sat_words.specs.Codes.{literal_of-code_of}
@@ -109,3 +109,15 @@ Removed-len old new l p lt r = omega (arith, length-take p (list_at new l), leng
 -- how many lists there are
 pub same_many : (u v : Vec (Vec ℕ)) → length (ListsOf v) ≡ length (ListsOf u) → length v.items ≡ length u.items
 same_many u v e = omega (arith, e, length-map v.items (λ x. x.items), length-map u.items (λ x. x.items))
+
+-- one list more is empty
+pub empty_more : (v : Vec (Vec ℕ)) (i : ℕ) (y : Vec ℕ) → i < length v.items → y.items ≡ [] → ((k : ℕ) → k < i → get_or (ListsOf v) k [] ≡ []) → (k : ℕ) → k < i + 1 → get_or (map (λ (z : Vec ℕ). z.items) (set v.items i y)) k [] ≡ []
+empty_more v i y lt e old k small =
+    ap (λ (xs : List (List ℕ)). get_or xs k []) (map-set (λ (z : Vec ℕ). z.items) v.items i y)
+    ∙ elim (cases_eq k i) as (λ _. get_or (set (ListsOf v) i y.items) k [] ≡ []) [
+      | inl q ↦ ap (λ (n : ℕ). get_or (set (ListsOf v) i y.items) n []) q ∙ get_or-set_same (ListsOf v) i y.items [] (omega (arith, length-map v.items (λ x. x.items))) ∙ e
+      | inr ne ↦ get_or-set_other (ListsOf v) i k y.items [] ne ∙ old k (omega arith)
+    ]
+
+pub empty_all : (xs : List (List ℕ)) (n : ℕ) → length xs ≤ n → ((k : ℕ) → k < n → get_or xs k [] ≡ []) → (k : ℕ) → get_or xs k [] ≡ []
+empty_all xs n le empty k = elim (cases_lt k n) as (λ _. get_or xs k [] ≡ []) [ inl lt ↦ empty k lt | inr ge ↦ get_or_past xs k [] (omega arith) ]

@@ -1,6 +1,6 @@
 // The lists of places, one for each literal, at the literal's code.
-ghost use Rattle.std.specs.Prelude.{◌≡◌, ◌<◌, ◌^◌, IfOk, OnOk, OnErr, length};
-ghost use Rattle.sat_words.specs.Literal.{code_of};
+ghost use Rattle.std.specs.Prelude.{◌≡◌, ◌<◌, ◌^◌, [], IfOk, OnOk, OnErr, length};
+ghost use Rattle.sat_words.specs.Literal.{Literal, code_of};
 ghost use Rattle.watch_prop.specs.WatchData.{list_at};
 ghost use Rattle.watch_prop.specs.Lists.{ListsOf, Added, Removed};
 
@@ -40,7 +40,8 @@ pub(crate) fn take_from(lists: &mut Vec<Vec<usize>>, lit: Lit, place: usize)
 
 /// Empties all lists.
 pub(crate) fn clear_lists(lists: &mut Vec<Vec<usize>>)
-    ensures { length lists.new.items ≡ length lists.old.items }
+    ensures len { length lists.new.items ≡ length lists.old.items }
+    ensures empty { (l : Literal) → list_at (ListsOf lists.new) l ≡ [] }
 {
     for i in 0..lists.len() {
         lists[i].clear();

@@ -12,7 +12,7 @@ use Rattle.rup_model.specs.Journal.{book, is_told}
 use Rattle.rup_model.specs.Opening.{is_rulers, IsRulersPart, IsStart}
 use Rattle.ring_port.specs.PortState.{Holding, IsOn}
 use Rattle.ring_port.specs.PlainPort.{starts_of}
-use Rattle.ring_run.specs.Problems.{IsReady, lit, square, square_starts, chain, chain_starts, chain_units, triples, triples_starts, opposed, opposed_units}
+use Rattle.ring_run.specs.Problems.{IsReady, lit, square, square_starts, chain, chain_starts, chain_units, triples, triples_starts, opposed, opposed_units, row, row_starts}
 
 -- before the ruler has written anything
 no_entries : (F : List (List Literal)) → IsRulersPart F []
@@ -56,6 +56,10 @@ On n s = All (IsOn n) s.1
 numbers_1_to_4 : IsDistinct nat_eq (1 ∷ 2 ∷ 3 ∷ 4 ∷ [])
 unfolding IsDistinct
 numbers_1_to_4 = ((refl, (refl, (refl, tt))), ((refl, (refl, tt)), ((refl, tt), (tt, tt))))
+
+numbers_1_to_3 : IsDistinct nat_eq (1 ∷ 2 ∷ 3 ∷ [])
+unfolding IsDistinct
+numbers_1_to_3 = ((refl, (refl, tt)), ((refl, tt), (tt, tt)))
 
 numbers_1_and_2 : IsDistinct nat_eq (1 ∷ 2 ∷ [])
 unfolding IsDistinct
@@ -155,6 +159,39 @@ opposed_ready =
       going = refl;
       starts_on = All-nil (On 1);
       units_on = All-from_recursion (IsOn 1) opposed_units (on 1 1 false (omega arith) (omega arith), (on 1 1 true (omega arith) (omega arith), tt));
+      small = omega arith;
+      few = omega arith;
+    }
+
+pub row_ready : IsReady row row_starts [] 5
+row_ready =
+    let one : IsOn 5 (lit 1 true) = on 5 1 true (omega arith) (omega arith) in
+    let four : IsOn 5 (lit 4 true) = on 5 4 true (omega arith) (omega arith) in
+    let two = λ (b : Bool). on 5 2 b (omega arith) (omega arith) in
+    let five = λ (b : Bool). on 5 5 b (omega arith) (omega arith) in
+    record {
+      opens = record {
+        rulers_part = no_entries row;
+        starts = All-from_recursion (IsStart (book row [])) (starts_of row_starts) (
+          long row 1 (lit 1 true) (lit 2 false) refl refl refl,
+          (
+            record { alive = refl; shape = record { long = omega arith; distinct = refl; no_opposites = refl } },
+            (record { alive = refl; shape = record { long = omega arith; distinct = refl; no_opposites = refl } }, tt),
+          ),
+        );
+        numbers = numbers_1_to_3;
+        told = All-nil (λ (l : Literal). is_told row [] l ≡ true);
+        distinct = refl;
+      };
+      going = refl;
+      starts_on = All-from_recursion (On 5) row_starts (
+        on_two 5 (lit 1 true) (lit 2 false) one (two false),
+        (
+          All-from_recursion (IsOn 5) (lit 1 true ∷ lit 4 true ∷ lit 5 false ∷ []) (one, (four, (five false, tt))),
+          (All-from_recursion (IsOn 5) (lit 2 true ∷ lit 4 true ∷ lit 5 true ∷ []) (two true, (four, (five true, tt))), tt),
+        ),
+      );
+      units_on = All-nil (IsOn 5);
       small = omega arith;
       few = omega arith;
     }

@@ -54,3 +54,12 @@ opposed = (lit 1 false ∷ []) ∷ (lit 1 true ∷ []) ∷ []
 
 abbrev pub opposed_units : List Literal
 opposed_units = lit 1 false ∷ lit 1 true ∷ []
+
+-- 1 forces 2, and where 1 and 4 are true the last two clauses oppose each other; 3 occurs nowhere
+abbrev pub row : List (List Literal)
+row = (lit 1 true ∷ lit 2 false ∷ []) ∷ (lit 1 true ∷ lit 4 true ∷ lit 5 false ∷ []) ∷ (lit 2 true ∷ lit 4 true ∷ lit 5 true ∷ []) ∷ []
+
+abbrev pub row_starts : List (ℕ × List Literal)
+row_starts =
+    (1, lit 1 true ∷ lit 2 false ∷ []) ∷ (2, lit 1 true ∷ lit 4 true ∷ lit 5 false ∷ [])
+    ∷ (3, lit 2 true ∷ lit 4 true ∷ lit 5 true ∷ []) ∷ []

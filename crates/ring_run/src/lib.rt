@@ -17,3 +17,5 @@ pub use run::run_ring;
 
 #[cfg(test)]
 mod tests;
+#[cfg(test)]
+mod tests_row;

@@ -79,7 +79,7 @@ fn attach_all<P: Port>(
 }
 
 /// A ring that has attached the start clauses, and done nothing else.
-fn make_ring<P: Port>(alloc: Global, port: &mut P, job: &Job) -> Result<Ring, AllocError>
+pub(crate) fn make_ring<P: Port>(alloc: Global, port: &mut P, job: &Job) -> Result<Ring, AllocError>
     requires small { job.now.vars ≤ 2 ^ 30 }
     requires vars { job.now.vars ≡ (P.state port.old).vars }
     requires held { All (IsHeldBy (P.state port.old)) job.now.start }

@@ -15,7 +15,7 @@ use std::test::Fail;
 const ROOM: usize = 64;
 
 /// Puts a clause behind those of the formula, and among the start clauses.
-fn put(
+pub(crate) fn put(
     alloc: Global,
     formula: &mut Formula,
     start: &mut Vec<(u64, Clause)>,

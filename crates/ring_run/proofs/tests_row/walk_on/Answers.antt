@@ -1,0 +1,16 @@
+use Rattle.std.proofs.Common.{◌∙◌, sym, ap, arith}
+use Rattle.ring_port.specs.PortState.{PortState}
+use Rattle.ring_run.proofs.ProblemsReady.{addresses}
+use Rattle.ring_run.proofs.tests_row.walk_on.Goals as goal
+
+pub walk-requires-clause-job : goal.walk-requires-clause-job
+walk-requires-clause-job c =
+    let made = c.in-Ok.ensures.made in
+    record {
+      small = omega (arith, c.vars-2.ensures, c.requires.small);
+      ring = sym (ap (λ (s : PortState). s.ring) made);
+      rings = sym (ap (λ (s : PortState). s.rings) made);
+      vars = c.vars-2.ensures ∙ sym c.vars.ensures ∙ sym (ap (λ (s : PortState). s.vars) made);
+      start = c.from_vec.ensures ∙ (c.in_ok-from_slice.ensures {u = tt}).items ∙ addresses c.start.result.now c.in-Ok.port.start c.start.ensures;
+      some = omega arith;
+    }

@@ -1,0 +1,199 @@
+// One conflict, step by step: the trail, the watches and the analysis, over the port in memory.
+ghost use Rattle.std.specs.Prelude.{◌≡◌, [], IfOk, OnOk};
+ghost use Rattle.ring_port.specs.PortState.{IsPort, lits_at};
+ghost use Rattle.watch_prop.specs.Propagation.{IsConflict, IsQuiet, IsPropagated};
+ghost use Rattle.ring_run.specs.Ended.{IsJobOf, IsUntouched};
+ghost use Rattle.ring_run.specs.Finding.{InSearch, IsBegun};
+ghost use Rattle.ring_run.specs.Problems.{IsReady, row, row_starts};
+
+use crate::run::make_ring;
+use crate::search::Ring;
+use crate::tests::put;
+use crate::units::{Units, take_units};
+use crate::{Addresses, Job};
+use analyze::{Analysis, Conclusion};
+use drat_text::SinkLines;
+use io_edge::MemSink;
+use ring_port::{PlainPort, Port};
+use ring_trail::Trail;
+use sat_words::{Clause, Cref, Formula, Lit};
+use std::alloc::{AllocError, Global};
+use std::test::Fail;
+use watch_prop::Propagated;
+
+/// What was seen on the way.
+#[derive(Drop)]
+struct Walked {
+    /// The value of 2 where 1 was decided.
+    two: Option<bool>,
+    /// What the conflict taught.
+    conclusion: Conclusion,
+    /// It has the lemma's literals.
+    analysis: Analysis,
+}
+
+/// 1 forces 2, and where 1 and 4 are true the last two clauses oppose each other. A clause has
+/// its literals in the order of their variables, however they are given.
+fn row_clauses(alloc: Global) -> Result<(Formula, Vec<(u64, Clause)>), AllocError>
+    ensures formula { IfOk result (λ made. made.0 ≡ record { vars = 5; clauses = row }) }
+    ensures start { IfOk result (λ made. made.1.items ≡ row_starts) }
+{
+    let one = Lit::new(1, true);
+    let four = Lit::new(4, true);
+    let two = Lit::new(2, false);
+    let five = Lit::new(5, false);
+    let mut formula = Formula::new(alloc, 5);
+    let mut start = Vec::new(alloc);
+    put(alloc, &mut formula, &mut start, &[one, two])?;
+    put(alloc, &mut formula, &mut start, &[four, one, five])?;
+    put(
+        alloc,
+        &mut formula,
+        &mut start,
+        &[four, two.not(), five.not()],
+    )?;
+    Ok((formula, start))
+}
+
+/// A ring that has attached the job's clauses.
+fn fresh_ring<P: Port>(alloc: Global, port: &mut P, job: &Job) -> Result<Ring, Fail>
+    requires job { IsJobOf (P.state port.old) job.now }
+    requires untouched { IsUntouched (P.state port.old) }
+    requires port { IsPort (P.state port.old) }
+    ensures { IfOk result (IsBegun (P.state port.new)) }
+{
+    let Ok(ring) = make_ring(alloc, port, job) else {
+        return Err(Fail::from("no memory for the ring"));
+    };
+    Ok(ring)
+}
+
+/// Makes the units of the opening true, where they do not oppose each other.
+fn take_opening<P: Port>(port: &mut P, ring: &mut Ring) -> Result<(), Fail>
+    requires { IsBegun (P.state port.old) ring.old }
+    ensures { OnOk result (InSearch (P.state port.new) ring.new) }
+{
+    match take_units(port, &mut ring.trail) {
+        Units::Opposed => Err(Fail::from("the units oppose each other")),
+        Units::True => Ok(()),
+    }
+}
+
+/// Propagates.
+fn propagate<P: Port>(port: &mut P, ring: &mut Ring) -> Result<Propagated, Fail>
+    requires { InSearch (P.state port.old) ring.old }
+    ensures search { OnOk result (InSearch (P.state port.new) ring.new) }
+    ensures propagated { IfOk result (IsPropagated ring.new.watches (lits_at (P.state port.new)) ring.new.trail) }
+{
+    let Ok(propagated) = ring.watches.propagate(port, &mut ring.trail) else {
+        return Err(Fail::from("no memory for the watches"));
+    };
+    let _lawful = ring.trail.present();
+    Ok(propagated)
+}
+
+/// The variable's value; none where it is no variable of the trail's.
+fn value(trail: &Trail, var: u32) -> Option<bool> {
+    if var > trail.vars() {
+        return None;
+    }
+    trail.value(var)
+}
+
+/// Makes a literal true at a level of its own, where its variable has no value, and propagates.
+fn decide_and_propagate<P: Port>(
+    port: &mut P,
+    ring: &mut Ring,
+    lit: Lit,
+) -> Result<Propagated, Fail>
+    requires search { InSearch (P.state port.old) ring.old }
+    requires quiet { IsQuiet ring.old.watches (lits_at (P.state port.old)) ring.old.trail }
+    ensures search { OnOk result (InSearch (P.state port.new) ring.new) }
+    ensures propagated { IfOk result (IsPropagated ring.new.watches (lits_at (P.state port.new)) ring.new.trail) }
+{
+    if lit.var() > ring.trail.vars() {
+        return Err(Fail::from("no variable"));
+    }
+    if ring.trail.value(lit.var()).is_some() {
+        return Err(Fail::from("the variable has a value"));
+    }
+    ring.trail.decide(lit);
+    propagate(port, ring)
+}
+
+/// Analyses a conflict.
+fn conclude<P: Port>(
+    alloc: Global,
+    port: &mut P,
+    ring: &Ring,
+    conflict: Cref,
+) -> Result<(Conclusion, Analysis), Fail>
+    requires search { InSearch (P.state port.old) ring.now }
+    requires conflict { IsConflict ring.now.watches (lits_at (P.state port.old)) ring.now.trail conflict }
+{
+    let mut analysis = Analysis::new(alloc, ring.trail.vars())?;
+    let conclusion = analysis.analyze(port, &ring.trail, conflict);
+    Ok((conclusion, analysis))
+}
+
+/// Decides 1 and then 4, and analyses the conflict that comes.
+fn walk<P: Port>(alloc: Global, port: &mut P, job: &Job) -> Result<Walked, Fail>
+    requires job { IsJobOf (P.state port.old) job.now }
+    requires untouched { IsUntouched (P.state port.old) }
+    requires port { IsPort (P.state port.old) }
+{
+    let mut ring = fresh_ring(alloc, port, job)?;
+    take_opening(port, &mut ring)?;
+    let Propagated::Quiet = propagate(port, &mut ring)? else {
+        return Err(Fail::from("a conflict without a decision"));
+    };
+    let Propagated::Quiet = decide_and_propagate(port, &mut ring, Lit::new(1, false))? else {
+        return Err(Fail::from("a conflict after one decision"));
+    };
+    let two = value(&ring.trail, 2);
+    let Propagated::Conflict(conflict) = decide_and_propagate(port, &mut ring, Lit::new(4, false))?
+    else {
+        return Err(Fail::from("no conflict"));
+    };
+    let (conclusion, analysis) = conclude(alloc, port, &ring, conflict)?;
+    Ok(Walked {
+        two,
+        conclusion,
+        analysis,
+    })
+}
+
+/// Walks over a port in memory that holds these clauses.
+fn walk_on(alloc: Global, formula: &Formula, start: &[(u64, Clause)]) -> Result<Walked, Fail>
+    requires { IsReady formula.now.clauses start.now [] formula.now.vars }
+{
+    let sink = MemSink::new(alloc, 0, &[])?;
+    let lines = SinkLines::new(formula.clauses().len() as u64, sink);
+    let Ok(mut port) = PlainPort::new(alloc, formula, formula.vars(), start, &[], lines) else {
+        return Err(Fail::from("no memory for the port"));
+    };
+    let job = Job {
+        ring: 0,
+        rings: 1,
+        vars: formula.vars(),
+        start: Addresses::from_vec(Vec::from_slice(alloc, port.start())?),
+        conflicts: 1,
+    };
+    walk(alloc, &mut port, &job)
+}
+
+// 1 forces 2. 4 forces 5 by one of the last two clauses and its negation by the other. The walk back from the conflict
+// leaves -4, -1 and -2, of which the first clause lets -2 go. The lemma goes back to level 1, and has one level beside its
+// own.
+#[test]
+fn learns_a_minimised_lemma(rt: HostRuntime) -> Result<(), Fail> {
+    let (formula, start) = row_clauses(rt.alloc())?;
+    let walked = walk_on(rt.alloc(), &formula, &start)?;
+    assert_eq!(rt; walked.two, Some(true));
+    assert_eq!(rt; walked.conclusion, Conclusion::Lemma { back: 1, glue: 1 });
+    let lits = walked.analysis.lits();
+    assert_eq!(rt; lits.len(), 2);
+    assert_eq!(rt; lits[0], Lit::new(4, true));
+    assert_eq!(rt; lits[1], Lit::new(1, true));
+    Ok(())
+}

@@ -17,8 +17,8 @@ use Rattle.ring_run.specs.declared.search.Ring.{Ring}
 use Rattle.ring_run.specs.declared.search.Finding.{Finding}
 use Rattle.ring_run.specs.declared.search.Finding.TheVariants.{Model, Refuted, Spent, Stopped, Refused}
 
--- the trail and the watches search: the clauses attached are watched, closed below the present level and the only reasons,
--- and all units of the opening are true
+-- a search at this port, with this trail and these watches: the clauses attached are watched, closed below the present
+-- level and the only reasons, and all units of the opening are true
 pub record Searches (s : PortState) (t : TrailData) (w : WatchData) : Type 0 where
   pub clauses : HasClauses s (attached w)
   pub opening : OpeningSeen s
@@ -28,7 +28,7 @@ pub record Searches (s : PortState) (t : TrailData) (w : WatchData) : Type 0 whe
   pub closed : IsClosedBelow w (lits_at s) t
   pub reasons : HasReasons (attached w) s t.steps
 
--- so do those of the ring
+-- a search with those of the ring
 abbrev pub InSearch : PortState → Ring → Type 0
 InSearch s ring = Searches s ring.trail ring.watches
 

@@ -36,7 +36,7 @@ abbrev pub IsReached : Held → List Step → ℕ → List Literal → ℕ → �
 IsReached held steps m conflict i p = (R : ℕ → Bool) → IsWalkSet held steps m conflict i R → R p ≡ true
 
 -- the first unique implication point: walking down to it, it is the only place of the conflict's level that is marked and not
--- left; and at each marked place of the level behind it there is another one before that
+-- walked past; and at each marked place of the level behind it there is another one before that
 pub record IsFirstPoint (held : Held) (steps : List Step) (m : ℕ) (conflict : List Literal) (u : ℕ) : Type 0 where
   pub in_range : u < length steps
   pub level : level_at steps u ≡ m

@@ -25,7 +25,8 @@ pub enum Conclusion {
         /// The greatest level of its literals but the asserting one, 0 where there are none: going back to it leaves that
         /// one the only literal that isn't false.
         back: u32,
-        /// How many levels its literals but the asserting one have (LBD; Audemard and Simon 2009).
+        /// How many levels its literals but the asserting one have: one less than the literal block distance of Audemard
+        /// and Simon (2009).
         glue: u32,
     },
 }

@@ -72,7 +72,8 @@ IsOwn ring vars (Add x) = (x.ring ≡ ring) × All (IsOn vars) x.lits × IsOfKin
 IsOwn ring vars (Del r n) = ⊥
 IsOwn ring vars (Reduce r) = ⊥
 
--- what the ring starts from: the start clauses with their numbers, and the units that are listed from the start
+-- what the ring starts from: the start clauses with their numbers, and the units that are listed from the start, without the
+-- ruler's entries, which no clause that is learned is compared with
 abbrev pub opening_of : PortState → Opening
 opening_of s = record { journal = []; starts = map start_of s.start; units = s.opening }
 

@@ -41,7 +41,7 @@ pub(crate) fn take_units<P: Port>(port: &mut P, trail: &mut Trail) -> Units
     Units::True
 }
 
-/// Writes a unit's line for the literal at this place, if it has a reason: one without has its line already.
+/// Writes a unit's line for the literal at this place, if it has a reason: one without is a unit that was given or learned.
 fn write_unit<P: Port>(port: &mut P, trail: &Trail, place: u32) -> Result<(), PortStop>
     requires level { trail.now.level ≡ 0 }
     requires trail { IsTrail trail.now }

@@ -7,6 +7,7 @@ use Rattle.ring_port.specs.PortState.{PortState, clause_at}
 use Rattle.ring_trail.specs.declared.step.Step.{Step}
 use Rattle.ring_trail.specs.TrailData.{TrailData, reason_at}
 use Rattle.ring_trail.specs.Reasoned.{IsSeen}
+use Rattle.ring_trail.specs.Closed.{IsClosed}
 use Rattle.ring_trail.proofs.Causes.{IsReasoned-held}
 use Rattle.watch_prop.specs.WatchData.{WatchData, Lits, attached, clauses_of, without}
 use Rattle.watch_prop.specs.Propagation.{attached_at, HasReasons, IsClosedBelow}
@@ -61,10 +62,13 @@ Reasons-without cs s steps a seen h =
     ])
     (λ l q. q)
 
-pub Closed-without : (w x : WatchData) (lits : Lits) (t : TrailData) (a : ℕ) → attached x ≡ without (attached w) a → IsClosedBelow w lits t → IsClosedBelow x lits t
-Closed-without w x lits t a e below k lt c there =
+pub Closed-at : (w x : WatchData) (lits : Lits) (steps : List Step) (a k : ℕ) → attached x ≡ without (attached w) a → IsClosed (clauses_of w lits) steps k → IsClosed (clauses_of x lits) steps k
+Closed-at w x lits steps a k e closed c there =
     let f : Cref → List Literal = λ d. lits d.address in
     let m = map_In f (attached x) c (Contains_In (clauses_of x lits) c there) in
     let was = was_in (attached w) a m.0 (subst (λ (cs : List Cref). Contains cs m.0) e (In_Contains (attached x) m.0 m.1)) in
     let inside = In_map f (attached w) m.0 (Contains_In (attached w) m.0 was.0) in
-    below k lt c (In_Contains (clauses_of w lits) c (subst (λ (d : List Literal). In d (clauses_of w lits)) m.2 inside))
+    closed c (In_Contains (clauses_of w lits) c (subst (λ (d : List Literal). In d (clauses_of w lits)) m.2 inside))
+
+pub Closed-without : (w x : WatchData) (lits : Lits) (t : TrailData) (a : ℕ) → attached x ≡ without (attached w) a → IsClosedBelow w lits t → IsClosedBelow x lits t
+Closed-without w x lits t a e below k lt = Closed-at w x lits t.steps a k e (below k lt)

@@ -7,7 +7,8 @@ ghost use Rattle.ring_port.specs.PortState.{PortState, held_at, lits_at, clause_
 ghost use Rattle.ring_trail.specs.declared.step.Step.{Step};
 ghost use Rattle.ring_trail.specs.TrailData.{TrailData, IsTrail, reason_at, decided, assigned, cut_back};
 ghost use Rattle.ring_trail.specs.Reasoned.{IsReasoned, IsSeen};
-ghost use Rattle.watch_prop.specs.WatchData.{WatchData, Lits, attached, without};
+ghost use Rattle.ring_trail.specs.Closed.{IsClosed};
+ghost use Rattle.watch_prop.specs.WatchData.{WatchData, Lits, attached, without, clauses_of};
 ghost use Rattle.watch_prop.specs.Watched.{Watched};
 ghost use Rattle.watch_prop.specs.Propagation.{attached_at, HasReasons, IsClosedBelow};
 
@@ -59,7 +60,8 @@ pub fn detaching_keeps_reasons()
         → HasReasons cs s steps → HasReasons (without cs a) s steps }
 {}
 
-/// Detaching a clause leaves the others closed.
+/// Detaching a clause leaves the others closed, at each level and below the present one.
 pub fn detaching_keeps_closed()
-    ensures { (w x : WatchData) (lits : Lits) (t : TrailData) (a : ℕ) → attached x ≡ without (attached w) a → IsClosedBelow w lits t → IsClosedBelow x lits t }
+    ensures at { (w x : WatchData) (lits : Lits) (steps : List Step) (a k : ℕ) → attached x ≡ without (attached w) a → IsClosed (clauses_of w lits) steps k → IsClosed (clauses_of x lits) steps k }
+    ensures below { (w x : WatchData) (lits : Lits) (t : TrailData) (a : ℕ) → attached x ≡ without (attached w) a → IsClosedBelow w lits t → IsClosedBelow x lits t }
 {}

@@ -99,7 +99,7 @@ impl Watches {
     }
 
     /// Detaches a clause that is held: it is watched no more, however often it was attached. One that isn't attached
-    /// changes nothing.
+    /// leaves what is attached as it was.
     ///
     /// The clause is looked for among those that wait and in the lists of its own literals. It takes no memory.
     pub fn detach<P: Port>(&mut self, port: &mut P, c: Cref)

@@ -52,6 +52,7 @@ started limit text source out formula found count tally f0 f1 w0 w1 fl0 fl1 resu
   source = still;
   journal_stands = s.stands;
   log = flushed_log formula.clauses s.journal s.stands f0 f1 w0 w1 fl0 fl1 result s.whole s.short same cause flush;
+  within = subst (λ (n : ℕ). n ≤ limit) s.counts s.within;
   counts = counts ∙ ap ring_tally s.counts;
 }
 
@@ -78,6 +79,7 @@ stop_cases (Room need largest) limit F J before tally text source out f0 writer 
   source = s.source;
   journal_stands = s.journal_stands;
   log = s.log;
+  within = s.within;
   counts = counts ∙ ap (tally_of_stop (Room need largest)) s.counts;
   full = why.1;
 }

@@ -41,6 +41,7 @@ untouched limit formula faults written quiet empty = record {
   journal = [];
   stands = empty_journal formula.clauses;
   counts = refl;
+  within = omega arith;
   conclusion = quiet;
   whole = λ _. none_told written empty;
   short = λ some. absurd (some quiet);
@@ -98,6 +99,7 @@ module _ (limit : ℕ) (formula : FormulaData) (given : list_any is_empty formul
         journal = entry ∷ [];
         stands = stands;
         counts = refl;
+        within = omega arith;
         conclusion = (faults, record { refuted = refutes; no_model = λ m t. refutes_none F (AddLine [] ∷ []) refutes (on_variables (AddLine [] ∷ []) spelled) (m, t) });
         whole = λ _. subst (λ (t : List ℕ). HoldsText new.written t) (sym (append-nil (line_text (AddLine [])))) (told_whole old.written new.written (line_text (AddLine [])) empty (ap (λ (s : LineState). s.written) put.state));
         short = λ some. absurd (some faults);
@@ -110,6 +112,7 @@ module _ (limit : ℕ) (formula : FormulaData) (given : list_any is_empty formul
         journal = [];
         stands = empty_journal F;
         counts = refl;
+        within = omega arith;
         conclusion = rose;
         whole = λ no_faults. absurd (omega arith);
         short = λ _. record {

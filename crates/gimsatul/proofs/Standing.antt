@@ -118,7 +118,7 @@ on_variables L spelled k d lt j l less = (spelled k d lt j l less).low
 module _ (formula : FormulaData) (output : LineState) (p s : PortState) (limit count : ℕ) (end : End) (out : LineState)
     (begins : Begins formula output p) (few : formula.vars < 2 ^ 28) (empty : IsEmptyWhereTold output.written) (quiet : output.faults ≡ 0)
     (stays : Stays p s) (wrote : All (IsOwn p.ring p.vars) s.mine) (each_new : AreNew s) (counted : count ≡ length (learned s.ring s.mine))
-    (spent : end ≡ SpentEnd → count ≡ limit) (ends : Ends s end) (is_port : IsPort s) (lines_are : Some out ≡ s.output) where
+    (within : count ≤ limit) (spent : end ≡ SpentEnd → count ≡ limit) (ends : Ends s end) (is_port : IsPort s) (lines_are : Some out ≡ s.output) where
   abbrev F : List (List Literal)
   F = formula.clauses
 
@@ -260,7 +260,7 @@ module _ (formula : FormulaData) (output : LineState) (p s : PortState) (limit c
       by Memory sp en r v = subst (λ (w : Result Verdict SearchStop). Concludes limit formula J out.faults w) (sym v) (still e)
 
   pub is_search : (result : Result Verdict SearchStop) → Concludes limit formula J out.faults result → IsSearch limit formula result count out.faults out.written
-  is_search result h = record { journal = J; stands = journal_stands; counts = counts; conclusion = h; whole = whole; short = short }
+  is_search result h = record { journal = J; stands = journal_stands; counts = counts; within = within; conclusion = h; whole = whole; short = short }
 
   -- one ring alone sees no other's stop
   pub alone : IsAlone end

@@ -1,5 +1,5 @@
 -- What each end of a call says, by cases, of the formula that was read and of the one journal of the run.
-use Rattle.std.specs.Prelude.{◌≡◌, ◌⊎◌, ℕ, List, [], length, IfSome, IsSome, IsSomeAnd, Some, None}
+use Rattle.std.specs.Prelude.{◌≡◌, ◌≤◌, ◌⊎◌, ℕ, List, [], length, IfSome, IsSome, IsSomeAnd, Some, None}
 use Rattle.std.specs.declared.option.Option.{Option}
 use Rattle.io_edge.specs.Causes.{Rose}
 use Rattle.io_edge.specs.Paths.{IsEmptyWhereTold}
@@ -43,12 +43,14 @@ pub record IsBroken (formula : FormulaData) (journal : List Entry) (tally : Tall
   pub unread : IsUnread formula journal run
   pub counts : tally ≡ no_tally
 
--- the formula was read without a fault and the ring started; its journal stands, and counts the lemmas
+-- the formula was read without a fault and the ring started; its journal stands, and has no more lemmas than the limit; the
+-- tally has their number
 pub record IsStarted (formula : FormulaData) (journal : List Entry) (tally : Tally) (run : Run) : Type 0 where
   pub read : WasRead run.text formula
   pub source : IsStill run.source
   pub journal_stands : IsJournal 1 formula.clauses journal
   pub log : HasLog formula journal run
+  pub within : length (learned 0 journal) ≤ run.limit
   pub counts : tally ≡ ring_tally (length (learned 0 journal))
 
 -- no call of the proof or the output failed
@@ -77,12 +79,14 @@ pub record IsUnproved (formula : FormulaData) (journal : List Entry) (tally : Ta
   pub started : IsStarted formula journal tally run
   pub rose : IsSomeAnd run.proof (λ writer. Rose 0 writer.faults)
 
--- as many lines stand as may, so that there was no room for one more; the tally has what was needed and what there is
+-- as many lines stand as may, so that there was no room for one more; the journal has no more lemmas than the limit; the
+-- tally has their number, what was needed and what there is
 pub record IsCrowded (need largest : ℕ) (formula : FormulaData) (journal : List Entry) (tally : Tally) (run : Run) : Type 0 where
   pub read : WasRead run.text formula
   pub source : IsStill run.source
   pub journal_stands : IsJournal 1 formula.clauses journal
   pub log : HasLog formula journal run
+  pub within : length (learned 0 journal) ≤ run.limit
   pub counts : tally ≡ room_tally (length (learned 0 journal)) need largest
   pub full : IsFull journal need largest
 

@@ -1,5 +1,5 @@
 -- What a search says: its verdict holds of one journal, which the proof's writer has been given.
-use Rattle.std.specs.Prelude.{◌≡◌, ℕ, List, length, Result, Ok, Err}
+use Rattle.std.specs.Prelude.{◌≡◌, ◌≤◌, ℕ, List, length, Result, Ok, Err}
 use Rattle.std.specs.declared.option.Option.{Option}
 use Rattle.io_edge.specs.Causes.{Rose}
 use Rattle.sat_words.specs.FormulaData.{FormulaData}
@@ -19,11 +19,13 @@ Concludes limit formula journal faults (Err ProofFault) = Rose 0 faults
 Concludes limit formula journal faults (Err (Room need largest)) = (faults ≡ 0) × IsFull journal need largest
 Concludes limit formula journal faults (Err Memory) = faults ≡ 0
 
--- a search with this result, which counted so many lemmas, and left the proof's writer with these faults and bytes
+-- a search with this result, which counted so many lemmas, no more than may be learned, and left the proof's writer with
+-- these faults and bytes
 pub record IsSearch (limit : ℕ) (formula : FormulaData) (verdict : Result Verdict SearchStop) (count : ℕ) (faults : ℕ) (written : Option (List ℕ)) : Type 0 where
   pub journal : List Entry
   pub stands : IsJournal 1 formula.clauses journal
   pub counts : count ≡ length (learned 0 journal)
+  pub within : count ≤ limit
   pub conclusion : Concludes limit formula journal faults verdict
   pub whole : faults ≡ 0 → HoldsText written (text (lines formula.clauses journal))
   pub short : (faults ≡ 0 → ⊥) → IsCutShort formula.clauses journal written

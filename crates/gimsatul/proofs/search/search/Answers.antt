@@ -1,4 +1,4 @@
-use Rattle.std.proofs.Common.{◌≡◌, ◌∙◌, sym, subst, ℕ, length, false}
+use Rattle.std.proofs.Common.{◌≡◌, ◌≤◌, ◌∙◌, sym, subst, ℕ, length, false}
 use Rattle.std.specs.Prelude.{Result}
 use Rattle.sat_words.specs.FormulaData.{FormulaData}
 use Rattle.drat_text.specs.SinkData.{SinkData, told_by}
@@ -26,14 +26,15 @@ returns-clause-searched g c =
     let count : ℕ = c.run_ring-end.result.1.learned in
     let begins : Begins F output before = c.in-Ok.ensures.begins in
     let counted : IsCounted after c.run_ring-end.result.1 = c.run_ring-end.ensures.counts in
+    let within : count ≤ c.args.limit = subst (λ (n : ℕ). count ≤ n) c.in-Ok-job_of.ensures.limit c.run_ring-end.ensures.within in
     let spent : end ≡ End.Spent → count ≡ c.args.limit = λ e. c.run_ring-end.ensures.spent.0 e ∙ c.in-Ok-job_of.ensures.limit in
     let v : Result Verdict SearchStop = c.if-is_spent.verdict in
     let how : Concludes c.args.limit F after.mine out.faults v = elim c.if-is_spent.branch as (λ _. Concludes c.args.limit F after.mine out.faults v) [
       | then-is_spent w ↦ subst (λ (r : Result Verdict SearchStop). Concludes c.args.limit F after.mine out.faults r) (sym w.verdict-is)
-          (concludes_faulty F output before after c.args.limit count end out begins c.requires.few c.requires.empty c.requires.quiet c.run_ring-end.ensures.stays c.run_ring-end.ensures.wrote c.run_ring-end.ensures.new counted.learned_is spent c.run_ring-end.ensures.ends c.run_ring-end.ensures.port c.into_lines-lines.ensures (sym c.is_spent.ensures ∙ w.if-is_spent.true))
+          (concludes_faulty F output before after c.args.limit count end out begins c.requires.few c.requires.empty c.requires.quiet c.run_ring-end.ensures.stays c.run_ring-end.ensures.wrote c.run_ring-end.ensures.new counted.learned_is within spent c.run_ring-end.ensures.ends c.run_ring-end.ensures.port c.into_lines-lines.ensures (sym c.is_spent.ensures ∙ w.if-is_spent.true))
       | else-is_spent w ↦ subst (λ (r : Result Verdict SearchStop). Concludes c.args.limit F after.mine out.faults r) (sym w.verdict-is)
-          (concludes F output before after c.args.limit count end out begins c.requires.few c.requires.empty c.requires.quiet c.run_ring-end.ensures.stays c.run_ring-end.ensures.wrote c.run_ring-end.ensures.new counted.learned_is spent c.run_ring-end.ensures.ends c.run_ring-end.ensures.port c.into_lines-lines.ensures (sym c.is_spent.ensures ∙ w.if-is_spent.false) w.verdict_of-verdict.result w.verdict_of-verdict.ensures)
+          (concludes F output before after c.args.limit count end out begins c.requires.few c.requires.empty c.requires.quiet c.run_ring-end.ensures.stays c.run_ring-end.ensures.wrote c.run_ring-end.ensures.new counted.learned_is within spent c.run_ring-end.ensures.ends c.run_ring-end.ensures.port c.into_lines-lines.ensures (sym c.is_spent.ensures ∙ w.if-is_spent.false) w.verdict_of-verdict.result w.verdict_of-verdict.ensures)
     ] in
     let all : IsSearch c.args.limit F v count out.faults out.written =
-    is_search F output before after c.args.limit count end out begins c.requires.few c.requires.empty c.requires.quiet c.run_ring-end.ensures.stays c.run_ring-end.ensures.wrote c.run_ring-end.ensures.new counted.learned_is spent c.run_ring-end.ensures.ends c.run_ring-end.ensures.port c.into_lines-lines.ensures v how in
+    is_search F output before after c.args.limit count end out begins c.requires.few c.requires.empty c.requires.quiet c.run_ring-end.ensures.stays c.run_ring-end.ensures.wrote c.run_ring-end.ensures.new counted.learned_is within spent c.run_ring-end.ensures.ends c.run_ring-end.ensures.port c.into_lines-lines.ensures v how in
     subst (λ (x : g.row.P.Denot). IsSearch c.args.limit F v count (g.P.Sink.faults x) (g.P.Sink.written x)) (sym c.into_sink-2.ensures) all

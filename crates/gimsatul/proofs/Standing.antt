@@ -1,9 +1,9 @@
 -- From the port after the run to what the search says.
-use Rattle.std.proofs.Common.{◌≡◌, ◌^◌, ◌∙◌, ℕ, zero, suc, ◌<◌, ◌≤◌, Bool, true, false, not, List, [], ◌∷◌, ◌++◌, map, length, take, Some, None, Ok, Err, refl, sym, ap, subst, inl, inr, arith, append-nil, lit≤}
+use Rattle.std.proofs.Common.{◌≡◌, ◌^◌, ◌∙◌, ℕ, zero, suc, ◌<◌, ◌≤◌, Bool, true, false, List, [], ◌∷◌, ◌++◌, map, length, take, Some, None, Ok, Err, refl, sym, ap, subst, inl, inr, arith, append-nil, lit≤}
 use Rattle.std.specs.Prelude.{All, Result, IsSomeAnd, IfSome}
 use Rattle.std.specs.declared.option.Option.{Option}
 use Rattle.std.specs.Io.KnownBytes.{append_known}
-use Rattle.std.proofs.lemmas.Bool.{cases_Bool, true≢false}
+use Rattle.std.proofs.lemmas.Bool.{cases_Bool, not-false, not-true}
 use Rattle.std.proofs.lemmas.List.Elements.{All-append}
 use Rattle.io_edge.specs.Causes.{Rose}
 use Rattle.io_edge.specs.Paths.{IsEmptyWhereTold}
@@ -40,7 +40,6 @@ use Rattle.ring_run.specs.declared.job.End.TheVariants.{Sat, Refuted, Spent as S
 use Rattle.ring_run.specs.Ended.{Stays, IsOwn, IsOfKind, IsModelOf, IsSpent, Ends, AreNew, opening_of}
 use Rattle.gimsatul.specs.declared.report.Verdict.{Verdict}
 use Rattle.gimsatul.specs.declared.search.SearchStop.{SearchStop}
-use Rattle.gimsatul.specs.declared.search.SearchStop.TheVariants.{ProofFault as Faulty}
 use Rattle.gimsatul.specs.Journaled.{CanBeSpelled, IsPlainEntry, IsPlainAddition, IsJournal, HoldsText, IsCutShort}
 use Rattle.gimsatul.specs.Decided.{IsRefutation, IsFull}
 use Rattle.gimsatul.specs.Searched.{Concludes, IsSearch}
@@ -237,30 +236,31 @@ module _ (formula : FormulaData) (output : LineState) (p s : PortState) (limit c
       let t : IsCaused s out (Some (NoHoleAnswer need largest)) = subst (IsCaused s out) e has_lines.caused in
       record { entries = sym (sym t.0 ∙ has_lines.entries ∙ one_line formula.vars (formula_book F) J own); needed = t.1; found = t.2 }
 
-  unusable : out.spent ≡ false → is_usable s.refused ≡ false → ⊥
-  unusable e u = true≢false (sym (ap not e) ∙ sym has_lines.usable ∙ u)
+  -- a port that can be used has met no fault, and one that cannot has met one
+  still_where : is_usable s.refused ≡ true → out.faults ≡ 0
+  still_where u = still (not-true out.spent (sym has_lines.usable ∙ u))
 
-  pub concludes_faulty : out.spent ≡ true → Concludes limit formula J out.faults (Err Faulty)
-  concludes_faulty e = rose e
+  rose_where : is_usable s.refused ≡ false → Rose 0 out.faults
+  rose_where u = rose (not-false out.spent (sym has_lines.usable ∙ u))
 
-  pub concludes : out.spent ≡ false → (result : Result Verdict SearchStop) → IsVerdictOf formula end result → Concludes limit formula J out.faults result
-  concludes e result = by end spent ends result
+  concludes : (result : Result Verdict SearchStop) → IsVerdictOf formula end result → Concludes limit formula J out.faults result
+  concludes result = by end spent ends result
     where
-      model_by : (a : List Bool) → IsModelOf s a → (r : Result Verdict SearchStop) → IsCleared formula a r → Concludes limit formula J out.faults r
-      model_by a m (Ok v) h = subst (λ (w : Verdict). Concludes limit formula J out.faults (Ok w)) (sym h.1) (still e, cleared formula a h.0 (model a m) h.2)
-      model_by a m (Err stop) h = subst (λ (w : SearchStop). Concludes limit formula J out.faults (Err w)) (sym h) (still e)
+      model_by : (a : List Bool) → out.faults ≡ 0 → IsModelOf s a → (r : Result Verdict SearchStop) → IsCleared formula a r → Concludes limit formula J out.faults r
+      model_by a none m (Ok v) h = subst (λ (w : Verdict). Concludes limit formula J out.faults (Ok w)) (sym h.1) (none, cleared formula a h.0 (model a m) h.2)
+      model_by a none m (Err stop) h = subst (λ (w : SearchStop). Concludes limit formula J out.faults (Err w)) (sym h) none
 
       by : (x : End) → (x ≡ SpentEnd → count ≡ limit) → Ends s x → (r : Result Verdict SearchStop) → IsVerdictOf formula x r → Concludes limit formula J out.faults r
-      by (Sat a) sp en r v = model_by a en.0 r v
-      by Refuted sp en r v = subst (λ (w : Result Verdict SearchStop). Concludes limit formula J out.faults w) (sym v) (still e, refutation en.0)
-      by SpentEnd sp en r v = subst (λ (w : Result Verdict SearchStop). Concludes limit formula J out.faults w) (sym v) (still e, spent_all en (sp refl))
+      by (Sat a) sp en r v = model_by a (still_where en.2) en.0 r v
+      by Refuted sp en r v = subst (λ (w : Result Verdict SearchStop). Concludes limit formula J out.faults w) (sym v) (still_where en.2, refutation en.0)
+      by SpentEnd sp en r v = subst (λ (w : Result Verdict SearchStop). Concludes limit formula J out.faults w) (sym v) (still_where en.usable, spent_all en (sp refl))
       by (Stopped x) sp en r v = absurd v
-      by (NoHole need largest) sp en r v = subst (λ (w : Result Verdict SearchStop). Concludes limit formula J out.faults w) (sym v) (still e, full need largest en.0)
-      by ProofFault sp en r v = absurd (unusable e en.0)
-      by Memory sp en r v = subst (λ (w : Result Verdict SearchStop). Concludes limit formula J out.faults w) (sym v) (still e)
+      by (NoHole need largest) sp en r v = subst (λ (w : Result Verdict SearchStop). Concludes limit formula J out.faults w) (sym v) (still_where (ap is_usable en.0), full need largest en.0)
+      by ProofFault sp en r v = subst (λ (w : Result Verdict SearchStop). Concludes limit formula J out.faults w) (sym v) (rose_where en.0)
+      by Memory sp en r v = subst (λ (w : Result Verdict SearchStop). Concludes limit formula J out.faults w) (sym v) (still_where en.1)
 
-  pub is_search : (result : Result Verdict SearchStop) → Concludes limit formula J out.faults result → IsSearch limit formula result count out.faults out.written
-  is_search result h = record { journal = J; stands = journal_stands; counts = counts; within = within; conclusion = h; whole = whole; short = short }
+  pub is_search : (result : Result Verdict SearchStop) → IsVerdictOf formula end result → IsSearch limit formula result count out.faults out.written
+  is_search result v = record { journal = J; stands = journal_stands; counts = counts; within = within; conclusion = concludes result v; whole = whole; short = short }
 
   -- one ring alone sees no other's stop
   pub alone : IsAlone end

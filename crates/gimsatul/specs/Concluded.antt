@@ -28,7 +28,7 @@ pub record IsWithoutIdle (clauses : List (List Literal)) (vars : ℕ) (from mode
 abbrev pub IsCleared : FormulaData → List Bool → Result Verdict SearchStop → Type 0
 IsCleared formula a result = MatchResult result (λ v. (m : List Bool) × (v ≡ Satisfiable m) × IsWithoutIdle formula.clauses formula.vars a m) (λ stop. stop ≡ NoMemory)
 
--- the verdict of an end, where no writing has failed; with one ring no other can have set its stop
+-- the verdict of an end, or the cause of none; with one ring no other can have set its stop
 abbrev pub IsVerdictOf : FormulaData → End → Result Verdict SearchStop → Type 0
 IsVerdictOf formula (Sat a) result = IsCleared formula a result
 IsVerdictOf formula Refuted result = result ≡ Ok Unsatisfiable

@@ -37,7 +37,7 @@ fn without_idle(
     Ok(model)
 }
 
-/// The verdict of an end, where no writing has failed.
+/// The verdict of an end, or the cause of none.
 pub(crate) fn verdict_of(alloc: Global, formula: &Formula, end: End) -> Result<Verdict, SearchStop>
     requires on_variables { All (All (IsOn formula.now.vars)) formula.now.clauses }
     requires alone { IsAlone end }

@@ -120,11 +120,7 @@ pub fn search<P: Sink>(alloc: Global, formula: &Formula, limit: u64, proof: P) -
     };
     let (end, counts) = run_ring(alloc, &mut port, &job);
     let lines = port.into_lines();
-    let verdict = if lines.is_spent() {
-        Err(SearchStop::ProofFault)
-    } else {
-        verdict_of(alloc, formula, end)
-    };
+    let verdict = verdict_of(alloc, formula, end);
     Searched {
         verdict,
         learned: counts.learned,

@@ -8,11 +8,10 @@ use Rattle.ring_run.specs.declared.job.End.{End}
 use Rattle.ring_run.specs.Ended.{IsCounted}
 use Rattle.gimsatul.specs.declared.report.Verdict.{Verdict}
 use Rattle.gimsatul.specs.declared.search.SearchStop.{SearchStop}
-use Rattle.gimsatul.specs.Searched.{Concludes, IsSearch}
+use Rattle.gimsatul.specs.Searched.{IsSearch}
 use Rattle.gimsatul.specs.Begun.{Begins}
-use Rattle.gimsatul.proofs.Standing.{concludes, concludes_faulty, is_search}
+use Rattle.gimsatul.proofs.Standing.{is_search}
 use Rattle.gimsatul.proofs.search.search.Goals as goal
-use Rattle.gimsatul.proofs.search.search.Goals.{then-is_spent, else-is_spent}
 
 pub returns-clause-searched : goal.returns-clause-searched
 returns-clause-searched g c =
@@ -28,13 +27,7 @@ returns-clause-searched g c =
     let counted : IsCounted after c.run_ring-end.result.1 = c.run_ring-end.ensures.counts in
     let within : count ≤ c.args.limit = subst (λ (n : ℕ). count ≤ n) c.in-Ok-job_of.ensures.limit c.run_ring-end.ensures.within in
     let spent : end ≡ End.Spent → count ≡ c.args.limit = λ e. c.run_ring-end.ensures.spent.0 e ∙ c.in-Ok-job_of.ensures.limit in
-    let v : Result Verdict SearchStop = c.if-is_spent.verdict in
-    let how : Concludes c.args.limit F after.mine out.faults v = elim c.if-is_spent.branch as (λ _. Concludes c.args.limit F after.mine out.faults v) [
-      | then-is_spent w ↦ subst (λ (r : Result Verdict SearchStop). Concludes c.args.limit F after.mine out.faults r) (sym w.verdict-is)
-          (concludes_faulty F output before after c.args.limit count end out begins c.requires.few c.requires.empty c.requires.quiet c.run_ring-end.ensures.stays c.run_ring-end.ensures.wrote c.run_ring-end.ensures.new counted.learned_is within spent c.run_ring-end.ensures.ends c.run_ring-end.ensures.port c.into_lines-lines.ensures (sym c.is_spent.ensures ∙ w.if-is_spent.true))
-      | else-is_spent w ↦ subst (λ (r : Result Verdict SearchStop). Concludes c.args.limit F after.mine out.faults r) (sym w.verdict-is)
-          (concludes F output before after c.args.limit count end out begins c.requires.few c.requires.empty c.requires.quiet c.run_ring-end.ensures.stays c.run_ring-end.ensures.wrote c.run_ring-end.ensures.new counted.learned_is within spent c.run_ring-end.ensures.ends c.run_ring-end.ensures.port c.into_lines-lines.ensures (sym c.is_spent.ensures ∙ w.if-is_spent.false) w.verdict_of-verdict.result w.verdict_of-verdict.ensures)
-    ] in
+    let v : Result Verdict SearchStop = c.verdict_of-verdict.result in
     let all : IsSearch c.args.limit F v count out.faults out.written =
-    is_search F output before after c.args.limit count end out begins c.requires.few c.requires.empty c.requires.quiet c.run_ring-end.ensures.stays c.run_ring-end.ensures.wrote c.run_ring-end.ensures.new counted.learned_is within spent c.run_ring-end.ensures.ends c.run_ring-end.ensures.port c.into_lines-lines.ensures v how in
+    is_search F output before after c.args.limit count end out begins c.requires.few c.requires.empty c.requires.quiet c.run_ring-end.ensures.stays c.run_ring-end.ensures.wrote c.run_ring-end.ensures.new counted.learned_is within spent c.run_ring-end.ensures.ends c.run_ring-end.ensures.port c.into_lines-lines.ensures v c.verdict_of-verdict.ensures in
     subst (λ (x : g.row.P.Denot). IsSearch c.args.limit F v count (g.P.Sink.faults x) (g.P.Sink.written x)) (sym c.into_sink-2.ensures) all

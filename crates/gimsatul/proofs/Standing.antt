@@ -1,6 +1,6 @@
 -- From the port after the run to what the search says.
 use Rattle.std.proofs.Common.{◌≡◌, ◌^◌, ◌∙◌, ℕ, zero, suc, ◌<◌, ◌≤◌, Bool, true, false, List, [], ◌∷◌, ◌++◌, map, length, take, Some, None, Ok, Err, refl, sym, ap, subst, inl, inr, arith, append-nil, lit≤}
-use Rattle.std.specs.Prelude.{All, Result, IsSomeAnd, IfSome}
+use Rattle.std.specs.Prelude.{All, Result, IsSomeAnd}
 use Rattle.std.specs.declared.option.Option.{Option}
 use Rattle.std.specs.Io.KnownBytes.{append_known}
 use Rattle.std.proofs.lemmas.Bool.{cases_Bool, not-false, not-true}
@@ -13,7 +13,6 @@ use Rattle.sat_words.specs.Truth.{lit_true, clause_true, formula_true}
 use Rattle.sat_words.specs.FormulaData.{FormulaData}
 use Rattle.sat_words.specs.declared.line.Line.{Line}
 use Rattle.sat_words.specs.declared.line.Line.TheVariants.{Add as AddLine}
-use Rattle.sat_words.specs.declared.shared.Stop.{Stop}
 use Rattle.rup_model.specs.Basics.{EachAfter}
 use Rattle.rup_model.specs.Log.{lits_of, OnVariables}
 use Rattle.rup_model.specs.Journal.{Book, formula_book, book_after, lines, lines_from, learned, ring_of, IsSpaced}
@@ -31,7 +30,7 @@ use Rattle.ring_port.proofs.Refuted.{ended_refutes}
 use Rattle.drat_text.specs.LineState.{LineState}
 use Rattle.drat_text.specs.Text.{text, line_text}
 use Rattle.dimacs_read.specs.Input.{IsOn}
-use Rattle.ring_port.specs.PortState.{Holding, PortState, IsPort, IsStop, IsOn as IsPortOn}
+use Rattle.ring_port.specs.PortState.{Holding, PortState, IsOn as IsPortOn}
 use Rattle.ring_port.specs.Port.{is_usable}
 use Rattle.ring_port.specs.declared.stops.PortStop.TheVariants.{NoHole as NoHoleAnswer}
 use Rattle.ring_port.specs.Log.{Origin, StandsOver, HasLines, IsCaused, start_of}
@@ -43,7 +42,7 @@ use Rattle.gimsatul.specs.declared.search.SearchStop.{SearchStop}
 use Rattle.gimsatul.specs.Journaled.{CanBeSpelled, IsPlainEntry, IsPlainAddition, IsJournal, HoldsText, IsCutShort}
 use Rattle.gimsatul.specs.Decided.{IsRefutation, IsFull}
 use Rattle.gimsatul.specs.Searched.{Concludes, IsSearch}
-use Rattle.gimsatul.specs.Concluded.{IsCleared, IsVerdictOf, IsAlone}
+use Rattle.gimsatul.specs.Concluded.{IsCleared, IsVerdictOf}
 use Rattle.gimsatul.specs.Begun.{origin_of, Begins, IsAlike}
 use Rattle.gimsatul.proofs.Models.{cleared}
 use Rattle.gimsatul.proofs.Newness.{still_new}
@@ -117,7 +116,7 @@ on_variables L spelled k d lt j l less = (spelled k d lt j l less).low
 module _ (formula : FormulaData) (output : LineState) (p s : PortState) (limit count : ℕ) (end : End) (out : LineState)
     (begins : Begins formula output p) (few : formula.vars < 2 ^ 28) (empty : IsEmptyWhereTold output.written) (quiet : output.faults ≡ 0)
     (stays : Stays p s) (wrote : All (IsOwn p.ring p.vars) s.mine) (each_new : AreNew s) (counted : count ≡ length (learned s.ring s.mine))
-    (within : count ≤ limit) (spent : end ≡ SpentEnd → count ≡ limit) (ends : Ends s end) (is_port : IsPort s) (lines_are : Some out ≡ s.output) where
+    (within : count ≤ limit) (spent : end ≡ SpentEnd → count ≡ limit) (ends : Ends s end) (lines_are : Some out ≡ s.output) where
   abbrev F : List (List Literal)
   F = formula.clauses
 
@@ -261,10 +260,3 @@ module _ (formula : FormulaData) (output : LineState) (p s : PortState) (limit c
 
   pub is_search : (result : Result Verdict SearchStop) → IsVerdictOf formula end result → IsSearch limit formula result count out.faults out.written
   is_search result v = record { journal = J; stands = journal_stands; counts = counts; within = within; conclusion = concludes result v; whole = whole; short = short }
-
-  -- one ring alone sees no other's stop
-  pub alone : IsAlone end
-  alone x e =
-      let t : Ends s (Stopped x) = subst (Ends s) e ends in
-      let stop = subst (λ (w : Option Stop). IfSome w (IsStop s.rings)) t.0 is_port.stop in
-      t.1 (let low = stop.of_ring in let one = stays.rings ∙ begins.rings in let none = ring_is in omega arith)

@@ -5,11 +5,11 @@
 ghost use Rattle.std.specs.Prelude.{◌≡◌, ◌↔◌, ◌≤◌, ◌<◌, ◌^◌, ◌+◌, ◌-◌, ℕ, not, length, slice_set, IfOk, IfSome, None, IsNone};
 ghost use Rattle.ring_trail.specs.TrailData.{value_of};
 ghost use Rattle.ring_decide.specs.Inside.{AreVars};
-ghost use Rattle.ring_decide.specs.Phases.{first_phases, phases_from, generator_of};
+ghost use Rattle.ring_decide.specs.Phases.{first_phases};
 ghost use Rattle.ring_decide.specs.DeciderData.{DeciderData, IsActive, IsDecided, AllValued, phase_of};
 
-use rand_core::utils::NextWord;
 use rand_pcg::Lcg64Xsh32;
+use random_bits::lowest_bits;
 use ring_trail::Trail;
 use sat_words::Lit;
 use std::alloc::{AllocError, Global};
@@ -55,7 +55,8 @@ impl Decider {
     {
         let mut marks = Vec::with_capacity(alloc, active.len())?;
         marks.extend_from_slice(active)?;
-        let phase = phases(alloc, seed, ring, active.len())?;
+        let mut generator = Lcg64Xsh32::new(seed, ring as u64);
+        let phase = lowest_bits(alloc, &mut generator, active.len())?;
         let mut decider = Decider {
             active: marks,
             phase,
@@ -190,18 +191,6 @@ fn moved_off(search: u32, var: u32, before: u32) -> u32
     } else {
         search
     }
-}
-
-/// The lowest bits of the first words of the ring's generator.
-fn phases(alloc: Global, seed: u64, ring: u32, count: usize) -> Result<Vec<bool>, AllocError>
-    ensures { IfOk result (λ v. v.items ≡ first_phases seed ring count) }
-{
-    let mut generator = Lcg64Xsh32::new(seed, ring as u64);
-    let mut phases = Vec::with_capacity(alloc, count)?;
-    for _i in 0..count {
-        phases.push(generator.next_word() % 2 == 1)?;
-    }
-    Ok(phases)
 }
 
 /// Links that lead nowhere.

@@ -1,8 +1,6 @@
-use Rattle.std.proofs.Common.{◌≡◌, ◌∙◌, ℕ, length, List, Bool, ap, arith}
+use Rattle.std.proofs.Common.{◌≡◌, ℕ, length, List, arith}
 use Rattle.std.proofs.lemmas.Grind.{common_steps}
-use Rattle.ring_decide.specs.Phases.{generator_of}
 use Rattle.ring_decide.specs.Inside.{AreVars}
-use Rattle.ring_decide.proofs.PhaseLemmas.{phases-length}
 use Rattle.ring_decide.proofs.decider.Decider.new.Goals as goal
 
 none_vars : (n : ℕ) (xs : List ℕ) → AreVars 0 xs → AreVars n xs
@@ -12,7 +10,7 @@ pub invariant_of-decider : goal.invariant_of-decider
 invariant_of-decider c =
     let n = c.in_ok-extend_from_slice.ensures.len in
     let e : length c.extend_from_slice.new.self.items ≡ length c.args.active.now = grind (arith, common_steps, c.in_ok-extend_from_slice.ensures.items, c.in_ok-marks.ensures.items) in
-    let p : length c.in_ok-phase.phase.items ≡ length c.args.active.now = ap (λ (xs : List Bool). length xs) c.in_ok-phase.ensures ∙ phases-length (generator_of c.args.seed c.args.ring) (length c.args.active.now) in
+    let p : length c.in_ok-phase.phase.items ≡ length c.args.active.now = c.in_ok-phase.ensures.len in
     record {
       small = omega (arith, e, c.requires);
       phases = omega (arith, e, p);

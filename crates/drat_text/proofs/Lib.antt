@@ -5,3 +5,4 @@ mod LineText
 mod Tokens
 mod Unique
 pub mod Progress
+pub mod JournalLines

@@ -4,3 +4,4 @@ pub mod PieceCut
 pub mod LineState
 pub mod LineOut
 pub mod SinkData
+pub mod JournalText

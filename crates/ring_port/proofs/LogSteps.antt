@@ -1,5 +1,5 @@
 -- What an addition of the ring keeps of the one journal behind its port.
-use Rattle.std.proofs.Common.{◌≡◌, ℕ, zero, suc, ◌+◌, ◌<◌, ◌==◌, ◌||◌, Bool, true, false, not, cond, List, [], ◌∷◌, ◌++◌, length, map, take, sym, refl, ap, subst, ◌∙◌, inl, inr, ⊎_elim, arith, Some, None, append_assoc, append-nil, length-append}
+use Rattle.std.proofs.Common.{◌≡◌, ℕ, zero, suc, ◌+◌, ◌<◌, ◌==◌, ◌||◌, Bool, true, false, not, cond, List, [], ◌∷◌, ◌++◌, length, map, sym, refl, ap, subst, ◌∙◌, inl, inr, ⊎_elim, arith, Some, None, append_assoc, length-append}
 use Rattle.std.specs.List.{list_any, All}
 use Rattle.std.specs.Prelude.{IsSomeAnd}
 use Rattle.std.specs.declared.option.Option.{Option}
@@ -9,7 +9,6 @@ use Rattle.std.proofs.lemmas.List.Elements.{All-append}
 use Rattle.std.proofs.lemmas.List.Folds.{list_any-append}
 use Rattle.sat_words.specs.Literal.{Literal, same}
 use Rattle.sat_words.specs.Clause.{same_set, is_empty, clause_of}
-use Rattle.sat_words.specs.declared.line.Line.{Line}
 use Rattle.sat_words.specs.declared.line.Line.TheVariants.{Add as AddLine}
 use Rattle.rup_model.specs.declared.journal.TheConstants.{RULER_RING}
 use Rattle.rup_model.specs.declared.journal.Kind.{Kind}
@@ -19,25 +18,25 @@ use Rattle.rup_model.specs.declared.journal.Entry.TheVariants.{Add}
 use Rattle.rup_model.specs.Basics.{put}
 use Rattle.rup_model.specs.Rup.{rup}
 use Rattle.rup_model.specs.Log.{Accepted, alive}
-use Rattle.rup_model.specs.Journal.{Book, spelled, book_after, book, lines, lines_after, lines_from, added, ended, is_told, ring_of, LogSound}
+use Rattle.rup_model.specs.Journal.{Book, spelled, book_after, book, lines, added, ended, is_told, ring_of, LogSound}
 use Rattle.rup_model.proofs.Lists.{In, In_append, map_In}
 use Rattle.rup_model.proofs.Sums.{put_here, put_else}
 use Rattle.rup_model.proofs.Covers.{same_self}
 use Rattle.rup_model.proofs.Numbers.{journal_matches, clause_below, book_last, lines_last, rup_alive_sets}
-use Rattle.rup_model.proofs.JournalSteps.{log_adds}
+use Rattle.rup_model.proofs.JournalSteps.{not_added, log_adds}
 use Rattle.rup_model.proofs.Additions.{added-append, told_more}
 use Rattle.rup_model.proofs.Told.{told_alive}
-use Rattle.drat_text.specs.Text.{text, line_text}
+use Rattle.drat_text.specs.Text.{line_text}
 use Rattle.drat_text.specs.LineState.{LineState}
 use Rattle.drat_text.specs.LineOut.{PutLine, FailedLine}
+use Rattle.drat_text.proofs.JournalLines.{has_text_next, has_text_cut}
 use Rattle.sat_words.specs.declared.shared.Stop.{Stop}
-use Rattle.io_edge.specs.Causes.{Rose}
 use Rattle.drat_text.specs.declared.stop.TheConstants.{MAX_ENTRIES}
 use Rattle.ring_port.specs.declared.stops.PortStop.{PortStop}
 use Rattle.ring_port.specs.declared.stops.PortStop.TheVariants.{Ended, Broken, ProofFault, NoHole, Memory}
 use Rattle.ring_port.specs.PortState.{Holding, PortState, IsOn, known}
 use Rattle.ring_port.specs.Port.{entry_of, is_usable}
-use Rattle.ring_port.specs.Log.{Origin, StandsOver, HasLines, IsCaused, journal_of, own_text}
+use Rattle.ring_port.specs.Log.{Origin, StandsOver, HasLines, IsCaused, journal_of}
 use Rattle.ring_port.proofs.Holdings.{All_In}
 
 -- Lists
@@ -50,22 +49,6 @@ In_All P (x ∷ xs) f (suc k) d lt = In_All P xs (λ y h. f y (inr h)) k d (omeg
 pub one_All : {X : Type 0} (P : X → Type 0) (x : X) → P x → All P (x ∷ [])
 one_All P x p zero d lt = p
 one_All P x p (suc k) d lt = absurd (omega arith)
-
--- Texts
-
-pub text_last : (L : List Line) (x : Line) → text (L ++ x ∷ []) ≡ text L ++ line_text x
-text_last [] x = append-nil (line_text x)
-text_last (y ∷ L) x = ap (λ t. line_text y ++ t) (text_last L x) ∙ sym (append_assoc (line_text y) (text L) (line_text x))
-
-pub known_twice : (w : Option (List ℕ)) (t u : List ℕ) → append_known (append_known w t) u ≡ append_known w (t ++ u)
-known_twice None t u = refl
-known_twice (Some xs) t u = ap Some (append_assoc xs t u)
-
-pub own_last : (b : Book) (J : List Entry) (x : Addition) → lines_from b (J ++ Add x ∷ []) ≡ lines_from b J ++ AddLine x.lits ∷ []
-own_last b [] x = refl
-own_last b (y ∷ J) x =
-    ap (λ (L : List Line). lines_after b y ++ L) (own_last (book_after b y) J x)
-    ∙ sym (append_assoc (lines_after b y) (lines_from (book_after b y) J) (AddLine x.lits ∷ []))
 
 or_none : (b : Bool) → (b || false) ≡ b
 or_none true = refl
@@ -108,7 +91,7 @@ module _ (o : Origin) (s : PortState) (h : StandsOver o s) (ring : s.ring ≡ 0)
     rup_alive_lits = rup_alive_sets (book F J) (alive F (lines F J)) (known s) lits (journal_matches F J h.sound.fits) alive_known follows
 
     sound_last : LogSound F (J ++ Add x ∷ [])
-    sound_last = log_adds F J h.sound x next rup_alive_lits (sym h.ended ∙ going)
+    sound_last = log_adds F J h.sound x next rup_alive_lits (not_added F J (sym h.ended ∙ going))
 
     pub sound_next : LogSound F grown
     sound_next = subst (LogSound F) (sym grown_is) sound_last
@@ -169,9 +152,6 @@ module _ (o : Origin) (s : PortState) (h : StandsOver o s) (ring : s.ring ≡ 0)
   pub all_told_next : (ls : List Literal) → All (λ l. is_told F J l ≡ true) ls → All (λ l. is_told F grown l ≡ true) ls
   all_told_next ls all k d lt = told_next _ (all k d lt)
 
-  pub own_next : text (lines_from (book F o.journal) (s.mine ++ Add x ∷ [])) ≡ own_text o s ++ line_text (AddLine lits)
-  own_next = ap text (own_last (book F o.journal) s.mine x) ∙ text_last (lines_from (book F o.journal) s.mine) (AddLine lits)
-
 -- the output of a port that stands
 pub output_of : (o : Origin) (s : PortState) (a : LineState) → StandsOver o s → s.output ≡ Some a → HasLines o s a
 output_of o s a h e = subst (λ (w : Option LineState). IsSomeAnd w (HasLines o s)) e h.output
@@ -208,10 +188,7 @@ module _ (o : Origin) (s : PortState) (h : StandsOver o s) (ring : s.ring ≡ 0)
         last = (let l = was.last in let n = ap (λ (k : Book). k.next) books in omega arith);
         usable = was.usable;
         caused = caused_later s (after H S la en) a put_output s.refused going put.room refl was.caused;
-        whole = λ q. record {
-          quiet = (was.whole q).quiet;
-          bytes = ap (λ w. append_known w (line_text (AddLine lits))) (was.whole q).bytes ∙ known_twice o.output.written (own_text o s) (line_text (AddLine lits)) ∙ ap (append_known o.output.written) (sym (own_next o s h ring lits kind number));
-        };
+        whole = λ q. has_text_next o s.mine a put_output (AddLine lits) (was.whole q) (entry_of s number lits kind) refl number (record { room = put.room; given = put.given; state = refl });
         short = λ q. absurd (false≢true (sym unspent ∙ q));
         target = was.target;
         flushed = was.flushed;
@@ -248,14 +225,8 @@ stands_failed o s h ring lits kind follows going on a b out unspent failed =
       usable = refl;
       caused = refl;
       whole = λ q. absurd (false≢true (sym q));
-      short = λ q. record {
-        line = AddLine lits;
-        cut = failed.part.cut;
-        accepted = accepted_next o s h ring lits kind (book o.formula (journal_of o s)).next follows going refl;
-        on = on;
-        rose = subst (λ n. Rose n b.faults) (was.whole unspent).quiet failed.rose;
-        bytes = failed.part.grown ∙ ap (λ v. append_known v (take failed.part.cut (line_text (AddLine lits)))) (was.whole unspent).bytes ∙ known_twice o.output.written (own_text o s) (take failed.part.cut (line_text (AddLine lits)));
-      };
+      short = λ q. has_text_cut o s.mine a w (AddLine lits) (was.whole unspent) (accepted_next o s h ring lits kind (book o.formula (journal_of o s)).next follows going refl) s.vars on
+          (subst (λ v. FailedLine a v (AddLine lits)) failed.state failed);
       target = was.target;
       flushed = was.flushed;
     }
@@ -285,8 +256,8 @@ stands_with o s h a out S n st r en seen usable end caused =
       last = was.last;
       usable = usable;
       caused = caused_as r caused;
-      whole = λ q. record { quiet = (was.whole q).quiet; bytes = (was.whole q).bytes };
-      short = λ q. (let c = was.short q in record { line = c.line; cut = c.cut; accepted = c.accepted; on = c.on; rose = c.rose; bytes = c.bytes });
+      whole = was.whole;
+      short = was.short;
       target = was.target;
       flushed = was.flushed;
     }

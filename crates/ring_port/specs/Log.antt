@@ -1,28 +1,20 @@
 -- The log of a port that writes alone: one journal, of the ruler's entries and the ring's own, whose lines its output has.
-use Rattle.std.specs.Prelude.{◌≡◌, ℕ, ◌+◌, true, false, not, List, [], ◌∷◌, ◌++◌, map, length, take, All, Option, Some, None, IsSomeAnd, ⊤}
-use Rattle.std.specs.Io.KnownBytes.{append_known}
+use Rattle.std.specs.Prelude.{◌≡◌, ◌+◌, true, false, not, List, ◌++◌, map, length, All, Option, Some, None, IsSomeAnd, ⊤}
 use Rattle.std.specs.List.{list_any}
-use Rattle.sat_words.specs.Literal.{Literal}
 use Rattle.sat_words.specs.Clause.{is_empty}
-use Rattle.sat_words.specs.declared.line.Line.{Line}
 use Rattle.rup_model.specs.declared.journal.Entry.{Entry}
-use Rattle.rup_model.specs.Log.{Accepted, lits_of}
-use Rattle.rup_model.specs.Journal.{book, lines, lines_from, added, ended, is_told, ring_of, LogSound}
+use Rattle.rup_model.specs.Journal.{book, lines, added, ended, is_told, ring_of, LogSound}
 use Rattle.rup_model.specs.Opening.{Opening, Start, IsOpening}
-use Rattle.io_edge.specs.Causes.{Rose}
 use Rattle.drat_text.specs.declared.stop.TheConstants.{MAX_ENTRIES}
-use Rattle.drat_text.specs.Text.{text, line_text}
 use Rattle.drat_text.specs.LineState.{LineState}
+use Rattle.drat_text.specs.JournalText.{HasText, HasTextCut}
+pub use Rattle.drat_text.specs.JournalText.{Origin}
 use Rattle.ring_port.specs.declared.stops.PortStop.{PortStop}
 use Rattle.ring_port.specs.declared.stops.PortStop.TheVariants.{Ended, Broken, ProofFault, NoHole, Memory}
 use Rattle.ring_port.specs.PortState.{Holding, PortState, IsOn}
 use Rattle.ring_port.specs.Port.{is_usable}
 
--- what a port was made over: the formula, the ruler's journal, and the line output as it then was
-pub record Origin : Type 0 where
-  pub formula : List (List Literal)
-  pub journal : List Entry
-  pub output : LineState
+-- What a port was made over is an `Origin`: the formula, the ruler's journal, and the line output as it then was.
 
 -- the ruler's entries, then the ring's own
 abbrev pub journal_of : Origin → PortState → List Entry
@@ -35,24 +27,6 @@ start_of h = record { number = h.number; lits = h.lits }
 -- the opening of the search
 abbrev pub opening_of : Origin → PortState → Opening
 opening_of o s = record { journal = o.journal; starts = map start_of s.start; units = s.opening }
-
--- the text of the ring's own lines
-abbrev pub own_text : Origin → PortState → List ℕ
-own_text o s = text (lines_from (book o.formula o.journal) s.mine)
-
--- the output has the text of the ring's lines, and has not failed
-pub record IsWhole (o : Origin) (s : PortState) (out : LineState) : Type 0 where
-  pub quiet : out.faults ≡ o.output.faults
-  pub bytes : out.written ≡ append_known o.output.written (own_text o s)
-
--- the output failed at a line that is accepted behind the others; it has their text, and a part of the line's
-pub record IsCut (o : Origin) (s : PortState) (out : LineState) : Type 0 where
-  pub line : Line
-  pub cut : ℕ
-  pub accepted : Accepted o.formula (lines o.formula (journal_of o s) ++ line ∷ [])
-  pub on : All (IsOn s.vars) (lits_of line)
-  pub rose : Rose o.output.faults out.faults
-  pub bytes : out.written ≡ append_known o.output.written (own_text o s ++ take cut (line_text line))
 
 -- an answer that refused has its cause: the log is ended; the output failed; as many lines stand as can
 abbrev pub IsCaused : PortState → LineState → Option PortStop → Type 0
@@ -69,8 +43,8 @@ pub record HasLines (o : Origin) (s : PortState) (out : LineState) : Type 0 wher
   pub last : (book o.formula (journal_of o s)).next ≡ out.last + 1
   pub usable : is_usable s.refused ≡ not out.spent
   pub caused : IsCaused s out s.refused
-  pub whole : out.spent ≡ false → IsWhole o s out
-  pub short : out.spent ≡ true → IsCut o s out
+  pub whole : out.spent ≡ false → HasText o s.mine out
+  pub short : out.spent ≡ true → HasTextCut o s.mine s.vars out
   pub target : out.target ≡ o.output.target
   pub flushed : out.flushed ≡ o.output.flushed
 

@@ -3,6 +3,7 @@ use Rattle.std.specs.Prelude.{◌≡◌, ℕ, ◌<◌, ◌≤◌, ◌==◌, Bool
 use Rattle.std.specs.List.{count_by}
 use Rattle.std.specs.Option.{option_map, option_map_or}
 use Rattle.sat_words.specs.Literal.{Literal}
+pub use Rattle.sat_words.specs.Literal.{IsOn}
 use Rattle.sat_words.specs.declared.shared.Head.{Head}
 use Rattle.sat_words.specs.declared.shared.Stop.{Stop}
 use Rattle.rup_model.specs.declared.journal.Entry.{Entry}
@@ -95,11 +96,6 @@ unfoldable pub known : PortState → List (List Literal)
 known s = map (λ h. h.lits) s.held ++ map (λ l. l ∷ []) s.seen
 
 -- What is kept of every port
-
--- a variable from 1 to this one
-pub record IsOn (vars : ℕ) (l : Literal) : Type 0 where
-  pub low : 1 ≤ l.var
-  pub high : l.var ≤ vars
 
 -- two literals or more without repeats or opposites, on the variables
 pub record IsKept (vars : ℕ) (h : Holding) : Type 0 where

@@ -19,27 +19,28 @@ use Rattle.rup_model.proofs.Copies.{copies_any}
 use Rattle.rup_model.proofs.Units.{two_more}
 use Rattle.rup_model.proofs.Numbers.{clause_copies, journal_matches, lines_last}
 
-not_added : (F : List (List Literal)) (J : List Entry) → ended F J ≡ false → list_any is_empty (added J) ≡ false
+-- where the log is not ended, no entry adds the empty clause
+pub not_added : (F : List (List Literal)) (J : List Entry) → ended F J ≡ false → list_any is_empty (added J) ≡ false
 not_added F J going = (or_parts (list_any is_empty F) (list_any is_empty (added J)) (sym (list_any-append is_empty F (added J)) ∙ going)).1
 
-empty_last_more : (F : List (List Literal)) (J : List Entry) (e : Entry) → EmptyLast J → ended F J ≡ false → EmptyLast (J ++ e ∷ [])
-empty_last_more F J e h going = each_last (λ (before : List Entry) (_ : Entry). list_any is_empty (added before) ≡ false) [] J e h (not_added F J going)
+empty_last_more : (J : List Entry) (e : Entry) → EmptyLast J → list_any is_empty (added J) ≡ false → EmptyLast (J ++ e ∷ [])
+empty_last_more J e h going = each_last (λ (before : List Entry) (_ : Entry). list_any is_empty (added before) ≡ false) [] J e h going
 
 one_more_line : (F : List (List Literal)) (L : List Line) (x : Line) → Accepted F L → is_valid (alive F L) x ≡ true → Accepted F (L ++ x ∷ [])
 one_more_line F L x h v = each_last (λ (before : List Line) (y : Line). is_valid (alive F before) y ≡ true) [] L x h v
 
 module _ (F : List (List Literal)) (J : List Entry) (h : LogSound F J) where
-  pub log_adds_valid : (x : Addition) → x.number ≡ (book F J).next → is_valid (alive F (lines F J)) (AddLine x.lits) ≡ true → ended F J ≡ false → LogSound F (J ++ Add x ∷ [])
+  pub log_adds_valid : (x : Addition) → x.number ≡ (book F J).next → is_valid (alive F (lines F J)) (AddLine x.lits) ≡ true → list_any is_empty (added J) ≡ false → LogSound F (J ++ Add x ∷ [])
   log_adds_valid x number valid going = record {
     fits = each_last (λ before e. IsFit (book F before) e) [] J (Add x) h.fits (record { numbered = number; names = tt });
     accepted = subst (Accepted F) (sym (lines_last F J (Add x))) (one_more_line F (lines F J) (AddLine x.lits) h.accepted valid);
-    empty_last = empty_last_more F J (Add x) h.empty_last going;
+    empty_last = empty_last_more J (Add x) h.empty_last going;
   }
 
-  pub log_adds : (x : Addition) → x.number ≡ (book F J).next → rup (alive F (lines F J)) x.lits ≡ true → ended F J ≡ false → LogSound F (J ++ Add x ∷ [])
+  pub log_adds : (x : Addition) → x.number ≡ (book F J).next → rup (alive F (lines F J)) x.lits ≡ true → list_any is_empty (added J) ≡ false → LogSound F (J ++ Add x ∷ [])
   log_adds x number follows going = log_adds_valid x number (or_left _ _ follows) going
 
-  pub log_dels : (r n : ℕ) (c : List Literal) → (book F J).clause n ≡ Some c → two_or_more c ≡ true → ended F J ≡ false → LogSound F (J ++ Del r n ∷ [])
+  pub log_dels : (r n : ℕ) (c : List Literal) → (book F J).clause n ≡ Some c → two_or_more c ≡ true → list_any is_empty (added J) ≡ false → LogSound F (J ++ Del r n ∷ [])
   log_dels r n c is two going =
       let d : List Literal = unwrap_or ((book F J).clause n) [] in
       let same_d : c ≡ d = sym (ap (λ (o : Option (List Literal)). unwrap_or o []) is) in
@@ -49,14 +50,14 @@ module _ (F : List (List Literal)) (J : List Entry) (h : LogSound F J) where
         fits = each_last (λ before e. IsFit (book F before) e) [] J (Del r n) h.fits (record { numbered = tt; names = (c, is, two) });
         accepted = subst (Accepted F) (sym (lines_last F J (Del r n))) (one_more_line F (lines F J) (DelLine d) h.accepted
             (and_from _ _ (copies_any d (alive F (lines F J)) (clause_copies (book F J) (alive F (lines F J)) n d m is_d)) (two_more d (subst (λ (q : List Literal). two_or_more q ≡ true) same_d two))));
-        empty_last = empty_last_more F J (Del r n) h.empty_last going;
+        empty_last = empty_last_more J (Del r n) h.empty_last going;
       }
 
-  pub log_reduces : (r : ℕ) → ended F J ≡ false → LogSound F (J ++ Reduce r ∷ [])
+  pub log_reduces : (r : ℕ) → list_any is_empty (added J) ≡ false → LogSound F (J ++ Reduce r ∷ [])
   log_reduces r going = record {
     fits = each_last (λ before e. IsFit (book F before) e) [] J (Reduce r) h.fits (record { numbered = tt; names = tt });
     accepted = subst (Accepted F) (sym (lines_last F J (Reduce r) ∙ append-nil (lines F J))) h.accepted;
-    empty_last = empty_last_more F J (Reduce r) h.empty_last going;
+    empty_last = empty_last_more J (Reduce r) h.empty_last going;
   }
 
 -- the empty journal

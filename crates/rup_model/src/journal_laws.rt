@@ -1,36 +1,42 @@
 //! What a sound journal keeps as entries come, and what it leaves alive.
 ghost use Rattle.std.specs.Prelude.{◌≡◌, ◌<◌, ℕ, List, [], ◌∷◌, ◌++◌, Some, true, false, All, Contains};
 ghost use Rattle.sat_words.specs.Literal.{Literal};
-ghost use Rattle.sat_words.specs.Clause.{same_set, two_or_more};
+ghost use Rattle.std.specs.List.{list_any};
+ghost use Rattle.sat_words.specs.Clause.{same_set, is_empty, two_or_more};
 ghost use Rattle.sat_words.specs.declared.line.Line.TheVariants.{Add as AddLine};
 ghost use Rattle.rup_model.specs.Rup.{rup};
-ghost use Rattle.rup_model.specs.Log.{alive, copies, is_valid};
+ghost use Rattle.rup_model.specs.Log.{alive, copies, is_valid, Refutes};
 ghost use Rattle.rup_model.specs.declared.journal.TheConstants.{RULER_RING};
 ghost use Rattle.rup_model.specs.declared.journal.Addition.{Addition};
 ghost use Rattle.rup_model.specs.declared.journal.Entry.{Entry};
 ghost use Rattle.rup_model.specs.declared.journal.Entry.TheVariants.{Add, Del, Reduce};
-ghost use Rattle.rup_model.specs.Journal.{book, copies_in, lines, Fits, ended, is_told, LogSound, ring_of};
+ghost use Rattle.rup_model.specs.Journal.{book, copies_in, lines, Fits, added, is_told, LogSound, ring_of};
 ghost use Rattle.rup_model.specs.Opening.{is_rulers, IsRulersPart, IsOpening, program_opening};
 ghost use Rattle.rup_model.specs.Spent.{ruler_part, rings_part};
 
-/// While the log is not ended, an addition under the next number that is RUP, or RAT on its first literal, over what
-/// is alive keeps it sound.
+/// While no entry adds the empty clause, an addition under the next number that is RUP, or RAT on its first literal, over
+/// what is alive keeps the log sound. The formula may hold the empty clause.
 pub fn an_addition_keeps_the_log()
-    ensures valid { (F : List (List Literal)) (J : List Entry) (x : Addition) → LogSound F J → ended F J ≡ false
+    ensures valid { (F : List (List Literal)) (J : List Entry) (x : Addition) → LogSound F J → list_any is_empty (added J) ≡ false
         → x.number ≡ (book F J).next → is_valid (alive F (lines F J)) (AddLine x.lits) ≡ true → LogSound F (J ++ Add x ∷ []) }
-    ensures rup { (F : List (List Literal)) (J : List Entry) (x : Addition) → LogSound F J → ended F J ≡ false
+    ensures rup { (F : List (List Literal)) (J : List Entry) (x : Addition) → LogSound F J → list_any is_empty (added J) ≡ false
         → x.number ≡ (book F J).next → rup (alive F (lines F J)) x.lits ≡ true → LogSound F (J ++ Add x ∷ []) }
 {}
 
-/// While the log is not ended, the deletion of a clause of two literals or more that is alive keeps it sound.
+/// While no entry adds the empty clause, the deletion of a clause of two literals or more that is alive keeps the log sound.
 pub fn a_deletion_keeps_the_log()
-    ensures { (F : List (List Literal)) (J : List Entry) (r n : ℕ) (c : List Literal) → LogSound F J → ended F J ≡ false
+    ensures { (F : List (List Literal)) (J : List Entry) (r n : ℕ) (c : List Literal) → LogSound F J → list_any is_empty (added J) ≡ false
         → (book F J).clause n ≡ Some c → two_or_more c ≡ true → LogSound F (J ++ Del r n ∷ []) }
 {}
 
-/// While the log is not ended, the note that a ring reduces keeps it sound.
+/// While no entry adds the empty clause, the note that a ring reduces keeps the log sound.
 pub fn a_reduction_keeps_the_log()
-    ensures { (F : List (List Literal)) (J : List Entry) (r : ℕ) → LogSound F J → ended F J ≡ false → LogSound F (J ++ Reduce r ∷ []) }
+    ensures { (F : List (List Literal)) (J : List Entry) (r : ℕ) → LogSound F J → list_any is_empty (added J) ≡ false → LogSound F (J ++ Reduce r ∷ []) }
+{}
+
+/// A sound log to which the empty clause was added refutes the formula.
+pub fn a_log_with_the_empty_clause_refutes()
+    ensures { (F : List (List Literal)) (J : List Entry) → LogSound F J → list_any is_empty (added J) ≡ true → Refutes F (lines F J) }
 {}
 
 /// Each clause has as many numbers as its lines leave copies.

@@ -7,7 +7,7 @@ use Rattle.rup_model.specs.Opening.{start_clauses}
 use Rattle.rup_model.proofs.Sums.{at_put, put_else, below_at}
 use Rattle.rup_model.proofs.Units.{long_two}
 use Rattle.rup_model.proofs.Numbers.{book_last}
-use Rattle.rup_model.proofs.JournalSteps.{log_dels}
+use Rattle.rup_model.proofs.JournalSteps.{not_added, log_dels}
 use Rattle.share_core.specs.declared.event.Event.TheVariants.{Bury}
 use Rattle.share_core.specs.declared.stored.Cell.{Cell}
 use Rattle.share_core.specs.State.{times_at, without_at, opening_of, Part, State, count_at, number_at, maker_at}
@@ -79,7 +79,7 @@ buries c r a s e =
           (λ h k. absurd (none_some y k))
           (λ ne k. (y, k, refl, refl, put_else b.clause n None y.number (λ q. ne (s.cells.own i a y x k is (q ∙ n_is)))))));
       slots = slots_kept c.opening c d s.slots refl (puts_same c r p refl);
-      log = journal_more c.opening J (Del r n) s.log (log_dels F J s.log.log r n x.lits alive_n (long_two x.lits (s.cells.shape a x is)) w.going) w.room lt;
+      log = journal_more c.opening J (Del r n) s.log (log_dels F J s.log.log r n x.lits alive_n (long_two x.lits (s.cells.shape a x is)) (not_added F J w.going)) w.room lt;
       entries = owned_more c.opening c r (Del r n) p s.entries refl refl;
       freshness = fresh_more (start_clauses (opening_of c.opening)) J (Del r n) s.freshness tt tt;
       units = units_written c r p (Del r n) s (s.units.seen r);

@@ -14,7 +14,7 @@ use Rattle.rup_model.specs.Journal.{ring_of, Book, book_after, book, spelled, li
 use Rattle.rup_model.specs.Opening.{IsLong, start_clauses}
 use Rattle.rup_model.proofs.Sums.{at_put, put_here, put_else}
 use Rattle.rup_model.proofs.Numbers.{clause_below, journal_matches, book_last}
-use Rattle.rup_model.proofs.JournalSteps.{log_adds, log_reduces}
+use Rattle.rup_model.proofs.JournalSteps.{not_added, log_adds, log_reduces}
 use Rattle.share_core.specs.declared.event.Event.TheVariants.{AddClause, AddUnit, AddEmpty, Reduce}
 use Rattle.share_core.specs.declared.stored.ClauseAt.{ClauseAt}
 use Rattle.share_core.specs.declared.stored.Cell.{Cell}
@@ -73,7 +73,7 @@ writes c r e s lt own log low fresh spaced =
 added : (c : State) (r : ℕ) (kind : Kind) (lits : List Literal) → Sound c → r < c.opening.rings → Writes c r → follows (c.part r) lits ≡ true → JournalSound c.opening (c.journal ++ addition_of c r kind lits ∷ [])
 added c r kind lits s lt w f =
     let x : Addition = record { ring = r; number = (book c.opening.formula c.journal).next; lits = lits; kind = kind } in
-    journal_more c.opening c.journal (Add x) s.log (log_adds c.opening.formula c.journal s.log.log x refl (follows_alive c r lits s lt f) w.going) w.room lt
+    journal_more c.opening c.journal (Add x) s.log (log_adds c.opening.formula c.journal s.log.log x refl (follows_alive c r lits s lt f) (not_added c.opening.formula c.journal w.going)) w.room lt
 
 pub adds_unit : (c : State) (r : ℕ) (kind : Kind) (l : Literal) → Sound c → IsEnabled c (AddUnit r kind l) → Sound (after c (AddUnit r kind l))
 adds_unit c r kind l s e =
@@ -86,7 +86,7 @@ adds_empty c r s e =
     writes c r (Add x) s e.0 refl (added c r Derive [] s e.0 e.1 e.2) (add_low (book c.opening.formula c.journal) x) (λ h. absurd (true≢false (sym h))) tt
 
 pub reduces : (c : State) (r : ℕ) → Sound c → IsEnabled c (Reduce r) → Sound (after c (Reduce r))
-reduces c r s e = writes c r (ReduceEntry r) s e.0 refl (journal_more c.opening c.journal (ReduceEntry r) s.log (log_reduces c.opening.formula c.journal s.log.log r e.1.going) e.1.room e.0) (λ n lt. refl) tt e.2
+reduces c r s e = writes c r (ReduceEntry r) s e.0 refl (journal_more c.opening c.journal (ReduceEntry r) s.log (log_reduces c.opening.formula c.journal s.log.log r (not_added c.opening.formula c.journal e.1.going)) e.1.room e.0) (λ n lt. refl) tt e.2
 
 -- A clause with its cell
 

@@ -1,10 +1,9 @@
 // Reading a formula from a source, in pieces.
-ghost use Rattle.std.specs.Prelude.{◌≡◌, ◌≤◌, ℕ, Err, IfOk, OnOk};
+ghost use Rattle.std.specs.Prelude.{◌≡◌, ◌≢◌, ◌≤◌, Err, IfOk};
 ghost use Rattle.io_edge.specs.Causes.{Rose};
 ghost use Rattle.dimacs_read.specs.Answer.{IsAnswer};
 ghost use Rattle.dimacs_read.specs.Input.{IsInRange};
-ghost use Rattle.dimacs_read.specs.declared.stop.Code.{Code as CodeOf};
-ghost use Rattle.dimacs_read.specs.declared.stop.ReadStop.TheVariants.{Bad, ReadFault};
+ghost use Rattle.dimacs_read.specs.declared.stop.ReadStop.TheVariants.{ReadFault};
 
 use crate::reader::Reader;
 use crate::stop::ReadStop;
@@ -29,8 +28,7 @@ pub fn read<S: Source>(alloc: Global, source: &mut S) -> Result<Formula, ReadSto
     ensures range { IfOk result IsInRange }
     ensures fault { result ≡ Err ReadFault → Rose (S.faults source.old) (S.faults source.new) }
     ensures later { S.faults source.old ≤ S.faults source.new }
-    ensures still { OnOk result (S.faults source.new ≡ S.faults source.old) }
-    ensures quiet { (code : CodeOf) (line : ℕ) → result ≡ Err (Bad code line) → S.faults source.new ≡ S.faults source.old }
+    ensures quiet { result ≢ Err ReadFault → S.faults source.new ≡ S.faults source.old }
 {
     let mut reader = Reader::new(alloc);
     let mut buffer = [0u8; BUFFER];

@@ -97,6 +97,11 @@ fn odd_spellings(rt: HostRuntime) -> Result<(), Fail> {
             "\t c\n\n p cnf 2 1\t\n1\nc 0 %\n\n 2\n 0 ",
             formula_of(alloc, 2, &[&[one, two]])?,
         ),
+        ("p cnf 1 1\n1 0\n %x", formula_of(alloc, 1, &[&[one]])?),
+        (
+            "p cnf 268435455 1\n-268435455 0\n",
+            formula_of(alloc, 268_435_455, &[&[Lit::new(268_435_455, true)]])?,
+        ),
     ];
     for (text, formula) in &table {
         assert!(rt; is_read_as(alloc, text, formula), "{text}");
@@ -114,6 +119,8 @@ fn bad_headers(rt: HostRuntime) {
         ("p cnf x 1\n", Code::BadHeader, 1),
         ("pcnf 1 1\n", Code::BadHeader, 1),
         ("p cnf 1 1 x\n", Code::BadHeader, 1),
+        ("p cnf x 268435456\n", Code::BadHeader, 1),
+        ("p cnf 268435456 x\n", Code::BadHeader, 1),
     ];
     for (text, code, line) in table {
         assert!(rt; is_bad(alloc, text.as_bytes(), code, line), "{text}");
@@ -150,6 +157,12 @@ fn bad_tokens(rt: HostRuntime) {
         ("p cnf 1 1\n1 c 0\n", Code::BadToken, 2),
         ("p cnf 1 1\np cnf 1 1\n", Code::BadToken, 2),
         ("p cnf 1 1\n1\n%\n", Code::BadToken, 3),
+        ("p cnf 1 1\n1 %\n", Code::BadToken, 2),
+        // The last clause is read already: a token that is none comes before one too many, and that before a range.
+        ("p cnf 1 1\n1 0 %\n", Code::BadToken, 2),
+        ("p cnf 1 1\n1 0\nx\n", Code::BadToken, 3),
+        ("p cnf 1 1\n1 0\n-0\n", Code::BadToken, 3),
+        ("p cnf 1 1\n1 0\n2 0\n", Code::TooManyClauses, 3),
     ];
     for (text, code, line) in table {
         assert!(rt; is_bad(alloc, text.as_bytes(), code, line), "{text}");

@@ -1,5 +1,5 @@
 -- How a port in memory begins.
-use Rattle.std.proofs.Common.{◌≡◌, ℕ, zero, suc, ◌+◌, ◌-◌, ◌<◌, ◌||◌, false, not, List, [], ◌∷◌, ◌++◌, length, map, take, get_or, sym, refl, ap, subst, ◌∙◌, arith, Some, None, append_assoc, append-nil, cond, ◌==◌, eq-eqb, ne_eqb}
+use Rattle.std.proofs.Common.{◌≡◌, ℕ, zero, suc, ◌+◌, ◌-◌, ◌<◌, ◌≤◌, ◌||◌, false, not, List, [], ◌∷◌, ◌++◌, length, map, take, get_or, sym, refl, ap, subst, ◌∙◌, arith, Some, None, append_assoc, append-nil, cond, ◌==◌, eq-eqb, ne_eqb}
 use Rattle.std.specs.List.{list_any, All, find}
 use Rattle.std.specs.declared.option.Option.{Option}
 use Rattle.std.specs.Io.KnownBytes.{append_known}
@@ -67,16 +67,16 @@ known_none None = refl
 known_none (Some xs) = ap Some (append-nil xs)
 
 -- what a port has when it is made
-abbrev pub begun_data : ℕ → List (ℕ × List Literal) → List Cref → List Literal → LogData → PlainData
-begun_data vars ss refs units g = record { vars = vars; held = placed_from 0 ss; start = refs; opening = units; given = 0; written = []; log = g; last = None; stop = None }
+abbrev pub begun_data : ℕ → List (ℕ × List Literal) → List Cref → List Literal → ℕ → LogData → PlainData
+begun_data vars ss refs units room g = record { vars = vars; held = placed_from 0 ss; start = refs; opening = units; passed = 0; given = []; given_room = room; written = []; log = g; last = None; stop = None; looks = 0 }
 
 module _ (F : List (List Literal)) (vars : ℕ) (ss : List (ℕ × List Literal)) (units : List Literal) (out : LineState) where
   kept_start : (J : List Entry) → OpensOver F (starts_of ss) units out J → All (λ s. All (IsOn vars) s.1) ss → All (IsKept vars) (placed_from 0 ss)
   kept_start J h on = placed_All (IsStart (book F J)) (λ s. All (IsOn vars) s.1) (IsKept vars) 0 ss (λ b s is ons. record { shape = is.shape; on = ons }) h.opens.starts on
 
-  pub begun_plain : (refs : List Cref) (g : LogData) (J : List Entry) → OpensOver F (starts_of ss) units out J → All (λ s. All (IsOn vars) s.1) ss → All (IsOn vars) units
-      → map (λ c. c.address) refs ≡ map (λ h. h.address) (placed_from 0 ss) → IsPlain (begun_data vars ss refs units g)
-  begun_plain refs g J h on units_on same =
+  pub begun_plain : (refs : List Cref) (room : ℕ) (g : LogData) (J : List Entry) → OpensOver F (starts_of ss) units out J → All (λ s. All (IsOn vars) s.1) ss → All (IsOn vars) units
+      → map (λ c. c.address) refs ≡ map (λ h. h.address) (placed_from 0 ss) → length units ≤ room → IsPlain (begun_data vars ss refs units room g)
+  begun_plain refs room g J h on units_on same enough =
       let n : length refs ≡ length (placed_from 0 ss) = same_lengths refs (placed_from 0 ss) same in
       record {
         held = kept_start J h on;
@@ -85,26 +85,28 @@ module _ (F : List (List Literal)) (vars : ℕ) (ss : List (ℕ × List Literal)
         start = same ∙ ap (map (λ x. x.address)) (sym (take_all (length refs) (placed_from 0 ss) (omega arith)));
         opening = units_on;
         distinct = h.opens.distinct;
-        given = omega arith;
+        passed = omega arith;
+        given = λ k d lt. absurd (omega arith);
+        given_room = omega arith;
         written = λ k d lt. absurd (omega arith);
         stop = tt;
       }
 
-  pub begun_state : (refs : List Cref) (g : LogData) → map (λ c. c.address) refs ≡ map (λ h. h.address) (placed_from 0 ss) → g.output ≡ out → g.mine ≡ [] → g.ended ≡ false → g.refused ≡ None
-      → state_of (begun_data vars ss refs units g) ≡ begun_with vars ss units out
-  begun_state refs g same output mine going quiet =
+  pub begun_state : (refs : List Cref) (room : ℕ) (g : LogData) → map (λ c. c.address) refs ≡ map (λ h. h.address) (placed_from 0 ss) → g.output ≡ out → g.mine ≡ [] → g.ended ≡ false → g.refused ≡ None
+      → state_of (begun_data vars ss refs units room g) ≡ begun_with vars ss units out
+  begun_state refs room g same output mine going quiet =
       let n : length refs ≡ length (placed_from 0 ss) = same_lengths refs (placed_from 0 ss) same in
       let whole : take (length refs) (placed_from 0 ss) ≡ placed_from 0 ss = take_all (length refs) (placed_from 0 ss) (omega arith) in
       let all : length units - 0 ≡ length units = omega arith in
       λ i. record (begun_with vars ss units out) { coming = all i; start = whole i; output = Some (output i); mine = mine i; ended = going i; refused = quiet i }
 
   -- the state of a port that has this
-  pub begun_is : (H : List Holding) (refs : List Cref) (O W : List Literal) (g : LogData) → H ≡ placed_from 0 ss → map (λ c. c.address) refs ≡ map (λ h. h.address) (placed_from 0 ss) → O ≡ units → W ≡ []
+  pub begun_is : (H : List Holding) (refs : List Cref) (O V W : List Literal) (room : ℕ) (g : LogData) → H ≡ placed_from 0 ss → map (λ c. c.address) refs ≡ map (λ h. h.address) (placed_from 0 ss) → O ≡ units → V ≡ [] → W ≡ []
       → g.output ≡ out → g.mine ≡ [] → g.ended ≡ false → g.refused ≡ None
-      → state_of (record { vars = vars; held = H; start = refs; opening = O; given = 0; written = W; log = g; last = None; stop = None }) ≡ begun_with vars ss units out
-  begun_is H refs O W g held same opening written output mine going quiet =
-      (λ i. state_of (record { vars = vars; held = held i; start = refs; opening = opening i; given = 0; written = written i; log = g; last = None; stop = None }))
-      ∙ begun_state refs g same output mine going quiet
+      → state_of (record { vars = vars; held = H; start = refs; opening = O; passed = 0; given = V; given_room = room; written = W; log = g; last = None; stop = None; looks = 0 }) ≡ begun_with vars ss units out
+  begun_is H refs O V W room g held same opening given written output mine going quiet =
+      (λ i. state_of (record { vars = vars; held = held i; start = refs; opening = opening i; passed = 0; given = given i; given_room = room; written = written i; log = g; last = None; stop = None; looks = 0 }))
+      ∙ begun_state refs room g same output mine going quiet
 
   pub begun_stands : (J : List Entry) → OpensOver F (starts_of ss) units out J → list_any is_empty F ≡ false → out.spent ≡ false
       → StandsOver (record { formula = F; journal = J; output = out }) (begun_with vars ss units out)
@@ -122,6 +124,7 @@ module _ (F : List (List Literal)) (vars : ℕ) (ss : List (ℕ × List Literal)
         ended = sym (ap (λ K. list_any is_empty (F ++ added K)) alone ∙ list_any-append is_empty F (added J) ∙ ap (λ b. b || list_any is_empty (added J)) none ∙ h.opens.rulers_part.going);
         held = subst (λ K. All (λ c. (book F K).clause c.number ≡ Some c.lits) (placed_from 0 ss)) (sym alone)
             (placed_All (IsStart (book F J)) (λ t. t ≡ t) (λ c. (book F J).clause c.number ≡ Some c.lits) 0 ss (λ b t is same. is.alive) h.opens.starts (λ k d lt. refl));
+        waiting = λ k d lt. absurd (omega arith);
         seen = λ k d lt. absurd (omega arith);
         output = record {
           entries = h.lines.entries ∙ ap (λ K. length (lines F K)) (sym alone);

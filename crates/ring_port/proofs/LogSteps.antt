@@ -207,6 +207,7 @@ module _ (o : Origin) (s : PortState) (h : StandsOver o s) (ring : s.ring ≡ 0)
     on = subst (λ G. All (All (IsOn s.vars)) G) (sym (added-append s.mine (entry_of s number lits kind ∷ []))) (All-append (All (IsOn s.vars)) (added s.mine) (lits ∷ []) h.on (one_All (All (IsOn s.vars)) lits on));
     ended = end;
     held = held;
+    waiting = λ k d lt. alive_next o s h ring lits kind number _ _ (h.waiting k d lt);
     seen = seen;
     output = subst (λ w. HasLines o (after H S la en) w) (sym put.state) (has_lines H S la en);
   }
@@ -238,18 +239,19 @@ stands_failed o s h ring lits kind follows going on a b out unspent failed =
       on = h.on;
       ended = h.ended;
       held = h.held;
+      waiting = h.waiting;
       seen = h.seen;
       output = subst (λ v. HasLines o t v) (sym failed.state) lines_are;
     }
 
 -- No line
 pub stands_with : (o : Origin) (s : PortState) (h : StandsOver o s) (a : LineState) → s.output ≡ Some a
-    → (S : List Literal) (n : ℕ) (st : Option Stop) (r : Option PortStop) (en : Bool)
+    → (S G : List Literal) (n : ℕ) (st : Option Stop) (k : ℕ) (r : Option PortStop) (en : Bool)
     → All (λ l. is_told o.formula (journal_of o s) l ≡ true) S → is_usable r ≡ not a.spent → en ≡ s.ended → IsCaused (record s { ended = en }) a r
-    → StandsOver o (record s { seen = S; coming = n; stop = st; refused = r; ended = en })
-stands_with o s h a out S n st r en seen usable end caused =
+    → StandsOver o (record s { seen = S; given = G; coming = n; stop = st; looks = k; refused = r; ended = en })
+stands_with o s h a out S G n st k r en seen usable end caused =
     let was = output_of o s a h out in
-    let t : PortState = record s { seen = S; coming = n; stop = st; refused = r; ended = en } in
+    let t : PortState = record s { seen = S; given = G; coming = n; stop = st; looks = k; refused = r; ended = en } in
     let lines_are : HasLines o t a =
     record {
       entries = was.entries;
@@ -269,11 +271,12 @@ stands_with o s h a out S n st r en seen usable end caused =
       on = h.on;
       ended = end ∙ h.ended;
       held = h.held;
+      waiting = h.waiting;
       seen = seen;
       output = subst (λ (w : Option LineState). IsSomeAnd w (HasLines o t)) (sym out) lines_are;
     }
   where
-    caused_as : (q : Option PortStop) → IsCaused (record s { ended = en }) a q → IsCaused (record s { seen = S; coming = n; stop = st; refused = r; ended = en }) a q
+    caused_as : (q : Option PortStop) → IsCaused (record s { ended = en }) a q → IsCaused (record s { seen = S; given = G; coming = n; stop = st; looks = k; refused = r; ended = en }) a q
     caused_as None c = tt
     caused_as (Some Ended) c = c
     caused_as (Some Broken) c = c

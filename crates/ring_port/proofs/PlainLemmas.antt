@@ -1,14 +1,15 @@
 -- What is kept of a port in memory, and what its calls find.
-use Rattle.std.proofs.Common.{◌≡◌, ℕ, zero, suc, ◌<◌, ◌≤◌, ◌==◌, List, [], ◌∷◌, ◌++◌, length, map, take, get_or, sym, refl, ap, subst, ◌∙◌, ⊎_elim, arith, Some, None, IsSome, IfSome, length-append, cond, eq-eqb}
+use Rattle.std.proofs.Common.{◌≡◌, ℕ, zero, suc, ◌+◌, ◌<◌, ◌≤◌, ◌==◌, true, List, [], ◌∷◌, ◌++◌, length, map, take, get_or, sym, refl, ap, subst, ◌∙◌, ⊎_elim, arith, Some, None, IsSome, IfSome, length-append, cond, eq-eqb}
 use Rattle.std.specs.List.{All, slice_get, find}
 use Rattle.std.specs.Option.{option_or}
-use Rattle.std.proofs.lemmas.List.Folds.{find-append}
+use Rattle.std.proofs.lemmas.List.Folds.{find-append, list_any-append}
 use Rattle.std.specs.declared.option.Option.{Option}
-use Rattle.std.proofs.lemmas.Bool.{false≢true, cases_lt}
+use Rattle.std.proofs.lemmas.Bool.{false≢true, cases_lt, or_left}
 use Rattle.std.proofs.lemmas.List.{take-append-le, get_or_append_left}
 use Rattle.std.proofs.Math.Seq.{get_or-append_seam}
 use Rattle.std.proofs.lemmas.List.Elements.{All-append, All-take}
-use Rattle.sat_words.specs.Literal.{Literal}
+use Rattle.sat_words.specs.Literal.{Literal, same}
+use Rattle.sat_words.specs.Clause.{has}
 use Rattle.sat_words.specs.declared.shared.Cref.{Cref}
 use Rattle.sat_words.specs.declared.shared.Head.{Head}
 use Rattle.sat_words.specs.declared.shared.Stop.{Stop}
@@ -44,8 +45,12 @@ plain_port p h = record {
       let tb = place_of p.held b h.indexed (Contains_In p.held b hb) in
       let both : Some a ≡ Some b = sym ta.1 ∙ ap (slice_get p.held) same ∙ tb.1 in
       cc);
+  waiting = λ k d lt. absurd (omega arith);
+  apart = λ k d lt. absurd (omega arith);
+  taken = λ k d lt. absurd (omega arith);
+  given = λ k d lt. (list_any-append (same (get_or p.given k d)) (take p.passed p.opening) p.written ∙ or_left _ _ (h.given k d lt));
   start = All-take (IsKept p.vars) (length p.start) p.held h.held;
-  seen = All-append (IsOn p.vars) (take p.given p.opening) p.written (All-take (IsOn p.vars) p.given p.opening h.opening) h.written;
+  seen = All-append (IsOn p.vars) (take p.passed p.opening) p.written (All-take (IsOn p.vars) p.passed p.opening h.opening) h.written;
   opening = h.opening;
   stop = own_stop p.stop h.stop;
   ring = omega arith;
@@ -68,11 +73,16 @@ free_behind p h = is_none (held_at (state_of p) (length p.held)) (λ some. let l
 
 -- the log is no part of what is kept
 pub plain_log : (p : PlainData) → IsPlain p → (g : LogData) (last : Option Cref) → IsPlain (record p { log = g; last = last })
-plain_log p h g last = record { held = h.held; indexed = h.indexed; begun = h.begun; start = h.start; opening = h.opening; distinct = h.distinct; given = h.given; written = h.written; stop = h.stop }
+plain_log p h g last = record { held = h.held; indexed = h.indexed; begun = h.begun; start = h.start; opening = h.opening; distinct = h.distinct; passed = h.passed; given = h.given; given_room = h.given_room; written = h.written; stop = h.stop }
+
+-- nor is how often no stop was found
+pub plain_looked : (p : PlainData) → IsPlain p → (k : ℕ) → IsPlain (record p { looks = k })
+plain_looked p h k = record { held = h.held; indexed = h.indexed; begun = h.begun; start = h.start; opening = h.opening; distinct = h.distinct; passed = h.passed; given = h.given; given_room = h.given_room; written = h.written; stop = h.stop }
 
 -- more units are given
-pub plain_given : (p : PlainData) → IsPlain p → (n : ℕ) → n ≤ length p.opening → IsPlain (record p { given = n })
-plain_given p h n le = record { held = h.held; indexed = h.indexed; begun = h.begun; start = h.start; opening = h.opening; distinct = h.distinct; given = le; written = h.written; stop = h.stop }
+pub plain_given : (p : PlainData) → IsPlain p → (n : ℕ) (ls : List Literal) (r : ℕ) → n ≤ length p.opening → All (λ l. has (take n p.opening) l ≡ true) ls → length p.opening ≤ n + r
+    → IsPlain (record p { passed = n; given = ls; given_room = r })
+plain_given p h n ls r le all room = record { held = h.held; indexed = h.indexed; begun = h.begun; start = h.start; opening = h.opening; distinct = h.distinct; passed = le; given = all; given_room = room; written = h.written; stop = h.stop }
 
 -- a unit more
 pub plain_unit : (p : PlainData) → IsPlain p → (l : Literal) → IsOn p.vars l → (g : LogData) (last : Option Cref) → IsPlain (record p { written = p.written ++ l ∷ []; log = g; last = last })
@@ -83,7 +93,9 @@ plain_unit p h l on g last = record {
   start = h.start;
   opening = h.opening;
   distinct = h.distinct;
+  passed = h.passed;
   given = h.given;
+  given_room = h.given_room;
   written = All-append (IsOn p.vars) p.written (l ∷ []) h.written (λ k d lt. one k d lt);
   stop = h.stop;
 }
@@ -104,7 +116,9 @@ plain_pushed p h x kept at g last = record {
   start = h.start ∙ ap (map (λ k. k.address)) (sym (start_stays (length p.start) p.held x h.begun));
   opening = h.opening;
   distinct = h.distinct;
+  passed = h.passed;
   given = h.given;
+  given_room = h.given_room;
   written = h.written;
   stop = h.stop;
 }

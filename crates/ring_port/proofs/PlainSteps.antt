@@ -9,6 +9,7 @@ use Rattle.std.proofs.lemmas.List.Elements.{All-append, All-take}
 use Rattle.sat_words.specs.Literal.{Literal}
 use Rattle.sat_words.specs.Clause.{is_empty}
 use Rattle.sat_words.specs.declared.shared.Cref.{Cref}
+use Rattle.sat_words.specs.declared.shared.Stop.{Stop}
 use Rattle.sat_words.specs.declared.line.Line.TheVariants.{Add as AddLine}
 use Rattle.rup_model.specs.declared.journal.Kind.{Kind}
 use Rattle.rup_model.specs.declared.journal.Kind.TheVariants.{Learn}
@@ -39,13 +40,13 @@ pub unit_keeps : (p : PlainData) (r : ℕ) (g : LogData) (l : Literal) (kind : K
 unit_keeps p r g l kind number last usable on follows added o h =
     let s = state_of p in
     let next = number_is o s h refl (l ∷ []) kind number follows added.going (one_All (IsOn p.vars) l on) p.log.output g.output refl (unspent_of o p h usable) added.put in
-    let seen = subst (λ (ls : List Literal). All (λ k. is_told o.formula (o.journal ++ (p.log.mine ++ own_entry number (l ∷ []) kind ∷ [])) k ≡ true) ls) (append_assoc (take p.given p.opening) p.written (l ∷ []))
-    (All-append (λ k. is_told o.formula (o.journal ++ (p.log.mine ++ own_entry number (l ∷ []) kind ∷ [])) k ≡ true) (take p.given p.opening ++ p.written) (l ∷ [])
-    (all_told_next o s h refl (l ∷ []) kind number (take p.given p.opening ++ p.written) h.seen)
+    let seen = subst (λ (ls : List Literal). All (λ k. is_told o.formula (o.journal ++ (p.log.mine ++ own_entry number (l ∷ []) kind ∷ [])) k ≡ true) ls) (append_assoc (take p.passed p.opening) p.written (l ∷ []))
+    (All-append (λ k. is_told o.formula (o.journal ++ (p.log.mine ++ own_entry number (l ∷ []) kind ∷ [])) k ≡ true) (take p.passed p.opening ++ p.written) (l ∷ [])
+    (all_told_next o s h refl (l ∷ []) kind number (take p.passed p.opening ++ p.written) h.seen)
     (one_All (λ k. is_told o.formula (o.journal ++ (p.log.mine ++ own_entry number (l ∷ []) kind ∷ [])) k ≡ true) l (told_here o s h refl (l ∷ []) kind number l refl))) in
     subst (λ k. StandsOver o (state_of (record p { written = p.written ++ l ∷ []; log = k; last = last }))) (sym added.state)
     (stands_after o s h refl (l ∷ []) kind number follows added.going (one_All (IsOn p.vars) l on) p.log.output g.output refl (unspent_of o p h usable) added.put
-    p.held (take p.given p.opening ++ (p.written ++ l ∷ [])) (option_map (λ c. c.address) last) p.log.ended
+    p.held (take p.passed p.opening ++ (p.written ++ l ∷ [])) (option_map (λ c. c.address) last) p.log.ended
     (held_next o s h refl (l ∷ []) kind number) seen (h.ended ∙ sym (ended_stays o s h refl (l ∷ []) kind number refl)))
 
 -- the line of a longer clause
@@ -61,8 +62,8 @@ clause_keeps p r g lits kind number glue address last begun usable long on follo
     subst (λ hs. StandsOver o (record (state_of (record p { held = p.held ++ x ∷ []; log = g; last = last })) { start = hs })) (sym (start_stays (length p.start) p.held x begun))
     (subst (λ k. StandsOver o (record (state_of (record p { held = p.held ++ x ∷ []; log = k; last = last })) { start = take (length p.start) p.held })) (sym added.state)
     (stands_after o s h refl lits kind number follows added.going on p.log.output g.output refl (unspent_of o p h usable) added.put
-    (p.held ++ x ∷ []) (take p.given p.opening ++ p.written) (option_map (λ c. c.address) last) p.log.ended
-    held (all_told_next o s h refl lits kind number (take p.given p.opening ++ p.written) h.seen)
+    (p.held ++ x ∷ []) (take p.passed p.opening ++ p.written) (option_map (λ c. c.address) last) p.log.ended
+    held (all_told_next o s h refl lits kind number (take p.passed p.opening ++ p.written) h.seen)
     (h.ended ∙ sym (ended_stays o s h refl lits kind number (some_literal lits long)))))
 
 -- the empty clause
@@ -74,8 +75,8 @@ empty_keeps p r g kind number usable follows added o h =
     let none : All (IsOn p.vars) [] = λ k d lt. absurd (omega arith) in
     subst (λ k. StandsOver o (state_of (record p { log = record k { ended = true } }))) (sym added.state)
     (stands_after o s h refl [] kind number follows added.going none p.log.output g.output refl (unspent_of o p h usable) added.put
-    p.held (take p.given p.opening ++ p.written) (option_map (λ c. c.address) p.last) true
-    (held_next o s h refl [] kind number) (all_told_next o s h refl [] kind number (take p.given p.opening ++ p.written) h.seen)
+    p.held (take p.passed p.opening ++ p.written) (option_map (λ c. c.address) p.last) true
+    (held_next o s h refl [] kind number) (all_told_next o s h refl [] kind number (take p.passed p.opening ++ p.written) h.seen)
     (sym (ended_next o s h refl [] kind number ∙ or_right _ _ refl)))
 
 -- no line
@@ -84,7 +85,7 @@ pub refused_keeps : (p : PlainData) (r : ℕ) (g : LogData) (lits : List Literal
     → KeepsLog (state_of p) (state_of (record p { log = g }))
 refused_keeps p r g lits Ended usable on follows why o h =
     subst (λ k. StandsOver o (state_of (record p { log = k }))) (sym why.1)
-    (stands_with o (state_of p) h p.log.output refl (take p.given p.opening ++ p.written) (length p.opening - p.given) p.stop (Some Ended) p.log.ended
+    (stands_with o (state_of p) h p.log.output refl (take p.passed p.opening ++ p.written) p.given (length p.opening - p.passed) p.stop p.looks (Some Ended) p.log.ended
     h.seen (sym (ap not (unspent_of o p h usable))) refl why.0)
 refused_keeps p r g lits Broken usable on follows why o h = absurd why
 refused_keeps p r g lits ProofFault usable on follows why o h =
@@ -92,21 +93,27 @@ refused_keeps p r g lits ProofFault usable on follows why o h =
     (stands_failed o (state_of p) h refl lits Learn follows why.going on p.log.output g.output refl (unspent_of o p h usable) why.put)
 refused_keeps p r g lits (NoHole need largest) usable on follows why o h =
     subst (λ k. StandsOver o (state_of (record p { log = k }))) (sym why.state)
-    (stands_with o (state_of p) h p.log.output refl (take p.given p.opening ++ p.written) (length p.opening - p.given) p.stop (Some (NoHole need largest)) p.log.ended
+    (stands_with o (state_of p) h p.log.output refl (take p.passed p.opening ++ p.written) p.given (length p.opening - p.passed) p.stop p.looks (Some (NoHole need largest)) p.log.ended
     h.seen (sym (ap not (unspent_of o p h usable))) refl (why.full, why.needed, why.found))
 refused_keeps p r g lits Memory usable on follows why o h = subst (λ k. StandsOver o (state_of (record p { log = k }))) (sym why) h
 
 -- a unit of the opening that is given
-pub given_keeps : (p : PlainData) (n : ℕ) → KeepsLog (state_of p) (state_of (record p { given = n }))
-given_keeps p n o h =
+pub given_keeps : (p : PlainData) (n : ℕ) (ls : List Literal) (r : ℕ) → KeepsLog (state_of p) (state_of (record p { passed = n; given = ls; given_room = r }))
+given_keeps p n ls r o h =
     let was = output_of o (state_of p) p.log.output h refl in
     let told : All (λ k. is_told o.formula (journal_of o (state_of p)) k ≡ true) p.opening = λ k d lt. told_more o.formula o.journal p.log.mine _ (h.opens.told k d lt) in
-    let front = take p.given p.opening in
+    let front = take p.passed p.opening in
     let written : All (λ k. is_told o.formula (journal_of o (state_of p)) k ≡ true) p.written = λ k d lt.
     subst (λ l. is_told o.formula (journal_of o (state_of p)) l ≡ true) (get_or-append-add front p.written k d)
     (h.seen (length front + k) d (let e = length-append front p.written in omega arith)) in
-    stands_with o (state_of p) h p.log.output refl (take n p.opening ++ p.written) (length p.opening - n) p.stop p.log.refused p.log.ended
+    stands_with o (state_of p) h p.log.output refl (take n p.opening ++ p.written) ls (length p.opening - n) p.stop p.looks p.log.refused p.log.ended
     (All-append (λ k. is_told o.formula (journal_of o (state_of p)) k ≡ true) (take n p.opening) p.written (All-take (λ k. is_told o.formula (journal_of o (state_of p)) k ≡ true) n p.opening told) written) was.usable refl was.caused
+
+-- a look at the stop, and a stop that is set
+pub looked_keeps : (p : PlainData) (st : Option Stop) (k : ℕ) → KeepsLog (state_of p) (state_of (record p { stop = st; looks = k }))
+looked_keeps p st k o h =
+    let was = output_of o (state_of p) p.log.output h refl in
+    stands_with o (state_of p) h p.log.output refl (take p.passed p.opening ++ p.written) p.given (length p.opening - p.passed) st k p.log.refused p.log.ended h.seen was.usable refl was.caused
 
 -- what a longer clause did to the port
 pub clause_put : (p : PlainData) → IsPlain p → (r : ℕ) (g : LogData) (lits : List Literal) (number glue : ℕ) (c : Cref) → c.address ≡ length p.held

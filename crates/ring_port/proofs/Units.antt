@@ -4,6 +4,9 @@ use Rattle.std.specs.List.{position, prefix_len}
 use Rattle.std.proofs.lemmas.Bool.{or_left, or_right, or_cases, not-false, not-true, and_parts, false≢true, true≢false, cases_lt, lt-ltb}
 use Rattle.std.proofs.lemmas.List.{take-append-drop, get_or-take, get_or-drop, length-drop, length-take}
 use Rattle.std.proofs.lemmas.List.Quantifiers.{position-Some}
+use Rattle.std.specs.List.{All}
+use Rattle.std.proofs.lemmas.List.Elements.{All-append}
+use Rattle.ring_port.proofs.LogSteps.{one_All}
 use Rattle.std.proofs.Math.Seq.{take-add}
 use Rattle.sat_words.specs.Literal.{Literal, same}
 use Rattle.sat_words.specs.Clause.{has, distinct_lits}
@@ -98,7 +101,7 @@ module _ (n k : ℕ) (opening written : List Literal) (l : Literal) (some : posi
       (λ (i : In j written). or_left _ _ (In_has old j (In_append_right (take n opening) written j i)))
       (In_append (take (n + k + 1) opening) written j (has_In new j h))
 
-  given_in : In l (take (n + k + 1) opening)
+  pub given_in : In l (take (n + k + 1) opening)
   given_in =
       let lt = in_range in
       let less : n + k < n + k + 1 = omega arith in
@@ -119,18 +122,6 @@ module _ (n k : ℕ) (opening written : List Literal) (l : Literal) (some : posi
   pub one_more : Sees old new l
   one_more j = both_true (has new j) (has old j || same l j) (forth j) (back j)
 
--- the next unit is taken
-pub took_unit : (p : PlainData) (k : ℕ) (l : Literal) → position (λ j. not (has p.written j)) (drop p.given p.opening) ≡ Some k → l ≡ get_or p.opening (p.given + k) l
-    → TookUnit (state_of p) (state_of (record p { given = p.given + k + 1 })) l
-took_unit p k l some is = record {
-  sees = one_more p.given k p.opening p.written l some is;
-  fewer = (let lt = in_range p.given k p.opening p.written l some is in omega arith);
-  state = refl;
-}
-
-pub took_none : (p : PlainData) → position (λ j. not (has p.written j)) (drop p.given p.opening) ≡ None → TookNone (state_of p) (state_of p)
-took_none p none = record { all = none_left p.given p.opening p.written none; state = refl }
-
 -- a literal of a list without repeats does not stand before its place
 before_place : (c : List Literal) (n m : ℕ) (d : Literal) → distinct_lits c ≡ true → n ≤ m → m < length c → has (take n c) (get_or c m d) ≡ false
 before_place [] n m d dist le lt = absurd (omega arith)
@@ -149,12 +140,42 @@ before_place (l ∷ c) (suc n) (suc m) d dist le lt =
         absurd (true≢false (sym (In_has c l (subst (λ x. In x c) it (In_get_or c m d there))) ∙ not-true (has c l) none))
 
 -- the unit that is given was not seen
-pub given_fresh : (p : PlainData) → IsPlain p → (k : ℕ) (l : Literal) → position (λ j. not (has p.written j)) (drop p.given p.opening) ≡ Some k → l ≡ get_or p.opening (p.given + k) l
-    → has (take p.given p.opening ++ p.written) l ≡ false
+pub given_fresh : (p : PlainData) → IsPlain p → (k : ℕ) (l : Literal) → position (λ j. not (has p.written j)) (drop p.passed p.opening) ≡ Some k → l ≡ get_or p.opening (p.passed + k) l
+    → has (take p.passed p.opening ++ p.written) l ≡ false
 given_fresh p h k l some is =
-    let lt = in_range p.given k p.opening p.written l some is in
-    let t = position-Some (λ j. not (has p.written j)) (drop p.given p.opening) k l some in
-    let here : get_or (drop p.given p.opening) k l ≡ l = get_or-drop p.given p.opening k l ∙ sym is in
+    let lt = in_range p.passed k p.opening p.written l some is in
+    let t = position-Some (λ j. not (has p.written j)) (drop p.passed p.opening) k l some in
+    let here : get_or (drop p.passed p.opening) k l ≡ l = get_or-drop p.passed p.opening k l ∙ sym is in
     let apart : has p.written l ≡ false = not-true (has p.written l) (subst (λ x. not (has p.written x) ≡ true) here t.1) in
-    let before : has (take p.given p.opening) l ≡ false = ap (has (take p.given p.opening)) is ∙ before_place p.opening p.given (p.given + k) l h.distinct (omega arith) lt in
-    list_any-append (same l) (take p.given p.opening) p.written ∙ (λ i. before i || apart i)
+    let before : has (take p.passed p.opening) l ≡ false = ap (has (take p.passed p.opening)) is ∙ before_place p.opening p.passed (p.passed + k) l h.distinct (omega arith) lt in
+    list_any-append (same l) (take p.passed p.opening) p.written ∙ (λ i. before i || apart i)
+
+-- the next unit is taken
+pub took_unit : (p : PlainData) → IsPlain p → (k r : ℕ) (l : Literal) → position (λ j. not (has p.written j)) (drop p.passed p.opening) ≡ Some k → l ≡ get_or p.opening (p.passed + k) l
+    → TookUnit (state_of p) (state_of (record p { passed = p.passed + k + 1; given = p.given ++ l ∷ []; given_room = r })) l
+took_unit p h k r l some is = record {
+  fresh = given_fresh p h k l some is;
+  sees = one_more p.passed k p.opening p.written l some is;
+  fewer = (let lt = in_range p.passed k p.opening p.written l some is in omega arith);
+  state = refl;
+}
+
+-- it is one of the opening
+pub took_listed : (p : PlainData) (k : ℕ) (l : Literal) → position (λ j. not (has p.written j)) (drop p.passed p.opening) ≡ Some k → l ≡ get_or p.opening (p.passed + k) l → has p.opening l ≡ true
+took_listed p k l some is =
+    In_has p.opening l (subst (In l) (take-append-drop (p.passed + k + 1) p.opening) (In_append_left (take (p.passed + k + 1) p.opening) (drop (p.passed + k + 1) p.opening) l (given_in p.passed k p.opening p.written l some is)))
+
+-- those that were given are among the first of the opening
+front_grows : (n m : ℕ) (opening : List Literal) (l : Literal) → has (take n opening) l ≡ true → has (take (n + m) opening) l ≡ true
+front_grows n m opening l h =
+    ap (λ ls. has ls l) (take-add n m opening) ∙ list_any-append (same l) (take n opening) (take m (drop n opening)) ∙ or_left _ _ h
+
+pub took_front : (p : PlainData) → IsPlain p → (k : ℕ) (l : Literal) → position (λ j. not (has p.written j)) (drop p.passed p.opening) ≡ Some k → l ≡ get_or p.opening (p.passed + k) l
+    → All (λ j. has (take (p.passed + k + 1) p.opening) j ≡ true) (p.given ++ l ∷ [])
+took_front p h k l some is =
+    All-append (λ j. has (take (p.passed + k + 1) p.opening) j ≡ true) p.given (l ∷ [])
+    (λ i d lt. subst (λ n. has (take n p.opening) (get_or p.given i d) ≡ true) (omega arith) (front_grows p.passed (k + 1) p.opening (get_or p.given i d) (h.given i d lt)))
+    (one_All (λ j. has (take (p.passed + k + 1) p.opening) j ≡ true) l (In_has (take (p.passed + k + 1) p.opening) l (given_in p.passed k p.opening p.written l some is)))
+
+pub took_none : (p : PlainData) → position (λ j. not (has p.written j)) (drop p.passed p.opening) ≡ None → TookNone (state_of p) (state_of p)
+took_none p none = record { all = none_left p.passed p.opening p.written none; state = refl }

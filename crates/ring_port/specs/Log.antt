@@ -49,7 +49,7 @@ pub record HasLines (o : Origin) (s : PortState) (out : LineState) : Type 0 wher
   pub flushed : out.flushed ≡ o.output.flushed
 
 -- the port stands over this origin: the formula has no empty clause, each line of the one journal is valid where it stands,
--- all that the ring holds and has seen is alive in the log, and the output has the lines
+-- all that the ring holds, that waits for its deletion or that was seen is alive in the log, and the output has the lines
 pub record StandsOver (o : Origin) (s : PortState) : Type 0 where
   pub opens : IsOpening o.formula (opening_of o s)
   pub given : list_any is_empty o.formula ≡ false
@@ -58,6 +58,7 @@ pub record StandsOver (o : Origin) (s : PortState) : Type 0 where
   pub on : All (All (IsOn s.vars)) (added s.mine)
   pub ended : s.ended ≡ ended o.formula (journal_of o s)
   pub held : All (λ h. (book o.formula (journal_of o s)).clause h.number ≡ Some h.lits) s.held
+  pub waiting : All (λ h. (book o.formula (journal_of o s)).clause h.number ≡ Some h.lits) s.waiting
   pub seen : All (λ l. is_told o.formula (journal_of o s) l ≡ true) s.seen
   pub output : IsSomeAnd s.output (HasLines o s)
 

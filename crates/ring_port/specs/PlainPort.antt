@@ -3,7 +3,7 @@ use Rattle.std.specs.Prelude.{◌≡◌, ℕ, ◌+◌, ◌-◌, ◌<◌, ◌≤�
 use Rattle.std.specs.List.{slice_index_or}
 use Rattle.std.specs.Option.{option_map}
 use Rattle.sat_words.specs.Literal.{Literal}
-use Rattle.sat_words.specs.Clause.{distinct_lits}
+use Rattle.sat_words.specs.Clause.{has, distinct_lits}
 use Rattle.sat_words.specs.declared.shared.Cref.{Cref}
 use Rattle.sat_words.specs.declared.shared.Stop.{Stop}
 use Rattle.sat_words.specs.declared.shared.TheConstants.{STOP_SAT, STOP_MEMORY}
@@ -19,25 +19,30 @@ use Rattle.ring_port.specs.PortState.{Holding, PortState, IsKept, IsOn}
 use Rattle.ring_port.specs.OwnLog.{LogData}
 
 -- the clauses held; the addresses of the start clauses, which are held first; the units of the opening, and how many of
--- them were given; the units written; the log; the clause learned last; the stop
+-- them were given, or written before it came to them; the units given, and for how many more there is room; the units
+-- written; the log; the clause learned last; the stop, and how often none was found
 pub record PlainData : Type 0 where
   pub vars : ℕ
   pub held : List Holding
   pub start : List Cref
   pub opening : List Literal
-  pub given : ℕ
+  pub passed : ℕ
+  pub given : List Literal
+  pub given_room : ℕ
   pub written : List Literal
   pub log : LogData
   pub last : Option Cref
   pub stop : Option Stop
+  pub looks : ℕ
 
 -- the port of ring 0, of 1 ring
 abbrev pub state_of : PlainData → PortState
 state_of p = record {
   held = p.held;
   waiting = [];
-  seen = take p.given p.opening ++ p.written;
-  coming = length p.opening - p.given;
+  seen = take p.passed p.opening ++ p.written;
+  given = p.given;
+  coming = length p.opening - p.passed;
   start = take (length p.start) p.held;
   opening = p.opening;
   mine = p.log.mine;
@@ -50,9 +55,11 @@ state_of p = record {
   rings = 1;
   last = option_map (λ c. c.address) p.last;
   stop = p.stop;
+  looks = p.looks;
   refused = p.log.refused;
   ended = p.log.ended;
   output = Some p.log.output;
+  home = [];
 }
 
 -- each clause stands at the address of its place
@@ -73,7 +80,9 @@ pub record IsPlain (p : PlainData) : Type 0 where
   pub start : map (λ c. c.address) p.start ≡ map (λ h. h.address) (take (length p.start) p.held)
   pub opening : All (IsOn p.vars) p.opening
   pub distinct : distinct_lits p.opening ≡ true
-  pub given : p.given ≤ length p.opening
+  pub passed : p.passed ≤ length p.opening
+  pub given : All (λ l. has (take p.passed p.opening) l ≡ true) p.given
+  pub given_room : length p.opening ≤ p.passed + p.given_room
   pub written : All (IsOn p.vars) p.written
   pub stop : IfSome p.stop IsOwnStop
 
@@ -94,6 +103,7 @@ begun_with vars starts units output = record {
   held = placed_from 0 starts;
   waiting = [];
   seen = [];
+  given = [];
   coming = length units;
   start = placed_from 0 starts;
   opening = units;
@@ -107,9 +117,11 @@ begun_with vars starts units output = record {
   rings = 1;
   last = None;
   stop = None;
+  looks = 0;
   refused = None;
   ended = false;
   output = Some output;
+  home = [];
 }
 
 -- the output has the lines of this journal

@@ -15,7 +15,7 @@ use Rattle.ring_port.specs.declared.stops.PortStop.TheVariants.{Ended, Broken, P
 use Rattle.ring_port.specs.declared.stops.Set.{Set}
 use Rattle.ring_port.specs.declared.stops.Set.TheVariants.{Won, Lost}
 use Rattle.drat_text.specs.LineState.{LineState}
-use Rattle.ring_port.specs.PortState.{Holding, PortState, IsOn, held_at, lits_at}
+use Rattle.ring_port.specs.PortState.{Holding, PortState, IsOn, held_at, lits_at, one_more}
 
 -- What the calls ask for
 
@@ -82,7 +82,7 @@ entry_of s number lits kind = Add (record { ring = s.ring; number = number; lits
 -- no clause is held at the address, or waits there
 pub record IsFreeAddress (s : PortState) (a : ℕ) : Type 0 where
   pub not_held : held_at s a ≡ None
-  pub not_waiting : list_any (λ b. b == a) s.waiting ≡ false
+  pub not_waiting : list_any (λ h. h.address == a) s.waiting ≡ false
 
 -- the units are those seen before, and this one
 abbrev pub Sees : List Literal → List Literal → Literal → Type 0
@@ -167,11 +167,12 @@ EmptyWritten old new (Err stop) = Refused old new stop
 
 -- Units and stops
 
--- the unit is seen now, and one fewer may come
+-- the unit was not seen before and is now, and one fewer may come
 pub record TookUnit (old new : PortState) (l : Literal) : Type 0 where
+  pub fresh : has old.seen l ≡ false
   pub sees : Sees old.seen new.seen l
   pub fewer : new.coming < old.coming
-  pub state : new ≡ record old { seen = new.seen; coming = new.coming }
+  pub state : new ≡ record old { seen = new.seen; given = old.given ++ l ∷ []; coming = new.coming }
 
 -- none is left: every unit of the opening is seen
 pub record TookNone (old new : PortState) : Type 0 where
@@ -187,9 +188,9 @@ Took old new (Some l) = TookUnit old new l
 abbrev pub Stands : PortState → Stop → Type 0
 Stands old x = MatchOption old.stop (x.ring ≢ old.ring) (λ y. x ≡ y)
 
--- what `stopped` saw
+-- what `stopped` saw; a look that found none is counted
 abbrev pub Looked : PortState → PortState → Option Stop → Type 0
-Looked old new None = (old.stop ≡ None) × (new ≡ old)
+Looked old new None = (old.stop ≡ None) × (new ≡ record old { looks = one_more old.looks })
 Looked old new (Some x) = Stands old x × (new ≡ record old { stop = Some x })
 
 -- what `stop` did: the ring's stop stands where none stood; else what stands is told

@@ -1,9 +1,10 @@
 -- What is known of a ring's port: what the ring holds and has seen, what it wrote, and how its search began.
-use Rattle.std.specs.Prelude.{◌≡◌, ℕ, ◌<◌, ◌≤◌, ◌==◌, Bool, List, [], ◌∷◌, ◌++◌, map, length, find, All, Contains, Option, Some, IfSome}
+use Rattle.std.specs.Prelude.{◌≡◌, ℕ, ◌+◌, ◌-◌, ◌^◌, ◌<◌, ◌≤◌, ◌==◌, min, Bool, true, List, [], ◌∷◌, ◌++◌, map, length, find, All, Contains, Option, Some, None, IfSome, IsSome}
 use Rattle.std.specs.List.{count_by}
 use Rattle.std.specs.Option.{option_map, option_map_or}
 use Rattle.sat_words.specs.Literal.{Literal}
 pub use Rattle.sat_words.specs.Literal.{IsOn}
+use Rattle.sat_words.specs.Clause.{has}
 use Rattle.sat_words.specs.declared.shared.Head.{Head}
 use Rattle.sat_words.specs.declared.shared.Stop.{Stop}
 use Rattle.rup_model.specs.declared.journal.Entry.{Entry}
@@ -28,10 +29,12 @@ pub record Offer : Type 0 where
 pub record PortState : Type 0 where
   -- the clauses held, each as often as it is held
   pub held : List Holding
-  -- the addresses of clauses that are to be deleted
-  pub waiting : List ℕ
+  -- the clauses that are held no longer, and are to be deleted
+  pub waiting : List Holding
   -- the units that `next_unit` gave or the port wrote
   pub seen : List Literal
+  -- those that `next_unit` gave, in order
+  pub given : List Literal
   -- how many units `next_unit` may yet give
   pub coming : ℕ
   -- the start clauses at their addresses, with glue 0
@@ -58,12 +61,16 @@ pub record PortState : Type 0 where
   pub last : Option ℕ
   -- the stop that was seen or set
   pub stop : Option Stop
+  -- how often the ring has looked for a stop and found none
+  pub looks : ℕ
   -- the last answer that refused, but for want of memory
   pub refused : Option PortStop
   -- the empty clause stands in the log
   pub ended : Bool
   -- its line output, where the port has one of its own
   pub output : Option LineState
+  -- the name of what the port stands on, where rings share something
+  pub home : List ℕ
 
 -- Looking up
 
@@ -82,6 +89,10 @@ lits_at s a = lits_in (held_at s a)
 -- the literals of the clause at an address, where one is held there
 abbrev pub clause_at : PortState → ℕ → Option (List Literal)
 clause_at s a = option_map (λ h. h.lits) (held_at s a)
+
+-- one more, where it is not the last count of 64 bits
+abbrev pub one_more : ℕ → ℕ
+one_more n = min (n + 1) (2 ^ 64 - 1)
 
 -- how often the address is held
 abbrev pub times_held : PortState → ℕ → ℕ
@@ -108,11 +119,16 @@ pub record IsStop (rings : ℕ) (x : Stop) : Type 0 where
   pub high : x.kind ≤ STOP_MEMORY
   pub of_ring : x.ring < rings
 
--- each clause held is long and on the variables, and an address has one clause, however often it is held; start clauses
--- and units are on the variables; the stop is one of the rings'
+-- each clause held or waiting is long and on the variables; an address has one clause, however often it is held, and none
+-- is both held and waiting; what was taken is held, and what was given is seen; start clauses and units are on the
+-- variables; the stop is one of the rings'
 pub record IsPort (s : PortState) : Type 0 where
   pub held : All (IsKept s.vars) s.held
   pub one : (h k : Holding) → Contains s.held h → Contains s.held k → h.address ≡ k.address → h ≡ k
+  pub waiting : All (IsKept s.vars) s.waiting
+  pub apart : All (λ h. held_at s h.address ≡ None) s.waiting
+  pub taken : All (λ a. IsSome (held_at s a)) s.taken
+  pub given : All (λ l. has s.seen l ≡ true) s.given
   pub start : All (IsKept s.vars) s.start
   pub seen : All (IsOn s.vars) s.seen
   pub opening : All (IsOn s.vars) s.opening

@@ -28,14 +28,17 @@ pub struct PlainPort<L: LineOut> {
     store: Store,
     start: Vec<Cref>,
     opening: Vec<Lit>,
-    given: usize,
+    passed: usize,
+    given: Vec<Lit>,
     written: Vec<Lit>,
     log: OwnLog<L>,
     last: Option<Cref>,
     stop: Option<Stop>,
+    looks: u64,
 }
 
 impl<L: LineOut> Model for PlainPort<L> {
+    ghost use Rattle.std.specs.Prelude.{◌-◌, vec_len, vec_capacity};
     ghost use Rattle.ring_port.specs.PortState.{PortState};
     ghost use Rattle.ring_port.specs.PlainPort.{state_of, IsPlain};
 
@@ -46,11 +49,14 @@ impl<L: LineOut> Model for PlainPort<L> {
       held = p.store.held;
       start = p.start.items;
       opening = p.opening.items;
-      given = p.given;
+      passed = p.passed;
+      given = p.given.items;
+      given_room = vec_capacity p.given - vec_len p.given;
       written = p.written.items;
       log = p.log;
       last = p.last;
       stop = p.stop;
+      looks = p.looks;
     }) };
 
     ghost invariant = { λ p. IsPlain (record {
@@ -58,11 +64,14 @@ impl<L: LineOut> Model for PlainPort<L> {
       held = p.store.held;
       start = p.start.items;
       opening = p.opening.items;
-      given = p.given;
+      passed = p.passed;
+      given = p.given.items;
+      given_room = vec_capacity p.given - vec_len p.given;
       written = p.written.items;
       log = p.log;
       last = p.last;
       stop = p.stop;
+      looks = p.looks;
     }) };
 }
 
@@ -145,19 +154,27 @@ impl<L: LineOut> Port for PlainPort<L> {
     }
 
     fn next_unit(&mut self) -> Option<Lit>
-        ensures fresh { IfSome result (λ lit. has self.old.seen lit ≡ false) }
+        ensures listed { IfSome result (λ lit. has self.old.opening lit ≡ true) }
         ensures took { Took self.old self.new result }
         ensures log { KeepsLog self.old self.new }
         ensures port { IsPort self.new }
     {
-        let skipped = first_new_from(&self.opening, self.given, &self.written)?;
-        let place = self.given + skipped;
-        self.given = place + 1;
-        Some(self.opening[place])
+        let skipped = first_new_from(&self.opening, self.passed, &self.written)?;
+        let place = self.passed + skipped;
+        let unit = self.opening[place];
+        self.passed = place + 1;
+        self.given.push_reserved(unit);
+        Some(unit)
     }
 
     fn stopped(&mut self) -> Option<Stop> {
-        self.stop
+        match self.stop {
+            Some(stop) => Some(stop),
+            None => {
+                self.looks = self.looks.saturating_add(1);
+                None
+            }
+        }
     }
 
     fn stop(&mut self, kind: u8) -> Set {
@@ -218,17 +235,22 @@ impl<L: LineOut> PlainPort<L> {
         let Ok(opening) = Vec::from_slice(alloc, units) else {
             return Err(AllocFailed { value: output });
         };
+        let Ok(given) = Vec::with_capacity(alloc, units.len()) else {
+            return Err(AllocFailed { value: output });
+        };
         Ok(PlainPort {
             alloc,
             vars,
             store,
             start,
             opening,
-            given: 0,
+            passed: 0,
+            given,
             written: Vec::new(alloc),
             log: OwnLog::new(alloc, output),
             last: None,
             stop: None,
+            looks: 0,
         })
     }
 

@@ -235,10 +235,11 @@ impl Trail {
         put(&mut self.steps, &mut self.values, &mut self.places, step);
     }
 
-    /// Takes the literals of all levels above this one back. What is left of them is the first of the old ones.
+    /// Takes the literals of all levels above this one back. What is left of them is the first of the old ones. A level
+    /// that is not below the present one changes nothing.
     pub fn back_to(&mut self, level: u32)
-        requires { level ≤ self.old.level }
-        ensures back { self.new ≡ cut_back self.old level }
+        ensures back { level ≤ self.old.level → self.new ≡ cut_back self.old level }
+        ensures same { self.old.level ≤ level → self.new ≡ self.old }
         ensures prefix { self.new.steps ≡ take (length self.new.steps) self.old.steps }
         ensures shorter { length self.new.steps ≤ length self.old.steps }
         ensures trail { IsTrail self.new }

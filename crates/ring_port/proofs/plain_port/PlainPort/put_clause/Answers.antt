@@ -1,4 +1,5 @@
-use Rattle.std.proofs.Common.{◌≡◌, length, sym, ap, subst, ◌∙◌, true, ◌∷◌, [], ◌++◌, Some}
+use Rattle.std.proofs.Common.{◌≡◌, length, sym, ap, subst, ◌∙◌, true, ◌∷◌, [], ◌++◌, Some, ◌-◌, vec_len}
+use Rattle.std.specs.Vec.{vec_capacity}
 use Rattle.sat_words.specs.declared.line.Line.TheVariants.{Add as AddLine}
 use Rattle.rup_model.specs.declared.journal.Kind.TheVariants.{Learn}
 use Rattle.rup_model.specs.Rup.{rup}
@@ -14,7 +15,7 @@ use Rattle.ring_port.proofs.plain_port.PlainPort.put_clause.Goals as goal
 pub invariant_of-self-2 : goal.invariant_of-self-2
 invariant_of-self-2 g c =
     let i = c.self.inside in
-    let p : PlainData = record { vars = i.vars; held = i.store.held; start = i.start.items; opening = i.opening.items; given = i.given; written = i.written.items; log = i.log; last = i.last; stop = i.stop } in
+    let p : PlainData = record { vars = i.vars; held = i.store.held; start = i.start.items; opening = i.opening.items; passed = i.passed; given = i.given.items; given_room = vec_capacity i.given - vec_len i.given; written = i.written.items; log = i.log; last = i.last; stop = i.stop; looks = i.looks } in
     let x : Holding = holding_of c.push-c.result c.in_ok-number.number c.args.glue c.args.lits.now in
     let address : c.push-c.result.address ≡ length i.store.held = c.push-c.ensures.address ∙ ap (λ hs. length hs) c.make_room.ensures.held in
     let pushed : c.push-c.new.self.held ≡ i.store.held ++ x ∷ [] =
@@ -32,7 +33,7 @@ returns-clause-port g c = plain_port _ (invariant_of-self-2 g c)
 pub returns-clause-put : goal.returns-clause-put
 returns-clause-put g c =
     let i = c.self.inside in
-    let p : PlainData = record { vars = i.vars; held = i.store.held; start = i.start.items; opening = i.opening.items; given = i.given; written = i.written.items; log = i.log; last = i.last; stop = i.stop } in
+    let p : PlainData = record { vars = i.vars; held = i.store.held; start = i.start.items; opening = i.opening.items; passed = i.passed; given = i.given.items; given_room = vec_capacity i.given - vec_len i.given; written = i.written.items; log = i.log; last = i.last; stop = i.stop; looks = i.looks } in
     let x : Holding = holding_of c.push-c.result c.in_ok-number.number c.args.glue c.args.lits.now in
     let address : c.push-c.result.address ≡ length i.store.held = c.push-c.ensures.address ∙ ap (λ hs. length hs) c.make_room.ensures.held in
     let pushed : c.push-c.new.self.held ≡ i.store.held ++ x ∷ [] =
@@ -49,7 +50,7 @@ returns-clause-put g c =
 pub returns-clause-kept : goal.returns-clause-kept
 returns-clause-kept g c =
     let i = c.self.inside in
-    let p : PlainData = record { vars = i.vars; held = i.store.held; start = i.start.items; opening = i.opening.items; given = i.given; written = i.written.items; log = i.log; last = i.last; stop = i.stop } in
+    let p : PlainData = record { vars = i.vars; held = i.store.held; start = i.start.items; opening = i.opening.items; passed = i.passed; given = i.given.items; given_room = vec_capacity i.given - vec_len i.given; written = i.written.items; log = i.log; last = i.last; stop = i.stop; looks = i.looks } in
     let x : Holding = holding_of c.push-c.result c.in_ok-number.number c.args.glue c.args.lits.now in
     let address : c.push-c.result.address ≡ length i.store.held = c.push-c.ensures.address ∙ ap (λ hs. length hs) c.make_room.ensures.held in
     let pushed : c.push-c.new.self.held ≡ i.store.held ++ x ∷ [] =
@@ -62,7 +63,7 @@ returns-clause-kept g c =
 pub returns-clause-log : goal.returns-clause-log
 returns-clause-log g c =
     let i = c.self.inside in
-    let p : PlainData = record { vars = i.vars; held = i.store.held; start = i.start.items; opening = i.opening.items; given = i.given; written = i.written.items; log = i.log; last = i.last; stop = i.stop } in
+    let p : PlainData = record { vars = i.vars; held = i.store.held; start = i.start.items; opening = i.opening.items; passed = i.passed; given = i.given.items; given_room = vec_capacity i.given - vec_len i.given; written = i.written.items; log = i.log; last = i.last; stop = i.stop; looks = i.looks } in
     let x : Holding = holding_of c.push-c.result c.in_ok-number.number c.args.glue c.args.lits.now in
     let address : c.push-c.result.address ≡ length i.store.held = c.push-c.ensures.address ∙ ap (λ hs. length hs) c.make_room.ensures.held in
     let pushed : c.push-c.new.self.held ≡ i.store.held ++ x ∷ [] =
@@ -82,21 +83,21 @@ returns-clause-log g c =
 pub returns-in_err-number-clause-port : goal.returns-in_err-number-clause-port
 returns-in_err-number-clause-port g c =
     let i = c.self.inside in
-    let p : PlainData = record { vars = i.vars; held = i.store.held; start = i.start.items; opening = i.opening.items; given = i.given; written = i.written.items; log = i.log; last = i.last; stop = i.stop } in
+    let p : PlainData = record { vars = i.vars; held = i.store.held; start = i.start.items; opening = i.opening.items; passed = i.passed; given = i.given.items; given_room = vec_capacity i.given - vec_len i.given; written = i.written.items; log = i.log; last = i.last; stop = i.stop; looks = i.looks } in
     subst (λ hs. IsPort (state_of (record p { held = hs; log = c.add.new.self }))) (sym c.make_room.ensures.held)
     (plain_port _ (plain_log p c.self.invariant c.add.new.self i.last))
 
 pub returns-in_err-number-clause-kept : goal.returns-in_err-number-clause-kept
 returns-in_err-number-clause-kept g c =
     let i = c.self.inside in
-    let p : PlainData = record { vars = i.vars; held = i.store.held; start = i.start.items; opening = i.opening.items; given = i.given; written = i.written.items; log = i.log; last = i.last; stop = i.stop } in
+    let p : PlainData = record { vars = i.vars; held = i.store.held; start = i.start.items; opening = i.opening.items; passed = i.passed; given = i.given.items; given_room = vec_capacity i.given - vec_len i.given; written = i.written.items; log = i.log; last = i.last; stop = i.stop; looks = i.looks } in
     subst (λ s. KeepsHeld s (state_of (record p { held = c.make_room.new.self.held; log = c.add.new.self }))) c.self.view_is
     (λ a some. same_lookup (state_of p) (state_of (record p { held = c.make_room.new.self.held; log = c.add.new.self })) a c.make_room.ensures.held)
 
 pub returns-in_err-number-clause-log : goal.returns-in_err-number-clause-log
 returns-in_err-number-clause-log g c =
     let i = c.self.inside in
-    let p : PlainData = record { vars = i.vars; held = i.store.held; start = i.start.items; opening = i.opening.items; given = i.given; written = i.written.items; log = i.log; last = i.last; stop = i.stop } in
+    let p : PlainData = record { vars = i.vars; held = i.store.held; start = i.start.items; opening = i.opening.items; passed = i.passed; given = i.given.items; given_room = vec_capacity i.given - vec_len i.given; written = i.written.items; log = i.log; last = i.last; stop = i.stop; looks = i.looks } in
     let usable : is_usable i.log.refused ≡ true = subst (λ s. is_usable s.refused ≡ true) (sym c.self.view_is) c.requires.usable in
     let clause = subst (λ s. IsClause s.vars c.args.lits.now) (sym c.self.view_is) c.requires.clause in
     let follows : rup (known (state_of p)) c.args.lits.now ≡ true = subst (λ s. rup (known s) c.args.lits.now ≡ true) (sym c.self.view_is) c.requires.rup in

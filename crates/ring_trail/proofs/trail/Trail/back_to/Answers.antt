@@ -45,7 +45,7 @@ same_trail : (v l d v' l' d' : ℕ) (s s' : List Step) → v ≡ v' → l ≡ l'
 same_trail v l d v' l' d' s s' a b e f = λ i. record { vars = a i; level = b i; steps = e i; done = f i }
 
 pub returns-then-level-len-clause-back : goal.returns-then-level-len-clause-back
-returns-then-level-len-clause-back c =
+returns-then-level-len-clause-back c le =
     let i = c.self.inside in
     let q : c.undo.new.steps.items ≡ up_to c.args.level i.steps.items = c.undo.ensures.steps ∙ sym (up_to-Parts c.args.level i.steps.items c.index-keep.result.now (parts_at c)) in
     let m = ap (λ (xs : List Step). length xs) q in
@@ -53,6 +53,12 @@ returns-then-level-len-clause-back c =
     c.self.view_is
     (same_trail i.vars (length c.truncate.new.self.items) c.min-self-inside.result i.vars c.args.level (min i.done (length (up_to c.args.level i.steps.items))) c.undo.new.steps.items (up_to c.args.level i.steps.items)
     refl (starts_len c) q (omega (arith, c.min-self-inside.ensures, m, kept_len c)))
+
+pub returns-then-level-len-clause-same : goal.returns-then-level-len-clause-same
+returns-then-level-len-clause-same c le =
+    let few = in_starts c in
+    let level = ap (λ (t : TrailData). t.level) c.self.view_is in
+    absurd (omega arith)
 
 pub returns-then-level-len-clause-trail : goal.returns-then-level-len-clause-trail
 returns-then-level-len-clause-trail c =
@@ -65,17 +71,17 @@ all_kept t k e h all =
     let m : t.done ≡ min t.done (length (up_to k t.steps)) = omega (arith, ap (λ (xs : List Step). length xs) q) in
     λ i. record { vars = t.vars; level = e i; steps = sym q i; done = m i }
 
-all_levels : (c : goal.Else-level-len) → c.args.level ≡ length c.self.inside.starts.items
-all_levels c = omega (arith, c.if-level-len.false, c.len.ensures, c.self.inside.starts.ok, c.requires, ap (λ (t : TrailData). t.level) c.self.view_is)
+all_levels : (c : goal.Else-level-len) → c.args.level ≤ c.args.self.now.level → c.args.level ≡ length c.self.inside.starts.items
+all_levels c le = omega (arith, c.if-level-len.false, c.len.ensures, c.self.inside.starts.ok, le, ap (λ (t : TrailData). t.level) c.self.view_is)
 
 pub returns-else-level-len-clause-back : goal.returns-else-level-len-clause-back
-returns-else-level-len-clause-back c =
+returns-else-level-len-clause-back c le =
     let i = c.self.inside in
     let h = c.self.invariant in
     subst (λ (t : TrailData). t ≡ cut_back t c.args.level)
     c.self.view_is
-    (all_kept (record { vars = i.vars; level = length i.starts.items; steps = i.steps.items; done = i.done }) c.args.level (sym (all_levels c)) h.done
-    (subst (λ (n : ℕ). UpTo i.steps.items n) (sym (all_levels c)) h.levels))
+    (all_kept (record { vars = i.vars; level = length i.starts.items; steps = i.steps.items; done = i.done }) c.args.level (sym (all_levels c le)) h.done
+    (subst (λ (n : ℕ). UpTo i.steps.items n) (sym (all_levels c le)) h.levels))
 
 pub returns-else-level-len-clause-trail : goal.returns-else-level-len-clause-trail
 returns-else-level-len-clause-trail c = trail_at _ _ c.self.invariant c.self.view_is

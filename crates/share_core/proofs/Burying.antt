@@ -19,6 +19,7 @@ use Rattle.share_core.proofs.Counting.{some_same, none_some, not_made, idle_open
 use Rattle.share_core.proofs.Copies.{Keeps, lift_without, below_two}
 use Rattle.share_core.proofs.Slots.{puts_same, slots_kept}
 use Rattle.share_core.proofs.Own.{owned_more}
+use Rattle.share_core.proofs.Whole.{whole_buried}
 use Rattle.share_core.proofs.Frames.{journal_more, fresh_more, stop_more, cells_kept, part_moves, same_here, same_else, units_written}
 
 pub buries : (c : State) (r a : ℕ) → Sound c → IsEnabled c (Bury r a) → Sound (after c (Bury r a))
@@ -78,10 +79,12 @@ buries c r a s e =
           (λ i y. at_put c.cell a none (λ (q : Option Cell). q ≡ Some y → (z : Cell) × (c.cell i ≡ Some z) × (z.number ≡ y.number) × (z.lits ≡ y.lits) × ((book_after b (Del r n)).clause y.number ≡ b.clause y.number)) i
           (λ h k. absurd (none_some y k))
           (λ ne k. (y, k, refl, refl, put_else b.clause n None y.number (λ q. ne (s.cells.own i a y x k is (q ∙ n_is)))))));
+      whole = whole_buried c.opening J c.cell r a n x s.whole is n_is;
       slots = slots_kept c.opening c d s.slots refl (puts_same c r p refl);
       log = journal_more c.opening J (Del r n) s.log (log_dels F J s.log.log r n x.lits alive_n (long_two x.lits (s.cells.shape a x is)) (not_added F J w.going)) w.room lt;
       entries = owned_more c.opening c r (Del r n) p s.entries refl refl;
       freshness = fresh_more (start_clauses (opening_of c.opening)) J (Del r n) s.freshness tt tt;
       units = units_written c r p (Del r n) s (s.units.seen r);
+      turns = s.turns;
       stops = stop_more F J R c.stop (Del r n) s.stops;
     }

@@ -17,7 +17,8 @@ use Rattle.share_core.specs.declared.event.Event.{Event}
 use Rattle.share_core.specs.declared.event.Event.TheVariants.{Grant, TakeTurn, GiveTurn, AddClause, AddUnit, AddEmpty, Reduce, OpenCell, Read, Share, DropCount, Bury, Put, Get, Publish, See, Stop}
 use Rattle.share_core.specs.declared.stored.ClauseAt.{ClauseAt}
 use Rattle.share_core.specs.State.{times_at, State}
-use Rattle.share_core.specs.Enabled.{Writes, MayAddClause, MayAddUnit, IsEnabled}
+use Rattle.share_core.specs.Learning.{MayAddClause, MayAddUnit}
+use Rattle.share_core.specs.Enabled.{Writes, IsEnabled}
 use Rattle.share_core.specs.Machine.{has_at}
 use Rattle.share_core.specs.Guards.{is_long, writes, may_add, may_tell, is_enabled}
 
@@ -97,7 +98,7 @@ adding c r Learn lits = itself _
 adding c r Derive lits = itself _
 adding c r UnitLine lits = never ⊥ (λ h. h)
 
-telling : (c : State) (r : ℕ) (kind : Kind) (lits : List Literal) → Tests (may_tell c r kind lits) (MayAddUnit c.opening c.journal r kind lits)
+telling : (c : State) (r : ℕ) (kind : Kind) (lits : List Literal) → Tests (may_tell c r kind lits) (MayAddUnit c.opening c.journal (c.part r) r kind lits)
 telling c r Ruler lits = never ⊥ (λ h. h)
 telling c r Learn lits = itself _
 telling c r Derive lits = never ⊥ (λ h. h)

@@ -59,11 +59,13 @@ grants c r s e =
       starts = starts_kept c.opening c d s.opens s.counts s.starts (λ i. at_put c.granted r true (λ (q : Bool). q ≡ false → c.granted i ≡ false) i (λ h k. absurd (true≢false k)) (λ ne k. k)) (λ i y k z _. (y, k, z, refl, refl));
       copies = copies_put c r p s (All-append (IsCopy c.cell) (c.part r).held ss (s.copies.held r e.0) (all_map (IsOpenCopy c.cell) (IsCopy c.cell) ss (λ h i k. (k.0, k.1, k.3, k.4)) (s.starts r e.0 e.1))) (s.copies.making r e.0) (s.copies.waiting r e.0);
       cells = s.cells;
+      whole = s.whole;
       slots = part_slots c d r p s refl refl refl;
       log = s.log;
       entries = owned_same c.opening c r p s.entries refl;
       freshness = s.freshness;
       units = units_part c r p s (s.units.seen r);
+      turns = s.turns;
       stops = s.stops;
     }
 
@@ -113,11 +115,13 @@ puts c r to k a s e =
       starts = s.starts;
       copies = copies_put c r p s (all_some (IsCopy c.cell) old (without_at a (c.part r).held) (all_without (IsCopy c.cell) a (c.part r).held (s.copies.held r e.0)) (λ nz. slot_copy c i s lt nz)) (s.copies.making r e.0) (s.copies.waiting r e.0);
       cells = s.cells;
+      whole = s.whole;
       slots = slots_put c.opening c d r to k a p s.slots e.1 e.3 refl refl refl;
       log = s.log;
       entries = owned_same c.opening c r p s.entries refl;
       freshness = s.freshness;
       units = units_part c r p s (s.units.seen r);
+      turns = s.turns;
       stops = s.stops;
     }
 
@@ -136,10 +140,12 @@ gets c r from k s e =
       starts = s.starts;
       copies = copies_put c r p s (all_some (IsCopy c.cell) old (c.part r).held (s.copies.held r e.0) (λ nz. slot_copy c i s lt nz)) (s.copies.making r e.0) (s.copies.waiting r e.0);
       cells = s.cells;
+      whole = s.whole;
       slots = slots_got c.opening c d i s.slots (puts_same c r p refl) refl;
       log = s.log;
       entries = owned_same c.opening c r p s.entries refl;
       freshness = s.freshness;
       units = units_part c r p s (s.units.seen r);
+      turns = s.turns;
       stops = s.stops;
     }

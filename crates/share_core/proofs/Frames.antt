@@ -21,19 +21,20 @@ use Rattle.share_core.specs.declared.event.Stop.{Stop}
 use Rattle.share_core.specs.declared.stored.ClauseAt.{ClauseAt}
 use Rattle.share_core.specs.declared.stored.Cell.{Cell}
 use Rattle.share_core.specs.State.{times_at, CoreOpening, Part, State, count_at, number_at, lits_at, maker_at, clause_at}
-use Rattle.share_core.specs.Enabled.{known, follows}
+use Rattle.share_core.specs.Learning.{known_clauses, follows}
 use Rattle.share_core.specs.Events.{noted}
 use Rattle.share_core.specs.Sound.{idle_at, Counts, IsCopy, CopiesSound, CellsSound, SlotsSound, JournalSound, FreshSound, UnitsSound, StopSound, Sound}
 use Rattle.share_core.proofs.ClauseLists.{all_in, all_last}
 use Rattle.share_core.proofs.Counting.{counts_moved, slots_some}
+use Rattle.share_core.proofs.Knowing.{known_plain}
 use Rattle.share_core.proofs.Copies.{Keeps, keeps_same, copies_all}
 use Rattle.share_core.proofs.Slots.{puts_same, slots_kept}
 
 -- What a ring knows is alive
 
-known_alive : (c : State) (r : ℕ) → Sound c → r < c.opening.rings → (d : List Literal) → In d (known (c.part r))
+known_alive : (c : State) (r : ℕ) → Sound c → r < c.opening.rings → (d : List Literal) → In d (known_clauses (c.part r))
     → (n : ℕ) × (e : List Literal) × ((book c.opening.formula c.journal).clause n ≡ Some e) × (same_set d e ≡ true)
-known_alive c r s lt d i = ⊎_elim
+known_alive c r s lt d k = ⊎_elim
     (λ (h : In d (map (λ (q : ClauseAt). q.lits) (c.part r).held)). (let t = map_In (λ (q : ClauseAt). q.lits) (c.part r).held d h in
     let x = all_in (IsCopy c.cell) (c.part r).held t.0 t.1 (s.copies.held r lt) in
     (x.0.number, d, s.cells.alive t.0.address x.0 x.1 ∙ ap (λ (q : List Literal). Some q) (x.3 ∙ t.2), same_self d)))
@@ -41,10 +42,10 @@ known_alive c r s lt d i = ⊎_elim
     let rest = s.units.seen r in
     let listed = s.units.told t.0 (ap (λ (q : List Literal). has q t.0) rest.1 ∙ In_has ((c.part r).seen ++ rest.0) t.0 (In_append_left (c.part r).seen rest.0 t.0 t.1)) in
     subst (λ (q : List Literal). (n : ℕ) × (e : List Literal) × ((book c.opening.formula c.journal).clause n ≡ Some e) × (same_set q e ≡ true)) t.2 (told_alive c.opening.formula c.journal t.0 s.log.log.fits listed)))
-    (In_append (map (λ (q : ClauseAt). q.lits) (c.part r).held) (map (λ (l : Literal). l ∷ []) (c.part r).seen) d i)
+    (In_append (map (λ (q : ClauseAt). q.lits) (c.part r).held) (map (λ (l : Literal). l ∷ []) (c.part r).seen) d (subst (In d) (known_plain (c.part r)) k))
 
 pub follows_alive : (c : State) (r : ℕ) (lits : List Literal) → Sound c → r < c.opening.rings → follows (c.part r) lits ≡ true → rup (alive c.opening.formula (lines c.opening.formula c.journal)) lits ≡ true
-follows_alive c r lits s lt f = rup_alive_sets (book c.opening.formula c.journal) (alive c.opening.formula (lines c.opening.formula c.journal)) (known (c.part r)) lits (journal_matches c.opening.formula c.journal s.log.log.fits) (known_alive c r s lt) f
+follows_alive c r lits s lt f = rup_alive_sets (book c.opening.formula c.journal) (alive c.opening.formula (lines c.opening.formula c.journal)) (known_clauses (c.part r)) lits (journal_matches c.opening.formula c.journal s.log.log.fits) (known_alive c r s lt) f
 
 -- One more entry
 

@@ -3,6 +3,8 @@ pub mod Counting
 pub mod Copies
 pub mod Slots
 pub mod Own
+pub mod Knowing
+pub mod Whole
 pub mod Frames
 pub mod Writing
 pub mod Burying

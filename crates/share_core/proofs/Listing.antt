@@ -59,6 +59,7 @@ publishes c r l s e =
       starts = s.starts;
       copies = copies_put c r p s (s.copies.held r e.0) (s.copies.making r e.0) (s.copies.waiting r e.0);
       cells = s.cells;
+      whole = s.whole;
       slots = part_slots c d r p s refl refl refl;
       log = s.log;
       entries = owned_same c.opening c r p s.entries refl;
@@ -70,6 +71,7 @@ publishes c r l s e =
             (λ _. (let h = s.units.seen r in let q = seen_all c.units (c.part r).seen h.0 h.1 e.3 in ([], ap (λ (xs : List Literal). xs ++ l ∷ []) (sym q) ∙ sym (append-nil ((c.part r).seen ++ l ∷ [])))))
             (λ _. (let h = s.units.seen i in (h.0 ++ l ∷ [], ap (λ (xs : List Literal). xs ++ l ∷ []) h.1 ∙ append_assoc (c.part i).seen h.0 (l ∷ []))));
       };
+      turns = s.turns;
       stops = s.stops;
     }
 
@@ -83,11 +85,13 @@ sees c r s e =
       starts = s.starts;
       copies = copies_put c r p s (s.copies.held r e.0) (s.copies.making r e.0) (s.copies.waiting r e.0);
       cells = s.cells;
+      whole = s.whole;
       slots = part_slots c d r p s refl refl refl;
       log = s.log;
       entries = owned_same c.opening c r p s.entries refl;
       freshness = s.freshness;
       units = units_part c r p s (let h = s.units.seen r in next_unit c.units (c.part r).seen h.0 h.1 e.1);
+      turns = s.turns;
       stops = s.stops;
     }
 
@@ -106,11 +110,13 @@ stops c r kind s e =
       starts = s.starts;
       copies = s.copies;
       cells = s.cells;
+      whole = s.whole;
       slots = s.slots;
       log = s.log;
       entries = s.entries;
       freshness = s.freshness;
       units = s.units;
+      turns = s.turns;
       stops = record {
         refuted = λ t is k. ⊎_elim (λ (q : c.stop ≡ Some t). s.stops.refuted t q k) (λ (q : new ≡ t). e.3 (ap (λ (z : StopWord). z.kind) q ∙ k)) (first_or c.stop new t is);
         kinds = λ t is. ⊎_elim (λ (q : c.stop ≡ Some t). s.stops.kinds t q) (λ (q : new ≡ t). subst (λ (z : StopWord). (1 ≤ z.kind) × (z.kind ≤ 5) × (z.ring < c.opening.rings)) q (e.1, e.2, e.0)) (first_or c.stop new t is);
@@ -119,17 +125,19 @@ stops c r kind s e =
 
 -- The turn
 
-pub turns : (c : State) (t : Option ℕ) → Sound c → Sound (record c { turn = t })
-turns c t s = record {
+pub turns : (c : State) (t : Option ℕ) → Sound c → ((r : ℕ) → t ≡ Some r → r < c.opening.rings) → Sound (record c { turn = t })
+turns c t s rings = record {
   opens = s.opens;
   counts = counts_same c.opening c (record c { turn = t }) s.counts refl refl refl refl;
   starts = s.starts;
   copies = s.copies;
   cells = s.cells;
+  whole = s.whole;
   slots = s.slots;
   log = s.log;
   entries = s.entries;
   freshness = s.freshness;
   units = s.units;
+  turns = rings;
   stops = s.stops;
 }

@@ -1,7 +1,6 @@
 -- An opening is sound, and so is what enabled events leave.
 use Rattle.std.proofs.Common.{◌≡◌, ◌≢◌, ℕ, ◌+◌, ◌*◌, ◌<◌, ◌≤◌, ◌==◌, nat_eq, Bool, true, false, ◌&&◌, ◌||◌, cond, List, [], ◌∷◌, ◌++◌, map, fold, All, Option, Some, None, refl, sym, ap, ◌∙◌, subst, inl, inr, ⊎_elim, arith, eq-eqb, ne_eqb, true≢false, append-nil, append_assoc, eqb-true}
-use Rattle.std.specs.List.{list_any, list_all, AllByRecursion, IsDistinct}
-use Rattle.std.specs.Option.{is_none}
+use Rattle.std.specs.List.{list_any, AllByRecursion, Contains, IsDistinct}
 use Rattle.std.proofs.lemmas.Bool.{and_parts}
 use Rattle.std.proofs.lemmas.List.Folds.{list_any-append}
 use mathlib.Core.Logic.{dite}
@@ -12,9 +11,11 @@ use Rattle.rup_model.specs.declared.journal.TheConstants.{RULER_RING}
 use Rattle.rup_model.specs.declared.journal.Entry.{Entry}
 use Rattle.rup_model.specs.declared.journal.Entry.TheVariants.{Add, Del, Reduce}
 use Rattle.rup_model.specs.Basics.{EachAfter, one_if}
-use Rattle.rup_model.specs.Journal.{reduction, ring_of, Book, book, additions, added, is_told, IsFresh, IsSpaced}
-use Rattle.rup_model.specs.Opening.{is_ruler, is_rulers, Start, IsLong, IsStart, start_clauses}
-use Rattle.rup_model.proofs.Lists.{In, In_map, has_In}
+use Rattle.rup_model.specs.Journal.{Book, book, lines, added, is_told, IsFresh, IsSpaced}
+use Rattle.rup_model.specs.Opening.{is_rulers, Start, IsLong, IsStart, start_clauses}
+use Rattle.rup_model.proofs.Lists.{In, In_map, map_In, has_In, Contains_In}
+use Rattle.rup_model.specs.Log.{alive as alive_lines}
+use Rattle.rup_model.proofs.Numbers.{clause_below, journal_matches}
 use Rattle.rup_model.proofs.Sums.{below_all}
 use Rattle.rup_model.proofs.Sequences.{EachState, to_states}
 use Rattle.rup_model.proofs.Additions.{added-append}
@@ -26,7 +27,7 @@ use Rattle.share_core.specs.declared.stored.Cell.{Cell}
 use Rattle.share_core.specs.State.{times_at, CoreOpening, opening_of, IsCoreOpening, State, start_cell, opened, count_at, maker_at, slots}
 use Rattle.share_core.specs.Enabled.{IsEnabled, AllEnabled}
 use Rattle.share_core.specs.Events.{after}
-use Rattle.share_core.specs.Sound.{idle_at, Counts, IsOpenCopy, placed, Sound}
+use Rattle.share_core.specs.Sound.{idle_at, Counts, IsOpenCopy, Sound}
 use Rattle.share_core.proofs.ClauseLists.{at_in, in_at, all_in, all_map}
 use Rattle.share_core.proofs.Counting.{some_same, none_some, cell_cases, not_made, idle_open}
 use Rattle.share_core.proofs.Exchanging.{starts_zero}
@@ -84,9 +85,6 @@ own_number (u ∷ ss) s t once (inr i) (inr j) e = own_number ss s t once.1 i j 
 
 -- The ruler's part
 
-rulers_ring : (e : Entry) → is_rulers e ≡ true → ring_of e ≡ RULER_RING
-rulers_ring e h = eqb-true (ring_of e) RULER_RING (and_parts (ring_of e == RULER_RING) (list_all (λ x. is_ruler x.kind) (additions (e ∷ [])) && is_none (reduction e)) h).0
-
 rulers_fresh : (starts : List (List Literal)) (before : List Entry) (e : Entry) → is_rulers e ≡ true → IsFresh starts before e
 rulers_fresh starts before (Add x) h = λ l. absurd (true≢false (sym l ∙ rulers_kind x h))
 rulers_fresh starts before (Del r n) h = tt
@@ -96,11 +94,6 @@ rulers_spaced : (before : List Entry) (e : Entry) → is_rulers e ≡ true → I
 rulers_spaced before (Add x) h = tt
 rulers_spaced before (Del r n) h = tt
 rulers_spaced before (Reduce r) h = absurd (true≢false (sym (and_parts (r == RULER_RING) false h).1))
-
-rulers_placed : (r i : ℕ) (J : List Entry) → r < RULER_RING → ((e : Entry) → In e J → is_rulers e ≡ true) → placed r i J ≡ []
-rulers_placed r i [] lt h = refl
-rulers_placed r i (e ∷ J) lt h = let k = rulers_ring e (h e (inl refl)) in
-    (λ j. cond (ne_eqb (ring_of e) r (λ q. omega arith) j) (record { place = i; entry = e } ∷ placed r (i + 1) J) (placed r (i + 1) J)) ∙ rulers_placed r (i + 1) J lt (λ x q. h x (inr q))
 
 -- where the empty clause is never added, nothing stands after it
 never_empty : (before J : List Entry) → list_any is_empty (added (before ++ J)) ≡ false → EachAfter (λ b e. list_any is_empty (added b) ≡ false) before J
@@ -172,18 +165,23 @@ module _ (o : CoreOpening) (op : IsCoreOpening o) where
           own = λ i j x y isx isy e. let s = start_from o.rings o.starts i x isx in let t = start_from o.rings o.starts j y isy in
               sym s.2 ∙ ap (λ (q : ClauseAt). q.address) (own_number o.starts s.0 t.0 op.opens.numbers s.1 t.1 (s.3 ∙ e ∙ sym t.3)) ∙ t.2;
         };
+        whole = λ n c shared alive two. ⊎_elim
+            (λ (q : Contains (map (λ (s : ClauseAt). s.number) o.starts) n). (let t = map_In (λ (s : ClauseAt). s.number) o.starts n (Contains_In (map (λ (s : ClauseAt). s.number) o.starts) n q) in
+            (t.0.address, record { lits = t.0.lits; number = t.0.number; count = o.rings; maker = None }, start_some o.rings o.starts t.0 t.1 op.apart, t.2)))
+            (λ (q : b.next ≤ n). absurd (let z = clause_below b (alive_lines o.formula (lines o.formula o.journal)) n c (journal_matches o.formula o.journal ruler.fits) alive in omega arith)) shared;
         slots = λ r to k a b' c' nz. absurd (nz refl);
         log = record {
           log = record { fits = ruler.fits; accepted = ruler.accepted; empty_last = never_empty [] o.journal ruler.going };
           room = op.room;
           begins = ([], sym (append-nil o.journal), nothing _);
         };
-        entries = λ r lt. let few = op.few_rings in sym (rulers_placed r 0 o.journal (omega arith) (λ e i. all_in (λ (x : Entry). is_rulers x ≡ true) o.journal e i ruler.rulers));
+        entries = ([], sym (append-nil o.journal), λ r lt. refl);
         freshness = record {
           fresh = rulers_each (IsFresh (start_clauses (opening_of o))) (rulers_fresh (start_clauses (opening_of o))) [] o.journal ruler.rulers;
           spaced = rulers_each IsSpaced rulers_spaced [] o.journal ruler.rulers;
         };
         units = record { told = λ l h. all_in (λ (q : Literal). is_told o.formula o.journal q ≡ true) o.units l (has_In o.units l h) op.opens.told; distinct = op.opens.distinct; seen = λ r. (o.units, refl) };
+        turns = λ r is. absurd (none_some r is);
         stops = record { refuted = λ s is k. absurd (none_some s is); kinds = λ s is. absurd (none_some s is) };
       }
     where

@@ -1,5 +1,5 @@
 -- A ring's part has the ring's entries.
-use Rattle.std.proofs.Common.{◌≡◌, ℕ, ◌+◌, ◌==◌, Bool, true, false, cond, List, [], ◌∷◌, ◌++◌, length, sym, ap, ◌∙◌, arith, eq-eqb, ne_eqb, append-nil}
+use Rattle.std.proofs.Common.{◌≡◌, ℕ, ◌+◌, ◌==◌, Bool, true, false, cond, List, [], ◌∷◌, ◌++◌, length, sym, ap, ◌∙◌, arith, eq-eqb, ne_eqb, append-nil, append_assoc, length-append}
 use Rattle.rup_model.specs.declared.journal.Entry.{Entry}
 use Rattle.rup_model.specs.Basics.{put}
 use Rattle.rup_model.specs.Journal.{ring_of}
@@ -18,16 +18,24 @@ placed_last r k (x ∷ J) e = by (ring_of x == r) (placed_last r (k + 1) J e ∙
 
 pub owned_more : (o : CoreOpening) (c : State) (r : ℕ) (e : Entry) (p : Part) → EntriesOwned o c.journal c.part → ring_of e ≡ r → p.wrote ≡ (c.part r).wrote ++ record { place = length c.journal; entry = e } ∷ []
     → EntriesOwned o (c.journal ++ e ∷ []) (put c.part r p)
-owned_more o c r e p old is wrote i lt =
-    let J = c.journal in
-    let n : ℕ = 0 + length J in
-    let z : 0 + length J ≡ length J = omega arith in
-    at_put c.part r p (λ (q : Part). q.wrote ≡ placed i 0 (J ++ e ∷ [])) i
-    (λ h. wrote ∙ ap (λ (P : List Placed). P ++ record { place = length J; entry = e } ∷ []) (ap (λ (k : ℕ). (c.part k).wrote) (sym h) ∙ old i lt)
-    ∙ (λ j. placed i 0 J ++ record { place = sym z j; entry = e } ∷ [])
-    ∙ (λ j. placed i 0 J ++ cond (sym (eq-eqb (ring_of e) i (is ∙ sym h)) j) (record { place = n; entry = e } ∷ []) [])
-    ∙ sym (placed_last i 0 J e))
-    (λ ne. old i lt ∙ sym (append-nil (placed i 0 J)) ∙ (λ j. placed i 0 J ++ cond (sym (ne_eqb (ring_of e) i (λ h. ne (sym h ∙ is))) j) (record { place = n; entry = e } ∷ []) []) ∙ sym (placed_last i 0 J e))
+owned_more o c r e p old is wrote =
+    let K : List Entry = old.0 in
+    let k : ℕ = length o.journal in
+    let n : ℕ = k + length K in
+    let z : n ≡ length c.journal = sym (ap length old.1 ∙ length-append o.journal K) in (
+      K ++ e ∷ [],
+      ap (λ (L : List Entry). L ++ e ∷ []) old.1 ∙ append_assoc o.journal K (e ∷ []),
+      λ i lt. at_put c.part r p (λ (q : Part). q.wrote ≡ placed i k (K ++ e ∷ [])) i
+          (λ h. wrote ∙ ap (λ (P : List Placed). P ++ record { place = length c.journal; entry = e } ∷ []) (ap (λ (q : ℕ). (c.part q).wrote) (sym h) ∙ old.2 i lt)
+          ∙ (λ j. placed i k K ++ record { place = sym z j; entry = e } ∷ [])
+          ∙ (λ j. placed i k K ++ cond (sym (eq-eqb (ring_of e) i (is ∙ sym h)) j) (record { place = n; entry = e } ∷ []) [])
+          ∙ sym (placed_last i k K e))
+          (λ ne. old.2 i lt ∙ sym (append-nil (placed i k K)) ∙ (λ j. placed i k K ++ cond (sym (ne_eqb (ring_of e) i (λ h. ne (sym h ∙ is))) j) (record { place = n; entry = e } ∷ []) []) ∙ sym (placed_last i k K e)),
+    )
 
 pub owned_same : (o : CoreOpening) (c : State) (r : ℕ) (p : Part) → EntriesOwned o c.journal c.part → p.wrote ≡ (c.part r).wrote → EntriesOwned o c.journal (put c.part r p)
-owned_same o c r p old same i lt = at_put c.part r p (λ (q : Part). q.wrote ≡ placed i 0 c.journal) i (λ h. same ∙ ap (λ (k : ℕ). (c.part k).wrote) (sym h) ∙ old i lt) (λ ne. old i lt)
+owned_same o c r p old same = (
+  old.0,
+  old.1,
+  λ i lt. at_put c.part r p (λ (q : Part). q.wrote ≡ placed i (length o.journal) old.0) i (λ h. same ∙ ap (λ (k : ℕ). (c.part k).wrote) (sym h) ∙ old.2 i lt) (λ ne. old.2 i lt),
+)

@@ -1,6 +1,7 @@
 -- What a sound state says, in plain words; what a ring's own entries say of what it learned.
 use Rattle.std.proofs.Common.{◌≡◌, ◌≢◌, ◌⊎◌, ℕ, ◌+◌, ◌<◌, ◌==◌, Bool, true, false, cond, ◌&&◌, List, [], ◌∷◌, ◌++◌, length, map, fold, Some, None, refl, sym, ap, ◌∙◌, inl, inr, ⊎_elim, arith, eq-eqb, ne_eqb, length-append, append-nil}
 use Rattle.std.specs.List.{list_any}
+use Rattle.std.proofs.lemmas.List.Sums.{fold-append}
 use Rattle.std.proofs.lemmas.Bool.{or_from}
 use mathlib.Core.Logic.{dite}
 use native.Mathlib.Decide.{ℕ_discrete}
@@ -9,8 +10,9 @@ use Rattle.rup_model.specs.declared.journal.Addition.{Addition}
 use Rattle.rup_model.specs.declared.journal.Entry.{Entry}
 use Rattle.rup_model.specs.declared.journal.Entry.TheVariants.{Add, Del, Reduce}
 use Rattle.rup_model.specs.Basics.{put, one_if}
-use Rattle.rup_model.specs.Journal.{deletion, Book, formula_book, spelled, book_after, book, IsFit, Fits, ring_of, is_learn, is_ring, recent_after, recent}
+use Rattle.rup_model.specs.Journal.{additions, deletion, Book, formula_book, spelled, book_after, book, IsFit, Fits, ring_of, is_learn, is_ring, recent_after, recent}
 use Rattle.rup_model.proofs.Lists.{In, In_Contains}
+use Rattle.rup_model.proofs.Parts.{rulers_recent}
 use Rattle.rup_model.proofs.Sums.{at_put, put_else}
 use Rattle.rup_model.proofs.Sequences.{EachState, to_states}
 use Rattle.rup_model.proofs.Numbers.{Matches, clause_below, matches_step, formula_matches}
@@ -24,7 +26,7 @@ use Rattle.share_core.proofs.Counting.{none_some, some_same, made_by, idle_open,
 
 -- some addition among the entries
 InAdded : List Entry → ℕ → List Literal → Type 0
-InAdded J n c = (x : Addition) × In (Add x) J × (x.number ≡ n) × (spelled x ≡ c)
+InAdded J n c = (x : Addition) × In x (additions J) × (x.number ≡ n) × (spelled x ≡ c)
 
 dead_from : (b : Book) (J : List Entry) (G : List (List Literal)) (n : ℕ) → EachState book_after IsFit b J → Matches b G → b.clause n ≡ None → n < b.next → (fold book_after b J).clause n ≡ None
 dead_from b [] G n h m dead lt = dead
@@ -51,16 +53,16 @@ stands_from b (Del r k ∷ J) G n c h m is =
     let t = stands_from (book_after b (Del r k)) J _ n c h.1 m' is in
     dite (ℕ_discrete k n)
     (λ e. absurd (none_some c (sym (dead_from (book_after b (Del r k)) J _ n h.1 m' (at_put b.clause k None (λ q. q ≡ None) n (λ _. refl) (λ ne. absurd (ne (sym e)))) (omega arith)) ∙ is)))
-    (λ ne. (⊎_elim (λ (q : put b.clause k None n ≡ Some c). inl (sym (put_else b.clause k None n (λ e. ne (sym e))) ∙ q)) (λ (q : InAdded J n c). inr (q.0, inr q.1, q.2, q.3)) t.0, or_from _ _ (ne_eqb k n ne) t.1))
+    (λ ne. (⊎_elim (λ (q : put b.clause k None n ≡ Some c). inl (sym (put_else b.clause k None n (λ e. ne (sym e))) ∙ q)) (λ (q : InAdded J n c). inr q) t.0, or_from _ _ (ne_eqb k n ne) t.1))
 stands_from b (Reduce r ∷ J) G n c h m is =
     let t = stands_from b J _ n c h.1 (matches_step b G (Reduce r) h.0 m) is in
-    (⊎_elim (λ (q : b.clause n ≡ Some c). inl q) (λ (q : InAdded J n c). inr (q.0, inr q.1, q.2, q.3)) t.0, t.1)
+    (⊎_elim (λ (q : b.clause n ≡ Some c). inl q) (λ (q : InAdded J n c). inr q) t.0, t.1)
 
 pub book_stands : (F : List (List Literal)) (J : List Entry) (n : ℕ) (c : List Literal) → Fits F J → (book F J).clause n ≡ Some c → Stands F J n c
 unfolding InAdded
 book_stands F J n c h is =
     let t = stands_from (formula_book F) J F n c (to_states book_after IsFit (formula_book F) [] J h) (formula_matches F) is in
-    (⊎_elim (λ (q : (formula_book F).clause n ≡ Some c). inl q) (λ (q : InAdded J n c). inr (q.0, In_Contains J (Add q.0) q.1, q.2, q.3)) t.0, t.1)
+    (⊎_elim (λ (q : (formula_book F).clause n ≡ Some c). inl q) (λ (q : InAdded J n c). inr (q.0, In_Contains (additions J) q.0 q.1, q.2, q.3)) t.0, t.1)
 
 pub sound_plain : (c : State) → Sound c → Plain c
 sound_plain c s = record {
@@ -106,4 +108,10 @@ recent_from r i (e ∷ J) cs = by (ring_of e == r) refl (recent_from r (i + 1) J
     by false q h = h ∙ (λ j. fold (recent_after r) (other_entry r e cs q j) (map (λ (p : Placed). p.entry) (placed r (i + 1) J)))
 
 pub recent_own : (c : State) (r : ℕ) → Sound c → r < c.opening.rings → recent r c.journal ≡ recent r (map (λ (p : Placed). p.entry) (c.part r).wrote)
-recent_own c r s lt = recent_from r 0 c.journal [] ∙ ap (λ (w : List Placed). recent r (map (λ (p : Placed). p.entry) w)) (sym (s.entries r lt))
+recent_own c r s lt =
+    let K : List Entry = s.entries.0 in
+    ap (recent r) s.entries.1
+    ∙ fold-append (recent_after r) [] c.opening.journal K
+    ∙ ap (λ (cs : List (List Literal)). fold (recent_after r) cs K) (rulers_recent r c.opening.journal s.opens.opens.rulers_part.rulers)
+    ∙ recent_from r (length c.opening.journal) K []
+    ∙ ap (λ (w : List Placed). recent r (map (λ (p : Placed). p.entry) w)) (sym (s.entries.2 r lt))

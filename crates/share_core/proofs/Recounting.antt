@@ -17,6 +17,7 @@ use Rattle.share_core.proofs.Counting.{some_same, none_some, cell_cases, not_mad
 use Rattle.share_core.proofs.Copies.{Keeps, lift, copies_all}
 use Rattle.share_core.proofs.Slots.{puts_same, slots_kept}
 use Rattle.share_core.proofs.Own.{owned_same}
+use Rattle.share_core.proofs.Whole.{whole_kept}
 use Rattle.share_core.proofs.Frames.{cells_kept, part_moves, same_here, same_else, units_part, clause_is}
 
 with_count_of : (n : ℕ) (q : Option Cell) (x : Cell) → with_count n q ≡ Some x → (y : Cell) × (q ≡ Some y) × (y.number ≡ x.number) × (y.lits ≡ x.lits) × (x.count ≡ n) × (x.maker ≡ None)
@@ -81,11 +82,13 @@ module _ (c : State) (s : Sound c) (a n : ℕ) where
         starts = starts_kept c.opening c d s.opens s.counts s.starts (λ i h. h) (λ i y k z _. starts i y k z);
         copies = copies;
         cells = cells;
+        whole = whole_kept c.opening c.journal c.cell (put c.cell a (with_count n (c.cell a))) s.whole keeps;
         slots = slots_kept c.opening c d s.slots refl (puts_same c r p puts);
         log = s.log;
         entries = owned_same c.opening c r p s.entries wrote;
         freshness = s.freshness;
         units = units_part c r p s (let h = s.units.seen r in (h.0, h.1 ∙ ap (λ (xs : List _). xs ++ h.0) (sym seen)));
+        turns = s.turns;
         stops = s.stops;
       }
 

@@ -11,17 +11,21 @@ use Rattle.rup_model.specs.Journal.{added, additions, Book, formula_book, book_a
 use Rattle.rup_model.proofs.Sequences.{fold_last}
 use Rattle.rup_model.specs.Opening.{Start, start_clauses}
 use Rattle.share_core.specs.declared.stored.ClauseAt.{ClauseAt}
-use Rattle.share_core.specs.State.{CoreOpening, opening_of}
-use Rattle.share_core.specs.Enabled.{may_learn}
+use Rattle.share_core.specs.State.{CoreOpening, opening_of, Part}
+use Rattle.share_core.specs.Learning.{may_learn}
 use Rattle.share_core.specs.Machine.{adds}
 
 -- the items up to the next
 pub next_taken : {X : Type 0} (xs : List X) (i : ℕ) (x : X) → i < length xs → x ≡ get_or xs i x → take (i + 1) xs ≡ take i xs ++ x ∷ []
 next_taken {X} xs i x lt at = take_more xs i x lt ∙ ap (λ (y : X). take i xs ++ y ∷ []) (sym at)
 
+or_false : (x : Bool) → (x || false) ≡ x
+or_false true = refl
+or_false false = refl
+
 pub any_added : (p : List Literal → Bool) (J : List Entry) → list_any p (added J) ≡ list_any (adds p) J
 any_added p [] = refl
-any_added p (Add x ∷ J) = ap (λ (b : Bool). p x.lits || b) (any_added p J)
+any_added p (Add x ∷ J) = (λ j. sym (or_false (p x.lits)) j || any_added p J j)
 any_added p (Del r n ∷ J) = any_added p J
 any_added p (Reduce r ∷ J) = any_added p J
 
@@ -39,10 +43,6 @@ swapped true true = refl
 swapped true false = refl
 swapped false true = refl
 swapped false false = refl
-
-or_false : (x : Bool) → (x || false) ≡ x
-or_false true = refl
-or_false false = refl
 
 pub unit_parts : (l : Literal) (c : List Literal) → same_set (l ∷ []) c ≡ (has c l && list_all (λ k. same k l) c)
 unit_parts l c = swapped (list_all (has (l ∷ [])) c) (has c l) ∙ ap (λ (b : Bool). has c l && b) (each c)
@@ -70,8 +70,8 @@ next_few F J = from (formula_book F) J
     from b (Reduce q ∷ K) = let r = from (book_after b (Reduce q)) K in omega arith
 
 -- what may be learned includes neither a start clause nor what the ring learned
-pub learn_parts : (o : CoreOpening) (J : List Entry) (r : ℕ) (lits : List Literal) → may_learn o J r lits ≡ not (list_any (λ (h : ClauseAt). includes lits h.lits) o.starts || list_any (includes lits) (recent r J))
-learn_parts o J r lits = ap not (list_any-append (includes lits) (start_clauses (opening_of o)) (recent r J) ∙ ap (λ (b : Bool). b || list_any (includes lits) (recent r J)) (each o.starts))
+pub learn_parts : (o : CoreOpening) (J : List Entry) (p : Part) (r : ℕ) (lits : List Literal) → may_learn o J p r lits ≡ not (list_any (λ (h : ClauseAt). includes lits h.lits) o.starts || list_any (includes lits) (recent r J))
+learn_parts o J p r lits = ap not (list_any-append (includes lits) (start_clauses (opening_of o)) (recent r J) ∙ ap (λ (b : Bool). b || list_any (includes lits) (recent r J)) (each o.starts))
   where
     each : (ss : List ClauseAt) → list_any (includes lits) (map (λ (s : Start). s.lits) (map (λ (s : ClauseAt). record { number = s.number; lits = s.lits }) ss)) ≡ list_any (λ (h : ClauseAt). includes lits h.lits) ss
     each [] = refl

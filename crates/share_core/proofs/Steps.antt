@@ -1,5 +1,5 @@
 -- Every event keeps the state sound.
-use Rattle.std.proofs.Common.{◌≡◌, List, [], ◌++◌, Some, None, refl, sym, append-nil}
+use Rattle.std.proofs.Common.{◌≡◌, ℕ, ◌<◌, List, [], ◌++◌, Some, None, refl, sym, subst, append-nil}
 use Rattle.rup_model.specs.declared.journal.Entry.{Entry}
 use Rattle.share_core.specs.declared.event.Event.{Event}
 use Rattle.share_core.specs.declared.event.Event.TheVariants.{Grant, TakeTurn, GiveTurn, AddClause, AddUnit, AddEmpty, Reduce, OpenCell, Read, Share, DropCount, Bury, Put, Get, Publish, See, Stop}
@@ -7,6 +7,7 @@ use Rattle.share_core.specs.State.{State}
 use Rattle.share_core.specs.Enabled.{IsEnabled}
 use Rattle.share_core.specs.Events.{after}
 use Rattle.share_core.specs.Sound.{Sound}
+use Rattle.share_core.proofs.Counting.{some_same, none_some}
 use Rattle.share_core.proofs.Writing.{adds_clause, adds_unit, adds_empty, reduces}
 use Rattle.share_core.proofs.Burying.{buries}
 use Rattle.share_core.proofs.Recounting.{opens_cell, shares, drops}
@@ -15,8 +16,8 @@ use Rattle.share_core.proofs.Listing.{publishes, sees, stops, turns}
 
 pub event_sound : (c : State) (e : Event) → Sound c → IsEnabled c e → Sound (after c e)
 event_sound c (Grant r) s e = grants c r s e
-event_sound c (TakeTurn r) s e = turns c (Some r) s
-event_sound c (GiveTurn r) s e = turns c None s
+event_sound c (TakeTurn r) s e = turns c (Some r) s (λ q is. subst (λ (n : ℕ). n < c.opening.rings) (some_same r q is) e.0)
+event_sound c (GiveTurn r) s e = turns c None s (λ q is. absurd (none_some q is))
 event_sound c (AddClause r kind lits a) s e = adds_clause c r kind lits a s e
 event_sound c (AddUnit r kind l) s e = adds_unit c r kind l s e
 event_sound c (AddEmpty r) s e = adds_empty c r s e

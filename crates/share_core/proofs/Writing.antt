@@ -1,7 +1,7 @@
 -- Additions and reductions keep the state sound.
 use Rattle.std.proofs.Common.{◌≡◌, ◌⊎◌, ℕ, ◌+◌, ◌<◌, ◌≤◌, true, cond, List, [], ◌∷◌, ◌++◌, length, Option, Some, refl, sym, ap, ◌∙◌, subst, inl, inr, arith, ne_eqb, true≢false}
 use Rattle.sat_words.specs.Literal.{Literal}
-use Rattle.sat_words.specs.Clause.{clause_of}
+use Rattle.sat_words.specs.Clause.{clause_of, two_or_more}
 use Rattle.rup_model.specs.declared.journal.TheConstants.{RULER_RING}
 use Rattle.rup_model.specs.declared.journal.Kind.{Kind}
 use Rattle.rup_model.specs.declared.journal.Kind.TheVariants.{Ruler, Learn, Derive, UnitLine}
@@ -19,7 +19,8 @@ use Rattle.share_core.specs.declared.event.Event.TheVariants.{AddClause, AddUnit
 use Rattle.share_core.specs.declared.stored.ClauseAt.{ClauseAt}
 use Rattle.share_core.specs.declared.stored.Cell.{Cell}
 use Rattle.share_core.specs.State.{times_at, opening_of, Part, State, count_at, maker_at}
-use Rattle.share_core.specs.Enabled.{follows, may_learn, MayAddClause, MayAddUnit, Writes, IsEnabled}
+use Rattle.share_core.specs.Learning.{follows, may_learn, after_learn, MayAddClause, MayAddUnit}
+use Rattle.share_core.specs.Enabled.{Writes, IsEnabled}
 use Rattle.share_core.specs.Events.{addition_of, wrote_part, made_part, written, after}
 use Rattle.share_core.specs.Sound.{idle_at, IsCopy, CellsSound, JournalSound, Sound}
 use Rattle.share_core.proofs.ClauseLists.{at_both, at_here, at_else, all_last}
@@ -27,21 +28,28 @@ use Rattle.share_core.proofs.Counting.{some_same, none_some, not_made, made_by, 
 use Rattle.share_core.proofs.Copies.{Keeps, lift, copies_all}
 use Rattle.share_core.proofs.Slots.{puts_same, slots_kept}
 use Rattle.share_core.proofs.Own.{owned_more}
+use Rattle.share_core.proofs.Whole.{whole_more, whole_begun, few_added}
 use Rattle.share_core.proofs.Frames.{follows_alive, journal_more, fresh_more, stop_more, cells_same, part_moves, part_only, part_slots, copies_put, units_written}
 
 -- What may be added is fresh where it is learned
 
-may_fresh : (c : State) (r : ℕ) (kind : Kind) (lits : List Literal) → MayAddClause c.opening c.journal (c.part r) r kind lits → is_learn kind ≡ true → may_learn c.opening c.journal r lits ≡ true
+may_fresh : (c : State) (r : ℕ) (kind : Kind) (lits : List Literal) → MayAddClause c.opening c.journal (c.part r) r kind lits → is_learn kind ≡ true → may_learn c.opening c.journal (c.part r) r lits ≡ true
 may_fresh c r Ruler lits may is = absurd may
 may_fresh c r Learn lits may is = may
 may_fresh c r Derive lits may is = absurd (true≢false (sym is))
 may_fresh c r UnitLine lits may is = absurd may
 
-may_fresh_unit : (c : State) (r : ℕ) (kind : Kind) (lits : List Literal) → MayAddUnit c.opening c.journal r kind lits → is_learn kind ≡ true → may_learn c.opening c.journal r lits ≡ true
+may_fresh_unit : (c : State) (r : ℕ) (kind : Kind) (lits : List Literal) → MayAddUnit c.opening c.journal (c.part r) r kind lits → is_learn kind ≡ true → may_learn c.opening c.journal (c.part r) r lits ≡ true
 may_fresh_unit c r Ruler lits may is = absurd may
 may_fresh_unit c r Learn lits may is = may
 may_fresh_unit c r Derive lits may is = absurd may
 may_fresh_unit c r UnitLine lits may is = absurd (true≢false (sym is))
+
+-- Spelling
+
+-- a deletion spells a ring's clause as the ring added it
+own_spelling : (c : State) (x : Addition) → Sound c → x.ring < c.opening.rings → spelled x ≡ x.lits
+own_spelling c x s lt = let few = s.opens.few_rings in (λ j. cond (ne_eqb x.ring RULER_RING (λ q. omega arith) j) (clause_of x.lits) x.lits)
 
 -- Entries that touch no cell
 
@@ -51,9 +59,10 @@ add_low b x n lt = put_else b.clause b.next _ n (λ e. omega arith)
 -- an entry of ring r that touches no cell
 writes : (c : State) (r : ℕ) (e : Entry) → Sound c → r < c.opening.rings → ring_of e ≡ r → JournalSound c.opening (c.journal ++ e ∷ [])
     → ((n : ℕ) → n < (book c.opening.formula c.journal).next → (book_after (book c.opening.formula c.journal) e).clause n ≡ (book c.opening.formula c.journal).clause n)
-    → IsFresh (start_clauses (opening_of c.opening)) c.journal e → IsSpaced c.journal e → Sound (written c r e)
-writes c r e s lt own log low fresh spaced =
-    let d : State = written c r e in
+    → ((n : ℕ) (k : List Literal) → two_or_more k ≡ true → (book_after (book c.opening.formula c.journal) e).clause n ≡ Some k → (book c.opening.formula c.journal).clause n ≡ Some k)
+    → IsFresh (start_clauses (opening_of c.opening)) c.journal e → IsSpaced c.journal e → Sound (written c r (c.part r) e)
+writes c r e s lt own log low few fresh spaced =
+    let d : State = written c r (c.part r) e in
     let p : Part = wrote_part (length c.journal) e (c.part r) in
     record {
       opens = s.opens;
@@ -61,11 +70,13 @@ writes c r e s lt own log low fresh spaced =
       starts = s.starts;
       copies = copies_put c r p s (s.copies.held r lt) (s.copies.making r lt) (s.copies.waiting r lt);
       cells = cells_same c e s low;
+      whole = whole_more c.opening c.journal c.cell e s.whole few;
       slots = part_slots c d r p s refl refl refl;
       log = log;
       entries = owned_more c.opening c r e p s.entries own refl;
       freshness = fresh_more (start_clauses (opening_of c.opening)) c.journal e s.freshness fresh spaced;
       units = units_written c r p e s (s.units.seen r);
+      turns = s.turns;
       stops = stop_more c.opening.formula c.journal c.opening.rings c.stop e s.stops;
     }
 
@@ -78,21 +89,17 @@ added c r kind lits s lt w f =
 pub adds_unit : (c : State) (r : ℕ) (kind : Kind) (l : Literal) → Sound c → IsEnabled c (AddUnit r kind l) → Sound (after c (AddUnit r kind l))
 adds_unit c r kind l s e =
     let x : Addition = record { ring = r; number = (book c.opening.formula c.journal).next; lits = l ∷ []; kind = kind } in
-    writes c r (Add x) s e.0 refl (added c r kind (l ∷ []) s e.0 e.1 e.3) (add_low (book c.opening.formula c.journal) x) (may_fresh_unit c r kind (l ∷ []) e.2) tt
+    writes c r (Add x) s e.0 refl (added c r kind (l ∷ []) s e.0 e.1 e.3) (add_low (book c.opening.formula c.journal) x) (few_added c.opening c.journal x (λ two. true≢false (sym two ∙ ap two_or_more (own_spelling c x s e.0)))) (may_fresh_unit c r kind (l ∷ []) e.2) tt
 
 pub adds_empty : (c : State) (r : ℕ) → Sound c → IsEnabled c (AddEmpty r) → Sound (after c (AddEmpty r))
 adds_empty c r s e =
     let x : Addition = record { ring = r; number = (book c.opening.formula c.journal).next; lits = []; kind = Derive } in
-    writes c r (Add x) s e.0 refl (added c r Derive [] s e.0 e.1 e.2) (add_low (book c.opening.formula c.journal) x) (λ h. absurd (true≢false (sym h))) tt
+    writes c r (Add x) s e.0 refl (added c r Derive [] s e.0 e.1 e.2) (add_low (book c.opening.formula c.journal) x) (few_added c.opening c.journal x (λ two. true≢false (sym two ∙ ap two_or_more (own_spelling c x s e.0)))) (λ h. absurd (true≢false (sym h))) tt
 
 pub reduces : (c : State) (r : ℕ) → Sound c → IsEnabled c (Reduce r) → Sound (after c (Reduce r))
-reduces c r s e = writes c r (ReduceEntry r) s e.0 refl (journal_more c.opening c.journal (ReduceEntry r) s.log (log_reduces c.opening.formula c.journal s.log.log r (not_added c.opening.formula c.journal e.1.going)) e.1.room e.0) (λ n lt. refl) tt e.2
+reduces c r s e = writes c r (ReduceEntry r) s e.0 refl (journal_more c.opening c.journal (ReduceEntry r) s.log (log_reduces c.opening.formula c.journal s.log.log r (not_added c.opening.formula c.journal e.1.going)) e.1.room e.0) (λ n lt. refl) (λ n k two is. is) tt e.2
 
 -- A clause with its cell
-
--- a deletion spells a ring's clause as the ring added it
-own_spelling : (c : State) (x : Addition) → Sound c → x.ring < c.opening.rings → spelled x ≡ x.lits
-own_spelling c x s lt = let few = s.opens.few_rings in (λ j. cond (ne_eqb x.ring RULER_RING (λ q. omega arith) j) (clause_of x.lits) x.lits)
 
 pub adds_clause : (c : State) (r : ℕ) (kind : Kind) (lits : List Literal) (a : ℕ) → Sound c → IsEnabled c (AddClause r kind lits a) → Sound (after c (AddClause r kind lits a))
 adds_clause c r kind lits a s e =
@@ -153,10 +160,12 @@ adds_clause c r kind lits a s e =
             (λ hj isz n. absurd (let k : b.next ≡ z.number = ap (λ (t : Cell). t.number) (some_same new z isz) in let q = clause_below b (alive F (lines F J)) y.number y.lits m (s.cells.alive i y isy) in omega arith))
             (λ nj isz n. s.cells.own i j y z isy isz n));
       });
+      whole = whole_begun c.opening J c.cell a x new s.whole none refl;
       slots = slots_kept c.opening c d s.slots refl (puts_same c r p refl);
       log = added c r kind lits s lt w e.6;
       entries = owned_more c.opening c r (Add x) p s.entries refl refl;
       freshness = fresh_more (start_clauses (opening_of c.opening)) J (Add x) s.freshness (may_fresh c r kind lits e.2) tt;
       units = units_written c r p (Add x) s (s.units.seen r);
+      turns = s.turns;
       stops = stop_more F J c.opening.rings c.stop (Add x) s.stops;
     }

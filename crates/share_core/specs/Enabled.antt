@@ -1,31 +1,16 @@
 -- When an event is enabled.
-use Rattle.std.specs.Prelude.{◌≡◌, ◌≢◌, ℕ, ◌<◌, ◌≤◌, Bool, true, false, ⊤, List, [], ◌∷◌, ◌++◌, map, length, fold, Some, None}
-use Rattle.std.specs.List.{list_any}
-use Rattle.sat_words.specs.Literal.{Literal}
-use Rattle.sat_words.specs.Clause.{has, includes}
+use Rattle.std.specs.Prelude.{◌≡◌, ◌≢◌, ℕ, ◌<◌, ◌≤◌, true, false, List, [], ◌∷◌, length, fold, Some, None}
+use Rattle.sat_words.specs.Clause.{has}
 use Rattle.rup_model.specs.declared.journal.TheConstants.{LEARNED_PER_REDUCTION}
-use Rattle.rup_model.specs.declared.journal.Kind.{Kind}
-use Rattle.rup_model.specs.declared.journal.Kind.TheVariants.{Ruler, Learn, Derive, UnitLine}
-use Rattle.rup_model.specs.declared.journal.Entry.{Entry}
 use Rattle.rup_model.specs.Basics.{EachAfter}
-use Rattle.rup_model.specs.Rup.{rup}
-use Rattle.rup_model.specs.Journal.{ended, is_told, recent, fresh}
-use Rattle.rup_model.specs.Opening.{start_clauses, IsLong}
+use Rattle.rup_model.specs.Journal.{ended, is_told, recent}
+use Rattle.rup_model.specs.Opening.{IsLong}
 use Rattle.share_core.specs.declared.event.TheConstants.{MAX_ENTRIES, MAX_SHARES}
 use Rattle.share_core.specs.declared.event.Event.{Event}
 use Rattle.share_core.specs.declared.event.Event.TheVariants.{Grant, TakeTurn, GiveTurn, AddClause, AddUnit, AddEmpty, Reduce, OpenCell, Read, Share, DropCount, Bury, Put, Get, Publish, See, Stop}
-use Rattle.share_core.specs.State.{times_at, CoreOpening, opening_of, Part, State}
+use Rattle.share_core.specs.State.{times_at, State}
+use Rattle.share_core.specs.Learning.{follows, MayAddClause, MayAddUnit}
 use Rattle.share_core.specs.Events.{after}
-
--- What a ring knows
-
--- the clauses of the cells that it holds, and the units that it has seen
-abbrev pub known : Part → List (List Literal)
-known p = map (λ h. h.lits) p.held ++ map (λ l. l ∷ []) p.seen
-
--- the clause follows from what the ring knows
-abbrev pub follows : Part → List Literal → Bool
-follows p lits = rup (known p) lits
 
 -- Parts of guards
 
@@ -43,28 +28,6 @@ pub record Writes (c : State) (r : ℕ) : Type 0 where
   pub going : ended c.opening.formula c.journal ≡ false
   pub room : length c.journal < MAX_ENTRIES
 
--- what the ring learns contains no start clause and nothing that it learned since it last reduced
-abbrev pub may_learn : CoreOpening → List Entry → ℕ → List Literal → Bool
-may_learn o J r lits = fresh (start_clauses (opening_of o)) J r lits
-
--- the ring holds a clause that has all these literals
-abbrev pub may_derive : Part → List Literal → Bool
-may_derive p lits = list_any (λ h. includes h.lits lits) p.held
-
--- a clause is learned or derived
-abbrev pub MayAddClause : CoreOpening → List Entry → Part → ℕ → Kind → List Literal → Type 0
-MayAddClause o J p r Ruler lits = ⊥
-MayAddClause o J p r Learn lits = may_learn o J r lits ≡ true
-MayAddClause o J p r Derive lits = may_derive p lits ≡ true
-MayAddClause o J p r UnitLine lits = ⊥
-
--- a unit is learned or propagated
-abbrev pub MayAddUnit : CoreOpening → List Entry → ℕ → Kind → List Literal → Type 0
-MayAddUnit o J r Ruler lits = ⊥
-MayAddUnit o J r Learn lits = may_learn o J r lits ≡ true
-MayAddUnit o J r Derive lits = ⊥
-MayAddUnit o J r UnitLine lits = ⊤
-
 -- Guards
 
 abbrev pub IsEnabled : State → Event → Type 0
@@ -77,7 +40,7 @@ IsEnabled c (GiveTurn r) = IsRing c r × (c.turn ≡ Some r)
 -- two literals or more without repeats or opposites, which follow from what the ring knows; a free address
 IsEnabled c (AddClause r kind lits a) =
     IsRing c r × Writes c r × MayAddClause c.opening c.journal (c.part r) r kind lits × IsLong lits × (c.cell a ≡ None) × (a ≢ 0) × (follows (c.part r) lits ≡ true)
-IsEnabled c (AddUnit r kind lit) = IsRing c r × Writes c r × MayAddUnit c.opening c.journal r kind (lit ∷ []) × (follows (c.part r) (lit ∷ []) ≡ true)
+IsEnabled c (AddUnit r kind lit) = IsRing c r × Writes c r × MayAddUnit c.opening c.journal (c.part r) r kind (lit ∷ []) × (follows (c.part r) (lit ∷ []) ≡ true)
 IsEnabled c (AddEmpty r) = IsRing c r × Writes c r × (follows (c.part r) [] ≡ true)
 -- the ring has learned enough since it last reduced
 IsEnabled c (Reduce r) = IsRing c r × Writes c r × (LEARNED_PER_REDUCTION ≤ length (recent r c.journal))

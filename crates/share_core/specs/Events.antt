@@ -14,6 +14,7 @@ use Rattle.share_core.specs.declared.stored.ClauseAt.{ClauseAt}
 use Rattle.share_core.specs.declared.stored.Cell.{Cell}
 use Rattle.share_core.specs.declared.stored.PutNote.{PutNote}
 use Rattle.share_core.specs.State.{without_at, with_cell, CoreOpening, Part, State, count_at, number_at, clause_at, slot_of}
+use Rattle.share_core.specs.Learning.{after_learn}
 
 -- Grants
 
@@ -47,9 +48,9 @@ made_part h i e p = record p { making = p.making ++ h ∷ []; wrote = p.wrote ++
 abbrev pub buried_part : ℕ → ℕ → Entry → Part → Part
 buried_part a i e p = record p { waiting = without_at a p.waiting; wrote = p.wrote ++ record { place = i; entry = e } ∷ [] }
 
--- an entry that touches no cell
-abbrev pub written : State → ℕ → Entry → State
-written c r e = record c { journal = noted c e; part = put c.part r (wrote_part (length c.journal) e (c.part r)) }
+-- an entry that touches no cell, by the ring with this part
+abbrev pub written : State → ℕ → Part → Entry → State
+written c r p e = record c { journal = noted c e; part = put c.part r (wrote_part (length c.journal) e p) }
 
 -- a clause is added, and its cell is begun
 abbrev pub begun : State → ℕ → Kind → List Literal → ℕ → State
@@ -58,7 +59,7 @@ begun c r kind lits a =
     record c {
       journal = noted c (addition_of c r kind lits);
       cell = put c.cell a (Some (record { lits = lits; number = n; count = 0; maker = Some r }));
-      part = put c.part r (made_part (record { address = a; number = n; lits = lits }) (length c.journal) (addition_of c r kind lits) (c.part r));
+      part = put c.part r (made_part (record { address = a; number = n; lits = lits }) (length c.journal) (addition_of c r kind lits) (after_learn kind (c.part r)));
     }
 
 -- a clause is deleted, and its cell is gone
@@ -130,9 +131,9 @@ after c (Grant r) = record c { granted = put c.granted r true; part = put c.part
 after c (TakeTurn r) = record c { turn = Some r }
 after c (GiveTurn r) = record c { turn = None }
 after c (AddClause r kind lits a) = begun c r kind lits a
-after c (AddUnit r kind lit) = written c r (addition_of c r kind (lit ∷ []))
-after c (AddEmpty r) = written c r (addition_of c r Derive [])
-after c (Reduce r) = written c r (ReduceEntry r)
+after c (AddUnit r kind lit) = written c r (after_learn kind (c.part r)) (addition_of c r kind (lit ∷ []))
+after c (AddEmpty r) = written c r (after_learn Derive (c.part r)) (addition_of c r Derive [])
+after c (Reduce r) = written c r (c.part r) (ReduceEntry r)
 after c (OpenCell r a) = recounted c r a 1 (opened_part (clause_at c a) (c.part r))
 after c (Read r a) = c
 after c (Share r a) = recounted c r a (count_at (c.cell a) + 1) (shared_part (clause_at c a) (c.part r))

@@ -11,7 +11,7 @@ use Rattle.share_core.specs.declared.event.TheConstants.{MAX_ENTRIES, MAX_SHARES
 use Rattle.share_core.specs.declared.event.Event.{Event}
 use Rattle.share_core.specs.declared.event.Event.TheVariants.{Grant, TakeTurn, GiveTurn, AddClause, AddUnit, AddEmpty, Reduce, OpenCell, Read, Share, DropCount, Bury, Put, Get, Publish, See, Stop}
 use Rattle.share_core.specs.State.{State}
-use Rattle.share_core.specs.Enabled.{follows, may_learn, may_derive}
+use Rattle.share_core.specs.Learning.{follows, may_learn, may_derive}
 use Rattle.share_core.specs.Machine.{has_at}
 
 -- two literals or more without repeats or opposites
@@ -29,14 +29,14 @@ writes c r = nat_lt r c.opening.rings && (is_ring r c.turn && (not (ended c.open
 -- a clause is learned or derived
 abbrev pub may_add : State → ℕ → Kind → List Literal → Bool
 may_add c r Ruler lits = false
-may_add c r Learn lits = may_learn c.opening c.journal r lits
+may_add c r Learn lits = may_learn c.opening c.journal (c.part r) r lits
 may_add c r Derive lits = may_derive (c.part r) lits
 may_add c r UnitLine lits = false
 
 -- a unit is learned or propagated
 abbrev pub may_tell : State → ℕ → Kind → List Literal → Bool
 may_tell c r Ruler lits = false
-may_tell c r Learn lits = may_learn c.opening c.journal r lits
+may_tell c r Learn lits = may_learn c.opening c.journal (c.part r) r lits
 may_tell c r Derive lits = false
 may_tell c r UnitLine lits = true
 

@@ -1,4 +1,5 @@
 pub mod State
+pub mod Learning
 pub mod Enabled
 pub mod Events
 pub mod Sound

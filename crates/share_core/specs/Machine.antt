@@ -5,8 +5,7 @@ use Rattle.std.specs.Option.{unwrap_or}
 use Rattle.sat_words.specs.Literal.{Literal}
 use Rattle.sat_words.specs.declared.line.Line.{Line}
 use Rattle.rup_model.specs.declared.journal.Entry.{Entry}
-use Rattle.rup_model.specs.declared.journal.Entry.TheVariants.{Add, Del, Reduce}
-use Rattle.rup_model.specs.Journal.{formula_clause, lines}
+use Rattle.rup_model.specs.Journal.{formula_clause, added, lines}
 use Rattle.share_core.specs.declared.event.Stop.{Stop}
 use Rattle.share_core.specs.declared.stored.ClauseAt.{ClauseAt}
 use Rattle.share_core.specs.declared.stored.Cell.{Cell}
@@ -21,9 +20,7 @@ use Rattle.share_core.specs.Sound.{placed, Sound}
 
 -- the entry adds a clause that passes the test
 abbrev pub adds : (List Literal → Bool) → Entry → Bool
-adds p (Add x) = p x.lits
-adds p (Del r n) = false
-adds p (Reduce r) = false
+adds p e = list_any p (added (e ∷ []))
 
 -- the address stands in the list
 abbrev pub has_at : ℕ → List ClauseAt → Bool

@@ -4,10 +4,9 @@ use Rattle.std.specs.List.{list_any, Contains}
 use Rattle.sat_words.specs.Literal.{Literal}
 use Rattle.rup_model.specs.declared.journal.Addition.{Addition}
 use Rattle.rup_model.specs.declared.journal.Entry.{Entry}
-use Rattle.rup_model.specs.declared.journal.Entry.TheVariants.{Add}
 use Rattle.rup_model.specs.Basics.{below}
 use Rattle.rup_model.specs.Log.{Accepted}
-use Rattle.rup_model.specs.Journal.{deletion, formula_clause, spelled, lines, is_ring}
+use Rattle.rup_model.specs.Journal.{deletion, formula_clause, additions, spelled, lines, is_ring}
 use Rattle.share_core.specs.declared.stored.Cell.{Cell}
 use Rattle.share_core.specs.State.{times_at, State, slots}
 use Rattle.share_core.specs.Enabled.{Holds}
@@ -15,7 +14,7 @@ use Rattle.share_core.specs.Sound.{counted}
 
 -- some addition of the journal has this number, and a deletion of it spells this clause
 abbrev pub IsAdded : List Entry → ℕ → List Literal → Type 0
-IsAdded J n c = (x : Addition) × Contains J (Add x) × (x.number ≡ n) × (spelled x ≡ c)
+IsAdded J n c = (x : Addition) × Contains (additions J) x × (x.number ≡ n) × (spelled x ≡ c)
 
 -- the number names a clause of the formula or an addition, and no deletion names it
 abbrev pub Stands : List (List Literal) → List Entry → ℕ → List Literal → Type 0

@@ -1,8 +1,8 @@
 -- Which states are sound.
-use Rattle.std.specs.Prelude.{◌≡◌, ◌≢◌, ℕ, ◌+◌, ◌<◌, ◌≤◌, Bool, true, false, ◌&&◌, ◌==◌, List, [], ◌∷◌, ◌++◌, length, fold, All, Option, Some, None, if◌then◌else◌}
+use Rattle.std.specs.Prelude.{◌≡◌, ◌≢◌, ◌⊎◌, ℕ, ◌+◌, ◌<◌, ◌≤◌, Bool, true, false, ◌&&◌, ◌==◌, List, [], ◌∷◌, ◌++◌, map, length, fold, All, Contains, Option, Some, None, if◌then◌else◌}
 use Rattle.std.specs.Option.{is_none}
 use Rattle.sat_words.specs.Literal.{Literal}
-use Rattle.sat_words.specs.Clause.{has, distinct_lits}
+use Rattle.sat_words.specs.Clause.{has, distinct_lits, two_or_more}
 use Rattle.rup_model.specs.declared.journal.Entry.{Entry}
 use Rattle.rup_model.specs.Basics.{EachAfter, below, one_if}
 use Rattle.rup_model.specs.Journal.{ring_of, Book, book, ended, LogSound, is_told, is_ring, IsFresh, IsSpaced}
@@ -70,6 +70,15 @@ pub record CellsSound (b : Book) (cell : ℕ → Option Cell) : Type 0 where
   pub shape : (a : ℕ) (x : Cell) → cell a ≡ Some x → IsLong x.lits
   pub own : (a b : ℕ) (x y : Cell) → cell a ≡ Some x → cell b ≡ Some y → x.number ≡ y.number → a ≡ b
 
+-- the number is that of a start clause, or of an addition behind the opening's journal
+abbrev pub IsShared : CoreOpening → ℕ → Type 0
+IsShared o n = Contains (map (λ s. s.number) o.starts) n ⊎ ((book o.formula o.journal).next ≤ n)
+
+-- each of these clauses that is alive, and has two literals or more, is the clause of a cell
+abbrev pub AllInCells : CoreOpening → List Entry → (ℕ → Option Cell) → Type 0
+AllInCells o J cell = (n : ℕ) (c : List Literal) → IsShared o n → (book o.formula J).clause n ≡ Some c → two_or_more c ≡ true
+    → (a : ℕ) × (x : Cell) × (cell a ≡ Some x) × (x.number ≡ n)
+
 -- Slots
 
 -- the address of a put, where it is the slot for this ring and class
@@ -102,17 +111,21 @@ pub record FreshSound (starts : List (List Literal)) (J : List Entry) : Type 0 w
   pub fresh : EachAfter (IsFresh starts) [] J
   pub spaced : EachAfter IsSpaced [] J
 
--- each ring's part has its entries
+-- behind the opening's journal, each ring's part has its entries
 abbrev pub EntriesOwned : CoreOpening → List Entry → (ℕ → Part) → Type 0
-EntriesOwned o J part = (r : ℕ) → r < o.rings → (part r).wrote ≡ placed r 0 J
+EntriesOwned o J part = (added : List Entry) × (J ≡ o.journal ++ added) × ((r : ℕ) → r < o.rings → (part r).wrote ≡ placed r (length o.journal) added)
 
--- Units and the stop
+-- Units, the turn and the stop
 
 -- each listed unit is in the formula or was added, none stands twice, and rings have seen them in order
 pub record UnitsSound (F : List (List Literal)) (J : List Entry) (units : List Literal) (part : ℕ → Part) : Type 0 where
   pub told : (l : Literal) → has units l ≡ true → is_told F J l ≡ true
   pub distinct : distinct_lits units ≡ true
   pub seen : (r : ℕ) → (rest : List Literal) × (units ≡ (part r).seen ++ rest)
+
+-- the turn is a ring's
+abbrev pub TurnSound : ℕ → Option ℕ → Type 0
+TurnSound rings turn = (r : ℕ) → turn ≡ Some r → r < rings
 
 -- a stop is of a ring and of a kind from 1 to 5, and for a refutation the log is ended
 pub record StopSound (F : List (List Literal)) (J : List Entry) (rings : ℕ) (stop : Option Stop) : Type 0 where
@@ -127,9 +140,11 @@ pub record Sound (c : State) : Type 0 where
   pub starts : StartsOpen c.opening c
   pub copies : CopiesSound c.opening.rings c.cell c.part
   pub cells : CellsSound (book c.opening.formula c.journal) c.cell
+  pub whole : AllInCells c.opening c.journal c.cell
   pub slots : SlotsSound c.opening c
   pub log : JournalSound c.opening c.journal
   pub entries : EntriesOwned c.opening c.journal c.part
   pub freshness : FreshSound (start_clauses (opening_of c.opening)) c.journal
   pub units : UnitsSound c.opening.formula c.journal c.units c.part
+  pub turns : TurnSound c.opening.rings c.turn
   pub stops : StopSound c.opening.formula c.journal c.opening.rings c.stop

@@ -11,6 +11,9 @@ use Rattle.share_core.specs.declared.event.Stop.{Stop}
 use Rattle.share_core.specs.declared.stored.ClauseAt.{ClauseAt}
 use Rattle.share_core.specs.declared.stored.Cell.{Cell}
 use Rattle.share_core.specs.declared.stored.PutNote.{PutNote}
+pub use Rattle.share_core.specs.declared.part.CoreOpening.{CoreOpening}
+pub use Rattle.share_core.specs.declared.part.Placed.{Placed}
+pub use Rattle.share_core.specs.declared.part.Part.{Part}
 
 -- Lists of cells, each as often as it is held
 
@@ -30,15 +33,6 @@ with_cell h hs = if h.address == 0 then hs else hs ++ h ∷ []
 
 -- Openings
 
--- the formula, the number of rings, the ruler's journal, the start clauses in their cells, and the units that are
--- listed from the start
-pub record CoreOpening : Type 0 where
-  pub formula : List (List Literal)
-  pub rings : ℕ
-  pub journal : List Entry
-  pub starts : List ClauseAt
-  pub units : List Literal
-
 -- the opening without its addresses
 abbrev pub opening_of : CoreOpening → Opening
 opening_of o = record { journal = o.journal; starts = map (λ s. record { number = s.number; lits = s.lits }) o.starts; units = o.units }
@@ -53,23 +47,6 @@ pub record IsCoreOpening (o : CoreOpening) : Type 0 where
   pub apart : (a : ℕ) → times_at a o.starts ≤ 1
 
 -- Rings
-
--- an entry with its place in the journal
-pub record Placed : Type 0 where
-  pub place : ℕ
-  pub entry : Entry
-
--- what one ring has: the cells that it holds, builds, and is to delete; the units that it has seen; how often it has
--- shared; and in order what it wrote and put
-pub record Part : Type 0 where
-  pub ring : ℕ
-  pub held : List ClauseAt
-  pub making : List ClauseAt
-  pub waiting : List ClauseAt
-  pub seen : List Literal
-  pub shared : ℕ
-  pub wrote : List Placed
-  pub puts : List PutNote
 
 -- a ring before its first step
 abbrev pub blank : ℕ → Part

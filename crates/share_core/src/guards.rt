@@ -6,7 +6,7 @@ ghost use Rattle.sat_words.specs.Literal.{opposite};
 ghost use Rattle.sat_words.specs.Clause.{has, includes, distinct_lits, has_opposites};
 ghost use Rattle.rup_model.specs.Journal.{recent, is_ring};
 ghost use Rattle.share_core.specs.declared.progress.Origin.{Origin};
-ghost use Rattle.share_core.specs.Enabled.{follows, may_learn, may_derive};
+ghost use Rattle.share_core.specs.Learning.{follows, may_learn, may_derive};
 ghost use Rattle.share_core.specs.Machine.{has_at, data_of, ring_in, state_of};
 ghost use Rattle.share_core.specs.Guards.{is_long, may_add, may_tell, writes, holds, is_enabled};
 
@@ -59,7 +59,7 @@ fn includes_some(lits: &[Lit], list: &[ClauseAt]) -> bool
 impl Progress {
     /// Whether the clause includes no start clause and nothing that the ring learned since it last reduced.
     fn may_learn(&self, origin: &Origin, ring: u32, lits: &[Lit]) -> bool
-        ensures { let c = state_of (data_of origin.now self.now) in result ≡ may_learn c.opening c.journal ring lits.now }
+        ensures { let c = state_of (data_of origin.now self.now) in result ≡ may_learn c.opening c.journal (c.part ring) ring lits.now }
     {
         !includes_some(lits, origin.starts.as_slice())
             && !repeats_recent(self.journal.as_slice(), ring, lits)

@@ -13,12 +13,14 @@ mod guards;
 mod items;
 mod journal;
 mod laws;
+mod part;
 mod progress;
 mod ring;
 mod running;
 mod stored;
 
 pub use event::{Event, MAX_ENTRIES, MAX_SHARES, Stop};
+pub use part::{CoreOpening, Part, Placed};
 pub use laws::{
     enabled_events_keep_sound, entries_are_of_rings, events_keep_sound, journals_grow,
     openings_are_sound, recent_by_own_entries, sound_is_plain,

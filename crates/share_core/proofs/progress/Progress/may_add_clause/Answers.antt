@@ -1,7 +1,7 @@
 use Rattle.std.proofs.Common.{◌≡◌, ◌∙◌, ◌==◌, Bool, IfOk, not, sym, subst}
 use Rattle.std.specs.Option.{is_none}
 use Rattle.share_core.specs.State.{State}
-use Rattle.share_core.specs.Enabled.{follows}
+use Rattle.share_core.specs.Learning.{follows}
 use Rattle.share_core.specs.Guards.{writes, may_add, is_long}
 use Rattle.share_core.specs.Machine.{data_of, state_of}
 use Rattle.share_core.proofs.Conjunctions.{five_more}

@@ -1,6 +1,6 @@
 use Rattle.std.proofs.Common.{◌≡◌, ◌∙◌, Bool, [], IfOk, sym, subst}
 use Rattle.share_core.specs.State.{State}
-use Rattle.share_core.specs.Enabled.{follows}
+use Rattle.share_core.specs.Learning.{follows}
 use Rattle.share_core.specs.Guards.{writes}
 use Rattle.share_core.specs.Machine.{data_of, state_of}
 use Rattle.share_core.proofs.Conjunctions.{one_more}

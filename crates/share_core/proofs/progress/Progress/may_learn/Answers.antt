@@ -14,11 +14,11 @@ returns-then-not-includes_some c =
     let d : State = state_of (data_of c.args.origin.now c.args.self.now) in
     let starts : list_any (λ (h : ClauseAt). includes c.args.lits.now h.lits) c.args.origin.now.starts ≡ false = ap (list_any (λ (h : ClauseAt). includes c.args.lits.now h.lits)) (sym c.as_slice.ensures) ∙ sym c.includes_some.ensures ∙ c.if-not-includes_some.true in
     ap not (c.repeats_recent.ensures ∙ ap (λ (J : List Entry). list_any (includes c.args.lits.now) (recent c.args.ring J)) c.as_slice-then-not-includes_some.ensures)
-    ∙ sym (learn_parts d.opening d.journal c.args.ring c.args.lits.now ∙ ap (λ (b : Bool). not (b || list_any (includes c.args.lits.now) (recent c.args.ring c.args.self.now.journal))) starts)
+    ∙ sym (learn_parts d.opening d.journal (d.part c.args.ring) c.args.ring c.args.lits.now ∙ ap (λ (b : Bool). not (b || list_any (includes c.args.lits.now) (recent c.args.ring c.args.self.now.journal))) starts)
 
 pub returns-else-not-includes_some : goal.returns-else-not-includes_some
 returns-else-not-includes_some c =
     let d : State = state_of (data_of c.args.origin.now c.args.self.now) in
     let starts : list_any (λ (h : ClauseAt). includes c.args.lits.now h.lits) c.args.origin.now.starts ≡ true = ap (list_any (λ (h : ClauseAt). includes c.args.lits.now h.lits)) (sym c.as_slice.ensures) ∙ sym c.includes_some.ensures ∙ c.if-not-includes_some.false in
     ap not c.if-not-includes_some.false
-    ∙ sym (learn_parts d.opening d.journal c.args.ring c.args.lits.now ∙ ap (λ (b : Bool). not (b || list_any (includes c.args.lits.now) (recent c.args.ring c.args.self.now.journal))) starts)
+    ∙ sym (learn_parts d.opening d.journal (d.part c.args.ring) c.args.ring c.args.lits.now ∙ ap (λ (b : Bool). not (b || list_any (includes c.args.lits.now) (recent c.args.ring c.args.self.now.journal))) starts)

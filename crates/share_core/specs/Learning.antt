@@ -1,0 +1,55 @@
+-- What a ring knows, and what it may add to the log for it.
+use Rattle.std.specs.Prelude.{◌≡◌, ℕ, Bool, true, ⊤, List, [], ◌∷◌, ◌++◌, map}
+use Rattle.std.specs.List.{list_any}
+use Rattle.sat_words.specs.Literal.{Literal}
+use Rattle.sat_words.specs.Clause.{includes}
+use Rattle.rup_model.specs.declared.journal.Kind.{Kind}
+use Rattle.rup_model.specs.declared.journal.Kind.TheVariants.{Ruler, Learn, Derive, UnitLine}
+use Rattle.rup_model.specs.declared.journal.Entry.{Entry}
+use Rattle.rup_model.specs.Rup.{rup}
+use Rattle.rup_model.specs.Journal.{fresh}
+use Rattle.rup_model.specs.Opening.{start_clauses}
+use Rattle.share_core.specs.State.{CoreOpening, opening_of, Part}
+
+-- What a ring knows
+
+-- the clauses of the cells that it holds, each with its number, and the units that it has seen; a unit is listed without
+-- a number, and has 0
+abbrev pub known : Part → List (ℕ × List Literal)
+known p = map (λ h. (h.number, h.lits)) p.held ++ map (λ l. (0, l ∷ [])) p.seen
+
+-- the clauses without their numbers
+abbrev pub known_clauses : Part → List (List Literal)
+known_clauses p = map (λ k. k.1) (known p)
+
+-- the clause follows from what the ring knows
+abbrev pub follows : Part → List Literal → Bool
+follows p lits = rup (known_clauses p) lits
+
+-- What it may add
+
+-- what the ring learns contains no start clause and nothing that it learned since it last reduced
+abbrev pub may_learn : CoreOpening → List Entry → Part → ℕ → List Literal → Bool
+may_learn o J p r lits = fresh (start_clauses (opening_of o)) J r lits
+
+-- the ring holds a clause that has all these literals
+abbrev pub may_derive : Part → List Literal → Bool
+may_derive p lits = list_any (λ h. includes h.lits lits) p.held
+
+-- a clause is learned or derived
+abbrev pub MayAddClause : CoreOpening → List Entry → Part → ℕ → Kind → List Literal → Type 0
+MayAddClause o J p r Ruler lits = ⊥
+MayAddClause o J p r Learn lits = may_learn o J p r lits ≡ true
+MayAddClause o J p r Derive lits = may_derive p lits ≡ true
+MayAddClause o J p r UnitLine lits = ⊥
+
+-- a unit is learned or propagated
+abbrev pub MayAddUnit : CoreOpening → List Entry → Part → ℕ → Kind → List Literal → Type 0
+MayAddUnit o J p r Ruler lits = ⊥
+MayAddUnit o J p r Learn lits = may_learn o J p r lits ≡ true
+MayAddUnit o J p r Derive lits = ⊥
+MayAddUnit o J p r UnitLine lits = ⊤
+
+-- what the ring has once it has added a clause or a unit of this kind: learning uses nothing up
+abbrev pub after_learn : Kind → Part → Part
+after_learn kind p = p

@@ -1,0 +1,47 @@
+use crate::stored::{ClauseAt, PutNote};
+use rup_model::Entry;
+use sat_words::Lit;
+use std::collections::LinkedList;
+
+/// The formula, the number of rings, the ruler's journal, the start clauses in their cells, and the units that are
+/// listed from the start. No value of it is made.
+pub struct CoreOpening {
+    /// The formula's clauses.
+    pub formula: LinkedList<LinkedList<Lit>>,
+    /// How many rings there are.
+    pub rings: u32,
+    /// What the ruler wrote.
+    pub journal: LinkedList<Entry>,
+    /// The start clauses, with their addresses.
+    pub starts: LinkedList<ClauseAt>,
+    /// The units that are listed from the start.
+    pub units: LinkedList<Lit>,
+}
+
+/// An entry with its place in the journal. No value of it is made.
+pub struct Placed {
+    /// How many entries stand before it.
+    pub place: u64,
+    /// The entry.
+    pub entry: Entry,
+}
+
+/// What one ring has. No value of it is made.
+pub struct Part {
+    /// Its number.
+    pub ring: u32,
+    /// The cells that it holds, each as often as it does.
+    pub held: LinkedList<ClauseAt>,
+    /// The cells that it builds.
+    pub making: LinkedList<ClauseAt>,
+    /// The cells that it is to delete.
+    pub waiting: LinkedList<ClauseAt>,
+    /// The units that it has seen.
+    pub seen: LinkedList<Lit>,
+    /// How often it has shared.
+    pub shared: u64,
+    /// What it wrote, in order.
+    pub wrote: LinkedList<Placed>,
+    /// What it put, in order.
+    pub puts: LinkedList<PutNote>,
+}

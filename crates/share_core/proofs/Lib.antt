@@ -13,6 +13,11 @@ pub mod Exchanging
 pub mod Listing
 pub mod Steps
 pub mod Opened
+pub mod Leaving
+pub mod Others
+pub mod Turning
+pub mod Holding
+pub mod Standing
 pub mod Plainly
 pub mod Scans
 pub mod Places

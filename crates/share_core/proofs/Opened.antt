@@ -144,7 +144,7 @@ module _ (o : CoreOpening) (op : IsCoreOpening o) where
         named = λ r. refl;
       }
 
-  start_is : (s : ClauseAt) → In s o.starts → IsStart (book o.formula o.journal) (record { number = s.number; lits = s.lits })
+  pub start_is : (s : ClauseAt) → In s o.starts → IsStart (book o.formula o.journal) (record { number = s.number; lits = s.lits })
   start_is s i = all_in (IsStart (book o.formula o.journal)) (map (λ (t : ClauseAt). record { number = t.number; lits = t.lits }) o.starts) (record { number = s.number; lits = s.lits })
       (In_map (λ (t : ClauseAt). record { number = t.number; lits = t.lits }) o.starts s i) op.opens.starts
 

@@ -48,7 +48,7 @@ may_fresh_unit c r UnitLine lits may is = absurd (true≢false (sym is))
 -- Spelling
 
 -- a deletion spells a ring's clause as the ring added it
-own_spelling : (c : State) (x : Addition) → Sound c → x.ring < c.opening.rings → spelled x ≡ x.lits
+pub own_spelling : (c : State) (x : Addition) → Sound c → x.ring < c.opening.rings → spelled x ≡ x.lits
 own_spelling c x s lt = let few = s.opens.few_rings in (λ j. cond (ne_eqb x.ring RULER_RING (λ q. omega arith) j) (clause_of x.lits) x.lits)
 
 -- Entries that touch no cell

@@ -2,6 +2,7 @@ pub mod State
 pub mod Learning
 pub mod Enabled
 pub mod Events
+pub mod Left
 pub mod Sound
 pub mod Readable
 pub mod Machine

@@ -1,5 +1,5 @@
 -- What a sound state says, in plain words.
-use Rattle.std.specs.Prelude.{◌≡◌, ◌≢◌, ◌⊎◌, ℕ, ◌<◌, ◌≤◌, false, List, length, Some, None}
+use Rattle.std.specs.Prelude.{◌≡◌, ◌≢◌, ◌⊎◌, ℕ, ◌<◌, ◌≤◌, Bool, false, List, length, Some, None}
 use Rattle.std.specs.List.{list_any, Contains}
 use Rattle.sat_words.specs.Literal.{Literal}
 use Rattle.rup_model.specs.declared.journal.Addition.{Addition}
@@ -16,9 +16,17 @@ use Rattle.share_core.specs.Sound.{counted}
 abbrev pub IsAdded : List Entry → ℕ → List Literal → Type 0
 IsAdded J n c = (x : Addition) × Contains (additions J) x × (x.number ≡ n) × (spelled x ≡ c)
 
+-- a deletion names the number
+abbrev pub deleted : List Entry → ℕ → Bool
+deleted J n = list_any (λ e. is_ring n (deletion e)) J
+
 -- the number names a clause of the formula or an addition, and no deletion names it
 abbrev pub Stands : List (List Literal) → List Entry → ℕ → List Literal → Type 0
-Stands F J n c = ((formula_clause F n ≡ Some c) ⊎ IsAdded J n c) × (list_any (λ e. is_ring n (deletion e)) J ≡ false)
+Stands F J n c = ((formula_clause F n ≡ Some c) ⊎ IsAdded J n c) × (deleted J n ≡ false)
+
+-- a cell has this clause under this number
+abbrev pub IsInCell : State → ℕ → List Literal → Type 0
+IsInCell c n lits = (a : ℕ) × (x : Cell) × (c.cell a ≡ Some x) × (x.number ≡ n) × (x.lits ≡ lits)
 
 -- the cell there is open
 abbrev pub IsOpenCell : State → ℕ → Cell → Type 0

@@ -1,18 +1,20 @@
 //! What every list of enabled events keeps.
-ghost use Rattle.std.specs.Prelude.{◌≡◌, ◌<◌, ℕ, List, ◌++◌, map, fold, All};
+ghost use Rattle.std.specs.Prelude.{◌≡◌, ◌<◌, ◌≤◌, ℕ, List, ◌++◌, map, length, fold, All};
 ghost use Rattle.rup_model.specs.declared.journal.Entry.{Entry};
 ghost use Rattle.rup_model.specs.Journal.{ring_of, recent};
 ghost use Rattle.share_core.specs.declared.event.Event.{Event};
 ghost use Rattle.share_core.specs.State.{Placed, CoreOpening, IsCoreOpening, State, opened};
 ghost use Rattle.share_core.specs.Enabled.{IsEnabled, AllEnabled};
 ghost use Rattle.share_core.specs.Events.{after};
+ghost use Rattle.share_core.specs.Left.{Left};
 ghost use Rattle.share_core.specs.Sound.{Sound};
 ghost use Rattle.share_core.specs.Readable.{Plain};
 
-/// Every list of enabled events from an opening leaves a sound state. A front of such a list is one too, so the state
-/// is sound after each event.
+/// Every list of enabled events from an opening leaves a sound state, and so does each front of it: the state is sound
+/// after each event.
 pub fn events_keep_sound()
-    ensures { (o : CoreOpening) → IsCoreOpening o → (es : List Event) → AllEnabled (opened o) es → Sound (fold after (opened o) es) }
+    ensures fronts { (o : CoreOpening) → IsCoreOpening o → (es fs : List Event) → AllEnabled (opened o) (es ++ fs) → Sound (fold after (opened o) es) }
+    ensures whole { (o : CoreOpening) → IsCoreOpening o → (es : List Event) → AllEnabled (opened o) es → Sound (fold after (opened o) es) }
 {}
 
 /// An opening is a sound state.
@@ -31,9 +33,10 @@ pub fn journals_grow()
     ensures opening { (c : State) (es : List Event) → (fold after c es).opening ≡ c.opening }
 {}
 
-/// Behind the ruler's part of the journal all entries are those of the rings.
+/// The journal begins with the opening's, behind which all entries are those of the rings.
 pub fn entries_are_of_rings()
-    ensures { (c : State) → Sound c → (added : List Entry) × (c.journal ≡ c.opening.journal ++ added) × All (λ e. ring_of e < c.opening.rings) added }
+    ensures longer { (c : State) → Sound c → length c.opening.journal ≤ length c.journal }
+    ensures rings { (c : State) → Sound c → (added : List Entry) × (c.journal ≡ c.opening.journal ++ added) × All (λ e. ring_of e < c.opening.rings) added }
 {}
 
 /// What a ring learned since it last reduced is told by its own entries.
@@ -44,4 +47,21 @@ pub fn recent_by_own_entries()
 /// What a sound state says in plain words.
 pub fn sound_is_plain()
     ensures { (c : State) → Sound c → Plain c }
+{}
+
+/// What enabled events leave: the opening, where there is none; what one more or a list more makes of it. It is sound,
+/// and was opened with what the opening says.
+pub fn events_leave_states()
+    ensures none { (o : CoreOpening) → IsCoreOpening o → Left o (opened o) }
+    ensures one { (o : CoreOpening) (c : State) (e : Event) → Left o c → IsEnabled c e → Left o (after c e) }
+    ensures more { (o : CoreOpening) (c : State) (es : List Event) → Left o c → AllEnabled c es → Left o (fold after c es) }
+    ensures sound { (o : CoreOpening) (c : State) → Left o c → Sound c }
+    ensures opening { (o : CoreOpening) (c : State) → Left o c → c.opening ≡ o }
+{}
+
+/// A list of events is enabled exactly where its front is, and its rest in the state that the front leaves.
+pub fn enabled_lists_join()
+    ensures front { (c : State) (es fs : List Event) → AllEnabled c (es ++ fs) → AllEnabled c es }
+    ensures rest { (c : State) (es fs : List Event) → AllEnabled c (es ++ fs) → AllEnabled (fold after c es) fs }
+    ensures join { (c : State) (es fs : List Event) → AllEnabled c es → AllEnabled (fold after c es) fs → AllEnabled c (es ++ fs) }
 {}

@@ -6,6 +6,7 @@
 //! valid where it stands.
 #![tactic(auto)]
 
+mod cell_laws;
 mod cells;
 mod effects;
 mod event;
@@ -16,14 +17,23 @@ mod laws;
 mod part;
 mod progress;
 mod ring;
+mod ring_laws;
 mod running;
 mod stored;
 
+pub use cell_laws::{
+    cells_hold_the_clauses, counts_are_bounded, numbers_are_below_the_next, slots_have_open_cells,
+    what_a_ring_builds, what_a_ring_holds, what_follows_is_valid, what_waits,
+};
 pub use event::{Event, MAX_ENTRIES, MAX_SHARES, Stop};
-pub use part::{CoreOpening, Part, Placed};
 pub use laws::{
-    enabled_events_keep_sound, entries_are_of_rings, events_keep_sound, journals_grow,
-    openings_are_sound, recent_by_own_entries, sound_is_plain,
+    enabled_events_keep_sound, enabled_lists_join, entries_are_of_rings, events_keep_sound,
+    events_leave_states, journals_grow, openings_are_sound, recent_by_own_entries, sound_is_plain,
+};
+pub use part::{CoreOpening, Part, Placed};
+pub use ring_laws::{
+    guards_stay_enabled, others_stay, shares_are_counted, the_first_stop_stays,
+    the_turn_is_a_rings, the_turn_keeps_the_log, units_grow,
 };
 pub use running::{Core, Step};
 pub use stored::{Cell, ClauseAt, PutNote};

@@ -1,0 +1,216 @@
+-- What an event leaves to the rings that do not take it.
+use Rattle.std.proofs.Common.{◌≡◌, ◌≢◌, ℕ, ◌+◌, ◌==◌, Bool, true, false, cond, List, [], ◌∷◌, ◌++◌, length, fold, count_by, Option, Some, None, refl, sym, ap, ◌∙◌, inl, inr, arith, eq-eqb, ne_eqb, append-nil, append_assoc}
+use Rattle.std.proofs.lemmas.List.Sums.{sum_by-cons}
+use Rattle.sat_words.specs.Literal.{Literal}
+use Rattle.rup_model.specs.Basics.{put, one_if}
+use Rattle.rup_model.proofs.Lists.{In}
+use Rattle.rup_model.proofs.Sums.{at_put, put_else}
+use Rattle.share_core.specs.declared.event.Event.{Event}
+use Rattle.share_core.specs.declared.event.Event.TheVariants.{Grant, TakeTurn, GiveTurn, AddClause, AddUnit, AddEmpty, Reduce, OpenCell, Read, Share, DropCount, Bury, Put, Get, Publish, See, Stop}
+use Rattle.share_core.specs.declared.event.Stop.{Stop as StopWord}
+use Rattle.share_core.specs.State.{Part, State}
+use Rattle.share_core.specs.Events.{first_stop, unit_at, seen_part, shared_part, after}
+use Rattle.share_core.specs.State.{clause_at}
+use Rattle.share_core.specs.Left.{ring_of, AreOthers, shares}
+use Rattle.share_core.proofs.ClauseLists.{all_in}
+use Rattle.share_core.proofs.Counting.{none_some, some_same}
+
+-- Parts and grants
+
+pub event_else : (c : State) (i : ℕ) (e : Event) → ring_of e ≢ i → (after c e).part i ≡ c.part i
+event_else c i (Grant r) ne = put_else c.part r _ i (λ q. ne (sym q))
+event_else c i (TakeTurn r) ne = refl
+event_else c i (GiveTurn r) ne = refl
+event_else c i (AddClause r kind lits a) ne = put_else c.part r _ i (λ q. ne (sym q))
+event_else c i (AddUnit r kind l) ne = put_else c.part r _ i (λ q. ne (sym q))
+event_else c i (AddEmpty r) ne = put_else c.part r _ i (λ q. ne (sym q))
+event_else c i (Reduce r) ne = put_else c.part r _ i (λ q. ne (sym q))
+event_else c i (OpenCell r a) ne = put_else c.part r _ i (λ q. ne (sym q))
+event_else c i (Read r a) ne = refl
+event_else c i (Share r a) ne = put_else c.part r _ i (λ q. ne (sym q))
+event_else c i (DropCount r a) ne = put_else c.part r _ i (λ q. ne (sym q))
+event_else c i (Bury r a) ne = put_else c.part r _ i (λ q. ne (sym q))
+event_else c i (Put r to k a) ne = put_else c.part r _ i (λ q. ne (sym q))
+event_else c i (Get r from k) ne = put_else c.part r _ i (λ q. ne (sym q))
+event_else c i (Publish r l) ne = put_else c.part r _ i (λ q. ne (sym q))
+event_else c i (See r) ne = put_else c.part r _ i (λ q. ne (sym q))
+event_else c i (Stop r kind) ne = refl
+
+pub event_grant : (c : State) (i : ℕ) (e : Event) → ring_of e ≢ i → (after c e).granted i ≡ c.granted i
+event_grant c i (Grant r) ne = put_else c.granted r true i (λ q. ne (sym q))
+event_grant c i (TakeTurn r) ne = refl
+event_grant c i (GiveTurn r) ne = refl
+event_grant c i (AddClause r kind lits a) ne = refl
+event_grant c i (AddUnit r kind l) ne = refl
+event_grant c i (AddEmpty r) ne = refl
+event_grant c i (Reduce r) ne = refl
+event_grant c i (OpenCell r a) ne = refl
+event_grant c i (Read r a) ne = refl
+event_grant c i (Share r a) ne = refl
+event_grant c i (DropCount r a) ne = refl
+event_grant c i (Bury r a) ne = refl
+event_grant c i (Put r to k a) ne = refl
+event_grant c i (Get r from k) ne = refl
+event_grant c i (Publish r l) ne = refl
+event_grant c i (See r) ne = refl
+event_grant c i (Stop r kind) ne = refl
+
+-- none of the list is the ring's
+abbrev pub Others : ℕ → List Event → Type 0
+Others r es = (e : Event) → In e es → ring_of e ≢ r
+
+pub others_in : (r : ℕ) (es : List Event) → AreOthers r es → Others r es
+others_in r es h e i = all_in (λ (x : Event). ring_of x ≢ r) es e i h
+
+pub run_else : (r : ℕ) (es : List Event) (c : State) → Others r es → (fold after c es).part r ≡ c.part r
+run_else r [] c h = refl
+run_else r (e ∷ es) c h = run_else r es (after c e) (λ x i. h x (inr i)) ∙ event_else c r e (h e (inl refl))
+
+pub run_grant : (r : ℕ) (es : List Event) (c : State) → Others r es → (fold after c es).granted r ≡ c.granted r
+run_grant r [] c h = refl
+run_grant r (e ∷ es) c h = run_grant r es (after c e) (λ x i. h x (inr i)) ∙ event_grant c r e (h e (inl refl))
+
+-- The stop
+
+event_stop : (c : State) (s : StopWord) (e : Event) → c.stop ≡ Some s → (after c e).stop ≡ Some s
+event_stop c s (Grant r) is = is
+event_stop c s (TakeTurn r) is = is
+event_stop c s (GiveTurn r) is = is
+event_stop c s (AddClause r kind lits a) is = is
+event_stop c s (AddUnit r kind l) is = is
+event_stop c s (AddEmpty r) is = is
+event_stop c s (Reduce r) is = is
+event_stop c s (OpenCell r a) is = is
+event_stop c s (Read r a) is = is
+event_stop c s (Share r a) is = is
+event_stop c s (DropCount r a) is = is
+event_stop c s (Bury r a) is = is
+event_stop c s (Put r to k a) is = is
+event_stop c s (Get r from k) is = is
+event_stop c s (Publish r l) is = is
+event_stop c s (See r) is = is
+event_stop c s (Stop r kind) is = ap (λ (q : Option StopWord). first_stop q (record { kind = kind; ring = r })) is
+
+pub run_stop : (s : StopWord) (es : List Event) (c : State) → c.stop ≡ Some s → (fold after c es).stop ≡ Some s
+run_stop s [] c is = is
+run_stop s (e ∷ es) c is = run_stop s es (after c e) (event_stop c s e is)
+
+pub stop_set : (c : State) (s : StopWord) (e : Event) → c.stop ≡ None → (after c e).stop ≡ Some s → e ≡ Stop s.ring s.kind
+stop_set c s (Grant r) none is = absurd (none_some s (sym none ∙ is))
+stop_set c s (TakeTurn r) none is = absurd (none_some s (sym none ∙ is))
+stop_set c s (GiveTurn r) none is = absurd (none_some s (sym none ∙ is))
+stop_set c s (AddClause r kind lits a) none is = absurd (none_some s (sym none ∙ is))
+stop_set c s (AddUnit r kind l) none is = absurd (none_some s (sym none ∙ is))
+stop_set c s (AddEmpty r) none is = absurd (none_some s (sym none ∙ is))
+stop_set c s (Reduce r) none is = absurd (none_some s (sym none ∙ is))
+stop_set c s (OpenCell r a) none is = absurd (none_some s (sym none ∙ is))
+stop_set c s (Read r a) none is = absurd (none_some s (sym none ∙ is))
+stop_set c s (Share r a) none is = absurd (none_some s (sym none ∙ is))
+stop_set c s (DropCount r a) none is = absurd (none_some s (sym none ∙ is))
+stop_set c s (Bury r a) none is = absurd (none_some s (sym none ∙ is))
+stop_set c s (Put r to k a) none is = absurd (none_some s (sym none ∙ is))
+stop_set c s (Get r from k) none is = absurd (none_some s (sym none ∙ is))
+stop_set c s (Publish r l) none is = absurd (none_some s (sym none ∙ is))
+stop_set c s (See r) none is = absurd (none_some s (sym none ∙ is))
+stop_set c s (Stop r kind) none is =
+    let new : StopWord = record { kind = kind; ring = r } in
+    ap (λ (q : StopWord). Stop q.ring q.kind) (some_same new s (sym (ap (λ (q : Option StopWord). first_stop q new) none) ∙ is))
+
+-- Units
+
+abbrev Grows : List Literal → List Literal → Type 0
+Grows us vs = (more : List Literal) × (vs ≡ us ++ more)
+
+grows_none : (us : List Literal) → Grows us us
+grows_none us = ([], sym (append-nil us))
+
+grows_two : (us vs ws : List Literal) → Grows us vs → Grows vs ws → Grows us ws
+grows_two us vs ws g h = (g.0 ++ h.0, h.1 ∙ ap (λ (xs : List Literal). xs ++ h.0) g.1 ∙ append_assoc us g.0 h.0)
+
+event_units : (c : State) (e : Event) → Grows c.units (after c e).units
+event_units c (Grant r) = grows_none c.units
+event_units c (TakeTurn r) = grows_none c.units
+event_units c (GiveTurn r) = grows_none c.units
+event_units c (AddClause r kind lits a) = grows_none c.units
+event_units c (AddUnit r kind l) = grows_none c.units
+event_units c (AddEmpty r) = grows_none c.units
+event_units c (Reduce r) = grows_none c.units
+event_units c (OpenCell r a) = grows_none c.units
+event_units c (Read r a) = grows_none c.units
+event_units c (Share r a) = grows_none c.units
+event_units c (DropCount r a) = grows_none c.units
+event_units c (Bury r a) = grows_none c.units
+event_units c (Put r to k a) = grows_none c.units
+event_units c (Get r from k) = grows_none c.units
+event_units c (Publish r l) = (l ∷ [], refl)
+event_units c (See r) = grows_none c.units
+event_units c (Stop r kind) = grows_none c.units
+
+pub run_units : (es : List Event) (c : State) → (more : List Literal) × ((fold after c es).units ≡ c.units ++ more)
+run_units [] c = grows_none c.units
+run_units (e ∷ es) c = grows_two c.units (after c e).units (fold after c (e ∷ es)).units (event_units c e) (run_units es (after c e))
+
+-- a part with more units seen
+seen_put : (c : State) (r i : ℕ) (p : Part) → Grows (c.part r).seen p.seen → Grows (c.part i).seen (put c.part r p i).seen
+seen_put c r i p h = at_put c.part r p (λ (q : Part). Grows (c.part i).seen q.seen) i
+    (λ e. (h.0, h.1 ∙ ap (λ (k : ℕ). (c.part k).seen ++ h.0) (sym e)))
+    (λ ne. grows_none (c.part i).seen)
+
+event_seen : (c : State) (i : ℕ) (e : Event) → Grows (c.part i).seen ((after c e).part i).seen
+event_seen c i (Grant r) = seen_put c r i _ (grows_none (c.part r).seen)
+event_seen c i (TakeTurn r) = grows_none (c.part i).seen
+event_seen c i (GiveTurn r) = grows_none (c.part i).seen
+event_seen c i (AddClause r kind lits a) = seen_put c r i _ (grows_none (c.part r).seen)
+event_seen c i (AddUnit r kind l) = seen_put c r i _ (grows_none (c.part r).seen)
+event_seen c i (AddEmpty r) = seen_put c r i _ (grows_none (c.part r).seen)
+event_seen c i (Reduce r) = seen_put c r i _ (grows_none (c.part r).seen)
+event_seen c i (OpenCell r a) = seen_put c r i _ (grows_none (c.part r).seen)
+event_seen c i (Read r a) = grows_none (c.part i).seen
+event_seen c i (Share r a) = seen_put c r i _ (grows_none (c.part r).seen)
+event_seen c i (DropCount r a) = seen_put c r i _ (grows_none (c.part r).seen)
+event_seen c i (Bury r a) = seen_put c r i _ (grows_none (c.part r).seen)
+event_seen c i (Put r to k a) = seen_put c r i _ (grows_none (c.part r).seen)
+event_seen c i (Get r from k) = seen_put c r i _ (grows_none (c.part r).seen)
+event_seen c i (Publish r l) = seen_put c r i (seen_part l (c.part r)) (l ∷ [], refl)
+event_seen c i (See r) = let l : Literal = unit_at c.units (length (c.part r).seen) in seen_put c r i (seen_part l (c.part r)) (l ∷ [], refl)
+event_seen c i (Stop r kind) = grows_none (c.part i).seen
+
+pub run_seen : (i : ℕ) (es : List Event) (c : State) → (more : List Literal) × (((fold after c es).part i).seen ≡ (c.part i).seen ++ more)
+run_seen i [] c = grows_none (c.part i).seen
+run_seen i (e ∷ es) c = grows_two (c.part i).seen ((after c e).part i).seen ((fold after c (e ∷ es)).part i).seen (event_seen c i e) (run_seen i es (after c e))
+
+-- Shares
+
+shared_put : (c : State) (r i : ℕ) (p : Part) → p.shared ≡ (c.part r).shared → (put c.part r p i).shared ≡ (c.part i).shared
+shared_put c r i p same = at_put c.part r p (λ (q : Part). q.shared ≡ (c.part i).shared) i (λ e. same ∙ ap (λ (k : ℕ). (c.part k).shared) (sym e)) (λ ne. refl)
+
+abbrev one_share : ℕ → Event → ℕ
+one_share i e = one_if (shares i e)
+
+none_shared : (c : State) (r i : ℕ) (p : Part) → p.shared ≡ (c.part r).shared → (put c.part r p i).shared ≡ (c.part i).shared + 0
+none_shared c r i p same = let e = shared_put c r i p same in omega arith
+
+event_shared : (c : State) (i : ℕ) (e : Event) → ((after c e).part i).shared ≡ (c.part i).shared + one_share i e
+event_shared c i (Grant r) = none_shared c r i _ refl
+event_shared c i (TakeTurn r) = omega arith
+event_shared c i (GiveTurn r) = omega arith
+event_shared c i (AddClause r kind lits a) = none_shared c r i _ refl
+event_shared c i (AddUnit r kind l) = none_shared c r i _ refl
+event_shared c i (AddEmpty r) = none_shared c r i _ refl
+event_shared c i (Reduce r) = none_shared c r i _ refl
+event_shared c i (OpenCell r a) = none_shared c r i _ refl
+event_shared c i (Read r a) = omega arith
+event_shared c i (Share r a) = at_put c.part r (shared_part (clause_at c a) (c.part r)) (λ (q : Part). q.shared ≡ (c.part i).shared + one_share i (Share r a)) i
+    (λ e. let u : one_share i (Share r a) ≡ 1 = ap one_if (eq-eqb r i (sym e)) in let k : (c.part r).shared ≡ (c.part i).shared = ap (λ (n : ℕ). (c.part n).shared) (sym e) in omega arith)
+    (λ ne. let u : one_share i (Share r a) ≡ 0 = ap one_if (ne_eqb r i (λ q. ne (sym q))) in omega arith)
+event_shared c i (DropCount r a) = none_shared c r i _ refl
+event_shared c i (Bury r a) = none_shared c r i _ refl
+event_shared c i (Put r to k a) = none_shared c r i _ refl
+event_shared c i (Get r from k) = none_shared c r i _ refl
+event_shared c i (Publish r l) = none_shared c r i _ refl
+event_shared c i (See r) = none_shared c r i _ refl
+event_shared c i (Stop r kind) = omega arith
+
+pub run_shared : (i : ℕ) (es : List Event) (c : State) → ((fold after c es).part i).shared ≡ (c.part i).shared + count_by (shares i) es
+run_shared i [] c = omega arith
+run_shared i (e ∷ es) c = let h = run_shared i es (after c e) in let k = event_shared c i e in let s : count_by (shares i) (e ∷ es) ≡ one_share i e + count_by (shares i) es = sum_by-cons (λ (x : Event). one_if (shares i x)) e es in omega arith

@@ -3,7 +3,9 @@
 Seeded random formulas of up to 16 variables, pigeonhole formulas and formulas with the empty clause go through the
 program with `--proof`, most of them in odd spellings, on standard input or as a file. Its answer is compared with a truth
 table, its `v` lines with the clauses and the format, and every line of its proof with the definition of DRAT. Before
-that, a damaged proof and a wrong model are tried, which must be caught. Nothing here shares code with the program.
+that, a damaged proof and a wrong model are tried, which must be caught. Then the program is brought to each other status
+by real files that fail, and each time the folder that it runs in must have no file but those that were to be there.
+Nothing here shares code with the program.
 """
 
 import os
@@ -243,6 +245,101 @@ def run(program, folder, variables, clauses, satisfiable, text, from_file):
     )
 
 
+class Case:
+    """One run, and what must come of it. The words may name `folder`, where `input` is, if it is given; `here` names the
+    files that must be there afterwards. The streams are compared whole."""
+
+    def __init__(self, status, words=(), stdin=b"", input=None, stdout="", stderr="", out=None, here=()):
+        self.status, self.words, self.stdin, self.input = status, words, stdin, input
+        self.stdout, self.stderr, self.out, self.here = stdout, stderr, out, set(here)
+
+
+MODEL = b"p cnf 2 1\n1 2 0\n"
+REFUTED = b"p cnf 1 2\n1 0\n-1 0\n"
+FULL = "/dev/full"
+
+
+def statuses():
+    """Each status but 8 and 9, most by more than one cause."""
+    pigeonhole = spelled(*pigeons(4))
+    for words in ["--threads 0", "--threads 2", "--conflicts 0", "--proof", "--other", "--help", "a.cnf b.cnf"]:
+        yield Case(1, words.split(), MODEL, stderr="gimsatul: bad command line\n")
+    for text, line, name in [
+        (b"", 1, "NoHeader"),
+        (b"p cnf 1\n", 1, "BadHeader"),
+        (b"p cnf 1 1\n1 %\n", 2, "BadToken"),
+        (b"p cnf 1 1\n\n-2 0\n", 3, "LiteralRange"),
+        (b"p cnf 1 1\n1 0\n1 0\n", 3, "TooManyClauses"),
+        (b"p cnf 1 2\n1 0\n%\n", 3, "TooFewClauses"),
+        (b"p cnf 1 1\n1", 2, "OpenClause"),
+        (b"p cnf 268435456 0\n", 1, "Limit"),
+    ]:
+        told = "gimsatul: input line %d: %s\n" % (line, name)
+        yield Case(2, ["--proof", "proof"], text, stderr=told, here=["proof"])
+        yield Case(2, ["input"], MODEL, text, stderr=told, here=["input"])
+    for path in ["missing", os.path.join("missing", "input")]:
+        yield Case(3, ["--proof", "proof", path], MODEL, stderr="gimsatul: cannot open input\n")
+    for path in [os.path.join("missing", "proof"), "."]:
+        yield Case(4, ["--proof", path], MODEL, stderr="gimsatul: cannot create proof\n")
+        yield Case(4, ["--proof", path, "input"], MODEL, MODEL, stderr="gimsatul: cannot create proof\n", here=["input"])
+    yield Case(5, ["--proof", "proof", "."], MODEL, stderr="gimsatul: read fault\n", here=["proof"])
+    for text in [MODEL, REFUTED]:
+        yield Case(6, ["--proof", "proof"], text, stderr="gimsatul: write fault\n", out=FULL, here=["proof"])
+    for text in [REFUTED, pigeonhole]:
+        yield Case(7, ["--proof", FULL], text, stderr="gimsatul: proof fault\n")
+    yield Case(0, ["--conflicts", "1", "--proof", "proof"], pigeonhole, stdout="s UNKNOWN\n", here=["proof"])
+    yield Case(0, ["--conflicts", "1", "input"], MODEL, pigeonhole, stdout="s UNKNOWN\n", here=["input"])
+    yield Case(10, [], MODEL, stdout="s SATISFIABLE\nv -1 2 0\n")
+    yield Case(20, ["input"], MODEL, REFUTED, stdout="s UNSATISFIABLE\n", here=["input"])
+
+
+def try_status(program, case):
+    """Runs the program in a folder of its own, and compares status, streams and the folder's files."""
+    with tempfile.TemporaryDirectory() as folder:
+        if case.input is not None:
+            with open(os.path.join(folder, "input"), "wb") as file:
+                file.write(case.input)
+        with open(case.out, "wb") if case.out else tempfile.TemporaryFile() as out:
+            done = subprocess.run(
+                [program, *case.words], input=case.stdin, stdout=out, stderr=subprocess.PIPE, cwd=folder, timeout=60
+            )
+            if not case.out:
+                out.seek(0)
+                if out.read().decode("ascii") != case.stdout:
+                    raise Wrong("%r: another answer" % (case.words,))
+        if done.returncode != case.status:
+            raise Wrong("%r: status %d in place of %d" % (case.words, done.returncode, case.status))
+        if done.stderr.decode("ascii") != case.stderr:
+            raise Wrong("%r: on standard error: %r" % (case.words, done.stderr))
+        if set(os.listdir(folder)) != case.here:
+            raise Wrong("%r: it leaves the files %r" % (case.words, sorted(os.listdir(folder))))
+        check_left(case, folder)
+
+
+def check_left(case, folder):
+    """The input is as it was, and what a run left as a proof is none where nothing was read, else a valid one."""
+    if case.input is not None:
+        with open(os.path.join(folder, "input"), "rb") as file:
+            if file.read() != case.input:
+                raise Wrong("%r: the input was changed" % (case.words,))
+    if "proof" not in case.here:
+        return
+    with open(os.path.join(folder, "proof"), "rb") as file:
+        text = file.read().decode("ascii")
+    if case.status in (2, 5):
+        if text:
+            raise Wrong("%r: a proof of what was not read" % (case.words,))
+        return
+    numbers = [int(word) for word in case.stdin.decode("ascii").split()[4:]]
+    clauses = [[]]
+    for number in numbers:
+        if number == 0:
+            clauses.append([])
+        else:
+            clauses[-1].append(number)
+    check_proof(clauses[:-1], text)
+
+
 def must_catch(what, check):
     try:
         check()
@@ -289,6 +386,13 @@ def main():
     tried = wrong = 0
     start = time.monotonic()
     rng = random.Random(SEED)
+    for case in statuses():
+        tried += 1
+        try:
+            try_status(program, case)
+        except Wrong as fault:
+            wrong += 1
+            print("wrong: %s" % fault)
     with tempfile.TemporaryDirectory() as folder:
         for variables, clauses, satisfiable in cases(rng):
             if time.monotonic() - start > SECONDS:

@@ -1,9 +1,9 @@
 -- Words that are lawful, and calls with such words.
 use Rattle.std.proofs.Common.{◌≡◌, ℕ, List, [], Some, None, refl, ap, sym, subst, inl, ◌∙◌}
-use Rattle.std.specs.Prelude.{IsSome, is_some, option_map}
+use Rattle.std.specs.Prelude.{IfSome, IsSome, is_some, option_map}
 use Rattle.std.specs.declared.option.Option.{Option}
 use Rattle.io_edge.specs.Causes.{Rose}
-use Rattle.io_edge.specs.Paths.{PathMap}
+use Rattle.io_edge.specs.Paths.{PathMap, IsThere}
 use Rattle.gimsatul.specs.declared.report.Tally.{Tally}
 use Rattle.gimsatul.specs.declared.report.End.{End}
 use Rattle.gimsatul.specs.Words.{Command, command_of, proof_path, file_path}
@@ -43,16 +43,20 @@ pub has_file : {R : Type 0} (left : R → Option (List ℕ)) (faults : R → ℕ
     → found ≡ Some command → IsOpened left faults contents command.file file → is_some (option_map faults file) ≡ is_some (file_path found)
 has_file left faults contents found command file is opened = same_there faults file ∙ opened_there left faults contents command.file file opened ∙ sym (same_file found command is)
 
-words_cases : (stop : WordsStop) (tally : Tally) (call : Call) → (stop ≡ words_stop.Usage → command_of call.words ≡ None) → tally ≡ no_tally → call.file ≡ None → call.proof ≡ None → IsStill call.files → IsStill call.input
+-- and its path is there, where the files are told
+pub file_there : (contents : Option PathMap) (found : Option Command) (command : Command) → found ≡ Some command → IfSome command.file (IsThere contents) → IfSome (file_path found) (IsThere contents)
+file_there contents found command is there = subst (λ (x : Option Command). IfSome (file_path x) (IsThere contents)) (sym is) there
+
+words_cases : (stop : WordsStop) (tally : Tally) (call : Call) → (stop ≡ words_stop.Usage → command_of call.words ≡ None) → tally ≡ no_tally → call.file ≡ None → call.proof ≡ None → IsStill call.files → IsStill call.input → IsStill call.out.faults
     → CallOutcome (end_of_words stop) no_formula [] tally call
-words_cases words_stop.Usage tally call usage counts file proof files input = (usage refl, record { barren = record { no_proof = proof; nothing = refl; counts = counts; input = input }; no_file = file })
-words_cases words_stop.Memory tally call usage counts file proof files input = inl (files, record { barren = record { no_proof = proof; nothing = refl; counts = counts; input = input }; no_file = file })
+words_cases words_stop.Usage tally call usage counts file proof files input out = (usage refl, record { barren = record { no_proof = proof; nothing = refl; counts = counts; input = input; out = out }; no_file = file })
+words_cases words_stop.Memory tally call usage counts file proof files input out = inl (files, record { barren = record { no_proof = proof; nothing = refl; counts = counts; input = input; out = out }; no_file = file })
 
 -- the words asked for nothing
-pub words_stopped : (stop : WordsStop) (end : End) (tally : Tally) (call : Call) → end ≡ end_of_words stop → (stop ≡ words_stop.Usage → command_of call.words ≡ None) → tally ≡ no_tally → call.file ≡ None → call.proof ≡ None → IsStill call.files → IsStill call.input
+pub words_stopped : (stop : WordsStop) (end : End) (tally : Tally) (call : Call) → end ≡ end_of_words stop → (stop ≡ words_stop.Usage → command_of call.words ≡ None) → tally ≡ no_tally → call.file ≡ None → call.proof ≡ None → IsStill call.files → IsStill call.input → IsStill call.out.faults
     → CallOutcome end no_formula [] tally call
-words_stopped stop end tally call is usage counts file proof files input =
-    subst (λ (e : End). CallOutcome e no_formula [] tally call) (sym is) (words_cases stop tally call usage counts file proof files input)
+words_stopped stop end tally call is usage counts file proof files input out =
+    subst (λ (e : End). CallOutcome e no_formula [] tally call) (sym is) (words_cases stop tally call usage counts file proof files input out)
 
 -- a count that rose behind a call that left it
 pub rose_behind : (before between after : ℕ) → between ≡ before → Rose between after → Rose before after

@@ -1,5 +1,5 @@
 -- A formula that has the empty clause: its refutation is one line, and what the search says of the line.
-use Rattle.std.proofs.Common.{◌≡◌, ◌∙◌, ℕ, zero, suc, ◌<◌, true, List, [], ◌∷◌, map, take, Some, None, Ok, Err, refl, sym, ap, subst, arith, append-nil, get_or}
+use Rattle.std.proofs.Common.{◌≡◌, ◌∙◌, ℕ, zero, suc, ◌<◌, ◌≤◌, true, List, [], ◌∷◌, map, take, Some, None, Ok, Err, refl, sym, ap, subst, arith, append-nil, get_or}
 use Rattle.std.specs.declared.option.Option.{Option}
 use Rattle.std.specs.List.{list_any}
 use Rattle.std.proofs.lemmas.Bool.{or_left, or_right, false≢true}
@@ -26,28 +26,22 @@ use Rattle.gimsatul.specs.declared.report.Verdict.TheVariants.{Unsatisfiable}
 use Rattle.gimsatul.specs.declared.search.SearchStop.TheVariants.{ProofFault as Faulty, Memory as NoMemory}
 use Rattle.gimsatul.specs.Journaled.{CanBeSpelled, IsPlainEntry, IsJournal, HoldsText}
 use Rattle.gimsatul.specs.Searched.{IsSearch}
+use Rattle.gimsatul.proofs.Journals.{empty_journal, holds_nothing}
 use Rattle.gimsatul.proofs.Standing.{told_whole, on_variables}
 
-pub none_told : (written : Option (List ℕ)) → IsEmptyWhereTold written → HoldsText written []
-none_told None h = tt
-none_told (Some bytes) h = h
-
-pub empty_journal : (F : List (List Literal)) → IsJournal 1 F []
-empty_journal F = record { fits = tt; accepted = tt; last = tt; spelled = λ k x lt. absurd (omega arith); of_rings = λ k x lt. absurd (omega arith); plain = λ k x lt. absurd (omega arith) }
-
 -- no entry, and nothing written
-pub untouched : (limit : ℕ) (formula : FormulaData) (faults : ℕ) (written : Option (List ℕ)) → faults ≡ 0 → IsEmptyWhereTold written → IsSearch limit formula (Err NoMemory) 0 faults written
-untouched limit formula faults written quiet empty = record {
+pub untouched : (limit : ℕ) (formula : FormulaData) (faults : ℕ) (written : Option (List ℕ)) → 1 ≤ limit → faults ≡ 0 → IsEmptyWhereTold written → IsSearch limit formula (Err NoMemory) 0 faults written
+untouched limit formula faults written some quiet empty = record {
   journal = [];
   stands = empty_journal formula.clauses;
   counts = refl;
   within = omega arith;
-  conclusion = quiet;
-  whole = λ _. none_told written empty;
-  short = λ some. absurd (some quiet);
+  conclusion = (quiet, some);
+  whole = λ _. holds_nothing written empty;
+  short = λ failed. absurd (failed quiet);
 }
 
-module _ (limit : ℕ) (formula : FormulaData) (given : list_any is_empty formula.clauses ≡ true) (old : LineState) (empty : IsEmptyWhereTold old.written) (quiet : old.faults ≡ 0) where
+module _ (limit : ℕ) (formula : FormulaData) (some : 1 ≤ limit) (given : list_any is_empty formula.clauses ≡ true) (old : LineState) (empty : IsEmptyWhereTold old.written) (quiet : old.faults ≡ 0) where
   abbrev F : List (List Literal)
   F = formula.clauses
 
@@ -86,6 +80,7 @@ module _ (limit : ℕ) (formula : FormulaData) (given : list_any is_empty formul
     spelled = spelled;
     of_rings = λ k x lt. absurd (omega arith);
     plain = λ k x lt. by k x lt;
+    each_new = (λ learns. absurd (false≢true learns), tt);
   }
     where
       by : (k : ℕ) (x : Entry) → k < 1 → IsPlainEntry (get_or (entry ∷ []) k x)
@@ -102,7 +97,7 @@ module _ (limit : ℕ) (formula : FormulaData) (given : list_any is_empty formul
         within = omega arith;
         conclusion = (faults, record { refuted = refutes; no_model = λ m t. refutes_none F (AddLine [] ∷ []) refutes (on_variables (AddLine [] ∷ []) spelled) (m, t) });
         whole = λ _. subst (λ (t : List ℕ). HoldsText new.written t) (sym (append-nil (line_text (AddLine [])))) (told_whole old.written new.written (line_text (AddLine [])) empty (ap (λ (s : LineState). s.written) put.state));
-        short = λ some. absurd (some faults);
+        short = λ failed. absurd (failed faults);
       }
 
   pub failed : (new : LineState) → FailedLine old new (AddLine []) → IsSearch limit formula (Err Faulty) 0 new.faults new.written
@@ -128,4 +123,4 @@ module _ (limit : ℕ) (formula : FormulaData) (given : list_any is_empty formul
       }
 
   pub no_memory : (new : LineState) → new ≡ old → IsSearch limit formula (Err NoMemory) 0 new.faults new.written
-  no_memory new is = subst (λ (s : LineState). IsSearch limit formula (Err NoMemory) 0 s.faults s.written) (sym is) (untouched limit formula old.faults old.written quiet empty)
+  no_memory new is = subst (λ (s : LineState). IsSearch limit formula (Err NoMemory) 0 s.faults s.written) (sym is) (untouched limit formula old.faults old.written some quiet empty)

@@ -110,13 +110,19 @@ spaced_from vars before (Add x ∷ es) own = (tt, spaced_from vars (before ++ Ad
 spaced_from vars before (Del r n ∷ es) own = absurd (first_All (IsOwn 0 vars) (Del r n) es own)
 spaced_from vars before (Reduce r ∷ es) own = absurd (first_All (IsOwn 0 vars) (Reduce r) es own)
 
+less_or : (a b : ℕ) → a ≤ b → (a ≡ b → ⊥) → a < b
+less_or zero zero le apart = absurd (apart refl)
+less_or zero (suc b) le apart = omega arith
+less_or (suc a) zero le apart = absurd (omega arith)
+less_or (suc a) (suc b) le apart = let h = less_or a b (omega arith) (λ e. apart (ap suc e)) in omega arith
+
 pub on_variables : (L : List Line) → CanBeSpelled L → OnVariables L
 on_variables L spelled k d lt j l less = (spelled k d lt j l less).low
 
 module _ (formula : FormulaData) (output : LineState) (p s : PortState) (limit count : ℕ) (end : End) (out : LineState)
     (begins : Begins formula output p) (few : formula.vars < 2 ^ 28) (empty : IsEmptyWhereTold output.written) (quiet : output.faults ≡ 0)
     (stays : Stays p s) (wrote : All (IsOwn p.ring p.vars) s.mine) (each_new : AreNew s) (counted : count ≡ length (learned s.ring s.mine))
-    (within : count ≤ limit) (spent : end ≡ SpentEnd → count ≡ limit) (ends : Ends s end) (lines_are : Some out ≡ s.output) where
+    (within : count ≤ limit) (spent : end ≡ SpentEnd → count ≡ limit) (unspent : count ≡ limit → end ≡ SpentEnd) (ends : Ends s end) (lines_are : Some out ≡ s.output) where
   abbrev F : List (List Literal)
   F = formula.clauses
 
@@ -144,6 +150,16 @@ module _ (formula : FormulaData) (output : LineState) (p s : PortState) (limit c
   rings : rings_part J ≡ J
   rings = rings_part-append [] J (λ k d lt. absurd (omega arith)) (of_ring RULER_RING formula.vars (lit≤ tt) J own)
 
+  -- the port's start clauses and units are those of the program's opening
+  opens : IsAlike (opening_of s) (program_opening F [])
+  opens = record {
+    starts = ap (λ (hs : List Holding). map (λ (x : Start). x.lits) (map start_of hs)) stays.start ∙ begins.opens.starts;
+    units = λ l. ap (λ (ls : List Literal). has ls l) stays.opening ∙ begins.opens.units l;
+  }
+
+  ruler : ruler_part J ≡ []
+  ruler = ruler_part-append [] J (λ k d lt. absurd (omega arith)) (of_ring RULER_RING formula.vars (lit≤ tt) J own)
+
   journal_stands : IsJournal 1 F J
   journal_stands = record {
     fits = stands.sound.fits;
@@ -152,6 +168,8 @@ module _ (formula : FormulaData) (output : LineState) (p s : PortState) (limit c
     spelled = spelled;
     of_rings = subst (λ (K : List Entry). All (λ e. ring_of e < 1) K) (sym rings) (of_ring 1 formula.vars (omega arith) J own);
     plain = plain_from formula.vars J own;
+    each_new = subst (λ (J0 : List Entry). EachAfter (IsNew (program_opening F J0)) [] J) (sym ruler)
+        (each_weaker (IsNew (opening_of s)) (IsNew (program_opening F [])) (still_new (opening_of s) (program_opening F []) opens) [] J each_new);
   }
 
   counts : count ≡ length (learned 0 J)
@@ -207,16 +225,6 @@ module _ (formula : FormulaData) (output : LineState) (p s : PortState) (limit c
       let r = ended_refutes over s stands e in
       record { refuted = r; no_model = λ m t. refutes_none F (lines F J) r (on_variables (lines F J) spelled) (m, t) }
 
-  -- the port's start clauses and units are those of the program's opening
-  opens : IsAlike (opening_of s) (program_opening F [])
-  opens = record {
-    starts = ap (λ (hs : List Holding). map (λ (x : Start). x.lits) (map start_of hs)) stays.start ∙ begins.opens.starts;
-    units = λ l. ap (λ (ls : List Literal). has ls l) stays.opening ∙ begins.opens.units l;
-  }
-
-  ruler : ruler_part J ≡ []
-  ruler = ruler_part-append [] J (λ k d lt. absurd (omega arith)) (of_ring RULER_RING formula.vars (lit≤ tt) J own)
-
   spent_all : IsSpent s → count ≡ limit → SpentAll F J 1 limit
   spent_all h is = record {
     spent = record {
@@ -226,8 +234,7 @@ module _ (formula : FormulaData) (output : LineState) (p s : PortState) (limit c
       spaced = spaced_from formula.vars [] J own;
       going = h.going;
     };
-    each_new = subst (λ (J0 : List Entry). EachAfter (IsNew (program_opening F J0)) [] J) (sym ruler)
-        (each_weaker (IsNew (opening_of s)) (IsNew (program_opening F [])) (still_new (opening_of s) (program_opening F []) opens) [] J each_new);
+    each_new = journal_stands.each_new;
   }
 
   full : (need largest : ℕ) → s.refused ≡ Some (NoHoleAnswer need largest) → IsFull J need largest
@@ -242,21 +249,25 @@ module _ (formula : FormulaData) (output : LineState) (p s : PortState) (limit c
   rose_where : is_usable s.refused ≡ false → Rose 0 out.faults
   rose_where u = rose (not-false out.spent (sym has_lines.usable ∙ u))
 
-  concludes : (result : Result Verdict SearchStop) → IsVerdictOf formula end result → Concludes limit formula J out.faults result
-  concludes result = by end spent ends result
-    where
-      model_by : (a : List Bool) → out.faults ≡ 0 → IsModelOf s a → (r : Result Verdict SearchStop) → IsCleared formula a r → Concludes limit formula J out.faults r
-      model_by a none m (Ok v) h = subst (λ (w : Verdict). Concludes limit formula J out.faults (Ok w)) (sym h.1) (none, cleared formula a h.0 (model a m) h.2)
-      model_by a none m (Err stop) h = subst (λ (w : SearchStop). Concludes limit formula J out.faults (Err w)) (sym h) none
+  -- at another end than that of a spent limit it is not learned
+  fewer : (x : End) → (count ≡ limit → x ≡ SpentEnd) → (x ≡ SpentEnd → ⊥) → length (learned 0 J) < limit
+  fewer x un other = subst (λ (n : ℕ). n < limit) counts (less_or count limit within (λ e. other (un e)))
 
-      by : (x : End) → (x ≡ SpentEnd → count ≡ limit) → Ends s x → (r : Result Verdict SearchStop) → IsVerdictOf formula x r → Concludes limit formula J out.faults r
-      by (Sat a) sp en r v = model_by a (still_where en.2) en.0 r v
-      by Refuted sp en r v = subst (λ (w : Result Verdict SearchStop). Concludes limit formula J out.faults w) (sym v) (still_where en.2, refutation en.0)
-      by SpentEnd sp en r v = subst (λ (w : Result Verdict SearchStop). Concludes limit formula J out.faults w) (sym v) (still_where en.usable, spent_all en (sp refl))
-      by (Stopped x) sp en r v = absurd v
-      by (NoHole need largest) sp en r v = subst (λ (w : Result Verdict SearchStop). Concludes limit formula J out.faults w) (sym v) (still_where (ap is_usable en.0), full need largest en.0)
-      by ProofFault sp en r v = subst (λ (w : Result Verdict SearchStop). Concludes limit formula J out.faults w) (sym v) (rose_where en.0)
-      by Memory sp en r v = subst (λ (w : Result Verdict SearchStop). Concludes limit formula J out.faults w) (sym v) (still_where en.1)
+  concludes : (result : Result Verdict SearchStop) → IsVerdictOf formula end result → Concludes limit formula J out.faults result
+  concludes result = by end spent unspent ends result
+    where
+      model_by : (a : List Bool) → out.faults ≡ 0 → length (learned 0 J) < limit → IsModelOf s a → (r : Result Verdict SearchStop) → IsCleared formula a r → Concludes limit formula J out.faults r
+      model_by a none less m (Ok v) h = subst (λ (w : Verdict). Concludes limit formula J out.faults (Ok w)) (sym h.1) (none, cleared formula a h.0 (model a m) h.2)
+      model_by a none less m (Err stop) h = subst (λ (w : SearchStop). Concludes limit formula J out.faults (Err w)) (sym h) (none, less)
+
+      by : (x : End) → (x ≡ SpentEnd → count ≡ limit) → (count ≡ limit → x ≡ SpentEnd) → Ends s x → (r : Result Verdict SearchStop) → IsVerdictOf formula x r → Concludes limit formula J out.faults r
+      by (Sat a) sp un en r v = model_by a (still_where en.2) (fewer (Sat a) un (λ e. cc e)) en.0 r v
+      by Refuted sp un en r v = subst (λ (w : Result Verdict SearchStop). Concludes limit formula J out.faults w) (sym v) (still_where en.2, refutation en.0)
+      by SpentEnd sp un en r v = subst (λ (w : Result Verdict SearchStop). Concludes limit formula J out.faults w) (sym v) (still_where en.usable, spent_all en (sp refl))
+      by (Stopped x) sp un en r v = absurd v
+      by (NoHole need largest) sp un en r v = subst (λ (w : Result Verdict SearchStop). Concludes limit formula J out.faults w) (sym v) (still_where (ap is_usable en.0), fewer (NoHole need largest) un (λ e. cc e), full need largest en.0)
+      by ProofFault sp un en r v = subst (λ (w : Result Verdict SearchStop). Concludes limit formula J out.faults w) (sym v) (rose_where en.0)
+      by Memory sp un en r v = subst (λ (w : Result Verdict SearchStop). Concludes limit formula J out.faults w) (sym v) (still_where en.1, fewer Memory un (λ e. cc e))
 
   pub is_search : (result : Result Verdict SearchStop) → IsVerdictOf formula end result → IsSearch limit formula result count out.faults out.written
   is_search result v = record { journal = J; stands = journal_stands; counts = counts; within = within; conclusion = concludes result v; whole = whole; short = short }

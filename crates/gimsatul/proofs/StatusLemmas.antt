@@ -15,9 +15,9 @@ use Rattle.gimsatul.specs.Words.{Command, command_of, file_path, proof_path}
 use Rattle.gimsatul.specs.Input.{WasBad}
 use Rattle.gimsatul.specs.Run.{Call, Count, Writer, RoseIn, IsStill, run_of, source_of, source_in, text_of}
 use Rattle.gimsatul.specs.Journaled.{IsJournal, HoldsLog}
-use Rattle.gimsatul.specs.Outcome.{CallOutcome, IsCall, IsWhole, IsUnread, IsRefused, IsBroken, IsStarted, IsCrowded, IsBarren, IsIdle}
+use Rattle.gimsatul.specs.Outcome.{CallOutcome, IsCall, IsWhole, IsUnread, IsRefused, IsBroken, IsStarted, IsCrowded, IsStarved, IsBarren, IsIdle}
 use Rattle.gimsatul.specs.Headline.{status_of, model_of, Headline}
-use Rattle.gimsatul.specs.Statuses.{Answers, HasModel, HasBadPlace, LeftUnread, LeftUnprinted, LeftUnproved, LeftNoRoom, HasJournal, MustAnswer, MadeNothing, MadeAll, IsUnopened, IsUncreated, IsAnswer, Statuses}
+use Rattle.gimsatul.specs.Statuses.{Answers, HasModel, HasBadPlace, LeftUnread, LeftUnprinted, LeftUnproved, LeftNoRoom, HasJournal, MustAnswer, MadeNothing, MadeAll, RanOut, IsUnopened, IsUncreated, IsAnswer, Statuses}
 use Rattle.gimsatul.proofs.Journals.{empty_journal}
 
 -- a writer that must be there is there
@@ -238,17 +238,43 @@ module _ (F : FormulaData) (J : List Entry) (tally : Tally) (call : Call) where
   room Memory o e = absurd (omega arith)
 
   made_broken : IsBroken F J tally (run_of call) → IsSome call.proof
-  made_broken b = there (HoldsLog F.clauses J) call.proof b.unread.log
+  made_broken b = there (HoldsLog F.clauses J 0) call.proof b.unread.log
 
-  made_started : IsStarted F J tally (run_of call) → IsSome call.proof
-  made_started s = there (HoldsLog F.clauses J) call.proof s.log
+  made_started : {before : ℕ} → IsStarted before F J tally (run_of call) → IsSome call.proof
+  made_started {before} s = there (HoldsLog F.clauses J before) call.proof s.log
 
-  -- memory ran out before anything was made, or behind that
-  out_of_memory : (IsStill call.files × IsIdle J tally call) ⊎ IsWhole Memory F J tally call → (MadeNothing call × IsStill call.files × IsStill call.input) ⊎ MadeAll call
-  out_of_memory (inl h) = inl (record { no_file = h.1.no_file; no_proof = h.1.barren.no_proof }, h.0, h.1.barren.input)
-  out_of_memory (inr o) = inr (record { file = o.file; proof = ⊎_elim made_broken made_started o.outcome })
+  -- memory ran out before anything was made
+  ran_out_idle : IsStill call.files → IsIdle J tally call → RanOut call tally
+  ran_out_idle files h = record {
+    files = files;
+    input = h.barren.input;
+    source = subst (λ (f : Option ℕ). IsStill (source_in call.input f)) (sym h.no_file) h.barren.input;
+    out = h.barren.out;
+    made = inl (record { no_file = h.no_file; no_proof = h.barren.no_proof });
+  }
 
-  memory : (end : End) → CallOutcome end F J tally call → status_of end ≡ 9 → (MadeNothing call × IsStill call.files × IsStill call.input) ⊎ MadeAll call
+  -- or behind that
+  ran_out_whole : IsWhole Memory F J tally call → (IsStill (source_of call) × IsBroken F J tally (run_of call)) ⊎ IsStarved F J tally (run_of call) → RanOut call tally
+  ran_out_whole o (inl h) = record {
+    files = o.files;
+    input = input_still call.input call.file o.input h.0;
+    source = h.0;
+    out = h.1.out;
+    made = inr (record { file = o.file; proof = made_broken h.1 }, record { formula = F; journal = J; undecided = inl h.1 });
+  }
+  ran_out_whole o (inr h) = record {
+    files = o.files;
+    input = input_still call.input call.file o.input h.started.source;
+    source = h.started.source;
+    out = h.out;
+    made = inr (record { file = o.file; proof = made_started h.started }, record { formula = F; journal = J; undecided = inr h });
+  }
+
+  out_of_memory : (IsStill call.files × IsIdle J tally call) ⊎ IsWhole Memory F J tally call → RanOut call tally
+  out_of_memory (inl h) = ran_out_idle h.0 h.1
+  out_of_memory (inr o) = ran_out_whole o o.outcome
+
+  memory : (end : End) → CallOutcome end F J tally call → status_of end ≡ 9 → RanOut call tally
   memory (Satisfiable model) o e = absurd (omega arith)
   memory Unsatisfiable o e = absurd (omega arith)
   memory Unknown o e = absurd (omega arith)
@@ -295,30 +321,30 @@ module _ (F : FormulaData) (J : List Entry) (tally : Tally) (call : Call) where
   made Unsatisfiable o a b c d = record { file = o.file; proof = made_started o.outcome.started }
   made Unknown o a b c d = record { file = o.file; proof = made_started o.outcome.started }
   made Usage o a b c d = absurd (a refl)
-  made (BadInput code line) o a b c d = record { file = o.file; proof = there (HoldsLog F.clauses J) call.proof o.outcome.unread.log }
+  made (BadInput code line) o a b c d = record { file = o.file; proof = there (HoldsLog F.clauses J 0) call.proof o.outcome.unread.log }
   made CannotOpen o a b c d = absurd (b refl)
   made CannotCreate o a b c d = absurd (c refl)
   made ReadFault o a b c d = record { file = o.file; proof = made_broken o.outcome.1 }
   made WriteFault o a b c d = record { file = o.file; proof = made_started o.outcome.started }
   made ProofFault o a b c d = record { file = o.file; proof = made_started o.outcome.started }
-  made (Room need largest) o a b c d = record { file = o.file; proof = there (HoldsLog F.clauses J) call.proof o.outcome.log }
+  made (Room need largest) o a b c d = record { file = o.file; proof = there (HoldsLog F.clauses J 0) call.proof o.outcome.log }
   made Memory o a b c d = absurd (d refl)
 
-  started : IsStarted F J tally (run_of call) → HasJournal call
-  started s = record { formula = F; journal = J; stands = s.journal_stands; of_input = inr s.read; held = if_there (HoldsLog F.clauses J) call.proof s.log }
+  started : {before : ℕ} → IsStarted before F J tally (run_of call) → HasJournal call
+  started {before} s = record { formula = F; journal = J; stands = s.journal_stands; of_input = inr s.read; before = before; held = if_there (HoldsLog F.clauses J before) call.proof s.log }
 
   crowded : {need largest : ℕ} → IsCrowded need largest F J tally (run_of call) → HasJournal call
-  crowded c = record { formula = F; journal = J; stands = c.journal_stands; of_input = inr c.read; held = if_there (HoldsLog F.clauses J) call.proof c.log }
+  crowded c = record { formula = F; journal = J; stands = c.journal_stands; of_input = inr c.read; before = 0; held = if_there (HoldsLog F.clauses J 0) call.proof c.log }
 
   unread : IsUnread F J (run_of call) → HasJournal call
-  unread u = record { formula = F; journal = J; stands = subst (IsJournal 1 F.clauses) (sym u.nothing) (empty_journal F.clauses); of_input = inl u.nothing; held = if_there (HoldsLog F.clauses J) call.proof u.log }
+  unread u = record { formula = F; journal = J; stands = subst (IsJournal 1 F.clauses) (sym u.nothing) (empty_journal F.clauses); of_input = inl u.nothing; before = 0; held = if_there (HoldsLog F.clauses J 0) call.proof u.log }
 
   barren : IsBarren J tally call → HasJournal call
-  barren b = record { formula = F; journal = J; stands = subst (IsJournal 1 F.clauses) (sym b.nothing) (empty_journal F.clauses); of_input = inl b.nothing; held = if_none (HoldsLog F.clauses J) call.proof b.no_proof }
+  barren b = record { formula = F; journal = J; stands = subst (IsJournal 1 F.clauses) (sym b.nothing) (empty_journal F.clauses); of_input = inl b.nothing; before = 0; held = if_none (HoldsLog F.clauses J 0) call.proof b.no_proof }
 
   stopped : (IsStill call.files × IsIdle J tally call) ⊎ IsWhole Memory F J tally call → HasJournal call
   stopped (inl h) = barren h.1.barren
-  stopped (inr o) = ⊎_elim (λ (b : IsBroken F J tally (run_of call)). unread b.unread) started o.outcome
+  stopped (inr o) = ⊎_elim (λ (b : IsStill (source_of call) × IsBroken F J tally (run_of call)). unread b.1.unread) (λ (s : IsStarved F J tally (run_of call)). started s.started) o.outcome
 
   journaled : (end : End) → CallOutcome end F J tally call → HasJournal call
   journaled (Satisfiable model) o = started o.outcome.started

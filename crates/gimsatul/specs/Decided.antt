@@ -41,6 +41,11 @@ Decides limit formula journal (Satisfiable model) = IsModel formula model
 Decides limit formula journal Unsatisfiable = IsRefutation formula.clauses journal
 Decides limit formula journal Unknown = IsSpent limit formula.clauses journal
 
+-- some verdict holds
+pub record IsDecided (limit : ℕ) (formula : FormulaData) (journal : List Entry) : Type 0 where
+  pub verdict : Verdict
+  pub decides : Decides limit formula journal verdict
+
 -- the journal has as many entries as may stand: one more is needed than there is room for
 pub record IsFull (journal : List Entry) (need largest : ℕ) : Type 0 where
   pub entries : length journal ≡ MAX_ENTRIES

@@ -1,5 +1,5 @@
 -- The journal of a run, and what the writer of its proof holds.
-use Rattle.std.specs.Prelude.{◌≡◌, ◌≤◌, ◌<◌, ◌^◌, ℕ, List, [], ◌∷◌, ◌++◌, length, take, All, ⊤, Some, None}
+use Rattle.std.specs.Prelude.{◌≡◌, ◌≤◌, ◌⊎◌, ◌<◌, ◌^◌, ℕ, List, [], ◌∷◌, ◌++◌, length, take, All, ⊤, Some, None}
 use Rattle.std.specs.declared.option.Option.{Option}
 use Rattle.sat_words.specs.Literal.{Literal}
 use Rattle.sat_words.specs.declared.line.Line.{Line}
@@ -9,10 +9,13 @@ use Rattle.rup_model.specs.declared.journal.Entry.{Entry}
 use Rattle.rup_model.specs.declared.journal.Entry.TheVariants.{Add, Del, Reduce}
 use Rattle.rup_model.specs.declared.journal.Kind.{Kind}
 use Rattle.rup_model.specs.declared.journal.Kind.TheVariants.{Ruler, Learn, Derive, UnitLine}
+use Rattle.rup_model.specs.Basics.{EachAfter}
 use Rattle.rup_model.specs.Log.{Accepted, lits_of}
 use Rattle.rup_model.specs.Journal.{lines, ring_of, Fits, EmptyLast}
-use Rattle.rup_model.specs.Spent.{rings_part}
+use Rattle.rup_model.specs.Opening.{program_opening, IsNew}
+use Rattle.rup_model.specs.Spent.{ruler_part, rings_part}
 use Rattle.drat_text.specs.Text.{text, line_text}
+use Rattle.io_edge.specs.Causes.{Rose}
 use Rattle.dimacs_read.specs.Input.{IsOn}
 use Rattle.gimsatul.specs.Run.{Writer}
 
@@ -35,7 +38,8 @@ IsPlainEntry (Del r n) = ⊥
 IsPlainEntry (Reduce r) = ⊥
 
 -- a journal of this many rings: its numbers fit, each line is valid where it stands, nothing follows the empty clause,
--- its lines can be spelled, and what the ruler didn't write is of one of the rings; today one ring searches alone
+-- its lines can be spelled, what the ruler didn't write is of one of the rings, and each clause that a ring learned was new
+-- when it was added; today one ring searches alone
 pub record IsJournal (rings : ℕ) (clauses : List (List Literal)) (journal : List Entry) : Type 0 where
   pub fits : Fits clauses journal
   pub accepted : Accepted clauses (lines clauses journal)
@@ -43,6 +47,7 @@ pub record IsJournal (rings : ℕ) (clauses : List (List Literal)) (journal : Li
   pub spelled : CanBeSpelled (lines clauses journal)
   pub of_rings : All (λ e. ring_of e < rings) (rings_part journal)
   pub plain : All IsPlainEntry journal
+  pub each_new : EachAfter (IsNew (program_opening clauses (ruler_part journal))) [] journal
 
 -- where bytes are told, they are this text
 abbrev pub HoldsText : Option (List ℕ) → List ℕ → Type 0
@@ -60,8 +65,13 @@ pub record IsCutShort (clauses : List (List Literal)) (journal : List Entry) (wr
   pub spelled : CanBeSpelled (front ++ line ∷ [])
   pub bytes : HoldsText written (text front ++ take cut (line_text line))
 
--- a writer holds the journal's lines, and has made sure of them; where a call of it failed, they may be cut short
-pub record HoldsLog (clauses : List (List Literal)) (journal : List Entry) (writer : Writer) : Type 0 where
-  pub whole : writer.faults ≡ 0 → HoldsText writer.written (text (lines clauses journal))
-  pub sure : writer.faults ≡ 0 → writer.flushed ≡ writer.written
-  pub short : (writer.faults ≡ 0 → ⊥) → IsCutShort clauses journal writer.written
+-- the writer's last call was a flush, before which it had failed so often: the flush made sure of all that was written, or
+-- it failed
+abbrev pub IsClosed : ℕ → Writer → Type 0
+IsClosed before writer = ((writer.faults ≡ before) × (writer.flushed ≡ writer.written)) ⊎ Rose before writer.faults
+
+-- a writer holds the journal's lines, and its last call was a flush; where it had failed before that, they may be cut short
+pub record HoldsLog (clauses : List (List Literal)) (journal : List Entry) (before : ℕ) (writer : Writer) : Type 0 where
+  pub closed : IsClosed before writer
+  pub whole : before ≡ 0 → HoldsText writer.written (text (lines clauses journal))
+  pub short : (before ≡ 0 → ⊥) → IsCutShort clauses journal writer.written

@@ -3,6 +3,7 @@ pub mod Plain
 pub mod Input
 pub mod Answer
 pub mod Ends
+pub mod Finished
 pub mod Run
 pub mod Journaled
 pub mod Decided

@@ -1,5 +1,5 @@
 -- What each end of a call says, by cases, of the formula that was read and of the one journal of the run.
-use Rattle.std.specs.Prelude.{◌≡◌, ◌≤◌, ◌⊎◌, ℕ, List, [], length, IfSome, IsSome, IsSomeAnd, Some, None}
+use Rattle.std.specs.Prelude.{◌≡◌, ◌≤◌, ◌<◌, ◌⊎◌, ℕ, List, [], length, IfSome, IsSome, IsSomeAnd, Some, None}
 use Rattle.std.specs.declared.option.Option.{Option}
 use Rattle.io_edge.specs.Causes.{Rose}
 use Rattle.io_edge.specs.Paths.{IsEmptyWhereTold}
@@ -18,16 +18,16 @@ use Rattle.gimsatul.specs.Input.{WasRead, WasBad}
 use Rattle.gimsatul.specs.Answer.{answer_text}
 use Rattle.gimsatul.specs.Run.{Count, Writer, Output, Run, Call, run_of, HasFile, RoseIn, IsStill, Prints, PrintsPart}
 use Rattle.gimsatul.specs.Journaled.{IsJournal, HoldsLog}
-use Rattle.gimsatul.specs.Decided.{Decides, IsFull}
+use Rattle.gimsatul.specs.Decided.{Decides, IsDecided, IsFull}
 use Rattle.gimsatul.specs.Tallied.{no_tally, ring_tally, room_tally, bad_tally}
 
--- the proof's writer is there, and holds the journal
-abbrev pub HasLog : FormulaData → List Entry → Run → Type 0
-HasLog formula journal run = IsSomeAnd run.proof (HoldsLog formula.clauses journal)
+-- the proof's writer is there and holds the journal, and its last call was a flush, before which it had failed so often
+abbrev pub HasLog : FormulaData → List Entry → ℕ → Run → Type 0
+HasLog formula journal before run = IsSomeAnd run.proof (HoldsLog formula.clauses journal before)
 
--- no formula was read: the proof's writer is there, with no byte
+-- no formula was read: the proof's writer is there, with no byte, and was only flushed
 pub record IsUnread (formula : FormulaData) (journal : List Entry) (run : Run) : Type 0 where
-  pub log : HasLog formula journal run
+  pub log : HasLog formula journal 0 run
   pub nothing : journal ≡ []
   pub empty : IfSome run.proof (λ writer. IsEmptyWhereTold writer.written)
 
@@ -38,18 +38,19 @@ pub record IsRefused (code : Code) (line : ℕ) (formula : FormulaData) (journal
   pub source : IsStill run.source
   pub unread : IsUnread formula journal run
 
--- the source failed, or memory ran out, before a formula was read
+-- the source failed, or memory ran out, before a formula was read; the output is as it was
 pub record IsBroken (formula : FormulaData) (journal : List Entry) (tally : Tally) (run : Run) : Type 0 where
   pub unread : IsUnread formula journal run
   pub counts : tally ≡ no_tally
+  pub out : IsStill run.out.faults
 
 -- the formula was read without a fault and the ring started; its journal stands, and has no more lemmas than the limit; the
--- tally has their number
-pub record IsStarted (formula : FormulaData) (journal : List Entry) (tally : Tally) (run : Run) : Type 0 where
+-- proof's writer had failed so often before its last flush; the tally has the number of lemmas
+pub record IsStarted (before : ℕ) (formula : FormulaData) (journal : List Entry) (tally : Tally) (run : Run) : Type 0 where
   pub read : WasRead run.text formula
   pub source : IsStill run.source
   pub journal_stands : IsJournal 1 formula.clauses journal
-  pub log : HasLog formula journal run
+  pub log : HasLog formula journal before run
   pub within : length (learned 0 journal) ≤ run.limit
   pub counts : tally ≡ ring_tally (length (learned 0 journal))
 
@@ -60,35 +61,43 @@ pub record IsQuiet (run : Run) : Type 0 where
 
 -- the verdict holds, and its text is printed, and nothing else
 pub record IsAnswered (verdict : Verdict) (formula : FormulaData) (journal : List Entry) (tally : Tally) (run : Run) : Type 0 where
-  pub started : IsStarted formula journal tally run
+  pub started : IsStarted 0 formula journal tally run
   pub decided : Decides run.limit formula journal verdict
   pub printed : Prints run.out (answer_text formula.vars verdict)
   pub quiet : IsQuiet run
 
 -- the output failed in printing a verdict that holds; the proof didn't fail before
 pub record IsCutOff (formula : FormulaData) (journal : List Entry) (tally : Tally) (run : Run) : Type 0 where
-  pub started : IsStarted formula journal tally run
+  pub started : IsStarted 0 formula journal tally run
   pub verdict : Verdict
   pub decided : Decides run.limit formula journal verdict
   pub proof : IsSomeAnd run.proof (λ writer. writer.faults ≡ 0)
   pub printed : PrintsPart run.out (answer_text formula.vars verdict)
   pub rose : RoseIn run.out.faults
 
--- the proof failed
+-- the proof failed: a line of it, or the flush after a verdict that holds
 pub record IsUnproved (formula : FormulaData) (journal : List Entry) (tally : Tally) (run : Run) : Type 0 where
-  pub started : IsStarted formula journal tally run
+  pub before : ℕ
+  pub started : IsStarted before formula journal tally run
+  pub decided : before ≡ 0 → IsDecided run.limit formula journal
   pub rose : IsSomeAnd run.proof (λ writer. Rose 0 writer.faults)
 
--- as many lines stand as may, so that there was no room for one more; the journal has no more lemmas than the limit; the
--- tally has their number, what was needed and what there is
+-- as many lines stand as may, so that there was no room for one more, and none failed; the journal has fewer lemmas than the
+-- limit; the tally has their number, what was needed and what there is
 pub record IsCrowded (need largest : ℕ) (formula : FormulaData) (journal : List Entry) (tally : Tally) (run : Run) : Type 0 where
   pub read : WasRead run.text formula
   pub source : IsStill run.source
   pub journal_stands : IsJournal 1 formula.clauses journal
-  pub log : HasLog formula journal run
-  pub within : length (learned 0 journal) ≤ run.limit
+  pub log : HasLog formula journal 0 run
+  pub fewer : length (learned 0 journal) < run.limit
   pub counts : tally ≡ room_tally (length (learned 0 journal)) need largest
   pub full : IsFull journal need largest
+
+-- memory ran out in the search, before a verdict: no line had failed, and the limit was not learned; the output is as it was
+pub record IsStarved (formula : FormulaData) (journal : List Entry) (tally : Tally) (run : Run) : Type 0 where
+  pub started : IsStarted 0 formula journal tally run
+  pub fewer : length (learned 0 journal) < run.limit
+  pub out : IsStill run.out.faults
 
 abbrev pub Outcome : End → FormulaData → List Entry → Tally → Run → Type 0
 Outcome (end.Satisfiable model) F J tally run = IsAnswered (verdict.Satisfiable model) F J tally run
@@ -102,7 +111,7 @@ Outcome end.ReadFault F J tally run = RoseIn run.source × IsBroken F J tally ru
 Outcome end.WriteFault F J tally run = IsCutOff F J tally run
 Outcome end.ProofFault F J tally run = IsUnproved F J tally run
 Outcome (end.Room need largest) F J tally run = IsCrowded need largest F J tally run
-Outcome end.Memory F J tally run = IsBroken F J tally run ⊎ IsStarted F J tally run
+Outcome end.Memory F J tally run = (IsStill run.source × IsBroken F J tally run) ⊎ IsStarved F J tally run
 
 -- how a run over a source ended
 pub record IsRun (end : End) (tally : Tally) (run : Run) : Type 0 where
@@ -115,12 +124,13 @@ abbrev pub Concluded : ℕ → FormulaData → End → Tally → Writer → Outp
 Concluded limit formula end tally writer out = (text : Option (List ℕ)) (source : Count) → WasRead text formula → IsStill source
     → IsRun end tally (record { limit = limit; text = text; source = source; proof = Some writer; out = out })
 
--- no proof was created, so nothing was read, logged or counted
+-- no proof was created, so nothing was read, logged, counted or printed
 pub record IsBarren (journal : List Entry) (tally : Tally) (call : Call) : Type 0 where
   pub no_proof : call.proof ≡ None
   pub nothing : journal ≡ []
   pub counts : tally ≡ no_tally
   pub input : IsStill call.input
+  pub out : IsStill call.out.faults
 
 -- nothing was opened either
 pub record IsIdle (journal : List Entry) (tally : Tally) (call : Call) : Type 0 where

@@ -1,9 +1,9 @@
 -- What a caller sees of a call: words, counts of faults, and bytes where they are told.
-use Rattle.std.specs.Prelude.{◌≡◌, ℕ, List, Some, None, is_some, IsSomeAnd}
+use Rattle.std.specs.Prelude.{◌≡◌, ℕ, List, Some, None, is_some, IfSome, IsSomeAnd}
 use Rattle.std.specs.declared.option.Option.{Option}
 use Rattle.io_edge.specs.Bytes.{GrowsBy, GrowsByPart}
 use Rattle.io_edge.specs.Causes.{Rose}
-use Rattle.io_edge.specs.Paths.{PathMap, told_at, told_target}
+use Rattle.io_edge.specs.Paths.{PathMap, told_at, told_target, IsThere}
 use Rattle.gimsatul.specs.Words.{command_of, conflicts_limit, file_path}
 
 -- a count of faults as the call begins and as it ends
@@ -73,9 +73,10 @@ source_of call = source_in call.input call.file
 abbrev pub run_of : Call → Run
 run_of call = record { limit = conflicts_limit (command_of call.words); text = text_of call; source = source_of call; proof = call.proof; out = call.out }
 
--- an input was opened, exactly where a file is given
-abbrev pub HasFile : Call → Type 0
-HasFile call = is_some call.file ≡ is_some (file_path (command_of call.words))
+-- an input was opened, exactly where a file is given; where the files are told, it is there
+pub record HasFile (call : Call) : Type 0 where
+  pub opened : is_some call.file ≡ is_some (file_path (command_of call.words))
+  pub there : IfSome (file_path (command_of call.words)) (IsThere call.contents)
 
 -- the count rose, or stands at its last value
 abbrev pub RoseIn : Count → Type 0

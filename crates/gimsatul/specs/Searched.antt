@@ -1,5 +1,5 @@
 -- What a search says: its verdict holds of one journal, which the proof's writer has been given.
-use Rattle.std.specs.Prelude.{◌≡◌, ◌≤◌, ℕ, List, length, Result, Ok, Err}
+use Rattle.std.specs.Prelude.{◌≡◌, ◌≤◌, ◌<◌, ℕ, List, length, Result, Ok, Err}
 use Rattle.std.specs.declared.option.Option.{Option}
 use Rattle.io_edge.specs.Causes.{Rose}
 use Rattle.sat_words.specs.FormulaData.{FormulaData}
@@ -12,12 +12,12 @@ use Rattle.gimsatul.specs.declared.search.SearchStop.TheVariants.{ProofFault, Ro
 use Rattle.gimsatul.specs.Journaled.{IsJournal, HoldsText, IsCutShort}
 use Rattle.gimsatul.specs.Decided.{Decides, IsFull}
 
--- a verdict that holds of the journal; or the cause of none
+-- a verdict that holds of the journal; or the cause of none: where no write failed, the limit is not learned then
 abbrev pub Concludes : ℕ → FormulaData → List Entry → ℕ → Result Verdict SearchStop → Type 0
 Concludes limit formula journal faults (Ok verdict) = (faults ≡ 0) × Decides limit formula journal verdict
 Concludes limit formula journal faults (Err ProofFault) = Rose 0 faults
-Concludes limit formula journal faults (Err (Room need largest)) = (faults ≡ 0) × IsFull journal need largest
-Concludes limit formula journal faults (Err Memory) = faults ≡ 0
+Concludes limit formula journal faults (Err (Room need largest)) = (faults ≡ 0) × (length (learned 0 journal) < limit) × IsFull journal need largest
+Concludes limit formula journal faults (Err Memory) = (faults ≡ 0) × (length (learned 0 journal) < limit)
 
 -- a search with this result, which counted so many lemmas, no more than may be learned, and left the proof's writer with
 -- these faults and bytes

@@ -13,7 +13,7 @@ use Rattle.gimsatul.specs.Words.{Command, command_of, file_path, proof_path}
 use Rattle.gimsatul.specs.Input.{WasRead}
 use Rattle.gimsatul.specs.Run.{Call, HasFile, run_of, source_of, text_of, RoseIn, IsStill}
 use Rattle.gimsatul.specs.Journaled.{IsJournal, HoldsLog}
-use Rattle.gimsatul.specs.Outcome.{IsBroken, IsRefused, IsAnswered, IsCutOff, IsUnproved, IsCrowded}
+use Rattle.gimsatul.specs.Outcome.{IsBroken, IsRefused, IsAnswered, IsCutOff, IsUnproved, IsCrowded, IsStarved}
 
 -- the verdict holds of the formula that was read and the one journal of the run; nothing failed but perhaps a write to `err`
 pub record Answers (call : Call) (verdict : Verdict) (tally : Tally) : Type 0 where
@@ -60,13 +60,15 @@ pub record LeftNoRoom (call : Call) (tally : Tally) : Type 0 where
   pub journal : List Entry
   pub crowded : IsCrowded tally.need tally.largest formula journal tally (run_of call)
 
--- one journal stands for the run, and the proof, where there is one, holds it: of the formula that was read, or empty
+-- one journal stands for the run, and the proof, where there is one, holds it and was flushed last: of the formula that was
+-- read, or empty
 pub record HasJournal (call : Call) : Type 0 where
   pub formula : FormulaData
   pub journal : List Entry
   pub stands : IsJournal 1 formula.clauses journal
   pub of_input : (journal ≡ []) ⊎ WasRead (text_of call) formula
-  pub held : IfSome call.proof (HoldsLog formula.clauses journal)
+  pub before : ℕ
+  pub held : IfSome call.proof (HoldsLog formula.clauses journal before)
 
 -- the words are lawful, the text is told and spells a formula, and no count rose or stands at its last value but perhaps that of `err`
 pub record MustAnswer (call : Call) : Type 0 where
@@ -90,6 +92,21 @@ pub record MadeNothing (call : Call) : Type 0 where
 pub record MadeAll (call : Call) : Type 0 where
   pub file : HasFile call
   pub proof : IsSome call.proof
+
+-- no formula was read, or one was and the search came to no verdict
+pub record LeftUndecided (call : Call) (tally : Tally) : Type 0 where
+  pub formula : FormulaData
+  pub journal : List Entry
+  pub undecided : IsBroken formula journal tally (run_of call) ⊎ IsStarved formula journal tally (run_of call)
+
+-- memory ran out: no count rose but perhaps the proof's, in its last flush, and that of `err`; nothing was made, or all that
+-- the words ask for
+pub record RanOut (call : Call) (tally : Tally) : Type 0 where
+  pub files : IsStill call.files
+  pub input : IsStill call.input
+  pub source : IsStill (source_of call)
+  pub out : IsStill call.out.faults
+  pub made : MadeNothing call ⊎ (MadeAll call × LeftUndecided call tally)
 
 abbrev pub IsAnswer : ℕ → Type 0
 IsAnswer status = (status ≡ 10) ⊎ (status ≡ 20) ⊎ (status ≡ 0)
@@ -120,7 +137,7 @@ pub record Statuses (call : Call) (status : ℕ) (model : Option (List Bool)) (t
   pub write_fault : status ≡ 6 → RoseIn call.out.faults × LeftUnprinted call tally
   pub proof_fault : status ≡ 7 → IsSomeAnd call.proof (λ writer. Rose 0 writer.faults) × LeftUnproved call tally
   pub room : status ≡ 8 → LeftNoRoom call tally
-  pub memory : status ≡ 9 → (MadeNothing call × IsStill call.files × IsStill call.input) ⊎ MadeAll call
+  pub memory : status ≡ 9 → RanOut call tally
   pub known : IsAnswer status ⊎ (status ≡ 1) ⊎ (status ≡ 2) ⊎ (status ≡ 3) ⊎ (status ≡ 4) ⊎ (status ≡ 5) ⊎ (status ≡ 6) ⊎ (status ≡ 7) ⊎ (status ≡ 8) ⊎ (status ≡ 9)
   pub no_model : status ≢ 10 → model ≡ None
   pub made : status ≢ 1 → status ≢ 3 → status ≢ 4 → status ≢ 9 → MadeAll call

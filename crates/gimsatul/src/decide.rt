@@ -7,6 +7,7 @@ ghost use Rattle.io_edge.specs.Paths.{IsEmptyWhereTold};
 ghost use Rattle.gimsatul.specs.Answer.{answer_text};
 ghost use Rattle.gimsatul.specs.Ends.{end_of, end_of_stop, tally_of_stop, end_of_read, tally_of_read, prints};
 ghost use Rattle.dimacs_read.specs.Input.{IsOn};
+ghost use Rattle.gimsatul.specs.Finished.{Finishes};
 ghost use Rattle.gimsatul.specs.Outcome.{Concluded, IsRun};
 ghost use Rattle.gimsatul.specs.Tallied.{no_tally, ring_tally};
 
@@ -46,6 +47,43 @@ fn print<O: Sink>(out: &mut O, vars: u32, verdict: &Verdict) -> Result<(), Faile
     match answer_text_to(out, vars, verdict) {
         Ok(()) => out.flush(),
         Err(_) => Err(Failed),
+    }
+}
+
+/// Flushes the proof of a verdict that was reached, and prints the verdict. It takes no memory.
+fn finish<P: Sink, O: Sink>(vars: u32, verdict: Verdict, proof: P, out: &mut O) -> Decided<P>
+    requires { vars ≤ 2 ^ 30 }
+    ensures finishes { Finishes vars verdict result.end (P.faults proof)
+        (record { faults = P.faults result.proof; written = P.written result.proof; flushed = P.flushed result.proof })
+        (record {
+          faults = record { before = O.faults out.old; after = O.faults out.new };
+          before = O.written out.old;
+          after = O.written out.new;
+          flushed = O.flushed out.new;
+        }) }
+    ensures bytes { P.written result.proof ≡ P.written proof }
+    ensures target { P.target result.proof ≡ P.target proof }
+    ensures unprinted { prints result.end ≡ false → out.new ≡ out.old }
+{
+    let mut proof = proof;
+    match proof.flush() {
+        Ok(()) => {}
+        Err(Failed) => {
+            return Decided {
+                end: End::ProofFault,
+                proof,
+            };
+        }
+    }
+    match print(out, vars, &verdict) {
+        Ok(()) => Decided {
+            end: into_end(verdict),
+            proof,
+        },
+        Err(Failed) => Decided {
+            end: End::WriteFault,
+            proof,
+        },
     }
 }
 
@@ -96,11 +134,11 @@ fn decide_formula<P: Sink, O: Sink>(
         learned,
         proof,
     } = search(alloc, formula, limit, proof);
-    let mut proof = proof;
     tally.learned.set(0, learned);
     let verdict = match verdict {
         Ok(verdict) => verdict,
         Err(stop) => {
+            let mut proof = proof;
             let _ = proof.flush();
             return Decided {
                 end: stop_end(stop, tally),
@@ -108,25 +146,7 @@ fn decide_formula<P: Sink, O: Sink>(
             };
         }
     };
-    match proof.flush() {
-        Ok(()) => {}
-        Err(Failed) => {
-            return Decided {
-                end: End::ProofFault,
-                proof,
-            };
-        }
-    }
-    match print(out, formula.vars(), &verdict) {
-        Ok(()) => Decided {
-            end: into_end(verdict),
-            proof,
-        },
-        Err(Failed) => Decided {
-            end: End::WriteFault,
-            proof,
-        },
-    }
+    finish(formula.vars(), verdict, proof, out)
 }
 
 /// How a call ends whose input was not read. The tally takes the first bad place.

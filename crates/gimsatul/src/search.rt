@@ -43,6 +43,7 @@ pub struct Searched<P> {
 
 /// Writes the empty clause, which the formula has.
 fn refute<P: Sink>(alloc: Global, formula: &Formula, limit: u64, proof: P) -> Searched<P>
+    requires some { 1 ≤ limit }
     requires given { list_any is_empty formula.now.clauses ≡ true }
     requires on_variables { All (All (IsOn formula.now.vars)) formula.now.clauses }
     requires empty { IsEmptyWhereTold (P.written proof) }

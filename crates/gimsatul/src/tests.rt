@@ -1,6 +1,8 @@
 // Whole calls over objects in memory.
-use crate::gimsatul;
+use crate::{Tally, Verdict, answer_text_to, gimsatul};
 use io_edge::{MemFile, MemFiles, MemOutput, MemSink, MemSource};
+use sat_words::Assignment;
+use std::alloc::Global;
 use std::process::Abort;
 use std::test::Fail;
 
@@ -30,15 +32,21 @@ struct Row {
     /// None where no proof's writer may be there; its bytes are compared where `compares_proof` says so.
     proof: Option<&'static [u8]>,
     compares_proof: bool,
+    /// Whether all that the proof's writer took was flushed, else none of it.
+    flushes_proof: bool,
+    /// What is left of standard input where each read gives one byte.
+    left: &'static [u8],
     learned: &'static [u64],
     code: u8,
     line: u64,
 }
 
+const NOTHING: &[u8] = b"p cnf 0 0\n";
+
 /// A call without words on a formula with a model.
 const PLAIN: Row = Row {
     words: &[],
-    input: b"p cnf 0 0\n",
+    input: NOTHING,
     input_fails: NEVER,
     inputs: &[],
     files_fail: NEVER,
@@ -51,6 +59,8 @@ const PLAIN: Row = Row {
     opened: false,
     proof: Some(b""),
     compares_proof: true,
+    flushes_proof: true,
+    left: b"",
     learned: &[],
     code: 0,
     line: 0,
@@ -64,13 +74,91 @@ fn are_same(found: &[u64], wanted: &[u64]) -> bool {
     found == wanted
 }
 
+/// A model is there exactly at status 10, and its text is the one that was printed.
+fn check_model(
+    rt: &(impl Abort + AllocGlobal),
+    row: &Row,
+    model: Option<Assignment>,
+) -> Result<(), Fail> {
+    assert_eq!(rt; model.is_some(), row.status == 10);
+    let Some(model) = model else {
+        return Ok(());
+    };
+    let vars = model.len();
+    if vars > 30 {
+        return Err(Fail::from("a model of too many variables"));
+    }
+    let mut again = MemSink::new(rt.alloc(), ROOM, NEVER)?;
+    assert!(rt; answer_text_to(&mut again, vars as u32, &Verdict::Satisfiable(model)).is_ok());
+    assert!(rt; is_same(again.bytes(), row.out));
+    Ok(())
+}
+
+fn check_tally(rt: &impl Abort, row: &Row, tally: &Tally) {
+    let zeros: &[u64] = if row.learned.is_empty() { &[] } else { &[0] };
+    assert!(rt; are_same(tally.learned.as_slice(), row.learned));
+    assert!(rt; are_same(tally.offered.as_slice(), zeros));
+    assert!(rt; are_same(tally.exported.as_slice(), zeros));
+    assert_eq!(rt; tally.need, 0);
+    assert_eq!(rt; tally.largest, 0);
+    assert_eq!(rt; tally.code, row.code);
+    assert_eq!(rt; tally.line, row.line);
+}
+
+fn check_proof(rt: &impl Abort, row: &Row, proof: Option<MemSink<'_>>) -> Result<(), Fail> {
+    match (proof, row.proof) {
+        (Some(proof), Some(wanted)) => {
+            assert!(rt; !row.compares_proof || is_same(proof.bytes(), wanted));
+            let sure: &[u8] = if row.flushes_proof {
+                proof.bytes()
+            } else {
+                b""
+            };
+            assert!(rt; is_same(proof.flushed_bytes(), sure));
+            let path = if row.words.contains(&"--proof") {
+                Some("P")
+            } else {
+                None
+            };
+            assert!(rt; proof.target() == path);
+            Ok(())
+        }
+        (None, None) => Ok(()),
+        _ => Err(Fail::from("the proof's writer is there or not")),
+    }
+}
+
+fn check_out(rt: &impl Abort, row: &Row, out: &MemSink<'_>) {
+    assert!(rt; is_same(out.bytes(), row.out));
+    let sure: &[u8] = match row.status {
+        10 | 20 | 0 => row.out,
+        _ => b"",
+    };
+    assert!(rt; is_same(out.flushed_bytes(), sure));
+}
+
+/// A read of the whole leaves all of the input or nothing.
+fn check_left(rt: &impl Abort, row: &Row, piece: usize, input: &MemSource<'_>) {
+    let left = if piece == 1 || row.left.len() == row.input.len() {
+        row.left
+    } else {
+        b""
+    };
+    assert!(rt; is_same(input.left(), left));
+}
+
+fn words_of(alloc: Global, words: &[&str]) -> Result<Vec<String>, Fail> {
+    let mut strings = Vec::new(alloc);
+    for word in words {
+        strings.push(String::from_str(alloc, word)?)?;
+    }
+    Ok(strings)
+}
+
 /// Makes the call with a standard input that gives at most so many bytes a read.
 fn check_row(rt: &(impl Abort + AllocGlobal), row: Row, piece: usize) -> Result<(), Fail> {
     let alloc = rt.alloc();
-    let mut words = Vec::new(alloc);
-    for word in row.words {
-        words.push(String::from_str(alloc, word)?)?;
-    }
+    let words = words_of(alloc, row.words)?;
     let mut outputs = Vec::new(alloc);
     outputs.push(MemOutput::new(alloc, "P", ROOM, row.proof_fails)?)?;
     let spare = MemSink::new(alloc, ROOM, row.proof_fails)?;
@@ -83,22 +171,13 @@ fn check_row(rt: &(impl Abort + AllocGlobal), row: Row, piece: usize) -> Result<
     let mut err = MemSink::new(alloc, ROOM, row.err_fails)?;
     let report = gimsatul(alloc, &words, &mut files, &mut input, &mut out, &mut err);
     assert_eq!(rt; report.status, row.status);
-    assert!(rt; is_same(out.bytes(), row.out));
-    assert!(rt; is_same(err.bytes(), row.err));
-    assert_eq!(rt; report.model.is_some(), row.status == 10);
     assert_eq!(rt; report.file.is_some(), row.opened);
-    assert!(rt; are_same(report.tally.learned.as_slice(), row.learned));
-    assert_eq!(rt; report.tally.code, row.code);
-    assert_eq!(rt; report.tally.line, row.line);
-    match (report.proof, row.proof) {
-        (Some(proof), Some(wanted)) => {
-            assert!(rt; !row.compares_proof || is_same(proof.bytes(), wanted));
-            assert_eq!(rt; proof.target().is_some(), row.words.contains(&"--proof"));
-        }
-        (None, None) => {}
-        _ => return Err(Fail::from("the proof's writer is there or not")),
-    }
-    Ok(())
+    assert!(rt; is_same(err.bytes(), row.err));
+    check_out(rt, &row, &out);
+    check_left(rt, &row, piece, &input);
+    check_tally(rt, &row, &report.tally);
+    check_model(rt, &row, report.model)?;
+    check_proof(rt, &row, report.proof)
 }
 
 /// Makes each call whole and one byte a read.
@@ -137,6 +216,7 @@ fn models(rt: HostRuntime) -> Result<(), Fail> {
         },
         Row {
             input: b"p cnf 1 1\n-1 0\n%\n0\n",
+            left: b"\n0\n",
             out: b"s SATISFIABLE\nv -1 0\n",
             ..MODEL
         },
@@ -197,6 +277,7 @@ fn bad_headers(rt: HostRuntime) -> Result<(), Fail> {
     let rows = [
         Row {
             input: b"1 0\n",
+            left: b" 0\n",
             err: b"gimsatul: input line 1: NoHeader\n",
             code: 1,
             ..bad
@@ -209,6 +290,7 @@ fn bad_headers(rt: HostRuntime) -> Result<(), Fail> {
         },
         Row {
             input: b"p cnf x 1\n",
+            left: b" 1\n",
             err: b"gimsatul: input line 1: BadHeader\n",
             code: 2,
             ..bad
@@ -229,6 +311,7 @@ fn bad_clauses(rt: HostRuntime) -> Result<(), Fail> {
     let rows = [
         Row {
             input: b"p cnf 2 1\n1 +2 0\n",
+            left: b"2 0\n",
             err: b"gimsatul: input line 2: BadToken\n",
             code: 3,
             line: 2,
@@ -236,6 +319,7 @@ fn bad_clauses(rt: HostRuntime) -> Result<(), Fail> {
         },
         Row {
             input: b"p cnf 1 1\n2 0\n",
+            left: b"0\n",
             err: b"gimsatul: input line 2: LiteralRange\n",
             code: 4,
             line: 2,
@@ -243,6 +327,7 @@ fn bad_clauses(rt: HostRuntime) -> Result<(), Fail> {
         },
         Row {
             input: b"p cnf 2 0\n1 0\n",
+            left: b"0\n",
             err: b"gimsatul: input line 2: TooManyClauses\n",
             code: 5,
             line: 2,
@@ -289,6 +374,7 @@ fn check_words(
 fn words_that_are_refused(rt: HostRuntime) -> Result<(), Fail> {
     let usage = Row {
         input_fails: FIRST,
+        left: NOTHING,
         status: 1,
         err: b"gimsatul: bad command line\n",
         proof: None,
@@ -352,6 +438,7 @@ fn a_file_in_place_of_standard_input(rt: HostRuntime) -> Result<(), Fail> {
     let given = Row {
         words: &["--proof", "P", "a.cnf"],
         input_fails: FIRST,
+        left: NOTHING,
         inputs: REFUTED,
         opened: true,
         ..PLAIN
@@ -407,50 +494,95 @@ fn a_file_in_place_of_standard_input(rt: HostRuntime) -> Result<(), Fail> {
 
 #[test]
 fn faults(rt: HostRuntime) -> Result<(), Fail> {
+    let unread = Row {
+        input_fails: FIRST,
+        left: NOTHING,
+        ..PLAIN
+    };
+    let unprinted = Row {
+        status: 6,
+        err: b"gimsatul: write fault\n",
+        ..MODEL
+    };
     let rows = [
         Row {
             words: &["--proof", "P"],
-            input_fails: FIRST,
             files_fail: FIRST,
             status: 4,
             err: b"gimsatul: cannot create proof\n",
             proof: None,
-            ..PLAIN
+            ..unread
         },
         Row {
-            input_fails: FIRST,
             status: 5,
             err: b"gimsatul: read fault\n",
-            ..PLAIN
+            ..unread
         },
         Row {
-            out_fails: FIRST,
-            status: 6,
-            err: b"gimsatul: write fault\n",
-            ..MODEL
-        },
-        Row {
-            words: &["--proof", "P"],
-            input: b"p cnf 0 1\n0\n",
-            proof_fails: FIRST,
-            status: 7,
-            err: b"gimsatul: proof fault\n",
-            ..MODEL
-        },
-        Row {
-            input_fails: FIRST,
             err_fails: FIRST,
             status: 5,
-            ..PLAIN
+            ..unread
         },
         Row {
             input: b"1 0\n",
+            left: b" 0\n",
+            proof_fails: FIRST,
             err_fails: SECOND,
             status: 2,
             err: b"gimsatul: input line ",
             code: 1,
             line: 1,
             ..PLAIN
+        },
+        Row {
+            out_fails: FIRST,
+            ..unprinted
+        },
+        Row {
+            out_fails: SECOND,
+            out: b"s SATISFIABLE\nv 0\n",
+            ..unprinted
+        },
+    ];
+    check_rows(&rt, &rows)
+}
+
+#[test]
+fn faults_of_the_proof(rt: HostRuntime) -> Result<(), Fail> {
+    let unproved = Row {
+        words: &["--proof", "P"],
+        proof_fails: FIRST,
+        status: 7,
+        err: b"gimsatul: proof fault\n",
+        ..MODEL
+    };
+    let two_lines = Row {
+        input: b"p cnf 2 4\n1 2 0\n1 -2 0\n-1 2 0\n-1 -2 0\n",
+        proof_fails: SECOND,
+        proof: Some(b"1 0\n"),
+        learned: &[1],
+        ..unproved
+    };
+    let rows = [
+        // The flush is the proof's only call, or follows the empty clause.
+        unproved,
+        Row {
+            input: b"p cnf 0 1\n0\n",
+            proof_fails: SECOND,
+            proof: Some(b"0\n"),
+            flushes_proof: false,
+            ..unproved
+        },
+        // A line fails, and the flush behind it does or doesn't.
+        Row {
+            input: b"p cnf 0 1\n0\n",
+            ..unproved
+        },
+        two_lines,
+        Row {
+            proof_fails: &[2, 3],
+            flushes_proof: false,
+            ..two_lines
         },
     ];
     check_rows(&rt, &rows)
@@ -461,6 +593,7 @@ fn a_read_fails_after_ten_bytes(rt: HostRuntime) -> Result<(), Fail> {
     let row = Row {
         input: b"c x\np cnf 3 3\n1 0 -1 2\n0 -2 -3 0\n",
         input_fails: &[11],
+        left: b"3 3\n1 0 -1 2\n0 -2 -3 0\n",
         status: 5,
         err: b"gimsatul: read fault\n",
         ..PLAIN

@@ -1,7 +1,7 @@
 // The top call.
-ghost use Rattle.std.specs.Prelude.{◌≡◌, ◌≤◌, ◌⊎◌, Bool, true, false, ℕ, Some, None, map, string_bytes, option_copied, option_map, is_some, IfOk, OnErr, IfSome, IsSome, IsSomeAnd};
+ghost use Rattle.std.specs.Prelude.{◌≡◌, ◌≤◌, ◌⊎◌, Bool, true, false, ℕ, Some, None, map, string_bytes, option_copied, option_map, is_some, IfOk, OnOk, OnErr, IfSome, IsSome, IsSomeAnd};
 ghost use Rattle.io_edge.specs.Causes.{HasCause};
-ghost use Rattle.io_edge.specs.Paths.{IsEmptyWhereTold};
+ghost use Rattle.io_edge.specs.Paths.{IsEmptyWhereTold, IsThere};
 ghost use Rattle.gimsatul.specs.Words.{command_of, file_path, proof_path};
 ghost use Rattle.gimsatul.specs.Run.{target_in, text_left, source_in, writer_of, IsOpened};
 ghost use Rattle.gimsatul.specs.Outcome.{IsCall, IsRun};
@@ -37,6 +37,7 @@ fn words_end(stop: WordsStop) -> End
 /// Opens the input where a path is given for it.
 fn open<F: Files>(files: &mut F, path: Option<&str>) -> Result<Option<F::Reader>, Failed>
     ensures opened { IfOk result (λ file. IsOpened F.Reader.left F.Reader.faults (F.contents files.old) (option_copied path.entry) file) }
+    ensures there { OnOk result (IfSome (option_copied path.entry) (IsThere (F.contents files.old))) }
     ensures contents { F.contents files.new ≡ F.contents files.old }
     ensures cause { HasCause (F.faults files.old) (F.faults files.new) result }
     ensures asked { OnErr result (IsSome (option_copied path.entry)) }
@@ -55,6 +56,7 @@ fn create<F: Files>(files: &mut F, path: Option<&str>) -> Result<F::Writer, Fail
     ensures written { IfOk result (λ writer. IsEmptyWhereTold (F.Writer.written writer)) }
     ensures fresh { IfOk result (λ writer. F.Writer.faults writer ≡ 0) }
     ensures target { IfOk result (λ writer. F.Writer.target writer ≡ target_in (F.contents files.old) (option_copied path.entry)) }
+    ensures contents { F.contents files.new ≡ F.contents files.old }
     ensures cause { HasCause (F.faults files.old) (F.faults files.new) result }
     ensures asked { OnErr result (IsSome (option_copied path.entry)) }
 {
@@ -157,6 +159,7 @@ fn run<F: Files, I: Source, O: Sink>(
     ensures unread { leaves_input result.end ≡ true → input.new ≡ input.old }
     ensures idle { result.proof ≡ None → input.new ≡ input.old }
     ensures file_alone { is_some (file_path (command_of (map string_bytes words.now))) ≡ true → input.new ≡ input.old }
+    ensures contents { F.contents files.new ≡ F.contents files.old }
     ensures unopened { leaves_files result.end (is_some result.proof) ≡ true → files.new ≡ files.old }
 {
     let tally = Tally::new(alloc);
@@ -266,6 +269,7 @@ pub fn gimsatul<F: Files, I: Source, O: Sink, E: Sink>(
     ensures unread { (result.status ≡ 1) ⊎ (result.status ≡ 3) ⊎ (result.status ≡ 4) → input.new ≡ input.old }
     ensures idle { result.proof ≡ None → input.new ≡ input.old }
     ensures file_alone { is_some (file_path (command_of (map string_bytes words.now))) ≡ true → input.new ≡ input.old }
+    ensures contents { F.contents files.new ≡ F.contents files.old }
     ensures unopened { result.status ≡ 1 → files.new ≡ files.old }
     ensures unmade { result.status ≡ 9 → result.proof ≡ None → files.new ≡ files.old }
 {

@@ -1,4 +1,4 @@
-use Rattle.std.proofs.Common.{[], inl}
+use Rattle.std.proofs.Common.{[], inl, refl}
 use Rattle.gimsatul.proofs.Finishes.{no_formula, unread, unread_end}
 use Rattle.gimsatul.proofs.decide.decide_over.Goals as goal
 
@@ -9,7 +9,7 @@ returns-in-Err-clause-outcome g c =
     record {
       formula = no_formula;
       journal = [];
-      outcome = unread_end c.in-Err.stop c.read_end.result c.args.tally.now _ _ _ c.read_end.ensures.end c.in-Err.ensures.answer (λ code line e. c.in-Err.ensures.quiet code line (cc e)) (λ e. c.in-Err.ensures.fault (cc e)) c.requires.uncounted c.read_end.ensures.tally none;
+      outcome = unread_end c.in-Err.stop c.read_end.result c.args.tally.now _ _ _ c.read_end.ensures.end c.in-Err.ensures.answer (λ other. c.in-Err.ensures.quiet (λ e. other (cc e))) (λ e. c.in-Err.ensures.fault (cc e)) c.requires.uncounted c.read_end.ensures.tally refl none;
     }
 
 pub returns-in-Err-with_ring-clause-outcome : goal.returns-in-Err-with_ring-clause-outcome
@@ -18,5 +18,5 @@ returns-in-Err-with_ring-clause-outcome g c =
     record {
       formula = no_formula;
       journal = [];
-      outcome = inl (record { unread = unread c.args.limit _ _ _ _ _ _ _ _ _ flush.result c.requires.quiet c.requires.empty flush.ensures.bytes flush.ensures.cause flush.ensures.flushed; counts = c.requires.uncounted });
+      outcome = inl (c.in-Ok.ensures.quiet (λ e. cc e), record { unread = unread c.args.limit _ _ _ _ _ _ _ _ _ flush.result c.requires.quiet c.requires.empty flush.ensures.bytes flush.ensures.cause flush.ensures.flushed; counts = c.requires.uncounted; out = refl });
     }

@@ -32,9 +32,9 @@ returns-clause-searched g c =
     (subst (λ (v : Result Verdict SearchStop). IsSearch c.args.limit F v 0 new.faults new.written) (sym e) h) in
     elim c.match-put.branch as (λ _. IsSearch c.args.limit F c.match-put.verdict 0 (g.P.Sink.faults c.into_sink.result) (g.P.Sink.written c.into_sink.result)) [
       | in-Ok w ↦ as_result (Ok Verdict.Unsatisfiable) w.verdict-is
-          (refuted c.args.limit F c.requires.given old empty quiet new w.in-Ok.field-0 (subst (WasPut old new (AddLine [])) w.in-Ok.is put))
+          (refuted c.args.limit F c.requires.some c.requires.given old empty quiet new w.in-Ok.field-0 (subst (WasPut old new (AddLine [])) w.in-Ok.is put))
       | in-Err-ProofFault w ↦ as_result (Err SearchStop.ProofFault) w.verdict-is
-          (failed c.args.limit F c.requires.given old empty quiet new (subst (λ (s : LineStop). WasPut old new (AddLine []) (Err s)) w.in-Err-ProofFault.field-0-is (subst (WasPut old new (AddLine [])) w.in-Err-ProofFault.is put)))
+          (failed c.args.limit F c.requires.some c.requires.given old empty quiet new (subst (λ (s : LineStop). WasPut old new (AddLine []) (Err s)) w.in-Err-ProofFault.field-0-is (subst (WasPut old new (AddLine [])) w.in-Err-ProofFault.is put)))
       | in-Err-Memory w ↦ as_result (Err SearchStop.Memory) w.verdict-is
-          (no_memory c.args.limit F c.requires.given old empty quiet new (subst (λ (s : LineStop). WasPut old new (AddLine []) (Err s)) w.in-Err-Memory.field-0-is (subst (WasPut old new (AddLine [])) w.in-Err-Memory.is put)))
+          (no_memory c.args.limit F c.requires.some c.requires.given old empty quiet new (subst (λ (s : LineStop). WasPut old new (AddLine []) (Err s)) w.in-Err-Memory.field-0-is (subst (WasPut old new (AddLine [])) w.in-Err-Memory.is put)))
     ]

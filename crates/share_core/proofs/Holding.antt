@@ -1,20 +1,19 @@
 -- What a sound state says of what rings hold, build and are to delete.
-use Rattle.std.proofs.Common.{◌≡◌, ◌≢◌, ℕ, ◌+◌, ◌*◌, ◌^◌, ◌<◌, ◌≤◌, List, All, Option, Some, None, refl, sym, ap, ◌∙◌, subst, ⊎_elim, arith}
+use Rattle.std.proofs.Common.{◌≡◌, ◌≢◌, ℕ, ◌+◌, ◌*◌, ◌^◌, ◌<◌, ◌≤◌, List, Some, sym, ap, ◌∙◌, subst, arith}
 use Rattle.sat_words.specs.Literal.{Literal}
 use Rattle.rup_model.specs.declared.journal.TheConstants.{RULER_RING}
 use Rattle.rup_model.specs.Journal.{book}
 use Rattle.rup_model.specs.Opening.{IsLong}
-use Rattle.rup_model.specs.Basics.{below}
 use Rattle.rup_model.proofs.Lists.{In}
 use Rattle.rup_model.proofs.Sums.{below_most}
 use Rattle.share_core.specs.declared.event.TheConstants.{MAX_SHARES}
 use Rattle.share_core.specs.declared.stored.ClauseAt.{ClauseAt}
 use Rattle.share_core.specs.declared.stored.Cell.{Cell}
-use Rattle.share_core.specs.State.{times_at, State, count_at, number_at, lits_at, maker_at, clause_at, slots}
+use Rattle.share_core.specs.State.{State, count_at, number_at, lits_at, maker_at, clause_at, slots}
 use Rattle.share_core.specs.Sound.{IsCopy, Sound}
 use Rattle.share_core.specs.Readable.{IsOpenCell}
 use Rattle.share_core.proofs.ClauseLists.{at_in, all_in}
-use Rattle.share_core.proofs.Counting.{none_some, cell_cases, is_made, held_counted, held_cell, slot_cell, waiting_cell}
+use Rattle.share_core.proofs.Counting.{is_made, held_counted, held_cell, slot_cell, waiting_cell}
 
 -- a copy of a cell is as the rings know it
 pub copy_is : (c : State) (h : ClauseAt) → IsCopy c.cell h → h ≡ clause_at c h.address
@@ -54,6 +53,9 @@ module _ (c : State) (r : ℕ) (h : ClauseAt) (s : Sound c) (lt : r < c.opening.
       let e = s.counts.makes r h.address lt in
       let maker : k.0.maker ≡ Some r = sym (ap maker_at k.1) ∙ is_made r (maker_at (c.cell h.address)) (omega arith) in
       (k.0, k.1, maker, (s.counts.making h.address k.0 r k.1 maker).0)
+
+  pub making_alive : In h (c.part r).making → (book c.opening.formula c.journal).clause h.number ≡ Some h.lits
+  making_alive i = copy_alive c h s (making_copy i)
 
   pub waiting_copy : In h (c.part r).waiting → IsCopy c.cell h
   waiting_copy i = all_in (IsCopy c.cell) (c.part r).waiting h i (s.copies.waiting r lt)

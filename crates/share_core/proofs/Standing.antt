@@ -1,6 +1,5 @@
 -- Clauses that no deletion names are alive, and stand in cells.
-use Rattle.std.proofs.Common.{◌≡◌, ◌≢◌, ℕ, suc, ◌+◌, ◌<◌, ◌≤◌, ◌==◌, Bool, true, false, ◌||◌, List, [], ◌∷◌, ◌++◌, map, fold, All, Some, None, refl, sym, ap, ◌∙◌, subst, inl, inr, arith, eq-eqb, true≢false}
-use Rattle.std.specs.List.{list_any}
+use Rattle.std.proofs.Common.{◌≡◌, ℕ, ◌<◌, ◌≤◌, ◌==◌, true, false, List, [], ◌∷◌, ◌++◌, map, fold, All, Some, None, sym, ap, ◌∙◌, subst, inl, inr, arith, eq-eqb, true≢false}
 use Rattle.std.proofs.lemmas.Bool.{or_parts}
 use Rattle.std.proofs.lemmas.List.Folds.{list_any-append}
 use Rattle.std.proofs.lemmas.List.Sums.{fold-append}
@@ -17,8 +16,7 @@ use Rattle.rup_model.proofs.Sequences.{EachState, to_states, each_back}
 use Rattle.rup_model.proofs.Numbers.{clause_below, journal_matches}
 use Rattle.rup_model.proofs.Units.{long_two}
 use Rattle.share_core.specs.declared.stored.ClauseAt.{ClauseAt}
-use Rattle.share_core.specs.declared.stored.Cell.{Cell}
-use Rattle.share_core.specs.State.{CoreOpening, State}
+use Rattle.share_core.specs.State.{State}
 use Rattle.share_core.specs.Sound.{IsShared, Sound}
 use Rattle.share_core.specs.Readable.{deleted, IsInCell}
 use Rattle.share_core.proofs.ClauseLists.{all_in}

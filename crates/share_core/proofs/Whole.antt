@@ -1,5 +1,5 @@
 -- Each start clause and each later addition of two literals or more that is alive is the clause of a cell.
-use Rattle.std.proofs.Common.{◌≡◌, ◌≢◌, ◌⊎◌, ℕ, ◌<◌, ◌≤◌, true, List, [], ◌∷◌, ◌++◌, Option, Some, None, refl, sym, ap, ◌∙◌, subst}
+use Rattle.std.proofs.Common.{◌≡◌, ℕ, true, List, [], ◌∷◌, ◌++◌, Option, Some, None, sym, ap, ◌∙◌}
 use Rattle.sat_words.specs.Literal.{Literal}
 use Rattle.sat_words.specs.Clause.{two_or_more}
 use Rattle.rup_model.specs.declared.journal.Entry.{Entry}
@@ -11,7 +11,7 @@ use Rattle.rup_model.proofs.Sums.{at_put, put_here, put_else}
 use Rattle.rup_model.proofs.Numbers.{book_last}
 use Rattle.share_core.specs.declared.stored.Cell.{Cell}
 use Rattle.share_core.specs.State.{CoreOpening}
-use Rattle.share_core.specs.Sound.{AllInCells, CellsSound}
+use Rattle.share_core.specs.Sound.{AllInCells}
 use Rattle.share_core.proofs.Counting.{none_some, some_same}
 use Rattle.share_core.proofs.Copies.{Keeps}
 

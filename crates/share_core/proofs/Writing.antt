@@ -19,7 +19,7 @@ use Rattle.share_core.specs.declared.event.Event.TheVariants.{AddClause, AddUnit
 use Rattle.share_core.specs.declared.stored.ClauseAt.{ClauseAt}
 use Rattle.share_core.specs.declared.stored.Cell.{Cell}
 use Rattle.share_core.specs.State.{times_at, opening_of, Part, State, count_at, maker_at}
-use Rattle.share_core.specs.Learning.{follows, may_learn, after_learn, MayAddClause, MayAddUnit}
+use Rattle.share_core.specs.Learning.{follows, may_learn, MayAddClause, MayAddUnit}
 use Rattle.share_core.specs.Enabled.{Writes, IsEnabled}
 use Rattle.share_core.specs.Events.{addition_of, wrote_part, made_part, written, after}
 use Rattle.share_core.specs.Sound.{idle_at, IsCopy, CellsSound, JournalSound, Sound}

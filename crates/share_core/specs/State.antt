@@ -10,7 +10,6 @@ use Rattle.share_core.specs.declared.event.TheConstants.{MAX_ENTRIES}
 use Rattle.share_core.specs.declared.event.Stop.{Stop}
 use Rattle.share_core.specs.declared.stored.ClauseAt.{ClauseAt}
 use Rattle.share_core.specs.declared.stored.Cell.{Cell}
-use Rattle.share_core.specs.declared.stored.PutNote.{PutNote}
 pub use Rattle.share_core.specs.declared.part.CoreOpening.{CoreOpening}
 pub use Rattle.share_core.specs.declared.part.Placed.{Placed}
 pub use Rattle.share_core.specs.declared.part.Part.{Part}

@@ -29,12 +29,15 @@ pub fn what_a_ring_holds()
     ensures long { (c : State) (r : ℕ) (h : ClauseAt) → Sound c → r < c.opening.rings → Contains (c.part r).held h → IsLong h.lits }
 {}
 
-/// What a ring builds at an address is the clause of a cell that it alone builds, and that nobody holds.
+/// What a ring builds at an address is the clause of a cell with count 0 that it builds, and is alive in the log under
+/// its number.
 pub fn what_a_ring_builds()
     ensures address { (c : State) (r a : ℕ) → 0 < times_at a (c.part r).making → (h : ClauseAt) × Contains (c.part r).making h × (h.address ≡ a) }
     ensures clause { (c : State) (r : ℕ) (h : ClauseAt) → Sound c → r < c.opening.rings → Contains (c.part r).making h → h ≡ clause_at c h.address }
     ensures cell { (c : State) (r : ℕ) (h : ClauseAt) → Sound c → r < c.opening.rings → Contains (c.part r).making h
         → (x : Cell) × (c.cell h.address ≡ Some x) × (x.maker ≡ Some r) × (x.count ≡ 0) }
+    ensures alive { (c : State) (r : ℕ) (h : ClauseAt) → Sound c → r < c.opening.rings → Contains (c.part r).making h
+        → (book c.opening.formula c.journal).clause h.number ≡ Some h.lits }
 {}
 
 /// What waits at a ring is the clause of an open cell with count 0, and is alive in the log under its number.

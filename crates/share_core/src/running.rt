@@ -1,15 +1,15 @@
 ghost use Rattle.std.specs.Prelude.{◌≡◌, ◌⊎◌, ◌<◌, ◌≤◌, ◌∷◌, [], ◌++◌, length, map, replicate, IfOk, OnErr, OnOk, List, ℕ};
 ghost use Rattle.std.specs.Option.{unwrap_or};
 ghost use Rattle.rup_model.specs.Journal.{formula_clause, lines};
-ghost use Rattle.share_core.specs.State.{times_at, IsCoreOpening, opened, count_at, slot_of};
+ghost use Rattle.share_core.specs.State.{times_at, IsCoreOpening, opened, count_at, number_at, slot_of};
 ghost use Rattle.share_core.specs.Events.{after};
 ghost use Rattle.share_core.specs.Enabled.{IsEnabled};
 ghost use Rattle.share_core.specs.Machine.{data_of, state_of, Logged, Kept, has_at, no_ring, start_at, start_stored, core_opening};
 ghost use Rattle.share_core.specs.Guards.{is_enabled};
 ghost use Rattle.share_core.specs.Steps.{Steps, and_then, Runs};
 
-use crate::cells::count_of;
-use crate::event::Event;
+use crate::cells::{count_of, number_of};
+use crate::event::{Event, Stop};
 use crate::items::Items;
 use crate::progress::{Origin, Progress};
 use crate::ring::{Ring, has_at, times_of};
@@ -264,6 +264,13 @@ impl Core {
         count_of(self.progress.cells.as_slice(), address)
     }
 
+    /// The number of the clause in the cell at the address; 0 where there is none.
+    pub fn number(&self, address: u64) -> u64
+        ensures { result ≡ number_at ((state_of self.now).cell address) }
+    {
+        number_of(self.progress.cells.as_slice(), address)
+    }
+
     /// How often the ring holds the cell at the address.
     pub fn held(&self, ring: u32, address: u64) -> u64
         ensures { result ≡ times_at address ((state_of self.now).part ring).held }
@@ -291,6 +298,37 @@ impl Core {
         }
         let place = self.progress.slot_of(from, to, class);
         self.progress.slots[place]
+    }
+
+    /// The listed units, in order.
+    pub fn units(&self) -> &[Lit]
+        ensures { result.now ≡ (state_of self.now).units }
+    {
+        self.progress.units.as_slice()
+    }
+
+    /// How many of the listed units the ring has seen.
+    pub fn seen(&self, ring: u32) -> usize
+        ensures { result ≡ length ((state_of self.now).part ring).seen }
+    {
+        if !self.progress.is_ring(ring) {
+            return 0;
+        }
+        self.progress.ring(ring).seen.len()
+    }
+
+    /// The ring that has the turn to write into the log.
+    pub fn turn(&self) -> Option<u32>
+        ensures { result ≡ (state_of self.now).turn }
+    {
+        self.progress.turn
+    }
+
+    /// The first stop that was set.
+    pub fn stop(&self) -> Option<Stop>
+        ensures { result ≡ (state_of self.now).stop }
+    {
+        self.progress.stop
     }
 
     /// One event, where it is enabled. After an error nothing has changed.

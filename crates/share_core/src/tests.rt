@@ -1,9 +1,10 @@
-// Guards, as tables of events with what becomes of each.
+// Events in tables, with what becomes of each and what they leave: step by step, and all at once.
 use crate::tests_guards::{CELLS, CLAUSES, EXCHANGE, NO_RINGS, TURNS, UNITS};
-use crate::tests_opening::{FOUR, THREE, open};
+use crate::tests_opening::{Small, open};
+use crate::tests_rows::{ENDED_BEFORE, EQUAL_LEMMAS, OPENING_UNITS, PUT_TWICE};
 use crate::{Core, Event, Step};
 use rup_model::Kind;
-use sat_words::{Lit, Lits};
+use sat_words::{Line, Lit, Lits};
 use std::alloc::Global;
 use std::process::Abort;
 use std::test::Fail;
@@ -82,6 +83,57 @@ pub(crate) fn event(alloc: Global, step: Move) -> Result<Event, Fail> {
     })
 }
 
+/// What is seen of a core: cells as address, count and number; what rings hold, as ring, address and times; what waits, as
+/// ring and address; slots as ring, other ring, class and address; the lines of the log, each with whether it deletes;
+/// the listed units, and how many of them each ring has seen; the turn; the stop as kind and ring.
+#[derive(Clone, Copy)]
+pub(crate) struct Seen {
+    pub(crate) cells: &'static [(u64, u64, u64)],
+    pub(crate) held: &'static [(u32, u64, u64)],
+    pub(crate) waiting: &'static [(u32, u64)],
+    pub(crate) slots: &'static [(u32, u32, u8, u64)],
+    pub(crate) lines: &'static [(bool, &'static [i32])],
+    pub(crate) units: &'static [i32],
+    pub(crate) seen: &'static [usize],
+    pub(crate) turn: Option<u32>,
+    pub(crate) stop: Option<(u8, u32)>,
+}
+
+/// Nothing of it.
+pub(crate) const NOTHING: Seen = Seen {
+    cells: &[],
+    held: &[],
+    waiting: &[],
+    slots: &[],
+    lines: &[],
+    units: &[],
+    seen: &[0, 0],
+    turn: None,
+    stop: None,
+};
+
+/// A core over a formula with this many rings, events with what becomes of each, and what they leave.
+#[derive(Clone, Copy)]
+pub(crate) struct Row {
+    pub(crate) small: Small,
+    pub(crate) rings: u32,
+    pub(crate) events: &'static [(Move, Step)],
+    pub(crate) left: Seen,
+}
+
+const ROWS: &[Row] = &[
+    NO_RINGS,
+    TURNS,
+    CLAUSES,
+    UNITS,
+    CELLS,
+    EXCHANGE,
+    EQUAL_LEMMAS,
+    PUT_TWICE,
+    OPENING_UNITS,
+    ENDED_BEFORE,
+];
+
 /// Steps through the table.
 pub(crate) fn walk(
     rt: &(impl Abort + AllocGlobal),
@@ -97,51 +149,96 @@ pub(crate) fn walk(
     Ok(())
 }
 
-/// Compares counts of cells.
-pub(crate) fn check_counts(rt: &impl Abort, core: &Core, wanted: &[(u64, u64)]) {
-    for (address, count) in wanted {
+fn check_cells(rt: &impl Abort, core: &Core, wanted: &Seen) {
+    for (address, count, number) in wanted.cells {
         assert_eq!(rt; core.count(*address), *count, "at {address}");
+        assert_eq!(rt; core.number(*address), *number, "at {address}");
+    }
+    for (ring, address, times) in wanted.held {
+        assert_eq!(rt; core.held(*ring, *address), *times, "at {address}");
+    }
+    for (ring, address) in wanted.waiting {
+        assert!(rt; core.waits(*ring, *address), "at {address}");
+    }
+    for (from, to, class, address) in wanted.slots {
+        assert_eq!(rt; core.slot(*from, *to, *class), *address);
     }
 }
 
-#[test]
-fn refuses_events_of_no_ring(rt: HostRuntime) -> Result<(), Fail> {
-    let mut core = open(&rt, THREE, 2)?;
-    walk(&rt, &mut core, NO_RINGS)
+fn is_line(line: &Line, deletes: bool, wanted: &Lits) -> bool {
+    match line {
+        Line::Add(lits) => !deletes && *lits == *wanted,
+        Line::Del(lits) => deletes && *lits == *wanted,
+    }
 }
 
-#[test]
-fn guards_turns_and_grants(rt: HostRuntime) -> Result<(), Fail> {
-    let mut core = open(&rt, THREE, 2)?;
-    walk(&rt, &mut core, TURNS)
+fn check_lines(
+    rt: &(impl Abort + AllocGlobal),
+    core: &Core,
+    wanted: &[(bool, &'static [i32])],
+) -> Result<(), Fail> {
+    let lines = core.lines();
+    assert_eq!(rt; lines.len(), wanted.len());
+    for (line, (deletes, ints)) in lines.iter().zip(wanted) {
+        let wanted = lits(rt.alloc(), *ints)?;
+        assert!(rt; is_line(line, *deletes, &wanted));
+    }
+    Ok(())
 }
 
-#[test]
-fn guards_clauses(rt: HostRuntime) -> Result<(), Fail> {
-    let mut core = open(&rt, THREE, 2)?;
-    walk(&rt, &mut core, CLAUSES)
+fn check_units(rt: &(impl Abort + AllocGlobal), core: &Core, wanted: &Seen) -> Result<(), Fail> {
+    let units = lits(rt.alloc(), wanted.units)?;
+    assert!(rt; core.units() == units.as_slice());
+    let mut ring: u32 = 0;
+    for seen in wanted.seen {
+        assert_eq!(rt; core.seen(ring), *seen, "by {ring}");
+        ring = ring.wrapping_add(1);
+    }
+    Ok(())
 }
 
-#[test]
-fn guards_units_and_the_end(rt: HostRuntime) -> Result<(), Fail> {
-    let mut core = open(&rt, FOUR, 2)?;
-    walk(&rt, &mut core, UNITS)
+fn check_left(rt: &(impl Abort + AllocGlobal), core: &Core, wanted: &Seen) -> Result<(), Fail> {
+    check_cells(rt, core, wanted);
+    check_lines(rt, core, wanted.lines)?;
+    check_units(rt, core, wanted)?;
+    assert_eq!(rt; core.turn(), wanted.turn);
+    assert_eq!(rt; core.stop().map(|stop| (stop.kind, stop.ring)), wanted.stop);
+    Ok(())
 }
 
-#[test]
-fn guards_cells(rt: HostRuntime) -> Result<(), Fail> {
-    let mut core = open(&rt, THREE, 2)?;
-    walk(&rt, &mut core, CELLS)?;
-    check_counts(&rt, &core, &[(20, 0), (25, 2), (50, 0)]);
-    assert!(rt; core.waits(1, 20));
-    assert!(rt; !core.waits(0, 20));
+/// The events of the row at once.
+fn run_row(
+    rt: &(impl Abort + AllocGlobal),
+    core: &mut Core,
+    rows: &[(Move, Step)],
+) -> Result<(), Fail> {
+    let mut events = Vec::new(rt.alloc());
+    let mut all = true;
+    for (step, wanted) in rows {
+        events.push(event(rt.alloc(), *step)?)?;
+        all = all && *wanted == Step::Done;
+    }
+    let step = core.run(rt.alloc(), events.as_slice())?;
+    assert_eq!(rt; step == Step::Done, all);
     Ok(())
 }
 
 #[test]
-fn guards_exchange(rt: HostRuntime) -> Result<(), Fail> {
-    let mut core = open(&rt, THREE, 3)?;
-    walk(&rt, &mut core, EXCHANGE)?;
-    check_counts(&rt, &core, &[(20, 3), (25, 3)]);
+fn rows_step_by_step(rt: HostRuntime) -> Result<(), Fail> {
+    for row in ROWS {
+        let mut core = open(&rt, row.small, row.rings)?;
+        walk(&rt, &mut core, row.events)?;
+        check_left(&rt, &core, &row.left)?;
+    }
+    Ok(())
+}
+
+#[test]
+fn rows_at_once(rt: HostRuntime) -> Result<(), Fail> {
+    for row in ROWS {
+        let mut core = open(&rt, row.small, row.rings)?;
+        run_row(&rt, &mut core, row.events)?;
+        check_left(&rt, &core, &row.left)?;
+    }
     Ok(())
 }

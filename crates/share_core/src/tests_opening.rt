@@ -40,6 +40,22 @@ pub(crate) const FOUR: Small = Small {
     units: &[],
 };
 
+/// Units in the formula, one of which is listed from the start, and one of which is written with a repeat.
+pub(crate) const GIVEN: Small = Small {
+    vars: 5,
+    clauses: &[&[1], &[-1, 2], &[-2, 3, 4], &[4, -4], &[5, 5]],
+    start: &[(20, 2), (25, 3)],
+    units: &[1],
+};
+
+/// The empty clause, a unit and one more.
+pub(crate) const EMPTY: Small = Small {
+    vars: 2,
+    clauses: &[&[], &[1, 2], &[1]],
+    start: &[(20, 2)],
+    units: &[],
+};
+
 /// Whether it has an address, and the number of a clause that is long.
 fn start_fits(s: &ClauseAt, clauses: &[Clause]) -> bool
     ensures { result ≡ start_fits clauses.now s.now }

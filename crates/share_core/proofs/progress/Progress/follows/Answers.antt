@@ -1,4 +1,4 @@
-use Rattle.std.proofs.Common.{◌≡◌, ◌∷◌, ◌++◌, ◌∙◌, Bool, List, [], IfOk, map, sym, ap, subst}
+use Rattle.std.proofs.Common.{◌≡◌, ◌∷◌, ◌++◌, ◌∙◌, Bool, [], IfOk, map, sym, ap, subst}
 use Rattle.sat_words.specs.Literal.{Literal}
 use Rattle.rup_model.specs.Rup.{rup}
 use Rattle.share_core.specs.declared.stored.ClauseAt.{ClauseAt}

@@ -121,19 +121,6 @@ pub(crate) struct Row {
     pub(crate) left: Seen,
 }
 
-const ROWS: &[Row] = &[
-    NO_RINGS,
-    TURNS,
-    CLAUSES,
-    UNITS,
-    CELLS,
-    EXCHANGE,
-    EQUAL_LEMMAS,
-    PUT_TWICE,
-    OPENING_UNITS,
-    ENDED_BEFORE,
-];
-
 /// Steps through the table.
 pub(crate) fn walk(
     rt: &(impl Abort + AllocGlobal),
@@ -223,22 +210,62 @@ fn run_row(
     Ok(())
 }
 
-#[test]
-fn rows_step_by_step(rt: HostRuntime) -> Result<(), Fail> {
-    for row in ROWS {
-        let mut core = open(&rt, row.small, row.rings)?;
-        walk(&rt, &mut core, row.events)?;
-        check_left(&rt, &core, &row.left)?;
-    }
-    Ok(())
+/// Steps through the row, and then runs its events at once over another core, and compares what they leave.
+fn check_row(rt: &(impl Abort + AllocGlobal), row: Row) -> Result<(), Fail> {
+    let mut core = open(rt, row.small, row.rings)?;
+    walk(rt, &mut core, row.events)?;
+    check_left(rt, &core, &row.left)?;
+    let mut core = open(rt, row.small, row.rings)?;
+    run_row(rt, &mut core, row.events)?;
+    check_left(rt, &core, &row.left)
 }
 
 #[test]
-fn rows_at_once(rt: HostRuntime) -> Result<(), Fail> {
-    for row in ROWS {
-        let mut core = open(&rt, row.small, row.rings)?;
-        run_row(&rt, &mut core, row.events)?;
-        check_left(&rt, &core, &row.left)?;
-    }
-    Ok(())
+fn refuses_events_of_no_ring(rt: HostRuntime) -> Result<(), Fail> {
+    check_row(&rt, NO_RINGS)
+}
+
+#[test]
+fn guards_turns_and_grants(rt: HostRuntime) -> Result<(), Fail> {
+    check_row(&rt, TURNS)
+}
+
+#[test]
+fn guards_clauses(rt: HostRuntime) -> Result<(), Fail> {
+    check_row(&rt, CLAUSES)
+}
+
+#[test]
+fn guards_units_and_the_end(rt: HostRuntime) -> Result<(), Fail> {
+    check_row(&rt, UNITS)
+}
+
+#[test]
+fn guards_cells(rt: HostRuntime) -> Result<(), Fail> {
+    check_row(&rt, CELLS)
+}
+
+#[test]
+fn guards_exchange(rt: HostRuntime) -> Result<(), Fail> {
+    check_row(&rt, EXCHANGE)
+}
+
+#[test]
+fn equal_lemmas_are_two_copies(rt: HostRuntime) -> Result<(), Fail> {
+    check_row(&rt, EQUAL_LEMMAS)
+}
+
+#[test]
+fn what_comes_out_of_a_slot_is_held(rt: HostRuntime) -> Result<(), Fail> {
+    check_row(&rt, PUT_TWICE)
+}
+
+#[test]
+fn opening_units_are_listed(rt: HostRuntime) -> Result<(), Fail> {
+    check_row(&rt, OPENING_UNITS)
+}
+
+#[test]
+fn the_empty_clause_may_be_given(rt: HostRuntime) -> Result<(), Fail> {
+    check_row(&rt, ENDED_BEFORE)
 }

@@ -1,9 +1,9 @@
 -- Which words are free, and what they tell of the holes.
-use Rattle.std.proofs.Common.{◌≡◌, ◌⊎◌, ℕ, suc, ◌+◌, ◌<◌, ◌≤◌, ◌&&◌, ◌||◌, Bool, true, false, List, [], ◌∷◌, refl, sym, ap, ◌∙◌, subst, arith, ⊎_elim, inl, inr, true≢false}
+use Rattle.std.proofs.Common.{◌≡◌, ℕ, suc, ◌+◌, ◌<◌, ◌≤◌, ◌&&◌, ◌||◌, Bool, true, false, List, [], ◌∷◌, refl, sym, ap, ◌∙◌, subst, arith, ⊎_elim, inl, inr, true≢false}
 use Rattle.std.specs.Prelude.{Some, None, if◌then◌else◌}
 use Rattle.std.proofs.lemmas.Bool.Decides.{leb_tells}
 use Rattle.clause_cell.specs.declared.holes.Hole.{Hole}
-use Rattle.clause_cell.specs.Free.{is_within, is_free, is_apart, is_clear, rest_of, first_fit, without_fit, largest}
+use Rattle.clause_cell.specs.Free.{is_within, is_free, is_apart, is_clear, first_fit, without_fit, largest}
 use Rattle.clause_cell.proofs.Ranges.{of_le, not_within, within_of, Parts, parts, joined, none_before, clear_parts, taken_free}
 
 within_true : (f n w : ℕ) → f ≤ w → w < f + n → is_within f n w ≡ true

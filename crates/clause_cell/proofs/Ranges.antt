@@ -1,11 +1,10 @@
 -- Taking and giving back words, over lists of holes.
-use Rattle.std.proofs.Common.{◌≡◌, ◌≢◌, ◌⊎◌, ℕ, zero, suc, ◌+◌, ◌-◌, ◌*◌, ◌^◌, ◌<◌, ◌≤◌, ◌==◌, ◌&&◌, ◌||◌, Bool, true, false, not, List, [], ◌∷◌, ◌++◌, length, take, drop, set, get_or, refl, sym, ap, ◌∙◌, arith, ⊎_elim, inl, inr, true≢false, cond, ltb, ltb-false}
+use Rattle.std.proofs.Common.{◌≡◌, ◌≢◌, ◌⊎◌, ℕ, zero, suc, ◌+◌, ◌-◌, ◌^◌, ◌<◌, ◌≤◌, ◌==◌, ◌&&◌, ◌||◌, Bool, true, false, not, List, [], ◌∷◌, ◌++◌, length, take, set, get_or, refl, sym, ap, ◌∙◌, arith, ⊎_elim, inl, inr, true≢false, cond, ltb, ltb-false}
 use Rattle.std.specs.Prelude.{nat_le, nat_lt, max, Option, Some, None, position, if◌then◌else◌}
-use Rattle.std.specs.List.{list_any, remove, insert, position_or_len}
+use Rattle.std.specs.List.{remove, insert, position_or_len}
 use Rattle.std.proofs.lemmas.List.Quantifiers.{position-Some}
 use Rattle.std.proofs.lemmas.List.Sums.{fails_before_first}
 use Rattle.std.proofs.lemmas.Bool.Decides.{leb_tells, eqb_tells}
-use Rattle.std.proofs.lemmas.List.Folds.{list_any-append}
 use Rattle.clause_cell.specs.declared.holes.Hole.{Hole}
 use Rattle.clause_cell.specs.Sides.{IsSide}
 use Rattle.clause_cell.specs.declared.holes.Side.TheVariants.{Both, Left, Right, Neither}

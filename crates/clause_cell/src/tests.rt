@@ -22,7 +22,9 @@ fn clauses_take_their_words(rt: HostRuntime) -> Result<(), Fail> {
 }
 
 /// Literals on the variables from 1 on, every third negated.
-fn literals(alloc: Global, size: u32) -> Result<Vec<Lit>, Fail> {
+fn literals(alloc: Global, size: u32) -> Result<Vec<Lit>, Fail>
+    requires { size < 100 }
+{
     let mut lits = Vec::new(alloc);
     for var in 1..size {
         lits.push(Lit::new(var, var % 3 == 0))?;

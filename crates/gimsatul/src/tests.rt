@@ -105,22 +105,24 @@ fn check_tally(rt: &impl Abort, row: &Row, tally: &Tally) {
     assert_eq!(rt; tally.line, row.line);
 }
 
+/// The proof's writer has these bytes, made sure of them, and is for the path of the words.
+fn check_writer(rt: &impl Abort, row: &Row, wanted: &[u8], writer: &MemSink<'_>) {
+    let taken = writer.bytes();
+    assert!(rt; !row.compares_proof || is_same(taken, wanted));
+    let sure: &[u8] = if row.flushes_proof { taken } else { b"" };
+    assert!(rt; is_same(writer.flushed_bytes(), sure));
+    let path = if row.words.contains(&"--proof") {
+        Some("P")
+    } else {
+        None
+    };
+    assert!(rt; writer.target() == path);
+}
+
 fn check_proof(rt: &impl Abort, row: &Row, proof: Option<MemSink<'_>>) -> Result<(), Fail> {
     match (proof, row.proof) {
         (Some(proof), Some(wanted)) => {
-            assert!(rt; !row.compares_proof || is_same(proof.bytes(), wanted));
-            let sure: &[u8] = if row.flushes_proof {
-                proof.bytes()
-            } else {
-                b""
-            };
-            assert!(rt; is_same(proof.flushed_bytes(), sure));
-            let path = if row.words.contains(&"--proof") {
-                Some("P")
-            } else {
-                None
-            };
-            assert!(rt; proof.target() == path);
+            check_writer(rt, row, wanted, &proof);
             Ok(())
         }
         (None, None) => Ok(()),

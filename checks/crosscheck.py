@@ -3,9 +3,9 @@
 Seeded random formulas of up to 16 variables, pigeonhole formulas and formulas with the empty clause go through the
 program with `--proof`, most of them in odd spellings, on standard input or as a file. Its answer is compared with a truth
 table, its `v` lines with the clauses and the format, and every line of its proof with the definition of DRAT. Before
-that, a damaged proof and a wrong model are tried, which must be caught. Then the program is brought to each other status
-by real files that fail, and each time the folder that it runs in must have no file but those that were to be there.
-Nothing here shares code with the program.
+that, a damaged proof and a wrong model are tried, which must be caught. Real files that fail, refused words and refused
+inputs bring the program to each status but 8 and 9, and each time the folder that it runs in must have no file but those
+that were to be there. Nothing here shares code with the program.
 """
 
 import os
@@ -246,8 +246,8 @@ def run(program, folder, variables, clauses, satisfiable, text, from_file):
 
 
 class Case:
-    """One run, and what must come of it. The words may name `folder`, where `input` is, if it is given; `here` names the
-    files that must be there afterwards. The streams are compared whole."""
+    """One run in a folder of its own, and what must come of it. `input` is a file there, where it is given, and `out` is
+    where standard output goes, if not to be compared; `here` names the files that must be there afterwards."""
 
     def __init__(self, status, words=(), stdin=b"", input=None, stdout="", stderr="", out=None, here=()):
         self.status, self.words, self.stdin, self.input = status, words, stdin, input

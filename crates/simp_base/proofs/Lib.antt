@@ -1,0 +1,10 @@
+pub mod Lists
+pub mod Steps
+pub mod LiftSteps
+pub mod Removal
+pub mod Keeping
+pub mod Weaken
+pub mod Begin
+pub mod Neighbours
+pub mod Noting
+pub mod TableLemmas

@@ -1,0 +1,22 @@
+-- Steps that lift models.
+use Rattle.std.proofs.Common.{◌≡◌, Bool, true, List, [], ◌∷◌, ◌++◌, sym, ap, ◌∙◌, append_assoc, append-nil, subst}
+use Rattle.model_stack.specs.declared.stack.Fix.{Fix}
+use Rattle.model_stack.proofs.Walk.{lifts_along}
+use Rattle.rup_model.specs.declared.journal.Entry.{Entry}
+use Rattle.simp_base.specs.WorkState.{WorkState, known}
+use Rattle.drat_text.specs.JournalText.{Origin}
+use Rattle.simp_base.specs.Log.{Stands, KeepsLog}
+use Rattle.simp_base.specs.Lifted.{Lifted}
+
+pub lifted_along : (a b c : WorkState) → Lifted a b → Lifted b c → Lifted a c
+lifted_along a b c f g = record {
+  fixes = f.fixes ++ g.fixes;
+  stack = g.stack ∙ ap (λ s. s ++ g.fixes) f.stack ∙ append_assoc a.stack f.fixes g.fixes;
+  lifts = lifts_along (known a) (known b) (known c) f.fixes g.fixes f.lifts g.lifts;
+}
+
+pub lifted_self : (a : WorkState) → Lifted a a
+lifted_self a = record { fixes = []; stack = sym (append-nil a.stack); lifts = λ m h. h }
+
+pub logs_along : (a b c : WorkState) → KeepsLog a b → KeepsLog b c → KeepsLog a c
+logs_along a b c f g = (f.0 ++ g.0, λ o mine h. subst (λ es. Stands o es c) (append_assoc mine f.0 g.0) (g.1 o (mine ++ f.0) (f.1 o mine h)))

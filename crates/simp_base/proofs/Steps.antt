@@ -1,0 +1,403 @@
+-- What a line of the work keeps of the journal that it stands over.
+use Rattle.std.proofs.Common.{◌≡◌, ◌≢◌, ◌⊎◌, ◌↔◌, ℕ, zero, suc, ◌+◌, ◌<◌, ◌==◌, ◌||◌, Bool, true, false, not, cond, List, [], ◌∷◌, ◌++◌, length, map, take, sym, refl, ap, subst, ◌∙◌, inl, inr, ⊎_elim, arith, Some, None, append_assoc, append-nil, length-append}
+use Rattle.std.specs.List.{list_any, All, Contains, slice_get}
+use Rattle.std.specs.declared.option.Option.{Option}
+use Rattle.std.specs.Option.{unwrap_or, option_map}
+use Rattle.std.specs.List.{fold}
+use Rattle.std.proofs.lemmas.List.Sums.{fold-append}
+use Rattle.std.specs.Io.KnownBytes.{append_known}
+use Rattle.std.proofs.lemmas.Bool.{or_left, and_from, false≢true}
+use Rattle.std.proofs.lemmas.List.Elements.{All-append}
+use Rattle.std.proofs.lemmas.List.Folds.{list_any-append}
+use Rattle.sat_words.specs.Literal.{Literal, IsOn}
+use Rattle.sat_words.specs.Clause.{has, same_set, is_empty, clause_of, two_or_more}
+use Rattle.sat_words.specs.declared.line.Line.{Line}
+use Rattle.sat_words.specs.declared.line.Line.TheVariants.{Add as AddLine, Del as DelLine}
+use Rattle.rup_model.specs.declared.journal.TheConstants.{RULER_RING}
+use Rattle.rup_model.specs.declared.journal.Kind.TheVariants.{Ruler}
+use Rattle.rup_model.specs.declared.journal.Addition.{Addition}
+use Rattle.rup_model.specs.declared.journal.Entry.{Entry}
+use Rattle.rup_model.specs.declared.journal.Entry.TheVariants.{Add, Del, Reduce}
+use Rattle.rup_model.specs.Basics.{put}
+use Rattle.rup_model.specs.Rup.{rup}
+use Rattle.rup_model.specs.Log.{Accepted, alive, is_valid, lits_of}
+use Rattle.rup_model.specs.Journal.{Book, spelled, formula_book, book_after, book, lines, lines_after, lines_from, added, is_told, IsFit, EmptyLast, LogSound}
+use Rattle.rup_model.specs.Opening.{is_rulers}
+use Rattle.rup_model.proofs.Lists.{In, In_any, any_In, In_append, In_append_left, In_append_right, In_map, map_In, Contains_In, In_Contains}
+use Rattle.sat_words.proofs.Insertion.{same_set-clause_of}
+use Rattle.simp_base.proofs.Keeping.{only_told}
+use Rattle.rup_model.proofs.Sums.{put_here, put_else, at_put}
+use Rattle.rup_model.proofs.Sequences.{each_last}
+use Rattle.rup_model.proofs.Covers.{same_self, same_back}
+use Rattle.rup_model.proofs.Copies.{copies_any}
+use Rattle.rup_model.proofs.Units.{two_more}
+use Rattle.rup_model.proofs.Numbers.{spelled_same, journal_matches, clause_below, clause_copies, book_last, lines_last, rup_alive_sets}
+use Rattle.rup_model.proofs.Additions.{added-append, told_more}
+use Rattle.rup_model.proofs.Told.{told_alive}
+use Rattle.io_edge.specs.Causes.{Rose}
+use Rattle.drat_text.specs.Text.{text, line_text}
+use Rattle.drat_text.specs.LineState.{LineState, last_after}
+use Rattle.drat_text.specs.LineOut.{PutLine, FailedLine}
+use Rattle.drat_text.specs.declared.stop.LineStop.{LineStop}
+use Rattle.drat_text.specs.declared.stop.LineStop.TheVariants.{ProofFault, Full, Memory}
+use Rattle.std.specs.Prelude.{Result, Ok, Err}
+use Rattle.drat_text.specs.JournalText.{Origin}
+use Rattle.drat_text.proofs.JournalLines.{has_text_next, has_text_cut}
+use Rattle.model_stack.specs.declared.stack.Fix.{Fix}
+use Rattle.simp_base.specs.WorkState.{WorkState, IsWork, known, lists, unit_clauses, is_only, is_alive_unit}
+use Rattle.simp_base.specs.Log.{journal_of, Stands, HasLines, Continues}
+use Rattle.simp_base.specs.Calls.{ruler_adds, ruler_deletes, on_ok, NotPut, WasAdded, WasDeleted, IsListed, WasListed, entries_for, unit_entries}
+use Rattle.simp_base.proofs.Lists.{All_In, one_All, Contains_left, Contains_last, Contains_apart}
+
+or_none : (b : Bool) → (b || false) ≡ b
+or_none true = refl
+or_none false = refl
+
+-- One entry more of the ruler's
+
+module _ (o : Origin) (mine : List Entry) (w : WorkState) (h : Stands o mine w) (e : Entry) (x : Line) where
+  abbrev F : List (List Literal)
+  F = o.formula
+
+  abbrev J : List Entry
+  J = journal_of o mine
+
+  abbrev grown : List Entry
+  grown = journal_of o (mine ++ e ∷ [])
+
+  pub grown_is : grown ≡ J ++ e ∷ []
+  grown_is = sym (append_assoc o.journal mine (e ∷ []))
+
+  pub book_next : book F grown ≡ book_after (book F J) e
+  book_next = ap (book F) grown_is ∙ book_last F J e
+
+  -- the entry has this line there, which is valid, and nothing was ended
+  module _ (one : lines_after (book F J) e ≡ x ∷ []) (valid : is_valid (alive F (lines F J)) x ≡ true) (fit : IsFit (book F J) e) (going : w.ended ≡ false) where
+    pub lines_next : lines F grown ≡ lines F J ++ x ∷ []
+    lines_next = ap (lines F) grown_is ∙ lines_last F J e ∙ ap (λ L. lines F J ++ L) one
+
+    pub accepted_next : Accepted F (lines F J ++ x ∷ [])
+    accepted_next = each_last (λ (before : List Line) (y : Line). is_valid (alive F before) y ≡ true) [] (lines F J) x h.sound.accepted valid
+
+    pub sound_next : LogSound F grown
+    sound_next = subst (LogSound F) (sym grown_is) (record {
+      fits = each_last (λ before y. IsFit (book F before) y) [] J e h.sound.fits fit;
+      accepted = subst (Accepted F) (sym (lines_last F J e ∙ ap (λ L. lines F J ++ L) one)) accepted_next;
+      empty_last = each_last (λ (before : List Entry) (_ : Entry). list_any is_empty (added before) ≡ false) [] J e h.sound.empty_last (sym h.ended ∙ going);
+    })
+
+    -- the line stands in the output
+    pub has_lines_next : (b : LineState) (number : ℕ) → w.output.spent ≡ false → PutLine w.output b x number → (book_after (book F J) e).next ≡ last_after w.output.last x + 1 → HasLines o (mine ++ e ∷ []) w.vars b
+    has_lines_next b number unspent put next =
+        let was = h.lines in
+        let put_output : LineState = record w.output { entries = w.output.entries + 1; last = last_after w.output.last x; written = append_known w.output.written (line_text x) } in
+        subst (λ v. HasLines o (mine ++ e ∷ []) w.vars v) (sym put.state) (record {
+          entries = (let n = was.entries in let p = ap (λ L. length L) lines_next in let m = length-append (lines F J) (x ∷ []) in omega arith);
+          last = ap (λ (k : Book). k.next) book_next ∙ next;
+          whole = λ q. has_text_next o mine w.output put_output x (was.whole unspent) e one number (record { room = put.room; given = put.given; state = refl });
+          short = λ q. absurd (false≢true (sym unspent ∙ q));
+          target = was.target;
+          flushed = was.flushed;
+        })
+
+    -- the output failed at the line
+    pub stands_failed : (b : LineState) → w.output.spent ≡ false → All (IsOn w.vars) (lits_of x) → FailedLine w.output b x → Stands o mine (record w { output = b })
+    stands_failed b unspent on failed =
+        let was = h.lines in
+        record {
+          sound = h.sound;
+          rulers = h.rulers;
+          on = h.on;
+          ended = h.ended;
+          held = h.held;
+          all = h.all;
+          told = h.told;
+          lines = subst (λ v. HasLines o mine w.vars v) (sym failed.state) (record {
+            entries = was.entries;
+            last = was.last;
+            whole = λ q. absurd (false≢true (sym q));
+            short = λ q. has_text_cut o mine w.output (record w.output { spent = true; faults = b.faults; written = b.written }) x (was.whole unspent) accepted_next w.vars on
+                (subst (λ v. FailedLine w.output v x) failed.state failed);
+            target = was.target;
+            flushed = was.flushed;
+          });
+        }
+
+  pub told_next : (l : Literal) → is_told F J l ≡ true → is_told F grown l ≡ true
+  told_next l t = subst (λ (K : List Entry). is_told F K l ≡ true) (sym grown_is) (told_more F J (e ∷ []) l t)
+
+  pub all_told_next : All (λ l. is_told F grown l ≡ true) w.units
+  all_told_next k d lt = told_next _ (h.told k d lt)
+
+-- what is known is alive
+alive_known : (o : Origin) (mine : List Entry) (w : WorkState) → Stands o mine w → (d : List Literal) → In d (known w)
+    → (n : ℕ) × (c : List Literal) × ((book o.formula (journal_of o mine)).clause n ≡ Some c) × (same_set d c ≡ true)
+alive_known o mine w h d i =
+    ⊎_elim
+    (λ k. (let t = map_In (λ (c : ℕ × List Literal). c.1) w.clauses d k in
+    (t.0.0, t.0.1, h.held t.0.0 t.0.1 (In_Contains w.clauses t.0 t.1), subst (λ (y : List Literal). same_set d y ≡ true) (sym t.2) (same_self d))))
+    (λ k. (let t = map_In (λ l. l ∷ []) w.units d k in
+    let u = told_alive o.formula (journal_of o mine) t.0 h.sound.fits (All_In (λ l. is_told o.formula (journal_of o mine) l ≡ true) w.units t.0 h.told t.1) in
+    (u.0, u.1, u.2, subst (λ (y : List Literal). same_set y u.1 ≡ true) t.2 u.3)))
+    (In_append (lists w.clauses) (unit_clauses w.units) d i)
+
+-- An addition
+
+module _ (o : Origin) (mine : List Entry) (w : WorkState) (h : Stands o mine w) (lits : List Literal) (number : ℕ)
+    (follows : rup (known w) lits ≡ true) (going : w.ended ≡ false) where
+  abbrev FA : List (List Literal)
+  FA = o.formula
+
+  abbrev JA : List Entry
+  JA = journal_of o mine
+
+  abbrev ea : Entry
+  ea = ruler_adds number lits
+
+  pub valid_add : is_valid (alive FA (lines FA JA)) (AddLine lits) ≡ true
+  valid_add = or_left _ _ (rup_alive_sets (book FA JA) (alive FA (lines FA JA)) (known w) lits (journal_matches FA JA h.sound.fits) (alive_known o mine w h) follows)
+
+  added_grown : added (journal_of o (mine ++ ea ∷ [])) ≡ added JA ++ lits ∷ []
+  added_grown = ap added (grown_is o mine w h ea (AddLine lits)) ∙ added-append JA (ea ∷ [])
+
+  ended_next : is_empty lits ≡ list_any is_empty (added (journal_of o (mine ++ ea ∷ [])))
+  ended_next = sym (
+      ap (list_any is_empty) added_grown
+      ∙ list_any-append is_empty (added JA) (lits ∷ [])
+      ∙ ap (λ b. b || (is_empty lits || false)) (sym h.ended ∙ going)
+      ∙ or_none (is_empty lits))
+
+  module _ (next : number ≡ (book FA JA).next) where
+    book_is : book FA (journal_of o (mine ++ ea ∷ [])) ≡ record { clause = put (book FA JA).clause (book FA JA).next (Some (clause_of lits)); next = suc (book FA JA).next }
+    book_is = book_next o mine w h ea (AddLine lits)
+
+    held_next : (n : ℕ) (c : List Literal) → Contains (w.clauses ++ (number, clause_of lits) ∷ []) (n, c) → (book FA (journal_of o (mine ++ ea ∷ []))).clause n ≡ Some c
+    held_next n c k =
+        ap (λ (b : Book). b.clause n) book_is
+        ∙ ⊎_elim
+        (λ (old : Contains w.clauses (n, c)).
+        (let is = h.held n c old in
+        let lt = clause_below (book FA JA) (alive FA (lines FA JA)) n c (journal_matches FA JA h.sound.fits) is in
+        put_else (book FA JA).clause (book FA JA).next (Some (clause_of lits)) n (λ q. omega arith) ∙ is))
+        (λ (q : (number, clause_of lits) ≡ (n, c)).
+        (let a : number ≡ n = ap (λ (p : ℕ × List Literal). p.0) q in
+        let b : clause_of lits ≡ c = ap (λ (p : ℕ × List Literal). p.1) q in
+        ap (put (book FA JA).clause (book FA JA).next (Some (clause_of lits))) (sym a ∙ next) ∙ put_here (book FA JA).clause (book FA JA).next (Some (clause_of lits)) ∙ ap Some b))
+        (Contains_apart w.clauses (number, clause_of lits) (n, c) k)
+
+    all_next : (n : ℕ) (c : List Literal) → (book FA (journal_of o (mine ++ ea ∷ []))).clause n ≡ Some c → Contains (w.clauses ++ (number, clause_of lits) ∷ []) (n, c)
+    all_next n c is =
+        at_put (book FA JA).clause (book FA JA).next (Some (clause_of lits)) (λ q. q ≡ Some c → Contains (w.clauses ++ (number, clause_of lits) ∷ []) (n, c)) n
+        (λ here is_new.
+        (let a : n ≡ number = here ∙ sym next in
+        let b : clause_of lits ≡ c = cc in
+        subst (λ (p : ℕ × List Literal). Contains (w.clauses ++ (number, clause_of lits) ∷ []) p) (λ i. (sym a i, b i)) (Contains_last w.clauses (number, clause_of lits))))
+        (λ else is_old. Contains_left w.clauses ((number, clause_of lits) ∷ []) (n, c) (h.all n c is_old))
+        (sym (ap (λ (b : Book). b.clause n) book_is) ∙ is)
+
+    pub stands_added : (b : LineState) → w.output.spent ≡ false → All (IsOn w.vars) lits → PutLine w.output b (AddLine lits) number
+        → Stands o (mine ++ ea ∷ []) (record w { clauses = w.clauses ++ (number, clause_of lits) ∷ []; ended = is_empty lits; output = b })
+    stands_added b unspent on line = record {
+      sound = sound_next o mine w h ea (AddLine lits) refl valid_add (record { numbered = next; names = tt }) going;
+      rulers = All-append (λ y. is_rulers y ≡ true) mine (ea ∷ []) h.rulers (one_All (λ y. is_rulers y ≡ true) ea refl);
+      on = subst (λ G. All (All (IsOn w.vars)) G) (sym (added-append mine (ea ∷ []))) (All-append (All (IsOn w.vars)) (added mine) (lits ∷ []) h.on (one_All (All (IsOn w.vars)) lits on));
+      ended = ended_next;
+      held = held_next;
+      all = all_next;
+      told = all_told_next o mine w h ea (AddLine lits);
+      lines = has_lines_next o mine w h ea (AddLine lits) refl valid_add (record { numbered = next; names = tt }) going b number unspent line (let l = h.lines.last in omega arith);
+    }
+
+-- A deletion
+
+module _ (o : Origin) (mine : List Entry) (w : WorkState) (h : Stands o mine w) (number : ℕ) (c : List Literal)
+    (alive_c : Contains w.clauses (number, c)) (two : two_or_more c ≡ true) (going : w.ended ≡ false) where
+  abbrev FD : List (List Literal)
+  FD = o.formula
+
+  abbrev JD : List Entry
+  JD = journal_of o mine
+
+  abbrev ed : Entry
+  ed = ruler_deletes number
+
+  c_is : (book FD JD).clause number ≡ Some c
+  c_is = h.held number c alive_c
+
+  pub one_del : lines_after (book FD JD) ed ≡ DelLine c ∷ []
+  one_del = ap (λ q. DelLine (unwrap_or q []) ∷ []) c_is
+
+  pub valid_del : is_valid (alive FD (lines FD JD)) (DelLine c) ≡ true
+  valid_del = and_from _ _ (copies_any c (alive FD (lines FD JD)) (clause_copies (book FD JD) (alive FD (lines FD JD)) number c (journal_matches FD JD h.sound.fits) c_is)) (two_more c two)
+
+  pub fit_del : IsFit (book FD JD) ed
+  fit_del = record { numbered = tt; names = (c, c_is, two) }
+
+  added_same : added (journal_of o (mine ++ ed ∷ [])) ≡ added JD
+  added_same = ap added (grown_is o mine w h ed (DelLine c)) ∙ added-append JD (ed ∷ []) ∙ append-nil (added JD)
+
+  module _ (cs : List (ℕ × List Literal)) (others : (n : ℕ) (d : List Literal) → Contains cs (n, d) ↔ (Contains w.clauses (n, d) × (n ≢ number))) where
+    book_less : (n : ℕ) → (book FD (journal_of o (mine ++ ed ∷ []))).clause n ≡ put (book FD JD).clause number None n
+    book_less n = ap (λ (b : Book). b.clause n) (book_next o mine w h ed (DelLine c))
+
+    pub stands_deleted : (b : LineState) → w.output.spent ≡ false → PutLine w.output b (DelLine c) 0 → Stands o (mine ++ ed ∷ []) (record w { clauses = cs; output = b })
+    stands_deleted b unspent line = record {
+      sound = sound_next o mine w h ed (DelLine c) one_del valid_del fit_del going;
+      rulers = All-append (λ y. is_rulers y ≡ true) mine (ed ∷ []) h.rulers (one_All (λ y. is_rulers y ≡ true) ed refl);
+      on = subst (λ G. All (All (IsOn w.vars)) G) (sym (added-append mine (ed ∷ []) ∙ append-nil (added mine))) h.on;
+      ended = h.ended ∙ ap (list_any is_empty) (sym added_same);
+      held = λ n d k. (let was = (others n d).0 k in book_less n ∙ put_else (book FD JD).clause number None n was.1 ∙ h.held n d was.0);
+      all = λ n d is.
+          at_put (book FD JD).clause number None (λ q. q ≡ Some d → Contains cs (n, d)) n
+          (λ here none. absurd (cc))
+          (λ else is_old. (others n d).1 (h.all n d is_old, else))
+          (sym (book_less n) ∙ is);
+      told = all_told_next o mine w h ed (DelLine c);
+      lines = has_lines_next o mine w h ed (DelLine c) one_del valid_del fit_del going b 0 unspent line h.lines.last;
+    }
+
+-- What each call keeps
+
+one_clause : (o : Origin) (mine : List Entry) (w : WorkState) → Stands o mine w → (n : ℕ) (c d : List Literal) → Contains w.clauses (n, c) → Contains w.clauses (n, d) → c ≡ d
+one_clause o mine w h n c d i j = let e : Some c ≡ Some d = sym (h.held n c i) ∙ h.held n d j in cc
+
+pub on_clause : (w : WorkState) → IsWork w → (n : ℕ) (c : List Literal) → Contains w.clauses (n, c) → All (IsOn w.vars) c
+on_clause w kept n c i = All_In (All (IsOn w.vars)) (lists w.clauses) c kept.clauses_on (In_map (λ (x : ℕ × List Literal). x.1) w.clauses (n, c) (Contains_In w.clauses (n, c) i))
+
+nothing_more : (o : Origin) (mine : List Entry) (w : WorkState) → Stands o mine w → Stands o (mine ++ []) w
+nothing_more o mine w h = subst (λ es. Stands o es w) (sym (append-nil mine)) h
+
+not_put : (o : Origin) (mine : List Entry) (old new : WorkState) (h : Stands o mine old) (e : Entry) (x : Line) → lines_after (book o.formula (journal_of o mine)) e ≡ x ∷ []
+    → is_valid (alive o.formula (lines o.formula (journal_of o mine))) x ≡ true → IsFit (book o.formula (journal_of o mine)) e → old.ended ≡ false
+    → old.output.spent ≡ false → All (IsOn old.vars) (lits_of x) → (stop : LineStop) → NotPut old new x stop → Stands o (mine ++ []) new
+not_put o mine old new h e x one valid fit going unspent on ProofFault f =
+    nothing_more o mine new (subst (Stands o mine) (sym f.state) (stands_failed o mine old h e x one valid fit going new.output unspent on f.put))
+not_put o mine old new h e x one valid fit going unspent on Full f = nothing_more o mine new (subst (Stands o mine) (sym f.1) h)
+not_put o mine old new h e x one valid fit going unspent on Memory f = nothing_more o mine new (subst (Stands o mine) (sym f) h)
+
+next_number : (o : Origin) (mine : List Entry) (w : WorkState) → Stands o mine w → w.output.last + 1 ≡ (book o.formula (journal_of o mine)).next
+next_number o mine w h = sym h.lines.last
+
+pub added_keeps : (old new : WorkState) (lits : List Literal) (result : Result ℕ LineStop) → old.output.spent ≡ false → old.ended ≡ false → rup (known old) lits ≡ true → All (IsOn old.vars) lits
+    → WasAdded old new lits result → Continues (on_ok result (ruler_adds (old.output.last + 1) lits ∷ [])) old new
+added_keeps old new lits (Ok number) unspent going follows on was o mine h =
+    let given : number ≡ old.output.last + 1 = was.put.given in
+    subst (Stands o (mine ++ ruler_adds (old.output.last + 1) lits ∷ [])) (sym was.state)
+    (subst (λ (k : ℕ). Stands o (mine ++ ruler_adds (old.output.last + 1) lits ∷ []) (record old { clauses = old.clauses ++ (k, clause_of lits) ∷ []; ended = is_empty lits; output = new.output })) (sym given)
+    (stands_added o mine old h lits (old.output.last + 1) follows going (next_number o mine old h) new.output unspent on
+    (subst (λ k. PutLine old.output new.output (AddLine lits) k) given was.put)))
+added_keeps old new lits (Err stop) unspent going follows on was o mine h =
+    not_put o mine old new h (ruler_adds (old.output.last + 1) lits) (AddLine lits) refl (valid_add o mine old h lits (old.output.last + 1) follows going)
+    (record { numbered = next_number o mine old h; names = tt }) going unspent on stop was
+
+pub deleted_keeps : (old new : WorkState) (number : ℕ) (c : List Literal) (result : Result (Unit {0}) LineStop) → IsWork old → old.output.spent ≡ false → old.ended ≡ false → Contains old.clauses (number, c) → two_or_more c ≡ true
+    → WasDeleted old new number result → Continues (on_ok result (ruler_deletes number ∷ [])) old new
+deleted_keeps old new number c (Ok done) kept unspent going alive_c two was o mine h =
+    let same_c : c ≡ was.clause = one_clause o mine old h number c was.clause alive_c was.alive in
+    subst (Stands o (mine ++ ruler_deletes number ∷ [])) (sym was.state)
+    (stands_deleted o mine old h number was.clause was.alive (subst (λ d. two_or_more d ≡ true) same_c two) going new.clauses was.others new.output unspent was.put)
+deleted_keeps old new number c (Err stop) kept unspent going alive_c two was o mine h =
+    let same_c : c ≡ was.clause = one_clause o mine old h number c was.clause alive_c was.alive in
+    let two_d : two_or_more was.clause ≡ true = subst (λ d. two_or_more d ≡ true) same_c two in
+    not_put o mine old new h (ruler_deletes number) (DelLine was.clause)
+    (one_del o mine old h number was.clause was.alive two_d going) (valid_del o mine old h number was.clause was.alive two_d going) (fit_del o mine old h number was.clause was.alive two_d going)
+    going unspent (on_clause old kept number was.clause was.alive) stop was.left
+
+-- Units
+
+-- each clause alive stands as a set among these
+abbrev Comes : Book → List (List Literal) → Type 0
+Comes b K = (n : ℕ) (c : List Literal) → b.clause n ≡ Some c → (d : List Literal) × In d K × (same_set c d ≡ true)
+
+comes_step : (b : Book) (K : List (List Literal)) (y : Entry) → Comes b K → Comes (book_after b y) (K ++ added (y ∷ []))
+comes_step b K (Add x) h n c =
+    at_put b.clause b.next (Some (spelled x)) (λ q. q ≡ Some c → (d : List Literal) × In d (K ++ x.lits ∷ []) × (same_set c d ≡ true)) n
+    (λ _ is. (let e : spelled x ≡ c = cc in (x.lits, In_append_right K (x.lits ∷ []) x.lits (inl refl), subst (λ q. same_set q x.lits ≡ true) e (same_back x.lits (spelled x) (spelled_same x)))))
+    (λ _ is. (let t = h n c is in (t.0, In_append_left K (x.lits ∷ []) t.0 t.1, t.2)))
+comes_step b K (Del r k) h n c =
+    at_put b.clause k None (λ q. q ≡ Some c → (d : List Literal) × In d (K ++ []) × (same_set c d ≡ true)) n
+    (λ _ is. absurd (cc))
+    (λ _ is. (let t = h n c is in (t.0, In_append_left K [] t.0 t.1, t.2)))
+comes_step b K (Reduce r) h n c = λ is. let t = h n c is in (t.0, In_append_left K [] t.0 t.1, t.2)
+
+comes_all : (b : Book) (K : List (List Literal)) (L : List Entry) → Comes b K → Comes (fold book_after b L) (K ++ added L)
+comes_all b K [] h = subst (Comes b) (sym (append-nil K)) h
+comes_all b K (y ∷ L) h =
+    subst (Comes (fold book_after (book_after b y) L)) (append_assoc K (added (y ∷ [])) (added L) ∙ ap (λ G. K ++ G) (sym (added-append (y ∷ []) L)))
+    (comes_all (book_after b y) (K ++ added (y ∷ [])) L (comes_step b K y h))
+
+formula_comes : (G : List (List Literal)) (i : ℕ) (c : List Literal) → option_map clause_of (slice_get G i) ≡ Some c → (d : List Literal) × In d G × (same_set c d ≡ true)
+formula_comes [] i c is = absurd (cc)
+formula_comes (g ∷ G) zero c is = let e : clause_of g ≡ c = cc in (g, inl refl, subst (λ q. same_set q g ≡ true) e (same_back g (clause_of g) (same_set-clause_of g)))
+formula_comes (g ∷ G) (suc i) c is = let t = formula_comes G i c is in (t.0, inr t.1, t.2)
+
+pub alive_comes : (G : List (List Literal)) (L : List Entry) → Comes (book G L) (G ++ added L)
+alive_comes G L = comes_all (formula_book G) G L first
+  where
+    first : Comes (formula_book G) G
+    first zero c is = absurd (cc)
+    first (suc i) c is = formula_comes G i c is
+
+-- a unit clause that is alive is told
+alive_told : (o : Origin) (mine : List Entry) (w : WorkState) → Stands o mine w → (l : Literal) → is_alive_unit w l ≡ true → is_told o.formula (journal_of o mine) l ≡ true
+alive_told o mine w h l alive =
+    let t = In_any (is_only l) (lists w.clauses) alive in
+    let u = map_In (λ (x : ℕ × List Literal). x.1) w.clauses t.0 t.1 in
+    let one : u.0.1 ≡ l ∷ [] = u.2 ∙ only_told l t.0 t.2 in
+    let is = h.held u.0.0 u.0.1 (In_Contains w.clauses u.0 u.1) in
+    let v = alive_comes o.formula (journal_of o mine) u.0.0 u.0.1 is in
+    any_In (same_set (l ∷ [])) (o.formula ++ added (journal_of o mine)) v.0 v.1 (subst (λ q. same_set q v.0 ≡ true) one v.2)
+
+-- one unit more, which is told
+stands_listed : (o : Origin) (mine : List Entry) (w : WorkState) → Stands o mine w → (l : Literal) → is_told o.formula (journal_of o mine) l ≡ true → Stands o mine (record w { units = w.units ++ l ∷ [] })
+stands_listed o mine w h l t = record {
+  sound = h.sound;
+  rulers = h.rulers;
+  on = h.on;
+  ended = h.ended;
+  held = h.held;
+  all = h.all;
+  told = All-append (λ k. is_told o.formula (journal_of o mine) k ≡ true) w.units (l ∷ []) h.told (one_All (λ k. is_told o.formula (journal_of o mine) k ≡ true) l t);
+  lines = h.lines;
+}
+
+told_here : (G : List (List Literal)) (L : List Entry) (n : ℕ) (l : Literal) → is_told G (L ++ ruler_adds n (l ∷ []) ∷ []) l ≡ true
+told_here G L n l =
+    any_In (same_set (l ∷ [])) (G ++ added (L ++ ruler_adds n (l ∷ []) ∷ [])) (l ∷ [])
+    (In_append_right G (added (L ++ ruler_adds n (l ∷ []) ∷ [])) (l ∷ []) (subst (λ K. In (l ∷ []) K) (sym (added-append L (ruler_adds n (l ∷ []) ∷ []))) (In_append_right (added L) ((l ∷ []) ∷ []) (l ∷ []) (inl refl))))
+    (same_self (l ∷ []))
+
+module _ (old new : WorkState) (l : Literal) (unspent : old.output.spent ≡ false) (going : old.ended ≡ false) (follows : rup (known old) (l ∷ []) ≡ true) (on : IsOn old.vars l) where
+  listed_by : (b a : Bool) → a ≡ is_alive_unit old l → IsListed b a old new l → Continues (entries_for (b || a) old l) old new
+  listed_by true a is was o mine h = nothing_more o mine new (subst (Stands o mine) (sym was) h)
+  listed_by false true is was o mine h = nothing_more o mine new (subst (Stands o mine) (sym was) (stands_listed o mine old h l (alive_told o mine old h l (sym is))))
+  listed_by false false is was o mine h =
+      let given : was.number ≡ old.output.last + 1 = was.put.given in
+      let n : ℕ = old.output.last + 1 in
+      let b : LineState = new.output in
+      let added : Stands o (mine ++ ruler_adds n (l ∷ []) ∷ []) (record old { clauses = old.clauses ++ (n, l ∷ []) ∷ []; ended = false; output = b }) =
+      stands_added o mine old h (l ∷ []) n follows going (next_number o mine old h) b unspent (one_All (IsOn old.vars) l on) (subst (λ k. PutLine old.output b (AddLine (l ∷ [])) k) given was.put) in
+      let told : is_told o.formula (journal_of o (mine ++ ruler_adds n (l ∷ []) ∷ [])) l ≡ true =
+      subst (λ K. is_told o.formula K l ≡ true) (append_assoc o.journal mine (ruler_adds n (l ∷ []) ∷ [])) (told_here o.formula (journal_of o mine) n l) in
+      let both = stands_listed o (mine ++ ruler_adds n (l ∷ []) ∷ []) (record old { clauses = old.clauses ++ (n, l ∷ []) ∷ []; ended = false; output = b }) added l told in
+      subst (Stands o (mine ++ ruler_adds n (l ∷ []) ∷ []))
+      ((λ i. record old { clauses = old.clauses ++ (sym given i, l ∷ []) ∷ []; units = old.units ++ l ∷ []; ended = sym going i; output = b }) ∙ sym was.state) both
+
+  pub listed_keeps : (result : Result (Unit {0}) LineStop) → WasListed old new l result → Continues (on_ok result (unit_entries old l)) old new
+  listed_keeps (Ok done) was o mine h = listed_by (has old.units l) (is_alive_unit old l) refl was o mine h
+  listed_keeps (Err stop) was o mine h =
+      not_put o mine old new h (ruler_adds (old.output.last + 1) (l ∷ [])) (AddLine (l ∷ [])) refl (valid_add o mine old h (l ∷ []) (old.output.last + 1) follows going)
+      (record { numbered = next_number o mine old h; names = tt }) going unspent (one_All (IsOn old.vars) l on) stop was
+
+-- the stack is no matter of the log
+pub stands_pushed : (o : Origin) (mine : List Entry) (w : WorkState) → Stands o mine w → (S : List Fix) → Stands o (mine ++ []) (record w { stack = S })
+stands_pushed o mine w h S = nothing_more o mine (record w { stack = S }) (record {
+  sound = h.sound;
+  rulers = h.rulers;
+  on = h.on;
+  ended = h.ended;
+  held = h.held;
+  all = h.all;
+  told = h.told;
+  lines = h.lines;
+})

@@ -1,0 +1,103 @@
+-- What each call does to a work, from the state before it to the state after it.
+use Rattle.std.specs.Prelude.{◌≡◌, ◌≢◌, ℕ, ◌+◌, ◌<◌, ◌||◌, ◌↔◌, Bool, true, false, List, [], ◌∷◌, ◌++◌, Contains, Result, Ok, Err, ⊤}
+use Rattle.sat_words.specs.Literal.{Literal}
+use Rattle.sat_words.specs.Clause.{has, is_empty, clause_of}
+use Rattle.sat_words.specs.declared.line.Line.{Line}
+use Rattle.sat_words.specs.declared.line.Line.TheVariants.{Add as AddLine, Del as DelLine}
+use Rattle.rup_model.specs.declared.journal.TheConstants.{RULER_RING}
+use Rattle.rup_model.specs.declared.journal.Kind.TheVariants.{Ruler}
+use Rattle.rup_model.specs.declared.journal.Entry.{Entry}
+use Rattle.rup_model.specs.declared.journal.Entry.TheVariants.{Add, Del}
+use Rattle.io_edge.specs.Causes.{Rose}
+use Rattle.drat_text.specs.declared.stop.TheConstants.{MAX_ENTRIES}
+use Rattle.drat_text.specs.declared.stop.LineStop.{LineStop}
+use Rattle.drat_text.specs.declared.stop.LineStop.TheVariants.{ProofFault, Full, Memory}
+use Rattle.drat_text.specs.LineState.{LineState}
+use Rattle.drat_text.specs.LineOut.{PutLine, FailedLine, WasPut}
+use Rattle.simp_base.specs.Multisets.{SameMultiset}
+use Rattle.simp_base.specs.WorkState.{WorkState, is_alive_unit}
+
+-- Entries
+
+-- the ruler adds the clause
+abbrev pub ruler_adds : ℕ → List Literal → Entry
+ruler_adds number lits = Add (record { ring = RULER_RING; number = number; lits = lits; kind = Ruler })
+
+-- the ruler deletes the clause with this number
+abbrev pub ruler_deletes : ℕ → Entry
+ruler_deletes number = Del RULER_RING number
+
+-- the entry, where the call did what it was asked for
+abbrev pub on_ok : {T : Type 0} → Result T LineStop → List Entry → List Entry
+on_ok (Ok x) es = es
+on_ok (Err stop) es = []
+
+-- No line
+
+-- the output failed at the line
+pub record FaultyLine (old new : WorkState) (x : Line) : Type 0 where
+  pub put : FailedLine old.output new.output x
+  pub state : new ≡ record old { output = new.output }
+
+-- why the line does not stand; the work is as it was, but for an output that failed
+abbrev pub NotPut : WorkState → WorkState → Line → LineStop → Type 0
+NotPut old new x ProofFault = FaultyLine old new x
+NotPut old new x Full = (old.output.entries ≡ MAX_ENTRIES) × (new ≡ old)
+NotPut old new x Memory = new ≡ old
+
+-- Calls
+
+-- the line that adds the clause is put, or not
+abbrev pub WasAddedLine : LineState → LineState → List Literal → Result ℕ LineStop → Type 0
+WasAddedLine old new lits result = WasPut old new (AddLine lits) result
+
+-- the clause is alive, under the next number
+pub record Added (old new : WorkState) (lits : List Literal) (number : ℕ) : Type 0 where
+  pub put : PutLine old.output new.output (AddLine lits) number
+  pub state : new ≡ record old { clauses = old.clauses ++ (number, clause_of lits) ∷ []; ended = is_empty lits; output = new.output }
+
+abbrev pub WasAdded : WorkState → WorkState → List Literal → Result ℕ LineStop → Type 0
+WasAdded old new lits (Ok number) = Added old new lits number
+WasAdded old new lits (Err stop) = NotPut old new (AddLine lits) stop
+
+-- the clause with this number is alive no more, and the others are as they were, each as often, in whatever order
+pub record Deleted (old new : WorkState) (number : ℕ) : Type 0 where
+  pub clause : List Literal
+  pub alive : Contains old.clauses (number, clause)
+  pub put : PutLine old.output new.output (DelLine clause) 0
+  pub others : (n : ℕ) (c : List Literal) → Contains new.clauses (n, c) ↔ (Contains old.clauses (n, c) × (n ≢ number))
+  pub each : SameMultiset old.clauses ((number, clause) ∷ new.clauses)
+  pub state : new ≡ record old { clauses = new.clauses; output = new.output }
+
+pub record NotDeleted (old new : WorkState) (number : ℕ) (stop : LineStop) : Type 0 where
+  pub clause : List Literal
+  pub alive : Contains old.clauses (number, clause)
+  pub left : NotPut old new (DelLine clause) stop
+
+abbrev pub WasDeleted : WorkState → WorkState → ℕ → Result ⊤ LineStop → Type 0
+WasDeleted old new number (Ok done) = Deleted old new number
+WasDeleted old new number (Err stop) = NotDeleted old new number stop
+
+-- the unit is listed, and the line that adds its clause stands
+pub record ListedLine (old new : WorkState) (l : Literal) : Type 0 where
+  pub number : ℕ
+  pub put : PutLine old.output new.output (AddLine (l ∷ [])) number
+  pub state : new ≡ record old { clauses = old.clauses ++ (number, l ∷ []) ∷ []; units = old.units ++ l ∷ []; output = new.output }
+
+-- the unit is listed: it was listed before; its clause is alive; its clause is added
+abbrev pub IsListed : Bool → Bool → WorkState → WorkState → Literal → Type 0
+IsListed true alive old new l = new ≡ old
+IsListed false true old new l = new ≡ record old { units = old.units ++ l ∷ [] }
+IsListed false false old new l = ListedLine old new l
+
+abbrev pub WasListed : WorkState → WorkState → Literal → Result ⊤ LineStop → Type 0
+WasListed old new l (Ok done) = IsListed (has old.units l) (is_alive_unit old l) old new l
+WasListed old new l (Err stop) = NotPut old new (AddLine (l ∷ [])) stop
+
+-- the entry that listing the unit makes
+abbrev pub entries_for : Bool → WorkState → Literal → List Entry
+entries_for true w l = []
+entries_for false w l = ruler_adds (w.output.last + 1) (l ∷ []) ∷ []
+
+abbrev pub unit_entries : WorkState → Literal → List Entry
+unit_entries w l = entries_for (has w.units l || is_alive_unit w l) w l

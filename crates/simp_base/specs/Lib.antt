@@ -1,0 +1,7 @@
+pub mod WorkState
+pub mod Log
+pub mod Calls
+pub mod Lifted
+pub mod Removed
+pub mod Multisets
+pub mod Tables

@@ -1,0 +1,45 @@
+-- The log of a simplifier: one journal, whose lines its output has and whose clauses are those of the work.
+use Rattle.std.specs.Prelude.{◌≡◌, ℕ, ◌+◌, true, false, List, ◌++◌, length, All, Contains, Some}
+use Rattle.std.specs.List.{list_any}
+use Rattle.sat_words.specs.Literal.{Literal, IsOn}
+use Rattle.sat_words.specs.Clause.{is_empty}
+use Rattle.rup_model.specs.declared.journal.Entry.{Entry}
+use Rattle.rup_model.specs.Journal.{book, lines, added, is_told, LogSound}
+use Rattle.rup_model.specs.Opening.{is_rulers}
+use Rattle.drat_text.specs.LineState.{LineState}
+use Rattle.drat_text.specs.JournalText.{Origin, HasText, HasTextCut}
+use Rattle.simp_base.specs.WorkState.{WorkState}
+
+-- the journal so far, then the work's own entries
+abbrev pub journal_of : Origin → List Entry → List Entry
+journal_of o mine = o.journal ++ mine
+
+-- what the output has of the journal's lines
+pub record HasLines (o : Origin) (mine : List Entry) (vars : ℕ) (out : LineState) : Type 0 where
+  pub entries : out.entries ≡ length (lines o.formula (journal_of o mine))
+  pub last : (book o.formula (journal_of o mine)).next ≡ out.last + 1
+  pub whole : out.spent ≡ false → HasText o mine out
+  pub short : out.spent ≡ true → HasTextCut o mine vars out
+  pub target : out.target ≡ o.output.target
+  pub flushed : out.flushed ≡ o.output.flushed
+
+-- the work stands over this origin with these entries of its own, which are the ruler's: each line of the one journal is
+-- valid where it stands, the clauses are those that it leaves alive, each under its number, each listed unit is in the
+-- formula or was added, and the output has the lines
+pub record Stands (o : Origin) (mine : List Entry) (w : WorkState) : Type 0 where
+  pub sound : LogSound o.formula (journal_of o mine)
+  pub rulers : All (λ e. is_rulers e ≡ true) mine
+  pub on : All (All (IsOn w.vars)) (added mine)
+  pub ended : w.ended ≡ list_any is_empty (added (journal_of o mine))
+  pub held : (n : ℕ) (c : List Literal) → Contains w.clauses (n, c) → (book o.formula (journal_of o mine)).clause n ≡ Some c
+  pub all : (n : ℕ) (c : List Literal) → (book o.formula (journal_of o mine)).clause n ≡ Some c → Contains w.clauses (n, c)
+  pub told : All (λ l. is_told o.formula (journal_of o mine) l ≡ true) w.units
+  pub lines : HasLines o mine w.vars w.output
+
+-- whatever a work stands over, it still does once these entries follow
+abbrev pub Continues : List Entry → WorkState → WorkState → Type 0
+Continues entries old new = (o : Origin) (mine : List Entry) → Stands o mine old → Stands o (mine ++ entries) new
+
+-- whatever a work stands over, it still does behind some entries of its own, the same over each origin
+abbrev pub KeepsLog : WorkState → WorkState → Type 0
+KeepsLog old new = (entries : List Entry) × Continues entries old new

@@ -1,0 +1,21 @@
+//! What the simplifiers work on: the clauses alive, the units, the reconstruction stack and the log.
+//!
+//! Each line that a work puts is valid where it stands. A simplifier shows beside that that models lift. `LineStop` says
+//! why a call was refused: the output failed, as many lines stand as can, or memory ran out.
+#![tactic(auto)]
+
+mod beginning;
+mod clause_table;
+mod laws;
+mod occurrences;
+mod tautology;
+mod unit_table;
+mod work;
+
+pub use drat_text::LineStop;
+pub use laws::{ended_refutes, lifted_composes, lifted_itself, logs_compose};
+pub use tautology::is_tautology;
+pub use work::{Parts, Run, Work};
+
+#[cfg(test)]
+mod tests;

@@ -21,6 +21,7 @@ row_state = record {
   held = first ∷ second ∷ third ∷ [];
   waiting = [];
   seen = [];
+  given = [];
   coming = 0;
   start = [];
   opening = [];
@@ -34,7 +35,9 @@ row_state = record {
   rings = 2;
   last = None;
   stop = Some (record { kind = 1; ring = 1 });
+  looks = 0;
   refused = None;
   ended = false;
   output = None;
+  home = [];
 }

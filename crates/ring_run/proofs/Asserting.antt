@@ -65,7 +65,7 @@ false_within t l k shape w =
     let at = level_at_place t l (record { place = w.place; before = w.in_range; false_there = w.true_there }) shape in
     omega (arith, w.level)
 
-module _ (s : PortState) (t : TrailData) (w : WatchData) (c : Cref) (lits : List Literal) (back glue : ℕ) (p : Searches s t w) (conflict : IsConflict w (lits_at s) t c)
+module _ (s : PortState) (t : TrailData) (w : WatchData) (c : Cref) (lits : List Literal) (back glue n : ℕ) (p : Searches s t w n) (conflict : IsConflict w (lits_at s) t c)
     (above : 0 < clause_level t.steps (lits_at s c.address)) (i : IsLemma s t (lits_at s c.address) lits back glue) where
   has_first : has lits i.first ≡ true
   has_first = subst (λ (d : List Literal). has d i.first ≡ true) (sym i.parts) (or_left (same i.first i.first) (has i.rest i.first) (same-refl i.first))
@@ -183,12 +183,15 @@ pub first_has_no_value : (s : PortState) (t v : TrailData) (lits : List Literal)
 first_has_no_value s t v lits back a shape w =
     first_free t v back a.first shape w.shape (ap (λ (y : TrailData). y.level) w.is) w.prefix w.short a.first_false a.ahead
 
--- going back is no higher than the trail
-pub back_within : (s : PortState) (t : TrailData) (lits : List Literal) (back : ℕ) → IsAsserting s t lits back → IsTrail t → back ≤ t.level
-back_within s t lits back a shape =
+-- going back takes a level or more
+pub back_below : (s : PortState) (t : TrailData) (lits : List Literal) (back : ℕ) → IsAsserting s t lits back → IsTrail t → back < t.level
+back_below s t lits back a shape =
     let here = level_at_place t a.first a.first_false shape in
     let within = shape.within a.first_false.place a.first_false.before in
     omega (arith, a.ahead)
+
+pub back_within : (s : PortState) (t : TrailData) (lits : List Literal) (back : ℕ) → IsAsserting s t lits back → IsTrail t → back ≤ t.level
+back_within s t lits back a shape = let lt = back_below s t lits back a shape in omega (arith, lt)
 
 pub can_assert : (s : PortState) (t : TrailData) (lits : List Literal) (back : ℕ) → IsAsserting s t lits back → IsTrail t → CanAssert t lits back
 can_assert s t lits back a shape = record {

@@ -1,5 +1,5 @@
 -- How a run begins, and what it leaves.
-use Rattle.std.proofs.Common.{◌≡◌, ◌∙◌, ℕ, List, [], length, map, sym, subst, ap, arith, Some, IsSome, refl, Contains, get_or}
+use Rattle.std.proofs.Common.{◌≡◌, ◌∙◌, ℕ, List, [], length, map, sym, subst, ap, arith, inl, Some, IsSome, refl, Contains, get_or}
 use Rattle.std.specs.Prelude.{All}
 use Rattle.std.specs.List.{list_any}
 use Rattle.std.specs.declared.option.Option.{Option}
@@ -17,7 +17,7 @@ use Rattle.ring_port.proofs.Holdings.{All_In}
 use Rattle.ring_trail.specs.TrailData.{TrailData, IsTrail}
 use Rattle.watch_prop.specs.WatchData.{attached}
 use Rattle.watch_prop.specs.Watched.{Watched, IsFresh}
-use Rattle.ring_run.specs.Ended.{IsJobOf, IsUntouched, IsOwn, IsCounted, opening_of}
+use Rattle.ring_run.specs.Ended.{IsJobOf, IsUntouched, IsOwn, IsNewLine, IsCounted, opening_of}
 use Rattle.ring_run.specs.Searching.{IsHeldBy, Runs, GoesOn}
 use Rattle.ring_run.specs.Finding.{IsBegun, Finds}
 use Rattle.ring_run.specs.declared.job.Job.{Job}
@@ -27,11 +27,13 @@ use Rattle.ring_run.specs.declared.search.Finding.TheVariants.{Model, Refuted, S
 
 pub runs_begin : (s : PortState) → IsUntouched s → IsPort s → Runs s s 0
 runs_begin s p port = record {
-  stays = record { start = refl; opening = refl; vars = refl; ring = refl; rings = refl; waiting = refl; shared = refl; polled = refl; puts = refl; taken = refl; log = λ o h. h };
+  stays = record { start = refl; opening = refl; vars = refl; ring = refl; rings = refl; waiting = refl; shared = refl; polled = refl; puts = refl; taken = refl; home = refl; log = λ o h. h };
   kept = λ a h. refl;
   wrote = subst (All (IsOwn s.ring s.vars)) (sym p.mine) (λ k d h. absurd (omega arith));
   counted = sym (ap (λ (J : List Entry). length (learned s.ring J)) p.mine);
   each_new = subst (EachAfter (IsNew (opening_of s)) []) (sym p.mine) tt;
+  new_lines = subst (EachAfter (IsNewLine s.opening s.given s.ring) []) (sym p.mine) tt;
+  glued = λ h there. inl there;
   port = port;
 }
 
@@ -62,8 +64,8 @@ starts_held s job asked p = subst (All (IsHeldBy s)) (sym asked.start) held
 
 -- a ring that has attached the job's clauses, with nothing true
 pub begun : (s : PortState) (job : Job) (ring : Ring) → IsJobOf s job → IsUntouched s → IsPort s → ring.trail ≡ record { vars = job.vars; level = 0; steps = []; done = 0 } → IsTrail ring.trail
-    → attached ring.watches ≡ job.start → ((t : TrailData) → t.vars ≡ job.vars → IsFresh t → Watched ring.watches (lits_at s) t) → IsBegun s ring
-begun s job ring asked p port trail shape clauses watched =
+    → attached ring.watches ≡ job.start → ((t : TrailData) → t.vars ≡ job.vars → IsFresh t → Watched ring.watches (lits_at s) t) → ring.written ≡ 0 → IsBegun s ring
+begun s job ring asked p port trail shape clauses watched none =
     let is : attached ring.watches ≡ map (λ (h : Holding). record { address = h.address }) s.start = clauses ∙ asked.start in
     record {
       clauses = record {
@@ -87,6 +89,9 @@ begun s job ring asked p port trail shape clauses watched =
       };
       trail = shape;
       level = ap (λ (t : TrailData). t.level) trail;
+      bare = ap (λ (t : TrailData). t.steps) trail;
+      mine = p.mine;
+      none_written = none;
       watched = λ t vars fresh. watched t (vars ∙ sym asked.vars) fresh;
       reasons = record { caused = λ q h. absurd (omega (arith, ap (λ (t : TrailData). length t.steps) trail)) };
     }

@@ -20,7 +20,7 @@ use Rattle.watch_prop.specs.WatchData.{WatchData, attached, clauses_of}
 use Rattle.watch_prop.specs.Propagation.{IsQuiet, attached_at}
 use Rattle.watch_prop.proofs.TrailLaws.{Watched-decide}
 use Rattle.ring_run.specs.Ended.{IsModelOf}
-use Rattle.ring_run.specs.Searching.{GoesOn, IsOver}
+use Rattle.ring_run.specs.Searching.{GoesOn, IsOver, AreFirst}
 use Rattle.ring_run.specs.Finding.{Searches, InSearch, FoundBy, IsAnswerOf}
 use Rattle.ring_run.specs.declared.search.Ring.{Ring}
 use Rattle.ring_run.specs.declared.search.Finding.{Finding}
@@ -28,9 +28,10 @@ use Rattle.ring_run.specs.declared.search.Finding.TheVariants.{Model, Refuted, S
 use Rattle.ring_run.proofs.Remembering.{stands_there}
 use Rattle.ring_run.proofs.Standing.{within_more}
 use Rattle.ring_run.proofs.Progress.{out_of_memory}
+use Rattle.ring_run.proofs.Telling.{told_step, told_model}
 
-pub decided_search : (s : PortState) (t : TrailData) (w : WatchData) (l : Literal) → Searches s t w → IsQuiet w (lits_at s) t → IsTrail (decided t l) → Searches s (decided t l) w
-decided_search s t w l p q shape =
+pub decided_search : (s : PortState) (t : TrailData) (w : WatchData) (n : ℕ) (l : Literal) → Searches s t w n → IsQuiet w (lits_at s) t → AreFirst t n → IsTrail (decided t l) → Searches s (decided t l) w n
+decided_search s t w n l p q first shape =
     let x : Step = record { lit = l; level = t.level + 1; reason = None } in
     record {
       clauses = p.clauses;
@@ -44,6 +45,7 @@ decided_search s t w l p q shape =
       watched = Watched-decide w (lits_at s) t l q.done p.watched;
       closed = λ k below. IsClosed-grown (clauses_of w (lits_at s)) t.steps x k (omega (arith, below)) (q.closed k);
       reasons = IsReasoned-decided (attached_at (attached w) s) s.seen t l p.trail p.reasons;
+      told = told_step s t (decided t l) x n refl p.told (λ none. absurd (false≢true none)) (λ up. first) (λ up. omega arith);
     }
 
 true_clause : (a : List Bool) (c : List Literal) (l : Literal) → has c l ≡ true → lit_true a l ≡ true → clause_true a c ≡ true
@@ -91,9 +93,9 @@ closed_true t a c shape full all on (inr p) = by (value_of t.steps p.one.var) re
           | inr e ↦ absurd (p.one_open (record { place = at.0; in_range = at.1; true_there = e; level = shape.within at.0 at.1 }))
         ]
 
-pub full_model : (start s : PortState) (t : TrailData) (w : WatchData) (n : ℕ) (a : List Bool) → Searches s t w → GoesOn start s n → IsQuiet w (lits_at s) t → IsFull t
+pub full_model : (start s : PortState) (t : TrailData) (w : WatchData) (n k : ℕ) (a : List Bool) → Searches s t w k → GoesOn start s n → IsQuiet w (lits_at s) t → IsFull t
     → length a ≡ t.vars → ((l : Literal) → IsTrueOn t.steps l → lit_true a l ≡ true) → IsModelOf s a
-full_model start s t w n a p goes quiet full long all = record {
+full_model start s t w n k a p goes quiet full long all = record {
   long = long ∙ p.stands.vars;
   start = λ k d lt. clause k d lt;
   opening = λ k d lt. of_seen (get_or s.opening k d) (p.opening (get_or s.opening k d) (In_has s.opening (get_or s.opening k d) (In_get_or s.opening k d lt)));
@@ -113,11 +115,12 @@ full_model start s t w n a p goes quiet full long all = record {
         closed_true t a h.lits p.trail full all (subst (λ (v : ℕ). All (IsOn v) h.lits) (sym p.stands.vars) kept.on)
         (subst (λ (c : List Literal). IsClosedClause c t.steps t.level) lits (quiet.closed t.level (lits_at s h.address) inside))
 
-pub answer_found : (s : PortState) (ring : Ring) (limit : ℕ) (finding : Finding) → InSearch s ring → ring.learned < limit → IsQuiet ring.watches (lits_at s) ring.trail → IsFull ring.trail
+pub answer_found : (s : PortState) (ring : Ring) (limit : ℕ) (finding : Finding) → InSearch s ring → ring.learned < limit → IsQuiet ring.watches (lits_at s) ring.trail → AreFirst ring.trail ring.written → IsFull ring.trail
     → IsAnswerOf ring.trail finding → FoundBy s ring.learned s ring.learned limit finding
-answer_found s ring limit (Model a) p below quiet full found = λ start goes. (goes, full_model start s ring.trail ring.watches ring.learned a p goes quiet full found.0 found.1, below)
-answer_found s ring limit Refuted p below quiet full found = absurd found
-answer_found s ring limit Spent p below quiet full found = absurd found
-answer_found s ring limit (Stopped x) p below quiet full found = absurd found
-answer_found s ring limit (Refused stop) p below quiet full found = λ start goes.
+answer_found s ring limit (Model a) p below quiet first full found = λ start goes.
+    (goes, full_model start s ring.trail ring.watches ring.learned ring.written a p goes quiet full found.0 found.1, below, told_model s ring.trail ring.watches ring.written p quiet first)
+answer_found s ring limit Refuted p below quiet first full found = absurd found
+answer_found s ring limit Spent p below quiet first full found = absurd found
+answer_found s ring limit (Stopped x) p below quiet first full found = absurd found
+answer_found s ring limit (Refused stop) p below quiet first full found = λ start goes.
     (subst (IsOver start s ring.learned) (sym found) (out_of_memory start s ring.learned goes), below)

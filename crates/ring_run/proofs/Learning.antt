@@ -13,7 +13,7 @@ use Rattle.ring_port.specs.PortState.{PortState, Holding, IsPort, held_at, lits_
 use Rattle.ring_port.specs.Port.{Learned, KeepsHeld, IsClause}
 use Rattle.ring_port.specs.Log.{KeepsLog}
 use Rattle.ring_trail.specs.declared.step.Step.{Step}
-use Rattle.ring_trail.specs.TrailData.{TrailData, IsTrail, cut_back, assigned}
+use Rattle.ring_trail.specs.TrailData.{TrailData, IsTrail, HasNoPlace, IsFalseOn, cut_back, assigned}
 use Rattle.ring_trail.specs.Closed.{TrueWithin, IsClosedClause, IsClosed}
 use Rattle.ring_trail.proofs.Causes.{IsReasoned-back, IsReasoned-forced, IsReasoned-seen, IsClosed-back, IsClosed-grown}
 use Rattle.watch_prop.specs.WatchData.{attached, clauses_of}
@@ -21,19 +21,21 @@ use Rattle.watch_prop.specs.Watched.{Watched}
 use Rattle.watch_prop.specs.Propagation.{HasReasons, attached_at}
 use Rattle.watch_prop.proofs.TrailLaws.{Watched-assign, Watched-back, Watched-port, Reasons-more, Reasons-held}
 use Rattle.watch_prop.proofs.Reasons.{attached_some}
-use Rattle.ring_run.specs.Searching.{IsHeldBy, HasClauses, Stands, GoesOn, IsAsserting, SeenTrue, OpeningSeen}
+use Rattle.ring_run.specs.Searching.{IsHeldBy, HasClauses, Stands, GoesOn, IsAsserting, IsGlueOf, SeenTrue, OpeningSeen, AreTold}
 use Rattle.ring_run.specs.Finding.{Searches, InSearch, GoesOnBy, Asserted}
 use Rattle.ring_run.specs.declared.search.Ring.{Ring}
 use Rattle.ring_run.proofs.Remembering.{LitsStay, lits_kept, unit_remembered, clause_remembered}
 use Rattle.ring_run.proofs.Standing.{sees_old, sees_new, seen_of, within_more, within_last}
-use Rattle.ring_run.proofs.Asserting.{back_within, forces_first, seen_back}
+use Rattle.ring_run.proofs.Asserting.{back_within, forces_first, seen_back, first_has_no_value}
+use Rattle.ring_run.proofs.Telling.{told_step, told_same, told_unit, told_back, unseen_false}
+use Rattle.std.proofs.lemmas.Bool.{false≢true}
 use Rattle.ring_run.proofs.Progress.{clause_goes_on, unit_learned_goes_on, starts_kept}
 
-pub learned_any : (start s u : PortState) (n glue : ℕ) (t : TrailData) (lits : List Literal) (back : ℕ) (address : Option Cref) → GoesOn start s n → Stands s t → IsAsserting s t lits back → Learned s u lits glue (Ok address)
+pub learned_any : (start s u : PortState) (n glue : ℕ) (t : TrailData) (lits : List Literal) (back : ℕ) (address : Option Cref) → GoesOn start s n → Stands s t → IsAsserting s t lits back → IsGlueOf t.steps lits glue → Learned s u lits glue (Ok address)
     → KeepsHeld s u → KeepsLog s u → IsPort u → GoesOn start u (n + 1)
-learned_any start s u n glue t lits back (Some c) p stands a w kept log port =
-    clause_goes_on start s u n glue lits c p (subst (λ (v : ℕ). IsClause v lits) stands.vars a.clause) a.is_new_to w kept log port
-learned_any start s u n glue t lits back None p stands a w kept log port =
+learned_any start s u n glue t lits back (Some c) p stands a counts w kept log port =
+    clause_goes_on start s u n glue t.steps lits c p (subst (λ (v : ℕ). IsClause v lits) stands.vars a.clause) a.is_new_to counts w kept log port
+learned_any start s u n glue t lits back None p stands a counts w kept log port =
     unit_learned_goes_on start s u n lits p (subst (λ (v : ℕ). IsClause v lits) stands.vars a.clause) a.is_new_to w kept log port
 
 -- what was held still is
@@ -52,10 +54,11 @@ record Kept (s u : PortState) (cs : List Cref) (v : TrailData) (first : Literal)
   pub newest : (d : List Literal) → In d (map (λ (x : Cref). lits_at u x.address) (option_to_list address)) → lits ≡ d
   pub reasons : HasReasons (cs ++ option_to_list address) u v.steps → HasReasons (cs ++ option_to_list address) u (assigned v first address).steps
   pub seen : SeenTrue s v.steps → SeenTrue u (assigned v first address).steps
+  pub told : (n : ℕ) → AreTold s v n → HasNoPlace v.steps first.var → AreTold u (assigned v first address) n
 
-learned_clause : (s u : PortState) (t v : TrailData) (cs : List Cref) (lits : List Literal) (back glue : ℕ) (c : Cref) (a : IsAsserting s t lits back) → HasClauses s cs → OpeningSeen s → IsTrail t → v ≡ cut_back t back
+learned_clause : (s u : PortState) (t v : TrailData) (cs : List Cref) (lits : List Literal) (back glue : ℕ) (c : Cref) (a : IsAsserting s t lits back) → HasClauses s cs → OpeningSeen s → Stands s t → IsTrail t → v ≡ cut_back t back
     → Learned s u lits glue (Ok (Some c)) → KeepsHeld s u → IsPort u → Kept s u cs v a.first lits (Some c)
-learned_clause s u t v cs lits back glue c a p opening shape is w kept port =
+learned_clause s u t v cs lits back glue c a p opening stands shape is w kept port =
     let seen = ap (λ (y : PortState). y.seen) w.state in
     let held : IsSome (held_at u c.address) = subst (λ (o : Option Holding). IsSome o) (sym w.there) refl in
     let there : Contains (cs ++ c ∷ []) c = In_Contains (cs ++ c ∷ []) c (In_append_right cs (c ∷ []) c (inl refl)) in
@@ -79,6 +82,8 @@ learned_clause s u t v cs lits back glue c a p opening shape is w kept port =
       reasons = λ r. IsReasoned-forced (attached_at (cs ++ c ∷ []) u) u.seen v a.first c lits r
           (attached_some (cs ++ c ∷ []) u c there held ∙ ap Some (ap lits_in w.there)) (forces_first s t v lits back a shape is);
       seen = λ all l h. within_more v.steps (x ∷ []) 0 l (all l (sym (ap (λ (ls : List Literal). has ls l) seen) ∙ h));
+      told = λ n told free. told_step u v (assigned v a.first (Some c)) x n refl (told_same s u v n seen told)
+          (λ some. ap (λ (ls : List Literal). has ls a.first) seen ∙ unseen_false s t a.first stands shape a.first_false) told.all (λ up. up);
     }
 
 learned_unit : (s u : PortState) (t v : TrailData) (cs : List Cref) (lits : List Literal) (back glue : ℕ) (a : IsAsserting s t lits back) → HasClauses s cs → OpeningSeen s → v ≡ cut_back t back
@@ -112,6 +117,8 @@ learned_unit s u t v cs lits back glue a p opening is w kept port =
         | inl old ↦ within_more v.steps (x ∷ []) 0 l (all l old)
         | inr e ↦ subst (TrueWithin (v.steps ++ x ∷ []) 0) (first ∙ e) (within_last v.steps x 0 (omega arith))
       ];
+      told = λ n told free. told_step u v (assigned v a.first None) x n refl (told_unit s u v n w.lit wrote.sees (subst (λ (l : Literal). HasNoPlace v.steps l.var) first free) told)
+          (λ none. absurd (false≢true none)) (λ up. absurd (omega (arith, up, level))) (λ up. up);
     }
 
 module _ (s u : PortState) (old new : Ring) (lits : List Literal) (back : ℕ) (address : Option Cref) (p : InSearch s old) (a : IsAsserting s old.trail lits back) (kept : KeepsHeld s u)
@@ -172,7 +179,10 @@ module _ (s u : PortState) (old new : Ring) (lits : List Literal) (back : ℕ) (
         ap (option_map (λ (h : Holding). h.lits)) (kept c.address (subst (IsHeldBy s) there.2 (p.clauses.held there.0 c there.1))),
       )) k.more p.reasons)))
 
-  searches_after : Searches u after new.watches
+  told_after : AreTold u after old.written
+  told_after = k.told old.written (told_back s old.trail at.middle back old.written p.told p.trail low at.went) (first_has_no_value s old.trail at.middle lits back a p.trail at.went)
+
+  searches_after : Searches u after new.watches old.written
   searches_after = record {
     clauses = subst (HasClauses u) (sym at.clauses) k.clauses;
     opening = k.opening;
@@ -185,15 +195,16 @@ module _ (s u : PortState) (old new : Ring) (lits : List Literal) (back : ℕ) (
     watched = is_watched;
     closed = λ j below. subst (λ (xs : List Cref). IsClosed (map (λ (x : Cref). lits_at u x.address) xs) after.steps j) (sym at.clauses) (closed_after j below);
     reasons = subst (λ (xs : List Cref). HasReasons xs u after.steps) (sym at.clauses) reasons_after;
+    told = told_after;
   }
 
   asserted_search : InSearch u new
-  asserted_search = subst (λ (y : TrailData). Searches u y new.watches) (sym is_after) searches_after
+  asserted_search = subst (λ (n : ℕ). Searches u new.trail new.watches n) (sym at.written) (subst (λ (y : TrailData). Searches u y new.watches old.written) (sym is_after) searches_after)
 
 pub in_search_after : (s u : PortState) (old new : Ring) (lits : List Literal) (back glue : ℕ) (address : Option Cref) → InSearch s old → IsAsserting s old.trail lits back
     → Learned s u lits glue (Ok address) → KeepsHeld s u → IsPort u → Asserted u old new lits back address → InSearch u new
 in_search_after s u old new lits back glue (Some c) p a w kept port at =
-    asserted_search s u old new lits back (Some c) p a kept at (learned_clause s u old.trail at.middle (attached old.watches) lits back glue c a p.clauses p.opening p.trail at.went.is w kept port)
+    asserted_search s u old new lits back (Some c) p a kept at (learned_clause s u old.trail at.middle (attached old.watches) lits back glue c a p.clauses p.opening p.stands p.trail at.went.is w kept port)
 in_search_after s u old new lits back glue None p a w kept port at =
     asserted_search s u old new lits back None p a kept at (learned_unit s u old.trail at.middle (attached old.watches) lits back glue a p.clauses p.opening at.went.is w kept port)
 

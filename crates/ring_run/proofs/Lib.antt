@@ -8,4 +8,6 @@ pub mod Learning
 pub mod Deciding
 pub mod Turning
 pub mod Beginning
+pub mod Telling
 mod ProblemsReady
+mod CrowdLemmas

@@ -1,8 +1,9 @@
 -- What each call of the port leaves of a run.
-use Rattle.std.proofs.Common.{◌≡◌, ◌∙◌, ℕ, ◌+◌, ◌≤◌, Bool, true, false, List, [], ◌∷◌, ◌++◌, length, map, sym, subst, ap, arith, Some, None, IsSome, refl, length-append, slice_index_or, cond, nat_eq, eq-eqb}
+use Rattle.std.proofs.Common.{◌≡◌, ◌∙◌, ℕ, ◌+◌, ◌≤◌, Bool, true, false, List, [], ◌∷◌, ◌++◌, length, map, sym, subst, ap, arith, inl, inr, ◌⊎◌, ◌<◌, Contains, drop, Some, None, IsSome, refl, length-append, slice_index_or, cond, nat_eq, eq-eqb}
 use Rattle.std.specs.Prelude.{All, ◌&&◌, ◌≢◌, MatchOption, IfErr, Result, Ok, Err}
 use Rattle.std.specs.List.{list_any}
 use Rattle.std.specs.declared.option.Option.{Option}
+use Rattle.std.proofs.lemmas.List.{length-map}
 use Rattle.std.proofs.lemmas.List.Elements.{All-append, All-cons, All-nil}
 use Rattle.std.proofs.lemmas.Bool.{or_left, false≢true}
 use Rattle.sat_words.specs.Literal.{Literal, same}
@@ -17,18 +18,24 @@ use Rattle.rup_model.specs.declared.journal.Addition.{Addition}
 use Rattle.drat_text.specs.LineState.{LineState}
 use Rattle.rup_model.specs.Basics.{EachAfter}
 use Rattle.rup_model.specs.Journal.{added, learned, is_learn}
-use Rattle.rup_model.specs.Opening.{Opening, IsNew}
+use Rattle.rup_model.specs.Opening.{Opening, IsNew, adds_unit}
+use Rattle.rup_model.proofs.Lists.{In_append, Contains_In, In_Contains, has_In}
+use Rattle.std.specs.Set.{distinct_count, unique_keys, is_member}
+use Rattle.std.proofs.lemmas.Map.Made.{distinct_count-le}
+use Rattle.ring_port.proofs.Holdings.{All_In}
+use Rattle.ring_trail.specs.declared.step.Step.{Step}
+use Rattle.analyze.specs.Levels.{level_of_lit, count_of_levels}
 use Rattle.rup_model.proofs.Sequences.{each_last}
 use Rattle.rup_model.proofs.Additions.{added-append, learned-append}
 use Rattle.ring_port.specs.PortState.{PortState, Holding, IsPort, IsOn, HoldsStart, held_at}
-use Rattle.ring_port.specs.Port.{WroteUnit, UnitWritten, LearnedUnit, LearnedClause, EndedLog, Refused, HasReason, KeepsHeld, Looked, entry_of, after_refusal, IsClause, is_usable}
+use Rattle.ring_port.specs.Port.{holding_of, Learned, WroteUnit, UnitWritten, LearnedUnit, LearnedClause, EndedLog, Refused, HasReason, KeepsHeld, Looked, entry_of, after_refusal, IsClause, is_usable}
 use Rattle.ring_port.specs.Log.{KeepsLog, start_of}
 use Rattle.ring_port.specs.declared.stops.PortStop.{PortStop}
 use Rattle.ring_port.specs.declared.stops.PortStop.TheVariants.{Ended, Broken, ProofFault, NoHole, Memory}
-use Rattle.ring_run.specs.Ended.{Stays, IsOwn, AreNew, opening_of}
-use Rattle.ring_run.specs.Searching.{Runs, GoesOn, EndsBy, OnlySaw, OnlyWrote, IsOver, IsRefuted, IsNoted, IsNewTo}
+use Rattle.ring_run.specs.Ended.{Stays, IsOwn, AreNew, IsUntold, IsNewLine, AreNewLines, IsGlued, HoldsGlued, opening_of}
+use Rattle.ring_run.specs.Searching.{Runs, GoesOn, EndsBy, OnlySaw, OnlyWrote, IsOver, IsRefuted, IsNoted, IsNewTo, UnitsSeen, IsGlueOf, HoldsByGlue}
 use Rattle.ring_run.specs.Finding.{IsStoppedBy}
-use Rattle.ring_run.proofs.Remembering.{held_same, unit_remembered}
+use Rattle.ring_run.proofs.Remembering.{held_same, lits_same, unit_remembered, remembered_same}
 
 pub stays_by : (s u w : PortState) → Stays s u → Stays u w → Stays s w
 stays_by s u w p q = record {
@@ -42,6 +49,7 @@ stays_by s u w p q = record {
   polled = q.polled ∙ p.polled;
   puts = q.puts ∙ p.puts;
   taken = q.taken ∙ p.taken;
+  home = q.home ∙ p.home;
   log = λ o h. q.log o (p.log o h);
 }
 
@@ -59,10 +67,24 @@ opening_moved s u p = ap (λ (hs : List Holding). made hs u.opening) p.start ∙
 news_moved : (s u : PortState) (J : List Entry) → Stays s u → u.mine ≡ J → EachAfter (IsNew (opening_of s)) [] J → AreNew u
 news_moved s u J stays is p = subst (EachAfter (IsNew (opening_of u)) []) (sym is) (subst (λ (o : Opening). EachAfter (IsNew o) [] J) (sym (opening_moved s u stays)) p)
 
+-- lines of units that are new
+lines_moved : (s u : PortState) (J : List Entry) → Stays s u → u.given ≡ s.given → u.mine ≡ J → EachAfter (IsNewLine s.opening s.given s.ring) [] J → AreNewLines u
+lines_moved s u J stays given is p =
+    let Q : List Literal → List Literal → ℕ → List Entry → Type 0 = λ o g r K. EachAfter (IsNewLine o g r) [] K in
+    subst (Q u.opening u.given u.ring) (sym is)
+    (subst (λ r. Q u.opening u.given r J) (sym stays.ring) (subst (λ g. Q u.opening g s.ring J) (sym given) (subst (λ o. Q o s.given s.ring J) (sym stays.opening) p)))
+
+-- glues of what is held
+pub glued_same : (s u : PortState) → u.held ≡ s.held → HoldsGlued s u
+glued_same s u is h there = inl (subst (λ (hs : List Holding). Contains hs h) is there)
+
+glued_by : (s u w : PortState) → HoldsGlued s u → HoldsGlued u w → HoldsGlued s w
+glued_by s u w p q h there = elim (q h there) as (λ _. Contains s.held h ⊎ IsGlued h) [ inl old ↦ p h old | inr new ↦ inr new ]
+
 -- a run goes on by an entry of its ring
 pub runs_adds : (start s u : PortState) (n m : ℕ) (e : Entry) → Runs start s n → Stays s u → KeepsHeld s u → u.mine ≡ s.mine ++ e ∷ [] → IsOwn start.ring start.vars e
-    → m ≡ n + length (learned s.ring (e ∷ [])) → IsNew (opening_of s) s.mine e → IsPort u → Runs start u m
-runs_adds start s u n m e p stays kept is own count fresh port = record {
+    → m ≡ n + length (learned s.ring (e ∷ [])) → IsNew (opening_of s) s.mine e → u.given ≡ s.given → IsNewLine s.opening s.given s.ring s.mine e → HoldsGlued s u → IsPort u → Runs start u m
+runs_adds start s u n m e p stays kept is own count fresh given line glued port = record {
   stays = stays_by start s u p.stays stays;
   kept = kept_by start s u p.kept kept;
   wrote = subst (All (IsOwn start.ring start.vars)) (sym is)
@@ -74,17 +96,21 @@ runs_adds start s u n m e p stays kept is own count fresh port = record {
       let there = ap (λ (J : List Entry). length (learned s.ring J)) is in
       omega (arith, count, p.counted, split, both, here, there));
   each_new = news_moved s u (s.mine ++ e ∷ []) stays is (each_last (IsNew (opening_of s)) [] s.mine e p.each_new fresh);
+  new_lines = lines_moved s u (s.mine ++ e ∷ []) stays given is (each_last (IsNewLine s.opening s.given s.ring) [] s.mine e p.new_lines line);
+  glued = glued_by start s u p.glued glued;
   port = port;
 }
 
 -- and by a call that writes nothing
-pub runs_same : (start s u : PortState) (n : ℕ) → Runs start s n → Stays s u → u.held ≡ s.held → u.mine ≡ s.mine → IsPort u → Runs start u n
-runs_same start s u n p stays held is port = record {
+pub runs_same : (start s u : PortState) (n : ℕ) → Runs start s n → Stays s u → u.held ≡ s.held → u.mine ≡ s.mine → AreNewLines u → IsPort u → Runs start u n
+runs_same start s u n p stays held is lines port = record {
   stays = stays_by start s u p.stays stays;
   kept = kept_by start s u p.kept (λ a h. held_same s u a held);
   wrote = subst (All (IsOwn start.ring start.vars)) (sym is) p.wrote;
   counted = p.counted ∙ ap (λ (J : List Entry). length (learned s.ring J)) (sym is) ∙ ap (λ (r : ℕ). length (learned r u.mine)) (sym stays.ring);
   each_new = news_moved s u s.mine stays is p.each_new;
+  new_lines = lines;
+  glued = glued_by start s u p.glued (glued_same s u held);
   port = port;
 }
 
@@ -116,6 +142,7 @@ stays_unit s u l kind last w log = record {
   polled = ap (λ (x : PortState). x.polled) w.state;
   puts = ap (λ (x : PortState). x.puts) w.state;
   taken = ap (λ (x : PortState). x.taken) w.state;
+  home = ap (λ (x : PortState). x.home) w.state;
   log = log;
 }
 
@@ -139,9 +166,22 @@ one_learned r x same_ring e = ap (λ (b : Bool). length (map (λ (y : Addition).
     both true b p q = q
     both false b p q = cc
 
+-- a unit's line that is new: the unit was not seen before
+new_line : (s : PortState) (l : Literal) (number : ℕ) → UnitsSeen s → IsPort s → has s.seen l ≡ false → IsNewLine s.opening s.given s.ring s.mine (entry_of s number (l ∷ []) UnitLine)
+new_line s l number units port unseen is_line =
+    All-cons (IsUntold s.opening s.given s.ring s.mine) l [] (record {
+      not_listed = none (has s.opening l) (units.opening l);
+      not_given = none (has s.given l) (λ h. All_In (λ (k : Literal). has s.seen k ≡ true) s.given l port.given (has_In s.given l h));
+      not_added = none (adds_unit s.ring s.mine l) (units.added l);
+    }) (All-nil (IsUntold s.opening s.given s.ring s.mine))
+  where
+    none : (b : Bool) → (b ≡ true → has s.seen l ≡ true) → b ≡ false
+    none true f = absurd (false≢true (sym unseen ∙ f refl))
+    none false f = refl
+
 -- a unit's line by propagation
-pub unit_goes_on : (start s u : PortState) (n : ℕ) (l : Literal) → GoesOn start s n → IsOn s.vars l → WroteUnit s u l UnitLine s.last → KeepsLog s u → IsPort u → GoesOn start u n
-unit_goes_on start s u n l p on w log port =
+pub unit_goes_on : (start s u : PortState) (n : ℕ) (l : Literal) → GoesOn start s n → IsOn s.vars l → UnitsSeen s → has s.seen l ≡ false → WroteUnit s u l UnitLine s.last → KeepsLog s u → IsPort u → GoesOn start u n
+unit_goes_on start s u n l p on units unseen w log port =
     let e : Entry = entry_of s w.number (l ∷ []) UnitLine in
     let stays = stays_unit s u l UnitLine s.last w log in
     let is : u.mine ≡ s.mine ++ e ∷ [] = ap (λ (x : PortState). x.mine) w.state in
@@ -149,7 +189,7 @@ unit_goes_on start s u n l p on w log port =
     record {
       runs = runs_adds start s u n n e p.runs stays (λ a h. held_same s u a held) is
           (p.runs.stays.ring, subst (λ (v : ℕ). All (IsOn v) (l ∷ [])) p.runs.stays.vars (All-cons (IsOn s.vars) l [] on (All-nil (IsOn s.vars))), refl)
-          (no_lemma s.ring w.number l) (λ learns. absurd (false≢true learns)) port;
+          (no_lemma s.ring w.number l) (λ learns. absurd (false≢true learns)) (ap (λ (x : PortState). x.given) w.state) (new_line s l w.number units p.runs.port unseen) (glued_same s u held) port;
       going = going_more s u e is p.going refl;
       stop = ap (λ (x : PortState). x.stop) w.state ∙ p.stop;
       refused = ap (λ (x : PortState). x.refused) w.state ∙ p.refused;
@@ -171,6 +211,9 @@ record Same (s u : PortState) : Type 0 where
   pub polled : u.polled ≡ s.polled
   pub puts : u.puts ≡ s.puts
   pub taken : u.taken ≡ s.taken
+  pub home : u.home ≡ s.home
+  pub given : u.given ≡ s.given
+  pub looks : u.looks ≡ s.looks
   pub mine : u.mine ≡ s.mine
   pub stop : u.stop ≡ s.stop
   pub held : u.held ≡ s.held
@@ -187,6 +230,9 @@ but_noted s refused ended output = record {
   polled = refl;
   puts = refl;
   taken = refl;
+  home = refl;
+  given = refl;
+  looks = refl;
   mine = refl;
   stop = refl;
   held = refl;
@@ -222,6 +268,7 @@ stays_same s u p log = record {
   polled = p.polled;
   puts = p.puts;
   taken = p.taken;
+  home = p.home;
   log = log;
 }
 
@@ -233,7 +280,7 @@ pub refused_over : (start s u : PortState) (n : ℕ) (stop : PortStop) → GoesO
 refused_over start s u n stop p r log port =
     let same : Same s u = subst (Same s) (sym r.state) (same_refused s u.output stop) in
     record {
-      runs = runs_same start s u n p.runs (stays_same s u same log) same.held same.mine port;
+      runs = runs_same start s u n p.runs (stays_same s u same log) same.held same.mine (lines_moved s u s.mine (stays_same s u same log) same.given same.mine p.runs.new_lines) port;
       stop_is = same.stop ∙ p.stop;
       noted = subst (λ (x : PortState). IsNoted x stop) (sym r.state) (noted_refused s u.output stop r.reason (usable_none s p.refused));
     }
@@ -241,6 +288,14 @@ refused_over start s u n stop p r log port =
 pub unit_over : (s u : PortState) (l : Literal) (r : Result (Unit {0}) PortStop) → UnitWritten s u l r → KeepsLog s u → IsPort u → IfErr r (EndsBy s u)
 unit_over s u l (Ok done) w log port = tt
 unit_over s u l (Err stop) w log port = λ start n p. refused_over start s u n stop p w log port
+
+-- and leaves how often no stop was found
+pub refused_looks : (s u : PortState) (stop : PortStop) → Refused s u stop → u.looks ≡ s.looks
+refused_looks s u stop r = (subst (Same s) (sym r.state) (same_refused s u.output stop)).looks
+
+pub unit_looks : (s u : PortState) (l : Literal) (r : Result (Unit {0}) PortStop) → UnitWritten s u l r → u.looks ≡ s.looks
+unit_looks s u l (Ok done) w = ap (λ (x : PortState). x.looks) w.state
+unit_looks s u l (Err stop) w = refused_looks s u stop w
 
 pub refused_held : (s u : PortState) (stop : PortStop) → Refused s u stop → u.held ≡ s.held
 refused_held s u stop r = (subst (Same s) (sym r.state) (same_refused s u.output stop)).held
@@ -258,6 +313,7 @@ stays_learned s u lits glue c w log = record {
   polled = ap (λ (x : PortState). x.polled) w.state;
   puts = ap (λ (x : PortState). x.puts) w.state;
   taken = ap (λ (x : PortState). x.taken) w.state;
+  home = ap (λ (x : PortState). x.home) w.state;
   log = log;
 }
 
@@ -265,26 +321,78 @@ some_literal : (c : List Literal) → 1 ≤ length c → list_any is_empty (c �
 some_literal [] h = absurd (omega arith)
 some_literal (l ∷ c) h = refl
 
+-- how many differ, of one or more
+some_counted : (ns : List ℕ) → 1 ≤ length ns → 1 ≤ distinct_count nat_eq ns
+some_counted [] h = absurd (omega arith)
+some_counted (n ∷ []) h = omega arith
+some_counted (n ∷ m ∷ ns) h = by (is_member nat_eq (m ∷ ns) n) (some_counted (m ∷ ns) (omega arith))
+  where
+    by : (b : Bool) → 1 ≤ distinct_count nat_eq (m ∷ ns) → 1 ≤ length (cond b (unique_keys nat_eq (m ∷ ns)) (n ∷ unique_keys nat_eq (m ∷ ns)))
+    by true le = le
+    by false le = omega arith
+
+-- the glue of a lemma of two literals or more
+glue_bounds : (steps : List Step) (lits : List Literal) (glue : ℕ) → IsGlueOf steps lits glue → 2 ≤ length lits → (1 ≤ glue) × (glue < length lits)
+glue_bounds steps [] glue is long = absurd (omega arith)
+glue_bounds steps (k ∷ []) glue is long = absurd (omega arith)
+glue_bounds steps (k ∷ l ∷ lits) glue is long =
+    let many = length-map (l ∷ lits) (level_of_lit steps) in
+    let some = some_counted (map (level_of_lit steps) (l ∷ lits)) (omega (arith, many)) in
+    let few = distinct_count-le nat_eq (map (level_of_lit steps) (l ∷ lits)) in
+    (omega (arith, some, is), omega (arith, few, is, many))
+
+-- what is held after a lemma was held before, or has the lemma's literals and glue
+pub held_learned : (s u : PortState) (lits : List Literal) (glue : ℕ) (c : Cref) → LearnedClause s u lits glue c → (h : Holding) → Contains u.held h
+    → Contains s.held h ⊎ ((h.glue ≡ glue) × (h.lits ≡ lits))
+held_learned s u lits glue c w h there =
+    let x : Holding = holding_of c w.number glue lits in
+    let is : u.held ≡ s.held ++ x ∷ [] = ap (λ (y : PortState). y.held) w.state in
+    elim (In_append s.held (x ∷ []) h (Contains_In (s.held ++ x ∷ []) h (subst (λ (hs : List Holding). Contains hs h) is there))) as (λ _. Contains s.held h ⊎ ((h.glue ≡ glue) × (h.lits ≡ lits))) [
+      | inl old ↦ inl (In_Contains s.held h old)
+      | inr new ↦ inr (elim new as (λ _. (h.glue ≡ glue) × (h.lits ≡ lits)) [ inl e ↦ (ap (λ (k : Holding). k.glue) (sym e), ap (λ (k : Holding). k.lits) (sym e)) | inr none ↦ absurd none ])
+    ]
+
+clause_glued : (s u : PortState) (steps : List Step) (lits : List Literal) (glue : ℕ) (c : Cref) → LearnedClause s u lits glue c → IsGlueOf steps lits glue → HoldsGlued s u
+clause_glued s u steps lits glue c w counts h there =
+    let both = glue_bounds steps lits glue counts w.long in
+    elim (held_learned s u lits glue c w h there) as (λ _. Contains s.held h ⊎ IsGlued h) [
+      | inl old ↦ inl old
+      | inr new ↦ inr (record { some = omega (arith, both.0, new.0); few = omega (arith, both.1, new.0, ap (λ (d : List Literal). length d) new.1) })
+    ]
+
+-- what a call that learned leaves of how often no stop was found, and of what is held
+pub learned_looks : (s u : PortState) (lits : List Literal) (glue : ℕ) (address : Option Cref) → Learned s u lits glue (Ok address) → u.looks ≡ s.looks
+learned_looks s u lits glue (Some c) w = ap (λ (x : PortState). x.looks) w.state
+learned_looks s u lits glue None w = ap (λ (x : PortState). x.looks) w.wrote.state
+
+pub learned_by_glue : (s u : PortState) (steps : List Step) (lits : List Literal) (glue : ℕ) (address : Option Cref) → Learned s u lits glue (Ok address) → IsGlueOf steps lits glue → HoldsByGlue s u steps
+learned_by_glue s u steps lits glue (Some c) w counts h there =
+    elim (held_learned s u lits glue c w h there) as (λ _. Contains s.held h ⊎ IsGlueOf steps h.lits h.glue) [
+      | inl old ↦ inl old
+      | inr new ↦ inr (new.0 ∙ counts ∙ ap (λ (d : List Literal). count_of_levels steps (drop 1 d)) (sym new.1))
+    ]
+learned_by_glue s u steps lits glue None w counts h there = inl (subst (λ (hs : List Holding). Contains hs h) (ap (λ (x : PortState). x.held) w.wrote.state) there)
+
 -- the entry of a lemma goes on with one more
 learned_goes_on : (start s u : PortState) (n number : ℕ) (lits : List Literal) → GoesOn start s n → Stays s u → IsClause s.vars lits → IsNewTo s lits → 1 ≤ length lits
-    → u.mine ≡ s.mine ++ entry_of s number lits Learn ∷ [] → u.stop ≡ s.stop → u.refused ≡ s.refused → KeepsHeld s u → IsPort u → GoesOn start u (n + 1)
-learned_goes_on start s u n number lits p stays clause fresh some is stop refused kept port =
+    → u.mine ≡ s.mine ++ entry_of s number lits Learn ∷ [] → u.given ≡ s.given → HoldsGlued s u → u.stop ≡ s.stop → u.refused ≡ s.refused → KeepsHeld s u → IsPort u → GoesOn start u (n + 1)
+learned_goes_on start s u n number lits p stays clause fresh some is given glued stop refused kept port =
     let e : Entry = entry_of s number lits Learn in
     record {
       runs = runs_adds start s u n (n + 1) e p.runs stays kept is
           (p.runs.stays.ring, subst (λ (v : ℕ). All (IsOn v) lits) p.runs.stays.vars clause.on, some)
-          (omega (arith, one_learned s.ring (record { ring = s.ring; number = number; lits = lits; kind = Learn }) refl refl)) (λ learns. fresh.unlisted) port;
+          (omega (arith, one_learned s.ring (record { ring = s.ring; number = number; lits = lits; kind = Learn }) refl refl)) (λ learns. fresh.unlisted) given (λ is_line. absurd (false≢true is_line)) glued port;
       going = going_more s u e is p.going (some_literal lits some);
       stop = stop ∙ p.stop;
       refused = refused ∙ p.refused;
       held = starts_kept s u stays.start kept p.held;
     }
 
-pub clause_goes_on : (start s u : PortState) (n glue : ℕ) (lits : List Literal) (c : Cref) → GoesOn start s n → IsClause s.vars lits → IsNewTo s lits → LearnedClause s u lits glue c → KeepsHeld s u → KeepsLog s u → IsPort u
+pub clause_goes_on : (start s u : PortState) (n glue : ℕ) (steps : List Step) (lits : List Literal) (c : Cref) → GoesOn start s n → IsClause s.vars lits → IsNewTo s lits → IsGlueOf steps lits glue → LearnedClause s u lits glue c → KeepsHeld s u → KeepsLog s u → IsPort u
     → GoesOn start u (n + 1)
-clause_goes_on start s u n glue lits c p clause fresh w kept log port =
+clause_goes_on start s u n glue steps lits c p clause fresh counts w kept log port =
     learned_goes_on start s u n w.number lits p (stays_learned s u lits glue c w log) clause fresh (omega (arith, w.long))
-    (ap (λ (x : PortState). x.mine) w.state) (ap (λ (x : PortState). x.stop) w.state) (ap (λ (x : PortState). x.refused) w.state) kept port
+    (ap (λ (x : PortState). x.mine) w.state) (ap (λ (x : PortState). x.given) w.state) (clause_glued s u steps lits glue c w counts) (ap (λ (x : PortState). x.stop) w.state) (ap (λ (x : PortState). x.refused) w.state) kept port
 
 pub unit_learned_goes_on : (start s u : PortState) (n : ℕ) (lits : List Literal) → GoesOn start s n → IsClause s.vars lits → IsNewTo s lits → LearnedUnit s u lits → KeepsHeld s u → KeepsLog s u → IsPort u
     → GoesOn start u (n + 1)
@@ -292,7 +400,7 @@ unit_learned_goes_on start s u n lits p clause fresh w kept log port =
     let wrote = w.wrote in
     learned_goes_on start s u n wrote.number lits p (stays_unit s u w.lit Learn None wrote log) clause fresh (omega (arith, ap length w.unit))
     (ap (λ (x : PortState). x.mine) wrote.state ∙ ap (λ (c : List Literal). s.mine ++ entry_of s wrote.number c Learn ∷ []) (sym w.unit))
-    (ap (λ (x : PortState). x.stop) wrote.state) (ap (λ (x : PortState). x.refused) wrote.state) kept port
+    (ap (λ (x : PortState). x.given) wrote.state) (glued_same s u (ap (λ (x : PortState). x.held) wrote.state)) (ap (λ (x : PortState). x.stop) wrote.state) (ap (λ (x : PortState). x.refused) wrote.state) kept port
 
 -- the empty clause
 pub empty_refutes : (start s u : PortState) (n : ℕ) → GoesOn start s n → EndedLog s u → KeepsLog s u → IsPort u → IsRefuted start u n
@@ -309,21 +417,23 @@ empty_refutes start s u n p w log port =
       polled = ap (λ (x : PortState). x.polled) w.state;
       puts = ap (λ (x : PortState). x.puts) w.state;
       taken = ap (λ (x : PortState). x.taken) w.state;
+      home = ap (λ (x : PortState). x.home) w.state;
       log = log;
     } in
     record {
       runs = runs_adds start s u n n e p.runs stays (λ a h. held_same s u a (ap (λ (x : PortState). x.held) w.state)) (ap (λ (x : PortState). x.mine) w.state)
           (p.runs.stays.ring, All-nil (IsOn start.vars), refl)
-          (omega (arith, not_learned s.ring (record { ring = s.ring; number = w.number; lits = []; kind = Derive }) refl)) (λ learns. absurd (false≢true learns)) port;
+          (omega (arith, not_learned s.ring (record { ring = s.ring; number = w.number; lits = []; kind = Derive }) refl)) (λ learns. absurd (false≢true learns))
+          (ap (λ (x : PortState). x.given) w.state) (λ is_line. absurd (false≢true is_line)) (glued_same s u (ap (λ (x : PortState). x.held) w.state)) port;
       stop = ap (λ (x : PortState). x.stop) w.state ∙ p.stop;
       ended = ap (λ (x : PortState). x.ended) w.state;
       usable = usable_none u (ap (λ (x : PortState). x.refused) w.state ∙ p.refused);
     }
 
 -- a run that has seen units
-pub saw_goes_on : (start s u : PortState) (n : ℕ) → GoesOn start s n → OnlySaw s u → IsPort u → GoesOn start u n
-saw_goes_on start s u n p w port = record {
-  runs = runs_same start s u n p.runs w.stays w.held w.mine port;
+pub saw_goes_on : (start s u : PortState) (n : ℕ) → GoesOn start s n → s.mine ≡ [] → OnlySaw s u → IsPort u → GoesOn start u n
+saw_goes_on start s u n p none w port = record {
+  runs = runs_same start s u n p.runs w.stays w.held w.mine (subst (EachAfter (IsNewLine u.opening u.given u.ring) []) (sym (w.mine ∙ none)) tt) port;
   going = ap (λ (J : List Entry). list_any is_empty (added J)) w.mine ∙ p.going;
   stop = w.stop ∙ p.stop;
   refused = w.refused ∙ p.refused;
@@ -332,7 +442,7 @@ saw_goes_on start s u n p w port = record {
 
 pub wrote_none : (s : PortState) → OnlyWrote s s
 wrote_none s = record {
-  stays = record { start = refl; opening = refl; vars = refl; ring = refl; rings = refl; waiting = refl; shared = refl; polled = refl; puts = refl; taken = refl; log = λ o h. h };
+  stays = record { start = refl; opening = refl; vars = refl; ring = refl; rings = refl; waiting = refl; shared = refl; polled = refl; puts = refl; taken = refl; home = refl; log = λ o h. h };
   held = refl;
   own = λ cs p. p;
   stop = refl;
@@ -360,6 +470,43 @@ wrote_unit s u l w log = record {
   more = λ k h. w.sees k ∙ or_left (has s.seen k) (same l k) h;
 }
 
+-- a look that found no stop
+pub looked_wrote : (s u : PortState) (k : ℕ) → u ≡ record s { looks = k } → KeepsLog s u → OnlyWrote s u
+looked_wrote s u k is log = record {
+  stays = record {
+    start = ap (λ (x : PortState). x.start) is;
+    opening = ap (λ (x : PortState). x.opening) is;
+    vars = ap (λ (x : PortState). x.vars) is;
+    ring = ap (λ (x : PortState). x.ring) is;
+    rings = ap (λ (x : PortState). x.rings) is;
+    waiting = ap (λ (x : PortState). x.waiting) is;
+    shared = ap (λ (x : PortState). x.shared) is;
+    polled = ap (λ (x : PortState). x.polled) is;
+    puts = ap (λ (x : PortState). x.puts) is;
+    taken = ap (λ (x : PortState). x.taken) is;
+    home = ap (λ (x : PortState). x.home) is;
+    log = log;
+  };
+  held = ap (λ (x : PortState). x.held) is;
+  own = λ cs p. remembered_same s u cs (ap (λ (x : PortState). x.ring) is) (ap (λ (x : PortState). x.mine) is)
+      (λ c there. ap (λ (f : ℕ → List Literal). f c.address) (lits_same s u (ap (λ (x : PortState). x.held) is))) (λ l h. ap (λ (ls : List Literal). has ls l) (ap (λ (x : PortState). x.seen) is) ∙ h) p;
+  stop = ap (λ (x : PortState). x.stop) is;
+  refused = ap (λ (x : PortState). x.refused) is;
+  more = λ l h. ap (λ (ls : List Literal). has ls l) (ap (λ (x : PortState). x.seen) is) ∙ h;
+}
+
+pub looked_goes_on : (start s u : PortState) (n k : ℕ) → GoesOn start s n → u ≡ record s { looks = k } → KeepsLog s u → IsPort u → GoesOn start u n
+looked_goes_on start s u n k p is log port =
+    let w = looked_wrote s u k is log in
+    let mine : u.mine ≡ s.mine = ap (λ (x : PortState). x.mine) is in
+    record {
+      runs = runs_same start s u n p.runs w.stays w.held mine (lines_moved s u s.mine w.stays (ap (λ (x : PortState). x.given) is) mine p.runs.new_lines) port;
+      going = ap (λ (J : List Entry). list_any is_empty (added J)) mine ∙ p.going;
+      stop = w.stop ∙ p.stop;
+      refused = w.refused ∙ p.refused;
+      held = starts_kept s u w.stays.start (λ a h. held_same s u a w.held) p.held;
+    }
+
 -- a stop that was seen or set
 pub runs_stopped : (start s u : PortState) (n : ℕ) (stop : Option Stop) → Runs start s n → u ≡ record s { stop = stop } → KeepsLog s u → IsPort u → Runs start u n
 runs_stopped start s u n stop p is log port =
@@ -374,9 +521,10 @@ runs_stopped start s u n stop p is log port =
       polled = ap (λ (x : PortState). x.polled) is;
       puts = ap (λ (x : PortState). x.puts) is;
       taken = ap (λ (x : PortState). x.taken) is;
+      home = ap (λ (x : PortState). x.home) is;
       log = log;
     } in
-    runs_same start s u n p stays (ap (λ (x : PortState). x.held) is) (ap (λ (x : PortState). x.mine) is) port
+    runs_same start s u n p stays (ap (λ (x : PortState). x.held) is) (ap (λ (x : PortState). x.mine) is) (lines_moved s u s.mine stays (ap (λ (x : PortState). x.given) is) (ap (λ (x : PortState). x.mine) is) p.new_lines) port
 
 pub stop_seen : (start s u : PortState) (n : ℕ) (x : Stop) → GoesOn start s n → Looked s u (Some x) → KeepsLog s u → IsPort u → IsStoppedBy start u n x
 stop_seen start s u n x p looked log port =

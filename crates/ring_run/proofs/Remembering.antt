@@ -167,6 +167,18 @@ unit_remembered s u l kind last w cs p =
     (inr (record { lit = l; unit = refl; seen = seen }))
     (λ k h. ap (has u.seen) (same_unit k l h) ∙ seen) p
 
+-- each unit that the ring added is seen, one more too
+pub added_seen : (s u : PortState) (l : Literal) (kind : Kind) (last : Option ℕ) → WroteUnit s u l kind last → ((k : Literal) → adds_unit s.ring s.mine k ≡ true → has s.seen k ≡ true)
+    → (k : Literal) → adds_unit u.ring u.mine k ≡ true → has u.seen k ≡ true
+added_seen s u l kind last w p k h =
+    let x : Addition = record { ring = s.ring; number = w.number; lits = l ∷ []; kind = kind } in
+    let ring = ap (λ (y : PortState). y.ring) w.state in
+    let mine = ap (λ (y : PortState). y.mine) w.state in
+    elim (unit_cases s.ring s.mine x k (ap (λ (r : ℕ). adds_unit r (s.mine ++ Add x ∷ []) k) (sym ring) ∙ ap (λ (J : List Entry). adds_unit u.ring J k) (sym mine) ∙ h)) as (λ _. has u.seen k ≡ true) [
+      | inl old ↦ w.sees k ∙ or_left (has s.seen k) (same l k) (p k old)
+      | inr new ↦ ap (has u.seen) (same_unit k l new) ∙ (w.sees l ∙ or_right (has s.seen l) (same l l) (same-refl l))
+    ]
+
 pub clause_remembered : (s u : PortState) (lits : List Literal) (glue : ℕ) (c : Cref) (cs : List Cref) → distinct_lits lits ≡ true → LearnedClause s u lits glue c → LitsStay s u cs → Remembers s cs → Remembers u (cs ++ c ∷ [])
 clause_remembered s u lits glue c cs distinct w stay p =
     let x : Addition = record { ring = s.ring; number = w.number; lits = lits; kind = Learn } in

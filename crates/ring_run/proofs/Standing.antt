@@ -105,12 +105,14 @@ saw_more s u w l p took log =
         polled = ap (λ (x : PortState). x.polled) took.state ∙ p.stays.polled;
         puts = ap (λ (x : PortState). x.puts) took.state ∙ p.stays.puts;
         taken = ap (λ (x : PortState). x.taken) took.state ∙ p.stays.taken;
+        home = ap (λ (x : PortState). x.home) took.state ∙ p.stays.home;
         log = λ o h. log o (p.stays.log o h);
       };
       held = ap (λ (x : PortState). x.held) took.state ∙ p.held;
       mine = ap (λ (x : PortState). x.mine) took.state ∙ p.mine;
       stop = ap (λ (x : PortState). x.stop) took.state ∙ p.stop;
       refused = ap (λ (x : PortState). x.refused) took.state ∙ p.refused;
+      looks = ap (λ (x : PortState). x.looks) took.state ∙ p.looks;
       more = λ k h. sees_old u.seen w.seen l k took.sees (p.more k h);
     }
 

@@ -7,7 +7,7 @@ use Rattle.sat_words.specs.Clause.{has}
 use Rattle.sat_words.specs.declared.shared.Cref.{Cref}
 use Rattle.ring_port.specs.PortState.{PortState, Holding, IsPort, lits_at}
 use Rattle.ring_trail.specs.declared.step.Step.{Step}
-use Rattle.ring_trail.specs.TrailData.{TrailData, IsTrail, HasGrown}
+use Rattle.ring_trail.specs.TrailData.{TrailData, IsTrail, HasGrown, reason_at}
 use Rattle.ring_trail.specs.Closed.{TrueWithin, IsClosed}
 use Rattle.ring_trail.proofs.Causes.{IsClosed-more}
 use Rattle.watch_prop.specs.WatchData.{WatchData, Lits, attached, clauses_of}
@@ -15,13 +15,15 @@ use Rattle.watch_prop.specs.Watched.{Watched, IsFresh}
 use Rattle.watch_prop.specs.Propagation.{HasReasons, IsClosedBelow, IsQuiet}
 use Rattle.watch_prop.proofs.TrailLaws.{Reasons-more, Reasons-held}
 use Rattle.ring_run.specs.Ended.{Stays}
-use Rattle.ring_run.specs.Searching.{IsHeldBy, HasClauses, Remembers, Stands, OnlySaw, OnlyWrote, OpeningSeen, GoesOn}
+use Rattle.ring_run.specs.Searching.{IsHeldBy, HasClauses, Remembers, Stands, AreTold, OnlySaw, OnlyWrote, OpeningSeen, GoesOn}
+use Rattle.ring_port.specs.Log.{KeepsLog}
 use Rattle.ring_run.specs.Finding.{Searches, InSearch, IsBegun, GoesOnBy, FoundBy, IsFurther}
 use Rattle.ring_run.specs.declared.search.Ring.{Ring}
 use Rattle.ring_run.specs.declared.search.Finding.{Finding}
 use Rattle.ring_run.proofs.Remembering.{held_same, lits_same, clause_at_same, remembered_same}
-use Rattle.ring_run.proofs.Standing.{within_more}
-use Rattle.ring_run.proofs.Progress.{starts_kept}
+use Rattle.ring_run.proofs.Standing.{within_more, reasoned_more}
+use Rattle.ring_run.proofs.Progress.{starts_kept, looked_wrote}
+use Rattle.ring_run.proofs.Telling.{told_begun, told_grown, told_same}
 
 held_by_same : (s u : PortState) (cs : List Cref) → u.held ≡ s.held → All (IsHeldBy s) cs → All (IsHeldBy u) cs
 held_by_same s u cs e all = λ k d h. subst (λ (o : Option Holding). IsSome o) (sym (held_same s u (get_or cs k d).address e)) (all k d h)
@@ -40,8 +42,8 @@ clauses_same s u cs p stays held stop refused own port = record {
 }
 
 -- lines of units leave a search as it is
-pub wrote_search : (s u : PortState) (t : TrailData) (w : WatchData) → Searches s t w → OnlyWrote s u → IsPort u → Stands u t → Searches u t w
-wrote_search s u t w p wrote port stands = record {
+pub wrote_search : (s u : PortState) (t : TrailData) (w : WatchData) (n m : ℕ) → Searches s t w n → OnlyWrote s u → IsPort u → Stands u t → AreTold u t m → Searches u t w m
+wrote_search s u t w n m p wrote port stands told = record {
   clauses = clauses_same s u (attached w) p.clauses wrote.stays wrote.held wrote.stop wrote.refused (wrote.own (attached w) p.clauses.own) port;
   opening = λ l h. wrote.more l (p.opening l (ap (λ (ls : List Literal). has ls l) (sym wrote.stays.opening) ∙ h));
   stands = stands;
@@ -49,7 +51,18 @@ wrote_search s u t w p wrote port stands = record {
   watched = subst (λ (f : Lits). Watched w f t) (sym (lits_same s u wrote.held)) p.watched;
   closed = subst (λ (f : Lits). IsClosedBelow w f t) (sym (lits_same s u wrote.held)) p.closed;
   reasons = Reasons-more (attached w) (attached w) s u t.steps (λ c there. (there, clause_at_same s u wrote.held c.address)) wrote.more p.reasons;
+  told = told;
 }
+
+-- nor does a look that found no stop
+pub looked_search : (s u : PortState) (t : TrailData) (w : WatchData) (n k : ℕ) → Searches s t w n → u ≡ record s { looks = k } → KeepsLog s u → IsPort u → Searches u t w n
+looked_search s u t w n k p is log port =
+    let wrote = looked_wrote s u k is log in
+    wrote_search s u t w n n p wrote port (record {
+      vars = p.stands.vars ∙ sym wrote.stays.vars;
+      reasoned = reasoned_more s u t.steps wrote.held wrote.more p.stands.reasoned;
+      seen = λ l h. p.stands.seen l (ap (λ (x : PortState). has x.seen l) (sym is) ∙ h);
+    }) (told_same s u t n (ap (λ (x : PortState). x.seen) is) p.told)
 
 -- and what propagation came to
 pub quiet_same : (s u : PortState) (t v : TrailData) (w x : WatchData) → u.held ≡ s.held → v ≡ t → x ≡ w → IsQuiet w (lits_at s) t → IsQuiet x (lits_at u) v
@@ -58,8 +71,8 @@ quiet_same s u t v w x held trail watches q =
 
 -- units that have come leave a search that has begun in its course
 pub begun_search : (s u : PortState) (ring : Ring) (t : TrailData) → IsBegun s ring → OnlySaw s u → IsPort u → IsTrail t → HasGrown ring.trail t → Stands u t → OpeningSeen u → HasReasons [] u t.steps
-    → Searches u t ring.watches
-begun_search s u ring t p saw port shape grown stands opening reasons =
+    → ((q : ℕ) → q < length t.steps → reason_at t.steps q ≡ None) → Searches u t ring.watches ring.written
+begun_search s u ring t p saw port shape grown stands opening reasons bare =
     let cs = attached ring.watches in
     let level : t.level ≡ 0 = grown.level ∙ p.level in
     let fresh : IsFresh t = λ q low h. (let at = shape.within q h in omega arith) in
@@ -72,12 +85,13 @@ begun_search s u ring t p saw port shape grown stands opening reasons =
       watched = subst (λ (f : Lits). Watched ring.watches f t) (sym (lits_same s u saw.held)) (p.watched t (stands.vars ∙ saw.stays.vars) fresh);
       closed = λ k below. absurd (omega arith);
       reasons = Reasons-more [] cs u u t.steps (λ c there. absurd (omega (arith, there.1))) (λ l h. h) reasons;
+      told = subst (AreTold u t) (sym p.none_written) (told_begun u t level bare);
     }
 
 -- a trail that has grown by propagation
-pub grown_search : (s u : PortState) (t v : TrailData) (w x : WatchData) → Searches s t w → u ≡ s → IsTrail v → attached x ≡ attached w → HasGrown t v → HasReasons (attached w) s v.steps → Watched x (lits_at s) v
-    → Searches u v x
-grown_search s u t v w x p is shape same grown reasons watched = subst (λ (y : PortState). Searches y v x) (sym is) (record {
+pub grown_search : (s u : PortState) (t v : TrailData) (w x : WatchData) (n : ℕ) → Searches s t w n → u ≡ s → IsTrail v → attached x ≡ attached w → HasGrown t v → HasReasons (attached w) s v.steps → Watched x (lits_at s) v
+    → Searches u v x n
+grown_search s u t v w x n p is shape same grown reasons watched = subst (λ (y : PortState). Searches y v x n) (sym is) (record {
   clauses = subst (HasClauses s) (sym same) p.clauses;
   opening = p.opening;
   stands = record {
@@ -92,6 +106,7 @@ grown_search s u t v w x p is shape same grown reasons watched = subst (λ (y : 
       (IsClosed-more (clauses_of w (lits_at s)) t.steps grown.more k (λ q d h. (let e = grown.at_level q d h in omega (arith, grown.level, below)))
       (p.closed k (omega (arith, grown.level, below)))));
   reasons = subst (λ (cs : List Cref). HasReasons cs s v.steps) (sym same) reasons;
+  told = told_grown s t v n p.told p.stands shape grown;
 })
 
 -- one step after another

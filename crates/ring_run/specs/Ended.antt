@@ -1,8 +1,8 @@
 -- What a run of a ring says: what it asks of its port, what it wrote, and what each end says.
-use Rattle.std.specs.Prelude.{◌≡◌, ◌≢◌, ◌≤◌, ◌<◌, ℕ, ◌^◌, Bool, true, false, List, [], map, length, All, Some, None, IfSome}
+use Rattle.std.specs.Prelude.{◌≡◌, ◌≢◌, ◌≤◌, ◌<◌, ◌⊎◌, ℕ, ◌-◌, ◌^◌, min, Bool, true, false, List, [], ◌∷◌, ◌++◌, map, length, All, Contains, Some, None, IfSome}
 use Rattle.std.specs.List.{list_any}
 use Rattle.sat_words.specs.Literal.{Literal}
-use Rattle.sat_words.specs.Clause.{is_empty}
+use Rattle.sat_words.specs.Clause.{has, is_empty}
 use Rattle.sat_words.specs.Truth.{lit_true, clause_true}
 use Rattle.sat_words.specs.declared.shared.TheConstants.{STOP_SAT, STOP_REFUTED, STOP_ROOM, STOP_PROOF, STOP_MEMORY}
 use Rattle.rup_model.specs.declared.journal.Entry.{Entry}
@@ -10,10 +10,11 @@ use Rattle.rup_model.specs.declared.journal.Entry.TheVariants.{Add, Del, Reduce}
 use Rattle.rup_model.specs.declared.journal.Kind.{Kind}
 use Rattle.rup_model.specs.declared.journal.Kind.TheVariants.{Ruler, Learn, Derive, UnitLine}
 use Rattle.rup_model.specs.Basics.{EachAfter}
-use Rattle.rup_model.specs.Journal.{added, learned}
-use Rattle.rup_model.specs.Opening.{Opening, IsNew}
+use Rattle.rup_model.specs.Journal.{addition, added, learned, recent}
+use Rattle.rup_model.specs.Opening.{Opening, IsNew, adds_unit}
+use Rattle.rup_model.specs.Rounds.{Rounds}
 use Rattle.ring_port.specs.PortState.{PortState, Holding, IsOn, HoldsStart}
-use Rattle.ring_port.specs.Port.{is_usable}
+use Rattle.ring_port.specs.Port.{is_usable, start_lits}
 use Rattle.ring_port.specs.Log.{KeepsLog, start_of}
 use Rattle.ring_port.specs.declared.stops.PortStop.TheVariants.{NoHole as NoHoleAnswer}
 use Rattle.ring_run.specs.declared.job.Job.{Job}
@@ -57,6 +58,7 @@ pub record Stays (old new : PortState) : Type 0 where
   pub polled : new.polled ≡ old.polled
   pub puts : new.puts ≡ old.puts
   pub taken : new.taken ≡ old.taken
+  pub home : new.home ≡ old.home
   pub log : KeepsLog old new
 
 -- a clause learned has a literal or more, a unit's line one, and only the empty clause is derived
@@ -82,6 +84,59 @@ opening_of s = record { journal = []; starts = map start_of s.start; units = s.o
 abbrev pub AreNew : PortState → Type 0
 AreNew s = EachAfter (IsNew (opening_of s)) [] s.mine
 
+-- the line of a unit that propagation made true
+abbrev pub is_unit_line : Kind → Bool
+is_unit_line Ruler = false
+is_unit_line Learn = false
+is_unit_line Derive = false
+is_unit_line UnitLine = true
+
+-- the unit is neither listed from the start nor given, and the ring has not added it
+pub record IsUntold (listed given : List Literal) (ring : ℕ) (before : List Entry) (l : Literal) : Type 0 where
+  pub not_listed : has listed l ≡ false
+  pub not_given : has given l ≡ false
+  pub not_added : adds_unit ring before l ≡ false
+
+-- a unit's line adds such a one
+abbrev pub IsNewLine : List Literal → List Literal → ℕ → List Entry → Entry → Type 0
+IsNewLine listed given ring before e = IfSome (addition e) (λ x. is_unit_line x.kind ≡ true → All (IsUntold listed given ring before) x.lits)
+
+-- no unit's line of the ring adds one that is listed from the start, that it was given or that it had added before
+abbrev pub AreNewLines : PortState → Type 0
+AreNewLines s = EachAfter (IsNewLine s.opening s.given s.ring) [] s.mine
+
+-- the clauses that the ring searches over: those that it started with, those that it learned since it last reduced, and the
+-- units seen
+abbrev pub searched : PortState → List (List Literal)
+searched s = start_lits s ++ (recent s.ring s.mine ++ map (λ l. l ∷ []) s.seen)
+
+-- each literal that plain rounds of unit propagation give from nothing is seen
+abbrev pub IsTold : PortState → Type 0
+IsTold s = (l : Literal) → Rounds (searched s) [] l ≡ true → has s.seen l ≡ true
+
+-- the glue counts levels: one at least, and fewer than the clause has literals
+pub record IsGlued (h : Holding) : Type 0 where
+  pub some : 1 ≤ h.glue
+  pub few : h.glue < length h.lits
+
+-- what is held was held before, or has such a glue
+abbrev pub HoldsGlued : PortState → PortState → Type 0
+HoldsGlued old new = (h : Holding) → Contains new.held h → Contains old.held h ⊎ IsGlued h
+
+-- a model comes after one look more
+abbrev pub last_looks : End → ℕ
+last_looks (Sat a) = 1
+last_looks Refuted = 0
+last_looks Spent = 0
+last_looks (Stopped x) = 0
+last_looks (NoHole need largest) = 0
+last_looks ProofFault = 0
+last_looks Memory = 0
+
+-- as many looks as this were made and found no stop, or their count stands at its last value
+abbrev pub HasLooked : ℕ → PortState → Type 0
+HasLooked n s = min n (2 ^ 64 - 1) ≤ s.looks
+
 -- as many clauses were learned as are counted, and none was offered
 pub record IsCounted (s : PortState) (counts : Counts) : Type 0 where
   pub learned_is : counts.learned ≡ length (learned s.ring s.mine)
@@ -100,16 +155,17 @@ pub record IsModelOf (s : PortState) (a : List Bool) : Type 0 where
   pub opening : All (λ l. lit_true a l ≡ true) s.opening
   pub seen : All (λ l. lit_true a l ≡ true) s.seen
 
--- each start clause is still held; the ring set no stop and did not end the log, and no line has failed
+-- each start clause is still held; the ring saw no stop, set none and did not end the log, and no line has failed
 pub record IsSpent (s : PortState) : Type 0 where
   pub held : HoldsStart s
-  pub stop : IfSome s.stop (λ x. x.ring ≢ s.ring)
+  pub stop : s.stop ≡ None
   pub going : list_any is_empty (added s.mine) ≡ false
   pub usable : is_usable s.refused ≡ true
 
--- the cause of each end; no line has failed but at `ProofFault`, and perhaps at `Stopped`
+-- the cause of each end; at a model all that is true for good is seen; no line has failed but at `ProofFault`, and perhaps at
+-- `Stopped`
 abbrev pub Ends : PortState → End → Type 0
-Ends s (Sat a) = IsModelOf s a × HasWon s STOP_SAT × (is_usable s.refused ≡ true)
+Ends s (Sat a) = IsModelOf s a × HasWon s STOP_SAT × (is_usable s.refused ≡ true) × IsTold s
 Ends s Refuted = (s.ended ≡ true) × HasWon s STOP_REFUTED × (is_usable s.refused ≡ true)
 Ends s Spent = IsSpent s
 Ends s (Stopped x) = (s.stop ≡ Some x) × (x.ring ≢ s.ring)

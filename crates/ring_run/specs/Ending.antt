@@ -4,7 +4,7 @@ use Rattle.sat_words.specs.declared.shared.TheConstants.{STOP_SAT, STOP_REFUTED,
 use Rattle.ring_port.specs.PortState.{PortState}
 use Rattle.ring_port.specs.Port.{is_usable}
 use Rattle.ring_port.specs.declared.stops.PortStop.TheVariants.{NoHole as NoHoleAnswer}
-use Rattle.ring_run.specs.Ended.{IsModelOf, IsSpent}
+use Rattle.ring_run.specs.Ended.{IsModelOf, IsSpent, IsTold}
 use Rattle.ring_run.specs.Searching.{Runs, IsNoted}
 use Rattle.ring_run.specs.declared.job.End.{End}
 use Rattle.ring_run.specs.declared.job.End.TheVariants.{Sat, Refuted, Spent, Stopped, NoHole, ProofFault, Memory}
@@ -23,7 +23,7 @@ kind_of (Stopped x) = 0
 
 -- why a ring may set its stop for this end
 abbrev pub Cause : PortState → End → Type 0
-Cause s (Sat a) = IsModelOf s a × (is_usable s.refused ≡ true)
+Cause s (Sat a) = IsModelOf s a × (is_usable s.refused ≡ true) × IsTold s
 Cause s Refuted = (s.ended ≡ true) × (is_usable s.refused ≡ true)
 Cause s (NoHole need largest) = (s.refused ≡ Some (NoHoleAnswer need largest)) × (largest < need)
 Cause s ProofFault = is_usable s.refused ≡ false
@@ -54,7 +54,7 @@ KeepsRuns old new = (start : PortState) (count : ℕ) → Runs start old count �
 
 -- what a finding says of the port
 abbrev pub IsFinding : PortState → Finding → Type 0
-IsFinding s (Model a) = IsModelOf s a × (s.stop ≡ None) × (is_usable s.refused ≡ true)
+IsFinding s (Model a) = IsModelOf s a × (s.stop ≡ None) × (is_usable s.refused ≡ true) × IsTold s
 IsFinding s Ended = (s.ended ≡ true) × (s.stop ≡ None) × (is_usable s.refused ≡ true)
 IsFinding s Limit = IsSpent s
 IsFinding s (Seen x) = (s.stop ≡ Some x) × (x.ring ≢ s.ring)

@@ -3,3 +3,4 @@ pub mod Searching
 pub mod Finding
 pub mod Ending
 pub mod Problems
+pub mod Crowd

@@ -1,5 +1,5 @@
 -- What a search keeps of its port and its trail.
-use Rattle.std.specs.Prelude.{◌≡◌, ◌⊎◌, ℕ, ◌<◌, ◌≤◌, true, false, List, [], ◌∷◌, map, length, All, Contains, Some, None, IsSome}
+use Rattle.std.specs.Prelude.{◌≡◌, ◌⊎◌, ℕ, ◌<◌, ◌≤◌, true, false, List, [], ◌∷◌, map, length, drop, All, Contains, Some, None, IsSome}
 use Rattle.std.specs.List.{list_any}
 use Rattle.sat_words.specs.Literal.{Literal}
 use Rattle.sat_words.specs.Clause.{has, is_empty}
@@ -12,11 +12,11 @@ use Rattle.ring_port.specs.declared.stops.PortStop.{PortStop}
 use Rattle.ring_port.specs.declared.stops.PortStop.TheVariants.{Ended, Broken, ProofFault, NoHole, Memory}
 use Rattle.ring_port.specs.PortState.{PortState, Holding, HoldsStart, IsPort, held_at, lits_at, known, clause_at}
 use Rattle.ring_trail.specs.declared.step.Step.{Step}
-use Rattle.ring_trail.specs.TrailData.{TrailData, IsFalseOn}
+use Rattle.ring_trail.specs.TrailData.{TrailData, IsFalseOn, lit_at, level_at, reason_at}
 use Rattle.ring_trail.specs.Reasoned.{IsReasoned}
 use Rattle.ring_trail.specs.Closed.{TrueWithin, IsClosedClause}
-use Rattle.analyze.specs.Levels.{level_of_lit}
-use Rattle.ring_run.specs.Ended.{Stays, IsOwn, AreNew, opening_of}
+use Rattle.analyze.specs.Levels.{level_of_lit, count_of_levels}
+use Rattle.ring_run.specs.Ended.{Stays, IsOwn, AreNew, AreNewLines, HoldsGlued, opening_of}
 use Rattle.ring_run.specs.declared.units.Units.{Units}
 use Rattle.ring_run.specs.declared.units.Units.TheVariants.{Opposed, True}
 
@@ -62,6 +62,7 @@ pub record OnlySaw (old new : PortState) : Type 0 where
   pub mine : new.mine ≡ old.mine
   pub stop : new.stop ≡ old.stop
   pub refused : new.refused ≡ old.refused
+  pub looks : new.looks ≡ old.looks
   pub more : (l : Literal) → has old.seen l ≡ true → has new.seen l ≡ true
 
 -- lines of units were written, which are seen now
@@ -81,6 +82,24 @@ SeenTrue s steps = (l : Literal) → has s.seen l ≡ true → TrueWithin steps 
 abbrev pub OpeningSeen : PortState → Type 0
 OpeningSeen s = (l : Literal) → has s.opening l ≡ true → has s.seen l ≡ true
 
+-- each unit of the opening is seen, and each that the ring added
+pub record UnitsSeen (s : PortState) : Type 0 where
+  pub opening : OpeningSeen s
+  pub added : (l : Literal) → adds_unit s.ring s.mine l ≡ true → has s.seen l ≡ true
+
+-- each literal at level 0 is one of the first n
+abbrev pub AreFirst : TrailData → ℕ → Type 0
+AreFirst t n = (p : ℕ) → p < length t.steps → level_at t.steps p ≡ 0 → p < n
+
+-- the first n literals are at level 0 and seen; of those behind, none that has a reason is seen; above level 0 none of these
+-- is at level 0
+pub record AreTold (s : PortState) (t : TrailData) (n : ℕ) : Type 0 where
+  pub few : n ≤ length t.steps
+  pub low : (p : ℕ) → p < n → level_at t.steps p ≡ 0
+  pub first : (p : ℕ) → p < n → has s.seen (lit_at t.steps p) ≡ true
+  pub rest : (p : ℕ) → n ≤ p → p < length t.steps → IsSome (reason_at t.steps p) → has s.seen (lit_at t.steps p) ≡ false
+  pub all : 0 < t.level → AreFirst t n
+
 -- the trail is of the port's variables, its literals have their causes, and what is seen is true
 pub record Stands (s : PortState) (t : TrailData) : Type 0 where
   pub vars : t.vars ≡ s.vars
@@ -99,6 +118,8 @@ pub record Runs (start s : PortState) (count : ℕ) : Type 0 where
   pub wrote : All (IsOwn start.ring start.vars) s.mine
   pub counted : count ≡ length (learned s.ring s.mine)
   pub each_new : AreNew s
+  pub new_lines : AreNewLines s
+  pub glued : HoldsGlued start s
   pub port : IsPort s
 
 -- nothing has ended it yet
@@ -142,6 +163,14 @@ EndsBy old new stop = (start : PortState) (count : ℕ) → GoesOn start old cou
 pub record IsNewTo (s : PortState) (c : List Literal) : Type 0 where
   pub unknown : IsFreshClause s c
   pub unlisted : is_new (opening_of s) s.mine s.ring c ≡ true
+
+-- the glue of a lemma is how many levels its literals but the first have
+abbrev pub IsGlueOf : List Step → List Literal → ℕ → Type 0
+IsGlueOf steps lits glue = glue ≡ count_of_levels steps (drop 1 lits)
+
+-- what is held was held before, or has the glue that its literals have on this trail
+abbrev pub HoldsByGlue : PortState → PortState → List Step → Type 0
+HoldsByGlue old new steps = (h : Holding) → Contains new.held h → Contains old.held h ⊎ IsGlueOf steps h.lits h.glue
 
 -- a new clause that follows and, after going back, leaves its first literal the only one that isn't false; below that level
 -- it asks for nothing

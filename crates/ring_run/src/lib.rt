@@ -18,4 +18,6 @@ pub use run::run_ring;
 #[cfg(test)]
 mod tests;
 #[cfg(test)]
+mod tests_port;
+#[cfg(test)]
 mod tests_row;

@@ -1,13 +1,14 @@
 // A run of a ring, from its job to its end.
-ghost use Rattle.std.specs.Prelude.{◌≡◌, ◌≤◌, ◌<◌, ◌++◌, ◌^◌, ◌↔◌, All, IfOk, OnOk, [], None, false};
+ghost use Rattle.std.specs.Prelude.{◌≡◌, ◌≤◌, ◌<◌, ◌+◌, ◌++◌, ◌^◌, ◌↔◌, All, IfOk, OnOk, [], None, false};
 ghost use Rattle.sat_words.specs.declared.shared.TheConstants.{STOP_SAT, STOP_REFUTED, STOP_MEMORY};
 ghost use Rattle.ring_port.specs.PortState.{IsPort, lits_at};
 ghost use Rattle.ring_port.specs.Port.{KeepsHeld};
 ghost use Rattle.ring_trail.specs.TrailData.{TrailData, IsTrail};
 ghost use Rattle.watch_prop.specs.WatchData.{attached};
 ghost use Rattle.watch_prop.specs.Watched.{Watched, IsFresh};
-ghost use Rattle.ring_run.specs.Ended.{IsJobOf, IsUntouched, Stays, IsOwn, IsCounted, AreNew, Ends};
+ghost use Rattle.ring_run.specs.Ended.{IsJobOf, IsUntouched, Stays, IsOwn, IsCounted, AreNew, AreNewLines, HoldsGlued, HasLooked, last_looks, Ends};
 ghost use Rattle.ring_run.specs.Searching.{IsHeldBy, IsNoted};
+ghost use Rattle.ring_run.specs.Finding.{looked_for};
 ghost use Rattle.ring_run.specs.Ending.{Cause, kind_of, KeepsRuns, IsFinding, is_spent, has_spent};
 
 use crate::job::{Counts, End, Job};
@@ -22,7 +23,11 @@ use watch_prop::Watches;
 /// Runs a ring until it has an answer, sees the stop of another ring, or has learned its limit of lemmas.
 ///
 /// The port holds each start clause of the job, and has done nothing for this ring yet. Units of the opening get no line.
-/// A literal that propagation makes true without a decision gets the line of a unit before the next decision.
+/// A literal that propagation makes true without a decision gets the line of a unit before the next decision, one line.
+///
+/// A look at the stop comes before each decision, and the ring goes on only where it found none. A lemma takes a decision
+/// back, so that no more lemmas were learned than such looks were made; a model comes after one look more. The looks
+/// count up to the last value of 64 bits.
 ///
 /// Every end but `Spent` and `Stopped` has set this ring's stop, and was the first to set one: a ring that comes second
 /// answers `Stopped` with the stop that stands. A call of the port that was refused for want of memory, room or a write
@@ -36,6 +41,9 @@ pub fn run_ring<P: Port>(alloc: Global, port: &mut P, job: &Job) -> (End, Counts
     ensures kept { KeepsHeld (P.state port.old) (P.state port.new) }
     ensures wrote { All (IsOwn (P.state port.old).ring (P.state port.old).vars) (P.state port.new).mine }
     ensures new { AreNew (P.state port.new) }
+    ensures new_lines { AreNewLines (P.state port.new) }
+    ensures glued { HoldsGlued (P.state port.old) (P.state port.new) }
+    ensures looked { HasLooked ((P.state port.old).looks + result.1.learned + last_looks result.0) (P.state port.new) }
     ensures counts { IsCounted (P.state port.new) result.1 }
     ensures within { result.1.learned ≤ job.now.conflicts }
     ensures spent { (result.0 ≡ End.Spent) ↔ (result.1.learned ≡ job.now.conflicts) }
@@ -89,6 +97,7 @@ pub(crate) fn make_ring<P: Port>(alloc: Global, port: &mut P, job: &Job) -> Resu
     ensures attached { IfOk result (λ ring. attached ring.watches ≡ job.now.start) }
     ensures watched { IfOk result (λ ring. (t : TrailData) → t.vars ≡ job.now.vars → IsFresh t → Watched ring.watches (lits_at (P.state port.old)) t) }
     ensures learned { IfOk result (λ ring. ring.learned ≡ 0) }
+    ensures written { IfOk result (λ ring. ring.written ≡ 0) }
 {
     let trail = Trail::new(alloc, job.vars)?;
     let mut watches = Watches::new(alloc, job.vars)?;
@@ -111,6 +120,8 @@ fn claim<P: Port>(port: &mut P, kind: u8, end: End) -> End
     ensures ends { Ends (P.state port.new) result }
     ensures runs { KeepsRuns (P.state port.old) (P.state port.new) }
     ensures spent { is_spent result ≡ false }
+    ensures looks { (P.state port.new).looks ≡ (P.state port.old).looks }
+    ensures looked { last_looks result ≤ last_looks end }
     ensures port { IsPort (P.state port.new) }
 {
     match port.stop(kind) {
@@ -126,6 +137,8 @@ fn end_refused<P: Port>(port: &mut P, stop: PortStop) -> End
     ensures ends { Ends (P.state port.new) result }
     ensures runs { KeepsRuns (P.state port.old) (P.state port.new) }
     ensures spent { is_spent result ≡ false }
+    ensures looks { (P.state port.new).looks ≡ (P.state port.old).looks }
+    ensures looked { last_looks result ≡ 0 }
     ensures port { IsPort (P.state port.new) }
 {
     match stop {
@@ -145,6 +158,8 @@ fn end_of<P: Port>(port: &mut P, finding: Finding) -> End
     ensures ends { Ends (P.state port.new) result }
     ensures runs { KeepsRuns (P.state port.old) (P.state port.new) }
     ensures spent { is_spent result ≡ has_spent finding }
+    ensures looks { (P.state port.new).looks ≡ (P.state port.old).looks }
+    ensures looked { last_looks result ≤ looked_for finding }
     ensures port { IsPort (P.state port.new) }
 {
     match finding {

@@ -10,8 +10,9 @@ ghost use Rattle.ring_trail.specs.TrailData.{TrailData, IsTrail, IsTrueOn, value
 ghost use Rattle.watch_prop.specs.WatchData.{attached};
 ghost use Rattle.watch_prop.specs.Watched.{Watched};
 ghost use Rattle.watch_prop.specs.Propagation.{IsConflict, IsQuiet};
-ghost use Rattle.ring_run.specs.Searching.{IsAsserting, KeepsOn, EndsBy, GoesOn};
-ghost use Rattle.ring_run.specs.Finding.{InSearch, GoesOnBy, FoundBy, IsRefutedBy, CanAssert, Asserted, IsAnswerOf, IsFurther, IsBegun, Finds};
+ghost use Rattle.ring_run.specs.Ended.{HasLooked};
+ghost use Rattle.ring_run.specs.Searching.{IsAsserting, IsGlueOf, HoldsByGlue, AreFirst, KeepsOn, EndsBy, GoesOn};
+ghost use Rattle.ring_run.specs.Finding.{InSearch, GoesOnBy, FoundBy, IsRefutedBy, CanAssert, Asserted, IsAnswerOf, IsFurther, IsBegun, Finds, IsLooking, KeepsLooking, TakesALook, looked_for};
 
 use crate::units::{Units, take_units, write_units};
 use analyze::{Analysis, Conclusion};
@@ -54,6 +55,9 @@ pub(crate) fn refute<P: Port>(port: &mut P) -> Finding
     requires usable { (P.state port.old).refused ≡ None }
     requires rup { rup (known (P.state port.old)) [] ≡ true }
     ensures found { IsRefutedBy (P.state port.old) (P.state port.new) result }
+    ensures held { (P.state port.new).held ≡ (P.state port.old).held }
+    ensures looks { (P.state port.new).looks ≡ (P.state port.old).looks }
+    ensures none { looked_for result ≡ 0 }
     ensures port { IsPort (P.state port.new) }
 {
     match port.empty() {
@@ -95,6 +99,7 @@ fn assert_lemma<P: Port>(
     ensures same { P.state port.new ≡ P.state port.old }
     ensures asserted { OnOk result (Asserted (P.state port.old) ring.old ring.new lits.now back address) }
     ensures learned { ring.new.learned ≡ ring.old.learned }
+    ensures written { ring.new.written ≡ ring.old.written }
 {
     ring.trail.back_to(back);
     attach_lemma(port, &ring.trail, &mut ring.watches, address)?;
@@ -114,8 +119,11 @@ fn learn_lemma<P: Port>(
     requires search { InSearch (P.state port.old) ring.old }
     requires below { ring.old.learned < limit }
     requires lemma { IsAsserting (P.state port.old) ring.old.trail lits.now back }
+    requires glue { IsGlueOf ring.old.trail.steps lits.now glue }
     ensures found { MatchOption result (GoesOnBy (P.state port.old) ring.old (P.state port.new) ring.new limit) (FoundBy (P.state port.old) ring.old.learned (P.state port.new) ring.new.learned limit) }
     ensures more { result ≡ None → ring.new.learned ≡ ring.old.learned + 1 }
+    ensures stored { HoldsByGlue (P.state port.old) (P.state port.new) ring.old.trail.steps }
+    ensures looks { KeepsLooking (P.state port.old) ring.old (P.state port.new) ring.new result }
     ensures port { IsPort (P.state port.new) }
 {
     let address = match port.learn(lits, glue) {
@@ -146,6 +154,8 @@ fn learn_from<P: Port>(
     requires conflict { IsConflict ring.old.watches (lits_at (P.state port.old)) ring.old.trail conflict }
     ensures found { MatchOption result (GoesOnBy (P.state port.old) ring.old (P.state port.new) ring.new limit) (FoundBy (P.state port.old) ring.old.learned (P.state port.new) ring.new.learned limit) }
     ensures more { result ≡ None → ring.new.learned ≡ ring.old.learned + 1 }
+    ensures stored { HoldsByGlue (P.state port.old) (P.state port.new) ring.old.trail.steps }
+    ensures looks { KeepsLooking (P.state port.old) ring.old (P.state port.new) ring.new result }
     ensures vars { analysis.new.vars ≡ analysis.old.vars }
     ensures port { IsPort (P.state port.new) }
 {
@@ -199,7 +209,7 @@ fn answer(alloc: Global, trail: &Trail) -> Finding
 }
 
 /// Decides the least variable without a value, false. Where there is none, each clause is true. None where the search
-/// goes on.
+/// goes on. A look that found no stop came before.
 fn decide_least<P: Port>(
     alloc: Global,
     port: &mut P,
@@ -209,9 +219,11 @@ fn decide_least<P: Port>(
     requires search { InSearch (P.state port.old) ring.old }
     requires below { ring.old.learned < limit }
     requires quiet { IsQuiet ring.old.watches (lits_at (P.state port.old)) ring.old.trail }
+    requires first { AreFirst ring.old.trail ring.old.written }
     ensures found { MatchOption result (GoesOnBy (P.state port.old) ring.old (P.state port.new) ring.new limit) (FoundBy (P.state port.old) ring.old.learned (P.state port.new) ring.new.learned limit) }
     ensures learned { ring.new.learned ≡ ring.old.learned }
     ensures longer { result ≡ None → length ring.old.trail.steps < length ring.new.trail.steps }
+    ensures looks { TakesALook (P.state port.old) ring.old ring.new result }
     ensures port { IsPort (P.state port.new) }
     ensures same { P.state port.new ≡ P.state port.old }
 {
@@ -225,12 +237,14 @@ fn decide_least<P: Port>(
 }
 
 /// Writes the lines of literals that are true without a decision, as far as they have none yet.
-fn write_pending<P: Port>(port: &mut P, ring: &mut Ring) -> Result<(), PortStop>
+pub(crate) fn write_pending<P: Port>(port: &mut P, ring: &mut Ring) -> Result<(), PortStop>
     requires search { InSearch (P.state port.old) ring.old }
     ensures ok { OnOk result (KeepsOn (P.state port.old) (P.state port.new)) }
     ensures over { IfErr result (EndsBy (P.state port.old) (P.state port.new)) }
     ensures search { OnOk result (InSearch (P.state port.new) ring.new) }
     ensures held { (P.state port.new).held ≡ (P.state port.old).held }
+    ensures looks { (P.state port.new).looks ≡ (P.state port.old).looks }
+    ensures first { OnOk result (AreFirst ring.new.trail ring.new.written) }
     ensures trail { ring.new.trail ≡ ring.old.trail }
     ensures watches { ring.new.watches ≡ ring.old.watches }
     ensures learned { ring.new.learned ≡ ring.old.learned }
@@ -257,6 +271,7 @@ fn decide_next<P: Port>(alloc: Global, port: &mut P, ring: &mut Ring, limit: u64
     ensures found { MatchOption result (GoesOnBy (P.state port.old) ring.old (P.state port.new) ring.new limit) (FoundBy (P.state port.old) ring.old.learned (P.state port.new) ring.new.learned limit) }
     ensures learned { ring.new.learned ≡ ring.old.learned }
     ensures longer { result ≡ None → length ring.old.trail.steps < length ring.new.trail.steps }
+    ensures looks { KeepsLooking (P.state port.old) ring.old (P.state port.new) ring.new result }
     ensures port { IsPort (P.state port.new) }
 {
     if let Some(stop) = port.stopped() {
@@ -281,6 +296,7 @@ fn turn<P: Port>(
     requires vars { analysis.old.vars ≡ ring.old.trail.vars }
     ensures found { MatchOption result (GoesOnBy (P.state port.old) ring.old (P.state port.new) ring.new limit) (FoundBy (P.state port.old) ring.old.learned (P.state port.new) ring.new.learned limit) }
     ensures further { result ≡ None → IsFurther ring.old ring.new }
+    ensures looks { KeepsLooking (P.state port.old) ring.old (P.state port.new) ring.new result }
     ensures vars { analysis.new.vars ≡ analysis.old.vars }
     ensures port { IsPort (P.state port.new) }
 {
@@ -308,6 +324,7 @@ pub(crate) fn search<P: Port>(
     requires below { ring.old.learned < limit }
     requires vars { analysis.old.vars ≡ ring.old.trail.vars }
     ensures found { Finds (P.state port.old) (P.state port.new) ring.new.learned limit result }
+    ensures looks { (base : ℕ) → IsLooking base (P.state port.old) ring.old → HasLooked (base + ring.new.learned + looked_for result) (P.state port.new) }
     ensures port { IsPort (P.state port.new) }
 {
     match take_units(port, &mut ring.trail) {

@@ -67,7 +67,7 @@ fn three_clauses(alloc: Global) -> Result<(Formula, Vec<(u64, Clause)>), AllocEr
 }
 
 /// Two clauses that oppose each other where 1 and 2 are false.
-fn two_clauses(alloc: Global) -> Result<(Formula, Vec<(u64, Clause)>), AllocError>
+pub(crate) fn two_clauses(alloc: Global) -> Result<(Formula, Vec<(u64, Clause)>), AllocError>
     ensures formula { IfOk result (λ made. made.0 ≡ record { vars = 3; clauses = triples }) }
     ensures start { IfOk result (λ made. made.1.items ≡ triples_starts) }
 {
@@ -132,7 +132,7 @@ fn run_on_four<'a>(
     run_on(alloc, &formula, &start, &[], conflicts, failing)
 }
 
-fn counted(learned: u64) -> Counts {
+pub(crate) fn counted(learned: u64) -> Counts {
     Counts {
         learned,
         exported: 0,

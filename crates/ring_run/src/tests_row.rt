@@ -7,7 +7,7 @@ ghost use Rattle.ring_run.specs.Finding.{InSearch, IsBegun};
 ghost use Rattle.ring_run.specs.Problems.{IsReady, row, row_starts};
 
 use crate::run::make_ring;
-use crate::search::Ring;
+use crate::search::{Ring, write_pending};
 use crate::tests::put;
 use crate::units::{Units, take_units};
 use crate::{Addresses, Job};
@@ -117,6 +117,9 @@ fn decide_and_propagate<P: Port>(
     if ring.trail.value(lit.var()).is_some() {
         return Err(Fail::from("the variable has a value"));
     }
+    let Ok(()) = write_pending(port, ring) else {
+        return Err(Fail::from("no line"));
+    };
     ring.trail.decide(lit);
     propagate(port, ring)
 }

@@ -1,9 +1,9 @@
 // Units: those that come from outside, and those that propagation makes true for good.
-ghost use Rattle.std.specs.Prelude.{◌≡◌, ◌≤◌, ◌<◌, [], None, OnOk, IfErr, length};
+ghost use Rattle.std.specs.Prelude.{◌≡◌, ◌≤◌, ◌<◌, ◌+◌, ℕ, [], None, OnOk, IfErr, length};
 ghost use Rattle.ring_port.specs.PortState.{IsPort};
-ghost use Rattle.ring_trail.specs.TrailData.{HasGrown, IsTrail};
+ghost use Rattle.ring_trail.specs.TrailData.{HasGrown, IsTrail, reason_at};
 ghost use Rattle.watch_prop.specs.Propagation.{HasReasons};
-ghost use Rattle.ring_run.specs.Searching.{OnlySaw, Stands, AreTaken, OnlyWrote, KeepsOn, EndsBy};
+ghost use Rattle.ring_run.specs.Searching.{OnlySaw, Stands, AreTaken, AreTold, UnitsSeen, OnlyWrote, KeepsOn, EndsBy};
 
 use ring_port::{Port, PortStop};
 use ring_trail::Trail;
@@ -24,10 +24,12 @@ pub(crate) fn take_units<P: Port>(port: &mut P, trail: &mut Trail) -> Units
     requires port { IsPort (P.state port.old) }
     requires stands { Stands (P.state port.old) trail.old }
     requires reasons { HasReasons [] (P.state port.old) trail.old.steps }
+    requires bare { (p : ℕ) → p < length trail.old.steps → reason_at trail.old.steps p ≡ None }
     ensures saw { OnlySaw (P.state port.old) (P.state port.new) }
     ensures grown { HasGrown trail.old trail.new }
     ensures taken { AreTaken (P.state port.new) trail.new result }
     ensures reasons { HasReasons [] (P.state port.new) trail.new.steps }
+    ensures bare { (p : ℕ) → p < length trail.new.steps → reason_at trail.new.steps p ≡ None }
     ensures trail { IsTrail trail.new }
     ensures port { IsPort (P.state port.new) }
 {
@@ -41,19 +43,25 @@ pub(crate) fn take_units<P: Port>(port: &mut P, trail: &mut Trail) -> Units
     Units::True
 }
 
-/// Writes a unit's line for the literal at this place, if it has a reason: one without is a unit that was given or learned.
+/// Writes a unit's line for the literal at this place, if it has a reason: one without is a unit that was given or learned,
+/// which is seen already and gets no line.
 fn write_unit<P: Port>(port: &mut P, trail: &Trail, place: u32) -> Result<(), PortStop>
     requires level { trail.now.level ≡ 0 }
     requires trail { IsTrail trail.now }
     requires place { place < length trail.now.steps }
     requires stands { Stands (P.state port.old) trail.now }
+    requires told { AreTold (P.state port.old) trail.now place }
+    requires units { UnitsSeen (P.state port.old) }
     requires port { IsPort (P.state port.old) }
     requires refused { (P.state port.old).refused ≡ None }
     ensures ok { OnOk result (KeepsOn (P.state port.old) (P.state port.new)) }
     ensures over { IfErr result (EndsBy (P.state port.old) (P.state port.new)) }
     ensures stands { OnOk result (Stands (P.state port.new) trail.now) }
+    ensures told { OnOk result (AreTold (P.state port.new) trail.now (place + 1)) }
+    ensures units { OnOk result (UnitsSeen (P.state port.new)) }
     ensures wrote { OnOk result (OnlyWrote (P.state port.old) (P.state port.new)) }
     ensures held { (P.state port.new).held ≡ (P.state port.old).held }
+    ensures looks { (P.state port.new).looks ≡ (P.state port.old).looks }
     ensures port { IsPort (P.state port.new) }
 {
     if trail.reason_at(place).is_none() {
@@ -71,13 +79,18 @@ pub(crate) fn write_units<P: Port>(
     requires level { trail.now.level ≡ 0 }
     requires trail { IsTrail trail.now }
     requires stands { Stands (P.state port.old) trail.now }
+    requires told { AreTold (P.state port.old) trail.now written }
+    requires units { UnitsSeen (P.state port.old) }
     requires port { IsPort (P.state port.old) }
     requires refused { (P.state port.old).refused ≡ None }
     ensures ok { OnOk result (KeepsOn (P.state port.old) (P.state port.new)) }
     ensures over { IfErr result (EndsBy (P.state port.old) (P.state port.new)) }
     ensures stands { OnOk result (Stands (P.state port.new) trail.now) }
+    ensures told { OnOk result (AreTold (P.state port.new) trail.now (length trail.now.steps)) }
+    ensures units { OnOk result (UnitsSeen (P.state port.new)) }
     ensures wrote { OnOk result (OnlyWrote (P.state port.old) (P.state port.new)) }
     ensures held { (P.state port.new).held ≡ (P.state port.old).held }
+    ensures looks { (P.state port.new).looks ≡ (P.state port.old).looks }
     ensures port { IsPort (P.state port.new) }
 {
     for place in written..trail.len() {

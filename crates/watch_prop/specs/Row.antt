@@ -25,6 +25,7 @@ row_state = record {
   held = first ∷ second ∷ third ∷ [];
   waiting = [];
   seen = lit 1 false ∷ lit 4 false ∷ [];
+  given = [];
   coming = 0;
   start = [];
   opening = [];
@@ -38,9 +39,11 @@ row_state = record {
   rings = 2;
   last = None;
   stop = Some (record { kind = 1; ring = 1 });
+  looks = 0;
   refused = None;
   ended = false;
   output = None;
+  home = [];
 }
 
 -- the watches keep up with a trail at level 0 over this port

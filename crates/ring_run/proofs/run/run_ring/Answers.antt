@@ -1,4 +1,5 @@
-use Rattle.std.proofs.Common.{sym, subst}
+use Rattle.std.proofs.Common.{ap, sym, subst, arith}
+use Rattle.ring_trail.specs.TrailData.{TrailData}
 use Rattle.ring_port.specs.PortState.{PortState}
 use Rattle.ring_run.specs.Searching.{GoesOn}
 use Rattle.ring_run.specs.Finding.{IsBegun}
@@ -63,7 +64,7 @@ search-finding-requires-clause-begun g c =
     let s = g.P.Port.state c.args.port.now in
     let made = c.in-Ok.ensures in
     subst (λ (x : PortState). IsBegun x c.in-Ok.ring) (sym made.same)
-    (begun s c.args.job.now c.in-Ok.ring c.requires.job c.requires.untouched c.requires.port made.trail made.shape made.attached made.watched)
+    (begun s c.args.job.now c.in-Ok.ring c.requires.job c.requires.untouched c.requires.port made.trail made.shape made.attached made.watched made.written)
 
 pub search-finding-requires-clause-goes : goal.search-finding-requires-clause-goes
 search-finding-requires-clause-goes g c =
@@ -104,3 +105,45 @@ returns-clause-counts g c =
     let m = g.P.Port.state c.make_ring.new.port in
     counted_by s (g.P.Port.state c.end_of.new.port) c.search-finding.new.ring.learned (c.end_of.ensures.runs s c.search-finding.new.ring.learned
     (finds_made s m (g.P.Port.state c.search-finding.new.port) c.search-finding.new.ring.learned c.args.job.now.conflicts c.search-finding.result c.make_ring.ensures.same c.search-finding.ensures.found))
+
+pub returns-in_default-clause-new_lines : goal.returns-in_default-clause-new_lines
+returns-in_default-clause-new_lines g c =
+    let s = g.P.Port.state c.args.port.now in
+    (c.end_refused.ensures.runs s 0 (runs_made s (g.P.Port.state c.make_ring.new.port) c.make_ring.ensures.same c.requires.untouched c.requires.port)).new_lines
+
+pub returns-in_default-clause-glued : goal.returns-in_default-clause-glued
+returns-in_default-clause-glued g c =
+    let s = g.P.Port.state c.args.port.now in
+    (c.end_refused.ensures.runs s 0 (runs_made s (g.P.Port.state c.make_ring.new.port) c.make_ring.ensures.same c.requires.untouched c.requires.port)).glued
+
+pub returns-in_default-new-clause-new_lines : goal.returns-in_default-new-clause-new_lines
+returns-in_default-new-clause-new_lines g c =
+    let s = g.P.Port.state c.args.port.now in
+    (c.end_refused-in_default-new.ensures.runs s 0 (runs_made s (g.P.Port.state c.make_ring.new.port) c.make_ring.ensures.same c.requires.untouched c.requires.port)).new_lines
+
+pub returns-in_default-new-clause-glued : goal.returns-in_default-new-clause-glued
+returns-in_default-new-clause-glued g c =
+    let s = g.P.Port.state c.args.port.now in
+    (c.end_refused-in_default-new.ensures.runs s 0 (runs_made s (g.P.Port.state c.make_ring.new.port) c.make_ring.ensures.same c.requires.untouched c.requires.port)).glued
+
+pub returns-clause-new_lines : goal.returns-clause-new_lines
+returns-clause-new_lines g c =
+    let s = g.P.Port.state c.args.port.now in
+    let m = g.P.Port.state c.make_ring.new.port in
+    (c.end_of.ensures.runs s c.search-finding.new.ring.learned
+    (finds_made s m (g.P.Port.state c.search-finding.new.port) c.search-finding.new.ring.learned c.args.job.now.conflicts c.search-finding.result c.make_ring.ensures.same c.search-finding.ensures.found)).new_lines
+
+pub returns-clause-glued : goal.returns-clause-glued
+returns-clause-glued g c =
+    let s = g.P.Port.state c.args.port.now in
+    let m = g.P.Port.state c.make_ring.new.port in
+    (c.end_of.ensures.runs s c.search-finding.new.ring.learned
+    (finds_made s m (g.P.Port.state c.search-finding.new.port) c.search-finding.new.ring.learned c.args.job.now.conflicts c.search-finding.result c.make_ring.ensures.same c.search-finding.ensures.found)).glued
+
+pub returns-clause-looked : goal.returns-clause-looked
+returns-clause-looked g c =
+    let s = g.P.Port.state c.args.port.now in
+    let made = ap (λ (x : PortState). x.looks) c.make_ring.ensures.same in
+    let level = ap (λ (t : TrailData). t.level) c.in-Ok.ensures.trail in
+    let found = c.search-finding.ensures.looks s.looks (omega (arith, made, level, c.in-Ok.ensures.learned)) in
+    omega (arith, found, c.end_of.ensures.looks, c.end_of.ensures.looked)

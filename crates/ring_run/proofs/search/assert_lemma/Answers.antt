@@ -9,5 +9,5 @@ pub assign-requires-clause-free : goal.assign-requires-clause-free
 assign-requires-clause-free g c =
     let a = c.requires.can in
     let first : c.index-lits-0.result ≡ a.first = c.index-lits-0.is ∙ ap (λ (ls : List Literal). get_or ls 0 c.index-lits-0.result) a.parts in
-    let went : WentBack c.args.ring.now.trail c.back_to.new.self c.args.back = record { is = c.back_to.ensures.back; prefix = c.back_to.ensures.prefix; short = c.back_to.ensures.shorter; shape = c.back_to.ensures.trail } in
+    let went : WentBack c.args.ring.now.trail c.back_to.new.self c.args.back = record { is = c.back_to.ensures.back a.level; prefix = c.back_to.ensures.prefix; short = c.back_to.ensures.shorter; shape = c.back_to.ensures.trail } in
     subst (λ (l : Literal). value_of c.back_to.new.self.steps l.var ≡ None) (sym first) (no_value c.back_to.new.self.steps a.first.var (a.free c.back_to.new.self went))

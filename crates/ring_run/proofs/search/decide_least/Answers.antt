@@ -11,10 +11,10 @@ returns-in-Some-clause-found g c =
     let s = g.P.Port.state c.args.port.now in
     let after : Ring = record c.args.ring.now { trail = c.decide.new.self } in
     goes_on_by s s c.args.ring.now after c.args.limit
-    (subst (λ (t : TrailData). Searches s t c.args.ring.now.watches) (sym c.decide.ensures.step)
-    (decided_search s c.args.ring.now.trail c.args.ring.now.watches c.new.result c.requires.search c.requires.quiet (subst IsTrail c.decide.ensures.step c.decide.ensures.trail)))
+    (subst (λ (t : TrailData). Searches s t c.args.ring.now.watches c.args.ring.now.written) (sym c.decide.ensures.step)
+    (decided_search s c.args.ring.now.trail c.args.ring.now.watches c.args.ring.now.written c.new.result c.requires.search c.requires.quiet c.requires.first (subst IsTrail c.decide.ensures.step c.decide.ensures.trail)))
     c.requires.below (λ start p. p)
 
 pub returns-in-None-clause-found : goal.returns-in-None-clause-found
 returns-in-None-clause-found g c =
-    answer_found (g.P.Port.state c.args.port.now) c.args.ring.now c.args.limit c.answer.result c.requires.search c.requires.below c.requires.quiet (c.least_open.ensures.all c.in-None.is) c.answer.ensures
+    answer_found (g.P.Port.state c.args.port.now) c.args.ring.now c.args.limit c.answer.result c.requires.search c.requires.below c.requires.quiet c.requires.first (c.least_open.ensures.all c.in-None.is) c.answer.ensures

@@ -1,31 +1,35 @@
-use Rattle.std.proofs.Common.{subst, sym, arith}
-use Rattle.ring_port.specs.PortState.{PortState, lits_at}
+use Rattle.std.proofs.Common.{◌∙◌, ap, subst, sym, arith}
+use Rattle.ring_port.specs.PortState.{PortState, one_more}
 use Rattle.ring_run.specs.Searching.{GoesOn, IsOver}
-use Rattle.watch_prop.specs.Propagation.{IsQuiet}
-use Rattle.ring_run.proofs.Progress.{stop_seen}
-use Rattle.ring_run.proofs.Turning.{quiet_same, compose}
+use Rattle.ring_run.proofs.Progress.{stop_seen, looked_goes_on}
+use Rattle.ring_run.proofs.Turning.{quiet_same, looked_search, compose}
 use Rattle.ring_run.proofs.search.decide_next.Goals as goal
 
 pub decide_least-requires-clause-quiet : goal.decide_least-requires-clause-quiet
 decide_least-requires-clause-quiet g c =
-    quiet_same (g.P.Port.state c.stopped.new.self) (g.P.Port.state c.write_pending.new.port) c.args.ring.now.trail c.write_pending.new.ring.trail c.args.ring.now.watches c.write_pending.new.ring.watches
-    c.write_pending.ensures.held c.write_pending.ensures.trail c.write_pending.ensures.watches
-    (subst (λ (x : PortState). IsQuiet c.args.ring.now.watches (lits_at x) c.args.ring.now.trail) (sym c.in_default.ensures.looked.1) c.requires.quiet)
+    quiet_same (g.P.Port.state c.args.port.now) (g.P.Port.state c.write_pending.new.port) c.args.ring.now.trail c.write_pending.new.ring.trail c.args.ring.now.watches c.write_pending.new.ring.watches
+    (c.write_pending.ensures.held ∙ ap (λ (x : PortState). x.held) c.in_default.ensures.looked.1) c.write_pending.ensures.trail c.write_pending.ensures.watches c.requires.quiet
 
 pub returns-in-Ok-clause-found : goal.returns-in-Ok-clause-found
 returns-in-Ok-clause-found g c =
     compose c.decide_least.result (g.P.Port.state c.args.port.now) (g.P.Port.state c.write_pending.new.port) (g.P.Port.state c.decide_least.new.port) c.args.ring.now c.write_pending.new.ring c.decide_least.new.ring c.args.limit
     (λ start p. subst (GoesOn start (g.P.Port.state c.write_pending.new.port)) (sym c.write_pending.ensures.learned)
-    (c.in-Ok.ensures.ok start c.args.ring.now.learned (subst (λ (x : PortState). GoesOn start x c.args.ring.now.learned) (sym c.in_default.ensures.looked.1) p)))
+    (c.in-Ok.ensures.ok start c.args.ring.now.learned (looked_goes_on start (g.P.Port.state c.args.port.now) (g.P.Port.state c.stopped.new.self) c.args.ring.now.learned (one_more (g.P.Port.state c.args.port.now).looks) p c.in_default.ensures.looked.1 c.stopped.ensures.log c.stopped.ensures.port)))
     c.decide_least.ensures.found
 
 pub returns-in-Err-clause-found : goal.returns-in-Err-clause-found
 returns-in-Err-clause-found g c = λ start p. (
   subst (λ n. IsOver start (g.P.Port.state c.write_pending.new.port) n c.in-Err.stop) (sym c.write_pending.ensures.learned)
-      (c.in-Err.ensures.over start c.args.ring.now.learned (subst (λ (x : PortState). GoesOn start x c.args.ring.now.learned) (sym c.in_default.ensures.looked.1) p)),
+      (c.in-Err.ensures.over start c.args.ring.now.learned (looked_goes_on start (g.P.Port.state c.args.port.now) (g.P.Port.state c.stopped.new.self) c.args.ring.now.learned (one_more (g.P.Port.state c.args.port.now).looks) p c.in_default.ensures.looked.1 c.stopped.ensures.log c.stopped.ensures.port)),
   omega (arith, c.write_pending.ensures.learned, c.requires.below),
 )
 
 pub returns-in-Some-clause-found : goal.returns-in-Some-clause-found
 returns-in-Some-clause-found g c = λ start p.
     (stop_seen start (g.P.Port.state c.args.port.now) (g.P.Port.state c.stopped.new.self) c.args.ring.now.learned c.in-Some.stop p c.in-Some.ensures.looked c.stopped.ensures.log c.stopped.ensures.port, c.requires.below)
+
+pub write_pending-requires : goal.write_pending-requires
+write_pending-requires g c = record {
+  search = looked_search (g.P.Port.state c.args.port.now) (g.P.Port.state c.stopped.new.self) c.args.ring.now.trail c.args.ring.now.watches c.args.ring.now.written (one_more (g.P.Port.state c.args.port.now).looks) c.requires.search
+      c.in_default.ensures.looked.1 c.stopped.ensures.log c.stopped.ensures.port;
+}

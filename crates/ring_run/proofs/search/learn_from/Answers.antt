@@ -11,7 +11,7 @@ learn_lemma-requires-clause-lemma g c =
     let s = g.P.Port.state c.args.port.now in
     let found = c.in-Lemma.ensures.found in
     let asserting : IsAsserting s c.args.ring.now.trail c.analyze.new.self.lits c.in-Lemma.back =
-    lemma_asserts s c.args.ring.now.trail c.args.ring.now.watches c.args.conflict c.analyze.new.self.lits c.in-Lemma.back c.in-Lemma.glue c.requires.search c.requires.conflict found.0 found.1 in
+    lemma_asserts s c.args.ring.now.trail c.args.ring.now.watches c.args.conflict c.analyze.new.self.lits c.in-Lemma.back c.in-Lemma.glue c.args.ring.now.written c.requires.search c.requires.conflict found.0 found.1 in
     subst (λ (ls : List Literal). IsAsserting (g.P.Port.state c.analyze.new.port) c.args.ring.now.trail ls c.in-Lemma.back) (sym c.lits.ensures)
     (subst (λ (x : PortState). IsAsserting x c.args.ring.now.trail c.analyze.new.self.lits c.in-Lemma.back) (sym c.analyze.ensures.same) asserting)
 

@@ -1,18 +1,19 @@
-use Rattle.std.proofs.Common.{◌+◌, subst, sym, arith}
+use Rattle.std.proofs.Common.{◌+◌, ◌-◌, ◌^◌, ◌<◌, ◌≤◌, min, ap, subst, sym, arith}
 use Rattle.ring_port.specs.PortState.{PortState}
 use Rattle.ring_port.specs.declared.stops.PortStop.TheVariants.{Memory}
-use Rattle.ring_run.specs.Searching.{GoesOn, IsOver}
+use Rattle.ring_run.specs.Searching.{GoesOn, IsOver, HoldsByGlue}
+use Rattle.ring_trail.specs.TrailData.{TrailData}
 use Rattle.ring_run.specs.Finding.{GoesOnBy}
 use Rattle.ring_run.specs.declared.search.Ring.{Ring}
-use Rattle.ring_run.proofs.Asserting.{can_assert}
+use Rattle.ring_run.proofs.Asserting.{can_assert, back_below}
 use Rattle.ring_run.proofs.Learning.{learned_any, goes_on_by, in_search_after}
-use Rattle.ring_run.proofs.Progress.{out_of_memory}
+use Rattle.ring_run.proofs.Progress.{out_of_memory, learned_looks, learned_by_glue}
 use Rattle.ring_run.proofs.search.learn_lemma.Goals as goal
 
 pub returns-then-ring-limit-clause-found : goal.returns-then-ring-limit-clause-found
 returns-then-ring-limit-clause-found g c = λ start p. (
   learned_any start (g.P.Port.state c.args.port.now) (g.P.Port.state c.learn.new.self) c.args.ring.now.learned c.args.glue c.args.ring.now.trail c.args.lits.now c.args.back c.in-Ok.address p
-      c.requires.search.stands c.requires.lemma c.in-Ok.ensures.learned c.learn.ensures.kept c.learn.ensures.log c.learn.ensures.port,
+      c.requires.search.stands c.requires.lemma c.requires.glue c.in-Ok.ensures.learned c.learn.ensures.kept c.learn.ensures.log c.learn.ensures.port,
   c.if-ring-limit.true,
 )
 
@@ -32,7 +33,7 @@ returns-in-Ok-assert_lemma-clause-found g c =
     (omega (arith, count, c.requires.below, c.if-ring-limit.false))
     (λ start p. subst (GoesOn start u) (sym count)
     (learned_any start s u c.args.ring.now.learned c.args.glue c.args.ring.now.trail c.args.lits.now c.args.back c.in-Ok.address p
-    c.requires.search.stands c.requires.lemma c.in-Ok.ensures.learned c.learn.ensures.kept c.learn.ensures.log c.learn.ensures.port)))
+    c.requires.search.stands c.requires.lemma c.requires.glue c.in-Ok.ensures.learned c.learn.ensures.kept c.learn.ensures.log c.learn.ensures.port)))
 
 pub returns-in-Err-assert_lemma-clause-found : goal.returns-in-Err-assert_lemma-clause-found
 returns-in-Err-assert_lemma-clause-found g c = λ start p.
@@ -42,6 +43,39 @@ returns-in-Err-assert_lemma-clause-found g c = λ start p.
       subst (λ (x : PortState). IsOver start x c.assert_lemma.new.ring.learned Memory) (sym c.assert_lemma.ensures.same)
           (out_of_memory start u c.assert_lemma.new.ring.learned (subst (GoesOn start u) (sym count)
           (learned_any start s u c.args.ring.now.learned c.args.glue c.args.ring.now.trail c.args.lits.now c.args.back c.in-Ok.address p
-          c.requires.search.stands c.requires.lemma c.in-Ok.ensures.learned c.learn.ensures.kept c.learn.ensures.log c.learn.ensures.port))),
+          c.requires.search.stands c.requires.lemma c.requires.glue c.in-Ok.ensures.learned c.learn.ensures.kept c.learn.ensures.log c.learn.ensures.port))),
       omega (arith, count, c.requires.below, c.if-ring-limit.false),
     )
+
+pub returns-then-ring-limit-clause-looks : goal.returns-then-ring-limit-clause-looks
+returns-then-ring-limit-clause-looks g c = λ base before.
+    let same = learned_looks (g.P.Port.state c.args.port.now) (g.P.Port.state c.learn.new.self) c.args.lits.now c.args.glue c.in-Ok.address c.in-Ok.ensures.learned in
+    let below = back_below (g.P.Port.state c.args.port.now) c.args.ring.now.trail c.args.lits.now c.args.back c.requires.lemma c.requires.search.trail in
+    omega (arith, before, same, below)
+
+pub returns-in-Ok-assert_lemma-clause-stored : goal.returns-in-Ok-assert_lemma-clause-stored
+returns-in-Ok-assert_lemma-clause-stored g c =
+    subst (λ (x : PortState). HoldsByGlue (g.P.Port.state c.args.port.now) x c.args.ring.now.trail.steps) (sym c.assert_lemma.ensures.same)
+    (learned_by_glue (g.P.Port.state c.args.port.now) (g.P.Port.state c.learn.new.self) c.args.ring.now.trail.steps c.args.lits.now c.args.glue c.in-Ok.address c.in-Ok.ensures.learned c.requires.glue)
+
+pub returns-in-Err-assert_lemma-clause-stored : goal.returns-in-Err-assert_lemma-clause-stored
+returns-in-Err-assert_lemma-clause-stored g c =
+    subst (λ (x : PortState). HoldsByGlue (g.P.Port.state c.args.port.now) x c.args.ring.now.trail.steps) (sym c.assert_lemma.ensures.same)
+    (learned_by_glue (g.P.Port.state c.args.port.now) (g.P.Port.state c.learn.new.self) c.args.ring.now.trail.steps c.args.lits.now c.args.glue c.in-Ok.address c.in-Ok.ensures.learned c.requires.glue)
+
+pub returns-in-Ok-assert_lemma-clause-looks : goal.returns-in-Ok-assert_lemma-clause-looks
+returns-in-Ok-assert_lemma-clause-looks g c = λ base before.
+    let same = learned_looks (g.P.Port.state c.args.port.now) (g.P.Port.state c.learn.new.self) c.args.lits.now c.args.glue c.in-Ok.address c.in-Ok.ensures.learned in
+    let after = ap (λ (x : PortState). x.looks) c.assert_lemma.ensures.same in
+    let below = back_below (g.P.Port.state c.args.port.now) c.args.ring.now.trail c.args.lits.now c.args.back c.requires.lemma c.requires.search.trail in
+    let at = c.in-Ok-assert_lemma.ensures.asserted in
+    let level = ap (λ (t : TrailData). t.level) at.trail in
+    let back = ap (λ (t : TrailData). t.level) at.went.is in
+    omega (arith, before, same, after, below, level, back, c.assert_lemma.ensures.learned)
+
+pub returns-in-Err-assert_lemma-clause-looks : goal.returns-in-Err-assert_lemma-clause-looks
+returns-in-Err-assert_lemma-clause-looks g c = λ base before.
+    let same = learned_looks (g.P.Port.state c.args.port.now) (g.P.Port.state c.learn.new.self) c.args.lits.now c.args.glue c.in-Ok.address c.in-Ok.ensures.learned in
+    let after = ap (λ (x : PortState). x.looks) c.assert_lemma.ensures.same in
+    let below = back_below (g.P.Port.state c.args.port.now) c.args.ring.now.trail c.args.lits.now c.args.back c.requires.lemma c.requires.search.trail in
+    omega (arith, before, same, after, below, c.assert_lemma.ensures.learned)

@@ -1,6 +1,6 @@
-use Rattle.std.proofs.Common.{◌≡◌, ◌<◌, ◌+◌, ◌-◌, ◌*◌, length}
+use Rattle.std.proofs.Common.{◌≡◌, ℕ, ◌<◌, ◌+◌, ◌-◌, ◌*◌, length}
 use Rattle.ring_run.specs.Searching.{GoesOn}
-use Rattle.ring_run.specs.Finding.{InSearch}
+use Rattle.ring_run.specs.Finding.{InSearch, IsLooking}
 use Rattle.ring_run.proofs.search.search.Given as goal
 
 abbrev pub invariant-loop-finding : goal.invariant-loop-finding
@@ -8,6 +8,7 @@ invariant-loop-finding g l = record {
   search : InSearch (g.P.Port.state l.port) l.ring;
   goes : GoesOn (g.P.Port.state l.fn.port) (g.P.Port.state l.port) l.ring.learned;
   below : l.ring.learned < l.limit;
+  looks : (base : ℕ) → IsLooking base (g.P.Port.state l.fn.port) l.fn.ring → IsLooking base (g.P.Port.state l.port) l.ring;
   vars : l.analysis.vars ≡ l.ring.trail.vars;
 }
 

@@ -7,12 +7,12 @@ use Rattle.ring_run.proofs.search.turn.Goals as goal
 
 pub learn_from-requires-clause-search : goal.learn_from-requires-clause-search
 learn_from-requires-clause-search g c =
-    grown_search (g.P.Port.state c.args.port.now) (g.P.Port.state c.propagate.new.port) c.args.ring.now.trail c.propagate.new.trail c.args.ring.now.watches c.propagate.new.self c.requires.search c.propagate.ensures.same
+    grown_search (g.P.Port.state c.args.port.now) (g.P.Port.state c.propagate.new.port) c.args.ring.now.trail c.propagate.new.trail c.args.ring.now.watches c.propagate.new.self c.args.ring.now.written c.requires.search c.propagate.ensures.same
     c.present-lawful.ensures.trail c.propagate.ensures.attached c.propagate.ensures.grown c.propagate.ensures.reasons c.propagate.ensures.watched
 
 pub decide_next-requires-clause-search : goal.decide_next-requires-clause-search
 decide_next-requires-clause-search g c =
-    grown_search (g.P.Port.state c.args.port.now) (g.P.Port.state c.propagate.new.port) c.args.ring.now.trail c.propagate.new.trail c.args.ring.now.watches c.propagate.new.self c.requires.search c.propagate.ensures.same
+    grown_search (g.P.Port.state c.args.port.now) (g.P.Port.state c.propagate.new.port) c.args.ring.now.trail c.propagate.new.trail c.args.ring.now.watches c.propagate.new.self c.args.ring.now.written c.requires.search c.propagate.ensures.same
     c.present-lawful.ensures.trail c.propagate.ensures.attached c.propagate.ensures.grown c.propagate.ensures.reasons c.propagate.ensures.watched
 
 pub returns-in-Conflict-clause-found : goal.returns-in-Conflict-clause-found

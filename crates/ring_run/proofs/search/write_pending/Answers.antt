@@ -1,6 +1,9 @@
+use Rattle.std.proofs.Common.{subst, sym}
+use Rattle.ring_run.specs.Searching.{AreTold}
 use Rattle.ring_run.proofs.Turning.{wrote_search}
 use Rattle.ring_run.proofs.search.write_pending.Goals as goal
 
 pub returns-in-Ok-clause-search : goal.returns-in-Ok-clause-search
 returns-in-Ok-clause-search g c =
-    wrote_search (g.P.Port.state c.args.port.now) (g.P.Port.state c.write_units.new.port) c.args.ring.now.trail c.args.ring.now.watches c.requires.search c.in-Ok.ensures.wrote c.write_units.ensures.port c.in-Ok.ensures.stands
+    wrote_search (g.P.Port.state c.args.port.now) (g.P.Port.state c.write_units.new.port) c.args.ring.now.trail c.args.ring.now.watches c.args.ring.now.written c.len-ring.result c.requires.search c.in-Ok.ensures.wrote c.write_units.ensures.port c.in-Ok.ensures.stands
+    (subst (AreTold (g.P.Port.state c.write_units.new.port) c.args.ring.now.trail) (sym c.len-ring.ensures.len) c.in-Ok.ensures.told)

@@ -12,4 +12,4 @@ returns g c =
     let s = g.P.Port.state c.args.port.now in
     let made = c.in-Ok.ensures in
     subst (λ (x : PortState). IsBegun x c.in-Ok.ring) (sym made.same)
-    (begun s c.args.job.now c.in-Ok.ring c.requires.job c.requires.untouched c.requires.port made.trail made.shape made.attached made.watched)
+    (begun s c.args.job.now c.in-Ok.ring c.requires.job c.requires.untouched c.requires.port made.trail made.shape made.attached made.watched made.written)

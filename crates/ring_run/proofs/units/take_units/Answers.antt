@@ -1,9 +1,10 @@
-use Rattle.std.proofs.Common.{◌≡◌, ◌∙◌, [], subst, sym, None}
+use Rattle.std.proofs.Common.{◌≡◌, ◌∙◌, ℕ, ◌<◌, [], subst, sym, None, length}
 use Rattle.std.specs.Prelude.{MatchBool}
-use Rattle.ring_trail.specs.TrailData.{HasGrown, IsTrueOn, IsFalseOn}
+use Rattle.ring_trail.specs.TrailData.{HasGrown, IsTrueOn, IsFalseOn, reason_at}
 use Rattle.ring_run.specs.Searching.{Stands}
 use Rattle.watch_prop.specs.Propagation.{HasReasons}
 use Rattle.ring_run.proofs.Standing.{took_on, within_zero, saw_more, stands_seen, stands_taken, opposed, grown_by, no_reasons_seen, no_reasons_taken}
+use Rattle.ring_run.proofs.Telling.{bare_more}
 use Rattle.ring_run.proofs.units.take_units.Goals as goal
 
 pub truth-requires : goal.truth-requires
@@ -19,6 +20,7 @@ loop-lit-preserved-in-Some-true g c =
       stands = stands_seen (g.P.Port.state c.loop-lit.port) (g.P.Port.state c.next_unit.new.self) c.loop-lit.trail c.in-Some.lit c.loop-lit.invariant.stands c.in-Some.ensures.took
           (within_zero c.loop-lit.trail c.in-Some.lit c.loop-lit.invariant.trail level here);
       reasons = no_reasons_seen (g.P.Port.state c.loop-lit.port) (g.P.Port.state c.next_unit.new.self) c.loop-lit.trail.steps c.in-Some.lit c.in-Some.ensures.took c.loop-lit.invariant.reasons;
+      bare = c.loop-lit.invariant.bare;
       trail = c.loop-lit.invariant.trail;
       port = c.next_unit.ensures.port;
     }
@@ -43,6 +45,7 @@ loop-lit-preserved g c =
           (stands_taken s w c.loop-lit.trail c.in-Some.lit c.loop-lit.invariant.stands c.in-Some.ensures.took (c.loop-lit.invariant.grown.level ∙ c.requires.level));
       reasons = subst (λ t. HasReasons [] w t.steps) (sym c.assign.ensures.step)
           (no_reasons_taken s w c.loop-lit.trail c.in-Some.lit c.in-Some.ensures.took (c.loop-lit.invariant.grown.level ∙ c.requires.level) c.loop-lit.invariant.reasons);
+      bare = subst (λ t. (p : ℕ) → p < length t.steps → reason_at t.steps p ≡ None) (sym c.assign.ensures.step) (bare_more c.loop-lit.trail c.in-Some.lit c.loop-lit.invariant.bare);
       trail = c.assign.ensures.trail;
       port = c.next_unit.ensures.port;
     }

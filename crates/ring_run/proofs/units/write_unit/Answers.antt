@@ -1,22 +1,30 @@
-use Rattle.std.proofs.Common.{◌≡◌, ◌<◌, ℕ, [], ◌∷◌, subst, sym, arith, true, Ok, Err, length}
+use Rattle.std.proofs.Common.{◌≡◌, ◌∙◌, ◌<◌, ◌≤◌, ◌+◌, ℕ, [], ◌∷◌, ap, subst, sym, arith, true, false, not, refl, Ok, Err, Some, None, IsSome, length}
+use Rattle.std.specs.Option.{is_some}
+use Rattle.std.specs.declared.option.Option.{Option}
+use Rattle.sat_words.specs.declared.shared.Cref.{Cref}
+use Rattle.std.proofs.lemmas.Bool.{or_left, true≢false}
+use Rattle.sat_words.specs.Clause.{has}
+use Rattle.rup_model.specs.declared.journal.Kind.TheVariants.{UnitLine}
 use Rattle.std.specs.Prelude.{OnOk}
 use Rattle.std.specs.declared.result.Result.{Result}
-use Rattle.sat_words.specs.Literal.{Literal}
+use Rattle.sat_words.specs.Literal.{Literal, same}
 use Rattle.ring_port.specs.PortState.{PortState, IsPort, IsOn, known}
 use Rattle.ring_port.specs.Port.{UnitWritten}
 use Rattle.ring_port.specs.Log.{KeepsLog}
 use Rattle.ring_port.specs.declared.stops.PortStop.{PortStop}
-use Rattle.ring_trail.specs.TrailData.{TrailData, IsTrail, lit_at}
+use Rattle.ring_trail.specs.TrailData.{TrailData, IsTrail, lit_at, reason_at}
 use Rattle.rup_model.specs.Rup.{rup}
-use Rattle.ring_run.specs.Searching.{Stands, KeepsOn, OnlyWrote}
+use Rattle.ring_run.specs.Searching.{Stands, AreTold, UnitsSeen, KeepsOn, OnlyWrote}
 use Rattle.ring_run.proofs.LevelZero.{true_at_zero}
-use Rattle.ring_run.proofs.Progress.{unit_goes_on, wrote_none, wrote_unit, unit_over}
+use Rattle.ring_run.proofs.Progress.{unit_goes_on, unit_looks, wrote_none, wrote_unit, unit_over}
+use Rattle.ring_run.proofs.Remembering.{added_seen}
+use Rattle.ring_run.proofs.Telling.{told_skipped, told_written}
 use Rattle.ring_run.proofs.Standing.{stands_written, place_on}
 use Rattle.ring_run.proofs.units.write_unit.Goals as goal
 
-keeps_on : (s u : PortState) (l : Literal) (r : Result (Unit {0}) PortStop) → IsOn s.vars l → UnitWritten s u l r → KeepsLog s u → IsPort u → OnOk r (KeepsOn s u)
-keeps_on s u l (Ok done) on w log port = λ start n p. unit_goes_on start s u n l p on w log port
-keeps_on s u l (Err stop) on w log port = tt
+keeps_on : (s u : PortState) (l : Literal) (r : Result (Unit {0}) PortStop) → IsOn s.vars l → UnitsSeen s → has s.seen l ≡ false → UnitWritten s u l r → KeepsLog s u → IsPort u → OnOk r (KeepsOn s u)
+keeps_on s u l (Ok done) on units unseen w log port = λ start n p. unit_goes_on start s u n l p on units unseen w log port
+keeps_on s u l (Err stop) on units unseen w log port = tt
 
 still_stands : (s u : PortState) (t : TrailData) (place : ℕ) (l : Literal) (r : Result (Unit {0}) PortStop) → Stands s t → IsTrail t → t.level ≡ 0 → place < length t.steps → l ≡ lit_at t.steps place
     → UnitWritten s u l r → OnOk r (Stands u t)
@@ -29,11 +37,46 @@ unit-requires-clause-rup g c =
     (true_at_zero (g.P.Port.state c.args.port.now) c.args.trail.now.steps c.args.place c.requires.stands.reasoned c.requires.place
     (λ p h. (let within = c.requires.trail.within p (omega (arith, c.requires.place)) in omega (arith, c.requires.level))))
 
+no_reason : (o : Option Cref) → is_some o ≡ false → o ≡ None
+no_reason None e = refl
+no_reason (Some c) e = absurd (true≢false e)
+
+-- what has a reason behind those that are told is not seen
+not_seen : (s : PortState) (t : TrailData) (n : ℕ) (l : Literal) → AreTold s t n → n < length t.steps → IsSome (reason_at t.steps n) → l ≡ lit_at t.steps n → has s.seen l ≡ false
+not_seen s t n l told lt some is = ap (has s.seen) is ∙ told.rest n (omega arith) lt some
+
+still_told : (s u : PortState) (t : TrailData) (n : ℕ) (l : Literal) (r : Result (Unit {0}) PortStop) → AreTold s t n → IsTrail t → t.level ≡ 0 → n < length t.steps → l ≡ lit_at t.steps n
+    → UnitWritten s u l r → OnOk r (AreTold u t (n + 1))
+still_told s u t n l (Ok done) told shape level lt is w = told_written s u t n l told shape level lt is w.sees
+still_told s u t n l (Err stop) told shape level lt is w = tt
+
+still_seen : (s u : PortState) (l : Literal) (r : Result (Unit {0}) PortStop) → UnitsSeen s → UnitWritten s u l r → OnOk r (UnitsSeen u)
+still_seen s u l (Ok done) p w = record {
+  opening = λ k h. w.sees k ∙ or_left (has s.seen k) (same l k) (p.opening k (ap (λ (x : PortState). has x.opening k) (sym w.state) ∙ h));
+  added = added_seen s u l UnitLine s.last w p.added;
+}
+still_seen s u l (Err stop) p w = tt
+
+pub returns-clause-told : goal.returns-clause-told
+returns-clause-told g c =
+    still_told (g.P.Port.state c.args.port.now) (g.P.Port.state c.unit.new.self) c.args.trail.now c.args.place c.lit_at.result c.unit.result c.requires.told c.requires.trail c.requires.level c.requires.place
+    c.lit_at.ensures c.unit.ensures.written
+
+pub returns-clause-units : goal.returns-clause-units
+returns-clause-units g c = still_seen (g.P.Port.state c.args.port.now) (g.P.Port.state c.unit.new.self) c.lit_at.result c.unit.result c.requires.units c.unit.ensures.written
+
+pub returns-clause-looks : goal.returns-clause-looks
+returns-clause-looks g c = unit_looks (g.P.Port.state c.args.port.now) (g.P.Port.state c.unit.new.self) c.lit_at.result c.unit.result c.unit.ensures.written
+
+pub returns-then-is_none-clause-told : goal.returns-then-is_none-clause-told
+returns-then-is_none-clause-told g c =
+    told_skipped (g.P.Port.state c.args.port.now) c.args.trail.now c.args.place c.requires.told c.requires.stands c.requires.trail c.requires.level c.requires.place (sym c.reason_at.ensures ∙ no_reason c.reason_at.result (c.is_none.ensures ∙ ap not c.if-is_none.true))
+
 pub returns-clause-ok : goal.returns-clause-ok
 returns-clause-ok g c =
     keeps_on (g.P.Port.state c.args.port.now) (g.P.Port.state c.unit.new.self) c.lit_at.result c.unit.result
     (subst (IsOn (g.P.Port.state c.args.port.now).vars) (sym c.lit_at.ensures) (place_on (g.P.Port.state c.args.port.now) c.args.trail.now c.args.place c.requires.stands c.requires.trail c.requires.place))
-    c.unit.ensures.written c.unit.ensures.log c.unit.ensures.port
+    c.requires.units (not_seen (g.P.Port.state c.args.port.now) c.args.trail.now c.args.place c.lit_at.result c.requires.told c.requires.place (subst (λ (o : Option Cref). IsSome o) c.reason_at.ensures (c.if-is_none.ensures {u = tt})) c.lit_at.ensures) c.unit.ensures.written c.unit.ensures.log c.unit.ensures.port
 
 pub returns-clause-stands : goal.returns-clause-stands
 returns-clause-stands g c =

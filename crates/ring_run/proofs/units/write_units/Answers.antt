@@ -7,6 +7,9 @@ loop-place-init g c = record {
   keeps = λ start n p. p;
   stands = c.requires.stands;
   held = refl;
+  told = c.requires.told;
+  units = c.requires.units;
+  looks = refl;
   wrote = wrote_none (g.P.Port.state c.args.port.now);
   port = c.requires.port;
 }
@@ -22,6 +25,9 @@ loop-place-preserved g c = record {
   keeps = λ start n p. c.in-Ok.ensures.ok start n (c.loop-place.invariant.keeps start n p);
   stands = c.in-Ok.ensures.stands;
   held = c.in-Ok.ensures.held ∙ c.loop-place.invariant.held;
+  told = c.in-Ok.ensures.told;
+  units = c.in-Ok.ensures.units;
+  looks = c.in-Ok.ensures.looks ∙ c.loop-place.invariant.looks;
   wrote = wrote_by (g.P.Port.state c.args.port.now) (g.P.Port.state c.loop-place.port) (g.P.Port.state c.write_unit.new.port) c.loop-place.invariant.wrote c.in-Ok.ensures.wrote;
   port = c.in-Ok.ensures.port;
 }

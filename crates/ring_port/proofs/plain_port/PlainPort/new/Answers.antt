@@ -1,4 +1,4 @@
-use Rattle.std.proofs.Common.{◌-◌, arith, sym, subst, None, [], vec_len}
+use Rattle.std.proofs.Common.{◌-◌, arith, sym, subst, None, vec_len}
 use Rattle.std.specs.Vec.{vec_capacity}
 use Rattle.ring_port.specs.PortState.{HoldsStart}
 use Rattle.ring_port.specs.Log.{StandsOver}

@@ -1,0 +1,14 @@
+-- What the port of three rings holds.
+use Rattle.std.proofs.Common.{◌≡◌, ◌∙◌, ℕ, refl}
+use Rattle.std.specs.declared.option.Option.{Option}
+use Rattle.sat_words.specs.declared.shared.Stop.{Stop}
+use Rattle.ring_port.specs.declared.stops.PortStop.{PortStop}
+use Rattle.ring_port.specs.PortState.{PortState, held_at, HoldsStart}
+use Rattle.ring_run.specs.Crowd.{crowd_of}
+use Rattle.ring_run.proofs.Remembering.{held_same}
+
+pub crowd_held : (s : PortState) (stop : Option Stop) (looks : ℕ) (refused : Option PortStop) (a : ℕ) → held_at (crowd_of s stop looks refused) a ≡ held_at s a
+crowd_held s stop looks refused a = held_same s (crowd_of s stop looks refused) a refl
+
+pub crowd_holds : (s : PortState) (stop : Option Stop) (looks : ℕ) (refused : Option PortStop) → HoldsStart s → HoldsStart (crowd_of s stop looks refused)
+crowd_holds s stop looks refused h k d lt = held_same s (crowd_of s stop looks refused) _ refl ∙ h k d lt

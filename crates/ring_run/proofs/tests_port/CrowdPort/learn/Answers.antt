@@ -1,0 +1,12 @@
+use Rattle.std.proofs.Common.{subst, refl, Some}
+use Rattle.ring_port.specs.declared.stops.PortStop.TheVariants.{NoHole}
+use Rattle.ring_port.specs.Port.{KeepsHeld}
+use Rattle.ring_run.specs.Crowd.{crowd_of}
+use Rattle.ring_run.proofs.Remembering.{held_same}
+use Rattle.ring_run.proofs.tests_port.CrowdPort.learn.Goals as goal
+
+pub returns-clause-kept : goal.returns-clause-kept
+returns-clause-kept g c =
+    let i = c.self.inside in
+    subst (λ s. KeepsHeld s (crowd_of i.inner i.stop i.looks (Some (NoHole 9 7)))) c.self.view_is
+    (λ a some. held_same (crowd_of i.inner i.stop i.looks i.refused) (crowd_of i.inner i.stop i.looks (Some (NoHole 9 7))) a refl)

@@ -21,7 +21,7 @@ pub kept_set : (xs : List (List ℕ)) (i n : ℕ) → i < length xs → KeptNote
 kept_set xs i n lt = record {
   kept = λ k m h. dite (ℕ_discrete k i)
       (λ (e : k ≡ i). subst (λ (j : ℕ). Contains (get_or (set xs i (get_or xs i [] ++ n ∷ [])) j []) m) (sym e)
-        (subst (λ ys. Contains ys m) (sym (get_or-set_same xs i (get_or xs i [] ++ n ∷ []) [] lt)) (Contains_left (get_or xs i []) (n ∷ []) m (subst (λ j. Contains (get_or xs j []) m) e h))))
+      (subst (λ ys. Contains ys m) (sym (get_or-set_same xs i (get_or xs i [] ++ n ∷ []) [] lt)) (Contains_left (get_or xs i []) (n ∷ []) m (subst (λ j. Contains (get_or xs j []) m) e h))))
       (λ (ne : k ≢ i). subst (λ ys. Contains ys m) (sym (get_or-set_other xs i k (get_or xs i [] ++ n ∷ []) [] ne)) h);
   wide = length-set xs i (get_or xs i [] ++ n ∷ []);
 }

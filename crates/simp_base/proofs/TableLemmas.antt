@@ -70,13 +70,13 @@ module _ (cells : List (ℕ × List Literal)) (places : List ℕ) (singles : Lis
     placed_more : (k : ℕ) (d : ℕ × List Literal) → k < length (cells ++ (number, clause) ∷ []) → slice_get (places ++ length cells ∷ []) (get_or (cells ++ (number, clause) ∷ []) k d).0 ≡ Some k
     placed_more k d lt = dite (ℕ_discrete k (length cells))
         (λ (e : k ≡ length cells). (let n = length-append places (length cells ∷ []) in
-          subst (λ (m : ℕ). slice_get (places ++ length cells ∷ []) m ≡ Some k) (sym (ap (λ (x : ℕ × List Literal). x.0) (ap (λ j. get_or (cells ++ (number, clause) ∷ []) j d) e ∙ end cells (number, clause) d) ∙ next))
-          (slice_get_read (places ++ length cells ∷ []) (length (places ++ length cells ∷ [])) (length places) k refl (omega arith) (sym (end places (length cells) k ∙ sym e)))))
+        subst (λ (m : ℕ). slice_get (places ++ length cells ∷ []) m ≡ Some k) (sym (ap (λ (x : ℕ × List Literal). x.0) (ap (λ j. get_or (cells ++ (number, clause) ∷ []) j d) e ∙ end cells (number, clause) d) ∙ next))
+        (slice_get_read (places ++ length cells ∷ []) (length (places ++ length cells ∷ [])) (length places) k refl (omega arith) (sym (end places (length cells) k ∙ sym e)))))
         (λ (ne : k ≢ length cells). (let m = length-append cells ((number, clause) ∷ []) in let lo : k < length cells = omega arith in
-          let was = t.placed k d lo in let within = slice_get_within places (get_or cells k d).0 k was in let n = length-append places (length cells ∷ []) in
-          subst (λ (x : ℕ × List Literal). slice_get (places ++ length cells ∷ []) x.0 ≡ Some k) (sym (get_or_append_left cells ((number, clause) ∷ []) d k lo))
-          (slice_get_read (places ++ length cells ∷ []) (length (places ++ length cells ∷ [])) (get_or cells k d).0 k refl (omega arith)
-            (sym (get_or_append_left places (length cells ∷ []) k (get_or cells k d).0 within ∙ get_or_from_slice_get places (get_or cells k d).0 k k was)))))
+        let was = t.placed k d lo in let within = slice_get_within places (get_or cells k d).0 k was in let n = length-append places (length cells ∷ []) in
+        subst (λ (x : ℕ × List Literal). slice_get (places ++ length cells ∷ []) x.0 ≡ Some k) (sym (get_or_append_left cells ((number, clause) ∷ []) d k lo))
+        (slice_get_read (places ++ length cells ∷ []) (length (places ++ length cells ∷ [])) (get_or cells k d).0 k refl (omega arith)
+        (sym (get_or_append_left places (length cells ∷ []) k (get_or cells k d).0 within ∙ get_or_from_slice_get places (get_or cells k d).0 k k was)))))
       where
         end : {X : Type 0} (xs : List X) (x d : X) → get_or (xs ++ x ∷ []) (length xs) d ≡ x
         end [] x d = refl
@@ -104,13 +104,13 @@ module _ (cells : List (ℕ × List Literal)) (places : List ℕ) (singles : Lis
     alone_less : (l : Literal) → list_any (is_only l) (lists cells) ≡ list_any (is_only l) (lists left)
     alone_less l = both_true (list_any (is_only l) (lists cells)) (list_any (is_only l) (lists left))
         (λ h. (let i = In_any (is_only l) (lists cells) h in let m = map_In (λ (x : ℕ × List Literal). x.1) cells i.0 i.1 in let k = In_Contains cells m.0 m.1 in
-          let is : (get_or cells k.0 m.0).1 ≡ i.0 = ap (λ (x : ℕ × List Literal). x.1) k.2 ∙ m.2 in
-          let s = stands cells left place r k.0 k.1 (λ e. short l i.0 i.2 (ap two_or_more (sym is ∙ ap (λ j. (get_or cells j m.0).1) e) ∙ long m.0)) in
-          let inleft : In m.0 left = Contains_In left m.0 (s.0, s.1, s.2 m.0 ∙ k.2) in
-          any_In (is_only l) (lists left) i.0 (subst (λ c. In c (lists left)) m.2 (In_map (λ (x : ℕ × List Literal). x.1) left m.0 inleft)) i.2))
+        let is : (get_or cells k.0 m.0).1 ≡ i.0 = ap (λ (x : ℕ × List Literal). x.1) k.2 ∙ m.2 in
+        let s = stands cells left place r k.0 k.1 (λ e. short l i.0 i.2 (ap two_or_more (sym is ∙ ap (λ j. (get_or cells j m.0).1) e) ∙ long m.0)) in
+        let inleft : In m.0 left = Contains_In left m.0 (s.0, s.1, s.2 m.0 ∙ k.2) in
+        any_In (is_only l) (lists left) i.0 (subst (λ c. In c (lists left)) m.2 (In_map (λ (x : ℕ × List Literal). x.1) left m.0 inleft)) i.2))
         (λ h. (let i = In_any (is_only l) (lists left) h in let m = map_In (λ (x : ℕ × List Literal). x.1) left i.0 i.1 in
-          let back = Contains_In cells m.0 (removed_back cells left place r m.0 (In_Contains left m.0 m.1)) in
-          any_In (is_only l) (lists cells) i.0 (subst (λ c. In c (lists cells)) m.2 (In_map (λ (x : ℕ × List Literal). x.1) cells m.0 back)) i.2))
+        let back = Contains_In cells m.0 (removed_back cells left place r m.0 (In_Contains left m.0 m.1)) in
+        any_In (is_only l) (lists cells) i.0 (subst (λ c. In c (lists cells)) m.2 (In_map (λ (x : ℕ × List Literal). x.1) cells m.0 back)) i.2))
       where
         short : (l : Literal) (c : List Literal) → is_only l c ≡ true → two_or_more c ≡ true → ⊥
         short l [] a b = false≢true a
@@ -145,15 +145,15 @@ module _ (cells : List (ℕ × List Literal)) (places : List ℕ) (singles : Lis
         each : (k : ℕ) (d : ℕ × List Literal) → k < length left → slice_get (set places moved place) (get_or left k d).0 ≡ Some k
         each k d kl = dite (ℕ_discrete k place)
             (λ (e : k ≡ place). (let w = slice_get_within places moved (length cells - 1) (moved_from d) in let n = length-set places moved place in
-              subst (λ (m : ℕ). slice_get (set places moved place) m ≡ Some k) (is d ∙ ap (λ j. (get_or left j d).0) (sym e))
-              (slice_get_read (set places moved place) (length (set places moved place)) moved k refl (omega arith) (e ∙ sym (get_or-set_same places moved place k w)))))
+            subst (λ (m : ℕ). slice_get (set places moved place) m ≡ Some k) (is d ∙ ap (λ j. (get_or left j d).0) (sym e))
+            (slice_get_read (set places moved place) (length (set places moved place)) moved k refl (omega arith) (e ∙ sym (get_or-set_same places moved place k w)))))
             (λ (ne : k ≢ place). (let s = stood cells left place r k kl in let n = r.len in
-              let same : s.0 ≡ k = ⊎_elim (λ (e : k ≡ place). absurd (ne e)) (λ (e : s.0 ≡ k). e) s.4 in
-              let was : slice_get places (get_or left k d).0 ≡ Some k = subst (λ (x : ℕ × List Literal). slice_get places x.0 ≡ Some k) (sym (s.3 d)) (t.placed s.0 d s.1 ∙ ap Some same) in
-              let apart : (get_or left k d).0 ≢ moved = λ q. (let e : Some k ≡ Some (length cells - 1) = sym was ∙ ap (slice_get places) q ∙ moved_from d in differ k (length cells - 1) (omega arith) e) in
-              let w = slice_get_within places (get_or left k d).0 k was in let z = length-set places moved place in
-              slice_get_read (set places moved place) (length (set places moved place)) (get_or left k d).0 k refl (omega arith)
-              (sym (get_or-set_other places moved (get_or left k d).0 place k apart ∙ get_or_from_slice_get places (get_or left k d).0 k k was))))
+            let same : s.0 ≡ k = ⊎_elim (λ (e : k ≡ place). absurd (ne e)) (λ (e : s.0 ≡ k). e) s.4 in
+            let was : slice_get places (get_or left k d).0 ≡ Some k = subst (λ (x : ℕ × List Literal). slice_get places x.0 ≡ Some k) (sym (s.3 d)) (t.placed s.0 d s.1 ∙ ap Some same) in
+            let apart : (get_or left k d).0 ≢ moved = λ q. (let e : Some k ≡ Some (length cells - 1) = sym was ∙ ap (slice_get places) q ∙ moved_from d in differ k (length cells - 1) (omega arith) e) in
+            let w = slice_get_within places (get_or left k d).0 k was in let z = length-set places moved place in
+            slice_get_read (set places moved place) (length (set places moved place)) (get_or left k d).0 k refl (omega arith)
+            (sym (get_or-set_other places moved (get_or left k d).0 place k apart ∙ get_or_from_slice_get places (get_or left k d).0 k k was))))
           where
             differ : (a b : ℕ) → a < b → Some a ≡ Some b → ⊥
             differ a b lt e = let f : a ≡ b = cc in omega arith

@@ -1,10 +1,14 @@
 //! What follows of a work's states; the calls compute nothing.
-ghost use Rattle.std.specs.Prelude.{◌≡◌, List, true};
+ghost use Rattle.std.specs.Prelude.{◌≡◌, ◌⊎◌, ℕ, List, true, Contains};
+ghost use Rattle.sat_words.specs.Literal.{Literal, opposite, same};
+ghost use Rattle.sat_words.specs.Clause.{has, includes};
+ghost use Rattle.rup_model.specs.Rup.{rup};
 ghost use Rattle.rup_model.specs.declared.journal.Entry.{Entry};
 ghost use Rattle.rup_model.specs.Log.{Refutes};
 ghost use Rattle.rup_model.specs.Journal.{lines};
 ghost use Rattle.drat_text.specs.JournalText.{Origin};
-ghost use Rattle.simp_base.specs.WorkState.{WorkState};
+ghost use Rattle.simp_base.specs.WorkState.{WorkState, IsWork, known};
+ghost use Rattle.simp_base.specs.Calls.{Deleted};
 ghost use Rattle.simp_base.specs.Log.{KeepsLog, Stands, journal_of};
 ghost use Rattle.simp_base.specs.Lifted.{Lifted};
 
@@ -26,4 +30,16 @@ pub fn logs_compose()
 /// Where the empty clause was added, the log refutes the formula.
 pub fn ended_refutes()
     ensures { (o : Origin) (mine : List Entry) (w : WorkState) → Stands o mine w → w.ended ≡ true → Refutes o.formula (lines o.formula (journal_of o mine)) }
+{}
+
+/// The deletion of a clause that contains one that is known afterwards needs no entry of the stack.
+pub fn contained_clauses_lift()
+    ensures { (old new : WorkState) (number : ℕ) (h : Deleted old new number) (d : List Literal) → IsWork old → Contains (known new) d → includes h.clause d ≡ true → Lifted old new }
+{}
+
+/// Of two clauses, one with a literal and one with its negation, follows every clause that has all their other literals
+/// (self-subsuming resolution).
+pub fn strengthened_clauses_follow()
+    ensures { (G : List (List Literal)) (c d r : List Literal) (l : Literal) → Contains G c → Contains G d → has c l ≡ true
+        → ((k : Literal) → has c k ≡ true → (same l k ≡ true) ⊎ (has r k ≡ true)) → ((k : Literal) → has d k ≡ true → (k ≡ opposite l) ⊎ (has r k ≡ true)) → rup G r ≡ true }
 {}

@@ -13,7 +13,10 @@ mod unit_table;
 mod work;
 
 pub use drat_text::LineStop;
-pub use laws::{ended_refutes, lifted_composes, lifted_itself, logs_compose};
+pub use laws::{
+    contained_clauses_lift, ended_refutes, lifted_composes, lifted_itself, logs_compose,
+    strengthened_clauses_follow,
+};
 pub use tautology::is_tautology;
 pub use work::{Parts, Run, Work};
 

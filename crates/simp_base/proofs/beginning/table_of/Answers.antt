@@ -33,9 +33,10 @@ loop-i-preserved c =
     let i = c.loop-i.i in
     let x : List Literal = c.index-clauses-i.result in
     let n : i + 1 ≡ 1 + i = omega arith in
-    let same = c.make_ready.ensures.same in
-    (c.push.ensures.clauses ∙ ap (λ (cs : List (ℕ × List Literal)). cs ++ (i + 1, c.in_ok-copy.copy) ∷ []) (same.clauses ∙ c.loop-i.invariant.0)
-      ∙ (λ k. numbered 1 (take i F) ++ (n k, (c.in_ok-copy.ensures.value ∙ ap clause_of (c.lits.ensures.value ∙ c.index-clauses-i.is)) k) ∷ [])
-      ∙ sym (numbered_more 1 F i x c.loop-i-test.true),
+    let same = c.make_ready.ensures.same in (
+      c.push.ensures.clauses ∙ ap (λ (cs : List (ℕ × List Literal)). cs ++ (i + 1, c.in_ok-copy.copy) ∷ []) (same.clauses ∙ c.loop-i.invariant.0)
+          ∙ (λ k. numbered 1 (take i F) ++ (n k, (c.in_ok-copy.ensures.value ∙ ap clause_of (c.lits.ensures.value ∙ c.index-clauses-i.is)) k) ∷ [])
+          ∙ sym (numbered_more 1 F i x c.loop-i-test.true),
       omega (arith, c.push.ensures.next, same.next, c.loop-i.invariant.1),
-      c.push.ensures.codes ∙ same.codes ∙ c.loop-i.invariant.2)
+      c.push.ensures.codes ∙ same.codes ∙ c.loop-i.invariant.2,
+    )

@@ -10,11 +10,12 @@ invariant_of-result g c =
     let F = c.args.formula.now in
     let out : LineState = g.L.LineOut.told c.args.output in
     let w : WorkState = record { vars = c.vars-2.result; clauses = c.in-Ok.clauses.clauses; units = c.in-Ok-new.units.units; stack = c.new-2.result; ended = false; output = out } in
-    let e : begun F out ≡ w = sym (λ i. record { vars = c.vars-2.ensures i; clauses = c.in-Ok.ensures.clauses i; units = c.in-Ok-new.ensures.units i; stack = c.new-2.ensures i; ended = false; output = out }) in
-    (subst IsWork e (begun_work F out c.requires.last c.requires.on),
+    let e : begun F out ≡ w = sym (λ i. record { vars = c.vars-2.ensures i; clauses = c.in-Ok.ensures.clauses i; units = c.in-Ok-new.ensures.units i; stack = c.new-2.ensures i; ended = false; output = out }) in (
+      subst IsWork e (begun_work F out c.requires.last c.requires.on),
       omega (arith, c.in-Ok.ensures.next, c.requires.last),
       omega (arith, c.in-Ok.ensures.codes, c.vars-2.ensures),
-      omega (arith, c.in-Ok-new.ensures.codes, c.vars.ensures, c.vars-2.ensures))
+      omega (arith, c.in-Ok-new.ensures.codes, c.vars.ensures, c.vars-2.ensures),
+    )
 
 pub returns-clause-work : goal.returns-clause-work
 returns-clause-work g c = (invariant_of-result g c).0

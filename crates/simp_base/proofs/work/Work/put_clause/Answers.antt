@@ -28,9 +28,10 @@ invariant_of-self-in-Ok-add_line g c =
     let on : All (IsOn i.vars) c.args.lits.now = subst (λ (s : WorkState). All (IsOn s.vars) c.args.lits.now) (sym c.self.view_is) c.requires.on in
     let b : LineState = g.L.LineOut.told c.add_line.new.output in
     let n : ℕ = c.in-Ok-add_line.number in
-    let last : b.last ≡ w.output.last + 1 = ap (λ (s : LineState). s.last) c.in-Ok-add_line.ensures.state in
-    (work_added w c.self.invariant.0 c.args.lits.now on n b c.in-Ok-add_line.ensures c.push.new.self.clauses
-      (c.push.ensures.clauses ∙ (λ k. c.make_ready.ensures.same.clauses k ++ (n, c.in-Ok.ensures.value k) ∷ [])) _,
+    let last : b.last ≡ w.output.last + 1 = ap (λ (s : LineState). s.last) c.in-Ok-add_line.ensures.state in (
+      work_added w c.self.invariant.0 c.args.lits.now on n b c.in-Ok-add_line.ensures c.push.new.self.clauses
+          (c.push.ensures.clauses ∙ (λ k. c.make_ready.ensures.same.clauses k ++ (n, c.in-Ok.ensures.value k) ∷ [])) _,
       omega (arith, c.push.ensures.next, c.make_ready.ensures.same.next, c.self.invariant.1, last),
       c.push.ensures.codes ∙ c.make_ready.ensures.same.codes ∙ c.self.invariant.2,
-      c.self.invariant.3)
+      c.self.invariant.3,
+    )

@@ -16,9 +16,12 @@ invariant_of-self g c =
     let line = c.in_ok-line.ensures.line in
     let b = g.L.LineOut.told c.put.new.self in
     let put : PutLine w.output b (DelLine line.0) 0 = put_del w.output b c.in_ok-line.line c.in-Ok.field-0 line.0 line.2 c.in-Ok.ensures.put in
-    let last : b.last ≡ w.output.last = ap (λ (s : LineState). s.last) put.state in
-    (work_deleted w c.self.invariant.0 line.0 b put c.remove.new.self.clauses c.remove.ensures.clauses.place c.remove.ensures.clauses.removed,
-      c.remove.ensures.next ∙ c.self.invariant.1 ∙ ap (λ n. n + 1) (sym last), c.remove.ensures.codes ∙ c.self.invariant.2, c.self.invariant.3)
+    let last : b.last ≡ w.output.last = ap (λ (s : LineState). s.last) put.state in (
+      work_deleted w c.self.invariant.0 line.0 b put c.remove.new.self.clauses c.remove.ensures.clauses.place c.remove.ensures.clauses.removed,
+      c.remove.ensures.next ∙ c.self.invariant.1 ∙ ap (λ n. n + 1) (sym last),
+      c.remove.ensures.codes ∙ c.self.invariant.2,
+      c.self.invariant.3,
+    )
 
 pub returns-in-Ok-clause-work : goal.returns-in-Ok-clause-work
 returns-in-Ok-clause-work g c = (invariant_of-self g c).0

@@ -1,0 +1,69 @@
+-- How a run ends.
+use Rattle.std.proofs.Common.{◌≡◌, ℕ, Bool, List, [], ◌∷◌, sym, ap, subst, ◌∙◌, ⊎_elim, Option, Contains, arith, append-nil}
+use Rattle.std.specs.Prelude.{Result, Ok, Err}
+use Rattle.sat_words.specs.Literal.{Literal}
+use Rattle.sat_words.specs.Clause.{has}
+use Rattle.rup_model.proofs.Lists.{In, In_all, In_has, has_In, In_append, map_In, In_Contains}
+use Rattle.io_edge.specs.Causes.{Rose}
+use Rattle.drat_text.specs.declared.stop.LineStop.{LineStop}
+use Rattle.drat_text.specs.declared.stop.LineStop.TheVariants.{ProofFault, Full, Memory}
+use Rattle.simp_base.specs.WorkState.{WorkState, known, lists, unit_clauses}
+use Rattle.simp_base.specs.Lifted.{Lifted}
+use Rattle.simp_base.specs.Log.{KeepsLog}
+use Rattle.simp_base.specs.declared.work.Run.{Run}
+use Rattle.simp_base.specs.declared.work.Run.TheVariants.{Done, Refuted}
+use Rattle.simp_base.proofs.Weaken.{weaker}
+use Rattle.simp_base.proofs.LiftSteps.{lifted_along, logs_along}
+use Rattle.simp_base.proofs.Lists.{In_All}
+use Rattle.simp_units.specs.Ends.{IsFree, HasCause, Cleaned, Ends, EndsRefuted}
+use Rattle.simp_units.specs.Progress.{Progress, Propagated, Falsified}
+use Rattle.simp_units.specs.Tidied.{Tidied, WasCleaned}
+use Rattle.simp_units.proofs.Steps.{known_alive, unit_among}
+
+-- propagation needs no fix
+lifted_progress : (old new : WorkState) (a : List (Option Bool)) → Progress old new a → Lifted old new
+lifted_progress old new a p = record {
+  fixes = [];
+  stack = p.stack ∙ sym (append-nil old.stack);
+  lifts = λ m t. weaker m (known old) (known new) (λ c i. (c, more c i, In_all (has c) c (λ l j. In_has c l j))) t;
+}
+  where
+    more : (c : List Literal) → In c (known old) → In c (known new)
+    more c i = ⊎_elim
+        (λ (k : In c (lists old.clauses)). (let t = map_In (λ (x : ℕ × List Literal). x.1) old.clauses c k in subst (λ d. In d (known new)) t.2 (known_alive new t.0.0 t.0.1 (p.stay t.0.0 t.0.1 (In_Contains old.clauses t.0 t.1)))))
+        (λ (k : In c (unit_clauses old.units)). (let t = map_In (λ (l : Literal). l ∷ []) old.units c k in subst (λ d. In d (known new)) t.2 (unit_among new t.0 (has_In new.units t.0 (p.units t.0 (In_has old.units t.0 t.1))))))
+        (In_append (lists old.clauses) (unit_clauses old.units) c i)
+
+cleaned_from : (old mid new : WorkState) (a : List (Option Bool)) → Propagated old mid a → Tidied mid new a [] → Cleaned old new
+cleaned_from old mid new a p t = record {
+  open_yet = p.open_yet;
+  units = λ l. ap (λ us. has us l) t.units ∙ p.units l;
+  free = In_All (IsFree new.units) (lists new.clauses) (λ c i. free_of c (map_In (λ (x : ℕ × List Literal). x.1) new.clauses c i));
+  lifted = lifted_along old mid new (lifted_progress old mid a p.progress) t.lifted;
+  going = t.set.going;
+}
+  where
+    free_of : (c : List Literal) → (x : ℕ × List Literal) × In x new.clauses × (x.1 ≡ c) → IsFree new.units c
+    free_of c k = ⊎_elim
+        (λ (f : IsFree new.units k.0.1). subst (IsFree new.units) k.2 f)
+        (λ (m : Contains [] k.0.0). (let z = m.1 in absurd (omega arith)))
+        (t.free k.0.0 k.0.1 (In_Contains new.clauses k.0 k.1))
+
+pub cause_after : (old mid new : WorkState) (stop : LineStop) → mid.output.faults ≡ old.output.faults → HasCause mid new stop → HasCause old new stop
+cause_after old mid new ProofFault same h = subst (λ n. Rose n new.output.faults) same h
+cause_after old mid new Full same h = h
+cause_after old mid new Memory same h = tt
+
+-- after propagation: all was cleaned
+pub ends_done : (old mid new : WorkState) (a : List (Option Bool)) → Propagated old mid a → WasCleaned mid new a (Ok tt) → Ends old new (Ok Done) × KeepsLog old new
+ends_done old mid new a p t = (cleaned_from old mid new a p t, logs_along old mid new p.log t.log)
+
+-- or not
+pub ends_stopped : (old mid new : WorkState) (a : List (Option Bool)) (stop : LineStop) → Propagated old mid a → HasCause mid new stop × KeepsLog mid new → HasCause old new stop × KeepsLog old new
+ends_stopped old mid new a stop p h = (cause_after old mid new stop p.progress.quiet h.0, logs_along old mid new p.log h.1)
+
+-- a clause is falsified
+pub ends_refuted : (old mid new : WorkState) → Falsified old mid → KeepsLog mid new → (result : Result Run LineStop) → EndsRefuted mid new result → Ends old new result × KeepsLog old new
+ends_refuted old mid new f log (Ok Done) h = absurd h
+ends_refuted old mid new f log (Ok Refuted) h = (record { falsified = f.falsified; ended = h }, logs_along old mid new f.log log)
+ends_refuted old mid new f log (Err stop) h = (cause_after old mid new stop f.quiet h, logs_along old mid new f.log log)

@@ -1,0 +1,7 @@
+pub mod Forcing
+pub mod Steps
+pub mod Queue
+pub mod Starting
+pub mod Looking
+pub mod Cleaning
+pub mod Ending

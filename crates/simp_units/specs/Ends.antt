@@ -1,0 +1,55 @@
+-- What propagating the units leaves.
+use Rattle.std.specs.Prelude.{◌≡◌, ℕ, ◌==◌, Bool, true, false, List, [], All, Result, Ok, Err, ⊤}
+use Rattle.std.specs.List.{list_any}
+use Rattle.sat_words.specs.Literal.{Literal}
+use Rattle.sat_words.specs.Clause.{has, has_opposites, two_or_more}
+use Rattle.rup_model.specs.Rounds.{Rounds}
+use Rattle.rup_model.specs.Rup.{conflicts}
+use Rattle.io_edge.specs.Causes.{Rose}
+use Rattle.drat_text.specs.declared.stop.TheConstants.{MAX_ENTRIES}
+use Rattle.drat_text.specs.declared.stop.LineStop.{LineStop}
+use Rattle.drat_text.specs.declared.stop.LineStop.TheVariants.{ProofFault, Full, Memory}
+use Rattle.simp_base.specs.WorkState.{WorkState, lists, known}
+use Rattle.simp_base.specs.Lifted.{Lifted}
+use Rattle.simp_base.specs.declared.work.Run.{Run}
+use Rattle.simp_base.specs.declared.work.Run.TheVariants.{Done, Refuted}
+
+-- a literal of the variable is listed
+abbrev pub is_fixed : List Literal → ℕ → Bool
+is_fixed units v = list_any (λ u. u.var == v) units
+
+-- a clause of two literals or more without opposites has no variable of a unit
+abbrev pub IsFree : List Literal → List Literal → Type 0
+IsFree units c = two_or_more c ≡ true → has_opposites c ≡ false → All (λ l. is_fixed units l.var ≡ false) c
+
+-- the rounds from no literal over the clauses and units at entry falsify no clause; the units are what they give; no
+-- clause holds a unit's variable; models lift
+pub record Cleaned (old new : WorkState) : Type 0 where
+  pub open_yet : conflicts (known old) [] ≡ false
+  pub units : (l : Literal) → has new.units l ≡ Rounds (known old) [] l
+  pub free : All (IsFree new.units) (lists new.clauses)
+  pub lifted : Lifted old new
+  pub going : new.ended ≡ false
+
+-- they falsify a clause, and the empty clause was added
+pub record Conflicted (old new : WorkState) : Type 0 where
+  pub falsified : conflicts (known old) [] ≡ true
+  pub ended : new.ended ≡ true
+
+-- why the run was stopped
+abbrev pub HasCause : WorkState → WorkState → LineStop → Type 0
+HasCause old new ProofFault = Rose old.output.faults new.output.faults
+HasCause old new Full = new.output.entries ≡ MAX_ENTRIES
+HasCause old new Memory = ⊤
+
+-- how a run ends
+abbrev pub Ends : WorkState → WorkState → Result Run LineStop → Type 0
+Ends old new (Ok Done) = Cleaned old new
+Ends old new (Ok Refuted) = Conflicted old new
+Ends old new (Err stop) = HasCause old new stop
+
+-- what comes where the empty clause is to be added
+abbrev pub EndsRefuted : WorkState → WorkState → Result Run LineStop → Type 0
+EndsRefuted old new (Ok Done) = ⊥
+EndsRefuted old new (Ok Refuted) = new.ended ≡ true
+EndsRefuted old new (Err stop) = HasCause old new stop

@@ -1,0 +1,62 @@
+// What a clause asks for under the values of the units.
+ghost use Rattle.std.specs.Prelude.{◌≡◌, ◌||◌, not};
+ghost use Rattle.std.specs.List.{find, list_all};
+ghost use Rattle.sat_words.specs.Literal.{opposite, same};
+ghost use Rattle.rup_model.specs.Assigned.{is_true};
+ghost use Rattle.simp_units.specs.Look.{IsLook, IsLookAt};
+
+use drat_text::LineOut;
+use rup_model::Assigned;
+use sat_words::Lit;
+use simp_base::Work;
+
+/// What a clause asks for.
+#[derive(Clone, Copy)]
+pub(crate) enum Look {
+    /// All its literals are false.
+    Falsified,
+    /// All its other literals are false, and this one has no value.
+    Forced(Lit),
+    /// Nothing.
+    Settled,
+}
+
+/// The first literal that isn't false.
+fn first_open(clause: &[Lit], a: &Assigned) -> Option<Lit>
+    ensures { result ≡ find (λ l. not (is_true a.now (opposite l))) clause.now }
+{
+    clause.iter().copied().find(|l| !a.is_false(*l))
+}
+
+fn others_false(clause: &[Lit], lit: Lit, a: &Assigned) -> bool
+    ensures { result ≡ list_all (λ k. same lit k || is_true a.now (opposite k)) clause.now }
+{
+    clause.iter().all(|k| lit == *k || a.is_false(*k))
+}
+
+fn ask(clause: &[Lit], a: &Assigned) -> Look
+    ensures { IsLook a.now clause.now result }
+{
+    match first_open(clause, a) {
+        None => Look::Falsified,
+        Some(lit) => {
+            if a.is_true(lit) {
+                Look::Settled
+            } else if others_false(clause, lit, a) {
+                Look::Forced(lit)
+            } else {
+                Look::Settled
+            }
+        }
+    }
+}
+
+/// What the clause with this number asks for; nothing where it is not alive.
+pub(crate) fn look_up<L: LineOut>(work: &Work<L>, values: &Assigned, number: u64) -> Look
+    ensures { IsLookAt work.now values.now number result }
+{
+    match work.clause(number) {
+        Some(clause) => ask(clause.lits(), values),
+        None => Look::Settled,
+    }
+}

@@ -1,5 +1,5 @@
 -- A formula that has the empty clause: its refutation is one line, and what the search says of the line.
-use Rattle.std.proofs.Common.{◌≡◌, ◌∙◌, ℕ, zero, suc, ◌<◌, ◌≤◌, true, List, [], ◌∷◌, map, take, Some, None, Ok, Err, refl, sym, ap, subst, arith, append-nil, get_or}
+use Rattle.std.proofs.Common.{◌≡◌, ◌∙◌, ℕ, zero, suc, ◌<◌, ◌≤◌, true, List, [], ◌∷◌, map, take, Ok, Err, refl, sym, ap, subst, arith, append-nil, get_or}
 use Rattle.std.specs.declared.option.Option.{Option}
 use Rattle.std.specs.List.{list_any}
 use Rattle.std.proofs.lemmas.Bool.{or_left, or_right, false≢true}

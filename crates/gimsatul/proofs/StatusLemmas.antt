@@ -17,7 +17,7 @@ use Rattle.gimsatul.specs.Run.{Call, Count, Writer, RoseIn, IsStill, run_of, sou
 use Rattle.gimsatul.specs.Journaled.{IsJournal, HoldsLog}
 use Rattle.gimsatul.specs.Outcome.{CallOutcome, IsCall, IsWhole, IsUnread, IsRefused, IsBroken, IsStarted, IsCrowded, IsStarved, IsBarren, IsIdle}
 use Rattle.gimsatul.specs.Headline.{status_of, model_of, Headline}
-use Rattle.gimsatul.specs.Statuses.{Answers, HasModel, HasBadPlace, LeftUnread, LeftUnprinted, LeftUnproved, LeftNoRoom, HasJournal, MustAnswer, MadeNothing, MadeAll, RanOut, IsUnopened, IsUncreated, IsAnswer, Statuses}
+use Rattle.gimsatul.specs.Statuses.{Answers, HasModel, HasBadPlace, LeftUnread, LeftUnprinted, LeftUnproved, LeftNoRoom, HasJournal, MustAnswer, MadeAll, RanOut, IsUnopened, IsUncreated, IsAnswer, Statuses}
 use Rattle.gimsatul.proofs.Journals.{empty_journal}
 
 -- a writer that must be there is there

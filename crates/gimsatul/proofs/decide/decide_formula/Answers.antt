@@ -1,4 +1,4 @@
-use Rattle.std.proofs.Common.{◌∙◌, refl}
+use Rattle.std.proofs.Common.{refl}
 use Rattle.gimsatul.proofs.Journals.{closed}
 use Rattle.gimsatul.proofs.Finishes.{started, counted, stopped, concluded, finish_closes, finished}
 use Rattle.gimsatul.proofs.decide.decide_formula.Goals as goal

@@ -13,7 +13,7 @@ use Rattle.ring_port.specs.PortState.{PortState, Holding, IsPort, held_at, lits_
 use Rattle.ring_port.specs.Port.{Learned, KeepsHeld, IsClause}
 use Rattle.ring_port.specs.Log.{KeepsLog}
 use Rattle.ring_trail.specs.declared.step.Step.{Step}
-use Rattle.ring_trail.specs.TrailData.{TrailData, IsTrail, HasNoPlace, IsFalseOn, cut_back, assigned}
+use Rattle.ring_trail.specs.TrailData.{TrailData, IsTrail, HasNoPlace, cut_back, assigned}
 use Rattle.ring_trail.specs.Closed.{TrueWithin, IsClosedClause, IsClosed}
 use Rattle.ring_trail.proofs.Causes.{IsReasoned-back, IsReasoned-forced, IsReasoned-seen, IsClosed-back, IsClosed-grown}
 use Rattle.watch_prop.specs.WatchData.{attached, clauses_of}

@@ -1,16 +1,15 @@
 -- Which literals at level 0 are told: as a trail grows and goes back, as lines of units are written, and at a model.
-use Rattle.std.proofs.Common.{◌≡◌, ◌∙◌, ℕ, zero, suc, ◌+◌, ◌-◌, ◌<◌, ◌≤◌, ◌||◌, Bool, true, false, not, List, [], ◌∷◌, ◌++◌, length, map, take, sym, subst, ap, refl, arith, inl, inr, ◌⊎◌, Some, None, IsSome, Contains, length-append}
-use Rattle.std.specs.Prelude.{All}
+use Rattle.std.proofs.Common.{◌≡◌, ◌∙◌, ℕ, zero, suc, ◌+◌, ◌-◌, ◌<◌, ◌≤◌, ◌||◌, Bool, true, false, not, List, [], ◌∷◌, ◌++◌, length, map, sym, subst, ap, refl, arith, inl, inr, Some, None, IsSome, Contains, length-append}
 use Rattle.std.specs.List.{list_any, list_all}
 use Rattle.std.specs.declared.option.Option.{Option}
-use Rattle.std.proofs.lemmas.Bool.{or_left, or_right, or_cases, or_from, cases_Bool, cases_lt, false≢true, true≢false}
+use Rattle.std.proofs.lemmas.Bool.{or_left, or_right, or_cases, or_from, cases_lt, false≢true, true≢false}
 use Rattle.std.proofs.lemmas.List.{get_or_append_left, get_or-append-add, get_or-take}
 use Rattle.std.proofs.Math.Seq.{get_or-append_seam}
 use Rattle.sat_words.specs.Literal.{Literal, same, opposite}
 use Rattle.sat_words.specs.Clause.{has}
 use Rattle.sat_words.specs.declared.shared.Cref.{Cref}
 use Rattle.sat_words.proofs.Members.{same-true, same-refl}
-use Rattle.rup_model.specs.Rounds.{Rounds, falsifies, forces, round}
+use Rattle.rup_model.specs.Rounds.{falsifies, forces, round}
 use Rattle.rup_model.specs.Journal.{recent}
 use Rattle.rup_model.proofs.Lists.{In, In_append, In_any, all_In, has_In, In_has, In_Contains, map_In}
 use Rattle.rup_model.proofs.Closed.{Rounds-least}
@@ -19,11 +18,10 @@ use Rattle.ring_port.specs.PortState.{PortState, Holding, held_at, lits_at, lits
 use Rattle.ring_port.specs.Port.{Sees, start_lits}
 use Rattle.ring_port.proofs.Holdings.{All_In}
 use Rattle.ring_trail.specs.declared.step.Step.{Step}
-use Rattle.ring_trail.specs.TrailData.{TrailData, IsTrail, HasGrown, HasNoPlace, IsFalseOn, no_step, step_at, lit_at, var_at, level_at, reason_at, assigned, cut_back}
-use Rattle.ring_trail.specs.Reasoned.{IsReasoned}
-use Rattle.ring_trail.specs.Closed.{TrueWithin, HasTrue, HasTwoOpen, IsClosedClause, IsClosed}
+use Rattle.ring_trail.specs.TrailData.{TrailData, IsTrail, HasGrown, HasNoPlace, IsFalseOn, no_step, step_at, lit_at, level_at, reason_at, assigned}
+use Rattle.ring_trail.specs.Closed.{TrueWithin, IsClosedClause}
 use Rattle.ring_trail.proofs.Causes.{back-kept}
-use Rattle.watch_prop.specs.WatchData.{WatchData, attached, clauses_of}
+use Rattle.watch_prop.specs.WatchData.{WatchData, attached}
 use Rattle.watch_prop.specs.Propagation.{IsQuiet}
 use Rattle.ring_run.specs.Ended.{searched, IsTold}
 use Rattle.ring_run.specs.Searching.{SeenTrue, Stands, AreFirst, AreTold, IsAmong}

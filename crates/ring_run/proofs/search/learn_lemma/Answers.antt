@@ -1,4 +1,4 @@
-use Rattle.std.proofs.Common.{◌+◌, ◌-◌, ◌^◌, ◌<◌, ◌≤◌, min, ap, subst, sym, arith}
+use Rattle.std.proofs.Common.{◌+◌, ap, subst, sym, arith}
 use Rattle.ring_port.specs.PortState.{PortState}
 use Rattle.ring_port.specs.declared.stops.PortStop.TheVariants.{Memory}
 use Rattle.ring_run.specs.Searching.{GoesOn, IsOver, HoldsByGlue}

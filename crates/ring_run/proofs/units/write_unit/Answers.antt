@@ -1,4 +1,4 @@
-use Rattle.std.proofs.Common.{◌≡◌, ◌∙◌, ◌<◌, ◌≤◌, ◌+◌, ℕ, [], ◌∷◌, ap, subst, sym, arith, true, false, not, refl, Ok, Err, Some, None, IsSome, length}
+use Rattle.std.proofs.Common.{◌≡◌, ◌∙◌, ◌<◌, ◌+◌, ℕ, [], ◌∷◌, ap, subst, sym, arith, true, false, not, refl, Ok, Err, Some, None, IsSome, length}
 use Rattle.std.specs.Option.{is_some}
 use Rattle.std.specs.declared.option.Option.{Option}
 use Rattle.sat_words.specs.declared.shared.Cref.{Cref}

@@ -83,12 +83,13 @@ stop_cases (Room need largest) limit F J before tally text source out f0 writer 
   journal_stands = s.journal_stands;
   log = subst (λ (n : ℕ). HoldsLog F.clauses J n writer) why.0 s.log;
   fewer = why.1;
+  unrefuted = why.3;
   counts = counts ∙ ap (tally_of_stop (Room need largest)) s.counts;
   full = why.2;
 }
 stop_cases Memory limit F J before tally text source out f0 writer why later counts still s =
     let run : Run = record { limit = limit; text = text; source = source; proof = Some writer; out = out } in
-    inr (record { started = subst (λ (n : ℕ). IsStarted n F J tally run) why.0 (subst (λ (t : Tally). IsStarted f0 F J t run) (sym counts) s); fewer = why.1; out = still })
+    inr (record { started = subst (λ (n : ℕ). IsStarted n F J tally run) why.0 (subst (λ (t : Tally). IsStarted f0 F J t run) (sym counts) s); fewer = why.1; unrefuted = why.2; out = still })
 
 -- the search stopped without a verdict
 pub stopped : (stop : SearchStop) (end : End) (limit : ℕ) (found : Result Verdict SearchStop) (F : FormulaData) (J : List Entry) (before tally : Tally) (text : Option (List ℕ)) (source : Count) (out : Output) (f0 : ℕ) (writer : Writer)

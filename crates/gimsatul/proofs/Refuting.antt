@@ -36,7 +36,7 @@ untouched limit formula faults written some quiet empty = record {
   stands = empty_journal formula.clauses;
   counts = refl;
   within = omega arith;
-  conclusion = (quiet, some);
+  conclusion = (quiet, some, refl);
   whole = λ _. holds_nothing written empty;
   short = λ failed. absurd (failed quiet);
 }

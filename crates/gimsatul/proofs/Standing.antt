@@ -39,7 +39,7 @@ use Rattle.ring_run.specs.declared.job.End.TheVariants.{Sat, Refuted, Spent as S
 use Rattle.ring_run.specs.Ended.{Stays, IsOwn, IsOfKind, IsModelOf, IsSpent, Ends, AreNew, opening_of}
 use Rattle.gimsatul.specs.declared.report.Verdict.{Verdict}
 use Rattle.gimsatul.specs.declared.search.SearchStop.{SearchStop}
-use Rattle.gimsatul.specs.Journaled.{CanBeSpelled, IsPlainEntry, IsPlainAddition, IsJournal, HoldsText, IsCutShort}
+use Rattle.gimsatul.specs.Journaled.{CanBeSpelled, IsPlainEntry, IsPlainAddition, IsJournal, IsUnrefuted, HoldsText, IsCutShort}
 use Rattle.gimsatul.specs.Decided.{IsRefutation, IsFull}
 use Rattle.gimsatul.specs.Searched.{Concludes, IsSearch}
 use Rattle.gimsatul.specs.Concluded.{IsCleared, IsVerdictOf}
@@ -256,18 +256,18 @@ module _ (formula : FormulaData) (output : LineState) (p s : PortState) (limit c
   concludes : (result : Result Verdict SearchStop) → IsVerdictOf formula end result → Concludes limit formula J out.faults result
   concludes result = by end spent unspent ends result
     where
-      model_by : (a : List Bool) → out.faults ≡ 0 → length (learned 0 J) < limit → IsModelOf s a → (r : Result Verdict SearchStop) → IsCleared formula a r → Concludes limit formula J out.faults r
-      model_by a none less m (Ok v) h = subst (λ (w : Verdict). Concludes limit formula J out.faults (Ok w)) (sym h.1) (none, cleared formula a h.0 (model a m) h.2)
-      model_by a none less m (Err stop) h = subst (λ (w : SearchStop). Concludes limit formula J out.faults (Err w)) (sym h) (none, less)
+      model_by : (a : List Bool) → out.faults ≡ 0 → length (learned 0 J) < limit → IsUnrefuted J → IsModelOf s a → (r : Result Verdict SearchStop) → IsCleared formula a r → Concludes limit formula J out.faults r
+      model_by a none less going m (Ok v) h = subst (λ (w : Verdict). Concludes limit formula J out.faults (Ok w)) (sym h.1) (none, cleared formula a h.0 (model a m) h.2)
+      model_by a none less going m (Err stop) h = subst (λ (w : SearchStop). Concludes limit formula J out.faults (Err w)) (sym h) (none, less, going)
 
       by : (x : End) → (x ≡ SpentEnd → count ≡ limit) → (count ≡ limit → x ≡ SpentEnd) → Ends s x → (r : Result Verdict SearchStop) → IsVerdictOf formula x r → Concludes limit formula J out.faults r
-      by (Sat a) sp un en r v = model_by a (still_where en.2) (fewer (Sat a) un (λ e. cc e)) en.0 r v
+      by (Sat a) sp un en r v = model_by a (still_where en.2) (fewer (Sat a) un (λ e. cc e)) en.4 en.0 r v
       by Refuted sp un en r v = subst (λ (w : Result Verdict SearchStop). Concludes limit formula J out.faults w) (sym v) (still_where en.2, refutation en.0)
       by SpentEnd sp un en r v = subst (λ (w : Result Verdict SearchStop). Concludes limit formula J out.faults w) (sym v) (still_where en.usable, spent_all en (sp refl))
       by (Stopped x) sp un en r v = absurd v
-      by (NoHole need largest) sp un en r v = subst (λ (w : Result Verdict SearchStop). Concludes limit formula J out.faults w) (sym v) (still_where (ap is_usable en.0), fewer (NoHole need largest) un (λ e. cc e), full need largest en.0)
+      by (NoHole need largest) sp un en r v = subst (λ (w : Result Verdict SearchStop). Concludes limit formula J out.faults w) (sym v) (still_where (ap is_usable en.0), fewer (NoHole need largest) un (λ e. cc e), full need largest en.0, en.3)
       by ProofFault sp un en r v = subst (λ (w : Result Verdict SearchStop). Concludes limit formula J out.faults w) (sym v) (rose_where en.0)
-      by Memory sp un en r v = subst (λ (w : Result Verdict SearchStop). Concludes limit formula J out.faults w) (sym v) (still_where en.1, fewer Memory un (λ e. cc e))
+      by Memory sp un en r v = subst (λ (w : Result Verdict SearchStop). Concludes limit formula J out.faults w) (sym v) (still_where en.1, fewer Memory un (λ e. cc e), en.2)
 
   pub is_search : (result : Result Verdict SearchStop) → IsVerdictOf formula end result → IsSearch limit formula result count out.faults out.written
   is_search result v = record { journal = J; stands = journal_stands; counts = counts; within = within; conclusion = concludes result v; whole = whole; short = short }

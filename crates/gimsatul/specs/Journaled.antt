@@ -1,7 +1,9 @@
 -- The journal of a run, and what the writer of its proof holds.
-use Rattle.std.specs.Prelude.{◌≡◌, ◌≤◌, ◌⊎◌, ◌<◌, ◌^◌, ℕ, List, [], ◌∷◌, ◌++◌, length, take, All, ⊤, Some, None}
+use Rattle.std.specs.Prelude.{◌≡◌, ◌≤◌, ◌⊎◌, ◌<◌, ◌^◌, ℕ, List, [], ◌∷◌, ◌++◌, length, take, All, false, ⊤, Some, None}
+use Rattle.std.specs.List.{list_any}
 use Rattle.std.specs.declared.option.Option.{Option}
 use Rattle.sat_words.specs.Literal.{Literal}
+use Rattle.sat_words.specs.Clause.{is_empty}
 use Rattle.sat_words.specs.declared.line.Line.{Line}
 use Rattle.rup_model.specs.declared.journal.TheConstants.{RULER_RING}
 use Rattle.rup_model.specs.declared.journal.Addition.{Addition}
@@ -11,7 +13,7 @@ use Rattle.rup_model.specs.declared.journal.Kind.{Kind}
 use Rattle.rup_model.specs.declared.journal.Kind.TheVariants.{Ruler, Learn, Derive, UnitLine}
 use Rattle.rup_model.specs.Basics.{EachAfter}
 use Rattle.rup_model.specs.Log.{Accepted, lits_of}
-use Rattle.rup_model.specs.Journal.{lines, ring_of, Fits, EmptyLast}
+use Rattle.rup_model.specs.Journal.{added, lines, ring_of, Fits, EmptyLast}
 use Rattle.rup_model.specs.Opening.{program_opening, IsNew}
 use Rattle.rup_model.specs.Spent.{ruler_part, rings_part}
 use Rattle.drat_text.specs.Text.{text, line_text}
@@ -48,6 +50,10 @@ pub record IsJournal (rings : ℕ) (clauses : List (List Literal)) (journal : Li
   pub of_rings : All (λ e. ring_of e < rings) (rings_part journal)
   pub plain : All IsPlainEntry journal
   pub each_new : EachAfter (IsNew (program_opening clauses (ruler_part journal))) [] journal
+
+-- no entry adds the empty clause
+abbrev pub IsUnrefuted : List Entry → Type 0
+IsUnrefuted journal = list_any is_empty (added journal) ≡ false
 
 -- where bytes are told, they are this text
 abbrev pub HoldsText : Option (List ℕ) → List ℕ → Type 0

@@ -17,7 +17,7 @@ use Rattle.gimsatul.specs.Words.{command_of, file_path, proof_path}
 use Rattle.gimsatul.specs.Input.{WasRead, WasBad}
 use Rattle.gimsatul.specs.Answer.{answer_text}
 use Rattle.gimsatul.specs.Run.{Count, Writer, Output, Run, Call, run_of, HasFile, RoseIn, IsStill, Prints, PrintsPart}
-use Rattle.gimsatul.specs.Journaled.{IsJournal, HoldsLog}
+use Rattle.gimsatul.specs.Journaled.{IsJournal, IsUnrefuted, HoldsLog}
 use Rattle.gimsatul.specs.Decided.{Decides, IsDecided, IsFull}
 use Rattle.gimsatul.specs.Tallied.{no_tally, ring_tally, room_tally, bad_tally}
 
@@ -83,20 +83,23 @@ pub record IsUnproved (formula : FormulaData) (journal : List Entry) (tally : Ta
   pub rose : IsSomeAnd run.proof (λ writer. Rose 0 writer.faults)
 
 -- as many lines stand as may, so that there was no room for one more, and none failed; the journal has fewer lemmas than the
--- limit; the tally has their number, what was needed and what there is
+-- limit and doesn't add the empty clause; the tally has their number, what was needed and what there is
 pub record IsCrowded (need largest : ℕ) (formula : FormulaData) (journal : List Entry) (tally : Tally) (run : Run) : Type 0 where
   pub read : WasRead run.text formula
   pub source : IsStill run.source
   pub journal_stands : IsJournal 1 formula.clauses journal
   pub log : HasLog formula journal 0 run
   pub fewer : length (learned 0 journal) < run.limit
+  pub unrefuted : IsUnrefuted journal
   pub counts : tally ≡ room_tally (length (learned 0 journal)) need largest
   pub full : IsFull journal need largest
 
--- memory ran out in the search, before a verdict: no line had failed, and the limit was not learned; the output is as it was
+-- memory ran out in the search, before a verdict: no line had failed, neither was the limit learned nor the
+-- empty clause added; the output is as it was
 pub record IsStarved (formula : FormulaData) (journal : List Entry) (tally : Tally) (run : Run) : Type 0 where
   pub started : IsStarted 0 formula journal tally run
   pub fewer : length (learned 0 journal) < run.limit
+  pub unrefuted : IsUnrefuted journal
   pub out : IsStill run.out.faults
 
 abbrev pub Outcome : End → FormulaData → List Entry → Tally → Run → Type 0

@@ -274,7 +274,7 @@ stays_same s u p log = record {
 
 -- memory ran out in the ring
 pub out_of_memory : (start s : PortState) (n : ℕ) → GoesOn start s n → IsOver start s n Memory
-out_of_memory start s n p = record { runs = p.runs; stop_is = p.stop; noted = usable_none s p.refused }
+out_of_memory start s n p = record { runs = p.runs; stop_is = p.stop; noted = usable_none s p.refused; going = p.going }
 
 pub refused_over : (start s u : PortState) (n : ℕ) (stop : PortStop) → GoesOn start s n → Refused s u stop → KeepsLog s u → IsPort u → IsOver start u n stop
 refused_over start s u n stop p r log port =
@@ -283,6 +283,7 @@ refused_over start s u n stop p r log port =
       runs = runs_same start s u n p.runs (stays_same s u same log) same.held same.mine (lines_moved s u s.mine (stays_same s u same log) same.given same.mine p.runs.new_lines) port;
       stop_is = same.stop ∙ p.stop;
       noted = subst (λ (x : PortState). IsNoted x stop) (sym r.state) (noted_refused s u.output stop r.reason (usable_none s p.refused));
+      going = ap (λ (mine : List Entry). list_any is_empty (added mine)) same.mine ∙ p.going;
     }
 
 pub unit_over : (s u : PortState) (l : Literal) (r : Result (Unit {0}) PortStop) → UnitWritten s u l r → KeepsLog s u → IsPort u → IfErr r (EndsBy s u)

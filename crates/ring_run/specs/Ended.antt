@@ -162,13 +162,17 @@ pub record IsSpent (s : PortState) : Type 0 where
   pub going : list_any is_empty (added s.mine) ≡ false
   pub usable : is_usable s.refused ≡ true
 
+-- the ring did not add the empty clause
+abbrev pub IsGoing : PortState → Type 0
+IsGoing s = list_any is_empty (added s.mine) ≡ false
+
 -- the cause of each end; at a model all that is true for good is seen; no line has failed but at `ProofFault`, and perhaps at
--- `Stopped`
+-- `Stopped`; the ring added the empty clause at none but `Refuted`, and perhaps `Stopped`
 abbrev pub Ends : PortState → End → Type 0
-Ends s (Sat a) = IsModelOf s a × HasWon s STOP_SAT × (is_usable s.refused ≡ true) × IsTold s
+Ends s (Sat a) = IsModelOf s a × HasWon s STOP_SAT × (is_usable s.refused ≡ true) × IsTold s × IsGoing s
 Ends s Refuted = (s.ended ≡ true) × HasWon s STOP_REFUTED × (is_usable s.refused ≡ true)
 Ends s Spent = IsSpent s
 Ends s (Stopped x) = (s.stop ≡ Some x) × (x.ring ≢ s.ring)
-Ends s (NoHole need largest) = (s.refused ≡ Some (NoHoleAnswer need largest)) × (largest < need) × HasWon s STOP_ROOM
-Ends s ProofFault = (is_usable s.refused ≡ false) × HasWon s STOP_PROOF
-Ends s Memory = HasWon s STOP_MEMORY × (is_usable s.refused ≡ true)
+Ends s (NoHole need largest) = (s.refused ≡ Some (NoHoleAnswer need largest)) × (largest < need) × HasWon s STOP_ROOM × IsGoing s
+Ends s ProofFault = (is_usable s.refused ≡ false) × HasWon s STOP_PROOF × IsGoing s
+Ends s Memory = HasWon s STOP_MEMORY × (is_usable s.refused ≡ true) × IsGoing s

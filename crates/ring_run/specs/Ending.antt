@@ -4,7 +4,7 @@ use Rattle.sat_words.specs.declared.shared.TheConstants.{STOP_SAT, STOP_REFUTED,
 use Rattle.ring_port.specs.PortState.{PortState}
 use Rattle.ring_port.specs.Port.{is_usable}
 use Rattle.ring_port.specs.declared.stops.PortStop.TheVariants.{NoHole as NoHoleAnswer}
-use Rattle.ring_run.specs.Ended.{IsModelOf, IsSpent, IsTold}
+use Rattle.ring_run.specs.Ended.{IsModelOf, IsSpent, IsTold, IsGoing}
 use Rattle.ring_run.specs.Searching.{Runs, IsNoted}
 use Rattle.ring_run.specs.declared.job.End.{End}
 use Rattle.ring_run.specs.declared.job.End.TheVariants.{Sat, Refuted, Spent, Stopped, NoHole, ProofFault, Memory}
@@ -23,11 +23,11 @@ kind_of (Stopped x) = 0
 
 -- why a ring may set its stop for this end
 abbrev pub Cause : PortState → End → Type 0
-Cause s (Sat a) = IsModelOf s a × (is_usable s.refused ≡ true) × IsTold s
+Cause s (Sat a) = IsModelOf s a × (is_usable s.refused ≡ true) × IsTold s × IsGoing s
 Cause s Refuted = (s.ended ≡ true) × (is_usable s.refused ≡ true)
-Cause s (NoHole need largest) = (s.refused ≡ Some (NoHoleAnswer need largest)) × (largest < need)
-Cause s ProofFault = is_usable s.refused ≡ false
-Cause s Memory = is_usable s.refused ≡ true
+Cause s (NoHole need largest) = (s.refused ≡ Some (NoHoleAnswer need largest)) × (largest < need) × IsGoing s
+Cause s ProofFault = (is_usable s.refused ≡ false) × IsGoing s
+Cause s Memory = (is_usable s.refused ≡ true) × IsGoing s
 Cause s Spent = ⊥
 Cause s (Stopped x) = ⊥
 
@@ -54,8 +54,8 @@ KeepsRuns old new = (start : PortState) (count : ℕ) → Runs start old count �
 
 -- what a finding says of the port
 abbrev pub IsFinding : PortState → Finding → Type 0
-IsFinding s (Model a) = IsModelOf s a × (s.stop ≡ None) × (is_usable s.refused ≡ true) × IsTold s
+IsFinding s (Model a) = IsModelOf s a × (s.stop ≡ None) × (is_usable s.refused ≡ true) × IsTold s × IsGoing s
 IsFinding s Ended = (s.ended ≡ true) × (s.stop ≡ None) × (is_usable s.refused ≡ true)
 IsFinding s Limit = IsSpent s
 IsFinding s (Seen x) = (s.stop ≡ Some x) × (x.ring ≢ s.ring)
-IsFinding s (Refused stop) = IsNoted s stop × (s.stop ≡ None)
+IsFinding s (Refused stop) = IsNoted s stop × (s.stop ≡ None) × IsGoing s

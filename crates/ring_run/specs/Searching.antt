@@ -143,6 +143,7 @@ pub record IsOver (start s : PortState) (count : ℕ) (stop : PortStop) : Type 0
   pub runs : Runs start s count
   pub stop_is : s.stop ≡ None
   pub noted : IsNoted s stop
+  pub going : list_any is_empty (added s.mine) ≡ false
 
 -- the log is ended
 pub record IsRefuted (start s : PortState) (count : ℕ) : Type 0 where

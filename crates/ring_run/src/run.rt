@@ -6,7 +6,7 @@ ghost use Rattle.ring_port.specs.Port.{KeepsHeld};
 ghost use Rattle.ring_trail.specs.TrailData.{TrailData, IsTrail};
 ghost use Rattle.watch_prop.specs.WatchData.{attached};
 ghost use Rattle.watch_prop.specs.Watched.{Watched, IsFresh};
-ghost use Rattle.ring_run.specs.Ended.{IsJobOf, IsUntouched, Stays, IsOwn, IsCounted, AreNew, AreNewLines, HoldsGlued, HasLooked, last_looks, Ends};
+ghost use Rattle.ring_run.specs.Ended.{IsJobOf, IsUntouched, Stays, IsOwn, IsCounted, AreNew, AreNewLines, HoldsGlued, HasLooked, last_looks, IsGoing, Ends};
 ghost use Rattle.ring_run.specs.Searching.{IsHeldBy, IsNoted};
 ghost use Rattle.ring_run.specs.Finding.{looked_for};
 ghost use Rattle.ring_run.specs.Ending.{Cause, kind_of, KeepsRuns, IsFinding, is_spent, has_spent};
@@ -134,6 +134,7 @@ fn claim<P: Port>(port: &mut P, kind: u8, end: End) -> End
 fn end_refused<P: Port>(port: &mut P, stop: PortStop) -> End
     requires noted { IsNoted (P.state port.old) stop }
     requires stop { (P.state port.old).stop ≡ None }
+    requires going { IsGoing (P.state port.old) }
     ensures ends { Ends (P.state port.new) result }
     ensures runs { KeepsRuns (P.state port.old) (P.state port.new) }
     ensures spent { is_spent result ≡ false }

@@ -198,6 +198,7 @@ impl<L: LineOut> Work<L> {
         ensures log { Continues (on_ok result (ruler_adds (self.old.output.last + 1) lits.now ∷ [])) self.old self.new }
         ensures work { IsWork self.new }
     {
+        // The check knows the work's invariant once a field is used.
         let _ = &self.alloc;
         self.put_clause(lits)
     }
@@ -233,6 +234,7 @@ impl<L: LineOut> Work<L> {
         ensures log { Continues (on_ok result (ruler_deletes number ∷ [])) self.old self.new }
         ensures work { IsWork self.new }
     {
+        // The check knows the work's invariant once a field is used.
         let _ = &self.alloc;
         self.take_clause(number)
     }
@@ -279,6 +281,7 @@ impl<L: LineOut> Work<L> {
         ensures log { Continues (on_ok result (unit_entries self.old lit)) self.old self.new }
         ensures work { IsWork self.new }
     {
+        // The check knows the work's invariant once a field is used.
         let _ = &self.alloc;
         self.list(lit)
     }

@@ -1,20 +1,18 @@
 -- How a work begins.
-use Rattle.std.proofs.Common.{◌≡◌, ◌≢◌, ◌⊎◌, ℕ, zero, suc, ◌+◌, ◌-◌, ◌<◌, ◌≤◌, Bool, true, false, List, [], ◌∷◌, ◌++◌, length, take, get_or, refl, sym, ap, ◌∙◌, subst, inl, inr, arith, ⊎_elim, Option, Some, None, Contains, append-nil}
+use Rattle.std.proofs.Common.{◌≡◌, ℕ, zero, suc, ◌+◌, ◌<◌, false, List, [], ◌∷◌, ◌++◌, length, take, get_or, refl, sym, ap, ◌∙◌, subst, inl, inr, arith, Option, Some, None, Contains, append-nil}
 use Rattle.std.proofs.lemmas.Bool.{true≢false}
 use Rattle.std.specs.List.{All, slice_get}
 use Rattle.std.specs.Option.{option_map}
 use Rattle.std.specs.Io.KnownBytes.{append_known}
-use Rattle.std.proofs.lemmas.List.{take_more}
 use Rattle.sat_words.specs.Literal.{Literal, IsOn}
 use Rattle.sat_words.specs.Clause.{clause_of}
 use Rattle.sat_words.specs.FormulaData.{FormulaData}
-use Rattle.rup_model.specs.Journal.{book, formula_book, formula_clause, lines}
+use Rattle.rup_model.specs.Journal.{formula_clause}
 use Rattle.rup_model.proofs.Lists.{In, In_Contains, Contains_In}
 use Rattle.rup_model.proofs.JournalSteps.{log_starts}
 use Rattle.drat_text.specs.LineState.{LineState}
-use Rattle.simp_base.specs.WorkState.{WorkState, IsWork, HaveOwnNumbers, lists, numbered, begun}
-use Rattle.drat_text.specs.JournalText.{Origin}
-use Rattle.simp_base.specs.Log.{Stands, HasLines}
+use Rattle.simp_base.specs.WorkState.{IsWork, lists, numbered, begun}
+use Rattle.simp_base.specs.Log.{Stands}
 use Rattle.simp_base.proofs.Keeping.{clause_of_on}
 
 -- one more clause

@@ -1,31 +1,30 @@
 -- What is kept of a work.
-use Rattle.std.proofs.Common.{◌≡◌, ◌≢◌, ◌⊎◌, ◌↔◌, ℕ, zero, suc, ◌+◌, ◌-◌, ◌<◌, ◌≤◌, Bool, true, false, List, [], ◌∷◌, ◌++◌, length, map, get_or, refl, sym, ap, ◌∙◌, subst, inl, inr, arith, ⊎_elim, length-append}
+use Rattle.std.proofs.Common.{◌≡◌, ◌≢◌, ℕ, zero, suc, ◌+◌, ◌<◌, ◌≤◌, Bool, true, false, List, [], ◌∷◌, ◌++◌, length, get_or, refl, sym, ap, ◌∙◌, subst, inl, inr, arith}
 use Rattle.std.specs.List.{All, Contains}
 use Rattle.std.proofs.lemmas.List.Elements.{All-append}
 use Rattle.sat_words.specs.Literal.{Literal, same}
 use Rattle.sat_words.specs.Clause.{has, is_empty, clause_of, distinct_lits}
 use Rattle.std.proofs.Common.{◌||◌, not}
 use Rattle.std.specs.List.{list_any}
-use Rattle.std.proofs.lemmas.Bool.{false≢true, true≢false, and_parts, and_from, or_parts, cases_Bool}
+use Rattle.std.proofs.lemmas.Bool.{false≢true, and_parts, and_from, or_parts, cases_Bool}
 use Rattle.sat_words.proofs.Members.{same-true, same-refl}
 use Rattle.std.specs.Prelude.{Result, Ok, Err}
 use Rattle.drat_text.specs.declared.stop.LineStop.{LineStop}
 use Rattle.drat_text.specs.declared.stop.LineStop.TheVariants.{ProofFault, Full, Memory}
 use Rattle.sat_words.specs.declared.line.Line.{Line}
-use Rattle.std.proofs.lemmas.List.{get_or_default}
 use Rattle.sat_words.specs.declared.line.Line.TheVariants.{Add as AddLine, Del as DelLine}
 use Rattle.sat_words.proofs.Insertion.{same_set-clause_of}
-use Rattle.rup_model.proofs.Lists.{In, In_has, has_In}
+use Rattle.rup_model.proofs.Lists.{In_has, has_In}
 use Rattle.rup_model.proofs.Covers.{has_same, same_back}
 use Rattle.model_stack.specs.declared.stack.Fix.{Fix}
 use Rattle.drat_text.specs.LineState.{LineState}
-use Rattle.drat_text.specs.LineOut.{PutLine, FailedLine, WasPut}
+use Rattle.drat_text.specs.LineOut.{PutLine, WasPut}
 use Rattle.simp_base.specs.WorkState.{WorkState, IsWork, IsFixOn, HaveOwnNumbers, lists, is_only, is_alive_unit}
 use Rattle.sat_words.specs.Literal.{IsOn}
 use Rattle.simp_base.proofs.Lists.{All_In, In_All, one_All}
 use Rattle.simp_base.specs.Removed.{Removed}
 use Rattle.simp_base.specs.Tables.{RemovedNumber}
-use Rattle.simp_base.specs.Calls.{IsListed, WasListed, ListedLine, Added, NotPut, Deleted, NotDeleted, WasAdded, WasDeleted}
+use Rattle.simp_base.specs.Calls.{IsListed, NotPut, Deleted, WasAdded}
 use Rattle.simp_base.proofs.Removal.{own_less, others_less, removed_All, removed_each, one_clause}
 
 pub clause_of_on : (vars : ℕ) (lits : List Literal) → All (IsOn vars) lits → All (IsOn vars) (clause_of lits)

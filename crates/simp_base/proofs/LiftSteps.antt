@@ -1,10 +1,7 @@
 -- Steps that lift models.
-use Rattle.std.proofs.Common.{◌≡◌, Bool, true, List, [], ◌∷◌, ◌++◌, sym, ap, ◌∙◌, append_assoc, append-nil, subst}
-use Rattle.model_stack.specs.declared.stack.Fix.{Fix}
+use Rattle.std.proofs.Common.{[], ◌++◌, sym, ap, ◌∙◌, append_assoc, append-nil, subst}
 use Rattle.model_stack.proofs.Walk.{lifts_along}
-use Rattle.rup_model.specs.declared.journal.Entry.{Entry}
 use Rattle.simp_base.specs.WorkState.{WorkState, known}
-use Rattle.drat_text.specs.JournalText.{Origin}
 use Rattle.simp_base.specs.Log.{Stands, KeepsLog}
 use Rattle.simp_base.specs.Lifted.{Lifted}
 

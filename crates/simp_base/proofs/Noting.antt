@@ -1,11 +1,10 @@
 -- Numbers that are noted for literals.
-use Rattle.std.proofs.Common.{◌≡◌, ◌≢◌, ℕ, ◌+◌, ◌<◌, Bool, true, false, List, [], ◌∷◌, ◌++◌, length, set, take, get_or, refl, sym, ap, subst, ◌∙◌, inl, inr, arith, ⊎_elim, Contains, length-set}
+use Rattle.std.proofs.Common.{◌≡◌, ◌≢◌, ℕ, ◌+◌, ◌<◌, List, [], ◌∷◌, ◌++◌, length, set, take, get_or, refl, sym, ap, subst, ◌∙◌, inl, inr, ⊎_elim, Contains, length-set}
 use mathlib.Core.Logic.{dite}
 use native.Mathlib.Decide.{ℕ_discrete}
 use Rattle.std.proofs.lemmas.Bool.{false≢true}
 use Rattle.std.proofs.lemmas.List.{take_more, get_or-set_same, get_or-set_other}
 use Rattle.sat_words.specs.Literal.{Literal, code_of}
-use Rattle.sat_words.specs.Clause.{has}
 use Rattle.rup_model.proofs.Lists.{In, In_append, In_has, has_In}
 use Rattle.simp_base.specs.Tables.{KeptNotes, Noted}
 use Rattle.simp_base.proofs.Lists.{Contains_left, Contains_last}

@@ -1,10 +1,8 @@
 -- What a line of the work keeps of the journal that it stands over.
-use Rattle.std.proofs.Common.{◌≡◌, ◌≢◌, ◌⊎◌, ◌↔◌, ℕ, zero, suc, ◌+◌, ◌<◌, ◌==◌, ◌||◌, Bool, true, false, not, cond, List, [], ◌∷◌, ◌++◌, length, map, take, sym, refl, ap, subst, ◌∙◌, inl, inr, ⊎_elim, arith, Some, None, append_assoc, append-nil, length-append}
+use Rattle.std.proofs.Common.{◌≡◌, ◌≢◌, ◌↔◌, ℕ, zero, suc, ◌+◌, ◌||◌, Bool, true, false, List, [], ◌∷◌, ◌++◌, length, sym, refl, ap, subst, ◌∙◌, inl, inr, ⊎_elim, arith, Some, None, append_assoc, append-nil, length-append}
 use Rattle.std.specs.List.{list_any, All, Contains, slice_get}
-use Rattle.std.specs.declared.option.Option.{Option}
 use Rattle.std.specs.Option.{unwrap_or, option_map}
 use Rattle.std.specs.List.{fold}
-use Rattle.std.proofs.lemmas.List.Sums.{fold-append}
 use Rattle.std.specs.Io.KnownBytes.{append_known}
 use Rattle.std.proofs.lemmas.Bool.{or_left, and_from, false≢true}
 use Rattle.std.proofs.lemmas.List.Elements.{All-append}
@@ -13,15 +11,12 @@ use Rattle.sat_words.specs.Literal.{Literal, IsOn}
 use Rattle.sat_words.specs.Clause.{has, same_set, is_empty, clause_of, two_or_more}
 use Rattle.sat_words.specs.declared.line.Line.{Line}
 use Rattle.sat_words.specs.declared.line.Line.TheVariants.{Add as AddLine, Del as DelLine}
-use Rattle.rup_model.specs.declared.journal.TheConstants.{RULER_RING}
-use Rattle.rup_model.specs.declared.journal.Kind.TheVariants.{Ruler}
-use Rattle.rup_model.specs.declared.journal.Addition.{Addition}
 use Rattle.rup_model.specs.declared.journal.Entry.{Entry}
 use Rattle.rup_model.specs.declared.journal.Entry.TheVariants.{Add, Del, Reduce}
 use Rattle.rup_model.specs.Basics.{put}
 use Rattle.rup_model.specs.Rup.{rup}
 use Rattle.rup_model.specs.Log.{Accepted, alive, is_valid, lits_of}
-use Rattle.rup_model.specs.Journal.{Book, spelled, formula_book, book_after, book, lines, lines_after, lines_from, added, is_told, IsFit, EmptyLast, LogSound}
+use Rattle.rup_model.specs.Journal.{Book, spelled, formula_book, book_after, book, lines, lines_after, added, is_told, IsFit, LogSound}
 use Rattle.rup_model.specs.Opening.{is_rulers}
 use Rattle.rup_model.proofs.Lists.{In, In_any, any_In, In_append, In_append_left, In_append_right, In_map, map_In, Contains_In, In_Contains}
 use Rattle.sat_words.proofs.Insertion.{same_set-clause_of}
@@ -34,8 +29,7 @@ use Rattle.rup_model.proofs.Units.{two_more}
 use Rattle.rup_model.proofs.Numbers.{spelled_same, journal_matches, clause_below, clause_copies, book_last, lines_last, rup_alive_sets}
 use Rattle.rup_model.proofs.Additions.{added-append, told_more}
 use Rattle.rup_model.proofs.Told.{told_alive}
-use Rattle.io_edge.specs.Causes.{Rose}
-use Rattle.drat_text.specs.Text.{text, line_text}
+use Rattle.drat_text.specs.Text.{line_text}
 use Rattle.drat_text.specs.LineState.{LineState, last_after}
 use Rattle.drat_text.specs.LineOut.{PutLine, FailedLine}
 use Rattle.drat_text.specs.declared.stop.LineStop.{LineStop}

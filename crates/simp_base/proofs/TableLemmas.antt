@@ -1,13 +1,13 @@
 -- What the tables over the clauses keep.
-use Rattle.std.proofs.Common.{◌≡◌, ◌≢◌, ◌⊎◌, ℕ, ◌+◌, ◌*◌, ◌-◌, ◌<◌, ◌≤◌, ◌||◌, Bool, true, false, cond, List, [], ◌∷◌, ◌++◌, length, map, set, get_or, refl, sym, ap, subst, ◌∙◌, inl, inr, arith, ⊎_elim, Contains, Some, length-append, length-set}
+use Rattle.std.proofs.Common.{◌≡◌, ◌≢◌, ℕ, ◌+◌, ◌*◌, ◌-◌, ◌<◌, ◌≤◌, ◌||◌, Bool, true, false, cond, List, [], ◌∷◌, ◌++◌, length, set, get_or, refl, sym, ap, subst, ◌∙◌, arith, ⊎_elim, Contains, Some, length-append, length-set}
 use mathlib.Core.Logic.{dite}
 use native.Mathlib.Decide.{ℕ_discrete}
 use Rattle.std.specs.List.{list_any, slice_get, All}
-use Rattle.std.proofs.lemmas.Bool.{or_left, true≢false, false≢true, cases_Bool}
+use Rattle.std.proofs.lemmas.Bool.{false≢true}
 use Rattle.std.proofs.lemmas.Option.{slice_get_within, get_or_from_slice_get, slice_get_read}
 use Rattle.std.proofs.lemmas.List.{map-append, get_or_default, get_or-set_same, get_or-set_other, get_or_append_left}
 use Rattle.std.proofs.lemmas.List.Folds.{list_any-append}
-use Rattle.sat_words.specs.Literal.{Literal, IsOn, code_of, same}
+use Rattle.sat_words.specs.Literal.{Literal, IsOn, code_of}
 use Rattle.sat_words.specs.Clause.{has, two_or_more}
 use Rattle.rup_model.proofs.Lists.{In, In_any, any_In, In_map, map_In, Contains_In, In_Contains}
 use Rattle.rup_model.proofs.Covers.{both_true}

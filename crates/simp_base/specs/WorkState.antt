@@ -1,6 +1,6 @@
 -- What a simplifier works on.
 use Rattle.std.specs.Prelude.{◌≡◌, ◌≢◌, ℕ, ◌≤◌, ◌<◌, ◌||◌, length, Bool, true, false, suc, List, [], ◌∷◌, ◌++◌, map, All}
-use Rattle.std.specs.List.{list_any, slice_index_or, sum_by}
+use Rattle.std.specs.List.{list_any, slice_index_or}
 use Rattle.sat_words.specs.Literal.{Literal, IsOn, same}
 use Rattle.sat_words.specs.Clause.{has, distinct_lits, clause_of}
 use Rattle.sat_words.specs.FormulaData.{FormulaData}

@@ -1,6 +1,6 @@
-use Rattle.std.proofs.Common.{◌≡◌, ◌∙◌, ◌+◌, ◌*◌, ◌<◌, sym, ap, subst, List, ℕ, [], ◌∷◌, ◌++◌, take, get_or, length, arith}
+use Rattle.std.proofs.Common.{◌≡◌, ◌∙◌, ◌+◌, sym, ap, subst, List, ℕ, [], ◌∷◌, ◌++◌, take, arith}
 use Rattle.std.specs.List.{All}
-use Rattle.sat_words.specs.Literal.{Literal, IsOn, code_of}
+use Rattle.sat_words.specs.Literal.{Literal, IsOn}
 use Rattle.sat_words.specs.Clause.{clause_of}
 use Rattle.simp_base.specs.WorkState.{numbered}
 use Rattle.simp_base.proofs.Begin.{copy_on, numbered_more}

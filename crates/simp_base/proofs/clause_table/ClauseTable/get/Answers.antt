@@ -1,4 +1,4 @@
-use Rattle.std.proofs.Common.{◌≡◌, ◌<◌, sym, ap, ◌∙◌, subst, List, ℕ, length, get_or, Contains, arith}
+use Rattle.std.proofs.Common.{◌≡◌, ◌<◌, sym, ap, ◌∙◌, subst, List, ℕ, length, Contains, arith}
 use Rattle.std.proofs.lemmas.List.{get_or_default}
 use Rattle.sat_words.specs.Literal.{Literal}
 use Rattle.simp_base.specs.Tables.{ClauseData}

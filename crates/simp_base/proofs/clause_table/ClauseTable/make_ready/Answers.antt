@@ -1,4 +1,4 @@
-use Rattle.std.proofs.Common.{◌≡◌, sym, ◌∙◌, subst, List, ℕ}
+use Rattle.std.proofs.Common.{sym, subst, List, ℕ}
 use Rattle.sat_words.specs.Literal.{Literal}
 use Rattle.simp_base.specs.Tables.{IsTable}
 use Rattle.simp_base.proofs.TableLemmas.{table_noted}

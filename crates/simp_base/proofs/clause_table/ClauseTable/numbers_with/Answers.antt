@@ -1,4 +1,4 @@
-use Rattle.std.proofs.Common.{◌≡◌, ◌∙◌, sym, subst, List, ℕ, Contains}
+use Rattle.std.proofs.Common.{◌∙◌, sym, subst, List, ℕ, Contains}
 use Rattle.simp_base.specs.Tables.{ClauseData}
 use Rattle.simp_base.proofs.clause_table.ClauseTable.numbers_with.Goals as goal
 

@@ -1,4 +1,4 @@
-use Rattle.std.proofs.Common.{◌≡◌, ◌<◌, sym, ap, ◌∙◌, subst, List, ℕ, false, ◌||◌, [], ◌∷◌, ◌++◌, length, get_or, Contains, arith}
+use Rattle.std.proofs.Common.{◌≡◌, sym, ap, ◌∙◌, subst, List, ℕ, false, ◌||◌, [], ◌∷◌, ◌++◌, length, get_or, Contains, arith}
 use Rattle.sat_words.specs.Literal.{Literal, code_of}
 use Rattle.simp_base.specs.WorkState.{is_only}
 use Rattle.simp_base.specs.Tables.{IsTable, ClauseData}

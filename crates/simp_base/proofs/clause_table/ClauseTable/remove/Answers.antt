@@ -1,8 +1,7 @@
-use Rattle.std.proofs.Common.{◌≡◌, ◌<◌, ◌≤◌, sym, ap, ◌∙◌, subst, List, ℕ, true, length, get_or, Contains, arith}
+use Rattle.std.proofs.Common.{◌<◌, sym, ap, ◌∙◌, subst, List, ℕ, length, Contains, arith}
 use Rattle.std.proofs.lemmas.List.{get_or_default}
 use Rattle.sat_words.specs.Literal.{Literal}
 use Rattle.sat_words.specs.Clause.{two_or_more}
-use Rattle.simp_base.specs.Removed.{Removed}
 use Rattle.simp_base.specs.Tables.{ClauseData, RemovedNumber}
 use Rattle.simp_base.proofs.TableLemmas.{found_number, found_clause, table_less, table_less_last}
 use Rattle.simp_base.proofs.clause_table.ClauseTable.remove.Goals as goal

@@ -1,4 +1,4 @@
-use Rattle.std.proofs.Common.{◌≡◌, ◌<◌, ap, sym, subst, get_or, ℕ, List, [], length, Contains, arith}
+use Rattle.std.proofs.Common.{◌<◌, sym, subst, get_or, ℕ, List, [], length, Contains, arith}
 use Rattle.sat_words.specs.Literal.{Literal, code_of}
 use Rattle.simp_base.proofs.Noting.{noted_more, there_set}
 use Rattle.simp_base.proofs.occurrences.Occurrences.note_all.Goals as goal

@@ -1,4 +1,4 @@
-use Rattle.std.proofs.Common.{◌≡◌, subst}
+use Rattle.std.proofs.Common.{subst}
 use Rattle.simp_base.specs.WorkState.{IsWork}
 use Rattle.simp_base.proofs.Steps.{deleted_keeps}
 use Rattle.simp_base.proofs.work.Work.delete.Goals as goal

@@ -1,5 +1,5 @@
-use Rattle.std.proofs.Common.{◌≡◌, ◌+◌, false, ap, sym, ◌∙◌, subst, ℕ, List, ◌∷◌, [], ◌++◌, arith}
-use Rattle.sat_words.specs.Literal.{Literal, IsOn}
+use Rattle.std.proofs.Common.{◌≡◌, ◌+◌, false, ap, sym, ◌∙◌, subst, ℕ, ◌∷◌, [], ◌++◌, arith}
+use Rattle.sat_words.specs.Literal.{IsOn}
 use Rattle.sat_words.specs.Clause.{has}
 use Rattle.drat_text.specs.LineState.{LineState}
 use Rattle.simp_base.specs.WorkState.{WorkState}

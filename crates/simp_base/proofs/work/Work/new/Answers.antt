@@ -1,4 +1,4 @@
-use Rattle.std.proofs.Common.{◌≡◌, ◌+◌, ◌*◌, ap, sym, ◌∙◌, subst, arith, false, []}
+use Rattle.std.proofs.Common.{◌≡◌, sym, subst, arith, false, []}
 use Rattle.drat_text.specs.LineState.{LineState}
 use Rattle.simp_base.specs.WorkState.{WorkState, IsWork, begun}
 use Rattle.simp_base.specs.Log.{Stands}

@@ -1,4 +1,4 @@
-use Rattle.std.proofs.Common.{◌≡◌, sym, subst, Contains}
+use Rattle.std.proofs.Common.{sym, subst, Contains}
 use Rattle.simp_base.specs.WorkState.{WorkState}
 use Rattle.simp_base.proofs.work.Work.numbers_with.Goals as goal
 

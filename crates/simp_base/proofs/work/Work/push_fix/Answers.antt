@@ -1,10 +1,7 @@
-use Rattle.std.proofs.Common.{◌≡◌, ◌∙◌, sym, ap, subst, List, ℕ, [], ◌∷◌, ◌++◌, append-nil}
-use Rattle.model_stack.specs.declared.stack.Fix.{Fix}
-use Rattle.rup_model.specs.declared.journal.Entry.{Entry}
-use Rattle.drat_text.specs.JournalText.{Origin}
-use Rattle.sat_words.specs.Literal.{Literal, IsOn}
+use Rattle.std.proofs.Common.{sym, subst}
+use Rattle.sat_words.specs.Literal.{IsOn}
 use Rattle.std.specs.List.{All}
-use Rattle.simp_base.specs.WorkState.{WorkState, IsWork}
+use Rattle.simp_base.specs.WorkState.{WorkState}
 use Rattle.simp_base.specs.Log.{Stands}
 use Rattle.simp_base.proofs.Keeping.{work_pushed}
 use Rattle.simp_base.proofs.Steps.{stands_pushed}

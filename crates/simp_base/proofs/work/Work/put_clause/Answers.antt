@@ -1,6 +1,6 @@
-use Rattle.std.proofs.Common.{◌≡◌, ◌+◌, ap, sym, ◌∙◌, subst, ℕ, List, ◌∷◌, [], ◌++◌, arith}
+use Rattle.std.proofs.Common.{◌≡◌, ◌+◌, ap, sym, ◌∙◌, subst, ℕ, ◌∷◌, [], ◌++◌, arith}
 use Rattle.std.specs.List.{All}
-use Rattle.sat_words.specs.Literal.{Literal, IsOn}
+use Rattle.sat_words.specs.Literal.{IsOn}
 use Rattle.sat_words.specs.Clause.{clause_of}
 use Rattle.drat_text.specs.LineState.{LineState}
 use Rattle.simp_base.specs.WorkState.{WorkState}

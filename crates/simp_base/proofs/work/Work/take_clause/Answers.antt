@@ -1,11 +1,9 @@
-use Rattle.std.proofs.Common.{◌≡◌, ◌+◌, ap, sym, ◌∙◌, subst, ◌∷◌, [], ◌++◌, ℕ, List, length, get_or, ◌<◌, Contains, arith}
-use Rattle.sat_words.specs.Literal.{Literal}
+use Rattle.std.proofs.Common.{◌≡◌, ◌+◌, ap, sym, ◌∙◌, subst, Contains}
 use Rattle.sat_words.specs.declared.line.Line.TheVariants.{Del as DelLine}
-use Rattle.std.specs.Prelude.{Err}
 use Rattle.drat_text.specs.LineState.{LineState}
 use Rattle.drat_text.specs.LineOut.{PutLine}
 use Rattle.simp_base.specs.WorkState.{WorkState}
-use Rattle.simp_base.specs.Calls.{Deleted, WasDeleted}
+use Rattle.simp_base.specs.Calls.{Deleted}
 use Rattle.simp_base.proofs.Keeping.{work_deleted, deleted_by, put_del}
 use Rattle.simp_base.proofs.work.Work.take_clause.Goals as goal
 

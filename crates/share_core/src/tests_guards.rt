@@ -1,263 +1,227 @@
 // Events that are refused for want of some part of their guard, beside such as are not.
-use crate::Step;
-use crate::tests::{Move, NOTHING, Row, Seen};
-use crate::tests_opening::{FOUR, THREE};
-use rup_model::Kind;
 
 /// With two rings, events that name another. Grant, TakeTurn, Stop, and the slots of ring 0 for it lack nothing else;
 /// the other rows lack more of their guard too.
-pub(crate) const NO_RINGS: Row = Row {
-    small: THREE,
-    rings: 2,
-    events: &[
-        (Move::Grant(2), Step::Refused),
-        (Move::TakeTurn(2), Step::Refused),
-        (Move::GiveTurn(2), Step::Refused),
-        (Move::AddClause(2, Kind::Learn, &[1, 2], 50), Step::Refused),
-        (Move::AddUnit(2, Kind::Learn, 2), Step::Refused),
-        (Move::AddEmpty(2), Step::Refused),
-        (Move::Reduce(2), Step::Refused),
-        (Move::OpenCell(2, 50), Step::Refused),
-        (Move::Read(2, 20), Step::Refused),
-        (Move::Share(2, 20), Step::Refused),
-        (Move::DropCount(2, 20), Step::Refused),
-        (Move::Bury(2, 20), Step::Refused),
-        (Move::Put(2, 0, 0, 20), Step::Refused),
-        (Move::Get(2, 0, 0), Step::Refused),
-        (Move::Publish(2, 2), Step::Refused),
-        (Move::See(2), Step::Refused),
-        (Move::Stop(2, 1), Step::Refused),
-        (Move::Grant(0), Step::Done),
-        (Move::Put(0, 2, 0, 20), Step::Refused),
-        (Move::Get(0, 2, 0), Step::Refused),
-        (Move::Put(0, 1, 0, 20), Step::Done),
-        (Move::Get(0, 1, 0), Step::Done),
-    ],
-    left: Seen {
-        cells: &[(20, 2, 1), (25, 2, 2), (30, 2, 3)],
-        held: &[(0, 20, 0), (0, 25, 1), (1, 20, 0), (2, 20, 0)],
-        slots: &[(0, 1, 0, 20), (0, 2, 0, 0), (2, 0, 0, 0), (0, 1, 4, 0)],
-        ..NOTHING
-    },
-};
+pub(crate) const NO_RINGS: &str = "\
+2 grant = refused
+2 take-turn = refused
+2 give-turn = refused
+2 learn 50 : 1 2 = refused
+2 learn unit 2 = refused
+2 empty = refused
+2 reduce = refused
+2 open 50 = refused
+2 read 20 = refused
+2 share 20 = refused
+2 drop 20 = refused
+2 bury 20 = refused
+2 put 20 for 0 class 0 = refused
+2 get from 0 class 0 = refused
+2 publish 2 = refused
+2 see = refused
+2 stop 1 = refused
+0 grant = done
+0 put 20 for 2 class 0 = refused
+0 get from 2 class 0 = refused
+0 put 20 for 1 class 0 = done
+0 get from 1 class 0 = done
+leaves
+20 : clause 1, count 2
+25 : clause 2, count 2, held 1 by 0
+30 : clause 3, count 2, held 1 by 0
+slot of 0 for 1 class 0 : 20
+units, seen 0 0 0 0
+";
 
 /// The turn and the grants.
-pub(crate) const TURNS: Row = Row {
-    small: THREE,
-    rings: 2,
-    events: &[
-        (Move::GiveTurn(0), Step::Refused),
-        (Move::TakeTurn(0), Step::Done),
-        (Move::TakeTurn(0), Step::Refused),
-        (Move::TakeTurn(1), Step::Refused),
-        (Move::GiveTurn(1), Step::Refused),
-        (Move::GiveTurn(0), Step::Done),
-        (Move::TakeTurn(1), Step::Done),
-        (Move::Read(0, 20), Step::Refused),
-        (Move::Grant(0), Step::Done),
-        (Move::Grant(0), Step::Refused),
-        (Move::Read(0, 20), Step::Done),
-        (Move::Read(0, 21), Step::Refused),
-        (Move::Read(1, 20), Step::Refused),
-    ],
-    left: Seen {
-        held: &[(0, 20, 1), (1, 20, 0)],
-        turn: Some(1),
-        ..NOTHING
-    },
-};
+pub(crate) const TURNS: &str = "\
+0 give-turn = refused
+0 take-turn = done
+0 take-turn = refused
+1 take-turn = refused
+1 give-turn = refused
+0 give-turn = done
+1 take-turn = done
+0 read 20 = refused
+0 grant = done
+0 grant = refused
+0 read 20 = done
+0 read 21 = refused
+1 read 20 = refused
+leaves
+20 : clause 1, count 2, held 1 by 0
+25 : clause 2, count 2, held 1 by 0
+30 : clause 3, count 2, held 1 by 0
+units, seen 0 0 0 0
+turn of 1
+";
 
 /// Clauses that a ring adds.
-pub(crate) const CLAUSES: Row = Row {
-    small: THREE,
-    rings: 2,
-    events: &[
-        (Move::Grant(0), Step::Done),
-        (Move::AddClause(0, Kind::Learn, &[1, 2], 50), Step::Refused), // no turn
-        (Move::TakeTurn(1), Step::Done),
-        (Move::AddClause(0, Kind::Learn, &[1, 2], 50), Step::Refused), // another's turn
-        (Move::AddClause(1, Kind::Learn, &[1, 2], 50), Step::Refused), // knows nothing
-        (Move::GiveTurn(1), Step::Done),
-        (Move::TakeTurn(0), Step::Done),
-        (Move::AddClause(0, Kind::Ruler, &[1, 2], 50), Step::Refused),
-        (
-            Move::AddClause(0, Kind::UnitLine, &[1, 2], 50),
-            Step::Refused,
-        ),
-        (Move::AddClause(0, Kind::Learn, &[2], 50), Step::Refused), // one literal
-        (
-            Move::AddClause(0, Kind::Learn, &[1, 2, 2], 50),
-            Step::Refused,
-        ), // a repeat
-        (
-            Move::AddClause(0, Kind::Learn, &[2, 4, -4], 50),
-            Step::Refused,
-        ), // opposites
-        (Move::AddClause(0, Kind::Learn, &[1, 2], 20), Step::Refused), // a cell
-        (Move::AddClause(0, Kind::Learn, &[1, 2], 0), Step::Refused), // no address
-        (Move::AddClause(0, Kind::Learn, &[1, 3], 50), Step::Refused), // does not follow
-        (
-            Move::AddClause(0, Kind::Learn, &[4, 2, -1], 50),
-            Step::Refused,
-        ), // a start clause in it
-        (Move::AddClause(0, Kind::Derive, &[2, 4], 50), Step::Refused), // in no clause held
-        (Move::AddClause(0, Kind::Learn, &[2, 1], 50), Step::Done),
-        (Move::AddClause(0, Kind::Learn, &[1, 2], 60), Step::Refused), // learned before
-        (
-            Move::AddClause(0, Kind::Learn, &[1, 2, 4], 60),
-            Step::Refused,
-        ), // what was learned in it
-        (Move::AddClause(0, Kind::Learn, &[2, 4], 50), Step::Refused), // a cell that is built
-        (Move::AddClause(0, Kind::Derive, &[1, 2], 60), Step::Done),
-        (Move::GiveTurn(0), Step::Done),
-        (Move::Grant(1), Step::Done),
-        (Move::TakeTurn(1), Step::Done),
-        (Move::AddClause(1, Kind::Learn, &[1, 2], 70), Step::Done),
-    ],
-    left: Seen {
-        cells: &[(20, 2, 1), (50, 0, 4), (60, 0, 5), (70, 0, 6), (80, 0, 0)],
-        lines: &[(false, &[2, 1]), (false, &[1, 2]), (false, &[1, 2])],
-        turn: Some(1),
-        ..NOTHING
-    },
-};
+pub(crate) const CLAUSES: &str = "\
+0 grant = done
+0 learn 50 : 1 2 = refused # no turn
+1 take-turn = done
+0 learn 50 : 1 2 = refused # another's turn
+1 learn 50 : 1 2 = refused # knows nothing
+1 give-turn = done
+0 take-turn = done
+0 ruler 50 : 1 2 = refused
+0 propagate 50 : 1 2 = refused
+0 learn 50 : 2 = refused # one literal
+0 learn 50 : 1 2 2 = refused # a repeat
+0 learn 50 : 2 4 -4 = refused # opposites
+0 learn 20 : 1 2 = refused # a cell
+0 learn 0 : 1 2 = refused # no address
+0 learn 50 : 1 3 = refused # does not follow
+0 learn 50 : 4 2 -1 = refused # a start clause in it
+0 derive 50 : 2 4 = refused # in no clause held
+0 learn 50 : 2 1 = done
+0 learn 60 : 1 2 = refused # learned before
+0 learn 60 : 1 2 4 = refused # what was learned in it
+0 learn 50 : 2 4 = refused # a cell that is built
+0 derive 60 : 1 2 = done
+0 give-turn = done
+1 grant = done
+1 take-turn = done
+1 learn 70 : 1 2 = done
+leaves
+20 : clause 1, count 2, held 1 by 0, held 1 by 1
+25 : clause 2, count 2, held 1 by 0, held 1 by 1
+30 : clause 3, count 2, held 1 by 0, held 1 by 1
+50 : clause 4, count 0
+60 : clause 5, count 0
+70 : clause 6, count 0
+line 2 1 0
+line 1 2 0
+line 1 2 0
+units, seen 0 0 0 0
+turn of 1
+";
 
 /// Units, over a formula that is unsatisfiable, and the end of the log.
-pub(crate) const UNITS: Row = Row {
-    small: FOUR,
-    rings: 2,
-    events: &[
-        (Move::TakeTurn(0), Step::Done),
-        (Move::AddUnit(0, Kind::Learn, 1), Step::Refused), // knows nothing
-        (Move::Grant(0), Step::Done),
-        (Move::Grant(1), Step::Done),
-        (Move::AddUnit(0, Kind::Ruler, 1), Step::Refused),
-        (Move::AddUnit(0, Kind::Derive, 1), Step::Refused),
-        (Move::AddUnit(1, Kind::Learn, 1), Step::Refused), // another's turn
-        (Move::AddUnit(0, Kind::Learn, 3), Step::Refused), // does not follow
-        (Move::AddUnit(0, Kind::Learn, 1), Step::Done),
-        (Move::AddUnit(0, Kind::Learn, 1), Step::Refused), // learned before
-        (Move::AddUnit(0, Kind::UnitLine, 1), Step::Done),
-        (Move::Publish(0, 2), Step::Refused), // neither given nor added
-        (Move::Publish(1, 1), Step::Refused), // another's turn
-        (Move::AddEmpty(0), Step::Refused), // does not follow
-        (Move::Stop(0, 2), Step::Refused), // the log goes on
-        (Move::See(1), Step::Refused), // nothing is listed
-        (Move::Publish(0, 1), Step::Done),
-        (Move::Publish(0, 1), Step::Refused), // listed before
-        (Move::See(0), Step::Refused), // has seen what it listed
-        (Move::AddUnit(0, Kind::Learn, 2), Step::Done), // by the unit seen
-        (Move::GiveTurn(0), Step::Done),
-        (Move::TakeTurn(1), Step::Done),
-        (Move::Publish(1, 2), Step::Refused), // has not seen the first
-        (Move::See(1), Step::Done),
-        (Move::See(1), Step::Refused),
-        (Move::Publish(1, 2), Step::Done),
-        (Move::AddClause(1, Kind::Learn, &[5, 6], 50), Step::Done),
-        (Move::OpenCell(1, 50), Step::Done),
-        (Move::DropCount(1, 50), Step::Done),
-        (Move::AddEmpty(0), Step::Refused), // another's turn
-        (Move::AddEmpty(1), Step::Done),
-        (Move::AddEmpty(1), Step::Refused), // the log is ended
-        (Move::AddUnit(1, Kind::Learn, 7), Step::Refused),
-        (Move::AddClause(1, Kind::Learn, &[7, 8], 60), Step::Refused),
-        (Move::Bury(1, 50), Step::Refused),
-        (Move::Stop(1, 0), Step::Refused), // no kind
-        (Move::Stop(1, 6), Step::Refused),
-        (Move::Stop(1, 2), Step::Done),
-        (Move::Stop(0, 5), Step::Done), // the first stays
-    ],
-    left: Seen {
-        cells: &[(20, 2, 1), (50, 0, 8)],
-        waiting: &[(1, 50)],
-        lines: &[
-            (false, &[1]),
-            (false, &[1]),
-            (false, &[2]),
-            (false, &[5, 6]),
-            (false, &[]),
-        ],
-        units: &[1, 2],
-        seen: &[1, 2, 0],
-        turn: Some(1),
-        stop: Some((2, 1)),
-        ..NOTHING
-    },
-};
+pub(crate) const UNITS: &str = "\
+0 take-turn = done
+0 learn unit 1 = refused # knows nothing
+0 grant = done
+1 grant = done
+0 ruler unit 1 = refused
+0 derive unit 1 = refused
+1 learn unit 1 = refused # another's turn
+0 learn unit 3 = refused # does not follow
+0 learn unit 1 = done
+0 learn unit 1 = refused # learned before
+0 propagate unit 1 = done
+0 publish 2 = refused # neither given nor added
+1 publish 1 = refused # another's turn
+0 empty = refused # does not follow
+0 stop 2 = refused # the log goes on
+1 see = refused # nothing is listed
+0 publish 1 = done
+0 publish 1 = refused # listed before
+0 see = refused # has seen what it listed
+0 learn unit 2 = done # by the unit seen
+0 give-turn = done
+1 take-turn = done
+1 publish 2 = refused # has not seen the first
+1 see = done
+1 see = refused
+1 publish 2 = done
+1 learn 50 : 5 6 = done
+1 open 50 = done
+1 drop 50 = done
+0 empty = refused # another's turn
+1 empty = done
+1 empty = refused # the log is ended
+1 learn unit 7 = refused
+1 learn 60 : 7 8 = refused
+1 bury 50 = refused
+1 stop 0 = refused # no kind
+1 stop 6 = refused
+1 stop 2 = done
+0 stop 5 = done # the first stays
+leaves
+20 : clause 1, count 2, held 1 by 0, held 1 by 1
+25 : clause 2, count 2, held 1 by 0, held 1 by 1
+30 : clause 3, count 2, held 1 by 0, held 1 by 1
+35 : clause 4, count 2, held 1 by 0, held 1 by 1
+50 : clause 8, count 0, waits at 1
+line 1 0
+line 1 0
+line 2 0
+line 5 6 0
+line 0
+units 1 2, seen 1 2 0 0
+turn of 1
+stop 2 by 1
+";
 
 /// Cells, from their beginning to their deletion.
-pub(crate) const CELLS: Row = Row {
-    small: THREE,
-    rings: 2,
-    events: &[
-        (Move::Grant(0), Step::Done),
-        (Move::Grant(1), Step::Done),
-        (Move::OpenCell(0, 50), Step::Refused), // no cell
-        (Move::TakeTurn(0), Step::Done),
-        (Move::AddClause(0, Kind::Learn, &[1, 2], 50), Step::Done),
-        (Move::Read(0, 50), Step::Refused), // still built
-        (Move::Share(0, 50), Step::Refused),
-        (Move::DropCount(0, 50), Step::Refused),
-        (Move::OpenCell(1, 50), Step::Refused), // another builds it
-        (Move::OpenCell(0, 50), Step::Done),
-        (Move::OpenCell(0, 50), Step::Refused), // open
-        (Move::Share(1, 50), Step::Refused), // another holds it
-        (Move::DropCount(1, 50), Step::Refused),
-        (Move::Share(0, 50), Step::Done),
-        (Move::DropCount(0, 50), Step::Done),
-        (Move::Bury(0, 50), Step::Refused), // still held
-        (Move::DropCount(0, 50), Step::Done),
-        (Move::DropCount(0, 50), Step::Refused), // not held any more
-        (Move::Read(0, 50), Step::Refused),
-        (Move::GiveTurn(0), Step::Done),
-        (Move::Bury(0, 50), Step::Refused), // no turn
-        (Move::TakeTurn(1), Step::Done),
-        (Move::Bury(1, 50), Step::Refused), // waits at another
-        (Move::GiveTurn(1), Step::Done),
-        (Move::TakeTurn(0), Step::Done),
-        (Move::Bury(0, 50), Step::Done),
-        (Move::Bury(0, 50), Step::Refused), // gone
-        (Move::AddClause(0, Kind::Derive, &[1, 2], 50), Step::Done), // its address is free
-        (Move::DropCount(0, 20), Step::Done),
-        (Move::Bury(0, 20), Step::Refused), // the other still holds it
-        (Move::DropCount(1, 20), Step::Done),
-        (Move::Bury(0, 20), Step::Refused), // waits at the one that dropped it last
-    ],
-    left: Seen {
-        cells: &[(20, 0, 1), (25, 2, 2), (50, 0, 5)],
-        held: &[(0, 20, 0), (0, 25, 1), (0, 50, 0)],
-        waiting: &[(1, 20)],
-        lines: &[(false, &[1, 2]), (true, &[1, 2]), (false, &[1, 2])],
-        turn: Some(0),
-        ..NOTHING
-    },
-};
+pub(crate) const CELLS: &str = "\
+0 grant = done
+1 grant = done
+0 open 50 = refused # no cell
+0 take-turn = done
+0 learn 50 : 1 2 = done
+0 read 50 = refused # still built
+0 share 50 = refused
+0 drop 50 = refused
+1 open 50 = refused # another builds it
+0 open 50 = done
+0 open 50 = refused # open
+1 share 50 = refused # another holds it
+1 drop 50 = refused
+0 share 50 = done
+0 drop 50 = done
+0 bury 50 = refused # still held
+0 drop 50 = done
+0 drop 50 = refused # not held any more
+0 read 50 = refused
+0 give-turn = done
+0 bury 50 = refused # no turn
+1 take-turn = done
+1 bury 50 = refused # waits at another
+1 give-turn = done
+0 take-turn = done
+0 bury 50 = done
+0 bury 50 = refused # gone
+0 derive 50 : 1 2 = done # its address is free
+0 drop 20 = done
+0 bury 20 = refused # the other still holds it
+1 drop 20 = done
+0 bury 20 = refused # waits at the one that dropped it last
+leaves
+20 : clause 1, count 0, waits at 1
+25 : clause 2, count 2, held 1 by 0, held 1 by 1
+30 : clause 3, count 2, held 1 by 0, held 1 by 1
+50 : clause 5, count 0
+line 1 2 0
+line d 1 2 0
+line 1 2 0
+units, seen 0 0 0 0
+turn of 0
+";
 
 /// Slots between three rings.
-pub(crate) const EXCHANGE: Row = Row {
-    small: THREE,
-    rings: 3,
-    events: &[
-        (Move::Put(0, 1, 3, 20), Step::Refused), // not held
-        (Move::Grant(0), Step::Done),
-        (Move::Grant(1), Step::Done),
-        (Move::Put(0, 0, 3, 20), Step::Refused), // to itself
-        (Move::Put(0, 1, 4, 20), Step::Refused), // no class
-        (Move::Put(0, 1, 3, 50), Step::Refused), // no cell
-        (Move::Get(0, 0, 3), Step::Refused), // from itself
-        (Move::Get(0, 1, 4), Step::Refused), // no class
-        (Move::Put(0, 1, 3, 20), Step::Done),
-        (Move::Put(0, 1, 3, 20), Step::Refused), // not held any more
-        (Move::Put(0, 2, 3, 25), Step::Done),
-        (Move::Get(1, 0, 2), Step::Done), // nothing there
-        (Move::Get(1, 2, 3), Step::Done),
-        (Move::Get(1, 0, 3), Step::Done),
-        (Move::Get(1, 0, 3), Step::Done), // nothing any more
-    ],
-    left: Seen {
-        cells: &[(20, 3, 1), (25, 3, 2)],
-        held: &[(0, 20, 0), (1, 20, 2), (0, 25, 0), (2, 25, 0)],
-        slots: &[(0, 1, 3, 0), (0, 2, 3, 25)],
-        ..NOTHING
-    },
-};
+pub(crate) const EXCHANGE: &str = "\
+0 put 20 for 1 class 3 = refused # not held
+0 grant = done
+1 grant = done
+0 put 20 for 0 class 3 = refused # to itself
+0 put 20 for 1 class 4 = refused # no class
+0 put 50 for 1 class 3 = refused # no cell
+0 get from 0 class 3 = refused # from itself
+0 get from 1 class 4 = refused # no class
+0 put 20 for 1 class 3 = done
+0 put 20 for 1 class 3 = refused # not held any more
+0 put 25 for 2 class 3 = done
+1 get from 0 class 2 = done # nothing there
+1 get from 2 class 3 = done
+1 get from 0 class 3 = done
+1 get from 0 class 3 = done # nothing any more
+leaves
+20 : clause 1, count 3, held 2 by 1
+25 : clause 2, count 3, held 1 by 1
+30 : clause 3, count 3, held 1 by 0, held 1 by 1
+slot of 0 for 2 class 3 : 25
+units, seen 0 0 0 0
+";

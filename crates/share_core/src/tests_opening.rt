@@ -10,51 +10,46 @@ use crate::guards::{are_distinct, is_long};
 use crate::journal::is_told;
 use crate::running::start_clauses;
 use crate::stored::ClauseAt;
-use crate::tests::lits;
+use crate::tests::{lit, lits, words};
 use sat_words::{Clause, Formula, Lit};
 use std::alloc::Global;
 use std::test::Fail;
 
-/// A formula, with literals as in a file; its start clauses by address and number, and the units that are listed.
-#[derive(Clone, Copy)]
-pub(crate) struct Small {
-    vars: u32,
-    clauses: &'static [&'static [i32]],
-    start: &'static [(u64, u64)],
-    units: &'static [i32],
-}
-
 /// Three start clauses, of which 2 follows.
-pub(crate) const THREE: Small = Small {
-    vars: 3,
-    clauses: &[&[1, 2, 3], &[1, 2, -3], &[-1, 2]],
-    start: &[(20, 1), (25, 2), (30, 3)],
-    units: &[],
-};
+pub(crate) const THREE: &str = "\
+3 variables
+20 : 1 2 3
+25 : 1 2 -3
+30 : -1 2
+";
 
 /// All clauses over two variables: unsatisfiable.
-pub(crate) const FOUR: Small = Small {
-    vars: 2,
-    clauses: &[&[1, 2], &[1, -2], &[-1, 2], &[-1, -2]],
-    start: &[(20, 1), (25, 2), (30, 3), (35, 4)],
-    units: &[],
-};
+pub(crate) const FOUR: &str = "\
+2 variables
+20 : 1 2
+25 : 1 -2
+30 : -1 2
+35 : -1 -2
+";
 
 /// Units in the formula, one of which is listed from the start, and one of which is written with a repeat.
-pub(crate) const GIVEN: Small = Small {
-    vars: 5,
-    clauses: &[&[1], &[-1, 2], &[-2, 3, 4], &[4, -4], &[5, 5]],
-    start: &[(20, 2), (25, 3)],
-    units: &[1],
-};
+pub(crate) const GIVEN: &str = "\
+5 variables
+no cell : 1
+20 : -1 2
+25 : -2 3 4
+no cell : 4 -4
+no cell : 5 5
+unit 1
+";
 
 /// The empty clause, a unit and one more.
-pub(crate) const EMPTY: Small = Small {
-    vars: 2,
-    clauses: &[&[], &[1, 2], &[1]],
-    start: &[(20, 2)],
-    units: &[],
-};
+pub(crate) const EMPTY: &str = "\
+2 variables
+no cell :
+20 : 1 2
+no cell : 1
+";
 
 /// Whether it has an address, and the number of a clause that is long.
 fn start_fits(s: &ClauseAt, clauses: &[Clause]) -> bool
@@ -108,28 +103,73 @@ fn opens(clauses: &[Clause], starts: &[ClauseAt], units: &[Lit], rings: u32) -> 
         && are_distinct(units)
 }
 
-fn formula(alloc: Global, small: Small) -> Result<Formula, Fail> {
-    let mut formula = Formula::new(alloc, small.vars);
-    for ints in small.clauses {
-        let lits = lits(alloc, *ints)?;
-        formula.push(Clause::from_lits(alloc, lits.as_slice())?)?;
-    }
-    Ok(formula)
+/// A formula; its start clauses by address and number, and the units that are listed.
+#[derive(Drop)]
+struct Opening {
+    formula: Formula,
+    start: Vec<(u64, u64)>,
+    units: Vec<Lit>,
 }
 
-/// The core over the formula.
-pub(crate) fn open(rt: &impl AllocGlobal, small: Small, rings: u32) -> Result<Core, Fail> {
-    let alloc = rt.alloc();
-    let formula = formula(alloc, small)?;
-    let units = lits(alloc, small.units)?;
-    let starts = start_clauses(alloc, formula.clauses(), small.start)?;
-    if !opens(
-        formula.clauses(),
-        starts.as_slice(),
-        units.as_slice(),
-        rings,
-    ) {
+impl Opening {
+    fn push_clause(&mut self, alloc: Global, ints: &[&'static str]) -> Result<(), Fail> {
+        let lits = lits(alloc, ints)?;
+        let clause = Clause::from_lits(alloc, lits.as_slice())?;
+        self.formula.push(clause)?;
+        Ok(())
+    }
+
+    /// A clause with the address of its cell, or one that has none, or a unit that is listed.
+    fn add(&mut self, alloc: Global, line: &'static str) -> Result<(), Fail> {
+        let words = words(alloc, line)?;
+        match words.as_slice() {
+            ["unit", n] => self.units.push(lit(*n)?)?,
+            ["no", "cell", ":", ints @ ..] => self.push_clause(alloc, ints)?,
+            [address, ":", ints @ ..] => {
+                self.push_clause(alloc, ints)?;
+                let number = self.formula.clauses().len() as u64;
+                self.start.push((address.parse()?, number))?;
+            }
+            _ => return Err(Fail::from("no line of an opening")),
+        }
+        Ok(())
+    }
+}
+
+/// The core over the formula, where these open one.
+fn core_over(
+    alloc: Global,
+    formula: Formula,
+    start: &[(u64, u64)],
+    units: &[Lit],
+    rings: u32,
+) -> Result<Core, Fail> {
+    let starts = start_clauses(alloc, formula.clauses(), start)?;
+    if !opens(formula.clauses(), starts.as_slice(), units, rings) {
         return Err(Fail::from("no opening"));
     }
-    Ok(Core::new(alloc, formula, small.start, units.as_slice(), rings)?)
+    Ok(Core::new(alloc, formula, start, units, rings)?)
+}
+
+/// The core over an opening as text: the number of variables, and then a line for each clause, by the address of its cell,
+/// and for each listed unit.
+pub(crate) fn open(rt: &impl AllocGlobal, text: &'static str, rings: u32) -> Result<Core, Fail> {
+    let alloc = rt.alloc();
+    let Some((vars, lines)) = text.split_once(" variables\n") else {
+        return Err(Fail::from("no opening"));
+    };
+    let mut opening = Opening {
+        formula: Formula::new(alloc, vars.parse()?),
+        start: Vec::new(alloc),
+        units: Vec::new(alloc),
+    };
+    for line in lines.lines() {
+        opening.add(alloc, line)?;
+    }
+    let Opening {
+        formula,
+        start,
+        units,
+    } = opening;
+    core_over(alloc, formula, start.as_slice(), units.as_slice(), rings)
 }

@@ -1,7 +1,7 @@
 // Walks over pseudo-random events. After each the counts are compared with a plain recount of who holds.
 ghost use Rattle.std.specs.Prelude.{◌<◌};
 
-use crate::tests_opening::{FOUR, Small, THREE, open};
+use crate::tests_opening::{FOUR, THREE, open};
 use crate::{Core, Event, Step};
 use rup_model::Kind;
 use sat_words::{Lit, Lits};
@@ -188,11 +188,11 @@ fn check_counts(rt: &impl Abort, core: &Core, last: u64, open: u64) {
 /// Walks, and tells how many of the events were enabled.
 fn wander(
     rt: &(impl Abort + AllocGlobal),
-    small: Small,
+    opening: &'static str,
     last: u64,
     seed: u64,
 ) -> Result<u32, Fail> {
-    let mut core = open(rt, small, RINGS)?;
+    let mut core = open(rt, opening, RINGS)?;
     let mut words = Words { state: seed };
     let mut done: u32 = 0;
     let mut grants: u64 = RINGS as u64;
@@ -214,9 +214,13 @@ fn grants_taken(event: &Event) -> u64 {
     }
 }
 
-fn check_walks(rt: &(impl Abort + AllocGlobal), small: Small, last: u64) -> Result<(), Fail> {
+fn check_walks(
+    rt: &(impl Abort + AllocGlobal),
+    opening: &'static str,
+    last: u64,
+) -> Result<(), Fail> {
     for seed in 1..6 {
-        let done = wander(rt, small, last, seed)?;
+        let done = wander(rt, opening, last, seed)?;
         assert!(rt; done >= 50, "{done} of seed {seed}");
     }
     Ok(())

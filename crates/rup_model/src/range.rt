@@ -1,8 +1,7 @@
 ghost use Rattle.std.specs.Prelude.{◌≡◌, ◌<◌, ◌≤◌, All, IfOk, None, length, map, replicate};
 
-use crate::assigned::Assigned;
 use crate::literals::Literals;
-use sat_words::Lit;
+use sat_words::{Lit, Values};
 use std::alloc::{AllocError, Global};
 
 /// A number that no variable of the literals is above.
@@ -32,11 +31,11 @@ pub(crate) fn room_for<C: Literals>(
     alloc: Global,
     clauses: &[C],
     lits: &[Lit],
-) -> Result<Assigned, AllocError>
+) -> Result<Values, AllocError>
     ensures blank { IfOk result (λ a. a ≡ replicate (length a) None) }
     ensures clauses_in_range { IfOk result (λ a. All (All (λ l. l.var < length a)) (C.lists clauses.now)) }
     ensures lits_in_range { IfOk result (λ a. All (λ l. l.var < length a) lits.now) }
 {
     let most = greatest(lits).max(greatest_of_all(clauses));
-    Assigned::new(alloc, most)
+    Values::new(alloc, most)
 }

@@ -8,6 +8,7 @@ mod laws;
 mod line;
 mod literal;
 mod shared;
+mod values;
 
 pub use assignment::Assignment;
 pub use clause::{Clause, Formula};
@@ -15,6 +16,7 @@ pub use laws::{a_clause_is_a_set, equal_lists_are_one, truth_is_of_the_set};
 pub use line::{Line, Lits};
 pub use literal::Lit;
 pub use shared::{Cref, Head, STOP_MEMORY, STOP_PROOF, STOP_REFUTED, STOP_ROOM, STOP_SAT, Stop};
+pub use values::Values;
 
 #[cfg(test)]
 mod tests;

@@ -1,4 +1,4 @@
-use crate::{Assignment, Clause, Formula, Line, Lit, Lits};
+use crate::{Assignment, Clause, Formula, Line, Lit, Lits, Values};
 use std::alloc::Global;
 use std::test::Fail;
 
@@ -136,5 +136,23 @@ fn a_line_keeps_order_and_repeats(rt: HostRuntime) -> Result<(), Fail> {
     assert!(rt; again == lits);
     assert!(rt; again.as_slice() == given.as_slice());
     assert!(rt; Line::Add(again) != Line::Del(lits));
+    Ok(())
+}
+
+#[test]
+fn values_come_and_go(rt: HostRuntime) -> Result<(), Fail> {
+    let mut values = Values::new(rt.alloc(), 3)?;
+    values.set(Lit::new(1, false));
+    values.set(Lit::new(3, true));
+    assert!(rt; values.is_true(Lit::new(3, true)));
+    assert!(rt; values.is_false(Lit::new(3, false)));
+    assert!(rt; !values.is_false(Lit::new(2, false)));
+    assert_eq!(rt; values.value(1), Some(true));
+    values.unset(1);
+    assert_eq!(rt; values.value(1), None);
+    values.clear();
+    for var in 0..5 {
+        assert_eq!(rt; values.value(var), None);
+    }
     Ok(())
 }

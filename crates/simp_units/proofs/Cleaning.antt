@@ -13,7 +13,7 @@ use Rattle.sat_words.specs.declared.line.Line.{Line}
 use Rattle.sat_words.specs.declared.line.Line.TheVariants.{Del as DelLine}
 use Rattle.sat_words.specs.Clause.{has, InOrder, includes, has_opposites, two_or_more, clause_of, is_empty}
 use Rattle.sat_words.proofs.Insertion.{has-clause_of}
-use Rattle.rup_model.specs.Assigned.{is_true, is_value, value_of}
+use Rattle.sat_words.specs.Values.{is_true, is_value, value_of}
 use Rattle.rup_model.specs.Rounds.{falsifies}
 use Rattle.rup_model.specs.Rup.{rup}
 use Rattle.rup_model.specs.Status.{IsSettled}

@@ -5,7 +5,7 @@ use Rattle.std.proofs.lemmas.Bool.{or_left, or_right, or_cases, and_from, cases_
 use Rattle.sat_words.specs.Literal.{Literal, opposite, same}
 use Rattle.sat_words.specs.Clause.{has}
 use Rattle.sat_words.proofs.Members.{same-true, same-refl}
-use Rattle.rup_model.specs.Assigned.{is_true}
+use Rattle.sat_words.specs.Values.{is_true}
 use Rattle.rup_model.specs.Rounds.{falsifies, forces}
 use Rattle.rup_model.specs.Rup.{conflicts, rup}
 use Rattle.rup_model.specs.Status.{IsSettled}

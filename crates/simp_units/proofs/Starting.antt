@@ -5,7 +5,7 @@ use Rattle.std.proofs.lemmas.Bool.{or_left, and_from, cases_Bool, true≢false, 
 use Rattle.sat_words.specs.Literal.{Literal, opposite}
 use Rattle.sat_words.specs.Clause.{has}
 use Rattle.sat_words.proofs.Members.{same-refl}
-use Rattle.rup_model.specs.Assigned.{is_true, value_of, is_value}
+use Rattle.sat_words.specs.Values.{is_true, value_of, is_value}
 use Rattle.rup_model.specs.Rounds.{falsifies, Rounds}
 use Rattle.rup_model.specs.Rup.{conflicts, rup}
 use Rattle.rup_model.proofs.Lists.{In, In_has, has_In, In_append, In_append_left, In_append_right, In_get_or, none_In}

@@ -8,7 +8,7 @@ use Rattle.std.proofs.lemmas.List.Folds.{list_any-append}
 use Rattle.sat_words.specs.Literal.{Literal, IsOn, opposite, same}
 use Rattle.sat_words.specs.Clause.{has}
 use Rattle.sat_words.proofs.Members.{same-true, same-refl}
-use Rattle.rup_model.specs.Assigned.{is_true}
+use Rattle.sat_words.specs.Values.{is_true}
 use Rattle.rup_model.specs.Rounds.{falsifies}
 use Rattle.rup_model.specs.Rup.{rup}
 use Rattle.rup_model.specs.Status.{IsSettled}

@@ -2,7 +2,7 @@
 use Rattle.std.specs.Prelude.{◌≡◌, Bool, true, false, List, length, Option}
 use Rattle.sat_words.specs.Literal.{Literal, opposite}
 use Rattle.sat_words.specs.Clause.{has}
-use Rattle.rup_model.specs.Assigned.{is_true}
+use Rattle.sat_words.specs.Values.{is_true}
 
 -- the true literals are these
 pub record AreTrue (units : List Literal) (old new : List (Option Bool)) : Type 0 where

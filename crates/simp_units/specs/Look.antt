@@ -1,7 +1,7 @@
 -- What a clause asks for.
 use Rattle.std.specs.Prelude.{◌≡◌, ℕ, Bool, true, List, Option, Contains}
 use Rattle.sat_words.specs.Literal.{Literal}
-use Rattle.rup_model.specs.Assigned.{is_true}
+use Rattle.sat_words.specs.Values.{is_true}
 use Rattle.rup_model.specs.Rounds.{falsifies}
 use Rattle.rup_model.specs.Status.{IsSettled, IsUnit}
 use Rattle.simp_base.specs.WorkState.{WorkState}

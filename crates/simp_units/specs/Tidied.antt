@@ -3,7 +3,7 @@ use Rattle.std.specs.Prelude.{◌≡◌, ◌⊎◌, ℕ, Bool, true, false, not,
 use Rattle.std.specs.List.{list_any, filter}
 use Rattle.sat_words.specs.Literal.{Literal, opposite}
 use Rattle.sat_words.specs.Clause.{two_or_more, has_opposites}
-use Rattle.rup_model.specs.Assigned.{is_true}
+use Rattle.sat_words.specs.Values.{is_true}
 use Rattle.rup_model.specs.Status.{IsSettled}
 use Rattle.drat_text.specs.declared.stop.LineStop.{LineStop}
 use Rattle.simp_base.specs.WorkState.{WorkState}

@@ -2,7 +2,7 @@
 ghost use Rattle.std.specs.Prelude.{◌≡◌, ℕ, List, Contains, IfOk, IfErr};
 ghost use Rattle.std.specs.List.{list_any};
 ghost use Rattle.sat_words.specs.Literal.{Literal};
-ghost use Rattle.rup_model.specs.Assigned.{is_true};
+ghost use Rattle.sat_words.specs.Values.{is_true};
 ghost use Rattle.rup_model.specs.Status.{IsSettled};
 ghost use Rattle.simp_base.specs.WorkState.{IsWork};
 ghost use Rattle.simp_units.specs.Progress.{IsSet};
@@ -10,8 +10,7 @@ ghost use Rattle.simp_units.specs.Tidied.{left_of, IsLeft, IsLeftAt, WasTidied, 
 
 use crate::start::numbers_of;
 use drat_text::{LineOut, LineStop};
-use rup_model::Assigned;
-use sat_words::{Clause, Lit};
+use sat_words::{Clause, Lit, Values};
 use simp_base::{Work, is_tautology};
 use std::alloc::{AllocError, Global};
 
@@ -27,7 +26,7 @@ pub(crate) enum Left {
 }
 
 /// The literals of the clause that are not false.
-fn left_of(alloc: Global, lits: &[Lit], values: &Assigned) -> Result<Vec<Lit>, AllocError>
+fn left_of(alloc: Global, lits: &[Lit], values: &Values) -> Result<Vec<Lit>, AllocError>
     ensures { IfOk result (λ rest. rest.items ≡ left_of values.now lits.now) }
 {
     let mut rest = Vec::new(alloc);
@@ -39,14 +38,14 @@ fn left_of(alloc: Global, lits: &[Lit], values: &Assigned) -> Result<Vec<Lit>, A
     Ok(rest)
 }
 
-fn has_true(lits: &[Lit], values: &Assigned) -> bool
+fn has_true(lits: &[Lit], values: &Values) -> bool
     ensures { result ≡ list_any (is_true values.now) lits.now }
 {
     lits.iter().any(|lit| values.is_true(*lit))
 }
 
 /// What is left of a clause under the values of the units.
-fn what_is_left(alloc: Global, clause: &Clause, values: &Assigned) -> Result<Left, AllocError>
+fn what_is_left(alloc: Global, clause: &Clause, values: &Values) -> Result<Left, AllocError>
     ensures { IfOk result (λ what. IsLeft values.now clause.now what) }
 {
     let lits = clause.lits();
@@ -67,7 +66,7 @@ fn what_is_left(alloc: Global, clause: &Clause, values: &Assigned) -> Result<Lef
 }
 
 /// What is left of the clause with this number; all where it is not alive.
-fn left_at<L: LineOut>(work: &Work<L>, values: &Assigned, number: u64) -> Result<Left, LineStop>
+fn left_at<L: LineOut>(work: &Work<L>, values: &Values, number: u64) -> Result<Left, LineStop>
     ensures what { IfOk result (λ what. IsLeftAt work.now values.now number what) }
     ensures memory { IfErr result (λ stop. stop ≡ LineStop.Memory) }
 {
@@ -81,7 +80,7 @@ fn left_at<L: LineOut>(work: &Work<L>, values: &Assigned, number: u64) -> Result
 }
 
 /// Deletes the clause with this number, or puts what is left of it in its place, where a unit's variable is in it.
-fn tidy<L: LineOut>(work: &mut Work<L>, values: &Assigned, number: u64) -> Result<(), LineStop>
+fn tidy<L: LineOut>(work: &mut Work<L>, values: &Values, number: u64) -> Result<(), LineStop>
     requires set { IsSet work.old values.now }
     requires settled { (n : ℕ) (c : List Literal) → Contains work.old.clauses (n, c) → IsSettled values.now c }
     ensures tidied { WasTidied work.old work.new values.now number result }
@@ -98,7 +97,7 @@ fn tidy<L: LineOut>(work: &mut Work<L>, values: &Assigned, number: u64) -> Resul
 }
 
 /// Goes through all clauses once.
-pub(crate) fn clean<L: LineOut>(work: &mut Work<L>, values: &Assigned) -> Result<(), LineStop>
+pub(crate) fn clean<L: LineOut>(work: &mut Work<L>, values: &Values) -> Result<(), LineStop>
     requires set { IsSet work.old values.now }
     requires settled { (n : ℕ) (c : List Literal) → Contains work.old.clauses (n, c) → IsSettled values.now c }
     ensures cleaned { WasCleaned work.old work.new values.now result }

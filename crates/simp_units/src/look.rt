@@ -2,12 +2,11 @@
 ghost use Rattle.std.specs.Prelude.{◌≡◌, ◌||◌, not};
 ghost use Rattle.std.specs.List.{find, list_all};
 ghost use Rattle.sat_words.specs.Literal.{opposite, same};
-ghost use Rattle.rup_model.specs.Assigned.{is_true};
+ghost use Rattle.sat_words.specs.Values.{is_true};
 ghost use Rattle.simp_units.specs.Look.{IsLook, IsLookAt};
 
 use drat_text::LineOut;
-use rup_model::Assigned;
-use sat_words::Lit;
+use sat_words::{Lit, Values};
 use simp_base::Work;
 
 /// What a clause asks for.
@@ -22,19 +21,19 @@ pub(crate) enum Look {
 }
 
 /// The first literal that isn't false.
-fn first_open(clause: &[Lit], a: &Assigned) -> Option<Lit>
+fn first_open(clause: &[Lit], a: &Values) -> Option<Lit>
     ensures { result ≡ find (λ l. not (is_true a.now (opposite l))) clause.now }
 {
     clause.iter().copied().find(|l| !a.is_false(*l))
 }
 
-fn others_false(clause: &[Lit], lit: Lit, a: &Assigned) -> bool
+fn others_false(clause: &[Lit], lit: Lit, a: &Values) -> bool
     ensures { result ≡ list_all (λ k. same lit k || is_true a.now (opposite k)) clause.now }
 {
     clause.iter().all(|k| lit == *k || a.is_false(*k))
 }
 
-fn ask(clause: &[Lit], a: &Assigned) -> Look
+fn ask(clause: &[Lit], a: &Values) -> Look
     ensures { IsLook a.now clause.now result }
 {
     match first_open(clause, a) {
@@ -52,7 +51,7 @@ fn ask(clause: &[Lit], a: &Assigned) -> Look
 }
 
 /// What the clause with this number asks for; nothing where it is not alive.
-pub(crate) fn look_up<L: LineOut>(work: &Work<L>, values: &Assigned, number: u64) -> Look
+pub(crate) fn look_up<L: LineOut>(work: &Work<L>, values: &Values, number: u64) -> Look
     ensures { IsLookAt work.now values.now number result }
 {
     match work.clause(number) {

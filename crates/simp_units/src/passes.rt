@@ -10,11 +10,11 @@ use crate::clean::clean;
 use crate::propagate::{Ended, propagate};
 use crate::start::{load, numbers_of};
 use drat_text::{LineOut, LineStop};
-use rup_model::Assigned;
+use sat_words::Values;
 use simp_base::{Run, Work};
 
 /// Propagates the units of the work, from values that are none.
-fn begin<L: LineOut>(work: &mut Work<L>, values: &mut Assigned) -> Result<Ended, LineStop>
+fn begin<L: LineOut>(work: &mut Work<L>, values: &mut Values) -> Result<Ended, LineStop>
     requires unspent { work.old.output.spent ≡ false }
     requires going { work.old.ended ≡ false }
     requires work { IsWork work.old }
@@ -55,7 +55,7 @@ pub fn run<L: LineOut>(work: &mut Work<L>) -> Result<Run, LineStop>
     ensures work { IsWork work.new }
 {
     let _clauses = work.clauses();
-    let mut values = match Assigned::new(work.alloc(), work.vars()) {
+    let mut values = match Values::new(work.alloc(), work.vars()) {
         Ok(values) => values,
         Err(_) => return Err(LineStop::Memory),
     };

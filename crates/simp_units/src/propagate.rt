@@ -11,7 +11,7 @@ ghost use Rattle.simp_units.specs.Progress.{IsSet, Progress, WasLookedAt, WasVis
 
 use crate::look::{Look, look_up};
 use drat_text::{LineOut, LineStop};
-use rup_model::Assigned;
+use sat_words::Values;
 use simp_base::Work;
 
 /// How propagation ended.
@@ -26,7 +26,7 @@ pub(crate) enum Ended {
 /// Looks at the clause with this number, and lists the literal that it forces.
 fn look_at<L: LineOut>(
     work: &mut Work<L>,
-    values: &mut Assigned,
+    values: &mut Values,
     number: u64,
 ) -> Result<Ended, LineStop>
     requires set { IsSet work.old values.old }
@@ -48,7 +48,7 @@ fn look_at<L: LineOut>(
 /// Looks at the clauses with these numbers, one after another.
 fn visit<L: LineOut>(
     work: &mut Work<L>,
-    values: &mut Assigned,
+    values: &mut Values,
     numbers: &[u64],
 ) -> Result<Ended, LineStop>
     requires set { IsSet work.old values.old }
@@ -66,7 +66,7 @@ fn visit<L: LineOut>(
 }
 
 /// Looks at the clauses in which a unit is false, unit by unit.
-fn spread<L: LineOut>(work: &mut Work<L>, values: &mut Assigned) -> Result<Ended, LineStop>
+fn spread<L: LineOut>(work: &mut Work<L>, values: &mut Values) -> Result<Ended, LineStop>
     requires set { IsSet work.old values.old }
     ensures spread { WasSpread work.old values.old work.new values.new result }
     ensures work { IsWork work.new }
@@ -92,7 +92,7 @@ fn spread<L: LineOut>(work: &mut Work<L>, values: &mut Assigned) -> Result<Ended
 /// Propagates the units of the work, from values that are these units. The numbers are those of all clauses.
 pub(crate) fn propagate<L: LineOut>(
     work: &mut Work<L>,
-    values: &mut Assigned,
+    values: &mut Values,
     numbers: &[u64],
 ) -> Result<Ended, LineStop>
     requires set { IsSet work.old values.old }

@@ -2,17 +2,16 @@
 ghost use Rattle.std.specs.Prelude.{◌≡◌, ◌<◌, ◌+◌, ℕ, List, true, false, Contains, IfOk, IfErr, IsTrue, length, vec_len, All, replicate, None};
 ghost use Rattle.sat_words.specs.Literal.{Literal, IsOn};
 ghost use Rattle.sat_words.specs.Clause.{has};
-ghost use Rattle.rup_model.specs.Assigned.{is_true};
+ghost use Rattle.sat_words.specs.Values.{is_true};
 ghost use Rattle.simp_units.specs.Begun.{WasLoaded};
 
 use drat_text::{LineOut, LineStop};
-use rup_model::Assigned;
-use sat_words::Lit;
+use sat_words::{Lit, Values};
 use simp_base::Work;
 use std::alloc::Global;
 
 /// Makes the units true, one after another. Answers whether none of them was false before its turn.
-pub(crate) fn load(units: &[Lit], values: &mut Assigned) -> bool
+pub(crate) fn load(units: &[Lit], values: &mut Values) -> bool
     requires blank { (l : Literal) → is_true values.old l ≡ false }
     requires on { All (λ l. l.var < length values.old) units.now }
     ensures { WasLoaded units.now values.old values.new result }

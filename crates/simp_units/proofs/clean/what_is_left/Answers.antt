@@ -1,7 +1,7 @@
 use Rattle.std.proofs.Common.{◌≡◌, ◌∙◌, sym, ap, List, length, arith}
 use Rattle.std.specs.List.{list_any}
 use Rattle.sat_words.specs.Literal.{Literal}
-use Rattle.rup_model.specs.Assigned.{is_true}
+use Rattle.sat_words.specs.Values.{is_true}
 use Rattle.simp_units.specs.Tidied.{left_of}
 use Rattle.simp_units.proofs.Cleaning.{two_if_long, whole_if_all}
 use Rattle.simp_units.proofs.clean.what_is_left.Goals as goal

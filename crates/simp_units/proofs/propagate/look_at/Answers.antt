@@ -2,7 +2,7 @@ use Rattle.std.proofs.Common.{arith}
 use Rattle.sat_words.specs.Literal.{IsOn}
 use Rattle.rup_model.proofs.Lists.{has_In}
 use Rattle.rup_model.proofs.RoundsLemmas.{forces-parts}
-use Rattle.rup_model.specs.Assigned.{is_true}
+use Rattle.sat_words.specs.Values.{is_true}
 use Rattle.simp_base.specs.WorkState.{known}
 use Rattle.simp_units.proofs.Forcing.{forced_follows}
 use Rattle.simp_units.proofs.Steps.{known_alive, unit_among, on_alive}

@@ -1,4 +1,5 @@
 pub mod Values
 pub mod Levels
 pub mod Shape
+pub mod Truths
 pub mod Causes

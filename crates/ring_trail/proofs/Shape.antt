@@ -53,7 +53,7 @@ shallow_of t i p lt =
 
 pub trail_of : (t : Inside) → IsInside t → IsTrail (seen_as t)
 trail_of t i =
-    let room = Kept-room t.steps.items t.values.items i.kept in
+    let room = Kept-room t.steps.items t.values i.kept in
     record {
       rising = rising_of t i;
       within = i.levels;
@@ -73,7 +73,7 @@ pub trail_at : (t : Inside) (d : TrailData) → IsInside t → seen_as t ≡ d �
 trail_at t d i e = subst IsTrail e (trail_of t i)
 
 -- a variable without a value in the table has no place
-pub told_none : (t : Inside) (d : TrailData) (v : ℕ) → IsInside t → seen_as t ≡ d → v ≤ d.vars → get_or t.values.items v None ≡ None → HasNoPlace d.steps v
+pub told_none : (t : Inside) (d : TrailData) (v : ℕ) → IsInside t → seen_as t ≡ d → v ≤ d.vars → get_or t.values v None ≡ None → HasNoPlace d.steps v
 told_none t d v i e le is =
     subst (λ (x : TrailData). HasNoPlace x.steps v) e
     (let vars = ap (λ (x : TrailData). x.vars) e in
@@ -85,7 +85,7 @@ pub record ToldAt (d : TrailData) (v : ℕ) (b : Bool) (p : ℕ) : Type 0 where
   pub value : not (lit_at d.steps p).neg ≡ b
   pub step : step_of d.steps v ≡ Some (step_at d.steps p)
 
-pub told_some : (t : Inside) (d : TrailData) (v : ℕ) (b : Bool) → IsInside t → seen_as t ≡ d → v ≤ d.vars → get_or t.values.items v None ≡ Some b → ToldAt d v b (get_or t.places.items v 0)
+pub told_some : (t : Inside) (d : TrailData) (v : ℕ) (b : Bool) → IsInside t → seen_as t ≡ d → v ≤ d.vars → get_or t.values v None ≡ Some b → ToldAt d v b (get_or t.places.items v 0)
 told_some t d v b i e le is =
     subst (λ (x : TrailData). ToldAt x v b (get_or t.places.items v 0)) e
     (let vars = ap (λ (x : TrailData). x.vars) e in

@@ -32,10 +32,10 @@ pub record Parts (steps : List Step) (k start : ℕ) : Type 0 where
   pub above : (p : ℕ) → start ≤ p → p < length steps → k < level_at steps p
 
 pub record IsInside (t : Inside) : Type 0 where
-  pub kept : IsKept t.steps.items t.values.items
+  pub kept : IsKept t.steps.items t.values
   pub placed : ArePlaces t.steps.items t.places.items
-  pub range : length t.values.items ≡ t.vars + 1
-  pub sizes : length t.places.items ≡ length t.values.items
+  pub range : length t.values ≡ t.vars + 1
+  pub sizes : length t.places.items ≡ length t.values
   pub parts : (k : ℕ) → k < length t.starts.items → Parts t.steps.items k (slice_index t.starts.items k)
   pub levels : (p : ℕ) → p < length t.steps.items → level_at t.steps.items p ≤ length t.starts.items
   pub done : t.done ≤ length t.steps.items

@@ -17,6 +17,8 @@ fn values_levels_and_reasons(rt: HostRuntime) -> Result<(), Fail> {
     assert_eq!(rt; trail.value(3), None);
     assert_eq!(rt; trail.truth(Lit::new(2, true)), Some(true));
     assert_eq!(rt; trail.truth(Lit::new(4, true)), Some(false));
+    assert!(rt; trail.is_true(Lit::new(2, true)));
+    assert!(rt; trail.is_false(Lit::new(4, true)));
     assert_eq!(rt; trail.level(2), Some(1));
     assert_eq!(rt; trail.level(5), None);
     assert_eq!(rt; trail.reason(2), Some(reason));

@@ -4,7 +4,7 @@ ghost use Rattle.ring_trail.specs.TrailData.{TrailData, IsTrail, IsNext, IsPlace
 ghost use Rattle.ring_trail.specs.Inside.{IsKept, ArePlaces};
 
 use crate::step::Step;
-use sat_words::{Cref, Lit};
+use sat_words::{Cref, Lit, Values};
 use std::alloc::{AllocError, Global};
 use std::marker::Model;
 
@@ -15,7 +15,7 @@ use std::marker::Model;
 #[derive(Drop)]
 pub struct Trail {
     steps: Vec<Step>,
-    values: Vec<Option<bool>>,
+    values: Values,
     places: Vec<u32>,
     starts: Vec<usize>,
     done: usize,
@@ -43,13 +43,11 @@ impl Trail {
         ensures trail { IfOk result IsTrail }
     {
         let room = vars as usize + 1;
-        let mut values = Vec::new(alloc);
-        values.resize(room, None)?;
         let mut places = Vec::new(alloc);
         places.resize(room, 0)?;
         Ok(Trail {
             steps: Vec::with_capacity(alloc, room)?,
-            values,
+            values: Values::new(alloc, vars)?,
             places,
             starts: Vec::with_capacity(alloc, room)?,
             done: 0,
@@ -101,7 +99,23 @@ impl Trail {
         requires { var ≤ self.now.vars }
         ensures { result ≡ value_of self.now.steps var }
     {
-        self.values[var as usize]
+        self.values.value(var)
+    }
+
+    /// Whether the literal is true.
+    pub fn is_true(&self, lit: Lit) -> bool
+        requires { lit.var ≤ self.now.vars }
+        ensures { IsTrue result ↔ IsTrueOn self.now.steps lit }
+    {
+        self.values.is_true(lit)
+    }
+
+    /// Whether the literal is false.
+    pub fn is_false(&self, lit: Lit) -> bool
+        requires { lit.var ≤ self.now.vars }
+        ensures { IsTrue result ↔ IsFalseOn self.now.steps lit }
+    {
+        self.values.is_false(lit)
     }
 
     /// Whether the literal is true or false; none where its variable has no value.
@@ -110,7 +124,7 @@ impl Trail {
         ensures none { IsNone result ↔ (value_of self.now.steps lit.var ≡ None) }
         ensures truth { MatchOption result (HasNoPlace self.now.steps lit.var) (λ b. MatchBool b (IsTrueOn self.now.steps lit) (IsFalseOn self.now.steps lit)) }
     {
-        match self.values[lit.var() as usize] {
+        match self.values.value(lit.var()) {
             None => None,
             Some(value) => Some(value != lit.is_neg()),
         }
@@ -140,7 +154,7 @@ impl Trail {
         ensures place { MatchOption result (HasNoPlace self.now.steps var) (IsPlaceOf self.now.steps var) }
         ensures trail { IsTrail self.now }
     {
-        match self.values[var as usize] {
+        match self.values.value(var) {
             None => None,
             Some(_) => Some(self.places[var as usize]),
         }
@@ -255,41 +269,40 @@ impl Trail {
 }
 
 /// Makes a literal true.
-fn put(steps: &mut Vec<Step>, values: &mut Vec<Option<bool>>, places: &mut Vec<u32>, step: Step)
-    requires kept { IsKept steps.old.items values.old.items }
+fn put(steps: &mut Vec<Step>, values: &mut Values, places: &mut Vec<u32>, step: Step)
+    requires kept { IsKept steps.old.items values.old }
     requires placed { ArePlaces steps.old.items places.old.items }
-    requires sizes { length places.old.items ≡ length values.old.items }
-    requires in_range { step.lit.var < length values.old.items }
+    requires sizes { length places.old.items ≡ length values.old }
+    requires in_range { step.lit.var < length values.old }
     requires low { 1 ≤ step.lit.var }
     requires free { value_of steps.old.items step.lit.var ≡ None }
-    requires room { length values.old.items ≤ vec_capacity steps.old }
-    requires few { length values.old.items ≤ 2 ^ 31 }
+    requires room { length values.old ≤ vec_capacity steps.old }
+    requires few { length values.old ≤ 2 ^ 31 }
     ensures steps { steps.new.items ≡ steps.old.items ++ step ∷ [] }
-    ensures kept { IsKept steps.new.items values.new.items }
+    ensures kept { IsKept steps.new.items values.new }
     ensures placed { ArePlaces steps.new.items places.new.items }
     ensures room { vec_capacity steps.new ≡ vec_capacity steps.old }
-    ensures range { length values.new.items ≡ length values.old.items }
+    ensures range { length values.new ≡ length values.old }
     ensures sizes { length places.new.items ≡ length places.old.items }
 {
-    let at = step.lit.var() as usize;
     let place = steps.len() as u32;
-    values[at] = Some(!step.lit.is_neg());
-    places[at] = place;
+    values.set(step.lit);
+    places[step.lit.var() as usize] = place;
     steps.push_reserved(step);
 }
 
 /// Takes the steps from a place on.
-fn undo(steps: &mut Vec<Step>, values: &mut Vec<Option<bool>>, keep: usize)
-    requires kept { IsKept steps.old.items values.old.items }
+fn undo(steps: &mut Vec<Step>, values: &mut Values, keep: usize)
+    requires kept { IsKept steps.old.items values.old }
     requires low { keep ≤ length steps.old.items }
     ensures steps { steps.new.items ≡ take keep steps.old.items }
-    ensures kept { IsKept steps.new.items values.new.items }
+    ensures kept { IsKept steps.new.items values.new }
     ensures room { vec_capacity steps.new ≡ vec_capacity steps.old }
-    ensures range { length values.new.items ≡ length values.old.items }
+    ensures range { length values.new ≡ length values.old }
 {
     while steps.len() > keep {
         if let Some(step) = steps.pop() {
-            values[step.lit.var() as usize] = None;
+            values.unset(step.lit.var());
         }
     }
 }

@@ -7,10 +7,10 @@ place c = omega (arith, c.len-place.ensures, c.args.steps.now.ok)
 
 pub returns-clause-kept : goal.returns-clause-kept
 returns-clause-kept c =
-    rw (c.push_reserved.ensures.items, c.var-at.ensures.value, c.is_neg.ensures)
-    (Kept-put c.args.steps.now.items c.args.values.now.items c.args.step c.requires.kept c.requires.in_range c.requires.low c.requires.free)
+    rw (c.push_reserved.ensures.items, c.set.ensures)
+    (Kept-put c.args.steps.now.items c.args.values.now c.args.step c.requires.kept c.requires.in_range c.requires.low c.requires.free)
 
 pub returns-clause-placed : goal.returns-clause-placed
 returns-clause-placed c =
-    rw (c.push_reserved.ensures.items, c.var-at.ensures.value, place c)
+    rw (c.push_reserved.ensures.items, c.var.ensures.value, place c)
     (ArePlaces-put c.args.steps.now.items c.args.places.now.items c.args.step c.requires.placed (omega (arith, c.requires.sizes, c.requires.in_range)) c.requires.free)

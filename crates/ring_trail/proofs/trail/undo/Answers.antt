@@ -1,4 +1,4 @@
-use Rattle.std.proofs.Common.{◌≡◌, ◌≤◌, ◌++◌, ◌∷◌, [], List, None, length, take, subst, sym, ap, ◌∙◌, arith, Option}
+use Rattle.std.proofs.Common.{◌≡◌, ◌≤◌, ◌++◌, ◌∷◌, [], List, None, length, take, subst, sym, ap, ◌∙◌, arith, Option, Bool}
 use Rattle.std.specs.Option.{option_to_list}
 use Rattle.std.proofs.lemmas.List.{length-append, length-set, take-append-le, take-take, take_all}
 use Rattle.ring_trail.specs.declared.step.Step.{Step}
@@ -20,14 +20,14 @@ loop-steps-preserved-in-Some c =
     let s = c.in-Some.step in
     let i = c.loop-steps.invariant in
     let items : c.loop-steps.steps.items ≡ c.pop.new.self.items ++ s ∷ [] = c.pop.ensures.items ∙ ap (λ (o : Option Step). c.pop.new.self.items ++ option_to_list o) c.in-Some.is in
-    let k = Kept-pop c.pop.new.self.items c.loop-steps.values.items s (subst (λ (xs : List Step). IsKept xs c.loop-steps.values.items) items i.kept) in
+    let k = Kept-pop c.pop.new.self.items c.loop-steps.values s (subst (λ (xs : List Step). IsKept xs c.loop-steps.values) items i.kept) in
     let n = length-append c.pop.new.self.items (s ∷ []) in
     let m = ap (λ (xs : List Step). length xs) items in
     record {
-      kept = rw c.var.ensures.value k.0;
+      kept = rw (c.unset.ensures, c.var.ensures.value) k.0;
       low = (let t = c.loop-steps-test.true in omega (arith, n, m, t, c.len.ensures, c.loop-steps.steps.ok));
       rest = front c.loop-steps.steps.items c.pop.new.self.items c.args.steps.now.items s items i.rest i.high;
       high = omega (arith, n, m, i.high);
       room = c.pop.ensures.capacity ∙ i.room;
-      range = length-set c.loop-steps.values.items c.var.result None ∙ i.range;
+      range = ap (λ (vs : List (Option Bool)). length vs) c.unset.ensures ∙ length-set c.loop-steps.values c.var.result None ∙ i.range;
     }

@@ -1,4 +1,4 @@
-use Rattle.std.proofs.Common.{◌<◌, ap, ◌∙◌, sym, subst, arith, length, None, ℕ}
+use Rattle.std.proofs.Common.{◌<◌, ap, ◌∙◌, sym, subst, arith, length, ℕ}
 use Rattle.std.proofs.lemmas.List.{get_or_default}
 use Rattle.ring_trail.specs.TrailData.{TrailData, IsPlaceOf}
 use Rattle.ring_trail.proofs.Shape.{trail_at, told_none, told_some}
@@ -11,18 +11,12 @@ pub returns-in-Some-clause-trail : goal.returns-in-Some-clause-trail
 returns-in-Some-clause-trail c = trail_at _ _ c.self.invariant c.self.view_is
 
 pub returns-in-None-clause-place : goal.returns-in-None-clause-place
-returns-in-None-clause-place c =
-    let vars = ap (λ (t : TrailData). t.vars) c.self.view_is in
-    let lt : c.args.var < length c.self.inside.values.items = omega (arith, c.self.invariant.range, c.requires) in
-    told_none c.self.inside c.args.self.now c.args.var c.self.invariant c.self.view_is c.requires
-    (sym (get_or_default c.self.inside.values.items c.args.var c.index.result.now None lt) ∙ sym c.index.ensures ∙ c.in-None.is)
+returns-in-None-clause-place c = told_none c.self.inside c.args.self.now c.args.var c.self.invariant c.self.view_is c.requires (sym c.value.ensures ∙ c.in-None.is)
 
 pub returns-in-Some-clause-place : goal.returns-in-Some-clause-place
 returns-in-Some-clause-place c =
     let vars = ap (λ (t : TrailData). t.vars) c.self.view_is in
-    let lt : c.args.var < length c.self.inside.values.items = omega (arith, c.self.invariant.range, c.requires) in
-    let lp : c.args.var < length c.self.inside.places.items = omega (arith, c.self.invariant.sizes) in
-    let told = told_some c.self.inside c.args.self.now c.args.var c.in-Some.field-0 c.self.invariant c.self.view_is c.requires
-    (sym (get_or_default c.self.inside.values.items c.args.var c.index.result.now None lt) ∙ sym c.index.ensures ∙ c.in-Some.is) in
+    let lp : c.args.var < length c.self.inside.places.items = omega (arith, c.self.invariant.sizes, c.self.invariant.range, c.requires) in
+    let told = told_some c.self.inside c.args.self.now c.args.var c.in-Some.field-0 c.self.invariant c.self.view_is c.requires (sym c.value.ensures ∙ c.in-Some.is) in
     subst (λ (p : ℕ). IsPlaceOf c.args.self.now.steps c.args.var p)
-    (sym (c.index-in-Some.ensures ∙ get_or_default c.self.inside.places.items c.args.var c.index-in-Some.result.now 0 lp)) told.place
+    (sym (c.index.ensures ∙ get_or_default c.self.inside.places.items c.args.var c.index.result.now 0 lp)) told.place

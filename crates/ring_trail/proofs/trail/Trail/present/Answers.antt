@@ -8,7 +8,7 @@ pub overflow_cast-result : goal.overflow_cast-result
 overflow_cast-result c =
     let i = c.self.inside in
     let h = c.self.invariant in
-    omega (arith, few i.steps.items i.starts.items h.parts, Kept-room i.steps.items i.values.items h.kept, h.range, h.small)
+    omega (arith, few i.steps.items i.starts.items h.parts, Kept-room i.steps.items i.values h.kept, h.range, h.small)
 
 pub returns-clause-trail : goal.returns-clause-trail
 returns-clause-trail c = trail_at _ _ c.self.invariant c.self.view_is

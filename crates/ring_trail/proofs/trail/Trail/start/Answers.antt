@@ -22,7 +22,7 @@ pub overflow_cast-result : goal.overflow_cast-result
 overflow_cast-result c =
     let i = c.self.inside in
     let h = c.self.invariant in
-    omega (arith, (parts_at c).low, Kept-room i.steps.items i.values.items h.kept, h.range, h.small)
+    omega (arith, (parts_at c).low, Kept-room i.steps.items i.values h.kept, h.range, h.small)
 
 pub returns-clause-start : goal.returns-clause-start
 returns-clause-start c =

@@ -1,5 +1,5 @@
 -- What the table of values says of a literal, and where it stands.
-use Rattle.std.proofs.Common.{◌≡◌, ◌≤◌, ◌↔◌, IsTrue, Bool, true, false, not, Some, None, Option, List, sym, refl, ap, subst, ◌∙◌, arith}
+use Rattle.std.proofs.Common.{◌≡◌, ℕ, ◌≤◌, ◌↔◌, IsTrue, Bool, true, false, not, Some, None, Option, List, sym, refl, ap, subst, ◌∙◌, arith}
 use Rattle.std.specs.Cmp.{booleans_Decides}
 use Rattle.std.specs.Option.{option_map}
 use Rattle.std.proofs.lemmas.Bool.{false≢true}
@@ -7,9 +7,9 @@ use Rattle.sat_words.specs.Literal.{Literal, opposite}
 use Rattle.sat_words.specs.Values.{is_value, is_true}
 use Rattle.ring_trail.specs.declared.step.Step.{Step}
 use Rattle.ring_trail.specs.declared.trail.Trail.TheInside.{Inside}
-use Rattle.ring_trail.specs.TrailData.{TrailData, IsTrail, IsTrueOn, IsFalseOn, step_at, value_of}
+use Rattle.ring_trail.specs.TrailData.{TrailData, IsTrail, IsTrueOn, IsFalseOn, HasNoPlace, lit_at, step_at, value_of}
 use Rattle.ring_trail.specs.Inside.{IsInside}
-use Rattle.ring_trail.proofs.Values.{value_some, some_at}
+use Rattle.ring_trail.proofs.Values.{value_some, some_at, step_of-no_place}
 use Rattle.ring_trail.proofs.Shape.{seen_as, trail_of, same_lit, step_at_place}
 
 not-not : (b : Bool) → not (not b) ≡ b
@@ -61,3 +61,16 @@ false_on t d l i e le =
       (λ h. let p = on.0 h in record { place = p.place; before = p.before; false_there = p.true_there }),
       (λ p. on.1 (record { place = p.place; before = p.before; true_there = p.false_there })),
     )
+
+-- a literal that is neither true nor false has no place
+pub neither : (steps : List Step) (l : Literal) → (IsTrueOn steps l → ⊥) → (IsFalseOn steps l → ⊥) → HasNoPlace steps l.var
+neither steps l not_true not_false p lt e = by (lit_at steps p).neg l.neg refl refl
+  where
+    by : (n m : Bool) → (lit_at steps p).neg ≡ n → l.neg ≡ m → ⊥
+    by true true f g = not_true (record { place = p; before = lt; true_there = same_lit (lit_at steps p) l e (f ∙ sym g) })
+    by false false f g = not_true (record { place = p; before = lt; true_there = same_lit (lit_at steps p) l e (f ∙ sym g) })
+    by true false f g = not_false (record { place = p; before = lt; false_there = same_lit (lit_at steps p) (opposite l) e (f ∙ sym (ap not g)) })
+    by false true f g = not_false (record { place = p; before = lt; false_there = same_lit (lit_at steps p) (opposite l) e (f ∙ sym (ap not g)) })
+
+pub no_value : (steps : List Step) (v : ℕ) → HasNoPlace steps v → value_of steps v ≡ None
+no_value steps v none = ap (option_map (λ (s : Step). not s.lit.neg)) (step_of-no_place steps v none)

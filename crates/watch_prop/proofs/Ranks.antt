@@ -1,15 +1,17 @@
 -- Ranks, and the two literals that are best to watch.
-use Rattle.std.proofs.Common.{◌≡◌, ◌≢◌, ℕ, zero, suc, ◌<◌, ◌≤◌, ◌+◌, ◌⊎◌, nat_lt, if◌then◌else◌, Bool, true, false, not, List, [], ◌∷◌, length, Some, None, sym, ap, subst, ◌∙◌, inl, inr, arith}
+use Rattle.std.proofs.Common.{◌≡◌, ◌≢◌, ℕ, zero, suc, ◌<◌, ◌≤◌, ◌+◌, ◌⊎◌, nat_lt, if◌then◌else◌, Bool, true, false, not, List, [], ◌∷◌, length, Option, Some, None, unwrap_or, sym, ap, subst, ◌∙◌, inl, inr, arith}
 use Rattle.std.specs.Prelude.{slice_get}
+use Rattle.std.specs.Option.{option_map}
 use Rattle.std.proofs.lemmas.Bool.{cases_Bool, cases_lt, or_left, or_right, or_cases, and_parts, false≢true}
 use Rattle.std.proofs.lemmas.Bool.Decides.{nat_tests}
 use Rattle.sat_words.specs.Literal.{Literal, opposite, same}
 use Rattle.sat_words.specs.Clause.{has, distinct_lits}
 use Rattle.sat_words.proofs.Members.{same-true, same-refl}
 use Rattle.ring_trail.specs.declared.step.Step.{Step}
-use Rattle.ring_trail.specs.TrailData.{TrailData, HasGrown, IsTrail, IsFalseOn, IsFalseClause, lit_at, level_at}
+use Rattle.ring_trail.specs.TrailData.{TrailData, HasGrown, IsTrail, IsFalseOn, IsFalseClause, lit_at, level_at, level_of}
 use Rattle.ring_trail.specs.Reasoned.{ForcesAt}
 use Rattle.ring_trail.specs.Closed.{TrueWithin, HasTrue, IsClosedClause}
+use Rattle.ring_trail.proofs.Shape.{step_at_place}
 use Rattle.watch_prop.specs.declared.choice.Best.{Best}
 use Rattle.watch_prop.specs.Watched.{IsGuarded}
 use Rattle.watch_prop.specs.Visiting.{NotFalse}
@@ -67,6 +69,17 @@ among_has c n k a = has_at c a.place k a.there
 
 pub same_there : (c : List Literal) (k n : ℕ) (l m : Literal) → k ≡ n → slice_get c k ≡ Some l → slice_get c n ≡ Some m → l ≡ m
 same_there c k n l m q e f = (let z : Some l ≡ Some m = sym e ∙ ap (slice_get c) q ∙ f in cc)
+
+-- a false literal ranks by the level of its variable
+pub rank_of_false : (t : TrailData) (l : Literal) (r : ℕ) → IsTrail t → IsFalseOn t.steps l → r ≡ unwrap_or (level_of t.steps l.var) 0 → IsRank t l r
+rank_of_false t l r trail f e =
+    let step = step_at_place t l.var f.place trail (record { in_range = f.before; var = ap (λ (k : Literal). k.var) f.false_there }) in
+    inr (record {
+      place = f.place;
+      in_range = f.before;
+      false_there = f.false_there;
+      level = sym (e ∙ ap (λ (o : Option Step). unwrap_or (option_map (λ (s : Step). s.level) o) 0) step);
+    })
 
 ranks_low : (t : TrailData) (l m : Literal) (r n : ℕ) → l ≡ m → IsRank t m r → r ≤ n → RanksLow t l n
 ranks_low t l m r n q h le = record { rank = r; is_rank = subst (λ (k : Literal). IsRank t k r) (sym q) h; low = le }

@@ -22,15 +22,10 @@ fn rank(trail: &Trail, lit: Lit) -> u32
     ensures { IsRank trail.now lit result }
 {
     let not_false = trail.present() + 1;
-    match trail.place(lit.var()) {
-        None => not_false,
-        Some(place) => {
-            if trail.lit_at(place) == lit {
-                not_false
-            } else {
-                trail.level_at(place)
-            }
-        }
+    if trail.is_false(lit) {
+        trail.level(lit.var()).unwrap_or(0)
+    } else {
+        not_false
     }
 }
 

@@ -13,18 +13,13 @@ fn is_open(trail: &Trail, k: Lit, lit: Lit, other: Lit) -> bool
     ensures yes { result ≡ true → (k ≢ lit) × (k ≢ other) × NotFalse trail.now.steps k }
     ensures no { result ≡ false → (k ≡ lit) ⊎ ((k ≡ other) ⊎ IsFalseOn trail.now.steps k) }
 {
-    let _lawful = trail.present();
+    if trail.is_false(k) {
+        return false;
+    }
     if k == lit {
         return false;
     }
-    if k == other {
-        return false;
-    }
-    match trail.truth(k) {
-        Some(false) => false,
-        Some(true) => true,
-        None => true,
-    }
+    k != other
 }
 
 /// The first literal of the clause beside these two that isn't false.

@@ -423,16 +423,18 @@ impl Watches {
             None => return Verdict::Stale,
             Some(entry) => entry,
         };
-        match trail.truth(entry.other) {
-            Some(true) => Verdict::Settled,
-            Some(false) => match find_open(port, trail, entry.clause, lit, entry.other) {
-                Some(new) => Verdict::Moves(entry, new),
-                None => Verdict::False(entry.clause),
-            },
-            None => match find_open(port, trail, entry.clause, lit, entry.other) {
-                Some(new) => Verdict::Moves(entry, new),
-                None => Verdict::Forced(entry.other, entry.clause),
-            },
+        if trail.is_true(entry.other) {
+            return Verdict::Settled;
+        }
+        match find_open(port, trail, entry.clause, lit, entry.other) {
+            Some(new) => Verdict::Moves(entry, new),
+            None => {
+                if trail.is_false(entry.other) {
+                    Verdict::False(entry.clause)
+                } else {
+                    Verdict::Forced(entry.other, entry.clause)
+                }
+            }
         }
     }
 
@@ -511,8 +513,7 @@ fn make_true(trail: &mut Trail, lit: Lit, clause: Cref)
     ensures made { TrueWithin trail.new.steps trail.new.level lit }
 {
     let _lawful = trail.present();
-    match trail.truth(lit) {
-        Some(_) => {}
-        None => trail.assign(lit, Some(clause)),
+    if !trail.is_true(lit) {
+        trail.assign(lit, Some(clause));
     }
 }

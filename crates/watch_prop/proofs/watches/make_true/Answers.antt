@@ -1,31 +1,26 @@
-use Rattle.std.proofs.Common.{◌∷◌, [], List, Some, sym, ap, refl, subst, length, arith, Bool, true, false}
-use Rattle.std.specs.Prelude.{MatchBool}
+use Rattle.std.proofs.Common.{◌∙◌, Some, sym, ap, refl, subst, length, arith, ◌∷◌, []}
+use Rattle.std.proofs.lemmas.Bool.{false≢true}
 use Rattle.std.proofs.lemmas.List.{length-append, get_or_push}
-use Rattle.sat_words.specs.Literal.{Literal}
 use Rattle.ring_trail.specs.declared.step.Step.{Step}
-use Rattle.ring_trail.specs.TrailData.{TrailData, IsTrueOn, IsFalseOn, no_step}
+use Rattle.ring_trail.specs.TrailData.{TrailData, no_step}
 use Rattle.ring_trail.specs.Closed.{TrueWithin}
 use Rattle.ring_trail.proofs.Causes.{IsReasoned-forced}
+use Rattle.ring_trail.proofs.Truths.{neither, no_value}
 use Rattle.watch_prop.specs.Propagation.{attached_at, HasReasons}
-use Rattle.watch_prop.specs.Visiting.{NotFalse}
-use Rattle.watch_prop.proofs.Growing.{TrueOn-within}
 use Rattle.watch_prop.proofs.watches.make_true.Goals as goal
 
-true_of : (b : Bool) (steps : List Step) (l : Literal) → MatchBool b (IsTrueOn steps l) (IsFalseOn steps l) → NotFalse steps l → IsTrueOn steps l
-true_of true steps l h not_false = h
-true_of false steps l h not_false = absurd (not_false h)
+pub assign-requires-clause-free : goal.assign-requires-clause-free
+assign-requires-clause-free c =
+    let steps = c.args.trail.now.steps in
+    no_value steps c.args.lit.var (neither steps c.args.lit (λ p. false≢true (sym c.if-not-is_true.true ∙ c.is_true.ensures.1 p)) c.requires.not_false)
 
-pub returns-in-Some-clause-made : goal.returns-in-Some-clause-made
-returns-in-Some-clause-made c =
-    TrueOn-within c.args.trail.now c.args.lit c.present-lawful.ensures.trail (true_of c.in-Some.field-0 c.args.trail.now.steps c.args.lit c.in-Some.ensures.truth c.requires.not_false)
-
-pub returns-in-None-clause-reasons : goal.returns-in-None-clause-reasons
-returns-in-None-clause-reasons c cs s d held forces old =
+pub returns-then-not-is_true-clause-reasons : goal.returns-then-not-is_true-clause-reasons
+returns-then-not-is_true-clause-reasons c cs s d held forces old =
     subst (λ (t : TrailData). HasReasons cs s t.steps) (sym c.assign.ensures.step)
     (IsReasoned-forced (attached_at cs s) s.seen c.args.trail.now c.args.lit c.args.clause d old held forces)
 
-pub returns-in-None-clause-made : goal.returns-in-None-clause-made
-returns-in-None-clause-made c =
+pub returns-then-not-is_true-clause-made : goal.returns-then-not-is_true-clause-made
+returns-then-not-is_true-clause-made c =
     let t = c.args.trail.now in
     let s : Step = record { lit = c.args.lit; level = t.level; reason = Some c.args.clause } in
     let here = get_or_push t.steps s no_step (length t.steps) refl in

@@ -1,12 +1,12 @@
-use Rattle.std.proofs.Common.{subst}
-use Rattle.std.specs.Prelude.{MatchBool}
+use Rattle.std.proofs.Common.{◌∙◌, sym}
+use Rattle.std.proofs.lemmas.Bool.{false≢true}
 use Rattle.ring_port.specs.PortState.{lits_at}
-use Rattle.ring_trail.specs.TrailData.{IsTrueOn, IsFalseOn}
-use Rattle.watch_prop.proofs.Entries.{entry_attachable, entry_pair, on_vars, entry_conflict}
+use Rattle.ring_trail.proofs.Truths.{neither}
+use Rattle.watch_prop.proofs.Entries.{entry_attachable, entry_pair, on_vars, entry_satisfied, entry_conflict, entry_forces}
 use Rattle.watch_prop.proofs.watches.Watches.judge.Goals as goal
 
-pub truth-requires : goal.truth-requires
-truth-requires g c =
+pub is_true-requires : goal.is_true-requires
+is_true-requires g c =
     let w = c.args.self.now in
     let s = g.P.Port.state c.args.port.now in
     let t = c.args.trail.now in
@@ -15,11 +15,33 @@ truth-requires g c =
     (entry_attachable w (lits_at s) t c.index_at.result c.args.lit c.in-Some.entry c.requires.watched e)
     (entry_pair w (lits_at s) t c.index_at.result c.args.lit c.in-Some.entry c.requires.watched e).1
 
-pub returns-in-None-find_open-clause-verdict : goal.returns-in-None-find_open-clause-verdict
-returns-in-None-find_open-clause-verdict g c =
+pub is_false-requires : goal.is_false-requires
+is_false-requires g c =
     let w = c.args.self.now in
     let s = g.P.Port.state c.args.port.now in
     let t = c.args.trail.now in
     let e = c.in-Some.ensures.found in
-    entry_conflict w (lits_at s) t c.index_at.result c.args.lit c.in-Some.entry e c.requires.now_false
-    (subst (λ b. MatchBool b (IsTrueOn t.steps c.in-Some.entry.other) (IsFalseOn t.steps c.in-Some.entry.other)) c.in-Some-false.field-0-test c.in-Some-false.ensures.truth) c.in-None-find_open.ensures.none
+    on_vars w.vars t.vars (lits_at s c.in-Some.entry.clause.address) c.in-Some.entry.other c.requires.watched.vars
+    (entry_attachable w (lits_at s) t c.index_at.result c.args.lit c.in-Some.entry c.requires.watched e)
+    (entry_pair w (lits_at s) t c.index_at.result c.args.lit c.in-Some.entry c.requires.watched e).1
+
+pub returns-then-is_true-clause-verdict : goal.returns-then-is_true-clause-verdict
+returns-then-is_true-clause-verdict g c =
+    rw (← c.index_at.ensures)
+    (entry_satisfied c.args.self.now (lits_at (g.P.Port.state c.args.port.now)) c.args.trail.now c.index_at.result c.args.lit c.in-Some.entry
+    c.present-lawful.ensures.trail c.requires.watched c.in-Some.ensures.found (c.is_true.ensures.0 c.if-is_true.true))
+
+pub returns-then-is_false-clause-verdict : goal.returns-then-is_false-clause-verdict
+returns-then-is_false-clause-verdict g c =
+    entry_conflict c.args.self.now (lits_at (g.P.Port.state c.args.port.now)) c.args.trail.now c.index_at.result c.args.lit c.in-Some.entry
+    c.in-Some.ensures.found c.requires.now_false (c.is_false.ensures.0 c.if-is_false.true) c.in-None-find_open.ensures.none
+
+pub returns-else-is_false-clause-verdict : goal.returns-else-is_false-clause-verdict
+returns-else-is_false-clause-verdict g c =
+    rw (← c.index_at.ensures)
+    (entry_forces c.args.self.now (lits_at (g.P.Port.state c.args.port.now)) c.args.trail.now c.index_at.result c.args.lit c.in-Some.entry
+    c.requires.watched c.in-Some.ensures.found c.requires.now_false
+    (neither c.args.trail.now.steps c.in-Some.entry.other
+    (λ p. false≢true (sym c.if-is_true.false ∙ c.is_true.ensures.1 p))
+    (λ p. false≢true (sym c.if-is_false.false ∙ c.is_false.ensures.1 p)))
+    c.in-None-find_open.ensures.none)

@@ -10,6 +10,7 @@ use Rattle.rup_model.specs.declared.journal.Entry.{Entry}
 use Rattle.rup_model.specs.Log.{Accepted, lits_of}
 use Rattle.rup_model.specs.Journal.{Book, formula_book, book_after, book, lines, lines_after, lines_from}
 use Rattle.io_edge.specs.Causes.{Rose}
+use Rattle.io_edge.proofs.Growth.{append_known-append}
 use Rattle.drat_text.specs.Text.{text, line_text}
 use Rattle.drat_text.specs.LineState.{LineState}
 use Rattle.drat_text.specs.LineOut.{PutLine, FailedLine}
@@ -18,10 +19,6 @@ use Rattle.drat_text.specs.JournalText.{Origin, later_text, HasText, HasTextCut}
 pub text_last : (L : List Line) (x : Line) → text (L ++ x ∷ []) ≡ text L ++ line_text x
 text_last [] x = append-nil (line_text x)
 text_last (y ∷ L) x = ap (λ t. line_text y ++ t) (text_last L x) ∙ sym (append_assoc (line_text y) (text L) (line_text x))
-
-pub known_twice : (w : Option (List ℕ)) (t u : List ℕ) → append_known (append_known w t) u ≡ append_known w (t ++ u)
-known_twice None t u = refl
-known_twice (Some xs) t u = ap Some (append_assoc xs t u)
 
 -- one entry more, which has one line there
 pub lines_from_last : (b : Book) (J : List Entry) (e : Entry) (x : Line) → lines_after (fold book_after b J) e ≡ x ∷ [] → lines_from b (J ++ e ∷ []) ≡ lines_from b J ++ x ∷ []
@@ -41,18 +38,20 @@ module _ (o : Origin) (mine : List Entry) (a b : LineState) (x : Line) (was : Ha
         quiet = ap (λ (s : LineState). s.faults) put.state ∙ was.quiet;
         bytes =
             ap (λ (s : LineState). s.written) put.state ∙ ap (λ w. append_known w (line_text x)) was.bytes
-            ∙ known_twice o.output.written (later_text o mine) (line_text x) ∙ ap (append_known o.output.written) (sym next);
+            ∙ append_known-append o.output.written (later_text o mine) (line_text x) ∙ ap (append_known o.output.written) (sym next);
       }
 
   -- the output failed at the line
   pub has_text_cut : Accepted o.formula (lines o.formula (o.journal ++ mine) ++ x ∷ []) → (vars : ℕ) → All (IsOn vars) (lits_of x) → FailedLine a b x → HasTextCut o mine vars b
   has_text_cut accepted vars on failed = record {
     line = x;
-    cut = failed.part.cut;
     accepted = accepted;
     on = on;
     rose = subst (λ n. Rose n b.faults) was.quiet failed.rose;
-    bytes =
-        failed.part.grown ∙ ap (λ w. append_known w (take failed.part.cut (line_text x))) was.bytes
-        ∙ known_twice o.output.written (later_text o mine) (take failed.part.cut (line_text x));
+    front = record {
+      rest = failed.front.rest;
+      whole =
+          sym (append_known-append o.output.written (later_text o mine) (line_text x))
+          ∙ ap (λ w. append_known w (line_text x)) (sym was.bytes) ∙ failed.front.whole;
+    };
   }

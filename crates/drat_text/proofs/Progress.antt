@@ -4,9 +4,6 @@ use Rattle.std.specs.declared.option.Option.{Option}
 use Rattle.std.proofs.lemmas.List.{length-take-le, take_at, take_all}
 use Rattle.io_edge.specs.Bytes.{GrowsBy}
 use Rattle.io_edge.proofs.Growth.{grows_twice, grows_by_nothing}
-use Rattle.sat_words.specs.Literal.{Literal}
-use Rattle.drat_text.specs.Text.{lit_text, lits_text}
-use Rattle.drat_text.proofs.LineText.{lits_text_more}
 use Rattle.drat_text.specs.Cut.{WasCut}
 use Rattle.drat_text.specs.PieceCut.{PieceWasCut}
 
@@ -82,28 +79,6 @@ progress_renamed start now after line line2 piece piece2 taken taken2 p a b d e 
   grown = a ∙ p.grown;
   told = e ∙ p.told;
 }
-
--- the next literal was put into the piece
-pub progress_more : (start now : Option (List ℕ)) (head piece piece2 : List ℕ) (lits : List Literal) (i : ℕ) (lit : Literal) (taken : ℕ)
-    → Progress start now (head ++ lits_text (take i lits)) piece taken → i < length lits → lit ≡ get_or lits i lit
-    → piece2 ≡ piece ++ (lit_text lit ++ codes " ") → Progress start now (head ++ lits_text (take (i + 1) lits)) piece2 taken
-progress_more start now head piece piece2 lits i lit taken p low is e =
-    let bytes = lit_text lit ++ codes " " in
-    let line = head ++ lits_text (take i lits) in
-    let put = progress_pushed start now line piece bytes taken p in
-    let more = ap (λ (xs : List ℕ). head ++ xs) (lits_text_more lits i lit low is) ∙ sym (append_assoc head (lits_text (take i lits)) bytes) in
-    progress_renamed start now now (line ++ bytes) (head ++ lits_text (take (i + 1) lits)) (piece ++ bytes) piece2 taken taken put refl more e refl
-
--- all literals and the end were put
-pub progress_ended : (start now : Option (List ℕ)) (head piece piece2 : List ℕ) (lits : List Literal) (i : ℕ) (taken : ℕ)
-    → Progress start now (head ++ lits_text (take i lits)) piece taken → length lits ≤ i → piece2 ≡ piece ++ codes "0\n"
-    → Progress start now ((head ++ lits_text lits) ++ codes "0\n") piece2 taken
-progress_ended start now head piece piece2 lits i taken p high e =
-    let line = head ++ lits_text (take i lits) in
-    let put = progress_pushed start now line piece (codes "0\n") taken p in
-    let all : lits ≡ take i lits = sym (take_all i lits high) in
-    let whole = ap (λ (xs : List Literal). (head ++ lits_text xs) ++ codes "0\n") all in
-    progress_renamed start now now (line ++ codes "0\n") ((head ++ lits_text lits) ++ codes "0\n") (piece ++ codes "0\n") piece2 taken taken put refl whole e refl
 
 -- the write of the last piece stopped
 pub progress_cut_last : (start now after : Option (List ℕ)) (line piece : List ℕ) (taken count : ℕ)

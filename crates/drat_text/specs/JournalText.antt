@@ -1,11 +1,12 @@
 -- The text of a journal's later entries, in an output that has the lines of those before.
-use Rattle.std.specs.Prelude.{◌≡◌, ℕ, List, ◌∷◌, [], ◌++◌, take, All}
+use Rattle.std.specs.Prelude.{◌≡◌, ℕ, List, ◌∷◌, [], ◌++◌, All}
 use Rattle.std.specs.Io.KnownBytes.{append_known}
 use Rattle.sat_words.specs.Literal.{Literal, IsOn}
 use Rattle.sat_words.specs.declared.line.Line.{Line}
 use Rattle.rup_model.specs.declared.journal.Entry.{Entry}
 use Rattle.rup_model.specs.Log.{Accepted, lits_of}
 use Rattle.rup_model.specs.Journal.{book, lines, lines_from}
+use Rattle.io_edge.specs.Bytes.{IsFront}
 use Rattle.io_edge.specs.Causes.{Rose}
 use Rattle.drat_text.specs.Text.{text, line_text}
 use Rattle.drat_text.specs.LineState.{LineState}
@@ -25,12 +26,11 @@ pub record HasText (o : Origin) (mine : List Entry) (out : LineState) : Type 0 w
   pub quiet : out.faults ≡ o.output.faults
   pub bytes : out.written ≡ append_known o.output.written (later_text o mine)
 
--- the output failed at a line that is accepted behind the others and is on the variables; it has their text, and a part of
--- the line's
+-- the output failed at a line that is accepted behind the others and is on the variables; what was written is a front of
+-- the text of all of them
 pub record HasTextCut (o : Origin) (mine : List Entry) (vars : ℕ) (out : LineState) : Type 0 where
   pub line : Line
-  pub cut : ℕ
   pub accepted : Accepted o.formula (lines o.formula (o.journal ++ mine) ++ line ∷ [])
   pub on : All (IsOn vars) (lits_of line)
   pub rose : Rose o.output.faults out.faults
-  pub bytes : out.written ≡ append_known o.output.written (later_text o mine ++ take cut (line_text line))
+  pub front : IsFront out.written (append_known o.output.written (later_text o mine ++ line_text line))

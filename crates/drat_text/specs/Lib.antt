@@ -3,5 +3,9 @@ pub mod Cut
 pub mod PieceCut
 pub mod LineState
 pub mod LineOut
+pub mod Count
+pub mod CountedData
 pub mod SinkData
+pub mod Gathered
+pub mod Front
 pub mod JournalText

@@ -2,9 +2,9 @@
 use Rattle.std.specs.Prelude.{◌≡◌, ℕ, ◌+◌, ◌<◌, ◌≤◌, true, Result, Ok, Err}
 use Rattle.std.specs.Io.KnownBytes.{append_known}
 use Rattle.sat_words.specs.declared.line.Line.{Line}
-use Rattle.io_edge.specs.Bytes.{GrowsByPart}
+use Rattle.io_edge.specs.Bytes.{IsFront}
 use Rattle.io_edge.specs.Causes.{Rose}
-use Rattle.drat_text.specs.declared.stop.TheConstants.{MAX_ENTRIES}
+use Rattle.sat_words.specs.declared.shared.TheConstants.{MAX_ENTRIES}
 use Rattle.drat_text.specs.declared.stop.LineStop.{LineStop}
 use Rattle.drat_text.specs.declared.stop.LineStop.TheVariants.{ProofFault, Full, Memory}
 use Rattle.drat_text.specs.Text.{line_text}
@@ -20,12 +20,12 @@ pub record PutLine (old new : LineState) (x : Line) (number : ℕ) : Type 0 wher
     written = append_known old.written (line_text x);
   }
 
--- writing failed: a part of the line's text was written, and no more lines are
+-- writing failed: what was written is a front of the text of the lines, this one the last; and no more lines are
 pub record FailedLine (old new : LineState) (x : Line) : Type 0 where
   pub room : old.entries < MAX_ENTRIES
   pub rose : Rose old.faults new.faults
   pub later : old.faults ≤ new.faults
-  pub part : GrowsByPart old.written new.written (line_text x)
+  pub front : IsFront new.written (append_known old.written (line_text x))
   pub state : new ≡ record old { spent = true; faults = new.faults; written = new.written }
 
 -- as many lines stand as can

@@ -4,8 +4,8 @@ use Rattle.std.specs.declared.option.Option.{Option}
 use Rattle.sat_words.specs.declared.line.Line.{Line}
 use Rattle.sat_words.specs.declared.line.Line.TheVariants.{Add, Del}
 
--- how many lines stand, and the last number given; whether writing failed, and how often; the text of the lines put so far,
--- the path that they are for and the bytes that a flush has made sure of, where these are told
+-- how many lines stand, and the last number given; whether writing failed, and how often; the bytes so far, also those that
+-- are still to be written, the path that they are for and the bytes that a flush has made sure of, where these are told
 pub record LineState : Type 0 where
   pub entries : ℕ
   pub last : ℕ

@@ -1,23 +1,25 @@
 -- Lines that go to a sink as text.
 use Rattle.std.specs.Prelude.{ℕ, Bool, List}
 use Rattle.std.specs.declared.option.Option.{Option}
+use Rattle.std.specs.Io.KnownBytes.{append_known}
 use Rattle.drat_text.specs.LineState.{LineState}
 
--- how many lines stand, the last number given, whether the sink failed, and the sink
+-- how many lines stand, the last number given, whether the sink failed, the bytes that are not written yet, and the sink
 pub record SinkData (S : Type 0) : Type 0 where
   pub entries : ℕ
   pub last : ℕ
   pub spent : Bool
+  pub waiting : List ℕ
   pub sink : S
 
--- the lines as the sink tells them: by its bytes, those flushed, its path, and its faults
+-- the lines as the sink tells them: by its bytes and those that wait behind them, those flushed, its path, and its faults
 abbrev pub told_by : {S : Type 0} → (S → Option (List ℕ)) → (S → Option (List ℕ)) → (S → Option (List ℕ)) → (S → ℕ) → SinkData S → LineState
 told_by written flushed target faults p = record {
   entries = p.entries;
   last = p.last;
   spent = p.spent;
   faults = faults p.sink;
-  written = written p.sink;
+  written = append_known (written p.sink) p.waiting;
   target = target p.sink;
   flushed = flushed p.sink;
 }

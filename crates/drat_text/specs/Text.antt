@@ -1,18 +1,10 @@
 -- The text of a DRAT proof, one line for each clause that is added or deleted.
-use Rattle.std.specs.Prelude.{ℕ, ◌+◌, List, [], ◌++◌, codes, map, if◌then◌else◌}
+use Rattle.std.specs.Prelude.{ℕ, ◌^◌, List, ◌++◌, codes, All}
 use Rattle.std.specs.List.{flat_map}
-use Rattle.std.specs.Int.Digits.{digits_of}
-use Rattle.sat_words.specs.Literal.{Literal}
+use Rattle.sat_words.specs.Literal.{Literal, IsOn, lit_text}
 use Rattle.sat_words.specs.declared.line.Line.{Line}
 use Rattle.sat_words.specs.declared.line.Line.TheVariants.{Add, Del}
-
--- a variable in decimal without leading zeros; 48 is `0`
-abbrev pub var_text : ℕ → List ℕ
-var_text var = map (λ digit. 48 + digit) (digits_of 10 var)
-
--- `-` for a negative literal, and the variable
-unfoldable pub lit_text : Literal → List ℕ
-lit_text lit = (if lit.neg then codes "-" else []) ++ var_text lit.var
+use Rattle.rup_model.specs.Log.{lits_of}
 
 -- the literals in their order, each followed by one space
 abbrev pub lits_text : List Literal → List ℕ
@@ -26,3 +18,7 @@ line_text (Del lits) = codes "d " ++ lits_text lits ++ codes "0\n"
 -- the lines, one after another
 abbrev pub text : List Line → List ℕ
 text lines = flat_map line_text lines
+
+-- each variable of the lines is one that a proof may name: 1 to 2^30
+abbrev pub CanBeSpelled : List Line → Type 0
+CanBeSpelled L = All (λ x. All (IsOn (2 ^ 30)) (lits_of x)) L

@@ -1,20 +1,24 @@
-//! The text of a DRAT proof: what stands in its lines, and writing one. `Piece` is the fixed buffer that a text is
-//! written over. `LineOut` is where the lines of a log go one by one, and `SinkLines` writes them to a sink.
+//! The text of a DRAT proof: what stands in its lines. `LineOut` is where the lines of a log go one by one, and
+//! `SinkLines` writes them to a sink, `CountedLines` spells none. `Piece` is a small fixed buffer that another text is written over.
 #![tactic(auto)]
 
+mod blocks;
+mod counted_lines;
 mod laws;
 mod line;
 mod line_out;
+mod numbers;
 mod piece;
 mod sink_lines;
 mod stop;
 
-pub use laws::text_determines_lines;
-pub use line::put_line;
+pub use blocks::BLOCK;
+pub use counted_lines::CountedLines;
+pub use laws::{a_front_ends_in_a_line, text_determines_lines};
 pub use line_out::LineOut;
 pub use piece::{CAPACITY, Piece};
 pub use sink_lines::SinkLines;
-pub use stop::{LineStop, MAX_ENTRIES};
+pub use stop::LineStop;
 
 #[cfg(test)]
 mod tests;

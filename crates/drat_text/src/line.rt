@@ -1,57 +1,72 @@
-// Writing a line of a proof.
-ghost use Rattle.std.specs.Prelude.{◌≡◌, ◌+◌, ◌≤◌, ◌++◌, length, codes, IfErr, OnOk};
-ghost use Rattle.io_edge.specs.Bytes.{GrowsBy};
-ghost use Rattle.io_edge.specs.Causes.{HasCause};
+// The spelling of a line.
+ghost use Rattle.std.specs.Prelude.{◌≡◌, ◌<◌, ◌++◌, length, codes, MatchResult};
+ghost use Rattle.std.specs.Fmt.{signed_decimal};
+ghost use Rattle.sat_words.specs.Literal.{lit_text};
+ghost use Rattle.drat_text.specs.Gathered.{Gathers, Breaks};
 ghost use Rattle.drat_text.specs.Text.{lits_text, line_text};
-ghost use Rattle.drat_text.specs.Cut.{WasCut};
+ghost use Rattle.drat_text.specs.declared.blocks.TheConstants.{BLOCK};
 
-use crate::piece::{CAPACITY, LITERAL, Piece};
-use io_edge::{Sink, WriteStop};
+use crate::blocks::Blocks;
+use io_edge::{Failed, Sink};
+use itoa::Buffer;
 use sat_words::{Line, Lit};
 
-/// The bytes of a line's end: `0` and a newline.
-const END: usize = 2;
-
-/// Writes the line as textual DRAT, the format that the proof checker drat-trim reads: for the clause 1 or not 2 it is
-/// `1 -2 0` where it is added, and `d 1 -2 0` where it is deleted. It does not flush, and takes no memory.
-///
-/// The line goes to the sink in pieces of at most 4096 bytes, so that one of usual length is one piece. At `WriteStop`
-/// the sink failed and has exactly the first `taken` bytes of the line, so that what it has ends within the line. A
-/// count past `usize::MAX` stands still there.
-pub fn put_line<S: Sink>(sink: &mut S, line: &Line) -> Result<(), WriteStop>
-    ensures all { OnOk result (GrowsBy (S.written sink.old) (S.written sink.new) (line_text line.now)) }
-    ensures part { IfErr result (λ stop. WasCut (S.written sink.old) (S.written sink.new) (line_text line.now) stop.taken) }
-    ensures flushed { S.flushed sink.new ≡ S.flushed sink.old }
-    ensures target { S.target sink.new ≡ S.target sink.old }
-    ensures cause { HasCause (S.faults sink.old) (S.faults sink.new) result }
+/// The number that stands for the literal.
+fn number_of(lit: Lit) -> i32
+    ensures { signed_decimal result ≡ lit_text lit }
 {
-    let mut piece = Piece::new();
-    match line {
-        Line::Add(lits) => put_lits(sink, &mut piece, lits.as_slice()),
-        Line::Del(lits) => {
-            piece.push_bytes(b"d ");
-            put_lits(sink, &mut piece, lits.as_slice())
-        }
-    }
+    let positive = lit.var() as i32;
+    if lit.is_neg() { -positive } else { positive }
 }
 
-/// Writes what waits in the piece, then the literals and the end of the line.
-fn put_lits<S: Sink>(sink: &mut S, piece: &mut Piece, lits: &[Lit]) -> Result<(), WriteStop>
-    requires { length piece.old + END ≤ CAPACITY }
-    ensures all { OnOk result (GrowsBy (S.written sink.old) (S.written sink.new) (piece.old ++ lits_text lits.now ++ codes "0\n")) }
-    ensures part { IfErr result (λ stop. WasCut (S.written sink.old) (S.written sink.new) (piece.old ++ lits_text lits.now ++ codes "0\n") stop.taken) }
-    ensures flushed { S.flushed sink.new ≡ S.flushed sink.old }
-    ensures target { S.target sink.new ≡ S.target sink.old }
-    ensures cause { HasCause (S.faults sink.old) (S.faults sink.new) result }
-{
-    let mut taken = 0;
-    for lit in lits {
-        if !piece.has_room(LITERAL + END) {
-            taken = piece.write_to(sink, taken)?;
+impl<S: Sink> Blocks<S> {
+    /// Puts the line, unless its text would go nowhere.
+    pub(crate) fn spell(&mut self, line: &Line) -> Result<(), Failed>
+        requires room { length self.old.waiting < BLOCK }
+        ensures { MatchResult result (λ _. Gathers S.written S.flushed S.target S.faults self.old self.new (line_text line.now)) (λ _. Breaks S.written S.flushed S.target S.faults self.old self.new (line_text line.now)) }
+    {
+        if self.is_nowhere() {
+            return Ok(());
         }
-        piece.push_lit(*lit);
+        self.put_line(line)
     }
-    piece.push_bytes(b"0\n");
-    piece.write_to(sink, taken)?;
-    Ok(())
+
+    /// Puts the line, as textual DRAT: the format that the proof checker drat-trim reads. For the clause 1 or not 2 it is
+    /// `1 -2 0` where it is added, and `d 1 -2 0` where it is deleted.
+    fn put_line(&mut self, line: &Line) -> Result<(), Failed>
+        requires room { length self.old.waiting < BLOCK }
+        ensures { MatchResult result (λ _. Gathers S.written S.flushed S.target S.faults self.old self.new (line_text line.now)) (λ _. Breaks S.written S.flushed S.target S.faults self.old self.new (line_text line.now)) }
+    {
+        match line {
+            Line::Add(lits) => self.put_lits(lits.as_slice()),
+            Line::Del(lits) => match self.append(b"d ") {
+                Ok(()) => self.put_lits(lits.as_slice()),
+                Err(Failed) => Err(Failed),
+            },
+        }
+    }
+
+    fn put_lits(&mut self, lits: &[Lit]) -> Result<(), Failed>
+        requires room { length self.old.waiting < BLOCK }
+        ensures { MatchResult result (λ _. Gathers S.written S.flushed S.target S.faults self.old self.new (lits_text lits.now ++ codes "0\n")) (λ _. Breaks S.written S.flushed S.target S.faults self.old self.new (lits_text lits.now ++ codes "0\n")) }
+    {
+        for lit in lits {
+            match self.put_lit(*lit) {
+                Ok(()) => {}
+                Err(Failed) => return Err(Failed),
+            }
+        }
+        self.append(b"0\n")
+    }
+
+    fn put_lit(&mut self, lit: Lit) -> Result<(), Failed>
+        requires room { length self.old.waiting < BLOCK }
+        ensures { MatchResult result (λ _. Gathers S.written S.flushed S.target S.faults self.old self.new (lit_text lit ++ codes " ")) (λ _. Breaks S.written S.flushed S.target S.faults self.old self.new (lit_text lit ++ codes " ")) }
+    {
+        let mut digits = Buffer::new();
+        match self.append(digits.format(number_of(lit)).as_bytes()) {
+            Ok(()) => self.append(b" "),
+            Err(Failed) => Err(Failed),
+        }
+    }
 }

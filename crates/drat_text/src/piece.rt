@@ -2,19 +2,13 @@
 ghost use Rattle.std.specs.Prelude.{◌≡◌, ◌+◌, ◌-◌, ◌^◌, ◌≤◌, ◌++◌, [], IsTrue, ◌↔◌, min, length, codes, IfOk, IfErr, OnOk, OnErr};
 ghost use Rattle.io_edge.specs.Bytes.{GrowsBy};
 ghost use Rattle.io_edge.specs.Causes.{HasCause};
-ghost use Rattle.drat_text.specs.Text.{lit_text};
 ghost use Rattle.drat_text.specs.PieceCut.{PieceWasCut};
 
 use io_edge::{Sink, WriteStop, write_all_of};
-use itoa::Buffer;
-use sat_words::Lit;
 use std::marker::Model;
 
 /// How many bytes a piece has room for: the most that are handed over at once.
 pub const CAPACITY: usize = 4096;
-
-/// The most bytes of a literal: `-`, ten digits and a space.
-pub(crate) const LITERAL: usize = 12;
 
 /// The bytes of a text that were put last and are still to be handed over, so that a text that is made of short words
 /// is written in few calls. It takes no memory but its own.
@@ -61,20 +55,6 @@ impl Piece {
         let end = self.len + bytes.len();
         self.bytes[self.len..end].copy_from_slice(bytes);
         self.len = end;
-    }
-
-    /// Adds the literal and a space.
-    pub(crate) fn push_lit(&mut self, lit: Lit)
-        requires { length self.old + LITERAL ≤ CAPACITY }
-        ensures text { self.new ≡ self.old ++ (lit_text lit ++ codes " ") }
-        ensures fits { length self.new ≤ length self.old + LITERAL }
-    {
-        if lit.is_neg() {
-            self.push_bytes(b"-");
-        }
-        let mut digits = Buffer::new();
-        self.push_bytes(digits.format(lit.var()).as_bytes());
-        self.push_bytes(b" ");
     }
 
     /// Writes the bytes and empties the piece. `taken` bytes of the text were written before, and the answer adds the

@@ -1,51 +1,63 @@
 // The lines of a log as the text of a DRAT proof.
-ghost use Rattle.std.specs.Prelude.{◌≡◌, ◌≤◌, ◌^◌, false};
+ghost use Rattle.std.specs.Prelude.{◌≡◌, ◌≤◌, ◌<◌, ◌+◌, ◌^◌, [], true, false, length, is_err, IfOk, IfErr, OnOk, OnErr};
+ghost use Rattle.std.specs.Io.KnownBytes.{append_known};
+ghost use Rattle.io_edge.specs.Bytes.{IsFront};
+ghost use Rattle.io_edge.specs.Causes.{HasCause};
 ghost use Rattle.io_edge.specs.Paths.{IsEmptyWhereTold};
 ghost use Rattle.drat_text.specs.SinkData.{SinkData, told_by};
 ghost use Rattle.drat_text.specs.LineOut.{WasPut};
+ghost use Rattle.drat_text.specs.Text.{line_text};
+ghost use Rattle.drat_text.specs.declared.blocks.TheConstants.{BLOCK};
 
-use crate::line::put_line;
+use crate::blocks::Blocks;
 use crate::line_out::LineOut;
-use crate::stop::{LineStop, MAX_ENTRIES};
-use io_edge::Sink;
+use crate::numbers::Numbers;
+use crate::stop::LineStop;
+use io_edge::{Failed, Sink};
 use sat_words::Line;
+use std::alloc::{AllocFailed, Global};
 use std::marker::Model;
 
-/// Writes each line to a sink, as `put_line` does, and keeps none. It does not flush, and takes no memory.
+/// Writes the lines to a sink and keeps none. It does not flush.
 ///
-/// After a fault the sink has the text of the lines put before, and a part of the text of the line that failed.
+/// The text is written in blocks of `BLOCK` bytes, so that a write may end within a line; the memory of one block is taken
+/// in `new`, and no other. `finish` writes what is left. After a fault the sink has a front of the text of the lines, that
+/// which failed being the last. No line is spelled for a sink that leads nowhere.
 #[derive(Drop)]
 pub struct SinkLines<S> {
-    entries: u64,
-    last: u64,
+    numbers: Numbers,
     spent: bool,
-    sink: S,
+    blocks: Blocks<S>,
 }
 
 impl<S> Model for SinkLines<S> {
-    ghost use Rattle.std.specs.Prelude.{◌≤◌, ◌+◌, ◌^◌};
-    ghost use Rattle.drat_text.specs.declared.stop.TheConstants.{MAX_ENTRIES};
+    ghost use Rattle.std.specs.Prelude.{◌<◌, length};
+    ghost use Rattle.drat_text.specs.declared.blocks.TheConstants.{BLOCK};
     ghost use Rattle.drat_text.specs.SinkData.{SinkData};
 
     ghost Value = { SinkData S };
 
-    ghost view = { λ p. record { entries = p.entries; last = p.last; spent = p.spent; sink = p.sink } };
+    ghost view = { λ p. record { entries = p.numbers.entries; last = p.numbers.last; spent = p.spent; waiting = p.blocks.waiting; sink = p.blocks.sink } };
 
-    ghost invariant = { λ p. (p.entries ≤ MAX_ENTRIES) × (p.last ≤ 2 ^ 63 + p.entries) };
+    ghost invariant = { λ p. length p.blocks.waiting < BLOCK };
 }
 
 impl<S: Sink> SinkLines<S> {
-    /// Lines for a formula of so many clauses, in a sink to which nothing was written.
-    pub fn new(clauses: u64, sink: S) -> Self
+    /// Lines for a formula of so many clauses, in a sink to which nothing was written. Refused for memory it gives the
+    /// sink back.
+    pub fn new(alloc: Global, clauses: u64, sink: S) -> Result<Self, AllocFailed<S>>
         requires few { clauses ≤ 2 ^ 63 }
         requires empty { IsEmptyWhereTold (S.written sink) }
-        ensures { result ≡ record { entries = 0; last = clauses; spent = false; sink = sink } }
+        ensures made { IfOk result (λ lines. lines ≡ record { entries = 0; last = clauses; spent = false; waiting = []; sink = sink }) }
+        ensures back { IfErr result (λ refused. refused.value ≡ sink) }
     {
-        SinkLines {
-            entries: 0,
-            last: clauses,
-            spent: false,
-            sink,
+        match Blocks::new(alloc, sink) {
+            Ok(blocks) => Ok(SinkLines {
+                numbers: Numbers::after(clauses),
+                spent: false,
+                blocks,
+            }),
+            Err(refused) => Err(refused),
         }
     }
 
@@ -56,33 +68,46 @@ impl<S: Sink> SinkLines<S> {
         self.spent
     }
 
-    /// Gives the sink back.
-    pub fn into_sink(self) -> S
-        ensures { result ≡ self.sink }
+    /// Writes what waits, and gives the sink back. It does not flush. Where the sink has failed, now or at a line before,
+    /// that is told; after a line that failed nothing more is written.
+    pub fn finish(self) -> (Result<(), Failed>, S)
+        ensures whole { OnOk result.0 (S.written result.1 ≡ append_known (S.written self.sink) self.waiting) }
+        ensures front { OnErr result.0 (IsFront (S.written result.1) (append_known (S.written self.sink) self.waiting)) }
+        ensures spent { self.spent ≡ true → (is_err result.0 ≡ true) × (result.1 ≡ self.sink) }
+        ensures cause { self.spent ≡ false → HasCause (S.faults self.sink) (S.faults result.1) result.0 }
+        ensures nothing { self.waiting ≡ [] → result.1 ≡ self.sink }
+        ensures flushed { S.flushed result.1 ≡ S.flushed self.sink }
+        ensures target { S.target result.1 ≡ S.target self.sink }
     {
-        let SinkLines { sink, .. } = self;
-        sink
+        let SinkLines {
+            spent,
+            mut blocks,
+            ..
+        } = self;
+        let result = if spent {
+            Err(Failed)
+        } else {
+            blocks.write_out()
+        };
+        (result, blocks.into_sink())
     }
 }
 
 impl<S: Sink> LineOut for SinkLines<S> {
     ghost told = { told_by S.written S.flushed S.target S.faults };
 
-    fn put(&mut self, line: &Line) -> Result<u64, LineStop> {
-        if self.entries == MAX_ENTRIES {
+    fn put(&mut self, line: &Line) -> Result<u64, LineStop>
+        requires unspent { self.old.spent ≡ false }
+        ensures put { WasPut (told_by S.written S.flushed S.target S.faults self.old) (told_by S.written S.flushed S.target S.faults self.new) line.now result }
+        ensures gathers { length self.old.waiting + length (line_text line.now) < BLOCK → self.new.sink ≡ self.old.sink }
+    {
+        if self.numbers.is_full() {
             return Err(LineStop::Full);
         }
-        if put_line(&mut self.sink, line).is_err() {
+        if self.blocks.spell(line).is_err() {
             self.spent = true;
             return Err(LineStop::ProofFault);
         }
-        self.entries += 1;
-        match line {
-            Line::Add(_) => {
-                self.last += 1;
-                Ok(self.last)
-            }
-            Line::Del(_) => Ok(0),
-        }
+        Ok(self.numbers.count(line))
     }
 }

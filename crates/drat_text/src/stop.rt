@@ -1,6 +1,3 @@
-/// How many lines a log can have.
-pub const MAX_ENTRIES: u64 = 1 << 48;
-
 /// Why a line was not put.
 #[derive(Clone, Copy, PartialEq, Eq, Debug)]
 pub enum LineStop {

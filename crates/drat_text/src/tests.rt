@@ -1,7 +1,8 @@
-use crate::{LineOut, LineStop, SinkLines, put_line, text_determines_lines};
-use io_edge::{MemSink, WriteStop};
+use crate::{LineOut, SinkLines, a_front_ends_in_a_line, text_determines_lines};
+use io_edge::{Failed, MemSink, NullSink, Sink};
 use sat_words::{Line, Lit, Lits};
-use std::alloc::{AllocError, Global};
+use std::alloc::AllocGlobal;
+use std::process::Abort;
 use std::test::Fail;
 
 #[test]
@@ -27,56 +28,61 @@ fn lines_and_their_texts(rt: HostRuntime) -> Result<(), Fail> {
     ];
     for (line, text) in &table {
         // The second call would fail: a short line is one write.
-        let mut sink = MemSink::new(alloc, 64, &[2])?;
-        assert!(rt; put_line(&mut sink, line).is_ok(), "{text}");
+        let Ok(mut lines) = SinkLines::new(alloc, 0, MemSink::new(alloc, 64, &[2])?) else {
+            return Err("no memory".into());
+        };
+        assert!(rt; lines.put(line).is_ok(), "{text}");
+        let (end, sink) = lines.finish();
+        assert_eq!(rt; end, Ok(()), "{text}");
         assert!(rt; sink.bytes() == text.as_bytes(), "{text}");
     }
     text_determines_lines();
+    a_front_ends_in_a_line();
     Ok(())
 }
 
-#[test]
-fn lines_follow_one_another(rt: HostRuntime) -> Result<(), Fail> {
-    let alloc = rt.alloc();
-    let three = Lit::new(3, false);
-    let mut sink = MemSink::new(alloc, 64, &[3])?;
-    assert!(rt; put_line(&mut sink, &Line::Add(Lits::from_slice(alloc, &[three])?)).is_ok());
-    assert!(rt; put_line(&mut sink, &Line::Del(Lits::from_slice(alloc, &[three])?)).is_ok());
-    assert!(rt;
-        put_line(&mut sink, &Line::Add(Lits::from_slice(alloc, &[])?))
-            == Err(WriteStop { taken: 0 })
-    );
-    assert!(rt; sink.bytes() == b"3 0\nd 3 0\n".as_slice());
-    Ok(())
-}
-
-fn long_line(alloc: Global) -> Result<Line, AllocError> {
-    let lit = Lit::new(1_000_000_000, true);
-    Ok(Line::Del(Lits::from_vec(vec![in alloc; lit; 1000]?)))
-}
-
-#[test]
-fn a_long_line_in_pieces(rt: HostRuntime) -> Result<(), Fail> {
-    let alloc = rt.alloc();
-    let line = long_line(alloc)?;
-    let mut text = Vec::from_slice(alloc, b"d ")?;
-    for _ in 0..1000 {
-        text.extend_from_slice(b"-1000000000 ")?;
+/// Puts the line so many times, unless the sink fails before. Answers how often it was put.
+fn put_often<S: Sink>(lines: &mut SinkLines<S>, line: &Line, times: u32) -> u32 {
+    for done in 0..times {
+        if lines.is_spent() || lines.put(line).is_err() {
+            return done;
+        }
     }
-    text.extend_from_slice(b"0\n")?;
-    // What was written where the call of this number fails. A piece ends where another literal and the line's end might
-    // have no room in 4096 bytes: the first one after 341 literals of 12 bytes, the next ones after 341 more.
-    for (failing, taken) in [(1, 0), (2, 4094), (3, 8186), (4, 12004), (0, 12004)] {
-        let fails = [failing];
-        let mut sink = MemSink::new(alloc, 1 << 14, &fails)?;
-        let want = if taken < text.len() {
-            Err(WriteStop { taken })
-        } else {
-            Ok(())
-        };
-        assert!(rt; put_line(&mut sink, &line) == want, "at {failing}");
-        assert_eq!(rt; sink.bytes().len(), taken, "at {failing}");
-        assert!(rt; text.starts_with(sink.bytes()), "at {failing}");
+    times
+}
+
+/// How often a line of six bytes is put, how many bytes the sink then has, and how many once the lines are finished,
+/// where these calls of the sink fail.
+fn blocks(
+    rt: &(impl Abort + AllocGlobal),
+    fails: &[u64],
+    times: u32,
+) -> Result<(u32, usize, Result<(), Failed>), Fail> {
+    let alloc = rt.alloc();
+    let line = Line::Add(Lits::from_slice(alloc, &[Lit::new(1, false), Lit::new(2, false)])?);
+    let sink = MemSink::new(alloc, 1 << 17, fails)?;
+    let Ok(mut lines) = SinkLines::new(alloc, 0, sink) else {
+        return Err("no memory".into());
+    };
+    let done = put_often(&mut lines, &line, times);
+    let (end, sink) = lines.finish();
+    Ok((done, sink.bytes().len(), end))
+}
+
+#[test]
+fn a_write_has_a_whole_block(rt: HostRuntime) -> Result<(), Fail> {
+    // A block of 65,536 bytes is full within the 10,923rd line.
+    let table: [(&[u64], u32, (u32, usize, Result<(), Failed>)); 6] = [
+        (&[], 10_922, (10_922, 65_532, Ok(()))),
+        (&[], 10_923, (10_923, 65_538, Ok(()))),
+        (&[2], 10_922, (10_922, 65_532, Ok(()))),
+        (&[2], 10_923, (10_923, 65_536, Err(Failed))),
+        (&[1], 10_922, (10_922, 0, Err(Failed))),
+        (&[1], 10_923, (10_922, 0, Err(Failed))),
+    ];
+    for (fails, times, wanted) in table {
+        let found = blocks(&rt, fails, times)?;
+        assert!(rt; found == wanted, "{times}");
     }
     Ok(())
 }
@@ -86,12 +92,28 @@ fn lines_put_one_by_one(rt: HostRuntime) -> Result<(), Fail> {
     let alloc = rt.alloc();
     let three = Line::Add(Lits::from_slice(alloc, &[Lit::new(3, false)])?);
     let gone = Line::Del(Lits::from_slice(alloc, &[Lit::new(3, false)])?);
-    let mut lines = SinkLines::new(7, MemSink::new(alloc, 64, &[4])?);
+    let Ok(mut lines) = SinkLines::new(alloc, 7, MemSink::new(alloc, 64, &[])?) else {
+        return Err("no memory".into());
+    };
     assert!(rt; lines.put(&three) == Ok(8));
     assert!(rt; lines.put(&gone) == Ok(0));
     assert!(rt; lines.put(&three) == Ok(9));
-    assert!(rt; lines.put(&gone) == Err(LineStop::ProofFault));
-    let sink = lines.into_sink();
+    let (end, sink) = lines.finish();
+    assert_eq!(rt; end, Ok(()));
     assert!(rt; sink.bytes() == b"3 0\nd 3 0\n3 0\n".as_slice());
+    Ok(())
+}
+
+#[test]
+fn lines_that_go_nowhere(rt: HostRuntime) -> Result<(), Fail> {
+    let alloc = rt.alloc();
+    let three = Line::Add(Lits::from_slice(alloc, &[Lit::new(3, false)])?);
+    let Ok(mut lines) = SinkLines::new(alloc, 7, NullSink) else {
+        return Err("no memory".into());
+    };
+    assert!(rt; lines.put(&three) == Ok(8));
+    assert!(rt; lines.put(&three) == Ok(9));
+    let (end, _) = lines.finish();
+    assert_eq!(rt; end, Ok(()));
     Ok(())
 }

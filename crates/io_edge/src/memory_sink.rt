@@ -1,5 +1,5 @@
 // A sink into memory that was taken before.
-ghost use Rattle.std.specs.Prelude.{◌≡◌, ◌<◌, ◌≤◌, ◌||◌, [], length, take, Some, IfOk, is_err, nat_lt, vec_capacity, string_bytes};
+ghost use Rattle.std.specs.Prelude.{◌≡◌, ◌<◌, ◌≤◌, ◌||◌, [], true, false, None, length, take, Some, IfOk, is_err, nat_lt, vec_capacity, string_bytes};
 ghost use Rattle.std.specs.Option.{option_map};
 ghost use Rattle.std.specs.Io.{WritesAtMost};
 ghost use Rattle.io_edge.specs.Bytes.{Wrote, WasFlushed};
@@ -114,6 +114,13 @@ impl<'a> Sink for MemSink<'a> {
     ghost target = { λ sink. sink.target };
 
     ghost faults = { λ sink. sink.calls.faults };
+
+    fn is_nowhere(&self) -> bool
+        ensures known { result ≡ false }
+        ensures untold { result ≡ true → Some self.now.written ≡ None }
+    {
+        false
+    }
 
     fn write(&mut self, bytes: &[u8]) -> Result<usize, Failed>
         ensures bound { WritesAtMost result bytes.now }

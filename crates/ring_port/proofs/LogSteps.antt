@@ -31,7 +31,7 @@ use Rattle.drat_text.specs.LineState.{LineState}
 use Rattle.drat_text.specs.LineOut.{PutLine, FailedLine}
 use Rattle.drat_text.proofs.JournalLines.{has_text_next, has_text_cut}
 use Rattle.sat_words.specs.declared.shared.Stop.{Stop}
-use Rattle.drat_text.specs.declared.stop.TheConstants.{MAX_ENTRIES}
+use Rattle.sat_words.specs.declared.shared.TheConstants.{MAX_ENTRIES}
 use Rattle.ring_port.specs.declared.stops.PortStop.{PortStop}
 use Rattle.ring_port.specs.declared.stops.PortStop.TheVariants.{Ended, Broken, ProofFault, NoHole, Memory}
 use Rattle.ring_port.specs.PortState.{Holding, PortState, IsOn, known}

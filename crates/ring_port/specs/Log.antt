@@ -5,7 +5,7 @@ use Rattle.sat_words.specs.Clause.{is_empty}
 use Rattle.rup_model.specs.declared.journal.Entry.{Entry}
 use Rattle.rup_model.specs.Journal.{book, lines, added, ended, is_told, ring_of, LogSound}
 use Rattle.rup_model.specs.Opening.{Opening, Start, IsOpening}
-use Rattle.drat_text.specs.declared.stop.TheConstants.{MAX_ENTRIES}
+use Rattle.sat_words.specs.declared.shared.TheConstants.{MAX_ENTRIES}
 use Rattle.drat_text.specs.LineState.{LineState}
 use Rattle.drat_text.specs.JournalText.{HasText, HasTextCut}
 pub use Rattle.drat_text.specs.JournalText.{Origin}

@@ -6,7 +6,7 @@ use Rattle.sat_words.specs.declared.line.Line.TheVariants.{Add as AddLine, Del a
 use Rattle.rup_model.specs.declared.journal.Kind.{Kind}
 use Rattle.rup_model.specs.declared.journal.Entry.{Entry}
 use Rattle.rup_model.specs.declared.journal.Entry.TheVariants.{Add}
-use Rattle.drat_text.specs.declared.stop.TheConstants.{MAX_ENTRIES}
+use Rattle.sat_words.specs.declared.shared.TheConstants.{MAX_ENTRIES}
 use Rattle.drat_text.specs.LineState.{LineState}
 use Rattle.drat_text.specs.LineOut.{PutLine, FailedLine}
 use Rattle.ring_port.specs.declared.stops.PortStop.{PortStop}

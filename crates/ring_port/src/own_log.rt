@@ -5,9 +5,9 @@ ghost use Rattle.ring_port.specs.OwnLog.{IsAddition, WasPut, WasAdded, own_entry
 ghost use Rattle.ring_port.specs.Port.{is_usable};
 
 use crate::stops::PortStop;
-use drat_text::{LineOut, LineStop, MAX_ENTRIES};
+use drat_text::{LineOut, LineStop};
 use rup_model::{Addition, Entry, Kind};
-use sat_words::{Line, Lits};
+use sat_words::{Line, Lits, MAX_ENTRIES};
 use std::alloc::Global;
 use std::marker::Model;
 

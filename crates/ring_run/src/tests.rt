@@ -4,7 +4,7 @@ ghost use Rattle.sat_words.specs.Clause.{clause_of};
 ghost use Rattle.ring_run.specs.Problems.{IsReady, square, square_starts, chain, chain_starts, triples, triples_starts, opposed};
 
 use crate::{Addresses, Counts, End, Job, run_ring};
-use drat_text::SinkLines;
+use drat_text::{CountedLines, LineOut, SinkLines};
 use io_edge::MemSink;
 use ring_port::PlainPort;
 use sat_words::{Clause, Formula, Lit};
@@ -92,20 +92,21 @@ fn two_units(alloc: Global) -> Result<Formula, AllocError>
     Ok(formula)
 }
 
-/// Runs a ring from these clauses and units, with its proof into a sink of which the calls listed fail.
-fn run_on<'a>(
+/// Runs a ring from these clauses and units, with its proof into these lines.
+fn run_over<L: LineOut + Drop>(
     alloc: Global,
     formula: &Formula,
     start: &[(u64, Clause)],
     units: &[Lit],
     conflicts: u64,
-    failing: &'a [u64],
-) -> Result<(End, Counts, MemSink<'a>), Fail>
+    lines: L,
+) -> Result<(End, Counts, L), Fail>
     requires ready { IsReady formula.now.clauses start.now units.now formula.now.vars }
     requires some { 1 ≤ conflicts }
+    requires none { (L.told lines).entries ≡ 0 }
+    requires last { (L.told lines).last ≡ length formula.now.clauses }
+    requires unspent { (L.told lines).spent ≡ false }
 {
-    let sink = MemSink::new(alloc, ROOM, failing)?;
-    let lines = SinkLines::new(formula.clauses().len() as u64, sink);
     let Ok(mut port) = PlainPort::new(alloc, formula, formula.vars(), start, units, lines) else {
         return Err(Fail::from("no memory for the port"));
     };
@@ -117,19 +118,37 @@ fn run_on<'a>(
         conflicts,
     };
     let (end, counts) = run_ring(alloc, &mut port, &job);
-    Ok((end, counts, port.into_lines().into_sink()))
+    Ok((end, counts, port.into_lines()))
+}
+
+/// The same with its proof into a sink.
+fn run_on(
+    alloc: Global,
+    formula: &Formula,
+    start: &[(u64, Clause)],
+    units: &[Lit],
+    conflicts: u64,
+) -> Result<(End, Counts, MemSink<'static>), Fail>
+    requires ready { IsReady formula.now.clauses start.now units.now formula.now.vars }
+    requires some { 1 ≤ conflicts }
+{
+    let sink = MemSink::new(alloc, ROOM, &[])?;
+    let Ok(lines) = SinkLines::new(alloc, formula.clauses().len() as u64, sink) else {
+        return Err(Fail::from("no memory for the lines"));
+    };
+    let (end, counts, lines) = run_over(alloc, formula, start, units, conflicts, lines)?;
+    match lines.finish() {
+        (Ok(()), sink) => Ok((end, counts, sink)),
+        (Err(_), _) => Err(Fail::from("the sink failed")),
+    }
 }
 
 /// Runs a ring on the four clauses.
-fn run_on_four<'a>(
-    alloc: Global,
-    conflicts: u64,
-    failing: &'a [u64],
-) -> Result<(End, Counts, MemSink<'a>), Fail>
+fn run_on_four(alloc: Global, conflicts: u64) -> Result<(End, Counts, MemSink<'static>), Fail>
     requires { 1 ≤ conflicts }
 {
     let (formula, start) = four_clauses(alloc)?;
-    run_on(alloc, &formula, &start, &[], conflicts, failing)
+    run_on(alloc, &formula, &start, &[], conflicts)
 }
 
 pub(crate) fn counted(learned: u64) -> Counts {
@@ -144,7 +163,7 @@ pub(crate) fn counted(learned: u64) -> Counts {
 // 1 false makes 2 and its negation true: the lemma is 1. With it the last two clauses oppose each other.
 #[test]
 fn refutes_four_clauses(rt: HostRuntime) -> Result<(), Fail> {
-    let (end, counts, sink) = run_on_four(rt.alloc(), 2, &[])?;
+    let (end, counts, sink) = run_on_four(rt.alloc(), 2)?;
     assert!(rt; matches!(end, End::Refuted));
     assert_eq!(rt; counts, counted(1));
     assert!(rt; sink.bytes() == b"1 0\n0\n".as_slice());
@@ -153,7 +172,7 @@ fn refutes_four_clauses(rt: HostRuntime) -> Result<(), Fail> {
 
 #[test]
 fn stops_at_its_limit(rt: HostRuntime) -> Result<(), Fail> {
-    let (end, counts, sink) = run_on_four(rt.alloc(), 1, &[])?;
+    let (end, counts, sink) = run_on_four(rt.alloc(), 1)?;
     assert!(rt; matches!(end, End::Spent));
     assert_eq!(rt; counts, counted(1));
     assert!(rt; sink.bytes() == b"1 0\n".as_slice());
@@ -162,10 +181,12 @@ fn stops_at_its_limit(rt: HostRuntime) -> Result<(), Fail> {
 
 #[test]
 fn tells_that_its_proof_failed(rt: HostRuntime) -> Result<(), Fail> {
-    let (end, counts, sink) = run_on_four(rt.alloc(), 2, &[1])?;
+    let alloc = rt.alloc();
+    let (formula, start) = four_clauses(alloc)?;
+    let lines = CountedLines::new(4, 1);
+    let (end, counts, _) = run_over(alloc, &formula, &start, &[], 2, lines)?;
     assert!(rt; matches!(end, End::ProofFault));
     assert_eq!(rt; counts, counted(0));
-    assert!(rt; sink.bytes().is_empty());
     Ok(())
 }
 
@@ -174,7 +195,7 @@ fn tells_that_its_proof_failed(rt: HostRuntime) -> Result<(), Fail> {
 fn finds_a_model(rt: HostRuntime) -> Result<(), Fail> {
     let alloc = rt.alloc();
     let (formula, start) = three_clauses(alloc)?;
-    let (end, counts, sink) = run_on(alloc, &formula, &start, &[Lit::new(2, true)], 1, &[])?;
+    let (end, counts, sink) = run_on(alloc, &formula, &start, &[Lit::new(2, true)], 1)?;
     let End::Sat(model) = end else {
         return Err(Fail::from("no model"));
     };
@@ -192,7 +213,7 @@ fn finds_a_model(rt: HostRuntime) -> Result<(), Fail> {
 fn learns_a_clause(rt: HostRuntime) -> Result<(), Fail> {
     let alloc = rt.alloc();
     let (formula, start) = two_clauses(alloc)?;
-    let (end, counts, sink) = run_on(alloc, &formula, &start, &[], 2, &[])?;
+    let (end, counts, sink) = run_on(alloc, &formula, &start, &[], 2)?;
     let End::Sat(model) = end else {
         return Err(Fail::from("no model"));
     };
@@ -209,7 +230,7 @@ fn refutes_opposed_units(rt: HostRuntime) -> Result<(), Fail> {
     let alloc = rt.alloc();
     let formula = two_units(alloc)?;
     let units = [Lit::new(1, false), Lit::new(1, true)];
-    let (end, counts, sink) = run_on(alloc, &formula, &[], &units, 1, &[])?;
+    let (end, counts, sink) = run_on(alloc, &formula, &[], &units, 1)?;
     assert!(rt; matches!(end, End::Refuted));
     assert_eq!(rt; counts, counted(0));
     assert!(rt; sink.bytes() == b"0\n".as_slice());

@@ -6,8 +6,7 @@ ghost use Rattle.ring_run.specs.Problems.{IsReady};
 
 use crate::tests::{counted, two_clauses};
 use crate::{Addresses, Counts, End, Job, run_ring};
-use drat_text::{LineOut, SinkLines};
-use io_edge::MemSink;
+use drat_text::{CountedLines, LineOut};
 use ring_port::{PlainPort, Port, PortStop, Set};
 use sat_words::{Clause, Cref, Formula, Head, Lit, STOP_MEMORY, STOP_ROOM, STOP_SAT, Stop};
 use std::alloc::Global;
@@ -172,7 +171,7 @@ fn run_in_crowd(
 ) -> Result<Ran, Fail>
     requires { IsReady formula.now.clauses start.now [] formula.now.vars }
 {
-    let lines = SinkLines::new(formula.clauses().len() as u64, MemSink::new(alloc, 0, &[])?);
+    let lines = CountedLines::new(formula.clauses().len() as u64, 0);
     let Ok(inner) = PlainPort::new(alloc, formula, formula.vars(), start, &[], lines) else {
         return Err(Fail::from("no memory for the port"));
     };

@@ -12,8 +12,7 @@ use crate::tests::put;
 use crate::units::{Units, take_units};
 use crate::{Addresses, Job};
 use analyze::{Analysis, Conclusion};
-use drat_text::SinkLines;
-use io_edge::MemSink;
+use drat_text::CountedLines;
 use ring_port::{PlainPort, Port};
 use ring_trail::Trail;
 use sat_words::{Clause, Cref, Formula, Lit};
@@ -170,8 +169,7 @@ fn walk<P: Port>(alloc: Global, port: &mut P, job: &Job) -> Result<Walked, Fail>
 fn walk_on(alloc: Global, formula: &Formula, start: &[(u64, Clause)]) -> Result<Walked, Fail>
     requires { IsReady formula.now.clauses start.now [] formula.now.vars }
 {
-    let sink = MemSink::new(alloc, 0, &[])?;
-    let lines = SinkLines::new(formula.clauses().len() as u64, sink);
+    let lines = CountedLines::new(formula.clauses().len() as u64, 0);
     let Ok(mut port) = PlainPort::new(alloc, formula, formula.vars(), start, &[], lines) else {
         return Err(Fail::from("no memory for the port"));
     };

@@ -18,6 +18,9 @@ pub struct Head {
     pub number: u64,
 }
 
+/// How many lines a log can have. So each number that a line is given fits into 64 bits.
+pub const MAX_ENTRIES: u64 = 1 << 48;
+
 /// The kind of a stop by which a ring has found an assignment.
 pub const STOP_SAT: u8 = 1;
 

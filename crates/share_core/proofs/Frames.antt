@@ -16,7 +16,8 @@ use Rattle.rup_model.proofs.Covers.{same_self}
 use Rattle.rup_model.proofs.Numbers.{clause_below, journal_matches, book_last, rup_alive_sets}
 use Rattle.rup_model.proofs.Additions.{ended_more, told_more}
 use Rattle.rup_model.proofs.Told.{told_alive}
-use Rattle.share_core.specs.declared.event.TheConstants.{MAX_ENTRIES, MAX_SHARES}
+use Rattle.sat_words.specs.declared.shared.TheConstants.{MAX_ENTRIES}
+use Rattle.share_core.specs.declared.event.TheConstants.{MAX_SHARES}
 use Rattle.share_core.specs.declared.event.Stop.{Stop}
 use Rattle.share_core.specs.declared.stored.ClauseAt.{ClauseAt}
 use Rattle.share_core.specs.declared.stored.Cell.{Cell}

@@ -8,7 +8,8 @@ use Rattle.rup_model.specs.Basics.{put}
 use Rattle.rup_model.specs.Journal.{ended, is_told, recent}
 use Rattle.rup_model.proofs.Sums.{at_put}
 use Rattle.rup_model.proofs.Sequences.{EachState}
-use Rattle.share_core.specs.declared.event.TheConstants.{MAX_ENTRIES, MAX_SHARES}
+use Rattle.sat_words.specs.declared.shared.TheConstants.{MAX_ENTRIES}
+use Rattle.share_core.specs.declared.event.TheConstants.{MAX_SHARES}
 use Rattle.share_core.specs.declared.event.Event.{Event}
 use Rattle.share_core.specs.declared.event.Event.TheVariants.{Grant, TakeTurn, GiveTurn, AddClause, AddUnit, AddEmpty, Reduce, OpenCell, Read, Share, DropCount, Bury, Put, Get, Publish, See, Stop}
 use Rattle.share_core.specs.declared.stored.Cell.{Cell}

@@ -7,7 +7,8 @@ use Rattle.rup_model.specs.declared.journal.TheConstants.{LEARNED_PER_REDUCTION}
 use Rattle.rup_model.specs.declared.journal.Kind.{Kind}
 use Rattle.rup_model.specs.declared.journal.Kind.TheVariants.{Ruler, Learn, Derive, UnitLine}
 use Rattle.rup_model.specs.Journal.{ended, is_told, recent, is_ring}
-use Rattle.share_core.specs.declared.event.TheConstants.{MAX_ENTRIES, MAX_SHARES}
+use Rattle.sat_words.specs.declared.shared.TheConstants.{MAX_ENTRIES}
+use Rattle.share_core.specs.declared.event.TheConstants.{MAX_SHARES}
 use Rattle.share_core.specs.declared.event.Event.{Event}
 use Rattle.share_core.specs.declared.event.Event.TheVariants.{Grant, TakeTurn, GiveTurn, AddClause, AddUnit, AddEmpty, Reduce, OpenCell, Read, Share, DropCount, Bury, Put, Get, Publish, See, Stop}
 use Rattle.share_core.specs.State.{State}

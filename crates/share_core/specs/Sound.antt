@@ -7,7 +7,8 @@ use Rattle.rup_model.specs.declared.journal.Entry.{Entry}
 use Rattle.rup_model.specs.Basics.{EachAfter, below, one_if}
 use Rattle.rup_model.specs.Journal.{ring_of, Book, book, ended, LogSound, is_told, is_ring, IsFresh, IsSpaced}
 use Rattle.rup_model.specs.Opening.{start_clauses, IsLong}
-use Rattle.share_core.specs.declared.event.TheConstants.{MAX_ENTRIES, MAX_SHARES}
+use Rattle.sat_words.specs.declared.shared.TheConstants.{MAX_ENTRIES}
+use Rattle.share_core.specs.declared.event.TheConstants.{MAX_SHARES}
 use Rattle.share_core.specs.declared.event.Stop.{Stop}
 use Rattle.share_core.specs.declared.stored.ClauseAt.{ClauseAt}
 use Rattle.share_core.specs.declared.stored.Cell.{Cell}

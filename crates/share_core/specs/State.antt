@@ -6,7 +6,7 @@ use Rattle.rup_model.specs.declared.journal.TheConstants.{RULER_RING}
 use Rattle.rup_model.specs.declared.journal.Entry.{Entry}
 use Rattle.rup_model.specs.Basics.{one_if}
 use Rattle.rup_model.specs.Opening.{Opening, IsOpening}
-use Rattle.share_core.specs.declared.event.TheConstants.{MAX_ENTRIES}
+use Rattle.sat_words.specs.declared.shared.TheConstants.{MAX_ENTRIES}
 use Rattle.share_core.specs.declared.event.Stop.{Stop}
 use Rattle.share_core.specs.declared.stored.ClauseAt.{ClauseAt}
 use Rattle.share_core.specs.declared.stored.Cell.{Cell}

@@ -11,13 +11,13 @@ ghost use Rattle.share_core.specs.Events.{after};
 ghost use Rattle.share_core.specs.Machine.{data_of, state_of, Logged, Kept};
 
 use crate::cells::{clause_of, count_of, lits_of, number_of, remove_cell, set_count};
-use crate::event::{MAX_ENTRIES, Stop};
+use crate::event::Stop;
 use crate::journal::next_number;
 use crate::progress::{Origin, Progress};
 use crate::ring::{add_cell, add_where, remove_at};
 use crate::stored::{Cell, ClauseAt, PutNote, StoredCell};
 use rup_model::{Addition, Entry, Kind};
-use sat_words::{Line, Lit, Lits};
+use sat_words::{Line, Lit, Lits, MAX_ENTRIES};
 use std::alloc::{AllocError, Global};
 
 impl Progress {

@@ -1,9 +1,6 @@
 use rup_model::Kind;
 use sat_words::{Lit, Lits};
 
-/// No more entries than this are ever written into a journal.
-pub const MAX_ENTRIES: u64 = 1 << 48;
-
 /// No ring shares its clauses more often than this, so that no count overflows a word.
 pub const MAX_SHARES: u64 = 1 << 56;
 

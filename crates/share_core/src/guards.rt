@@ -11,13 +11,13 @@ ghost use Rattle.share_core.specs.Machine.{has_at, data_of, ring_in, state_of};
 ghost use Rattle.share_core.specs.Guards.{is_long, may_add, may_tell, writes, holds, is_enabled};
 
 use crate::cells::is_free;
-use crate::event::{Event, MAX_ENTRIES, MAX_SHARES};
+use crate::event::{Event, MAX_SHARES};
 use crate::journal::{contains, count_recent, includes, is_ended, is_told, repeats_recent};
 use crate::progress::{Origin, Progress, follows};
 use crate::ring::has_at;
 use crate::stored::ClauseAt;
 use rup_model::{Kind, LEARNED_PER_REDUCTION};
-use sat_words::Lit;
+use sat_words::{Lit, MAX_ENTRIES};
 use std::alloc::{AllocError, Global};
 
 pub(crate) fn are_distinct(lits: &[Lit]) -> bool

@@ -7,10 +7,9 @@ ghost use Rattle.std.specs.Option.{is_some};
 ghost use Rattle.rup_model.specs.Journal.{addition, book, ended, is_told, is_learn, recent_after, recent};
 ghost use Rattle.share_core.specs.Machine.{adds};
 
-use crate::event::MAX_ENTRIES;
 use crate::items::Copied;
 use rup_model::{Addition, Entry, Kind};
-use sat_words::{Clause, Line, Lit, Lits};
+use sat_words::{Clause, Line, Lit, Lits, MAX_ENTRIES};
 use std::alloc::{AllocError, Global};
 
 impl Copied for Entry {

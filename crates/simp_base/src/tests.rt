@@ -3,7 +3,7 @@ ghost use Rattle.rup_model.specs.Rup.{rup};
 ghost use Rattle.simp_base.specs.WorkState.{known};
 
 use crate::{LineStop, Work, is_tautology};
-use drat_text::{LineOut, SinkLines};
+use drat_text::{CountedLines, LineOut, SinkLines};
 use io_edge::MemSink;
 use rup_model::is_rup;
 use sat_words::{Clause, Formula, Lit, Lits};
@@ -33,7 +33,9 @@ fn each_call_goes_well(rt: HostRuntime) -> Result<(), Fail> {
     let two = Lit::new(2, false);
     let mut formula = Formula::new(alloc, 2);
     formula.push(Clause::from_lits(alloc, &[one])?)?;
-    let lines = SinkLines::new(1, MemSink::new(alloc, 64, &[])?);
+    let Ok(lines) = SinkLines::new(alloc, 1, MemSink::new(alloc, 64, &[])?) else {
+        return Err("no memory".into());
+    };
     let Ok(work) = Work::new(alloc, &formula, lines) else {
         return Err("no memory".into());
     };
@@ -52,7 +54,9 @@ fn each_call_goes_well(rt: HostRuntime) -> Result<(), Fail> {
     let parts = work.into_parts();
     assert_eq!(rt; parts.clauses.len(), 2);
     assert!(rt; parts.units.as_slice() == [one].as_slice());
-    assert!(rt; parts.output.into_sink().bytes() == b"1 2 0\n".as_slice());
+    let (end, sink) = parts.output.finish();
+    assert!(rt; end.is_ok());
+    assert!(rt; sink.bytes() == b"1 2 0\n".as_slice());
     Ok(())
 }
 
@@ -64,8 +68,7 @@ fn a_deletion_and_a_fault(rt: HostRuntime) -> Result<(), Fail> {
     let mut formula = Formula::new(alloc, 2);
     formula.push(Clause::from_lits(alloc, &[one, two])?)?;
     for (failing, answer, left) in [(0, Ok(()), 0), (1, Err(LineStop::ProofFault), 1)] {
-        let fails = [failing];
-        let lines = SinkLines::new(1, MemSink::new(alloc, 64, &fails)?);
+        let lines = CountedLines::new(1, failing);
         let Ok(work) = Work::new(alloc, &formula, lines) else {
             return Err("no memory".into());
         };

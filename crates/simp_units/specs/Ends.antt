@@ -6,7 +6,7 @@ use Rattle.sat_words.specs.Clause.{has, has_opposites, two_or_more}
 use Rattle.rup_model.specs.Rounds.{Rounds}
 use Rattle.rup_model.specs.Rup.{conflicts}
 use Rattle.io_edge.specs.Causes.{Rose}
-use Rattle.drat_text.specs.declared.stop.TheConstants.{MAX_ENTRIES}
+use Rattle.sat_words.specs.declared.shared.TheConstants.{MAX_ENTRIES}
 use Rattle.drat_text.specs.declared.stop.LineStop.{LineStop}
 use Rattle.drat_text.specs.declared.stop.LineStop.TheVariants.{ProofFault, Full, Memory}
 use Rattle.simp_base.specs.WorkState.{WorkState, lists, known}

@@ -12,19 +12,18 @@ use Rattle.gimsatul.specs.declared.report.Tally.{Tally}
 use Rattle.gimsatul.specs.declared.report.End.{End}
 use Rattle.gimsatul.specs.declared.report.Verdict.{Verdict}
 use Rattle.gimsatul.specs.declared.report.Verdict.TheVariants.{Satisfiable, Unsatisfiable, Unknown}
-use Rattle.gimsatul.specs.declared.search.SearchStop.{SearchStop}
-use Rattle.gimsatul.specs.declared.search.SearchStop.TheVariants.{ProofFault, Room, Memory}
+use Rattle.gimsatul.specs.declared.report.End.TheVariants.{ProofFault, Room, Memory}
 use Rattle.dimacs_read.specs.declared.stop.ReadStop.{ReadStop}
 use Rattle.dimacs_read.specs.declared.stop.ReadStop.TheVariants.{Bad, ReadFault}
 use Rattle.dimacs_read.specs.declared.stop.ReadStop.TheVariants as read_stop
 use Rattle.dimacs_read.specs.Answer.{IsAnswer}
-use Rattle.gimsatul.specs.Ends.{end_of, end_of_stop, tally_of_stop, end_of_read, tally_of_read}
+use Rattle.gimsatul.specs.Ends.{end_of, end_of_read}
 use Rattle.gimsatul.specs.Run.{Run, Count, Writer, Output, RoseIn, IsStill}
 use Rattle.gimsatul.specs.Journaled.{IsClosed, HoldsLog}
 use Rattle.gimsatul.specs.Finished.{Finishes}
 use Rattle.gimsatul.specs.Decided.{Decides}
 use Rattle.gimsatul.specs.Searched.{Concludes, IsSearch}
-use Rattle.gimsatul.specs.Tallied.{no_tally, ring_tally}
+use Rattle.gimsatul.specs.Tallied.{no_tally, ring_tally, noted}
 use Rattle.gimsatul.specs.Input.{WasRead}
 use Rattle.gimsatul.specs.Outcome.{Outcome, IsUnread, IsStarted, IsAnswered}
 use Rattle.gimsatul.proofs.Journals.{closed, closed_log, holds_nothing}
@@ -47,7 +46,7 @@ unread limit text source out f0 f1 w0 w1 fl0 fl1 result quiet empty same cause f
     }
 
 -- the search came to its end, and the proof was flushed
-pub started : (limit : ℕ) (text : Option (List ℕ)) (source : Count) (out : Output) (formula : FormulaData) (found : Result Verdict SearchStop) (count : ℕ) (tally : Tally) (f0 : ℕ) (w0 : Option (List ℕ)) (writer : Writer)
+pub started : (limit : ℕ) (text : Option (List ℕ)) (source : Count) (out : Output) (formula : FormulaData) (found : Result Verdict End) (count : ℕ) (tally : Tally) (f0 : ℕ) (w0 : Option (List ℕ)) (writer : Writer)
     → (s : IsSearch limit formula found count f0 w0) → WasRead text formula → IsStill source → tally ≡ ring_tally count → writer.written ≡ w0 → IsClosed f0 writer
     → IsStarted f0 formula s.journal tally (record { limit = limit; text = text; source = source; proof = Some writer; out = out })
 started limit text source out formula found count tally f0 w0 writer s read still counts same close = record {
@@ -70,41 +69,40 @@ counted t learned n start set =
     let one : learned ≡ n ∷ [] = set ∙ ap (λ (u : Tally). slice_set u.learned 0 n) start in
     λ i. record (start i) { learned = one i }
 
-stop_cases : (stop : SearchStop) (limit : ℕ) (F : FormulaData) (J : List Entry) (before tally : Tally) (text : Option (List ℕ)) (source : Count) (out : Output) (f0 : ℕ) (writer : Writer)
-    → Concludes limit F J f0 (Err stop) → f0 ≤ writer.faults → tally ≡ tally_of_stop stop before → IsStill out.faults
+stop_cases : (end : End) (limit : ℕ) (F : FormulaData) (J : List Entry) (before tally : Tally) (text : Option (List ℕ)) (source : Count) (out : Output) (f0 : ℕ) (writer : Writer)
+    → Concludes limit F J f0 (Err end) → f0 ≤ writer.faults → tally ≡ noted end before → IsStill out.faults
     → IsStarted f0 F J before (record { limit = limit; text = text; source = source; proof = Some writer; out = out })
-    → Outcome (end_of_stop stop) F J tally (record { limit = limit; text = text; source = source; proof = Some writer; out = out })
+    → Outcome end F J tally (record { limit = limit; text = text; source = source; proof = Some writer; out = out })
 stop_cases ProofFault limit F J before tally text source out f0 writer rose later counts still s =
     let run : Run = record { limit = limit; text = text; source = source; proof = Some writer; out = out } in
     record { before = f0; started = subst (λ (t : Tally). IsStarted f0 F J t run) (sym counts) s; decided = λ none. absurd (omega (arith, none, rose)); rose = omega (arith, rose, later) }
-stop_cases (Room need largest) limit F J before tally text source out f0 writer why later counts still s = record {
+stop_cases (Room lack) limit F J before tally text source out f0 writer why later counts still s = record {
   read = s.read;
   source = s.source;
   journal_stands = s.journal_stands;
   log = subst (λ (n : ℕ). HoldsLog F.clauses J n writer) why.0 s.log;
   fewer = why.1;
   unrefuted = why.3;
-  counts = counts ∙ ap (tally_of_stop (Room need largest)) s.counts;
+  counts = counts ∙ ap (noted (Room lack)) s.counts;
   full = why.2;
 }
 stop_cases Memory limit F J before tally text source out f0 writer why later counts still s =
     let run : Run = record { limit = limit; text = text; source = source; proof = Some writer; out = out } in
     inr (record { started = subst (λ (n : ℕ). IsStarted n F J tally run) why.0 (subst (λ (t : Tally). IsStarted f0 F J t run) (sym counts) s); fewer = why.1; unrefuted = why.2; out = still })
+stop_cases _ limit F J before tally text source out f0 writer why later counts still s = absurd why
 
 -- the search stopped without a verdict
-pub stopped : (stop : SearchStop) (end : End) (limit : ℕ) (found : Result Verdict SearchStop) (F : FormulaData) (J : List Entry) (before tally : Tally) (text : Option (List ℕ)) (source : Count) (out : Output) (f0 : ℕ) (writer : Writer)
-    → end ≡ end_of_stop stop → found ≡ Err stop
-    → Concludes limit F J f0 found → f0 ≤ writer.faults → tally ≡ tally_of_stop stop before → IsStill out.faults
+pub stopped : (end : End) (limit : ℕ) (found : Result Verdict End) (F : FormulaData) (J : List Entry) (before tally : Tally) (text : Option (List ℕ)) (source : Count) (out : Output) (f0 : ℕ) (writer : Writer)
+    → found ≡ Err end
+    → Concludes limit F J f0 found → f0 ≤ writer.faults → tally ≡ noted end before → IsStill out.faults
     → IsStarted f0 F J before (record { limit = limit; text = text; source = source; proof = Some writer; out = out })
     → Outcome end F J tally (record { limit = limit; text = text; source = source; proof = Some writer; out = out })
-stopped stop end limit found F J before tally text source out f0 writer is err why later counts still s =
-    let run : Run = record { limit = limit; text = text; source = source; proof = Some writer; out = out } in
-    subst (λ (e : End). Outcome e F J tally run) (sym is)
-    (stop_cases stop limit F J before tally text source out f0 writer (subst (λ (r : Result Verdict SearchStop). Concludes limit F J f0 r) err why) later counts still s)
+stopped end limit found F J before tally text source out f0 writer err why later counts still s =
+    stop_cases end limit F J before tally text source out f0 writer (subst (λ (r : Result Verdict End). Concludes limit F J f0 r) err why) later counts still s
 
 -- the search found a verdict, and met no fault
-pub concluded : (verdict : Verdict) (limit : ℕ) (found : Result Verdict SearchStop) (F : FormulaData) (J : List Entry) (f0 : ℕ) → found ≡ Ok verdict → Concludes limit F J f0 found → (f0 ≡ 0) × Decides limit F J verdict
-concluded verdict limit found F J f0 is why = subst (λ (r : Result Verdict SearchStop). Concludes limit F J f0 r) is why
+pub concluded : (verdict : Verdict) (limit : ℕ) (found : Result Verdict End) (F : FormulaData) (J : List Entry) (f0 : ℕ) → found ≡ Ok verdict → Concludes limit F J f0 found → (f0 ≡ 0) × Decides limit F J verdict
+concluded verdict limit found F J f0 is why = subst (λ (r : Result Verdict End). Concludes limit F J f0 r) is why
 
 -- a verdict that was reached has closed the proof
 pub finish_closes : (vars : ℕ) (verdict : Verdict) (told : End) (before : ℕ) (writer : Writer) (out : Output) → Finishes vars verdict told before writer out → IsClosed before writer
@@ -143,7 +141,7 @@ finished verdict told limit vars F J tally text source out f0 writer none same d
 read_cases : (stop : ReadStop) (tally : Tally) (rest : Option (List ℕ)) (run : Run)
     → IsAnswer run.text rest (Err stop)
     → (stop ≢ ReadFault → IsStill run.source) → (stop ≡ ReadFault → RoseIn run.source)
-    → tally ≡ tally_of_read stop no_tally → IsStill run.out.faults
+    → tally ≡ noted (end_of_read stop) no_tally → IsStill run.out.faults
     → IsUnread no_formula [] run
     → Outcome (end_of_read stop) no_formula [] tally run
 read_cases (Bad code line) tally rest run bad still rose counts unprinted u = record { bad = bad; counts = counts; source = still (λ e. cc e); unread = u }
@@ -155,9 +153,9 @@ pub unread_end : (stop : ReadStop) (end : End) (before tally : Tally) (rest : Op
     → end ≡ end_of_read stop
     → IsAnswer run.text rest (Err stop)
     → (stop ≢ ReadFault → IsStill run.source) → (stop ≡ ReadFault → RoseIn run.source)
-    → before ≡ no_tally → tally ≡ tally_of_read stop before → IsStill run.out.faults
+    → before ≡ no_tally → tally ≡ noted end before → IsStill run.out.faults
     → IsUnread no_formula [] run
     → Outcome end no_formula [] tally run
 unread_end stop end before tally rest run is bad still rose none counts unprinted u =
     subst (λ (e : End). Outcome e no_formula [] tally run) (sym is)
-    (read_cases stop tally rest run bad still rose (counts ∙ ap (tally_of_read stop) none) unprinted u)
+    (read_cases stop tally rest run bad still rose (counts ∙ ap (λ (e : End). noted e before) is ∙ ap (noted (end_of_read stop)) none) unprinted u)

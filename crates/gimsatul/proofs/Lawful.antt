@@ -1,5 +1,5 @@
 -- Words that are lawful, and calls with such words.
-use Rattle.std.proofs.Common.{◌≡◌, ℕ, List, [], Some, None, refl, ap, sym, subst, inl, ◌∙◌}
+use Rattle.std.proofs.Common.{◌≡◌, ℕ, List, [], Some, None, refl, ap, sym, subst, inl, inr, ◌∙◌}
 use Rattle.std.specs.Prelude.{IfSome, IsSome, is_some, option_map}
 use Rattle.std.specs.declared.option.Option.{Option}
 use Rattle.io_edge.specs.Causes.{Rose}
@@ -10,9 +10,8 @@ use Rattle.gimsatul.specs.Words.{Command, command_of, proof_path, file_path}
 use Rattle.gimsatul.specs.Run.{Call, IsStill, IsOpened}
 use Rattle.gimsatul.specs.Outcome.{CallOutcome}
 use Rattle.gimsatul.specs.Tallied.{no_tally}
-use Rattle.gimsatul.specs.Ends.{end_of_words}
-use Rattle.gimsatul.specs.declared.words.WordsStop.{WordsStop}
-use Rattle.gimsatul.specs.declared.words.WordsStop.TheVariants as words_stop
+use Rattle.gimsatul.specs.Ends.{IsWordsEnd}
+use Rattle.gimsatul.specs.declared.report.End.TheVariants.{Usage}
 use Rattle.gimsatul.proofs.Finishes.{no_formula}
 
 -- a path that was given is the command's
@@ -47,16 +46,15 @@ has_file left faults contents found command file is opened = same_there faults f
 pub file_there : (contents : Option PathMap) (found : Option Command) (command : Command) → found ≡ Some command → IfSome command.file (IsThere contents) → IfSome (file_path found) (IsThere contents)
 file_there contents found command is there = subst (λ (x : Option Command). IfSome (file_path x) (IsThere contents)) (sym is) there
 
-words_cases : (stop : WordsStop) (tally : Tally) (call : Call) → (stop ≡ words_stop.Usage → command_of call.words ≡ None) → tally ≡ no_tally → call.file ≡ None → call.proof ≡ None → IsStill call.files → IsStill call.input → IsStill call.out.faults
-    → CallOutcome (end_of_words stop) no_formula [] tally call
-words_cases words_stop.Usage tally call usage counts file proof files input out = (usage refl, record { barren = record { no_proof = proof; nothing = refl; counts = counts; input = input; out = out }; no_file = file })
-words_cases words_stop.Memory tally call usage counts file proof files input out = inl (files, record { barren = record { no_proof = proof; nothing = refl; counts = counts; input = input; out = out }; no_file = file })
-
 -- the words asked for nothing
-pub words_stopped : (stop : WordsStop) (end : End) (tally : Tally) (call : Call) → end ≡ end_of_words stop → (stop ≡ words_stop.Usage → command_of call.words ≡ None) → tally ≡ no_tally → call.file ≡ None → call.proof ≡ None → IsStill call.files → IsStill call.input → IsStill call.out.faults
+pub words_stopped : (end : End) (tally : Tally) (call : Call) → IsWordsEnd end → (end ≡ Usage → command_of call.words ≡ None) → tally ≡ no_tally → call.file ≡ None → call.proof ≡ None → IsStill call.files → IsStill call.input → IsStill call.out.faults
     → CallOutcome end no_formula [] tally call
-words_stopped stop end tally call is usage counts file proof files input out =
-    subst (λ (e : End). CallOutcome e no_formula [] tally call) (sym is) (words_cases stop tally call usage counts file proof files input out)
+words_stopped end tally call (inl is) usage counts file proof files input out =
+    subst (λ (e : End). CallOutcome e no_formula [] tally call) (sym is)
+    (usage is, record { barren = record { no_proof = proof; nothing = refl; counts = counts; input = input; out = out }; no_file = file })
+words_stopped end tally call (inr is) usage counts file proof files input out =
+    subst (λ (e : End). CallOutcome e no_formula [] tally call) (sym is)
+    (inl (files, record { barren = record { no_proof = proof; nothing = refl; counts = counts; input = input; out = out }; no_file = file }))
 
 -- a count that rose behind a call that left it
 pub rose_behind : (before between after : ℕ) → between ≡ before → Rose between after → Rose before after

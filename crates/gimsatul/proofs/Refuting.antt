@@ -23,14 +23,14 @@ use Rattle.drat_text.specs.LineState.{LineState}
 use Rattle.drat_text.specs.LineOut.{PutLine, FailedLine}
 use Rattle.drat_text.specs.Text.{line_text}
 use Rattle.gimsatul.specs.declared.report.Verdict.TheVariants.{Unsatisfiable}
-use Rattle.gimsatul.specs.declared.search.SearchStop.TheVariants.{ProofFault as Faulty, Memory as NoMemory}
+use Rattle.gimsatul.specs.declared.report.End.TheVariants.{ProofFault, Memory}
 use Rattle.gimsatul.specs.Journaled.{CanBeSpelled, IsPlainEntry, IsJournal, HoldsText}
 use Rattle.gimsatul.specs.Searched.{IsSearch}
 use Rattle.gimsatul.proofs.Journals.{empty_journal, holds_nothing}
 use Rattle.gimsatul.proofs.Standing.{told_whole, on_variables}
 
 -- no entry, and nothing written
-pub untouched : (limit : ℕ) (formula : FormulaData) (faults : ℕ) (written : Option (List ℕ)) → 1 ≤ limit → faults ≡ 0 → IsEmptyWhereTold written → IsSearch limit formula (Err NoMemory) 0 faults written
+pub untouched : (limit : ℕ) (formula : FormulaData) (faults : ℕ) (written : Option (List ℕ)) → 1 ≤ limit → faults ≡ 0 → IsEmptyWhereTold written → IsSearch limit formula (Err Memory) 0 faults written
 untouched limit formula faults written some quiet empty = record {
   journal = [];
   stands = empty_journal formula.clauses;
@@ -100,7 +100,7 @@ module _ (limit : ℕ) (formula : FormulaData) (some : 1 ≤ limit) (given : lis
         short = λ failed. absurd (failed faults);
       }
 
-  pub failed : (new : LineState) → FailedLine old new (AddLine []) → IsSearch limit formula (Err Faulty) 0 new.faults new.written
+  pub failed : (new : LineState) → FailedLine old new (AddLine []) → IsSearch limit formula (Err ProofFault) 0 new.faults new.written
   failed new put =
       let rose : Rose 0 new.faults = subst (λ (n : ℕ). Rose n new.faults) quiet put.rose in
       record {
@@ -122,5 +122,5 @@ module _ (limit : ℕ) (formula : FormulaData) (some : 1 ≤ limit) (given : lis
         };
       }
 
-  pub no_memory : (new : LineState) → new ≡ old → IsSearch limit formula (Err NoMemory) 0 new.faults new.written
-  no_memory new is = subst (λ (s : LineState). IsSearch limit formula (Err NoMemory) 0 s.faults s.written) (sym is) (untouched limit formula old.faults old.written some quiet empty)
+  pub no_memory : (new : LineState) → new ≡ old → IsSearch limit formula (Err Memory) 0 new.faults new.written
+  no_memory new is = subst (λ (s : LineState). IsSearch limit formula (Err Memory) 0 s.faults s.written) (sym is) (untouched limit formula old.faults old.written some quiet empty)

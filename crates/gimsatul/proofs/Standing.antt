@@ -34,11 +34,12 @@ use Rattle.ring_port.specs.PortState.{Holding, PortState, IsOn as IsPortOn}
 use Rattle.ring_port.specs.Port.{is_usable}
 use Rattle.ring_port.specs.declared.stops.PortStop.TheVariants.{NoHole as NoHoleAnswer}
 use Rattle.ring_port.specs.Log.{Origin, StandsOver, HasLines, IsCaused, start_of}
+use Rattle.sat_words.specs.declared.shared.NoRoom.{NoRoom}
 use Rattle.ring_run.specs.declared.job.End.{End}
 use Rattle.ring_run.specs.declared.job.End.TheVariants.{Sat, Refuted, Spent as SpentEnd, Stopped, NoHole, ProofFault, Memory}
-use Rattle.ring_run.specs.Ended.{Stays, IsOwn, IsOfKind, IsModelOf, IsSpent, Ends, AreNew, opening_of}
+use Rattle.ring_run.specs.Ended.{Stays, IsOwn, IsOfKind, IsModelOf, IsIntact, Ends, AreNew, opening_of}
 use Rattle.gimsatul.specs.declared.report.Verdict.{Verdict}
-use Rattle.gimsatul.specs.declared.search.SearchStop.{SearchStop}
+use Rattle.gimsatul.specs.declared.report.End.{End as CallEnd}
 use Rattle.gimsatul.specs.Journaled.{CanBeSpelled, IsPlainEntry, IsPlainAddition, IsJournal, IsUnrefuted, HoldsText, IsCutShort}
 use Rattle.gimsatul.specs.Decided.{IsRefutation, IsFull}
 use Rattle.gimsatul.specs.Searched.{Concludes, IsSearch}
@@ -225,7 +226,7 @@ module _ (formula : FormulaData) (output : LineState) (p s : PortState) (limit c
       let r = ended_refutes over s stands e in
       record { refuted = r; no_model = λ m t. refutes_none F (lines F J) r (on_variables (lines F J) spelled) (m, t) }
 
-  spent_all : IsSpent s → count ≡ limit → SpentAll F J 1 limit
+  spent_all : IsIntact s → count ≡ limit → SpentAll F J 1 limit
   spent_all h is = record {
     spent = record {
       of_rings = journal_stands.of_rings;
@@ -237,9 +238,9 @@ module _ (formula : FormulaData) (output : LineState) (p s : PortState) (limit c
     each_new = journal_stands.each_new;
   }
 
-  full : (need largest : ℕ) → s.refused ≡ Some (NoHoleAnswer need largest) → IsFull J need largest
-  full need largest e =
-      let t : IsCaused s out (Some (NoHoleAnswer need largest)) = subst (IsCaused s out) e has_lines.caused in
+  full : (lack : NoRoom) → s.refused ≡ Some (NoHoleAnswer lack) → IsFull J lack
+  full lack e =
+      let t : IsCaused s out (Some (NoHoleAnswer lack)) = subst (IsCaused s out) e has_lines.caused in
       record { entries = sym (sym t.0 ∙ has_lines.entries ∙ one_line formula.vars (formula_book F) J own); needed = t.1; found = t.2 }
 
   -- a port that can be used has met no fault, and one that cannot has met one
@@ -253,21 +254,21 @@ module _ (formula : FormulaData) (output : LineState) (p s : PortState) (limit c
   fewer : (x : End) → (count ≡ limit → x ≡ SpentEnd) → (x ≡ SpentEnd → ⊥) → length (learned 0 J) < limit
   fewer x un other = subst (λ (n : ℕ). n < limit) counts (less_or count limit within (λ e. other (un e)))
 
-  concludes : (result : Result Verdict SearchStop) → IsVerdictOf formula end result → Concludes limit formula J out.faults result
+  concludes : (result : Result Verdict CallEnd) → IsVerdictOf formula end result → Concludes limit formula J out.faults result
   concludes result = by end spent unspent ends result
     where
-      model_by : (a : List Bool) → out.faults ≡ 0 → length (learned 0 J) < limit → IsUnrefuted J → IsModelOf s a → (r : Result Verdict SearchStop) → IsCleared formula a r → Concludes limit formula J out.faults r
+      model_by : (a : List Bool) → out.faults ≡ 0 → length (learned 0 J) < limit → IsUnrefuted J → IsModelOf s a → (r : Result Verdict CallEnd) → IsCleared formula a r → Concludes limit formula J out.faults r
       model_by a none less going m (Ok v) h = subst (λ (w : Verdict). Concludes limit formula J out.faults (Ok w)) (sym h.1) (none, cleared formula a h.0 (model a m) h.2)
-      model_by a none less going m (Err stop) h = subst (λ (w : SearchStop). Concludes limit formula J out.faults (Err w)) (sym h) (none, less, going)
+      model_by a none less going m (Err stop) h = subst (λ (w : CallEnd). Concludes limit formula J out.faults (Err w)) (sym h) (none, less, going)
 
-      by : (x : End) → (x ≡ SpentEnd → count ≡ limit) → (count ≡ limit → x ≡ SpentEnd) → Ends s x → (r : Result Verdict SearchStop) → IsVerdictOf formula x r → Concludes limit formula J out.faults r
-      by (Sat a) sp un en r v = model_by a (still_where en.2) (fewer (Sat a) un (λ e. cc e)) en.4 en.0 r v
-      by Refuted sp un en r v = subst (λ (w : Result Verdict SearchStop). Concludes limit formula J out.faults w) (sym v) (still_where en.2, refutation en.0)
-      by SpentEnd sp un en r v = subst (λ (w : Result Verdict SearchStop). Concludes limit formula J out.faults w) (sym v) (still_where en.usable, spent_all en (sp refl))
+      by : (x : End) → (x ≡ SpentEnd → count ≡ limit) → (count ≡ limit → x ≡ SpentEnd) → Ends s x → (r : Result Verdict CallEnd) → IsVerdictOf formula x r → Concludes limit formula J out.faults r
+      by (Sat a) sp un en r v = model_by a (still_where en.cause.1) (fewer (Sat a) un (λ e. cc e)) en.cause.3 en.cause.0 r v
+      by Refuted sp un en r v = subst (λ (w : Result Verdict CallEnd). Concludes limit formula J out.faults w) (sym v) (still_where en.cause.1, refutation en.cause.0)
+      by SpentEnd sp un en r v = subst (λ (w : Result Verdict CallEnd). Concludes limit formula J out.faults w) (sym v) (still_where en.cause.usable, spent_all en.cause (sp refl))
       by (Stopped x) sp un en r v = absurd v
-      by (NoHole need largest) sp un en r v = subst (λ (w : Result Verdict SearchStop). Concludes limit formula J out.faults w) (sym v) (still_where (ap is_usable en.0), fewer (NoHole need largest) un (λ e. cc e), full need largest en.0, en.3)
-      by ProofFault sp un en r v = subst (λ (w : Result Verdict SearchStop). Concludes limit formula J out.faults w) (sym v) (rose_where en.0)
-      by Memory sp un en r v = subst (λ (w : Result Verdict SearchStop). Concludes limit formula J out.faults w) (sym v) (still_where en.1, fewer Memory un (λ e. cc e), en.2)
+      by (NoHole lack) sp un en r v = subst (λ (w : Result Verdict CallEnd). Concludes limit formula J out.faults w) (sym v) (still_where (ap is_usable en.cause.0), fewer (NoHole lack) un (λ e. cc e), full lack en.cause.0, en.cause.2)
+      by ProofFault sp un en r v = subst (λ (w : Result Verdict CallEnd). Concludes limit formula J out.faults w) (sym v) (rose_where en.cause.0)
+      by Memory sp un en r v = subst (λ (w : Result Verdict CallEnd). Concludes limit formula J out.faults w) (sym v) (still_where en.cause.0, fewer Memory un (λ e. cc e), en.cause.1)
 
-  pub is_search : (result : Result Verdict SearchStop) → IsVerdictOf formula end result → IsSearch limit formula result count out.faults out.written
+  pub is_search : (result : Result Verdict CallEnd) → IsVerdictOf formula end result → IsSearch limit formula result count out.faults out.written
   is_search result v = record { journal = J; stands = journal_stands; counts = counts; within = within; conclusion = concludes result v; whole = whole; short = short }

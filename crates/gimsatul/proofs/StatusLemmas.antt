@@ -3,6 +3,7 @@ use Rattle.std.proofs.Common.{◌≡◌, ◌≢◌, ◌⊎◌, ℕ, List, Bool, 
 use Rattle.std.specs.Prelude.{IfSome, IsSome, IsSomeAnd}
 use Rattle.std.specs.declared.option.Option.{Option}
 use Rattle.sat_words.specs.FormulaData.{FormulaData}
+use Rattle.sat_words.specs.declared.shared.NoRoom.{NoRoom}
 use Rattle.rup_model.specs.declared.journal.Entry.{Entry}
 use Rattle.io_edge.specs.Causes.{Rose}
 use Rattle.dimacs_read.specs.Input.{Reads, Bad}
@@ -16,7 +17,8 @@ use Rattle.gimsatul.specs.Input.{WasBad}
 use Rattle.gimsatul.specs.Run.{Call, Count, Writer, RoseIn, IsStill, run_of, source_of, source_in, text_of}
 use Rattle.gimsatul.specs.Journaled.{IsJournal, HoldsLog}
 use Rattle.gimsatul.specs.Outcome.{CallOutcome, IsCall, IsWhole, IsUnread, IsRefused, IsBroken, IsStarted, IsCrowded, IsStarved, IsBarren, IsIdle}
-use Rattle.gimsatul.specs.Headline.{status_of, model_of, Headline}
+use Rattle.gimsatul.specs.Ends.{status_of, model_of}
+use Rattle.gimsatul.specs.Headline.{Headline}
 use Rattle.gimsatul.specs.Statuses.{Answers, HasModel, HasBadPlace, LeftUnread, LeftUnprinted, LeftUnproved, LeftNoRoom, HasJournal, MustAnswer, MadeAll, RanOut, IsUnopened, IsUncreated, IsAnswer, Statuses}
 use Rattle.gimsatul.proofs.Journals.{empty_journal}
 
@@ -70,7 +72,7 @@ module _ (F : FormulaData) (J : List Entry) (tally : Tally) (call : Call) where
   satisfiable ReadFault o e = absurd (omega arith)
   satisfiable WriteFault o e = absurd (omega arith)
   satisfiable ProofFault o e = absurd (omega arith)
-  satisfiable (Room need largest) o e = absurd (omega arith)
+  satisfiable (Room lack) o e = absurd (omega arith)
   satisfiable Memory o e = absurd (omega arith)
 
   unsatisfiable : (end : End) → CallOutcome end F J tally call → status_of end ≡ 20 → Answers call verdict.Unsatisfiable tally
@@ -84,7 +86,7 @@ module _ (F : FormulaData) (J : List Entry) (tally : Tally) (call : Call) where
   unsatisfiable ReadFault o e = absurd (omega arith)
   unsatisfiable WriteFault o e = absurd (omega arith)
   unsatisfiable ProofFault o e = absurd (omega arith)
-  unsatisfiable (Room need largest) o e = absurd (omega arith)
+  unsatisfiable (Room lack) o e = absurd (omega arith)
   unsatisfiable Memory o e = absurd (omega arith)
 
   unknown : (end : End) → CallOutcome end F J tally call → status_of end ≡ 0 → Answers call verdict.Unknown tally
@@ -98,7 +100,7 @@ module _ (F : FormulaData) (J : List Entry) (tally : Tally) (call : Call) where
   unknown ReadFault o e = absurd (omega arith)
   unknown WriteFault o e = absurd (omega arith)
   unknown ProofFault o e = absurd (omega arith)
-  unknown (Room need largest) o e = absurd (omega arith)
+  unknown (Room lack) o e = absurd (omega arith)
   unknown Memory o e = absurd (omega arith)
 
   usage : (end : End) → CallOutcome end F J tally call → status_of end ≡ 1 → command_of call.words ≡ None
@@ -112,7 +114,7 @@ module _ (F : FormulaData) (J : List Entry) (tally : Tally) (call : Call) where
   usage ReadFault o e = absurd (omega arith)
   usage WriteFault o e = absurd (omega arith)
   usage ProofFault o e = absurd (omega arith)
-  usage (Room need largest) o e = absurd (omega arith)
+  usage (Room lack) o e = absurd (omega arith)
   usage Memory o e = absurd (omega arith)
 
   refused : (end : End) → CallOutcome end F J tally call → command_of call.words ≡ None → (status_of end ≡ 1) ⊎ (status_of end ≡ 9)
@@ -126,7 +128,7 @@ module _ (F : FormulaData) (J : List Entry) (tally : Tally) (call : Call) where
   refused ReadFault o e = absurd (unlawful (command_of call.words) o.lawful e)
   refused WriteFault o e = absurd (unlawful (command_of call.words) o.lawful e)
   refused ProofFault o e = absurd (unlawful (command_of call.words) o.lawful e)
-  refused (Room need largest) o e = absurd (unlawful (command_of call.words) o.lawful e)
+  refused (Room lack) o e = absurd (unlawful (command_of call.words) o.lawful e)
   refused Memory o e = inr refl
 
   bad_place : (code : Code) (line : ℕ) → IsRefused code line F J tally (run_of call) → HasBadPlace call tally
@@ -145,7 +147,7 @@ module _ (F : FormulaData) (J : List Entry) (tally : Tally) (call : Call) where
   bad_input ReadFault o e = absurd (omega arith)
   bad_input WriteFault o e = absurd (omega arith)
   bad_input ProofFault o e = absurd (omega arith)
-  bad_input (Room need largest) o e = absurd (omega arith)
+  bad_input (Room lack) o e = absurd (omega arith)
   bad_input Memory o e = absurd (omega arith)
 
   cannot_open : (end : End) → CallOutcome end F J tally call → status_of end ≡ 3 → IsUnopened call
@@ -159,7 +161,7 @@ module _ (F : FormulaData) (J : List Entry) (tally : Tally) (call : Call) where
   cannot_open ReadFault o e = absurd (omega arith)
   cannot_open WriteFault o e = absurd (omega arith)
   cannot_open ProofFault o e = absurd (omega arith)
-  cannot_open (Room need largest) o e = absurd (omega arith)
+  cannot_open (Room lack) o e = absurd (omega arith)
   cannot_open Memory o e = absurd (omega arith)
 
   cannot_create : (end : End) → CallOutcome end F J tally call → status_of end ≡ 4 → IsUncreated call
@@ -173,7 +175,7 @@ module _ (F : FormulaData) (J : List Entry) (tally : Tally) (call : Call) where
   cannot_create ReadFault o e = absurd (omega arith)
   cannot_create WriteFault o e = absurd (omega arith)
   cannot_create ProofFault o e = absurd (omega arith)
-  cannot_create (Room need largest) o e = absurd (omega arith)
+  cannot_create (Room lack) o e = absurd (omega arith)
   cannot_create Memory o e = absurd (omega arith)
 
   read_fault : (end : End) → CallOutcome end F J tally call → status_of end ≡ 5 → RoseIn (source_of call) × LeftUnread call tally
@@ -187,7 +189,7 @@ module _ (F : FormulaData) (J : List Entry) (tally : Tally) (call : Call) where
   read_fault ReadFault o e = (o.outcome.0, record { formula = F; journal = J; broken = o.outcome.1 })
   read_fault WriteFault o e = absurd (omega arith)
   read_fault ProofFault o e = absurd (omega arith)
-  read_fault (Room need largest) o e = absurd (omega arith)
+  read_fault (Room lack) o e = absurd (omega arith)
   read_fault Memory o e = absurd (omega arith)
 
   write_fault : (end : End) → CallOutcome end F J tally call → status_of end ≡ 6 → RoseIn call.out.faults × LeftUnprinted call tally
@@ -201,7 +203,7 @@ module _ (F : FormulaData) (J : List Entry) (tally : Tally) (call : Call) where
   write_fault ReadFault o e = absurd (omega arith)
   write_fault WriteFault o e = (o.outcome.rose, record { formula = F; journal = J; cut_off = o.outcome })
   write_fault ProofFault o e = absurd (omega arith)
-  write_fault (Room need largest) o e = absurd (omega arith)
+  write_fault (Room lack) o e = absurd (omega arith)
   write_fault Memory o e = absurd (omega arith)
 
   proof_fault : (end : End) → CallOutcome end F J tally call → status_of end ≡ 7 → IsSomeAnd call.proof (λ writer. Rose 0 writer.faults) × LeftUnproved call tally
@@ -215,13 +217,13 @@ module _ (F : FormulaData) (J : List Entry) (tally : Tally) (call : Call) where
   proof_fault ReadFault o e = absurd (omega arith)
   proof_fault WriteFault o e = absurd (omega arith)
   proof_fault ProofFault o e = (o.outcome.rose, record { formula = F; journal = J; unproved = o.outcome })
-  proof_fault (Room need largest) o e = absurd (omega arith)
+  proof_fault (Room lack) o e = absurd (omega arith)
   proof_fault Memory o e = absurd (omega arith)
 
-  no_room : (need largest : ℕ) → IsCrowded need largest F J tally (run_of call) → LeftNoRoom call tally
-  no_room need largest c =
-      let at_need = subst (λ (n : ℕ). IsCrowded n largest F J tally (run_of call)) (sym (ap (λ (t : Tally). t.need) c.counts)) c in
-      record { formula = F; journal = J; crowded = subst (λ (n : ℕ). IsCrowded tally.need n F J tally (run_of call)) (sym (ap (λ (t : Tally). t.largest) c.counts)) at_need }
+  no_room : (lack : NoRoom) → IsCrowded lack F J tally (run_of call) → LeftNoRoom call tally
+  no_room lack c =
+      let same : lack ≡ record { need = tally.need; largest = tally.largest } = λ i. record { need = sym (ap (λ (t : Tally). t.need) c.counts) i; largest = sym (ap (λ (t : Tally). t.largest) c.counts) i } in
+      record { formula = F; journal = J; crowded = subst (λ (l : NoRoom). IsCrowded l F J tally (run_of call)) same c }
 
   room : (end : End) → CallOutcome end F J tally call → status_of end ≡ 8 → LeftNoRoom call tally
   room (Satisfiable model) o e = absurd (omega arith)
@@ -234,7 +236,7 @@ module _ (F : FormulaData) (J : List Entry) (tally : Tally) (call : Call) where
   room ReadFault o e = absurd (omega arith)
   room WriteFault o e = absurd (omega arith)
   room ProofFault o e = absurd (omega arith)
-  room (Room need largest) o e = no_room need largest o.outcome
+  room (Room lack) o e = no_room lack o.outcome
   room Memory o e = absurd (omega arith)
 
   made_broken : IsBroken F J tally (run_of call) → IsSome call.proof
@@ -285,7 +287,7 @@ module _ (F : FormulaData) (J : List Entry) (tally : Tally) (call : Call) where
   memory ReadFault o e = absurd (omega arith)
   memory WriteFault o e = absurd (omega arith)
   memory ProofFault o e = absurd (omega arith)
-  memory (Room need largest) o e = absurd (omega arith)
+  memory (Room lack) o e = absurd (omega arith)
   memory Memory o e = out_of_memory o
 
   known : (end : End) → CallOutcome end F J tally call → IsAnswer (status_of end) ⊎ (status_of end ≡ 1) ⊎ (status_of end ≡ 2) ⊎ (status_of end ≡ 3) ⊎ (status_of end ≡ 4) ⊎ (status_of end ≡ 5) ⊎ (status_of end ≡ 6) ⊎ (status_of end ≡ 7) ⊎ (status_of end ≡ 8) ⊎ (status_of end ≡ 9)
@@ -299,7 +301,7 @@ module _ (F : FormulaData) (J : List Entry) (tally : Tally) (call : Call) where
   known ReadFault o = search rules
   known WriteFault o = search rules
   known ProofFault o = search rules
-  known (Room need largest) o = search rules
+  known (Room lack) o = search rules
   known Memory o = search rules
 
   no_model : (end : End) → CallOutcome end F J tally call → status_of end ≢ 10 → model_of end ≡ None
@@ -313,7 +315,7 @@ module _ (F : FormulaData) (J : List Entry) (tally : Tally) (call : Call) where
   no_model ReadFault o n = refl
   no_model WriteFault o n = refl
   no_model ProofFault o n = refl
-  no_model (Room need largest) o n = refl
+  no_model (Room lack) o n = refl
   no_model Memory o n = refl
 
   made : (end : End) → CallOutcome end F J tally call → status_of end ≢ 1 → status_of end ≢ 3 → status_of end ≢ 4 → status_of end ≢ 9 → MadeAll call
@@ -327,13 +329,13 @@ module _ (F : FormulaData) (J : List Entry) (tally : Tally) (call : Call) where
   made ReadFault o a b c d = record { file = o.file; proof = made_broken o.outcome.1 }
   made WriteFault o a b c d = record { file = o.file; proof = made_started o.outcome.started }
   made ProofFault o a b c d = record { file = o.file; proof = made_started o.outcome.started }
-  made (Room need largest) o a b c d = record { file = o.file; proof = there (HoldsLog F.clauses J 0) call.proof o.outcome.log }
+  made (Room lack) o a b c d = record { file = o.file; proof = there (HoldsLog F.clauses J 0) call.proof o.outcome.log }
   made Memory o a b c d = absurd (d refl)
 
   started : {before : ℕ} → IsStarted before F J tally (run_of call) → HasJournal call
   started {before} s = record { formula = F; journal = J; stands = s.journal_stands; of_input = inr s.read; before = before; held = if_there (HoldsLog F.clauses J before) call.proof s.log }
 
-  crowded : {need largest : ℕ} → IsCrowded need largest F J tally (run_of call) → HasJournal call
+  crowded : {lack : NoRoom} → IsCrowded lack F J tally (run_of call) → HasJournal call
   crowded c = record { formula = F; journal = J; stands = c.journal_stands; of_input = inr c.read; before = 0; held = if_there (HoldsLog F.clauses J 0) call.proof c.log }
 
   unread : IsUnread F J (run_of call) → HasJournal call
@@ -357,7 +359,7 @@ module _ (F : FormulaData) (J : List Entry) (tally : Tally) (call : Call) where
   journaled ReadFault o = unread o.outcome.1.unread
   journaled WriteFault o = started o.outcome.started
   journaled ProofFault o = started o.outcome.started
-  journaled (Room need largest) o = crowded o.outcome
+  journaled (Room lack) o = crowded o.outcome
   journaled Memory o = stopped o
 
   module _ (apart : Apart) (must : MustAnswer call) where
@@ -375,7 +377,7 @@ module _ (F : FormulaData) (J : List Entry) (tally : Tally) (call : Call) where
     complete ReadFault o = absurd (must.source o.outcome.0)
     complete WriteFault o = absurd (must.out o.outcome.rose)
     complete ProofFault o = absurd (unhurt call.proof o.outcome.rose must.proof)
-    complete (Room need largest) o = search rules
+    complete (Room lack) o = search rules
     complete Memory o = search rules
 
   statuses_of : (apart : Apart) (end : End) → CallOutcome end F J tally call → Statuses call (status_of end) (model_of end) tally

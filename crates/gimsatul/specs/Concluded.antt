@@ -9,8 +9,8 @@ use Rattle.ring_run.specs.declared.job.End.TheVariants.{Sat, Refuted, Spent, Sto
 use Rattle.gimsatul.specs.Decided.{mentions, occurs}
 use Rattle.gimsatul.specs.declared.report.Verdict.{Verdict}
 use Rattle.gimsatul.specs.declared.report.Verdict.TheVariants.{Satisfiable, Unsatisfiable, Unknown}
-use Rattle.gimsatul.specs.declared.search.SearchStop.{SearchStop}
-use Rattle.gimsatul.specs.declared.search.SearchStop.TheVariants.{ProofFault as Faulty, Room, Memory as NoMemory}
+use Rattle.gimsatul.specs.declared.report.End.{End as CallEnd}
+use Rattle.gimsatul.specs.declared.report.End.TheVariants as call
 
 -- the new assignment has the other's values of the variables that occur in the clause, and is the old one elsewhere
 pub record TakesValues (clause : List Literal) (from old new : List Bool) : Type 0 where
@@ -25,18 +25,18 @@ pub record IsWithoutIdle (clauses : List (List Literal)) (vars : ℕ) (from mode
   pub idle : (var : ℕ) → occurs clauses var ≡ false → value_of model var ≡ false
 
 -- a model without values for variables that don't occur; or memory ran out
-abbrev pub IsCleared : FormulaData → List Bool → Result Verdict SearchStop → Type 0
-IsCleared formula a result = MatchResult result (λ v. (m : List Bool) × (v ≡ Satisfiable m) × IsWithoutIdle formula.clauses formula.vars a m) (λ stop. stop ≡ NoMemory)
+abbrev pub IsCleared : FormulaData → List Bool → Result Verdict CallEnd → Type 0
+IsCleared formula a result = MatchResult result (λ v. (m : List Bool) × (v ≡ Satisfiable m) × IsWithoutIdle formula.clauses formula.vars a m) (λ end. end ≡ call.Memory)
 
--- the verdict of an end, or the cause of none; with one ring no other can have set its stop
-abbrev pub IsVerdictOf : FormulaData → End → Result Verdict SearchStop → Type 0
+-- the verdict of a ring's end, or the end of a call without one; with one ring no other can have set its stop
+abbrev pub IsVerdictOf : FormulaData → End → Result Verdict CallEnd → Type 0
 IsVerdictOf formula (Sat a) result = IsCleared formula a result
 IsVerdictOf formula Refuted result = result ≡ Ok Unsatisfiable
 IsVerdictOf formula Spent result = result ≡ Ok Unknown
 IsVerdictOf formula (Stopped x) result = ⊥
-IsVerdictOf formula (NoHole need largest) result = result ≡ Err (Room need largest)
-IsVerdictOf formula ProofFault result = result ≡ Err Faulty
-IsVerdictOf formula Memory result = result ≡ Err NoMemory
+IsVerdictOf formula (NoHole lack) result = result ≡ Err (call.Room lack)
+IsVerdictOf formula ProofFault result = result ≡ Err call.ProofFault
+IsVerdictOf formula Memory result = result ≡ Err call.Memory
 
 abbrev pub IsAlone : End → Type 0
 IsAlone end = (x : Stop) → end ≢ Stopped x

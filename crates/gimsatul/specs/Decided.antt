@@ -4,6 +4,7 @@ use Rattle.std.specs.List.{list_any}
 use Rattle.sat_words.specs.Literal.{Literal}
 use Rattle.sat_words.specs.Truth.{value_of, formula_true}
 use Rattle.sat_words.specs.FormulaData.{FormulaData}
+use Rattle.sat_words.specs.declared.shared.NoRoom.{NoRoom}
 use Rattle.rup_model.specs.declared.journal.Entry.{Entry}
 use Rattle.rup_model.specs.Log.{Refutes}
 use Rattle.rup_model.specs.Journal.{lines}
@@ -47,7 +48,7 @@ pub record IsDecided (limit : ℕ) (formula : FormulaData) (journal : List Entry
   pub decides : Decides limit formula journal verdict
 
 -- the journal has as many entries as may stand: one more is needed than there is room for
-pub record IsFull (journal : List Entry) (need largest : ℕ) : Type 0 where
+pub record IsFull (journal : List Entry) (lack : NoRoom) : Type 0 where
   pub entries : length journal ≡ MAX_ENTRIES
-  pub needed : need ≡ MAX_ENTRIES + 1
-  pub found : largest ≡ MAX_ENTRIES
+  pub needed : lack.need ≡ MAX_ENTRIES + 1
+  pub found : lack.largest ≡ MAX_ENTRIES

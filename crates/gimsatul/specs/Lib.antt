@@ -15,4 +15,3 @@ pub mod Tallied
 pub mod Outcome
 pub mod Statuses
 pub mod Headline
-pub mod Stopped

@@ -4,6 +4,7 @@ use Rattle.std.specs.declared.option.Option.{Option}
 use Rattle.io_edge.specs.Causes.{Rose}
 use Rattle.io_edge.specs.Paths.{IsEmptyWhereTold}
 use Rattle.sat_words.specs.FormulaData.{FormulaData}
+use Rattle.sat_words.specs.declared.shared.NoRoom.{NoRoom}
 use Rattle.rup_model.specs.declared.journal.Entry.{Entry}
 use Rattle.rup_model.specs.Journal.{learned}
 use Rattle.dimacs_read.specs.Codes.{number_of}
@@ -84,15 +85,15 @@ pub record IsUnproved (formula : FormulaData) (journal : List Entry) (tally : Ta
 
 -- as many lines stand as may, so that there was no room for one more, and none failed; the journal has fewer lemmas than the
 -- limit and doesn't add the empty clause; the tally has their number, what was needed and what there is
-pub record IsCrowded (need largest : ℕ) (formula : FormulaData) (journal : List Entry) (tally : Tally) (run : Run) : Type 0 where
+pub record IsCrowded (lack : NoRoom) (formula : FormulaData) (journal : List Entry) (tally : Tally) (run : Run) : Type 0 where
   pub read : WasRead run.text formula
   pub source : IsStill run.source
   pub journal_stands : IsJournal 1 formula.clauses journal
   pub log : HasLog formula journal 0 run
   pub fewer : length (learned 0 journal) < run.limit
   pub unrefuted : IsUnrefuted journal
-  pub counts : tally ≡ room_tally (length (learned 0 journal)) need largest
-  pub full : IsFull journal need largest
+  pub counts : tally ≡ room_tally (length (learned 0 journal)) lack
+  pub full : IsFull journal lack
 
 -- memory ran out in the search, before a verdict: no line had failed, neither was the limit learned nor the
 -- empty clause added; the output is as it was
@@ -113,7 +114,7 @@ Outcome end.CannotCreate F J tally run = ⊥
 Outcome end.ReadFault F J tally run = RoseIn run.source × IsBroken F J tally run
 Outcome end.WriteFault F J tally run = IsCutOff F J tally run
 Outcome end.ProofFault F J tally run = IsUnproved F J tally run
-Outcome (end.Room need largest) F J tally run = IsCrowded need largest F J tally run
+Outcome (end.Room lack) F J tally run = IsCrowded lack F J tally run
 Outcome end.Memory F J tally run = (IsStill run.source × IsBroken F J tally run) ⊎ IsStarved F J tally run
 
 -- how a run over a source ended
@@ -159,7 +160,7 @@ CallOutcome end.CannotCreate F J tally call = RoseIn call.files × IsSome (proof
 CallOutcome end.ReadFault F J tally call = IsWhole end.ReadFault F J tally call
 CallOutcome end.WriteFault F J tally call = IsWhole end.WriteFault F J tally call
 CallOutcome end.ProofFault F J tally call = IsWhole end.ProofFault F J tally call
-CallOutcome (end.Room need largest) F J tally call = IsWhole (end.Room need largest) F J tally call
+CallOutcome (end.Room lack) F J tally call = IsWhole (end.Room lack) F J tally call
 CallOutcome end.Memory F J tally call = (IsStill call.files × IsIdle J tally call) ⊎ IsWhole end.Memory F J tally call
 
 -- how a call ended

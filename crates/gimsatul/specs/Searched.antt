@@ -7,22 +7,23 @@ use Rattle.rup_model.specs.declared.journal.Entry.{Entry}
 use Rattle.rup_model.specs.Journal.{lines, learned}
 use Rattle.drat_text.specs.Text.{text}
 use Rattle.gimsatul.specs.declared.report.Verdict.{Verdict}
-use Rattle.gimsatul.specs.declared.search.SearchStop.{SearchStop}
-use Rattle.gimsatul.specs.declared.search.SearchStop.TheVariants.{ProofFault, Room, Memory}
+use Rattle.gimsatul.specs.declared.report.End.{End}
+use Rattle.gimsatul.specs.declared.report.End.TheVariants.{ProofFault, Room, Memory}
 use Rattle.gimsatul.specs.Journaled.{IsJournal, IsUnrefuted, HoldsText, IsCutShort}
 use Rattle.gimsatul.specs.Decided.{Decides, IsFull}
 
--- a verdict that holds of the journal; or the cause of none: where no write failed, neither is the
+-- a verdict that holds of the journal; or the end without one: where no write failed, neither is the
 -- limit learned then nor the empty clause added
-abbrev pub Concludes : ℕ → FormulaData → List Entry → ℕ → Result Verdict SearchStop → Type 0
+abbrev pub Concludes : ℕ → FormulaData → List Entry → ℕ → Result Verdict End → Type 0
 Concludes limit formula journal faults (Ok verdict) = (faults ≡ 0) × Decides limit formula journal verdict
 Concludes limit formula journal faults (Err ProofFault) = Rose 0 faults
-Concludes limit formula journal faults (Err (Room need largest)) = (faults ≡ 0) × (length (learned 0 journal) < limit) × IsFull journal need largest × IsUnrefuted journal
+Concludes limit formula journal faults (Err (Room lack)) = (faults ≡ 0) × (length (learned 0 journal) < limit) × IsFull journal lack × IsUnrefuted journal
 Concludes limit formula journal faults (Err Memory) = (faults ≡ 0) × (length (learned 0 journal) < limit) × IsUnrefuted journal
+Concludes limit formula journal faults (Err _) = ⊥
 
 -- a search with this result, which counted so many lemmas, no more than may be learned, and left the proof's writer with
 -- these faults and bytes
-pub record IsSearch (limit : ℕ) (formula : FormulaData) (verdict : Result Verdict SearchStop) (count : ℕ) (faults : ℕ) (written : Option (List ℕ)) : Type 0 where
+pub record IsSearch (limit : ℕ) (formula : FormulaData) (verdict : Result Verdict End) (count : ℕ) (faults : ℕ) (written : Option (List ℕ)) : Type 0 where
   pub journal : List Entry
   pub stands : IsJournal 1 formula.clauses journal
   pub counts : count ≡ length (learned 0 journal)

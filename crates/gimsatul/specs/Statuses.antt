@@ -58,7 +58,7 @@ pub record LeftUnproved (call : Call) (tally : Tally) : Type 0 where
 pub record LeftNoRoom (call : Call) (tally : Tally) : Type 0 where
   pub formula : FormulaData
   pub journal : List Entry
-  pub crowded : IsCrowded tally.need tally.largest formula journal tally (run_of call)
+  pub crowded : IsCrowded (record { need = tally.need; largest = tally.largest }) formula journal tally (run_of call)
 
 -- one journal stands for the run, and the proof, where there is one, holds it and was flushed last: of the formula that was
 -- read, or empty

@@ -3,9 +3,8 @@ ghost use Rattle.std.specs.Prelude.{◌≡◌, ◌<◌, ◌≤◌, ◌^◌, All,
 ghost use Rattle.dimacs_read.specs.Input.{IsOn};
 ghost use Rattle.gimsatul.specs.Concluded.{TakesValues, IsWithoutIdle, IsVerdictOf, IsAlone};
 
-use crate::report::Verdict;
-use crate::search::SearchStop;
-use ring_run::End;
+use crate::report::{End, Verdict};
+use ring_run::End as RingEnd;
 use sat_words::{Assignment, Clause, Formula, Lit};
 use std::alloc::{AllocError, Global};
 
@@ -37,24 +36,24 @@ fn without_idle(
     Ok(model)
 }
 
-/// The verdict of an end, or the cause of none.
-pub(crate) fn verdict_of(alloc: Global, formula: &Formula, end: End) -> Result<Verdict, SearchStop>
+/// The verdict that the ring's end comes to, or the end of a call without one.
+pub(crate) fn verdict_of(alloc: Global, formula: &Formula, end: RingEnd) -> Result<Verdict, End>
     requires on_variables { All (All (IsOn formula.now.vars)) formula.now.clauses }
     requires alone { IsAlone end }
     ensures { IsVerdictOf formula.now end result }
 {
     match end {
-        End::Sat(model) => {
+        RingEnd::Sat(model) => {
             match without_idle(alloc, formula.clauses(), formula.vars(), &model) {
                 Ok(model) => Ok(Verdict::Satisfiable(model)),
-                Err(_) => Err(SearchStop::Memory),
+                Err(_) => Err(End::Memory),
             }
         }
-        End::Refuted => Ok(Verdict::Unsatisfiable),
-        End::Spent => Ok(Verdict::Unknown),
-        End::Stopped(_) => unreachable!(),
-        End::NoHole { need, largest } => Err(SearchStop::Room { need, largest }),
-        End::ProofFault => Err(SearchStop::ProofFault),
-        End::Memory => Err(SearchStop::Memory),
+        RingEnd::Refuted => Ok(Verdict::Unsatisfiable),
+        RingEnd::Spent => Ok(Verdict::Unknown),
+        RingEnd::Stopped(_) => unreachable!(),
+        RingEnd::NoHole(lack) => Err(End::Room(lack)),
+        RingEnd::ProofFault => Err(End::ProofFault),
+        RingEnd::Memory => Err(End::Memory),
     }
 }

@@ -5,7 +5,7 @@ ghost use Rattle.io_edge.specs.Bytes.{GrowsBy, GrowsByPart};
 ghost use Rattle.io_edge.specs.Causes.{HasCause};
 ghost use Rattle.io_edge.specs.Paths.{IsEmptyWhereTold};
 ghost use Rattle.gimsatul.specs.Answer.{answer_text};
-ghost use Rattle.gimsatul.specs.Ends.{end_of, end_of_stop, tally_of_stop, end_of_read, tally_of_read, prints};
+ghost use Rattle.gimsatul.specs.Ends.{end_of, end_of_read, prints};
 ghost use Rattle.dimacs_read.specs.Input.{IsOn};
 ghost use Rattle.gimsatul.specs.Finished.{Finishes};
 ghost use Rattle.gimsatul.specs.Outcome.{Concluded, IsRun};
@@ -13,7 +13,7 @@ ghost use Rattle.gimsatul.specs.Tallied.{no_tally, ring_tally};
 
 use crate::answer::answer_text_to;
 use crate::report::{End, Tally, Verdict};
-use crate::search::{SearchStop, Searched, search};
+use crate::search::{Searched, search};
 use dimacs_read::{ReadStop, read};
 use io_edge::{Failed, Sink, Source};
 use sat_words::Formula;
@@ -87,22 +87,6 @@ fn finish<P: Sink, O: Sink>(vars: u32, verdict: Verdict, proof: P, out: &mut O) 
     }
 }
 
-/// How a call ends whose search stopped without a verdict. Where there was no room, the tally takes the two numbers.
-fn stop_end(stop: SearchStop, tally: &mut Tally) -> End
-    ensures end { result ≡ end_of_stop stop }
-    ensures tally { tally.new ≡ tally_of_stop stop tally.old }
-{
-    match stop {
-        SearchStop::ProofFault => End::ProofFault,
-        SearchStop::Room { need, largest } => {
-            tally.need = need;
-            tally.largest = largest;
-            End::Room { need, largest }
-        }
-        SearchStop::Memory => End::Memory,
-    }
-}
-
 /// Searches, writes and flushes the proof, and prints the answer.
 fn decide_formula<P: Sink, O: Sink>(
     alloc: Global,
@@ -137,29 +121,22 @@ fn decide_formula<P: Sink, O: Sink>(
     tally.learned.set(0, learned);
     let verdict = match verdict {
         Ok(verdict) => verdict,
-        Err(stop) => {
+        Err(end) => {
             let mut proof = proof;
             let _ = proof.flush();
-            return Decided {
-                end: stop_end(stop, tally),
-                proof,
-            };
+            tally.note(&end);
+            return Decided { end, proof };
         }
     };
     finish(formula.vars(), verdict, proof, out)
 }
 
-/// How a call ends whose input was not read. The tally takes the first bad place.
-fn read_end(stop: ReadStop, tally: &mut Tally) -> End
-    ensures end { result ≡ end_of_read stop }
-    ensures tally { tally.new ≡ tally_of_read stop tally.old }
+/// How a call ends whose input was not read.
+fn read_end(stop: ReadStop) -> End
+    ensures { result ≡ end_of_read stop }
 {
     match stop {
-        ReadStop::Bad { code, line } => {
-            tally.code = code.number();
-            tally.line = line;
-            End::BadInput { code, line }
-        }
+        ReadStop::Bad { code, line } => End::BadInput { code, line },
         ReadStop::ReadFault => End::ReadFault,
         ReadStop::Memory => End::Memory,
     }
@@ -198,10 +175,9 @@ pub fn decide_over<S: Source, P: Sink, O: Sink>(
         Ok(formula) => formula,
         Err(stop) => {
             let _ = proof.flush();
-            return Decided {
-                end: read_end(stop, tally),
-                proof,
-            };
+            let end = read_end(stop);
+            tally.note(&end);
+            return Decided { end, proof };
         }
     };
     match Tally::with_ring(alloc) {

@@ -5,7 +5,7 @@
 
 ghost use Rattle.std.specs.Prelude.{◌≡◌, ◌↔◌};
 ghost use Rattle.std.specs.declared.io.ErrorKind.{ErrorKind};
-ghost use Rattle.gimsatul.specs.Stopped.{stop_status};
+ghost use Rattle.gimsatul.specs.Ends.{IsWordsEnd};
 
 mod answer;
 mod conclude;
@@ -22,67 +22,42 @@ mod top;
 mod words;
 
 pub use answer::answer_text_to;
-use io_edge::{StdFiles, StdSink, StdSource, write_all_of};
+use io_edge::{StdFiles, StdSink, StdSource};
 pub use laws::the_plain_form_is_read;
+use message::put_message;
 pub use report::{End, Numbers, Report, Tally, Verdict};
 use std::process::ExitCode;
 use std::{env, io};
 pub use top::gimsatul;
 
-/// Why the call was not made.
-#[derive(Clone, Copy)]
-enum Stop {
-    /// The arguments cannot be told as text.
-    Words,
-    /// Memory ran out.
-    Memory,
-}
-
-impl Stop {
-    /// What a failed look at the arguments says.
-    fn from_kind(kind: io::ErrorKind) -> Stop
-        ensures { (result ≡ Stop.Memory) ↔ (kind ≡ ErrorKind.OutOfMemory) }
-    {
-        match kind {
-            io::ErrorKind::OutOfMemory => Stop::Memory,
-            _ => Stop::Words,
-        }
-    }
-
-    fn status(&self) -> u8
-        ensures { result ≡ stop_status self.now }
-    {
-        match self {
-            Stop::Words => 1,
-            Stop::Memory => 9,
-        }
-    }
-
-    fn message(&self) -> &'static [u8] {
-        match self {
-            Stop::Words => b"gimsatul: bad command line\n",
-            Stop::Memory => b"gimsatul: out of memory\n",
-        }
+/// The end of a call that is not made: the arguments cannot be told as text, or memory ran out.
+fn end_of_kind(kind: io::ErrorKind) -> End
+    ensures memory { (result ≡ End.Memory) ↔ (kind ≡ ErrorKind.OutOfMemory) }
+    ensures ends { IsWordsEnd result }
+{
+    match kind {
+        io::ErrorKind::OutOfMemory => End::Memory,
+        _ => End::Usage,
     }
 }
 
 /// The arguments without the program's name.
-fn words_of(rt: &HostRuntime) -> Result<Vec<String>, Stop> {
+fn words_of(rt: &HostRuntime) -> Result<Vec<String>, End> {
     let args = match env::args(rt) {
         Ok(args) => args,
-        Err(error) => return Err(Stop::from_kind(error.kind())),
+        Err(error) => return Err(end_of_kind(error.kind())),
     };
     let mut words = Vec::new(rt.alloc());
     for word in args.skip(1) {
         if words.push(word).is_err() {
-            return Err(Stop::Memory);
+            return Err(End::Memory);
         }
     }
     Ok(words)
 }
 
 /// Calls `gimsatul` on the real files and streams, and gives its status.
-fn run(rt: &HostRuntime) -> Result<u8, Stop> {
+fn run(rt: &HostRuntime) -> Result<u8, End> {
     let words = words_of(rt)?;
     let mut files = StdFiles::new(rt);
     let mut input = StdSource::new(rt.stdin());
@@ -102,9 +77,9 @@ fn run(rt: &HostRuntime) -> Result<u8, Stop> {
 fn main(rt: HostRuntime) -> ExitCode {
     match run(&rt) {
         Ok(status) => ExitCode::from(status),
-        Err(stop) => {
-            let _ = write_all_of(&mut StdSink::new(rt.stderr()), stop.message());
-            ExitCode::from(stop.status())
+        Err(end) => {
+            let _ = put_message(&mut StdSink::new(rt.stderr()), &end);
+            ExitCode::from(end.status())
         }
     }
 }

@@ -3,6 +3,7 @@ use crate::report::End;
 use dimacs_read::Code;
 use io_edge::{Sink, WriteStop, write_all_of};
 use itoa::Buffer;
+use sat_words::NoRoom;
 
 /// Writes the line that names a bad place.
 fn put_bad_place<E: Sink>(err: &mut E, code: Code, line: u64) -> Result<(), WriteStop> {
@@ -15,12 +16,12 @@ fn put_bad_place<E: Sink>(err: &mut E, code: Code, line: u64) -> Result<(), Writ
 }
 
 /// Writes the line that says how much room was needed, and how much there is.
-fn put_no_room<E: Sink>(err: &mut E, need: u64, largest: u64) -> Result<(), WriteStop> {
+fn put_no_room<E: Sink>(err: &mut E, lack: NoRoom) -> Result<(), WriteStop> {
     let mut digits = Buffer::new();
     write_all_of(err, b"gimsatul: no room: need ")?;
-    write_all_of(err, digits.format(need).as_bytes())?;
+    write_all_of(err, digits.format(lack.need).as_bytes())?;
     write_all_of(err, b", largest hole ")?;
-    write_all_of(err, digits.format(largest).as_bytes())?;
+    write_all_of(err, digits.format(lack.largest).as_bytes())?;
     write_all_of(err, b"\n")
 }
 
@@ -35,7 +36,7 @@ pub fn put_message<E: Sink>(err: &mut E, end: &End) -> Result<(), WriteStop> {
         End::ReadFault => write_all_of(err, b"gimsatul: read fault\n"),
         End::WriteFault => write_all_of(err, b"gimsatul: write fault\n"),
         End::ProofFault => write_all_of(err, b"gimsatul: proof fault\n"),
-        End::Room { need, largest } => put_no_room(err, *need, *largest),
+        End::Room(lack) => put_no_room(err, *lack),
         End::Memory => write_all_of(err, b"gimsatul: out of memory\n"),
     }
 }

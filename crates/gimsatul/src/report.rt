@@ -1,9 +1,10 @@
 // What a call comes to: its verdict, how it ended, and what it reports.
 ghost use Rattle.std.specs.Prelude.{◌≡◌, ◌<◌, List, ℕ, length, replicate, slice_set, IfOk, OnOk, OnErr, []};
-ghost use Rattle.gimsatul.specs.Tallied.{no_tally, ring_tally};
+ghost use Rattle.gimsatul.specs.Ends.{status_of};
+ghost use Rattle.gimsatul.specs.Tallied.{no_tally, ring_tally, noted};
 
 use dimacs_read::Code;
-use sat_words::Assignment;
+use sat_words::{Assignment, NoRoom};
 use std::alloc::{AllocError, Global};
 use std::marker::Model;
 
@@ -38,13 +39,30 @@ pub enum End {
     WriteFault,
     ProofFault,
     /// There was no room for a clause, or for one line more of the proof.
-    Room {
-        /// How much was needed.
-        need: u64,
-        /// How much there is in one piece.
-        largest: u64,
-    },
+    Room(NoRoom),
     Memory,
+}
+
+impl End {
+    /// The exit status.
+    pub fn status(&self) -> u8
+        ensures { result ≡ status_of self.now }
+    {
+        match self {
+            End::Satisfiable(_) => 10,
+            End::Unsatisfiable => 20,
+            End::Unknown => 0,
+            End::Usage => 1,
+            End::BadInput { .. } => 2,
+            End::CannotOpen => 3,
+            End::CannotCreate => 4,
+            End::ReadFault => 5,
+            End::WriteFault => 6,
+            End::ProofFault => 7,
+            End::Room(_) => 8,
+            End::Memory => 9,
+        }
+    }
 }
 
 /// A number for each ring, in the order of the rings.
@@ -144,6 +162,23 @@ impl Tally {
             code: 0,
             line: 0,
         })
+    }
+
+    /// Takes the numbers of an end that has some: of a bad place, or of what there was no room for.
+    pub fn note(&mut self, end: &End)
+        ensures { self.new ≡ noted end.now self.old }
+    {
+        match end {
+            End::BadInput { code, line } => {
+                self.code = code.number();
+                self.line = *line;
+            }
+            End::Room(lack) => {
+                self.need = lack.need;
+                self.largest = lack.largest;
+            }
+            _ => {}
+        }
     }
 }
 

@@ -8,7 +8,7 @@ ghost use Rattle.ring_run.specs.Ended.{IsJobOf};
 ghost use Rattle.gimsatul.specs.Searched.{IsSearch};
 
 use crate::conclude::verdict_of;
-use crate::report::Verdict;
+use crate::report::{End, Verdict};
 use crate::start::{has_empty, open_port};
 use drat_text::{LineOut, LineStop, SinkLines};
 use io_edge::Sink;
@@ -17,26 +17,10 @@ use ring_run::{Addresses, Job, run_ring};
 use sat_words::{Formula, Line, Lits};
 use std::alloc::{AllocError, Global};
 
-/// Why the search stopped without a verdict.
-#[derive(Clone, Copy, Debug, PartialEq, Eq)]
-pub enum SearchStop {
-    /// The proof's sink failed; its fault count rose.
-    ProofFault,
-    /// No more lines can stand.
-    Room {
-        /// How much is needed.
-        need: u64,
-        /// How much there is.
-        largest: u64,
-    },
-    /// Memory ran out.
-    Memory,
-}
-
-/// A verdict, or why there is none, how many lemmas were learned, and the proof's sink.
+/// A verdict or the end without one, how many lemmas were learned, and the proof's sink.
 #[derive(Drop)]
 pub struct Searched<P> {
-    pub verdict: Result<Verdict, SearchStop>,
+    pub verdict: Result<Verdict, End>,
     pub learned: u64,
     pub proof: P,
 }
@@ -54,9 +38,9 @@ fn refute<P: Sink>(alloc: Global, formula: &Formula, limit: u64, proof: P) -> Se
     let mut lines = SinkLines::new(formula.clauses().len() as u64, proof);
     let verdict = match lines.put(&Line::Add(Lits::from_vec(Vec::new(alloc)))) {
         Ok(_) => Ok(Verdict::Unsatisfiable),
-        Err(LineStop::ProofFault) => Err(SearchStop::ProofFault),
+        Err(LineStop::ProofFault) => Err(End::ProofFault),
         Err(LineStop::Full) => unreachable!(),
-        Err(LineStop::Memory) => Err(SearchStop::Memory),
+        Err(LineStop::Memory) => Err(End::Memory),
     };
     Searched {
         verdict,
@@ -106,7 +90,7 @@ pub fn search<P: Sink>(alloc: Global, formula: &Formula, limit: u64, proof: P) -
         Ok(port) => port,
         Err(refused) => {
             return Searched {
-                verdict: Err(SearchStop::Memory),
+                verdict: Err(End::Memory),
                 learned: 0,
                 proof: refused.value,
             };
@@ -114,7 +98,7 @@ pub fn search<P: Sink>(alloc: Global, formula: &Formula, limit: u64, proof: P) -
     };
     let Ok(job) = job_of(alloc, &port, formula.vars(), limit) else {
         return Searched {
-            verdict: Err(SearchStop::Memory),
+            verdict: Err(End::Memory),
             learned: 0,
             proof: port.into_lines().into_sink(),
         };

@@ -6,13 +6,13 @@ ghost use Rattle.gimsatul.specs.Words.{command_of, file_path, proof_path};
 ghost use Rattle.gimsatul.specs.Run.{target_in, text_left, source_in, writer_of, IsOpened};
 ghost use Rattle.gimsatul.specs.Outcome.{IsCall, IsRun};
 ghost use Rattle.gimsatul.specs.Tallied.{no_tally};
-ghost use Rattle.gimsatul.specs.Ends.{end_of_words, prints, prints_at, leaves_input, leaves_files};
-ghost use Rattle.gimsatul.specs.Headline.{status_of, model_of, Headline};
+ghost use Rattle.gimsatul.specs.Ends.{status_of, model_of, prints, prints_at, leaves_input, leaves_files};
+ghost use Rattle.gimsatul.specs.Headline.{Headline};
 
 use crate::decide::{Decided, decide_over};
 use crate::message::put_message;
 use crate::report::{End, Report, Tally};
-use crate::words::{WordsStop, parse};
+use crate::words::parse;
 use dimacs_read::read_or_bad;
 use io_edge::{Failed, Files, Sink, Source};
 use std::alloc::Global;
@@ -23,15 +23,6 @@ struct Ended<R, W> {
     file: Option<R>,
     proof: Option<W>,
     tally: Tally,
-}
-
-fn words_end(stop: WordsStop) -> End
-    ensures { result ≡ end_of_words stop }
-{
-    match stop {
-        WordsStop::Usage => End::Usage,
-        WordsStop::Memory => End::Memory,
-    }
 }
 
 /// Opens the input where a path is given for it.
@@ -165,9 +156,9 @@ fn run<F: Files, I: Source, O: Sink>(
     let tally = Tally::new(alloc);
     let command = match parse(alloc, words) {
         Ok(command) => command,
-        Err(stop) => {
+        Err(end) => {
             return Ended {
-                end: words_end(stop),
+                end,
                 file: None,
                 proof: None,
                 tally,
@@ -209,23 +200,10 @@ fn report_of<R, W>(ended: Ended<R, W>) -> Report<R, W>
         proof,
         tally,
     } = ended;
-    let mut model = None;
-    let status = match end {
-        End::Satisfiable(assignment) => {
-            model = Some(assignment);
-            10
-        }
-        End::Unsatisfiable => 20,
-        End::Unknown => 0,
-        End::Usage => 1,
-        End::BadInput { .. } => 2,
-        End::CannotOpen => 3,
-        End::CannotCreate => 4,
-        End::ReadFault => 5,
-        End::WriteFault => 6,
-        End::ProofFault => 7,
-        End::Room { .. } => 8,
-        End::Memory => 9,
+    let status = end.status();
+    let model = match end {
+        End::Satisfiable(model) => Some(model),
+        _ => None,
     };
     Report {
         status,

@@ -1,9 +1,11 @@
 // The words of the command line.
-ghost use Rattle.std.specs.Prelude.{◌≡◌, ◌≤◌, ◌↔◌, false, map, string_bytes, option_copied, IfOk, IsErrOf, Some, None};
+ghost use Rattle.std.specs.Prelude.{◌≡◌, ◌≤◌, ◌↔◌, false, map, string_bytes, option_copied, IfOk, IfErr, IsErrOf, Some, None};
 ghost use Rattle.clap.specs.Words.{app_of, found_of, rows_of, rule_of};
 ghost use Rattle.clap.specs.declared.error.kind.ErrorKind.TheVariants.{OutOfMemory};
+ghost use Rattle.gimsatul.specs.Ends.{IsWordsEnd};
 ghost use Rattle.gimsatul.specs.Words.{HasLimit, command_in, command_of, solver_app, conflicts_rule, threads_rule, proof_rule, no_simplify_rule, file_rule};
 
+use crate::report::End;
 use clap::builder::ValueParser;
 use clap::error::ErrorKind;
 use clap::{Arg, ArgAction, ArgMatches};
@@ -21,15 +23,6 @@ pub struct Command<'a> {
     pub proof: Option<&'a str>,
     /// Where the input comes from, if not from standard input.
     pub file: Option<&'a str>,
-}
-
-/// Why the words ask for nothing.
-#[derive(Clone, Copy, Debug, PartialEq, Eq)]
-pub enum WordsStop {
-    /// They are refused.
-    Usage,
-    /// Memory ran out.
-    Memory,
 }
 
 fn conflicts_arg<'a>(alloc: Global) -> Arg<'a>
@@ -116,27 +109,29 @@ fn command_in<'a>(matches: &ArgMatches<'a>) -> Command<'a>
     }
 }
 
-fn stop_of(kind: ErrorKind) -> WordsStop
-    ensures { (result ≡ WordsStop.Memory) ↔ (kind ≡ OutOfMemory) }
+fn end_of_kind(kind: ErrorKind) -> End
+    ensures memory { (result ≡ End.Memory) ↔ (kind ≡ OutOfMemory) }
+    ensures ends { IsWordsEnd result }
 {
     match kind {
-        ErrorKind::OutOfMemory => WordsStop::Memory,
-        _ => WordsStop::Usage,
+        ErrorKind::OutOfMemory => End::Memory,
+        _ => End::Usage,
     }
 }
 
 /// Reads the words, without the program's name. They are refused exactly where `clap` refuses them.
-pub fn parse<'a>(alloc: Global, words: &'a [String]) -> Result<Command<'a>, WordsStop>
+pub fn parse<'a>(alloc: Global, words: &'a [String]) -> Result<Command<'a>, End>
     ensures asks { IfOk result (λ command. command_of (map string_bytes words.entry.now) ≡ Some (record { conflicts = command.conflicts; proof = option_copied command.proof; file = option_copied command.file })) }
     ensures some { IfOk result (λ command. 1 ≤ command.conflicts) }
-    ensures usage { IsErrOf result WordsStop.Usage → command_of (map string_bytes words.entry.now) ≡ None }
+    ensures usage { IsErrOf result End.Usage → command_of (map string_bytes words.entry.now) ≡ None }
+    ensures ends { IfErr result IsWordsEnd }
 {
     let command = match solver(alloc) {
         Ok(command) => command,
-        Err(_) => return Err(WordsStop::Memory),
+        Err(_) => return Err(End::Memory),
     };
     match command.try_get_matches_from(words) {
         Ok(matches) => Ok(command_in(&matches)),
-        Err(error) => Err(stop_of(error.kind())),
+        Err(error) => Err(end_of_kind(error.kind())),
     }
 }

@@ -162,7 +162,7 @@ caused_later s t a b None going room same c = tt
 caused_later s t a b (Some Ended) going room same c = absurd (false≢true (sym going ∙ c))
 caused_later s t a b (Some Broken) going room same c = absurd c
 caused_later s t a b (Some ProofFault) going room same c = same ∙ c
-caused_later s t a b (Some (NoHole need largest)) going room same c = let full = c.0 in absurd (omega arith)
+caused_later s t a b (Some (NoHole lack)) going room same c = let full = c.0 in absurd (omega arith)
 caused_later s t a b (Some Memory) going room same c = absurd c
 
 -- A line that was put
@@ -281,5 +281,5 @@ stands_with o s h a out S G n st k r en seen usable end caused =
     caused_as (Some Ended) c = c
     caused_as (Some Broken) c = c
     caused_as (Some ProofFault) c = c
-    caused_as (Some (NoHole need largest)) c = c
+    caused_as (Some (NoHole lack)) c = c
     caused_as (Some Memory) c = c

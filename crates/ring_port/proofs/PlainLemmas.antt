@@ -162,7 +162,7 @@ pub refused_held : (s : PortState) (out : Option LineState) (stop : PortStop) �
 refused_held s out Ended = refl
 refused_held s out Broken = refl
 refused_held s out ProofFault = refl
-refused_held s out (NoHole need largest) = refl
+refused_held s out (NoHole lack) = refl
 refused_held s out Memory = refl
 
 pub kept_refused : (s t : PortState) (stop : PortStop) → Refused s t stop → KeepsHeld s t

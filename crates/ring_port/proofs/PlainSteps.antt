@@ -91,9 +91,9 @@ refused_keeps p r g lits Broken usable on follows why o h = absurd why
 refused_keeps p r g lits ProofFault usable on follows why o h =
     subst (λ k. StandsOver o (state_of (record p { log = k }))) (sym why.state)
     (stands_failed o (state_of p) h refl lits Learn follows why.going on p.log.output g.output refl (unspent_of o p h usable) why.put)
-refused_keeps p r g lits (NoHole need largest) usable on follows why o h =
+refused_keeps p r g lits (NoHole lack) usable on follows why o h =
     subst (λ k. StandsOver o (state_of (record p { log = k }))) (sym why.state)
-    (stands_with o (state_of p) h p.log.output refl (take p.passed p.opening ++ p.written) p.given (length p.opening - p.passed) p.stop p.looks (Some (NoHole need largest)) p.log.ended
+    (stands_with o (state_of p) h p.log.output refl (take p.passed p.opening ++ p.written) p.given (length p.opening - p.passed) p.stop p.looks (Some (NoHole lack)) p.log.ended
     h.seen (sym (ap not (unspent_of o p h usable))) refl (why.full, why.needed, why.found))
 refused_keeps p r g lits Memory usable on follows why o h = subst (λ k. StandsOver o (state_of (record p { log = k }))) (sym why) h
 

@@ -34,7 +34,7 @@ IsCaused s out None = ⊤
 IsCaused s out (Some Ended) = s.ended ≡ true
 IsCaused s out (Some Broken) = ⊥
 IsCaused s out (Some ProofFault) = out.spent ≡ true
-IsCaused s out (Some (NoHole need largest)) = (out.entries ≡ MAX_ENTRIES) × (need ≡ MAX_ENTRIES + 1) × (largest ≡ MAX_ENTRIES)
+IsCaused s out (Some (NoHole lack)) = (out.entries ≡ MAX_ENTRIES) × (lack.need ≡ MAX_ENTRIES + 1) × (lack.largest ≡ MAX_ENTRIES)
 IsCaused s out (Some Memory) = ⊥
 
 -- what the output has of the journal's lines

@@ -2,6 +2,7 @@
 use Rattle.std.specs.Prelude.{◌≡◌, ℕ, ◌+◌, true, false, List, [], ◌∷◌, ◌++◌, Bool, Option, Some, Result, Ok, Err, ⊤}
 use Rattle.sat_words.specs.Literal.{Literal}
 use Rattle.sat_words.specs.declared.line.Line.{Line}
+use Rattle.sat_words.specs.declared.shared.NoRoom.{NoRoom}
 use Rattle.sat_words.specs.declared.line.Line.TheVariants.{Add as AddLine, Del as DelLine}
 use Rattle.rup_model.specs.declared.journal.Kind.{Kind}
 use Rattle.rup_model.specs.declared.journal.Entry.{Entry}
@@ -42,19 +43,19 @@ pub record FaultyLine (old new : LogData) (x : Line) : Type 0 where
   pub state : new ≡ record old { output = new.output; refused = Some ProofFault }
 
 -- as many lines stand as can
-pub record FullLog (old new : LogData) (need largest : ℕ) : Type 0 where
+pub record FullLog (old new : LogData) (lack : NoRoom) : Type 0 where
   pub going : old.ended ≡ false
   pub full : old.output.entries ≡ MAX_ENTRIES
-  pub needed : need ≡ MAX_ENTRIES + 1
-  pub found : largest ≡ MAX_ENTRIES
-  pub state : new ≡ record old { refused = Some (NoHole need largest) }
+  pub needed : lack.need ≡ MAX_ENTRIES + 1
+  pub found : lack.largest ≡ MAX_ENTRIES
+  pub state : new ≡ record old { refused = Some (NoHole lack) }
 
 -- why the line does not stand, and how that leaves the log
 abbrev pub NotPut : LogData → LogData → Line → PortStop → Type 0
 NotPut old new x Ended = (old.ended ≡ true) × (new ≡ record old { refused = Some Ended })
 NotPut old new x Broken = ⊥
 NotPut old new x ProofFault = FaultyLine old new x
-NotPut old new x (NoHole need largest) = FullLog old new need largest
+NotPut old new x (NoHole lack) = FullLog old new lack
 NotPut old new x Memory = new ≡ old
 
 -- what became of the line

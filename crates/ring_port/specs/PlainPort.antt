@@ -125,14 +125,14 @@ begun_with vars starts units output = record {
 }
 
 -- the output has the lines of this journal
-pub record HasJournal (clauses : List (List Literal)) (journal : List Entry) (output : LineState) : Type 0 where
+pub record CountsLines (clauses : List (List Literal)) (journal : List Entry) (output : LineState) : Type 0 where
   pub entries : output.entries ≡ length (lines clauses journal)
   pub last : (book clauses journal).next ≡ output.last + 1
 
 -- the ruler left this journal, whose lines the output has; the start clauses and the units open the search over it
 pub record OpensOver (clauses : List (List Literal)) (starts : List Start) (units : List Literal) (output : LineState) (journal : List Entry) : Type 0 where
   pub opens : IsOpening clauses (record { journal = journal; starts = starts; units = units })
-  pub lines : HasJournal clauses journal output
+  pub lines : CountsLines clauses journal output
 
 -- Answers
 
@@ -143,9 +143,9 @@ FaultRose (Some a) None = ⊥
 FaultRose None b = ⊥
 
 -- as many entries stand as can
-abbrev pub IsFull : Option LineState → Type 0
-IsFull None = ⊥
-IsFull (Some a) = a.entries ≡ MAX_ENTRIES
+abbrev pub HasNoRoom : Option LineState → Type 0
+HasNoRoom None = ⊥
+HasNoRoom (Some a) = a.entries ≡ MAX_ENTRIES
 
 -- one more entry could stand
 abbrev pub HasRoom : Option LineState → Type 0
@@ -159,5 +159,5 @@ HasCauseAlone old new (Ok x) = HasRoom old.output
 HasCauseAlone old new (Err Ended) = old.ended ≡ true
 HasCauseAlone old new (Err Broken) = ⊥
 HasCauseAlone old new (Err ProofFault) = FaultRose old.output new.output
-HasCauseAlone old new (Err (NoHole need largest)) = IsFull old.output × (need ≡ MAX_ENTRIES + 1) × (largest ≡ MAX_ENTRIES)
+HasCauseAlone old new (Err (NoHole lack)) = HasNoRoom old.output × (lack.need ≡ MAX_ENTRIES + 1) × (lack.largest ≡ MAX_ENTRIES)
 HasCauseAlone old new (Err Memory) = ⊤

@@ -24,7 +24,7 @@ abbrev pub is_fault : PortStop → Bool
 is_fault Ended = false
 is_fault Broken = true
 is_fault ProofFault = true
-is_fault (NoHole need largest) = false
+is_fault (NoHole lack) = false
 is_fault Memory = false
 
 -- no line has failed, as far as the port knows
@@ -56,7 +56,7 @@ abbrev pub after_refusal : PortState → Option LineState → PortStop → PortS
 after_refusal s output Ended = record s { refused = Some Ended; ended = true }
 after_refusal s output Broken = record s { refused = Some Broken }
 after_refusal s output ProofFault = record s { refused = Some ProofFault; output = output }
-after_refusal s output (NoHole need largest) = record s { refused = Some (NoHole need largest) }
+after_refusal s output (NoHole lack) = record s { refused = Some (NoHole lack) }
 after_refusal s output Memory = s
 
 -- a log that is ended is answered before anything else, but for want of memory; there is no hole where more is needed than
@@ -65,7 +65,7 @@ abbrev pub HasReason : PortState → PortStop → Type 0
 HasReason s Ended = ⊤
 HasReason s Broken = s.ended ≡ false
 HasReason s ProofFault = s.ended ≡ false
-HasReason s (NoHole need largest) = (s.ended ≡ false) × (largest < need)
+HasReason s (NoHole lack) = (s.ended ≡ false) × (lack.largest < lack.need)
 HasReason s Memory = ⊤
 
 -- a call that writes was refused, and did nothing else

@@ -7,7 +7,7 @@ ghost use Rattle.ring_port.specs.Port.{is_usable};
 use crate::stops::PortStop;
 use drat_text::{LineOut, LineStop};
 use rup_model::{Addition, Entry, Kind};
-use sat_words::{Line, Lits, MAX_ENTRIES};
+use sat_words::{Line, Lits, MAX_ENTRIES, NoRoom};
 use std::alloc::Global;
 use std::marker::Model;
 
@@ -15,10 +15,10 @@ use std::marker::Model;
 const RING: u32 = 0;
 
 /// As many lines stand as can.
-const NO_ENTRY: PortStop = PortStop::NoHole {
+const NO_ENTRY: PortStop = PortStop::NoHole(NoRoom {
     need: MAX_ENTRIES + 1,
     largest: MAX_ENTRIES,
-};
+});
 
 /// A line output, with the entries of the lines that were put.
 #[derive(Drop)]

@@ -1,4 +1,4 @@
-use sat_words::Stop;
+use sat_words::{NoRoom, Stop};
 
 /// Why a call of a port that writes into the log was refused.
 ///
@@ -12,12 +12,7 @@ pub enum PortStop {
     /// The output of the log failed now; its fault count rose.
     ProofFault,
     /// There is no room for the clause, or for one more entry of the log.
-    NoHole {
-        /// How much is needed: words of the clause, or entries.
-        need: u64,
-        /// How much there is at most, which is less.
-        largest: u64,
-    },
+    NoHole(NoRoom),
     /// Memory ran out.
     Memory,
 }

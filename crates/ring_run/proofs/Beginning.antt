@@ -19,11 +19,9 @@ use Rattle.watch_prop.specs.WatchData.{attached}
 use Rattle.watch_prop.specs.Watched.{Watched, IsFresh}
 use Rattle.ring_run.specs.Ended.{IsJobOf, IsUntouched, IsOwn, IsNewLine, IsCounted, opening_of}
 use Rattle.ring_run.specs.Searching.{IsHeldBy, Runs, GoesOn}
-use Rattle.ring_run.specs.Finding.{IsBegun, Finds}
+use Rattle.ring_run.specs.Course.{IsBegun}
 use Rattle.ring_run.specs.declared.job.Job.{Job}
 use Rattle.ring_run.specs.declared.search.Ring.{Ring}
-use Rattle.ring_run.specs.declared.search.Finding.{Finding}
-use Rattle.ring_run.specs.declared.search.Finding.TheVariants.{Model, Refuted, Spent, Stopped, Refused}
 
 pub runs_begin : (s : PortState) → IsUntouched s → IsPort s → Runs s s 0
 runs_begin s p port = record {
@@ -36,10 +34,6 @@ runs_begin s p port = record {
   glued = λ h there. inl there;
   port = port;
 }
-
--- also where the ring has been made since
-pub runs_made : (s m : PortState) → m ≡ s → IsUntouched s → IsPort s → Runs s m 0
-runs_made s m is p port = subst (λ (x : PortState). Runs s x 0) (sym is) (runs_begin s p port)
 
 pub goes_begin : (s : PortState) → IsUntouched s → IsPort s → GoesOn s s 0
 goes_begin s p port = record {
@@ -95,16 +89,6 @@ begun s job ring asked p port trail shape clauses watched none =
       watched = λ t vars fresh. watched t (vars ∙ sym asked.vars) fresh;
       reasons = record { caused = λ q h. absurd (omega (arith, ap (λ (t : TrailData). length t.steps) trail)) };
     }
-
-pub finds_runs : (start s : PortState) (n limit : ℕ) (f : Finding) → Finds start s n limit f → Runs start s n
-finds_runs start s n limit (Model a) p = p.0.runs
-finds_runs start s n limit Refuted p = p.0.runs
-finds_runs start s n limit Spent p = p.0.runs
-finds_runs start s n limit (Stopped x) p = p.0.runs
-finds_runs start s n limit (Refused stop) p = p.0.runs
-
-pub finds_made : (s m u : PortState) (n limit : ℕ) (f : Finding) → m ≡ s → Finds m u n limit f → Runs s u n
-finds_made s m u n limit f is p = subst (λ (x : PortState). Runs x u n) is (finds_runs m u n limit f p)
 
 pub counted_by : (start s : PortState) (n : ℕ) → Runs start s n → IsCounted s (record { learned = n; exported = 0; offered = 0; restarts = 0 })
 counted_by start s n p = record { learned_is = p.counted; exported = refl; offered = refl; restarts = refl }

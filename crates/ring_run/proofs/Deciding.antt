@@ -20,14 +20,14 @@ use Rattle.watch_prop.specs.WatchData.{WatchData, attached, clauses_of}
 use Rattle.watch_prop.specs.Propagation.{IsQuiet, attached_at}
 use Rattle.watch_prop.proofs.TrailLaws.{Watched-decide}
 use Rattle.ring_run.specs.Ended.{IsModelOf}
-use Rattle.ring_run.specs.Searching.{GoesOn, IsOver, AreFirst}
-use Rattle.ring_run.specs.Finding.{Searches, InSearch, FoundBy, IsAnswerOf}
+use Rattle.ring_run.specs.Searching.{GoesOn, AreFirst}
+use Rattle.ring_run.specs.Ending.{EndsBy}
+use Rattle.ring_run.specs.Course.{Searches, InSearch}
 use Rattle.ring_run.specs.declared.search.Ring.{Ring}
-use Rattle.ring_run.specs.declared.search.Finding.{Finding}
-use Rattle.ring_run.specs.declared.search.Finding.TheVariants.{Model, Refuted, Spent, Stopped, Refused}
+use Rattle.ring_run.specs.declared.job.End.TheVariants.{Sat}
 use Rattle.ring_run.proofs.Remembering.{stands_there}
 use Rattle.ring_run.proofs.Standing.{within_more}
-use Rattle.ring_run.proofs.Progress.{out_of_memory}
+use Rattle.ring_run.proofs.Progress.{usable_none}
 use Rattle.ring_run.proofs.Telling.{told_step, told_model}
 
 pub decided_search : (s : PortState) (t : TrailData) (w : WatchData) (n : ℕ) (l : Literal) → Searches s t w n → IsQuiet w (lits_at s) t → AreFirst t n → IsTrail (decided t l) → Searches s (decided t l) w n
@@ -57,8 +57,8 @@ true_clause a (k ∷ c) l h e =
     ]
 
 -- each variable has a value
-abbrev pub IsFull : TrailData → Type 0
-IsFull t = (v : ℕ) → 1 ≤ v → v ≤ t.vars → IsSome (value_of t.steps v)
+abbrev pub HasAllValues : TrailData → Type 0
+HasAllValues t = (v : ℕ) → 1 ≤ v → v ≤ t.vars → IsSome (value_of t.steps v)
 
 true_within : (steps : List Step) (k : ℕ) (l : Literal) → TrueWithin steps k l → IsTrueOn steps l
 true_within steps k l w = record { place = w.place; before = w.in_range; true_there = w.true_there }
@@ -74,7 +74,7 @@ one_of_two k l e = by k.neg l.neg refl refl
     by false false p q = inl (same_lit k l e (p ∙ sym q))
 
 -- a clause that is closed at the present level of a full trail is true
-closed_true : (t : TrailData) (a : List Bool) (c : List Literal) → IsTrail t → IsFull t → ((l : Literal) → IsTrueOn t.steps l → lit_true a l ≡ true) → All (IsOn t.vars) c → IsClosedClause c t.steps t.level
+closed_true : (t : TrailData) (a : List Bool) (c : List Literal) → IsTrail t → HasAllValues t → ((l : Literal) → IsTrueOn t.steps l → lit_true a l ≡ true) → All (IsOn t.vars) c → IsClosedClause c t.steps t.level
     → clause_true a c ≡ true
 closed_true t a c shape full all on (inl p) = true_clause a c p.lit p.has_lit (all p.lit (true_within t.steps t.level p.lit p.within))
 closed_true t a c shape full all on (inr p) = by (value_of t.steps p.one.var) refl (full p.one.var here.low here.high)
@@ -93,7 +93,7 @@ closed_true t a c shape full all on (inr p) = by (value_of t.steps p.one.var) re
           | inr e ↦ absurd (p.one_open (record { place = at.0; in_range = at.1; true_there = e; level = shape.within at.0 at.1 }))
         ]
 
-pub full_model : (start s : PortState) (t : TrailData) (w : WatchData) (n k : ℕ) (a : List Bool) → Searches s t w k → GoesOn start s n → IsQuiet w (lits_at s) t → IsFull t
+pub full_model : (start s : PortState) (t : TrailData) (w : WatchData) (n k : ℕ) (a : List Bool) → Searches s t w k → GoesOn start s n → IsQuiet w (lits_at s) t → HasAllValues t
     → length a ≡ t.vars → ((l : Literal) → IsTrueOn t.steps l → lit_true a l ≡ true) → IsModelOf s a
 full_model start s t w n k a p goes quiet full long all = record {
   long = long ∙ p.stands.vars;
@@ -115,12 +115,16 @@ full_model start s t w n k a p goes quiet full long all = record {
         closed_true t a h.lits p.trail full all (subst (λ (v : ℕ). All (IsOn v) h.lits) (sym p.stands.vars) kept.on)
         (subst (λ (c : List Literal). IsClosedClause c t.steps t.level) lits (quiet.closed t.level (lits_at s h.address) inside))
 
-pub answer_found : (s : PortState) (ring : Ring) (limit : ℕ) (finding : Finding) → InSearch s ring → ring.learned < limit → IsQuiet ring.watches (lits_at s) ring.trail → AreFirst ring.trail ring.written → IsFull ring.trail
-    → IsAnswerOf ring.trail finding → FoundBy s ring.learned s ring.learned limit finding
-answer_found s ring limit (Model a) p below quiet first full found = λ start goes.
-    (goes, full_model start s ring.trail ring.watches ring.learned ring.written a p goes quiet full found.0 found.1, below, told_model s ring.trail ring.watches ring.written p quiet first)
-answer_found s ring limit Refuted p below quiet first full found = absurd found
-answer_found s ring limit Spent p below quiet first full found = absurd found
-answer_found s ring limit (Stopped x) p below quiet first full found = absurd found
-answer_found s ring limit (Refused stop) p below quiet first full found = λ start goes.
-    (subst (IsOver start s ring.learned) (sym found) (out_of_memory start s ring.learned goes), below)
+pub model_found : (s : PortState) (ring : Ring) (limit : ℕ) (a : List Bool) → InSearch s ring → ring.learned < limit → IsQuiet ring.watches (lits_at s) ring.trail → AreFirst ring.trail ring.written → HasAllValues ring.trail
+    → length a ≡ ring.trail.vars → ((l : Literal) → IsTrueOn ring.trail.steps l → lit_true a l ≡ true) → EndsBy s ring.learned s ring.learned limit (Sat a)
+model_found s ring limit a p below quiet first full long all = λ start goes. record {
+  runs = goes.runs;
+  cause = (
+    full_model start s ring.trail ring.watches ring.learned ring.written a p goes quiet full long all,
+    usable_none s goes.refused,
+    told_model s ring.trail ring.watches ring.written p quiet first,
+    goes.going,
+  );
+  unset = goes.stop;
+  counts = below;
+}

@@ -12,7 +12,7 @@ use Rattle.rup_model.specs.Journal.{book, is_told}
 use Rattle.rup_model.specs.Opening.{is_rulers, IsRulersPart, IsStart}
 use Rattle.ring_port.specs.PortState.{Holding, IsOn}
 use Rattle.ring_port.specs.PlainPort.{starts_of}
-use Rattle.ring_run.specs.Problems.{IsReady, lit, square, square_starts, chain, chain_starts, chain_units, triples, triples_starts, opposed, opposed_units, row, row_starts}
+use Rattle.ring_run.specs.Problems.{CanStart, lit, square, square_starts, chain, chain_starts, chain_units, triples, triples_starts, opposed, opposed_units, row, row_starts}
 
 -- before the ruler has written anything
 no_entries : (F : List (List Literal)) → IsRulersPart F []
@@ -39,11 +39,11 @@ addresses (c ∷ cs) (h ∷ hs) e =
 
 -- what is equal to one that is ready
 pub same_ready : (f g : FormulaData) (starts starts2 : List (ℕ × List Literal)) (units units2 : List Literal) → f ≡ g → starts ≡ starts2 → units ≡ units2
-    → IsReady g.clauses starts2 units2 g.vars → IsReady f.clauses starts units f.vars
+    → CanStart g.clauses starts2 units2 g.vars → CanStart f.clauses starts units f.vars
 same_ready f g starts starts2 units units2 same_formula same_starts same_units p =
-    subst (λ (x : FormulaData). IsReady x.clauses starts units x.vars) (sym same_formula)
-    (subst (λ (x : List (ℕ × List Literal)). IsReady g.clauses x units g.vars) (sym same_starts)
-    (subst (λ (x : List Literal). IsReady g.clauses starts2 x g.vars) (sym same_units) p))
+    subst (λ (x : FormulaData). CanStart x.clauses starts units x.vars) (sym same_formula)
+    (subst (λ (x : List (ℕ × List Literal)). CanStart g.clauses x units g.vars) (sym same_starts)
+    (subst (λ (x : List Literal). CanStart g.clauses starts2 x g.vars) (sym same_units) p))
 
 -- a start clause of two literals
 long : (F : List (List Literal)) (n : ℕ) (k l : Literal) → (book F []).clause n ≡ Some (k ∷ l ∷ []) → distinct_lits (k ∷ l ∷ []) ≡ true → has_opposites (k ∷ l ∷ []) ≡ false
@@ -69,7 +69,7 @@ no_numbers : IsDistinct nat_eq []
 unfolding IsDistinct
 no_numbers = tt
 
-pub square_ready : IsReady square square_starts [] 2
+pub square_ready : CanStart square square_starts [] 2
 square_ready =
     let one = λ (b : Bool). on 2 1 b (omega arith) (omega arith) in
     let two = λ (b : Bool). on 2 2 b (omega arith) (omega arith) in
@@ -100,7 +100,7 @@ square_ready =
       few = omega arith;
     }
 
-pub chain_ready : IsReady chain chain_starts chain_units 4
+pub chain_ready : CanStart chain chain_starts chain_units 4
 chain_ready =
     record {
       opens = record {
@@ -126,7 +126,7 @@ on_three : (b : Bool) → All (IsOn 3) (lit 1 false ∷ lit 2 false ∷ lit 3 b 
 on_three b = All-from_recursion (IsOn 3) (lit 1 false ∷ lit 2 false ∷ lit 3 b ∷ [])
     (on 3 1 false (omega arith) (omega arith), (on 3 2 false (omega arith) (omega arith), (on 3 3 b (omega arith) (omega arith), tt)))
 
-pub triples_ready : IsReady triples triples_starts [] 3
+pub triples_ready : CanStart triples triples_starts [] 3
 triples_ready =
     record {
       opens = record {
@@ -146,7 +146,7 @@ triples_ready =
       few = omega arith;
     }
 
-pub opposed_ready : IsReady opposed [] opposed_units 1
+pub opposed_ready : CanStart opposed [] opposed_units 1
 opposed_ready =
     record {
       opens = record {
@@ -163,7 +163,7 @@ opposed_ready =
       few = omega arith;
     }
 
-pub row_ready : IsReady row row_starts [] 5
+pub row_ready : CanStart row row_starts [] 5
 row_ready =
     let one : IsOn 5 (lit 1 true) = on 5 1 true (omega arith) (omega arith) in
     let four : IsOn 5 (lit 4 true) = on 5 4 true (omega arith) (omega arith) in

@@ -1,6 +1,6 @@
 -- What each call of the port leaves of a run.
 use Rattle.std.proofs.Common.{◌≡◌, ◌∙◌, ℕ, ◌+◌, ◌≤◌, Bool, true, false, List, [], ◌∷◌, ◌++◌, length, map, sym, subst, ap, arith, inl, inr, ◌⊎◌, ◌<◌, Contains, drop, Some, None, IsSome, refl, length-append, slice_index_or, cond, nat_eq, eq-eqb}
-use Rattle.std.specs.Prelude.{All, ◌&&◌, ◌≢◌, MatchOption, IfErr, Result, Ok, Err}
+use Rattle.std.specs.Prelude.{All, ◌&&◌, ◌≢◌, MatchOption, IfSome, IfErr, Result, Ok, Err}
 use Rattle.std.specs.List.{list_any}
 use Rattle.std.specs.declared.option.Option.{Option}
 use Rattle.std.proofs.lemmas.List.{length-map}
@@ -32,9 +32,11 @@ use Rattle.ring_port.specs.Port.{holding_of, Learned, WroteUnit, UnitWritten, Le
 use Rattle.ring_port.specs.Log.{KeepsLog, start_of}
 use Rattle.ring_port.specs.declared.stops.PortStop.{PortStop}
 use Rattle.ring_port.specs.declared.stops.PortStop.TheVariants.{Ended, Broken, ProofFault, NoHole, Memory}
-use Rattle.ring_run.specs.Ended.{Stays, IsOwn, AreNew, IsUntold, IsNewLine, AreNewLines, IsGlued, HoldsGlued, opening_of}
-use Rattle.ring_run.specs.Searching.{Runs, GoesOn, EndsBy, OnlySaw, OnlyWrote, IsOver, IsRefuted, IsNoted, IsNewTo, UnitsSeen, IsGlueOf, HoldsByGlue}
-use Rattle.ring_run.specs.Finding.{IsStoppedBy}
+use Rattle.ring_run.specs.Ended.{Stays, IsOwn, AreNew, IsUntold, IsNewLine, AreNewLines, IsGlued, HoldsGlued, Cause, stop_kind, opening_of}
+use Rattle.ring_run.specs.Searching.{Runs, GoesOn, OnlySaw, OnlyWrote, IsNewTo, UnitsSeen, IsGlueOf, HoldsByGlue}
+use Rattle.ring_run.specs.Ending.{CountsTo, IsUnset, ComesTo, EndsAt, end_refused}
+use Rattle.ring_run.specs.declared.job.End.{End}
+use Rattle.ring_run.specs.declared.job.End.TheVariants as ring_end
 use Rattle.ring_run.proofs.Remembering.{held_same, lits_same, unit_remembered, remembered_same}
 
 pub stays_by : (s u w : PortState) → Stays s u → Stays u w → Stays s w
@@ -242,15 +244,31 @@ same_refused : (s : PortState) (output : Option LineState) (stop : PortStop) →
 same_refused s output Ended = but_noted s (Some Ended) true s.output
 same_refused s output Broken = but_noted s (Some Broken) s.ended s.output
 same_refused s output ProofFault = but_noted s (Some ProofFault) s.ended output
-same_refused s output (NoHole need largest) = but_noted s (Some (NoHole need largest)) s.ended s.output
+same_refused s output (NoHole lack) = but_noted s (Some (NoHole lack)) s.ended s.output
 same_refused s output Memory = but_noted s s.refused s.ended s.output
 
-noted_refused : (s : PortState) (output : Option LineState) (stop : PortStop) → HasReason s stop → is_usable s.refused ≡ true → IsNoted (after_refusal s output stop) stop
-noted_refused s output Ended reason usable = (refl, refl)
-noted_refused s output Broken reason usable = refl
-noted_refused s output ProofFault reason usable = refl
-noted_refused s output (NoHole need largest) reason usable = (refl, reason.1)
-noted_refused s output Memory reason usable = usable
+-- what a refusal leaves is the cause of an end
+refused_cause : (s : PortState) (output : Option LineState) (stop : PortStop) → HasReason s stop → is_usable s.refused ≡ true → list_any is_empty (added s.mine) ≡ false → Cause (after_refusal s output stop) (end_refused stop)
+refused_cause s output Ended reason usable going = (refl, refl)
+refused_cause s output Broken reason usable going = (refl, going)
+refused_cause s output ProofFault reason usable going = (refl, going)
+refused_cause s output (NoHole lack) reason usable going = (refl, reason.1, going)
+refused_cause s output Memory reason usable going = (usable, going)
+
+refused_counts : (n limit : ℕ) (stop : PortStop) → n < limit → CountsTo n limit (end_refused stop)
+refused_counts n limit Ended below = below
+refused_counts n limit Broken below = below
+refused_counts n limit ProofFault below = below
+refused_counts n limit (NoHole lack) below = below
+refused_counts n limit Memory below = below
+
+-- where no stop is known, none was set
+unset : (s : PortState) (end : End) → s.stop ≡ None → IsUnset s end
+unset s end none = by (stop_kind end)
+  where
+    by : (o : Option ℕ) → IfSome o (λ kind. s.stop ≡ None)
+    by None = tt
+    by (Some kind) = none
 
 -- where nothing has been refused the port may be used
 pub usable_none : (s : PortState) → s.refused ≡ None → is_usable s.refused ≡ true
@@ -273,22 +291,31 @@ stays_same s u p log = record {
 }
 
 -- memory ran out in the ring
-pub out_of_memory : (start s : PortState) (n : ℕ) → GoesOn start s n → IsOver start s n Memory
-out_of_memory start s n p = record { runs = p.runs; stop_is = p.stop; noted = usable_none s p.refused; going = p.going }
+pub out_of_memory : (start s : PortState) (n limit : ℕ) → n < limit → GoesOn start s n → ComesTo start s n limit ring_end.Memory
+out_of_memory start s n limit below p = record { runs = p.runs; cause = (usable_none s p.refused, p.going); unset = p.stop; counts = below }
 
-pub refused_over : (start s u : PortState) (n : ℕ) (stop : PortStop) → GoesOn start s n → Refused s u stop → KeepsLog s u → IsPort u → IsOver start u n stop
-refused_over start s u n stop p r log port =
+-- the ring has learned its limit of lemmas
+pub spent : (start s : PortState) (n limit : ℕ) → n ≡ limit → GoesOn start s n → ComesTo start s n limit ring_end.Spent
+spent start s n limit is p = record {
+  runs = p.runs;
+  cause = record { held = p.held; stop = p.stop; going = p.going; usable = usable_none s p.refused };
+  unset = tt;
+  counts = is;
+}
+
+pub refused_ends : (start s u : PortState) (n limit : ℕ) (stop : PortStop) → n < limit → GoesOn start s n → Refused s u stop → KeepsLog s u → IsPort u → ComesTo start u n limit (end_refused stop)
+refused_ends start s u n limit stop below p r log port =
     let same : Same s u = subst (Same s) (sym r.state) (same_refused s u.output stop) in
     record {
       runs = runs_same start s u n p.runs (stays_same s u same log) same.held same.mine (lines_moved s u s.mine (stays_same s u same log) same.given same.mine p.runs.new_lines) port;
-      stop_is = same.stop ∙ p.stop;
-      noted = subst (λ (x : PortState). IsNoted x stop) (sym r.state) (noted_refused s u.output stop r.reason (usable_none s p.refused));
-      going = ap (λ (mine : List Entry). list_any is_empty (added mine)) same.mine ∙ p.going;
+      cause = subst (λ (x : PortState). Cause x (end_refused stop)) (sym r.state) (refused_cause s u.output stop r.reason (usable_none s p.refused) p.going);
+      unset = unset u (end_refused stop) (same.stop ∙ p.stop);
+      counts = refused_counts n limit stop below;
     }
 
-pub unit_over : (s u : PortState) (l : Literal) (r : Result (Unit {0}) PortStop) → UnitWritten s u l r → KeepsLog s u → IsPort u → IfErr r (EndsBy s u)
+pub unit_over : (s u : PortState) (l : Literal) (r : Result (Unit {0}) PortStop) → UnitWritten s u l r → KeepsLog s u → IsPort u → IfErr r (λ stop. EndsAt s u (end_refused stop))
 unit_over s u l (Ok done) w log port = tt
-unit_over s u l (Err stop) w log port = λ start n p. refused_over start s u n stop p w log port
+unit_over s u l (Err stop) w log port = λ n limit below start p. refused_ends start s u n limit stop below p w log port
 
 -- and leaves how often no stop was found
 pub refused_looks : (s u : PortState) (stop : PortStop) → Refused s u stop → u.looks ≡ s.looks
@@ -404,8 +431,8 @@ unit_learned_goes_on start s u n lits p clause fresh w kept log port =
     (ap (λ (x : PortState). x.given) wrote.state) (glued_same s u (ap (λ (x : PortState). x.held) wrote.state)) (ap (λ (x : PortState). x.stop) wrote.state) (ap (λ (x : PortState). x.refused) wrote.state) kept port
 
 -- the empty clause
-pub empty_refutes : (start s u : PortState) (n : ℕ) → GoesOn start s n → EndedLog s u → KeepsLog s u → IsPort u → IsRefuted start u n
-empty_refutes start s u n p w log port =
+pub empty_refutes : (start s u : PortState) (n limit : ℕ) → n < limit → GoesOn start s n → EndedLog s u → KeepsLog s u → IsPort u → ComesTo start u n limit ring_end.Refuted
+empty_refutes start s u n limit below p w log port =
     let e : Entry = entry_of s w.number [] Derive in
     let stays : Stays s u = record {
       start = ap (λ (x : PortState). x.start) w.state;
@@ -426,9 +453,9 @@ empty_refutes start s u n p w log port =
           (p.runs.stays.ring, All-nil (IsOn start.vars), refl)
           (omega (arith, not_learned s.ring (record { ring = s.ring; number = w.number; lits = []; kind = Derive }) refl)) (λ learns. absurd (false≢true learns))
           (ap (λ (x : PortState). x.given) w.state) (λ is_line. absurd (false≢true is_line)) (glued_same s u (ap (λ (x : PortState). x.held) w.state)) port;
-      stop = ap (λ (x : PortState). x.stop) w.state ∙ p.stop;
-      ended = ap (λ (x : PortState). x.ended) w.state;
-      usable = usable_none u (ap (λ (x : PortState). x.refused) w.state ∙ p.refused);
+      cause = (ap (λ (x : PortState). x.ended) w.state, usable_none u (ap (λ (x : PortState). x.refused) w.state ∙ p.refused));
+      unset = ap (λ (x : PortState). x.stop) w.state ∙ p.stop;
+      counts = below;
     }
 
 -- a run that has seen units
@@ -527,11 +554,12 @@ runs_stopped start s u n stop p is log port =
     } in
     runs_same start s u n p stays (ap (λ (x : PortState). x.held) is) (ap (λ (x : PortState). x.mine) is) (lines_moved s u s.mine stays (ap (λ (x : PortState). x.given) is) (ap (λ (x : PortState). x.mine) is) p.new_lines) port
 
-pub stop_seen : (start s u : PortState) (n : ℕ) (x : Stop) → GoesOn start s n → Looked s u (Some x) → KeepsLog s u → IsPort u → IsStoppedBy start u n x
-stop_seen start s u n x p looked log port =
+pub stop_seen : (start s u : PortState) (n limit : ℕ) (x : Stop) → n < limit → GoesOn start s n → Looked s u (Some x) → KeepsLog s u → IsPort u → ComesTo start u n limit (ring_end.Stopped x)
+stop_seen start s u n limit x below p looked log port =
     let others : x.ring ≢ s.ring = subst (λ (o : Option Stop). MatchOption o (x.ring ≢ s.ring) (λ y. x ≡ y)) p.stop looked.0 in
     record {
       runs = runs_stopped start s u n (Some x) p.runs looked.1 log port;
-      stop = ap (λ (y : PortState). y.stop) looked.1;
-      others = λ e. others (e ∙ ap (λ (y : PortState). y.ring) looked.1);
+      cause = (ap (λ (y : PortState). y.stop) looked.1, λ e. others (e ∙ ap (λ (y : PortState). y.ring) looked.1));
+      unset = tt;
+      counts = below;
     }

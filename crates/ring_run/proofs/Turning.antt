@@ -1,6 +1,6 @@
 -- Steps of a search, one after another.
-use Rattle.std.proofs.Common.{◌≡◌, ◌∙◌, ℕ, ◌+◌, ◌-◌, ◌*◌, ◌<◌, ◌≤◌, ◌⊎◌, inl, inr, List, [], map, length, sym, subst, ap, arith, Some, None, IsSome, Contains, get_or}
-use Rattle.std.specs.Prelude.{All, MatchOption}
+use Rattle.std.proofs.Common.{◌≡◌, ◌∙◌, ℕ, ◌+◌, ◌-◌, ◌*◌, ◌<◌, ◌≤◌, ◌⊎◌, inl, inr, List, [], map, length, sym, subst, ap, arith, None, IsSome, Contains, get_or}
+use Rattle.std.specs.Prelude.{All}
 use Rattle.std.specs.declared.option.Option.{Option}
 use Rattle.sat_words.specs.Literal.{Literal}
 use Rattle.sat_words.specs.Clause.{has}
@@ -17,9 +17,10 @@ use Rattle.watch_prop.proofs.TrailLaws.{Reasons-more, Reasons-held}
 use Rattle.ring_run.specs.Ended.{Stays}
 use Rattle.ring_run.specs.Searching.{IsHeldBy, HasClauses, Remembers, Stands, AreTold, OnlySaw, OnlyWrote, OpeningSeen, GoesOn}
 use Rattle.ring_port.specs.Log.{KeepsLog}
-use Rattle.ring_run.specs.Finding.{Searches, InSearch, IsBegun, GoesOnBy, FoundBy, IsFurther}
+use Rattle.ring_run.specs.Course.{Searches, InSearch, IsBegun, Leads, IsFurther}
 use Rattle.ring_run.specs.declared.search.Ring.{Ring}
-use Rattle.ring_run.specs.declared.search.Finding.{Finding}
+use Rattle.ring_run.specs.declared.search.Course.{Course}
+use Rattle.ring_run.specs.declared.search.Course.TheVariants.{On, Over}
 use Rattle.ring_run.proofs.Remembering.{held_same, lits_same, clause_at_same, remembered_same}
 use Rattle.ring_run.proofs.Standing.{within_more, reasoned_more}
 use Rattle.ring_run.proofs.Progress.{starts_kept, looked_wrote}
@@ -110,11 +111,10 @@ grown_search s u t v w x n p is shape same grown reasons watched = subst (λ (y 
 })
 
 -- one step after another
-pub compose : (r : Option Finding) (s middle u : PortState) (old between new : Ring) (limit : ℕ) → ((start : PortState) → GoesOn start s old.learned → GoesOn start middle between.learned)
-    → MatchOption r (GoesOnBy middle between u new limit) (FoundBy middle between.learned u new.learned limit)
-    → MatchOption r (GoesOnBy s old u new limit) (FoundBy s old.learned u new.learned limit)
-compose None s middle u old between new limit to p = record { search = p.search; below = p.below; goes = λ start q. p.goes start (to start q) }
-compose (Some finding) s middle u old between new limit to p = λ start q. p start (to start q)
+pub compose : (course : Course) (s middle u : PortState) (old between new : Ring) (limit : ℕ) → ((start : PortState) → GoesOn start s old.learned → GoesOn start middle between.learned)
+    → Leads middle between u new limit course → Leads s old u new limit course
+compose On s middle u old between new limit to p = record { search = p.search; below = p.below; goes = λ start q. p.goes start (to start q) }
+compose (Over end) s middle u old between new limit to p = λ start q. p start (to start q)
 
 -- a lemma more, or a longer trail, leaves less to do
 less_left : (limit n m vars k j : ℕ) → n < limit → k ≤ vars → (m ≡ n + 1) ⊎ ((m ≡ n) × (k < j)) → j ≤ vars

@@ -1,5 +1,5 @@
 -- What a run of a ring says: what it asks of its port, what it wrote, and what each end says.
-use Rattle.std.specs.Prelude.{◌≡◌, ◌≢◌, ◌≤◌, ◌<◌, ◌⊎◌, ℕ, ◌-◌, ◌^◌, min, Bool, true, false, List, [], ◌∷◌, ◌++◌, map, length, All, Contains, Some, None, IfSome}
+use Rattle.std.specs.Prelude.{◌≡◌, ◌≢◌, ◌≤◌, ◌<◌, ◌⊎◌, ℕ, ◌-◌, ◌^◌, min, Bool, true, false, List, [], ◌∷◌, ◌++◌, map, length, All, Contains, Option, Some, None, IfSome}
 use Rattle.std.specs.List.{list_any}
 use Rattle.sat_words.specs.Literal.{Literal}
 use Rattle.sat_words.specs.Clause.{has, is_empty}
@@ -126,12 +126,7 @@ HoldsGlued old new = (h : Holding) → Contains new.held h → Contains old.held
 -- a model comes after one look more
 abbrev pub last_looks : End → ℕ
 last_looks (Sat a) = 1
-last_looks Refuted = 0
-last_looks Spent = 0
-last_looks (Stopped x) = 0
-last_looks (NoHole need largest) = 0
-last_looks ProofFault = 0
-last_looks Memory = 0
+last_looks _ = 0
 
 -- as many looks as this were made and found no stop, or their count stands at its last value
 abbrev pub HasLooked : ℕ → PortState → Type 0
@@ -156,7 +151,7 @@ pub record IsModelOf (s : PortState) (a : List Bool) : Type 0 where
   pub seen : All (λ l. lit_true a l ≡ true) s.seen
 
 -- each start clause is still held; the ring saw no stop, set none and did not end the log, and no line has failed
-pub record IsSpent (s : PortState) : Type 0 where
+pub record IsIntact (s : PortState) : Type 0 where
   pub held : HoldsStart s
   pub stop : s.stop ≡ None
   pub going : list_any is_empty (added s.mine) ≡ false
@@ -166,13 +161,28 @@ pub record IsSpent (s : PortState) : Type 0 where
 abbrev pub IsGoing : PortState → Type 0
 IsGoing s = list_any is_empty (added s.mine) ≡ false
 
+-- the kind of stop that an end sets: none where the ring is spent, or where another ring's stop was seen
+abbrev pub stop_kind : End → Option ℕ
+stop_kind (Sat a) = Some STOP_SAT
+stop_kind Refuted = Some STOP_REFUTED
+stop_kind Spent = None
+stop_kind (Stopped x) = None
+stop_kind (NoHole lack) = Some STOP_ROOM
+stop_kind ProofFault = Some STOP_PROOF
+stop_kind Memory = Some STOP_MEMORY
+
 -- the cause of each end; at a model all that is true for good is seen; no line has failed but at `ProofFault`, and perhaps at
 -- `Stopped`; the ring added the empty clause at none but `Refuted`, and perhaps `Stopped`
-abbrev pub Ends : PortState → End → Type 0
-Ends s (Sat a) = IsModelOf s a × HasWon s STOP_SAT × (is_usable s.refused ≡ true) × IsTold s × IsGoing s
-Ends s Refuted = (s.ended ≡ true) × HasWon s STOP_REFUTED × (is_usable s.refused ≡ true)
-Ends s Spent = IsSpent s
-Ends s (Stopped x) = (s.stop ≡ Some x) × (x.ring ≢ s.ring)
-Ends s (NoHole need largest) = (s.refused ≡ Some (NoHoleAnswer need largest)) × (largest < need) × HasWon s STOP_ROOM × IsGoing s
-Ends s ProofFault = (is_usable s.refused ≡ false) × HasWon s STOP_PROOF × IsGoing s
-Ends s Memory = HasWon s STOP_MEMORY × (is_usable s.refused ≡ true) × IsGoing s
+abbrev pub Cause : PortState → End → Type 0
+Cause s (Sat a) = IsModelOf s a × (is_usable s.refused ≡ true) × IsTold s × IsGoing s
+Cause s Refuted = (s.ended ≡ true) × (is_usable s.refused ≡ true)
+Cause s Spent = IsIntact s
+Cause s (Stopped x) = (s.stop ≡ Some x) × (x.ring ≢ s.ring)
+Cause s (NoHole lack) = (s.refused ≡ Some (NoHoleAnswer lack)) × (lack.largest < lack.need) × IsGoing s
+Cause s ProofFault = (is_usable s.refused ≡ false) × IsGoing s
+Cause s Memory = (is_usable s.refused ≡ true) × IsGoing s
+
+-- the end has its cause, and the stop that it sets stands
+pub record Ends (s : PortState) (end : End) : Type 0 where
+  pub cause : Cause s end
+  pub won : IfSome (stop_kind end) (HasWon s)

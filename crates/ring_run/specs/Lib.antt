@@ -1,6 +1,6 @@
 pub mod Ended
 pub mod Searching
-pub mod Finding
 pub mod Ending
+pub mod Course
 pub mod Problems
 pub mod Crowd

@@ -8,7 +8,7 @@ use Rattle.ring_port.specs.PortState.{IsOn}
 use Rattle.ring_port.specs.PlainPort.{starts_of}
 
 -- a search may start from these, where no line stands yet
-pub record IsReady (clauses : List (List Literal)) (starts : List (ℕ × List Literal)) (units : List Literal) (vars : ℕ) : Type 0 where
+pub record CanStart (clauses : List (List Literal)) (starts : List (ℕ × List Literal)) (units : List Literal) (vars : ℕ) : Type 0 where
   pub opens : IsOpening clauses (record { journal = []; starts = starts_of starts; units = units })
   pub going : list_any is_empty clauses ≡ false
   pub starts_on : All (λ s. All (IsOn vars) s.1) starts

@@ -1,5 +1,5 @@
 -- What a search keeps of its port and its trail.
-use Rattle.std.specs.Prelude.{◌≡◌, ◌⊎◌, ℕ, ◌<◌, ◌≤◌, true, false, List, [], ◌∷◌, map, length, drop, All, Contains, Some, None, IsSome}
+use Rattle.std.specs.Prelude.{◌≡◌, ◌⊎◌, ℕ, ◌<◌, ◌≤◌, true, false, List, [], ◌∷◌, map, length, drop, All, Contains, None, IsSome}
 use Rattle.std.specs.List.{list_any}
 use Rattle.sat_words.specs.Literal.{Literal}
 use Rattle.sat_words.specs.Clause.{has, is_empty}
@@ -7,9 +7,7 @@ use Rattle.sat_words.specs.declared.shared.Cref.{Cref}
 use Rattle.rup_model.specs.Journal.{added, learned, recent}
 use Rattle.rup_model.specs.Opening.{adds_unit, is_new}
 use Rattle.rup_model.specs.Rup.{rup}
-use Rattle.ring_port.specs.Port.{is_usable, IsClause, IsFreshClause, KeepsHeld}
-use Rattle.ring_port.specs.declared.stops.PortStop.{PortStop}
-use Rattle.ring_port.specs.declared.stops.PortStop.TheVariants.{Ended, Broken, ProofFault, NoHole, Memory}
+use Rattle.ring_port.specs.Port.{IsClause, IsFreshClause, KeepsHeld}
 use Rattle.ring_port.specs.PortState.{PortState, Holding, HoldsStart, IsPort, held_at, lits_at, known, clause_at}
 use Rattle.ring_trail.specs.declared.step.Step.{Step}
 use Rattle.ring_trail.specs.TrailData.{TrailData, IsFalseOn, lit_at, level_at, reason_at}
@@ -130,35 +128,9 @@ pub record GoesOn (start s : PortState) (count : ℕ) : Type 0 where
   pub refused : s.refused ≡ None
   pub held : HoldsStart s
 
--- what a refusal leaves
-abbrev pub IsNoted : PortState → PortStop → Type 0
-IsNoted s Ended = (s.ended ≡ true) × (is_usable s.refused ≡ true)
-IsNoted s Broken = is_usable s.refused ≡ false
-IsNoted s ProofFault = is_usable s.refused ≡ false
-IsNoted s (NoHole need largest) = (s.refused ≡ Some (NoHole need largest)) × (largest < need)
-IsNoted s Memory = is_usable s.refused ≡ true
-
--- a call of the port was refused
-pub record IsOver (start s : PortState) (count : ℕ) (stop : PortStop) : Type 0 where
-  pub runs : Runs start s count
-  pub stop_is : s.stop ≡ None
-  pub noted : IsNoted s stop
-  pub going : list_any is_empty (added s.mine) ≡ false
-
--- the log is ended
-pub record IsRefuted (start s : PortState) (count : ℕ) : Type 0 where
-  pub runs : Runs start s count
-  pub stop : s.stop ≡ None
-  pub ended : s.ended ≡ true
-  pub usable : is_usable s.refused ≡ true
-
 -- a run that goes on in one state does so in the other, with as many lemmas
 abbrev pub KeepsOn : PortState → PortState → Type 0
 KeepsOn old new = (start : PortState) (count : ℕ) → GoesOn start old count → GoesOn start new count
-
--- a run that goes on in one state is over in the other, by a refusal
-abbrev pub EndsBy : PortState → PortState → PortStop → Type 0
-EndsBy old new stop = (start : PortState) (count : ℕ) → GoesOn start old count → IsOver start new count stop
 
 -- the clause is new to the port and to the journal
 pub record IsNewTo (s : PortState) (c : List Literal) : Type 0 where

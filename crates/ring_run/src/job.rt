@@ -1,7 +1,7 @@
 // What a ring is told to do, and what it reports.
 ghost use Rattle.std.specs.Prelude.{◌≡◌};
 
-use sat_words::{Assignment, Cref, Stop};
+use sat_words::{Assignment, Cref, NoRoom, Stop};
 use std::marker::Model;
 
 /// Addresses of clauses, in order.
@@ -75,12 +75,7 @@ pub enum End {
     /// The stop of another ring was seen.
     Stopped(Stop),
     /// There was no room for a clause, or for one more entry of the log.
-    NoHole {
-        /// How much was needed: words of the clause, or entries.
-        need: u64,
-        /// How much there was at most, which is less.
-        largest: u64,
-    },
+    NoHole(NoRoom),
     /// Writing the log failed, now or before; its writer's fault count rose.
     ProofFault,
     /// Memory ran out.

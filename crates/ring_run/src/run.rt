@@ -1,20 +1,18 @@
 // A run of a ring, from its job to its end.
-ghost use Rattle.std.specs.Prelude.{◌≡◌, ◌≤◌, ◌<◌, ◌+◌, ◌++◌, ◌^◌, ◌↔◌, All, IfOk, OnOk, [], None, false};
-ghost use Rattle.sat_words.specs.declared.shared.TheConstants.{STOP_SAT, STOP_REFUTED, STOP_MEMORY};
+ghost use Rattle.std.specs.Prelude.{◌≡◌, ◌≤◌, ◌<◌, ◌+◌, ◌++◌, ◌^◌, ◌↔◌, All, IfOk, OnOk, []};
 ghost use Rattle.ring_port.specs.PortState.{IsPort, lits_at};
 ghost use Rattle.ring_port.specs.Port.{KeepsHeld};
 ghost use Rattle.ring_trail.specs.TrailData.{TrailData, IsTrail};
 ghost use Rattle.watch_prop.specs.WatchData.{attached};
 ghost use Rattle.watch_prop.specs.Watched.{Watched, IsFresh};
-ghost use Rattle.ring_run.specs.Ended.{IsJobOf, IsUntouched, Stays, IsOwn, IsCounted, AreNew, AreNewLines, HoldsGlued, HasLooked, last_looks, IsGoing, Ends};
-ghost use Rattle.ring_run.specs.Searching.{IsHeldBy, IsNoted};
-ghost use Rattle.ring_run.specs.Finding.{looked_for};
-ghost use Rattle.ring_run.specs.Ending.{Cause, kind_of, KeepsRuns, IsFinding, is_spent, has_spent};
+ghost use Rattle.ring_run.specs.Ended.{IsJobOf, IsUntouched, Stays, IsOwn, IsCounted, AreNew, AreNewLines, HoldsGlued, HasLooked, last_looks, stop_kind, Cause, Ends};
+ghost use Rattle.ring_run.specs.Searching.{IsHeldBy};
+ghost use Rattle.ring_run.specs.Ending.{ComesTo, IsUnset, KeepsRuns};
 
 use crate::job::{Counts, End, Job};
-use crate::search::{Finding, Ring, search};
+use crate::search::{Ring, search};
 use analyze::Analysis;
-use ring_port::{Port, PortStop, Set};
+use ring_port::{Port, Set};
 use ring_trail::Trail;
 use sat_words::{Cref, STOP_MEMORY, STOP_PROOF, STOP_REFUTED, STOP_ROOM, STOP_SAT};
 use std::alloc::{AllocError, Global};
@@ -50,21 +48,33 @@ pub fn run_ring<P: Port>(alloc: Global, port: &mut P, job: &Job) -> (End, Counts
     ensures ends { Ends (P.state port.new) result.0 }
     ensures port { IsPort (P.state port.new) }
 {
-    let mut counts = Counts {
-        learned: 0,
+    let (end, learned) = run_job(alloc, port, job);
+    let counts = Counts {
+        learned,
         exported: 0,
         offered: 0,
         restarts: 0,
     };
+    (claim(port, end), counts)
+}
+
+/// Makes a ring and searches. Answers the end, whose stop is not set yet, and how many lemmas were learned.
+fn run_job<P: Port>(alloc: Global, port: &mut P, job: &Job) -> (End, u64)
+    requires job { IsJobOf (P.state port.old) job.now }
+    requires untouched { IsUntouched (P.state port.old) }
+    requires port { IsPort (P.state port.old) }
+    ensures ends { ComesTo (P.state port.old) (P.state port.new) result.1 job.now.conflicts result.0 }
+    ensures looked { HasLooked ((P.state port.old).looks + result.1 + last_looks result.0) (P.state port.new) }
+    ensures port { IsPort (P.state port.new) }
+{
     let Ok(mut ring) = make_ring(alloc, port, job) else {
-        return (end_refused(port, PortStop::Memory), counts);
+        return (End::Memory, 0);
     };
     let Ok(mut analysis) = Analysis::new(alloc, job.vars) else {
-        return (end_refused(port, PortStop::Memory), counts);
+        return (End::Memory, 0);
     };
-    let finding = search(alloc, port, &mut ring, &mut analysis, job.conflicts);
-    counts.learned = ring.learned;
-    (end_of(port, finding), counts)
+    let end = search(alloc, port, &mut ring, &mut analysis, job.conflicts);
+    (end, ring.learned)
 }
 
 /// Attaches clauses that are held, in their order.
@@ -110,64 +120,37 @@ pub(crate) fn make_ring<P: Port>(alloc: Global, port: &mut P, job: &Job) -> Resu
     })
 }
 
-/// The end, if its stop is the first; else that of the ring whose stop stands.
-fn claim<P: Port>(port: &mut P, kind: u8, end: End) -> End
-    requires kind { kind ≡ kind_of end }
-    requires low { STOP_SAT ≤ kind }
-    requires high { kind ≤ STOP_MEMORY }
+/// The kind of stop that the end sets.
+fn stop_kind(end: &End) -> Option<u8>
+    ensures { result ≡ stop_kind end.now }
+{
+    match end {
+        End::Sat(_) => Some(STOP_SAT),
+        End::Refuted => Some(STOP_REFUTED),
+        End::Spent | End::Stopped(_) => None,
+        End::NoHole(_) => Some(STOP_ROOM),
+        End::ProofFault => Some(STOP_PROOF),
+        End::Memory => Some(STOP_MEMORY),
+    }
+}
+
+/// Sets the stop of an end that sets one. Where another ring's stands, that is the end.
+fn claim<P: Port>(port: &mut P, end: End) -> End
     requires cause { Cause (P.state port.old) end }
-    requires stop { (P.state port.old).stop ≡ None }
+    requires unset { IsUnset (P.state port.old) end }
+    requires port { IsPort (P.state port.old) }
     ensures ends { Ends (P.state port.new) result }
     ensures runs { KeepsRuns (P.state port.old) (P.state port.new) }
-    ensures spent { is_spent result ≡ false }
+    ensures spent { (result ≡ End.Spent) ↔ (end ≡ End.Spent) }
     ensures looks { (P.state port.new).looks ≡ (P.state port.old).looks }
     ensures looked { last_looks result ≤ last_looks end }
     ensures port { IsPort (P.state port.new) }
 {
+    let Some(kind) = stop_kind(&end) else {
+        return end;
+    };
     match port.stop(kind) {
         Set::Won => end,
         Set::Lost(stop) => End::Stopped(stop),
-    }
-}
-
-/// The end of a ring whose port has refused a call.
-fn end_refused<P: Port>(port: &mut P, stop: PortStop) -> End
-    requires noted { IsNoted (P.state port.old) stop }
-    requires stop { (P.state port.old).stop ≡ None }
-    requires going { IsGoing (P.state port.old) }
-    ensures ends { Ends (P.state port.new) result }
-    ensures runs { KeepsRuns (P.state port.old) (P.state port.new) }
-    ensures spent { is_spent result ≡ false }
-    ensures looks { (P.state port.new).looks ≡ (P.state port.old).looks }
-    ensures looked { last_looks result ≡ 0 }
-    ensures port { IsPort (P.state port.new) }
-{
-    match stop {
-        PortStop::Ended => claim(port, STOP_REFUTED, End::Refuted),
-        PortStop::Broken | PortStop::ProofFault => claim(port, STOP_PROOF, End::ProofFault),
-        PortStop::NoHole { need, largest } => {
-            claim(port, STOP_ROOM, End::NoHole { need, largest })
-        }
-        PortStop::Memory => claim(port, STOP_MEMORY, End::Memory),
-    }
-}
-
-/// The end that a finding comes to.
-fn end_of<P: Port>(port: &mut P, finding: Finding) -> End
-    requires finding { IsFinding (P.state port.old) finding }
-    requires port { IsPort (P.state port.old) }
-    ensures ends { Ends (P.state port.new) result }
-    ensures runs { KeepsRuns (P.state port.old) (P.state port.new) }
-    ensures spent { is_spent result ≡ has_spent finding }
-    ensures looks { (P.state port.new).looks ≡ (P.state port.old).looks }
-    ensures looked { last_looks result ≤ looked_for finding }
-    ensures port { IsPort (P.state port.new) }
-{
-    match finding {
-        Finding::Model(model) => claim(port, STOP_SAT, End::Sat(model)),
-        Finding::Refuted => claim(port, STOP_REFUTED, End::Refuted),
-        Finding::Spent => End::Spent,
-        Finding::Stopped(stop) => End::Stopped(stop),
-        Finding::Refused(stop) => end_refused(port, stop),
     }
 }

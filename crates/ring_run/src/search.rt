@@ -1,5 +1,5 @@
 // The steps of a ring's search: learning from a conflict, and deciding.
-ghost use Rattle.std.specs.Prelude.{◌≡◌, ◌<◌, ◌≤◌, ◌+◌, ◌++◌, ◌^◌, [], true, length, None, Some, MatchOption, IfOk, IfSome, IsSome, OnOk, IfErr, ℕ};
+ghost use Rattle.std.specs.Prelude.{◌≡◌, ◌<◌, ◌≤◌, ◌+◌, ◌++◌, ◌^◌, [], true, length, None, Some, IfOk, IfSome, IsSome, OnOk, IfErr, ℕ};
 ghost use Rattle.std.specs.Option.{option_to_list};
 ghost use Rattle.sat_words.specs.Literal.{Literal};
 ghost use Rattle.sat_words.specs.Truth.{lit_true};
@@ -10,15 +10,17 @@ ghost use Rattle.ring_trail.specs.TrailData.{TrailData, IsTrail, IsTrueOn, value
 ghost use Rattle.watch_prop.specs.WatchData.{attached};
 ghost use Rattle.watch_prop.specs.Watched.{Watched};
 ghost use Rattle.watch_prop.specs.Propagation.{IsConflict, IsQuiet};
-ghost use Rattle.ring_run.specs.Ended.{HasLooked};
-ghost use Rattle.ring_run.specs.Searching.{IsAsserting, IsGlueOf, HoldsByGlue, AreFirst, KeepsOn, EndsBy, GoesOn};
-ghost use Rattle.ring_run.specs.Finding.{InSearch, GoesOnBy, FoundBy, IsRefutedBy, CanAssert, Asserted, IsAnswerOf, IsFurther, IsBegun, Finds, IsLooking, KeepsLooking, TakesALook, looked_for};
+ghost use Rattle.ring_run.specs.Ended.{HasLooked, last_looks};
+ghost use Rattle.ring_run.specs.Searching.{IsAsserting, IsGlueOf, HoldsByGlue, AreFirst, KeepsOn, GoesOn};
+ghost use Rattle.ring_run.specs.Ending.{EndsAt, ComesTo, end_refused};
+ghost use Rattle.ring_run.specs.Course.{InSearch, Leads, CanAssert, Asserted, IsFurther, IsBegun, IsLooking, KeepsLooking, TakesALook};
 
+use crate::job::End;
 use crate::units::{Units, take_units, write_units};
 use analyze::{Analysis, Conclusion};
 use ring_port::{Port, PortStop};
 use ring_trail::Trail;
-use sat_words::{Assignment, Cref, Lit, Stop};
+use sat_words::{Assignment, Cref, Lit};
 use std::alloc::{AllocError, Global};
 use watch_prop::{Propagated, Watches};
 
@@ -35,34 +37,40 @@ pub(crate) struct Ring {
     pub written: u32,
 }
 
-/// What a search comes to.
+/// What a step of the search comes to.
 #[derive(Drop)]
-pub(crate) enum Finding {
-    /// This assignment makes each clause true.
-    Model(Assignment),
-    /// The empty clause was written.
-    Refuted,
-    /// The limit of lemmas was learned.
-    Spent,
-    /// A stop was seen.
-    Stopped(Stop),
-    /// A call of the port was refused, or memory ran out.
-    Refused(PortStop),
+pub(crate) enum Course {
+    /// The search goes on.
+    On,
+    /// The ring is at this end, and has not set its stop yet.
+    Over(End),
+}
+
+/// The end of a ring whose port has refused a call.
+fn end_refused(stop: PortStop) -> End
+    ensures { result ≡ end_refused stop }
+{
+    match stop {
+        PortStop::Ended => End::Refuted,
+        PortStop::Broken | PortStop::ProofFault => End::ProofFault,
+        PortStop::NoHole(lack) => End::NoHole(lack),
+        PortStop::Memory => End::Memory,
+    }
 }
 
 /// Writes the empty clause.
-pub(crate) fn refute<P: Port>(port: &mut P) -> Finding
+pub(crate) fn refute<P: Port>(port: &mut P) -> End
     requires usable { (P.state port.old).refused ≡ None }
     requires rup { rup (known (P.state port.old)) [] ≡ true }
-    ensures found { IsRefutedBy (P.state port.old) (P.state port.new) result }
+    ensures ends { EndsAt (P.state port.old) (P.state port.new) result }
     ensures held { (P.state port.new).held ≡ (P.state port.old).held }
     ensures looks { (P.state port.new).looks ≡ (P.state port.old).looks }
-    ensures none { looked_for result ≡ 0 }
+    ensures none { last_looks result ≡ 0 }
     ensures port { IsPort (P.state port.new) }
 {
     match port.empty() {
-        Ok(()) => Finding::Refuted,
-        Err(stop) => Finding::Refused(stop),
+        Ok(()) => End::Refuted,
+        Err(stop) => end_refused(stop),
     }
 }
 
@@ -107,7 +115,7 @@ fn assert_lemma<P: Port>(
     Ok(())
 }
 
-/// Learns a lemma, and goes back to where it forces its first literal. None where the search goes on.
+/// Learns a lemma, and goes back to where it forces its first literal.
 fn learn_lemma<P: Port>(
     port: &mut P,
     ring: &mut Ring,
@@ -115,52 +123,52 @@ fn learn_lemma<P: Port>(
     back: u32,
     glue: u32,
     limit: u64,
-) -> Option<Finding>
+) -> Course
     requires search { InSearch (P.state port.old) ring.old }
     requires below { ring.old.learned < limit }
     requires lemma { IsAsserting (P.state port.old) ring.old.trail lits.now back }
     requires glue { IsGlueOf ring.old.trail.steps lits.now glue }
-    ensures found { MatchOption result (GoesOnBy (P.state port.old) ring.old (P.state port.new) ring.new limit) (FoundBy (P.state port.old) ring.old.learned (P.state port.new) ring.new.learned limit) }
-    ensures more { result ≡ None → ring.new.learned ≡ ring.old.learned + 1 }
+    ensures leads { Leads (P.state port.old) ring.old (P.state port.new) ring.new limit result }
+    ensures more { result ≡ Course.On → ring.new.learned ≡ ring.old.learned + 1 }
     ensures stored { HoldsByGlue (P.state port.old) (P.state port.new) ring.old.trail.steps }
     ensures looks { KeepsLooking (P.state port.old) ring.old (P.state port.new) ring.new result }
     ensures port { IsPort (P.state port.new) }
 {
     let address = match port.learn(lits, glue) {
         Ok(address) => address,
-        Err(stop) => return Some(Finding::Refused(stop)),
+        Err(stop) => return Course::Over(end_refused(stop)),
     };
     ring.learned += 1;
     if ring.learned == limit {
-        return Some(Finding::Spent);
+        return Course::Over(End::Spent);
     }
     match assert_lemma(port, ring, lits, back, address) {
-        Ok(()) => None,
-        Err(_) => Some(Finding::Refused(PortStop::Memory)),
+        Ok(()) => Course::On,
+        Err(_) => Course::Over(End::Memory),
     }
 }
 
-/// Learns from a conflict. None where the search goes on.
+/// Learns from a conflict.
 fn learn_from<P: Port>(
     port: &mut P,
     ring: &mut Ring,
     analysis: &mut Analysis,
     conflict: Cref,
     limit: u64,
-) -> Option<Finding>
+) -> Course
     requires search { InSearch (P.state port.old) ring.old }
     requires below { ring.old.learned < limit }
     requires vars { analysis.old.vars ≡ ring.old.trail.vars }
     requires conflict { IsConflict ring.old.watches (lits_at (P.state port.old)) ring.old.trail conflict }
-    ensures found { MatchOption result (GoesOnBy (P.state port.old) ring.old (P.state port.new) ring.new limit) (FoundBy (P.state port.old) ring.old.learned (P.state port.new) ring.new.learned limit) }
-    ensures more { result ≡ None → ring.new.learned ≡ ring.old.learned + 1 }
+    ensures leads { Leads (P.state port.old) ring.old (P.state port.new) ring.new limit result }
+    ensures more { result ≡ Course.On → ring.new.learned ≡ ring.old.learned + 1 }
     ensures stored { HoldsByGlue (P.state port.old) (P.state port.new) ring.old.trail.steps }
     ensures looks { KeepsLooking (P.state port.old) ring.old (P.state port.new) ring.new result }
     ensures vars { analysis.new.vars ≡ analysis.old.vars }
     ensures port { IsPort (P.state port.new) }
 {
     match analysis.analyze(port, &ring.trail, conflict) {
-        Conclusion::Empty => Some(refute(port)),
+        Conclusion::Empty => Course::Over(refute(port)),
         Conclusion::Lemma { back, glue } => {
             learn_lemma(port, ring, analysis.lits(), back, glue, limit)
         }
@@ -197,42 +205,27 @@ fn model_of(alloc: Global, trail: &Trail) -> Result<Assignment, AllocError>
     Ok(model)
 }
 
-/// Where every variable has a value.
-fn answer(alloc: Global, trail: &Trail) -> Finding
-    requires { IsTrail trail.now }
-    ensures { IsAnswerOf trail.now result }
-{
-    match model_of(alloc, trail) {
-        Ok(model) => Finding::Model(model),
-        Err(_) => Finding::Refused(PortStop::Memory),
-    }
-}
-
-/// Decides the least variable without a value, false. Where there is none, each clause is true. None where the search
-/// goes on. A look that found no stop came before.
-fn decide_least<P: Port>(
-    alloc: Global,
-    port: &mut P,
-    ring: &mut Ring,
-    limit: u64,
-) -> Option<Finding>
+/// Decides the least variable without a value, false. Where there is none, each clause is true. A
+/// look that found no stop came before.
+fn decide_least<P: Port>(alloc: Global, port: &mut P, ring: &mut Ring, limit: u64) -> Course
     requires search { InSearch (P.state port.old) ring.old }
     requires below { ring.old.learned < limit }
     requires quiet { IsQuiet ring.old.watches (lits_at (P.state port.old)) ring.old.trail }
     requires first { AreFirst ring.old.trail ring.old.written }
-    ensures found { MatchOption result (GoesOnBy (P.state port.old) ring.old (P.state port.new) ring.new limit) (FoundBy (P.state port.old) ring.old.learned (P.state port.new) ring.new.learned limit) }
+    ensures leads { Leads (P.state port.old) ring.old (P.state port.new) ring.new limit result }
     ensures learned { ring.new.learned ≡ ring.old.learned }
-    ensures longer { result ≡ None → length ring.old.trail.steps < length ring.new.trail.steps }
+    ensures longer { result ≡ Course.On → length ring.old.trail.steps < length ring.new.trail.steps }
     ensures looks { TakesALook (P.state port.old) ring.old ring.new result }
     ensures port { IsPort (P.state port.new) }
     ensures same { P.state port.new ≡ P.state port.old }
 {
-    match least_open(&ring.trail) {
-        Some(var) => {
-            ring.trail.decide(Lit::new(var, true));
-            None
-        }
-        None => Some(answer(alloc, &ring.trail)),
+    if let Some(var) = least_open(&ring.trail) {
+        ring.trail.decide(Lit::new(var, true));
+        return Course::On;
+    }
+    match model_of(alloc, &ring.trail) {
+        Ok(model) => Course::Over(End::Sat(model)),
+        Err(_) => Course::Over(End::Memory),
     }
 }
 
@@ -240,7 +233,7 @@ fn decide_least<P: Port>(
 pub(crate) fn write_pending<P: Port>(port: &mut P, ring: &mut Ring) -> Result<(), PortStop>
     requires search { InSearch (P.state port.old) ring.old }
     ensures ok { OnOk result (KeepsOn (P.state port.old) (P.state port.new)) }
-    ensures over { IfErr result (EndsBy (P.state port.old) (P.state port.new)) }
+    ensures over { IfErr result (λ stop. EndsAt (P.state port.old) (P.state port.new) (end_refused stop)) }
     ensures search { OnOk result (InSearch (P.state port.new) ring.new) }
     ensures held { (P.state port.new).held ≡ (P.state port.old).held }
     ensures looks { (P.state port.new).looks ≡ (P.state port.old).looks }
@@ -262,46 +255,45 @@ pub(crate) fn write_pending<P: Port>(port: &mut P, ring: &mut Ring) -> Result<()
     }
 }
 
-/// Where nothing is left to propagate: looks for a stop, writes what is true for good, and decides. None where the
-/// search goes on.
-fn decide_next<P: Port>(alloc: Global, port: &mut P, ring: &mut Ring, limit: u64) -> Option<Finding>
+/// Where nothing is left to propagate: looks for a stop, writes what is true for good, and decides.
+fn decide_next<P: Port>(alloc: Global, port: &mut P, ring: &mut Ring, limit: u64) -> Course
     requires search { InSearch (P.state port.old) ring.old }
     requires below { ring.old.learned < limit }
     requires quiet { IsQuiet ring.old.watches (lits_at (P.state port.old)) ring.old.trail }
-    ensures found { MatchOption result (GoesOnBy (P.state port.old) ring.old (P.state port.new) ring.new limit) (FoundBy (P.state port.old) ring.old.learned (P.state port.new) ring.new.learned limit) }
+    ensures leads { Leads (P.state port.old) ring.old (P.state port.new) ring.new limit result }
     ensures learned { ring.new.learned ≡ ring.old.learned }
-    ensures longer { result ≡ None → length ring.old.trail.steps < length ring.new.trail.steps }
+    ensures longer { result ≡ Course.On → length ring.old.trail.steps < length ring.new.trail.steps }
     ensures looks { KeepsLooking (P.state port.old) ring.old (P.state port.new) ring.new result }
     ensures port { IsPort (P.state port.new) }
 {
     if let Some(stop) = port.stopped() {
-        return Some(Finding::Stopped(stop));
+        return Course::Over(End::Stopped(stop));
     }
     match write_pending(port, ring) {
         Ok(()) => decide_least(alloc, port, ring, limit),
-        Err(stop) => Some(Finding::Refused(stop)),
+        Err(stop) => Course::Over(end_refused(stop)),
     }
 }
 
-/// Propagates, and then learns or decides. None where the search goes on.
+/// Propagates, and then learns or decides.
 fn turn<P: Port>(
     alloc: Global,
     port: &mut P,
     ring: &mut Ring,
     analysis: &mut Analysis,
     limit: u64,
-) -> Option<Finding>
+) -> Course
     requires search { InSearch (P.state port.old) ring.old }
     requires below { ring.old.learned < limit }
     requires vars { analysis.old.vars ≡ ring.old.trail.vars }
-    ensures found { MatchOption result (GoesOnBy (P.state port.old) ring.old (P.state port.new) ring.new limit) (FoundBy (P.state port.old) ring.old.learned (P.state port.new) ring.new.learned limit) }
-    ensures further { result ≡ None → IsFurther ring.old ring.new }
+    ensures leads { Leads (P.state port.old) ring.old (P.state port.new) ring.new limit result }
+    ensures further { result ≡ Course.On → IsFurther ring.old ring.new }
     ensures looks { KeepsLooking (P.state port.old) ring.old (P.state port.new) ring.new result }
     ensures vars { analysis.new.vars ≡ analysis.old.vars }
     ensures port { IsPort (P.state port.new) }
 {
     let Ok(propagated) = ring.watches.propagate(port, &mut ring.trail) else {
-        return Some(Finding::Refused(PortStop::Memory));
+        return Course::Over(End::Memory);
     };
     let _lawful = ring.trail.present();
     match propagated {
@@ -310,7 +302,7 @@ fn turn<P: Port>(
     }
 }
 
-/// Searches until there is a finding, as MiniSat does: propagates, and at a conflict learns from it and goes back, or
+/// Searches until an end, as MiniSat does: propagates, and at a conflict learns from it and goes back, or
 /// else decides.
 pub(crate) fn search<P: Port>(
     alloc: Global,
@@ -318,13 +310,13 @@ pub(crate) fn search<P: Port>(
     ring: &mut Ring,
     analysis: &mut Analysis,
     limit: u64,
-) -> Finding
+) -> End
     requires begun { IsBegun (P.state port.old) ring.old }
     requires goes { GoesOn (P.state port.old) (P.state port.old) ring.old.learned }
     requires below { ring.old.learned < limit }
     requires vars { analysis.old.vars ≡ ring.old.trail.vars }
-    ensures found { Finds (P.state port.old) (P.state port.new) ring.new.learned limit result }
-    ensures looks { (base : ℕ) → IsLooking base (P.state port.old) ring.old → HasLooked (base + ring.new.learned + looked_for result) (P.state port.new) }
+    ensures ends { ComesTo (P.state port.old) (P.state port.new) ring.new.learned limit result }
+    ensures looks { (base : ℕ) → IsLooking base (P.state port.old) ring.old → HasLooked (base + ring.new.learned + last_looks result) (P.state port.new) }
     ensures port { IsPort (P.state port.new) }
 {
     match take_units(port, &mut ring.trail) {
@@ -332,8 +324,8 @@ pub(crate) fn search<P: Port>(
         Units::True => {}
     }
     loop {
-        if let Some(finding) = turn(alloc, port, ring, analysis, limit) {
-            return finding;
+        if let Course::Over(end) = turn(alloc, port, ring, analysis, limit) {
+            return end;
         }
     }
 }

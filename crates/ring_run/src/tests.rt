@@ -1,7 +1,7 @@
 // A ring over the port in memory, on small formulas.
 ghost use Rattle.std.specs.Prelude.{◌≡◌, ◌≤◌, ◌+◌, ◌++◌, ◌∷◌, [], IfOk, OnOk, length};
 ghost use Rattle.sat_words.specs.Clause.{clause_of};
-ghost use Rattle.ring_run.specs.Problems.{IsReady, square, square_starts, chain, chain_starts, triples, triples_starts, opposed};
+ghost use Rattle.ring_run.specs.Problems.{CanStart, square, square_starts, chain, chain_starts, triples, triples_starts, opposed};
 
 use crate::{Addresses, Counts, End, Job, run_ring};
 use drat_text::{CountedLines, LineOut, SinkLines};
@@ -101,7 +101,7 @@ fn run_over<L: LineOut + Drop>(
     conflicts: u64,
     lines: L,
 ) -> Result<(End, Counts, L), Fail>
-    requires ready { IsReady formula.now.clauses start.now units.now formula.now.vars }
+    requires ready { CanStart formula.now.clauses start.now units.now formula.now.vars }
     requires some { 1 ≤ conflicts }
     requires none { (L.told lines).entries ≡ 0 }
     requires last { (L.told lines).last ≡ length formula.now.clauses }

@@ -2,13 +2,13 @@
 ghost use Rattle.std.specs.Prelude.{◌≡◌, [], None};
 ghost use Rattle.ring_port.specs.PortState.{IsPort};
 ghost use Rattle.ring_run.specs.Crowd.{crowd_of};
-ghost use Rattle.ring_run.specs.Problems.{IsReady};
+ghost use Rattle.ring_run.specs.Problems.{CanStart};
 
 use crate::tests::{counted, two_clauses};
 use crate::{Addresses, Counts, End, Job, run_ring};
 use drat_text::{CountedLines, LineOut};
 use ring_port::{PlainPort, Port, PortStop, Set};
-use sat_words::{Clause, Cref, Formula, Head, Lit, STOP_MEMORY, STOP_ROOM, STOP_SAT, Stop};
+use sat_words::{Clause, Cref, Formula, Head, Lit, NoRoom, STOP_MEMORY, STOP_ROOM, STOP_SAT, Stop};
 use std::alloc::Global;
 use std::marker::Model;
 use std::test::Fail;
@@ -101,10 +101,10 @@ impl<L: LineOut> Port for Crowd<L> {
         if self.memory {
             return Err(PortStop::Memory);
         }
-        let stop = PortStop::NoHole {
+        let stop = PortStop::NoHole(NoRoom {
             need: 9,
             largest: 7,
-        };
+        });
         self.refused = Some(stop);
         Err(stop)
     }
@@ -169,7 +169,7 @@ fn run_in_crowd(
     quiet: u64,
     memory: bool,
 ) -> Result<Ran, Fail>
-    requires { IsReady formula.now.clauses start.now [] formula.now.vars }
+    requires { CanStart formula.now.clauses start.now [] formula.now.vars }
 {
     let lines = CountedLines::new(formula.clauses().len() as u64, 0);
     let Ok(inner) = PlainPort::new(alloc, formula, formula.vars(), start, &[], lines) else {
@@ -218,10 +218,16 @@ fn another_ring_stops_it(rt: HostRuntime) -> Result<(), Fail> {
 #[test]
 fn tells_that_there_is_no_room(rt: HostRuntime) -> Result<(), Fail> {
     let ran = run_on_two(rt.alloc(), 9, false)?;
-    let End::NoHole { need, largest } = ran.end else {
+    let End::NoHole(lack) = ran.end else {
         return Err(Fail::from("there was room"));
     };
-    assert_eq!(rt; (need, largest), (9, 7));
+    assert_eq!(rt;
+        lack,
+        NoRoom {
+            need: 9,
+            largest: 7
+        }
+    );
     assert_eq!(rt;
         ran.stop,
         Some(Stop {

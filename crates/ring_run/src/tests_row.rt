@@ -3,8 +3,8 @@ ghost use Rattle.std.specs.Prelude.{◌≡◌, [], IfOk, OnOk};
 ghost use Rattle.ring_port.specs.PortState.{IsPort, lits_at};
 ghost use Rattle.watch_prop.specs.Propagation.{IsConflict, IsQuiet, IsPropagated};
 ghost use Rattle.ring_run.specs.Ended.{IsJobOf, IsUntouched};
-ghost use Rattle.ring_run.specs.Finding.{InSearch, IsBegun};
-ghost use Rattle.ring_run.specs.Problems.{IsReady, row, row_starts};
+ghost use Rattle.ring_run.specs.Course.{InSearch, IsBegun};
+ghost use Rattle.ring_run.specs.Problems.{CanStart, row, row_starts};
 
 use crate::run::make_ring;
 use crate::search::{Ring, write_pending};
@@ -167,7 +167,7 @@ fn walk<P: Port>(alloc: Global, port: &mut P, job: &Job) -> Result<Walked, Fail>
 
 /// Walks over a port in memory that holds these clauses.
 fn walk_on(alloc: Global, formula: &Formula, start: &[(u64, Clause)]) -> Result<Walked, Fail>
-    requires { IsReady formula.now.clauses start.now [] formula.now.vars }
+    requires { CanStart formula.now.clauses start.now [] formula.now.vars }
 {
     let lines = CountedLines::new(formula.clauses().len() as u64, 0);
     let Ok(mut port) = PlainPort::new(alloc, formula, formula.vars(), start, &[], lines) else {

@@ -3,7 +3,8 @@ ghost use Rattle.std.specs.Prelude.{◌≡◌, ◌≤◌, ◌<◌, ◌+◌, ℕ,
 ghost use Rattle.ring_port.specs.PortState.{IsPort};
 ghost use Rattle.ring_trail.specs.TrailData.{HasGrown, IsTrail, reason_at};
 ghost use Rattle.watch_prop.specs.Propagation.{HasReasons};
-ghost use Rattle.ring_run.specs.Searching.{OnlySaw, Stands, AreTaken, AreTold, UnitsSeen, OnlyWrote, KeepsOn, EndsBy};
+ghost use Rattle.ring_run.specs.Searching.{OnlySaw, Stands, AreTaken, AreTold, UnitsSeen, OnlyWrote, KeepsOn};
+ghost use Rattle.ring_run.specs.Ending.{EndsAt, end_refused};
 
 use ring_port::{Port, PortStop};
 use ring_trail::Trail;
@@ -55,7 +56,7 @@ fn write_unit<P: Port>(port: &mut P, trail: &Trail, place: u32) -> Result<(), Po
     requires port { IsPort (P.state port.old) }
     requires refused { (P.state port.old).refused ≡ None }
     ensures ok { OnOk result (KeepsOn (P.state port.old) (P.state port.new)) }
-    ensures over { IfErr result (EndsBy (P.state port.old) (P.state port.new)) }
+    ensures over { IfErr result (λ stop. EndsAt (P.state port.old) (P.state port.new) (end_refused stop)) }
     ensures stands { OnOk result (Stands (P.state port.new) trail.now) }
     ensures told { OnOk result (AreTold (P.state port.new) trail.now (place + 1)) }
     ensures units { OnOk result (UnitsSeen (P.state port.new)) }
@@ -84,7 +85,7 @@ pub(crate) fn write_units<P: Port>(
     requires port { IsPort (P.state port.old) }
     requires refused { (P.state port.old).refused ≡ None }
     ensures ok { OnOk result (KeepsOn (P.state port.old) (P.state port.new)) }
-    ensures over { IfErr result (EndsBy (P.state port.old) (P.state port.new)) }
+    ensures over { IfErr result (λ stop. EndsAt (P.state port.old) (P.state port.new) (end_refused stop)) }
     ensures stands { OnOk result (Stands (P.state port.new) trail.now) }
     ensures told { OnOk result (AreTold (P.state port.new) trail.now (length trail.now.steps)) }
     ensures units { OnOk result (UnitsSeen (P.state port.new)) }

@@ -44,3 +44,12 @@ pub struct Stop {
     /// The ring, from 0.
     pub ring: u32,
 }
+
+/// There was too little room: for a clause in a table, counted in words, or for one more entry of a log, counted in entries.
+#[derive(Clone, Copy, PartialEq, Eq, Debug)]
+pub struct NoRoom {
+    /// How much is needed.
+    pub need: u64,
+    /// How much there is in one piece at most, which is less.
+    pub largest: u64,
+}

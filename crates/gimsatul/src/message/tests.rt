@@ -1,16 +1,17 @@
 use crate::message::put_message;
 use crate::report::End;
 use io_edge::MemSink;
+use sat_words::NoRoom;
 use std::process::Abort;
 use std::test::Fail;
 
 #[test]
 fn the_line_where_there_is_no_room(rt: HostRuntime) -> Result<(), Fail> {
     let alloc = rt.alloc();
-    let full = End::Room {
+    let full = End::Room(NoRoom {
         need: (1 << 48) + 1,
         largest: 1 << 48,
-    };
+    });
     let line = "gimsatul: no room: need 281474976710657, largest hole 281474976710656\n";
     let mut err = MemSink::new(alloc, 256, &[])?;
     assert!(rt; put_message(&mut err, &full).is_ok());

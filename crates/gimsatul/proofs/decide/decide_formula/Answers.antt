@@ -11,7 +11,7 @@ returns-in-Err-clause-outcome g c = λ text source read still.
     record {
       formula = c.args.formula.now;
       journal = s.journal;
-      outcome = stopped c.in-Err.stop c.stop_end.result c.args.limit c.search-verdict.result.verdict c.args.formula.now s.journal _ _ text source _ _ _ c.stop_end.ensures.end c.in-Err.is s.conclusion flush.ensures.cause.later c.stop_end.ensures.tally refl
+      outcome = stopped c.in-Err.end c.args.limit c.search-verdict.result.verdict c.args.formula.now s.journal _ _ text source _ _ _ c.in-Err.is s.conclusion flush.ensures.cause.later c.note.ensures refl
           (started c.args.limit text source _ c.args.formula.now c.search-verdict.result.verdict c.search-verdict.result.learned _ _ _ _ s read still counts flush.ensures.bytes (closed _ _ _ _ _ flush.result flush.ensures.cause flush.ensures.flushed));
     }
 

@@ -9,7 +9,7 @@ returns-in-Err-clause-outcome g c =
     record {
       formula = no_formula;
       journal = [];
-      outcome = unread_end c.in-Err.stop c.read_end.result c.args.tally.now _ _ _ c.read_end.ensures.end c.in-Err.ensures.answer (λ other. c.in-Err.ensures.quiet (λ e. other (cc e))) (λ e. c.in-Err.ensures.fault (cc e)) c.requires.uncounted c.read_end.ensures.tally refl none;
+      outcome = unread_end c.in-Err.stop c.read_end-end.result c.args.tally.now _ _ _ c.read_end-end.ensures c.in-Err.ensures.answer (λ other. c.in-Err.ensures.quiet (λ e. other (cc e))) (λ e. c.in-Err.ensures.fault (cc e)) c.requires.uncounted c.note.ensures refl none;
     }
 
 pub returns-in-Err-with_ring-clause-outcome : goal.returns-in-Err-with_ring-clause-outcome

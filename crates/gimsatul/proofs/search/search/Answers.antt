@@ -7,7 +7,7 @@ use Rattle.ring_port.specs.PortState.{PortState}
 use Rattle.ring_run.specs.declared.job.End.{End}
 use Rattle.ring_run.specs.Ended.{IsCounted}
 use Rattle.gimsatul.specs.declared.report.Verdict.{Verdict}
-use Rattle.gimsatul.specs.declared.search.SearchStop.{SearchStop}
+use Rattle.gimsatul.specs.declared.report.End.{End as CallEnd}
 use Rattle.gimsatul.specs.Searched.{IsSearch}
 use Rattle.gimsatul.specs.Begun.{Begins}
 use Rattle.gimsatul.proofs.Standing.{is_search}
@@ -28,7 +28,7 @@ returns-clause-searched g c =
     let within : count ≤ c.args.limit = subst (λ (n : ℕ). count ≤ n) c.in-Ok-job_of.ensures.limit c.run_ring-end.ensures.within in
     let spent : end ≡ End.Spent → count ≡ c.args.limit = λ e. c.run_ring-end.ensures.spent.0 e ∙ c.in-Ok-job_of.ensures.limit in
     let unspent : count ≡ c.args.limit → end ≡ End.Spent = λ e. c.run_ring-end.ensures.spent.1 (e ∙ sym c.in-Ok-job_of.ensures.limit) in
-    let v : Result Verdict SearchStop = c.verdict_of-verdict.result in
+    let v : Result Verdict CallEnd = c.verdict_of-verdict.result in
     let all : IsSearch c.args.limit F v count out.faults out.written =
     is_search F output before after c.args.limit count end out begins c.requires.few c.requires.empty c.requires.quiet c.run_ring-end.ensures.stays c.run_ring-end.ensures.wrote c.run_ring-end.ensures.new counted.learned_is within spent unspent c.run_ring-end.ensures.ends c.into_lines-lines.ensures v c.verdict_of-verdict.ensures in
     subst (λ (x : g.row.P.Denot). IsSearch c.args.limit F v count (g.P.Sink.faults x) (g.P.Sink.written x)) (sym c.into_sink-2.ensures) all

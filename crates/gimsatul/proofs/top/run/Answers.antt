@@ -7,7 +7,7 @@ pub returns-in-Err-clause-outcome : goal.returns-in-Err-clause-outcome
 returns-in-Err-clause-outcome g c = record {
   formula = no_formula;
   journal = [];
-  outcome = words_stopped c.in-Err.stop c.words_end.result _ _ c.words_end.ensures (λ e. c.in-Err.ensures.usage (cc e)) c.new-tally.ensures refl refl refl refl refl;
+  outcome = words_stopped c.in-Err.end _ _ c.in-Err.ensures.ends (λ e. c.in-Err.ensures.usage (cc e)) c.new-tally.ensures refl refl refl refl refl;
 }
 
 pub returns-in-Err-open-clause-outcome : goal.returns-in-Err-open-clause-outcome

@@ -22,6 +22,6 @@ returns-in-Err-try_get_matches_from-clause-usage c = λ usage.
     let app = c.in-Ok.ensures in
     let failed = c.in-Err-try_get_matches_from.ensures.kinds (ap is_simple_and_free app ∙ solver_free) in
     elim failed [
-      | inl memory ↦ absurd (cc (c.stop_of.ensures.1 (c.kind.ensures ∙ memory), usage))
+      | inl memory ↦ absurd (cc (c.end_of_kind.ensures.memory.1 (c.kind.ensures ∙ memory), usage))
       | inr among ↦ refused_words c.in-Ok.command (map string_bytes c.args.words.now) (kind_of c.in-Err-try_get_matches_from.error) app among
     ]

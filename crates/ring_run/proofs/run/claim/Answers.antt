@@ -5,7 +5,7 @@ use Rattle.ring_run.proofs.run.claim.Goals as goal
 pub returns-in-Won-clause-runs : goal.returns-in-Won-clause-runs
 returns-in-Won-clause-runs g c = λ start n p.
     let s = g.P.Port.state c.args.port.now in
-    runs_stopped start s (g.P.Port.state c.stop.new.self) n (Some (record { kind = c.args.kind; ring = s.ring })) p c.in-Won.ensures.set.1 c.stop.ensures.log c.stop.ensures.port
+    runs_stopped start s (g.P.Port.state c.stop.new.self) n (Some (record { kind = c.in-Some.kind; ring = s.ring })) p c.in-Won.ensures.set.1 c.stop.ensures.log c.stop.ensures.port
 
 pub returns-in-Lost-clause-runs : goal.returns-in-Lost-clause-runs
 returns-in-Lost-clause-runs g c = λ start n p.

@@ -1,7 +1,7 @@
 use Rattle.std.proofs.Common.{◌≡◌, ◌∙◌, ap, sym, subst, get_or, List, None}
 use Rattle.sat_words.specs.Literal.{Literal}
 use Rattle.ring_trail.specs.TrailData.{value_of}
-use Rattle.ring_run.specs.Finding.{WentBack}
+use Rattle.ring_run.specs.Course.{WentBack}
 use Rattle.ring_run.proofs.Standing.{no_value}
 use Rattle.ring_run.proofs.search.assert_lemma.Goals as goal
 

@@ -1,6 +1,7 @@
-use Rattle.std.proofs.Common.{◌∙◌, ap, subst, sym, arith}
+use Rattle.std.proofs.Common.{◌∙◌, ap, subst, sym}
 use Rattle.ring_port.specs.PortState.{PortState, one_more}
-use Rattle.ring_run.specs.Searching.{GoesOn, IsOver}
+use Rattle.ring_run.specs.Searching.{GoesOn}
+use Rattle.ring_run.specs.Ending.{ComesTo}
 use Rattle.ring_run.proofs.Progress.{stop_seen, looked_goes_on}
 use Rattle.ring_run.proofs.Turning.{quiet_same, looked_search, compose}
 use Rattle.ring_run.proofs.search.decide_next.Goals as goal
@@ -10,23 +11,22 @@ decide_least-requires-clause-quiet g c =
     quiet_same (g.P.Port.state c.args.port.now) (g.P.Port.state c.write_pending.new.port) c.args.ring.now.trail c.write_pending.new.ring.trail c.args.ring.now.watches c.write_pending.new.ring.watches
     (c.write_pending.ensures.held ∙ ap (λ (x : PortState). x.held) c.in_default.ensures.looked.1) c.write_pending.ensures.trail c.write_pending.ensures.watches c.requires.quiet
 
-pub returns-in-Ok-clause-found : goal.returns-in-Ok-clause-found
-returns-in-Ok-clause-found g c =
+pub returns-in-Ok-clause-leads : goal.returns-in-Ok-clause-leads
+returns-in-Ok-clause-leads g c =
     compose c.decide_least.result (g.P.Port.state c.args.port.now) (g.P.Port.state c.write_pending.new.port) (g.P.Port.state c.decide_least.new.port) c.args.ring.now c.write_pending.new.ring c.decide_least.new.ring c.args.limit
     (λ start p. subst (GoesOn start (g.P.Port.state c.write_pending.new.port)) (sym c.write_pending.ensures.learned)
     (c.in-Ok.ensures.ok start c.args.ring.now.learned (looked_goes_on start (g.P.Port.state c.args.port.now) (g.P.Port.state c.stopped.new.self) c.args.ring.now.learned (one_more (g.P.Port.state c.args.port.now).looks) p c.in_default.ensures.looked.1 c.stopped.ensures.log c.stopped.ensures.port)))
-    c.decide_least.ensures.found
+    c.decide_least.ensures.leads
 
-pub returns-in-Err-clause-found : goal.returns-in-Err-clause-found
-returns-in-Err-clause-found g c = λ start p. (
-  subst (λ n. IsOver start (g.P.Port.state c.write_pending.new.port) n c.in-Err.stop) (sym c.write_pending.ensures.learned)
-      (c.in-Err.ensures.over start c.args.ring.now.learned (looked_goes_on start (g.P.Port.state c.args.port.now) (g.P.Port.state c.stopped.new.self) c.args.ring.now.learned (one_more (g.P.Port.state c.args.port.now).looks) p c.in_default.ensures.looked.1 c.stopped.ensures.log c.stopped.ensures.port)),
-  omega (arith, c.write_pending.ensures.learned, c.requires.below),
-)
+pub returns-in-Err-clause-leads : goal.returns-in-Err-clause-leads
+returns-in-Err-clause-leads g c = λ start p.
+    subst (λ n. ComesTo start (g.P.Port.state c.write_pending.new.port) n c.args.limit c.end_refused.result) (sym c.write_pending.ensures.learned)
+    (subst (λ end. ComesTo start (g.P.Port.state c.write_pending.new.port) c.args.ring.now.learned c.args.limit end) (sym c.end_refused.ensures)
+    (c.in-Err.ensures.over c.args.ring.now.learned c.args.limit c.requires.below start (looked_goes_on start (g.P.Port.state c.args.port.now) (g.P.Port.state c.stopped.new.self) c.args.ring.now.learned (one_more (g.P.Port.state c.args.port.now).looks) p c.in_default.ensures.looked.1 c.stopped.ensures.log c.stopped.ensures.port)))
 
-pub returns-in-Some-clause-found : goal.returns-in-Some-clause-found
-returns-in-Some-clause-found g c = λ start p.
-    (stop_seen start (g.P.Port.state c.args.port.now) (g.P.Port.state c.stopped.new.self) c.args.ring.now.learned c.in-Some.stop p c.in-Some.ensures.looked c.stopped.ensures.log c.stopped.ensures.port, c.requires.below)
+pub returns-in-Some-clause-leads : goal.returns-in-Some-clause-leads
+returns-in-Some-clause-leads g c = λ start p.
+    stop_seen start (g.P.Port.state c.args.port.now) (g.P.Port.state c.stopped.new.self) c.args.ring.now.learned c.args.limit c.in-Some.stop c.requires.below p c.in-Some.ensures.looked c.stopped.ensures.log c.stopped.ensures.port
 
 pub write_pending-requires : goal.write_pending-requires
 write_pending-requires g c = record {

@@ -15,13 +15,13 @@ learn_lemma-requires-clause-lemma g c =
     subst (λ (ls : List Literal). IsAsserting (g.P.Port.state c.analyze.new.port) c.args.ring.now.trail ls c.in-Lemma.back) (sym c.lits.ensures)
     (subst (λ (x : PortState). IsAsserting x c.args.ring.now.trail c.analyze.new.self.lits c.in-Lemma.back) (sym c.analyze.ensures.same) asserting)
 
-pub returns-in-Lemma-clause-found : goal.returns-in-Lemma-clause-found
-returns-in-Lemma-clause-found g c =
+pub returns-in-Lemma-clause-leads : goal.returns-in-Lemma-clause-leads
+returns-in-Lemma-clause-leads g c =
     compose c.learn_lemma.result (g.P.Port.state c.args.port.now) (g.P.Port.state c.analyze.new.port) (g.P.Port.state c.learn_lemma.new.port) c.args.ring.now c.args.ring.now c.learn_lemma.new.ring c.args.limit
     (λ start p. subst (λ (x : PortState). GoesOn start x c.args.ring.now.learned) (sym c.analyze.ensures.same) p)
-    c.learn_lemma.ensures.found
+    c.learn_lemma.ensures.leads
 
-pub returns-in-Empty-clause-found : goal.returns-in-Empty-clause-found
-returns-in-Empty-clause-found g c = λ start p.
-    c.refute.ensures.found start c.args.ring.now.learned c.args.limit c.requires.below
+pub returns-in-Empty-clause-leads : goal.returns-in-Empty-clause-leads
+returns-in-Empty-clause-leads g c = λ start p.
+    c.refute.ensures.ends c.args.ring.now.learned c.args.limit c.requires.below start
     (subst (λ (x : PortState). GoesOn start x c.args.ring.now.learned) (sym c.analyze.ensures.same) p)

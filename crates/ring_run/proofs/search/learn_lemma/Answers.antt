@@ -1,27 +1,37 @@
 use Rattle.std.proofs.Common.{◌+◌, ap, subst, sym, arith}
 use Rattle.ring_port.specs.PortState.{PortState}
-use Rattle.ring_port.specs.declared.stops.PortStop.TheVariants.{Memory}
-use Rattle.ring_run.specs.Searching.{GoesOn, IsOver, HoldsByGlue}
+use Rattle.ring_run.specs.declared.job.End.{End}
+use Rattle.ring_run.specs.declared.job.End.TheVariants.{Memory}
+use Rattle.ring_run.specs.Searching.{GoesOn, HoldsByGlue}
+use Rattle.ring_run.specs.Ending.{ComesTo}
 use Rattle.ring_trail.specs.TrailData.{TrailData}
-use Rattle.ring_run.specs.Finding.{GoesOnBy}
+use Rattle.ring_run.specs.Course.{GoesOnBy}
 use Rattle.ring_run.specs.declared.search.Ring.{Ring}
 use Rattle.ring_run.proofs.Asserting.{can_assert, back_below}
 use Rattle.ring_run.proofs.Learning.{learned_any, goes_on_by, in_search_after}
-use Rattle.ring_run.proofs.Progress.{out_of_memory, learned_looks, learned_by_glue}
+use Rattle.ring_run.proofs.Progress.{out_of_memory, refused_ends, spent, learned_looks, learned_by_glue}
 use Rattle.ring_run.proofs.search.learn_lemma.Goals as goal
 
-pub returns-then-ring-limit-clause-found : goal.returns-then-ring-limit-clause-found
-returns-then-ring-limit-clause-found g c = λ start p. (
-  learned_any start (g.P.Port.state c.args.port.now) (g.P.Port.state c.learn.new.self) c.args.ring.now.learned c.args.glue c.args.ring.now.trail c.args.lits.now c.args.back c.in-Ok.address p
-      c.requires.search.stands c.requires.lemma c.requires.glue c.in-Ok.ensures.learned c.learn.ensures.kept c.learn.ensures.log c.learn.ensures.port,
-  c.if-ring-limit.true,
-)
+pub returns-then-ring-limit-clause-leads : goal.returns-then-ring-limit-clause-leads
+returns-then-ring-limit-clause-leads g c = λ start p.
+    spent start (g.P.Port.state c.learn.new.self) (c.args.ring.now.learned + 1) c.args.limit c.if-ring-limit.true
+    (learned_any start (g.P.Port.state c.args.port.now) (g.P.Port.state c.learn.new.self) c.args.ring.now.learned c.args.glue c.args.ring.now.trail c.args.lits.now c.args.back c.in-Ok.address p
+    c.requires.search.stands c.requires.lemma c.requires.glue c.in-Ok.ensures.learned c.learn.ensures.kept c.learn.ensures.log c.learn.ensures.port)
+
+pub returns-in-Err-clause-leads : goal.returns-in-Err-clause-leads
+returns-in-Err-clause-leads g c = λ start p.
+    subst (λ (end : End). ComesTo start (g.P.Port.state c.learn.new.self) c.args.ring.now.learned c.args.limit end) (sym c.end_refused.ensures)
+    (refused_ends start (g.P.Port.state c.args.port.now) (g.P.Port.state c.learn.new.self) c.args.ring.now.learned c.args.limit c.in-Err.stop c.requires.below p c.in-Err.ensures.learned c.learn.ensures.log c.learn.ensures.port)
+
+pub returns-then-ring-limit-clause-stored : goal.returns-then-ring-limit-clause-stored
+returns-then-ring-limit-clause-stored g c =
+    learned_by_glue (g.P.Port.state c.args.port.now) (g.P.Port.state c.learn.new.self) c.args.ring.now.trail.steps c.args.lits.now c.args.glue c.in-Ok.address c.in-Ok.ensures.learned c.requires.glue
 
 pub assert_lemma-requires-clause-can : goal.assert_lemma-requires-clause-can
 assert_lemma-requires-clause-can g c = can_assert (g.P.Port.state c.args.port.now) c.args.ring.now.trail c.args.lits.now c.args.back c.requires.lemma c.requires.search.trail
 
-pub returns-in-Ok-assert_lemma-clause-found : goal.returns-in-Ok-assert_lemma-clause-found
-returns-in-Ok-assert_lemma-clause-found g c =
+pub returns-in-Ok-assert_lemma-clause-leads : goal.returns-in-Ok-assert_lemma-clause-leads
+returns-in-Ok-assert_lemma-clause-leads g c =
     let s = g.P.Port.state c.args.port.now in
     let u = g.P.Port.state c.learn.new.self in
     let middle : Ring = record c.args.ring.now { learned = c.args.ring.now.learned + 1 } in
@@ -35,17 +45,15 @@ returns-in-Ok-assert_lemma-clause-found g c =
     (learned_any start s u c.args.ring.now.learned c.args.glue c.args.ring.now.trail c.args.lits.now c.args.back c.in-Ok.address p
     c.requires.search.stands c.requires.lemma c.requires.glue c.in-Ok.ensures.learned c.learn.ensures.kept c.learn.ensures.log c.learn.ensures.port)))
 
-pub returns-in-Err-assert_lemma-clause-found : goal.returns-in-Err-assert_lemma-clause-found
-returns-in-Err-assert_lemma-clause-found g c = λ start p.
+pub returns-in-Err-assert_lemma-clause-leads : goal.returns-in-Err-assert_lemma-clause-leads
+returns-in-Err-assert_lemma-clause-leads g c = λ start p.
     let s = g.P.Port.state c.args.port.now in
     let u = g.P.Port.state c.learn.new.self in
-    let count = c.assert_lemma.ensures.learned in (
-      subst (λ (x : PortState). IsOver start x c.assert_lemma.new.ring.learned Memory) (sym c.assert_lemma.ensures.same)
-          (out_of_memory start u c.assert_lemma.new.ring.learned (subst (GoesOn start u) (sym count)
-          (learned_any start s u c.args.ring.now.learned c.args.glue c.args.ring.now.trail c.args.lits.now c.args.back c.in-Ok.address p
-          c.requires.search.stands c.requires.lemma c.requires.glue c.in-Ok.ensures.learned c.learn.ensures.kept c.learn.ensures.log c.learn.ensures.port))),
-      omega (arith, count, c.requires.below, c.if-ring-limit.false),
-    )
+    let count = c.assert_lemma.ensures.learned in
+    subst (λ (x : PortState). ComesTo start x c.assert_lemma.new.ring.learned c.args.limit Memory) (sym c.assert_lemma.ensures.same)
+    (out_of_memory start u c.assert_lemma.new.ring.learned c.args.limit (omega (arith, count, c.requires.below, c.if-ring-limit.false)) (subst (GoesOn start u) (sym count)
+    (learned_any start s u c.args.ring.now.learned c.args.glue c.args.ring.now.trail c.args.lits.now c.args.back c.in-Ok.address p
+    c.requires.search.stands c.requires.lemma c.requires.glue c.in-Ok.ensures.learned c.learn.ensures.kept c.learn.ensures.log c.learn.ensures.port)))
 
 pub returns-then-ring-limit-clause-looks : goal.returns-then-ring-limit-clause-looks
 returns-then-ring-limit-clause-looks g c = λ base before.

@@ -1,10 +1,14 @@
-use Rattle.ring_run.proofs.Progress.{empty_refutes, refused_over}
+use Rattle.std.proofs.Common.{subst, sym}
+use Rattle.ring_run.specs.Ending.{ComesTo}
+use Rattle.ring_run.specs.declared.job.End.{End}
+use Rattle.ring_run.proofs.Progress.{empty_refutes, refused_ends}
 use Rattle.ring_run.proofs.search.refute.Goals as goal
 
-pub returns-in-Ok-clause-found : goal.returns-in-Ok-clause-found
-returns-in-Ok-clause-found g c = λ start n limit below p.
-    (empty_refutes start (g.P.Port.state c.args.port.now) (g.P.Port.state c.empty.new.self) n p c.in-Ok.ensures.written c.empty.ensures.log c.empty.ensures.port, below)
+pub returns-in-Ok-clause-ends : goal.returns-in-Ok-clause-ends
+returns-in-Ok-clause-ends g c = λ n limit below start p.
+    empty_refutes start (g.P.Port.state c.args.port.now) (g.P.Port.state c.empty.new.self) n limit below p c.in-Ok.ensures.written c.empty.ensures.log c.empty.ensures.port
 
-pub returns-in-Err-clause-found : goal.returns-in-Err-clause-found
-returns-in-Err-clause-found g c = λ start n limit below p.
-    (refused_over start (g.P.Port.state c.args.port.now) (g.P.Port.state c.empty.new.self) n c.in-Err.stop p c.in-Err.ensures.written c.empty.ensures.log c.empty.ensures.port, below)
+pub returns-in-Err-clause-ends : goal.returns-in-Err-clause-ends
+returns-in-Err-clause-ends g c = λ n limit below start p.
+    subst (λ (end : End). ComesTo start (g.P.Port.state c.empty.new.self) n limit end) (sym c.end_refused.ensures)
+    (refused_ends start (g.P.Port.state c.args.port.now) (g.P.Port.state c.empty.new.self) n limit c.in-Err.stop below p c.in-Err.ensures.written c.empty.ensures.log c.empty.ensures.port)

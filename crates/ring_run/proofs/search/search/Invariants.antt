@@ -1,10 +1,10 @@
 use Rattle.std.proofs.Common.{◌≡◌, ℕ, ◌<◌, ◌+◌, ◌-◌, ◌*◌, length}
 use Rattle.ring_run.specs.Searching.{GoesOn}
-use Rattle.ring_run.specs.Finding.{InSearch, IsLooking}
+use Rattle.ring_run.specs.Course.{InSearch, IsLooking}
 use Rattle.ring_run.proofs.search.search.Given as goal
 
-abbrev pub invariant-loop-finding : goal.invariant-loop-finding
-invariant-loop-finding g l = record {
+abbrev pub invariant-loop-end : goal.invariant-loop-end
+invariant-loop-end g l = record {
   search : InSearch (g.P.Port.state l.port) l.ring;
   goes : GoesOn (g.P.Port.state l.fn.port) (g.P.Port.state l.port) l.ring.learned;
   below : l.ring.learned < l.limit;
@@ -12,5 +12,5 @@ invariant-loop-finding g l = record {
   vars : l.analysis.vars ≡ l.ring.trail.vars;
 }
 
-abbrev pub decreases-loop-finding : goal.decreases-loop-finding
-decreases-loop-finding g l = (l.limit - l.ring.learned) * (l.ring.trail.vars + 1) + (l.ring.trail.vars - length l.ring.trail.steps)
+abbrev pub decreases-loop-end : goal.decreases-loop-end
+decreases-loop-end g l = (l.limit - l.ring.learned) * (l.ring.trail.vars + 1) + (l.ring.trail.vars - length l.ring.trail.steps)

@@ -15,16 +15,16 @@ decide_next-requires-clause-search g c =
     grown_search (g.P.Port.state c.args.port.now) (g.P.Port.state c.propagate.new.port) c.args.ring.now.trail c.propagate.new.trail c.args.ring.now.watches c.propagate.new.self c.args.ring.now.written c.requires.search c.propagate.ensures.same
     c.present-lawful.ensures.trail c.propagate.ensures.attached c.propagate.ensures.grown c.propagate.ensures.reasons c.propagate.ensures.watched
 
-pub returns-in-Conflict-clause-found : goal.returns-in-Conflict-clause-found
-returns-in-Conflict-clause-found g c =
+pub returns-in-Conflict-clause-leads : goal.returns-in-Conflict-clause-leads
+returns-in-Conflict-clause-leads g c =
     let between : Ring = record c.args.ring.now { trail = c.propagate.new.trail; watches = c.propagate.new.self } in
     compose c.learn_from.result (g.P.Port.state c.args.port.now) (g.P.Port.state c.propagate.new.port) (g.P.Port.state c.learn_from.new.port) c.args.ring.now between c.learn_from.new.ring c.args.limit
     (λ start p. subst (λ (x : PortState). GoesOn start x c.args.ring.now.learned) (sym c.propagate.ensures.same) p)
-    c.learn_from.ensures.found
+    c.learn_from.ensures.leads
 
-pub returns-in-Quiet-clause-found : goal.returns-in-Quiet-clause-found
-returns-in-Quiet-clause-found g c =
+pub returns-in-Quiet-clause-leads : goal.returns-in-Quiet-clause-leads
+returns-in-Quiet-clause-leads g c =
     let between : Ring = record c.args.ring.now { trail = c.propagate.new.trail; watches = c.propagate.new.self } in
     compose c.decide_next.result (g.P.Port.state c.args.port.now) (g.P.Port.state c.propagate.new.port) (g.P.Port.state c.decide_next.new.port) c.args.ring.now between c.decide_next.new.ring c.args.limit
     (λ start p. subst (λ (x : PortState). GoesOn start x c.args.ring.now.learned) (sym c.propagate.ensures.same) p)
-    c.decide_next.ensures.found
+    c.decide_next.ensures.leads

@@ -1,6 +1,6 @@
 use Rattle.std.proofs.Common.{subst, sym}
 use Rattle.ring_trail.specs.TrailData.{TrailData, IsTrail}
-use Rattle.ring_run.specs.Finding.{Searches}
+use Rattle.ring_run.specs.Course.{Searches}
 use Rattle.ring_run.proofs.Deciding.{decided_search}
 use Rattle.ring_run.proofs.Turning.{quiet_same}
 use Rattle.ring_run.proofs.tests_row.decide_and_propagate.Goals as goal

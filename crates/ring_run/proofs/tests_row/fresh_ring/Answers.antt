@@ -1,6 +1,6 @@
 use Rattle.std.proofs.Common.{sym, subst}
 use Rattle.ring_port.specs.PortState.{PortState}
-use Rattle.ring_run.specs.Finding.{IsBegun}
+use Rattle.ring_run.specs.Course.{IsBegun}
 use Rattle.ring_run.proofs.Beginning.{starts_held, begun}
 use Rattle.ring_run.proofs.tests_row.fresh_ring.Goals as goal
 

@@ -1,5 +1,5 @@
 -- Ends and verdicts.
-use Rattle.std.specs.Prelude.{◌≡◌, ◌⊎◌, Bool, true, false, not, ℕ, ◌==◌, ◌||◌, List, Some, None}
+use Rattle.std.specs.Prelude.{◌≡◌, ◌⊎◌, Bool, not, ℕ, ◌==◌, ◌||◌, ◌&&◌, List, Some, None}
 use Rattle.std.specs.declared.option.Option.{Option}
 use Rattle.dimacs_read.specs.declared.stop.ReadStop.{ReadStop}
 use Rattle.dimacs_read.specs.declared.stop.ReadStop.TheVariants as read_stop
@@ -41,51 +41,14 @@ abbrev pub model_of : End → Option (List Bool)
 model_of (end.Satisfiable model) = Some model
 model_of _ = None
 
--- the test whether something may be printed at this end
-abbrev pub prints : End → Bool
-prints (end.Satisfiable model) = true
-prints end.Unsatisfiable = true
-prints end.Unknown = true
-prints end.Usage = false
-prints (end.BadInput code line) = false
-prints end.CannotOpen = false
-prints end.CannotCreate = false
-prints end.ReadFault = false
-prints end.WriteFault = true
-prints end.ProofFault = false
-prints (end.Room lack) = false
-prints end.Memory = false
-
--- the test whether standard input stays as it is at this end
-abbrev pub leaves_input : End → Bool
-leaves_input (end.Satisfiable model) = false
-leaves_input end.Unsatisfiable = false
-leaves_input end.Unknown = false
-leaves_input end.Usage = true
-leaves_input (end.BadInput code line) = false
-leaves_input end.CannotOpen = true
-leaves_input end.CannotCreate = true
-leaves_input end.ReadFault = false
-leaves_input end.WriteFault = false
-leaves_input end.ProofFault = false
-leaves_input (end.Room lack) = false
-leaves_input end.Memory = false
-
--- the test whether the files stay as they are at this end, by whether a proof was created
-abbrev pub leaves_files : End → Bool → Bool
-leaves_files (end.Satisfiable model) made = false
-leaves_files end.Unsatisfiable made = false
-leaves_files end.Unknown made = false
-leaves_files end.Usage made = true
-leaves_files (end.BadInput code line) made = false
-leaves_files end.CannotOpen made = false
-leaves_files end.CannotCreate made = false
-leaves_files end.ReadFault made = false
-leaves_files end.WriteFault made = false
-leaves_files end.ProofFault made = false
-leaves_files (end.Room lack) made = false
-leaves_files end.Memory made = not made
-
 -- the test whether something may be printed at this status
 abbrev pub prints_at : ℕ → Bool
 prints_at status = (status == 10) || (status == 20) || (status == 0) || (status == 6)
+
+-- the test whether standard input stays as it is at this status
+abbrev pub leaves_input_at : ℕ → Bool
+leaves_input_at status = (status == 1) || (status == 3) || (status == 4)
+
+-- the test whether the files stay as they are at this status, by whether there is a writer of a proof
+abbrev pub leaves_files_at : ℕ → Bool → Bool
+leaves_files_at status made = (status == 1) || ((status == 9) && not made)

@@ -14,4 +14,3 @@ pub mod Concluded
 pub mod Tallied
 pub mod Outcome
 pub mod Statuses
-pub mod Headline

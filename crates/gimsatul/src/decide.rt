@@ -5,7 +5,7 @@ ghost use Rattle.io_edge.specs.Bytes.{GrowsBy, GrowsByPart};
 ghost use Rattle.io_edge.specs.Causes.{HasCause};
 ghost use Rattle.io_edge.specs.Paths.{IsEmptyWhereTold};
 ghost use Rattle.gimsatul.specs.Answer.{answer_text};
-ghost use Rattle.gimsatul.specs.Ends.{end_of, end_of_read, prints};
+ghost use Rattle.gimsatul.specs.Ends.{end_of, end_of_read, status_of, prints_at};
 ghost use Rattle.dimacs_read.specs.Input.{IsOn};
 ghost use Rattle.gimsatul.specs.Finished.{Finishes};
 ghost use Rattle.gimsatul.specs.Outcome.{Concluded, IsRun};
@@ -63,7 +63,7 @@ fn finish<P: Sink, O: Sink>(vars: u32, verdict: Verdict, proof: P, out: &mut O) 
         }) }
     ensures bytes { P.written result.proof ≡ P.written proof }
     ensures target { P.target result.proof ≡ P.target proof }
-    ensures unprinted { prints result.end ≡ false → out.new ≡ out.old }
+    ensures unprinted { prints_at (status_of result.end) ≡ false → out.new ≡ out.old }
 {
     let mut proof = proof;
     match proof.flush() {
@@ -111,7 +111,7 @@ fn decide_formula<P: Sink, O: Sink>(
           flushed = O.flushed out.new;
         }) }
     ensures target { P.target result.proof ≡ P.target proof }
-    ensures unprinted { prints result.end ≡ false → out.new ≡ out.old }
+    ensures unprinted { prints_at (status_of result.end) ≡ false → out.new ≡ out.old }
 {
     let Searched {
         verdict,
@@ -168,7 +168,7 @@ pub fn decide_over<S: Source, P: Sink, O: Sink>(
       };
     }) }
     ensures target { P.target result.proof ≡ P.target proof }
-    ensures unprinted { prints result.end ≡ false → out.new ≡ out.old }
+    ensures unprinted { prints_at (status_of result.end) ≡ false → out.new ≡ out.old }
 {
     let mut proof = proof;
     let formula = match read(alloc, source) {

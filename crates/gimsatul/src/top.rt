@@ -6,8 +6,8 @@ ghost use Rattle.gimsatul.specs.Words.{command_of, file_path, proof_path};
 ghost use Rattle.gimsatul.specs.Run.{target_in, text_left, source_in, writer_of, IsOpened};
 ghost use Rattle.gimsatul.specs.Outcome.{IsCall, IsRun};
 ghost use Rattle.gimsatul.specs.Tallied.{no_tally};
-ghost use Rattle.gimsatul.specs.Ends.{status_of, model_of, prints, prints_at, leaves_input, leaves_files};
-ghost use Rattle.gimsatul.specs.Headline.{Headline};
+ghost use Rattle.gimsatul.specs.Ends.{status_of, model_of, prints_at, leaves_input_at, leaves_files_at};
+ghost use Rattle.gimsatul.specs.Statuses.{Statuses};
 
 use crate::decide::{Decided, decide_over};
 use crate::message::put_message;
@@ -87,10 +87,10 @@ fn decide<R: Source, I: Source, W: Sink, O: Sink>(
     ensures file { is_some result.file ≡ is_some file }
     ensures proof { is_some result.proof ≡ true }
     ensures target { IfSome result.proof (λ writer. W.target writer ≡ W.target proof) }
-    ensures unprinted { prints result.end ≡ false → out.new ≡ out.old }
+    ensures unprinted { prints_at (status_of result.end) ≡ false → out.new ≡ out.old }
     ensures unread { is_some file ≡ true → input.new ≡ input.old }
-    ensures ends { leaves_input result.end ≡ false }
-    ensures opened { leaves_files result.end true ≡ false }
+    ensures ends { leaves_input_at (status_of result.end) ≡ false }
+    ensures opened { leaves_files_at (status_of result.end) true ≡ false }
 {
     let mut tally = tally;
     match file {
@@ -146,12 +146,12 @@ fn run<F: Files, I: Source, O: Sink>(
       };
     }) }
     ensures target { IfSome result.proof (λ writer. F.Writer.target writer ≡ target_in (F.contents files.old) (proof_path (command_of (map string_bytes words.now)))) }
-    ensures unprinted { prints result.end ≡ false → out.new ≡ out.old }
-    ensures unread { leaves_input result.end ≡ true → input.new ≡ input.old }
+    ensures unprinted { prints_at (status_of result.end) ≡ false → out.new ≡ out.old }
+    ensures unread { leaves_input_at (status_of result.end) ≡ true → input.new ≡ input.old }
     ensures idle { result.proof ≡ None → input.new ≡ input.old }
     ensures file_alone { is_some (file_path (command_of (map string_bytes words.now))) ≡ true → input.new ≡ input.old }
     ensures contents { F.contents files.new ≡ F.contents files.old }
-    ensures unopened { leaves_files result.end (is_some result.proof) ≡ true → files.new ≡ files.old }
+    ensures unopened { leaves_files_at (status_of result.end) (is_some result.proof) ≡ true → files.new ≡ files.old }
 {
     let tally = Tally::new(alloc);
     let command = match parse(alloc, words) {
@@ -227,7 +227,7 @@ pub fn gimsatul<F: Files, I: Source, O: Sink, E: Sink>(
     out: &mut O,
     err: &mut E,
 ) -> Report<F::Reader, F::Writer>
-    ensures headline { Headline (record {
+    ensures headline { Statuses (record {
       words = map string_bytes words.now;
       contents = F.contents files.old;
       files = record { before = F.faults files.old; after = F.faults files.new };
@@ -244,12 +244,11 @@ pub fn gimsatul<F: Files, I: Source, O: Sink, E: Sink>(
     }) result.status result.model result.tally }
     ensures target { IfSome result.proof (λ writer. F.Writer.target writer ≡ target_in (F.contents files.old) (proof_path (command_of (map string_bytes words.now)))) }
     ensures unprinted { prints_at result.status ≡ false → out.new ≡ out.old }
-    ensures unread { (result.status ≡ 1) ⊎ (result.status ≡ 3) ⊎ (result.status ≡ 4) → input.new ≡ input.old }
+    ensures unread { leaves_input_at result.status ≡ true → input.new ≡ input.old }
     ensures idle { result.proof ≡ None → input.new ≡ input.old }
     ensures file_alone { is_some (file_path (command_of (map string_bytes words.now))) ≡ true → input.new ≡ input.old }
     ensures contents { F.contents files.new ≡ F.contents files.old }
-    ensures unopened { result.status ≡ 1 → files.new ≡ files.old }
-    ensures unmade { result.status ≡ 9 → result.proof ≡ None → files.new ≡ files.old }
+    ensures unopened { leaves_files_at result.status (is_some result.proof) ≡ true → files.new ≡ files.old }
 {
     // A text that spells a formula has no bad place, so where the call must answer it does not refuse the input.
     read_or_bad();

@@ -129,7 +129,7 @@ fn run_on(
     units: &[Lit],
     conflicts: u64,
 ) -> Result<(End, Counts, MemSink<'static>), Fail>
-    requires ready { IsReady formula.now.clauses start.now units.now formula.now.vars }
+    requires ready { CanStart formula.now.clauses start.now units.now formula.now.vars }
     requires some { 1 ≤ conflicts }
 {
     let sink = MemSink::new(alloc, ROOM, &[])?;

@@ -1,6 +1,7 @@
 pub mod Holdings
 pub mod StoreLemmas
 pub mod LogSteps
+pub mod Reductions
 pub mod PlainLemmas
 pub mod PlainSteps
 pub mod Units

@@ -1,5 +1,5 @@
 -- What the calls of a port in memory keep of the one journal behind it.
-use Rattle.std.proofs.Common.{◌≡◌, ℕ, ◌+◌, ◌-◌, ◌≤◌, true, false, not, List, [], ◌∷◌, ◌++◌, length, take, sym, refl, ap, subst, ◌∙◌, arith, Some, None, append_assoc, length-append}
+use Rattle.std.proofs.Common.{◌≡◌, ℕ, ◌+◌, ◌-◌, ◌≤◌, true, false, not, List, [], ◌∷◌, ◌++◌, length, take, sym, refl, ap, subst, ◌∙◌, arith, Some, None, Result, Ok, Err, append_assoc, length-append}
 use Rattle.std.specs.List.{All}
 use Rattle.std.specs.Option.{option_map}
 use Rattle.std.specs.declared.option.Option.{Option}
@@ -19,12 +19,13 @@ use Rattle.rup_model.proofs.Additions.{told_more}
 use Rattle.ring_port.specs.declared.stops.PortStop.{PortStop}
 use Rattle.ring_port.specs.declared.stops.PortStop.TheVariants.{Ended, Broken, ProofFault, NoHole, Memory}
 use Rattle.ring_port.specs.PortState.{Holding, IsOn, held_at, known}
-use Rattle.ring_port.specs.Port.{is_usable, holding_of, LearnedClause}
+use Rattle.ring_port.specs.Port.{is_usable, holding_of, last_after, AddedClause}
 use Rattle.ring_port.specs.Log.{Origin, StandsOver, KeepsLog, journal_of}
-use Rattle.ring_port.specs.OwnLog.{LogData, AddedEntry, NotPut, own_entry}
+use Rattle.ring_port.specs.OwnLog.{LogData, AddedEntry, NotPut, WasReduced, own_entry}
 use Rattle.ring_port.specs.PlainPort.{PlainData, state_of, IsPlain}
 use Rattle.ring_port.proofs.PlainLemmas.{start_stays, free_behind, found_pushed}
 use Rattle.ring_port.proofs.LogSteps.{one_All, output_of, held_next, added_here, all_told_next, told_here, ended_next, ended_stays, number_is, stands_after, stands_failed, stands_with}
+use Rattle.ring_port.proofs.Reductions.{stands_reduced}
 
 some_literal : (lits : List Literal) → 2 ≤ length lits → is_empty lits ≡ false
 some_literal [] long = absurd (omega arith)
@@ -97,6 +98,16 @@ refused_keeps p r g lits (NoHole need largest) usable on follows why o h =
     h.seen (sym (ap not (unspent_of o p h usable))) refl (why.full, why.needed, why.found))
 refused_keeps p r g lits Memory usable on follows why o h = subst (λ k. StandsOver o (state_of (record p { log = k }))) (sym why) h
 
+-- the note of a reduction
+pub reduce_keeps : (p : PlainData) (r : ℕ) (g : LogData) (result : Result (Unit {0}) PortStop) → is_usable p.log.refused ≡ true → WasReduced (record p.log { room = r }) g result
+    → KeepsLog (state_of p) (state_of (record p { log = g }))
+reduce_keeps p r g (Ok done) usable reduced o h =
+    subst (λ k. StandsOver o (state_of (record p { log = k }))) (sym reduced.state) (stands_reduced o (state_of p) h reduced.going usable)
+reduce_keeps p r g (Err stop) usable over o h =
+    subst (λ k. StandsOver o (state_of (record p { log = k }))) (sym over.state)
+    (stands_with o (state_of p) h p.log.output refl (take p.passed p.opening ++ p.written) p.given (length p.opening - p.passed) p.stop p.looks (Some Ended) p.log.ended
+    h.seen (sym (ap not (unspent_of o p h usable))) refl over.over)
+
 -- a unit of the opening that is given
 pub given_keeps : (p : PlainData) (n : ℕ) (ls : List Literal) (r : ℕ) → KeepsLog (state_of p) (state_of (record p { passed = n; given = ls; given_room = r }))
 given_keeps p n ls r o h =
@@ -116,19 +127,19 @@ looked_keeps p st k o h =
     stands_with o (state_of p) h p.log.output refl (take p.passed p.opening ++ p.written) p.given (length p.opening - p.passed) st k p.log.refused p.log.ended h.seen was.usable refl was.caused
 
 -- what a longer clause did to the port
-pub clause_put : (p : PlainData) → IsPlain p → (r : ℕ) (g : LogData) (lits : List Literal) (number glue : ℕ) (c : Cref) → c.address ≡ length p.held
-    → 2 ≤ length lits → AddedEntry (record p.log { room = r }) g lits Learn number
-    → LearnedClause (state_of p) (state_of (record p { held = p.held ++ holding_of c number glue lits ∷ []; log = g; last = Some c })) lits glue c
-clause_put p plain r g lits number glue c at long added =
+pub clause_put : (p : PlainData) → IsPlain p → (r : ℕ) (g : LogData) (lits : List Literal) (kind : Kind) (number glue : ℕ) (c : Cref) (last : Option Cref) → c.address ≡ length p.held
+    → 2 ≤ length lits → option_map (λ x. x.address) last ≡ last_after kind (option_map (λ x. x.address) p.last) c.address → AddedEntry (record p.log { room = r }) g lits kind number
+    → AddedClause (state_of p) (state_of (record p { held = p.held ++ holding_of c number glue lits ∷ []; log = g; last = last })) lits glue kind c
+clause_put p plain r g lits kind number glue c last at long is added =
     let x : Holding = holding_of c number glue lits in
-    let grown : LogData = record p.log { room = g.room; output = g.output; mine = p.log.mine ++ own_entry number lits Learn ∷ [] } in
+    let grown : LogData = record p.log { room = g.room; output = g.output; mine = p.log.mine ++ own_entry number lits kind ∷ [] } in
     let none : held_at (state_of p) c.address ≡ None = ap (held_at (state_of p)) at ∙ free_behind p plain in
     record {
       number = number;
       going = added.going;
       long = long;
       free = record { not_held = none; not_waiting = refl };
-      there = found_pushed (state_of p) (state_of (record p { held = p.held ++ x ∷ []; log = g; last = Some c })) x refl none;
-      state = ap (λ k. state_of (record p { held = p.held ++ x ∷ []; log = k; last = Some c })) added.state
-          ∙ ap (λ hs. record (state_of (record p { held = p.held ++ x ∷ []; log = grown; last = Some c })) { start = hs }) (start_stays (length p.start) p.held x plain.begun);
+      there = found_pushed (state_of p) (state_of (record p { held = p.held ++ x ∷ []; log = g; last = last })) x refl none;
+      state = ap (λ k. state_of (record p { held = p.held ++ x ∷ []; log = k; last = last })) added.state
+          ∙ (λ i. record (state_of (record p { held = p.held ++ x ∷ []; log = grown; last = last })) { start = start_stays (length p.start) p.held x plain.begun i; last = is i });
     }

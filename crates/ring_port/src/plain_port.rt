@@ -1,4 +1,4 @@
-ghost use Rattle.std.specs.Prelude.{◌≡◌, ◌<◌, ◌≤◌, ◌∷◌, ◌++◌, [], true, false, not, All, Some, None, IfOk, IfErr, IfSome, IsSome, MatchResult, length, map, slice_get, position, drop, List};
+ghost use Rattle.std.specs.Prelude.{◌≡◌, ◌<◌, ◌≤◌, ◌∷◌, ◌++◌, ◌⊎◌, [], true, false, not, All, Some, None, IfOk, IfErr, IfSome, IsSome, MatchResult, length, map, slice_get, position, drop, List};
 ghost use Rattle.sat_words.specs.Literal.{Literal};
 ghost use Rattle.sat_words.specs.Clause.{has, is_empty};
 ghost use Rattle.std.specs.List.{list_any};
@@ -7,7 +7,8 @@ ghost use Rattle.rup_model.specs.declared.journal.Entry.{Entry};
 ghost use Rattle.rup_model.specs.Rup.{rup};
 ghost use Rattle.ring_port.specs.PortState.{IsPort, IsOn, held_at, lits_at, head_of, known, HoldsStart};
 ghost use Rattle.ring_port.specs.Log.{KeepsLog, StandsOver};
-ghost use Rattle.ring_port.specs.Port.{is_usable, IsClause, Learned, KeepsHeld, UnitWritten, UnitPut, ClausePut, EmptyWritten, Took, Looked, SetStop};
+ghost use Rattle.ring_port.specs.Port.{is_usable, IsClause, Learned, Derived, KeepsHeld, UnitWritten, UnitPut, ClausePut, EmptyWritten, Took, Looked, SetStop, last_after};
+ghost use Rattle.ring_port.specs.Reducing.{Noted};
 ghost use Rattle.ring_port.specs.PlainPort.{OpensOver, HasCauseAlone, starts_of, placed_from, begun_with};
 
 use crate::own_log::OwnLog;
@@ -121,8 +122,22 @@ impl<L: LineOut> Port for PlainPort<L> {
                 self.put_unit(*lit, Kind::Learn, None)?;
                 Ok(None)
             }
-            _ => Ok(Some(self.put_clause(lits, glue)?)),
+            _ => Ok(Some(self.put_clause(lits, glue, Kind::Learn)?)),
         }
+    }
+
+    fn derive(&mut self, lits: &[Lit], glue: u32) -> Result<Cref, PortStop>
+        requires usable { is_usable self.old.refused ≡ true }
+        requires long { 2 ≤ length lits.now }
+        requires clause { IsClause self.old.vars lits.now }
+        requires rup { rup (known self.old) lits.now ≡ true }
+        ensures cause { HasCauseAlone self.old self.new result }
+        ensures derived { Derived self.old self.new lits.now glue result }
+        ensures kept { KeepsHeld self.old self.new }
+        ensures log { KeepsLog self.old self.new }
+        ensures port { IsPort self.new }
+    {
+        self.put_clause(lits, glue, Kind::Derive)
     }
 
     fn unit(&mut self, lit: Lit) -> Result<(), PortStop>
@@ -151,6 +166,29 @@ impl<L: LineOut> Port for PlainPort<L> {
             .add(Lits::from_vec(Vec::new(self.alloc)), Kind::Derive)?;
         self.log.end();
         Ok(())
+    }
+
+    fn note_reduce(&mut self) -> Result<(), PortStop>
+        requires usable { is_usable self.old.refused ≡ true }
+        ensures cause { IfErr result (λ stop. (stop ≡ PortStop.Memory) ⊎ (self.old.ended ≡ true)) }
+        ensures noted { Noted self.old self.new result }
+        ensures log { KeepsLog self.old self.new }
+        ensures port { IsPort self.new }
+    {
+        self.log.make_room()?;
+        self.log.reduce()
+    }
+
+    /// There is no other ring.
+    fn offer(&mut self, _c: Cref) -> u64 {
+        self.last = None;
+        0
+    }
+
+    /// There is no other ring, so that nobody may call this.
+    fn poll(&mut self, _from: u32, _class: u8) -> Result<Option<Cref>, PortStop> {
+        let _looks = self.looks;
+        Ok(None)
     }
 
     fn next_unit(&mut self) -> Option<Lit>
@@ -185,6 +223,16 @@ impl<L: LineOut> Port for PlainPort<L> {
                 Set::Won
             }
         }
+    }
+}
+
+/// The clause learned last, once one was added.
+fn last_after(kind: Kind, last: Option<Cref>, c: Cref) -> Option<Cref>
+    ensures { option_map (λ x. x.address) result ≡ last_after kind (option_map (λ x. x.address) last) c.address }
+{
+    match kind {
+        Kind::Learn => Some(c),
+        Kind::Ruler | Kind::Derive | Kind::UnitLine => last,
     }
 }
 
@@ -293,13 +341,13 @@ impl<L: LineOut> PlainPort<L> {
     }
 
     /// Writes the line of a clause of two literals or more, which is held from then on.
-    fn put_clause(&mut self, lits: &[Lit], glue: u32) -> Result<Cref, PortStop>
+    fn put_clause(&mut self, lits: &[Lit], glue: u32, kind: Kind) -> Result<Cref, PortStop>
         requires usable { is_usable self.old.refused ≡ true }
         requires long { 2 ≤ length lits.now }
         requires clause { IsClause self.old.vars lits.now }
         requires rup { rup (known self.old) lits.now ≡ true }
         ensures cause { HasCauseAlone self.old self.new result }
-        ensures put { ClausePut self.old self.new lits.now glue result }
+        ensures put { ClausePut self.old self.new lits.now glue kind result }
         ensures kept { KeepsHeld self.old self.new }
         ensures log { KeepsLog self.old self.new }
         ensures port { IsPort self.new }
@@ -309,9 +357,10 @@ impl<L: LineOut> PlainPort<L> {
         let Ok(copy) = Lits::from_slice(self.alloc, lits) else {
             return Err(PortStop::Memory);
         };
-        let number = self.log.add(copy, Kind::Learn)?;
+        let number = self.log.add(copy, kind)?;
         let c = self.store.push(lits, number, glue);
-        self.last = Some(c);
+        let last = last_after(kind, self.last, c);
+        self.last = last;
         Ok(c)
     }
 }

@@ -1,10 +1,9 @@
 use Rattle.std.proofs.Common.{◌≡◌, length, sym, ap, subst, ◌∙◌, true, ◌∷◌, [], ◌++◌, Some, ◌-◌, vec_len}
 use Rattle.std.specs.Vec.{vec_capacity}
 use Rattle.sat_words.specs.declared.line.Line.TheVariants.{Add as AddLine}
-use Rattle.rup_model.specs.declared.journal.Kind.TheVariants.{Learn}
 use Rattle.rup_model.specs.Rup.{rup}
 use Rattle.ring_port.specs.PortState.{Holding, IsPort, IsKept, known}
-use Rattle.ring_port.specs.Port.{is_usable, holding_of, IsClause, KeepsHeld, LearnedClause}
+use Rattle.ring_port.specs.Port.{is_usable, holding_of, IsClause, KeepsHeld, AddedClause}
 use Rattle.ring_port.specs.Log.{KeepsLog}
 use Rattle.ring_port.specs.OwnLog.{AddedEntry, NotPut}
 use Rattle.ring_port.specs.PlainPort.{PlainData, state_of, IsPlain}
@@ -24,8 +23,8 @@ invariant_of-self-2 g c =
     ∙ ap (λ a. i.store.held ++ record { address = a; number = c.in_ok-number.number; glue = c.args.glue; lits = c.args.lits.now } ∷ []) (sym address) in
     let clause = subst (λ s. IsClause s.vars c.args.lits.now) (sym c.self.view_is) c.requires.clause in
     let kept : IsKept i.vars x = record { shape = record { long = c.requires.long; distinct = clause.distinct; no_opposites = clause.no_opposites }; on = clause.on } in
-    subst (λ hs. IsPlain (record p { held = hs; log = c.add.new.self; last = Some c.push-c.result })) (sym pushed)
-    (plain_pushed p c.self.invariant x kept address c.add.new.self (Some c.push-c.result))
+    subst (λ hs. IsPlain (record p { held = hs; log = c.add.new.self; last = c.last_after-last.result })) (sym pushed)
+    (plain_pushed p c.self.invariant x kept address c.add.new.self c.last_after-last.result)
 
 pub returns-clause-port : goal.returns-clause-port
 returns-clause-port g c = plain_port _ (invariant_of-self-2 g c)
@@ -40,12 +39,12 @@ returns-clause-put g c =
     c.push-c.ensures.held
     ∙ ap (λ hs. hs ++ record { address = length hs; number = c.in_ok-number.number; glue = c.args.glue; lits = c.args.lits.now } ∷ []) c.make_room.ensures.held
     ∙ ap (λ a. i.store.held ++ record { address = a; number = c.in_ok-number.number; glue = c.args.glue; lits = c.args.lits.now } ∷ []) (sym address) in
-    let added : AddedEntry (record i.log { room = c.make_room-2.new.self.room }) c.add.new.self c.args.lits.now Learn c.in_ok-number.number =
-    subst (λ k. AddedEntry k c.add.new.self c.args.lits.now Learn c.in_ok-number.number) c.make_room-2.ensures.same
-    (subst (λ ls. AddedEntry c.make_room-2.new.self c.add.new.self ls Learn c.in_ok-number.number) c.in-Ok.ensures c.in_ok-number.ensures) in
-    subst (λ s. LearnedClause s (state_of (record p { held = c.push-c.new.self.held; log = c.add.new.self; last = Some c.push-c.result })) c.args.lits.now c.args.glue c.push-c.result) c.self.view_is
-    (subst (λ hs. LearnedClause (state_of p) (state_of (record p { held = hs; log = c.add.new.self; last = Some c.push-c.result })) c.args.lits.now c.args.glue c.push-c.result) (sym pushed)
-    (clause_put p c.self.invariant c.make_room-2.new.self.room c.add.new.self c.args.lits.now c.in_ok-number.number c.args.glue c.push-c.result address c.requires.long added))
+    let added : AddedEntry (record i.log { room = c.make_room-2.new.self.room }) c.add.new.self c.args.lits.now c.args.kind c.in_ok-number.number =
+    subst (λ k. AddedEntry k c.add.new.self c.args.lits.now c.args.kind c.in_ok-number.number) c.make_room-2.ensures.same
+    (subst (λ ls. AddedEntry c.make_room-2.new.self c.add.new.self ls c.args.kind c.in_ok-number.number) c.in-Ok.ensures c.in_ok-number.ensures) in
+    subst (λ s. AddedClause s (state_of (record p { held = c.push-c.new.self.held; log = c.add.new.self; last = c.last_after-last.result })) c.args.lits.now c.args.glue c.args.kind c.push-c.result) c.self.view_is
+    (subst (λ hs. AddedClause (state_of p) (state_of (record p { held = hs; log = c.add.new.self; last = c.last_after-last.result })) c.args.lits.now c.args.glue c.args.kind c.push-c.result) (sym pushed)
+    (clause_put p c.self.invariant c.make_room-2.new.self.room c.add.new.self c.args.lits.now c.args.kind c.in_ok-number.number c.args.glue c.push-c.result c.last_after-last.result address c.requires.long c.last_after-last.ensures added))
 
 pub returns-clause-kept : goal.returns-clause-kept
 returns-clause-kept g c =
@@ -57,8 +56,8 @@ returns-clause-kept g c =
     c.push-c.ensures.held
     ∙ ap (λ hs. hs ++ record { address = length hs; number = c.in_ok-number.number; glue = c.args.glue; lits = c.args.lits.now } ∷ []) c.make_room.ensures.held
     ∙ ap (λ a. i.store.held ++ record { address = a; number = c.in_ok-number.number; glue = c.args.glue; lits = c.args.lits.now } ∷ []) (sym address) in
-    subst (λ s. KeepsHeld s (state_of (record p { held = c.push-c.new.self.held; log = c.add.new.self; last = Some c.push-c.result }))) c.self.view_is
-    (kept_pushed (state_of p) (state_of (record p { held = c.push-c.new.self.held; log = c.add.new.self; last = Some c.push-c.result })) x pushed)
+    subst (λ s. KeepsHeld s (state_of (record p { held = c.push-c.new.self.held; log = c.add.new.self; last = c.last_after-last.result }))) c.self.view_is
+    (kept_pushed (state_of p) (state_of (record p { held = c.push-c.new.self.held; log = c.add.new.self; last = c.last_after-last.result })) x pushed)
 
 pub returns-clause-log : goal.returns-clause-log
 returns-clause-log g c =
@@ -70,15 +69,15 @@ returns-clause-log g c =
     c.push-c.ensures.held
     ∙ ap (λ hs. hs ++ record { address = length hs; number = c.in_ok-number.number; glue = c.args.glue; lits = c.args.lits.now } ∷ []) c.make_room.ensures.held
     ∙ ap (λ a. i.store.held ++ record { address = a; number = c.in_ok-number.number; glue = c.args.glue; lits = c.args.lits.now } ∷ []) (sym address) in
-    let added : AddedEntry (record i.log { room = c.make_room-2.new.self.room }) c.add.new.self c.args.lits.now Learn c.in_ok-number.number =
-    subst (λ k. AddedEntry k c.add.new.self c.args.lits.now Learn c.in_ok-number.number) c.make_room-2.ensures.same
-    (subst (λ ls. AddedEntry c.make_room-2.new.self c.add.new.self ls Learn c.in_ok-number.number) c.in-Ok.ensures c.in_ok-number.ensures) in
+    let added : AddedEntry (record i.log { room = c.make_room-2.new.self.room }) c.add.new.self c.args.lits.now c.args.kind c.in_ok-number.number =
+    subst (λ k. AddedEntry k c.add.new.self c.args.lits.now c.args.kind c.in_ok-number.number) c.make_room-2.ensures.same
+    (subst (λ ls. AddedEntry c.make_room-2.new.self c.add.new.self ls c.args.kind c.in_ok-number.number) c.in-Ok.ensures c.in_ok-number.ensures) in
     let usable : is_usable i.log.refused ≡ true = subst (λ s. is_usable s.refused ≡ true) (sym c.self.view_is) c.requires.usable in
     let clause = subst (λ s. IsClause s.vars c.args.lits.now) (sym c.self.view_is) c.requires.clause in
     let follows : rup (known (state_of p)) c.args.lits.now ≡ true = subst (λ s. rup (known s) c.args.lits.now ≡ true) (sym c.self.view_is) c.requires.rup in
-    subst (λ s. KeepsLog s (state_of (record p { held = c.push-c.new.self.held; log = c.add.new.self; last = Some c.push-c.result }))) c.self.view_is
-    (subst (λ hs. KeepsLog (state_of p) (state_of (record p { held = hs; log = c.add.new.self; last = Some c.push-c.result }))) (sym pushed)
-    (clause_keeps p c.make_room-2.new.self.room c.add.new.self c.args.lits.now Learn c.in_ok-number.number c.args.glue c.push-c.result.address (Some c.push-c.result) c.self.invariant.begun usable c.requires.long clause.on follows added))
+    subst (λ s. KeepsLog s (state_of (record p { held = c.push-c.new.self.held; log = c.add.new.self; last = c.last_after-last.result }))) c.self.view_is
+    (subst (λ hs. KeepsLog (state_of p) (state_of (record p { held = hs; log = c.add.new.self; last = c.last_after-last.result }))) (sym pushed)
+    (clause_keeps p c.make_room-2.new.self.room c.add.new.self c.args.lits.now c.args.kind c.in_ok-number.number c.args.glue c.push-c.result.address c.last_after-last.result c.self.invariant.begun usable c.requires.long clause.on follows added))
 
 pub returns-in_err-number-clause-port : goal.returns-in_err-number-clause-port
 returns-in_err-number-clause-port g c =

@@ -18,12 +18,10 @@ use Rattle.rup_model.proofs.Additions.{added-append}
 use Rattle.drat_text.specs.Text.{text}
 use Rattle.drat_text.specs.LineState.{LineState}
 use Rattle.drat_text.specs.JournalText.{later_text, HasText}
-use Rattle.ring_port.specs.declared.stops.PortStop.{PortStop}
-use Rattle.ring_port.specs.declared.stops.PortStop.TheVariants.{Ended, Broken, ProofFault, NoHole, Memory}
 use Rattle.ring_port.specs.PortState.{PortState, IsOn}
 use Rattle.ring_port.specs.Port.{is_usable}
-use Rattle.ring_port.specs.Log.{Origin, StandsOver, HasLines, IsCaused, journal_of}
-use Rattle.ring_port.proofs.LogSteps.{one_All}
+use Rattle.ring_port.specs.Log.{Origin, StandsOver, HasLines, journal_of}
+use Rattle.ring_port.proofs.LogSteps.{one_All, caused_same}
 
 -- the entry of a reduction, which has no line
 lines_from_none : (b : Book) (K : List Entry) (e : Entry) → lines_after (fold book_after b K) e ≡ [] → lines_from b (K ++ e ∷ []) ≡ lines_from b K
@@ -61,14 +59,6 @@ module _ (o : Origin) (s : PortState) (h : StandsOver o s) where
   abbrev after_reduce : PortState
   after_reduce = record s { mine = s.mine ++ Reduce s.ring ∷ []; taken = [] }
 
-  caused_still : (a : LineState) (q : Option PortStop) → IsCaused s a q → IsCaused after_reduce a q
-  caused_still a None c = tt
-  caused_still a (Some Ended) c = c
-  caused_still a (Some Broken) c = c
-  caused_still a (Some ProofFault) c = c
-  caused_still a (Some (NoHole need largest)) c = c
-  caused_still a (Some Memory) c = c
-
   has_lines_still : is_usable s.refused ≡ true → (a : LineState) → HasLines o s a → HasLines o after_reduce a
   has_lines_still usable a was =
       let unspent : a.spent ≡ false = not-true a.spent (sym was.usable ∙ usable) in
@@ -77,7 +67,7 @@ module _ (o : Origin) (s : PortState) (h : StandsOver o s) where
         entries = was.entries ∙ ap (λ L. length L) (sym lines_same);
         last = ap (λ (k : Book). k.next) book_same ∙ was.last;
         usable = was.usable;
-        caused = caused_still a s.refused was.caused;
+        caused = caused_same s after_reduce a s.refused refl was.caused;
         whole = λ q. record { quiet = same.quiet; bytes = same.bytes ∙ ap (append_known o.output.written) (sym text_same) };
         short = λ q. absurd (false≢true (sym unspent ∙ q));
         target = was.target;
@@ -94,6 +84,7 @@ module _ (o : Origin) (s : PortState) (h : StandsOver o s) where
     ended = h.ended ∙ ap (λ G. list_any is_empty (F ++ G)) (sym added_same);
     held = subst (λ (b : Book). All (λ c. b.clause c.number ≡ Some c.lits) s.held) (sym book_same) h.held;
     waiting = subst (λ (b : Book). All (λ c. b.clause c.number ≡ Some c.lits) s.waiting) (sym book_same) h.waiting;
+    numbers = h.numbers;
     seen = subst (λ (G : List (List Literal)). All (λ l. list_any (same_set (l ∷ [])) (F ++ G) ≡ true) s.seen) (sym added_same) h.seen;
     output = some_still s.output (has_lines_still usable) h.output;
   }

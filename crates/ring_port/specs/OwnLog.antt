@@ -5,7 +5,7 @@ use Rattle.sat_words.specs.declared.line.Line.{Line}
 use Rattle.sat_words.specs.declared.line.Line.TheVariants.{Add as AddLine, Del as DelLine}
 use Rattle.rup_model.specs.declared.journal.Kind.{Kind}
 use Rattle.rup_model.specs.declared.journal.Entry.{Entry}
-use Rattle.rup_model.specs.declared.journal.Entry.TheVariants.{Add, Reduce}
+use Rattle.rup_model.specs.declared.journal.Entry.TheVariants.{Add, Del, Reduce}
 use Rattle.drat_text.specs.declared.stop.TheConstants.{MAX_ENTRIES}
 use Rattle.drat_text.specs.LineState.{LineState}
 use Rattle.drat_text.specs.LineOut.{PutLine, FailedLine}
@@ -72,6 +72,18 @@ pub record AddedEntry (old new : LogData) (lits : List Literal) (kind : Kind) (n
 abbrev pub WasAdded : LogData → LogData → List Literal → Kind → Result ℕ PortStop → Type 0
 WasAdded old new lits kind (Ok number) = AddedEntry old new lits kind number
 WasAdded old new lits kind (Err stop) = NotPut old new (AddLine lits) stop
+
+-- the line that deletes the clause stands, and its entry
+pub record DeletedEntry (old new : LogData) (lits : List Literal) (number : ℕ) : Type 0 where
+  pub going : old.ended ≡ false
+  pub given : ℕ
+  pub put : PutLine old.output new.output (DelLine lits) given
+  pub state : new ≡ record old { output = new.output; mine = old.mine ++ Del 0 number ∷ []; room = new.room }
+
+-- what the deletion of a clause did
+abbrev pub WasDeleted : LogData → LogData → List Literal → ℕ → Result (Unit {0}) PortStop → Type 0
+WasDeleted old new lits number (Ok done) = DeletedEntry old new lits number
+WasDeleted old new lits number (Err stop) = NotPut old new (DelLine lits) stop
 
 -- the entry of a reduction stands, which has no line
 pub record ReducedLog (old new : LogData) : Type 0 where

@@ -1,7 +1,7 @@
 // The log of a ring that writes alone: where its lines go, and its journal.
 ghost use Rattle.std.specs.Prelude.{◌≡◌, ◌<◌, ◌≤◌, [], false, true, None, Some, OnOk, IfErr};
 ghost use Rattle.rup_model.specs.Log.{lits_of};
-ghost use Rattle.ring_port.specs.OwnLog.{IsAddition, WasPut, WasAdded, WasReduced, own_entry};
+ghost use Rattle.ring_port.specs.OwnLog.{IsAddition, WasPut, WasAdded, WasDeleted, WasReduced, own_entry};
 ghost use Rattle.ring_port.specs.Port.{is_usable};
 
 use crate::stops::PortStop;
@@ -138,6 +138,17 @@ impl<L: LineOut> OwnLog<L> {
         let number = self.put(&line)?;
         self.mine.push_reserved(entry_of(line, number, kind));
         Ok(number)
+    }
+
+    /// Puts the line that deletes the clause with these literals and this number, and its entry, for which room was made.
+    pub(crate) fn delete(&mut self, lits: Lits, number: u64) -> Result<(), PortStop>
+        requires usable { is_usable self.old.refused ≡ true }
+        requires room { 1 ≤ self.old.room }
+        ensures { WasDeleted self.old self.new lits number result }
+    {
+        self.put(&Line::Del(lits))?;
+        self.mine.push_reserved(Entry::Del { ring: RING, number });
+        Ok(())
     }
 
     /// Adds the entry that the ring reduces its clauses, for which room was made and which has no line.

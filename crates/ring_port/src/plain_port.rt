@@ -9,6 +9,7 @@ ghost use Rattle.ring_port.specs.PortState.{IsPort, IsOn, held_at, lits_at, head
 ghost use Rattle.ring_port.specs.Log.{KeepsLog, StandsOver};
 ghost use Rattle.ring_port.specs.Port.{is_usable, IsClause, Learned, Derived, KeepsHeld, UnitWritten, UnitPut, ClausePut, EmptyWritten, Took, Looked, SetStop, last_after};
 ghost use Rattle.ring_port.specs.Reducing.{Noted};
+ghost use Rattle.ring_port.specs.Deleting.{Tidied, TidiedFirst};
 ghost use Rattle.ring_port.specs.PlainPort.{OpensOver, HasCauseAlone, starts_of, placed_from, begun_with};
 
 use crate::own_log::OwnLog;
@@ -19,6 +20,7 @@ use drat_text::LineOut;
 use rup_model::Kind;
 use sat_words::{Clause, Cref, Formula, Head, Lit, Lits, Stop};
 use std::alloc::{AllocFailed, Global};
+use std::collections::VecDeque;
 use std::marker::Model;
 
 /// The port of one ring in memory, which writes alone.
@@ -27,6 +29,7 @@ pub struct PlainPort<L: LineOut> {
     alloc: Global,
     vars: u32,
     store: Store,
+    waiting: VecDeque<Cref>,
     start: Vec<Cref>,
     opening: Vec<Lit>,
     passed: usize,
@@ -47,7 +50,9 @@ impl<L: LineOut> Model for PlainPort<L> {
 
     ghost view = { λ p. state_of (record {
       vars = p.vars;
+      all = p.store.all;
       held = p.store.held;
+      waiting = p.waiting.items;
       start = p.start.items;
       opening = p.opening.items;
       passed = p.passed;
@@ -62,7 +67,9 @@ impl<L: LineOut> Model for PlainPort<L> {
 
     ghost invariant = { λ p. IsPlain (record {
       vars = p.vars;
+      all = p.store.all;
       held = p.store.held;
+      waiting = p.waiting.items;
       start = p.start.items;
       opening = p.opening.items;
       passed = p.passed;
@@ -168,6 +175,26 @@ impl<L: LineOut> Port for PlainPort<L> {
         Ok(())
     }
 
+    fn drop_clause(&mut self, c: Cref) -> Result<(), PortStop> {
+        if self.waiting.push_back(c).is_err() {
+            return Err(PortStop::Memory);
+        }
+        self.store.release(c);
+        Ok(())
+    }
+
+    fn tidy(&mut self) -> Result<(), PortStop>
+        requires usable { is_usable self.old.refused ≡ true }
+        ensures tidied { Tidied self.old self.new result }
+        ensures log { KeepsLog self.old self.new }
+        ensures port { IsPort self.new }
+    {
+        for _ in 0..self.waits() {
+            self.delete_first()?;
+        }
+        Ok(())
+    }
+
     fn note_reduce(&mut self) -> Result<(), PortStop>
         requires usable { is_usable self.old.refused ≡ true }
         ensures cause { IfErr result (λ stop. (stop ≡ PortStop.Memory) ⊎ (self.old.ended ≡ true)) }
@@ -236,8 +263,16 @@ fn last_after(kind: Kind, last: Option<Cref>, c: Cref) -> Option<Cref>
     }
 }
 
+/// How many addresses the queue has.
+fn queue_len(queue: &VecDeque<Cref>) -> usize
+    ensures { result ≡ length queue.now.items }
+{
+    queue.len()
+}
+
 /// Keeps the start clauses, and tells their addresses.
 fn keep_all(alloc: Global, start: &[(u64, Clause)]) -> Result<(Store, Vec<Cref>), PortStop>
+    ensures all { IfOk result (λ kept. kept.0.all ≡ placed_from 0 start.now) }
     ensures held { IfOk result (λ kept. kept.0.held ≡ placed_from 0 start.now) }
     ensures start { IfOk result (λ kept. map (λ c. c.address) kept.1.items ≡ map (λ h. h.address) (placed_from 0 start.now)) }
 {
@@ -286,10 +321,12 @@ impl<L: LineOut> PlainPort<L> {
         let Ok(given) = Vec::with_capacity(alloc, units.len()) else {
             return Err(AllocFailed { value: output });
         };
+        let waiting = VecDeque::new(alloc);
         Ok(PlainPort {
             alloc,
             vars,
             store,
+            waiting,
             start,
             opening,
             passed: 0,
@@ -337,6 +374,34 @@ impl<L: LineOut> PlainPort<L> {
         self.log.add(lits, kind)?;
         self.written.push_reserved(lit);
         self.last = last;
+        Ok(())
+    }
+
+    /// How many clauses wait for their deletion.
+    fn waits(&self) -> usize
+        ensures many { result ≡ length self.now.waiting }
+        ensures port { IsPort self.now }
+    {
+        queue_len(&self.waiting)
+    }
+
+    /// Writes the line that deletes the first clause that waits.
+    fn delete_first(&mut self) -> Result<(), PortStop>
+        requires usable { is_usable self.old.refused ≡ true }
+        requires some { 1 ≤ length self.old.waiting }
+        ensures cause { HasCauseAlone self.old self.new result }
+        ensures tidied { TidiedFirst self.old self.new result }
+        ensures log { KeepsLog self.old self.new }
+        ensures port { IsPort self.new }
+    {
+        let c = self.waiting[0];
+        self.log.make_room()?;
+        let Ok(lits) = Lits::from_slice(self.alloc, self.store.lits(c)) else {
+            return Err(PortStop::Memory);
+        };
+        let number = self.store.head(c).number;
+        self.log.delete(lits, number)?;
+        self.waiting.pop_front();
         Ok(())
     }
 

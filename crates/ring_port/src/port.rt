@@ -5,6 +5,7 @@ ghost use Rattle.rup_model.specs.Rup.{rup};
 ghost use Rattle.ring_port.specs.PortState.{PortState, IsPort, IsOn, held_at, lits_at, head_of, known};
 ghost use Rattle.ring_port.specs.Log.{KeepsLog};
 ghost use Rattle.ring_port.specs.Port.{is_usable, IsClause, IsFreshClause, Learned, IsPartOfHeld, Derived, KeepsHeld, UnitWritten, EmptyWritten, Took, Looked, SetStop};
+ghost use Rattle.ring_port.specs.Deleting.{IsNotTaken, Dropped, Tidied};
 ghost use Rattle.ring_port.specs.Reducing.{MayReduce, Noted};
 ghost use Rattle.ring_port.specs.Exchange.{class_at, other_rings, OfferedAs, Polled};
 
@@ -83,6 +84,21 @@ pub trait Port {
         requires usable { is_usable (state self.old).refused ≡ true }
         requires rup { rup (known (state self.old)) [] ≡ true }
         ensures written { EmptyWritten (state self.old) (state self.new) result }
+        ensures log { KeepsLog (state self.old) (state self.new) }
+        ensures port { IsPort (state self.new) };
+
+    /// Holds the clause once less. Where nobody holds it any more it waits for its deletion.
+    fn drop_clause(&mut self, c: Cref) -> Result<(), PortStop>
+        requires held { IsSome (held_at (state self.old) c.address) }
+        requires apart { IsNotTaken (state self.old) c.address }
+        ensures dropped { Dropped (state self.old) (state self.new) c.address result }
+        ensures log { KeepsLog (state self.old) (state self.new) }
+        ensures port { IsPort (state self.new) };
+
+    /// Writes the deletion lines of the clauses that wait, in their order. After a refusal those not yet deleted still wait.
+    fn tidy(&mut self) -> Result<(), PortStop>
+        requires usable { is_usable (state self.old).refused ≡ true }
+        ensures tidied { Tidied (state self.old) (state self.new) result }
         ensures log { KeepsLog (state self.old) (state self.new) }
         ensures port { IsPort (state self.new) };
 

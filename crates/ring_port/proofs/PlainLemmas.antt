@@ -24,11 +24,11 @@ use Rattle.ring_port.specs.PortState.{Holding, PortState, AreApart, IsPort, IsKe
 use Rattle.ring_port.specs.Port.{KeepsHeld, WroteUnit, Refused, after_refusal}
 use Rattle.ring_port.specs.OwnLog.{LogData}
 use Rattle.ring_port.specs.PlainPort.{PlainData, kept_at, state_of, IsIndexed, IsOwnStop, IsPlain}
-use Rattle.ring_port.specs.Deleting.{without_one}
+use Rattle.ring_port.specs.Deleting.{without_one, DroppedOnce}
 use Rattle.ring_port.proofs.Holdings.{holding, found_in_front, All_In}
 use Rattle.ring_port.proofs.StoreLemmas.{slice_get_is}
 use Rattle.ring_port.proofs.LogSteps.{In_All, one_All}
-use Rattle.ring_port.proofs.Dropping.{some_inside, some_In, get_in_front, get_behind, is_at, none_at, never_at, found_address, find_In, apart_pushed, All_without, apart_without, gone, still_none, kept_pushed_at, kept_first, kept_grown, All_kept}
+use Rattle.ring_port.proofs.Dropping.{some_inside, some_In, get_in_front, get_behind, is_at, none_at, never_at, found_address, find_In, apart_pushed, All_without, apart_without, find_other, gone, still_none, kept_pushed_at, kept_first, kept_grown, All_kept}
 
 -- the place of a clause that is held
 pub place_of : (p : PlainData) (h : Holding) → IsPlain p → In h p.held → slice_get p.all h.address ≡ Some h
@@ -305,3 +305,8 @@ kept_refused s t stop refused a some = same_lookup s t a (ap (λ u. u.held) refu
 
 pub kept_unit : (s t : PortState) (l : Literal) (kind : Kind) (last : Option ℕ) → WroteUnit s t l kind last → KeepsHeld s t
 kept_unit s t l kind last wrote a some = same_lookup s t a (ap (λ u. u.held) wrote.state)
+
+-- a clause that is dropped leaves the others
+pub dropped_others : (old new : PortState) (a b : ℕ) → DroppedOnce old new a → b ≢ a → held_at new b ≡ held_at old b
+unfolding held_at
+dropped_others old new a b k ne = ap (λ (s : PortState). held_at s b) k.state ∙ find_other old.held a b ne

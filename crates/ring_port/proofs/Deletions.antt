@@ -85,6 +85,7 @@ module _ (o : Origin) (s : PortState) (h : StandsOver o s) (w : Holding) (rest :
 
     other_held : All (λ c. (book F shrunk).clause c.number ≡ Some c.lits) s.held
     other_held k d lt = others_alive (get_or s.held k d) (λ e. apart k d lt (h.numbers (get_or s.held k d) w (inl (In_Contains s.held (get_or s.held k d) (In_get_or s.held k d lt))) w_waits e)) (h.held k d lt)
+
     other_waiting : All (λ c. (book F shrunk).clause c.number ≡ Some c.lits) rest
     other_waiting k d lt = others_alive (get_or rest k d) (λ e. once k d lt (h.numbers (get_or rest k d) w (inr (subst (λ hs. Contains hs (get_or rest k d)) (sym first) (In_Contains (w ∷ rest) (get_or rest k d) (inr (In_get_or rest k d lt))))) w_waits e)) (waits (suc k) d (omega arith))
 

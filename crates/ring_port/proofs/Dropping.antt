@@ -75,9 +75,10 @@ find_In {X} q (y ∷ xs) x e = by (q y) e (find_In q xs x)
 
 pub apart_pushed : (hs : List Holding) (x : Holding) → AreApart hs → All (λ h. h.address ≢ x.address) hs → AreApart (hs ++ x ∷ [])
 apart_pushed [] x a others = (λ k d lt. absurd (omega arith), tt)
-apart_pushed (h ∷ hs) x a others =
-    (All-append (λ k. k.address ≢ h.address) hs (x ∷ []) a.0 (one_All (λ k. k.address ≢ h.address) x (λ e. others 0 h (omega arith) (sym e))),
-    apart_pushed hs x a.1 (λ k d lt. others (suc k) d (omega arith)))
+apart_pushed (h ∷ hs) x a others = (
+  All-append (λ k. k.address ≢ h.address) hs (x ∷ []) a.0 (one_All (λ k. k.address ≢ h.address) x (λ e. others 0 h (omega arith) (sym e))),
+  apart_pushed hs x a.1 (λ k d lt. others (suc k) d (omega arith)),
+)
 
 -- Dropping one
 

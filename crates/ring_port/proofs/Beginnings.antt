@@ -1,9 +1,10 @@
 -- How a port in memory begins.
-use Rattle.std.proofs.Common.{◌≡◌, ℕ, zero, suc, ◌+◌, ◌-◌, ◌<◌, ◌≤◌, ◌||◌, false, not, List, [], ◌∷◌, ◌++◌, length, map, take, get_or, sym, refl, ap, subst, ◌∙◌, arith, Some, None, append_assoc, append-nil, cond, ◌==◌, eq-eqb, ne_eqb}
-use Rattle.std.specs.List.{list_any, All, find}
+use Rattle.std.proofs.Common.{◌≡◌, ◌≢◌, inl, inr, ℕ, zero, suc, ◌+◌, ◌-◌, ◌<◌, ◌≤◌, ◌||◌, false, not, List, [], ◌∷◌, ◌++◌, length, map, take, get_or, sym, refl, ap, subst, ◌∙◌, arith, Some, None, append_assoc, append-nil, cond, ◌==◌, eq-eqb, ne_eqb}
+use Rattle.std.specs.List.{list_any, All, AllByRecursion, IsDistinct, find, slice_get}
+use Rattle.std.specs.Prelude.{nat_eq}
 use Rattle.std.specs.declared.option.Option.{Option}
 use Rattle.std.specs.Io.KnownBytes.{append_known}
-use Rattle.std.proofs.lemmas.Bool.{or_parts, false≢true}
+use Rattle.std.proofs.lemmas.Bool.{or_parts, false≢true, eqb-false}
 use Rattle.std.proofs.lemmas.List.{take_all, length-map, map-append}
 use Rattle.std.proofs.lemmas.List.Folds.{list_any-append}
 use Rattle.sat_words.specs.Literal.{Literal}
@@ -15,8 +16,11 @@ use Rattle.rup_model.specs.Journal.{book, lines, added, LogSound}
 use Rattle.rup_model.specs.Opening.{Start, IsOpening, IsStart}
 use Rattle.rup_model.proofs.Additions.{added-append}
 use Rattle.drat_text.specs.LineState.{LineState}
-use Rattle.ring_port.specs.PortState.{Holding, IsKept, IsOn, HoldsStart, held_at}
-use Rattle.ring_port.specs.Log.{Origin, StandsOver, start_of}
+use Rattle.ring_port.specs.PortState.{Holding, AreApart, IsKept, IsOn, HoldsStart, held_at}
+use Rattle.ring_port.proofs.StoreLemmas.{slice_get_is}
+use Rattle.rup_model.proofs.Lists.{In, Contains_In}
+use Rattle.std.proofs.lemmas.Map.Keys.{IsDistinct-head, IsDistinct-tail}
+use Rattle.ring_port.specs.Log.{Origin, Keeps, StandsOver, start_of}
 use Rattle.ring_port.specs.OwnLog.{LogData}
 use Rattle.ring_port.specs.PlainPort.{PlainData, state_of, IsPlain, OpensOver, starts_of, placed_from, begun_with}
 
@@ -36,6 +40,26 @@ indexed_from : (a : ℕ) (ss : List (ℕ × List Literal)) (k : ℕ) (d : Holdin
 indexed_from a [] k d lt = absurd (omega arith)
 indexed_from a (s ∷ ss) zero d lt = omega arith
 indexed_from a (s ∷ ss) (suc k) d lt = let e = indexed_from (suc a) ss k d (omega arith) in omega arith
+
+later_from : (a b : ℕ) (ss : List (ℕ × List Literal)) → a < b → All (λ h. h.address ≢ a) (placed_from b ss)
+later_from a b ss less k d lt e = let at = indexed_from b ss k d lt in omega arith
+
+apart_from : (a : ℕ) (ss : List (ℕ × List Literal)) → AreApart (placed_from a ss)
+apart_from a [] = tt
+apart_from a (s ∷ ss) = (later_from a (suc a) ss (omega arith), apart_from (suc a) ss)
+
+-- start clauses with different numbers
+never_here : (b : ℕ) (ts : List (ℕ × List Literal)) (n : ℕ) → AllByRecursion (λ y. nat_eq n y ≡ false) (map (λ t. t.number) (starts_of ts)) → (x : Holding) → In x (placed_from b ts) → x.number ≡ n → ⊥
+never_here b [] n all x m e = m
+never_here b (t ∷ ts) n all x (inl e) f = eqb-false n t.0 all.0 (sym f ∙ sym (ap (λ y. y.number) e))
+never_here b (t ∷ ts) n all x (inr m) f = never_here (suc b) ts n all.1 x m f
+
+numbers_from : (a : ℕ) (ss : List (ℕ × List Literal)) → IsDistinct nat_eq (map (λ s. s.number) (starts_of ss)) → (h k : Holding) → In h (placed_from a ss) → In k (placed_from a ss) → h.number ≡ k.number → h ≡ k
+numbers_from a [] distinct h k mh mk same = absurd mh
+numbers_from a (s ∷ ss) distinct h k (inl e) (inl f) same = sym e ∙ f
+numbers_from a (s ∷ ss) distinct h k (inl e) (inr m) same = absurd (never_here (suc a) ss s.0 (IsDistinct-head nat_eq s.0 (map (λ t. t.number) (starts_of ss)) distinct) k m (sym same ∙ sym (ap (λ x. x.number) e)))
+numbers_from a (s ∷ ss) distinct h k (inr m) (inl e) same = absurd (never_here (suc a) ss s.0 (IsDistinct-head nat_eq s.0 (map (λ t. t.number) (starts_of ss)) distinct) h m (same ∙ sym (ap (λ x. x.number) e)))
+numbers_from a (s ∷ ss) distinct h k (inr m) (inr n) same = numbers_from (suc a) ss (IsDistinct-tail nat_eq s.0 (map (λ t. t.number) (starts_of ss)) distinct) h k m n same
 
 starts_placed : (a : ℕ) (ss : List (ℕ × List Literal)) → map start_of (placed_from a ss) ≡ starts_of ss
 starts_placed a [] = refl
@@ -68,7 +92,7 @@ known_none (Some xs) = ap Some (append-nil xs)
 
 -- what a port has when it is made
 abbrev pub begun_data : ℕ → List (ℕ × List Literal) → List Cref → List Literal → ℕ → LogData → PlainData
-begun_data vars ss refs units room g = record { vars = vars; held = placed_from 0 ss; start = refs; opening = units; passed = 0; given = []; given_room = room; written = []; log = g; last = None; stop = None; looks = 0 }
+begun_data vars ss refs units room g = record { vars = vars; all = placed_from 0 ss; held = placed_from 0 ss; waiting = []; start = refs; opening = units; passed = 0; given = []; given_room = room; written = []; log = g; last = None; stop = None; looks = 0 }
 
 module _ (F : List (List Literal)) (vars : ℕ) (ss : List (ℕ × List Literal)) (units : List Literal) (out : LineState) where
   kept_start : (J : List Entry) → OpensOver F (starts_of ss) units out J → All (λ s. All (IsOn vars) s.1) ss → All (IsKept vars) (placed_from 0 ss)
@@ -79,8 +103,13 @@ module _ (F : List (List Literal)) (vars : ℕ) (ss : List (ℕ × List Literal)
   begun_plain refs room g J h on units_on same enough =
       let n : length refs ≡ length (placed_from 0 ss) = same_lengths refs (placed_from 0 ss) same in
       record {
-        held = kept_start J h on;
+        all = kept_start J h on;
         indexed = λ k d lt. (indexed_from 0 ss k d lt ∙ omega arith);
+        placed = λ k d lt. (ap (slice_get (placed_from 0 ss)) (indexed_from 0 ss k d lt ∙ omega arith) ∙ slice_get_is (placed_from 0 ss) k d lt);
+        apart = apart_from 0 ss;
+        waiting = λ k d lt. absurd (omega arith);
+        dropped = λ k d lt. absurd (omega arith);
+        once = tt;
         begun = omega arith;
         start = same ∙ ap (map (λ x. x.address)) (sym (take_all (length refs) (placed_from 0 ss) (omega arith)));
         opening = units_on;
@@ -101,11 +130,11 @@ module _ (F : List (List Literal)) (vars : ℕ) (ss : List (ℕ × List Literal)
       λ i. record (begun_with vars ss units out) { coming = all i; start = whole i; output = Some (output i); mine = mine i; ended = going i; refused = quiet i }
 
   -- the state of a port that has this
-  pub begun_is : (H : List Holding) (refs : List Cref) (O V W : List Literal) (room : ℕ) (g : LogData) → H ≡ placed_from 0 ss → map (λ c. c.address) refs ≡ map (λ h. h.address) (placed_from 0 ss) → O ≡ units → V ≡ [] → W ≡ []
+  pub begun_is : (A H : List Holding) (Q refs : List Cref) (O V W : List Literal) (room : ℕ) (g : LogData) → A ≡ placed_from 0 ss → H ≡ placed_from 0 ss → Q ≡ [] → map (λ c. c.address) refs ≡ map (λ h. h.address) (placed_from 0 ss) → O ≡ units → V ≡ [] → W ≡ []
       → g.output ≡ out → g.mine ≡ [] → g.ended ≡ false → g.refused ≡ None
-      → state_of (record { vars = vars; held = H; start = refs; opening = O; passed = 0; given = V; given_room = room; written = W; log = g; last = None; stop = None; looks = 0 }) ≡ begun_with vars ss units out
-  begun_is H refs O V W room g held same opening given written output mine going quiet =
-      (λ i. state_of (record { vars = vars; held = held i; start = refs; opening = opening i; passed = 0; given = given i; given_room = room; written = written i; log = g; last = None; stop = None; looks = 0 }))
+      → state_of (record { vars = vars; all = A; held = H; waiting = Q; start = refs; opening = O; passed = 0; given = V; given_room = room; written = W; log = g; last = None; stop = None; looks = 0 }) ≡ begun_with vars ss units out
+  begun_is A H Q refs O V W room g all held none same opening given written output mine going quiet =
+      (λ i. state_of (record { vars = vars; all = all i; held = held i; waiting = none i; start = refs; opening = opening i; passed = 0; given = given i; given_room = room; written = written i; log = g; last = None; stop = None; looks = 0 }))
       ∙ begun_state refs room g same output mine going quiet
 
   pub begun_stands : (J : List Entry) → OpensOver F (starts_of ss) units out J → list_any is_empty F ≡ false → out.spent ≡ false
@@ -125,6 +154,7 @@ module _ (F : List (List Literal)) (vars : ℕ) (ss : List (ℕ × List Literal)
         held = subst (λ K. All (λ c. (book F K).clause c.number ≡ Some c.lits) (placed_from 0 ss)) (sym alone)
             (placed_All (IsStart (book F J)) (λ t. t ≡ t) (λ c. (book F J).clause c.number ≡ Some c.lits) 0 ss (λ b t is same. is.alive) h.opens.starts (λ k d lt. refl));
         waiting = λ k d lt. absurd (omega arith);
+        numbers = λ x y kx ky same. numbers_from 0 ss h.opens.numbers x y (among x kx) (among y ky) same;
         seen = λ k d lt. absurd (omega arith);
         output = record {
           entries = h.lines.entries ∙ ap (λ K. length (lines F K)) (sym alone);
@@ -137,6 +167,10 @@ module _ (F : List (List Literal)) (vars : ℕ) (ss : List (ℕ × List Literal)
           flushed = refl;
         };
       }
+    where
+      among : (x : Holding) → Keeps (begun_with vars ss units out) x → In x (placed_from 0 ss)
+      among x (inl m) = Contains_In (placed_from 0 ss) x m
+      among x (inr m) = absurd (let lt = m.1 in omega arith)
 
 -- each start clause is held at its address
 found_from : (a : ℕ) (ss : List (ℕ × List Literal)) (k : ℕ) (d : Holding) → k < length (placed_from a ss) → find (λ h. h.address == (a + k)) (placed_from a ss) ≡ Some (get_or (placed_from a ss) k d)

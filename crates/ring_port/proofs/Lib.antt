@@ -1,6 +1,10 @@
 pub mod Holdings
 pub mod StoreLemmas
 pub mod LogSteps
+pub mod Dropping
+pub mod Reductions
+pub mod Deletions
+pub mod Tidying
 pub mod PlainLemmas
 pub mod PlainSteps
 pub mod Units

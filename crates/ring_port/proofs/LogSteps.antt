@@ -1,6 +1,6 @@
 -- What an addition of the ring keeps of the one journal behind its port.
-use Rattle.std.proofs.Common.{◌≡◌, ℕ, zero, suc, ◌+◌, ◌<◌, ◌==◌, ◌||◌, Bool, true, false, not, cond, List, [], ◌∷◌, ◌++◌, length, map, sym, refl, ap, subst, ◌∙◌, inl, inr, ⊎_elim, arith, Some, None, append_assoc, length-append}
-use Rattle.std.specs.List.{list_any, All}
+use Rattle.std.proofs.Common.{◌≡◌, ℕ, zero, suc, ◌+◌, ◌<◌, ◌==◌, ◌||◌, ◌⊎◌, Bool, true, false, not, cond, List, [], ◌∷◌, ◌++◌, length, map, sym, refl, ap, subst, ◌∙◌, inl, inr, ⊎_elim, arith, Some, None, append_assoc, length-append}
+use Rattle.std.specs.List.{list_any, All, Contains}
 use Rattle.std.specs.Prelude.{IsSomeAnd}
 use Rattle.std.specs.declared.option.Option.{Option}
 use Rattle.std.specs.Io.KnownBytes.{append_known}
@@ -9,6 +9,7 @@ use Rattle.std.proofs.lemmas.List.Elements.{All-append}
 use Rattle.std.proofs.lemmas.List.Folds.{list_any-append}
 use Rattle.sat_words.specs.Literal.{Literal, same}
 use Rattle.sat_words.specs.Clause.{same_set, is_empty, clause_of}
+use Rattle.sat_words.specs.declared.line.Line.{Line}
 use Rattle.sat_words.specs.declared.line.Line.TheVariants.{Add as AddLine}
 use Rattle.rup_model.specs.declared.journal.TheConstants.{RULER_RING}
 use Rattle.rup_model.specs.declared.journal.Kind.{Kind}
@@ -17,9 +18,9 @@ use Rattle.rup_model.specs.declared.journal.Entry.{Entry}
 use Rattle.rup_model.specs.declared.journal.Entry.TheVariants.{Add}
 use Rattle.rup_model.specs.Basics.{put}
 use Rattle.rup_model.specs.Rup.{rup}
-use Rattle.rup_model.specs.Log.{Accepted, alive}
+use Rattle.rup_model.specs.Log.{Accepted, alive, lits_of}
 use Rattle.rup_model.specs.Journal.{Book, spelled, book_after, book, lines, added, ended, is_told, ring_of, LogSound}
-use Rattle.rup_model.proofs.Lists.{In, In_append, map_In}
+use Rattle.rup_model.proofs.Lists.{In, In_append, map_In, In_Contains, Contains_In}
 use Rattle.rup_model.proofs.Sums.{put_here, put_else}
 use Rattle.rup_model.proofs.Covers.{same_self}
 use Rattle.rup_model.proofs.Numbers.{journal_matches, clause_below, book_last, lines_last, rup_alive_sets}
@@ -36,7 +37,7 @@ use Rattle.ring_port.specs.declared.stops.PortStop.{PortStop}
 use Rattle.ring_port.specs.declared.stops.PortStop.TheVariants.{Ended, Broken, ProofFault, NoHole, Memory}
 use Rattle.ring_port.specs.PortState.{Holding, PortState, IsOn, known}
 use Rattle.ring_port.specs.Port.{entry_of, is_usable}
-use Rattle.ring_port.specs.Log.{Origin, StandsOver, HasLines, IsCaused, journal_of}
+use Rattle.ring_port.specs.Log.{Origin, Keeps, StandsOver, HasLines, IsCaused, journal_of}
 use Rattle.ring_port.proofs.Holdings.{All_In}
 
 -- Lists
@@ -125,6 +126,30 @@ module _ (o : Origin) (s : PortState) (h : StandsOver o s) (ring : s.ring ≡ 0)
   pub held_next : All (λ c. (book F grown).clause c.number ≡ Some c.lits) s.held
   held_next k d lt = alive_next _ _ (h.held k d lt)
 
+  -- a clause that is held or waits has an earlier number
+  kept_below : (c : Holding) → Keeps s c → c.number < (book F J).next
+  kept_below c (inl m) = clause_below (book F J) (alive F (lines F J)) c.number c.lits (journal_matches F J h.sound.fits) (All_In (λ k. (book F J).clause k.number ≡ Some k.lits) s.held c h.held (Contains_In s.held c m))
+  kept_below c (inr m) = clause_below (book F J) (alive F (lines F J)) c.number c.lits (journal_matches F J h.sound.fits) (All_In (λ k. (book F J).clause k.number ≡ Some k.lits) s.waiting c h.waiting (Contains_In s.waiting c m))
+
+  -- so its own number differs from theirs
+  pub numbers_next : (c : Holding) → c.number ≡ (book F J).next → (t : PortState) → t.held ≡ s.held ++ c ∷ [] → t.waiting ≡ s.waiting → (a b : Holding) → Keeps t a → Keeps t b → a.number ≡ b.number → a ≡ b
+  numbers_next c next t held waiting a b ka kb same = by (old_or_new a ka) (old_or_new b kb)
+    where
+      old_or_new : (x : Holding) → Keeps t x → Keeps s x ⊎ (c ≡ x)
+      old_or_new x (inl m) =
+          ⊎_elim (λ k. inl (inl (In_Contains s.held x k))) (λ k. last x k) (In_append s.held (c ∷ []) x (subst (In x) held (Contains_In t.held x m)))
+        where
+          last : (y : Holding) → In y (c ∷ []) → Keeps s y ⊎ (c ≡ y)
+          last y (inl e) = inr e
+          last y (inr k) = absurd k
+      old_or_new x (inr m) = inl (inr (subst (λ hs. Contains hs x) waiting m))
+
+      by : Keeps s a ⊎ (c ≡ a) → Keeps s b ⊎ (c ≡ b) → a ≡ b
+      by (inl x) (inl y) = h.numbers a b x y same
+      by (inl x) (inr y) = absurd (let lt = kept_below a x in let e = ap (λ (k : Holding). k.number) y in omega arith)
+      by (inr x) (inl y) = absurd (let lt = kept_below b y in let e = ap (λ (k : Holding). k.number) x in omega arith)
+      by (inr x) (inr y) = sym x ∙ y
+
   -- what was told stays told
   pub told_next : (l : Literal) → is_told F J l ≡ true → is_told F grown l ≡ true
   told_next l t = subst (λ (K : List Entry). is_told F K l ≡ true) (sym grown_is) (told_more F J (Add x ∷ []) l t)
@@ -157,13 +182,22 @@ pub output_of : (o : Origin) (s : PortState) (a : LineState) → StandsOver o s 
 output_of o s a h e = subst (λ (w : Option LineState). IsSomeAnd w (HasLines o s)) e h.output
 
 -- an answer before an addition still has its cause after it
-caused_later : (s t : PortState) (a b : LineState) (r : Option PortStop) → s.ended ≡ false → a.entries < MAX_ENTRIES → b.spent ≡ a.spent → IsCaused s a r → IsCaused t b r
+pub caused_later : (s t : PortState) (a b : LineState) (r : Option PortStop) → s.ended ≡ false → a.entries < MAX_ENTRIES → b.spent ≡ a.spent → IsCaused s a r → IsCaused t b r
 caused_later s t a b None going room same c = tt
 caused_later s t a b (Some Ended) going room same c = absurd (false≢true (sym going ∙ c))
 caused_later s t a b (Some Broken) going room same c = absurd c
 caused_later s t a b (Some ProofFault) going room same c = same ∙ c
 caused_later s t a b (Some (NoHole lack)) going room same c = let full = c.0 in absurd (omega arith)
 caused_later s t a b (Some Memory) going room same c = absurd c
+
+-- a cause tells of nothing but the end of the log
+pub caused_same : (s t : PortState) (a : LineState) (r : Option PortStop) → t.ended ≡ s.ended → IsCaused s a r → IsCaused t a r
+caused_same s t a None same c = tt
+caused_same s t a (Some Ended) same c = same ∙ c
+caused_same s t a (Some Broken) same c = c
+caused_same s t a (Some ProofFault) same c = c
+caused_same s t a (Some (NoHole lack)) same c = c
+caused_same s t a (Some Memory) same c = c
 
 -- A line that was put
 module _ (o : Origin) (s : PortState) (h : StandsOver o s) (ring : s.ring ≡ 0) (lits : List Literal) (kind : Kind) (number : ℕ)
@@ -198,8 +232,9 @@ module _ (o : Origin) (s : PortState) (h : StandsOver o s) (ring : s.ring ≡ 0)
       → All (λ c. (book o.formula (o.journal ++ (s.mine ++ entry_of s number lits kind ∷ []))).clause c.number ≡ Some c.lits) H
       → All (λ l. is_told o.formula (o.journal ++ (s.mine ++ entry_of s number lits kind ∷ [])) l ≡ true) S
       → en ≡ ended o.formula (o.journal ++ (s.mine ++ entry_of s number lits kind ∷ []))
+      → ((a b : Holding) → Keeps (after H S la en) a → Keeps (after H S la en) b → a.number ≡ b.number → a ≡ b)
       → StandsOver o (after H S la en)
-  stands_after H S la en held seen end = record {
+  stands_after H S la en held seen end numbers = record {
     opens = h.opens;
     given = h.given;
     sound = sound_next o s h ring lits kind number follows going number_is;
@@ -208,14 +243,15 @@ module _ (o : Origin) (s : PortState) (h : StandsOver o s) (ring : s.ring ≡ 0)
     ended = end;
     held = held;
     waiting = λ k d lt. alive_next o s h ring lits kind number _ _ (h.waiting k d lt);
+    numbers = numbers;
     seen = seen;
     output = subst (λ w. HasLines o (after H S la en) w) (sym put.state) (has_lines H S la en);
   }
 
--- A line at which the output failed
-pub stands_failed : (o : Origin) (s : PortState) (h : StandsOver o s) → s.ring ≡ 0 → (lits : List Literal) (kind : Kind) → rup (known s) lits ≡ true → s.ended ≡ false → All (IsOn s.vars) lits
-    → (a b : LineState) → s.output ≡ Some a → a.spent ≡ false → FailedLine a b (AddLine lits) → StandsOver o (record s { refused = Some ProofFault; output = Some b })
-stands_failed o s h ring lits kind follows going on a b out unspent failed =
+-- A line at which the output failed, and which would be accepted
+pub stands_failed : (o : Origin) (s : PortState) (h : StandsOver o s) (x : Line) → Accepted o.formula (lines o.formula (journal_of o s) ++ x ∷ []) → All (IsOn s.vars) (lits_of x)
+    → (a b : LineState) → s.output ≡ Some a → a.spent ≡ false → FailedLine a b x → StandsOver o (record s { refused = Some ProofFault; output = Some b })
+stands_failed o s h x accepted on a b out unspent failed =
     let was = output_of o s a h out in
     let t : PortState = record s { refused = Some ProofFault; output = Some b } in
     let w : LineState = record a { spent = true; faults = b.faults; written = b.written } in
@@ -226,8 +262,8 @@ stands_failed o s h ring lits kind follows going on a b out unspent failed =
       usable = refl;
       caused = refl;
       whole = λ q. absurd (false≢true (sym q));
-      short = λ q. has_text_cut o s.mine a w (AddLine lits) (was.whole unspent) (accepted_next o s h ring lits kind (book o.formula (journal_of o s)).next follows going refl) s.vars on
-          (subst (λ v. FailedLine a v (AddLine lits)) failed.state failed);
+      short = λ q. has_text_cut o s.mine a w x (was.whole unspent) accepted s.vars on
+          (subst (λ v. FailedLine a v x) failed.state failed);
       target = was.target;
       flushed = was.flushed;
     }
@@ -240,6 +276,7 @@ stands_failed o s h ring lits kind follows going on a b out unspent failed =
       ended = h.ended;
       held = h.held;
       waiting = h.waiting;
+      numbers = h.numbers;
       seen = h.seen;
       output = subst (λ v. HasLines o t v) (sym failed.state) lines_are;
     }
@@ -257,7 +294,7 @@ stands_with o s h a out S G n st k r en seen usable end caused =
       entries = was.entries;
       last = was.last;
       usable = usable;
-      caused = caused_as r caused;
+      caused = caused_same (record s { ended = en }) t a r refl caused;
       whole = was.whole;
       short = was.short;
       target = was.target;
@@ -272,14 +309,7 @@ stands_with o s h a out S G n st k r en seen usable end caused =
       ended = end ∙ h.ended;
       held = h.held;
       waiting = h.waiting;
+      numbers = h.numbers;
       seen = seen;
       output = subst (λ (w : Option LineState). IsSomeAnd w (HasLines o t)) (sym out) lines_are;
     }
-  where
-    caused_as : (q : Option PortStop) → IsCaused (record s { ended = en }) a q → IsCaused (record s { seen = S; given = G; coming = n; stop = st; looks = k; refused = r; ended = en }) a q
-    caused_as None c = tt
-    caused_as (Some Ended) c = c
-    caused_as (Some Broken) c = c
-    caused_as (Some ProofFault) c = c
-    caused_as (Some (NoHole lack)) c = c
-    caused_as (Some Memory) c = c

@@ -1,6 +1,7 @@
 -- What the calls of a port in memory keep of the one journal behind it.
-use Rattle.std.proofs.Common.{◌≡◌, ℕ, ◌+◌, ◌-◌, ◌≤◌, true, false, not, List, [], ◌∷◌, ◌++◌, length, take, sym, refl, ap, subst, ◌∙◌, arith, Some, None, append_assoc, length-append}
-use Rattle.std.specs.List.{All}
+use Rattle.std.proofs.Common.{◌≡◌, ◌≢◌, ℕ, ◌+◌, ◌-◌, ◌≤◌, ◌==◌, inl, inr, ⊎_elim, drop, true, false, not, List, [], ◌∷◌, ◌++◌, length, take, sym, refl, ap, subst, ◌∙◌, arith, Some, None, Result, Ok, Err, append_assoc, length-append}
+use Rattle.std.specs.List.{All, Contains, find, slice_get, list_any}
+use Rattle.rup_model.proofs.Lists.{In, In_append, In_Contains, Contains_In}
 use Rattle.std.specs.Option.{option_map}
 use Rattle.std.specs.declared.option.Option.{Option}
 use Rattle.std.proofs.lemmas.Bool.{not-true, or_right}
@@ -10,7 +11,7 @@ use Rattle.sat_words.specs.Literal.{Literal}
 use Rattle.sat_words.specs.Clause.{is_empty}
 use Rattle.sat_words.specs.declared.shared.Cref.{Cref}
 use Rattle.sat_words.specs.declared.shared.Stop.{Stop}
-use Rattle.sat_words.specs.declared.line.Line.TheVariants.{Add as AddLine}
+use Rattle.sat_words.specs.declared.line.Line.TheVariants.{Add as AddLine, Del as DelLine}
 use Rattle.rup_model.specs.declared.journal.Kind.{Kind}
 use Rattle.rup_model.specs.declared.journal.Kind.TheVariants.{Learn}
 use Rattle.rup_model.specs.Rup.{rup}
@@ -18,13 +19,18 @@ use Rattle.rup_model.specs.Journal.{book, is_told}
 use Rattle.rup_model.proofs.Additions.{told_more}
 use Rattle.ring_port.specs.declared.stops.PortStop.{PortStop}
 use Rattle.ring_port.specs.declared.stops.PortStop.TheVariants.{Ended, Broken, ProofFault, NoHole, Memory}
-use Rattle.ring_port.specs.PortState.{Holding, IsOn, held_at, known}
-use Rattle.ring_port.specs.Port.{is_usable, holding_of, LearnedClause}
-use Rattle.ring_port.specs.Log.{Origin, StandsOver, KeepsLog, journal_of}
-use Rattle.ring_port.specs.OwnLog.{LogData, AddedEntry, NotPut, own_entry}
-use Rattle.ring_port.specs.PlainPort.{PlainData, state_of, IsPlain}
-use Rattle.ring_port.proofs.PlainLemmas.{start_stays, free_behind, found_pushed}
-use Rattle.ring_port.proofs.LogSteps.{one_All, output_of, held_next, added_here, all_told_next, told_here, ended_next, ended_stays, number_is, stands_after, stands_failed, stands_with}
+use Rattle.ring_port.specs.PortState.{Holding, PortState, AreApart, IsKept, IsOn, held_at, known}
+use Rattle.ring_port.specs.Port.{is_usable, holding_of, last_after, AddedClause}
+use Rattle.ring_port.specs.Log.{Origin, Keeps, StandsOver, KeepsLog, journal_of}
+use Rattle.ring_port.specs.OwnLog.{LogData, AddedEntry, DeletedEntry, NotPut, WasReduced, own_entry}
+use Rattle.ring_port.specs.PlainPort.{PlainData, kept_at, state_of, IsPlain}
+use Rattle.ring_port.specs.Deleting.{without_one, deletions, DroppedOnce, TidiedUpTo}
+use Rattle.ring_port.proofs.Holdings.{All_In}
+use Rattle.ring_port.proofs.Dropping.{is_at, find_In, some_In, never_at, gone, without_in, All_without, kept_pushed_at, kept_first, kept_grown}
+use Rattle.ring_port.proofs.PlainLemmas.{pushed_data, dropped_data, start_stays, free_behind, waits_nowhere, found_pushed}
+use Rattle.ring_port.proofs.LogSteps.{one_All, output_of, held_next, added_here, all_told_next, told_here, ended_next, ended_stays, number_is, stands_after, stands_failed, stands_with, numbers_next, accepted_next, caused_same}
+use Rattle.ring_port.proofs.Deletions.{accepted_deletion, stands_deleted, stands_dropped}
+use Rattle.ring_port.proofs.Reductions.{stands_reduced}
 
 some_literal : (lits : List Literal) → 2 ≤ length lits → is_empty lits ≡ false
 some_literal [] long = absurd (omega arith)
@@ -47,24 +53,26 @@ unit_keeps p r g l kind number last usable on follows added o h =
     subst (λ k. StandsOver o (state_of (record p { written = p.written ++ l ∷ []; log = k; last = last }))) (sym added.state)
     (stands_after o s h refl (l ∷ []) kind number follows added.going (one_All (IsOn p.vars) l on) p.log.output g.output refl (unspent_of o p h usable) added.put
     p.held (take p.passed p.opening ++ (p.written ++ l ∷ [])) (option_map (λ c. c.address) last) p.log.ended
-    (held_next o s h refl (l ∷ []) kind number) seen (h.ended ∙ sym (ended_stays o s h refl (l ∷ []) kind number refl)))
+    (held_next o s h refl (l ∷ []) kind number) seen (h.ended ∙ sym (ended_stays o s h refl (l ∷ []) kind number refl)) h.numbers)
 
 -- the line of a longer clause
-pub clause_keeps : (p : PlainData) (r : ℕ) (g : LogData) (lits : List Literal) (kind : Kind) (number glue address : ℕ) (last : Option Cref) → length p.start ≤ length p.held
+pub clause_keeps : (p : PlainData) (r : ℕ) (g : LogData) (lits : List Literal) (kind : Kind) (number glue address : ℕ) (last : Option Cref) → IsPlain p
     → is_usable p.log.refused ≡ true → 2 ≤ length lits → All (IsOn p.vars) lits → rup (known (state_of p)) lits ≡ true → AddedEntry (record p.log { room = r }) g lits kind number
-    → KeepsLog (state_of p) (state_of (record p { held = p.held ++ record { address = address; number = number; glue = glue; lits = lits } ∷ []; log = g; last = last }))
-clause_keeps p r g lits kind number glue address last begun usable long on follows added o h =
+    → KeepsLog (state_of p) (state_of (pushed_data p (record { address = address; number = number; glue = glue; lits = lits }) g last))
+clause_keeps p r g lits kind number glue address last plain usable long on follows added o h =
     let s = state_of p in
     let x : Holding = record { address = address; number = number; glue = glue; lits = lits } in
     let next = number_is o s h refl lits kind number follows added.going on p.log.output g.output refl (unspent_of o p h usable) added.put in
     let held = All-append (λ c. (book o.formula (o.journal ++ (p.log.mine ++ own_entry number lits kind ∷ []))).clause c.number ≡ Some c.lits) p.held (x ∷ []) (held_next o s h refl lits kind number)
     (one_All (λ c. (book o.formula (o.journal ++ (p.log.mine ++ own_entry number lits kind ∷ []))).clause c.number ≡ Some c.lits) x (added_here o s h refl lits kind number next)) in
-    subst (λ hs. StandsOver o (record (state_of (record p { held = p.held ++ x ∷ []; log = g; last = last })) { start = hs })) (sym (start_stays (length p.start) p.held x begun))
-    (subst (λ k. StandsOver o (record (state_of (record p { held = p.held ++ x ∷ []; log = k; last = last })) { start = take (length p.start) p.held })) (sym added.state)
+    let pushed : LogData → PortState = λ k. record (state_of (record p { held = p.held ++ x ∷ []; log = k; last = last })) { waiting = kept_at p.all p.waiting; start = take (length p.start) p.all } in
+    subst (StandsOver o) (λ i. record (pushed g) { waiting = sym (kept_grown p.all x p.waiting plain.waiting) i; start = sym (start_stays (length p.start) p.all x plain.begun) i })
+    (subst (λ k. StandsOver o (pushed k)) (sym added.state)
     (stands_after o s h refl lits kind number follows added.going on p.log.output g.output refl (unspent_of o p h usable) added.put
     (p.held ++ x ∷ []) (take p.passed p.opening ++ p.written) (option_map (λ c. c.address) last) p.log.ended
     held (all_told_next o s h refl lits kind number (take p.passed p.opening ++ p.written) h.seen)
-    (h.ended ∙ sym (ended_stays o s h refl lits kind number (some_literal lits long)))))
+    (h.ended ∙ sym (ended_stays o s h refl lits kind number (some_literal lits long)))
+    (numbers_next o s h refl lits kind number x next (pushed (record p.log { output = g.output; mine = p.log.mine ++ own_entry number lits kind ∷ []; room = g.room })) refl refl)))
 
 -- the empty clause
 pub empty_keeps : (p : PlainData) (r : ℕ) (g : LogData) (kind : Kind) (number : ℕ)
@@ -77,7 +85,7 @@ empty_keeps p r g kind number usable follows added o h =
     (stands_after o s h refl [] kind number follows added.going none p.log.output g.output refl (unspent_of o p h usable) added.put
     p.held (take p.passed p.opening ++ p.written) (option_map (λ c. c.address) p.last) true
     (held_next o s h refl [] kind number) (all_told_next o s h refl [] kind number (take p.passed p.opening ++ p.written) h.seen)
-    (sym (ended_next o s h refl [] kind number ∙ or_right _ _ refl)))
+    (sym (ended_next o s h refl [] kind number ∙ or_right _ _ refl)) h.numbers)
 
 -- no line
 pub refused_keeps : (p : PlainData) (r : ℕ) (g : LogData) (lits : List Literal) (stop : PortStop)
@@ -90,12 +98,22 @@ refused_keeps p r g lits Ended usable on follows why o h =
 refused_keeps p r g lits Broken usable on follows why o h = absurd why
 refused_keeps p r g lits ProofFault usable on follows why o h =
     subst (λ k. StandsOver o (state_of (record p { log = k }))) (sym why.state)
-    (stands_failed o (state_of p) h refl lits Learn follows why.going on p.log.output g.output refl (unspent_of o p h usable) why.put)
+    (stands_failed o (state_of p) h (AddLine lits) (accepted_next o (state_of p) h refl lits Learn (book o.formula (journal_of o (state_of p))).next follows why.going refl) on p.log.output g.output refl (unspent_of o p h usable) why.put)
 refused_keeps p r g lits (NoHole lack) usable on follows why o h =
     subst (λ k. StandsOver o (state_of (record p { log = k }))) (sym why.state)
     (stands_with o (state_of p) h p.log.output refl (take p.passed p.opening ++ p.written) p.given (length p.opening - p.passed) p.stop p.looks (Some (NoHole lack)) p.log.ended
     h.seen (sym (ap not (unspent_of o p h usable))) refl (why.full, why.needed, why.found))
 refused_keeps p r g lits Memory usable on follows why o h = subst (λ k. StandsOver o (state_of (record p { log = k }))) (sym why) h
+
+-- the note of a reduction
+pub reduce_keeps : (p : PlainData) (r : ℕ) (g : LogData) (result : Result (Unit {0}) PortStop) → is_usable p.log.refused ≡ true → WasReduced (record p.log { room = r }) g result
+    → KeepsLog (state_of p) (state_of (record p { log = g }))
+reduce_keeps p r g (Ok done) usable reduced o h =
+    subst (λ k. StandsOver o (state_of (record p { log = k }))) (sym reduced.state) (stands_reduced o (state_of p) h reduced.going usable)
+reduce_keeps p r g (Err stop) usable over o h =
+    subst (λ k. StandsOver o (state_of (record p { log = k }))) (sym over.state)
+    (stands_with o (state_of p) h p.log.output refl (take p.passed p.opening ++ p.written) p.given (length p.opening - p.passed) p.stop p.looks (Some Ended) p.log.ended
+    h.seen (sym (ap not (unspent_of o p h usable))) refl over.over)
 
 -- a unit of the opening that is given
 pub given_keeps : (p : PlainData) (n : ℕ) (ls : List Literal) (r : ℕ) → KeepsLog (state_of p) (state_of (record p { passed = n; given = ls; given_room = r }))
@@ -109,6 +127,33 @@ given_keeps p n ls r o h =
     stands_with o (state_of p) h p.log.output refl (take n p.opening ++ p.written) ls (length p.opening - n) p.stop p.looks p.log.refused p.log.ended
     (All-append (λ k. is_told o.formula (journal_of o (state_of p)) k ≡ true) (take n p.opening) p.written (All-take (λ k. is_told o.formula (journal_of o (state_of p)) k ≡ true) n p.opening told) written) was.usable refl was.caused
 
+-- which clause was learned last
+pub last_keeps : (p : PlainData) (la : Option Cref) → KeepsLog (state_of p) (state_of (record p { last = la }))
+last_keeps p la o h =
+    let was = output_of o (state_of p) p.log.output h refl in
+    record {
+      opens = h.opens;
+      given = h.given;
+      sound = h.sound;
+      of_ring = h.of_ring;
+      on = h.on;
+      ended = h.ended;
+      held = h.held;
+      waiting = h.waiting;
+      numbers = h.numbers;
+      seen = h.seen;
+      output = record {
+        entries = was.entries;
+        last = was.last;
+        usable = was.usable;
+        caused = caused_same (state_of p) (state_of (record p { last = la })) p.log.output p.log.refused refl was.caused;
+        whole = was.whole;
+        short = was.short;
+        target = was.target;
+        flushed = was.flushed;
+      };
+    }
+
 -- a look at the stop, and a stop that is set
 pub looked_keeps : (p : PlainData) (st : Option Stop) (k : ℕ) → KeepsLog (state_of p) (state_of (record p { stop = st; looks = k }))
 looked_keeps p st k o h =
@@ -116,19 +161,92 @@ looked_keeps p st k o h =
     stands_with o (state_of p) h p.log.output refl (take p.passed p.opening ++ p.written) p.given (length p.opening - p.passed) st k p.log.refused p.log.ended h.seen was.usable refl was.caused
 
 -- what a longer clause did to the port
-pub clause_put : (p : PlainData) → IsPlain p → (r : ℕ) (g : LogData) (lits : List Literal) (number glue : ℕ) (c : Cref) → c.address ≡ length p.held
-    → 2 ≤ length lits → AddedEntry (record p.log { room = r }) g lits Learn number
-    → LearnedClause (state_of p) (state_of (record p { held = p.held ++ holding_of c number glue lits ∷ []; log = g; last = Some c })) lits glue c
-clause_put p plain r g lits number glue c at long added =
+pub clause_put : (p : PlainData) → IsPlain p → (r : ℕ) (g : LogData) (lits : List Literal) (kind : Kind) (number glue : ℕ) (c : Cref) (last : Option Cref) → c.address ≡ length p.all
+    → 2 ≤ length lits → option_map (λ x. x.address) last ≡ last_after kind (option_map (λ x. x.address) p.last) c.address → AddedEntry (record p.log { room = r }) g lits kind number
+    → AddedClause (state_of p) (state_of (pushed_data p (holding_of c number glue lits) g last)) lits glue kind c
+clause_put p plain r g lits kind number glue c last at long is added =
     let x : Holding = holding_of c number glue lits in
-    let grown : LogData = record p.log { room = g.room; output = g.output; mine = p.log.mine ++ own_entry number lits Learn ∷ [] } in
+    let grown : LogData = record p.log { room = g.room; output = g.output; mine = p.log.mine ++ own_entry number lits kind ∷ [] } in
     let none : held_at (state_of p) c.address ≡ None = ap (held_at (state_of p)) at ∙ free_behind p plain in
     record {
       number = number;
       going = added.going;
       long = long;
-      free = record { not_held = none; not_waiting = refl };
-      there = found_pushed (state_of p) (state_of (record p { held = p.held ++ x ∷ []; log = g; last = Some c })) x refl none;
-      state = ap (λ k. state_of (record p { held = p.held ++ x ∷ []; log = k; last = Some c })) added.state
-          ∙ ap (λ hs. record (state_of (record p { held = p.held ++ x ∷ []; log = grown; last = Some c })) { start = hs }) (start_stays (length p.start) p.held x plain.begun);
+      free = record { not_held = none; not_waiting = ap (λ a. list_any (λ k. k.address == a) (kept_at p.all p.waiting)) at ∙ waits_nowhere p plain };
+      there = found_pushed (state_of p) (state_of (pushed_data p x g last)) x refl none;
+      state = ap (λ k. state_of (pushed_data p x k last)) added.state
+          ∙ (λ i. record (state_of (pushed_data p x grown last)) { waiting = kept_grown p.all x p.waiting plain.waiting i; start = start_stays (length p.start) p.all x plain.begun i; last = is i });
     }
+
+-- a clause is dropped, and waits
+module _ (p : PlainData) (plain : IsPlain p) (c : Cref) (x : Holding) (there : slice_get p.all c.address ≡ Some x) (held : find (is_at c.address) p.held ≡ Some x) where
+  more_waits : kept_at p.all (p.waiting ++ c ∷ []) ≡ kept_at p.all p.waiting ++ x ∷ []
+  more_waits = kept_pushed_at p.all p.waiting c x there
+
+  pub drop_keeps : KeepsLog (state_of p) (state_of (dropped_data p c))
+  drop_keeps o h =
+      let among : In x p.held = find_In (is_at c.address) p.held x held in
+      let P : Holding → Type 0 = λ k. (book o.formula (journal_of o (state_of p))).clause k.number ≡ Some k.lits in
+      subst (λ ws. StandsOver o (record (state_of p) { held = without_one p.held c.address; waiting = ws })) (sym more_waits)
+      (stands_dropped o (state_of p) h (without_one p.held c.address) (kept_at p.all p.waiting ++ x ∷ []) keeps
+      (All_without P p.held c.address h.held)
+      (All-append P (kept_at p.all p.waiting) (x ∷ []) h.waiting (one_All P x (All_In P p.held x h.held among))))
+    where
+      keeps : (y : Holding) → Keeps (record (state_of p) { held = without_one p.held c.address; waiting = kept_at p.all p.waiting ++ x ∷ [] }) y → Keeps (state_of p) y
+      keeps y (inl m) = inl (In_Contains p.held y (without_in p.held c.address y (Contains_In (without_one p.held c.address) y m)))
+      keeps y (inr m) = ⊎_elim (λ k. inr (In_Contains (kept_at p.all p.waiting) y k)) (λ k. last k) (In_append (kept_at p.all p.waiting) (x ∷ []) y (Contains_In (kept_at p.all p.waiting ++ x ∷ []) y m))
+        where
+          last : In y (x ∷ []) → Keeps (state_of p) y
+          last (inl e) = inl (subst (Contains p.held) e (In_Contains p.held x (find_In (is_at c.address) p.held x held)))
+          last (inr k) = absurd k
+
+  pub drop_did : DroppedOnce (state_of p) (state_of (dropped_data p c)) c.address
+  unfolding held_at
+  drop_did = record {
+    clause = x;
+    there = held;
+    waits = inr (more_waits, gone p.held c.address plain.apart);
+    alone = λ one none. more_waits;
+    state = refl;
+  }
+
+-- the first clause that waits is deleted
+module _ (p : PlainData) (plain : IsPlain p) (c : Cref) (cs : List Cref) (first : p.waiting ≡ c ∷ cs) (x : Holding) (there : slice_get p.all c.address ≡ Some x) (r : ℕ) (g : LogData) (usable : is_usable p.log.refused ≡ true) where
+  waits_first : kept_at p.all p.waiting ≡ x ∷ kept_at p.all cs
+  waits_first = ap (kept_at p.all) first ∙ kept_first p.all c cs x there
+
+  kept_x : IsKept p.vars x
+  kept_x = All_In (IsKept p.vars) p.all x plain.all (some_In p.all c.address x there)
+
+  not_held : All (λ k. k ≢ x) p.held
+  not_held k d lt e = never_at p.held x.address ((subst (All (λ y. find (is_at y.address) p.held ≡ None)) waits_first plain.dropped) 0 x (omega arith)) k d lt (ap (λ y. y.address) e)
+
+  waits_once : All (λ k. k ≢ x) (kept_at p.all cs)
+  waits_once k d lt e = (subst AreApart waits_first plain.once).0 k d lt (ap (λ y. y.address) e)
+
+  pub deletion_keeps : DeletedEntry (record p.log { room = r }) g x.lits x.number → KeepsLog (state_of p) (state_of (record p { waiting = cs; log = g }))
+  deletion_keeps did o h =
+      subst (λ k. StandsOver o (state_of (record p { waiting = cs; log = k }))) (sym did.state)
+      (stands_deleted o (state_of p) h x (kept_at p.all cs) waits_first kept_x.shape did.going not_held waits_once p.log.output g.output refl (unspent_of o p h usable) did.given did.put)
+
+  pub deletion_did : DeletedEntry (record p.log { room = r }) g x.lits x.number → TidiedUpTo (state_of p) (state_of (record p { waiting = cs; log = g })) 1
+  deletion_did did = record {
+    going = λ some. did.going;
+    state = ap (λ k. state_of (record p { waiting = cs; log = k })) did.state
+        ∙ (λ i. record (state_of p) { waiting = drop 1 (sym waits_first i); mine = p.log.mine ++ deletions 0 (take 1 (sym waits_first i)); output = Some g.output });
+  }
+
+  pub deletion_refused : (stop : PortStop) → NotPut (record p.log { room = r }) g (DelLine x.lits) stop → KeepsLog (state_of p) (state_of (record p { log = g }))
+  deletion_refused Ended why o h =
+      subst (λ k. StandsOver o (state_of (record p { log = k }))) (sym why.1)
+      (stands_with o (state_of p) h p.log.output refl (take p.passed p.opening ++ p.written) p.given (length p.opening - p.passed) p.stop p.looks (Some Ended) p.log.ended
+      h.seen (sym (ap not (unspent_of o p h usable))) refl why.0)
+  deletion_refused Broken why o h = absurd why
+  deletion_refused ProofFault why o h =
+      subst (λ k. StandsOver o (state_of (record p { log = k }))) (sym why.state)
+      (stands_failed o (state_of p) h (DelLine x.lits) (accepted_deletion o (state_of p) h x (kept_at p.all cs) waits_first kept_x.shape why.going) kept_x.on p.log.output g.output refl (unspent_of o p h usable) why.put)
+  deletion_refused (NoHole lack) why o h =
+      subst (λ k. StandsOver o (state_of (record p { log = k }))) (sym why.state)
+      (stands_with o (state_of p) h p.log.output refl (take p.passed p.opening ++ p.written) p.given (length p.opening - p.passed) p.stop p.looks (Some (NoHole lack)) p.log.ended
+      h.seen (sym (ap not (unspent_of o p h usable))) refl (why.full, why.needed, why.found))
+  deletion_refused Memory why o h = subst (λ k. StandsOver o (state_of (record p { log = k }))) (sym why) h

@@ -1,12 +1,14 @@
 -- Clauses at their places, read and added.
-use Rattle.std.proofs.Common.{◌≡◌, ℕ, zero, suc, ◌+◌, ◌<◌, ◌≤◌, List, [], ◌∷◌, ◌++◌, length, take, drop, get_or, sym, refl, ap, subst, ◌∙◌, arith, Some}
-use Rattle.std.specs.List.{All, slice_get}
+use Rattle.std.proofs.Common.{◌≡◌, ℕ, zero, suc, ◌+◌, ◌<◌, ◌≤◌, ◌==◌, Bool, true, false, cond, List, [], ◌∷◌, ◌++◌, length, take, drop, get_or, set, sym, refl, ap, subst, ◌∙◌, arith, Some, IsSome, eq-eqb, ne_eqb}
+use Rattle.std.proofs.lemmas.Bool.{false≢true, eqb-true}
+use Rattle.std.specs.List.{All, slice_get, find}
 use Rattle.std.proofs.lemmas.List.{take-append-le, drop-append-le, length-drop, get_or-take, get_or-drop, length-take}
 use Rattle.std.proofs.Math.Seq.{drop-append_seam}
 use Rattle.sat_words.specs.Literal.{Literal}
 use Rattle.ring_port.specs.declared.cell.Cell.{Cell}
 use Rattle.ring_port.specs.PortState.{Holding, lits_in}
-use Rattle.ring_port.specs.Store.{holding_in, holdings, IsPlaced}
+use Rattle.ring_port.specs.Store.{holding_in, holdings, live, IsPlaced}
+use Rattle.ring_port.specs.Deleting.{without_one}
 
 pub length-holdings : (lits : List Literal) (a : ℕ) (xs : List Cell) → length (holdings lits a xs) ≡ length xs
 length-holdings lits a [] = refl
@@ -36,6 +38,25 @@ holdings_grown lits more a [] all = refl
 holdings_grown lits more a (x ∷ xs) all =
     ap (λ c. record { address = a; number = x.number; glue = x.glue; lits = c } ∷ holdings (lits ++ more) (suc a) xs) (lits_grown lits more x (all 0 x (omega arith)))
     ∙ ap (λ hs. holding_in lits a x ∷ hs) (holdings_grown lits more (suc a) xs (λ k d lt. all (suc k) d (omega arith)))
+
+pub live_grown : (lits more : List Literal) (a : ℕ) (xs : List Cell) → All (IsPlaced lits) xs → live (lits ++ more) a xs ≡ live lits a xs
+live_grown lits more a [] all = refl
+live_grown lits more a (x ∷ xs) all = by x.held (lits_grown lits more x (all 0 x (omega arith))) (live_grown lits more (suc a) xs (λ k d lt. all (suc k) d (omega arith)))
+  where
+    by : (b : Bool) → take x.size (drop x.first (lits ++ more)) ≡ take x.size (drop x.first lits) → live (lits ++ more) (suc a) xs ≡ live lits (suc a) xs
+        → cond b (holding_in (lits ++ more) a x ∷ live (lits ++ more) (suc a) xs) (live (lits ++ more) (suc a) xs) ≡ cond b (holding_in lits a x ∷ live lits (suc a) xs) (live lits (suc a) xs)
+    by true same rest = λ i. record { address = a; number = x.number; glue = x.glue; lits = same i } ∷ rest i
+    by false same rest = rest
+
+pub live-append : (lits : List Literal) (a : ℕ) (xs : List Cell) (x : Cell) → x.held ≡ true → live lits a (xs ++ x ∷ []) ≡ live lits a xs ++ holding_in lits (a + length xs) x ∷ []
+live-append lits a [] x here = ap (λ b. cond b (holding_in lits a x ∷ []) []) here ∙ ap (λ b. holding_in lits b x ∷ []) (omega arith)
+live-append lits a (y ∷ xs) x here =
+    by y.held (live-append lits (suc a) xs x here ∙ ap (λ b. live lits (suc a) xs ++ holding_in lits b x ∷ []) (omega arith))
+  where
+    by : (b : Bool) → live lits (suc a) (xs ++ x ∷ []) ≡ live lits (suc a) xs ++ holding_in lits (a + length (y ∷ xs)) x ∷ []
+        → cond b (holding_in lits a y ∷ live lits (suc a) (xs ++ x ∷ [])) (live lits (suc a) (xs ++ x ∷ [])) ≡ cond b (holding_in lits a y ∷ live lits (suc a) xs) (live lits (suc a) xs) ++ holding_in lits (a + length (y ∷ xs)) x ∷ []
+    by true rest = ap (λ hs. holding_in lits a y ∷ hs) rest
+    by false rest = rest
 
 -- the literals put last
 pub lits_last : (lits more : List Literal) → take (length more) (drop (length lits) (lits ++ more)) ≡ more
@@ -88,10 +109,67 @@ lit_at lits cells held a x i d at lt = ap (λ o. slice_get (lits_in o) i) at.her
 
 -- a clause behind the others
 pub holding_pushed : (lits : List Literal) (cells : List Cell) (more : List Literal) (number glue first : ℕ) → first ≡ length lits → All (IsPlaced lits) cells
-    → holdings (lits ++ more) 0 (cells ++ record { number = number; first = first; size = length more; glue = glue } ∷ [])
+    → holdings (lits ++ more) 0 (cells ++ record { number = number; first = first; size = length more; glue = glue; held = true } ∷ [])
     ≡ holdings lits 0 cells ++ record { address = length (holdings lits 0 cells); number = number; glue = glue; lits = more } ∷ []
 holding_pushed lits cells more number glue first e all =
-    holdings-append (lits ++ more) 0 cells (record { number = number; first = first; size = length more; glue = glue })
-    ∙ ap (λ hs. hs ++ holding_in (lits ++ more) (0 + length cells) (record { number = number; first = first; size = length more; glue = glue }) ∷ []) (holdings_grown lits more 0 cells all)
+    holdings-append (lits ++ more) 0 cells (record { number = number; first = first; size = length more; glue = glue; held = true })
+    ∙ ap (λ hs. hs ++ holding_in (lits ++ more) (0 + length cells) (record { number = number; first = first; size = length more; glue = glue; held = true }) ∷ []) (holdings_grown lits more 0 cells all)
     ∙ ap (λ a. holdings lits 0 cells ++ record { address = a; number = number; glue = glue; lits = take (length more) (drop first (lits ++ more)) } ∷ []) (let n = length-holdings lits 0 cells in omega arith)
     ∙ ap (λ c. holdings lits 0 cells ++ record { address = length (holdings lits 0 cells); number = number; glue = glue; lits = c } ∷ []) (ap (λ n. take (length more) (drop n (lits ++ more))) e ∙ lits_last lits more)
+
+pub live_pushed : (lits : List Literal) (cells : List Cell) (more : List Literal) (number glue first : ℕ) → first ≡ length lits → All (IsPlaced lits) cells
+    → live (lits ++ more) 0 (cells ++ record { number = number; first = first; size = length more; glue = glue; held = true } ∷ [])
+    ≡ live lits 0 cells ++ record { address = length (holdings lits 0 cells); number = number; glue = glue; lits = more } ∷ []
+live_pushed lits cells more number glue first e all =
+    live-append (lits ++ more) 0 cells (record { number = number; first = first; size = length more; glue = glue; held = true }) refl
+    ∙ ap (λ hs. hs ++ holding_in (lits ++ more) (0 + length cells) (record { number = number; first = first; size = length more; glue = glue; held = true }) ∷ []) (live_grown lits more 0 cells all)
+    ∙ ap (λ a. live lits 0 cells ++ record { address = a; number = number; glue = glue; lits = take (length more) (drop first (lits ++ more)) } ∷ []) (let n = length-holdings lits 0 cells in omega arith)
+    ∙ ap (λ c. live lits 0 cells ++ record { address = length (holdings lits 0 cells); number = number; glue = glue; lits = c } ∷ []) (ap (λ n. take (length more) (drop n (lits ++ more))) e ∙ lits_last lits more)
+
+-- Dropping
+
+-- each clause that is held stands at its place
+pub record IsLive (lits : List Literal) (a : ℕ) (xs : List Cell) (b : ℕ) : Type 0 where
+  pub place : ℕ
+  pub inside : place < length xs
+  pub at : a + place ≡ b
+  pub held : (d : Cell) → (get_or xs place d).held ≡ true
+
+pub live_at : (lits : List Literal) (a : ℕ) (xs : List Cell) (b : ℕ) → IsSome (find (λ h. h.address == b) (live lits a xs)) → IsLive lits a xs b
+live_at lits a [] b h = absurd (false≢true h)
+live_at lits a (x ∷ xs) b h = by x.held refl h (live_at lits (suc a) xs b)
+  where
+    later : IsLive lits (suc a) xs b → IsLive lits a (x ∷ xs) b
+    later k = record { place = suc k.place; inside = (let lt = k.inside in omega arith); at = (let e = k.at in omega arith); held = k.held }
+
+    head : (y : Bool) → (a == b) ≡ y → x.held ≡ true → IsSome (cond y (Some (holding_in lits a x)) (find (λ h. h.address == b) (live lits (suc a) xs))) → (IsSome (find (λ h. h.address == b) (live lits (suc a) xs)) → IsLive lits (suc a) xs b) → IsLive lits a (x ∷ xs) b
+    head true e is some rest = record { place = 0; inside = omega arith; at = (let q = eqb-true a b e in omega arith); held = λ d. is }
+    head false e is some rest = later (rest some)
+
+    by : (y : Bool) → x.held ≡ y → IsSome (find (λ h. h.address == b) (cond y (holding_in lits a x ∷ live lits (suc a) xs) (live lits (suc a) xs))) → (IsSome (find (λ h. h.address == b) (live lits (suc a) xs)) → IsLive lits (suc a) xs b) → IsLive lits a (x ∷ xs) b
+    by true is some rest = head (a == b) refl is some rest
+    by false is some rest = later (rest some)
+
+-- the cell that is held no longer
+abbrev pub dropped_cell : Cell → Cell
+dropped_cell x = record x { held = false }
+
+pub all_dropped : (lits : List Literal) (a : ℕ) (xs : List Cell) (i : ℕ) (x : Cell) → i < length xs → x ≡ get_or xs i x → holdings lits a (set xs i (dropped_cell x)) ≡ holdings lits a xs
+all_dropped lits a [] i x lt e = absurd (omega arith)
+all_dropped lits a (y ∷ xs) zero x lt e = ap (λ (z : Cell). holding_in lits a z ∷ holdings lits (suc a) xs) e
+all_dropped lits a (y ∷ xs) (suc i) x lt e = ap (λ hs. holding_in lits a y ∷ hs) (all_dropped lits (suc a) xs i x (omega arith) e)
+
+pub live_dropped : (lits : List Literal) (a : ℕ) (xs : List Cell) (i : ℕ) (x : Cell) → i < length xs → x ≡ get_or xs i x → x.held ≡ true
+    → live lits a (set xs i (dropped_cell x)) ≡ without_one (live lits a xs) (a + i)
+live_dropped lits a [] i x lt e is = absurd (omega arith)
+live_dropped lits a (y ∷ xs) zero x lt e is =
+    sym (ap (λ b. without_one (cond b (holding_in lits a y ∷ live lits (suc a) xs) (live lits (suc a) xs)) (a + 0)) (ap (λ (z : Cell). z.held) (sym e) ∙ is)
+    ∙ ap (λ b. cond b (live lits (suc a) xs) (holding_in lits a y ∷ without_one (live lits (suc a) xs) (a + 0))) (eq-eqb a (a + 0) (omega arith)))
+live_dropped lits a (y ∷ xs) (suc i) x lt e is =
+    by y.held (live_dropped lits (suc a) xs i x (omega arith) e is ∙ ap (without_one (live lits (suc a) xs)) (omega arith))
+  where
+    by : (b : Bool) → live lits (suc a) (set xs i (dropped_cell x)) ≡ without_one (live lits (suc a) xs) (a + suc i)
+        → cond b (holding_in lits a y ∷ live lits (suc a) (set xs i (dropped_cell x))) (live lits (suc a) (set xs i (dropped_cell x)))
+        ≡ without_one (cond b (holding_in lits a y ∷ live lits (suc a) xs) (live lits (suc a) xs)) (a + suc i)
+    by true rest = ap (λ hs. holding_in lits a y ∷ hs) rest ∙ sym (ap (λ b. cond b (live lits (suc a) xs) (holding_in lits a y ∷ without_one (live lits (suc a) xs) (a + suc i))) (ne_eqb a (a + suc i) (λ q. absurd (omega arith))))
+    by false rest = rest

@@ -1,5 +1,8 @@
 pub mod PortState
 pub mod Port
+pub mod Deleting
+pub mod Reducing
+pub mod Exchange
 pub mod Log
 pub mod Store
 pub mod OwnLog

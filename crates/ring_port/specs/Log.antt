@@ -1,5 +1,5 @@
 -- The log of a port that writes alone: one journal, of the ruler's entries and the ring's own, whose lines its output has.
-use Rattle.std.specs.Prelude.{◌≡◌, ◌+◌, true, false, not, List, ◌++◌, map, length, All, Option, Some, None, IsSomeAnd, ⊤}
+use Rattle.std.specs.Prelude.{◌≡◌, ◌+◌, ◌⊎◌, true, false, not, List, ◌++◌, map, length, All, Contains, Option, Some, None, IsSomeAnd, ⊤}
 use Rattle.std.specs.List.{list_any}
 use Rattle.sat_words.specs.Clause.{is_empty}
 use Rattle.rup_model.specs.declared.journal.Entry.{Entry}
@@ -48,8 +48,13 @@ pub record HasLines (o : Origin) (s : PortState) (out : LineState) : Type 0 wher
   pub target : out.target ≡ o.output.target
   pub flushed : out.flushed ≡ o.output.flushed
 
+-- the clause is held, or waits for its deletion
+abbrev pub Keeps : PortState → Holding → Type 0
+Keeps s h = Contains s.held h ⊎ Contains s.waiting h
+
 -- the port stands over this origin: the formula has no empty clause, each line of the one journal is valid where it stands,
--- all that the ring holds, that waits for its deletion or that was seen is alive in the log, and the output has the lines
+-- all that the ring holds, that waits for its deletion or that was seen is alive in the log, each clause under a number of its
+-- own, and the output has the lines
 pub record StandsOver (o : Origin) (s : PortState) : Type 0 where
   pub opens : IsOpening o.formula (opening_of o s)
   pub given : list_any is_empty o.formula ≡ false
@@ -59,6 +64,7 @@ pub record StandsOver (o : Origin) (s : PortState) : Type 0 where
   pub ended : s.ended ≡ ended o.formula (journal_of o s)
   pub held : All (λ h. (book o.formula (journal_of o s)).clause h.number ≡ Some h.lits) s.held
   pub waiting : All (λ h. (book o.formula (journal_of o s)).clause h.number ≡ Some h.lits) s.waiting
+  pub numbers : (h k : Holding) → Keeps s h → Keeps s k → h.number ≡ k.number → h ≡ k
   pub seen : All (λ l. is_told o.formula (journal_of o s) l ≡ true) s.seen
   pub output : IsSomeAnd s.output (HasLines o s)
 

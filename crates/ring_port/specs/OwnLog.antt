@@ -6,7 +6,7 @@ use Rattle.sat_words.specs.declared.shared.NoRoom.{NoRoom}
 use Rattle.sat_words.specs.declared.line.Line.TheVariants.{Add as AddLine, Del as DelLine}
 use Rattle.rup_model.specs.declared.journal.Kind.{Kind}
 use Rattle.rup_model.specs.declared.journal.Entry.{Entry}
-use Rattle.rup_model.specs.declared.journal.Entry.TheVariants.{Add}
+use Rattle.rup_model.specs.declared.journal.Entry.TheVariants.{Add, Del, Reduce}
 use Rattle.sat_words.specs.declared.shared.TheConstants.{MAX_ENTRIES}
 use Rattle.drat_text.specs.LineState.{LineState}
 use Rattle.drat_text.specs.LineOut.{PutLine, FailedLine}
@@ -73,3 +73,31 @@ pub record AddedEntry (old new : LogData) (lits : List Literal) (kind : Kind) (n
 abbrev pub WasAdded : LogData → LogData → List Literal → Kind → Result ℕ PortStop → Type 0
 WasAdded old new lits kind (Ok number) = AddedEntry old new lits kind number
 WasAdded old new lits kind (Err stop) = NotPut old new (AddLine lits) stop
+
+-- the line that deletes the clause stands, and its entry
+pub record DeletedEntry (old new : LogData) (lits : List Literal) (number : ℕ) : Type 0 where
+  pub going : old.ended ≡ false
+  pub given : ℕ
+  pub put : PutLine old.output new.output (DelLine lits) given
+  pub state : new ≡ record old { output = new.output; mine = old.mine ++ Del 0 number ∷ []; room = new.room }
+
+-- what the deletion of a clause did
+abbrev pub WasDeleted : LogData → LogData → List Literal → ℕ → Result (Unit {0}) PortStop → Type 0
+WasDeleted old new lits number (Ok done) = DeletedEntry old new lits number
+WasDeleted old new lits number (Err stop) = NotPut old new (DelLine lits) stop
+
+-- the entry of a reduction stands, which has no line
+pub record ReducedLog (old new : LogData) : Type 0 where
+  pub going : old.ended ≡ false
+  pub state : new ≡ record old { mine = old.mine ++ Reduce 0 ∷ []; room = new.room }
+
+-- the log is ended
+pub record EndedBefore (old new : LogData) (stop : PortStop) : Type 0 where
+  pub over : old.ended ≡ true
+  pub answer : stop ≡ Ended
+  pub state : new ≡ record old { refused = Some Ended }
+
+-- what the note of a reduction did
+abbrev pub WasReduced : LogData → LogData → Result (Unit {0}) PortStop → Type 0
+WasReduced old new (Ok done) = ReducedLog old new
+WasReduced old new (Err stop) = EndedBefore old new stop

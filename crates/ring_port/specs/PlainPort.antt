@@ -1,6 +1,6 @@
 -- What a port in memory has, and what is kept of it.
-use Rattle.std.specs.Prelude.{◌≡◌, ℕ, ◌+◌, ◌-◌, ◌<◌, ◌≤◌, true, false, suc, List, [], ◌∷◌, ◌++◌, map, length, take, All, Option, Some, None, IfSome, Result, Ok, Err, ⊤}
-use Rattle.std.specs.List.{slice_index_or}
+use Rattle.std.specs.Prelude.{◌≡◌, ℕ, ◌+◌, ◌-◌, ◌<◌, ◌≤◌, ◌==◌, true, false, suc, List, [], ◌∷◌, ◌++◌, map, length, take, find, All, Option, Some, None, IfSome, Result, Ok, Err, ⊤}
+use Rattle.std.specs.List.{slice_index_or, slice_get, filter_map}
 use Rattle.std.specs.Option.{option_map}
 use Rattle.sat_words.specs.Literal.{Literal}
 use Rattle.sat_words.specs.Clause.{has, distinct_lits}
@@ -15,15 +15,18 @@ use Rattle.sat_words.specs.declared.shared.TheConstants.{MAX_ENTRIES}
 use Rattle.drat_text.specs.LineState.{LineState}
 use Rattle.ring_port.specs.declared.stops.PortStop.{PortStop}
 use Rattle.ring_port.specs.declared.stops.PortStop.TheVariants.{Ended, Broken, ProofFault, NoHole, Memory}
-use Rattle.ring_port.specs.PortState.{Holding, PortState, IsKept, IsOn}
+use Rattle.ring_port.specs.PortState.{Holding, PortState, AreApart, IsKept, IsOn}
 use Rattle.ring_port.specs.OwnLog.{LogData}
 
--- the clauses held; the addresses of the start clauses, which are held first; the units of the opening, and how many of
+-- all clauses that were ever kept, each at its place; those that are held; the addresses of those that wait, in order; the
+-- addresses of the start clauses, which came first; the units of the opening, and how many of
 -- them were given, or written before it came to them; the units given, and for how many more there is room; the units
 -- written; the log; the clause learned last; the stop, and how often none was found
 pub record PlainData : Type 0 where
   pub vars : ℕ
+  pub all : List Holding
   pub held : List Holding
+  pub waiting : List Cref
   pub start : List Cref
   pub opening : List Literal
   pub passed : ℕ
@@ -35,15 +38,19 @@ pub record PlainData : Type 0 where
   pub stop : Option Stop
   pub looks : ℕ
 
+-- the clauses at these addresses
+abbrev pub kept_at : List Holding → List Cref → List Holding
+kept_at all cs = filter_map (λ c. slice_get all c.address) cs
+
 -- the port of ring 0, of 1 ring
 abbrev pub state_of : PlainData → PortState
 state_of p = record {
   held = p.held;
-  waiting = [];
+  waiting = kept_at p.all p.waiting;
   seen = take p.passed p.opening ++ p.written;
   given = p.given;
   coming = length p.opening - p.passed;
-  start = take (length p.start) p.held;
+  start = take (length p.start) p.all;
   opening = p.opening;
   mine = p.log.mine;
   shared = 0;
@@ -72,12 +79,17 @@ pub record IsOwnStop (x : Stop) : Type 0 where
   pub high : x.kind ≤ STOP_MEMORY
   pub own : x.ring ≡ 0
 
--- what is kept of the port
+-- what is kept of the port: a clause that is held, or waits, is the one at its place, and once only
 pub record IsPlain (p : PlainData) : Type 0 where
-  pub held : All (IsKept p.vars) p.held
-  pub indexed : IsIndexed p.held
-  pub begun : length p.start ≤ length p.held
-  pub start : map (λ c. c.address) p.start ≡ map (λ h. h.address) (take (length p.start) p.held)
+  pub all : All (IsKept p.vars) p.all
+  pub indexed : IsIndexed p.all
+  pub placed : All (λ h. slice_get p.all h.address ≡ Some h) p.held
+  pub apart : AreApart p.held
+  pub waiting : All (λ c. c.address < length p.all) p.waiting
+  pub dropped : All (λ h. find (λ k. k.address == h.address) p.held ≡ None) (kept_at p.all p.waiting)
+  pub once : AreApart (kept_at p.all p.waiting)
+  pub begun : length p.start ≤ length p.all
+  pub start : map (λ c. c.address) p.start ≡ map (λ h. h.address) (take (length p.start) p.all)
   pub opening : All (IsOn p.vars) p.opening
   pub distinct : distinct_lits p.opening ≡ true
   pub passed : p.passed ≤ length p.opening

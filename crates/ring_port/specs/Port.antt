@@ -7,7 +7,7 @@ use Rattle.sat_words.specs.declared.shared.Cref.{Cref}
 use Rattle.sat_words.specs.declared.shared.Stop.{Stop}
 use Rattle.rup_model.specs.Journal.{fresh}
 use Rattle.rup_model.specs.declared.journal.Kind.{Kind}
-use Rattle.rup_model.specs.declared.journal.Kind.TheVariants.{Learn, Derive, UnitLine}
+use Rattle.rup_model.specs.declared.journal.Kind.TheVariants.{Ruler, Learn, Derive, UnitLine}
 use Rattle.rup_model.specs.declared.journal.Entry.{Entry}
 use Rattle.rup_model.specs.declared.journal.Entry.TheVariants.{Add}
 use Rattle.ring_port.specs.declared.stops.PortStop.{PortStop}
@@ -92,9 +92,16 @@ Sees old new l = (k : Literal) → has new k ≡ (has old k || same l k)
 abbrev pub holding_of : Cref → ℕ → ℕ → List Literal → Holding
 holding_of c number glue lits = record { address = c.address; number = number; glue = glue; lits = lits }
 
--- a clause of two literals or more was learned: it is held at an address that was free, under the number of its line, and
--- is the one learned last
-pub record LearnedClause (old new : PortState) (lits : List Literal) (glue : ℕ) (c : Cref) : Type 0 where
+-- the address of the clause learned last, once one was added
+abbrev pub last_after : Kind → Option ℕ → ℕ → Option ℕ
+last_after Ruler last a = last
+last_after Learn last a = Some a
+last_after Derive last a = last
+last_after UnitLine last a = last
+
+-- the line of a clause of two literals or more was added: it is held at an address that was free, under the number of its
+-- line; what was learned is the one learned last
+pub record AddedClause (old new : PortState) (lits : List Literal) (glue : ℕ) (kind : Kind) (c : Cref) : Type 0 where
   pub number : ℕ
   pub going : old.ended ≡ false
   pub long : 2 ≤ length lits
@@ -102,10 +109,14 @@ pub record LearnedClause (old new : PortState) (lits : List Literal) (glue : ℕ
   pub there : held_at new c.address ≡ Some (holding_of c number glue lits)
   pub state : new ≡ record old {
     held = old.held ++ holding_of c number glue lits ∷ [];
-    mine = old.mine ++ entry_of old number lits Learn ∷ [];
-    last = Some c.address;
+    mine = old.mine ++ entry_of old number lits kind ∷ [];
+    last = last_after kind old.last c.address;
     output = new.output;
   }
+
+-- a clause was learned, and is the one learned last
+abbrev pub LearnedClause : PortState → PortState → List Literal → ℕ → Cref → Type 0
+LearnedClause old new lits glue c = AddedClause old new lits glue Learn c
 
 -- the line of a unit was added, and the unit is seen; a clause that was learned before it may still be offered, or not
 pub record WroteUnit (old new : PortState) (l : Literal) (kind : Kind) (last : Option ℕ) : Type 0 where
@@ -141,9 +152,19 @@ UnitPut old new l kind last (Ok done) = WroteUnit old new l kind last
 UnitPut old new l kind last (Err stop) = Refused old new stop
 
 -- what a call that writes the line of a longer clause did
-abbrev pub ClausePut : PortState → PortState → List Literal → ℕ → Result Cref PortStop → Type 0
-ClausePut old new lits glue (Ok c) = LearnedClause old new lits glue c
-ClausePut old new lits glue (Err stop) = Refused old new stop
+abbrev pub ClausePut : PortState → PortState → List Literal → ℕ → Kind → Result Cref PortStop → Type 0
+ClausePut old new lits glue kind (Ok c) = AddedClause old new lits glue kind c
+ClausePut old new lits glue kind (Err stop) = Refused old new stop
+
+-- what `derive` did: a clause is held from then on
+abbrev pub Derived : PortState → PortState → List Literal → ℕ → Result Cref PortStop → Type 0
+Derived old new lits glue result = ClausePut old new lits glue Derive result
+
+-- the clause is a part of one that is held
+pub record IsPartOfHeld (s : PortState) (c : List Literal) : Type 0 where
+  pub address : ℕ
+  pub held : IsSome (held_at s address)
+  pub part : includes (lits_at s address) c ≡ true
 
 -- what `unit` did
 abbrev pub UnitWritten : PortState → PortState → Literal → Result (Unit {0}) PortStop → Type 0

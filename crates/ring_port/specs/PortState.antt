@@ -1,5 +1,5 @@
 -- What is known of a ring's port: what the ring holds and has seen, what it wrote, and how its search began.
-use Rattle.std.specs.Prelude.{◌≡◌, ℕ, ◌+◌, ◌-◌, ◌^◌, ◌<◌, ◌≤◌, ◌==◌, min, Bool, true, List, [], ◌∷◌, ◌++◌, map, length, find, All, Contains, Option, Some, None, IfSome, IsSome}
+use Rattle.std.specs.Prelude.{◌≡◌, ◌≢◌, ⊤, ℕ, ◌+◌, ◌-◌, ◌^◌, ◌<◌, ◌≤◌, ◌==◌, min, Bool, true, List, [], ◌∷◌, ◌++◌, map, length, find, All, Contains, Option, Some, None, IfSome, IsSome}
 use Rattle.std.specs.List.{count_by}
 use Rattle.std.specs.Option.{option_map, option_map_or}
 use Rattle.sat_words.specs.Literal.{Literal}
@@ -119,14 +119,20 @@ pub record IsStop (rings : ℕ) (x : Stop) : Type 0 where
   pub high : x.kind ≤ STOP_MEMORY
   pub of_ring : x.ring < rings
 
+-- no two of the clauses are at the same address
+abbrev pub AreApart : List Holding → Type 0
+AreApart [] = ⊤
+AreApart (h ∷ hs) = All (λ k. k.address ≢ h.address) hs × AreApart hs
+
 -- each clause held or waiting is long and on the variables; an address has one clause, however often it is held, and none
--- is both held and waiting; what was taken is held, and what was given is seen; start clauses and units are on the
+-- is both held and waiting, or waits twice; what was taken is held, and what was given is seen; start clauses and units are on the
 -- variables; the stop is one of the rings'
 pub record IsPort (s : PortState) : Type 0 where
   pub held : All (IsKept s.vars) s.held
   pub one : (h k : Holding) → Contains s.held h → Contains s.held k → h.address ≡ k.address → h ≡ k
   pub waiting : All (IsKept s.vars) s.waiting
   pub apart : All (λ h. held_at s h.address ≡ None) s.waiting
+  pub once : AreApart s.waiting
   pub taken : All (λ a. IsSome (held_at s a)) s.taken
   pub given : All (λ l. has s.seen l ≡ true) s.given
   pub start : All (IsKept s.vars) s.start

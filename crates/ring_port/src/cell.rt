@@ -9,4 +9,6 @@ pub(crate) struct Cell {
     pub(crate) size: u32,
     /// Its glue.
     pub(crate) glue: u32,
+    /// Whether it was not dropped.
+    pub(crate) held: bool,
 }

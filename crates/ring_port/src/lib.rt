@@ -2,6 +2,7 @@
 #![tactic(auto)]
 
 mod cell;
+mod class;
 mod laws;
 mod own_log;
 mod plain_port;
@@ -9,8 +10,10 @@ mod port;
 mod stops;
 mod store;
 
+pub use class::class_of;
 pub use laws::{
-    a_log_is_accepted, held_clauses_are_known, held_clauses_are_long, seen_units_are_known,
+    a_log_is_accepted, a_reduction_forgets, dropping_keeps_the_others, held_clauses_are_known,
+    held_clauses_are_long, seen_units_are_known,
 };
 pub use plain_port::PlainPort;
 pub use port::Port;

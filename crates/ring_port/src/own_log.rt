@@ -1,7 +1,7 @@
 // The log of a ring that writes alone: where its lines go, and its journal.
-ghost use Rattle.std.specs.Prelude.{◌≡◌, ◌<◌, ◌≤◌, [], false, true, None, OnOk, IfErr};
+ghost use Rattle.std.specs.Prelude.{◌≡◌, ◌<◌, ◌≤◌, [], false, true, None, Some, OnOk, IfErr};
 ghost use Rattle.rup_model.specs.Log.{lits_of};
-ghost use Rattle.ring_port.specs.OwnLog.{IsAddition, WasPut, WasAdded, own_entry};
+ghost use Rattle.ring_port.specs.OwnLog.{IsAddition, WasPut, WasAdded, WasDeleted, WasReduced, own_entry};
 ghost use Rattle.ring_port.specs.Port.{is_usable};
 
 use crate::stops::PortStop;
@@ -92,13 +92,26 @@ impl<L: LineOut> OwnLog<L> {
         }
     }
 
+    /// Whether the log is ended, which is then noted as the last answer that refused.
+    fn is_over(&mut self) -> bool
+        requires usable { is_usable self.old.refused ≡ true }
+        ensures over { result ≡ self.old.ended }
+        ensures noted { result ≡ true → self.new ≡ record self.old { refused = Some PortStop.Ended } }
+        ensures same { result ≡ false → self.new ≡ self.old }
+    {
+        if self.ended {
+            self.refused = Some(PortStop::Ended);
+            return true;
+        }
+        false
+    }
+
     /// Puts the line, unless the log is ended. Answers its number.
     fn put(&mut self, line: &Line) -> Result<u64, PortStop>
         requires usable { is_usable self.old.refused ≡ true }
         ensures { WasPut self.old self.new line.now result }
     {
-        if self.ended {
-            self.refused = Some(PortStop::Ended);
+        if self.is_over() {
             return Err(PortStop::Ended);
         }
         match self.output.put(line) {
@@ -125,6 +138,30 @@ impl<L: LineOut> OwnLog<L> {
         let number = self.put(&line)?;
         self.mine.push_reserved(entry_of(line, number, kind));
         Ok(number)
+    }
+
+    /// Puts the line that deletes the clause with these literals and this number, and its entry, for which room was made.
+    pub(crate) fn delete(&mut self, lits: Lits, number: u64) -> Result<(), PortStop>
+        requires usable { is_usable self.old.refused ≡ true }
+        requires room { 1 ≤ self.old.room }
+        ensures { WasDeleted self.old self.new lits number result }
+    {
+        self.put(&Line::Del(lits))?;
+        self.mine.push_reserved(Entry::Del { ring: RING, number });
+        Ok(())
+    }
+
+    /// Adds the entry that the ring reduces its clauses, for which room was made and which has no line.
+    pub(crate) fn reduce(&mut self) -> Result<(), PortStop>
+        requires usable { is_usable self.old.refused ≡ true }
+        requires room { 1 ≤ self.old.room }
+        ensures { WasReduced self.old self.new result }
+    {
+        if self.is_over() {
+            return Err(PortStop::Ended);
+        }
+        self.mine.push_reserved(Entry::Reduce { ring: RING });
+        Ok(())
     }
 
     /// Notes that the empty clause stands.

@@ -1,4 +1,4 @@
-ghost use Rattle.std.specs.Prelude.{◌≡◌, ◌<◌, ◌≤◌, ◌∷◌, ◌++◌, [], true, false, not, All, Some, None, IfOk, IfErr, IfSome, IsSome, MatchResult, length, map, slice_get, position, drop, List};
+ghost use Rattle.std.specs.Prelude.{◌≡◌, ◌<◌, ◌≤◌, ◌∷◌, ◌++◌, ◌⊎◌, [], true, false, not, All, Some, None, IfOk, IfErr, IfSome, IsSome, MatchResult, length, map, slice_get, position, drop, List};
 ghost use Rattle.sat_words.specs.Literal.{Literal};
 ghost use Rattle.sat_words.specs.Clause.{has, is_empty};
 ghost use Rattle.std.specs.List.{list_any};
@@ -7,7 +7,9 @@ ghost use Rattle.rup_model.specs.declared.journal.Entry.{Entry};
 ghost use Rattle.rup_model.specs.Rup.{rup};
 ghost use Rattle.ring_port.specs.PortState.{IsPort, IsOn, held_at, lits_at, head_of, known, HoldsStart};
 ghost use Rattle.ring_port.specs.Log.{KeepsLog, StandsOver};
-ghost use Rattle.ring_port.specs.Port.{is_usable, IsClause, Learned, KeepsHeld, UnitWritten, UnitPut, ClausePut, EmptyWritten, Took, Looked, SetStop};
+ghost use Rattle.ring_port.specs.Port.{is_usable, IsClause, Learned, Derived, KeepsHeld, UnitWritten, UnitPut, ClausePut, EmptyWritten, Took, Looked, SetStop, last_after};
+ghost use Rattle.ring_port.specs.Reducing.{Noted};
+ghost use Rattle.ring_port.specs.Deleting.{Tidied, TidiedFirst};
 ghost use Rattle.ring_port.specs.PlainPort.{OpensOver, HasCauseAlone, starts_of, placed_from, begun_with};
 
 use crate::own_log::OwnLog;
@@ -18,6 +20,7 @@ use drat_text::LineOut;
 use rup_model::Kind;
 use sat_words::{Clause, Cref, Formula, Head, Lit, Lits, Stop};
 use std::alloc::{AllocFailed, Global};
+use std::collections::VecDeque;
 use std::marker::Model;
 
 /// The port of one ring in memory, which writes alone.
@@ -26,6 +29,7 @@ pub struct PlainPort<L: LineOut> {
     alloc: Global,
     vars: u32,
     store: Store,
+    waiting: VecDeque<Cref>,
     start: Vec<Cref>,
     opening: Vec<Lit>,
     passed: usize,
@@ -46,7 +50,9 @@ impl<L: LineOut> Model for PlainPort<L> {
 
     ghost view = { λ p. state_of (record {
       vars = p.vars;
+      all = p.store.all;
       held = p.store.held;
+      waiting = p.waiting.items;
       start = p.start.items;
       opening = p.opening.items;
       passed = p.passed;
@@ -61,7 +67,9 @@ impl<L: LineOut> Model for PlainPort<L> {
 
     ghost invariant = { λ p. IsPlain (record {
       vars = p.vars;
+      all = p.store.all;
       held = p.store.held;
+      waiting = p.waiting.items;
       start = p.start.items;
       opening = p.opening.items;
       passed = p.passed;
@@ -121,8 +129,22 @@ impl<L: LineOut> Port for PlainPort<L> {
                 self.put_unit(*lit, Kind::Learn, None)?;
                 Ok(None)
             }
-            _ => Ok(Some(self.put_clause(lits, glue)?)),
+            _ => Ok(Some(self.put_clause(lits, glue, Kind::Learn)?)),
         }
+    }
+
+    fn derive(&mut self, lits: &[Lit], glue: u32) -> Result<Cref, PortStop>
+        requires usable { is_usable self.old.refused ≡ true }
+        requires long { 2 ≤ length lits.now }
+        requires clause { IsClause self.old.vars lits.now }
+        requires rup { rup (known self.old) lits.now ≡ true }
+        ensures cause { HasCauseAlone self.old self.new result }
+        ensures derived { Derived self.old self.new lits.now glue result }
+        ensures kept { KeepsHeld self.old self.new }
+        ensures log { KeepsLog self.old self.new }
+        ensures port { IsPort self.new }
+    {
+        self.put_clause(lits, glue, Kind::Derive)
     }
 
     fn unit(&mut self, lit: Lit) -> Result<(), PortStop>
@@ -151,6 +173,49 @@ impl<L: LineOut> Port for PlainPort<L> {
             .add(Lits::from_vec(Vec::new(self.alloc)), Kind::Derive)?;
         self.log.end();
         Ok(())
+    }
+
+    fn drop_clause(&mut self, c: Cref) -> Result<(), PortStop> {
+        if self.waiting.push_back(c).is_err() {
+            return Err(PortStop::Memory);
+        }
+        self.store.release(c);
+        Ok(())
+    }
+
+    fn tidy(&mut self) -> Result<(), PortStop>
+        requires usable { is_usable self.old.refused ≡ true }
+        ensures tidied { Tidied self.old self.new result }
+        ensures log { KeepsLog self.old self.new }
+        ensures port { IsPort self.new }
+    {
+        for _ in 0..self.waits() {
+            self.delete_first()?;
+        }
+        Ok(())
+    }
+
+    fn note_reduce(&mut self) -> Result<(), PortStop>
+        requires usable { is_usable self.old.refused ≡ true }
+        ensures cause { IfErr result (λ stop. (stop ≡ PortStop.Memory) ⊎ (self.old.ended ≡ true)) }
+        ensures noted { Noted self.old self.new result }
+        ensures log { KeepsLog self.old self.new }
+        ensures port { IsPort self.new }
+    {
+        self.log.make_room()?;
+        self.log.reduce()
+    }
+
+    /// There is no other ring.
+    fn offer(&mut self, _c: Cref) -> u64 {
+        self.last = None;
+        0
+    }
+
+    /// There is no other ring, so that nobody may call this.
+    fn poll(&mut self, _from: u32, _class: u8) -> Result<Option<Cref>, PortStop> {
+        let _looks = self.looks;
+        Ok(None)
     }
 
     fn next_unit(&mut self) -> Option<Lit>
@@ -188,8 +253,26 @@ impl<L: LineOut> Port for PlainPort<L> {
     }
 }
 
+/// The clause learned last, once one was added.
+fn last_after(kind: Kind, last: Option<Cref>, c: Cref) -> Option<Cref>
+    ensures { option_map (λ x. x.address) result ≡ last_after kind (option_map (λ x. x.address) last) c.address }
+{
+    match kind {
+        Kind::Learn => Some(c),
+        Kind::Ruler | Kind::Derive | Kind::UnitLine => last,
+    }
+}
+
+/// How many addresses the queue has.
+fn queue_len(queue: &VecDeque<Cref>) -> usize
+    ensures { result ≡ length queue.now.items }
+{
+    queue.len()
+}
+
 /// Keeps the start clauses, and tells their addresses.
 fn keep_all(alloc: Global, start: &[(u64, Clause)]) -> Result<(Store, Vec<Cref>), PortStop>
+    ensures all { IfOk result (λ kept. kept.0.all ≡ placed_from 0 start.now) }
     ensures held { IfOk result (λ kept. kept.0.held ≡ placed_from 0 start.now) }
     ensures start { IfOk result (λ kept. map (λ c. c.address) kept.1.items ≡ map (λ h. h.address) (placed_from 0 start.now)) }
 {
@@ -238,10 +321,12 @@ impl<L: LineOut> PlainPort<L> {
         let Ok(given) = Vec::with_capacity(alloc, units.len()) else {
             return Err(AllocFailed { value: output });
         };
+        let waiting = VecDeque::new(alloc);
         Ok(PlainPort {
             alloc,
             vars,
             store,
+            waiting,
             start,
             opening,
             passed: 0,
@@ -292,14 +377,42 @@ impl<L: LineOut> PlainPort<L> {
         Ok(())
     }
 
+    /// How many clauses wait for their deletion.
+    fn waits(&self) -> usize
+        ensures many { result ≡ length self.now.waiting }
+        ensures port { IsPort self.now }
+    {
+        queue_len(&self.waiting)
+    }
+
+    /// Writes the line that deletes the first clause that waits.
+    fn delete_first(&mut self) -> Result<(), PortStop>
+        requires usable { is_usable self.old.refused ≡ true }
+        requires some { 1 ≤ length self.old.waiting }
+        ensures cause { HasCauseAlone self.old self.new result }
+        ensures tidied { TidiedFirst self.old self.new result }
+        ensures log { KeepsLog self.old self.new }
+        ensures port { IsPort self.new }
+    {
+        let c = self.waiting[0];
+        self.log.make_room()?;
+        let Ok(lits) = Lits::from_slice(self.alloc, self.store.lits(c)) else {
+            return Err(PortStop::Memory);
+        };
+        let number = self.store.head(c).number;
+        self.log.delete(lits, number)?;
+        self.waiting.pop_front();
+        Ok(())
+    }
+
     /// Writes the line of a clause of two literals or more, which is held from then on.
-    fn put_clause(&mut self, lits: &[Lit], glue: u32) -> Result<Cref, PortStop>
+    fn put_clause(&mut self, lits: &[Lit], glue: u32, kind: Kind) -> Result<Cref, PortStop>
         requires usable { is_usable self.old.refused ≡ true }
         requires long { 2 ≤ length lits.now }
         requires clause { IsClause self.old.vars lits.now }
         requires rup { rup (known self.old) lits.now ≡ true }
         ensures cause { HasCauseAlone self.old self.new result }
-        ensures put { ClausePut self.old self.new lits.now glue result }
+        ensures put { ClausePut self.old self.new lits.now glue kind result }
         ensures kept { KeepsHeld self.old self.new }
         ensures log { KeepsLog self.old self.new }
         ensures port { IsPort self.new }
@@ -309,9 +422,10 @@ impl<L: LineOut> PlainPort<L> {
         let Ok(copy) = Lits::from_slice(self.alloc, lits) else {
             return Err(PortStop::Memory);
         };
-        let number = self.log.add(copy, Kind::Learn)?;
+        let number = self.log.add(copy, kind)?;
         let c = self.store.push(lits, number, glue);
-        self.last = Some(c);
+        let last = last_after(kind, self.last, c);
+        self.last = last;
         Ok(c)
     }
 }

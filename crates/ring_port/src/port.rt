@@ -1,10 +1,13 @@
-ghost use Rattle.std.specs.Prelude.{◌≡◌, ◌<◌, ◌≤◌, ◌∷◌, [], true, All, Some, IfSome, IsSome, length, slice_get};
+ghost use Rattle.std.specs.Prelude.{◌≡◌, ◌≢◌, ◌<◌, ◌≤◌, ◌∷◌, [], true, All, Some, IfSome, IsSome, length, slice_get};
 ghost use Rattle.sat_words.specs.Literal.{Literal};
 ghost use Rattle.sat_words.specs.declared.shared.TheConstants.{STOP_SAT, STOP_REFUTED, STOP_MEMORY};
 ghost use Rattle.rup_model.specs.Rup.{rup};
 ghost use Rattle.ring_port.specs.PortState.{PortState, IsPort, IsOn, held_at, lits_at, head_of, known};
 ghost use Rattle.ring_port.specs.Log.{KeepsLog};
-ghost use Rattle.ring_port.specs.Port.{is_usable, IsClause, IsFreshClause, Learned, KeepsHeld, UnitWritten, EmptyWritten, Took, Looked, SetStop};
+ghost use Rattle.ring_port.specs.Port.{is_usable, IsClause, IsFreshClause, Learned, IsPartOfHeld, Derived, KeepsHeld, UnitWritten, EmptyWritten, Took, Looked, SetStop};
+ghost use Rattle.ring_port.specs.Deleting.{IsNotTaken, Dropped, Tidied};
+ghost use Rattle.ring_port.specs.Reducing.{MayReduce, Noted};
+ghost use Rattle.ring_port.specs.Exchange.{class_at, other_rings, OfferedAs, Polled};
 
 use crate::stops::{PortStop, Set};
 use sat_words::{Cref, Head, Lit, Stop};
@@ -54,6 +57,19 @@ pub trait Port {
         ensures log { KeepsLog (state self.old) (state self.new) }
         ensures port { IsPort (state self.new) };
 
+    /// Derives a clause that is a part of one that is held: its line is written, and it is held from then on with its
+    /// literals in this order. It counts as none that was learned.
+    fn derive(&mut self, lits: &[Lit], glue: u32) -> Result<Cref, PortStop>
+        requires usable { is_usable (state self.old).refused ≡ true }
+        requires long { 2 ≤ length lits.now }
+        requires clause { IsClause (state self.old).vars lits.now }
+        requires rup { rup (known (state self.old)) lits.now ≡ true }
+        requires part { IsPartOfHeld (state self.old) lits.now }
+        ensures derived { Derived (state self.old) (state self.new) lits.now glue result }
+        ensures kept { KeepsHeld (state self.old) (state self.new) }
+        ensures log { KeepsLog (state self.old) (state self.new) }
+        ensures port { IsPort (state self.new) };
+
     /// Writes the line of a literal that propagation made true for good, and tells the other rings.
     fn unit(&mut self, lit: Lit) -> Result<(), PortStop>
         requires usable { is_usable (state self.old).refused ≡ true }
@@ -68,6 +84,52 @@ pub trait Port {
         requires usable { is_usable (state self.old).refused ≡ true }
         requires rup { rup (known (state self.old)) [] ≡ true }
         ensures written { EmptyWritten (state self.old) (state self.new) result }
+        ensures log { KeepsLog (state self.old) (state self.new) }
+        ensures port { IsPort (state self.new) };
+
+    /// Holds the clause once less. Where nobody holds it any more it waits for its deletion.
+    fn drop_clause(&mut self, c: Cref) -> Result<(), PortStop>
+        requires held { IsSome (held_at (state self.old) c.address) }
+        requires apart { IsNotTaken (state self.old) c.address }
+        ensures dropped { Dropped (state self.old) (state self.new) c.address result }
+        ensures log { KeepsLog (state self.old) (state self.new) }
+        ensures port { IsPort (state self.new) };
+
+    /// Writes the deletion lines of the clauses that wait, in their order. After a refusal those not yet deleted still wait.
+    fn tidy(&mut self) -> Result<(), PortStop>
+        requires usable { is_usable (state self.old).refused ≡ true }
+        ensures tidied { Tidied (state self.old) (state self.new) result }
+        ensures log { KeepsLog (state self.old) (state self.new) }
+        ensures port { IsPort (state self.new) };
+
+    /// Notes that the ring reduces its clauses: what it learned and took before need not be kept from now on. The log has no
+    /// line for it.
+    fn note_reduce(&mut self) -> Result<(), PortStop>
+        requires usable { is_usable (state self.old).refused ≡ true }
+        requires spaced { MayReduce (state self.old) }
+        ensures noted { Noted (state self.old) (state self.new) result }
+        ensures log { KeepsLog (state self.old) (state self.new) }
+        ensures port { IsPort (state self.new) };
+
+    /// Puts the clause that was learned last where each other ring may get it, once for each, and answers for how many. A
+    /// clause that it takes the place of is held once less. What is offered stays held.
+    fn offer(&mut self, c: Cref) -> u64
+        requires held { IsSome (held_at (state self.old) c.address) }
+        requires last { (state self.old).last ≡ Some c.address }
+        requires class { IsSome (class_at (state self.old) c.address) }
+        ensures offered { OfferedAs (state self.old) (state self.new) (class_at (state self.old) c.address) c.address }
+        ensures many { result ≡ length (other_rings (state self.old)) }
+        ensures log { KeepsLog (state self.old) (state self.new) }
+        ensures port { IsPort (state self.new) };
+
+    /// Takes the clause of a class that another ring has put for this one, which is held from then on; none where nothing is
+    /// there. It is refused for want of memory alone.
+    fn poll(&mut self, from: u32, class: u8) -> Result<Option<Cref>, PortStop>
+        requires other { from ≢ (state self.old).ring }
+        requires ring { from < (state self.old).rings }
+        requires class { class ≤ 3 }
+        ensures polled { Polled (state self.old) (state self.new) result }
+        ensures kept { KeepsHeld (state self.old) (state self.new) }
         ensures log { KeepsLog (state self.old) (state self.new) }
         ensures port { IsPort (state self.new) };
 

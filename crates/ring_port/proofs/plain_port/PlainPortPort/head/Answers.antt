@@ -11,7 +11,7 @@ head-requires g c = (at_place _ c.self.invariant c.args.c.address (subst (λ s. 
 pub returns-clause-value : goal.returns-clause-value
 returns-clause-value g c =
     let place = at_place _ c.self.invariant c.args.c.address (subst (λ s. IsSome (held_at s c.args.c.address)) (sym c.self.view_is) c.requires) in
-    let here : held_at c.args.self.now c.args.c.address ≡ slice_get c.self.inside.store.held c.args.c.address = ap (λ s. held_at s c.args.c.address) (sym c.self.view_is) ∙ place.1 in
+    let here : held_at c.args.self.now c.args.c.address ≡ slice_get c.self.inside.store.all c.args.c.address = ap (λ s. held_at s c.args.c.address) (sym c.self.view_is) ∙ place.1 in
     subst (λ (q : Option Holding). IfSome q (λ h. c.head.result ≡ head_of h)) (sym here) c.head.ensures
 
 pub returns-clause-size : goal.returns-clause-size

@@ -1,0 +1,68 @@
+-- What a port does where rings hand each other clauses.
+use Rattle.std.specs.Prelude.{◌≡◌, ℕ, ◌+◌, ◌<◌, ◌≤◌, ◌==◌, ◌&&◌, not, nat_le, Bool, true, false, List, [], ◌∷◌, ◌++◌, if◌then◌else◌, map, filter, length, Option, Some, None, Result, Ok, Err}
+use Rattle.std.specs.List.{range_with_len}
+use Rattle.std.specs.Option.{option_and_then}
+use Rattle.sat_words.specs.declared.shared.Cref.{Cref}
+use Rattle.ring_port.specs.declared.stops.PortStop.{PortStop}
+use Rattle.ring_port.specs.declared.stops.PortStop.TheVariants.{Memory}
+use Rattle.ring_port.specs.PortState.{Holding, Offer, PortState, IsKept, held_at, one_more}
+
+-- Classes
+
+-- the class of a clause of this size and glue: 0 where it has two literals; where it has more, 1 for glue 1, 2 for glue 2 and 3 for
+-- glue 3 to 6; all others have none
+abbrev pub class_of : (size glue : ℕ) → Option ℕ
+class_of size glue =
+    if size == 2
+    then Some 0
+    else if nat_le 3 size && (nat_le 1 glue && nat_le glue 6)
+    then Some (if nat_le glue 2 then glue else 3)
+    else None
+
+-- the class of the clause at an address
+abbrev pub class_at : PortState → ℕ → Option ℕ
+class_at s a = option_and_then (λ h. class_of (length h.lits) h.glue) (held_at s a)
+
+-- Offers
+
+-- the other rings, in order
+abbrev pub other_rings : PortState → List ℕ
+other_rings s = filter (λ r. not (r == s.ring)) (range_with_len 0 s.rings)
+
+-- the clause put for each other ring
+abbrev pub offers_to : PortState → (class address : ℕ) → List Offer
+offers_to s class address = map (λ r. record { ring = r; class = class; address = address }) (other_rings s)
+
+-- the lemma learned last was put for each other ring, and can't be offered again; clauses that came back may wait
+pub record Offered (old new : PortState) (class address : ℕ) : Type 0 where
+  pub back : List Holding
+  pub state : new ≡ record old {
+    shared = old.shared + length (other_rings old);
+    puts = old.puts ++ offers_to old class address;
+    waiting = old.waiting ++ back;
+    last = None;
+  }
+
+-- what `offer` did, where the clause has a class
+abbrev pub OfferedAs : PortState → PortState → Option ℕ → ℕ → Type 0
+OfferedAs old new None address = ⊥
+OfferedAs old new (Some class) address = Offered old new class address
+
+-- Polls
+
+-- it was looked once more
+abbrev pub looked_again : PortState → PortState
+looked_again s = record s { polled = one_more s.polled }
+
+-- a clause of the other ring is held from now on
+pub record TookClause (old new : PortState) (c : Cref) : Type 0 where
+  pub clause : Holding
+  pub address : clause.address ≡ c.address
+  pub kept : IsKept old.vars clause
+  pub state : new ≡ record (looked_again old) { held = old.held ++ clause ∷ []; taken = old.taken ++ c.address ∷ [] }
+
+-- what `poll` did
+abbrev pub Polled : PortState → PortState → Result (Option Cref) PortStop → Type 0
+Polled old new (Ok None) = new ≡ looked_again old
+Polled old new (Ok (Some c)) = TookClause old new c
+Polled old new (Err stop) = (stop ≡ Memory) × (new ≡ old)

@@ -109,12 +109,44 @@ impl<L: LineOut> Port for Crowd<L> {
         Err(stop)
     }
 
+    fn derive(&mut self, _lits: &[Lit], _glue: u32) -> Result<Cref, PortStop> {
+        self.memory = true;
+        Err(PortStop::Memory)
+    }
+
     fn unit(&mut self, _lit: Lit) -> Result<(), PortStop> {
         self.memory = true;
         Err(PortStop::Memory)
     }
 
     fn empty(&mut self) -> Result<(), PortStop> {
+        self.memory = true;
+        Err(PortStop::Memory)
+    }
+
+    fn drop_clause(&mut self, _c: Cref) -> Result<(), PortStop> {
+        self.memory = true;
+        Err(PortStop::Memory)
+    }
+
+    /// Nothing waits.
+    fn tidy(&mut self) -> Result<(), PortStop> {
+        self.glue = None;
+        Ok(())
+    }
+
+    fn note_reduce(&mut self) -> Result<(), PortStop> {
+        self.memory = true;
+        Err(PortStop::Memory)
+    }
+
+    /// Nothing was learned that could be offered (`last`).
+    fn offer(&mut self, _c: Cref) -> u64 {
+        self.glue = None;
+        unreachable!()
+    }
+
+    fn poll(&mut self, _from: u32, _class: u8) -> Result<Option<Cref>, PortStop> {
         self.memory = true;
         Err(PortStop::Memory)
     }

@@ -1,6 +1,6 @@
 -- Verdicts that follow, and what a new one changes.
-use Rattle.std.proofs.Common.{◌≡◌, ◌∙◌, ℕ, ◌+◌, ◌<◌, ◌≤◌, Bool, true, false, ◌||◌, nat_eq, List, [], ◌∷◌, ◌++◌, length, length-append, get_or, take, Some, None, sym, refl, ap, subst, inl, inr, ◌⊎◌, arith}
-use Rattle.std.proofs.lemmas.List.{get_or-set_same, get_or-set_other, take_more, take_all}
+use Rattle.std.proofs.Common.{◌≡◌, ◌∙◌, ℕ, zero, suc, ◌+◌, ◌<◌, ◌≤◌, Bool, true, false, ◌||◌, nat_eq, List, [], ◌∷◌, ◌++◌, length, length-append, get_or, take, replicate, Some, None, sym, refl, ap, subst, inl, inr, ◌⊎◌, arith}
+use Rattle.std.proofs.lemmas.List.{get_or-set_same, get_or-set_other, take_more, take_all, length-replicate}
 use Rattle.std.proofs.Math.ListN.{set, length-set}
 use Rattle.std.specs.List.{IsDistinct}
 use Rattle.std.specs.Set.{is_member}
@@ -14,6 +14,7 @@ use Rattle.sat_words.specs.declared.shared.Cref.{Cref}
 use Rattle.ring_trail.specs.declared.step.Step.{Step}
 use Rattle.ring_trail.specs.TrailData.{TrailData, IsTrail, lit_at, level_at, reason_at}
 use Rattle.ring_trail.specs.Reasoned.{Held, IsForced, IsSeen, IsDecision, IsReasoned}
+use Rattle.analyze.specs.MarksData.{MarksData, all_blank, with_mark}
 use Rattle.analyze.specs.Walk.{MakesFalse}
 use Rattle.analyze.specs.Removable.{IsReasonOf}
 use Rattle.analyze.specs.Verdicts.{verdict_at, is_found, is_known, IsSettled, AllSettled, IsBlockedBy, IsScanned, IsCleared, IsBlocked, Follows, IsJudged}
@@ -121,77 +122,78 @@ found_Follows held steps ms vs p Removable f = refl
 found_Follows held steps ms vs p Needed f = refl
 
 -- the verdict of a place that had none
-module _ (held : Held) (t : TrailData) (ms : List Bool) (vs : List Verdict) (judged : List ℕ) (shape : IsTrail t) (k : IsJudged held t.steps t.vars ms vs judged)
-    (p : ℕ) (lt : p < length t.steps) (off : verdict_at vs p ≡ Unknown) (v : Verdict) where
-  not_known : is_known vs p ≡ false
+module _ (held : Held) (t : TrailData) (ms : List Bool) (vs : MarksData Verdict) (shape : IsTrail t) (k : IsJudged held t.steps t.vars ms vs)
+    (p : ℕ) (lt : p < length t.steps) (off : verdict_at vs.values p ≡ Unknown) (v : Verdict) where
+  not_known : is_known vs.values p ≡ false
   not_known = ap is_found off
 
-  in_table : p < length vs
+  in_table : p < length vs.values
   in_table = let s = shape.short in let z = k.size in omega arith
 
-  here : verdict_at (set vs p v) p ≡ v
-  here = get_or-set_same vs p v Unknown in_table
+  here : verdict_at (set vs.values p v) p ≡ v
+  here = get_or-set_same vs.values p v Unknown in_table
 
-  other : (q : ℕ) → (q ≡ p → ⊥) → verdict_at (set vs p v) q ≡ verdict_at vs q
-  other q ne = get_or-set_other vs p q v Unknown ne
+  other : (q : ℕ) → (q ≡ p → ⊥) → verdict_at (set vs.values p v) q ≡ verdict_at vs.values q
+  other q ne = get_or-set_other vs.values p q v Unknown ne
 
-  pub Grows-set : Grows vs (set vs p v)
-  Grows-set q y = other q (λ e. false≢true (sym not_known ∙ ap (is_known vs) (sym e) ∙ y))
+  pub Grows-set : Grows vs.values (set vs.values p v)
+  Grows-set q y = other q (λ e. false≢true (sym not_known ∙ ap (is_known vs.values) (sym e) ∙ y))
 
-  pub IsFrame-set : (root : ℕ) (f : Frame) → p < f.place → IsFrame held t.steps ms vs root f → IsFrame held t.steps ms (set vs p v) root f
+  pub IsFrame-set : (root : ℕ) (f : Frame) → p < f.place → IsFrame held t.steps ms vs.values root f → IsFrame held t.steps ms (set vs.values p v) root f
   IsFrame-set root f b x = record {
     above = x.above;
     own = x.own;
     unknown = other f.place (λ e. absurd (omega arith)) ∙ x.unknown;
-    scanned = IsScanned-grown ms vs (set vs p v) Grows-set held t.steps f.place f.next x.scanned;
+    scanned = IsScanned-grown ms vs.values (set vs.values p v) Grows-set held t.steps f.place f.next x.scanned;
   }
 
-  pushed : IsDistinct nat_eq (judged ++ p ∷ [])
-  pushed = IsDistinct-push nat_eq_equiv judged p k.distinct (k.listed p ∙ not_known)
+  pushed : IsDistinct nat_eq (vs.touched ++ p ∷ [])
+  pushed = IsDistinct-push nat_eq_equiv vs.touched p k.distinct (k.listed p ∙ not_known)
 
   -- there is room to list the place
-  pub room_judged : length judged < t.vars
+  pub room_judged : length vs.touched < t.vars
   room_judged =
-      let le = length-le_from_distinct_below (judged ++ p ∷ []) (length t.steps) pushed (λ r y.
-      elim (or_cases (is_member nat_eq judged r) (nat_eq r p) (sym (member_push judged p r) ∙ y)) as (λ _. r < length t.steps) [
+      let le = length-le_from_distinct_below (vs.touched ++ p ∷ []) (length t.steps) pushed (λ r y.
+      elim (or_cases (is_member nat_eq vs.touched r) (nat_eq r p) (sym (member_push vs.touched p r) ∙ y)) as (λ _. r < length t.steps) [
         | inl old ↦ k.in_range r (sym (k.listed r) ∙ old)
         | inr e ↦ (let s = eqb-true r p e in omega arith)
       ]) in
       let s = shape.short in
-      omega (arith, le, length-append judged (p ∷ []))
+      omega (arith, le, length-append vs.touched (p ∷ []))
 
   -- another place has a verdict only if it had one
-  pub known_before : (q : ℕ) → (q ≡ p → ⊥) → is_known (set vs p v) q ≡ true → is_known vs q ≡ true
+  pub known_before : (q : ℕ) → (q ≡ p → ⊥) → is_known (set vs.values p v) q ≡ true → is_known vs.values q ≡ true
   known_before q ne y = ap is_found (sym (other q ne)) ∙ y
 
-  module _ (f : Follows held t.steps ms vs p v) where
-    known_here : is_known (set vs p v) p ≡ true
-    known_here = ap is_found here ∙ found_Follows held t.steps ms vs p v f
+  module _ (f : Follows held t.steps ms vs.values p v) where
+    known_here : is_known (set vs.values p v) p ≡ true
+    known_here = ap is_found here ∙ found_Follows held t.steps ms vs.values p v f
 
-    pub known_now : (q : ℕ) → is_known vs q ≡ true → is_known (set vs p v) q ≡ true
+    pub known_now : (q : ℕ) → is_known vs.values q ≡ true → is_known (set vs.values p v) q ≡ true
     known_now q y = ap is_found (Grows-set q y) ∙ y
 
-    pub IsJudged-set : IsJudged held t.steps t.vars ms (set vs p v) (judged ++ p ∷ [])
+    pub IsJudged-set : IsJudged held t.steps t.vars ms (with_mark vs p v)
     IsJudged-set = record {
-      size = length-set vs p v ∙ k.size;
+      blank = k.blank;
+      size = length-set vs.values p v ∙ k.size;
       in_range = λ q y. elim (cases_eq q p) as (λ _. q < length t.steps) [
         | inl e ↦ omega arith
         | inr ne ↦ k.in_range q (ap is_found (sym (other q ne)) ∙ y)
       ];
-      listed = λ q. member_push judged p q ∙ elim (cases_eq q p) as (λ _. (is_member nat_eq judged q || nat_eq q p) ≡ is_known (set vs p v) q) [
-        | inl e ↦ or_right _ _ (eq-eqb q p e) ∙ sym (subst (λ (r : ℕ). is_known (set vs p v) r ≡ true) (sym e) known_here)
-        | inr ne ↦ ap (λ (x : Bool). is_member nat_eq judged q || x) (ne_eqb q p ne) ∙ or_false (is_member nat_eq judged q) ∙ k.listed q ∙ sym (ap is_found (other q ne))
+      listed = λ q. member_push vs.touched p q ∙ elim (cases_eq q p) as (λ _. (is_member nat_eq vs.touched q || nat_eq q p) ≡ is_known (set vs.values p v) q) [
+        | inl e ↦ or_right _ _ (eq-eqb q p e) ∙ sym (subst (λ (r : ℕ). is_known (set vs.values p v) r ≡ true) (sym e) known_here)
+        | inr ne ↦ ap (λ (x : Bool). is_member nat_eq vs.touched q || x) (ne_eqb q p ne) ∙ or_false (is_member nat_eq vs.touched q) ∙ k.listed q ∙ sym (ap is_found (other q ne))
       ];
       distinct = pushed;
-      cleared = λ q y. elim (cases_eq q p) as (λ _. IsCleared held t.steps ms (set vs p v) q) [
-        | inl e ↦ subst (λ (r : ℕ). IsCleared held t.steps ms (set vs p v) r) (sym e)
-            (IsCleared-grown ms vs (set vs p v) Grows-set held t.steps p (subst (λ (w : Verdict). Follows held t.steps ms vs p w) (sym here ∙ ap (verdict_at (set vs p v)) (sym e) ∙ y) f))
-        | inr ne ↦ IsCleared-grown ms vs (set vs p v) Grows-set held t.steps q (k.cleared q (sym (other q ne) ∙ y))
+      cleared = λ q y. elim (cases_eq q p) as (λ _. IsCleared held t.steps ms (set vs.values p v) q) [
+        | inl e ↦ subst (λ (r : ℕ). IsCleared held t.steps ms (set vs.values p v) r) (sym e)
+            (IsCleared-grown ms vs.values (set vs.values p v) Grows-set held t.steps p (subst (λ (w : Verdict). Follows held t.steps ms vs.values p w) (sym here ∙ ap (verdict_at (set vs.values p v)) (sym e) ∙ y) f))
+        | inr ne ↦ IsCleared-grown ms vs.values (set vs.values p v) Grows-set held t.steps q (k.cleared q (sym (other q ne) ∙ y))
       ];
-      blocked = λ q y. elim (cases_eq q p) as (λ _. IsBlocked held t.steps ms (set vs p v) q) [
-        | inl e ↦ subst (λ (r : ℕ). IsBlocked held t.steps ms (set vs p v) r) (sym e)
-            (IsBlocked-grown ms vs (set vs p v) Grows-set held t.steps p (subst (λ (w : Verdict). Follows held t.steps ms vs p w) (sym here ∙ ap (verdict_at (set vs p v)) (sym e) ∙ y) f))
-        | inr ne ↦ IsBlocked-grown ms vs (set vs p v) Grows-set held t.steps q (k.blocked q (sym (other q ne) ∙ y))
+      blocked = λ q y. elim (cases_eq q p) as (λ _. IsBlocked held t.steps ms (set vs.values p v) q) [
+        | inl e ↦ subst (λ (r : ℕ). IsBlocked held t.steps ms (set vs.values p v) r) (sym e)
+            (IsBlocked-grown ms vs.values (set vs.values p v) Grows-set held t.steps p (subst (λ (w : Verdict). Follows held t.steps ms vs.values p w) (sym here ∙ ap (verdict_at (set vs.values p v)) (sym e) ∙ y) f))
+        | inr ne ↦ IsBlocked-grown ms vs.values (set vs.values p v) Grows-set held t.steps q (k.blocked q (sym (other q ne) ∙ y))
       ];
     }
 
@@ -200,12 +202,23 @@ unfolding IsDistinct
 none_twice = tt
 
 -- no place has a verdict
-pub IsJudged-none : (held : Held) (t : TrailData) (ms : List Bool) (vs : List Verdict) → length vs ≡ t.vars → ((p : ℕ) → verdict_at vs p ≡ Unknown) → IsJudged held t.steps t.vars ms vs []
-IsJudged-none held t ms vs e off = record {
-  size = e;
-  in_range = λ p y. absurd (false≢true (sym (ap is_found (off p)) ∙ y));
-  listed = λ p. sym (ap is_found (off p));
-  distinct = none_twice;
-  cleared = λ p y. absurd (let both : Unknown ≡ Removable = sym (off p) ∙ y in cc);
-  blocked = λ p y. absurd (let both : Unknown ≡ Needed = sym (off p) ∙ y in cc);
-}
+unknown : (n p : ℕ) → verdict_at (replicate n Unknown) p ≡ Unknown
+unknown zero p = refl
+unknown (suc n) zero = refl
+unknown (suc n) (suc p) = unknown n p
+
+pub known-none : (n p : ℕ) → is_known (replicate n Unknown) p ≡ false
+known-none n p = ap is_found (unknown n p)
+
+pub IsJudged-none : (held : Held) (t : TrailData) (ms : List Bool) → IsJudged held t.steps t.vars ms (all_blank t.vars Unknown)
+IsJudged-none held t ms =
+    let off = unknown t.vars in
+    record {
+      blank = refl;
+      size = length-replicate t.vars Unknown;
+      in_range = λ p y. absurd (false≢true (sym (known-none t.vars p) ∙ y));
+      listed = λ p. sym (known-none t.vars p);
+      distinct = none_twice;
+      cleared = λ p y. absurd (let both : Unknown ≡ Removable = sym (off p) ∙ y in cc);
+      blocked = λ p y. absurd (let both : Unknown ≡ Needed = sym (off p) ∙ y in cc);
+    }

@@ -1,9 +1,13 @@
 -- Levels of clauses and of places.
-use Rattle.std.proofs.Common.{◌≡◌, ◌∙◌, ℕ, ◌+◌, ◌<◌, ◌≤◌, max, Bool, true, false, ◌||◌, cond, nat_eq, List, [], ◌∷◌, ◌++◌, length, get_or, take, map, Option, unwrap_or, sym, refl, ap, inl, inr, arith}
+use Rattle.std.proofs.Common.{◌≡◌, ◌∙◌, ℕ, ◌+◌, ◌<◌, ◌≤◌, max, Bool, true, false, ◌||◌, cond, nat_eq, List, [], ◌∷◌, ◌++◌, length, length-append, get_or, take, map, Option, unwrap_or, sym, refl, ap, subst, inl, inr, arith}
 use Rattle.std.specs.Option.{option_map}
 use Rattle.std.specs.Set.{is_member, distinct_count, unique_keys}
-use Rattle.std.proofs.Math.ListN.{set}
-use Rattle.std.proofs.lemmas.List.{take_more, map-append}
+use Rattle.std.specs.List.{IsDistinct}
+use Rattle.std.proofs.Math.ListN.{set, length-set}
+use Rattle.std.proofs.lemmas.List.{take_more, map-append, length-replicate, get_or_past}
+use Rattle.std.proofs.lemmas.Cmp.{nat_eq_equiv}
+use Rattle.std.proofs.lemmas.Map.Keys.{IsDistinct-push}
+use Rattle.std.proofs.lemmas.Map.Steps.{length-le_from_distinct_below}
 use Rattle.std.proofs.lemmas.Bool.{or_cases, or_left, or_right, false≢true, cases_lt, cases_eq, and_from, eq-eqb, eqb-true, ne_eqb}
 use Rattle.sat_words.specs.Literal.{Literal, same}
 use Rattle.sat_words.specs.Clause.{has}
@@ -11,9 +15,10 @@ use Rattle.sat_words.proofs.Members.{same-true, same-refl}
 use Rattle.ring_trail.specs.declared.step.Step.{Step}
 use Rattle.ring_trail.specs.TrailData.{TrailData, IsTrail, IsPlaceOf, FalseBefore, IsFalseClause, level_at}
 use Rattle.ring_trail.proofs.Shape.{step_at_place}
+use Rattle.analyze.specs.MarksData.{MarksData, all_blank, with_mark}
 use Rattle.analyze.specs.Levels.{greatest, level_of_lit, levels_of, clause_level}
-use Rattle.analyze.specs.Marks.{marked, CanMarkAll, Marks}
-use Rattle.analyze.proofs.Marking.{marked-same, marked-other, member_push, or_false}
+use Rattle.analyze.specs.Marks.{marked, CanMarkAll, HasMarked}
+use Rattle.analyze.proofs.Marking.{marked-none, marked-same, marked-other, member_push, or_false}
 use Rattle.analyze.proofs.Walking.{open_counted, none_open_yet, makes_false}
 
 -- the level of a literal is that of its variable's place
@@ -59,7 +64,7 @@ CanMark-conflict t m c shape bad e k h = record {
 
 -- where the conflict is above level 0, one of its literals is open
 pub some_marked : (t : TrailData) (m n : ℕ) (ms more : List Bool) (c : List Literal) → IsTrail t → IsFalseClause t.steps c → m ≡ clause_level t.steps c → 1 ≤ m
-    → ((p : ℕ) → marked ms p ≡ false) → Marks t.steps m ms more (length t.steps) c n → 1 ≤ n
+    → ((p : ℕ) → marked ms p ≡ false) → HasMarked t.steps m ms more (length t.steps) c n → 1 ≤ n
 some_marked t m n ms more c shape bad e pos off k =
     let a : (l : Literal) × (has c l ≡ true) × (level_of_lit t.steps l ≡ clause_level t.steps c) = clause_level-attained t.steps c (omega arith) in
     let f : FalseBefore t.steps (length t.steps) a.0 = bad a.0 a.1 in
@@ -150,3 +155,88 @@ levels_lower steps (l ∷ c) n pos h =
     let a = h l (or_left (same l l) (has c l) (same-refl l)) in
     let r = levels_lower steps c n pos (λ k y. h k (or_right (same k l) (has c k) y)) in
     omega arith
+
+-- Levels that are marked
+
+-- the marks stand exactly on the values of f at these places, each listed once
+pub record AreLevels (f : ℕ → ℕ) (ps : List ℕ) (n : ℕ) (found : MarksData Bool) : Type 0 where
+  pub blank : found.blank ≡ false
+  pub size : length found.values ≡ n
+  pub among : (l : ℕ) → marked found.values l ≡ is_member nat_eq (map f ps) l
+  pub listed : (l : ℕ) → is_member nat_eq found.touched l ≡ marked found.values l
+  pub distinct : IsDistinct nat_eq found.touched
+  pub count : length found.touched ≡ distinct_count nat_eq (map f ps)
+
+marked_in_range : (ms : List Bool) (l : ℕ) → marked ms l ≡ true → l < length ms
+marked_in_range ms l y =
+    elim (cases_lt l (length ms)) as (λ _. l < length ms) [
+      | inl lt ↦ lt
+      | inr ge ↦ absurd (false≢true (sym (get_or_past ms l false ge) ∙ y))
+    ]
+
+none_twice : IsDistinct nat_eq []
+unfolding IsDistinct
+none_twice = tt
+
+pub AreLevels-none : (f : ℕ → ℕ) (ps : List ℕ) (n : ℕ) → AreLevels f (take 0 ps) n (all_blank n false)
+AreLevels-none f ps n = record {
+  blank = refl;
+  size = length-replicate n false;
+  among = marked-none n;
+  listed = λ l. sym (marked-none n l);
+  distinct = none_twice;
+  count = refl;
+}
+
+module _ (f : ℕ → ℕ) (ps : List ℕ) (i n : ℕ) (found : MarksData Bool) (k : AreLevels f (take i ps) n found) where
+  pub levels_few : length found.touched ≤ n
+  levels_few = length-le_from_distinct_below found.touched n k.distinct
+      (λ l y. let r = marked_in_range found.values l (sym (k.listed l) ∙ y) in let z = k.size in omega arith)
+
+  module _ (at : ℕ) (h : i < length ps) (e : at ≡ f (get_or ps i 0)) where
+    pub AreLevels-again : marked found.values at ≡ true → AreLevels f (take (i + 1) ps) n found
+    AreLevels-again y = record {
+      blank = k.blank;
+      size = k.size;
+      among = λ l. found_again f ps i found.values l at h e k.among y;
+      listed = k.listed;
+      distinct = k.distinct;
+      count = (
+          let more = count_more f ps i at h e in
+          let z = ap {B = ℕ} (λ (b : Bool). cond b 0 1) (sym (k.among at) ∙ y) in
+          let c = k.count in
+          omega (arith, more, z));
+    }
+
+    module _ (lt : at < n) (off : marked found.values at ≡ false) where
+      pushed : IsDistinct nat_eq (found.touched ++ at ∷ [])
+      pushed = IsDistinct-push nat_eq_equiv found.touched at k.distinct (k.listed at ∙ off)
+
+      in_table : at < length found.values
+      in_table = let z = k.size in omega arith
+
+      pub levels_room : length found.touched < n
+      levels_room =
+          let le = length-le_from_distinct_below (found.touched ++ at ∷ []) n pushed (λ l y.
+          elim (or_cases (is_member nat_eq found.touched l) (nat_eq l at) (sym (member_push found.touched at l) ∙ y)) as (λ _. l < n) [
+            | inl old ↦ (let r = marked_in_range found.values l (sym (k.listed l) ∙ old) in let z = k.size in omega arith)
+            | inr s ↦ (let t = eqb-true l at s in omega arith)
+          ]) in
+          omega (arith, le, length-append found.touched (at ∷ []))
+
+      pub AreLevels-set : AreLevels f (take (i + 1) ps) n (with_mark found at true)
+      AreLevels-set = record {
+        blank = k.blank;
+        size = length-set found.values at true ∙ k.size;
+        among = λ l. found_more f ps i found.values l at h e in_table k.among;
+        listed = λ l. member_push found.touched at l ∙ elim (cases_eq l at) as (λ _. (is_member nat_eq found.touched l || nat_eq l at) ≡ marked (set found.values at true) l) [
+          | inl s ↦ or_right _ _ (eq-eqb l at s) ∙ sym (subst (λ (r : ℕ). marked (set found.values at true) r ≡ true) (sym s) (marked-same found.values at true in_table))
+          | inr ne ↦ ap (λ (x : Bool). is_member nat_eq found.touched l || x) (ne_eqb l at ne) ∙ or_false (is_member nat_eq found.touched l) ∙ k.listed l ∙ sym (marked-other found.values at l true ne)
+        ];
+        distinct = pushed;
+        count = (
+            let more = count_more f ps i at h e in
+            let z = ap {B = ℕ} (λ (b : Bool). cond b 0 1) (sym (k.among at) ∙ off) in
+            let c = k.count in
+            omega (arith, more, z, length-append found.touched (at ∷ [])));
+      }

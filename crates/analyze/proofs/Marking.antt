@@ -1,6 +1,6 @@
 -- What a new mark changes.
-use Rattle.std.proofs.Common.{◌≡◌, ◌∙◌, ℕ, zero, suc, ◌+◌, ◌<◌, ◌≤◌, Bool, true, false, ◌&&◌, ◌||◌, cond, nat_eq, List, [], ◌∷◌, ◌++◌, length, get_or, take, sym, refl, ap, subst, inl, inr, ◌⊎◌, arith, length-append}
-use Rattle.std.proofs.lemmas.List.{get_or-set_same, get_or-set_other, take_more}
+use Rattle.std.proofs.Common.{◌≡◌, ◌∙◌, ℕ, zero, suc, ◌+◌, ◌<◌, ◌≤◌, Bool, true, false, ◌&&◌, ◌||◌, cond, nat_eq, List, [], ◌∷◌, ◌++◌, length, get_or, take, replicate, sym, refl, ap, subst, inl, inr, ◌⊎◌, arith, length-append}
+use Rattle.std.proofs.lemmas.List.{get_or-set_same, get_or-set_other, take_more, length-replicate}
 use Rattle.std.proofs.Math.ListN.{set, length-set}
 use Rattle.std.specs.List.{IsDistinct}
 use Rattle.std.specs.Set.{is_member}
@@ -14,8 +14,9 @@ use Rattle.sat_words.specs.Clause.{has}
 use Rattle.sat_words.proofs.Members.{opposite-opposite}
 use Rattle.ring_trail.specs.declared.step.Step.{Step}
 use Rattle.ring_trail.specs.TrailData.{TrailData, IsTrail, IsPlaceOf, FalseBefore, lit_at, level_at}
+use Rattle.analyze.specs.MarksData.{MarksData, all_blank, with_mark}
 use Rattle.analyze.specs.Walk.{MakesFalse}
-use Rattle.analyze.specs.Marks.{marked, is_open, open_below, IsMarking, CanMark, Marks}
+use Rattle.analyze.specs.Marks.{marked, is_open, open_below, IsMarking, CanMark, HasMarked}
 use Rattle.analyze.proofs.Chains.{has-head, has-one}
 
 -- places that are open alike are counted alike
@@ -66,72 +67,81 @@ unfolding IsDistinct
 none_twice = tt
 
 -- nothing is marked
-pub IsMarking-none : (t : TrailData) (m : ℕ) (ms : List Bool) → length ms ≡ t.vars → ((p : ℕ) → marked ms p ≡ false) → IsMarking t.steps t.vars m ms []
-IsMarking-none t m ms e off = record {
-  size = e;
-  in_range = λ p y. absurd (false≢true (sym (off p) ∙ y));
-  above = λ p y. absurd (false≢true (sym (off p) ∙ y));
-  within = λ p y. absurd (false≢true (sym (off p) ∙ y));
-  listed = λ p. sym (off p);
-  distinct = none_twice;
-}
+pub marked-none : (n p : ℕ) → marked (replicate n false) p ≡ false
+marked-none zero p = refl
+marked-none (suc n) zero = refl
+marked-none (suc n) (suc p) = marked-none n p
 
-module _ (t : TrailData) (m : ℕ) (ms : List Bool) (touched : List ℕ) (shape : IsTrail t) (k : IsMarking t.steps t.vars m ms touched) where
-  pub listed_in_range : (p : ℕ) → is_member nat_eq touched p ≡ true → p < length t.steps
+pub IsMarking-none : (t : TrailData) (m : ℕ) → IsMarking t.steps t.vars m (all_blank t.vars false)
+IsMarking-none t m =
+    let off = marked-none t.vars in
+    record {
+      blank = refl;
+      size = length-replicate t.vars false;
+      in_range = λ p y. absurd (false≢true (sym (off p) ∙ y));
+      above = λ p y. absurd (false≢true (sym (off p) ∙ y));
+      within = λ p y. absurd (false≢true (sym (off p) ∙ y));
+      listed = λ p. sym (off p);
+      distinct = none_twice;
+    }
+
+module _ (t : TrailData) (m : ℕ) (ms : MarksData Bool) (shape : IsTrail t) (k : IsMarking t.steps t.vars m ms) where
+  pub listed_in_range : (p : ℕ) → is_member nat_eq ms.touched p ≡ true → p < length t.steps
   listed_in_range p y = k.in_range p (sym (k.listed p) ∙ y)
 
-  pub touched_few : length touched ≤ length t.steps
-  touched_few = length-le_from_distinct_below touched (length t.steps) k.distinct listed_in_range
+  pub touched_few : length ms.touched ≤ length t.steps
+  touched_few = length-le_from_distinct_below ms.touched (length t.steps) k.distinct listed_in_range
 
-  module _ (q : ℕ) (lt : q < length t.steps) (off : marked ms q ≡ false) where
-    in_table : q < length ms
+  module _ (q : ℕ) (lt : q < length t.steps) (off : marked ms.values q ≡ false) where
+    in_table : q < length ms.values
     in_table = let s = shape.short in let z = k.size in omega arith
 
-    pushed : IsDistinct nat_eq (touched ++ q ∷ [])
-    pushed = IsDistinct-push nat_eq_equiv touched q k.distinct (k.listed q ∙ off)
+    pushed : IsDistinct nat_eq (ms.touched ++ q ∷ [])
+    pushed = IsDistinct-push nat_eq_equiv ms.touched q k.distinct (k.listed q ∙ off)
 
     -- there is room to list one more place
-    pub room_touched : length touched < t.vars
+    pub room_touched : length ms.touched < t.vars
     room_touched =
-        let le = length-le_from_distinct_below (touched ++ q ∷ []) (length t.steps) pushed (λ r y.
-        elim (or_cases (is_member nat_eq touched r) (nat_eq r q) (sym (member_push touched q r) ∙ y)) as (λ _. r < length t.steps) [
+        let le = length-le_from_distinct_below (ms.touched ++ q ∷ []) (length t.steps) pushed (λ r y.
+        elim (or_cases (is_member nat_eq ms.touched r) (nat_eq r q) (sym (member_push ms.touched q r) ∙ y)) as (λ _. r < length t.steps) [
           | inl old ↦ listed_in_range r old
           | inr e ↦ (let s = eqb-true r q e in omega arith)
         ]) in
         let s = shape.short in
-        omega (arith, le, length-append touched (q ∷ []))
+        omega (arith, le, length-append ms.touched (q ∷ []))
 
-    pub IsMarking-set : 0 < level_at t.steps q → level_at t.steps q ≤ m → IsMarking t.steps t.vars m (set ms q true) (touched ++ q ∷ [])
+    pub IsMarking-set : 0 < level_at t.steps q → level_at t.steps q ≤ m → IsMarking t.steps t.vars m (with_mark ms q true)
     IsMarking-set above low = record {
-      size = length-set ms q true ∙ k.size;
+      blank = k.blank;
+      size = length-set ms.values q true ∙ k.size;
       in_range = λ p y. elim (cases_eq p q) as (λ _. p < length t.steps) [
         | inl e ↦ omega arith
-        | inr ne ↦ k.in_range p (sym (marked-other ms q p true ne) ∙ y)
+        | inr ne ↦ k.in_range p (sym (marked-other ms.values q p true ne) ∙ y)
       ];
       above = λ p y. elim (cases_eq p q) as (λ _. 0 < level_at t.steps p) [
         | inl e ↦ subst (λ (r : ℕ). 0 < level_at t.steps r) (sym e) above
-        | inr ne ↦ k.above p (sym (marked-other ms q p true ne) ∙ y)
+        | inr ne ↦ k.above p (sym (marked-other ms.values q p true ne) ∙ y)
       ];
       within = λ p y. elim (cases_eq p q) as (λ _. level_at t.steps p ≤ m) [
         | inl e ↦ subst (λ (r : ℕ). level_at t.steps r ≤ m) (sym e) low
-        | inr ne ↦ k.within p (sym (marked-other ms q p true ne) ∙ y)
+        | inr ne ↦ k.within p (sym (marked-other ms.values q p true ne) ∙ y)
       ];
-      listed = λ p. member_push touched q p ∙ elim (cases_eq p q) as (λ _. (is_member nat_eq touched p || nat_eq p q) ≡ marked (set ms q true) p) [
-        | inl e ↦ or_right _ _ (eq-eqb p q e) ∙ sym (subst (λ (r : ℕ). marked (set ms q true) r ≡ true) (sym e) (marked-same ms q true in_table))
-        | inr ne ↦ ap (λ (x : Bool). is_member nat_eq touched p || x) (ne_eqb p q ne) ∙ or_false (is_member nat_eq touched p) ∙ k.listed p ∙ sym (marked-other ms q p true ne)
+      listed = λ p. member_push ms.touched q p ∙ elim (cases_eq p q) as (λ _. (is_member nat_eq ms.touched p || nat_eq p q) ≡ marked (set ms.values q true) p) [
+        | inl e ↦ or_right _ _ (eq-eqb p q e) ∙ sym (subst (λ (r : ℕ). marked (set ms.values q true) r ≡ true) (sym e) (marked-same ms.values q true in_table))
+        | inr ne ↦ ap (λ (x : Bool). is_member nat_eq ms.touched p || x) (ne_eqb p q ne) ∙ or_false (is_member nat_eq ms.touched p) ∙ k.listed p ∙ sym (marked-other ms.values q p true ne)
       ];
       distinct = pushed;
     }
 
     -- the place of a literal that can be marked
-    pub Marks-set : (bound : ℕ) (l : Literal) → q < bound → bound ≤ length t.steps → IsPlaceOf t.steps l.var q → CanMark t.steps m bound l → 0 < level_at t.steps q
-        → Marks t.steps m ms (set ms q true) bound (l ∷ []) (cond (nat_eq (level_at t.steps q) m) 1 0)
-    Marks-set bound l h b i can above = record {
-      kept = λ p y. elim (cases_eq p q) as (λ _. marked (set ms q true) p ≡ true) [
-        | inl e ↦ subst (λ (r : ℕ). marked (set ms q true) r ≡ true) (sym e) (marked-same ms q true in_table)
-        | inr ne ↦ marked-other ms q p true ne ∙ y
+    pub HasMarked-set : (bound : ℕ) (l : Literal) → q < bound → bound ≤ length t.steps → IsPlaceOf t.steps l.var q → CanMark t.steps m bound l → 0 < level_at t.steps q
+        → HasMarked t.steps m ms.values (set ms.values q true) bound (l ∷ []) (cond (nat_eq (level_at t.steps q) m) 1 0)
+    HasMarked-set bound l h b i can above = record {
+      kept = λ p y. elim (cases_eq p q) as (λ _. marked (set ms.values q true) p ≡ true) [
+        | inl e ↦ subst (λ (r : ℕ). marked (set ms.values q true) r ≡ true) (sym e) (marked-same ms.values q true in_table)
+        | inr ne ↦ marked-other ms.values q p true ne ∙ y
       ];
-      only = λ p y. elim (cases_eq p q) as (λ _. (marked ms p ≡ true) ⊎ ((p < bound) × MakesFalse t.steps (l ∷ []) p)) [
+      only = λ p y. elim (cases_eq p q) as (λ _. (marked ms.values p ≡ true) ⊎ ((p < bound) × MakesFalse t.steps (l ∷ []) p)) [
         | inl e ↦ inr (
           omega arith,
           subst (λ (r : ℕ). MakesFalse t.steps (l ∷ []) r) (sym e) (record {
@@ -140,12 +150,12 @@ module _ (t : TrailData) (m : ℕ) (ms : List Bool) (touched : List ℕ) (shape 
             has_opposite = subst (λ (x : Literal). has (l ∷ []) x ≡ true) (sym (ap opposite false_here ∙ opposite-opposite l)) (has-head [] l);
           }),
         )
-        | inr ne ↦ inl (sym (marked-other ms q p true ne) ∙ y)
+        | inr ne ↦ inl (sym (marked-other ms.values q p true ne) ∙ y)
       ];
       all = λ p lp f. (
           let e : p ≡ q = shape.distinct p q f.in_range lt (ap (λ (x : Literal). x.var) (has-one l (opposite (lit_at t.steps p)) f.has_opposite) ∙ sym i.var) in
-          subst (λ (r : ℕ). marked (set ms q true) r ≡ true) (sym e) (marked-same ms q true in_table));
-      count = open_below-set t.steps m ms q bound h in_table off;
+          subst (λ (r : ℕ). marked (set ms.values q true) r ≡ true) (sym e) (marked-same ms.values q true in_table));
+      count = open_below-set t.steps m ms.values q bound h in_table off;
     }
       where
         false_here : lit_at t.steps q ≡ opposite l
@@ -159,9 +169,9 @@ module _ (t : TrailData) (m : ℕ) (ms : List Bool) (touched : List ℕ) (shape 
                 ap (lit_at t.steps) e ∙ f.false_there)
 
 -- a place that needs no mark: it is not below the bound, or marked, or at level 0
-pub Marks-same : (t : TrailData) (m : ℕ) (ms : List Bool) (bound q : ℕ) (l : Literal) → IsTrail t → IsPlaceOf t.steps l.var q
-    → (q < bound → 0 < level_at t.steps q → marked ms q ≡ true) → Marks t.steps m ms ms bound (l ∷ []) 0
-Marks-same t m ms bound q l shape i done = record {
+pub HasMarked-same : (t : TrailData) (m : ℕ) (ms : List Bool) (bound q : ℕ) (l : Literal) → IsTrail t → IsPlaceOf t.steps l.var q
+    → (q < bound → 0 < level_at t.steps q → marked ms q ≡ true) → HasMarked t.steps m ms ms bound (l ∷ []) 0
+HasMarked-same t m ms bound q l shape i done = record {
   kept = λ p y. y;
   only = λ p y. inl y;
   all = λ p lp f. (
@@ -174,9 +184,9 @@ pub has-append : (c d : List Literal) (l : Literal) → has (c ++ d) l ≡ (has 
 has-append c d l = list_any-append (same l) c d
 
 -- one more literal of a clause
-pub Marks-push : (steps : List Step) (m : ℕ) (a b d : List Bool) (bound : ℕ) (c : List Literal) (l : Literal) (n k : ℕ)
-    → Marks steps m a b bound c n → Marks steps m b d bound (l ∷ []) k → Marks steps m a d bound (c ++ l ∷ []) (n + k)
-Marks-push steps m a b d bound c l n k x y = record {
+pub HasMarked-push : (steps : List Step) (m : ℕ) (a b d : List Bool) (bound : ℕ) (c : List Literal) (l : Literal) (n k : ℕ)
+    → HasMarked steps m a b bound c n → HasMarked steps m b d bound (l ∷ []) k → HasMarked steps m a d bound (c ++ l ∷ []) (n + k)
+HasMarked-push steps m a b d bound c l n k x y = record {
   kept = λ p h. y.kept p (x.kept p h);
   only = λ p h. elim (y.only p h) as (λ _. (marked a p ≡ true) ⊎ ((p < bound) × MakesFalse steps (c ++ l ∷ []) p)) [
     | inl old ↦ elim (x.only p old) as (λ _. (marked a p ≡ true) ⊎ ((p < bound) × MakesFalse steps (c ++ l ∷ []) p)) [
@@ -192,14 +202,14 @@ Marks-push steps m a b d bound c l n k x y = record {
   count = (let e = x.count in let g = y.count in omega arith);
 }
 
-pub Marks-more : (steps : List Step) (m : ℕ) (a b d : List Bool) (bound : ℕ) (c : List Literal) (i n k : ℕ) (e : Literal) → i < length c
-    → Marks steps m a b bound (take i c) n → Marks steps m b d bound (get_or c i e ∷ []) k → Marks steps m a d bound (take (i + 1) c) (n + k)
-Marks-more steps m a b d bound c i n k e h x y =
-    subst (λ (xs : List Literal). Marks steps m a d bound xs (n + k)) (sym (take_more c i e h))
-    (Marks-push steps m a b d bound (take i c) (get_or c i e) n k x y)
+pub HasMarked-more : (steps : List Step) (m : ℕ) (a b d : List Bool) (bound : ℕ) (c : List Literal) (i n k : ℕ) (e : Literal) → i < length c
+    → HasMarked steps m a b bound (take i c) n → HasMarked steps m b d bound (get_or c i e ∷ []) k → HasMarked steps m a d bound (take (i + 1) c) (n + k)
+HasMarked-more steps m a b d bound c i n k e h x y =
+    subst (λ (xs : List Literal). HasMarked steps m a d bound xs (n + k)) (sym (take_more c i e h))
+    (HasMarked-push steps m a b d bound (take i c) (get_or c i e) n k x y)
 
-pub Marks-none : (steps : List Step) (m : ℕ) (ms : List Bool) (bound : ℕ) (c : List Literal) → Marks steps m ms ms bound (take 0 c) 0
-Marks-none steps m ms bound c = record {
+pub HasMarked-none : (steps : List Step) (m : ℕ) (ms : List Bool) (bound : ℕ) (c : List Literal) → HasMarked steps m ms ms bound (take 0 c) 0
+HasMarked-none steps m ms bound c = record {
   kept = λ p y. y;
   only = λ p y. inl y;
   all = λ p h f. absurd (false≢true f.has_opposite);

@@ -18,9 +18,10 @@ use Rattle.ring_port.specs.PortState.{PortState, IsOn, known}
 use Rattle.ring_port.specs.Port.{IsClause}
 use Rattle.ring_trail.specs.declared.step.Step.{Step}
 use Rattle.ring_trail.specs.TrailData.{TrailData, IsTrail, IsFalseClause, lit_at, level_at}
-use Rattle.ring_trail.specs.Reasoned.{Held, IsReasoned}
+use Rattle.ring_trail.specs.Reasoned.{IsReasoned}
 use Rattle.analyze.specs.Levels.{greatest, level_of_lit, levels_of, clause_level}
 use Rattle.ring_port.specs.PortState.{clause_at}
+use Rattle.analyze.specs.MarksData.{MarksData}
 use Rattle.analyze.specs.Marks.{marked, IsMarking, IsWalked}
 use Rattle.analyze.specs.Removable.{RestsOn, IsNeeded}
 use Rattle.analyze.specs.Verdicts.{verdict_at, is_removable, is_known, is_kept, IsSettled, IsJudged, kept_of}
@@ -129,28 +130,28 @@ no_opposites t ps shape h = false_from_ne_true _ (λ y.
     let e : p.0 ≡ q.0 = shape.distinct p.0 q.0 (h p.0 p.1) (h q.0 q.1) (ap (λ (k : Literal). k.var) p.2 ∙ sym (ap (λ (k : Literal). k.var) q.2)) in
     own_opposite l.0 (sym p.2 ∙ ap (negated_at t.steps) e ∙ q.2))
 
-module _ (s : PortState) (t : TrailData) (c : List Literal) (u : ℕ) (ms : List Bool) (touched : List ℕ) (vs : List Verdict) (judged : List ℕ)
+module _ (s : PortState) (t : TrailData) (c : List Literal) (u : ℕ) (ms : MarksData Bool) (vs : MarksData Verdict)
     (shape : IsTrail t) (reasoned : IsReasoned (clause_at s) s.seen t.steps) (inG : Contains (known s) c) (bad : IsFalseClause t.steps c)
-    (k : IsMarking t.steps t.vars (clause_level t.steps c) ms touched) (w : IsWalked (clause_at s) t.steps (clause_level t.steps c) c ms u) (pos : 1 ≤ clause_level t.steps c)
-    (j : IsJudged (clause_at s) t.steps t.vars ms vs judged) (found : (p : ℕ) → marked ms p ≡ true → level_at t.steps p < clause_level t.steps c → is_known vs p ≡ true) where
+    (k : IsMarking t.steps t.vars (clause_level t.steps c) ms) (w : IsWalked (clause_at s) t.steps (clause_level t.steps c) c ms.values u) (pos : 1 ≤ clause_level t.steps c)
+    (j : IsJudged (clause_at s) t.steps t.vars ms.values vs) (found : (p : ℕ) → marked ms.values p ≡ true → level_at t.steps p < clause_level t.steps c → is_known vs.values p ≡ true) where
   -- what was put aside
   aside : List ℕ
-  aside = kept_of t.steps (clause_level t.steps c) vs touched
+  aside = kept_of t.steps (clause_level t.steps c) vs.values ms.touched
 
-  aside_kept : (p : ℕ) → In p aside → (marked ms p ≡ true) × (level_at t.steps p < clause_level t.steps c) × (not (is_removable (verdict_at vs p)) ≡ true)
+  aside_kept : (p : ℕ) → In p aside → (marked ms.values p ≡ true) × (level_at t.steps p < clause_level t.steps c) × (not (is_removable (verdict_at vs.values p)) ≡ true)
   unfolding aside
   aside_kept p h =
-      let f = filter_In (is_kept t.steps (clause_level t.steps c) vs) touched p h in
-      let b = and_parts (nat_lt (level_at t.steps p) (clause_level t.steps c)) (not (is_removable (verdict_at vs p))) f.1 in
-      (sym (k.listed p) ∙ In_member touched p f.0, ltb-true _ _ b.0, b.1)
+      let f = filter_In (is_kept t.steps (clause_level t.steps c) vs.values) ms.touched p h in
+      let b = and_parts (nat_lt (level_at t.steps p) (clause_level t.steps c)) (not (is_removable (verdict_at vs.values p))) f.1 in
+      (sym (k.listed p) ∙ In_member ms.touched p f.0, ltb-true _ _ b.0, b.1)
 
-  aside_marked : (p : ℕ) → In p aside → (marked ms p ≡ true) × (level_at t.steps p < clause_level t.steps c)
+  aside_marked : (p : ℕ) → In p aside → (marked ms.values p ≡ true) × (level_at t.steps p < clause_level t.steps c)
   aside_marked p h = let a = aside_kept p h in (a.0, a.1)
 
-  In_aside : (p : ℕ) → marked ms p ≡ true → level_at t.steps p < clause_level t.steps c → not (is_removable (verdict_at vs p)) ≡ true → In p aside
+  In_aside : (p : ℕ) → marked ms.values p ≡ true → level_at t.steps p < clause_level t.steps c → not (is_removable (verdict_at vs.values p)) ≡ true → In p aside
   unfolding aside
   In_aside p y low n =
-      In_filter (is_kept t.steps (clause_level t.steps c) vs) touched p (member_In touched p (k.listed p ∙ y)) (and_from _ _ (lt-ltb _ _ low) n)
+      In_filter (is_kept t.steps (clause_level t.steps c) vs.values) ms.touched p (member_In ms.touched p (k.listed p ∙ y)) (and_from _ _ (lt-ltb _ _ low) n)
 
   places_lt : (p : ℕ) → In p (u ∷ aside) → p < length t.steps
   places_lt p (inl e) = let h = w.point.in_range in omega arith
@@ -165,7 +166,7 @@ module _ (s : PortState) (t : TrailData) (c : List Literal) (u : ℕ) (ms : List
 
   aside_distinct : IsDistinct nat_eq aside
   unfolding aside
-  aside_distinct = distinct_filter (is_kept t.steps (clause_level t.steps c) vs) touched k.distinct
+  aside_distinct = distinct_filter (is_kept t.steps (clause_level t.steps c) vs.values) ms.touched k.distinct
 
   places_distinct : IsDistinct nat_eq (u ∷ aside)
   places_distinct = IsDistinct-cons nat_eq u aside (all_apart u aside (λ p h e. let l = (aside_marked p h).1 in let i = w.point.level in let z = ap (level_at t.steps) e in omega arith)) aside_distinct
@@ -181,21 +182,21 @@ module _ (s : PortState) (t : TrailData) (c : List Literal) (u : ℕ) (ms : List
 
   -- what was removed
   removed : ℕ → Bool
-  removed q = is_removable (verdict_at vs q)
+  removed q = is_removable (verdict_at vs.values q)
 
-  removed_rests : (p : ℕ) → removed p ≡ true → RestsOn (clause_at s) t.steps (λ q. (marked ms q ≡ true) ⊎ (removed q ≡ true)) p
+  removed_rests : (p : ℕ) → removed p ≡ true → RestsOn (clause_at s) t.steps (λ q. (marked ms.values q ≡ true) ⊎ (removed q ≡ true)) p
   unfolding removed
   removed_rests p y =
-      let o : RestsOn (clause_at s) t.steps (IsSettled ms vs) p = j.cleared p (removable_is (verdict_at vs p) y) in
+      let o : RestsOn (clause_at s) t.steps (IsSettled ms.values vs.values) p = j.cleared p (removable_is (verdict_at vs.values p) y) in
       record {
         lits = o.lits;
         reason = o.reason;
-        others = λ q b f. elim (o.others q b f) as (λ _. (marked ms q ≡ true) ⊎ (is_removable (verdict_at vs q) ≡ true)) [ inl m ↦ inl m | inr e ↦ inr (ap is_removable e) ];
+        others = λ q b f. elim (o.others q b f) as (λ _. (marked ms.values q ≡ true) ⊎ (is_removable (verdict_at vs.values q) ≡ true)) [ inl m ↦ inl m | inr e ↦ inr (ap is_removable e) ];
       }
 
-  lemma_lower : (p : ℕ) → marked ms p ≡ true → level_at t.steps p < clause_level t.steps c → (removed p ≡ true) ⊎ (has (map opposite lemma_lits) (lit_at t.steps p) ≡ true)
+  lemma_lower : (p : ℕ) → marked ms.values p ≡ true → level_at t.steps p < clause_level t.steps c → (removed p ≡ true) ⊎ (has (map opposite lemma_lits) (lit_at t.steps p) ≡ true)
   unfolding removed
-  lemma_lower p y low = elim (removable_or_not (verdict_at vs p)) as (λ _. (is_removable (verdict_at vs p) ≡ true) ⊎ (has (map opposite lemma_lits) (lit_at t.steps p) ≡ true)) [
+  lemma_lower p y low = elim (removable_or_not (verdict_at vs.values p)) as (λ _. (is_removable (verdict_at vs.values p) ≡ true) ⊎ (has (map opposite lemma_lits) (lit_at t.steps p) ≡ true)) [
     | inl e ↦ inl e
     | inr n ↦ inr (in_lemma p (inr (In_aside p y low n)))
   ]
@@ -203,7 +204,7 @@ module _ (s : PortState) (t : TrailData) (c : List Literal) (u : ℕ) (ms : List
   lemma_implied : rup (known s) lemma_lits ≡ true
   lemma_implied =
       rup-Refuted (known s) lemma_lits
-      (Refuted-walk s t (clause_level t.steps c) u c ms removed (map opposite lemma_lits) shape reasoned inG bad w k.within pos removed_rests (in_lemma u (inl refl)) lemma_lower)
+      (Refuted-walk s t (clause_level t.steps c) u c ms.values removed (map opposite lemma_lits) shape reasoned inG bad w k.within pos removed_rests (in_lemma u (inl refl)) lemma_lower)
 
   lemma_clause : IsClause t.vars lemma_lits
   unfolding lemma_lits
@@ -229,8 +230,8 @@ module _ (s : PortState) (t : TrailData) (c : List Literal) (u : ℕ) (ms : List
       needed_In : (p : ℕ) → IsNeeded (clause_at s) t.steps (clause_level t.steps c) c u p → In p aside
       needed_In p n =
           let y = w.complete p n.left.reached in
-          elim (removable_or_not (verdict_at vs p)) as (λ _. In p aside) [
-            | inl e ↦ absurd (n.not_removable (removable_sound (clause_at s) t ms vs judged (clause_level t.steps c) c u shape j w (suc p) p (omega arith) n.left.in_range n.left.lower (removable_is (verdict_at vs p) e)))
+          elim (removable_or_not (verdict_at vs.values p)) as (λ _. In p aside) [
+            | inl e ↦ absurd (n.not_removable (removable_sound (clause_at s) t ms.values vs (clause_level t.steps c) c u shape j w (suc p) p (omega arith) n.left.in_range n.left.lower (removable_is (verdict_at vs.values p) e)))
             | inr stay ↦ In_aside p y n.left.lower stay
           ]
 
@@ -239,7 +240,7 @@ module _ (s : PortState) (t : TrailData) (c : List Literal) (u : ℕ) (ms : List
           let a = aside_kept p h in
           record {
             left = record { in_range = k.in_range p a.0; above = k.above p a.0; lower = a.1; reached = w.sound p a.0 };
-            not_removable = needed_stays (clause_at s) t ms vs judged (clause_level t.steps c) c u shape j w p (found_needed (verdict_at vs p) (found p a.0 a.1) a.2);
+            not_removable = needed_stays (clause_at s) t ms.values vs (clause_level t.steps c) c u shape j w p (found_needed (verdict_at vs.values p) (found p a.0 a.1) a.2);
           }
 
   IsLemma-walked : (back glue : ℕ) → back ≡ greatest (map (level_at t.steps) aside) → glue ≡ distinct_count nat_eq (map (level_at t.steps) aside) → IsLemma s t c lemma_lits back glue
@@ -272,52 +273,41 @@ module _ (s : PortState) (t : TrailData) (c : List Literal) (u : ℕ) (ms : List
           omega arith
 
 -- what the walk marked and put aside makes the lemma
-pub IsLemma-from : (s : PortState) (t : TrailData) (m : ℕ) (c : List Literal) (u : ℕ) (ms : List Bool) (touched : List ℕ) (vs : List Verdict) (judged : List ℕ)
+pub IsLemma-from : (s : PortState) (t : TrailData) (m : ℕ) (c : List Literal) (u : ℕ) (ms : MarksData Bool) (vs : MarksData Verdict)
     → IsTrail t → IsReasoned (clause_at s) s.seen t.steps → Contains (known s) c → IsFalseClause t.steps c → m ≡ clause_level t.steps c → 1 ≤ m
-    → IsMarking t.steps t.vars m ms touched → IsWalked (clause_at s) t.steps m c ms u
-    → IsJudged (clause_at s) t.steps t.vars ms vs judged → ((p : ℕ) → marked ms p ≡ true → level_at t.steps p < m → is_known vs p ≡ true)
-    → (back glue : ℕ) → back ≡ greatest (map (level_at t.steps) (kept_of t.steps m vs touched)) → glue ≡ distinct_count nat_eq (map (level_at t.steps) (kept_of t.steps m vs touched))
-    → IsLemma s t c (negated_at t.steps u ∷ map (negated_at t.steps) (kept_of t.steps m vs touched)) back glue
-IsLemma-from s t m c u ms touched vs judged shape reasoned inG bad e pos k w j found back glue b g =
-    subst (λ (n : ℕ). 1 ≤ n → IsMarking t.steps t.vars n ms touched → IsWalked (clause_at s) t.steps n c ms u → ((p : ℕ) → marked ms p ≡ true → level_at t.steps p < n → is_known vs p ≡ true)
-    → back ≡ greatest (map (level_at t.steps) (kept_of t.steps n vs touched)) → glue ≡ distinct_count nat_eq (map (level_at t.steps) (kept_of t.steps n vs touched))
-    → IsLemma s t c (negated_at t.steps u ∷ map (negated_at t.steps) (kept_of t.steps n vs touched)) back glue) (sym e)
+    → IsMarking t.steps t.vars m ms → IsWalked (clause_at s) t.steps m c ms.values u
+    → IsJudged (clause_at s) t.steps t.vars ms.values vs → ((p : ℕ) → marked ms.values p ≡ true → level_at t.steps p < m → is_known vs.values p ≡ true)
+    → (back glue : ℕ) → back ≡ greatest (map (level_at t.steps) (kept_of t.steps m vs.values ms.touched)) → glue ≡ distinct_count nat_eq (map (level_at t.steps) (kept_of t.steps m vs.values ms.touched))
+    → IsLemma s t c (negated_at t.steps u ∷ map (negated_at t.steps) (kept_of t.steps m vs.values ms.touched)) back glue
+IsLemma-from s t m c u ms vs shape reasoned inG bad e pos k w j found back glue b g =
+    subst (λ (n : ℕ). 1 ≤ n → IsMarking t.steps t.vars n ms → IsWalked (clause_at s) t.steps n c ms.values u → ((p : ℕ) → marked ms.values p ≡ true → level_at t.steps p < n → is_known vs.values p ≡ true)
+    → back ≡ greatest (map (level_at t.steps) (kept_of t.steps n vs.values ms.touched)) → glue ≡ distinct_count nat_eq (map (level_at t.steps) (kept_of t.steps n vs.values ms.touched))
+    → IsLemma s t c (negated_at t.steps u ∷ map (negated_at t.steps) (kept_of t.steps n vs.values ms.touched)) back glue) (sym e)
     (λ p k w f b g. from p k w f b g) pos k w found b g
   where
-    from : 1 ≤ clause_level t.steps c → IsMarking t.steps t.vars (clause_level t.steps c) ms touched → IsWalked (clause_at s) t.steps (clause_level t.steps c) c ms u
-        → ((p : ℕ) → marked ms p ≡ true → level_at t.steps p < clause_level t.steps c → is_known vs p ≡ true)
-        → back ≡ greatest (map (level_at t.steps) (kept_of t.steps (clause_level t.steps c) vs touched)) → glue ≡ distinct_count nat_eq (map (level_at t.steps) (kept_of t.steps (clause_level t.steps c) vs touched))
-        → IsLemma s t c (negated_at t.steps u ∷ map (negated_at t.steps) (kept_of t.steps (clause_level t.steps c) vs touched)) back glue
-    from p k w f b g = unfold lemma_lits in unfold aside in IsLemma-walked s t c u ms touched vs judged shape reasoned inG bad k w p j f back glue b g
+    from : 1 ≤ clause_level t.steps c → IsMarking t.steps t.vars (clause_level t.steps c) ms → IsWalked (clause_at s) t.steps (clause_level t.steps c) c ms.values u
+        → ((p : ℕ) → marked ms.values p ≡ true → level_at t.steps p < clause_level t.steps c → is_known vs.values p ≡ true)
+        → back ≡ greatest (map (level_at t.steps) (kept_of t.steps (clause_level t.steps c) vs.values ms.touched)) → glue ≡ distinct_count nat_eq (map (level_at t.steps) (kept_of t.steps (clause_level t.steps c) vs.values ms.touched))
+        → IsLemma s t c (negated_at t.steps u ∷ map (negated_at t.steps) (kept_of t.steps (clause_level t.steps c) vs.values ms.touched)) back glue
+    from p k w f b g = unfold lemma_lits in unfold aside in IsLemma-walked s t c u ms vs shape reasoned inG bad k w p j f back glue b g
 
-module _ (t : TrailData) (m : ℕ) (ms : List Bool) (touched : List ℕ) (shape : IsTrail t) (k : IsMarking t.steps t.vars m ms touched) where
-  listed_lt : (p : ℕ) → In p touched → p < length t.steps
-  listed_lt p h = listed_in_range t m ms touched shape k p (In_member touched p h)
+module _ (t : TrailData) (m : ℕ) (ms : MarksData Bool) (shape : IsTrail t) (k : IsMarking t.steps t.vars m ms) where
+  listed_lt : (p : ℕ) → In p ms.touched → p < length t.steps
+  listed_lt p h = listed_in_range t m ms shape k p (In_member ms.touched p h)
 
-  pub touched_in_range : All (λ p. p < length t.steps) touched
-  touched_in_range i d h = listed_lt (get_or touched i d) (In_get_or touched i d h)
+  pub touched_in_range : All (λ p. p < length t.steps) ms.touched
+  touched_in_range i d h = listed_lt (get_or ms.touched i d) (In_get_or ms.touched i d h)
 
-  pub touched_in_table : All (λ p. p < length ms) touched
-  touched_in_table i d h = let a = touched_in_range i d h in let s = shape.short in let z = k.size in omega arith
-
-  pub touched_short : length touched ≤ length t.steps
-  touched_short = touched_few t m ms touched shape k
+  pub touched_short : length ms.touched ≤ length t.steps
+  touched_short = touched_few t m ms shape k
 
   module _ (vs : List Verdict) where
-    kept_listed : (p : ℕ) → In p (kept_of t.steps m vs touched) → In p touched
-    kept_listed p h = (filter_In (is_kept t.steps m vs) touched p h).0
+    kept_listed : (p : ℕ) → In p (kept_of t.steps m vs ms.touched) → In p ms.touched
+    kept_listed p h = (filter_In (is_kept t.steps m vs) ms.touched p h).0
 
-    pub kept_in_range : All (λ p. p < length t.steps) (kept_of t.steps m vs touched)
-    kept_in_range i d h = listed_lt (get_or (kept_of t.steps m vs touched) i d) (kept_listed (get_or (kept_of t.steps m vs touched) i d) (In_get_or (kept_of t.steps m vs touched) i d h))
+    pub kept_in_range : All (λ p. p < length t.steps) (kept_of t.steps m vs ms.touched)
+    kept_in_range i d h = listed_lt (get_or (kept_of t.steps m vs ms.touched) i d) (kept_listed (get_or (kept_of t.steps m vs ms.touched) i d) (In_get_or (kept_of t.steps m vs ms.touched) i d h))
 
-    pub kept_few : length (kept_of t.steps m vs touched) ≤ length t.steps
-    kept_few = length-le_from_distinct_below (kept_of t.steps m vs touched) (length t.steps) (distinct_filter (is_kept t.steps m vs) touched k.distinct)
-        (λ q y. listed_lt q (kept_listed q (member_In (kept_of t.steps m vs touched) q y)))
-
--- the places that have a verdict stand in the table
-pub judged_in_table : (held : Held) (t : TrailData) (ms : List Bool) (vs : List Verdict) (judged : List ℕ) → IsTrail t → IsJudged held t.steps t.vars ms vs judged → All (λ p. p < length vs) judged
-judged_in_table held t ms vs judged shape j i d h =
-    let a = j.in_range (get_or judged i d) (sym (j.listed (get_or judged i d)) ∙ In_member judged (get_or judged i d) (In_get_or judged i d h)) in
-    let s = shape.short in
-    let z = j.size in
-    omega arith
+    pub kept_few : length (kept_of t.steps m vs ms.touched) ≤ length t.steps
+    kept_few = length-le_from_distinct_below (kept_of t.steps m vs ms.touched) (length t.steps) (distinct_filter (is_kept t.steps m vs) ms.touched k.distinct)
+        (λ q y. listed_lt q (kept_listed q (member_In (kept_of t.steps m vs ms.touched) q y)))

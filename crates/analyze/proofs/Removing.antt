@@ -4,6 +4,7 @@ use Rattle.std.proofs.lemmas.Bool.{false≢true}
 use Rattle.sat_words.specs.Literal.{Literal}
 use Rattle.ring_trail.specs.TrailData.{TrailData, IsTrail, level_at}
 use Rattle.ring_trail.specs.Reasoned.{Held}
+use Rattle.analyze.specs.MarksData.{MarksData}
 use Rattle.analyze.specs.Walk.{MakesFalse, IsLeft}
 use Rattle.analyze.specs.Marks.{IsWalked}
 use Rattle.analyze.specs.Removable.{IsReasonOf, RestsOn, IsRemovableSet, IsRemovable}
@@ -34,13 +35,13 @@ not_needed Removable = true
 not_needed Needed = false
 
 -- a place that isn't removable hasn't both a settled reason and one that blocks it
-module _ (held : Held) (t : TrailData) (ms : List Bool) (vs : List Verdict) (judged : List ℕ) (m : ℕ) (c : List Literal) (u : ℕ)
-    (shape : IsTrail t) (j : IsJudged held t.steps t.vars ms vs judged) (w : IsWalked held t.steps m c ms u) where
+module _ (held : Held) (t : TrailData) (ms : List Bool) (vs : MarksData Verdict) (m : ℕ) (c : List Literal) (u : ℕ)
+    (shape : IsTrail t) (j : IsJudged held t.steps t.vars ms vs) (w : IsWalked held t.steps m c ms u) where
   -- what is found removable is in each set that has what rests on it
-  pub removable_sound : (n p : ℕ) → p < n → p < length t.steps → level_at t.steps p < m → verdict_at vs p ≡ Removable → IsRemovable held t.steps m c u p
+  pub removable_sound : (n p : ℕ) → p < n → p < length t.steps → level_at t.steps p < m → verdict_at vs.values p ≡ Removable → IsRemovable held t.steps m c u p
   removable_sound zero p h lt low e R set = absurd (omega arith)
   removable_sound (suc n) p h lt low e R set =
-      let o : RestsOn held t.steps (IsSettled ms vs) p = j.cleared p e in
+      let o : RestsOn held t.steps (IsSettled ms vs.values) p = j.cleared p e in
       set p (record {
         lits = o.lits;
         reason = o.reason;
@@ -55,16 +56,16 @@ module _ (held : Held) (t : TrailData) (ms : List Bool) (vs : List Verdict) (jud
 
   -- the places that aren't found needed are such a set
   unneeded : ℕ → Bool
-  unneeded q = not_needed (verdict_at vs q)
+  unneeded q = not_needed (verdict_at vs.values q)
 
-  unneeded_Needed : (q : ℕ) → verdict_at vs q ≡ Needed → unneeded q ≡ true → ⊥
+  unneeded_Needed : (q : ℕ) → verdict_at vs.values q ≡ Needed → unneeded q ≡ true → ⊥
   unfolding unneeded not_needed
   unneeded_Needed q e y = false≢true (sym (ap not_needed e) ∙ y)
 
-  blocked_not : (p : ℕ) → RestsOn held t.steps (λ q. IsLeft held t.steps m c u q ⊎ (unneeded q ≡ true)) p → IsBlocked held t.steps ms vs p → ⊥
+  blocked_not : (p : ℕ) → RestsOn held t.steps (λ q. IsLeft held t.steps m c u q ⊎ (unneeded q ≡ true)) p → IsBlocked held t.steps ms vs.values p → ⊥
   blocked_not p r (inl none) = let is = r.reason.reason_is in let both : None ≡ Some r.reason.reason = sym none ∙ is in cc
   blocked_not p r (inr b) =
-      let b2 : IsBlockedBy t.steps ms vs p b.0 = b.2 in
+      let b2 : IsBlockedBy t.steps ms vs.values p b.0 = b.2 in
       let b1 : IsReasonOf held t.steps p b.0 = b.1 in
       let same : r.lits ≡ b.0 = one_reason held t.steps p b1.reason r.lits b.0 r.reason b1.reason_is b1.held_is in
       elim (r.others b2.place b2.before (subst (λ (x : List Literal). MakesFalse t.steps x b2.place) (sym same) b2.falsifies)) as (λ _. ⊥) [
@@ -74,13 +75,13 @@ module _ (held : Held) (t : TrailData) (ms : List Bool) (vs : List Verdict) (jud
 
   unneeded_set : IsRemovableSet held t.steps m c u unneeded
   unfolding unneeded not_needed
-  unneeded_set p r = by (verdict_at vs p) refl
+  unneeded_set p r = by (verdict_at vs.values p) refl
     where
-      by : (v : Verdict) → verdict_at vs p ≡ v → unneeded p ≡ true
+      by : (v : Verdict) → verdict_at vs.values p ≡ v → unneeded p ≡ true
       by Unknown e = ap not_needed e
       by Removable e = ap not_needed e
       by Needed e = absurd (blocked_not p r (j.blocked p e))
 
   -- so what is found needed isn't removable
-  pub needed_stays : (p : ℕ) → verdict_at vs p ≡ Needed → IsRemovable held t.steps m c u p → ⊥
+  pub needed_stays : (p : ℕ) → verdict_at vs.values p ≡ Needed → IsRemovable held t.steps m c u p → ⊥
   needed_stays p e r = unneeded_Needed p e (r unneeded unneeded_set)

@@ -8,8 +8,9 @@ use Rattle.sat_words.specs.declared.shared.Cref.{Cref}
 use Rattle.ring_trail.specs.declared.step.Step.{Step}
 use Rattle.ring_trail.specs.TrailData.{TrailData, IsTrail, FalseBefore, lit_at, level_at, reason_at}
 use Rattle.ring_trail.specs.Reasoned.{Held, WasUnit, IsForced, IsSeen, IsDecision, IsReasoned}
+use Rattle.analyze.specs.MarksData.{MarksData}
 use Rattle.analyze.specs.Walk.{MakesFalse, LeadsTo, IsWalkSet, IsReached}
-use Rattle.analyze.specs.Marks.{marked, is_open, open_below, IsMarking, CanMarkAll, Marks, IsWalked}
+use Rattle.analyze.specs.Marks.{marked, is_open, open_below, IsMarking, CanMarkAll, HasMarked, IsWalked}
 
 -- a walk set stays one where fewer places lead on
 IsWalkSet-more : (held : Held) (steps : List Step) (m : ℕ) (c : List Literal) (i j : ℕ) (R : ℕ → Bool) → j ≤ i → IsWalkSet held steps m c j R → IsWalkSet held steps m c i R
@@ -109,34 +110,34 @@ abbrev pub IsBefore : Held → List Step → ℕ → List Literal → ℕ → Ty
 IsBefore held steps m c v = (p : ℕ) × (p < v) × (level_at steps p ≡ m) × IsReached held steps m c (suc v) p
 
 -- where the walk stands: `open_places` places below i are open, and the marks are what it reached
-pub record Walking (held : Held) (steps : List Step) (vars m : ℕ) (c : List Literal) (ms : List Bool) (touched : List ℕ) (open_places i : ℕ) : Type 0 where
+pub record Walking (held : Held) (steps : List Step) (vars m : ℕ) (c : List Literal) (ms : MarksData Bool) (open_places i : ℕ) : Type 0 where
   pub in_range : i ≤ length steps
-  pub marking : IsMarking steps vars m ms touched
-  pub count : open_places ≡ open_below steps m ms i
+  pub marking : IsMarking steps vars m ms
+  pub count : open_places ≡ open_below steps m ms.values i
   pub some : 1 ≤ open_places
-  pub sound : (p : ℕ) → marked ms p ≡ true → IsReached held steps m c i p
-  pub closed : IsWalkSet held steps m c i (marked ms)
+  pub sound : (p : ℕ) → marked ms.values p ≡ true → IsReached held steps m c i p
+  pub closed : IsWalkSet held steps m c i (marked ms.values)
   pub first : (v : ℕ) → i ≤ v → v < length steps → level_at steps v ≡ m → IsReached held steps m c (suc v) v → IsBefore held steps m c v
 
-module _ (held : Held) (steps : List Step) (vars m : ℕ) (c : List Literal) (ms : List Bool) (touched : List ℕ) (n i : ℕ) (w : Walking held steps vars m c ms touched n i) where
+module _ (held : Held) (steps : List Step) (vars m : ℕ) (c : List Literal) (ms : MarksData Bool) (n i : ℕ) (w : Walking held steps vars m c ms n i) where
   pub Walking-positive : 1 ≤ i
-  Walking-positive = let a = w.count in let b = w.some in omega (arith, open_below-le steps m ms i)
+  Walking-positive = let a = w.count in let b = w.some in omega (arith, open_below-le steps m ms.values i)
 
   pub Walking-small : n ≤ i
-  Walking-small = let a = w.count in omega (arith, open_below-le steps m ms i)
+  Walking-small = let a = w.count in omega (arith, open_below-le steps m ms.values i)
 
   -- a place that is not open is passed over
-  pub Walking-skip : (u : ℕ) → i ≡ suc u → is_open steps m ms u ≡ false → Walking held steps vars m c ms touched n u
+  pub Walking-skip : (u : ℕ) → i ≡ suc u → is_open steps m ms.values u ≡ false → Walking held steps vars m c ms n u
   Walking-skip u e shut = record {
     in_range = (let h = w.in_range in omega arith);
     marking = w.marking;
-    count = w.count ∙ ap (open_below steps m ms) e ∙ open_below-skip steps m ms u shut;
+    count = w.count ∙ ap (open_below steps m ms.values) e ∙ open_below-skip steps m ms.values u shut;
     some = w.some;
     sound = λ p y. IsReached-on held steps m c i u p (omega arith) (w.sound p y);
     closed = record {
       starts = w.closed.starts;
-      goes_on = λ q p y l. elim (cases_eq q u) as (λ _. marked ms p ≡ true) [
-        | inl s ↦ absurd (false≢true (sym shut ∙ ap (is_open steps m ms) (sym s) ∙ and_from _ _ y (eq-eqb _ _ l.level)))
+      goes_on = λ q p y l. elim (cases_eq q u) as (λ _. marked ms.values p ≡ true) [
+        | inl s ↦ absurd (false≢true (sym shut ∙ ap (is_open steps m ms.values) (sym s) ∙ and_from _ _ y (eq-eqb _ _ l.level)))
         | inr ne ↦ w.closed.goes_on q p y (record {
           in_range = l.in_range;
           from_here = (let h = l.from_here in omega arith);
@@ -151,35 +152,35 @@ module _ (held : Held) (steps : List Step) (vars m : ℕ) (c : List Literal) (ms
       ];
     };
     first = λ v le lt l r. elim (cases_eq v u) as (λ _. IsBefore held steps m c v) [
-      | inl s ↦ absurd (false≢true (sym shut ∙ ap (is_open steps m ms) (sym s)
-          ∙ and_from _ _ (subst (λ (j : ℕ). IsReached held steps m c j v) (ap suc s ∙ sym e) r (marked ms) w.closed) (eq-eqb _ _ l)))
+      | inl s ↦ absurd (false≢true (sym shut ∙ ap (is_open steps m ms.values) (sym s)
+          ∙ and_from _ _ (subst (λ (j : ℕ). IsReached held steps m c j v) (ap suc s ∙ sym e) r (marked ms.values) w.closed) (eq-eqb _ _ l)))
       | inr ne ↦ w.first v (omega arith) lt l r
     ];
   }
 
-  module _ (u : ℕ) (e : i ≡ suc u) (y : marked ms u ≡ true) (l : level_at steps u ≡ m) where
-    counted : n ≡ open_below steps m ms u + 1
-    counted = w.count ∙ ap (open_below steps m ms) e ∙ open_below-more steps m ms u y l
+  module _ (u : ℕ) (e : i ≡ suc u) (y : marked ms.values u ≡ true) (l : level_at steps u ≡ m) where
+    counted : n ≡ open_below steps m ms.values u + 1
+    counted = w.count ∙ ap (open_below steps m ms.values) e ∙ open_below-more steps m ms.values u y l
 
     -- the one open place that is left is the first unique implication point
-    pub Walking-last : n ≡ 1 → IsWalked held steps m c ms u
+    pub Walking-last : n ≡ 1 → IsWalked held steps m c ms.values u
     Walking-last one = record {
       point = record {
         in_range = (let h = w.in_range in omega arith);
         level = l;
         reached = subst (λ (j : ℕ). IsReached held steps m c j u) e (w.sound u y);
         alone = λ p lt at r. (
-            let shut = none_open steps m ms u p (let k = counted in omega arith) lt in
-            false≢true (sym shut ∙ and_from _ _ (r (marked ms) (subst (λ (j : ℕ). IsWalkSet held steps m c j (marked ms)) e w.closed)) (eq-eqb _ _ at)));
+            let shut = none_open steps m ms.values u p (let k = counted in omega arith) lt in
+            false≢true (sym shut ∙ and_from _ _ (r (marked ms.values) (subst (λ (j : ℕ). IsWalkSet held steps m c j (marked ms.values)) e w.closed)) (eq-eqb _ _ at)));
         first = λ v gt lt at r. w.first v (omega arith) lt at r;
       };
       sound = λ p h. subst (λ (j : ℕ). IsReached held steps m c j p) e (w.sound p h);
-      complete = λ p r. r (marked ms) (subst (λ (j : ℕ). IsWalkSet held steps m c j (marked ms)) e w.closed);
+      complete = λ p r. r (marked ms.values) (subst (λ (j : ℕ). IsWalkSet held steps m c j (marked ms.values)) e w.closed);
     }
 
     -- another open place is before this one
-    another : (n ≡ 1 → ⊥) → (q : ℕ) × (q < u) × (is_open steps m ms q ≡ true)
-    another ne = some_open steps m ms u (let k = counted in let s = w.some in omega arith)
+    another : (n ≡ 1 → ⊥) → (q : ℕ) × (q < u) × (is_open steps m ms.values q ≡ true)
+    another ne = some_open steps m ms.values u (let k = counted in let s = w.some in omega arith)
 
     -- so it wasn't decided
     pub Walking-forced : (n ≡ 1 → ⊥) → 1 ≤ m → (seen : List Literal) → IsReasoned held seen steps → IsForced held steps u
@@ -191,13 +192,13 @@ module _ (held : Held) (steps : List Step) (vars m : ℕ) (c : List Literal) (ms
         by (inr (inr d)) = absurd (
             let q = another ne in
             let a = d.first q.0 q.1 in
-            let s = eqb-true _ _ (and_parts (marked ms q.0) (nat_eq (level_at steps q.0) m) q.2).1 in
+            let s = eqb-true _ _ (and_parts (marked ms.values q.0) (nat_eq (level_at steps q.0) m) q.2).1 in
             omega arith)
 
     -- its reason's literals are marked in its place
-    pub Walking-resolve : (n ≡ 1 → ⊥) → (a : Cref) (d : List Literal) → reason_at steps u ≡ Some a → held a.address ≡ Some d → (more : List Bool) (after : List ℕ) (k : ℕ)
-        → Marks steps m ms more u d k → IsMarking steps vars m more after → Walking held steps vars m c more after (n - 1 + k) u
-    Walking-resolve ne a d reason_is held_is more after k marks marking = record {
+    pub Walking-resolve : (n ≡ 1 → ⊥) → (a : Cref) (d : List Literal) → reason_at steps u ≡ Some a → held a.address ≡ Some d → (more : MarksData Bool) (k : ℕ)
+        → HasMarked steps m ms.values more.values u d k → IsMarking steps vars m more → Walking held steps vars m c more (n - 1 + k) u
+    Walking-resolve ne a d reason_is held_is more k marks marking = record {
       in_range = (let h = w.in_range in omega arith);
       marking = marking;
       count = (let t = counted in let s = marks.count in omega arith);
@@ -205,7 +206,7 @@ module _ (held : Held) (steps : List Step) (vars m : ℕ) (c : List Literal) (ms
       sound = sound_now;
       closed = record {
         starts = λ p f. marks.kept p (w.closed.starts p f);
-        goes_on = λ q p h t. elim (cases_eq q u) as (λ _. marked more p ≡ true) [
+        goes_on = λ q p h t. elim (cases_eq q u) as (λ _. marked more.values p ≡ true) [
           | inl s ↦ from_here q p s t
           | inr other ↦ further q p other h t
         ];
@@ -213,7 +214,7 @@ module _ (held : Held) (steps : List Step) (vars m : ℕ) (c : List Literal) (ms
       first = λ v le lt at r. elim (cases_eq v u) as (λ _. IsBefore held steps m c v) [
         | inl s ↦ (
             let q = another ne in
-            let parts = and_parts (marked ms q.0) (nat_eq (level_at steps q.0) m) q.2 in
+            let parts = and_parts (marked ms.values q.0) (nat_eq (level_at steps q.0) m) q.2 in
             (q.0, omega (arith, q.1), eqb-true _ _ parts.1, subst (λ (j : ℕ). IsReached held steps m c j q.0) (e ∙ ap suc (sym s)) (w.sound q.0 parts.0)))
         | inr other ↦ w.first v (omega arith) lt at r
       ];
@@ -235,14 +236,14 @@ module _ (held : Held) (steps : List Step) (vars m : ℕ) (c : List Literal) (ms
           falsifies = f;
         }
 
-        sound_now : (p : ℕ) → marked more p ≡ true → IsReached held steps m c u p
+        sound_now : (p : ℕ) → marked more.values p ≡ true → IsReached held steps m c u p
         sound_now p h R set = by (marks.only p h)
           where
-            by : (marked ms p ≡ true) ⊎ ((p < u) × MakesFalse steps d p) → R p ≡ true
+            by : (marked ms.values p ≡ true) ⊎ ((p < u) × MakesFalse steps d p) → R p ≡ true
             by (inl old) = IsReached-on held steps m c i u p (omega arith) (w.sound p old) R set
             by (inr new) = set.goes_on u p (reached_here R set) (leads p new.0 new.1)
 
-        from_here : (q p : ℕ) → q ≡ u → LeadsTo held steps m u q p → marked more p ≡ true
+        from_here : (q p : ℕ) → q ≡ u → LeadsTo held steps m u q p → marked more.values p ≡ true
         from_here q p s t =
             let one : Some a ≡ Some t.reason = sym reason_is ∙ ap (reason_at steps) (sym s) ∙ t.reason_is in
             let same : a ≡ t.reason = cc in
@@ -250,10 +251,10 @@ module _ (held : Held) (steps : List Step) (vars m : ℕ) (c : List Literal) (ms
             let lits : t.lits ≡ d = cc in
             marks.all p (let b = t.before in omega arith) (subst (λ (x : List Literal). MakesFalse steps x p) lits t.falsifies)
 
-        further : (q p : ℕ) → (q ≡ u → ⊥) → marked more q ≡ true → LeadsTo held steps m u q p → marked more p ≡ true
+        further : (q p : ℕ) → (q ≡ u → ⊥) → marked more.values q ≡ true → LeadsTo held steps m u q p → marked more.values p ≡ true
         further q p other h t = by (marks.only q h)
           where
-            by : (marked ms q ≡ true) ⊎ ((q < u) × MakesFalse steps d q) → marked more p ≡ true
+            by : (marked ms.values q ≡ true) ⊎ ((q < u) × MakesFalse steps d q) → marked more.values p ≡ true
             by (inr new) = absurd (let f = t.from_here in let b = new.0 in omega arith)
             by (inl old) = marks.kept p (w.closed.goes_on q p old (record {
               in_range = t.in_range;
@@ -268,9 +269,9 @@ module _ (held : Held) (steps : List Step) (vars m : ℕ) (c : List Literal) (ms
             }))
 
 -- the walk begins at the conflict's places
-pub Walking-start : (held : Held) (steps : List Step) (vars m : ℕ) (c : List Literal) (ms more : List Bool) (touched : List ℕ) (n : ℕ)
-    → ((p : ℕ) → marked ms p ≡ false) → Marks steps m ms more (length steps) c n → IsMarking steps vars m more touched → 1 ≤ n → Walking held steps vars m c more touched n (length steps)
-Walking-start held steps vars m c ms more touched n off marks marking some = record {
+pub Walking-start : (held : Held) (steps : List Step) (vars m : ℕ) (c : List Literal) (ms : List Bool) (more : MarksData Bool) (n : ℕ)
+    → ((p : ℕ) → marked ms p ≡ false) → HasMarked steps m ms more.values (length steps) c n → IsMarking steps vars m more → 1 ≤ n → Walking held steps vars m c more n (length steps)
+Walking-start held steps vars m c ms more n off marks marking some = record {
   in_range = omega arith;
   marking = marking;
   count = (let z = none_open_yet steps m ms (length steps) off in let s = marks.count in omega arith);
@@ -311,10 +312,10 @@ forced_by held steps u a f e =
     record { lits = f.lits; held_is = ap (λ (r : Cref). held r.address) (sym same) ∙ f.held_is; unit = f.unit }
 
 -- the place before where the walk stands has its mark in the table
-pub Walking-in_table : (held : Held) (t : TrailData) (m : ℕ) (c : List Literal) (ms : List Bool) (touched : List ℕ) (n i : ℕ) → IsTrail t
-    → Walking held t.steps t.vars m c ms touched n i → i - 1 < length ms
-Walking-in_table held t m c ms touched n i shape w =
-    let p = Walking-positive held t.steps t.vars m c ms touched n i w in
+pub Walking-in_table : (held : Held) (t : TrailData) (m : ℕ) (c : List Literal) (ms : MarksData Bool) (n i : ℕ) → IsTrail t
+    → Walking held t.steps t.vars m c ms n i → i - 1 < length ms.values
+Walking-in_table held t m c ms n i shape w =
+    let p = Walking-positive held t.steps t.vars m c ms n i w in
     let s = shape.short in
     let z = w.marking.size in
     let h = w.in_range in

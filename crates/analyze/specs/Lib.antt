@@ -2,6 +2,8 @@ pub mod Levels
 pub mod Walk
 pub mod Removable
 pub mod Verdicts
+pub mod MarksData
+pub mod MarksInside
 pub mod Marks
 pub mod Lemma
 pub mod AnalysisData

@@ -7,15 +7,12 @@ use Rattle.sat_words.specs.Clause.{has}
 use Rattle.ring_trail.specs.declared.step.Step.{Step}
 use Rattle.ring_trail.specs.TrailData.{FalseBefore, lit_at, level_at, var_at}
 use Rattle.ring_trail.specs.Reasoned.{Held}
+use Rattle.analyze.specs.MarksData.{MarksData}
 use Rattle.analyze.specs.Walk.{MakesFalse, IsFirstPoint, IsReached}
 
 -- the test whether a place is marked
 abbrev pub marked : List Bool → ℕ → Bool
 marked marks p = slice_index_or marks p false
-
--- no place is marked
-abbrev pub IsClear : List Bool → Type 0
-IsClear marks = (p : ℕ) → marked marks p ≡ false
 
 -- the test whether a place is marked and of this level
 abbrev pub is_open : List Step → ℕ → List Bool → ℕ → Bool
@@ -27,13 +24,14 @@ open_below steps m marks zero = 0
 open_below steps m marks (suc n) = open_below steps m marks n + cond (is_open steps m marks n) 1 0
 
 -- the marks stand on places above level 0 and of levels up to m, which are listed once each
-pub record IsMarking (steps : List Step) (vars m : ℕ) (marks : List Bool) (touched : List ℕ) : Type 0 where
-  pub size : length marks ≡ vars
-  pub in_range : (p : ℕ) → marked marks p ≡ true → p < length steps
-  pub above : (p : ℕ) → marked marks p ≡ true → 0 < level_at steps p
-  pub within : (p : ℕ) → marked marks p ≡ true → level_at steps p ≤ m
-  pub listed : (p : ℕ) → is_member nat_eq touched p ≡ marked marks p
-  pub distinct : IsDistinct nat_eq touched
+pub record IsMarking (steps : List Step) (vars m : ℕ) (marks : MarksData Bool) : Type 0 where
+  pub blank : marks.blank ≡ false
+  pub size : length marks.values ≡ vars
+  pub in_range : (p : ℕ) → marked marks.values p ≡ true → p < length steps
+  pub above : (p : ℕ) → marked marks.values p ≡ true → 0 < level_at steps p
+  pub within : (p : ℕ) → marked marks.values p ≡ true → level_at steps p ≤ m
+  pub listed : (p : ℕ) → is_member nat_eq marks.touched p ≡ marked marks.values p
+  pub distinct : IsDistinct nat_eq marks.touched
 
 -- the literal is false before this place, and its level is at most m; or it is the one at this place
 pub record CanMark (steps : List Step) (m bound : ℕ) (k : Literal) : Type 0 where
@@ -44,7 +42,7 @@ abbrev pub CanMarkAll : List Step → ℕ → ℕ → List Literal → Type 0
 CanMarkAll steps m bound c = (k : Literal) → has c k ≡ true → CanMark steps m bound k
 
 -- the places below the bound that make the clause false are marked too, n of them of this level that weren't marked
-pub record Marks (steps : List Step) (m : ℕ) (old new : List Bool) (bound : ℕ) (c : List Literal) (n : ℕ) : Type 0 where
+pub record HasMarked (steps : List Step) (m : ℕ) (old new : List Bool) (bound : ℕ) (c : List Literal) (n : ℕ) : Type 0 where
   pub kept : (p : ℕ) → marked old p ≡ true → marked new p ≡ true
   pub only : (p : ℕ) → marked new p ≡ true → (marked old p ≡ true) ⊎ ((p < bound) × MakesFalse steps c p)
   pub all : (p : ℕ) → p < bound → MakesFalse steps c p → marked new p ≡ true

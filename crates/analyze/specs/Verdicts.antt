@@ -7,6 +7,7 @@ use Rattle.ring_trail.specs.declared.step.Step.{Step}
 use Rattle.ring_trail.specs.TrailData.{FalseBefore, lit_at, level_at, reason_at}
 use Rattle.ring_trail.specs.Reasoned.{Held}
 use Rattle.analyze.specs.Walk.{MakesFalse}
+use Rattle.analyze.specs.MarksData.{MarksData}
 use Rattle.analyze.specs.Marks.{marked}
 use Rattle.analyze.specs.Removable.{IsReasonOf, RestsOn}
 use Rattle.analyze.specs.declared.minimise.Verdict.{Verdict}
@@ -35,10 +36,6 @@ is_removable Needed = false
 -- the test whether a place has a verdict
 abbrev pub is_known : List Verdict → ℕ → Bool
 is_known vs p = is_found (verdict_at vs p)
-
--- no place has a verdict
-abbrev pub IsBlank : List Verdict → Type 0
-IsBlank vs = (p : ℕ) → verdict_at vs p ≡ Unknown
 
 -- the place is marked or removable
 abbrev pub IsSettled : List Bool → List Verdict → ℕ → Type 0
@@ -97,13 +94,14 @@ IsScan held steps ms vs p (Found v) = Follows held steps ms vs p v
 IsScan held steps ms vs p (Waits q n) = IsOpenPlace steps ms vs p q × IsScanned held steps ms vs p n
 
 -- the places with a verdict are listed once each, and each verdict follows from those of earlier places
-pub record IsJudged (held : Held) (steps : List Step) (vars : ℕ) (ms : List Bool) (vs : List Verdict) (judged : List ℕ) : Type 0 where
-  pub size : length vs ≡ vars
-  pub in_range : (p : ℕ) → is_known vs p ≡ true → p < length steps
-  pub listed : (p : ℕ) → is_member nat_eq judged p ≡ is_known vs p
-  pub distinct : IsDistinct nat_eq judged
-  pub cleared : (p : ℕ) → verdict_at vs p ≡ Removable → IsCleared held steps ms vs p
-  pub blocked : (p : ℕ) → verdict_at vs p ≡ Needed → IsBlocked held steps ms vs p
+pub record IsJudged (held : Held) (steps : List Step) (vars : ℕ) (ms : List Bool) (vs : MarksData Verdict) : Type 0 where
+  pub blank : vs.blank ≡ Unknown
+  pub size : length vs.values ≡ vars
+  pub in_range : (p : ℕ) → is_known vs.values p ≡ true → p < length steps
+  pub listed : (p : ℕ) → is_member nat_eq vs.touched p ≡ is_known vs.values p
+  pub distinct : IsDistinct nat_eq vs.touched
+  pub cleared : (p : ℕ) → verdict_at vs.values p ≡ Removable → IsCleared held steps ms vs.values p
+  pub blocked : (p : ℕ) → verdict_at vs.values p ≡ Needed → IsBlocked held steps ms vs.values p
 
 -- the test whether a place is of a lower level and not removable
 abbrev pub is_kept : List Step → ℕ → List Verdict → ℕ → Bool

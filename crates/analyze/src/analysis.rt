@@ -6,8 +6,8 @@ ghost use Rattle.ring_port.specs.PortState.{clause_at};
 ghost use Rattle.analyze.specs.Lemma.{IsConclusion};
 
 use crate::lemma::{count_levels, greatest_level, write_lemma};
-use crate::mark::unmark;
-use crate::minimise::{Verdict, Verdicts, clear_verdicts, judge_all, put_aside};
+use crate::marks::Marks;
+use crate::minimise::{Verdict, Verdicts, judge_all, put_aside};
 use crate::walk::{find_point, level_of_clause};
 use ring_port::Port;
 use ring_trail::Trail;
@@ -35,10 +35,9 @@ pub enum Conclusion {
 #[derive(Drop)]
 pub struct Analysis {
     vars: u32,
-    marks: Vec<bool>,
-    touched: Vec<u32>,
+    marks: Marks<bool>,
     aside: Vec<u32>,
-    levels: Vec<bool>,
+    levels: Marks<bool>,
     verdicts: Verdicts,
     lits: Vec<Lit>,
 }
@@ -64,13 +63,11 @@ impl Analysis {
         let room = vars as usize;
         Ok(Analysis {
             vars,
-            marks: vec![in alloc; false; room]?,
-            touched: Vec::with_capacity(alloc, room)?,
+            marks: Marks::new(alloc, room, false)?,
             aside: Vec::with_capacity(alloc, room)?,
-            levels: vec![in alloc; false; room + 1]?,
+            levels: Marks::new(alloc, room + 1, false)?,
             verdicts: Verdicts {
-                table: vec![in alloc; Verdict::Unknown; room]?,
-                judged: Vec::with_capacity(alloc, room)?,
+                table: Marks::new(alloc, room, Verdict::Unknown)?,
                 waiting: Vec::with_capacity(alloc, room)?,
             },
             lits: Vec::with_capacity(alloc, room + 1)?,
@@ -103,32 +100,17 @@ impl Analysis {
             self.lits.clear();
             return Conclusion::Empty;
         }
-        self.touched.clear();
-        let point = find_point(
-            port,
-            trail,
-            conflict,
-            level,
-            &mut self.marks,
-            &mut self.touched,
-        );
-        judge_all(
-            port,
-            trail,
-            level,
-            self.marks.as_slice(),
-            self.touched.as_slice(),
-            &mut self.verdicts,
-        );
+        let point = find_point(port, trail, conflict, level, &mut self.marks);
+        judge_all(port, trail, level, &self.marks, &mut self.verdicts);
         put_aside(
             trail,
             level,
-            self.touched.as_slice(),
-            self.verdicts.table.as_slice(),
+            self.marks.touched(),
+            self.verdicts.table.values(),
             &mut self.aside,
         );
-        unmark(&mut self.marks, self.touched.as_slice());
-        clear_verdicts(&mut self.verdicts.table, self.verdicts.judged.as_slice());
+        self.marks.reset();
+        self.verdicts.table.reset();
         let aside = self.aside.as_slice();
         write_lemma(trail, point, aside, &mut self.lits);
         let back = greatest_level(trail, aside);

@@ -1,11 +1,12 @@
-ghost use Rattle.std.specs.Prelude.{◌≡◌, ◌≤◌, ◌<◌, ◌+◌, ◌^◌, ◌∷◌, ℕ, true, All, length, map, nat_eq};
-ghost use Rattle.std.specs.Set.{distinct_count, is_member};
+ghost use Rattle.std.specs.Prelude.{◌≡◌, ◌<◌, ◌+◌, ◌∷◌, false, All, length, map, nat_eq};
+ghost use Rattle.std.specs.Set.{distinct_count};
 ghost use Rattle.std.specs.Vec.{vec_capacity};
 ghost use Rattle.ring_trail.specs.TrailData.{IsTrail, level_at};
 ghost use Rattle.analyze.specs.Levels.{greatest};
 ghost use Rattle.analyze.specs.Lemma.{negated_at};
-ghost use Rattle.analyze.specs.Marks.{marked, IsClear};
+ghost use Rattle.analyze.specs.MarksData.{all_blank};
 
+use crate::marks::Marks;
 use ring_trail::Trail;
 use sat_words::Lit;
 
@@ -36,39 +37,21 @@ pub(crate) fn greatest_level(trail: &Trail, aside: &[u32]) -> u32
     most
 }
 
-/// How many levels the places have. `found` has a place for each level, and is clear before and after.
-pub(crate) fn count_levels(trail: &Trail, aside: &[u32], found: &mut Vec<bool>) -> u32
+/// How many levels the places have. `found` has a place for each level, and is blank before and after.
+pub(crate) fn count_levels(trail: &Trail, aside: &[u32], found: &mut Marks<bool>) -> u32
     requires shape { IsTrail trail.now }
     requires in_range { All (λ p. p < length trail.now.steps) aside.now }
-    requires few { length aside.now < 2 ^ 32 }
-    requires size { length found.old.items ≡ trail.now.vars + 1 }
-    requires clear { IsClear found.old.items }
+    requires blank { found.old ≡ all_blank (trail.now.vars + 1) false }
     ensures count { result ≡ distinct_count nat_eq (map (level_at trail.now.steps) aside.now) }
-    ensures clear { IsClear found.new.items }
-    ensures size { length found.new.items ≡ length found.old.items }
+    ensures blank { found.new ≡ found.old }
 {
-    let mut count: u32 = 0;
     for place in aside {
-        let at = trail.level_at(*place) as usize;
-        if !found[at] {
-            found[at] = true;
-            count += 1;
+        let at = trail.level_at(*place);
+        if !found.at(at) {
+            found.mark(at, true);
         }
     }
-    clear_levels(trail, aside, found);
+    let count = found.touched().len() as u32;
+    found.reset();
     count
-}
-
-/// Takes the marks of the places' levels away again.
-fn clear_levels(trail: &Trail, aside: &[u32], found: &mut Vec<bool>)
-    requires shape { IsTrail trail.now }
-    requires in_range { All (λ p. p < length trail.now.steps) aside.now }
-    requires size { length found.old.items ≡ trail.now.vars + 1 }
-    requires listed { (n : ℕ) → marked found.old.items n ≡ true → is_member nat_eq (map (level_at trail.now.steps) aside.now) n ≡ true }
-    ensures clear { IsClear found.new.items }
-    ensures size { length found.new.items ≡ length found.old.items }
-{
-    for place in aside {
-        found[trail.level_at(*place) as usize] = false;
-    }
 }

@@ -8,7 +8,7 @@
 mod analysis;
 mod laws;
 mod lemma;
-mod mark;
+mod marks;
 mod minimise;
 mod walk;
 

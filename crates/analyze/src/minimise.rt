@@ -1,12 +1,13 @@
-ghost use Rattle.std.specs.Prelude.{◌≡◌, ◌≤◌, ◌<◌, ◌⊎◌, ℕ, true, Some, All, length, nat_eq};
-ghost use Rattle.std.specs.Set.{is_member};
+ghost use Rattle.std.specs.Prelude.{◌≡◌, ◌≤◌, ◌<◌, ◌⊎◌, ℕ, true, Some, All, length};
 ghost use Rattle.std.specs.Vec.{vec_capacity};
 ghost use Rattle.ring_port.specs.PortState.{clause_at};
 ghost use Rattle.ring_trail.specs.TrailData.{IsTrail, level_at, reason_at};
 ghost use Rattle.ring_trail.specs.Reasoned.{IsReasoned};
+ghost use Rattle.analyze.specs.MarksData.{all_blank};
 ghost use Rattle.analyze.specs.Marks.{marked, IsMarking};
-ghost use Rattle.analyze.specs.Verdicts.{CanLook, IsLook, IsScanned, IsScan, IsJudged, IsBlank, is_kept, is_known, kept_of, verdict_at};
+ghost use Rattle.analyze.specs.Verdicts.{CanLook, IsLook, IsScanned, IsScan, IsJudged, is_kept, is_known, kept_of, verdict_at};
 
+use crate::marks::Marks;
 use ring_port::Port;
 use ring_trail::Trail;
 use sat_words::{Cref, Lit};
@@ -29,12 +30,10 @@ pub(crate) struct Frame {
     pub(crate) next: u32,
 }
 
-/// The buffers of minimisation: the verdicts by place, the places that have one, and the scans that wait for the verdict of an
-/// earlier place.
+/// The buffers of minimisation: the verdicts by place, and the scans that wait for the verdict of an earlier place.
 #[derive(Drop)]
 pub(crate) struct Verdicts {
-    pub(crate) table: Vec<Verdict>,
-    pub(crate) judged: Vec<u32>,
+    pub(crate) table: Marks<Verdict>,
     pub(crate) waiting: Vec<Frame>,
 }
 
@@ -67,6 +66,7 @@ fn look_at(trail: &Trail, lit: Lit, bound: u32, marks: &[bool], table: &[Verdict
     ensures { IsLook trail.now.steps marks.now table.now bound lit result }
 {
     let Some(place) = trail.place(lit.var()) else {
+        // `can`: the literal is the one at the bound, or is false before it
         unreachable!();
     };
     if place >= bound || marks[place as usize] || trail.level_at(place) == 0 {
@@ -143,16 +143,14 @@ fn judge<P: Port>(port: &mut P, trail: &Trail, root: u32, marks: &[bool], verdic
     requires marks { length marks.now ≡ trail.now.vars }
     requires in_range { root < length trail.now.steps }
     requires above { 1 ≤ level_at trail.now.steps root }
-    requires open { verdict_at verdicts.old.table.items root ≡ Verdict.Unknown }
-    requires judged { IsJudged (clause_at (P.state port.old)) trail.now.steps trail.now.vars marks.now verdicts.old.table.items verdicts.old.judged.items }
-    requires judged_room { trail.now.vars ≤ vec_capacity verdicts.old.judged }
+    requires open { verdict_at verdicts.old.table.values root ≡ Verdict.Unknown }
+    requires judged { IsJudged (clause_at (P.state port.old)) trail.now.steps trail.now.vars marks.now verdicts.old.table }
     requires waiting_room { trail.now.vars ≤ vec_capacity verdicts.old.waiting }
     ensures same { P.state port.new ≡ P.state port.old }
-    ensures judged { IsJudged (clause_at (P.state port.old)) trail.now.steps trail.now.vars marks.now verdicts.new.table.items verdicts.new.judged.items }
-    ensures found { is_known verdicts.new.table.items root ≡ true }
-    ensures kept { (p : ℕ) → is_known verdicts.old.table.items p ≡ true → is_known verdicts.new.table.items p ≡ true }
-    ensures others { (p : ℕ) → marked marks.now p ≡ true → is_known verdicts.new.table.items p ≡ true → (p ≡ root) ⊎ (is_known verdicts.old.table.items p ≡ true) }
-    ensures judged_room { vec_capacity verdicts.new.judged ≡ vec_capacity verdicts.old.judged }
+    ensures judged { IsJudged (clause_at (P.state port.old)) trail.now.steps trail.now.vars marks.now verdicts.new.table }
+    ensures found { is_known verdicts.new.table.values root ≡ true }
+    ensures kept { (p : ℕ) → is_known verdicts.old.table.values p ≡ true → is_known verdicts.new.table.values p ≡ true }
+    ensures others { (p : ℕ) → marked marks.now p ≡ true → is_known verdicts.new.table.values p ≡ true → (p ≡ root) ⊎ (is_known verdicts.old.table.values p ≡ true) }
     ensures waiting_room { vec_capacity verdicts.new.waiting ≡ vec_capacity verdicts.old.waiting }
 {
     verdicts.waiting.clear();
@@ -161,7 +159,7 @@ fn judge<P: Port>(port: &mut P, trail: &Trail, root: u32, marks: &[bool], verdic
         next: 0,
     };
     'frames: loop {
-        match scan_place(port, trail, frame, marks, verdicts.table.as_slice()) {
+        match scan_place(port, trail, frame, marks, verdicts.table.values()) {
             Scan::Waits { place, next } => {
                 verdicts.waiting.push_reserved(Frame {
                     place: frame.place,
@@ -170,8 +168,7 @@ fn judge<P: Port>(port: &mut P, trail: &Trail, root: u32, marks: &[bool], verdic
                 frame = Frame { place, next: 0 };
             }
             Scan::Found(verdict) => {
-                verdicts.table[frame.place as usize] = verdict;
-                verdicts.judged.push_reserved(frame.place);
+                verdicts.table.mark(frame.place, verdict);
                 let Some(parent) = verdicts.waiting.pop() else {
                     return;
                 };
@@ -181,32 +178,27 @@ fn judge<P: Port>(port: &mut P, trail: &Trail, root: u32, marks: &[bool], verdic
     }
 }
 
-/// Finds the verdicts of the listed places of lower levels.
+/// Finds the verdicts of the marked places of lower levels.
 pub(crate) fn judge_all<P: Port>(
     port: &mut P,
     trail: &Trail,
     level: u32,
-    marks: &[bool],
-    touched: &[u32],
+    marks: &Marks<bool>,
     verdicts: &mut Verdicts,
 )
     requires shape { IsTrail trail.now }
     requires reasoned { IsReasoned (clause_at (P.state port.old)) (P.state port.old).seen trail.now.steps }
-    requires marking { IsMarking trail.now.steps trail.now.vars level marks.now touched.now }
-    requires size { length verdicts.old.table.items ≡ trail.now.vars }
-    requires blank { IsBlank verdicts.old.table.items }
-    requires judged_room { trail.now.vars ≤ vec_capacity verdicts.old.judged }
+    requires marking { IsMarking trail.now.steps trail.now.vars level marks.now }
+    requires blank { verdicts.old.table ≡ all_blank trail.now.vars Verdict.Unknown }
     requires waiting_room { trail.now.vars ≤ vec_capacity verdicts.old.waiting }
     ensures same { P.state port.new ≡ P.state port.old }
-    ensures judged { IsJudged (clause_at (P.state port.old)) trail.now.steps trail.now.vars marks.now verdicts.new.table.items verdicts.new.judged.items }
-    ensures found { (p : ℕ) → marked marks.now p ≡ true → level_at trail.now.steps p < level → is_known verdicts.new.table.items p ≡ true }
-    ensures judged_room { vec_capacity verdicts.new.judged ≡ vec_capacity verdicts.old.judged }
+    ensures judged { IsJudged (clause_at (P.state port.old)) trail.now.steps trail.now.vars marks.now.values verdicts.new.table }
+    ensures found { (p : ℕ) → marked marks.now.values p ≡ true → level_at trail.now.steps p < level → is_known verdicts.new.table.values p ≡ true }
     ensures waiting_room { vec_capacity verdicts.new.waiting ≡ vec_capacity verdicts.old.waiting }
 {
-    verdicts.judged.clear();
-    for place in touched {
+    for place in marks.touched() {
         if trail.level_at(*place) < level {
-            judge(port, trail, *place, marks, verdicts);
+            judge(port, trail, *place, marks.values(), verdicts);
         }
     }
 }
@@ -239,17 +231,5 @@ pub(crate) fn put_aside(
         if is_kept(trail, level, table, *place) {
             aside.push_reserved(*place);
         }
-    }
-}
-
-/// Takes the verdicts away again.
-pub(crate) fn clear_verdicts(table: &mut Vec<Verdict>, judged: &[u32])
-    requires in_range { All (λ p. p < length table.old.items) judged.now }
-    requires listed { (p : ℕ) → is_known table.old.items p ≡ true → is_member nat_eq judged.now p ≡ true }
-    ensures blank { IsBlank table.new.items }
-    ensures size { length table.new.items ≡ length table.old.items }
-{
-    for place in judged {
-        table[*place as usize] = Verdict::Unknown;
     }
 }

@@ -1,34 +1,48 @@
-use Rattle.std.proofs.Common.{◌≡◌, ◌∙◌, ◌<◌, arith, sym, ap, cond, Bool, true, false, ℕ, length, get_or}
-use Rattle.std.proofs.lemmas.List.{get_or_default}
-use Rattle.std.proofs.Math.ListN.{length-set}
+use Rattle.std.proofs.Common.{◌≡◌, ◌+◌, ◌<◌, ◌∙◌, ℕ, Bool, List, length, get_or, sym, ap, arith}
 use Rattle.ring_trail.specs.TrailData.{level_at}
 use Rattle.analyze.specs.Marks.{marked}
-use Rattle.analyze.proofs.LevelLemmas.{found_more, found_again, count_more}
+use Rattle.analyze.proofs.LevelLemmas.{AreLevels-none, AreLevels-again, AreLevels-set, levels_room, levels_few}
 use Rattle.analyze.proofs.lemma.count_levels.Goals as goal
-use Rattle.analyze.proofs.lemma.count_levels.Goals.{then-not-index, else-not-index}
+use Rattle.analyze.proofs.lemma.count_levels.Goals.{After-at, then-not-at, else-not-at}
+
+at_lt : (c : After-at) → c.level_at-at.result < c.args.trail.now.vars + 1
+at_lt c =
+    let in_range = c.requires.in_range c.loop-place.place-index 0 c.loop-place-test.true in
+    let shallow = c.requires.shape.shallow (get_or c.args.aside.now c.loop-place.place-index 0) in_range in
+    let few = c.requires.shape.short in
+    omega (arith, shallow, c.level_at-at.ensures)
+
+-- what was read is the mark
+here : (c : After-at) → c.at.result ≡ marked c.loop-place.found.values c.level_at-at.result
+here c = c.at.ensures ∙ ap (λ (b : Bool). get_or c.loop-place.found.values c.level_at-at.result b) c.loop-place.invariant.blank
+
+pub loop-place-init : goal.loop-place-init
+loop-place-init c = rw c.requires.blank (AreLevels-none (level_at c.args.trail.now.steps) c.args.aside.now (c.args.trail.now.vars + 1))
+
+pub mark-requires-clause-room : goal.mark-requires-clause-room
+mark-requires-clause-room c =
+    let a = (goal.at.mark-requires-clause-room c).After-at in
+    let i = c.loop-place.invariant in
+    let room = levels_room (level_at c.args.trail.now.steps) c.args.aside.now c.loop-place.place-index (c.args.trail.now.vars + 1) c.loop-place.found i
+    c.level_at-at.result c.loop-place-test.true c.level_at-at.ensures (at_lt a) (sym (here a) ∙ c.if-not-at.true) in
+    omega (arith, room, i.size)
 
 pub loop-place-preserved : goal.loop-place-preserved
 loop-place-preserved c =
+    let a = (goal.at.loop-place-preserved c).After-at in
     let i = c.loop-place.invariant in
     let levels : ℕ → ℕ = level_at c.args.trail.now.steps in
-    let lt : c.loop-place.place-index < length c.args.aside.now = omega arith in
-    let in_range = c.requires.in_range c.loop-place.place-index 0 lt in
-    let shallow = c.requires.shape.shallow (get_or c.args.aside.now c.loop-place.place-index 0) in_range in
-    let few = c.requires.shape.short in
-    let at_lt : c.level_at-at.result < length c.loop-place.found.items = omega (arith, shallow, c.level_at-at.ensures, i.size, c.requires.size) in
-    let more = count_more levels c.args.aside.now c.loop-place.place-index c.level_at-at.result lt c.level_at-at.ensures in
-    let here : c.index.result.now ≡ marked c.loop-place.found.items c.level_at-at.result = c.index.ensures ∙ get_or_default c.loop-place.found.items c.level_at-at.result c.index.result.now false at_lt in
-    elim c.if-not-index.branch [
-      | then-not-index w ↦ record {
-        count = (let z = ap {B = ℕ} (λ (b : Bool). cond b 0 1) (sym (i.found c.level_at-at.result) ∙ sym here ∙ w.if-not-index.true) in omega (arith, more, z));
-        few = omega arith;
-        found = λ n. rw w.found-is (found_more levels c.args.aside.now c.loop-place.place-index c.loop-place.found.items n c.level_at-at.result lt c.level_at-at.ensures at_lt i.found);
-        size = rw w.found-is (length-set c.loop-place.found.items c.level_at-at.result true ∙ i.size);
-      }
-      | else-not-index w ↦ record {
-        count = (let z = ap {B = ℕ} (λ (b : Bool). cond b 0 1) (sym (i.found c.level_at-at.result) ∙ sym here ∙ w.if-not-index.false) in omega (arith, more, z));
-        few = omega arith;
-        found = λ n. rw w.found-is (found_again levels c.args.aside.now c.loop-place.place-index c.loop-place.found.items n c.level_at-at.result lt c.level_at-at.ensures i.found (sym here ∙ w.if-not-index.false));
-        size = rw w.found-is i.size;
-      }
+    let ps = c.args.aside.now in
+    let n : ℕ = c.args.trail.now.vars + 1 in
+    elim c.if-not-at.branch [
+      | then-not-at w ↦ rw (w.found-is, w.mark.ensures)
+          (AreLevels-set levels ps c.loop-place.place-index n c.loop-place.found i c.level_at-at.result c.loop-place-test.true c.level_at-at.ensures (at_lt a) (sym (here a) ∙ w.if-not-at.true))
+      | else-not-at w ↦ rw w.found-is
+          (AreLevels-again levels ps c.loop-place.place-index n c.loop-place.found i c.level_at-at.result c.loop-place-test.true c.level_at-at.ensures (sym (here a) ∙ w.if-not-at.false))
     ]
+
+pub overflow_cast-count : goal.overflow_cast-count
+overflow_cast-count c =
+    let few = levels_few (level_at c.args.trail.now.steps) c.args.aside.now c.loop-place.place-index (c.args.trail.now.vars + 1) c.loop-place.found c.loop-place.invariant in
+    let small = c.requires.shape.small in
+    omega (arith, few, small, ap (λ (xs : List ℕ). length xs) c.touched.ensures)

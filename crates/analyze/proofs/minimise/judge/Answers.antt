@@ -15,7 +15,7 @@ push_reserved-requires g c =
 pub frames-preserved-in-Waits : goal.frames-preserved-in-Waits
 frames-preserved-in-Waits g c =
     let i = c.frames.invariant in
-    let scan = rw (i.same, c.as_slice.ensures.value) at c.in-Waits.ensures.scan in
+    let scan = rw (i.same, c.values.ensures) at c.in-Waits.ensures.scan in
     record {
       same = c.in-Waits.ensures.same ∙ i.same;
       judged = i.judged;
@@ -25,52 +25,50 @@ frames-preserved-in-Waits g c =
       rooted = rw c.push_reserved.ensures.items (IsRooted-push _ _ (record { place = c.frames.frame.place; next = c.in-Waits.next }) _ i.rooted);
       kept = i.kept;
       others = i.others;
-      judged_room = i.judged_room;
       waiting_room = c.push_reserved.ensures.capacity ∙ i.waiting_room;
     }
 
-pub push_reserved-requires-in-Found : goal.push_reserved-requires-in-Found
-push_reserved-requires-in-Found g c =
+pub mark-requires-clause-room : goal.mark-requires-clause-room
+mark-requires-clause-room g c =
     let i = c.frames.invariant in
-    let few = room_judged _ c.args.trail.now _ _ _ c.requires.shape i.judged c.frames.frame.place (AreFalling-above _ _ _ _ i.frames) i.here.unknown c.in-Found.verdict in
-    omega (arith, few, i.judged_room, c.requires.judged_room)
+    let few = room_judged _ c.args.trail.now _ _ c.requires.shape i.judged c.frames.frame.place (AreFalling-above _ _ _ _ i.frames) i.here.unknown c.in-Found.verdict in
+    omega (arith, few, i.judged.size)
 
 pub returns-in_default-clause-judged : goal.returns-in_default-clause-judged
 returns-in_default-clause-judged g c =
     let i = c.frames.invariant in
-    rw c.push_reserved-in-Found.ensures.items
-    (IsJudged-set _ c.args.trail.now _ _ _ c.requires.shape i.judged c.frames.frame.place (AreFalling-above _ _ _ _ i.frames) i.here.unknown c.in-Found.verdict (rw (i.same, c.as_slice.ensures.value) at c.in-Found.ensures.scan))
+    rw c.mark.ensures
+    (IsJudged-set _ c.args.trail.now _ _ c.requires.shape i.judged c.frames.frame.place (AreFalling-above _ _ _ _ i.frames) i.here.unknown c.in-Found.verdict (rw (i.same, c.values.ensures) at c.in-Found.ensures.scan))
 
 pub frames-smaller : goal.frames-smaller
 frames-smaller g c =
     let i = c.frames.invariant in
-    let few = room_judged _ c.args.trail.now _ _ _ c.requires.shape i.judged c.frames.frame.place (AreFalling-above _ _ _ _ i.frames) i.here.unknown c.in-Found.verdict in
+    let few = room_judged _ c.args.trail.now _ _ c.requires.shape i.judged c.frames.frame.place (AreFalling-above _ _ _ _ i.frames) i.here.unknown c.in-Found.verdict in
     let popped = AreFalling-pop _ _ _ _ _ (rw c.in-Some.ensures.items at i.frames) in
     let parent = AreFalling-above _ _ _ _ popped.2 in
-    rw (c.push_reserved-in-Found.ensures.items, length-append)
-    (left_to_do-found c.args.trail.now.vars (length c.frames.verdicts.judged.items) c.frames.frame.place c.in-Some.parent.place few (omega (arith, parent, c.requires.shape.short)))
+    rw (c.mark.ensures, length-append)
+    (left_to_do-found c.args.trail.now.vars (length c.frames.verdicts.table.touched) c.frames.frame.place c.in-Some.parent.place few (omega (arith, parent, c.requires.shape.short)))
 
 pub frames-preserved : goal.frames-preserved
 frames-preserved g c =
     let i = c.frames.invariant in
     let here = AreFalling-above _ _ _ _ i.frames in
-    let follows = rw (i.same, c.as_slice.ensures.value) at c.in-Found.ensures.scan in
+    let follows = rw (i.same, c.values.ensures) at c.in-Found.ensures.scan in
     let popped = AreFalling-pop _ _ _ _ _ (rw c.in-Some.ensures.items at i.frames) in
     record {
       same = c.in-Found.ensures.same ∙ i.same;
-      judged = rw c.push_reserved-in-Found.ensures.items (IsJudged-set _ c.args.trail.now _ _ _ c.requires.shape i.judged c.frames.frame.place here i.here.unknown c.in-Found.verdict follows);
-      here = IsFrame-set _ c.args.trail.now _ _ _ c.requires.shape i.judged c.frames.frame.place here i.here.unknown c.in-Found.verdict c.args.root c.in-Some.parent popped.1 popped.0;
-      frames = AreFalling-map _ _ _ _ _
-          (λ f b x. IsFrame-set _ c.args.trail.now _ _ _ c.requires.shape i.judged c.frames.frame.place here i.here.unknown c.in-Found.verdict c.args.root f (let over = popped.1 in omega arith) x) popped.2;
+      judged = rw c.mark.ensures (IsJudged-set _ c.args.trail.now _ _ c.requires.shape i.judged c.frames.frame.place here i.here.unknown c.in-Found.verdict follows);
+      here = rw c.mark.ensures (IsFrame-set _ c.args.trail.now _ _ c.requires.shape i.judged c.frames.frame.place here i.here.unknown c.in-Found.verdict c.args.root c.in-Some.parent popped.1 popped.0);
+      frames = rw c.mark.ensures (AreFalling-map _ _ _ _ _
+          (λ f b x. IsFrame-set _ c.args.trail.now _ _ c.requires.shape i.judged c.frames.frame.place here i.here.unknown c.in-Found.verdict c.args.root f (let over = popped.1 in omega arith) x) popped.2);
       rooted = IsRooted-pop _ _ c.in-Some.parent c.frames.frame.place (rw c.in-Some.ensures.items at i.rooted);
-      kept = λ p y. known_now _ c.args.trail.now _ _ _ c.requires.shape i.judged c.frames.frame.place here i.here.unknown c.in-Found.verdict follows p (i.kept p y);
-      others = λ p m y. elim (cases_eq p c.frames.frame.place) as (λ _. (p ≡ c.args.root) ⊎ (is_known c.args.verdicts.now.table.items p ≡ true)) [
-        | inl e ↦ elim i.here.own as (λ _. (p ≡ c.args.root) ⊎ (is_known c.args.verdicts.now.table.items p ≡ true)) [
+      kept = λ p y. rw c.mark.ensures (known_now _ c.args.trail.now _ _ c.requires.shape i.judged c.frames.frame.place here i.here.unknown c.in-Found.verdict follows p (i.kept p y));
+      others = λ p m y. elim (cases_eq p c.frames.frame.place) as (λ _. (p ≡ c.args.root) ⊎ (is_known c.args.verdicts.now.table.values p ≡ true)) [
+        | inl e ↦ elim i.here.own as (λ _. (p ≡ c.args.root) ⊎ (is_known c.args.verdicts.now.table.values p ≡ true)) [
           | inl root ↦ inl (e ∙ root)
           | inr off ↦ absurd (false≢true (sym off ∙ ap (marked c.args.marks.now) (sym e) ∙ m))
         ]
-        | inr ne ↦ i.others p m (known_before _ c.args.trail.now _ _ _ c.requires.shape i.judged c.frames.frame.place here i.here.unknown c.in-Found.verdict p ne y)
+        | inr ne ↦ i.others p m (known_before _ c.args.trail.now _ _ c.requires.shape i.judged c.frames.frame.place here i.here.unknown c.in-Found.verdict p ne (rw c.mark.ensures at y))
       ];
-      judged_room = c.push_reserved-in-Found.ensures.capacity ∙ i.judged_room;
       waiting_room = c.pop.ensures.capacity ∙ i.waiting_room;
     }

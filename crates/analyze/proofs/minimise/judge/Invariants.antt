@@ -9,15 +9,14 @@ use Rattle.analyze.proofs.minimise.judge.Given as goal
 abbrev pub invariant-frames : goal.invariant-frames
 invariant-frames g l = record {
   same : g.P.Port.state l.port ≡ g.P.Port.state l.fn.port;
-  judged : IsJudged (clause_at (g.P.Port.state l.fn.port)) l.trail.steps l.trail.vars l.marks l.verdicts.table.items l.verdicts.judged.items;
-  here : IsFrame (clause_at (g.P.Port.state l.fn.port)) l.trail.steps l.marks l.verdicts.table.items l.root l.frame;
-  frames : AreFalling (IsFrame (clause_at (g.P.Port.state l.fn.port)) l.trail.steps l.marks l.verdicts.table.items l.root) (length l.trail.steps) l.verdicts.waiting.items l.frame.place;
+  judged : IsJudged (clause_at (g.P.Port.state l.fn.port)) l.trail.steps l.trail.vars l.marks l.verdicts.table;
+  here : IsFrame (clause_at (g.P.Port.state l.fn.port)) l.trail.steps l.marks l.verdicts.table.values l.root l.frame;
+  frames : AreFalling (IsFrame (clause_at (g.P.Port.state l.fn.port)) l.trail.steps l.marks l.verdicts.table.values l.root) (length l.trail.steps) l.verdicts.waiting.items l.frame.place;
   rooted : IsRooted l.root l.verdicts.waiting.items l.frame.place;
-  kept : (p : ℕ) → is_known l.fn.verdicts.table.items p ≡ true → is_known l.verdicts.table.items p ≡ true;
-  others : (p : ℕ) → marked l.marks p ≡ true → is_known l.verdicts.table.items p ≡ true → (p ≡ l.root) ⊎ (is_known l.fn.verdicts.table.items p ≡ true);
-  judged_room : vec_capacity l.verdicts.judged ≡ vec_capacity l.fn.verdicts.judged;
+  kept : (p : ℕ) → is_known l.fn.verdicts.table.values p ≡ true → is_known l.verdicts.table.values p ≡ true;
+  others : (p : ℕ) → marked l.marks p ≡ true → is_known l.verdicts.table.values p ≡ true → (p ≡ l.root) ⊎ (is_known l.fn.verdicts.table.values p ≡ true);
   waiting_room : vec_capacity l.verdicts.waiting ≡ vec_capacity l.fn.verdicts.waiting;
 }
 
 abbrev pub decreases-frames : goal.decreases-frames
-decreases-frames g l = left_to_do l.trail.vars (length l.verdicts.judged.items) l.frame.place
+decreases-frames g l = left_to_do l.trail.vars (length l.verdicts.table.touched) l.frame.place

@@ -9,9 +9,8 @@ use Rattle.analyze.proofs.minimise.judge_all.Given as goal
 abbrev pub invariant-loop-place : goal.invariant-loop-place
 invariant-loop-place g l = record {
   same : g.P.Port.state l.port ≡ g.P.Port.state l.fn.port;
-  judged : IsJudged (clause_at (g.P.Port.state l.fn.port)) l.trail.steps l.trail.vars l.marks l.verdicts.table.items l.verdicts.judged.items;
-  found : (p : ℕ) → is_member nat_eq (take l.place-index l.touched) p ≡ true → level_at l.trail.steps p < l.level → is_known l.verdicts.table.items p ≡ true;
-  ahead : (p : ℕ) → is_member nat_eq (drop l.place-index l.touched) p ≡ true → is_known l.verdicts.table.items p ≡ true → ⊥;
-  judged_room : vec_capacity l.verdicts.judged ≡ vec_capacity l.fn.verdicts.judged;
+  judged : IsJudged (clause_at (g.P.Port.state l.fn.port)) l.trail.steps l.trail.vars l.marks.values l.verdicts.table;
+  found : (p : ℕ) → is_member nat_eq (take l.place-index l.marks.touched) p ≡ true → level_at l.trail.steps p < l.level → is_known l.verdicts.table.values p ≡ true;
+  ahead : (p : ℕ) → is_member nat_eq (drop l.place-index l.marks.touched) p ≡ true → is_known l.verdicts.table.values p ≡ true → ⊥;
   waiting_room : vec_capacity l.verdicts.waiting ≡ vec_capacity l.fn.verdicts.waiting;
 }

@@ -2,7 +2,7 @@ use Rattle.std.proofs.Common.{◌∙◌, ◌≤◌, sym, ap, arith}
 use Rattle.ring_port.proofs.Holdings.{held_is_known}
 use Rattle.analyze.specs.AnalysisData.{AnalysisData}
 use Rattle.analyze.proofs.Refuting.{rup-none}
-use Rattle.analyze.proofs.Parts.{IsLemma-from, touched_in_range, touched_in_table, touched_short, kept_in_range, kept_few, judged_in_table}
+use Rattle.analyze.proofs.Parts.{IsLemma-from, touched_in_range, touched_short, kept_in_range, kept_few}
 use Rattle.analyze.proofs.analysis.Analysis.analyze.Goals as goal
 
 pub returns-then-level-eq0-clause-found : goal.returns-then-level-eq0-clause-found
@@ -12,62 +12,47 @@ returns-then-level-eq0-clause-found g c =
 
 pub put_aside-requires-clause-in_range : goal.put_aside-requires-clause-in_range
 put_aside-requires-clause-in_range g c =
-    rw c.as_slice-3.ensures.value (touched_in_range c.args.trail.now _ _ _ c.level_of_clause-level.ensures.shape c.find_point-point.ensures.marking)
+    rw c.touched.ensures (touched_in_range c.args.trail.now _ _ c.level_of_clause-level.ensures.shape c.find_point-point.ensures.marking)
 
 pub put_aside-requires-clause-room : goal.put_aside-requires-clause-room
 put_aside-requires-clause-room g c =
-    let few = touched_short c.args.trail.now _ _ _ c.level_of_clause-level.ensures.shape c.find_point-point.ensures.marking in
+    let few = touched_short c.args.trail.now _ _ c.level_of_clause-level.ensures.shape c.find_point-point.ensures.marking in
     let s = c.level_of_clause-level.ensures.shape.short in
     let w = ap (λ (d : AnalysisData). d.vars) c.self.view_is in
-    rw c.as_slice-3.ensures.value (omega (arith, c.self.invariant.aside_room, c.requires.vars))
-
-pub unmark-requires-clause-in_range : goal.unmark-requires-clause-in_range
-unmark-requires-clause-in_range g c =
-    rw c.as_slice-5.ensures.value (touched_in_table c.args.trail.now _ _ _ c.level_of_clause-level.ensures.shape c.find_point-point.ensures.marking)
-
-pub clear_verdicts-requires-clause-in_range : goal.clear_verdicts-requires-clause-in_range
-clear_verdicts-requires-clause-in_range g c =
-    rw c.as_slice-6.ensures.value (judged_in_table _ c.args.trail.now _ _ _ c.level_of_clause-level.ensures.shape c.judge_all.ensures.judged)
+    rw c.touched.ensures (omega (arith, c.self.invariant.aside_room, c.requires.vars))
 
 pub write_lemma-requires-clause-in_range : goal.write_lemma-requires-clause-in_range
 write_lemma-requires-clause-in_range g c =
-    rw (c.as_slice-aside.ensures.value, c.put_aside.ensures.kept, c.as_slice-3.ensures.value)
-    (kept_in_range c.args.trail.now _ _ _ c.level_of_clause-level.ensures.shape c.find_point-point.ensures.marking _)
+    rw (c.as_slice-aside.ensures.value, c.put_aside.ensures.kept, c.touched.ensures)
+    (kept_in_range c.args.trail.now _ _ c.level_of_clause-level.ensures.shape c.find_point-point.ensures.marking _)
 
 pub write_lemma-requires-clause-room : goal.write_lemma-requires-clause-room
 write_lemma-requires-clause-room g c =
-    let few = kept_few c.args.trail.now _ _ _ c.level_of_clause-level.ensures.shape c.find_point-point.ensures.marking c.as_slice-4.result.now in
+    let few = kept_few c.args.trail.now _ _ c.level_of_clause-level.ensures.shape c.find_point-point.ensures.marking c.values.result.now in
     let s = c.level_of_clause-level.ensures.shape.short in
     let w = ap (λ (d : AnalysisData). d.vars) c.self.view_is in
-    rw (c.as_slice-aside.ensures.value, c.put_aside.ensures.kept, c.as_slice-3.ensures.value) (omega (arith, c.self.invariant.lits_room, c.requires.vars))
+    rw (c.as_slice-aside.ensures.value, c.put_aside.ensures.kept, c.touched.ensures) (omega (arith, c.self.invariant.lits_room, c.requires.vars))
 
 pub greatest_level-back-requires : goal.greatest_level-back-requires
 greatest_level-back-requires g c =
-    rw (c.as_slice-aside.ensures.value, c.put_aside.ensures.kept, c.as_slice-3.ensures.value)
-    (kept_in_range c.args.trail.now _ _ _ c.level_of_clause-level.ensures.shape c.find_point-point.ensures.marking _)
+    rw (c.as_slice-aside.ensures.value, c.put_aside.ensures.kept, c.touched.ensures)
+    (kept_in_range c.args.trail.now _ _ c.level_of_clause-level.ensures.shape c.find_point-point.ensures.marking _)
 
 pub count_levels-glue-requires-clause-in_range : goal.count_levels-glue-requires-clause-in_range
 count_levels-glue-requires-clause-in_range g c =
-    rw (c.as_slice-aside.ensures.value, c.put_aside.ensures.kept, c.as_slice-3.ensures.value)
-    (kept_in_range c.args.trail.now _ _ _ c.level_of_clause-level.ensures.shape c.find_point-point.ensures.marking _)
-
-pub count_levels-glue-requires-clause-few : goal.count_levels-glue-requires-clause-few
-count_levels-glue-requires-clause-few g c =
-    let few = kept_few c.args.trail.now _ _ _ c.level_of_clause-level.ensures.shape c.find_point-point.ensures.marking c.as_slice-4.result.now in
-    let s = c.level_of_clause-level.ensures.shape.short in
-    let b = c.level_of_clause-level.ensures.shape.small in
-    rw (c.as_slice-aside.ensures.value, c.put_aside.ensures.kept, c.as_slice-3.ensures.value) (omega arith)
+    rw (c.as_slice-aside.ensures.value, c.put_aside.ensures.kept, c.touched.ensures)
+    (kept_in_range c.args.trail.now _ _ c.level_of_clause-level.ensures.shape c.find_point-point.ensures.marking _)
 
 pub returns-clause-found : goal.returns-clause-found
 returns-clause-found g c =
     let level = c.level_of_clause-level.ensures.level in
     let pos : 1 ≤ c.level_of_clause-level.result = omega (arith, c.if-level-eq0.false) in
     let same = c.find_point-point.ensures.same ∙ c.level_of_clause-level.ensures.same in
-    let judged = rw (same, c.as_slice.ensures.value) at c.judge_all.ensures.judged in (
+    let judged = rw same at c.judge_all.ensures.judged in (
       omega arith,
-      rw (c.write_lemma.ensures.lits, c.as_slice-aside.ensures.value, c.put_aside.ensures.kept, c.as_slice-3.ensures.value, c.as_slice-4.ensures.value)
-          (IsLemma-from _ c.args.trail.now _ _ _ _ _ _ _ c.level_of_clause-level.ensures.shape c.requires.reasoned (held_is_known _ _ c.requires.held) c.requires.conflict level pos
-          c.find_point-point.ensures.marking (rw c.level_of_clause-level.ensures.same at c.find_point-point.ensures.walked) judged (rw c.as_slice.ensures.value at c.judge_all.ensures.found) _ _
-          (rw (c.as_slice-aside.ensures.value, c.put_aside.ensures.kept, c.as_slice-3.ensures.value, c.as_slice-4.ensures.value) at c.greatest_level-back.ensures)
-          (rw (c.as_slice-aside.ensures.value, c.put_aside.ensures.kept, c.as_slice-3.ensures.value, c.as_slice-4.ensures.value) at c.count_levels-glue.ensures.count)),
+      rw (c.write_lemma.ensures.lits, c.as_slice-aside.ensures.value, c.put_aside.ensures.kept, c.touched.ensures, c.values.ensures)
+          (IsLemma-from _ c.args.trail.now _ _ _ _ _ c.level_of_clause-level.ensures.shape c.requires.reasoned (held_is_known _ _ c.requires.held) c.requires.conflict level pos
+          c.find_point-point.ensures.marking (rw c.level_of_clause-level.ensures.same at c.find_point-point.ensures.walked) judged c.judge_all.ensures.found _ _
+          (rw (c.as_slice-aside.ensures.value, c.put_aside.ensures.kept, c.touched.ensures, c.values.ensures) at c.greatest_level-back.ensures)
+          (rw (c.as_slice-aside.ensures.value, c.put_aside.ensures.kept, c.touched.ensures, c.values.ensures) at c.count_levels-glue.ensures.count)),
     )

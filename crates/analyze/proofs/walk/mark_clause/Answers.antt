@@ -1,10 +1,10 @@
 use Rattle.std.proofs.Common.{◌≡◌, ◌∙◌, ◌+◌, ℕ, subst, ap, arith, cond, length, take, ◌<◌, ◌≤◌, Bool}
 use Rattle.ring_port.specs.PortState.{lits_at}
-use Rattle.analyze.specs.Marks.{Marks}
+use Rattle.analyze.specs.Marks.{HasMarked}
 use Rattle.analyze.proofs.Chains.{lit_read}
-use Rattle.analyze.proofs.Marking.{Marks-more}
-use Rattle.analyze.proofs.mark.mark_clause.Goals as goal
-use Rattle.analyze.proofs.mark.mark_clause.Goals.{then-mark, else-mark}
+use Rattle.analyze.proofs.Marking.{HasMarked-more}
+use Rattle.analyze.proofs.walk.mark_clause.Goals as goal
+use Rattle.analyze.proofs.walk.mark_clause.Goals.{then-mark, else-mark}
 
 pub mark-requires-clause-can : goal.mark-requires-clause-can
 mark-requires-clause-can g c =
@@ -17,7 +17,7 @@ loop-i-preserved g c =
     let lits = lits_at (g.P.Port.state c.args.port.now) c.args.c.address in
     let read = lit_read lits c.loop-i.i c.read_lit-lit.result (rw i.same at c.read_lit-lit.ensures.value) in
     let lt : c.loop-i.i < length lits = omega (arith, i.size) in
-    let marks = Marks-more c.args.trail.now.steps c.args.level c.args.marks.now.items c.loop-i.marks.items c.mark.new.marks.items c.args.bound lits c.loop-i.i c.loop-i.count (cond c.mark.result 1 0) c.read_lit-lit.result lt
+    let marks = HasMarked-more c.args.trail.now.steps c.args.level c.args.marks.now.values c.loop-i.marks.values c.mark.new.marks.values c.args.bound lits c.loop-i.i c.loop-i.count (cond c.mark.result 1 0) c.read_lit-lit.result lt
     i.marks (rw (read.at c.read_lit-lit.result) c.mark.ensures.marks) in
     let count : c.loop-i.count + cond c.mark.result 1 0 ≡ c.if-mark.count = (elim c.if-mark.branch as (λ _. c.loop-i.count + cond c.mark.result 1 0 ≡ c.if-mark.count) [
       | then-mark w ↦ (let z = ap {B = ℕ} (λ (b : Bool). cond b 1 0) w.if-mark.true in omega (arith, z))
@@ -29,6 +29,5 @@ loop-i-preserved g c =
       size = i.size;
       counted = omega (arith, small);
       marking = c.mark.ensures.marking;
-      marks = subst (λ (n : ℕ). Marks c.args.trail.now.steps c.args.level c.args.marks.now.items c.mark.new.marks.items c.args.bound (take (c.loop-i.i + 1) lits) n) count marks;
-      room = c.mark.ensures.room ∙ i.room;
+      marks = subst (λ (n : ℕ). HasMarked c.args.trail.now.steps c.args.level c.args.marks.now.values c.mark.new.marks.values c.args.bound (take (c.loop-i.i + 1) lits) n) count marks;
     }

@@ -76,8 +76,8 @@ some_marked t m n ms more c shape bad e pos off k =
     let count = k.count in
     omega arith
 
-pub greatest_level-more : (f : ℕ → ℕ) (ps : List ℕ) (i d : ℕ) → i < length ps → greatest (map f (take (i + 1) ps)) ≡ max (greatest (map f (take i ps))) (f (get_or ps i d))
-greatest_level-more f ps i d h =
+pub greatest-more : (f : ℕ → ℕ) (ps : List ℕ) (i d : ℕ) → i < length ps → greatest (map f (take (i + 1) ps)) ≡ max (greatest (map f (take i ps))) (f (get_or ps i d))
+greatest-more f ps i d h =
     ap (λ (x : List ℕ). greatest (map f x)) (take_more ps i d h) ∙ ap greatest (map-append f (take i ps) (get_or ps i d ∷ []))
     ∙ greatest-push (map f (take i ps)) (f (get_or ps i d))
 

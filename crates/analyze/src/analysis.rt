@@ -1,3 +1,5 @@
+//! Conflict analysis as a ring asks for it: the walk, minimisation and the lemma, over buffers that are kept. Each call
+//! must leave no mark behind.
 ghost use Rattle.std.specs.Prelude.{◌≡◌, ◌≤◌, ◌^◌, [], IfOk, IsSome};
 ghost use Rattle.ring_port.specs.PortState.{held_at, lits_at};
 ghost use Rattle.ring_trail.specs.TrailData.{IsFalseClause};
@@ -5,10 +7,10 @@ ghost use Rattle.ring_trail.specs.Reasoned.{IsReasoned};
 ghost use Rattle.ring_port.specs.PortState.{clause_at};
 ghost use Rattle.analyze.specs.Lemma.{IsConclusion};
 
-use crate::lemma::{count_levels, greatest_level, write_lemma};
+use crate::lemma::{backjump_level, glue_of, write_lemma};
 use crate::marks::Marks;
 use crate::minimise::{Verdict, Verdicts, judge_all, put_aside};
-use crate::walk::{find_point, level_of_clause};
+use crate::walk::{find_first_uip, level_of_clause};
 use ring_port::Port;
 use ring_trail::Trail;
 use sat_words::{Cref, Lit};
@@ -100,7 +102,7 @@ impl Analysis {
             self.lits.clear();
             return Conclusion::Empty;
         }
-        let point = find_point(port, trail, conflict, level, &mut self.marks);
+        let point = find_first_uip(port, trail, conflict, level, &mut self.marks);
         judge_all(port, trail, level, &self.marks, &mut self.verdicts);
         put_aside(
             trail,
@@ -113,8 +115,8 @@ impl Analysis {
         self.verdicts.table.reset();
         let aside = self.aside.as_slice();
         write_lemma(trail, point, aside, &mut self.lits);
-        let back = greatest_level(trail, aside);
-        let glue = count_levels(trail, aside, &mut self.levels);
+        let back = backjump_level(trail, aside);
+        let glue = glue_of(trail, aside, &mut self.levels);
         Conclusion::Lemma { back, glue }
     }
 }

@@ -1,3 +1,5 @@
+//! The lemma as it is learned: its literals, the level to backjump to, and its glue (Audemard and Simon 2009). The
+//! asserting literal must stand first and alone count for neither level nor glue.
 ghost use Rattle.std.specs.Prelude.{◌≡◌, ◌<◌, ◌+◌, ◌∷◌, false, All, length, map, nat_eq};
 ghost use Rattle.std.specs.Set.{distinct_count};
 ghost use Rattle.std.specs.Vec.{vec_capacity};
@@ -25,8 +27,8 @@ pub(crate) fn write_lemma(trail: &Trail, point: u32, aside: &[u32], lits: &mut V
     }
 }
 
-/// The greatest of the places' levels, 0 where there are none.
-pub(crate) fn greatest_level(trail: &Trail, aside: &[u32]) -> u32
+/// The level to backjump to: the greatest of the places' levels, 0 where there are none.
+pub(crate) fn backjump_level(trail: &Trail, aside: &[u32]) -> u32
     requires { All (λ p. p < length trail.now.steps) aside.now }
     ensures { result ≡ greatest (map (level_at trail.now.steps) aside.now) }
 {
@@ -37,8 +39,8 @@ pub(crate) fn greatest_level(trail: &Trail, aside: &[u32]) -> u32
     most
 }
 
-/// How many levels the places have. `found` has a place for each level, and is blank before and after.
-pub(crate) fn count_levels(trail: &Trail, aside: &[u32], found: &mut Marks<bool>) -> u32
+/// The glue: how many levels the places have. `found` has a place for each level, and is blank before and after.
+pub(crate) fn glue_of(trail: &Trail, aside: &[u32], found: &mut Marks<bool>) -> u32
     requires shape { IsTrail trail.now }
     requires in_range { All (λ p. p < length trail.now.steps) aside.now }
     requires blank { found.old ≡ all_blank (trail.now.vars + 1) false }

@@ -1,3 +1,6 @@
+//! The walk back from a conflict to its first unique implication point (Marques-Silva and Sakallah 1999): down along
+//! the trail, each marked place of the conflict's level gives way to those of its reason, until one is left. It must
+//! mark exactly the places that the conflict leads to.
 ghost use Rattle.std.specs.Prelude.{◌≡◌, ◌≤◌, IsSome, false, ◌∷◌, [], length, if◌then◌else◌};
 ghost use Rattle.ring_port.specs.PortState.{held_at, lits_at, clause_at};
 ghost use Rattle.ring_trail.specs.TrailData.{IsTrail, IsFalseClause};
@@ -85,7 +88,7 @@ fn mark_clause<P: Port>(
 
 /// The first place that every way from the level's decision to the conflict goes through. What the walk down to it marked is
 /// listed in `marks`.
-pub(crate) fn find_point<P: Port>(
+pub(crate) fn find_first_uip<P: Port>(
     port: &mut P,
     trail: &Trail,
     conflict: Cref,

@@ -1,3 +1,5 @@
+//! The trail as its tables keep it: the steps in order, values by literal, places by variable, and where each level
+//! starts. A change must go to all of them: values and places tell the steps, and the starts part them by level.
 ghost use Rattle.std.specs.Prelude.{◌≡◌, ◌↔◌, ◌≤◌, ◌<◌, ◌+◌, ◌++◌, ◌^◌, ◌∷◌, [], IfOk, IsTrue, IsNone, ℕ, None, length, take, MatchOption, MatchBool};
 ghost use Rattle.std.specs.Vec.{vec_capacity};
 ghost use Rattle.ring_trail.specs.TrailData.{TrailData, IsTrail, IsNext, IsPlaceOf, HasNoPlace, IsTrueOn, IsFalseOn, value_of, level_of, reason_of, lit_at, level_at, reason_at, start_of, decided, assigned, cut_back};

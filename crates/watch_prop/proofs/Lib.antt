@@ -3,6 +3,7 @@ pub mod Slots
 pub mod Growing
 pub mod Reasons
 pub mod Visits
+pub mod Advancing
 pub mod Entries
 pub mod Ranks
 pub mod Settling

@@ -6,4 +6,5 @@ pub mod Lists
 pub mod Choice
 pub mod Visiting
 pub mod Detaching
+pub mod Advancing
 pub mod Row

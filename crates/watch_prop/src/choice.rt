@@ -1,3 +1,5 @@
+//! The two literals of a clause that are best to watch: literals that aren't false, and after them those false at the
+//! highest levels, which going back makes open first. No literal that is left out may rank above the two.
 ghost use Rattle.std.specs.Prelude.{◌≡◌, ◌≤◌, All, IsSome, length};
 ghost use Rattle.rup_model.specs.Opening.{IsLong};
 ghost use Rattle.ring_port.specs.PortState.{held_at, lits_at};

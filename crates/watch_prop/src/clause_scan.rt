@@ -1,3 +1,5 @@
+//! The search for a replacement watch: a literal of the clause, beside the two that watch it, that isn't false. It may
+//! pass over none, since where there is none the clause is unit or false.
 ghost use Rattle.std.specs.Prelude.{◌≡◌, ◌≢◌, ◌≤◌, ◌⊎◌, All, IsSome, IfSome, IfNone, true, false};
 ghost use Rattle.ring_port.specs.PortState.{held_at, lits_at};
 ghost use Rattle.ring_trail.specs.TrailData.{IsFalseOn};
@@ -23,7 +25,7 @@ fn is_open(trail: &Trail, k: Lit, lit: Lit, other: Lit) -> bool
 }
 
 /// The first literal of the clause beside these two that isn't false.
-pub(crate) fn find_open<P: Port>(
+pub(crate) fn find_replacement<P: Port>(
     port: &mut P,
     trail: &Trail,
     clause: Cref,

@@ -34,7 +34,7 @@ returns-then-is_true-clause-verdict g c =
 pub returns-then-is_false-clause-verdict : goal.returns-then-is_false-clause-verdict
 returns-then-is_false-clause-verdict g c =
     entry_conflict c.args.self.now (lits_at (g.P.Port.state c.args.port.now)) c.args.trail.now c.index_at.result c.args.lit c.in-Some.entry
-    c.in-Some.ensures.found c.requires.now_false (c.is_false.ensures.0 c.if-is_false.true) c.in-None-find_open.ensures.none
+    c.in-Some.ensures.found c.requires.now_false (c.is_false.ensures.0 c.if-is_false.true) c.in-None-find_replacement.ensures.none
 
 pub returns-else-is_false-clause-verdict : goal.returns-else-is_false-clause-verdict
 returns-else-is_false-clause-verdict g c =
@@ -44,4 +44,4 @@ returns-else-is_false-clause-verdict g c =
     (neither c.args.trail.now.steps c.in-Some.entry.other
     (λ p. false≢true (sym c.if-is_true.false ∙ c.is_true.ensures.1 p))
     (λ p. false≢true (sym c.if-is_false.false ∙ c.is_false.ensures.1 p)))
-    c.in-None-find_open.ensures.none)
+    c.in-None-find_replacement.ensures.none)

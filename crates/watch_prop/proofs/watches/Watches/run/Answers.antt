@@ -1,15 +1,17 @@
-use Rattle.std.proofs.Common.{◌≡◌, ◌<◌, ◌+◌, ◌∙◌, ℕ, subst, sym, ap, length, arith, List}
+use Rattle.std.proofs.Common.{◌≡◌, ◌<◌, ◌+◌, ◌∙◌, ℕ, subst, refl, sym, ap, length, arith, List}
 use Rattle.sat_words.specs.Literal.{Literal, opposite}
 use Rattle.sat_words.proofs.Members.{opposite-opposite}
 use Rattle.ring_port.specs.PortState.{PortState, lits_at}
 use Rattle.ring_trail.specs.declared.step.Step.{Step}
 use Rattle.ring_trail.specs.TrailData.{TrailData, IsNext, lit_at}
 use Rattle.watch_prop.specs.declared.propagated.Propagated.{Propagated}
-use Rattle.watch_prop.specs.WatchData.{attached}
+use Rattle.watch_prop.specs.Advancing.{HasAdvanced}
 use Rattle.watch_prop.specs.Visiting.{IsWalked, IsVisiting}
-use Rattle.watch_prop.proofs.Growing.{HasGrown-trans, HasGrown-pass, HasGrown-longer, step_grown}
-use Rattle.watch_prop.proofs.Reasons.{Reasons-over, Reasons-back}
+use Rattle.watch_prop.proofs.Growing.{HasGrown-pass, HasGrown-longer, step_grown}
+use Rattle.watch_prop.proofs.Advancing.{advanced_none, advanced_reasons, advanced_trans}
 use Rattle.watch_prop.proofs.Visits.{Watched-pass}
+use Rattle.watch_prop.proofs.watches.Watches.run.Given.{Over}
+use Rattle.watch_prop.proofs.watches.Watches.run.Goals.{After-walk}
 use Rattle.watch_prop.proofs.watches.Watches.run.Goals as goal
 
 -- the literal at the head is false once negated
@@ -20,32 +22,38 @@ pub walk-requires-clause-in_range : goal.walk-requires-clause-in_range
 walk-requires-clause-in_range g c =
     let next = c.in-Some.ensures.next in
     let r = c.next.ensures.trail.high c.loop-lit.trail.done next.open_yet in
-    omega (arith, r, ap (λ (l : Literal). l.var) next.lit, ap (λ (l : Literal). l.var) c.not.ensures, c.loop-lit.invariant.watched.vars)
+    omega (arith, r, ap (λ (l : Literal). l.var) next.lit, ap (λ (l : Literal). l.var) c.not.ensures, c.loop-lit.invariant.kept.watched.vars)
 
 pub walk-requires-clause-now_false : goal.walk-requires-clause-now_false
 walk-requires-clause-now_false g c =
     let next = c.in-Some.ensures.next in
     record { place = c.loop-lit.trail.done; before = next.open_yet; false_there = false_next c.loop-lit.trail c.in-Some.lit c.not.result next c.not.ensures }
 
+-- what is kept up to here
+so_far : (g : Over) (c : After-walk g) → HasAdvanced (g.P.Port.state c.args.port.now) c.args.self.now c.walk.new.self c.args.trail.now c.walk.new.trail
+so_far g c = advanced_trans _ _ _ _ _ _ c.loop-lit.invariant.same c.loop-lit.invariant.kept _ _ c.walk.ensures.kept
+
+pub loop-lit-init : goal.loop-lit-init
+loop-lit-init g c = record {
+  same = refl;
+  kept = advanced_none (g.P.Port.state c.args.port.now) c.args.self.now c.args.trail.now c.requires.reasons c.requires.watched;
+  settled = refl;
+  len = refl;
+}
+
 pub walk-requires-clause-reasons : goal.walk-requires-clause-reasons
-walk-requires-clause-reasons g c = Reasons-over (attached c.args.self.now) (attached c.loop-lit.self) (g.P.Port.state c.args.port.now) (g.P.Port.state c.loop-lit.port) c.loop-lit.trail.steps c.loop-lit.invariant.attached c.loop-lit.invariant.same c.loop-lit.invariant.reasons
+walk-requires-clause-reasons g c = advanced_reasons _ _ _ _ _ _ c.loop-lit.invariant.same c.loop-lit.invariant.kept
 
-pub returns-in_err-walk-clause-grown : goal.returns-in_err-walk-clause-grown
-returns-in_err-walk-clause-grown g c = HasGrown-trans c.args.trail.now c.loop-lit.trail c.walk.new.trail c.loop-lit.invariant.grown c.walk.ensures.grown
+pub returns-in_err-walk-clause-kept : goal.returns-in_err-walk-clause-kept
+returns-in_err-walk-clause-kept g c = so_far g (goal.at.returns-in_err-walk-clause-kept g c).After-walk
 
-pub returns-in_err-walk-clause-reasons : goal.returns-in_err-walk-clause-reasons
-returns-in_err-walk-clause-reasons g c = Reasons-back (attached c.args.self.now) (attached c.loop-lit.self) (g.P.Port.state c.args.port.now) (g.P.Port.state c.loop-lit.port) c.walk.new.trail.steps c.loop-lit.invariant.attached c.loop-lit.invariant.same c.walk.ensures.reasons
-
-pub returns-in-Conflict-clause-grown : goal.returns-in-Conflict-clause-grown
-returns-in-Conflict-clause-grown g c = HasGrown-trans c.args.trail.now c.loop-lit.trail c.walk.new.trail c.loop-lit.invariant.grown c.walk.ensures.grown
-
-pub returns-in-Conflict-clause-reasons : goal.returns-in-Conflict-clause-reasons
-returns-in-Conflict-clause-reasons g c = Reasons-back (attached c.args.self.now) (attached c.loop-lit.self) (g.P.Port.state c.args.port.now) (g.P.Port.state c.loop-lit.port) c.walk.new.trail.steps c.loop-lit.invariant.attached c.loop-lit.invariant.same c.walk.ensures.reasons
+pub returns-in-Conflict-clause-kept : goal.returns-in-Conflict-clause-kept
+returns-in-Conflict-clause-kept g c = so_far g (goal.at.returns-in-Conflict-clause-kept g c).After-walk
 
 pub pass-requires : goal.pass-requires
 pass-requires g c =
     let next = c.in-Some.ensures.next in
-    let n = HasGrown-longer c.loop-lit.trail c.walk.new.trail c.walk.ensures.grown in
+    let n = HasGrown-longer c.loop-lit.trail c.walk.new.trail c.walk.ensures.kept.grown in
     omega (arith, next.open_yet, n, c.walk.ensures.done)
 
 pub loop-lit-smaller : goal.loop-lit-smaller
@@ -53,7 +61,7 @@ loop-lit-smaller g c =
     let next = c.in-Some.ensures.next in
     let s = c.next.ensures.trail.short in
     let e = c.pass.ensures.done in
-    omega (arith, next.open_yet, s, c.walk.ensures.done, c.walk.ensures.grown.vars, ap (λ (t : TrailData). t.done) e, ap (λ (t : TrailData). t.vars) e)
+    omega (arith, next.open_yet, s, c.walk.ensures.done, c.walk.ensures.kept.grown.vars, ap (λ (t : TrailData). t.done) e, ap (λ (t : TrailData). t.vars) e)
 
 pub loop-lit-preserved : goal.loop-lit-preserved
 loop-lit-preserved g c =
@@ -62,7 +70,7 @@ loop-lit-preserved g c =
     let u = c.walk.new.trail in
     let lits = lits_at (g.P.Port.state c.args.port.now) in
     let next = c.in-Some.ensures.next in
-    let grown = c.walk.ensures.grown in
+    let grown = c.walk.ensures.kept.grown in
     let n = HasGrown-longer t u grown in
     let open_yet : u.done < length u.steps = omega (arith, next.open_yet, n, c.walk.ensures.done) in
     let here : lit_at u.steps u.done ≡ opposite c.not.result
@@ -70,13 +78,16 @@ loop-lit-preserved g c =
     ∙ false_next t c.in-Some.lit c.not.result next c.not.ensures in
     let walked = subst (λ (s : PortState). IsWalked c.walk.new.self (lits_at s) u c.not.result c.in_ok-walk.field-0) i.same c.in_ok-walk.ensures.walked in
     let visiting : IsVisiting c.walk.new.self lits u c.not.result 0 = subst (λ (o : Propagated). IsWalked c.walk.new.self lits u c.not.result o) c.in-Quiet.is walked in
+    let now = so_far g (goal.at.loop-lit-preserved g c).After-walk in
     record {
       same = c.walk.ensures.same ∙ i.same;
-      attached = c.walk.ensures.attached ∙ i.attached;
+      kept = rw c.pass.ensures.done record {
+        clauses = now.clauses;
+        vars = now.vars;
+        grown = HasGrown-pass c.args.trail.now u (u.done + 1) now.grown;
+        reasons = now.reasons;
+        watched = Watched-pass c.walk.new.self lits u c.not.result open_yet here visiting;
+      };
       settled = c.walk.ensures.settled ∙ i.settled;
       len = c.walk.ensures.len ∙ i.len;
-      vars = c.walk.ensures.vars ∙ i.vars;
-      grown = rw c.pass.ensures.done (HasGrown-pass c.args.trail.now u (u.done + 1) (HasGrown-trans c.args.trail.now t u i.grown grown));
-      reasons = rw c.pass.ensures.done (Reasons-back (attached c.args.self.now) (attached c.loop-lit.self) (g.P.Port.state c.args.port.now) (g.P.Port.state c.loop-lit.port) u.steps i.attached i.same c.walk.ensures.reasons);
-      watched = rw c.pass.ensures.done (Watched-pass c.walk.new.self lits u c.not.result open_yet here visiting);
     }

@@ -1,12 +1,11 @@
-use Rattle.std.proofs.Common.{Contains, ◌≡◌, ℕ, ◌<◌, ◌≤◌, ◌+◌, List, ap, subst, sym, refl, ◌∙◌, arith, length, get_or, Option, Some, None, not}
+use Rattle.std.proofs.Common.{Contains, ◌≡◌, ℕ, ◌<◌, ◌≤◌, ◌+◌, List, ap, subst, sym, refl, ◌∙◌, arith, length, get_or, Option, Some}
 use Rattle.std.specs.List.{filter_map}
-use Rattle.std.specs.Option.{option_map}
 use Rattle.sat_words.specs.Literal.{Literal}
 use Rattle.sat_words.specs.declared.shared.Cref.{Cref}
 use Rattle.ring_port.specs.PortState.{lits_at}
 use Rattle.ring_trail.specs.declared.step.Step.{Step}
-use Rattle.ring_trail.specs.TrailData.{TrailData, HasNoPlace, value_of}
-use Rattle.ring_trail.proofs.Values.{step_of-no_place}
+use Rattle.ring_trail.specs.TrailData.{TrailData}
+use Rattle.ring_trail.proofs.Truths.{no_value}
 use Rattle.ring_trail.proofs.Causes.{IsReasoned-forced}
 use Rattle.watch_prop.specs.declared.watch.Watch.{Watch}
 use Rattle.watch_prop.specs.declared.watch.Entry.{Entry}
@@ -20,6 +19,7 @@ use Rattle.watch_prop.proofs.Growing.{HasGrown-step, clause_in}
 use Rattle.watch_prop.proofs.Reasons.{attached_some}
 use Rattle.watch_prop.proofs.Entries.{entry_attachable, on_vars, attachable_held}
 use Rattle.watch_prop.proofs.Slots.{clauses-set}
+use Rattle.watch_prop.proofs.Advancing.{advanced_none, advanced_watches}
 use Rattle.watch_prop.proofs.Visits.{visiting-stale, visiting-settled, visiting-moved, visiting-forced}
 use Rattle.watch_prop.proofs.watches.Watches.visit.Given.{Over}
 use Rattle.watch_prop.proofs.watches.Watches.visit.Goals as goal
@@ -44,9 +44,6 @@ assign-requires-clause-in_range g c =
     on_vars w.vars c.args.trail.now.vars (lits_at s c.in-Forced.clause.address) c.in-Forced.other c.requires.visiting.watched.vars
     (forcing_attachable w (lits_at s) c.args.trail.now (get_or (list_at w.lists c.args.lit) c.args.place 0) c.in-Forced.other c.in-Forced.clause c.requires.visiting.watched f) f.forces.has_lit
 
-no_value : (steps : List Step) (v : ℕ) → HasNoPlace steps v → value_of steps v ≡ None
-no_value steps v free = ap (option_map (λ (s : Step). not s.lit.neg)) (step_of-no_place steps v free)
-
 pub assign-requires-clause-free : goal.assign-requires-clause-free
 assign-requires-clause-free g c = no_value c.args.trail.now.steps c.in-Forced.other.var c.in-Forced.ensures.verdict.free
 
@@ -59,10 +56,6 @@ stale_visiting w v h t l place lists e lt k s r =
           (subst (λ (x : WatchData). IsStale x (get_or (list_at x.lists l) place 0) l) (sym e) s) r,
       Removed-len v.lists lists l place lt' r,
     )
-
-pub returns-in-Stale-clause-watched : goal.returns-in-Stale-clause-watched
-returns-in-Stale-clause-watched g c =
-    (stale_visiting c.args.self.now record { vars = c.self.inside.vars; slots = c.self.inside.slots.items; lists = ListsOf c.self.inside.lists; settled = c.self.inside.settled } (lits_at (g.P.Port.state c.args.port.now)) c.args.trail.now c.args.lit c.args.place (ListsOf c.take_from.new.lists) c.self.view_is c.requires.there c.requires.visiting c.in-Stale.ensures.verdict c.take_from.ensures).0.watched
 
 pub returns-in-Stale-clause-visited : goal.returns-in-Stale-clause-visited
 returns-in-Stale-clause-visited g c =
@@ -84,13 +77,6 @@ moved g c =
     visiting-moved c.args.self.now c.replace.new.self (lits_at (g.P.Port.state c.args.port.now)) c.args.trail.now c.args.lit c.in-Moves.new c.args.place c.in-Moves.entry
     c.present-level.ensures.trail.done c.requires.there c.requires.visiting c.in-Moves.ensures.verdict c.in_ok-replace-in-Moves.ensures.ok
 
-pub returns-in_ok-replace-in-Moves-clause-attached : goal.returns-in_ok-replace-in-Moves-clause-attached
-returns-in_ok-replace-in-Moves-clause-attached g c =
-    clauses_same c.args.self.now c.replace.new.self (lits_at (g.P.Port.state c.args.port.now)) c.args.trail.now c.args.lit c.in-Moves.new (get_or (list_at c.args.self.now.lists c.args.lit) c.args.place 0) c.args.place c.in-Moves.entry c.in-Moves.ensures.verdict c.in_ok-replace-in-Moves.ensures.ok
-
-pub returns-in_ok-replace-in-Moves-clause-watched : goal.returns-in_ok-replace-in-Moves-clause-watched
-returns-in_ok-replace-in-Moves-clause-watched g c = (moved g c).watched
-
 pub returns-in_ok-replace-in-Moves-clause-visited : goal.returns-in_ok-replace-in-Moves-clause-visited
 returns-in_ok-replace-in-Moves-clause-visited g c =
     let r = c.in_ok-replace-in-Moves.ensures.ok in
@@ -106,19 +92,33 @@ forced g c =
     visiting-forced c.args.self.now (lits_at (g.P.Port.state c.args.port.now)) t c.assign.new.self c.args.lit c.in-Forced.other c.args.place c.in-Forced.clause s c.present-level.ensures.trail.done c.requires.there c.requires.visiting
     c.in-Forced.ensures.verdict refl refl (ap (λ (u : TrailData). u.steps) e) (HasGrown-step t c.assign.new.self s e refl) (ap (λ (u : TrailData). u.done) e)
 
-pub returns-in-Forced-clause-watched : goal.returns-in-Forced-clause-watched
-returns-in-Forced-clause-watched g c = (forced g c).watched
-
 pub returns-in-Forced-clause-visited : goal.returns-in-Forced-clause-visited
 returns-in-Forced-clause-visited g c = (forced g c, (let q = c.requires.there in omega arith))
 
-pub returns-in-Forced-clause-grown : goal.returns-in-Forced-clause-grown
-returns-in-Forced-clause-grown g c =
-    let t = c.args.trail.now in
-    HasGrown-step t c.assign.new.self record { lit = c.in-Forced.other; level = t.level; reason = Some c.in-Forced.clause } c.assign.ensures.step refl
+pub returns-in-Stale-clause-kept : goal.returns-in-Stale-clause-kept
+returns-in-Stale-clause-kept g c =
+    advanced_watches (g.P.Port.state c.args.port.now) c.args.self.now _ c.args.trail.now (ap attached c.self.view_is) (ap (λ (w : WatchData). w.vars) c.self.view_is) c.requires.reasons
+    (stale_visiting c.args.self.now record { vars = c.self.inside.vars; slots = c.self.inside.slots.items; lists = ListsOf c.self.inside.lists; settled = c.self.inside.settled } (lits_at (g.P.Port.state c.args.port.now)) c.args.trail.now c.args.lit c.args.place (ListsOf c.take_from.new.lists) c.self.view_is c.requires.there c.requires.visiting c.in-Stale.ensures.verdict c.take_from.ensures).0.watched
 
-pub returns-in-Forced-clause-reasons : goal.returns-in-Forced-clause-reasons
-returns-in-Forced-clause-reasons g c =
+pub returns-in-Settled-clause-kept : goal.returns-in-Settled-clause-kept
+returns-in-Settled-clause-kept g c = advanced_none (g.P.Port.state c.args.port.now) c.args.self.now c.args.trail.now c.requires.reasons c.requires.visiting.watched
+
+pub returns-in-False-clause-kept : goal.returns-in-False-clause-kept
+returns-in-False-clause-kept g c = advanced_none (g.P.Port.state c.args.port.now) c.args.self.now c.args.trail.now c.requires.reasons c.requires.visiting.watched
+
+pub returns-in_err-replace-in-Moves-clause-kept : goal.returns-in_err-replace-in-Moves-clause-kept
+returns-in_err-replace-in-Moves-clause-kept g c =
+    rw c.in_err-replace-in-Moves.ensures.err (advanced_none (g.P.Port.state c.args.port.now) c.args.self.now c.args.trail.now c.requires.reasons c.requires.visiting.watched)
+
+pub returns-in_ok-replace-in-Moves-clause-kept : goal.returns-in_ok-replace-in-Moves-clause-kept
+returns-in_ok-replace-in-Moves-clause-kept g c =
+    let ok = c.in_ok-replace-in-Moves.ensures.ok in
+    advanced_watches (g.P.Port.state c.args.port.now) c.args.self.now c.replace.new.self c.args.trail.now
+    (clauses_same c.args.self.now c.replace.new.self (lits_at (g.P.Port.state c.args.port.now)) c.args.trail.now c.args.lit c.in-Moves.new (get_or (list_at c.args.self.now.lists c.args.lit) c.args.place 0) c.args.place c.in-Moves.entry c.in-Moves.ensures.verdict ok)
+    ok.vars c.requires.reasons (moved g c).watched
+
+pub returns-in-Forced-clause-kept : goal.returns-in-Forced-clause-kept
+returns-in-Forced-clause-kept g c =
     let t = c.args.trail.now in
     let w = c.args.self.now in
     let s = g.P.Port.state c.args.port.now in
@@ -126,6 +126,12 @@ returns-in-Forced-clause-reasons g c =
     let i = get_or (list_at w.lists c.args.lit) c.args.place 0 in
     let d = lits_at s c.in-Forced.clause.address in
     let member = subst (λ (x : Cref). Contains (attached w) x) f.at.clause (clause_in w i f.at.watch f.at.there) in
-    subst (λ (u : TrailData). HasReasons (attached w) s u.steps) (sym c.assign.ensures.step)
-    (IsReasoned-forced (attached_at (attached w) s) s.seen t c.in-Forced.other c.in-Forced.clause d c.requires.reasons
-    (attached_some (attached w) s c.in-Forced.clause member (attachable_held w.vars s c.in-Forced.clause.address (forcing_attachable w (lits_at s) t i c.in-Forced.other c.in-Forced.clause c.requires.visiting.watched f))) f.forces)
+    record {
+      clauses = refl;
+      vars = refl;
+      grown = HasGrown-step t c.assign.new.self record { lit = c.in-Forced.other; level = t.level; reason = Some c.in-Forced.clause } c.assign.ensures.step refl;
+      reasons = subst (λ (u : TrailData). HasReasons (attached w) s u.steps) (sym c.assign.ensures.step)
+          (IsReasoned-forced (attached_at (attached w) s) s.seen t c.in-Forced.other c.in-Forced.clause d c.requires.reasons
+          (attached_some (attached w) s c.in-Forced.clause member (attachable_held w.vars s c.in-Forced.clause.address (forcing_attachable w (lits_at s) t i c.in-Forced.other c.in-Forced.clause c.requires.visiting.watched f))) f.forces);
+      watched = (forced g c).watched;
+    }

@@ -1,20 +1,16 @@
 use Rattle.std.proofs.Common.{◌≡◌, ◌≤◌, length}
 use Rattle.ring_port.specs.PortState.{lits_at}
-use Rattle.ring_trail.specs.TrailData.{HasGrown}
-use Rattle.watch_prop.specs.WatchData.{attached, list_at}
-use Rattle.watch_prop.specs.Propagation.{HasReasons}
+use Rattle.watch_prop.specs.WatchData.{list_at}
+use Rattle.watch_prop.specs.Advancing.{HasAdvanced}
 use Rattle.watch_prop.specs.Visiting.{IsVisiting}
 use Rattle.watch_prop.proofs.watches.Watches.walk.Given as goal
 
 abbrev pub invariant-loop-place : goal.invariant-loop-place
 invariant-loop-place g l = record {
-  reasons : HasReasons (attached l.fn.self) (g.P.Port.state l.fn.port) l.trail.steps;
   same : g.P.Port.state l.port ≡ g.P.Port.state l.fn.port;
-  attached : attached l.self ≡ attached l.fn.self;
+  kept : HasAdvanced (g.P.Port.state l.fn.port) l.fn.self l.self l.fn.trail l.trail;
   settled : l.self.settled ≡ l.fn.self.settled;
   len : length l.self.slots ≡ length l.fn.self.slots;
-  vars : l.self.vars ≡ l.fn.self.vars;
-  grown : HasGrown l.fn.trail l.trail;
   done : l.trail.done ≡ l.fn.trail.done;
   visiting : IsVisiting l.self (lits_at (g.P.Port.state l.fn.port)) l.trail l.lit l.place;
   inside : l.place ≤ length (list_at l.self.lists l.lit);

@@ -2,7 +2,7 @@ use Rattle.std.proofs.Common.{◌≡◌}
 use Rattle.ring_port.specs.PortState.{lits_at}
 use Rattle.ring_port.specs.PortState.{clause_at}
 use Rattle.analyze.proofs.Walking.{Walking}
-use Rattle.analyze.proofs.walk.find_point.Given as goal
+use Rattle.analyze.proofs.walk.find_first_uip.Given as goal
 
 abbrev pub invariant-places : goal.invariant-places
 invariant-places g l = record {

@@ -2,8 +2,8 @@ use Rattle.std.proofs.Common.{◌≡◌, ◌+◌, ◌<◌, ◌∙◌, ℕ, Bool,
 use Rattle.ring_trail.specs.TrailData.{level_at}
 use Rattle.analyze.specs.Marks.{marked}
 use Rattle.analyze.proofs.LevelLemmas.{AreLevels-none, AreLevels-again, AreLevels-set, levels_room, levels_few}
-use Rattle.analyze.proofs.lemma.count_levels.Goals as goal
-use Rattle.analyze.proofs.lemma.count_levels.Goals.{After-at, then-not-at, else-not-at}
+use Rattle.analyze.proofs.lemma.glue_of.Goals as goal
+use Rattle.analyze.proofs.lemma.glue_of.Goals.{After-at, then-not-at, else-not-at}
 
 at_lt : (c : After-at) → c.level_at-at.result < c.args.trail.now.vars + 1
 at_lt c =

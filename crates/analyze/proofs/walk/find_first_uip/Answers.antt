@@ -8,10 +8,10 @@ use Rattle.analyze.proofs.Chains.{clause_held}
 use Rattle.analyze.proofs.Marking.{IsMarking-none, marked-none}
 use Rattle.analyze.proofs.Walking.{Walking, Walking-positive, Walking-small, Walking-in_table, Walking-skip, Walking-last, Walking-forced, Walking-resolve, Walking-start, CanMark-reason, forced_by}
 use Rattle.analyze.proofs.LevelLemmas.{CanMark-conflict, some_marked}
-use Rattle.analyze.proofs.walk.find_point.Given.{Over}
-use Rattle.analyze.proofs.walk.find_point.Goals.{After-mark_clause-open, After-mark_clause-more}
-use Rattle.analyze.proofs.walk.find_point.Goals as goal
-use Rattle.analyze.proofs.walk.find_point.Goals.{else-at-via-then-at+else-level_at-level, else-at-via-else-at}
+use Rattle.analyze.proofs.walk.find_first_uip.Given.{Over}
+use Rattle.analyze.proofs.walk.find_first_uip.Goals.{After-mark_clause-open, After-mark_clause-more}
+use Rattle.analyze.proofs.walk.find_first_uip.Goals as goal
+use Rattle.analyze.proofs.walk.find_first_uip.Goals.{else-at-via-then-at+else-level_at-level, else-at-via-else-at}
 
 -- what was read in a table
 read_mark : (ms : List Bool) (p : ℕ) (r b blank : Bool) → blank ≡ false → r ≡ get_or ms p blank → r ≡ b → marked ms p ≡ b

@@ -6,8 +6,8 @@ use Rattle.ring_port.specs.PortState.{PortState, lits_at}
 use Rattle.ring_trail.specs.TrailData.{IsFalseOn}
 use Rattle.watch_prop.proofs.ListsLemmas.{cases_eq}
 use Rattle.watch_prop.proofs.Ranks.{has_at, at_has, same_there}
-use Rattle.watch_prop.proofs.clause_scan.find_open.Given.{Over}
-use Rattle.watch_prop.proofs.clause_scan.find_open.Goals as goal
+use Rattle.watch_prop.proofs.clause_scan.find_replacement.Given.{Over}
+use Rattle.watch_prop.proofs.clause_scan.find_replacement.Goals as goal
 
 -- a fact of each member, at a place
 pub all_at : (P : Literal → Type 0) (c : List Literal) (i : ℕ) (l : Literal) → All P c → slice_get c i ≡ Some l → P l

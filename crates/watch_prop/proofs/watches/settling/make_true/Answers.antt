@@ -7,7 +7,7 @@ use Rattle.ring_trail.specs.Closed.{TrueWithin}
 use Rattle.ring_trail.proofs.Causes.{IsReasoned-forced}
 use Rattle.ring_trail.proofs.Truths.{neither, no_value}
 use Rattle.watch_prop.specs.Propagation.{attached_at, HasReasons}
-use Rattle.watch_prop.proofs.watches.make_true.Goals as goal
+use Rattle.watch_prop.proofs.watches.settling.make_true.Goals as goal
 
 pub assign-requires-clause-free : goal.assign-requires-clause-free
 assign-requires-clause-free c =

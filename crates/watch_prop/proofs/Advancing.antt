@@ -1,0 +1,32 @@
+-- What the parts of propagation keep, one after another.
+use Rattle.std.proofs.Common.{◌≡◌, ◌∙◌, refl, subst}
+use Rattle.ring_port.specs.PortState.{PortState, lits_at}
+use Rattle.ring_trail.specs.TrailData.{TrailData}
+use Rattle.watch_prop.specs.WatchData.{WatchData, attached}
+use Rattle.watch_prop.specs.Watched.{Watched}
+use Rattle.watch_prop.specs.Propagation.{HasReasons}
+use Rattle.watch_prop.specs.Advancing.{HasAdvanced}
+use Rattle.watch_prop.proofs.Growing.{HasGrown-refl, HasGrown-trans}
+use Rattle.watch_prop.proofs.Reasons.{Reasons-over, Reasons-back}
+
+-- nothing was done
+pub advanced_none : (s : PortState) (w : WatchData) (t : TrailData) → HasReasons (attached w) s t.steps → Watched w (lits_at s) t → HasAdvanced s w w t t
+advanced_none s w t r k = record { clauses = refl; vars = refl; grown = HasGrown-refl t; reasons = r; watched = k }
+
+-- only the watches changed
+pub advanced_watches : (s : PortState) (v w : WatchData) (t : TrailData) → attached w ≡ attached v → w.vars ≡ v.vars → HasReasons (attached v) s t.steps → Watched w (lits_at s) t → HasAdvanced s v w t t
+advanced_watches s v w t e f r k = record { clauses = e; vars = f; grown = HasGrown-refl t; reasons = r; watched = k }
+
+-- one part after another, over the same port
+module _ (s r : PortState) (a b : WatchData) (t u : TrailData) (e : r ≡ s) (p : HasAdvanced s a b t u) where
+  pub advanced_reasons : HasReasons (attached b) r u.steps
+  advanced_reasons = Reasons-over (attached a) (attached b) s r u.steps p.clauses e p.reasons
+
+  pub advanced_trans : (c : WatchData) (v : TrailData) → HasAdvanced r b c u v → HasAdvanced s a c t v
+  advanced_trans c v q = record {
+    clauses = q.clauses ∙ p.clauses;
+    vars = q.vars ∙ p.vars;
+    grown = HasGrown-trans t u v p.grown q.grown;
+    reasons = Reasons-back (attached a) (attached b) s r v.steps p.clauses e q.reasons;
+    watched = subst (λ (x : PortState). Watched c (lits_at x) v) e q.watched;
+  }

@@ -1,0 +1,108 @@
+//! Detaching a clause: its slots become free, and the entries of its own literals' lists that are met as stale drop out. It
+//! may leave no watch of the clause, and takes none away from another.
+ghost use Rattle.std.specs.Prelude.{◌≡◌, ◌≢◌, ◌≤◌, ◌<◌, IsSome, length, slice_index, ℕ, Some, true, take};
+ghost use Rattle.sat_words.specs.Literal.{Literal};
+ghost use Rattle.sat_words.specs.Clause.{has};
+ghost use Rattle.ring_port.specs.PortState.{held_at, lits_at};
+ghost use Rattle.ring_trail.specs.TrailData.{TrailData};
+ghost use Rattle.watch_prop.specs.declared.watch.Watch.{Watch};
+ghost use Rattle.watch_prop.specs.WatchData.{attached, list_at, without};
+ghost use Rattle.watch_prop.specs.Watched.{At, Watched};
+ghost use Rattle.watch_prop.specs.Detaching.{Freed, IsGoneFrom};
+
+use crate::lists::take_from;
+use crate::watches::Watches;
+use ring_port::Port;
+use sat_words::{Cref, Lit};
+
+impl Watches {
+    /// Detaches a clause that is held: it is watched no more, however often it was attached. One that isn't attached
+    /// leaves what is attached as it was.
+    ///
+    /// The clause is looked for among those that wait and in the lists of its own literals. It takes no memory.
+    pub fn detach<P: Port>(&mut self, port: &mut P, c: Cref)
+        requires held { IsSome (held_at (P.state port.old) c.address) }
+        requires vars { (P.state port.old).vars ≡ self.old.vars }
+        ensures same { P.state port.new ≡ P.state port.old }
+        ensures attached { (t : TrailData) → Watched self.old (lits_at (P.state port.old)) t → attached self.new ≡ without (attached self.old) c.address }
+        ensures vars { self.new.vars ≡ self.old.vars }
+        ensures watched { (t : TrailData) → Watched self.old (lits_at (P.state port.old)) t → Watched self.new (lits_at (P.state port.old)) t }
+    {
+        self.free_waiting(c);
+        self.free_listed(port, c);
+    }
+
+    /// Frees the slots of a clause that wait.
+    fn free_waiting(&mut self, c: Cref)
+        ensures freed { Freed self.old self.new c.address }
+        ensures gone { (i : ℕ) (s : Watch) → self.old.settled ≤ i → At self.new.slots i (Some s) → s.clause.address ≢ c.address }
+    {
+        for index in self.settled..self.slots.len() {
+            self.free(index, c);
+        }
+    }
+
+    /// Frees the slots of a clause that are listed at one of its literals.
+    fn free_listed<P: Port>(&mut self, port: &mut P, c: Cref)
+        requires held { IsSome (held_at (P.state port.old) c.address) }
+        requires vars { (P.state port.old).vars ≡ self.old.vars }
+        ensures same { P.state port.new ≡ P.state port.old }
+        ensures freed { Freed self.old self.new c.address }
+        ensures gone { (l : Literal) → has (lits_at (P.state port.old) c.address) l ≡ true → IsGoneFrom self.old self.new c.address l }
+    {
+        let _vars = port.vars();
+        let size = port.head(c).size;
+        for i in 0..size {
+            let lit = port.read_lit(c, i);
+            self.free_at(lit, c);
+        }
+    }
+
+    /// Frees the slots of a clause that are listed at a literal, and drops the entries there that are stale.
+    fn free_at(&mut self, lit: Lit, c: Cref)
+        requires in_range { lit.var ≤ self.old.vars }
+        ensures freed { Freed self.old self.new c.address }
+        ensures gone { IsGoneFrom self.old self.new c.address lit }
+    {
+        let mut left = self.list_len(lit);
+        while left > 0 {
+            left -= 1;
+            self.free_entry(lit, left, c);
+        }
+    }
+
+    /// Frees the slot of an entry where it is this clause's, and drops the entry where it is stale.
+    fn free_entry(&mut self, lit: Lit, place: usize, c: Cref)
+        requires in_range { lit.var ≤ self.old.vars }
+        requires there { place < length (list_at self.old.lists lit) }
+        ensures freed { Freed self.old self.new c.address }
+        ensures gone { (s : Watch) → At self.new.slots (slice_index (list_at self.old.lists lit) place) (Some s) → s.clause.address ≢ c.address }
+        ensures before { take place (list_at self.new.lists lit) ≡ take place (list_at self.old.lists lit) }
+    {
+        let index = self.index_at(lit, place);
+        self.free(index, c);
+        if self.entry(index, lit).is_none() {
+            take_from(&mut self.lists, lit, place);
+        }
+    }
+
+    /// Frees the slot at an index where it is this clause's.
+    fn free(&mut self, index: usize, c: Cref)
+        ensures freed { Freed self.old self.new c.address }
+        ensures lists { self.new.lists ≡ self.old.lists }
+        ensures gone { (s : Watch) → At self.new.slots index (Some s) → s.clause.address ≢ c.address }
+    {
+        if index >= self.slots.len() {
+            return;
+        }
+        match self.slots[index] {
+            None => {}
+            Some(watch) => {
+                if watch.clause.address == c.address {
+                    self.slots[index] = None;
+                    self.free_slots += 1;
+                }
+            }
+        }
+    }
+}

@@ -1,0 +1,116 @@
+//! Clauses that wait: each is listed at the two of its literals that are best to watch, those not false first and then those
+//! false at the highest levels, and it is found out on the way whether it is unit or false. A watch that is false may be
+//! listed only where a literal of the clause is true at a level of at most its own.
+ghost use Rattle.std.specs.Prelude.{◌≡◌, ◌≤◌, ◌<◌, IfOk, OnOk, OnErr, length, List, Some};
+ghost use Rattle.sat_words.specs.Literal.{Literal};
+ghost use Rattle.sat_words.specs.declared.shared.Cref.{Cref};
+ghost use Rattle.ring_port.specs.PortState.{PortState, lits_at};
+ghost use Rattle.ring_trail.specs.TrailData.{HasGrown};
+ghost use Rattle.ring_trail.specs.Reasoned.{ForcesAt};
+ghost use Rattle.ring_trail.specs.Closed.{TrueWithin};
+ghost use Rattle.watch_prop.specs.WatchData.{attached};
+ghost use Rattle.watch_prop.specs.Watched.{Watched};
+ghost use Rattle.watch_prop.specs.Propagation.{HasReasons, IsClosedBelow, attached_at};
+ghost use Rattle.watch_prop.specs.Advancing.{HasAdvanced};
+ghost use Rattle.watch_prop.specs.Visiting.{NotFalse, WatchOf, Listed, ListsMore, IsSettledTo, IsAllSettled};
+
+use crate::choice::choose;
+use crate::lists::add_to;
+use crate::propagated::Propagated;
+use crate::watch::{Visit, Watch};
+use crate::watches::Watches;
+use ring_port::Port;
+use ring_trail::Trail;
+use sat_words::{Cref, Lit};
+use std::alloc::AllocError;
+
+impl Watches {
+    /// Looks at all clauses that wait.
+    pub(crate) fn settle<P: Port>(
+        &mut self,
+        port: &mut P,
+        trail: &mut Trail,
+    ) -> Result<Propagated, AllocError>
+        requires watched { Watched self.old (lits_at (P.state port.old)) trail.old }
+        requires below { IsClosedBelow self.old (lits_at (P.state port.old)) trail.old }
+        requires reasons { HasReasons (attached self.old) (P.state port.old) trail.old.steps }
+        ensures same { P.state port.new ≡ P.state port.old }
+        ensures kept { HasAdvanced (P.state port.old) self.old self.new trail.old trail.new }
+        ensures settled { IfOk result (IsAllSettled self.new (lits_at (P.state port.old)) trail.new) }
+    {
+        while self.settled < self.slots.len() {
+            match self.settle_one(port, trail)? {
+                Visit::Done => {}
+                Visit::Falsified(clause) => return Ok(Propagated::Conflict(clause)),
+            }
+        }
+        Ok(Propagated::Quiet)
+    }
+
+    /// Looks at the first slot that waits, and lists its clause where it isn't free.
+    fn settle_one<P: Port>(&mut self, port: &mut P, trail: &mut Trail) -> Result<Visit, AllocError>
+        requires watched { Watched self.old (lits_at (P.state port.old)) trail.old }
+        requires there { self.old.settled < length self.old.slots }
+        requires below { IsClosedBelow self.old (lits_at (P.state port.old)) trail.old }
+        requires reasons { HasReasons (attached self.old) (P.state port.old) trail.old.steps }
+        ensures same { P.state port.new ≡ P.state port.old }
+        ensures kept { HasAdvanced (P.state port.old) self.old self.new trail.old trail.new }
+        ensures done { trail.new.done ≡ trail.old.done }
+        ensures len { length self.new.slots ≡ length self.old.slots }
+        ensures settled { IfOk result (IsSettledTo self.old self.new (lits_at (P.state port.old)) trail.new) }
+    {
+        let clause = match self.slots[self.settled] {
+            None => {
+                self.settled += 1;
+                return Ok(Visit::Done);
+            }
+            Some(watch) => watch.clause,
+        };
+        let best = choose(port, trail, clause);
+        let present = trail.present();
+        if best.high <= present {
+            return Ok(Visit::Falsified(clause));
+        }
+        if best.low > present {
+            self.list(clause, best.first, best.second)?;
+            return Ok(Visit::Done);
+        }
+        make_true(trail, best.first, clause);
+        self.list(clause, best.first, best.second)?;
+        Ok(Visit::Done)
+    }
+
+    /// Lists the first clause that waits, at two of its literals.
+    fn list(&mut self, clause: Cref, first: Lit, second: Lit) -> Result<(), AllocError>
+        requires there { WatchOf self.old self.old.settled clause }
+        requires first { first.var ≤ self.old.vars }
+        requires second { second.var ≤ self.old.vars }
+        ensures ok { OnOk result (Listed self.old self.new clause first second) }
+        ensures err { OnErr result (ListsMore self.old self.new) }
+    {
+        add_to(&mut self.lists, first, self.settled)?;
+        add_to(&mut self.lists, second, self.settled)?;
+        self.slots[self.settled] = Some(Watch {
+            clause,
+            first,
+            second,
+        });
+        self.settled += 1;
+        Ok(())
+    }
+}
+
+/// Makes a literal that isn't false true, for a clause that forces it.
+fn make_true(trail: &mut Trail, lit: Lit, clause: Cref)
+    requires in_range { lit.var ≤ trail.old.vars }
+    requires not_false { NotFalse trail.old.steps lit }
+    ensures grown { HasGrown trail.old trail.new }
+    ensures reasons { (cs : List Cref) (s : PortState) (d : List Literal) → attached_at cs s clause.address ≡ Some d → ForcesAt trail.old.steps (length trail.old.steps) lit d → HasReasons cs s trail.old.steps → HasReasons cs s trail.new.steps }
+    ensures done { trail.new.done ≡ trail.old.done }
+    ensures made { TrueWithin trail.new.steps trail.new.level lit }
+{
+    let _lawful = trail.present();
+    if !trail.is_true(lit) {
+        trail.assign(lit, Some(clause));
+    }
+}

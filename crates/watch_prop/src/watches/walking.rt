@@ -1,0 +1,155 @@
+//! Unit propagation by two watched literals (MiniSat, Eén and Sörensson 2003): where a literal becomes false, the list of its
+//! watches is walked; each entry finds its clause satisfied, a replacement watch, a literal that is forced, or a conflict.
+//! An entry may leave the list only where another literal of the clause, which is not false, watches it from then on.
+ghost use Rattle.std.specs.Prelude.{◌≡◌, ◌≢◌, ◌≤◌, ◌<◌, ◌+◌, IfOk, OnOk, OnErr, length, slice_index};
+ghost use Rattle.ring_port.specs.PortState.{lits_at};
+ghost use Rattle.ring_trail.specs.TrailData.{IsFalseOn};
+ghost use Rattle.watch_prop.specs.WatchData.{attached, list_at};
+ghost use Rattle.watch_prop.specs.Watched.{Watched};
+ghost use Rattle.watch_prop.specs.Propagation.{HasReasons};
+ghost use Rattle.watch_prop.specs.Advancing.{HasAdvanced};
+ghost use Rattle.watch_prop.specs.Visiting.{IsVisiting, IsEntry, IsVerdict, Replaced, IsVisited, IsWalked, IsEnd};
+
+use crate::clause_scan::find_replacement;
+use crate::lists::{add_to, take_from};
+use crate::propagated::Propagated;
+use crate::watch::{Entry, Verdict, Visit, Watch};
+use crate::watches::Watches;
+use ring_port::Port;
+use ring_trail::Trail;
+use sat_words::Lit;
+use std::alloc::AllocError;
+
+impl Watches {
+    /// Propagates all literals that aren't propagated yet.
+    pub(crate) fn run<P: Port>(
+        &mut self,
+        port: &mut P,
+        trail: &mut Trail,
+    ) -> Result<Propagated, AllocError>
+        requires watched { Watched self.old (lits_at (P.state port.old)) trail.old }
+        requires reasons { HasReasons (attached self.old) (P.state port.old) trail.old.steps }
+        ensures same { P.state port.new ≡ P.state port.old }
+        ensures kept { HasAdvanced (P.state port.old) self.old self.new trail.old trail.new }
+        ensures settled { self.new.settled ≡ self.old.settled }
+        ensures len { length self.new.slots ≡ length self.old.slots }
+        ensures ended { IfOk result (IsEnd self.new (lits_at (P.state port.old)) trail.new) }
+    {
+        while let Some(lit) = trail.next() {
+            match self.walk(port, trail, lit.not())? {
+                Propagated::Quiet => trail.pass(),
+                Propagated::Conflict(clause) => return Ok(Propagated::Conflict(clause)),
+            }
+        }
+        Ok(Propagated::Quiet)
+    }
+
+    /// Goes down the list of a literal that became false, from its end.
+    fn walk<P: Port>(
+        &mut self,
+        port: &mut P,
+        trail: &mut Trail,
+        lit: Lit,
+    ) -> Result<Propagated, AllocError>
+        requires watched { Watched self.old (lits_at (P.state port.old)) trail.old }
+        requires in_range { lit.var ≤ self.old.vars }
+        requires now_false { IsFalseOn trail.old.steps lit }
+        requires reasons { HasReasons (attached self.old) (P.state port.old) trail.old.steps }
+        ensures same { P.state port.new ≡ P.state port.old }
+        ensures kept { HasAdvanced (P.state port.old) self.old self.new trail.old trail.new }
+        ensures settled { self.new.settled ≡ self.old.settled }
+        ensures len { length self.new.slots ≡ length self.old.slots }
+        ensures done { trail.new.done ≡ trail.old.done }
+        ensures walked { IfOk result (IsWalked self.new (lits_at (P.state port.old)) trail.new lit) }
+    {
+        let mut place = self.list_len(lit);
+        while place > 0 {
+            place -= 1;
+            match self.visit(port, trail, lit, place)? {
+                Visit::Done => {}
+                Visit::Falsified(clause) => return Ok(Propagated::Conflict(clause)),
+            }
+        }
+        Ok(Propagated::Quiet)
+    }
+
+    /// Looks at one entry of the list of a literal that became false.
+    fn visit<P: Port>(
+        &mut self,
+        port: &mut P,
+        trail: &mut Trail,
+        lit: Lit,
+        place: usize,
+    ) -> Result<Visit, AllocError>
+        requires visiting { IsVisiting self.old (lits_at (P.state port.old)) trail.old lit (place + 1) }
+        requires in_range { lit.var ≤ self.old.vars }
+        requires there { place < length (list_at self.old.lists lit) }
+        requires now_false { IsFalseOn trail.old.steps lit }
+        requires reasons { HasReasons (attached self.old) (P.state port.old) trail.old.steps }
+        ensures same { P.state port.new ≡ P.state port.old }
+        ensures kept { HasAdvanced (P.state port.old) self.old self.new trail.old trail.new }
+        ensures settled { self.new.settled ≡ self.old.settled }
+        ensures len { length self.new.slots ≡ length self.old.slots }
+        ensures done { trail.new.done ≡ trail.old.done }
+        ensures visited { IfOk result (IsVisited self.new (lits_at (P.state port.old)) trail.new lit place) }
+    {
+        let _level = trail.present();
+        match self.judge(port, trail, lit, place) {
+            Verdict::Stale => take_from(&mut self.lists, lit, place),
+            Verdict::Settled => {}
+            Verdict::Moves(entry, new) => self.replace(entry, lit, new, place)?,
+            Verdict::Forced(other, clause) => trail.assign(other, Some(clause)),
+            Verdict::False(clause) => return Ok(Visit::Falsified(clause)),
+        }
+        Ok(Visit::Done)
+    }
+
+    /// What an entry of the list of a false literal asks for. The clause is read only where the other literal isn't true.
+    fn judge<P: Port>(&self, port: &mut P, trail: &Trail, lit: Lit, place: usize) -> Verdict
+        requires watched { Watched self.now (lits_at (P.state port.old)) trail.now }
+        requires in_range { lit.var ≤ self.now.vars }
+        requires there { place < length (list_at self.now.lists lit) }
+        requires now_false { IsFalseOn trail.now.steps lit }
+        ensures same { P.state port.new ≡ P.state port.old }
+        ensures verdict { IsVerdict self.now (lits_at (P.state port.old)) trail.now lit (slice_index (list_at self.now.lists lit) place) result }
+    {
+        let _lawful = trail.present();
+        let entry = match self.entry(self.index_at(lit, place), lit) {
+            None => return Verdict::Stale,
+            Some(entry) => entry,
+        };
+        if trail.is_true(entry.other) {
+            return Verdict::Settled;
+        }
+        match find_replacement(port, trail, entry.clause, lit, entry.other) {
+            Some(new) => Verdict::Moves(entry, new),
+            None => {
+                if trail.is_false(entry.other) {
+                    Verdict::False(entry.clause)
+                } else {
+                    Verdict::Forced(entry.other, entry.clause)
+                }
+            }
+        }
+    }
+
+    /// Lets a new literal watch in the place of one that became false.
+    fn replace(&mut self, entry: Entry, lit: Lit, new: Lit, place: usize) -> Result<(), AllocError>
+        requires entry { IsEntry self.old (slice_index (list_at self.old.lists lit) place) lit entry }
+        requires in_range { lit.var ≤ self.old.vars }
+        requires new_in_range { new.var ≤ self.old.vars }
+        requires apart { new ≢ lit }
+        requires there { place < length (list_at self.old.lists lit) }
+        ensures ok { OnOk result (Replaced self.old self.new entry lit new place) }
+        ensures err { OnErr result (self.new ≡ self.old) }
+    {
+        add_to(&mut self.lists, new, entry.index)?;
+        take_from(&mut self.lists, lit, place);
+        self.slots[entry.index] = Some(Watch {
+            clause: entry.clause,
+            first: entry.other,
+            second: new,
+        });
+        Ok(())
+    }
+}

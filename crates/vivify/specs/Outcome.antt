@@ -1,0 +1,51 @@
+-- What vivification comes to.
+use Rattle.std.specs.Prelude.{◌≡◌, ℕ, ◌-◌, ◌<◌, ◌≤◌, min, List, [], ◌∷◌, ◌++◌, length, Option, None}
+use Rattle.std.specs.Option.{option_map_or}
+use Rattle.sat_words.specs.Literal.{Literal}
+use Rattle.sat_words.specs.declared.shared.Cref.{Cref}
+use Rattle.rup_model.specs.declared.journal.Kind.TheVariants.{Derive, UnitLine}
+use Rattle.ring_port.specs.PortState.{PortState, Holding, lits_at, held_at}
+use Rattle.ring_port.specs.Port.{AddedClause, WroteUnit}
+use Rattle.ring_trail.specs.declared.step.Step.{Step}
+use Rattle.watch_prop.specs.WatchData.{WatchData, attached, without}
+use Rattle.ring_port.specs.Deleting.{DroppedOnce}
+use Rattle.vivify.specs.Walk.{left_of, others}
+use Rattle.vivify.specs.declared.shorten.Vivified.{Vivified}
+use Rattle.vivify.specs.declared.shorten.Vivified.TheVariants.{Kept, Shorter, Unit, Empty}
+
+-- the glue of the clause at an address
+abbrev pub glue_at : PortState → ℕ → ℕ
+glue_at s a = option_map_or (λ (h : Holding). h.glue) (held_at s a) 0
+
+-- the literals of the clause that are left
+abbrev pub left_at : PortState → List Cref → List Step → ℕ → List Literal
+left_at s cs steps a = left_of (others s cs a steps) (lits_at s a)
+
+-- all literals are left: nothing is written, and the clause is attached behind the others
+pub record WasKept (old new : PortState) (v w : WatchData) (steps : List Step) (c : Cref) : Type 0 where
+  pub left : left_at old (attached v) steps c.address ≡ lits_at old c.address
+  pub state : new ≡ old
+  pub attached_now : attached w ≡ without (attached v) c.address ++ c ∷ []
+
+-- fewer are left: their clause was derived and is attached, and then the clause was dropped
+pub record WasShortened (old new : PortState) (v w : WatchData) (steps : List Step) (c d : Cref) : Type 0 where
+  pub fewer : length (left_at old (attached v) steps c.address) < length (lits_at old c.address)
+  pub middle : PortState
+  pub derived : AddedClause old middle (left_at old (attached v) steps c.address) (min (glue_at old c.address) (length (left_at old (attached v) steps c.address) - 1)) Derive d
+  pub dropped : DroppedOnce middle new c.address
+  pub attached_now : attached w ≡ without (attached v) c.address ++ d ∷ []
+
+-- one is left: its line was written, and then the clause was dropped
+pub record BecameUnit (old new : PortState) (v w : WatchData) (steps : List Step) (c : Cref) (l : Literal) : Type 0 where
+  pub left : left_at old (attached v) steps c.address ≡ l ∷ []
+  pub middle : PortState
+  pub wrote : WroteUnit old middle l UnitLine old.last
+  pub dropped : DroppedOnce middle new c.address
+  pub attached_now : attached w ≡ without (attached v) c.address
+
+-- what it came to; something is always left
+abbrev pub IsVivified : PortState → PortState → WatchData → WatchData → List Step → Cref → Vivified → Type 0
+IsVivified old new v w steps c Kept = WasKept old new v w steps c
+IsVivified old new v w steps c (Shorter d) = WasShortened old new v w steps c d
+IsVivified old new v w steps c (Unit l) = BecameUnit old new v w steps c l
+IsVivified old new v w steps c Empty = ⊥

@@ -8,3 +8,7 @@ pub mod Begin
 pub mod Neighbours
 pub mod Noting
 pub mod TableLemmas
+pub mod Known
+pub mod Stopping
+pub mod Filters
+pub mod Long

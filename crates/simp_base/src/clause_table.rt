@@ -3,7 +3,7 @@
 // A table gives each number its place. The last clause takes the place of one that is removed, so that all is done in
 // constant time but for the notes of the literals. What the tables have of numbers that are not alive is not cleared: it
 // is passed over where it is read.
-ghost use Rattle.std.specs.Prelude.{◌≡◌, ◌<◌, ◌≤◌, ◌+◌, ◌*◌, ℕ, List, [], ◌∷◌, ◌++◌, ◌||◌, true, false, length, All, Contains, IfOk, IfSome, IfNone, OnOk, vec_len};
+ghost use Rattle.std.specs.Prelude.{◌≡◌, ◌<◌, ◌≤◌, ◌+◌, ◌*◌, ◌^◌, ℕ, List, [], ◌∷◌, ◌++◌, ◌||◌, true, false, length, All, Contains, IfOk, IfSome, IfNone, OnOk, vec_len};
 ghost use Rattle.std.specs.List.{list_any, slice_index_or};
 ghost use Rattle.sat_words.specs.Literal.{Literal, code_of};
 ghost use Rattle.sat_words.specs.Clause.{has, two_or_more};
@@ -141,6 +141,22 @@ impl ClauseTable {
     {
         let found = Vec::from_slice(self.alloc, self.occurrences.of(lit))?;
         Ok(found)
+    }
+
+    /// The numbers that were noted for the literal.
+    pub(crate) fn occurrences(&self, lit: Lit) -> &[u64]
+        requires { code_of lit < self.now.codes }
+        ensures every { (n : ℕ) (c : List Literal) → Contains self.now.clauses (n, c) → has c lit ≡ true → Contains result.now n }
+    {
+        self.occurrences.of(lit)
+    }
+
+    /// The number of the next clause.
+    pub(crate) fn next_number(&self) -> u64
+        ensures value { result ≡ self.now.next }
+        ensures low { result < 2 ^ 64 }
+    {
+        self.places.len() as u64
     }
 
     /// Makes ready for one more clause, of these literals, under the next number.

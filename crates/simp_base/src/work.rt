@@ -2,7 +2,7 @@
 //
 // Each call that changes a work says which entries the journal has gained. Whatever journal stood behind the work before,
 // with these entries it stands behind the work afterwards, each of its lines valid where it stands.
-ghost use Rattle.std.specs.Prelude.{◌≡◌, ◌≤◌, ◌+◌, ◌^◌, ℕ, List, ◌++◌, [], ◌∷◌, true, false, OnOk, OnErr, IfOk, IfErr, IfSome, IfNone, All, Contains, length};
+ghost use Rattle.std.specs.Prelude.{◌≡◌, ◌<◌, ◌≤◌, ◌+◌, ◌^◌, ℕ, List, ◌++◌, [], ◌∷◌, true, false, OnOk, OnErr, IfOk, IfErr, IfSome, IfNone, All, Contains, length};
 ghost use Rattle.sat_words.specs.Literal.{Literal, IsOn};
 ghost use Rattle.sat_words.specs.Clause.{has, has_opposites, two_or_more};
 ghost use Rattle.sat_words.specs.declared.line.Line.TheVariants.{Del as DelLine};
@@ -168,6 +168,24 @@ impl<L: LineOut> Work<L> {
             Ok(found) => Ok(found),
             Err(_) => Err(LineStop::Memory),
         }
+    }
+
+    /// The numbers noted for the literal, in the order in which the clauses came: those of the clauses alive that hold it,
+    /// and perhaps some of clauses that are not alive. It takes no memory.
+    pub fn occurrences(&self, lit: Lit) -> &[u64]
+        requires on { IsOn self.now.vars lit }
+        ensures every { (n : ℕ) (c : List Literal) → Contains self.now.clauses (n, c) → has c lit ≡ true → Contains result.now n }
+    {
+        self.clauses.occurrences(lit)
+    }
+
+    /// The last number given to a clause, 0 before the first. No clause alive has a higher one.
+    pub fn last_number(&self) -> u64
+        ensures last { result ≡ self.now.output.last }
+        ensures low { result + 1 < 2 ^ 64 }
+        ensures work { IsWork self.now }
+    {
+        self.clauses.next_number() - 1
     }
 
     /// Whether a literal of this variable is a unit: listed, or alive as a clause.

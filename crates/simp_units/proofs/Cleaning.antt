@@ -1,17 +1,13 @@
 -- Clauses that are deleted or made shorter once the units are propagated.
-use Rattle.std.proofs.Common.{◌≡◌, ◌≢◌, ◌⊎◌, ℕ, suc, ◌+◌, ◌<◌, ◌≤◌, ◌||◌, ◌&&◌, ◌==◌, ne_eqb, Bool, true, false, not, cond, List, [], ◌∷◌, length, filter, get_or, refl, sym, ap, subst, ◌∙◌, inl, inr, ⊎_elim, Option, Contains, arith, append-nil}
-use Rattle.std.specs.List.{list_any, list_all, All}
+use Rattle.std.proofs.Common.{◌≡◌, ◌≢◌, ◌⊎◌, ℕ, suc, ◌+◌, ◌≤◌, ◌||◌, ◌==◌, Bool, true, false, not, cond, List, [], ◌∷◌, length, filter, get_or, refl, sym, ap, subst, ◌∙◌, inl, inr, ⊎_elim, Option, Contains, arith, append-nil}
+use Rattle.std.specs.List.{list_any, All}
 use Rattle.std.proofs.lemmas.Bool.{or_right, and_from, cases_Bool, true≢false, false≢true}
 use Rattle.std.proofs.lemmas.Bool.Decides.{nat_tests}
 use Rattle.std.proofs.lemmas.List.{map-append}
 use Rattle.std.specs.Prelude.{Result, Ok, Err}
-use Rattle.std.specs.Ordering.{nat_cmp}
-use Rattle.std.specs.declared.cmp.Ordering.TheVariants.{Less}
-use Rattle.std.specs.List.Sorted.{IsStrictlySortedBy}
-use Rattle.sat_words.specs.Literal.{Literal, IsOn, opposite, same, code_of}
-use Rattle.sat_words.specs.declared.line.Line.{Line}
+use Rattle.sat_words.specs.Literal.{Literal, IsOn, opposite, same}
 use Rattle.sat_words.specs.declared.line.Line.TheVariants.{Del as DelLine}
-use Rattle.sat_words.specs.Clause.{has, InOrder, includes, has_opposites, two_or_more, clause_of, is_empty}
+use Rattle.sat_words.specs.Clause.{has, includes, has_opposites, clause_of, is_empty}
 use Rattle.sat_words.proofs.Insertion.{has-clause_of}
 use Rattle.sat_words.specs.Values.{is_true, is_value, value_of}
 use Rattle.rup_model.specs.Rounds.{falsifies}
@@ -24,41 +20,23 @@ use Rattle.drat_text.specs.LineState.{LineState}
 use Rattle.drat_text.specs.declared.stop.LineStop.{LineStop}
 use Rattle.drat_text.specs.declared.stop.LineStop.TheVariants.{ProofFault, Full, Memory}
 use Rattle.simp_base.specs.WorkState.{WorkState, IsWork, known, lists, unit_clauses}
-use Rattle.simp_base.specs.Calls.{NotPut, Added, Deleted, WasDeleted}
+use Rattle.simp_base.specs.Calls.{Added, Deleted, WasDeleted}
 use Rattle.simp_base.specs.Lifted.{Lifted}
 use Rattle.simp_base.specs.Log.{KeepsLog}
 use Rattle.simp_base.proofs.Weaken.{weaker, lifted_deleted}
+use Rattle.simp_base.specs.Causes.{HasCause}
+use Rattle.simp_base.proofs.Stopping.{not_put_cause}
+use Rattle.simp_base.proofs.Filters.{In_filter, filter_In}
 use Rattle.simp_base.proofs.LiftSteps.{lifted_along, lifted_self, logs_along}
 use Rattle.simp_base.proofs.Lists.{All_In, Contains_left, Contains_last, Contains_apart}
 use Rattle.simp_base.proofs.Removal.{same_number}
-use Rattle.simp_units.specs.Ends.{is_fixed, IsFree, HasCause}
+use Rattle.simp_units.specs.Ends.{is_fixed, IsFree}
 use Rattle.simp_units.specs.Progress.{IsSet}
 use Rattle.simp_units.specs.Tidied.{left_of, IsUntouched, IsWhole, IsPart, IsLeft, IsLeftAt, Tidied, WasTidied}
 use Rattle.simp_units.specs.declared.clean.Left.{Left}
 use Rattle.simp_units.specs.declared.clean.Left.TheVariants.{Whole, Nothing, Part}
 use Rattle.simp_units.proofs.Forcing.{shortened_follows}
-use Rattle.simp_units.proofs.Steps.{first_or_rest, known_alive, unit_among, on_alive, nothing_logged}
-
--- Filters
-
-pub In_filter : {X : Type 0} (p : X → Bool) (xs : List X) (x : X) → In x xs → p x ≡ true → In x (filter p xs)
-In_filter p [] x i h = absurd i
-In_filter {X} p (y ∷ ys) x i h = by (p y) refl i (λ j. In_filter p ys x j h)
-  where
-    by : (b : Bool) → p y ≡ b → In x (y ∷ ys) → (In x ys → In x (filter p ys)) → In x (cond b (y ∷ filter p ys) (filter p ys))
-    by true e (inl q) r = inl q
-    by true e (inr j) r = inr (r j)
-    by false e (inl q) r = absurd (true≢false (sym h ∙ sym (ap p q) ∙ e))
-    by false e (inr j) r = r j
-
-pub filter_In : {X : Type 0} (p : X → Bool) (xs : List X) (x : X) → In x (filter p xs) → In x xs × (p x ≡ true)
-filter_In p [] x i = absurd i
-filter_In {X} p (y ∷ ys) x i = by (p y) refl i (λ j. filter_In p ys x j)
-  where
-    by : (b : Bool) → p y ≡ b → In x (cond b (y ∷ filter p ys) (filter p ys)) → (In x (filter p ys) → In x ys × (p x ≡ true)) → In x (y ∷ ys) × (p x ≡ true)
-    by true e (inl q) r = (inl q, sym (ap p q) ∙ e)
-    by true e (inr j) r = let t = r j in (inr t.0, t.1)
-    by false e j r = let t = r j in (inr t.0, t.1)
+use Rattle.simp_base.proofs.Known.{first_or_rest, known_alive, unit_among, on_alive, nothing_logged}
 
 not_true : (b : Bool) → not b ≡ true → b ≡ false
 not_true true h = absurd (false≢true h)
@@ -254,24 +232,6 @@ tidied_start w a numbers s settled every = record {
 
 -- What is left
 
-is_below : (a b : ℕ) → nat_cmp a b ≡ Less → a < b
-is_below a b e = grind (arith, nat_tests)
-
--- a clause in order of two literals or more has two that differ
-pub two_if_long : (c : List Literal) → InOrder c → 2 ≤ length c → two_or_more c ≡ true
-unfolding IsStrictlySortedBy
-two_if_long [] o le = absurd (omega arith)
-two_if_long (l ∷ []) o le = absurd (omega arith)
-two_if_long (l ∷ k ∷ c) o le =
-    let lt : code_of l < code_of k = is_below (code_of l) (code_of k) o.0.0 in
-    let ne : same l k ≡ false = ne_eqb (code_of l) (code_of k) (λ e. omega arith) in
-    ap (λ b. not (b && list_all (same l) c)) ne
-
-pub not_two_if_short : (c : List Literal) → length c < 2 → two_or_more c ≡ false
-not_two_if_short [] lt = refl
-not_two_if_short (l ∷ []) lt = refl
-not_two_if_short (l ∷ k ∷ c) lt = absurd (omega arith)
-
 filter_le : {X : Type 0} (p : X → Bool) (xs : List X) → length (filter p xs) ≤ length xs
 filter_le p [] = omega arith
 filter_le {X} p (y ∷ ys) = by (p y) (filter_le p ys)
@@ -324,13 +284,6 @@ module _ (w : WorkState) (a : List (Option Bool)) (s : IsSet w a) (number : ℕ)
 
   pub part_untouched : list_any (is_true a) c ≡ false → (l : Literal) → has (left_of a c) l ≡ true → (is_true a l ≡ false) × (is_true a (opposite l) ≡ false)
   part_untouched none l h = (none_In (is_true a) c l none (part_inside l h), not_true (is_true a (opposite l)) (filter_In (λ k. not (is_true a (opposite k))) c l (has_In (left_of a c) l h)).1)
-
--- Why a call was refused
-
-not_put_cause : (old new : WorkState) (x : Line) (stop : LineStop) → NotPut old new x stop → HasCause old new stop
-not_put_cause old new x ProofFault h = h.put.rose
-not_put_cause old new x Full h = ap (λ (w : WorkState). w.output.entries) h.1 ∙ h.0
-not_put_cause old new x Memory h = tt
 
 -- a clause with a true literal was to be deleted
 pub tidied_nothing : (old new : WorkState) (a : List (Option Bool)) (number : ℕ) (c : List Literal) → IsSet old a → Contains old.clauses (number, c) → list_any (is_true a) c ≡ true → IsWork new → KeepsLog old new

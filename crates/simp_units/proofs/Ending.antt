@@ -4,21 +4,21 @@ use Rattle.std.specs.Prelude.{Result, Ok, Err}
 use Rattle.sat_words.specs.Literal.{Literal}
 use Rattle.sat_words.specs.Clause.{has}
 use Rattle.rup_model.proofs.Lists.{In, In_all, In_has, has_In, In_append, map_In, In_Contains}
-use Rattle.io_edge.specs.Causes.{Rose}
 use Rattle.drat_text.specs.declared.stop.LineStop.{LineStop}
-use Rattle.drat_text.specs.declared.stop.LineStop.TheVariants.{ProofFault, Full, Memory}
 use Rattle.simp_base.specs.WorkState.{WorkState, known, lists, unit_clauses}
 use Rattle.simp_base.specs.Lifted.{Lifted}
 use Rattle.simp_base.specs.Log.{KeepsLog}
 use Rattle.simp_base.specs.declared.work.Run.{Run}
 use Rattle.simp_base.specs.declared.work.Run.TheVariants.{Done, Refuted}
+use Rattle.simp_base.specs.Causes.{HasCause}
+use Rattle.simp_base.proofs.Stopping.{cause_after}
 use Rattle.simp_base.proofs.Weaken.{weaker}
 use Rattle.simp_base.proofs.LiftSteps.{lifted_along, logs_along}
 use Rattle.simp_base.proofs.Lists.{In_All}
-use Rattle.simp_units.specs.Ends.{IsFree, HasCause, Cleaned, Ends, EndsRefuted}
+use Rattle.simp_units.specs.Ends.{IsFree, Cleaned, Ends, EndsRefuted}
 use Rattle.simp_units.specs.Progress.{Progress, Propagated, Falsified}
 use Rattle.simp_units.specs.Tidied.{Tidied, WasCleaned}
-use Rattle.simp_units.proofs.Steps.{known_alive, unit_among}
+use Rattle.simp_base.proofs.Known.{known_alive, unit_among}
 
 -- propagation needs no fix
 lifted_progress : (old new : WorkState) (a : List (Option Bool)) → Progress old new a → Lifted old new
@@ -48,11 +48,6 @@ cleaned_from old mid new a p t = record {
         (λ (f : IsFree new.units k.0.1). subst (IsFree new.units) k.2 f)
         (λ (m : Contains [] k.0.0). (let z = m.1 in absurd (omega arith)))
         (t.free k.0.0 k.0.1 (In_Contains new.clauses k.0 k.1))
-
-pub cause_after : (old mid new : WorkState) (stop : LineStop) → mid.output.faults ≡ old.output.faults → HasCause mid new stop → HasCause old new stop
-cause_after old mid new ProofFault same h = subst (λ n. Rose n new.output.faults) same h
-cause_after old mid new Full same h = h
-cause_after old mid new Memory same h = tt
 
 -- after propagation: all was cleaned
 pub ends_done : (old mid new : WorkState) (a : List (Option Bool)) → Propagated old mid a → WasCleaned mid new a (Ok tt) → Ends old new (Ok Done) × KeepsLog old new

@@ -18,13 +18,14 @@ use Rattle.drat_text.specs.declared.stop.LineStop.TheVariants.{ProofFault, Full,
 use Rattle.simp_base.specs.WorkState.{WorkState, known, lists, unit_clauses}
 use Rattle.simp_base.specs.Log.{KeepsLog}
 use Rattle.simp_base.proofs.LiftSteps.{logs_along}
-use Rattle.simp_units.specs.Ends.{HasCause}
+use Rattle.simp_base.specs.Causes.{HasCause}
 use Rattle.simp_units.specs.Progress.{IsSet, IsUnitsClause, Progress, waits, IsKnown, Ready, Passed, Stuck, Spread, WasSpread, Falsified, WasPropagated}
 use Rattle.simp_units.specs.Progress.IsKnown.{settled, waiting, coming}
 use Rattle.simp_units.specs.declared.propagate.Ended.{Ended}
 use Rattle.simp_units.specs.declared.propagate.Ended.TheVariants.{Conflict, Quiet}
 use Rattle.simp_units.proofs.Forcing.{settled_true}
-use Rattle.simp_units.proofs.Steps.{nothing_logged, settled_came}
+use Rattle.simp_base.proofs.Known.{nothing_logged}
+use Rattle.simp_units.proofs.Steps.{settled_came}
 
 nothing_comes : (n : ℕ) → Contains [] n → ⊥
 nothing_comes n h = let z = h.1 in omega arith

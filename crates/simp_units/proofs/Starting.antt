@@ -15,7 +15,7 @@ use Rattle.rup_model.proofs.AssignedLemmas.{is_true-set, is_true-set_stays, is_t
 use Rattle.simp_base.specs.WorkState.{WorkState, known}
 use Rattle.simp_units.specs.Begun.{Oppose}
 use Rattle.simp_units.specs.Progress.{Progress}
-use Rattle.simp_units.proofs.Steps.{unit_among}
+use Rattle.simp_base.proofs.Known.{unit_among}
 
 -- a unit clause gives its literal in the first round
 Rounds-unit : (G : List (List Literal)) (l : Literal) → In (l ∷ []) G → conflicts G [] ≡ false → Rounds G [] l ≡ true

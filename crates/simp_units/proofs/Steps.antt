@@ -1,6 +1,6 @@
 -- One step of propagation.
-use Rattle.std.proofs.Common.{◌≡◌, ◌⊎◌, ℕ, ◌+◌, ◌<◌, ◌≤◌, ◌||◌, Bool, true, false, not, List, [], ◌∷◌, ◌++◌, length, set, drop, refl, sym, ap, ◌∙◌, subst, inl, inr, ⊎_elim, arith, Option, Some, Contains, length-append, length-set, append-nil}
-use Rattle.std.specs.List.{list_any, list_all, All}
+use Rattle.std.proofs.Common.{◌≡◌, ℕ, ◌+◌, ◌<◌, ◌≤◌, ◌||◌, Bool, true, false, not, List, [], ◌∷◌, ◌++◌, length, set, drop, refl, sym, ap, ◌∙◌, subst, inl, inr, ⊎_elim, arith, Option, Some, Contains, length-append, length-set}
+use Rattle.std.specs.List.{list_any, list_all}
 use Rattle.std.specs.Prelude.{Ok}
 use Rattle.std.proofs.lemmas.List.{drop-append-le}
 use Rattle.std.proofs.lemmas.Bool.{or_left, or_right, or_cases, and_parts, cases_Bool, true≢false, false≢true}
@@ -12,83 +12,25 @@ use Rattle.sat_words.specs.Values.{is_true}
 use Rattle.rup_model.specs.Rounds.{falsifies}
 use Rattle.rup_model.specs.Rup.{rup}
 use Rattle.rup_model.specs.Status.{IsSettled}
-use Rattle.rup_model.proofs.Lists.{In, In_has, has_In, In_map, In_append, In_append_left, In_append_right, Contains_In, In_Contains}
+use Rattle.rup_model.proofs.Lists.{In, In_has, has_In, In_append, In_append_left, In_append_right, Contains_In, In_Contains}
 use Rattle.rup_model.proofs.RoundsLemmas.{forces-parts}
 use Rattle.rup_model.proofs.Covers.{both_true}
 use Rattle.rup_model.proofs.Reaches.{Reaches, Reaches-set, Reaches-conflict}
 use Rattle.rup_model.proofs.AssignedLemmas.{is_true-set, is_true-opposite}
 use Rattle.io_edge.specs.Causes.{Rose}
-use Rattle.drat_text.specs.LineState.{LineState}
 use Rattle.drat_text.specs.declared.stop.LineStop.{LineStop}
 use Rattle.drat_text.specs.declared.stop.LineStop.TheVariants.{ProofFault, Full, Memory}
-use Rattle.simp_base.specs.WorkState.{WorkState, IsWork, known, lists, unit_clauses, is_alive_unit}
-use Rattle.simp_base.specs.Calls.{IsListed}
-use Rattle.simp_base.specs.Log.{KeepsLog, Stands}
+use Rattle.simp_base.specs.WorkState.{WorkState, IsWork, known, is_alive_unit}
+use Rattle.simp_base.specs.Log.{KeepsLog}
+use Rattle.simp_base.proofs.Known.{known_alive, unit_among, on_alive, nothing_logged, first_or_rest, Grew, grew}
 use Rattle.simp_base.proofs.LiftSteps.{logs_along}
-use Rattle.simp_base.proofs.Lists.{All_In, Contains_left}
+use Rattle.simp_base.proofs.Lists.{Contains_left}
 use Rattle.simp_base.proofs.Removal.{same_number}
-use Rattle.simp_units.specs.Ends.{HasCause}
+use Rattle.simp_base.specs.Causes.{HasCause}
 use Rattle.simp_units.specs.Progress.{IsSet, IsUnitsClause, Progress, waits, IsKnown, Ready, ForcedStep, IdleStep, Passed, Stuck, WasLookedAt}
 use Rattle.simp_units.specs.Progress.IsKnown.{settled, waiting, coming}
 use Rattle.simp_units.specs.declared.propagate.Ended.TheVariants.{Conflict, Quiet}
 use Rattle.simp_units.proofs.Forcing.{keeps, itself, settled_kept, settled_by, falsified_follows}
-
--- What is known
-
-pub known_alive : (w : WorkState) (n : ℕ) (c : List Literal) → Contains w.clauses (n, c) → In c (known w)
-known_alive w n c h = In_append_left (lists w.clauses) (unit_clauses w.units) c (In_map (λ (x : ℕ × List Literal). x.1) w.clauses (n, c) (Contains_In w.clauses (n, c) h))
-
-pub unit_among : (w : WorkState) (u : Literal) → In u w.units → In (u ∷ []) (known w)
-unit_among w u i = In_append_right (lists w.clauses) (unit_clauses w.units) (u ∷ []) (In_map (λ l. l ∷ []) w.units u i)
-
-pub on_alive : (w : WorkState) → IsWork w → (n : ℕ) (c : List Literal) → Contains w.clauses (n, c) → (k : Literal) → In k c → IsOn w.vars k
-on_alive w kept n c h k i =
-    All_In (IsOn w.vars) c k (All_In (All (IsOn w.vars)) (lists w.clauses) c kept.clauses_on (In_map (λ (x : ℕ × List Literal). x.1) w.clauses (n, c) (Contains_In w.clauses (n, c) h))) i
-
--- What listing a new unit does
-
-pub record Grew (old new : WorkState) (k : Literal) : Type 0 where
-  pub units : new.units ≡ old.units ++ k ∷ []
-  pub extra : List (ℕ × List Literal)
-  pub alone : (x : ℕ × List Literal) → In x extra → x.1 ≡ k ∷ []
-  pub clauses : new.clauses ≡ old.clauses ++ extra
-  pub vars : new.vars ≡ old.vars
-  pub stack : new.stack ≡ old.stack
-  pub ended : new.ended ≡ old.ended
-  pub spent : new.output.spent ≡ old.output.spent
-  pub faults : new.output.faults ≡ old.output.faults
-
-grew : (old new : WorkState) (k : Literal) (b alive : Bool) → b ≡ false → IsListed b alive old new k → Grew old new k
-grew old new k true alive e h = absurd (true≢false e)
-grew old new k false true e h = record {
-  units = ap (λ (w : WorkState). w.units) h;
-  extra = [];
-  alone = λ x i. absurd i;
-  clauses = ap (λ (w : WorkState). w.clauses) h ∙ sym (append-nil old.clauses);
-  vars = ap (λ (w : WorkState). w.vars) h;
-  stack = ap (λ (w : WorkState). w.stack) h;
-  ended = ap (λ (w : WorkState). w.ended) h;
-  spent = ap (λ (w : WorkState). w.output.spent) h;
-  faults = ap (λ (w : WorkState). w.output.faults) h;
-}
-grew old new k false false e h = record {
-  units = ap (λ (w : WorkState). w.units) h.state;
-  extra = (h.number, k ∷ []) ∷ [];
-  alone = one;
-  clauses = ap (λ (w : WorkState). w.clauses) h.state;
-  vars = ap (λ (w : WorkState). w.vars) h.state;
-  stack = ap (λ (w : WorkState). w.stack) h.state;
-  ended = ap (λ (w : WorkState). w.ended) h.state;
-  spent = ap (λ (s : LineState). s.spent) h.put.state;
-  faults = ap (λ (s : LineState). s.faults) h.put.state;
-}
-  where
-    one : (x : ℕ × List Literal) → In x ((h.number, k ∷ []) ∷ []) → x.1 ≡ k ∷ []
-    one x (inl q) = sym (ap (λ (y : ℕ × List Literal). y.1) q)
-    one x (inr i) = absurd i
-
-pub first_or_rest : (q : ℕ) (rest : List ℕ) (p : ℕ) → Contains (q ∷ rest) p → (q ≡ p) ⊎ Contains rest p
-first_or_rest q rest p h = elim (Contains_In (q ∷ rest) p h) as (λ _. (q ≡ p) ⊎ Contains rest p) [ inl e ↦ inl e | inr i ↦ inr (In_Contains rest p i) ]
 
 -- a clause that came for a unit is settled
 pub settled_came : (w : WorkState) (a : List (Option Bool)) → IsSet w a → (c : List Literal) (u : IsUnitsClause w.units c) → (is_true a u.lit ≡ true) × (has c u.lit ≡ true)
@@ -209,9 +151,6 @@ module _ (old new : WorkState) (a b : List (Option Bool)) (number : ℕ) (s : Is
       ]
 
 -- What one look keeps
-
-pub nothing_logged : (w : WorkState) → KeepsLog w w
-nothing_logged w = ([], λ o mine h. subst (λ es. Stands o es w) (sym (append-nil mine)) h)
 
 pub passed_none : (old : WorkState) (a : List (Option Bool)) → IsSet old a → (numbers : List ℕ) → Passed old a old a numbers numbers
 passed_none old a s numbers = record {

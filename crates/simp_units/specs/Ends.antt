@@ -1,14 +1,12 @@
 -- What propagating the units leaves.
-use Rattle.std.specs.Prelude.{◌≡◌, ℕ, ◌==◌, Bool, true, false, List, [], All, Result, Ok, Err, ⊤}
+use Rattle.std.specs.Prelude.{◌≡◌, ℕ, ◌==◌, Bool, true, false, List, [], All, Result, Ok, Err}
 use Rattle.std.specs.List.{list_any}
 use Rattle.sat_words.specs.Literal.{Literal}
 use Rattle.sat_words.specs.Clause.{has, has_opposites, two_or_more}
 use Rattle.rup_model.specs.Rounds.{Rounds}
 use Rattle.rup_model.specs.Rup.{conflicts}
-use Rattle.io_edge.specs.Causes.{Rose}
-use Rattle.sat_words.specs.declared.shared.TheConstants.{MAX_ENTRIES}
+use Rattle.simp_base.specs.Causes.{HasCause}
 use Rattle.drat_text.specs.declared.stop.LineStop.{LineStop}
-use Rattle.drat_text.specs.declared.stop.LineStop.TheVariants.{ProofFault, Full, Memory}
 use Rattle.simp_base.specs.WorkState.{WorkState, lists, known}
 use Rattle.simp_base.specs.Lifted.{Lifted}
 use Rattle.simp_base.specs.declared.work.Run.{Run}
@@ -35,12 +33,6 @@ pub record Cleaned (old new : WorkState) : Type 0 where
 pub record Conflicted (old new : WorkState) : Type 0 where
   pub falsified : conflicts (known old) [] ≡ true
   pub ended : new.ended ≡ true
-
--- why the run was stopped
-abbrev pub HasCause : WorkState → WorkState → LineStop → Type 0
-HasCause old new ProofFault = Rose old.output.faults new.output.faults
-HasCause old new Full = new.output.entries ≡ MAX_ENTRIES
-HasCause old new Memory = ⊤
 
 -- how a run ends
 abbrev pub Ends : WorkState → WorkState → Result Run LineStop → Type 0

@@ -12,7 +12,7 @@ use Rattle.drat_text.specs.declared.stop.LineStop.{LineStop}
 use Rattle.simp_base.specs.WorkState.{WorkState, IsWork, known, is_alive_unit}
 use Rattle.simp_base.specs.Log.{KeepsLog}
 use Rattle.simp_base.specs.Calls.{IsListed}
-use Rattle.simp_units.specs.Ends.{HasCause}
+use Rattle.simp_base.specs.Causes.{HasCause}
 use Rattle.simp_units.specs.Look.{IsFalsifiedAt, IsForcedAt, IsSettledAt}
 use Rattle.simp_units.specs.declared.propagate.Ended.{Ended}
 use Rattle.simp_units.specs.declared.propagate.Ended.TheVariants.{Conflict, Quiet}

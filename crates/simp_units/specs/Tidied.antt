@@ -9,7 +9,8 @@ use Rattle.drat_text.specs.declared.stop.LineStop.{LineStop}
 use Rattle.simp_base.specs.WorkState.{WorkState}
 use Rattle.simp_base.specs.Lifted.{Lifted}
 use Rattle.simp_base.specs.Log.{KeepsLog}
-use Rattle.simp_units.specs.Ends.{IsFree, HasCause}
+use Rattle.simp_base.specs.Causes.{HasCause}
+use Rattle.simp_units.specs.Ends.{IsFree}
 use Rattle.simp_units.specs.Progress.{IsSet}
 use Rattle.simp_units.specs.declared.clean.Left.{Left}
 use Rattle.simp_units.specs.declared.clean.Left.TheVariants.{Whole, Nothing, Part}

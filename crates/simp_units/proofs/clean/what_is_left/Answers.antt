@@ -3,7 +3,8 @@ use Rattle.std.specs.List.{list_any}
 use Rattle.sat_words.specs.Literal.{Literal}
 use Rattle.sat_words.specs.Values.{is_true}
 use Rattle.simp_units.specs.Tidied.{left_of}
-use Rattle.simp_units.proofs.Cleaning.{two_if_long, whole_if_all}
+use Rattle.simp_base.proofs.Long.{two_if_long}
+use Rattle.simp_units.proofs.Cleaning.{whole_if_all}
 use Rattle.simp_units.proofs.clean.what_is_left.Goals as goal
 
 pub returns-then-has_true : goal.returns-then-has_true

@@ -3,7 +3,7 @@ use Rattle.sat_words.specs.Literal.{Literal}
 use Rattle.sat_words.specs.Clause.{has}
 use Rattle.simp_base.specs.WorkState.{known}
 use Rattle.simp_units.specs.Begun.{Oppose, AreTrue, WasLoaded}
-use Rattle.simp_units.proofs.Steps.{nothing_logged}
+use Rattle.simp_base.proofs.Known.{nothing_logged}
 use Rattle.simp_units.proofs.Starting.{progress_begun, opposed_conflicts, empty_from_conflict}
 use Rattle.simp_units.proofs.passes.begin.Goals as goal
 

@@ -5,7 +5,7 @@ use Rattle.rup_model.proofs.RoundsLemmas.{forces-parts}
 use Rattle.sat_words.specs.Values.{is_true}
 use Rattle.simp_base.specs.WorkState.{known}
 use Rattle.simp_units.proofs.Forcing.{forced_follows}
-use Rattle.simp_units.proofs.Steps.{known_alive, unit_among, on_alive}
+use Rattle.simp_base.proofs.Known.{known_alive, unit_among, on_alive}
 use Rattle.simp_units.proofs.propagate.look_at.Goals as goal
 
 pub unit-requires-clause-rup : goal.unit-requires-clause-rup

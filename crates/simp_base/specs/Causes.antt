@@ -1,7 +1,7 @@
 -- Why a run over a work was stopped.
 use Rattle.std.specs.Prelude.{◌≡◌, ⊤}
 use Rattle.io_edge.specs.Causes.{Rose}
-use Rattle.drat_text.specs.declared.stop.TheConstants.{MAX_ENTRIES}
+use Rattle.sat_words.specs.declared.shared.TheConstants.{MAX_ENTRIES}
 use Rattle.drat_text.specs.declared.stop.LineStop.{LineStop}
 use Rattle.drat_text.specs.declared.stop.LineStop.TheVariants.{ProofFault, Full, Memory}
 use Rattle.simp_base.specs.WorkState.{WorkState}

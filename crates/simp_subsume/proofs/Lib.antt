@@ -1,0 +1,6 @@
+pub mod Relating
+pub mod Walking
+pub mod Reducing
+pub mod Growing
+pub mod Replacing
+pub mod Ending

@@ -1,0 +1,39 @@
+-- What subsumption leaves.
+use Rattle.std.specs.Prelude.{◌≡◌, ◌≢◌, ℕ, true, false, List, Contains, Result, Ok, Err}
+use Rattle.sat_words.specs.Literal.{Literal}
+use Rattle.sat_words.specs.Clause.{includes}
+use Rattle.drat_text.specs.declared.stop.LineStop.{LineStop}
+use Rattle.simp_base.specs.WorkState.{WorkState, known}
+use Rattle.simp_base.specs.Causes.{HasCause}
+use Rattle.simp_base.specs.Lifted.{Lifted}
+use Rattle.simp_base.specs.declared.work.Run.{Run}
+use Rattle.simp_base.specs.declared.work.Run.TheVariants.{Done, Refuted}
+use Rattle.simp_subsume.specs.Related.{takes_part, IsUnrelated}
+
+-- of two clauses that take part none is contained in the other, neither as it is nor with one literal negated
+abbrev pub IsReduced : List (ℕ × List Literal) → Type 0
+IsReduced cs = (m n : ℕ) (c d : List Literal) → Contains cs (m, c) → Contains cs (n, d) → m ≢ n → takes_part c ≡ true → takes_part d ≡ true → IsUnrelated c d
+
+-- each of the first clauses contains one of the second
+abbrev pub EachContains : List (List Literal) → List (List Literal) → Type 0
+EachContains F G = (c : List Literal) → Contains F c → (d : List Literal) × Contains G d × (includes c d ≡ true)
+
+-- each of the second clauses is contained in one of the first
+abbrev pub EachContained : List (List Literal) → List (List Literal) → Type 0
+EachContained F G = (d : List Literal) → Contains G d → (c : List Literal) × Contains F c × (includes c d ≡ true)
+
+-- no clause is contained in another one; what was known contains something that is known, and what is known is a part of
+-- something that was; nothing came to the stack, and models lift
+pub record Subsumed (old new : WorkState) : Type 0 where
+  pub reduced : IsReduced new.clauses
+  pub covered : EachContains (known old) (known new)
+  pub parts : EachContained (known old) (known new)
+  pub stack : new.stack ≡ old.stack
+  pub lifted : Lifted old new
+  pub going : new.ended ≡ false
+
+-- how a run ends: it refutes nothing
+abbrev pub Ends : WorkState → WorkState → Result Run LineStop → Type 0
+Ends old new (Ok Done) = Subsumed old new
+Ends old new (Ok Refuted) = ⊥
+Ends old new (Err stop) = HasCause old new stop

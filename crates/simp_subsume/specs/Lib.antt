@@ -1,0 +1,4 @@
+pub mod Related
+pub mod Ends
+pub mod Walked
+pub mod Compared

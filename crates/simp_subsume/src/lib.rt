@@ -1,0 +1,13 @@
+//! Subsumption and self-subsuming resolution: clauses that contain another one are deleted, and clauses of which another
+//! one is contained but for one negated literal are made shorter by it.
+#![tactic(auto)]
+
+mod compare;
+mod part;
+mod passes;
+mod relation;
+
+pub use passes::run;
+
+#[cfg(test)]
+mod tests;

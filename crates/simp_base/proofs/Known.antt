@@ -1,5 +1,5 @@
 -- What is known of a work.
-use Rattle.std.proofs.Common.{◌≡◌, ◌⊎◌, ℕ, ◌<◌, arith, false, true, List, [], ◌∷◌, ◌++◌, sym, ap, ◌∙◌, subst, inl, inr, Bool, Contains, append-nil}
+use Rattle.std.proofs.Common.{◌≡◌, ◌⊎◌, ℕ, ◌<◌, ◌≤◌, arith, false, true, List, [], ◌∷◌, ◌++◌, sym, ap, ◌∙◌, subst, inl, inr, Bool, Contains, append-nil, ◌+◌}
 use Rattle.std.proofs.lemmas.Bool.{true≢false}
 use Rattle.sat_words.specs.Literal.{Literal, IsOn}
 use Rattle.rup_model.proofs.Lists.{In, In_map, In_append_left, In_append_right, Contains_In, In_Contains}
@@ -32,6 +32,7 @@ pub record Grew (old new : WorkState) (k : Literal) : Type 0 where
   pub units : new.units ≡ old.units ++ k ∷ []
   pub extra : List (ℕ × List Literal)
   pub alone : (x : ℕ × List Literal) → In x extra → x.1 ≡ k ∷ []
+  pub later : old.output.last ≤ new.output.last
   pub late : (x : ℕ × List Literal) → In x extra → old.output.last < x.0
   pub clauses : new.clauses ≡ old.clauses ++ extra
   pub vars : new.vars ≡ old.vars
@@ -46,6 +47,7 @@ grew old new k false true e h = record {
   units = ap (λ (w : WorkState). w.units) h;
   extra = [];
   alone = λ x i. absurd i;
+  later = (let e : new.output.last ≡ old.output.last = ap (λ (w : WorkState). w.output.last) h in omega arith);
   late = λ x i. absurd i;
   clauses = ap (λ (w : WorkState). w.clauses) h ∙ sym (append-nil old.clauses);
   vars = ap (λ (w : WorkState). w.vars) h;
@@ -58,6 +60,7 @@ grew old new k false false e h = record {
   units = ap (λ (w : WorkState). w.units) h.state;
   extra = (h.number, k ∷ []) ∷ [];
   alone = one;
+  later = (let e : new.output.last ≡ old.output.last + 1 = ap (λ (s : LineState). s.last) h.put.state in omega arith);
   late = after;
   clauses = ap (λ (w : WorkState). w.clauses) h.state;
   vars = ap (λ (w : WorkState). w.vars) h.state;

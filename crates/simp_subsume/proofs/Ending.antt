@@ -1,11 +1,10 @@
 -- How turns and runs end.
-use Rattle.std.proofs.Common.{◌≡◌, ◌≢◌, ◌⊎◌, ℕ, ◌+◌, ◌<◌, ◌≤◌, true, false, List, [], sym, subst, ◌∙◌, inl, inr, ⊎_elim, arith}
+use Rattle.std.proofs.Common.{◌≡◌, ◌≢◌, ◌⊎◌, ℕ, ◌+◌, ◌<◌, ◌≤◌, true, false, List, [], sym, subst, ◌∙◌, ⊎_elim, arith}
 use mathlib.Core.Logic.{dite}
 use native.Mathlib.Decide.{ℕ_discrete}
 use Rattle.std.specs.List.{Contains}
-use Rattle.std.proofs.lemmas.Bool.{cases_Bool, true≢false}
-use Rattle.sat_words.specs.Literal.{Literal, opposite}
-use Rattle.sat_words.specs.Clause.{has}
+use Rattle.std.proofs.lemmas.Bool.{true≢false}
+use Rattle.sat_words.specs.Literal.{Literal}
 use Rattle.rup_model.proofs.Lists.{Contains_In}
 use Rattle.drat_text.specs.declared.stop.LineStop.{LineStop}
 use Rattle.simp_base.specs.WorkState.{WorkState, IsWork}
@@ -18,25 +17,18 @@ use Rattle.simp_base.proofs.Stopping.{cause_after}
 use Rattle.simp_subsume.specs.Related.{takes_part, IsUnrelated}
 use Rattle.simp_subsume.specs.Ends.{Subsumed}
 use Rattle.simp_subsume.specs.Compared.{IsLoaded, IsReducedBelow, Comparing, Processed}
-use Rattle.simp_subsume.proofs.Relating.{unrelated_by_one}
 use Rattle.simp_subsume.proofs.Reducing.{reduces_self, reduces_along, lifted_reduced}
 
 -- One turn
 
--- what is not listed has no literal of the variable
-pub comparing_start : (w : WorkState) (n : ℕ) (c : List Literal) (l : Literal) (others : List ℕ) → w.ended ≡ false → w.output.spent ≡ false → IsWork w → IsReducedBelow w n → IsLoaded w n c → has c l ≡ true
-    → ((m : ℕ) (d : List Literal) → Contains w.clauses (m, d) → (has d l ≡ true) ⊎ (has d (opposite l) ≡ true) → Contains others m) → Comparing w w n c others
-comparing_start w n c l others going unspent kept before loaded there every = record {
+-- all are listed but those to which the clause is of no use
+pub comparing_start : (w : WorkState) (n : ℕ) (c : List Literal) (others : List ℕ) → w.ended ≡ false → w.output.spent ≡ false → IsWork w → IsReducedBelow w n → IsLoaded w n c
+    → ((m : ℕ) (d : List Literal) → Contains w.clauses (m, d) → IsUnrelated c d ⊎ Contains others m) → Comparing w w n c others
+comparing_start w n c others going unspent kept before loaded every = record {
   reduces = reduces_self w going unspent kept;
   alive = loaded.alive;
   before = before;
-  apart = λ m d i ne part. ⊎_elim
-      (λ (h : has d l ≡ true). inr (every m d i (inl h)))
-      (λ (no : has d l ≡ false). ⊎_elim
-      (λ (h : has d (opposite l) ≡ true). inr (every m d i (inr h)))
-      (λ (none : has d (opposite l) ≡ false). inl (unrelated_by_one c d l there no none))
-      (cases_Bool (has d (opposite l))))
-      (cases_Bool (has d l));
+  apart = λ m d i ne part. every m d i;
 }
 
 -- the clause was compared with all others

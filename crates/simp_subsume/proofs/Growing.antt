@@ -32,6 +32,7 @@ grown_added old new lits number unspent some h log =
       unspent = ap (λ (s : LineState). s.spent) h.put.state ∙ unspent;
       quiet = ap (λ (s : LineState). s.faults) h.put.state;
       stack = ap (λ (w : WorkState). w.stack) h.state;
+      later = (let e : new.output.last ≡ old.output.last + 1 = ap (λ (s : LineState). s.last) h.put.state in omega arith);
       stay = λ n c i. subst (λ (cs : List (ℕ × List Literal)). Contains cs (n, c)) (sym clauses) (Contains_left old.clauses ((number, clause_of lits) ∷ []) (n, c) i);
       came = λ n c i. ⊎_elim
           (λ (k : Contains old.clauses (n, c)). inl k)
@@ -52,6 +53,7 @@ grown_listed old new l going unspent true e h log = record {
   unspent = ap (λ (w : WorkState). w.output.spent) h ∙ unspent;
   quiet = ap (λ (w : WorkState). w.output.faults) h;
   stack = ap (λ (w : WorkState). w.stack) h;
+  later = (let e : new.output.last ≡ old.output.last = ap (λ (w : WorkState). w.output.last) h in omega arith);
   stay = λ n c i. subst (λ (w : WorkState). Contains w.clauses (n, c)) (sym h) i;
   came = λ n c i. inl (subst (λ (w : WorkState). Contains w.clauses (n, c)) h i);
   units_stay = λ k i. ap (λ (w : WorkState). has w.units k) h ∙ i;
@@ -66,6 +68,7 @@ grown_listed old new l going unspent false e h log =
       unspent = g.spent ∙ unspent;
       quiet = g.faults;
       stack = g.stack;
+      later = g.later;
       stay = λ n c i. subst (λ (cs : List (ℕ × List Literal)). Contains cs (n, c)) (sym g.clauses) (Contains_left old.clauses g.extra (n, c) i);
       came = λ n c i. ⊎_elim
           (λ (k : In {X = ℕ × List Literal} (n, c) old.clauses). inl (In_Contains old.clauses (n, c) k))

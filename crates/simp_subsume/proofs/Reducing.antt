@@ -1,5 +1,5 @@
 -- What is known gets shorter.
-use Rattle.std.proofs.Common.{◌≡◌, ◌≢◌, ℕ, ◌<◌, true, false, List, [], ◌∷◌, refl, sym, ap, subst, ◌∙◌, ⊎_elim, append-nil}
+use Rattle.std.proofs.Common.{◌≡◌, ◌≢◌, ℕ, ◌<◌, true, false, List, [], ◌∷◌, refl, sym, ap, subst, ◌∙◌, ⊎_elim, append-nil, arith, inl, inr}
 use mathlib.Core.Logic.{dite}
 use native.Mathlib.Decide.{ℕ_discrete}
 use Rattle.std.specs.List.{Contains}
@@ -50,6 +50,8 @@ reduces_self w going unspent kept = record {
   stack = refl;
   covered = λ c h. (c, h, includes_self c);
   parts = λ c h. (c, h, includes_self c);
+  later = omega arith;
+  numbered = λ n c i. inl i;
   log = nothing_logged w;
 }
 
@@ -62,6 +64,11 @@ reduces_along a b c f g = record {
   stack = g.stack ∙ f.stack;
   covered = λ x h. (let t = f.covered x h in let u = g.covered t.0 t.1 in (u.0, u.1, includes_along x t.0 u.0 t.2 u.2));
   parts = λ x h. (let t = g.parts x h in let u = f.parts t.0 t.1 in (u.0, u.1, includes_along u.0 t.0 x u.2 t.2));
+  later = (let p = f.later in let q = g.later in omega arith);
+  numbered = λ n x i. ⊎_elim
+      (λ (j : Contains b.clauses (n, x)). f.numbered n x j)
+      (λ (q : b.output.last < n). inr (let p = f.later in omega arith))
+      (g.numbered n x i);
   log = logs_along a b c f.log g.log;
 }
 
@@ -92,6 +99,8 @@ reduces_deleted old new going unspent was kept log number h e among inside = rec
       (λ n x i. (x, alive_known old n x ((h.others n x).0 i).0, includes_self x))
       (λ l i. (l ∷ [], unit_known old l (ap (λ us. has us l) (sym (ap (λ (w : WorkState). w.units) h.state)) ∙ i), includes_self (l ∷ [])))
       c (Contains_In (known new) c k);
+  later = (let e : new.output.last ≡ old.output.last = ap (λ (s : LineState). s.last) h.put.state in omega arith);
+  numbered = λ n x i. inl ((h.others n x).0 i).0;
   log = log;
 }
 
@@ -117,5 +126,10 @@ reduces_grown old new lits kept g number d alive inside = record {
       (λ (j : lits ≡ l ∷ []). (d, alive_known old number d alive, in_subsumes (l ∷ []) d (λ m h. inside m (ap (λ x. has x m) j ∙ h))))
       (g.units_came l i))
       c (Contains_In (known new) c k);
+  later = g.later;
+  numbered = λ n x i. ⊎_elim
+      (λ (j : Contains old.clauses (n, x)). inl j)
+      (λ (j : (old.output.last < n) × ((l : Literal) → has x l ≡ has lits l)). inr j.0)
+      (g.came n x i);
   log = g.log;
 }

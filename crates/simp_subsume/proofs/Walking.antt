@@ -1,10 +1,9 @@
 -- A walk through a clause that looks for the literals of another one.
-use Rattle.std.proofs.Common.{◌≡◌, ◌⊎◌, ℕ, zero, suc, ◌+◌, ◌*◌, ◌<◌, ◌≤◌, Bool, true, false, not, cond, List, [], ◌∷◌, length, take, drop, get_or, Option, None, Some, refl, sym, ap, subst, ◌∙◌, inl, inr, ⊎_elim, arith, add-one}
+use Rattle.std.proofs.Common.{◌≡◌, ◌⊎◌, ℕ, zero, suc, ◌+◌, ◌*◌, ◌<◌, ◌≤◌, Bool, true, false, not, cond, List, [], ◌∷◌, length, take, drop, get_or, Option, None, Some, refl, sym, ap, subst, ◌∙◌, inl, inr, ⊎_elim, arith}
 use Rattle.std.specs.declared.cmp.Ordering.TheVariants.{Less}
 use Rattle.std.proofs.lemmas.Bool.{true≢false}
 use Rattle.std.proofs.lemmas.Map.Views.{All-after_first}
 use Rattle.std.proofs.lemmas.Map.Keys.{sorted_tail}
-use Rattle.std.proofs.Math.Seq.{drop-cons}
 use Rattle.sat_words.specs.Literal.{Literal, opposite, same, code_of, lit_cmp}
 use Rattle.sat_words.specs.Clause.{has, has_opposites, InOrder}
 use Rattle.sat_words.proofs.Members.{same-true, same-refl}
@@ -15,6 +14,7 @@ use Rattle.simp_subsume.specs.Related.{IsUnrelated}
 use Rattle.simp_subsume.specs.Walked.{PassesOver, Finds, FindsNegated, FindsAnother, IsStep, found_as}
 use Rattle.simp_subsume.specs.Compared.{IsRelation}
 use Rattle.simp_subsume.specs.declared.relation.Walk.{Walk}
+use Rattle.simp_subsume.proofs.Fronts.{In_drop, In_take, take_or_drop, take_all, front, one_more, still, here}
 use Rattle.simp_subsume.proofs.Relating.{refuted, opposed, in_subsumes, strengthens_from, unrelated_by_one, unrelated_by_two}
 
 -- Literals of one variable
@@ -46,59 +46,6 @@ vars_from_codes x m lt = by x.neg m.neg lt
     by true false h = omega arith
     by false true h = omega arith
     by false false h = omega arith
-
-In_drop : (c : List Literal) (i : ℕ) (x : Literal) → In x (drop i c) → In x c
-In_drop c zero x h = h
-In_drop [] (suc i) x h = h
-In_drop (y ∷ c) (suc i) x h = inr (In_drop c i x h)
-
-In_take : (c : List Literal) (i : ℕ) (x : Literal) → In x (take i c) → In x c
-In_take c zero x h = absurd h
-In_take [] (suc i) x h = h
-In_take (y ∷ c) (suc i) x (inl e) = inl e
-In_take (y ∷ c) (suc i) x (inr h) = inr (In_take c i x h)
-
-take_or_drop : (c : List Literal) (i : ℕ) (x : Literal) → In x c → In x (take i c) ⊎ In x (drop i c)
-take_or_drop c zero x h = inr h
-take_or_drop [] (suc i) x h = absurd h
-take_or_drop (y ∷ c) (suc i) x (inl e) = inl (inl e)
-take_or_drop (y ∷ c) (suc i) x (inr h) = ⊎_elim (λ (t : In x (take i c)). inl (inr t)) (λ (d : In x (drop i c)). inr d) (take_or_drop c i x h)
-
-take_all : (c : List Literal) (i : ℕ) → length c ≤ i → take i c ≡ c
-take_all [] zero le = refl
-take_all [] (suc i) le = refl
-take_all (x ∷ c) zero le = absurd (omega arith)
-take_all (x ∷ c) (suc i) le = ap (λ d. x ∷ d) (take_all c i (omega arith))
-
-front : (c : List Literal) (i : ℕ) (d : Literal) → i < length c → drop i c ≡ get_or c i d ∷ drop (i + 1) c
-front c i d lt = drop-cons c i d lt ∙ ap (λ j. get_or c i d ∷ drop j c) (sym (add-one i))
-
-step_more : (c : List Literal) (i : ℕ) (d : Literal) → i < length c → (x : Literal) → In x (take (suc i) c) → In x (take i c) ⊎ (get_or c i d ≡ x)
-step_more [] i d lt x h = absurd (omega arith)
-step_more (y ∷ c) zero d lt x (inl e) = inr e
-step_more (y ∷ c) zero d lt x (inr h) = absurd h
-step_more (y ∷ c) (suc i) d lt x (inl e) = inl (inl e)
-step_more (y ∷ c) (suc i) d lt x (inr h) = ⊎_elim (λ (t : In x (take i c)). inl (inr t)) (λ (e : get_or c i d ≡ x). inr e) (step_more c i d (omega arith) x h)
-
-one_more : (c : List Literal) (i : ℕ) (d : Literal) → i < length c → (x : Literal) → In x (take (i + 1) c) → In x (take i c) ⊎ (get_or c i d ≡ x)
-one_more c i d lt x h = step_more c i d lt x (subst (λ n. In x (take n c)) (add-one i) h)
-
-step_still : (c : List Literal) (i : ℕ) (x : Literal) → In x (take i c) → In x (take (suc i) c)
-step_still c zero x h = absurd h
-step_still [] (suc i) x h = h
-step_still (y ∷ c) (suc i) x (inl e) = inl e
-step_still (y ∷ c) (suc i) x (inr h) = inr (step_still c i x h)
-
-still : (c : List Literal) (i : ℕ) (x : Literal) → In x (take i c) → In x (take (i + 1) c)
-still c i x h = subst (λ n. In x (take n c)) (sym (add-one i)) (step_still c i x h)
-
-step_here : (c : List Literal) (i : ℕ) (d : Literal) → i < length c → In (get_or c i d) (take (suc i) c)
-step_here [] i d lt = absurd (omega arith)
-step_here (y ∷ c) zero d lt = inl refl
-step_here (y ∷ c) (suc i) d lt = inr (step_here c i d (omega arith))
-
-here : (c : List Literal) (i : ℕ) (d : Literal) → i < length c → In (get_or c i d) (take (i + 1) c)
-here c i d lt = subst (λ n. In (get_or c i d) (take n c)) (sym (add-one i)) (step_here c i d lt)
 
 -- How far the walk has come: the literals found are among those seen but for the one that was flipped, whose negation is,
 -- and what was seen is of lower variables than what is looked for

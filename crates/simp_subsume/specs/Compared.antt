@@ -1,5 +1,5 @@
 -- What comparing one clause with others does.
-use Rattle.std.specs.Prelude.{◌≡◌, ◌≢◌, ◌⊎◌, ℕ, ◌+◌, ◌<◌, Bool, true, false, not, List, [], ◌∷◌, Contains, Result, Ok, Err, ⊤}
+use Rattle.std.specs.Prelude.{◌≡◌, ◌≢◌, ◌⊎◌, ℕ, ◌+◌, ◌<◌, ◌≤◌, Bool, true, false, not, List, [], ◌∷◌, Contains, Result, Ok, Err, ⊤}
 use Rattle.std.specs.List.{filter}
 use Rattle.sat_words.specs.Literal.{Literal, opposite, same}
 use Rattle.sat_words.specs.Clause.{has, has_opposites, InOrder}
@@ -73,6 +73,8 @@ pub record Reduces (old new : WorkState) : Type 0 where
   pub stack : new.stack ≡ old.stack
   pub covered : EachContains (known old) (known new)
   pub parts : EachContained (known old) (known new)
+  pub later : old.output.last ≤ new.output.last
+  pub numbered : (n : ℕ) (c : List Literal) → Contains new.clauses (n, c) → Contains old.clauses (n, c) ⊎ (old.output.last < n)
   pub log : KeepsLog old new
 
 -- the clause is one of those that were, or came under a later number, and has these literals
@@ -85,6 +87,7 @@ pub record Grown (old new : WorkState) (lits : List Literal) : Type 0 where
   pub unspent : new.output.spent ≡ false
   pub quiet : new.output.faults ≡ old.output.faults
   pub stack : new.stack ≡ old.stack
+  pub later : old.output.last ≤ new.output.last
   pub stay : (n : ℕ) (c : List Literal) → Contains old.clauses (n, c) → Contains new.clauses (n, c)
   pub came : (n : ℕ) (c : List Literal) → Contains new.clauses (n, c) → IsOldOr old lits n c
   pub units_stay : (l : Literal) → has old.units l ≡ true → has new.units l ≡ true

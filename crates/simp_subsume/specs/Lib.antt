@@ -2,3 +2,4 @@ pub mod Related
 pub mod Ends
 pub mod Walked
 pub mod Compared
+pub mod Signed

@@ -2,10 +2,12 @@
 //! one is contained but for one negated literal are made shorter by it.
 #![tactic(auto)]
 
+mod candidates;
 mod compare;
 mod part;
 mod passes;
 mod relation;
+mod signature;
 
 pub use passes::run;
 

@@ -4,16 +4,17 @@
 // variables, or the literal's negation, and what is left of a clause that is made shorter comes later, under the next
 // number. A clause needs one turn alone: what is left of another one is a part of it, so that a clause that was not
 // contained before is not contained afterwards.
-ghost use Rattle.std.specs.Prelude.{◌≡◌, ◌⊎◌, ◌++◌, ◌<◌, ◌+◌, ℕ, List, true, false, Contains, IfOk, IfErr, OnOk, IsTrue, All, length, vec_len};
-ghost use Rattle.sat_words.specs.Literal.{Literal, IsOn, opposite};
-ghost use Rattle.sat_words.specs.Clause.{has};
+ghost use Rattle.std.specs.Prelude.{◌≡◌, false, IfOk, IfErr};
 ghost use Rattle.simp_base.specs.WorkState.{IsWork};
 ghost use Rattle.simp_base.specs.Log.{KeepsLog};
+ghost use Rattle.simp_subsume.specs.Signed.{AreSignatures};
 ghost use Rattle.simp_subsume.specs.Ends.{Ends};
 ghost use Rattle.simp_subsume.specs.Compared.{IsReducedBelow, WasLoaded, WasProcessed};
 
+use crate::candidates::{list_others, rarest};
 use crate::compare::compare_with_all;
 use crate::part::takes_part;
+use crate::signature::signatures_of;
 use drat_text::{LineOut, LineStop};
 use sat_words::Lit;
 use simp_base::{Run, Work};
@@ -37,63 +38,15 @@ fn load<L: LineOut>(work: &Work<L>, number: u64, clause: &mut Vec<Lit>) -> Resul
     }
 }
 
-/// How many numbers are noted for the literal and its negation.
-fn noted<L: LineOut>(work: &Work<L>, lit: Lit) -> usize
-    requires on { IsOn work.now.vars lit }
-{
-    work.occurrences(lit)
-        .len()
-        .saturating_add(work.occurrences(lit.not()).len())
-}
-
-/// The literal of the clause whose variable has the fewest numbers noted.
-fn rarest<L: LineOut>(work: &Work<L>, clause: &[Lit]) -> Lit
-    requires on { All (IsOn work.now.vars) clause.now }
-    requires some { 0 < length clause.now }
-    ensures { has clause.now result ≡ true }
-{
-    let mut best = clause[0];
-    let mut fewest = noted(work, best);
-    for lit in clause {
-        let count = noted(work, *lit);
-        if count < fewest {
-            best = *lit;
-            fewest = count;
-        }
-    }
-    best
-}
-
-/// Puts more numbers behind those that are there.
-fn append(numbers: &mut Vec<u64>, more: &[u64]) -> Result<(), LineStop>
-    ensures ok { OnOk result (numbers.new.items ≡ numbers.old.items ++ more.now) }
-    ensures memory { IfErr result (λ stop. stop ≡ LineStop.Memory) }
-{
-    match numbers.extend_from_slice(more) {
-        Ok(()) => Ok(()),
-        Err(_) => Err(LineStop::Memory),
-    }
-}
-
-/// Copies the numbers of the clauses that hold the literal or its negation.
-fn list_others<L: LineOut>(work: &Work<L>, lit: Lit, others: &mut Vec<u64>) -> Result<(), LineStop>
-    requires on { IsOn work.now.vars lit }
-    ensures every { OnOk result ((n : ℕ) (c : List Literal) → Contains work.now.clauses (n, c) → (has c lit ≡ true) ⊎ (has c (opposite lit) ≡ true) → Contains others.new.items n) }
-    ensures memory { IfErr result (λ stop. stop ≡ LineStop.Memory) }
-{
-    others.clear();
-    append(others, work.occurrences(lit))?;
-    append(others, work.occurrences(lit.not()))?;
-    Ok(())
-}
-
 /// Gives the clause with this number its turn.
 fn process<L: LineOut>(
     work: &mut Work<L>,
     number: u64,
+    signatures: &[u64],
     clause: &mut Vec<Lit>,
     others: &mut Vec<u64>,
 ) -> Result<(), LineStop>
+    requires signed { AreSignatures work.old signatures.now }
     requires unspent { work.old.output.spent ≡ false }
     requires going { work.old.ended ≡ false }
     requires work { IsWork work.old }
@@ -105,7 +58,7 @@ fn process<L: LineOut>(
         return Ok(());
     }
     let lit = rarest(work, clause.as_slice());
-    list_others(work, lit, others)?;
+    list_others(work, clause.as_slice(), lit, signatures, others)?;
     compare_with_all(work, number, clause.as_slice(), others.as_slice())
 }
 
@@ -121,14 +74,20 @@ pub fn run<L: LineOut>(work: &mut Work<L>) -> Result<Run, LineStop>
     ensures log { KeepsLog work.old work.new }
     ensures work { IsWork work.new }
 {
-    let _clauses = work.clauses();
+    let signatures = signatures_of(work)?;
     let mut clause = Vec::new(work.alloc());
     let mut others = Vec::new(work.alloc());
     for number in 0..u64::MAX {
         if number > work.last_number() {
             return Ok(Run::Done);
         }
-        match process(work, number, &mut clause, &mut others) {
+        match process(
+            work,
+            number,
+            signatures.as_slice(),
+            &mut clause,
+            &mut others,
+        ) {
             Ok(()) => {}
             Err(stop) => return Err(stop),
         }

@@ -1,6 +1,6 @@
 use Rattle.std.proofs.Common.{◌≡◌, true}
 use Rattle.sat_words.specs.Clause.{has}
-use Rattle.simp_subsume.proofs.passes.rarest.Given as goal
+use Rattle.simp_subsume.proofs.candidates.rarest.Given as goal
 
 abbrev pub invariant-loop-lit : goal.invariant-loop-lit
 invariant-loop-lit g l = has l.clause l.best ≡ true

@@ -3,10 +3,9 @@ use Rattle.std.proofs.Common.{◌≡◌, ◌∙◌, ℕ, ◌<◌, ◌^◌, List,
 use Rattle.std.proofs.lemmas.List.Elements.{All-push, All-from_recursion, recursion_from_All}
 use Rattle.std.specs.List.{AllByRecursion as ByRecursion}
 use Rattle.std.specs.Prelude.{if◌then◌else◌, nat_lt}
-use Rattle.sat_words.specs.Literal.{Literal, same, code_of}
+use Rattle.sat_words.specs.Literal.{Literal, IsOn, same, code_of}
 use Rattle.sat_words.specs.Clause.{clause_of, insert_lit}
 use Rattle.sat_words.specs.FormulaData.{FormulaData}
-use Rattle.dimacs_read.specs.Input.{IsOn}
 
 inserted_by : (vars : ℕ) (l k : Literal) (c : List Literal) (a b : Bool) → IsOn vars l → IsOn vars k → ByRecursion (IsOn vars) c → ByRecursion (IsOn vars) (insert_lit l c)
     → ByRecursion (IsOn vars) (if a then k ∷ c else if b then l ∷ k ∷ c else k ∷ insert_lit l c)

@@ -1,7 +1,7 @@
 -- What places are to the clauses before them.
 use Rattle.std.specs.Prelude.{◌≡◌, ℕ, ◌<◌, ◌^◌, List, [], ◌∷◌, All, Ok, Err}
 use Rattle.dimacs_read.specs.Grammar.{Outcome, Item, Place, judge}
-use Rattle.dimacs_read.specs.Input.{IsOn}
+use Rattle.sat_words.specs.Literal.{IsOn}
 use Rattle.dimacs_read.specs.declared.body.Body.{Body}
 use Rattle.dimacs_read.specs.declared.stop.Code.{Code}
 use Rattle.dimacs_read.specs.declared.stop.Stop.{Stop}

@@ -1,6 +1,6 @@
 -- A text as it is read: at most 2^33 of its bytes count.
 use Rattle.std.specs.Prelude.{◌≡◌, ℕ, ◌≤◌, ◌<◌, ◌^◌, ◌||◌, List, [], ◌∷◌, ◌++◌, length, All, if◌then◌else◌, Ok, Err}
-use Rattle.sat_words.specs.Literal.{Literal}
+use Rattle.sat_words.specs.Literal.{IsOn}
 use Rattle.sat_words.specs.FormulaData.{FormulaData}
 use Rattle.dimacs_read.specs.Grammar.{Outcome, outcome, lines, is_blank, is_newline}
 use Rattle.dimacs_read.specs.declared.stop.Code.{Code}
@@ -34,11 +34,6 @@ Reads text formula = Gives text (Ok formula)
 -- the first bad place of the text
 abbrev pub Bad : List ℕ → Code → ℕ → Type 0
 Bad text code line = Gives text (Err (record { code = code; line = line }))
-
--- the literal is on one of the variables 1 to `vars`
-pub record IsOn (vars : ℕ) (l : Literal) : Type 0 where
-  pub low : 1 ≤ l.var
-  pub high : l.var ≤ vars
 
 -- the literals are on the variables, and these are few
 pub record IsInRange (formula : FormulaData) : Type 0 where

@@ -4,7 +4,7 @@ pub mod LitText
 mod LineText
 mod Tokens
 mod Unique
-mod Fronts
+pub mod Fronts
 mod Gathering
 pub mod Progress
 pub mod JournalLines

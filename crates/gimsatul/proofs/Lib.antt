@@ -10,7 +10,8 @@ pub mod Opens
 pub mod Newness
 pub mod Starting
 pub mod Models
-pub mod Standing
+pub mod Closing
+mod Standing
 pub mod Refuting
 mod AnswerText
 pub mod PlainNumbers

@@ -3,7 +3,7 @@ use Rattle.std.proofs.Common.{◌≡◌, ◌∙◌, ℕ, zero, suc, ◌+◌, ◌
 use Rattle.std.specs.List.{cons_option, slice_get, AllByRecursion, IsDistinct}
 use Rattle.std.specs.Option.{option_map}
 use Rattle.std.proofs.lemmas.Bool.{and_parts, not-true}
-use Rattle.sat_words.specs.Literal.{Literal}
+use Rattle.sat_words.specs.Literal.{Literal, IsOn}
 use Rattle.sat_words.specs.Clause.{has, same_set, has_opposites, two_or_more, clause_of}
 use Rattle.sat_words.proofs.Insertion.{InOrder-clause_of, has-clause_of}
 use Rattle.rup_model.specs.Journal.{book, is_told, formula_clause}
@@ -13,7 +13,6 @@ use Rattle.rup_model.proofs.Units.{two_long}
 use Rattle.rup_model.proofs.Covers.{same_self}
 use Rattle.rup_model.proofs.ProgramOpening.{All_from_In, distinct_in_order}
 use Rattle.drat_text.specs.LineState.{LineState}
-use Rattle.dimacs_read.specs.Input.{IsOn}
 use Rattle.ring_port.specs.PortState.{IsOn as IsPortOn}
 use Rattle.ring_port.specs.PlainPort.{OpensOver, starts_of}
 use Rattle.ring_port.proofs.Holdings.{All_In}

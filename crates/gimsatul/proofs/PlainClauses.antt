@@ -3,13 +3,12 @@ use Rattle.std.proofs.Common.{◌≡◌, ◌∙◌, ℕ, ◌+◌, ◌<◌, ◌�
 use Rattle.std.specs.Prelude.{⊤, All, Some, None, Ok, ◌&&◌, not, nat_eq, nat_le, nat_lt}
 use Rattle.std.specs.declared.option.Option.{Option}
 use Rattle.std.proofs.lemmas.Bool.Decides.{nat_tests}
-use Rattle.sat_words.specs.Literal.{Literal}
+use Rattle.sat_words.specs.Literal.{Literal, IsOn, lit_text}
 use Rattle.sat_words.specs.Clause.{clause_of}
 use Rattle.sat_words.specs.declared.line.Line.TheVariants.{Add}
-use Rattle.drat_text.specs.Text.{lit_text, lits_text, text}
+use Rattle.drat_text.specs.Text.{lits_text, text}
 use Rattle.dimacs_read.specs.Grammar.{Place, Token, fault, judge, ended_by, begun_by, unless, places, token_places, tokens, lines, is_newline, mark}
 use Rattle.dimacs_read.specs.declared.stop.Code.{Code}
-use Rattle.dimacs_read.specs.Input.{IsOn}
 use Rattle.gimsatul.specs.Plain.{IsWritten}
 use Rattle.gimsatul.proofs.PlainNumbers.{integer_lit_text, lit_text_from, lit_text_has_bytes}
 use Rattle.gimsatul.proofs.PlainTokens.{Free, free_both, cut, from_blank_free, from_newline_free, first_token, mark_of_word}

@@ -9,9 +9,8 @@ use Rattle.std.proofs.lemmas.Bool.Decides.{nat_tests}
 use Rattle.std.proofs.lemmas.Fmt.{decimal_is_IsNumeral}
 use Rattle.std.proofs.lemmas.Str.Parse.{digit_from_value}
 use Rattle.std.proofs.lemmas.Str.{digit_value_digit}
-use Rattle.sat_words.specs.Literal.{Literal}
-use Rattle.drat_text.specs.Text.{lit_text}
-use Rattle.drat_text.proofs.LitText.{var_text-decimal, lit_text-neg, lit_text-pos}
+use Rattle.sat_words.specs.Literal.{Literal, lit_text}
+use Rattle.drat_text.proofs.LitText.{lit_text-neg, lit_text-pos}
 use Rattle.dimacs_read.specs.Grammar.{is_digit, has_bytes, value_from, number, signed, integer}
 
 -- each byte is at least this one, and below the letters
@@ -74,10 +73,10 @@ literal_by l b e = λ i. record { var = l.var; neg = sym e i }
 
 integer_by_sign : (l : Literal) (b : Bool) → l.neg ≡ b → 0 < l.var → l.var < 2 ^ 64 → integer (lit_text l) ≡ Some l
 integer_by_sign l true e low high =
-    ap integer (lit_text-neg l e) ∙ ap (λ (t : List ℕ). signed true (number t)) (var_text-decimal l.var low high)
+    ap integer (lit_text-neg l e)
     ∙ ap (signed true) (number_decimal l.var high) ∙ signed_true l.var low ∙ ap Some (literal_by l true e)
 integer_by_sign l false e low high =
-    ap integer (lit_text-pos l e ∙ var_text-decimal l.var low high) ∙ unsigned (decimal l.var) (decimal_from l.var high) (decimal_has_bytes l.var high)
+    ap integer (lit_text-pos l e) ∙ unsigned (decimal l.var) (decimal_from l.var high) (decimal_has_bytes l.var high)
     ∙ ap (signed false) (number_decimal l.var high) ∙ ap Some (literal_by l false e)
 
 pub integer_lit_text : (l : Literal) → 0 < l.var → l.var < 2 ^ 64 → integer (lit_text l) ≡ Some l
@@ -85,11 +84,11 @@ integer_lit_text l low high = integer_by_sign l l.neg refl low high
 
 text_by_sign : (l : Literal) (b : Bool) → l.neg ≡ b → 0 < l.var → l.var < 2 ^ 64 → From 45 (lit_text l) × (has_bytes (lit_text l) ≡ true)
 text_by_sign l true e low high =
-    let is : lit_text l ≡ 45 ∷ decimal l.var = lit_text-neg l e ∙ ap (λ (t : List ℕ). 45 ∷ t) (var_text-decimal l.var low high) in
+    let is : lit_text l ≡ 45 ∷ decimal l.var = lit_text-neg l e in
     subst (λ (t : List ℕ). From 45 t × (has_bytes t ≡ true)) (sym is)
     ((omega arith, omega arith, from_less 48 45 (decimal l.var) (omega arith) (decimal_from l.var high)), refl)
 text_by_sign l false e low high =
-    subst (λ (t : List ℕ). From 45 t × (has_bytes t ≡ true)) (sym (lit_text-pos l e ∙ var_text-decimal l.var low high))
+    subst (λ (t : List ℕ). From 45 t × (has_bytes t ≡ true)) (sym (lit_text-pos l e))
     (from_less 48 45 (decimal l.var) (omega arith) (decimal_from l.var high), decimal_has_bytes l.var high)
 
 pub lit_text_from : (l : Literal) → 0 < l.var → l.var < 2 ^ 64 → From 45 (lit_text l)

@@ -1,8 +1,9 @@
 -- A formula that has the empty clause: its refutation is one line, and what the search says of the line.
-use Rattle.std.proofs.Common.{◌≡◌, ◌∙◌, ℕ, zero, suc, ◌<◌, ◌≤◌, true, List, [], ◌∷◌, map, take, Ok, Err, refl, sym, ap, subst, arith, append-nil, get_or}
+use Rattle.std.proofs.Common.{◌≡◌, ◌∙◌, ℕ, zero, suc, ◌<◌, ◌≤◌, true, false, List, [], ◌∷◌, map, take, Some, Ok, Err, refl, sym, ap, subst, arith, append-nil, get_or}
 use Rattle.std.specs.declared.option.Option.{Option}
+use Rattle.std.specs.Io.KnownBytes.{append_known}
 use Rattle.std.specs.List.{list_any}
-use Rattle.std.proofs.lemmas.Bool.{or_left, or_right, false≢true}
+use Rattle.std.proofs.lemmas.Bool.{or_left, or_right, false≢true, not-true}
 use Rattle.io_edge.specs.Causes.{Rose}
 use Rattle.io_edge.specs.Paths.{IsEmptyWhereTold}
 use Rattle.sat_words.specs.Literal.{Literal, opposite}
@@ -19,13 +20,22 @@ use Rattle.rup_model.specs.declared.journal.Entry.TheVariants.{Add}
 use Rattle.rup_model.proofs.Lists.{In, In_any, In_Contains}
 use Rattle.rup_model.proofs.Derivation.{conflicts_from_derivation}
 use Rattle.rup_model.proofs.LogLaw.{refutes_none}
+use Rattle.drat_text.specs.JournalText.{HasText}
 use Rattle.drat_text.specs.LineState.{LineState}
+use Rattle.ring_port.specs.Log.{Origin, HasLines}
+use Rattle.ring_port.specs.Port.{is_usable}
+use Rattle.ring_port.specs.PortState.{PortState}
 use Rattle.drat_text.specs.LineOut.{PutLine, FailedLine}
 use Rattle.drat_text.specs.Text.{line_text}
+use Rattle.std.specs.Prelude.{Result, IsSomeAnd}
+use Rattle.gimsatul.specs.declared.report.Verdict.{Verdict}
 use Rattle.gimsatul.specs.declared.report.Verdict.TheVariants.{Unsatisfiable}
+use Rattle.gimsatul.specs.declared.report.End.{End}
 use Rattle.gimsatul.specs.declared.report.End.TheVariants.{ProofFault, Memory}
 use Rattle.gimsatul.specs.Journaled.{CanBeSpelled, IsPlainEntry, IsJournal, HoldsText}
-use Rattle.gimsatul.specs.Searched.{IsSearch}
+use Rattle.gimsatul.specs.Searched.{IsSearch, HasClosed}
+use Rattle.gimsatul.specs.Begun.{origin_of, Begins}
+use Rattle.gimsatul.proofs.Closing.{cut_short, closed_search, still_empty}
 use Rattle.gimsatul.proofs.Journals.{empty_journal, holds_nothing}
 use Rattle.gimsatul.proofs.Standing.{told_whole, on_variables}
 
@@ -41,7 +51,21 @@ untouched limit formula faults written some quiet empty = record {
   short = λ failed. absurd (failed quiet);
 }
 
-module _ (limit : ℕ) (formula : FormulaData) (some : 1 ≤ limit) (given : list_any is_empty formula.clauses ≡ true) (old : LineState) (empty : IsEmptyWhereTold old.written) (quiet : old.faults ≡ 0) where
+-- nothing happened since the port began
+pub begun_closed : (limit : ℕ) (formula : FormulaData) (output : LineState) (s : PortState) (out : LineState) (told : Result Verdict End) (faults : ℕ) (written : Option (List ℕ))
+    → 1 ≤ limit → Begins formula output s → IsEmptyWhereTold output.written → output.faults ≡ 0 → Some out ≡ s.output → HasClosed out (Err Memory) told faults written
+    → IsSearch limit formula told 0 faults written
+begun_closed limit formula output s out told faults written some begins empty quiet lines_are closed =
+    let over : Origin = origin_of formula.clauses output in
+    let has_lines : HasLines over s out = subst (λ (w : Option LineState). IsSomeAnd w (HasLines over s)) (sym lines_are) begins.stands.output in
+    let unspent : out.spent ≡ false = not-true out.spent (sym has_lines.usable ∙ ap is_usable begins.untouched.refused) in
+    let has_text : HasText over [] out = subst (λ (es : List Entry). HasText over es out) begins.untouched.mine (has_lines.whole unspent) in
+    let still : out.faults ≡ 0 = has_text.quiet ∙ quiet in
+    let nothing : IsEmptyWhereTold out.written = subst IsEmptyWhereTold (sym has_text.bytes) (still_empty output.written [] empty refl) in
+    closed_search limit formula (Err Memory) told 0 out faults written (untouched limit formula out.faults out.written some still nothing)
+    (λ e. absurd (false≢true (sym unspent ∙ e))) (λ _. still) closed
+
+module _ (limit : ℕ) (formula : FormulaData) (some : 1 ≤ limit) (given : list_any is_empty formula.clauses ≡ true) (old : LineState) (empty : IsEmptyWhereTold old.written) (quiet : old.faults ≡ 0) (unspent : old.spent ≡ false) where
   abbrev F : List (List Literal)
   F = formula.clauses
 
@@ -87,7 +111,7 @@ module _ (limit : ℕ) (formula : FormulaData) (some : 1 ≤ limit) (given : lis
       by zero x lt = (refl, refl)
       by (suc k) x lt = absurd (omega arith)
 
-  pub refuted : (new : LineState) (number : ℕ) → PutLine old new (AddLine []) number → IsSearch limit formula (Ok Unsatisfiable) 0 new.faults new.written
+  refuted : (new : LineState) (number : ℕ) → PutLine old new (AddLine []) number → IsSearch limit formula (Ok Unsatisfiable) 0 new.faults new.written
   refuted new number put =
       let faults : new.faults ≡ 0 = ap (λ (s : LineState). s.faults) put.state ∙ quiet in
       record {
@@ -100,7 +124,7 @@ module _ (limit : ℕ) (formula : FormulaData) (some : 1 ≤ limit) (given : lis
         short = λ failed. absurd (failed faults);
       }
 
-  pub failed : (new : LineState) → FailedLine old new (AddLine []) → IsSearch limit formula (Err ProofFault) 0 new.faults new.written
+  failed : (new : LineState) → FailedLine old new (AddLine []) → IsSearch limit formula (Err ProofFault) 0 new.faults new.written
   failed new put =
       let rose : Rose 0 new.faults = subst (λ (n : ℕ). Rose n new.faults) quiet put.rose in
       record {
@@ -110,17 +134,30 @@ module _ (limit : ℕ) (formula : FormulaData) (some : 1 ≤ limit) (given : lis
         within = omega arith;
         conclusion = rose;
         whole = λ no_faults. absurd (omega arith);
-        short = λ _. record {
-          front = [];
-          rest = [];
-          front_of = refl;
-          line = AddLine [];
-          cut = put.part.cut;
-          accepted = accepted;
-          spelled = spelled;
-          bytes = told_whole old.written new.written (take put.part.cut (line_text (AddLine []))) empty put.part.grown;
-        };
+        short = λ _. cut_short F [] [] [] (AddLine []) refl accepted spelled (append_known old.written (line_text (AddLine []))) new.written
+            (subst (HoldsText (append_known old.written (line_text (AddLine [])))) (sym (append-nil (line_text (AddLine []))))
+            (told_whole old.written (append_known old.written (line_text (AddLine []))) (line_text (AddLine [])) empty refl)) put.front;
       }
 
-  pub no_memory : (new : LineState) → new ≡ old → IsSearch limit formula (Err Memory) 0 new.faults new.written
+  no_memory : (new : LineState) → new ≡ old → IsSearch limit formula (Err Memory) 0 new.faults new.written
   no_memory new is = subst (λ (s : LineState). IsSearch limit formula (Err Memory) 0 s.faults s.written) (sym is) (untouched limit formula old.faults old.written some quiet empty)
+
+  -- the lines are finished then
+
+  module _ (new : LineState) (told : Result Verdict End) (faults : ℕ) (written : Option (List ℕ)) where
+    unbroken : new.spent ≡ false → new.spent ≡ true → Rose 0 new.faults
+    unbroken whole failed = absurd (false≢true (sym whole ∙ failed))
+
+    pub refuted_closed : (number : ℕ) → PutLine old new (AddLine []) number → HasClosed new (Ok Unsatisfiable) told faults written → IsSearch limit formula told 0 faults written
+    refuted_closed number put closed =
+        let still : new.faults ≡ 0 = ap (λ (s : LineState). s.faults) put.state ∙ quiet in
+        closed_search limit formula (Ok Unsatisfiable) told 0 new faults written (refuted new number put) (unbroken (ap (λ (s : LineState). s.spent) put.state ∙ unspent)) (λ _. still) closed
+
+    pub failed_closed : FailedLine old new (AddLine []) → HasClosed new (Err ProofFault) told faults written → IsSearch limit formula told 0 faults written
+    failed_closed put closed =
+        let rose : Rose 0 new.faults = subst (λ (n : ℕ). Rose n new.faults) quiet put.rose in
+        closed_search limit formula (Err ProofFault) told 0 new faults written (failed new put) (λ _. rose) (λ e. absurd (false≢true (sym e ∙ ap (λ (s : LineState). s.spent) put.state))) closed
+
+    pub no_memory_closed : new ≡ old → HasClosed new (Err Memory) told faults written → IsSearch limit formula told 0 faults written
+    no_memory_closed is closed =
+        closed_search limit formula (Err Memory) told 0 new faults written (no_memory new is) (unbroken (ap (λ (s : LineState). s.spent) is ∙ unspent)) (λ _. ap (λ (s : LineState). s.faults) is ∙ quiet) closed

@@ -7,7 +7,7 @@ use Rattle.std.proofs.lemmas.Bool.{cases_Bool, not-false, not-true}
 use Rattle.std.proofs.lemmas.List.Elements.{All-append}
 use Rattle.io_edge.specs.Causes.{Rose}
 use Rattle.io_edge.specs.Paths.{IsEmptyWhereTold}
-use Rattle.sat_words.specs.Literal.{Literal}
+use Rattle.sat_words.specs.Literal.{Literal, IsOn}
 use Rattle.sat_words.specs.Clause.{has}
 use Rattle.sat_words.specs.Truth.{lit_true, clause_true, formula_true}
 use Rattle.sat_words.specs.FormulaData.{FormulaData}
@@ -29,7 +29,7 @@ use Rattle.rup_model.proofs.LogLaw.{refutes_none}
 use Rattle.ring_port.proofs.Refuted.{ended_refutes}
 use Rattle.drat_text.specs.LineState.{LineState}
 use Rattle.drat_text.specs.Text.{text, line_text}
-use Rattle.dimacs_read.specs.Input.{IsOn}
+use Rattle.drat_text.proofs.Text.{text-push}
 use Rattle.ring_port.specs.PortState.{Holding, PortState, IsOn as IsPortOn}
 use Rattle.ring_port.specs.Port.{is_usable}
 use Rattle.ring_port.specs.declared.stops.PortStop.TheVariants.{NoHole as NoHoleAnswer}
@@ -42,9 +42,10 @@ use Rattle.gimsatul.specs.declared.report.Verdict.{Verdict}
 use Rattle.gimsatul.specs.declared.report.End.{End as CallEnd}
 use Rattle.gimsatul.specs.Journaled.{CanBeSpelled, IsPlainEntry, IsPlainAddition, IsJournal, IsUnrefuted, HoldsText, IsCutShort}
 use Rattle.gimsatul.specs.Decided.{IsRefutation, IsFull}
-use Rattle.gimsatul.specs.Searched.{Concludes, IsSearch}
+use Rattle.gimsatul.specs.Searched.{Concludes, IsSearch, HasClosed}
 use Rattle.gimsatul.specs.Concluded.{IsCleared, IsVerdictOf}
 use Rattle.gimsatul.specs.Begun.{origin_of, Begins, IsAlike}
+use Rattle.gimsatul.proofs.Closing.{cut_short, closed_search}
 use Rattle.gimsatul.proofs.Models.{cleared}
 use Rattle.gimsatul.proofs.Newness.{still_new}
 
@@ -194,17 +195,11 @@ module _ (formula : FormulaData) (output : LineState) (p s : PortState) (limit c
   short_by : out.spent ≡ true → IsCutShort F J out.written
   short_by e =
       let h = has_lines.short e in
-      record {
-        front = lines F J;
-        rest = [];
-        front_of = sym (append-nil (lines F J));
-        line = h.line;
-        cut = h.cut;
-        accepted = h.accepted;
-        spelled = All-append (λ x. All (IsOn (2 ^ 30)) (lits_of x)) (lines F J) (h.line ∷ []) spelled
-            (cons_All (λ x. All (IsOn (2 ^ 30)) (lits_of x)) h.line [] (spell_all s.vars (let a = stays.vars in let b = begins.vars in omega arith) (lits_of h.line) h.on) (λ k d lt. absurd (omega arith)));
-        bytes = told_whole output.written out.written (text (lines F J) ++ take h.cut (line_text h.line)) empty h.bytes;
-      }
+      let all = append_known output.written (text (lines F J) ++ line_text h.line) in
+      cut_short F J (lines F J) [] h.line (sym (append-nil (lines F J))) h.accepted
+      (All-append (λ x. All (IsOn (2 ^ 30)) (lits_of x)) (lines F J) (h.line ∷ []) spelled
+      (cons_All (λ x. All (IsOn (2 ^ 30)) (lits_of x)) h.line [] (spell_all s.vars (let a = stays.vars in let b = begins.vars in omega arith) (lits_of h.line) h.on) (λ k d lt. absurd (omega arith))))
+      all out.written (subst (HoldsText all) (sym (text-push (lines F J) h.line)) (told_whole output.written all (text (lines F J) ++ line_text h.line) empty refl)) h.front
 
   short : (out.faults ≡ 0 → ⊥) → IsCutShort F J out.written
   short some = elim (cases_Bool out.spent) as (λ _. IsCutShort F J out.written) [
@@ -270,5 +265,9 @@ module _ (formula : FormulaData) (output : LineState) (p s : PortState) (limit c
       by ProofFault sp un en r v = subst (λ (w : Result Verdict CallEnd). Concludes limit formula J out.faults w) (sym v) (rose_where en.cause.0)
       by Memory sp un en r v = subst (λ (w : Result Verdict CallEnd). Concludes limit formula J out.faults w) (sym v) (still_where en.cause.0, fewer Memory un (λ e. cc e), en.cause.1)
 
-  pub is_search : (result : Result Verdict CallEnd) → IsVerdictOf formula end result → IsSearch limit formula result count out.faults out.written
+  is_search : (result : Result Verdict CallEnd) → IsVerdictOf formula end result → IsSearch limit formula result count out.faults out.written
   is_search result v = record { journal = J; stands = journal_stands; counts = counts; within = within; conclusion = concludes result v; whole = whole; short = short }
+
+  pub is_closed_search : (result told : Result Verdict CallEnd) (faults : ℕ) (written : Option (List ℕ)) → IsVerdictOf formula end result → HasClosed out result told faults written
+      → IsSearch limit formula told count faults written
+  is_closed_search result told faults written v closed = closed_search limit formula result told count out faults written (is_search result v) rose still closed

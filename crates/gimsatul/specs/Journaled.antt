@@ -1,5 +1,5 @@
 -- The journal of a run, and what the writer of its proof holds.
-use Rattle.std.specs.Prelude.{◌≡◌, ◌≤◌, ◌⊎◌, ◌<◌, ◌^◌, ℕ, List, [], ◌∷◌, ◌++◌, length, take, All, false, ⊤, Some, None}
+use Rattle.std.specs.Prelude.{◌≡◌, ◌≤◌, ◌⊎◌, ◌<◌, ℕ, List, [], ◌∷◌, ◌++◌, length, take, All, false, ⊤, Some, None}
 use Rattle.std.specs.List.{list_any}
 use Rattle.std.specs.declared.option.Option.{Option}
 use Rattle.sat_words.specs.Literal.{Literal}
@@ -12,18 +12,14 @@ use Rattle.rup_model.specs.declared.journal.Entry.TheVariants.{Add, Del, Reduce}
 use Rattle.rup_model.specs.declared.journal.Kind.{Kind}
 use Rattle.rup_model.specs.declared.journal.Kind.TheVariants.{Ruler, Learn, Derive, UnitLine}
 use Rattle.rup_model.specs.Basics.{EachAfter}
-use Rattle.rup_model.specs.Log.{Accepted, lits_of}
+use Rattle.rup_model.specs.Log.{Accepted}
 use Rattle.rup_model.specs.Journal.{added, lines, ring_of, Fits, EmptyLast}
 use Rattle.rup_model.specs.Opening.{program_opening, IsNew}
 use Rattle.rup_model.specs.Spent.{ruler_part, rings_part}
+pub use Rattle.drat_text.specs.Text.{CanBeSpelled}
 use Rattle.drat_text.specs.Text.{text, line_text}
 use Rattle.io_edge.specs.Causes.{Rose}
-use Rattle.dimacs_read.specs.Input.{IsOn}
 use Rattle.gimsatul.specs.Run.{Writer}
-
--- each variable of the lines is one that a proof may name: 1 to 2^30
-abbrev pub CanBeSpelled : List Line → Type 0
-CanBeSpelled L = All (λ x. All (IsOn (2 ^ 30)) (lits_of x)) L
 
 -- an addition of this kind: the ruler's is the empty clause; the one ring learns clauses of a literal or more, adds the
 -- lines of units, and derives the empty clause

@@ -1,11 +1,10 @@
 -- The plain form of input: the line `p cnf V C`, and after it C clauses, each a line of literals that ends with 0.
 use Rattle.std.specs.Prelude.{◌≡◌, ◌≤◌, ◌<◌, ◌^◌, ℕ, List, ◌++◌, map, length, All, codes, decimal}
-use Rattle.sat_words.specs.Literal.{Literal}
+use Rattle.sat_words.specs.Literal.{Literal, IsOn}
 use Rattle.sat_words.specs.Clause.{clause_of}
 use Rattle.sat_words.specs.FormulaData.{FormulaData}
 use Rattle.sat_words.specs.declared.line.Line.TheVariants.{Add}
 use Rattle.drat_text.specs.Text.{text}
-use Rattle.dimacs_read.specs.Input.{IsOn}
 
 -- the first line: one space between its parts, and numbers without leading zeros
 abbrev pub header : ℕ → ℕ → List ℕ

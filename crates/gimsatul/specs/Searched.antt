@@ -1,10 +1,12 @@
 -- What a search says: its verdict holds of one journal, which the proof's writer has been given.
-use Rattle.std.specs.Prelude.{◌≡◌, ◌≤◌, ◌<◌, ℕ, List, length, Result, Ok, Err}
+use Rattle.std.specs.Prelude.{◌≡◌, ◌≤◌, ◌<◌, ◌⊎◌, ℕ, true, false, List, length, Result, Ok, Err}
 use Rattle.std.specs.declared.option.Option.{Option}
+use Rattle.io_edge.specs.Bytes.{IsFront}
 use Rattle.io_edge.specs.Causes.{Rose}
 use Rattle.sat_words.specs.FormulaData.{FormulaData}
 use Rattle.rup_model.specs.declared.journal.Entry.{Entry}
 use Rattle.rup_model.specs.Journal.{lines, learned}
+use Rattle.drat_text.specs.LineState.{LineState}
 use Rattle.drat_text.specs.Text.{text}
 use Rattle.gimsatul.specs.declared.report.Verdict.{Verdict}
 use Rattle.gimsatul.specs.declared.report.End.{End}
@@ -31,3 +33,20 @@ pub record IsSearch (limit : ℕ) (formula : FormulaData) (verdict : Result Verd
   pub conclusion : Concludes limit formula journal faults verdict
   pub whole : faults ≡ 0 → HoldsText written (text (lines formula.clauses journal))
   pub short : (faults ≡ 0 → ⊥) → IsCutShort formula.clauses journal written
+
+-- all lines were written out, and the verdict stays
+pub record WroteAll (out : LineState) (verdict told : Result Verdict End) (faults : ℕ) (written : Option (List ℕ)) : Type 0 where
+  pub is : told ≡ verdict
+  pub quiet : faults ≡ out.faults
+  pub bytes : written ≡ out.written
+
+-- the proof's writer failed, at a line before or at what was left to write: it has a front of the lines' text
+pub record BrokeOff (out : LineState) (told : Result Verdict End) (faults : ℕ) (written : Option (List ℕ)) : Type 0 where
+  pub is : told ≡ Err ProofFault
+  pub before : out.spent ≡ true → faults ≡ out.faults
+  pub now : out.spent ≡ false → Rose out.faults faults
+  pub front : IsFront written out.written
+
+-- the lines were finished
+abbrev pub HasClosed : LineState → Result Verdict End → Result Verdict End → ℕ → Option (List ℕ) → Type 0
+HasClosed out verdict told faults written = WroteAll out verdict told faults written ⊎ BrokeOff out told faults written

@@ -1,6 +1,6 @@
 // The verdict that the end of the ring comes to.
 ghost use Rattle.std.specs.Prelude.{◌≡◌, ◌<◌, ◌≤◌, ◌^◌, All, IfOk, Err, true, false, length};
-ghost use Rattle.dimacs_read.specs.Input.{IsOn};
+ghost use Rattle.sat_words.specs.Literal.{IsOn};
 ghost use Rattle.gimsatul.specs.Concluded.{TakesValues, IsWithoutIdle, IsVerdictOf, IsAlone};
 
 use crate::report::{End, Verdict};

@@ -6,7 +6,7 @@ ghost use Rattle.io_edge.specs.Causes.{HasCause};
 ghost use Rattle.io_edge.specs.Paths.{IsEmptyWhereTold};
 ghost use Rattle.gimsatul.specs.Answer.{answer_text};
 ghost use Rattle.gimsatul.specs.Ends.{end_of, end_of_read, status_of, prints_at};
-ghost use Rattle.dimacs_read.specs.Input.{IsOn};
+ghost use Rattle.sat_words.specs.Literal.{IsOn};
 ghost use Rattle.gimsatul.specs.Finished.{Finishes};
 ghost use Rattle.gimsatul.specs.Outcome.{Concluded, IsRun};
 ghost use Rattle.gimsatul.specs.Tallied.{no_tally, ring_tally};

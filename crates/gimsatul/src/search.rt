@@ -1,17 +1,19 @@
 // The search: one ring over the formula, whose lines go to the proof.
-ghost use Rattle.std.specs.Prelude.{◌≡◌, ◌<◌, ◌≤◌, ◌^◌, All, IfOk, IfErr, length, true, map, []};
+ghost use Rattle.std.specs.Prelude.{◌≡◌, ◌<◌, ◌≤◌, ◌^◌, All, IfOk, IfErr, length, true, map, [], Err};
 ghost use Rattle.std.specs.List.{list_any};
 ghost use Rattle.io_edge.specs.Paths.{IsEmptyWhereTold};
 ghost use Rattle.sat_words.specs.Clause.{is_empty};
-ghost use Rattle.dimacs_read.specs.Input.{IsOn};
+ghost use Rattle.sat_words.specs.Literal.{IsOn};
 ghost use Rattle.ring_run.specs.Ended.{IsJobOf};
-ghost use Rattle.gimsatul.specs.Searched.{IsSearch};
+ghost use Rattle.drat_text.specs.SinkData.{told_by};
+ghost use Rattle.gimsatul.specs.declared.report.End.TheVariants.{Memory};
+ghost use Rattle.gimsatul.specs.Searched.{IsSearch, HasClosed};
 
 use crate::conclude::verdict_of;
 use crate::report::{End, Verdict};
 use crate::start::{has_empty, open_port};
 use drat_text::{LineOut, LineStop, SinkLines};
-use io_edge::Sink;
+use io_edge::{Failed, Sink};
 use ring_port::PlainPort;
 use ring_run::{Addresses, Job, run_ring};
 use sat_words::{Formula, Line, Lits};
@@ -25,6 +27,43 @@ pub struct Searched<P> {
     pub proof: P,
 }
 
+impl<P> Searched<P> {
+    /// Memory ran out before a line was put.
+    fn starved(proof: P) -> Searched<P>
+        ensures { result ≡ record { verdict = Err Memory; learned = 0; proof = proof } }
+    {
+        Searched {
+            verdict: Err(End::Memory),
+            learned: 0,
+            proof,
+        }
+    }
+}
+
+/// Writes what is left of the lines. A verdict holds only where the sink has taken them all.
+fn close<P: Sink>(
+    lines: SinkLines<P>,
+    verdict: Result<Verdict, End>,
+    learned: u64,
+) -> Searched<P>
+    ensures closed { HasClosed (told_by P.written P.flushed P.target P.faults lines) verdict result.verdict (P.faults result.proof) (P.written result.proof) }
+    ensures learned { result.learned ≡ learned }
+    ensures target { P.target result.proof ≡ P.target lines.sink }
+{
+    match lines.finish() {
+        (Ok(()), proof) => Searched {
+            verdict,
+            learned,
+            proof,
+        },
+        (Err(Failed), proof) => Searched {
+            verdict: Err(End::ProofFault),
+            learned,
+            proof,
+        },
+    }
+}
+
 /// Writes the empty clause, which the formula has.
 fn refute<P: Sink>(alloc: Global, formula: &Formula, limit: u64, proof: P) -> Searched<P>
     requires some { 1 ≤ limit }
@@ -35,18 +74,17 @@ fn refute<P: Sink>(alloc: Global, formula: &Formula, limit: u64, proof: P) -> Se
     ensures searched { IsSearch limit formula.now result.verdict result.learned (P.faults result.proof) (P.written result.proof) }
     ensures target { P.target result.proof ≡ P.target proof }
 {
-    let mut lines = SinkLines::new(formula.clauses().len() as u64, proof);
+    let mut lines = match SinkLines::new(alloc, formula.clauses().len() as u64, proof) {
+        Ok(lines) => lines,
+        Err(refused) => return Searched::starved(refused.value),
+    };
     let verdict = match lines.put(&Line::Add(Lits::from_vec(Vec::new(alloc)))) {
         Ok(_) => Ok(Verdict::Unsatisfiable),
         Err(LineStop::ProofFault) => Err(End::ProofFault),
         Err(LineStop::Full) => unreachable!(),
         Err(LineStop::Memory) => Err(End::Memory),
     };
-    Searched {
-        verdict,
-        learned: 0,
-        proof: lines.into_sink(),
-    }
+    close(lines, verdict, 0)
 }
 
 /// The part of ring 0, which searches alone.
@@ -89,26 +127,14 @@ pub fn search<P: Sink>(alloc: Global, formula: &Formula, limit: u64, proof: P) -
     let mut port = match open_port(alloc, formula, proof) {
         Ok(port) => port,
         Err(refused) => {
-            return Searched {
-                verdict: Err(End::Memory),
-                learned: 0,
-                proof: refused.value,
-            };
+            return Searched::starved(refused.value);
         }
     };
     let Ok(job) = job_of(alloc, &port, formula.vars(), limit) else {
-        return Searched {
-            verdict: Err(End::Memory),
-            learned: 0,
-            proof: port.into_lines().into_sink(),
-        };
+        return close(port.into_lines(), Err(End::Memory), 0);
     };
     let (end, counts) = run_ring(alloc, &mut port, &job);
     let lines = port.into_lines();
     let verdict = verdict_of(alloc, formula, end);
-    Searched {
-        verdict,
-        learned: counts.learned,
-        proof: lines.into_sink(),
-    }
+    close(lines, verdict, counts.learned)
 }

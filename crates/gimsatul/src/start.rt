@@ -3,7 +3,7 @@ ghost use Rattle.std.specs.Prelude.{◌≡◌, ◌≤◌, ◌<◌, ◌^◌, [], 
 ghost use Rattle.std.specs.List.{list_any};
 ghost use Rattle.io_edge.specs.Paths.{IsEmptyWhereTold};
 ghost use Rattle.sat_words.specs.Clause.{is_empty, InOrder};
-ghost use Rattle.dimacs_read.specs.Input.{IsOn};
+ghost use Rattle.sat_words.specs.Literal.{IsOn};
 ghost use Rattle.drat_text.specs.SinkData.{told_by};
 ghost use Rattle.gimsatul.specs.Begun.{Begins};
 
@@ -39,7 +39,7 @@ pub(crate) fn open_port<S: Sink>(
     requires going { list_any is_empty formula.now.clauses ≡ false }
     requires ordered { All InOrder formula.now.clauses }
     requires empty { IsEmptyWhereTold (S.written proof) }
-    ensures begins { IfOk result (λ port. Begins formula.now (told_by S.written S.flushed S.target S.faults (record { entries = 0; last = length formula.now.clauses; spent = false; sink = proof })) port) }
+    ensures begins { IfOk result (λ port. Begins formula.now (told_by S.written S.flushed S.target S.faults (record { entries = 0; last = length formula.now.clauses; spent = false; waiting = []; sink = proof })) port) }
     ensures back { IfErr result (λ refused. refused.value ≡ proof) }
 {
     let vars = formula.vars();
@@ -50,11 +50,12 @@ pub(crate) fn open_port<S: Sink>(
     let Ok(units) = units_of(alloc, clauses, vars) else {
         return Err(AllocFailed { value: proof });
     };
-    let lines = SinkLines::new(clauses.len() as u64, proof);
+    let lines = SinkLines::new(alloc, clauses.len() as u64, proof)?;
     match PlainPort::new(alloc, formula, vars, &starts, &units, lines) {
         Ok(port) => Ok(port),
-        Err(refused) => Err(AllocFailed {
-            value: refused.value.into_sink(),
-        }),
+        Err(refused) => {
+            let (_, value) = refused.value.finish();
+            Err(AllocFailed { value })
+        }
     }
 }

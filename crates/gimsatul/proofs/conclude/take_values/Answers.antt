@@ -3,7 +3,7 @@ use Rattle.std.proofs.Math.ListN.{set}
 use Rattle.std.proofs.lemmas.List.{take_all}
 use Rattle.sat_words.specs.Literal.{Literal}
 use Rattle.sat_words.specs.Truth.{value_of}
-use Rattle.dimacs_read.specs.Input.{IsOn}
+use Rattle.sat_words.specs.Literal.{IsOn}
 use Rattle.gimsatul.specs.Concluded.{TakesValues}
 use Rattle.gimsatul.proofs.Models.{takes_start, takes_next}
 use Rattle.gimsatul.proofs.conclude.take_values.Goals as goal

@@ -1,4 +1,4 @@
-use Rattle.std.proofs.Common.{◌≡◌, ◌≤◌, ◌∙◌, sym, subst, ℕ, length, false}
+use Rattle.std.proofs.Common.{◌≡◌, ◌≤◌, ◌∙◌, sym, subst, ℕ, length, false, [], refl}
 use Rattle.std.specs.Prelude.{Result}
 use Rattle.sat_words.specs.FormulaData.{FormulaData}
 use Rattle.drat_text.specs.SinkData.{SinkData, told_by}
@@ -10,14 +10,29 @@ use Rattle.gimsatul.specs.declared.report.Verdict.{Verdict}
 use Rattle.gimsatul.specs.declared.report.End.{End as CallEnd}
 use Rattle.gimsatul.specs.Searched.{IsSearch}
 use Rattle.gimsatul.specs.Begun.{Begins}
-use Rattle.gimsatul.proofs.Standing.{is_search}
+use Rattle.gimsatul.proofs.Closing.{still_empty}
+use Rattle.gimsatul.proofs.Standing.{is_closed_search}
+use Rattle.gimsatul.proofs.Refuting.{begun_closed}
 use Rattle.gimsatul.proofs.search.search.Goals as goal
+
+pub returns-in_default-clause-searched : goal.returns-in_default-clause-searched
+returns-in_default-clause-searched g c =
+    let F : FormulaData = c.args.formula.now in
+    let told : SinkData g.row.P.Denot → LineState = told_by g.P.Sink.written g.P.Sink.flushed g.P.Sink.target g.P.Sink.faults in
+    let output : LineState = told (record { entries = 0; last = length F.clauses; spent = false; waiting = []; sink = c.args.proof }) in
+    let out : LineState = told c.into_lines.result in
+    let begins : Begins F output c.in-Ok.port = c.in-Ok.ensures.begins in
+    let faults = g.P.Sink.faults c.close.result.proof in
+    let written = g.P.Sink.written c.close.result.proof in
+    subst (λ (n : ℕ). IsSearch c.args.limit F c.close.result.verdict n faults written) (sym c.close.ensures.learned)
+    (begun_closed c.args.limit F output c.in-Ok.port out c.close.result.verdict faults written c.requires.some begins
+    (still_empty (g.P.Sink.written c.args.proof) [] c.requires.empty refl) c.requires.quiet c.into_lines.ensures c.close.ensures.closed)
 
 pub returns-clause-searched : goal.returns-clause-searched
 returns-clause-searched g c =
     let F : FormulaData = c.args.formula.now in
     let told : SinkData g.row.P.Denot → LineState = told_by g.P.Sink.written g.P.Sink.flushed g.P.Sink.target g.P.Sink.faults in
-    let output : LineState = told (record { entries = 0; last = length F.clauses; spent = false; sink = c.args.proof }) in
+    let output : LineState = told (record { entries = 0; last = length F.clauses; spent = false; waiting = []; sink = c.args.proof }) in
     let out : LineState = told c.into_lines-lines.result in
     let before : PortState = c.in-Ok.port in
     let after : PortState = c.run_ring-end.new.port in
@@ -29,6 +44,8 @@ returns-clause-searched g c =
     let spent : end ≡ End.Spent → count ≡ c.args.limit = λ e. c.run_ring-end.ensures.spent.0 e ∙ c.in-Ok-job_of.ensures.limit in
     let unspent : count ≡ c.args.limit → end ≡ End.Spent = λ e. c.run_ring-end.ensures.spent.1 (e ∙ sym c.in-Ok-job_of.ensures.limit) in
     let v : Result Verdict CallEnd = c.verdict_of-verdict.result in
-    let all : IsSearch c.args.limit F v count out.faults out.written =
-    is_search F output before after c.args.limit count end out begins c.requires.few c.requires.empty c.requires.quiet c.run_ring-end.ensures.stays c.run_ring-end.ensures.wrote c.run_ring-end.ensures.new counted.learned_is within spent unspent c.run_ring-end.ensures.ends c.into_lines-lines.ensures v c.verdict_of-verdict.ensures in
-    subst (λ (x : g.row.P.Denot). IsSearch c.args.limit F v count (g.P.Sink.faults x) (g.P.Sink.written x)) (sym c.into_sink-2.ensures) all
+    let faults = g.P.Sink.faults c.close-2.result.proof in
+    let written = g.P.Sink.written c.close-2.result.proof in
+    subst (λ (n : ℕ). IsSearch c.args.limit F c.close-2.result.verdict n faults written) (sym c.close-2.ensures.learned)
+    (is_closed_search F output before after c.args.limit count end out begins c.requires.few (still_empty (g.P.Sink.written c.args.proof) [] c.requires.empty refl) c.requires.quiet c.run_ring-end.ensures.stays c.run_ring-end.ensures.wrote c.run_ring-end.ensures.new counted.learned_is within spent unspent c.run_ring-end.ensures.ends c.into_lines-lines.ensures
+    v c.close-2.result.verdict faults written c.verdict_of-verdict.ensures c.close-2.ensures.closed)

@@ -12,27 +12,27 @@ use Rattle.gimsatul.proofs.Starting.{begins}
 use Rattle.gimsatul.proofs.start.open_port.Goals as goal
 
 -- src/start.rt:54:11
-pub new-requires-clause-opening : goal.new-requires-clause-opening
-new-requires-clause-opening g c =
+pub new-requires-2-clause-opening : goal.new-requires-2-clause-opening
+new-requires-2-clause-opening g c =
     let F : List (List Literal) = c.args.formula.now.clauses in
-    let out : LineState = told_by g.S.Sink.written g.S.Sink.flushed g.S.Sink.target g.S.Sink.faults c.new-lines.result in
+    let out : LineState = told_by g.S.Sink.written g.S.Sink.flushed g.S.Sink.target g.S.Sink.faults c.in_ok-lines.lines in
     let starts : c.deref.result.now ≡ start_pairs 1 F = c.deref.ensures.value ∙ c.in-Ok.ensures ∙ ap (start_pairs 1) c.clauses-clauses.ensures in
     let units : IsUnits F c.deref-2.result.now = subst (λ (us : List Literal). IsUnits F us) (sym c.deref-2.ensures.value) (subst (λ (cs : List (List Literal)). IsUnits cs c.in-Ok-units_of.units.items) c.clauses-clauses.ensures (c.in-Ok-units_of.ensures)) in
-    let none : out.entries ≡ 0 = ap (λ (p : SinkData g.row.S.Denot). p.entries) c.new-lines.ensures in
-    let count : out.last ≡ length F = ap (λ (p : SinkData g.row.S.Denot). p.last) c.new-lines.ensures ∙ ap (λ (cs : List (List Literal)). length cs) c.clauses-clauses.ensures in
+    let none : out.entries ≡ 0 = ap (λ (p : SinkData g.row.S.Denot). p.entries) c.in_ok-lines.ensures.made in
+    let count : out.last ≡ length F = ap (λ (p : SinkData g.row.S.Denot). p.last) c.in_ok-lines.ensures.made ∙ ap (λ (cs : List (List Literal)). length cs) c.clauses-clauses.ensures in
     ([], subst (λ (ss : List (ℕ × List Literal)). OpensOver F (starts_of ss) c.deref-2.result.now out []) (sym starts) (opens_over F c.deref-2.result.now out units none count))
 
 -- src/start.rt:54:11
-pub new-requires-clause-starts_on : goal.new-requires-clause-starts_on
-new-requires-clause-starts_on g c =
+pub new-requires-2-clause-starts_on : goal.new-requires-2-clause-starts_on
+new-requires-2-clause-starts_on g c =
     let F : List (List Literal) = c.args.formula.now.clauses in
     let starts : c.deref.result.now ≡ start_pairs 1 F = c.deref.ensures.value ∙ c.in-Ok.ensures ∙ ap (start_pairs 1) c.clauses-clauses.ensures in
     subst (λ (v : ℕ). All (λ (p : ℕ × List Literal). All (IsPortOn v) p.1) c.deref.result.now) (sym c.vars-vars.ensures)
     (subst (λ (ss : List (ℕ × List Literal)). All (λ (p : ℕ × List Literal). All (IsPortOn c.args.formula.now.vars) p.1) ss) (sym starts) (pairs_on F c.args.formula.now.vars c.requires.on_variables))
 
 -- src/start.rt:54:11
-pub new-requires-clause-units_on : goal.new-requires-clause-units_on
-new-requires-clause-units_on g c =
+pub new-requires-2-clause-units_on : goal.new-requires-2-clause-units_on
+new-requires-2-clause-units_on g c =
     let F : List (List Literal) = c.args.formula.now.clauses in
     let units : IsUnits F c.deref-2.result.now = subst (λ (us : List Literal). IsUnits F us) (sym c.deref-2.ensures.value) (subst (λ (cs : List (List Literal)). IsUnits cs c.in-Ok-units_of.units.items) c.clauses-clauses.ensures (c.in-Ok-units_of.ensures)) in
     subst (λ (v : ℕ). All (IsPortOn v) c.deref-2.result.now) (sym c.vars-vars.ensures) (units_on F c.args.formula.now.vars c.deref-2.result.now units c.requires.on_variables)
@@ -42,12 +42,12 @@ pub returns-in-Ok-new-clause-begins : goal.returns-in-Ok-new-clause-begins
 returns-in-Ok-new-clause-begins g c =
     let F : List (List Literal) = c.args.formula.now.clauses in
     let told : SinkData g.row.S.Denot → LineState = told_by g.S.Sink.written g.S.Sink.flushed g.S.Sink.target g.S.Sink.faults in
-    let out : LineState = told c.new-lines.result in
-    let at : SinkData g.row.S.Denot = record { entries = 0; last = length F; spent = false; sink = c.args.proof } in
-    let is : c.new-lines.result ≡ at = c.new-lines.ensures ∙ ap (λ (cs : List (List Literal)). record { entries = 0; last = length cs; spent = false; sink = c.args.proof }) c.clauses-clauses.ensures in
+    let out : LineState = told c.in_ok-lines.lines in
+    let at : SinkData g.row.S.Denot = record { entries = 0; last = length F; spent = false; waiting = []; sink = c.args.proof } in
+    let is : c.in_ok-lines.lines ≡ at = c.in_ok-lines.ensures.made ∙ ap (λ (cs : List (List Literal)). record { entries = 0; last = length cs; spent = false; waiting = []; sink = c.args.proof }) c.clauses-clauses.ensures in
     let starts : c.deref.result.now ≡ start_pairs 1 F = c.deref.ensures.value ∙ c.in-Ok.ensures ∙ ap (start_pairs 1) c.clauses-clauses.ensures in
     let units : IsUnits F c.deref-2.result.now = subst (λ (us : List Literal). IsUnits F us) (sym c.deref-2.ensures.value) (subst (λ (cs : List (List Literal)). IsUnits cs c.in-Ok-units_of.units.items) c.clauses-clauses.ensures (c.in-Ok-units_of.ensures)) in
-    let none : out.entries ≡ 0 = ap (λ (p : SinkData g.row.S.Denot). p.entries) c.new-lines.ensures in
+    let none : out.entries ≡ 0 = ap (λ (p : SinkData g.row.S.Denot). p.entries) c.in_ok-lines.ensures.made in
     let count : out.last ≡ length F = ap (λ (p : SinkData g.row.S.Denot). p.last) is in
     let over : OpensOver F (starts_of c.deref.result.now) c.deref-2.result.now out [] = subst (λ (ss : List (ℕ × List Literal)). OpensOver F (starts_of ss) c.deref-2.result.now out []) (sym starts) (opens_over F c.deref-2.result.now out units none count) in
     let stands : StandsOver (origin_of F out) c.in-Ok-new.port = c.in-Ok-new.ensures.stands [] over in

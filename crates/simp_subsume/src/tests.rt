@@ -2,7 +2,7 @@ ghost use Rattle.std.specs.Prelude.{◌≡◌, ◌≤◌, true, All};
 ghost use Rattle.sat_words.specs.Literal.{IsOn};
 
 use crate::run;
-use drat_text::{LineStop, SinkLines};
+use drat_text::{CountedLines, LineStop, SinkLines};
 use io_edge::MemSink;
 use sat_words::{Clause, Formula, Lit};
 use simp_base::{Run, Work};
@@ -10,13 +10,11 @@ use std::alloc::Global;
 use std::process::Abort;
 use std::test::Fail;
 
-/// Clauses on three variables, each with a 0 behind it, the calls of the sink that fail, and what is wanted: the answer,
-/// the lines, the units and how many clauses are left.
+/// Clauses on three variables, each with a 0 behind it, and what is wanted: the lines, the units and how many clauses are
+/// left.
 #[derive(Clone, Copy)]
 struct Row {
     clauses: &'static [i32],
-    fails: &'static [u64],
-    answer: Result<Run, LineStop>,
     text: &'static str,
     units: &'static [i32],
     left: usize,
@@ -25,43 +23,27 @@ struct Row {
 const ROWS: &[Row] = &[
     Row {
         clauses: &[1, 2, 0, 1, 2, 3, 0],
-        fails: &[],
-        answer: Ok(Run::Done),
         text: "d 1 2 3 0\n",
         units: &[],
         left: 1,
     },
     Row {
         clauses: &[1, 2, 0, -1, 2, 3, 0],
-        fails: &[],
-        answer: Ok(Run::Done),
         text: "2 3 0\nd -1 2 3 0\n",
         units: &[],
         left: 2,
     },
     Row {
         clauses: &[1, 2, 0, 1, 2, 0, 1, -1, 2, 0, 3, 0, 2, 3, 0],
-        fails: &[],
-        answer: Ok(Run::Done),
         text: "d 1 2 0\n",
         units: &[],
         left: 4,
     },
     Row {
         clauses: &[1, 2, 3, 0, -1, 2, 3, 0, -2, 3, 0],
-        fails: &[],
-        answer: Ok(Run::Done),
         text: "2 3 0\nd -1 2 3 0\n1 3 0\nd 1 2 3 0\n3 0\nd 2 3 0\n",
         units: &[3],
         left: 3,
-    },
-    Row {
-        clauses: &[1, 2, 3, 0, 1, 2, 0],
-        fails: &[1],
-        answer: Err(LineStop::ProofFault),
-        text: "",
-        units: &[],
-        left: 2,
     },
 ];
 
@@ -116,19 +98,20 @@ fn check_row(rt: &impl Abort, alloc: Global, row: &Row) -> Result<(), Fail> {
     let text = row.text;
     let formula = formula_of(alloc, row.clauses)?;
     assert!(rt; is_on(&formula));
-    let sink = MemSink::new(alloc, 64, row.fails)?;
-    let lines = SinkLines::new(formula.clauses().len() as u64, sink);
+    let sink = MemSink::new(alloc, 64, &[])?;
+    let Ok(lines) = SinkLines::new(alloc, formula.clauses().len() as u64, sink) else {
+        return Err("no memory for the lines".into());
+    };
     let Ok(work) = Work::new(alloc, &formula, lines) else {
         return Err("no memory".into());
     };
     let mut work = work;
-    assert!(rt; run(&mut work) == row.answer, "{text}");
+    assert!(rt; run(&mut work) == Ok(Run::Done), "{text}");
     let parts = work.into_parts();
     let units = literals(alloc, row.units)?;
-    assert!(rt;
-        parts.output.into_sink().bytes() == text.as_bytes(),
-        "{text}"
-    );
+    let (end, sink) = parts.output.finish();
+    assert!(rt; end.is_ok(), "{text}");
+    assert!(rt; sink.bytes() == text.as_bytes(), "{text}");
     assert!(rt; parts.units.as_slice() == units.as_slice(), "{text}");
     assert_eq!(rt; parts.clauses.len(), row.left, "{text}");
     Ok(())
@@ -139,5 +122,20 @@ fn what_is_written_and_left(rt: HostRuntime) -> Result<(), Fail> {
     for row in ROWS {
         check_row(&rt, rt.alloc(), row)?;
     }
+    Ok(())
+}
+
+#[test]
+fn a_line_that_fails(rt: HostRuntime) -> Result<(), Fail> {
+    let alloc = rt.alloc();
+    let formula = formula_of(alloc, &[1, 2, 3, 0, 1, 2, 0])?;
+    assert!(rt; is_on(&formula));
+    let lines = CountedLines::new(formula.clauses().len() as u64, 1);
+    let Ok(work) = Work::new(alloc, &formula, lines) else {
+        return Err("no memory".into());
+    };
+    let mut work = work;
+    assert!(rt; run(&mut work) == Err(LineStop::ProofFault));
+    assert_eq!(rt; work.into_parts().clauses.len(), 2);
     Ok(())
 }

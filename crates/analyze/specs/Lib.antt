@@ -2,6 +2,7 @@ pub mod Levels
 pub mod Walk
 pub mod Removable
 pub mod Verdicts
+pub mod Scanning
 pub mod MarksData
 pub mod MarksInside
 pub mod Marks

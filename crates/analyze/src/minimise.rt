@@ -8,7 +8,8 @@ ghost use Rattle.ring_trail.specs.TrailData.{IsTrail, level_at, reason_at};
 ghost use Rattle.ring_trail.specs.Reasoned.{IsReasoned};
 ghost use Rattle.analyze.specs.MarksData.{all_blank};
 ghost use Rattle.analyze.specs.Marks.{marked, IsMarking};
-ghost use Rattle.analyze.specs.Verdicts.{CanLook, IsLook, IsScanned, IsScan, IsJudged, is_kept, is_known, kept_of, verdict_at};
+ghost use Rattle.analyze.specs.Scanning.{CanScan};
+ghost use Rattle.analyze.specs.Verdicts.{CanLook, IsLook, IsScan, IsJudged, is_kept, is_known, kept_of, verdict_at};
 
 use crate::marks::Marks;
 use ring_port::Port;
@@ -91,14 +92,8 @@ fn scan_reason<P: Port>(
     marks: &[bool],
     table: &[Verdict],
 ) -> Scan
-    requires shape { IsTrail trail.now }
-    requires reasoned { IsReasoned (clause_at (P.state port.old)) (P.state port.old).seen trail.now.steps }
-    requires marks { length marks.now ≡ trail.now.vars }
-    requires table { length table.now ≡ trail.now.vars }
-    requires in_range { frame.place < length trail.now.steps }
-    requires above { 1 ≤ level_at trail.now.steps frame.place }
+    requires can { CanScan (P.state port.old) trail.now marks.now table.now frame }
     requires reason { reason_at trail.now.steps frame.place ≡ Some reason }
-    requires scanned { IsScanned (clause_at (P.state port.old)) trail.now.steps marks.now table.now frame.place frame.next }
     ensures same { P.state port.new ≡ P.state port.old }
     ensures scan { IsScan (clause_at (P.state port.old)) trail.now.steps marks.now table.now frame.place result }
 {
@@ -122,13 +117,7 @@ fn scan_place<P: Port>(
     marks: &[bool],
     table: &[Verdict],
 ) -> Scan
-    requires shape { IsTrail trail.now }
-    requires reasoned { IsReasoned (clause_at (P.state port.old)) (P.state port.old).seen trail.now.steps }
-    requires marks { length marks.now ≡ trail.now.vars }
-    requires table { length table.now ≡ trail.now.vars }
-    requires in_range { frame.place < length trail.now.steps }
-    requires above { 1 ≤ level_at trail.now.steps frame.place }
-    requires scanned { IsScanned (clause_at (P.state port.old)) trail.now.steps marks.now table.now frame.place frame.next }
+    requires can { CanScan (P.state port.old) trail.now marks.now table.now frame }
     ensures same { P.state port.new ≡ P.state port.old }
     ensures scan { IsScan (clause_at (P.state port.old)) trail.now.steps marks.now table.now frame.place result }
 {

@@ -9,7 +9,7 @@ use Rattle.analyze.proofs.minimise.scan_reason.Goals as goal
 
 -- the place's reason
 reason : (g : Over) (c : After-read_lit-lit g) → HasReason (clause_at (g.P.Port.state c.args.port.now)) c.args.trail.now.steps c.args.frame.place c.args.reason
-reason g c = forced_by _ _ _ c.args.reason (forced_above _ _ _ _ c.args.reason c.requires.reasoned c.requires.in_range c.requires.above c.requires.reason) c.requires.reason
+reason g c = forced_by _ _ _ c.args.reason (forced_above _ _ _ _ c.args.reason c.requires.can.reasoned c.requires.can.in_range c.requires.can.above c.requires.reason) c.requires.reason
 
 read : (g : Over) (c : After-read_lit-lit g) → IsRead (reason g c).lits c.loop-i.i c.read_lit-lit.result
 read g c =
@@ -48,7 +48,7 @@ loop-i-preserved g c =
 pub returns-clause-scan : goal.returns-clause-scan
 returns-clause-scan g c =
     let i = c.loop-i.invariant in
-    let r = forced_by _ _ _ c.args.reason (forced_above _ _ _ _ c.args.reason c.requires.reasoned c.requires.in_range c.requires.above c.requires.reason) c.requires.reason in
+    let r = forced_by _ _ _ c.args.reason (forced_above _ _ _ _ c.args.reason c.requires.can.reasoned c.requires.can.in_range c.requires.can.above c.requires.reason) c.requires.reason in
     let lits = (clause_held (g.P.Port.state c.args.port.now) c.args.reason.address r.lits r.held_is).1 in
     IsCleared-scanned _ c.args.trail.now.steps c.args.marks.now c.args.table.now c.args.frame.place c.args.reason r.lits c.loop-i.i c.requires.reason r.held_is
     (rw (← lits) (omega (arith, i.size))) i.scanned

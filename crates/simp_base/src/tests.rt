@@ -41,6 +41,8 @@ fn each_call_goes_well(rt: HostRuntime) -> Result<(), Fail> {
     };
     let mut work = work;
     assert!(rt; work.numbers_with(one).is_ok());
+    assert!(rt; work.occurrences(one) == [1].as_slice());
+    assert_eq!(rt; work.last_number(), 1);
     assert!(rt; work.has_unit(1));
     assert!(rt; !work.has_unit(2));
     assert!(rt;

@@ -80,6 +80,8 @@ ends_done old new n above p = record {
   reduced = λ m q c d i j ne part other. p.below m q c d i j ne (let low = All_In (λ (x : ℕ × List Literal). x.0 ≤ new.output.last) new.clauses (m, c) p.reduces.work.given (Contains_In new.clauses (m, c) i) in omega arith) part other;
   covered = p.reduces.covered;
   parts = p.reduces.parts;
+  vars = p.reduces.vars;
+  units = p.reduces.units;
   stack = p.reduces.stack;
   lifted = lifted_reduced old new p.reduces;
   going = p.reduces.going;

@@ -32,6 +32,7 @@ grown_added old new lits number unspent some h log =
       unspent = ap (λ (s : LineState). s.spent) h.put.state ∙ unspent;
       quiet = ap (λ (s : LineState). s.faults) h.put.state;
       stack = ap (λ (w : WorkState). w.stack) h.state;
+      vars = ap (λ (w : WorkState). w.vars) h.state;
       later = (let e : new.output.last ≡ old.output.last + 1 = ap (λ (s : LineState). s.last) h.put.state in omega arith);
       stay = λ n c i. subst (λ (cs : List (ℕ × List Literal)). Contains cs (n, c)) (sym clauses) (Contains_left old.clauses ((number, clause_of lits) ∷ []) (n, c) i);
       came = λ n c i. ⊎_elim
@@ -53,6 +54,7 @@ grown_listed old new l going unspent true e h log = record {
   unspent = ap (λ (w : WorkState). w.output.spent) h ∙ unspent;
   quiet = ap (λ (w : WorkState). w.output.faults) h;
   stack = ap (λ (w : WorkState). w.stack) h;
+  vars = ap (λ (w : WorkState). w.vars) h;
   later = (let e : new.output.last ≡ old.output.last = ap (λ (w : WorkState). w.output.last) h in omega arith);
   stay = λ n c i. subst (λ (w : WorkState). Contains w.clauses (n, c)) (sym h) i;
   came = λ n c i. inl (subst (λ (w : WorkState). Contains w.clauses (n, c)) h i);
@@ -68,6 +70,7 @@ grown_listed old new l going unspent false e h log =
       unspent = g.spent ∙ unspent;
       quiet = g.faults;
       stack = g.stack;
+      vars = g.vars;
       later = g.later;
       stay = λ n c i. subst (λ (cs : List (ℕ × List Literal)). Contains cs (n, c)) (sym g.clauses) (Contains_left old.clauses g.extra (n, c) i);
       came = λ n c i. ⊎_elim

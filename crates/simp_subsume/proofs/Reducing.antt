@@ -47,6 +47,8 @@ reduces_self w going unspent kept = record {
   unspent = unspent;
   work = kept;
   quiet = refl;
+  vars = refl;
+  units = λ l h. h;
   stack = refl;
   covered = λ c h. (c, h, includes_self c);
   parts = λ c h. (c, h, includes_self c);
@@ -62,6 +64,8 @@ reduces_along a b c f g = record {
   work = g.work;
   quiet = g.quiet ∙ f.quiet;
   stack = g.stack ∙ f.stack;
+  vars = g.vars ∙ f.vars;
+  units = λ l h. g.units l (f.units l h);
   covered = λ x h. (let t = f.covered x h in let u = g.covered t.0 t.1 in (u.0, u.1, includes_along x t.0 u.0 t.2 u.2));
   parts = λ x h. (let t = g.parts x h in let u = f.parts t.0 t.1 in (u.0, u.1, includes_along u.0 t.0 x u.2 t.2));
   later = (let p = f.later in let q = g.later in omega arith);
@@ -89,6 +93,8 @@ reduces_deleted old new going unspent was kept log number h e among inside = rec
   work = kept;
   quiet = ap (λ (s : LineState). s.faults) h.put.state;
   stack = ap (λ (w : WorkState). w.stack) h.state;
+  vars = ap (λ (w : WorkState). w.vars) h.state;
+  units = λ l i. ap (λ (w : WorkState). has w.units l) h.state ∙ i;
   covered = λ c k. known_by (λ x. (d : List Literal) × Contains (known new) d × (includes x d ≡ true)) old
       (λ n x i. dite (ℕ_discrete n number)
       (λ (q : n ≡ number). (e, among, subst (λ y. includes y e ≡ true) (same_number old.clauses was.numbers number h.clause x h.alive (subst (λ (m : ℕ). Contains old.clauses (m, x)) q i)) inside))
@@ -112,6 +118,8 @@ reduces_grown old new lits kept g number d alive inside = record {
   work = kept;
   quiet = g.quiet;
   stack = g.stack;
+  vars = g.vars;
+  units = g.units_stay;
   covered = λ c k. known_by (λ x. (d : List Literal) × Contains (known new) d × (includes x d ≡ true)) old
       (λ n x i. (x, alive_known new n x (g.stay n x i), includes_self x))
       (λ l i. (l ∷ [], unit_known new l (g.units_stay l i), includes_self (l ∷ [])))

@@ -71,6 +71,8 @@ pub record Reduces (old new : WorkState) : Type 0 where
   pub work : IsWork new
   pub quiet : new.output.faults ≡ old.output.faults
   pub stack : new.stack ≡ old.stack
+  pub vars : new.vars ≡ old.vars
+  pub units : (l : Literal) → has old.units l ≡ true → has new.units l ≡ true
   pub covered : EachContains (known old) (known new)
   pub parts : EachContained (known old) (known new)
   pub later : old.output.last ≤ new.output.last
@@ -87,6 +89,7 @@ pub record Grown (old new : WorkState) (lits : List Literal) : Type 0 where
   pub unspent : new.output.spent ≡ false
   pub quiet : new.output.faults ≡ old.output.faults
   pub stack : new.stack ≡ old.stack
+  pub vars : new.vars ≡ old.vars
   pub later : old.output.last ≤ new.output.last
   pub stay : (n : ℕ) (c : List Literal) → Contains old.clauses (n, c) → Contains new.clauses (n, c)
   pub came : (n : ℕ) (c : List Literal) → Contains new.clauses (n, c) → IsOldOr old lits n c

@@ -1,7 +1,7 @@
 -- What subsumption leaves.
 use Rattle.std.specs.Prelude.{◌≡◌, ◌≢◌, ℕ, true, false, List, Contains, Result, Ok, Err}
 use Rattle.sat_words.specs.Literal.{Literal}
-use Rattle.sat_words.specs.Clause.{includes}
+use Rattle.sat_words.specs.Clause.{has, includes}
 use Rattle.drat_text.specs.declared.stop.LineStop.{LineStop}
 use Rattle.simp_base.specs.WorkState.{WorkState, known}
 use Rattle.simp_base.specs.Causes.{HasCause}
@@ -23,11 +23,13 @@ abbrev pub EachContained : List (List Literal) → List (List Literal) → Type 
 EachContained F G = (d : List Literal) → Contains G d → (c : List Literal) × Contains F c × (includes c d ≡ true)
 
 -- no clause is contained in another one; what was known contains something that is known, and what is known is a part of
--- something that was; nothing came to the stack, and models lift
+-- something that was; each unit is still listed; nothing came to the stack, and models lift
 pub record Subsumed (old new : WorkState) : Type 0 where
   pub reduced : IsReduced new.clauses
   pub covered : EachContains (known old) (known new)
   pub parts : EachContained (known old) (known new)
+  pub vars : new.vars ≡ old.vars
+  pub units : (l : Literal) → has old.units l ≡ true → has new.units l ≡ true
   pub stack : new.stack ≡ old.stack
   pub lifted : Lifted old new
   pub going : new.ended ≡ false

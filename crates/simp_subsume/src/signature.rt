@@ -26,7 +26,7 @@ pub(crate) fn signature_of(clause: &[Lit]) -> u64
     word
 }
 
-/// The signatures of the clauses, by number.
+/// The signatures of the clauses alive, by number. Clauses that come later have none.
 pub(crate) fn signatures_of<L: LineOut>(work: &Work<L>) -> Result<Vec<u64>, LineStop>
     ensures signed { IfOk result (λ words. AreSignatures work.now words.items) }
     ensures memory { IfErr result (λ stop. stop ≡ LineStop.Memory) }

@@ -40,6 +40,7 @@ cleaned_from old mid new a p t = record {
   units = λ l. ap (λ us. has us l) t.units ∙ p.units l;
   free = In_All (IsFree new.units) (lists new.clauses) (λ c i. free_of c (map_In (λ (x : ℕ × List Literal). x.1) new.clauses c i));
   lifted = lifted_along old mid new (lifted_progress old mid a p.progress) t.lifted;
+  vars = (let a = p.set.range in let b = t.set.range in let v = p.progress.vars in omega arith);
   going = t.set.going;
 }
   where

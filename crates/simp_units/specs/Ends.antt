@@ -21,12 +21,13 @@ abbrev pub IsFree : List Literal → List Literal → Type 0
 IsFree units c = two_or_more c ≡ true → has_opposites c ≡ false → All (λ l. is_fixed units l.var ≡ false) c
 
 -- the rounds from no literal over the clauses and units at entry falsify no clause; the units are what they give; no
--- clause holds a unit's variable; models lift
+-- clause holds a unit's variable; models lift, and the variables are as they were
 pub record Cleaned (old new : WorkState) : Type 0 where
   pub open_yet : conflicts (known old) [] ≡ false
   pub units : (l : Literal) → has new.units l ≡ Rounds (known old) [] l
   pub free : All (IsFree new.units) (lists new.clauses)
   pub lifted : Lifted old new
+  pub vars : new.vars ≡ old.vars
   pub going : new.ended ≡ false
 
 -- they falsify a clause, and the empty clause was added

@@ -43,6 +43,7 @@ use Rattle.gimsatul.specs.declared.report.End.{End as CallEnd}
 use Rattle.gimsatul.specs.Journaled.{CanBeSpelled, IsPlainEntry, IsPlainAddition, IsJournal, IsUnrefuted, HoldsText, IsCutShort}
 use Rattle.gimsatul.specs.Decided.{IsRefutation, IsFull}
 use Rattle.gimsatul.specs.Searched.{Concludes, IsSearch, HasClosed}
+use Rattle.gimsatul.specs.Occurring.{IsOccurring}
 use Rattle.gimsatul.specs.Concluded.{IsCleared, IsVerdictOf}
 use Rattle.gimsatul.specs.Begun.{origin_of, Begins, IsAlike}
 use Rattle.gimsatul.proofs.Closing.{cut_short, closed_search}
@@ -249,14 +250,13 @@ module _ (formula : FormulaData) (output : LineState) (p s : PortState) (limit c
   fewer : (x : End) → (count ≡ limit → x ≡ SpentEnd) → (x ≡ SpentEnd → ⊥) → length (learned 0 J) < limit
   fewer x un other = subst (λ (n : ℕ). n < limit) counts (less_or count limit within (λ e. other (un e)))
 
-  concludes : (result : Result Verdict CallEnd) → IsVerdictOf formula end result → Concludes limit formula J out.faults result
-  concludes result = by end spent unspent ends result
+  concludes : (occurring : List Bool) → IsOccurring formula.clauses formula.vars occurring → (result : Result Verdict CallEnd) → IsVerdictOf occurring end result → Concludes limit formula J out.faults result
+  concludes occurring marked result = by end spent unspent ends result
     where
-      model_by : (a : List Bool) → out.faults ≡ 0 → length (learned 0 J) < limit → IsUnrefuted J → IsModelOf s a → (r : Result Verdict CallEnd) → IsCleared formula a r → Concludes limit formula J out.faults r
-      model_by a none less going m (Ok v) h = subst (λ (w : Verdict). Concludes limit formula J out.faults (Ok w)) (sym h.1) (none, cleared formula a h.0 (model a m) h.2)
-      model_by a none less going m (Err stop) h = subst (λ (w : CallEnd). Concludes limit formula J out.faults (Err w)) (sym h) (none, less, going)
+      model_by : (a : List Bool) → out.faults ≡ 0 → length (learned 0 J) < limit → IsUnrefuted J → IsModelOf s a → (r : Result Verdict CallEnd) → IsCleared occurring a r → Concludes limit formula J out.faults r
+      model_by a none less going m r h = subst (λ (w : Result Verdict CallEnd). Concludes limit formula J out.faults w) (sym h.is) (none, cleared formula occurring a h.model (model a m) marked h.both)
 
-      by : (x : End) → (x ≡ SpentEnd → count ≡ limit) → (count ≡ limit → x ≡ SpentEnd) → Ends s x → (r : Result Verdict CallEnd) → IsVerdictOf formula x r → Concludes limit formula J out.faults r
+      by : (x : End) → (x ≡ SpentEnd → count ≡ limit) → (count ≡ limit → x ≡ SpentEnd) → Ends s x → (r : Result Verdict CallEnd) → IsVerdictOf occurring x r → Concludes limit formula J out.faults r
       by (Sat a) sp un en r v = model_by a (still_where en.cause.1) (fewer (Sat a) un (λ e. cc e)) en.cause.3 en.cause.0 r v
       by Refuted sp un en r v = subst (λ (w : Result Verdict CallEnd). Concludes limit formula J out.faults w) (sym v) (still_where en.cause.1, refutation en.cause.0)
       by SpentEnd sp un en r v = subst (λ (w : Result Verdict CallEnd). Concludes limit formula J out.faults w) (sym v) (still_where en.cause.usable, spent_all en.cause (sp refl))
@@ -265,9 +265,9 @@ module _ (formula : FormulaData) (output : LineState) (p s : PortState) (limit c
       by ProofFault sp un en r v = subst (λ (w : Result Verdict CallEnd). Concludes limit formula J out.faults w) (sym v) (rose_where en.cause.0)
       by Memory sp un en r v = subst (λ (w : Result Verdict CallEnd). Concludes limit formula J out.faults w) (sym v) (still_where en.cause.0, fewer Memory un (λ e. cc e), en.cause.1)
 
-  is_search : (result : Result Verdict CallEnd) → IsVerdictOf formula end result → IsSearch limit formula result count out.faults out.written
-  is_search result v = record { journal = J; stands = journal_stands; counts = counts; within = within; conclusion = concludes result v; whole = whole; short = short }
+  is_search : (occurring : List Bool) → IsOccurring formula.clauses formula.vars occurring → (result : Result Verdict CallEnd) → IsVerdictOf occurring end result → IsSearch limit formula result count out.faults out.written
+  is_search occurring marked result v = record { journal = J; stands = journal_stands; counts = counts; within = within; conclusion = concludes occurring marked result v; whole = whole; short = short }
 
-  pub is_closed_search : (result told : Result Verdict CallEnd) (faults : ℕ) (written : Option (List ℕ)) → IsVerdictOf formula end result → HasClosed out result told faults written
+  pub is_closed_search : (occurring : List Bool) → IsOccurring formula.clauses formula.vars occurring → (result told : Result Verdict CallEnd) (faults : ℕ) (written : Option (List ℕ)) → IsVerdictOf occurring end result → HasClosed out result told faults written
       → IsSearch limit formula told count faults written
-  is_closed_search result told faults written v closed = closed_search limit formula result told count out faults written (is_search result v) rose still closed
+  is_closed_search occurring marked result told faults written v closed = closed_search limit formula result told count out faults written (is_search occurring marked result v) rose still closed

@@ -10,6 +10,7 @@ pub mod Decided
 pub mod Searched
 pub mod Opened
 pub mod Begun
+pub mod Occurring
 pub mod Concluded
 pub mod Tallied
 pub mod Outcome

@@ -90,19 +90,19 @@ fn finish<P: Sink, O: Sink>(vars: u32, verdict: Verdict, proof: P, out: &mut O) 
 /// Searches, writes and flushes the proof, and prints the answer.
 fn decide_formula<P: Sink, O: Sink>(
     alloc: Global,
-    formula: &Formula,
+    formula: Formula,
     limit: u64,
     proof: P,
     out: &mut O,
     tally: &mut Tally,
 ) -> Decided<P>
     requires some { 1 ≤ limit }
-    requires few { formula.now.vars < 2 ^ 28 }
-    requires on_variables { All (All (IsOn formula.now.vars)) formula.now.clauses }
+    requires few { formula.vars < 2 ^ 28 }
+    requires on_variables { All (All (IsOn formula.vars)) formula.clauses }
     requires empty { IsEmptyWhereTold (P.written proof) }
     requires quiet { P.faults proof ≡ 0 }
     requires started { tally.old ≡ ring_tally 0 }
-    ensures outcome { Concluded limit formula.now result.end tally.new
+    ensures outcome { Concluded limit formula result.end tally.new
         (record { faults = P.faults result.proof; written = P.written result.proof; flushed = P.flushed result.proof })
         (record {
           faults = record { before = O.faults out.old; after = O.faults out.new };
@@ -113,6 +113,7 @@ fn decide_formula<P: Sink, O: Sink>(
     ensures target { P.target result.proof ≡ P.target proof }
     ensures unprinted { prints_at (status_of result.end) ≡ false → out.new ≡ out.old }
 {
+    let vars = formula.vars();
     let Searched {
         verdict,
         learned,
@@ -128,7 +129,7 @@ fn decide_formula<P: Sink, O: Sink>(
             return Decided { end, proof };
         }
     };
-    finish(formula.vars(), verdict, proof, out)
+    finish(vars, verdict, proof, out)
 }
 
 /// How a call ends whose input was not read.
@@ -190,5 +191,5 @@ pub fn decide_over<S: Source, P: Sink, O: Sink>(
             };
         }
     }
-    decide_formula(alloc, &formula, limit, proof, out, tally)
+    decide_formula(alloc, formula, limit, proof, out, tally)
 }

@@ -12,6 +12,7 @@ mod conclude;
 mod decide;
 mod laws;
 mod message;
+mod occurring;
 mod opening;
 mod report;
 mod search;

@@ -1,13 +1,14 @@
 // What the ring starts from: the clauses of two literals or more, with their numbers, and the units.
-ghost use Rattle.std.specs.Prelude.{◌≡◌, ◌≤◌, ◌+◌, ◌<◌, ◌^◌, ◌&&◌, ◌⊎◌, true, false, not, suc, length, All, Contains, IfOk, OnOk, List, ℕ};
-ghost use Rattle.std.specs.List.{list_any};
+ghost use Rattle.std.specs.Prelude.{◌≡◌, ◌≤◌, ◌+◌, ◌<◌, ◌^◌, ◌&&◌, ◌⊎◌, true, false, not, suc, length, All, Contains, IfOk, OnOk, List, ℕ, ◌++◌, []};
+ghost use Rattle.std.specs.List.{list_any, cons_option};
 ghost use Rattle.std.specs.Option.{option_map};
 ghost use Rattle.sat_words.specs.Literal.{code_of};
 ghost use Rattle.sat_words.specs.Clause.{InOrder, clause_of, has, has_opposites, two_or_more, is_empty};
 ghost use Rattle.gimsatul.specs.Opened.{start_of_clause, start_pairs, IsUnits, IsFound, TakesUnit};
 ghost use Rattle.ring_port.specs.PortState.{IsOn};
 
-use sat_words::{Clause, Formula, Lit, a_clause_is_a_set};
+use ring_port::Starts;
+use sat_words::{Clause, Lit, a_clause_is_a_set};
 use std::alloc::{AllocError, Global};
 
 /// Whether a literal and its negation are among these, which stand in order.
@@ -23,31 +24,25 @@ fn has_both(lits: &[Lit]) -> bool
     false
 }
 
-/// The clause with its number, where it has two literals or more and none of them is another's negation.
-fn start_of(
-    alloc: Global,
-    number: u64,
-    clause: &Clause,
-) -> Result<Option<(u64, Clause)>, AllocError>
-    ensures { IfOk result (λ start. start ≡ start_of_clause number clause.now) }
+/// Puts the clause behind the others, where it has two literals or more and none of them is another's negation.
+fn push_start(starts: &mut Starts, number: u64, clause: &Clause) -> Result<(), AllocError>
+    ensures { OnOk result (starts.new ≡ starts.old ++ cons_option (start_of_clause number clause.now) []) }
 {
     a_clause_is_a_set();
     let lits = clause.lits();
     if lits.len() < 2 || has_both(lits) {
-        return Ok(None);
+        return Ok(());
     }
-    Ok(Some((number, Clause::from_lits(alloc, lits)?)))
+    starts.push(number, lits)
 }
 
 /// The start clauses of a formula, in order of number.
-pub(crate) fn starts_of(alloc: Global, clauses: &[Clause]) -> Result<Vec<(u64, Clause)>, AllocError>
-    ensures { IfOk result (λ starts. starts.items ≡ start_pairs 1 clauses.now) }
+pub(crate) fn starts_of(alloc: Global, clauses: &[Clause]) -> Result<Starts, AllocError>
+    ensures { IfOk result (λ starts. starts ≡ start_pairs 1 clauses.now) }
 {
-    let mut starts = Vec::new(alloc);
+    let mut starts = Starts::new(alloc);
     for (place, clause) in clauses.iter().enumerate() {
-        if let Some(start) = start_of(alloc, place as u64 + 1, clause)? {
-            starts.push(start)?;
-        }
+        push_start(&mut starts, place as u64 + 1, clause)?;
     }
     Ok(starts)
 }

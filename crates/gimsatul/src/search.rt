@@ -10,6 +10,7 @@ ghost use Rattle.gimsatul.specs.declared.report.End.TheVariants.{Memory};
 ghost use Rattle.gimsatul.specs.Searched.{IsSearch, HasClosed};
 
 use crate::conclude::verdict_of;
+use crate::occurring::occurring_in;
 use crate::report::{End, Verdict};
 use crate::start::{has_empty, open_port};
 use drat_text::{LineOut, LineStop, SinkLines};
@@ -106,35 +107,44 @@ fn job_of<P: Sink>(
         ring: 0,
         rings: 1,
         vars,
-        start: Addresses::from_vec(Vec::from_slice(alloc, port.start())?),
+        start: Addresses::from_vec(port.start(alloc)?),
         conflicts: limit,
     })
 }
 
-/// Searches for a model of the formula, and writes each lemma to the proof. It learns at most `limit` lemmas.
-pub fn search<P: Sink>(alloc: Global, formula: &Formula, limit: u64, proof: P) -> Searched<P>
-    requires few { formula.now.vars < 2 ^ 28 }
-    requires on_variables { All (All (IsOn formula.now.vars)) formula.now.clauses }
+/// Searches for a model of the formula, and writes each lemma to the proof. It learns at most `limit` lemmas. The formula
+/// is let go before the ring starts.
+pub fn search<P: Sink>(alloc: Global, formula: Formula, limit: u64, proof: P) -> Searched<P>
+    requires few { formula.vars < 2 ^ 28 }
+    requires on_variables { All (All (IsOn formula.vars)) formula.clauses }
     requires empty { IsEmptyWhereTold (P.written proof) }
     requires quiet { P.faults proof ≡ 0 }
     requires some { 1 ≤ limit }
-    ensures searched { IsSearch limit formula.now result.verdict result.learned (P.faults result.proof) (P.written result.proof) }
+    ensures searched { IsSearch limit formula result.verdict result.learned (P.faults result.proof) (P.written result.proof) }
     ensures target { P.target result.proof ≡ P.target proof }
 {
     if has_empty(formula.clauses()) {
-        return refute(alloc, formula, limit, proof);
+        return refute(alloc, &formula, limit, proof);
     }
+    let vars = formula.vars();
+    let Ok(occurring) = occurring_in(alloc, formula.clauses(), vars) else {
+        return Searched {
+            verdict: Err(End::Memory),
+            learned: 0,
+            proof,
+        };
+    };
     let mut port = match open_port(alloc, formula, proof) {
         Ok(port) => port,
         Err(refused) => {
             return Searched::starved(refused.value);
         }
     };
-    let Ok(job) = job_of(alloc, &port, formula.vars(), limit) else {
+    let Ok(job) = job_of(alloc, &port, vars, limit) else {
         return close(port.into_lines(), Err(End::Memory), 0);
     };
     let (end, counts) = run_ring(alloc, &mut port, &job);
     let lines = port.into_lines();
-    let verdict = verdict_of(alloc, formula, end);
+    let verdict = verdict_of(occurring, vars, end);
     close(lines, verdict, counts.learned)
 }

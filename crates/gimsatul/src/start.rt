@@ -28,18 +28,18 @@ pub(crate) fn has_empty(clauses: &[Clause]) -> bool
     false
 }
 
-/// The port of the one ring over the formula. Refused for memory it gives the sink back.
+/// The port of the one ring over the formula, which it takes over and lets go. Refused for memory it gives the sink back.
 pub(crate) fn open_port<S: Sink>(
     alloc: Global,
-    formula: &Formula,
+    formula: Formula,
     proof: S,
 ) -> Result<PlainPort<SinkLines<S>>, AllocFailed<S>>
-    requires few { formula.now.vars < 2 ^ 28 }
-    requires on_variables { All (All (IsOn formula.now.vars)) formula.now.clauses }
-    requires going { list_any is_empty formula.now.clauses ≡ false }
-    requires ordered { All InOrder formula.now.clauses }
+    requires few { formula.vars < 2 ^ 28 }
+    requires on_variables { All (All (IsOn formula.vars)) formula.clauses }
+    requires going { list_any is_empty formula.clauses ≡ false }
+    requires ordered { All InOrder formula.clauses }
     requires empty { IsEmptyWhereTold (S.written proof) }
-    ensures begins { IfOk result (λ port. Begins formula.now (told_by S.written S.flushed S.target S.faults (record { entries = 0; last = length formula.now.clauses; spent = false; waiting = []; sink = proof })) port) }
+    ensures begins { IfOk result (λ port. Begins formula (told_by S.written S.flushed S.target S.faults (record { entries = 0; last = length formula.clauses; spent = false; waiting = []; sink = proof })) port) }
     ensures back { IfErr result (λ refused. refused.value ≡ proof) }
 {
     let vars = formula.vars();
@@ -51,7 +51,7 @@ pub(crate) fn open_port<S: Sink>(
         return Err(AllocFailed { value: proof });
     };
     let lines = SinkLines::new(alloc, clauses.len() as u64, proof)?;
-    match PlainPort::new(alloc, formula, vars, &starts, &units, lines) {
+    match PlainPort::new(alloc, vars, starts, units, lines) {
         Ok(port) => Ok(port),
         Err(refused) => {
             let (_, value) = refused.value.finish();

@@ -1,11 +1,11 @@
 -- How a port in memory begins.
 use Rattle.std.proofs.Common.{◌≡◌, ◌≢◌, inl, inr, ℕ, zero, suc, ◌+◌, ◌-◌, ◌<◌, ◌≤◌, ◌||◌, false, not, List, [], ◌∷◌, ◌++◌, length, map, take, get_or, sym, refl, ap, subst, ◌∙◌, arith, Some, None, append_assoc, append-nil, cond, ◌==◌, eq-eqb, ne_eqb}
-use Rattle.std.specs.List.{list_any, All, AllByRecursion, IsDistinct, find, slice_get}
+use Rattle.std.specs.List.{list_any, All, AllByRecursion, IsDistinct, find, slice_get, range_with_len}
 use Rattle.std.specs.Prelude.{nat_eq}
 use Rattle.std.specs.declared.option.Option.{Option}
 use Rattle.std.specs.Io.KnownBytes.{append_known}
 use Rattle.std.proofs.lemmas.Bool.{or_parts, false≢true, eqb-false}
-use Rattle.std.proofs.lemmas.List.{take_all, length-map, map-append}
+use Rattle.std.proofs.lemmas.List.{take_all}
 use Rattle.std.proofs.lemmas.List.Folds.{list_any-append}
 use Rattle.sat_words.specs.Literal.{Literal}
 use Rattle.sat_words.specs.Clause.{is_empty}
@@ -22,7 +22,7 @@ use Rattle.rup_model.proofs.Lists.{In, Contains_In}
 use Rattle.std.proofs.lemmas.Map.Keys.{IsDistinct-head, IsDistinct-tail}
 use Rattle.ring_port.specs.Log.{Origin, Keeps, StandsOver, start_of}
 use Rattle.ring_port.specs.OwnLog.{LogData}
-use Rattle.ring_port.specs.PlainPort.{PlainData, state_of, IsPlain, OpensOver, starts_of, placed_from, begun_with}
+use Rattle.ring_port.specs.PlainPort.{PlainData, state_of, IsPlain, OpensOver, starts_of, pairs_of, placed_from, begun_with}
 
 -- Lists of start clauses
 
@@ -65,8 +65,10 @@ starts_placed : (a : ℕ) (ss : List (ℕ × List Literal)) → map start_of (pl
 starts_placed a [] = refl
 starts_placed a (s ∷ ss) = ap (λ ts. record { number = s.0; lits = s.1 } ∷ ts) (starts_placed (suc a) ss)
 
-same_lengths : (refs : List Cref) (hs : List Holding) → map (λ c. c.address) refs ≡ map (λ h. h.address) hs → length refs ≡ length hs
-same_lengths refs hs same = let a = length-map refs (λ (c : Cref). c.address) in let b = length-map hs (λ (h : Holding). h.address) in let e : length (map (λ c. c.address) refs) ≡ length (map (λ h. h.address) hs) = ap (λ xs. length xs) same in omega arith
+-- the clauses that are held tell the pairs
+pub pairs_placed : (a : ℕ) (ss : List (ℕ × List Literal)) → pairs_of (placed_from a ss) ≡ ss
+pairs_placed a [] = refl
+pairs_placed a (s ∷ ss) = ap (λ ts. s ∷ ts) (pairs_placed (suc a) ss)
 
 -- a fact of each start clause, at its place
 placed_All : (P : Start → Type 0) (Q : ℕ × List Literal → Type 0) (R : Holding → Type 0) (a : ℕ) (ss : List (ℕ × List Literal))
@@ -91,51 +93,47 @@ known_none None = refl
 known_none (Some xs) = ap Some (append-nil xs)
 
 -- what a port has when it is made
-abbrev pub begun_data : ℕ → List (ℕ × List Literal) → List Cref → List Literal → ℕ → LogData → PlainData
-begun_data vars ss refs units room g = record { vars = vars; all = placed_from 0 ss; held = placed_from 0 ss; waiting = []; start = refs; opening = units; passed = 0; given = []; given_room = room; written = []; log = g; last = None; stop = None; looks = 0 }
+abbrev pub begun_data : ℕ → List (ℕ × List Literal) → ℕ → List Literal → ℕ → LogData → PlainData
+begun_data vars ss n units room g = record { vars = vars; all = placed_from 0 ss; held = placed_from 0 ss; waiting = []; begun = n; opening = units; passed = 0; given = []; given_room = room; written = []; log = g; last = None; stop = None; looks = 0 }
 
 module _ (F : List (List Literal)) (vars : ℕ) (ss : List (ℕ × List Literal)) (units : List Literal) (out : LineState) where
   kept_start : (J : List Entry) → OpensOver F (starts_of ss) units out J → All (λ s. All (IsOn vars) s.1) ss → All (IsKept vars) (placed_from 0 ss)
   kept_start J h on = placed_All (IsStart (book F J)) (λ s. All (IsOn vars) s.1) (IsKept vars) 0 ss (λ b s is ons. record { shape = is.shape; on = ons }) h.opens.starts on
 
-  pub begun_plain : (refs : List Cref) (room : ℕ) (g : LogData) (J : List Entry) → OpensOver F (starts_of ss) units out J → All (λ s. All (IsOn vars) s.1) ss → All (IsOn vars) units
-      → map (λ c. c.address) refs ≡ map (λ h. h.address) (placed_from 0 ss) → length units ≤ room → IsPlain (begun_data vars ss refs units room g)
-  begun_plain refs room g J h on units_on same enough =
-      let n : length refs ≡ length (placed_from 0 ss) = same_lengths refs (placed_from 0 ss) same in
-      record {
-        all = kept_start J h on;
-        indexed = λ k d lt. (indexed_from 0 ss k d lt ∙ omega arith);
-        placed = λ k d lt. (ap (slice_get (placed_from 0 ss)) (indexed_from 0 ss k d lt ∙ omega arith) ∙ slice_get_is (placed_from 0 ss) k d lt);
-        apart = apart_from 0 ss;
-        waiting = λ k d lt. absurd (omega arith);
-        dropped = λ k d lt. absurd (omega arith);
-        once = tt;
-        begun = omega arith;
-        start = same ∙ ap (map (λ x. x.address)) (sym (take_all (length refs) (placed_from 0 ss) (omega arith)));
-        opening = units_on;
-        distinct = h.opens.distinct;
-        passed = omega arith;
-        given = λ k d lt. absurd (omega arith);
-        given_room = omega arith;
-        written = λ k d lt. absurd (omega arith);
-        stop = tt;
-      }
+  pub begun_plain : (n room : ℕ) (g : LogData) (J : List Entry) → OpensOver F (starts_of ss) units out J → All (λ s. All (IsOn vars) s.1) ss → All (IsOn vars) units
+      → n ≡ length (placed_from 0 ss) → length units ≤ room → IsPlain (begun_data vars ss n units room g)
+  begun_plain n room g J h on units_on same enough = record {
+    all = kept_start J h on;
+    indexed = λ k d lt. (indexed_from 0 ss k d lt ∙ omega arith);
+    placed = λ k d lt. (ap (slice_get (placed_from 0 ss)) (indexed_from 0 ss k d lt ∙ omega arith) ∙ slice_get_is (placed_from 0 ss) k d lt);
+    apart = apart_from 0 ss;
+    waiting = λ k d lt. absurd (omega arith);
+    dropped = λ k d lt. absurd (omega arith);
+    once = tt;
+    begun = omega arith;
+    opening = units_on;
+    distinct = h.opens.distinct;
+    passed = omega arith;
+    given = λ k d lt. absurd (omega arith);
+    given_room = omega arith;
+    written = λ k d lt. absurd (omega arith);
+    stop = tt;
+  }
 
-  pub begun_state : (refs : List Cref) (room : ℕ) (g : LogData) → map (λ c. c.address) refs ≡ map (λ h. h.address) (placed_from 0 ss) → g.output ≡ out → g.mine ≡ [] → g.ended ≡ false → g.refused ≡ None
-      → state_of (begun_data vars ss refs units room g) ≡ begun_with vars ss units out
-  begun_state refs room g same output mine going quiet =
-      let n : length refs ≡ length (placed_from 0 ss) = same_lengths refs (placed_from 0 ss) same in
-      let whole : take (length refs) (placed_from 0 ss) ≡ placed_from 0 ss = take_all (length refs) (placed_from 0 ss) (omega arith) in
+  pub begun_state : (n room : ℕ) (g : LogData) → n ≡ length (placed_from 0 ss) → g.output ≡ out → g.mine ≡ [] → g.ended ≡ false → g.refused ≡ None
+      → state_of (begun_data vars ss n units room g) ≡ begun_with vars ss units out
+  begun_state n room g same output mine going quiet =
+      let whole : take n (placed_from 0 ss) ≡ placed_from 0 ss = take_all n (placed_from 0 ss) (omega arith) in
       let all : length units - 0 ≡ length units = omega arith in
       λ i. record (begun_with vars ss units out) { coming = all i; start = whole i; output = Some (output i); mine = mine i; ended = going i; refused = quiet i }
 
   -- the state of a port that has this
-  pub begun_is : (A H : List Holding) (Q refs : List Cref) (O V W : List Literal) (room : ℕ) (g : LogData) → A ≡ placed_from 0 ss → H ≡ placed_from 0 ss → Q ≡ [] → map (λ c. c.address) refs ≡ map (λ h. h.address) (placed_from 0 ss) → O ≡ units → V ≡ [] → W ≡ []
+  pub begun_is : (C H : List Holding) (Q : List Cref) (n : ℕ) (V W : List Literal) (room : ℕ) (g : LogData) → C ≡ placed_from 0 ss → H ≡ placed_from 0 ss → Q ≡ [] → n ≡ length C → V ≡ [] → W ≡ []
       → g.output ≡ out → g.mine ≡ [] → g.ended ≡ false → g.refused ≡ None
-      → state_of (record { vars = vars; all = A; held = H; waiting = Q; start = refs; opening = O; passed = 0; given = V; given_room = room; written = W; log = g; last = None; stop = None; looks = 0 }) ≡ begun_with vars ss units out
-  begun_is A H Q refs O V W room g all held none same opening given written output mine going quiet =
-      (λ i. state_of (record { vars = vars; all = all i; held = held i; waiting = none i; start = refs; opening = opening i; passed = 0; given = given i; given_room = room; written = written i; log = g; last = None; stop = None; looks = 0 }))
-      ∙ begun_state refs room g same output mine going quiet
+      → state_of (record { vars = vars; all = C; held = H; waiting = Q; begun = n; opening = units; passed = 0; given = V; given_room = room; written = W; log = g; last = None; stop = None; looks = 0 }) ≡ begun_with vars ss units out
+  begun_is C H Q n V W room g all held none same given written output mine going quiet =
+      (λ i. state_of (record { vars = vars; all = all i; held = held i; waiting = none i; begun = n; opening = units; passed = 0; given = given i; given_room = room; written = written i; log = g; last = None; stop = None; looks = 0 }))
+      ∙ begun_state n room g (same ∙ ap (λ (hs : List Holding). length hs) all) output mine going quiet
 
   pub begun_stands : (J : List Entry) → OpensOver F (starts_of ss) units out J → list_any is_empty F ≡ false → out.spent ≡ false
       → StandsOver (record { formula = F; journal = J; output = out }) (begun_with vars ss units out)
@@ -194,6 +192,23 @@ kept_one ss s hs lits held same =
     ∙ ap (λ a. placed_from 0 ss ++ record { address = a; number = s.0; glue = 0; lits = s.1 } ∷ []) (let n = length-placed_from 0 ss in omega arith)
     ∙ sym (placed_from-push 0 ss s)
 
-pub address_one : (refs : List Cref) (c : Cref) (hs : List Holding) (x : Holding) → map (λ r. r.address) refs ≡ map (λ h. h.address) hs → c.address ≡ x.address
-    → map (λ r. r.address) (refs ++ c ∷ []) ≡ map (λ h. h.address) (hs ++ x ∷ [])
-address_one refs c hs x same at = map-append (λ r. r.address) refs (c ∷ []) ∙ (λ i. same i ++ at i ∷ []) ∙ sym (map-append (λ h. h.address) hs (x ∷ []))
+-- the addresses of clauses that stand at those of their places
+abbrev pub at_address : ℕ → Cref
+at_address a = record { address = a }
+
+pub indexed_addresses : (a n : ℕ) (hs : List Holding) → ((k : ℕ) (d : Holding) → k < length hs → (get_or hs k d).address ≡ a + k) → n ≤ length hs → map at_address (range_with_len a n) ≡ map (λ h. at_address h.address) (take n hs)
+indexed_addresses a zero hs at le = refl
+indexed_addresses a (suc n) [] at le = absurd (omega arith)
+indexed_addresses a (suc n) (h ∷ hs) at le =
+    (λ i. at_address (let first : a ≡ h.address = omega (arith, at 0 h (omega arith)) in first i) ∷ (indexed_addresses (a + 1) n hs (λ k d lt. (let e = at (suc k) d (omega arith) in omega arith)) (omega arith)) i)
+
+-- one number more
+range_next : (a n : ℕ) → range_with_len a n ++ (a + n) ∷ [] ≡ range_with_len a (suc n)
+range_next a zero = ap (λ (m : ℕ). m ∷ []) (omega arith)
+range_next a (suc n) = ap (λ (ns : List ℕ). a ∷ ns) (ap (λ (m : ℕ). range_with_len (a + 1) n ++ m ∷ []) (let e : a + suc n ≡ (a + 1) + n = omega arith in e) ∙ range_next (a + 1) n)
+
+pub range_more : (n : ℕ) → range_with_len 0 n ++ n ∷ [] ≡ range_with_len 0 (n + 1)
+range_more n =
+    let here : n ≡ 0 + n = omega arith in
+    let next : suc n ≡ n + 1 = omega arith in
+    ap (λ (m : ℕ). range_with_len 0 n ++ m ∷ []) here ∙ range_next 0 n ∙ ap (range_with_len 0) next

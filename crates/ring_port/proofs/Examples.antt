@@ -1,9 +1,9 @@
 -- What the tests show of their calls.
-use Rattle.std.proofs.Common.{◌≡◌, zero, suc, true, List, [], ◌∷◌, ◌++◌, length, refl, ap, ◌∙◌, arith}
-use Rattle.std.specs.List.{All, list_any, IsDistinct}
+use Rattle.std.proofs.Common.{◌≡◌, zero, suc, true, List, [], ◌∷◌, refl, sym, subst, ◌∙◌, arith}
+use Rattle.std.specs.List.{All, IsDistinct}
 use Rattle.std.proofs.lemmas.Bool.{or_left, or_right, and_from}
 use Rattle.sat_words.specs.Literal.{Literal, opposite}
-use Rattle.sat_words.specs.Clause.{has, same_set}
+use Rattle.sat_words.specs.Clause.{has}
 use Rattle.sat_words.proofs.Members.{same-refl}
 use Rattle.rup_model.specs.Rup.{rup}
 use Rattle.rup_model.specs.Journal.{is_told}
@@ -13,26 +13,30 @@ use Rattle.rup_model.proofs.Derivation.{conflicts_from_derivation}
 use Rattle.drat_text.specs.LineState.{LineState}
 use Rattle.ring_port.specs.PortState.{PortState, IsPort, IsOn, known}
 use Rattle.ring_port.specs.Port.{TookUnit}
-use Rattle.ring_port.specs.PlainPort.{OpensOver}
+use Rattle.rup_model.specs.Opening.{Start}
+use Rattle.ring_port.specs.PlainPort.{CanOpen}
 use Rattle.ring_port.proofs.Holdings.{All_In, seen_is_known}
 
 -- one clause of one literal opens a search from its unit
-pub opens_unit : (F : List (List Literal)) (l : Literal) (out : LineState) → F ≡ (l ∷ []) ∷ [] → out.entries ≡ 0 → out.last ≡ 1 → OpensOver F [] (l ∷ []) out []
+pub opens_unit : (ss : List Start) (us : List Literal) (l : Literal) (out : LineState) → ss ≡ [] → us ≡ l ∷ [] → out.entries ≡ 0 → out.last ≡ 1 → CanOpen ss us out
 unfolding IsDistinct
-opens_unit F l out e entries last =
-    record {
-      opens = record {
-        rulers_part = record { rulers = λ k d lt. absurd (omega arith); going = refl; fits = tt; accepted = tt };
-        starts = λ k d lt. absurd (omega arith);
-        numbers = tt;
-        told = told;
-        distinct = refl;
-      };
-      lines = record { entries = entries; last = ap (λ G. suc (length G)) e ∙ (let n = last in omega arith) };
-    }
+opens_unit ss us l out none one entries last = subst (λ (ts : List Start). CanOpen ts us out) (sym none) (subst (λ (ls : List Literal). CanOpen [] ls out) (sym one) (record {
+  clauses = (l ∷ []) ∷ [];
+  journal = [];
+  over = record {
+    opens = record {
+      rulers_part = record { rulers = λ k d lt. absurd (omega arith); going = refl; fits = tt; accepted = tt };
+      starts = λ k d lt. absurd (omega arith);
+      numbers = tt;
+      told = told;
+      distinct = refl;
+    };
+    lines = record { entries = entries; last = (let n = last in omega arith) };
+  };
+}))
   where
-    told : All (λ k. is_told F [] k ≡ true) (l ∷ [])
-    told zero d lt = ap (λ G. list_any (same_set (l ∷ [])) (G ++ [])) e ∙ or_left _ _ (same_self (l ∷ []))
+    told : All (λ k. is_told ((l ∷ []) ∷ []) [] k ≡ true) (l ∷ [])
+    told zero d lt = or_left _ _ (same_self (l ∷ []))
     told (suc k) d lt = absurd (omega arith)
 
 -- a unit that was given is seen, so that it follows, and is on the variables

@@ -53,7 +53,7 @@ plain_port p h = record {
   once = h.once;
   taken = λ k d lt. absurd (omega arith);
   given = λ k d lt. (list_any-append (same (get_or p.given k d)) (take p.passed p.opening) p.written ∙ or_left _ _ (h.given k d lt));
-  start = All-take (IsKept p.vars) (length p.start) p.all h.all;
+  start = All-take (IsKept p.vars) (p.begun) p.all h.all;
   seen = All-append (IsOn p.vars) (take p.passed p.opening) p.written (All-take (IsOn p.vars) p.passed p.opening h.opening) h.written;
   opening = h.opening;
   stop = own_stop p.stop h.stop;
@@ -103,20 +103,20 @@ waits_nowhere p h = by (kept_at p.all p.waiting) (waits_before p h)
 
 -- the log is no part of what is kept
 pub plain_log : (p : PlainData) → IsPlain p → (g : LogData) (last : Option Cref) → IsPlain (record p { log = g; last = last })
-plain_log p h g last = record { all = h.all; indexed = h.indexed; placed = h.placed; apart = h.apart; waiting = h.waiting; dropped = h.dropped; once = h.once; begun = h.begun; start = h.start; opening = h.opening; distinct = h.distinct; passed = h.passed; given = h.given; given_room = h.given_room; written = h.written; stop = h.stop }
+plain_log p h g last = record { all = h.all; indexed = h.indexed; placed = h.placed; apart = h.apart; waiting = h.waiting; dropped = h.dropped; once = h.once; begun = h.begun; opening = h.opening; distinct = h.distinct; passed = h.passed; given = h.given; given_room = h.given_room; written = h.written; stop = h.stop }
 
 -- nor is how often no stop was found
 pub plain_looked : (p : PlainData) → IsPlain p → (k : ℕ) → IsPlain (record p { looks = k })
-plain_looked p h k = record { all = h.all; indexed = h.indexed; placed = h.placed; apart = h.apart; waiting = h.waiting; dropped = h.dropped; once = h.once; begun = h.begun; start = h.start; opening = h.opening; distinct = h.distinct; passed = h.passed; given = h.given; given_room = h.given_room; written = h.written; stop = h.stop }
+plain_looked p h k = record { all = h.all; indexed = h.indexed; placed = h.placed; apart = h.apart; waiting = h.waiting; dropped = h.dropped; once = h.once; begun = h.begun; opening = h.opening; distinct = h.distinct; passed = h.passed; given = h.given; given_room = h.given_room; written = h.written; stop = h.stop }
 
 -- a stop of its own is set
 pub plain_stopped : (p : PlainData) → IsPlain p → (kind : ℕ) → STOP_SAT ≤ kind → kind ≤ STOP_MEMORY → IsPlain (record p { stop = Some (record { kind = kind; ring = 0 }) })
-plain_stopped p h kind low high = record { all = h.all; indexed = h.indexed; placed = h.placed; apart = h.apart; waiting = h.waiting; dropped = h.dropped; once = h.once; begun = h.begun; start = h.start; opening = h.opening; distinct = h.distinct; passed = h.passed; given = h.given; given_room = h.given_room; written = h.written; stop = record { low = low; high = high; own = refl } }
+plain_stopped p h kind low high = record { all = h.all; indexed = h.indexed; placed = h.placed; apart = h.apart; waiting = h.waiting; dropped = h.dropped; once = h.once; begun = h.begun; opening = h.opening; distinct = h.distinct; passed = h.passed; given = h.given; given_room = h.given_room; written = h.written; stop = record { low = low; high = high; own = refl } }
 
 -- more units are given
 pub plain_given : (p : PlainData) → IsPlain p → (n : ℕ) (ls : List Literal) (r : ℕ) → n ≤ length p.opening → All (λ l. has (take n p.opening) l ≡ true) ls → length p.opening ≤ n + r
     → IsPlain (record p { passed = n; given = ls; given_room = r })
-plain_given p h n ls r le all room = record { all = h.all; indexed = h.indexed; placed = h.placed; apart = h.apart; waiting = h.waiting; dropped = h.dropped; once = h.once; begun = h.begun; start = h.start; opening = h.opening; distinct = h.distinct; passed = le; given = all; given_room = room; written = h.written; stop = h.stop }
+plain_given p h n ls r le all room = record { all = h.all; indexed = h.indexed; placed = h.placed; apart = h.apart; waiting = h.waiting; dropped = h.dropped; once = h.once; begun = h.begun; opening = h.opening; distinct = h.distinct; passed = le; given = all; given_room = room; written = h.written; stop = h.stop }
 
 -- a unit more
 pub plain_unit : (p : PlainData) → IsPlain p → (l : Literal) → IsOn p.vars l → (g : LogData) (last : Option Cref) → IsPlain (record p { written = p.written ++ l ∷ []; log = g; last = last })
@@ -129,7 +129,6 @@ plain_unit p h l on g last = record {
   dropped = h.dropped;
   once = h.once;
   begun = h.begun;
-  start = h.start;
   opening = h.opening;
   distinct = h.distinct;
   passed = h.passed;
@@ -157,7 +156,6 @@ plain_pushed p h x kept at g last = record {
   dropped = subst (All (λ k. find (is_at k.address) (p.held ++ x ∷ []) ≡ None)) (sym same_waits) waits;
   once = subst AreApart (sym same_waits) h.once;
   begun = (let e = length-append p.all (x ∷ []) in let b = h.begun in omega arith);
-  start = h.start ∙ ap (map (λ k. k.address)) (sym (start_stays (length p.start) p.all x h.begun));
   opening = h.opening;
   distinct = h.distinct;
   passed = h.passed;
@@ -207,7 +205,7 @@ plain_dropped p h c x there held = record {
       (one_All (λ k. find (is_at k.address) (without_one p.held c.address) ≡ None) x (ap (λ a. find (is_at a) (without_one p.held c.address)) at ∙ gone p.held c.address h.apart)));
   once = subst AreApart (sym more) (apart_pushed (kept_at p.all p.waiting) x h.once others);
   begun = h.begun;
-  start = h.start;
+ 
   opening = h.opening;
   distinct = h.distinct;
   passed = h.passed;
@@ -262,7 +260,7 @@ plain_deleted p h c cs g first =
       dropped = λ k e lt. none (suc k) e (omega arith);
       once = (subst AreApart front h.once).1;
       begun = h.begun;
-      start = h.start;
+     
       opening = h.opening;
       distinct = h.distinct;
       passed = h.passed;

@@ -65,8 +65,8 @@ clause_keeps p r g lits kind number glue address last plain usable long on follo
     let next = number_is o s h refl lits kind number follows added.going on p.log.output g.output refl (unspent_of o p h usable) added.put in
     let held = All-append (λ c. (book o.formula (o.journal ++ (p.log.mine ++ own_entry number lits kind ∷ []))).clause c.number ≡ Some c.lits) p.held (x ∷ []) (held_next o s h refl lits kind number)
     (one_All (λ c. (book o.formula (o.journal ++ (p.log.mine ++ own_entry number lits kind ∷ []))).clause c.number ≡ Some c.lits) x (added_here o s h refl lits kind number next)) in
-    let pushed : LogData → PortState = λ k. record (state_of (record p { held = p.held ++ x ∷ []; log = k; last = last })) { waiting = kept_at p.all p.waiting; start = take (length p.start) p.all } in
-    subst (StandsOver o) (λ i. record (pushed g) { waiting = sym (kept_grown p.all x p.waiting plain.waiting) i; start = sym (start_stays (length p.start) p.all x plain.begun) i })
+    let pushed : LogData → PortState = λ k. record (state_of (record p { held = p.held ++ x ∷ []; log = k; last = last })) { waiting = kept_at p.all p.waiting; start = take (p.begun) p.all } in
+    subst (StandsOver o) (λ i. record (pushed g) { waiting = sym (kept_grown p.all x p.waiting plain.waiting) i; start = sym (start_stays (p.begun) p.all x plain.begun) i })
     (subst (λ k. StandsOver o (pushed k)) (sym added.state)
     (stands_after o s h refl lits kind number follows added.going on p.log.output g.output refl (unspent_of o p h usable) added.put
     (p.held ++ x ∷ []) (take p.passed p.opening ++ p.written) (option_map (λ c. c.address) last) p.log.ended
@@ -175,7 +175,7 @@ clause_put p plain r g lits kind number glue c last at long is added =
       free = record { not_held = none; not_waiting = ap (λ a. list_any (λ k. k.address == a) (kept_at p.all p.waiting)) at ∙ waits_nowhere p plain };
       there = found_pushed (state_of p) (state_of (pushed_data p x g last)) x refl none;
       state = ap (λ k. state_of (pushed_data p x k last)) added.state
-          ∙ (λ i. record (state_of (pushed_data p x grown last)) { waiting = kept_grown p.all x p.waiting plain.waiting i; start = start_stays (length p.start) p.all x plain.begun i; last = is i });
+          ∙ (λ i. record (state_of (pushed_data p x grown last)) { waiting = kept_grown p.all x p.waiting plain.waiting i; start = start_stays (p.begun) p.all x plain.begun i; last = is i });
     }
 
 -- a clause is dropped, and waits

@@ -17,9 +17,10 @@ use Rattle.ring_port.specs.declared.stops.PortStop.{PortStop}
 use Rattle.ring_port.specs.declared.stops.PortStop.TheVariants.{Ended, Broken, ProofFault, NoHole, Memory}
 use Rattle.ring_port.specs.PortState.{Holding, PortState, AreApart, IsKept, IsOn}
 use Rattle.ring_port.specs.OwnLog.{LogData}
+use Rattle.ring_port.specs.Store.{StoreData}
 
--- all clauses that were ever kept, each at its place; those that are held; the addresses of those that wait, in order; the
--- addresses of the start clauses, which came first; the units of the opening, and how many of
+-- all clauses that were ever kept, each at its place; those that are held; the addresses of those that wait, in order; how many
+-- of the first are start clauses; the units of the opening, and how many of
 -- them were given, or written before it came to them; the units given, and for how many more there is room; the units
 -- written; the log; the clause learned last; the stop, and how often none was found
 pub record PlainData : Type 0 where
@@ -27,7 +28,7 @@ pub record PlainData : Type 0 where
   pub all : List Holding
   pub held : List Holding
   pub waiting : List Cref
-  pub start : List Cref
+  pub begun : ℕ
   pub opening : List Literal
   pub passed : ℕ
   pub given : List Literal
@@ -50,7 +51,7 @@ state_of p = record {
   seen = take p.passed p.opening ++ p.written;
   given = p.given;
   coming = length p.opening - p.passed;
-  start = take (length p.start) p.all;
+  start = take p.begun p.all;
   opening = p.opening;
   mine = p.log.mine;
   shared = 0;
@@ -88,8 +89,7 @@ pub record IsPlain (p : PlainData) : Type 0 where
   pub waiting : All (λ c. c.address < length p.all) p.waiting
   pub dropped : All (λ h. find (λ k. k.address == h.address) p.held ≡ None) (kept_at p.all p.waiting)
   pub once : AreApart (kept_at p.all p.waiting)
-  pub begun : length p.start ≤ length p.all
-  pub start : map (λ c. c.address) p.start ≡ map (λ h. h.address) (take (length p.start) p.all)
+  pub begun : p.begun ≤ length p.all
   pub opening : All (IsOn p.vars) p.opening
   pub distinct : distinct_lits p.opening ≡ true
   pub passed : p.passed ≤ length p.opening
@@ -104,10 +104,19 @@ pub record IsPlain (p : PlainData) : Type 0 where
 abbrev pub starts_of : List (ℕ × List Literal) → List Start
 starts_of ss = map (λ s. record { number = s.0; lits = s.1 }) ss
 
+-- the start clauses that are held, each with its number
+abbrev pub pairs_of : List Holding → List (ℕ × List Literal)
+pairs_of hs = map (λ (h : Holding). (h.number, h.lits)) hs
+
 -- the start clauses at the addresses from a on
 abbrev pub placed_from : ℕ → List (ℕ × List Literal) → List Holding
 placed_from a [] = []
 placed_from a (s ∷ ss) = record { address = a; number = s.0; glue = 0; lits = s.1 } ∷ placed_from (suc a) ss
+
+-- the clauses of a store stand at the addresses from 0 on with glue 0, and none was dropped
+pub record AreAllHeld (store : StoreData) : Type 0 where
+  pub placed : store.all ≡ placed_from 0 (pairs_of store.all)
+  pub held : store.held ≡ store.all
 
 -- the port holds the start clauses, and nothing has happened yet
 abbrev pub begun_with : ℕ → List (ℕ × List Literal) → List Literal → LineState → PortState
@@ -145,6 +154,12 @@ pub record CountsLines (clauses : List (List Literal)) (journal : List Entry) (o
 pub record OpensOver (clauses : List (List Literal)) (starts : List Start) (units : List Literal) (output : LineState) (journal : List Entry) : Type 0 where
   pub opens : IsOpening clauses (record { journal = journal; starts = starts; units = units })
   pub lines : CountsLines clauses journal output
+
+-- over some formula and some journal that the ruler left
+pub record CanOpen (starts : List Start) (units : List Literal) (output : LineState) : Type 0 where
+  pub clauses : List (List Literal)
+  pub journal : List Entry
+  pub over : OpensOver clauses starts units output journal
 
 -- Answers
 

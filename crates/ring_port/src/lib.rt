@@ -7,6 +7,7 @@ mod laws;
 mod own_log;
 mod plain_port;
 mod port;
+mod starts;
 mod stops;
 mod store;
 
@@ -17,6 +18,7 @@ pub use laws::{
 };
 pub use plain_port::PlainPort;
 pub use port::Port;
+pub use starts::Starts;
 pub use stops::{PortStop, Set};
 
 #[cfg(test)]

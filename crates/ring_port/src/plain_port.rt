@@ -1,25 +1,26 @@
-ghost use Rattle.std.specs.Prelude.{◌≡◌, ◌<◌, ◌≤◌, ◌∷◌, ◌++◌, ◌⊎◌, [], true, false, not, All, Some, None, IfOk, IfErr, IfSome, IsSome, MatchResult, length, map, slice_get, position, drop, List};
+ghost use Rattle.std.specs.Prelude.{◌≡◌, ◌<◌, ◌≤◌, ◌∷◌, ◌++◌, ◌⊎◌, [], true, false, not, All, Some, None, IfOk, IfErr, IfSome, IsSome, MatchResult, length, map, slice_get, position, drop, List, ℕ};
 ghost use Rattle.sat_words.specs.Literal.{Literal};
 ghost use Rattle.sat_words.specs.Clause.{has, is_empty};
-ghost use Rattle.std.specs.List.{list_any};
+ghost use Rattle.std.specs.List.{list_any, range_with_len};
 ghost use Rattle.std.specs.Option.{option_map};
 ghost use Rattle.rup_model.specs.declared.journal.Entry.{Entry};
 ghost use Rattle.rup_model.specs.Rup.{rup};
-ghost use Rattle.ring_port.specs.PortState.{IsPort, IsOn, held_at, lits_at, head_of, known, HoldsStart};
+ghost use Rattle.ring_port.specs.PortState.{Holding, IsPort, IsOn, held_at, lits_at, head_of, known, HoldsStart};
 ghost use Rattle.ring_port.specs.Log.{KeepsLog, StandsOver};
 ghost use Rattle.ring_port.specs.Port.{is_usable, IsClause, Learned, Derived, KeepsHeld, UnitWritten, UnitPut, ClausePut, EmptyWritten, Took, Looked, SetStop, last_after};
 ghost use Rattle.ring_port.specs.Reducing.{Noted};
 ghost use Rattle.ring_port.specs.Deleting.{Tidied, TidiedFirst};
-ghost use Rattle.ring_port.specs.PlainPort.{OpensOver, HasCauseAlone, starts_of, placed_from, begun_with};
+ghost use Rattle.ring_port.specs.PlainPort.{OpensOver, CanOpen, HasCauseAlone, starts_of, begun_with};
 
 use crate::own_log::OwnLog;
 use crate::port::Port;
 use crate::stops::{PortStop, Set};
+use crate::starts::Starts;
 use crate::store::Store;
 use drat_text::LineOut;
 use rup_model::Kind;
-use sat_words::{Clause, Cref, Formula, Head, Lit, Lits, Stop};
-use std::alloc::{AllocFailed, Global};
+use sat_words::{Cref, Head, Lit, Lits, Stop};
+use std::alloc::{AllocError, AllocFailed, Global};
 use std::collections::VecDeque;
 use std::marker::Model;
 
@@ -30,7 +31,7 @@ pub struct PlainPort<L: LineOut> {
     vars: u32,
     store: Store,
     waiting: VecDeque<Cref>,
-    start: Vec<Cref>,
+    begun: usize,
     opening: Vec<Lit>,
     passed: usize,
     given: Vec<Lit>,
@@ -53,7 +54,7 @@ impl<L: LineOut> Model for PlainPort<L> {
       all = p.store.all;
       held = p.store.held;
       waiting = p.waiting.items;
-      start = p.start.items;
+      begun = p.begun;
       opening = p.opening.items;
       passed = p.passed;
       given = p.given.items;
@@ -70,7 +71,7 @@ impl<L: LineOut> Model for PlainPort<L> {
       all = p.store.all;
       held = p.store.held;
       waiting = p.waiting.items;
-      start = p.start.items;
+      begun = p.begun;
       opening = p.opening.items;
       passed = p.passed;
       given = p.given.items;
@@ -96,6 +97,17 @@ fn first_new_from(units: &[Lit], from: usize, written: &[Lit]) -> Option<usize>
     ensures { result ≡ position (λ l. not (has written.now l)) (drop from units.now) }
 {
     first_new(&units[from..], written)
+}
+
+/// The addresses from 0 on below this one.
+fn addresses_below(alloc: Global, end: u64) -> Result<Vec<Cref>, AllocError>
+    ensures { IfOk result (λ refs. refs.items ≡ map (λ (a : ℕ). record { address = a }) (range_with_len 0 end)) }
+{
+    let mut refs = Vec::new(alloc);
+    for address in 0..end {
+        refs.push(Cref { address })?;
+    }
+    Ok(refs)
 }
 
 impl<L: LineOut> Port for PlainPort<L> {
@@ -270,65 +282,40 @@ fn queue_len(queue: &VecDeque<Cref>) -> usize
     queue.len()
 }
 
-/// Keeps the start clauses, and tells their addresses.
-fn keep_all(alloc: Global, start: &[(u64, Clause)]) -> Result<(Store, Vec<Cref>), PortStop>
-    ensures all { IfOk result (λ kept. kept.0.all ≡ placed_from 0 start.now) }
-    ensures held { IfOk result (λ kept. kept.0.held ≡ placed_from 0 start.now) }
-    ensures start { IfOk result (λ kept. map (λ c. c.address) kept.1.items ≡ map (λ h. h.address) (placed_from 0 start.now)) }
-{
-    let mut store = Store::new(alloc);
-    let mut kept = Vec::new(alloc);
-    for entry in start {
-        let lits = entry.1.lits();
-        store.make_room(lits)?;
-        if kept.reserve(1).is_err() {
-            return Err(PortStop::Memory);
-        }
-        kept.push_reserved(store.push(lits, entry.0, 0));
-    }
-    Ok((store, kept))
-}
-
 impl<L: LineOut> PlainPort<L> {
     /// The port of ring 0, of one ring, that holds the start clauses, each under its number, with glue 0 and at the
     /// address of its place. Each has two literals or more and is alive in the log; the units are listed, and have no
     /// line of the ring's. The log is continued where the line output stands. Refused for memory it gives that back.
     pub fn new(
         alloc: Global,
-        formula: &Formula,
         vars: u32,
-        start: &[(u64, Clause)],
-        units: &[Lit],
+        starts: Starts,
+        units: Vec<Lit>,
         output: L,
     ) -> Result<PlainPort<L>, AllocFailed<L>>
-        requires opening { (J : List Entry) × OpensOver formula.now.clauses (starts_of start.now) units.now (L.told output) J }
-        requires going { list_any is_empty formula.now.clauses ≡ false }
+        requires opening { CanOpen (starts_of starts) units.items (L.told output) }
         requires unspent { (L.told output).spent ≡ false }
-        requires starts_on { All (λ s. All (IsOn vars) s.1) start.now }
-        requires units_on { All (IsOn vars) units.now }
-        ensures made { IfOk result (λ port. port ≡ begun_with vars start.now units.now (L.told output)) }
-        ensures stands { IfOk result (λ port. (J : List Entry) → OpensOver formula.now.clauses (starts_of start.now) units.now (L.told output) J → StandsOver (record { formula = formula.now.clauses; journal = J; output = L.told output }) port) }
+        requires starts_on { All (λ s. All (IsOn vars) s.1) starts }
+        requires units_on { All (IsOn vars) units.items }
+        ensures made { IfOk result (λ port. port ≡ begun_with vars starts units.items (L.told output)) }
+        ensures stands { IfOk result (λ port. (F : List (List Literal)) (J : List Entry) → OpensOver F (starts_of starts) units.items (L.told output) J → list_any is_empty F ≡ false → StandsOver (record { formula = F; journal = J; output = L.told output }) port) }
         ensures holds { IfOk result HoldsStart }
         ensures port { IfOk result IsPort }
         ensures back { IfErr result (λ refused. refused.value ≡ output) }
     {
-        let Ok((store, start)) = keep_all(alloc, start) else {
-            return Err(AllocFailed { value: output });
-        };
-        let Ok(opening) = Vec::from_slice(alloc, units) else {
-            return Err(AllocFailed { value: output });
-        };
         let Ok(given) = Vec::with_capacity(alloc, units.len()) else {
             return Err(AllocFailed { value: output });
         };
+        let Starts { store } = starts;
+        let begun = store.len();
         let waiting = VecDeque::new(alloc);
         Ok(PlainPort {
             alloc,
             vars,
             store,
             waiting,
-            start,
-            opening,
+            begun,
+            opening: units,
             passed: 0,
             given,
             written: Vec::new(alloc),
@@ -339,11 +326,11 @@ impl<L: LineOut> PlainPort<L> {
         })
     }
 
-    /// The addresses of the start clauses, in their order.
-    pub fn start(&self) -> &[Cref]
-        ensures { map (λ c. c.address) result.now ≡ map (λ h. h.address) self.now.start }
+    /// The addresses of the start clauses, in their order, in a vector of the caller's.
+    pub fn start(&self, alloc: Global) -> Result<Vec<Cref>, AllocError>
+        ensures { IfOk result (λ refs. refs.items ≡ map (λ (h : Holding). record { address = h.address }) self.now.start) }
     {
-        &self.start
+        addresses_below(alloc, self.begun as u64)
     }
 
     /// Gives the line output back.

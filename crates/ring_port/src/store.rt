@@ -102,6 +102,13 @@ impl Store {
         Cref { address }
     }
 
+    /// How many clauses were ever kept.
+    pub(crate) fn len(&self) -> usize
+        ensures { result ≡ length self.now.all }
+    {
+        self.cells.len()
+    }
+
     /// What stands before the literals.
     pub(crate) fn head(&self, c: Cref) -> Head
         requires { c.address < length self.now.all }

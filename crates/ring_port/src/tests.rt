@@ -1,9 +1,9 @@
 ghost use Rattle.std.specs.Prelude.{◌≡◌, IfOk};
 
-use crate::{PlainPort, Port, PortStop, Set};
+use crate::{PlainPort, Port, PortStop, Set, Starts};
 use drat_text::{CountedLines, LineOut, LineStop, SinkLines};
 use io_edge::MemSink;
-use sat_words::{Clause, Formula, Line, Lit, Lits, MAX_ENTRIES, STOP_SAT, Stop};
+use sat_words::{Line, Lit, Lits, MAX_ENTRIES, STOP_SAT, Stop};
 use std::alloc::{AllocError, Global};
 use std::test::Fail;
 
@@ -53,12 +53,12 @@ impl LineOut for ListLines {
 fn a_unit_is_given_and_written(rt: HostRuntime) -> Result<(), Fail> {
     let alloc = rt.alloc();
     let one = Lit::new(1, false);
-    let mut formula = Formula::new(alloc, 2);
-    formula.push(Clause::from_lits(alloc, &[one])?)?;
     let Ok(lines) = SinkLines::new(alloc, 1, MemSink::new(alloc, 64, &[])?) else {
         return Err("no memory".into());
     };
-    let Ok(mut port) = PlainPort::new(alloc, &formula, 2, &[], &[one], lines) else {
+    let starts = Starts::new(alloc);
+    let units = Vec::from_slice(alloc, &[one])?;
+    let Ok(mut port) = PlainPort::new(alloc, 2, starts, units, lines) else {
         return Err("no memory".into());
     };
     let Some(unit) = port.next_unit() else {
@@ -86,10 +86,10 @@ fn a_unit_is_given_and_written(rt: HostRuntime) -> Result<(), Fail> {
 fn a_fault_of_the_lines_is_told(rt: HostRuntime) -> Result<(), Fail> {
     let alloc = rt.alloc();
     let one = Lit::new(1, false);
-    let mut formula = Formula::new(alloc, 2);
-    formula.push(Clause::from_lits(alloc, &[one])?)?;
     let lines = CountedLines::new(1, 1);
-    let Ok(mut port) = PlainPort::new(alloc, &formula, 2, &[], &[one], lines) else {
+    let starts = Starts::new(alloc);
+    let units = Vec::from_slice(alloc, &[one])?;
+    let Ok(mut port) = PlainPort::new(alloc, 2, starts, units, lines) else {
         return Err("no memory".into());
     };
     let Some(unit) = port.next_unit() else {
@@ -103,14 +103,14 @@ fn a_fault_of_the_lines_is_told(rt: HostRuntime) -> Result<(), Fail> {
 fn lines_go_to_a_list(rt: HostRuntime) -> Result<(), Fail> {
     let alloc = rt.alloc();
     let one = Lit::new(1, false);
-    let mut formula = Formula::new(alloc, 2);
-    formula.push(Clause::from_lits(alloc, &[one])?)?;
     let lines = ListLines {
         alloc,
         lines: Vec::new(alloc),
         last: 1,
     };
-    let Ok(mut port) = PlainPort::new(alloc, &formula, 2, &[], &[one], lines) else {
+    let starts = Starts::new(alloc);
+    let units = Vec::from_slice(alloc, &[one])?;
+    let Ok(mut port) = PlainPort::new(alloc, 2, starts, units, lines) else {
         return Err("no memory".into());
     };
     let Some(unit) = port.next_unit() else {

@@ -1,17 +1,17 @@
 -- The problems of the tests are ready to be searched.
-use Rattle.std.proofs.Common.{◌≡◌, ℕ, ◌≤◌, Bool, true, false, List, [], ◌∷◌, map, ap, sym, subst, refl, arith, Some, nat_eq}
+use Rattle.std.proofs.Common.{◌≡◌, ℕ, ◌≤◌, Bool, true, false, List, [], ◌∷◌, length, map, ap, sym, subst, refl, arith, Some, nat_eq}
 use Rattle.std.specs.Prelude.{All}
 use Rattle.std.specs.List.{IsDistinct}
 use Rattle.std.proofs.lemmas.List.Elements.{All-cons, All-nil, All-from_recursion}
 use Rattle.sat_words.specs.Literal.{Literal}
 use Rattle.sat_words.specs.FormulaData.{FormulaData}
 use Rattle.sat_words.specs.Clause.{distinct_lits, has_opposites}
-use Rattle.sat_words.specs.declared.shared.Cref.{Cref}
 use Rattle.rup_model.specs.declared.journal.Entry.{Entry}
 use Rattle.rup_model.specs.Journal.{book, is_told}
 use Rattle.rup_model.specs.Opening.{is_rulers, IsRulersPart, IsStart}
-use Rattle.ring_port.specs.PortState.{Holding, IsOn}
-use Rattle.ring_port.specs.PlainPort.{starts_of}
+use Rattle.ring_port.specs.PortState.{IsOn}
+use Rattle.drat_text.specs.LineState.{LineState}
+use Rattle.ring_port.specs.PlainPort.{starts_of, CanOpen}
 use Rattle.ring_run.specs.Problems.{CanStart, lit, square, square_starts, chain, chain_starts, chain_units, triples, triples_starts, opposed, opposed_units, row, row_starts}
 
 -- before the ruler has written anything
@@ -25,17 +25,14 @@ on n v b low high = record { low = low; high = high }
 on_two : (n : ℕ) (k l : Literal) → IsOn n k → IsOn n l → All (IsOn n) (k ∷ l ∷ [])
 on_two n k l p q = All-cons (IsOn n) k (l ∷ []) p (All-cons (IsOn n) l [] q (All-nil (IsOn n)))
 
--- addresses, told by their numbers
-pub addresses : (cs : List Cref) (hs : List Holding) → map (λ (c : Cref). c.address) cs ≡ map (λ (h : Holding). h.address) hs → cs ≡ map (λ (h : Holding). record { address = h.address }) hs
-addresses [] [] e = refl
-addresses [] (h ∷ hs) e = absurd (let no : ⊥ = cc in no)
-addresses (c ∷ cs) [] e = absurd (let no : ⊥ = cc in no)
-addresses (c ∷ cs) (h ∷ hs) e =
-    let first : c.address ≡ h.address = cc in
-    let rest : map (λ (c : Cref). c.address) cs ≡ map (λ (h : Holding). h.address) hs = cc in
-    let all = addresses cs hs rest in
-    let one : c ≡ record { address = h.address } = ap (λ (a : ℕ). record { address = a }) first in
-    cc
+-- what is ready opens a port
+pub can_open : (f : List (List Literal)) (starts : List (ℕ × List Literal)) (units others : List Literal) (vars : ℕ) (out : LineState) → CanStart f starts units vars → others ≡ units → out.entries ≡ 0 → out.last ≡ length f
+    → CanOpen (starts_of starts) others out
+can_open f starts units others vars out p same entries last = subst (λ (us : List Literal). CanOpen (starts_of starts) us out) (sym same) (record {
+  clauses = f;
+  journal = [];
+  over = record { opens = p.opens; lines = record { entries = entries; last = (let n = last in omega arith) } };
+})
 
 -- what is equal to one that is ready
 pub same_ready : (f g : FormulaData) (starts starts2 : List (ℕ × List Literal)) (units units2 : List Literal) → f ≡ g → starts ≡ starts2 → units ≡ units2

@@ -6,7 +6,7 @@ ghost use Rattle.ring_run.specs.Problems.{CanStart, square, square_starts, chain
 use crate::{Addresses, Counts, End, Job, run_ring};
 use drat_text::{CountedLines, LineOut, SinkLines};
 use io_edge::MemSink;
-use ring_port::PlainPort;
+use ring_port::{PlainPort, Starts};
 use sat_words::{Clause, Formula, Lit};
 use std::alloc::{AllocError, Global};
 use std::test::Fail;
@@ -18,27 +18,27 @@ const ROOM: usize = 64;
 pub(crate) fn put(
     alloc: Global,
     formula: &mut Formula,
-    start: &mut Vec<(u64, Clause)>,
+    start: &mut Starts,
     lits: &[Lit],
 ) -> Result<(), AllocError>
     ensures formula { OnOk result (formula.new ≡ record formula.old { clauses = formula.old.clauses ++ clause_of lits.now ∷ [] }) }
-    ensures start { OnOk result (start.new.items ≡ start.old.items ++ (length formula.old.clauses + 1, clause_of lits.now) ∷ []) }
+    ensures start { OnOk result (start.new ≡ start.old ++ (length formula.old.clauses + 1, clause_of lits.now) ∷ []) }
 {
     formula.push(Clause::from_lits(alloc, lits)?)?;
     let number = formula.clauses().len() as u64;
-    start.push((number, Clause::from_lits(alloc, lits)?))?;
-    Ok(())
+    let clause = Clause::from_lits(alloc, lits)?;
+    start.push(number, clause.lits())
 }
 
 /// The four clauses on two variables, which no assignment makes true.
-fn four_clauses(alloc: Global) -> Result<(Formula, Vec<(u64, Clause)>), AllocError>
+fn four_clauses(alloc: Global) -> Result<(Formula, Starts), AllocError>
     ensures formula { IfOk result (λ made. made.0 ≡ record { vars = 2; clauses = square }) }
-    ensures start { IfOk result (λ made. made.1.items ≡ square_starts) }
+    ensures start { IfOk result (λ made. made.1 ≡ square_starts) }
 {
     let one = Lit::new(1, false);
     let two = Lit::new(2, false);
     let mut formula = Formula::new(alloc, 2);
-    let mut start = Vec::new(alloc);
+    let mut start = Starts::new(alloc);
     put(alloc, &mut formula, &mut start, &[one, two])?;
     put(alloc, &mut formula, &mut start, &[one, two.not()])?;
     put(alloc, &mut formula, &mut start, &[one.not(), two])?;
@@ -47,14 +47,14 @@ fn four_clauses(alloc: Global) -> Result<(Formula, Vec<(u64, Clause)>), AllocErr
 }
 
 /// A unit that forces 1, which forces 3; 4 occurs nowhere.
-fn three_clauses(alloc: Global) -> Result<(Formula, Vec<(u64, Clause)>), AllocError>
+fn three_clauses(alloc: Global) -> Result<(Formula, Starts), AllocError>
     ensures formula { IfOk result (λ made. made.0 ≡ record { vars = 4; clauses = chain }) }
-    ensures start { IfOk result (λ made. made.1.items ≡ chain_starts) }
+    ensures start { IfOk result (λ made. made.1 ≡ chain_starts) }
 {
     let one = Lit::new(1, false);
     let two = Lit::new(2, false);
     let mut formula = Formula::new(alloc, 4);
-    let mut start = Vec::new(alloc);
+    let mut start = Starts::new(alloc);
     put(alloc, &mut formula, &mut start, &[one, two])?;
     put(
         alloc,
@@ -67,15 +67,15 @@ fn three_clauses(alloc: Global) -> Result<(Formula, Vec<(u64, Clause)>), AllocEr
 }
 
 /// Two clauses that oppose each other where 1 and 2 are false.
-pub(crate) fn two_clauses(alloc: Global) -> Result<(Formula, Vec<(u64, Clause)>), AllocError>
+pub(crate) fn two_clauses(alloc: Global) -> Result<(Formula, Starts), AllocError>
     ensures formula { IfOk result (λ made. made.0 ≡ record { vars = 3; clauses = triples }) }
-    ensures start { IfOk result (λ made. made.1.items ≡ triples_starts) }
+    ensures start { IfOk result (λ made. made.1 ≡ triples_starts) }
 {
     let one = Lit::new(1, false);
     let two = Lit::new(2, false);
     let three = Lit::new(3, false);
     let mut formula = Formula::new(alloc, 3);
-    let mut start = Vec::new(alloc);
+    let mut start = Starts::new(alloc);
     put(alloc, &mut formula, &mut start, &[one, two, three])?;
     put(alloc, &mut formula, &mut start, &[one, two, three.not()])?;
     Ok((formula, start))
@@ -96,25 +96,26 @@ fn two_units(alloc: Global) -> Result<Formula, AllocError>
 fn run_over<L: LineOut + Drop>(
     alloc: Global,
     formula: &Formula,
-    start: &[(u64, Clause)],
+    start: Starts,
     units: &[Lit],
     conflicts: u64,
     lines: L,
 ) -> Result<(End, Counts, L), Fail>
-    requires ready { CanStart formula.now.clauses start.now units.now formula.now.vars }
+    requires ready { CanStart formula.now.clauses start units.now formula.now.vars }
     requires some { 1 ≤ conflicts }
     requires none { (L.told lines).entries ≡ 0 }
     requires last { (L.told lines).last ≡ length formula.now.clauses }
     requires unspent { (L.told lines).spent ≡ false }
 {
-    let Ok(mut port) = PlainPort::new(alloc, formula, formula.vars(), start, units, lines) else {
+    let units = Vec::from_slice(alloc, units)?;
+    let Ok(mut port) = PlainPort::new(alloc, formula.vars(), start, units, lines) else {
         return Err(Fail::from("no memory for the port"));
     };
     let job = Job {
         ring: 0,
         rings: 1,
         vars: formula.vars(),
-        start: Addresses::from_vec(Vec::from_slice(alloc, port.start())?),
+        start: Addresses::from_vec(port.start(alloc)?),
         conflicts,
     };
     let (end, counts) = run_ring(alloc, &mut port, &job);
@@ -125,11 +126,11 @@ fn run_over<L: LineOut + Drop>(
 fn run_on(
     alloc: Global,
     formula: &Formula,
-    start: &[(u64, Clause)],
+    start: Starts,
     units: &[Lit],
     conflicts: u64,
 ) -> Result<(End, Counts, MemSink<'static>), Fail>
-    requires ready { CanStart formula.now.clauses start.now units.now formula.now.vars }
+    requires ready { CanStart formula.now.clauses start units.now formula.now.vars }
     requires some { 1 ≤ conflicts }
 {
     let sink = MemSink::new(alloc, ROOM, &[])?;
@@ -148,7 +149,7 @@ fn run_on_four(alloc: Global, conflicts: u64) -> Result<(End, Counts, MemSink<'s
     requires { 1 ≤ conflicts }
 {
     let (formula, start) = four_clauses(alloc)?;
-    run_on(alloc, &formula, &start, &[], conflicts)
+    run_on(alloc, &formula, start, &[], conflicts)
 }
 
 pub(crate) fn counted(learned: u64) -> Counts {
@@ -184,7 +185,7 @@ fn tells_that_its_proof_failed(rt: HostRuntime) -> Result<(), Fail> {
     let alloc = rt.alloc();
     let (formula, start) = four_clauses(alloc)?;
     let lines = CountedLines::new(4, 1);
-    let (end, counts, _) = run_over(alloc, &formula, &start, &[], 2, lines)?;
+    let (end, counts, _) = run_over(alloc, &formula, start, &[], 2, lines)?;
     assert!(rt; matches!(end, End::ProofFault));
     assert_eq!(rt; counts, counted(0));
     Ok(())
@@ -195,7 +196,7 @@ fn tells_that_its_proof_failed(rt: HostRuntime) -> Result<(), Fail> {
 fn finds_a_model(rt: HostRuntime) -> Result<(), Fail> {
     let alloc = rt.alloc();
     let (formula, start) = three_clauses(alloc)?;
-    let (end, counts, sink) = run_on(alloc, &formula, &start, &[Lit::new(2, true)], 1)?;
+    let (end, counts, sink) = run_on(alloc, &formula, start, &[Lit::new(2, true)], 1)?;
     let End::Sat(model) = end else {
         return Err(Fail::from("no model"));
     };
@@ -213,7 +214,7 @@ fn finds_a_model(rt: HostRuntime) -> Result<(), Fail> {
 fn learns_a_clause(rt: HostRuntime) -> Result<(), Fail> {
     let alloc = rt.alloc();
     let (formula, start) = two_clauses(alloc)?;
-    let (end, counts, sink) = run_on(alloc, &formula, &start, &[], 2)?;
+    let (end, counts, sink) = run_on(alloc, &formula, start, &[], 2)?;
     let End::Sat(model) = end else {
         return Err(Fail::from("no model"));
     };
@@ -230,7 +231,7 @@ fn refutes_opposed_units(rt: HostRuntime) -> Result<(), Fail> {
     let alloc = rt.alloc();
     let formula = two_units(alloc)?;
     let units = [Lit::new(1, false), Lit::new(1, true)];
-    let (end, counts, sink) = run_on(alloc, &formula, &[], &units, 1)?;
+    let (end, counts, sink) = run_on(alloc, &formula, Starts::new(alloc), &units, 1)?;
     assert!(rt; matches!(end, End::Refuted));
     assert_eq!(rt; counts, counted(0));
     assert!(rt; sink.bytes() == b"0\n".as_slice());

@@ -7,8 +7,8 @@ ghost use Rattle.ring_run.specs.Problems.{CanStart};
 use crate::tests::{counted, two_clauses};
 use crate::{Addresses, Counts, End, Job, run_ring};
 use drat_text::{CountedLines, LineOut};
-use ring_port::{PlainPort, Port, PortStop, Set};
-use sat_words::{Clause, Cref, Formula, Head, Lit, NoRoom, STOP_MEMORY, STOP_ROOM, STOP_SAT, Stop};
+use ring_port::{PlainPort, Port, PortStop, Set, Starts};
+use sat_words::{Cref, Formula, Head, Lit, NoRoom, STOP_MEMORY, STOP_ROOM, STOP_SAT, Stop};
 use std::alloc::Global;
 use std::marker::Model;
 use std::test::Fail;
@@ -197,21 +197,21 @@ struct Ran {
 fn run_in_crowd(
     alloc: Global,
     formula: &Formula,
-    start: &[(u64, Clause)],
+    start: Starts,
     quiet: u64,
     memory: bool,
 ) -> Result<Ran, Fail>
-    requires { CanStart formula.now.clauses start.now [] formula.now.vars }
+    requires { CanStart formula.now.clauses start [] formula.now.vars }
 {
     let lines = CountedLines::new(formula.clauses().len() as u64, 0);
-    let Ok(inner) = PlainPort::new(alloc, formula, formula.vars(), start, &[], lines) else {
+    let Ok(inner) = PlainPort::new(alloc, formula.vars(), start, Vec::new(alloc), lines) else {
         return Err(Fail::from("no memory for the port"));
     };
     let job = Job {
         ring: 1,
         rings: 3,
         vars: formula.vars(),
-        start: Addresses::from_vec(Vec::from_slice(alloc, inner.start())?),
+        start: Addresses::from_vec(inner.start(alloc)?),
         conflicts: 2,
     };
     let mut port = Crowd::over(inner, quiet, memory);
@@ -228,7 +228,7 @@ fn run_in_crowd(
 /// The same on two clauses that oppose each other after two decisions.
 fn run_on_two(alloc: Global, quiet: u64, memory: bool) -> Result<Ran, Fail> {
     let (formula, start) = two_clauses(alloc)?;
-    run_in_crowd(alloc, &formula, &start, quiet, memory)
+    run_in_crowd(alloc, &formula, start, quiet, memory)
 }
 
 // The stop appears at the second look: one decision was made, and the ring set no stop.

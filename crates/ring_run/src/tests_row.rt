@@ -13,9 +13,9 @@ use crate::units::{Units, take_units};
 use crate::{Addresses, Job};
 use analyze::{Analysis, Conclusion};
 use drat_text::CountedLines;
-use ring_port::{PlainPort, Port};
+use ring_port::{PlainPort, Port, Starts};
 use ring_trail::Trail;
-use sat_words::{Clause, Cref, Formula, Lit};
+use sat_words::{Cref, Formula, Lit};
 use std::alloc::{AllocError, Global};
 use std::test::Fail;
 use watch_prop::Propagated;
@@ -33,16 +33,16 @@ struct Walked {
 
 /// 1 forces 2, and where 1 and 4 are true the last two clauses oppose each other. A clause has
 /// its literals in the order of their variables, however they are given.
-fn row_clauses(alloc: Global) -> Result<(Formula, Vec<(u64, Clause)>), AllocError>
+fn row_clauses(alloc: Global) -> Result<(Formula, Starts), AllocError>
     ensures formula { IfOk result (λ made. made.0 ≡ record { vars = 5; clauses = row }) }
-    ensures start { IfOk result (λ made. made.1.items ≡ row_starts) }
+    ensures start { IfOk result (λ made. made.1 ≡ row_starts) }
 {
     let one = Lit::new(1, true);
     let four = Lit::new(4, true);
     let two = Lit::new(2, false);
     let five = Lit::new(5, false);
     let mut formula = Formula::new(alloc, 5);
-    let mut start = Vec::new(alloc);
+    let mut start = Starts::new(alloc);
     put(alloc, &mut formula, &mut start, &[one, two])?;
     put(alloc, &mut formula, &mut start, &[four, one, five])?;
     put(
@@ -166,18 +166,18 @@ fn walk<P: Port>(alloc: Global, port: &mut P, job: &Job) -> Result<Walked, Fail>
 }
 
 /// Walks over a port in memory that holds these clauses.
-fn walk_on(alloc: Global, formula: &Formula, start: &[(u64, Clause)]) -> Result<Walked, Fail>
-    requires { CanStart formula.now.clauses start.now [] formula.now.vars }
+fn walk_on(alloc: Global, formula: &Formula, start: Starts) -> Result<Walked, Fail>
+    requires { CanStart formula.now.clauses start [] formula.now.vars }
 {
     let lines = CountedLines::new(formula.clauses().len() as u64, 0);
-    let Ok(mut port) = PlainPort::new(alloc, formula, formula.vars(), start, &[], lines) else {
+    let Ok(mut port) = PlainPort::new(alloc, formula.vars(), start, Vec::new(alloc), lines) else {
         return Err(Fail::from("no memory for the port"));
     };
     let job = Job {
         ring: 0,
         rings: 1,
         vars: formula.vars(),
-        start: Addresses::from_vec(Vec::from_slice(alloc, port.start())?),
+        start: Addresses::from_vec(port.start(alloc)?),
         conflicts: 1,
     };
     walk(alloc, &mut port, &job)
@@ -189,7 +189,7 @@ fn walk_on(alloc: Global, formula: &Formula, start: &[(u64, Clause)]) -> Result<
 #[test]
 fn learns_a_minimised_lemma(rt: HostRuntime) -> Result<(), Fail> {
     let (formula, start) = row_clauses(rt.alloc())?;
-    let walked = walk_on(rt.alloc(), &formula, &start)?;
+    let walked = walk_on(rt.alloc(), &formula, start)?;
     assert_eq!(rt; walked.two, Some(true));
     assert_eq!(rt; walked.conclusion, Conclusion::Lemma { back: 1, glue: 1 });
     let lits = walked.analysis.lits();

@@ -9,10 +9,10 @@ returns-in-Err-clause-outcome g c = λ text source read still.
     let flush = c.flush in
     let counts = counted c.args.tally.now c.set.new.self c.search-verdict.result.learned c.requires.started c.set.ensures in
     record {
-      formula = c.args.formula.now;
+      formula = c.args.formula;
       journal = s.journal;
-      outcome = stopped c.in-Err.end c.args.limit c.search-verdict.result.verdict c.args.formula.now s.journal _ _ text source _ _ _ c.in-Err.is s.conclusion flush.ensures.cause.later c.note.ensures refl
-          (started c.args.limit text source _ c.args.formula.now c.search-verdict.result.verdict c.search-verdict.result.learned _ _ _ _ s read still counts flush.ensures.bytes (closed _ _ _ _ _ flush.result flush.ensures.cause flush.ensures.flushed));
+      outcome = stopped c.in-Err.end c.args.limit c.search-verdict.result.verdict c.args.formula s.journal _ _ text source _ _ _ c.in-Err.is s.conclusion flush.ensures.cause.later c.note.ensures refl
+          (started c.args.limit text source _ c.args.formula c.search-verdict.result.verdict c.search-verdict.result.learned _ _ _ _ s read still counts flush.ensures.bytes (closed _ _ _ _ _ flush.result flush.ensures.cause flush.ensures.flushed));
     }
 
 pub returns-clause-outcome : goal.returns-clause-outcome
@@ -20,10 +20,10 @@ returns-clause-outcome g c = λ text source read still.
     let s = c.search-verdict.ensures.searched in
     let end = c.finish in
     let counts = counted c.args.tally.now c.set.new.self c.search-verdict.result.learned c.requires.started c.set.ensures in
-    let found = concluded c.in-Ok.verdict c.args.limit c.search-verdict.result.verdict c.args.formula.now s.journal _ c.in-Ok.is s.conclusion in
+    let found = concluded c.in-Ok.verdict c.args.limit c.search-verdict.result.verdict c.args.formula s.journal _ c.in-Ok.is s.conclusion in
     record {
-      formula = c.args.formula.now;
+      formula = c.args.formula;
       journal = s.journal;
-      outcome = finished c.in-Ok.verdict end.result.end c.args.limit c.vars.result c.args.formula.now s.journal _ text source _ _ _ found.0 c.vars.ensures found.1 end.ensures.finishes
-          (started c.args.limit text source _ c.args.formula.now c.search-verdict.result.verdict c.search-verdict.result.learned _ _ _ _ s read still counts end.ensures.bytes (finish_closes _ _ _ _ _ _ end.ensures.finishes));
+      outcome = finished c.in-Ok.verdict end.result.end c.args.limit c.vars-vars.result c.args.formula s.journal _ text source _ _ _ found.0 c.vars-vars.ensures found.1 end.ensures.finishes
+          (started c.args.limit text source _ c.args.formula c.search-verdict.result.verdict c.search-verdict.result.learned _ _ _ _ s read still counts end.ensures.bytes (finish_closes _ _ _ _ _ _ end.ensures.finishes));
     }

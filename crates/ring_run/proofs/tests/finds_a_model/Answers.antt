@@ -7,4 +7,4 @@ use Rattle.ring_run.proofs.tests.finds_a_model.Goals as goal
 pub run_on-requires-clause-ready : goal.run_on-requires-clause-ready
 run_on-requires-clause-ready g c =
     let made = c.in_ok-formula.ensures {u = tt} in
-    same_ready c.in_ok-formula.formula _ c.deref.result.now chain_starts (c.new.result ∷ []) chain_units made.formula (c.deref.ensures.value ∙ made.start) (ap (λ (l : Literal). l ∷ []) c.new.ensures) chain_ready
+    same_ready c.in_ok-formula.formula _ c.in_ok-formula.start chain_starts (c.new.result ∷ []) chain_units made.formula made.start (ap (λ (l : Literal). l ∷ []) c.new.ensures) chain_ready

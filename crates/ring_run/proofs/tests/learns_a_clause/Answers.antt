@@ -6,4 +6,4 @@ use Rattle.ring_run.proofs.tests.learns_a_clause.Goals as goal
 pub run_on-requires-clause-ready : goal.run_on-requires-clause-ready
 run_on-requires-clause-ready g c =
     let made = c.in_ok-formula.ensures {u = tt} in
-    same_ready c.in_ok-formula.formula _ c.deref.result.now triples_starts [] [] made.formula (c.deref.ensures.value ∙ made.start) refl triples_ready
+    same_ready c.in_ok-formula.formula _ c.in_ok-formula.start triples_starts [] [] made.formula made.start refl triples_ready

@@ -6,4 +6,4 @@ use Rattle.ring_run.proofs.tests.run_on_four.Goals as goal
 pub run_on-requires-clause-ready : goal.run_on-requires-clause-ready
 run_on-requires-clause-ready c =
     let made = c.in_ok-formula.ensures {u = tt} in
-    same_ready c.in_ok-formula.formula _ c.deref.result.now square_starts [] [] made.formula (c.deref.ensures.value ∙ made.start) refl square_ready
+    same_ready c.in_ok-formula.formula _ c.in_ok-formula.start square_starts [] [] made.formula made.start refl square_ready

@@ -1,6 +1,5 @@
 use Rattle.std.proofs.Common.{◌∙◌, map, sym, ap, subst, arith}
 use Rattle.ring_port.specs.PortState.{PortState, Holding, HoldsStart}
-use Rattle.ring_run.proofs.ProblemsReady.{addresses}
 use Rattle.ring_run.proofs.CrowdLemmas.{crowd_holds}
 use Rattle.std.proofs.Common.{None}
 use Rattle.ring_run.proofs.tests_port.run_in_crowd.Goals as goal
@@ -14,7 +13,7 @@ run_ring-end-requires-clause-job c =
       ring = sym (ap (λ (s : PortState). s.ring) over);
       rings = sym (ap (λ (s : PortState). s.rings) over);
       vars = c.vars-2.ensures ∙ sym c.vars.ensures ∙ sym (ap (λ (s : PortState). s.vars) made) ∙ sym (ap (λ (s : PortState). s.vars) over);
-      start = c.from_vec.ensures ∙ (c.in_ok-from_slice.ensures {u = tt}).items ∙ addresses c.start.result.now c.in-Ok.inner.start c.start.ensures
+      start = c.from_vec.ensures ∙ c.in_ok-start.ensures
           ∙ ap (λ (s : PortState). map (λ (h : Holding). record { address = h.address }) s.start) (sym over);
       some = omega arith;
     }

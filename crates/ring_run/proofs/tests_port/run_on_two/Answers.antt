@@ -6,4 +6,4 @@ use Rattle.ring_run.proofs.tests_port.run_on_two.Goals as goal
 pub run_in_crowd-requires : goal.run_in_crowd-requires
 run_in_crowd-requires c =
     let made = c.in_ok-formula.ensures {u = tt} in
-    same_ready c.in_ok-formula.formula _ c.deref.result.now triples_starts [] [] made.formula (c.deref.ensures.value ∙ made.start) refl triples_ready
+    same_ready c.in_ok-formula.formula _ c.in_ok-formula.start triples_starts [] [] made.formula made.start refl triples_ready

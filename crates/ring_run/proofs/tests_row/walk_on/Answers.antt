@@ -1,6 +1,5 @@
 use Rattle.std.proofs.Common.{◌∙◌, sym, ap, arith}
 use Rattle.ring_port.specs.PortState.{PortState}
-use Rattle.ring_run.proofs.ProblemsReady.{addresses}
 use Rattle.ring_run.proofs.tests_row.walk_on.Goals as goal
 
 pub walk-requires-clause-job : goal.walk-requires-clause-job
@@ -11,6 +10,6 @@ walk-requires-clause-job c =
       ring = sym (ap (λ (s : PortState). s.ring) made);
       rings = sym (ap (λ (s : PortState). s.rings) made);
       vars = c.vars-2.ensures ∙ sym c.vars.ensures ∙ sym (ap (λ (s : PortState). s.vars) made);
-      start = c.from_vec.ensures ∙ (c.in_ok-from_slice.ensures {u = tt}).items ∙ addresses c.start.result.now c.in-Ok.port.start c.start.ensures;
+      start = c.from_vec.ensures ∙ c.in_ok-start.ensures;
       some = omega arith;
     }

@@ -1,31 +1,38 @@
-use Rattle.std.proofs.Common.{◌-◌, arith, sym, subst, None, vec_len}
+use Rattle.std.proofs.Common.{◌≡◌, ◌∙◌, ◌-◌, List, ap, arith, sym, subst, None, length, vec_len}
 use Rattle.std.specs.Vec.{vec_capacity}
-use Rattle.ring_port.specs.PortState.{HoldsStart}
+use Rattle.ring_port.specs.PortState.{Holding, HoldsStart}
 use Rattle.ring_port.specs.Log.{StandsOver}
-use Rattle.ring_port.specs.PlainPort.{PlainData, IsPlain}
+use Rattle.ring_port.specs.PlainPort.{PlainData, IsPlain, placed_from}
 use Rattle.ring_port.proofs.PlainLemmas.{plain_port}
 use Rattle.ring_port.proofs.Beginnings.{begun_plain, begun_is, begun_stands, begun_holds}
 use Rattle.ring_port.proofs.plain_port.PlainPort.new.Goals as goal
 
 pub invariant_of-result : goal.invariant_of-result
 invariant_of-result g c =
-    let plain = begun_plain c.args.formula.now.clauses c.args.vars c.args.start.now c.args.units.now (g.L.LineOut.told c.args.output) c.in-Ok.start.items (vec_capacity c.in-Ok-with_capacity.given - vec_len c.in-Ok-with_capacity.given) c.new-2.result c.requires.opening.0 c.requires.opening.1 c.requires.starts_on c.requires.units_on c.in-Ok.ensures.start (let exact = c.in-Ok-with_capacity.ensures.exact in let none = c.in-Ok-with_capacity.ensures.len in omega arith) in
+    let held : c.starts.inside.store.all ≡ placed_from 0 c.args.starts = c.starts.invariant.placed ∙ ap (placed_from 0) c.starts.view_is in
+    let live : c.starts.inside.store.held ≡ placed_from 0 c.args.starts = c.starts.invariant.held ∙ held in
+    let found = c.requires.opening in
+    let plain = begun_plain found.clauses c.args.vars c.args.starts c.args.units.items (g.L.LineOut.told c.args.output) c.len-begun.result (vec_capacity c.in-Ok.given - vec_len c.in-Ok.given) c.new-2.result found.journal found.over c.requires.starts_on c.requires.units_on
+    (c.len-begun.ensures ∙ ap (λ (hs : List Holding). length hs) held) (let exact = c.in-Ok.ensures.exact in let none = c.in-Ok.ensures.len in let n = c.len.ensures in omega arith) in
     subst (λ (p : PlainData). IsPlain p)
-    (λ i. record { vars = c.args.vars; all = sym c.in-Ok.ensures.all i; held = sym c.in-Ok.ensures.held i; waiting = sym c.new-waiting.ensures.items i; start = c.in-Ok.start.items; opening = sym c.in-Ok-from_slice.ensures.items i; passed = 0; given = sym c.in-Ok-with_capacity.ensures.items i; given_room = vec_capacity c.in-Ok-with_capacity.given - vec_len c.in-Ok-with_capacity.given; written = sym c.new.ensures.items i; log = c.new-2.result; last = None; stop = None; looks = 0 })
+    (λ i. record { vars = c.args.vars; all = sym held i; held = sym live i; waiting = sym c.new-waiting.ensures.items i; begun = c.len-begun.result; opening = c.args.units.items; passed = 0; given = sym c.in-Ok.ensures.items i; given_room = vec_capacity c.in-Ok.given - vec_len c.in-Ok.given; written = sym c.new.ensures.items i; log = c.new-2.result; last = None; stop = None; looks = 0 })
     plain
 
+pub returns-clause-made : goal.returns-clause-made
+returns-clause-made g c =
+    let held : c.starts.inside.store.all ≡ placed_from 0 c.args.starts = c.starts.invariant.placed ∙ ap (placed_from 0) c.starts.view_is in
+    let live : c.starts.inside.store.held ≡ placed_from 0 c.args.starts = c.starts.invariant.held ∙ held in
+    begun_is c.requires.opening.clauses c.args.vars c.args.starts c.args.units.items (g.L.LineOut.told c.args.output) c.starts.inside.store.all c.starts.inside.store.held c.new-waiting.result.items c.len-begun.result c.in-Ok.given.items c.new.result.items (vec_capacity c.in-Ok.given - vec_len c.in-Ok.given) c.new-2.result
+    held live c.new-waiting.ensures.items c.len-begun.ensures c.in-Ok.ensures.items c.new.ensures.items c.new-2.ensures.output c.new-2.ensures.mine c.new-2.ensures.ended c.new-2.ensures.refused
+
 pub returns-clause-stands : goal.returns-clause-stands
-returns-clause-stands g c =
-    let is = begun_is c.args.formula.now.clauses c.args.vars c.args.start.now c.args.units.now (g.L.LineOut.told c.args.output) c.in-Ok.store.all c.in-Ok.store.held c.new-waiting.result.items c.in-Ok.start.items c.in-Ok-from_slice.opening.items c.in-Ok-with_capacity.given.items c.new.result.items (vec_capacity c.in-Ok-with_capacity.given - vec_len c.in-Ok-with_capacity.given) c.new-2.result
-    c.in-Ok.ensures.all c.in-Ok.ensures.held c.new-waiting.ensures.items c.in-Ok.ensures.start c.in-Ok-from_slice.ensures.items c.in-Ok-with_capacity.ensures.items c.new.ensures.items c.new-2.ensures.output c.new-2.ensures.mine c.new-2.ensures.ended c.new-2.ensures.refused in
-    λ J opens. subst (λ s. StandsOver (record { formula = c.args.formula.now.clauses; journal = J; output = g.L.LineOut.told c.args.output }) s) (sym is)
-    (begun_stands c.args.formula.now.clauses c.args.vars c.args.start.now c.args.units.now (g.L.LineOut.told c.args.output) J opens c.requires.going c.requires.unspent)
+returns-clause-stands g c = λ F J opens going.
+    let is = returns-clause-made g c in
+    subst (λ s. StandsOver (record { formula = F; journal = J; output = g.L.LineOut.told c.args.output }) s) (sym is)
+    (begun_stands F c.args.vars c.args.starts c.args.units.items (g.L.LineOut.told c.args.output) J opens going c.requires.unspent)
 
 pub returns-clause-holds : goal.returns-clause-holds
-returns-clause-holds g c =
-    let is = begun_is c.args.formula.now.clauses c.args.vars c.args.start.now c.args.units.now (g.L.LineOut.told c.args.output) c.in-Ok.store.all c.in-Ok.store.held c.new-waiting.result.items c.in-Ok.start.items c.in-Ok-from_slice.opening.items c.in-Ok-with_capacity.given.items c.new.result.items (vec_capacity c.in-Ok-with_capacity.given - vec_len c.in-Ok-with_capacity.given) c.new-2.result
-    c.in-Ok.ensures.all c.in-Ok.ensures.held c.new-waiting.ensures.items c.in-Ok.ensures.start c.in-Ok-from_slice.ensures.items c.in-Ok-with_capacity.ensures.items c.new.ensures.items c.new-2.ensures.output c.new-2.ensures.mine c.new-2.ensures.ended c.new-2.ensures.refused in
-    subst (λ s. HoldsStart s) (sym is) (begun_holds c.args.vars c.args.start.now c.args.units.now (g.L.LineOut.told c.args.output))
+returns-clause-holds g c = subst (λ s. HoldsStart s) (sym (returns-clause-made g c)) (begun_holds c.args.vars c.args.starts c.args.units.items (g.L.LineOut.told c.args.output))
 
 pub returns-clause-port : goal.returns-clause-port
 returns-clause-port g c = plain_port _ (invariant_of-result g c)

@@ -23,7 +23,7 @@ push_reserved-requires g c =
 pub invariant_of-self : goal.invariant_of-self
 invariant_of-self g c =
     let i = c.self.inside in
-    let p : PlainData = record { vars = i.vars; all = i.store.all; held = i.store.held; waiting = i.waiting.items; start = i.start.items; opening = i.opening.items; passed = i.passed; given = i.given.items; given_room = vec_capacity i.given - vec_len i.given; written = i.written.items; log = i.log; last = i.last; stop = i.stop; looks = i.looks } in
+    let p : PlainData = record { vars = i.vars; all = i.store.all; held = i.store.held; waiting = i.waiting.items; begun = i.begun; opening = i.opening.items; passed = i.passed; given = i.given.items; given_room = vec_capacity i.given - vec_len i.given; written = i.written.items; log = i.log; last = i.last; stop = i.stop; looks = i.looks } in
     let some : position (λ j. not (has i.written.items j)) (drop i.passed i.opening.items) ≡ Some c.in_ok-skipped.skipped =
     (λ x. position (λ j. not (has (sym c.deref-2.ensures.value x) j)) (drop i.passed (sym c.deref.ensures.value x))) ∙ sym c.in_ok-skipped.ensures in
     let lt = in_range i.passed c.in_ok-skipped.skipped i.opening.items i.written.items c.index-unit.result.now some c.index-unit.ensures in
@@ -41,7 +41,7 @@ returns-clause-port g c = plain_port _ (invariant_of-self g c)
 pub returns-clause-listed : goal.returns-clause-listed
 returns-clause-listed g c =
     let i = c.self.inside in
-    let p : PlainData = record { vars = i.vars; all = i.store.all; held = i.store.held; waiting = i.waiting.items; start = i.start.items; opening = i.opening.items; passed = i.passed; given = i.given.items; given_room = vec_capacity i.given - vec_len i.given; written = i.written.items; log = i.log; last = i.last; stop = i.stop; looks = i.looks } in
+    let p : PlainData = record { vars = i.vars; all = i.store.all; held = i.store.held; waiting = i.waiting.items; begun = i.begun; opening = i.opening.items; passed = i.passed; given = i.given.items; given_room = vec_capacity i.given - vec_len i.given; written = i.written.items; log = i.log; last = i.last; stop = i.stop; looks = i.looks } in
     let some : position (λ j. not (has i.written.items j)) (drop i.passed i.opening.items) ≡ Some c.in_ok-skipped.skipped =
     (λ x. position (λ j. not (has (sym c.deref-2.ensures.value x) j)) (drop i.passed (sym c.deref.ensures.value x))) ∙ sym c.in_ok-skipped.ensures in
     subst (λ s. has s.opening c.index-unit.result.now ≡ true) c.self.view_is (took_listed p c.in_ok-skipped.skipped c.index-unit.result.now some c.index-unit.ensures)
@@ -49,7 +49,7 @@ returns-clause-listed g c =
 pub returns-clause-took : goal.returns-clause-took
 returns-clause-took g c =
     let i = c.self.inside in
-    let p : PlainData = record { vars = i.vars; all = i.store.all; held = i.store.held; waiting = i.waiting.items; start = i.start.items; opening = i.opening.items; passed = i.passed; given = i.given.items; given_room = vec_capacity i.given - vec_len i.given; written = i.written.items; log = i.log; last = i.last; stop = i.stop; looks = i.looks } in
+    let p : PlainData = record { vars = i.vars; all = i.store.all; held = i.store.held; waiting = i.waiting.items; begun = i.begun; opening = i.opening.items; passed = i.passed; given = i.given.items; given_room = vec_capacity i.given - vec_len i.given; written = i.written.items; log = i.log; last = i.last; stop = i.stop; looks = i.looks } in
     let some : position (λ j. not (has i.written.items j)) (drop i.passed i.opening.items) ≡ Some c.in_ok-skipped.skipped =
     (λ x. position (λ j. not (has (sym c.deref-2.ensures.value x) j)) (drop i.passed (sym c.deref.ensures.value x))) ∙ sym c.in_ok-skipped.ensures in
     let room = vec_capacity c.push_reserved.new.self - vec_len c.push_reserved.new.self in
@@ -60,7 +60,7 @@ returns-clause-took g c =
 pub returns-clause-log : goal.returns-clause-log
 returns-clause-log g c =
     let i = c.self.inside in
-    let p : PlainData = record { vars = i.vars; all = i.store.all; held = i.store.held; waiting = i.waiting.items; start = i.start.items; opening = i.opening.items; passed = i.passed; given = i.given.items; given_room = vec_capacity i.given - vec_len i.given; written = i.written.items; log = i.log; last = i.last; stop = i.stop; looks = i.looks } in
+    let p : PlainData = record { vars = i.vars; all = i.store.all; held = i.store.held; waiting = i.waiting.items; begun = i.begun; opening = i.opening.items; passed = i.passed; given = i.given.items; given_room = vec_capacity i.given - vec_len i.given; written = i.written.items; log = i.log; last = i.last; stop = i.stop; looks = i.looks } in
     let room = vec_capacity c.push_reserved.new.self - vec_len c.push_reserved.new.self in
     subst (λ s. KeepsLog s (state_of (record p { passed = i.passed + c.in_ok-skipped.skipped + 1; given = c.push_reserved.new.self.items; given_room = room }))) c.self.view_is
     (given_keeps p (i.passed + c.in_ok-skipped.skipped + 1) c.push_reserved.new.self.items room)
@@ -68,7 +68,7 @@ returns-clause-log g c =
 pub returns-in_err-skipped-clause-took : goal.returns-in_err-skipped-clause-took
 returns-in_err-skipped-clause-took g c =
     let i = c.self.inside in
-    let p : PlainData = record { vars = i.vars; all = i.store.all; held = i.store.held; waiting = i.waiting.items; start = i.start.items; opening = i.opening.items; passed = i.passed; given = i.given.items; given_room = vec_capacity i.given - vec_len i.given; written = i.written.items; log = i.log; last = i.last; stop = i.stop; looks = i.looks } in
+    let p : PlainData = record { vars = i.vars; all = i.store.all; held = i.store.held; waiting = i.waiting.items; begun = i.begun; opening = i.opening.items; passed = i.passed; given = i.given.items; given_room = vec_capacity i.given - vec_len i.given; written = i.written.items; log = i.log; last = i.last; stop = i.stop; looks = i.looks } in
     let none : position (λ j. not (has i.written.items j)) (drop i.passed i.opening.items) ≡ None =
     (λ x. position (λ j. not (has (sym c.deref-2.ensures.value x) j)) (drop i.passed (sym c.deref.ensures.value x))) ∙ sym c.in_err-skipped.ensures in
     subst (λ r. Took c.args.self.now c.args.self.now r) (sym c.from_residual.ensures)

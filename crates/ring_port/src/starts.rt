@@ -1,0 +1,48 @@
+// What a port in memory starts with.
+ghost use Rattle.std.specs.Prelude.{◌≡◌, ◌++◌, ◌∷◌, [], OnOk};
+
+use crate::store::Store;
+use sat_words::Lit;
+use std::alloc::{AllocError, Global};
+use std::marker::Model;
+
+/// The clauses that a search starts with, in the order in which they came, each under its number in the log. A port takes
+/// them over without a copy.
+#[derive(Drop)]
+pub struct Starts {
+    pub(crate) store: Store,
+}
+
+impl Model for Starts {
+    ghost use Rattle.std.specs.Prelude.{ℕ, List};
+    ghost use Rattle.sat_words.specs.Literal.{Literal};
+    ghost use Rattle.ring_port.specs.PlainPort.{pairs_of, AreAllHeld};
+
+    ghost Value = { List (ℕ × List Literal) };
+
+    ghost view = { λ p. pairs_of p.store.all };
+
+    ghost invariant = { λ p. AreAllHeld p.store };
+}
+
+impl Starts {
+    /// No clause, and no memory taken.
+    pub fn new(alloc: Global) -> Starts
+        ensures { result ≡ [] }
+    {
+        Starts {
+            store: Store::new(alloc),
+        }
+    }
+
+    /// Copies the literals of one clause more. For 2^32 literals there is no room.
+    pub fn push(&mut self, number: u64, lits: &[Lit]) -> Result<(), AllocError>
+        ensures { OnOk result (self.new ≡ self.old ++ (number, lits.now) ∷ []) }
+    {
+        if self.store.make_room(lits).is_err() {
+            return Err(AllocError);
+        }
+        self.store.push(lits, number, 0);
+        Ok(())
+    }
+}

@@ -1,6 +1,7 @@
-//! Unit propagation by two watched literals (MiniSat, Eén and Sörensson 2003): where a literal becomes false, the list of its
-//! watches is walked; each entry finds its clause satisfied, a replacement watch, a literal that is forced, or a conflict.
-//! An entry may leave the list only where another literal of the clause, which is not false, watches it from then on.
+//! Unit propagation by two watched literals (MiniSat, Eén and Sörensson 2003): where a literal becomes false, the list of
+//! its watches is walked; each entry finds its clause satisfied, a replacement watch, a literal that is forced, or a
+//! conflict. An entry may leave the list only where it is stale, or where another literal of the clause, which isn't false,
+//! watches from then on.
 ghost use Rattle.std.specs.Prelude.{◌≡◌, ◌≢◌, ◌≤◌, ◌<◌, ◌+◌, IfOk, OnOk, OnErr, length, slice_index};
 ghost use Rattle.ring_port.specs.PortState.{lits_at};
 ghost use Rattle.ring_trail.specs.TrailData.{IsFalseOn};

@@ -6,5 +6,7 @@ mod Tokens
 mod Unique
 pub mod Fronts
 mod Gathering
+mod Reading
+mod BadLines
 pub mod Progress
 pub mod JournalLines

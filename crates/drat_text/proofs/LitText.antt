@@ -1,5 +1,5 @@
 -- A literal's text by its sign.
-use Rattle.std.proofs.Common.{◌≡◌, ℕ, List, ◌∷◌, ◌++◌, ap, Bool, true, false, codes, cond}
+use Rattle.std.proofs.Common.{◌≡◌, ◌∷◌, ◌++◌, ap, Bool, true, false, codes, cond}
 use Rattle.std.specs.Fmt.{decimal}
 use Rattle.sat_words.specs.Literal.{Literal, lit_text}
 

@@ -1,7 +1,7 @@
 -- A line on its way: some of it was written, and the rest of what was put waits in the piece.
-use Rattle.std.proofs.Common.{◌≡◌, ◌∙◌, ℕ, ◌+◌, ◌-◌, ◌<◌, ◌≤◌, ◌^◌, min, List, [], ◌++◌, take, drop, take-append-drop, length, length-append, length-drop, get_or, codes, append_assoc, append-nil, refl, ap, sym, subst, arith}
+use Rattle.std.proofs.Common.{◌≡◌, ◌∙◌, ℕ, ◌+◌, ◌-◌, ◌<◌, ◌^◌, min, List, [], ◌++◌, take, drop, take-append-drop, length, length-append, length-drop, append_assoc, append-nil, refl, ap, sym, subst, arith}
 use Rattle.std.specs.declared.option.Option.{Option}
-use Rattle.std.proofs.lemmas.List.{length-take-le, take_at, take_all}
+use Rattle.std.proofs.lemmas.List.{length-take-le, take_at}
 use Rattle.io_edge.specs.Bytes.{GrowsBy}
 use Rattle.io_edge.proofs.Growth.{grows_twice, grows_by_nothing}
 use Rattle.drat_text.specs.Cut.{WasCut}

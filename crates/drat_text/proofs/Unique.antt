@@ -7,25 +7,25 @@ use Rattle.rup_model.specs.Log.{lits_of}
 use Rattle.drat_text.specs.Text.{lits_text, line_text, text, CanBeSpelled}
 use Rattle.drat_text.proofs.Tokens.{IsToken, lit_text_is_token, token_ends, same_from_lit_text}
 
-abbrev IsSpelled : Line → Type 0
+abbrev pub IsSpelled : Line → Type 0
 IsSpelled x = All (IsOn (2 ^ 30)) (lits_of x)
 
 -- what holds of all holds of those behind the first
-others : {X : Type 0} (P : X → Type 0) (x : X) (xs : List X) → All P (x ∷ xs) → All P xs
+pub others : {X : Type 0} (P : X → Type 0) (x : X) (xs : List X) → All P (x ∷ xs) → All P xs
 others P x xs all = λ k d low. all (suc k) d (omega arith)
 
-small : (l : Literal) (c : List Literal) → All (IsOn (2 ^ 30)) (l ∷ c) → l.var < 2 ^ 64
+pub small : (l : Literal) (c : List Literal) → All (IsOn (2 ^ 30)) (l ∷ c) → l.var < 2 ^ 64
 small l c all = let on = all 0 l (omega arith) in omega (arith, on.high)
 
-first_is_token : (l : Literal) (c : List Literal) → All (IsOn (2 ^ 30)) (l ∷ c) → IsToken (lit_text l)
+pub first_is_token : (l : Literal) (c : List Literal) → All (IsOn (2 ^ 30)) (l ∷ c) → IsToken (lit_text l)
 first_is_token l c all = lit_text_is_token l (small l c all)
 
-lits_text_first : (l : Literal) (c : List Literal) (s : List ℕ) → lits_text (l ∷ c) ++ s ≡ lit_text l ++ 32 ∷ (lits_text c ++ s)
+pub lits_text_first : (l : Literal) (c : List Literal) (s : List ℕ) → lits_text (l ∷ c) ++ s ≡ lit_text l ++ 32 ∷ (lits_text c ++ s)
 lits_text_first l c s =
     append_assoc (lit_text l ++ 32 ∷ []) (lits_text c) s ∙ append_assoc (lit_text l) (32 ∷ []) (lits_text c ++ s)
 
 -- a byte and a newline don't begin with a token and a space
-end_is_no_token : (mark newline space : ℕ) (xs s t : List ℕ) → space < mark → newline < space → space < 33 → IsToken xs → mark ∷ newline ∷ s ≡ xs ++ space ∷ t → ⊥
+pub end_is_no_token : (mark newline space : ℕ) (xs s t : List ℕ) → space < mark → newline < space → space < 33 → IsToken xs → mark ∷ newline ∷ s ≡ xs ++ space ∷ t → ⊥
 end_is_no_token mark newline space [] s t p q r h e = let same : mark ≡ space = cc in absurd (omega arith)
 end_is_no_token mark newline space (x ∷ []) s t p q r h e = let same : newline ≡ space = cc in absurd (omega arith)
 end_is_no_token mark newline space (x ∷ y ∷ xs) s t p q r (above, below, (above2, below2, rest)) e = let same : newline ≡ y = cc in absurd (omega arith)
@@ -50,12 +50,12 @@ same_lits (l ∷ c) (m ∷ d) s t p q e =
     let more : c ≡ d = rest.0 in
     (cc, rest.1)
 
-lits_have_no_d : (mark d : ℕ) (c : List Literal) (s t : List ℕ) → mark < d → 100 ≤ d → All (IsOn (2 ^ 30)) c → lits_text c ++ mark ∷ s ≡ d ∷ t → ⊥
+pub lits_have_no_d : (mark d : ℕ) (c : List Literal) (s t : List ℕ) → mark < d → 100 ≤ d → All (IsOn (2 ^ 30)) c → lits_text c ++ mark ∷ s ≡ d ∷ t → ⊥
 lits_have_no_d mark d [] s t p q on e = let same : mark ≡ d = cc in absurd (omega arith)
 lits_have_no_d mark d (l ∷ c) s t p q on e =
     token_has_no_d 32 d (lit_text l) _ t (omega arith) q (first_is_token l c on) (sym (lits_text_first l c (mark ∷ s)) ∙ e)
 
-line_ends : (c : List Literal) (s : List ℕ) → (lits_text c ++ codes "0\n") ++ s ≡ lits_text c ++ 48 ∷ 10 ∷ s
+pub line_ends : (c : List Literal) (s : List ℕ) → (lits_text c ++ codes "0\n") ++ s ≡ lits_text c ++ 48 ∷ 10 ∷ s
 line_ends c s = append_assoc (lits_text c) (48 ∷ 10 ∷ []) s
 
 pub same_line : (a b : Line) (s t : List ℕ) → All (IsOn (2 ^ 30)) (lits_of a) → All (IsOn (2 ^ 30)) (lits_of b)
@@ -73,7 +73,7 @@ same_line (Del c) (Add d) s t p q e = absurd (lits_have_no_d 48 100 d _ _ (omega
 lits_end : (c : List Literal) (s : List ℕ) → 0 < length ((lits_text c ++ codes "0\n") ++ s)
 lits_end c s = simp length-append (omega arith)
 
-line_has_bytes : (a : Line) (s : List ℕ) → [] ≡ line_text a ++ s → ⊥
+pub line_has_bytes : (a : Line) (s : List ℕ) → [] ≡ line_text a ++ s → ⊥
 line_has_bytes (Add c) s e = let none : 0 ≡ length ((lits_text c ++ codes "0\n") ++ s) = ap length e in absurd (omega (arith, lits_end c s))
 line_has_bytes (Del c) s e = cc
 

@@ -8,4 +8,6 @@ pub mod CountedData
 pub mod SinkData
 pub mod Gathered
 pub mod Front
+pub mod Number
+pub mod Read
 pub mod JournalText

@@ -12,7 +12,7 @@ use itoa::Buffer;
 use sat_words::{Line, Lit};
 
 /// The number that stands for the literal.
-fn number_of(lit: Lit) -> i32
+pub(crate) fn number_of(lit: Lit) -> i32
     ensures { signed_decimal result ≡ lit_text lit }
 {
     let positive = lit.var() as i32;

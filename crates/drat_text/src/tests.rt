@@ -1,4 +1,7 @@
-use crate::{LineOut, SinkLines, a_front_ends_in_a_line, text_determines_lines};
+use crate::{
+    LineOut, ReadLinesStop, SinkLines, a_front_ends_in_a_line, one_line_is_the_first_bad,
+    read_lines, text_determines_lines,
+};
 use io_edge::{Failed, MemSink, NullSink, Sink};
 use sat_words::{Line, Lit, Lits};
 use std::alloc::AllocGlobal;
@@ -115,5 +118,45 @@ fn lines_that_go_nowhere(rt: HostRuntime) -> Result<(), Fail> {
     assert!(rt; lines.put(&three) == Ok(9));
     let (end, _) = lines.finish();
     assert_eq!(rt; end, Ok(()));
+    Ok(())
+}
+
+#[test]
+fn texts_and_what_they_say(rt: HostRuntime) -> Result<(), Fail> {
+    let alloc = rt.alloc();
+    let one = Lit::new(1, false);
+    let two = Lit::new(2, true);
+    let last = Lit::new(1 << 30, true);
+    let lines = [
+        Line::Add(Lits::from_slice(alloc, &[one, two])?),
+        Line::Del(Lits::from_slice(alloc, &[one, two])?),
+        Line::Add(Lits::from_slice(alloc, &[])?),
+        Line::Add(Lits::from_slice(alloc, &[last])?),
+    ];
+    let text = b"1 -2 0\nd 1 -2 0\n0\n-1073741824 0\n";
+    let read = read_lines(alloc, text);
+    assert!(rt; read.is_ok_and(|read| read.as_slice() == lines.as_slice()));
+    let bad: [(&[u8], u64); 12] = [
+        (b"1  0\n", 1),
+        (b"01 0\n", 1),
+        (b"-0 0\n", 1),
+        (b"+1 0\n", 1),
+        (b"1073741825 0\n", 1),
+        (b"0\n1 0", 2),
+        (b"0\n\n", 2),
+        (b"0\n 0\n", 2),
+        (b"0\nd  1 0\n", 2),
+        (b"1 0\n2 0\nc 0\n", 3),
+        (b"1 0\r\n", 1),
+        (b"1 2\n", 1),
+    ];
+    for (text, line) in bad {
+        assert!(rt;
+            read_lines(alloc, text).is_err_and(|stop| stop == ReadLinesStop::BadLine(line)),
+            "{line}"
+        );
+    }
+    assert!(rt; read_lines(alloc, b"").is_ok_and(|read| read.is_empty()));
+    one_line_is_the_first_bad();
     Ok(())
 }

@@ -1,4 +1,4 @@
-use Rattle.std.proofs.Common.{rules, ◌≡◌, ◌≤◌, ap, sym, ◌∙◌, ◌++◌, length, ◌+◌, refl, arith, subst, take-append-drop}
+use Rattle.std.proofs.Common.{rules, ◌≡◌, ◌≤◌, ap, ◌∙◌, ◌++◌, length, ◌+◌, subst}
 use Rattle.io_edge.specs.Bytes.{IsFront}
 use Rattle.io_edge.specs.Causes.{Rose}
 use Rattle.drat_text.specs.declared.blocks.TheConstants.{BLOCK}

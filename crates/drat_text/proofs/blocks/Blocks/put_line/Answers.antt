@@ -1,4 +1,4 @@
-use Rattle.std.proofs.Common.{◌≡◌, ◌∙◌, ◌++◌, codes, subst, sym, ap}
+use Rattle.std.proofs.Common.{◌++◌, codes, subst, sym}
 use Rattle.sat_words.specs.declared.line.Line.{Line}
 use Rattle.drat_text.specs.Text.{lits_text, line_text}
 use Rattle.drat_text.specs.Gathered.{Breaks}

@@ -1,8 +1,8 @@
-use Rattle.std.proofs.Common.{◌≡◌, ◌∙◌, ◌++◌, take, drop, codes, subst, sym, ap, length, ◌+◌, List, ℕ}
+use Rattle.std.proofs.Common.{◌++◌, take, drop, codes, subst, sym, ◌+◌}
 use Rattle.sat_words.specs.Literal.{lit_text}
 use Rattle.drat_text.specs.Text.{lits_text}
-use Rattle.drat_text.specs.Gathered.{Gathers, Breaks}
-use Rattle.drat_text.proofs.LineText.{lits_text_more, lits_text_split}
+use Rattle.drat_text.specs.Gathered.{Breaks}
+use Rattle.drat_text.proofs.LineText.{lits_text_split}
 use Rattle.drat_text.proofs.Gathering.{breaks_then, breaks_longer}
 use Rattle.drat_text.proofs.blocks.Blocks.put_lits.Goals as goal
 

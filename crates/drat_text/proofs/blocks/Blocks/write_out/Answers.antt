@@ -1,8 +1,5 @@
-use Rattle.std.proofs.Common.{rules, ◌≡◌, ap, sym, ◌∙◌, take, subst, List, ℕ}
-use Rattle.std.specs.Io.KnownBytes.{append_known}
-use Rattle.io_edge.specs.Bytes.{IsFront}
+use Rattle.std.proofs.Common.{rules}
 use Rattle.io_edge.proofs.Growth.{front_grown}
-use Rattle.drat_text.specs.Gathered.{Gathered}
 use Rattle.drat_text.proofs.blocks.Blocks.write_out.Goals as goal
 use Rattle.drat_text.proofs.blocks.Blocks.write_out.Goals.{in-Ok, in-Err}
 

@@ -560,13 +560,11 @@ fn faults_of_the_proof(rt: HostRuntime) -> Result<(), Fail> {
     };
     let two_lines = Row {
         input: b"p cnf 2 4\n1 2 0\n1 -2 0\n-1 2 0\n-1 -2 0\n",
-        proof_fails: SECOND,
-        proof: Some(b"1 0\n"),
         learned: &[1],
         ..unproved
     };
     let rows = [
-        // The flush is the proof's only call, or follows the empty clause.
+        // The flush is the proof's only call, or follows the lines, which are one write.
         unproved,
         Row {
             input: b"p cnf 0 1\n0\n",
@@ -575,15 +573,20 @@ fn faults_of_the_proof(rt: HostRuntime) -> Result<(), Fail> {
             flushes_proof: false,
             ..unproved
         },
-        // A line fails, and the flush behind it does or doesn't.
+        Row {
+            proof_fails: SECOND,
+            proof: Some(b"1 0\n0\n"),
+            flushes_proof: false,
+            ..two_lines
+        },
+        // The write fails, and the flush behind it does or doesn't.
         Row {
             input: b"p cnf 0 1\n0\n",
             ..unproved
         },
         two_lines,
         Row {
-            proof_fails: &[2, 3],
-            flushes_proof: false,
+            proof_fails: &[1, 2],
             ..two_lines
         },
     ];

@@ -1,5 +1,5 @@
 -- The problems of the tests are ready to be searched.
-use Rattle.std.proofs.Common.{◌≡◌, ℕ, ◌≤◌, Bool, true, false, List, [], ◌∷◌, length, map, ap, sym, subst, refl, arith, Some, nat_eq}
+use Rattle.std.proofs.Common.{◌≡◌, ℕ, ◌≤◌, Bool, true, false, List, [], ◌∷◌, length, sym, subst, refl, arith, Some, nat_eq}
 use Rattle.std.specs.Prelude.{All}
 use Rattle.std.specs.List.{IsDistinct}
 use Rattle.std.proofs.lemmas.List.Elements.{All-cons, All-nil, All-from_recursion}

@@ -9,11 +9,7 @@ use sat_words::Assignment;
 
 /// The verdict that the ring's end comes to, or the end of a call without one. A model is told without values for
 /// variables that don't occur.
-pub(crate) fn verdict_of(
-    occurring: Assignment,
-    vars: u32,
-    end: RingEnd,
-) -> Result<Verdict, End>
+pub(crate) fn verdict_of(occurring: Assignment, vars: u32, end: RingEnd) -> Result<Verdict, End>
     requires long { length occurring ≡ vars }
     requires few { vars < 2 ^ 28 }
     requires alone { IsAlone end }

@@ -42,11 +42,7 @@ impl<P> Searched<P> {
 }
 
 /// Writes what is left of the lines. A verdict holds only where the sink has taken them all.
-fn close<P: Sink>(
-    lines: SinkLines<P>,
-    verdict: Result<Verdict, End>,
-    learned: u64,
-) -> Searched<P>
+fn close<P: Sink>(lines: SinkLines<P>, verdict: Result<Verdict, End>, learned: u64) -> Searched<P>
     ensures closed { HasClosed (told_by P.written P.flushed P.target P.faults lines) verdict result.verdict (P.faults result.proof) (P.written result.proof) }
     ensures learned { result.learned ≡ learned }
     ensures target { P.target result.proof ≡ P.target lines.sink }
@@ -128,17 +124,11 @@ pub fn search<P: Sink>(alloc: Global, formula: Formula, limit: u64, proof: P) ->
     }
     let vars = formula.vars();
     let Ok(occurring) = occurring_in(alloc, formula.clauses(), vars) else {
-        return Searched {
-            verdict: Err(End::Memory),
-            learned: 0,
-            proof,
-        };
+        return Searched::starved(proof);
     };
     let mut port = match open_port(alloc, formula, proof) {
         Ok(port) => port,
-        Err(refused) => {
-            return Searched::starved(refused.value);
-        }
+        Err(refused) => return Searched::starved(refused.value),
     };
     let Ok(job) = job_of(alloc, &port, vars, limit) else {
         return close(port.into_lines(), Err(End::Memory), 0);

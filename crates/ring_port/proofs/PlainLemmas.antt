@@ -205,7 +205,6 @@ plain_dropped p h c x there held = record {
       (one_All (λ k. find (is_at k.address) (without_one p.held c.address) ≡ None) x (ap (λ a. find (is_at a) (without_one p.held c.address)) at ∙ gone p.held c.address h.apart)));
   once = subst AreApart (sym more) (apart_pushed (kept_at p.all p.waiting) x h.once others);
   begun = h.begun;
- 
   opening = h.opening;
   distinct = h.distinct;
   passed = h.passed;
@@ -260,7 +259,6 @@ plain_deleted p h c cs g first =
       dropped = λ k e lt. none (suc k) e (omega arith);
       once = (subst AreApart front h.once).1;
       begun = h.begun;
-     
       opening = h.opening;
       distinct = h.distinct;
       passed = h.passed;

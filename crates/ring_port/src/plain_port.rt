@@ -14,8 +14,8 @@ ghost use Rattle.ring_port.specs.PlainPort.{OpensOver, CanOpen, HasCauseAlone, s
 
 use crate::own_log::OwnLog;
 use crate::port::Port;
-use crate::stops::{PortStop, Set};
 use crate::starts::Starts;
+use crate::stops::{PortStop, Set};
 use crate::store::Store;
 use drat_text::LineOut;
 use rup_model::Kind;

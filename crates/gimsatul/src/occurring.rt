@@ -1,6 +1,6 @@
 // Which variables occur in the clauses.
 ghost use Rattle.std.specs.Prelude.{◌≡◌, ◌<◌, ◌^◌, All, IfOk, length};
-ghost use Rattle.dimacs_read.specs.Input.{IsOn};
+ghost use Rattle.sat_words.specs.Literal.{IsOn};
 ghost use Rattle.gimsatul.specs.Occurring.{Marks, IsOccurring, IsBoth};
 
 use sat_words::{Assignment, Clause, Lit};

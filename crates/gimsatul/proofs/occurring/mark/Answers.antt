@@ -2,7 +2,7 @@ use Rattle.std.proofs.Common.{◌≡◌, ◌∙◌, ap, sym, subst, arith, ℕ, 
 use Rattle.std.proofs.Math.ListN.{set}
 use Rattle.std.proofs.lemmas.List.{take_all}
 use Rattle.sat_words.specs.Literal.{Literal}
-use Rattle.dimacs_read.specs.Input.{IsOn}
+use Rattle.sat_words.specs.Literal.{IsOn}
 use Rattle.gimsatul.specs.Occurring.{Marks}
 use Rattle.gimsatul.proofs.Models.{marks_start, marks_next}
 use Rattle.gimsatul.proofs.occurring.mark.Goals as goal

@@ -1,7 +1,7 @@
 use Rattle.std.proofs.Common.{sym, subst, ℕ, List, [], Bool, All}
 use Rattle.std.proofs.lemmas.List.{take_all}
 use Rattle.sat_words.specs.Literal.{Literal}
-use Rattle.dimacs_read.specs.Input.{IsOn}
+use Rattle.sat_words.specs.Literal.{IsOn}
 use Rattle.gimsatul.specs.Occurring.{Marks, IsOccurring}
 use Rattle.gimsatul.proofs.Models.{occurring_start, occurring_next}
 use Rattle.gimsatul.proofs.occurring.occurring_in.Goals as goal

@@ -18,8 +18,8 @@ use Rattle.gimsatul.proofs.Refuting.{begun_closed}
 use Rattle.gimsatul.proofs.Refuting.{untouched}
 use Rattle.gimsatul.proofs.search.search.Goals as goal
 
-pub returns-in_default-clause-searched : goal.returns-in_default-clause-searched
-returns-in_default-clause-searched g c =
+pub returns-in_default-job_of-clause-searched : goal.returns-in_default-job_of-clause-searched
+returns-in_default-job_of-clause-searched g c =
     let F : FormulaData = c.args.formula in
     let told : SinkData g.row.P.Denot → LineState = told_by g.P.Sink.written g.P.Sink.flushed g.P.Sink.target g.P.Sink.faults in
     let output : LineState = told (record { entries = 0; last = length F.clauses; spent = false; waiting = []; sink = c.args.proof }) in
@@ -56,5 +56,12 @@ returns-clause-searched g c =
 
 pub returns-in-Err-clause-searched : goal.returns-in-Err-clause-searched
 returns-in-Err-clause-searched g c =
+    let all : IsSearch c.args.limit c.args.formula (Err CallEnd.Memory) 0 (g.P.Sink.faults c.in-Err.refused.value) (g.P.Sink.written c.in-Err.refused.value) =
     subst (λ (x : g.row.P.Denot). IsSearch c.args.limit c.args.formula (Err CallEnd.Memory) 0 (g.P.Sink.faults x) (g.P.Sink.written x)) (sym c.in-Err.ensures.back)
+    (untouched c.args.limit c.args.formula (g.P.Sink.faults c.args.proof) (g.P.Sink.written c.args.proof) c.requires.some c.requires.quiet c.requires.empty) in
+    subst (λ r. IsSearch c.args.limit c.args.formula r.verdict r.learned (g.P.Sink.faults r.proof) (g.P.Sink.written r.proof)) (sym c.starved-in-Err.ensures) all
+
+pub returns-in_default-clause-searched : goal.returns-in_default-clause-searched
+returns-in_default-clause-searched g c =
+    subst (λ r. IsSearch c.args.limit c.args.formula r.verdict r.learned (g.P.Sink.faults r.proof) (g.P.Sink.written r.proof)) (sym c.starved.ensures)
     (untouched c.args.limit c.args.formula (g.P.Sink.faults c.args.proof) (g.P.Sink.written c.args.proof) c.requires.some c.requires.quiet c.requires.empty)

@@ -11,8 +11,8 @@ use Rattle.gimsatul.proofs.Opens.{opens_over, pairs_on, units_on}
 use Rattle.gimsatul.proofs.Starting.{begins}
 use Rattle.gimsatul.proofs.start.open_port.Goals as goal
 
-pub new-requires-clause-opening : goal.new-requires-clause-opening
-new-requires-clause-opening g c =
+pub new-requires-2-clause-opening : goal.new-requires-2-clause-opening
+new-requires-2-clause-opening g c =
     let F : List (List Literal) = c.args.formula.clauses in
     let us : List Literal = c.in-Ok-units_of.units.items in
     let out : LineState = told_by g.S.Sink.written g.S.Sink.flushed g.S.Sink.target g.S.Sink.faults c.in_ok-lines.lines in
@@ -22,15 +22,15 @@ new-requires-clause-opening g c =
     let count : out.last ≡ length F = ap (λ (p : SinkData g.row.S.Denot). p.last) c.in_ok-lines.ensures.made ∙ ap (λ (cs : List (List Literal)). length cs) c.clauses-clauses.ensures in
     record { clauses = F; journal = []; over = subst (λ (ss : List (ℕ × List Literal)). OpensOver F (starts_of ss) us out []) (sym starts) (opens_over F us out units none count) }
 
-pub new-requires-clause-starts_on : goal.new-requires-clause-starts_on
-new-requires-clause-starts_on g c =
+pub new-requires-2-clause-starts_on : goal.new-requires-2-clause-starts_on
+new-requires-2-clause-starts_on g c =
     let F : List (List Literal) = c.args.formula.clauses in
     let starts : c.in-Ok.starts ≡ start_pairs 1 F = c.in-Ok.ensures ∙ ap (start_pairs 1) c.clauses-clauses.ensures in
     subst (λ (v : ℕ). All (λ (p : ℕ × List Literal). All (IsPortOn v) p.1) c.in-Ok.starts) (sym c.vars-vars.ensures)
     (subst (λ (ss : List (ℕ × List Literal)). All (λ (p : ℕ × List Literal). All (IsPortOn c.args.formula.vars) p.1) ss) (sym starts) (pairs_on F c.args.formula.vars c.requires.on_variables))
 
-pub new-requires-clause-units_on : goal.new-requires-clause-units_on
-new-requires-clause-units_on g c =
+pub new-requires-2-clause-units_on : goal.new-requires-2-clause-units_on
+new-requires-2-clause-units_on g c =
     let F : List (List Literal) = c.args.formula.clauses in
     let us : List Literal = c.in-Ok-units_of.units.items in
     let units : IsUnits F us = subst (λ (cs : List (List Literal)). IsUnits cs us) c.clauses-clauses.ensures c.in-Ok-units_of.ensures in

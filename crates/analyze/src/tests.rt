@@ -76,11 +76,37 @@ impl Port for Row {
         Err(PortStop::Memory)
     }
 
+    fn derive(&mut self, _lits: &[Lit], _glue: u32) -> Result<Cref, PortStop> {
+        Err(PortStop::Memory)
+    }
+
     fn unit(&mut self, _lit: Lit) -> Result<(), PortStop> {
         Err(PortStop::Memory)
     }
 
     fn empty(&mut self) -> Result<(), PortStop> {
+        Err(PortStop::Memory)
+    }
+
+    fn drop_clause(&mut self, _c: Cref) -> Result<(), PortStop> {
+        Err(PortStop::Memory)
+    }
+
+    /// Nothing waits.
+    fn tidy(&mut self) -> Result<(), PortStop> {
+        Ok(())
+    }
+
+    fn note_reduce(&mut self) -> Result<(), PortStop> {
+        Err(PortStop::Memory)
+    }
+
+    /// Nothing was learned that could be offered (`last`).
+    fn offer(&mut self, _c: Cref) -> u64 {
+        unreachable!()
+    }
+
+    fn poll(&mut self, _from: u32, _class: u8) -> Result<Option<Cref>, PortStop> {
         Err(PortStop::Memory)
     }
 

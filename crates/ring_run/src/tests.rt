@@ -1,5 +1,5 @@
 // A ring over the port in memory, on small formulas.
-ghost use Rattle.std.specs.Prelude.{◌≡◌, ◌≤◌, ◌+◌, ◌++◌, ◌∷◌, [], IfOk, OnOk, length};
+ghost use Rattle.std.specs.Prelude.{◌≡◌, ◌≤◌, ◌+◌, ◌++◌, ◌∷◌, [], false, IfOk, OnOk, length};
 ghost use Rattle.sat_words.specs.Clause.{clause_of};
 ghost use Rattle.ring_run.specs.Problems.{CanStart, square, square_starts, chain, chain_starts, triples, triples_starts, opposed};
 

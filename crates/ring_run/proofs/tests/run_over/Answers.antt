@@ -1,9 +1,9 @@
 use Rattle.std.proofs.Common.{◌∙◌, sym, ap, arith}
 use Rattle.ring_port.specs.PortState.{PortState}
-use Rattle.ring_run.proofs.tests.run_on.Goals as goal
+use Rattle.ring_run.proofs.tests.run_over.Goals as goal
 
 pub run_ring-end-requires-clause-job : goal.run_ring-end-requires-clause-job
-run_ring-end-requires-clause-job c =
+run_ring-end-requires-clause-job g c =
     let made = c.in-Ok.ensures.made in
     record {
       small = omega (arith, c.vars-2.ensures, c.requires.ready.small);

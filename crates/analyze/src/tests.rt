@@ -1,5 +1,5 @@
 ghost use Rattle.std.specs.Prelude.{◌≡◌, ◌<◌, Some, length, slice_get};
-ghost use Rattle.analyze.specs.Row.{row_state};
+ghost use Rattle.analyze.specs.Row.{row_state, row_at};
 
 use crate::{Analysis, Conclusion};
 use ring_port::{Port, PortStop, Set};
@@ -9,7 +9,10 @@ use std::test::Fail;
 
 /// Three clauses at the addresses 1 to 3, to be read alone: `-1 2`, `-4 -1 5` and `-4 -2 -5`. Another ring has stopped.
 #[derive(Drop)]
-struct Row;
+struct Row {
+    /// 1: the first clause was learned last; 2: it was offered; 3: enough was learned to reduce.
+    stage: u8,
+}
 
 fn row_stop() -> Stop
     ensures { Some result ≡ row_state.stop }
@@ -38,7 +41,7 @@ fn pick(lits: &[Lit], i: u32) -> Lit
 }
 
 impl Port for Row {
-    ghost state = { λ _. row_state };
+    ghost state = { λ r. row_at r.stage };
 
     fn vars(&self) -> u32 {
         5
@@ -101,9 +104,9 @@ impl Port for Row {
         Err(PortStop::Memory)
     }
 
-    /// Nothing was learned that could be offered (`last`).
     fn offer(&mut self, _c: Cref) -> u64 {
-        unreachable!()
+        self.stage = 2;
+        1
     }
 
     fn poll(&mut self, _from: u32, _class: u8) -> Result<Option<Cref>, PortStop> {
@@ -133,7 +136,7 @@ fn learns_from_the_third_clause(rt: HostRuntime) -> Result<(), Fail> {
     trail.decide(Lit::new(4, false));
     trail.assign(Lit::new(5, false), Some(Cref { address: 2 }));
     let mut analysis = Analysis::new(rt.alloc(), 5)?;
-    let conclusion = analysis.analyze(&mut Row, &trail, Cref { address: 3 });
+    let conclusion = analysis.analyze(&mut Row { stage: 0 }, &trail, Cref { address: 3 });
     assert_eq!(rt; conclusion, Conclusion::Lemma { back: 1, glue: 1 });
     let lits = analysis.lits();
     assert_eq!(rt; lits.len(), 2);
@@ -151,7 +154,7 @@ fn learns_from_the_second_clause(rt: HostRuntime) -> Result<(), Fail> {
     trail.decide(Lit::new(4, false));
     trail.assign(Lit::new(5, true), Some(Cref { address: 3 }));
     let mut analysis = Analysis::new(rt.alloc(), 5)?;
-    let conclusion = analysis.analyze(&mut Row, &trail, Cref { address: 2 });
+    let conclusion = analysis.analyze(&mut Row { stage: 0 }, &trail, Cref { address: 2 });
     assert_eq!(rt; conclusion, Conclusion::Lemma { back: 1, glue: 1 });
     let lits = analysis.lits();
     assert_eq!(rt; lits.len(), 2);

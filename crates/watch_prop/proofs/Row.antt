@@ -1,62 +1,74 @@
 -- What holds of the port of the tests.
-use Rattle.std.proofs.Common.{◌≡◌, ◌∙◌, ℕ, ◌<◌, ◌≤◌, List, [], ◌∷◌, ◌++◌, Some, None, IsSome, Contains, sym, refl, ap, subst, inl, inr, ◌⊎◌, arith}
+use Rattle.std.proofs.Common.{◌==◌, ◌≡◌, ◌∙◌, ℕ, ◌<◌, ◌≤◌, List, [], ◌∷◌, ◌++◌, Some, None, IsSome, Contains, sym, refl, ap, subst, inl, inr, ◌⊎◌, arith}
 use Rattle.std.specs.List.{slice_get}
-use Rattle.std.proofs.lemmas.Bool.{cases_eq, ne_eqb, false≢true}
+use Rattle.std.proofs.lemmas.Option.{cond_some}
+use Rattle.std.proofs.lemmas.Bool.{eqb-true, cases_eq, ne_eqb, false≢true}
 use Rattle.std.proofs.lemmas.List.Elements.{Contains-append_left}
 use Rattle.sat_words.specs.Literal.{Literal}
 use Rattle.sat_words.specs.declared.shared.Cref.{Cref}
+use Rattle.ring_port.specs.Exchange.{OfferedAs, class_at}
 use Rattle.ring_port.specs.PortState.{held_at, lits_at}
 use Rattle.ring_trail.specs.declared.step.Step.{Step}
 use Rattle.ring_trail.specs.TrailData.{TrailData, level_at}
 use Rattle.watch_prop.specs.WatchData.{WatchData, attached}
 use Rattle.watch_prop.specs.Watched.{Watched, IsFresh}
 use Rattle.watch_prop.specs.Propagation.{HasReasons}
-use Rattle.watch_prop.specs.Row.{first, second, third, row_state, IsReady}
+use Rattle.watch_prop.specs.Row.{first, second, third, row_state, row_at, IsReady}
 use Rattle.watch_prop.proofs.TrailLaws.{Reasons-more}
 
 -- what is held at an address
-pub held_first : held_at row_state 1 ≡ Some first
+pub held_first : (n : ℕ) → held_at (row_at n) 1 ≡ Some first
 unfolding held_at
-held_first = refl
+held_first n = refl
 
-pub held_second : held_at row_state 2 ≡ Some second
+pub held_second : (n : ℕ) → held_at (row_at n) 2 ≡ Some second
 unfolding held_at
-held_second = refl
+held_second n = refl
 
-pub held_third : held_at row_state 3 ≡ Some third
+pub held_third : (n : ℕ) → held_at (row_at n) 3 ≡ Some third
 unfolding held_at
-held_third = refl
+held_third n = refl
 
-held_none : (a : ℕ) → (1 ≡ a → ⊥) → (2 ≡ a → ⊥) → (3 ≡ a → ⊥) → held_at row_state a ≡ None
+held_none : (n a : ℕ) → (1 ≡ a → ⊥) → (2 ≡ a → ⊥) → (3 ≡ a → ⊥) → held_at (row_at n) a ≡ None
 unfolding held_at
-held_none a x y z = rw (ne_eqb 1 a x, ne_eqb 2 a y, ne_eqb 3 a z) refl
+held_none n a x y z = rw (ne_eqb 1 a x, ne_eqb 2 a y, ne_eqb 3 a z) refl
 
 -- the addresses at which a clause is held
-held_only : (a : ℕ) → IsSome (held_at row_state a) → (a ≡ 1) ⊎ ((a ≡ 2) ⊎ (a ≡ 3))
-held_only a h =
+held_only : (n a : ℕ) → IsSome (held_at (row_at n) a) → (a ≡ 1) ⊎ ((a ≡ 2) ⊎ (a ≡ 3))
+held_only n a h =
     elim (cases_eq 1 a) as (λ _. (a ≡ 1) ⊎ ((a ≡ 2) ⊎ (a ≡ 3))) [
       | inl e ↦ inl (sym e)
       | inr x ↦ (elim (cases_eq 2 a) as (λ _. (a ≡ 1) ⊎ ((a ≡ 2) ⊎ (a ≡ 3))) [
         | inl e ↦ inr (inl (sym e))
         | inr y ↦ (elim (cases_eq 3 a) as (λ _. (a ≡ 1) ⊎ ((a ≡ 2) ⊎ (a ≡ 3))) [
           | inl e ↦ inr (inr (sym e))
-          | inr z ↦ absurd (false≢true (rw (held_none a x y z) at h))
+          | inr z ↦ absurd (false≢true (rw (held_none n a x y z) at h))
         ])
       ])
     ]
 
-pub at_first : (a : ℕ) → a ≡ 1 → held_at row_state a ≡ Some first
-at_first a e = ap (held_at row_state) e ∙ held_first
+pub at_first : (n a : ℕ) → a ≡ 1 → held_at (row_at n) a ≡ Some first
+at_first n a e = ap (held_at (row_at n)) e ∙ held_first n
 
-pub at_second : (a : ℕ) → a ≡ 2 → held_at row_state a ≡ Some second
-at_second a e = ap (held_at row_state) e ∙ held_second
+pub at_second : (n a : ℕ) → a ≡ 2 → held_at (row_at n) a ≡ Some second
+at_second n a e = ap (held_at (row_at n)) e ∙ held_second n
 
-pub at_third : (a : ℕ) → (a ≡ 1 → ⊥) → (a ≡ 2 → ⊥) → IsSome (held_at row_state a) → held_at row_state a ≡ Some third
-at_third a one two h =
-    elim (held_only a h) as (λ _. held_at row_state a ≡ Some third) [
+pub at_third : (n a : ℕ) → (a ≡ 1 → ⊥) → (a ≡ 2 → ⊥) → IsSome (held_at (row_at n) a) → held_at (row_at n) a ≡ Some third
+at_third n a one two h =
+    elim (held_only n a h) as (λ _. held_at (row_at n) a ≡ Some third) [
       | inl e ↦ absurd (one e)
-      | inr r ↦ (elim r as (λ _. held_at row_state a ≡ Some third) [ inl e ↦ absurd (two e) | inr e ↦ ap (held_at row_state) e ∙ held_third ])
+      | inr r ↦ (elim r as (λ _. held_at (row_at n) a ≡ Some third) [ inl e ↦ absurd (two e) | inr e ↦ ap (held_at (row_at n)) e ∙ held_third n ])
     ]
+
+-- the first clause is what can be offered
+offered_first : OfferedAs (row_at 1) (row_at 2) (class_at (row_at 1) 1) 1
+offered_first = rw (held_first 1) (record { back = []; state = refl })
+
+pub offered : (n a : ℕ) → (row_at n).last ≡ Some a → OfferedAs (row_at n) (row_at 2) (class_at (row_at n) a) a
+offered n a h =
+    let at_one : n ≡ 1 = eqb-true n 1 (cond_some (n == 1) 1 a h).0 in
+    subst (λ (m : ℕ). OfferedAs (row_at m) (row_at 2) (class_at (row_at m) a) a) (sym at_one)
+    (subst (λ (b : ℕ). OfferedAs (row_at 1) (row_at 2) (class_at (row_at 1) b) b) (cond_some (n == 1) 1 a h).1 offered_first)
 
 -- equal lists read alike
 pub read_same : (c d : List Literal) (i : ℕ) (r : Literal) → c ≡ d → slice_get c i ≡ Some r → slice_get d i ≡ Some r

@@ -1,7 +1,12 @@
 -- The port of the tests: three clauses that are held at the addresses 1 to 3, two units that were seen, and another ring's stop.
-use Rattle.std.specs.Prelude.{◌≡◌, ℕ, Bool, true, false, [], ◌∷◌, Some, None}
+use Rattle.std.specs.Prelude.{◌≡◌, ℕ, Bool, true, false, [], ◌∷◌, Some, None, ◌==◌, List, map, if◌then◌else◌}
+use Rattle.std.specs.List.{range_with_len}
 use Rattle.sat_words.specs.Literal.{Literal}
-use Rattle.ring_port.specs.PortState.{Holding, PortState, lits_at}
+use Rattle.rup_model.specs.declared.journal.TheConstants.{LEARNED_PER_REDUCTION}
+use Rattle.rup_model.specs.declared.journal.Kind.TheVariants.{Learn}
+use Rattle.rup_model.specs.declared.journal.Entry.{Entry}
+use Rattle.rup_model.specs.declared.journal.Entry.TheVariants.{Add}
+use Rattle.ring_port.specs.PortState.{Holding, Offer, PortState, lits_at}
 use Rattle.ring_trail.specs.TrailData.{TrailData}
 use Rattle.watch_prop.specs.WatchData.{WatchData, attached}
 use Rattle.watch_prop.specs.Watched.{Watched}
@@ -44,6 +49,23 @@ row_state = record {
   ended = false;
   output = None;
   home = [];
+}
+
+-- the first clause, put for the other ring
+abbrev pub put_first : Offer
+put_first = record { ring = 1; class = 0; address = 1 }
+
+-- as many lemmas as a reduction needs
+abbrev pub enough : List Entry
+enough = map (λ n. Add (record { ring = 0; number = n; lits = []; kind = Learn })) (range_with_len 4 LEARNED_PER_REDUCTION)
+
+-- the port at its stages: at 1 the first clause was learned last, at 2 it was offered, and at 3 enough was learned to reduce
+abbrev pub row_at : ℕ → PortState
+row_at n = record row_state {
+  mine = if n == 3 then enough else [];
+  shared = if n == 2 then 1 else 0;
+  puts = if n == 2 then put_first ∷ [] else [];
+  last = if n == 1 then Some 1 else None;
 }
 
 -- the watches keep up with a trail at level 0 over this port

@@ -2,7 +2,7 @@ ghost use Rattle.std.specs.Prelude.{◌≡◌, ◌<◌, ◌≤◌, [], Some, Non
 ghost use Rattle.sat_words.specs.Clause.{has};
 ghost use Rattle.ring_port.specs.PortState.{lits_at};
 ghost use Rattle.ring_trail.specs.TrailData.{value_of};
-ghost use Rattle.watch_prop.specs.Row.{row_state, IsReady};
+ghost use Rattle.watch_prop.specs.Row.{row_state, row_at, IsReady};
 
 use crate::{Propagated, Watches};
 use ring_port::{Port, PortStop, Set};
@@ -13,7 +13,10 @@ use std::test::Fail;
 
 /// Three clauses at the addresses 1 to 3, to be read alone: `-1 2`, `-4 -1 5` and `-4 -2 -5`. Another ring has stopped.
 #[derive(Drop)]
-struct Row;
+struct Row {
+    /// 1: the first clause was learned last; 2: it was offered; 3: enough was learned to reduce.
+    stage: u8,
+}
 
 fn row_stop() -> Stop
     ensures { Some result ≡ row_state.stop }
@@ -42,7 +45,7 @@ fn pick(lits: &[Lit], i: u32) -> Lit
 }
 
 impl Port for Row {
-    ghost state = { λ _. row_state };
+    ghost state = { λ r. row_at r.stage };
 
     fn vars(&self) -> u32 {
         5
@@ -105,9 +108,9 @@ impl Port for Row {
         Err(PortStop::Memory)
     }
 
-    /// Nothing was learned that could be offered (`last`).
     fn offer(&mut self, _c: Cref) -> u64 {
-        unreachable!()
+        self.stage = 2;
+        1
     }
 
     fn poll(&mut self, _from: u32, _class: u8) -> Result<Option<Cref>, PortStop> {
@@ -141,7 +144,7 @@ fn propagate_unit(
 {
     let _lawful = trail.present();
     trail.assign(lit, None);
-    watches.propagate(&mut Row, trail)
+    watches.propagate(&mut Row { stage: 0 }, trail)
 }
 
 // Decided as units, 1 gives 2 by the first clause, and then 4 makes one of the two long clauses false.
@@ -149,9 +152,9 @@ fn propagate_unit(
 fn two_units(rt: HostRuntime) -> Result<(), Fail> {
     let mut watches = Watches::new(rt.alloc(), 5)?;
     let mut trail = Trail::new(rt.alloc(), 5)?;
-    watches.attach(&mut Row, &trail, Cref { address: 1 })?;
-    watches.attach(&mut Row, &trail, Cref { address: 2 })?;
-    watches.attach(&mut Row, &trail, Cref { address: 3 })?;
+    watches.attach(&mut Row { stage: 0 }, &trail, Cref { address: 1 })?;
+    watches.attach(&mut Row { stage: 0 }, &trail, Cref { address: 2 })?;
+    watches.attach(&mut Row { stage: 0 }, &trail, Cref { address: 3 })?;
     assert_eq!(rt; trail.value(1), None);
     assert_eq!(rt;
         propagate_unit(&mut watches, &mut trail, Lit::new(1, false))?,
@@ -171,10 +174,10 @@ fn two_units(rt: HostRuntime) -> Result<(), Fail> {
 fn detached(rt: HostRuntime) -> Result<(), Fail> {
     let mut watches = Watches::new(rt.alloc(), 5)?;
     let mut trail = Trail::new(rt.alloc(), 5)?;
-    watches.attach(&mut Row, &trail, Cref { address: 1 })?;
-    watches.attach(&mut Row, &trail, Cref { address: 2 })?;
-    watches.attach(&mut Row, &trail, Cref { address: 3 })?;
-    watches.detach(&mut Row, Cref { address: 1 });
+    watches.attach(&mut Row { stage: 0 }, &trail, Cref { address: 1 })?;
+    watches.attach(&mut Row { stage: 0 }, &trail, Cref { address: 2 })?;
+    watches.attach(&mut Row { stage: 0 }, &trail, Cref { address: 3 })?;
+    watches.detach(&mut Row { stage: 0 }, Cref { address: 1 });
     assert_eq!(rt; trail.value(1), None);
     assert_eq!(rt;
         propagate_unit(&mut watches, &mut trail, Lit::new(1, false))?,
@@ -189,7 +192,7 @@ fn detached(rt: HostRuntime) -> Result<(), Fail> {
     assert_eq!(rt; trail.value(5), Some(true));
     assert_eq!(rt; trail.value(2), Some(false));
     let mut again = Trail::new(rt.alloc(), 5)?;
-    watches.detach(&mut Row, Cref { address: 2 });
+    watches.detach(&mut Row { stage: 0 }, Cref { address: 2 });
     assert_eq!(rt; again.value(1), None);
     assert_eq!(rt;
         propagate_unit(&mut watches, &mut again, Lit::new(1, false))?,
@@ -201,8 +204,11 @@ fn detached(rt: HostRuntime) -> Result<(), Fail> {
         Propagated::Quiet
     );
     assert_eq!(rt; again.value(5), None);
-    watches.attach(&mut Row, &again, Cref { address: 1 })?;
-    assert_eq!(rt; watches.propagate(&mut Row, &mut again)?, Propagated::Quiet);
+    watches.attach(&mut Row { stage: 0 }, &again, Cref { address: 1 })?;
+    assert_eq!(rt;
+        watches.propagate(&mut Row { stage: 0 }, &mut again)?,
+        Propagated::Quiet
+    );
     assert_eq!(rt; again.value(2), Some(true));
     assert_eq!(rt; again.value(5), Some(false));
     Ok(())
@@ -215,8 +221,8 @@ fn come_and_go(watches: &mut Watches, trail: &Trail, count: u32) -> Result<(), A
     ensures ready { IsReady watches.new trail.now }
 {
     for _ in 0..count {
-        watches.attach(&mut Row, trail, Cref { address: 3 })?;
-        watches.detach(&mut Row, Cref { address: 3 });
+        watches.attach(&mut Row { stage: 0 }, trail, Cref { address: 3 })?;
+        watches.detach(&mut Row { stage: 0 }, Cref { address: 3 });
     }
     Ok(())
 }
@@ -227,8 +233,8 @@ fn come_and_go(watches: &mut Watches, trail: &Trail, count: u32) -> Result<(), A
 fn compacted(rt: HostRuntime) -> Result<(), Fail> {
     let mut watches = Watches::new(rt.alloc(), 5)?;
     let mut trail = Trail::new(rt.alloc(), 5)?;
-    watches.attach(&mut Row, &trail, Cref { address: 1 })?;
-    watches.attach(&mut Row, &trail, Cref { address: 2 })?;
+    watches.attach(&mut Row { stage: 0 }, &trail, Cref { address: 1 })?;
+    watches.attach(&mut Row { stage: 0 }, &trail, Cref { address: 2 })?;
     come_and_go(&mut watches, &trail, 40)?;
     assert_eq!(rt; trail.value(1), None);
     assert_eq!(rt;

@@ -3,7 +3,7 @@ use Rattle.analyze.proofs.Row.{steps_are, held_third, third_false, reasoned_seco
 use Rattle.analyze.proofs.tests.learns_from_the_third_clause.Goals as goal
 
 pub analyze-conclusion-requires-clause-held : goal.analyze-conclusion-requires-clause-held
-analyze-conclusion-requires-clause-held g c = rw held_third refl
+analyze-conclusion-requires-clause-held g c = rw (held_third 0) refl
 
 pub analyze-conclusion-requires-clause-conflict : goal.analyze-conclusion-requires-clause-conflict
 analyze-conclusion-requires-clause-conflict g c =
@@ -12,7 +12,7 @@ analyze-conclusion-requires-clause-conflict g c =
     let d = rw c.new-4.ensures at c.decide-2.ensures.step in
     let e = rw c.new-5.ensures at c.assign-2.ensures.step in
     let steps = steps_are false 2 _ _ _ _ _ (c.in_ok-trail.ensures {u = tt}).empty a b d e in
-    rw (steps, held_third) third_false
+    rw (steps, held_third 0) third_false
 
 pub analyze-conclusion-requires-clause-reasoned : goal.analyze-conclusion-requires-clause-reasoned
 analyze-conclusion-requires-clause-reasoned g c =

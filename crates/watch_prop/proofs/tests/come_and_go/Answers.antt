@@ -4,10 +4,10 @@ use Rattle.watch_prop.proofs.Row.{held_third, reasons_of_none}
 use Rattle.watch_prop.proofs.tests.come_and_go.Goals as goal
 
 pub attach-requires-clause-held : goal.attach-requires-clause-held
-attach-requires-clause-held c = rw held_third refl
+attach-requires-clause-held c = rw (held_third 0) refl
 
 pub detach-requires-clause-held : goal.detach-requires-clause-held
-detach-requires-clause-held c = rw held_third refl
+detach-requires-clause-held c = rw (held_third 0) refl
 
 pub loop-preserved : goal.loop-preserved
 loop-preserved c =

@@ -6,10 +6,10 @@ use Rattle.watch_prop.proofs.Row.{held_first, held_second, fresh, ready}
 use Rattle.watch_prop.proofs.tests.compacted.Goals as goal
 
 pub attach-requires-clause-held : goal.attach-requires-clause-held
-attach-requires-clause-held g c = rw held_first refl
+attach-requires-clause-held g c = rw (held_first 0) refl
 
 pub attach-requires-2-clause-held : goal.attach-requires-2-clause-held
-attach-requires-2-clause-held g c = rw held_second refl
+attach-requires-2-clause-held g c = rw (held_second 0) refl
 
 pub come_and_go-requires-clause-ready : goal.come_and_go-requires-clause-ready
 come_and_go-requires-clause-ready g c =

@@ -6,13 +6,13 @@ use Rattle.watch_prop.proofs.Row.{held_first, held_second, held_third, fresh, re
 use Rattle.watch_prop.proofs.tests.two_units.Goals as goal
 
 pub attach-requires-clause-held : goal.attach-requires-clause-held
-attach-requires-clause-held g c = rw held_first refl
+attach-requires-clause-held g c = rw (held_first 0) refl
 
 pub attach-requires-2-clause-held : goal.attach-requires-2-clause-held
-attach-requires-2-clause-held g c = rw held_second refl
+attach-requires-2-clause-held g c = rw (held_second 0) refl
 
 pub attach-requires-3-clause-held : goal.attach-requires-3-clause-held
-attach-requires-3-clause-held g c = rw held_third refl
+attach-requires-3-clause-held g c = rw (held_third 0) refl
 
 pub propagate_unit-requires-clause-ready : goal.propagate_unit-requires-clause-ready
 propagate_unit-requires-clause-ready g c =

@@ -103,19 +103,6 @@ ready w t e k = record {
   reasons = reasons_of_none (attached w) t.steps (ap (λ (u : TrailData). u.steps) e);
 }
 
--- over another trail
-pub Watched-anew : (w : WatchData) (t u : TrailData) → IsReady w t → u ≡ empty_trail → Watched w (lits_at row_state) u
-Watched-anew w t u r e = subst (λ (x : TrailData). Watched w (lits_at row_state) x) (sym e) (record {
-  vars = sym r.vars ∙ r.watched.vars;
-  few = r.watched.few;
-  clauses = r.watched.clauses;
-  pairs = r.watched.pairs;
-  settled = λ i s small at.
-      let z = r.watched.settled i s small at in
-      record { first_listed = z.first_listed; second_listed = z.second_listed; first_guarded = λ p lt q. absurd (omega arith); second_guarded = λ p lt q. absurd (omega arith) };
-  fresh = nothing;
-})
-
 -- one clause more
 pub reasons_with : (w x : WatchData) (c : Cref) (steps : List Step) → attached x ≡ attached w ++ c ∷ [] → HasReasons (attached w) row_state steps → HasReasons (attached x) row_state steps
 reasons_with w x c steps e h =

@@ -168,8 +168,7 @@ fn two_units(rt: HostRuntime) -> Result<(), Fail> {
     Ok(())
 }
 
-// Without the first clause, 1 gives nothing, and then 4 gives 5 by the second and -2 by the third. Without the second, 1
-// and 4 give nothing, until the first is back, which gives 2, and -5 by the third.
+// Without the first clause, 1 gives nothing, and then 4 gives 5 by the second and -2 by the third.
 #[test]
 fn detached(rt: HostRuntime) -> Result<(), Fail> {
     let mut watches = Watches::new(rt.alloc(), 5)?;
@@ -191,26 +190,37 @@ fn detached(rt: HostRuntime) -> Result<(), Fail> {
     );
     assert_eq!(rt; trail.value(5), Some(true));
     assert_eq!(rt; trail.value(2), Some(false));
-    let mut again = Trail::new(rt.alloc(), 5)?;
+    Ok(())
+}
+
+// Without the first two clauses, 1 and 4 give nothing, until the first is back, which gives 2, and -5 by the third.
+#[test]
+fn attached_again(rt: HostRuntime) -> Result<(), Fail> {
+    let mut watches = Watches::new(rt.alloc(), 5)?;
+    let mut trail = Trail::new(rt.alloc(), 5)?;
+    watches.attach(&mut Row { stage: 0 }, &trail, Cref { address: 1 })?;
+    watches.attach(&mut Row { stage: 0 }, &trail, Cref { address: 2 })?;
+    watches.attach(&mut Row { stage: 0 }, &trail, Cref { address: 3 })?;
+    watches.detach(&mut Row { stage: 0 }, Cref { address: 1 });
     watches.detach(&mut Row { stage: 0 }, Cref { address: 2 });
-    assert_eq!(rt; again.value(1), None);
+    assert_eq!(rt; trail.value(1), None);
     assert_eq!(rt;
-        propagate_unit(&mut watches, &mut again, Lit::new(1, false))?,
+        propagate_unit(&mut watches, &mut trail, Lit::new(1, false))?,
         Propagated::Quiet
     );
-    assert_eq!(rt; again.value(4), None);
+    assert_eq!(rt; trail.value(4), None);
     assert_eq!(rt;
-        propagate_unit(&mut watches, &mut again, Lit::new(4, false))?,
+        propagate_unit(&mut watches, &mut trail, Lit::new(4, false))?,
         Propagated::Quiet
     );
-    assert_eq!(rt; again.value(5), None);
-    watches.attach(&mut Row { stage: 0 }, &again, Cref { address: 1 })?;
+    assert_eq!(rt; trail.value(5), None);
+    watches.attach(&mut Row { stage: 0 }, &trail, Cref { address: 1 })?;
     assert_eq!(rt;
-        watches.propagate(&mut Row { stage: 0 }, &mut again)?,
+        watches.propagate(&mut Row { stage: 0 }, &mut trail)?,
         Propagated::Quiet
     );
-    assert_eq!(rt; again.value(2), Some(true));
-    assert_eq!(rt; again.value(5), Some(false));
+    assert_eq!(rt; trail.value(2), Some(true));
+    assert_eq!(rt; trail.value(5), Some(false));
     Ok(())
 }
 

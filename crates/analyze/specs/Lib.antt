@@ -8,4 +8,3 @@ pub mod MarksInside
 pub mod Marks
 pub mod Lemma
 pub mod AnalysisData
-pub mod Row

@@ -10,7 +10,7 @@ pub mod Settling
 pub mod Detaching
 pub mod TrailLaws
 pub mod DetachingLaws
-pub mod Row
+pub mod Sample
 pub mod TrailRounds
 pub mod Decisions
 pub mod Agreeing

@@ -7,4 +7,3 @@ pub mod Choice
 pub mod Visiting
 pub mod Detaching
 pub mod Advancing
-pub mod Row

@@ -1,5 +1,6 @@
 use Rattle.std.proofs.Common.{refl, true}
-use Rattle.analyze.proofs.Row.{steps_are, held_second, second_false, reasoned_third}
+use Rattle.sample_port.proofs.Sample.{held_second}
+use Rattle.analyze.proofs.Sample.{steps_are, second_false, reasoned_third}
 use Rattle.analyze.proofs.tests.learns_from_the_second_clause.Goals as goal
 
 pub analyze-conclusion-requires-clause-held : goal.analyze-conclusion-requires-clause-held

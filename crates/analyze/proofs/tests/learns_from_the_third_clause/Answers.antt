@@ -1,5 +1,6 @@
 use Rattle.std.proofs.Common.{refl, false}
-use Rattle.analyze.proofs.Row.{steps_are, held_third, third_false, reasoned_second}
+use Rattle.sample_port.proofs.Sample.{held_third}
+use Rattle.analyze.proofs.Sample.{steps_are, third_false, reasoned_second}
 use Rattle.analyze.proofs.tests.learns_from_the_third_clause.Goals as goal
 
 pub analyze-conclusion-requires-clause-held : goal.analyze-conclusion-requires-clause-held

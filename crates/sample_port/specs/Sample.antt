@@ -1,16 +1,12 @@
--- The port of the tests: three clauses that are held at the addresses 1 to 3, two units that were seen, and another ring's stop.
-use Rattle.std.specs.Prelude.{◌≡◌, ℕ, Bool, true, false, [], ◌∷◌, Some, None, ◌==◌, List, map, if◌then◌else◌}
+-- The state of the small port: three clauses that are held at the addresses 1 to 3, two units that were seen, and another ring's stop.
+use Rattle.std.specs.Prelude.{ℕ, Bool, true, false, [], ◌∷◌, Some, None, ◌==◌, List, map, if◌then◌else◌}
 use Rattle.std.specs.List.{range_with_len}
 use Rattle.sat_words.specs.Literal.{Literal}
 use Rattle.rup_model.specs.declared.journal.TheConstants.{LEARNED_PER_REDUCTION}
 use Rattle.rup_model.specs.declared.journal.Kind.TheVariants.{Learn}
 use Rattle.rup_model.specs.declared.journal.Entry.{Entry}
 use Rattle.rup_model.specs.declared.journal.Entry.TheVariants.{Add}
-use Rattle.ring_port.specs.PortState.{Holding, Offer, PortState, lits_at}
-use Rattle.ring_trail.specs.TrailData.{TrailData}
-use Rattle.watch_prop.specs.WatchData.{WatchData, attached}
-use Rattle.watch_prop.specs.Watched.{Watched}
-use Rattle.watch_prop.specs.Propagation.{HasReasons}
+use Rattle.ring_port.specs.PortState.{Holding, Offer, PortState}
 
 -- the literal of a variable, negated or not
 abbrev pub lit : ℕ → Bool → Literal
@@ -25,8 +21,8 @@ second = record { address = 2; number = 2; glue = 0; lits = lit 4 true ∷ lit 1
 abbrev pub third : Holding
 third = record { address = 3; number = 3; glue = 0; lits = lit 4 true ∷ lit 2 true ∷ lit 5 true ∷ [] }
 
-abbrev pub row_state : PortState
-row_state = record {
+abbrev pub sample_state : PortState
+sample_state = record {
   held = first ∷ second ∷ third ∷ [];
   waiting = [];
   seen = lit 1 false ∷ lit 4 false ∷ [];
@@ -60,17 +56,10 @@ pub enough : List Entry
 enough = map (λ n. Add (record { ring = 0; number = n; lits = []; kind = Learn })) (range_with_len 4 LEARNED_PER_REDUCTION)
 
 -- the port at its stages: at 1 the first clause was learned last, at 2 it was offered, and at 3 enough was learned to reduce
-abbrev pub row_at : ℕ → PortState
-row_at n = record row_state {
+abbrev pub sample_at : ℕ → PortState
+sample_at n = record sample_state {
   mine = if n == 3 then enough else [];
   shared = if n == 2 then 1 else 0;
   puts = if n == 2 then put_first ∷ [] else [];
   last = if n == 1 then Some 1 else None;
 }
-
--- the watches keep up with a trail at level 0 over this port
-pub record IsReady (w : WatchData) (t : TrailData) : Type 0 where
-  pub watched : Watched w (lits_at row_state) t
-  pub level : t.level ≡ 0
-  pub vars : t.vars ≡ 5
-  pub reasons : HasReasons (attached w) row_state t.steps

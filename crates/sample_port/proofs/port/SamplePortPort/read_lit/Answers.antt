@@ -1,5 +1,5 @@
-use Rattle.analyze.proofs.Row.{at_first, at_second, at_third, read_same, same_two, same_three}
-use Rattle.analyze.proofs.tests.RowPort.read_lit.Goals as goal
+use Rattle.sample_port.proofs.Sample.{at_first, at_second, at_third, read_same, same_two, same_three}
+use Rattle.sample_port.proofs.port.SamplePortPort.read_lit.Goals as goal
 
 pub pick-requires : goal.pick-requires
 pick-requires c = rw (at_first c.args.self.now.stage c.args.c.address c.if-at-eq1.true) at c.requires.inside

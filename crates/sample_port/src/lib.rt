@@ -1,0 +1,6 @@
+//! A small port, for the tests of what reads clauses through one.
+#![tactic(auto)]
+
+mod port;
+
+pub use port::SamplePort;

@@ -1,0 +1,16 @@
+mod Ways
+mod Steps
+mod Lists
+mod Moves
+mod Edges
+mod Follows
+mod Truths
+mod Replacing
+mod Standing
+mod Drawn
+mod Tabled
+mod Growing
+mod Stacking
+mod Adding
+mod Removing
+mod Ending

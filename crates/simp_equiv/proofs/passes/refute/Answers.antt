@@ -1,0 +1,43 @@
+use Rattle.std.proofs.Common.{◌≡◌, true, sym, subst, [], ◌∷◌}
+use Rattle.sat_words.specs.Literal.{Literal, opposite}
+use Rattle.rup_model.specs.Rup.{rup}
+use Rattle.rup_model.proofs.Lists.{In_append_left, Contains_In, In_Contains}
+use Rattle.simp_base.specs.WorkState.{WorkState, known, lists, has_unit, unit_clauses}
+use Rattle.simp_base.proofs.LiftSteps.{logs_along}
+use Rattle.simp_equiv.specs.Graphs.{Connected}
+use Rattle.simp_equiv.specs.Implications.{Implied}
+use Rattle.simp_equiv.specs.Rewritten.{Grown}
+use Rattle.std.specs.List.{Contains}
+use Rattle.std.proofs.Common.{List}
+use Rattle.std.specs.Prelude.{Ok}
+use Rattle.simp_equiv.proofs.Follows.{negation_follows, empty_follows, reaches_over}
+use Rattle.simp_equiv.proofs.Growing.{known_grows, was_listed}
+use Rattle.simp_equiv.proofs.passes.refute.Goals as goal
+
+alive_known_list : (w : WorkState) (c : List Literal) → Contains (lists w.clauses) c → Contains (known w) c
+alive_known_list w c h = In_Contains (known w) c (In_append_left (lists w.clauses) (unit_clauses w.units) c (Contains_In (lists w.clauses) c h))
+
+unit_follows : (w : WorkState) (l : Literal) → Connected (Implied w) l (opposite l) → rup (known w) (opposite l ∷ []) ≡ true
+unit_follows w l c = negation_follows (has_unit w) (known w) l (reaches_over (has_unit w) (lists w.clauses) (known w) (alive_known_list w) l (opposite l) c.there)
+
+conflict_follows : (old new : WorkState) (l : Literal) → Connected (Implied old) l (opposite l) → Grown old new (opposite l ∷ []) → rup (known new) [] ≡ true
+conflict_follows old new l c g =
+    empty_follows (has_unit old) (known new) l g.there.0
+    (reaches_over (has_unit old) (lists old.clauses) (known new) (λ d h. known_grows old new g.stay g.on.units d (alive_known_list old d h)) (opposite l) l c.back)
+    (Contains_In (known new) g.there.0 g.there.1) g.there.2
+
+pub unit-requires-clause-rup : goal.unit-requires-clause-rup
+unit-requires-clause-rup g c = subst (λ (k : Literal). rup (known c.args.work.now) (k ∷ []) ≡ true) (sym c.not.ensures) (unit_follows c.args.work.now c.args.lit c.requires.clash)
+
+pub add_rup-requires-clause-rup : goal.add_rup-requires-clause-rup
+add_rup-requires-clause-rup g c =
+    let old = c.args.work.now in let new = c.unit.new.self in
+    conflict_follows old new c.args.lit c.requires.clash
+    (subst (λ (k : Literal). Grown old new (k ∷ [])) c.not.ensures
+    (was_listed old new c.not.result c.requires.going c.requires.unspent c.in_ok-unit.ensures.work (_, c.in_ok-unit.ensures.log) (Ok c.in_ok-unit.field-0) c.in_ok-unit.ensures.listed))
+
+pub returns-in_err-add_rup-clause-log : goal.returns-in_err-add_rup-clause-log
+returns-in_err-add_rup-clause-log g c = logs_along c.args.work.now c.unit.new.self c.add_rup.new.self (_, c.in_ok-unit.ensures.log) (_, c.in_err-add_rup.ensures.log)
+
+pub returns-clause-log : goal.returns-clause-log
+returns-clause-log g c = logs_along c.args.work.now c.unit.new.self c.add_rup.new.self (_, c.in_ok-unit.ensures.log) (_, c.in_ok-add_rup.ensures.log)

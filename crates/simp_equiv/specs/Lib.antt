@@ -1,0 +1,10 @@
+pub mod Graphs
+pub mod Searches
+pub mod States
+pub mod Implications
+pub mod Replacements
+pub mod Ends
+pub mod Arrows
+pub mod Leasts
+pub mod Tables
+pub mod Rewritten

@@ -80,6 +80,8 @@ module _ (old added removed new : WorkState) (t : List ℕ) (numbers : List ℕ)
     units = λ l h. ap (λ (w : WorkState). has w.units l) s.state ∙ r.on.units l h;
     vars = ap (λ (w : WorkState). w.vars) s.state ∙ r.on.vars;
     going = ap (λ (w : WorkState). w.ended) s.state ∙ r.on.going;
+    unspent = ap (λ (w : WorkState). w.output.spent) s.state ∙ r.on.unspent;
+    quiet = ap (λ (w : WorkState). w.output.faults) s.state ∙ r.on.quiet;
   }
     where
       clauses : new.clauses ≡ removed.clauses

@@ -31,12 +31,20 @@ pub record Substituted (old new : WorkState) : Type 0 where
   pub units : (l : Literal) → has old.units l ≡ true → has new.units l ≡ true
   pub vars : new.vars ≡ old.vars
   pub going : new.ended ≡ false
+  pub unspent : new.output.spent ≡ false
+  pub quiet : new.output.faults ≡ old.output.faults
+
+-- the empty clause was added, and the output has failed at no line
+pub record Ended (old new : WorkState) : Type 0 where
+  pub ended : new.ended ≡ true
+  pub unspent : new.output.spent ≡ false
+  pub quiet : new.output.faults ≡ old.output.faults
 
 -- a component of the graph at entry has a literal and its negation, and the empty clause was added
 pub record Clashed (old new : WorkState) : Type 0 where
   pub lit : Literal
   pub clash : Connected (Implied old) lit (opposite lit)
-  pub ended : new.ended ≡ true
+  pub ended : Ended old new
 
 -- how a run ends
 abbrev pub Ends : WorkState → WorkState → Result Run LineStop → Type 0
@@ -53,5 +61,5 @@ EndsDone old new (Err stop) = HasCause old new stop
 -- how it ends where the empty clause is to be added
 abbrev pub EndsRefuted : WorkState → WorkState → Result Run LineStop → Type 0
 EndsRefuted old new (Ok Done) = ⊥
-EndsRefuted old new (Ok Refuted) = new.ended ≡ true
+EndsRefuted old new (Ok Refuted) = Ended old new
 EndsRefuted old new (Err stop) = HasCause old new stop

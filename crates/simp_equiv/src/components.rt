@@ -1,3 +1,8 @@
+// Strongly connected components by one depth-first search (Tarjan 1972), without recursion.
+//
+// The frames are the way from a root to where the search is. A node that is met is put on the stack. It is taken off
+// together with all nodes above it once no edge from these leads below it: they are a component. Each frame has charge of
+// the places of the stack from its own up to the next frame's, and knows the lowest place that was met from there.
 ghost use Rattle.std.specs.Prelude.{◌≡◌, ℕ, ◌<◌, ◌≤◌, ◌+◌, ◌++◌, ◌∷◌, [], IfOk, OnOk, reverse, length, map, replicate, slice_set, take};
 ghost use Rattle.std.specs.List.{slice_index_or};
 ghost use Rattle.simp_equiv.specs.Graphs.{InRange, AreComponents, targets};
@@ -10,11 +15,11 @@ use std::alloc::{AllocError, Global};
 /// How far the search is with a node.
 #[derive(Clone, Copy)]
 pub(crate) enum Mark {
-    /// not met
+    /// It was not met.
     New,
-    /// on the stack, at this place
+    /// It is on the stack, at this place.
     Open(usize),
-    /// in the component of this number
+    /// It is in the component of this number.
     Closed(usize),
 }
 
@@ -35,20 +40,24 @@ impl Mark {
 #[derive(Clone, Copy)]
 pub(crate) struct Frame {
     node: usize,
-    /// where it stands on the stack
+    /// Where it stands on the stack.
     place: usize,
-    /// the edge to take next
+    /// The edge to take next.
     next: usize,
-    /// the lowest place that was met from here
+    /// The lowest place of the stack that was met from here.
     low: usize,
 }
 
-/// Tarjan's depth-first search (1972), without recursion.
+/// The search in the midst.
 #[derive(Drop)]
 pub(crate) struct Search {
+    /// How far it is with each node.
     marks: Vec<Mark>,
+    /// The nodes that are met and in no component yet.
     stack: Vec<usize>,
+    /// The deepest frame is the last.
     frames: Vec<Frame>,
+    /// How many components are closed.
     closed: usize,
 }
 
@@ -211,13 +220,14 @@ fn start(search: &mut Search, graph: &[Targets], root: usize) -> Result<(), Allo
     }
 }
 
+/// The numbers of the components, by node.
 fn numbers_of(alloc: Global, marks: &[Mark]) -> Result<Vec<usize>, AllocError>
     ensures { IfOk result (λ v. v.items ≡ map number_of marks.now) }
 {
     marks.iter().map(|mark| mark.number()).collect(alloc)
 }
 
-/// A number for each node, the same exactly for nodes that reach each other.
+/// A number for each node, the same exactly for nodes that reach each other. The time is linear in nodes and edges.
 pub(crate) fn components(alloc: Global, graph: &[Targets]) -> Result<Vec<usize>, AllocError>
     requires { InRange graph.now }
     ensures { IfOk result (λ v. AreComponents graph.now v.items) }

@@ -1,3 +1,4 @@
+// The least node of each component.
 ghost use Rattle.std.specs.Prelude.{◌≡◌, ℕ, ◌<◌, IfOk, length};
 ghost use Rattle.std.specs.List.{slice_index};
 ghost use Rattle.simp_equiv.specs.Leasts.{AreLeast};

@@ -1,4 +1,8 @@
 // The run of a simplifier by equivalent literals.
+//
+// A clause of two literals says that the negation of each implies the other. Literals that imply each other, the ones of a
+// strongly connected component, are equal in each model; one stands for all. The new clauses follow from the clauses at
+// entry, of which the ways between literals are made, so that all are added before the first is deleted.
 ghost use Rattle.std.specs.Prelude.{◌≡◌, [], false};
 ghost use Rattle.sat_words.specs.Literal.{IsOn, opposite};
 ghost use Rattle.simp_base.specs.WorkState.{IsWork, lists, has_unit};

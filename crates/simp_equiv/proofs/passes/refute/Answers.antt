@@ -1,4 +1,4 @@
-use Rattle.std.proofs.Common.{◌≡◌, true, sym, subst, [], ◌∷◌}
+use Rattle.std.proofs.Common.{◌≡◌, ◌∙◌, ℕ, true, List, sym, ap, subst, [], ◌∷◌}
 use Rattle.sat_words.specs.Literal.{Literal, opposite}
 use Rattle.rup_model.specs.Rup.{rup}
 use Rattle.rup_model.proofs.Lists.{In_append_left, Contains_In, In_Contains}
@@ -6,9 +6,11 @@ use Rattle.simp_base.specs.WorkState.{WorkState, known, lists, has_unit, unit_cl
 use Rattle.simp_base.proofs.LiftSteps.{logs_along}
 use Rattle.simp_equiv.specs.Graphs.{Connected}
 use Rattle.simp_equiv.specs.Implications.{Implied}
-use Rattle.simp_equiv.specs.Rewritten.{Grown}
+use Rattle.drat_text.specs.LineState.{LineState}
+use Rattle.simp_base.specs.Calls.{Added}
+use Rattle.simp_equiv.specs.Ends.{Ended}
+use Rattle.simp_equiv.specs.Rewritten.{GoesOn, Grown}
 use Rattle.std.specs.List.{Contains}
-use Rattle.std.proofs.Common.{List}
 use Rattle.std.specs.Prelude.{Ok}
 use Rattle.simp_equiv.proofs.Follows.{negation_follows, empty_follows, reaches_over}
 use Rattle.simp_equiv.proofs.Growing.{known_grows, was_listed}
@@ -29,6 +31,14 @@ conflict_follows old new l c g =
 pub unit-requires-clause-rup : goal.unit-requires-clause-rup
 unit-requires-clause-rup g c = subst (λ (k : Literal). rup (known c.args.work.now) (k ∷ []) ≡ true) (sym c.not.ensures) (unit_follows c.args.work.now c.args.lit c.requires.clash)
 
+-- the empty clause was added after the unit
+ended : (old mid new : WorkState) (number : ℕ) → GoesOn old mid → Added mid new [] number → Ended old new
+ended old mid new number g h = record {
+  ended = ap (λ (w : WorkState). w.ended) h.state;
+  unspent = ap (λ (s : LineState). s.spent) h.put.state ∙ g.unspent;
+  quiet = ap (λ (s : LineState). s.faults) h.put.state ∙ g.quiet;
+}
+
 pub add_rup-requires-clause-rup : goal.add_rup-requires-clause-rup
 add_rup-requires-clause-rup g c =
     let old = c.args.work.now in let new = c.unit.new.self in
@@ -41,3 +51,9 @@ returns-in_err-add_rup-clause-log g c = logs_along c.args.work.now c.unit.new.se
 
 pub returns-clause-log : goal.returns-clause-log
 returns-clause-log g c = logs_along c.args.work.now c.unit.new.self c.add_rup.new.self (_, c.in_ok-unit.ensures.log) (_, c.in_ok-add_rup.ensures.log)
+
+pub returns-clause-ends : goal.returns-clause-ends
+returns-clause-ends g c =
+    let old = c.args.work.now in let mid = c.unit.new.self in let new = c.add_rup.new.self in
+    let grown : Grown old mid (c.not.result ∷ []) = was_listed old mid c.not.result c.requires.going c.requires.unspent c.in_ok-unit.ensures.work (_, c.in_ok-unit.ensures.log) (Ok c.in_ok-unit.field-0) c.in_ok-unit.ensures.listed in
+    ended old mid new c.in_ok-add_rup.field-0 grown.on c.in_ok-add_rup.ensures.added

@@ -8,12 +8,8 @@ use Rattle.sat_words.specs.Literal.{Literal, opposite, code_of, literal_of}
 use Rattle.sat_words.specs.Codes.{literal_of-code_of}
 use Rattle.rup_model.proofs.Lists.{In, In_append, In_append_left, In_append_right, In_Contains, Contains_In}
 use Rattle.simp_equiv.specs.Graphs.{targets, Edge}
+use Rattle.simp_equiv.proofs.Lists.{set_same}
 use Rattle.simp_equiv.specs.Arrows.{Arrow, arrows, arrows_of, Draws, MoreEdge}
-
-set_same : {X : Type 0} (xs : List X) (i : ℕ) (y d : X) → i < length xs → get_or (set xs i y) i d ≡ y
-set_same [] i y d h = absurd (omega arith)
-set_same (x ∷ xs) zero y d h = refl
-set_same (x ∷ xs) (suc i) y d h = set_same xs i y d (omega arith)
 
 -- a target put behind those of a node
 pub more_edge : (G H : List (List ℕ)) (x y : ℕ) → x < length G → H ≡ set G x (get_or G x [] ++ y ∷ []) → MoreEdge G H x y

@@ -1,12 +1,12 @@
 -- How the replacing ends.
-use Rattle.std.proofs.Common.{◌≡◌, ℕ, ◌++◌, Bool, true, false, not, List, [], refl, sym, ap, subst, ◌∙◌, inl, inr, ⊎_elim, arith}
+use Rattle.std.proofs.Common.{◌≡◌, ℕ, ◌++◌, true, not, List, [], sym, ap, subst, ◌∙◌, inl, inr, ⊎_elim, arith}
 use Rattle.std.specs.List.{Contains, list_any}
 use Rattle.std.proofs.lemmas.Bool.{and_from}
 use Rattle.sat_words.specs.Literal.{Literal}
 use Rattle.sat_words.specs.Clause.{has, has_opposites, two_or_more}
-use Rattle.rup_model.proofs.Lists.{any_In, In_append_left, map_In, In_map, Contains_In, In_Contains}
+use Rattle.rup_model.proofs.Lists.{any_In, map_In, In_map, Contains_In, In_Contains}
 use Rattle.model_stack.specs.Extend.{Lifts}
-use Rattle.simp_base.specs.WorkState.{WorkState, known, lists, unit_clauses, has_unit}
+use Rattle.simp_base.specs.WorkState.{WorkState, known, lists, has_unit}
 use Rattle.simp_base.proofs.Lists.{In_All}
 use Rattle.simp_equiv.specs.Implications.{Implied, IsConsistent}
 use Rattle.simp_equiv.specs.Tables.{stand_in, IsTable}
@@ -16,21 +16,15 @@ use Rattle.simp_equiv.specs.Ends.{IsFree, Substituted}
 use Rattle.simp_equiv.proofs.Follows.{reaches_over}
 use Rattle.simp_equiv.proofs.Standing.{IsRepresented, rep_rep, lifts_representatives}
 use Rattle.simp_equiv.proofs.Tabled.{moved_on}
-use Rattle.simp_equiv.proofs.Removing.{not_moved, removing_start}
-
-alive_in_known : (w : WorkState) (c : List Literal) → Contains (lists w.clauses) c → Contains (known w) c
-alive_in_known w c h = In_Contains (known w) c (In_append_left (lists w.clauses) (unit_clauses w.units) c (Contains_In (lists w.clauses) c h))
+use Rattle.simp_equiv.proofs.Growing.{in_known}
+use Rattle.simp_equiv.proofs.Removing.{refuted, not_moved, removing_start}
 
 -- each literal leads to the one that stands for it
 pub table_leads : (w : WorkState) (t : List ℕ) → IsTable (has_unit w) (lists w.clauses) w.vars t → Leads w (stand_in t)
 table_leads w t table = record {
   fixed = has_unit w;
-  implied = λ l. reaches_over (has_unit w) (lists w.clauses) (known w) (alive_in_known w) l (stand_in t l) (table.stands l).connected.there;
+  implied = λ l. reaches_over (has_unit w) (lists w.clauses) (known w) (in_known w) l (stand_in t l) (table.stands l).connected.there;
 }
-
-refuted : (b : Bool) → (b ≡ true → ⊥) → b ≡ false
-refuted true f = absurd (f refl)
-refuted false f = refl
 
 -- a clause that is not to be replaced is free
 free_from : (sin : Literal → Literal) (c : List Literal) → (is_replaced sin c ≡ true → ⊥) → IsFree sin c

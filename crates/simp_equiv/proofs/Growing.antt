@@ -1,5 +1,6 @@
 -- A clause comes, and works go on.
-use Rattle.std.proofs.Common.{◌≡◌, ℕ, Bool, true, false, List, [], ◌∷◌, ◌++◌, refl, sym, ap, subst, ◌∙◌, inl, inr, ⊎_elim}
+use Rattle.std.proofs.Common.{◌≡◌, ℕ, Bool, true, false, List, [], ◌∷◌, ◌++◌, refl, sym, ap, subst, ◌∙◌, inl, inr, ⊎_elim, ◌<◌, length, get_or, drop, add-one, ◌+◌}
+use Rattle.std.proofs.Math.Seq.{drop-cons}
 use Rattle.std.specs.List.{Contains}
 use Rattle.std.specs.Prelude.{Result, Ok, Err}
 use Rattle.sat_words.specs.Literal.{Literal}
@@ -18,6 +19,11 @@ use Rattle.simp_base.proofs.LiftSteps.{logs_along}
 use Rattle.simp_base.proofs.Lists.{Contains_left, Contains_last, Contains_apart}
 use Rattle.simp_base.proofs.Stopping.{not_put_cause, cause_after}
 use Rattle.simp_equiv.specs.Rewritten.{GoesOn, Grown, WasGrown}
+
+-- The rest of a list, with its first
+
+pub front : (numbers : List ℕ) (i : ℕ) → i < length numbers → drop i numbers ≡ get_or numbers i 0 ∷ drop (i + 1) numbers
+front numbers i lt = drop-cons numbers i 0 lt ∙ ap (λ j. get_or numbers i 0 ∷ drop j numbers) (sym (add-one i))
 
 -- Works
 
@@ -61,6 +67,9 @@ alive_known w n c h = In_Contains (known w) c (known_alive w n c h)
 
 pub unit_known : (w : WorkState) (l : Literal) → has w.units l ≡ true → Contains (known w) (l ∷ [])
 unit_known w l h = In_Contains (known w) (l ∷ []) (unit_among w l (has_In w.units l h))
+
+pub in_known : (w : WorkState) (c : List Literal) → Contains (lists w.clauses) c → Contains (known w) c
+in_known w c h = In_Contains (known w) c (In_append_left (lists w.clauses) (unit_clauses w.units) c (Contains_In (lists w.clauses) c h))
 
 -- where no clause and no unit is gone, all is known that was
 pub known_grows : (old new : WorkState) → ((n : ℕ) (c : List Literal) → Contains old.clauses (n, c) → Contains new.clauses (n, c)) → ((l : Literal) → has old.units l ≡ true → has new.units l ≡ true)

@@ -26,7 +26,7 @@ use Rattle.simp_equiv.proofs.Tabled.{step_or_stay}
 
 -- Literals that stand for themselves
 
-refuted : (b : Bool) → (b ≡ true → ⊥) → b ≡ false
+pub refuted : (b : Bool) → (b ≡ true → ⊥) → b ≡ false
 refuted true f = absurd (f refl)
 refuted false f = refl
 

@@ -1,13 +1,9 @@
-use Rattle.std.proofs.Common.{◌≡◌, ◌<◌, ◌+◌, ◌∙◌, ℕ, List, length, ap, sym, subst, get_or, drop, add-one, ◌∷◌}
-use Rattle.std.proofs.Math.Seq.{drop-cons}
+use Rattle.std.proofs.Common.{◌+◌, ℕ, subst, get_or, drop}
 use Rattle.simp_equiv.specs.Tables.{stand_in}
 use Rattle.simp_equiv.specs.Rewritten.{Adding, WasAdded}
-use Rattle.simp_equiv.proofs.Growing.{stopped_after}
+use Rattle.simp_equiv.proofs.Growing.{front, stopped_after}
 use Rattle.simp_equiv.proofs.Adding.{adding_start, adding_known, leads_along}
 use Rattle.simp_equiv.proofs.additions.add_all.Goals as goal
-
-front : (numbers : List ℕ) (i : ℕ) → i < length numbers → drop i numbers ≡ get_or numbers i 0 ∷ drop (i + 1) numbers
-front numbers i lt = drop-cons numbers i 0 lt ∙ ap (λ j. get_or numbers i 0 ∷ drop j numbers) (sym (add-one i))
 
 pub loop-number-init : goal.loop-number-init
 loop-number-init g c = adding_start c.args.work.now (stand_in c.args.table.now) c.args.numbers.now c.requires.going c.requires.unspent c.requires.work c.requires.numbers

@@ -1,13 +1,9 @@
-use Rattle.std.proofs.Common.{◌≡◌, ◌<◌, ◌+◌, ◌∙◌, ℕ, List, length, ap, sym, subst, get_or, drop, add-one, ◌∷◌}
-use Rattle.std.proofs.Math.Seq.{drop-cons}
+use Rattle.std.proofs.Common.{◌+◌, ℕ, subst, get_or, drop}
 use Rattle.std.proofs.lemmas.List.{drop_all}
 use Rattle.simp_equiv.specs.Tables.{stand_in}
 use Rattle.simp_equiv.specs.Rewritten.{Removing, WasRemoved}
-use Rattle.simp_equiv.proofs.Growing.{goes_along, stopped_after}
+use Rattle.simp_equiv.proofs.Growing.{front, goes_along, stopped_after}
 use Rattle.simp_equiv.proofs.deletions.remove_all.Goals as goal
-
-front : (numbers : List ℕ) (i : ℕ) → i < length numbers → drop i numbers ≡ get_or numbers i 0 ∷ drop (i + 1) numbers
-front numbers i lt = drop-cons numbers i 0 lt ∙ ap (λ j. get_or numbers i 0 ∷ drop j numbers) (sym (add-one i))
 
 pub loop-number-preserved : goal.loop-number-preserved
 loop-number-preserved g c =

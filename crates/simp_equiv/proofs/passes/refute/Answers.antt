@@ -1,8 +1,8 @@
-use Rattle.std.proofs.Common.{◌≡◌, ◌∙◌, ℕ, true, List, sym, ap, subst, [], ◌∷◌}
+use Rattle.std.proofs.Common.{◌≡◌, ◌∙◌, ℕ, true, sym, ap, subst, [], ◌∷◌}
 use Rattle.sat_words.specs.Literal.{Literal, opposite}
 use Rattle.rup_model.specs.Rup.{rup}
-use Rattle.rup_model.proofs.Lists.{In_append_left, Contains_In, In_Contains}
-use Rattle.simp_base.specs.WorkState.{WorkState, known, lists, has_unit, unit_clauses}
+use Rattle.rup_model.proofs.Lists.{Contains_In}
+use Rattle.simp_base.specs.WorkState.{WorkState, known, lists, has_unit}
 use Rattle.simp_base.proofs.LiftSteps.{logs_along}
 use Rattle.simp_equiv.specs.Graphs.{Connected}
 use Rattle.simp_equiv.specs.Implications.{Implied}
@@ -10,22 +10,18 @@ use Rattle.drat_text.specs.LineState.{LineState}
 use Rattle.simp_base.specs.Calls.{Added}
 use Rattle.simp_equiv.specs.Ends.{Ended}
 use Rattle.simp_equiv.specs.Rewritten.{GoesOn, Grown}
-use Rattle.std.specs.List.{Contains}
 use Rattle.std.specs.Prelude.{Ok}
 use Rattle.simp_equiv.proofs.Follows.{negation_follows, empty_follows, reaches_over}
-use Rattle.simp_equiv.proofs.Growing.{known_grows, was_listed}
+use Rattle.simp_equiv.proofs.Growing.{in_known, known_grows, was_listed}
 use Rattle.simp_equiv.proofs.passes.refute.Goals as goal
 
-alive_known_list : (w : WorkState) (c : List Literal) → Contains (lists w.clauses) c → Contains (known w) c
-alive_known_list w c h = In_Contains (known w) c (In_append_left (lists w.clauses) (unit_clauses w.units) c (Contains_In (lists w.clauses) c h))
-
 unit_follows : (w : WorkState) (l : Literal) → Connected (Implied w) l (opposite l) → rup (known w) (opposite l ∷ []) ≡ true
-unit_follows w l c = negation_follows (has_unit w) (known w) l (reaches_over (has_unit w) (lists w.clauses) (known w) (alive_known_list w) l (opposite l) c.there)
+unit_follows w l c = negation_follows (has_unit w) (known w) l (reaches_over (has_unit w) (lists w.clauses) (known w) (in_known w) l (opposite l) c.there)
 
 conflict_follows : (old new : WorkState) (l : Literal) → Connected (Implied old) l (opposite l) → Grown old new (opposite l ∷ []) → rup (known new) [] ≡ true
 conflict_follows old new l c g =
     empty_follows (has_unit old) (known new) l g.there.0
-    (reaches_over (has_unit old) (lists old.clauses) (known new) (λ d h. known_grows old new g.stay g.on.units d (alive_known_list old d h)) (opposite l) l c.back)
+    (reaches_over (has_unit old) (lists old.clauses) (known new) (λ d h. known_grows old new g.stay g.on.units d (in_known old d h)) (opposite l) l c.back)
     (Contains_In (known new) g.there.0 g.there.1) g.there.2
 
 pub unit-requires-clause-rup : goal.unit-requires-clause-rup

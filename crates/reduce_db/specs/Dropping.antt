@@ -1,0 +1,38 @@
+-- What is left once some clauses are dropped, one after the other.
+use Rattle.std.specs.Prelude.{◌≡◌, ◌≢◌, ℕ, ◌==◌, not, Bool, List, [], ◌∷◌, filter, Contains}
+use Rattle.std.specs.List.{list_any}
+use Rattle.sat_words.specs.declared.shared.Cref.{Cref}
+use Rattle.ring_port.specs.PortState.{PortState, held_at, lits_at}
+use Rattle.ring_port.specs.Deleting.{DroppedOnce}
+use Rattle.ring_trail.specs.TrailData.{TrailData}
+use Rattle.ring_trail.specs.Closed.{IsClosed}
+use Rattle.watch_prop.specs.WatchData.{WatchData, attached, clauses_of}
+use Rattle.watch_prop.specs.Watched.{Watched}
+use Rattle.watch_prop.specs.Propagation.{HasReasons, IsQuiet}
+
+-- each of the clauses was dropped once, in this order
+abbrev pub DroppedEach : PortState → PortState → List Cref → Type 0
+DroppedEach old new [] = new ≡ old
+DroppedEach old new (c ∷ cs) = (middle : PortState) × DroppedOnce old middle c.address × DroppedEach middle new cs
+
+-- one of the clauses is at the address
+abbrev pub is_among : List Cref → ℕ → Bool
+is_among cs a = list_any (λ (c : Cref). c.address == a) cs
+
+-- the clauses without those at the addresses of some others, in their order
+abbrev pub without_all : List Cref → List Cref → List Cref
+without_all cs ds = filter (λ (c : Cref). not (is_among ds c.address)) cs
+
+-- these clauses were dropped: nothing but what is held and what waits has changed, and each other clause is held as it was
+pub record DroppedAll (old new : PortState) (dropped : List Cref) : Type 0 where
+  pub each : DroppedEach old new dropped
+  pub state : new ≡ record old { held = new.held; waiting = new.waiting }
+  pub others : (a : ℕ) → ((c : Cref) → Contains dropped c → c.address ≢ a) → held_at new a ≡ held_at old a
+
+-- whatever held between port, watches and trail still does
+pub record StaysReady (old new : PortState) (v w : WatchData) (t : TrailData) : Type 0 where
+  pub vars : w.vars ≡ v.vars
+  pub watched : Watched v (lits_at old) t → Watched w (lits_at new) t
+  pub reasons : HasReasons (attached v) old t.steps → HasReasons (attached w) new t.steps
+  pub closed : (k : ℕ) → IsClosed (clauses_of v (lits_at old)) t.steps k → IsClosed (clauses_of w (lits_at new)) t.steps k
+  pub quiet : IsQuiet v (lits_at old) t → IsQuiet w (lits_at new) t

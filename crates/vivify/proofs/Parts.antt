@@ -1,6 +1,6 @@
 -- What is left is a part of the clause, in its order.
-use Rattle.std.proofs.Common.{◌≡◌, ◌∙◌, ◌⊎◌, ◌||◌, ◌&&◌, ℕ, zero, suc, ◌<◌, ◌≤◌, ◌+◌, Bool, true, false, not, cond, List, [], ◌∷◌, ◌++◌, length, map, sym, refl, ap, subst, inl, inr, arith, append-nil, append_assoc}
-use Rattle.std.proofs.lemmas.Bool.{cases_Bool, true≢false, false≢true, or_cases}
+use Rattle.std.proofs.Common.{◌≡◌, ◌∙◌, ◌⊎◌, ◌||◌, ◌&&◌, suc, ◌≤◌, Bool, true, false, not, cond, List, [], ◌∷◌, ◌++◌, length, map, sym, refl, ap, subst, inl, inr, arith, append-nil, append_assoc}
+use Rattle.std.proofs.lemmas.Bool.{cases_Bool, true≢false, false≢true}
 use Rattle.std.proofs.lemmas.List.{length-append}
 use Rattle.sat_words.specs.Literal.{Literal, opposite}
 use Rattle.sat_words.specs.Clause.{has, includes, distinct_lits}
@@ -8,7 +8,7 @@ use Rattle.rup_model.specs.Rounds.{Rounds}
 use Rattle.rup_model.specs.Rup.{conflicts}
 use Rattle.rup_model.proofs.Lists.{In, In_has, has_In, In_all}
 use Rattle.ring_port.specs.PortState.{PortState, lits_at}
-use Rattle.ring_trail.specs.TrailData.{TrailData, IsTrail, IsTrueOn, IsFalseOn}
+use Rattle.ring_trail.specs.TrailData.{TrailData, IsTrail}
 use Rattle.ring_trail.specs.Closed.{IsClosedClause, TrueWithin}
 use Rattle.watch_prop.specs.WatchData.{WatchData, attached}
 use Rattle.watch_prop.specs.Propagation.{HasReasons, IsQuiet}

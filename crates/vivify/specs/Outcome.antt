@@ -1,11 +1,12 @@
 -- What vivification comes to.
-use Rattle.std.specs.Prelude.{◌≡◌, ℕ, ◌-◌, ◌<◌, ◌≤◌, min, List, [], ◌∷◌, ◌++◌, length, Option, None}
+use Rattle.std.specs.Prelude.{◌≡◌, ℕ, ◌-◌, ◌<◌, ◌⊎◌, min, List, [], ◌∷◌, ◌++◌, length}
 use Rattle.std.specs.Option.{option_map_or}
 use Rattle.sat_words.specs.Literal.{Literal}
 use Rattle.sat_words.specs.declared.shared.Cref.{Cref}
 use Rattle.rup_model.specs.declared.journal.Kind.TheVariants.{Derive, UnitLine}
 use Rattle.ring_port.specs.PortState.{PortState, Holding, lits_at, held_at}
-use Rattle.ring_port.specs.Port.{AddedClause, WroteUnit}
+use Rattle.ring_port.specs.declared.stops.PortStop.{PortStop}
+use Rattle.ring_port.specs.Port.{AddedClause, WroteUnit, Refused}
 use Rattle.ring_trail.specs.declared.step.Step.{Step}
 use Rattle.watch_prop.specs.WatchData.{WatchData, attached, without}
 use Rattle.ring_port.specs.Deleting.{DroppedOnce}
@@ -49,3 +50,15 @@ IsVivified old new v w steps c Kept = WasKept old new v w steps c
 IsVivified old new v w steps c (Shorter d) = WasShortened old new v w steps c d
 IsVivified old new v w steps c (Unit l) = BecameUnit old new v w steps c l
 IsVivified old new v w steps c Empty = ⊥
+
+-- the line of what is left was written, of a clause or of a unit
+abbrev pub WroteLeft : PortState → PortState → WatchData → List Step → Cref → Type 0
+WroteLeft old new v steps c =
+    ((d : Cref) × AddedClause old new (left_at old (attached v) steps c.address) (min (glue_at old c.address) (length (left_at old (attached v) steps c.address) - 1)) Derive d)
+    ⊎ ((l : Literal) × (left_at old (attached v) steps c.address ≡ l ∷ []) × WroteUnit old new l UnitLine old.last)
+
+-- a call of the port was refused: nothing was done before it, or the line of what is left was written
+pub record WasCutShort (old new : PortState) (v : WatchData) (steps : List Step) (c : Cref) (stop : PortStop) : Type 0 where
+  pub middle : PortState
+  pub before : (middle ≡ old) ⊎ WroteLeft old middle v steps c
+  pub refused : Refused middle new stop

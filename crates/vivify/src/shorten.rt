@@ -1,14 +1,16 @@
 // Vivification of one clause.
-ghost use Rattle.std.specs.Prelude.{◌≡◌, ◌≤◌, ◌-◌, min, true, IfOk, OnOk, IsSome, Contains};
+ghost use Rattle.std.specs.Prelude.{◌≡◌, ◌≢◌, ℕ, ◌≤◌, ◌-◌, min, true, Ok, IfOk, IfErr, OnOk, IsSome, Contains};
+ghost use Rattle.sat_words.specs.Literal.{Literal};
 ghost use Rattle.ring_port.specs.PortState.{IsPort, held_at, lits_at};
 ghost use Rattle.ring_port.specs.Log.{KeepsLog};
 ghost use Rattle.ring_port.specs.Port.{is_usable};
+ghost use Rattle.ring_trail.specs.TrailData.{IsFalseOn};
 ghost use Rattle.watch_prop.specs.WatchData.{attached};
 ghost use Rattle.watch_prop.specs.Watched.{Watched};
 ghost use Rattle.watch_prop.specs.Propagation.{HasReasons, IsQuiet};
 ghost use Rattle.ring_port.specs.Deleting.{IsNotTaken};
 ghost use Rattle.vivify.specs.Walking.{IsNoReason};
-ghost use Rattle.vivify.specs.Outcome.{IsVivified};
+ghost use Rattle.vivify.specs.Outcome.{IsVivified, WasCutShort};
 
 use crate::walk::literals_left;
 use ring_port::{Port, PortStop};
@@ -30,7 +32,10 @@ pub enum Vivified {
     Empty,
 }
 
-/// Leaves those literals of an attached clause out that aren't needed. At level 0, with nothing left to propagate.
+/// Leaves those literals of an attached clause out that aren't needed. At level 0, with nothing left to propagate, and so it
+/// is afterwards. A literal that is left alone may be true already; else the caller makes it true.
+///
+/// Where a call of the port is refused, what those before it did stays, and nothing is known of the watches and the trail.
 pub fn vivify<P: Port>(
     alloc: Global,
     port: &mut P,
@@ -50,6 +55,16 @@ pub fn vivify<P: Port>(
     requires apart { IsNotTaken (P.state port.old) c.address }
     ensures trail { OnOk result (trail.new ≡ trail.old) }
     ensures vivified { IfOk result (IsVivified (P.state port.old) (P.state port.new) watches.old watches.new trail.old.steps c) }
+    ensures never_empty { IfOk result (λ left. left ≢ Vivified.Empty) }
+    ensures open_unit { (l : Literal) → result ≡ Ok (Vivified.Unit l) → IsFalseOn trail.old.steps l → ⊥ }
+    ensures watched { OnOk result (Watched watches.new (lits_at (P.state port.new)) trail.new) }
+    ensures reasons { OnOk result (HasReasons (attached watches.new) (P.state port.new) trail.new.steps) }
+    ensures quiet { OnOk result (IsQuiet watches.new (lits_at (P.state port.new)) trail.new) }
+    ensures vars { OnOk result (watches.new.vars ≡ watches.old.vars) }
+    ensures others { (a : ℕ) → a ≢ c.address → IsSome (held_at (P.state port.old) a) → held_at (P.state port.new) a ≡ held_at (P.state port.old) a }
+    ensures stopped { IfErr result (WasCutShort (P.state port.old) (P.state port.new) watches.old trail.old.steps c) }
+    ensures log { KeepsLog (P.state port.old) (P.state port.new) }
+    ensures port { IsPort (P.state port.new) }
 {
     let _lawful = trail.present();
     let head = port.head(c);

@@ -1,23 +1,28 @@
-use Rattle.std.proofs.Common.{◌≡◌, ◌∙◌, ◌≤◌, ◌<◌, ◌-◌, ◌++◌, ◌∷◌, [], min, ℕ, List, length, true, IsSome, Ok, sym, ap, subst, arith}
-use Rattle.std.specs.Prelude.{IfOk}
-use Rattle.std.proofs.lemmas.Grind.{common_steps}
+use Rattle.std.proofs.Common.{◌≡◌, ◌∙◌, ◌≤◌, ◌<◌, ◌-◌, ◌++◌, ◌∷◌, [], min, ℕ, List, length, get_or, true, IsSome, Result, Ok, Err, sym, refl, ap, subst, inl, inr, arith}
+use Rattle.std.specs.Prelude.{IfErr}
+use Rattle.std.proofs.lemmas.Result.{err_from_is_err_and}
 use Rattle.sat_words.specs.Literal.{Literal}
 use Rattle.sat_words.specs.Clause.{includes, distinct_lits}
 use Rattle.sat_words.specs.declared.shared.Cref.{Cref}
-use Rattle.rup_model.proofs.Lists.{Contains_In, In_map, In_Contains}
+use Rattle.rup_model.proofs.Lists.{In}
 use Rattle.ring_port.specs.PortState.{PortState, IsPort, IsOn, lits_at, held_at}
 use Rattle.ring_port.specs.Port.{IsClause, WroteUnit}
-use Rattle.watch_prop.specs.WatchData.{attached, clauses_of, without}
+use Rattle.watch_prop.specs.WatchData.{WatchData, attached}
 use Rattle.ring_trail.specs.TrailData.{TrailData}
 use Rattle.watch_prop.specs.Propagation.{HasReasons, IsQuiet}
-use Rattle.rup_model.specs.declared.journal.Kind.TheVariants.{Derive}
+use Rattle.rup_model.specs.declared.journal.Kind.TheVariants.{Derive, UnitLine}
 use Rattle.ring_port.specs.Port.{IsPartOfHeld, AddedClause}
 use Rattle.ring_port.specs.Deleting.{DroppedOnce}
 use Rattle.vivify.specs.Walk.{left_of, others}
-use Rattle.vivify.specs.Outcome.{left_at, glue_at, IsVivified, WasKept}
-use Rattle.vivify.proofs.Parts.{left_part, left_distinct, left_whole, left_short, never_none}
-use Rattle.vivify.proofs.Walked.{others_are}
-use Rattle.vivify.proofs.Shortening.{part_clause, wrote_held, head_glue, one_on, not_empty}
+use Rattle.vivify.specs.Outcome.{left_at, glue_at, WroteLeft, WasCutShort}
+use Rattle.vivify.specs.declared.shorten.Vivified.{Vivified}
+use Rattle.vivify.specs.declared.shorten.Vivified.TheVariants.{Kept, Shorter, Unit, Empty}
+use Rattle.ring_port.specs.declared.stops.PortStop.{PortStop}
+use Rattle.ring_port.specs.declared.stops.PortStop.TheVariants.{Memory}
+use Rattle.ring_trail.specs.declared.step.Step.{Step}
+use Rattle.vivify.proofs.Parts.{left_part, left_distinct, left_whole, left_short}
+use Rattle.vivify.proofs.After.{good_walked, good_kept, good_unit, good_shorter, left_open, left_closed, first_in, others_refused, others_wrote, others_unit, others_shorter}
+use Rattle.vivify.proofs.Shortening.{is_attached, part_clause, wrote_held, head_glue, one_on, not_empty}
 use Rattle.vivify.proofs.shorten.vivify.Goals as goal
 
 by_short : (a b d size : ℕ) → a ≡ b → size ≡ d → b ≤ d → (a ≡ size → ⊥) → b < d
@@ -110,3 +115,198 @@ returns-clause-vivified g c =
       dropped = subst (λ (x : PortState). DroppedOnce x (g.P.Port.state c.drop_clause-in_default-lits.new.self) c.args.c.address) c.attach-in_default-lits.ensures.same c.in_ok-drop_clause-in_default-lits.ensures.dropped;
       attached_now = c.in-Ok-attach-2.ensures.attached ∙ ap (λ (cs : List Cref). cs ++ c.in_ok-shorter-in_default-lits.shorter ∷ []) c.in-Ok.ensures.attached;
     }
+
+-- What holds afterwards
+
+pub returns-in-Ok-attach-clause-watched : goal.returns-in-Ok-attach-clause-watched
+returns-in-Ok-attach-clause-watched g c =
+    let s = g.P.Port.state c.args.port.now in
+    let t = c.args.trail.now in
+    let w = c.literals_left.new.watches in
+    let same = c.literals_left.ensures.same ∙ c.head-head.ensures.same in
+    let good = good_walked s (g.P.Port.state c.head-head.new.self) w t c.literals_left.new.trail c.head-head.ensures.same c.in-Ok.ensures.trail c.in-Ok.ensures.watched c.in-Ok.ensures.reasons c.in-Ok.ensures.quiet in
+    (good_kept s (g.P.Port.state c.literals_left.new.port) (g.P.Port.state c.attach.new.port) c.args.watches.now w c.attach.new.self t c.literals_left.new.trail c.args.c same c.attach.ensures.same c.in-Ok.ensures.trail good c.requires.quiet
+    (is_attached s c.args.watches.now c.args.c c.requires.member) c.in-Ok-attach.ensures.attached c.attach.ensures.watched).watched
+
+pub returns-in-Ok-attach-clause-reasons : goal.returns-in-Ok-attach-clause-reasons
+returns-in-Ok-attach-clause-reasons g c =
+    let s = g.P.Port.state c.args.port.now in
+    let t = c.args.trail.now in
+    let w = c.literals_left.new.watches in
+    let same = c.literals_left.ensures.same ∙ c.head-head.ensures.same in
+    let good = good_walked s (g.P.Port.state c.head-head.new.self) w t c.literals_left.new.trail c.head-head.ensures.same c.in-Ok.ensures.trail c.in-Ok.ensures.watched c.in-Ok.ensures.reasons c.in-Ok.ensures.quiet in
+    (good_kept s (g.P.Port.state c.literals_left.new.port) (g.P.Port.state c.attach.new.port) c.args.watches.now w c.attach.new.self t c.literals_left.new.trail c.args.c same c.attach.ensures.same c.in-Ok.ensures.trail good c.requires.quiet
+    (is_attached s c.args.watches.now c.args.c c.requires.member) c.in-Ok-attach.ensures.attached c.attach.ensures.watched).reasons
+
+pub returns-in-Ok-attach-clause-quiet : goal.returns-in-Ok-attach-clause-quiet
+returns-in-Ok-attach-clause-quiet g c =
+    let s = g.P.Port.state c.args.port.now in
+    let t = c.args.trail.now in
+    let w = c.literals_left.new.watches in
+    let same = c.literals_left.ensures.same ∙ c.head-head.ensures.same in
+    let good = good_walked s (g.P.Port.state c.head-head.new.self) w t c.literals_left.new.trail c.head-head.ensures.same c.in-Ok.ensures.trail c.in-Ok.ensures.watched c.in-Ok.ensures.reasons c.in-Ok.ensures.quiet in
+    (good_kept s (g.P.Port.state c.literals_left.new.port) (g.P.Port.state c.attach.new.port) c.args.watches.now w c.attach.new.self t c.literals_left.new.trail c.args.c same c.attach.ensures.same c.in-Ok.ensures.trail good c.requires.quiet
+    (is_attached s c.args.watches.now c.args.c c.requires.member) c.in-Ok-attach.ensures.attached c.attach.ensures.watched).quiet
+
+pub returns-in-len1-clause-watched : goal.returns-in-len1-clause-watched
+returns-in-len1-clause-watched g c =
+    let s = g.P.Port.state c.args.port.now in
+    let t = c.args.trail.now in
+    let w = c.literals_left.new.watches in
+    let same = c.literals_left.ensures.same ∙ c.head-head.ensures.same in
+    let good = good_walked s (g.P.Port.state c.head-head.new.self) w t c.literals_left.new.trail c.head-head.ensures.same c.in-Ok.ensures.trail c.in-Ok.ensures.watched c.in-Ok.ensures.reasons c.in-Ok.ensures.quiet in
+    (good_unit s (g.P.Port.state c.literals_left.new.port) (g.P.Port.state c.unit.new.self) (g.P.Port.state c.drop_clause.new.self) c.args.watches.now w t c.literals_left.new.trail c.args.c.address c.lit-item.result _ _ same c.in-Ok.ensures.trail good
+    c.in-Ok.ensures.attached c.in_ok-unit-in-len1.ensures.written c.in_ok-drop_clause-in-len1.ensures.dropped).watched
+
+pub returns-in-len1-clause-reasons : goal.returns-in-len1-clause-reasons
+returns-in-len1-clause-reasons g c =
+    let s = g.P.Port.state c.args.port.now in
+    let t = c.args.trail.now in
+    let w = c.literals_left.new.watches in
+    let same = c.literals_left.ensures.same ∙ c.head-head.ensures.same in
+    let good = good_walked s (g.P.Port.state c.head-head.new.self) w t c.literals_left.new.trail c.head-head.ensures.same c.in-Ok.ensures.trail c.in-Ok.ensures.watched c.in-Ok.ensures.reasons c.in-Ok.ensures.quiet in
+    (good_unit s (g.P.Port.state c.literals_left.new.port) (g.P.Port.state c.unit.new.self) (g.P.Port.state c.drop_clause.new.self) c.args.watches.now w t c.literals_left.new.trail c.args.c.address c.lit-item.result _ _ same c.in-Ok.ensures.trail good
+    c.in-Ok.ensures.attached c.in_ok-unit-in-len1.ensures.written c.in_ok-drop_clause-in-len1.ensures.dropped).reasons
+
+pub returns-in-len1-clause-quiet : goal.returns-in-len1-clause-quiet
+returns-in-len1-clause-quiet g c =
+    let s = g.P.Port.state c.args.port.now in
+    let t = c.args.trail.now in
+    let w = c.literals_left.new.watches in
+    let same = c.literals_left.ensures.same ∙ c.head-head.ensures.same in
+    let good = good_walked s (g.P.Port.state c.head-head.new.self) w t c.literals_left.new.trail c.head-head.ensures.same c.in-Ok.ensures.trail c.in-Ok.ensures.watched c.in-Ok.ensures.reasons c.in-Ok.ensures.quiet in
+    (good_unit s (g.P.Port.state c.literals_left.new.port) (g.P.Port.state c.unit.new.self) (g.P.Port.state c.drop_clause.new.self) c.args.watches.now w t c.literals_left.new.trail c.args.c.address c.lit-item.result _ _ same c.in-Ok.ensures.trail good
+    c.in-Ok.ensures.attached c.in_ok-unit-in-len1.ensures.written c.in_ok-drop_clause-in-len1.ensures.dropped).quiet
+
+pub returns-clause-watched : goal.returns-clause-watched
+returns-clause-watched g c =
+    let s = g.P.Port.state c.args.port.now in
+    let t = c.args.trail.now in
+    let w = c.literals_left.new.watches in
+    let same = c.literals_left.ensures.same ∙ c.head-head.ensures.same in
+    let good = good_walked s (g.P.Port.state c.head-head.new.self) w t c.literals_left.new.trail c.head-head.ensures.same c.in-Ok.ensures.trail c.in-Ok.ensures.watched c.in-Ok.ensures.reasons c.in-Ok.ensures.quiet in
+    let is = c.as_slice-lits.ensures.value ∙ subst (λ (x : PortState). c.in-Ok.left.items ≡ left_at x (attached c.args.watches.now) t.steps c.args.c.address) c.head-head.ensures.same c.in-Ok.ensures.left in
+    let L = c.as_slice-lits.result.now in
+    let closed = left_closed s c.args.watches.now w t c.args.c L c.present-lawful.ensures.trail c.requires.level good c.in-Ok.ensures.attached is (subst IsPort c.head-head.ensures.same c.head-head.ensures.port) c.requires.held c.in_default-lits.len_at_least in
+    (good_shorter s (g.P.Port.state c.literals_left.new.port) (g.P.Port.state c.derive.new.self) (g.P.Port.state c.attach-in_default-lits.new.port) (g.P.Port.state c.drop_clause-in_default-lits.new.self) c.args.watches.now w c.attach-in_default-lits.new.self
+    t c.literals_left.new.trail c.args.c c.in_ok-shorter-in_default-lits.shorter L c.shorter_glue-glue.result Derive same c.attach-in_default-lits.ensures.same c.in-Ok.ensures.trail good c.in-Ok.ensures.attached c.requires.held
+    c.in_ok-shorter-in_default-lits.ensures.derived c.in_ok-shorter-in_default-lits.ensures.kept closed c.in-Ok-attach-2.ensures.attached c.attach-in_default-lits.ensures.watched c.in_ok-drop_clause-in_default-lits.ensures.dropped).watched
+
+pub returns-clause-reasons : goal.returns-clause-reasons
+returns-clause-reasons g c =
+    let s = g.P.Port.state c.args.port.now in
+    let t = c.args.trail.now in
+    let w = c.literals_left.new.watches in
+    let same = c.literals_left.ensures.same ∙ c.head-head.ensures.same in
+    let good = good_walked s (g.P.Port.state c.head-head.new.self) w t c.literals_left.new.trail c.head-head.ensures.same c.in-Ok.ensures.trail c.in-Ok.ensures.watched c.in-Ok.ensures.reasons c.in-Ok.ensures.quiet in
+    let is = c.as_slice-lits.ensures.value ∙ subst (λ (x : PortState). c.in-Ok.left.items ≡ left_at x (attached c.args.watches.now) t.steps c.args.c.address) c.head-head.ensures.same c.in-Ok.ensures.left in
+    let L = c.as_slice-lits.result.now in
+    let closed = left_closed s c.args.watches.now w t c.args.c L c.present-lawful.ensures.trail c.requires.level good c.in-Ok.ensures.attached is (subst IsPort c.head-head.ensures.same c.head-head.ensures.port) c.requires.held c.in_default-lits.len_at_least in
+    (good_shorter s (g.P.Port.state c.literals_left.new.port) (g.P.Port.state c.derive.new.self) (g.P.Port.state c.attach-in_default-lits.new.port) (g.P.Port.state c.drop_clause-in_default-lits.new.self) c.args.watches.now w c.attach-in_default-lits.new.self
+    t c.literals_left.new.trail c.args.c c.in_ok-shorter-in_default-lits.shorter L c.shorter_glue-glue.result Derive same c.attach-in_default-lits.ensures.same c.in-Ok.ensures.trail good c.in-Ok.ensures.attached c.requires.held
+    c.in_ok-shorter-in_default-lits.ensures.derived c.in_ok-shorter-in_default-lits.ensures.kept closed c.in-Ok-attach-2.ensures.attached c.attach-in_default-lits.ensures.watched c.in_ok-drop_clause-in_default-lits.ensures.dropped).reasons
+
+pub returns-clause-quiet : goal.returns-clause-quiet
+returns-clause-quiet g c =
+    let s = g.P.Port.state c.args.port.now in
+    let t = c.args.trail.now in
+    let w = c.literals_left.new.watches in
+    let same = c.literals_left.ensures.same ∙ c.head-head.ensures.same in
+    let good = good_walked s (g.P.Port.state c.head-head.new.self) w t c.literals_left.new.trail c.head-head.ensures.same c.in-Ok.ensures.trail c.in-Ok.ensures.watched c.in-Ok.ensures.reasons c.in-Ok.ensures.quiet in
+    let is = c.as_slice-lits.ensures.value ∙ subst (λ (x : PortState). c.in-Ok.left.items ≡ left_at x (attached c.args.watches.now) t.steps c.args.c.address) c.head-head.ensures.same c.in-Ok.ensures.left in
+    let L = c.as_slice-lits.result.now in
+    let closed = left_closed s c.args.watches.now w t c.args.c L c.present-lawful.ensures.trail c.requires.level good c.in-Ok.ensures.attached is (subst IsPort c.head-head.ensures.same c.head-head.ensures.port) c.requires.held c.in_default-lits.len_at_least in
+    (good_shorter s (g.P.Port.state c.literals_left.new.port) (g.P.Port.state c.derive.new.self) (g.P.Port.state c.attach-in_default-lits.new.port) (g.P.Port.state c.drop_clause-in_default-lits.new.self) c.args.watches.now w c.attach-in_default-lits.new.self
+    t c.literals_left.new.trail c.args.c c.in_ok-shorter-in_default-lits.shorter L c.shorter_glue-glue.result Derive same c.attach-in_default-lits.ensures.same c.in-Ok.ensures.trail good c.in-Ok.ensures.attached c.requires.held
+    c.in_ok-shorter-in_default-lits.ensures.derived c.in_ok-shorter-in_default-lits.ensures.kept closed c.in-Ok-attach-2.ensures.attached c.attach-in_default-lits.ensures.watched c.in_ok-drop_clause-in_default-lits.ensures.dropped).quiet
+
+unit_of : Result Vivified PortStop → Literal → Literal
+unit_of (Ok (Unit l)) k = l
+unit_of (Ok Kept) k = k
+unit_of (Ok (Shorter d)) k = k
+unit_of (Ok Empty) k = k
+unit_of (Err stop) k = k
+
+unit_same : (x y : Literal) (r : Result Vivified PortStop) → r ≡ Ok (Unit x) → r ≡ Ok (Unit y) → x ≡ y
+unfolding unit_of
+unit_same x y r e f = ap (λ (q : Result Vivified PortStop). unit_of q x) (sym e ∙ f)
+
+pub returns-in-len1-clause-open_unit : goal.returns-in-len1-clause-open_unit
+returns-in-len1-clause-open_unit g c = λ l e bad. (
+    let s = g.P.Port.state c.args.port.now in
+    let t = c.args.trail.now in
+    let w = c.literals_left.new.watches in
+    let same = c.literals_left.ensures.same ∙ c.head-head.ensures.same in
+    let good = good_walked s (g.P.Port.state c.head-head.new.self) w t c.literals_left.new.trail c.head-head.ensures.same c.in-Ok.ensures.trail c.in-Ok.ensures.watched c.in-Ok.ensures.reasons c.in-Ok.ensures.quiet in
+    let is = c.as_slice-lits.ensures.value ∙ subst (λ (x : PortState). c.in-Ok.left.items ≡ left_at x (attached c.args.watches.now) t.steps c.args.c.address) c.head-head.ensures.same c.in-Ok.ensures.left in
+    left_open s c.args.watches.now w t c.args.c c.as_slice-lits.result.now l c.present-lawful.ensures.trail c.requires.level good c.in-Ok.ensures.attached is
+    (subst (λ (x : Literal). In x c.as_slice-lits.result.now) (unit_same c.lit-item.result l (Ok (Unit c.lit-item.result)) refl e) (first_in c.as_slice-lits.result.now c.lit-item.result c.in-len1.len_at_least c.lit-item.is)) bad)
+
+pub returns-in-empty-clause-never_empty : goal.returns-in-empty-clause-never_empty
+returns-in-empty-clause-never_empty g c = λ e. (
+    let s = g.P.Port.state c.args.port.now in
+    let t = c.args.trail.now in
+    let w = c.literals_left.new.watches in
+    let same = c.literals_left.ensures.same ∙ c.head-head.ensures.same in
+    let good = good_walked s (g.P.Port.state c.head-head.new.self) w t c.literals_left.new.trail c.head-head.ensures.same c.in-Ok.ensures.trail c.in-Ok.ensures.watched c.in-Ok.ensures.reasons c.in-Ok.ensures.quiet in
+    let is = c.as_slice-lits.ensures.value ∙ subst (λ (x : PortState). c.in-Ok.left.items ≡ left_at x (attached c.args.watches.now) t.steps c.args.c.address) c.head-head.ensures.same c.in-Ok.ensures.left in
+    not_empty s c.args.watches.now w t c.args.c c.as_slice-lits.result.now c.present-lawful.ensures.trail c.requires.level good.reasons good.quiet c.requires.quiet c.requires.member c.in-Ok.ensures.attached is c.in-empty.len_below)
+
+pub returns-in_err-unit-in-len1-clause-others : goal.returns-in_err-unit-in-len1-clause-others
+returns-in_err-unit-in-len1-clause-others g c = λ a ne held. others_refused (g.P.Port.state c.args.port.now) (g.P.Port.state c.literals_left.new.port) (g.P.Port.state c.unit.new.self) a _ (c.literals_left.ensures.same ∙ c.head-head.ensures.same) c.in_err-unit-in-len1.ensures.written
+
+pub returns-in_err-drop_clause-in-len1-clause-others : goal.returns-in_err-drop_clause-in-len1-clause-others
+returns-in_err-drop_clause-in-len1-clause-others g c = λ a ne held.
+    others_wrote (g.P.Port.state c.args.port.now) (g.P.Port.state c.literals_left.new.port) (g.P.Port.state c.unit.new.self) (g.P.Port.state c.drop_clause.new.self) a c.lit-item.result _ _ (c.literals_left.ensures.same ∙ c.head-head.ensures.same)
+    c.in_ok-unit-in-len1.ensures.written c.in_err-drop_clause-in-len1.ensures.dropped.1
+
+pub returns-in-len1-clause-others : goal.returns-in-len1-clause-others
+returns-in-len1-clause-others g c = λ a ne held.
+    others_unit (g.P.Port.state c.args.port.now) (g.P.Port.state c.literals_left.new.port) (g.P.Port.state c.unit.new.self) (g.P.Port.state c.drop_clause.new.self) c.args.c.address a c.lit-item.result _ _ (c.literals_left.ensures.same ∙ c.head-head.ensures.same)
+    c.in_ok-unit-in-len1.ensures.written c.in_ok-drop_clause-in-len1.ensures.dropped ne
+
+pub returns-clause-others : goal.returns-clause-others
+returns-clause-others g c = λ a ne held.
+    others_shorter (g.P.Port.state c.args.port.now) (g.P.Port.state c.literals_left.new.port) (g.P.Port.state c.derive.new.self) (g.P.Port.state c.attach-in_default-lits.new.port) (g.P.Port.state c.drop_clause-in_default-lits.new.self) c.args.c.address a
+    (c.literals_left.ensures.same ∙ c.head-head.ensures.same) c.in_ok-shorter-in_default-lits.ensures.kept c.attach-in_default-lits.ensures.same c.in_ok-drop_clause-in_default-lits.ensures.dropped ne held
+
+-- a refusal after the line of what is left
+cut_short : (old m n : PortState) (v : WatchData) (steps : List Step) (c : Cref) (r : Result Vivified PortStop) (stop stop' : PortStop) → WroteLeft old m v steps c → n ≡ m → r ≡ Err stop → stop ≡ stop' → stop' ≡ Memory → IfErr r (WasCutShort old n v steps c)
+cut_short old m n v steps c r stop stop' wrote same e is memory =
+    subst (λ (x : Result Vivified PortStop). IfErr x (WasCutShort old n v steps c)) (sym e)
+    (subst (WasCutShort old n v steps c) (sym (is ∙ memory)) record { middle = m; before = inr wrote; refused = record { reason = tt; state = same } })
+
+one_list : (L M : List Literal) (l : Literal) → L ≡ M → 1 ≤ length L → length L < 2 → l ≡ get_or L 0 l → M ≡ l ∷ []
+one_list [] M l is some few e = absurd (omega arith)
+one_list (x ∷ []) M l is some few e = sym is ∙ ap (λ (y : Literal). y ∷ []) (sym e)
+one_list (x ∷ y ∷ L) M l is some few e = absurd (omega arith)
+
+pub returns-in_err-drop_clause-in-len1-clause-stopped : goal.returns-in_err-drop_clause-in-len1-clause-stopped
+returns-in_err-drop_clause-in-len1-clause-stopped g c =
+    let s = g.P.Port.state c.args.port.now in
+    let t = c.args.trail.now in
+    let m = g.P.Port.state c.unit.new.self in
+    let p = err_from_is_err_and c.from_residual-in_err-drop_clause-in-len1.result c.from_residual-in_err-drop_clause-in-len1.ensures.1 in
+    let is = c.as_slice-lits.ensures.value ∙ subst (λ (x : PortState). c.in-Ok.left.items ≡ left_at x (attached c.args.watches.now) t.steps c.args.c.address) c.head-head.ensures.same c.in-Ok.ensures.left in
+    let one = one_list c.as_slice-lits.result.now (left_at s (attached c.args.watches.now) t.steps c.args.c.address) c.lit-item.result is c.in-len1.len_at_least c.in-len1.len_below c.lit-item.is in
+    let wrote = subst (λ (x : PortState). WroteUnit x m c.lit-item.result UnitLine x.last) (c.literals_left.ensures.same ∙ c.head-head.ensures.same) c.in_ok-unit-in-len1.ensures.written in
+    cut_short s m (g.P.Port.state c.drop_clause.new.self) c.args.watches.now t.steps c.args.c c.from_residual-in_err-drop_clause-in-len1.result p.0 c.in_err-drop_clause-in-len1.field-0.0
+    (inr (c.lit-item.result, one, wrote)) c.in_err-drop_clause-in-len1.ensures.dropped.1 p.1 p.2 c.in_err-drop_clause-in-len1.ensures.dropped.0
+
+pub returns-in_err-drop_clause-in_default-lits-clause-stopped : goal.returns-in_err-drop_clause-in_default-lits-clause-stopped
+returns-in_err-drop_clause-in_default-lits-clause-stopped g c =
+    let s = g.P.Port.state c.args.port.now in
+    let t = c.args.trail.now in
+    let G = others s (attached c.args.watches.now) c.args.c.address c.args.trail.now.steps in
+    let d = lits_at s c.args.c.address in
+    let m = g.P.Port.state c.derive.new.self in
+    let p = err_from_is_err_and c.from_residual-in_err-drop_clause-in_default-lits.result c.from_residual-in_err-drop_clause-in_default-lits.ensures.1 in
+    let is : c.as_slice-lits.result.now ≡ left_of G d = c.as_slice-lits.ensures.value ∙ subst (λ (x : PortState). c.in-Ok.left.items ≡ left_at x (attached c.args.watches.now) c.args.trail.now.steps c.args.c.address) c.head-head.ensures.same c.in-Ok.ensures.left in
+    let n : length c.as_slice-lits.result.now ≡ length (left_of G d) = ap (λ (L : List Literal). length L) is in
+    let h = head_glue s c.args.c.address c.head-head.result c.requires.held c.head-head.ensures.value in
+    let glue : c.shorter_glue-glue.result ≡ min (glue_at s c.args.c.address) (length (left_of G d) - 1) = c.shorter_glue-glue.ensures ∙ ap (λ (a : ℕ). min a (length c.as_slice-lits.result.now - 1)) h ∙ ap (λ (k : ℕ). min (glue_at s c.args.c.address) (k - 1)) n in
+    let added = subst (λ (k : ℕ). AddedClause s m (left_of G d) k Derive c.in_ok-shorter-in_default-lits.shorter) glue
+    (subst (λ (L : List Literal). AddedClause s m L c.shorter_glue-glue.result Derive c.in_ok-shorter-in_default-lits.shorter) is
+    (subst (λ (x : PortState). AddedClause x m c.as_slice-lits.result.now c.shorter_glue-glue.result Derive c.in_ok-shorter-in_default-lits.shorter) (c.literals_left.ensures.same ∙ c.head-head.ensures.same) c.in_ok-shorter-in_default-lits.ensures.derived)) in
+    cut_short s m (g.P.Port.state c.drop_clause-in_default-lits.new.self) c.args.watches.now t.steps c.args.c c.from_residual-in_err-drop_clause-in_default-lits.result p.0 c.in_err-drop_clause-in_default-lits.field-0.0
+    (inl (c.in_ok-shorter-in_default-lits.shorter, added)) (c.in_err-drop_clause-in_default-lits.ensures.dropped.1 ∙ c.attach-in_default-lits.ensures.same) p.1 p.2 c.in_err-drop_clause-in_default-lits.ensures.dropped.0

@@ -1,15 +1,14 @@
-use Rattle.std.proofs.Common.{◌≡◌, ◌∙◌, ◌≤◌, ◌<◌, ◌+◌, ℕ, List, [], sym, ap, subst, arith, length}
+use Rattle.std.proofs.Common.{◌≡◌, ◌∙◌, List, [], sym, ap, subst, arith}
 use Rattle.sat_words.specs.Literal.{Literal}
 use Rattle.sat_words.specs.declared.shared.Cref.{Cref}
-use Rattle.ring_port.specs.PortState.{PortState, lits_at, known}
-use Rattle.rup_model.specs.Rup.{rup}
+use Rattle.ring_port.specs.PortState.{PortState, lits_at}
 use Rattle.ring_trail.specs.TrailData.{TrailData}
-use Rattle.watch_prop.specs.WatchData.{attached, WatchData, without}
+use Rattle.watch_prop.specs.WatchData.{attached}
 use Rattle.watch_prop.specs.Watched.{Watched}
 use Rattle.watch_prop.specs.Propagation.{HasReasons, IsQuiet}
 use Rattle.watch_prop.proofs.DetachingLaws.{Reasons-without, Closed-at}
 use Rattle.vivify.specs.Walk.{walk_from}
-use Rattle.vivify.specs.Walking.{HasWalked, IsWalking, ground}
+use Rattle.vivify.specs.Walking.{IsWalking, ground}
 use Rattle.vivify.proofs.Walked.{detached, others_are, back_again, watched_back}
 use Rattle.vivify.proofs.walk.literals_left.Goals as goal
 

@@ -4,9 +4,14 @@
 mod candidate;
 mod choice;
 mod dropping;
+mod laws;
 mod moment;
 mod reasons;
 mod reducing;
 
+pub use laws::lemmas_come_and_go;
 pub use moment::due;
 pub use reducing::reduce;
+
+#[cfg(test)]
+mod tests;

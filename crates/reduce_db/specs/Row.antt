@@ -2,7 +2,7 @@
 use Rattle.std.specs.Prelude.{◌≡◌, ℕ, Bool, true, false, List, [], ◌∷◌, Some}
 use Rattle.sat_words.specs.Literal.{Literal}
 use Rattle.sat_words.specs.declared.shared.Cref.{Cref}
-use Rattle.ring_port.specs.PortState.{Holding, PortState, held_at, lits_at}
+use Rattle.ring_port.specs.PortState.{Holding, PortState, IsPort, held_at, lits_at}
 use Rattle.ring_port.specs.Port.{is_usable}
 use Rattle.ring_trail.specs.TrailData.{TrailData}
 use Rattle.watch_prop.specs.WatchData.{WatchData, attached}
@@ -28,10 +28,11 @@ pub record IsRow (s : PortState) : Type 0 where
   pub source : held_at s 0 ≡ Some source_held
   pub usable : is_usable s.refused ≡ true
   pub taken : s.taken ≡ []
+  pub port : IsPort s
 
 -- and the lemmas are attached
 pub record HasLemmas (s : PortState) (w : WatchData) (t : TrailData) (lemmas : List Cref) : Type 0 where
   pub row : IsRow s
   pub vars : w.vars ≡ 3
   pub watched : Watched w (lits_at s) t
-  pub lemmas : AreLemmas s (attached w) lemmas
+  pub are : AreLemmas s (attached w) lemmas

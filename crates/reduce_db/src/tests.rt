@@ -1,5 +1,7 @@
 // Five lemmas over the port in memory, and when a reduction is due.
-ghost use Rattle.std.specs.Prelude.{◌≡◌, ◌≤◌, true, IfOk, OnOk};
+ghost use Rattle.std.specs.Prelude.{◌≡◌, true, All, IfOk, IsSome, OnOk};
+ghost use Rattle.sat_words.specs.declared.shared.Cref.{Cref};
+ghost use Rattle.ring_port.specs.PortState.{held_at};
 ghost use Rattle.ring_port.specs.Port.{is_usable};
 ghost use Rattle.reduce_db.specs.Row.{row_starts, IsRow, HasLemmas};
 
@@ -45,6 +47,35 @@ fn add_lemma<P: Port>(
     Ok(())
 }
 
+/// Attaches a copy of each of these glues.
+fn add_lemmas<P: Port>(
+    port: &mut P,
+    watches: &mut Watches,
+    trail: &Trail,
+    lemmas: &mut Vec<Cref>,
+    glues: &[u32],
+) -> Result<(), Fail>
+    requires { HasLemmas (P.state port.old) watches.old trail.now lemmas.old.items }
+    ensures { OnOk result (HasLemmas (P.state port.new) watches.new trail.now lemmas.new.items) }
+{
+    for glue in glues {
+        add_lemma(port, watches, trail, lemmas, *glue)?;
+    }
+    Ok(())
+}
+
+/// The glues of clauses that are held.
+fn glues_of<P: Port>(alloc: Global, port: &mut P, lemmas: &[Cref]) -> Result<Vec<u32>, AllocError>
+    requires { All (λ (c : Cref). IsSome (held_at (P.state port.old) c.address)) lemmas.now }
+    ensures { P.state port.new ≡ P.state port.old }
+{
+    let mut glues = Vec::new(alloc);
+    for c in lemmas {
+        glues.push(port.head(*c).glue)?;
+    }
+    Ok(glues)
+}
+
 /// The glues of the lemmas that are left of five.
 fn reduce_five<P: Port>(alloc: Global, port: &mut P) -> Result<Vec<u32>, Fail>
     requires { IsRow (P.state port.old) }
@@ -53,16 +84,12 @@ fn reduce_five<P: Port>(alloc: Global, port: &mut P) -> Result<Vec<u32>, Fail>
     let mut watches = Watches::new(alloc, 3)?;
     let trail = Trail::new(alloc, 3)?;
     let mut lemmas = Vec::new(alloc);
-    for glue in [9, 3, 5, 3, 4] {
-        add_lemma(port, &mut watches, &trail, &mut lemmas, glue)?;
+    add_lemmas(port, &mut watches, &trail, &mut lemmas, &[9, 3, 5, 3, 4])?;
+    match reduce(alloc, port, &mut watches, &trail, &mut lemmas) {
+        Ok(()) => {}
+        Err(_) => return Err("a refusal".into()),
     }
-    if reduce(alloc, port, &mut watches, &trail, &mut lemmas).is_err() {
-        return Err("a refusal".into());
-    }
-    let mut glues = Vec::new(alloc);
-    for c in &lemmas {
-        glues.push(port.head(*c).glue)?;
-    }
+    let glues = glues_of(alloc, port, lemmas.as_slice())?;
     Ok(glues)
 }
 

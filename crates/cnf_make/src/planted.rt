@@ -2,7 +2,8 @@
 // four words for each clause: three of them choose its variables, which differ, and the fourth its signs. A clause that
 // the hidden values make false gets one of its literals negated. So the hidden values satisfy every clause ("planted"
 // satisfiability, as in Achlioptas and others 2005), and the same number gives the same formula everywhere.
-ghost use Rattle.std.specs.Prelude.{◌≡◌, ◌<◌, ◌≤◌, IfOk, true, length};
+ghost use Rattle.std.specs.Prelude.{◌≡◌, ◌<◌, ◌≤◌, All, IfOk, true, length};
+ghost use Rattle.sat_words.specs.Literal.{IsOn};
 ghost use Rattle.sat_words.specs.Truth.{lit_true, formula_true};
 ghost use Rattle.cnf_make.specs.Made.{made_vars, draw_of, behind_draw, drawn_lit, turned_if, mended, planted, hidden, made};
 
@@ -19,9 +20,10 @@ pub const CLAUSES: u32 = 60000;
 /// The stream of the generator.
 const STREAM: u64 = 1;
 
-/// The formula of this number. Its hidden values satisfy each clause.
+/// The formula of this number. Its hidden values satisfy each clause, and its literals are on its variables.
 pub fn make(alloc: Global, number: u64) -> Result<Formula, AllocError>
     ensures made { IfOk result (λ f. f ≡ made number) }
+    ensures on { IfOk result (λ f. All (All (IsOn f.vars)) f.clauses) }
     ensures planted { IfOk result (λ f. formula_true (hidden number) f.clauses ≡ true) }
 {
     a_clause_is_a_set();

@@ -1,11 +1,12 @@
-use Rattle.std.proofs.Common.{◌≡◌, ◌∙◌, ℕ, ◌+◌, ◌++◌, Bool, List, [], ◌∷◌, sym, ap, arith, append-nil, subst}
-use Rattle.sat_words.specs.Literal.{Literal}
+use Rattle.std.proofs.Common.{◌≡◌, ◌∙◌, ℕ, ◌+◌, ◌++◌, All, Bool, List, [], ◌∷◌, sym, ap, arith, append-nil, subst}
+use Rattle.sat_words.specs.Literal.{Literal, IsOn}
 use Rattle.sat_words.specs.Clause.{clause_of}
 use Rattle.sat_words.specs.FormulaData.{FormulaData}
 use Rattle.sat_words.specs.Truth.{formula_true}
 use Rattle.random_bits.specs.Bits.{rest_from}
 use Rattle.cnf_make.specs.Made.{made_vars, made_clauses, draw_of, planted, hidden, source, clauses_from}
 use Rattle.cnf_make.proofs.Clauses.{clauses-zero, clauses-next, clauses-true}
+use Rattle.cnf_make.proofs.OnVariables.{pushed}
 use Rattle.cnf_make.proofs.planted.make.Goals as goal
 
 pub loop-i-preserved : goal.loop-i-preserved
@@ -24,6 +25,8 @@ loop-i-preserved c =
     record {
       values = v;
       vars = ap (λ (f : FormulaData). f.vars) p ∙ c.loop-i.invariant.vars;
+      on = subst (λ (xs : List (List Literal)). All (All (IsOn made_vars)) xs) (sym (ap (λ (f : FormulaData). f.clauses) p))
+          (pushed h (draw_of g) c.loop-i.formula.clauses c.in_ok-from_lits.field-0 c.loop-i.invariant.on ce);
       clauses = subst (λ (xs : List (List Literal)). (m : ℕ) → clauses_from h before (c.loop-i._i + 1 + m) ≡ xs ++ clauses_from h k m) (sym (ap (λ (f : FormulaData). f.clauses) p)) next;
     }
 
@@ -42,3 +45,6 @@ returns-clause-planted c =
     let n = c.args.number in
     ap (λ (f : FormulaData). formula_true (hidden n) f.clauses) (returns-clause-made c)
     ∙ clauses-true (hidden n) c.a_clause_is_a_set.ensures.members c.truth_is_of_the_set.ensures made_clauses (rest_from (source n) made_vars)
+
+pub returns-clause-on : goal.returns-clause-on
+returns-clause-on c = subst (λ (n : ℕ). All (All (IsOn n)) c.loop-i.formula.clauses) (sym c.loop-i.invariant.vars) c.loop-i.invariant.on

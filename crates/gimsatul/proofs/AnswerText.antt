@@ -1,9 +1,8 @@
 -- The values on their way to a sink: some of their text was written, some waits in the piece, and some words are left.
-use Rattle.std.proofs.Common.{◌≡◌, ◌∙◌, ℕ, suc, ◌+◌, ◌-◌, ◌<◌, ◌≤◌, ◌^◌, min, List, [], ◌∷◌, ◌++◌, length, take, map, codes, Result, Ok, Err, IfErr, append_assoc, refl, ap, sym, subst, arith, Bool}
+use Rattle.std.proofs.Common.{◌≡◌, ◌∙◌, ℕ, suc, ◌+◌, ◌-◌, ◌<◌, ◌≤◌, ◌^◌, min, List, [], ◌∷◌, ◌++◌, length, map, codes, append_assoc, refl, ap, sym, subst, arith, Bool}
 use Rattle.std.specs.declared.option.Option.{Option}
 use Rattle.std.specs.List.{range_with_len}
 use Rattle.sat_words.specs.Literal.{lit_text}
-use Rattle.io_edge.specs.declared.edge.WriteStop.{WriteStop}
 use Rattle.io_edge.specs.Bytes.{GrowsBy}
 use Rattle.drat_text.specs.Cut.{WasCut}
 use Rattle.drat_text.specs.PieceCut.{PieceWasCut}
@@ -35,8 +34,8 @@ pub record Printing (start now : Option (List ℕ)) (text piece : List ℕ) (use
   pub progress : Progress start now line piece taken
   pub split : line ++ wrapped used rest ≡ text
 
-pub printing_none : (start : Option (List ℕ)) (head : List ℕ) (used : ℕ) (rest : List (List ℕ)) → Printing start start (head ++ wrapped used rest) head used 0 rest
-printing_none start head used rest = record { line = head; progress = progress_none start head; split = refl }
+pub printing_begun : (start : Option (List ℕ)) (head line : List ℕ) (used : ℕ) (rest : List (List ℕ)) → Printing start start (head ++ (line ++ wrapped used rest)) (head ++ line) used 0 rest
+printing_begun start head line used rest = record { line = head ++ line; progress = progress_none start (head ++ line); split = append_assoc head line (wrapped used rest) }
 
 -- a word was put into the piece
 pub printing_put : (start now : Option (List ℕ)) (text piece piece2 : List ℕ) (used used2 taken : ℕ) (word : List ℕ) (rest : List (List ℕ))
@@ -86,11 +85,3 @@ printing_last start now text piece piece2 piece3 used used2 taken var vars model
     let put = printing_put start now text piece piece2 used used2 taken (codes "0") [] before zero in
     progress_renamed start now now (put.line ++ codes "\n") text (piece2 ++ codes "\n") piece3 taken taken
     (progress_pushed start now put.line piece2 (codes "\n") taken put.progress) refl (sym put.split) newline refl
-
--- a text was written at once, or a part of it
-pub written_at_once : (old new : Option (List ℕ)) (text : List ℕ) (result : Result (Unit {0}) WriteStop) → length text < 2 ^ 64
-    → IfErr result (λ stop. stop.taken < length text) → IfErr result (λ stop. GrowsBy old new (take stop.taken text))
-    → IfErr result (λ stop. WasCut old new text stop.taken)
-written_at_once old new text (Ok x) small short grown = tt
-written_at_once old new text (Err stop) small short grown =
-    record { part = record { cut = stop.taken; grown = grown }; short = short; told = omega arith }

@@ -1,6 +1,6 @@
 -- What a search says once its lines are finished.
-use Rattle.std.proofs.Common.{◌≡◌, ◌∙◌, ◌^◌, ℕ, zero, suc, ◌+◌, ◌≤◌, ◌<◌, true, false, List, [], ◌∷◌, ◌++◌, take, drop, Some, None, Ok, Err, refl, sym, ap, subst, inl, inr, arith, append_assoc, append-nil, take-append-drop}
-use Rattle.std.specs.Prelude.{All, Result}
+use Rattle.std.proofs.Common.{◌≡◌, ◌∙◌, ◌^◌, ℕ, zero, suc, true, false, List, [], ◌∷◌, ◌++◌, take, drop, Some, None, refl, sym, ap, subst, inl, inr, arith, append_assoc, append-nil, take-append-drop}
+use Rattle.std.specs.Prelude.{All, Result, IfSome}
 use Rattle.std.specs.declared.option.Option.{Option}
 use Rattle.std.specs.Io.KnownBytes.{append_known}
 use Rattle.std.proofs.lemmas.Bool.{cases_Bool}
@@ -13,7 +13,7 @@ use Rattle.sat_words.specs.Literal.{Literal, IsOn}
 use Rattle.sat_words.specs.FormulaData.{FormulaData}
 use Rattle.sat_words.specs.declared.line.Line.{Line}
 use Rattle.sat_words.specs.declared.line.Line.TheVariants.{Add as AddLine}
-use Rattle.rup_model.specs.Rup.{rup, rat}
+use Rattle.rup_model.specs.Rup.{rup}
 use Rattle.rup_model.specs.Log.{Accepted, lits_of, alive, is_valid}
 use Rattle.rup_model.specs.Journal.{lines}
 use Rattle.rup_model.specs.declared.journal.Entry.{Entry}
@@ -26,7 +26,8 @@ use Rattle.drat_text.proofs.Text.{text-push}
 use Rattle.gimsatul.specs.declared.report.Verdict.{Verdict}
 use Rattle.gimsatul.specs.declared.report.End.{End}
 use Rattle.gimsatul.specs.Journaled.{CanBeSpelled, HoldsText, IsCutShort}
-use Rattle.gimsatul.specs.Searched.{IsSearch, WroteAll, BrokeOff, HasClosed}
+use Rattle.gimsatul.specs.Logged.{IsFrontTold, IsSameTold, TellsKept}
+use Rattle.gimsatul.specs.Searched.{IsSearch, HasClosed}
 
 abbrev IsSpelled : Line → Type 0
 IsSpelled x = All (IsOn (2 ^ 30)) (lits_of x)
@@ -68,7 +69,7 @@ module _ (F : List (List Literal)) (J : List Entry) (L more : List Line) (x : Li
         bytes = t.ends;
       }
 
-  pub cut_short : (all written : Option (List ℕ)) → HoldsText all (text (L ++ x ∷ [])) → IsFront written all → IsCutShort F J written
+  pub cut_short : (all written : Option (List ℕ)) → HoldsText all (text (L ++ x ∷ [])) → IsFrontTold written all → IsCutShort F J written
   cut_short all None holds f = record { front = L; rest = more; front_of = front_of; line = x; cut = 0; accepted = accepted; spelled = spelled; bytes = tt }
   cut_short None (Some bytes) holds f = absurd (let e = f.whole in let no : ⊥ = cc in no)
   cut_short (Some xs) (Some bytes) holds f =
@@ -77,12 +78,43 @@ module _ (F : List (List Literal)) (J : List Entry) (L more : List Line) (x : Li
       cut_at bytes (cut_text L x bytes f.rest (sym same ∙ holds))
 
 -- what holds a text holds one that is longer once it grew
-longer : (w : Option (List ℕ)) (t u : List ℕ) → HoldsText w t → HoldsText (append_known w u) (t ++ u)
+pub longer : (w : Option (List ℕ)) (t u : List ℕ) → HoldsText w t → HoldsText (append_known w u) (t ++ u)
 longer None t u h = tt
 longer (Some bytes) t u h = ap (λ (bs : List ℕ). bs ++ u) h
 
-front_of_more : (w all : Option (List ℕ)) (u : List ℕ) → IsFront w all → IsFront w (append_known all u)
-front_of_more w all u f = record { rest = f.rest ++ u; whole = ap (λ (k : Option (List ℕ)). append_known k u) f.whole ∙ append_known-append w f.rest u }
+front_of_more : (w all : Option (List ℕ)) (u : List ℕ) → IsFrontTold w all → IsFrontTold w (append_known all u)
+front_of_more None all u f = tt
+front_of_more (Some bytes) all u f = record { rest = f.rest ++ u; whole = ap (λ (k : Option (List ℕ)). append_known k u) f.whole ∙ append_known-append (Some bytes) f.rest u }
+
+-- a front of bytes is one where they are told
+pub front_told : (w all : Option (List ℕ)) → IsFront w all → IsFrontTold w all
+front_told None all f = tt
+front_told (Some bytes) all f = f
+
+-- what holds where some bytes are told holds where others that are the same are
+same_told : (P : Option (List ℕ) → Type 0) (w all : Option (List ℕ)) → P None → IsSameTold w all → P all → P w
+same_told P None all none e h = none
+same_told P (Some bytes) all none e h = subst P e h
+
+same_cut : (F : List (List Literal)) (J : List Entry) (w all : Option (List ℕ)) → IsSameTold w all → IsCutShort F J all → IsCutShort F J w
+same_cut F J w all e s = record {
+  front = s.front;
+  rest = s.rest;
+  front_of = s.front_of;
+  line = s.line;
+  cut = s.cut;
+  accepted = s.accepted;
+  spelled = s.spelled;
+  bytes = same_told (λ (k : Option (List ℕ)). HoldsText k (text s.front ++ take s.cut (line_text s.line))) w all tt e s.bytes;
+}
+
+-- a text is that of one list of lines; so lines that were kept are those whose text was told
+abbrev pub Unique : Type 0
+Unique = (L M : List Line) → CanBeSpelled L → CanBeSpelled M → text L ≡ text M → L ≡ M
+
+kept_lines : (unique : Unique) (kept : Option (List Line)) (told : Option (List ℕ)) (L : List Line) → TellsKept kept told → CanBeSpelled L → HoldsText told (text L) → IfSome kept (λ K. K ≡ L)
+kept_lines unique None told L t spelled holds = tt
+kept_lines unique (Some K) told L t spelled holds = unique K L t.0 spelled (subst (λ (w : Option (List ℕ)). HoldsText w (text L)) t.1 holds)
 
 -- a line that is valid anywhere
 abbrev any_line : Line
@@ -100,7 +132,7 @@ any_line_is_spelled (suc k) x lt j l less = absurd (omega arith)
 
 -- a writer that has a front of what a search gave it
 cut_search : (limit : ℕ) (formula : FormulaData) (verdict : Result Verdict End) (count faults : ℕ) (all written : Option (List ℕ))
-    → (h : IsSearch limit formula verdict count faults all) → IsFront written all → IsCutShort formula.clauses h.journal written
+    → (h : IsSearch limit formula verdict count faults all None) → IsFrontTold written all → IsCutShort formula.clauses h.journal written
 cut_search limit formula verdict count faults all written h f = by faults refl
   where
     L : List Line
@@ -129,19 +161,28 @@ cut_search limit formula verdict count faults all written h f = by faults refl
     by zero e = whole e
     by (suc n) e = short (λ none. absurd (omega (arith, e, none)))
 
-pub closed_search : (limit : ℕ) (formula : FormulaData) (verdict told : Result Verdict End) (count : ℕ) (out : LineState) (faults : ℕ) (written : Option (List ℕ))
-    → IsSearch limit formula verdict count out.faults out.written → (out.spent ≡ true → Rose 0 out.faults) → (out.spent ≡ false → out.faults ≡ 0)
-    → HasClosed out verdict told faults written → IsSearch limit formula told count faults written
-closed_search limit formula verdict told count out faults written h rose still (inl w) =
-    subst (λ (v : Result Verdict End). IsSearch limit formula v count faults written) (sym w.is)
-    (subst (λ (n : ℕ). IsSearch limit formula verdict count n written) (sym w.quiet) (subst (λ (k : Option (List ℕ)). IsSearch limit formula verdict count out.faults k) (sym w.bytes) h))
-closed_search limit formula verdict told count out faults written h rose still (inr b) =
+pub closed_search : (unique : Unique) (limit : ℕ) (formula : FormulaData) (verdict told : Result Verdict End) (count : ℕ) (out : LineState) (faults : ℕ) (written : Option (List ℕ)) (kept : Option (List Line))
+    → IsSearch limit formula verdict count out.faults out.written None → (out.spent ≡ true → Rose 0 out.faults) → (out.spent ≡ false → out.faults ≡ 0)
+    → HasClosed out verdict told faults written → TellsKept kept out.written → IsSearch limit formula told count faults written kept
+closed_search unique limit formula verdict told count out faults written kept h rose still (inl w) tells =
+    subst (λ (v : Result Verdict End). IsSearch limit formula v count faults written kept) (sym w.is)
+    (subst (λ (n : ℕ). IsSearch limit formula verdict count n written kept) (sym w.quiet) (record {
+      journal = h.journal;
+      stands = h.stands;
+      counts = h.counts;
+      within = h.within;
+      conclusion = h.conclusion;
+      whole = λ none. same_told (λ (k : Option (List ℕ)). HoldsText k (text (lines formula.clauses h.journal))) written out.written tt w.bytes (h.whole none);
+      short = λ some. same_cut formula.clauses h.journal written out.written w.bytes (h.short some);
+      keeps = λ none. kept_lines unique kept out.written (lines formula.clauses h.journal) tells h.stands.spelled (h.whole none);
+    }))
+closed_search unique limit formula verdict told count out faults written kept h rose still (inr b) tells =
     let failed : Rose 0 faults = elim (cases_Bool out.spent) as (λ _. Rose 0 faults) [
       | inl e ↦ subst (Rose 0) (sym (b.before e)) (rose e)
       | inr e ↦ subst (λ (n : ℕ). Rose n faults) (still e) (b.now e)
     ] in
     let cut = cut_search limit formula verdict count out.faults out.written written h b.front in
-    subst (λ (v : Result Verdict End). IsSearch limit formula v count faults written) (sym b.is) (record {
+    subst (λ (v : Result Verdict End). IsSearch limit formula v count faults written kept) (sym b.is) (record {
       journal = h.journal;
       stands = h.stands;
       counts = h.counts;
@@ -149,6 +190,7 @@ closed_search limit formula verdict told count out faults written h rose still (
       conclusion = failed;
       whole = λ none. absurd (omega arith);
       short = λ _. cut;
+      keeps = λ none. absurd (omega arith);
     })
 
 -- an output to which nothing was written and behind which nothing waits

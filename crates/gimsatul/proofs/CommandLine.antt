@@ -1,5 +1,5 @@
 -- What a parse of the program's command gives.
-use Rattle.std.proofs.Common.{◌≡◌, ◌∙◌, ◌<◌, ◌≤◌, ◌^◌, ◌⊎◌, ℕ, zero, suc, Bool, true, false, not, List, [], ◌∷◌, length, map, codes, refl, sym, ap, subst, arith, inl, inr, Some, None, true≢false, is_some}
+use Rattle.std.proofs.Common.{◌≡◌, ◌∙◌, ◌<◌, ◌≤◌, ◌^◌, ◌-◌, ◌⊎◌, ℕ, zero, suc, Bool, true, false, not, List, [], ◌∷◌, length, map, codes, refl, sym, ap, subst, arith, inl, inr, Some, None, true≢false, is_some}
 use Rattle.std.specs.Prelude.{find, option_map, option_and_then, slice_get}
 use Rattle.std.specs.List.{All, slice_index_or}
 use Rattle.std.specs.Str.{bytes_eq}
@@ -8,12 +8,12 @@ use Rattle.std.specs.declared.option.Option.{Option}
 use Rattle.std.proofs.lemmas.List.{get_or-map, length-map}
 use Rattle.std.proofs.lemmas.List.Elements.{All-get_or}
 use Rattle.std.proofs.lemmas.Slice.Eq.{bytes_eq-Decides}
-use Rattle.clap.specs.Words.{Accepts, App, IsAmong, IsParsedFrom, IsPlain, IsPlainArg, Kinds, Rule, SameRules, app_of, args_of, fault_of, found_of, groups_of, is_simple, is_simple_and_free, items_of, matched_of, matches_of, parser_of, read_as, reading_of, rule_of}
+use Rattle.clap.specs.Words.{Accepts, App, IsAmong, IsParsedFrom, IsPlain, IsPlainArg, Kinds, Rule, SameRules, app_of, args_of, fault_of, found_of, groups_of, is_simple, is_simple_and_free, items_of, matched_of, matches_of, one_text, parser_of, read_as, reading_of, rule_of}
 use Rattle.clap.specs.Facts.{Entry, EntryPasses, HasIn, PassesArg, least_values, parser_of_value, unwrap_or_range}
 use Rattle.clap.specs.Walk.{is_free_arg, is_simple_arg}
 use Rattle.clap.specs.declared.builder.action.ArgAction.TheVariants.{Set, Count}
 use Rattle.clap.specs.declared.builder.arg.Arg.{Arg}
-use Rattle.clap.specs.declared.builder.command.Command.{Command as ClapCommand}
+use Rattle.clap.specs.declared.builder.command.Command.{Command as ClapCommand, out-Command}
 use Rattle.clap.specs.declared.builder.value_parser.ValueParser.{ValueParser}
 use Rattle.clap.specs.declared.builder.value_parser.ValueParser.TheVariants.{Unsigned}
 use Rattle.clap.specs.declared.builder.value_parser.Reading.{Reading}
@@ -23,7 +23,7 @@ use Rattle.clap.specs.declared.error.kind.ErrorKind.{ErrorKind}
 use Rattle.clap.proofs.CallerLemmas.{default_present, entry_by_id, same_rules_by_id}
 use Rattle.clap.proofs.SimpleLemmas.{is_false, is_nil, plain_fields}
 use Rattle.clap.proofs.WalkLemmas.{both}
-use Rattle.gimsatul.specs.Words.{Command, HasLimit, command_in, command_of, unless_refused, solver_app, conflicts_rule, threads_rule, proof_rule, no_simplify_rule, file_rule}
+use Rattle.gimsatul.specs.Words.{Command, HasNumber, HasLimit, HasMade, command_in, command_of, unless_both, unless_refused, solver_app, conflicts_rule, threads_rule, proof_rule, no_simplify_rule, check_rule, make_rule, file_rule}
 
 pub solver_simple : is_simple solver_app ≡ true
 solver_simple = refl
@@ -31,8 +31,8 @@ solver_simple = refl
 pub solver_free : is_simple_and_free solver_app ≡ true
 solver_free = refl
 
--- words that `clap` takes ask for what the matches say
-pub lawful_words : (words : List (List ℕ)) → fault_of solver_app words ≡ [] → command_of words ≡ Some (command_in (matches_of solver_app words))
+-- words that `clap` takes ask for what the matches say, unless they ask for both
+pub lawful_words : (words : List (List ℕ)) → fault_of solver_app words ≡ [] → command_of words ≡ unless_both (command_in (matches_of solver_app words))
 unfolding command_of
 lawful_words words none = ap (λ (kinds : Kinds). unless_refused kinds (command_in (matches_of solver_app words))) none
 
@@ -48,7 +48,7 @@ refused_words c words kind app among = refused_by (fault_of solver_app words) ki
 -- ---- the arguments
 
 abbrev rules_list : List Rule
-rules_list = conflicts_rule ∷ threads_rule ∷ proof_rule ∷ no_simplify_rule ∷ file_rule ∷ []
+rules_list = conflicts_rule ∷ threads_rule ∷ proof_rule ∷ no_simplify_rule ∷ check_rule ∷ make_rule ∷ file_rule ∷ []
 
 is_none : {X : Type 0} (o : Option X) → not (is_some o) ≡ true → o ≡ None
 is_none None e = refl
@@ -71,41 +71,51 @@ no_condition a simple =
     let s = both _ _ r.1 in
     (is_nil _ q.0, is_none _ s.0)
 
-all_simple : (k : ℕ) (r : Rule) → k < 5 → ((slice_index_or rules_list k r).is_simple ≡ true) × ((slice_index_or rules_list k r).is_free ≡ true)
+all_simple : (k : ℕ) (r : Rule) → k < 7 → ((slice_index_or rules_list k r).is_simple ≡ true) × ((slice_index_or rules_list k r).is_free ≡ true)
 all_simple zero r lt = (refl, refl)
 all_simple (suc zero) r lt = (refl, refl)
 all_simple (suc (suc zero)) r lt = (refl, refl)
 all_simple (suc (suc (suc zero))) r lt = (refl, refl)
 all_simple (suc (suc (suc (suc zero)))) r lt = (refl, refl)
-all_simple (suc (suc (suc (suc (suc k))))) r lt = absurd (omega arith)
+all_simple (suc (suc (suc (suc (suc zero))))) r lt = (refl, refl)
+all_simple (suc (suc (suc (suc (suc (suc zero)))))) r lt = (refl, refl)
+all_simple (suc (suc (suc (suc (suc (suc (suc k))))))) r lt = absurd (omega arith)
 
-one_limit : (k : ℕ) (r : Rule) → k < 5 → bytes_eq (slice_index_or rules_list k r).id (codes "conflicts") ≡ true → k ≡ 0
+one_limit : (k : ℕ) (r : Rule) → k < 7 → bytes_eq (slice_index_or rules_list k r).id (codes "conflicts") ≡ true → k ≡ 0
 one_limit zero r lt e = refl
 one_limit (suc zero) r lt e = absurd (true≢false (sym e))
 one_limit (suc (suc zero)) r lt e = absurd (true≢false (sym e))
 one_limit (suc (suc (suc zero))) r lt e = absurd (true≢false (sym e))
 one_limit (suc (suc (suc (suc zero)))) r lt e = absurd (true≢false (sym e))
-one_limit (suc (suc (suc (suc (suc k))))) r lt e = absurd (omega arith)
+one_limit (suc (suc (suc (suc (suc zero))))) r lt e = absurd (true≢false (sym e))
+one_limit (suc (suc (suc (suc (suc (suc zero)))))) r lt e = absurd (true≢false (sym e))
+one_limit (suc (suc (suc (suc (suc (suc (suc k))))))) r lt e = absurd (omega arith)
+
+one_make : (k : ℕ) (r : Rule) → k < 7 → bytes_eq (slice_index_or rules_list k r).id (codes "make") ≡ true → k ≡ 5
+one_make zero r lt e = absurd (true≢false (sym e))
+one_make (suc zero) r lt e = absurd (true≢false (sym e))
+one_make (suc (suc zero)) r lt e = absurd (true≢false (sym e))
+one_make (suc (suc (suc zero))) r lt e = absurd (true≢false (sym e))
+one_make (suc (suc (suc (suc zero)))) r lt e = absurd (true≢false (sym e))
+one_make (suc (suc (suc (suc (suc zero))))) r lt e = refl
+one_make (suc (suc (suc (suc (suc (suc zero)))))) r lt e = absurd (true≢false (sym e))
+one_make (suc (suc (suc (suc (suc (suc (suc k))))))) r lt e = absurd (omega arith)
 
 first_arg : (xs : List Arg) → 0 < length xs → Arg
 first_arg [] lt = absurd (omega arith)
 first_arg (x ∷ xs) lt = x
 
-not_named : (id : List ℕ) → id ≡ codes "conflicts" → id ≡ [] → ⊥
-not_named id is empty =
-    let nine : length id ≡ 9 = ap length is in
-    let none : length id ≡ 0 = ap length empty in
-    absurd (omega arith)
+-- no id is empty, and none is that of a flag which `clap` adds
+long_id : (id other : List ℕ) → id ≡ other → (length id ≡ length other → ⊥) → ⊥
+long_id id other is apart = apart (ap length is)
 
-not_auto : (id : List ℕ) → id ≡ codes "conflicts" → (id ≡ codes "help") ⊎ (id ≡ codes "version") → ⊥
-not_auto id is (inl h) =
-    let nine : length id ≡ 9 = ap length is in
-    let four : length id ≡ 4 = ap length h in
-    absurd (omega arith)
-not_auto id is (inr h) =
-    let nine : length id ≡ 9 = ap length is in
-    let seven : length id ≡ 7 = ap length h in
-    absurd (omega arith)
+limit_alone : (codes "conflicts" ≡ codes "help") ⊎ (codes "conflicts" ≡ codes "version") → ⊥
+limit_alone (inl h) = long_id (codes "conflicts") (codes "help") h (λ e. absurd (omega (arith, e)))
+limit_alone (inr h) = long_id (codes "conflicts") (codes "version") h (λ e. absurd (omega (arith, e)))
+
+make_alone : (codes "make" ≡ codes "help") ⊎ (codes "make" ≡ codes "version") → ⊥
+make_alone (inl h) = true≢false (sym (ap (λ (t : List ℕ). bytes_eq t (codes "help")) h))
+make_alone (inr h) = long_id (codes "make") (codes "version") h (λ e. absurd (omega (arith, e)))
 
 -- ---- the value of an argument
 
@@ -177,13 +187,32 @@ entry_found (x ∷ xs) id (i, lt, at) = go (entry_found xs id) (bytes_eq x.0.now
     go more false e zero lt at = absurd (true≢false (sym (at x) ∙ e))
     go more false e (suc i) lt at = rw e (more (i, omega arith, at))
 
--- ---- the limit
+-- ---- the numbers
+
+-- an option of the command that takes a number
+record IsOption (place low high : ℕ) (id : List ℕ) (rule : Rule) : Type 0 where
+  pub within : place < 7
+  pub at : (d : Rule) → slice_index_or rules_list place d ≡ rule
+  pub alone : (k : ℕ) (r : Rule) → k < 7 → bytes_eq (slice_index_or rules_list k r).id id ≡ true → k ≡ place
+  pub named : id ≡ [] → ⊥
+  pub other : (id ≡ codes "help") ⊎ (id ≡ codes "version") → ⊥
+  pub id_is : rule.id ≡ id
+  pub simple : rule.is_simple ≡ true
+  pub sets : rule.action ≡ Some Set
+  pub parser : rule.parser ≡ Some (Unsigned low high)
+  pub one : (unwrap_or_range rule.range).start_inclusive ≡ 1
+
+limit_option : IsOption 0 1 (10 ^ 12) (codes "conflicts") conflicts_rule
+limit_option = record { within = omega arith; at = λ d. refl; alone = one_limit; named = λ e. cc e; other = limit_alone; id_is = refl; simple = refl; sets = refl; parser = refl; one = refl }
+
+make_option : IsOption 5 0 (2 ^ 63 - 1) (codes "make") make_rule
+make_option = record { within = omega arith; at = λ d. refl; alone = one_make; named = λ e. cc e; other = make_alone; id_is = refl; simple = refl; sets = refl; parser = refl; one = refl }
 
 module _ (c : ClapCommand) (m : ArgMatches) (app : app_of c ≡ solver_app) (p : IsParsedFrom c m) where
   rules_are : map rule_of (args_of c) ≡ rules_list
   rules_are = ap (λ (a : App). a.top.rules) app
 
-  long : length (args_of c) ≡ 5
+  long : length (args_of c) ≡ 7
   long = sym (length-map (args_of c) rule_of) ∙ ap length rules_are
 
   rule_at : (k : ℕ) (d : Arg) → k < length (args_of c) → rule_of (slice_index_or (args_of c) k d) ≡ slice_index_or rules_list k (rule_of d)
@@ -198,45 +227,84 @@ module _ (c : ClapCommand) (m : ArgMatches) (app : app_of c ≡ solver_app) (p :
     (plain_fields c (ap (λ (a : App). a.top.is_plain) app)).groups,
   )
 
+  no_globals : (out-Command c).has_globals ≡ false
+  no_globals = (plain_fields c (ap (λ (a : App). a.top.is_plain) app)).globals
+
+  any_arg : Arg
+  any_arg = first_arg (args_of c) (omega (arith, long))
+
+  module _ (place low high : ℕ) (id : List ℕ) (rule : Rule) (option : IsOption place low high id rule) where
+    abbrev here : Arg
+    here = slice_index_or (args_of c) place any_arg
+
+    fits : place < length (args_of c)
+    fits = let w = option.within in omega (arith, long)
+
+    is : rule_of here ≡ rule
+    is = rule_at place any_arg fits ∙ option.at (rule_of any_arg)
+
+    id_of : here.id.now ≡ id
+    id_of = ap (λ (r : Rule). r.id) is ∙ option.id_is
+
+    free : (here.default_vals_ifs.items ≡ []) × (here.val_delim ≡ None)
+    free = no_condition here (ap (λ (r : Rule). r.is_simple) is ∙ option.simple)
+
+    least : 1 ≤ least_values here
+    least = let e : least_values here ≡ 1 = ap (λ (r : Rule). (unwrap_or_range r.range).start_inclusive) is ∙ option.one in omega (arith, e)
+
+    unique : (j : ℕ) (e : Arg) → j < length (args_of c) → bytes_eq (slice_index_or (args_of c) j e).id.now here.id.now ≡ true → j ≡ place
+    unique j e lt same =
+        option.alone j (rule_of e) (omega (arith, long)) (subst (λ (t : List ℕ). bytes_eq t id ≡ true) (ap (λ (r : Rule). r.id) (rule_at j e lt)) (subst (λ (t : List ℕ). bytes_eq (slice_index_or (args_of c) j e).id.now t ≡ true) id_of same))
+
+    kept : (j : ℕ) (x : Arg) → j < length (args_of p.built) → slice_index_or (args_of p.built) j x ≡ x → bytes_eq x.id.now here.id.now ≡ true → SameRules here x
+    kept = same_rules_by_id c m p place any_arg fits unique (λ auto. option.other (elim auto [ inl h ↦ inl (sym id_of ∙ h) | inr h ↦ inr (sym id_of ∙ h) ]))
+
+    values : All (EntryPasses p.built) (found_of m).entries.items
+    values = (p.parsed (p.from.globals ∙ no_globals)).values
+
+    number_by : (x : MatchedArg) → matched_of (found_of m) id ≡ Some x → (e : Entry) × (e.1 ≡ x) × (bytes_eq e.0.now id ≡ true) × EntryPasses p.built e → HasNumber id low high m
+    number_by x at got =
+        let key : got.0.0.now ≡ id = (bytes_eq-Decides got.0.0.now id).0 got.2 in
+        let given = entry_gives p.built got.0 here (Unsigned low high) (p.from.plain plain).1 (λ e. option.named (sym key ∙ e))
+        (λ j y lt there same. kept j y lt there (subst (λ (t : List ℕ). bytes_eq y.id.now t ≡ true) (key ∙ sym id_of) same))
+        (ap (λ (r : Rule). r.action) is ∙ option.sets) free.1 least (ap (λ (r : Rule). r.parser) is ∙ option.parser) got.3 in
+        record {
+          text = given.0;
+          given = ap (λ (o : Option MatchedArg). option_and_then (λ y. option_map (λ s. read_as y.reading s.now) (slice_get y.vals.items 0)) o) (at ∙ ap Some (sym got.1)) ∙ given.1;
+          accepted = given.2;
+        }
+
+    -- what was matched has a number
+    number_of_match : (x : MatchedArg) → matched_of (found_of m) id ≡ Some x → HasNumber id low high m
+    number_of_match x at = number_by x at (entry_by_id (EntryPasses p.built) (found_of m).entries.items id x values at)
+
+    -- the option has a number, or was not used
+    number_or_none : (one_text (found_of m) id ≡ None) ⊎ HasNumber id low high m
+    number_or_none = go (matched_of (found_of m) id) refl
+      where
+        go : (o : Option MatchedArg) → matched_of (found_of m) id ≡ o → (one_text (found_of m) id ≡ None) ⊎ HasNumber id low high m
+        go None at = inl (ap (λ (o : Option MatchedArg). option_and_then (λ y. option_map (λ s. read_as y.reading s.now) (slice_get y.vals.items 0)) o) at)
+        go (Some x) at = inr (number_of_match x at)
+
+    number_there : is_some (matched_of (found_of m) id) ≡ true → HasNumber id low high m
+    number_there = go (matched_of (found_of m) id) refl
+      where
+        go : (o : Option MatchedArg) → matched_of (found_of m) id ≡ o → is_some o ≡ true → HasNumber id low high m
+        go None at some = absurd (true≢false (sym some))
+        go (Some x) at some = number_of_match x at
+
   -- the matches have a number for `--conflicts`
   pub limit_of : HasLimit m
   limit_of =
-      let some : 0 < length (args_of c) = omega (arith, long) in
-      let d = first_arg (args_of c) some in
-      let is = rule_at 0 d some in
-      let id_is : (slice_index_or (args_of c) 0 d).id.now ≡ codes "conflicts" = ap (λ (r : Rule). r.id) is in
-      let free = no_condition (slice_index_or (args_of c) 0 d) (ap (λ (r : Rule). r.is_simple) is) in
-      let globals = (plain_fields c (ap (λ (a : App). a.top.is_plain) app)).globals in
-      let values : length (items_of (slice_index_or (args_of c) 0 d).default_vals) ≡ 1 = sym (length-map (items_of (slice_index_or (args_of c) 0 d).default_vals) (λ s. s.now)) ∙ ap (λ (r : Rule). length r.defaults) is in
-      let there = default_present c m p globals 0 d some (free.0, omega arith) in
-      let unique : (j : ℕ) (e : Arg) → j < length (args_of c) → bytes_eq (slice_index_or (args_of c) j e).id.now (slice_index_or (args_of c) 0 d).id.now ≡ true → j ≡ 0 =
-      λ j e lt same. one_limit j (rule_of e) (omega (arith, long)) (subst (λ (t : List ℕ). bytes_eq t (codes "conflicts") ≡ true) (ap (λ (r : Rule). r.id) (rule_at j e lt)) (subst (λ (t : List ℕ). bytes_eq (slice_index_or (args_of c) j e).id.now t ≡ true) id_is same)) in
-      let kept = same_rules_by_id c m p 0 d some unique (λ auto. not_auto _ id_is auto) in
-      let least : least_values (slice_index_or (args_of c) 0 d) ≡ 1 = ap (λ (r : Rule). (unwrap_or_range r.range).start_inclusive) is in
-      let parsed = p.parsed (p.from.globals ∙ globals) in
-      found (slice_index_or (args_of c) 0 d) is id_is free.1 (omega arith) kept (p.from.plain plain).1 (subst (λ (t : List ℕ). HasIn (found_of m).entries.items t) id_is there) parsed.values
-    where
-      step : (a : Arg) → rule_of a ≡ conflicts_rule → a.val_delim ≡ None → 1 ≤ least_values a
-          → ((j : ℕ) (x : Arg) → j < length (args_of p.built) → slice_index_or (args_of p.built) j x ≡ x → bytes_eq x.id.now a.id.now ≡ true → SameRules a x)
-          → groups_of p.built ≡ [] → a.id.now ≡ codes "conflicts"
-          → (x : MatchedArg) → matched_of (found_of m) (codes "conflicts") ≡ Some x
-          → ((e : Entry) × (e.1 ≡ x) × (bytes_eq e.0.now (codes "conflicts") ≡ true) × EntryPasses p.built e) → HasLimit m
-      step a is delim least kept groups id_is x at got =
-          let key : got.0.0.now ≡ codes "conflicts" = (bytes_eq-Decides got.0.0.now (codes "conflicts")).0 got.2 in
-          let given = entry_gives p.built got.0 a (Unsigned 1 (10 ^ 12)) groups (not_named _ key)
-          (λ j y lt here same. kept j y lt here (subst (λ (t : List ℕ). bytes_eq y.id.now t ≡ true) (key ∙ sym id_is) same))
-          (ap (λ (r : Rule). r.action) is) delim least (ap (λ (r : Rule). r.parser) is) got.3 in
-          record {
-            text = given.0;
-            given = ap (λ (o : Option MatchedArg). option_and_then (λ y. option_map (λ s. read_as y.reading s.now) (slice_get y.vals.items 0)) o) (at ∙ ap Some (sym got.1)) ∙ given.1;
-            accepted = given.2;
-          }
+      let one = here 0 1 (10 ^ 12) (codes "conflicts") conflicts_rule limit_option in
+      let some = fits 0 1 (10 ^ 12) (codes "conflicts") conflicts_rule limit_option in
+      let rule = is 0 1 (10 ^ 12) (codes "conflicts") conflicts_rule limit_option in
+      let none = free 0 1 (10 ^ 12) (codes "conflicts") conflicts_rule limit_option in
+      let values : length (items_of one.default_vals) ≡ 1 = sym (length-map (items_of one.default_vals) (λ s. s.now)) ∙ ap (λ (r : Rule). length r.defaults) rule in
+      let there = default_present c m p no_globals 0 any_arg some (none.0, omega (arith, values)) in
+      let id : HasIn (found_of m).entries.items (codes "conflicts") = subst (λ (t : List ℕ). HasIn (found_of m).entries.items t) (id_of 0 1 (10 ^ 12) (codes "conflicts") conflicts_rule limit_option) there in
+      number_there 0 1 (10 ^ 12) (codes "conflicts") conflicts_rule limit_option (entry_found (found_of m).entries.items (codes "conflicts") id)
 
-      found : (a : Arg) → rule_of a ≡ conflicts_rule → a.id.now ≡ codes "conflicts" → a.val_delim ≡ None → 1 ≤ least_values a
-          → ((j : ℕ) (x : Arg) → j < length (args_of p.built) → slice_index_or (args_of p.built) j x ≡ x → bytes_eq x.id.now a.id.now ≡ true → SameRules a x)
-          → groups_of p.built ≡ [] → HasIn (found_of m).entries.items (codes "conflicts") → All (EntryPasses p.built) (found_of m).entries.items → HasLimit m
-      found a is id_is delim least kept groups there values = go (matched_of (found_of m) (codes "conflicts")) refl (entry_found (found_of m).entries.items (codes "conflicts") there)
-        where
-          go : (o : Option MatchedArg) → matched_of (found_of m) (codes "conflicts") ≡ o → is_some (matched_of (found_of m) (codes "conflicts")) ≡ true → HasLimit m
-          go None at some = absurd (true≢false (sym some ∙ ap (λ (o : Option MatchedArg). is_some o) at))
-          go (Some x) at some = step a is delim least kept groups id_is x at (entry_by_id (EntryPasses p.built) (found_of m).entries.items (codes "conflicts") x values at)
+  -- they have one for `--make`, or none
+  pub made_of : HasMade m
+  made_of = number_or_none 5 0 (2 ^ 63 - 1) (codes "make") make_rule make_option

@@ -1,5 +1,5 @@
 -- Words that are lawful, and calls with such words.
-use Rattle.std.proofs.Common.{◌≡◌, ℕ, List, [], Some, None, refl, ap, sym, subst, inl, inr, ◌∙◌}
+use Rattle.std.proofs.Common.{◌≡◌, ◌⊎◌, ℕ, true, false, List, [], Some, None, refl, ap, sym, subst, inl, inr, ◌∙◌}
 use Rattle.std.specs.Prelude.{IfSome, IsSome, is_some, option_map}
 use Rattle.std.specs.declared.option.Option.{Option}
 use Rattle.io_edge.specs.Causes.{Rose}
@@ -7,11 +7,15 @@ use Rattle.io_edge.specs.Paths.{PathMap, IsThere}
 use Rattle.gimsatul.specs.declared.report.Tally.{Tally}
 use Rattle.gimsatul.specs.declared.report.End.{End}
 use Rattle.gimsatul.specs.Words.{Command, command_of, proof_path, file_path}
-use Rattle.gimsatul.specs.Run.{Call, IsStill, IsOpened}
-use Rattle.gimsatul.specs.Outcome.{CallOutcome}
+use Rattle.sat_words.specs.FormulaData.{FormulaData}
+use Rattle.rup_model.specs.declared.journal.Entry.{Entry}
+use Rattle.gimsatul.specs.Run.{Run, Call, HasFile, IsStill, IsOpened, source_of, text_of, text_in, text_left}
+use Rattle.gimsatul.specs.declared.plan.Plan.{Plan}
+use Rattle.gimsatul.specs.Planned.{plan_of}
+use Rattle.gimsatul.specs.Outcome.{Outcome, CallOutcome, IsCall, IsRun, IsWhole}
 use Rattle.gimsatul.specs.Tallied.{no_tally}
-use Rattle.gimsatul.specs.Ends.{IsWordsEnd}
-use Rattle.gimsatul.specs.declared.report.End.TheVariants.{Usage}
+use Rattle.gimsatul.specs.Ends.{IsWordsEnd, status_of, leaves_input_at, leaves_files_at}
+use Rattle.gimsatul.specs.declared.report.End.TheVariants.{Satisfiable, Unsatisfiable, Unknown, Usage, BadInput, CannotOpen, CannotCreate, ReadFault, WriteFault, ProofFault, Room, Memory}
 use Rattle.gimsatul.proofs.Finishes.{no_formula}
 
 -- a path that was given is the command's
@@ -59,3 +63,54 @@ words_stopped end tally call (inr is) usage counts file proof files input out =
 -- a count that rose behind a call that left it
 pub rose_behind : (before between after : ℕ) → between ≡ before → Rose between after → Rose before after
 rose_behind before between after same rose = subst (λ (n : ℕ). Rose n after) same rose
+
+-- what holds of a run over what was opened holds of its call
+module _ {R : Type 0} (left : R → Option (List ℕ)) (faults : R → ℕ) (contents : Option PathMap) (input : Option (List ℕ)) where
+  pub text_same : (path : Option (List ℕ)) (file : Option R) → IsOpened left faults contents path file → text_left left file input ≡ text_in contents input path
+  text_same None file is = ap (λ (f : Option R). text_left left f input) is
+  text_same (Some path) None is = absurd is
+  text_same (Some path) (Some reader) is = is.0
+
+pub input_cases : {R X : Type 0} (faults : R → ℕ) (file given : Option R) → is_some file ≡ is_some given → (is_some given ≡ true → X) → (option_map faults file ≡ None) ⊎ X
+input_cases faults None given same still = inl refl
+input_cases faults (Some reader) given same still = inr (still (sym same))
+
+whole_call : (end : End) (F : FormulaData) (J : List Entry) (tally : Tally) (call : Call) → IsWhole end F J tally call → CallOutcome end F J tally call
+whole_call (Satisfiable model) F J tally call w = w
+whole_call Unsatisfiable F J tally call w = w
+whole_call Unknown F J tally call w = w
+whole_call Usage F J tally call w = absurd w.outcome
+whole_call (BadInput code line) F J tally call w = w
+whole_call CannotOpen F J tally call w = absurd w.outcome
+whole_call CannotCreate F J tally call w = absurd w.outcome
+whole_call ReadFault F J tally call w = w
+whole_call WriteFault F J tally call w = w
+whole_call ProofFault F J tally call w = w
+whole_call (Room lack) F J tally call w = w
+whole_call Memory F J tally call w = inr w
+
+pub is_call : (end : End) (tally : Tally) (plan : Plan) (text : Option (List ℕ)) (call : Call) → IsRun end tally (record { plan = plan; text = text; source = source_of call; proof = call.proof; out = call.out })
+    → plan ≡ plan_of (command_of call.words) → text ≡ text_of call → IsSome (command_of call.words) → HasFile call → IsStill call.files → (call.file ≡ None) ⊎ IsStill call.input → IsCall end tally call
+is_call end tally plan text call r p t lawful file files input =
+    let run : Plan → Option (List ℕ) → Run = λ x y. record { plan = x; text = y; source = source_of call; proof = call.proof; out = call.out } in
+    let outcome = subst (λ (x : Plan). Outcome end r.formula r.journal tally (run x (text_of call))) p (subst (λ (y : Option (List ℕ)). Outcome end r.formula r.journal tally (run plan y)) t r.outcome) in
+    record {
+      formula = r.formula;
+      journal = r.journal;
+      outcome = whole_call end r.formula r.journal tally call (record { lawful = lawful; file = file; outcome = outcome; files = files; input = input });
+    }
+
+-- a run ends in none of the refusals before it
+pub run_ends : (end : End) (tally : Tally) (run : Run) → IsRun end tally run → (leaves_input_at (status_of end) ≡ false) × (leaves_files_at (status_of end) true ≡ false)
+run_ends (Satisfiable model) tally run r = (refl, refl)
+run_ends Unsatisfiable tally run r = (refl, refl)
+run_ends Unknown tally run r = (refl, refl)
+run_ends Usage tally run r = absurd r.outcome
+run_ends (BadInput code line) tally run r = (refl, refl)
+run_ends CannotOpen tally run r = absurd r.outcome
+run_ends CannotCreate tally run r = absurd r.outcome
+run_ends ReadFault tally run r = (refl, refl)
+run_ends WriteFault tally run r = (refl, refl)
+run_ends ProofFault tally run r = (refl, refl)
+run_ends (Room lack) tally run r = (refl, refl)
+run_ends Memory tally run r = (refl, refl)

@@ -1,5 +1,6 @@
 pub mod Journals
 pub mod Finishes
+pub mod Checks
 pub mod Lawful
 pub mod CommandLine
 pub mod StatusLemmas
@@ -10,7 +11,9 @@ pub mod Opens
 pub mod Newness
 pub mod Starting
 pub mod Models
+pub mod Satisfied
 pub mod Closing
+pub mod Keeping
 mod Standing
 pub mod Refuting
 mod AnswerText

@@ -8,7 +8,7 @@ use Rattle.sat_words.specs.Literal.{Literal}
 use Rattle.sat_words.specs.Truth.{value_of, lit_true, clause_true, formula_true}
 use Rattle.sat_words.specs.FormulaData.{FormulaData}
 use Rattle.rup_model.proofs.Lists.{any_In, In_any, all_In, In_all}
-use Rattle.gimsatul.specs.Decided.{mentions, occurs, IsModel}
+use Rattle.gimsatul.specs.Decided.{mentions, IsModel}
 use Rattle.gimsatul.specs.Occurring.{Marks, IsOccurring, IsBoth}
 
 any-append : {X : Type 0} (p : X → Bool) (xs ys : List X) → list_any p (xs ++ ys) ≡ list_any p xs || list_any p ys

@@ -1,6 +1,6 @@
 -- From the port after the run to what the search says.
-use Rattle.std.proofs.Common.{◌≡◌, ◌^◌, ◌∙◌, ℕ, zero, suc, ◌<◌, ◌≤◌, Bool, true, false, List, [], ◌∷◌, ◌++◌, map, length, take, Some, None, Ok, Err, refl, sym, ap, subst, inl, inr, arith, append-nil, lit≤}
-use Rattle.std.specs.Prelude.{All, Result, IsSomeAnd}
+use Rattle.std.proofs.Common.{◌≡◌, ◌^◌, ◌∙◌, ℕ, zero, suc, ◌<◌, ◌≤◌, Bool, true, false, List, [], ◌∷◌, ◌++◌, map, length, Some, None, refl, sym, ap, subst, inl, inr, arith, append-nil, lit≤}
+use Rattle.std.specs.Prelude.{All, Result, IsSomeAnd, is_some}
 use Rattle.std.specs.declared.option.Option.{Option}
 use Rattle.std.specs.Io.KnownBytes.{append_known}
 use Rattle.std.proofs.lemmas.Bool.{cases_Bool, not-false, not-true}
@@ -42,11 +42,14 @@ use Rattle.gimsatul.specs.declared.report.Verdict.{Verdict}
 use Rattle.gimsatul.specs.declared.report.End.{End as CallEnd}
 use Rattle.gimsatul.specs.Journaled.{CanBeSpelled, IsPlainEntry, IsPlainAddition, IsJournal, IsUnrefuted, HoldsText, IsCutShort}
 use Rattle.gimsatul.specs.Decided.{IsRefutation, IsFull}
+use Rattle.gimsatul.specs.Logged.{TellsKept, kept_mark}
+use Rattle.gimsatul.specs.Begun.{begun_kept}
+use Rattle.gimsatul.proofs.Keeping.{kept_by_mark, kept_where}
 use Rattle.gimsatul.specs.Searched.{Concludes, IsSearch, HasClosed}
 use Rattle.gimsatul.specs.Occurring.{IsOccurring}
 use Rattle.gimsatul.specs.Concluded.{IsCleared, IsVerdictOf}
 use Rattle.gimsatul.specs.Begun.{origin_of, Begins, IsAlike}
-use Rattle.gimsatul.proofs.Closing.{cut_short, closed_search}
+use Rattle.gimsatul.proofs.Closing.{Unique, cut_short, front_told, closed_search}
 use Rattle.gimsatul.proofs.Models.{cleared}
 use Rattle.gimsatul.proofs.Newness.{still_new}
 
@@ -200,7 +203,7 @@ module _ (formula : FormulaData) (output : LineState) (p s : PortState) (limit c
       cut_short F J (lines F J) [] h.line (sym (append-nil (lines F J))) h.accepted
       (All-append (λ x. All (IsOn (2 ^ 30)) (lits_of x)) (lines F J) (h.line ∷ []) spelled
       (cons_All (λ x. All (IsOn (2 ^ 30)) (lits_of x)) h.line [] (spell_all s.vars (let a = stays.vars in let b = begins.vars in omega arith) (lits_of h.line) h.on) (λ k d lt. absurd (omega arith))))
-      all out.written (subst (HoldsText all) (sym (text-push (lines F J) h.line)) (told_whole output.written all (text (lines F J) ++ line_text h.line) empty refl)) h.front
+      all out.written (subst (HoldsText all) (sym (text-push (lines F J) h.line)) (told_whole output.written all (text (lines F J) ++ line_text h.line) empty refl)) (front_told out.written all h.front)
 
   short : (out.faults ≡ 0 → ⊥) → IsCutShort F J out.written
   short some = elim (cases_Bool out.spent) as (λ _. IsCutShort F J out.written) [
@@ -265,9 +268,18 @@ module _ (formula : FormulaData) (output : LineState) (p s : PortState) (limit c
       by ProofFault sp un en r v = subst (λ (w : Result Verdict CallEnd). Concludes limit formula J out.faults w) (sym v) (rose_where en.cause.0)
       by Memory sp un en r v = subst (λ (w : Result Verdict CallEnd). Concludes limit formula J out.faults w) (sym v) (still_where en.cause.0, fewer Memory un (λ e. cc e), en.cause.1)
 
-  is_search : (occurring : List Bool) → IsOccurring formula.clauses formula.vars occurring → (result : Result Verdict CallEnd) → IsVerdictOf occurring end result → IsSearch limit formula result count out.faults out.written
-  is_search occurring marked result v = record { journal = J; stands = journal_stands; counts = counts; within = within; conclusion = concludes occurring marked result v; whole = whole; short = short }
+  is_search : (occurring : List Bool) → IsOccurring formula.clauses formula.vars occurring → (result : Result Verdict CallEnd) → IsVerdictOf occurring end result → IsSearch limit formula result count out.faults out.written None
+  is_search occurring marked result v = record { journal = J; stands = journal_stands; counts = counts; within = within; conclusion = concludes occurring marked result v; whole = whole; short = short; keeps = λ _. tt }
 
-  pub is_closed_search : (occurring : List Bool) → IsOccurring formula.clauses formula.vars occurring → (result told : Result Verdict CallEnd) (faults : ℕ) (written : Option (List ℕ)) → IsVerdictOf occurring end result → HasClosed out result told faults written
-      → IsSearch limit formula told count faults written
-  is_closed_search occurring marked result told faults written v closed = closed_search limit formula result told count out faults written (is_search occurring marked result v) rose still closed
+  pub is_closed_search : (unique : Unique) (occurring : List Bool) → IsOccurring formula.clauses formula.vars occurring → (result told : Result Verdict CallEnd) (faults : ℕ) (written : Option (List ℕ)) (kept : Option (List Line)) → IsVerdictOf occurring end result → HasClosed out result told faults written
+      → TellsKept kept out.written → IsSearch limit formula told count faults written kept
+  is_closed_search unique occurring marked result told faults written kept v closed tells = closed_search unique limit formula result told count out faults written kept (is_search occurring marked result v) rose still closed tells
+
+-- the run leaves whether lines are kept
+pub kept_after : (formula : FormulaData) (output : LineState) (keep : Bool) (p s : PortState) (out : LineState) (kept : Option (List Line)) → Begins formula output p → Stays p s → Some out ≡ s.output
+    → output.flushed ≡ kept_mark (begun_kept keep) → out.flushed ≡ kept_mark kept → is_some kept ≡ keep
+kept_after formula output keep p s out kept begins stays lines_are before after =
+    let over : Origin = origin_of formula.clauses output in
+    let stands : StandsOver over s = stays.log over begins.stands in
+    let has_lines : HasLines over s out = subst (λ (w : Option LineState). IsSomeAnd w (HasLines over s)) (sym lines_are) stands.output in
+    kept_by_mark kept (begun_kept keep) (sym after ∙ has_lines.flushed ∙ before) ∙ kept_where keep

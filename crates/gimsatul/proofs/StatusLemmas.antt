@@ -1,5 +1,5 @@
 -- From the case of a call's end to what its status says.
-use Rattle.std.proofs.Common.{◌≡◌, ◌≢◌, ◌⊎◌, ℕ, List, Bool, Some, None, refl, sym, inl, inr, subst, ⊎_elim, arith, rules, ap}
+use Rattle.std.proofs.Common.{◌≡◌, ◌≢◌, ◌⊎◌, ℕ, List, Bool, Some, None, refl, sym, ◌∙◌, inl, inr, subst, ⊎_elim, arith, rules, ap}
 use Rattle.std.specs.Prelude.{IfSome, IsSome, IsSomeAnd}
 use Rattle.std.specs.declared.option.Option.{Option}
 use Rattle.sat_words.specs.FormulaData.{FormulaData}
@@ -13,13 +13,14 @@ use Rattle.gimsatul.specs.declared.report.End.{End}
 use Rattle.gimsatul.specs.declared.report.End.TheVariants.{Satisfiable, Unsatisfiable, Unknown, Usage, BadInput, CannotOpen, CannotCreate, ReadFault, WriteFault, ProofFault, Room, Memory}
 use Rattle.gimsatul.specs.declared.report.Verdict.{Verdict}
 use Rattle.gimsatul.specs.declared.report.Verdict.TheVariants as verdict
-use Rattle.gimsatul.specs.Words.{Command, command_of, file_path, proof_path}
-use Rattle.gimsatul.specs.Input.{WasBad}
+use Rattle.gimsatul.specs.Words.{Command, command_of, file_path, make_number, proof_path}
+use Rattle.gimsatul.specs.Planned.{plan_of}
+use Rattle.gimsatul.specs.Input.{WasBad, WasGiven}
 use Rattle.gimsatul.specs.Run.{Call, Count, Writer, RoseIn, IsStill, run_of, source_of, source_in, text_of}
 use Rattle.gimsatul.specs.Journaled.{IsJournal, HoldsLog}
-use Rattle.gimsatul.specs.Outcome.{CallOutcome, IsCall, IsWhole, IsUnread, IsRefused, IsAnswered, IsBroken, IsStarted, IsCutOff, IsUnproved, IsCrowded, IsStarved, IsBarren, IsIdle}
+use Rattle.gimsatul.specs.Outcome.{CallOutcome, IsCall, IsWhole, IsUnread, IsRefused, IsAnswered, IsBroken, IsStarted, IsCutOff, IsUnproved, IsCrowded, IsStarved, IsUnchecked, IsBarren, IsIdle}
 use Rattle.gimsatul.specs.Ends.{status_of, model_of}
-use Rattle.gimsatul.specs.Statuses.{Answers, HasModel, IsUnasked, HasBadPlace, HasJournal, MustAnswer, MadeAll, RanOut, IsUnopened, IsUncreated, IsAnswer, Statuses}
+use Rattle.gimsatul.specs.Statuses.{Answers, HasModel, IsUnasked, HasBadPlace, HasJournal, IsReadable, MustAnswer, MadeAll, RanOut, IsUnopened, IsUncreated, IsAnswer, Statuses}
 use Rattle.gimsatul.proofs.Journals.{empty_journal}
 
 -- a writer that must be there is there
@@ -50,6 +51,18 @@ unlawful_file (Some y) h e = cc e
 unhurt : (proof : Option Writer) → IsSomeAnd proof (λ w. Rose 0 w.faults) → IfSome proof (λ w. Rose 0 w.faults → ⊥) → ⊥
 unhurt None h k = h
 unhurt (Some writer) h k = k h
+
+-- the number of the plan is that of the words
+planned : (x : Option Command) → (plan_of x).make ≡ make_number x
+planned None = refl
+planned (Some y) = refl
+
+unmade_some : (x : Option Command) (y : Command) → x ≡ Some y → (plan_of x).make ≡ None → IsSome y.make → ⊥
+unmade_some x y is none some = unlawful_number y.make some (sym (ap (λ (z : Option Command). (plan_of z).make) is) ∙ none)
+  where
+    unlawful_number : (n : Option ℕ) → IsSome n → n ≡ None → ⊥
+    unlawful_number None h e = cc h
+    unlawful_number (Some k) h e = cc e
 
 -- standard input didn't fail, where it wasn't read or is what was read
 input_still : (input : Count) (file : Option ℕ) → (file ≡ None) ⊎ IsStill input → IsStill (source_in input file) → IsStill input
@@ -105,8 +118,8 @@ module _ (F : FormulaData) (J : List Entry) (tally : Tally) (call : Call) where
   cannot_create CannotCreate o e = record { rose = o.0; asked = o.1; file = o.2; barren = o.3 }
   cannot_create _ o e = absurd (omega arith)
 
-  read_fault : (end : End) → CallOutcome end F J tally call → status_of end ≡ 5 → RoseIn (source_of call) × IsBroken F J tally (run_of call)
-  read_fault ReadFault o e = o.outcome
+  read_fault : (end : End) → CallOutcome end F J tally call → status_of end ≡ 5 → RoseIn (source_of call) × (make_number (command_of call.words) ≡ None) × IsBroken F J tally (run_of call)
+  read_fault ReadFault o e = (o.outcome.0, sym (planned (command_of call.words)) ∙ o.outcome.1, o.outcome.2)
   read_fault _ o e = absurd (omega arith)
 
   write_fault : (end : End) → CallOutcome end F J tally call → status_of end ≡ 6 → IsCutOff F J tally (run_of call)
@@ -147,7 +160,7 @@ module _ (F : FormulaData) (J : List Entry) (tally : Tally) (call : Call) where
   }
 
   -- or behind that
-  ran_out_whole : IsWhole Memory F J tally call → (IsStill (source_of call) × IsBroken F J tally (run_of call)) ⊎ IsStarved F J tally (run_of call) → RanOut F J tally call
+  ran_out_whole : IsWhole Memory F J tally call → (IsStill (source_of call) × IsBroken F J tally (run_of call)) ⊎ IsStarved F J tally (run_of call) ⊎ IsUnchecked F J tally (run_of call) → RanOut F J tally call
   ran_out_whole o (inl h) = record {
     files = o.files;
     input = input_still call.input call.file o.input h.0;
@@ -155,12 +168,19 @@ module _ (F : FormulaData) (J : List Entry) (tally : Tally) (call : Call) where
     out = h.1.out;
     made = inr (made_all Memory o (made_broken h.1), inl h.1);
   }
-  ran_out_whole o (inr h) = record {
+  ran_out_whole o (inr (inl h)) = record {
     files = o.files;
     input = input_still call.input call.file o.input h.started.source;
     source = h.started.source;
     out = h.out;
-    made = inr (made_all Memory o (made_started h.started), inr h);
+    made = inr (made_all Memory o (made_started h.started), inr (inl h));
+  }
+  ran_out_whole o (inr (inr h)) = record {
+    files = o.files;
+    input = input_still call.input call.file o.input h.started.source;
+    source = h.started.source;
+    out = h.quiet.out;
+    made = inr (made_all Memory o (made_started h.started), inr (inr h));
   }
 
   out_of_memory : (IsStill call.files × IsIdle J tally call) ⊎ IsWhole Memory F J tally call → RanOut F J tally call
@@ -197,17 +217,20 @@ module _ (F : FormulaData) (J : List Entry) (tally : Tally) (call : Call) where
   made (BadInput code line) o a b c d = made_all (BadInput code line) o (there (HoldsLog F.clauses J 0) call.proof o.outcome.unread.log)
   made CannotOpen o a b c d = absurd (b refl)
   made CannotCreate o a b c d = absurd (c refl)
-  made ReadFault o a b c d = made_all ReadFault o (made_broken o.outcome.1)
+  made ReadFault o a b c d = made_all ReadFault o (made_broken o.outcome.2)
   made WriteFault o a b c d = made_all WriteFault o (made_started o.outcome.started)
   made ProofFault o a b c d = made_all ProofFault o (made_started o.outcome.started)
   made (Room lack) o a b c d = made_all (Room lack) o (there (HoldsLog F.clauses J 0) call.proof o.outcome.log)
   made Memory o a b c d = absurd (d refl)
 
+  given : WasGiven (run_of call).plan.make (text_of call) F → WasGiven (make_number (command_of call.words)) (text_of call) F
+  given = subst (λ (m : Option ℕ). WasGiven m (text_of call) F) (planned (command_of call.words))
+
   started : {before : ℕ} → IsStarted before F J tally (run_of call) → HasJournal F J call
-  started {before} s = record { stands = s.journal_stands; of_input = inr s.read; before = before; held = if_there (HoldsLog F.clauses J before) call.proof s.log }
+  started {before} s = record { stands = s.journal_stands; of_input = inr (given s.given); before = before; held = if_there (HoldsLog F.clauses J before) call.proof s.log }
 
   crowded : {lack : NoRoom} → IsCrowded lack F J tally (run_of call) → HasJournal F J call
-  crowded c = record { stands = c.journal_stands; of_input = inr c.read; before = 0; held = if_there (HoldsLog F.clauses J 0) call.proof c.log }
+  crowded c = record { stands = c.journal_stands; of_input = inr (given c.given); before = 0; held = if_there (HoldsLog F.clauses J 0) call.proof c.log }
 
   unread : IsUnread F J (run_of call) → HasJournal F J call
   unread u = record { stands = subst (IsJournal 1 F.clauses) (sym u.nothing) (empty_journal F.clauses); of_input = inl u.nothing; before = 0; held = if_there (HoldsLog F.clauses J 0) call.proof u.log }
@@ -217,7 +240,7 @@ module _ (F : FormulaData) (J : List Entry) (tally : Tally) (call : Call) where
 
   stopped : (IsStill call.files × IsIdle J tally call) ⊎ IsWhole Memory F J tally call → HasJournal F J call
   stopped (inl h) = barren h.1.barren
-  stopped (inr o) = ⊎_elim (λ (b : IsStill (source_of call) × IsBroken F J tally (run_of call)). unread b.1.unread) (λ (s : IsStarved F J tally (run_of call)). started s.started) o.outcome
+  stopped (inr o) = ⊎_elim (λ (b : IsStill (source_of call) × IsBroken F J tally (run_of call)). unread b.1.unread) (λ (s : IsStarved F J tally (run_of call) ⊎ IsUnchecked F J tally (run_of call)). ⊎_elim (λ (x : IsStarved F J tally (run_of call)). started x.started) (λ (x : IsUnchecked F J tally (run_of call)). started x.started) s) o.outcome
 
   journaled : (end : End) → CallOutcome end F J tally call → HasJournal F J call
   journaled (Satisfiable model) o = started o.outcome.started
@@ -227,22 +250,26 @@ module _ (F : FormulaData) (J : List Entry) (tally : Tally) (call : Call) where
   journaled (BadInput code line) o = unread o.outcome.unread
   journaled CannotOpen o = barren o.2.barren
   journaled CannotCreate o = barren o.3
-  journaled ReadFault o = unread o.outcome.1.unread
+  journaled ReadFault o = unread o.outcome.2.unread
   journaled WriteFault o = started o.outcome.started
   journaled ProofFault o = started o.outcome.started
   journaled (Room lack) o = crowded o.outcome
   journaled Memory o = stopped o
 
   module _ (apart : Apart) (must : MustAnswer call) where
-    readable : (code : Code) (line : ℕ) → WasBad (text_of call) code line → ⊥
-    readable code line bad = apart must.text must.formula code line must.spelled (subst (λ (t : Option (List ℕ)). WasBad t code line) must.told bad)
+    readable : (code : Code) (line : ℕ) → (run_of call).plan.make ≡ None → WasBad (text_of call) code line → ⊥
+    readable code line unmade bad = by must.given
+      where
+        by : IsSome must.command.make ⊎ IsReadable call → ⊥
+        by (inl some) = unmade_some (command_of call.words) must.command must.lawful unmade some
+        by (inr r) = apart r.text r.formula code line r.spelled (subst (λ (t : Option (List ℕ)). WasBad t code line) r.told bad)
 
     complete : (end : End) → CallOutcome end F J tally call → IsAnswer (status_of end) ⊎ (status_of end ≡ 8) ⊎ (status_of end ≡ 9)
     complete (Satisfiable model) o = search rules
     complete Unsatisfiable o = search rules
     complete Unknown o = search rules
     complete Usage o = absurd (cc (must.lawful, o.0))
-    complete (BadInput code line) o = absurd (readable code line o.outcome.bad)
+    complete (BadInput code line) o = absurd (readable code line o.outcome.unmade o.outcome.bad)
     complete CannotOpen o = absurd (must.files o.0)
     complete CannotCreate o = absurd (must.files o.0)
     complete ReadFault o = absurd (must.source o.outcome.0)

@@ -1,5 +1,5 @@
 -- How the port of the one ring stands over a formula before and after the search.
-use Rattle.std.specs.Prelude.{◌≡◌, Bool, true, List, []}
+use Rattle.std.specs.Prelude.{◌≡◌, Bool, true, false, List, [], length, Some, None, if◌then◌else◌}
 use Rattle.sat_words.specs.Literal.{Literal}
 use Rattle.sat_words.specs.Clause.{has}
 use Rattle.sat_words.specs.Truth.{formula_true}
@@ -8,11 +8,22 @@ use Rattle.rup_model.specs.Opening.{Opening, start_clauses, program_opening}
 use Rattle.drat_text.specs.LineState.{LineState}
 use Rattle.ring_port.specs.PortState.{PortState, IsPort}
 use Rattle.ring_port.specs.Log.{Origin, StandsOver}
+use Rattle.std.specs.declared.option.Option.{Option}
+use Rattle.sat_words.specs.declared.line.Line.{Line}
+use Rattle.gimsatul.specs.Logged.{LogData}
 use Rattle.ring_run.specs.Ended.{IsUntouched, IsModelOf, opening_of}
 
 -- the lines of a proof over these clauses, where none is written yet
 abbrev pub origin_of : List (List Literal) → LineState → Origin
 origin_of clauses output = record { formula = clauses; journal = []; output = output }
+
+-- no line yet, where lines are to be kept
+abbrev pub begun_kept : Bool → Option (List Line)
+begun_kept keep = if keep then Some [] else None
+
+-- the lines for a formula, of which none is put yet
+abbrev pub begun_lines : {S : Type 0} → Bool → FormulaData → S → LogData S
+begun_lines keep formula sink = record { kept = begun_kept keep; lines = record { entries = 0; last = length formula.clauses; spent = false; waiting = []; sink = sink } }
 
 -- each assignment that is true on what the port began with is true on the clauses
 abbrev pub Covers : PortState → List (List Literal) → Type 0

@@ -1,4 +1,5 @@
 pub mod Words
+pub mod Planned
 pub mod Plain
 pub mod Input
 pub mod Answer
@@ -6,7 +7,9 @@ pub mod Ends
 pub mod Finished
 pub mod Run
 pub mod Journaled
+pub mod Logged
 pub mod Decided
+pub mod Checked
 pub mod Searched
 pub mod Opened
 pub mod Begun

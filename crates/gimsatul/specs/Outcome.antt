@@ -1,5 +1,5 @@
--- What each end of a call says, by cases, of the formula that was read and of the one journal of the run.
-use Rattle.std.specs.Prelude.{◌≡◌, ◌≤◌, ◌<◌, ◌⊎◌, ℕ, List, [], length, IfSome, IsSome, IsSomeAnd, Some, None}
+-- What each end of a call says, by cases, of the formula that was read or made and of the one journal of the run.
+use Rattle.std.specs.Prelude.{◌≡◌, ◌≤◌, ◌<◌, ◌⊎◌, ℕ, List, [], true, length, is_some, IfSome, IsSome, IsSomeAnd, Some, None}
 use Rattle.std.specs.declared.option.Option.{Option}
 use Rattle.io_edge.specs.Causes.{Rose}
 use Rattle.io_edge.specs.Paths.{IsEmptyWhereTold}
@@ -15,8 +15,9 @@ use Rattle.gimsatul.specs.declared.report.End.TheVariants as end
 use Rattle.gimsatul.specs.declared.report.Verdict.{Verdict}
 use Rattle.gimsatul.specs.declared.report.Verdict.TheVariants as verdict
 use Rattle.gimsatul.specs.Words.{command_of, file_path, proof_path}
-use Rattle.gimsatul.specs.Input.{WasRead, WasBad}
-use Rattle.gimsatul.specs.Answer.{answer_text}
+use Rattle.gimsatul.specs.declared.plan.Plan.{Plan}
+use Rattle.gimsatul.specs.Input.{WasGiven, WasBad}
+use Rattle.gimsatul.specs.Answer.{answer_text, remarks_of}
 use Rattle.gimsatul.specs.Run.{Count, Writer, Output, Run, Call, run_of, HasFile, RoseIn, IsStill, Prints, PrintsPart}
 use Rattle.gimsatul.specs.Journaled.{IsJournal, IsUnrefuted, HoldsLog}
 use Rattle.gimsatul.specs.Decided.{Decides, IsDecided, IsFull}
@@ -32,8 +33,9 @@ pub record IsUnread (formula : FormulaData) (journal : List Entry) (run : Run) :
   pub nothing : journal ≡ []
   pub empty : IfSome run.proof (λ writer. IsEmptyWhereTold writer.written)
 
--- the text is bad first in this line, with this code, and the source didn't fail
+-- no formula was to be made, the text is bad first in this line, with this code, and the source didn't fail
 pub record IsRefused (code : Code) (line : ℕ) (formula : FormulaData) (journal : List Entry) (tally : Tally) (run : Run) : Type 0 where
+  pub unmade : run.plan.make ≡ None
   pub bad : WasBad run.text code line
   pub counts : tally ≡ bad_tally (number_of code) line
   pub source : IsStill run.source
@@ -45,14 +47,14 @@ pub record IsBroken (formula : FormulaData) (journal : List Entry) (tally : Tall
   pub counts : tally ≡ no_tally
   pub out : IsStill run.out.faults
 
--- the formula was read without a fault and the ring started; its journal stands, and has no more lemmas than the limit; the
+-- the formula was made, or read without a fault, and the ring started; its journal stands, and has no more lemmas than the limit; the
 -- proof's writer had failed so often before its last flush; the tally has the number of lemmas
 pub record IsStarted (before : ℕ) (formula : FormulaData) (journal : List Entry) (tally : Tally) (run : Run) : Type 0 where
-  pub read : WasRead run.text formula
+  pub given : WasGiven run.plan.make run.text formula
   pub source : IsStill run.source
   pub journal_stands : IsJournal 1 formula.clauses journal
   pub log : HasLog formula journal before run
-  pub within : length (learned 0 journal) ≤ run.limit
+  pub within : length (learned 0 journal) ≤ run.plan.limit
   pub counts : tally ≡ ring_tally (length (learned 0 journal))
 
 -- no call of the proof or the output failed
@@ -60,37 +62,42 @@ pub record IsQuiet (run : Run) : Type 0 where
   pub proof : IsSomeAnd run.proof (λ writer. writer.faults ≡ 0)
   pub out : IsStill run.out.faults
 
+-- what is printed, by what the words ask for: where a formula is made it is told of, and the values of a model are not; where
+-- the log is checked that is told
+abbrev pub printed_of : Plan → FormulaData → Verdict → List ℕ
+printed_of plan formula verdict = answer_text formula.vars (remarks_of (is_some plan.make) plan.check formula verdict) verdict
+
 -- the verdict holds, and its text is printed, and nothing else
 pub record IsAnswered (verdict : Verdict) (formula : FormulaData) (journal : List Entry) (tally : Tally) (run : Run) : Type 0 where
   pub started : IsStarted 0 formula journal tally run
-  pub decided : Decides run.limit formula journal verdict
-  pub printed : Prints run.out (answer_text formula.vars verdict)
+  pub decided : Decides run.plan.limit formula journal verdict
+  pub printed : Prints run.out (printed_of run.plan formula verdict)
   pub quiet : IsQuiet run
 
 -- the output failed in printing a verdict that holds; the proof didn't fail before
 pub record IsCutOff (formula : FormulaData) (journal : List Entry) (tally : Tally) (run : Run) : Type 0 where
   pub started : IsStarted 0 formula journal tally run
   pub verdict : Verdict
-  pub decided : Decides run.limit formula journal verdict
+  pub decided : Decides run.plan.limit formula journal verdict
   pub proof : IsSomeAnd run.proof (λ writer. writer.faults ≡ 0)
-  pub printed : PrintsPart run.out (answer_text formula.vars verdict)
+  pub printed : PrintsPart run.out (printed_of run.plan formula verdict)
   pub rose : RoseIn run.out.faults
 
 -- the proof failed: a line of it, or the flush after a verdict that holds
 pub record IsUnproved (formula : FormulaData) (journal : List Entry) (tally : Tally) (run : Run) : Type 0 where
   pub before : ℕ
   pub started : IsStarted before formula journal tally run
-  pub decided : before ≡ 0 → IsDecided run.limit formula journal
+  pub decided : before ≡ 0 → IsDecided run.plan.limit formula journal
   pub rose : IsSomeAnd run.proof (λ writer. Rose 0 writer.faults)
 
 -- as many lines stand as may, so that there was no room for one more, and none failed; the journal has fewer lemmas than the
 -- limit and doesn't add the empty clause; the tally has their number, what was needed and what there is
 pub record IsCrowded (lack : NoRoom) (formula : FormulaData) (journal : List Entry) (tally : Tally) (run : Run) : Type 0 where
-  pub read : WasRead run.text formula
+  pub given : WasGiven run.plan.make run.text formula
   pub source : IsStill run.source
   pub journal_stands : IsJournal 1 formula.clauses journal
   pub log : HasLog formula journal 0 run
-  pub fewer : length (learned 0 journal) < run.limit
+  pub fewer : length (learned 0 journal) < run.plan.limit
   pub unrefuted : IsUnrefuted journal
   pub counts : tally ≡ room_tally (length (learned 0 journal)) lack
   pub full : IsFull journal lack
@@ -99,9 +106,17 @@ pub record IsCrowded (lack : NoRoom) (formula : FormulaData) (journal : List Ent
 -- empty clause added; the output is as it was
 pub record IsStarved (formula : FormulaData) (journal : List Entry) (tally : Tally) (run : Run) : Type 0 where
   pub started : IsStarted 0 formula journal tally run
-  pub fewer : length (learned 0 journal) < run.limit
+  pub fewer : length (learned 0 journal) < run.plan.limit
   pub unrefuted : IsUnrefuted journal
   pub out : IsStill run.out.faults
+
+-- memory ran out in the check of the log, which is asked for, behind a verdict that holds; no call of the proof or the output
+-- failed
+pub record IsUnchecked (formula : FormulaData) (journal : List Entry) (tally : Tally) (run : Run) : Type 0 where
+  pub asked : run.plan.check ≡ true
+  pub started : IsStarted 0 formula journal tally run
+  pub decided : IsDecided run.plan.limit formula journal
+  pub quiet : IsQuiet run
 
 abbrev pub Outcome : End → FormulaData → List Entry → Tally → Run → Type 0
 Outcome (end.Satisfiable model) F J tally run = IsAnswered (verdict.Satisfiable model) F J tally run
@@ -111,11 +126,11 @@ Outcome end.Usage F J tally run = ⊥
 Outcome (end.BadInput code line) F J tally run = IsRefused code line F J tally run
 Outcome end.CannotOpen F J tally run = ⊥
 Outcome end.CannotCreate F J tally run = ⊥
-Outcome end.ReadFault F J tally run = RoseIn run.source × IsBroken F J tally run
+Outcome end.ReadFault F J tally run = RoseIn run.source × (run.plan.make ≡ None) × IsBroken F J tally run
 Outcome end.WriteFault F J tally run = IsCutOff F J tally run
 Outcome end.ProofFault F J tally run = IsUnproved F J tally run
 Outcome (end.Room lack) F J tally run = IsCrowded lack F J tally run
-Outcome end.Memory F J tally run = (IsStill run.source × IsBroken F J tally run) ⊎ IsStarved F J tally run
+Outcome end.Memory F J tally run = (IsStill run.source × IsBroken F J tally run) ⊎ IsStarved F J tally run ⊎ IsUnchecked F J tally run
 
 -- how a run over a source ended
 pub record IsRun (end : End) (tally : Tally) (run : Run) : Type 0 where
@@ -123,10 +138,10 @@ pub record IsRun (end : End) (tally : Tally) (run : Run) : Type 0 where
   pub journal : List Entry
   pub outcome : Outcome end formula journal tally run
 
--- how a run ended whose formula was read, over every source that it may have been read from
-abbrev pub Concluded : ℕ → FormulaData → End → Tally → Writer → Output → Type 0
-Concluded limit formula end tally writer out = (text : Option (List ℕ)) (source : Count) → WasRead text formula → IsStill source
-    → IsRun end tally (record { limit = limit; text = text; source = source; proof = Some writer; out = out })
+-- how a run ended whose formula was made or read, over every source that it may have been read from
+abbrev pub Concluded : Plan → FormulaData → End → Tally → Writer → Output → Type 0
+Concluded plan formula end tally writer out = (text : Option (List ℕ)) (source : Count) → WasGiven plan.make text formula → IsStill source
+    → IsRun end tally (record { plan = plan; text = text; source = source; proof = Some writer; out = out })
 
 -- no proof was created, so nothing was read, logged, counted or printed
 pub record IsBarren (journal : List Entry) (tally : Tally) (call : Call) : Type 0 where

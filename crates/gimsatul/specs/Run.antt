@@ -4,7 +4,9 @@ use Rattle.std.specs.declared.option.Option.{Option}
 use Rattle.io_edge.specs.Bytes.{GrowsBy, GrowsByPart}
 use Rattle.io_edge.specs.Causes.{Rose}
 use Rattle.io_edge.specs.Paths.{PathMap, told_at, told_target, IsThere}
-use Rattle.gimsatul.specs.Words.{command_of, conflicts_limit, file_path}
+use Rattle.gimsatul.specs.declared.plan.Plan.{Plan}
+use Rattle.gimsatul.specs.Words.{command_of, file_path}
+use Rattle.gimsatul.specs.Planned.{plan_of}
 
 -- a count of faults as the call begins and as it ends
 pub record Count : Type 0 where
@@ -26,8 +28,7 @@ pub record Output : Type 0 where
 
 -- a run over a source, once the proof is created
 pub record Run : Type 0 where
-  -- how many lemmas the ring may learn
-  pub limit : ℕ
+  pub plan : Plan
   -- what the source had left, where it tells
   pub text : Option (List ℕ)
   pub source : Count
@@ -71,7 +72,7 @@ source_of call = source_in call.input call.file
 
 -- the call as a run over its source
 abbrev pub run_of : Call → Run
-run_of call = record { limit = conflicts_limit (command_of call.words); text = text_of call; source = source_of call; proof = call.proof; out = call.out }
+run_of call = record { plan = plan_of (command_of call.words); text = text_of call; source = source_of call; proof = call.proof; out = call.out }
 
 -- an input was opened, exactly where a file is given; where the files are told, it is there
 pub record HasFile (call : Call) : Type 0 where

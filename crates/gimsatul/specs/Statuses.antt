@@ -1,4 +1,4 @@
--- What a report says, by its status: of the formula that was read and of the one journal of the run; and when the call must
+-- What a report says, by its status: of the formula that was read or made and of the one journal of the run; and when the call must
 -- answer.
 use Rattle.std.specs.Prelude.{◌≡◌, ◌≢◌, ◌⊎◌, ℕ, List, [], Bool, Some, None, IfSome, IsSome}
 use Rattle.std.specs.declared.option.Option.{Option}
@@ -10,11 +10,11 @@ use Rattle.dimacs_read.specs.declared.stop.Code.{Code}
 use Rattle.gimsatul.specs.declared.report.Tally.{Tally}
 use Rattle.gimsatul.specs.declared.report.Verdict.{Verdict}
 use Rattle.gimsatul.specs.declared.report.Verdict.TheVariants.{Satisfiable, Unsatisfiable, Unknown}
-use Rattle.gimsatul.specs.Words.{Command, command_of, file_path, proof_path}
-use Rattle.gimsatul.specs.Input.{WasRead}
+use Rattle.gimsatul.specs.Words.{Command, command_of, file_path, make_number, proof_path}
+use Rattle.gimsatul.specs.Input.{WasGiven}
 use Rattle.gimsatul.specs.Run.{Call, HasFile, run_of, source_of, text_of, RoseIn, IsStill}
 use Rattle.gimsatul.specs.Journaled.{IsJournal, HoldsLog}
-use Rattle.gimsatul.specs.Outcome.{IsBroken, IsRefused, IsAnswered, IsCutOff, IsUnproved, IsCrowded, IsStarved, IsBarren, IsIdle}
+use Rattle.gimsatul.specs.Outcome.{IsBroken, IsRefused, IsAnswered, IsCutOff, IsUnproved, IsCrowded, IsStarved, IsUnchecked, IsBarren, IsIdle}
 
 -- the verdict holds of the formula and the journal; nothing failed but perhaps a write to `err`
 pub record Answers (verdict : Verdict) (formula : FormulaData) (journal : List Entry) (tally : Tally) (call : Call) : Type 0 where
@@ -61,30 +61,36 @@ pub record MadeAll (call : Call) : Type 0 where
   pub input : (call.file ≡ None) ⊎ IsStill call.input
 
 -- memory ran out: no count rose but perhaps the proof's, in its last flush, and that of `err`; nothing was made, or all that
--- the words ask for, and then no formula was read, or one was and the search came to no verdict
+-- the words ask for, and then no formula was read or made, or one was and the search came to no verdict, or it did and the
+-- check of the log, which is asked for, came to no end
 pub record RanOut (formula : FormulaData) (journal : List Entry) (tally : Tally) (call : Call) : Type 0 where
   pub files : IsStill call.files
   pub input : IsStill call.input
   pub source : IsStill (source_of call)
   pub out : IsStill call.out.faults
-  pub made : IsIdle journal tally call ⊎ (MadeAll call × (IsBroken formula journal tally (run_of call) ⊎ IsStarved formula journal tally (run_of call)))
+  pub made : IsIdle journal tally call ⊎ (MadeAll call × (IsBroken formula journal tally (run_of call) ⊎ IsStarved formula journal tally (run_of call) ⊎ IsUnchecked formula journal tally (run_of call)))
 
--- the journal stands, and the proof, where there is one, holds it and was flushed last: it is of the formula that was read, or
--- empty
+-- the journal stands, and the proof, where there is one, holds it and was flushed last: it is of the formula that was read or
+-- made, or empty
 pub record HasJournal (formula : FormulaData) (journal : List Entry) (call : Call) : Type 0 where
   pub stands : IsJournal 1 formula.clauses journal
-  pub of_input : (journal ≡ []) ⊎ WasRead (text_of call) formula
+  pub of_input : (journal ≡ []) ⊎ WasGiven (make_number (command_of call.words)) (text_of call) formula
   pub before : ℕ
   pub held : IfSome call.proof (HoldsLog formula.clauses journal before)
 
--- the words are lawful, the text is told and spells a formula, and no count rose or stands at its last value but perhaps that of `err`
-pub record MustAnswer (call : Call) : Type 0 where
-  pub command : Command
-  pub lawful : command_of call.words ≡ Some command
+-- the text is told and spells a formula
+pub record IsReadable (call : Call) : Type 0 where
   pub text : List ℕ
   pub told : text_of call ≡ Some text
   pub formula : FormulaData
   pub spelled : Reads text formula
+
+-- the words are lawful, a formula is to be made or can be read, and no count rose or stands at its last value but perhaps that
+-- of `err`
+pub record MustAnswer (call : Call) : Type 0 where
+  pub command : Command
+  pub lawful : command_of call.words ≡ Some command
+  pub given : IsSome command.make ⊎ IsReadable call
   pub files : RoseIn call.files → ⊥
   pub source : RoseIn (source_of call) → ⊥
   pub out : RoseIn call.out.faults → ⊥
@@ -94,7 +100,7 @@ abbrev pub IsAnswer : ℕ → Type 0
 IsAnswer status = (status ≡ 10) ⊎ (status ≡ 20) ⊎ (status ≡ 0)
 
 pub record Statuses (call : Call) (status : ℕ) (model : Option (List Bool)) (tally : Tally) : Type 0 where
-  -- the formula that was read, and the journal of the run; each case is of these
+  -- the formula that was read or made, and the journal of the run; each case is of these
   pub formula : FormulaData
   pub journal : List Entry
   pub satisfiable : status ≡ 10 → HasModel model formula journal tally call
@@ -105,7 +111,7 @@ pub record Statuses (call : Call) (status : ℕ) (model : Option (List Bool)) (t
   pub bad_input : status ≡ 2 → HasBadPlace formula journal tally call
   pub cannot_open : status ≡ 3 → IsUnopened journal tally call
   pub cannot_create : status ≡ 4 → IsUncreated journal tally call
-  pub read_fault : status ≡ 5 → RoseIn (source_of call) × IsBroken formula journal tally (run_of call)
+  pub read_fault : status ≡ 5 → RoseIn (source_of call) × (make_number (command_of call.words) ≡ None) × IsBroken formula journal tally (run_of call)
   pub write_fault : status ≡ 6 → IsCutOff formula journal tally (run_of call)
   pub proof_fault : status ≡ 7 → IsUnproved formula journal tally (run_of call)
   pub room : status ≡ 8 → IsCrowded (record { need = tally.need; largest = tally.largest }) formula journal tally (run_of call)

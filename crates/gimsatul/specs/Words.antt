@@ -1,6 +1,7 @@
 -- The command line, as `clap` reads it: the arguments that the program has, and what the words ask for.
-use Rattle.std.specs.Prelude.{◌≡◌, ℕ, ◌^◌, List, [], ◌∷◌, true, Some, None, codes}
+use Rattle.std.specs.Prelude.{◌≡◌, ◌⊎◌, ℕ, ◌^◌, ◌-◌, Bool, false, true, ◌&&◌, if◌then◌else◌, List, [], ◌∷◌, Some, None, is_some, option_map, codes}
 use Rattle.std.specs.declared.option.Option.{Option}
+use Rattle.std.specs.Str.{bytes_eq}
 use Rattle.std.specs.Str.Parse.{digits_value, without_leading_plus}
 use Rattle.clap.specs.Words.{App, Kinds, Row, Rule, fault_of, first_of, matches_of, one_of, found_of, one_text, IsUnsignedIn, new_app, new_rule, with_rule}
 use Rattle.clap.specs.Simple.{on_top}
@@ -33,6 +34,18 @@ proof_rule = record (new_rule (codes "proof")) { long = Some (codes "proof") }
 abbrev pub no_simplify_rule : Rule
 no_simplify_rule = record (new_rule (codes "no-simplify")) { long = Some (codes "no-simplify"); action = Some SetTrue }
 
+-- `--check`
+abbrev pub check_rule : Rule
+check_rule = record (new_rule (codes "check")) { long = Some (codes "check"); action = Some SetTrue }
+
+-- `--make N`, with N from 0 to 2^63 - 1
+abbrev pub make_rule : Rule
+make_rule = record (new_rule (codes "make")) {
+  long = Some (codes "make");
+  action = Some Set;
+  parser = Some (Unsigned 0 (2 ^ 63 - 1));
+}
+
 -- FILE
 abbrev pub file_rule : Rule
 file_rule = new_rule (codes "file")
@@ -43,35 +56,56 @@ bare_app = on_top (λ s. record s { no_binary_name = true; disable_help_flag = t
 
 -- the program's command
 abbrev pub solver_app : App
-solver_app = with_rule (with_rule (with_rule (with_rule (with_rule bare_app conflicts_rule) threads_rule) proof_rule) no_simplify_rule) file_rule
+solver_app =
+    with_rule (with_rule (with_rule (with_rule (with_rule (with_rule (with_rule bare_app conflicts_rule) threads_rule) proof_rule) no_simplify_rule) check_rule)
+    make_rule) file_rule
 
 pub record Command : Type 0 where
   -- how many lemmas the ring may learn
   pub conflicts : ℕ
   -- where the proof goes, if it is wanted
   pub proof : Option (List ℕ)
+  -- whether the log is checked
+  pub check : Bool
+  -- the number of the formula that is made in place of an input, if one is
+  pub make : Option ℕ
   -- where the input comes from, if not from standard input
   pub file : Option (List ℕ)
 
 -- the value of digits, with a plus sign before them or none
+abbrev pub number_of : List ℕ → ℕ
+number_of text = digits_value 10 (without_leading_plus text)
+
 abbrev pub number_in : Option (List ℕ) → ℕ
 number_in None = 0
-number_in (Some text) = digits_value 10 (without_leading_plus text)
+number_in (Some text) = number_of text
+
+-- a flag that was used
+abbrev pub flag_in : Option (List ℕ) → Bool
+flag_in None = false
+flag_in (Some text) = bytes_eq text (codes "true")
 
 -- what the matches say
 abbrev pub command_in : List Row → Command
 command_in rows = record {
   conflicts = number_in (one_of (codes "conflicts") rows);
   proof = first_of (codes "proof") rows;
+  check = flag_in (first_of (codes "check") rows);
+  make = option_map number_of (one_of (codes "make") rows);
   file = first_of (codes "file") rows;
 }
 
+-- the command, unless it asks for a formula that is made and has a file to read one from
+abbrev pub unless_both : Command → Option Command
+unless_both command = if is_some command.make && is_some command.file then None else Some command
+
 -- the command, unless an error of some kind stands against the words
 abbrev pub unless_refused : Kinds → Command → Option Command
-unless_refused [] command = Some command
+unless_refused [] command = unless_both command
 unless_refused (kind ∷ kinds) command = None
 
--- what the words ask for; none where `clap` refuses them for another cause than want of memory
+-- what the words ask for; none where `clap` refuses them for another cause than want of memory, or where `--make` stands
+-- with FILE
 unfoldable pub command_of : List (List ℕ) → Option Command
 command_of words = unless_refused (fault_of solver_app words) (command_in (matches_of solver_app words))
 
@@ -85,13 +119,21 @@ abbrev pub file_path : Option Command → Option (List ℕ)
 file_path None = None
 file_path (Some command) = command.file
 
--- how many lemmas the ring may learn
-abbrev pub conflicts_limit : Option Command → ℕ
-conflicts_limit None = 0
-conflicts_limit (Some command) = command.conflicts
+-- the number of the formula that is made, if one is
+abbrev pub make_number : Option Command → Option ℕ
+make_number None = None
+make_number (Some command) = command.make
 
--- the matches have a number for `--conflicts`, in its range
-pub record HasLimit (matches : ArgMatches) : Type 0 where
+-- the matches have a number for this option, in its range
+pub record HasNumber (id : List ℕ) (low high : ℕ) (matches : ArgMatches) : Type 0 where
   pub text : List ℕ
-  pub given : one_text (found_of matches) (codes "conflicts") ≡ Some text
-  pub accepted : IsUnsignedIn 1 (10 ^ 12) text
+  pub given : one_text (found_of matches) id ≡ Some text
+  pub accepted : IsUnsignedIn low high text
+
+-- they have one for `--conflicts`
+abbrev pub HasLimit : ArgMatches → Type 0
+HasLimit = HasNumber (codes "conflicts") 1 (10 ^ 12)
+
+-- they have one for `--make`, or no value
+abbrev pub HasMade : ArgMatches → Type 0
+HasMade matches = (one_text (found_of matches) (codes "make") ≡ None) ⊎ HasNumber (codes "make") 0 (2 ^ 63 - 1) matches

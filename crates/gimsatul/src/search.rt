@@ -1,77 +1,120 @@
 // The search: one ring over the formula, whose lines go to the proof.
-ghost use Rattle.std.specs.Prelude.{◌≡◌, ◌<◌, ◌≤◌, ◌^◌, All, IfOk, IfErr, length, true, map, [], Err};
+ghost use Rattle.std.specs.Prelude.{◌≡◌, ◌<◌, ◌≤◌, ◌^◌, All, IfOk, IfErr, OnOk, is_some, length, true, map, [], Err, None};
 ghost use Rattle.std.specs.List.{list_any};
+ghost use Rattle.std.specs.Option.{option_map};
 ghost use Rattle.io_edge.specs.Paths.{IsEmptyWhereTold};
 ghost use Rattle.sat_words.specs.Clause.{is_empty};
 ghost use Rattle.sat_words.specs.Literal.{IsOn};
 ghost use Rattle.ring_run.specs.Ended.{IsJobOf};
-ghost use Rattle.drat_text.specs.SinkData.{told_by};
 ghost use Rattle.gimsatul.specs.declared.report.End.TheVariants.{Memory};
+ghost use Rattle.gimsatul.specs.Logged.{logged_by, TellsKept};
+ghost use Rattle.gimsatul.specs.Planned.{kept_formula};
 ghost use Rattle.gimsatul.specs.Searched.{IsSearch, HasClosed};
 
 use crate::conclude::verdict_of;
+use crate::log_lines::LogLines;
 use crate::occurring::occurring_in;
+use crate::plan::Plan;
 use crate::report::{End, Verdict};
 use crate::start::{has_empty, open_port};
-use drat_text::{LineOut, LineStop, SinkLines};
+use drat_text::{LineOut, LineStop, text_determines_lines};
 use io_edge::{Failed, Sink};
 use ring_port::PlainPort;
 use ring_run::{Addresses, Job, run_ring};
 use sat_words::{Formula, Line, Lits};
 use std::alloc::{AllocError, Global};
 
-/// A verdict or the end without one, how many lemmas were learned, and the proof's sink.
+/// A verdict or the end without one, how many lemmas were learned, what was kept, and the proof's sink.
 #[derive(Drop)]
 pub struct Searched<P> {
     pub verdict: Result<Verdict, End>,
     pub learned: u64,
+    pub kept: Kept,
     pub proof: P,
+}
+
+/// What is wanted behind a verdict.
+#[derive(Drop)]
+pub struct Kept {
+    /// The formula, where it was made or the log is to be checked.
+    pub formula: Option<Formula>,
+    /// The lines of the log, where it is to be checked.
+    pub lines: Option<Vec<Line>>,
 }
 
 impl<P> Searched<P> {
     /// Memory ran out before a line was put.
     fn starved(proof: P) -> Searched<P>
-        ensures { result ≡ record { verdict = Err Memory; learned = 0; proof = proof } }
+        ensures { result ≡ record { verdict = Err Memory; learned = 0; kept = record { formula = None; lines = None }; proof = proof } }
     {
         Searched {
             verdict: Err(End::Memory),
             learned: 0,
+            kept: Kept {
+                formula: None,
+                lines: None,
+            },
             proof,
         }
     }
 }
 
 /// Writes what is left of the lines. A verdict holds only where the sink has taken them all.
-fn close<P: Sink>(lines: SinkLines<P>, verdict: Result<Verdict, End>, learned: u64) -> Searched<P>
-    ensures closed { HasClosed (told_by P.written P.flushed P.target P.faults lines) verdict result.verdict (P.faults result.proof) (P.written result.proof) }
+fn close<P: Sink>(
+    lines: LogLines<P>,
+    formula: Option<Formula>,
+    verdict: Result<Verdict, End>,
+    learned: u64,
+) -> Searched<P>
+    ensures closed { HasClosed (logged_by P.written P.flushed P.target P.faults lines) verdict result.verdict (P.faults result.proof) (P.written result.proof) }
+    ensures kept { option_map (λ v. v.items) result.kept.lines ≡ lines.kept }
+    ensures tells { TellsKept lines.kept (logged_by P.written P.flushed P.target P.faults lines).written }
+    ensures formula { result.kept.formula ≡ formula }
     ensures learned { result.learned ≡ learned }
-    ensures target { P.target result.proof ≡ P.target lines.sink }
+    ensures target { P.target result.proof ≡ P.target lines.lines.sink }
 {
     match lines.finish() {
-        (Ok(()), proof) => Searched {
+        (Ok(()), proof, lines) => Searched {
             verdict,
             learned,
+            kept: Kept { formula, lines },
             proof,
         },
-        (Err(Failed), proof) => Searched {
+        (Err(Failed), proof, lines) => Searched {
             verdict: Err(End::ProofFault),
             learned,
+            kept: Kept { formula, lines },
             proof,
         },
     }
 }
 
+/// Lets the formula go unless it is wanted behind a verdict.
+fn keep(plan: &Plan, formula: Formula) -> Option<Formula>
+    ensures { result ≡ kept_formula plan.now formula }
+{
+    if plan.keeps_formula() {
+        Some(formula)
+    } else {
+        None
+    }
+}
+
 /// Writes the empty clause, which the formula has.
-fn refute<P: Sink>(alloc: Global, formula: &Formula, limit: u64, proof: P) -> Searched<P>
-    requires some { 1 ≤ limit }
-    requires given { list_any is_empty formula.now.clauses ≡ true }
-    requires on_variables { All (All (IsOn formula.now.vars)) formula.now.clauses }
+fn refute<P: Sink>(alloc: Global, formula: Formula, plan: &Plan, proof: P) -> Searched<P>
+    requires some { 1 ≤ plan.now.limit }
+    requires given { list_any is_empty formula.clauses ≡ true }
+    requires on_variables { All (All (IsOn formula.vars)) formula.clauses }
     requires empty { IsEmptyWhereTold (P.written proof) }
     requires quiet { P.faults proof ≡ 0 }
-    ensures searched { IsSearch limit formula.now result.verdict result.learned (P.faults result.proof) (P.written result.proof) }
+    ensures searched { IsSearch plan.now.limit formula result.verdict result.learned (P.faults result.proof) (P.written result.proof) (option_map (λ v. v.items) result.kept.lines) }
+    ensures formula { OnOk result.verdict (result.kept.formula ≡ kept_formula plan.now formula) }
+    ensures lines { OnOk result.verdict (is_some result.kept.lines ≡ plan.now.check) }
     ensures target { P.target result.proof ≡ P.target proof }
 {
-    let mut lines = match SinkLines::new(alloc, formula.clauses().len() as u64, proof) {
+    // So lines that were kept are the log's.
+    text_determines_lines();
+    let mut lines = match LogLines::new(alloc, formula.clauses().len() as u64, plan.check, proof) {
         Ok(lines) => lines,
         Err(refused) => return Searched::starved(refused.value),
     };
@@ -81,13 +124,13 @@ fn refute<P: Sink>(alloc: Global, formula: &Formula, limit: u64, proof: P) -> Se
         Err(LineStop::Full) => unreachable!(),
         Err(LineStop::Memory) => Err(End::Memory),
     };
-    close(lines, verdict, 0)
+    close(lines, keep(plan, formula), verdict, 0)
 }
 
 /// The part of ring 0, which searches alone.
 fn job_of<P: Sink>(
     alloc: Global,
-    port: &PlainPort<SinkLines<P>>,
+    port: &PlainPort<LogLines<P>>,
     vars: u32,
     limit: u64,
 ) -> Result<Job, AllocError>
@@ -108,33 +151,38 @@ fn job_of<P: Sink>(
     })
 }
 
-/// Searches for a model of the formula, and writes each lemma to the proof. It learns at most `limit` lemmas. The formula
-/// is let go before the ring starts.
-pub fn search<P: Sink>(alloc: Global, formula: Formula, limit: u64, proof: P) -> Searched<P>
+/// Searches for a model of the formula, and writes each lemma to the proof. It learns at most the plan's limit of lemmas.
+/// The formula is let go before the ring starts, unless it is wanted behind a verdict.
+pub fn search<P: Sink>(alloc: Global, formula: Formula, plan: &Plan, proof: P) -> Searched<P>
     requires few { formula.vars < 2 ^ 28 }
     requires on_variables { All (All (IsOn formula.vars)) formula.clauses }
     requires empty { IsEmptyWhereTold (P.written proof) }
     requires quiet { P.faults proof ≡ 0 }
-    requires some { 1 ≤ limit }
-    ensures searched { IsSearch limit formula result.verdict result.learned (P.faults result.proof) (P.written result.proof) }
+    requires some { 1 ≤ plan.now.limit }
+    ensures searched { IsSearch plan.now.limit formula result.verdict result.learned (P.faults result.proof) (P.written result.proof) (option_map (λ v. v.items) result.kept.lines) }
+    ensures formula { OnOk result.verdict (result.kept.formula ≡ kept_formula plan.now formula) }
+    ensures lines { OnOk result.verdict (is_some result.kept.lines ≡ plan.now.check) }
     ensures target { P.target result.proof ≡ P.target proof }
 {
     if has_empty(formula.clauses()) {
-        return refute(alloc, &formula, limit, proof);
+        return refute(alloc, formula, plan, proof);
     }
+    // So lines that were kept are the log's.
+    text_determines_lines();
     let vars = formula.vars();
     let Ok(occurring) = occurring_in(alloc, formula.clauses(), vars) else {
         return Searched::starved(proof);
     };
-    let mut port = match open_port(alloc, formula, proof) {
+    let mut port = match open_port(alloc, &formula, plan.check, proof) {
         Ok(port) => port,
         Err(refused) => return Searched::starved(refused.value),
     };
-    let Ok(job) = job_of(alloc, &port, vars, limit) else {
-        return close(port.into_lines(), Err(End::Memory), 0);
+    let formula = keep(plan, formula);
+    let Ok(job) = job_of(alloc, &port, vars, plan.limit) else {
+        return close(port.into_lines(), formula, Err(End::Memory), 0);
     };
     let (end, counts) = run_ring(alloc, &mut port, &job);
     let lines = port.into_lines();
     let verdict = verdict_of(occurring, vars, end);
-    close(lines, verdict, counts.learned)
+    close(lines, formula, verdict, counts.learned)
 }

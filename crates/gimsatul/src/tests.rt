@@ -1,5 +1,5 @@
 // Whole calls over objects in memory.
-use crate::{Tally, Verdict, answer_text_to, gimsatul};
+use crate::{Remarks, Tally, Verdict, answer_text_to, gimsatul};
 use io_edge::{MemFile, MemFiles, MemOutput, MemSink, MemSource};
 use sat_words::Assignment;
 use std::alloc::Global;
@@ -74,7 +74,7 @@ fn are_same(found: &[u64], wanted: &[u64]) -> bool {
     found == wanted
 }
 
-/// A model is there exactly at status 10, and its text is the one that was printed.
+/// A model is there exactly at status 10, and its text is the one that was printed. That of a made formula is not printed.
 fn check_model(
     rt: &(impl Abort + AllocGlobal),
     row: &Row,
@@ -88,8 +88,20 @@ fn check_model(
     if vars > 30 {
         return Err(Fail::from("a model of too many variables"));
     }
+    let remarks = Remarks {
+        made: None,
+        checked: row.words.contains(&"--check"),
+    };
     let mut again = MemSink::new(rt.alloc(), ROOM, NEVER)?;
-    assert!(rt; answer_text_to(&mut again, vars as u32, &Verdict::Satisfiable(model)).is_ok());
+    assert!(rt;
+        answer_text_to(
+            &mut again,
+            vars as u32,
+            &remarks,
+            &Verdict::Satisfiable(model)
+        )
+        .is_ok()
+    );
     assert!(rt; is_same(again.bytes(), row.out));
     Ok(())
 }
@@ -382,7 +394,11 @@ fn words_that_are_refused(rt: HostRuntime) -> Result<(), Fail> {
         proof: None,
         ..PLAIN
     };
-    let table: [&[&str]; 12] = [
+    let table: [&[&str]; 16] = [
+        &["--make", "7", "x.cnf"],
+        &["--make", "-1"],
+        &["--make", "9223372036854775808"],
+        &["--check", "--check"],
         &["--threads", "0"],
         &["--threads", "17"],
         &["--help"],
@@ -622,6 +638,77 @@ fn six_pigeons_in_five_holes(rt: HostRuntime) -> Result<(), Fail> {
         ..PLAIN
     };
     check_row(&rt, row, 65536)
+}
+
+/// The lines of the log are checked at each verdict, with a proof and without one.
+#[test]
+fn checked_logs(rt: HostRuntime) -> Result<(), Fail> {
+    let rows = [
+        Row {
+            words: &["--no-simplify", "--check", "--proof", "P"],
+            input: b"p cnf 2 4\n1 2 0\n1 -2 0\n-1 2 0\n-1 -2 0\n",
+            status: 20,
+            out: b"c proof accepted\ns UNSATISFIABLE\n",
+            proof: Some(b"1 0\n0\n"),
+            learned: &[1],
+            ..PLAIN
+        },
+        Row {
+            words: &["--check"],
+            input: b"p cnf 2 3\n1 1 0\n2 -2 0\n-1 -2 -2 0\n",
+            out: b"c proof accepted\ns SATISFIABLE\nv 1 -2 0\n",
+            compares_proof: false,
+            ..MODEL
+        },
+        Row {
+            words: &["--check", "--conflicts", "1"],
+            input: PIGEONS,
+            status: 0,
+            out: b"c proof accepted\ns UNKNOWN\n",
+            compares_proof: false,
+            learned: &[1],
+            ..PLAIN
+        },
+        Row {
+            words: &["--check"],
+            input: PIGEONS,
+            status: 20,
+            out: b"c proof accepted\ns UNSATISFIABLE\n",
+            compares_proof: false,
+            learned: &[49],
+            ..PLAIN
+        },
+    ];
+    for row in &rows {
+        check_row(&rt, *row, 65536)?;
+    }
+    Ok(())
+}
+
+/// The formula of number 7 is the same each time, and so is what is printed of it; the model is reported alone.
+#[test]
+fn a_formula_that_is_made(rt: HostRuntime) -> Result<(), Fail> {
+    let alloc = rt.alloc();
+    let words = words_of(alloc, &["--make", "7"])?;
+    for _run in 0..2 {
+        let spare = MemSink::new(alloc, 1 << 20, NEVER)?;
+        let mut files = MemFiles::new(alloc, &[], Vec::new(alloc), spare, FIRST);
+        let mut input = MemSource::in_pieces(NOTHING, 65536, FIRST);
+        let mut out = MemSink::new(alloc, ROOM, NEVER)?;
+        let mut err = MemSink::new(alloc, ROOM, NEVER)?;
+        let report = gimsatul(alloc, &words, &mut files, &mut input, &mut out, &mut err);
+        assert_eq!(rt; report.status, 10);
+        assert!(rt;
+            is_same(
+                out.bytes(),
+                b"c vars 20000\nc clauses 60000\nc satisfied 60000\ns SATISFIABLE\n"
+            )
+        );
+        assert_eq!(rt; report.model.map(|model| model.len()), Some(20000));
+        assert!(rt; is_same(input.left(), NOTHING));
+        assert!(rt; err.bytes().is_empty());
+    }
+    Ok(())
 }
 
 #[test]

@@ -2,17 +2,19 @@
 ghost use Rattle.std.specs.Prelude.{◌≡◌, ◌≤◌, ◌⊎◌, Bool, true, false, ℕ, Some, None, map, string_bytes, option_copied, option_map, is_some, IfOk, OnOk, OnErr, IfSome, IsSome, IsSomeAnd};
 ghost use Rattle.io_edge.specs.Causes.{HasCause};
 ghost use Rattle.io_edge.specs.Paths.{IsEmptyWhereTold, IsThere};
-ghost use Rattle.gimsatul.specs.Words.{command_of, file_path, proof_path};
+ghost use Rattle.gimsatul.specs.Words.{command_of, file_path, make_number, proof_path};
+ghost use Rattle.gimsatul.specs.Planned.{plan_of};
 ghost use Rattle.gimsatul.specs.Run.{target_in, text_left, source_in, writer_of, IsOpened};
 ghost use Rattle.gimsatul.specs.Outcome.{IsCall, IsRun};
 ghost use Rattle.gimsatul.specs.Tallied.{no_tally};
 ghost use Rattle.gimsatul.specs.Ends.{status_of, model_of, prints_at, leaves_input_at, leaves_files_at};
 ghost use Rattle.gimsatul.specs.Statuses.{Statuses};
 
-use crate::decide::{Decided, decide_over};
+use crate::decide::{Decided, decide_made, decide_over};
 use crate::message::put_message;
+use crate::plan::Plan;
 use crate::report::{End, Report, Tally};
-use crate::words::parse;
+use crate::words::{Command, parse};
 use dimacs_read::read_or_bad;
 use io_edge::{Failed, Files, Sink, Source};
 use std::alloc::Global;
@@ -58,22 +60,23 @@ fn create<F: Files>(files: &mut F, path: Option<&str>) -> Result<F::Writer, Fail
 }
 
 /// Decides what the file has, or where there is none what standard input has.
-fn decide<R: Source, I: Source, W: Sink, O: Sink>(
+fn decide_read<R: Source, I: Source, W: Sink, O: Sink>(
     alloc: Global,
     file: Option<R>,
     input: &mut I,
-    limit: u64,
+    plan: &Plan,
     proof: W,
     out: &mut O,
     tally: Tally,
 ) -> Ended<R, W>
-    requires some { 1 ≤ limit }
+    requires some { 1 ≤ plan.now.limit }
+    requires unmade { plan.now.make ≡ None }
     requires fresh { IfSome file (λ reader. R.faults reader ≡ 0) }
     requires empty { IsEmptyWhereTold (W.written proof) }
     requires quiet { W.faults proof ≡ 0 }
     requires uncounted { tally ≡ no_tally }
     ensures outcome { IsRun result.end result.tally (record {
-      limit = limit;
+      plan = plan.now;
       text = text_left R.left file (I.left input.old);
       source = source_in (record { before = I.faults input.old; after = I.faults input.new }) (option_map R.faults result.file);
       proof = writer_of W.faults W.written W.flushed result.proof;
@@ -99,7 +102,7 @@ fn decide<R: Source, I: Source, W: Sink, O: Sink>(
             let Decided { end, proof } = decide_over(
                 alloc,
                 &mut reader,
-                limit,
+                plan,
                 proof,
                 out,
                 &mut tally,
@@ -112,7 +115,7 @@ fn decide<R: Source, I: Source, W: Sink, O: Sink>(
             }
         }
         None => {
-            let Decided { end, proof } = decide_over(alloc, input, limit, proof, out, &mut tally);
+            let Decided { end, proof } = decide_over(alloc, input, plan, proof, out, &mut tally);
             Ended {
                 end,
                 file: None,
@@ -120,6 +123,68 @@ fn decide<R: Source, I: Source, W: Sink, O: Sink>(
                 tally,
             }
         }
+    }
+}
+
+/// Decides the formula that is made, or what the file has, or where there is none what standard input has.
+fn decide<R: Source, I: Source, W: Sink, O: Sink>(
+    alloc: Global,
+    file: Option<R>,
+    input: &mut I,
+    plan: &Plan,
+    proof: W,
+    out: &mut O,
+    tally: Tally,
+) -> Ended<R, W>
+    requires some { 1 ≤ plan.now.limit }
+    requires fresh { IfSome file (λ reader. R.faults reader ≡ 0) }
+    requires empty { IsEmptyWhereTold (W.written proof) }
+    requires quiet { W.faults proof ≡ 0 }
+    requires uncounted { tally ≡ no_tally }
+    ensures outcome { IsRun result.end result.tally (record {
+      plan = plan.now;
+      text = text_left R.left file (I.left input.old);
+      source = source_in (record { before = I.faults input.old; after = I.faults input.new }) (option_map R.faults result.file);
+      proof = writer_of W.faults W.written W.flushed result.proof;
+      out = record {
+        faults = record { before = O.faults out.old; after = O.faults out.new };
+        before = O.written out.old;
+        after = O.written out.new;
+        flushed = O.flushed out.new;
+      };
+    }) }
+    ensures file { is_some result.file ≡ is_some file }
+    ensures proof { is_some result.proof ≡ true }
+    ensures target { IfSome result.proof (λ writer. W.target writer ≡ W.target proof) }
+    ensures unprinted { prints_at (status_of result.end) ≡ false → out.new ≡ out.old }
+    ensures unread { is_some file ≡ true → input.new ≡ input.old }
+    ensures made { is_some plan.now.make ≡ true → input.new ≡ input.old }
+    ensures ends { leaves_input_at (status_of result.end) ≡ false }
+    ensures opened { leaves_files_at (status_of result.end) true ≡ false }
+{
+    match plan.make {
+        None => decide_read(alloc, file, input, plan, proof, out, tally),
+        Some(number) => {
+            let mut tally = tally;
+            let Decided { end, proof } = decide_made(alloc, number, plan, proof, out, &mut tally);
+            Ended {
+                end,
+                file,
+                proof: Some(proof),
+                tally,
+            }
+        }
+    }
+}
+
+/// How the words ask that a formula is decided.
+fn plan_in(command: &Command<'_>) -> Plan
+    ensures { result ≡ record { limit = command.now.conflicts; check = command.now.check; make = command.now.make } }
+{
+    Plan {
+        limit: command.conflicts,
+        check: command.check,
+        make: command.make,
     }
 }
 
@@ -150,6 +215,7 @@ fn run<F: Files, I: Source, O: Sink>(
     ensures unread { leaves_input_at (status_of result.end) ≡ true → input.new ≡ input.old }
     ensures idle { result.proof ≡ None → input.new ≡ input.old }
     ensures file_alone { is_some (file_path (command_of (map string_bytes words.now))) ≡ true → input.new ≡ input.old }
+    ensures made_alone { is_some (make_number (command_of (map string_bytes words.now))) ≡ true → input.new ≡ input.old }
     ensures contents { F.contents files.new ≡ F.contents files.old }
     ensures unopened { leaves_files_at (status_of result.end) (is_some result.proof) ≡ true → files.new ≡ files.old }
 {
@@ -177,7 +243,7 @@ fn run<F: Files, I: Source, O: Sink>(
         }
     };
     match create(files, command.proof) {
-        Ok(proof) => decide(alloc, file, input, command.conflicts, proof, out, tally),
+        Ok(proof) => decide(alloc, file, input, &plan_in(&command), proof, out, tally),
         Err(Failed) => Ended {
             end: End::CannotCreate,
             file,
@@ -217,7 +283,7 @@ fn report_of<R, W>(ended: Ended<R, W>) -> Report<R, W>
 /// All that the program does: reads the words and the input, searches, writes the proof and the answer, and reports.
 ///
 /// `words` are the arguments without the program's name. The input is FILE where it is given, and standard input is then
-/// left alone. A fault of `err` changes nothing. The first refusal that is met decides, and nothing after it is begun,
+/// left alone, as where the formula is made. A fault of `err` changes nothing. The first refusal that is met decides, and nothing after it is begun,
 /// except that a proof that was created is always flushed as far as it goes.
 pub fn gimsatul<F: Files, I: Source, O: Sink, E: Sink>(
     alloc: Global,
@@ -247,6 +313,7 @@ pub fn gimsatul<F: Files, I: Source, O: Sink, E: Sink>(
     ensures unread { leaves_input_at result.status ≡ true → input.new ≡ input.old }
     ensures idle { result.proof ≡ None → input.new ≡ input.old }
     ensures file_alone { is_some (file_path (command_of (map string_bytes words.now))) ≡ true → input.new ≡ input.old }
+    ensures made_alone { is_some (make_number (command_of (map string_bytes words.now))) ≡ true → input.new ≡ input.old }
     ensures contents { F.contents files.new ≡ F.contents files.old }
     ensures unopened { leaves_files_at result.status (is_some result.proof) ≡ true → files.new ≡ files.old }
 {

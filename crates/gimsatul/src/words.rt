@@ -3,7 +3,7 @@ ghost use Rattle.std.specs.Prelude.{◌≡◌, ◌≤◌, ◌↔◌, false, map,
 ghost use Rattle.clap.specs.Words.{app_of, found_of, rows_of, rule_of};
 ghost use Rattle.clap.specs.declared.error.kind.ErrorKind.TheVariants.{OutOfMemory};
 ghost use Rattle.gimsatul.specs.Ends.{IsWordsEnd};
-ghost use Rattle.gimsatul.specs.Words.{HasLimit, command_in, command_of, solver_app, conflicts_rule, threads_rule, proof_rule, no_simplify_rule, file_rule};
+ghost use Rattle.gimsatul.specs.Words.{HasLimit, HasMade, command_in, command_of, unless_both, solver_app, conflicts_rule, threads_rule, proof_rule, no_simplify_rule, check_rule, make_rule, file_rule};
 
 use crate::report::End;
 use clap::builder::ValueParser;
@@ -14,6 +14,9 @@ use std::alloc::{AllocError, Global};
 /// The most lemmas that a ring may be allowed to learn.
 const MOST_CONFLICTS: u64 = 1_000_000_000_000;
 
+/// The greatest number of a formula that can be made.
+const MOST_MADE: u64 = (1 << 63) - 1;
+
 /// What the words ask for.
 #[derive(Clone, Copy)]
 pub struct Command<'a> {
@@ -21,6 +24,10 @@ pub struct Command<'a> {
     pub conflicts: u64,
     /// Where the proof goes, if it is wanted.
     pub proof: Option<&'a str>,
+    /// Whether the log is checked.
+    pub check: bool,
+    /// The number of the formula that is made in place of an input, if one is.
+    pub make: Option<u64>,
     /// Where the input comes from, if not from standard input.
     pub file: Option<&'a str>,
 }
@@ -62,6 +69,25 @@ fn no_simplify_arg<'a>(alloc: Global) -> Arg<'a>
         .action(ArgAction::SetTrue)
 }
 
+fn check_arg<'a>(alloc: Global) -> Arg<'a>
+    ensures rule { rule_of result ≡ check_rule }
+    ensures local { result.global ≡ false }
+{
+    Arg::new(alloc, "check")
+        .long("check")
+        .action(ArgAction::SetTrue)
+}
+
+fn make_arg<'a>(alloc: Global) -> Arg<'a>
+    ensures rule { rule_of result ≡ make_rule }
+    ensures local { result.global ≡ false }
+{
+    Arg::new(alloc, "make")
+        .long("make")
+        .action(ArgAction::Set)
+        .value_parser(ValueParser::unsigned(0, MOST_MADE))
+}
+
 fn file_arg<'a>(alloc: Global) -> Arg<'a>
     ensures rule { rule_of result ≡ file_rule }
     ensures local { result.global ≡ false }
@@ -81,6 +107,8 @@ fn solver<'a>(alloc: Global) -> Result<clap::Command<'a>, AllocError>
         .arg(threads_arg(alloc))?
         .arg(proof_arg(alloc))?
         .arg(no_simplify_arg(alloc))?
+        .arg(check_arg(alloc))?
+        .arg(make_arg(alloc))?
         .arg(file_arg(alloc))
 }
 
@@ -96,15 +124,39 @@ fn conflicts_in(matches: &ArgMatches<'_>) -> u64
     }
 }
 
+/// Whether the log is checked.
+fn check_in(matches: &ArgMatches<'_>) -> bool
+    ensures { result ≡ (command_in (rows_of (found_of matches.now))).check }
+{
+    match matches.get_str("check") {
+        Some(value) => value == "true",
+        None => false,
+    }
+}
+
+/// The number of the formula that is made, if one is.
+fn make_in(matches: &ArgMatches<'_>) -> Option<u64>
+    requires { HasMade matches.now }
+    ensures { result ≡ (command_in (rows_of (found_of matches.now))).make }
+{
+    match matches.get_one::<u64>("make") {
+        Some(number) => Some(number),
+        None => None,
+    }
+}
+
 /// What the matches ask for.
 fn command_in<'a>(matches: &ArgMatches<'a>) -> Command<'a>
-    requires { HasLimit matches.now }
-    ensures asks { command_in (rows_of (found_of matches.now)) ≡ record { conflicts = result.conflicts; proof = option_copied result.proof; file = option_copied result.file } }
+    requires limit { HasLimit matches.now }
+    requires made { HasMade matches.now }
+    ensures asks { command_in (rows_of (found_of matches.now)) ≡ record { conflicts = result.conflicts; proof = option_copied result.proof; check = result.check; make = result.make; file = option_copied result.file } }
     ensures some { 1 ≤ result.conflicts }
 {
     Command {
         conflicts: conflicts_in(matches),
         proof: matches.get_str("proof"),
+        check: check_in(matches),
+        make: make_in(matches),
         file: matches.get_str("file"),
     }
 }
@@ -119,9 +171,23 @@ fn end_of_kind(kind: ErrorKind) -> End
     }
 }
 
-/// Reads the words, without the program's name. They are refused exactly where `clap` refuses them.
+/// A formula is made or read from a file, and not both.
+fn unless_both(command: Command<'_>) -> Result<Command<'_>, End>
+    ensures asks { IfOk result (λ taken. unless_both (record { conflicts = command.entry.conflicts; proof = option_copied command.entry.proof; check = command.entry.check; make = command.entry.make; file = option_copied command.entry.file }) ≡ Some (record { conflicts = taken.conflicts; proof = option_copied taken.proof; check = taken.check; make = taken.make; file = option_copied taken.file })) }
+    ensures some { 1 ≤ command.entry.conflicts → IfOk result (λ taken. 1 ≤ taken.conflicts) }
+    ensures usage { IfErr result (λ end. unless_both (record { conflicts = command.entry.conflicts; proof = option_copied command.entry.proof; check = command.entry.check; make = command.entry.make; file = option_copied command.entry.file }) ≡ None) }
+    ensures ends { IfErr result (λ end. end ≡ End.Usage) }
+{
+    if command.make.is_some() && command.file.is_some() {
+        return Err(End::Usage);
+    }
+    Ok(command)
+}
+
+/// Reads the words, without the program's name. They are refused exactly where `clap` refuses them, and where `--make`
+/// stands with FILE.
 pub fn parse<'a>(alloc: Global, words: &'a [String]) -> Result<Command<'a>, End>
-    ensures asks { IfOk result (λ command. command_of (map string_bytes words.entry.now) ≡ Some (record { conflicts = command.conflicts; proof = option_copied command.proof; file = option_copied command.file })) }
+    ensures asks { IfOk result (λ command. command_of (map string_bytes words.entry.now) ≡ Some (record { conflicts = command.conflicts; proof = option_copied command.proof; check = command.check; make = command.make; file = option_copied command.file })) }
     ensures some { IfOk result (λ command. 1 ≤ command.conflicts) }
     ensures usage { IsErrOf result End.Usage → command_of (map string_bytes words.entry.now) ≡ None }
     ensures ends { IfErr result IsWordsEnd }
@@ -131,7 +197,7 @@ pub fn parse<'a>(alloc: Global, words: &'a [String]) -> Result<Command<'a>, End>
         Err(_) => return Err(End::Memory),
     };
     match command.try_get_matches_from(words) {
-        Ok(matches) => Ok(command_in(&matches)),
+        Ok(matches) => unless_both(command_in(&matches)),
         Err(error) => Err(end_of_kind(error.kind())),
     }
 }

@@ -1,4 +1,5 @@
 use crate::answer::answer_text_to;
+use crate::remarks::{Remarks, Summary};
 use crate::report::Verdict;
 use io_edge::{MemSink, WriteStop};
 use sat_words::Assignment;
@@ -16,29 +17,81 @@ fn model(rt: &impl Abort, alloc: Global, vars: u32, trues: u32) -> Result<Verdic
     Ok(Verdict::Satisfiable(values))
 }
 
+/// Nothing but the answer.
+const PLAIN: Remarks = Remarks {
+    made: None,
+    checked: false,
+};
+
+const CHECKED: Remarks = Remarks {
+    made: None,
+    checked: true,
+};
+
+/// Of a formula that was made.
+const MADE: Summary = Summary {
+    vars: 3,
+    clauses: 2,
+    satisfied: Some(2),
+};
+
+const MADE_AND_CHECKED: Remarks = Remarks {
+    made: Some(MADE),
+    checked: true,
+};
+
+const MADE_WITHOUT_A_MODEL: Remarks = Remarks {
+    made: Some(Summary {
+        satisfied: None,
+        ..MADE
+    }),
+    checked: false,
+};
+
 #[test]
 fn answers_and_their_texts(rt: HostRuntime) -> Result<(), Fail> {
     let alloc = rt.alloc();
     let table = [
-        (0, Verdict::Unsatisfiable, "s UNSATISFIABLE\n"),
-        (7, Verdict::Unknown, "s UNKNOWN\n"),
-        (0, model(&rt, alloc, 0, 0)?, "s SATISFIABLE\nv 0\n"),
-        (3, model(&rt, alloc, 3, 2)?, "s SATISFIABLE\nv 1 2 -3 0\n"),
+        (0, PLAIN, Verdict::Unsatisfiable, "s UNSATISFIABLE\n"),
+        (7, PLAIN, Verdict::Unknown, "s UNKNOWN\n"),
+        (0, PLAIN, model(&rt, alloc, 0, 0)?, "s SATISFIABLE\nv 0\n"),
+        (
+            3,
+            CHECKED,
+            model(&rt, alloc, 3, 2)?,
+            "c proof accepted\ns SATISFIABLE\nv 1 2 -3 0\n",
+        ),
+        (
+            3,
+            MADE_AND_CHECKED,
+            model(&rt, alloc, 3, 2)?,
+            "c vars 3\nc clauses 2\nc satisfied 2\nc proof accepted\ns SATISFIABLE\n",
+        ),
+        (
+            3,
+            MADE_WITHOUT_A_MODEL,
+            Verdict::Unknown,
+            "c vars 3\nc clauses 2\ns UNKNOWN\n",
+        ),
         (
             30,
+            PLAIN,
             model(&rt, alloc, 30, 30)?,
             "s SATISFIABLE\nv 1 2 3 4 5 6 7 8 9 10 11 12 13 14 15 16 17 18 19 20 21 22 23 24 25 26 27 28\nv 29 30 0\n",
         ),
     ];
-    for (vars, verdict, text) in &table {
+    for (vars, remarks, verdict, text) in &table {
         // The second call would fail: a short text is one write.
         let mut out = MemSink::new(alloc, 256, &[2])?;
-        assert!(rt; answer_text_to(&mut out, *vars, verdict).is_ok(), "{text}");
+        assert!(rt;
+            answer_text_to(&mut out, *vars, remarks, verdict).is_ok(),
+            "{text}"
+        );
         assert!(rt; out.bytes() == text.as_bytes(), "{text}");
 
         let mut out = MemSink::new(alloc, 256, &[1])?;
         assert!(rt;
-            answer_text_to(&mut out, *vars, verdict) == Err(WriteStop { taken: 0 }),
+            answer_text_to(&mut out, *vars, remarks, verdict) == Err(WriteStop { taken: 0 }),
             "{text}"
         );
         assert!(rt; out.bytes().is_empty(), "{text}");
@@ -54,7 +107,7 @@ const TRUES: u32 = 700;
 fn a_large_model_in_lines(rt: HostRuntime) -> Result<(), Fail> {
     let alloc = rt.alloc();
     let mut out = MemSink::new(alloc, 1 << 14, &[])?;
-    assert!(rt; answer_text_to(&mut out, MANY, &model(&rt, alloc, MANY, TRUES)?).is_ok());
+    assert!(rt; answer_text_to(&mut out, MANY, &PLAIN, &model(&rt, alloc, MANY, TRUES)?).is_ok());
     let text = std::str::from_utf8(out.bytes())?;
     assert!(rt; text.ends_with(" 0\n"));
     let mut numbers = Vec::new(alloc);
@@ -84,12 +137,12 @@ fn a_large_model_in_pieces(rt: HostRuntime) -> Result<(), Fail> {
     let alloc = rt.alloc();
     let verdict = model(&rt, alloc, MANY, TRUES)?;
     let mut whole = MemSink::new(alloc, 1 << 14, &[])?;
-    assert!(rt; answer_text_to(&mut whole, MANY, &verdict).is_ok());
+    assert!(rt; answer_text_to(&mut whole, MANY, &PLAIN, &verdict).is_ok());
     // A piece ends where another number, on a line of its own, and the end might have no room in 4096 bytes.
     for (failing, least, most) in [(1, 0, 0), (2, 4078, 4096), (3, 8156, 8192)] {
         let fails = [failing];
         let mut out = MemSink::new(alloc, 1 << 14, &fails)?;
-        let taken = match answer_text_to(&mut out, MANY, &verdict) {
+        let taken = match answer_text_to(&mut out, MANY, &PLAIN, &verdict) {
             Ok(()) => whole.bytes().len(),
             Err(stop) => stop.taken,
         };

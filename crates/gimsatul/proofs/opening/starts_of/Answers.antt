@@ -1,7 +1,7 @@
-use Rattle.std.proofs.Common.{◌≡◌, ◌∙◌, ◌+◌, ◌++◌, [], ℕ, sym, ap, refl, List, take}
+use Rattle.std.proofs.Common.{◌∙◌, ◌+◌, ◌++◌, [], ℕ, sym, ap, refl, List}
 use Rattle.std.specs.List.{cons_option}
 use Rattle.sat_words.specs.Literal.{Literal}
-use Rattle.gimsatul.specs.Opened.{start_of_clause, start_pairs}
+use Rattle.gimsatul.specs.Opened.{start_of_clause}
 use Rattle.gimsatul.proofs.Pairs.{pairs_step}
 use Rattle.gimsatul.proofs.opening.starts_of.Goals as goal
 

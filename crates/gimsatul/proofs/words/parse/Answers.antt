@@ -1,12 +1,20 @@
-use Rattle.std.proofs.Common.{◌∙◌, ap, sym, map, inl, inr, Some}
-use Rattle.std.specs.Prelude.{string_bytes}
+use Rattle.std.proofs.Common.{◌∙◌, ap, sym, map, inl, inr, Ok, Err}
+use Rattle.std.specs.Prelude.{string_bytes, Result, IfErr, IsErrOf}
+use Rattle.std.proofs.lemmas.Result.{IfOk-weaker}
 use Rattle.clap.specs.Words.{App, fault_of, is_simple, is_simple_and_free, kind_of, matches_of}
-use Rattle.gimsatul.specs.Words.{command_in}
-use Rattle.gimsatul.proofs.CommandLine.{limit_of, lawful_words, refused_words, solver_simple, solver_free}
+use Rattle.gimsatul.specs.Words.{command_in, unless_both}
+use Rattle.gimsatul.proofs.CommandLine.{limit_of, made_of, lawful_words, refused_words, solver_simple, solver_free}
 use Rattle.gimsatul.proofs.words.parse.Goals as goal
 
-pub command_in-requires : goal.command_in-requires
-command_in-requires c = limit_of c.in-Ok.command _ c.in-Ok.ensures c.in-Ok-try_get_matches_from.ensures.parsed
+pub command_in-requires-clause-limit : goal.command_in-requires-clause-limit
+command_in-requires-clause-limit c = limit_of c.in-Ok.command _ c.in-Ok.ensures c.in-Ok-try_get_matches_from.ensures.parsed
+
+pub command_in-requires-clause-made : goal.command_in-requires-clause-made
+command_in-requires-clause-made c = made_of c.in-Ok.command _ c.in-Ok.ensures c.in-Ok-try_get_matches_from.ensures.parsed
+
+refused : {T E : Type 0} (X : Type 0) (r : Result T E) (e : E) → IsErrOf r e → IfErr r (λ _. X) → X
+refused X (Ok x) e h k = absurd (cc h)
+refused X (Err x) e h k = k
 
 pub returns-in-Ok-try_get_matches_from-clause-asks : goal.returns-in-Ok-try_get_matches_from-clause-asks
 returns-in-Ok-try_get_matches_from-clause-asks c =
@@ -14,8 +22,19 @@ returns-in-Ok-try_get_matches_from-clause-asks c =
     let words = map string_bytes c.args.words.now in
     let ok = c.in-Ok-try_get_matches_from.ensures in
     let rows = (ok.matches (ap is_simple app ∙ solver_simple)).0 ∙ ap (λ (a : App). matches_of a words) app in
-    lawful_words words (sym (ap (λ (a : App). fault_of a words) app) ∙ ok.kinds (ap is_simple_and_free app ∙ solver_free))
-    ∙ ap (λ rs. Some (command_in rs)) (sym rows) ∙ ap Some c.command_in.ensures.asks
+    let asked = lawful_words words (sym (ap (λ (a : App). fault_of a words) app) ∙ ok.kinds (ap is_simple_and_free app ∙ solver_free))
+    ∙ ap (λ rs. unless_both (command_in rs)) (sym rows) ∙ ap unless_both c.command_in.ensures.asks in
+    IfOk-weaker c.unless_both.result _ _ (λ taken e. asked ∙ e) c.unless_both.ensures.asks
+
+pub returns-in-Ok-try_get_matches_from-clause-usage : goal.returns-in-Ok-try_get_matches_from-clause-usage
+returns-in-Ok-try_get_matches_from-clause-usage c = λ usage.
+    let app = c.in-Ok.ensures in
+    let words = map string_bytes c.args.words.now in
+    let ok = c.in-Ok-try_get_matches_from.ensures in
+    let rows = (ok.matches (ap is_simple app ∙ solver_simple)).0 ∙ ap (λ (a : App). matches_of a words) app in
+    let asked = lawful_words words (sym (ap (λ (a : App). fault_of a words) app) ∙ ok.kinds (ap is_simple_and_free app ∙ solver_free))
+    ∙ ap (λ rs. unless_both (command_in rs)) (sym rows) ∙ ap unless_both c.command_in.ensures.asks in
+    asked ∙ refused _ c.unless_both.result _ usage c.unless_both.ensures.usage
 
 pub returns-in-Err-try_get_matches_from-clause-usage : goal.returns-in-Err-try_get_matches_from-clause-usage
 returns-in-Err-try_get_matches_from-clause-usage c = λ usage.

@@ -1,15 +1,15 @@
-use Rattle.std.proofs.Common.{◌≡◌, ◌+◌, ◌≤◌, ◌++◌, length, codes}
+use Rattle.std.proofs.Common.{◌≡◌, ◌+◌, ◌≤◌, ◌++◌, length}
 use Rattle.drat_text.specs.declared.piece.TheConstants.{CAPACITY}
 use Rattle.gimsatul.specs.declared.answer.TheConstants.{END, WIDTH}
 use Rattle.gimsatul.specs.Answer.{value_lines}
 use Rattle.gimsatul.proofs.AnswerText.{Printing, words_from}
-use Rattle.gimsatul.proofs.answer.put_model.Given as goal
+use Rattle.gimsatul.proofs.answer.put_values.Given as goal
 
 abbrev pub invariant-loop-var : goal.invariant-loop-var
 invariant-loop-var g l = record {
   room : length l.piece + END ≤ CAPACITY;
   line : l.used ≤ WIDTH;
-  printing : Printing (g.O.Sink.written l.fn.out) (g.O.Sink.written l.out) (codes "s SATISFIABLE\n" ++ value_lines l.vars l.model) l.piece l.used l.taken (words_from l.var l.vars l.model);
+  printing : Printing (g.O.Sink.written l.fn.out) (g.O.Sink.written l.out) (l.fn.head ++ value_lines l.vars l.model) l.piece l.used l.taken (words_from l.var l.vars l.model);
   flushed : g.O.Sink.flushed l.out ≡ g.O.Sink.flushed l.fn.out;
   target : g.O.Sink.target l.out ≡ g.O.Sink.target l.fn.out;
   quiet : g.O.Sink.faults l.out ≡ g.O.Sink.faults l.fn.out;

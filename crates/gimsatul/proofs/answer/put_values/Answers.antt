@@ -1,23 +1,24 @@
-use Rattle.std.proofs.Common.{rules, ◌≡◌, ◌∙◌, ◌+◌, ◌++◌, ◌∷◌, [], length, codes, arith, ap, refl, sym}
+use Rattle.std.proofs.Common.{rules, ◌≡◌, ◌∙◌, ◌+◌, ◌++◌, ◌∷◌, [], length, length-append, codes, arith, ap, refl, sym}
 use Rattle.std.proofs.lemmas.Result.{err_from_is_err_and}
 use Rattle.sat_words.specs.Literal.{lit_text}
 use Rattle.drat_text.proofs.Progress.{progress_written, progress_done, progress_cut_last}
 use Rattle.gimsatul.specs.Answer.{value_lines, value_words, true_literal}
-use Rattle.gimsatul.proofs.AnswerText.{Printing, words_from, words_from-one, words_from-next, printing_none, printing_put, printing_written, printing_cut, printing_last, printing_renamed}
-use Rattle.gimsatul.proofs.answer.put_model.Goals as goal
-use Rattle.gimsatul.proofs.answer.put_model.Goals.{then-not-has_room+in_ok-taken, else-not-has_room}
+use Rattle.gimsatul.proofs.AnswerText.{Printing, words_from, words_from-one, words_from-next, printing_begun, printing_put, printing_written, printing_cut, printing_last, printing_renamed}
+use Rattle.gimsatul.proofs.answer.put_values.Goals as goal
+use Rattle.gimsatul.proofs.answer.put_values.Goals.{then-not-has_room+in_ok-taken, else-not-has_room}
 
 pub loop-var-init : goal.loop-var-init
 loop-var-init g c =
     let start = g.O.Sink.written c.args.out.now in
-    let head = codes "s SATISFIABLE\nv" in
-    let put : c.push_bytes.new.self ≡ head = cc in
+    let head = c.args.head in
+    let words = value_words c.args.vars c.args.model.now in
+    let put : c.push_bytes.new.self ≡ head ++ codes "v" = c.push_bytes.ensures in
     record {
-      room = omega (arith, ap length put);
+      room = let short = c.requires.short in omega (arith, ap length put, length-append head (codes "v"));
       line = omega arith;
-      printing = printing_renamed start start start (codes "s SATISFIABLE\n" ++ value_lines c.args.vars c.args.model.now) head c.push_bytes.new.self 1 0 0
-          (value_words c.args.vars c.args.model.now) (words_from 1 c.args.vars c.args.model.now)
-          (printing_none start head 1 (value_words c.args.vars c.args.model.now)) refl put refl (words_from-one c.args.vars c.args.model.now);
+      printing = printing_renamed start start start (head ++ value_lines c.args.vars c.args.model.now) (head ++ codes "v") c.push_bytes.new.self 1 0 0
+          words (words_from 1 c.args.vars c.args.model.now)
+          (printing_begun start head (codes "v") 1 words) refl put refl (words_from-one c.args.vars c.args.model.now);
       flushed = refl;
       target = refl;
       quiet = refl;
@@ -29,7 +30,7 @@ returns-in_err-taken-clause-part g c =
     let l = c.loop-var in
     rw (p.1, p.2)
     (printing_cut (g.O.Sink.written c.args.out.now) (g.O.Sink.written l.out) (g.O.Sink.written c.write_to.new.sink)
-    (codes "s SATISFIABLE\n" ++ value_lines c.args.vars c.args.model.now) l.piece l.used l.taken c.in_err-taken.field-0.0.taken (words_from l.var c.args.vars c.args.model.now)
+    (c.args.head ++ value_lines c.args.vars c.args.model.now) l.piece l.used l.taken c.in_err-taken.field-0.0.taken (words_from l.var c.args.vars c.args.model.now)
     l.invariant.printing c.in_err-taken.ensures.part)
 
 pub loop-var-preserved : goal.loop-var-preserved
@@ -39,7 +40,7 @@ loop-var-preserved g c =
     let now = g.O.Sink.written l.out in
     let j = c.if-not-has_room in
     let after = g.O.Sink.written j.out in
-    let text = codes "s SATISFIABLE\n" ++ value_lines c.args.vars c.args.model.now in
+    let text = c.args.head ++ value_lines c.args.vars c.args.model.now in
     let words = words_from l.var c.args.vars c.args.model.now in
     let rest = words_from (l.var + 1) c.args.vars c.args.model.now in
     let word = lit_text (true_literal c.args.model.now l.var) in
@@ -79,7 +80,7 @@ returns-in_err-write_to-clause-part g c =
     let start = g.O.Sink.written c.args.out.now in
     let l = c.loop-var in
     let now = g.O.Sink.written l.out in
-    let text = codes "s SATISFIABLE\n" ++ value_lines c.args.vars c.args.model.now in
+    let text = c.args.head ++ value_lines c.args.vars c.args.model.now in
     let last = printing_last start now text l.piece c.push_number.new.piece c.push_bytes-2.new.self l.used c.push_number.result l.taken l.var c.args.vars c.args.model.now
     l.invariant.printing c.loop-var-test.false (c.push_number.ensures.text []) c.push_bytes-2.ensures in
     rw (p.1, p.2)
@@ -92,7 +93,7 @@ returns-clause-all g c =
     let l = c.loop-var in
     let now = g.O.Sink.written l.out in
     let after = g.O.Sink.written c.write_to-2.new.sink in
-    let text = codes "s SATISFIABLE\n" ++ value_lines c.args.vars c.args.model.now in
+    let text = c.args.head ++ value_lines c.args.vars c.args.model.now in
     let last = printing_last start now text l.piece c.push_number.new.piece c.push_bytes-2.new.self l.used c.push_number.result l.taken l.var c.args.vars c.args.model.now
     l.invariant.printing c.loop-var-test.false (c.push_number.ensures.text []) c.push_bytes-2.ensures in
     progress_done start after text c.in_ok-write_to.field-0

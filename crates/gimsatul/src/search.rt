@@ -148,6 +148,7 @@ fn job_of<P: Sink>(
         vars,
         start: Addresses::from_vec(port.start(alloc)?),
         conflicts: limit,
+        seed: 0,
     })
 }
 

@@ -1,5 +1,5 @@
 -- How a run begins, and what it leaves.
-use Rattle.std.proofs.Common.{◌≡◌, ◌∙◌, ℕ, List, [], length, map, sym, subst, ap, arith, inl, Some, IsSome, refl, Contains, get_or}
+use Rattle.std.proofs.Common.{◌≡◌, ◌∙◌, ◌≤◌, ◌-◌, ◌%◌, ◌==◌, Bool, true, false, ℕ, List, [], length, map, sym, subst, ap, arith, inl, Some, IsSome, refl, Contains, get_or, eq-eqb, slice_index_or}
 use Rattle.std.specs.Prelude.{All}
 use Rattle.std.specs.List.{list_any}
 use Rattle.std.specs.declared.option.Option.{Option}
@@ -11,13 +11,18 @@ use Rattle.rup_model.specs.declared.journal.Entry.{Entry}
 use Rattle.rup_model.specs.Basics.{EachAfter}
 use Rattle.rup_model.specs.Journal.{added, learned, recent}
 use Rattle.rup_model.specs.Opening.{adds_unit, IsNew}
-use Rattle.rup_model.proofs.Lists.{Contains_In, In_Contains, In_map, map_In, In_get_or}
-use Rattle.ring_port.specs.PortState.{PortState, Holding, IsPort, held_at, lits_at}
+use Rattle.rup_model.proofs.Lists.{Contains_In, In_Contains, In_map, map_In, In_get_or, has_In}
+use Rattle.ring_port.specs.PortState.{PortState, Holding, HoldsStart, IsKept, IsOn, IsPort, held_at, lits_at, lits_in}
 use Rattle.ring_port.proofs.Holdings.{All_In}
 use Rattle.ring_trail.specs.TrailData.{TrailData, IsTrail}
 use Rattle.watch_prop.specs.WatchData.{attached}
 use Rattle.watch_prop.specs.Watched.{Watched, IsFresh}
-use Rattle.ring_run.specs.Ended.{IsJobOf, IsUntouched, IsOwn, IsNewLine, IsCounted, opening_of}
+use Rattle.ring_decide.specs.DeciderData.{DeciderData}
+use Rattle.restart_plan.specs.Plan.{Restarting, IsRestarting, IsExact, AreMost, AreMostBefore, begun as nothing_came}
+use Rattle.restart_plan.proofs.Restarting.{exact-none, exact-most}
+use Rattle.ring_run.specs.Ended.{IsJobOf, IsUntouched, IsOwn, IsNewLine, IsCounted, HasRestarted, counted, opening_of}
+use Rattle.ring_run.specs.Strategy.{Decides, IsPaced, AreMarked}
+use Rattle.ring_run.specs.declared.job.Counts.{Counts}
 use Rattle.ring_run.specs.Searching.{IsHeldBy, Runs, GoesOn}
 use Rattle.ring_run.specs.Course.{IsBegun}
 use Rattle.ring_run.specs.declared.job.Job.{Job}
@@ -45,7 +50,7 @@ goes_begin s p port = record {
 }
 
 -- the start clauses of the job are held
-pub starts_held : (s : PortState) (job : Job) → IsJobOf s job → IsUntouched s → All (IsHeldBy s) job.start
+pub starts_held : (s : PortState) (job : Job) → IsJobOf s job → HoldsStart s → All (IsHeldBy s) job.start
 starts_held s job asked p = subst (All (IsHeldBy s)) (sym asked.start) held
   where
     of_start : (h : Holding) → held_at s h.address ≡ Some h → IsSome (held_at s h.address)
@@ -54,7 +59,7 @@ starts_held s job asked p = subst (All (IsHeldBy s)) (sym asked.start) held
     held : All (IsHeldBy s) (map (λ (h : Holding). record { address = h.address }) s.start)
     held = λ k d h.
         (let t = map_In (λ (x : Holding). record { address = x.address }) s.start (get_or (map (λ (x : Holding). record { address = x.address }) s.start) k d) (In_get_or (map (λ (x : Holding). record { address = x.address }) s.start) k d h) in
-        subst (IsHeldBy s) t.2 (of_start t.0 (All_In (λ (x : Holding). held_at s x.address ≡ Some x) s.start t.0 p.held t.1)))
+        subst (IsHeldBy s) t.2 (of_start t.0 (All_In (λ (x : Holding). held_at s x.address ≡ Some x) s.start t.0 p t.1)))
 
 -- a ring that has attached the job's clauses, with nothing true
 pub begun : (s : PortState) (job : Job) (ring : Ring) → IsJobOf s job → IsUntouched s → IsPort s → ring.trail ≡ record { vars = job.vars; level = 0; steps = []; done = 0 } → IsTrail ring.trail
@@ -63,7 +68,7 @@ begun s job ring asked p port trail shape clauses watched none =
     let is : attached ring.watches ≡ map (λ (h : Holding). record { address = h.address }) s.start = clauses ∙ asked.start in
     record {
       clauses = record {
-        held = subst (All (IsHeldBy s)) (sym clauses) (starts_held s job asked p);
+        held = subst (All (IsHeldBy s)) (sym clauses) (starts_held s job asked p.held);
         starts = λ h there. subst (λ (cs : List Cref). Contains cs (record { address = h.address })) (sym is)
             (In_Contains (map (λ (k : Holding). record { address = k.address }) s.start) (record { address = h.address }) (In_map (λ (k : Holding). record { address = k.address }) s.start h (Contains_In s.start h there)));
         starts_held = p.held;
@@ -90,5 +95,51 @@ begun s job ring asked p port trail shape clauses watched none =
       reasons = record { caused = λ q h. absurd (omega (arith, ap (λ (t : TrailData). length t.steps) trail)) };
     }
 
-pub counted_by : (start s : PortState) (n : ℕ) → Runs start s n → IsCounted s (record { learned = n; exported = 0; offered = 0; restarts = 0 })
-counted_by start s n p = record { learned_is = p.counted; exported = refl; offered = refl; restarts = refl }
+pub counted_by : (start s : PortState) (counts : Counts) → counts ≡ counted counts.learned counts.restarts → Runs start s counts.learned → IsCounted s counts
+counted_by start s counts is p = record { learned_is = p.counted; exported = ap (λ (c : Counts). c.exported) is; offered = ap (λ (c : Counts). c.offered) is }
+
+-- a decider whose active variables are those of the job's clauses
+pub decides_begin : (s : PortState) (job : Job) (d : DeciderData) (marks : List Bool) → IsJobOf s job → HoldsStart s → IsPort s → d.active ≡ marks → length marks ≡ job.vars
+    → ((c : Cref) → Contains job.start c → AreMarked marks (lits_at s c.address)) → Decides s d
+decides_begin s job d marks asked held port is long marked = record {
+  vars = ap length is ∙ long ∙ asked.vars;
+  active = λ h l there has_it.
+      (let inside = Contains_In s.start h there in
+      let on : IsOn s.vars l = All_In (IsOn s.vars) h.lits l (All_In (IsKept s.vars) s.start h port.start inside).on (has_In h.lits l has_it) in
+      let at : held_at s h.address ≡ Some h = All_In (λ (x : Holding). held_at s x.address ≡ Some x) s.start h held inside in
+      let member : Contains job.start (record { address = h.address }) = subst (λ (cs : List Cref). Contains cs (record { address = h.address })) (sym asked.start)
+      (In_Contains (map (λ (k : Holding). record { address = k.address }) s.start) (record { address = h.address }) (In_map (λ (k : Holding). record { address = k.address }) s.start h inside)) in
+      let mark = marked (record { address = h.address }) member l (ap (λ (c : List Literal). has c l) (ap lits_in at) ∙ has_it) in
+      record {
+        low = on.low;
+        high = omega (arith, on.high, ap length is, long, asked.vars);
+        active = subst (λ (bs : List Bool). slice_index_or bs (l.var - 1) false ≡ true) (sym is) mark;
+      });
+}
+
+-- no restart was made, and none is due
+pub paced_begin : (odd : Bool) (limit : ℕ) → 1 ≤ limit → IsPaced (nothing_came odd) 0 limit
+paced_begin odd limit some = record {
+  count = refl;
+  exact = λ is lt. subst (λ (b : Bool). IsExact (nothing_came b)) (sym is) exact-none;
+  last = λ is e. absurd (omega arith);
+}
+
+-- the ring's number is odd where its remainder by 2 is 1
+odd_of : (ring : ℕ) → ring % 2 ≡ 1 → (ring % 2 == 1) ≡ true
+odd_of ring e = eq-eqb (ring % 2) 1 e
+
+pub restarted_by : (ring limit : ℕ) (r : Restarting) (counts : Counts) → r.odd ≡ (ring % 2 == 1) → IsRestarting r → IsPaced r counts.learned limit → counts.restarts ≡ r.made → HasRestarted ring limit counts
+restarted_by ring limit r counts odd kept p made = record {
+  few = omega (arith, kept.few, p.count, made);
+  most = λ is lt. subst (λ (m : ℕ). AreMost m counts.learned) (sym made) (subst (AreMost r.made) p.count (exact-most r (p.exact (odd ∙ odd_of ring is) lt)));
+  spent = λ is e. subst (λ (m : ℕ). AreMostBefore m counts.learned) (sym made) (subst (AreMostBefore r.made) p.count (p.last (odd ∙ odd_of ring is) e));
+}
+
+-- a ring that learned nothing made no restart
+pub restarted_none : (ring limit : ℕ) (counts : Counts) → 1 ≤ limit → counts ≡ counted 0 0 → HasRestarted ring limit counts
+restarted_none ring limit counts some is = subst (HasRestarted ring limit) (sym is) (record {
+  few = omega arith;
+  most = λ odd lt. exact-most (nothing_came true) exact-none;
+  spent = λ odd e. absurd (omega arith);
+})

@@ -1,15 +1,13 @@
 -- A decision, and where none is left.
-use Rattle.std.proofs.Common.{◌≡◌, ◌∙◌, ℕ, ◌+◌, ◌<◌, ◌≤◌, Bool, true, false, not, List, [], ◌∷◌, length, sym, subst, ap, refl, arith, inl, inr, ◌⊎◌, Some, None, IsSome, Contains, get_or}
-use Rattle.std.specs.Prelude.{All}
+use Rattle.std.proofs.Common.{◌≡◌, ◌∙◌, ℕ, ◌+◌, ◌<◌, ◌≤◌, ◌-◌, slice_index_or, Bool, true, false, not, List, [], ◌∷◌, length, sym, subst, ap, refl, arith, inl, inr, ◌⊎◌, Some, None, IsSome, Contains, get_or}
 use Rattle.std.specs.declared.option.Option.{Option}
 use Rattle.std.proofs.lemmas.Bool.{or_left, or_right, or_cases, false≢true}
 use Rattle.sat_words.specs.Literal.{Literal, same, opposite}
 use Rattle.sat_words.specs.Clause.{has}
 use Rattle.sat_words.specs.Truth.{lit_true, clause_true}
 use Rattle.sat_words.proofs.Members.{same-true}
-use Rattle.rup_model.proofs.Lists.{In_Contains, In_get_or, In_has, has_In}
-use Rattle.ring_port.specs.PortState.{PortState, Holding, IsKept, IsOn, lits_at, lits_in, clause_at}
-use Rattle.ring_port.proofs.Holdings.{All_In}
+use Rattle.rup_model.proofs.Lists.{In_Contains, In_get_or, In_has}
+use Rattle.ring_port.specs.PortState.{PortState, Holding, lits_at, lits_in, clause_at}
 use Rattle.ring_trail.specs.declared.step.Step.{Step}
 use Rattle.ring_trail.specs.TrailData.{TrailData, IsTrail, IsTrueOn, lit_at, value_of, decided}
 use Rattle.ring_trail.specs.Closed.{TrueWithin, IsClosedClause}
@@ -19,7 +17,9 @@ use Rattle.ring_trail.proofs.Causes.{IsReasoned-decided, IsClosed-grown}
 use Rattle.watch_prop.specs.WatchData.{WatchData, attached, clauses_of}
 use Rattle.watch_prop.specs.Propagation.{IsQuiet, attached_at}
 use Rattle.watch_prop.proofs.TrailLaws.{Watched-decide}
-use Rattle.ring_run.specs.Ended.{IsModelOf}
+use Rattle.ring_decide.specs.DeciderData.{DeciderData, AllValued}
+use Rattle.ring_run.specs.Ended.{IsModelOf, Stays}
+use Rattle.ring_run.specs.Strategy.{Decides}
 use Rattle.ring_run.specs.Searching.{GoesOn, AreFirst}
 use Rattle.ring_run.specs.Ending.{EndsBy}
 use Rattle.ring_run.specs.Course.{Searches, InSearch}
@@ -56,9 +56,9 @@ true_clause a (k ∷ c) l h e =
       | inr m ↦ or_right (lit_true a k) (clause_true a c) (true_clause a c l m e)
     ]
 
--- each variable has a value
-abbrev pub HasAllValues : TrailData → Type 0
-HasAllValues t = (v : ℕ) → 1 ≤ v → v ≤ t.vars → IsSome (value_of t.steps v)
+-- the variable of each literal has a value
+abbrev pub HasValues : TrailData → List Literal → Type 0
+HasValues t c = (l : Literal) → has c l ≡ true → IsSome (value_of t.steps l.var)
 
 true_within : (steps : List Step) (k : ℕ) (l : Literal) → TrueWithin steps k l → IsTrueOn steps l
 true_within steps k l w = record { place = w.place; before = w.in_range; true_there = w.true_there }
@@ -73,15 +73,12 @@ one_of_two k l e = by k.neg l.neg refl refl
     by false true p q = inr (same_lit k (opposite l) e (p ∙ sym (ap not q)))
     by false false p q = inl (same_lit k l e (p ∙ sym q))
 
--- a clause that is closed at the present level of a full trail is true
-closed_true : (t : TrailData) (a : List Bool) (c : List Literal) → IsTrail t → HasAllValues t → ((l : Literal) → IsTrueOn t.steps l → lit_true a l ≡ true) → All (IsOn t.vars) c → IsClosedClause c t.steps t.level
+-- a clause that is closed at the present level, where each of its variables has a value, is true
+closed_true : (t : TrailData) (a : List Bool) (c : List Literal) → IsTrail t → HasValues t c → ((l : Literal) → IsTrueOn t.steps l → lit_true a l ≡ true) → IsClosedClause c t.steps t.level
     → clause_true a c ≡ true
-closed_true t a c shape full all on (inl p) = true_clause a c p.lit p.has_lit (all p.lit (true_within t.steps t.level p.lit p.within))
-closed_true t a c shape full all on (inr p) = by (value_of t.steps p.one.var) refl (full p.one.var here.low here.high)
+closed_true t a c shape full all (inl p) = true_clause a c p.lit p.has_lit (all p.lit (true_within t.steps t.level p.lit p.within))
+closed_true t a c shape full all (inr p) = by (value_of t.steps p.one.var) refl (full p.one p.has_one)
   where
-    here : IsOn t.vars p.one
-    here = All_In (IsOn t.vars) c p.one on (has_In c p.one p.has_one)
-
     by : (o : Option Bool) → value_of t.steps p.one.var ≡ o → IsSome o → clause_true a c ≡ true
     by None is h = absurd (false≢true h)
     by (Some b) is h =
@@ -93,9 +90,9 @@ closed_true t a c shape full all on (inr p) = by (value_of t.steps p.one.var) re
           | inr e ↦ absurd (p.one_open (record { place = at.0; in_range = at.1; true_there = e; level = shape.within at.0 at.1 }))
         ]
 
-pub full_model : (start s : PortState) (t : TrailData) (w : WatchData) (n k : ℕ) (a : List Bool) → Searches s t w k → GoesOn start s n → IsQuiet w (lits_at s) t → HasAllValues t
+pub full_model : (start s : PortState) (t : TrailData) (w : WatchData) (n k : ℕ) (d : DeciderData) (a : List Bool) → Searches s t w k → GoesOn start s n → IsQuiet w (lits_at s) t → Decides s d → AllValued d t.steps
     → length a ≡ t.vars → ((l : Literal) → IsTrueOn t.steps l → lit_true a l ≡ true) → IsModelOf s a
-full_model start s t w n k a p goes quiet full long all = record {
+full_model start s t w n k decider a p goes quiet decides full long all = record {
   long = long ∙ p.stands.vars;
   start = λ k d lt. clause k d lt;
   opening = λ k d lt. of_seen (get_or s.opening k d) (p.opening (get_or s.opening k d) (In_has s.opening (get_or s.opening k d) (In_get_or s.opening k d lt)));
@@ -111,16 +108,15 @@ full_model start s t w n k a p goes quiet full long all = record {
         let there : Contains s.start h = In_Contains s.start h (In_get_or s.start k d lt) in
         let lits : lits_at s h.address ≡ h.lits = ap lits_in (goes.held k d lt) in
         let inside : Contains (clauses_of w (lits_at s)) (lits_at s h.address) = stands_there s (attached w) (record { address = h.address }) (p.clauses.starts h there) in
-        let kept : IsKept s.vars h = p.clauses.port.start k d lt in
-        closed_true t a h.lits p.trail full all (subst (λ (v : ℕ). All (IsOn v) h.lits) (sym p.stands.vars) kept.on)
+        closed_true t a h.lits p.trail (λ l has_it. full l.var (decides.active h l there has_it)) all
         (subst (λ (c : List Literal). IsClosedClause c t.steps t.level) lits (quiet.closed t.level (lits_at s h.address) inside))
 
-pub model_found : (s : PortState) (ring : Ring) (limit : ℕ) (a : List Bool) → InSearch s ring → ring.learned < limit → IsQuiet ring.watches (lits_at s) ring.trail → AreFirst ring.trail ring.written → HasAllValues ring.trail
+pub model_found : (s : PortState) (ring : Ring) (limit : ℕ) (a : List Bool) → InSearch s ring → ring.learned < limit → IsQuiet ring.watches (lits_at s) ring.trail → AreFirst ring.trail ring.written → Decides s ring.decider → AllValued ring.decider ring.trail.steps
     → length a ≡ ring.trail.vars → ((l : Literal) → IsTrueOn ring.trail.steps l → lit_true a l ≡ true) → EndsBy s ring.learned s ring.learned limit (Sat a)
-model_found s ring limit a p below quiet first full long all = λ start goes. record {
+model_found s ring limit a p below quiet first decides full long all = λ start goes. record {
   runs = goes.runs;
   cause = (
-    full_model start s ring.trail ring.watches ring.learned ring.written a p goes quiet full long all,
+    full_model start s ring.trail ring.watches ring.learned ring.written ring.decider a p goes quiet decides full long all,
     usable_none s goes.refused,
     told_model s ring.trail ring.watches ring.written p quiet first,
     goes.going,
@@ -128,3 +124,18 @@ model_found s ring limit a p below quiet first full long all = λ start goes. re
   unset = goes.stop;
   counts = below;
 }
+
+-- the port keeps its start clauses, and the decider which variables are active
+pub decides_by : (s u : PortState) (d e : DeciderData) → Decides s d → u.start ≡ s.start → u.vars ≡ s.vars → e.active ≡ d.active → Decides u e
+decides_by s u d e p start vars active = record {
+  vars = ap length active ∙ p.vars ∙ sym vars;
+  active = λ h l there has_it.
+      (let a = p.active h l (subst (λ (hs : List Holding). Contains hs h) start there) has_it in
+      record { low = a.low; high = subst (λ (bs : List Bool). l.var ≤ length bs) (sym active) a.high; active = subst (λ (bs : List Bool). slice_index_or bs (l.var - 1) false ≡ true) (sym active) a.active });
+}
+
+pub decides_same : (s u : PortState) (d e : DeciderData) → Decides s d → Stays s u → e.active ≡ d.active → Decides u e
+decides_same s u d e p stays active = decides_by s u d e p stays.start stays.vars active
+
+pub decides_moved : (s u w : PortState) (d e : DeciderData) → Decides u d → Stays s u → Stays s w → e.active ≡ d.active → Decides w e
+decides_moved s u w d e p old new active = decides_by u w d e p (new.start ∙ sym old.start) (new.vars ∙ sym old.vars) active

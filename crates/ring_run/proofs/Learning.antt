@@ -22,7 +22,7 @@ use Rattle.watch_prop.specs.Propagation.{HasReasons, attached_at}
 use Rattle.watch_prop.proofs.TrailLaws.{Watched-assign, Watched-back, Watched-port, Reasons-more, Reasons-held}
 use Rattle.watch_prop.proofs.Reasons.{attached_some}
 use Rattle.ring_run.specs.Searching.{IsHeldBy, HasClauses, Stands, GoesOn, IsAsserting, IsGlueOf, SeenTrue, OpeningSeen, AreTold}
-use Rattle.ring_run.specs.Course.{Searches, InSearch, GoesOnBy, Asserted}
+use Rattle.ring_run.specs.Course.{Searches, InSearch, GoesOnBy, Asserted, Restarted, HasLeft}
 use Rattle.ring_run.specs.declared.search.Ring.{Ring}
 use Rattle.ring_run.proofs.Remembering.{LitsStay, lits_kept, unit_remembered, clause_remembered}
 use Rattle.ring_run.proofs.Standing.{sees_old, sees_new, seen_of, within_more, within_last}
@@ -207,6 +207,77 @@ in_search_after s u old new lits back glue (Some c) p a w kept port at =
     asserted_search s u old new lits back (Some c) p a kept at (learned_clause s u old.trail at.middle (attached old.watches) lits back glue c a p.clauses p.opening p.stands p.trail at.went.is w kept port)
 in_search_after s u old new lits back glue None p a w kept port at =
     asserted_search s u old new lits back None p a kept at (learned_unit s u old.trail at.middle (attached old.watches) lits back glue a p.clauses p.opening at.went.is w kept port)
+
+module _ (s u : PortState) (old new : Ring) (lits : List Literal) (back glue : ℕ) (c : Cref) (p : InSearch s old) (a : IsAsserting s old.trail lits back)
+    (w : Learned s u lits glue (Ok (Some c))) (kept : KeepsHeld s u) (port : IsPort u) (at : Restarted u old new (Some c)) where
+  abbrev cs0 : List Cref
+  cs0 = attached old.watches
+
+  abbrev ds0 : List Cref
+  ds0 = cs0 ++ c ∷ []
+
+  seen0 : u.seen ≡ s.seen
+  seen0 = ap (λ (y : PortState). y.seen) w.state
+
+  level0 : new.trail.level ≡ 0
+  level0 = ap (λ (y : TrailData). y.level) at.went.is
+
+  here0 : Kept s u cs0 (cut_back old.trail back) a.first lits (Some c)
+  here0 = learned_clause s u old.trail (cut_back old.trail back) cs0 lits back glue c a p.clauses p.opening p.stands p.trail refl w kept port
+
+  reasons0 : HasReasons ds0 u new.trail.steps
+  reasons0 = subst (λ (y : TrailData). HasReasons ds0 u y.steps) (sym at.went.is)
+      (IsReasoned-back (attached_at ds0 u) u.seen old.trail 0 p.trail
+      (Reasons-more cs0 ds0 s u old.trail.steps
+      (λ d there. (
+        In_Contains ds0 d (In_append_left cs0 (c ∷ []) d (Contains_In cs0 d there)),
+        ap (option_map (λ (h : Holding). h.lits)) (kept d.address (subst (IsHeldBy s) there.2 (p.clauses.held there.0 d there.1))),
+      )) here0.more p.reasons))
+
+  watched0 : Watched new.watches (lits_at u) new.trail
+  watched0 = at.watched new.trail (subst (Watched old.watches (lits_at u)) (sym at.went.is)
+      (Watched-back old.watches (lits_at u) old.trail 0 p.trail (omega arith) (Watched-port old.watches (lits_at s) (lits_at u) old.trail (lits_kept s u cs0 kept p.clauses.held) p.watched)))
+
+  told0 : AreTold u new.trail old.written
+  told0 = told_same s u new.trail old.written seen0 (told_back s old.trail new.trail 0 old.written p.told p.trail (omega arith) at.went)
+
+  -- a search that has restarted behind a lemma
+  restarted_search : InSearch u new
+  restarted_search = record {
+    clauses = subst (HasClauses u) (sym at.clauses) here0.clauses;
+    opening = here0.opening;
+    stands = record {
+      vars = ap (λ (y : TrailData). y.vars) at.went.is ∙ p.stands.vars ∙ sym here0.vars;
+      reasoned = Reasons-held ds0 u new.trail.steps reasons0;
+      seen = λ l h. seen_back s old.trail new.trail 0 l p.stands p.trail at.went (sym (ap (λ (ls : List Literal). has ls l) seen0) ∙ h);
+    };
+    trail = at.went.shape;
+    watched = watched0;
+    closed = λ j below. absurd (omega (arith, level0, below));
+    reasons = subst (λ (xs : List Cref). HasReasons xs u new.trail.steps) (sym at.clauses) reasons0;
+    told = subst (AreTold u new.trail) (sym at.written) told0;
+  }
+
+-- a lemma of one literal asks for level 0
+unit_at_zero : (s u : PortState) (t : TrailData) (lits : List Literal) (back glue : ℕ) → IsAsserting s t lits back → Learned s u lits glue (Ok None) → back ≡ 0
+unit_at_zero s u t lits back glue a w =
+    let both : a.first ∷ a.rest ≡ w.lit ∷ [] = sym a.parts ∙ w.unit in
+    let rest : a.rest ≡ [] = cc in
+    a.of_unit rest
+
+-- a search that has left its conflict
+pub left_search : (s u : PortState) (old new : Ring) (lits : List Literal) (back glue : ℕ) (address : Option Cref) → InSearch s old → IsAsserting s old.trail lits back
+    → Learned s u lits glue (Ok address) → KeepsHeld s u → IsPort u → HasLeft u old new lits back address → InSearch u new
+left_search s u old new lits back glue address p a w kept port (inl at) = in_search_after s u old new lits back glue address p a w kept port at
+left_search s u old new lits back glue (Some c) p a w kept port (inr at) = restarted_search s u old new lits back glue c p a w kept port at.1
+left_search s u old new lits back glue None p a w kept port (inr at) = absurd (omega (arith, at.0, unit_at_zero s u old.trail lits back glue a w))
+
+pub left_level : (u : PortState) (old new : Ring) (lits : List Literal) (back : ℕ) (address : Option Cref) → HasLeft u old new lits back address → new.trail.level ≤ back
+left_level u old new lits back address (inl at) =
+    let level = ap (λ (t : TrailData). t.level) at.trail in
+    let is = ap (λ (t : TrailData). t.level) at.went.is in
+    omega (arith, level, is)
+left_level u old new lits back address (inr at) = let is = ap (λ (t : TrailData). t.level) at.1.went.is in omega (arith, is)
 
 pub goes_on_by : (s u : PortState) (old new : Ring) (limit : ℕ) → InSearch u new → new.learned < limit → ((start : PortState) → GoesOn start s old.learned → GoesOn start u new.learned)
     → GoesOnBy s old u new limit

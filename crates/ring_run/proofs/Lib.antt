@@ -9,5 +9,7 @@ pub mod Deciding
 pub mod Turning
 pub mod Beginning
 pub mod Telling
+pub mod Marked
+pub mod Pacing
 mod ProblemsReady
 mod CrowdLemmas

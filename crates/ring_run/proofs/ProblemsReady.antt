@@ -119,9 +119,9 @@ chain_ready =
     }
 
 -- a clause of three literals on three variables
-on_three : (b : Bool) → All (IsOn 3) (lit 1 false ∷ lit 2 false ∷ lit 3 b ∷ [])
-on_three b = All-from_recursion (IsOn 3) (lit 1 false ∷ lit 2 false ∷ lit 3 b ∷ [])
-    (on 3 1 false (omega arith) (omega arith), (on 3 2 false (omega arith) (omega arith), (on 3 3 b (omega arith) (omega arith), tt)))
+on_three : (b : Bool) → All (IsOn 3) (lit 1 b ∷ lit 2 false ∷ lit 3 false ∷ [])
+on_three b = All-from_recursion (IsOn 3) (lit 1 b ∷ lit 2 false ∷ lit 3 false ∷ [])
+    (on 3 1 b (omega arith) (omega arith), (on 3 2 false (omega arith) (omega arith), (on 3 3 false (omega arith) (omega arith), tt)))
 
 pub triples_ready : CanStart triples triples_starts [] 3
 triples_ready =

@@ -73,6 +73,17 @@ pub record Asserted (s : PortState) (old new : Ring) (lits : List Literal) (back
   pub written : new.written ≡ old.written
   pub watched : (t : TrailData) → Watched old.watches (lits_at s) t → Watched new.watches (lits_at s) t
 
+-- the trail went back to level 0, and the clause was attached where it has an address
+pub record Restarted (s : PortState) (old new : Ring) (address : Option Cref) : Type 0 where
+  pub went : WentBack old.trail new.trail 0
+  pub clauses : attached new.watches ≡ attached old.watches ++ option_to_list address
+  pub written : new.written ≡ old.written
+  pub watched : (t : TrailData) → Watched old.watches (lits_at s) t → Watched new.watches (lits_at s) t
+
+-- the conflict is left: at the lemma's level, where it forces its first literal; or by a restart, at level 0 below it
+abbrev pub HasLeft : PortState → Ring → Ring → List Literal → ℕ → Option Cref → Type 0
+HasLeft s old new lits back address = Asserted s old new lits back address ⊎ ((0 < back) × Restarted s old new address)
+
 -- one lemma more, or a longer trail
 abbrev pub IsFurther : Ring → Ring → Type 0
 IsFurther old new = (new.learned ≡ old.learned + 1) ⊎ ((new.learned ≡ old.learned) × (length old.trail.steps < length new.trail.steps))

@@ -1,5 +1,5 @@
 -- What a run of a ring says: what it asks of its port, what it wrote, and what each end says.
-use Rattle.std.specs.Prelude.{◌≡◌, ◌≢◌, ◌≤◌, ◌<◌, ◌⊎◌, ℕ, ◌-◌, ◌^◌, min, Bool, true, false, List, [], ◌∷◌, ◌++◌, map, length, All, Contains, Option, Some, None, IfSome}
+use Rattle.std.specs.Prelude.{◌≡◌, ◌≢◌, ◌≤◌, ◌<◌, ◌⊎◌, ℕ, ◌-◌, ◌*◌, ◌%◌, ◌^◌, min, Bool, true, false, List, [], ◌∷◌, ◌++◌, map, length, All, Contains, Option, Some, None, IfSome}
 use Rattle.std.specs.List.{list_any}
 use Rattle.sat_words.specs.Literal.{Literal}
 use Rattle.sat_words.specs.Clause.{has, is_empty}
@@ -17,6 +17,7 @@ use Rattle.ring_port.specs.PortState.{PortState, Holding, IsOn, HoldsStart}
 use Rattle.ring_port.specs.Port.{is_usable, start_lits}
 use Rattle.ring_port.specs.Log.{KeepsLog, start_of}
 use Rattle.ring_port.specs.declared.stops.PortStop.TheVariants.{NoHole as NoHoleAnswer}
+use Rattle.restart_plan.specs.Plan.{AreMost, AreMostBefore}
 use Rattle.ring_run.specs.declared.job.Job.{Job}
 use Rattle.ring_run.specs.declared.job.Counts.{Counts}
 use Rattle.ring_run.specs.declared.job.End.{End}
@@ -132,12 +133,22 @@ last_looks _ = 0
 abbrev pub HasLooked : ℕ → PortState → Type 0
 HasLooked n s = min n (2 ^ 64 - 1) ≤ s.looks
 
+-- the counts of a ring that offered nothing
+abbrev pub counted : ℕ → ℕ → Counts
+counted learned restarts = record { learned = learned; exported = 0; offered = 0; restarts = restarts }
+
 -- as many clauses were learned as are counted, and none was offered
 pub record IsCounted (s : PortState) (counts : Counts) : Type 0 where
   pub learned_is : counts.learned ≡ length (learned s.ring s.mine)
   pub exported : counts.exported ≡ 0
   pub offered : counts.offered ≡ 0
-  pub restarts : counts.restarts ≡ 0
+
+-- each restart came after 50 lemmas or more since the one before; by a ring of odd number just as many were made as Luby's
+-- sequence allows for the lemmas, of which the last is followed by none where the ring is spent
+pub record HasRestarted (ring limit : ℕ) (counts : Counts) : Type 0 where
+  pub few : 50 * counts.restarts ≤ counts.learned
+  pub most : ring % 2 ≡ 1 → counts.learned < limit → AreMost counts.restarts counts.learned
+  pub spent : ring % 2 ≡ 1 → counts.learned ≡ limit → AreMostBefore counts.restarts counts.learned
 
 -- the ring's own stop of this kind stands
 abbrev pub HasWon : PortState → ℕ → Type 0

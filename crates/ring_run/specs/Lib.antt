@@ -1,6 +1,7 @@
 pub mod Ended
 pub mod Searching
 pub mod Ending
+pub mod Strategy
 pub mod Course
 pub mod Problems
 pub mod Crowd

@@ -41,12 +41,12 @@ chain_starts = (1, lit 1 false ∷ lit 2 false ∷ []) ∷ (2, lit 1 true ∷ li
 abbrev pub chain_units : List Literal
 chain_units = lit 2 true ∷ []
 
--- where 1 and 2 are false the two clauses oppose each other
+-- where 2 and 3 are false the two clauses oppose each other
 abbrev pub triples : List (List Literal)
-triples = (lit 1 false ∷ lit 2 false ∷ lit 3 false ∷ []) ∷ (lit 1 false ∷ lit 2 false ∷ lit 3 true ∷ []) ∷ []
+triples = (lit 1 false ∷ lit 2 false ∷ lit 3 false ∷ []) ∷ (lit 1 true ∷ lit 2 false ∷ lit 3 false ∷ []) ∷ []
 
 abbrev pub triples_starts : List (ℕ × List Literal)
-triples_starts = (1, lit 1 false ∷ lit 2 false ∷ lit 3 false ∷ []) ∷ (2, lit 1 false ∷ lit 2 false ∷ lit 3 true ∷ []) ∷ []
+triples_starts = (1, lit 1 false ∷ lit 2 false ∷ lit 3 false ∷ []) ∷ (2, lit 1 true ∷ lit 2 false ∷ lit 3 false ∷ []) ∷ []
 
 -- two units that differ in sign
 abbrev pub opposed : List (List Literal)

@@ -48,6 +48,8 @@ pub struct Job {
     pub start: Addresses,
     /// How many lemmas the ring may learn.
     pub conflicts: u64,
+    /// What the first phases of the variables are made of, with the ring's number.
+    pub seed: u64,
 }
 
 /// What a ring counted.

@@ -1,16 +1,17 @@
 //! A ring: conflict-driven clause learning over any port, on one thread.
 //!
-//! `run_ring` is the loop of MiniSat (Eén and Sörensson 2003), with neither restarts nor deletions. It propagates. At a
-//! conflict it learns the clause of the first unique implication point, goes back to where that forces its first literal,
-//! and makes this true. Where nothing is left to propagate it decides the least variable without a value, false. A
-//! conflict without decisions refutes the clauses, and where every variable has a value there is a model. The clauses that
-//! it started with or learned are propagated by two watched literals.
+//! `run_ring` is the loop of MiniSat (Eén and Sörensson 2003), without deletions. It propagates. At a conflict it learns the
+//! clause of the first unique implication point, goes back to where that forces its first literal, and makes this true; or it
+//! restarts, and goes back to level 0. Where nothing is left to propagate it decides a variable of the start clauses without a
+//! value. A conflict without decisions refutes the clauses, and where each of these variables has a value there is a model.
+//! The clauses that it started with or learned are propagated by two watched literals.
 #![tactic(auto)]
 
 mod job;
 mod run;
 mod search;
 mod units;
+mod variables;
 
 pub use job::{Addresses, Counts, End, Job};
 pub use run::run_ring;

@@ -1,17 +1,23 @@
 // A run of a ring, from its job to its end.
-ghost use Rattle.std.specs.Prelude.{◌≡◌, ◌≤◌, ◌<◌, ◌+◌, ◌++◌, ◌^◌, ◌↔◌, All, IfOk, OnOk, []};
-ghost use Rattle.ring_port.specs.PortState.{IsPort, lits_at};
+ghost use Rattle.std.specs.Prelude.{◌≡◌, ◌≤◌, ◌<◌, ◌+◌, ◌++◌, ◌^◌, ◌%◌, ◌==◌, ◌↔◌, All, IfOk, OnOk, []};
+ghost use Rattle.ring_port.specs.PortState.{IsPort, HoldsStart, lits_at};
 ghost use Rattle.ring_port.specs.Port.{KeepsHeld};
 ghost use Rattle.ring_trail.specs.TrailData.{TrailData, IsTrail};
 ghost use Rattle.watch_prop.specs.WatchData.{attached};
 ghost use Rattle.watch_prop.specs.Watched.{Watched, IsFresh};
-ghost use Rattle.ring_run.specs.Ended.{IsJobOf, IsUntouched, Stays, IsOwn, IsCounted, AreNew, AreNewLines, HoldsGlued, HasLooked, last_looks, stop_kind, Cause, Ends};
+ghost use Rattle.ring_run.specs.Ended.{IsJobOf, IsUntouched, Stays, IsOwn, IsCounted, HasRestarted, counted, AreNew, AreNewLines, HoldsGlued, HasLooked, last_looks, stop_kind, Cause, Ends};
 ghost use Rattle.ring_run.specs.Searching.{IsHeldBy};
+ghost use Rattle.ring_decide.specs.Phases.{first_phases};
+ghost use Rattle.restart_plan.specs.Plan.{begun};
+ghost use Rattle.ring_run.specs.Strategy.{Decides};
 ghost use Rattle.ring_run.specs.Ending.{ComesTo, IsUnset, KeepsRuns};
 
 use crate::job::{Counts, End, Job};
 use crate::search::{Ring, search};
+use crate::variables::active_of;
 use analyze::Analysis;
+use restart_plan::Restarts;
+use ring_decide::Decider;
 use ring_port::{Port, Set};
 use ring_trail::Trail;
 use sat_words::{Cref, STOP_MEMORY, STOP_PROOF, STOP_REFUTED, STOP_ROOM, STOP_SAT};
@@ -26,6 +32,9 @@ use watch_prop::Watches;
 /// A look at the stop comes before each decision, and the ring goes on only where it found none. A lemma takes a decision
 /// back, so that no more lemmas were learned than such looks were made; a model comes after one look more. The looks
 /// count up to the last value of 64 bits.
+///
+/// A restart comes right behind a lemma: it goes back to level 0 and not to the lemma's level. A ring of odd number restarts by
+/// Luby's sequence (Luby, Sinclair and Zuckerman 1993), the others where the glue of late is greater than on the whole.
 ///
 /// Every end but `Spent` and `Stopped` has set this ring's stop, and was the first to set one: a ring that comes second
 /// answers `Stopped` with the stop that stands. A call of the port that was refused for want of memory, room or a write
@@ -43,38 +52,47 @@ pub fn run_ring<P: Port>(alloc: Global, port: &mut P, job: &Job) -> (End, Counts
     ensures glued { HoldsGlued (P.state port.old) (P.state port.new) }
     ensures looked { HasLooked ((P.state port.old).looks + result.1.learned + last_looks result.0) (P.state port.new) }
     ensures counts { IsCounted (P.state port.new) result.1 }
+    ensures restarted { HasRestarted (P.state port.old).ring job.now.conflicts result.1 }
     ensures within { result.1.learned ≤ job.now.conflicts }
     ensures spent { (result.0 ≡ End.Spent) ↔ (result.1.learned ≡ job.now.conflicts) }
     ensures ends { Ends (P.state port.new) result.0 }
     ensures port { IsPort (P.state port.new) }
 {
-    let (end, learned) = run_job(alloc, port, job);
-    let counts = Counts {
-        learned,
-        exported: 0,
-        offered: 0,
-        restarts: 0,
-    };
+    let (end, counts) = run_job(alloc, port, job);
     (claim(port, end), counts)
 }
 
-/// Makes a ring and searches. Answers the end, whose stop is not set yet, and how many lemmas were learned.
-fn run_job<P: Port>(alloc: Global, port: &mut P, job: &Job) -> (End, u64)
+/// Makes a ring and searches. Answers the end, whose stop is not set yet, and what was counted.
+fn run_job<P: Port>(alloc: Global, port: &mut P, job: &Job) -> (End, Counts)
     requires job { IsJobOf (P.state port.old) job.now }
     requires untouched { IsUntouched (P.state port.old) }
     requires port { IsPort (P.state port.old) }
-    ensures ends { ComesTo (P.state port.old) (P.state port.new) result.1 job.now.conflicts result.0 }
-    ensures looked { HasLooked ((P.state port.old).looks + result.1 + last_looks result.0) (P.state port.new) }
+    ensures ends { ComesTo (P.state port.old) (P.state port.new) result.1.learned job.now.conflicts result.0 }
+    ensures looked { HasLooked ((P.state port.old).looks + result.1.learned + last_looks result.0) (P.state port.new) }
+    ensures counted { result.1 ≡ counted result.1.learned result.1.restarts }
+    ensures restarted { HasRestarted (P.state port.old).ring job.now.conflicts result.1 }
     ensures port { IsPort (P.state port.new) }
 {
     let Ok(mut ring) = make_ring(alloc, port, job) else {
-        return (End::Memory, 0);
+        return (End::Memory, counted(0, 0));
     };
     let Ok(mut analysis) = Analysis::new(alloc, job.vars) else {
-        return (End::Memory, 0);
+        return (End::Memory, counted(0, 0));
     };
     let end = search(alloc, port, &mut ring, &mut analysis, job.conflicts);
-    (end, ring.learned)
+    (end, counted(ring.learned, ring.restarts.made()))
+}
+
+/// What a ring counted that offered nothing.
+fn counted(learned: u64, restarts: u64) -> Counts
+    ensures { result ≡ counted learned restarts }
+{
+    Counts {
+        learned,
+        exported: 0,
+        offered: 0,
+        restarts,
+    }
 }
 
 /// Attaches clauses that are held, in their order.
@@ -98,9 +116,9 @@ fn attach_all<P: Port>(
 
 /// A ring that has attached the start clauses, and done nothing else.
 pub(crate) fn make_ring<P: Port>(alloc: Global, port: &mut P, job: &Job) -> Result<Ring, AllocError>
-    requires small { job.now.vars ≤ 2 ^ 30 }
-    requires vars { job.now.vars ≡ (P.state port.old).vars }
-    requires held { All (IsHeldBy (P.state port.old)) job.now.start }
+    requires job { IsJobOf (P.state port.old) job.now }
+    requires held { HoldsStart (P.state port.old) }
+    requires port { IsPort (P.state port.old) }
     ensures same { P.state port.new ≡ P.state port.old }
     ensures trail { IfOk result (λ ring. ring.trail ≡ record { vars = job.now.vars; level = 0; steps = []; done = 0 }) }
     ensures shape { IfOk result (λ ring. IsTrail ring.trail) }
@@ -108,15 +126,23 @@ pub(crate) fn make_ring<P: Port>(alloc: Global, port: &mut P, job: &Job) -> Resu
     ensures watched { IfOk result (λ ring. (t : TrailData) → t.vars ≡ job.now.vars → IsFresh t → Watched ring.watches (lits_at (P.state port.old)) t) }
     ensures learned { IfOk result (λ ring. ring.learned ≡ 0) }
     ensures written { IfOk result (λ ring. ring.written ≡ 0) }
+    ensures decider { IfOk result (λ ring. Decides (P.state port.old) ring.decider) }
+    ensures phases { IfOk result (λ ring. ring.decider.phase ≡ first_phases job.now.seed job.now.ring job.now.vars) }
+    ensures restarts { IfOk result (λ ring. ring.restarts ≡ begun (job.now.ring % 2 == 1)) }
 {
     let trail = Trail::new(alloc, job.vars)?;
     let mut watches = Watches::new(alloc, job.vars)?;
     attach_all(port, &trail, &mut watches, job.start.as_slice())?;
+    let active = active_of(alloc, port, job.vars, job.start.as_slice())?;
+    let decider = Decider::new(alloc, active.as_slice(), job.seed, job.ring)?;
+    let restarts = Restarts::new(alloc, job.ring)?;
     Ok(Ring {
         trail,
         watches,
         learned: 0,
         written: 0,
+        decider,
+        restarts,
     })
 }
 

@@ -10,14 +10,19 @@ ghost use Rattle.ring_trail.specs.TrailData.{TrailData, IsTrail, IsTrueOn, value
 ghost use Rattle.watch_prop.specs.WatchData.{attached};
 ghost use Rattle.watch_prop.specs.Watched.{Watched};
 ghost use Rattle.watch_prop.specs.Propagation.{IsConflict, IsQuiet};
-ghost use Rattle.ring_run.specs.Ended.{HasLooked, last_looks};
+ghost use Rattle.ring_run.specs.Ended.{Stays, HasLooked, last_looks};
+ghost use Rattle.restart_plan.specs.Plan.{asked};
+ghost use Rattle.ring_run.specs.Strategy.{Decides, IsPaced};
 ghost use Rattle.ring_run.specs.Searching.{IsAsserting, IsGlueOf, HoldsByGlue, AreFirst, KeepsOn, GoesOn};
 ghost use Rattle.ring_run.specs.Ending.{EndsAt, ComesTo, end_refused};
-ghost use Rattle.ring_run.specs.Course.{InSearch, Leads, CanAssert, Asserted, IsFurther, IsBegun, IsLooking, KeepsLooking, TakesALook};
+ghost use Rattle.ring_run.specs.Course.{InSearch, Leads, WentBack, CanAssert, Asserted, Restarted, HasLeft, IsFurther, IsBegun, IsLooking, KeepsLooking, TakesALook};
 
 use crate::job::End;
 use crate::units::{Units, take_units, write_units};
+use crate::variables::{bump_lemma, save_phases};
 use analyze::{Analysis, Conclusion};
+use restart_plan::Restarts;
+use ring_decide::Decider;
 use ring_port::{Port, PortStop};
 use ring_trail::Trail;
 use sat_words::{Assignment, Cref, Lit};
@@ -35,6 +40,10 @@ pub(crate) struct Ring {
     pub learned: u64,
     /// How many of the first literals at level 0 have their lines.
     pub written: u32,
+    /// Which variable is decided next, and how.
+    pub decider: Decider,
+    /// When it restarts.
+    pub restarts: Restarts,
 }
 
 /// What a step of the search comes to.
@@ -93,6 +102,18 @@ fn attach_lemma<P: Port>(
     }
 }
 
+/// Goes back to a level, and notes the values that are lost.
+fn go_back(ring: &mut Ring, level: u32)
+    requires trail { IsTrail ring.old.trail }
+    requires vars { length ring.old.decider.active ≡ ring.old.trail.vars }
+    ensures went { level ≤ ring.old.trail.level → WentBack ring.old.trail ring.new.trail level }
+    ensures active { ring.new.decider.active ≡ ring.old.decider.active }
+    ensures same { ring.new ≡ record ring.old { trail = ring.new.trail; decider = ring.new.decider } }
+{
+    save_phases(&ring.trail, &mut ring.decider, level);
+    ring.trail.back_to(level);
+}
+
 /// Goes back, attaches the lemma, and makes its first literal true, which is the only one that isn't false there.
 fn assert_lemma<P: Port>(
     port: &mut P,
@@ -103,19 +124,63 @@ fn assert_lemma<P: Port>(
 ) -> Result<(), AllocError>
     requires held { IfSome address (λ c. IsSome (held_at (P.state port.old) c.address)) }
     requires vars { (P.state port.old).vars ≡ ring.old.watches.vars }
+    requires decides { length ring.old.decider.active ≡ ring.old.trail.vars }
     requires can { CanAssert ring.old.trail lits.now back }
     ensures same { P.state port.new ≡ P.state port.old }
     ensures asserted { OnOk result (Asserted (P.state port.old) ring.old ring.new lits.now back address) }
     ensures learned { ring.new.learned ≡ ring.old.learned }
-    ensures written { ring.new.written ≡ ring.old.written }
+    ensures restarts { ring.new.restarts ≡ ring.old.restarts }
+    ensures active { ring.new.decider.active ≡ ring.old.decider.active }
 {
-    ring.trail.back_to(back);
+    go_back(ring, back);
     attach_lemma(port, &ring.trail, &mut ring.watches, address)?;
     ring.trail.assign(lits[0], address);
     Ok(())
 }
 
-/// Learns a lemma, and goes back to where it forces its first literal.
+/// Restarts: goes back to level 0, where the lemma asks for nothing, and attaches it.
+fn restart<P: Port>(port: &mut P, ring: &mut Ring, address: Option<Cref>) -> Result<(), AllocError>
+    requires held { IfSome address (λ c. IsSome (held_at (P.state port.old) c.address)) }
+    requires vars { (P.state port.old).vars ≡ ring.old.watches.vars }
+    requires decides { length ring.old.decider.active ≡ ring.old.trail.vars }
+    requires trail { IsTrail ring.old.trail }
+    ensures same { P.state port.new ≡ P.state port.old }
+    ensures restarted { OnOk result (Restarted (P.state port.old) ring.old ring.new address) }
+    ensures learned { ring.new.learned ≡ ring.old.learned }
+    ensures restarts { ring.new.restarts ≡ ring.old.restarts }
+    ensures active { ring.new.decider.active ≡ ring.old.decider.active }
+{
+    go_back(ring, 0);
+    attach_lemma(port, &ring.trail, &mut ring.watches, address)?;
+    Ok(())
+}
+
+/// Goes back behind a lemma: to its level, or to level 0 where a restart is due.
+fn leave_conflict<P: Port>(
+    port: &mut P,
+    ring: &mut Ring,
+    lits: &[Lit],
+    back: u32,
+    address: Option<Cref>,
+) -> Result<(), AllocError>
+    requires held { IfSome address (λ c. IsSome (held_at (P.state port.old) c.address)) }
+    requires vars { (P.state port.old).vars ≡ ring.old.watches.vars }
+    requires decides { length ring.old.decider.active ≡ ring.old.trail.vars }
+    requires can { CanAssert ring.old.trail lits.now back }
+    ensures same { P.state port.new ≡ P.state port.old }
+    ensures left { OnOk result (HasLeft (P.state port.old) ring.old ring.new lits.now back address) }
+    ensures learned { ring.new.learned ≡ ring.old.learned }
+    ensures restarts { ring.new.restarts ≡ asked ring.old.restarts }
+    ensures active { ring.new.decider.active ≡ ring.old.decider.active }
+{
+    let due = ring.restarts.due();
+    if due && back != 0 {
+        return restart(port, ring, address);
+    }
+    assert_lemma(port, ring, lits, back, address)
+}
+
+/// Learns a lemma, and goes back to where it forces its first literal, or to level 0.
 fn learn_lemma<P: Port>(
     port: &mut P,
     ring: &mut Ring,
@@ -126,12 +191,17 @@ fn learn_lemma<P: Port>(
 ) -> Course
     requires search { InSearch (P.state port.old) ring.old }
     requires below { ring.old.learned < limit }
+    requires decides { Decides (P.state port.old) ring.old.decider }
+    requires paced { IsPaced ring.old.restarts ring.old.learned limit }
     requires lemma { IsAsserting (P.state port.old) ring.old.trail lits.now back }
     requires glue { IsGlueOf ring.old.trail.steps lits.now glue }
     ensures leads { Leads (P.state port.old) ring.old (P.state port.new) ring.new limit result }
     ensures more { result ≡ Course.On → ring.new.learned ≡ ring.old.learned + 1 }
     ensures stored { HoldsByGlue (P.state port.old) (P.state port.new) ring.old.trail.steps }
     ensures looks { KeepsLooking (P.state port.old) ring.old (P.state port.new) ring.new result }
+    ensures paced { IsPaced ring.new.restarts ring.new.learned limit }
+    ensures odd { ring.new.restarts.odd ≡ ring.old.restarts.odd }
+    ensures active { ring.new.decider.active ≡ ring.old.decider.active }
     ensures port { IsPort (P.state port.new) }
 {
     let address = match port.learn(lits, glue) {
@@ -139,10 +209,11 @@ fn learn_lemma<P: Port>(
         Err(stop) => return Course::Over(end_refused(stop)),
     };
     ring.learned += 1;
+    ring.restarts.note(glue);
     if ring.learned == limit {
         return Course::Over(End::Spent);
     }
-    match assert_lemma(port, ring, lits, back, address) {
+    match leave_conflict(port, ring, lits, back, address) {
         Ok(()) => Course::On,
         Err(_) => Course::Over(End::Memory),
     }
@@ -158,37 +229,28 @@ fn learn_from<P: Port>(
 ) -> Course
     requires search { InSearch (P.state port.old) ring.old }
     requires below { ring.old.learned < limit }
+    requires decides { Decides (P.state port.old) ring.old.decider }
+    requires paced { IsPaced ring.old.restarts ring.old.learned limit }
     requires vars { analysis.old.vars ≡ ring.old.trail.vars }
     requires conflict { IsConflict ring.old.watches (lits_at (P.state port.old)) ring.old.trail conflict }
     ensures leads { Leads (P.state port.old) ring.old (P.state port.new) ring.new limit result }
     ensures more { result ≡ Course.On → ring.new.learned ≡ ring.old.learned + 1 }
     ensures stored { HoldsByGlue (P.state port.old) (P.state port.new) ring.old.trail.steps }
     ensures looks { KeepsLooking (P.state port.old) ring.old (P.state port.new) ring.new result }
+    ensures paced { IsPaced ring.new.restarts ring.new.learned limit }
+    ensures odd { ring.new.restarts.odd ≡ ring.old.restarts.odd }
+    ensures active { ring.new.decider.active ≡ ring.old.decider.active }
     ensures vars { analysis.new.vars ≡ analysis.old.vars }
     ensures port { IsPort (P.state port.new) }
 {
     match analysis.analyze(port, &ring.trail, conflict) {
         Conclusion::Empty => Course::Over(refute(port)),
         Conclusion::Lemma { back, glue } => {
-            learn_lemma(port, ring, analysis.lits(), back, glue, limit)
+            let lits = analysis.lits();
+            bump_lemma(&mut ring.decider, lits);
+            learn_lemma(port, ring, lits, back, glue, limit)
         }
     }
-}
-
-/// The least variable without a value.
-fn least_open(trail: &Trail) -> Option<u32>
-    requires { IsTrail trail.now }
-    ensures low { IfSome result (λ var. 1 ≤ var) }
-    ensures high { IfSome result (λ var. var ≤ trail.now.vars) }
-    ensures open { IfSome result (λ var. value_of trail.now.steps var ≡ None) }
-    ensures all { result ≡ None → (var : ℕ) → 1 ≤ var → var ≤ trail.now.vars → IsSome (value_of trail.now.steps var) }
-{
-    for var in 1..trail.vars() + 1 {
-        if trail.value(var).is_none() {
-            return Some(var);
-        }
-    }
-    None
 }
 
 /// The assignment that makes the literals of the trail true.
@@ -205,22 +267,25 @@ fn model_of(alloc: Global, trail: &Trail) -> Result<Assignment, AllocError>
     Ok(model)
 }
 
-/// Decides the least variable without a value, false. Where there is none, each clause is true. A
-/// look that found no stop came before.
-fn decide_least<P: Port>(alloc: Global, port: &mut P, ring: &mut Ring, limit: u64) -> Course
+/// Decides a variable of the start clauses that has no value. Where there is none, each of these is true. A look that found no
+/// stop came before.
+fn decide<P: Port>(alloc: Global, port: &mut P, ring: &mut Ring, limit: u64) -> Course
     requires search { InSearch (P.state port.old) ring.old }
     requires below { ring.old.learned < limit }
+    requires decides { Decides (P.state port.old) ring.old.decider }
     requires quiet { IsQuiet ring.old.watches (lits_at (P.state port.old)) ring.old.trail }
     requires first { AreFirst ring.old.trail ring.old.written }
     ensures leads { Leads (P.state port.old) ring.old (P.state port.new) ring.new limit result }
     ensures learned { ring.new.learned ≡ ring.old.learned }
     ensures longer { result ≡ Course.On → length ring.old.trail.steps < length ring.new.trail.steps }
     ensures looks { TakesALook (P.state port.old) ring.old ring.new result }
+    ensures restarts { ring.new.restarts ≡ ring.old.restarts }
+    ensures active { ring.new.decider.active ≡ ring.old.decider.active }
     ensures port { IsPort (P.state port.new) }
     ensures same { P.state port.new ≡ P.state port.old }
 {
-    if let Some(var) = least_open(&ring.trail) {
-        ring.trail.decide(Lit::new(var, true));
+    if let Some(lit) = ring.decider.next(&ring.trail) {
+        ring.trail.decide(lit);
         return Course::On;
     }
     match model_of(alloc, &ring.trail) {
@@ -239,8 +304,11 @@ pub(crate) fn write_pending<P: Port>(port: &mut P, ring: &mut Ring) -> Result<()
     ensures looks { (P.state port.new).looks ≡ (P.state port.old).looks }
     ensures first { OnOk result (AreFirst ring.new.trail ring.new.written) }
     ensures trail { ring.new.trail ≡ ring.old.trail }
+    ensures stays { OnOk result (Stays (P.state port.old) (P.state port.new)) }
     ensures watches { ring.new.watches ≡ ring.old.watches }
     ensures learned { ring.new.learned ≡ ring.old.learned }
+    ensures restarts { ring.new.restarts ≡ ring.old.restarts }
+    ensures decider { ring.new.decider ≡ ring.old.decider }
     ensures port { IsPort (P.state port.new) }
 {
     if ring.trail.present() != 0 {
@@ -259,10 +327,13 @@ pub(crate) fn write_pending<P: Port>(port: &mut P, ring: &mut Ring) -> Result<()
 fn decide_next<P: Port>(alloc: Global, port: &mut P, ring: &mut Ring, limit: u64) -> Course
     requires search { InSearch (P.state port.old) ring.old }
     requires below { ring.old.learned < limit }
+    requires decides { Decides (P.state port.old) ring.old.decider }
     requires quiet { IsQuiet ring.old.watches (lits_at (P.state port.old)) ring.old.trail }
     ensures leads { Leads (P.state port.old) ring.old (P.state port.new) ring.new limit result }
     ensures learned { ring.new.learned ≡ ring.old.learned }
     ensures longer { result ≡ Course.On → length ring.old.trail.steps < length ring.new.trail.steps }
+    ensures restarts { ring.new.restarts ≡ ring.old.restarts }
+    ensures active { ring.new.decider.active ≡ ring.old.decider.active }
     ensures looks { KeepsLooking (P.state port.old) ring.old (P.state port.new) ring.new result }
     ensures port { IsPort (P.state port.new) }
 {
@@ -270,7 +341,7 @@ fn decide_next<P: Port>(alloc: Global, port: &mut P, ring: &mut Ring, limit: u64
         return Course::Over(End::Stopped(stop));
     }
     match write_pending(port, ring) {
-        Ok(()) => decide_least(alloc, port, ring, limit),
+        Ok(()) => decide(alloc, port, ring, limit),
         Err(stop) => Course::Over(end_refused(stop)),
     }
 }
@@ -285,10 +356,15 @@ fn turn<P: Port>(
 ) -> Course
     requires search { InSearch (P.state port.old) ring.old }
     requires below { ring.old.learned < limit }
+    requires decides { Decides (P.state port.old) ring.old.decider }
+    requires paced { IsPaced ring.old.restarts ring.old.learned limit }
     requires vars { analysis.old.vars ≡ ring.old.trail.vars }
     ensures leads { Leads (P.state port.old) ring.old (P.state port.new) ring.new limit result }
     ensures further { result ≡ Course.On → IsFurther ring.old ring.new }
     ensures looks { KeepsLooking (P.state port.old) ring.old (P.state port.new) ring.new result }
+    ensures paced { IsPaced ring.new.restarts ring.new.learned limit }
+    ensures odd { ring.new.restarts.odd ≡ ring.old.restarts.odd }
+    ensures active { ring.new.decider.active ≡ ring.old.decider.active }
     ensures vars { analysis.new.vars ≡ analysis.old.vars }
     ensures port { IsPort (P.state port.new) }
 {
@@ -314,9 +390,13 @@ pub(crate) fn search<P: Port>(
     requires begun { IsBegun (P.state port.old) ring.old }
     requires goes { GoesOn (P.state port.old) (P.state port.old) ring.old.learned }
     requires below { ring.old.learned < limit }
+    requires decides { Decides (P.state port.old) ring.old.decider }
+    requires paced { IsPaced ring.old.restarts ring.old.learned limit }
     requires vars { analysis.old.vars ≡ ring.old.trail.vars }
     ensures ends { ComesTo (P.state port.old) (P.state port.new) ring.new.learned limit result }
     ensures looks { (base : ℕ) → IsLooking base (P.state port.old) ring.old → HasLooked (base + ring.new.learned + last_looks result) (P.state port.new) }
+    ensures paced { IsPaced ring.new.restarts ring.new.learned limit }
+    ensures odd { ring.new.restarts.odd ≡ ring.old.restarts.odd }
     ensures port { IsPort (P.state port.new) }
 {
     match take_units(port, &mut ring.trail) {

@@ -13,6 +13,9 @@ use std::alloc::Global;
 use std::marker::Model;
 use std::test::Fail;
 
+/// By this seed the first words of the reference generator of ring 1 end in the bits 0: all are decided false.
+const SEED: u64 = 2;
+
 /// The second of three rings. Another ring's stop appears after so many looks, and no line can be written.
 #[derive(Drop)]
 struct Crowd<L: LineOut> {
@@ -213,6 +216,7 @@ fn run_in_crowd(
         vars: formula.vars(),
         start: Addresses::from_vec(inner.start(alloc)?),
         conflicts: 2,
+        seed: SEED,
     };
     let mut port = Crowd::over(inner, quiet, memory);
     let (end, counts) = run_ring(alloc, &mut port, &job);
@@ -246,7 +250,7 @@ fn another_ring_stops_it(rt: HostRuntime) -> Result<(), Fail> {
     Ok(())
 }
 
-// Two looks find no stop, and two decisions are made. The lemma `2 1` has one level beside that of its first literal.
+// Two looks find no stop, and two decisions are made. The lemma `2 3` has one level beside that of its first literal.
 #[test]
 fn tells_that_there_is_no_room(rt: HostRuntime) -> Result<(), Fail> {
     let ran = run_on_two(rt.alloc(), 9, false)?;

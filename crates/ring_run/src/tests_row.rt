@@ -179,6 +179,7 @@ fn walk_on(alloc: Global, formula: &Formula, start: Starts) -> Result<Walked, Fa
         vars: formula.vars(),
         start: Addresses::from_vec(port.start(alloc)?),
         conflicts: 1,
+        seed: 0,
     };
     walk(alloc, &mut port, &job)
 }

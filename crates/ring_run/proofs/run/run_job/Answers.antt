@@ -1,16 +1,17 @@
-use Rattle.std.proofs.Common.{ap, sym, subst, arith}
+use Rattle.std.proofs.Common.{◌∙◌, ◌+◌, ◌==◌, ◌%◌, ℕ, ap, sym, subst, arith}
+use Rattle.restart_plan.specs.Plan.{Restarting, begun as begun_restarts}
+use Rattle.ring_run.specs.Ended.{HasLooked, last_looks}
+use Rattle.ring_run.specs.Strategy.{IsPaced}
+use Rattle.ring_run.specs.declared.job.Counts.{Counts}
 use Rattle.ring_trail.specs.TrailData.{TrailData}
 use Rattle.ring_port.specs.PortState.{PortState}
 use Rattle.ring_run.specs.Searching.{GoesOn}
 use Rattle.ring_run.specs.Ending.{ComesTo}
 use Rattle.ring_run.specs.Course.{IsBegun}
 use Rattle.ring_run.specs.declared.job.End.TheVariants.{Memory}
-use Rattle.ring_run.proofs.Beginning.{goes_begin, starts_held, begun}
+use Rattle.ring_run.proofs.Beginning.{goes_begin, begun, paced_begin, restarted_by, restarted_none}
 use Rattle.ring_run.proofs.Progress.{out_of_memory}
 use Rattle.ring_run.proofs.run.run_job.Goals as goal
-
-pub make_ring-requires-clause-held : goal.make_ring-requires-clause-held
-make_ring-requires-clause-held g c = starts_held (g.P.Port.state c.args.port.now) c.args.job.now c.requires.job c.requires.untouched
 
 pub search-end-requires-clause-begun : goal.search-end-requires-clause-begun
 search-end-requires-clause-begun g c =
@@ -27,21 +28,48 @@ search-end-requires-clause-goes g c =
 pub returns-in_default-clause-ends : goal.returns-in_default-clause-ends
 returns-in_default-clause-ends g c =
     let s = g.P.Port.state c.args.port.now in
-    subst (λ (x : PortState). ComesTo s x 0 c.args.job.now.conflicts Memory) (sym c.make_ring.ensures.same) (out_of_memory s s 0 c.args.job.now.conflicts c.requires.job.some (goes_begin s c.requires.untouched c.requires.port))
+    subst (λ (n : ℕ). ComesTo s (g.P.Port.state c.make_ring.new.port) n c.args.job.now.conflicts Memory) (sym (ap (λ (x : Counts). x.learned) c.counted.ensures))
+    (subst (λ (x : PortState). ComesTo s x 0 c.args.job.now.conflicts Memory) (sym c.make_ring.ensures.same) (out_of_memory s s 0 c.args.job.now.conflicts c.requires.job.some (goes_begin s c.requires.untouched c.requires.port)))
 
 pub returns-in_default-new-clause-ends : goal.returns-in_default-new-clause-ends
 returns-in_default-new-clause-ends g c =
     let s = g.P.Port.state c.args.port.now in
-    subst (λ (x : PortState). ComesTo s x 0 c.args.job.now.conflicts Memory) (sym c.make_ring.ensures.same) (out_of_memory s s 0 c.args.job.now.conflicts c.requires.job.some (goes_begin s c.requires.untouched c.requires.port))
+    subst (λ (n : ℕ). ComesTo s (g.P.Port.state c.make_ring.new.port) n c.args.job.now.conflicts Memory) (sym (ap (λ (x : Counts). x.learned) c.counted-in_default-new.ensures))
+    (subst (λ (x : PortState). ComesTo s x 0 c.args.job.now.conflicts Memory) (sym c.make_ring.ensures.same) (out_of_memory s s 0 c.args.job.now.conflicts c.requires.job.some (goes_begin s c.requires.untouched c.requires.port)))
 
 pub returns-clause-ends : goal.returns-clause-ends
 returns-clause-ends g c =
     let u = g.P.Port.state c.search-end.new.port in
-    subst (λ (x : PortState). ComesTo x u c.search-end.new.ring.learned c.args.job.now.conflicts c.search-end.result) c.make_ring.ensures.same c.search-end.ensures.ends
+    let s = g.P.Port.state c.args.port.now in
+    subst (λ (n : ℕ). ComesTo s u n c.args.job.now.conflicts c.search-end.result) (sym (ap (λ (x : Counts). x.learned) c.counted-2.ensures))
+    (subst (λ (x : PortState). ComesTo x u c.search-end.new.ring.learned c.args.job.now.conflicts c.search-end.result) c.make_ring.ensures.same c.search-end.ensures.ends)
 
 pub returns-clause-looked : goal.returns-clause-looked
 returns-clause-looked g c =
     let s = g.P.Port.state c.args.port.now in
     let made = ap (λ (x : PortState). x.looks) c.make_ring.ensures.same in
     let level = ap (λ (t : TrailData). t.level) c.in-Ok.ensures.trail in
-    c.search-end.ensures.looks s.looks (omega (arith, made, level, c.in-Ok.ensures.learned))
+    subst (λ (n : ℕ). HasLooked (s.looks + n + last_looks c.search-end.result) (g.P.Port.state c.search-end.new.port)) (sym (ap (λ (x : Counts). x.learned) c.counted-2.ensures))
+    (c.search-end.ensures.looks s.looks (omega (arith, made, level, c.in-Ok.ensures.learned)))
+
+pub search-end-requires-clause-paced : goal.search-end-requires-clause-paced
+search-end-requires-clause-paced g c =
+    let odd = c.args.job.now.ring % 2 == 1 in
+    subst (λ (r : Restarting). IsPaced r c.in-Ok.ring.learned c.args.job.now.conflicts) (sym c.in-Ok.ensures.restarts)
+    (subst (λ (n : ℕ). IsPaced (begun_restarts odd) n c.args.job.now.conflicts) (sym c.in-Ok.ensures.learned) (paced_begin odd c.args.job.now.conflicts c.requires.job.some))
+
+pub returns-in_default-clause-restarted : goal.returns-in_default-clause-restarted
+returns-in_default-clause-restarted g c = restarted_none (g.P.Port.state c.args.port.now).ring c.args.job.now.conflicts c.counted.result c.requires.job.some c.counted.ensures
+
+pub returns-in_default-new-clause-restarted : goal.returns-in_default-new-clause-restarted
+returns-in_default-new-clause-restarted g c = restarted_none (g.P.Port.state c.args.port.now).ring c.args.job.now.conflicts c.counted-in_default-new.result c.requires.job.some c.counted-in_default-new.ensures
+
+pub returns-clause-restarted : goal.returns-clause-restarted
+returns-clause-restarted g c =
+    let r = c.search-end.new.ring.restarts in
+    let counts = c.counted-2.result in
+    restarted_by (g.P.Port.state c.args.port.now).ring c.args.job.now.conflicts r counts
+    (c.search-end.ensures.odd ∙ ap (λ (x : Restarting). x.odd) c.in-Ok.ensures.restarts ∙ ap (λ (n : ℕ). n % 2 == 1) c.requires.job.ring)
+    c.made.ensures.counted
+    (subst (λ (n : ℕ). IsPaced r n c.args.job.now.conflicts) (sym (ap (λ (x : Counts). x.learned) c.counted-2.ensures)) c.search-end.ensures.paced)
+    (ap (λ (x : Counts). x.restarts) c.counted-2.ensures ∙ c.made.ensures.made)

@@ -2,22 +2,24 @@ use Rattle.ring_run.proofs.Beginning.{counted_by}
 use Rattle.ring_run.proofs.run.run_ring.Goals as goal
 
 pub returns-clause-stays : goal.returns-clause-stays
-returns-clause-stays g c = (c.claim.ensures.runs (g.P.Port.state c.args.port.now) c.run_job-end.result.1 c.run_job-end.ensures.ends.runs).stays
+returns-clause-stays g c = (c.claim.ensures.runs (g.P.Port.state c.args.port.now) c.run_job-end.result.1.learned c.run_job-end.ensures.ends.runs).stays
 
 pub returns-clause-kept : goal.returns-clause-kept
-returns-clause-kept g c = (c.claim.ensures.runs (g.P.Port.state c.args.port.now) c.run_job-end.result.1 c.run_job-end.ensures.ends.runs).kept
+returns-clause-kept g c = (c.claim.ensures.runs (g.P.Port.state c.args.port.now) c.run_job-end.result.1.learned c.run_job-end.ensures.ends.runs).kept
 
 pub returns-clause-wrote : goal.returns-clause-wrote
-returns-clause-wrote g c = (c.claim.ensures.runs (g.P.Port.state c.args.port.now) c.run_job-end.result.1 c.run_job-end.ensures.ends.runs).wrote
+returns-clause-wrote g c = (c.claim.ensures.runs (g.P.Port.state c.args.port.now) c.run_job-end.result.1.learned c.run_job-end.ensures.ends.runs).wrote
 
 pub returns-clause-new : goal.returns-clause-new
-returns-clause-new g c = (c.claim.ensures.runs (g.P.Port.state c.args.port.now) c.run_job-end.result.1 c.run_job-end.ensures.ends.runs).each_new
+returns-clause-new g c = (c.claim.ensures.runs (g.P.Port.state c.args.port.now) c.run_job-end.result.1.learned c.run_job-end.ensures.ends.runs).each_new
 
 pub returns-clause-new_lines : goal.returns-clause-new_lines
-returns-clause-new_lines g c = (c.claim.ensures.runs (g.P.Port.state c.args.port.now) c.run_job-end.result.1 c.run_job-end.ensures.ends.runs).new_lines
+returns-clause-new_lines g c = (c.claim.ensures.runs (g.P.Port.state c.args.port.now) c.run_job-end.result.1.learned c.run_job-end.ensures.ends.runs).new_lines
 
 pub returns-clause-glued : goal.returns-clause-glued
-returns-clause-glued g c = (c.claim.ensures.runs (g.P.Port.state c.args.port.now) c.run_job-end.result.1 c.run_job-end.ensures.ends.runs).glued
+returns-clause-glued g c = (c.claim.ensures.runs (g.P.Port.state c.args.port.now) c.run_job-end.result.1.learned c.run_job-end.ensures.ends.runs).glued
 
 pub returns-clause-counts : goal.returns-clause-counts
-returns-clause-counts g c = counted_by (g.P.Port.state c.args.port.now) (g.P.Port.state c.claim.new.port) c.run_job-end.result.1 (c.claim.ensures.runs (g.P.Port.state c.args.port.now) c.run_job-end.result.1 c.run_job-end.ensures.ends.runs)
+returns-clause-counts g c =
+    counted_by (g.P.Port.state c.args.port.now) (g.P.Port.state c.claim.new.port) c.run_job-end.result.1 c.run_job-end.ensures.counted
+    (c.claim.ensures.runs (g.P.Port.state c.args.port.now) c.run_job-end.result.1.learned c.run_job-end.ensures.ends.runs)

@@ -1,6 +1,11 @@
-use Rattle.std.proofs.Common.{◌≡◌, ◌∙◌, ap, sym, subst, get_or, List, None}
+use Rattle.std.proofs.Common.{◌≡◌, ◌∙◌, ◌++◌, ap, sym, subst, get_or, List, None}
+use Rattle.std.specs.Option.{option_to_list}
 use Rattle.sat_words.specs.Literal.{Literal}
-use Rattle.ring_trail.specs.TrailData.{value_of}
+use Rattle.ring_port.specs.PortState.{lits_at}
+use Rattle.ring_trail.specs.TrailData.{value_of, assigned}
+use Rattle.watch_prop.specs.WatchData.{WatchData, attached}
+use Rattle.watch_prop.specs.Watched.{Watched}
+use Rattle.ring_run.specs.declared.search.Ring.{Ring}
 use Rattle.ring_run.specs.Course.{WentBack}
 use Rattle.ring_run.proofs.Standing.{no_value}
 use Rattle.ring_run.proofs.search.assert_lemma.Goals as goal
@@ -9,5 +14,24 @@ pub assign-requires-clause-free : goal.assign-requires-clause-free
 assign-requires-clause-free g c =
     let a = c.requires.can in
     let first : c.index-lits-0.result ≡ a.first = c.index-lits-0.is ∙ ap (λ (ls : List Literal). get_or ls 0 c.index-lits-0.result) a.parts in
-    let went : WentBack c.args.ring.now.trail c.back_to.new.self c.args.back = record { is = c.back_to.ensures.back a.level; prefix = c.back_to.ensures.prefix; short = c.back_to.ensures.shorter; shape = c.back_to.ensures.trail } in
-    subst (λ (l : Literal). value_of c.back_to.new.self.steps l.var ≡ None) (sym first) (no_value c.back_to.new.self.steps a.first.var (a.free c.back_to.new.self went))
+    let went : WentBack c.args.ring.now.trail c.go_back.new.ring.trail c.args.back = c.go_back.ensures.went a.level in
+    subst (λ (l : Literal). value_of c.go_back.new.ring.trail.steps l.var ≡ None) (sym first) (no_value c.go_back.new.ring.trail.steps a.first.var (a.free c.go_back.new.ring.trail went))
+
+pub returns-clause-asserted : goal.returns-clause-asserted
+returns-clause-asserted g c =
+    let a = c.requires.can in
+    let s = g.P.Port.state c.args.port.now in
+    let first : c.index-lits-0.result ≡ a.first = c.index-lits-0.is ∙ ap (λ (ls : List Literal). get_or ls 0 c.index-lits-0.result) a.parts in
+    let same : c.go_back.new.ring.watches ≡ c.args.ring.now.watches = ap (λ (r : Ring). r.watches) c.go_back.ensures.same in
+    record {
+      middle = c.go_back.new.ring.trail;
+      went = c.go_back.ensures.went a.level;
+      first = a.first;
+      rest = a.rest;
+      parts = a.parts;
+      trail = c.assign.ensures.step ∙ ap (λ (l : Literal). assigned c.go_back.new.ring.trail l c.args.address) first;
+      shape = c.assign.ensures.trail;
+      clauses = c.in_ok-attach_lemma.ensures.attached ∙ ap (λ (w : WatchData). attached w ++ option_to_list c.args.address) same;
+      written = ap (λ (r : Ring). r.written) c.go_back.ensures.same;
+      watched = λ t w. c.in_ok-attach_lemma.ensures.watched t (subst (λ (x : WatchData). Watched x (lits_at s) t) (sym same) w);
+    }

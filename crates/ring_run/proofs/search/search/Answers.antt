@@ -1,5 +1,6 @@
 use Rattle.std.proofs.Common.{◌∙◌, sym, refl, arith}
 use Rattle.ring_run.proofs.Progress.{saw_goes_on}
+use Rattle.ring_run.proofs.Deciding.{decides_same, decides_moved}
 use Rattle.ring_run.proofs.Turning.{begun_search, less_to_do}
 use Rattle.ring_run.proofs.search.search.Goals as goal
 
@@ -17,6 +18,9 @@ loop-end-init g c =
       goes = saw_goes_on (g.P.Port.state c.args.port.now) (g.P.Port.state c.args.port.now) (g.P.Port.state c.take_units.new.port) c.args.ring.now.learned c.requires.goes c.requires.begun.mine c.take_units.ensures.saw c.take_units.ensures.port;
       below = c.requires.below;
       looks = λ base before. omega (arith, before, c.take_units.ensures.saw.looks, c.take_units.ensures.grown.level);
+      decides = decides_same (g.P.Port.state c.args.port.now) (g.P.Port.state c.take_units.new.port) c.args.ring.now.decider c.args.ring.now.decider c.requires.decides c.take_units.ensures.saw.stays refl;
+      paced = c.requires.paced;
+      odd = refl;
       vars = c.requires.vars ∙ sym c.take_units.ensures.grown.vars;
     }
 
@@ -42,5 +46,9 @@ loop-end-preserved g c =
       goes = goes;
       below = found.below;
       looks = λ base before. c.in_default.ensures.looks base (c.loop-end.invariant.looks base before);
+      decides = decides_moved (g.P.Port.state c.args.port.now) (g.P.Port.state c.loop-end.port) (g.P.Port.state c.turn.new.port) c.loop-end.ring.decider c.turn.new.ring.decider c.loop-end.invariant.decides
+          c.loop-end.invariant.goes.runs.stays goes.runs.stays c.turn.ensures.active;
+      paced = c.turn.ensures.paced;
+      odd = c.turn.ensures.odd ∙ c.loop-end.invariant.odd;
       vars = c.turn.ensures.vars ∙ c.loop-end.invariant.vars ∙ c.loop-end.invariant.search.stands.vars ∙ c.loop-end.invariant.goes.runs.stays.vars ∙ sym goes.runs.stays.vars ∙ sym found.search.stands.vars;
     }

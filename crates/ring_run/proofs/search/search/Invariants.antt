@@ -1,5 +1,6 @@
 use Rattle.std.proofs.Common.{◌≡◌, ℕ, ◌<◌, ◌+◌, ◌-◌, ◌*◌, length}
 use Rattle.ring_run.specs.Searching.{GoesOn}
+use Rattle.ring_run.specs.Strategy.{Decides, IsPaced}
 use Rattle.ring_run.specs.Course.{InSearch, IsLooking}
 use Rattle.ring_run.proofs.search.search.Given as goal
 
@@ -9,6 +10,9 @@ invariant-loop-end g l = record {
   goes : GoesOn (g.P.Port.state l.fn.port) (g.P.Port.state l.port) l.ring.learned;
   below : l.ring.learned < l.limit;
   looks : (base : ℕ) → IsLooking base (g.P.Port.state l.fn.port) l.fn.ring → IsLooking base (g.P.Port.state l.port) l.ring;
+  decides : Decides (g.P.Port.state l.port) l.ring.decider;
+  paced : IsPaced l.ring.restarts l.ring.learned l.limit;
+  odd : l.ring.restarts.odd ≡ l.fn.ring.restarts.odd;
   vars : l.analysis.vars ≡ l.ring.trail.vars;
 }
 

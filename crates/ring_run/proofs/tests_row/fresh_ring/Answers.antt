@@ -1,11 +1,8 @@
 use Rattle.std.proofs.Common.{sym, subst}
 use Rattle.ring_port.specs.PortState.{PortState}
 use Rattle.ring_run.specs.Course.{IsBegun}
-use Rattle.ring_run.proofs.Beginning.{starts_held, begun}
+use Rattle.ring_run.proofs.Beginning.{begun}
 use Rattle.ring_run.proofs.tests_row.fresh_ring.Goals as goal
-
-pub make_ring-requires-clause-held : goal.make_ring-requires-clause-held
-make_ring-requires-clause-held g c = starts_held (g.P.Port.state c.args.port.now) c.args.job.now c.requires.job c.requires.untouched
 
 pub returns : goal.returns
 returns g c =

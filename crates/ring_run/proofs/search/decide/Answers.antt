@@ -2,7 +2,7 @@ use Rattle.ring_run.specs.declared.search.Ring.{Ring}
 use Rattle.ring_run.proofs.Deciding.{decided_search, model_found}
 use Rattle.ring_run.proofs.Progress.{out_of_memory}
 use Rattle.ring_run.proofs.Learning.{goes_on_by}
-use Rattle.ring_run.proofs.search.decide_least.Goals as goal
+use Rattle.ring_run.proofs.search.decide.Goals as goal
 use Rattle.std.proofs.Common.{subst, sym}
 use Rattle.ring_trail.specs.TrailData.{TrailData, IsTrail}
 use Rattle.ring_run.specs.Course.{Searches}
@@ -10,15 +10,15 @@ use Rattle.ring_run.specs.Course.{Searches}
 pub returns-in-Some-clause-leads : goal.returns-in-Some-clause-leads
 returns-in-Some-clause-leads g c =
     let s = g.P.Port.state c.args.port.now in
-    let after : Ring = record c.args.ring.now { trail = c.decide.new.self } in
+    let after : Ring = record c.args.ring.now { trail = c.decide.new.self; decider = c.next.new.self } in
     goes_on_by s s c.args.ring.now after c.args.limit
     (subst (λ (t : TrailData). Searches s t c.args.ring.now.watches c.args.ring.now.written) (sym c.decide.ensures.step)
-    (decided_search s c.args.ring.now.trail c.args.ring.now.watches c.args.ring.now.written c.new.result c.requires.search c.requires.quiet c.requires.first (subst IsTrail c.decide.ensures.step c.decide.ensures.trail)))
+    (decided_search s c.args.ring.now.trail c.args.ring.now.watches c.args.ring.now.written c.in-Some.lit c.requires.search c.requires.quiet c.requires.first (subst IsTrail c.decide.ensures.step c.decide.ensures.trail)))
     c.requires.below (λ start p. p)
 
 pub returns-in-Ok-clause-leads : goal.returns-in-Ok-clause-leads
 returns-in-Ok-clause-leads g c =
-    model_found (g.P.Port.state c.args.port.now) c.args.ring.now c.args.limit c.in-Ok.model c.requires.search c.requires.below c.requires.quiet c.requires.first (c.least_open.ensures.all c.in_default.is) c.in-Ok.ensures.long c.in-Ok.ensures.all
+    model_found (g.P.Port.state c.args.port.now) c.args.ring.now c.args.limit c.in-Ok.model c.requires.search c.requires.below c.requires.quiet c.requires.first c.requires.decides (c.next.ensures.none c.in_default.is) c.in-Ok.ensures.long c.in-Ok.ensures.all
 
 pub returns-in-Err-clause-leads : goal.returns-in-Err-clause-leads
 returns-in-Err-clause-leads g c = λ start p. out_of_memory start (g.P.Port.state c.args.port.now) c.args.ring.now.learned c.args.limit c.requires.below p

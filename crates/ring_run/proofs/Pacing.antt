@@ -1,0 +1,36 @@
+-- What a ring counts for its restarts, behind one lemma more.
+use Rattle.std.proofs.Common.{◌≡◌, ◌∙◌, ℕ, ◌+◌, ◌<◌, ◌≢◌, Bool, true, false, cond, ap, sym, refl, arith}
+use Rattle.restart_plan.specs.Plan.{Restarting, noted, asked, restarted, is_due}
+use Rattle.restart_plan.proofs.Restarting.{exact-more, exact-before}
+use Rattle.ring_run.specs.Strategy.{IsPaced}
+
+-- the question changes neither the count nor which ring it is
+pub asked_count : (r : Restarting) → (asked r).count ≡ r.count
+asked_count r = by (is_due r)
+  where
+    by : (b : Bool) → (cond b (restarted r) r).count ≡ r.count
+    by true = refl
+    by false = refl
+
+pub asked_odd : (r : Restarting) → (asked r).odd ≡ r.odd
+asked_odd r = by (is_due r)
+  where
+    by : (b : Bool) → (cond b (restarted r) r).odd ≡ r.odd
+    by true = refl
+    by false = refl
+
+-- the lemma that reaches the limit is noted, and no question asked
+pub paced_last : (r : Restarting) (n glue limit : ℕ) → IsPaced r n limit → n < limit → n + 1 ≡ limit → IsPaced (noted r glue) (n + 1) limit
+paced_last r n glue limit p below is = record {
+  count = ap (λ (k : ℕ). k + 1) p.count;
+  exact = λ odd lt. absurd (omega arith);
+  last = λ odd e. exact-before r glue (p.exact odd below);
+}
+
+-- each other is followed by the question
+pub paced_more : (r : Restarting) (n glue limit : ℕ) → IsPaced r n limit → n < limit → n + 1 ≢ limit → IsPaced (asked (noted r glue)) (n + 1) limit
+paced_more r n glue limit p below more = record {
+  count = asked_count (noted r glue) ∙ ap (λ (k : ℕ). k + 1) p.count;
+  exact = λ odd lt. exact-more r glue (p.exact (sym (asked_odd (noted r glue)) ∙ odd) below);
+  last = λ odd e. absurd (more e);
+}

@@ -1,0 +1,18 @@
+use Rattle.std.proofs.Common.{◌≡◌, ◌∙◌, ◌++◌, ap, sym, subst, arith}
+use Rattle.std.specs.Option.{option_to_list}
+use Rattle.ring_port.specs.PortState.{lits_at}
+use Rattle.watch_prop.specs.WatchData.{WatchData, attached}
+use Rattle.watch_prop.specs.Watched.{Watched}
+use Rattle.ring_run.specs.declared.search.Ring.{Ring}
+use Rattle.ring_run.proofs.search.restart.Goals as goal
+
+pub returns-clause-restarted : goal.returns-clause-restarted
+returns-clause-restarted g c =
+    let s = g.P.Port.state c.args.port.now in
+    let same : c.go_back.new.ring.watches ≡ c.args.ring.now.watches = ap (λ (r : Ring). r.watches) c.go_back.ensures.same in
+    record {
+      went = c.go_back.ensures.went (omega arith);
+      clauses = c.in_ok-attach_lemma.ensures.attached ∙ ap (λ (w : WatchData). attached w ++ option_to_list c.args.address) same;
+      written = ap (λ (r : Ring). r.written) c.go_back.ensures.same;
+      watched = λ t w. c.in_ok-attach_lemma.ensures.watched t (subst (λ (x : WatchData). Watched x (lits_at s) t) (sym same) w);
+    }

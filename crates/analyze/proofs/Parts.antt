@@ -17,8 +17,10 @@ use Rattle.rup_model.proofs.Counting.{In_member, member_In}
 use Rattle.ring_port.specs.PortState.{PortState, IsOn, known}
 use Rattle.ring_port.specs.Port.{IsClause}
 use Rattle.ring_trail.specs.declared.step.Step.{Step}
-use Rattle.ring_trail.specs.TrailData.{TrailData, IsTrail, IsFalseClause, lit_at, level_at}
+use Rattle.ring_trail.specs.TrailData.{TrailData, IsTrail, IsFalseClause, lit_at, level_at, var_at}
 use Rattle.ring_trail.specs.Reasoned.{IsReasoned}
+use Rattle.ring_port.proofs.Holdings.{All_In}
+use Rattle.analyze.specs.AnalysisData.{IsVariable}
 use Rattle.analyze.specs.Levels.{greatest, level_of_lit, levels_of, clause_level}
 use Rattle.ring_port.specs.PortState.{clause_at}
 use Rattle.analyze.specs.MarksData.{MarksData}
@@ -311,3 +313,11 @@ module _ (t : TrailData) (m : ℕ) (ms : MarksData Bool) (shape : IsTrail t) (k 
     pub kept_few : length (kept_of t.steps m vs ms.touched) ≤ length t.steps
     kept_few = length-le_from_distinct_below (kept_of t.steps m vs ms.touched) (length t.steps) (distinct_filter (is_kept t.steps m vs) ms.touched k.distinct)
         (λ q y. listed_lt q (kept_listed q (member_In (kept_of t.steps m vs ms.touched) q y)))
+
+-- the literals of a trail are on its variables
+pub vars_of_trail : (t : TrailData) (n : ℕ) (places : List ℕ) → IsTrail t → t.vars ≡ n → All (λ p. p < length t.steps) places → All (IsVariable n) (map (var_at t.steps) places)
+vars_of_trail t n places shape is inside = λ i d h.
+    let at = map_In (var_at t.steps) places (get_or (map (var_at t.steps) places) i d) (In_get_or (map (var_at t.steps) places) i d h) in
+    let lt : at.0 < length t.steps = All_In (λ p. p < length t.steps) places at.0 inside at.1 in
+    let high = shape.high at.0 lt in
+    subst (IsVariable n) at.2 (record { low = shape.low at.0 lt; high = omega (arith, is, high) })

@@ -5,10 +5,16 @@ use Rattle.analyze.specs.declared.analysis.Analysis.TheInside.{Inside}
 use Rattle.analyze.specs.declared.minimise.Verdict.TheVariants.{Unknown}
 use Rattle.analyze.specs.MarksData.{all_blank}
 
--- for how many variables, and the literals found last
+-- for how many variables, the literals found last, and the variables that the walk to them met
 pub record AnalysisData : Type 0 where
   pub vars : ℕ
   pub lits : List Literal
+  pub met : List ℕ
+
+-- one of the variables from 1 to the last
+pub record IsVariable (vars v : ℕ) : Type 0 where
+  pub low : 1 ≤ v
+  pub high : v ≤ vars
 
 -- no mark and no verdict is left, and the buffers are large enough
 pub record IsReady (a : Inside) : Type 0 where
@@ -19,3 +25,4 @@ pub record IsReady (a : Inside) : Type 0 where
   pub aside_room : a.vars ≤ vec_capacity a.aside
   pub waiting_room : a.vars ≤ vec_capacity a.verdicts.waiting
   pub lits_room : a.vars + 1 ≤ vec_capacity a.lits
+  pub met_room : a.vars ≤ vec_capacity a.met

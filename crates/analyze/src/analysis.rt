@@ -1,13 +1,14 @@
 //! Conflict analysis as a ring asks for it: the walk, minimisation and the lemma, over buffers that are kept. Each call
 //! must leave no mark behind.
-ghost use Rattle.std.specs.Prelude.{◌≡◌, ◌≤◌, ◌^◌, [], IfOk, IsSome};
+ghost use Rattle.std.specs.Prelude.{◌≡◌, ◌≤◌, ◌^◌, [], All, IfOk, IsSome};
+ghost use Rattle.analyze.specs.AnalysisData.{IsVariable};
 ghost use Rattle.ring_port.specs.PortState.{held_at, lits_at};
 ghost use Rattle.ring_trail.specs.TrailData.{IsFalseClause};
 ghost use Rattle.ring_trail.specs.Reasoned.{IsReasoned};
 ghost use Rattle.ring_port.specs.PortState.{clause_at};
 ghost use Rattle.analyze.specs.Lemma.{IsConclusion};
 
-use crate::lemma::{backjump_level, glue_of, write_lemma};
+use crate::lemma::{backjump_level, glue_of, write_lemma, write_met};
 use crate::marks::Marks;
 use crate::minimise::{Verdict, Verdicts, judge_all, put_aside};
 use crate::walk::{find_first_uip, level_of_clause};
@@ -42,6 +43,7 @@ pub struct Analysis {
     levels: Marks<bool>,
     verdicts: Verdicts,
     lits: Vec<Lit>,
+    met: Vec<u32>,
 }
 
 impl Model for Analysis {
@@ -51,7 +53,7 @@ impl Model for Analysis {
 
     ghost use Rattle.analyze.specs.AnalysisData.{IsReady};
 
-    ghost view = { λ a. record { vars = a.vars; lits = a.lits.items } };
+    ghost view = { λ a. record { vars = a.vars; lits = a.lits.items; met = a.met.items } };
 
     ghost invariant = { IsReady };
 }
@@ -60,7 +62,7 @@ impl Analysis {
     /// For trails over so many variables. It has no lemma yet.
     pub fn new(alloc: Global, vars: u32) -> Result<Analysis, AllocError>
         requires { vars ≤ 2 ^ 30 }
-        ensures { IfOk result (λ a. a ≡ record { vars = vars; lits = [] }) }
+        ensures { IfOk result (λ a. a ≡ record { vars = vars; lits = []; met = [] }) }
     {
         let room = vars as usize;
         Ok(Analysis {
@@ -73,6 +75,7 @@ impl Analysis {
                 waiting: Vec::with_capacity(alloc, room)?,
             },
             lits: Vec::with_capacity(alloc, room + 1)?,
+            met: Vec::with_capacity(alloc, room)?,
         })
     }
 
@@ -81,6 +84,14 @@ impl Analysis {
         ensures { result.now ≡ self.now.lits }
     {
         self.lits.as_slice()
+    }
+
+    /// The variables that the walk from the last conflict met: those of the lemma before minimisation, and those that were
+    /// resolved away.
+    pub fn met(&self) -> &[u32]
+        ensures { result.now ≡ self.now.met }
+    {
+        self.met.as_slice()
     }
 
     /// Analyses a conflict, a clause that is false on the trail: the walk back to the first unique implication point
@@ -96,10 +107,12 @@ impl Analysis {
         ensures vars { self.new.vars ≡ self.old.vars }
         ensures found { IsConclusion (P.state port.old) trail.now (lits_at (P.state port.old) conflict.address) self.new.lits result }
         ensures none { result ≡ Conclusion.Empty → self.new.lits ≡ [] }
+        ensures met { All (IsVariable self.new.vars) self.new.met }
     {
         let level = level_of_clause(port, trail, conflict);
         if level == 0 {
             self.lits.clear();
+            self.met.clear();
             return Conclusion::Empty;
         }
         let point = find_first_uip(port, trail, conflict, level, &mut self.marks);
@@ -111,6 +124,7 @@ impl Analysis {
             self.verdicts.table.values(),
             &mut self.aside,
         );
+        write_met(trail, self.marks.touched(), &mut self.met);
         self.marks.reset();
         self.verdicts.table.reset();
         let aside = self.aside.as_slice();

@@ -1,9 +1,9 @@
 //! The lemma as it is learned: its literals, the level to backjump to, and its glue (Audemard and Simon 2009). The
 //! asserting literal must stand first and alone count for neither level nor glue.
-ghost use Rattle.std.specs.Prelude.{◌≡◌, ◌<◌, ◌+◌, ◌∷◌, false, All, length, map, nat_eq};
+ghost use Rattle.std.specs.Prelude.{◌≡◌, ◌<◌, ◌≤◌, ◌+◌, ◌∷◌, false, All, length, map, nat_eq};
 ghost use Rattle.std.specs.Set.{distinct_count};
 ghost use Rattle.std.specs.Vec.{vec_capacity};
-ghost use Rattle.ring_trail.specs.TrailData.{IsTrail, level_at};
+ghost use Rattle.ring_trail.specs.TrailData.{IsTrail, level_at, var_at};
 ghost use Rattle.analyze.specs.Levels.{greatest};
 ghost use Rattle.analyze.specs.Lemma.{negated_at};
 ghost use Rattle.analyze.specs.MarksData.{all_blank};
@@ -24,6 +24,19 @@ pub(crate) fn write_lemma(trail: &Trail, point: u32, aside: &[u32], lits: &mut V
     lits.push_reserved(trail.lit_at(point).not());
     for place in aside {
         lits.push_reserved(trail.lit_at(*place).not());
+    }
+}
+
+/// The variables of the trail's literals at these places.
+pub(crate) fn write_met(trail: &Trail, places: &[u32], met: &mut Vec<u32>)
+    requires in_range { All (λ p. p < length trail.now.steps) places.now }
+    requires room { length places.now ≤ vec_capacity met.old }
+    ensures met { met.new.items ≡ map (var_at trail.now.steps) places.now }
+    ensures room { vec_capacity met.new ≡ vec_capacity met.old }
+{
+    met.clear();
+    for place in places {
+        met.push_reserved(trail.lit_at(*place).var());
     }
 }
 

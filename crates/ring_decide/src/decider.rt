@@ -116,6 +116,13 @@ impl Decider {
         self.stamps[var as usize] = self.clock;
     }
 
+    /// When the variable was bumped last: the greater, the later.
+    pub fn stamp(&self, var: u32) -> u64
+        requires { var ≤ length self.now.active }
+    {
+        self.stamps[var as usize]
+    }
+
     /// The literal loses its value: its variable has this phase from now on, and is looked at again.
     pub fn save(&mut self, lit: Lit)
         requires low { 1 ≤ lit.var }

@@ -136,6 +136,7 @@ pub(crate) fn make_ring<P: Port>(alloc: Global, port: &mut P, job: &Job) -> Resu
     let active = active_of(alloc, port, job.vars, job.start.as_slice())?;
     let decider = Decider::new(alloc, active.as_slice(), job.seed, job.ring)?;
     let restarts = Restarts::new(alloc, job.ring)?;
+    let bumps = Vec::with_capacity(alloc, job.vars as usize)?;
     Ok(Ring {
         trail,
         watches,
@@ -143,6 +144,7 @@ pub(crate) fn make_ring<P: Port>(alloc: Global, port: &mut P, job: &Job) -> Resu
         written: 0,
         decider,
         restarts,
+        bumps,
     })
 }
 

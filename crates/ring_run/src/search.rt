@@ -19,7 +19,7 @@ ghost use Rattle.ring_run.specs.Course.{InSearch, Leads, WentBack, CanAssert, As
 
 use crate::job::End;
 use crate::units::{Units, take_units, write_units};
-use crate::variables::{bump_lemma, save_phases};
+use crate::variables::{Bump, bump_met, save_phases};
 use analyze::{Analysis, Conclusion};
 use restart_plan::Restarts;
 use ring_decide::Decider;
@@ -44,6 +44,8 @@ pub(crate) struct Ring {
     pub decider: Decider,
     /// When it restarts.
     pub restarts: Restarts,
+    /// Room for the variables that a conflict met.
+    pub bumps: Vec<Bump>,
 }
 
 /// What a step of the search comes to.
@@ -246,9 +248,11 @@ fn learn_from<P: Port>(
     match analysis.analyze(port, &ring.trail, conflict) {
         Conclusion::Empty => Course::Over(refute(port)),
         Conclusion::Lemma { back, glue } => {
-            let lits = analysis.lits();
-            bump_lemma(&mut ring.decider, lits);
-            learn_lemma(port, ring, lits, back, glue, limit)
+            let met = analysis.met();
+            if bump_met(&mut ring.decider, met, &mut ring.bumps).is_err() {
+                return Course::Over(End::Memory);
+            }
+            learn_lemma(port, ring, analysis.lits(), back, glue, limit)
         }
     }
 }

@@ -1,17 +1,19 @@
 // Which variables the ring decides, and what it notes of them on the way: those of the start clauses are active, those that
-// lose their values keep them as their phases, and those of a lemma move to the end of the queue.
-ghost use Rattle.std.specs.Prelude.{◌≡◌, All, IfOk, IsSome, Contains, length};
-ghost use Rattle.sat_words.specs.Literal.{IsOn};
+// lose their values keep them as their phases, and those that a conflict met move to the end of the queue (sorted by when
+// they were bumped before, as in CaDiCaL).
+ghost use Rattle.std.specs.Prelude.{◌≡◌, All, IfOk, OnOk, IsSome, Contains, length};
 ghost use Rattle.sat_words.specs.declared.shared.Cref.{Cref};
 ghost use Rattle.ring_port.specs.PortState.{IsPort, held_at, lits_at};
 ghost use Rattle.ring_trail.specs.TrailData.{IsTrail};
+ghost use Rattle.analyze.specs.AnalysisData.{IsVariable};
+ghost use Rattle.ring_run.specs.declared.variables.Bump.{Bump};
 ghost use Rattle.ring_run.specs.Searching.{IsHeldBy};
 ghost use Rattle.ring_run.specs.Strategy.{AreMore, AreMarked};
 
 use ring_decide::Decider;
 use ring_port::Port;
 use ring_trail::Trail;
-use sat_words::{Cref, Lit};
+use sat_words::Cref;
 use std::alloc::{AllocError, Global};
 
 /// Marks the variables of a clause that is held.
@@ -67,12 +69,50 @@ pub(crate) fn save_phases(trail: &Trail, decider: &mut Decider, level: u32)
     }
 }
 
-/// Moves the variables of a lemma to the end of the queue.
-pub(crate) fn bump_lemma(decider: &mut Decider, lits: &[Lit])
-    requires on { All (IsOn (length decider.old.active)) lits.now }
+/// A variable that a conflict met, and when it was bumped before. In order the one bumped first comes first.
+#[derive(Clone, Copy, PartialEq, Eq, PartialOrd, Ord)]
+pub(crate) struct Bump {
+    stamp: u64,
+    var: u32,
+}
+
+/// Lists the variables with their stamps, in place of what was listed.
+fn list_bumps(decider: &Decider, met: &[u32], bumps: &mut Vec<Bump>) -> Result<(), AllocError>
+    requires on { All (IsVariable (length decider.now.active)) met.now }
+    ensures on { OnOk result (All (λ (b : Bump). IsVariable (length decider.now.active) b.var) bumps.new.items) }
+{
+    bumps.clear();
+    for var in met {
+        bumps.push(Bump {
+            stamp: decider.stamp(*var),
+            var: *var,
+        })?;
+    }
+    Ok(())
+}
+
+/// Bumps the listed variables in their order.
+fn bump_each(decider: &mut Decider, bumps: &[Bump])
+    requires on { All (λ (b : Bump). IsVariable (length decider.old.active) b.var) bumps.now }
     ensures same { decider.new ≡ decider.old }
 {
-    for lit in lits {
-        decider.bump(lit.var());
+    for bump in bumps {
+        decider.bump(bump.var);
     }
+}
+
+/// Moves the variables that a conflict met to the end of the queue, and leaves them in the order in which they stood there.
+/// The list keeps its room from call to call.
+pub(crate) fn bump_met(
+    decider: &mut Decider,
+    met: &[u32],
+    bumps: &mut Vec<Bump>,
+) -> Result<(), AllocError>
+    requires on { All (IsVariable (length decider.old.active)) met.now }
+    ensures same { decider.new ≡ decider.old }
+{
+    list_bumps(decider, met, bumps)?;
+    bumps.sort_unstable();
+    bump_each(decider, bumps.as_slice());
+    Ok(())
 }

@@ -13,12 +13,12 @@ learn_lemma-requires-clause-lemma g c =
     let found = c.in-Lemma.ensures.found in
     let asserting : IsAsserting s c.args.ring.now.trail c.analyze.new.self.lits c.in-Lemma.back =
     lemma_asserts s c.args.ring.now.trail c.args.ring.now.watches c.args.conflict c.analyze.new.self.lits c.in-Lemma.back c.in-Lemma.glue c.args.ring.now.written c.requires.search c.requires.conflict found.0 found.1 in
-    subst (λ (ls : List Literal). IsAsserting (g.P.Port.state c.analyze.new.port) c.args.ring.now.trail ls c.in-Lemma.back) (sym c.lits-lits.ensures)
+    subst (λ (ls : List Literal). IsAsserting (g.P.Port.state c.analyze.new.port) c.args.ring.now.trail ls c.in-Lemma.back) (sym c.lits.ensures)
     (subst (λ (x : PortState). IsAsserting x c.args.ring.now.trail c.analyze.new.self.lits c.in-Lemma.back) (sym c.analyze.ensures.same) asserting)
 
-pub returns-in-Lemma-clause-leads : goal.returns-in-Lemma-clause-leads
-returns-in-Lemma-clause-leads g c =
-    let between : Ring = record c.args.ring.now { decider = c.bump_lemma.new.decider } in
+pub returns-else-is_err-clause-leads : goal.returns-else-is_err-clause-leads
+returns-else-is_err-clause-leads g c =
+    let between : Ring = record c.args.ring.now { decider = c.bump_met.new.decider; bumps = c.bump_met.new.bumps } in
     compose c.learn_lemma.result (g.P.Port.state c.args.port.now) (g.P.Port.state c.analyze.new.port) (g.P.Port.state c.learn_lemma.new.port) c.args.ring.now between c.learn_lemma.new.ring c.args.limit
     (λ start p. subst (λ (x : PortState). GoesOn start x c.args.ring.now.learned) (sym c.analyze.ensures.same) p)
     c.learn_lemma.ensures.leads

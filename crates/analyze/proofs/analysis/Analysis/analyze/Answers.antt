@@ -2,7 +2,7 @@ use Rattle.std.proofs.Common.{◌∙◌, ◌≤◌, sym, ap, arith}
 use Rattle.ring_port.proofs.Holdings.{held_is_known}
 use Rattle.analyze.specs.AnalysisData.{AnalysisData}
 use Rattle.analyze.proofs.Refuting.{rup-none}
-use Rattle.analyze.proofs.Parts.{IsLemma-from, touched_in_range, touched_short, kept_in_range, kept_few}
+use Rattle.analyze.proofs.Parts.{vars_of_trail, IsLemma-from, touched_in_range, touched_short, kept_in_range, kept_few}
 use Rattle.analyze.proofs.analysis.Analysis.analyze.Goals as goal
 
 pub returns-then-level-eq0-clause-found : goal.returns-then-level-eq0-clause-found
@@ -56,3 +56,20 @@ returns-clause-found g c =
           (rw (c.as_slice-aside.ensures.value, c.put_aside.ensures.kept, c.touched.ensures, c.values.ensures) at c.backjump_level-back.ensures)
           (rw (c.as_slice-aside.ensures.value, c.put_aside.ensures.kept, c.touched.ensures, c.values.ensures) at c.glue_of-glue.ensures.count)),
     )
+
+pub write_met-requires-clause-in_range : goal.write_met-requires-clause-in_range
+write_met-requires-clause-in_range g c =
+    rw c.touched-2.ensures (touched_in_range c.args.trail.now _ _ c.level_of_clause-level.ensures.shape c.find_first_uip-point.ensures.marking)
+
+pub write_met-requires-clause-room : goal.write_met-requires-clause-room
+write_met-requires-clause-room g c =
+    let few = touched_short c.args.trail.now _ _ c.level_of_clause-level.ensures.shape c.find_first_uip-point.ensures.marking in
+    let s = c.level_of_clause-level.ensures.shape.short in
+    let w = ap (λ (d : AnalysisData). d.vars) c.self.view_is in
+    rw c.touched-2.ensures (omega (arith, c.self.invariant.met_room, c.requires.vars))
+
+pub returns-clause-met : goal.returns-clause-met
+returns-clause-met g c =
+    let w = ap (λ (d : AnalysisData). d.vars) c.self.view_is in
+    rw (c.write_met.ensures.met, c.touched-2.ensures)
+    (vars_of_trail c.args.trail.now c.self.inside.vars _ c.level_of_clause-level.ensures.shape (omega (arith, w, c.requires.vars)) (touched_in_range c.args.trail.now _ _ c.level_of_clause-level.ensures.shape c.find_first_uip-point.ensures.marking))

@@ -273,7 +273,7 @@ fn refutations(rt: HostRuntime) -> Result<(), Fail> {
         },
         Row {
             input: b"p cnf 2 4\n1 2 0\n1 -2 0\n-1 2 0\n-1 -2 0\n",
-            proof: Some(b"1 0\n0\n"),
+            proof: Some(b"2 0\n0\n"),
             learned: &[1],
             ..refuted
         },
@@ -591,7 +591,7 @@ fn faults_of_the_proof(rt: HostRuntime) -> Result<(), Fail> {
         },
         Row {
             proof_fails: SECOND,
-            proof: Some(b"1 0\n0\n"),
+            proof: Some(b"2 0\n0\n"),
             flushes_proof: false,
             ..two_lines
         },
@@ -634,7 +634,7 @@ fn six_pigeons_in_five_holes(rt: HostRuntime) -> Result<(), Fail> {
         status: 20,
         out: b"s UNSATISFIABLE\n",
         compares_proof: false,
-        learned: &[49],
+        learned: &[141],
         ..PLAIN
     };
     check_row(&rt, row, 65536)

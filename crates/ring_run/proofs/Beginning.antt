@@ -20,7 +20,7 @@ use Rattle.watch_prop.specs.Watched.{Watched, IsFresh}
 use Rattle.ring_decide.specs.DeciderData.{DeciderData}
 use Rattle.restart_plan.specs.Plan.{Restarting, IsRestarting, IsExact, AreMost, AreMostBefore, begun as nothing_came}
 use Rattle.restart_plan.proofs.Restarting.{exact-none, exact-most}
-use Rattle.ring_run.specs.Ended.{IsJobOf, IsUntouched, IsOwn, IsNewLine, IsCounted, HasRestarted, counted, opening_of}
+use Rattle.ring_run.specs.Ended.{IsJobOf, IsUntouched, IsOwn, IsNewLine, HasRestarted, opening_of}
 use Rattle.ring_run.specs.Strategy.{Decides, IsPaced, AreMarked}
 use Rattle.ring_run.specs.declared.job.Counts.{Counts}
 use Rattle.ring_run.specs.Searching.{IsHeldBy, Runs, GoesOn}
@@ -30,7 +30,7 @@ use Rattle.ring_run.specs.declared.search.Ring.{Ring}
 
 pub runs_begin : (s : PortState) → IsUntouched s → IsPort s → Runs s s 0
 runs_begin s p port = record {
-  stays = record { start = refl; opening = refl; vars = refl; ring = refl; rings = refl; waiting = refl; shared = refl; polled = refl; puts = refl; taken = refl; home = refl; log = λ o h. h };
+  stays = record { start = refl; opening = refl; vars = refl; ring = refl; rings = refl; polled = refl; taken = refl; home = refl; log = λ o h. h };
   kept = λ a h. refl;
   wrote = subst (All (IsOwn s.ring s.vars)) (sym p.mine) (λ k d h. absurd (omega arith));
   counted = sym (ap (λ (J : List Entry). length (learned s.ring J)) p.mine);
@@ -95,9 +95,6 @@ begun s job ring asked p port trail shape clauses watched none =
       reasons = record { caused = λ q h. absurd (omega (arith, ap (λ (t : TrailData). length t.steps) trail)) };
     }
 
-pub counted_by : (start s : PortState) (counts : Counts) → counts ≡ counted counts.learned counts.restarts → Runs start s counts.learned → IsCounted s counts
-counted_by start s counts is p = record { learned_is = p.counted; exported = ap (λ (c : Counts). c.exported) is; offered = ap (λ (c : Counts). c.offered) is }
-
 -- a decider whose active variables are those of the job's clauses
 pub decides_begin : (s : PortState) (job : Job) (d : DeciderData) (marks : List Bool) → IsJobOf s job → HoldsStart s → IsPort s → d.active ≡ marks → length marks ≡ job.vars
     → ((c : Cref) → Contains job.start c → AreMarked marks (lits_at s c.address)) → Decides s d
@@ -137,9 +134,9 @@ restarted_by ring limit r counts odd kept p made = record {
 }
 
 -- a ring that learned nothing made no restart
-pub restarted_none : (ring limit : ℕ) (counts : Counts) → 1 ≤ limit → counts ≡ counted 0 0 → HasRestarted ring limit counts
-restarted_none ring limit counts some is = subst (HasRestarted ring limit) (sym is) (record {
+pub restarted_none : (ring limit : ℕ) → 1 ≤ limit → HasRestarted ring limit (record { learned = 0; exported = 0; offered = 0; restarts = 0 })
+restarted_none ring limit some = record {
   few = omega arith;
   most = λ odd lt. exact-most (nothing_came true) exact-none;
   spent = λ odd e. absurd (omega arith);
-})
+}

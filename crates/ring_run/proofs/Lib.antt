@@ -11,5 +11,7 @@ pub mod Beginning
 pub mod Telling
 pub mod Marked
 pub mod Pacing
+pub mod Offering
+pub mod Lending
 mod ProblemsReady
 mod CrowdLemmas

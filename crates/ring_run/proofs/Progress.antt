@@ -46,10 +46,7 @@ stays_by s u w p q = record {
   vars = q.vars ∙ p.vars;
   ring = q.ring ∙ p.ring;
   rings = q.rings ∙ p.rings;
-  waiting = q.waiting ∙ p.waiting;
-  shared = q.shared ∙ p.shared;
   polled = q.polled ∙ p.polled;
-  puts = q.puts ∙ p.puts;
   taken = q.taken ∙ p.taken;
   home = q.home ∙ p.home;
   log = λ o h. q.log o (p.log o h);
@@ -70,7 +67,7 @@ news_moved : (s u : PortState) (J : List Entry) → Stays s u → u.mine ≡ J �
 news_moved s u J stays is p = subst (EachAfter (IsNew (opening_of u)) []) (sym is) (subst (λ (o : Opening). EachAfter (IsNew o) [] J) (sym (opening_moved s u stays)) p)
 
 -- lines of units that are new
-lines_moved : (s u : PortState) (J : List Entry) → Stays s u → u.given ≡ s.given → u.mine ≡ J → EachAfter (IsNewLine s.opening s.given s.ring) [] J → AreNewLines u
+pub lines_moved : (s u : PortState) (J : List Entry) → Stays s u → u.given ≡ s.given → u.mine ≡ J → EachAfter (IsNewLine s.opening s.given s.ring) [] J → AreNewLines u
 lines_moved s u J stays given is p =
     let Q : List Literal → List Literal → ℕ → List Entry → Type 0 = λ o g r K. EachAfter (IsNewLine o g r) [] K in
     subst (Q u.opening u.given u.ring) (sym is)
@@ -139,10 +136,7 @@ stays_unit s u l kind last w log = record {
   vars = ap (λ (x : PortState). x.vars) w.state;
   ring = ap (λ (x : PortState). x.ring) w.state;
   rings = ap (λ (x : PortState). x.rings) w.state;
-  waiting = ap (λ (x : PortState). x.waiting) w.state;
-  shared = ap (λ (x : PortState). x.shared) w.state;
   polled = ap (λ (x : PortState). x.polled) w.state;
-  puts = ap (λ (x : PortState). x.puts) w.state;
   taken = ap (λ (x : PortState). x.taken) w.state;
   home = ap (λ (x : PortState). x.home) w.state;
   log = log;
@@ -202,7 +196,7 @@ unit_goes_on start s u n l p on units unseen w log port =
     no_lemma r number l = omega (arith, not_learned s.ring (record { ring = s.ring; number = number; lits = l ∷ []; kind = UnitLine }) refl)
 
 -- a refusal changes nothing but what it notes
-record Same (s u : PortState) : Type 0 where
+pub record Same (s u : PortState) : Type 0 where
   pub start : u.start ≡ s.start
   pub opening : u.opening ≡ s.opening
   pub vars : u.vars ≡ s.vars
@@ -240,7 +234,7 @@ but_noted s refused ended output = record {
   held = refl;
 }
 
-same_refused : (s : PortState) (output : Option LineState) (stop : PortStop) → Same s (after_refusal s output stop)
+pub same_refused : (s : PortState) (output : Option LineState) (stop : PortStop) → Same s (after_refusal s output stop)
 same_refused s output Ended = but_noted s (Some Ended) true s.output
 same_refused s output Broken = but_noted s (Some Broken) s.ended s.output
 same_refused s output ProofFault = but_noted s (Some ProofFault) s.ended output
@@ -281,10 +275,7 @@ stays_same s u p log = record {
   vars = p.vars;
   ring = p.ring;
   rings = p.rings;
-  waiting = p.waiting;
-  shared = p.shared;
   polled = p.polled;
-  puts = p.puts;
   taken = p.taken;
   home = p.home;
   log = log;
@@ -336,10 +327,7 @@ stays_learned s u lits glue c w log = record {
   vars = ap (λ (x : PortState). x.vars) w.state;
   ring = ap (λ (x : PortState). x.ring) w.state;
   rings = ap (λ (x : PortState). x.rings) w.state;
-  waiting = ap (λ (x : PortState). x.waiting) w.state;
-  shared = ap (λ (x : PortState). x.shared) w.state;
   polled = ap (λ (x : PortState). x.polled) w.state;
-  puts = ap (λ (x : PortState). x.puts) w.state;
   taken = ap (λ (x : PortState). x.taken) w.state;
   home = ap (λ (x : PortState). x.home) w.state;
   log = log;
@@ -360,7 +348,7 @@ some_counted (n ∷ m ∷ ns) h = by (is_member nat_eq (m ∷ ns) n) (some_count
     by false le = omega arith
 
 -- the glue of a lemma of two literals or more
-glue_bounds : (steps : List Step) (lits : List Literal) (glue : ℕ) → IsGlueOf steps lits glue → 2 ≤ length lits → (1 ≤ glue) × (glue < length lits)
+pub glue_bounds : (steps : List Step) (lits : List Literal) (glue : ℕ) → IsGlueOf steps lits glue → 2 ≤ length lits → (1 ≤ glue) × (glue < length lits)
 glue_bounds steps [] glue is long = absurd (omega arith)
 glue_bounds steps (k ∷ []) glue is long = absurd (omega arith)
 glue_bounds steps (k ∷ l ∷ lits) glue is long =
@@ -440,10 +428,7 @@ empty_refutes start s u n limit below p w log port =
       vars = ap (λ (x : PortState). x.vars) w.state;
       ring = ap (λ (x : PortState). x.ring) w.state;
       rings = ap (λ (x : PortState). x.rings) w.state;
-      waiting = ap (λ (x : PortState). x.waiting) w.state;
-      shared = ap (λ (x : PortState). x.shared) w.state;
       polled = ap (λ (x : PortState). x.polled) w.state;
-      puts = ap (λ (x : PortState). x.puts) w.state;
       taken = ap (λ (x : PortState). x.taken) w.state;
       home = ap (λ (x : PortState). x.home) w.state;
       log = log;
@@ -470,7 +455,7 @@ saw_goes_on start s u n p none w port = record {
 
 pub wrote_none : (s : PortState) → OnlyWrote s s
 wrote_none s = record {
-  stays = record { start = refl; opening = refl; vars = refl; ring = refl; rings = refl; waiting = refl; shared = refl; polled = refl; puts = refl; taken = refl; home = refl; log = λ o h. h };
+  stays = record { start = refl; opening = refl; vars = refl; ring = refl; rings = refl; polled = refl; taken = refl; home = refl; log = λ o h. h };
   held = refl;
   own = λ cs p. p;
   stop = refl;
@@ -507,10 +492,7 @@ looked_wrote s u k is log = record {
     vars = ap (λ (x : PortState). x.vars) is;
     ring = ap (λ (x : PortState). x.ring) is;
     rings = ap (λ (x : PortState). x.rings) is;
-    waiting = ap (λ (x : PortState). x.waiting) is;
-    shared = ap (λ (x : PortState). x.shared) is;
     polled = ap (λ (x : PortState). x.polled) is;
-    puts = ap (λ (x : PortState). x.puts) is;
     taken = ap (λ (x : PortState). x.taken) is;
     home = ap (λ (x : PortState). x.home) is;
     log = log;
@@ -544,10 +526,7 @@ runs_stopped start s u n stop p is log port =
       vars = ap (λ (x : PortState). x.vars) is;
       ring = ap (λ (x : PortState). x.ring) is;
       rings = ap (λ (x : PortState). x.rings) is;
-      waiting = ap (λ (x : PortState). x.waiting) is;
-      shared = ap (λ (x : PortState). x.shared) is;
       polled = ap (λ (x : PortState). x.polled) is;
-      puts = ap (λ (x : PortState). x.puts) is;
       taken = ap (λ (x : PortState). x.taken) is;
       home = ap (λ (x : PortState). x.home) is;
       log = log;

@@ -100,14 +100,12 @@ saw_more s u w l p took log =
         vars = ap (λ (x : PortState). x.vars) took.state ∙ p.stays.vars;
         ring = ap (λ (x : PortState). x.ring) took.state ∙ p.stays.ring;
         rings = ap (λ (x : PortState). x.rings) took.state ∙ p.stays.rings;
-        waiting = ap (λ (x : PortState). x.waiting) took.state ∙ p.stays.waiting;
-        shared = ap (λ (x : PortState). x.shared) took.state ∙ p.stays.shared;
         polled = ap (λ (x : PortState). x.polled) took.state ∙ p.stays.polled;
-        puts = ap (λ (x : PortState). x.puts) took.state ∙ p.stays.puts;
         taken = ap (λ (x : PortState). x.taken) took.state ∙ p.stays.taken;
         home = ap (λ (x : PortState). x.home) took.state ∙ p.stays.home;
         log = λ o h. log o (p.stays.log o h);
       };
+      shared = ap (λ (x : PortState). x.shared) took.state ∙ p.shared;
       held = ap (λ (x : PortState). x.held) took.state ∙ p.held;
       mine = ap (λ (x : PortState). x.mine) took.state ∙ p.mine;
       stop = ap (λ (x : PortState). x.stop) took.state ∙ p.stop;

@@ -8,7 +8,7 @@ use Rattle.ring_trail.specs.TrailData.{TrailData, IsTrail, HasNoPlace, cut_back,
 use Rattle.watch_prop.specs.WatchData.{WatchData, attached}
 use Rattle.watch_prop.specs.Watched.{Watched, IsFresh}
 use Rattle.watch_prop.specs.Propagation.{HasReasons, IsClosedBelow}
-use Rattle.ring_run.specs.Ended.{HasLooked, last_looks}
+use Rattle.ring_run.specs.Ended.{HasLooked, HasOffered, last_looks}
 use Rattle.ring_run.specs.Searching.{HasClauses, Stands, OpeningSeen, AreTold, GoesOn}
 use Rattle.ring_run.specs.Ending.{EndsBy}
 use Rattle.ring_run.specs.declared.search.Ring.{Ring}
@@ -87,6 +87,16 @@ HasLeft s old new lits back address = Asserted s old new lits back address ⊎ (
 -- one lemma more, or a longer trail
 abbrev pub IsFurther : Ring → Ring → Type 0
 IsFurther old new = (new.learned ≡ old.learned + 1) ⊎ ((new.learned ≡ old.learned) × (length old.trail.steps < length new.trail.steps))
+
+-- as much is counted as offered as before
+pub record AreSameOffers (old new : Ring) : Type 0 where
+  pub exported : new.exported ≡ old.exported
+  pub offered : new.offered ≡ old.offered
+
+-- the ring counts what was offered, which is at most what was learned
+pub record IsOffering (s : PortState) (ring : Ring) : Type 0 where
+  pub counts : HasOffered s ring.exported ring.offered
+  pub few : ring.exported ≤ ring.learned
 
 -- one look that found no stop came before each decision that stands, and before each that a lemma took back
 abbrev pub IsLooking : ℕ → PortState → Ring → Type 0

@@ -1,5 +1,5 @@
 -- What a run of a ring says: what it asks of its port, what it wrote, and what each end says.
-use Rattle.std.specs.Prelude.{◌≡◌, ◌≢◌, ◌≤◌, ◌<◌, ◌⊎◌, ℕ, ◌-◌, ◌*◌, ◌%◌, ◌^◌, min, Bool, true, false, List, [], ◌∷◌, ◌++◌, map, length, All, Contains, Option, Some, None, IfSome}
+use Rattle.std.specs.Prelude.{◌≡◌, ◌≢◌, ◌≤◌, ◌<◌, ◌⊎◌, ℕ, ◌-◌, ◌*◌, ◌%◌, ◌^◌, min, Bool, true, false, List, [], ◌∷◌, ◌++◌, map, filter, length, All, Contains, Option, Some, None, IfSome, nat_le, ◌&&◌}
 use Rattle.std.specs.List.{list_any}
 use Rattle.sat_words.specs.Literal.{Literal}
 use Rattle.sat_words.specs.Clause.{has, is_empty}
@@ -15,6 +15,7 @@ use Rattle.rup_model.specs.Opening.{Opening, IsNew, adds_unit}
 use Rattle.rup_model.specs.Rounds.{Rounds}
 use Rattle.ring_port.specs.PortState.{PortState, Holding, IsOn, HoldsStart}
 use Rattle.ring_port.specs.Port.{is_usable, start_lits}
+use Rattle.ring_port.specs.Exchange.{other_rings}
 use Rattle.ring_port.specs.Log.{KeepsLog, start_of}
 use Rattle.ring_port.specs.declared.stops.PortStop.TheVariants.{NoHole as NoHoleAnswer}
 use Rattle.restart_plan.specs.Plan.{AreMost, AreMostBefore}
@@ -54,10 +55,7 @@ pub record Stays (old new : PortState) : Type 0 where
   pub vars : new.vars ≡ old.vars
   pub ring : new.ring ≡ old.ring
   pub rings : new.rings ≡ old.rings
-  pub waiting : new.waiting ≡ old.waiting
-  pub shared : new.shared ≡ old.shared
   pub polled : new.polled ≡ old.polled
-  pub puts : new.puts ≡ old.puts
   pub taken : new.taken ≡ old.taken
   pub home : new.home ≡ old.home
   pub log : KeepsLog old new
@@ -133,15 +131,26 @@ last_looks _ = 0
 abbrev pub HasLooked : ℕ → PortState → Type 0
 HasLooked n s = min n (2 ^ 64 - 1) ≤ s.looks
 
--- the counts of a ring that offered nothing
-abbrev pub counted : ℕ → ℕ → Counts
-counted learned restarts = record { learned = learned; exported = 0; offered = 0; restarts = restarts }
+-- a clause of two to seven literals: it has a class whatever its glue, which is less than its size
+abbrev pub is_short : List Literal → Bool
+is_short c = nat_le 2 (length c) && nat_le (length c) 7
 
--- as many clauses were learned as are counted, and none was offered
+-- a clause of two literals or more
+abbrev pub is_long : List Literal → Bool
+is_long c = nat_le 2 (length c)
+
+-- so many lemmas were offered, each once for every other ring: all of two to seven literals, and none of one; the offers are
+-- counted up to the last value of 64 bits
+pub record HasOffered (s : PortState) (exported offered : ℕ) : Type 0 where
+  pub shared : s.shared ≡ length (other_rings s) * exported
+  pub all : length (filter is_short (learned s.ring s.mine)) ≤ exported
+  pub few : exported ≤ length (filter is_long (learned s.ring s.mine))
+  pub told : offered ≡ min s.shared (2 ^ 64 - 1)
+
+-- as many clauses were learned as are counted, and as many were offered
 pub record IsCounted (s : PortState) (counts : Counts) : Type 0 where
   pub learned_is : counts.learned ≡ length (learned s.ring s.mine)
-  pub exported : counts.exported ≡ 0
-  pub offered : counts.offered ≡ 0
+  pub offers : HasOffered s counts.exported counts.offered
 
 -- each restart came after 50 lemmas or more since the one before; by a ring of odd number just as many were made as Luby's
 -- sequence allows for the lemmas, of which the last is followed by none where the ring is spent

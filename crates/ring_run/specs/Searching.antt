@@ -1,5 +1,5 @@
 -- What a search keeps of its port and its trail.
-use Rattle.std.specs.Prelude.{◌≡◌, ◌⊎◌, ℕ, ◌<◌, ◌≤◌, true, false, List, [], ◌∷◌, map, length, drop, All, Contains, None, IsSome}
+use Rattle.std.specs.Prelude.{◌≡◌, ◌⊎◌, ℕ, ◌+◌, ◌-◌, ◌^◌, min, ◌<◌, ◌≤◌, true, false, List, [], ◌∷◌, map, length, drop, All, Contains, Option, Some, None, IsSome}
 use Rattle.std.specs.List.{list_any}
 use Rattle.sat_words.specs.Literal.{Literal}
 use Rattle.sat_words.specs.Clause.{has, is_empty}
@@ -9,6 +9,7 @@ use Rattle.rup_model.specs.Opening.{adds_unit, is_new}
 use Rattle.rup_model.specs.Rup.{rup}
 use Rattle.ring_port.specs.Port.{IsClause, IsFreshClause, KeepsHeld}
 use Rattle.ring_port.specs.PortState.{PortState, Holding, HoldsStart, IsPort, held_at, lits_at, known, clause_at}
+use Rattle.ring_port.specs.Exchange.{Offered, class_at, other_rings}
 use Rattle.ring_trail.specs.declared.step.Step.{Step}
 use Rattle.ring_trail.specs.TrailData.{TrailData, IsFalseOn, lit_at, level_at, reason_at}
 use Rattle.ring_trail.specs.Reasoned.{IsReasoned}
@@ -53,9 +54,28 @@ pub record HasClauses (s : PortState) (cs : List Cref) : Type 0 where
 
 -- What calls change
 
+-- nothing was learned, and nothing offered
+pub record OffersNothing (old new : PortState) : Type 0 where
+  pub shared : new.shared ≡ old.shared
+  pub ring : new.ring ≡ old.ring
+  pub rings : new.rings ≡ old.rings
+  pub lemmas : learned new.ring new.mine ≡ learned old.ring old.mine
+
+-- a lemma of this class was offered to each other ring and counted; one without a class was not
+abbrev pub HasLentBy : PortState → PortState → Option ℕ → (address exported offered more told : ℕ) → Type 0
+HasLentBy old new None address exported offered more told = (new ≡ old) × (more ≡ exported) × (told ≡ offered)
+HasLentBy old new (Some class) address exported offered more told =
+    Offered old new class address × (more ≡ exported + 1) × (told ≡ min (offered + length (other_rings old)) (2 ^ 64 - 1))
+
+-- the lemma at the address was offered, where it has a class; a unit has no address
+abbrev pub HasLent : PortState → PortState → Option Cref → (exported offered more told : ℕ) → Type 0
+HasLent old new None exported offered more told = (new ≡ old) × (more ≡ exported) × (told ≡ offered)
+HasLent old new (Some c) exported offered more told = HasLentBy old new (class_at old c.address) c.address exported offered more told
+
 -- no call has changed more than what is seen and what may yet be seen
 pub record OnlySaw (old new : PortState) : Type 0 where
   pub stays : Stays old new
+  pub shared : new.shared ≡ old.shared
   pub held : new.held ≡ old.held
   pub mine : new.mine ≡ old.mine
   pub stop : new.stop ≡ old.stop

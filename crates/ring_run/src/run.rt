@@ -5,10 +5,10 @@ ghost use Rattle.ring_port.specs.Port.{KeepsHeld};
 ghost use Rattle.ring_trail.specs.TrailData.{TrailData, IsTrail};
 ghost use Rattle.watch_prop.specs.WatchData.{attached};
 ghost use Rattle.watch_prop.specs.Watched.{Watched, IsFresh};
-ghost use Rattle.ring_run.specs.Ended.{IsJobOf, IsUntouched, Stays, IsOwn, IsCounted, HasRestarted, counted, AreNew, AreNewLines, HoldsGlued, HasLooked, last_looks, stop_kind, Cause, Ends};
-ghost use Rattle.ring_run.specs.Searching.{IsHeldBy};
+ghost use Rattle.ring_run.specs.Ended.{IsJobOf, IsUntouched, Stays, IsOwn, IsCounted, HasOffered, HasRestarted, AreNew, AreNewLines, HoldsGlued, HasLooked, last_looks, stop_kind, Cause, Ends};
+ghost use Rattle.ring_run.specs.Searching.{IsHeldBy, OffersNothing};
 ghost use Rattle.ring_decide.specs.Phases.{first_phases};
-ghost use Rattle.restart_plan.specs.Plan.{begun};
+ghost use Rattle.restart_plan.specs.Plan.{IsRestarting, begun};
 ghost use Rattle.ring_run.specs.Strategy.{Decides};
 ghost use Rattle.ring_run.specs.Ending.{ComesTo, IsUnset, KeepsRuns};
 
@@ -23,6 +23,14 @@ use ring_trail::Trail;
 use sat_words::{Cref, STOP_MEMORY, STOP_PROOF, STOP_REFUTED, STOP_ROOM, STOP_SAT};
 use std::alloc::{AllocError, Global};
 use watch_prop::Watches;
+
+/// The counts of a ring that has done nothing.
+const NOTHING: Counts = Counts {
+    learned: 0,
+    exported: 0,
+    offered: 0,
+    restarts: 0,
+};
 
 /// Runs a ring until it has an answer, sees the stop of another ring, or has learned its limit of lemmas.
 ///
@@ -69,29 +77,33 @@ fn run_job<P: Port>(alloc: Global, port: &mut P, job: &Job) -> (End, Counts)
     requires port { IsPort (P.state port.old) }
     ensures ends { ComesTo (P.state port.old) (P.state port.new) result.1.learned job.now.conflicts result.0 }
     ensures looked { HasLooked ((P.state port.old).looks + result.1.learned + last_looks result.0) (P.state port.new) }
-    ensures counted { result.1 ≡ counted result.1.learned result.1.restarts }
+    ensures offers { HasOffered (P.state port.new) result.1.exported result.1.offered }
     ensures restarted { HasRestarted (P.state port.old).ring job.now.conflicts result.1 }
     ensures port { IsPort (P.state port.new) }
 {
     let Ok(mut ring) = make_ring(alloc, port, job) else {
-        return (End::Memory, counted(0, 0));
+        return (End::Memory, NOTHING);
     };
     let Ok(mut analysis) = Analysis::new(alloc, job.vars) else {
-        return (End::Memory, counted(0, 0));
+        return (End::Memory, NOTHING);
     };
     let end = search(alloc, port, &mut ring, &mut analysis, job.conflicts);
-    (end, counted(ring.learned, ring.restarts.made()))
+    (end, counts_of(&ring))
 }
 
-/// What a ring counted that offered nothing.
-fn counted(learned: u64, restarts: u64) -> Counts
-    ensures { result ≡ counted learned restarts }
+/// What a ring has counted.
+fn counts_of(ring: &Ring) -> Counts
+    ensures learned { result.learned ≡ ring.now.learned }
+    ensures exported { result.exported ≡ ring.now.exported }
+    ensures offered { result.offered ≡ ring.now.offered }
+    ensures restarts { result.restarts ≡ ring.now.restarts.made }
+    ensures kept { IsRestarting ring.now.restarts }
 {
     Counts {
-        learned,
-        exported: 0,
-        offered: 0,
-        restarts,
+        learned: ring.learned,
+        exported: ring.exported,
+        offered: ring.offered,
+        restarts: ring.restarts.made(),
     }
 }
 
@@ -128,6 +140,7 @@ pub(crate) fn make_ring<P: Port>(alloc: Global, port: &mut P, job: &Job) -> Resu
     ensures written { IfOk result (λ ring. ring.written ≡ 0) }
     ensures decider { IfOk result (λ ring. Decides (P.state port.old) ring.decider) }
     ensures phases { IfOk result (λ ring. ring.decider.phase ≡ first_phases job.now.seed job.now.ring job.now.vars) }
+    ensures none { IfOk result (λ ring. (ring.exported ≡ 0) × (ring.offered ≡ 0)) }
     ensures restarts { IfOk result (λ ring. ring.restarts ≡ begun (job.now.ring % 2 == 1)) }
 {
     let trail = Trail::new(alloc, job.vars)?;
@@ -145,6 +158,8 @@ pub(crate) fn make_ring<P: Port>(alloc: Global, port: &mut P, job: &Job) -> Resu
         decider,
         restarts,
         bumps,
+        exported: 0,
+        offered: 0,
     })
 }
 
@@ -171,6 +186,7 @@ fn claim<P: Port>(port: &mut P, end: End) -> End
     ensures runs { KeepsRuns (P.state port.old) (P.state port.new) }
     ensures spent { (result ≡ End.Spent) ↔ (end ≡ End.Spent) }
     ensures looks { (P.state port.new).looks ≡ (P.state port.old).looks }
+    ensures nothing { OffersNothing (P.state port.old) (P.state port.new) }
     ensures looked { last_looks result ≤ last_looks end }
     ensures port { IsPort (P.state port.new) }
 {

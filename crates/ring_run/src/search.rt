@@ -1,11 +1,12 @@
 // The steps of a ring's search: learning from a conflict, and deciding.
-ghost use Rattle.std.specs.Prelude.{◌≡◌, ◌<◌, ◌≤◌, ◌+◌, ◌++◌, ◌^◌, [], true, length, None, Some, IfOk, IfSome, IsSome, OnOk, IfErr, ℕ};
+ghost use Rattle.std.specs.Prelude.{◌≡◌, ◌<◌, ◌≤◌, ◌+◌, ◌++◌, ◌-◌, ◌^◌, [], true, length, None, Some, IfOk, IfSome, IsSome, OnOk, IfErr, ℕ};
 ghost use Rattle.std.specs.Option.{option_to_list};
 ghost use Rattle.sat_words.specs.Literal.{Literal};
 ghost use Rattle.sat_words.specs.Truth.{lit_true};
 ghost use Rattle.rup_model.specs.Rup.{rup};
 ghost use Rattle.ring_port.specs.PortState.{IsPort, held_at, lits_at, known};
 ghost use Rattle.ring_port.specs.Port.{is_usable};
+ghost use Rattle.ring_port.specs.Log.{KeepsLog};
 ghost use Rattle.ring_trail.specs.TrailData.{TrailData, IsTrail, IsTrueOn, value_of};
 ghost use Rattle.watch_prop.specs.WatchData.{attached};
 ghost use Rattle.watch_prop.specs.Watched.{Watched};
@@ -13,9 +14,9 @@ ghost use Rattle.watch_prop.specs.Propagation.{IsConflict, IsQuiet};
 ghost use Rattle.ring_run.specs.Ended.{Stays, HasLooked, last_looks};
 ghost use Rattle.restart_plan.specs.Plan.{asked};
 ghost use Rattle.ring_run.specs.Strategy.{Decides, IsPaced};
-ghost use Rattle.ring_run.specs.Searching.{IsAsserting, IsGlueOf, HoldsByGlue, AreFirst, KeepsOn, GoesOn};
+ghost use Rattle.ring_run.specs.Searching.{OffersNothing, HasLent, IsAsserting, IsGlueOf, HoldsByGlue, AreFirst, KeepsOn, GoesOn};
 ghost use Rattle.ring_run.specs.Ending.{EndsAt, ComesTo, end_refused};
-ghost use Rattle.ring_run.specs.Course.{InSearch, Leads, WentBack, CanAssert, Asserted, Restarted, HasLeft, IsFurther, IsBegun, IsLooking, KeepsLooking, TakesALook};
+ghost use Rattle.ring_run.specs.Course.{AreSameOffers, IsOffering, InSearch, Leads, WentBack, CanAssert, Asserted, Restarted, HasLeft, IsFurther, IsBegun, IsLooking, KeepsLooking, TakesALook};
 
 use crate::job::End;
 use crate::units::{Units, take_units, write_units};
@@ -23,7 +24,7 @@ use crate::variables::{Bump, bump_met, save_phases};
 use analyze::{Analysis, Conclusion};
 use restart_plan::Restarts;
 use ring_decide::Decider;
-use ring_port::{Port, PortStop};
+use ring_port::{Port, PortStop, class_of};
 use ring_trail::Trail;
 use sat_words::{Assignment, Cref, Lit};
 use std::alloc::{AllocError, Global};
@@ -46,6 +47,10 @@ pub(crate) struct Ring {
     pub restarts: Restarts,
     /// Room for the variables that a conflict met.
     pub bumps: Vec<Bump>,
+    /// How many lemmas were offered to the other rings.
+    pub exported: u64,
+    /// How often in all, up to the last value.
+    pub offered: u64,
 }
 
 /// What a step of the search comes to.
@@ -76,6 +81,7 @@ pub(crate) fn refute<P: Port>(port: &mut P) -> End
     ensures ends { EndsAt (P.state port.old) (P.state port.new) result }
     ensures held { (P.state port.new).held ≡ (P.state port.old).held }
     ensures looks { (P.state port.new).looks ≡ (P.state port.old).looks }
+    ensures nothing { OffersNothing (P.state port.old) (P.state port.new) }
     ensures none { last_looks result ≡ 0 }
     ensures port { IsPort (P.state port.new) }
 {
@@ -133,6 +139,7 @@ fn assert_lemma<P: Port>(
     ensures learned { ring.new.learned ≡ ring.old.learned }
     ensures restarts { ring.new.restarts ≡ ring.old.restarts }
     ensures active { ring.new.decider.active ≡ ring.old.decider.active }
+    ensures offers { AreSameOffers ring.old ring.new }
 {
     go_back(ring, back);
     attach_lemma(port, &ring.trail, &mut ring.watches, address)?;
@@ -151,6 +158,7 @@ fn restart<P: Port>(port: &mut P, ring: &mut Ring, address: Option<Cref>) -> Res
     ensures learned { ring.new.learned ≡ ring.old.learned }
     ensures restarts { ring.new.restarts ≡ ring.old.restarts }
     ensures active { ring.new.decider.active ≡ ring.old.decider.active }
+    ensures offers { AreSameOffers ring.old ring.new }
 {
     go_back(ring, 0);
     attach_lemma(port, &ring.trail, &mut ring.watches, address)?;
@@ -174,12 +182,36 @@ fn leave_conflict<P: Port>(
     ensures learned { ring.new.learned ≡ ring.old.learned }
     ensures restarts { ring.new.restarts ≡ asked ring.old.restarts }
     ensures active { ring.new.decider.active ≡ ring.old.decider.active }
+    ensures offers { AreSameOffers ring.old ring.new }
 {
     let due = ring.restarts.due();
     if due && back != 0 {
         return restart(port, ring, address);
     }
     assert_lemma(port, ring, lits, back, address)
+}
+
+/// Offers a lemma that has a class to the other rings, and counts it. A unit has no address, and is told by its line.
+fn offer_lemma<P: Port>(port: &mut P, ring: &mut Ring, address: Option<Cref>)
+    requires held { IfSome address (λ c. IsSome (held_at (P.state port.old) c.address)) }
+    requires last { IfSome address (λ c. (P.state port.old).last ≡ Some c.address) }
+    requires few { ring.old.exported < 2 ^ 64 - 1 }
+    requires port { IsPort (P.state port.old) }
+    ensures lent { HasLent (P.state port.old) (P.state port.new) address ring.old.exported ring.old.offered ring.new.exported ring.new.offered }
+    ensures same { ring.new ≡ record ring.old { exported = ring.new.exported; offered = ring.new.offered } }
+    ensures log { KeepsLog (P.state port.old) (P.state port.new) }
+    ensures port { IsPort (P.state port.new) }
+{
+    let Some(clause) = address else {
+        return;
+    };
+    let head = port.head(clause);
+    if class_of(head.size, head.glue).is_none() {
+        return;
+    }
+    let places = port.offer(clause);
+    ring.exported += 1;
+    ring.offered = ring.offered.saturating_add(places);
 }
 
 /// Learns a lemma, and goes back to where it forces its first literal, or to level 0.
@@ -195,6 +227,7 @@ fn learn_lemma<P: Port>(
     requires below { ring.old.learned < limit }
     requires decides { Decides (P.state port.old) ring.old.decider }
     requires paced { IsPaced ring.old.restarts ring.old.learned limit }
+    requires offering { IsOffering (P.state port.old) ring.old }
     requires lemma { IsAsserting (P.state port.old) ring.old.trail lits.now back }
     requires glue { IsGlueOf ring.old.trail.steps lits.now glue }
     ensures leads { Leads (P.state port.old) ring.old (P.state port.new) ring.new limit result }
@@ -202,6 +235,7 @@ fn learn_lemma<P: Port>(
     ensures stored { HoldsByGlue (P.state port.old) (P.state port.new) ring.old.trail.steps }
     ensures looks { KeepsLooking (P.state port.old) ring.old (P.state port.new) ring.new result }
     ensures paced { IsPaced ring.new.restarts ring.new.learned limit }
+    ensures offering { IsOffering (P.state port.new) ring.new }
     ensures odd { ring.new.restarts.odd ≡ ring.old.restarts.odd }
     ensures active { ring.new.decider.active ≡ ring.old.decider.active }
     ensures port { IsPort (P.state port.new) }
@@ -212,6 +246,7 @@ fn learn_lemma<P: Port>(
     };
     ring.learned += 1;
     ring.restarts.note(glue);
+    offer_lemma(port, ring, address);
     if ring.learned == limit {
         return Course::Over(End::Spent);
     }
@@ -233,6 +268,7 @@ fn learn_from<P: Port>(
     requires below { ring.old.learned < limit }
     requires decides { Decides (P.state port.old) ring.old.decider }
     requires paced { IsPaced ring.old.restarts ring.old.learned limit }
+    requires offering { IsOffering (P.state port.old) ring.old }
     requires vars { analysis.old.vars ≡ ring.old.trail.vars }
     requires conflict { IsConflict ring.old.watches (lits_at (P.state port.old)) ring.old.trail conflict }
     ensures leads { Leads (P.state port.old) ring.old (P.state port.new) ring.new limit result }
@@ -240,6 +276,7 @@ fn learn_from<P: Port>(
     ensures stored { HoldsByGlue (P.state port.old) (P.state port.new) ring.old.trail.steps }
     ensures looks { KeepsLooking (P.state port.old) ring.old (P.state port.new) ring.new result }
     ensures paced { IsPaced ring.new.restarts ring.new.learned limit }
+    ensures offering { IsOffering (P.state port.new) ring.new }
     ensures odd { ring.new.restarts.odd ≡ ring.old.restarts.odd }
     ensures active { ring.new.decider.active ≡ ring.old.decider.active }
     ensures vars { analysis.new.vars ≡ analysis.old.vars }
@@ -284,6 +321,7 @@ fn decide<P: Port>(alloc: Global, port: &mut P, ring: &mut Ring, limit: u64) -> 
     ensures longer { result ≡ Course.On → length ring.old.trail.steps < length ring.new.trail.steps }
     ensures looks { TakesALook (P.state port.old) ring.old ring.new result }
     ensures restarts { ring.new.restarts ≡ ring.old.restarts }
+    ensures offers { AreSameOffers ring.old ring.new }
     ensures active { ring.new.decider.active ≡ ring.old.decider.active }
     ensures port { IsPort (P.state port.new) }
     ensures same { P.state port.new ≡ P.state port.old }
@@ -312,6 +350,8 @@ pub(crate) fn write_pending<P: Port>(port: &mut P, ring: &mut Ring) -> Result<()
     ensures watches { ring.new.watches ≡ ring.old.watches }
     ensures learned { ring.new.learned ≡ ring.old.learned }
     ensures restarts { ring.new.restarts ≡ ring.old.restarts }
+    ensures offers { AreSameOffers ring.old ring.new }
+    ensures nothing { OffersNothing (P.state port.old) (P.state port.new) }
     ensures decider { ring.new.decider ≡ ring.old.decider }
     ensures port { IsPort (P.state port.new) }
 {
@@ -337,6 +377,8 @@ fn decide_next<P: Port>(alloc: Global, port: &mut P, ring: &mut Ring, limit: u64
     ensures learned { ring.new.learned ≡ ring.old.learned }
     ensures longer { result ≡ Course.On → length ring.old.trail.steps < length ring.new.trail.steps }
     ensures restarts { ring.new.restarts ≡ ring.old.restarts }
+    ensures offers { AreSameOffers ring.old ring.new }
+    ensures nothing { OffersNothing (P.state port.old) (P.state port.new) }
     ensures active { ring.new.decider.active ≡ ring.old.decider.active }
     ensures looks { KeepsLooking (P.state port.old) ring.old (P.state port.new) ring.new result }
     ensures port { IsPort (P.state port.new) }
@@ -362,11 +404,13 @@ fn turn<P: Port>(
     requires below { ring.old.learned < limit }
     requires decides { Decides (P.state port.old) ring.old.decider }
     requires paced { IsPaced ring.old.restarts ring.old.learned limit }
+    requires offering { IsOffering (P.state port.old) ring.old }
     requires vars { analysis.old.vars ≡ ring.old.trail.vars }
     ensures leads { Leads (P.state port.old) ring.old (P.state port.new) ring.new limit result }
     ensures further { result ≡ Course.On → IsFurther ring.old ring.new }
     ensures looks { KeepsLooking (P.state port.old) ring.old (P.state port.new) ring.new result }
     ensures paced { IsPaced ring.new.restarts ring.new.learned limit }
+    ensures offering { IsOffering (P.state port.new) ring.new }
     ensures odd { ring.new.restarts.odd ≡ ring.old.restarts.odd }
     ensures active { ring.new.decider.active ≡ ring.old.decider.active }
     ensures vars { analysis.new.vars ≡ analysis.old.vars }
@@ -396,10 +440,12 @@ pub(crate) fn search<P: Port>(
     requires below { ring.old.learned < limit }
     requires decides { Decides (P.state port.old) ring.old.decider }
     requires paced { IsPaced ring.old.restarts ring.old.learned limit }
+    requires offering { IsOffering (P.state port.old) ring.old }
     requires vars { analysis.old.vars ≡ ring.old.trail.vars }
     ensures ends { ComesTo (P.state port.old) (P.state port.new) ring.new.learned limit result }
     ensures looks { (base : ℕ) → IsLooking base (P.state port.old) ring.old → HasLooked (base + ring.new.learned + last_looks result) (P.state port.new) }
     ensures paced { IsPaced ring.new.restarts ring.new.learned limit }
+    ensures offering { IsOffering (P.state port.new) ring.new }
     ensures odd { ring.new.restarts.odd ≡ ring.old.restarts.odd }
     ensures port { IsPort (P.state port.new) }
 {

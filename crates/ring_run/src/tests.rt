@@ -157,10 +157,11 @@ fn run_on_four(alloc: Global, conflicts: u64) -> Result<(End, Counts, MemSink<'s
     run_on(alloc, &formula, start, &[], conflicts)
 }
 
-pub(crate) fn counted(learned: u64) -> Counts {
+/// The counts of a ring alone, which offers to nobody.
+pub(crate) fn counted(learned: u64, exported: u64) -> Counts {
     Counts {
         learned,
-        exported: 0,
+        exported,
         offered: 0,
         restarts: 0,
     }
@@ -171,7 +172,7 @@ pub(crate) fn counted(learned: u64) -> Counts {
 fn refutes_four_clauses(rt: HostRuntime) -> Result<(), Fail> {
     let (end, counts, sink) = run_on_four(rt.alloc(), 2)?;
     assert!(rt; matches!(end, End::Refuted));
-    assert_eq!(rt; counts, counted(1));
+    assert_eq!(rt; counts, counted(1, 0));
     assert!(rt; sink.bytes() == b"2 0\n0\n".as_slice());
     Ok(())
 }
@@ -180,7 +181,7 @@ fn refutes_four_clauses(rt: HostRuntime) -> Result<(), Fail> {
 fn stops_at_its_limit(rt: HostRuntime) -> Result<(), Fail> {
     let (end, counts, sink) = run_on_four(rt.alloc(), 1)?;
     assert!(rt; matches!(end, End::Spent));
-    assert_eq!(rt; counts, counted(1));
+    assert_eq!(rt; counts, counted(1, 0));
     assert!(rt; sink.bytes() == b"2 0\n".as_slice());
     Ok(())
 }
@@ -192,7 +193,7 @@ fn tells_that_its_proof_failed(rt: HostRuntime) -> Result<(), Fail> {
     let lines = CountedLines::new(4, 1);
     let (end, counts, _) = run_over(alloc, &formula, start, &[], 2, lines)?;
     assert!(rt; matches!(end, End::ProofFault));
-    assert_eq!(rt; counts, counted(0));
+    assert_eq!(rt; counts, counted(0, 0));
     Ok(())
 }
 
@@ -209,7 +210,7 @@ fn finds_a_model(rt: HostRuntime) -> Result<(), Fail> {
     for (var, value) in [(1, true), (2, false), (3, true), (4, false)] {
         assert_eq!(rt; model.truth_of_lit(Lit::new(var, false)), value);
     }
-    assert_eq!(rt; counts, counted(0));
+    assert_eq!(rt; counts, counted(0, 0));
     assert!(rt; sink.bytes() == b"1 0\n3 0\n".as_slice());
     Ok(())
 }
@@ -226,7 +227,7 @@ fn learns_a_clause(rt: HostRuntime) -> Result<(), Fail> {
     for (var, value) in [(2, true), (3, false)] {
         assert_eq!(rt; model.truth_of_lit(Lit::new(var, false)), value);
     }
-    assert_eq!(rt; counts, counted(1));
+    assert_eq!(rt; counts, counted(1, 1));
     assert!(rt; sink.bytes() == b"2 3 0\n".as_slice());
     Ok(())
 }
@@ -238,7 +239,7 @@ fn refutes_opposed_units(rt: HostRuntime) -> Result<(), Fail> {
     let units = [Lit::new(1, false), Lit::new(1, true)];
     let (end, counts, sink) = run_on(alloc, &formula, Starts::new(alloc), &units, 1)?;
     assert!(rt; matches!(end, End::Refuted));
-    assert_eq!(rt; counts, counted(0));
+    assert_eq!(rt; counts, counted(0, 0));
     assert!(rt; sink.bytes() == b"0\n".as_slice());
     Ok(())
 }

@@ -245,7 +245,7 @@ fn another_ring_stops_it(rt: HostRuntime) -> Result<(), Fail> {
     assert!(rt; stop == other_stop());
     assert_eq!(rt; ran.stop, Some(other_stop()));
     assert_eq!(rt; ran.looks, 1);
-    assert_eq!(rt; ran.counts, counted(0));
+    assert_eq!(rt; ran.counts, counted(0, 0));
     assert_eq!(rt; ran.glue, None);
     Ok(())
 }
@@ -272,7 +272,7 @@ fn tells_that_there_is_no_room(rt: HostRuntime) -> Result<(), Fail> {
         })
     );
     assert_eq!(rt; ran.looks, 2);
-    assert_eq!(rt; ran.counts, counted(0));
+    assert_eq!(rt; ran.counts, counted(0, 0));
     assert_eq!(rt; ran.glue, Some(1));
     Ok(())
 }
@@ -288,6 +288,6 @@ fn tells_that_memory_ran_out(rt: HostRuntime) -> Result<(), Fail> {
             ring: 1
         })
     );
-    assert_eq!(rt; ran.counts, counted(0));
+    assert_eq!(rt; ran.counts, counted(0, 0));
     Ok(())
 }

@@ -3,7 +3,7 @@ ghost use Rattle.std.specs.Prelude.{◌≡◌, ◌≤◌, ◌<◌, ◌+◌, ℕ,
 ghost use Rattle.ring_port.specs.PortState.{IsPort};
 ghost use Rattle.ring_trail.specs.TrailData.{HasGrown, IsTrail, reason_at};
 ghost use Rattle.watch_prop.specs.Propagation.{HasReasons};
-ghost use Rattle.ring_run.specs.Searching.{OnlySaw, Stands, AreTaken, AreTold, UnitsSeen, OnlyWrote, KeepsOn};
+ghost use Rattle.ring_run.specs.Searching.{OffersNothing, OnlySaw, Stands, AreTaken, AreTold, UnitsSeen, OnlyWrote, KeepsOn};
 ghost use Rattle.ring_run.specs.Ending.{EndsAt, end_refused};
 
 use ring_port::{Port, PortStop};
@@ -63,6 +63,7 @@ fn write_unit<P: Port>(port: &mut P, trail: &Trail, place: u32) -> Result<(), Po
     ensures wrote { OnOk result (OnlyWrote (P.state port.old) (P.state port.new)) }
     ensures held { (P.state port.new).held ≡ (P.state port.old).held }
     ensures looks { (P.state port.new).looks ≡ (P.state port.old).looks }
+    ensures nothing { OffersNothing (P.state port.old) (P.state port.new) }
     ensures port { IsPort (P.state port.new) }
 {
     if trail.reason_at(place).is_none() {
@@ -92,6 +93,7 @@ pub(crate) fn write_units<P: Port>(
     ensures wrote { OnOk result (OnlyWrote (P.state port.old) (P.state port.new)) }
     ensures held { (P.state port.new).held ≡ (P.state port.old).held }
     ensures looks { (P.state port.new).looks ≡ (P.state port.old).looks }
+    ensures nothing { OffersNothing (P.state port.old) (P.state port.new) }
     ensures port { IsPort (P.state port.new) }
 {
     for place in written..trail.len() {

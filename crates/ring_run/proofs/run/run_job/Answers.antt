@@ -1,13 +1,13 @@
 use Rattle.std.proofs.Common.{◌∙◌, ◌+◌, ◌==◌, ◌%◌, ℕ, ap, sym, subst, arith}
 use Rattle.restart_plan.specs.Plan.{Restarting, begun as begun_restarts}
-use Rattle.ring_run.specs.Ended.{HasLooked, last_looks}
+use Rattle.ring_run.proofs.Offering.{offers_begin}
+use Rattle.ring_run.specs.Ended.{HasOffered, HasLooked, last_looks}
 use Rattle.ring_run.specs.Strategy.{IsPaced}
-use Rattle.ring_run.specs.declared.job.Counts.{Counts}
 use Rattle.ring_trail.specs.TrailData.{TrailData}
 use Rattle.ring_port.specs.PortState.{PortState}
 use Rattle.ring_run.specs.Searching.{GoesOn}
 use Rattle.ring_run.specs.Ending.{ComesTo}
-use Rattle.ring_run.specs.Course.{IsBegun}
+use Rattle.ring_run.specs.Course.{IsBegun, IsOffering}
 use Rattle.ring_run.specs.declared.job.End.TheVariants.{Memory}
 use Rattle.ring_run.proofs.Beginning.{goes_begin, begun, paced_begin, restarted_by, restarted_none}
 use Rattle.ring_run.proofs.Progress.{out_of_memory}
@@ -28,20 +28,18 @@ search-end-requires-clause-goes g c =
 pub returns-in_default-clause-ends : goal.returns-in_default-clause-ends
 returns-in_default-clause-ends g c =
     let s = g.P.Port.state c.args.port.now in
-    subst (λ (n : ℕ). ComesTo s (g.P.Port.state c.make_ring.new.port) n c.args.job.now.conflicts Memory) (sym (ap (λ (x : Counts). x.learned) c.counted.ensures))
     (subst (λ (x : PortState). ComesTo s x 0 c.args.job.now.conflicts Memory) (sym c.make_ring.ensures.same) (out_of_memory s s 0 c.args.job.now.conflicts c.requires.job.some (goes_begin s c.requires.untouched c.requires.port)))
 
 pub returns-in_default-new-clause-ends : goal.returns-in_default-new-clause-ends
 returns-in_default-new-clause-ends g c =
     let s = g.P.Port.state c.args.port.now in
-    subst (λ (n : ℕ). ComesTo s (g.P.Port.state c.make_ring.new.port) n c.args.job.now.conflicts Memory) (sym (ap (λ (x : Counts). x.learned) c.counted-in_default-new.ensures))
     (subst (λ (x : PortState). ComesTo s x 0 c.args.job.now.conflicts Memory) (sym c.make_ring.ensures.same) (out_of_memory s s 0 c.args.job.now.conflicts c.requires.job.some (goes_begin s c.requires.untouched c.requires.port)))
 
 pub returns-clause-ends : goal.returns-clause-ends
 returns-clause-ends g c =
     let u = g.P.Port.state c.search-end.new.port in
     let s = g.P.Port.state c.args.port.now in
-    subst (λ (n : ℕ). ComesTo s u n c.args.job.now.conflicts c.search-end.result) (sym (ap (λ (x : Counts). x.learned) c.counted-2.ensures))
+    subst (λ (n : ℕ). ComesTo s u n c.args.job.now.conflicts c.search-end.result) (sym c.counts_of.ensures.learned)
     (subst (λ (x : PortState). ComesTo x u c.search-end.new.ring.learned c.args.job.now.conflicts c.search-end.result) c.make_ring.ensures.same c.search-end.ensures.ends)
 
 pub returns-clause-looked : goal.returns-clause-looked
@@ -49,7 +47,7 @@ returns-clause-looked g c =
     let s = g.P.Port.state c.args.port.now in
     let made = ap (λ (x : PortState). x.looks) c.make_ring.ensures.same in
     let level = ap (λ (t : TrailData). t.level) c.in-Ok.ensures.trail in
-    subst (λ (n : ℕ). HasLooked (s.looks + n + last_looks c.search-end.result) (g.P.Port.state c.search-end.new.port)) (sym (ap (λ (x : Counts). x.learned) c.counted-2.ensures))
+    subst (λ (n : ℕ). HasLooked (s.looks + n + last_looks c.search-end.result) (g.P.Port.state c.search-end.new.port)) (sym c.counts_of.ensures.learned)
     (c.search-end.ensures.looks s.looks (omega (arith, made, level, c.in-Ok.ensures.learned)))
 
 pub search-end-requires-clause-paced : goal.search-end-requires-clause-paced
@@ -59,17 +57,43 @@ search-end-requires-clause-paced g c =
     (subst (λ (n : ℕ). IsPaced (begun_restarts odd) n c.args.job.now.conflicts) (sym c.in-Ok.ensures.learned) (paced_begin odd c.args.job.now.conflicts c.requires.job.some))
 
 pub returns-in_default-clause-restarted : goal.returns-in_default-clause-restarted
-returns-in_default-clause-restarted g c = restarted_none (g.P.Port.state c.args.port.now).ring c.args.job.now.conflicts c.counted.result c.requires.job.some c.counted.ensures
+returns-in_default-clause-restarted g c = restarted_none (g.P.Port.state c.args.port.now).ring c.args.job.now.conflicts c.requires.job.some
 
 pub returns-in_default-new-clause-restarted : goal.returns-in_default-new-clause-restarted
-returns-in_default-new-clause-restarted g c = restarted_none (g.P.Port.state c.args.port.now).ring c.args.job.now.conflicts c.counted-in_default-new.result c.requires.job.some c.counted-in_default-new.ensures
+returns-in_default-new-clause-restarted g c = restarted_none (g.P.Port.state c.args.port.now).ring c.args.job.now.conflicts c.requires.job.some
 
 pub returns-clause-restarted : goal.returns-clause-restarted
 returns-clause-restarted g c =
     let r = c.search-end.new.ring.restarts in
-    let counts = c.counted-2.result in
+    let counts = c.counts_of.result in
     restarted_by (g.P.Port.state c.args.port.now).ring c.args.job.now.conflicts r counts
     (c.search-end.ensures.odd ∙ ap (λ (x : Restarting). x.odd) c.in-Ok.ensures.restarts ∙ ap (λ (n : ℕ). n % 2 == 1) c.requires.job.ring)
-    c.made.ensures.counted
-    (subst (λ (n : ℕ). IsPaced r n c.args.job.now.conflicts) (sym (ap (λ (x : Counts). x.learned) c.counted-2.ensures)) c.search-end.ensures.paced)
-    (ap (λ (x : Counts). x.restarts) c.counted-2.ensures ∙ c.made.ensures.made)
+    c.counts_of.ensures.kept
+    (subst (λ (n : ℕ). IsPaced r n c.args.job.now.conflicts) (sym c.counts_of.ensures.learned) c.search-end.ensures.paced)
+    c.counts_of.ensures.restarts
+
+pub search-end-requires-clause-offering : goal.search-end-requires-clause-offering
+search-end-requires-clause-offering g c =
+    let s = g.P.Port.state c.args.port.now in
+    let none = c.in-Ok.ensures.none in
+    subst (λ (x : PortState). IsOffering x c.in-Ok.ring) (sym c.in-Ok.ensures.same)
+    (record {
+      counts = subst (λ (e : ℕ). HasOffered s e c.in-Ok.ring.offered) (sym none.0) (subst (HasOffered s 0) (sym none.1) (offers_begin s c.requires.untouched.shared c.requires.untouched.mine));
+      few = omega (arith, none.0);
+    })
+
+pub returns-in_default-clause-offers : goal.returns-in_default-clause-offers
+returns-in_default-clause-offers g c =
+    let s = g.P.Port.state c.args.port.now in
+    subst (λ (x : PortState). HasOffered x 0 0) (sym c.make_ring.ensures.same) (offers_begin s c.requires.untouched.shared c.requires.untouched.mine)
+
+pub returns-in_default-new-clause-offers : goal.returns-in_default-new-clause-offers
+returns-in_default-new-clause-offers g c =
+    let s = g.P.Port.state c.args.port.now in
+    subst (λ (x : PortState). HasOffered x 0 0) (sym c.make_ring.ensures.same) (offers_begin s c.requires.untouched.shared c.requires.untouched.mine)
+
+pub returns-clause-offers : goal.returns-clause-offers
+returns-clause-offers g c =
+    let u = g.P.Port.state c.search-end.new.port in
+    let ring = c.search-end.new.ring in
+    subst (λ (e : ℕ). HasOffered u e c.counts_of.result.offered) (sym c.counts_of.ensures.exported) (subst (HasOffered u ring.exported) (sym c.counts_of.ensures.offered) c.search-end.ensures.offering.counts)

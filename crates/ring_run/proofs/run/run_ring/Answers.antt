@@ -1,4 +1,4 @@
-use Rattle.ring_run.proofs.Beginning.{counted_by}
+use Rattle.ring_run.proofs.Offering.{offers_stay}
 use Rattle.ring_run.proofs.run.run_ring.Goals as goal
 
 pub returns-clause-stays : goal.returns-clause-stays
@@ -20,6 +20,7 @@ pub returns-clause-glued : goal.returns-clause-glued
 returns-clause-glued g c = (c.claim.ensures.runs (g.P.Port.state c.args.port.now) c.run_job-end.result.1.learned c.run_job-end.ensures.ends.runs).glued
 
 pub returns-clause-counts : goal.returns-clause-counts
-returns-clause-counts g c =
-    counted_by (g.P.Port.state c.args.port.now) (g.P.Port.state c.claim.new.port) c.run_job-end.result.1 c.run_job-end.ensures.counted
-    (c.claim.ensures.runs (g.P.Port.state c.args.port.now) c.run_job-end.result.1.learned c.run_job-end.ensures.ends.runs)
+returns-clause-counts g c = record {
+  learned_is = (c.claim.ensures.runs (g.P.Port.state c.args.port.now) c.run_job-end.result.1.learned c.run_job-end.ensures.ends.runs).counted;
+  offers = offers_stay (g.P.Port.state c.run_job-end.new.port) (g.P.Port.state c.claim.new.port) c.run_job-end.result.1.exported c.run_job-end.result.1.offered c.claim.ensures.nothing c.run_job-end.ensures.offers;
+}

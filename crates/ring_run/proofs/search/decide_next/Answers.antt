@@ -2,7 +2,8 @@ use Rattle.std.proofs.Common.{◌∙◌, ap, subst, sym}
 use Rattle.ring_port.specs.PortState.{PortState, one_more}
 use Rattle.ring_decide.specs.DeciderData.{DeciderData}
 use Rattle.ring_run.proofs.Deciding.{decides_by}
-use Rattle.ring_run.specs.Searching.{GoesOn}
+use Rattle.ring_run.specs.Searching.{GoesOn, OffersNothing}
+use Rattle.ring_run.proofs.Offering.{nothing_looked, nothing_then}
 use Rattle.ring_run.specs.Ending.{ComesTo}
 use Rattle.ring_run.proofs.Progress.{stop_seen, looked_goes_on}
 use Rattle.ring_run.proofs.Turning.{quiet_same, looked_search, compose}
@@ -44,3 +45,20 @@ decide-requires-clause-decides g c =
     let stays = c.in-Ok.ensures.stays in
     decides_by s u c.args.ring.now.decider c.write_pending.new.ring.decider c.requires.decides (stays.start ∙ ap (λ (x : PortState). x.start) c.in_default.ensures.looked.1) (stays.vars ∙ ap (λ (x : PortState). x.vars) c.in_default.ensures.looked.1)
     (ap (λ (d : DeciderData). d.active) c.write_pending.ensures.decider)
+
+pub returns-in-Some-clause-nothing : goal.returns-in-Some-clause-nothing
+returns-in-Some-clause-nothing g c = nothing_looked (g.P.Port.state c.args.port.now) (g.P.Port.state c.stopped.new.self) c.stopped.result c.stopped.ensures.looked
+
+pub returns-in-Ok-clause-nothing : goal.returns-in-Ok-clause-nothing
+returns-in-Ok-clause-nothing g c =
+    let s = g.P.Port.state c.args.port.now in
+    let m = g.P.Port.state c.stopped.new.self in
+    let u = g.P.Port.state c.write_pending.new.port in
+    subst (OffersNothing s) (sym c.decide.ensures.same) (nothing_then s m u (nothing_looked s m c.stopped.result c.stopped.ensures.looked) c.write_pending.ensures.nothing)
+
+pub returns-in-Err-clause-nothing : goal.returns-in-Err-clause-nothing
+returns-in-Err-clause-nothing g c =
+    let s = g.P.Port.state c.args.port.now in
+    let m = g.P.Port.state c.stopped.new.self in
+    let u = g.P.Port.state c.write_pending.new.port in
+    nothing_then s m u (nothing_looked s m c.stopped.result c.stopped.ensures.looked) c.write_pending.ensures.nothing

@@ -1,7 +1,8 @@
-use Rattle.std.proofs.Common.{subst, sym, List}
+use Rattle.std.proofs.Common.{subst, sym, refl, List}
 use Rattle.sat_words.specs.Literal.{Literal}
 use Rattle.ring_port.specs.PortState.{PortState}
-use Rattle.ring_run.specs.Searching.{IsAsserting, GoesOn}
+use Rattle.ring_run.specs.Searching.{IsAsserting, GoesOn, OffersNothing}
+use Rattle.ring_run.proofs.Lending.{offering_stays}
 use Rattle.ring_run.specs.declared.search.Ring.{Ring}
 use Rattle.ring_run.proofs.Asserting.{lemma_asserts}
 use Rattle.ring_run.proofs.Turning.{compose}
@@ -27,3 +28,9 @@ pub returns-in-Empty-clause-leads : goal.returns-in-Empty-clause-leads
 returns-in-Empty-clause-leads g c = λ start p.
     c.refute.ensures.ends c.args.ring.now.learned c.args.limit c.requires.below start
     (subst (λ (x : PortState). GoesOn start x c.args.ring.now.learned) (sym c.analyze.ensures.same) p)
+
+pub returns-in-Empty-clause-offering : goal.returns-in-Empty-clause-offering
+returns-in-Empty-clause-offering g c =
+    let s = g.P.Port.state c.args.port.now in
+    let u = g.P.Port.state c.refute.new.port in
+    offering_stays s u c.args.ring.now c.args.ring.now (subst (λ (x : PortState). OffersNothing x u) c.analyze.ensures.same c.refute.ensures.nothing) (record { exported = refl; offered = refl }) refl c.requires.offering

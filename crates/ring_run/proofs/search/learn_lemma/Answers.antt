@@ -1,13 +1,15 @@
-use Rattle.std.proofs.Common.{◌+◌, ◌∙◌, ℕ, ap, subst, sym, arith}
+use Rattle.std.proofs.Common.{◌+◌, ◌∙◌, ℕ, ap, subst, sym, refl, arith}
 use Rattle.restart_plan.specs.Plan.{Restarting, asked}
 use Rattle.ring_run.specs.Strategy.{IsPaced}
 use Rattle.ring_run.proofs.Pacing.{paced_last, paced_more}
 use Rattle.ring_port.specs.PortState.{PortState}
 use Rattle.ring_run.specs.declared.job.End.{End}
 use Rattle.ring_run.specs.declared.job.End.TheVariants.{Memory}
-use Rattle.ring_run.specs.Searching.{GoesOn, HoldsByGlue}
+use Rattle.ring_run.specs.Searching.{GoesOn, HoldsByGlue, IsAsserting}
+use Rattle.ring_run.proofs.Offering.{only_lent, nothing_none, nothing_refused}
+use Rattle.ring_run.proofs.Lending.{lent_held, lent_goes_on, lent_search, left_before, lent_glue, offering_stays, offering_learned}
 use Rattle.ring_run.specs.Ending.{ComesTo}
-use Rattle.ring_run.specs.Course.{GoesOnBy}
+use Rattle.ring_run.specs.Course.{GoesOnBy, InSearch, CanAssert, IsOffering}
 use Rattle.ring_run.specs.declared.search.Ring.{Ring}
 use Rattle.ring_run.proofs.Asserting.{can_assert, back_below}
 use Rattle.ring_run.proofs.Learning.{learned_any, goes_on_by, left_search, left_level}
@@ -16,94 +18,190 @@ use Rattle.ring_run.proofs.search.learn_lemma.Goals as goal
 
 pub returns-then-ring-limit-clause-leads : goal.returns-then-ring-limit-clause-leads
 returns-then-ring-limit-clause-leads g c = λ start p.
-    spent start (g.P.Port.state c.learn.new.self) (c.args.ring.now.learned + 1) c.args.limit c.if-ring-limit.true
-    (learned_any start (g.P.Port.state c.args.port.now) (g.P.Port.state c.learn.new.self) c.args.ring.now.learned c.args.glue c.args.ring.now.trail c.args.lits.now c.args.back c.in-Ok.address p
+    let u = g.P.Port.state c.learn.new.self in
+    let v = g.P.Port.state c.offer_lemma.new.port in
+    let count = ap (λ (r : Ring). r.learned) c.offer_lemma.ensures.same in
+    spent start v c.offer_lemma.new.ring.learned c.args.limit c.if-ring-limit.true
+    (subst (GoesOn start v) (sym count) (lent_goes_on start u v (c.args.ring.now.learned + 1)
+    (learned_any start (g.P.Port.state c.args.port.now) u c.args.ring.now.learned c.args.glue c.args.ring.now.trail c.args.lits.now c.args.back c.in-Ok.address p
     c.requires.search.stands c.requires.lemma c.requires.glue c.in-Ok.ensures.learned c.learn.ensures.kept c.learn.ensures.log c.learn.ensures.port)
+    (only_lent u v c.in-Ok.address c.args.ring.now.exported c.args.ring.now.offered c.offer_lemma.new.ring.exported c.offer_lemma.new.ring.offered c.offer_lemma.ensures.lent) c.offer_lemma.ensures.log c.offer_lemma.ensures.port))
 
 pub returns-in-Err-clause-leads : goal.returns-in-Err-clause-leads
 returns-in-Err-clause-leads g c = λ start p.
     subst (λ (end : End). ComesTo start (g.P.Port.state c.learn.new.self) c.args.ring.now.learned c.args.limit end) (sym c.end_refused.ensures)
     (refused_ends start (g.P.Port.state c.args.port.now) (g.P.Port.state c.learn.new.self) c.args.ring.now.learned c.args.limit c.in-Err.stop c.requires.below p c.in-Err.ensures.learned c.learn.ensures.log c.learn.ensures.port)
 
-pub returns-then-ring-limit-clause-stored : goal.returns-then-ring-limit-clause-stored
-returns-then-ring-limit-clause-stored g c =
-    learned_by_glue (g.P.Port.state c.args.port.now) (g.P.Port.state c.learn.new.self) c.args.ring.now.trail.steps c.args.lits.now c.args.glue c.in-Ok.address c.in-Ok.ensures.learned c.requires.glue
-
 pub leave_conflict-requires-clause-can : goal.leave_conflict-requires-clause-can
-leave_conflict-requires-clause-can g c = can_assert (g.P.Port.state c.args.port.now) c.args.ring.now.trail c.args.lits.now c.args.back c.requires.lemma c.requires.search.trail
+leave_conflict-requires-clause-can g c =
+    subst (λ (r : Ring). CanAssert r.trail c.args.lits.now c.args.back) (sym c.offer_lemma.ensures.same)
+    (can_assert (g.P.Port.state c.args.port.now) c.args.ring.now.trail c.args.lits.now c.args.back c.requires.lemma c.requires.search.trail)
 
 pub returns-in-Ok-leave_conflict-clause-leads : goal.returns-in-Ok-leave_conflict-clause-leads
 returns-in-Ok-leave_conflict-clause-leads g c =
     let s = g.P.Port.state c.args.port.now in
     let u = g.P.Port.state c.learn.new.self in
-    let middle : Ring = record c.args.ring.now { learned = c.args.ring.now.learned + 1; restarts = c.note.new.self } in
-    let at = c.in-Ok-leave_conflict.ensures.left in
-    let count = c.leave_conflict.ensures.learned in
+    let v = g.P.Port.state c.offer_lemma.new.port in
+    let middle = c.offer_lemma.new.ring in
+    let same = c.offer_lemma.ensures.same in
+    let lent = only_lent u v c.in-Ok.address c.args.ring.now.exported c.args.ring.now.offered middle.exported middle.offered c.offer_lemma.ensures.lent in
+    let left = left_before u v middle c.leave_conflict.new.ring c.args.lits.now c.args.back c.in-Ok.address (ap (λ (x : PortState). x.held) lent.state) c.in-Ok-leave_conflict.ensures.left in
+    let count = c.leave_conflict.ensures.learned ∙ ap (λ (r : Ring). r.learned) same in
     subst (λ (x : PortState). GoesOnBy s c.args.ring.now x c.leave_conflict.new.ring c.args.limit) (sym c.leave_conflict.ensures.same)
-    (goes_on_by s u c.args.ring.now c.leave_conflict.new.ring c.args.limit
-    (left_search s u middle c.leave_conflict.new.ring c.args.lits.now c.args.back c.args.glue c.in-Ok.address c.requires.search c.requires.lemma c.in-Ok.ensures.learned c.learn.ensures.kept c.learn.ensures.port at)
-    (omega (arith, count, c.requires.below, c.if-ring-limit.false))
-    (λ start p. subst (GoesOn start u) (sym count)
+    (goes_on_by s v c.args.ring.now c.leave_conflict.new.ring c.args.limit
+    (lent_search u v c.leave_conflict.new.ring
+    (left_search s u middle c.leave_conflict.new.ring c.args.lits.now c.args.back c.args.glue c.in-Ok.address (subst (InSearch s) (sym same) c.requires.search)
+    (subst (λ (r : Ring). IsAsserting s r.trail c.args.lits.now c.args.back) (sym same) c.requires.lemma) c.in-Ok.ensures.learned c.learn.ensures.kept c.learn.ensures.port left) lent c.offer_lemma.ensures.log c.offer_lemma.ensures.port)
+    (omega (arith, count, c.requires.below, c.if-ring-limit.false, c.leave_conflict.ensures.learned))
+    (λ start p. subst (GoesOn start v) (sym count)
+    (lent_goes_on start u v (c.args.ring.now.learned + 1)
     (learned_any start s u c.args.ring.now.learned c.args.glue c.args.ring.now.trail c.args.lits.now c.args.back c.in-Ok.address p
-    c.requires.search.stands c.requires.lemma c.requires.glue c.in-Ok.ensures.learned c.learn.ensures.kept c.learn.ensures.log c.learn.ensures.port)))
+    c.requires.search.stands c.requires.lemma c.requires.glue c.in-Ok.ensures.learned c.learn.ensures.kept c.learn.ensures.log c.learn.ensures.port) lent c.offer_lemma.ensures.log c.offer_lemma.ensures.port)))
 
 pub returns-in-Err-leave_conflict-clause-leads : goal.returns-in-Err-leave_conflict-clause-leads
 returns-in-Err-leave_conflict-clause-leads g c = λ start p.
     let s = g.P.Port.state c.args.port.now in
     let u = g.P.Port.state c.learn.new.self in
-    let count = c.leave_conflict.ensures.learned in
+    let v = g.P.Port.state c.offer_lemma.new.port in
+    let middle = c.offer_lemma.new.ring in
+    let lent = only_lent u v c.in-Ok.address c.args.ring.now.exported c.args.ring.now.offered middle.exported middle.offered c.offer_lemma.ensures.lent in
+    let count = c.leave_conflict.ensures.learned ∙ ap (λ (r : Ring). r.learned) c.offer_lemma.ensures.same in
     subst (λ (x : PortState). ComesTo start x c.leave_conflict.new.ring.learned c.args.limit Memory) (sym c.leave_conflict.ensures.same)
-    (out_of_memory start u c.leave_conflict.new.ring.learned c.args.limit (omega (arith, count, c.requires.below, c.if-ring-limit.false)) (subst (GoesOn start u) (sym count)
+    (out_of_memory start v c.leave_conflict.new.ring.learned c.args.limit (omega (arith, count, c.requires.below, c.if-ring-limit.false, c.leave_conflict.ensures.learned)) (subst (GoesOn start v) (sym count)
+    (lent_goes_on start u v (c.args.ring.now.learned + 1)
     (learned_any start s u c.args.ring.now.learned c.args.glue c.args.ring.now.trail c.args.lits.now c.args.back c.in-Ok.address p
-    c.requires.search.stands c.requires.lemma c.requires.glue c.in-Ok.ensures.learned c.learn.ensures.kept c.learn.ensures.log c.learn.ensures.port)))
+    c.requires.search.stands c.requires.lemma c.requires.glue c.in-Ok.ensures.learned c.learn.ensures.kept c.learn.ensures.log c.learn.ensures.port) lent c.offer_lemma.ensures.log c.offer_lemma.ensures.port)))
 
-pub returns-then-ring-limit-clause-looks : goal.returns-then-ring-limit-clause-looks
-returns-then-ring-limit-clause-looks g c = λ base before.
-    let same = learned_looks (g.P.Port.state c.args.port.now) (g.P.Port.state c.learn.new.self) c.args.lits.now c.args.glue c.in-Ok.address c.in-Ok.ensures.learned in
-    let below = back_below (g.P.Port.state c.args.port.now) c.args.ring.now.trail c.args.lits.now c.args.back c.requires.lemma c.requires.search.trail in
-    omega (arith, before, same, below)
+pub returns-then-ring-limit-clause-stored : goal.returns-then-ring-limit-clause-stored
+returns-then-ring-limit-clause-stored g c =
+    let s = g.P.Port.state c.args.port.now in
+    let u = g.P.Port.state c.learn.new.self in
+    let v = g.P.Port.state c.offer_lemma.new.port in
+    let lent = only_lent u v c.in-Ok.address c.args.ring.now.exported c.args.ring.now.offered c.offer_lemma.new.ring.exported c.offer_lemma.new.ring.offered c.offer_lemma.ensures.lent in
+    (lent_glue s u v c.args.ring.now.trail.steps
+    (learned_by_glue s u c.args.ring.now.trail.steps c.args.lits.now c.args.glue c.in-Ok.address c.in-Ok.ensures.learned c.requires.glue) (ap (λ (x : PortState). x.held) lent.state))
 
 pub returns-in-Ok-leave_conflict-clause-stored : goal.returns-in-Ok-leave_conflict-clause-stored
 returns-in-Ok-leave_conflict-clause-stored g c =
-    subst (λ (x : PortState). HoldsByGlue (g.P.Port.state c.args.port.now) x c.args.ring.now.trail.steps) (sym c.leave_conflict.ensures.same)
-    (learned_by_glue (g.P.Port.state c.args.port.now) (g.P.Port.state c.learn.new.self) c.args.ring.now.trail.steps c.args.lits.now c.args.glue c.in-Ok.address c.in-Ok.ensures.learned c.requires.glue)
+    let s = g.P.Port.state c.args.port.now in
+    let u = g.P.Port.state c.learn.new.self in
+    let v = g.P.Port.state c.offer_lemma.new.port in
+    let lent = only_lent u v c.in-Ok.address c.args.ring.now.exported c.args.ring.now.offered c.offer_lemma.new.ring.exported c.offer_lemma.new.ring.offered c.offer_lemma.ensures.lent in
+    subst (λ (x : PortState). HoldsByGlue s x c.args.ring.now.trail.steps) (sym c.leave_conflict.ensures.same)
+    (lent_glue s u v c.args.ring.now.trail.steps
+    (learned_by_glue s u c.args.ring.now.trail.steps c.args.lits.now c.args.glue c.in-Ok.address c.in-Ok.ensures.learned c.requires.glue) (ap (λ (x : PortState). x.held) lent.state))
 
 pub returns-in-Err-leave_conflict-clause-stored : goal.returns-in-Err-leave_conflict-clause-stored
 returns-in-Err-leave_conflict-clause-stored g c =
-    subst (λ (x : PortState). HoldsByGlue (g.P.Port.state c.args.port.now) x c.args.ring.now.trail.steps) (sym c.leave_conflict.ensures.same)
-    (learned_by_glue (g.P.Port.state c.args.port.now) (g.P.Port.state c.learn.new.self) c.args.ring.now.trail.steps c.args.lits.now c.args.glue c.in-Ok.address c.in-Ok.ensures.learned c.requires.glue)
+    let s = g.P.Port.state c.args.port.now in
+    let u = g.P.Port.state c.learn.new.self in
+    let v = g.P.Port.state c.offer_lemma.new.port in
+    let lent = only_lent u v c.in-Ok.address c.args.ring.now.exported c.args.ring.now.offered c.offer_lemma.new.ring.exported c.offer_lemma.new.ring.offered c.offer_lemma.ensures.lent in
+    subst (λ (x : PortState). HoldsByGlue s x c.args.ring.now.trail.steps) (sym c.leave_conflict.ensures.same)
+    (lent_glue s u v c.args.ring.now.trail.steps
+    (learned_by_glue s u c.args.ring.now.trail.steps c.args.lits.now c.args.glue c.in-Ok.address c.in-Ok.ensures.learned c.requires.glue) (ap (λ (x : PortState). x.held) lent.state))
+
+pub returns-then-ring-limit-clause-looks : goal.returns-then-ring-limit-clause-looks
+returns-then-ring-limit-clause-looks g c = λ base before.
+    let s = g.P.Port.state c.args.port.now in
+    let u = g.P.Port.state c.learn.new.self in
+    let v = g.P.Port.state c.offer_lemma.new.port in
+    let middle = c.offer_lemma.new.ring in
+    let lent = only_lent u v c.in-Ok.address c.args.ring.now.exported c.args.ring.now.offered middle.exported middle.offered c.offer_lemma.ensures.lent in
+    let of_lent = ap (λ (x : PortState). x.looks) lent.state in
+    let count = ap (λ (r : Ring). r.learned) c.offer_lemma.ensures.same in
+    let same = learned_looks s u c.args.lits.now c.args.glue c.in-Ok.address c.in-Ok.ensures.learned in
+    let below = back_below s c.args.ring.now.trail c.args.lits.now c.args.back c.requires.lemma c.requires.search.trail in
+    omega (arith, before, same, of_lent, below, count)
 
 pub returns-in-Ok-leave_conflict-clause-looks : goal.returns-in-Ok-leave_conflict-clause-looks
 returns-in-Ok-leave_conflict-clause-looks g c = λ base before.
-    let same = learned_looks (g.P.Port.state c.args.port.now) (g.P.Port.state c.learn.new.self) c.args.lits.now c.args.glue c.in-Ok.address c.in-Ok.ensures.learned in
+    let s = g.P.Port.state c.args.port.now in
+    let u = g.P.Port.state c.learn.new.self in
+    let v = g.P.Port.state c.offer_lemma.new.port in
+    let middle = c.offer_lemma.new.ring in
+    let lent = only_lent u v c.in-Ok.address c.args.ring.now.exported c.args.ring.now.offered middle.exported middle.offered c.offer_lemma.ensures.lent in
+    let of_lent = ap (λ (x : PortState). x.looks) lent.state in
+    let count = ap (λ (r : Ring). r.learned) c.offer_lemma.ensures.same in
+    let same = learned_looks s u c.args.lits.now c.args.glue c.in-Ok.address c.in-Ok.ensures.learned in
+    let below = back_below s c.args.ring.now.trail c.args.lits.now c.args.back c.requires.lemma c.requires.search.trail in
     let after = ap (λ (x : PortState). x.looks) c.leave_conflict.ensures.same in
-    let below = back_below (g.P.Port.state c.args.port.now) c.args.ring.now.trail c.args.lits.now c.args.back c.requires.lemma c.requires.search.trail in
-    let middle : Ring = record c.args.ring.now { learned = c.args.ring.now.learned + 1; restarts = c.note.new.self } in
-    let level = left_level (g.P.Port.state c.learn.new.self) middle c.leave_conflict.new.ring c.args.lits.now c.args.back c.in-Ok.address c.in-Ok-leave_conflict.ensures.left in
-    omega (arith, before, same, after, below, level, c.leave_conflict.ensures.learned)
+    let level = left_level v middle c.leave_conflict.new.ring c.args.lits.now c.args.back c.in-Ok.address c.in-Ok-leave_conflict.ensures.left in
+    omega (arith, before, same, of_lent, after, below, level, count, c.leave_conflict.ensures.learned)
 
 pub returns-in-Err-leave_conflict-clause-looks : goal.returns-in-Err-leave_conflict-clause-looks
 returns-in-Err-leave_conflict-clause-looks g c = λ base before.
-    let same = learned_looks (g.P.Port.state c.args.port.now) (g.P.Port.state c.learn.new.self) c.args.lits.now c.args.glue c.in-Ok.address c.in-Ok.ensures.learned in
+    let s = g.P.Port.state c.args.port.now in
+    let u = g.P.Port.state c.learn.new.self in
+    let v = g.P.Port.state c.offer_lemma.new.port in
+    let middle = c.offer_lemma.new.ring in
+    let lent = only_lent u v c.in-Ok.address c.args.ring.now.exported c.args.ring.now.offered middle.exported middle.offered c.offer_lemma.ensures.lent in
+    let of_lent = ap (λ (x : PortState). x.looks) lent.state in
+    let count = ap (λ (r : Ring). r.learned) c.offer_lemma.ensures.same in
+    let same = learned_looks s u c.args.lits.now c.args.glue c.in-Ok.address c.in-Ok.ensures.learned in
+    let below = back_below s c.args.ring.now.trail c.args.lits.now c.args.back c.requires.lemma c.requires.search.trail in
     let after = ap (λ (x : PortState). x.looks) c.leave_conflict.ensures.same in
-    let below = back_below (g.P.Port.state c.args.port.now) c.args.ring.now.trail c.args.lits.now c.args.back c.requires.lemma c.requires.search.trail in
-    omega (arith, before, same, after, below, c.leave_conflict.ensures.learned)
+    omega (arith, before, same, of_lent, after, below, count, c.leave_conflict.ensures.learned)
 
 pub returns-then-ring-limit-clause-paced : goal.returns-then-ring-limit-clause-paced
 returns-then-ring-limit-clause-paced g c =
-    subst (λ (r : Restarting). IsPaced r (c.args.ring.now.learned + 1) c.args.limit) (sym c.note.ensures)
-    (paced_last c.args.ring.now.restarts c.args.ring.now.learned c.args.glue c.args.limit c.requires.paced c.requires.below c.if-ring-limit.true)
+    let count = ap (λ (r : Ring). r.learned) c.offer_lemma.ensures.same in
+    let noted_is = ap (λ (r : Ring). r.restarts) c.offer_lemma.ensures.same ∙ c.note.ensures in
+    subst (λ (n : ℕ). IsPaced c.offer_lemma.new.ring.restarts n c.args.limit) (sym count)
+    (subst (λ (r : Restarting). IsPaced r (c.args.ring.now.learned + 1) c.args.limit) (sym noted_is)
+    (paced_last c.args.ring.now.restarts c.args.ring.now.learned c.args.glue c.args.limit c.requires.paced c.requires.below (sym count ∙ c.if-ring-limit.true)))
 
 pub returns-in-Ok-leave_conflict-clause-paced : goal.returns-in-Ok-leave_conflict-clause-paced
 returns-in-Ok-leave_conflict-clause-paced g c =
-    let noted_is = ap asked c.note.ensures in
-    subst (λ (n : ℕ). IsPaced c.leave_conflict.new.ring.restarts n c.args.limit) (sym c.leave_conflict.ensures.learned)
-    (subst (λ (r : Restarting). IsPaced r (c.args.ring.now.learned + 1) c.args.limit) (sym (c.leave_conflict.ensures.restarts ∙ noted_is))
-    (paced_more c.args.ring.now.restarts c.args.ring.now.learned c.args.glue c.args.limit c.requires.paced c.requires.below c.if-ring-limit.false))
+    let count = ap (λ (r : Ring). r.learned) c.offer_lemma.ensures.same in
+    let noted_is = ap (λ (r : Ring). r.restarts) c.offer_lemma.ensures.same ∙ c.note.ensures in
+    subst (λ (n : ℕ). IsPaced c.leave_conflict.new.ring.restarts n c.args.limit) (sym (c.leave_conflict.ensures.learned ∙ count))
+    (subst (λ (r : Restarting). IsPaced r (c.args.ring.now.learned + 1) c.args.limit) (sym (c.leave_conflict.ensures.restarts ∙ ap asked noted_is))
+    (paced_more c.args.ring.now.restarts c.args.ring.now.learned c.args.glue c.args.limit c.requires.paced c.requires.below (λ e. c.if-ring-limit.false (count ∙ e))))
 
 pub returns-in-Err-leave_conflict-clause-paced : goal.returns-in-Err-leave_conflict-clause-paced
 returns-in-Err-leave_conflict-clause-paced g c =
-    let noted_is = ap asked c.note.ensures in
-    subst (λ (n : ℕ). IsPaced c.leave_conflict.new.ring.restarts n c.args.limit) (sym c.leave_conflict.ensures.learned)
-    (subst (λ (r : Restarting). IsPaced r (c.args.ring.now.learned + 1) c.args.limit) (sym (c.leave_conflict.ensures.restarts ∙ noted_is))
-    (paced_more c.args.ring.now.restarts c.args.ring.now.learned c.args.glue c.args.limit c.requires.paced c.requires.below c.if-ring-limit.false))
+    let count = ap (λ (r : Ring). r.learned) c.offer_lemma.ensures.same in
+    let noted_is = ap (λ (r : Ring). r.restarts) c.offer_lemma.ensures.same ∙ c.note.ensures in
+    subst (λ (n : ℕ). IsPaced c.leave_conflict.new.ring.restarts n c.args.limit) (sym (c.leave_conflict.ensures.learned ∙ count))
+    (subst (λ (r : Restarting). IsPaced r (c.args.ring.now.learned + 1) c.args.limit) (sym (c.leave_conflict.ensures.restarts ∙ ap asked noted_is))
+    (paced_more c.args.ring.now.restarts c.args.ring.now.learned c.args.glue c.args.limit c.requires.paced c.requires.below (λ e. c.if-ring-limit.false (count ∙ e))))
+
+pub returns-then-ring-limit-clause-offering : goal.returns-then-ring-limit-clause-offering
+returns-then-ring-limit-clause-offering g c =
+    let s = g.P.Port.state c.args.port.now in
+    offering_learned s (g.P.Port.state c.learn.new.self) (g.P.Port.state c.offer_lemma.new.port) c.args.ring.now c.offer_lemma.new.ring c.args.ring.now.trail.steps c.args.glue c.args.lits.now c.in-Ok.address
+    c.requires.offering c.in-Ok.ensures.learned c.requires.glue c.offer_lemma.ensures.lent (ap (λ (r : Ring). r.learned) c.offer_lemma.ensures.same)
+
+pub returns-in-Err-clause-offering : goal.returns-in-Err-clause-offering
+returns-in-Err-clause-offering g c =
+    offering_stays (g.P.Port.state c.args.port.now) (g.P.Port.state c.learn.new.self) c.args.ring.now c.args.ring.now (nothing_refused (g.P.Port.state c.args.port.now) (g.P.Port.state c.learn.new.self) c.in-Err.stop c.in-Err.ensures.learned)
+    (record { exported = refl; offered = refl }) refl c.requires.offering
+
+pub returns-in-Ok-leave_conflict-clause-offering : goal.returns-in-Ok-leave_conflict-clause-offering
+returns-in-Ok-leave_conflict-clause-offering g c =
+    let s = g.P.Port.state c.args.port.now in
+    let v = g.P.Port.state c.offer_lemma.new.port in
+    let middle = c.offer_lemma.new.ring in
+    subst (λ (x : PortState). IsOffering x c.leave_conflict.new.ring) (sym c.leave_conflict.ensures.same)
+    (offering_stays v v middle c.leave_conflict.new.ring (nothing_none v) c.leave_conflict.ensures.offers c.leave_conflict.ensures.learned
+    (offering_learned s (g.P.Port.state c.learn.new.self) v c.args.ring.now middle c.args.ring.now.trail.steps c.args.glue c.args.lits.now c.in-Ok.address
+    c.requires.offering c.in-Ok.ensures.learned c.requires.glue c.offer_lemma.ensures.lent (ap (λ (r : Ring). r.learned) c.offer_lemma.ensures.same)))
+
+pub returns-in-Err-leave_conflict-clause-offering : goal.returns-in-Err-leave_conflict-clause-offering
+returns-in-Err-leave_conflict-clause-offering g c =
+    let s = g.P.Port.state c.args.port.now in
+    let v = g.P.Port.state c.offer_lemma.new.port in
+    let middle = c.offer_lemma.new.ring in
+    subst (λ (x : PortState). IsOffering x c.leave_conflict.new.ring) (sym c.leave_conflict.ensures.same)
+    (offering_stays v v middle c.leave_conflict.new.ring (nothing_none v) c.leave_conflict.ensures.offers c.leave_conflict.ensures.learned
+    (offering_learned s (g.P.Port.state c.learn.new.self) v c.args.ring.now middle c.args.ring.now.trail.steps c.args.glue c.args.lits.now c.in-Ok.address
+    c.requires.offering c.in-Ok.ensures.learned c.requires.glue c.offer_lemma.ensures.lent (ap (λ (r : Ring). r.learned) c.offer_lemma.ensures.same)))
+
+pub leave_conflict-requires-clause-held : goal.leave_conflict-requires-clause-held
+leave_conflict-requires-clause-held g c =
+    let s = g.P.Port.state c.args.port.now in
+    let u = g.P.Port.state c.learn.new.self in
+    let v = g.P.Port.state c.offer_lemma.new.port in
+    lent_held s u v c.args.lits.now c.args.glue c.in-Ok.address c.in-Ok.ensures.learned
+    (only_lent u v c.in-Ok.address c.args.ring.now.exported c.args.ring.now.offered c.offer_lemma.new.ring.exported c.offer_lemma.new.ring.offered c.offer_lemma.ensures.lent)

@@ -1,6 +1,7 @@
 use Rattle.std.proofs.Common.{subst, sym}
 use Rattle.ring_run.specs.Ending.{ComesTo}
 use Rattle.ring_run.specs.declared.job.End.{End}
+use Rattle.ring_run.proofs.Offering.{nothing_empty}
 use Rattle.ring_run.proofs.Progress.{empty_refutes, refused_ends}
 use Rattle.ring_run.proofs.search.refute.Goals as goal
 
@@ -12,3 +13,9 @@ pub returns-in-Err-clause-ends : goal.returns-in-Err-clause-ends
 returns-in-Err-clause-ends g c = λ n limit below start p.
     subst (λ (end : End). ComesTo start (g.P.Port.state c.empty.new.self) n limit end) (sym c.end_refused.ensures)
     (refused_ends start (g.P.Port.state c.args.port.now) (g.P.Port.state c.empty.new.self) n limit c.in-Err.stop below p c.in-Err.ensures.written c.empty.ensures.log c.empty.ensures.port)
+
+pub returns-in-Ok-clause-nothing : goal.returns-in-Ok-clause-nothing
+returns-in-Ok-clause-nothing g c = nothing_empty (g.P.Port.state c.args.port.now) (g.P.Port.state c.empty.new.self) c.empty.result c.empty.ensures.written
+
+pub returns-in-Err-clause-nothing : goal.returns-in-Err-clause-nothing
+returns-in-Err-clause-nothing g c = nothing_empty (g.P.Port.state c.args.port.now) (g.P.Port.state c.empty.new.self) c.empty.result c.empty.ensures.written

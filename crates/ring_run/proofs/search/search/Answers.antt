@@ -1,4 +1,6 @@
 use Rattle.std.proofs.Common.{◌∙◌, sym, refl, arith}
+use Rattle.ring_run.proofs.Offering.{nothing_then}
+use Rattle.ring_run.proofs.Lending.{offering_stays, saw_nothing}
 use Rattle.ring_run.proofs.Progress.{saw_goes_on}
 use Rattle.ring_run.proofs.Deciding.{decides_same, decides_moved}
 use Rattle.ring_run.proofs.Turning.{begun_search, less_to_do}
@@ -21,6 +23,8 @@ loop-end-init g c =
       decides = decides_same (g.P.Port.state c.args.port.now) (g.P.Port.state c.take_units.new.port) c.args.ring.now.decider c.args.ring.now.decider c.requires.decides c.take_units.ensures.saw.stays refl;
       paced = c.requires.paced;
       odd = refl;
+      offering = offering_stays (g.P.Port.state c.args.port.now) (g.P.Port.state c.take_units.new.port) c.args.ring.now (record c.args.ring.now { trail = c.take_units.new.trail }) (saw_nothing (g.P.Port.state c.args.port.now) (g.P.Port.state c.take_units.new.port) c.take_units.ensures.saw)
+          (record { exported = refl; offered = refl }) refl c.requires.offering;
       vars = c.requires.vars ∙ sym c.take_units.ensures.grown.vars;
     }
 
@@ -49,6 +53,14 @@ loop-end-preserved g c =
       decides = decides_moved (g.P.Port.state c.args.port.now) (g.P.Port.state c.loop-end.port) (g.P.Port.state c.turn.new.port) c.loop-end.ring.decider c.turn.new.ring.decider c.loop-end.invariant.decides
           c.loop-end.invariant.goes.runs.stays goes.runs.stays c.turn.ensures.active;
       paced = c.turn.ensures.paced;
+      offering = c.turn.ensures.offering;
       odd = c.turn.ensures.odd ∙ c.loop-end.invariant.odd;
       vars = c.turn.ensures.vars ∙ c.loop-end.invariant.vars ∙ c.loop-end.invariant.search.stands.vars ∙ c.loop-end.invariant.goes.runs.stays.vars ∙ sym goes.runs.stays.vars ∙ sym found.search.stands.vars;
     }
+
+pub returns-in-Opposed-clause-offering : goal.returns-in-Opposed-clause-offering
+returns-in-Opposed-clause-offering g c =
+    let s = g.P.Port.state c.args.port.now in
+    let m = g.P.Port.state c.take_units.new.port in
+    let u = g.P.Port.state c.refute.new.port in
+    offering_stays s u c.args.ring.now (record c.args.ring.now { trail = c.take_units.new.trail }) (nothing_then s m u (saw_nothing s m c.take_units.ensures.saw) c.refute.ensures.nothing) (record { exported = refl; offered = refl }) refl c.requires.offering

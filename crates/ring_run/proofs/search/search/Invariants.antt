@@ -1,7 +1,7 @@
 use Rattle.std.proofs.Common.{◌≡◌, ℕ, ◌<◌, ◌+◌, ◌-◌, ◌*◌, length}
 use Rattle.ring_run.specs.Searching.{GoesOn}
 use Rattle.ring_run.specs.Strategy.{Decides, IsPaced}
-use Rattle.ring_run.specs.Course.{InSearch, IsLooking}
+use Rattle.ring_run.specs.Course.{IsOffering, InSearch, IsLooking}
 use Rattle.ring_run.proofs.search.search.Given as goal
 
 abbrev pub invariant-loop-end : goal.invariant-loop-end
@@ -11,6 +11,7 @@ invariant-loop-end g l = record {
   below : l.ring.learned < l.limit;
   looks : (base : ℕ) → IsLooking base (g.P.Port.state l.fn.port) l.fn.ring → IsLooking base (g.P.Port.state l.port) l.ring;
   decides : Decides (g.P.Port.state l.port) l.ring.decider;
+  offering : IsOffering (g.P.Port.state l.port) l.ring;
   paced : IsPaced l.ring.restarts l.ring.learned l.limit;
   odd : l.ring.restarts.odd ≡ l.fn.ring.restarts.odd;
   vars : l.analysis.vars ≡ l.ring.trail.vars;

@@ -17,6 +17,7 @@ use Rattle.rup_model.specs.Rup.{rup}
 use Rattle.ring_run.specs.Searching.{Stands, AreTold, UnitsSeen, KeepsOn, OnlyWrote}
 use Rattle.ring_run.proofs.LevelZero.{true_at_zero}
 use Rattle.ring_run.proofs.Progress.{unit_goes_on, unit_looks, wrote_none, wrote_unit, unit_over}
+use Rattle.ring_run.proofs.Offering.{nothing_none, nothing_unit}
 use Rattle.ring_run.proofs.Remembering.{added_seen}
 use Rattle.ring_run.proofs.Telling.{told_skipped, told_written}
 use Rattle.ring_run.proofs.Standing.{stands_written, place_on}
@@ -96,3 +97,9 @@ returns-clause-wrote g c = only_wrote (g.P.Port.state c.args.port.now) (g.P.Port
 pub returns-clause-over : goal.returns-clause-over
 returns-clause-over g c =
     unit_over (g.P.Port.state c.args.port.now) (g.P.Port.state c.unit.new.self) c.lit_at.result c.unit.result c.unit.ensures.written c.unit.ensures.log c.unit.ensures.port
+
+pub returns-then-is_none-clause-nothing : goal.returns-then-is_none-clause-nothing
+returns-then-is_none-clause-nothing g c = nothing_none (g.P.Port.state c.args.port.now)
+
+pub returns-clause-nothing : goal.returns-clause-nothing
+returns-clause-nothing g c = nothing_unit (g.P.Port.state c.args.port.now) (g.P.Port.state c.unit.new.self) c.lit_at.result c.unit.result c.unit.ensures.written

@@ -1,4 +1,5 @@
 use Rattle.std.proofs.Common.{◌∙◌, refl}
+use Rattle.ring_run.proofs.Offering.{nothing_none, nothing_then}
 use Rattle.ring_run.proofs.Progress.{wrote_none, wrote_by}
 use Rattle.ring_run.proofs.units.write_units.Goals as goal
 
@@ -11,6 +12,7 @@ loop-place-init g c = record {
   units = c.requires.units;
   looks = refl;
   wrote = wrote_none (g.P.Port.state c.args.port.now);
+  nothing = nothing_none (g.P.Port.state c.args.port.now);
   port = c.requires.port;
 }
 
@@ -29,5 +31,9 @@ loop-place-preserved g c = record {
   units = c.in-Ok.ensures.units;
   looks = c.in-Ok.ensures.looks ∙ c.loop-place.invariant.looks;
   wrote = wrote_by (g.P.Port.state c.args.port.now) (g.P.Port.state c.loop-place.port) (g.P.Port.state c.write_unit.new.port) c.loop-place.invariant.wrote c.in-Ok.ensures.wrote;
+  nothing = nothing_then (g.P.Port.state c.args.port.now) (g.P.Port.state c.loop-place.port) (g.P.Port.state c.write_unit.new.port) c.loop-place.invariant.nothing c.in-Ok.ensures.nothing;
   port = c.in-Ok.ensures.port;
 }
+
+pub returns-in-Err-clause-nothing : goal.returns-in-Err-clause-nothing
+returns-in-Err-clause-nothing g c = nothing_then (g.P.Port.state c.args.port.now) (g.P.Port.state c.loop-place.port) (g.P.Port.state c.write_unit.new.port) c.loop-place.invariant.nothing c.in-Err.ensures.nothing

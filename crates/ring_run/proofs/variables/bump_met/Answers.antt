@@ -1,4 +1,4 @@
-use Rattle.std.proofs.Common.{All, List, length, subst, sym}
+use Rattle.std.proofs.Common.{All, length, subst, sym}
 use Rattle.std.proofs.lemmas.List.Sorted.{All-permutation}
 use Rattle.analyze.specs.AnalysisData.{IsVariable}
 use Rattle.ring_run.specs.declared.variables.Bump.{Bump}

@@ -1,7 +1,7 @@
 """Checks the built program against exhaustive search and a naive DRAT checker, both of their own.
 
 Seeded random formulas of up to 16 variables, pigeonhole formulas and formulas with the empty clause go through the
-program with `--proof`, most of them in odd spellings, on standard input or as a file. Its answer is compared with a truth
+program with `--proof`, half of them with `--check`, most of them in odd spellings, on standard input or as a file. Its answer is compared with a truth
 table, its `v` lines with the clauses and the format, and every line of its proof with the definition of DRAT. Before
 that, a damaged proof and a wrong model are tried, which must be caught. Real files that fail, refused words and refused
 inputs bring the program to each status but 8 and 9, and each time the folder that it runs in must have no file but those
@@ -199,11 +199,15 @@ def check_model(variables, clauses, lines):
             raise Wrong("variable %d occurs in no clause and is true" % variable)
 
 
-def check_answer(variables, clauses, status, out, err, proof, satisfiable):
+def check_answer(variables, clauses, status, out, err, proof, satisfiable, checked=False):
     lines = out.split("\n")
     if lines[-1] != "":
         raise Wrong("the answer's last line has no newline")
     lines = lines[:-1]
+    if checked:
+        if lines[:1] != ["c proof accepted"]:
+            raise Wrong("the log was to be checked, and the answer does not say so")
+        lines = lines[1:]
     if err:
         raise Wrong("something on standard error: %r" % err)
     ended = check_proof(clauses, proof)
@@ -222,10 +226,10 @@ def check_answer(variables, clauses, status, out, err, proof, satisfiable):
         raise Wrong("status %d" % status)
 
 
-def run(program, folder, variables, clauses, satisfiable, text, from_file):
-    """Runs the program on the text, as a file or on standard input."""
+def run(program, folder, variables, clauses, satisfiable, text, from_file, checked):
+    """Runs the program on the text, as a file or on standard input, and lets it check its log or not."""
     path = os.path.join(folder, "proof")
-    words = [program, "--proof", path]
+    words = [program, "--proof", path] + ["--check"] * checked
     if from_file:
         words.append(os.path.join(folder, "input"))
         with open(words[-1], "wb") as file:
@@ -241,7 +245,14 @@ def run(program, folder, variables, clauses, satisfiable, text, from_file):
         text = proof.read().decode("ascii")
     os.remove(path)
     check_answer(
-        variables, clauses, done.returncode, done.stdout.decode("ascii"), done.stderr.decode("ascii"), text, satisfiable
+        variables,
+        clauses,
+        done.returncode,
+        done.stdout.decode("ascii"),
+        done.stderr.decode("ascii"),
+        text,
+        satisfiable,
+        checked,
     )
 
 
@@ -262,7 +273,19 @@ FULL = "/dev/full"
 def statuses():
     """Each status but 8 and 9, most by more than one cause."""
     pigeonhole = spelled(*pigeons(4))
-    for words in ["--threads 0", "--threads 2", "--conflicts 0", "--proof", "--other", "--help", "a.cnf b.cnf"]:
+    for words in [
+        "--threads 0",
+        "--threads 2",
+        "--conflicts 0",
+        "--proof",
+        "--other",
+        "--help",
+        "a.cnf b.cnf",
+        "--make 7 a.cnf",
+        "--make -1",
+        "--make 9223372036854775808",
+        "--check --check",
+    ]:
         yield Case(1, words.split(), MODEL, stderr="gimsatul: bad command line\n")
     for text, line, name in [
         (b"", 1, "NoHeader"),
@@ -289,6 +312,11 @@ def statuses():
         yield Case(7, ["--proof", FULL], text, stderr="gimsatul: proof fault\n")
     yield Case(0, ["--conflicts", "1", "--proof", "proof"], pigeonhole, stdout="s UNKNOWN\n", here=["proof"])
     yield Case(0, ["--conflicts", "1", "input"], MODEL, pigeonhole, stdout="s UNKNOWN\n", here=["input"])
+    made = "c vars 20000\nc clauses 60000\n"
+    yield Case(0, ["--conflicts", "1", "--make", "7"], b"1 0\n", stdout=made + "s UNKNOWN\n")
+    accepted = "c proof accepted\n"
+    yield Case(0, ["--make", "0", "--check", "--conflicts", "1"], stdout=made + accepted + "s UNKNOWN\n")
+    yield Case(0, ["--conflicts", "9", "--check", "input"], MODEL, pigeonhole, stdout=accepted + "s UNKNOWN\n", here=["input"])
     yield Case(10, [], MODEL, stdout="s SATISFIABLE\nv -1 2 0\n")
     yield Case(20, ["input"], MODEL, REFUTED, stdout="s UNSATISFIABLE\n", here=["input"])
 
@@ -360,6 +388,7 @@ def try_itself():
     check_model(2, [[1, -2]], ["v 1 2 0"])
     must_catch("a wrong model", lambda: check_model(2, [[1, -2]], ["v -1 2 0"]))
     must_catch("a variable left out", lambda: check_model(2, [[1]], ["v 1 0"]))
+    must_catch("a check that is not told", lambda: check_answer(2, clauses, 20, "s UNSATISFIABLE\n", "", "1 0\n0\n", False, True))
     must_catch("a long line", lambda: check_model(60, [], ["v " + " ".join(str(-v) for v in range(1, 61)) + " 0"]))
 
 
@@ -402,7 +431,7 @@ def main():
             odd = rng.random() < 0.7
             text = oddly_spelled(rng, variables, clauses) if odd else spelled(variables, clauses)
             try:
-                run(program, folder, variables, clauses, satisfiable, text, rng.random() < 0.5)
+                run(program, folder, variables, clauses, satisfiable, text, rng.random() < 0.5, rng.random() < 0.5)
             except Wrong as fault:
                 wrong += 1
                 print("wrong: %s\n%s" % (fault, text.decode("ascii")))

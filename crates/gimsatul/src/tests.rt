@@ -74,7 +74,7 @@ fn are_same(found: &[u64], wanted: &[u64]) -> bool {
     found == wanted
 }
 
-/// A model is there exactly at status 10, and its text is the one that was printed. That of a made formula is not printed.
+/// A model is there exactly at status 10, and its text is the one that was printed.
 fn check_model(
     rt: &(impl Abort + AllocGlobal),
     row: &Row,
@@ -685,30 +685,20 @@ fn checked_logs(rt: HostRuntime) -> Result<(), Fail> {
     Ok(())
 }
 
-/// The formula of number 7 is the same each time, and so is what is printed of it; the model is reported alone.
+/// The formula of number 7 is made in place of an input, of which nothing is read, and is told of.
 #[test]
 fn a_formula_that_is_made(rt: HostRuntime) -> Result<(), Fail> {
-    let alloc = rt.alloc();
-    let words = words_of(alloc, &["--make", "7"])?;
-    for _run in 0..2 {
-        let spare = MemSink::new(alloc, 1 << 20, NEVER)?;
-        let mut files = MemFiles::new(alloc, &[], Vec::new(alloc), spare, FIRST);
-        let mut input = MemSource::in_pieces(NOTHING, 65536, FIRST);
-        let mut out = MemSink::new(alloc, ROOM, NEVER)?;
-        let mut err = MemSink::new(alloc, ROOM, NEVER)?;
-        let report = gimsatul(alloc, &words, &mut files, &mut input, &mut out, &mut err);
-        assert_eq!(rt; report.status, 10);
-        assert!(rt;
-            is_same(
-                out.bytes(),
-                b"c vars 20000\nc clauses 60000\nc satisfied 60000\ns SATISFIABLE\n"
-            )
-        );
-        assert_eq!(rt; report.model.map(|model| model.len()), Some(20000));
-        assert!(rt; is_same(input.left(), NOTHING));
-        assert!(rt; err.bytes().is_empty());
-    }
-    Ok(())
+    let row = Row {
+        words: &["--make", "7", "--conflicts", "1", "--proof", "P"],
+        input_fails: FIRST,
+        left: NOTHING,
+        status: 0,
+        out: b"c vars 20000\nc clauses 60000\ns UNKNOWN\n",
+        compares_proof: false,
+        learned: &[1],
+        ..PLAIN
+    };
+    check_row(&rt, row, 65536)
 }
 
 #[test]

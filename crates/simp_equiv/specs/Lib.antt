@@ -8,3 +8,4 @@ pub mod Arrows
 pub mod Leasts
 pub mod Tables
 pub mod Rewritten
+pub mod Stops

@@ -1,0 +1,12 @@
+mod Truths
+mod Elimination
+mod Multisets
+mod Within
+mod Resolving
+mod Counting
+mod Growing
+mod Stacking
+mod Removing
+mod Replacing
+mod Stepping
+mod Heights

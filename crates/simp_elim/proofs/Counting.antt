@@ -1,7 +1,7 @@
 -- Clauses found by number, and how many they are.
-use Rattle.std.proofs.Common.{◌≡◌, ◌≢◌, ℕ, zero, suc, ◌+◌, ◌<◌, ◌≤◌, Bool, true, false, not, ◌&&◌, nat_lt, nat_eq, List, [], ◌∷◌, ◌++◌, map, length, cond, sym, refl, ap, subst, ◌∙◌, inl, inr, ◌⊎◌, ⊎_elim, Contains, get_or, ne_eqb, arith, length-append}
-use Rattle.std.specs.List.{filter, sum_by, slice_index_or}
-use Rattle.std.proofs.lemmas.Bool.{cases_Bool, true≢false, eqb-true, eq-eqb, lt-ltb, le-ltb, and_parts, cases_eq}
+use Rattle.std.proofs.Common.{◌≡◌, ℕ, suc, ◌<◌, ◌≤◌, Bool, true, false, not, List, [], ◌∷◌, ◌++◌, map, length, cond, sym, refl, ap, subst, ◌∙◌, inl, inr, ◌⊎◌, ⊎_elim, Contains, get_or, ne_eqb, arith, length-append}
+use Rattle.std.specs.List.{filter, sum_by}
+use Rattle.std.proofs.lemmas.Bool.{true≢false, eq-eqb, lt-ltb, le-ltb, and_parts, cases_eq}
 use Rattle.std.proofs.lemmas.List.Sums.{sum_by-append}
 use Rattle.sat_words.specs.Literal.{Literal}
 use Rattle.sat_words.specs.Clause.{InOrder, has}
@@ -14,7 +14,7 @@ use Rattle.simp_base.proofs.Filters.{In_filter, filter_In}
 use Rattle.simp_elim.specs.Resolution.{occurs, occurrences}
 use Rattle.simp_elim.specs.Rule.{at_most}
 use Rattle.simp_elim.specs.Occurring.{clause_at, Distinct, IsOccurrence, OccursIn, Collected, AreOccurrences}
-use Rattle.simp_elim.proofs.Multisets.{sum_cons, sum_map, same_length, same_map}
+use Rattle.simp_elim.proofs.Multisets.{sum_cons, sum_map}
 
 -- The clause with a number
 

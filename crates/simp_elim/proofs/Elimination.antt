@@ -1,19 +1,17 @@
 -- Where the resolvents and the other clauses are true, the stack makes the clauses before elimination true.
-use Rattle.std.proofs.Common.{◌≡◌, ◌≢◌, ℕ, ◌≤◌, Bool, true, false, not, ◌||◌, ◌&&◌, List, [], ◌∷◌, ◌++◌, map, cond, sym, refl, ap, subst, ◌∙◌, inl, inr, ◌⊎◌}
-use Rattle.std.specs.List.{filter, flat_map, list_any}
-use Rattle.std.proofs.lemmas.Bool.{or_cases, or_left, or_right, cases_Bool, not-true, and_parts, and_from, true≢false}
+use Rattle.std.proofs.Common.{◌≡◌, ◌≢◌, ◌≤◌, Bool, true, false, not, ◌||◌, List, [], ◌∷◌, ◌++◌, map, cond, sym, refl, ap, subst, ◌∙◌, inl, inr, ◌⊎◌}
+use Rattle.std.proofs.lemmas.Bool.{or_left, or_right, cases_Bool, not-true, and_parts, and_from, true≢false}
 use Rattle.sat_words.specs.Literal.{Literal, opposite, same}
-use Rattle.sat_words.specs.Clause.{has, has_opposites, clause_of}
+use Rattle.sat_words.specs.Clause.{has, has_opposites}
 use Rattle.sat_words.specs.Truth.{lit_true, clause_true, formula_true}
-use Rattle.sat_words.proofs.Members.{same-refl, same-true, opposite-opposite, clause_true_alike}
+use Rattle.sat_words.proofs.Members.{same-refl, opposite-opposite}
 use Rattle.sat_words.proofs.Insertion.{has-clause_of}
-use Rattle.rup_model.proofs.Lists.{In, any_In, In_any, all_In, In_all, none_In, has_In, In_has, In_append, In_append_left, In_append_right, In_map}
-use Rattle.model_stack.specs.declared.stack.Fix.{Fix}
+use Rattle.rup_model.proofs.Lists.{In, any_In, In_any, all_In, In_all, none_In, has_In, In_has, In_append}
 use Rattle.model_stack.specs.Extend.{made_true, mended, extend, Lifts}
 use Rattle.model_stack.proofs.Walk.{extend-append}
-use Rattle.simp_base.proofs.Filters.{In_filter, filter_In}
-use Rattle.simp_elim.specs.Resolution.{occurs, occurrences, mentions, unmentioned, without, resolved, is_proper, resolved_with, resolvents, resolvents_on, eliminated, fix_of, fixes_of}
-use Rattle.simp_elim.proofs.Truths.{Agree, agree_made_true, true_made_true, lit_true-opposite, lit_cases, Apart, apart_has, true_apart, true_opposites, true_has, In_flat}
+use Rattle.simp_base.proofs.Filters.{filter_In}
+use Rattle.simp_elim.specs.Resolution.{occurs, mentions, without, resolved, fix_of}
+use Rattle.simp_elim.proofs.Truths.{Agree, agree_made_true, true_made_true, lit_cases, Apart, apart_has, true_apart, true_opposites, true_has}
 
 -- what the entries of the clauses with the literal do: nothing, as all are true, or the literal is made true, as one is false
 data Walked (x : Literal) (P : List (List Literal)) (a : List Bool) (b : List Bool) : Type 0 where

@@ -4,7 +4,7 @@ use Rattle.std.specs.List.{Contains, list_any, All}
 use Rattle.std.specs.Prelude.{Result, Ok, Err}
 use Rattle.std.proofs.lemmas.Bool.{true≢false, or_left}
 use Rattle.sat_words.specs.Literal.{Literal, IsOn, same}
-use Rattle.sat_words.specs.Clause.{has, is_empty, clause_of, InOrder}
+use Rattle.sat_words.specs.Clause.{has, is_empty, InOrder}
 use Rattle.sat_words.specs.declared.line.Line.TheVariants.{Add as AddLine}
 use Rattle.sat_words.proofs.Insertion.{clause_of_in_order}
 use Rattle.sat_words.proofs.Members.{same-refl, same-true}

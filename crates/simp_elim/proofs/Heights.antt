@@ -1,5 +1,5 @@
 -- The highest variable.
-use Rattle.std.proofs.Common.{◌≡◌, ℕ, ◌+◌, ◌<◌, ◌≤◌, ◌++◌, List, [], ◌∷◌, length, take, get_or, sym, subst, ◌⊎◌, ⊎_elim, inl, inr, arith}
+use Rattle.std.proofs.Common.{◌≡◌, ℕ, ◌+◌, ◌<◌, ◌≤◌, ◌++◌, List, [], ◌∷◌, length, take, get_or, sym, subst, ⊎_elim, inl, inr, arith}
 use Rattle.std.specs.List.{All}
 use Rattle.sat_words.specs.Literal.{Literal, IsOn}
 use Rattle.rup_model.proofs.Lists.{In, In_append, map_In}

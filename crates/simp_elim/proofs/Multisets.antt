@@ -1,14 +1,14 @@
 -- What is made of a list goes by its elements alone, in any order.
-use Rattle.std.proofs.Common.{◌≡◌, ℕ, zero, suc, ◌+◌, ◌<◌, Bool, true, false, not, ◌||◌, ◌&&◌, List, [], ◌∷◌, ◌++◌, map, length, cond, nat_lt, nat_eq, sym, refl, ap, subst, ◌∙◌, arith}
-use Rattle.std.specs.List.{sum_by, count_by, list_any, list_all, filter, flat_map, fold, range_with_len}
+use Rattle.std.proofs.Common.{◌≡◌, ℕ, ◌+◌, Bool, true, false, not, ◌||◌, ◌&&◌, List, [], ◌∷◌, ◌++◌, map, length, cond, nat_lt, sym, refl, ap, subst, ◌∙◌, arith}
+use Rattle.std.specs.List.{sum_by, list_any, list_all, filter, flat_map}
 use Rattle.std.proofs.lemmas.Bool.{lt-ltb}
 use Rattle.std.proofs.lemmas.List.Sums.{sum_by-append}
 use Rattle.sat_words.specs.Literal.{Literal, opposite}
-use Rattle.sat_words.specs.Clause.{has, has_opposites}
+use Rattle.sat_words.specs.Clause.{has}
 use Rattle.simp_base.specs.WorkState.{is_only}
 use Rattle.simp_base.specs.Multisets.{SameMultiset}
 use Rattle.simp_elim.specs.Resolution.{positive, negative, occurs, occurrences, mentions, unmentioned, resolved, is_proper, resolved_with, resolvents, resolvents_on, eliminated}
-use Rattle.simp_elim.specs.Rule.{at_most, is_unit_among, has_unit_among, is_bounded, is_passed, goes, eliminate_one}
+use Rattle.simp_elim.specs.Rule.{at_most, has_unit_among, is_bounded, goes, eliminate_one}
 
 pub sum_cons : {X : Type 0} (f : X → ℕ) (x : X) (xs : List X) → sum_by f (x ∷ xs) ≡ f x + sum_by f xs
 sum_cons f x xs = let e : sum_by f ((x ∷ []) ++ xs) ≡ (0 + f x) + sum_by f xs = sum_by-append f (x ∷ []) xs in omega (arith, e)

@@ -1,16 +1,15 @@
 -- Clauses with a variable are deleted.
-use Rattle.std.proofs.Common.{◌≡◌, ℕ, ◌+◌, ◌<◌, Bool, true, false, List, [], ◌∷◌, ◌++◌, map, take, get_or, length, refl, sym, ap, subst, ◌∙◌, inl, inr, ⊎_elim, append_assoc, append-nil, arith}
-use Rattle.std.specs.List.{Contains, list_all, sum_by}
+use Rattle.std.proofs.Common.{◌≡◌, ℕ, ◌+◌, ◌<◌, true, false, List, [], ◌∷◌, ◌++◌, take, get_or, length, refl, sym, ap, subst, ◌∙◌, inl, inr, ⊎_elim, append_assoc, arith}
+use Rattle.std.specs.List.{Contains, sum_by}
 use Rattle.std.specs.Prelude.{Result, Ok, Err}
 use Rattle.std.proofs.lemmas.Bool.{true≢false, and_from}
 use Rattle.std.proofs.lemmas.List.Folds.{list_all-append}
 use Rattle.std.proofs.lemmas.List.Sums.{sum_by-append}
 use Rattle.sat_words.specs.Literal.{Literal}
 use Rattle.sat_words.specs.declared.line.Line.TheVariants.{Del as DelLine}
-use Rattle.rup_model.proofs.Lists.{In, In_Contains, Contains_In}
+use Rattle.rup_model.proofs.Lists.{In_Contains, Contains_In}
 use Rattle.drat_text.specs.LineState.{LineState}
 use Rattle.drat_text.specs.declared.stop.LineStop.{LineStop}
-use Rattle.simp_base.specs.Multisets.{SameMultiset}
 use Rattle.simp_base.specs.WorkState.{WorkState, IsWork, lists}
 use Rattle.simp_base.specs.Calls.{Deleted, WasDeleted}
 use Rattle.simp_base.specs.Log.{KeepsLog}
@@ -18,7 +17,7 @@ use Rattle.simp_base.proofs.Known.{first_or_rest}
 use Rattle.simp_base.proofs.Removal.{same_number}
 use Rattle.simp_base.proofs.Stopping.{not_put_cause}
 use Rattle.simp_elim.specs.Resolution.{mentions}
-use Rattle.simp_elim.specs.Stages.{GoesOn, AreLong, Removing, Removed, WasRemoved}
+use Rattle.simp_elim.specs.Stages.{Removing, Removed, WasRemoved}
 use Rattle.simp_elim.proofs.Growing.{goes_self, goes_along}
 use Rattle.simp_elim.proofs.Multisets.{sum_cons, same_map}
 use Rattle.simp_elim.proofs.Within.{take_next}

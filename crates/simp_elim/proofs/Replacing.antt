@@ -1,17 +1,15 @@
 -- The clauses with a variable are replaced by their resolvents.
-use Rattle.std.proofs.Common.{◌≡◌, ◌≢◌, ℕ, ◌+◌, Bool, true, false, not, ◌||◌, ◌&&◌, List, [], ◌∷◌, ◌++◌, map, cond, refl, sym, ap, subst, ◌∙◌, inl, inr, ◌⊎◌, ⊎_elim, append_assoc, append-nil, arith}
-use Rattle.std.specs.List.{Contains, filter, flat_map, list_any, list_all, sum_by, All}
+use Rattle.std.proofs.Common.{◌≡◌, ℕ, Bool, true, false, not, List, [], ◌∷◌, ◌++◌, map, cond, refl, sym, ap, subst, ◌∙◌, inl, inr, ◌⊎◌, ⊎_elim, append-nil, arith}
+use Rattle.std.specs.List.{Contains, filter, sum_by}
 use Rattle.std.specs.Prelude.{Result, Ok, Err}
-use Rattle.std.proofs.lemmas.Bool.{cases_Bool, true≢false, not-true, and_from, and_parts, or_left, or_right, or_cases}
-use Rattle.sat_words.specs.Literal.{Literal, IsOn, opposite, same}
-use Rattle.sat_words.specs.Clause.{has, has_opposites, is_empty, two_or_more, InOrder}
-use Rattle.sat_words.proofs.Members.{same-refl, same-true, opposite-opposite}
+use Rattle.std.proofs.lemmas.Bool.{cases_Bool, true≢false, not-true, or_left, or_right, or_cases}
+use Rattle.sat_words.specs.Literal.{Literal, IsOn, opposite}
+use Rattle.sat_words.specs.Clause.{has, has_opposites, two_or_more, InOrder}
+use Rattle.sat_words.proofs.Members.{same-refl}
 use Rattle.sat_words.proofs.Insertion.{InOrder-clause_of}
 use Rattle.model_stack.specs.declared.stack.Fix.{Fix}
 use Rattle.drat_text.specs.declared.stop.LineStop.{LineStop}
-use Rattle.model_stack.specs.Extend.{Lifts}
-use Rattle.rup_model.specs.Rup.{rup}
-use Rattle.rup_model.proofs.Lists.{In, any_In, In_any, In_all, all_In, In_map, map_In, In_has, has_In, In_append, In_append_left, In_append_right, Contains_In, In_Contains}
+use Rattle.rup_model.proofs.Lists.{In, any_In, In_any, all_In, In_map, map_In, In_has, has_In, In_append, In_append_left, In_append_right, Contains_In, In_Contains}
 use Rattle.simp_base.specs.Multisets.{SameMultiset}
 use Rattle.simp_base.specs.Lifted.{Lifted}
 use Rattle.simp_base.specs.WorkState.{WorkState, IsWork, lists, known, is_only, is_unit, is_alive_unit}
@@ -21,15 +19,15 @@ use Rattle.simp_base.proofs.Known.{known_alive, on_alive}
 use Rattle.simp_base.proofs.Lists.{In_All, Contains_left}
 use Rattle.simp_base.proofs.Long.{two_if_long}
 use Rattle.simp_base.proofs.Removal.{same_number}
-use Rattle.simp_elim.specs.Resolution.{occurs, occurrences, mentions, unmentioned, without, resolved, is_proper, resolved_with, resolvents, fixes_of}
-use Rattle.simp_elim.specs.Occurring.{clause_at, IsOccurrence, OccursIn, AreOccurrences}
+use Rattle.simp_elim.specs.Resolution.{occurs, mentions, unmentioned, without, resolved, is_proper, resolved_with, fixes_of}
+use Rattle.simp_elim.specs.Occurring.{clause_at, OccursIn, AreOccurrences}
 use Rattle.simp_elim.specs.Ends.{ListsUnits}
 use Rattle.simp_elim.specs.Stages.{GoesOn, CanCome, Grown, Stacked, AreLong, Removing, Removed, WasRemoved, IsReplaceable, Replaced, WasReplaced}
 use Rattle.simp_elim.proofs.Truths.{flat_In, In_flat}
 use Rattle.simp_elim.proofs.Elimination.{occurs_parts, resolved_apart, Resolves, lifts_elimination}
 use Rattle.simp_elim.proofs.Multisets.{same_filter}
 use Rattle.simp_elim.proofs.Resolving.{resolvent_follows, resolved_some}
-use Rattle.simp_elim.proofs.Counting.{at_is, at_there, found_at}
+use Rattle.simp_elim.proofs.Counting.{at_is}
 use Rattle.simp_elim.proofs.Growing.{goes_along, stopped_after, known_by, unit_known, unit_alive, alive_unit, map_append, grown_stay}
 
 -- Filters

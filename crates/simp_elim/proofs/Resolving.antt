@@ -1,18 +1,17 @@
 -- Resolvents follow, and what their literals are.
-use Rattle.std.proofs.Common.{◌≡◌, ◌≢◌, ℕ, ◌<◌, ◌≤◌, Bool, true, false, not, ◌||◌, ◌&&◌, List, [], ◌∷◌, ◌++◌, map, length, sym, refl, ap, subst, ◌∙◌, inl, inr, ◌⊎◌, arith}
-use Rattle.std.specs.List.{filter, list_any, list_all}
-use Rattle.std.proofs.lemmas.Bool.{cases_Bool, true≢false, not-true, and_parts, and_from, or_left, or_right}
+use Rattle.std.proofs.Common.{◌≡◌, Bool, true, false, not, ◌&&◌, List, [], ◌∷◌, ◌++◌, sym, refl, ap, subst, ◌∙◌, inl, inr, ◌⊎◌}
+use Rattle.std.specs.List.{list_any, list_all}
+use Rattle.std.proofs.lemmas.Bool.{cases_Bool, true≢false, not-true, and_parts, and_from}
 use Rattle.sat_words.specs.Literal.{Literal, opposite, same}
-use Rattle.sat_words.specs.Clause.{has, has_opposites, is_empty, two_or_more, clause_of}
+use Rattle.sat_words.specs.Clause.{has, has_opposites, is_empty, two_or_more}
 use Rattle.sat_words.proofs.Members.{same-true, same-refl, opposite-opposite}
 use Rattle.sat_words.proofs.Insertion.{has-clause_of}
 use Rattle.rup_model.specs.Rup.{rup}
-use Rattle.rup_model.specs.Quiet.{IsQuiet}
-use Rattle.rup_model.proofs.Lists.{In, In_has, has_In, In_any, any_In, none_In, In_all, In_append, In_append_left, In_append_right}
+use Rattle.rup_model.proofs.Lists.{In, In_has, has_In, In_any, any_In, none_In, In_append, In_append_left, In_append_right}
 use Rattle.rup_model.proofs.Quietly.{follows_unless, quiet_open, quiet_closed}
 use Rattle.simp_base.proofs.Filters.{In_filter, filter_In}
 use Rattle.simp_elim.specs.Resolution.{occurs, without, resolved, clashes}
-use Rattle.simp_elim.proofs.Elimination.{occurs_parts, resolved_apart}
+use Rattle.simp_elim.proofs.Elimination.{occurs_parts}
 
 -- a resolvent is RUP
 pub resolvent_follows : (x : Literal) (G : List (List Literal)) (c d : List Literal) → In c G → In d G → has c x ≡ true → rup G (resolved x c d) ≡ true

@@ -1,18 +1,17 @@
 -- Entries come to the stack.
-use Rattle.std.proofs.Common.{◌≡◌, ℕ, ◌<◌, ◌+◌, ◌++◌, List, [], ◌∷◌, map, take, get_or, length, refl, sym, ap, subst, ◌∙◌, append_assoc, append-nil}
-use Rattle.std.specs.List.{Contains}
+use Rattle.std.proofs.Common.{◌≡◌, ℕ, ◌<◌, ◌+◌, ◌++◌, List, [], ◌∷◌, map, take, get_or, length, sym, ap, subst, ◌∙◌, append_assoc, append-nil}
 use Rattle.std.specs.Prelude.{Result, Ok, Err, OnOk, IfErr}
 use Rattle.model_stack.specs.declared.stack.Fix.{Fix}
 use Rattle.drat_text.specs.declared.stop.LineStop.{LineStop}
 use Rattle.drat_text.specs.declared.stop.LineStop.TheVariants.{Memory}
-use Rattle.sat_words.specs.Literal.{Literal, opposite}
+use Rattle.sat_words.specs.Literal.{Literal}
 use Rattle.simp_base.specs.WorkState.{WorkState, IsWork}
 use Rattle.simp_base.specs.Log.{KeepsLog}
 use Rattle.simp_base.proofs.Known.{nothing_logged}
 use Rattle.simp_base.proofs.LiftSteps.{logs_along}
 use Rattle.simp_elim.specs.Resolution.{fix_of}
 use Rattle.simp_elim.specs.Occurring.{clause_at}
-use Rattle.simp_elim.specs.Stages.{GoesOn, Stacked, WasStacked}
+use Rattle.simp_elim.specs.Stages.{Stacked, WasStacked}
 use Rattle.simp_elim.proofs.Growing.{map_append}
 use Rattle.simp_elim.proofs.Within.{take_next}
 

@@ -1,28 +1,28 @@
 -- One variable, and one after another.
-use Rattle.std.proofs.Common.{◌≡◌, ◌≢◌, ℕ, zero, suc, ◌+◌, ◌<◌, ◌≤◌, Bool, true, false, not, ◌||◌, ◌&&◌, List, [], ◌∷◌, ◌++◌, ◌-◌, map, length, cond, refl, sym, ap, subst, ◌∙◌, inl, inr, ◌⊎◌, ⊎_elim, append-nil, append_assoc, arith}
-use Rattle.std.specs.List.{Contains, filter, flat_map, list_any, list_all, All}
+use Rattle.std.proofs.Common.{◌≡◌, ℕ, zero, suc, ◌+◌, ◌<◌, ◌≤◌, Bool, true, false, not, ◌||◌, ◌&&◌, List, [], ◌∷◌, ◌++◌, ◌-◌, map, length, cond, refl, sym, ap, subst, ◌∙◌, inl, inr, ◌⊎◌, ⊎_elim, append-nil, append_assoc, arith}
+use Rattle.std.specs.List.{Contains, list_any, list_all, All}
 use Rattle.std.specs.Prelude.{Result, Ok, Err}
-use Rattle.std.proofs.lemmas.Bool.{cases_Bool, true≢false, not-true, and_from, and_parts, or_left, or_right, or_cases, cases_lt}
-use Rattle.sat_words.specs.Literal.{Literal, IsOn, opposite, same}
-use Rattle.sat_words.specs.Clause.{has, has_opposites}
+use Rattle.std.proofs.lemmas.Bool.{true≢false, and_from, and_parts, or_left, or_right, or_cases, cases_lt}
+use Rattle.sat_words.specs.Literal.{Literal, IsOn, opposite}
+use Rattle.sat_words.specs.Clause.{has}
 use Rattle.model_stack.specs.declared.stack.Fix.{Fix}
 use Rattle.rup_model.proofs.Lists.{In, any_In, In_any, In_map, map_In, has_In, In_append, Contains_In, In_Contains}
 use Rattle.drat_text.specs.declared.stop.LineStop.{LineStop}
 use Rattle.simp_base.specs.Multisets.{SameMultiset}
 use Rattle.simp_base.specs.Lifted.{Lifted}
-use Rattle.simp_base.specs.WorkState.{WorkState, IsWork, lists, known, is_only, is_unit, has_unit, is_alive_unit}
+use Rattle.simp_base.specs.WorkState.{WorkState, IsWork, lists, known, is_alive_unit}
 use Rattle.simp_base.proofs.Filters.{filter_In}
 use Rattle.model_stack.proofs.Walk.{lifts_along}
-use Rattle.simp_base.proofs.Lists.{All_In, In_All}
-use Rattle.simp_elim.specs.Resolution.{positive, negative, occurs, occurrences, mentions, unmentioned, resolved, is_proper, resolved_with, resolvents, resolvents_on, eliminated, fixes_of}
-use Rattle.simp_elim.specs.Rule.{at_most, is_unit_among, has_unit_among, is_bounded, is_passed, goes, eliminate_one, eliminate, AreFixesOf, IsTaken, AreTaken}
+use Rattle.simp_base.proofs.Lists.{All_In}
+use Rattle.simp_elim.specs.Resolution.{positive, negative, occurs, occurrences, mentions, unmentioned, resolved, is_proper, resolved_with, resolvents, resolvents_on, eliminated}
+use Rattle.simp_elim.specs.Rule.{at_most, is_unit_among, has_unit_among, is_bounded, is_passed, goes, eliminate_one, eliminate, IsTaken}
 use Rattle.simp_elim.specs.Bounds.{within}
 use Rattle.simp_elim.specs.Occurring.{clause_at, AreOccurrences}
 use Rattle.simp_elim.specs.Ends.{ListsUnits, Eliminated}
-use Rattle.simp_elim.specs.Stages.{GoesOn, Stops, IsReplaceable, Replaced, WasReplaced, Stepped, WasStepped, Passed, IsHighest}
+use Rattle.simp_elim.specs.Stages.{Stops, Replaced, WasReplaced, Stepped, WasStepped, Passed, IsHighest}
 use Rattle.simp_elim.proofs.Truths.{flat_In}
 use Rattle.simp_elim.proofs.Elimination.{occurs_parts, resolved_parts}
-use Rattle.simp_elim.proofs.Multisets.{same_refl, same_sym, same_trans, same_append, same_filter, same_length, same_all, same_any, same_resolvents, same_goes, same_eliminate_one}
+use Rattle.simp_elim.proofs.Multisets.{same_refl, same_trans, same_append, same_filter, same_length, same_all, same_resolvents, same_goes, same_eliminate_one}
 use Rattle.simp_elim.proofs.Counting.{occurrences_found}
 use Rattle.simp_elim.proofs.Growing.{goes_self, goes_along, stopped_after}
 

@@ -1,5 +1,5 @@
 -- Bounds on more and more resolvents.
-use Rattle.std.proofs.Common.{◌≡◌, ℕ, ◌+◌, ◌<◌, ◌≤◌, Bool, true, false, not, ◌&&◌, nat_lt, List, [], ◌∷◌, ◌++◌, length, take, drop, get_or, cond, zero, suc, ◌⊎◌, sym, refl, ap, subst, ◌∙◌, inl, inr, arith, length-append, append_assoc, append-nil, map, add-one}
+use Rattle.std.proofs.Common.{◌≡◌, ℕ, ◌+◌, ◌<◌, ◌≤◌, Bool, true, false, not, List, [], ◌∷◌, ◌++◌, length, take, drop, get_or, cond, zero, suc, ◌⊎◌, sym, refl, ap, subst, ◌∙◌, inl, inr, arith, length-append, append_assoc, append-nil, map, add-one}
 use Rattle.std.specs.List.{list_all}
 use Rattle.std.proofs.lemmas.Bool.{cases_Bool, and_parts, and_from, true≢false, not-true, ltb-false, le-ltb}
 use Rattle.std.proofs.lemmas.List.Folds.{list_all-append}

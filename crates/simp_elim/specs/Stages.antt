@@ -1,5 +1,5 @@
 -- What the additions, the entries of the stack and the deletions of one variable do, and what all of them do.
-use Rattle.std.specs.Prelude.{◌≡◌, ◌⊎◌, ⊤, ℕ, ◌≤◌, ◌^◌, true, false, List, [], ◌∷◌, ◌++◌, map, All, Contains, Result, Ok, Err}
+use Rattle.std.specs.Prelude.{◌≡◌, ◌⊎◌, ⊤, ℕ, ◌≤◌, ◌^◌, true, false, List, ◌++◌, map, All, Contains, Result, Ok, Err}
 use Rattle.std.specs.List.{list_any, list_all}
 use Rattle.sat_words.specs.Literal.{Literal, IsOn, opposite}
 use Rattle.sat_words.specs.Clause.{has, has_opposites, is_empty, two_or_more, InOrder}
@@ -7,7 +7,7 @@ use Rattle.rup_model.specs.Rup.{rup}
 use Rattle.model_stack.specs.declared.stack.Fix.{Fix}
 use Rattle.drat_text.specs.declared.stop.LineStop.{LineStop}
 use Rattle.drat_text.specs.declared.stop.LineStop.TheVariants.{Memory}
-use Rattle.simp_base.specs.WorkState.{WorkState, IsWork, lists, known, is_only, is_unit, is_alive_unit}
+use Rattle.simp_base.specs.WorkState.{WorkState, IsWork, lists, known, is_only, is_unit}
 use Rattle.simp_base.specs.Causes.{HasCause}
 use Rattle.simp_base.specs.Lifted.{Lifted}
 use Rattle.simp_base.specs.Log.{KeepsLog}

@@ -1,12 +1,13 @@
 ghost use Rattle.std.specs.Prelude.{◌≡◌, ◌≤◌, true, All};
 ghost use Rattle.sat_words.specs.Literal.{IsOn};
+ghost use Rattle.simp_base.specs.WorkState.{IsWork};
 
 use crate::run;
 use drat_text::{CountedLines, LineStop, SinkLines};
 use io_edge::MemSink;
-use sat_words::{Clause, Formula, Lit};
+use sat_words::{Assignment, Clause, Formula, Lit};
 use simp_base::{Run, Work};
-use std::alloc::Global;
+use std::alloc::{AllocError, Global};
 use std::process::Abort;
 use std::test::Fail;
 
@@ -131,5 +132,33 @@ fn a_line_that_fails(rt: HostRuntime) -> Result<(), Fail> {
     let mut work = work;
     assert!(rt; run(&mut work) == Err(LineStop::ProofFault));
     assert_eq!(rt; work.into_parts().clauses.len(), 2);
+    Ok(())
+}
+
+/// The assignment that is false everywhere, mended by the stack.
+fn mended(alloc: Global, work: Work<CountedLines>) -> Result<Assignment, AllocError>
+    requires { IsWork work }
+{
+    let mut model = Assignment::new(alloc, work.vars())?;
+    let parts = work.into_parts();
+    parts.stack.extend(&mut model);
+    Ok(model)
+}
+
+#[test]
+fn a_model_comes_back(rt: HostRuntime) -> Result<(), Fail> {
+    let alloc = rt.alloc();
+    let formula = formula_of(alloc, &[1, 2, 0, 1, 4, 0, -1, 3, 0])?;
+    assert!(rt; is_on(&formula));
+    let lines = CountedLines::new(formula.clauses().len() as u64, 0);
+    let Ok(work) = Work::new(alloc, &formula, lines) else {
+        return Err("no memory".into());
+    };
+    let mut work = work;
+    assert!(rt; run(&mut work) == Ok(Run::Done));
+    let model = mended(alloc, work)?;
+    for (var, value) in [(1, true), (2, false), (3, true), (4, false)] {
+        assert_eq!(rt; model.value(var), value);
+    }
     Ok(())
 }

@@ -1,4 +1,4 @@
-use Rattle.std.proofs.Common.{◌≡◌, ◌≤◌, ◌<◌, List, [], ◌∷◌, ◌++◌, ℕ, false, length, get_or, refl, sym, ap, subst, arith, Contains}
+use Rattle.std.proofs.Common.{◌≡◌, ◌≤◌, ◌<◌, List, [], ◌∷◌, ℕ, false, length, get_or, refl, sym, ap, subst, arith, Contains}
 use Rattle.sat_words.specs.Literal.{Literal}
 use Rattle.simp_base.proofs.Known.{known_alive}
 use Rattle.simp_base.proofs.Lists.{Contains_last}

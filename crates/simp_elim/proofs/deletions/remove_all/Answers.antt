@@ -1,4 +1,4 @@
-use Rattle.std.proofs.Common.{◌≡◌, ℕ, List, [], ◌∷◌, get_or, subst, Contains, ⊎_elim}
+use Rattle.std.proofs.Common.{◌≡◌, ℕ, [], ◌∷◌, get_or, subst, Contains, ⊎_elim}
 use Rattle.rup_model.proofs.Lists.{Contains_In}
 use Rattle.simp_base.proofs.Known.{first_or_rest}
 use Rattle.simp_elim.specs.Stages.{WasRemoved}

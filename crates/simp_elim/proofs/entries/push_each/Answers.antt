@@ -1,5 +1,4 @@
-use Rattle.std.proofs.Common.{◌≡◌, ℕ, List, [], ◌∷◌, get_or, sym, ap, subst, Contains, ⊎_elim}
-use Rattle.sat_words.specs.Literal.{Literal}
+use Rattle.std.proofs.Common.{◌≡◌, ℕ, [], ◌∷◌, get_or, sym, subst, Contains, ⊎_elim}
 use Rattle.rup_model.proofs.Lists.{Contains_In}
 use Rattle.simp_base.specs.WorkState.{WorkState}
 use Rattle.simp_base.proofs.Known.{first_or_rest}

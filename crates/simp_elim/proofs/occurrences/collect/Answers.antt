@@ -1,4 +1,4 @@
-use Rattle.std.proofs.Common.{◌≡◌, ◌∙◌, ◌<◌, ◌≤◌, ℕ, List, Bool, true, false, length, sym, ap, subst, Contains, arith}
+use Rattle.std.proofs.Common.{ℕ, List, sym, subst, Contains, arith}
 use Rattle.simp_elim.specs.Occurring.{IsOccurrence}
 use Rattle.simp_elim.proofs.Counting.{collected_not, collected_before, collected_more, collected_too_many}
 use Rattle.simp_elim.proofs.occurrences.collect.Goals as goal

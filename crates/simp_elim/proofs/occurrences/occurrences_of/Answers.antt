@@ -1,4 +1,4 @@
-use Rattle.std.proofs.Common.{◌≡◌, ◌∷◌, [], ℕ, List, Bool, get_or, sym, subst, take, length, Contains}
+use Rattle.std.proofs.Common.{ℕ, List, Bool, get_or, sym, subst, take}
 use Rattle.simp_elim.specs.Occurring.{IsCollected, Collected}
 use Rattle.simp_elim.proofs.Counting.{collected_all}
 use Rattle.simp_elim.proofs.Within.{take_next, take_whole}

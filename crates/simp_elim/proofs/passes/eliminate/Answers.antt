@@ -1,8 +1,8 @@
-use Rattle.std.proofs.Common.{◌≡◌, ◌∙◌, ◌<◌, ◌+◌, ℕ, List, sym, ap, subst, true, false, length, Option, None, Some, Vec, Global, arith, map, [], ◌++◌, zero, suc, refl}
+use Rattle.std.proofs.Common.{◌≡◌, ◌∙◌, ◌<◌, ◌+◌, ℕ, List, sym, ap, subst, true, false, length, Option, None, Some, Vec, Global, arith, map, [], zero, suc, refl}
 use Rattle.std.specs.Prelude.{MatchOption}
 use Rattle.std.proofs.lemmas.Bool.{or_parts}
 use Rattle.sat_words.specs.Literal.{Literal, opposite}
-use Rattle.simp_base.specs.WorkState.{WorkState, lists, has_unit, is_unit}
+use Rattle.simp_base.specs.WorkState.{WorkState, lists, is_unit}
 use Rattle.simp_elim.specs.Resolution.{positive, negative, occurrences, resolvents}
 use Rattle.simp_elim.specs.Rule.{at_most}
 use Rattle.simp_elim.specs.Bounds.{within, Extends}

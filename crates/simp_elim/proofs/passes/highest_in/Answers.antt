@@ -1,4 +1,4 @@
-use Rattle.std.proofs.Common.{◌≡◌, ◌∙◌, ◌≤◌, ℕ, List, sym, subst, take, arith}
+use Rattle.std.proofs.Common.{◌∙◌, List, sym, subst, arith}
 use Rattle.std.specs.List.{All}
 use Rattle.sat_words.specs.Literal.{Literal, IsOn}
 use Rattle.simp_elim.proofs.Heights.{wider, all_next}

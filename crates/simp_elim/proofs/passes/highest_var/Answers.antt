@@ -1,4 +1,4 @@
-use Rattle.std.proofs.Common.{◌≡◌, ◌∙◌, ◌≤◌, ◌<◌, ℕ, List, length, get_or, sym, ap, subst, take}
+use Rattle.std.proofs.Common.{◌≡◌, ◌∙◌, ◌≤◌, ◌<◌, ℕ, List, length, get_or, sym, ap, subst}
 use Rattle.std.specs.List.{All}
 use Rattle.sat_words.specs.Literal.{Literal, IsOn}
 use Rattle.simp_base.proofs.Known.{on_alive}

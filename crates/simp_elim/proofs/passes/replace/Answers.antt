@@ -1,6 +1,3 @@
-use Rattle.std.proofs.Common.{◌≡◌, subst}
-use Rattle.simp_elim.specs.Resolution.{fixes_of}
-use Rattle.simp_elim.specs.Stages.{WasStacked, WasRemoved}
 use Rattle.simp_elim.proofs.Growing.{stopped_after, stopped_by_memory}
 use Rattle.simp_elim.proofs.Replacing.{made_comes, first_in, first_long, second_long, goes_b, was_replaced}
 use Rattle.simp_elim.proofs.passes.replace.Goals as goal

@@ -1,5 +1,5 @@
-use Rattle.std.proofs.Common.{◌≡◌, ◌+◌, ◌-◌, ◌≤◌, ℕ, subst, sym, arith}
-use Rattle.simp_elim.specs.Stages.{Passed, WasStepped}
+use Rattle.std.proofs.Common.{◌≡◌, ◌+◌, ◌-◌, subst, arith}
+use Rattle.simp_elim.specs.Stages.{Passed}
 use Rattle.simp_elim.proofs.Stepping.{passed_none, passed_next, stopped_passing, ends_done}
 use Rattle.simp_elim.proofs.passes.run.Goals as goal
 

@@ -1,5 +1,5 @@
-use Rattle.std.proofs.Common.{◌≡◌, ◌∙◌, ◌∷◌, [], ℕ, Bool, true, List, sym, ap, subst, get_or, map, Contains}
-use Rattle.sat_words.specs.Literal.{Literal, opposite}
+use Rattle.std.proofs.Common.{◌∙◌, ◌∷◌, [], ℕ, Bool, true, sym, ap, subst, get_or}
+use Rattle.sat_words.specs.Literal.{opposite}
 use Rattle.simp_elim.specs.Resolution.{occurs, resolved_with}
 use Rattle.simp_elim.specs.Bounds.{Extends}
 use Rattle.simp_elim.specs.Occurring.{clause_at}

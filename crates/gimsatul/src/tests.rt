@@ -685,20 +685,31 @@ fn checked_logs(rt: HostRuntime) -> Result<(), Fail> {
     Ok(())
 }
 
-/// The formula of number 7 is made in place of an input, of which nothing is read, and is told of.
+/// The formula of number 7 is made in place of an input, of which nothing is read. What is printed of it is the same each time,
+/// and its model is reported alone.
 #[test]
 fn a_formula_that_is_made(rt: HostRuntime) -> Result<(), Fail> {
-    let row = Row {
-        words: &["--make", "7", "--conflicts", "1", "--proof", "P"],
-        input_fails: FIRST,
-        left: NOTHING,
-        status: 0,
-        out: b"c vars 20000\nc clauses 60000\ns UNKNOWN\n",
-        compares_proof: false,
-        learned: &[1],
-        ..PLAIN
-    };
-    check_row(&rt, row, 65536)
+    let alloc = rt.alloc();
+    let words = words_of(alloc, &["--make", "7"])?;
+    for _run in 0..2 {
+        let spare = MemSink::new(alloc, 1 << 20, NEVER)?;
+        let mut files = MemFiles::new(alloc, &[], Vec::new(alloc), spare, FIRST);
+        let mut input = MemSource::in_pieces(NOTHING, 65536, FIRST);
+        let mut out = MemSink::new(alloc, ROOM, NEVER)?;
+        let mut err = MemSink::new(alloc, ROOM, NEVER)?;
+        let report = gimsatul(alloc, &words, &mut files, &mut input, &mut out, &mut err);
+        assert_eq!(rt; report.status, 10);
+        assert!(rt;
+            is_same(
+                out.bytes(),
+                b"c vars 20000\nc clauses 60000\nc satisfied 60000\ns SATISFIABLE\n"
+            )
+        );
+        assert_eq!(rt; report.model.map(|model| model.len()), Some(20000));
+        assert!(rt; is_same(input.left(), NOTHING));
+        assert!(rt; err.bytes().is_empty());
+    }
+    Ok(())
 }
 
 #[test]

@@ -649,7 +649,7 @@ fn checked_logs(rt: HostRuntime) -> Result<(), Fail> {
             input: b"p cnf 2 4\n1 2 0\n1 -2 0\n-1 2 0\n-1 -2 0\n",
             status: 20,
             out: b"c proof accepted\ns UNSATISFIABLE\n",
-            proof: Some(b"1 0\n0\n"),
+            proof: Some(b"2 0\n0\n"),
             learned: &[1],
             ..PLAIN
         },
@@ -675,7 +675,7 @@ fn checked_logs(rt: HostRuntime) -> Result<(), Fail> {
             status: 20,
             out: b"c proof accepted\ns UNSATISFIABLE\n",
             compares_proof: false,
-            learned: &[49],
+            learned: &[141],
             ..PLAIN
         },
     ];

@@ -265,7 +265,7 @@ class Case:
         self.stdout, self.stderr, self.out, self.here = stdout, stderr, out, set(here)
 
 
-MODEL = b"p cnf 2 1\n1 2 0\n"
+MODEL = b"p cnf 2 2\n-1 0\n1 2 0\n"
 REFUTED = b"p cnf 1 2\n1 0\n-1 0\n"
 FULL = "/dev/full"
 

@@ -6,3 +6,4 @@ pub mod Lifted
 pub mod Removed
 pub mod Multisets
 pub mod Tables
+pub mod Parts

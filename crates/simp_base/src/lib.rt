@@ -8,6 +8,7 @@ mod beginning;
 mod clause_table;
 mod laws;
 mod occurrences;
+mod part;
 mod tautology;
 mod unit_table;
 mod work;
@@ -17,6 +18,7 @@ pub use laws::{
     contained_clauses_lift, ended_refutes, lifted_composes, lifted_itself, logs_compose,
     strengthened_clauses_follow,
 };
+pub use part::takes_part;
 pub use tautology::is_tautology;
 pub use work::{Parts, Run, Work};
 

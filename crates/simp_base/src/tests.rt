@@ -2,7 +2,7 @@ ghost use Rattle.std.specs.Prelude.{◌≡◌, true, IfOk};
 ghost use Rattle.rup_model.specs.Rup.{rup};
 ghost use Rattle.simp_base.specs.WorkState.{known};
 
-use crate::{LineStop, Work, is_tautology};
+use crate::{LineStop, Work, is_tautology, takes_part};
 use drat_text::{CountedLines, LineOut, SinkLines};
 use io_edge::MemSink;
 use rup_model::is_rup;
@@ -43,6 +43,7 @@ fn each_call_goes_well(rt: HostRuntime) -> Result<(), Fail> {
     assert!(rt; work.numbers_with(one).is_ok());
     assert!(rt; work.occurrences(one) == [1].as_slice());
     assert_eq!(rt; work.last_number(), 1);
+    assert_eq!(rt; work.line_count(), 0);
     assert!(rt; work.has_unit(1));
     assert!(rt; !work.has_unit(2));
     assert!(rt;
@@ -53,6 +54,7 @@ fn each_call_goes_well(rt: HostRuntime) -> Result<(), Fail> {
     assert!(rt; work.add_rup(&[one, two]) == Ok(2));
     assert!(rt; follows(alloc, &work, 1, &[one])?);
     assert!(rt; work.unit(one).is_ok());
+    assert_eq!(rt; work.line_count(), 1);
     let parts = work.into_parts();
     assert_eq!(rt; parts.clauses.len(), 2);
     assert!(rt; parts.units.as_slice() == [one].as_slice());
@@ -88,5 +90,8 @@ fn tautologies(rt: HostRuntime) -> Result<(), Fail> {
     let two = Lit::new(2, false);
     assert!(rt; is_tautology(&Clause::from_lits(alloc, &[two, one, two.not()])?));
     assert!(rt; !is_tautology(&Clause::from_lits(alloc, &[one.not(), two])?));
+    assert!(rt; takes_part(&Clause::from_lits(alloc, &[one.not(), two])?));
+    assert!(rt; !takes_part(&Clause::from_lits(alloc, &[two, one, one.not()])?));
+    assert!(rt; !takes_part(&Clause::from_lits(alloc, &[one])?));
     Ok(())
 }

@@ -53,6 +53,7 @@ pub struct Work<L: LineOut> {
     units: UnitTable,
     stack: Stack,
     ended: bool,
+    lines: u64,
     output: L,
 }
 
@@ -78,7 +79,7 @@ impl<L: LineOut> Model for Work<L> {
       stack = w.stack;
       ended = w.ended;
       output = L.told w.output;
-    }) × (w.clauses.next ≡ (L.told w.output).last + 1) × (w.clauses.codes ≡ 2 * (w.vars + 1)) × (w.units.codes ≡ 2 * (w.vars + 1)) };
+    }) × (w.clauses.next ≡ (L.told w.output).last + 1) × (w.clauses.codes ≡ 2 * (w.vars + 1)) × (w.units.codes ≡ 2 * (w.vars + 1)) × (w.lines ≡ (L.told w.output).entries) };
 }
 
 /// Puts the line that adds the clause. Answers its number.
@@ -118,6 +119,7 @@ impl<L: LineOut> Work<L> {
             units,
             stack: Stack::new(alloc),
             ended: false,
+            lines: 0,
             output,
         })
     }
@@ -188,6 +190,13 @@ impl<L: LineOut> Work<L> {
         self.clauses.next_number() - 1
     }
 
+    /// How many lines the log has. Where it is as it was, no line was put.
+    pub fn line_count(&self) -> u64
+        ensures { result ≡ self.now.output.entries }
+    {
+        self.lines
+    }
+
     /// Whether a literal of this variable is a unit: listed, or alive as a clause.
     pub fn has_unit(&self, var: u32) -> bool
         requires low { 1 ≤ var }
@@ -236,6 +245,7 @@ impl<L: LineOut> Work<L> {
         match add_line(self.alloc, &mut self.output, lits) {
             Ok(number) => {
                 self.ended = lits.is_empty();
+                self.lines += 1;
                 self.clauses.push(number, clause);
                 Ok(number)
             }
@@ -281,6 +291,7 @@ impl<L: LineOut> Work<L> {
         let line = self.deletion_of(number)?;
         match self.output.put(&line) {
             Ok(_) => {
+                self.lines += 1;
                 self.clauses.remove(number);
                 Ok(())
             }
@@ -329,6 +340,7 @@ impl<L: LineOut> Work<L> {
         }
         match add_line(self.alloc, &mut self.output, &[lit]) {
             Ok(number) => {
+                self.lines += 1;
                 self.clauses.push(number, clause);
                 self.units.push(lit);
                 Ok(())

@@ -13,7 +13,6 @@ use Rattle.simp_base.proofs.Lists.{Contains_left, Contains_last}
 use Rattle.rup_model.proofs.Lists.{In, In_has, has_In, any_In, In_any, In_map, map_In, In_append, In_append_left, In_append_right, Contains_In, In_Contains}
 use Rattle.drat_text.specs.LineState.{LineState}
 use Rattle.drat_text.specs.declared.stop.LineStop.{LineStop}
-use Rattle.drat_text.specs.declared.stop.LineStop.TheVariants.{Memory}
 use Rattle.simp_base.specs.WorkState.{WorkState, IsWork, lists, unit_clauses, known, is_only, is_alive_unit}
 use Rattle.simp_base.specs.Calls.{Added, IsListed, WasListed}
 use Rattle.simp_base.specs.Causes.{HasCause}
@@ -255,7 +254,3 @@ grown_unit old mid new k g h kept log =
 pub was_grown_unit : (old mid new : WorkState) (k : Literal) → Came old mid (k ∷ []) → IsWork new → KeepsLog mid new → (result : Result (Unit {0}) LineStop) → WasListed mid new k result → WasGrown old new ((k ∷ []) ∷ []) result
 was_grown_unit old mid new k g kept log (Ok done) h = grown_unit old mid new k g h kept log
 was_grown_unit old mid new k g kept log (Err stop) h = stopped_after old mid new stop g.on (not_put_cause mid new (AddLine (k ∷ [])) stop h, log)
-
--- memory ran out in the middle
-pub stopped_by_memory : (start now new : WorkState) (stop : LineStop) → GoesOn start now → stop ≡ Memory → KeepsLog now new → Stops start new stop
-stopped_by_memory start now new stop g is log = (subst (λ s. HasCause start new s) (sym is) tt, logs_along start now new g.log log)

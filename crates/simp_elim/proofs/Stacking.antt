@@ -1,6 +1,6 @@
 -- Entries come to the stack.
 use Rattle.std.proofs.Common.{◌≡◌, ℕ, ◌<◌, ◌+◌, ◌++◌, List, [], ◌∷◌, map, take, get_or, length, sym, ap, subst, ◌∙◌, append_assoc, append-nil}
-use Rattle.std.specs.Prelude.{Result, Ok, Err, OnOk, IfErr}
+use Rattle.std.specs.Prelude.{Result, Ok, Err, OnOk, OnErr, IfErr}
 use Rattle.model_stack.specs.declared.stack.Fix.{Fix}
 use Rattle.drat_text.specs.declared.stop.LineStop.{LineStop}
 use Rattle.drat_text.specs.declared.stop.LineStop.TheVariants.{Memory}
@@ -9,6 +9,7 @@ use Rattle.simp_base.specs.WorkState.{WorkState, IsWork}
 use Rattle.simp_base.specs.Log.{KeepsLog}
 use Rattle.simp_base.proofs.Known.{nothing_logged}
 use Rattle.simp_base.proofs.LiftSteps.{logs_along}
+use Rattle.simp_base.proofs.Stopping.{cause_after, cause_of_memory}
 use Rattle.simp_elim.specs.Resolution.{fix_of}
 use Rattle.simp_elim.specs.Occurring.{clause_at}
 use Rattle.simp_elim.specs.Stages.{Stacked, WasStacked}
@@ -27,7 +28,7 @@ stacked_along a b c S T f g = record {
 
 pub was_stacked_after : (a b c : WorkState) (S T : List Fix) → Stacked a b S → (result : Result (Unit {0}) LineStop) → WasStacked b c T result → WasStacked a c (S ++ T) result
 was_stacked_after a b c S T f (Ok done) h = stacked_along a b c S T f h
-was_stacked_after a b c S T f (Err stop) h = (h.0, logs_along a b c f.log h.1)
+was_stacked_after a b c S T f (Err stop) h = (cause_after a b c stop (ap (λ (w : WorkState). w.output.faults) f.state) h.0, logs_along a b c f.log h.1)
 
 -- the entries of the first clauses, and of one more
 pub stacked_next : (a b c : WorkState) (l : Literal) (numbers : List ℕ) (i : ℕ) → i < length numbers → Stacked a b (map (fix_of l) (map (clause_at a.clauses) (take i numbers)))
@@ -45,6 +46,6 @@ stacked_next a b c l numbers i lt f g =
 
 -- an entry is put
 pub was_pushed : (old new : WorkState) (l : Literal) (c : List Literal) → IsWork new → KeepsLog old new → (result : Result (Unit {0}) LineStop)
-    → OnOk result (new ≡ record old { stack = old.stack ++ fix_of l c ∷ [] }) → IfErr result (λ stop. stop ≡ Memory) → WasStacked old new (fix_of l c ∷ []) result
-was_pushed old new l c kept log (Ok done) ok err = record { state = ok; work = kept; log = log }
-was_pushed old new l c kept log (Err stop) ok err = (err, log)
+    → OnOk result (new ≡ record old { stack = old.stack ++ fix_of l c ∷ [] }) → OnErr result (new ≡ old) → IfErr result (λ stop. stop ≡ Memory) → WasStacked old new (fix_of l c ∷ []) result
+was_pushed old new l c kept log (Ok done) ok same err = record { state = ok; work = kept; log = log }
+was_pushed old new l c kept log (Err stop) ok same err = (cause_of_memory old new stop err (ap (λ (w : WorkState). w.output.faults) same), log)

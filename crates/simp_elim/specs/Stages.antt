@@ -6,7 +6,6 @@ use Rattle.sat_words.specs.Clause.{has, has_opposites, is_empty, two_or_more, In
 use Rattle.rup_model.specs.Rup.{rup}
 use Rattle.model_stack.specs.declared.stack.Fix.{Fix}
 use Rattle.drat_text.specs.declared.stop.LineStop.{LineStop}
-use Rattle.drat_text.specs.declared.stop.LineStop.TheVariants.{Memory}
 use Rattle.simp_base.specs.WorkState.{WorkState, IsWork, lists, known, is_only, is_unit}
 use Rattle.simp_base.specs.Causes.{HasCause}
 use Rattle.simp_base.specs.Lifted.{Lifted}
@@ -65,7 +64,7 @@ pub record Stacked (old new : WorkState) (fixes : List Fix) : Type 0 where
 
 abbrev pub WasStacked : WorkState → WorkState → List Fix → Result ⊤ LineStop → Type 0
 WasStacked old new fixes (Ok done) = Stacked old new fixes
-WasStacked old new fixes (Err stop) = (stop ≡ Memory) × KeepsLog old new
+WasStacked old new fixes (Err stop) = Stops old new stop
 
 -- Deletions
 

@@ -10,17 +10,15 @@ use Rattle.sat_words.proofs.Insertion.{has-clause_of}
 use Rattle.rup_model.proofs.Lists.{In, In_has, has_In, In_append, In_append_left, In_append_right, map_In, Contains_In, In_Contains}
 use Rattle.drat_text.specs.LineState.{LineState}
 use Rattle.drat_text.specs.declared.stop.LineStop.{LineStop}
-use Rattle.drat_text.specs.declared.stop.LineStop.TheVariants.{ProofFault, Full, Memory}
-use Rattle.io_edge.specs.Causes.{Rose}
-use Rattle.sat_words.specs.declared.line.Line.{Line}
 use Rattle.simp_base.specs.WorkState.{WorkState, IsWork, lists, unit_clauses, known, is_alive_unit}
-use Rattle.simp_base.specs.Calls.{Added, IsListed, WasListed, NotPut}
+use Rattle.simp_base.specs.Calls.{Added, IsListed, WasListed}
 use Rattle.simp_base.specs.Log.{KeepsLog}
 use Rattle.simp_base.proofs.Known.{known_alive, unit_among, nothing_logged, Grew, grew}
 use Rattle.simp_base.proofs.LiftSteps.{logs_along}
+use Rattle.simp_base.proofs.Stopping.{not_put_cause, cause_after}
 use Rattle.simp_base.proofs.Lists.{Contains_left, Contains_last, Contains_apart}
 use Rattle.simp_equiv.specs.Rewritten.{GoesOn, Grown, WasGrown}
-use Rattle.simp_equiv.specs.Stops.{WasStopped}
+use Rattle.simp_base.specs.Causes.{HasCause}
 
 -- The rest of a list, with its first
 
@@ -55,19 +53,9 @@ goes_along a b c f g = record {
 
 -- Stops
 
-pub not_put_stopped : (old new : WorkState) (x : Line) (stop : LineStop) → NotPut old new x stop → WasStopped old new stop
-not_put_stopped old new x ProofFault h = h.put.rose
-not_put_stopped old new x Full h = (ap (λ (w : WorkState). w.output.entries) h.1 ∙ h.0, ap (λ (w : WorkState). w.output.faults) h.1)
-not_put_stopped old new x Memory h = ap (λ (w : WorkState). w.output.faults) h
-
-pub stopped_along : (old mid new : WorkState) (stop : LineStop) → mid.output.faults ≡ old.output.faults → WasStopped mid new stop → WasStopped old new stop
-stopped_along old mid new ProofFault same h = subst (λ n. Rose n new.output.faults) same h
-stopped_along old mid new Full same h = (h.0, h.1 ∙ same)
-stopped_along old mid new Memory same h = h ∙ same
-
 -- a call in the middle was refused
-pub stopped_after : (start now new : WorkState) (stop : LineStop) → GoesOn start now → WasStopped now new stop × KeepsLog now new → WasStopped start new stop × KeepsLog start new
-stopped_after start now new stop g h = (stopped_along start now new stop g.quiet h.0, logs_along start now new g.log h.1)
+pub stopped_after : (start now new : WorkState) (stop : LineStop) → GoesOn start now → HasCause now new stop × KeepsLog now new → HasCause start new stop × KeepsLog start new
+stopped_after start now new stop g h = (cause_after start now new stop g.quiet h.0, logs_along start now new g.log h.1)
 
 -- what is known: a clause alive, or a unit
 pub known_by : (P : List Literal → Type 0) (w : WorkState) → ((n : ℕ) (c : List Literal) → Contains w.clauses (n, c) → P c) → ((l : Literal) → has w.units l ≡ true → P (l ∷ [])) → (c : List Literal) → In c (known w) → P c
@@ -155,4 +143,4 @@ grown_listed old new l going unspent kept false e h log =
 
 pub was_listed : (old new : WorkState) (l : Literal) → old.ended ≡ false → old.output.spent ≡ false → IsWork new → KeepsLog old new → (result : Result (Unit {0}) LineStop) → WasListed old new l result → WasGrown old new (l ∷ []) result
 was_listed old new l going unspent kept log (Ok done) h = grown_listed old new l going unspent kept (has old.units l) refl h log
-was_listed old new l going unspent kept log (Err stop) h = (not_put_stopped old new (AddLine (l ∷ [])) stop h, log)
+was_listed old new l going unspent kept log (Err stop) h = (not_put_cause old new (AddLine (l ∷ [])) stop h, log)

@@ -17,9 +17,11 @@ use Rattle.simp_base.proofs.Known.{first_or_rest}
 use Rattle.simp_base.proofs.Long.{two_if_long}
 use Rattle.simp_base.proofs.Removal.{same_number}
 use Rattle.simp_equiv.specs.Implications.{Implied, StandsFor}
-use Rattle.simp_equiv.specs.Replacements.{takes_part, is_moved, is_replaced, to_replace, Becomes, was_true, is_true, stays, Comes}
+use Rattle.simp_base.specs.Parts.{takes_part}
+use Rattle.simp_equiv.specs.Replacements.{is_moved, is_replaced, to_replace, Becomes, was_true, is_true, stays, Comes}
 use Rattle.simp_equiv.specs.Rewritten.{AreInOrder, GoesOn, IsReplacedAt, Adding, Removing, Removed, WasRemoved}
-use Rattle.simp_equiv.proofs.Growing.{not_put_stopped, goes_self, goes_along, known_by, alive_known, unit_known}
+use Rattle.simp_base.proofs.Stopping.{not_put_cause}
+use Rattle.simp_equiv.proofs.Growing.{goes_self, goes_along, known_by, alive_known, unit_known}
 use Rattle.simp_equiv.proofs.Adding.{In_numbers}
 use Rattle.simp_equiv.proofs.Tabled.{step_or_stay}
 
@@ -177,7 +179,7 @@ module _ (old new : WorkState) (sin : Literal → Literal) (n : ℕ) (c : List L
 
   pub was_removed : (result : Result (Unit {0}) LineStop) → WasDeleted old new n result → WasRemoved old new sin n result
   was_removed (Ok done) h = removed h
-  was_removed (Err stop) h = (not_put_stopped old new (DelLine h.clause) stop h.left, log)
+  was_removed (Err stop) h = (not_put_cause old new (DelLine h.clause) stop h.left, log)
 
 -- nothing is to be deleted
 pub removed_none : (w : WorkState) (sin : Literal → Literal) (n : ℕ) → w.ended ≡ false → w.output.spent ≡ false → IsWork w → IsReplacedAt w sin n false → Removed w w sin n

@@ -10,7 +10,7 @@ use Rattle.simp_base.specs.declared.work.Run.TheVariants.{Done, Refuted}
 use Rattle.simp_equiv.specs.Graphs.{Connected}
 use Rattle.simp_equiv.specs.Implications.{Implied, IsConsistent, StandsFor}
 use Rattle.simp_equiv.specs.Replacements.{Becomes, Comes, replacements, replaced_entries}
-use Rattle.simp_equiv.specs.Stops.{WasStopped}
+use Rattle.simp_base.specs.Causes.{HasCause}
 
 -- a clause of two literals or more without opposites has no variable for which another one stands
 abbrev pub IsFree : (Literal → Literal) → List Literal → Type 0
@@ -50,16 +50,16 @@ pub record Clashed (old new : WorkState) : Type 0 where
 abbrev pub Ends : WorkState → WorkState → Result Run LineStop → Type 0
 Ends old new (Ok Done) = Substituted old new
 Ends old new (Ok Refuted) = Clashed old new
-Ends old new (Err stop) = WasStopped old new stop
+Ends old new (Err stop) = HasCause old new stop
 
 -- how it ends where the graph is consistent
 abbrev pub EndsDone : WorkState → WorkState → Result Run LineStop → Type 0
 EndsDone old new (Ok Done) = Substituted old new
 EndsDone old new (Ok Refuted) = ⊥
-EndsDone old new (Err stop) = WasStopped old new stop
+EndsDone old new (Err stop) = HasCause old new stop
 
 -- how it ends where the empty clause is to be added
 abbrev pub EndsRefuted : WorkState → WorkState → Result Run LineStop → Type 0
 EndsRefuted old new (Ok Done) = ⊥
 EndsRefuted old new (Ok Refuted) = Ended old new
-EndsRefuted old new (Err stop) = WasStopped old new stop
+EndsRefuted old new (Err stop) = HasCause old new stop

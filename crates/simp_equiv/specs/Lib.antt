@@ -8,4 +8,3 @@ pub mod Arrows
 pub mod Leasts
 pub mod Tables
 pub mod Rewritten
-pub mod Stops

@@ -2,8 +2,9 @@
 use Rattle.std.specs.Prelude.{◌≡◌, ℕ, ◌==◌, ◌&&◌, if◌then◌else◌, Bool, true, false, not, List, [], ◌∷◌, map, Contains}
 use Rattle.std.specs.List.{list_any, filter, flat_map, range_with_len}
 use Rattle.sat_words.specs.Literal.{Literal, opposite, same}
-use Rattle.sat_words.specs.Clause.{has, has_opposites, two_or_more, clause_of}
+use Rattle.sat_words.specs.Clause.{has, has_opposites, clause_of}
 use Rattle.model_stack.specs.declared.stack.Fix.{Fix}
+use Rattle.simp_base.specs.Parts.{takes_part}
 
 -- Clauses
 
@@ -11,11 +12,7 @@ use Rattle.model_stack.specs.declared.stack.Fix.{Fix}
 abbrev pub is_moved : (Literal → Literal) → Literal → Bool
 is_moved stand_in l = not (same (stand_in l) l)
 
--- a clause of two literals or more without opposites: others are passed over
-abbrev pub takes_part : List Literal → Bool
-takes_part c = two_or_more c && not (has_opposites c)
-
--- it has a literal for which another one stands
+-- a clause that takes part has a literal for which another one stands
 abbrev pub is_replaced : (Literal → Literal) → List Literal → Bool
 is_replaced stand_in c = takes_part c && list_any (is_moved stand_in) c
 

@@ -10,7 +10,7 @@ use Rattle.simp_base.specs.Log.{KeepsLog}
 use Rattle.simp_equiv.specs.Graphs.{Reaches}
 use Rattle.simp_equiv.specs.Implications.{Implies}
 use Rattle.simp_equiv.specs.Replacements.{is_replaced, Becomes, Comes}
-use Rattle.simp_equiv.specs.Stops.{WasStopped}
+use Rattle.simp_base.specs.Causes.{HasCause}
 
 -- each clause is in order
 abbrev pub AreInOrder : List (ℕ × List Literal) → Type 0
@@ -41,7 +41,7 @@ pub record Grown (old new : WorkState) (lits : List Literal) : Type 0 where
 
 abbrev pub WasGrown : WorkState → WorkState → List Literal → Result ⊤ LineStop → Type 0
 WasGrown old new lits (Ok done) = Grown old new lits
-WasGrown old new lits (Err stop) = WasStopped old new stop × KeepsLog old new
+WasGrown old new lits (Err stop) = HasCause old new stop × KeepsLog old new
 
 -- what takes the place of the clause with this number: nothing, where it is not alive, or not to be replaced, or becomes
 -- a tautology
@@ -66,11 +66,11 @@ pub record Adding (start now : WorkState) (stand_in : Literal → Literal) (rest
 -- so it is after the clause with this number, where it was so before
 abbrev pub WasAdded : WorkState → WorkState → (Literal → Literal) → ℕ → Result ⊤ LineStop → Type 0
 WasAdded old new stand_in n (Ok done) = (start : WorkState) (rest : List ℕ) → Adding start old stand_in (n ∷ rest) → Adding start new stand_in rest
-WasAdded old new stand_in n (Err stop) = WasStopped old new stop × KeepsLog old new
+WasAdded old new stand_in n (Err stop) = HasCause old new stop × KeepsLog old new
 
 abbrev pub WereAdded : WorkState → WorkState → (Literal → Literal) → List ℕ → Result ⊤ LineStop → Type 0
 WereAdded old new stand_in numbers (Ok done) = Adding old new stand_in []
-WereAdded old new stand_in numbers (Err stop) = WasStopped old new stop × KeepsLog old new
+WereAdded old new stand_in numbers (Err stop) = HasCause old new stop × KeepsLog old new
 
 -- from the work at the start: what becomes of each clause and unit is known, and each clause that is to be replaced has
 -- its number in the rest
@@ -88,11 +88,11 @@ pub record Removed (old new : WorkState) (stand_in : Literal → Literal) (n : �
 
 abbrev pub WasRemoved : WorkState → WorkState → (Literal → Literal) → ℕ → Result ⊤ LineStop → Type 0
 WasRemoved old new stand_in n (Ok done) = Removed old new stand_in n
-WasRemoved old new stand_in n (Err stop) = WasStopped old new stop × KeepsLog old new
+WasRemoved old new stand_in n (Err stop) = HasCause old new stop × KeepsLog old new
 
 abbrev pub WereRemoved : WorkState → WorkState → (Literal → Literal) → List ℕ → Result ⊤ LineStop → Type 0
 WereRemoved old new stand_in numbers (Ok done) = (start : WorkState) → Removing start old stand_in numbers → Removing start new stand_in []
-WereRemoved old new stand_in numbers (Err stop) = WasStopped old new stop × KeepsLog old new
+WereRemoved old new stand_in numbers (Err stop) = HasCause old new stop × KeepsLog old new
 
 -- these entries came to the stack, and nothing else changed
 pub record Stacked (old new : WorkState) (fixes : List Fix) : Type 0 where

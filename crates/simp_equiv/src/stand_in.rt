@@ -3,11 +3,12 @@ ghost use Rattle.std.specs.Prelude.{◌≡◌, ◌++◌, ◌∷◌, [], All, OnO
 ghost use Rattle.std.specs.List.{list_any};
 ghost use Rattle.simp_equiv.specs.Tables.{stand_in, CanStand};
 ghost use Rattle.sat_words.specs.Clause.{InOrder};
-ghost use Rattle.simp_equiv.specs.Replacements.{is_moved, takes_part, is_replaced};
+ghost use Rattle.simp_base.specs.Parts.{takes_part};
+ghost use Rattle.simp_equiv.specs.Replacements.{is_moved, is_replaced};
 
 use drat_text::LineStop;
 use sat_words::{Clause, Lit};
-use simp_base::is_tautology;
+use simp_base::takes_part;
 
 /// What stands for the literal.
 pub(crate) fn stand_in(table: &[usize], lit: Lit) -> Lit
@@ -30,14 +31,6 @@ fn has_moved(table: &[usize], lits: &[Lit]) -> bool
         }
     }
     false
-}
-
-/// Whether the clause has two literals or more, and no literal beside its negation.
-fn takes_part(clause: &Clause) -> bool
-    ensures is { result ≡ takes_part clause.now }
-    ensures ordered { InOrder clause.now }
-{
-    clause.lits().len() >= 2 && !is_tautology(clause)
 }
 
 /// Whether the clause is to be replaced: it has two literals or more, is no tautology, and another literal stands for one

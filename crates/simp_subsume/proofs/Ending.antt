@@ -14,7 +14,8 @@ use Rattle.simp_base.proofs.LiftSteps.{logs_along}
 use Rattle.simp_base.proofs.Lists.{All_In}
 use Rattle.simp_base.proofs.Removal.{same_number}
 use Rattle.simp_base.proofs.Stopping.{cause_after}
-use Rattle.simp_subsume.specs.Related.{takes_part, IsUnrelated}
+use Rattle.simp_base.specs.Parts.{takes_part}
+use Rattle.simp_subsume.specs.Related.{IsUnrelated}
 use Rattle.simp_subsume.specs.Ends.{Subsumed}
 use Rattle.simp_subsume.specs.Compared.{IsLoaded, IsReducedBelow, Comparing, Processed}
 use Rattle.simp_subsume.proofs.Reducing.{reduces_self, reduces_along, lifted_reduced}
@@ -85,4 +86,6 @@ ends_done old new n above p = record {
   stack = p.reduces.stack;
   lifted = lifted_reduced old new p.reduces;
   going = p.reduces.going;
+  unspent = p.reduces.unspent;
+  quiet = p.reduces.quiet;
 }

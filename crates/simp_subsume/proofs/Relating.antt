@@ -7,7 +7,8 @@ use Rattle.sat_words.specs.Clause.{has, includes, has_opposites, two_or_more}
 use Rattle.sat_words.proofs.Members.{same-true, same-refl}
 use Rattle.rup_model.proofs.Lists.{In, any_In, In_all, all_In, In_has, has_In, In_map, map_In}
 use Rattle.simp_base.proofs.Filters.{filter_In, In_filter}
-use Rattle.simp_subsume.specs.Related.{takes_part, subsumes, negated_at, strengthens, IsUnrelated}
+use Rattle.simp_base.specs.Parts.{takes_part}
+use Rattle.simp_subsume.specs.Related.{subsumes, negated_at, strengthens, IsUnrelated}
 use Rattle.simp_subsume.specs.Compared.{without}
 
 not_true : (b : Bool) → not b ≡ true → b ≡ false

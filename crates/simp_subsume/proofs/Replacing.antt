@@ -16,7 +16,8 @@ use Rattle.simp_base.proofs.LiftSteps.{logs_along}
 use Rattle.simp_base.proofs.Lists.{All_In}
 use Rattle.simp_base.proofs.Removal.{same_number}
 use Rattle.simp_base.proofs.Stopping.{not_put_cause, cause_after}
-use Rattle.simp_subsume.specs.Related.{takes_part, IsUnrelated}
+use Rattle.simp_base.specs.Parts.{takes_part}
+use Rattle.simp_subsume.specs.Related.{IsUnrelated}
 use Rattle.simp_subsume.specs.Compared.{Subsumes, Strengthens, Reduces, Grown, IsLoaded, IsReducedBelow, Comparing, WasCompared}
 use Rattle.simp_subsume.proofs.Relating.{part_parts, in_subsumes, unrelated_part, unrelated_left}
 use Rattle.simp_subsume.proofs.Reducing.{reduces_along, reduces_deleted, reduces_grown, alive_known, unit_known}

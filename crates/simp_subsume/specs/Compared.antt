@@ -7,7 +7,8 @@ use Rattle.drat_text.specs.declared.stop.LineStop.{LineStop}
 use Rattle.simp_base.specs.WorkState.{WorkState, IsWork, known}
 use Rattle.simp_base.specs.Causes.{HasCause}
 use Rattle.simp_base.specs.Log.{KeepsLog}
-use Rattle.simp_subsume.specs.Related.{takes_part, subsumes, strengthens, IsUnrelated}
+use Rattle.simp_base.specs.Parts.{takes_part}
+use Rattle.simp_subsume.specs.Related.{subsumes, strengthens, IsUnrelated}
 use Rattle.simp_subsume.specs.Ends.{EachContains, EachContained}
 use Rattle.simp_subsume.specs.declared.relation.Relation.{Relation}
 use Rattle.simp_subsume.specs.declared.relation.Relation.TheVariants.{Apart, Within, Flipped}

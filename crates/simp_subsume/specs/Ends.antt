@@ -8,7 +8,8 @@ use Rattle.simp_base.specs.Causes.{HasCause}
 use Rattle.simp_base.specs.Lifted.{Lifted}
 use Rattle.simp_base.specs.declared.work.Run.{Run}
 use Rattle.simp_base.specs.declared.work.Run.TheVariants.{Done, Refuted}
-use Rattle.simp_subsume.specs.Related.{takes_part, IsUnrelated}
+use Rattle.simp_base.specs.Parts.{takes_part}
+use Rattle.simp_subsume.specs.Related.{IsUnrelated}
 
 -- of two clauses that take part none is contained in the other, neither as it is nor with one literal negated
 abbrev pub IsReduced : List (ℕ × List Literal) → Type 0
@@ -33,6 +34,8 @@ pub record Subsumed (old new : WorkState) : Type 0 where
   pub stack : new.stack ≡ old.stack
   pub lifted : Lifted old new
   pub going : new.ended ≡ false
+  pub unspent : new.output.spent ≡ false
+  pub quiet : new.output.faults ≡ old.output.faults
 
 -- how a run ends: it refutes nothing
 abbrev pub Ends : WorkState → WorkState → Result Run LineStop → Type 0

@@ -1,11 +1,7 @@
 -- Clauses that make others needless or shorter.
-use Rattle.std.specs.Prelude.{◌≡◌, Bool, false, not, ◌&&◌, List, map, if◌then◌else◌}
+use Rattle.std.specs.Prelude.{◌≡◌, Bool, false, ◌&&◌, List, map, if◌then◌else◌}
 use Rattle.sat_words.specs.Literal.{Literal, opposite, same}
-use Rattle.sat_words.specs.Clause.{has, includes, has_opposites, two_or_more}
-
--- a clause of two literals or more without opposites: others are passed over
-abbrev pub takes_part : List Literal → Bool
-takes_part c = two_or_more c && not (has_opposites c)
+use Rattle.sat_words.specs.Clause.{has, includes}
 
 -- the first clause subsumes the second: each of its literals is in it
 abbrev pub subsumes : List Literal → List Literal → Bool

@@ -7,11 +7,10 @@ ghost use Rattle.rup_model.specs.Rup.{rup};
 ghost use Rattle.simp_base.specs.WorkState.{IsWork, known};
 ghost use Rattle.simp_subsume.specs.Compared.{without, IsFateWithin, IsFateFlipped, IsFate, IsFateAt, IsLoaded, WasGrown, WasCompared, WasComparedWithAll, Comparing};
 
-use crate::part::takes_part;
 use crate::relation::{Relation, relation_of};
 use drat_text::{LineOut, LineStop};
 use sat_words::{Clause, Lit};
-use simp_base::Work;
+use simp_base::{Work, takes_part};
 use std::alloc::{AllocError, Global};
 
 /// What is to become of a clause.

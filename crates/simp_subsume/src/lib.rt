@@ -4,7 +4,6 @@
 
 mod candidates;
 mod compare;
-mod part;
 mod passes;
 mod relation;
 mod signature;

@@ -13,11 +13,10 @@ ghost use Rattle.simp_subsume.specs.Compared.{IsReducedBelow, WasLoaded, WasProc
 
 use crate::candidates::{list_others, rarest};
 use crate::compare::compare_with_all;
-use crate::part::takes_part;
 use crate::signature::signatures_of;
 use drat_text::{LineOut, LineStop};
 use sat_words::Lit;
-use simp_base::{Run, Work};
+use simp_base::{Run, Work, takes_part};
 
 /// Copies the literals of the clause with this number. Answers whether it is alive and takes part; nothing is copied
 /// otherwise.

@@ -15,17 +15,15 @@ use Rattle.rup_model.specs.Rup.{rup}
 use Rattle.rup_model.specs.Status.{IsSettled}
 use Rattle.rup_model.proofs.Lists.{In, In_any, any_In, none_In, all_In, In_all, In_has, has_In, In_append, In_append_left, In_append_right, In_get_or, Contains_In}
 use Rattle.rup_model.proofs.RoundsLemmas.{forces-parts}
-use Rattle.io_edge.specs.Causes.{Rose}
 use Rattle.drat_text.specs.LineState.{LineState}
 use Rattle.drat_text.specs.declared.stop.LineStop.{LineStop}
-use Rattle.drat_text.specs.declared.stop.LineStop.TheVariants.{ProofFault, Full, Memory}
 use Rattle.simp_base.specs.WorkState.{WorkState, IsWork, known, lists, unit_clauses}
 use Rattle.simp_base.specs.Calls.{Added, Deleted, WasDeleted}
 use Rattle.simp_base.specs.Lifted.{Lifted}
 use Rattle.simp_base.specs.Log.{KeepsLog}
 use Rattle.simp_base.proofs.Weaken.{weaker, lifted_deleted}
 use Rattle.simp_base.specs.Causes.{HasCause}
-use Rattle.simp_base.proofs.Stopping.{not_put_cause}
+use Rattle.simp_base.proofs.Stopping.{not_put_cause, cause_after}
 use Rattle.simp_base.proofs.Filters.{In_filter, filter_In}
 use Rattle.simp_base.proofs.LiftSteps.{lifted_along, lifted_self, logs_along}
 use Rattle.simp_base.proofs.Lists.{All_In, Contains_left, Contains_last, Contains_apart}
@@ -317,12 +315,8 @@ module _ (old mid new : WorkState) (a : List (Option Bool)) (number : ℕ) (c li
       λ start rest t. tidied_deleted start mid new a number rest h lifted kept log
       (tidied_added start old mid a (number ∷ rest) lits made added shown (ap is_empty part.is ∙ left_some a c settled)
       (λ l k. part_untouched old a s number c alive part.open_yet l (subst (λ d. has d l ≡ true) part.is k)) kept_mid log_mid t)
-  tidied_part (Err ProofFault) h = (subst (λ n. Rose n new.output.faults) (ap (λ (s : LineState). s.faults) added.put.state) h.left.put.rose, logs_along old mid new log_mid log)
-  tidied_part (Err Full) h = (not_put_cause mid new (DelLine h.clause) Full h.left, logs_along old mid new log_mid log)
-  tidied_part (Err Memory) h = (tt, logs_along old mid new log_mid log)
+  tidied_part (Err stop) h = (cause_after old mid new stop (ap (λ (s : LineState). s.faults) added.put.state) (not_put_cause mid new (DelLine h.clause) stop h.left), logs_along old mid new log_mid log)
 
 -- a call in the middle was refused
 pub stopped_tidying : (start now new : WorkState) (a : List (Option Bool)) (rest : List ℕ) (stop : LineStop) → Tidied start now a rest → HasCause now new stop × KeepsLog now new → HasCause start new stop × KeepsLog start new
-stopped_tidying start now new a rest ProofFault t h = (subst (λ n. Rose n new.output.faults) t.quiet h.0, logs_along start now new t.log h.1)
-stopped_tidying start now new a rest Full t h = (h.0, logs_along start now new t.log h.1)
-stopped_tidying start now new a rest Memory t h = (tt, logs_along start now new t.log h.1)
+stopped_tidying start now new a rest stop t h = (cause_after start now new stop t.quiet h.0, logs_along start now new t.log h.1)

@@ -12,13 +12,12 @@ use Rattle.rup_model.specs.Rup.{conflicts}
 use Rattle.rup_model.specs.Status.{IsSettled}
 use Rattle.rup_model.proofs.Lists.{In, In_append, In_has, map_In, In_Contains}
 use Rattle.rup_model.proofs.Reaches.{Reaches-quiet, Rounds-quiet}
-use Rattle.io_edge.specs.Causes.{Rose}
 use Rattle.drat_text.specs.declared.stop.LineStop.{LineStop}
-use Rattle.drat_text.specs.declared.stop.LineStop.TheVariants.{ProofFault, Full, Memory}
 use Rattle.simp_base.specs.WorkState.{WorkState, known, lists, unit_clauses}
 use Rattle.simp_base.specs.Log.{KeepsLog}
 use Rattle.simp_base.proofs.LiftSteps.{logs_along}
 use Rattle.simp_base.specs.Causes.{HasCause}
+use Rattle.simp_base.proofs.Stopping.{cause_after}
 use Rattle.simp_units.specs.Progress.{IsSet, IsUnitsClause, Progress, waits, IsKnown, Ready, Passed, Stuck, Spread, WasSpread, Falsified, WasPropagated}
 use Rattle.simp_units.specs.Progress.IsKnown.{settled, waiting, coming}
 use Rattle.simp_units.specs.declared.propagate.Ended.{Ended}
@@ -52,9 +51,7 @@ module _ (old now new : WorkState) (a b e : List (Option Bool)) (next : ℕ) (be
   }
 
   pub stopped_along : (stop : LineStop) → HasCause now new stop × KeepsLog now new → HasCause old new stop × KeepsLog old new
-  stopped_along ProofFault h = (subst (λ n. Rose n new.output.faults) before.quiet h.0, logs_along old now new before.log h.1)
-  stopped_along Full h = (h.0, logs_along old now new before.log h.1)
-  stopped_along Memory h = (tt, logs_along old now new before.log h.1)
+  stopped_along stop h = (cause_after old now new stop before.quiet h.0, logs_along old now new before.log h.1)
 
   module _ (lt : next < length now.units) (u v : Literal) (is : u ≡ get_or now.units next u) (vis : v ≡ opposite u)
       (numbers : List ℕ) (every : (n : ℕ) (c : List Literal) → Contains now.clauses (n, c) → has c v ≡ true → Contains numbers n) where
@@ -151,9 +148,7 @@ module _ (old mid : WorkState) (a b : List (Option Bool)) (numbers : List ℕ) (
       empty = h.empty;
       log = logs_along old mid new passed.log h.log;
     }
-    whole new e (Err ProofFault) h = (subst (λ n. Rose n new.output.faults) passed.quiet h.0, logs_along old mid new passed.log h.1)
-    whole new e (Err Full) h = (h.0, logs_along old mid new passed.log h.1)
-    whole new e (Err Memory) h = (tt, logs_along old mid new passed.log h.1)
+    whole new e (Err stop) h = (cause_after old mid new stop passed.quiet h.0, logs_along old mid new passed.log h.1)
 
   pub stuck_whole : Stuck old a mid b → Falsified old mid
   stuck_whole h = record {

@@ -17,9 +17,7 @@ use Rattle.rup_model.proofs.RoundsLemmas.{forces-parts}
 use Rattle.rup_model.proofs.Covers.{both_true}
 use Rattle.rup_model.proofs.Reaches.{Reaches, Reaches-set, Reaches-conflict}
 use Rattle.rup_model.proofs.AssignedLemmas.{is_true-set, is_true-opposite}
-use Rattle.io_edge.specs.Causes.{Rose}
 use Rattle.drat_text.specs.declared.stop.LineStop.{LineStop}
-use Rattle.drat_text.specs.declared.stop.LineStop.TheVariants.{ProofFault, Full, Memory}
 use Rattle.simp_base.specs.WorkState.{WorkState, IsWork, known, is_alive_unit}
 use Rattle.simp_base.specs.Log.{KeepsLog}
 use Rattle.simp_base.proofs.Known.{known_alive, unit_among, on_alive, nothing_logged, first_or_rest, Grew, grew}
@@ -27,6 +25,7 @@ use Rattle.simp_base.proofs.LiftSteps.{logs_along}
 use Rattle.simp_base.proofs.Lists.{Contains_left}
 use Rattle.simp_base.proofs.Removal.{same_number}
 use Rattle.simp_base.specs.Causes.{HasCause}
+use Rattle.simp_base.proofs.Stopping.{cause_after}
 use Rattle.simp_units.specs.Progress.{IsSet, IsUnitsClause, Progress, waits, IsKnown, Ready, ForcedStep, IdleStep, Passed, Stuck, WasLookedAt}
 use Rattle.simp_units.specs.Progress.IsKnown.{settled, waiting, coming}
 use Rattle.simp_units.specs.declared.propagate.Ended.TheVariants.{Conflict, Quiet}
@@ -219,6 +218,4 @@ module _ (old now new : WorkState) (a b e : List (Option Bool)) (numbers : List 
       negated u = (and_parts (is_true b (opposite u.lit)) true (subst (λ d. falsifies (is_true b) d ≡ true) u.alone h.falsified.falsified)).0
 
   pub stopped_here : (stop : LineStop) → HasCause now new stop → HasCause old new stop × KeepsLog old new
-  stopped_here ProofFault h = (subst (λ n. Rose n new.output.faults) before.quiet h, both_logs)
-  stopped_here Full h = (h, both_logs)
-  stopped_here Memory h = (tt, both_logs)
+  stopped_here stop h = (cause_after old now new stop before.quiet h, both_logs)

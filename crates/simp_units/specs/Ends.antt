@@ -7,7 +7,7 @@ use Rattle.rup_model.specs.Rounds.{Rounds}
 use Rattle.rup_model.specs.Rup.{conflicts}
 use Rattle.simp_base.specs.Causes.{HasCause}
 use Rattle.drat_text.specs.declared.stop.LineStop.{LineStop}
-use Rattle.simp_base.specs.WorkState.{WorkState, lists, known}
+use Rattle.simp_base.specs.WorkState.{WorkState, lists, known, is_alive_unit}
 use Rattle.simp_base.specs.Lifted.{Lifted}
 use Rattle.simp_base.specs.declared.work.Run.{Run}
 use Rattle.simp_base.specs.declared.work.Run.TheVariants.{Done, Refuted}
@@ -20,20 +20,30 @@ is_fixed units v = list_any (λ u. u.var == v) units
 abbrev pub IsFree : List Literal → List Literal → Type 0
 IsFree units c = two_or_more c ≡ true → has_opposites c ≡ false → All (λ l. is_fixed units l.var ≡ false) c
 
--- the rounds from no literal over the clauses and units at entry falsify no clause; the units are what they give; no
--- clause holds a unit's variable; models lift, and the variables are as they were
+-- the rounds from no literal over the clauses and units at entry falsify no clause; the units are what they give, and those
+-- whose clauses are alive are among them; no other clause holds a unit's variable; models lift, and the variables are as
+-- they were
 pub record Cleaned (old new : WorkState) : Type 0 where
   pub open_yet : conflicts (known old) [] ≡ false
   pub units : (l : Literal) → has new.units l ≡ Rounds (known old) [] l
+  pub alone : (l : Literal) → is_alive_unit new l ≡ true → has new.units l ≡ true
   pub free : All (IsFree new.units) (lists new.clauses)
   pub lifted : Lifted old new
   pub vars : new.vars ≡ old.vars
   pub going : new.ended ≡ false
+  pub unspent : new.output.spent ≡ false
+  pub quiet : new.output.faults ≡ old.output.faults
+
+-- the empty clause was added, and the output has failed at no line
+pub record Ended (old new : WorkState) : Type 0 where
+  pub ended : new.ended ≡ true
+  pub unspent : new.output.spent ≡ false
+  pub quiet : new.output.faults ≡ old.output.faults
 
 -- they falsify a clause, and the empty clause was added
 pub record Conflicted (old new : WorkState) : Type 0 where
   pub falsified : conflicts (known old) [] ≡ true
-  pub ended : new.ended ≡ true
+  pub ended : Ended old new
 
 -- how a run ends
 abbrev pub Ends : WorkState → WorkState → Result Run LineStop → Type 0
@@ -44,5 +54,5 @@ Ends old new (Err stop) = HasCause old new stop
 -- what comes where the empty clause is to be added
 abbrev pub EndsRefuted : WorkState → WorkState → Result Run LineStop → Type 0
 EndsRefuted old new (Ok Done) = ⊥
-EndsRefuted old new (Ok Refuted) = new.ended ≡ true
+EndsRefuted old new (Ok Refuted) = Ended old new
 EndsRefuted old new (Err stop) = HasCause old new stop

@@ -36,4 +36,4 @@ returns-clause-stacked g c =
     let w = c.args.work.now in let n = c.args.number in let x = c.in-Some.clause.now in
     let is : c.in-Ok.copy ≡ clause_at w.clauses n = c.in-Ok.ensures.value ∙ ap clause_of c.lits.ensures.value ∙ clause_of_in_order x c.lits.ensures.ordered ∙ sym (at_is w.clauses c.requires.work.numbers n x c.in-Some.ensures.some) in
     subst (λ (xs : List Literal). WasStacked w c.push_fix.new.self (fix_of c.args.lit xs ∷ []) c.push_fix.result) is
-    (was_pushed w c.push_fix.new.self c.args.lit c.in-Ok.copy c.push_fix.ensures.work ([], c.push_fix.ensures.log) c.push_fix.result c.push_fix.ensures.ok c.push_fix.ensures.memory)
+    (was_pushed w c.push_fix.new.self c.args.lit c.in-Ok.copy c.push_fix.ensures.work ([], c.push_fix.ensures.log) c.push_fix.result c.push_fix.ensures.ok c.push_fix.ensures.err c.push_fix.ensures.memory)

@@ -8,16 +8,16 @@ use Rattle.std.specs.Result.{IsErrAnd}
 use Rattle.drat_text.specs.declared.stop.LineStop.{LineStop}
 use Rattle.simp_base.specs.declared.work.Run.{Run}
 use Rattle.simp_equiv.specs.Ends.{EndsDone}
-use Rattle.simp_equiv.specs.Stops.{WasStopped}
+use Rattle.simp_base.specs.Causes.{HasCause}
 use Rattle.simp_equiv.specs.Rewritten.{Adding, Removing, Stacked}
 use Rattle.simp_equiv.proofs.Tabled.{has_places, moved_on}
 use Rattle.simp_equiv.proofs.Ending.{table_leads, begins, ends_done}
 use Rattle.simp_equiv.proofs.passes.substitute.Goals as goal
 
 -- a stop that is handed on
-handed_on : (old new : WorkState) (result : Result Run LineStop) (stop : LineStop) → IsErrAnd result (λ e. e ≡ stop) → WasStopped old new stop → EndsDone old new result
+handed_on : (old new : WorkState) (result : Result Run LineStop) (stop : LineStop) → IsErrAnd result (λ e. e ≡ stop) → HasCause old new stop → EndsDone old new result
 handed_on old new (Ok x) stop e h = absurd e
-handed_on old new (Err own) stop e h = subst (WasStopped old new) (sym e) h
+handed_on old new (Err own) stop e h = subst (HasCause old new) (sym e) h
 
 pub numbers_of-requires : goal.numbers_of-requires
 numbers_of-requires g c = let w = c.args.work.now in has_places (has_unit w) (lists w.clauses) w.vars c.args.table.now c.requires.table
@@ -69,7 +69,7 @@ returns-in_err-push_all-clause-ends g c =
     let b = begins w mid w w t c.as_slice-2.result.now c.requires.table c.requires.consistent c.in-Ok.ensures.ordered (c.as_slice-2.ensures.value ∙ c.in-Ok.ensures.numbers) a in
     let r : Removing w now (stand_in t) [] = c.in_ok-remove_all.ensures.removed w b in
     handed_on w c.push_all.new.work c.from_residual-in_err-push_all.result c.in_err-push_all.field-0.0 c.from_residual-in_err-push_all.ensures.1
-    (subst (WasStopped w c.push_all.new.work) (sym c.in_err-push_all.ensures.stacked.0) (c.in_err-push_all.ensures.stacked.1 ∙ r.on.quiet))
+    (subst (HasCause w c.push_all.new.work) (sym c.in_err-push_all.ensures.stacked.0) (c.in_err-push_all.ensures.stacked.1 ∙ r.on.quiet))
 
 pub returns-clause-ends : goal.returns-clause-ends
 returns-clause-ends g c =

@@ -3,7 +3,8 @@ use Rattle.sat_words.specs.Literal.{Literal}
 use Rattle.simp_base.specs.WorkState.{WorkState, IsWork}
 use Rattle.simp_base.proofs.Removal.{same_number}
 use Rattle.simp_subsume.specs.Compared.{IsFate, IsFateAt}
-use Rattle.simp_subsume.specs.Related.{takes_part, IsUnrelated}
+use Rattle.simp_base.specs.Parts.{takes_part}
+use Rattle.simp_subsume.specs.Related.{IsUnrelated}
 use Rattle.simp_subsume.specs.declared.compare.Fate.{Fate}
 use Rattle.simp_subsume.specs.declared.compare.Fate.TheVariants.{Stays, Goes, Shrinks}
 use Rattle.simp_subsume.proofs.compare.fate_at.Goals as goal

@@ -7,7 +7,8 @@ use Rattle.rup_model.proofs.Lists.{has_In, In_get_or}
 use Rattle.drat_text.specs.declared.stop.LineStop.{LineStop}
 use Rattle.simp_base.specs.WorkState.{WorkState}
 use Rattle.simp_base.proofs.Known.{on_alive}
-use Rattle.simp_subsume.specs.Related.{takes_part, IsUnrelated}
+use Rattle.simp_base.specs.Parts.{takes_part}
+use Rattle.simp_subsume.specs.Related.{IsUnrelated}
 use Rattle.simp_subsume.specs.Compared.{WasLoaded, IsLoaded, WasComparedWithAll, WasProcessed, Comparing}
 use Rattle.simp_subsume.proofs.Ending.{comparing_start, processed_compared, processed_idle}
 use Rattle.simp_subsume.proofs.passes.process.Goals as goal

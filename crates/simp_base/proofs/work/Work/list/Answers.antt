@@ -16,6 +16,7 @@ invariant_of-self-then-is_alone g c =
       c.self.invariant.1,
       c.self.invariant.2,
       c.push.ensures.codes ∙ c.make_room.ensures.codes ∙ c.self.invariant.3,
+      c.self.invariant.4,
     )
 
 pub returns-then-is_alone-clause-work : goal.returns-then-is_alone-clause-work
@@ -36,6 +37,7 @@ invariant_of-self-in-Ok-add_line g c =
       omega (arith, c.push-in-Ok-add_line.ensures.next, c.make_ready.ensures.same.next, c.self.invariant.1, last),
       c.push-in-Ok-add_line.ensures.codes ∙ c.make_ready.ensures.same.codes ∙ c.self.invariant.2,
       c.push-in-Ok-add_line-2.ensures.codes ∙ c.make_room.ensures.codes ∙ c.self.invariant.3,
+      ap (λ n. n + 1) c.self.invariant.4 ∙ sym (ap (λ (s : LineState). s.entries) c.in-Ok-add_line.ensures.state),
     )
 
 pub returns-in-Ok-add_line-clause-work : goal.returns-in-Ok-add_line-clause-work

@@ -15,6 +15,7 @@ invariant_of-result g c =
       omega (arith, c.in-Ok.ensures.next, c.requires.last),
       omega (arith, c.in-Ok.ensures.codes, c.vars-2.ensures),
       omega (arith, c.in-Ok-new.ensures.codes, c.vars.ensures, c.vars-2.ensures),
+      sym c.requires.blank,
     )
 
 pub returns-clause-work : goal.returns-clause-work

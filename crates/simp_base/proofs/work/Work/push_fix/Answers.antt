@@ -12,7 +12,7 @@ invariant_of-self-2 g c =
     let i = c.self.inside in
     let w : WorkState = record { vars = i.vars; clauses = i.clauses.clauses; units = i.units.units; stack = i.stack; ended = i.ended; output = g.L.LineOut.told i.output } in
     let on : All (IsOn i.vars) c.args.clause = subst (λ (s : WorkState). All (IsOn s.vars) c.args.clause) (sym c.self.view_is) c.requires.on in
-    (work_pushed w c.self.invariant.0 c.args.lit c.args.clause c.requires.holds on c.push.new.self c.in-Ok.ensures.ok, c.self.invariant.1, c.self.invariant.2, c.self.invariant.3)
+    (work_pushed w c.self.invariant.0 c.args.lit c.args.clause c.requires.holds on c.push.new.self c.in-Ok.ensures.ok, c.self.invariant.1, c.self.invariant.2, c.self.invariant.3, c.self.invariant.4)
 
 pub returns-clause-work : goal.returns-clause-work
 returns-clause-work g c = (invariant_of-self-2 g c).0

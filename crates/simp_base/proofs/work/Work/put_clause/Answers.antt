@@ -34,4 +34,5 @@ invariant_of-self-in-Ok-add_line g c =
       omega (arith, c.push.ensures.next, c.make_ready.ensures.same.next, c.self.invariant.1, last),
       c.push.ensures.codes ∙ c.make_ready.ensures.same.codes ∙ c.self.invariant.2,
       c.self.invariant.3,
+      ap (λ k. k + 1) c.self.invariant.4 ∙ sym (ap (λ (s : LineState). s.entries) c.in-Ok-add_line.ensures.state),
     )

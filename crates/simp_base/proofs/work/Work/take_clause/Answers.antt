@@ -19,6 +19,7 @@ invariant_of-self g c =
       c.remove.ensures.next ∙ c.self.invariant.1 ∙ ap (λ n. n + 1) (sym last),
       c.remove.ensures.codes ∙ c.self.invariant.2,
       c.self.invariant.3,
+      ap (λ n. n + 1) c.self.invariant.4 ∙ sym (ap (λ (s : LineState). s.entries) put.state),
     )
 
 pub returns-in-Ok-clause-work : goal.returns-in-Ok-clause-work

@@ -2,7 +2,7 @@ use Rattle.std.proofs.Common.{◌≡◌, ◌∙◌, ◌&&◌, List, length, sym,
 use Rattle.sat_words.specs.Literal.{Literal}
 use Rattle.sat_words.specs.Clause.{has_opposites}
 use Rattle.simp_base.proofs.Long.{two_if_long}
-use Rattle.simp_equiv.proofs.stand_in.takes_part.Goals as goal
+use Rattle.simp_base.proofs.part.takes_part.Goals as goal
 
 pub returns-then-lits-ge2-clause-is : goal.returns-then-lits-ge2-clause-is
 returns-then-lits-ge2-clause-is c =

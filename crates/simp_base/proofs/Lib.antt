@@ -12,3 +12,4 @@ pub mod Known
 pub mod Stopping
 pub mod Filters
 pub mod Long
+pub mod Truths

@@ -11,7 +11,8 @@ use Rattle.model_stack.specs.Extend.{made_true, mended, extend, Lifts}
 use Rattle.model_stack.proofs.Walk.{extend-append}
 use Rattle.simp_base.proofs.Filters.{filter_In}
 use Rattle.simp_elim.specs.Resolution.{occurs, mentions, without, resolved, fix_of}
-use Rattle.simp_elim.proofs.Truths.{Agree, agree_made_true, true_made_true, lit_cases, Apart, apart_has, true_apart, true_opposites, true_has}
+use Rattle.simp_base.proofs.Truths.{Agree, agree_made_true, true_made_true, lit_cases, true_opposites}
+use Rattle.simp_elim.proofs.Truths.{Apart, apart_has, true_apart, true_has}
 
 -- what the entries of the clauses with the literal do: nothing, as all are true, or the literal is made true, as one is false
 data Walked (x : Literal) (P : List (List Literal)) (a : List Bool) (b : List Bool) : Type 0 where

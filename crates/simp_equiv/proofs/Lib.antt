@@ -4,7 +4,6 @@ mod Lists
 mod Moves
 mod Edges
 mod Follows
-mod Truths
 mod Replacing
 mod Standing
 mod Drawn

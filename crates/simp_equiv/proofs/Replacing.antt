@@ -10,7 +10,7 @@ use Rattle.rup_model.proofs.Lists.{In, any_In, In_any, all_In, In_all, map_In, I
 use Rattle.model_stack.specs.declared.stack.Fix.{Fix}
 use Rattle.model_stack.specs.Extend.{made_true, mended, extend, Lifts}
 use Rattle.simp_equiv.specs.Replacements.{Becomes, was_true, is_true, stays, Replacement, replacement_entries, replaced_entries}
-use Rattle.simp_equiv.proofs.Truths.{Agree, agree_made_true, true_made_true, lit_true-opposite, true_opposites}
+use Rattle.simp_base.proofs.Truths.{Agree, agree_made_true, true_made_true, lit_true-opposite, true_opposites}
 
 -- p touches no variable of q
 pub record IsApart (p q : Replacement) : Type 0 where

@@ -10,7 +10,7 @@ use Rattle.simp_equiv.specs.Graphs.{Walk, Reaches, Connected}
 use Rattle.simp_equiv.specs.Implications.{Implies, IsConsistent, StandsFor}
 use Rattle.simp_equiv.specs.Replacements.{Becomes, Replacement, positive, replacement_of, replacement_at, replacements, replaced_entries}
 use Rattle.simp_equiv.proofs.Ways.{chain, stay, connected_chain, connected_back}
-use Rattle.simp_equiv.proofs.Truths.{lit_cases}
+use Rattle.simp_base.proofs.Truths.{lit_cases}
 use Rattle.simp_equiv.proofs.Edges.{flat_In, In_flat}
 use Rattle.simp_equiv.proofs.Replacing.{Told, listed, negated, itself, Separate, lifts_replaced}
 

@@ -15,7 +15,6 @@ use Rattle.drat_text.specs.LineState.{LineState}
 use Rattle.drat_text.specs.declared.stop.LineStop.{LineStop}
 use Rattle.simp_base.specs.WorkState.{WorkState, IsWork, lists, unit_clauses, known, is_only, is_alive_unit}
 use Rattle.simp_base.specs.Calls.{Added, IsListed, WasListed}
-use Rattle.simp_base.specs.Causes.{HasCause}
 use Rattle.simp_base.specs.Log.{KeepsLog}
 use Rattle.simp_base.proofs.Keeping.{only_told}
 use Rattle.simp_base.proofs.Known.{known_alive, unit_among, nothing_logged}

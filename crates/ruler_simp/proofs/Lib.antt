@@ -1,0 +1,7 @@
+mod Going
+mod Running
+mod Turning
+mod Units
+mod Numbered
+mod Leaving
+mod Telling

@@ -1,0 +1,84 @@
+-- Units that are told are listed, and they are those of the program's opening.
+use Rattle.std.proofs.Common.{◌≡◌, ◌∙◌, ℕ, Bool, true, false, cond, List, [], ◌∷◌, ◌++◌, Option, Some, None, refl, sym, ap, subst, inl, inr, Contains}
+use Rattle.std.specs.List.{filter_map, cons_option}
+use Rattle.std.specs.Set.{is_member, unique_keys}
+use Rattle.std.proofs.lemmas.Bool.{or_cases, true≢false, false≢true}
+use Rattle.sat_words.specs.Literal.{Literal, same}
+use Rattle.sat_words.specs.Clause.{has, InOrder, same_set, just_one}
+use Rattle.sat_words.proofs.Canonical.{same_clause}
+use Rattle.sat_words.proofs.Insertion.{InOrder-clause_of}
+use Rattle.sat_words.proofs.Members.{same-refl, same-true}
+use Rattle.rup_model.specs.declared.journal.Entry.{Entry}
+use Rattle.rup_model.specs.Journal.{added, is_told}
+use Rattle.rup_model.specs.Opening.{IsRulersPart, only_literal, program_opening}
+use Rattle.rup_model.proofs.Lists.{In, any_In, In_any, has_In, In_has, In_map, Contains_In}
+use Rattle.rup_model.proofs.Covers.{both_true, same_has}
+use Rattle.rup_model.proofs.Units.{unit_one}
+use Rattle.rup_model.proofs.Told.{told_alive}
+use Rattle.rup_model.proofs.ProgramOpening.{rulers_ordered, program_opens}
+use Rattle.drat_text.specs.LineState.{LineState}
+use Rattle.simp_base.specs.WorkState.{WorkState, lists, is_only, is_alive_unit}
+use Rattle.simp_base.specs.Log.{Stands}
+use Rattle.simp_base.proofs.Lists.{All_In}
+
+-- Lists
+
+In_filter_map : {X Y : Type 0} (h : X → Option Y) (xs : List X) (x : X) (y : Y) → In x xs → h x ≡ Some y → In y (filter_map h xs)
+In_filter_map h [] x y i e = absurd i
+In_filter_map {X} {Y} h (z ∷ xs) x y i e = by (h z) refl i (λ k. In_filter_map h xs x y k e)
+  where
+    by : (o : Option Y) → h z ≡ o → In x (z ∷ xs) → (In x xs → In y (filter_map h xs)) → In y (cons_option o (filter_map h xs))
+    by None is (inl q) rec = absurd (let no : None ≡ Some y = sym is ∙ ap h q ∙ e in let none : ⊥ = cc in none)
+    by None is (inr k) rec = rec k
+    by (Some w) is (inl q) rec = inl (let both : Some w ≡ Some y = sym is ∙ ap h q ∙ e in let same_w : w ≡ y = cc in same_w)
+    by (Some w) is (inr k) rec = inr (rec k)
+
+In_unique : (xs : List Literal) (l : Literal) → In l xs → In l (unique_keys same xs)
+In_unique [] l i = i
+In_unique (x ∷ xs) l i = by (is_member same xs x) refl i (In_unique xs l)
+  where
+    by : (t : Bool) → is_member same xs x ≡ t → In l (x ∷ xs) → (In l xs → In l (unique_keys same xs)) → In l (cond t (unique_keys same xs) (x ∷ unique_keys same xs))
+    by true m (inl e) rec = rec (subst (λ (k : Literal). In k xs) e (has_In xs x m))
+    by true m (inr k) rec = rec k
+    by false m (inl e) rec = inl e
+    by false m (inr k) rec = inr (rec k)
+
+-- the literal of a clause that has just this one
+only_of : (l : Literal) (c : List Literal) → same_set (l ∷ []) c ≡ true → only_literal c ≡ Some l
+only_of l [] s = absurd (true≢false (sym s))
+only_of l (k ∷ c) s = by (just_one (k ∷ c)) (unit_one l (k ∷ c) s)
+  where
+    is : k ≡ l
+    is = elim (or_cases (same k l) false (same_has (l ∷ []) (k ∷ c) s k ∙ In_has (k ∷ c) k (inl refl))) as (λ _. k ≡ l) [ inl e ↦ same-true k l e | inr f ↦ absurd (false≢true f) ]
+
+    by : (t : Bool) → t ≡ true → cond t (Some k) None ≡ Some l
+    by true e = ap (λ (x : Literal). Some x) is
+    by false e = absurd (false≢true e)
+
+-- A work over a journal
+
+module _ (F : List (List Literal)) (out : LineState) (J : List Entry) (w : WorkState) (st : Stands (record { formula = F; journal = []; output = out }) J w) where
+  pub ordered : (n : ℕ) (c : List Literal) → Contains w.clauses (n, c) → InOrder c
+  ordered n c i = rulers_ordered F J st.rulers n c (st.held n c i)
+
+  alive_unit : (l : Literal) → is_told F J l ≡ true → is_alive_unit w l ≡ true
+  alive_unit l t =
+      let h = told_alive F J l st.sound.fits t in
+      let is : l ∷ [] ≡ h.1 = same_clause (l ∷ []) h.1 (InOrder-clause_of (l ∷ [])) (rulers_ordered F J st.rulers h.0 h.1 h.2) (same_has (l ∷ []) h.1 h.3) in
+      any_In (is_only l) (lists w.clauses) h.1 (In_map (λ (x : ℕ × List Literal). x.1) w.clauses (h.0, h.1) (Contains_In w.clauses (h.0, h.1) (st.all h.0 h.1 h.2)))
+      (subst (λ (c : List Literal). is_only l c ≡ true) is (same-refl l))
+
+  opened_unit : (l : Literal) → is_told F J l ≡ true → has (program_opening F J).units l ≡ true
+  opened_unit l t =
+      let s = In_any (same_set (l ∷ [])) (F ++ added J) t in
+      In_has (program_opening F J).units l (In_unique (filter_map only_literal (F ++ added J)) l (In_filter_map only_literal (F ++ added J) s.0 l s.1 (only_of l s.0 s.2)))
+
+  -- where no entry adds the empty clause, the journal is one that the ruler may leave
+  pub rulers_part : w.ended ≡ false → IsRulersPart F J
+  rulers_part going = record { rulers = st.rulers; going = sym st.ended ∙ going; fits = st.sound.fits; accepted = st.sound.accepted }
+
+  -- where the units whose clauses are alive are listed
+  pub units_are : w.ended ≡ false → ((l : Literal) → is_alive_unit w l ≡ true → has w.units l ≡ true) → (l : Literal) → has w.units l ≡ has (program_opening F J).units l
+  units_are going alone l = both_true (has w.units l) (has (program_opening F J).units l)
+      (λ h. opened_unit l (All_In (λ k. is_told F J k ≡ true) w.units l st.told (has_In w.units l h)))
+      (λ h. alone l (alive_unit l (All_In (λ k. is_told F J k ≡ true) (program_opening F J).units l (program_opens F J (rulers_part going)).told (has_In (program_opening F J).units l h))))

@@ -1,0 +1,4 @@
+pub mod Passes
+pub mod Rounds
+pub mod Left
+pub mod Ruled

@@ -1,0 +1,32 @@
+-- Rounds of simplifiers.
+use Rattle.std.specs.Prelude.{◌≡◌, ◌⊎◌, ℕ, zero, suc, List, [], ◌∷◌, ◌++◌, Result, Ok}
+use Rattle.rup_model.specs.declared.journal.Entry.{Entry}
+use Rattle.drat_text.specs.declared.stop.LineStop.{LineStop}
+use Rattle.simp_base.specs.WorkState.{WorkState}
+use Rattle.simp_base.specs.declared.work.Run.{Run}
+use Rattle.simp_base.specs.declared.work.Run.TheVariants.{Done}
+use Rattle.ruler_simp.specs.declared.passes.Pass.TheVariants.{Units}
+use Rattle.ruler_simp.specs.Passes.{RunTo, round_passes}
+
+-- no line was written
+abbrev pub WroteNothing : WorkState → WorkState → Type 0
+WroteNothing old new = new.output.entries ≡ old.output.entries
+
+-- as many rounds as these, or fewer: the first that is not done, or that wrote no line, is the last
+abbrev pub RoundsTo : ℕ → WorkState → WorkState → Result Run LineStop → List Entry → Type 0
+RoundsTo zero old new result entries = (result ≡ Ok Done) × (new ≡ old) × (entries ≡ [])
+RoundsTo (suc n) old new result entries = (RunTo round_passes old new result entries × (result ≡ Ok Done → WroteNothing old new))
+    ⊎ ((mid : WorkState) × (first : List Entry) × (later : List Entry) × RunTo round_passes old mid (Ok Done) first × (WroteNothing old mid → ⊥) × RoundsTo n mid new result later × (entries ≡ first ++ later))
+
+-- with some entries
+abbrev pub WereRounds : ℕ → WorkState → WorkState → Result Run LineStop → Type 0
+WereRounds n old new result = (entries : List Entry) × RoundsTo n old new result entries
+
+-- in no round, units alone
+abbrev pub SimplifiedTo : ℕ → WorkState → WorkState → Result Run LineStop → List Entry → Type 0
+SimplifiedTo zero old new result entries = RunTo (Units ∷ []) old new result entries
+SimplifiedTo (suc n) old new result entries = RoundsTo (suc n) old new result entries
+
+-- with some entries
+abbrev pub WasSimplified : ℕ → WorkState → WorkState → Result Run LineStop → Type 0
+WasSimplified n old new result = (entries : List Entry) × SimplifiedTo n old new result entries

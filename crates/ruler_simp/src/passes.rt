@@ -1,0 +1,40 @@
+// One simplifier of those that a round has.
+ghost use Rattle.std.specs.Prelude.{◌≡◌, false};
+ghost use Rattle.simp_base.specs.WorkState.{IsWork};
+ghost use Rattle.simp_base.specs.Log.{KeepsLog};
+ghost use Rattle.ruler_simp.specs.Passes.{Ends};
+
+use drat_text::{LineOut, LineStop};
+use simp_base::{Run, Work};
+
+/// A simplifier that runs over the whole work.
+#[derive(Clone, Copy, PartialEq, Eq, Debug)]
+pub enum Pass {
+    /// Units are propagated, and taken out of the clauses.
+    Units,
+    /// Clauses that contain others are deleted or made shorter.
+    Subsumption,
+    /// Equivalent literals are replaced by one of them.
+    Equivalence,
+    /// Variables are eliminated where this makes no more clauses.
+    Elimination,
+}
+
+impl Pass {
+    /// Runs the simplifier until nothing is left for it to do. After an error the work serves only to give the line output
+    /// back.
+    pub(crate) fn run<L: LineOut>(self, work: &mut Work<L>) -> Result<Run, LineStop>
+        requires unspent { work.old.output.spent ≡ false }
+        requires going { work.old.ended ≡ false }
+        ensures ends { Ends self work.old work.new result }
+        ensures log { KeepsLog work.old work.new }
+        ensures work { IsWork work.new }
+    {
+        match self {
+            Pass::Units => simp_units::run(work),
+            Pass::Subsumption => simp_subsume::run(work),
+            Pass::Equivalence => simp_equiv::run(work),
+            Pass::Elimination => simp_elim::run(work),
+        }
+    }
+}

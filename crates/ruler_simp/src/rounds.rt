@@ -1,0 +1,89 @@
+// The order in which the simplifiers run.
+//
+// What one of them leaves may give another one work: a unit shortens clauses, a shorter clause may be one of two literals,
+// and what replaces a clause may be contained in another one. So they run in rounds. A round that writes no line has
+// changed no clause, so that the next one would not either.
+ghost use Rattle.std.specs.Prelude.{◌≡◌, false, Contains};
+ghost use Rattle.simp_base.specs.WorkState.{IsWork};
+ghost use Rattle.ruler_simp.specs.Passes.{WereRun, round_passes};
+ghost use Rattle.ruler_simp.specs.Rounds.{WereRounds, WasSimplified};
+
+use crate::passes::Pass;
+use drat_text::{LineOut, LineStop};
+use simp_base::{Run, Work};
+
+/// Runs the simplifiers one after another, until one is not done.
+fn run_all<L: LineOut>(work: &mut Work<L>, passes: &[Pass]) -> Result<Run, LineStop>
+    requires unspent { work.old.output.spent ≡ false }
+    requires going { work.old.ended ≡ false }
+    requires work { IsWork work.old }
+    ensures ran { WereRun passes.now work.old work.new result }
+    ensures work { IsWork work.new }
+{
+    for pass in passes {
+        match pass.run(work) {
+            Ok(Run::Done) => {}
+            Ok(Run::Refuted) => return Ok(Run::Refuted),
+            Err(stop) => return Err(stop),
+        }
+    }
+    Ok(Run::Done)
+}
+
+/// One round. The units come first, since they make the other simplifiers' work less, and last, since these leave some.
+fn run_round<L: LineOut>(work: &mut Work<L>) -> Result<Run, LineStop>
+    requires unspent { work.old.output.spent ≡ false }
+    requires going { work.old.ended ≡ false }
+    requires work { IsWork work.old }
+    ensures ran { WereRun round_passes work.old work.new result }
+    ensures work { IsWork work.new }
+{
+    run_all(
+        work,
+        &[
+            Pass::Units,
+            Pass::Subsumption,
+            Pass::Equivalence,
+            Pass::Elimination,
+            Pass::Units,
+        ],
+    )
+}
+
+/// Rounds, as many as these, or fewer where one writes no line.
+fn run_rounds<L: LineOut>(work: &mut Work<L>, rounds: u32) -> Result<Run, LineStop>
+    requires unspent { work.old.output.spent ≡ false }
+    requires going { work.old.ended ≡ false }
+    requires work { IsWork work.old }
+    ensures ran { WereRounds rounds work.old work.new result }
+    ensures work { IsWork work.new }
+{
+    for done in 0..rounds {
+        let _ = done;
+        let before = work.line_count();
+        match run_round(work) {
+            Ok(Run::Done) => {}
+            Ok(Run::Refuted) => return Ok(Run::Refuted),
+            Err(stop) => return Err(stop),
+        }
+        if work.line_count() == before {
+            return Ok(Run::Done);
+        }
+    }
+    Ok(Run::Done)
+}
+
+/// Simplifies the work in this many rounds; in none, units alone are propagated.
+pub(crate) fn run<L: LineOut>(work: &mut Work<L>, rounds: u32) -> Result<Run, LineStop>
+    requires unspent { work.old.output.spent ≡ false }
+    requires going { work.old.ended ≡ false }
+    requires work { IsWork work.old }
+    ensures ran { WasSimplified rounds work.old work.new result }
+    ensures work { IsWork work.new }
+{
+    if rounds == 0 {
+        run_all(work, &[Pass::Units])
+    } else {
+        run_rounds(work, rounds)
+    }
+}

@@ -1,0 +1,86 @@
+// The call: a formula is simplified in rounds, and what is left of it is taken apart for the search.
+ghost use Rattle.std.specs.Prelude.{◌≡◌, false, length, All};
+ghost use Rattle.sat_words.specs.Literal.{IsOn};
+ghost use Rattle.ruler_simp.specs.Left.{IsTaken};
+ghost use Rattle.ruler_simp.specs.Ruled.{Ruled};
+
+use crate::rounds::run;
+use crate::starts::starts_of;
+use drat_text::{LineOut, LineStop};
+use model_stack::Stack;
+use sat_words::{Clause, Formula, Lit};
+use simp_base::{Parts, Run, Work};
+use std::alloc::Global;
+
+/// What is left of a formula.
+#[derive(Drop)]
+pub struct Simplified {
+    /// The clauses of two literals or more that are alive, but for tautologies: each with its number in the log, in order of
+    /// number.
+    pub start: Vec<(u64, Clause)>,
+    /// The units, each once, in the order in which they came.
+    pub units: Vec<Lit>,
+    /// What a model of these has to be mended for, to be one of the formula.
+    pub stack: Stack,
+}
+
+/// What simplifying came to.
+#[derive(Drop)]
+pub enum Outcome {
+    /// This is left.
+    Simplified(Simplified),
+    /// The formula has no model: the empty clause was added, and the log refutes it.
+    Refuted,
+}
+
+/// Takes a work apart, by how its simplifying ended.
+fn take<L: LineOut>(answer: Result<Run, LineStop>, work: Work<L>) -> (Result<Outcome, LineStop>, L)
+    ensures taken { IsTaken answer work result.0 }
+    ensures output { L.told result.1 ≡ work.output }
+{
+    let Parts {
+        clauses,
+        units,
+        stack,
+        output,
+    } = work.into_parts();
+    match answer {
+        Ok(Run::Done) => {
+            let start = starts_of(clauses);
+            let simplified = Simplified {
+                start,
+                units,
+                stack,
+            };
+            (Ok(Outcome::Simplified(simplified)), output)
+        }
+        Ok(Run::Refuted) => (Ok(Outcome::Refuted), output),
+        Err(stop) => (Err(stop), output),
+    }
+}
+
+/// Simplifies a formula in this many rounds: each propagates units, deletes clauses that contain others or makes them
+/// shorter, replaces equivalent literals, eliminates variables, and propagates units again. A round that writes no line is
+/// the last. In no round units alone are propagated.
+///
+/// The lines go to the output, which has none yet and comes back with each answer. After a fault it takes no more lines;
+/// after any error nothing else is left.
+pub fn simplify<L: LineOut>(
+    alloc: Global,
+    formula: &Formula,
+    rounds: u32,
+    output: L,
+) -> (Result<Outcome, LineStop>, L)
+    requires unspent { (L.told output).spent ≡ false }
+    requires blank { (L.told output).entries ≡ 0 }
+    requires last { (L.told output).last ≡ length formula.now.clauses }
+    requires on { All (All (IsOn formula.now.vars)) formula.now.clauses }
+    ensures { Ruled formula.now rounds (L.told output) (L.told result.1) result.0 }
+{
+    let mut work = match Work::new(alloc, formula, output) {
+        Ok(work) => work,
+        Err(refused) => return (Err(LineStop::Memory), refused.value),
+    };
+    let answer = run(&mut work, rounds);
+    take(answer, work)
+}

@@ -1,0 +1,21 @@
+// The clauses that the search starts with.
+ghost use Rattle.std.specs.Prelude.{ℕ, List};
+ghost use Rattle.std.specs.List.{filter};
+ghost use Rattle.std.specs.List.Sorted.{IsPermutation, IsNonDecreasingBy};
+ghost use Rattle.sat_words.specs.Literal.{Literal};
+ghost use Rattle.simp_base.specs.Parts.{takes_part};
+
+use sat_words::Clause;
+use simp_base::takes_part;
+
+/// Those of the clauses that have two literals or more and are no tautologies, in order of number. They stay where they
+/// are in memory, and no more is taken.
+pub(crate) fn starts_of(clauses: Vec<(u64, Clause)>) -> Vec<(u64, Clause)>
+    ensures kept { IsPermutation (filter (λ (c : ℕ × List Literal). takes_part c.1) clauses.items) result.items }
+    ensures sorted { IsNonDecreasingBy (λ (c : ℕ × List Literal). c.0) result.items }
+{
+    let mut starts = clauses;
+    starts.retain(|cell| takes_part(&cell.1));
+    starts.sort_unstable_by_key(|cell| cell.0);
+    starts
+}

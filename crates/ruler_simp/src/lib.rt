@@ -8,3 +8,6 @@ mod starts;
 
 pub use passes::Pass;
 pub use ruling::{Outcome, Simplified, simplify};
+
+#[cfg(test)]
+mod tests;

@@ -1,5 +1,5 @@
 -- What simplifiers leave that run one after another, in rounds.
-use Rattle.std.proofs.Common.{◌≡◌, ℕ, zero, suc, List, [], ◌∷◌, ◌++◌, refl, sym, subst, inl, inr, append_assoc, append-nil}
+use Rattle.std.proofs.Common.{◌≡◌, ◌∙◌, ℕ, zero, suc, List, [], ◌∷◌, ◌++◌, refl, sym, subst, inl, inr, append_assoc, append-nil}
 use Rattle.std.specs.Prelude.{Result, Ok}
 use Rattle.rup_model.specs.declared.journal.Entry.{Entry}
 use Rattle.drat_text.specs.declared.stop.LineStop.{LineStop}
@@ -21,10 +21,10 @@ End = Result Run LineStop
 -- The log
 
 pub continues_none : (w : WorkState) → Continues [] w w
-continues_none w o mine h = subst (λ es. Stands o es w) (sym (append-nil mine)) h
+continues_none w = record { vars = refl; stands = λ o mine h. subst (λ es. Stands o es w) (sym (append-nil mine)) h }
 
 continues_along : (a b c : WorkState) (fs gs : List Entry) → Continues fs a b → Continues gs b c → Continues (fs ++ gs) a c
-continues_along a b c fs gs f g o mine h = subst (λ es. Stands o es c) (append_assoc mine fs gs) (g o (mine ++ fs) (f o mine h))
+continues_along a b c fs gs f g = record { vars = g.vars ∙ f.vars; stands = λ o mine h. subst (λ es. Stands o es c) (append_assoc mine fs gs) (g.stands o (mine ++ fs) (f.stands o mine h)) }
 
 -- nothing was done
 idle : (a c : WorkState) (result : End) (entries : List Entry) → (result ≡ Ok Done) × (c ≡ a) × (entries ≡ []) → Continues entries a c

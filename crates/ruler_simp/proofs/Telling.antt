@@ -110,7 +110,8 @@ module _ (F : FormulaData) (rounds : ℕ) (old : LineState) (unspent : old.spent
     pub ruled : (answer : Result Run LineStop) → WasSimplified rounds (begun F old) w answer → (result : Result Outcome LineStop) → IsTaken answer w result → Ruled F rounds old new result
     ruled (Ok RunDone) h (Ok (LeftOver s)) left = (
         let goes : GoesOn (begun F old) w = whole_comes rounds (begun F old) w (Ok RunDone) h.0 ready h.1 in
-        let stands = whole_log rounds (begun F old) w (Ok RunDone) h.0 h.1 (origin_of F old) [] begins in
+        let log = whole_log rounds (begun F old) w (Ok RunDone) h.0 h.1 in
+        let stands = log.stands (origin_of F old) [] begins in
         let first = whole_first rounds (begun F old) w h.0 h.1 in
         let end = whole_last rounds (begun F old) w h.0 h.1 in
         record {
@@ -118,6 +119,7 @@ module _ (F : FormulaData) (rounds : ℕ) (old : LineState) (unspent : old.spent
           work = w;
           ran = h.1;
           stands = stands;
+          vars = log.vars;
           output = out;
           answer = (
             simplified F old h.0 w stands kept goes (none_empty F old first.1.open_yet) end.1.alone s left,
@@ -129,12 +131,14 @@ module _ (F : FormulaData) (rounds : ℕ) (old : LineState) (unspent : old.spent
     ruled (Ok RunRefuted) h (Ok (LeftOver s)) left = absurd left
     ruled (Ok RunRefuted) h (Ok NoModel) left = (
         let over : IsOver (begun F old) w = whole_comes rounds (begun F old) w (Ok RunRefuted) h.0 ready h.1 in
-        let stands = whole_log rounds (begun F old) w (Ok RunRefuted) h.0 h.1 (origin_of F old) [] begins in
+        let log = whole_log rounds (begun F old) w (Ok RunRefuted) h.0 h.1 in
+        let stands = log.stands (origin_of F old) [] begins in
         record {
           journal = h.0;
           work = w;
           ran = h.1;
           stands = stands;
+          vars = log.vars;
           output = out;
           answer = (
             added_empty_refutes F.clauses h.0 stands.sound (sym stands.ended ∙ over.ended),
@@ -143,17 +147,19 @@ module _ (F : FormulaData) (rounds : ℕ) (old : LineState) (unspent : old.spent
         })
     ruled (Ok RunRefuted) h (Err stop) left = absurd left
     ruled (Err why) h (Ok outcome) left = absurd left
-    ruled (Err why) h (Err stop) left = subst (λ (x : LineStop). Ruled F rounds old new (Err x)) (sym left) (record {
-      journal = h.0;
-      work = w;
-      ran = h.1;
-      stands = whole_log rounds (begun F old) w (Err why) h.0 h.1 (origin_of F old) [] begins;
-      output = out;
-      answer = stopped why (whole_comes rounds (begun F old) w (Err why) h.0 ready h.1);
-    })
-      where
-        stopped : (x : LineStop) → HasOutputCause old w.output x → HasOutputCause old new x
-        stopped x q = subst (λ (y : LineState). HasOutputCause old y x) (sym out) q
+    ruled (Err why) h (Err stop) left = (
+        let log = whole_log rounds (begun F old) w (Err why) h.0 h.1 in
+        let stands = log.stands (origin_of F old) [] begins in
+        let cause = whole_comes rounds (begun F old) w (Err why) h.0 ready h.1 in
+        subst (λ (x : LineStop). Ruled F rounds old new (Err x)) (sym left) (record {
+          journal = h.0;
+          work = w;
+          ran = h.1;
+          stands = stands;
+          vars = log.vars;
+          output = out;
+          answer = (subst (λ (y : LineState). HasOutputCause old y why) (sym out) cause.0, sym stands.ended ∙ cause.1);
+        }))
 
   -- there was no memory for the work
   pub none_made : (new : LineState) → new ≡ old → Ruled F rounds old new (Err Memory)
@@ -162,13 +168,14 @@ module _ (F : FormulaData) (rounds : ℕ) (old : LineState) (unspent : old.spent
     work = begun F old;
     ran = stopped rounds;
     stands = begins;
+    vars = refl;
     output = same;
-    answer = ap (λ (x : LineState). x.faults) same;
+    answer = (ap (λ (x : LineState). x.faults) same, refl);
   }
     where
       units : RunTo (Units ∷ []) (begun F old) (begun F old) (Err Memory) []
-      units = inl (record { ends = refl; log = continues_none (begun F old); work = begun_work F old last on }, λ e. let none : ⊥ = cc in none)
+      units = inl (record { ends = (refl, refl); log = continues_none (begun F old); work = begun_work F old last on }, λ e. let none : ⊥ = cc in none)
 
       stopped : (n : ℕ) → SimplifiedTo n (begun F old) (begun F old) (Err Memory) []
       stopped zero = units
-      stopped (suc n) = inl (inl (record { ends = refl; log = continues_none (begun F old); work = begun_work F old last on }, λ e. let none : ⊥ = cc in none), λ e. absurd (let none : ⊥ = cc in none))
+      stopped (suc n) = inl (inl (record { ends = (refl, refl); log = continues_none (begun F old); work = begun_work F old last on }, λ e. let none : ⊥ = cc in none), λ e. absurd (let none : ⊥ = cc in none))

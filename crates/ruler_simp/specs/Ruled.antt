@@ -6,7 +6,7 @@ use Rattle.sat_words.specs.Clause.{has, is_empty}
 use Rattle.sat_words.specs.FormulaData.{FormulaData}
 use Rattle.rup_model.specs.declared.journal.Entry.{Entry}
 use Rattle.rup_model.specs.Log.{Refutes}
-use Rattle.rup_model.specs.Journal.{lines}
+use Rattle.rup_model.specs.Journal.{lines, added}
 use Rattle.rup_model.specs.Opening.{IsOpening, program_opening}
 use Rattle.model_stack.specs.Extend.{Lifts}
 use Rattle.drat_text.specs.LineState.{LineState}
@@ -44,11 +44,16 @@ pub record IsSimplified (F : FormulaData) (journal : List Entry) (s : Simplified
   pub lifts : Lifts F.clauses (left_clauses s) s.stack
   pub on : AreOn F.vars s
 
--- what an answer tells of the formula, of the journal, and of the output before and after
+-- no entry adds the empty clause
+abbrev pub IsUnended : List Entry → Type 0
+IsUnended journal = list_any is_empty (added journal) ≡ false
+
+-- what an answer tells of the formula, of the journal, and of the output before and after: where simplifying was stopped, no
+-- verdict had been reached
 abbrev pub IsAnswer : FormulaData → List Entry → LineState → LineState → Result Outcome LineStop → Type 0
 IsAnswer F journal old new (Ok (LeftOver s)) = IsSimplified F journal s × IsSound old new
 IsAnswer F journal old new (Ok NoModel) = Refutes F.clauses (lines F.clauses journal) × IsSound old new
-IsAnswer F journal old new (Err stop) = HasOutputCause old new stop
+IsAnswer F journal old new (Err stop) = HasOutputCause old new stop × IsUnended journal
 
 -- how the last of the simplifiers ended
 abbrev pub run_of : Result Outcome LineStop → Result Run LineStop
@@ -61,11 +66,13 @@ abbrev pub origin_of : FormulaData → LineState → Origin
 origin_of F output = record { formula = F.clauses; journal = []; output = output }
 
 -- the simplifiers ran over the formula in this many rounds, and left a work and a journal; the work stands over the journal,
--- so that each of its lines is valid where it stands and the output has them; the answer is what they came to
+-- so that each of its lines is valid where it stands, all of them on the formula's variables, and the output has them; the
+-- answer is what they came to
 pub record Ruled (F : FormulaData) (rounds : ℕ) (old new : LineState) (result : Result Outcome LineStop) : Type 0 where
   pub journal : List Entry
   pub work : WorkState
   pub ran : SimplifiedTo rounds (begun F old) work (run_of result) journal
   pub stands : Stands (origin_of F old) journal work
+  pub vars : work.vars ≡ F.vars
   pub output : new ≡ work.output
   pub answer : IsAnswer F journal old new result

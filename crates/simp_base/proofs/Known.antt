@@ -1,5 +1,5 @@
 -- What is known of a work.
-use Rattle.std.proofs.Common.{◌≡◌, ◌⊎◌, ℕ, ◌<◌, ◌≤◌, arith, false, true, List, [], ◌∷◌, ◌++◌, sym, ap, ◌∙◌, subst, inl, inr, Bool, Contains, append-nil, ◌+◌}
+use Rattle.std.proofs.Common.{◌≡◌, ◌⊎◌, ℕ, ◌<◌, ◌≤◌, arith, false, true, List, [], ◌∷◌, ◌++◌, refl, sym, ap, ◌∙◌, subst, inl, inr, Bool, Contains, append-nil, ◌+◌}
 use Rattle.std.proofs.lemmas.Bool.{true≢false}
 use Rattle.sat_words.specs.Literal.{Literal, IsOn}
 use Rattle.rup_model.proofs.Lists.{In, In_map, In_append_left, In_append_right, Contains_In, In_Contains}
@@ -21,7 +21,7 @@ on_alive w kept n c h k i =
     All_In (IsOn w.vars) c k (All_In (All (IsOn w.vars)) (lists w.clauses) c kept.clauses_on (In_map (λ (x : ℕ × List Literal). x.1) w.clauses (n, c) (Contains_In w.clauses (n, c) h))) i
 
 pub nothing_logged : (w : WorkState) → KeepsLog w w
-nothing_logged w = ([], λ o mine h. subst (λ es. Stands o es w) (sym (append-nil mine)) h)
+nothing_logged w = ([], record { vars = refl; stands = λ o mine h. subst (λ es. Stands o es w) (sym (append-nil mine)) h })
 
 pub first_or_rest : (q : ℕ) (rest : List ℕ) (p : ℕ) → Contains (q ∷ rest) p → (q ≡ p) ⊎ Contains rest p
 first_or_rest q rest p h = elim (Contains_In (q ∷ rest) p h) as (λ _. (q ≡ p) ⊎ Contains rest p) [ inl e ↦ inl e | inr i ↦ inr (In_Contains rest p i) ]

@@ -16,4 +16,10 @@ pub lifted_self : (a : WorkState) → Lifted a a
 lifted_self a = record { fixes = []; stack = sym (append-nil a.stack); lifts = λ m h. h }
 
 pub logs_along : (a b c : WorkState) → KeepsLog a b → KeepsLog b c → KeepsLog a c
-logs_along a b c f g = (f.0 ++ g.0, λ o mine h. subst (λ es. Stands o es c) (append_assoc mine f.0 g.0) (g.1 o (mine ++ f.0) (f.1 o mine h)))
+logs_along a b c f g = (
+  f.0 ++ g.0,
+  record {
+    vars = g.1.vars ∙ f.1.vars;
+    stands = λ o mine h. subst (λ es. Stands o es c) (append_assoc mine f.0 g.0) (g.1.stands o (mine ++ f.0) (f.1.stands o mine h));
+  },
+)

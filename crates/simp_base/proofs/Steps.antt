@@ -269,33 +269,58 @@ not_put o mine old new h e x one valid fit going unspent on ProofFault f =
 not_put o mine old new h e x one valid fit going unspent on Full f = nothing_more o mine new (subst (Stands o mine) (sym f.1) h)
 not_put o mine old new h e x one valid fit going unspent on Memory f = nothing_more o mine new (subst (Stands o mine) (sym f) h)
 
+-- whatever a work stands over, it still does once these entries follow
+abbrev Follows : List Entry → WorkState → WorkState → Type 0
+Follows entries old new = (o : Origin) (mine : List Entry) → Stands o mine old → Stands o (mine ++ entries) new
+
+not_put_vars : (old new : WorkState) (x : Line) (stop : LineStop) → NotPut old new x stop → new.vars ≡ old.vars
+not_put_vars old new x ProofFault h = ap (λ (w : WorkState). w.vars) h.state
+not_put_vars old new x Full h = ap (λ (w : WorkState). w.vars) h.1
+not_put_vars old new x Memory h = ap (λ (w : WorkState). w.vars) h
+
 next_number : (o : Origin) (mine : List Entry) (w : WorkState) → Stands o mine w → w.output.last + 1 ≡ (book o.formula (journal_of o mine)).next
 next_number o mine w h = sym h.lines.last
 
-pub added_keeps : (old new : WorkState) (lits : List Literal) (result : Result ℕ LineStop) → old.output.spent ≡ false → old.ended ≡ false → rup (known old) lits ≡ true → All (IsOn old.vars) lits
-    → WasAdded old new lits result → Continues (on_ok result (ruler_adds (old.output.last + 1) lits ∷ [])) old new
-added_keeps old new lits (Ok number) unspent going follows on was o mine h =
+added_stands : (old new : WorkState) (lits : List Literal) (result : Result ℕ LineStop) → old.output.spent ≡ false → old.ended ≡ false → rup (known old) lits ≡ true → All (IsOn old.vars) lits
+    → WasAdded old new lits result → Follows (on_ok result (ruler_adds (old.output.last + 1) lits ∷ [])) old new
+added_stands old new lits (Ok number) unspent going follows on was o mine h =
     let given : number ≡ old.output.last + 1 = was.put.given in
     subst (Stands o (mine ++ ruler_adds (old.output.last + 1) lits ∷ [])) (sym was.state)
     (subst (λ (k : ℕ). Stands o (mine ++ ruler_adds (old.output.last + 1) lits ∷ []) (record old { clauses = old.clauses ++ (k, clause_of lits) ∷ []; ended = is_empty lits; output = new.output })) (sym given)
     (stands_added o mine old h lits (old.output.last + 1) follows going (next_number o mine old h) new.output unspent on
     (subst (λ k. PutLine old.output new.output (AddLine lits) k) given was.put)))
-added_keeps old new lits (Err stop) unspent going follows on was o mine h =
+added_stands old new lits (Err stop) unspent going follows on was o mine h =
     not_put o mine old new h (ruler_adds (old.output.last + 1) lits) (AddLine lits) refl (valid_add o mine old h lits (old.output.last + 1) follows going)
     (record { numbered = next_number o mine old h; names = tt }) going unspent on stop was
 
-pub deleted_keeps : (old new : WorkState) (number : ℕ) (c : List Literal) (result : Result (Unit {0}) LineStop) → IsWork old → old.output.spent ≡ false → old.ended ≡ false → Contains old.clauses (number, c) → two_or_more c ≡ true
-    → WasDeleted old new number result → Continues (on_ok result (ruler_deletes number ∷ [])) old new
-deleted_keeps old new number c (Ok done) kept unspent going alive_c two was o mine h =
+pub added_keeps : (old new : WorkState) (lits : List Literal) (result : Result ℕ LineStop) → old.output.spent ≡ false → old.ended ≡ false → rup (known old) lits ≡ true → All (IsOn old.vars) lits
+    → WasAdded old new lits result → Continues (on_ok result (ruler_adds (old.output.last + 1) lits ∷ [])) old new
+added_keeps old new lits result unspent going follows on was = record { vars = same result was; stands = added_stands old new lits result unspent going follows on was }
+  where
+    same : (r : Result ℕ LineStop) → WasAdded old new lits r → new.vars ≡ old.vars
+    same (Ok number) h = ap (λ (w : WorkState). w.vars) h.state
+    same (Err stop) h = not_put_vars old new (AddLine lits) stop h
+
+deleted_stands : (old new : WorkState) (number : ℕ) (c : List Literal) (result : Result (Unit {0}) LineStop) → IsWork old → old.output.spent ≡ false → old.ended ≡ false → Contains old.clauses (number, c) → two_or_more c ≡ true
+    → WasDeleted old new number result → Follows (on_ok result (ruler_deletes number ∷ [])) old new
+deleted_stands old new number c (Ok done) kept unspent going alive_c two was o mine h =
     let same_c : c ≡ was.clause = one_clause o mine old h number c was.clause alive_c was.alive in
     subst (Stands o (mine ++ ruler_deletes number ∷ [])) (sym was.state)
     (stands_deleted o mine old h number was.clause was.alive (subst (λ d. two_or_more d ≡ true) same_c two) going new.clauses was.others new.output unspent was.put)
-deleted_keeps old new number c (Err stop) kept unspent going alive_c two was o mine h =
+deleted_stands old new number c (Err stop) kept unspent going alive_c two was o mine h =
     let same_c : c ≡ was.clause = one_clause o mine old h number c was.clause alive_c was.alive in
     let two_d : two_or_more was.clause ≡ true = subst (λ d. two_or_more d ≡ true) same_c two in
     not_put o mine old new h (ruler_deletes number) (DelLine was.clause)
     (one_del o mine old h number was.clause was.alive two_d going) (valid_del o mine old h number was.clause was.alive two_d going) (fit_del o mine old h number was.clause was.alive two_d going)
     going unspent (on_clause old kept number was.clause was.alive) stop was.left
+
+pub deleted_keeps : (old new : WorkState) (number : ℕ) (c : List Literal) (result : Result (Unit {0}) LineStop) → IsWork old → old.output.spent ≡ false → old.ended ≡ false → Contains old.clauses (number, c) → two_or_more c ≡ true
+    → WasDeleted old new number result → Continues (on_ok result (ruler_deletes number ∷ [])) old new
+deleted_keeps old new number c result kept unspent going alive_c two was = record { vars = same result was; stands = deleted_stands old new number c result kept unspent going alive_c two was }
+  where
+    same : (r : Result (Unit {0}) LineStop) → WasDeleted old new number r → new.vars ≡ old.vars
+    same (Ok done) h = ap (λ (w : WorkState). w.vars) h.state
+    same (Err stop) h = not_put_vars old new (DelLine h.clause) stop h.left
 
 -- Units
 
@@ -362,7 +387,7 @@ told_here G L n l =
     (same_self (l ∷ []))
 
 module _ (old new : WorkState) (l : Literal) (unspent : old.output.spent ≡ false) (going : old.ended ≡ false) (follows : rup (known old) (l ∷ []) ≡ true) (on : IsOn old.vars l) where
-  listed_by : (b a : Bool) → a ≡ is_alive_unit old l → IsListed b a old new l → Continues (entries_for (b || a) old l) old new
+  listed_by : (b a : Bool) → a ≡ is_alive_unit old l → IsListed b a old new l → Follows (entries_for (b || a) old l) old new
   listed_by true a is was o mine h = nothing_more o mine new (subst (Stands o mine) (sym was) h)
   listed_by false true is was o mine h = nothing_more o mine new (subst (Stands o mine) (sym was) (stands_listed o mine old h l (alive_told o mine old h l (sym is))))
   listed_by false false is was o mine h =
@@ -377,11 +402,23 @@ module _ (old new : WorkState) (l : Literal) (unspent : old.output.spent ≡ fal
       subst (Stands o (mine ++ ruler_adds n (l ∷ []) ∷ []))
       ((λ i. record old { clauses = old.clauses ++ (sym given i, l ∷ []) ∷ []; units = old.units ++ l ∷ []; ended = sym going i; output = b }) ∙ sym was.state) both
 
-  pub listed_keeps : (result : Result (Unit {0}) LineStop) → WasListed old new l result → Continues (on_ok result (unit_entries old l)) old new
-  listed_keeps (Ok done) was o mine h = listed_by (has old.units l) (is_alive_unit old l) refl was o mine h
-  listed_keeps (Err stop) was o mine h =
+  listed_stands : (result : Result (Unit {0}) LineStop) → WasListed old new l result → Follows (on_ok result (unit_entries old l)) old new
+  listed_stands (Ok done) was o mine h = listed_by (has old.units l) (is_alive_unit old l) refl was o mine h
+  listed_stands (Err stop) was o mine h =
       not_put o mine old new h (ruler_adds (old.output.last + 1) (l ∷ [])) (AddLine (l ∷ [])) refl (valid_add o mine old h (l ∷ []) (old.output.last + 1) follows going)
       (record { numbered = next_number o mine old h; names = tt }) going unspent (one_All (IsOn old.vars) l on) stop was
+
+  pub listed_keeps : (result : Result (Unit {0}) LineStop) → WasListed old new l result → Continues (on_ok result (unit_entries old l)) old new
+  listed_keeps result was = record { vars = same result was; stands = listed_stands result was }
+    where
+      here : (b a : Bool) → IsListed b a old new l → new.vars ≡ old.vars
+      here true a h = ap (λ (w : WorkState). w.vars) h
+      here false true h = ap (λ (w : WorkState). w.vars) h
+      here false false h = ap (λ (w : WorkState). w.vars) h.state
+
+      same : (r : Result (Unit {0}) LineStop) → WasListed old new l r → new.vars ≡ old.vars
+      same (Ok done) h = here (has old.units l) (is_alive_unit old l) h
+      same (Err stop) h = not_put_vars old new (AddLine (l ∷ [])) stop h
 
 -- the stack is no matter of the log
 pub stands_pushed : (o : Origin) (mine : List Entry) (w : WorkState) → Stands o mine w → (S : List Fix) → Stands o (mine ++ []) (record w { stack = S })

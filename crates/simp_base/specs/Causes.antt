@@ -1,5 +1,5 @@
 -- Why a run was stopped.
-use Rattle.std.specs.Prelude.{◌≡◌}
+use Rattle.std.specs.Prelude.{◌≡◌, false}
 use Rattle.io_edge.specs.Causes.{Rose}
 use Rattle.sat_words.specs.declared.shared.TheConstants.{MAX_ENTRIES}
 use Rattle.drat_text.specs.declared.stop.LineStop.{LineStop}
@@ -14,6 +14,6 @@ HasOutputCause old new ProofFault = Rose old.faults new.faults
 HasOutputCause old new Full = (new.entries ≡ MAX_ENTRIES) × (new.faults ≡ old.faults)
 HasOutputCause old new Memory = new.faults ≡ old.faults
 
--- so it is with the output of a work
+-- so it is with the output of a work, to which the empty clause was not added
 abbrev pub HasCause : WorkState → WorkState → LineStop → Type 0
-HasCause old new stop = HasOutputCause old.output new.output stop
+HasCause old new stop = HasOutputCause old.output new.output stop × (new.ended ≡ false)

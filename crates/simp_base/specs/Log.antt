@@ -36,9 +36,10 @@ pub record Stands (o : Origin) (mine : List Entry) (w : WorkState) : Type 0 wher
   pub told : All (λ l. is_told o.formula (journal_of o mine) l ≡ true) w.units
   pub lines : HasLines o mine w.vars w.output
 
--- whatever a work stands over, it still does once these entries follow
-abbrev pub Continues : List Entry → WorkState → WorkState → Type 0
-Continues entries old new = (o : Origin) (mine : List Entry) → Stands o mine old → Stands o (mine ++ entries) new
+-- whatever a work stands over, it still does once these entries follow; the variables are as they were
+pub record Continues (entries : List Entry) (old new : WorkState) : Type 0 where
+  pub vars : new.vars ≡ old.vars
+  pub stands : (o : Origin) (mine : List Entry) → Stands o mine old → Stands o (mine ++ entries) new
 
 -- whatever a work stands over, it still does behind some entries of its own, the same over each origin
 abbrev pub KeepsLog : WorkState → WorkState → Type 0

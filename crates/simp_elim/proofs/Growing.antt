@@ -252,4 +252,4 @@ grown_unit old mid new k g h kept log =
 
 pub was_grown_unit : (old mid new : WorkState) (k : Literal) → Came old mid (k ∷ []) → IsWork new → KeepsLog mid new → (result : Result (Unit {0}) LineStop) → WasListed mid new k result → WasGrown old new ((k ∷ []) ∷ []) result
 was_grown_unit old mid new k g kept log (Ok done) h = grown_unit old mid new k g h kept log
-was_grown_unit old mid new k g kept log (Err stop) h = stopped_after old mid new stop g.on (not_put_cause mid new (AddLine (k ∷ [])) stop h, log)
+was_grown_unit old mid new k g kept log (Err stop) h = stopped_after old mid new stop g.on (not_put_cause mid new (AddLine (k ∷ [])) stop g.on.going h, log)

@@ -102,7 +102,7 @@ module _ (old new : WorkState) (n : ℕ) (kept : IsWork old) (kept_new : IsWork 
 
   pub was_removed : (result : Result (Unit {0}) LineStop) → WasDeleted old new n result → WasRemoved old new (n ∷ []) result
   was_removed (Ok done) h = removed_one h
-  was_removed (Err stop) h = (not_put_cause old new (DelLine h.clause) stop h.left, log)
+  was_removed (Err stop) h = (not_put_cause old new (DelLine h.clause) stop going h.left, log)
 
 -- one after another
 pub removed_along : (a b c : WorkState) (xs ys : List ℕ) → Removed a b xs → Removed b c ys → Removed a c (xs ++ ys)

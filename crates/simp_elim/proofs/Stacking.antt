@@ -9,7 +9,7 @@ use Rattle.simp_base.specs.WorkState.{WorkState, IsWork}
 use Rattle.simp_base.specs.Log.{KeepsLog}
 use Rattle.simp_base.proofs.Known.{nothing_logged}
 use Rattle.simp_base.proofs.LiftSteps.{logs_along}
-use Rattle.simp_base.proofs.Stopping.{cause_after, cause_of_memory}
+use Rattle.simp_base.proofs.Stopping.{output_cause_after, output_cause_of_memory}
 use Rattle.simp_elim.specs.Resolution.{fix_of}
 use Rattle.simp_elim.specs.Occurring.{clause_at}
 use Rattle.simp_elim.specs.Stages.{Stacked, WasStacked}
@@ -28,7 +28,7 @@ stacked_along a b c S T f g = record {
 
 pub was_stacked_after : (a b c : WorkState) (S T : List Fix) → Stacked a b S → (result : Result (Unit {0}) LineStop) → WasStacked b c T result → WasStacked a c (S ++ T) result
 was_stacked_after a b c S T f (Ok done) h = stacked_along a b c S T f h
-was_stacked_after a b c S T f (Err stop) h = (cause_after a b c stop (ap (λ (w : WorkState). w.output.faults) f.state) h.0, logs_along a b c f.log h.1)
+was_stacked_after a b c S T f (Err stop) h = (output_cause_after a.output b.output c.output stop (ap (λ (w : WorkState). w.output.faults) f.state) h.0, h.1 ∙ ap (λ (w : WorkState). w.ended) f.state, logs_along a b c f.log h.2)
 
 -- the entries of the first clauses, and of one more
 pub stacked_next : (a b c : WorkState) (l : Literal) (numbers : List ℕ) (i : ℕ) → i < length numbers → Stacked a b (map (fix_of l) (map (clause_at a.clauses) (take i numbers)))
@@ -48,4 +48,4 @@ stacked_next a b c l numbers i lt f g =
 pub was_pushed : (old new : WorkState) (l : Literal) (c : List Literal) → IsWork new → KeepsLog old new → (result : Result (Unit {0}) LineStop)
     → OnOk result (new ≡ record old { stack = old.stack ++ fix_of l c ∷ [] }) → OnErr result (new ≡ old) → IfErr result (λ stop. stop ≡ Memory) → WasStacked old new (fix_of l c ∷ []) result
 was_pushed old new l c kept log (Ok done) ok same err = record { state = ok; work = kept; log = log }
-was_pushed old new l c kept log (Err stop) ok same err = (cause_of_memory old new stop err (ap (λ (w : WorkState). w.output.faults) same), log)
+was_pushed old new l c kept log (Err stop) ok same err = (output_cause_of_memory old.output new.output stop err (ap (λ (w : WorkState). w.output.faults) same), ap (λ (w : WorkState). w.ended) same, log)

@@ -143,4 +143,4 @@ grown_listed old new l going unspent kept false e h log =
 
 pub was_listed : (old new : WorkState) (l : Literal) → old.ended ≡ false → old.output.spent ≡ false → IsWork new → KeepsLog old new → (result : Result (Unit {0}) LineStop) → WasListed old new l result → WasGrown old new (l ∷ []) result
 was_listed old new l going unspent kept log (Ok done) h = grown_listed old new l going unspent kept (has old.units l) refl h log
-was_listed old new l going unspent kept log (Err stop) h = (not_put_cause old new (AddLine (l ∷ [])) stop h, log)
+was_listed old new l going unspent kept log (Err stop) h = (not_put_cause old new (AddLine (l ∷ [])) stop going h, log)

@@ -179,7 +179,7 @@ module _ (old new : WorkState) (sin : Literal → Literal) (n : ℕ) (c : List L
 
   pub was_removed : (result : Result (Unit {0}) LineStop) → WasDeleted old new n result → WasRemoved old new sin n result
   was_removed (Ok done) h = removed h
-  was_removed (Err stop) h = (not_put_cause old new (DelLine h.clause) stop h.left, log)
+  was_removed (Err stop) h = (not_put_cause old new (DelLine h.clause) stop going h.left, log)
 
 -- nothing is to be deleted
 pub removed_none : (w : WorkState) (sin : Literal → Literal) (n : ℕ) → w.ended ≡ false → w.output.spent ≡ false → IsWork w → IsReplacedAt w sin n false → Removed w w sin n

@@ -10,7 +10,7 @@ use Rattle.simp_base.specs.Log.{KeepsLog}
 use Rattle.simp_equiv.specs.Graphs.{Reaches}
 use Rattle.simp_equiv.specs.Implications.{Implies}
 use Rattle.simp_equiv.specs.Replacements.{is_replaced, Becomes, Comes}
-use Rattle.simp_base.specs.Causes.{HasCause}
+use Rattle.simp_base.specs.Causes.{HasOutputCause, HasCause}
 
 -- each clause is in order
 abbrev pub AreInOrder : List (ℕ × List Literal) → Type 0
@@ -102,4 +102,4 @@ pub record Stacked (old new : WorkState) (fixes : List Fix) : Type 0 where
 
 abbrev pub WasStacked : WorkState → WorkState → List Fix → Result ⊤ LineStop → Type 0
 WasStacked old new fixes (Ok done) = Stacked old new fixes
-WasStacked old new fixes (Err stop) = (stop ≡ Memory) × (new.output.faults ≡ old.output.faults) × KeepsLog old new
+WasStacked old new fixes (Err stop) = HasOutputCause old.output new.output stop × (new.ended ≡ old.ended) × KeepsLog old new

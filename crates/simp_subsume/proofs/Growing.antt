@@ -92,7 +92,7 @@ grown_listed old new l going unspent false e h log =
 
 pub was_listed : (old new : WorkState) (l : Literal) → old.ended ≡ false → old.output.spent ≡ false → KeepsLog old new → (result : Result (Unit {0}) LineStop) → WasListed old new l result → WasGrown old new (l ∷ []) result
 was_listed old new l going unspent log (Ok done) h = grown_listed old new l going unspent (has old.units l) refl h log
-was_listed old new l going unspent log (Err stop) h = (not_put_cause old new (AddLine (l ∷ [])) stop h, log)
+was_listed old new l going unspent log (Err stop) h = (not_put_cause old new (AddLine (l ∷ [])) stop going h, log)
 
 -- What is left of a clause follows
 

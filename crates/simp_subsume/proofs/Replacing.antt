@@ -94,7 +94,7 @@ was_compared_going old new n m c d going unspent was kept log loaded alive ne s 
       came = λ q f i. inl ((h.others q f).0 i).0;
       stay = λ q f i other. (h.others q f).1 (i, other);
     }) t
-was_compared_going old new n m c d going unspent was kept log loaded alive ne s (Err stop) h = (not_put_cause old new (DelLine h.clause) stop h.left, log)
+was_compared_going old new n m c d going unspent was kept log loaded alive ne s (Err stop) h = (not_put_cause old new (DelLine h.clause) stop going h.left, log)
 
 -- a part of the other clause came, and it goes
 module _ (old mid new : WorkState) (n m : ℕ) (c d rest : List Literal) (was : IsWork old) (kept_mid : IsWork mid) (kept : IsWork new) (log : KeepsLog mid new) (loaded : IsLoaded old n c) (alive : Contains old.clauses (m, d)) (ne : m ≢ n)
@@ -136,7 +136,7 @@ module _ (old mid new : WorkState) (n m : ℕ) (c d rest : List Literal) (was : 
 
   pub was_compared_shrinking : (result : Result (Unit {0}) LineStop) → WasDeleted mid new m result → WasCompared old new n c m result
   was_compared_shrinking (Ok done) h = λ start numbers t. compared_replaced start old new n m c d numbers was s.part alive ne (replaced h) t
-  was_compared_shrinking (Err stop) h = (cause_after old mid new stop g.quiet (not_put_cause mid new (DelLine h.clause) stop h.left), logs_along old mid new g.log log)
+  was_compared_shrinking (Err stop) h = (cause_after old mid new stop g.quiet (not_put_cause mid new (DelLine h.clause) stop g.going h.left), logs_along old mid new g.log log)
 
 -- Clauses one after another
 

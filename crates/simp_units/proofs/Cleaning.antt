@@ -290,7 +290,7 @@ tidied_nothing old new a number c s alive holds kept log (Ok done) h =
     let u = In_any (is_true a) c holds in
     let same_clause : c ≡ h.clause = same_number old.clauses s.work.numbers number c h.clause alive h.alive in
     λ start rest t. tidied_deleted start old new a number rest h (lifted_true old new a s number h u.0 (subst (λ d. has d u.0 ≡ true) same_clause (In_has c u.0 u.1)) u.2) kept log t
-tidied_nothing old new a number c s alive holds kept log (Err stop) h = (not_put_cause old new (DelLine h.clause) stop h.left, log)
+tidied_nothing old new a number c s alive holds kept log (Err stop) h = (not_put_cause old new (DelLine h.clause) stop s.going h.left, log)
 
 -- what is left was added, and the clause was to be deleted
 module _ (old mid new : WorkState) (a : List (Option Bool)) (number : ℕ) (c lits : List Literal) (made : ℕ) (s : IsSet old a) (alive : Contains old.clauses (number, c)) (part : IsPart a c lits) (settled : IsSettled a c)
@@ -315,7 +315,7 @@ module _ (old mid new : WorkState) (a : List (Option Bool)) (number : ℕ) (c li
       λ start rest t. tidied_deleted start mid new a number rest h lifted kept log
       (tidied_added start old mid a (number ∷ rest) lits made added shown (ap is_empty part.is ∙ left_some a c settled)
       (λ l k. part_untouched old a s number c alive part.open_yet l (subst (λ d. has d l ≡ true) part.is k)) kept_mid log_mid t)
-  tidied_part (Err stop) h = (cause_after old mid new stop (ap (λ (s : LineState). s.faults) added.put.state) (not_put_cause mid new (DelLine h.clause) stop h.left), logs_along old mid new log_mid log)
+  tidied_part (Err stop) h = (cause_after old mid new stop (ap (λ (s : LineState). s.faults) added.put.state) (not_put_cause mid new (DelLine h.clause) stop (ap (λ (w : WorkState). w.ended) added.state ∙ ap is_empty part.is ∙ left_some a c settled) h.left), logs_along old mid new log_mid log)
 
 -- a call in the middle was refused
 pub stopped_tidying : (start now new : WorkState) (a : List (Option Bool)) (rest : List ℕ) (stop : LineStop) → Tidied start now a rest → HasCause now new stop × KeepsLog now new → HasCause start new stop × KeepsLog start new

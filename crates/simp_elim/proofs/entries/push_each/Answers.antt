@@ -1,9 +1,9 @@
-use Rattle.std.proofs.Common.{◌≡◌, ℕ, [], ◌∷◌, get_or, sym, ap, subst, Contains, ⊎_elim}
+use Rattle.std.proofs.Common.{◌≡◌, ℕ, [], ◌∷◌, get_or, sym, ap, subst, ◌∙◌, Contains, ⊎_elim}
 use Rattle.rup_model.proofs.Lists.{Contains_In}
 use Rattle.simp_base.specs.WorkState.{WorkState}
 use Rattle.simp_base.proofs.Known.{first_or_rest}
 use Rattle.simp_base.proofs.LiftSteps.{logs_along}
-use Rattle.simp_base.proofs.Stopping.{cause_after}
+use Rattle.simp_base.proofs.Stopping.{output_cause_after}
 use Rattle.simp_elim.specs.Resolution.{fix_of}
 use Rattle.simp_elim.specs.Occurring.{clause_at}
 use Rattle.simp_elim.specs.Stages.{WasStacked}
@@ -25,7 +25,7 @@ pub returns-in-Err-clause-stacked : goal.returns-in-Err-clause-stacked
 returns-in-Err-clause-stacked g c =
     let now = c.loop-number.work in let new = c.push_entry.new.work in let m : ℕ = get_or c.args.numbers.now c.loop-number.number-index 0 in
     let one = subst (λ r. WasStacked now new (fix_of c.args.lit (clause_at now.clauses m) ∷ []) r) c.in-Err.is c.push_entry.ensures.stacked in
-    (cause_after c.args.work.now now new c.in-Err.stop (ap (λ (w : WorkState). w.output.faults) c.loop-number.invariant.state) one.0, logs_along c.args.work.now now new c.loop-number.invariant.log one.1)
+    (output_cause_after c.args.work.now.output now.output new.output c.in-Err.stop (ap (λ (w : WorkState). w.output.faults) c.loop-number.invariant.state) one.0, one.1 ∙ ap (λ (w : WorkState). w.ended) c.loop-number.invariant.state, logs_along c.args.work.now now new c.loop-number.invariant.log one.2)
 
 pub loop-number-preserved : goal.loop-number-preserved
 loop-number-preserved g c =

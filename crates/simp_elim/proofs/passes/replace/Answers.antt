@@ -1,3 +1,4 @@
+use Rattle.std.proofs.Common.{◌∙◌}
 use Rattle.simp_elim.proofs.Growing.{stopped_after}
 use Rattle.simp_elim.proofs.Replacing.{made_comes, first_in, first_long, second_long, goes_b, was_replaced}
 use Rattle.simp_elim.proofs.passes.replace.Goals as goal
@@ -11,7 +12,7 @@ push_all-requires-clause-alive g c = first_in c.args.work.now c.args.lit c.args.
 pub returns-in-Err-clause-replaced : goal.returns-in-Err-clause-replaced
 returns-in-Err-clause-replaced g c =
     let one = c.in-Err.ensures.stacked in
-    stopped_after c.args.work.now c.add_all.new.work c.push_all.new.work c.in-Err.stop c.in_ok-add_all.ensures.grown.on one
+    stopped_after c.args.work.now c.add_all.new.work c.push_all.new.work c.in-Err.stop c.in_ok-add_all.ensures.grown.on ((one.0, one.1 ∙ c.in_ok-add_all.ensures.grown.on.going), one.2)
 
 pub remove_all-requires-clause-long : goal.remove_all-requires-clause-long
 remove_all-requires-clause-long g c =

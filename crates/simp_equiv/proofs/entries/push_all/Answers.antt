@@ -4,6 +4,7 @@ use Rattle.simp_base.proofs.LiftSteps.{logs_along}
 use Rattle.simp_equiv.specs.Tables.{stand_in}
 use Rattle.simp_equiv.specs.Replacements.{replacement_at, replacements, replaced_entries}
 use Rattle.simp_equiv.specs.Rewritten.{Stacked, WasStacked}
+use Rattle.simp_base.proofs.Stopping.{output_cause_after}
 use Rattle.simp_equiv.proofs.Stacking.{stacked_next}
 use Rattle.simp_equiv.proofs.entries.push_all.Goals as goal
 
@@ -11,7 +12,7 @@ pub returns-in-Err-clause-stacked : goal.returns-in-Err-clause-stacked
 returns-in-Err-clause-stacked g c =
     let old = c.args.work.now in let now = c.loop-var.work in let new = c.push_replacement.new.work in let sin = stand_in c.args.table.now in let v = c.loop-var.var in
     let one = subst (λ r. WasStacked now new (replaced_entries (replacement_at sin v)) r) c.in-Err.is c.push_replacement.ensures.stacked in
-    (one.0, one.1 ∙ ap (λ (w : WorkState). w.output.faults) c.loop-var.invariant.stacked.state, logs_along old now new c.loop-var.invariant.stacked.log one.2)
+    (output_cause_after old.output now.output new.output c.in-Err.stop (ap (λ (w : WorkState). w.output.faults) c.loop-var.invariant.stacked.state) one.0, one.1 ∙ ap (λ (w : WorkState). w.ended) c.loop-var.invariant.stacked.state, logs_along old now new c.loop-var.invariant.stacked.log one.2)
 
 pub loop-var-preserved : goal.loop-var-preserved
 loop-var-preserved g c =

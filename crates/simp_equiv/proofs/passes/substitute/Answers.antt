@@ -9,6 +9,7 @@ use Rattle.drat_text.specs.declared.stop.LineStop.{LineStop}
 use Rattle.simp_base.specs.declared.work.Run.{Run}
 use Rattle.simp_equiv.specs.Ends.{EndsDone}
 use Rattle.simp_base.specs.Causes.{HasCause}
+use Rattle.simp_base.proofs.Stopping.{output_cause_after}
 use Rattle.simp_equiv.specs.Rewritten.{Adding, Removing, Stacked}
 use Rattle.simp_equiv.proofs.Tabled.{has_places, moved_on}
 use Rattle.simp_equiv.proofs.Ending.{table_leads, begins, ends_done}
@@ -69,7 +70,7 @@ returns-in_err-push_all-clause-ends g c =
     let b = begins w mid w w t c.as_slice-2.result.now c.requires.table c.requires.consistent c.in-Ok.ensures.ordered (c.as_slice-2.ensures.value ∙ c.in-Ok.ensures.numbers) a in
     let r : Removing w now (stand_in t) [] = c.in_ok-remove_all.ensures.removed w b in
     handed_on w c.push_all.new.work c.from_residual-in_err-push_all.result c.in_err-push_all.field-0.0 c.from_residual-in_err-push_all.ensures.1
-    (subst (HasCause w c.push_all.new.work) (sym c.in_err-push_all.ensures.stacked.0) (c.in_err-push_all.ensures.stacked.1 ∙ r.on.quiet))
+    (let s = c.in_err-push_all.ensures.stacked in (output_cause_after w.output now.output c.push_all.new.work.output c.in_err-push_all.field-0.0 r.on.quiet s.0, s.1 ∙ r.on.going))
 
 pub returns-clause-ends : goal.returns-clause-ends
 returns-clause-ends g c =

@@ -1,4 +1,4 @@
-use Rattle.std.proofs.Common.{sym, subst}
+use Rattle.std.proofs.Common.{sym, ap, subst}
 use Rattle.sat_words.specs.Literal.{IsOn}
 use Rattle.std.specs.List.{All}
 use Rattle.simp_base.specs.WorkState.{WorkState}
@@ -18,6 +18,10 @@ pub returns-clause-work : goal.returns-clause-work
 returns-clause-work g c = (invariant_of-self-2 g c).0
 
 pub returns-clause-log : goal.returns-clause-log
-returns-clause-log g c o mine h =
+returns-clause-log g c =
     let i = c.self.inside in
-    stands_pushed o mine (record { vars = i.vars; clauses = i.clauses.clauses; units = i.units.units; stack = i.stack; ended = i.ended; output = g.L.LineOut.told i.output }) (subst (Stands o mine) (sym c.self.view_is) h) c.push.new.self
+    let w : WorkState = record { vars = i.vars; clauses = i.clauses.clauses; units = i.units.units; stack = i.stack; ended = i.ended; output = g.L.LineOut.told i.output } in
+    record {
+      vars = ap (λ (s : WorkState). s.vars) c.self.view_is;
+      stands = λ o mine h. stands_pushed o mine w (subst (Stands o mine) (sym c.self.view_is) h) c.push.new.self;
+    }

@@ -13,3 +13,4 @@ pub mod Stopping
 pub mod Filters
 pub mod Long
 pub mod Truths
+pub mod Stacking

@@ -7,3 +7,4 @@ pub mod Removed
 pub mod Multisets
 pub mod Tables
 pub mod Parts
+pub mod Stacked

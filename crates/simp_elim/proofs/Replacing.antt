@@ -22,7 +22,8 @@ use Rattle.simp_base.proofs.Removal.{same_number}
 use Rattle.simp_elim.specs.Resolution.{occurs, mentions, unmentioned, without, resolved, is_proper, resolved_with, fixes_of}
 use Rattle.simp_elim.specs.Occurring.{clause_at, OccursIn, AreOccurrences}
 use Rattle.simp_elim.specs.Ends.{ListsUnits}
-use Rattle.simp_elim.specs.Stages.{GoesOn, CanCome, Grown, Stacked, AreLong, Removing, Removed, WasRemoved, IsReplaceable, Replaced, WasReplaced}
+use Rattle.simp_base.specs.Stacked.{Stacked}
+use Rattle.simp_elim.specs.Stages.{GoesOn, CanCome, Grown, AreLong, Removing, Removed, WasRemoved, IsReplaceable, Replaced, WasReplaced}
 use Rattle.simp_elim.proofs.Truths.{flat_In, In_flat}
 use Rattle.simp_elim.proofs.Elimination.{occurs_parts, resolved_apart, Resolves, lifts_elimination}
 use Rattle.simp_elim.proofs.Multisets.{same_filter}

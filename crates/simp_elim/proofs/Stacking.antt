@@ -7,28 +7,14 @@ use Rattle.drat_text.specs.declared.stop.LineStop.TheVariants.{Memory}
 use Rattle.sat_words.specs.Literal.{Literal}
 use Rattle.simp_base.specs.WorkState.{WorkState, IsWork}
 use Rattle.simp_base.specs.Log.{KeepsLog}
-use Rattle.simp_base.proofs.Known.{nothing_logged}
 use Rattle.simp_base.proofs.LiftSteps.{logs_along}
 use Rattle.simp_base.proofs.Stopping.{output_cause_after, output_cause_of_memory}
 use Rattle.simp_elim.specs.Resolution.{fix_of}
 use Rattle.simp_elim.specs.Occurring.{clause_at}
-use Rattle.simp_elim.specs.Stages.{Stacked, WasStacked}
+use Rattle.simp_base.proofs.Stacking.{stacked_along}
+use Rattle.simp_base.specs.Stacked.{Stacked, WasStacked}
 use Rattle.simp_elim.proofs.Growing.{map_append}
 use Rattle.simp_elim.proofs.Within.{take_next}
-
-pub stacked_none : (w : WorkState) → IsWork w → Stacked w w []
-stacked_none w kept = record { state = λ i. record w { stack = sym (append-nil w.stack) i }; work = kept; log = nothing_logged w }
-
-pub stacked_along : (a b c : WorkState) (S T : List Fix) → Stacked a b S → Stacked b c T → Stacked a c (S ++ T)
-stacked_along a b c S T f g = record {
-  state = g.state ∙ ap (λ (w : WorkState). record w { stack = w.stack ++ T }) f.state ∙ (λ i. record a { stack = append_assoc a.stack S T i });
-  work = g.work;
-  log = logs_along a b c f.log g.log;
-}
-
-pub was_stacked_after : (a b c : WorkState) (S T : List Fix) → Stacked a b S → (result : Result (Unit {0}) LineStop) → WasStacked b c T result → WasStacked a c (S ++ T) result
-was_stacked_after a b c S T f (Ok done) h = stacked_along a b c S T f h
-was_stacked_after a b c S T f (Err stop) h = (output_cause_after a.output b.output c.output stop (ap (λ (w : WorkState). w.output.faults) f.state) h.0, h.1 ∙ ap (λ (w : WorkState). w.ended) f.state, logs_along a b c f.log h.2)
 
 -- the entries of the first clauses, and of one more
 pub stacked_next : (a b c : WorkState) (l : Literal) (numbers : List ℕ) (i : ℕ) → i < length numbers → Stacked a b (map (fix_of l) (map (clause_at a.clauses) (take i numbers)))

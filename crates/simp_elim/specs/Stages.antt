@@ -7,7 +7,7 @@ use Rattle.rup_model.specs.Rup.{rup}
 use Rattle.model_stack.specs.declared.stack.Fix.{Fix}
 use Rattle.drat_text.specs.declared.stop.LineStop.{LineStop}
 use Rattle.simp_base.specs.WorkState.{WorkState, IsWork, lists, known, is_only, is_unit}
-use Rattle.simp_base.specs.Causes.{HasOutputCause, HasCause}
+use Rattle.simp_base.specs.Causes.{HasCause}
 use Rattle.simp_base.specs.Lifted.{Lifted}
 use Rattle.simp_base.specs.Log.{KeepsLog}
 use Rattle.simp_base.specs.Multisets.{SameMultiset}
@@ -55,16 +55,6 @@ WasGrown old new made (Ok done) = Grown old new made
 WasGrown old new made (Err stop) = Stops old new stop
 
 -- Entries
-
--- these entries came to the stack, and nothing else changed
-pub record Stacked (old new : WorkState) (fixes : List Fix) : Type 0 where
-  pub state : new ≡ record old { stack = old.stack ++ fixes }
-  pub work : IsWork new
-  pub log : KeepsLog old new
-
-abbrev pub WasStacked : WorkState → WorkState → List Fix → Result ⊤ LineStop → Type 0
-WasStacked old new fixes (Ok done) = Stacked old new fixes
-WasStacked old new fixes (Err stop) = HasOutputCause old.output new.output stop × (new.ended ≡ old.ended) × KeepsLog old new
 
 -- Deletions
 

@@ -4,7 +4,7 @@ ghost use Rattle.sat_words.specs.Literal.{IsOn};
 ghost use Rattle.simp_base.specs.WorkState.{IsWork};
 ghost use Rattle.simp_elim.specs.Resolution.{fix_of, fixes_of};
 ghost use Rattle.simp_elim.specs.Occurring.{clause_at, OccursIn};
-ghost use Rattle.simp_elim.specs.Stages.{WasStacked};
+ghost use Rattle.simp_base.specs.Stacked.{WasStacked};
 
 use drat_text::{LineOut, LineStop};
 use sat_words::{Clause, Lit};

@@ -12,7 +12,8 @@ use Rattle.simp_equiv.specs.Implications.{Implied, IsConsistent}
 use Rattle.simp_equiv.specs.Tables.{stand_in, IsTable}
 use Rattle.simp_base.specs.Parts.{takes_part}
 use Rattle.simp_equiv.specs.Replacements.{is_moved, is_replaced, to_replace, Becomes, Comes, replacements, replaced_entries}
-use Rattle.simp_equiv.specs.Rewritten.{AreInOrder, Leads, Adding, Removing, Stacked}
+use Rattle.simp_base.specs.Stacked.{Stacked}
+use Rattle.simp_equiv.specs.Rewritten.{AreInOrder, Leads, Adding, Removing}
 use Rattle.simp_equiv.specs.Ends.{IsFree, Substituted}
 use Rattle.simp_equiv.proofs.Follows.{reaches_over}
 use Rattle.simp_equiv.proofs.Standing.{IsRepresented, rep_rep, lifts_representatives}

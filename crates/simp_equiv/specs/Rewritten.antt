@@ -10,7 +10,7 @@ use Rattle.simp_base.specs.Log.{KeepsLog}
 use Rattle.simp_equiv.specs.Graphs.{Reaches}
 use Rattle.simp_equiv.specs.Implications.{Implies}
 use Rattle.simp_equiv.specs.Replacements.{is_replaced, Becomes, Comes}
-use Rattle.simp_base.specs.Causes.{HasOutputCause, HasCause}
+use Rattle.simp_base.specs.Causes.{HasCause}
 
 -- each clause is in order
 abbrev pub AreInOrder : List (ℕ × List Literal) → Type 0
@@ -93,13 +93,3 @@ WasRemoved old new stand_in n (Err stop) = HasCause old new stop × KeepsLog old
 abbrev pub WereRemoved : WorkState → WorkState → (Literal → Literal) → List ℕ → Result ⊤ LineStop → Type 0
 WereRemoved old new stand_in numbers (Ok done) = (start : WorkState) → Removing start old stand_in numbers → Removing start new stand_in []
 WereRemoved old new stand_in numbers (Err stop) = HasCause old new stop × KeepsLog old new
-
--- these entries came to the stack, and nothing else changed
-pub record Stacked (old new : WorkState) (fixes : List Fix) : Type 0 where
-  pub state : new ≡ record old { stack = old.stack ++ fixes }
-  pub work : IsWork new
-  pub log : KeepsLog old new
-
-abbrev pub WasStacked : WorkState → WorkState → List Fix → Result ⊤ LineStop → Type 0
-WasStacked old new fixes (Ok done) = Stacked old new fixes
-WasStacked old new fixes (Err stop) = HasOutputCause old.output new.output stop × (new.ended ≡ old.ended) × KeepsLog old new

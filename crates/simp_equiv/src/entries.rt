@@ -5,7 +5,7 @@ ghost use Rattle.sat_words.specs.Clause.{clause_of};
 ghost use Rattle.simp_base.specs.WorkState.{IsWork};
 ghost use Rattle.simp_equiv.specs.Tables.{stand_in, HasPlaces, MovesFew};
 ghost use Rattle.simp_equiv.specs.Replacements.{replacement_entries, replacement_at, replaced_entries, replacements};
-ghost use Rattle.simp_equiv.specs.Rewritten.{WasStacked};
+ghost use Rattle.simp_base.specs.Stacked.{WasStacked};
 
 use crate::stand_in::stand_in;
 use drat_text::{LineOut, LineStop};

@@ -2,8 +2,8 @@ use Rattle.std.proofs.Common.{[], ◌∷◌, map, subst}
 use Rattle.sat_words.specs.Literal.{Literal, opposite}
 use Rattle.simp_elim.specs.Resolution.{fix_of}
 use Rattle.simp_elim.specs.Occurring.{clause_at}
-use Rattle.simp_elim.specs.Stages.{WasStacked}
-use Rattle.simp_elim.proofs.Stacking.{was_stacked_after}
+use Rattle.simp_base.specs.Stacked.{WasStacked}
+use Rattle.simp_base.proofs.Stacking.{was_stacked_after}
 use Rattle.simp_elim.proofs.entries.push_all.Goals as goal
 
 pub returns-clause-stacked : goal.returns-clause-stacked

@@ -6,7 +6,7 @@ use Rattle.simp_base.proofs.LiftSteps.{logs_along}
 use Rattle.simp_base.proofs.Stopping.{output_cause_after}
 use Rattle.simp_elim.specs.Resolution.{fix_of}
 use Rattle.simp_elim.specs.Occurring.{clause_at}
-use Rattle.simp_elim.specs.Stages.{WasStacked}
+use Rattle.simp_base.specs.Stacked.{WasStacked}
 use Rattle.simp_elim.proofs.Counting.{at_place}
 use Rattle.simp_elim.proofs.Stacking.{stacked_next}
 use Rattle.simp_elim.proofs.entries.push_each.Goals as goal

@@ -1,7 +1,7 @@
 use Rattle.std.proofs.Common.{take, map}
 use Rattle.simp_elim.specs.Resolution.{fix_of}
 use Rattle.simp_elim.specs.Occurring.{clause_at}
-use Rattle.simp_elim.specs.Stages.{Stacked}
+use Rattle.simp_base.specs.Stacked.{Stacked}
 use Rattle.simp_elim.proofs.entries.push_each.Given as goal
 
 abbrev pub invariant-loop-number : goal.invariant-loop-number

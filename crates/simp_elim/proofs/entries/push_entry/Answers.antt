@@ -8,7 +8,7 @@ use Rattle.simp_base.proofs.Known.{on_alive}
 use Rattle.simp_base.proofs.Lists.{In_All}
 use Rattle.simp_elim.specs.Resolution.{fix_of}
 use Rattle.simp_elim.specs.Occurring.{clause_at}
-use Rattle.simp_elim.specs.Stages.{WasStacked}
+use Rattle.simp_base.specs.Stacked.{WasStacked}
 use Rattle.simp_elim.proofs.Elimination.{occurs_parts}
 use Rattle.simp_elim.proofs.Counting.{found_at, at_is}
 use Rattle.simp_elim.proofs.Stacking.{was_pushed}

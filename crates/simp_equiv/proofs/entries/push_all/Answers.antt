@@ -3,7 +3,7 @@ use Rattle.simp_base.specs.WorkState.{WorkState}
 use Rattle.simp_base.proofs.LiftSteps.{logs_along}
 use Rattle.simp_equiv.specs.Tables.{stand_in}
 use Rattle.simp_equiv.specs.Replacements.{replacement_at, replacements, replaced_entries}
-use Rattle.simp_equiv.specs.Rewritten.{Stacked, WasStacked}
+use Rattle.simp_base.specs.Stacked.{Stacked, WasStacked}
 use Rattle.simp_base.proofs.Stopping.{output_cause_after}
 use Rattle.simp_equiv.proofs.Stacking.{stacked_next}
 use Rattle.simp_equiv.proofs.entries.push_all.Goals as goal

@@ -1,7 +1,7 @@
 use Rattle.std.proofs.Common.{◌-◌, ◌+◌, ◌≡◌, ◌≤◌}
 use Rattle.simp_equiv.specs.Tables.{stand_in}
 use Rattle.simp_equiv.specs.Replacements.{replaced_entries, replacements}
-use Rattle.simp_equiv.specs.Rewritten.{Stacked}
+use Rattle.simp_base.specs.Stacked.{Stacked}
 use Rattle.simp_equiv.proofs.entries.push_all.Given as goal
 
 abbrev pub invariant-loop-var : goal.invariant-loop-var

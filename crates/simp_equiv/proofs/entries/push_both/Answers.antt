@@ -1,8 +1,8 @@
 use Rattle.std.proofs.Common.{subst, [], ◌∷◌}
 use Rattle.sat_words.specs.Literal.{Literal, opposite}
 use Rattle.sat_words.specs.Clause.{clause_of}
-use Rattle.simp_equiv.specs.Rewritten.{Stacked, WasStacked}
-use Rattle.simp_equiv.proofs.Stacking.{was_stacked_after}
+use Rattle.simp_base.specs.Stacked.{Stacked, WasStacked}
+use Rattle.simp_base.proofs.Stacking.{was_stacked_after}
 use Rattle.simp_equiv.proofs.entries.push_both.Goals as goal
 
 pub returns-clause-stacked : goal.returns-clause-stacked

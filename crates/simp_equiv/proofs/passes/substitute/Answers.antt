@@ -10,7 +10,8 @@ use Rattle.simp_base.specs.declared.work.Run.{Run}
 use Rattle.simp_equiv.specs.Ends.{EndsDone}
 use Rattle.simp_base.specs.Causes.{HasCause}
 use Rattle.simp_base.proofs.Stopping.{output_cause_after}
-use Rattle.simp_equiv.specs.Rewritten.{Adding, Removing, Stacked}
+use Rattle.simp_base.specs.Stacked.{Stacked}
+use Rattle.simp_equiv.specs.Rewritten.{Adding, Removing}
 use Rattle.simp_equiv.proofs.Tabled.{has_places, moved_on}
 use Rattle.simp_equiv.proofs.Ending.{table_leads, begins, ends_done}
 use Rattle.simp_equiv.proofs.passes.substitute.Goals as goal

@@ -59,6 +59,7 @@ fn run_rounds<L: LineOut>(work: &mut Work<L>, rounds: u32) -> Result<Run, LineSt
     ensures work { IsWork work.new }
 {
     for done in 0..rounds {
+        // The invariant goes by the rounds that are done.
         let _ = done;
         let before = work.line_count();
         match run_round(work) {

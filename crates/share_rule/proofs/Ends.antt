@@ -1,0 +1,57 @@
+-- The table is taken apart.
+use Rattle.std.proofs.Common.{◌≡◌, ℕ, zero, suc, ◌<◌, ◌==◌, true, List, [], ◌∷◌, map, refl, sym, ap, ◌∙◌, subst, arith, ne_eqb, Option, Some, None}
+use mathlib.Core.Option.{some, some-injective, some-ne-none}
+use mathlib.Core.Logic.{dite}
+use native.Mathlib.Decide.{ℕ_discrete}
+use lib.ListN.{get_elem?}
+use Rattle.atomic_table.specs.Table.{Final, Seen as Sees}
+use Rattle.rup_model.specs.declared.journal.Entry.{Entry}
+use Rattle.rup_model.specs.Basics.{one_if}
+use Rattle.share_core.specs.declared.part.CoreOpening.{CoreOpening}
+use Rattle.share_core.specs.State.{State}
+use Rattle.share_core.proofs.Counting.{none_some}
+use Rattle.share_rule.specs.declared.Layout.{Layout}
+use Rattle.share_rule.specs.declared.rule.Key.{Key}
+use Rattle.share_rule.specs.declared.view.RingPart.{RingPart}
+use Rattle.share_rule.specs.declared.view.View.{View}
+use Rattle.share_rule.specs.Views.{times_in}
+use Rattle.share_rule.specs.Seen.{Seen, turn_of}
+use Rattle.share_rule.specs.Shown.{Shown, Shows, ring_of}
+use Rattle.share_rule.specs.Passes.{IsWhole, NoTurns}
+use Rattle.share_rule.proofs.Parts.{is_open, seen_with}
+use Rattle.share_rule.proofs.Moves.{turn_some}
+
+part_at : (r : ℕ) (ps : List RingPart) → 0 < times_in r (map ring_of ps) → (i : ℕ) × (p : RingPart) × (get_elem? ps i ≡ some p) × (ring_of p ≡ r)
+part_at r [] h = absurd (omega arith)
+part_at r (p ∷ ps) h = dite (ℕ_discrete (ring_of p) r)
+    (λ e. (0, p, refl, e))
+    (λ ne. let z : one_if (ring_of p == r) ≡ 0 = ap one_if (ne_eqb (ring_of p) r ne) in let t = part_at r ps (omega arith) in (suc t.0, t.1, t.2, t.3))
+
+no_turn_at : (ps : List RingPart) (i : ℕ) (p : RingPart) → NoTurns ps → get_elem? ps i ≡ some p → p.turn ≡ None
+no_turn_at [] i p h e = absurd (some-ne-none p (sym e))
+no_turn_at (q ∷ ps) zero p h e = ap (λ (x : RingPart). x.turn) (sym (some-injective q p e)) ∙ h.0
+no_turn_at (q ∷ ps) (suc i) p h e = no_turn_at ps i p h.1 e
+
+none_of : (t : Option ℕ) → ((r : ℕ) → t ≡ Some r → ⊥) → t ≡ None
+none_of None h = refl
+none_of (Some r) h = absurd (h r refl)
+
+pub closes : {S : Type 0} (stands : S → Layout → CoreOpening → List Entry → Type 0) (k : Key) (id : ℕ) (v : View) (ws : List ℕ) (xs : List (Option S)) (slot : Option S) → v.ready ≡ true → IsWhole v → NoTurns v.parts
+    → Final (Sees (Shown stands k) id v) ws xs → get_elem? xs 0 ≡ some slot → (s : Seen v) × (b : S) × (slot ≡ Some b) × stands b v.layout v.opening s.core.journal
+closes stands k id v ws xs slot ready whole none f at_slot =
+    let s = f.0 in
+    let h : Shows stands k.layout s = is_open stands k s id v f.1.0 f.1.1 ready in
+    let c : State = h.core in
+    let fit = h.each id v f.1.1 in
+    let t = fit.told ready in
+    let free : c.turn ≡ None = none_of c.turn (λ r e.
+    let own = h.turned r e in
+    let p = part_at r v.parts (whole r (subst (λ (o : CoreOpening). r < o.rings) (sym t.1) own.0)) in
+    none_some (record { journal = c.journal }) (sym (no_turn_at v.parts p.0 p.1 none p.2) ∙ (fit.parts p.0 p.1 p.2).turn ∙ ap (turn_of c) p.3 ∙ turn_some c r e)) in
+    let home = h.home free in
+    let seen = seen_with stands k.layout s id v h f.1.1 ready in (
+      seen.0,
+      home.0,
+      some-injective slot (Some home.0) (sym at_slot ∙ f.4 0 (Some home.0) home.1),
+      subst (λ (y : Layout × (CoreOpening × List Entry)). stands home.0 y.0 y.1.0 y.1.1) (λ i. (sym t.0 i, (sym t.1 i, ap (λ (q : State). q.journal) (sym seen.1) i))) home.2,
+    )

@@ -1,0 +1,10 @@
+pub mod Lists
+pub mod Rooms
+pub mod Parts
+pub mod Words
+pub mod Moves
+pub mod Steps
+pub mod Seats
+pub mod Openings
+pub mod Reading
+pub mod Ends

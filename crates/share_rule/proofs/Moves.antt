@@ -1,0 +1,288 @@
+-- What stays of the rule when one pass and the part of one ring move.
+use Rattle.std.proofs.Common.{◌≡◌, ◌≢◌, ◌⊎◌, inl, ℕ, zero, suc, ◌<◌, ◌≤◌, ◌==◌, ◌&&◌, true, not, List, [], ◌∷◌, map, length, All, set, refl, sym, ap, ◌∙◌, subst, ⊎_elim, arith, eq-eqb, ne_eqb, eqb-true, true≢false, length-set, Option, Some, None}
+use Rattle.std.specs.Prelude.{Contains, if◌then◌else◌}
+use mathlib.Core.Option.{some, some-injective, some-ne-none}
+use mathlib.Core.Option as maybe
+use mathlib.Core.Logic.{dite}
+use native.Mathlib.Decide.{ℕ_discrete}
+use lib.ListN.{get_elem?}
+use Rattle.atomic_table.specs.Table.{State as Table}
+use Rattle.atomic_table.proofs.Lists.{at_set}
+use Rattle.rup_model.specs.declared.journal.Entry.{Entry}
+use Rattle.rup_model.specs.Basics.{one_if}
+use Rattle.share_core.specs.State.{State, clause_at, slot_of}
+use Rattle.share_core.specs.declared.part.CoreOpening.{CoreOpening}
+use Rattle.share_core.specs.declared.part.Part.{Part}
+use Rattle.share_rule.specs.declared.Layout.{Layout}
+use Rattle.share_rule.specs.declared.view.RingPart.{RingPart}
+use Rattle.share_rule.specs.declared.view.View.{View}
+use Rattle.share_core.specs.declared.event.Stop.{Stop}
+use Rattle.share_rule.specs.Views.{times_in, only, glue_in, own_stop}
+use Rattle.share_rule.specs.Seen.{IsPart, IsStopOf, HasGiven, turn_of, IsRefused}
+use Rattle.share_core.specs.Left.{Left}
+use Rattle.share_rule.specs.declared.view.Refusal.{Refusal}
+use Rattle.share_rule.specs.declared.view.Refusal.TheVariants.{Ended, Broken, ProofFault, NoHole}
+use Rattle.rup_model.specs.Journal.{book, ended, is_ring}
+use Rattle.share_core.specs.declared.stored.ClauseAt.{ClauseAt}
+use Rattle.share_core.specs.Sound.{Sound, IsCopy}
+use Rattle.share_core.proofs.ClauseLists.{all_in, all_map}
+use Rattle.share_core.proofs.Counting.{some_same, none_some}
+use Rattle.share_rule.specs.declared.view.Taken.{Taken}
+use Rattle.sat_words.specs.Literal.{Literal}
+use Rattle.share_core.proofs.Leaving.{left_sound}
+use Rattle.share_rule.proofs.Parts.{cell_below, number_below}
+use Rattle.share_rule.specs.Room.{Places}
+use Rattle.share_rule.specs.Shown.{Words, Fits, Shows, IsHome, IsOut, ring_of}
+use Rattle.share_rule.proofs.Lists.{both_true, times_at_part, off}
+
+-- the owner of a part's ring
+pub part_owner : (l : Layout) (c : State) (glue owner : ℕ → ℕ) (j : ℕ) (v : View) (i : ℕ) (p : RingPart) → Fits l c glue owner j v → get_elem? v.parts i ≡ some p → (ring_of p < c.opening.rings) × (owner (ring_of p) ≡ j) × (c.granted (ring_of p) ≡ true)
+part_owner l c glue owner j v i p f at =
+    let here = (f.parts i p at).ring in
+    let n = times_at_part v.parts i p at in
+    let k = f.owned (ring_of p) here in
+    let both = both_true (owner (ring_of p) == j) (c.granted (ring_of p)) (omega arith) in
+    (here, eqb-true (owner (ring_of p)) j both.0, both.1)
+
+-- the pass's one ring
+pub one_ring : (l : Layout) (c : State) (glue owner : ℕ → ℕ) (id : ℕ) (v : View) → Fits l c glue owner id v → v.parts ≡ only v ∷ []
+    → IsPart c glue (only v) × (owner (ring_of (only v)) ≡ id) × (c.granted (ring_of (only v)) ≡ true)
+one_ring l c glue owner id v f is =
+    let at : get_elem? v.parts 0 ≡ some (only v) = ap (λ ps. get_elem? ps 0) is in
+    let o = part_owner l c glue owner id v 0 (only v) f at in
+    (f.parts 0 (only v) at, o.1, o.2)
+
+-- who has the turn
+pub turn_some : (c : State) (i : ℕ) → c.turn ≡ Some i → turn_of c i ≡ Some (record { journal = c.journal })
+turn_some c i e = (λ k. if is_ring i (e k) then Some (record { journal = c.journal }) else None) ∙ (λ k. if eq-eqb i i refl k then Some (record { journal = c.journal }) else None)
+
+pub turn_none : (c : State) (i : ℕ) → c.turn ≡ None → turn_of c i ≡ None
+turn_none c i e = λ k. if is_ring i (e k) then Some (record { journal = c.journal }) else None
+
+pub turn_other : (c : State) (r i : ℕ) → c.turn ≡ Some r → i ≢ r → turn_of c i ≡ None
+turn_other c r i e ne = (λ k. if is_ring i (e k) then Some (record { journal = c.journal }) else None) ∙ (λ k. if ne_eqb r i (λ q. ne (sym q)) k then Some (record { journal = c.journal }) else None)
+
+pub turn_has : (c : State) (i : ℕ) (t : Taken) → turn_of c i ≡ Some t → c.turn ≡ Some i
+turn_has c i t = by c.turn
+  where
+    by : (m : Option ℕ) → (if is_ring i m then Some (record { journal = c.journal }) else None) ≡ Some t → m ≡ Some i
+    by None e = absurd (none_some t e)
+    by (Some q) e = dite (ℕ_discrete q i)
+        (λ x. ap (λ (y : ℕ). Some y) x)
+        (λ ne. absurd (none_some t ((λ k. if sym (ne_eqb q i ne) k then Some (record { journal = c.journal }) else None) ∙ e)))
+
+-- and what is taken is the journal
+pub turn_is : (c : State) (i : ℕ) (t : Taken) → turn_of c i ≡ Some t → t.journal ≡ c.journal
+turn_is c i t e = sym (ap (λ (x : Taken). x.journal) (some_same (record { journal = c.journal }) t (sym (turn_some c i (turn_has c i t e)) ∙ e)))
+
+-- the turn is the same where turn and journal are
+pub turn_same : (c d : State) (i : ℕ) → d.journal ≡ c.journal → d.turn ≡ c.turn → turn_of d i ≡ turn_of c i
+turn_same c d i j t = λ k. if is_ring i (t k) then Some (record { journal = j k }) else None
+
+pub refused_same : (c d : State) → d.opening ≡ c.opening → d.journal ≡ c.journal → (x : Refusal) → IsRefused c.opening c.journal x → IsRefused d.opening d.journal x
+refused_same c d o j Ended e = (λ i. ended (o i).formula (j i)) ∙ e
+refused_same c d o j Broken h = h
+refused_same c d o j ProofFault h = h
+refused_same c d o j (NoHole need largest) lt = lt
+
+-- what slots have is the same where slots and clauses are
+pub given_same : (c d : State) (i : ℕ) (gave : List ClauseAt) → d.opening ≡ c.opening → ((k : ℕ) → d.slot k ≡ c.slot k) → ((a : ℕ) → clause_at d a ≡ clause_at c a) → HasGiven c i gave → HasGiven d i gave
+given_same c d i gave same slots clauses h = subst
+    (λ (o : CoreOpening). (to class : ℕ) → to < o.rings → class < 4 → d.slot (slot_of o i to class) ≢ 0 → Contains gave (clause_at d (d.slot (slot_of o i to class)))) (sym same)
+    (λ to class lt few some. let k : ℕ = slot_of c.opening i to class in
+    subst (λ (h' : ClauseAt). Contains gave h') (sym (ap (clause_at d) (slots k) ∙ clauses (c.slot k))) (h to class lt few (λ e. some (slots k ∙ e))))
+
+-- what another stop leaves of the pass's
+pub stops_same : (o : Option Stop) (v w : View) (q : RingPart) → v.parts ≡ only v ∷ [] → w.parts ≡ q ∷ [] → w.stop ≡ v.stop → q.set ≡ (only v).set → IsStopOf o v.stop v.parts → IsStopOf o w.stop w.parts
+stops_same o v w q one wp ws set f = record { stands = λ t e. f.stands t (sym ws ∙ e); own = by }
+  where
+    by : (i : ℕ) (p : RingPart) → get_elem? w.parts i ≡ some p → (t : Stop) → p.set ≡ Some t → w.stop ≡ Some t
+    by zero p at t e = ws ∙ f.own 0 (only v) (ap (λ ps. get_elem? ps 0) one) t (sym set ∙ ap (λ (x : RingPart). x.set) (some-injective q p (ap (λ ps. get_elem? ps 0) (sym wp) ∙ at)) ∙ e)
+    by (suc i) p at t e = absurd (some-ne-none p (sym at ∙ ap (λ ps. get_elem? ps (suc i)) wp))
+
+-- Another ring's part
+
+-- what a step of ring r leaves alone
+pub record Frame (r : ℕ) (c d : State) (glue glue' : ℕ → ℕ) : Type 0 where
+  pub opening : d.opening ≡ c.opening
+  pub granted : (i : ℕ) → i ≢ r → d.granted i ≡ c.granted i
+  pub part : (i : ℕ) → i ≢ r → d.part i ≡ c.part i
+  pub turn : (i : ℕ) → i ≢ r → turn_of d i ≡ turn_of c i
+  pub units : length c.units ≤ length d.units
+  pub kept_turn : (i : ℕ) → i ≢ r → c.turn ≡ Some i → (d.turn ≡ Some i) × (length d.units ≡ length c.units)
+  pub refused : (x : Refusal) → IsRefused c.opening c.journal x → IsRefused d.opening d.journal x
+  pub own : (i : ℕ) → i ≢ r → own_stop i d.stop ≡ own_stop i c.stop
+  pub stop_stays : (t : Stop) → c.stop ≡ Some t → d.stop ≡ Some t
+  pub stop_new : (t : Stop) → d.stop ≡ Some t → (c.stop ≡ Some t) ⊎ (t.ring ≡ r)
+  pub ends : ended c.opening.formula c.journal ≡ true → ended d.opening.formula d.journal ≡ true
+  pub given : (i : ℕ) (gave : List ClauseAt) → i ≢ r → HasGiven c i gave → HasGiven d i gave
+  pub glue_kept : (n : ℕ) → n < (book c.opening.formula c.journal).next → glue' n ≡ glue n
+
+-- where journal, turn, units, stop, slots and glues stay, and the clauses of cells
+pub record Stays (c d : State) : Type 0 where
+  pub opening : d.opening ≡ c.opening
+  pub journal : d.journal ≡ c.journal
+  pub turn : d.turn ≡ c.turn
+  pub units : d.units ≡ c.units
+  pub stop : d.stop ≡ c.stop
+  pub slots : (k : ℕ) → d.slot k ≡ c.slot k
+  pub clauses : (a : ℕ) → clause_at d a ≡ clause_at c a
+
+pub frame_of : (r : ℕ) (c d : State) (glue : ℕ → ℕ) → Stays c d → ((i : ℕ) → i ≢ r → d.granted i ≡ c.granted i) → ((i : ℕ) → i ≢ r → d.part i ≡ c.part i) → Frame r c d glue glue
+frame_of r c d glue s g p = record {
+  opening = s.opening;
+  granted = g;
+  part = p;
+  turn = λ i ne. turn_same c d i s.journal s.turn;
+  units = let q = ap (λ (us : List Literal). length us) s.units in omega arith;
+  kept_turn = λ i ne e. (s.turn ∙ e, ap (λ (us : List Literal). length us) s.units);
+  refused = refused_same c d s.opening s.journal;
+  own = λ i ne. ap (own_stop i) s.stop;
+  stop_stays = λ t e. s.stop ∙ e;
+  stop_new = λ t e. inl (sym s.stop ∙ e);
+  ends = λ e. (λ i. ended (s.opening i).formula (s.journal i)) ∙ e;
+  given = λ i gave ne h. given_same c d i gave s.opening s.slots s.clauses h;
+  glue_kept = λ n lt. refl;
+}
+
+-- another ring's part stays
+pub part_else : (r : ℕ) (c d : State) (glue glue' : ℕ → ℕ) (p : RingPart) → Sound c → Frame r c d glue glue' → ring_of p ≢ r → IsPart c glue p → IsPart d glue' p
+part_else r c d glue glue' p sound f ne h =
+    let below : (xs : List ClauseAt) → All (IsCopy c.cell) xs → All (λ k. glue_in k.number p.glues ≡ glue k.number) xs → All (λ k. glue_in k.number p.glues ≡ glue' k.number) xs =
+    λ xs copies was. all_map (λ (k : ClauseAt). glue_in k.number p.glues ≡ glue k.number) (λ (k : ClauseAt). glue_in k.number p.glues ≡ glue' k.number) xs
+    (λ x i e. e ∙ sym (f.glue_kept x.number (let copy = all_in (IsCopy c.cell) xs x i copies in let low = cell_below c sound x.address copy.0 copy.1 in let q : copy.0.number ≡ x.number = copy.2 in omega arith))) was in
+    record {
+      ring = subst (λ (o : CoreOpening). ring_of p < o.rings) (sym f.opening) h.ring;
+      part = h.part ∙ sym (f.part (ring_of p) ne);
+      glues = below p.core.held (subst (λ (q : Part). All (IsCopy c.cell) q.held) (sym h.part) (sound.copies.held (ring_of p) h.ring)) h.glues;
+      made_glues = below p.core.making (subst (λ (q : Part). All (IsCopy c.cell) q.making) (sym h.part) (sound.copies.making (ring_of p) h.ring)) h.made_glues;
+      turn = h.turn ∙ sym (f.turn (ring_of p) ne);
+      listed = let u = f.units in let k = h.listed in omega arith;
+      whole = λ e. let w = h.whole e in let k = f.kept_turn (ring_of p) ne w.0 in (k.0, k.1 ∙ w.1);
+      refused = λ x e. f.refused x (h.refused x e);
+      set = h.set ∙ sym (f.own (ring_of p) ne);
+      ended_is = λ e. f.ends (h.ended_is e);
+      given = f.given (ring_of p) p.gave ne h.given;
+    }
+
+module _ {S : Type 0} (stands : S → Layout → CoreOpening → List Entry → Type 0) (l : Layout) where
+  -- one pass moves, and the part and the grant of one ring of its own, and homes
+  pub acted : (s : Table (Option S) View) (h : Shows stands l s) (d : State) (glue' : ℕ → ℕ) (id r : ℕ) (v w : View) (ws : List ℕ) (hs : List (maybe.Option (Option S))) → get_elem? s.views id ≡ some v
+      → Left d.opening d → Places l d → Words l d glue' ws → Frame r h.core d h.glue glue' → h.owner r ≡ id → r < d.opening.rings → d.granted r ≡ true
+      → IsHome stands l d (record { words = ws; homes = hs; views = set s.views id w }) → Fits l d glue' h.owner id w
+      → ((p : RingPart) → ring_of p ≢ r → IsOut l h.core s.words p → IsOut l d ws p) → ((i : ℕ) (p : RingPart) → get_elem? w.parts i ≡ some p → IsOut l d ws p)
+      → (n : Shows stands l (record { words = ws; homes = hs; views = set s.views id w })) × (n.core ≡ d)
+  acted s h d glue' id r v w ws hs at left st words frame own inside now home fit keep mine =
+      let sound : Sound h.core = left_sound h.core.opening h.core h.left in
+      let same : d.opening ≡ h.core.opening = frame.opening in (
+        record {
+          core = d;
+          left = left;
+          small = h.small;
+          places = st;
+          glue = glue';
+          owner = h.owner;
+          words = words;
+          fresh = λ i closed. dite (ℕ_discrete i r)
+              (λ e. absurd (true≢false (sym now ∙ ap d.granted (sym e) ∙ closed)))
+              (λ n. frame.part i n ∙ h.fresh i (sym (frame.granted i n) ∙ closed));
+          stopper = λ t is. ⊎_elim
+              (λ (q : h.core.stop ≡ Some t). dite (ℕ_discrete t.ring r) (λ e. ap d.granted e ∙ now) (λ n. frame.granted t.ring n ∙ h.stopper t q))
+              (λ (q : t.ring ≡ r). ap d.granted q ∙ now)
+              (frame.stop_new t is);
+          turned = λ i is. dite (ℕ_discrete i r)
+              (λ e. (subst (λ (q : ℕ). q < d.opening.rings) (sym e) inside, ap d.granted e ∙ now))
+              (λ n. let t = h.turned i (turn_has h.core i (record { journal = d.journal }) (sym (frame.turn i n) ∙ turn_some d i is)) in (subst (λ (o : CoreOpening). i < o.rings) (sym same) t.0, frame.granted i n ∙ t.1));
+          start_glues = subst (λ (o : CoreOpening). All (λ k. glue' k.number ≡ 0) o.starts) (sym same)
+              (all_map (λ (k : ClauseAt). h.glue k.number ≡ 0) (λ (k : ClauseAt). glue' k.number ≡ 0) h.core.opening.starts (λ x i e. frame.glue_kept x.number (number_below h.core sound x i) ∙ e) h.start_glues);
+          owners = λ i lt. let o = h.owners i (subst (λ (o : CoreOpening). i < o.rings) same lt) in let n : length (set s.views id w) ≡ length s.views = length-set s.views id w in omega arith;
+          home = home;
+          each = λ j u is. ⊎_elim
+              (λ (x : (j ≡ id) × (w ≡ u)). subst (λ (y : ℕ × View). Fits l d glue' h.owner y.0 y.1) (λ i. (sym x.0 i, x.1 i)) fit)
+              (λ (x : (j ≢ id) × (get_elem? s.views j ≡ some u)). let f : Fits l h.core h.glue h.owner j u = h.each j u x.1 in record {
+                rights = λ i lt. f.rights i (subst (λ (o : CoreOpening). i < o.rings) same lt) ∙ dite (ℕ_discrete i r)
+                    (λ e. let o : h.owner i ≡ id = ap h.owner e ∙ own in off (h.owner i) j (not (h.core.granted i)) (λ q. x.0 (sym q ∙ o)) ∙ sym (off (h.owner i) j (not (d.granted i)) (λ q. x.0 (sym q ∙ o))))
+                    (λ n k. one_if ((h.owner i == j) && not (sym (frame.granted i n) k)));
+                owned = λ i lt. f.owned i (subst (λ (o : CoreOpening). i < o.rings) same lt) ∙ dite (ℕ_discrete i r)
+                    (λ e. let o : h.owner i ≡ id = ap h.owner e ∙ own in off (h.owner i) j (h.core.granted i) (λ q. x.0 (sym q ∙ o)) ∙ sym (off (h.owner i) j (d.granted i) (λ q. x.0 (sym q ∙ o))))
+                    (λ n k. one_if ((h.owner i == j) && sym (frame.granted i n) k));
+                settled = f.settled;
+                stops = record { stands = λ t e. frame.stop_stays t (f.stops.stands t e); own = f.stops.own };
+                told = λ op. let t = f.told op in (t.0, t.1 ∙ sym same);
+                parts = λ i y e. let p = part_owner l h.core h.glue h.owner j u i y f e in part_else r h.core d h.glue glue' y sound frame (λ q. x.0 (sym p.1 ∙ ap h.owner q ∙ own)) (f.parts i y e);
+              })
+              (at_set s.views id j w u is);
+          stored = λ j u i p is e. ⊎_elim
+              (λ (x : (j ≡ id) × (w ≡ u)). mine i p (ap (λ (y : View). get_elem? y.parts i) x.1 ∙ e))
+              (λ (x : (j ≢ id) × (get_elem? s.views j ≡ some u)). keep p (λ q. x.0 (sym (part_owner l h.core h.glue h.owner j u i p (h.each j u x.1) e).1 ∙ ap h.owner q ∙ own)) (h.stored j u i p x.1 e))
+              (at_set s.views id j w u is);
+        },
+        refl,
+      )
+
+  -- the same where the pass has that one ring, and the grants stay
+  pub moved : (s : Table (Option S) View) (h : Shows stands l s) (d : State) (glue' : ℕ → ℕ) (id : ℕ) (v w : View) (q : RingPart) (ws : List ℕ) (hs : List (maybe.Option (Option S))) → get_elem? s.views id ≡ some v
+      → Left d.opening d → Places l d → Words l d glue' ws → Frame (ring_of (only v)) h.core d h.glue glue' → ((i : ℕ) → d.granted i ≡ h.core.granted i)
+      → IsHome stands l d (record { words = ws; homes = hs; views = set s.views id w }) → v.parts ≡ only v ∷ [] → w.rights ≡ v.rights → w.parts ≡ q ∷ [] → ring_of q ≡ ring_of (only v) → w.layout ≡ v.layout → w.opening ≡ v.opening → w.ready ≡ v.ready → w.draft ≡ v.draft → IsStopOf d.stop w.stop w.parts → IsPart d glue' q
+      → ((p : RingPart) → ring_of p ≢ ring_of (only v) → IsOut l h.core s.words p → IsOut l d ws p) → IsOut l d ws q
+      → (n : Shows stands l (record { words = ws; homes = hs; views = set s.views id w })) × (n.core ≡ d)
+  moved s h d glue' id v w q ws hs at left st words frame grants home vp wr wp qr wl wo wop wd stops part keep own =
+      let r : ℕ = ring_of (only v) in
+      let same : d.opening ≡ h.core.opening = frame.opening in
+      let fit : Fits l h.core h.glue h.owner id v = h.each id v at in
+      let mine = one_ring l h.core h.glue h.owner id v fit vp in
+      let rings : map ring_of w.parts ≡ map ring_of v.parts = ap (map ring_of) wp ∙ (λ i. qr i ∷ []) ∙ ap (map ring_of) (sym vp) in
+      acted s h d glue' id r v w ws hs at left st words frame mine.1 (subst (λ (o : CoreOpening). r < o.rings) (sym same) (mine.0).ring) (grants r ∙ mine.2) home (record {
+        rights = λ i lt. ap (times_in i) wr ∙ fit.rights i (subst (λ (o : CoreOpening). i < o.rings) same lt) ∙ (λ k. one_if ((h.owner i == id) && not (sym (grants i) k)));
+        owned = λ i lt. ap (times_in i) rings ∙ fit.owned i (subst (λ (o : CoreOpening). i < o.rings) same lt) ∙ (λ k. one_if ((h.owner i == id) && sym (grants i) k));
+        settled = wd ∙ fit.settled;
+        stops = stops;
+        told = λ op. let t = fit.told (sym wop ∙ op) in (wl ∙ t.0, wo ∙ t.1 ∙ sym same);
+        parts = λ i y e. only_part i y e;
+      }) keep (λ i y e. only_stored i y e)
+    where
+      only_part : (i : ℕ) (y : RingPart) → get_elem? w.parts i ≡ some y → IsPart d glue' y
+      only_part zero y e = subst (IsPart d glue') (some-injective q y (ap (λ ps. get_elem? ps 0) (sym wp) ∙ e)) part
+      only_part (suc i) y e = absurd (some-ne-none y (sym e ∙ ap (λ ps. get_elem? ps (suc i)) wp))
+
+      only_stored : (i : ℕ) (y : RingPart) → get_elem? w.parts i ≡ some y → IsOut l d ws y
+      only_stored zero y e = subst (IsOut l d ws) (some-injective q y (ap (λ ps. get_elem? ps 0) (sym wp) ∙ e)) own
+      only_stored (suc i) y e = absurd (some-ne-none y (sym e ∙ ap (λ ps. get_elem? ps (suc i)) wp))
+
+  -- one pass looks: its rights and parts stay
+  pub looked : (s : Table (Option S) View) (h : Shows stands l s) (id : ℕ) (v w : View) → get_elem? s.views id ≡ some v
+      → w.rights ≡ v.rights → w.parts ≡ v.parts → w.layout ≡ v.layout → w.opening ≡ v.opening → w.ready ≡ v.ready → w.draft ≡ v.draft → IsStopOf h.core.stop w.stop w.parts
+      → (n : Shows stands l (record { words = s.words; homes = s.homes; views = set s.views id w })) × (n.core ≡ h.core)
+  looked s h id v w at wr wp wl wo wop wd stops = (
+    record {
+      core = h.core;
+      left = h.left;
+      small = h.small;
+      places = h.places;
+      glue = h.glue;
+      owner = h.owner;
+      words = h.words;
+      fresh = h.fresh;
+      stopper = h.stopper;
+      turned = h.turned;
+      start_glues = h.start_glues;
+      owners = λ i lt. let o = h.owners i lt in let n : length (set s.views id w) ≡ length s.views = length-set s.views id w in omega arith;
+      home = h.home;
+      each = λ j u is. ⊎_elim
+          (λ (x : (j ≡ id) × (w ≡ u)). let f = h.each id v at in subst (λ (y : ℕ × View). Fits l h.core h.glue h.owner y.0 y.1) (λ i. (sym x.0 i, x.1 i)) (record {
+            rights = λ i lt. ap (times_in i) wr ∙ f.rights i lt;
+            owned = λ i lt. ap (λ ps. times_in i (map ring_of ps)) wp ∙ f.owned i lt;
+            settled = wd ∙ f.settled;
+            stops = stops;
+            told = λ op. let t = f.told (sym wop ∙ op) in (wl ∙ t.0, wo ∙ t.1);
+            parts = λ i y e. f.parts i y (ap (λ ps. get_elem? ps i) (sym wp) ∙ e);
+          }))
+          (λ (x : (j ≢ id) × (get_elem? s.views j ≡ some u)). h.each j u x.1)
+          (at_set s.views id j w u is);
+      stored = λ j u i p is e. ⊎_elim
+          (λ (x : (j ≡ id) × (w ≡ u)). h.stored id v i p at (ap (λ ps. get_elem? ps i) (sym wp) ∙ ap (λ (y : View). get_elem? y.parts i) x.1 ∙ e))
+          (λ (x : (j ≢ id) × (get_elem? s.views j ≡ some u)). h.stored j u i p x.1 e)
+          (at_set s.views id j w u is);
+    },
+    refl,
+  )

@@ -1,0 +1,6 @@
+use Rattle.share_rule.specs.Books.{StandsFor}
+use Rattle.share_rule.proofs.Steps.{store_next}
+use Rattle.share_rule.proofs.laws.a_store_is_no_event.Goals as goal
+
+pub returns : goal.returns
+returns g c = store_next (StandsFor g.B.Ledger.account g.B.Ledger.stands)

@@ -1,0 +1,11 @@
+pub mod Layout
+pub mod Room
+pub mod Books
+pub mod Cells
+pub mod Views
+pub mod Steps
+pub mod Seen
+pub mod Shown
+pub mod Openings
+pub mod Told
+pub mod Passes

@@ -1,0 +1,57 @@
+//! The shared table of words, and the one rule over it: what the words, the book in the table's slot and the views of
+//! the passes show is a state of the core that enabled events leave, so a sound one.
+//!
+//! A `Pass` is a seat at the table. It moves the words of the rings whose parts it has, by the steps of `plays`; the
+//! crates above take them. `laws` says of each step which event of the core it is.
+#![tactic(auto)]
+
+mod closing;
+mod laws;
+mod ledger;
+mod passes;
+mod plays;
+mod rule;
+mod view;
+
+ghost use Rattle.std.specs.Prelude.{◌≡◌, ◌≤◌, ◌^◌};
+ghost use Rattle.share_rule.specs.Layout.{table_words};
+
+use atomic_table::Table;
+pub use closing::close;
+pub use laws::{
+    a_drop_is_its_event, a_grant_is_its_event, a_load_is_no_event, a_share_is_its_event,
+    a_store_is_no_event, an_opening_is_its_event, cells_lie_apart, clauses_lie_apart,
+    entries_change_their_own_words, held_clauses_are_in_the_log, longer_journals_fold_on,
+    what_is_shown_is_sound,
+};
+pub use ledger::{BookState, Ledger};
+pub use passes::{join, split};
+pub use plays::{Drops, Grants, Loads, Looks, Opens, Shares, Stores};
+pub use rule::{Key, Pass, Rule};
+use std::alloc::Global;
+pub use view::{GlueAt, LastStep, Op, Refusal, RingPart, StoredWord, Taken, View};
+
+/// How many rings, variables and words for cells a table has.
+#[derive(Clone, Copy)]
+pub struct Layout {
+    /// The rings, at most 16.
+    pub rings: u32,
+    /// The variables, at most 2^30.
+    pub vars: u32,
+    /// The words for cells, at most 2^31.
+    pub words: u64,
+}
+
+/// The table with its layout. Each step on it takes a pass.
+pub struct Shared<B: Ledger> {
+    /// The words, and the slot with the book.
+    pub table: Table<Option<B>, View, Key, Rule<B>, Global>,
+    /// Where things lie in the words.
+    pub layout: Layout,
+    pub ghost sized: { table.shared.table_id.words ≡ table_words layout },
+    pub ghost slots: { table.shared.table_id.slots ≡ 1 },
+    pub ghost rings: { layout.rings ≤ 16 },
+    pub ghost vars: { layout.vars ≤ 2 ^ 30 },
+    pub ghost words: { layout.words ≤ 2 ^ 31 },
+    pub ghost keyed: { table.shared.key.layout ≡ layout },
+}

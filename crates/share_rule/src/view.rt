@@ -1,0 +1,120 @@
+//! What a pass knows. No value of these types is made: each stands in a pass as a fact.
+use crate::Layout;
+use rup_model::Entry;
+use sat_words::Lit;
+use share_core::{ClauseAt, CoreOpening, Part, Stop};
+use std::collections::LinkedList;
+
+/// An operation on a word, with its operands.
+pub enum Op {
+    /// The word is read.
+    Load,
+    /// The word is replaced.
+    Store(u64),
+    /// The word is replaced, and the old one read.
+    Swap(u64),
+    /// The number is added.
+    FetchAdd(u64),
+    /// The number is subtracted.
+    FetchSub(u64),
+    /// Where the word is the first number, it becomes the second.
+    CompareExchange(u64, u64),
+}
+
+/// A step on a word, and the value that it found; at a store, the value stored.
+pub struct LastStep {
+    /// The word's place.
+    pub word: u64,
+    /// What was done.
+    pub op: Op,
+    /// The value found.
+    pub found: u64,
+}
+
+/// The glue of the clause with this number.
+pub struct GlueAt {
+    /// The clause's number.
+    pub number: u64,
+    /// Its glue.
+    pub glue: u32,
+}
+
+/// A word that was stored for a cell under construction.
+pub struct StoredWord {
+    /// The word's place.
+    pub place: u64,
+    /// The word.
+    pub word: u64,
+}
+
+/// What the book held when a ring took the turn: holes and state are functions of the journal.
+pub struct Taken {
+    /// The journal as it then was.
+    pub journal: LinkedList<Entry>,
+}
+
+/// Why a turn refused to write.
+#[derive(Clone, Copy)]
+pub enum Refusal {
+    /// The empty clause stands in the log.
+    Ended,
+    /// An earlier write of the book failed.
+    Broken,
+    /// The output failed in this turn.
+    ProofFault,
+    /// No hole is long enough, or the log is full.
+    NoHole {
+        /// What was needed.
+        need: u64,
+        /// What there is at most.
+        largest: u64,
+    },
+}
+
+/// What one ring has.
+pub struct RingPart {
+    /// Its part of the core.
+    pub core: Part,
+    /// The glues of the clauses that it has known.
+    pub glues: LinkedList<GlueAt>,
+    /// The words that it stored in cells under construction.
+    pub stored: LinkedList<StoredWord>,
+    /// What it took with the turn, while it has it.
+    pub turn: Option<Taken>,
+    /// The greatest number of listed units that it read.
+    pub listed: u64,
+    /// It has the turn, and has read how many units are listed since it took it.
+    pub whole: bool,
+    /// The word that it stored for the next listed unit, not counted yet.
+    pub unit: Option<u64>,
+    /// What its turns were refused first.
+    pub refused: Option<Refusal>,
+    /// The stop that it set.
+    pub set: Option<Stop>,
+    /// It wrote the empty clause, or found it written.
+    pub ended: bool,
+    /// The clauses that it put into slots.
+    pub gave: LinkedList<ClauseAt>,
+}
+
+/// What a pass knows.
+pub struct View {
+    /// The table is open, and the pass is one of it.
+    pub ready: bool,
+    /// The table is not open yet.
+    pub draft: bool,
+    /// Where things lie in the words.
+    pub layout: Layout,
+    /// What the table was opened with.
+    pub opening: CoreOpening,
+    /// How many steps on words the pass took.
+    pub steps: u64,
+    /// The last of them.
+    pub last: Option<LastStep>,
+    /// The stop that it has seen.
+    pub stop: Option<Stop>,
+    /// The rings whose grants it may yet take.
+    pub rights: LinkedList<u32>,
+    /// The parts of its rings.
+    pub parts: LinkedList<RingPart>,
+}

@@ -6,5 +6,4 @@ pub mod Moves
 pub mod Steps
 pub mod Seats
 pub mod Openings
-pub mod Reading
 pub mod Ends

@@ -1,6 +1,7 @@
 -- The words of clauses lie apart.
-use Rattle.std.proofs.Common.{◌≡◌, ◌≢◌, ◌⊎◌, ℕ, suc, ◌+◌, ◌-◌, ◌^◌, ◌<◌, ◌≤◌, ◌==◌, ◌&&◌, ◌||◌, Bool, true, false, not, List, [], ◌∷◌, ◌++◌, length, drop, fold, eq-eqb, refl, sym, ap, ◌∙◌, subst, ⊎_elim, inl, inr, arith, true≢false, Option, Some, None}
+use Rattle.std.proofs.Common.{◌*◌, ◌^◌, ◌≡◌, ◌≢◌, ◌⊎◌, ℕ, suc, ◌+◌, ◌-◌, ◌^◌, ◌<◌, ◌≤◌, ◌==◌, ◌&&◌, ◌||◌, Bool, true, false, not, List, [], ◌∷◌, ◌++◌, length, drop, fold, eq-eqb, refl, sym, ap, ◌∙◌, subst, ⊎_elim, inl, inr, arith, true≢false, Option, Some, None}
 use Rattle.std.specs.Prelude.{nat_lt, max, if◌then◌else◌}
+use Rattle.std.proofs.Math.Nat.{mul-le-mul_left, mul-le-mul_right}
 use Rattle.std.proofs.lemmas.Bool.Decides.{leb_tells, eqb_tells}
 use Rattle.std.proofs.lemmas.List.{drop-append-le}
 use Rattle.std.proofs.lemmas.List.Sums.{fold-append}
@@ -235,3 +236,12 @@ words_else m (Reduce r) n none = refl
 -- the layout folds on
 pub room_more : (l : Layout) (o : CoreOpening) (J K : List Entry) → length o.journal ≤ length J → room l o (J ++ K) ≡ fold room_after (room l o J) K
 room_more l o J K le = ap (fold room_after (start_room l o.starts)) (drop-append-le (length o.journal) J K le) ∙ fold-append room_after (start_room l o.starts) (drop (length o.journal) J) K
+
+-- Small tables
+
+square : (n : ℕ) → n ≤ 16 → n * n ≤ 16 * 16
+square n le = let a : n * n ≤ n * 16 = mul-le-mul_left n le in let b : n * 16 ≤ 16 * 16 = mul-le-mul_right 16 le in omega arith
+
+-- the table is small
+pub few_words : (l : Layout) → l.rings ≤ 16 → l.vars ≤ 2 ^ 30 → l.words ≤ 2 ^ 31 → table_words l < 2 ^ 62
+few_words l r v w = let q = square l.rings r in omega arith

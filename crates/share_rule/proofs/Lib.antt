@@ -7,3 +7,7 @@ pub mod Steps
 pub mod Seats
 pub mod Openings
 pub mod Ends
+pub mod Literals
+pub mod Contiguous
+pub mod Filling
+pub mod Accounts

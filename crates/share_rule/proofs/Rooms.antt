@@ -208,7 +208,7 @@ module _ (l : Layout) (small : table_words l ≤ 2 ^ 63) where
 
 -- Longer journals
 
-placed_else : (m : Room) (k size n : ℕ) → n ≢ k → (placed m k size).words n ≡ m.words n
+pub placed_else : (m : Room) (k size n : ℕ) → n ≢ k → (placed m k size).words n ≡ m.words n
 placed_else m k size n ne = by (first_fit (words_for size) m.holes)
   where
     by : (f : Option ℕ) → (with_clause k size m f).words n ≡ m.words n

@@ -31,11 +31,16 @@ IsState Live ended = ended ≡ false
 IsState Ended ended = ended ≡ true
 IsState Broken ended = ⊤
 
--- the book has this journal, and its holes are those that the journal leaves, unless a write has failed
-pub record StandsFor {B : Type 0} (account : B → Account) (written : B → List (List Literal) → List Line → Type 0) (b : B) (l : Layout) (o : CoreOpening) (J : List Entry) : Type 0 where
-  pub entries : (account b).entries ≡ length J
-  pub last : suc (account b).last ≡ (book o.formula J).next
-  pub state : IsState (account b).state (ended o.formula J)
-  pub holes : is_whole (account b).state ≡ true → (account b).holes ≡ (room l o J).holes
-  pub kept : is_whole (account b).state ≡ true → (ls : List Line) → (account b).kept ≡ Some ls → ls ≡ lines o.formula J
-  pub sink : written b o.formula (lines o.formula J)
+module _ {B : Type 0} (account : B → Account) (written : B → List (List Literal) → List Line → Type 0) where
+  -- the book has this journal; after a failed write its lines and its sink say no more than the sink's own relation
+  pub record HasLog (b : B) (F : List (List Literal)) (J : List Entry) : Type 0 where
+    pub entries : (account b).entries ≡ length J
+    pub last : suc (account b).last ≡ (book F J).next
+    pub state : IsState (account b).state (ended F J)
+    pub kept : is_whole (account b).state ≡ true → (ls : List Line) → (account b).kept ≡ Some ls → ls ≡ lines F J
+    pub sink : written b F (lines F J)
+
+  -- and its holes are those that the journal leaves, unless a write has failed
+  pub record StandsFor (b : B) (l : Layout) (o : CoreOpening) (J : List Entry) : Type 0 where
+    pub log : HasLog b o.formula J
+    pub holes : is_whole (account b).state ≡ true → (account b).holes ≡ (room l o J).holes

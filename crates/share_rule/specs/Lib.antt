@@ -9,3 +9,4 @@ pub mod Shown
 pub mod Openings
 pub mod Told
 pub mod Passes
+pub mod FirstWords

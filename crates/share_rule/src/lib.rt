@@ -6,8 +6,10 @@
 #![tactic(auto)]
 
 mod closing;
+mod first_words;
 mod laws;
 mod ledger;
+mod making;
 mod passes;
 mod plays;
 mod rule;
@@ -25,6 +27,7 @@ pub use laws::{
     what_is_shown_is_sound,
 };
 pub use ledger::{BookState, Ledger};
+pub use making::{MakeStop, make};
 pub use passes::{join, split};
 pub use plays::{Drops, Grants, Loads, Looks, Opens, Shares, Stores};
 pub use rule::{Key, Pass, Rule};

@@ -1,2 +1,4 @@
 mod Decoding
 mod Waiting
+mod Trying
+mod Trading

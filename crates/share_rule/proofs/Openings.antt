@@ -28,7 +28,7 @@ times_past : (r n : ℕ) → n ≤ r → times_in r (up_to n) ≡ 0
 times_past r zero h = refl
 times_past r (suc n) h = let z : one_if (n == r) ≡ 0 = ap one_if (ne_eqb n r (λ e. omega arith)) in let k = times_past r n (omega arith) in omega arith
 
-times_up_to : (r n : ℕ) → r < n → times_in r (up_to n) ≡ 1
+pub times_up_to : (r n : ℕ) → r < n → times_in r (up_to n) ≡ 1
 times_up_to r zero h = absurd (omega arith)
 times_up_to r (suc n) h = dite (ℕ_discrete n r)
     (λ e. let z : one_if (n == r) ≡ 1 = ap one_if (eq-eqb n r e) in let k = times_past r n (omega arith) in omega arith)

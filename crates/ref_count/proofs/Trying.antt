@@ -1,20 +1,19 @@
 -- What the tests start from makes an opening.
-use Rattle.std.proofs.Common.{◌≡◌, ◌≢◌, ℕ, zero, suc, ◌+◌, ◌*◌, ◌^◌, ◌<◌, ◌≤◌, ◌==◌, ◌&&◌, Bool, true, false, List, [], ◌∷◌, ◌++◌, map, length, All, get_or, refl, sym, ap, ◌∙◌, subst, inl, inr, arith, ne_eqb, append-nil, append_assoc, length-append, Option, Some}
+use Rattle.std.proofs.Common.{◌≡◌, ℕ, zero, suc, ◌+◌, ◌^◌, ◌<◌, ◌≤◌, ◌&&◌, true, false, List, [], ◌∷◌, ◌++◌, map, length, All, refl, sym, ap, ◌∙◌, subst, inl, inr, arith, ne_eqb, append-nil, append_assoc, length-append, Option, Some}
 use Rattle.std.specs.Prelude.{nat_le, nat_eq, leb}
 use Rattle.std.specs.List.{list_any, list_all, slice_get, IsDistinct, AllByRecursion}
 use Rattle.std.specs.Option.{option_map}
 use Rattle.std.proofs.lemmas.Bool.{and_parts}
-use Rattle.std.proofs.lemmas.List.Sums.{AllPass-from_list_all}
 use Rattle.sat_words.specs.Literal.{Literal}
 use Rattle.sat_words.specs.Clause.{clause_of, is_empty, has_opposites}
 use Rattle.sat_words.specs.FormulaData.{FormulaData}
 use Rattle.sat_words.proofs.Insertion.{clause_of_in_order}
 use Rattle.sat_words.specs.Clause.{InOrder}
 use Rattle.rup_model.specs.Journal.{formula_book, formula_clause, ended}
-use Rattle.rup_model.specs.Opening.{IsLong, IsStart, Start}
+use Rattle.rup_model.specs.Opening.{IsStart, Start}
 use Rattle.rup_model.proofs.Lists.{In, all_In}
 use Rattle.rup_model.proofs.ProgramOpening.{All_from_In, distinct_in_order}
-use Rattle.share_core.proofs.ClauseLists.{all_in, all_last}
+use Rattle.share_core.proofs.ClauseLists.{all_last}
 use Rattle.share_rule.specs.declared.Layout.{Layout}
 use Rattle.atomic_table.specs.declared.shared.Seat.{Seat}
 use Rattle.share_rule.specs.declared.Shared.{Shared}
@@ -116,8 +115,7 @@ going vars F fine = ap (list_any is_empty) (append-nil F) ∙ none F fine
 pub first_from : {B : Type 0} (t : Shared B) (p : Seat (Option B) View) (l : Layout) (F : List (List Literal)) (ss : List (ℕ × List Literal)) → IsPassOf t p → p.me ≡ (first_view l (begun_with F l [] ss []), [])
     → IsFirst t p 0 × (p.me.0.parts ≡ []) × (p.me.0.opening.rings ≡ l.rings)
 first_from t p l F ss pass is =
-    let v : p.me.0 ≡ first_view l (begun_with F l [] ss []) = ap (λ m. m.0) is in
-    (
+    let v : p.me.0 ≡ first_view l (begun_with F l [] ss []) = ap (λ m. m.0) is in (
       record { pass = pass; slots = ap (λ m. m.1) is; rights = λ r le lt. subst (λ (u : View). r < u.opening.rings → 0 < times_in r u.rights) (sym v) (λ low. let k = times_up_to r l.rings low in omega arith) lt },
       ap (λ (u : View). u.parts) v,
       ap (λ (u : View). u.opening.rings) v,

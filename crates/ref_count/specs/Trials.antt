@@ -1,5 +1,5 @@
 -- What the tests start from: a formula of long clauses, each with its number, and rings at a table that is made for it.
-use Rattle.std.specs.Prelude.{◌≡◌, ◌<◌, ◌≤◌, ℕ, suc, List, [], ◌∷◌, All, Option, None}
+use Rattle.std.specs.Prelude.{◌≡◌, ◌<◌, ◌≤◌, ℕ, suc, List, [], ◌∷◌, All, map, Option, None}
 use Rattle.sat_words.specs.Literal.{Literal}
 use Rattle.sat_words.specs.Clause.{clause_of}
 use Rattle.sat_words.specs.FormulaData.{FormulaData}
@@ -9,7 +9,8 @@ use Rattle.atomic_table.specs.declared.shared.Seat.{Seat}
 use Rattle.share_rule.specs.declared.Shared.{Shared}
 use Rattle.share_rule.specs.declared.view.View.{View}
 use Rattle.share_rule.specs.Views.{times_in, only}
-use Rattle.share_rule.specs.Passes.{IsPassOf}
+use Rattle.share_rule.specs.Passes.{IsPassOf, NoTurns}
+use Rattle.share_rule.specs.Shown.{ring_of}
 
 -- the clauses with their numbers
 abbrev pub numbered : ℕ → List (List Literal) → List (ℕ × List Literal)
@@ -44,3 +45,10 @@ pub record IsHolder {B : Type 0} (t : Shared B) (p : Seat (Option B) View) (ring
   pub is_ring : IsRing t p ring
   pub holds : 0 < times_at cell (only p.me.0).core.held
   pub shared_is : (only p.me.0).core.shared ≡ shared
+
+-- the pass has the parts of the rings from one on, none of which has the turn
+pub record IsGathered {B : Type 0} (t : Shared B) (p : Seat (Option B) View) (from : ℕ) : Type 0 where
+  pub pass : IsPassOf t p
+  pub slots : p.me.1 ≡ []
+  pub rings : (r : ℕ) → from ≤ r → r < p.me.0.opening.rings → 0 < times_in r (map ring_of p.me.0.parts)
+  pub free : NoTurns p.me.0.parts

@@ -78,6 +78,9 @@ impl Problem {
     }
 }
 
+/// A table with its first pass and the addresses of the start cells, or why there is none.
+type Made = Result<(Shared<TestBook>, Pass<TestBook>, Vec<Cref>), MakeStop<TestBook>>;
+
 /// A table over a formula, behind which no line stands.
 fn make_over<B: Ledger>(
     alloc: Global,
@@ -96,17 +99,17 @@ fn make_over<B: Ledger>(
     make(alloc, formula, layout, start, units, book)
 }
 
-/// A table for this many rings over a formula, with its first pass.
-fn open_over(
+/// A table for this many rings over a formula, with its first pass, or why there is none.
+fn try_over(
     alloc: Global,
     formula: &Formula,
     start: &[(u64, Clause)],
     rings: u32,
     words: u64,
-) -> Result<(Shared<TestBook>, Pass<TestBook>, Vec<Cref>), Fail>
+) -> Result<Made, Fail>
     requires { IsProblem formula.now start.now }
-    ensures first { IfOk result (λ m. IsFirst m.0 m.1 0 × (m.1.me.0.parts ≡ []) × (m.1.me.0.opening.rings ≡ rings)) }
-    ensures cells { IfOk result (λ m. m.2.items ≡ addresses m.1.me.0.opening.starts) }
+    ensures first { IfOk result (λ m. IfOk m (λ m. IsFirst m.0 m.1 0 × (m.1.me.0.parts ≡ []) × (m.1.me.0.opening.rings ≡ rings))) }
+    ensures cells { IfOk result (λ m. IfOk m (λ m. m.2.items ≡ addresses m.1.me.0.opening.starts)) }
 {
     let vars = formula.vars();
     if rings == 0 || rings > 16 || vars > 1 << 30 || words > 1 << 31 {
@@ -119,8 +122,8 @@ fn open_over(
     };
     let layout = Layout { rings, vars, words };
     match make_over(alloc, formula, layout, start, &[], book) {
-        Ok(made) => Ok(made),
-        Err(_) => Err(Fail::from("no table")),
+        Ok(made) => Ok(Ok(made)),
+        Err(stop) => Ok(Err(stop)),
     }
 }
 
@@ -135,5 +138,22 @@ pub(crate) fn open(
     ensures cells { IfOk result (λ m. m.2.items ≡ addresses m.1.me.0.opening.starts) }
 {
     let start = problem.start.as_slice();
-    open_over(alloc, &problem.formula, start, rings, words)
+    match try_over(alloc, &problem.formula, start, rings, words)? {
+        Ok(made) => Ok(made),
+        Err(_) => Err(Fail::from("no table")),
+    }
+}
+
+/// Why no table is made, and the last number of the book that comes back.
+pub(crate) fn refusal(
+    alloc: Global,
+    problem: &Problem,
+    rings: u32,
+    words: u64,
+) -> Result<(HoleStop, u64), Fail> {
+    let start = problem.start.as_slice();
+    match try_over(alloc, &problem.formula, start, rings, words)? {
+        Ok(_) => Err(Fail::from("a table was made")),
+        Err(stop) => Ok((stop.why, stop.book.last)),
+    }
 }

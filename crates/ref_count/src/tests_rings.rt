@@ -1,15 +1,22 @@
 // Rings with their passes, and what they do with a cell.
-ghost use Rattle.std.specs.Prelude.{◌≡◌, ◌≤◌, ◌<◌, ◌+◌, ◌*◌, ◌^◌, All, length, ℕ, slice_index_or, []};
+ghost use Rattle.std.specs.Prelude.{◌≡◌, ◌≤◌, ◌<◌, ◌+◌, ◌*◌, ◌^◌, All, IfOk, OnOk, length, ℕ, slice_index_or, []};
 ghost use Rattle.share_core.specs.State.{times_at};
 ghost use Rattle.share_rule.specs.Passes.{IsPassOf};
 ghost use Rattle.share_rule.specs.Views.{only};
-ghost use Rattle.ref_count.specs.Trials.{IsFirst, IsRing, IsHolder};
+ghost use Rattle.ref_count.specs.Trials.{IsFirst, IsRing, IsHolder, IsGathered};
+ghost use Rattle.ref_count.specs.declared.tests_rings.Ring.{Ring};
+ghost use Rattle.share_rule.specs.FirstWords.{addresses};
 
-use crate::{Dropped, drop_count, share, take_grant};
-use sat_words::Cref;
-use share_rule::{Ledger, Pass, Shared, split};
+use crate::{Dropped, drop_count, read_head, read_lit, share, take_grant};
+use sat_words::{Cref, Head, Lit};
+use share_rule::{Ledger, Pass, Shared, join, split};
+use std::alloc::Global;
+use std::test::Fail;
+use std::thread;
+use std::thread::Threads;
 
 /// A ring with its pass, a cell that it holds, and how often it was told that it gave the last count up.
+#[derive(Drop)]
 pub(crate) struct Ring<B: Ledger> {
     pub(crate) pass: Pass<B>,
     pub(crate) ring: u32,
@@ -29,6 +36,7 @@ pub(crate) fn begin<B: Ledger>(
     requires cell { 0 < times_at cell.address first.old.me.0.opening.starts }
     ensures first { IsFirst table.now first.new (ring + 1) }
     ensures same { (first.new.me.0.opening ≡ first.old.me.0.opening) × (first.new.me.0.parts ≡ first.old.me.0.parts) }
+    ensures held { (only result.pass.me.0).core.held ≡ first.old.me.0.opening.starts }
     ensures ring { IsHolder table.now result.pass ring cell.address 0 × (result.ring ≡ ring) × (result.cell ≡ cell) }
 {
     let mut pass = split(table, first, ring);
@@ -44,7 +52,7 @@ pub(crate) fn begin<B: Ledger>(
 /// Gives the count up.
 pub(crate) fn give_up<B: Ledger>(table: &Shared<B>, ring: &mut Ring<B>)
     requires { (n : ℕ) × IsHolder table.now ring.old.pass ring.old.ring ring.old.cell.address n }
-    ensures { IsRing table.now ring.new.pass ring.old.ring × (ring.new.ring ≡ ring.old.ring) }
+    ensures { IsRing table.now ring.new.pass ring.new.ring × (ring.new.ring ≡ ring.old.ring) }
 {
     match drop_count(table, &mut ring.pass, ring.cell) {
         Dropped::Left => {}
@@ -56,7 +64,7 @@ pub(crate) fn give_up<B: Ledger>(table: &Shared<B>, ring: &mut Ring<B>)
 fn trade_once<B: Ledger>(table: &Shared<B>, ring: &mut Ring<B>, _times: u64)
     requires holder { IsHolder table.now ring.old.pass ring.old.ring ring.old.cell.address _times }
     requires few { _times < 2 ^ 56 }
-    ensures holder { IsHolder table.now ring.new.pass ring.old.ring ring.old.cell.address (_times + 1) }
+    ensures holder { IsHolder table.now ring.new.pass ring.new.ring ring.new.cell.address (_times + 1) }
     ensures same { (ring.new.ring ≡ ring.old.ring) × (ring.new.cell ≡ ring.old.cell) }
 {
     share(table, &mut ring.pass, ring.cell);
@@ -70,10 +78,137 @@ fn trade_once<B: Ledger>(table: &Shared<B>, ring: &mut Ring<B>, _times: u64)
 pub(crate) fn trade<B: Ledger>(table: &Shared<B>, ring: &mut Ring<B>, times: u64)
     requires holder { IsHolder table.now ring.old.pass ring.old.ring ring.old.cell.address 0 }
     requires few { times < 2 ^ 56 }
-    ensures holder { IsHolder table.now ring.new.pass ring.old.ring ring.old.cell.address times }
+    ensures holder { IsHolder table.now ring.new.pass ring.new.ring ring.new.cell.address times }
     ensures same { (ring.new.ring ≡ ring.old.ring) × (ring.new.cell ≡ ring.old.cell) }
 {
     for done in 0..times {
         trade_once(table, ring, done);
     }
+}
+
+/// The start cell at this place.
+pub(crate) fn start_cell<B: Ledger>(
+    first: &Pass<B>,
+    cells: &[Cref],
+    place: usize,
+) -> Result<Cref, Fail>
+    requires { cells.now ≡ addresses first.now.me.0.opening.starts }
+    ensures { IfOk result (λ c. 0 < times_at c.address first.now.me.0.opening.starts) }
+{
+    if place >= cells.len() {
+        return Err(Fail::from("no such cell"));
+    }
+    Ok(cells[place])
+}
+
+/// All rings, each with a pass of its own.
+pub(crate) fn begin_all<B: Ledger>(
+    alloc: Global,
+    table: &Shared<B>,
+    first: &mut Pass<B>,
+    cell: Cref,
+    rings: u32,
+) -> Result<Vec<Ring<B>>, Fail>
+    requires first { IsFirst table.now first.old 0 × (first.old.me.0.opening.rings ≡ rings) }
+    requires cell { 0 < times_at cell.address first.old.me.0.opening.starts }
+    ensures first { OnOk result (IsPassOf table.now first.new × (first.new.me.1 ≡ []) × (first.new.me.0.opening ≡ first.old.me.0.opening) × (first.new.me.0.parts ≡ first.old.me.0.parts)) }
+    ensures len { IfOk result (λ v. length v.items ≡ rings) }
+    ensures each { IfOk result (λ v. All (λ r. IsHolder table.now r.pass r.ring r.cell.address 0) v.items) }
+    ensures numbers { IfOk result (λ v. (i : ℕ) (d : Ring B) → i < rings → (slice_index_or v.items i d).ring ≡ i) }
+{
+    let mut all = Vec::new(alloc);
+    for ring in 0..rings {
+        all.push(begin(table, first, ring, cell))?;
+    }
+    Ok(all)
+}
+
+/// All rings trade so often, each in a thread of its own where threads can be made.
+pub(crate) fn trade_all<B: Ledger + Send, R: Threads + Sync>(
+    rt: &R,
+    table: &Shared<B>,
+    rings: &mut [Ring<B>],
+    times: u64,
+)
+    requires each { All (λ r. IsHolder table.now r.pass r.ring r.cell.address 0) rings.old }
+    requires few { times < 2 ^ 56 }
+    ensures each { All (λ r. IsHolder table.now r.pass r.ring r.cell.address times) rings.new }
+    ensures numbers { (i : ℕ) (d : Ring B) → i < length rings.old → (slice_index_or rings.new i d).ring ≡ (slice_index_or rings.old i d).ring }
+{
+    thread::for_each_mut(rt, rings, 4, &|_, ring| trade(table, ring, times));
+}
+
+/// All rings give their count up.
+pub(crate) fn give_up_all<B: Ledger + Send, R: Threads + Sync>(
+    rt: &R,
+    table: &Shared<B>,
+    rings: &mut [Ring<B>],
+    _times: u64,
+)
+    requires { All (λ r. IsHolder table.now r.pass r.ring r.cell.address _times) rings.old }
+    ensures each { All (λ r. IsRing table.now r.pass r.ring) rings.new }
+    ensures numbers { (i : ℕ) (d : Ring B) → i < length rings.old → (slice_index_or rings.new i d).ring ≡ (slice_index_or rings.old i d).ring }
+{
+    thread::for_each_mut(rt, rings, 4, &|_, ring| give_up(table, ring));
+}
+
+/// Takes a ring's pass in.
+pub(crate) fn gather<B: Ledger>(table: &Shared<B>, first: &mut Pass<B>, ring: Ring<B>)
+    requires first { IsGathered table.now first.old (ring.ring + 1) }
+    requires ring { IsRing table.now ring.pass ring.ring }
+    ensures { IsGathered table.now first.new ring.ring × (first.new.me.0.opening ≡ first.old.me.0.opening) }
+{
+    let Ring {
+        pass,
+        ring: _,
+        cell: _,
+        lasts: _,
+    } = ring;
+    join(table, first, pass);
+}
+
+/// Takes all rings' passes in, the last first, and tells how often one was told that it gave a last count up.
+pub(crate) fn gather_all<B: Ledger>(
+    table: &Shared<B>,
+    first: &mut Pass<B>,
+    rings: Vec<Ring<B>>,
+) -> u64
+    requires first { IsGathered table.now first.old (length rings.items) }
+    requires each { All (λ r. IsRing table.now r.pass r.ring) rings.items }
+    requires numbers { (i : ℕ) (d : Ring B) → i < length rings.items → (slice_index_or rings.items i d).ring ≡ i }
+    ensures { IsGathered table.now first.new 0 }
+{
+    let mut rings = rings;
+    let mut lasts: u64 = 0;
+    while let Some(ring) = rings.pop() {
+        lasts = lasts.saturating_add(ring.lasts);
+        gather(table, first, ring);
+    }
+    lasts
+}
+
+/// How often a cell is counted.
+pub(crate) fn count_of<B: Ledger>(table: &Shared<B>, cell: Cref) -> Option<u64> {
+    let place = cell.address as usize;
+    if place < table.table.word_count() {
+        Some(table.table.shared.peek(place))
+    } else {
+        None
+    }
+}
+
+/// The head and the literals of the ring's cell.
+pub(crate) fn read_back<B: Ledger>(
+    alloc: Global,
+    table: &Shared<B>,
+    ring: &mut Ring<B>,
+) -> Result<(Head, Vec<Lit>), Fail>
+    requires { (n : ℕ) × IsHolder table.now ring.old.pass ring.old.ring ring.old.cell.address n }
+{
+    let head = read_head(table, &mut ring.pass, ring.cell);
+    let mut lits = Vec::new(alloc);
+    for place in 0..head.size {
+        lits.push(read_lit(table, &mut ring.pass, ring.cell, place))?;
+    }
+    Ok((head, lits))
 }

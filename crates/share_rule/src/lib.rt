@@ -46,6 +46,7 @@ pub struct Layout {
 }
 
 /// The table with its layout. Each step on it takes a pass.
+#[derive(Drop)]
 pub struct Shared<B: Ledger> {
     /// The words, and the slot with the book.
     pub table: Table<Option<B>, View, Key, Rule<B>, Global>,

@@ -1,5 +1,4 @@
-use Rattle.std.proofs.Common.{◌≡◌, ◌∙◌, ◌<◌, ◌≤◌, ℕ, List, length, sym, ap, subst, arith}
-use Rattle.sat_words.specs.Literal.{Literal}
+use Rattle.std.proofs.Common.{◌∙◌, sym, subst}
 use Rattle.sat_words.specs.Clause.{InOrder}
 use Rattle.ref_count.specs.Trials.{IsFine}
 use Rattle.ref_count.proofs.Trying.{fine_from}

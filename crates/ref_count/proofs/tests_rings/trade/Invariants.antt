@@ -3,4 +3,4 @@ use Rattle.ref_count.specs.Trials.{IsHolder}
 use Rattle.ref_count.proofs.tests_rings.trade.Given as goal
 
 abbrev pub invariant-loop-done : goal.invariant-loop-done
-invariant-loop-done g l = IsHolder l.table l.ring.pass l.fn.ring.ring l.fn.ring.cell.address l.done × (l.ring.ring ≡ l.fn.ring.ring) × (l.ring.cell ≡ l.fn.ring.cell)
+invariant-loop-done g l = IsHolder l.table l.ring.pass l.ring.ring l.ring.cell.address l.done × (l.ring.ring ≡ l.fn.ring.ring) × (l.ring.cell ≡ l.fn.ring.cell)

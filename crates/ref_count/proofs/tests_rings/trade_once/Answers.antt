@@ -1,6 +1,5 @@
-use Rattle.std.proofs.Common.{◌≡◌, ◌∙◌, ◌+◌, ◌<◌, ℕ, sym, ap, arith}
+use Rattle.std.proofs.Common.{◌∙◌, ◌+◌, ℕ, ap, arith}
 use Rattle.share_rule.specs.declared.view.View.{View}
-use Rattle.ref_count.specs.Trials.{IsHolder}
 use Rattle.ref_count.proofs.Trading.{shared_stays, dropped_stays}
 use Rattle.ref_count.proofs.tests_rings.trade_once.Goals as goal
 

@@ -1,8 +1,8 @@
-use Rattle.std.proofs.Common.{◌≡◌, ◌∙◌, ◌+◌, ◌<◌, ◌≤◌, ◌^◌, ℕ, suc, List, [], length, refl, sym, ap, subst, arith}
+use Rattle.std.proofs.Common.{suc, List, length, refl, ap, arith}
 use Rattle.sat_words.specs.Literal.{Literal}
 use Rattle.share_core.proofs.Counting.{none_some}
 use Rattle.ref_count.proofs.Trying.{may_begin, going, first_from}
-use Rattle.ref_count.proofs.tests_problem.open_over.Goals as goal
+use Rattle.ref_count.proofs.tests_problem.try_over.Goals as goal
 
 pub make_over-requires-clause-begins : goal.make_over-requires-clause-begins
 make_over-requires-clause-begins c = may_begin c.args.formula.now c.args.start.now (record { rings = c.args.rings; vars = c.vars-vars.result; words = c.args.words }) c.requires c.vars-vars.ensures

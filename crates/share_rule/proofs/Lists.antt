@@ -1,5 +1,6 @@
 -- Lists of rings, of clauses and of glues.
-use Rattle.std.proofs.Common.{◌≡◌, ◌≢◌, ℕ, zero, suc, ◌+◌, ◌<◌, ◌≤◌, ◌==◌, ◌&&◌, Bool, true, false, not, cond, List, [], ◌∷◌, ◌++◌, map, All, refl, sym, ap, ◌∙◌, subst, ⊎_elim, inl, inr, arith, eq-eqb, ne_eqb}
+use Rattle.std.proofs.Common.{◌≡◌, ◌≢◌, ℕ, zero, suc, ◌+◌, ◌<◌, ◌≤◌, ◌==◌, ◌&&◌, Bool, true, false, not, cond, List, [], ◌∷◌, ◌++◌, map, All, refl, sym, ap, ◌∙◌, subst, ⊎_elim, inl, inr, arith, eq-eqb, ne_eqb, set, length}
+use Rattle.std.specs.Prelude.{slice_index}
 use mathlib.Core.Option.{some, some-injective, some-ne-none}
 use mathlib.Core.Logic.{dite}
 use native.Mathlib.Decide.{ℕ_discrete}
@@ -95,3 +96,15 @@ start_glue n [] = refl
 start_glue n (s ∷ ss) = dite (ℕ_discrete s.number n)
     (λ e i. cond (eq-eqb s.number n e i) 0 (glue_in n (start_glues ss)))
     (λ ne. (λ i. cond (ne_eqb s.number n ne i) 0 (glue_in n (start_glues ss))) ∙ start_glue n ss)
+
+-- Places
+
+pub at_in : {A : Type 0} (xs : List A) (i : ℕ) (x : A) → get_elem? xs i ≡ some x → i < length xs
+at_in [] i x e = absurd (some-ne-none x (sym e))
+at_in (y ∷ ys) zero x e = omega arith
+at_in (y ∷ ys) (suc i) x e = let k = at_in ys i x e in omega arith
+
+pub set_itself : (ws : List ℕ) (i : ℕ) → set ws i (slice_index ws i) ≡ ws
+set_itself [] i = refl
+set_itself (x ∷ ws) zero = refl
+set_itself (x ∷ ws) (suc i) = ap (λ (ys : List ℕ). x ∷ ys) (set_itself ws i)

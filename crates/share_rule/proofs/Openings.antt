@@ -22,6 +22,7 @@ use Rattle.share_rule.specs.Shown.{Fits, Shown, Shows, Draft, IsOut}
 use Rattle.share_rule.specs.Openings.{Opens}
 use Rattle.share_rule.specs.Told.{began, opened_table}
 use Rattle.share_core.proofs.Counting.{none_some}
+use Rattle.share_rule.proofs.Lists.{set_itself}
 use Rattle.share_rule.proofs.Parts.{is_draft, seen_of}
 
 times_past : (r n : ℕ) → n ≤ r → times_in r (up_to n) ≡ 0
@@ -41,11 +42,6 @@ module _ {S : Type 0} (stands : S → Layout → CoreOpening → List Entry → 
   alone : (u v : View) (i : ℕ) → get_elem? (u ∷ []) i ≡ some v → (i ≡ 0) × (u ≡ v)
   alone u v zero e = (refl, some-injective u v e)
   alone u v (suc i) e = absurd (some-ne-none v (sym e))
-
-  set_itself : (ws : List ℕ) (i : ℕ) → set ws i (slice_index ws i) ≡ ws
-  set_itself [] i = refl
-  set_itself (x ∷ ws) zero = refl
-  set_itself (x ∷ ws) (suc i) = ap (λ (ys : List ℕ). x ∷ ys) (set_itself ws i)
 
   -- the only pass
   only_view : (s : Table (Option S) View) (id : ℕ) (v : View) → get_elem? s.views id ≡ some v → (d : Draft stands k s) → (id ≡ 0) × (d.view ≡ v)

@@ -4,7 +4,7 @@ use mathlib.Core.Option.{some, some-injective, some-ne-none}
 use mathlib.Core.Logic.{dite}
 use native.Mathlib.Decide.{ℕ_discrete}
 use lib.ListN.{get_elem?}
-use Rattle.atomic_table.specs.Table.{Splits, Joins}
+use Rattle.atomic_table.specs.Table.{State as Table, Splits, Joins}
 use Rattle.atomic_table.proofs.Lists.{at_set}
 use Rattle.rup_model.specs.declared.journal.Entry.{Entry}
 use Rattle.rup_model.specs.Basics.{put, one_if}
@@ -21,7 +21,7 @@ use Rattle.share_rule.specs.Views.{times_in, first_of, spent_view, IsRight}
 use Rattle.share_rule.specs.Steps.{without_right, with_right, joined}
 use Rattle.share_rule.specs.Seen.{IsPart, IsStopOf}
 use Rattle.share_rule.specs.Shown.{Fits, Shown, Shows, ring_of}
-use Rattle.share_rule.proofs.Lists.{times_without, times_both, both_true, not_true, no_test, off, on}
+use Rattle.share_rule.proofs.Lists.{times_without, times_both, both_true, not_true, no_test, off, on, at_in}
 use Rattle.share_rule.proofs.Parts.{is_open}
 
 module _ {A : Type 0} where
@@ -104,16 +104,12 @@ module _ (l : Layout) (c : State) (glue owner : ℕ → ℕ) (r : ℕ) where
       parts = λ i p e. absurd (some-ne-none p (sym e));
     }
 
-at_in : (vs : List View) (i : ℕ) (u : View) → get_elem? vs i ≡ some u → i < length vs
-at_in [] i u e = absurd (some-ne-none u (sym e))
-at_in (x ∷ xs) zero u e = omega arith
-at_in (x ∷ xs) (suc i) u e = let k = at_in xs i u e in omega arith
-
 module _ {S : Type 0} (stands : S → Layout → CoreOpening → List Entry → Type 0) (k : Key) where
-  pub splits : (id : ℕ) (v : View) (r : ℕ) → v.ready ≡ true → IsRight r v → Splits (Shown stands k) id v (without_right r v) (with_right r v)
-  splits id v r ready right s shown at =
+  -- a right moves to a new pass
+  pub split_next : (s : Table (Option S) View) (h : Shows stands k.layout s) (id r : ℕ) (v : View) → get_elem? s.views id ≡ some v → v.ready ≡ true → IsRight r v
+      → (n : Shows stands k.layout (record { words = s.words; homes = s.homes; views = set s.views id (without_right r v) ++ with_right r v ∷ [] })) × (n.core ≡ h.core)
+  split_next s h id r v at ready right =
       let l : Layout = k.layout in
-      let h : Shows stands l s = is_open stands k s id v shown at ready in
       let c : State = h.core in
       let n : ℕ = length s.views in
       let cut : View = without_right r v in
@@ -164,12 +160,16 @@ module _ {S : Type 0} (stands : S → Layout → CoreOpening → List Entry → 
             (λ (x : (j ≡ length (set s.views id cut)) × (with_right r v ≡ u)). absurd (some-ne-none p (sym (ap (λ (z : View). get_elem? z.parts i) x.1 ∙ e))))
             (at_end (set s.views id cut) (with_right r v) u j is);
       } in
-      inr next
+      (next, refl)
 
-  pub joins : (id : ℕ) (v : View) (other : ℕ) (w : View) → v.ready ≡ true → w.ready ≡ true → Joins (Shown stands k) id v other w (joined v w) spent_view
-  joins id v other w ready ready' s shown at apart there =
+  pub splits : (id : ℕ) (v : View) (r : ℕ) → v.ready ≡ true → IsRight r v → Splits (Shown stands k) id v (without_right r v) (with_right r v)
+  splits id v r ready right s shown at = inr (split_next s (is_open stands k s id v shown at ready) id r v at ready right).0
+
+  -- two passes are made one
+  pub join_next : (s : Table (Option S) View) (h : Shows stands k.layout s) (id other : ℕ) (v w : View) → get_elem? s.views id ≡ some v → other ≢ id → get_elem? (set s.views id (joined v w)) other ≡ some w
+      → (n : Shows stands k.layout (record { words = s.words; homes = s.homes; views = set (set s.views id (joined v w)) other spent_view })) × (n.core ≡ h.core)
+  join_next s h id other v w at apart there =
       let l : Layout = k.layout in
-      let h : Shows stands l s = is_open stands k s id v shown at ready in
       let c : State = h.core in
       let both : View = joined v w in
       let owner' : ℕ → ℕ = λ i. cond (h.owner i == other) id (h.owner i) in
@@ -178,60 +178,62 @@ module _ {S : Type 0} (stands : S → Layout → CoreOpening → List Entry → 
       let g : Fits l c h.glue h.owner other w = h.each other w w_at in
       let to : (i : ℕ) → h.owner i ≡ other → owner' i ≡ id = λ i e j. cond (eq-eqb (h.owner i) other e j) id (h.owner i) in
       let same : (i : ℕ) → h.owner i ≢ other → owner' i ≡ h.owner i = λ i ne j. cond (ne_eqb (h.owner i) other ne j) id (h.owner i) in
-      let n_is : length (set (set s.views id both) other spent_view) ≡ length s.views = length-set (set s.views id both) other spent_view ∙ length-set s.views id both in
-      inr (record {
-        core = c;
-        left = h.left;
-        small = h.small;
-        places = h.places;
-        glue = h.glue;
-        owner = owner';
-        words = h.words;
-        fresh = h.fresh;
-        stopper = h.stopper;
-        turned = h.turned;
-        start_glues = h.start_glues;
-        owners = λ i it. dite (ℕ_discrete (h.owner i) other)
-            (λ e. let q : owner' i ≡ id = to i e in let b = at_in s.views id v at in omega arith)
-            (λ ne. let q : owner' i ≡ h.owner i = same i ne in let b = h.owners i it in omega arith);
-        home = h.home;
-        each = λ j u is. ⊎_elim
-            (λ (x : (j ≡ other) × (spent_view ≡ u)). subst (λ (y : ℕ × View). Fits l c h.glue owner' y.0 y.1) (λ i. (sym x.0 i, x.1 i)) (record {
-              rights = λ i it. sym (off (owner' i) other (not (c.granted i)) (away h.owner owner' to same i));
-              owned = λ i it. sym (off (owner' i) other (c.granted i) (away h.owner owner' to same i));
-              settled = refl;
-              told = λ e. absurd (true≢false (sym e));
-              stops = record { stands = λ t e. absurd (none_some t e); own = λ i p e. absurd (some-ne-none p (sym e)) };
-              parts = λ i p e. absurd (some-ne-none p (sym e));
-            }))
-            (λ (x : (j ≢ other) × (get_elem? (set s.views id both) j ≡ some u)). ⊎_elim
-            (λ (y : (j ≡ id) × (both ≡ u)). subst (λ (z : ℕ × View). Fits l c h.glue owner' z.0 z.1) (λ i. (sym y.0 i, y.1 i)) (record {
-              rights = λ i it. let t = times_both i v.rights w.rights in let a = f.rights i it in let b = g.rights i it in let m = merged h.owner owner' to same i (not (c.granted i)) in omega arith;
-              owned = λ i it. let e : times_in i (map ring_of (v.parts ++ w.parts)) ≡ times_in i (map ring_of v.parts ++ map ring_of w.parts) = ap (times_in i) (map_both v.parts w.parts) in
-                  let t = times_both i (map ring_of v.parts) (map ring_of w.parts) in let a = f.owned i it in let b = g.owned i it in let m = merged h.owner owner' to same i (c.granted i) in omega arith;
-              settled = f.settled;
-              told = f.told;
-              stops = both_stops c.stop v.stop w.stop v.parts w.parts f.stops g.stops;
-              parts = λ i p e. ⊎_elim (λ (q : get_elem? v.parts i ≡ some p). f.parts i p q) (λ (q : (n : ℕ) × (get_elem? w.parts n ≡ some p)). g.parts q.0 p q.1) (at_both v.parts w.parts p i e);
-            }))
-            (λ (y : (j ≢ id) × (get_elem? s.views j ≡ some u)). let o : Fits l c h.glue h.owner j u = h.each j u y.1 in record {
-              rights = λ i it. o.rights i it ∙ apart_from h.owner owner' to same i j (not (c.granted i)) x.0 y.0;
-              owned = λ i it. o.owned i it ∙ apart_from h.owner owner' to same i j (c.granted i) x.0 y.0;
-              settled = o.settled;
-              told = o.told;
-              stops = o.stops;
-              parts = o.parts;
-            })
-            (at_set s.views id j both u x.1))
-            (at_set (set s.views id both) other j spent_view u is);
-        stored = λ j u i p is e. ⊎_elim
-            (λ (x : (j ≡ other) × (spent_view ≡ u)). absurd (some-ne-none p (sym (ap (λ (z : View). get_elem? z.parts i) x.1 ∙ e))))
-            (λ (x : (j ≢ other) × (get_elem? (set s.views id both) j ≡ some u)). ⊎_elim
-            (λ (y : (j ≡ id) × (both ≡ u)). ⊎_elim (λ (q : get_elem? v.parts i ≡ some p). h.stored id v i p at q) (λ (q : (n : ℕ) × (get_elem? w.parts n ≡ some p)). h.stored other w q.0 p w_at q.1) (at_both v.parts w.parts p i (ap (λ (z : View). get_elem? z.parts i) y.1 ∙ e)))
-            (λ (y : (j ≢ id) × (get_elem? s.views j ≡ some u)). h.stored j u i p y.1 e)
-            (at_set s.views id j both u x.1))
-            (at_set (set s.views id both) other j spent_view u is);
-      })
+      let n_is : length (set (set s.views id both) other spent_view) ≡ length s.views = length-set (set s.views id both) other spent_view ∙ length-set s.views id both in (
+        record {
+          core = c;
+          left = h.left;
+          small = h.small;
+          places = h.places;
+          glue = h.glue;
+          owner = owner';
+          words = h.words;
+          fresh = h.fresh;
+          stopper = h.stopper;
+          turned = h.turned;
+          start_glues = h.start_glues;
+          owners = λ i it. dite (ℕ_discrete (h.owner i) other)
+              (λ e. let q : owner' i ≡ id = to i e in let b = at_in s.views id v at in omega arith)
+              (λ ne. let q : owner' i ≡ h.owner i = same i ne in let b = h.owners i it in omega arith);
+          home = h.home;
+          each = λ j u is. ⊎_elim
+              (λ (x : (j ≡ other) × (spent_view ≡ u)). subst (λ (y : ℕ × View). Fits l c h.glue owner' y.0 y.1) (λ i. (sym x.0 i, x.1 i)) (record {
+                rights = λ i it. sym (off (owner' i) other (not (c.granted i)) (away h.owner owner' to same i));
+                owned = λ i it. sym (off (owner' i) other (c.granted i) (away h.owner owner' to same i));
+                settled = refl;
+                told = λ e. absurd (true≢false (sym e));
+                stops = record { stands = λ t e. absurd (none_some t e); own = λ i p e. absurd (some-ne-none p (sym e)) };
+                parts = λ i p e. absurd (some-ne-none p (sym e));
+              }))
+              (λ (x : (j ≢ other) × (get_elem? (set s.views id both) j ≡ some u)). ⊎_elim
+              (λ (y : (j ≡ id) × (both ≡ u)). subst (λ (z : ℕ × View). Fits l c h.glue owner' z.0 z.1) (λ i. (sym y.0 i, y.1 i)) (record {
+                rights = λ i it. let t = times_both i v.rights w.rights in let a = f.rights i it in let b = g.rights i it in let m = merged h.owner owner' to same i (not (c.granted i)) in omega arith;
+                owned = λ i it. let e : times_in i (map ring_of (v.parts ++ w.parts)) ≡ times_in i (map ring_of v.parts ++ map ring_of w.parts) = ap (times_in i) (map_both v.parts w.parts) in
+                    let t = times_both i (map ring_of v.parts) (map ring_of w.parts) in let a = f.owned i it in let b = g.owned i it in let m = merged h.owner owner' to same i (c.granted i) in omega arith;
+                settled = f.settled;
+                told = f.told;
+                stops = both_stops c.stop v.stop w.stop v.parts w.parts f.stops g.stops;
+                parts = λ i p e. ⊎_elim (λ (q : get_elem? v.parts i ≡ some p). f.parts i p q) (λ (q : (n : ℕ) × (get_elem? w.parts n ≡ some p)). g.parts q.0 p q.1) (at_both v.parts w.parts p i e);
+              }))
+              (λ (y : (j ≢ id) × (get_elem? s.views j ≡ some u)). let o : Fits l c h.glue h.owner j u = h.each j u y.1 in record {
+                rights = λ i it. o.rights i it ∙ apart_from h.owner owner' to same i j (not (c.granted i)) x.0 y.0;
+                owned = λ i it. o.owned i it ∙ apart_from h.owner owner' to same i j (c.granted i) x.0 y.0;
+                settled = o.settled;
+                told = o.told;
+                stops = o.stops;
+                parts = o.parts;
+              })
+              (at_set s.views id j both u x.1))
+              (at_set (set s.views id both) other j spent_view u is);
+          stored = λ j u i p is e. ⊎_elim
+              (λ (x : (j ≡ other) × (spent_view ≡ u)). absurd (some-ne-none p (sym (ap (λ (z : View). get_elem? z.parts i) x.1 ∙ e))))
+              (λ (x : (j ≢ other) × (get_elem? (set s.views id both) j ≡ some u)). ⊎_elim
+              (λ (y : (j ≡ id) × (both ≡ u)). ⊎_elim (λ (q : get_elem? v.parts i ≡ some p). h.stored id v i p at q) (λ (q : (n : ℕ) × (get_elem? w.parts n ≡ some p)). h.stored other w q.0 p w_at q.1) (at_both v.parts w.parts p i (ap (λ (z : View). get_elem? z.parts i) y.1 ∙ e)))
+              (λ (y : (j ≢ id) × (get_elem? s.views j ≡ some u)). h.stored j u i p y.1 e)
+              (at_set s.views id j both u x.1))
+              (at_set (set s.views id both) other j spent_view u is);
+        },
+        refl,
+      )
     where
       away : (owner owner' : ℕ → ℕ) → ((i : ℕ) → owner i ≡ other → owner' i ≡ id) → ((i : ℕ) → owner i ≢ other → owner' i ≡ owner i) → (i : ℕ) → owner' i ≢ other
       away owner owner' to same i = dite (ℕ_discrete (owner i) other) (λ e q. apart (sym q ∙ to i e)) (λ ne q. ne (sym (same i ne) ∙ q))
@@ -245,3 +247,6 @@ module _ {S : Type 0} (stands : S → Layout → CoreOpening → List Entry → 
       apart_from owner owner' to same i j b far far' = dite (ℕ_discrete (owner i) other)
           (λ e. off (owner i) j b (λ q. far (sym q ∙ e)) ∙ sym (off (owner' i) j b (λ q. far' (sym q ∙ to i e))))
           (λ ne m. one_if ((sym (same i ne) m == j) && b))
+
+  pub joins : (id : ℕ) (v : View) (other : ℕ) (w : View) → v.ready ≡ true → w.ready ≡ true → Joins (Shown stands k) id v other w (joined v w) spent_view
+  joins id v other w ready ready' s shown at apart there = inr (join_next s (is_open stands k s id v shown at ready) id other v w at apart there).0

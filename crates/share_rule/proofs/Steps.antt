@@ -41,15 +41,10 @@ use Rattle.share_rule.specs.declared.view.Taken.{Taken}
 use Rattle.share_rule.specs.Shown.{Words, Fits, Shown, Shows, IsStored, IsOut, ring_of}
 use Rattle.share_rule.specs.Told.{Knows, took_grant, shared, dropped, loaded, looked as looks_told, stored, opened_cell}
 use Rattle.share_core.proofs.Leaving.{left_sound, left_one}
-use Rattle.share_rule.proofs.Lists.{times_without, both_true, not_true, no_test, small_test, first_at, all_without, all_more, start_glue}
+use Rattle.share_rule.proofs.Lists.{times_without, both_true, not_true, no_test, small_test, first_at, all_without, all_more, start_glue, at_in, set_itself}
 use Rattle.share_rule.proofs.Parts.{held_is, held_clause, building_is, building_clause, is_open, standing_of, seen_of}
 use Rattle.share_rule.proofs.Words.{clause_recounted, places_recounted, count_words, grant_words, recount_stored, unit_kept, grant_stored, store_words, store_else, store_own, spelled_by, open_stored}
 use Rattle.share_rule.proofs.Moves.{part_owner, one_ring, Frame, Stays, frame_of, given_same, stops_same, turn_has, part_else, acted, moved, looked}
-
-pub at_in : (vs : List View) (i : ℕ) (u : View) → get_elem? vs i ≡ some u → i < length vs
-at_in [] i u e = absurd (some-ne-none u (sym e))
-at_in (x ∷ xs) zero u e = omega arith
-at_in (x ∷ xs) (suc i) u e = let k = at_in xs i u e in omega arith
 
 unturned : (c : State) (r : ℕ) → (c.turn ≡ Some r → c.granted r ≡ true) → c.granted r ≡ false → turn_of c r ≡ None
 unturned c r h closed = by (turn_of c r) refl
@@ -312,11 +307,6 @@ module _ {S : Type 0} (stands : S → Layout → CoreOpening → List Entry → 
       let glue : h.glue is.0.number ≡ glue_in (clause_of a v).number (only v).glues = ap h.glue number
       ∙ sym (all_in (λ (h' : ClauseAt). glue_in h'.number (only v).glues ≡ h.glue h'.number) (only v).core.held (clause_of a v) f.0 part.glues) in
       subst (λ (y : ℕ × (ℕ × List Literal)). Spells s.words a y.0 y.1.0 y.1.1) (λ i. (number i, (glue i, lits i))) (h.words.cell_is a is.0 is.1 is.2)
-
-  pub set_itself : (ws : List ℕ) (i : ℕ) → set ws i (slice_index ws i) ≡ ws
-  set_itself [] i = refl
-  set_itself (x ∷ ws) zero = refl
-  set_itself (x ∷ ws) (suc i) = ap (λ (ys : List ℕ). x ∷ ys) (set_itself ws i)
 
   -- a word is read
   pub load_next : (s : Table (Option S) View) (h : Shows stands k.layout s) (id w : ℕ) (v : View) → get_elem? s.views id ≡ some v → v.ready ≡ true

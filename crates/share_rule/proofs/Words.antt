@@ -22,6 +22,7 @@ use Rattle.share_rule.specs.Room.{room, Places}
 use Rattle.clause_cell.specs.Free.{range, is_within}
 use Rattle.share_rule.specs.Shown.{Words, IsStored, UnitOut, Builds}
 use Rattle.share_rule.specs.declared.view.RingPart.{RingPart}
+use Rattle.share_rule.proofs.Rooms.{within_is}
 use Rattle.share_rule.specs.declared.view.StoredWord.{StoredWord}
 use Rattle.share_rule.specs.Views.{stored_at}
 use Rattle.share_rule.specs.Steps.{stored_else}
@@ -34,9 +35,6 @@ spells_else ws w v a number glue lits far s = record {
   head_is = get_or-set_other ws w (a + 2) v 0 (λ e. far 2 (omega arith) (omega arith) (sym e)) ∙ s.head_is;
   lits_are = λ j lt. get_or-set_other ws w (a + 3 + j) v 0 (λ e. far (3 + j) (omega arith) (omega arith) (let q : w ≡ a + (3 + j) = omega arith in q)) ∙ s.lits_are j lt;
 }
-
-pub within_is : (a n w : ℕ) → a ≤ w → w < a + n → is_within a n w ≡ true
-within_is a n w h k = grind (arith, leb_tells, h, k)
 
 -- what is stored outside of a range
 else_at : (a n w m : ℕ) (ss : List StoredWord) → stored_at w (stored_else a n ss) ≡ Some m → (stored_at w ss ≡ Some m) × (is_within a n w ≡ false)

@@ -1,5 +1,5 @@
 //! What the definitions come to: where clauses lie, that each step is its event, and that what is shown is sound.
-ghost use Rattle.std.specs.Prelude.{◌≡◌, ◌≢◌, ◌⊎◌, ℕ, ◌+◌, ◌-◌, ◌%◌, ◌^◌, ◌<◌, ◌≤◌, true, false, List, [], ◌++◌, length, fold, slice_index, Option, Some};
+ghost use Rattle.std.specs.Prelude.{◌≡◌, ◌≢◌, ◌⊎◌, ℕ, ◌+◌, ◌-◌, ◌%◌, ◌^◌, ◌<◌, ◌≤◌, true, false, List, [], ◌++◌, ◌∷◌, length, fold, slice_index, slice_set, Option, Some};
 ghost use mathlib.Core.Option.{some};
 ghost use lib.ListN.{get_elem?};
 ghost use Rattle.atomic_table.specs.Table.{State as Table, stepped, keeps};
@@ -21,8 +21,8 @@ ghost use Rattle.share_rule.specs.declared.view.View.{View};
 ghost use Rattle.share_rule.specs.Layout.{first_cell, table_words, grant_at};
 ghost use Rattle.share_rule.specs.Room.{Room, room, room_after, names, Places};
 ghost use Rattle.share_rule.specs.Books.{StandsFor};
-ghost use Rattle.share_rule.specs.Views.{IsRight, IsHolding, IsBuilding, IsBuilt, only, clause_of, making_of};
-ghost use Rattle.share_rule.specs.Steps.{after_grant, after_share, after_drop, after_store, after_open, after_load};
+ghost use Rattle.share_rule.specs.Views.{spent_view, IsRight, IsHolding, IsBuilding, IsBuilt, only, clause_of, making_of};
+ghost use Rattle.share_rule.specs.Steps.{after_grant, after_share, after_drop, after_store, after_open, after_load, without_right, with_right, joined};
 ghost use Rattle.share_rule.specs.Seen.{Stands, Seen};
 ghost use Rattle.share_rule.specs.Shown.{Shows, ring_of};
 
@@ -101,4 +101,16 @@ pub fn a_store_is_no_event<B: Ledger>()
 pub fn a_load_is_no_event<B: Ledger>()
     ensures { (k : Key) (s : Table (Option B) View) (h : Shows (StandsFor B.account B.stands) k.layout s) (id w : ℕ) (v : View) → get_elem? s.views id ≡ some v → v.ready ≡ true
         → (n : Shows (StandsFor B.account B.stands) k.layout (stepped s w (slice_index s.words w) id [] (after_load w (slice_index s.words w) v) keeps)) × (n.core ≡ h.core) × ((a : ℕ) → n.core ≡ after h.core (Read (ring_of (only v)) a)) }
+{}
+
+/// Cutting a pass in two is none: a right moves to a new pass.
+pub fn a_split_is_no_event<B: Ledger>()
+    ensures { (k : Key) (s : Table (Option B) View) (h : Shows (StandsFor B.account B.stands) k.layout s) (id r : ℕ) (v : View) → get_elem? s.views id ≡ some v → v.ready ≡ true → IsRight r v
+        → (n : Shows (StandsFor B.account B.stands) k.layout (record { words = s.words; homes = s.homes; views = slice_set s.views id (without_right r v) ++ with_right r v ∷ [] })) × (n.core ≡ h.core) }
+{}
+
+/// Making two passes one is none: their parts and rights are united.
+pub fn a_join_is_no_event<B: Ledger>()
+    ensures { (k : Key) (s : Table (Option B) View) (h : Shows (StandsFor B.account B.stands) k.layout s) (id other : ℕ) (v w : View) → get_elem? s.views id ≡ some v → other ≢ id → get_elem? (slice_set s.views id (joined v w)) other ≡ some w
+        → (n : Shows (StandsFor B.account B.stands) k.layout (record { words = s.words; homes = s.homes; views = slice_set (slice_set s.views id (joined v w)) other spent_view })) × (n.core ≡ h.core) }
 {}

@@ -21,10 +21,10 @@ ghost use Rattle.share_rule.specs.Layout.{table_words};
 use atomic_table::Table;
 pub use closing::close;
 pub use laws::{
-    a_drop_is_its_event, a_grant_is_its_event, a_load_is_no_event, a_share_is_its_event,
-    a_store_is_no_event, an_opening_is_its_event, cells_lie_apart, clauses_lie_apart,
-    entries_change_their_own_words, held_clauses_are_in_the_log, longer_journals_fold_on,
-    what_is_shown_is_sound,
+    a_drop_is_its_event, a_grant_is_its_event, a_join_is_no_event, a_load_is_no_event,
+    a_share_is_its_event, a_split_is_no_event, a_store_is_no_event, an_opening_is_its_event,
+    cells_lie_apart, clauses_lie_apart, entries_change_their_own_words,
+    held_clauses_are_in_the_log, longer_journals_fold_on, what_is_shown_is_sound,
 };
 pub use ledger::{BookState, Ledger};
 pub use making::{MakeStop, make};

@@ -14,7 +14,7 @@ use Rattle.share_rule.specs.declared.Layout.{Layout}
 use Rattle.share_rule.specs.declared.rule.Key.{Key}
 use Rattle.share_rule.specs.declared.view.RingPart.{RingPart}
 use Rattle.share_rule.specs.declared.view.View.{View}
-use Rattle.share_rule.specs.Views.{times_in}
+use Rattle.share_rule.specs.Views.{times_in, is_ready}
 use Rattle.share_rule.specs.Seen.{Seen, turn_of}
 use Rattle.share_rule.specs.Shown.{Shown, Shows, ring_of}
 use Rattle.share_rule.specs.Passes.{IsWhole, NoTurns}
@@ -36,7 +36,7 @@ none_of : (t : Option ℕ) → ((r : ℕ) → t ≡ Some r → ⊥) → t ≡ No
 none_of None h = refl
 none_of (Some r) h = absurd (h r refl)
 
-pub closes : {S : Type 0} (stands : S → Layout → CoreOpening → List Entry → Type 0) (k : Key) (id : ℕ) (v : View) (ws : List ℕ) (xs : List (Option S)) (slot : Option S) → v.ready ≡ true → IsWhole v → NoTurns v.parts
+pub closes : {S : Type 0} (stands : S → Layout → CoreOpening → List Entry → Type 0) (k : Key) (id : ℕ) (v : View) (ws : List ℕ) (xs : List (Option S)) (slot : Option S) → is_ready v.stage ≡ true → IsWhole v → NoTurns v.parts
     → Final (Sees (Shown stands k) id v) ws xs → get_elem? xs 0 ≡ some slot → (s : Seen v) × (b : S) × (slot ≡ Some b) × stands b v.layout v.opening s.core.journal
 closes stands k id v ws xs slot ready whole none f at_slot =
     let s = f.0 in

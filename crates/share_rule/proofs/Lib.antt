@@ -4,6 +4,9 @@ pub mod Parts
 pub mod Words
 pub mod Moves
 pub mod Steps
+pub mod Granting
+pub mod Loading
+pub mod Building
 pub mod Seats
 pub mod Openings
 pub mod Ends

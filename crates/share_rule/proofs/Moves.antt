@@ -17,7 +17,7 @@ use Rattle.share_rule.specs.declared.Layout.{Layout}
 use Rattle.share_rule.specs.declared.view.RingPart.{RingPart}
 use Rattle.share_rule.specs.declared.view.View.{View}
 use Rattle.share_core.specs.declared.event.Stop.{Stop}
-use Rattle.share_rule.specs.Views.{times_in, only, glue_in, own_stop}
+use Rattle.share_rule.specs.Views.{times_in, only, glue_in, own_stop, is_ready, in_draft}
 use Rattle.share_rule.specs.Seen.{IsPart, IsStopOf, HasGiven, turn_of, IsRefused}
 use Rattle.share_core.specs.Left.{Left}
 use Rattle.share_rule.specs.declared.view.Refusal.{Refusal}
@@ -223,7 +223,7 @@ module _ {S : Type 0} (stands : S → Layout → CoreOpening → List Entry → 
   -- the same where the pass has that one ring, and the grants stay
   pub moved : (s : Table (Option S) View) (h : Shows stands l s) (d : State) (glue' : ℕ → ℕ) (id : ℕ) (v w : View) (q : RingPart) (ws : List ℕ) (hs : List (maybe.Option (Option S))) → get_elem? s.views id ≡ some v
       → Left d.opening d → Places l d → Words l d glue' ws → Frame (ring_of (only v)) h.core d h.glue glue' → ((i : ℕ) → d.granted i ≡ h.core.granted i)
-      → IsHome stands l d (record { words = ws; homes = hs; views = set s.views id w }) → v.parts ≡ only v ∷ [] → w.rights ≡ v.rights → w.parts ≡ q ∷ [] → ring_of q ≡ ring_of (only v) → w.layout ≡ v.layout → w.opening ≡ v.opening → w.ready ≡ v.ready → w.draft ≡ v.draft → IsStopOf d.stop w.stop w.parts → IsPart d glue' q
+      → IsHome stands l d (record { words = ws; homes = hs; views = set s.views id w }) → v.parts ≡ only v ∷ [] → w.rights ≡ v.rights → w.parts ≡ q ∷ [] → ring_of q ≡ ring_of (only v) → w.layout ≡ v.layout → w.opening ≡ v.opening → is_ready w.stage ≡ is_ready v.stage → in_draft w.stage ≡ in_draft v.stage → IsStopOf d.stop w.stop w.parts → IsPart d glue' q
       → ((p : RingPart) → ring_of p ≢ ring_of (only v) → IsOut l h.core s.words p → IsOut l d ws p) → IsOut l d ws q
       → (n : Shows stands l (record { words = ws; homes = hs; views = set s.views id w })) × (n.core ≡ d)
   moved s h d glue' id v w q ws hs at left st words frame grants home vp wr wp qr wl wo wop wd stops part keep own =
@@ -251,7 +251,7 @@ module _ {S : Type 0} (stands : S → Layout → CoreOpening → List Entry → 
 
   -- one pass looks: its rights and parts stay
   pub looked : (s : Table (Option S) View) (h : Shows stands l s) (id : ℕ) (v w : View) → get_elem? s.views id ≡ some v
-      → w.rights ≡ v.rights → w.parts ≡ v.parts → w.layout ≡ v.layout → w.opening ≡ v.opening → w.ready ≡ v.ready → w.draft ≡ v.draft → IsStopOf h.core.stop w.stop w.parts
+      → w.rights ≡ v.rights → w.parts ≡ v.parts → w.layout ≡ v.layout → w.opening ≡ v.opening → is_ready w.stage ≡ is_ready v.stage → in_draft w.stage ≡ in_draft v.stage → IsStopOf h.core.stop w.stop w.parts
       → (n : Shows stands l (record { words = s.words; homes = s.homes; views = set s.views id w })) × (n.core ≡ h.core)
   looked s h id v w at wr wp wl wo wop wd stops = (
     record {

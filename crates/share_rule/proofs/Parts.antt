@@ -25,7 +25,7 @@ use Rattle.share_rule.specs.declared.rule.Key.{Key}
 use Rattle.share_rule.specs.declared.view.RingPart.{RingPart}
 use Rattle.share_rule.specs.declared.view.View.{View}
 use Rattle.share_rule.specs.Layout.{first_cell, table_words}
-use Rattle.share_rule.specs.Views.{only, clause_in, clause_of, making_of, IsHolding, IsBuilding}
+use Rattle.share_rule.specs.Views.{only, clause_in, clause_of, making_of, IsHolding, IsBuilding, is_ready, in_draft}
 use Rattle.share_rule.specs.Seen.{Stands, IsPart, Seen}
 use Rattle.share_rule.specs.Layout.{InVars}
 use Rattle.share_rule.specs.Shown.{Shown, Shows, Draft}
@@ -81,17 +81,17 @@ module _ (c : State) (sound : Sound c) (r a : ℕ) (lt : r < c.opening.rings) (m
 
 module _ {S : Type 0} (stands : S → Layout → CoreOpening → List Entry → Type 0) where
   -- where a pass is open, the table is
-  pub is_open : (k : Key) (s : Table (Option S) View) (id : ℕ) (v : View) → Shown stands k s → get_elem? s.views id ≡ some v → v.ready ≡ true → Shows stands k.layout s
+  pub is_open : (k : Key) (s : Table (Option S) View) (id : ℕ) (v : View) → Shown stands k s → get_elem? s.views id ≡ some v → is_ready v.stage ≡ true → Shows stands k.layout s
   is_open k s id v h at op = ⊎_elim
       (λ (d : Draft stands k s). absurd (closed d.view d.closed.1 id (ap (λ (vs : List View). get_elem? vs id) (sym d.views) ∙ at)))
       (λ (t : Shows stands k.layout s). t) h
     where
-      closed : (u : View) → u.ready ≡ false → (i : ℕ) → get_elem? (u ∷ []) i ≡ some v → ⊥
-      closed u nr zero e = true≢false (sym op ∙ ap (λ (x : View). x.ready) (sym (some-injective u v e)) ∙ nr)
+      closed : (u : View) → is_ready u.stage ≡ false → (i : ℕ) → get_elem? (u ∷ []) i ≡ some v → ⊥
+      closed u nr zero e = true≢false (sym op ∙ ap (λ (x : View). is_ready x.stage) (sym (some-injective u v e)) ∙ nr)
       closed u nr (suc i) e = some-ne-none v (sym e)
 
   -- where a pass is not, neither is the table
-  pub is_draft : (k : Key) (s : Table (Option S) View) (id : ℕ) (v : View) → Shown stands k s → get_elem? s.views id ≡ some v → v.draft ≡ true → Draft stands k s
+  pub is_draft : (k : Key) (s : Table (Option S) View) (id : ℕ) (v : View) → Shown stands k s → get_elem? s.views id ≡ some v → in_draft v.stage ≡ true → Draft stands k s
   is_draft k s id v h at dr = ⊎_elim
       (λ (d : Draft stands k s). d)
       (λ (t : Shows stands k.layout s). absurd (true≢false (sym dr ∙ (t.each id v at).settled))) h
@@ -101,7 +101,7 @@ module _ {S : Type 0} (stands : S → Layout → CoreOpening → List Entry → 
   standing_of l s h = places_stand l h.small h.core (left_sound h.core.opening h.core h.left) h.places
 
   -- what the table shows, a view sees
-  pub seen_with : (l : Layout) (s : Table (Option S) View) (id : ℕ) (v : View) → (h : Shows stands l s) → get_elem? s.views id ≡ some v → v.ready ≡ true → (n : Seen v) × (n.core ≡ h.core)
+  pub seen_with : (l : Layout) (s : Table (Option S) View) (id : ℕ) (v : View) → (h : Shows stands l s) → get_elem? s.views id ≡ some v → is_ready v.stage ≡ true → (n : Seen v) × (n.core ≡ h.core)
   seen_with l s id v h at op =
       let f = h.each id v at in
       let told = f.told op in (
@@ -119,7 +119,7 @@ module _ {S : Type 0} (stands : S → Layout → CoreOpening → List Entry → 
         refl,
       )
 
-  pub seen_of : (l : Layout) (s : Table (Option S) View) (id : ℕ) (v : View) → (h : Shows stands l s) → get_elem? s.views id ≡ some v → v.ready ≡ true → Seen v
+  pub seen_of : (l : Layout) (s : Table (Option S) View) (id : ℕ) (v : View) → (h : Shows stands l s) → get_elem? s.views id ≡ some v → is_ready v.stage ≡ true → Seen v
   seen_of l s id v h at op = (seen_with l s id v h at op).0
 
 -- Held cells lie in the table, and those that are built

@@ -17,7 +17,7 @@ use Rattle.share_rule.specs.declared.view.RingPart.{RingPart}
 use Rattle.share_rule.specs.declared.view.View.{View}
 use Rattle.share_core.specs.declared.event.Stop.{Stop}
 use Rattle.share_core.proofs.Counting.{none_some}
-use Rattle.share_rule.specs.Views.{times_in, first_of, spent_view, IsRight}
+use Rattle.share_rule.specs.Views.{times_in, first_of, spent_view, IsRight, is_ready, in_draft}
 use Rattle.share_rule.specs.Steps.{without_right, with_right, joined}
 use Rattle.share_rule.specs.Seen.{IsPart, IsStopOf}
 use Rattle.share_rule.specs.Shown.{Fits, Shown, Shows, ring_of}
@@ -55,7 +55,7 @@ map_both (x ∷ xs) ys = ap (λ zs. ring_of x ∷ zs) (map_both xs ys)
 abbrev Cut : (l : Layout) (c : State) (glue owner : ℕ → ℕ) (r j : ℕ) → View → Type 0
 Cut l c glue owner r j u = ((i : ℕ) → i < c.opening.rings → i ≢ r → times_in i u.rights ≡ one_if ((owner i == j) && not (c.granted i))) × (times_in r u.rights ≡ 0)
     × ((i : ℕ) → i < c.opening.rings → times_in i (map ring_of u.parts) ≡ one_if ((owner i == j) && c.granted i))
-    × (u.draft ≡ false) × (u.ready ≡ true → (u.layout ≡ l) × (u.opening ≡ c.opening))
+    × (in_draft u.stage ≡ false) × (is_ready u.stage ≡ true → (u.layout ≡ l) × (u.opening ≡ c.opening))
     × ((i : ℕ) (p : RingPart) → get_elem? u.parts i ≡ some p → IsPart c glue p) × IsStopOf c.stop u.stop u.parts
 
 module _ (l : Layout) (c : State) (glue owner : ℕ → ℕ) (r : ℕ) where
@@ -106,7 +106,7 @@ module _ (l : Layout) (c : State) (glue owner : ℕ → ℕ) (r : ℕ) where
 
 module _ {S : Type 0} (stands : S → Layout → CoreOpening → List Entry → Type 0) (k : Key) where
   -- a right moves to a new pass
-  pub split_next : (s : Table (Option S) View) (h : Shows stands k.layout s) (id r : ℕ) (v : View) → get_elem? s.views id ≡ some v → v.ready ≡ true → IsRight r v
+  pub split_next : (s : Table (Option S) View) (h : Shows stands k.layout s) (id r : ℕ) (v : View) → get_elem? s.views id ≡ some v → is_ready v.stage ≡ true → IsRight r v
       → (n : Shows stands k.layout (record { words = s.words; homes = s.homes; views = set s.views id (without_right r v) ++ with_right r v ∷ [] })) × (n.core ≡ h.core)
   split_next s h id r v at ready right =
       let l : Layout = k.layout in
@@ -162,7 +162,7 @@ module _ {S : Type 0} (stands : S → Layout → CoreOpening → List Entry → 
       } in
       (next, refl)
 
-  pub splits : (id : ℕ) (v : View) (r : ℕ) → v.ready ≡ true → IsRight r v → Splits (Shown stands k) id v (without_right r v) (with_right r v)
+  pub splits : (id : ℕ) (v : View) (r : ℕ) → is_ready v.stage ≡ true → IsRight r v → Splits (Shown stands k) id v (without_right r v) (with_right r v)
   splits id v r ready right s shown at = inr (split_next s (is_open stands k s id v shown at ready) id r v at ready right).0
 
   -- two passes are made one
@@ -248,5 +248,5 @@ module _ {S : Type 0} (stands : S → Layout → CoreOpening → List Entry → 
           (λ e. off (owner i) j b (λ q. far (sym q ∙ e)) ∙ sym (off (owner' i) j b (λ q. far' (sym q ∙ to i e))))
           (λ ne m. one_if ((sym (same i ne) m == j) && b))
 
-  pub joins : (id : ℕ) (v : View) (other : ℕ) (w : View) → v.ready ≡ true → w.ready ≡ true → Joins (Shown stands k) id v other w (joined v w) spent_view
+  pub joins : (id : ℕ) (v : View) (other : ℕ) (w : View) → is_ready v.stage ≡ true → is_ready w.stage ≡ true → Joins (Shown stands k) id v other w (joined v w) spent_view
   joins id v other w ready ready' s shown at apart there = inr (join_next s (is_open stands k s id v shown at ready) id other v w at apart there).0

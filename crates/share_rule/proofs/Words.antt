@@ -26,7 +26,7 @@ use Rattle.share_rule.proofs.Rooms.{within_is}
 use Rattle.share_rule.specs.declared.view.StoredWord.{StoredWord}
 use Rattle.share_rule.specs.Views.{stored_at}
 use Rattle.share_rule.specs.Steps.{stored_else}
-use Rattle.std.proofs.lemmas.Bool.Decides.{eqb_tells, leb_tells}
+use Rattle.std.proofs.lemmas.Bool.Decides.{eqb_tells}
 
 -- a word that is none of a cell's behind its count
 pub spells_else : (ws : List ℕ) (w v a number glue : ℕ) (lits : List Literal) → ((i : ℕ) → 0 < i → i < words_for (length lits) → w ≢ a + i) → Spells ws a number glue lits → Spells (set ws w v) a number glue lits

@@ -3,14 +3,14 @@ use Rattle.std.specs.Prelude.{◌≡◌, ◌<◌, ℕ, true, ⊤, List, [], ◌�
 use Rattle.atomic_table.specs.declared.shared.Seat.{Seat}
 use Rattle.share_rule.specs.declared.view.View.{View}
 use Rattle.share_rule.specs.declared.view.RingPart.{RingPart}
-use Rattle.share_rule.specs.Views.{times_in}
+use Rattle.share_rule.specs.Views.{times_in, is_ready}
 use Rattle.share_rule.specs.Seen.{Seen}
 use Rattle.share_rule.specs.Shown.{ring_of}
 use Rattle.share_rule.specs.declared.Shared.{Shared}
 
 -- it is an open pass of this table, and enabled events leave a state with its parts
 abbrev pub IsPassOf : {B : Type 0} → Shared B → Seat (Option B) View → Type 0
-IsPassOf t p = (p.table_id ≡ t.table.shared.table_id) × (p.me.0.ready ≡ true) × (p.me.0.layout ≡ t.layout) × Seen p.me.0
+IsPassOf t p = (p.table_id ≡ t.table.shared.table_id) × (is_ready p.me.0.stage ≡ true) × (p.me.0.layout ≡ t.layout) × Seen p.me.0
 
 -- the seat stays, with its slots
 abbrev pub IsSamePass : {B : Type 0} → Seat (Option B) View → Seat (Option B) View → Type 0

@@ -18,7 +18,7 @@ use Rattle.share_rule.specs.declared.view.RingPart.{RingPart}
 use Rattle.share_rule.specs.declared.view.View.{View}
 use Rattle.share_rule.specs.Layout.{grant_at, unit_at, slots, slot_at, table_words}
 use Rattle.share_rule.specs.Cells.{Spells}
-use Rattle.share_rule.specs.Views.{times_in, stored_at}
+use Rattle.share_rule.specs.Views.{times_in, stored_at, is_ready, in_draft}
 use Rattle.share_rule.specs.Seen.{IsPart, IsStopOf}
 use Rattle.share_core.specs.Left.{Left}
 use Rattle.share_rule.specs.Room.{Places}
@@ -55,9 +55,9 @@ ring_of p = p.core.ring
 pub record Fits (l : Layout) (c : State) (glue owner : ℕ → ℕ) (j : ℕ) (v : View) : Type 0 where
   pub rights : (r : ℕ) → r < c.opening.rings → times_in r v.rights ≡ one_if ((owner r == j) && not (c.granted r))
   pub owned : (r : ℕ) → r < c.opening.rings → times_in r (map ring_of v.parts) ≡ one_if ((owner r == j) && c.granted r)
-  pub settled : v.draft ≡ false
+  pub settled : in_draft v.stage ≡ false
   pub stops : IsStopOf c.stop v.stop v.parts
-  pub told : v.ready ≡ true → (v.layout ≡ l) × (v.opening ≡ c.opening)
+  pub told : is_ready v.stage ≡ true → (v.layout ≡ l) × (v.opening ≡ c.opening)
   pub parts : (i : ℕ) (p : RingPart) → get_elem? v.parts i ≡ some p → IsPart c glue p
 
 -- the ring builds a cell that the word belongs to
@@ -104,7 +104,7 @@ module _ {S : Type 0} (stands : S → Layout → CoreOpening → List Entry → 
     pub words : s.words ≡ k.words.items
     pub view : View
     pub views : s.views ≡ view ∷ []
-    pub closed : (view.draft ≡ true) × (view.ready ≡ false) × (view.layout ≡ k.layout)
+    pub closed : (in_draft view.stage ≡ true) × (is_ready view.stage ≡ false) × (view.layout ≡ k.layout)
     pub home : view.steps ≡ 0 → s.homes ≡ some None ∷ []
 
   abbrev pub Shown : Key → Table (Option S) View → Type 0

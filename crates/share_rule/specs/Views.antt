@@ -1,5 +1,5 @@
 -- What passes know, and what steps make of it.
-use Rattle.std.specs.Prelude.{◌≡◌, ℕ, zero, suc, ◌+◌, ◌<◌, ◌/◌, true, false, ◌==◌, length, List, [], ◌∷◌, map, slice_index_or, Option, Some, None, if◌then◌else◌}
+use Rattle.std.specs.Prelude.{Bool, true, ◌≡◌, ℕ, zero, suc, ◌+◌, ◌<◌, ◌/◌, true, false, ◌==◌, length, List, [], ◌∷◌, map, slice_index_or, Option, Some, None, if◌then◌else◌}
 use Rattle.sat_words.specs.Literal.{Literal}
 use Rattle.rup_model.specs.Basics.{one_if}
 use Rattle.share_core.specs.declared.stored.ClauseAt.{ClauseAt}
@@ -10,6 +10,8 @@ use Rattle.share_rule.specs.declared.Layout.{Layout}
 use Rattle.share_rule.specs.declared.view.GlueAt.{GlueAt}
 use Rattle.share_rule.specs.declared.view.StoredWord.{StoredWord}
 use Rattle.share_rule.specs.declared.view.RingPart.{RingPart}
+use Rattle.share_rule.specs.declared.view.Stage.{Stage}
+use Rattle.share_rule.specs.declared.view.Stage.TheVariants.{Draft, Open, Spent}
 use Rattle.share_rule.specs.declared.view.View.{View}
 use Rattle.clause_cell.specs.Packing.{pair_of, words_for}
 use Rattle.clause_cell.specs.Packing.{lit_word, cell_word}
@@ -59,12 +61,24 @@ first_of (Some s) t = Some s
 
 -- Views
 
+-- a pass of an open table
+abbrev pub is_ready : Stage → Bool
+is_ready Draft = false
+is_ready Open = true
+is_ready Spent = false
+
+-- a pass of a table that is not open yet
+abbrev pub in_draft : Stage → Bool
+in_draft Draft = true
+in_draft Open = false
+in_draft Spent = false
+
 abbrev pub no_opening : CoreOpening
 no_opening = record { formula = []; rings = 0; journal = []; starts = []; units = [] }
 
 -- before the table is open
 abbrev pub closed_view : Layout → View
-closed_view l = record { ready = false; draft = true; layout = l; opening = no_opening; steps = 0; last = None; stop = None; rights = []; parts = [] }
+closed_view l = record { stage = Draft; layout = l; opening = no_opening; steps = 0; last = None; stop = None; rights = []; parts = [] }
 
 -- with the slot in hand
 abbrev pub taken_view : Layout → View
@@ -72,7 +86,7 @@ taken_view l = record (closed_view l) { steps = 1 }
 
 -- with these rights, and no ring yet
 abbrev pub view : Layout → CoreOpening → List ℕ → View
-view l o rights = record { ready = true; draft = false; layout = l; opening = o; steps = 0; last = None; stop = None; rights = rights; parts = [] }
+view l o rights = record { stage = Open; layout = l; opening = o; steps = 0; last = None; stop = None; rights = rights; parts = [] }
 
 -- the first pass's
 abbrev pub first_view : Layout → CoreOpening → View
@@ -80,7 +94,7 @@ first_view l o = view l o (up_to o.rings)
 
 -- what a pass is left with that was joined to another
 abbrev pub spent_view : View
-spent_view = record (closed_view (record { rings = 0; vars = 0; words = 0 })) { draft = false }
+spent_view = record (closed_view (record { rings = 0; vars = 0; words = 0 })) { stage = Spent }
 
 abbrev pub no_part : RingPart
 no_part = record { core = blank 0; glues = []; stored = []; turn = None; listed = 0; whole = false; unit = None; refused = None; set = None; ended = false; gave = [] }

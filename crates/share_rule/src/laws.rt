@@ -21,7 +21,7 @@ ghost use Rattle.share_rule.specs.declared.view.View.{View};
 ghost use Rattle.share_rule.specs.Layout.{first_cell, table_words, grant_at};
 ghost use Rattle.share_rule.specs.Room.{Room, room, room_after, names, Places};
 ghost use Rattle.share_rule.specs.Books.{StandsFor};
-ghost use Rattle.share_rule.specs.Views.{spent_view, IsRight, IsHolding, IsBuilding, IsBuilt, only, clause_of, making_of};
+ghost use Rattle.share_rule.specs.Views.{spent_view, IsRight, IsHolding, IsBuilding, IsBuilt, only, clause_of, making_of, is_ready};
 ghost use Rattle.share_rule.specs.Steps.{after_grant, after_share, after_drop, after_store, after_open, after_load, without_right, with_right, joined};
 ghost use Rattle.share_rule.specs.Seen.{Stands, Seen};
 ghost use Rattle.share_rule.specs.Shown.{Shows, ring_of};
@@ -69,43 +69,43 @@ pub fn held_clauses_are_in_the_log()
 
 /// Taking a grant is its event, and finds 1.
 pub fn a_grant_is_its_event<B: Ledger>()
-    ensures { (k : Key) (s : Table (Option B) View) (h : Shows (StandsFor B.account B.stands) k.layout s) (id r : ℕ) (v : View) → get_elem? s.views id ≡ some v → v.ready ≡ true → IsRight r v
+    ensures { (k : Key) (s : Table (Option B) View) (h : Shows (StandsFor B.account B.stands) k.layout s) (id r : ℕ) (v : View) → get_elem? s.views id ≡ some v → is_ready v.stage ≡ true → IsRight r v
         → (n : Shows (StandsFor B.account B.stands) k.layout (stepped s (grant_at r) 0 id [] (after_grant r v) keeps)) × (n.core ≡ after h.core (Grant r)) × (slice_index s.words (grant_at r) ≡ 1) }
 {}
 
 /// Taking one more count of a cell is its event.
 pub fn a_share_is_its_event<B: Ledger>()
-    ensures { (k : Key) (s : Table (Option B) View) (h : Shows (StandsFor B.account B.stands) k.layout s) (id a : ℕ) (v : View) → get_elem? s.views id ≡ some v → v.ready ≡ true → IsHolding a v → (only v).core.shared < MAX_SHARES
+    ensures { (k : Key) (s : Table (Option B) View) (h : Shows (StandsFor B.account B.stands) k.layout s) (id a : ℕ) (v : View) → get_elem? s.views id ≡ some v → is_ready v.stage ≡ true → IsHolding a v → (only v).core.shared < MAX_SHARES
         → (n : Shows (StandsFor B.account B.stands) k.layout (stepped s a ((slice_index s.words a + 1) % 2 ^ 64) id [] (after_share a (slice_index s.words a) v) keeps)) × (n.core ≡ after h.core (Share (ring_of (only v)) a)) }
 {}
 
 /// Giving a count up is its event.
 pub fn a_drop_is_its_event<B: Ledger>()
-    ensures { (k : Key) (s : Table (Option B) View) (h : Shows (StandsFor B.account B.stands) k.layout s) (id a : ℕ) (v : View) → get_elem? s.views id ≡ some v → v.ready ≡ true → IsHolding a v → slice_index s.words a < 2 ^ 64
+    ensures { (k : Key) (s : Table (Option B) View) (h : Shows (StandsFor B.account B.stands) k.layout s) (id a : ℕ) (v : View) → get_elem? s.views id ≡ some v → is_ready v.stage ≡ true → IsHolding a v → slice_index s.words a < 2 ^ 64
         → (n : Shows (StandsFor B.account B.stands) k.layout (stepped s a ((slice_index s.words a + (2 ^ 64 - 1)) % 2 ^ 64) id [] (after_drop a (slice_index s.words a) v) keeps)) × (n.core ≡ after h.core (DropCount (ring_of (only v)) a)) }
 {}
 
 /// Opening a cell is its event.
 pub fn an_opening_is_its_event<B: Ledger>()
-    ensures { (k : Key) (s : Table (Option B) View) (h : Shows (StandsFor B.account B.stands) k.layout s) (id a : ℕ) (v : View) → get_elem? s.views id ≡ some v → v.ready ≡ true → IsBuilding a v → IsBuilt a v
+    ensures { (k : Key) (s : Table (Option B) View) (h : Shows (StandsFor B.account B.stands) k.layout s) (id a : ℕ) (v : View) → get_elem? s.views id ≡ some v → is_ready v.stage ≡ true → IsBuilding a v → IsBuilt a v
         → (n : Shows (StandsFor B.account B.stands) k.layout (stepped s a 1 id [] (after_open a v) keeps)) × (n.core ≡ after h.core (OpenCell (ring_of (only v)) a)) }
 {}
 
 /// Storing a word of a cell under construction is none.
 pub fn a_store_is_no_event<B: Ledger>()
-    ensures { (k : Key) (s : Table (Option B) View) (h : Shows (StandsFor B.account B.stands) k.layout s) (id a i w : ℕ) (v : View) → get_elem? s.views id ≡ some v → v.ready ≡ true → IsBuilding a v → 0 < i → i < words_for (length (making_of a v).lits)
+    ensures { (k : Key) (s : Table (Option B) View) (h : Shows (StandsFor B.account B.stands) k.layout s) (id a i w : ℕ) (v : View) → get_elem? s.views id ≡ some v → is_ready v.stage ≡ true → IsBuilding a v → 0 < i → i < words_for (length (making_of a v).lits)
         → (n : Shows (StandsFor B.account B.stands) k.layout (stepped s (a + i) w id [] (after_store (a + i) w v) keeps)) × (n.core ≡ h.core) }
 {}
 
 /// Loading a word changes nothing: of a cell that is held it is the event of reading, which has no effect.
 pub fn a_load_is_no_event<B: Ledger>()
-    ensures { (k : Key) (s : Table (Option B) View) (h : Shows (StandsFor B.account B.stands) k.layout s) (id w : ℕ) (v : View) → get_elem? s.views id ≡ some v → v.ready ≡ true
+    ensures { (k : Key) (s : Table (Option B) View) (h : Shows (StandsFor B.account B.stands) k.layout s) (id w : ℕ) (v : View) → get_elem? s.views id ≡ some v → is_ready v.stage ≡ true
         → (n : Shows (StandsFor B.account B.stands) k.layout (stepped s w (slice_index s.words w) id [] (after_load w (slice_index s.words w) v) keeps)) × (n.core ≡ h.core) × ((a : ℕ) → n.core ≡ after h.core (Read (ring_of (only v)) a)) }
 {}
 
 /// Cutting a pass in two is none: a right moves to a new pass.
 pub fn a_split_is_no_event<B: Ledger>()
-    ensures { (k : Key) (s : Table (Option B) View) (h : Shows (StandsFor B.account B.stands) k.layout s) (id r : ℕ) (v : View) → get_elem? s.views id ≡ some v → v.ready ≡ true → IsRight r v
+    ensures { (k : Key) (s : Table (Option B) View) (h : Shows (StandsFor B.account B.stands) k.layout s) (id r : ℕ) (v : View) → get_elem? s.views id ≡ some v → is_ready v.stage ≡ true → IsRight r v
         → (n : Shows (StandsFor B.account B.stands) k.layout (record { words = s.words; homes = s.homes; views = slice_set s.views id (without_right r v) ++ with_right r v ∷ [] })) × (n.core ≡ h.core) }
 {}
 

@@ -32,7 +32,7 @@ pub use passes::{join, split};
 pub use plays::{Drops, Grants, Loads, Looks, Opens, Shares, Stores};
 pub use rule::{Key, Pass, Rule};
 use std::alloc::Global;
-pub use view::{GlueAt, LastStep, Op, Refusal, RingPart, StoredWord, Taken, View};
+pub use view::{GlueAt, LastStep, Op, Refusal, RingPart, Stage, StoredWord, Taken, View};
 
 /// How many rings, variables and words for cells a table has.
 #[derive(Clone, Copy)]

@@ -97,12 +97,20 @@ pub struct RingPart {
     pub gave: LinkedList<ClauseAt>,
 }
 
+/// How far a pass is.
+pub enum Stage {
+    /// Its table is not open yet.
+    Draft,
+    /// It is a pass of an open table.
+    Open,
+    /// It was joined to another.
+    Spent,
+}
+
 /// What a pass knows.
 pub struct View {
-    /// The table is open, and the pass is one of it.
-    pub ready: bool,
-    /// The table is not open yet.
-    pub draft: bool,
+    /// How far its table and itself are.
+    pub stage: Stage,
     /// Where things lie in the words.
     pub layout: Layout,
     /// What the table was opened with.

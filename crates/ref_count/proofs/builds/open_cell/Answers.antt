@@ -2,7 +2,7 @@ use Rattle.std.proofs.Common.{◌∙◌, sym, ap, arith}
 use Rattle.share_rule.specs.Books.{StandsFor}
 use Rattle.share_rule.specs.Layout.{table_words}
 use Rattle.share_rule.proofs.Parts.{building_of}
-use Rattle.share_rule.proofs.Steps.{opens_cell}
+use Rattle.share_rule.proofs.Building.{opens_cell}
 use Rattle.ref_count.proofs.builds.open_cell.Goals as goal
 
 pub store-requires : goal.store-requires

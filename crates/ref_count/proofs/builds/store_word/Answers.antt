@@ -3,7 +3,7 @@ use Rattle.share_rule.specs.Books.{StandsFor}
 use Rattle.share_rule.specs.Layout.{table_words}
 use Rattle.share_rule.proofs.Parts.{building_of}
 use Rattle.share_rule.proofs.Rooms.{few_words}
-use Rattle.share_rule.proofs.Steps.{stores}
+use Rattle.share_rule.proofs.Building.{stores}
 use Rattle.ref_count.proofs.builds.store_word.Goals as goal
 
 pub store-requires : goal.store-requires

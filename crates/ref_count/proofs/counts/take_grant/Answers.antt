@@ -1,10 +1,11 @@
+use Rattle.share_rule.specs.Views.{is_ready}
 use Rattle.std.proofs.Common.{◌∙◌, sym, ap, refl, arith, subst}
 use Rattle.share_core.specs.declared.part.CoreOpening.{CoreOpening}
 use Rattle.share_rule.specs.Books.{StandsFor}
 use Rattle.share_rule.specs.declared.view.View.{View}
 use Rattle.share_rule.specs.Seen.{Seen}
 use Rattle.share_rule.specs.Layout.{table_words}
-use Rattle.share_rule.proofs.Steps.{grants}
+use Rattle.share_rule.proofs.Granting.{grants}
 use Rattle.ref_count.proofs.counts.take_grant.Goals as goal
 
 pub swap-requires : goal.swap-requires
@@ -23,6 +24,6 @@ returns-clause-pass g c =
     let e = c.swap.ensures in
     let t = (e.2 c.args.ring refl).0 in
     let p = c.requires.pass in (
-      (e.0 ∙ p.0, ap (λ (v : View). v.ready) t.1 ∙ p.1, ap (λ (v : View). v.layout) t.1 ∙ p.2, subst Seen (sym t.1) t.2),
+      (e.0 ∙ p.0, ap (λ (v : View). is_ready v.stage) t.1 ∙ p.1, ap (λ (v : View). v.layout) t.1 ∙ p.2, subst Seen (sym t.1) t.2),
       (e.1, t.0),
     )

@@ -3,9 +3,9 @@ use Rattle.share_rule.specs.Books.{StandsFor}
 use Rattle.share_rule.specs.declared.Layout.{Layout}
 use Rattle.share_rule.specs.declared.view.View.{View}
 use Rattle.share_rule.specs.Layout.{table_words}
-use Rattle.share_rule.specs.Views.{only, IsWord}
+use Rattle.share_rule.specs.Views.{only, IsWord, is_ready}
 use Rattle.share_rule.proofs.Parts.{held_of}
-use Rattle.share_rule.proofs.Steps.{loads}
+use Rattle.share_rule.proofs.Loading.{loads}
 use Rattle.share_rule.proofs.Rooms.{few_words}
 use Rattle.ref_count.proofs.reads.read_head.Goals as goal
 
@@ -47,7 +47,7 @@ load-head-requires g c =
       l.0 ∙ c.requires.pass.0,
       omega arith,
       loads (StandsFor g.B.Ledger.account g.B.Ledger.stands) table.table.shared.key table.table.shared.table_id.slots next.id next.me (c.args.cell.address + 2)
-          (ap (λ (v : View). v.ready) k.1 ∙ c.requires.pass.1) (subst (λ (v : View). v.parts ≡ only v ∷ []) (sym k.1) c.requires.held.0),
+          (ap (λ (v : View). is_ready v.stage) k.1 ∙ c.requires.pass.1) (subst (λ (v : View). v.parts ≡ only v ∷ []) (sym k.1) c.requires.held.0),
     )
 
 pub returns-clause-size : goal.returns-clause-size

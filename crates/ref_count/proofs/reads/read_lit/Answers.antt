@@ -4,7 +4,7 @@ use Rattle.share_rule.specs.declared.Layout.{Layout}
 use Rattle.share_rule.specs.Layout.{table_words}
 use Rattle.share_rule.specs.Views.{clause_of}
 use Rattle.share_rule.proofs.Parts.{held_of}
-use Rattle.share_rule.proofs.Steps.{loads}
+use Rattle.share_rule.proofs.Loading.{loads}
 use Rattle.share_rule.proofs.Rooms.{few_words}
 use Rattle.ref_count.proofs.Decoding.{decoded}
 use Rattle.ref_count.proofs.reads.read_lit.Goals as goal

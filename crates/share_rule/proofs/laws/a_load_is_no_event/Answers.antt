@@ -1,5 +1,5 @@
 use Rattle.share_rule.specs.Books.{StandsFor}
-use Rattle.share_rule.proofs.Steps.{load_next}
+use Rattle.share_rule.proofs.Loading.{load_next}
 use Rattle.share_rule.proofs.laws.a_load_is_no_event.Goals as goal
 
 pub returns : goal.returns

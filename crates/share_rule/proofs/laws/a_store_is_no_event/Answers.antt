@@ -1,5 +1,5 @@
 use Rattle.share_rule.specs.Books.{StandsFor}
-use Rattle.share_rule.proofs.Steps.{store_next}
+use Rattle.share_rule.proofs.Building.{store_next}
 use Rattle.share_rule.proofs.laws.a_store_is_no_event.Goals as goal
 
 pub returns : goal.returns

@@ -1,3 +1,4 @@
+use Rattle.share_rule.specs.Views.{is_ready}
 use Rattle.std.proofs.Common.{◌∙◌, ℕ, Option, sym, ap, arith, subst}
 use Rattle.atomic_table.specs.Table.{Me}
 use Rattle.share_rule.specs.Books.{StandsFor}
@@ -24,7 +25,7 @@ returns-clause-old g c =
     let s : Seen v = p.3 in
     let cut : Seen (without_right r v) = record { core = s.core; left = s.left; standing = s.standing; small = s.small; places = s.places; glue = s.glue; opening = s.opening; stops = s.stops; parts = s.parts } in
     let slots = ap (λ (m : Me (Option g.row.B.Denot) View). m.1) e.2 in (
-      (e.0 ∙ p.0, ap (λ (u : View). u.ready) is ∙ p.1, ap (λ (u : View). u.layout) is ∙ p.2, subst Seen (sym is) cut),
+      (e.0 ∙ p.0, ap (λ (u : View). is_ready u.stage) is ∙ p.1, ap (λ (u : View). u.layout) is ∙ p.2, subst Seen (sym is) cut),
       (e.1, slots),
       is,
     )

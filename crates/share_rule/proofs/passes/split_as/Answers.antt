@@ -1,7 +1,7 @@
 use Rattle.std.proofs.Common.{ℕ, arith, subst}
 use Rattle.share_rule.specs.Books.{StandsFor}
 use Rattle.share_rule.specs.Views.{IsRight}
-use Rattle.share_rule.proofs.Steps.{looks}
+use Rattle.share_rule.proofs.Loading.{looks}
 use Rattle.share_rule.proofs.passes.split_as.Goals as goal
 
 pub cut-new-requires-clause-right : goal.cut-new-requires-clause-right

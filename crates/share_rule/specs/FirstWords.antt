@@ -68,6 +68,7 @@ lit_words lits (suc j) = lit_words lits j ++ lit_word lits j ∷ []
 abbrev pub cell_words : ℕ → ℕ × List Literal → List ℕ
 cell_words count s = (count ∷ s.0 ∷ pair_of (length s.1) 0 ∷ []) ++ lit_words s.1 ((length s.1 + 1) / 2)
 
+-- all of them
 abbrev pub start_words : ℕ → List (ℕ × List Literal) → List ℕ
 start_words count [] = []
 start_words count (s ∷ ss) = cell_words count s ++ start_words count ss
@@ -76,5 +77,6 @@ start_words count (s ∷ ss) = cell_words count s ++ start_words count ss
 abbrev pub low_words : Layout → List Literal → List ℕ
 low_words l us = (0 ∷ 0 ∷ length us ∷ []) ++ (replicate l.rings 1 ++ (map code_of us ++ replicate (2 * l.vars - length us + slots l) 0))
 
+-- and what is free behind them
 abbrev pub first_words : Layout → List (ℕ × List Literal) → List Literal → List ℕ
 first_words l ss us = low_words l us ++ (start_words l.rings ss ++ replicate (l.words - total ss) 0)

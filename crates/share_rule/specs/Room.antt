@@ -25,6 +25,7 @@ abbrev pub with_clause : ℕ → ℕ → Room → Option ℕ → Room
 with_clause n size m None = m
 with_clause n size m (Some a) = record { holes = without_fit (words_for size) m.holes; words = put m.words n (Some (range a (words_for size))) }
 
+-- where there is one
 abbrev pub placed : Room → ℕ → ℕ → Room
 placed m n size = with_clause n size m (first_fit (words_for size) m.holes)
 
@@ -33,6 +34,7 @@ abbrev pub without_words : ℕ → Room → Option Hole → Room
 without_words n m None = m
 without_words n m (Some r) = record { holes = with_range r.first r.len m.holes; words = put m.words n None }
 
+-- where it has any
 abbrev pub freed : Room → ℕ → Room
 freed m n = without_words n m (m.words n)
 
@@ -46,6 +48,7 @@ abbrev pub with_deletion : Room → Option ℕ → Room
 with_deletion m None = m
 with_deletion m (Some n) = freed m n
 
+-- an entry does both
 abbrev pub room_after : Room → Entry → Room
 room_after m e = with_deletion (with_addition m (addition e)) (deletion e)
 

@@ -30,6 +30,7 @@ abbrev pub turn_number : Option ℕ → ℕ
 turn_number None = 0
 turn_number (Some r) = r + 1
 
+-- the stop: 0 where none stands
 abbrev pub stop_number : Option Stop → ℕ
 stop_number None = 0
 stop_number (Some s) = s.kind + 8 * s.ring
@@ -48,6 +49,7 @@ pub record Words (l : Layout) (c : State) (glue : ℕ → ℕ) (ws : List ℕ) :
 
 -- Views
 
+-- whose part it is
 abbrev pub ring_of : RingPart → ℕ
 ring_of p = p.core.ring
 
@@ -73,6 +75,7 @@ pub record IsStored (c : State) (ws : List ℕ) (r : ℕ) (ss : List StoredWord)
 abbrev pub UnitOut : Layout → State → List ℕ → RingPart → Type 0
 UnitOut l c ws p = (n : ℕ) → p.unit ≡ Some n → (c.turn ≡ Some (ring_of p)) × (length c.units < 2 * l.vars) × (slice_index ws (unit_at l (length c.units)) ≡ n)
 
+-- both
 abbrev pub IsOut : Layout → State → List ℕ → RingPart → Type 0
 IsOut l c ws p = IsStored c ws (ring_of p) p.stored × UnitOut l c ws p
 
@@ -107,5 +110,6 @@ module _ {S : Type 0} (stands : S → Layout → CoreOpening → List Entry → 
     pub closed : (in_draft view.stage ≡ true) × (is_ready view.stage ≡ false) × (view.layout ≡ k.layout)
     pub home : view.steps ≡ 0 → s.homes ≡ some None ∷ []
 
+  -- either
   abbrev pub Shown : Key → Table (Option S) View → Type 0
   Shown k s = Draft k s ⊎ Shows k.layout s

@@ -13,21 +13,27 @@ module _ {S : Type 0} where
   abbrev pub Knows : View → Me S View → Me S View → Type 0
   Knows v m m' = (m'.1 ≡ m.1) × (m'.0 ≡ v) × Seen v
 
+  -- the word was 1, and the pass has the ring
   abbrev pub took_grant : Step S → Me S View → ℕ → Me S View → Type 0
   took_grant st m n m' = (r : ℕ) → st.word ≡ grant_at r → Knows (after_grant r m.0) m m' × (n ≡ 1)
 
+  -- one count more is held
   abbrev pub shared : Step S → Me S View → ℕ → Me S View → Type 0
   shared st m n m' = Knows (after_share st.word n m.0) m m'
 
+  -- one less is; what was found tells whether it was the last
   abbrev pub dropped : Step S → Me S View → ℕ → Me S View → Type 0
   dropped st m n m' = Knows (after_drop st.word n m.0) m m'
 
+  -- the word was read; of a cell that is held it is as the pass knows it
   abbrev pub loaded : Step S → Me S View → ℕ → Me S View → Type 0
   loaded st m n m' = Knows (after_load st.word n m.0) m m' × IsWord m.0 st.word n
 
+  -- a word of a cell under construction is stored
   abbrev pub stored : Step S → Me S View → ℕ → Me S View → Type 0
   stored st m n m' = Knows (after_store st.word st.first m.0) m m'
 
+  -- what was built is held
   abbrev pub opened_cell : Step S → Me S View → ℕ → Me S View → Type 0
   opened_cell st m n m' = Knows (after_open st.word m.0) m m'
 

@@ -73,6 +73,7 @@ in_draft Draft = true
 in_draft Open = false
 in_draft Spent = false
 
+-- of a table that is not open
 abbrev pub no_opening : CoreOpening
 no_opening = record { formula = []; rings = 0; journal = []; starts = []; units = [] }
 
@@ -96,6 +97,7 @@ first_view l o = view l o (up_to o.rings)
 abbrev pub spent_view : View
 spent_view = record (closed_view (record { rings = 0; vars = 0; words = 0 })) { stage = Spent }
 
+-- no ring's
 abbrev pub no_part : RingPart
 no_part = record { core = blank 0; glues = []; stored = []; turn = None; listed = 0; whole = false; unit = None; refused = None; set = None; ended = false; gave = [] }
 
@@ -103,6 +105,7 @@ no_part = record { core = blank 0; glues = []; stored = []; turn = None; listed 
 abbrev pub only : View → RingPart
 only v = slice_index_or v.parts 0 no_part
 
+-- where there is none
 abbrev pub no_clause : ClauseAt
 no_clause = record { address = 0; number = 0; lits = [] }
 

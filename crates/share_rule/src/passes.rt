@@ -60,5 +60,6 @@ pub fn join<B: Ledger>(table: &Shared<B>, pass: &mut Pass<B>, other: Pass<B>)
     ensures both { (found : ℕ) × (pass.new.me.0 ≡ after_load 0 found (joined pass.old.me.0 other.me.0)) }
 {
     unite(table, pass, other);
-    table.table.shared.load::<Looks>(pass, 0);
+    let words = &table.table.shared;
+    words.load::<Looks>(pass, 0);
 }

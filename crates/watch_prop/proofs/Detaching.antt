@@ -2,21 +2,20 @@
 use Rattle.std.proofs.Common.{◌≡◌, ◌≢◌, ℕ, ◌<◌, ◌≤◌, ◌+◌, true, List, length, get_or, take, Some, None, sym, refl, ap, subst, ◌∙◌, inl, inr, arith, Contains}
 use Rattle.std.proofs.Math.ListN.{set}
 use Rattle.std.proofs.lemmas.Bool.{cases_lt}
-use Rattle.std.proofs.lemmas.List.{length-set, length-take, get_or-take, take-take, take_all}
+use Rattle.std.proofs.lemmas.List.{length-set, take_all}
 use Rattle.sat_words.specs.Literal.{Literal}
 use Rattle.sat_words.specs.Clause.{has}
 use Rattle.ring_trail.specs.TrailData.{TrailData}
 use Rattle.watch_prop.specs.declared.watch.Watch.{Watch}
-use Rattle.watch_prop.specs.WatchData.{WatchData, Lits, attached, list_at, without}
-use Rattle.watch_prop.specs.Watched.{At, IsAttachable, Watched}
-use Rattle.watch_prop.specs.Lists.{Removed}
-use Rattle.watch_prop.specs.Visiting.{IsStale}
+use Rattle.watch_prop.specs.declared.watch.Watcher.{Watcher}
+use Rattle.watch_prop.specs.WatchData.{WatchData, Lits, attached, watchers_at, list_at, without}
+use Rattle.watch_prop.specs.Watched.{At, IsAttachable, IsSettled, Watched}
 use Rattle.watch_prop.specs.Detaching.{Freed, IsGoneFrom, Compacted}
-use Rattle.watch_prop.proofs.ListsLemmas.{Listed-removed, take_split}
+use Rattle.watch_prop.proofs.ListsLemmas.{take_split}
 use Rattle.watch_prop.proofs.Slots.{watch-freed, without-freed, without-none}
 
 pub Freed-refl : (w : WatchData) (a : ℕ) → Freed w w a
-Freed-refl w a = record { vars = refl; settled = refl; len = refl; others = refl; only = λ i s at. at; listed = λ i s m at side h. h }
+Freed-refl w a = record { vars = refl; settled = refl; len = refl; others = refl; only = λ i s at. at; lists = refl }
 
 pub Freed-trans : (u v w : WatchData) (a : ℕ) → Freed u v a → Freed v w a → Freed u w a
 Freed-trans u v w a f g = record {
@@ -25,7 +24,7 @@ Freed-trans u v w a f g = record {
   len = g.len ∙ f.len;
   others = g.others ∙ f.others;
   only = λ i s at. f.only i s (g.only i s at);
-  listed = λ i s m at side h. g.listed i s m at side (f.listed i s m (g.only i s at) side h);
+  lists = g.lists ∙ f.lists;
 }
 
 -- a slot of a clause at the address is freed
@@ -36,21 +35,7 @@ Freed-slot w i s a at e = record {
   len = length-set w.slots i None;
   others = without-freed w.slots i s a at e;
   only = λ j x there. (watch-freed w.slots i j x there).1;
-  listed = λ j x m there side h. h;
-}
-
--- an entry is dropped that isn't of a watch of its literal
-pub Freed-entry : (w : WatchData) (lists : List (List ℕ)) (l : Literal) (place a : ℕ) → IsStale w (get_or (list_at w.lists l) place 0) l → Removed w.lists lists l place → Freed w record w { lists = lists } a
-Freed-entry w lists l place a stale r = record {
-  vars = refl;
-  settled = refl;
-  len = refl;
-  others = refl;
-  only = λ i s at. at;
-  listed = λ i s m at side h. Listed-removed w.lists lists l place m i r h
-      (λ e q.
-      let x = stale s (subst (λ (n : ℕ). At w.slots n (Some s)) q at) in
-      elim side as (λ _. ⊥) [ inl f ↦ x.0 (f ∙ e) | inr f ↦ x.1 (f ∙ e) ]);
+  lists = refl;
 }
 
 pub Watched-freed : (w x : WatchData) (h : Lits) (t : TrailData) (a : ℕ) → Freed w x a → Watched w h t → Watched x h t
@@ -61,12 +46,10 @@ Watched-freed w x h t a f k = record {
   pairs = λ i s at. k.pairs i s (f.only i s at);
   settled = λ i s small at.
       let z = k.settled i s (omega (arith, f.settled)) (f.only i s at) in
-      record {
-        first_listed = f.listed i s s.first at (inl refl) z.first_listed;
-        second_listed = f.listed i s s.second at (inr refl) z.second_listed;
-        first_guarded = z.first_guarded;
-        second_guarded = z.second_guarded;
-      };
+      subst (λ (lists : List (List Watcher)). IsSettled lists t.steps t.done (h s.clause.address) i s) (sym f.lists) z;
+  blocking = λ l y there.
+      let b = k.blocking l y (subst (λ (lists : List (List Watcher)). Contains (watchers_at lists l) y) f.lists there) in
+      record { slot = omega (arith, b.slot, f.len); on = subst (λ (n : ℕ). y.blocker.var ≤ n) (sym f.vars) b.on; inside = λ s at. b.inside s (f.only y.slot s at) };
   fresh = k.fresh;
 }
 
@@ -76,7 +59,7 @@ gone-later w u v a l gone f i s at side h = gone i s (f.only i s at) side h
 
 -- and so it is for what was listed before other slots were freed
 pub gone-earlier : (w u v : WatchData) (a : ℕ) (l : Literal) → Freed w u a → Freed u v a → IsGoneFrom u v a l → IsGoneFrom w v a l
-gone-earlier w u v a l f g gone i s at side h = gone i s at side (f.listed i s l (g.only i s at) side h)
+gone-earlier w u v a l f g gone i s at side h = gone i s at side (subst (λ (lists : List (List Watcher)). Contains (list_at lists l) i) (sym f.lists) h)
 
 -- once the slots that wait are done, and the lists of the literals of the clause, no watch of it is left
 pub none_left : (w u v : WatchData) (h : Lits) (t : TrailData) (a : ℕ) → Watched w h t → Freed w u a → ((i : ℕ) (s : Watch) → w.settled ≤ i → At u.slots i (Some s) → s.clause.address ≢ a)
@@ -89,7 +72,7 @@ none_left w u v h t a k f waiting g listed i s at e =
       | inl small ↦ (
           let z = k.settled i s small at_w in
           let inside : has (h a) s.first ≡ true = subst (λ (n : ℕ). has (h n) s.first ≡ true) e (k.pairs i s at_w).first in
-          listed s.first inside i s at (inl refl) (f.listed i s s.first at_u (inl refl) z.first_listed) e)
+          listed s.first inside i s at (inl refl) (subst (λ (lists : List (List Watcher)). Contains (list_at lists s.first) i) (sym f.lists) z.first_listed) e)
     ]
 
 pub detached : (w v : WatchData) (a : ℕ) → Freed w v a → ((i : ℕ) (s : Watch) → At v.slots i (Some s) → s.clause.address ≢ a) → attached v ≡ without (attached w) a
@@ -104,24 +87,14 @@ IsLeft old new a l place = (i : ℕ) (s : Watch) → At new.slots i (Some s) →
 pub left-start : (w : WatchData) (a : ℕ) (l : Literal) (n : ℕ) → n ≡ length (list_at w.lists l) → IsLeft w w a l n
 left-start w a l n e i s at h q = subst (λ (xs : List ℕ). Contains xs i) (sym (ap (λ (m : ℕ). take m (list_at w.lists l)) e ∙ take_all (length (list_at w.lists l)) (list_at w.lists l) (omega arith))) h
 
--- an entry of the front stands where it stood
-pub front_at : (xs ys : List ℕ) (n place : ℕ) → place < n → take n ys ≡ take n xs → get_or ys place 0 ≡ get_or xs place 0
-front_at xs ys n place lt e = sym (get_or-take n ys place 0 lt) ∙ ap (λ (zs : List ℕ). get_or zs place 0) e ∙ get_or-take n xs place 0 lt
-
-pub front_less : (xs ys : List ℕ) (n place : ℕ) → place ≤ n → take n ys ≡ take n xs → take place ys ≡ take place xs
-front_less xs ys n place le e = sym (take-take place n ys le) ∙ ap (λ (zs : List ℕ). take place zs) e ∙ take-take place n xs le
-
-pub front_inside : (xs ys : List ℕ) (place : ℕ) → place ≤ length xs → take place ys ≡ take place xs → place ≤ length ys
-front_inside xs ys place le e = omega (arith, length-take place ys, length-take place xs, ap (λ (zs : List ℕ). length zs) e)
-
-pub left-step : (w u v : WatchData) (a : ℕ) (l : Literal) (place : ℕ) → place < length (list_at w.lists l) → take (place + 1) (list_at u.lists l) ≡ take (place + 1) (list_at w.lists l) → IsLeft w u a l (place + 1) → Freed u v a
+pub left-step : (w u v : WatchData) (a : ℕ) (l : Literal) (place : ℕ) → place < length (list_at w.lists l) → IsLeft w u a l (place + 1) → Freed w u a → Freed u v a
     → ((s : Watch) → At v.slots (get_or (list_at u.lists l) place 0) (Some s) → s.clause.address ≢ a) → IsLeft w v a l place
-left-step w u v a l place lt front left f gone i s at h e =
-    elim (take_split (list_at w.lists l) place i lt (left i s (f.only i s at) h e)) as (λ _. Contains (take place (list_at w.lists l)) i) [
+left-step w u v a l place lt left e f gone i s at h q =
+    elim (take_split (list_at w.lists l) place i lt (left i s (f.only i s at) h q)) as (λ _. Contains (take place (list_at w.lists l)) i) [
       | inl there ↦ there
-      | inr q ↦ absurd (
-          let here : i ≡ get_or (list_at u.lists l) place 0 = sym (front_at (list_at w.lists l) (list_at u.lists l) (place + 1) place (omega arith) front ∙ q) in
-          gone s (subst (λ (n : ℕ). At v.slots n (Some s)) here at) e)
+      | inr z ↦ absurd (
+          let here : i ≡ get_or (list_at u.lists l) place 0 = sym z ∙ ap (λ (lists : List (List Watcher)). get_or (list_at lists l) place 0) (sym e.lists) in
+          gone s (subst (λ (n : ℕ). At v.slots n (Some s)) here at) q)
     ]
 
 pub left-end : (w v : WatchData) (a : ℕ) (l : Literal) → IsLeft w v a l 0 → IsGoneFrom w v a l
@@ -136,5 +109,6 @@ Watched-compacted w x h t c k = record {
   clauses = λ i s at. let m = c.only i s at in subst (λ (n : ℕ). IsAttachable n (h s.clause.address)) (sym c.vars) (k.clauses m.0 s (m.1, m.2));
   pairs = λ i s at. let m = c.only i s at in k.pairs m.0 s (m.1, m.2);
   settled = λ i s small at. absurd (omega (arith, c.settled));
+  blocking = λ l y there. absurd (let z = there.1 in omega (arith, z, ap (λ (ys : List Watcher). length ys) (c.empty l)));
   fresh = k.fresh;
 }

@@ -1,5 +1,5 @@
 -- What an entry of a list says of its clause.
-use Rattle.std.proofs.Common.{◌≡◌, ℕ, ◌≤◌, ◌⊎◌, true, List, sym, subst, inl, inr, arith, All, Contains, IsSome}
+use Rattle.std.proofs.Common.{◌≡◌, ℕ, ◌≤◌, ◌⊎◌, true, List, sym, subst, inl, inr, arith, All, Bool, Some, ap, ◌∙◌, Contains, IsSome}
 use Rattle.sat_words.specs.Literal.{Literal}
 use Rattle.sat_words.specs.Clause.{has}
 use Rattle.sat_words.specs.declared.shared.Cref.{Cref}
@@ -7,13 +7,16 @@ use Rattle.rup_model.proofs.Lists.{has_In}
 use Rattle.ring_port.specs.PortState.{PortState, IsPort, IsOn, held_at, lits_at}
 use Rattle.ring_port.proofs.Holdings.{All_In, held_is_kept}
 use Rattle.ring_trail.specs.TrailData.{TrailData, IsTrail, IsTrueOn, IsFalseOn, HasNoPlace}
+use Rattle.watch_prop.specs.declared.watch.Watch.{Watch}
+use Rattle.watch_prop.specs.declared.watch.Watcher.{Watcher}
 use Rattle.watch_prop.specs.declared.watch.Entry.{Entry}
 use Rattle.watch_prop.specs.WatchData.{WatchData, Lits, attached}
-use Rattle.watch_prop.specs.Watched.{Watched, IsAttachable}
+use Rattle.watch_prop.specs.Watched.{At, Watched, IsAttachable, IsPairOf, IsBlocking}
 use Rattle.watch_prop.specs.Propagation.{IsConflict}
 use Rattle.watch_prop.specs.Visiting.{IsEntry, AllFalseBut, IsForcing, IsSatisfied}
 use Rattle.watch_prop.proofs.Growing.{clause_in, TrueOn-within}
 use Rattle.watch_prop.proofs.Reasons.{long_held}
+use Rattle.watch_prop.proofs.Slots.{watch-same}
 
 pub entry_attachable : (w : WatchData) (h : Lits) (t : TrailData) (i : ℕ) (l : Literal) (e : Entry) → Watched w h t → IsEntry w i l e → IsAttachable w.vars (h e.clause.address)
 entry_attachable w h t i l e k n = subst (λ (c : Cref). IsAttachable w.vars (h c.address)) n.clause (k.clauses i n.watch n.there)
@@ -65,12 +68,39 @@ entry_forces w h t i l e k n f free all = record {
 }
 
 pub entry_satisfied : (w : WatchData) (h : Lits) (t : TrailData) (i : ℕ) (l : Literal) (e : Entry) → IsTrail t → Watched w h t → IsEntry w i l e → IsTrueOn t.steps e.other → IsSatisfied w h t i
-entry_satisfied w h t i l e trail k n f = record {
-  watch = n.watch;
-  there = n.there;
-  has_true = record {
-    lit = e.other;
-    has_lit = subst (λ (d : Cref). has (h d.address) e.other ≡ true) (sym n.clause) (entry_pair w h t i l e k n).1;
-    within = TrueOn-within t e.other trail f;
-  };
+entry_satisfied w h t i l e trail k n f s at =
+    let same : n.watch ≡ s = watch-same w.slots i n.watch s n.there at in
+    record {
+      lit = e.other;
+      has_lit = subst (λ (d : Cref). has (h d.address) e.other ≡ true) (sym n.clause ∙ ap (λ (y : Watch). y.clause) same) (entry_pair w h t i l e k n).1;
+      within = TrueOn-within t e.other trail f;
+    }
+
+-- a blocker that is true spares the look at the clause
+pub blocker_satisfied : (w : WatchData) (h : Lits) (t : TrailData) (i : ℕ) (x : Watcher) → IsTrail t → IsBlocking w h x → x.slot ≡ i → IsTrueOn t.steps x.blocker → IsSatisfied w h t i
+blocker_satisfied w h t i x trail b e f s at = record {
+  lit = x.blocker;
+  has_lit = b.inside s (subst (λ (n : ℕ). At w.slots n (Some s)) (sym e) at);
+  within = TrueOn-within t x.blocker trail f;
 }
+
+-- the two literals of an entry are a pair of its clause
+pub entry_two : (w : WatchData) (h : Lits) (t : TrailData) (i : ℕ) (l : Literal) (e : Entry) → Watched w h t → IsEntry w i l e → IsPairOf (h e.clause.address) l e.other e.binary
+entry_two w h t i l e k n =
+    let p = k.pairs i n.watch n.there in
+    let c = h n.watch.clause.address in
+    let both : IsPairOf c l e.other n.watch.binary = elim n.sides as (λ _. IsPairOf c l e.other n.watch.binary) [
+      | inl q ↦ record {
+        first = subst (λ (y : Literal). has c y ≡ true) q.0 p.first;
+        second = subst (λ (y : Literal). has c y ≡ true) q.1 p.second;
+        apart = λ z. p.apart (q.0 ∙ z ∙ sym q.1);
+        only = p.only;
+      }
+      | inr q ↦ record {
+        first = subst (λ (y : Literal). has c y ≡ true) q.0 p.second;
+        second = subst (λ (y : Literal). has c y ≡ true) q.1 p.first;
+        apart = λ z. p.apart (q.1 ∙ sym z ∙ sym q.0);
+        only = p.only;
+      }
+    ] in
+    subst (λ (b : Bool). IsPairOf (h e.clause.address) l e.other b) n.binary (subst (λ (d : Cref). IsPairOf (h d.address) l e.other n.watch.binary) n.clause both)

@@ -11,6 +11,7 @@ use Rattle.ring_trail.specs.declared.step.Step.{Step}
 use Rattle.ring_trail.specs.TrailData.{TrailData, HasGrown, IsTrail, IsTrueOn, IsFalseOn, no_step, step_at, lit_at, level_at}
 use Rattle.ring_trail.specs.Closed.{TrueWithin, HasTrue, IsClosedClause, IsClosed}
 use Rattle.watch_prop.specs.declared.watch.Watch.{Watch}
+use Rattle.watch_prop.specs.declared.watch.Watcher.{Watcher}
 use Rattle.watch_prop.specs.WatchData.{WatchData, Lits, attached, clauses_of}
 use Rattle.watch_prop.specs.Watched.{At, IsPair, IsGuarded, IsSettled, Watched}
 use Rattle.watch_prop.specs.Visiting.{NotFalse}
@@ -60,7 +61,7 @@ IsGuarded-grow steps more n c l le g p lt q =
 pub IsGuarded-open : (steps : List Step) (n : ℕ) (c : List Literal) (l : Literal) → n ≤ length steps → NotFalse steps l → IsGuarded steps n c l
 IsGuarded-open steps n c l le open_lit p lt q = absurd (open_lit record { place = p; before = omega arith; false_there = q })
 
-pub IsSettled-grow : (lists : List (List ℕ)) (steps more : List Step) (n : ℕ) (c : List Literal) (i : ℕ) (s : Watch) → n ≤ length steps → IsSettled lists steps n c i s → IsSettled lists (steps ++ more) n c i s
+pub IsSettled-grow : (lists : List (List Watcher)) (steps more : List Step) (n : ℕ) (c : List Literal) (i : ℕ) (s : Watch) → n ≤ length steps → IsSettled lists steps n c i s → IsSettled lists (steps ++ more) n c i s
 IsSettled-grow lists steps more n c i s le h = record {
   first_listed = h.first_listed;
   second_listed = h.second_listed;
@@ -75,6 +76,7 @@ Watched-grow w lits t u le k g d = record {
   clauses = k.clauses;
   pairs = k.pairs;
   settled = λ i s lt at. rw (g.steps, d) (IsSettled-grow w.lists t.steps g.more t.done (lits s.clause.address) i s le (k.settled i s lt at));
+  blocking = k.blocking;
   fresh = λ p ge lt.
       let lt' : p < length (t.steps ++ g.more) = subst (λ (xs : List Step). p < length xs) g.steps lt in
       subst (λ (xs : List Step). level_at xs p ≡ u.level) (sym g.steps)
@@ -134,7 +136,7 @@ cases_TrueWithin steps k l = elim (search steps k l (length steps) (omega arith)
 guard_true : (t : TrailData) (k : ℕ) (c : List Literal) (l : Literal) → IsGuarded t.steps t.done c l → ((p : ℕ) → p < length t.steps → level_at t.steps p ≤ k → p < t.done) → TrueWithin t.steps k (opposite l) → HasTrue t.steps k c
 guard_true t k c l g seen f = HasTrue-higher t.steps (level_at t.steps f.place) k c f.level (g f.place (seen f.place f.in_range f.level) f.true_there)
 
-closed_watch : (lists : List (List ℕ)) (t : TrailData) (k : ℕ) (c : List Literal) (i : ℕ) (s : Watch) → IsPair c s → IsSettled lists t.steps t.done c i s → ((p : ℕ) → p < length t.steps → level_at t.steps p ≤ k → p < t.done) → IsClosedClause c t.steps k
+closed_watch : (lists : List (List Watcher)) (t : TrailData) (k : ℕ) (c : List Literal) (i : ℕ) (s : Watch) → IsPair c s → IsSettled lists t.steps t.done c i s → ((p : ℕ) → p < length t.steps → level_at t.steps p ≤ k → p < t.done) → IsClosedClause c t.steps k
 closed_watch lists t k c i s pair z seen =
     elim (cases_TrueWithin t.steps k (opposite s.first)) as (λ _. IsClosedClause c t.steps k) [
       | inl f ↦ inl (guard_true t k c s.first z.first_guarded seen f)

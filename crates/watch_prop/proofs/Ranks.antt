@@ -134,11 +134,11 @@ IsBest-step t c n b l r d e is h =
       ])
     ]
 
-pub IsBest-start : (t : TrailData) (c : List Literal) (k : Literal) (m : ℕ) (l : Literal) (n : ℕ) → distinct_lits c ≡ true → slice_get c 0 ≡ Some k → slice_get c 1 ≡ Some l → IsRank t k m → IsRank t l n → IsBest t c 2 (first_two k m l n)
-IsBest-start t c k m l n d e f is_k is_l =
-    let kin : StandsAmong c 2 k = record { place = 0; before = omega arith; there = e } in
-    let lin : StandsAmong c 2 l = record { place = 1; before = omega arith; there = f } in
-    let ne : k ≢ l = λ q. apart_places c 0 1 l d (omega arith) (e ∙ ap Some q) f in
+-- of two literals of a clause that has no others
+IsBest-of : (t : TrailData) (c : List Literal) (i : ℕ) (k : Literal) (m j : ℕ) (l : Literal) (n : ℕ) → i < 2 → j < 2 → i ≢ j → slice_get c i ≡ Some k → slice_get c j ≡ Some l → k ≢ l → IsRank t k m → IsRank t l n → IsBest t c 2 (first_two k m l n)
+IsBest-of t c i k m j l n small small' two e f ne is_k is_l =
+    let kin : StandsAmong c 2 k = record { place = i; before = small; there = e } in
+    let lin : StandsAmong c 2 l = record { place = j; before = small'; there = f } in
     elim (cases_Bool (nat_lt m n)) as (λ _. IsBest t c 2 (first_two k m l n)) [
       | inl up ↦ rw up record {
         first_in = lin;
@@ -147,9 +147,9 @@ IsBest-start t c k m l n d e f is_k is_l =
         high_is = is_l;
         low_is = is_k;
         order = (let q = lt_true m n up in omega arith);
-        rest = λ p x lt g. elim (cases_eq p 0) as (λ _. (x ≡ l) ⊎ RanksLow t x m) [
-          | inl q ↦ inr (ranks_low t x k m m (same_there c p 0 x k q g e) is_k (omega arith))
-          | inr q ↦ inl (same_there c p 1 x l (omega arith) g f)
+        rest = λ p x lt g. elim (cases_eq p i) as (λ _. (x ≡ l) ⊎ RanksLow t x m) [
+          | inl q ↦ inr (ranks_low t x k m m (same_there c p i x k q g e) is_k (omega arith))
+          | inr q ↦ inl (same_there c p j x l (omega arith) g f)
         ];
       }
       | inr not_up ↦ rw not_up record {
@@ -159,11 +159,34 @@ IsBest-start t c k m l n d e f is_k is_l =
         high_is = is_k;
         low_is = is_l;
         order = lt_false m n not_up;
-        rest = λ p x lt g. elim (cases_eq p 0) as (λ _. (x ≡ k) ⊎ RanksLow t x n) [
-          | inl q ↦ inl (same_there c p 0 x k q g e)
-          | inr q ↦ inr (ranks_low t x l n n (same_there c p 1 x l (omega arith) g f) is_l (omega arith))
+        rest = λ p x lt g. elim (cases_eq p i) as (λ _. (x ≡ k) ⊎ RanksLow t x n) [
+          | inl q ↦ inl (same_there c p i x k q g e)
+          | inr q ↦ inr (ranks_low t x l n n (same_there c p j x l (omega arith) g f) is_l (omega arith))
         ];
       }
+    ]
+
+pub IsBest-start : (t : TrailData) (c : List Literal) (k : Literal) (m : ℕ) (l : Literal) (n : ℕ) → distinct_lits c ≡ true → slice_get c 0 ≡ Some k → slice_get c 1 ≡ Some l → IsRank t k m → IsRank t l n → IsBest t c 2 (first_two k m l n)
+IsBest-start t c k m l n d e f is_k is_l = IsBest-of t c 0 k m 1 l n (omega arith) (omega arith) (omega arith) e f (λ q. apart_places c 0 1 l d (omega arith) (e ∙ ap Some q) f) is_k is_l
+
+pub IsBest-pair : (t : TrailData) (c : List Literal) (k : Literal) (m : ℕ) (l : Literal) (n : ℕ) → length c ≡ 2 → has c k ≡ true → has c l ≡ true → k ≢ l → IsRank t k m → IsRank t l n → IsBest t c (length c) (first_two k m l n)
+IsBest-pair t c k m l n two in_k in_l ne is_k is_l =
+    let a = at_has c k in_k in
+    let b = at_has c l in_l in
+    let apart : a.0 ≢ b.0 = λ q. ne (same_there c a.0 b.0 k l q a.2 b.2) in
+    subst (λ (z : ℕ). IsBest t c z (first_two k m l n)) (sym two)
+    (IsBest-of t c a.0 k m b.0 l n (omega (arith, a.1, two)) (omega (arith, b.1, two)) apart a.2 b.2 ne is_k is_l)
+
+-- a clause of two literals has no others
+pub two_only : (c : List Literal) (k l x : Literal) → length c ≡ 2 → has c k ≡ true → has c l ≡ true → k ≢ l → has c x ≡ true → (x ≡ k) ⊎ (x ≡ l)
+two_only c k l x two in_k in_l ne in_x =
+    let a = at_has c k in_k in
+    let b = at_has c l in_l in
+    let p = at_has c x in_x in
+    let apart : a.0 ≢ b.0 = λ q. ne (same_there c a.0 b.0 k l q a.2 b.2) in
+    elim (cases_eq p.0 a.0) as (λ _. (x ≡ k) ⊎ (x ≡ l)) [
+      | inl q ↦ inl (same_there c p.0 a.0 x k q p.2 a.2)
+      | inr q ↦ inr (same_there c p.0 b.0 x l (omega (arith, p.1, a.1, b.1, two)) p.2 b.2)
     ]
 
 -- a rank that is a level is that of a false literal

@@ -1,5 +1,5 @@
 -- Slots, and the clauses whose watches they have.
-use Rattle.std.proofs.Common.{◌≡◌, ◌≢◌, ℕ, zero, suc, ◌<◌, ◌+◌, ◌⊎◌, ◌==◌, Bool, true, false, not, cond, List, [], ◌∷◌, ◌++◌, length, get_or, Option, Some, None, sym, refl, ap, subst, ◌∙◌, inl, inr, arith, Contains}
+use Rattle.std.proofs.Common.{◌≡◌, ◌≢◌, ℕ, zero, suc, ◌<◌, ◌≤◌, ◌+◌, ◌⊎◌, ◌==◌, Bool, true, false, not, cond, List, [], ◌∷◌, ◌++◌, length, get_or, Option, Some, None, sym, refl, ap, subst, ◌∙◌, inl, inr, arith, Contains}
 use Rattle.std.proofs.Math.ListN.{set}
 use Rattle.std.specs.List.{filter, filter_map}
 use Rattle.std.specs.Option.{is_some}
@@ -151,6 +151,14 @@ each-kept : (ws : List (Option Watch)) → length (clauses (filter is_some ws)) 
 each-kept [] = refl
 each-kept (Some x ∷ ws) = let r = each-kept ws in omega (arith, r)
 each-kept (None ∷ ws) = each-kept ws
+
+few-kept : (ws : List (Option Watch)) → length (filter is_some ws) ≤ length ws
+few-kept [] = omega arith
+few-kept (Some x ∷ ws) = let r = few-kept ws in omega (arith, r)
+few-kept (None ∷ ws) = let r = few-kept ws in omega (arith, r)
+
+pub kept-within : (ws xs : List (Option Watch)) (n : ℕ) → xs ≡ filter is_some ws → length ws ≤ n → length xs ≤ n
+kept-within ws xs n e le = omega (arith, le, few-kept ws, ap (λ (ys : List (Option Watch)). length ys) e)
 
 -- so many slots are free
 abbrev pub HasFree : List (Option Watch) → ℕ → Type 0

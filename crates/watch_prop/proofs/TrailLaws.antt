@@ -33,6 +33,7 @@ Watched-decide w lits t l all k =
       clauses = k.clauses;
       pairs = k.pairs;
       settled = λ i x lt at. IsSettled-grow w.lists t.steps (s ∷ []) t.done (lits x.clause.address) i x (omega arith) (k.settled i x lt at);
+      blocking = k.blocking;
       fresh = λ p ge lt. ap (λ (x : Step). x.level) (get_or_push t.steps s no_step p (let n = length-append t.steps (s ∷ []) in omega arith));
     }
 
@@ -58,6 +59,7 @@ Watched-back w lits t k trail below v =
       settled = λ i x lt at.
           let z = v.settled i x lt at in
           record { first_listed = z.first_listed; second_listed = z.second_listed; first_guarded = guard (lits x.clause.address) x.first z.first_guarded; second_guarded = guard (lits x.clause.address) x.second z.second_guarded };
+      blocking = v.blocking;
       fresh = λ p ge lt.
           let b = back-only t k p trail lt in
           let was = v.fresh p (omega arith) b.0 in
@@ -75,6 +77,7 @@ Watched-port w lits more t same v =
       clauses = λ i s at. subst (λ (c : List Literal). IsAttachable w.vars c) (e i s at) (v.clauses i s at);
       pairs = λ i s at. subst (λ (c : List Literal). IsPair c s) (e i s at) (v.pairs i s at);
       settled = λ i s lt at. subst (λ (c : List Literal). IsSettled w.lists t.steps t.done c i s) (e i s at) (v.settled i s lt at);
+      blocking = λ l x there. let b = v.blocking l x there in record { slot = b.slot; on = b.on; inside = λ s at. subst (λ (c : List Literal). has c x.blocker ≡ true) (e x.slot s at) (b.inside s at) };
       fresh = v.fresh;
     }
 

@@ -5,17 +5,19 @@ use Rattle.sat_words.specs.Literal.{Literal, opposite}
 use Rattle.sat_words.specs.Clause.{has}
 use Rattle.sat_words.specs.declared.shared.Cref.{Cref}
 use Rattle.ring_trail.specs.declared.step.Step.{Step}
-use Rattle.ring_trail.specs.TrailData.{TrailData, HasGrown, no_step, lit_at, level_at}
+use Rattle.ring_trail.specs.TrailData.{TrailData, IsTrail, HasGrown, no_step, lit_at, level_at}
 use Rattle.ring_trail.specs.Closed.{HasTrue}
 use Rattle.watch_prop.specs.declared.watch.Watch.{Watch}
+use Rattle.watch_prop.specs.declared.watch.Watcher.{Watcher}
 use Rattle.watch_prop.specs.declared.watch.Entry.{Entry}
 use Rattle.watch_prop.specs.WatchData.{WatchData, Lits, list_at}
-use Rattle.watch_prop.specs.Watched.{At, Watched, IsGuarded, IsSettled, IsPair, IsAttachable}
-use Rattle.watch_prop.specs.Lists.{Removed}
-use Rattle.watch_prop.specs.Visiting.{IsVisiting, IsStale, Replaced, CanMove, IsForcing, IsSatisfied}
+use Rattle.watch_prop.specs.Watched.{At, Watched, IsGuarded, IsSettled, IsPair, IsAttachable, IsBlocking}
+use Rattle.watch_prop.specs.Lists.{Removed, Reblocked}
+use Rattle.watch_prop.specs.Visiting.{IsVisiting, IsStale, Replaced, CanMove, CanBlock, IsForcing, IsSatisfied}
 use Rattle.watch_prop.proofs.ListsLemmas.{cases_eq, Listed-removed, take_split}
 use Rattle.watch_prop.proofs.Growing.{opposite-eq, Watched-grow, HasTrue-grow, IsGuarded-open}
 use Rattle.watch_prop.proofs.Slots.{watch-same, watch-set}
+use Rattle.watch_prop.proofs.Entries.{on_vars, entry_attachable, entry_two, entry_satisfied}
 
 pub visiting-start : (w : WatchData) (h : Lits) (t : TrailData) (l : Literal) (n : ℕ) → n ≡ length (list_at w.lists l) → Watched w h t → IsVisiting w h t l n
 visiting-start w h t l n e v = record {
@@ -27,7 +29,7 @@ visiting-start w h t l n e v = record {
       inl (elim side as (λ _. Contains (take n (list_at w.lists l)) i) [ inl q ↦ all s.first q z.first_listed | inr q ↦ all s.second q z.second_listed ]);
 }
 
-pub visiting-stale : (w : WatchData) (h : Lits) (t : TrailData) (l : Literal) (place : ℕ) (lists : List (List ℕ)) → place < length (list_at w.lists l) → IsVisiting w h t l (place + 1)
+pub visiting-stale : (w : WatchData) (h : Lits) (t : TrailData) (l : Literal) (place : ℕ) (lists : List (List Watcher)) → place < length (list_at w.lists l) → IsVisiting w h t l (place + 1)
     → IsStale w (get_or (list_at w.lists l) place 0) l → Removed w.lists lists l place → IsVisiting record w { lists = lists } h t l place
 visiting-stale w h t l place lists lt v stale r =
     let k = v.watched in
@@ -49,6 +51,7 @@ visiting-stale w h t l place lists lt v stale r =
               first_guarded = z.first_guarded;
               second_guarded = z.second_guarded;
             };
+        blocking = λ n y there. let b = k.blocking n y (r.only n y there) in record { slot = b.slot; on = b.on; inside = b.inside };
         fresh = k.fresh;
       };
       left = λ i s small at side.
@@ -71,13 +74,53 @@ visiting-settled w h t l place lt v one = record {
       elim (v.left i s small at side) as (λ _. Contains (take place (list_at w.lists l)) i ⊎ HasTrue t.steps t.level (h s.clause.address)) [
         | inl c ↦ elim (take_split (list_at w.lists l) place i lt c) as (λ _. Contains (take place (list_at w.lists l)) i ⊎ HasTrue t.steps t.level (h s.clause.address)) [
           | inl b ↦ inl b
-          | inr q ↦ inr (
-              let e : one.watch ≡ s = watch-same w.slots i one.watch s (subst (λ (n : ℕ). At w.slots n (Some one.watch)) q one.there) at in
-              subst (λ (x : Watch). HasTrue t.steps t.level (h x.clause.address)) e one.has_true)
+          | inr q ↦ inr (one s (subst (λ (n : ℕ). At w.slots n (Some s)) (sym q) at))
         ]
         | inr s ↦ inr s
       ];
 }
+
+-- the other watch, which is true, becomes the blocker
+pub visiting-blocked : (w : WatchData) (h : Lits) (t : TrailData) (l : Literal) (place : ℕ) (e : Entry) (lists : List (List Watcher)) → IsTrail t → place < length (list_at w.lists l) → IsVisiting w h t l (place + 1)
+    → CanBlock w t l (get_or (list_at w.lists l) place 0) e → Reblocked w.lists lists l place e.other → IsVisiting record w { lists = lists } h t l place
+visiting-blocked w h t l place e lists trail lt v can r =
+    let k = v.watched in
+    let i = get_or (list_at w.lists l) place 0 in
+    let x : WatchData = record w { lists = lists } in
+    let two = entry_two w h t i l e k can.entry in
+    let kept : (m : Literal) (j : ℕ) → Contains (list_at w.lists m) j → Contains (list_at lists m) j = λ m j c. subst (λ (xs : List ℕ). Contains xs j) (sym (r.same m)) c in
+    let watched : Watched x h t = record {
+      vars = k.vars;
+      few = k.few;
+      clauses = k.clauses;
+      pairs = k.pairs;
+      settled = λ j s small at.
+          let z = k.settled j s small at in
+          record {
+            first_listed = kept s.first j z.first_listed;
+            second_listed = kept s.second j z.second_listed;
+            first_guarded = z.first_guarded;
+            second_guarded = z.second_guarded;
+          };
+      blocking = λ n y there. elim (r.only n y there) as (λ _. IsBlocking x h y) [
+        | inl was ↦ (let b = k.blocking n y was in record { slot = b.slot; on = b.on; inside = b.inside })
+        | inr q ↦ record {
+          slot = (let z = can.entry.there.0 in omega (arith, z, q.0));
+          on = subst (λ (m : Literal). m.var ≤ w.vars) (sym q.1) (on_vars w.vars w.vars (h e.clause.address) e.other refl (entry_attachable w h t i l e k can.entry) two.second);
+          inside = λ s at.
+              let same : can.entry.watch ≡ s = watch-same w.slots i can.entry.watch s can.entry.there (subst (λ (m : ℕ). At w.slots m (Some s)) q.0 at) in
+              subst (λ (m : Literal). has (h s.clause.address) m ≡ true) (sym q.1)
+              (subst (λ (d : Cref). has (h d.address) e.other ≡ true) (sym can.entry.clause ∙ ap (λ (z : Watch). z.clause) same) two.second);
+        }
+      ];
+      fresh = k.fresh;
+    } in
+    let satisfied : IsSatisfied w h t i = entry_satisfied w h t i l e trail k can.entry can.is_true in
+    let old = visiting-settled w h t l place lt v satisfied in
+    record {
+      watched = watched;
+      left = λ j s small at side. subst (λ (xs : List ℕ). Contains (take place xs) j ⊎ HasTrue t.steps t.level (h s.clause.address)) (sym (r.same l)) (old.left j s small at side);
+    }
 
 pub visiting-grow : (w : WatchData) (h : Lits) (t u : TrailData) (l : Literal) (place : ℕ) → t.done ≤ length t.steps → HasGrown t u → u.done ≡ t.done → IsVisiting w h t l place → IsVisiting w h u l place
 visiting-grow w h t u l place le g d v = record {
@@ -115,9 +158,10 @@ visiting-moved w x h t l m place e le lt v can r =
       | inl q ↦ subst (λ (y : Literal). Contains (list_at w.lists y) e.index × IsGuarded t.steps t.done (h old.clause.address) y) q.1 (z.second_listed, z.second_guarded)
       | inr q ↦ subst (λ (y : Literal). Contains (list_at w.lists y) e.index × IsGuarded t.steps t.done (h old.clause.address) y) q.1 (z.first_listed, z.first_guarded)
     ]) in
-    let new : Watch = record { clause = e.clause; first = e.other; second = m } in
+    let new : Watch = record { clause = e.clause; first = e.other; second = m; binary = e.binary } in
     let split : (i : ℕ) (s : Watch) → At x.slots i (Some s) → ((i ≡ e.index) × (s ≡ new)) ⊎ ((i ≢ e.index) × At w.slots i (Some s))
     = λ i s at. watch-set w.slots e.index i new s (subst (λ (ws : List (Option Watch)). At ws i (Some s)) r.slots at) in
+    let slots_len : length x.slots ≡ length w.slots = ap (λ (ws : List (Option Watch)). length ws) r.slots ∙ length-set w.slots e.index (Some new) in
     let new_settled : e.index < w.settled → IsSettled x.lists t.steps t.done (h e.clause.address) e.index new
     = λ small.
     let z = other_settled small in
@@ -136,7 +180,7 @@ visiting-moved w x h t l m place e le lt v can r =
           | inr q ↦ subst (λ (n : ℕ). IsAttachable n (h s.clause.address)) (sym r.vars) (k.clauses i s q.1)
         ];
         pairs = λ i s at. elim (split i s at) as (λ _. IsPair (h s.clause.address) s) [
-          | inl q ↦ subst (λ (y : Watch). IsPair (h y.clause.address) y) (sym q.1) record { first = other_in; second = can.is_open.inside; apart = λ z. can.is_open.not_other (sym z) }
+          | inl q ↦ subst (λ (y : Watch). IsPair (h y.clause.address) y) (sym q.1) record { first = other_in; second = can.is_open.inside; apart = λ z. can.is_open.not_other (sym z); only = (entry_two w h t index l e k can.entry).only }
           | inr q ↦ k.pairs i s q.1
         ];
         settled = λ i s small at. elim (split i s at) as (λ _. IsSettled x.lists t.steps t.done (h s.clause.address) i s) [
@@ -149,6 +193,26 @@ visiting-moved w x h t l m place e le lt v can r =
                 first_guarded = z.first_guarded;
                 second_guarded = z.second_guarded;
               })
+        ];
+        blocking = λ n y there. elim (r.added.only n y (r.removed.only n y there)) as (λ _. IsBlocking x h y) [
+          | inl was ↦ (
+              let b = k.blocking n y was in
+              record {
+                slot = omega (arith, b.slot, slots_len);
+                on = subst (λ (p : ℕ). y.blocker.var ≤ p) (sym r.vars) b.on;
+                inside = λ s at. elim (split y.slot s at) as (λ _. has (h s.clause.address) y.blocker ≡ true) [
+                  | inl q ↦ subst (λ (c : Cref). has (h c.address) y.blocker ≡ true) (can.entry.clause ∙ ap (λ (z : Watch). z.clause) (sym q.1)) (b.inside old (subst (λ (p : ℕ). At w.slots p (Some old)) (sym q.0) old_at))
+                  | inr q ↦ b.inside s q.1
+                ];
+              })
+          | inr z ↦ record {
+            slot = (let a = old_at.0 in omega (arith, a, slots_len, ap (λ (u : Watcher). u.slot) z));
+            on = subst (λ (u : Literal). u.var ≤ x.vars) (sym (ap (λ (u : Watcher). u.blocker) z)) (on_vars w.vars x.vars (h e.clause.address) e.other r.vars (entry_attachable w h t index l e k can.entry) other_in);
+            inside = λ s at. subst (λ (u : Literal). has (h s.clause.address) u ≡ true) (sym (ap (λ (u : Watcher). u.blocker) z)) (elim (split y.slot s at) as (λ _. has (h s.clause.address) e.other ≡ true) [
+              | inl q ↦ subst (λ (u : Watch). has (h u.clause.address) e.other ≡ true) (sym q.1) other_in
+              | inr q ↦ absurd (q.0 (ap (λ (u : Watcher). u.slot) z))
+            ]);
+          }
         ];
         fresh = k.fresh;
       };
@@ -168,20 +232,20 @@ pub visiting-forced : (w : WatchData) (h : Lits) (t u : TrailData) (l k : Litera
     → IsForcing w h t (get_or (list_at w.lists l) place 0) k c → s.lit ≡ k → s.level ≡ t.level → u.steps ≡ t.steps ++ s ∷ [] → HasGrown t u → u.done ≡ t.done → IsVisiting w h u l place
 visiting-forced w h t u l k place c s le lt v f made lev steps g d =
     let here = get_or_push t.steps s no_step (length t.steps) refl in
-    visiting-settled w h u l place lt (visiting-grow w h t u l (place + 1) le g d v) record {
-      watch = f.at.watch;
-      there = f.at.there;
-      has_true = rw steps record {
-        lit = k;
-        has_lit = subst (λ (x : Cref). has (h x.address) k ≡ true) (sym f.at.clause) f.forces.has_lit;
-        within = record {
-          place = length t.steps;
-          in_range = omega (arith, length-append t.steps (s ∷ []));
-          true_there = ap (λ (x : Step). x.lit) here ∙ made;
-          level = omega (arith, ap (λ (x : Step). x.level) here, g.level, lev);
-        };
+    let satisfied : IsSatisfied w h u (get_or (list_at w.lists l) place 0)
+    = λ y at.
+    let same : f.at.watch ≡ y = watch-same w.slots (get_or (list_at w.lists l) place 0) f.at.watch y f.at.there at in
+    rw steps record {
+      lit = k;
+      has_lit = subst (λ (x : Cref). has (h x.address) k ≡ true) (sym f.at.clause ∙ ap (λ (z : Watch). z.clause) same) f.forces.has_lit;
+      within = record {
+        place = length t.steps;
+        in_range = omega (arith, length-append t.steps (s ∷ []));
+        true_there = ap (λ (x : Step). x.lit) here ∙ made;
+        level = omega (arith, ap (λ (x : Step). x.level) here, g.level, lev);
       };
-    }
+    } in
+    visiting-settled w h u l place lt (visiting-grow w h t u l (place + 1) le g d v) satisfied
 
 -- the step at `done` is passed, once no watch of the literal that it makes false is left
 pub Watched-pass : (w : WatchData) (h : Lits) (t : TrailData) (l : Literal) → t.done < length t.steps → lit_at t.steps t.done ≡ opposite l → IsVisiting w h t l 0 → Watched w h record t { done = t.done + 1 }
@@ -213,5 +277,6 @@ Watched-pass w h t l open_yet made v =
             first_guarded = guard i s s.first small there (inl refl) z.first_guarded;
             second_guarded = guard i s s.second small there (inr refl) z.second_guarded;
           };
+      blocking = k.blocking;
       fresh = λ p ge lt. k.fresh p (omega arith) lt;
     }

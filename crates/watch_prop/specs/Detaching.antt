@@ -2,17 +2,17 @@
 use Rattle.std.specs.Prelude.{◌≡◌, ◌≢◌, ℕ, ◌⊎◌, [], Some, Contains, length}
 use Rattle.sat_words.specs.Literal.{Literal}
 use Rattle.watch_prop.specs.declared.watch.Watch.{Watch}
-use Rattle.watch_prop.specs.WatchData.{WatchData, attached, list_at, without}
+use Rattle.watch_prop.specs.WatchData.{WatchData, attached, watchers_at, list_at, without}
 use Rattle.watch_prop.specs.Watched.{At}
 
--- some slots of the clauses at this address were freed, and entries that aren't of a watch of their literal dropped
+-- some slots of the clauses at this address were freed
 pub record Freed (old new : WatchData) (a : ℕ) : Type 0 where
   pub vars : new.vars ≡ old.vars
   pub settled : new.settled ≡ old.settled
   pub len : length new.slots ≡ length old.slots
   pub others : without (attached new) a ≡ without (attached old) a
   pub only : (i : ℕ) (s : Watch) → At new.slots i (Some s) → At old.slots i (Some s)
-  pub listed : (i : ℕ) (s : Watch) (m : Literal) → At new.slots i (Some s) → (s.first ≡ m) ⊎ (s.second ≡ m) → Contains (list_at old.lists m) i → Contains (list_at new.lists m) i
+  pub lists : new.lists ≡ old.lists
 
 -- no watch of a clause at this address is left of those that were listed at the literal, which they watch
 abbrev pub IsGoneFrom : WatchData → WatchData → ℕ → Literal → Type 0
@@ -22,7 +22,7 @@ IsGoneFrom old new a l = (i : ℕ) (s : Watch) → At new.slots i (Some s) → (
 pub record Compacted (old new : WatchData) : Type 0 where
   pub vars : new.vars ≡ old.vars
   pub settled : new.settled ≡ 0
-  pub empty : (l : Literal) → list_at new.lists l ≡ []
+  pub empty : (l : Literal) → watchers_at new.lists l ≡ []
   pub full : length new.slots ≡ length (attached new)
   pub attached : attached new ≡ attached old
   pub only : (i : ℕ) (s : Watch) → At new.slots i (Some s) → Contains old.slots (Some s)

@@ -4,18 +4,19 @@ use Rattle.sat_words.specs.Literal.{Literal}
 use Rattle.sat_words.specs.Clause.{has}
 use Rattle.sat_words.specs.declared.shared.Cref.{Cref}
 use Rattle.ring_trail.specs.declared.step.Step.{Step}
-use Rattle.ring_trail.specs.TrailData.{TrailData, IsFalseOn, HasNoPlace}
+use Rattle.ring_trail.specs.TrailData.{TrailData, IsTrueOn, IsFalseOn, HasNoPlace}
 use Rattle.ring_trail.specs.Reasoned.{ForcesAt}
 use Rattle.ring_trail.specs.Closed.{HasTrue}
 use Rattle.watch_prop.specs.declared.watch.Watch.{Watch}
+use Rattle.watch_prop.specs.declared.watch.Watcher.{Watcher}
 use Rattle.watch_prop.specs.declared.watch.Entry.{Entry}
 use Rattle.watch_prop.specs.declared.watch.Verdict.{Verdict}
-use Rattle.watch_prop.specs.declared.watch.Verdict.TheVariants.{Stale, Settled, Moves, Forced, False}
+use Rattle.watch_prop.specs.declared.watch.Verdict.TheVariants.{Stale, Settled, Blocked, Moves, Forced, False}
 use Rattle.watch_prop.specs.declared.watch.Visit.{Visit}
 use Rattle.watch_prop.specs.declared.watch.Visit.TheVariants.{Done, Falsified}
 use Rattle.watch_prop.specs.declared.propagated.Propagated.{Propagated}
 use Rattle.watch_prop.specs.declared.propagated.Propagated.TheVariants.{Quiet, Conflict}
-use Rattle.watch_prop.specs.WatchData.{WatchData, Lits, list_at}
+use Rattle.watch_prop.specs.WatchData.{WatchData, Lits, watchers_at, list_at}
 use Rattle.watch_prop.specs.Watched.{At, Watched}
 use Rattle.watch_prop.specs.Propagation.{IsConflict}
 use Rattle.watch_prop.specs.Lists.{Added, Removed}
@@ -46,6 +47,7 @@ pub record IsEntry (w : WatchData) (index : ℕ) (l : Literal) (e : Entry) : Typ
   pub watch : Watch
   pub there : At w.slots index (Some watch)
   pub clause : watch.clause ≡ e.clause
+  pub binary : watch.binary ≡ e.binary
   pub sides : ((watch.first ≡ l) × (watch.second ≡ e.other)) ⊎ ((watch.second ≡ l) × (watch.first ≡ e.other))
 
 -- the watch at the index is not one of the literal
@@ -56,9 +58,9 @@ IsStale w index l = (s : Watch) → At w.slots index (Some s) → (s.first ≢ l
 pub record Replaced (old new : WatchData) (e : Entry) (l k : Literal) (place : ℕ) : Type 0 where
   pub vars : new.vars ≡ old.vars
   pub settled : new.settled ≡ old.settled
-  pub slots : new.slots ≡ slice_set old.slots e.index (Some record { clause = e.clause; first = e.other; second = k })
-  pub between : List (List ℕ)
-  pub added : Added old.lists between k e.index
+  pub slots : new.slots ≡ slice_set old.slots e.index (Some record { clause = e.clause; first = e.other; second = k; binary = e.binary })
+  pub between : List (List Watcher)
+  pub added : Added old.lists between k record { slot = e.index; blocker = e.other }
   pub removed : Removed between new.lists l place
 
 -- the watch at the index may be moved to another literal of its clause
@@ -78,15 +80,19 @@ pub record IsForcing (w : WatchData) (lits : Lits) (t : TrailData) (index : ℕ)
   pub free : HasNoPlace t.steps k.var
   pub forces : ForcesAt t.steps (length t.steps) k (lits c.address)
 
--- a literal of the clause of the watch is true
-pub record IsSatisfied (w : WatchData) (lits : Lits) (t : TrailData) (index : ℕ) : Type 0 where
-  pub watch : Watch
-  pub there : At w.slots index (Some watch)
-  pub has_true : HasTrue t.steps t.level (lits watch.clause.address)
+-- a literal of the clause whose watch is at the index, if any, is true
+abbrev pub IsSatisfied : WatchData → Lits → TrailData → ℕ → Type 0
+IsSatisfied w lits t index = (s : Watch) → At w.slots index (Some s) → HasTrue t.steps t.level (lits s.clause.address)
+
+-- the other literal of the watch at the index is true
+pub record CanBlock (w : WatchData) (t : TrailData) (l : Literal) (index : ℕ) (e : Entry) : Type 0 where
+  pub entry : IsEntry w index l e
+  pub is_true : IsTrueOn t.steps e.other
 
 abbrev pub IsVerdict : WatchData → Lits → TrailData → Literal → ℕ → Verdict → Type 0
 IsVerdict w lits t l index Stale = IsStale w index l
 IsVerdict w lits t l index Settled = IsSatisfied w lits t index
+IsVerdict w lits t l index (Blocked e) = CanBlock w t l index e
 IsVerdict w lits t l index (Moves e k) = CanMove w lits t l index e k
 IsVerdict w lits t l index (Forced k c) = IsForcing w lits t index k c
 IsVerdict w lits t l index (False c) = IsConflict w lits t c
@@ -106,22 +112,23 @@ IsEnd w lits t (Conflict c) = IsConflict w lits t c
 
 -- Clauses that wait
 
--- more places in the lists, and nothing else changed
-pub record ListsMore (old new : WatchData) : Type 0 where
+-- more watchers of the first slot that waits may be in the lists, each with this blocker, and nothing else changed
+pub record ListsMore (old new : WatchData) (k : Literal) : Type 0 where
   pub vars : new.vars ≡ old.vars
   pub slots : new.slots ≡ old.slots
   pub settled : new.settled ≡ old.settled
   pub len : length new.lists ≡ length old.lists
   pub kept : (m : Literal) (j : ℕ) → Contains (list_at old.lists m) j → Contains (list_at new.lists m) j
+  pub only : (m : Literal) (y : Watcher) → Contains (watchers_at new.lists m) y → Contains (watchers_at old.lists m) y ⊎ ((y.slot ≡ old.settled) × (y.blocker ≡ k))
 
 -- the first clause that waits is listed at these literals
-pub record Listed (old new : WatchData) (c : Cref) (k l : Literal) : Type 0 where
+pub record Listed (old new : WatchData) (s : Watch) (k l : Literal) : Type 0 where
   pub vars : new.vars ≡ old.vars
   pub settled : new.settled ≡ old.settled + 1
-  pub slots : new.slots ≡ slice_set old.slots old.settled (Some record { clause = c; first = k; second = l })
-  pub between : List (List ℕ)
-  pub added : Added old.lists between k old.settled
-  pub added_too : Added between new.lists l old.settled
+  pub slots : new.slots ≡ slice_set old.slots old.settled (Some record { clause = s.clause; first = k; second = l; binary = s.binary })
+  pub between : List (List Watcher)
+  pub added : Added old.lists between k record { slot = old.settled; blocker = l }
+  pub added_too : Added between new.lists l record { slot = old.settled; blocker = k }
 
 abbrev pub IsSettledTo : WatchData → WatchData → Lits → TrailData → Visit → Type 0
 IsSettledTo old w lits t Done = w.settled ≡ old.settled + 1

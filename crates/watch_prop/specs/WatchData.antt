@@ -1,16 +1,17 @@
--- Clauses with the two literals that watch them, and for each literal a list of the places of its watches.
+-- Clauses with the two literals that watch them, and for each literal a list of its watchers: the slots of its watches, each with a blocker.
 use Rattle.std.specs.Prelude.{ℕ, not, ◌==◌, List, [], map, Option}
 use Rattle.std.specs.List.{slice_index_or, filter, filter_map}
 use Rattle.std.specs.Option.{option_map}
 use Rattle.sat_words.specs.Literal.{Literal, code_of}
 use Rattle.sat_words.specs.declared.shared.Cref.{Cref}
 use Rattle.watch_prop.specs.declared.watch.Watch.{Watch}
+use Rattle.watch_prop.specs.declared.watch.Watcher.{Watcher}
 
 -- the slots, each free or with an attached clause's watch; the lists, one for each literal; how many of the first slots are settled
 pub record WatchData : Type 0 where
   pub vars : ℕ
   pub slots : List (Option Watch)
-  pub lists : List (List ℕ)
+  pub lists : List (List Watcher)
   pub settled : ℕ
 
 -- the clause whose watch a slot has
@@ -26,8 +27,12 @@ abbrev pub without : List Cref → ℕ → List Cref
 without cs a = filter (λ (c : Cref). not (c.address == a)) cs
 
 -- the list of a literal
-abbrev pub list_at : List (List ℕ) → Literal → List ℕ
-list_at lists l = slice_index_or lists (code_of l) []
+abbrev pub watchers_at : List (List Watcher) → Literal → List Watcher
+watchers_at lists l = slice_index_or lists (code_of l) []
+
+-- the slots in the list of a literal
+abbrev pub list_at : List (List Watcher) → Literal → List ℕ
+list_at lists l = map (λ (x : Watcher). x.slot) (watchers_at lists l)
 
 -- the literals of a clause, by its address
 abbrev pub Lits : Type 0

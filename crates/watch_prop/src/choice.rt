@@ -1,10 +1,13 @@
 //! The two literals of a clause that are best to watch: literals that aren't false, and after them those false at the
-//! highest levels, which going back makes open first. No literal that is left out may rank above the two.
+//! highest levels, which going back makes open first. No literal that is left out may rank above the two. A clause of two
+//! literals isn't looked at: they are its watches.
 ghost use Rattle.std.specs.Prelude.{◌≡◌, ◌≤◌, All, IsSome, length};
 ghost use Rattle.rup_model.specs.Opening.{IsLong};
 ghost use Rattle.ring_port.specs.PortState.{held_at, lits_at};
+ghost use Rattle.watch_prop.specs.Watched.{IsPair};
 ghost use Rattle.watch_prop.specs.Choice.{IsRank, first_two, better_of, IsBest};
 
+use crate::watch::Watch;
 use ring_port::Port;
 use ring_trail::Trail;
 use sat_words::{Cref, Lit};
@@ -74,7 +77,7 @@ fn better(best: Best, lit: Lit, rank: u32) -> Best
 }
 
 /// The two literals of the clause that are best to watch.
-pub(crate) fn choose<P: Port>(port: &mut P, trail: &Trail, clause: Cref) -> Best
+fn choose<P: Port>(port: &mut P, trail: &Trail, clause: Cref) -> Best
     requires held { IsSome (held_at (P.state port.old) clause.address) }
     requires long { IsLong (lits_at (P.state port.old) clause.address) }
     requires in_range { All (λ l. l.var ≤ trail.now.vars) (lits_at (P.state port.old) clause.address) }
@@ -90,4 +93,24 @@ pub(crate) fn choose<P: Port>(port: &mut P, trail: &Trail, clause: Cref) -> Best
         best = better(best, lit, rank(trail, lit));
     }
     best
+}
+
+/// The two literals of the clause of a watch that are best to watch.
+pub(crate) fn best_watches<P: Port>(port: &mut P, trail: &Trail, watch: &Watch) -> Best
+    requires held { IsSome (held_at (P.state port.old) watch.now.clause.address) }
+    requires long { IsLong (lits_at (P.state port.old) watch.now.clause.address) }
+    requires in_range { All (λ l. l.var ≤ trail.now.vars) (lits_at (P.state port.old) watch.now.clause.address) }
+    requires pair { IsPair (lits_at (P.state port.old) watch.now.clause.address) watch.now }
+    ensures same { P.state port.new ≡ P.state port.old }
+    ensures best { IsBest trail.now (lits_at (P.state port.old) watch.now.clause.address) (length (lits_at (P.state port.old) watch.now.clause.address)) result }
+{
+    if watch.binary {
+        return start(
+            watch.first,
+            rank(trail, watch.first),
+            watch.second,
+            rank(trail, watch.second),
+        );
+    }
+    choose(port, trail, watch.clause)
 }

@@ -1,28 +1,40 @@
 use sat_words::{Cref, Lit};
 
-/// A clause with the two literals that watch it.
+/// A clause with the two literals that watch it, and whether it has no others.
 #[derive(Clone, Copy)]
 pub struct Watch {
     pub clause: Cref,
     pub first: Lit,
     pub second: Lit,
+    pub binary: bool,
 }
 
-/// A watch as one of its literals sees it: its index, its clause and its other literal.
+/// What the list of a literal has of a watch: its slot, and a literal of its clause that spares a look at it while it is
+/// true (the blocking literal of Glucose and MiniSat 2.2).
+#[derive(Clone, Copy)]
+pub struct Watcher {
+    pub slot: u32,
+    pub blocker: Lit,
+}
+
+/// A watch as one of its literals sees it: its slot, its clause, its other literal, and whether the clause has no others.
 #[derive(Clone, Copy)]
 pub(crate) struct Entry {
-    pub(crate) index: usize,
+    pub(crate) index: u32,
     pub(crate) clause: Cref,
     pub(crate) other: Lit,
+    pub(crate) binary: bool,
 }
 
-/// What an entry of the list of a false literal asks for.
+/// What a watcher in the list of a false literal asks for.
 #[derive(Clone, Copy)]
 pub(crate) enum Verdict {
     /// To be dropped: the literal doesn't watch this clause any more.
     Stale,
     /// Nothing: a literal of the clause is true.
     Settled,
+    /// The other literal of this watch as its blocker, which is true.
+    Blocked(Entry),
     /// To be moved to this literal, which isn't false.
     Moves(Entry, Lit),
     /// That this literal becomes true, for this clause.

@@ -1,23 +1,26 @@
 //! The watches of the attached clauses: two literals of each (MiniSat, Eén and Sörensson 2003), and for each literal
 //! the list of the watches to look at when it becomes false. Each call must leave `Watched` of specs/ between watches,
 //! clauses and trail.
-ghost use Rattle.std.specs.Prelude.{◌≡◌, ◌≤◌, ◌<◌, ◌+◌, ◌*◌, ◌^◌, ◌++◌, ◌∷◌, [], IfOk, OnOk, OnErr, IfSome, IfNone, IsSome, length, slice_index};
+ghost use Rattle.std.specs.Prelude.{◌≡◌, ◌≤◌, ◌<◌, ◌+◌, ◌*◌, ◌^◌, ◌++◌, ◌∷◌, [], IfOk, OnOk, OnErr, IfSome, IfNone, IsSome, Contains, length, slice_index};
 ghost use Rattle.ring_port.specs.PortState.{held_at, lits_at};
 ghost use Rattle.ring_trail.specs.TrailData.{TrailData, HasGrown};
-ghost use Rattle.watch_prop.specs.WatchData.{WatchData, Lits, attached, list_at};
-ghost use Rattle.watch_prop.specs.Watched.{Watched, IsFresh};
+ghost use Rattle.watch_prop.specs.WatchData.{WatchData, Lits, attached, watchers_at, list_at};
+ghost use Rattle.watch_prop.specs.Watched.{Watched, IsFresh, IsPair};
 ghost use Rattle.watch_prop.specs.Detaching.{Compacted};
 ghost use Rattle.watch_prop.specs.Propagation.{HasReasons, IsClosedBelow, IsPropagated};
 ghost use Rattle.watch_prop.specs.Visiting.{IsEntry, IsStale};
 
 use crate::lists::{clear_lists, empty_lists};
 use crate::propagated::Propagated;
-use crate::watch::{Entry, Watch};
+use crate::watch::{Entry, Watch, Watcher};
 use ring_port::Port;
 use ring_trail::Trail;
 use sat_words::{Cref, Lit};
 use std::alloc::{AllocError, Global};
 use std::marker::Model;
+
+/// How many slots there may be: each has a number of 32 bits.
+const MOST_SLOTS: usize = 1 << 32;
 
 mod detaching;
 mod settling;
@@ -34,7 +37,7 @@ mod walking;
 #[derive(Drop)]
 pub struct Watches {
     slots: Vec<Option<Watch>>,
-    lists: Vec<Vec<usize>>,
+    lists: Vec<Vec<Watcher>>,
     settled: usize,
     free_slots: usize,
     vars: u32,
@@ -49,7 +52,26 @@ impl Model for Watches {
 
     ghost view = { λ w. record { vars = w.vars; slots = w.slots.items; lists = map (λ l. l.items) w.lists.items; settled = w.settled } };
 
-    ghost invariant = { λ w. (w.vars ≤ 2 ^ 30) × (length w.lists.items ≡ 2 * w.vars + 2) × (length (filter_map clause_in w.slots.items) + w.free_slots ≡ length w.slots.items) };
+    ghost invariant = { λ w. (w.vars ≤ 2 ^ 30) × (length w.lists.items ≡ 2 * w.vars + 2) × (length (filter_map clause_in w.slots.items) + w.free_slots ≡ length w.slots.items) × (length w.slots.items ≤ 2 ^ 32) };
+}
+
+/// A watch of a clause by its first two literals.
+fn first_watch<P: Port>(port: &mut P, c: Cref) -> Watch
+    requires { IsSome (held_at (P.state port.old) c.address) }
+    ensures same { P.state port.new ≡ P.state port.old }
+    ensures clause { result.clause ≡ c }
+    ensures pair { IsPair (lits_at (P.state port.old) c.address) result }
+{
+    let _vars = port.vars();
+    let size = port.head(c).size;
+    let first = port.read_lit(c, 0);
+    let second = port.read_lit(c, 1);
+    Watch {
+        clause: c,
+        first,
+        second,
+        binary: size == 2,
+    }
 }
 
 impl Watches {
@@ -71,6 +93,8 @@ impl Watches {
 
     /// Attaches a clause that is held, whatever its literals are on the trail. One that is unit or false is looked at by the
     /// next `propagate`.
+    ///
+    /// Of a clause of two literals the port isn't asked again. Where each of the 2^32 slots is taken, there is no memory.
     pub fn attach<P: Port>(
         &mut self,
         port: &mut P,
@@ -86,13 +110,11 @@ impl Watches {
         ensures watched { (t : TrailData) → Watched self.old (lits_at (P.state port.old)) t → Watched self.new (lits_at (P.state port.old)) t }
     {
         let _vars = port.vars();
-        let first = port.read_lit(c, 0);
-        let second = port.read_lit(c, 1);
-        self.slots.push(Some(Watch {
-            clause: c,
-            first,
-            second,
-        }))?;
+        if self.slots.len() >= MOST_SLOTS {
+            return Err(AllocError);
+        }
+        let watch = first_watch(port, c);
+        self.slots.push(Some(watch))?;
         Ok(())
     }
 
@@ -149,14 +171,14 @@ impl Watches {
     }
 
     /// The watch at an index, where the literal is one of its two.
-    fn entry(&self, index: usize, lit: Lit) -> Option<Entry>
+    fn entry(&self, index: u32, lit: Lit) -> Option<Entry>
         ensures found { IfSome result (IsEntry self.now index lit) }
         ensures stale { IfNone result (IsStale self.now index lit) }
     {
-        if index >= self.slots.len() {
+        if index as usize >= self.slots.len() {
             return None;
         }
-        let watch = match &self.slots[index] {
+        let watch = match &self.slots[index as usize] {
             None => return None,
             Some(watch) => watch,
         };
@@ -165,6 +187,7 @@ impl Watches {
                 index,
                 clause: watch.clause,
                 other: watch.second,
+                binary: watch.binary,
             });
         }
         if watch.second == lit {
@@ -172,6 +195,7 @@ impl Watches {
                 index,
                 clause: watch.clause,
                 other: watch.first,
+                binary: watch.binary,
             });
         }
         None
@@ -184,10 +208,11 @@ impl Watches {
         self.lists[lit.code() as usize].len()
     }
 
-    fn index_at(&self, lit: Lit, place: usize) -> usize
+    fn watcher_at(&self, lit: Lit, place: usize) -> Watcher
         requires in_range { lit.var ≤ self.now.vars }
         requires there { place < length (list_at self.now.lists lit) }
-        ensures { result ≡ slice_index (list_at self.now.lists lit) place }
+        ensures slot { result.slot ≡ slice_index (list_at self.now.lists lit) place }
+        ensures listed { Contains (watchers_at self.now.lists lit) result }
     {
         self.lists[lit.code() as usize][place]
     }

@@ -1,4 +1,4 @@
-//! Detaching a clause: its slots become free, and the entries of its own literals' lists that are met as stale drop out. It
+//! Detaching a clause: its slots become free. The watchers of free slots stay in the lists, and drop out when they are met. It
 //! may leave no watch of the clause, and takes none away from another.
 ghost use Rattle.std.specs.Prelude.{◌≡◌, ◌≢◌, ◌≤◌, ◌<◌, IsSome, length, slice_index, ℕ, Some, true, take};
 ghost use Rattle.sat_words.specs.Literal.{Literal};
@@ -10,7 +10,6 @@ ghost use Rattle.watch_prop.specs.WatchData.{attached, list_at, without};
 ghost use Rattle.watch_prop.specs.Watched.{At, Watched};
 ghost use Rattle.watch_prop.specs.Detaching.{Freed, IsGoneFrom};
 
-use crate::lists::take_from;
 use crate::watches::Watches;
 use ring_port::Port;
 use sat_words::{Cref, Lit};
@@ -58,7 +57,7 @@ impl Watches {
         }
     }
 
-    /// Frees the slots of a clause that are listed at a literal, and drops the entries there that are stale.
+    /// Frees the slots of a clause that are listed at a literal.
     fn free_at(&mut self, lit: Lit, c: Cref)
         requires in_range { lit.var ≤ self.old.vars }
         ensures freed { Freed self.old self.new c.address }
@@ -67,22 +66,8 @@ impl Watches {
         let mut left = self.list_len(lit);
         while left > 0 {
             left -= 1;
-            self.free_entry(lit, left, c);
-        }
-    }
-
-    /// Frees the slot of an entry where it is this clause's, and drops the entry where it is stale.
-    fn free_entry(&mut self, lit: Lit, place: usize, c: Cref)
-        requires in_range { lit.var ≤ self.old.vars }
-        requires there { place < length (list_at self.old.lists lit) }
-        ensures freed { Freed self.old self.new c.address }
-        ensures gone { (s : Watch) → At self.new.slots (slice_index (list_at self.old.lists lit) place) (Some s) → s.clause.address ≢ c.address }
-        ensures before { take place (list_at self.new.lists lit) ≡ take place (list_at self.old.lists lit) }
-    {
-        let index = self.index_at(lit, place);
-        self.free(index, c);
-        if self.entry(index, lit).is_none() {
-            take_from(&mut self.lists, lit, place);
+            let watcher = self.watcher_at(lit, left);
+            self.free(watcher.slot as usize, c);
         }
     }
 

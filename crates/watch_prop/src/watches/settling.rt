@@ -9,15 +9,15 @@ ghost use Rattle.ring_trail.specs.TrailData.{HasGrown};
 ghost use Rattle.ring_trail.specs.Reasoned.{ForcesAt};
 ghost use Rattle.ring_trail.specs.Closed.{TrueWithin};
 ghost use Rattle.watch_prop.specs.WatchData.{attached};
-ghost use Rattle.watch_prop.specs.Watched.{Watched};
+ghost use Rattle.watch_prop.specs.Watched.{At, Watched};
 ghost use Rattle.watch_prop.specs.Propagation.{HasReasons, IsClosedBelow, attached_at};
 ghost use Rattle.watch_prop.specs.Advancing.{HasAdvanced};
-ghost use Rattle.watch_prop.specs.Visiting.{NotFalse, WatchOf, Listed, ListsMore, IsSettledTo, IsAllSettled};
+ghost use Rattle.watch_prop.specs.Visiting.{NotFalse, Listed, ListsMore, IsSettledTo, IsAllSettled};
 
-use crate::choice::choose;
+use crate::choice::best_watches;
 use crate::lists::add_to;
 use crate::propagated::Propagated;
-use crate::watch::{Visit, Watch};
+use crate::watch::{Visit, Watch, Watcher};
 use crate::watches::Watches;
 use ring_port::Port;
 use ring_trail::Trail;
@@ -59,41 +59,51 @@ impl Watches {
         ensures len { length self.new.slots ≡ length self.old.slots }
         ensures settled { IfOk result (IsSettledTo self.old self.new (lits_at (P.state port.old)) trail.new) }
     {
-        let clause = match self.slots[self.settled] {
+        let watch = match self.slots[self.settled] {
             None => {
                 self.settled += 1;
                 return Ok(Visit::Done);
             }
-            Some(watch) => watch.clause,
+            Some(watch) => watch,
         };
-        let best = choose(port, trail, clause);
+        let best = best_watches(port, trail, &watch);
         let present = trail.present();
         if best.high <= present {
-            return Ok(Visit::Falsified(clause));
+            return Ok(Visit::Falsified(watch.clause));
         }
         if best.low > present {
-            self.list(clause, best.first, best.second)?;
+            self.list(&watch, best.first, best.second)?;
             return Ok(Visit::Done);
         }
-        make_true(trail, best.first, clause);
-        self.list(clause, best.first, best.second)?;
+        make_true(trail, best.first, watch.clause);
+        self.list(&watch, best.first, best.second)?;
         Ok(Visit::Done)
     }
 
-    /// Lists the first clause that waits, at two of its literals.
-    fn list(&mut self, clause: Cref, first: Lit, second: Lit) -> Result<(), AllocError>
-        requires there { WatchOf self.old self.old.settled clause }
+    /// Lists the first watch that waits, at two literals of its clause, each with the other as its blocker.
+    fn list(&mut self, watch: &Watch, first: Lit, second: Lit) -> Result<(), AllocError>
+        requires there { At self.old.slots self.old.settled (Some watch.now) }
         requires first { first.var ≤ self.old.vars }
         requires second { second.var ≤ self.old.vars }
-        ensures ok { OnOk result (Listed self.old self.new clause first second) }
-        ensures err { OnErr result (ListsMore self.old self.new) }
+        ensures ok { OnOk result (Listed self.old self.new watch.now first second) }
+        ensures err { OnErr result (ListsMore self.old self.new second) }
     {
-        add_to(&mut self.lists, first, self.settled)?;
-        add_to(&mut self.lists, second, self.settled)?;
+        let slot = self.settled as u32;
+        let at_first = Watcher {
+            slot,
+            blocker: second,
+        };
+        let at_second = Watcher {
+            slot,
+            blocker: first,
+        };
+        add_to(&mut self.lists, first, at_first)?;
+        add_to(&mut self.lists, second, at_second)?;
         self.slots[self.settled] = Some(Watch {
-            clause,
+            clause: watch.clause,
             first,
             second,
+            binary: watch.binary,
         });
         self.settled += 1;
         Ok(())

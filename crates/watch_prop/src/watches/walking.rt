@@ -12,9 +12,9 @@ ghost use Rattle.watch_prop.specs.Advancing.{HasAdvanced};
 ghost use Rattle.watch_prop.specs.Visiting.{IsVisiting, IsEntry, IsVerdict, Replaced, IsVisited, IsWalked, IsEnd};
 
 use crate::clause_scan::find_replacement;
-use crate::lists::{add_to, take_from};
+use crate::lists::{add_to, set_blocker, take_from};
 use crate::propagated::Propagated;
-use crate::watch::{Entry, Verdict, Visit, Watch};
+use crate::watch::{Entry, Verdict, Visit, Watch, Watcher};
 use crate::watches::Watches;
 use ring_port::Port;
 use ring_trail::Trail;
@@ -98,6 +98,7 @@ impl Watches {
         match self.judge(port, trail, lit, place) {
             Verdict::Stale => take_from(&mut self.lists, lit, place),
             Verdict::Settled => {}
+            Verdict::Blocked(entry) => set_blocker(&mut self.lists, lit, place, entry.other),
             Verdict::Moves(entry, new) => self.replace(entry, lit, new, place)?,
             Verdict::Forced(other, clause) => trail.assign(other, Some(clause)),
             Verdict::False(clause) => return Ok(Visit::Falsified(clause)),
@@ -105,7 +106,8 @@ impl Watches {
         Ok(Visit::Done)
     }
 
-    /// What an entry of the list of a false literal asks for. The clause is read only where the other literal isn't true.
+    /// What a watcher in the list of a false literal asks for. The clause is read only where neither the blocker nor the
+    /// other literal is true, and where it has more than two literals.
     fn judge<P: Port>(&self, port: &mut P, trail: &Trail, lit: Lit, place: usize) -> Verdict
         requires watched { Watched self.now (lits_at (P.state port.old)) trail.now }
         requires in_range { lit.var ≤ self.now.vars }
@@ -115,14 +117,18 @@ impl Watches {
         ensures verdict { IsVerdict self.now (lits_at (P.state port.old)) trail.now lit (slice_index (list_at self.now.lists lit) place) result }
     {
         let _lawful = trail.present();
-        let entry = match self.entry(self.index_at(lit, place), lit) {
+        let watcher = self.watcher_at(lit, place);
+        if trail.is_true(watcher.blocker) {
+            return Verdict::Settled;
+        }
+        let entry = match self.entry(watcher.slot, lit) {
             None => return Verdict::Stale,
             Some(entry) => entry,
         };
         if trail.is_true(entry.other) {
-            return Verdict::Settled;
+            return Verdict::Blocked(entry);
         }
-        match find_replacement(port, trail, entry.clause, lit, entry.other) {
+        match find_replacement(port, trail, &entry, lit) {
             Some(new) => Verdict::Moves(entry, new),
             None => {
                 if trail.is_false(entry.other) {
@@ -144,12 +150,17 @@ impl Watches {
         ensures ok { OnOk result (Replaced self.old self.new entry lit new place) }
         ensures err { OnErr result (self.new ≡ self.old) }
     {
-        add_to(&mut self.lists, new, entry.index)?;
+        let watcher = Watcher {
+            slot: entry.index,
+            blocker: entry.other,
+        };
+        add_to(&mut self.lists, new, watcher)?;
         take_from(&mut self.lists, lit, place);
-        self.slots[entry.index] = Some(Watch {
+        self.slots[entry.index as usize] = Some(Watch {
             clause: entry.clause,
             first: entry.other,
             second: new,
+            binary: entry.binary,
         });
         Ok(())
     }

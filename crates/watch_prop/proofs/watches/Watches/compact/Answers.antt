@@ -1,22 +1,23 @@
-use Rattle.std.proofs.Common.{arith, rules, ◌≡◌, ℕ, List, [], Option, Some, ap, refl, subst, ◌∙◌, Contains}
+use Rattle.std.proofs.Common.{arith, rules, ◌^◌, ◌≡◌, ℕ, List, [], Option, Some, ap, refl, subst, ◌∙◌, Contains}
 use Rattle.std.specs.List.{filter, filter_map}
 use Rattle.std.specs.Option.{is_some}
 use Rattle.std.proofs.lemmas.Fn.{filter_same}
 use Rattle.std.proofs.lemmas.List.Elements.{All-filter, All-contains_itself}
 use Rattle.sat_words.specs.Literal.{Literal}
 use Rattle.watch_prop.specs.declared.watch.Watch.{Watch}
-use Rattle.watch_prop.specs.WatchData.{WatchData, clause_in, list_at}
+use Rattle.watch_prop.specs.declared.watch.Watcher.{Watcher}
+use Rattle.watch_prop.specs.WatchData.{WatchData, clause_in, watchers_at}
 use Rattle.watch_prop.specs.Watched.{At}
 use Rattle.watch_prop.specs.Lists.{ListsOf}
 use Rattle.watch_prop.specs.Detaching.{Compacted}
-use Rattle.watch_prop.proofs.Slots.{clauses-kept, HasFree-none}
+use Rattle.watch_prop.proofs.Slots.{clauses-kept, HasFree-none, kept-within}
 use Rattle.watch_prop.proofs.watches.Watches.compact.Goals as goal
 
 -- a slot that is kept was there before
 kept : (ws : List (Option Watch)) (i : ℕ) (s : Watch) → At (filter is_some ws) i (Some s) → Contains ws (Some s)
 kept ws i s at = subst (λ (o : Option Watch). Contains ws o) at.1 (All-filter is_some (Contains ws) ws (All-contains_itself ws) i (Some s) at.0)
 
-compacted : (v w : WatchData) (ws : List (Option Watch)) (lists : List (List ℕ)) → v ≡ w → ((l : Literal) → list_at lists l ≡ []) → ws ≡ filter is_some v.slots → Compacted w record { vars = v.vars; slots = ws; lists = lists; settled = 0 }
+compacted : (v w : WatchData) (ws : List (Option Watch)) (lists : List (List Watcher)) → v ≡ w → ((l : Literal) → watchers_at lists l ≡ []) → ws ≡ filter is_some v.slots → Compacted w record { vars = v.vars; slots = ws; lists = lists; settled = 0 }
 compacted v w ws lists e none q = subst (λ (x : WatchData). Compacted x record { vars = v.vars; slots = ws; lists = lists; settled = 0 }) e record {
   vars = refl;
   settled = refl;
@@ -32,4 +33,5 @@ returns c = compacted record { vars = c.self.inside.vars; slots = c.self.inside.
 pub invariant_of-self : goal.invariant_of-self
 invariant_of-self c =
     let i = c.self.invariant in
-    (i.0, c.clear_lists.ensures.len ∙ i.1, HasFree-none c.self.inside.slots.items c.retain.new.self.items (filter_same _ is_some _ (λ x b f k. search rules) _ _ c.retain.ensures.filtered))
+    let kept = filter_same _ is_some _ (λ x b f k. search rules) _ _ c.retain.ensures.filtered in
+    (i.0, c.clear_lists.ensures.len ∙ i.1, HasFree-none c.self.inside.slots.items c.retain.new.self.items kept, kept-within c.self.inside.slots.items c.retain.new.self.items (2 ^ 32) kept i.3)

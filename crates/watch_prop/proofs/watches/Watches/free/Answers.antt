@@ -1,5 +1,6 @@
 use Rattle.std.proofs.Common.{◌≡◌, ℕ, Some, None, subst, arith}
 use Rattle.std.proofs.Math.ListN.{set}
+use Rattle.std.proofs.lemmas.List.{length-set}
 use Rattle.watch_prop.specs.declared.watch.Watch.{Watch}
 use Rattle.watch_prop.specs.WatchData.{WatchData}
 use Rattle.watch_prop.specs.Watched.{At}
@@ -21,4 +22,4 @@ pub invariant_of-self : goal.invariant_of-self
 invariant_of-self c =
     let i = c.self.invariant in
     let ws = c.self.inside.slots.items in
-    (i.0, i.1, HasFree-freed ws c.args.index c.in-Some.watch c.self.inside.free_slots (watch_read ws c.args.index c.index.result.now c.in-Some.watch (let q = c.if-index-len.false in omega (arith, q, c.len.ensures)) c.index.ensures c.in-Some.is) i.2)
+    (i.0, i.1, HasFree-freed ws c.args.index c.in-Some.watch c.self.inside.free_slots (watch_read ws c.args.index c.index.result.now c.in-Some.watch (let q = c.if-index-len.false in omega (arith, q, c.len.ensures)) c.index.ensures c.in-Some.is) i.2, omega (arith, i.3, length-set ws c.args.index None))

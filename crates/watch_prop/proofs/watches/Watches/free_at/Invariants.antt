@@ -1,4 +1,4 @@
-use Rattle.std.proofs.Common.{◌≡◌, ◌≤◌, length, take}
+use Rattle.std.proofs.Common.{◌≤◌, length}
 use Rattle.watch_prop.specs.WatchData.{list_at}
 use Rattle.watch_prop.specs.Detaching.{Freed}
 use Rattle.watch_prop.proofs.Detaching.{IsLeft}
@@ -8,7 +8,6 @@ abbrev pub invariant-loop-left : goal.invariant-loop-left
 invariant-loop-left l = record {
   freed : Freed l.fn.self l.self l.c.address;
   inside : l.left ≤ length (list_at l.fn.self.lists l.lit);
-  front : take l.left (list_at l.self.lists l.lit) ≡ take l.left (list_at l.fn.self.lists l.lit);
   to_visit : IsLeft l.fn.self l.self l.c.address l.lit l.left;
 }
 

@@ -1,6 +1,8 @@
-use Rattle.std.proofs.Common.{◌≡◌, ℕ, List, Some, subst, sym, ap, refl, ◌∙◌, length, Result, Ok, Err, OnErr, Contains}
+use Rattle.std.proofs.Common.{◌≡◌, List, Some, subst, sym, ap, refl, ◌∙◌, length, Result, Ok, Err, OnErr, Contains, ◌⊎◌, inl, inr, arith}
+use Rattle.std.proofs.lemmas.List.{length-set}
 use Rattle.sat_words.specs.Literal.{Literal}
-use Rattle.watch_prop.specs.WatchData.{WatchData, list_at}
+use Rattle.watch_prop.specs.declared.watch.Watcher.{Watcher}
+use Rattle.watch_prop.specs.WatchData.{WatchData, watchers_at, list_at}
 use Rattle.watch_prop.specs.Watched.{At}
 use Rattle.watch_prop.specs.Lists.{ListsOf, Added}
 use Rattle.watch_prop.specs.Visiting.{ListsMore}
@@ -12,21 +14,45 @@ on_err : {T E : Type 0} (r : Result T E) (P : Type 0) → P → OnErr r P
 on_err (Ok x) P p = tt
 on_err (Err e) P p = p
 
-more : (v w : WatchData) (a b : List (List ℕ)) (l : Literal) (i : ℕ) → v ≡ w → Added v.lists a l i → b ≡ a → ListsMore w record v { lists = b }
-more v w a b l i e r q =
-    subst (λ (x : WatchData). ListsMore x record v { lists = b }) e
-    record { vars = refl; slots = refl; settled = refl; len = ap (λ (xs : List (List ℕ)). length xs) q ∙ r.len; kept = λ m j h. subst (λ (xs : List (List ℕ)). Contains (list_at xs m) j) (sym q) (r.kept m j h) }
+more : (v w : WatchData) (a b : List (List Watcher)) (l k : Literal) → v ≡ w → Added v.lists a l record { slot = v.settled; blocker = k } → b ≡ a → ListsMore w record v { lists = b } k
+more v w a b l k e r q =
+    subst (λ (x : WatchData). ListsMore x record v { lists = b } k) e
+    record {
+      vars = refl;
+      slots = refl;
+      settled = refl;
+      len = ap (λ (xs : List (List Watcher)). length xs) q ∙ r.len;
+      kept = λ m j h. subst (λ (xs : List (List Watcher)). Contains (list_at xs m) j) (sym q) (r.kept m j h);
+      only = λ m y h. elim (r.only m y (subst (λ (xs : List (List Watcher)). Contains (watchers_at xs m) y) q h)) as (λ _. Contains (watchers_at v.lists m) y ⊎ ((y.slot ≡ v.settled) × (y.blocker ≡ k))) [
+        | inl was ↦ inl was
+        | inr is ↦ inr (ap (λ (z : Watcher). z.slot) is, ap (λ (z : Watcher). z.blocker) is)
+      ];
+    }
+
+-- nothing was added
+same : (v w : WatchData) (a : List (List Watcher)) (k : Literal) → v ≡ w → a ≡ v.lists → ListsMore w record v { lists = a } k
+same v w a k e q =
+    subst (λ (x : WatchData). ListsMore x record v { lists = a } k) e
+    record {
+      vars = refl;
+      slots = refl;
+      settled = refl;
+      len = ap (λ (xs : List (List Watcher)). length xs) q;
+      kept = λ m j h. subst (λ (xs : List (List Watcher)). Contains (list_at xs m) j) (sym q) h;
+      only = λ m y h. inl (subst (λ (xs : List (List Watcher)). Contains (watchers_at xs m) y) q h);
+    }
 
 pub returns-in_err-add_to-2-clause-err : goal.returns-in_err-add_to-2-clause-err
 returns-in_err-add_to-2-clause-err c =
     on_err c.from_residual-in_err-add_to-2.result _
-    (more record { vars = c.self.inside.vars; slots = c.self.inside.slots.items; lists = ListsOf c.self.inside.lists; settled = c.self.inside.settled } c.args.self.now (ListsOf c.add_to.new.lists) (ListsOf c.add_to-2.new.lists) c.args.first c.self.inside.settled c.self.view_is c.in_ok-add_to.ensures.ok c.in_err-add_to-2.ensures.err)
+    (more record { vars = c.self.inside.vars; slots = c.self.inside.slots.items; lists = ListsOf c.self.inside.lists; settled = c.self.inside.settled } c.args.self.now (ListsOf c.add_to.new.lists) (ListsOf c.add_to-2.new.lists) c.args.first c.args.second c.self.view_is c.in_ok-add_to.ensures.ok c.in_err-add_to-2.ensures.err)
 
 pub invariant_of-self-2 : goal.invariant_of-self-2
 invariant_of-self-2 c =
     let i = c.self.invariant in
-    let at = subst (λ (x : WatchData). At x.slots x.settled (Some c.requires.there.watch)) (sym c.self.view_is) c.requires.there.there in (
+    let at = subst (λ (x : WatchData). At x.slots x.settled (Some c.args.watch.now)) (sym c.self.view_is) c.requires.there in (
       i.0,
       same_many c.add_to.new.lists c.add_to-2.new.lists c.in_ok-add_to-2.ensures.ok.len ∙ same_many c.self.inside.lists c.add_to.new.lists c.in_ok-add_to.ensures.ok.len ∙ i.1,
-      HasFree-set c.self.inside.slots.items c.self.inside.settled c.requires.there.watch _ c.self.inside.free_slots at (sym c.requires.there.clause) i.2,
+      HasFree-set c.self.inside.slots.items c.self.inside.settled c.args.watch.now _ c.self.inside.free_slots at refl i.2,
+      omega (arith, i.3, length-set c.self.inside.slots.items c.self.inside.settled (Some record { clause = c.args.watch.now.clause; first = c.args.first; second = c.args.second; binary = c.args.watch.now.binary })),
     )

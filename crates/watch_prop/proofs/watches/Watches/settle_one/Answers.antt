@@ -15,7 +15,7 @@ use Rattle.watch_prop.proofs.Slots.{free_read}
 use Rattle.watch_prop.proofs.Settling.{waiting, Watched-skip, same_clauses, best-conflict, Watched-listed, Watched-more}
 use Rattle.watch_prop.proofs.Advancing.{advanced_none, advanced_watches}
 use Rattle.watch_prop.proofs.watches.Watches.settle_one.Given.{Over}
-use Rattle.watch_prop.proofs.watches.Watches.settle_one.Goals.{After-choose-best, After-make_true}
+use Rattle.watch_prop.proofs.watches.Watches.settle_one.Goals.{After-best_watches-best, After-make_true}
 use Rattle.watch_prop.proofs.watches.Watches.settle_one.Goals as goal
 
 skipped : (v w : WatchData) (h : Lits) (t : TrailData) (o : Option Watch) → v ≡ w → w.settled < length w.slots → o ≡ get_or v.slots v.settled o → o ≡ None → Watched w h t → Watched record v { settled = v.settled + 1 } h t
@@ -23,57 +23,57 @@ skipped v w h t o e lt q is k =
     Watched-skip v h t (v.settled + 1) (subst (λ (x : WatchData). Watched x h t) (sym e) k) (subst (λ (x : WatchData). x.settled < length x.slots) (sym e) lt) refl (λ s at. free_read v.slots v.settled o s q is at)
 
 -- the watch that waits
-here : (g : Over) (c : After-choose-best g) → At c.args.self.now.slots c.args.self.now.settled (Some c.in-Some.watch)
+here : (g : Over) (c : After-best_watches-best g) → At c.args.self.now.slots c.args.self.now.settled (Some c.in-Some.watch)
 here g c = waiting record { vars = c.self.inside.vars; slots = c.self.inside.slots.items; lists = ListsOf c.self.inside.lists; settled = c.self.inside.settled } c.args.self.now c.index.result.now c.in-Some.watch c.self.view_is c.requires.there c.index.ensures c.in-Some.is
 
 pub returns-then-best-present-clause-settled : goal.returns-then-best-present-clause-settled
 returns-then-best-present-clause-settled g c =
-    let at = here g (goal.at.returns-then-best-present-clause-settled g c).After-choose-best in
-    best-conflict c.args.self.now (lits_at (g.P.Port.state c.args.port.now)) c.args.trail.now c.in-Some.watch c.args.self.now.settled c.choose-best.result at c.choose-best.ensures.best (let q = c.if-best-present.true in omega (arith, q, c.present-present.ensures.level))
+    let at = here g (goal.at.returns-then-best-present-clause-settled g c).After-best_watches-best in
+    best-conflict c.args.self.now (lits_at (g.P.Port.state c.args.port.now)) c.args.trail.now c.in-Some.watch c.args.self.now.settled c.best_watches-best.result at c.best_watches-best.ensures.best (let q = c.if-best-present.true in omega (arith, q, c.present-present.ensures.level))
 
 pub list-requires-clause-first : goal.list-requires-clause-first
 list-requires-clause-first g c =
-    let at = here g (goal.at.list-requires-clause-first g c).After-choose-best in
+    let at = here g (goal.at.list-requires-clause-first g c).After-best_watches-best in
     let d = lits_at (g.P.Port.state c.args.port.now) c.in-Some.watch.clause.address in
-    on_vars c.args.self.now.vars c.args.self.now.vars d c.choose-best.result.first refl (c.requires.watched.clauses c.args.self.now.settled c.in-Some.watch at) (among_has d (length d) c.choose-best.result.first c.choose-best.ensures.best.first_in)
+    on_vars c.args.self.now.vars c.args.self.now.vars d c.best_watches-best.result.first refl (c.requires.watched.clauses c.args.self.now.settled c.in-Some.watch at) (among_has d (length d) c.best_watches-best.result.first c.best_watches-best.ensures.best.first_in)
 
 pub list-requires-clause-second : goal.list-requires-clause-second
 list-requires-clause-second g c =
-    let at = here g (goal.at.list-requires-clause-second g c).After-choose-best in
+    let at = here g (goal.at.list-requires-clause-second g c).After-best_watches-best in
     let d = lits_at (g.P.Port.state c.args.port.now) c.in-Some.watch.clause.address in
-    on_vars c.args.self.now.vars c.args.self.now.vars d c.choose-best.result.second refl (c.requires.watched.clauses c.args.self.now.settled c.in-Some.watch at) (among_has d (length d) c.choose-best.result.second c.choose-best.ensures.best.second_in)
+    on_vars c.args.self.now.vars c.args.self.now.vars d c.best_watches-best.result.second refl (c.requires.watched.clauses c.args.self.now.settled c.in-Some.watch at) (among_has d (length d) c.best_watches-best.result.second c.best_watches-best.ensures.best.second_in)
 
 pub list-requires-2-clause-first : goal.list-requires-2-clause-first
 list-requires-2-clause-first g c =
-    let at = here g (goal.at.list-requires-2-clause-first g c).After-choose-best in
+    let at = here g (goal.at.list-requires-2-clause-first g c).After-best_watches-best in
     let d = lits_at (g.P.Port.state c.args.port.now) c.in-Some.watch.clause.address in
-    on_vars c.args.self.now.vars c.args.self.now.vars d c.choose-best.result.first refl (c.requires.watched.clauses c.args.self.now.settled c.in-Some.watch at) (among_has d (length d) c.choose-best.result.first c.choose-best.ensures.best.first_in)
+    on_vars c.args.self.now.vars c.args.self.now.vars d c.best_watches-best.result.first refl (c.requires.watched.clauses c.args.self.now.settled c.in-Some.watch at) (among_has d (length d) c.best_watches-best.result.first c.best_watches-best.ensures.best.first_in)
 
 pub list-requires-2-clause-second : goal.list-requires-2-clause-second
 list-requires-2-clause-second g c =
-    let at = here g (goal.at.list-requires-2-clause-second g c).After-choose-best in
+    let at = here g (goal.at.list-requires-2-clause-second g c).After-best_watches-best in
     let d = lits_at (g.P.Port.state c.args.port.now) c.in-Some.watch.clause.address in
-    on_vars c.args.self.now.vars c.args.self.now.vars d c.choose-best.result.second refl (c.requires.watched.clauses c.args.self.now.settled c.in-Some.watch at) (among_has d (length d) c.choose-best.result.second c.choose-best.ensures.best.second_in)
+    on_vars c.args.self.now.vars c.args.self.now.vars d c.best_watches-best.result.second refl (c.requires.watched.clauses c.args.self.now.settled c.in-Some.watch at) (among_has d (length d) c.best_watches-best.result.second c.best_watches-best.ensures.best.second_in)
 
 pub make_true-requires-clause-in_range : goal.make_true-requires-clause-in_range
 make_true-requires-clause-in_range g c =
-    let at = here g (goal.at.make_true-requires-clause-in_range g c).After-choose-best in
+    let at = here g (goal.at.make_true-requires-clause-in_range g c).After-best_watches-best in
     let d = lits_at (g.P.Port.state c.args.port.now) c.in-Some.watch.clause.address in
-    on_vars c.args.self.now.vars c.args.trail.now.vars d c.choose-best.result.first c.requires.watched.vars (c.requires.watched.clauses c.args.self.now.settled c.in-Some.watch at) (among_has d (length d) c.choose-best.result.first c.choose-best.ensures.best.first_in)
+    on_vars c.args.self.now.vars c.args.trail.now.vars d c.best_watches-best.result.first c.requires.watched.vars (c.requires.watched.clauses c.args.self.now.settled c.in-Some.watch at) (among_has d (length d) c.best_watches-best.result.first c.best_watches-best.ensures.best.first_in)
 
 pub make_true-requires-clause-not_false : goal.make_true-requires-clause-not_false
 make_true-requires-clause-not_false g c =
-    rank-open c.args.trail.now c.choose-best.result.first c.choose-best.result.high c.present-present.ensures.trail c.choose-best.ensures.best.high_is (let q = c.if-best-present.false in omega (arith, q, c.present-present.ensures.level))
+    rank-open c.args.trail.now c.best_watches-best.result.first c.best_watches-best.result.high c.present-present.ensures.trail c.best_watches-best.ensures.best.high_is (let q = c.if-best-present.false in omega (arith, q, c.present-present.ensures.level))
 
 pub list-requires-clause-there : goal.list-requires-clause-there
 list-requires-clause-there g c =
-    let at = here g (goal.at.list-requires-clause-there g c).After-choose-best in
-    record { watch = c.in-Some.watch; there = at; clause = refl }
+    let at = here g (goal.at.list-requires-clause-there g c).After-best_watches-best in
+    at
 
 pub list-requires-2-clause-there : goal.list-requires-2-clause-there
 list-requires-2-clause-there g c =
-    let at = here g (goal.at.list-requires-2-clause-there g c).After-choose-best in
-    record { watch = c.in-Some.watch; there = at; clause = refl }
+    let at = here g (goal.at.list-requires-2-clause-there g c).After-best_watches-best in
+    at
 
 pub returns-in-None-clause-kept : goal.returns-in-None-clause-kept
 returns-in-None-clause-kept g c =
@@ -87,29 +87,29 @@ pub returns-in_err-list-clause-kept : goal.returns-in_err-list-clause-kept
 returns-in_err-list-clause-kept g c =
     let more = c.in_err-list.ensures.err in
     advanced_watches (g.P.Port.state c.args.port.now) c.args.self.now c.list.new.self c.args.trail.now (ap (λ (ws : List (Option Watch)). filter_map slot_clause ws) more.slots) more.vars c.requires.reasons
-    (Watched-more c.args.self.now c.list.new.self (lits_at (g.P.Port.state c.args.port.now)) c.args.trail.now c.requires.watched more)
+    (Watched-more c.args.self.now c.list.new.self (lits_at (g.P.Port.state c.args.port.now)) c.args.trail.now c.in-Some.watch c.best_watches-best.result.second c.requires.watched (here g (goal.at.returns-in_err-list-clause-kept g c).After-best_watches-best) (among_has _ _ _ c.best_watches-best.ensures.best.second_in) more)
 
 pub returns-then-best-present-2-clause-kept : goal.returns-then-best-present-2-clause-kept
 returns-then-best-present-2-clause-kept g c =
-    let at = here g (goal.at.returns-then-best-present-2-clause-kept g c).After-choose-best in
+    let at = here g (goal.at.returns-then-best-present-2-clause-kept g c).After-best_watches-best in
     let t = c.args.trail.now in
     advanced_watches (g.P.Port.state c.args.port.now) c.args.self.now c.list.new.self t
-    (same_clauses c.args.self.now c.list.new.self c.in-Some.watch c.choose-best.result.first c.choose-best.result.second at c.in_ok-list.ensures.ok)
+    (same_clauses c.args.self.now c.list.new.self c.in-Some.watch c.best_watches-best.result.first c.best_watches-best.result.second at c.in_ok-list.ensures.ok)
     c.in_ok-list.ensures.ok.vars c.requires.reasons
-    (Watched-listed c.args.self.now c.list.new.self (lits_at (g.P.Port.state c.args.port.now)) t t c.in-Some.watch c.choose-best.result c.requires.watched c.present-present.ensures.trail at c.choose-best.ensures.best
+    (Watched-listed c.args.self.now c.list.new.self (lits_at (g.P.Port.state c.args.port.now)) t t c.in-Some.watch c.best_watches-best.result c.requires.watched c.present-present.ensures.trail at c.best_watches-best.ensures.best
     (let q = c.if-best-present.false in omega (arith, q, c.present-present.ensures.level)) (HasGrown-refl t) refl
     (λ le. absurd (let q = c.if-best-present-2.true in omega (arith, q, c.present-present.ensures.level, le))) c.requires.below c.in_ok-list.ensures.ok)
 
 -- the clause gives the literal that it forces its reason
 reasons_now : (g : Over) (c : After-make_true g) → HasReasons (attached c.args.self.now) (g.P.Port.state c.args.port.now) c.make_true.new.trail.steps
 reasons_now g c =
-    let a = here g (goal.at.After-make_true g c).After-choose-best in
+    let a = here g (goal.at.After-make_true g c).After-best_watches-best in
     let s = g.P.Port.state c.args.port.now in
     let w = c.args.self.now in
     let d = lits_at s c.in-Some.watch.clause.address in
     c.make_true.ensures.reasons (attached w) s d
     (attached_some (attached w) s c.in-Some.watch.clause (clause_in w w.settled c.in-Some.watch a) (attachable_held w.vars s c.in-Some.watch.clause.address (c.requires.watched.clauses w.settled c.in-Some.watch a)))
-    (best-forces c.args.trail.now d c.choose-best.result c.choose-best.ensures.best (let q = c.if-best-present-2.false in omega (arith, q, c.present-present.ensures.level))) c.requires.reasons
+    (best-forces c.args.trail.now d c.best_watches-best.result c.best_watches-best.ensures.best (let q = c.if-best-present-2.false in omega (arith, q, c.present-present.ensures.level))) c.requires.reasons
 
 pub returns-in_err-list-2-clause-kept : goal.returns-in_err-list-2-clause-kept
 returns-in_err-list-2-clause-kept g c =
@@ -120,20 +120,21 @@ returns-in_err-list-2-clause-kept g c =
       vars = more.vars;
       grown = c.make_true.ensures.grown;
       reasons = reasons_now g (goal.at.returns-in_err-list-2-clause-kept g c).After-make_true;
-      watched = Watched-more c.args.self.now c.list-2.new.self lits c.make_true.new.trail
-          (Watched-grow c.args.self.now lits c.args.trail.now c.make_true.new.trail c.present-present.ensures.trail.done c.requires.watched c.make_true.ensures.grown c.make_true.ensures.done) more;
+      watched = Watched-more c.args.self.now c.list-2.new.self lits c.make_true.new.trail c.in-Some.watch c.best_watches-best.result.second
+          (Watched-grow c.args.self.now lits c.args.trail.now c.make_true.new.trail c.present-present.ensures.trail.done c.requires.watched c.make_true.ensures.grown c.make_true.ensures.done)
+          (here g (goal.at.returns-in_err-list-2-clause-kept g c).After-best_watches-best) (among_has _ _ _ c.best_watches-best.ensures.best.second_in) more;
     }
 
 pub returns-clause-kept : goal.returns-clause-kept
 returns-clause-kept g c =
-    let at = here g (goal.at.returns-clause-kept g c).After-choose-best in
+    let at = here g (goal.at.returns-clause-kept g c).After-best_watches-best in
     let ok = c.in_ok-list-2.ensures.ok in
     record {
-      clauses = same_clauses c.args.self.now c.list-2.new.self c.in-Some.watch c.choose-best.result.first c.choose-best.result.second at ok;
+      clauses = same_clauses c.args.self.now c.list-2.new.self c.in-Some.watch c.best_watches-best.result.first c.best_watches-best.result.second at ok;
       vars = ok.vars;
       grown = c.make_true.ensures.grown;
       reasons = reasons_now g (goal.at.returns-clause-kept g c).After-make_true;
-      watched = Watched-listed c.args.self.now c.list-2.new.self (lits_at (g.P.Port.state c.args.port.now)) c.args.trail.now c.make_true.new.trail c.in-Some.watch c.choose-best.result c.requires.watched c.present-present.ensures.trail at c.choose-best.ensures.best
+      watched = Watched-listed c.args.self.now c.list-2.new.self (lits_at (g.P.Port.state c.args.port.now)) c.args.trail.now c.make_true.new.trail c.in-Some.watch c.best_watches-best.result c.requires.watched c.present-present.ensures.trail at c.best_watches-best.ensures.best
           (let q = c.if-best-present.false in omega (arith, q, c.present-present.ensures.level)) c.make_true.ensures.grown c.make_true.ensures.done
           (λ le. c.make_true.ensures.made) c.requires.below ok;
     }

@@ -4,23 +4,24 @@ use Rattle.sat_words.specs.Literal.{Literal}
 use Rattle.sat_words.specs.declared.shared.Cref.{Cref}
 use Rattle.ring_port.specs.PortState.{lits_at}
 use Rattle.ring_trail.specs.declared.step.Step.{Step}
-use Rattle.ring_trail.specs.TrailData.{TrailData}
+use Rattle.ring_trail.specs.TrailData.{TrailData, IsTrail}
 use Rattle.ring_trail.proofs.Truths.{no_value}
 use Rattle.ring_trail.proofs.Causes.{IsReasoned-forced}
 use Rattle.watch_prop.specs.declared.watch.Watch.{Watch}
+use Rattle.watch_prop.specs.declared.watch.Watcher.{Watcher}
 use Rattle.watch_prop.specs.declared.watch.Entry.{Entry}
 use Rattle.watch_prop.specs.WatchData.{WatchData, Lits, clause_in as slot_clause, attached, list_at}
 use Rattle.watch_prop.specs.Watched.{At, Watched, IsAttachable}
-use Rattle.watch_prop.specs.Lists.{ListsOf, Removed}
+use Rattle.watch_prop.specs.Lists.{ListsOf, Removed, Reblocked}
 use Rattle.watch_prop.specs.Propagation.{attached_at, HasReasons}
-use Rattle.watch_prop.specs.Visiting.{IsVisiting, IsStale, CanMove, IsForcing, Replaced}
+use Rattle.watch_prop.specs.Visiting.{IsVisiting, IsStale, CanMove, CanBlock, IsForcing, Replaced}
 use Rattle.watch_prop.proofs.ListsLemmas.{Removed-len}
 use Rattle.watch_prop.proofs.Growing.{HasGrown-step, clause_in}
 use Rattle.watch_prop.proofs.Reasons.{attached_some}
 use Rattle.watch_prop.proofs.Entries.{entry_attachable, on_vars, attachable_held}
 use Rattle.watch_prop.proofs.Slots.{clauses-set}
 use Rattle.watch_prop.proofs.Advancing.{advanced_none, advanced_watches}
-use Rattle.watch_prop.proofs.Visits.{visiting-stale, visiting-settled, visiting-moved, visiting-forced}
+use Rattle.watch_prop.proofs.Visits.{visiting-stale, visiting-settled, visiting-blocked, visiting-moved, visiting-forced}
 use Rattle.watch_prop.proofs.watches.Watches.visit.Given.{Over}
 use Rattle.watch_prop.proofs.watches.Watches.visit.Goals as goal
 
@@ -47,7 +48,7 @@ assign-requires-clause-in_range g c =
 pub assign-requires-clause-free : goal.assign-requires-clause-free
 assign-requires-clause-free g c = no_value c.args.trail.now.steps c.in-Forced.other.var c.in-Forced.ensures.verdict.free
 
-stale_visiting : (w v : WatchData) (h : Lits) (t : TrailData) (l : Literal) (place : ℕ) (lists : List (List ℕ)) → v ≡ w → place < length (list_at w.lists l) → IsVisiting w h t l (place + 1)
+stale_visiting : (w v : WatchData) (h : Lits) (t : TrailData) (l : Literal) (place : ℕ) (lists : List (List Watcher)) → v ≡ w → place < length (list_at w.lists l) → IsVisiting w h t l (place + 1)
     → IsStale w (get_or (list_at w.lists l) place 0) l → Removed v.lists lists l place → IsVisiting record v { lists = lists } h t l place × (place ≤ length (list_at lists l))
 stale_visiting w v h t l place lists e lt k s r =
     let lt' = subst (λ (x : WatchData). place < length (list_at x.lists l)) (sym e) lt in (
@@ -61,6 +62,28 @@ pub returns-in-Stale-clause-visited : goal.returns-in-Stale-clause-visited
 returns-in-Stale-clause-visited g c =
     stale_visiting c.args.self.now record { vars = c.self.inside.vars; slots = c.self.inside.slots.items; lists = ListsOf c.self.inside.lists; settled = c.self.inside.settled } (lits_at (g.P.Port.state c.args.port.now)) c.args.trail.now c.args.lit c.args.place (ListsOf c.take_from.new.lists) c.self.view_is c.requires.there c.requires.visiting c.in-Stale.ensures.verdict c.take_from.ensures
 
+blocked_visiting : (w v : WatchData) (h : Lits) (t : TrailData) (l : Literal) (place : ℕ) (e : Entry) (lists : List (List Watcher)) → v ≡ w → IsTrail t → place < length (list_at w.lists l) → IsVisiting w h t l (place + 1)
+    → CanBlock w t l (get_or (list_at w.lists l) place 0) e → Reblocked v.lists lists l place e.other → IsVisiting record v { lists = lists } h t l place × (place ≤ length (list_at lists l))
+blocked_visiting w v h t l place e lists q trail lt k can r =
+    let lt' = subst (λ (x : WatchData). place < length (list_at x.lists l)) (sym q) lt in (
+      visiting-blocked v h t l place e lists trail lt'
+          (subst (λ (x : WatchData). IsVisiting x h t l (place + 1)) (sym q) k)
+          (subst (λ (x : WatchData). CanBlock x t l (get_or (list_at x.lists l) place 0) e) (sym q) can) r,
+      omega (arith, lt', ap (λ (xs : List ℕ). length xs) (r.same l)),
+    )
+
+blocked : (g : Over) (c : goal.After-set_blocker g) → IsVisiting record { vars = c.self.inside.vars; slots = c.self.inside.slots.items; lists = ListsOf c.set_blocker.new.lists; settled = c.self.inside.settled } (lits_at (g.P.Port.state c.args.port.now)) c.args.trail.now c.args.lit c.args.place × (c.args.place ≤ length (list_at (ListsOf c.set_blocker.new.lists) c.args.lit))
+blocked g c =
+    blocked_visiting c.args.self.now record { vars = c.self.inside.vars; slots = c.self.inside.slots.items; lists = ListsOf c.self.inside.lists; settled = c.self.inside.settled } (lits_at (g.P.Port.state c.args.port.now)) c.args.trail.now c.args.lit c.args.place c.in-Blocked.entry (ListsOf c.set_blocker.new.lists) c.self.view_is c.present-level.ensures.trail c.requires.there c.requires.visiting c.in-Blocked.ensures.verdict c.set_blocker.ensures
+
+pub returns-in-Blocked-clause-visited : goal.returns-in-Blocked-clause-visited
+returns-in-Blocked-clause-visited g c = blocked g c
+
+pub returns-in-Blocked-clause-kept : goal.returns-in-Blocked-clause-kept
+returns-in-Blocked-clause-kept g c =
+    advanced_watches (g.P.Port.state c.args.port.now) c.args.self.now _ c.args.trail.now (ap attached c.self.view_is) (ap (λ (w : WatchData). w.vars) c.self.view_is) c.requires.reasons
+    (blocked g c).0.watched
+
 pub returns-in-Settled-clause-visited : goal.returns-in-Settled-clause-visited
 returns-in-Settled-clause-visited g c =
     (visiting-settled c.args.self.now (lits_at (g.P.Port.state c.args.port.now)) c.args.trail.now c.args.lit c.args.place c.requires.there c.requires.visiting c.in-Settled.ensures.verdict, (let q = c.requires.there in omega arith))
@@ -70,7 +93,7 @@ clauses_same : (w x : WatchData) (h : Lits) (t : TrailData) (l m : Literal) (ind
 clauses_same w x h t l m index place e can r =
     let old_at : At w.slots e.index (Some can.entry.watch) = subst (λ (n : ℕ). At w.slots n (Some can.entry.watch)) (sym can.entry.at_index) can.entry.there in
     ap (λ (ws : List (Option Watch)). filter_map slot_clause ws) r.slots
-    ∙ clauses-set w.slots e.index can.entry.watch record { clause = e.clause; first = e.other; second = m } old_at (sym can.entry.clause)
+    ∙ clauses-set w.slots e.index can.entry.watch record { clause = e.clause; first = e.other; second = m; binary = e.binary } old_at (sym can.entry.clause)
 
 moved : (g : Over) (c : goal.In_ok-replace-in-Moves g) → IsVisiting c.replace.new.self (lits_at (g.P.Port.state c.args.port.now)) c.args.trail.now c.args.lit c.args.place
 moved g c =

@@ -3,7 +3,7 @@ use Rattle.std.specs.Prelude.{slice_get}
 use Rattle.sat_words.specs.Literal.{Literal}
 use Rattle.ring_port.specs.PortState.{lits_at}
 use Rattle.ring_trail.specs.TrailData.{IsFalseOn}
-use Rattle.watch_prop.proofs.clause_scan.find_replacement.Given as goal
+use Rattle.watch_prop.proofs.clause_scan.scan.Given as goal
 
 abbrev pub invariant-loop-i : goal.invariant-loop-i
 invariant-loop-i g l = record {

@@ -1,4 +1,5 @@
 pub mod ListsLemmas
+pub mod LayoutLemmas
 pub mod Slots
 pub mod Growing
 pub mod Reasons

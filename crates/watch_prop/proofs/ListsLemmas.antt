@@ -10,8 +10,7 @@ use Rattle.sat_words.specs.Literal.{Literal, code_of, literal_of}
 use Rattle.sat_words.specs.Codes.{literal_of-code_of}
 use Rattle.watch_prop.specs.declared.watch.Watcher.{Watcher}
 use Rattle.watch_prop.specs.WatchData.{watchers_at, list_at}
-use Rattle.watch_prop.specs.Lists.{Added, Removed, Reblocked, ListsOf}
-use Rattle.std.specs.Global.{Vec}
+use Rattle.watch_prop.specs.Lists.{Added, Removed, Reblocked}
 
 test_true : (i j : ℕ) → nat_eq i j ≡ true → i ≡ j
 test_true i j e = grind (arith, nat_tests)
@@ -172,33 +171,5 @@ Listed-removed old new l p m i r h ne =
 pub take_split : (xs : List ℕ) (p i : ℕ) → p < length xs → Contains (take (p + 1) xs) i → Contains (take p xs) i ⊎ (get_or xs p 0 ≡ i)
 take_split xs p i lt h = Contains-push_cases (take p xs) (get_or xs p 0) i (subst (λ (ys : List ℕ). Contains ys i) (take_more xs p 0 lt) h)
 
--- the list of a literal, as it stands in the vector
-pub items_at : (v : Vec (Vec Watcher)) (l : Literal) (x : Vec Watcher) (code : ℕ) → code ≡ code_of l → code_of l < length v.items → x ≡ get_or v.items code x → x.items ≡ watchers_at (ListsOf v) l
-items_at v l x code e lt q =
-    ap (λ (y : Vec Watcher). y.items) (q ∙ ap (λ (n : ℕ). get_or v.items n x) e) ∙ sym (get_or-map (λ (y : Vec Watcher). y.items) v.items (code_of l) x [] lt)
-
-pub lists_with : (v : Vec (Vec Watcher)) (l : Literal) (y : Vec Watcher) (code : ℕ) → code ≡ code_of l → map (λ (z : Vec Watcher). z.items) (set v.items code y) ≡ set (ListsOf v) (code_of l) y.items
-lists_with v l y code e = map-set (λ (z : Vec Watcher). z.items) v.items code y ∙ ap (λ (n : ℕ). set (ListsOf v) n y.items) e
-
-pub lists_as_were : (v : Vec (Vec Watcher)) (l : Literal) (y x : Vec Watcher) (code : ℕ) → code ≡ code_of l → code_of l < length v.items → x ≡ get_or v.items code x → y.items ≡ x.items → map (λ (z : Vec Watcher). z.items) (set v.items code y) ≡ ListsOf v
-lists_as_were v l y x code e lt q same =
-    lists_with v l y code e ∙ ap (λ (ys : List Watcher). set (ListsOf v) (code_of l) ys) (same ∙ items_at v l x code e lt q) ∙ set-get_or (ListsOf v) (code_of l) []
-
 pub Removed-len : (old new : List (List Watcher)) (l : Literal) (p : ℕ) → p < length (list_at old l) → Removed old new l p → p ≤ length (list_at new l)
 Removed-len old new l p lt r = omega (arith, length-take p (list_at new l), length-take p (list_at old l), ap (λ (xs : List ℕ). length xs) r.before)
-
--- how many lists there are
-pub same_many : (u v : Vec (Vec Watcher)) → length (ListsOf v) ≡ length (ListsOf u) → length v.items ≡ length u.items
-same_many u v e = omega (arith, e, length-map v.items (λ x. x.items), length-map u.items (λ x. x.items))
-
--- one list more is empty
-pub empty_more : (v : Vec (Vec Watcher)) (i : ℕ) (y : Vec Watcher) → i < length v.items → y.items ≡ [] → ((k : ℕ) → k < i → get_or (ListsOf v) k [] ≡ []) → (k : ℕ) → k < i + 1 → get_or (map (λ (z : Vec Watcher). z.items) (set v.items i y)) k [] ≡ []
-empty_more v i y lt e old k small =
-    ap (λ (xs : List (List Watcher)). get_or xs k []) (map-set (λ (z : Vec Watcher). z.items) v.items i y)
-    ∙ elim (cases_eq k i) as (λ _. get_or (set (ListsOf v) i y.items) k [] ≡ []) [
-      | inl q ↦ ap (λ (n : ℕ). get_or (set (ListsOf v) i y.items) n []) q ∙ get_or-set_same (ListsOf v) i y.items [] (omega (arith, length-map v.items (λ x. x.items))) ∙ e
-      | inr ne ↦ get_or-set_other (ListsOf v) i k y.items [] ne ∙ old k (omega arith)
-    ]
-
-pub empty_all : (xs : List (List Watcher)) (n : ℕ) → length xs ≤ n → ((k : ℕ) → k < n → get_or xs k [] ≡ []) → (k : ℕ) → get_or xs k [] ≡ []
-empty_all xs n le empty k = elim (cases_lt k n) as (λ _. get_or xs k [] ≡ []) [ inl lt ↦ empty k lt | inr ge ↦ get_or_past xs k [] (omega arith) ]

@@ -29,9 +29,9 @@ visiting-start w h t l n e v = record {
       inl (elim side as (λ _. Contains (take n (list_at w.lists l)) i) [ inl q ↦ all s.first q z.first_listed | inr q ↦ all s.second q z.second_listed ]);
 }
 
-pub visiting-stale : (w : WatchData) (h : Lits) (t : TrailData) (l : Literal) (place : ℕ) (lists : List (List Watcher)) → place < length (list_at w.lists l) → IsVisiting w h t l (place + 1)
-    → IsStale w (get_or (list_at w.lists l) place 0) l → Removed w.lists lists l place → IsVisiting record w { lists = lists } h t l place
-visiting-stale w h t l place lists lt v stale r =
+pub visiting-stale : (w : WatchData) (h : Lits) (t : TrailData) (l : Literal) (place : ℕ) (lists : List (List Watcher)) (rooms : List ℕ) (size : ℕ) → place < length (list_at w.lists l) → IsVisiting w h t l (place + 1)
+    → IsStale w (get_or (list_at w.lists l) place 0) l → Removed w.lists lists l place → IsVisiting record w { lists = lists; rooms = rooms; size = size } h t l place
+visiting-stale w h t l place lists rooms size lt v stale r =
     let k = v.watched in
     let index = get_or (list_at w.lists l) place 0 in
     let listed : (i : ℕ) (s : Watch) (m : Literal) → At w.slots i (Some s) → ((m ≡ s.first) ⊎ (m ≡ s.second)) → Contains (list_at w.lists m) i → Contains (list_at lists m) i
@@ -81,12 +81,12 @@ visiting-settled w h t l place lt v one = record {
 }
 
 -- the other watch, which is true, becomes the blocker
-pub visiting-blocked : (w : WatchData) (h : Lits) (t : TrailData) (l : Literal) (place : ℕ) (e : Entry) (lists : List (List Watcher)) → IsTrail t → place < length (list_at w.lists l) → IsVisiting w h t l (place + 1)
-    → CanBlock w t l (get_or (list_at w.lists l) place 0) e → Reblocked w.lists lists l place e.other → IsVisiting record w { lists = lists } h t l place
-visiting-blocked w h t l place e lists trail lt v can r =
+pub visiting-blocked : (w : WatchData) (h : Lits) (t : TrailData) (l : Literal) (place : ℕ) (e : Entry) (lists : List (List Watcher)) (rooms : List ℕ) (size : ℕ) → IsTrail t → place < length (list_at w.lists l) → IsVisiting w h t l (place + 1)
+    → CanBlock w t l (get_or (list_at w.lists l) place 0) e → Reblocked w.lists lists l place e.other → IsVisiting record w { lists = lists; rooms = rooms; size = size } h t l place
+visiting-blocked w h t l place e lists rooms size trail lt v can r =
     let k = v.watched in
     let i = get_or (list_at w.lists l) place 0 in
-    let x : WatchData = record w { lists = lists } in
+    let x : WatchData = record w { lists = lists; rooms = rooms; size = size } in
     let two = entry_two w h t i l e k can.entry in
     let kept : (m : Literal) (j : ℕ) → Contains (list_at w.lists m) j → Contains (list_at lists m) j = λ m j c. subst (λ (xs : List ℕ). Contains xs j) (sym (r.same m)) c in
     let watched : Watched x h t = record {

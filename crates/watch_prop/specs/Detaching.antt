@@ -1,5 +1,5 @@
 -- What is kept while a clause is detached, and while slots are compacted.
-use Rattle.std.specs.Prelude.{◌≡◌, ◌≢◌, ℕ, ◌⊎◌, [], Some, Contains, length}
+use Rattle.std.specs.Prelude.{◌≡◌, ◌≢◌, ℕ, ◌⊎◌, [], Some, Contains, length, sum}
 use Rattle.sat_words.specs.Literal.{Literal}
 use Rattle.watch_prop.specs.declared.watch.Watch.{Watch}
 use Rattle.watch_prop.specs.WatchData.{WatchData, attached, watchers_at, list_at, without}
@@ -18,11 +18,12 @@ pub record Freed (old new : WatchData) (a : ℕ) : Type 0 where
 abbrev pub IsGoneFrom : WatchData → WatchData → ℕ → Literal → Type 0
 IsGoneFrom old new a l = (i : ℕ) (s : Watch) → At new.slots i (Some s) → (s.first ≡ l) ⊎ (s.second ≡ l) → Contains (list_at old.lists l) i → s.clause.address ≢ a
 
--- the slots are those that were in use before, and all wait; nothing is listed
+-- the slots are those that were in use before, and all wait; nothing is listed, and the vector has no more than the lists' rooms
 pub record Compacted (old new : WatchData) : Type 0 where
   pub vars : new.vars ≡ old.vars
   pub settled : new.settled ≡ 0
   pub empty : (l : Literal) → watchers_at new.lists l ≡ []
+  pub closed : new.size ≡ sum new.rooms
   pub full : length new.slots ≡ length (attached new)
   pub attached : attached new ≡ attached old
   pub only : (i : ℕ) (s : Watch) → At new.slots i (Some s) → Contains old.slots (Some s)

@@ -3,6 +3,7 @@ pub mod Watched
 pub mod Propagation
 pub mod Rounds
 pub mod Lists
+pub mod Layout
 pub mod Choice
 pub mod Visiting
 pub mod Detaching

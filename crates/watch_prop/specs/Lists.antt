@@ -1,13 +1,9 @@
 -- Lists of watchers, one for each literal, and their changes.
-use Rattle.std.specs.Prelude.{◌≡◌, ◌≢◌, ℕ, ◌⊎◌, List, Contains, length, map, take}
-use Rattle.std.specs.Global.{Vec}
+use Rattle.std.specs.Prelude.{◌≡◌, ◌≢◌, ℕ, ◌⊎◌, List, Contains, length, take}
 use Rattle.std.specs.List.{slice_index}
 use Rattle.sat_words.specs.Literal.{Literal}
 use Rattle.watch_prop.specs.declared.watch.Watcher.{Watcher}
 use Rattle.watch_prop.specs.WatchData.{watchers_at, list_at}
-
-abbrev pub ListsOf : Vec (Vec Watcher) → List (List Watcher)
-ListsOf v = map (λ l. l.items) v.items
 
 -- the list of the literal has gained the watcher, and no other list changed
 pub record Added (old new : List (List Watcher)) (l : Literal) (x : Watcher) : Type 0 where

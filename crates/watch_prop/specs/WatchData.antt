@@ -7,11 +7,13 @@ use Rattle.sat_words.specs.declared.shared.Cref.{Cref}
 use Rattle.watch_prop.specs.declared.watch.Watch.{Watch}
 use Rattle.watch_prop.specs.declared.watch.Watcher.{Watcher}
 
--- the slots, each free or with an attached clause's watch; the lists, one for each literal; how many of the first slots are settled
+-- the slots, each free or with an attached clause's watch; the lists, one for each literal, for how many watchers each has room, and the length of the vector that they share; how many of the first slots are settled
 pub record WatchData : Type 0 where
   pub vars : ℕ
   pub slots : List (Option Watch)
   pub lists : List (List Watcher)
+  pub rooms : List ℕ
+  pub size : ℕ
   pub settled : ℕ
 
 -- the clause whose watch a slot has

@@ -1,64 +1,218 @@
-// The lists of watchers, one for each literal, at the literal's code.
-ghost use Rattle.std.specs.Prelude.{◌≡◌, ◌<◌, ◌^◌, [], IfOk, OnOk, OnErr, length};
+//! The lists of watchers, one for each literal at its code, in one vector (the layout of Gimsatul's and Kissat's watches). A
+//! list has a stretch of the vector with room for more; one without room moves to the end of the vector, where it gets twice the
+//! room. No change of one list may touch another, and no watcher may be left behind.
+ghost use Rattle.std.specs.Prelude.{◌≡◌, ◌<◌, ◌≤◌, ◌^◌, ◌++◌, ◌∷◌, [], IfOk, OnOk, OnErr, Contains, length, sum, slice_index, slice_index_or, slice_set};
 ghost use Rattle.sat_words.specs.Literal.{Literal, code_of};
 ghost use Rattle.watch_prop.specs.WatchData.{watchers_at, list_at};
-ghost use Rattle.watch_prop.specs.Lists.{ListsOf, Added, Removed, Reblocked};
+ghost use Rattle.watch_prop.specs.Lists.{Added, Removed, Reblocked};
+ghost use Rattle.watch_prop.specs.Layout.{HasRoom, AreLaidOut};
 
 use crate::watch::Watcher;
 use sat_words::Lit;
 use std::alloc::{AllocError, Global};
+use std::marker::Model;
 
-/// So many lists without a watcher.
-pub(crate) fn empty_lists(alloc: Global, count: usize) -> Result<Vec<Vec<Watcher>>, AllocError>
-    requires { count < 2 ^ 32 }
-    ensures len { IfOk result (λ v. length v.items ≡ count) }
-    ensures empty { IfOk result (λ v. (l : Literal) → watchers_at (ListsOf v) l ≡ []) }
-{
-    let mut lists = Vec::new(alloc);
-    for i in 0..count {
-        lists.push(Vec::new(alloc))?;
+/// The least room of a list that has any.
+const LEAST_ROOM: usize = 4;
+/// More watchers than this are not kept: there is no memory for them.
+const MOST_WATCHERS: usize = 1 << 40;
+
+/// Where a list stands in the vector, how many watchers it has, and for how many there is room.
+#[derive(Clone, Copy)]
+pub(crate) struct Stretch {
+    pub(crate) start: usize,
+    pub(crate) len: usize,
+    pub(crate) room: usize,
+}
+
+/// The watchers of all literals.
+#[derive(Drop)]
+pub(crate) struct Lists {
+    watchers: Vec<Watcher>,
+    stretches: Vec<Stretch>,
+}
+
+impl Model for Lists {
+    ghost use Rattle.std.specs.Prelude.{length, map};
+    ghost use Rattle.watch_prop.specs.Layout.{ListData, row_of, AreLaid};
+
+    ghost Value = { ListData };
+
+    ghost view = { λ x. record { rows = map (row_of x.watchers.items) x.stretches.items; rooms = map (λ s. s.room) x.stretches.items; size = length x.watchers.items } };
+
+    ghost invariant = { λ x. AreLaid x.watchers.items x.stretches.items };
+}
+
+impl Lists {
+    /// So many lists without a watcher.
+    pub(crate) fn new(alloc: Global, count: usize) -> Result<Lists, AllocError>
+        requires { count < 2 ^ 32 }
+        ensures len { IfOk result (λ x. length x.rows ≡ count) }
+        ensures empty { IfOk result (λ x. (l : Literal) → watchers_at x.rows l ≡ []) }
+    {
+        let nowhere = Stretch {
+            start: 0,
+            len: 0,
+            room: 0,
+        };
+        let mut stretches = Vec::new(alloc);
+        stretches.resize(count, nowhere)?;
+        Ok(Lists {
+            watchers: Vec::new(alloc),
+            stretches,
+        })
     }
-    Ok(lists)
-}
 
-/// Puts a watcher at the end of the list of a literal.
-pub(crate) fn add_to(
-    lists: &mut Vec<Vec<Watcher>>,
-    lit: Lit,
-    watcher: Watcher,
-) -> Result<(), AllocError>
-    requires { code_of lit < length lists.old.items }
-    ensures ok { OnOk result (Added (ListsOf lists.old) (ListsOf lists.new) lit watcher) }
-    ensures err { OnErr result (ListsOf lists.new ≡ ListsOf lists.old) }
-{
-    lists[lit.code() as usize].push(watcher)?;
-    Ok(())
-}
-
-/// Takes a watcher out of the list of a literal; the last one comes to its place.
-pub(crate) fn take_from(lists: &mut Vec<Vec<Watcher>>, lit: Lit, place: usize)
-    requires in_range { code_of lit < length lists.old.items }
-    requires there { place < length (list_at (ListsOf lists.old) lit) }
-    ensures { Removed (ListsOf lists.old) (ListsOf lists.new) lit place }
-{
-    lists[lit.code() as usize].swap_remove(place);
-}
-
-/// Gives a watcher in the list of a literal another blocker.
-pub(crate) fn set_blocker(lists: &mut Vec<Vec<Watcher>>, lit: Lit, place: usize, blocker: Lit)
-    requires in_range { code_of lit < length lists.old.items }
-    requires there { place < length (list_at (ListsOf lists.old) lit) }
-    ensures { Reblocked (ListsOf lists.old) (ListsOf lists.new) lit place blocker }
-{
-    lists[lit.code() as usize][place].blocker = blocker;
-}
-
-/// Empties all lists.
-pub(crate) fn clear_lists(lists: &mut Vec<Vec<Watcher>>)
-    ensures len { length lists.new.items ≡ length lists.old.items }
-    ensures empty { (l : Literal) → watchers_at (ListsOf lists.new) l ≡ [] }
-{
-    for i in 0..lists.len() {
-        lists[i].clear();
+    /// How many lists there are.
+    pub(crate) fn count(&self) -> usize
+        ensures { result ≡ length self.now.rows }
+    {
+        self.stretches.len()
     }
+
+    /// How many watchers the list of a literal has.
+    pub(crate) fn len(&self, lit: Lit) -> usize
+        requires { code_of lit < length self.now.rows }
+        ensures { result ≡ length (list_at self.now.rows lit) }
+    {
+        self.stretches[lit.code() as usize].len
+    }
+
+    /// The watcher at a place in the list of a literal.
+    pub(crate) fn at(&self, lit: Lit, place: usize) -> Watcher
+        requires in_range { code_of lit < length self.now.rows }
+        requires there { place < length (list_at self.now.rows lit) }
+        ensures slot { result.slot ≡ slice_index (list_at self.now.rows lit) place }
+        ensures listed { Contains (watchers_at self.now.rows lit) result }
+    {
+        self.watchers[self.stretches[lit.code() as usize].start + place]
+    }
+
+    /// Puts a watcher at the end of the list of a literal. Where memory runs out, nothing changes.
+    pub(crate) fn push(&mut self, lit: Lit, watcher: Watcher) -> Result<(), AllocError>
+        requires { code_of lit < length self.old.rows }
+        ensures ok { OnOk result (Added self.old.rows self.new.rows lit watcher) }
+        ensures err { OnErr result (self.new ≡ self.old) }
+    {
+        let code = lit.code() as usize;
+        self.make_room(code)?;
+        self.put(code, watcher);
+        Ok(())
+    }
+
+    /// Takes a watcher out of the list of a literal; the last one comes to its place.
+    pub(crate) fn take(&mut self, lit: Lit, place: usize)
+        requires in_range { code_of lit < length self.old.rows }
+        requires there { place < length (list_at self.old.rows lit) }
+        ensures { Removed self.old.rows self.new.rows lit place }
+    {
+        let code = lit.code() as usize;
+        let stretch = self.stretches[code];
+        let last = self.watchers[stretch.start + stretch.len - 1];
+        self.watchers[stretch.start + place] = last;
+        self.stretches[code] = Stretch {
+            start: stretch.start,
+            len: stretch.len - 1,
+            room: stretch.room,
+        };
+    }
+
+    /// Gives a watcher in the list of a literal another blocker.
+    pub(crate) fn set_blocker(&mut self, lit: Lit, place: usize, blocker: Lit)
+        requires in_range { code_of lit < length self.old.rows }
+        requires there { place < length (list_at self.old.rows lit) }
+        ensures { Reblocked self.old.rows self.new.rows lit place blocker }
+    {
+        let at = self.stretches[lit.code() as usize].start + place;
+        let slot = self.watchers[at].slot;
+        self.watchers[at] = Watcher { slot, blocker };
+    }
+
+    /// Empties all lists and closes the vector up: the lists stand one behind the other, each with room for as many watchers
+    /// as it had.
+    pub(crate) fn close_up(&mut self)
+        ensures len { length self.new.rows ≡ length self.old.rows }
+        ensures empty { (l : Literal) → watchers_at self.new.rows l ≡ [] }
+        ensures closed { self.new.size ≡ sum self.new.rooms }
+    {
+        let end = lay_out(&mut self.stretches, self.watchers.len());
+        self.watchers.truncate(end);
+    }
+
+    /// Makes room for one more watcher in a list.
+    fn make_room(&mut self, code: usize) -> Result<(), AllocError>
+        requires { code < length self.old.rows }
+        ensures rows { self.new.rows ≡ self.old.rows }
+        ensures ok { OnOk result (HasRoom self.new code) }
+        ensures err { OnErr result (self.new ≡ self.old) }
+    {
+        let stretch = self.stretches[code];
+        if stretch.len < stretch.room {
+            return Ok(());
+        }
+        self.move_to_end(code)
+    }
+
+    /// Moves a list to the end of the vector, where it has twice the room.
+    fn move_to_end(&mut self, code: usize) -> Result<(), AllocError>
+        requires { code < length self.old.rows }
+        ensures rows { self.new.rows ≡ self.old.rows }
+        ensures ok { OnOk result (HasRoom self.new code) }
+        ensures err { OnErr result (self.new ≡ self.old) }
+    {
+        let start = self.watchers.len();
+        if start > MOST_WATCHERS {
+            return Err(AllocError);
+        }
+        let old = self.stretches[code];
+        let room = (2 * old.room).max(LEAST_ROOM);
+        let filler = Watcher {
+            slot: 0,
+            blocker: Lit::new(1, false),
+        };
+        self.watchers.resize(start + room, filler)?;
+        self.watchers
+            .copy_within(old.start..old.start + old.len, start);
+        self.stretches[code] = Stretch {
+            start,
+            len: old.len,
+            room,
+        };
+        Ok(())
+    }
+
+    /// Puts a watcher at the end of a list that has room for it.
+    fn put(&mut self, code: usize, watcher: Watcher)
+        requires in_range { code < length self.old.rows }
+        requires room { HasRoom self.old code }
+        ensures { self.new.rows ≡ slice_set self.old.rows code (slice_index_or self.old.rows code [] ++ watcher ∷ []) }
+    {
+        let stretch = self.stretches[code];
+        self.watchers[stretch.start + stretch.len] = watcher;
+        self.stretches[code] = Stretch {
+            start: stretch.start,
+            len: stretch.len + 1,
+            room: stretch.room,
+        };
+    }
+}
+
+/// Lets empty stretches stand one behind the other in a vector of this size, each with as much room as it had watchers, and
+/// tells where the last one ends.
+fn lay_out(stretches: &mut Vec<Stretch>, size: usize) -> usize
+    ensures len { length stretches.new.items ≡ length stretches.old.items }
+    ensures laid { AreLaidOut stretches.new.items (length stretches.new.items) result }
+    ensures inside { result ≤ size }
+{
+    let mut end = 0;
+    for i in 0..stretches.len() {
+        let room = stretches[i].len.min(size - end);
+        stretches[i] = Stretch {
+            start: end,
+            len: 0,
+            room,
+        };
+        end += room;
+    }
+    end
 }

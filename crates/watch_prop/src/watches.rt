@@ -1,7 +1,7 @@
 //! The watches of the attached clauses: two literals of each (MiniSat, Eén and Sörensson 2003), and for each literal
 //! the list of the watches to look at when it becomes false. Each call must leave `Watched` of specs/ between watches,
 //! clauses and trail.
-ghost use Rattle.std.specs.Prelude.{◌≡◌, ◌≤◌, ◌<◌, ◌+◌, ◌*◌, ◌^◌, ◌++◌, ◌∷◌, [], IfOk, OnOk, OnErr, IfSome, IfNone, IsSome, Contains, length, slice_index};
+ghost use Rattle.std.specs.Prelude.{◌≡◌, ◌≤◌, ◌<◌, ◌+◌, ◌*◌, ◌^◌, ◌++◌, ◌∷◌, [], IfOk, OnOk, OnErr, IfSome, IfNone, IsSome, Contains, length, sum, slice_index};
 ghost use Rattle.ring_port.specs.PortState.{held_at, lits_at};
 ghost use Rattle.ring_trail.specs.TrailData.{TrailData, HasGrown};
 ghost use Rattle.watch_prop.specs.WatchData.{WatchData, Lits, attached, watchers_at, list_at};
@@ -10,7 +10,7 @@ ghost use Rattle.watch_prop.specs.Detaching.{Compacted};
 ghost use Rattle.watch_prop.specs.Propagation.{HasReasons, IsClosedBelow, IsPropagated};
 ghost use Rattle.watch_prop.specs.Visiting.{IsEntry, IsStale};
 
-use crate::lists::{clear_lists, empty_lists};
+use crate::lists::Lists;
 use crate::propagated::Propagated;
 use crate::watch::{Entry, Watch, Watcher};
 use ring_port::Port;
@@ -37,22 +37,22 @@ mod walking;
 #[derive(Drop)]
 pub struct Watches {
     slots: Vec<Option<Watch>>,
-    lists: Vec<Vec<Watcher>>,
+    lists: Lists,
     settled: usize,
     free_slots: usize,
     vars: u32,
 }
 
 impl Model for Watches {
-    ghost use Rattle.std.specs.Prelude.{◌≡◌, ◌≤◌, ◌+◌, ◌*◌, ◌^◌, length, map};
+    ghost use Rattle.std.specs.Prelude.{◌≡◌, ◌≤◌, ◌+◌, ◌*◌, ◌^◌, length};
     ghost use Rattle.std.specs.List.{filter_map};
     ghost use Rattle.watch_prop.specs.WatchData.{WatchData, clause_in};
 
     ghost Value = { WatchData };
 
-    ghost view = { λ w. record { vars = w.vars; slots = w.slots.items; lists = map (λ l. l.items) w.lists.items; settled = w.settled } };
+    ghost view = { λ w. record { vars = w.vars; slots = w.slots.items; lists = w.lists.rows; rooms = w.lists.rooms; size = w.lists.size; settled = w.settled } };
 
-    ghost invariant = { λ w. (w.vars ≤ 2 ^ 30) × (length w.lists.items ≡ 2 * w.vars + 2) × (length (filter_map clause_in w.slots.items) + w.free_slots ≡ length w.slots.items) × (length w.slots.items ≤ 2 ^ 32) };
+    ghost invariant = { λ w. (w.vars ≤ 2 ^ 30) × (length w.lists.rows ≡ 2 * w.vars + 2) × (length (filter_map clause_in w.slots.items) + w.free_slots ≡ length w.slots.items) × (length w.slots.items ≤ 2 ^ 32) };
 }
 
 /// A watch of a clause by its first two literals.
@@ -84,7 +84,7 @@ impl Watches {
     {
         Ok(Watches {
             slots: Vec::new(alloc),
-            lists: empty_lists(alloc, 2 * vars as usize + 2)?,
+            lists: Lists::new(alloc, 2 * vars as usize + 2)?,
             settled: 0,
             free_slots: 0,
             vars,
@@ -145,6 +145,17 @@ impl Watches {
         }
     }
 
+    /// Takes the free slots out, and closes up the vector in which the lists stand. All clauses wait then, and the next
+    /// `propagate` chooses the literals that watch them. It takes no memory.
+    pub fn compact(&mut self)
+        ensures attached { attached self.new ≡ attached self.old }
+        ensures vars { self.new.vars ≡ self.old.vars }
+        ensures watched { (lits : Lits) (t : TrailData) → Watched self.old lits t → Watched self.new lits t }
+        ensures closed { self.new.size ≡ sum self.new.rooms }
+    {
+        self.take_free_out();
+    }
+
     /// Takes the free slots out where they outnumber the others and the lists. All clauses wait then.
     ///
     /// So the clauses and the lists that are gone through again are fewer than the clauses detached since the last time.
@@ -155,17 +166,17 @@ impl Watches {
         ensures few { length self.new.slots ≤ 2 * length (attached self.new) + length self.new.lists }
     {
         let used = self.slots.len() - self.free_slots;
-        if self.free_slots.saturating_sub(used) > self.lists.len() {
-            self.compact();
+        if self.free_slots.saturating_sub(used) > self.lists.count() {
+            self.take_free_out();
         }
     }
 
     /// Takes the free slots out and empties the lists, so that all clauses wait.
-    fn compact(&mut self)
+    fn take_free_out(&mut self)
         ensures { Compacted self.old self.new }
     {
         self.slots.retain(|slot| slot.is_some());
-        clear_lists(&mut self.lists);
+        self.lists.close_up();
         self.settled = 0;
         self.free_slots = 0;
     }
@@ -205,7 +216,7 @@ impl Watches {
         requires { lit.var ≤ self.now.vars }
         ensures { result ≡ length (list_at self.now.lists lit) }
     {
-        self.lists[lit.code() as usize].len()
+        self.lists.len(lit)
     }
 
     fn watcher_at(&self, lit: Lit, place: usize) -> Watcher
@@ -214,6 +225,6 @@ impl Watches {
         ensures slot { result.slot ≡ slice_index (list_at self.now.lists lit) place }
         ensures listed { Contains (watchers_at self.now.lists lit) result }
     {
-        self.lists[lit.code() as usize][place]
+        self.lists.at(lit, place)
     }
 }

@@ -15,7 +15,6 @@ ghost use Rattle.watch_prop.specs.Advancing.{HasAdvanced};
 ghost use Rattle.watch_prop.specs.Visiting.{NotFalse, Listed, ListsMore, IsSettledTo, IsAllSettled};
 
 use crate::choice::best_watches;
-use crate::lists::add_to;
 use crate::propagated::Propagated;
 use crate::watch::{Visit, Watch, Watcher};
 use crate::watches::Watches;
@@ -97,8 +96,8 @@ impl Watches {
             slot,
             blocker: first,
         };
-        add_to(&mut self.lists, first, at_first)?;
-        add_to(&mut self.lists, second, at_second)?;
+        self.lists.push(first, at_first)?;
+        self.lists.push(second, at_second)?;
         self.slots[self.settled] = Some(Watch {
             clause: watch.clause,
             first,

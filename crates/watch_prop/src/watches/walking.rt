@@ -12,7 +12,6 @@ ghost use Rattle.watch_prop.specs.Advancing.{HasAdvanced};
 ghost use Rattle.watch_prop.specs.Visiting.{IsVisiting, IsEntry, IsVerdict, Replaced, IsVisited, IsWalked, IsEnd};
 
 use crate::clause_scan::find_replacement;
-use crate::lists::{add_to, set_blocker, take_from};
 use crate::propagated::Propagated;
 use crate::watch::{Entry, Verdict, Visit, Watch, Watcher};
 use crate::watches::Watches;
@@ -96,9 +95,9 @@ impl Watches {
     {
         let _level = trail.present();
         match self.judge(port, trail, lit, place) {
-            Verdict::Stale => take_from(&mut self.lists, lit, place),
+            Verdict::Stale => self.lists.take(lit, place),
             Verdict::Settled => {}
-            Verdict::Blocked(entry) => set_blocker(&mut self.lists, lit, place, entry.other),
+            Verdict::Blocked(entry) => self.lists.set_blocker(lit, place, entry.other),
             Verdict::Moves(entry, new) => self.replace(entry, lit, new, place)?,
             Verdict::Forced(other, clause) => trail.assign(other, Some(clause)),
             Verdict::False(clause) => return Ok(Visit::Falsified(clause)),
@@ -154,8 +153,8 @@ impl Watches {
             slot: entry.index,
             blocker: entry.other,
         };
-        add_to(&mut self.lists, new, watcher)?;
-        take_from(&mut self.lists, lit, place);
+        self.lists.push(new, watcher)?;
+        self.lists.take(lit, place);
         self.slots[entry.index as usize] = Some(Watch {
             clause: entry.clause,
             first: entry.other,

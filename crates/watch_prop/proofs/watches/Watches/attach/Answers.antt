@@ -7,7 +7,6 @@ use Rattle.ring_trail.specs.TrailData.{TrailData}
 use Rattle.watch_prop.specs.declared.watch.Watch.{Watch}
 use Rattle.watch_prop.specs.WatchData.{WatchData, Lits, clause_in, attached}
 use Rattle.watch_prop.specs.Watched.{Watched, IsAttachable, IsPair}
-use Rattle.watch_prop.specs.Lists.{ListsOf}
 use Rattle.watch_prop.proofs.Entries.{held_attachable}
 use Rattle.watch_prop.proofs.Slots.{clauses-push, HasFree-push}
 use Rattle.watch_prop.proofs.Settling.{Watched-push}
@@ -18,7 +17,7 @@ clauses_of_pushed v w ws s e q = ap (λ (xs : List (Option Watch)). filter_map c
 
 pub returns-clause-attached : goal.returns-clause-attached
 returns-clause-attached g c =
-    clauses_of_pushed record { vars = c.self.inside.vars; slots = c.self.inside.slots.items; lists = ListsOf c.self.inside.lists; settled = c.self.inside.settled } c.args.self.now c.push.new.self.items
+    clauses_of_pushed record { vars = c.self.inside.vars; slots = c.self.inside.slots.items; lists = c.self.inside.lists.rows; rooms = c.self.inside.lists.rooms; size = c.self.inside.lists.size; settled = c.self.inside.settled } c.args.self.now c.push.new.self.items
     c.first_watch-watch.result c.self.view_is c.in_ok-push.ensures.items
     ∙ ap (λ (d : Cref). attached c.args.self.now ++ d ∷ []) c.first_watch-watch.ensures.clause
 
@@ -33,7 +32,7 @@ returns-clause-watched g c t k =
     let s = c.first_watch-watch.result in
     let here = c.first_watch-watch.ensures.clause in
     let ok = held_attachable p c.args.c.address c.args.self.now.vars c.vars-vars.ensures.port c.requires.held c.requires.vars in
-    pushed record { vars = c.self.inside.vars; slots = c.self.inside.slots.items; lists = ListsOf c.self.inside.lists; settled = c.self.inside.settled } c.args.self.now c.push.new.self.items s (lits_at p) t c.self.view_is c.in_ok-push.ensures.items k
+    pushed record { vars = c.self.inside.vars; slots = c.self.inside.slots.items; lists = c.self.inside.lists.rows; rooms = c.self.inside.lists.rooms; size = c.self.inside.lists.size; settled = c.self.inside.settled } c.args.self.now c.push.new.self.items s (lits_at p) t c.self.view_is c.in_ok-push.ensures.items k
     (subst (λ (d : Cref). IsAttachable c.args.self.now.vars (lits_at p d.address)) (sym here) ok)
     (subst (λ (d : Cref). IsPair (lits_at p d.address) s) (sym here) c.first_watch-watch.ensures.pair)
 

@@ -4,7 +4,6 @@ use Rattle.std.proofs.lemmas.List.{length-set}
 use Rattle.watch_prop.specs.declared.watch.Watch.{Watch}
 use Rattle.watch_prop.specs.WatchData.{WatchData}
 use Rattle.watch_prop.specs.Watched.{At}
-use Rattle.watch_prop.specs.Lists.{ListsOf}
 use Rattle.watch_prop.specs.Detaching.{Freed}
 use Rattle.watch_prop.proofs.Slots.{watch_read, HasFree-freed}
 use Rattle.watch_prop.proofs.Detaching.{Freed-slot}
@@ -15,7 +14,7 @@ freed v w i s a e at q = subst (λ (x : WatchData). Freed x record v { slots = s
 
 pub returns-then-watch-c-clause-freed : goal.returns-then-watch-c-clause-freed
 returns-then-watch-c-clause-freed c =
-    freed record { vars = c.self.inside.vars; slots = c.self.inside.slots.items; lists = ListsOf c.self.inside.lists; settled = c.self.inside.settled } c.args.self.now c.args.index c.in-Some.watch c.args.c.address c.self.view_is
+    freed record { vars = c.self.inside.vars; slots = c.self.inside.slots.items; lists = c.self.inside.lists.rows; rooms = c.self.inside.lists.rooms; size = c.self.inside.lists.size; settled = c.self.inside.settled } c.args.self.now c.args.index c.in-Some.watch c.args.c.address c.self.view_is
     (watch_read c.self.inside.slots.items c.args.index c.index.result.now c.in-Some.watch (let q = c.if-index-len.false in omega (arith, q, c.len.ensures)) c.index.ensures c.in-Some.is) c.if-watch-c.true
 
 pub invariant_of-self : goal.invariant_of-self

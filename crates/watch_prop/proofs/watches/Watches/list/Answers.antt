@@ -1,12 +1,12 @@
-use Rattle.std.proofs.Common.{◌≡◌, List, Some, subst, sym, ap, refl, ◌∙◌, length, Result, Ok, Err, OnErr, Contains, ◌⊎◌, inl, inr, arith}
+use Rattle.std.proofs.Common.{◌≡◌, ℕ, List, Some, subst, sym, ap, refl, ◌∙◌, length, Result, Ok, Err, OnErr, Contains, ◌⊎◌, inl, inr, arith}
 use Rattle.std.proofs.lemmas.List.{length-set}
 use Rattle.sat_words.specs.Literal.{Literal}
 use Rattle.watch_prop.specs.declared.watch.Watcher.{Watcher}
 use Rattle.watch_prop.specs.WatchData.{WatchData, watchers_at, list_at}
 use Rattle.watch_prop.specs.Watched.{At}
-use Rattle.watch_prop.specs.Lists.{ListsOf, Added}
+use Rattle.watch_prop.specs.Lists.{Added}
 use Rattle.watch_prop.specs.Visiting.{ListsMore}
-use Rattle.watch_prop.proofs.ListsLemmas.{same_many}
+use Rattle.watch_prop.specs.Layout.{ListData}
 use Rattle.watch_prop.proofs.Slots.{HasFree-set}
 use Rattle.watch_prop.proofs.watches.Watches.list.Goals as goal
 
@@ -14,9 +14,9 @@ on_err : {T E : Type 0} (r : Result T E) (P : Type 0) → P → OnErr r P
 on_err (Ok x) P p = tt
 on_err (Err e) P p = p
 
-more : (v w : WatchData) (a b : List (List Watcher)) (l k : Literal) → v ≡ w → Added v.lists a l record { slot = v.settled; blocker = k } → b ≡ a → ListsMore w record v { lists = b } k
-more v w a b l k e r q =
-    subst (λ (x : WatchData). ListsMore x record v { lists = b } k) e
+more : (v w : WatchData) (a b : List (List Watcher)) (rooms : List ℕ) (size : ℕ) (l k : Literal) → v ≡ w → Added v.lists a l record { slot = v.settled; blocker = k } → b ≡ a → ListsMore w record v { lists = b; rooms = rooms; size = size } k
+more v w a b rooms size l k e r q =
+    subst (λ (x : WatchData). ListsMore x record v { lists = b; rooms = rooms; size = size } k) e
     record {
       vars = refl;
       slots = refl;
@@ -42,17 +42,18 @@ same v w a k e q =
       only = λ m y h. inl (subst (λ (xs : List (List Watcher)). Contains (watchers_at xs m) y) q h);
     }
 
-pub returns-in_err-add_to-2-clause-err : goal.returns-in_err-add_to-2-clause-err
-returns-in_err-add_to-2-clause-err c =
-    on_err c.from_residual-in_err-add_to-2.result _
-    (more record { vars = c.self.inside.vars; slots = c.self.inside.slots.items; lists = ListsOf c.self.inside.lists; settled = c.self.inside.settled } c.args.self.now (ListsOf c.add_to.new.lists) (ListsOf c.add_to-2.new.lists) c.args.first c.args.second c.self.view_is c.in_ok-add_to.ensures.ok c.in_err-add_to-2.ensures.err)
+pub returns-in_err-push-2-clause-err : goal.returns-in_err-push-2-clause-err
+returns-in_err-push-2-clause-err c =
+    on_err c.from_residual-in_err-push-2.result _
+    (more record { vars = c.self.inside.vars; slots = c.self.inside.slots.items; lists = c.self.inside.lists.rows; rooms = c.self.inside.lists.rooms; size = c.self.inside.lists.size; settled = c.self.inside.settled } c.args.self.now
+    c.push.new.self.rows c.push-2.new.self.rows c.push-2.new.self.rooms c.push-2.new.self.size c.args.first c.args.second c.self.view_is c.in_ok-push.ensures.ok (ap (λ (x : ListData). x.rows) c.in_err-push-2.ensures.err))
 
 pub invariant_of-self-2 : goal.invariant_of-self-2
 invariant_of-self-2 c =
     let i = c.self.invariant in
     let at = subst (λ (x : WatchData). At x.slots x.settled (Some c.args.watch.now)) (sym c.self.view_is) c.requires.there in (
       i.0,
-      same_many c.add_to.new.lists c.add_to-2.new.lists c.in_ok-add_to-2.ensures.ok.len ∙ same_many c.self.inside.lists c.add_to.new.lists c.in_ok-add_to.ensures.ok.len ∙ i.1,
+      c.in_ok-push-2.ensures.ok.len ∙ c.in_ok-push.ensures.ok.len ∙ i.1,
       HasFree-set c.self.inside.slots.items c.self.inside.settled c.args.watch.now _ c.self.inside.free_slots at refl i.2,
       omega (arith, i.3, length-set c.self.inside.slots.items c.self.inside.settled (Some record { clause = c.args.watch.now.clause; first = c.args.first; second = c.args.second; binary = c.args.watch.now.binary })),
     )

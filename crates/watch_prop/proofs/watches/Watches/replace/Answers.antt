@@ -2,7 +2,6 @@ use Rattle.std.proofs.Common.{◌∙◌, ℕ, Some, sym, subst, arith}
 use Rattle.std.proofs.lemmas.List.{length-set}
 use Rattle.watch_prop.specs.WatchData.{WatchData}
 use Rattle.watch_prop.specs.Watched.{At}
-use Rattle.watch_prop.proofs.ListsLemmas.{same_many}
 use Rattle.watch_prop.proofs.Slots.{HasFree-set}
 use Rattle.watch_prop.proofs.watches.Watches.replace.Goals as goal
 
@@ -13,7 +12,7 @@ invariant_of-self-2 c =
     let there = subst (λ (n : ℕ). At c.args.self.now.slots n (Some e.watch)) (sym e.at_index) e.there in
     let at = subst (λ (x : WatchData). At x.slots c.args.entry.index (Some e.watch)) (sym c.self.view_is) there in (
       i.0,
-      same_many c.add_to.new.lists c.take_from.new.lists c.take_from.ensures.len ∙ same_many c.self.inside.lists c.add_to.new.lists c.in_ok-add_to.ensures.ok.len ∙ i.1,
+      c.take.ensures.len ∙ c.in_ok-push.ensures.ok.len ∙ i.1,
       HasFree-set c.self.inside.slots.items c.args.entry.index e.watch _ c.self.inside.free_slots at (sym e.clause) i.2,
       omega (arith, i.3, length-set c.self.inside.slots.items c.args.entry.index (Some record { clause = c.args.entry.clause; first = c.args.entry.other; second = c.args.new; binary = c.args.entry.binary })),
     )

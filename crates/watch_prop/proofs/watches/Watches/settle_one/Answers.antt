@@ -6,7 +6,6 @@ use Rattle.watch_prop.specs.declared.watch.Watch.{Watch}
 use Rattle.watch_prop.specs.WatchData.{WatchData, Lits, clause_in as slot_clause, attached}
 use Rattle.watch_prop.specs.Watched.{At, Watched}
 use Rattle.watch_prop.specs.Propagation.{HasReasons}
-use Rattle.watch_prop.specs.Lists.{ListsOf}
 use Rattle.watch_prop.proofs.Growing.{HasGrown-refl, Watched-grow, clause_in}
 use Rattle.watch_prop.proofs.Reasons.{attached_some}
 use Rattle.watch_prop.proofs.Entries.{on_vars, attachable_held}
@@ -24,7 +23,7 @@ skipped v w h t o e lt q is k =
 
 -- the watch that waits
 here : (g : Over) (c : After-best_watches-best g) → At c.args.self.now.slots c.args.self.now.settled (Some c.in-Some.watch)
-here g c = waiting record { vars = c.self.inside.vars; slots = c.self.inside.slots.items; lists = ListsOf c.self.inside.lists; settled = c.self.inside.settled } c.args.self.now c.index.result.now c.in-Some.watch c.self.view_is c.requires.there c.index.ensures c.in-Some.is
+here g c = waiting record { vars = c.self.inside.vars; slots = c.self.inside.slots.items; lists = c.self.inside.lists.rows; rooms = c.self.inside.lists.rooms; size = c.self.inside.lists.size; settled = c.self.inside.settled } c.args.self.now c.index.result.now c.in-Some.watch c.self.view_is c.requires.there c.index.ensures c.in-Some.is
 
 pub returns-then-best-present-clause-settled : goal.returns-then-best-present-clause-settled
 returns-then-best-present-clause-settled g c =
@@ -78,7 +77,7 @@ list-requires-2-clause-there g c =
 pub returns-in-None-clause-kept : goal.returns-in-None-clause-kept
 returns-in-None-clause-kept g c =
     advanced_watches (g.P.Port.state c.args.port.now) c.args.self.now _ c.args.trail.now (ap attached c.self.view_is) (ap (λ (w : WatchData). w.vars) c.self.view_is) c.requires.reasons
-    (skipped record { vars = c.self.inside.vars; slots = c.self.inside.slots.items; lists = ListsOf c.self.inside.lists; settled = c.self.inside.settled } c.args.self.now (lits_at (g.P.Port.state c.args.port.now)) c.args.trail.now c.index.result.now c.self.view_is c.requires.there c.index.ensures c.in-None.is c.requires.watched)
+    (skipped record { vars = c.self.inside.vars; slots = c.self.inside.slots.items; lists = c.self.inside.lists.rows; rooms = c.self.inside.lists.rooms; size = c.self.inside.lists.size; settled = c.self.inside.settled } c.args.self.now (lits_at (g.P.Port.state c.args.port.now)) c.args.trail.now c.index.result.now c.self.view_is c.requires.there c.index.ensures c.in-None.is c.requires.watched)
 
 pub returns-then-best-present-clause-kept : goal.returns-then-best-present-clause-kept
 returns-then-best-present-clause-kept g c = advanced_none (g.P.Port.state c.args.port.now) c.args.self.now c.args.trail.now c.requires.reasons c.requires.watched

@@ -12,7 +12,7 @@ use Rattle.watch_prop.specs.declared.watch.Watcher.{Watcher}
 use Rattle.watch_prop.specs.declared.watch.Entry.{Entry}
 use Rattle.watch_prop.specs.WatchData.{WatchData, Lits, clause_in as slot_clause, attached, list_at}
 use Rattle.watch_prop.specs.Watched.{At, Watched, IsAttachable}
-use Rattle.watch_prop.specs.Lists.{ListsOf, Removed, Reblocked}
+use Rattle.watch_prop.specs.Lists.{Removed, Reblocked}
 use Rattle.watch_prop.specs.Propagation.{attached_at, HasReasons}
 use Rattle.watch_prop.specs.Visiting.{IsVisiting, IsStale, CanMove, CanBlock, IsForcing, Replaced}
 use Rattle.watch_prop.proofs.ListsLemmas.{Removed-len}
@@ -48,11 +48,11 @@ assign-requires-clause-in_range g c =
 pub assign-requires-clause-free : goal.assign-requires-clause-free
 assign-requires-clause-free g c = no_value c.args.trail.now.steps c.in-Forced.other.var c.in-Forced.ensures.verdict.free
 
-stale_visiting : (w v : WatchData) (h : Lits) (t : TrailData) (l : Literal) (place : ℕ) (lists : List (List Watcher)) → v ≡ w → place < length (list_at w.lists l) → IsVisiting w h t l (place + 1)
-    → IsStale w (get_or (list_at w.lists l) place 0) l → Removed v.lists lists l place → IsVisiting record v { lists = lists } h t l place × (place ≤ length (list_at lists l))
-stale_visiting w v h t l place lists e lt k s r =
+stale_visiting : (w v : WatchData) (h : Lits) (t : TrailData) (l : Literal) (place : ℕ) (lists : List (List Watcher)) (rooms : List ℕ) (size : ℕ) → v ≡ w → place < length (list_at w.lists l) → IsVisiting w h t l (place + 1)
+    → IsStale w (get_or (list_at w.lists l) place 0) l → Removed v.lists lists l place → IsVisiting record v { lists = lists; rooms = rooms; size = size } h t l place × (place ≤ length (list_at lists l))
+stale_visiting w v h t l place lists rooms size e lt k s r =
     let lt' = subst (λ (x : WatchData). place < length (list_at x.lists l)) (sym e) lt in (
-      visiting-stale v h t l place lists lt'
+      visiting-stale v h t l place lists rooms size lt'
           (subst (λ (x : WatchData). IsVisiting x h t l (place + 1)) (sym e) k)
           (subst (λ (x : WatchData). IsStale x (get_or (list_at x.lists l) place 0) l) (sym e) s) r,
       Removed-len v.lists lists l place lt' r,
@@ -60,21 +60,21 @@ stale_visiting w v h t l place lists e lt k s r =
 
 pub returns-in-Stale-clause-visited : goal.returns-in-Stale-clause-visited
 returns-in-Stale-clause-visited g c =
-    stale_visiting c.args.self.now record { vars = c.self.inside.vars; slots = c.self.inside.slots.items; lists = ListsOf c.self.inside.lists; settled = c.self.inside.settled } (lits_at (g.P.Port.state c.args.port.now)) c.args.trail.now c.args.lit c.args.place (ListsOf c.take_from.new.lists) c.self.view_is c.requires.there c.requires.visiting c.in-Stale.ensures.verdict c.take_from.ensures
+    stale_visiting c.args.self.now record { vars = c.self.inside.vars; slots = c.self.inside.slots.items; lists = c.self.inside.lists.rows; rooms = c.self.inside.lists.rooms; size = c.self.inside.lists.size; settled = c.self.inside.settled } (lits_at (g.P.Port.state c.args.port.now)) c.args.trail.now c.args.lit c.args.place c.take.new.self.rows c.take.new.self.rooms c.take.new.self.size c.self.view_is c.requires.there c.requires.visiting c.in-Stale.ensures.verdict c.take.ensures
 
-blocked_visiting : (w v : WatchData) (h : Lits) (t : TrailData) (l : Literal) (place : ℕ) (e : Entry) (lists : List (List Watcher)) → v ≡ w → IsTrail t → place < length (list_at w.lists l) → IsVisiting w h t l (place + 1)
-    → CanBlock w t l (get_or (list_at w.lists l) place 0) e → Reblocked v.lists lists l place e.other → IsVisiting record v { lists = lists } h t l place × (place ≤ length (list_at lists l))
-blocked_visiting w v h t l place e lists q trail lt k can r =
+blocked_visiting : (w v : WatchData) (h : Lits) (t : TrailData) (l : Literal) (place : ℕ) (e : Entry) (lists : List (List Watcher)) (rooms : List ℕ) (size : ℕ) → v ≡ w → IsTrail t → place < length (list_at w.lists l) → IsVisiting w h t l (place + 1)
+    → CanBlock w t l (get_or (list_at w.lists l) place 0) e → Reblocked v.lists lists l place e.other → IsVisiting record v { lists = lists; rooms = rooms; size = size } h t l place × (place ≤ length (list_at lists l))
+blocked_visiting w v h t l place e lists rooms size q trail lt k can r =
     let lt' = subst (λ (x : WatchData). place < length (list_at x.lists l)) (sym q) lt in (
-      visiting-blocked v h t l place e lists trail lt'
+      visiting-blocked v h t l place e lists rooms size trail lt'
           (subst (λ (x : WatchData). IsVisiting x h t l (place + 1)) (sym q) k)
           (subst (λ (x : WatchData). CanBlock x t l (get_or (list_at x.lists l) place 0) e) (sym q) can) r,
       omega (arith, lt', ap (λ (xs : List ℕ). length xs) (r.same l)),
     )
 
-blocked : (g : Over) (c : goal.After-set_blocker g) → IsVisiting record { vars = c.self.inside.vars; slots = c.self.inside.slots.items; lists = ListsOf c.set_blocker.new.lists; settled = c.self.inside.settled } (lits_at (g.P.Port.state c.args.port.now)) c.args.trail.now c.args.lit c.args.place × (c.args.place ≤ length (list_at (ListsOf c.set_blocker.new.lists) c.args.lit))
+blocked : (g : Over) (c : goal.After-set_blocker g) → IsVisiting record { vars = c.self.inside.vars; slots = c.self.inside.slots.items; lists = c.set_blocker.new.self.rows; rooms = c.set_blocker.new.self.rooms; size = c.set_blocker.new.self.size; settled = c.self.inside.settled } (lits_at (g.P.Port.state c.args.port.now)) c.args.trail.now c.args.lit c.args.place × (c.args.place ≤ length (list_at c.set_blocker.new.self.rows c.args.lit))
 blocked g c =
-    blocked_visiting c.args.self.now record { vars = c.self.inside.vars; slots = c.self.inside.slots.items; lists = ListsOf c.self.inside.lists; settled = c.self.inside.settled } (lits_at (g.P.Port.state c.args.port.now)) c.args.trail.now c.args.lit c.args.place c.in-Blocked.entry (ListsOf c.set_blocker.new.lists) c.self.view_is c.present-level.ensures.trail c.requires.there c.requires.visiting c.in-Blocked.ensures.verdict c.set_blocker.ensures
+    blocked_visiting c.args.self.now record { vars = c.self.inside.vars; slots = c.self.inside.slots.items; lists = c.self.inside.lists.rows; rooms = c.self.inside.lists.rooms; size = c.self.inside.lists.size; settled = c.self.inside.settled } (lits_at (g.P.Port.state c.args.port.now)) c.args.trail.now c.args.lit c.args.place c.in-Blocked.entry c.set_blocker.new.self.rows c.set_blocker.new.self.rooms c.set_blocker.new.self.size c.self.view_is c.present-level.ensures.trail c.requires.there c.requires.visiting c.in-Blocked.ensures.verdict c.set_blocker.ensures
 
 pub returns-in-Blocked-clause-visited : goal.returns-in-Blocked-clause-visited
 returns-in-Blocked-clause-visited g c = blocked g c
@@ -121,7 +121,7 @@ returns-in-Forced-clause-visited g c = (forced g c, (let q = c.requires.there in
 pub returns-in-Stale-clause-kept : goal.returns-in-Stale-clause-kept
 returns-in-Stale-clause-kept g c =
     advanced_watches (g.P.Port.state c.args.port.now) c.args.self.now _ c.args.trail.now (ap attached c.self.view_is) (ap (λ (w : WatchData). w.vars) c.self.view_is) c.requires.reasons
-    (stale_visiting c.args.self.now record { vars = c.self.inside.vars; slots = c.self.inside.slots.items; lists = ListsOf c.self.inside.lists; settled = c.self.inside.settled } (lits_at (g.P.Port.state c.args.port.now)) c.args.trail.now c.args.lit c.args.place (ListsOf c.take_from.new.lists) c.self.view_is c.requires.there c.requires.visiting c.in-Stale.ensures.verdict c.take_from.ensures).0.watched
+    (stale_visiting c.args.self.now record { vars = c.self.inside.vars; slots = c.self.inside.slots.items; lists = c.self.inside.lists.rows; rooms = c.self.inside.lists.rooms; size = c.self.inside.lists.size; settled = c.self.inside.settled } (lits_at (g.P.Port.state c.args.port.now)) c.args.trail.now c.args.lit c.args.place c.take.new.self.rows c.take.new.self.rooms c.take.new.self.size c.self.view_is c.requires.there c.requires.visiting c.in-Stale.ensures.verdict c.take.ensures).0.watched
 
 pub returns-in-Settled-clause-kept : goal.returns-in-Settled-clause-kept
 returns-in-Settled-clause-kept g c = advanced_none (g.P.Port.state c.args.port.now) c.args.self.now c.args.trail.now c.requires.reasons c.requires.visiting.watched

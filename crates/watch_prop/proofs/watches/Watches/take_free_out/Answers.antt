@@ -1,4 +1,4 @@
-use Rattle.std.proofs.Common.{arith, rules, ◌^◌, ◌≡◌, ℕ, List, [], Option, Some, ap, refl, subst, ◌∙◌, Contains}
+use Rattle.std.proofs.Common.{arith, rules, ◌^◌, ◌≡◌, ℕ, List, [], Option, Some, ap, refl, subst, sum, ◌∙◌, Contains}
 use Rattle.std.specs.List.{filter, filter_map}
 use Rattle.std.specs.Option.{is_some}
 use Rattle.std.proofs.lemmas.Fn.{filter_same}
@@ -8,30 +8,30 @@ use Rattle.watch_prop.specs.declared.watch.Watch.{Watch}
 use Rattle.watch_prop.specs.declared.watch.Watcher.{Watcher}
 use Rattle.watch_prop.specs.WatchData.{WatchData, clause_in, watchers_at}
 use Rattle.watch_prop.specs.Watched.{At}
-use Rattle.watch_prop.specs.Lists.{ListsOf}
 use Rattle.watch_prop.specs.Detaching.{Compacted}
 use Rattle.watch_prop.proofs.Slots.{clauses-kept, HasFree-none, kept-within}
-use Rattle.watch_prop.proofs.watches.Watches.compact.Goals as goal
+use Rattle.watch_prop.proofs.watches.Watches.take_free_out.Goals as goal
 
 -- a slot that is kept was there before
 kept : (ws : List (Option Watch)) (i : ℕ) (s : Watch) → At (filter is_some ws) i (Some s) → Contains ws (Some s)
 kept ws i s at = subst (λ (o : Option Watch). Contains ws o) at.1 (All-filter is_some (Contains ws) ws (All-contains_itself ws) i (Some s) at.0)
 
-compacted : (v w : WatchData) (ws : List (Option Watch)) (lists : List (List Watcher)) → v ≡ w → ((l : Literal) → watchers_at lists l ≡ []) → ws ≡ filter is_some v.slots → Compacted w record { vars = v.vars; slots = ws; lists = lists; settled = 0 }
-compacted v w ws lists e none q = subst (λ (x : WatchData). Compacted x record { vars = v.vars; slots = ws; lists = lists; settled = 0 }) e record {
+compacted : (v w : WatchData) (ws : List (Option Watch)) (lists : List (List Watcher)) (rooms : List ℕ) (size : ℕ) → v ≡ w → ((l : Literal) → watchers_at lists l ≡ []) → size ≡ sum rooms → ws ≡ filter is_some v.slots → Compacted w record { vars = v.vars; slots = ws; lists = lists; rooms = rooms; size = size; settled = 0 }
+compacted v w ws lists rooms size e none closed q = subst (λ (x : WatchData). Compacted x record { vars = v.vars; slots = ws; lists = lists; rooms = rooms; size = size; settled = 0 }) e record {
   vars = refl;
   settled = refl;
   empty = none;
+  closed = closed;
   attached = ap (λ (xs : List (Option Watch)). filter_map clause_in xs) q ∙ clauses-kept v.slots is_some (λ s. refl);
   full = (let n = HasFree-none v.slots ws q in omega (arith, n));
   only = λ i s at. kept v.slots i s (subst (λ (xs : List (Option Watch)). At xs i (Some s)) q at);
 }
 
 pub returns : goal.returns
-returns c = compacted record { vars = c.self.inside.vars; slots = c.self.inside.slots.items; lists = ListsOf c.self.inside.lists; settled = c.self.inside.settled } c.args.self.now c.retain.new.self.items (ListsOf c.clear_lists.new.lists) c.self.view_is c.clear_lists.ensures.empty (filter_same _ is_some _ (λ x b f k. search rules) _ _ c.retain.ensures.filtered)
+returns c = compacted record { vars = c.self.inside.vars; slots = c.self.inside.slots.items; lists = c.self.inside.lists.rows; rooms = c.self.inside.lists.rooms; size = c.self.inside.lists.size; settled = c.self.inside.settled } c.args.self.now c.retain.new.self.items c.close_up.new.self.rows c.close_up.new.self.rooms c.close_up.new.self.size c.self.view_is c.close_up.ensures.empty c.close_up.ensures.closed (filter_same _ is_some _ (λ x b f k. search rules) _ _ c.retain.ensures.filtered)
 
 pub invariant_of-self : goal.invariant_of-self
 invariant_of-self c =
     let i = c.self.invariant in
     let kept = filter_same _ is_some _ (λ x b f k. search rules) _ _ c.retain.ensures.filtered in
-    (i.0, c.clear_lists.ensures.len ∙ i.1, HasFree-none c.self.inside.slots.items c.retain.new.self.items kept, kept-within c.self.inside.slots.items c.retain.new.self.items (2 ^ 32) kept i.3)
+    (i.0, c.close_up.ensures.len ∙ i.1, HasFree-none c.self.inside.slots.items c.retain.new.self.items kept, kept-within c.self.inside.slots.items c.retain.new.self.items (2 ^ 32) kept i.3)

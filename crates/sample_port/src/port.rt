@@ -13,7 +13,10 @@ pub struct SamplePort {
     /// 1: the first clause was learned last; 2: it was offered; 3: as many lemmas were learned as a reduction needs. At any
     /// other, 0 for one, nothing was learned.
     pub stage: u8,
+    /// How often a clause was looked at: the calls of `head` and `read_lit`, at most 2^64 - 1.
+    pub loads: u64,
 }
+
 
 fn other_stop() -> Stop
     ensures { Some result ≡ sample_state.stop }
@@ -49,6 +52,7 @@ impl Port for SamplePort {
     }
 
     fn head(&mut self, c: Cref) -> Head {
+        self.loads = self.loads.saturating_add(1);
         let at = c.address;
         if at == 1 {
             sample_head(2, 1)
@@ -60,6 +64,7 @@ impl Port for SamplePort {
     }
 
     fn read_lit(&mut self, c: Cref, i: u32) -> Lit {
+        self.loads = self.loads.saturating_add(1);
         let at = c.address;
         if at == 1 {
             pick(&[Lit::new(1, true), Lit::new(2, false)], i)

@@ -1,5 +1,5 @@
 -- What is kept while a clause is detached, and while slots are compacted.
-use Rattle.std.proofs.Common.{◌≡◌, ◌≢◌, ℕ, ◌<◌, ◌≤◌, ◌+◌, true, List, length, get_or, take, Some, None, sym, refl, ap, subst, ◌∙◌, inl, inr, arith, Contains}
+use Rattle.std.proofs.Common.{[], ◌≡◌, ◌≢◌, ℕ, ◌<◌, ◌≤◌, ◌+◌, true, List, length, get_or, take, Some, None, sym, refl, ap, subst, ◌∙◌, inl, inr, arith, Contains}
 use Rattle.std.proofs.Math.ListN.{set}
 use Rattle.std.proofs.lemmas.Bool.{cases_lt}
 use Rattle.std.proofs.lemmas.List.{length-set, take_all}
@@ -102,13 +102,17 @@ left-end w v a l left i s at side h e = absurd (let z = (left i s at h e).1 in o
 
 -- Compacting
 
-pub Watched-compacted : (w x : WatchData) (h : Lits) (t : TrailData) → Compacted w x → Watched w h t → Watched x h t
-Watched-compacted w x h t c k = record {
-  vars = k.vars ∙ sym c.vars;
-  few = omega (arith, c.settled);
-  clauses = λ i s at. let m = c.only i s at in subst (λ (n : ℕ). IsAttachable n (h s.clause.address)) (sym c.vars) (k.clauses m.0 s (m.1, m.2));
-  pairs = λ i s at. let m = c.only i s at in k.pairs m.0 s (m.1, m.2);
-  settled = λ i s small at. absurd (omega (arith, c.settled));
-  blocking = λ l y there. absurd (let z = there.1 in omega (arith, z, ap (λ (ys : List Watcher). length ys) (c.empty l)));
+-- nothing is settled, and nothing is listed
+pub Watched-unlisted : (w x : WatchData) (h : Lits) (t : TrailData) → x.vars ≡ w.vars → x.settled ≡ 0 → ((l : Literal) → watchers_at x.lists l ≡ []) → ((i : ℕ) (s : Watch) → At x.slots i (Some s) → Contains w.slots (Some s)) → Watched w h t → Watched x h t
+Watched-unlisted w x h t vars settled empty only k = record {
+  vars = k.vars ∙ sym vars;
+  few = omega (arith, settled);
+  clauses = λ i s at. let m = only i s at in subst (λ (n : ℕ). IsAttachable n (h s.clause.address)) (sym vars) (k.clauses m.0 s (m.1, m.2));
+  pairs = λ i s at. let m = only i s at in k.pairs m.0 s (m.1, m.2);
+  settled = λ i s small at. absurd (omega (arith, settled));
+  blocking = λ l y there. absurd (let z = there.1 in omega (arith, z, ap (λ (ys : List Watcher). length ys) (empty l)));
   fresh = k.fresh;
 }
+
+pub Watched-compacted : (w x : WatchData) (h : Lits) (t : TrailData) → Compacted w x → Watched w h t → Watched x h t
+Watched-compacted w x h t c k = Watched-unlisted w x h t c.vars c.settled c.empty c.only k

@@ -287,7 +287,7 @@ laid-out-none ss = record {
 }
 
 -- they are laid in a vector that ends with the last
-pub laid-out : (xs : List Watcher) (ss : List Stretch) (n end : ℕ) → n ≡ length ss → AreLaidOut ss n end → end ≡ length xs → AreLaid xs ss
+pub laid-out : (xs : List Watcher) (ss : List Stretch) (n end : ℕ) → n ≡ length ss → AreLaidOut ss n end → end ≤ length xs → AreLaid xs ss
 laid-out xs ss n end e o size = record {
   few = λ i s at. (let z = o.empty i s (let q = at.0 in omega arith) at in omega arith);
   inside = λ i s at. (let z = o.before i s (let q = at.0 in omega arith) at in omega arith);

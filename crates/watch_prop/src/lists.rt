@@ -1,13 +1,13 @@
 //! The lists of watchers, one for each literal at its code, in one vector (the layout of Gimsatul's and Kissat's watches). A
 //! list has a stretch of the vector with room for more; one without room moves to the end of the vector, where it gets twice the
 //! room. No change of one list may touch another, and no watcher may be left behind.
-ghost use Rattle.std.specs.Prelude.{◌≡◌, ◌<◌, ◌≤◌, ◌^◌, ◌++◌, ◌∷◌, [], IfOk, OnOk, OnErr, Contains, length, sum, slice_index, slice_index_or, slice_set};
+ghost use Rattle.std.specs.Prelude.{◌≡◌, ◌<◌, ◌≤◌, ◌^◌, ◌++◌, ◌∷◌, ◌↔◌, [], IfOk, OnOk, OnErr, IsTrue, Contains, length, sum, slice_index, slice_index_or, slice_set};
 ghost use Rattle.sat_words.specs.Literal.{Literal, code_of};
 ghost use Rattle.watch_prop.specs.WatchData.{watchers_at, list_at};
 ghost use Rattle.watch_prop.specs.Lists.{Added, Removed, Reblocked};
 ghost use Rattle.watch_prop.specs.Layout.{HasRoom, AreLaidOut};
 
-use crate::watch::Watcher;
+use crate::watch::{Watch, Watcher};
 use sat_words::Lit;
 use std::alloc::{AllocError, Global};
 use std::marker::Model;
@@ -139,6 +139,30 @@ impl Lists {
         self.watchers.truncate(end);
     }
 
+    /// Whether the vector is empty, so that no list has a place in it.
+    pub(crate) fn is_empty(&self) -> bool
+        ensures { IsTrue result ↔ (self.now.size ≡ 0) }
+    {
+        self.watchers.is_empty()
+    }
+
+    /// Empties all lists and gives each room for the watches of these slots, if there is memory for them; a list without room
+    /// gets it later.
+    pub(crate) fn make_ready(&mut self, slots: &[Option<Watch>])
+        ensures len { length self.new.rows ≡ length self.old.rows }
+        ensures empty { (l : Literal) → watchers_at self.new.rows l ≡ [] }
+    {
+        count_watches(&mut self.stretches, slots);
+        let end = lay_out(&mut self.stretches, MOST_WATCHERS);
+        let filler = Watcher {
+            slot: 0,
+            blocker: Lit::new(1, false),
+        };
+        if self.watchers.resize(end, filler).is_err() {
+            lay_out(&mut self.stretches, 0);
+        }
+    }
+
     /// Makes room for one more watcher in a list.
     fn make_room(&mut self, code: usize) -> Result<(), AllocError>
         requires { code < length self.old.rows }
@@ -194,6 +218,31 @@ impl Lists {
             len: stretch.len + 1,
             room: stretch.room,
         };
+    }
+}
+
+/// Counts a watch of a literal.
+fn count_watch(stretches: &mut Vec<Stretch>, lit: Lit)
+    ensures { length stretches.new.items ≡ length stretches.old.items }
+{
+    let code = lit.code() as usize;
+    if code < stretches.len() {
+        stretches[code].len = stretches[code].len.saturating_add(1);
+    }
+}
+
+/// Counts the watches of each literal.
+fn count_watches(stretches: &mut Vec<Stretch>, slots: &[Option<Watch>])
+    ensures { length stretches.new.items ≡ length stretches.old.items }
+{
+    for slot in slots {
+        match slot {
+            None => {}
+            Some(watch) => {
+                count_watch(stretches, watch.first);
+                count_watch(stretches, watch.second);
+            }
+        }
     }
 }
 

@@ -14,12 +14,12 @@ use sat_words::{Cref, Lit};
 use std::alloc::AllocError;
 use std::test::Fail;
 
-/// Makes a literal true at level 0, whose unit is seen, and propagates.
+/// Makes a literal true at level 0, whose unit is seen, and propagates. Tells how often a clause was looked at, too.
 fn propagate_unit(
     watches: &mut Watches,
     trail: &mut Trail,
     lit: Lit,
-) -> Result<Propagated, AllocError>
+) -> Result<(Propagated, u64), AllocError>
     requires watched { Watched watches.old (lits_at sample_state) trail.old }
     requires level { trail.old.level ≡ 0 }
     requires reasons { HasReasons (attached watches.old) sample_state trail.old.steps }
@@ -33,7 +33,9 @@ fn propagate_unit(
 {
     let _lawful = trail.present();
     trail.assign(lit, None);
-    watches.propagate(&mut SamplePort { stage: 0 }, trail)
+    let mut port = SamplePort { stage: 0, loads: 0 };
+    let outcome = watches.propagate(&mut port, trail)?;
+    Ok((outcome, port.loads))
 }
 
 // Decided as units, 1 gives 2 by the first clause, and then 4 makes one of the two long clauses false.
@@ -41,44 +43,48 @@ fn propagate_unit(
 fn two_units(rt: HostRuntime) -> Result<(), Fail> {
     let mut watches = Watches::new(rt.alloc(), 5)?;
     let mut trail = Trail::new(rt.alloc(), 5)?;
-    watches.attach(&mut SamplePort { stage: 0 }, &trail, Cref { address: 1 })?;
-    watches.attach(&mut SamplePort { stage: 0 }, &trail, Cref { address: 2 })?;
-    watches.attach(&mut SamplePort { stage: 0 }, &trail, Cref { address: 3 })?;
+    watches.attach(
+        &mut SamplePort { stage: 0, loads: 0 },
+        &trail,
+        Cref { address: 1 },
+    )?;
+    watches.attach(
+        &mut SamplePort { stage: 0, loads: 0 },
+        &trail,
+        Cref { address: 2 },
+    )?;
+    watches.attach(
+        &mut SamplePort { stage: 0, loads: 0 },
+        &trail,
+        Cref { address: 3 },
+    )?;
     assert_eq!(rt; trail.value(1), None);
-    assert_eq!(rt;
-        propagate_unit(&mut watches, &mut trail, Lit::new(1, false))?,
-        Propagated::Quiet
+    assert!(rt;
+        propagate_unit(&mut watches, &mut trail, Lit::new(1, false))?.0 == Propagated::Quiet
     );
     assert_eq!(rt; trail.value(2), Some(true));
     assert_eq!(rt; trail.value(4), None);
     let outcome = propagate_unit(&mut watches, &mut trail, Lit::new(4, false))?;
-    assert!(rt; outcome != Propagated::Quiet);
+    assert!(rt; outcome.0 != Propagated::Quiet);
     assert_eq!(rt; trail.present(), 0);
     Ok(())
 }
 
-// Without the first clause, 1 gives nothing, and then 4 gives 5 by the second and -2 by the third.
+// 1 gives 2 by a clause of two literals, at which nobody looks again once it is attached.
 #[test]
-fn detached(rt: HostRuntime) -> Result<(), Fail> {
+fn two_literals_without_a_look(rt: HostRuntime) -> Result<(), Fail> {
     let mut watches = Watches::new(rt.alloc(), 5)?;
     let mut trail = Trail::new(rt.alloc(), 5)?;
-    watches.attach(&mut SamplePort { stage: 0 }, &trail, Cref { address: 1 })?;
-    watches.attach(&mut SamplePort { stage: 0 }, &trail, Cref { address: 2 })?;
-    watches.attach(&mut SamplePort { stage: 0 }, &trail, Cref { address: 3 })?;
-    watches.detach(&mut SamplePort { stage: 0 }, Cref { address: 1 });
+    watches.attach(
+        &mut SamplePort { stage: 0, loads: 0 },
+        &trail,
+        Cref { address: 1 },
+    )?;
     assert_eq!(rt; trail.value(1), None);
-    assert_eq!(rt;
-        propagate_unit(&mut watches, &mut trail, Lit::new(1, false))?,
-        Propagated::Quiet
-    );
-    assert_eq!(rt; trail.value(2), None);
-    assert_eq!(rt; trail.value(4), None);
-    assert_eq!(rt;
-        propagate_unit(&mut watches, &mut trail, Lit::new(4, false))?,
-        Propagated::Quiet
-    );
-    assert_eq!(rt; trail.value(5), Some(true));
-    assert_eq!(rt; trail.value(2), Some(false));
+    let outcome = propagate_unit(&mut watches, &mut trail, Lit::new(1, false))?;
+    assert!(rt; outcome.0 == Propagated::Quiet);
+    assert_eq!(rt; outcome.1, 0);
+    assert_eq!(rt; trail.value(2), Some(true));
     Ok(())
 }
 
@@ -87,25 +93,39 @@ fn detached(rt: HostRuntime) -> Result<(), Fail> {
 fn attached_again(rt: HostRuntime) -> Result<(), Fail> {
     let mut watches = Watches::new(rt.alloc(), 5)?;
     let mut trail = Trail::new(rt.alloc(), 5)?;
-    watches.attach(&mut SamplePort { stage: 0 }, &trail, Cref { address: 1 })?;
-    watches.attach(&mut SamplePort { stage: 0 }, &trail, Cref { address: 2 })?;
-    watches.attach(&mut SamplePort { stage: 0 }, &trail, Cref { address: 3 })?;
-    watches.detach(&mut SamplePort { stage: 0 }, Cref { address: 1 });
-    watches.detach(&mut SamplePort { stage: 0 }, Cref { address: 2 });
+    watches.attach(
+        &mut SamplePort { stage: 0, loads: 0 },
+        &trail,
+        Cref { address: 1 },
+    )?;
+    watches.attach(
+        &mut SamplePort { stage: 0, loads: 0 },
+        &trail,
+        Cref { address: 2 },
+    )?;
+    watches.attach(
+        &mut SamplePort { stage: 0, loads: 0 },
+        &trail,
+        Cref { address: 3 },
+    )?;
+    watches.detach(&mut SamplePort { stage: 0, loads: 0 }, Cref { address: 1 });
+    watches.detach(&mut SamplePort { stage: 0, loads: 0 }, Cref { address: 2 });
     assert_eq!(rt; trail.value(1), None);
-    assert_eq!(rt;
-        propagate_unit(&mut watches, &mut trail, Lit::new(1, false))?,
-        Propagated::Quiet
+    assert!(rt;
+        propagate_unit(&mut watches, &mut trail, Lit::new(1, false))?.0 == Propagated::Quiet
     );
     assert_eq!(rt; trail.value(4), None);
-    assert_eq!(rt;
-        propagate_unit(&mut watches, &mut trail, Lit::new(4, false))?,
-        Propagated::Quiet
+    assert!(rt;
+        propagate_unit(&mut watches, &mut trail, Lit::new(4, false))?.0 == Propagated::Quiet
     );
     assert_eq!(rt; trail.value(5), None);
-    watches.attach(&mut SamplePort { stage: 0 }, &trail, Cref { address: 1 })?;
+    watches.attach(
+        &mut SamplePort { stage: 0, loads: 0 },
+        &trail,
+        Cref { address: 1 },
+    )?;
     assert_eq!(rt;
-        watches.propagate(&mut SamplePort { stage: 0 }, &mut trail)?,
+        watches.propagate(&mut SamplePort { stage: 0, loads: 0 }, &mut trail)?,
         Propagated::Quiet
     );
     assert_eq!(rt; trail.value(2), Some(true));
@@ -120,8 +140,12 @@ fn come_and_go(watches: &mut Watches, trail: &Trail, count: u32) -> Result<(), A
     ensures watched { Watched watches.new (lits_at sample_state) trail.now }
 {
     for _ in 0..count {
-        watches.attach(&mut SamplePort { stage: 0 }, trail, Cref { address: 3 })?;
-        watches.detach(&mut SamplePort { stage: 0 }, Cref { address: 3 });
+        watches.attach(
+            &mut SamplePort { stage: 0, loads: 0 },
+            trail,
+            Cref { address: 3 },
+        )?;
+        watches.detach(&mut SamplePort { stage: 0, loads: 0 }, Cref { address: 3 });
     }
     Ok(())
 }
@@ -132,19 +156,25 @@ fn come_and_go(watches: &mut Watches, trail: &Trail, count: u32) -> Result<(), A
 fn compacted(rt: HostRuntime) -> Result<(), Fail> {
     let mut watches = Watches::new(rt.alloc(), 5)?;
     let mut trail = Trail::new(rt.alloc(), 5)?;
-    watches.attach(&mut SamplePort { stage: 0 }, &trail, Cref { address: 1 })?;
-    watches.attach(&mut SamplePort { stage: 0 }, &trail, Cref { address: 2 })?;
+    watches.attach(
+        &mut SamplePort { stage: 0, loads: 0 },
+        &trail,
+        Cref { address: 1 },
+    )?;
+    watches.attach(
+        &mut SamplePort { stage: 0, loads: 0 },
+        &trail,
+        Cref { address: 2 },
+    )?;
     come_and_go(&mut watches, &trail, 40)?;
     assert_eq!(rt; trail.value(1), None);
-    assert_eq!(rt;
-        propagate_unit(&mut watches, &mut trail, Lit::new(1, false))?,
-        Propagated::Quiet
+    assert!(rt;
+        propagate_unit(&mut watches, &mut trail, Lit::new(1, false))?.0 == Propagated::Quiet
     );
     assert_eq!(rt; trail.value(2), Some(true));
     assert_eq!(rt; trail.value(4), None);
-    assert_eq!(rt;
-        propagate_unit(&mut watches, &mut trail, Lit::new(4, false))?,
-        Propagated::Quiet
+    assert!(rt;
+        propagate_unit(&mut watches, &mut trail, Lit::new(4, false))?.0 == Propagated::Quiet
     );
     assert_eq!(rt; trail.value(5), Some(true));
     Ok(())

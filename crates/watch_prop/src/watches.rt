@@ -156,10 +156,33 @@ impl Watches {
         self.take_free_out();
     }
 
+    /// Takes the free slots out where they are many, and gives the lists room where they have none yet.
+    fn tidy(&mut self)
+        ensures attached { attached self.new ≡ attached self.old }
+        ensures vars { self.new.vars ≡ self.old.vars }
+        ensures watched { (lits : Lits) (t : TrailData) → Watched self.old lits t → Watched self.new lits t }
+        ensures few { length self.new.slots ≤ 2 * length (attached self.new) + length self.new.lists }
+    {
+        self.thin_out();
+        self.make_ready();
+    }
+
+    /// Gives the lists room for all clauses, where none was ever listed.
+    fn make_ready(&mut self)
+        ensures slots { self.new.slots ≡ self.old.slots }
+        ensures vars { self.new.vars ≡ self.old.vars }
+        ensures lists { length self.new.lists ≡ length self.old.lists }
+        ensures watched { (lits : Lits) (t : TrailData) → Watched self.old lits t → Watched self.new lits t }
+    {
+        if self.settled == 0 && self.lists.is_empty() {
+            self.lists.make_ready(self.slots.as_slice());
+        }
+    }
+
     /// Takes the free slots out where they outnumber the others and the lists. All clauses wait then.
     ///
     /// So the clauses and the lists that are gone through again are fewer than the clauses detached since the last time.
-    fn tidy(&mut self)
+    fn thin_out(&mut self)
         ensures attached { attached self.new ≡ attached self.old }
         ensures vars { self.new.vars ≡ self.old.vars }
         ensures watched { (lits : Lits) (t : TrailData) → Watched self.old lits t → Watched self.new lits t }

@@ -1,5 +1,4 @@
-use Rattle.std.proofs.Common.{arith}
 use Rattle.watch_prop.proofs.watches.Watches.tidy.Goals as goal
 
-pub returns-then-saturating_sub-count-clause-few : goal.returns-then-saturating_sub-count-clause-few
-returns-then-saturating_sub-count-clause-few c = omega (arith, c.take_free_out.ensures.full)
+pub returns-clause-watched : goal.returns-clause-watched
+returns-clause-watched c h t k = c.make_ready.ensures.watched h t (c.thin_out.ensures.watched h t k)

@@ -1,5 +1,5 @@
 -- What dropping one lemma after the other leaves.
-use Rattle.std.proofs.Common.{◌≡◌, ◌≢◌, ◌∙◌, ◌||◌, ◌==◌, ℕ, zero, suc, ◌<◌, ◌+◌, Bool, true, false, not, cond, List, [], ◌∷◌, ◌++◌, length, take, get_or, All, Contains, Option, Some, sym, refl, ap, subst, inl, inr, arith}
+use Rattle.std.proofs.Common.{map, ◌≡◌, ◌≢◌, ◌∙◌, ◌||◌, ◌==◌, ℕ, zero, suc, ◌<◌, ◌+◌, Bool, true, false, not, cond, List, [], ◌∷◌, ◌++◌, length, take, get_or, All, Contains, Option, Some, sym, refl, ap, subst, inl, inr, arith}
 use Rattle.std.specs.List.{filter}
 use Rattle.std.specs.Option.{option_map, option_map_or}
 use Rattle.std.proofs.lemmas.Bool.{true≢false}
@@ -19,6 +19,7 @@ use Rattle.ring_trail.specs.Reasoned.{IsSeen}
 use Rattle.ring_trail.specs.Closed.{IsClosed}
 use Rattle.watch_prop.specs.WatchData.{WatchData, Lits, attached, without, clauses_of}
 use Rattle.watch_prop.specs.Watched.{Watched}
+use Rattle.watch_prop.specs.Propagation.{HasReasons}
 use Rattle.watch_prop.proofs.TrailLaws.{Watched-port, Reasons-more}
 use Rattle.watch_prop.proofs.DetachingLaws.{without-others, Reasons-without, Closed-at}
 use Rattle.reduce_db.specs.Lemmas.{AreDistinct}
@@ -187,6 +188,19 @@ ready_again s q r v w x t a b = record {
   closed = λ k h. b.closed k (a.closed k h);
   quiet = λ h. b.quiet (a.quiet h);
 }
+
+-- the same is attached in another form
+pub ready_compacted : (s : PortState) (w x : WatchData) (t : TrailData) → x.vars ≡ w.vars → attached x ≡ attached w → (Watched w (lits_at s) t → Watched x (lits_at s) t) → StaysReady s s w x t
+ready_compacted s w x t vars e good =
+    let closed : (k : ℕ) → IsClosed (clauses_of w (lits_at s)) t.steps k → IsClosed (clauses_of x (lits_at s)) t.steps k
+    = λ k h. subst (λ (cs : List Cref). IsClosed (map (λ (c : Cref). lits_at s c.address) cs) t.steps k) (sym e) h in
+    record {
+      vars = vars;
+      watched = good;
+      reasons = λ h. subst (λ (cs : List Cref). HasReasons cs s t.steps) (sym e) h;
+      closed = closed;
+      quiet = λ h. record { done = h.done; closed = λ k. closed k (h.closed k) };
+    }
 
 pub ready_dropped : (s r : PortState) (w x : WatchData) (t : TrailData) (a : ℕ) → DroppedOnce s r a → is_reason t.steps a ≡ false → x.vars ≡ w.vars → attached x ≡ without (attached w) a → Watched x (lits_at s) t → StaysReady s r w x t
 ready_dropped s r w x t a k free vars e good = record {

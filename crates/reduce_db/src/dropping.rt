@@ -1,4 +1,4 @@
-// Dropping lemmas: each is detached, and then held once less.
+// Dropping lemmas: each is detached, and then held once less. At the end the lists of watches are closed up.
 ghost use Rattle.std.specs.Prelude.{◌≡◌, false, All, IsSome, OnOk, IfErr};
 ghost use Rattle.sat_words.specs.declared.shared.Cref.{Cref};
 ghost use Rattle.ring_port.specs.PortState.{IsPort, held_at, lits_at};
@@ -41,5 +41,6 @@ pub(crate) fn drop_each<P: Port>(
         watches.detach(port, *c);
         port.drop_clause(*c)?;
     }
+    watches.compact();
     Ok(())
 }

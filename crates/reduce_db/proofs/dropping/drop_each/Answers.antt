@@ -4,12 +4,12 @@ use Rattle.std.proofs.lemmas.Result.{err_from_is_err_and}
 use Rattle.ring_port.specs.declared.stops.PortStop.{PortStop}
 use Rattle.ring_port.specs.declared.stops.PortStop.TheVariants.{Memory}
 use Rattle.sat_words.specs.declared.shared.Cref.{Cref}
-use Rattle.ring_port.specs.PortState.{PortState, held_at}
+use Rattle.ring_port.specs.PortState.{PortState, held_at, lits_at}
 use Rattle.ring_port.specs.Deleting.{DroppedOnce}
 use Rattle.watch_prop.specs.WatchData.{attached, without}
 use Rattle.reduce_db.specs.Dropping.{DroppedAll}
 use Rattle.reduce_db.specs.Reduction.{WasCutShort}
-use Rattle.reduce_db.proofs.Drops.{dropped_none, dropped_more, held_yet, take_among, without_next, without_first, ready_same, ready_again, ready_dropped}
+use Rattle.reduce_db.proofs.Drops.{dropped_none, dropped_more, held_yet, take_among, without_next, without_first, ready_same, ready_again, ready_dropped, ready_compacted}
 use Rattle.reduce_db.proofs.dropping.drop_each.Goals as goal
 
 abbrev no_cref : Cref
@@ -67,3 +67,10 @@ loop-c-preserved g c =
       log = λ o h. c.in_ok-drop_clause.ensures.log o (subst (Rattle.ring_port.specs.Log.StandsOver o) (sym c.detach.ensures.same) (c.loop-c.invariant.log o h));
       port = c.in_ok-drop_clause.ensures.port;
     }
+
+pub returns-clause-ready : goal.returns-clause-ready
+returns-clause-ready g c =
+    let s = g.P.Port.state c.loop-c.port in
+    let t = c.args.trail.now in
+    ready_again (g.P.Port.state c.args.port.now) s s c.args.watches.now c.loop-c.watches c.compact.new.self t c.loop-c.invariant.ready
+    (ready_compacted s c.loop-c.watches c.compact.new.self t c.compact.ensures.vars c.compact.ensures.attached (c.compact.ensures.watched (lits_at s) t))

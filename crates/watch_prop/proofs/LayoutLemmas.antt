@@ -6,7 +6,7 @@ use Rattle.std.proofs.lemmas.Bool.{cases_lt}
 use Rattle.std.proofs.lemmas.List.{length-set, get_or-set_same, get_or-set_other, length-take-le, length-take, length-drop, length-append, get_or-take, get_or-drop, get_or_default, get_or_append_left, get_or_push, same_lists, map-set, get_or-map, set-get_or, length-map, get_or_past, take-set, take_all}
 use Rattle.std.proofs.lemmas.List.Sums.{sum_by_more, sum-map}
 use Rattle.watch_prop.specs.declared.watch.Watcher.{Watcher}
-use Rattle.watch_prop.specs.declared.lists.Stretch.{Stretch}
+use Rattle.watch_prop.specs.declared.stretches.Stretch.{Stretch}
 use Rattle.watch_prop.specs.Watched.{At}
 use Rattle.sat_words.specs.Literal.{Literal, code_of}
 use Rattle.watch_prop.specs.WatchData.{watchers_at, list_at}

@@ -2,7 +2,7 @@
 use Rattle.std.specs.Prelude.{◌≡◌, ◌≢◌, ℕ, ◌<◌, ◌≤◌, ◌+◌, ◌⊎◌, List, [], length, map, take, drop}
 use Rattle.std.specs.List.{slice_index_or, sum_by}
 use Rattle.watch_prop.specs.declared.watch.Watcher.{Watcher}
-use Rattle.watch_prop.specs.declared.lists.Stretch.{Stretch}
+use Rattle.watch_prop.specs.declared.stretches.Stretch.{Stretch}
 use Rattle.watch_prop.specs.Watched.{At}
 
 -- the lists, for how many watchers each has room, and how long the vector is

@@ -1,12 +1,13 @@
-//! The lists of watchers, one for each literal at its code, in one vector (the layout of Gimsatul's and Kissat's watches). A
-//! list has a stretch of the vector with room for more; one without room moves to the end of the vector, where it gets twice the
-//! room. No change of one list may touch another, and no watcher may be left behind.
+//! The lists of watchers, one for each literal at its code, in one vector, as Kissat keeps its watches (Biere and others 2020).
+//! A list has a stretch of the vector with room for more; one without room moves to the end of the vector, where it gets twice
+//! the room. No change of one list may touch another, and no watcher may be left behind.
 ghost use Rattle.std.specs.Prelude.{◌≡◌, ◌<◌, ◌≤◌, ◌^◌, ◌++◌, ◌∷◌, ◌↔◌, [], IfOk, OnOk, OnErr, IsTrue, Contains, length, sum, slice_index, slice_index_or, slice_set};
 ghost use Rattle.sat_words.specs.Literal.{Literal, code_of};
 ghost use Rattle.watch_prop.specs.WatchData.{watchers_at, list_at};
 ghost use Rattle.watch_prop.specs.Lists.{Added, Removed, Reblocked};
-ghost use Rattle.watch_prop.specs.Layout.{HasRoom, AreLaidOut};
+ghost use Rattle.watch_prop.specs.Layout.{HasRoom};
 
+use crate::stretches::{Stretch, count_watches, lay_out};
 use crate::watch::{Watch, Watcher};
 use sat_words::Lit;
 use std::alloc::{AllocError, Global};
@@ -16,14 +17,6 @@ use std::marker::Model;
 const LEAST_ROOM: usize = 4;
 /// More watchers than this are not kept: there is no memory for them.
 const MOST_WATCHERS: usize = 1 << 40;
-
-/// Where a list stands in the vector, how many watchers it has, and for how many there is room.
-#[derive(Clone, Copy)]
-pub(crate) struct Stretch {
-    pub(crate) start: usize,
-    pub(crate) len: usize,
-    pub(crate) room: usize,
-}
 
 /// The watchers of all literals.
 #[derive(Drop)]
@@ -154,11 +147,7 @@ impl Lists {
     {
         count_watches(&mut self.stretches, slots);
         let end = lay_out(&mut self.stretches, MOST_WATCHERS);
-        let filler = Watcher {
-            slot: 0,
-            blocker: Lit::new(1, false),
-        };
-        if self.watchers.resize(end, filler).is_err() {
+        if self.watchers.resize(end, filler()).is_err() {
             lay_out(&mut self.stretches, 0);
         }
     }
@@ -190,11 +179,7 @@ impl Lists {
         }
         let old = self.stretches[code];
         let room = (2 * old.room).max(LEAST_ROOM);
-        let filler = Watcher {
-            slot: 0,
-            blocker: Lit::new(1, false),
-        };
-        self.watchers.resize(start + room, filler)?;
+        self.watchers.resize(start + room, filler())?;
         self.watchers
             .copy_within(old.start..old.start + old.len, start);
         self.stretches[code] = Stretch {
@@ -221,47 +206,10 @@ impl Lists {
     }
 }
 
-/// Counts a watch of a literal.
-fn count_watch(stretches: &mut Vec<Stretch>, lit: Lit)
-    ensures { length stretches.new.items ≡ length stretches.old.items }
-{
-    let code = lit.code() as usize;
-    if code < stretches.len() {
-        stretches[code].len = stretches[code].len.saturating_add(1);
+/// What stands where no list has a watcher.
+fn filler() -> Watcher {
+    Watcher {
+        slot: 0,
+        blocker: Lit::new(1, false),
     }
-}
-
-/// Counts the watches of each literal.
-fn count_watches(stretches: &mut Vec<Stretch>, slots: &[Option<Watch>])
-    ensures { length stretches.new.items ≡ length stretches.old.items }
-{
-    for slot in slots {
-        match slot {
-            None => {}
-            Some(watch) => {
-                count_watch(stretches, watch.first);
-                count_watch(stretches, watch.second);
-            }
-        }
-    }
-}
-
-/// Lets empty stretches stand one behind the other in a vector of this size, each with as much room as it had watchers, and
-/// tells where the last one ends.
-fn lay_out(stretches: &mut Vec<Stretch>, size: usize) -> usize
-    ensures len { length stretches.new.items ≡ length stretches.old.items }
-    ensures laid { AreLaidOut stretches.new.items (length stretches.new.items) result }
-    ensures inside { result ≤ size }
-{
-    let mut end = 0;
-    for i in 0..stretches.len() {
-        let room = stretches[i].len.min(size - end);
-        stretches[i] = Stretch {
-            start: end,
-            len: 0,
-            room,
-        };
-        end += room;
-    }
-    end
 }

@@ -4,7 +4,7 @@ use Rattle.std.specs.List.{swap_remove}
 use Rattle.std.proofs.lemmas.List.{length-set, get_or-set_same, length-map, get_or_default}
 use Rattle.sat_words.specs.Literal.{Literal, code_of}
 use Rattle.watch_prop.specs.declared.watch.Watcher.{Watcher}
-use Rattle.watch_prop.specs.declared.lists.Stretch.{Stretch}
+use Rattle.watch_prop.specs.declared.stretches.Stretch.{Stretch}
 use Rattle.watch_prop.specs.Watched.{At}
 use Rattle.watch_prop.specs.WatchData.{watchers_at, list_at}
 use Rattle.watch_prop.specs.Lists.{Added, Removed, Reblocked}

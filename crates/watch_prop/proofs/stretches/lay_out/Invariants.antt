@@ -1,6 +1,6 @@
 use Rattle.std.proofs.Common.{◌≡◌, ◌≤◌, length}
 use Rattle.watch_prop.specs.Layout.{AreLaidOut}
-use Rattle.watch_prop.proofs.lists.lay_out.Given as goal
+use Rattle.watch_prop.proofs.stretches.lay_out.Given as goal
 
 abbrev pub invariant-loop-i : goal.invariant-loop-i
 invariant-loop-i l = record {

@@ -167,6 +167,7 @@ impl Lists {
     }
 
     /// Moves a list to the end of the vector, where it has twice the room.
+    #[inline(never)]
     fn move_to_end(&mut self, code: usize) -> Result<(), AllocError>
         requires { code < length self.old.rows }
         ensures rows { self.new.rows ≡ self.old.rows }

@@ -1,9 +1,9 @@
 -- Lists in one vector: what a change of one stretch leaves to the others.
-use Rattle.std.proofs.Common.{◌≡◌, ◌≢◌, ℕ, zero, suc, ◌<◌, ◌≤◌, ◌+◌, ◌-◌, ◌⊎◌, List, [], ◌∷◌, ◌++◌, length, get_or, take, drop, map, sum, sym, refl, ap, subst, ◌∙◌, inl, inr, arith, Contains}
+use Rattle.std.proofs.Common.{◌≡◌, ◌≢◌, ℕ, zero, suc, ◌<◌, ◌≤◌, ◌+◌, ◌-◌, ◌⊎◌, List, [], ◌∷◌, ◌++◌, length, get_or, take, drop, map, sum, sym, refl, ap, subst, ◌∙◌, inl, inr, arith}
 use Rattle.std.proofs.Math.ListN.{set}
 use Rattle.std.specs.List.{swap_remove, sum_by}
 use Rattle.std.proofs.lemmas.Bool.{cases_lt}
-use Rattle.std.proofs.lemmas.List.{length-set, get_or-set_same, get_or-set_other, length-take-le, length-take, length-drop, length-append, get_or-take, get_or-drop, get_or_default, get_or_append_left, get_or_push, same_lists, map-set, get_or-map, set-get_or, length-map, get_or_past, take-set, take_all}
+use Rattle.std.proofs.lemmas.List.{length-set, get_or-set_same, get_or-set_other, length-take-le, length-drop, length-append, get_or-take, get_or-drop, get_or_default, get_or_append_left, get_or_push, same_lists, map-set, get_or-map, set-get_or, length-map, get_or_past, take-set, take_all}
 use Rattle.std.proofs.lemmas.List.Sums.{sum_by_more, sum-map}
 use Rattle.watch_prop.specs.declared.watch.Watcher.{Watcher}
 use Rattle.watch_prop.specs.declared.stretches.Stretch.{Stretch}
@@ -12,7 +12,7 @@ use Rattle.sat_words.specs.Literal.{Literal, code_of}
 use Rattle.watch_prop.specs.WatchData.{watchers_at, list_at}
 use Rattle.watch_prop.specs.Layout.{ListData, row_of, AreLaid, HasRoom, AreLaidOut}
 use Rattle.watch_prop.proofs.ListsLemmas.{cases_eq}
-use Rattle.watch_prop.proofs.Slots.{At-set, At-same}
+use Rattle.watch_prop.proofs.Slots.{At-set}
 
 -- Rows
 

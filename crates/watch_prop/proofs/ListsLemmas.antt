@@ -4,7 +4,7 @@ use Rattle.std.proofs.Math.ListN.{set}
 use Rattle.std.specs.List.{swap_remove}
 use Rattle.std.proofs.lemmas.Bool.{cases_Bool, cases_lt}
 use Rattle.std.proofs.lemmas.Bool.Decides.{nat_tests}
-use Rattle.std.proofs.lemmas.List.{length-set, get_or-set_same, get_or-set_other, length-take-le, get_or-take, get_or_default, take-take, take-set, take_more, map-set, get_or-map, set-get_or, length-take, length-map, get_or_past, map-append, take-map}
+use Rattle.std.proofs.lemmas.List.{length-set, get_or-set_same, get_or-set_other, length-take-le, get_or-take, get_or_default, take-take, take-set, take_more, map-set, get_or-map, set-get_or, length-take, length-map, map-append, take-map}
 use Rattle.std.proofs.lemmas.List.Elements.{Contains-append_left, Contains-push, Contains-push_cases}
 use Rattle.sat_words.specs.Literal.{Literal, code_of, literal_of}
 use Rattle.sat_words.specs.Codes.{literal_of-code_of}

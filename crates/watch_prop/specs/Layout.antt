@@ -1,5 +1,5 @@
 -- Lists of watchers in one vector, each in a stretch of it.
-use Rattle.std.specs.Prelude.{◌≡◌, ◌≢◌, ℕ, ◌<◌, ◌≤◌, ◌+◌, ◌⊎◌, List, [], length, map, take, drop}
+use Rattle.std.specs.Prelude.{◌≡◌, ◌≢◌, ℕ, ◌<◌, ◌≤◌, ◌+◌, ◌⊎◌, List, [], length, take, drop}
 use Rattle.std.specs.List.{slice_index_or, sum_by}
 use Rattle.watch_prop.specs.declared.watch.Watcher.{Watcher}
 use Rattle.watch_prop.specs.declared.stretches.Stretch.{Stretch}

@@ -1,6 +1,5 @@
-use Rattle.std.proofs.Common.{arith, refl}
 use Rattle.sat_words.specs.Literal.{code_of}
-use Rattle.watch_prop.proofs.LayoutLemmas.{empty_rows, laid-out, laid-out-sum}
+use Rattle.watch_prop.proofs.LayoutLemmas.{empty_rows}
 use Rattle.watch_prop.proofs.lists.Lists.close_up.Goals as goal
 
 pub returns-clause-empty : goal.returns-clause-empty

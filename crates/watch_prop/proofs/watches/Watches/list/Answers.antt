@@ -29,19 +29,6 @@ more v w a b rooms size l k e r q =
       ];
     }
 
--- nothing was added
-same : (v w : WatchData) (a : List (List Watcher)) (k : Literal) → v ≡ w → a ≡ v.lists → ListsMore w record v { lists = a } k
-same v w a k e q =
-    subst (λ (x : WatchData). ListsMore x record v { lists = a } k) e
-    record {
-      vars = refl;
-      slots = refl;
-      settled = refl;
-      len = ap (λ (xs : List (List Watcher)). length xs) q;
-      kept = λ m j h. subst (λ (xs : List (List Watcher)). Contains (list_at xs m) j) (sym q) h;
-      only = λ m y h. inl (subst (λ (xs : List (List Watcher)). Contains (watchers_at xs m) y) q h);
-    }
-
 pub returns-in_err-push-2-clause-err : goal.returns-in_err-push-2-clause-err
 returns-in_err-push-2-clause-err c =
     on_err c.from_residual-in_err-push-2.result _

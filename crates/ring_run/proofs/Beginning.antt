@@ -26,7 +26,7 @@ use Rattle.ring_run.specs.declared.job.Counts.{Counts}
 use Rattle.ring_run.specs.Searching.{IsHeldBy, Runs, GoesOn}
 use Rattle.ring_run.specs.Course.{IsBegun}
 use Rattle.ring_run.specs.declared.job.Job.{Job}
-use Rattle.ring_run.specs.declared.search.Ring.{Ring}
+use Rattle.ring_run.specs.declared.ring.Ring.{Ring}
 
 pub runs_begin : (s : PortState) → IsUntouched s → IsPort s → Runs s s 0
 runs_begin s p port = record {

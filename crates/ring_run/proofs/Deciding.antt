@@ -23,7 +23,7 @@ use Rattle.ring_run.specs.Strategy.{Decides}
 use Rattle.ring_run.specs.Searching.{GoesOn, AreFirst}
 use Rattle.ring_run.specs.Ending.{EndsBy}
 use Rattle.ring_run.specs.Course.{Searches, InSearch}
-use Rattle.ring_run.specs.declared.search.Ring.{Ring}
+use Rattle.ring_run.specs.declared.ring.Ring.{Ring}
 use Rattle.ring_run.specs.declared.job.End.TheVariants.{Sat}
 use Rattle.ring_run.proofs.Remembering.{stands_there}
 use Rattle.ring_run.proofs.Standing.{within_more}

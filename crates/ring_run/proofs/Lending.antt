@@ -19,7 +19,7 @@ use Rattle.watch_prop.specs.Watched.{Watched}
 use Rattle.ring_run.specs.Ended.{HasOffered}
 use Rattle.ring_run.specs.Searching.{GoesOn, OnlySaw, OnlyWrote, OffersNothing, HasLent, HasLentBy, HoldsByGlue, IsGlueOf}
 use Rattle.ring_run.specs.Course.{Searches, InSearch, HasLeft, AreSameOffers, IsOffering}
-use Rattle.ring_run.specs.declared.search.Ring.{Ring}
+use Rattle.ring_run.specs.declared.ring.Ring.{Ring}
 use Rattle.ring_run.proofs.Remembering.{held_same, lits_same, remembered_same}
 use Rattle.ring_run.proofs.Standing.{reasoned_more}
 use Rattle.ring_run.proofs.Progress.{runs_same, lines_moved, starts_kept, glue_bounds}

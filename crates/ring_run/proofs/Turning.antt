@@ -18,9 +18,9 @@ use Rattle.ring_run.specs.Ended.{Stays}
 use Rattle.ring_run.specs.Searching.{IsHeldBy, HasClauses, Remembers, Stands, AreTold, OnlySaw, OnlyWrote, OpeningSeen, GoesOn}
 use Rattle.ring_port.specs.Log.{KeepsLog}
 use Rattle.ring_run.specs.Course.{Searches, InSearch, IsBegun, Leads, IsFurther}
-use Rattle.ring_run.specs.declared.search.Ring.{Ring}
-use Rattle.ring_run.specs.declared.search.Course.{Course}
-use Rattle.ring_run.specs.declared.search.Course.TheVariants.{On, Over}
+use Rattle.ring_run.specs.declared.ring.Ring.{Ring}
+use Rattle.ring_run.specs.declared.course.Course.{Course}
+use Rattle.ring_run.specs.declared.course.Course.TheVariants.{On, Over}
 use Rattle.ring_run.proofs.Remembering.{held_same, lits_same, clause_at_same, remembered_same}
 use Rattle.ring_run.proofs.Standing.{within_more, reasoned_more}
 use Rattle.ring_run.proofs.Progress.{starts_kept, looked_wrote}

@@ -11,9 +11,9 @@ use Rattle.watch_prop.specs.Propagation.{HasReasons, IsClosedBelow}
 use Rattle.ring_run.specs.Ended.{HasLooked, HasOffered, last_looks}
 use Rattle.ring_run.specs.Searching.{HasClauses, Stands, OpeningSeen, AreTold, GoesOn}
 use Rattle.ring_run.specs.Ending.{EndsBy}
-use Rattle.ring_run.specs.declared.search.Ring.{Ring}
-use Rattle.ring_run.specs.declared.search.Course.{Course}
-use Rattle.ring_run.specs.declared.search.Course.TheVariants.{On, Over}
+use Rattle.ring_run.specs.declared.ring.Ring.{Ring}
+use Rattle.ring_run.specs.declared.course.Course.{Course}
+use Rattle.ring_run.specs.declared.course.Course.TheVariants.{On, Over}
 
 -- a search at this port, with this trail and these watches: the clauses attached are watched, closed below the present
 -- level and the only reasons, all units of the opening are true, and the first n literals are told; above level 0 these are

@@ -7,7 +7,11 @@
 //! The clauses that it started with or learned are propagated by two watched literals.
 #![tactic(auto)]
 
+mod course;
+mod decision;
 mod job;
+mod lemma;
+mod ring;
 mod run;
 mod search;
 mod units;

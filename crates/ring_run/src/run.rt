@@ -13,7 +13,8 @@ ghost use Rattle.ring_run.specs.Strategy.{Decides};
 ghost use Rattle.ring_run.specs.Ending.{ComesTo, IsUnset, KeepsRuns};
 
 use crate::job::{Counts, End, Job};
-use crate::search::{Ring, search};
+use crate::ring::Ring;
+use crate::search::search;
 use crate::variables::active_of;
 use analyze::Analysis;
 use restart_plan::Restarts;

@@ -6,8 +6,9 @@ ghost use Rattle.ring_run.specs.Ended.{IsJobOf, IsUntouched};
 ghost use Rattle.ring_run.specs.Course.{InSearch, IsBegun};
 ghost use Rattle.ring_run.specs.Problems.{CanStart, row, row_starts};
 
+use crate::decision::write_pending;
+use crate::ring::Ring;
 use crate::run::make_ring;
-use crate::search::{Ring, write_pending};
 use crate::tests::put;
 use crate::units::{Units, take_units};
 use crate::{Addresses, Job};

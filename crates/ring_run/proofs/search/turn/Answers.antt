@@ -2,7 +2,7 @@ use Rattle.std.proofs.Common.{subst, sym}
 use Rattle.ring_port.specs.PortState.{PortState}
 use Rattle.ring_run.specs.Searching.{GoesOn, OffersNothing}
 use Rattle.ring_run.proofs.Lending.{offering_stays}
-use Rattle.ring_run.specs.declared.search.Ring.{Ring}
+use Rattle.ring_run.specs.declared.ring.Ring.{Ring}
 use Rattle.ring_run.proofs.Turning.{grown_search, compose}
 use Rattle.ring_run.proofs.search.turn.Goals as goal
 

@@ -3,8 +3,8 @@ use Rattle.std.specs.Option.{option_to_list}
 use Rattle.ring_port.specs.PortState.{lits_at}
 use Rattle.watch_prop.specs.WatchData.{WatchData, attached}
 use Rattle.watch_prop.specs.Watched.{Watched}
-use Rattle.ring_run.specs.declared.search.Ring.{Ring}
-use Rattle.ring_run.proofs.search.restart.Goals as goal
+use Rattle.ring_run.specs.declared.ring.Ring.{Ring}
+use Rattle.ring_run.proofs.lemma.restart.Goals as goal
 
 pub returns-clause-restarted : goal.returns-clause-restarted
 returns-clause-restarted g c =

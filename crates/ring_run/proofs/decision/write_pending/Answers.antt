@@ -1,7 +1,7 @@
 use Rattle.std.proofs.Common.{subst, sym}
 use Rattle.ring_run.specs.Searching.{AreTold}
 use Rattle.ring_run.proofs.Turning.{wrote_search}
-use Rattle.ring_run.proofs.search.write_pending.Goals as goal
+use Rattle.ring_run.proofs.decision.write_pending.Goals as goal
 
 pub returns-in-Ok-clause-search : goal.returns-in-Ok-clause-search
 returns-in-Ok-clause-search g c =

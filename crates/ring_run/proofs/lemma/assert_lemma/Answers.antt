@@ -5,10 +5,10 @@ use Rattle.ring_port.specs.PortState.{lits_at}
 use Rattle.ring_trail.specs.TrailData.{value_of, assigned}
 use Rattle.watch_prop.specs.WatchData.{WatchData, attached}
 use Rattle.watch_prop.specs.Watched.{Watched}
-use Rattle.ring_run.specs.declared.search.Ring.{Ring}
+use Rattle.ring_run.specs.declared.ring.Ring.{Ring}
 use Rattle.ring_run.specs.Course.{WentBack}
 use Rattle.ring_run.proofs.Standing.{no_value}
-use Rattle.ring_run.proofs.search.assert_lemma.Goals as goal
+use Rattle.ring_run.proofs.lemma.assert_lemma.Goals as goal
 
 pub assign-requires-clause-free : goal.assign-requires-clause-free
 assign-requires-clause-free g c =

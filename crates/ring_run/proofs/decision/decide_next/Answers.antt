@@ -7,7 +7,7 @@ use Rattle.ring_run.proofs.Offering.{nothing_looked, nothing_then}
 use Rattle.ring_run.specs.Ending.{ComesTo}
 use Rattle.ring_run.proofs.Progress.{stop_seen, looked_goes_on}
 use Rattle.ring_run.proofs.Turning.{quiet_same, looked_search, compose}
-use Rattle.ring_run.proofs.search.decide_next.Goals as goal
+use Rattle.ring_run.proofs.decision.decide_next.Goals as goal
 
 pub decide-requires-clause-quiet : goal.decide-requires-clause-quiet
 decide-requires-clause-quiet g c =

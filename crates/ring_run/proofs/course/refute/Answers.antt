@@ -3,7 +3,7 @@ use Rattle.ring_run.specs.Ending.{ComesTo}
 use Rattle.ring_run.specs.declared.job.End.{End}
 use Rattle.ring_run.proofs.Offering.{nothing_empty}
 use Rattle.ring_run.proofs.Progress.{empty_refutes, refused_ends}
-use Rattle.ring_run.proofs.search.refute.Goals as goal
+use Rattle.ring_run.proofs.course.refute.Goals as goal
 
 pub returns-in-Ok-clause-ends : goal.returns-in-Ok-clause-ends
 returns-in-Ok-clause-ends g c = λ n limit below start p.

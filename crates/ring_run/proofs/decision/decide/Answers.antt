@@ -1,8 +1,8 @@
-use Rattle.ring_run.specs.declared.search.Ring.{Ring}
+use Rattle.ring_run.specs.declared.ring.Ring.{Ring}
 use Rattle.ring_run.proofs.Deciding.{decided_search, model_found}
 use Rattle.ring_run.proofs.Progress.{out_of_memory}
 use Rattle.ring_run.proofs.Learning.{goes_on_by}
-use Rattle.ring_run.proofs.search.decide.Goals as goal
+use Rattle.ring_run.proofs.decision.decide.Goals as goal
 use Rattle.std.proofs.Common.{subst, sym}
 use Rattle.ring_trail.specs.TrailData.{TrailData, IsTrail}
 use Rattle.ring_run.specs.Course.{Searches}

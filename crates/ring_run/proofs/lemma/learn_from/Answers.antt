@@ -3,10 +3,10 @@ use Rattle.sat_words.specs.Literal.{Literal}
 use Rattle.ring_port.specs.PortState.{PortState}
 use Rattle.ring_run.specs.Searching.{IsAsserting, GoesOn, OffersNothing}
 use Rattle.ring_run.proofs.Lending.{offering_stays}
-use Rattle.ring_run.specs.declared.search.Ring.{Ring}
+use Rattle.ring_run.specs.declared.ring.Ring.{Ring}
 use Rattle.ring_run.proofs.Asserting.{lemma_asserts}
 use Rattle.ring_run.proofs.Turning.{compose}
-use Rattle.ring_run.proofs.search.learn_from.Goals as goal
+use Rattle.ring_run.proofs.lemma.learn_from.Goals as goal
 
 pub learn_lemma-requires-clause-lemma : goal.learn_lemma-requires-clause-lemma
 learn_lemma-requires-clause-lemma g c =

@@ -1,7 +1,7 @@
 use Rattle.std.proofs.Common.{◌≡◌, ℕ, ◌<◌, length, true}
 use Rattle.sat_words.specs.Truth.{lit_true}
 use Rattle.ring_trail.specs.TrailData.{lit_at}
-use Rattle.ring_run.proofs.search.model_of.Given as goal
+use Rattle.ring_run.proofs.decision.model_of.Given as goal
 
 abbrev pub invariant-loop-place : goal.invariant-loop-place
 invariant-loop-place l = record {

@@ -10,11 +10,11 @@ use Rattle.ring_run.proofs.Offering.{only_lent, nothing_none, nothing_refused}
 use Rattle.ring_run.proofs.Lending.{lent_held, lent_goes_on, lent_search, left_before, lent_glue, offering_stays, offering_learned}
 use Rattle.ring_run.specs.Ending.{ComesTo}
 use Rattle.ring_run.specs.Course.{GoesOnBy, InSearch, CanAssert, IsOffering}
-use Rattle.ring_run.specs.declared.search.Ring.{Ring}
+use Rattle.ring_run.specs.declared.ring.Ring.{Ring}
 use Rattle.ring_run.proofs.Asserting.{can_assert, back_below}
 use Rattle.ring_run.proofs.Learning.{learned_any, goes_on_by, left_search, left_level}
 use Rattle.ring_run.proofs.Progress.{out_of_memory, refused_ends, spent, learned_looks, learned_by_glue}
-use Rattle.ring_run.proofs.search.learn_lemma.Goals as goal
+use Rattle.ring_run.proofs.lemma.learn_lemma.Goals as goal
 
 pub returns-then-ring-limit-clause-leads : goal.returns-then-ring-limit-clause-leads
 returns-then-ring-limit-clause-leads g c = λ start p.

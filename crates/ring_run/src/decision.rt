@@ -1,0 +1,125 @@
+// Where nothing is left to propagate: lines of units, a decision, or a model.
+ghost use Rattle.std.specs.Prelude.{◌≡◌, ◌<◌, true, length, Some, IfOk, OnOk, IfErr};
+ghost use Rattle.sat_words.specs.Literal.{Literal};
+ghost use Rattle.sat_words.specs.Truth.{lit_true};
+ghost use Rattle.ring_port.specs.PortState.{IsPort, lits_at};
+ghost use Rattle.ring_trail.specs.TrailData.{IsTrail, IsTrueOn};
+ghost use Rattle.watch_prop.specs.Propagation.{IsQuiet};
+ghost use Rattle.ring_run.specs.Ended.{Stays};
+ghost use Rattle.ring_run.specs.Strategy.{Decides};
+ghost use Rattle.ring_run.specs.Searching.{OffersNothing, AreFirst, KeepsOn};
+ghost use Rattle.ring_run.specs.Ending.{EndsAt, end_refused};
+ghost use Rattle.ring_run.specs.Course.{AreSameOffers, InSearch, Leads, KeepsLooking, TakesALook};
+
+use crate::course::{Course, end_refused};
+use crate::job::End;
+use crate::ring::Ring;
+use crate::search::search;
+use crate::units::write_units;
+use ring_port::{Port, PortStop};
+use ring_trail::Trail;
+use sat_words::Assignment;
+use std::alloc::{AllocError, Global};
+
+/// The assignment that makes the literals of the trail true.
+fn model_of(alloc: Global, trail: &Trail) -> Result<Assignment, AllocError>
+    requires { IsTrail trail.now }
+    ensures long { IfOk result (λ model. length model ≡ trail.now.vars) }
+    ensures all { IfOk result (λ model. (l : Literal) → IsTrueOn trail.now.steps l → lit_true model l ≡ true) }
+{
+    let mut model = Assignment::new(alloc, trail.vars())?;
+    for place in 0..trail.len() {
+        let lit = trail.lit_at(place);
+        model.set(lit.var(), !lit.is_neg());
+    }
+    Ok(model)
+}
+
+/// Decides a variable of the start clauses that has no value. Where there is none, each of these is true. A look that found no
+/// stop came before.
+fn decide<P: Port>(alloc: Global, port: &mut P, ring: &mut Ring, limit: u64) -> Course
+    requires search { InSearch (P.state port.old) ring.old }
+    requires below { ring.old.learned < limit }
+    requires decides { Decides (P.state port.old) ring.old.decider }
+    requires quiet { IsQuiet ring.old.watches (lits_at (P.state port.old)) ring.old.trail }
+    requires first { AreFirst ring.old.trail ring.old.written }
+    ensures leads { Leads (P.state port.old) ring.old (P.state port.new) ring.new limit result }
+    ensures learned { ring.new.learned ≡ ring.old.learned }
+    ensures longer { result ≡ Course.On → length ring.old.trail.steps < length ring.new.trail.steps }
+    ensures looks { TakesALook (P.state port.old) ring.old ring.new result }
+    ensures restarts { ring.new.restarts ≡ ring.old.restarts }
+    ensures offers { AreSameOffers ring.old ring.new }
+    ensures active { ring.new.decider.active ≡ ring.old.decider.active }
+    ensures port { IsPort (P.state port.new) }
+    ensures same { P.state port.new ≡ P.state port.old }
+{
+    if let Some(lit) = ring.decider.next(&ring.trail) {
+        ring.trail.decide(lit);
+        return Course::On;
+    }
+    match model_of(alloc, &ring.trail) {
+        Ok(model) => Course::Over(End::Sat(model)),
+        Err(_) => Course::Over(End::Memory),
+    }
+}
+
+/// Writes the lines of literals that are true without a decision, as far as they have none yet.
+pub(crate) fn write_pending<P: Port>(port: &mut P, ring: &mut Ring) -> Result<(), PortStop>
+    requires search { InSearch (P.state port.old) ring.old }
+    ensures ok { OnOk result (KeepsOn (P.state port.old) (P.state port.new)) }
+    ensures over { IfErr result (λ stop. EndsAt (P.state port.old) (P.state port.new) (end_refused stop)) }
+    ensures search { OnOk result (InSearch (P.state port.new) ring.new) }
+    ensures held { (P.state port.new).held ≡ (P.state port.old).held }
+    ensures looks { (P.state port.new).looks ≡ (P.state port.old).looks }
+    ensures first { OnOk result (AreFirst ring.new.trail ring.new.written) }
+    ensures trail { ring.new.trail ≡ ring.old.trail }
+    ensures stays { OnOk result (Stays (P.state port.old) (P.state port.new)) }
+    ensures watches { ring.new.watches ≡ ring.old.watches }
+    ensures learned { ring.new.learned ≡ ring.old.learned }
+    ensures restarts { ring.new.restarts ≡ ring.old.restarts }
+    ensures offers { AreSameOffers ring.old ring.new }
+    ensures nothing { OffersNothing (P.state port.old) (P.state port.new) }
+    ensures decider { ring.new.decider ≡ ring.old.decider }
+    ensures port { IsPort (P.state port.new) }
+{
+    if ring.trail.present() != 0 {
+        return Ok(());
+    }
+    match write_units(port, &ring.trail, ring.written) {
+        Ok(()) => {
+            ring.written = ring.trail.len();
+            Ok(())
+        }
+        Err(stop) => Err(stop),
+    }
+}
+
+/// Where nothing is left to propagate: looks for a stop, writes what is true for good, and decides.
+pub(crate) fn decide_next<P: Port>(
+    alloc: Global,
+    port: &mut P,
+    ring: &mut Ring,
+    limit: u64,
+) -> Course
+    requires search { InSearch (P.state port.old) ring.old }
+    requires below { ring.old.learned < limit }
+    requires decides { Decides (P.state port.old) ring.old.decider }
+    requires quiet { IsQuiet ring.old.watches (lits_at (P.state port.old)) ring.old.trail }
+    ensures leads { Leads (P.state port.old) ring.old (P.state port.new) ring.new limit result }
+    ensures learned { ring.new.learned ≡ ring.old.learned }
+    ensures longer { result ≡ Course.On → length ring.old.trail.steps < length ring.new.trail.steps }
+    ensures restarts { ring.new.restarts ≡ ring.old.restarts }
+    ensures offers { AreSameOffers ring.old ring.new }
+    ensures nothing { OffersNothing (P.state port.old) (P.state port.new) }
+    ensures active { ring.new.decider.active ≡ ring.old.decider.active }
+    ensures looks { KeepsLooking (P.state port.old) ring.old (P.state port.new) ring.new result }
+    ensures port { IsPort (P.state port.new) }
+{
+    if let Some(stop) = port.stopped() {
+        return Course::Over(End::Stopped(stop));
+    }
+    match write_pending(port, ring) {
+        Ok(()) => decide(alloc, port, ring, limit),
+        Err(stop) => Course::Over(end_refused(stop)),
+    }
+}

@@ -1,0 +1,217 @@
+// Learning from a conflict: the lemma is learned and offered, and the trail goes back.
+ghost use Rattle.std.specs.Prelude.{◌≡◌, ◌<◌, ◌+◌, ◌++◌, ◌-◌, ◌^◌, length, None, Some, IfSome, IsSome, OnOk};
+ghost use Rattle.std.specs.Option.{option_to_list};
+ghost use Rattle.ring_port.specs.PortState.{IsPort, held_at, lits_at};
+ghost use Rattle.ring_port.specs.Log.{KeepsLog};
+ghost use Rattle.ring_trail.specs.TrailData.{TrailData, IsTrail};
+ghost use Rattle.watch_prop.specs.WatchData.{attached};
+ghost use Rattle.watch_prop.specs.Watched.{Watched};
+ghost use Rattle.watch_prop.specs.Propagation.{IsConflict};
+ghost use Rattle.restart_plan.specs.Plan.{asked};
+ghost use Rattle.ring_run.specs.Strategy.{Decides, IsPaced};
+ghost use Rattle.ring_run.specs.Searching.{HasLent, IsAsserting, IsGlueOf, HoldsByGlue};
+ghost use Rattle.ring_run.specs.Ending.{end_refused};
+ghost use Rattle.ring_run.specs.Course.{AreSameOffers, IsOffering, InSearch, Leads, CanAssert, Asserted, Restarted, HasLeft, KeepsLooking};
+
+use crate::course::{Course, end_refused, refute};
+use crate::job::End;
+use crate::ring::{Ring, go_back};
+use crate::search::search;
+use crate::variables::bump_met;
+use analyze::{Analysis, Conclusion};
+use ring_port::{Port, class_of};
+use ring_trail::Trail;
+use sat_words::{Cref, Lit};
+use std::alloc::AllocError;
+use watch_prop::Watches;
+
+/// Attaches a lemma that is held. A unit has no address, and isn't.
+fn attach_lemma<P: Port>(
+    port: &mut P,
+    trail: &Trail,
+    watches: &mut Watches,
+    address: Option<Cref>,
+) -> Result<(), AllocError>
+    requires held { IfSome address (λ c. IsSome (held_at (P.state port.old) c.address)) }
+    requires vars { (P.state port.old).vars ≡ watches.old.vars }
+    ensures same { P.state port.new ≡ P.state port.old }
+    ensures attached { OnOk result (attached watches.new ≡ attached watches.old ++ option_to_list address) }
+    ensures watched { OnOk result ((t : TrailData) → Watched watches.old (lits_at (P.state port.old)) t → Watched watches.new (lits_at (P.state port.old)) t) }
+{
+    match address {
+        Some(clause) => watches.attach(port, trail, clause),
+        None => Ok(()),
+    }
+}
+
+/// Goes back, attaches the lemma, and makes its first literal true, which is the only one that isn't false there.
+fn assert_lemma<P: Port>(
+    port: &mut P,
+    ring: &mut Ring,
+    lits: &[Lit],
+    back: u32,
+    address: Option<Cref>,
+) -> Result<(), AllocError>
+    requires held { IfSome address (λ c. IsSome (held_at (P.state port.old) c.address)) }
+    requires vars { (P.state port.old).vars ≡ ring.old.watches.vars }
+    requires decides { length ring.old.decider.active ≡ ring.old.trail.vars }
+    requires can { CanAssert ring.old.trail lits.now back }
+    ensures same { P.state port.new ≡ P.state port.old }
+    ensures asserted { OnOk result (Asserted (P.state port.old) ring.old ring.new lits.now back address) }
+    ensures learned { ring.new.learned ≡ ring.old.learned }
+    ensures restarts { ring.new.restarts ≡ ring.old.restarts }
+    ensures active { ring.new.decider.active ≡ ring.old.decider.active }
+    ensures offers { AreSameOffers ring.old ring.new }
+{
+    go_back(ring, back);
+    attach_lemma(port, &ring.trail, &mut ring.watches, address)?;
+    ring.trail.assign(lits[0], address);
+    Ok(())
+}
+
+/// Restarts: goes back to level 0, where the lemma asks for nothing, and attaches it.
+fn restart<P: Port>(port: &mut P, ring: &mut Ring, address: Option<Cref>) -> Result<(), AllocError>
+    requires held { IfSome address (λ c. IsSome (held_at (P.state port.old) c.address)) }
+    requires vars { (P.state port.old).vars ≡ ring.old.watches.vars }
+    requires decides { length ring.old.decider.active ≡ ring.old.trail.vars }
+    requires trail { IsTrail ring.old.trail }
+    ensures same { P.state port.new ≡ P.state port.old }
+    ensures restarted { OnOk result (Restarted (P.state port.old) ring.old ring.new address) }
+    ensures learned { ring.new.learned ≡ ring.old.learned }
+    ensures restarts { ring.new.restarts ≡ ring.old.restarts }
+    ensures active { ring.new.decider.active ≡ ring.old.decider.active }
+    ensures offers { AreSameOffers ring.old ring.new }
+{
+    go_back(ring, 0);
+    attach_lemma(port, &ring.trail, &mut ring.watches, address)?;
+    Ok(())
+}
+
+/// Goes back behind a lemma: to its level, or to level 0 where a restart is due.
+fn leave_conflict<P: Port>(
+    port: &mut P,
+    ring: &mut Ring,
+    lits: &[Lit],
+    back: u32,
+    address: Option<Cref>,
+) -> Result<(), AllocError>
+    requires held { IfSome address (λ c. IsSome (held_at (P.state port.old) c.address)) }
+    requires vars { (P.state port.old).vars ≡ ring.old.watches.vars }
+    requires decides { length ring.old.decider.active ≡ ring.old.trail.vars }
+    requires can { CanAssert ring.old.trail lits.now back }
+    ensures same { P.state port.new ≡ P.state port.old }
+    ensures left { OnOk result (HasLeft (P.state port.old) ring.old ring.new lits.now back address) }
+    ensures learned { ring.new.learned ≡ ring.old.learned }
+    ensures restarts { ring.new.restarts ≡ asked ring.old.restarts }
+    ensures active { ring.new.decider.active ≡ ring.old.decider.active }
+    ensures offers { AreSameOffers ring.old ring.new }
+{
+    let due = ring.restarts.due();
+    if due && back != 0 {
+        return restart(port, ring, address);
+    }
+    assert_lemma(port, ring, lits, back, address)
+}
+
+/// Offers a lemma that has a class to the other rings, and counts it. A unit has no address, and is told by its line.
+fn offer_lemma<P: Port>(port: &mut P, ring: &mut Ring, address: Option<Cref>)
+    requires held { IfSome address (λ c. IsSome (held_at (P.state port.old) c.address)) }
+    requires last { IfSome address (λ c. (P.state port.old).last ≡ Some c.address) }
+    requires few { ring.old.exported < 2 ^ 64 - 1 }
+    requires port { IsPort (P.state port.old) }
+    ensures lent { HasLent (P.state port.old) (P.state port.new) address ring.old.exported ring.old.offered ring.new.exported ring.new.offered }
+    ensures same { ring.new ≡ record ring.old { exported = ring.new.exported; offered = ring.new.offered } }
+    ensures log { KeepsLog (P.state port.old) (P.state port.new) }
+    ensures port { IsPort (P.state port.new) }
+{
+    let Some(clause) = address else {
+        return;
+    };
+    let head = port.head(clause);
+    if class_of(head.size, head.glue).is_none() {
+        return;
+    }
+    let places = port.offer(clause);
+    ring.exported += 1;
+    ring.offered = ring.offered.saturating_add(places);
+}
+
+/// Learns a lemma, and goes back to where it forces its first literal, or to level 0.
+fn learn_lemma<P: Port>(
+    port: &mut P,
+    ring: &mut Ring,
+    lits: &[Lit],
+    back: u32,
+    glue: u32,
+    limit: u64,
+) -> Course
+    requires search { InSearch (P.state port.old) ring.old }
+    requires below { ring.old.learned < limit }
+    requires decides { Decides (P.state port.old) ring.old.decider }
+    requires paced { IsPaced ring.old.restarts ring.old.learned limit }
+    requires offering { IsOffering (P.state port.old) ring.old }
+    requires lemma { IsAsserting (P.state port.old) ring.old.trail lits.now back }
+    requires glue { IsGlueOf ring.old.trail.steps lits.now glue }
+    ensures leads { Leads (P.state port.old) ring.old (P.state port.new) ring.new limit result }
+    ensures more { result ≡ Course.On → ring.new.learned ≡ ring.old.learned + 1 }
+    ensures stored { HoldsByGlue (P.state port.old) (P.state port.new) ring.old.trail.steps }
+    ensures looks { KeepsLooking (P.state port.old) ring.old (P.state port.new) ring.new result }
+    ensures paced { IsPaced ring.new.restarts ring.new.learned limit }
+    ensures offering { IsOffering (P.state port.new) ring.new }
+    ensures odd { ring.new.restarts.odd ≡ ring.old.restarts.odd }
+    ensures active { ring.new.decider.active ≡ ring.old.decider.active }
+    ensures port { IsPort (P.state port.new) }
+{
+    let address = match port.learn(lits, glue) {
+        Ok(address) => address,
+        Err(stop) => return Course::Over(end_refused(stop)),
+    };
+    ring.learned += 1;
+    ring.restarts.note(glue);
+    offer_lemma(port, ring, address);
+    if ring.learned == limit {
+        return Course::Over(End::Spent);
+    }
+    match leave_conflict(port, ring, lits, back, address) {
+        Ok(()) => Course::On,
+        Err(_) => Course::Over(End::Memory),
+    }
+}
+
+/// Learns from a conflict.
+pub(crate) fn learn_from<P: Port>(
+    port: &mut P,
+    ring: &mut Ring,
+    analysis: &mut Analysis,
+    conflict: Cref,
+    limit: u64,
+) -> Course
+    requires search { InSearch (P.state port.old) ring.old }
+    requires below { ring.old.learned < limit }
+    requires decides { Decides (P.state port.old) ring.old.decider }
+    requires paced { IsPaced ring.old.restarts ring.old.learned limit }
+    requires offering { IsOffering (P.state port.old) ring.old }
+    requires vars { analysis.old.vars ≡ ring.old.trail.vars }
+    requires conflict { IsConflict ring.old.watches (lits_at (P.state port.old)) ring.old.trail conflict }
+    ensures leads { Leads (P.state port.old) ring.old (P.state port.new) ring.new limit result }
+    ensures more { result ≡ Course.On → ring.new.learned ≡ ring.old.learned + 1 }
+    ensures stored { HoldsByGlue (P.state port.old) (P.state port.new) ring.old.trail.steps }
+    ensures looks { KeepsLooking (P.state port.old) ring.old (P.state port.new) ring.new result }
+    ensures paced { IsPaced ring.new.restarts ring.new.learned limit }
+    ensures offering { IsOffering (P.state port.new) ring.new }
+    ensures odd { ring.new.restarts.odd ≡ ring.old.restarts.odd }
+    ensures active { ring.new.decider.active ≡ ring.old.decider.active }
+    ensures vars { analysis.new.vars ≡ analysis.old.vars }
+    ensures port { IsPort (P.state port.new) }
+{
+    match analysis.analyze(port, &ring.trail, conflict) {
+        Conclusion::Empty => Course::Over(refute(port)),
+        Conclusion::Lemma { back, glue } => {
+            let met = analysis.met();
+            if bump_met(&mut ring.decider, met, &mut ring.bumps).is_err() {
+                return Course::Over(End::Memory);
+            }
+            learn_lemma(port, ring, analysis.lits(), back, glue, limit)
+        }
+    }
+}

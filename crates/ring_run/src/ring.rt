@@ -1,0 +1,45 @@
+// What a ring has of its own.
+ghost use Rattle.std.specs.Prelude.{◌≡◌, ◌≤◌, length};
+ghost use Rattle.ring_trail.specs.TrailData.{IsTrail};
+ghost use Rattle.ring_run.specs.Course.{WentBack};
+
+use crate::variables::{Bump, save_phases};
+use restart_plan::Restarts;
+use ring_decide::Decider;
+use ring_trail::Trail;
+use watch_prop::Watches;
+
+/// What a ring has of its own.
+#[derive(Drop)]
+pub(crate) struct Ring {
+    /// What is true.
+    pub trail: Trail,
+    /// The start clauses, and behind them the lemmas, each watched by two of its literals.
+    pub watches: Watches,
+    /// How many lemmas were learned.
+    pub learned: u64,
+    /// How many of the first literals at level 0 have their lines.
+    pub written: u32,
+    /// Which variable is decided next, and how.
+    pub decider: Decider,
+    /// When it restarts.
+    pub restarts: Restarts,
+    /// Room for the variables that a conflict met.
+    pub bumps: Vec<Bump>,
+    /// How many lemmas were offered to the other rings.
+    pub exported: u64,
+    /// How often in all, up to the last value.
+    pub offered: u64,
+}
+
+/// Goes back to a level, and notes the values that are lost.
+pub(crate) fn go_back(ring: &mut Ring, level: u32)
+    requires trail { IsTrail ring.old.trail }
+    requires vars { length ring.old.decider.active ≡ ring.old.trail.vars }
+    ensures went { level ≤ ring.old.trail.level → WentBack ring.old.trail ring.new.trail level }
+    ensures active { ring.new.decider.active ≡ ring.old.decider.active }
+    ensures same { ring.new ≡ record ring.old { trail = ring.new.trail; decider = ring.new.decider } }
+{
+    save_phases(&ring.trail, &mut ring.decider, level);
+    ring.trail.back_to(level);
+}

@@ -14,6 +14,7 @@ pub mod Models
 pub mod Satisfied
 pub mod Closing
 pub mod Keeping
+mod Alive
 mod Standing
 pub mod Refuting
 mod AnswerText

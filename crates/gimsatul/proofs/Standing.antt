@@ -2,6 +2,7 @@
 use Rattle.std.proofs.Common.{◌≡◌, ◌^◌, ◌∙◌, ℕ, zero, suc, ◌<◌, ◌≤◌, Bool, true, false, List, [], ◌∷◌, ◌++◌, map, length, Some, None, refl, sym, ap, subst, inl, inr, arith, append-nil, lit≤}
 use Rattle.std.specs.Prelude.{All, Result, IsSomeAnd, is_some}
 use Rattle.std.specs.declared.option.Option.{Option}
+use Rattle.std.specs.Option.{unwrap_or}
 use Rattle.std.specs.Io.KnownBytes.{append_known}
 use Rattle.std.proofs.lemmas.Bool.{cases_Bool, not-false, not-true}
 use Rattle.std.proofs.lemmas.List.Elements.{All-append}
@@ -15,7 +16,7 @@ use Rattle.sat_words.specs.declared.line.Line.{Line}
 use Rattle.sat_words.specs.declared.line.Line.TheVariants.{Add as AddLine}
 use Rattle.rup_model.specs.Basics.{EachAfter}
 use Rattle.rup_model.specs.Log.{lits_of, OnVariables}
-use Rattle.rup_model.specs.Journal.{Book, formula_book, book_after, lines, lines_from, learned, ring_of, IsSpaced}
+use Rattle.rup_model.specs.Journal.{Book, formula_book, book_after, lines, lines_from, line_of_deletion, learned, ring_of, IsSpaced}
 use Rattle.rup_model.specs.Spent.{SpentAll, ruler_part, rings_part}
 use Rattle.rup_model.specs.Opening.{Start, IsNew, program_opening}
 use Rattle.rup_model.specs.declared.journal.TheConstants.{RULER_RING}
@@ -52,6 +53,7 @@ use Rattle.gimsatul.specs.Begun.{origin_of, Begins, IsAlike}
 use Rattle.gimsatul.proofs.Closing.{Unique, cut_short, front_told, closed_search}
 use Rattle.gimsatul.proofs.Models.{cleared}
 use Rattle.gimsatul.proofs.Newness.{still_new}
+use Rattle.gimsatul.proofs.Alive.{AreOn, formula_on, added_on, without_on, deleted_on}
 
 -- Texts
 
@@ -74,19 +76,22 @@ first_All P x xs all = all 0 x (omega arith)
 one_line : (vars : ℕ) (b : Book) (es : List Entry) → All (IsOwn 0 vars) es → length (lines_from b es) ≡ length es
 one_line vars b [] own = refl
 one_line vars b (Add x ∷ es) own = ap suc (one_line vars (book_after b (Add x)) es (later_All (IsOwn 0 vars) (Add x) es own))
-one_line vars b (Del r n ∷ es) own = absurd (first_All (IsOwn 0 vars) (Del r n) es own)
+one_line vars b (Del r n ∷ es) own = ap suc (one_line vars (book_after b (Del r n)) es (later_All (IsOwn 0 vars) (Del r n) es own))
 one_line vars b (Reduce r ∷ es) own = absurd (first_All (IsOwn 0 vars) (Reduce r) es own)
 
 spell_all : (vars : ℕ) → vars ≤ 2 ^ 30 → (c : List Literal) → All (IsPortOn vars) c → All (IsOn (2 ^ 30)) c
 spell_all vars few c on k d lt = let h = on k d lt in let high = h.high in record { low = h.low; high = omega arith }
 
-spelled_from : (vars : ℕ) → vars ≤ 2 ^ 30 → (b : Book) (es : List Entry) → All (IsOwn 0 vars) es → CanBeSpelled (lines_from b es)
-spelled_from vars few b [] own = λ k d lt. absurd (omega arith)
-spelled_from vars few b (Add x ∷ es) own =
-    cons_All (λ y. All (IsOn (2 ^ 30)) (lits_of y)) (AddLine x.lits) (lines_from (book_after b (Add x)) es) (spell_all vars few x.lits (first_All (IsOwn 0 vars) (Add x) es own).1)
-    (spelled_from vars few (book_after b (Add x)) es (later_All (IsOwn 0 vars) (Add x) es own))
-spelled_from vars few b (Del r n ∷ es) own = absurd (first_All (IsOwn 0 vars) (Del r n) es own)
-spelled_from vars few b (Reduce r ∷ es) own = absurd (first_All (IsOwn 0 vars) (Reduce r) es own)
+spelled_from : (vars : ℕ) → vars ≤ 2 ^ 30 → (b : Book) (es : List Entry) → AreOn vars b → All (IsOwn 0 vars) es → CanBeSpelled (lines_from b es)
+spelled_from vars few b [] on own = λ k d lt. absurd (omega arith)
+spelled_from vars few b (Add x ∷ es) on own =
+    let first = first_All (IsOwn 0 vars) (Add x) es own in
+    cons_All (λ y. All (IsOn (2 ^ 30)) (lits_of y)) (AddLine x.lits) (lines_from (book_after b (Add x)) es) (spell_all vars few x.lits first.1)
+    (spelled_from vars few (book_after b (Add x)) es (added_on vars b x on first.0 first.1) (later_All (IsOwn 0 vars) (Add x) es own))
+spelled_from vars few b (Del r n ∷ es) on own =
+    cons_All (λ y. All (IsOn (2 ^ 30)) (lits_of y)) (line_of_deletion b n) (lines_from (book_after b (Del r n)) es) (spell_all vars few (unwrap_or (b.clause n) []) (deleted_on vars b n on))
+    (spelled_from vars few (book_after b (Del r n)) es (without_on vars b r n on) (later_All (IsOwn 0 vars) (Del r n) es own))
+spelled_from vars few b (Reduce r ∷ es) on own = absurd (first_All (IsOwn 0 vars) (Reduce r) es own)
 
 plain_from : (vars : ℕ) (es : List Entry) → All (IsOwn 0 vars) es → All IsPlainEntry es
 plain_from vars [] own = λ k d lt. absurd (omega arith)
@@ -99,7 +104,7 @@ plain_from vars (Add x ∷ es) own =
     by Learn ring h = (ring, h)
     by Derive ring h = (ring, h)
     by UnitLine ring h = (ring, h)
-plain_from vars (Del r n ∷ es) own = absurd (first_All (IsOwn 0 vars) (Del r n) es own)
+plain_from vars (Del r n ∷ es) own = cons_All IsPlainEntry (Del r n) es (first_All (IsOwn 0 vars) (Del r n) es own) (plain_from vars es (later_All (IsOwn 0 vars) (Del r n) es own))
 plain_from vars (Reduce r ∷ es) own = absurd (first_All (IsOwn 0 vars) (Reduce r) es own)
 
 of_ring : (end vars : ℕ) → 1 ≤ end → (es : List Entry) → All (IsOwn 0 vars) es → All (λ e. ring_of e < end) es
@@ -107,13 +112,14 @@ of_ring end vars some [] own = λ k d lt. absurd (omega arith)
 of_ring end vars some (Add x ∷ es) own =
     let h = first_All (IsOwn 0 vars) (Add x) es own in
     cons_All (λ e. ring_of e < end) (Add x) es (let ring = h.0 in omega arith) (of_ring end vars some es (later_All (IsOwn 0 vars) (Add x) es own))
-of_ring end vars some (Del r n ∷ es) own = absurd (first_All (IsOwn 0 vars) (Del r n) es own)
+of_ring end vars some (Del r n ∷ es) own =
+    cons_All (λ e. ring_of e < end) (Del r n) es (let ring = first_All (IsOwn 0 vars) (Del r n) es own in omega (arith, ring)) (of_ring end vars some es (later_All (IsOwn 0 vars) (Del r n) es own))
 of_ring end vars some (Reduce r ∷ es) own = absurd (first_All (IsOwn 0 vars) (Reduce r) es own)
 
 spaced_from : (vars : ℕ) (before es : List Entry) → All (IsOwn 0 vars) es → EachAfter IsSpaced before es
 spaced_from vars before [] own = tt
 spaced_from vars before (Add x ∷ es) own = (tt, spaced_from vars (before ++ Add x ∷ []) es (later_All (IsOwn 0 vars) (Add x) es own))
-spaced_from vars before (Del r n ∷ es) own = absurd (first_All (IsOwn 0 vars) (Del r n) es own)
+spaced_from vars before (Del r n ∷ es) own = (tt, spaced_from vars (before ++ Del r n ∷ []) es (later_All (IsOwn 0 vars) (Del r n) es own))
 spaced_from vars before (Reduce r ∷ es) own = absurd (first_All (IsOwn 0 vars) (Reduce r) es own)
 
 less_or : (a b : ℕ) → a ≤ b → (a ≡ b → ⊥) → a < b
@@ -126,7 +132,7 @@ pub on_variables : (L : List Line) → CanBeSpelled L → OnVariables L
 on_variables L spelled k d lt j l less = (spelled k d lt j l less).low
 
 module _ (formula : FormulaData) (output : LineState) (p s : PortState) (limit count : ℕ) (end : End) (out : LineState)
-    (begins : Begins formula output p) (few : formula.vars < 2 ^ 28) (empty : IsEmptyWhereTold output.written) (quiet : output.faults ≡ 0)
+    (begins : Begins formula output p) (few : formula.vars < 2 ^ 28) (on : All (All (IsPortOn formula.vars)) formula.clauses) (empty : IsEmptyWhereTold output.written) (quiet : output.faults ≡ 0)
     (stays : Stays p s) (wrote : All (IsOwn p.ring p.vars) s.mine) (each_new : AreNew s) (counted : count ≡ length (learned s.ring s.mine))
     (within : count ≤ limit) (spent : end ≡ SpentEnd → count ≡ limit) (unspent : count ≡ limit → end ≡ SpentEnd) (ends : Ends s end) (lines_are : Some out ≡ s.output) where
   abbrev F : List (List Literal)
@@ -151,7 +157,7 @@ module _ (formula : FormulaData) (output : LineState) (p s : PortState) (limit c
   has_lines = subst (λ (w : Option LineState). IsSomeAnd w (HasLines over s)) (sym lines_are) stands.output
 
   spelled : CanBeSpelled (lines F J)
-  spelled = spelled_from formula.vars (omega arith) (formula_book F) J own
+  spelled = spelled_from formula.vars (omega arith) (formula_book F) J (formula_on formula.vars F on) own
 
   rings : rings_part J ≡ J
   rings = rings_part-append [] J (λ k d lt. absurd (omega arith)) (of_ring RULER_RING formula.vars (lit≤ tt) J own)

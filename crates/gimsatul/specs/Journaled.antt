@@ -29,10 +29,10 @@ IsPlainAddition Learn x = (x.ring ≡ 0) × (1 ≤ length x.lits)
 IsPlainAddition Derive x = (x.ring ≡ 0) × (x.lits ≡ [])
 IsPlainAddition UnitLine x = (x.ring ≡ 0) × (length x.lits ≡ 1)
 
--- an entry of the ruler, or of the one ring that searches: an addition; none is deleted, and nothing is reduced
+-- an entry of the ruler, or of the one ring that searches: an addition, or the ring's deletion; nothing is reduced
 abbrev pub IsPlainEntry : Entry → Type 0
 IsPlainEntry (Add x) = IsPlainAddition x.kind x
-IsPlainEntry (Del r n) = ⊥
+IsPlainEntry (Del r n) = r ≡ 0
 IsPlainEntry (Reduce r) = ⊥
 
 -- a journal of this many rings: its numbers fit, each line is valid where it stands, nothing follows the empty clause,

@@ -7,6 +7,7 @@ pub mod Asserting
 pub mod Learning
 pub mod Deciding
 pub mod Turning
+pub mod Tidying
 pub mod Beginning
 pub mod Telling
 pub mod Marked

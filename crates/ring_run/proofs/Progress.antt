@@ -52,7 +52,7 @@ stays_by s u w p q = record {
   log = λ o h. q.log o (p.log o h);
 }
 
-kept_by : (s u w : PortState) → KeepsHeld s u → KeepsHeld u w → KeepsHeld s w
+pub kept_by : (s u w : PortState) → KeepsHeld s u → KeepsHeld u w → KeepsHeld s w
 kept_by s u w p q = λ a h. q a (subst (λ (o : Option Holding). IsSome o) (sym (p a h)) h) ∙ p a h
 
 -- what a run starts from
@@ -63,7 +63,7 @@ opening_moved s u p = ap (λ (hs : List Holding). made hs u.opening) p.start ∙
     made hs ls = record { journal = []; starts = map start_of hs; units = ls }
 
 -- entries whose clauses are new
-news_moved : (s u : PortState) (J : List Entry) → Stays s u → u.mine ≡ J → EachAfter (IsNew (opening_of s)) [] J → AreNew u
+pub news_moved : (s u : PortState) (J : List Entry) → Stays s u → u.mine ≡ J → EachAfter (IsNew (opening_of s)) [] J → AreNew u
 news_moved s u J stays is p = subst (EachAfter (IsNew (opening_of u)) []) (sym is) (subst (λ (o : Opening). EachAfter (IsNew o) [] J) (sym (opening_moved s u stays)) p)
 
 -- lines of units that are new
@@ -77,7 +77,7 @@ lines_moved s u J stays given is p =
 pub glued_same : (s u : PortState) → u.held ≡ s.held → HoldsGlued s u
 glued_same s u is h there = inl (subst (λ (hs : List Holding). Contains hs h) is there)
 
-glued_by : (s u w : PortState) → HoldsGlued s u → HoldsGlued u w → HoldsGlued s w
+pub glued_by : (s u w : PortState) → HoldsGlued s u → HoldsGlued u w → HoldsGlued s w
 glued_by s u w p q h there = elim (q h there) as (λ _. Contains s.held h ⊎ IsGlued h) [ inl old ↦ p h old | inr new ↦ inr new ]
 
 -- a run goes on by an entry of its ring
@@ -242,14 +242,14 @@ same_refused s output (NoHole lack) = but_noted s (Some (NoHole lack)) s.ended s
 same_refused s output Memory = but_noted s s.refused s.ended s.output
 
 -- what a refusal leaves is the cause of an end
-refused_cause : (s : PortState) (output : Option LineState) (stop : PortStop) → HasReason s stop → is_usable s.refused ≡ true → list_any is_empty (added s.mine) ≡ false → Cause (after_refusal s output stop) (end_refused stop)
+pub refused_cause : (s : PortState) (output : Option LineState) (stop : PortStop) → HasReason s stop → is_usable s.refused ≡ true → list_any is_empty (added s.mine) ≡ false → Cause (after_refusal s output stop) (end_refused stop)
 refused_cause s output Ended reason usable going = (refl, refl)
 refused_cause s output Broken reason usable going = (refl, going)
 refused_cause s output ProofFault reason usable going = (refl, going)
 refused_cause s output (NoHole lack) reason usable going = (refl, reason.1, going)
 refused_cause s output Memory reason usable going = (usable, going)
 
-refused_counts : (n limit : ℕ) (stop : PortStop) → n < limit → CountsTo n limit (end_refused stop)
+pub refused_counts : (n limit : ℕ) (stop : PortStop) → n < limit → CountsTo n limit (end_refused stop)
 refused_counts n limit Ended below = below
 refused_counts n limit Broken below = below
 refused_counts n limit ProofFault below = below
@@ -257,7 +257,7 @@ refused_counts n limit (NoHole lack) below = below
 refused_counts n limit Memory below = below
 
 -- where no stop is known, none was set
-unset : (s : PortState) (end : End) → s.stop ≡ None → IsUnset s end
+pub unset : (s : PortState) (end : End) → s.stop ≡ None → IsUnset s end
 unset s end none = by (stop_kind end)
   where
     by : (o : Option ℕ) → IfSome o (λ kind. s.stop ≡ None)

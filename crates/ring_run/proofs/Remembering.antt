@@ -134,6 +134,14 @@ among_more s u cs ds stay into more d (inl there) =
     (In_map (λ (x : Cref). lits_at u x.address) ds t.0 (Contains_In ds t.0 (into t.0 inside)))))
 among_more s u cs ds stay into more d (inr unit) = inr (record { lit = unit.lit; unit = unit.unit; seen = more unit.lit unit.seen })
 
+-- a call that added nothing
+pub remembered_as : (s u : PortState) (cs : List Cref) → recent u.ring u.mine ≡ recent s.ring s.mine → ((l : Literal) → adds_unit u.ring u.mine l ≡ adds_unit s.ring s.mine l) → LitsStay s u cs
+    → ((l : Literal) → has s.seen l ≡ true → has u.seen l ≡ true) → Remembers s cs → Remembers u cs
+remembered_as s u cs lemmas units stay more p = record {
+  lemmas = λ d h. among_more s u cs cs stay (λ c there. there) more d (p.lemmas d (subst (λ (G : List (List Literal)). Contains G d) lemmas h));
+  units = λ l h. more l (p.units l (sym (units l) ∙ h));
+}
+
 -- a call that added no entry
 pub remembered_same : (s u : PortState) (cs : List Cref) → u.ring ≡ s.ring → u.mine ≡ s.mine → LitsStay s u cs → ((l : Literal) → has s.seen l ≡ true → has u.seen l ≡ true) → Remembers s cs → Remembers u cs
 remembered_same s u cs ring mine stay more p = record {

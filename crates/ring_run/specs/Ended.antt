@@ -67,10 +67,10 @@ IsOfKind Learn c = 1 ≤ length c
 IsOfKind Derive c = c ≡ []
 IsOfKind UnitLine c = length c ≡ 1
 
--- the entry of this ring adds a clause on the variables
+-- the entry is this ring's: it adds a clause on the variables, or deletes one
 abbrev pub IsOwn : (ring vars : ℕ) → Entry → Type 0
 IsOwn ring vars (Add x) = (x.ring ≡ ring) × All (IsOn vars) x.lits × IsOfKind x.kind x.lits
-IsOwn ring vars (Del r n) = ⊥
+IsOwn ring vars (Del r n) = r ≡ ring
 IsOwn ring vars (Reduce r) = ⊥
 
 -- what the ring starts from: the start clauses with their numbers, and the units that are listed from the start, without the

@@ -1,5 +1,5 @@
 // Learning from a conflict: the lemma is learned and offered, and the trail goes back.
-ghost use Rattle.std.specs.Prelude.{◌≡◌, ◌<◌, ◌+◌, ◌++◌, ◌-◌, ◌^◌, length, None, Some, IfSome, IsSome, OnOk};
+ghost use Rattle.std.specs.Prelude.{◌≡◌, ◌<◌, ◌+◌, ◌++◌, ◌-◌, ◌^◌, [], length, None, Some, IfSome, IsSome, IfErr, OnOk};
 ghost use Rattle.std.specs.Option.{option_to_list};
 ghost use Rattle.ring_port.specs.PortState.{IsPort, held_at, lits_at};
 ghost use Rattle.ring_port.specs.Log.{KeepsLog};
@@ -7,10 +7,9 @@ ghost use Rattle.ring_trail.specs.TrailData.{TrailData, IsTrail};
 ghost use Rattle.watch_prop.specs.WatchData.{attached};
 ghost use Rattle.watch_prop.specs.Watched.{Watched};
 ghost use Rattle.watch_prop.specs.Propagation.{IsConflict};
-ghost use Rattle.restart_plan.specs.Plan.{asked};
 ghost use Rattle.ring_run.specs.Strategy.{Decides, IsPaced};
-ghost use Rattle.ring_run.specs.Searching.{HasLent, IsAsserting, IsGlueOf, HoldsByGlue};
-ghost use Rattle.ring_run.specs.Ending.{end_refused};
+ghost use Rattle.ring_run.specs.Searching.{OffersNothing, HasLent, IsAsserting, IsGlueOf, HoldsByGlue, OnlyWrote, KeepsOn};
+ghost use Rattle.ring_run.specs.Ending.{EndsAt, end_refused};
 ghost use Rattle.ring_run.specs.Course.{AreSameOffers, IsOffering, InSearch, Leads, CanAssert, Asserted, Restarted, HasLeft, KeepsLooking};
 
 use crate::course::{Course, end_refused, refute};
@@ -19,7 +18,7 @@ use crate::ring::{Ring, go_back};
 use crate::search::search;
 use crate::variables::bump_met;
 use analyze::{Analysis, Conclusion};
-use ring_port::{Port, class_of};
+use ring_port::{Port, PortStop, class_of};
 use ring_trail::Trail;
 use sat_words::{Cref, Lit};
 use std::alloc::AllocError;
@@ -102,12 +101,11 @@ fn leave_conflict<P: Port>(
     ensures same { P.state port.new ≡ P.state port.old }
     ensures left { OnOk result (HasLeft (P.state port.old) ring.old ring.new lits.now back address) }
     ensures learned { ring.new.learned ≡ ring.old.learned }
-    ensures restarts { ring.new.restarts ≡ asked ring.old.restarts }
+    ensures restarts { ring.new.restarts ≡ ring.old.restarts }
     ensures active { ring.new.decider.active ≡ ring.old.decider.active }
     ensures offers { AreSameOffers ring.old ring.new }
 {
-    let due = ring.restarts.due();
-    if due && back != 0 {
+    if ring.pending && back != 0 {
         return restart(port, ring, address);
     }
     assert_lemma(port, ring, lits, back, address)
@@ -136,7 +134,24 @@ fn offer_lemma<P: Port>(port: &mut P, ring: &mut Ring, address: Option<Cref>)
     ring.offered = ring.offered.saturating_add(places);
 }
 
-/// Learns a lemma, and goes back to where it forces its first literal, or to level 0.
+/// Writes the deletion lines of what an offer brought back.
+fn tidy_up<P: Port>(port: &mut P) -> Result<(), PortStop>
+    requires refused { (P.state port.old).refused ≡ None }
+    requires port { IsPort (P.state port.old) }
+    ensures ok { OnOk result (KeepsOn (P.state port.old) (P.state port.new)) }
+    ensures over { IfErr result (λ stop. EndsAt (P.state port.old) (P.state port.new) (end_refused stop)) }
+    ensures wrote { OnOk result (OnlyWrote (P.state port.old) (P.state port.new)) }
+    ensures seen { OnOk result ((P.state port.new).seen ≡ (P.state port.old).seen) }
+    ensures tidied { OnOk result ((P.state port.new).waiting ≡ []) }
+    ensures held { (P.state port.new).held ≡ (P.state port.old).held }
+    ensures looks { (P.state port.new).looks ≡ (P.state port.old).looks }
+    ensures nothing { OffersNothing (P.state port.old) (P.state port.new) }
+    ensures port { IsPort (P.state port.new) }
+{
+    port.tidy()
+}
+
+/// Learns a lemma, and goes back to where it forces its first literal, or to level 0. Nothing waits for its deletion then.
 fn learn_lemma<P: Port>(
     port: &mut P,
     ring: &mut Ring,
@@ -154,6 +169,7 @@ fn learn_lemma<P: Port>(
     requires glue { IsGlueOf ring.old.trail.steps lits.now glue }
     ensures leads { Leads (P.state port.old) ring.old (P.state port.new) ring.new limit result }
     ensures more { result ≡ Course.On → ring.new.learned ≡ ring.old.learned + 1 }
+    ensures tidied { result ≡ Course.On → (P.state port.new).waiting ≡ [] }
     ensures stored { HoldsByGlue (P.state port.old) (P.state port.new) ring.old.trail.steps }
     ensures looks { KeepsLooking (P.state port.old) ring.old (P.state port.new) ring.new result }
     ensures paced { IsPaced ring.new.restarts ring.new.learned limit }
@@ -171,6 +187,11 @@ fn learn_lemma<P: Port>(
     offer_lemma(port, ring, address);
     if ring.learned == limit {
         return Course::Over(End::Spent);
+    }
+    ring.pending = ring.restarts.due();
+    match tidy_up(port) {
+        Ok(()) => {}
+        Err(stop) => return Course::Over(end_refused(stop)),
     }
     match leave_conflict(port, ring, lits, back, address) {
         Ok(()) => Course::On,
@@ -195,6 +216,7 @@ pub(crate) fn learn_from<P: Port>(
     requires conflict { IsConflict ring.old.watches (lits_at (P.state port.old)) ring.old.trail conflict }
     ensures leads { Leads (P.state port.old) ring.old (P.state port.new) ring.new limit result }
     ensures more { result ≡ Course.On → ring.new.learned ≡ ring.old.learned + 1 }
+    ensures tidied { result ≡ Course.On → (P.state port.new).waiting ≡ [] }
     ensures stored { HoldsByGlue (P.state port.old) (P.state port.new) ring.old.trail.steps }
     ensures looks { KeepsLooking (P.state port.old) ring.old (P.state port.new) ring.new result }
     ensures paced { IsPaced ring.new.restarts ring.new.learned limit }

@@ -24,6 +24,8 @@ pub(crate) struct Ring {
     pub decider: Decider,
     /// When it restarts.
     pub restarts: Restarts,
+    /// Whether a restart was due behind the last lemma.
+    pub pending: bool,
     /// Room for the variables that a conflict met.
     pub bumps: Vec<Bump>,
     /// How many lemmas were offered to the other rings.

@@ -158,6 +158,7 @@ pub(crate) fn make_ring<P: Port>(alloc: Global, port: &mut P, job: &Job) -> Resu
         written: 0,
         decider,
         restarts,
+        pending: false,
         bumps,
         exported: 0,
         offered: 0,

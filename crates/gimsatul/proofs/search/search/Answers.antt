@@ -60,7 +60,7 @@ returns-clause-searched g c =
     let kept : option_map (λ v. v.items) c.close-2.result.kept.lines ≡ c.into_lines-lines.result.kept = c.close-2.ensures.kept in
     subst (λ (n : ℕ). IsSearch c.args.plan.now.limit F c.close-2.result.verdict n faults written (option_map (λ v. v.items) c.close-2.result.kept.lines)) (sym c.close-2.ensures.learned)
     (subst (IsSearch c.args.plan.now.limit F c.close-2.result.verdict count faults written) (sym kept)
-    (is_closed_search F output before after c.args.plan.now.limit count end out begins c.requires.few (begun_empty c.args.plan.now.check (g.P.Sink.written c.args.proof) c.requires.empty) c.requires.quiet c.run_ring-end.ensures.stays c.run_ring-end.ensures.wrote c.run_ring-end.ensures.new counted.learned_is within spent unspent c.run_ring-end.ensures.ends c.into_lines-lines.ensures
+    (is_closed_search F output before after c.args.plan.now.limit count end out begins c.requires.few c.requires.on_variables (begun_empty c.args.plan.now.check (g.P.Sink.written c.args.proof) c.requires.empty) c.requires.quiet c.run_ring-end.ensures.stays c.run_ring-end.ensures.wrote c.run_ring-end.ensures.new counted.learned_is within spent unspent c.run_ring-end.ensures.ends c.into_lines-lines.ensures
     c.text_determines_lines.ensures c.in-Ok.occurring marked v c.close-2.result.verdict faults written c.into_lines-lines.result.kept c.verdict_of-verdict.ensures c.close-2.ensures.closed c.close-2.ensures.tells))
 
 pub returns-in-Err-clause-searched : goal.returns-in-Err-clause-searched

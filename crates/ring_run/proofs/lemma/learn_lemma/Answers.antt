@@ -8,6 +8,8 @@ use Rattle.ring_run.specs.declared.job.End.TheVariants.{Memory}
 use Rattle.ring_run.specs.Searching.{GoesOn, HoldsByGlue, IsAsserting}
 use Rattle.ring_run.proofs.Offering.{only_lent, nothing_none, nothing_refused}
 use Rattle.ring_run.proofs.Lending.{lent_held, lent_goes_on, lent_search, left_before, lent_glue, offering_stays, offering_learned}
+use Rattle.ring_run.proofs.Tidying.{tidied_search, held_stays, refused_last}
+use Rattle.ring_run.specs.Ended.{last_looks}
 use Rattle.ring_run.specs.Ending.{ComesTo}
 use Rattle.ring_run.specs.Course.{GoesOnBy, InSearch, CanAssert, IsOffering}
 use Rattle.ring_run.specs.declared.ring.Ring.{Ring}
@@ -43,20 +45,23 @@ returns-in-Ok-leave_conflict-clause-leads g c =
     let u = g.P.Port.state c.learn.new.self in
     let v = g.P.Port.state c.offer_lemma.new.port in
     let middle = c.offer_lemma.new.ring in
+    let between : Ring = record middle { restarts = c.due-ring.new.self; pending = c.due-ring.result } in
     let same = c.offer_lemma.ensures.same in
     let lent = only_lent u v c.in-Ok.address c.args.ring.now.exported c.args.ring.now.offered middle.exported middle.offered c.offer_lemma.ensures.lent in
-    let left = left_before u v middle c.leave_conflict.new.ring c.args.lits.now c.args.back c.in-Ok.address (ap (λ (x : PortState). x.held) lent.state) c.in-Ok-leave_conflict.ensures.left in
+    let w = g.P.Port.state c.tidy_up.new.port in
+    let left = left_before u w between c.leave_conflict.new.ring c.args.lits.now c.args.back c.in-Ok.address (c.tidy_up.ensures.held ∙ ap (λ (x : PortState). x.held) lent.state) c.in-Ok-leave_conflict.ensures.left in
     let count = c.leave_conflict.ensures.learned ∙ ap (λ (r : Ring). r.learned) same in
     subst (λ (x : PortState). GoesOnBy s c.args.ring.now x c.leave_conflict.new.ring c.args.limit) (sym c.leave_conflict.ensures.same)
-    (goes_on_by s v c.args.ring.now c.leave_conflict.new.ring c.args.limit
-    (lent_search u v c.leave_conflict.new.ring
-    (left_search s u middle c.leave_conflict.new.ring c.args.lits.now c.args.back c.args.glue c.in-Ok.address (subst (InSearch s) (sym same) c.requires.search)
+    (goes_on_by s w c.args.ring.now c.leave_conflict.new.ring c.args.limit
+    (tidied_search v w c.leave_conflict.new.ring (lent_search u v c.leave_conflict.new.ring
+    (left_search s u between c.leave_conflict.new.ring c.args.lits.now c.args.back c.args.glue c.in-Ok.address (subst (InSearch s) (sym same) c.requires.search)
     (subst (λ (r : Ring). IsAsserting s r.trail c.args.lits.now c.args.back) (sym same) c.requires.lemma) c.in-Ok.ensures.learned c.learn.ensures.kept c.learn.ensures.port left) lent c.offer_lemma.ensures.log c.offer_lemma.ensures.port)
+    c.in-Ok-tidy_up.ensures.wrote c.in-Ok-tidy_up.ensures.seen c.tidy_up.ensures.port)
     (omega (arith, count, c.requires.below, c.if-ring-limit.false, c.leave_conflict.ensures.learned))
-    (λ start p. subst (GoesOn start v) (sym count)
+    (λ start p. subst (GoesOn start w) (sym count) (c.in-Ok-tidy_up.ensures.ok start (c.args.ring.now.learned + 1)
     (lent_goes_on start u v (c.args.ring.now.learned + 1)
     (learned_any start s u c.args.ring.now.learned c.args.glue c.args.ring.now.trail c.args.lits.now c.args.back c.in-Ok.address p
-    c.requires.search.stands c.requires.lemma c.requires.glue c.in-Ok.ensures.learned c.learn.ensures.kept c.learn.ensures.log c.learn.ensures.port) lent c.offer_lemma.ensures.log c.offer_lemma.ensures.port)))
+    c.requires.search.stands c.requires.lemma c.requires.glue c.in-Ok.ensures.learned c.learn.ensures.kept c.learn.ensures.log c.learn.ensures.port) lent c.offer_lemma.ensures.log c.offer_lemma.ensures.port))))
 
 pub returns-in-Err-leave_conflict-clause-leads : goal.returns-in-Err-leave_conflict-clause-leads
 returns-in-Err-leave_conflict-clause-leads g c = λ start p.
@@ -64,13 +69,15 @@ returns-in-Err-leave_conflict-clause-leads g c = λ start p.
     let u = g.P.Port.state c.learn.new.self in
     let v = g.P.Port.state c.offer_lemma.new.port in
     let middle = c.offer_lemma.new.ring in
+    let between : Ring = record middle { restarts = c.due-ring.new.self; pending = c.due-ring.result } in
     let lent = only_lent u v c.in-Ok.address c.args.ring.now.exported c.args.ring.now.offered middle.exported middle.offered c.offer_lemma.ensures.lent in
     let count = c.leave_conflict.ensures.learned ∙ ap (λ (r : Ring). r.learned) c.offer_lemma.ensures.same in
+    let w = g.P.Port.state c.tidy_up.new.port in
     subst (λ (x : PortState). ComesTo start x c.leave_conflict.new.ring.learned c.args.limit Memory) (sym c.leave_conflict.ensures.same)
-    (out_of_memory start v c.leave_conflict.new.ring.learned c.args.limit (omega (arith, count, c.requires.below, c.if-ring-limit.false, c.leave_conflict.ensures.learned)) (subst (GoesOn start v) (sym count)
+    (out_of_memory start w c.leave_conflict.new.ring.learned c.args.limit (omega (arith, count, c.requires.below, c.if-ring-limit.false, c.leave_conflict.ensures.learned)) (subst (GoesOn start w) (sym count) (c.in-Ok-tidy_up.ensures.ok start (c.args.ring.now.learned + 1)
     (lent_goes_on start u v (c.args.ring.now.learned + 1)
     (learned_any start s u c.args.ring.now.learned c.args.glue c.args.ring.now.trail c.args.lits.now c.args.back c.in-Ok.address p
-    c.requires.search.stands c.requires.lemma c.requires.glue c.in-Ok.ensures.learned c.learn.ensures.kept c.learn.ensures.log c.learn.ensures.port) lent c.offer_lemma.ensures.log c.offer_lemma.ensures.port)))
+    c.requires.search.stands c.requires.lemma c.requires.glue c.in-Ok.ensures.learned c.learn.ensures.kept c.learn.ensures.log c.learn.ensures.port) lent c.offer_lemma.ensures.log c.offer_lemma.ensures.port))))
 
 pub returns-then-ring-limit-clause-stored : goal.returns-then-ring-limit-clause-stored
 returns-then-ring-limit-clause-stored g c =
@@ -87,9 +94,10 @@ returns-in-Ok-leave_conflict-clause-stored g c =
     let u = g.P.Port.state c.learn.new.self in
     let v = g.P.Port.state c.offer_lemma.new.port in
     let lent = only_lent u v c.in-Ok.address c.args.ring.now.exported c.args.ring.now.offered c.offer_lemma.new.ring.exported c.offer_lemma.new.ring.offered c.offer_lemma.ensures.lent in
+    let w = g.P.Port.state c.tidy_up.new.port in
     subst (λ (x : PortState). HoldsByGlue s x c.args.ring.now.trail.steps) (sym c.leave_conflict.ensures.same)
-    (lent_glue s u v c.args.ring.now.trail.steps
-    (learned_by_glue s u c.args.ring.now.trail.steps c.args.lits.now c.args.glue c.in-Ok.address c.in-Ok.ensures.learned c.requires.glue) (ap (λ (x : PortState). x.held) lent.state))
+    (lent_glue s u w c.args.ring.now.trail.steps
+    (learned_by_glue s u c.args.ring.now.trail.steps c.args.lits.now c.args.glue c.in-Ok.address c.in-Ok.ensures.learned c.requires.glue) (c.tidy_up.ensures.held ∙ ap (λ (x : PortState). x.held) lent.state))
 
 pub returns-in-Err-leave_conflict-clause-stored : goal.returns-in-Err-leave_conflict-clause-stored
 returns-in-Err-leave_conflict-clause-stored g c =
@@ -97,9 +105,10 @@ returns-in-Err-leave_conflict-clause-stored g c =
     let u = g.P.Port.state c.learn.new.self in
     let v = g.P.Port.state c.offer_lemma.new.port in
     let lent = only_lent u v c.in-Ok.address c.args.ring.now.exported c.args.ring.now.offered c.offer_lemma.new.ring.exported c.offer_lemma.new.ring.offered c.offer_lemma.ensures.lent in
+    let w = g.P.Port.state c.tidy_up.new.port in
     subst (λ (x : PortState). HoldsByGlue s x c.args.ring.now.trail.steps) (sym c.leave_conflict.ensures.same)
-    (lent_glue s u v c.args.ring.now.trail.steps
-    (learned_by_glue s u c.args.ring.now.trail.steps c.args.lits.now c.args.glue c.in-Ok.address c.in-Ok.ensures.learned c.requires.glue) (ap (λ (x : PortState). x.held) lent.state))
+    (lent_glue s u w c.args.ring.now.trail.steps
+    (learned_by_glue s u c.args.ring.now.trail.steps c.args.lits.now c.args.glue c.in-Ok.address c.in-Ok.ensures.learned c.requires.glue) (c.tidy_up.ensures.held ∙ ap (λ (x : PortState). x.held) lent.state))
 
 pub returns-then-ring-limit-clause-looks : goal.returns-then-ring-limit-clause-looks
 returns-then-ring-limit-clause-looks g c = λ base before.
@@ -120,14 +129,15 @@ returns-in-Ok-leave_conflict-clause-looks g c = λ base before.
     let u = g.P.Port.state c.learn.new.self in
     let v = g.P.Port.state c.offer_lemma.new.port in
     let middle = c.offer_lemma.new.ring in
+    let between : Ring = record middle { restarts = c.due-ring.new.self; pending = c.due-ring.result } in
     let lent = only_lent u v c.in-Ok.address c.args.ring.now.exported c.args.ring.now.offered middle.exported middle.offered c.offer_lemma.ensures.lent in
     let of_lent = ap (λ (x : PortState). x.looks) lent.state in
     let count = ap (λ (r : Ring). r.learned) c.offer_lemma.ensures.same in
     let same = learned_looks s u c.args.lits.now c.args.glue c.in-Ok.address c.in-Ok.ensures.learned in
     let below = back_below s c.args.ring.now.trail c.args.lits.now c.args.back c.requires.lemma c.requires.search.trail in
     let after = ap (λ (x : PortState). x.looks) c.leave_conflict.ensures.same in
-    let level = left_level v middle c.leave_conflict.new.ring c.args.lits.now c.args.back c.in-Ok.address c.in-Ok-leave_conflict.ensures.left in
-    omega (arith, before, same, of_lent, after, below, level, count, c.leave_conflict.ensures.learned)
+    let level = left_level (g.P.Port.state c.tidy_up.new.port) between c.leave_conflict.new.ring c.args.lits.now c.args.back c.in-Ok.address c.in-Ok-leave_conflict.ensures.left in
+    omega (arith, before, c.tidy_up.ensures.looks, same, of_lent, after, below, level, count, c.leave_conflict.ensures.learned)
 
 pub returns-in-Err-leave_conflict-clause-looks : goal.returns-in-Err-leave_conflict-clause-looks
 returns-in-Err-leave_conflict-clause-looks g c = λ base before.
@@ -135,13 +145,14 @@ returns-in-Err-leave_conflict-clause-looks g c = λ base before.
     let u = g.P.Port.state c.learn.new.self in
     let v = g.P.Port.state c.offer_lemma.new.port in
     let middle = c.offer_lemma.new.ring in
+    let between : Ring = record middle { restarts = c.due-ring.new.self; pending = c.due-ring.result } in
     let lent = only_lent u v c.in-Ok.address c.args.ring.now.exported c.args.ring.now.offered middle.exported middle.offered c.offer_lemma.ensures.lent in
     let of_lent = ap (λ (x : PortState). x.looks) lent.state in
     let count = ap (λ (r : Ring). r.learned) c.offer_lemma.ensures.same in
     let same = learned_looks s u c.args.lits.now c.args.glue c.in-Ok.address c.in-Ok.ensures.learned in
     let below = back_below s c.args.ring.now.trail c.args.lits.now c.args.back c.requires.lemma c.requires.search.trail in
     let after = ap (λ (x : PortState). x.looks) c.leave_conflict.ensures.same in
-    omega (arith, before, same, of_lent, after, below, count, c.leave_conflict.ensures.learned)
+    omega (arith, before, c.tidy_up.ensures.looks, same, of_lent, after, below, count, c.leave_conflict.ensures.learned)
 
 pub returns-then-ring-limit-clause-paced : goal.returns-then-ring-limit-clause-paced
 returns-then-ring-limit-clause-paced g c =
@@ -156,7 +167,7 @@ returns-in-Ok-leave_conflict-clause-paced g c =
     let count = ap (λ (r : Ring). r.learned) c.offer_lemma.ensures.same in
     let noted_is = ap (λ (r : Ring). r.restarts) c.offer_lemma.ensures.same ∙ c.note.ensures in
     subst (λ (n : ℕ). IsPaced c.leave_conflict.new.ring.restarts n c.args.limit) (sym (c.leave_conflict.ensures.learned ∙ count))
-    (subst (λ (r : Restarting). IsPaced r (c.args.ring.now.learned + 1) c.args.limit) (sym (c.leave_conflict.ensures.restarts ∙ ap asked noted_is))
+    (subst (λ (r : Restarting). IsPaced r (c.args.ring.now.learned + 1) c.args.limit) (sym (c.leave_conflict.ensures.restarts ∙ c.due-ring.ensures.asked ∙ ap asked noted_is))
     (paced_more c.args.ring.now.restarts c.args.ring.now.learned c.args.glue c.args.limit c.requires.paced c.requires.below (λ e. c.if-ring-limit.false (count ∙ e))))
 
 pub returns-in-Err-leave_conflict-clause-paced : goal.returns-in-Err-leave_conflict-clause-paced
@@ -164,7 +175,7 @@ returns-in-Err-leave_conflict-clause-paced g c =
     let count = ap (λ (r : Ring). r.learned) c.offer_lemma.ensures.same in
     let noted_is = ap (λ (r : Ring). r.restarts) c.offer_lemma.ensures.same ∙ c.note.ensures in
     subst (λ (n : ℕ). IsPaced c.leave_conflict.new.ring.restarts n c.args.limit) (sym (c.leave_conflict.ensures.learned ∙ count))
-    (subst (λ (r : Restarting). IsPaced r (c.args.ring.now.learned + 1) c.args.limit) (sym (c.leave_conflict.ensures.restarts ∙ ap asked noted_is))
+    (subst (λ (r : Restarting). IsPaced r (c.args.ring.now.learned + 1) c.args.limit) (sym (c.leave_conflict.ensures.restarts ∙ c.due-ring.ensures.asked ∙ ap asked noted_is))
     (paced_more c.args.ring.now.restarts c.args.ring.now.learned c.args.glue c.args.limit c.requires.paced c.requires.below (λ e. c.if-ring-limit.false (count ∙ e))))
 
 pub returns-then-ring-limit-clause-offering : goal.returns-then-ring-limit-clause-offering
@@ -183,8 +194,10 @@ returns-in-Ok-leave_conflict-clause-offering g c =
     let s = g.P.Port.state c.args.port.now in
     let v = g.P.Port.state c.offer_lemma.new.port in
     let middle = c.offer_lemma.new.ring in
+    let between : Ring = record middle { restarts = c.due-ring.new.self; pending = c.due-ring.result } in
+    let w = g.P.Port.state c.tidy_up.new.port in
     subst (λ (x : PortState). IsOffering x c.leave_conflict.new.ring) (sym c.leave_conflict.ensures.same)
-    (offering_stays v v middle c.leave_conflict.new.ring (nothing_none v) c.leave_conflict.ensures.offers c.leave_conflict.ensures.learned
+    (offering_stays v w middle c.leave_conflict.new.ring c.tidy_up.ensures.nothing (record { exported = c.leave_conflict.ensures.offers.exported; offered = c.leave_conflict.ensures.offers.offered }) c.leave_conflict.ensures.learned
     (offering_learned s (g.P.Port.state c.learn.new.self) v c.args.ring.now middle c.args.ring.now.trail.steps c.args.glue c.args.lits.now c.in-Ok.address
     c.requires.offering c.in-Ok.ensures.learned c.requires.glue c.offer_lemma.ensures.lent (ap (λ (r : Ring). r.learned) c.offer_lemma.ensures.same)))
 
@@ -193,8 +206,10 @@ returns-in-Err-leave_conflict-clause-offering g c =
     let s = g.P.Port.state c.args.port.now in
     let v = g.P.Port.state c.offer_lemma.new.port in
     let middle = c.offer_lemma.new.ring in
+    let between : Ring = record middle { restarts = c.due-ring.new.self; pending = c.due-ring.result } in
+    let w = g.P.Port.state c.tidy_up.new.port in
     subst (λ (x : PortState). IsOffering x c.leave_conflict.new.ring) (sym c.leave_conflict.ensures.same)
-    (offering_stays v v middle c.leave_conflict.new.ring (nothing_none v) c.leave_conflict.ensures.offers c.leave_conflict.ensures.learned
+    (offering_stays v w middle c.leave_conflict.new.ring c.tidy_up.ensures.nothing (record { exported = c.leave_conflict.ensures.offers.exported; offered = c.leave_conflict.ensures.offers.offered }) c.leave_conflict.ensures.learned
     (offering_learned s (g.P.Port.state c.learn.new.self) v c.args.ring.now middle c.args.ring.now.trail.steps c.args.glue c.args.lits.now c.in-Ok.address
     c.requires.offering c.in-Ok.ensures.learned c.requires.glue c.offer_lemma.ensures.lent (ap (λ (r : Ring). r.learned) c.offer_lemma.ensures.same)))
 
@@ -203,5 +218,67 @@ leave_conflict-requires-clause-held g c =
     let s = g.P.Port.state c.args.port.now in
     let u = g.P.Port.state c.learn.new.self in
     let v = g.P.Port.state c.offer_lemma.new.port in
-    lent_held s u v c.args.lits.now c.args.glue c.in-Ok.address c.in-Ok.ensures.learned
-    (only_lent u v c.in-Ok.address c.args.ring.now.exported c.args.ring.now.offered c.offer_lemma.new.ring.exported c.offer_lemma.new.ring.offered c.offer_lemma.ensures.lent)
+    held_stays v (g.P.Port.state c.tidy_up.new.port) c.in-Ok.address c.tidy_up.ensures.held
+    (lent_held s u v c.args.lits.now c.args.glue c.in-Ok.address c.in-Ok.ensures.learned
+    (only_lent u v c.in-Ok.address c.args.ring.now.exported c.args.ring.now.offered c.offer_lemma.new.ring.exported c.offer_lemma.new.ring.offered c.offer_lemma.ensures.lent))
+
+pub returns-in-Err-tidy_up-clause-leads : goal.returns-in-Err-tidy_up-clause-leads
+returns-in-Err-tidy_up-clause-leads g c = λ start p.
+    let s = g.P.Port.state c.args.port.now in
+    let u = g.P.Port.state c.learn.new.self in
+    let v = g.P.Port.state c.offer_lemma.new.port in
+    let w = g.P.Port.state c.tidy_up.new.port in
+    let middle = c.offer_lemma.new.ring in
+    let between : Ring = record middle { restarts = c.due-ring.new.self; pending = c.due-ring.result } in
+    let lent = only_lent u v c.in-Ok.address c.args.ring.now.exported c.args.ring.now.offered middle.exported middle.offered c.offer_lemma.ensures.lent in
+    let count = ap (λ (r : Ring). r.learned) c.offer_lemma.ensures.same in
+    subst (λ (n : ℕ). ComesTo start w n c.args.limit c.end_refused-in-Err-tidy_up.result) (sym count)
+    (subst (λ (end : End). ComesTo start w (c.args.ring.now.learned + 1) c.args.limit end) (sym c.end_refused-in-Err-tidy_up.ensures)
+    (c.in-Err-tidy_up.ensures.over (c.args.ring.now.learned + 1) c.args.limit (omega (arith, count, c.requires.below, c.if-ring-limit.false)) start
+    (lent_goes_on start u v (c.args.ring.now.learned + 1)
+    (learned_any start s u c.args.ring.now.learned c.args.glue c.args.ring.now.trail c.args.lits.now c.args.back c.in-Ok.address p
+    c.requires.search.stands c.requires.lemma c.requires.glue c.in-Ok.ensures.learned c.learn.ensures.kept c.learn.ensures.log c.learn.ensures.port) lent c.offer_lemma.ensures.log c.offer_lemma.ensures.port)))
+
+pub returns-in-Err-tidy_up-clause-stored : goal.returns-in-Err-tidy_up-clause-stored
+returns-in-Err-tidy_up-clause-stored g c =
+    let s = g.P.Port.state c.args.port.now in
+    let u = g.P.Port.state c.learn.new.self in
+    let v = g.P.Port.state c.offer_lemma.new.port in
+    let w = g.P.Port.state c.tidy_up.new.port in
+    let lent = only_lent u v c.in-Ok.address c.args.ring.now.exported c.args.ring.now.offered c.offer_lemma.new.ring.exported c.offer_lemma.new.ring.offered c.offer_lemma.ensures.lent in
+    lent_glue s u w c.args.ring.now.trail.steps
+    (learned_by_glue s u c.args.ring.now.trail.steps c.args.lits.now c.args.glue c.in-Ok.address c.in-Ok.ensures.learned c.requires.glue) (c.tidy_up.ensures.held ∙ ap (λ (x : PortState). x.held) lent.state)
+
+pub returns-in-Err-tidy_up-clause-looks : goal.returns-in-Err-tidy_up-clause-looks
+returns-in-Err-tidy_up-clause-looks g c = λ base before.
+    let s = g.P.Port.state c.args.port.now in
+    let u = g.P.Port.state c.learn.new.self in
+    let v = g.P.Port.state c.offer_lemma.new.port in
+    let middle = c.offer_lemma.new.ring in
+    let between : Ring = record middle { restarts = c.due-ring.new.self; pending = c.due-ring.result } in
+    let lent = only_lent u v c.in-Ok.address c.args.ring.now.exported c.args.ring.now.offered middle.exported middle.offered c.offer_lemma.ensures.lent in
+    let of_lent = ap (λ (x : PortState). x.looks) lent.state in
+    let count = ap (λ (r : Ring). r.learned) c.offer_lemma.ensures.same in
+    let same = learned_looks s u c.args.lits.now c.args.glue c.in-Ok.address c.in-Ok.ensures.learned in
+    let below = back_below s c.args.ring.now.trail c.args.lits.now c.args.back c.requires.lemma c.requires.search.trail in
+    let none = ap last_looks c.end_refused-in-Err-tidy_up.ensures ∙ refused_last c.in-Err-tidy_up.stop in
+    omega (arith, before, c.tidy_up.ensures.looks, same, of_lent, below, count, none)
+
+pub returns-in-Err-tidy_up-clause-paced : goal.returns-in-Err-tidy_up-clause-paced
+returns-in-Err-tidy_up-clause-paced g c =
+    let count = ap (λ (r : Ring). r.learned) c.offer_lemma.ensures.same in
+    let noted_is = ap (λ (r : Ring). r.restarts) c.offer_lemma.ensures.same ∙ c.note.ensures in
+    subst (λ (n : ℕ). IsPaced c.due-ring.new.self n c.args.limit) (sym count)
+    (subst (λ (r : Restarting). IsPaced r (c.args.ring.now.learned + 1) c.args.limit) (sym (c.due-ring.ensures.asked ∙ ap asked noted_is))
+    (paced_more c.args.ring.now.restarts c.args.ring.now.learned c.args.glue c.args.limit c.requires.paced c.requires.below (λ e. c.if-ring-limit.false (count ∙ e))))
+
+pub returns-in-Err-tidy_up-clause-offering : goal.returns-in-Err-tidy_up-clause-offering
+returns-in-Err-tidy_up-clause-offering g c =
+    let s = g.P.Port.state c.args.port.now in
+    let v = g.P.Port.state c.offer_lemma.new.port in
+    let w = g.P.Port.state c.tidy_up.new.port in
+    let middle = c.offer_lemma.new.ring in
+    let between : Ring = record middle { restarts = c.due-ring.new.self; pending = c.due-ring.result } in
+    offering_stays v w middle between c.tidy_up.ensures.nothing (record { exported = refl; offered = refl }) refl
+    (offering_learned s (g.P.Port.state c.learn.new.self) v c.args.ring.now middle c.args.ring.now.trail.steps c.args.glue c.args.lits.now c.in-Ok.address
+    c.requires.offering c.in-Ok.ensures.learned c.requires.glue c.offer_lemma.ensures.lent (ap (λ (r : Ring). r.learned) c.offer_lemma.ensures.same))

@@ -23,20 +23,20 @@ use Rattle.restart_plan.proofs.Restarting.{exact-none, exact-most}
 use Rattle.ring_run.specs.Ended.{IsJobOf, IsUntouched, IsOwn, IsNewLine, HasRestarted, opening_of}
 use Rattle.ring_run.specs.Strategy.{Decides, IsPaced, AreMarked}
 use Rattle.ring_run.specs.declared.job.Counts.{Counts}
-use Rattle.ring_run.specs.Searching.{IsHeldBy, Runs, GoesOn}
-use Rattle.ring_run.specs.Course.{IsBegun}
+use Rattle.ring_run.specs.Searching.{IsHeldBy, AreTold, Runs, GoesOn}
+use Rattle.ring_run.specs.Course.{MayImport}
 use Rattle.ring_run.specs.declared.job.Job.{Job}
 use Rattle.ring_run.specs.declared.ring.Ring.{Ring}
 
 pub runs_begin : (s : PortState) → IsUntouched s → IsPort s → Runs s s 0
 runs_begin s p port = record {
-  stays = record { start = refl; opening = refl; vars = refl; ring = refl; rings = refl; polled = refl; taken = refl; home = refl; log = λ o h. h };
+  stays = record { start = refl; opening = refl; vars = refl; ring = refl; rings = refl; polled = omega arith; home = refl; log = λ o h. h };
   kept = λ a h. refl;
   wrote = subst (All (IsOwn s.ring s.vars)) (sym p.mine) (λ k d h. absurd (omega arith));
   counted = sym (ap (λ (J : List Entry). length (learned s.ring J)) p.mine);
   each_new = subst (EachAfter (IsNew (opening_of s)) []) (sym p.mine) tt;
   new_lines = subst (EachAfter (IsNewLine s.opening s.given s.ring) []) (sym p.mine) tt;
-  glued = λ h there. inl there;
+  glued = record { others = []; few = omega arith; each = λ h there. inl there };
   port = port;
 }
 
@@ -63,8 +63,9 @@ starts_held s job asked p = subst (All (IsHeldBy s)) (sym asked.start) held
 
 -- a ring that has attached the job's clauses, with nothing true
 pub begun : (s : PortState) (job : Job) (ring : Ring) → IsJobOf s job → IsUntouched s → IsPort s → ring.trail ≡ record { vars = job.vars; level = 0; steps = []; done = 0 } → IsTrail ring.trail
-    → attached ring.watches ≡ job.start → ((t : TrailData) → t.vars ≡ job.vars → IsFresh t → Watched ring.watches (lits_at s) t) → ring.written ≡ 0 → IsBegun s ring
+    → attached ring.watches ≡ job.start → ((t : TrailData) → t.vars ≡ job.vars → IsFresh t → Watched ring.watches (lits_at s) t) → ring.written ≡ 0 → MayImport s ring.trail ring.watches ring.written
 begun s job ring asked p port trail shape clauses watched none =
+    let bare : length ring.trail.steps ≡ 0 = ap (λ (t : TrailData). length t.steps) trail in
     let is : attached ring.watches ≡ map (λ (h : Holding). record { address = h.address }) s.start = clauses ∙ asked.start in
     record {
       clauses = record {
@@ -76,7 +77,7 @@ begun s job ring asked p port trail shape clauses watched none =
           lemmas = λ c h. absurd (Contains_In [] c (subst (λ (J : List Entry). Contains (recent s.ring J) c) p.mine h));
           units = λ l h. absurd (false≢true (ap (λ (J : List Entry). adds_unit s.ring J l) (sym p.mine) ∙ h));
         };
-        taken = p.taken;
+        taken = λ a there. absurd (Contains_In [] a (subst (λ (xs : List ℕ). Contains xs a) p.taken there));
         refused = p.refused;
         stop = p.stop;
         port = port;
@@ -88,11 +89,16 @@ begun s job ring asked p port trail shape clauses watched none =
       };
       trail = shape;
       level = ap (λ (t : TrailData). t.level) trail;
-      bare = ap (λ (t : TrailData). t.steps) trail;
-      mine = p.mine;
-      none_written = none;
-      watched = λ t vars fresh. watched t (vars ∙ sym asked.vars) fresh;
-      reasons = record { caused = λ q h. absurd (omega (arith, ap (λ (t : TrailData). length t.steps) trail)) };
+      watched = watched ring.trail (ap (λ (t : TrailData). t.vars) trail) (λ q le lt. absurd (omega (arith, lt, bare)));
+      reasons = record { caused = λ q h. absurd (omega (arith, h, bare)) };
+      told = subst (AreTold s ring.trail) (sym none) (record {
+        few = omega arith;
+        low = λ q h. absurd (omega (arith, h));
+        first = λ q h. absurd (omega (arith, h));
+        rest = λ q le lt some. absurd (omega (arith, lt, bare));
+        all = λ up q lt. absurd (omega (arith, lt, bare));
+      });
+      whole = none ∙ sym bare;
     }
 
 -- a decider whose active variables are those of the job's clauses

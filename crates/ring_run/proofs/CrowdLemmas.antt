@@ -7,8 +7,8 @@ use Rattle.ring_port.specs.PortState.{PortState, held_at, HoldsStart}
 use Rattle.ring_run.specs.Crowd.{crowd_of}
 use Rattle.ring_run.proofs.Remembering.{held_same}
 
-pub crowd_held : (s : PortState) (stop : Option Stop) (looks : ℕ) (refused : Option PortStop) (a : ℕ) → held_at (crowd_of s stop looks refused) a ≡ held_at s a
-crowd_held s stop looks refused a = held_same s (crowd_of s stop looks refused) a refl
+pub crowd_held : (s : PortState) (stop : Option Stop) (looks : ℕ) (refused : Option PortStop) (polled a : ℕ) → held_at (crowd_of s stop looks refused polled) a ≡ held_at s a
+crowd_held s stop looks refused polled a = held_same s (crowd_of s stop looks refused polled) a refl
 
-pub crowd_holds : (s : PortState) (stop : Option Stop) (looks : ℕ) (refused : Option PortStop) → HoldsStart s → HoldsStart (crowd_of s stop looks refused)
-crowd_holds s stop looks refused h k d lt = held_same s (crowd_of s stop looks refused) _ refl ∙ h k d lt
+pub crowd_holds : (s : PortState) (stop : Option Stop) (looks : ℕ) (refused : Option PortStop) (polled : ℕ) → HoldsStart s → HoldsStart (crowd_of s stop looks refused polled)
+crowd_holds s stop looks refused polled h k d lt = held_same s (crowd_of s stop looks refused polled) _ refl ∙ h k d lt

@@ -39,7 +39,7 @@ learned_any start s u n glue t lits back None p stands a counts w kept log port 
     unit_learned_goes_on start s u n lits p (subst (λ (v : ℕ). IsClause v lits) stands.vars a.clause) a.is_new_to w kept log port
 
 -- what was held still is
-held_more : (s u : PortState) (cs : List Cref) → KeepsHeld s u → All (IsHeldBy s) cs → All (IsHeldBy u) cs
+pub held_more : (s u : PortState) (cs : List Cref) → KeepsHeld s u → All (IsHeldBy s) cs → All (IsHeldBy u) cs
 held_more s u cs kept all = λ k d h. (let there = all k d h in subst (λ (o : Option Holding). IsSome o) (sym (kept (get_or cs k d).address there)) there)
 
 same_first : (s : PortState) (t : TrailData) (lits : List Literal) (back : ℕ) (a : IsAsserting s t lits back) (first : Literal) (rest : List Literal) → lits ≡ first ∷ rest → a.first ≡ first
@@ -70,7 +70,8 @@ learned_clause s u t v cs lits back glue c a p opening stands shape is w kept po
             (Contains_In cs (record { address = h.address }) (p.starts h (subst (λ (hs : List Holding). Contains hs h) (ap (λ (y : PortState). y.start) w.state) start))));
         starts_held = starts_kept s u (ap (λ (y : PortState). y.start) w.state) kept p.starts_held;
         own = clause_remembered s u lits glue c cs a.clause.distinct w (lits_kept s u cs kept p.held) p.own;
-        taken = ap (λ (y : PortState). y.taken) w.state ∙ p.taken;
+        taken = λ a member. In_Contains (cs ++ c ∷ []) (record { address = a }) (In_append_left cs (c ∷ []) (record { address = a })
+            (Contains_In cs (record { address = a }) (p.taken a (subst (λ (xs : List ℕ). Contains xs a) (ap (λ (y : PortState). y.taken) w.state) member))));
         refused = ap (λ (y : PortState). y.refused) w.state ∙ p.refused;
         stop = ap (λ (y : PortState). y.stop) w.state ∙ p.stop;
         port = port;
@@ -103,7 +104,7 @@ learned_unit s u t v cs lits back glue a p opening is w kept port =
         starts = λ h start. p.starts h (subst (λ (hs : List Holding). Contains hs h) (ap (λ (y : PortState). y.start) wrote.state) start);
         starts_held = starts_kept s u (ap (λ (y : PortState). y.start) wrote.state) kept p.starts_held;
         own = unit_remembered s u w.lit Learn None wrote cs p.own;
-        taken = ap (λ (y : PortState). y.taken) wrote.state ∙ p.taken;
+        taken = λ a member. p.taken a (subst (λ (xs : List ℕ). Contains xs a) (ap (λ (y : PortState). y.taken) wrote.state) member);
         refused = ap (λ (y : PortState). y.refused) wrote.state ∙ p.refused;
         stop = ap (λ (y : PortState). y.stop) wrote.state ∙ p.stop;
         port = port;

@@ -7,7 +7,7 @@ use Rattle.sat_words.specs.Literal.{Literal}
 use Rattle.sat_words.specs.Clause.{has, is_empty}
 use Rattle.sat_words.specs.declared.shared.Cref.{Cref}
 use Rattle.rup_model.specs.declared.journal.Entry.{Entry}
-use Rattle.rup_model.specs.Journal.{added}
+use Rattle.rup_model.specs.Journal.{added, learned}
 use Rattle.ring_port.specs.PortState.{PortState, Holding, IsPort, held_at}
 use Rattle.ring_port.specs.Port.{Learned}
 use Rattle.ring_port.specs.Log.{KeepsLog}
@@ -25,7 +25,7 @@ use Rattle.ring_run.proofs.Standing.{reasoned_more}
 use Rattle.ring_run.proofs.Progress.{runs_same, lines_moved, starts_kept, glue_bounds}
 use Rattle.ring_run.proofs.Telling.{told_same}
 use Rattle.ring_run.proofs.Turning.{wrote_search}
-use Rattle.ring_run.proofs.Offering.{nothing_same, OnlyLent, offers_stay, offers_learned}
+use Rattle.ring_run.proofs.Offering.{nothing_same, OnlyLent, offers_stay, offers_learned, offers_kept}
 
 pub lent_wrote : (s u : PortState) → OnlyLent s u → KeepsLog s u → OnlyWrote s u
 lent_wrote s u p log =
@@ -37,11 +37,11 @@ lent_wrote s u p log =
         vars = ap (λ (x : PortState). x.vars) is;
         ring = ap (λ (x : PortState). x.ring) is;
         rings = ap (λ (x : PortState). x.rings) is;
-        polled = ap (λ (x : PortState). x.polled) is;
-        taken = ap (λ (x : PortState). x.taken) is;
+        polled = omega (arith, ap (λ (x : PortState). x.polled) is);
         home = ap (λ (x : PortState). x.home) is;
         log = log;
       };
+      taken = ap (λ (x : PortState). x.taken) is;
       held = ap (λ (x : PortState). x.held) is;
       own = λ cs q. remembered_same s u cs (ap (λ (x : PortState). x.ring) is) (ap (λ (x : PortState). x.mine) is)
           (λ c there. ap (λ (f : ℕ → List Literal). f c.address) (lits_same s u (ap (λ (x : PortState). x.held) is))) (λ l h. ap (λ (ls : List Literal). has ls l) (ap (λ (x : PortState). x.seen) is) ∙ h) q;
@@ -102,6 +102,13 @@ pub lent_glue : (s u v : PortState) (steps : List Step) → HoldsByGlue s u step
 lent_glue s u v steps p held h there = p h (subst (λ (hs : List Holding). Contains hs h) held there)
 
 -- what is counted stays true where nothing is learned or offered
+pub offering_kept : (s u : PortState) (old new : Ring) → u.shared ≡ s.shared → u.ring ≡ s.ring → u.rings ≡ s.rings → learned u.ring u.mine ≡ learned s.ring s.mine → new.exported ≡ old.exported → new.offered ≡ old.offered → new.learned ≡ old.learned
+    → IsOffering s old → IsOffering u new
+offering_kept s u old new shared ring rings lemmas exported offered count p = record {
+  counts = subst (HasOffered u new.exported) (sym offered) (subst (λ (e : ℕ). HasOffered u e old.offered) (sym exported) (offers_kept s u old.exported old.offered shared ring rings lemmas p.counts));
+  few = omega (arith, exported, count, p.few);
+}
+
 pub offering_stays : (s u : PortState) (old new : Ring) → OffersNothing s u → AreSameOffers old new → new.learned ≡ old.learned → IsOffering s old → IsOffering u new
 offering_stays s u old new nothing same learned p = record {
   counts = subst (HasOffered u new.exported) (sym same.offered) (subst (λ (e : ℕ). HasOffered u e old.offered) (sym same.exported) (offers_stay s u old.exported old.offered nothing p.counts));
@@ -125,7 +132,7 @@ offering_learned s u v old new steps glue lits address p w counts lent learned =
 }
 
 pub saw_nothing : (s u : PortState) → OnlySaw s u → OffersNothing s u
-saw_nothing s u p = nothing_same s u p.shared p.stays.ring p.stays.rings p.mine
+saw_nothing s u p = nothing_same s u p.shared p.polled p.stays.ring p.stays.rings p.mine
 
 -- a lemma that has an address is held
 pub lent_held : (s u v : PortState) (lits : List Literal) (glue : ℕ) (address : Option Cref) → Learned s u lits glue (Ok address) → OnlyLent u v → IfSome address (λ c. IsSome (held_at v c.address))

@@ -8,6 +8,8 @@ pub mod Learning
 pub mod Deciding
 pub mod Turning
 pub mod Tidying
+pub mod Importing
+pub mod Polling
 pub mod Beginning
 pub mod Telling
 pub mod Marked

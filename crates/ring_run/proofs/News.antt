@@ -1,6 +1,5 @@
 -- A clause that contains no attached clause, and no literal that is seen, is new.
-use Rattle.std.proofs.Common.{◌≡◌, ◌∙◌, Bool, true, false, not, ◌||◌, List, [], ◌∷◌, ◌++◌, map, sym, subst, ap, refl, inl, inr, arith, Some, Contains}
-use Rattle.std.specs.Prelude.{All}
+use Rattle.std.proofs.Common.{◌≡◌, ◌∙◌, ℕ, get_or, Bool, true, false, not, ◌||◌, List, [], ◌∷◌, ◌++◌, map, sym, subst, ap, refl, inl, inr, Some, Contains}
 use Rattle.std.specs.List.{list_any}
 use Rattle.std.proofs.lemmas.Bool.{or_cases, and_from, cases_Bool}
 use Rattle.sat_words.specs.Literal.{Literal}
@@ -8,7 +7,7 @@ use Rattle.sat_words.specs.Clause.{has, includes}
 use Rattle.sat_words.specs.declared.shared.Cref.{Cref}
 use Rattle.rup_model.specs.Journal.{fresh, recent}
 use Rattle.rup_model.specs.Opening.{Start, start_clauses, adds_unit}
-use Rattle.rup_model.proofs.Lists.{In, In_any, all_In, In_append, In_has, has_In, In_Contains, map_In}
+use Rattle.rup_model.proofs.Lists.{In, In_any, all_In, In_append, In_has, has_In, In_Contains, In_get_or, map_In}
 use Rattle.ring_port.specs.PortState.{PortState, Holding, held_at, lits_at, lits_in}
 use Rattle.ring_port.specs.Port.{start_lits}
 use Rattle.ring_port.specs.Log.{start_of}
@@ -62,9 +61,16 @@ module _ (s : PortState) (cs : List Cref) (lits : List Literal) (p : HasClauses 
         | inr wrote ↦ none_seen l (In_has lits l there) (p.own.units l wrote)
       ])
 
+  taken_outside : (a : ℕ) → In a s.taken → includes lits (lits_at s a) ≡ false
+  taken_outside a there = by (includes lits (lits_at s a)) (λ e. none_inside (lits_at s a) (stands_there s cs (record { address = a }) (p.taken a (In_Contains s.taken a there))) (all_inside (lits_at s a) e))
+    where
+      by : (b : Bool) → (b ≡ true → ⊥) → b ≡ false
+      by true no_way = absurd (no_way refl)
+      by false no_way = refl
+
   pub new_to : IsNewTo s lits
   new_to = record {
-    unknown = record { own = is_fresh; others = subst (All (λ a. includes lits (lits_at s a) ≡ false)) (sym p.taken) (λ k d lt. absurd (omega arith)) };
+    unknown = record { own = is_fresh; others = λ k d lt. taken_outside (get_or s.taken k d) (In_get_or s.taken k d lt) };
     unlisted = and_from (fresh (start_clauses (opening_of s)) s.mine s.ring lits) (not (list_any (λ l. has s.opening l || adds_unit s.ring s.mine l) lits))
         (ap (λ (ds : List (List Literal)). fresh ds s.mine s.ring lits) (same_starts s.start) ∙ is_fresh) no_unit_inside;
   }

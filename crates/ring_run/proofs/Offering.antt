@@ -27,24 +27,25 @@ use Rattle.ring_run.specs.Ended.{HasOffered, is_short, is_long}
 use Rattle.ring_run.specs.Searching.{OffersNothing, HasLent, HasLentBy}
 use Rattle.ring_run.proofs.Progress.{Same, same_refused}
 
-pub nothing_same : (s u : PortState) → u.shared ≡ s.shared → u.ring ≡ s.ring → u.rings ≡ s.rings → u.mine ≡ s.mine → OffersNothing s u
-nothing_same s u shared ring rings mine = record {
+pub nothing_same : (s u : PortState) → u.shared ≡ s.shared → u.polled ≡ s.polled → u.ring ≡ s.ring → u.rings ≡ s.rings → u.mine ≡ s.mine → OffersNothing s u
+nothing_same s u shared polled ring rings mine = record {
   shared = shared;
+  polled = polled;
   ring = ring;
   rings = rings;
   lemmas = ap (λ (r : ℕ). learned r u.mine) ring ∙ ap (learned s.ring) mine;
 }
 
 pub nothing_none : (s : PortState) → OffersNothing s s
-nothing_none s = record { shared = refl; ring = refl; rings = refl; lemmas = refl }
+nothing_none s = record { shared = refl; polled = refl; ring = refl; rings = refl; lemmas = refl }
 
 pub nothing_then : (s u w : PortState) → OffersNothing s u → OffersNothing u w → OffersNothing s w
-nothing_then s u w p q = record { shared = q.shared ∙ p.shared; ring = q.ring ∙ p.ring; rings = q.rings ∙ p.rings; lemmas = q.lemmas ∙ p.lemmas }
+nothing_then s u w p q = record { shared = q.shared ∙ p.shared; polled = q.polled ∙ p.polled; ring = q.ring ∙ p.ring; rings = q.rings ∙ p.rings; lemmas = q.lemmas ∙ p.lemmas }
 
 pub nothing_refused : (s u : PortState) (stop : PortStop) → Refused s u stop → OffersNothing s u
 nothing_refused s u stop r =
     let same : Same s u = subst (Same s) (sym r.state) (same_refused s u.output stop) in
-    nothing_same s u same.shared same.ring same.rings same.mine
+    nothing_same s u same.shared same.polled same.ring same.rings same.mine
 
 -- an entry of another kind is none that was learned
 not_among : (r : ℕ) (x : Addition) → is_learn x.kind ≡ false → learned r (Add x ∷ []) ≡ []
@@ -60,10 +61,11 @@ same_lemmas s number lits kind other =
     ∙ ap (λ (G : List (List Literal)). learned s.ring s.mine ++ G) (not_among s.ring (record { ring = s.ring; number = number; lits = lits; kind = kind }) other)
     ∙ append-nil (learned s.ring s.mine)
 
-nothing_added : (s u : PortState) (number : ℕ) (lits : List Literal) (kind : Kind) → is_learn kind ≡ false → u.shared ≡ s.shared → u.ring ≡ s.ring → u.rings ≡ s.rings
+nothing_added : (s u : PortState) (number : ℕ) (lits : List Literal) (kind : Kind) → is_learn kind ≡ false → u.shared ≡ s.shared → u.polled ≡ s.polled → u.ring ≡ s.ring → u.rings ≡ s.rings
     → u.mine ≡ s.mine ++ entry_of s number lits kind ∷ [] → OffersNothing s u
-nothing_added s u number lits kind other shared ring rings mine = record {
+nothing_added s u number lits kind other shared polled ring rings mine = record {
   shared = shared;
+  polled = polled;
   ring = ring;
   rings = rings;
   lemmas = ap (λ (r : ℕ). learned r u.mine) ring ∙ ap (learned s.ring) mine ∙ same_lemmas s number lits kind other;
@@ -71,16 +73,16 @@ nothing_added s u number lits kind other shared ring rings mine = record {
 
 pub nothing_unit : (s u : PortState) (l : Literal) (r : Result (Unit {0}) PortStop) → UnitWritten s u l r → OffersNothing s u
 nothing_unit s u l (Ok done) w =
-    nothing_added s u w.number (l ∷ []) UnitLine refl (ap (λ (x : PortState). x.shared) w.state) (ap (λ (x : PortState). x.ring) w.state) (ap (λ (x : PortState). x.rings) w.state) (ap (λ (x : PortState). x.mine) w.state)
+    nothing_added s u w.number (l ∷ []) UnitLine refl (ap (λ (x : PortState). x.shared) w.state) (ap (λ (x : PortState). x.polled) w.state) (ap (λ (x : PortState). x.ring) w.state) (ap (λ (x : PortState). x.rings) w.state) (ap (λ (x : PortState). x.mine) w.state)
 nothing_unit s u l (Err stop) w = nothing_refused s u stop w
 
 pub nothing_empty : (s u : PortState) (r : Result (Unit {0}) PortStop) → EmptyWritten s u r → OffersNothing s u
 nothing_empty s u (Ok done) w =
-    nothing_added s u w.number [] Derive refl (ap (λ (x : PortState). x.shared) w.state) (ap (λ (x : PortState). x.ring) w.state) (ap (λ (x : PortState). x.rings) w.state) (ap (λ (x : PortState). x.mine) w.state)
+    nothing_added s u w.number [] Derive refl (ap (λ (x : PortState). x.shared) w.state) (ap (λ (x : PortState). x.polled) w.state) (ap (λ (x : PortState). x.ring) w.state) (ap (λ (x : PortState). x.rings) w.state) (ap (λ (x : PortState). x.mine) w.state)
 nothing_empty s u (Err stop) w = nothing_refused s u stop w
 
 nothing_is : (s u : PortState) (looks : ℕ) (stop : Option Stop) → u ≡ record s { looks = looks; stop = stop } → OffersNothing s u
-nothing_is s u looks stop is = nothing_same s u (ap (λ (x : PortState). x.shared) is) (ap (λ (x : PortState). x.ring) is) (ap (λ (x : PortState). x.rings) is) (ap (λ (x : PortState). x.mine) is)
+nothing_is s u looks stop is = nothing_same s u (ap (λ (x : PortState). x.shared) is) (ap (λ (x : PortState). x.polled) is) (ap (λ (x : PortState). x.ring) is) (ap (λ (x : PortState). x.rings) is) (ap (λ (x : PortState). x.mine) is)
 
 pub nothing_looked : (s u : PortState) (o : Option Stop) → Looked s u o → OffersNothing s u
 nothing_looked s u None w = nothing_is s u _ s.stop w.1
@@ -90,19 +92,22 @@ pub nothing_set : (s u : PortState) (kind : ℕ) (r : Set) → SetStop s u kind 
 nothing_set s u kind Won w = nothing_is s u s.looks _ w.1
 nothing_set s u kind (Lost x) w = nothing_is s u s.looks _ w.1
 
-others_same : (s u : PortState) → u.ring ≡ s.ring → u.rings ≡ s.rings → length (other_rings u) ≡ length (other_rings s)
+pub others_same : (s u : PortState) → u.ring ≡ s.ring → u.rings ≡ s.rings → length (other_rings u) ≡ length (other_rings s)
 others_same s u ring rings =
     ap (λ (r : ℕ). length (filter (λ (x : ℕ). not (x == r)) (range_with_len 0 u.rings))) ring
     ∙ ap (λ (n : ℕ). length (filter (λ (x : ℕ). not (x == s.ring)) (range_with_len 0 n))) rings
 
 -- the counts stay true
-pub offers_stay : (s u : PortState) (e o : ℕ) → OffersNothing s u → HasOffered s e o → HasOffered u e o
-offers_stay s u e o p h = record {
-  shared = p.shared ∙ h.shared ∙ ap (λ (n : ℕ). n * e) (sym (others_same s u p.ring p.rings));
-  all = subst (λ (G : List (List Literal)). length (filter is_short G) ≤ e) (sym p.lemmas) h.all;
-  few = subst (λ (G : List (List Literal)). e ≤ length (filter is_long G)) (sym p.lemmas) h.few;
-  told = h.told ∙ ap (λ (n : ℕ). min n (2 ^ 64 - 1)) (sym p.shared);
+pub offers_kept : (s u : PortState) (e o : ℕ) → u.shared ≡ s.shared → u.ring ≡ s.ring → u.rings ≡ s.rings → learned u.ring u.mine ≡ learned s.ring s.mine → HasOffered s e o → HasOffered u e o
+offers_kept s u e o shared ring rings lemmas h = record {
+  shared = shared ∙ h.shared ∙ ap (λ (n : ℕ). n * e) (sym (others_same s u ring rings));
+  all = subst (λ (G : List (List Literal)). length (filter is_short G) ≤ e) (sym lemmas) h.all;
+  few = subst (λ (G : List (List Literal)). e ≤ length (filter is_long G)) (sym lemmas) h.few;
+  told = h.told ∙ ap (λ (n : ℕ). min n (2 ^ 64 - 1)) (sym shared);
 }
+
+pub offers_stay : (s u : PortState) (e o : ℕ) → OffersNothing s u → HasOffered s e o → HasOffered u e o
+offers_stay s u e o p h = offers_kept s u e o p.shared p.ring p.rings p.lemmas h
 
 -- before anything was learned
 pub offers_begin : (s : PortState) → s.shared ≡ 0 → s.mine ≡ [] → HasOffered s 0 0

@@ -1,5 +1,5 @@
 -- What each call of the port leaves of a run.
-use Rattle.std.proofs.Common.{◌≡◌, ◌∙◌, ℕ, ◌+◌, ◌≤◌, Bool, true, false, List, [], ◌∷◌, ◌++◌, length, map, sym, subst, ap, arith, inl, inr, ◌⊎◌, ◌<◌, Contains, drop, Some, None, IsSome, refl, length-append, slice_index_or, cond, nat_eq, eq-eqb}
+use Rattle.std.proofs.Common.{◌≡◌, ◌∙◌, ℕ, ◌+◌, ◌-◌, ◌^◌, min, ◌≤◌, Bool, true, false, List, [], ◌∷◌, ◌++◌, length, map, sym, subst, ap, arith, inl, inr, ◌⊎◌, ◌<◌, Contains, drop, Some, None, IsSome, refl, length-append, slice_index_or, cond, nat_eq, eq-eqb}
 use Rattle.std.specs.Prelude.{All, ◌&&◌, ◌≢◌, MatchOption, IfSome, IfErr, Result, Ok, Err}
 use Rattle.std.specs.List.{list_any}
 use Rattle.std.specs.declared.option.Option.{Option}
@@ -33,7 +33,7 @@ use Rattle.ring_port.specs.Log.{KeepsLog, start_of}
 use Rattle.ring_port.specs.declared.stops.PortStop.{PortStop}
 use Rattle.ring_port.specs.declared.stops.PortStop.TheVariants.{Ended, Broken, ProofFault, NoHole, Memory}
 use Rattle.ring_run.specs.Ended.{Stays, IsOwn, AreNew, IsUntold, IsNewLine, AreNewLines, IsGlued, HoldsGlued, Cause, stop_kind, opening_of}
-use Rattle.ring_run.specs.Searching.{Runs, GoesOn, OnlySaw, OnlyWrote, IsNewTo, UnitsSeen, IsGlueOf, HoldsByGlue}
+use Rattle.ring_run.specs.Searching.{Runs, GoesOn, OnlyWrote, IsNewTo, UnitsSeen, IsGlueOf, HoldsByGlue}
 use Rattle.ring_run.specs.Ending.{CountsTo, IsUnset, ComesTo, EndsAt, end_refused}
 use Rattle.ring_run.specs.declared.job.End.{End}
 use Rattle.ring_run.specs.declared.job.End.TheVariants as ring_end
@@ -46,8 +46,7 @@ stays_by s u w p q = record {
   vars = q.vars ∙ p.vars;
   ring = q.ring ∙ p.ring;
   rings = q.rings ∙ p.rings;
-  polled = q.polled ∙ p.polled;
-  taken = q.taken ∙ p.taken;
+  polled = omega (arith, q.polled, p.polled);
   home = q.home ∙ p.home;
   log = λ o h. q.log o (p.log o h);
 }
@@ -74,15 +73,23 @@ lines_moved s u J stays given is p =
     (subst (λ r. Q u.opening u.given r J) (sym stays.ring) (subst (λ g. Q u.opening g s.ring J) (sym given) (subst (λ o. Q o s.given s.ring J) (sym stays.opening) p)))
 
 -- glues of what is held
-pub glued_same : (s u : PortState) → u.held ≡ s.held → HoldsGlued s u
+-- a call that holds nothing more, or what has such a glue
+abbrev pub AddsGlued : PortState → PortState → Type 0
+AddsGlued old new = (h : Holding) → Contains new.held h → Contains old.held h ⊎ IsGlued h
+
+pub glued_same : (s u : PortState) → u.held ≡ s.held → AddsGlued s u
 glued_same s u is h there = inl (subst (λ (hs : List Holding). Contains hs h) is there)
 
-pub glued_by : (s u w : PortState) → HoldsGlued s u → HoldsGlued u w → HoldsGlued s w
-glued_by s u w p q h there = elim (q h there) as (λ _. Contains s.held h ⊎ IsGlued h) [ inl old ↦ p h old | inr new ↦ inr new ]
+pub glued_by : (s u w : PortState) → HoldsGlued s u → min u.polled (2 ^ 64 - 1) ≤ w.polled → AddsGlued u w → HoldsGlued s w
+glued_by s u w p more q = record {
+  others = p.others;
+  few = omega (arith, p.few, more);
+  each = λ h there. elim (q h there) as (λ _. Contains s.held h ⊎ (Contains p.others h.address ⊎ IsGlued h)) [ inl old ↦ p.each h old | inr new ↦ inr (inr new) ];
+}
 
 -- a run goes on by an entry of its ring
 pub runs_adds : (start s u : PortState) (n m : ℕ) (e : Entry) → Runs start s n → Stays s u → KeepsHeld s u → u.mine ≡ s.mine ++ e ∷ [] → IsOwn start.ring start.vars e
-    → m ≡ n + length (learned s.ring (e ∷ [])) → IsNew (opening_of s) s.mine e → u.given ≡ s.given → IsNewLine s.opening s.given s.ring s.mine e → HoldsGlued s u → IsPort u → Runs start u m
+    → m ≡ n + length (learned s.ring (e ∷ [])) → IsNew (opening_of s) s.mine e → u.given ≡ s.given → IsNewLine s.opening s.given s.ring s.mine e → AddsGlued s u → IsPort u → Runs start u m
 runs_adds start s u n m e p stays kept is own count fresh given line glued port = record {
   stays = stays_by start s u p.stays stays;
   kept = kept_by start s u p.kept kept;
@@ -96,7 +103,7 @@ runs_adds start s u n m e p stays kept is own count fresh given line glued port 
       omega (arith, count, p.counted, split, both, here, there));
   each_new = news_moved s u (s.mine ++ e ∷ []) stays is (each_last (IsNew (opening_of s)) [] s.mine e p.each_new fresh);
   new_lines = lines_moved s u (s.mine ++ e ∷ []) stays given is (each_last (IsNewLine s.opening s.given s.ring) [] s.mine e p.new_lines line);
-  glued = glued_by start s u p.glued glued;
+  glued = glued_by start s u p.glued stays.polled glued;
   port = port;
 }
 
@@ -109,7 +116,7 @@ runs_same start s u n p stays held is lines port = record {
   counted = p.counted ∙ ap (λ (J : List Entry). length (learned s.ring J)) (sym is) ∙ ap (λ (r : ℕ). length (learned r u.mine)) (sym stays.ring);
   each_new = news_moved s u s.mine stays is p.each_new;
   new_lines = lines;
-  glued = glued_by start s u p.glued (glued_same s u held);
+  glued = glued_by start s u p.glued stays.polled (glued_same s u held);
   port = port;
 }
 
@@ -136,8 +143,7 @@ stays_unit s u l kind last w log = record {
   vars = ap (λ (x : PortState). x.vars) w.state;
   ring = ap (λ (x : PortState). x.ring) w.state;
   rings = ap (λ (x : PortState). x.rings) w.state;
-  polled = ap (λ (x : PortState). x.polled) w.state;
-  taken = ap (λ (x : PortState). x.taken) w.state;
+  polled = omega (arith, ap (λ (x : PortState). x.polled) w.state);
   home = ap (λ (x : PortState). x.home) w.state;
   log = log;
 }
@@ -275,8 +281,7 @@ stays_same s u p log = record {
   vars = p.vars;
   ring = p.ring;
   rings = p.rings;
-  polled = p.polled;
-  taken = p.taken;
+  polled = omega (arith, p.polled);
   home = p.home;
   log = log;
 }
@@ -327,8 +332,7 @@ stays_learned s u lits glue c w log = record {
   vars = ap (λ (x : PortState). x.vars) w.state;
   ring = ap (λ (x : PortState). x.ring) w.state;
   rings = ap (λ (x : PortState). x.rings) w.state;
-  polled = ap (λ (x : PortState). x.polled) w.state;
-  taken = ap (λ (x : PortState). x.taken) w.state;
+  polled = omega (arith, ap (λ (x : PortState). x.polled) w.state);
   home = ap (λ (x : PortState). x.home) w.state;
   log = log;
 }
@@ -368,7 +372,7 @@ held_learned s u lits glue c w h there =
       | inr new ↦ inr (elim new as (λ _. (h.glue ≡ glue) × (h.lits ≡ lits)) [ inl e ↦ (ap (λ (k : Holding). k.glue) (sym e), ap (λ (k : Holding). k.lits) (sym e)) | inr none ↦ absurd none ])
     ]
 
-clause_glued : (s u : PortState) (steps : List Step) (lits : List Literal) (glue : ℕ) (c : Cref) → LearnedClause s u lits glue c → IsGlueOf steps lits glue → HoldsGlued s u
+clause_glued : (s u : PortState) (steps : List Step) (lits : List Literal) (glue : ℕ) (c : Cref) → LearnedClause s u lits glue c → IsGlueOf steps lits glue → AddsGlued s u
 clause_glued s u steps lits glue c w counts h there =
     let both = glue_bounds steps lits glue counts w.long in
     elim (held_learned s u lits glue c w h there) as (λ _. Contains s.held h ⊎ IsGlued h) [
@@ -391,7 +395,7 @@ learned_by_glue s u steps lits glue None w counts h there = inl (subst (λ (hs :
 
 -- the entry of a lemma goes on with one more
 learned_goes_on : (start s u : PortState) (n number : ℕ) (lits : List Literal) → GoesOn start s n → Stays s u → IsClause s.vars lits → IsNewTo s lits → 1 ≤ length lits
-    → u.mine ≡ s.mine ++ entry_of s number lits Learn ∷ [] → u.given ≡ s.given → HoldsGlued s u → u.stop ≡ s.stop → u.refused ≡ s.refused → KeepsHeld s u → IsPort u → GoesOn start u (n + 1)
+    → u.mine ≡ s.mine ++ entry_of s number lits Learn ∷ [] → u.given ≡ s.given → AddsGlued s u → u.stop ≡ s.stop → u.refused ≡ s.refused → KeepsHeld s u → IsPort u → GoesOn start u (n + 1)
 learned_goes_on start s u n number lits p stays clause fresh some is given glued stop refused kept port =
     let e : Entry = entry_of s number lits Learn in
     record {
@@ -428,8 +432,7 @@ empty_refutes start s u n limit below p w log port =
       vars = ap (λ (x : PortState). x.vars) w.state;
       ring = ap (λ (x : PortState). x.ring) w.state;
       rings = ap (λ (x : PortState). x.rings) w.state;
-      polled = ap (λ (x : PortState). x.polled) w.state;
-      taken = ap (λ (x : PortState). x.taken) w.state;
+      polled = omega (arith, ap (λ (x : PortState). x.polled) w.state);
       home = ap (λ (x : PortState). x.home) w.state;
       log = log;
     } in
@@ -443,19 +446,10 @@ empty_refutes start s u n limit below p w log port =
       counts = below;
     }
 
--- a run that has seen units
-pub saw_goes_on : (start s u : PortState) (n : ℕ) → GoesOn start s n → s.mine ≡ [] → OnlySaw s u → IsPort u → GoesOn start u n
-saw_goes_on start s u n p none w port = record {
-  runs = runs_same start s u n p.runs w.stays w.held w.mine (subst (EachAfter (IsNewLine u.opening u.given u.ring) []) (sym (w.mine ∙ none)) tt) port;
-  going = ap (λ (J : List Entry). list_any is_empty (added J)) w.mine ∙ p.going;
-  stop = w.stop ∙ p.stop;
-  refused = w.refused ∙ p.refused;
-  held = starts_kept s u w.stays.start (λ a h. held_same s u a w.held) p.held;
-}
-
 pub wrote_none : (s : PortState) → OnlyWrote s s
 wrote_none s = record {
-  stays = record { start = refl; opening = refl; vars = refl; ring = refl; rings = refl; polled = refl; taken = refl; home = refl; log = λ o h. h };
+  stays = record { start = refl; opening = refl; vars = refl; ring = refl; rings = refl; polled = omega arith; home = refl; log = λ o h. h };
+  taken = refl;
   held = refl;
   own = λ cs p. p;
   stop = refl;
@@ -466,6 +460,7 @@ wrote_none s = record {
 pub wrote_by : (s u w : PortState) → OnlyWrote s u → OnlyWrote u w → OnlyWrote s w
 wrote_by s u w p q = record {
   stays = stays_by s u w p.stays q.stays;
+  taken = q.taken ∙ p.taken;
   held = q.held ∙ p.held;
   own = λ cs r. q.own cs (p.own cs r);
   stop = q.stop ∙ p.stop;
@@ -476,6 +471,7 @@ wrote_by s u w p q = record {
 pub wrote_unit : (s u : PortState) (l : Literal) → WroteUnit s u l UnitLine s.last → KeepsLog s u → OnlyWrote s u
 wrote_unit s u l w log = record {
   stays = stays_unit s u l UnitLine s.last w log;
+  taken = ap (λ (x : PortState). x.taken) w.state;
   held = ap (λ (x : PortState). x.held) w.state;
   own = unit_remembered s u l UnitLine s.last w;
   stop = ap (λ (x : PortState). x.stop) w.state;
@@ -492,11 +488,11 @@ looked_wrote s u k is log = record {
     vars = ap (λ (x : PortState). x.vars) is;
     ring = ap (λ (x : PortState). x.ring) is;
     rings = ap (λ (x : PortState). x.rings) is;
-    polled = ap (λ (x : PortState). x.polled) is;
-    taken = ap (λ (x : PortState). x.taken) is;
+    polled = omega (arith, ap (λ (x : PortState). x.polled) is);
     home = ap (λ (x : PortState). x.home) is;
     log = log;
   };
+  taken = ap (λ (x : PortState). x.taken) is;
   held = ap (λ (x : PortState). x.held) is;
   own = λ cs p. remembered_same s u cs (ap (λ (x : PortState). x.ring) is) (ap (λ (x : PortState). x.mine) is)
       (λ c there. ap (λ (f : ℕ → List Literal). f c.address) (lits_same s u (ap (λ (x : PortState). x.held) is))) (λ l h. ap (λ (ls : List Literal). has ls l) (ap (λ (x : PortState). x.seen) is) ∙ h) p;
@@ -526,8 +522,7 @@ runs_stopped start s u n stop p is log port =
       vars = ap (λ (x : PortState). x.vars) is;
       ring = ap (λ (x : PortState). x.ring) is;
       rings = ap (λ (x : PortState). x.rings) is;
-      polled = ap (λ (x : PortState). x.polled) is;
-      taken = ap (λ (x : PortState). x.taken) is;
+      polled = omega (arith, ap (λ (x : PortState). x.polled) is);
       home = ap (λ (x : PortState). x.home) is;
       log = log;
     } in

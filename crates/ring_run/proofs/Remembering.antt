@@ -135,10 +135,10 @@ among_more s u cs ds stay into more d (inl there) =
 among_more s u cs ds stay into more d (inr unit) = inr (record { lit = unit.lit; unit = unit.unit; seen = more unit.lit unit.seen })
 
 -- a call that added nothing
-pub remembered_as : (s u : PortState) (cs : List Cref) → recent u.ring u.mine ≡ recent s.ring s.mine → ((l : Literal) → adds_unit u.ring u.mine l ≡ adds_unit s.ring s.mine l) → LitsStay s u cs
-    → ((l : Literal) → has s.seen l ≡ true → has u.seen l ≡ true) → Remembers s cs → Remembers u cs
-remembered_as s u cs lemmas units stay more p = record {
-  lemmas = λ d h. among_more s u cs cs stay (λ c there. there) more d (p.lemmas d (subst (λ (G : List (List Literal)). Contains G d) lemmas h));
+pub remembered_as : (s u : PortState) (cs ds : List Cref) → recent u.ring u.mine ≡ recent s.ring s.mine → ((l : Literal) → adds_unit u.ring u.mine l ≡ adds_unit s.ring s.mine l) → LitsStay s u cs → ((c : Cref) → Contains cs c → Contains ds c)
+    → ((l : Literal) → has s.seen l ≡ true → has u.seen l ≡ true) → Remembers s cs → Remembers u ds
+remembered_as s u cs ds lemmas units stay into more p = record {
+  lemmas = λ d h. among_more s u cs ds stay into more d (p.lemmas d (subst (λ (G : List (List Literal)). Contains G d) lemmas h));
   units = λ l h. more l (p.units l (sym (units l) ∙ h));
 }
 

@@ -100,12 +100,13 @@ saw_more s u w l p took log =
         vars = ap (λ (x : PortState). x.vars) took.state ∙ p.stays.vars;
         ring = ap (λ (x : PortState). x.ring) took.state ∙ p.stays.ring;
         rings = ap (λ (x : PortState). x.rings) took.state ∙ p.stays.rings;
-        polled = ap (λ (x : PortState). x.polled) took.state ∙ p.stays.polled;
-        taken = ap (λ (x : PortState). x.taken) took.state ∙ p.stays.taken;
+        polled = omega (arith, ap (λ (x : PortState). x.polled) took.state, p.stays.polled);
         home = ap (λ (x : PortState). x.home) took.state ∙ p.stays.home;
         log = λ o h. log o (p.stays.log o h);
       };
       shared = ap (λ (x : PortState). x.shared) took.state ∙ p.shared;
+      polled = ap (λ (x : PortState). x.polled) took.state ∙ p.polled;
+      taken = ap (λ (x : PortState). x.taken) took.state ∙ p.taken;
       held = ap (λ (x : PortState). x.held) took.state ∙ p.held;
       mine = ap (λ (x : PortState). x.mine) took.state ∙ p.mine;
       stop = ap (λ (x : PortState). x.stop) took.state ∙ p.stop;
@@ -149,13 +150,14 @@ stands_taken u w t l p took zero_level =
       ];
     }
 
--- where no clause is a reason none is after a unit has come
-pub no_reasons_seen : (u w : PortState) (steps : List Step) (l : Literal) → TookUnit u w l → HasReasons [] u steps → HasReasons [] w steps
-no_reasons_seen u w steps l took r = Reasons-more [] [] u w steps (λ c there. absurd (omega (arith, there.1))) (λ k h. sees_old u.seen w.seen l k took.sees h) r
+-- the reasons stay after a unit has come
+pub reasons_seen : (cs : List Cref) (u w : PortState) (steps : List Step) (l : Literal) → TookUnit u w l → HasReasons cs u steps → HasReasons cs w steps
+reasons_seen cs u w steps l took r =
+    Reasons-more cs cs u w steps (λ c there. (there, clause_at_same u w (ap (λ (x : PortState). x.held) took.state) c.address)) (λ k h. sees_old u.seen w.seen l k took.sees h) r
 
-pub no_reasons_taken : (u w : PortState) (t : TrailData) (l : Literal) → TookUnit u w l → t.level ≡ 0 → HasReasons [] u t.steps → HasReasons [] w (assigned t l None).steps
-no_reasons_taken u w t l took zero_level r =
-    IsReasoned-seen (attached_at [] w) w.seen t l None (no_reasons_seen u w t.steps l took r) zero_level (sees_new u.seen w.seen l took.sees)
+pub reasons_taken : (cs : List Cref) (u w : PortState) (t : TrailData) (l : Literal) → TookUnit u w l → t.level ≡ 0 → HasReasons cs u t.steps → HasReasons cs w (assigned t l None).steps
+reasons_taken cs u w t l took zero_level r =
+    IsReasoned-seen (attached_at cs w) w.seen t l None (reasons_seen cs u w t.steps l took r) zero_level (sees_new u.seen w.seen l took.sees)
 
 -- a unit that is false at level 0
 pub opposed : (u w : PortState) (t : TrailData) (l : Literal) → Stands u t → TookUnit u w l → IsTrail t → t.level ≡ 0 → IsFalseOn t.steps l → rup (known w) [] ≡ true

@@ -154,23 +154,30 @@ told_unit s u t n l sees free p = record {
   all = p.all;
 }
 
--- at the start
-pub told_begun : (s : PortState) (t : TrailData) → t.level ≡ 0 → ((p : ℕ) → p < length t.steps → reason_at t.steps p ≡ None) → AreTold s t 0
-told_begun s t zero_level bare = record {
-  few = omega arith;
-  low = λ q h. absurd (omega arith);
-  first = λ q h. absurd (omega arith);
-  rest = λ q le lt some. absurd (false≢true (subst (λ (r : Option Cref). IsSome r) (bare q lt) some));
+-- at level 0, where all is told, units have come
+pub told_saw : (s u : PortState) (t v : TrailData) (n : ℕ) → AreTold s t n → n ≡ length t.steps → IsTrail v → v.level ≡ 0 → HasGrown t v → ((l : Literal) → has s.seen l ≡ true → has u.seen l ≡ true)
+    → ((p : ℕ) → length t.steps ≤ p → p < length v.steps → reason_at v.steps p ≡ None) → AreTold u v n
+told_saw s u t v n p whole shape zero_level grown more bare = record {
+  few = omega (arith, whole, long);
+  low = λ q h. (let w = shape.within q (omega (arith, h, whole, long)) in omega (arith, w, zero_level));
+  first = λ q h. subst (λ (x : Step). has u.seen x.lit ≡ true) (sym (at q (omega (arith, h, whole)))) (more (lit_at t.steps q) (p.first q h));
+  rest = λ q le lt some. absurd (false≢true (subst (λ (r : Option Cref). IsSome r) (bare q (omega (arith, le, whole)) lt) some));
   all = λ up. absurd (omega (arith, up, zero_level));
 }
+  where
+    long : length t.steps ≤ length v.steps
+    long = (let sum = ap (λ (ss : List Step). length ss) grown.steps ∙ length-append t.steps grown.more in omega (arith, sum))
 
--- a step without a reason leaves none with one
-pub bare_more : (t : TrailData) (l : Literal) → ((p : ℕ) → p < length t.steps → reason_at t.steps p ≡ None) → (p : ℕ) → p < length (assigned t l None).steps → reason_at (assigned t l None).steps p ≡ None
-bare_more t l bare p lt =
+    at : (q : ℕ) → q < length t.steps → step_at v.steps q ≡ step_at t.steps q
+    at q h = ap (λ (ss : List Step). step_at ss q) grown.steps ∙ get_or_append_left t.steps grown.more no_step q h
+
+-- a step without a reason leaves none with one behind the first ones
+pub bare_more : (n : ℕ) (t : TrailData) (l : Literal) → ((p : ℕ) → n ≤ p → p < length t.steps → reason_at t.steps p ≡ None) → (p : ℕ) → n ≤ p → p < length (assigned t l None).steps → reason_at (assigned t l None).steps p ≡ None
+bare_more n t l bare p behind lt =
     let x : Step = record { lit = l; level = t.level; reason = None } in
     let long = length-append t.steps (x ∷ []) in
     elim (cases_lt p (length t.steps)) as (λ _. reason_at (t.steps ++ x ∷ []) p ≡ None) [
-      | inl old ↦ ap (λ (y : Step). y.reason) (get_or_append_left t.steps (x ∷ []) no_step p old) ∙ bare p old
+      | inl old ↦ ap (λ (y : Step). y.reason) (get_or_append_left t.steps (x ∷ []) no_step p old) ∙ bare p behind old
       | inr new ↦ (
           let e : p ≡ length t.steps = omega (arith, lt, new, long) in
           ap (λ (m : ℕ). reason_at (t.steps ++ x ∷ []) m) e ∙ ap (λ (y : Step). y.reason) (get_or-append_seam t.steps x [] no_step))

@@ -1,5 +1,5 @@
 -- Deletions leave a run and a search as they were.
-use Rattle.std.proofs.Common.{◌≡◌, ◌∙◌, ℕ, ◌<◌, ◌==◌, ◌&&◌, true, false, List, [], ◌∷◌, ◌++◌, length, take, drop, map, sym, subst, ap, arith, refl, Ok, Err, Contains, append-nil}
+use Rattle.std.proofs.Common.{◌≡◌, ◌∙◌, ℕ, ◌==◌, ◌&&◌, List, [], ◌∷◌, ◌++◌, length, take, drop, map, sym, subst, ap, arith, refl, Ok, Err, append-nil}
 use Rattle.std.specs.Prelude.{All, Result, OnOk, IfErr, IfSome, IsSome, Some, None}
 use Rattle.std.specs.List.{list_any, filter, fold}
 use Rattle.std.proofs.lemmas.List.Elements.{All-append, All-cons, All-nil}
@@ -8,26 +8,24 @@ use Rattle.std.specs.declared.option.Option.{Option}
 use Rattle.sat_words.specs.Literal.{Literal}
 use Rattle.sat_words.specs.Clause.{has, same_set, is_empty}
 use Rattle.sat_words.specs.declared.shared.Cref.{Cref}
-use Rattle.sat_words.specs.declared.shared.Stop.{Stop}
 use Rattle.drat_text.specs.LineState.{LineState}
 use Rattle.rup_model.specs.declared.journal.Addition.{Addition}
 use Rattle.rup_model.specs.declared.journal.Entry.{Entry}
 use Rattle.rup_model.specs.declared.journal.Entry.TheVariants.{Del}
 use Rattle.rup_model.specs.Basics.{EachAfter}
 use Rattle.rup_model.specs.Journal.{additions, added, learned, recent, recent_after, is_learn}
-use Rattle.rup_model.specs.Opening.{Opening, IsNew, adds_unit}
+use Rattle.rup_model.specs.Opening.{IsNew, adds_unit}
 use Rattle.rup_model.proofs.Additions.{additions-append}
 use Rattle.rup_model.proofs.Sequences.{each_both}
 use Rattle.ring_port.specs.PortState.{PortState, Holding, IsPort, held_at}
-use Rattle.ring_port.specs.Port.{Refused}
-use Rattle.ring_port.specs.Deleting.{deletions, TidiedUpTo, TidiedSome, Tidied}
+use Rattle.ring_port.specs.Deleting.{deletions, TidiedUpTo, Tidied}
 use Rattle.ring_port.specs.Log.{KeepsLog}
 use Rattle.ring_port.specs.declared.stops.PortStop.{PortStop}
 use Rattle.ring_port.specs.declared.stops.PortStop.TheVariants.{Ended, Broken, ProofFault, NoHole, Memory}
 use Rattle.watch_prop.specs.WatchData.{Lits}
-use Rattle.ring_run.specs.Ended.{Stays, IsOwn, IsNewLine, Cause, last_looks, opening_of}
+use Rattle.ring_run.specs.Ended.{Stays, IsOwn, IsNewLine, Cause, IsHalted, last_looks, opening_of}
 use Rattle.ring_run.specs.Searching.{Runs, GoesOn, KeepsOn, OnlyWrote, OffersNothing, Remembers}
-use Rattle.ring_run.specs.Ending.{ComesTo, EndsAt, end_refused}
+use Rattle.ring_run.specs.Ending.{EndsAt, end_refused}
 use Rattle.ring_run.specs.Course.{InSearch}
 use Rattle.ring_run.specs.declared.ring.Ring.{Ring}
 use Rattle.ring_run.proofs.Remembering.{held_same, lits_same, remembered_as}
@@ -134,8 +132,7 @@ module _ (s u : PortState) (hs : List Holding) (d : Deleted s u hs) (log : Keeps
     vars = d.vars;
     ring = d.ring;
     rings = d.rings;
-    polled = d.polled;
-    taken = d.taken;
+    polled = omega (arith, d.polled);
     home = d.home;
     log = log;
   }
@@ -159,20 +156,21 @@ module _ (s u : PortState) (hs : List Holding) (d : Deleted s u hs) (log : Keeps
         (each_both (IsNew (opening_of s)) [] s.mine (deletions s.ring hs) p.each_new (each_deletion (IsNew (opening_of s)) (λ before r k. tt) s.mine s.ring hs));
     new_lines = lines_moved s u (s.mine ++ deletions s.ring hs) deleted_stays d.given d.mine
         (each_both (IsNewLine s.opening s.given s.ring) [] s.mine (deletions s.ring hs) p.new_lines (each_deletion (IsNewLine s.opening s.given s.ring) (λ before r k. tt) s.mine s.ring hs));
-    glued = glued_by start s u p.glued (glued_same s u d.held);
+    glued = glued_by start s u p.glued deleted_stays.polled (glued_same s u d.held);
     port = port;
   }
 
   deleted_remembered : u.seen ≡ s.seen → (cs : List Cref) → Remembers s cs → Remembers u cs
-  deleted_remembered seen cs p = remembered_as s u cs
+  deleted_remembered seen cs p = remembered_as s u cs cs
       (ap (λ (r : ℕ). recent r u.mine) d.ring ∙ ap (recent s.ring) d.mine ∙ same_recent s.ring s.ring s.mine hs)
       (λ l. ap (λ (r : ℕ). adds_unit r u.mine l) d.ring ∙ ap (λ (J : List Entry). adds_unit s.ring J l) d.mine
       ∙ ap (λ (xs : List Addition). list_any (same_set (l ∷ [])) (map (λ (x : Addition). x.lits) (filter (λ (x : Addition). x.ring == s.ring) xs))) (same_additions s.ring s.mine hs))
-      (λ c there. ap (λ (f : Lits). f c.address) (lits_same s u d.held)) (λ l h. ap (λ (ls : List Literal). has ls l) seen ∙ h) p
+      (λ c there. ap (λ (f : Lits). f c.address) (lits_same s u d.held)) (λ c there. there) (λ l h. ap (λ (ls : List Literal). has ls l) seen ∙ h) p
 
   deleted_wrote : u.seen ≡ s.seen → u.refused ≡ s.refused → OnlyWrote s u
   deleted_wrote seen refused = record {
     stays = deleted_stays;
+    taken = d.taken;
     held = d.held;
     own = λ cs p. deleted_remembered seen cs p;
     stop = d.stop;
@@ -190,7 +188,7 @@ module _ (s u : PortState) (hs : List Holding) (d : Deleted s u hs) (log : Keeps
   }
 
   deleted_nothing : OffersNothing s u
-  deleted_nothing = record { shared = d.shared; ring = d.ring; rings = d.rings; lemmas = deleted_learned }
+  deleted_nothing = record { shared = d.shared; polled = d.polled; ring = d.ring; rings = d.rings; lemmas = deleted_learned }
 
 -- What a call that tidies leaves
 
@@ -256,6 +254,13 @@ tidied_search s u ring p wrote seen port =
 pub held_stays : (s u : PortState) (address : Option Cref) → u.held ≡ s.held → IfSome address (λ c. IsSome (held_at s c.address)) → IfSome address (λ c. IsSome (held_at u c.address))
 held_stays s u None held h = tt
 held_stays s u (Some c) held h = subst (λ (o : Option Holding). IsSome o) (sym (held_same s u c.address held)) h
+
+pub refused_halted : (stop : PortStop) → IsHalted (end_refused stop)
+refused_halted Ended = tt
+refused_halted Broken = tt
+refused_halted ProofFault = tt
+refused_halted (NoHole lack) = tt
+refused_halted Memory = tt
 
 -- a refusal takes no look more
 pub refused_last : (stop : PortStop) → last_looks (end_refused stop) ≡ 0

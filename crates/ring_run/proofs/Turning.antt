@@ -1,6 +1,6 @@
 -- Steps of a search, one after another.
-use Rattle.std.proofs.Common.{◌≡◌, ◌∙◌, ℕ, ◌+◌, ◌-◌, ◌*◌, ◌<◌, ◌≤◌, ◌⊎◌, inl, inr, List, [], map, length, sym, subst, ap, arith, None, IsSome, Contains, get_or}
-use Rattle.std.specs.Prelude.{All}
+use Rattle.std.proofs.Common.{◌≡◌, ◌∙◌, ℕ, ◌+◌, ◌-◌, ◌*◌, ◌<◌, ◌≤◌, ◌⊎◌, inl, inr, Bool, true, false, List, map, length, sym, subst, ap, arith, None, IsSome, Contains, get_or}
+use Rattle.std.specs.Prelude.{All, if◌then◌else◌}
 use Rattle.std.specs.declared.option.Option.{Option}
 use Rattle.sat_words.specs.Literal.{Literal}
 use Rattle.sat_words.specs.Clause.{has}
@@ -11,32 +11,32 @@ use Rattle.ring_trail.specs.TrailData.{TrailData, IsTrail, HasGrown, reason_at}
 use Rattle.ring_trail.specs.Closed.{TrueWithin, IsClosed}
 use Rattle.ring_trail.proofs.Causes.{IsClosed-more}
 use Rattle.watch_prop.specs.WatchData.{WatchData, Lits, attached, clauses_of}
-use Rattle.watch_prop.specs.Watched.{Watched, IsFresh}
+use Rattle.watch_prop.specs.Watched.{Watched}
 use Rattle.watch_prop.specs.Propagation.{HasReasons, IsClosedBelow, IsQuiet}
 use Rattle.watch_prop.proofs.TrailLaws.{Reasons-more, Reasons-held}
 use Rattle.ring_run.specs.Ended.{Stays}
 use Rattle.ring_run.specs.Searching.{IsHeldBy, HasClauses, Remembers, Stands, AreTold, OnlySaw, OnlyWrote, OpeningSeen, GoesOn}
 use Rattle.ring_port.specs.Log.{KeepsLog}
-use Rattle.ring_run.specs.Course.{Searches, InSearch, IsBegun, Leads, IsFurther}
+use Rattle.ring_run.specs.Course.{Searches, InSearch, MayImport, Leads, IsFurther}
 use Rattle.ring_run.specs.declared.ring.Ring.{Ring}
 use Rattle.ring_run.specs.declared.course.Course.{Course}
 use Rattle.ring_run.specs.declared.course.Course.TheVariants.{On, Over}
 use Rattle.ring_run.proofs.Remembering.{held_same, lits_same, clause_at_same, remembered_same}
 use Rattle.ring_run.proofs.Standing.{within_more, reasoned_more}
 use Rattle.ring_run.proofs.Progress.{starts_kept, looked_wrote}
-use Rattle.ring_run.proofs.Telling.{told_begun, told_grown, told_same}
+use Rattle.ring_run.proofs.Telling.{told_saw, told_grown, told_same}
 
 held_by_same : (s u : PortState) (cs : List Cref) → u.held ≡ s.held → All (IsHeldBy s) cs → All (IsHeldBy u) cs
 held_by_same s u cs e all = λ k d h. subst (λ (o : Option Holding). IsSome o) (sym (held_same s u (get_or cs k d).address e)) (all k d h)
 
 -- what stays of the clauses attached where nothing that is held changes
-clauses_same : (s u : PortState) (cs : List Cref) → HasClauses s cs → Stays s u → u.held ≡ s.held → u.stop ≡ s.stop → u.refused ≡ s.refused → Remembers u cs → IsPort u → HasClauses u cs
-clauses_same s u cs p stays held stop refused own port = record {
+clauses_same : (s u : PortState) (cs : List Cref) → HasClauses s cs → Stays s u → u.taken ≡ s.taken → u.held ≡ s.held → u.stop ≡ s.stop → u.refused ≡ s.refused → Remembers u cs → IsPort u → HasClauses u cs
+clauses_same s u cs p stays taken held stop refused own port = record {
   held = held_by_same s u cs held p.held;
   starts = λ h there. p.starts h (subst (λ (hs : List Holding). Contains hs h) stays.start there);
   starts_held = starts_kept s u stays.start (λ a h. held_same s u a held) p.starts_held;
   own = own;
-  taken = stays.taken ∙ p.taken;
+  taken = λ a there. p.taken a (subst (λ (xs : List ℕ). Contains xs a) taken there);
   refused = refused ∙ p.refused;
   stop = stop ∙ p.stop;
   port = port;
@@ -45,7 +45,7 @@ clauses_same s u cs p stays held stop refused own port = record {
 -- lines of units leave a search as it is
 pub wrote_search : (s u : PortState) (t : TrailData) (w : WatchData) (n m : ℕ) → Searches s t w n → OnlyWrote s u → IsPort u → Stands u t → AreTold u t m → Searches u t w m
 wrote_search s u t w n m p wrote port stands told = record {
-  clauses = clauses_same s u (attached w) p.clauses wrote.stays wrote.held wrote.stop wrote.refused (wrote.own (attached w) p.clauses.own) port;
+  clauses = clauses_same s u (attached w) p.clauses wrote.stays wrote.taken wrote.held wrote.stop wrote.refused (wrote.own (attached w) p.clauses.own) port;
   opening = λ l h. wrote.more l (p.opening l (ap (λ (ls : List Literal). has ls l) (sym wrote.stays.opening) ∙ h));
   stands = stands;
   trail = p.trail;
@@ -70,23 +70,22 @@ pub quiet_same : (s u : PortState) (t v : TrailData) (w x : WatchData) → u.hel
 quiet_same s u t v w x held trail watches q =
     subst (λ (y : TrailData). IsQuiet x (lits_at u) y) (sym trail) (subst (λ (y : WatchData). IsQuiet y (lits_at u) t) (sym watches) (subst (λ (f : Lits). IsQuiet w f t) (sym (lits_same s u held)) q))
 
--- units that have come leave a search that has begun in its course
-pub begun_search : (s u : PortState) (ring : Ring) (t : TrailData) → IsBegun s ring → OnlySaw s u → IsPort u → IsTrail t → HasGrown ring.trail t → Stands u t → OpeningSeen u → HasReasons [] u t.steps
-    → ((q : ℕ) → q < length t.steps → reason_at t.steps q ≡ None) → Searches u t ring.watches ring.written
-begun_search s u ring t p saw port shape grown stands opening reasons bare =
-    let cs = attached ring.watches in
-    let level : t.level ≡ 0 = grown.level ∙ p.level in
-    let fresh : IsFresh t = λ q low h. (let at = shape.within q h in omega arith) in
+-- units that have come are those that a search starts with, or goes on with at level 0
+pub saw_search : (s u : PortState) (t v : TrailData) (w : WatchData) (n : ℕ) → MayImport s t w n → OnlySaw s u → IsPort u → IsTrail v → HasGrown t v → Stands u v → OpeningSeen u → HasReasons (attached w) u v.steps
+    → ((q : ℕ) → length t.steps ≤ q → q < length v.steps → reason_at v.steps q ≡ None) → Watched w (lits_at s) v → Searches u v w n
+saw_search s u t v w n p saw port shape grown stands opening reasons bare watched =
+    let cs = attached w in
+    let level : v.level ≡ 0 = grown.level ∙ p.level in
     record {
-      clauses = clauses_same s u cs p.clauses saw.stays saw.held saw.stop saw.refused
+      clauses = clauses_same s u cs p.clauses saw.stays saw.taken saw.held saw.stop saw.refused
           (remembered_same s u cs saw.stays.ring saw.mine (λ c there. ap (λ (f : Lits). f c.address) (lits_same s u saw.held)) saw.more p.clauses.own) port;
       opening = opening;
       stands = stands;
       trail = shape;
-      watched = subst (λ (f : Lits). Watched ring.watches f t) (sym (lits_same s u saw.held)) (p.watched t (stands.vars ∙ saw.stays.vars) fresh);
-      closed = λ k below. absurd (omega arith);
-      reasons = Reasons-more [] cs u u t.steps (λ c there. absurd (omega (arith, there.1))) (λ l h. h) reasons;
-      told = subst (AreTold u t) (sym p.none_written) (told_begun u t level bare);
+      watched = subst (λ (f : Lits). Watched w f v) (sym (lits_same s u saw.held)) watched;
+      closed = λ k below. absurd (omega (arith, level, below));
+      reasons = reasons;
+      told = told_saw s u t v n p.told p.whole shape level grown saw.more bare;
     }
 
 -- a trail that has grown by propagation
@@ -116,22 +115,56 @@ pub compose : (course : Course) (s middle u : PortState) (old between new : Ring
 compose On s middle u old between new limit to p = record { search = p.search; below = p.below; goes = λ start q. p.goes start (to start q) }
 compose (Over end) s middle u old between new limit to p = λ start q. p start (to start q)
 
--- a lemma more, or a longer trail, leaves less to do
-less_left : (limit n m vars k j : ℕ) → n < limit → k ≤ vars → (m ≡ n + 1) ⊎ ((m ≡ n) × (k < j)) → j ≤ vars
-    → (limit - m) * (vars + 1) + (vars - j) < (limit - n) * (vars + 1) + (vars - k)
-less_left limit n m vars k j below short (inl one) high =
+-- what an import that is yet to be counts for
+abbrev pub due_of : (vars : ℕ) → Bool → ℕ
+due_of vars pending = if pending then vars + 1 else 0
+
+abbrev pub left_to_do : (limit learned vars : ℕ) → Bool → ℕ → ℕ
+left_to_do limit learned vars pending steps = (limit - learned) * (2 * (vars + 1)) + due_of vars pending + (vars - steps)
+
+due_bound : (vars : ℕ) (b : Bool) → due_of vars b ≤ vars + 1
+due_bound vars true = omega arith
+due_bound vars false = omega arith
+
+-- a lemma more, a longer trail, or an import leaves less to do
+less_lemma : (limit n m vars k j : ℕ) (a b : Bool) → n < limit → m ≡ n + 1 → left_to_do limit m vars b j < left_to_do limit n vars a k
+less_lemma limit n m vars k j a b below one =
     let left : limit - n ≡ (limit - m) + 1 = omega arith in
-    let spread : ((limit - m) + 1) * (vars + 1) ≡ (limit - m) * (vars + 1) + (vars + 1) = omega arith in
-    let whole : (limit - n) * (vars + 1) ≡ (limit - m) * (vars + 1) + (vars + 1) = ap (λ (x : ℕ). x * (vars + 1)) left ∙ spread in
-    omega arith
-less_left limit n m vars k j below short (inr (is, longer)) high =
-    let same : (limit - m) * (vars + 1) ≡ (limit - n) * (vars + 1) = ap (λ (x : ℕ). (limit - x) * (vars + 1)) is in
+    let spread : ((limit - m) + 1) * (2 * (vars + 1)) ≡ (limit - m) * (2 * (vars + 1)) + 2 * (vars + 1) = omega arith in
+    let whole : (limit - n) * (2 * (vars + 1)) ≡ (limit - m) * (2 * (vars + 1)) + 2 * (vars + 1) = ap (λ (x : ℕ). x * (2 * (vars + 1))) left ∙ spread in
+    let due = due_bound vars b in
     omega arith
 
+less_kept : (limit n m vars k j : ℕ) (a b : Bool) → m ≡ n → due_of vars b + (vars - j) < due_of vars a + (vars - k) → left_to_do limit m vars b j < left_to_do limit n vars a k
+less_kept limit n m vars k j a b is less =
+    let same : (limit - m) * (2 * (vars + 1)) ≡ (limit - n) * (2 * (vars + 1)) = ap (λ (x : ℕ). (limit - x) * (2 * (vars + 1))) is in
+    omega arith
+
+less_left : (limit n m vars k j : ℕ) (a b : Bool) → n < limit → k ≤ vars → (m ≡ n + 1) ⊎ (((m ≡ n) × (k ≤ j)) × (((b ≡ a) × (k < j)) ⊎ ((a ≡ true) × (b ≡ false)))) → j ≤ vars
+    → left_to_do limit m vars b j < left_to_do limit n vars a k
+less_left limit n m vars k j a b below short (inl one) high = less_lemma limit n m vars k j a b below one
+less_left limit n m vars k j a b below short (inr ((is, some), inl (same, longer))) high =
+    less_kept limit n m vars k j a b is (let e = ap (due_of vars) same in omega (arith, e))
+less_left limit n m vars k j a b below short (inr ((is, some), inr (was, now))) high =
+    less_kept limit n m vars k j a b is (let before = ap (due_of vars) was in let after = ap (due_of vars) now in omega (arith, before, after))
+
+further_parts : (old new : Ring) → IsFurther old new
+    → (new.learned ≡ old.learned + 1) ⊎ (((new.learned ≡ old.learned) × (length old.trail.steps ≤ length new.trail.steps)) × (((new.pending ≡ old.pending) × (length old.trail.steps < length new.trail.steps)) ⊎ ((old.pending ≡ true) × (new.pending ≡ false))))
+further_parts old new (inl one) = inl one
+further_parts old new (inr (kept, more)) = inr ((kept.learned, kept.steps), more)
+
 pub less_to_do : (s u : PortState) (old new : Ring) (limit : ℕ) → InSearch s old → InSearch u new → u.vars ≡ s.vars → old.learned < limit → IsFurther old new
-    → (limit - new.learned) * (new.trail.vars + 1) + (new.trail.vars - length new.trail.steps) < (limit - old.learned) * (old.trail.vars + 1) + (old.trail.vars - length old.trail.steps)
+    → left_to_do limit new.learned new.trail.vars new.pending (length new.trail.steps) < left_to_do limit old.learned old.trail.vars old.pending (length old.trail.steps)
 less_to_do s u old new limit p q vars below further =
     let same : new.trail.vars ≡ old.trail.vars = q.stands.vars ∙ vars ∙ sym p.stands.vars in
     let high : length new.trail.steps ≤ old.trail.vars = omega (arith, q.trail.short, same) in
-    subst (λ (v : ℕ). (limit - new.learned) * (v + 1) + (v - length new.trail.steps) < (limit - old.learned) * (old.trail.vars + 1) + (old.trail.vars - length old.trail.steps)) (sym same)
-    (less_left limit old.learned new.learned old.trail.vars (length old.trail.steps) (length new.trail.steps) below p.trail.short further high)
+    subst (λ (v : ℕ). left_to_do limit new.learned v new.pending (length new.trail.steps) < left_to_do limit old.learned old.trail.vars old.pending (length old.trail.steps)) (sym same)
+    (less_left limit old.learned new.learned old.trail.vars (length old.trail.steps) (length new.trail.steps) old.pending new.pending below p.trail.short (further_parts old new further) high)
+
+-- a step behind propagation
+pub further_grown : (old between new : Ring) → between.learned ≡ old.learned → between.pending ≡ old.pending → length old.trail.steps ≤ length between.trail.steps → IsFurther between new → IsFurther old new
+further_grown old between new learned pending steps (inl one) = inl (omega (arith, one, learned))
+further_grown old between new learned pending steps (inr (kept, inl (same, longer))) =
+    inr (record { learned = kept.learned ∙ learned; steps = omega (arith, kept.steps, steps) }, inl (same ∙ pending, omega (arith, longer, steps)))
+further_grown old between new learned pending steps (inr (kept, inr (was, now))) =
+    inr (record { learned = kept.learned ∙ learned; steps = omega (arith, kept.steps, steps) }, inr (sym pending ∙ was, now))

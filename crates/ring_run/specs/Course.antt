@@ -1,14 +1,14 @@
 -- What a ring has while it searches, and what each step of the search comes to.
-use Rattle.std.specs.Prelude.{◌≡◌, ◌⊎◌, ℕ, ◌+◌, ◌<◌, ◌≤◌, List, [], ◌∷◌, ◌++◌, take, length, Option}
+use Rattle.std.specs.Prelude.{◌≡◌, ◌⊎◌, ℕ, ◌+◌, ◌<◌, ◌≤◌, true, false, if◌then◌else◌, List, ◌∷◌, ◌++◌, take, length, Option}
 use Rattle.std.specs.Option.{option_to_list}
 use Rattle.sat_words.specs.Literal.{Literal}
 use Rattle.sat_words.specs.declared.shared.Cref.{Cref}
 use Rattle.ring_port.specs.PortState.{PortState, lits_at}
 use Rattle.ring_trail.specs.TrailData.{TrailData, IsTrail, HasNoPlace, cut_back, assigned}
 use Rattle.watch_prop.specs.WatchData.{WatchData, attached}
-use Rattle.watch_prop.specs.Watched.{Watched, IsFresh}
+use Rattle.watch_prop.specs.Watched.{Watched}
 use Rattle.watch_prop.specs.Propagation.{HasReasons, IsClosedBelow}
-use Rattle.ring_run.specs.Ended.{HasLooked, HasOffered, last_looks}
+use Rattle.ring_run.specs.Ended.{HasLooked, HasOffered, HasPolled, polls_of, last_looks}
 use Rattle.ring_run.specs.Searching.{HasClauses, Stands, OpeningSeen, AreTold, GoesOn}
 use Rattle.ring_run.specs.Ending.{EndsBy}
 use Rattle.ring_run.specs.declared.ring.Ring.{Ring}
@@ -84,14 +84,24 @@ pub record Restarted (s : PortState) (old new : Ring) (address : Option Cref) : 
 abbrev pub HasLeft : PortState → Ring → Ring → List Literal → ℕ → Option Cref → Type 0
 HasLeft s old new lits back address = Asserted s old new lits back address ⊎ ((0 < back) × Restarted s old new address)
 
--- one lemma more, or a longer trail
-abbrev pub IsFurther : Ring → Ring → Type 0
-IsFurther old new = (new.learned ≡ old.learned + 1) ⊎ ((new.learned ≡ old.learned) × (length old.trail.steps < length new.trail.steps))
+-- nothing more was learned, and nothing lost
+pub record HasKept (old new : Ring) : Type 0 where
+  pub learned : new.learned ≡ old.learned
+  pub steps : length old.trail.steps ≤ length new.trail.steps
 
--- as much is counted as offered as before
+-- with a longer trail, or no import that is yet to be
+abbrev pub HasMore : Ring → Ring → Type 0
+HasMore old new = ((new.pending ≡ old.pending) × (length old.trail.steps < length new.trail.steps)) ⊎ ((old.pending ≡ true) × (new.pending ≡ false))
+
+-- one lemma more, or a longer trail, or an import that was yet to be
+abbrev pub IsFurther : Ring → Ring → Type 0
+IsFurther old new = (new.learned ≡ old.learned + 1) ⊎ (HasKept old new × HasMore old new)
+
+-- as much is counted as offered as before, by the same ring
 pub record AreSameOffers (old new : Ring) : Type 0 where
   pub exported : new.exported ≡ old.exported
   pub offered : new.offered ≡ old.offered
+  pub place : new.place ≡ old.place
 
 -- the ring counts what was offered, which is at most what was learned
 pub record IsOffering (s : PortState) (ring : Ring) : Type 0 where
@@ -115,14 +125,36 @@ KeepsLooking old before new ring course = (base : ℕ) → IsLooking base old be
 abbrev pub TakesALook : PortState → Ring → Ring → Course → Type 0
 TakesALook s before ring course = (base : ℕ) → HasLooked (base + before.learned + before.trail.level + 1) s → HasLookedBy base s ring course
 
--- nothing is true yet, and the clauses attached are watched on any trail at level 0
-pub record IsBegun (s : PortState) (ring : Ring) : Type 0 where
-  pub clauses : HasClauses s (attached ring.watches)
-  pub stands : Stands s ring.trail
-  pub trail : IsTrail ring.trail
-  pub level : ring.trail.level ≡ 0
-  pub bare : ring.trail.steps ≡ []
-  pub mine : s.mine ≡ []
-  pub none_written : ring.written ≡ 0
-  pub watched : (t : TrailData) → t.vars ≡ s.vars → IsFresh t → Watched ring.watches (lits_at s) t
-  pub reasons : HasReasons [] s ring.trail.steps
+-- at level 0, where each literal is told: a search may import; the units of the opening may be yet to come
+pub record MayImport (s : PortState) (t : TrailData) (w : WatchData) (n : ℕ) : Type 0 where
+  pub clauses : HasClauses s (attached w)
+  pub stands : Stands s t
+  pub trail : IsTrail t
+  pub level : t.level ≡ 0
+  pub watched : Watched w (lits_at s) t
+  pub reasons : HasReasons (attached w) s t.steps
+  pub told : AreTold s t n
+  pub whole : n ≡ length t.steps
+
+-- how often the ring has imported: at its start and at each restart, but for the last of these where that is yet to be
+abbrev pub imports_of : Ring → ℕ
+imports_of ring = if ring.pending then ring.restarts.made else ring.restarts.made + 1
+
+-- at each import the ring has polled each other ring; one is yet to be at level 0 only
+pub record IsPolling (s : PortState) (ring : Ring) : Type 0 where
+  pub place : ring.place ≡ record { ring = s.ring; rings = s.rings }
+  pub polled : s.polled ≡ polls_of s (imports_of ring)
+  pub low : ring.pending ≡ true → ring.trail.level ≡ 0
+
+-- so it is still, or at the end
+abbrev pub HasPolledBy : PortState → Ring → Course → Type 0
+HasPolledBy s ring On = IsPolling s ring
+HasPolledBy s ring (Over end) = HasPolled s ring.restarts.made end
+
+-- where it was so before
+abbrev pub KeepsPolling : PortState → Ring → PortState → Ring → Course → Type 0
+KeepsPolling old before new ring course = IsPolling old before → HasPolledBy new ring course
+
+-- where what is counted as offered was true, it still is
+abbrev pub KeepsOffering : PortState → Ring → PortState → Ring → Type 0
+KeepsOffering old before new ring = IsOffering old before → IsOffering new ring

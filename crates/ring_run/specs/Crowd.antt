@@ -4,9 +4,9 @@ use Rattle.sat_words.specs.declared.shared.Stop.{Stop}
 use Rattle.ring_port.specs.declared.stops.PortStop.{PortStop}
 use Rattle.ring_port.specs.PortState.{PortState}
 
--- it holds the clauses of the port in memory, has no units and writes nothing
-abbrev pub crowd_of : PortState → Option Stop → ℕ → Option PortStop → PortState
-crowd_of s stop looks refused = record {
+-- it holds the clauses of the port in memory, has no units and writes nothing; the other rings have nothing for it
+abbrev pub crowd_of : PortState → Option Stop → ℕ → Option PortStop → ℕ → PortState
+crowd_of s stop looks refused polled = record {
   held = s.held;
   waiting = [];
   seen = [];
@@ -16,7 +16,7 @@ crowd_of s stop looks refused = record {
   opening = [];
   mine = [];
   shared = 0;
-  polled = 0;
+  polled = polled;
   puts = [];
   taken = [];
   vars = s.vars;

@@ -1,5 +1,5 @@
 -- What a run of a ring says: what it asks of its port, what it wrote, and what each end says.
-use Rattle.std.specs.Prelude.{◌≡◌, ◌≢◌, ◌≤◌, ◌<◌, ◌⊎◌, ℕ, ◌-◌, ◌*◌, ◌%◌, ◌^◌, min, Bool, true, false, List, [], ◌∷◌, ◌++◌, map, filter, length, All, Contains, Option, Some, None, IfSome, nat_le, ◌&&◌}
+use Rattle.std.specs.Prelude.{◌≡◌, ◌≢◌, ◌≤◌, ◌<◌, ◌⊎◌, ℕ, ◌+◌, ◌-◌, ◌*◌, ◌%◌, ◌^◌, min, Bool, true, false, List, [], ◌∷◌, ◌++◌, map, filter, length, All, Contains, Option, Some, None, IfSome, nat_le, ◌&&◌, ⊤}
 use Rattle.std.specs.List.{list_any}
 use Rattle.sat_words.specs.Literal.{Literal}
 use Rattle.sat_words.specs.Clause.{has, is_empty}
@@ -48,15 +48,14 @@ pub record IsUntouched (s : PortState) : Type 0 where
 
 -- What it leaves
 
--- what no run changes; and whatever journal the port's log stands for, it still does
+-- what no run changes; it only polls more, and whatever journal the port's log stands for, it still does
 pub record Stays (old new : PortState) : Type 0 where
   pub start : new.start ≡ old.start
   pub opening : new.opening ≡ old.opening
   pub vars : new.vars ≡ old.vars
   pub ring : new.ring ≡ old.ring
   pub rings : new.rings ≡ old.rings
-  pub polled : new.polled ≡ old.polled
-  pub taken : new.taken ≡ old.taken
+  pub polled : min old.polled (2 ^ 64 - 1) ≤ new.polled
   pub home : new.home ≡ old.home
   pub log : KeepsLog old new
 
@@ -118,9 +117,12 @@ pub record IsGlued (h : Holding) : Type 0 where
   pub some : 1 ≤ h.glue
   pub few : h.glue < length h.lits
 
--- what is held was held before, or has such a glue
-abbrev pub HoldsGlued : PortState → PortState → Type 0
-HoldsGlued old new = (h : Holding) → Contains new.held h → Contains old.held h ⊎ IsGlued h
+-- what is held was held before, has such a glue, or is at an address that another ring gave: of these there are no more than
+-- polls
+pub record HoldsGlued (old new : PortState) : Type 0 where
+  pub others : List ℕ
+  pub few : min (length others) (2 ^ 64 - 1) ≤ new.polled
+  pub each : (h : Holding) → Contains new.held h → Contains old.held h ⊎ (Contains others h.address ⊎ IsGlued h)
 
 -- a model comes after one look more
 abbrev pub last_looks : End → ℕ
@@ -146,6 +148,23 @@ pub record HasOffered (s : PortState) (exported offered : ℕ) : Type 0 where
   pub all : length (filter is_short (learned s.ring s.mine)) ≤ exported
   pub few : exported ≤ length (filter is_long (learned s.ring s.mine))
   pub told : offered ≡ min s.shared (2 ^ 64 - 1)
+
+-- so many polls, of four classes of each other ring so often, up to the last value of 64 bits
+abbrev pub polls_of : PortState → ℕ → ℕ
+polls_of s imports = min (4 * (length (other_rings s) * imports)) (2 ^ 64 - 1)
+
+-- the ring has neither found a model nor learned its limit of lemmas
+abbrev pub IsHalted : End → Type 0
+IsHalted (Sat a) = ⊥
+IsHalted Spent = ⊥
+IsHalted _ = ⊤
+
+-- where the ring found a model, or is spent, it has polled each class of each other ring once at its start and once at each
+-- restart; else at most so often
+abbrev pub HasPolled : PortState → (restarts : ℕ) → End → Type 0
+HasPolled s restarts (Sat a) = s.polled ≡ polls_of s (1 + restarts)
+HasPolled s restarts Spent = s.polled ≡ polls_of s (1 + restarts)
+HasPolled s restarts _ = s.polled ≤ polls_of s (1 + restarts)
 
 -- as many clauses were learned as are counted, and as many were offered
 pub record IsCounted (s : PortState) (counts : Counts) : Type 0 where

@@ -40,23 +40,24 @@ pub record Remembers (s : PortState) (cs : List Cref) : Type 0 where
   pub lemmas : (c : List Literal) → Contains (recent s.ring s.mine) c → IsAmong s cs c
   pub units : (l : Literal) → adds_unit s.ring s.mine l ≡ true → has s.seen l ≡ true
 
--- the clauses attached are held, each start clause and what the ring learned are among them, and nothing was taken from
--- another ring; nothing has been refused, and no stop is known
+-- the clauses attached are held, and each start clause, what the ring learned and what it took from other rings are among
+-- them; nothing has been refused, and no stop is known
 pub record HasClauses (s : PortState) (cs : List Cref) : Type 0 where
   pub held : All (IsHeldBy s) cs
   pub starts : (h : Holding) → Contains s.start h → Contains cs (record { address = h.address })
   pub starts_held : HoldsStart s
   pub own : Remembers s cs
-  pub taken : s.taken ≡ []
+  pub taken : (a : ℕ) → Contains s.taken a → Contains cs (record { address = a })
   pub refused : s.refused ≡ None
   pub stop : s.stop ≡ None
   pub port : IsPort s
 
 -- What calls change
 
--- nothing was learned, and nothing offered
+-- nothing was learned, offered or looked for
 pub record OffersNothing (old new : PortState) : Type 0 where
   pub shared : new.shared ≡ old.shared
+  pub polled : new.polled ≡ old.polled
   pub ring : new.ring ≡ old.ring
   pub rings : new.rings ≡ old.rings
   pub lemmas : learned new.ring new.mine ≡ learned old.ring old.mine
@@ -76,6 +77,8 @@ HasLent old new (Some c) exported offered more told = HasLentBy old new (class_a
 pub record OnlySaw (old new : PortState) : Type 0 where
   pub stays : Stays old new
   pub shared : new.shared ≡ old.shared
+  pub polled : new.polled ≡ old.polled
+  pub taken : new.taken ≡ old.taken
   pub held : new.held ≡ old.held
   pub mine : new.mine ≡ old.mine
   pub stop : new.stop ≡ old.stop
@@ -83,9 +86,14 @@ pub record OnlySaw (old new : PortState) : Type 0 where
   pub looks : new.looks ≡ old.looks
   pub more : (l : Literal) → has old.seen l ≡ true → has new.seen l ≡ true
 
+-- no call has changed more than what is held and taken, and how often the ring has polled
+pub record OnlyPolled (old new : PortState) : Type 0 where
+  pub state : new ≡ record old { held = new.held; taken = new.taken; polled = new.polled }
+
 -- lines of units were written, which are seen now
 pub record OnlyWrote (old new : PortState) : Type 0 where
   pub stays : Stays old new
+  pub taken : new.taken ≡ old.taken
   pub held : new.held ≡ old.held
   pub own : (cs : List Cref) → Remembers old cs → Remembers new cs
   pub stop : new.stop ≡ old.stop
@@ -99,6 +107,10 @@ SeenTrue s steps = (l : Literal) → has s.seen l ≡ true → TrueWithin steps 
 -- each unit of the opening is seen
 abbrev pub OpeningSeen : PortState → Type 0
 OpeningSeen s = (l : Literal) → has s.opening l ≡ true → has s.seen l ≡ true
+
+-- each unit that the ring added is seen
+abbrev pub AddedSeen : PortState → Type 0
+AddedSeen s = (l : Literal) → adds_unit s.ring s.mine l ≡ true → has s.seen l ≡ true
 
 -- each unit of the opening is seen, and each that the ring added
 pub record UnitsSeen (s : PortState) : Type 0 where

@@ -2,7 +2,7 @@
 ghost use Rattle.std.specs.Prelude.{◌≡◌, [], true, None};
 ghost use Rattle.rup_model.specs.Rup.{rup};
 ghost use Rattle.ring_port.specs.PortState.{IsPort, known};
-ghost use Rattle.ring_run.specs.Ended.{last_looks};
+ghost use Rattle.ring_run.specs.Ended.{IsHalted, last_looks};
 ghost use Rattle.ring_run.specs.Searching.{OffersNothing};
 ghost use Rattle.ring_run.specs.Ending.{EndsAt, end_refused};
 
@@ -39,6 +39,7 @@ pub(crate) fn refute<P: Port>(port: &mut P) -> End
     ensures looks { (P.state port.new).looks ≡ (P.state port.old).looks }
     ensures nothing { OffersNothing (P.state port.old) (P.state port.new) }
     ensures none { last_looks result ≡ 0 }
+    ensures halted { IsHalted result }
     ensures port { IsPort (P.state port.new) }
 {
     match port.empty() {

@@ -1,5 +1,5 @@
 // Where nothing is left to propagate: lines of units, a decision, or a model.
-ghost use Rattle.std.specs.Prelude.{◌≡◌, ◌<◌, true, length, Some, IfOk, OnOk, IfErr};
+ghost use Rattle.std.specs.Prelude.{◌≡◌, ◌<◌, true, false, length, Some, IfOk, OnOk, IfErr};
 ghost use Rattle.sat_words.specs.Literal.{Literal};
 ghost use Rattle.sat_words.specs.Truth.{lit_true};
 ghost use Rattle.ring_port.specs.PortState.{IsPort, lits_at};
@@ -9,12 +9,12 @@ ghost use Rattle.ring_run.specs.Ended.{Stays};
 ghost use Rattle.ring_run.specs.Strategy.{Decides};
 ghost use Rattle.ring_run.specs.Searching.{OffersNothing, AreFirst, KeepsOn};
 ghost use Rattle.ring_run.specs.Ending.{EndsAt, end_refused};
-ghost use Rattle.ring_run.specs.Course.{AreSameOffers, InSearch, Leads, KeepsLooking, TakesALook};
+ghost use Rattle.ring_run.specs.Course.{AreSameOffers, InSearch, Leads, IsFurther, KeepsLooking, TakesALook, KeepsOffering, KeepsPolling, IsPolling, HasPolledBy};
 
 use crate::course::{Course, end_refused};
+use crate::imports::import;
 use crate::job::End;
 use crate::ring::Ring;
-use crate::search::search;
 use crate::units::write_units;
 use ring_port::{Port, PortStop};
 use ring_trail::Trail;
@@ -43,9 +43,12 @@ fn decide<P: Port>(alloc: Global, port: &mut P, ring: &mut Ring, limit: u64) -> 
     requires decides { Decides (P.state port.old) ring.old.decider }
     requires quiet { IsQuiet ring.old.watches (lits_at (P.state port.old)) ring.old.trail }
     requires first { AreFirst ring.old.trail ring.old.written }
+    requires settled { ring.old.pending ≡ false }
     ensures leads { Leads (P.state port.old) ring.old (P.state port.new) ring.new limit result }
     ensures learned { ring.new.learned ≡ ring.old.learned }
     ensures longer { result ≡ Course.On → length ring.old.trail.steps < length ring.new.trail.steps }
+    ensures pending { ring.new.pending ≡ ring.old.pending }
+    ensures polls { KeepsPolling (P.state port.old) ring.old (P.state port.new) ring.new result }
     ensures looks { TakesALook (P.state port.old) ring.old ring.new result }
     ensures restarts { ring.new.restarts ≡ ring.old.restarts }
     ensures offers { AreSameOffers ring.old ring.new }
@@ -72,6 +75,8 @@ pub(crate) fn write_pending<P: Port>(port: &mut P, ring: &mut Ring) -> Result<()
     ensures held { (P.state port.new).held ≡ (P.state port.old).held }
     ensures looks { (P.state port.new).looks ≡ (P.state port.old).looks }
     ensures first { OnOk result (AreFirst ring.new.trail ring.new.written) }
+    ensures whole { OnOk result (ring.old.trail.level ≡ 0 → ring.new.written ≡ length ring.new.trail.steps) }
+    ensures pending { ring.new.pending ≡ ring.old.pending }
     ensures trail { ring.new.trail ≡ ring.old.trail }
     ensures stays { OnOk result (Stays (P.state port.old) (P.state port.new)) }
     ensures watches { ring.new.watches ≡ ring.old.watches }
@@ -94,7 +99,7 @@ pub(crate) fn write_pending<P: Port>(port: &mut P, ring: &mut Ring) -> Result<()
     }
 }
 
-/// Where nothing is left to propagate: looks for a stop, writes what is true for good, and decides.
+/// Where nothing is left to propagate: looks for a stop, writes what is true for good, and decides; behind a restart it imports.
 pub(crate) fn decide_next<P: Port>(
     alloc: Global,
     port: &mut P,
@@ -105,12 +110,13 @@ pub(crate) fn decide_next<P: Port>(
     requires below { ring.old.learned < limit }
     requires decides { Decides (P.state port.old) ring.old.decider }
     requires quiet { IsQuiet ring.old.watches (lits_at (P.state port.old)) ring.old.trail }
+    requires polling { IsPolling (P.state port.old) ring.old }
     ensures leads { Leads (P.state port.old) ring.old (P.state port.new) ring.new limit result }
     ensures learned { ring.new.learned ≡ ring.old.learned }
-    ensures longer { result ≡ Course.On → length ring.old.trail.steps < length ring.new.trail.steps }
+    ensures further { result ≡ Course.On → IsFurther ring.old ring.new }
     ensures restarts { ring.new.restarts ≡ ring.old.restarts }
-    ensures offers { AreSameOffers ring.old ring.new }
-    ensures nothing { OffersNothing (P.state port.old) (P.state port.new) }
+    ensures offering { KeepsOffering (P.state port.old) ring.old (P.state port.new) ring.new }
+    ensures polls { HasPolledBy (P.state port.new) ring.new result }
     ensures active { ring.new.decider.active ≡ ring.old.decider.active }
     ensures looks { KeepsLooking (P.state port.old) ring.old (P.state port.new) ring.new result }
     ensures port { IsPort (P.state port.new) }
@@ -119,7 +125,11 @@ pub(crate) fn decide_next<P: Port>(
         return Course::Over(End::Stopped(stop));
     }
     match write_pending(port, ring) {
-        Ok(()) => decide(alloc, port, ring, limit),
-        Err(stop) => Course::Over(end_refused(stop)),
+        Ok(()) => {}
+        Err(stop) => return Course::Over(end_refused(stop)),
     }
+    if ring.pending {
+        return import(port, ring);
+    }
+    decide(alloc, port, ring, limit)
 }

@@ -1,5 +1,5 @@
 // Learning from a conflict: the lemma is learned and offered, and the trail goes back.
-ghost use Rattle.std.specs.Prelude.{◌≡◌, ◌<◌, ◌+◌, ◌++◌, ◌-◌, ◌^◌, [], length, None, Some, IfSome, IsSome, IfErr, OnOk};
+ghost use Rattle.std.specs.Prelude.{◌≡◌, ◌<◌, ◌+◌, ◌++◌, ◌-◌, ◌^◌, [], true, length, None, Some, IfSome, IsSome, IfErr, OnOk};
 ghost use Rattle.std.specs.Option.{option_to_list};
 ghost use Rattle.ring_port.specs.PortState.{IsPort, held_at, lits_at};
 ghost use Rattle.ring_port.specs.Log.{KeepsLog};
@@ -10,12 +10,11 @@ ghost use Rattle.watch_prop.specs.Propagation.{IsConflict};
 ghost use Rattle.ring_run.specs.Strategy.{Decides, IsPaced};
 ghost use Rattle.ring_run.specs.Searching.{OffersNothing, HasLent, IsAsserting, IsGlueOf, HoldsByGlue, OnlyWrote, KeepsOn};
 ghost use Rattle.ring_run.specs.Ending.{EndsAt, end_refused};
-ghost use Rattle.ring_run.specs.Course.{AreSameOffers, IsOffering, InSearch, Leads, CanAssert, Asserted, Restarted, HasLeft, KeepsLooking};
+ghost use Rattle.ring_run.specs.Course.{AreSameOffers, IsOffering, InSearch, Leads, CanAssert, Asserted, Restarted, HasLeft, KeepsLooking, KeepsPolling};
 
 use crate::course::{Course, end_refused, refute};
 use crate::job::End;
 use crate::ring::{Ring, go_back};
-use crate::search::search;
 use crate::variables::bump_met;
 use analyze::{Analysis, Conclusion};
 use ring_port::{Port, PortStop, class_of};
@@ -60,6 +59,7 @@ fn assert_lemma<P: Port>(
     ensures learned { ring.new.learned ≡ ring.old.learned }
     ensures restarts { ring.new.restarts ≡ ring.old.restarts }
     ensures active { ring.new.decider.active ≡ ring.old.decider.active }
+    ensures pending { ring.new.pending ≡ ring.old.pending }
     ensures offers { AreSameOffers ring.old ring.new }
 {
     go_back(ring, back);
@@ -79,6 +79,7 @@ fn restart<P: Port>(port: &mut P, ring: &mut Ring, address: Option<Cref>) -> Res
     ensures learned { ring.new.learned ≡ ring.old.learned }
     ensures restarts { ring.new.restarts ≡ ring.old.restarts }
     ensures active { ring.new.decider.active ≡ ring.old.decider.active }
+    ensures pending { ring.new.pending ≡ ring.old.pending }
     ensures offers { AreSameOffers ring.old ring.new }
 {
     go_back(ring, 0);
@@ -104,6 +105,8 @@ fn leave_conflict<P: Port>(
     ensures restarts { ring.new.restarts ≡ ring.old.restarts }
     ensures active { ring.new.decider.active ≡ ring.old.decider.active }
     ensures offers { AreSameOffers ring.old ring.new }
+    ensures pending { ring.new.pending ≡ ring.old.pending }
+    ensures low { OnOk result (ring.old.pending ≡ true → ring.new.trail.level ≡ 0) }
 {
     if ring.pending && back != 0 {
         return restart(port, ring, address);
@@ -173,6 +176,7 @@ fn learn_lemma<P: Port>(
     ensures stored { HoldsByGlue (P.state port.old) (P.state port.new) ring.old.trail.steps }
     ensures looks { KeepsLooking (P.state port.old) ring.old (P.state port.new) ring.new result }
     ensures paced { IsPaced ring.new.restarts ring.new.learned limit }
+    ensures polls { KeepsPolling (P.state port.old) ring.old (P.state port.new) ring.new result }
     ensures offering { IsOffering (P.state port.new) ring.new }
     ensures odd { ring.new.restarts.odd ≡ ring.old.restarts.odd }
     ensures active { ring.new.decider.active ≡ ring.old.decider.active }
@@ -220,6 +224,7 @@ pub(crate) fn learn_from<P: Port>(
     ensures stored { HoldsByGlue (P.state port.old) (P.state port.new) ring.old.trail.steps }
     ensures looks { KeepsLooking (P.state port.old) ring.old (P.state port.new) ring.new result }
     ensures paced { IsPaced ring.new.restarts ring.new.learned limit }
+    ensures polls { KeepsPolling (P.state port.old) ring.old (P.state port.new) ring.new result }
     ensures offering { IsOffering (P.state port.new) ring.new }
     ensures odd { ring.new.restarts.odd ≡ ring.old.restarts.odd }
     ensures active { ring.new.decider.active ≡ ring.old.decider.active }

@@ -9,6 +9,7 @@
 
 mod course;
 mod decision;
+mod imports;
 mod job;
 mod lemma;
 mod ring;

@@ -9,12 +9,23 @@ use ring_decide::Decider;
 use ring_trail::Trail;
 use watch_prop::Watches;
 
+/// Which ring it is, and how many there are.
+#[derive(Clone, Copy)]
+pub(crate) struct Place {
+    /// The ring's number, from 0.
+    pub ring: u32,
+    /// How many rings search.
+    pub rings: u32,
+}
+
 /// What a ring has of its own.
 #[derive(Drop)]
 pub(crate) struct Ring {
+    /// Where it stands among the rings.
+    pub place: Place,
     /// What is true.
     pub trail: Trail,
-    /// The start clauses, and behind them the lemmas, each watched by two of its literals.
+    /// The start clauses, and behind them the lemmas and what other rings gave, each watched by two of its literals.
     pub watches: Watches,
     /// How many lemmas were learned.
     pub learned: u64,
@@ -24,7 +35,7 @@ pub(crate) struct Ring {
     pub decider: Decider,
     /// When it restarts.
     pub restarts: Restarts,
-    /// Whether a restart was due behind the last lemma.
+    /// Whether an import is yet to be: that at the start, or that of the last restart.
     pub pending: bool,
     /// Room for the variables that a conflict met.
     pub bumps: Vec<Bump>,

@@ -1,11 +1,11 @@
 // A run of a ring, from its job to its end.
-ghost use Rattle.std.specs.Prelude.{◌≡◌, ◌≤◌, ◌<◌, ◌+◌, ◌++◌, ◌^◌, ◌%◌, ◌==◌, ◌↔◌, All, IfOk, OnOk, []};
+ghost use Rattle.std.specs.Prelude.{◌≡◌, ◌≤◌, ◌<◌, ◌+◌, ◌++◌, ◌^◌, ◌%◌, ◌==◌, ◌↔◌, ℕ, All, IfOk, OnOk, [], true};
 ghost use Rattle.ring_port.specs.PortState.{IsPort, HoldsStart, lits_at};
 ghost use Rattle.ring_port.specs.Port.{KeepsHeld};
 ghost use Rattle.ring_trail.specs.TrailData.{TrailData, IsTrail};
 ghost use Rattle.watch_prop.specs.WatchData.{attached};
 ghost use Rattle.watch_prop.specs.Watched.{Watched, IsFresh};
-ghost use Rattle.ring_run.specs.Ended.{IsJobOf, IsUntouched, Stays, IsOwn, IsCounted, HasOffered, HasRestarted, AreNew, AreNewLines, HoldsGlued, HasLooked, last_looks, stop_kind, Cause, Ends};
+ghost use Rattle.ring_run.specs.Ended.{IsJobOf, IsUntouched, Stays, IsOwn, IsCounted, HasOffered, HasRestarted, HasPolled, AreNew, AreNewLines, HoldsGlued, HasLooked, last_looks, stop_kind, Cause, Ends};
 ghost use Rattle.ring_run.specs.Searching.{IsHeldBy, OffersNothing};
 ghost use Rattle.ring_decide.specs.Phases.{first_phases};
 ghost use Rattle.restart_plan.specs.Plan.{IsRestarting, begun};
@@ -13,7 +13,7 @@ ghost use Rattle.ring_run.specs.Strategy.{Decides};
 ghost use Rattle.ring_run.specs.Ending.{ComesTo, IsUnset, KeepsRuns};
 
 use crate::job::{Counts, End, Job};
-use crate::ring::Ring;
+use crate::ring::{Place, Ring};
 use crate::search::search;
 use crate::variables::active_of;
 use analyze::Analysis;
@@ -45,6 +45,10 @@ const NOTHING: Counts = Counts {
 /// A restart comes right behind a lemma: it goes back to level 0 and not to the lemma's level. A ring of odd number restarts by
 /// Luby's sequence (Luby, Sinclair and Zuckerman 1993), the others where the glue of late is greater than on the whole.
 ///
+/// The ring takes what other rings have for it at its start and at each restart, at level 0: first their units, then each
+/// clause that lies ready, by ring and class, which is attached at once. So it polls each class of each other ring once at its
+/// start and once at each restart.
+///
 /// Every end but `Spent` and `Stopped` has set this ring's stop, and was the first to set one: a ring that comes second
 /// answers `Stopped` with the stop that stands. A call of the port that was refused for want of memory, room or a write
 /// ends the run; what was held and written before it stays. After `Memory` the ring has no answer, and its stop tells the
@@ -62,6 +66,7 @@ pub fn run_ring<P: Port>(alloc: Global, port: &mut P, job: &Job) -> (End, Counts
     ensures looked { HasLooked ((P.state port.old).looks + result.1.learned + last_looks result.0) (P.state port.new) }
     ensures counts { IsCounted (P.state port.new) result.1 }
     ensures restarted { HasRestarted (P.state port.old).ring job.now.conflicts result.1 }
+    ensures polled { HasPolled (P.state port.new) result.1.restarts result.0 }
     ensures within { result.1.learned ≤ job.now.conflicts }
     ensures spent { (result.0 ≡ End.Spent) ↔ (result.1.learned ≡ job.now.conflicts) }
     ensures ends { Ends (P.state port.new) result.0 }
@@ -80,6 +85,7 @@ fn run_job<P: Port>(alloc: Global, port: &mut P, job: &Job) -> (End, Counts)
     ensures looked { HasLooked ((P.state port.old).looks + result.1.learned + last_looks result.0) (P.state port.new) }
     ensures offers { HasOffered (P.state port.new) result.1.exported result.1.offered }
     ensures restarted { HasRestarted (P.state port.old).ring job.now.conflicts result.1 }
+    ensures polled { HasPolled (P.state port.new) result.1.restarts result.0 }
     ensures port { IsPort (P.state port.new) }
 {
     let Ok(mut ring) = make_ring(alloc, port, job) else {
@@ -127,7 +133,7 @@ fn attach_all<P: Port>(
     Ok(())
 }
 
-/// A ring that has attached the start clauses, and done nothing else.
+/// A ring that has attached the start clauses, and done nothing else: it is yet to import.
 pub(crate) fn make_ring<P: Port>(alloc: Global, port: &mut P, job: &Job) -> Result<Ring, AllocError>
     requires job { IsJobOf (P.state port.old) job.now }
     requires held { HoldsStart (P.state port.old) }
@@ -143,6 +149,8 @@ pub(crate) fn make_ring<P: Port>(alloc: Global, port: &mut P, job: &Job) -> Resu
     ensures phases { IfOk result (λ ring. ring.decider.phase ≡ first_phases job.now.seed job.now.ring job.now.vars) }
     ensures none { IfOk result (λ ring. (ring.exported ≡ 0) × (ring.offered ≡ 0)) }
     ensures restarts { IfOk result (λ ring. ring.restarts ≡ begun (job.now.ring % 2 == 1)) }
+    ensures place { IfOk result (λ ring. ring.place ≡ record { ring = job.now.ring; rings = job.now.rings }) }
+    ensures pending { IfOk result (λ ring. ring.pending ≡ true) }
 {
     let trail = Trail::new(alloc, job.vars)?;
     let mut watches = Watches::new(alloc, job.vars)?;
@@ -152,13 +160,17 @@ pub(crate) fn make_ring<P: Port>(alloc: Global, port: &mut P, job: &Job) -> Resu
     let restarts = Restarts::new(alloc, job.ring)?;
     let bumps = Vec::with_capacity(alloc, job.vars as usize)?;
     Ok(Ring {
+        place: Place {
+            ring: job.ring,
+            rings: job.rings,
+        },
         trail,
         watches,
         learned: 0,
         written: 0,
         decider,
         restarts,
-        pending: false,
+        pending: true,
         bumps,
         exported: 0,
         offered: 0,
@@ -190,6 +202,7 @@ fn claim<P: Port>(port: &mut P, end: End) -> End
     ensures looks { (P.state port.new).looks ≡ (P.state port.old).looks }
     ensures nothing { OffersNothing (P.state port.old) (P.state port.new) }
     ensures looked { last_looks result ≤ last_looks end }
+    ensures polled { (made : ℕ) → HasPolled (P.state port.old) made end → HasPolled (P.state port.new) made result }
     ensures port { IsPort (P.state port.new) }
 {
     let Some(kind) = stop_kind(&end) else {

@@ -1,18 +1,18 @@
 // The search: it propagates, and then learns or decides, until an end.
-ghost use Rattle.std.specs.Prelude.{◌≡◌, ◌<◌, ◌+◌, ℕ};
+ghost use Rattle.std.specs.Prelude.{◌≡◌, ◌<◌, ◌+◌, ℕ, true};
 ghost use Rattle.ring_port.specs.PortState.{IsPort};
-ghost use Rattle.ring_run.specs.Ended.{HasLooked, last_looks};
+ghost use Rattle.ring_run.specs.Ended.{HasLooked, HasPolled, last_looks};
 ghost use Rattle.ring_run.specs.Strategy.{Decides, IsPaced};
 ghost use Rattle.ring_run.specs.Searching.{GoesOn};
 ghost use Rattle.ring_run.specs.Ending.{ComesTo};
-ghost use Rattle.ring_run.specs.Course.{IsOffering, InSearch, Leads, IsFurther, IsBegun, IsLooking, KeepsLooking};
+ghost use Rattle.ring_run.specs.Course.{IsOffering, InSearch, MayImport, Leads, IsFurther, IsLooking, KeepsLooking, IsPolling, HasPolledBy};
 
-use crate::course::{Course, refute};
+use crate::course::Course;
 use crate::decision::decide_next;
+use crate::imports::import;
 use crate::job::End;
 use crate::lemma::learn_from;
 use crate::ring::Ring;
-use crate::units::{Units, take_units};
 use analyze::Analysis;
 use ring_port::Port;
 use std::alloc::Global;
@@ -31,12 +31,14 @@ fn turn<P: Port>(
     requires decides { Decides (P.state port.old) ring.old.decider }
     requires paced { IsPaced ring.old.restarts ring.old.learned limit }
     requires offering { IsOffering (P.state port.old) ring.old }
+    requires polling { IsPolling (P.state port.old) ring.old }
     requires vars { analysis.old.vars ≡ ring.old.trail.vars }
     ensures leads { Leads (P.state port.old) ring.old (P.state port.new) ring.new limit result }
     ensures further { result ≡ Course.On → IsFurther ring.old ring.new }
     ensures looks { KeepsLooking (P.state port.old) ring.old (P.state port.new) ring.new result }
     ensures paced { IsPaced ring.new.restarts ring.new.learned limit }
     ensures offering { IsOffering (P.state port.new) ring.new }
+    ensures polls { HasPolledBy (P.state port.new) ring.new result }
     ensures odd { ring.new.restarts.odd ≡ ring.old.restarts.odd }
     ensures active { ring.new.decider.active ≡ ring.old.decider.active }
     ensures vars { analysis.new.vars ≡ analysis.old.vars }
@@ -52,7 +54,7 @@ fn turn<P: Port>(
     }
 }
 
-/// Searches until an end, as MiniSat does: propagates, and at a conflict learns from it and goes back, or
+/// Imports, and then searches until an end, as MiniSat does: propagates, and at a conflict learns from it and goes back, or
 /// else decides.
 pub(crate) fn search<P: Port>(
     alloc: Global,
@@ -61,23 +63,25 @@ pub(crate) fn search<P: Port>(
     analysis: &mut Analysis,
     limit: u64,
 ) -> End
-    requires begun { IsBegun (P.state port.old) ring.old }
+    requires import { MayImport (P.state port.old) ring.old.trail ring.old.watches ring.old.written }
+    requires pending { ring.old.pending ≡ true }
     requires goes { GoesOn (P.state port.old) (P.state port.old) ring.old.learned }
     requires below { ring.old.learned < limit }
     requires decides { Decides (P.state port.old) ring.old.decider }
     requires paced { IsPaced ring.old.restarts ring.old.learned limit }
     requires offering { IsOffering (P.state port.old) ring.old }
+    requires polling { IsPolling (P.state port.old) ring.old }
     requires vars { analysis.old.vars ≡ ring.old.trail.vars }
     ensures ends { ComesTo (P.state port.old) (P.state port.new) ring.new.learned limit result }
     ensures looks { (base : ℕ) → IsLooking base (P.state port.old) ring.old → HasLooked (base + ring.new.learned + last_looks result) (P.state port.new) }
     ensures paced { IsPaced ring.new.restarts ring.new.learned limit }
     ensures offering { IsOffering (P.state port.new) ring.new }
+    ensures polled { HasPolled (P.state port.new) ring.new.restarts.made result }
     ensures odd { ring.new.restarts.odd ≡ ring.old.restarts.odd }
     ensures port { IsPort (P.state port.new) }
 {
-    match take_units(port, &mut ring.trail) {
-        Units::Opposed => return refute(port),
-        Units::True => {}
+    if let Course::Over(end) = import(port, ring) {
+        return end;
     }
     loop {
         if let Course::Over(end) = turn(alloc, port, ring, analysis, limit) {

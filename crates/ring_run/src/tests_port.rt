@@ -16,6 +16,13 @@ use std::test::Fail;
 /// By this seed the first words of the reference generator of ring 1 end in the bits 0: all are decided false.
 const SEED: u64 = 2;
 
+/// A look for a clause of another ring.
+#[derive(Clone, Copy, PartialEq, Eq, Debug)]
+struct Poll {
+    from: u32,
+    class: u8,
+}
+
 /// The second of three rings. Another ring's stop appears after so many looks, and no line can be written.
 #[derive(Drop)]
 struct Crowd<L: LineOut> {
@@ -29,6 +36,9 @@ struct Crowd<L: LineOut> {
     memory: bool,
     /// The glue that the last lemma came with.
     glue: Option<u32>,
+    polled: u64,
+    /// Which ring was polled and for which class, in order.
+    polls: Vec<Poll>,
 }
 
 impl<L: LineOut> Model for Crowd<L> {
@@ -37,9 +47,9 @@ impl<L: LineOut> Model for Crowd<L> {
 
     ghost Value = { PortState };
 
-    ghost view = { λ p. crowd_of p.inner p.stop p.looks p.refused };
+    ghost view = { λ p. crowd_of p.inner p.stop p.looks p.refused p.polled };
 
-    ghost invariant = { λ p. IsPort (crowd_of p.inner p.stop p.looks p.refused) };
+    ghost invariant = { λ p. IsPort (crowd_of p.inner p.stop p.looks p.refused p.polled) };
 }
 
 /// The stop of the third ring.
@@ -53,9 +63,9 @@ fn other_stop() -> Stop
 }
 
 impl<L: LineOut> Crowd<L> {
-    fn over(inner: PlainPort<L>, quiet: u64, memory: bool) -> Crowd<L>
+    fn over(alloc: Global, inner: PlainPort<L>, quiet: u64, memory: bool) -> Crowd<L>
         requires { IsPort inner }
-        ensures { result ≡ crowd_of inner None 0 None }
+        ensures { result ≡ crowd_of inner None 0 None 0 }
     {
         Crowd {
             inner,
@@ -65,6 +75,8 @@ impl<L: LineOut> Crowd<L> {
             quiet,
             memory,
             glue: None,
+            polled: 0,
+            polls: Vec::new(alloc),
         }
     }
 
@@ -81,6 +93,13 @@ impl<L: LineOut> Crowd<L> {
     /// How many looks found no stop.
     fn looks(&self) -> u64 {
         self.looks
+    }
+}
+
+impl<L: LineOut + Drop> Crowd<L> {
+    /// Which ring was polled and for which class, in order.
+    fn into_polls(self) -> Vec<Poll> {
+        self.polls
     }
 }
 
@@ -149,9 +168,13 @@ impl<L: LineOut> Port for Crowd<L> {
         unreachable!()
     }
 
-    fn poll(&mut self, _from: u32, _class: u8) -> Result<Option<Cref>, PortStop> {
-        self.memory = true;
-        Err(PortStop::Memory)
+    /// Nothing is there.
+    fn poll(&mut self, from: u32, class: u8) -> Result<Option<Cref>, PortStop> {
+        if self.polls.push(Poll { from, class }).is_err() {
+            return Err(PortStop::Memory);
+        }
+        self.polled = self.polled.saturating_add(1);
+        Ok(None)
     }
 
     fn next_unit(&mut self) -> Option<Lit> {
@@ -194,6 +217,7 @@ struct Ran {
     stop: Option<Stop>,
     looks: u64,
     glue: Option<u32>,
+    polls: Vec<Poll>,
 }
 
 /// Runs the second of three rings from these clauses.
@@ -218,7 +242,7 @@ fn run_in_crowd(
         conflicts: 2,
         seed: SEED,
     };
-    let mut port = Crowd::over(inner, quiet, memory);
+    let mut port = Crowd::over(alloc, inner, quiet, memory);
     let (end, counts) = run_ring(alloc, &mut port, &job);
     Ok(Ran {
         end,
@@ -226,6 +250,7 @@ fn run_in_crowd(
         stop: port.known_stop(),
         looks: port.looks(),
         glue: port.glue(),
+        polls: port.into_polls(),
     })
 }
 
@@ -289,5 +314,20 @@ fn tells_that_memory_ran_out(rt: HostRuntime) -> Result<(), Fail> {
         })
     );
     assert_eq!(rt; ran.counts, counted(0, 0));
+    Ok(())
+}
+
+// It polled the four classes of the first ring and then those of the third, once, before it decided anything.
+#[test]
+fn polls_each_other_ring_at_its_start(rt: HostRuntime) -> Result<(), Fail> {
+    let ran = run_on_two(rt.alloc(), 0, false)?;
+    assert!(rt; matches!(ran.end, End::Stopped(_)));
+    assert_eq!(rt; ran.counts, counted(0, 0));
+    assert_eq!(rt; ran.polls.len(), 8);
+    for i in 0..4 {
+        let class = i as u8;
+        assert_eq!(rt; ran.polls[i], Poll { from: 0, class });
+        assert_eq!(rt; ran.polls[4 + i], Poll { from: 2, class });
+    }
     Ok(())
 }

@@ -3,7 +3,7 @@ ghost use Rattle.std.specs.Prelude.{◌≡◌, [], IfOk, OnOk};
 ghost use Rattle.ring_port.specs.PortState.{IsPort, lits_at};
 ghost use Rattle.watch_prop.specs.Propagation.{IsConflict, IsQuiet, IsPropagated};
 ghost use Rattle.ring_run.specs.Ended.{IsJobOf, IsUntouched};
-ghost use Rattle.ring_run.specs.Course.{InSearch, IsBegun};
+ghost use Rattle.ring_run.specs.Course.{InSearch, MayImport};
 ghost use Rattle.ring_run.specs.Problems.{CanStart, row, row_starts};
 
 use crate::decision::write_pending;
@@ -60,7 +60,7 @@ fn fresh_ring<P: Port>(alloc: Global, port: &mut P, job: &Job) -> Result<Ring, F
     requires job { IsJobOf (P.state port.old) job.now }
     requires untouched { IsUntouched (P.state port.old) }
     requires port { IsPort (P.state port.old) }
-    ensures { IfOk result (IsBegun (P.state port.new)) }
+    ensures { IfOk result (λ ring. MayImport (P.state port.new) ring.trail ring.watches ring.written) }
 {
     let Ok(ring) = make_ring(alloc, port, job) else {
         return Err(Fail::from("no memory for the ring"));
@@ -70,7 +70,7 @@ fn fresh_ring<P: Port>(alloc: Global, port: &mut P, job: &Job) -> Result<Ring, F
 
 /// Makes the units of the opening true, where they do not oppose each other.
 fn take_opening<P: Port>(port: &mut P, ring: &mut Ring) -> Result<(), Fail>
-    requires { IsBegun (P.state port.old) ring.old }
+    requires { MayImport (P.state port.old) ring.old.trail ring.old.watches ring.old.written }
     ensures { OnOk result (InSearch (P.state port.new) ring.new) }
 {
     match take_units(port, &mut ring.trail) {

@@ -1,9 +1,12 @@
 // Units: those that come from outside, and those that propagation makes true for good.
-ghost use Rattle.std.specs.Prelude.{◌≡◌, ◌≤◌, ◌<◌, ◌+◌, ℕ, [], None, OnOk, IfErr, length};
+ghost use Rattle.std.specs.Prelude.{◌≡◌, ◌≤◌, ◌<◌, ◌+◌, ℕ, List, None, OnOk, IfErr, length};
 ghost use Rattle.ring_port.specs.PortState.{IsPort};
 ghost use Rattle.ring_trail.specs.TrailData.{HasGrown, IsTrail, reason_at};
+ghost use Rattle.sat_words.specs.declared.shared.Cref.{Cref};
+ghost use Rattle.watch_prop.specs.WatchData.{WatchData, Lits};
+ghost use Rattle.watch_prop.specs.Watched.{Watched};
 ghost use Rattle.watch_prop.specs.Propagation.{HasReasons};
-ghost use Rattle.ring_run.specs.Searching.{OffersNothing, OnlySaw, Stands, AreTaken, AreTold, UnitsSeen, OnlyWrote, KeepsOn};
+ghost use Rattle.ring_run.specs.Searching.{AddedSeen, OffersNothing, OnlySaw, Stands, AreTaken, AreTold, UnitsSeen, OnlyWrote, KeepsOn};
 ghost use Rattle.ring_run.specs.Ending.{EndsAt, end_refused};
 
 use ring_port::{Port, PortStop};
@@ -18,19 +21,20 @@ pub(crate) enum Units {
     True,
 }
 
-/// Makes the units true that come from outside. The trail is at level 0, where no clause is a reason yet.
+/// Makes the units true that come from outside. The trail is at level 0.
 pub(crate) fn take_units<P: Port>(port: &mut P, trail: &mut Trail) -> Units
     requires level { trail.old.level ≡ 0 }
     requires trail { IsTrail trail.old }
     requires port { IsPort (P.state port.old) }
     requires stands { Stands (P.state port.old) trail.old }
-    requires reasons { HasReasons [] (P.state port.old) trail.old.steps }
-    requires bare { (p : ℕ) → p < length trail.old.steps → reason_at trail.old.steps p ≡ None }
+    requires added { AddedSeen (P.state port.old) }
     ensures saw { OnlySaw (P.state port.old) (P.state port.new) }
     ensures grown { HasGrown trail.old trail.new }
     ensures taken { AreTaken (P.state port.new) trail.new result }
-    ensures reasons { HasReasons [] (P.state port.new) trail.new.steps }
-    ensures bare { (p : ℕ) → p < length trail.new.steps → reason_at trail.new.steps p ≡ None }
+    ensures keeps { KeepsOn (P.state port.old) (P.state port.new) }
+    ensures reasons { (cs : List Cref) → HasReasons cs (P.state port.old) trail.old.steps → HasReasons cs (P.state port.new) trail.new.steps }
+    ensures bare { (p : ℕ) → length trail.old.steps ≤ p → p < length trail.new.steps → reason_at trail.new.steps p ≡ None }
+    ensures watched { (w : WatchData) (lits : Lits) → Watched w lits trail.old → Watched w lits trail.new }
     ensures trail { IsTrail trail.new }
     ensures port { IsPort (P.state port.new) }
 {

@@ -1,5 +1,7 @@
 use Rattle.std.proofs.Common.{subst, sym}
+use Rattle.ring_run.specs.Ended.{IsHalted}
 use Rattle.ring_run.specs.Ending.{ComesTo}
+use Rattle.ring_run.proofs.Tidying.{refused_halted}
 use Rattle.ring_run.specs.declared.job.End.{End}
 use Rattle.ring_run.proofs.Offering.{nothing_empty}
 use Rattle.ring_run.proofs.Progress.{empty_refutes, refused_ends}
@@ -19,3 +21,6 @@ returns-in-Ok-clause-nothing g c = nothing_empty (g.P.Port.state c.args.port.now
 
 pub returns-in-Err-clause-nothing : goal.returns-in-Err-clause-nothing
 returns-in-Err-clause-nothing g c = nothing_empty (g.P.Port.state c.args.port.now) (g.P.Port.state c.empty.new.self) c.empty.result c.empty.ensures.written
+
+pub returns-in-Err-clause-halted : goal.returns-in-Err-clause-halted
+returns-in-Err-clause-halted g c = subst IsHalted (sym c.end_refused.ensures) (refused_halted c.in-Err.stop)

@@ -3,7 +3,9 @@ use Rattle.ring_run.proofs.Deciding.{decided_search, model_found}
 use Rattle.ring_run.proofs.Progress.{out_of_memory}
 use Rattle.ring_run.proofs.Learning.{goes_on_by}
 use Rattle.ring_run.proofs.decision.decide.Goals as goal
-use Rattle.std.proofs.Common.{subst, sym}
+use Rattle.std.proofs.Common.{◌∙◌, subst, sym}
+use Rattle.std.proofs.lemmas.Bool.{false≢true}
+use Rattle.ring_run.proofs.Polling.{polled_whole, polled_over}
 use Rattle.ring_trail.specs.TrailData.{TrailData, IsTrail}
 use Rattle.ring_run.specs.Course.{Searches}
 
@@ -22,3 +24,12 @@ returns-in-Ok-clause-leads g c =
 
 pub returns-in-Err-clause-leads : goal.returns-in-Err-clause-leads
 returns-in-Err-clause-leads g c = λ start p. out_of_memory start (g.P.Port.state c.args.port.now) c.args.ring.now.learned c.args.limit c.requires.below p
+
+pub returns-in-Some-clause-polls : goal.returns-in-Some-clause-polls
+returns-in-Some-clause-polls g c = λ p. record { place = p.place; polled = p.polled; low = λ e. absurd (false≢true (sym c.requires.settled ∙ e)) }
+
+pub returns-in-Ok-clause-polls : goal.returns-in-Ok-clause-polls
+returns-in-Ok-clause-polls g c = λ p. polled_whole (g.P.Port.state c.args.port.now) c.args.ring.now c.requires.settled p.polled
+
+pub returns-in-Err-clause-polls : goal.returns-in-Err-clause-polls
+returns-in-Err-clause-polls g c = λ p. polled_over (g.P.Port.state c.args.port.now) c.args.ring.now p.polled

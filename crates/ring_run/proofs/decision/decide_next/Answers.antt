@@ -1,25 +1,41 @@
-use Rattle.std.proofs.Common.{◌∙◌, ap, subst, sym}
+use Rattle.std.proofs.Common.{◌≡◌, ◌∙◌, ap, subst, sym, arith, inl, inr, refl, length}
 use Rattle.ring_port.specs.PortState.{PortState, one_more}
+use Rattle.ring_trail.specs.TrailData.{TrailData}
 use Rattle.ring_decide.specs.DeciderData.{DeciderData}
-use Rattle.ring_run.proofs.Deciding.{decides_by}
+use Rattle.ring_run.specs.Ended.{HasPolled}
 use Rattle.ring_run.specs.Searching.{GoesOn, OffersNothing}
-use Rattle.ring_run.proofs.Offering.{nothing_looked, nothing_then}
 use Rattle.ring_run.specs.Ending.{ComesTo}
+use Rattle.ring_run.specs.Course.{imports_of, IsOffering}
+use Rattle.ring_run.proofs.Deciding.{decides_by}
+use Rattle.ring_run.proofs.Lending.{offering_stays}
+use Rattle.ring_run.proofs.Offering.{nothing_looked, nothing_then}
+use Rattle.ring_run.proofs.Polling.{polls_same, polled_over, polled_halted, polling_same}
 use Rattle.ring_run.proofs.Progress.{stop_seen, looked_goes_on}
+use Rattle.ring_run.proofs.Tidying.{refused_halted}
 use Rattle.ring_run.proofs.Turning.{quiet_same, looked_search, compose}
 use Rattle.ring_run.proofs.decision.decide_next.Goals as goal
 
-pub decide-requires-clause-quiet : goal.decide-requires-clause-quiet
-decide-requires-clause-quiet g c =
-    quiet_same (g.P.Port.state c.args.port.now) (g.P.Port.state c.write_pending.new.port) c.args.ring.now.trail c.write_pending.new.ring.trail c.args.ring.now.watches c.write_pending.new.ring.watches
-    (c.write_pending.ensures.held ∙ ap (λ (x : PortState). x.held) c.in_default.ensures.looked.1) c.write_pending.ensures.trail c.write_pending.ensures.watches c.requires.quiet
+pub write_pending-requires : goal.write_pending-requires
+write_pending-requires g c = record {
+  search = looked_search (g.P.Port.state c.args.port.now) (g.P.Port.state c.stopped.new.self) c.args.ring.now.trail c.args.ring.now.watches c.args.ring.now.written (one_more (g.P.Port.state c.args.port.now).looks) c.requires.search
+      c.in_default.ensures.looked.1 c.stopped.ensures.log c.stopped.ensures.port;
+}
 
-pub returns-in-Ok-clause-leads : goal.returns-in-Ok-clause-leads
-returns-in-Ok-clause-leads g c =
-    compose c.decide.result (g.P.Port.state c.args.port.now) (g.P.Port.state c.write_pending.new.port) (g.P.Port.state c.decide.new.port) c.args.ring.now c.write_pending.new.ring c.decide.new.ring c.args.limit
-    (λ start p. subst (GoesOn start (g.P.Port.state c.write_pending.new.port)) (sym c.write_pending.ensures.learned)
-    (c.in-Ok.ensures.ok start c.args.ring.now.learned (looked_goes_on start (g.P.Port.state c.args.port.now) (g.P.Port.state c.stopped.new.self) c.args.ring.now.learned (one_more (g.P.Port.state c.args.port.now).looks) p c.in_default.ensures.looked.1 c.stopped.ensures.log c.stopped.ensures.port)))
-    c.decide.ensures.leads
+pub returns-in-Some-clause-leads : goal.returns-in-Some-clause-leads
+returns-in-Some-clause-leads g c = λ start p.
+    stop_seen start (g.P.Port.state c.args.port.now) (g.P.Port.state c.stopped.new.self) c.args.ring.now.learned c.args.limit c.in-Some.stop c.requires.below p c.in-Some.ensures.looked c.stopped.ensures.log c.stopped.ensures.port
+
+pub returns-in-Some-clause-offering : goal.returns-in-Some-clause-offering
+returns-in-Some-clause-offering g c = λ p.
+    let s = g.P.Port.state c.args.port.now in
+    let m = g.P.Port.state c.stopped.new.self in
+    offering_stays s m c.args.ring.now c.args.ring.now (nothing_looked s m c.stopped.result c.stopped.ensures.looked) (record { exported = refl; offered = refl; place = refl }) refl p
+
+pub returns-in-Some-clause-polls : goal.returns-in-Some-clause-polls
+returns-in-Some-clause-polls g c =
+    let s = g.P.Port.state c.args.port.now in
+    let m = g.P.Port.state c.stopped.new.self in
+    polled_over m c.args.ring.now (polls_same s m (imports_of c.args.ring.now) (nothing_looked s m c.stopped.result c.stopped.ensures.looked) c.requires.polling.polled)
 
 pub returns-in-Err-clause-leads : goal.returns-in-Err-clause-leads
 returns-in-Err-clause-leads g c = λ start p.
@@ -27,15 +43,90 @@ returns-in-Err-clause-leads g c = λ start p.
     (subst (λ end. ComesTo start (g.P.Port.state c.write_pending.new.port) c.args.ring.now.learned c.args.limit end) (sym c.end_refused.ensures)
     (c.in-Err.ensures.over c.args.ring.now.learned c.args.limit c.requires.below start (looked_goes_on start (g.P.Port.state c.args.port.now) (g.P.Port.state c.stopped.new.self) c.args.ring.now.learned (one_more (g.P.Port.state c.args.port.now).looks) p c.in_default.ensures.looked.1 c.stopped.ensures.log c.stopped.ensures.port)))
 
-pub returns-in-Some-clause-leads : goal.returns-in-Some-clause-leads
-returns-in-Some-clause-leads g c = λ start p.
-    stop_seen start (g.P.Port.state c.args.port.now) (g.P.Port.state c.stopped.new.self) c.args.ring.now.learned c.args.limit c.in-Some.stop c.requires.below p c.in-Some.ensures.looked c.stopped.ensures.log c.stopped.ensures.port
+pub returns-in-Err-clause-offering : goal.returns-in-Err-clause-offering
+returns-in-Err-clause-offering g c = λ p.
+    let s = g.P.Port.state c.args.port.now in
+    let m = g.P.Port.state c.stopped.new.self in
+    let w = g.P.Port.state c.write_pending.new.port in
+    let old = c.args.ring.now in
+    let ring = c.write_pending.new.ring in
+    let nothing : OffersNothing s w = nothing_then s m w (nothing_looked s m c.stopped.result c.stopped.ensures.looked) c.write_pending.ensures.nothing in
+    offering_stays s w old ring nothing c.write_pending.ensures.offers c.write_pending.ensures.learned p
 
-pub write_pending-requires : goal.write_pending-requires
-write_pending-requires g c = record {
-  search = looked_search (g.P.Port.state c.args.port.now) (g.P.Port.state c.stopped.new.self) c.args.ring.now.trail c.args.ring.now.watches c.args.ring.now.written (one_more (g.P.Port.state c.args.port.now).looks) c.requires.search
-      c.in_default.ensures.looked.1 c.stopped.ensures.log c.stopped.ensures.port;
-}
+pub returns-in-Err-clause-polls : goal.returns-in-Err-clause-polls
+returns-in-Err-clause-polls g c =
+    let s = g.P.Port.state c.args.port.now in
+    let m = g.P.Port.state c.stopped.new.self in
+    let w = g.P.Port.state c.write_pending.new.port in
+    let old = c.args.ring.now in
+    let ring = c.write_pending.new.ring in
+    let nothing : OffersNothing s w = nothing_then s m w (nothing_looked s m c.stopped.result c.stopped.ensures.looked) c.write_pending.ensures.nothing in
+    subst (HasPolled w ring.restarts.made) (sym c.end_refused.ensures)
+    (polled_halted w ring.restarts.made _ (refused_halted c.in-Err.stop) (polled_over w ring (polling_same s w old ring nothing c.write_pending.ensures.offers.place c.write_pending.ensures.restarts c.write_pending.ensures.pending (ap (λ (t : TrailData). t.level) c.write_pending.ensures.trail) c.requires.polling).polled))
+
+pub import-requires-clause-import : goal.import-requires-clause-import
+import-requires-clause-import g c =
+    let s = g.P.Port.state c.args.port.now in
+    let m = g.P.Port.state c.stopped.new.self in
+    let w = g.P.Port.state c.write_pending.new.port in
+    let old = c.args.ring.now in
+    let ring = c.write_pending.new.ring in
+    let found = c.in-Ok.ensures.search in
+    let level : old.trail.level ≡ 0 = c.requires.polling.low (sym c.write_pending.ensures.pending ∙ c.if-ring.true) in
+    record {
+      clauses = found.clauses;
+      stands = found.stands;
+      trail = found.trail;
+      level = ap (λ (t : TrailData). t.level) c.write_pending.ensures.trail ∙ level;
+      watched = found.watched;
+      reasons = found.reasons;
+      told = found.told;
+      whole = c.in-Ok.ensures.whole level;
+    }
+
+pub import-requires-clause-polling : goal.import-requires-clause-polling
+import-requires-clause-polling g c =
+    let s = g.P.Port.state c.args.port.now in
+    let m = g.P.Port.state c.stopped.new.self in
+    let w = g.P.Port.state c.write_pending.new.port in
+    let old = c.args.ring.now in
+    let ring = c.write_pending.new.ring in
+    let nothing : OffersNothing s w = nothing_then s m w (nothing_looked s m c.stopped.result c.stopped.ensures.looked) c.write_pending.ensures.nothing in
+    polling_same s w old ring nothing c.write_pending.ensures.offers.place c.write_pending.ensures.restarts c.write_pending.ensures.pending (ap (λ (t : TrailData). t.level) c.write_pending.ensures.trail) c.requires.polling
+
+pub returns-then-ring-clause-leads : goal.returns-then-ring-clause-leads
+returns-then-ring-clause-leads g c =
+    let s = g.P.Port.state c.args.port.now in
+    let m = g.P.Port.state c.stopped.new.self in
+    let w = g.P.Port.state c.write_pending.new.port in
+    let old = c.args.ring.now in
+    let ring = c.write_pending.new.ring in
+    compose c.import.result s w (g.P.Port.state c.import.new.port) old ring c.import.new.ring c.args.limit
+    (λ start p. subst (GoesOn start w) (sym c.write_pending.ensures.learned) (c.in-Ok.ensures.ok start old.learned (looked_goes_on start s m old.learned (one_more s.looks) p c.in_default.ensures.looked.1 c.stopped.ensures.log c.stopped.ensures.port)))
+    (c.import.ensures.leads c.args.limit (omega (arith, c.requires.below, c.write_pending.ensures.learned)))
+
+pub returns-then-ring-clause-offering : goal.returns-then-ring-clause-offering
+returns-then-ring-clause-offering g c = λ p.
+    let s = g.P.Port.state c.args.port.now in
+    let m = g.P.Port.state c.stopped.new.self in
+    let w = g.P.Port.state c.write_pending.new.port in
+    let old = c.args.ring.now in
+    let ring = c.write_pending.new.ring in
+    let nothing : OffersNothing s w = nothing_then s m w (nothing_looked s m c.stopped.result c.stopped.ensures.looked) c.write_pending.ensures.nothing in
+    c.import.ensures.offering (offering_stays s w old ring nothing c.write_pending.ensures.offers c.write_pending.ensures.learned p)
+
+pub returns-then-ring-clause-further : goal.returns-then-ring-clause-further
+returns-then-ring-clause-further g c = λ on.
+    (let trail = ap (λ (t : TrailData). length t.steps) c.write_pending.ensures.trail in
+    inr (
+      record { learned = c.import.ensures.learned ∙ c.write_pending.ensures.learned; steps = omega (arith, c.import.ensures.steps on, trail) },
+      inr (sym c.write_pending.ensures.pending ∙ c.if-ring.true, c.import.ensures.settled on),
+    ))
+
+pub decide-requires-clause-quiet : goal.decide-requires-clause-quiet
+decide-requires-clause-quiet g c =
+    quiet_same (g.P.Port.state c.args.port.now) (g.P.Port.state c.write_pending.new.port) c.args.ring.now.trail c.write_pending.new.ring.trail c.args.ring.now.watches c.write_pending.new.ring.watches
+    (c.write_pending.ensures.held ∙ ap (λ (x : PortState). x.held) c.in_default.ensures.looked.1) c.write_pending.ensures.trail c.write_pending.ensures.watches c.requires.quiet
 
 pub decide-requires-clause-decides : goal.decide-requires-clause-decides
 decide-requires-clause-decides g c =
@@ -46,19 +137,43 @@ decide-requires-clause-decides g c =
     decides_by s u c.args.ring.now.decider c.write_pending.new.ring.decider c.requires.decides (stays.start ∙ ap (λ (x : PortState). x.start) c.in_default.ensures.looked.1) (stays.vars ∙ ap (λ (x : PortState). x.vars) c.in_default.ensures.looked.1)
     (ap (λ (d : DeciderData). d.active) c.write_pending.ensures.decider)
 
-pub returns-in-Some-clause-nothing : goal.returns-in-Some-clause-nothing
-returns-in-Some-clause-nothing g c = nothing_looked (g.P.Port.state c.args.port.now) (g.P.Port.state c.stopped.new.self) c.stopped.result c.stopped.ensures.looked
-
-pub returns-in-Ok-clause-nothing : goal.returns-in-Ok-clause-nothing
-returns-in-Ok-clause-nothing g c =
+pub returns-clause-leads : goal.returns-clause-leads
+returns-clause-leads g c =
     let s = g.P.Port.state c.args.port.now in
     let m = g.P.Port.state c.stopped.new.self in
-    let u = g.P.Port.state c.write_pending.new.port in
-    subst (OffersNothing s) (sym c.decide.ensures.same) (nothing_then s m u (nothing_looked s m c.stopped.result c.stopped.ensures.looked) c.write_pending.ensures.nothing)
+    let w = g.P.Port.state c.write_pending.new.port in
+    let old = c.args.ring.now in
+    let ring = c.write_pending.new.ring in
+    compose c.decide.result s w (g.P.Port.state c.decide.new.port) old ring c.decide.new.ring c.args.limit
+    (λ start p. subst (GoesOn start w) (sym c.write_pending.ensures.learned) (c.in-Ok.ensures.ok start old.learned (looked_goes_on start s m old.learned (one_more s.looks) p c.in_default.ensures.looked.1 c.stopped.ensures.log c.stopped.ensures.port)))
+    c.decide.ensures.leads
 
-pub returns-in-Err-clause-nothing : goal.returns-in-Err-clause-nothing
-returns-in-Err-clause-nothing g c =
+pub returns-clause-polls : goal.returns-clause-polls
+returns-clause-polls g c =
     let s = g.P.Port.state c.args.port.now in
     let m = g.P.Port.state c.stopped.new.self in
-    let u = g.P.Port.state c.write_pending.new.port in
-    nothing_then s m u (nothing_looked s m c.stopped.result c.stopped.ensures.looked) c.write_pending.ensures.nothing
+    let w = g.P.Port.state c.write_pending.new.port in
+    let old = c.args.ring.now in
+    let ring = c.write_pending.new.ring in
+    let nothing : OffersNothing s w = nothing_then s m w (nothing_looked s m c.stopped.result c.stopped.ensures.looked) c.write_pending.ensures.nothing in
+    c.decide.ensures.polls (polling_same s w old ring nothing c.write_pending.ensures.offers.place c.write_pending.ensures.restarts c.write_pending.ensures.pending (ap (λ (t : TrailData). t.level) c.write_pending.ensures.trail) c.requires.polling)
+
+pub returns-clause-offering : goal.returns-clause-offering
+returns-clause-offering g c = λ p.
+    let s = g.P.Port.state c.args.port.now in
+    let m = g.P.Port.state c.stopped.new.self in
+    let w = g.P.Port.state c.write_pending.new.port in
+    let old = c.args.ring.now in
+    let ring = c.write_pending.new.ring in
+    let nothing : OffersNothing s w = nothing_then s m w (nothing_looked s m c.stopped.result c.stopped.ensures.looked) c.write_pending.ensures.nothing in
+    subst (λ (x : PortState). IsOffering x c.decide.new.ring) (sym c.decide.ensures.same)
+    (offering_stays s w old c.decide.new.ring nothing (record { exported = c.decide.ensures.offers.exported ∙ c.write_pending.ensures.offers.exported; offered = c.decide.ensures.offers.offered ∙ c.write_pending.ensures.offers.offered; place = c.decide.ensures.offers.place ∙ c.write_pending.ensures.offers.place })
+    (c.decide.ensures.learned ∙ c.write_pending.ensures.learned) p)
+
+pub returns-clause-further : goal.returns-clause-further
+returns-clause-further g c = λ on.
+    (let trail = ap (λ (t : TrailData). length t.steps) c.write_pending.ensures.trail in
+    inr (
+      record { learned = c.decide.ensures.learned ∙ c.write_pending.ensures.learned; steps = omega (arith, c.decide.ensures.longer on, trail) },
+      inl (c.decide.ensures.pending ∙ c.write_pending.ensures.pending, omega (arith, c.decide.ensures.longer on, trail)),
+    ))

@@ -1,9 +1,12 @@
-use Rattle.std.proofs.Common.{subst, sym, refl, List}
+use Rattle.std.proofs.Common.{◌≤◌, ◌+◌, subst, sym, refl, List}
 use Rattle.sat_words.specs.Literal.{Literal}
 use Rattle.ring_port.specs.PortState.{PortState}
 use Rattle.ring_run.specs.Searching.{IsAsserting, GoesOn, OffersNothing}
 use Rattle.ring_run.proofs.Lending.{offering_stays}
 use Rattle.ring_run.specs.declared.ring.Ring.{Ring}
+use Rattle.ring_run.specs.Ended.{polls_of}
+use Rattle.ring_run.specs.Course.{IsPolling, imports_of}
+use Rattle.ring_run.proofs.Polling.{polls_same, polled_over, polled_halted}
 use Rattle.ring_run.proofs.Asserting.{lemma_asserts}
 use Rattle.ring_run.proofs.Turning.{compose}
 use Rattle.ring_run.proofs.lemma.learn_from.Goals as goal
@@ -33,4 +36,21 @@ pub returns-in-Empty-clause-offering : goal.returns-in-Empty-clause-offering
 returns-in-Empty-clause-offering g c =
     let s = g.P.Port.state c.args.port.now in
     let u = g.P.Port.state c.refute.new.port in
-    offering_stays s u c.args.ring.now c.args.ring.now (subst (λ (x : PortState). OffersNothing x u) c.analyze.ensures.same c.refute.ensures.nothing) (record { exported = refl; offered = refl }) refl c.requires.offering
+    offering_stays s u c.args.ring.now c.args.ring.now (subst (λ (x : PortState). OffersNothing x u) c.analyze.ensures.same c.refute.ensures.nothing) (record { exported = refl; offered = refl; place = refl }) refl c.requires.offering
+
+pub returns-in-Empty-clause-polls : goal.returns-in-Empty-clause-polls
+returns-in-Empty-clause-polls g c = λ p.
+    let s = g.P.Port.state c.args.port.now in
+    let u = g.P.Port.state c.refute.new.port in
+    let ring = c.args.ring.now in
+    let nothing : OffersNothing s u = subst (λ (x : PortState). OffersNothing x u) c.analyze.ensures.same c.refute.ensures.nothing in
+    polled_halted u ring.restarts.made c.refute.result c.refute.ensures.halted (polled_over u ring (polls_same s u (imports_of ring) nothing p.polled))
+
+pub returns-then-is_err-clause-polls : goal.returns-then-is_err-clause-polls
+returns-then-is_err-clause-polls g c = λ p.
+    subst (λ (x : PortState). x.polled ≤ polls_of x (1 + c.args.ring.now.restarts.made)) (sym c.analyze.ensures.same) (polled_over (g.P.Port.state c.args.port.now) c.args.ring.now p.polled)
+
+pub returns-else-is_err-clause-polls : goal.returns-else-is_err-clause-polls
+returns-else-is_err-clause-polls g c = λ p.
+    let between : Ring = record c.args.ring.now { decider = c.bump_met.new.decider; bumps = c.bump_met.new.bumps } in
+    c.learn_lemma.ensures.polls (subst (λ (x : PortState). IsPolling x between) (sym c.analyze.ensures.same) (record { place = p.place; polled = p.polled; low = p.low }))

@@ -1,17 +1,20 @@
-use Rattle.std.proofs.Common.{◌+◌, ◌∙◌, ℕ, ap, subst, sym, refl, arith}
-use Rattle.restart_plan.specs.Plan.{Restarting, asked}
+use Rattle.std.proofs.Common.{◌≡◌, ◌≤◌, ◌+◌, ◌∙◌, ℕ, ap, subst, sym, refl, arith}
+use Rattle.std.specs.Prelude.{if◌then◌else◌}
+use Rattle.restart_plan.specs.Plan.{Restarting, asked, is_due}
+use Rattle.ring_run.specs.Ended.{HasPolled, polls_of}
+use Rattle.ring_run.proofs.Polling.{SamePolls, same_then, same_learned, same_lent, polls_as, polls_same, polled_whole, polled_over, polled_halted, settled_above, at_most_polls, asked_imports, asked_more, place_moved}
 use Rattle.ring_run.specs.Strategy.{IsPaced}
 use Rattle.ring_run.proofs.Pacing.{paced_last, paced_more}
 use Rattle.ring_port.specs.PortState.{PortState}
 use Rattle.ring_run.specs.declared.job.End.{End}
 use Rattle.ring_run.specs.declared.job.End.TheVariants.{Memory}
 use Rattle.ring_run.specs.Searching.{GoesOn, HoldsByGlue, IsAsserting}
-use Rattle.ring_run.proofs.Offering.{only_lent, nothing_none, nothing_refused}
+use Rattle.ring_run.proofs.Offering.{only_lent, nothing_refused}
 use Rattle.ring_run.proofs.Lending.{lent_held, lent_goes_on, lent_search, left_before, lent_glue, offering_stays, offering_learned}
-use Rattle.ring_run.proofs.Tidying.{tidied_search, held_stays, refused_last}
+use Rattle.ring_run.proofs.Tidying.{tidied_search, held_stays, refused_last, refused_halted}
 use Rattle.ring_run.specs.Ended.{last_looks}
-use Rattle.ring_run.specs.Ending.{ComesTo}
-use Rattle.ring_run.specs.Course.{GoesOnBy, InSearch, CanAssert, IsOffering}
+use Rattle.ring_run.specs.Ending.{ComesTo, end_refused}
+use Rattle.ring_run.specs.Course.{GoesOnBy, InSearch, CanAssert, IsOffering, IsPolling, imports_of}
 use Rattle.ring_run.specs.declared.ring.Ring.{Ring}
 use Rattle.ring_run.proofs.Asserting.{can_assert, back_below}
 use Rattle.ring_run.proofs.Learning.{learned_any, goes_on_by, left_search, left_level}
@@ -187,7 +190,7 @@ returns-then-ring-limit-clause-offering g c =
 pub returns-in-Err-clause-offering : goal.returns-in-Err-clause-offering
 returns-in-Err-clause-offering g c =
     offering_stays (g.P.Port.state c.args.port.now) (g.P.Port.state c.learn.new.self) c.args.ring.now c.args.ring.now (nothing_refused (g.P.Port.state c.args.port.now) (g.P.Port.state c.learn.new.self) c.in-Err.stop c.in-Err.ensures.learned)
-    (record { exported = refl; offered = refl }) refl c.requires.offering
+    (record { exported = refl; offered = refl; place = refl }) refl c.requires.offering
 
 pub returns-in-Ok-leave_conflict-clause-offering : goal.returns-in-Ok-leave_conflict-clause-offering
 returns-in-Ok-leave_conflict-clause-offering g c =
@@ -197,7 +200,7 @@ returns-in-Ok-leave_conflict-clause-offering g c =
     let between : Ring = record middle { restarts = c.due-ring.new.self; pending = c.due-ring.result } in
     let w = g.P.Port.state c.tidy_up.new.port in
     subst (λ (x : PortState). IsOffering x c.leave_conflict.new.ring) (sym c.leave_conflict.ensures.same)
-    (offering_stays v w middle c.leave_conflict.new.ring c.tidy_up.ensures.nothing (record { exported = c.leave_conflict.ensures.offers.exported; offered = c.leave_conflict.ensures.offers.offered }) c.leave_conflict.ensures.learned
+    (offering_stays v w middle c.leave_conflict.new.ring c.tidy_up.ensures.nothing (record { exported = c.leave_conflict.ensures.offers.exported; offered = c.leave_conflict.ensures.offers.offered; place = c.leave_conflict.ensures.offers.place }) c.leave_conflict.ensures.learned
     (offering_learned s (g.P.Port.state c.learn.new.self) v c.args.ring.now middle c.args.ring.now.trail.steps c.args.glue c.args.lits.now c.in-Ok.address
     c.requires.offering c.in-Ok.ensures.learned c.requires.glue c.offer_lemma.ensures.lent (ap (λ (r : Ring). r.learned) c.offer_lemma.ensures.same)))
 
@@ -209,7 +212,7 @@ returns-in-Err-leave_conflict-clause-offering g c =
     let between : Ring = record middle { restarts = c.due-ring.new.self; pending = c.due-ring.result } in
     let w = g.P.Port.state c.tidy_up.new.port in
     subst (λ (x : PortState). IsOffering x c.leave_conflict.new.ring) (sym c.leave_conflict.ensures.same)
-    (offering_stays v w middle c.leave_conflict.new.ring c.tidy_up.ensures.nothing (record { exported = c.leave_conflict.ensures.offers.exported; offered = c.leave_conflict.ensures.offers.offered }) c.leave_conflict.ensures.learned
+    (offering_stays v w middle c.leave_conflict.new.ring c.tidy_up.ensures.nothing (record { exported = c.leave_conflict.ensures.offers.exported; offered = c.leave_conflict.ensures.offers.offered; place = c.leave_conflict.ensures.offers.place }) c.leave_conflict.ensures.learned
     (offering_learned s (g.P.Port.state c.learn.new.self) v c.args.ring.now middle c.args.ring.now.trail.steps c.args.glue c.args.lits.now c.in-Ok.address
     c.requires.offering c.in-Ok.ensures.learned c.requires.glue c.offer_lemma.ensures.lent (ap (λ (r : Ring). r.learned) c.offer_lemma.ensures.same)))
 
@@ -279,6 +282,95 @@ returns-in-Err-tidy_up-clause-offering g c =
     let w = g.P.Port.state c.tidy_up.new.port in
     let middle = c.offer_lemma.new.ring in
     let between : Ring = record middle { restarts = c.due-ring.new.self; pending = c.due-ring.result } in
-    offering_stays v w middle between c.tidy_up.ensures.nothing (record { exported = refl; offered = refl }) refl
+    offering_stays v w middle between c.tidy_up.ensures.nothing (record { exported = refl; offered = refl; place = refl }) refl
     (offering_learned s (g.P.Port.state c.learn.new.self) v c.args.ring.now middle c.args.ring.now.trail.steps c.args.glue c.args.lits.now c.in-Ok.address
     c.requires.offering c.in-Ok.ensures.learned c.requires.glue c.offer_lemma.ensures.lent (ap (λ (r : Ring). r.learned) c.offer_lemma.ensures.same))
+
+pub returns-in-Err-clause-polls : goal.returns-in-Err-clause-polls
+returns-in-Err-clause-polls g c = λ p.
+    let s = g.P.Port.state c.args.port.now in
+    let u = g.P.Port.state c.learn.new.self in
+    let ring = c.args.ring.now in
+    subst (HasPolled u ring.restarts.made) (sym c.end_refused.ensures)
+    (polled_halted u ring.restarts.made (end_refused c.in-Err.stop) (refused_halted c.in-Err.stop)
+    (polled_over u ring (polls_same s u (imports_of ring) (nothing_refused s u c.in-Err.stop c.in-Err.ensures.learned) p.polled)))
+
+pub returns-then-ring-limit-clause-polls : goal.returns-then-ring-limit-clause-polls
+returns-then-ring-limit-clause-polls g c = λ p.
+    let s = g.P.Port.state c.args.port.now in
+    let u = g.P.Port.state c.learn.new.self in
+    let v = g.P.Port.state c.offer_lemma.new.port in
+    let ring = c.args.ring.now in
+    let middle = c.offer_lemma.new.ring in
+    let lent = only_lent u v c.in-Ok.address ring.exported ring.offered middle.exported middle.offered c.offer_lemma.ensures.lent in
+    let still : SamePolls s v = same_then s u v (same_learned s u c.args.lits.now c.args.glue c.in-Ok.address c.in-Ok.ensures.learned) (same_lent u v lent) in
+    let below = back_below s ring.trail c.args.lits.now c.args.back c.requires.lemma c.requires.search.trail in
+    let whole : v.polled ≡ polls_of v (1 + ring.restarts.made) = polls_as s v (1 + ring.restarts.made) still (polled_whole s ring (settled_above s ring p (omega (arith, below))) p.polled) in
+    let made : middle.restarts.made ≡ ring.restarts.made = ap (λ (r : Ring). r.restarts.made) c.offer_lemma.ensures.same ∙ ap (λ (r : Restarting). r.made) c.note.ensures in
+    subst (λ (k : ℕ). v.polled ≡ polls_of v (1 + k)) (sym made) whole
+
+pub returns-in-Err-tidy_up-clause-polls : goal.returns-in-Err-tidy_up-clause-polls
+returns-in-Err-tidy_up-clause-polls g c = λ p.
+    let s = g.P.Port.state c.args.port.now in
+    let u = g.P.Port.state c.learn.new.self in
+    let v = g.P.Port.state c.offer_lemma.new.port in
+    let ring = c.args.ring.now in
+    let middle = c.offer_lemma.new.ring in
+    let lent = only_lent u v c.in-Ok.address ring.exported ring.offered middle.exported middle.offered c.offer_lemma.ensures.lent in
+    let still : SamePolls s v = same_then s u v (same_learned s u c.args.lits.now c.args.glue c.in-Ok.address c.in-Ok.ensures.learned) (same_lent u v lent) in
+    let below = back_below s ring.trail c.args.lits.now c.args.back c.requires.lemma c.requires.search.trail in
+    let whole : v.polled ≡ polls_of v (1 + ring.restarts.made) = polls_as s v (1 + ring.restarts.made) still (polled_whole s ring (settled_above s ring p (omega (arith, below))) p.polled) in
+    let made : middle.restarts.made ≡ ring.restarts.made = ap (λ (r : Ring). r.restarts.made) c.offer_lemma.ensures.same ∙ ap (λ (r : Restarting). r.made) c.note.ensures in
+    let w = g.P.Port.state c.tidy_up.new.port in
+    let after : w.polled ≡ polls_of w (1 + ring.restarts.made) = polls_same v w (1 + ring.restarts.made) c.tidy_up.ensures.nothing whole in
+    let grown : middle.restarts.made ≤ c.due-ring.new.self.made = subst (λ (r : Restarting). middle.restarts.made ≤ r.made) (sym c.due-ring.ensures.asked) (asked_more middle.restarts) in
+    subst (HasPolled w c.due-ring.new.self.made) (sym c.end_refused-in-Err-tidy_up.ensures)
+    (polled_halted w c.due-ring.new.self.made (end_refused c.in-Err-tidy_up.stop) (refused_halted c.in-Err-tidy_up.stop)
+    (at_most_polls w (1 + ring.restarts.made) (1 + c.due-ring.new.self.made) (omega (arith, grown, made)) after))
+
+pub returns-in-Err-leave_conflict-clause-polls : goal.returns-in-Err-leave_conflict-clause-polls
+returns-in-Err-leave_conflict-clause-polls g c = λ p.
+    let s = g.P.Port.state c.args.port.now in
+    let u = g.P.Port.state c.learn.new.self in
+    let v = g.P.Port.state c.offer_lemma.new.port in
+    let ring = c.args.ring.now in
+    let middle = c.offer_lemma.new.ring in
+    let lent = only_lent u v c.in-Ok.address ring.exported ring.offered middle.exported middle.offered c.offer_lemma.ensures.lent in
+    let still : SamePolls s v = same_then s u v (same_learned s u c.args.lits.now c.args.glue c.in-Ok.address c.in-Ok.ensures.learned) (same_lent u v lent) in
+    let below = back_below s ring.trail c.args.lits.now c.args.back c.requires.lemma c.requires.search.trail in
+    let whole : v.polled ≡ polls_of v (1 + ring.restarts.made) = polls_as s v (1 + ring.restarts.made) still (polled_whole s ring (settled_above s ring p (omega (arith, below))) p.polled) in
+    let made : middle.restarts.made ≡ ring.restarts.made = ap (λ (r : Ring). r.restarts.made) c.offer_lemma.ensures.same ∙ ap (λ (r : Restarting). r.made) c.note.ensures in
+    let w = g.P.Port.state c.tidy_up.new.port in
+    let after : w.polled ≡ polls_of w (1 + ring.restarts.made) = polls_same v w (1 + ring.restarts.made) c.tidy_up.ensures.nothing whole in
+    let grown : middle.restarts.made ≤ c.due-ring.new.self.made = subst (λ (r : Restarting). middle.restarts.made ≤ r.made) (sym c.due-ring.ensures.asked) (asked_more middle.restarts) in
+    let same = ap (λ (r : Restarting). r.made) c.leave_conflict.ensures.restarts in
+    subst (λ (x : PortState). x.polled ≤ polls_of x (1 + c.leave_conflict.new.ring.restarts.made)) (sym c.leave_conflict.ensures.same)
+    (at_most_polls w (1 + ring.restarts.made) (1 + c.leave_conflict.new.ring.restarts.made) (omega (arith, grown, made, same)) after)
+
+pub returns-in-Ok-leave_conflict-clause-polls : goal.returns-in-Ok-leave_conflict-clause-polls
+returns-in-Ok-leave_conflict-clause-polls g c = λ p.
+    let s = g.P.Port.state c.args.port.now in
+    let u = g.P.Port.state c.learn.new.self in
+    let v = g.P.Port.state c.offer_lemma.new.port in
+    let ring = c.args.ring.now in
+    let middle = c.offer_lemma.new.ring in
+    let lent = only_lent u v c.in-Ok.address ring.exported ring.offered middle.exported middle.offered c.offer_lemma.ensures.lent in
+    let still : SamePolls s v = same_then s u v (same_learned s u c.args.lits.now c.args.glue c.in-Ok.address c.in-Ok.ensures.learned) (same_lent u v lent) in
+    let below = back_below s ring.trail c.args.lits.now c.args.back c.requires.lemma c.requires.search.trail in
+    let whole : v.polled ≡ polls_of v (1 + ring.restarts.made) = polls_as s v (1 + ring.restarts.made) still (polled_whole s ring (settled_above s ring p (omega (arith, below))) p.polled) in
+    let made : middle.restarts.made ≡ ring.restarts.made = ap (λ (r : Ring). r.restarts.made) c.offer_lemma.ensures.same ∙ ap (λ (r : Restarting). r.made) c.note.ensures in
+    let w = g.P.Port.state c.tidy_up.new.port in
+    let after : w.polled ≡ polls_of w (1 + ring.restarts.made) = polls_same v w (1 + ring.restarts.made) c.tidy_up.ensures.nothing whole in
+    let grown : middle.restarts.made ≤ c.due-ring.new.self.made = subst (λ (r : Restarting). middle.restarts.made ≤ r.made) (sym c.due-ring.ensures.asked) (asked_more middle.restarts) in
+    let left = c.leave_conflict.new.ring in
+    let restarts : left.restarts ≡ asked middle.restarts = c.leave_conflict.ensures.restarts ∙ c.due-ring.ensures.asked in
+    let pending : left.pending ≡ is_due middle.restarts = c.leave_conflict.ensures.pending ∙ c.due-ring.ensures.due in
+    let imports : imports_of left ≡ middle.restarts.made + 1 =
+    ap (λ (r : Restarting). if left.pending then r.made else r.made + 1) restarts ∙ asked_imports middle.restarts left.pending pending in
+    let port_ring : w.ring ≡ s.ring = c.tidy_up.ensures.nothing.ring ∙ still.ring in
+    let port_rings : w.rings ≡ s.rings = c.tidy_up.ensures.nothing.rings ∙ still.rings in
+    subst (λ (x : PortState). IsPolling x left) (sym c.leave_conflict.ensures.same) (record {
+      place = c.leave_conflict.ensures.offers.place ∙ ap (λ (r : Ring). r.place) c.offer_lemma.ensures.same ∙ place_moved ring.place s w port_ring port_rings p.place;
+      polled = subst (λ (k : ℕ). w.polled ≡ polls_of w k) (let e : 1 + ring.restarts.made ≡ imports_of left = omega (arith, imports, made) in e) after;
+      low = λ e. c.in-Ok-leave_conflict.ensures.low (sym c.leave_conflict.ensures.pending ∙ e);
+    })

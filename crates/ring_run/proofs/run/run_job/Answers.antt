@@ -1,23 +1,24 @@
 use Rattle.std.proofs.Common.{◌∙◌, ◌+◌, ◌==◌, ◌%◌, ℕ, ap, sym, subst, arith}
 use Rattle.restart_plan.specs.Plan.{Restarting, begun as begun_restarts}
 use Rattle.ring_run.proofs.Offering.{offers_begin}
-use Rattle.ring_run.specs.Ended.{HasOffered, HasLooked, last_looks}
+use Rattle.ring_run.specs.Ended.{HasOffered, HasPolled, HasLooked, last_looks}
+use Rattle.ring_run.proofs.Polling.{place_at, polling_begin, polled_none_yet}
 use Rattle.ring_run.specs.Strategy.{IsPaced}
 use Rattle.ring_trail.specs.TrailData.{TrailData}
 use Rattle.ring_port.specs.PortState.{PortState}
 use Rattle.ring_run.specs.Searching.{GoesOn}
 use Rattle.ring_run.specs.Ending.{ComesTo}
-use Rattle.ring_run.specs.Course.{IsBegun, IsOffering}
+use Rattle.ring_run.specs.Course.{MayImport, IsOffering, IsPolling}
 use Rattle.ring_run.specs.declared.job.End.TheVariants.{Memory}
 use Rattle.ring_run.proofs.Beginning.{goes_begin, begun, paced_begin, restarted_by, restarted_none}
 use Rattle.ring_run.proofs.Progress.{out_of_memory}
 use Rattle.ring_run.proofs.run.run_job.Goals as goal
 
-pub search-end-requires-clause-begun : goal.search-end-requires-clause-begun
-search-end-requires-clause-begun g c =
+pub search-end-requires-clause-import : goal.search-end-requires-clause-import
+search-end-requires-clause-import g c =
     let s = g.P.Port.state c.args.port.now in
     let made = c.in-Ok.ensures in
-    subst (λ (x : PortState). IsBegun x c.in-Ok.ring) (sym made.same)
+    subst (λ (x : PortState). MayImport x c.in-Ok.ring.trail c.in-Ok.ring.watches c.in-Ok.ring.written) (sym made.same)
     (begun s c.args.job.now c.in-Ok.ring c.requires.job c.requires.untouched c.requires.port made.trail made.shape made.attached made.watched made.written)
 
 pub search-end-requires-clause-goes : goal.search-end-requires-clause-goes
@@ -97,3 +98,25 @@ returns-clause-offers g c =
     let u = g.P.Port.state c.search-end.new.port in
     let ring = c.search-end.new.ring in
     subst (λ (e : ℕ). HasOffered u e c.counts_of.result.offered) (sym c.counts_of.ensures.exported) (subst (HasOffered u ring.exported) (sym c.counts_of.ensures.offered) c.search-end.ensures.offering.counts)
+
+pub search-end-requires-clause-polling : goal.search-end-requires-clause-polling
+search-end-requires-clause-polling g c =
+    let s = g.P.Port.state c.args.port.now in
+    let made = c.in-Ok.ensures in
+    subst (λ (x : PortState). IsPolling x c.in-Ok.ring) (sym made.same)
+    (polling_begin s c.in-Ok.ring c.requires.untouched.polled (made.place ∙ ap (λ (n : ℕ). place_at n c.args.job.now.rings) c.requires.job.ring ∙ ap (place_at s.ring) c.requires.job.rings) made.pending
+    (ap (λ (r : Restarting). r.made) made.restarts) (ap (λ (t : TrailData). t.level) made.trail))
+
+pub returns-in_default-clause-polled : goal.returns-in_default-clause-polled
+returns-in_default-clause-polled g c =
+    let s = g.P.Port.state c.args.port.now in
+    subst (λ (x : PortState). HasPolled x 0 Memory) (sym c.make_ring.ensures.same) (polled_none_yet s c.requires.untouched.polled)
+
+pub returns-in_default-new-clause-polled : goal.returns-in_default-new-clause-polled
+returns-in_default-new-clause-polled g c =
+    let s = g.P.Port.state c.args.port.now in
+    subst (λ (x : PortState). HasPolled x 0 Memory) (sym c.make_ring.ensures.same) (polled_none_yet s c.requires.untouched.polled)
+
+pub returns-clause-polled : goal.returns-clause-polled
+returns-clause-polled g c =
+    subst (λ (n : ℕ). HasPolled (g.P.Port.state c.search-end.new.port) n c.search-end.result) (sym c.counts_of.ensures.restarts) c.search-end.ensures.polled

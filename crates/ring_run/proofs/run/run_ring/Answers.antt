@@ -24,3 +24,6 @@ returns-clause-counts g c = record {
   learned_is = (c.claim.ensures.runs (g.P.Port.state c.args.port.now) c.run_job-end.result.1.learned c.run_job-end.ensures.ends.runs).counted;
   offers = offers_stay (g.P.Port.state c.run_job-end.new.port) (g.P.Port.state c.claim.new.port) c.run_job-end.result.1.exported c.run_job-end.result.1.offered c.claim.ensures.nothing c.run_job-end.ensures.offers;
 }
+
+pub returns-clause-polled : goal.returns-clause-polled
+returns-clause-polled g c = c.claim.ensures.polled c.run_job-end.result.1.restarts c.run_job-end.ensures.polled

@@ -1,7 +1,8 @@
-use Rattle.std.proofs.Common.{◌≡◌, ℕ, ◌<◌, ◌+◌, ◌-◌, ◌*◌, length}
+use Rattle.std.proofs.Common.{◌≡◌, ℕ, ◌<◌, length}
 use Rattle.ring_run.specs.Searching.{GoesOn}
 use Rattle.ring_run.specs.Strategy.{Decides, IsPaced}
-use Rattle.ring_run.specs.Course.{IsOffering, InSearch, IsLooking}
+use Rattle.ring_run.specs.Course.{IsOffering, IsPolling, InSearch, IsLooking}
+use Rattle.ring_run.proofs.Turning.{left_to_do}
 use Rattle.ring_run.proofs.search.search.Given as goal
 
 abbrev pub invariant-loop-end : goal.invariant-loop-end
@@ -12,10 +13,11 @@ invariant-loop-end g l = record {
   looks : (base : ℕ) → IsLooking base (g.P.Port.state l.fn.port) l.fn.ring → IsLooking base (g.P.Port.state l.port) l.ring;
   decides : Decides (g.P.Port.state l.port) l.ring.decider;
   offering : IsOffering (g.P.Port.state l.port) l.ring;
+  polling : IsPolling (g.P.Port.state l.port) l.ring;
   paced : IsPaced l.ring.restarts l.ring.learned l.limit;
   odd : l.ring.restarts.odd ≡ l.fn.ring.restarts.odd;
   vars : l.analysis.vars ≡ l.ring.trail.vars;
 }
 
 abbrev pub decreases-loop-end : goal.decreases-loop-end
-decreases-loop-end g l = (l.limit - l.ring.learned) * (l.ring.trail.vars + 1) + (l.ring.trail.vars - length l.ring.trail.steps)
+decreases-loop-end g l = left_to_do l.limit l.ring.learned l.ring.trail.vars l.ring.pending (length l.ring.trail.steps)

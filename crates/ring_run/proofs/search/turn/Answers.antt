@@ -1,9 +1,12 @@
-use Rattle.std.proofs.Common.{subst, sym}
+use Rattle.std.proofs.Common.{◌∙◌, ◌≤◌, ◌+◌, List, length, subst, sym, ap, refl, arith, length-append}
+use Rattle.ring_trail.specs.declared.step.Step.{Step}
+use Rattle.ring_run.specs.Ended.{polls_of}
+use Rattle.ring_run.specs.Course.{IsOffering, IsPolling}
+use Rattle.ring_run.proofs.Polling.{polled_over}
 use Rattle.ring_port.specs.PortState.{PortState}
-use Rattle.ring_run.specs.Searching.{GoesOn, OffersNothing}
-use Rattle.ring_run.proofs.Lending.{offering_stays}
+use Rattle.ring_run.specs.Searching.{GoesOn}
 use Rattle.ring_run.specs.declared.ring.Ring.{Ring}
-use Rattle.ring_run.proofs.Turning.{grown_search, compose}
+use Rattle.ring_run.proofs.Turning.{grown_search, compose, further_grown}
 use Rattle.ring_run.proofs.search.turn.Goals as goal
 
 pub learn_from-requires-clause-search : goal.learn_from-requires-clause-search
@@ -30,9 +33,35 @@ returns-in-Quiet-clause-leads g c =
     (λ start p. subst (λ (x : PortState). GoesOn start x c.args.ring.now.learned) (sym c.propagate.ensures.same) p)
     c.decide_next.ensures.leads
 
+pub learn_from-requires-clause-offering : goal.learn_from-requires-clause-offering
+learn_from-requires-clause-offering g c =
+    subst (λ (x : PortState). IsOffering x (record c.args.ring.now { trail = c.propagate.new.trail; watches = c.propagate.new.self })) (sym c.propagate.ensures.same)
+    (record { counts = c.requires.offering.counts; few = c.requires.offering.few })
+
+pub returns-in-Conflict-clause-polls : goal.returns-in-Conflict-clause-polls
+returns-in-Conflict-clause-polls g c =
+    let between : Ring = record c.args.ring.now { trail = c.propagate.new.trail; watches = c.propagate.new.self } in
+    c.learn_from.ensures.polls (subst (λ (x : PortState). IsPolling x between) (sym c.propagate.ensures.same)
+    (record { place = c.requires.polling.place; polled = c.requires.polling.polled; low = λ e. c.propagate.ensures.grown.level ∙ c.requires.polling.low e }))
+
+pub decide_next-requires-clause-polling : goal.decide_next-requires-clause-polling
+decide_next-requires-clause-polling g c =
+    let between : Ring = record c.args.ring.now { trail = c.propagate.new.trail; watches = c.propagate.new.self } in
+    subst (λ (x : PortState). IsPolling x between) (sym c.propagate.ensures.same)
+    (record { place = c.requires.polling.place; polled = c.requires.polling.polled; low = λ e. c.propagate.ensures.grown.level ∙ c.requires.polling.low e })
+
 pub returns-in-Quiet-clause-offering : goal.returns-in-Quiet-clause-offering
 returns-in-Quiet-clause-offering g c =
-    let s = g.P.Port.state c.args.port.now in
-    let u = g.P.Port.state c.decide_next.new.port in
-    offering_stays s u c.args.ring.now c.decide_next.new.ring (subst (λ (x : PortState). OffersNothing x u) c.propagate.ensures.same c.decide_next.ensures.nothing)
-    (record { exported = c.decide_next.ensures.offers.exported; offered = c.decide_next.ensures.offers.offered }) c.decide_next.ensures.learned c.requires.offering
+    let between : Ring = record c.args.ring.now { trail = c.propagate.new.trail; watches = c.propagate.new.self } in
+    c.decide_next.ensures.offering (subst (λ (x : PortState). IsOffering x between) (sym c.propagate.ensures.same) (record { counts = c.requires.offering.counts; few = c.requires.offering.few }))
+
+pub returns-in-Quiet-clause-further : goal.returns-in-Quiet-clause-further
+returns-in-Quiet-clause-further g c = λ on.
+    (let between : Ring = record c.args.ring.now { trail = c.propagate.new.trail; watches = c.propagate.new.self } in
+    let grown = c.propagate.ensures.grown in
+    let long = ap (λ (ss : List Step). length ss) grown.steps ∙ length-append c.args.ring.now.trail.steps grown.more in
+    further_grown c.args.ring.now between c.decide_next.new.ring refl refl (omega (arith, long)) (c.decide_next.ensures.further on))
+
+pub returns-in_default-clause-polls : goal.returns-in_default-clause-polls
+returns-in_default-clause-polls g c =
+    subst (λ (x : PortState). x.polled ≤ polls_of x (1 + c.args.ring.now.restarts.made)) (sym c.propagate.ensures.same) (polled_over (g.P.Port.state c.args.port.now) c.args.ring.now c.requires.polling.polled)

@@ -1,4 +1,4 @@
-use Rattle.std.proofs.Common.{◌∙◌, [], ◌∷◌, ap}
+use Rattle.std.proofs.Common.{[], ◌∷◌, ap}
 use Rattle.sat_words.specs.Literal.{Literal}
 use Rattle.ring_run.specs.Problems.{chain_starts, chain_units}
 use Rattle.ring_run.proofs.ProblemsReady.{same_ready, chain_ready}

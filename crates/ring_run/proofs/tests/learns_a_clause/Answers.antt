@@ -1,4 +1,4 @@
-use Rattle.std.proofs.Common.{◌∙◌, [], refl}
+use Rattle.std.proofs.Common.{[], refl}
 use Rattle.ring_run.specs.Problems.{triples_starts}
 use Rattle.ring_run.proofs.ProblemsReady.{same_ready, triples_ready}
 use Rattle.ring_run.proofs.tests.learns_a_clause.Goals as goal

@@ -1,4 +1,4 @@
-use Rattle.std.proofs.Common.{◌≡◌, ◌∙◌, [], ◌∷◌, ap, refl, false}
+use Rattle.std.proofs.Common.{◌≡◌, ◌∙◌, [], ◌∷◌, ap, false}
 use Rattle.sat_words.specs.Literal.{Literal}
 use Rattle.ring_run.specs.Problems.{lit, opposed_units}
 use Rattle.ring_run.proofs.ProblemsReady.{same_ready, opposed_ready}

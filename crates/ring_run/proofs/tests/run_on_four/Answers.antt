@@ -1,4 +1,4 @@
-use Rattle.std.proofs.Common.{◌∙◌, [], refl}
+use Rattle.std.proofs.Common.{[], refl}
 use Rattle.ring_run.specs.Problems.{square_starts}
 use Rattle.ring_run.proofs.ProblemsReady.{same_ready, square_ready}
 use Rattle.ring_run.proofs.tests.run_on_four.Goals as goal

@@ -1,4 +1,4 @@
-use Rattle.std.proofs.Common.{◌∙◌, [], refl}
+use Rattle.std.proofs.Common.{[], refl}
 use Rattle.ring_run.specs.Problems.{row_starts}
 use Rattle.ring_run.proofs.ProblemsReady.{same_ready, row_ready}
 use Rattle.ring_run.proofs.tests_row.learns_a_minimised_lemma.Goals as goal

@@ -1,9 +1,12 @@
-use Rattle.std.proofs.Common.{◌≡◌, ◌∙◌, ℕ, ◌<◌, [], subst, sym, None, length}
+use Rattle.std.proofs.Common.{◌≡◌, ◌∙◌, ℕ, ◌<◌, ◌≤◌, subst, sym, None, length}
 use Rattle.std.specs.Prelude.{MatchBool}
 use Rattle.ring_trail.specs.TrailData.{HasGrown, IsTrueOn, IsFalseOn, reason_at}
-use Rattle.ring_run.specs.Searching.{Stands}
+use Rattle.ring_run.specs.Searching.{Stands, GoesOn}
 use Rattle.watch_prop.specs.Propagation.{HasReasons}
-use Rattle.ring_run.proofs.Standing.{took_on, within_zero, saw_more, stands_seen, stands_taken, opposed, grown_by, no_reasons_seen, no_reasons_taken}
+use Rattle.ring_run.proofs.Standing.{took_on, within_zero, saw_more, stands_seen, stands_taken, opposed, grown_by, reasons_seen, reasons_taken}
+use Rattle.ring_run.proofs.Importing.{unit_taken, still_added}
+use Rattle.watch_prop.specs.Watched.{Watched}
+use Rattle.watch_prop.proofs.TrailLaws.{Watched-assign}
 use Rattle.ring_run.proofs.Telling.{bare_more}
 use Rattle.ring_run.proofs.units.take_units.Goals as goal
 
@@ -19,8 +22,12 @@ loop-lit-preserved-in-Some-true g c =
       grown = c.loop-lit.invariant.grown;
       stands = stands_seen (g.P.Port.state c.loop-lit.port) (g.P.Port.state c.next_unit.new.self) c.loop-lit.trail c.in-Some.lit c.loop-lit.invariant.stands c.in-Some.ensures.took
           (within_zero c.loop-lit.trail c.in-Some.lit c.loop-lit.invariant.trail level here);
-      reasons = no_reasons_seen (g.P.Port.state c.loop-lit.port) (g.P.Port.state c.next_unit.new.self) c.loop-lit.trail.steps c.in-Some.lit c.in-Some.ensures.took c.loop-lit.invariant.reasons;
+      keeps = λ start n p. unit_taken (g.P.Port.state c.loop-lit.port) (g.P.Port.state c.next_unit.new.self) c.in-Some.lit c.in-Some.ensures.took c.loop-lit.invariant.added c.next_unit.ensures.log c.next_unit.ensures.port start n
+          (c.loop-lit.invariant.keeps start n p);
+      added = still_added (g.P.Port.state c.loop-lit.port) (g.P.Port.state c.next_unit.new.self) c.in-Some.lit c.in-Some.ensures.took c.loop-lit.invariant.added;
+      reasons = λ cs r. reasons_seen cs (g.P.Port.state c.loop-lit.port) (g.P.Port.state c.next_unit.new.self) c.loop-lit.trail.steps c.in-Some.lit c.in-Some.ensures.took (c.loop-lit.invariant.reasons cs r);
       bare = c.loop-lit.invariant.bare;
+      watched = c.loop-lit.invariant.watched;
       trail = c.loop-lit.invariant.trail;
       port = c.next_unit.ensures.port;
     }
@@ -43,9 +50,24 @@ loop-lit-preserved g c =
       grown = subst (HasGrown c.args.trail.now) (sym c.assign.ensures.step) (grown_by c.args.trail.now c.loop-lit.trail c.in-Some.lit None c.loop-lit.invariant.grown);
       stands = subst (Stands w) (sym c.assign.ensures.step)
           (stands_taken s w c.loop-lit.trail c.in-Some.lit c.loop-lit.invariant.stands c.in-Some.ensures.took (c.loop-lit.invariant.grown.level ∙ c.requires.level));
-      reasons = subst (λ t. HasReasons [] w t.steps) (sym c.assign.ensures.step)
-          (no_reasons_taken s w c.loop-lit.trail c.in-Some.lit c.in-Some.ensures.took (c.loop-lit.invariant.grown.level ∙ c.requires.level) c.loop-lit.invariant.reasons);
-      bare = subst (λ t. (p : ℕ) → p < length t.steps → reason_at t.steps p ≡ None) (sym c.assign.ensures.step) (bare_more c.loop-lit.trail c.in-Some.lit c.loop-lit.invariant.bare);
+      keeps = λ start n p. unit_taken s w c.in-Some.lit c.in-Some.ensures.took c.loop-lit.invariant.added c.next_unit.ensures.log c.next_unit.ensures.port start n (c.loop-lit.invariant.keeps start n p);
+      added = still_added s w c.in-Some.lit c.in-Some.ensures.took c.loop-lit.invariant.added;
+      reasons = λ cs r. subst (λ t. HasReasons cs w t.steps) (sym c.assign.ensures.step)
+          (reasons_taken cs s w c.loop-lit.trail c.in-Some.lit c.in-Some.ensures.took (c.loop-lit.invariant.grown.level ∙ c.requires.level) (c.loop-lit.invariant.reasons cs r));
+      bare = subst (λ t. (p : ℕ) → length c.args.trail.now.steps ≤ p → p < length t.steps → reason_at t.steps p ≡ None) (sym c.assign.ensures.step) (bare_more (length c.args.trail.now.steps) c.loop-lit.trail c.in-Some.lit c.loop-lit.invariant.bare);
+      watched = λ x lits v. subst (Watched x lits) (sym c.assign.ensures.step) (Watched-assign x lits c.loop-lit.trail c.in-Some.lit None c.loop-lit.invariant.trail (c.loop-lit.invariant.watched x lits v));
       trail = c.assign.ensures.trail;
       port = c.next_unit.ensures.port;
     }
+
+pub returns-in-Some-false-clause-keeps : goal.returns-in-Some-false-clause-keeps
+returns-in-Some-false-clause-keeps g c = λ start n p.
+    unit_taken (g.P.Port.state c.loop-lit.port) (g.P.Port.state c.next_unit.new.self) c.in-Some.lit c.in-Some.ensures.took c.loop-lit.invariant.added c.next_unit.ensures.log c.next_unit.ensures.port start n
+    (c.loop-lit.invariant.keeps start n p)
+
+pub returns-in-Some-false-clause-reasons : goal.returns-in-Some-false-clause-reasons
+returns-in-Some-false-clause-reasons g c = λ cs r.
+    reasons_seen cs (g.P.Port.state c.loop-lit.port) (g.P.Port.state c.next_unit.new.self) c.loop-lit.trail.steps c.in-Some.lit c.in-Some.ensures.took (c.loop-lit.invariant.reasons cs r)
+
+pub returns-clause-keeps : goal.returns-clause-keeps
+returns-clause-keeps g c = λ start n p. subst (λ s. GoesOn start s n) (sym c.in_default.ensures.took.state) (c.loop-lit.invariant.keeps start n p)

@@ -1,0 +1,128 @@
+use Rattle.std.proofs.Common.{◌≡◌, ◌∙◌, ◌≤◌, ◌+◌, ℕ, ap, sym, subst, arith, refl, Bool, false}
+use Rattle.std.specs.Prelude.{if◌then◌else◌}
+use Rattle.std.proofs.lemmas.Bool.{false≢true}
+use Rattle.ring_port.specs.PortState.{PortState}
+use Rattle.ring_run.specs.Ended.{polls_of}
+use Rattle.ring_run.specs.Searching.{OffersNothing, GoesOn}
+use Rattle.rup_model.specs.Journal.{learned}
+use Rattle.ring_run.specs.Course.{imports_of}
+use Rattle.ring_run.specs.declared.ring.Ring.{Ring}
+use Rattle.ring_run.proofs.Offering.{nothing_then}
+use Rattle.ring_run.proofs.Lending.{saw_nothing, offering_stays, offering_kept}
+use Rattle.ring_run.proofs.Turning.{saw_search}
+use Rattle.ring_run.proofs.Learning.{goes_on_by}
+use Rattle.ring_run.proofs.Progress.{out_of_memory}
+use Rattle.ring_run.proofs.Polling.{imported, imported_most, polls_same, polled_over, polled_halted, place_moved}
+use Rattle.ring_run.proofs.imports.import.Goals as goal
+
+pub returns-in-Opposed-clause-leads : goal.returns-in-Opposed-clause-leads
+returns-in-Opposed-clause-leads g c = λ limit below start p.
+    c.refute.ensures.ends c.args.ring.now.learned limit below start (c.take_units.ensures.keeps start c.args.ring.now.learned p)
+
+pub returns-in-Opposed-clause-polls : goal.returns-in-Opposed-clause-polls
+returns-in-Opposed-clause-polls g c =
+    let s = g.P.Port.state c.args.port.now in
+    let m = g.P.Port.state c.take_units.new.port in
+    let u = g.P.Port.state c.refute.new.port in
+    let ring = c.args.ring.now in
+    let nothing : OffersNothing s u = nothing_then s m u (saw_nothing s m c.take_units.ensures.saw) c.refute.ensures.nothing in
+    polled_halted u ring.restarts.made c.refute.result c.refute.ensures.halted (polled_over u ring (polls_same s u (imports_of ring) nothing c.requires.polling.polled))
+
+pub returns-in-Opposed-clause-offering : goal.returns-in-Opposed-clause-offering
+returns-in-Opposed-clause-offering g c = λ p.
+    let s = g.P.Port.state c.args.port.now in
+    let m = g.P.Port.state c.take_units.new.port in
+    let u = g.P.Port.state c.refute.new.port in
+    offering_stays s u c.args.ring.now (record c.args.ring.now { trail = c.take_units.new.trail }) (nothing_then s m u (saw_nothing s m c.take_units.ensures.saw) c.refute.ensures.nothing)
+    (record { exported = refl; offered = refl; place = refl }) refl p
+
+pub returns-in-Err-clause-leads : goal.returns-in-Err-clause-leads
+returns-in-Err-clause-leads g c = λ limit below start p.
+    let s = g.P.Port.state c.args.port.now in
+    let m = g.P.Port.state c.take_units.new.port in
+    let u = g.P.Port.state c.take_clauses.new.port in
+    let ring = c.args.ring.now in
+    let after = c.take_clauses.new.ring in
+    let count : after.learned ≡ ring.learned = ap (λ (r : Ring). r.learned) c.take_clauses.ensures.same in
+    out_of_memory start u after.learned limit (omega (arith, below, count))
+    (subst (GoesOn start u) (sym count) (c.take_clauses.ensures.keeps start ring.learned (c.take_units.ensures.keeps start ring.learned p)))
+
+pub returns-in-Err-clause-polls : goal.returns-in-Err-clause-polls
+returns-in-Err-clause-polls g c =
+    let s = g.P.Port.state c.args.port.now in
+    let m = g.P.Port.state c.take_units.new.port in
+    let u = g.P.Port.state c.take_clauses.new.port in
+    let ring = c.args.ring.now in
+    let after = c.take_clauses.new.ring in
+    let made : ℕ = ring.restarts.made in
+    let none : imports_of ring ≡ made = ap (λ (b : Bool). if b then made else made + 1) c.requires.pending in
+    let before : m.polled ≡ polls_of m made = subst (λ (k : ℕ). m.polled ≡ polls_of m k) none (polls_same s m (imports_of ring) (saw_nothing s m c.take_units.ensures.saw) c.requires.polling.polled) in
+    let same : after.restarts.made ≡ made = ap (λ (r : Ring). r.restarts.made) c.take_clauses.ensures.same in
+    subst (λ (k : ℕ). u.polled ≤ polls_of u k) (let e : made + 1 ≡ 1 + after.restarts.made = omega (arith, same) in e)
+    (imported_most m u made (ap (λ (x : PortState). x.ring) c.take_clauses.ensures.only.state) (ap (λ (x : PortState). x.rings) c.take_clauses.ensures.only.state) before c.take_clauses.ensures.few)
+
+pub returns-in-Err-clause-offering : goal.returns-in-Err-clause-offering
+returns-in-Err-clause-offering g c = λ p.
+    let s = g.P.Port.state c.args.port.now in
+    let m = g.P.Port.state c.take_units.new.port in
+    let u = g.P.Port.state c.take_clauses.new.port in
+    let ring = c.args.ring.now in
+    let after = c.take_clauses.new.ring in
+    let same = c.take_clauses.ensures.same in
+    let only = c.take_clauses.ensures.only.state in
+    let nothing = saw_nothing s m c.take_units.ensures.saw in
+    offering_kept s u ring after (ap (λ (x : PortState). x.shared) only ∙ nothing.shared) (ap (λ (x : PortState). x.ring) only ∙ nothing.ring) (ap (λ (x : PortState). x.rings) only ∙ nothing.rings)
+    (ap (λ (x : PortState). learned x.ring x.mine) only ∙ nothing.lemmas) (ap (λ (r : Ring). r.exported) same) (ap (λ (r : Ring). r.offered) same) (ap (λ (r : Ring). r.learned) same) p
+
+pub returns-clause-leads : goal.returns-clause-leads
+returns-clause-leads g c = λ limit below.
+    let s = g.P.Port.state c.args.port.now in
+    let m = g.P.Port.state c.take_units.new.port in
+    let u = g.P.Port.state c.take_clauses.new.port in
+    let ring = c.args.ring.now in
+    let after = c.take_clauses.new.ring in
+    let count : after.learned ≡ ring.learned = ap (λ (r : Ring). r.learned) c.take_clauses.ensures.same in
+    goes_on_by s u ring (record after { pending = false }) limit c.in-Ok.ensures.search (omega (arith, below, count))
+    (λ start p. subst (GoesOn start u) (sym count) (c.take_clauses.ensures.keeps start ring.learned (c.take_units.ensures.keeps start ring.learned p)))
+
+pub returns-clause-polls : goal.returns-clause-polls
+returns-clause-polls g c =
+    let s = g.P.Port.state c.args.port.now in
+    let m = g.P.Port.state c.take_units.new.port in
+    let u = g.P.Port.state c.take_clauses.new.port in
+    let ring = c.args.ring.now in
+    let after = c.take_clauses.new.ring in
+    let made : ℕ = ring.restarts.made in
+    let only = c.take_clauses.ensures.only.state in
+    let nothing = saw_nothing s m c.take_units.ensures.saw in
+    let none : imports_of ring ≡ made = ap (λ (b : Bool). if b then made else made + 1) c.requires.pending in
+    let before : m.polled ≡ polls_of m made = subst (λ (k : ℕ). m.polled ≡ polls_of m k) none (polls_same s m (imports_of ring) nothing c.requires.polling.polled) in
+    let same : after.restarts.made ≡ made = ap (λ (r : Ring). r.restarts.made) c.take_clauses.ensures.same in
+    record {
+      place = ap (λ (r : Ring). r.place) c.take_clauses.ensures.same
+          ∙ place_moved ring.place s u (ap (λ (x : PortState). x.ring) only ∙ nothing.ring) (ap (λ (x : PortState). x.rings) only ∙ nothing.rings) c.requires.polling.place;
+      polled = subst (λ (k : ℕ). u.polled ≡ polls_of u k) (let e : made + 1 ≡ after.restarts.made + 1 = omega (arith, same) in e)
+          (imported m u made (ap (λ (x : PortState). x.ring) only) (ap (λ (x : PortState). x.rings) only) before c.in-Ok.ensures.polled);
+      low = λ e. absurd (false≢true e);
+    }
+
+pub returns-clause-offering : goal.returns-clause-offering
+returns-clause-offering g c = λ p.
+    let s = g.P.Port.state c.args.port.now in
+    let m = g.P.Port.state c.take_units.new.port in
+    let u = g.P.Port.state c.take_clauses.new.port in
+    let ring = c.args.ring.now in
+    let after = c.take_clauses.new.ring in
+    let same = c.take_clauses.ensures.same in
+    let only = c.take_clauses.ensures.only.state in
+    let nothing = saw_nothing s m c.take_units.ensures.saw in
+    offering_kept s u ring (record after { pending = false }) (ap (λ (x : PortState). x.shared) only ∙ nothing.shared) (ap (λ (x : PortState). x.ring) only ∙ nothing.ring) (ap (λ (x : PortState). x.rings) only ∙ nothing.rings)
+    (ap (λ (x : PortState). learned x.ring x.mine) only ∙ nothing.lemmas) (ap (λ (r : Ring). r.exported) same) (ap (λ (r : Ring). r.offered) same) (ap (λ (r : Ring). r.learned) same) p
+
+pub take_clauses-requires-clause-search : goal.take_clauses-requires-clause-search
+take_clauses-requires-clause-search g c =
+    let s = g.P.Port.state c.args.port.now in
+    let m = g.P.Port.state c.take_units.new.port in
+    let ring = c.args.ring.now in
+    let units = c.in-True.ensures in
+    saw_search s m ring.trail c.take_units.new.trail ring.watches ring.written c.requires.import units.saw units.port units.trail units.grown units.taken.0 units.taken.1 (units.reasons _ c.requires.import.reasons) units.bare (units.watched ring.watches _ c.requires.import.watched)

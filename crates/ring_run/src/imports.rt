@@ -1,0 +1,125 @@
+// What a ring takes from the others at level 0: their units, and the clauses that they have put for it.
+ghost use Rattle.std.specs.Prelude.{◌≡◌, ◌≢◌, ◌<◌, ◌≤◌, ◌+◌, ◌*◌, ◌-◌, ◌^◌, ℕ, min, true, false, length, OnOk};
+ghost use Rattle.ring_port.specs.PortState.{IsPort, one_more};
+ghost use Rattle.ring_port.specs.Exchange.{other_rings};
+ghost use Rattle.ring_run.specs.Searching.{KeepsOn, OnlyPolled};
+ghost use Rattle.ring_run.specs.Course.{InSearch, MayImport, Leads, KeepsLooking, KeepsOffering, IsPolling, HasPolledBy};
+
+use crate::course::{Course, refute};
+use crate::job::End;
+use crate::ring::Ring;
+use crate::units::{Units, take_units};
+use ring_port::Port;
+use std::alloc::AllocError;
+
+/// The classes of clauses that rings put for each other.
+const CLASSES: u8 = 4;
+
+/// Takes the clause of a class that another ring has put, where there is one, and attaches it.
+fn take_class<P: Port>(
+    port: &mut P,
+    ring: &mut Ring,
+    from: u32,
+    class: u8,
+) -> Result<(), AllocError>
+    requires search { InSearch (P.state port.old) ring.old }
+    requires level { ring.old.trail.level ≡ 0 }
+    requires other { from ≢ (P.state port.old).ring }
+    requires inside { from < (P.state port.old).rings }
+    requires class { class ≤ 3 }
+    requires bounded { (P.state port.old).polled ≤ 2 ^ 64 - 1 }
+    ensures keeps { KeepsOn (P.state port.old) (P.state port.new) }
+    ensures search { OnOk result (InSearch (P.state port.new) ring.new) }
+    ensures polled { OnOk result ((P.state port.new).polled ≡ one_more (P.state port.old).polled) }
+    ensures few { (P.state port.new).polled ≤ one_more (P.state port.old).polled }
+    ensures only { OnlyPolled (P.state port.old) (P.state port.new) }
+    ensures same { ring.new ≡ record ring.old { watches = ring.new.watches } }
+    ensures port { IsPort (P.state port.new) }
+{
+    let Ok(taken) = port.poll(from, class) else {
+        return Err(AllocError);
+    };
+    let Some(clause) = taken else {
+        return Ok(());
+    };
+    ring.watches.attach(port, &ring.trail, clause)?;
+    Ok(())
+}
+
+/// Takes what another ring has put, class by class.
+fn take_from<P: Port>(port: &mut P, ring: &mut Ring, from: u32) -> Result<(), AllocError>
+    requires search { InSearch (P.state port.old) ring.old }
+    requires level { ring.old.trail.level ≡ 0 }
+    requires other { from ≢ (P.state port.old).ring }
+    requires inside { from < (P.state port.old).rings }
+    requires bounded { (P.state port.old).polled ≤ 2 ^ 64 - 1 }
+    ensures keeps { KeepsOn (P.state port.old) (P.state port.new) }
+    ensures search { OnOk result (InSearch (P.state port.new) ring.new) }
+    ensures polled { OnOk result ((P.state port.new).polled ≡ min ((P.state port.old).polled + 4) (2 ^ 64 - 1)) }
+    ensures few { (P.state port.new).polled ≤ min ((P.state port.old).polled + 4) (2 ^ 64 - 1) }
+    ensures only { OnlyPolled (P.state port.old) (P.state port.new) }
+    ensures same { ring.new ≡ record ring.old { watches = ring.new.watches } }
+    ensures port { IsPort (P.state port.new) }
+{
+    for class in 0..CLASSES {
+        match take_class(port, ring, from, class) {
+            Ok(()) => {}
+            Err(refused) => return Err(refused),
+        }
+    }
+    Ok(())
+}
+
+/// Takes what the other rings have put, ring by ring.
+fn take_clauses<P: Port>(port: &mut P, ring: &mut Ring) -> Result<(), AllocError>
+    requires search { InSearch (P.state port.old) ring.old }
+    requires level { ring.old.trail.level ≡ 0 }
+    requires place { ring.old.place ≡ record { ring = (P.state port.old).ring; rings = (P.state port.old).rings } }
+    requires bounded { (P.state port.old).polled ≤ 2 ^ 64 - 1 }
+    ensures keeps { KeepsOn (P.state port.old) (P.state port.new) }
+    ensures search { OnOk result (InSearch (P.state port.new) ring.new) }
+    ensures polled { OnOk result ((P.state port.new).polled ≡ min ((P.state port.old).polled + 4 * length (other_rings (P.state port.old))) (2 ^ 64 - 1)) }
+    ensures few { (P.state port.new).polled ≤ min ((P.state port.old).polled + 4 * length (other_rings (P.state port.old))) (2 ^ 64 - 1) }
+    ensures only { OnlyPolled (P.state port.old) (P.state port.new) }
+    ensures same { ring.new ≡ record ring.old { watches = ring.new.watches } }
+    ensures port { IsPort (P.state port.new) }
+{
+    for from in 0..ring.place.rings {
+        if from == ring.place.ring {
+            continue;
+        }
+        match take_from(port, ring, from) {
+            Ok(()) => {}
+            Err(refused) => return Err(refused),
+        }
+    }
+    Ok(())
+}
+
+/// Takes what the others have: units, and then clauses, which are attached. No import is yet to be then.
+pub(crate) fn import<P: Port>(port: &mut P, ring: &mut Ring) -> Course
+    requires import { MayImport (P.state port.old) ring.old.trail ring.old.watches ring.old.written }
+    requires polling { IsPolling (P.state port.old) ring.old }
+    requires pending { ring.old.pending ≡ true }
+    ensures leads { (limit : ℕ) → ring.old.learned < limit → Leads (P.state port.old) ring.old (P.state port.new) ring.new limit result }
+    ensures settled { result ≡ Course.On → ring.new.pending ≡ false }
+    ensures steps { result ≡ Course.On → length ring.old.trail.steps ≤ length ring.new.trail.steps }
+    ensures polls { HasPolledBy (P.state port.new) ring.new result }
+    ensures offering { KeepsOffering (P.state port.old) ring.old (P.state port.new) ring.new }
+    ensures looks { KeepsLooking (P.state port.old) ring.old (P.state port.new) ring.new result }
+    ensures learned { ring.new.learned ≡ ring.old.learned }
+    ensures restarts { ring.new.restarts ≡ ring.old.restarts }
+    ensures decider { ring.new.decider ≡ ring.old.decider }
+    ensures port { IsPort (P.state port.new) }
+{
+    match take_units(port, &mut ring.trail) {
+        Units::Opposed => return Course::Over(refute(port)),
+        Units::True => {}
+    }
+    match take_clauses(port, ring) {
+        Ok(()) => {}
+        Err(_) => return Course::Over(End::Memory),
+    }
+    ring.pending = false;
+    Course::On
+}

@@ -35,14 +35,9 @@ use Rattle.ring_run.specs.Course.{Searches}
 use Rattle.ring_run.proofs.Remembering.{held_same, LitsStay, lits_kept, remembered_as}
 use Rattle.ring_run.proofs.Progress.{stays_by, kept_by, news_moved, lines_moved, runs_same, starts_kept}
 use Rattle.ring_run.proofs.Learning.{held_more}
-use Rattle.ring_run.proofs.Telling.{told_same}
+use Rattle.ring_run.proofs.Telling.{never, told_same}
 
 -- Units
-
--- what is not so is false
-never : (b : Bool) → (b ≡ true → ⊥) → b ≡ false
-never true h = absurd (h refl)
-never false h = refl
 
 unit_same : (l : Literal) → same_set (l ∷ []) (l ∷ []) ≡ true
 unit_same l =

@@ -15,6 +15,7 @@ use Rattle.ring_port.proofs.Holdings.{All_In}
 use Rattle.ring_run.specs.Ended.{opening_of}
 use Rattle.ring_run.specs.Searching.{HasClauses, IsAmong, IsNewTo, OpeningSeen}
 use Rattle.ring_run.proofs.Remembering.{stands_there}
+use Rattle.ring_run.proofs.Telling.{never}
 
 -- a test that no element passes
 none_passes : {X : Type 0} (p : X → Bool) (xs : List X) → ((x : X) → In x xs → p x ≡ true → ⊥) → not (list_any p xs) ≡ true
@@ -62,11 +63,7 @@ module _ (s : PortState) (cs : List Cref) (lits : List Literal) (p : HasClauses 
       ])
 
   taken_outside : (a : ℕ) → In a s.taken → includes lits (lits_at s a) ≡ false
-  taken_outside a there = by (includes lits (lits_at s a)) (λ e. none_inside (lits_at s a) (stands_there s cs (record { address = a }) (p.taken a (In_Contains s.taken a there))) (all_inside (lits_at s a) e))
-    where
-      by : (b : Bool) → (b ≡ true → ⊥) → b ≡ false
-      by true no_way = absurd (no_way refl)
-      by false no_way = refl
+  taken_outside a there = never (includes lits (lits_at s a)) (λ e. none_inside (lits_at s a) (stands_there s cs (record { address = a }) (p.taken a (In_Contains s.taken a there))) (all_inside (lits_at s a) e))
 
   pub new_to : IsNewTo s lits
   new_to = record {

@@ -1,11 +1,12 @@
 -- How often a ring has polled, from import to import.
-use Rattle.std.proofs.Common.{◌≡◌, ◌∙◌, ℕ, ◌+◌, ◌-◌, ◌*◌, ◌^◌, ◌≤◌, ◌==◌, min, not, Bool, true, false, List, [], ◌∷◌, ◌++◌, length, filter, cond, sym, subst, ap, arith, refl, length-append, eq-eqb, ne_eqb, Some, None, Ok, ◌<◌, inl, inr}
+use Rattle.std.proofs.Common.{◌≡◌, ◌∙◌, ℕ, ◌+◌, ◌-◌, ◌*◌, ◌^◌, ◌≤◌, ◌==◌, min, not, Bool, true, false, List, [], ◌∷◌, length, filter, cond, sym, subst, ap, arith, refl, length-append, eq-eqb, ne_eqb, Some, None, Ok, ◌<◌, inl, inr}
 use Rattle.std.specs.Prelude.{◌≢◌, ◌⊎◌, suc, zero, if◌then◌else◌}
 use Rattle.sat_words.specs.declared.shared.Stop.{Stop}
 use Rattle.std.specs.List.{range_with_len}
 use Rattle.std.proofs.lemmas.List.Elements.{filter-append}
 use Rattle.ring_port.specs.PortState.{PortState}
 use Rattle.ring_port.specs.Exchange.{other_rings}
+use Rattle.ring_port.proofs.Beginnings.{range_more}
 use Rattle.ring_run.specs.Ended.{polls_of, HasPolled, IsHalted}
 use Rattle.ring_run.specs.Searching.{OffersNothing}
 use Rattle.ring_run.specs.Course.{IsPolling, imports_of}
@@ -24,20 +25,10 @@ use Rattle.std.specs.declared.option.Option.{Option}
 abbrev pub others_below : (ring n : ℕ) → List ℕ
 others_below ring n = filter (λ r. not (r == ring)) (range_with_len 0 n)
 
-range_next : (a n : ℕ) → range_with_len a n ++ (a + n) ∷ [] ≡ range_with_len a (suc n)
-range_next a zero = ap (λ (m : ℕ). m ∷ []) (omega arith)
-range_next a (suc n) = ap (λ (ns : List ℕ). a ∷ ns) (ap (λ (m : ℕ). range_with_len (a + 1) n ++ m ∷ []) (let e : a + suc n ≡ (a + 1) + n = omega arith in e) ∙ range_next (a + 1) n)
-
-range_more : (n : ℕ) → range_with_len 0 (n + 1) ≡ range_with_len 0 n ++ n ∷ []
-range_more n =
-    let here : 0 + n ≡ n = omega arith in
-    let next : n + 1 ≡ suc n = omega arith in
-    ap (range_with_len 0) next ∙ sym (range_next 0 n) ∙ ap (λ (m : ℕ). range_with_len 0 n ++ m ∷ []) here
-
 below_more : (ring n : ℕ) → length (others_below ring (n + 1)) ≡ length (others_below ring n) + length (cond (not (n == ring)) (n ∷ []) [])
 below_more ring n =
     let p : ℕ → Bool = λ r. not (r == ring) in
-    ap (λ (ns : List ℕ). length (filter p ns)) (range_more n) ∙ ap length (filter-append p (range_with_len 0 n) (n ∷ [])) ∙ length-append (filter p (range_with_len 0 n)) (filter p (n ∷ []))
+    ap (λ (ns : List ℕ). length (filter p ns)) (sym (range_more n)) ∙ ap length (filter-append p (range_with_len 0 n) (n ∷ [])) ∙ length-append (filter p (range_with_len 0 n)) (filter p (n ∷ []))
 
 pub below_other : (ring n : ℕ) → n ≢ ring → length (others_below ring (n + 1)) ≡ length (others_below ring n) + 1
 below_other ring n other = below_more ring n ∙ ap (λ (b : Bool). length (others_below ring n) + length (cond (not b) (n ∷ []) [])) (ne_eqb n ring other)

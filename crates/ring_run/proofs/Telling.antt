@@ -29,7 +29,7 @@ use Rattle.ring_run.specs.Course.{Searches, WentBack}
 use Rattle.ring_run.proofs.Remembering.{stands_there}
 
 -- what is not so is false
-never : (b : Bool) → (b ≡ true → ⊥) → b ≡ false
+pub never : (b : Bool) → (b ≡ true → ⊥) → b ≡ false
 never true h = absurd (h refl)
 never false h = refl
 

@@ -1,7 +1,7 @@
 """Checks the built program against exhaustive search and a naive DRAT checker, both of their own.
 
 Seeded random formulas of up to 16 variables, pigeonhole formulas and formulas with the empty clause go through the
-program with `--proof`, half of them with `--check`, most of them in odd spellings, on standard input or as a file. Its answer is compared with a truth
+program with `--proof`, half of them with `--check`, half of them with a seed, most of them in odd spellings, on standard input or as a file. Its answer is compared with a truth
 table, its `v` lines with the clauses and the format, and every line of its proof with the definition of DRAT. Before
 that, a damaged proof and a wrong model are tried, which must be caught. Real files that fail, refused words and refused
 inputs bring the program to each status but 8 and 9, and each time the folder that it runs in must have no file but those
@@ -226,10 +226,10 @@ def check_answer(variables, clauses, status, out, err, proof, satisfiable, check
         raise Wrong("status %d" % status)
 
 
-def run(program, folder, variables, clauses, satisfiable, text, from_file, checked):
-    """Runs the program on the text, as a file or on standard input, and lets it check its log or not."""
+def run(program, folder, variables, clauses, satisfiable, text, from_file, checked, seed):
+    """Runs the program on the text, as a file or on standard input, lets it check its log or not, and gives it a seed or none."""
     path = os.path.join(folder, "proof")
-    words = [program, "--proof", path] + ["--check"] * checked
+    words = [program, "--proof", path] + ["--check"] * checked + ([] if seed is None else ["--seed", str(seed)])
     if from_file:
         words.append(os.path.join(folder, "input"))
         with open(words[-1], "wb") as file:
@@ -285,6 +285,8 @@ def statuses():
         "--make -1",
         "--make 9223372036854775808",
         "--check --check",
+        "--seed -1",
+        "--seed 9223372036854775808",
     ]:
         yield Case(1, words.split(), MODEL, stderr="gimsatul: bad command line\n")
     for text, line, name in [
@@ -431,7 +433,7 @@ def main():
             odd = rng.random() < 0.7
             text = oddly_spelled(rng, variables, clauses) if odd else spelled(variables, clauses)
             try:
-                run(program, folder, variables, clauses, satisfiable, text, rng.random() < 0.5, rng.random() < 0.5)
+                run(program, folder, variables, clauses, satisfiable, text, rng.random() < 0.5, rng.random() < 0.5, rng.choice([None, rng.getrandbits(63)]))
             except Wrong as fault:
                 wrong += 1
                 print("wrong: %s\n%s" % (fault, text.decode("ascii")))

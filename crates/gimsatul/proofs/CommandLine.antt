@@ -23,7 +23,7 @@ use Rattle.clap.specs.declared.error.kind.ErrorKind.{ErrorKind}
 use Rattle.clap.proofs.CallerLemmas.{default_present, entry_by_id, same_rules_by_id}
 use Rattle.clap.proofs.SimpleLemmas.{is_false, is_nil, plain_fields}
 use Rattle.clap.proofs.WalkLemmas.{both}
-use Rattle.gimsatul.specs.Words.{Command, HasNumber, HasLimit, HasMade, command_in, command_of, unless_both, unless_refused, solver_app, conflicts_rule, threads_rule, proof_rule, no_simplify_rule, check_rule, make_rule, file_rule}
+use Rattle.gimsatul.specs.Words.{Command, HasNumber, HasLimit, HasSeed, HasMade, command_in, command_of, unless_both, unless_refused, solver_app, solver_rules, conflicts_rule, seed_rule, make_rule}
 
 pub solver_simple : is_simple solver_app ≡ true
 solver_simple = refl
@@ -47,9 +47,6 @@ refused_words c words kind app among = refused_by (fault_of solver_app words) ki
 
 -- ---- the arguments
 
-abbrev rules_list : List Rule
-rules_list = conflicts_rule ∷ threads_rule ∷ proof_rule ∷ no_simplify_rule ∷ check_rule ∷ make_rule ∷ file_rule ∷ []
-
 is_none : {X : Type 0} (o : Option X) → not (is_some o) ≡ true → o ≡ None
 is_none None e = refl
 is_none (Some x) e = absurd (true≢false (sym e))
@@ -71,7 +68,7 @@ no_condition a simple =
     let s = both _ _ r.1 in
     (is_nil _ q.0, is_none _ s.0)
 
-all_simple : (k : ℕ) (r : Rule) → k < 7 → ((slice_index_or rules_list k r).is_simple ≡ true) × ((slice_index_or rules_list k r).is_free ≡ true)
+all_simple : (k : ℕ) (r : Rule) → k < 8 → ((slice_index_or solver_rules k r).is_simple ≡ true) × ((slice_index_or solver_rules k r).is_free ≡ true)
 all_simple zero r lt = (refl, refl)
 all_simple (suc zero) r lt = (refl, refl)
 all_simple (suc (suc zero)) r lt = (refl, refl)
@@ -79,9 +76,10 @@ all_simple (suc (suc (suc zero))) r lt = (refl, refl)
 all_simple (suc (suc (suc (suc zero)))) r lt = (refl, refl)
 all_simple (suc (suc (suc (suc (suc zero))))) r lt = (refl, refl)
 all_simple (suc (suc (suc (suc (suc (suc zero)))))) r lt = (refl, refl)
-all_simple (suc (suc (suc (suc (suc (suc (suc k))))))) r lt = absurd (omega arith)
+all_simple (suc (suc (suc (suc (suc (suc (suc zero))))))) r lt = (refl, refl)
+all_simple (suc (suc (suc (suc (suc (suc (suc (suc k)))))))) r lt = absurd (omega arith)
 
-one_limit : (k : ℕ) (r : Rule) → k < 7 → bytes_eq (slice_index_or rules_list k r).id (codes "conflicts") ≡ true → k ≡ 0
+one_limit : (k : ℕ) (r : Rule) → k < 8 → bytes_eq (slice_index_or solver_rules k r).id (codes "conflicts") ≡ true → k ≡ 0
 one_limit zero r lt e = refl
 one_limit (suc zero) r lt e = absurd (true≢false (sym e))
 one_limit (suc (suc zero)) r lt e = absurd (true≢false (sym e))
@@ -89,17 +87,30 @@ one_limit (suc (suc (suc zero))) r lt e = absurd (true≢false (sym e))
 one_limit (suc (suc (suc (suc zero)))) r lt e = absurd (true≢false (sym e))
 one_limit (suc (suc (suc (suc (suc zero))))) r lt e = absurd (true≢false (sym e))
 one_limit (suc (suc (suc (suc (suc (suc zero)))))) r lt e = absurd (true≢false (sym e))
-one_limit (suc (suc (suc (suc (suc (suc (suc k))))))) r lt e = absurd (omega arith)
+one_limit (suc (suc (suc (suc (suc (suc (suc zero))))))) r lt e = absurd (true≢false (sym e))
+one_limit (suc (suc (suc (suc (suc (suc (suc (suc k)))))))) r lt e = absurd (omega arith)
 
-one_make : (k : ℕ) (r : Rule) → k < 7 → bytes_eq (slice_index_or rules_list k r).id (codes "make") ≡ true → k ≡ 5
+one_seed : (k : ℕ) (r : Rule) → k < 8 → bytes_eq (slice_index_or solver_rules k r).id (codes "seed") ≡ true → k ≡ 2
+one_seed zero r lt e = absurd (true≢false (sym e))
+one_seed (suc zero) r lt e = absurd (true≢false (sym e))
+one_seed (suc (suc zero)) r lt e = refl
+one_seed (suc (suc (suc zero))) r lt e = absurd (true≢false (sym e))
+one_seed (suc (suc (suc (suc zero)))) r lt e = absurd (true≢false (sym e))
+one_seed (suc (suc (suc (suc (suc zero))))) r lt e = absurd (true≢false (sym e))
+one_seed (suc (suc (suc (suc (suc (suc zero)))))) r lt e = absurd (true≢false (sym e))
+one_seed (suc (suc (suc (suc (suc (suc (suc zero))))))) r lt e = absurd (true≢false (sym e))
+one_seed (suc (suc (suc (suc (suc (suc (suc (suc k)))))))) r lt e = absurd (omega arith)
+
+one_make : (k : ℕ) (r : Rule) → k < 8 → bytes_eq (slice_index_or solver_rules k r).id (codes "make") ≡ true → k ≡ 6
 one_make zero r lt e = absurd (true≢false (sym e))
 one_make (suc zero) r lt e = absurd (true≢false (sym e))
 one_make (suc (suc zero)) r lt e = absurd (true≢false (sym e))
 one_make (suc (suc (suc zero))) r lt e = absurd (true≢false (sym e))
 one_make (suc (suc (suc (suc zero)))) r lt e = absurd (true≢false (sym e))
-one_make (suc (suc (suc (suc (suc zero))))) r lt e = refl
-one_make (suc (suc (suc (suc (suc (suc zero)))))) r lt e = absurd (true≢false (sym e))
-one_make (suc (suc (suc (suc (suc (suc (suc k))))))) r lt e = absurd (omega arith)
+one_make (suc (suc (suc (suc (suc zero))))) r lt e = absurd (true≢false (sym e))
+one_make (suc (suc (suc (suc (suc (suc zero)))))) r lt e = refl
+one_make (suc (suc (suc (suc (suc (suc (suc zero))))))) r lt e = absurd (true≢false (sym e))
+one_make (suc (suc (suc (suc (suc (suc (suc (suc k)))))))) r lt e = absurd (omega arith)
 
 first_arg : (xs : List Arg) → 0 < length xs → Arg
 first_arg [] lt = absurd (omega arith)
@@ -112,6 +123,10 @@ long_id id other is apart = apart (ap length is)
 limit_alone : (codes "conflicts" ≡ codes "help") ⊎ (codes "conflicts" ≡ codes "version") → ⊥
 limit_alone (inl h) = long_id (codes "conflicts") (codes "help") h (λ e. absurd (omega (arith, e)))
 limit_alone (inr h) = long_id (codes "conflicts") (codes "version") h (λ e. absurd (omega (arith, e)))
+
+seed_alone : (codes "seed" ≡ codes "help") ⊎ (codes "seed" ≡ codes "version") → ⊥
+seed_alone (inl h) = true≢false (sym (ap (λ (t : List ℕ). bytes_eq t (codes "help")) h))
+seed_alone (inr h) = long_id (codes "seed") (codes "version") h (λ e. absurd (omega (arith, e)))
 
 make_alone : (codes "make" ≡ codes "help") ⊎ (codes "make" ≡ codes "version") → ⊥
 make_alone (inl h) = true≢false (sym (ap (λ (t : List ℕ). bytes_eq t (codes "help")) h))
@@ -191,9 +206,9 @@ entry_found (x ∷ xs) id (i, lt, at) = go (entry_found xs id) (bytes_eq x.0.now
 
 -- an option of the command that takes a number
 record IsOption (place low high : ℕ) (id : List ℕ) (rule : Rule) : Type 0 where
-  pub within : place < 7
-  pub at : (d : Rule) → slice_index_or rules_list place d ≡ rule
-  pub alone : (k : ℕ) (r : Rule) → k < 7 → bytes_eq (slice_index_or rules_list k r).id id ≡ true → k ≡ place
+  pub within : place < 8
+  pub at : (d : Rule) → slice_index_or solver_rules place d ≡ rule
+  pub alone : (k : ℕ) (r : Rule) → k < 8 → bytes_eq (slice_index_or solver_rules k r).id id ≡ true → k ≡ place
   pub named : id ≡ [] → ⊥
   pub other : (id ≡ codes "help") ⊎ (id ≡ codes "version") → ⊥
   pub id_is : rule.id ≡ id
@@ -205,17 +220,20 @@ record IsOption (place low high : ℕ) (id : List ℕ) (rule : Rule) : Type 0 wh
 limit_option : IsOption 0 1 (10 ^ 12) (codes "conflicts") conflicts_rule
 limit_option = record { within = omega arith; at = λ d. refl; alone = one_limit; named = λ e. cc e; other = limit_alone; id_is = refl; simple = refl; sets = refl; parser = refl; one = refl }
 
-make_option : IsOption 5 0 (2 ^ 63 - 1) (codes "make") make_rule
+seed_option : IsOption 2 0 (2 ^ 63 - 1) (codes "seed") seed_rule
+seed_option = record { within = omega arith; at = λ d. refl; alone = one_seed; named = λ e. cc e; other = seed_alone; id_is = refl; simple = refl; sets = refl; parser = refl; one = refl }
+
+make_option : IsOption 6 0 (2 ^ 63 - 1) (codes "make") make_rule
 make_option = record { within = omega arith; at = λ d. refl; alone = one_make; named = λ e. cc e; other = make_alone; id_is = refl; simple = refl; sets = refl; parser = refl; one = refl }
 
 module _ (c : ClapCommand) (m : ArgMatches) (app : app_of c ≡ solver_app) (p : IsParsedFrom c m) where
-  rules_are : map rule_of (args_of c) ≡ rules_list
+  rules_are : map rule_of (args_of c) ≡ solver_rules
   rules_are = ap (λ (a : App). a.top.rules) app
 
-  long : length (args_of c) ≡ 7
+  long : length (args_of c) ≡ 8
   long = sym (length-map (args_of c) rule_of) ∙ ap length rules_are
 
-  rule_at : (k : ℕ) (d : Arg) → k < length (args_of c) → rule_of (slice_index_or (args_of c) k d) ≡ slice_index_or rules_list k (rule_of d)
+  rule_at : (k : ℕ) (d : Arg) → k < length (args_of c) → rule_of (slice_index_or (args_of c) k d) ≡ slice_index_or solver_rules k (rule_of d)
   rule_at k d lt = sym (get_or-map rule_of (args_of c) k d (rule_of d) lt) ∙ ap (λ (rs : List Rule). slice_index_or rs k (rule_of d)) rules_are
 
   plain : IsPlain c
@@ -293,18 +311,22 @@ module _ (c : ClapCommand) (m : ArgMatches) (app : app_of c ≡ solver_app) (p :
         go None at some = absurd (true≢false (sym some))
         go (Some x) at some = number_of_match x at
 
+    -- an option with a default has a number
+    number_by_default : length rule.defaults ≡ 1 → HasNumber id low high m
+    number_by_default default =
+        let values : length (items_of here.default_vals) ≡ 1 = sym (length-map (items_of here.default_vals) (λ s. s.now)) ∙ ap (λ (r : Rule). length r.defaults) is ∙ default in
+        let there = default_present c m p no_globals place any_arg fits (free.0, omega (arith, values)) in
+        let found : HasIn (found_of m).entries.items id = subst (λ (t : List ℕ). HasIn (found_of m).entries.items t) id_of there in
+        number_there (entry_found (found_of m).entries.items id found)
+
   -- the matches have a number for `--conflicts`
   pub limit_of : HasLimit m
-  limit_of =
-      let one = here 0 1 (10 ^ 12) (codes "conflicts") conflicts_rule limit_option in
-      let some = fits 0 1 (10 ^ 12) (codes "conflicts") conflicts_rule limit_option in
-      let rule = is 0 1 (10 ^ 12) (codes "conflicts") conflicts_rule limit_option in
-      let none = free 0 1 (10 ^ 12) (codes "conflicts") conflicts_rule limit_option in
-      let values : length (items_of one.default_vals) ≡ 1 = sym (length-map (items_of one.default_vals) (λ s. s.now)) ∙ ap (λ (r : Rule). length r.defaults) rule in
-      let there = default_present c m p no_globals 0 any_arg some (none.0, omega (arith, values)) in
-      let id : HasIn (found_of m).entries.items (codes "conflicts") = subst (λ (t : List ℕ). HasIn (found_of m).entries.items t) (id_of 0 1 (10 ^ 12) (codes "conflicts") conflicts_rule limit_option) there in
-      number_there 0 1 (10 ^ 12) (codes "conflicts") conflicts_rule limit_option (entry_found (found_of m).entries.items (codes "conflicts") id)
+  limit_of = number_by_default 0 1 (10 ^ 12) (codes "conflicts") conflicts_rule limit_option refl
+
+  -- they have one for `--seed`
+  pub seed_of : HasSeed m
+  seed_of = number_by_default 2 0 (2 ^ 63 - 1) (codes "seed") seed_rule seed_option refl
 
   -- they have one for `--make`, or none
   pub made_of : HasMade m
-  made_of = number_or_none 5 0 (2 ^ 63 - 1) (codes "make") make_rule make_option
+  made_of = number_or_none 6 0 (2 ^ 63 - 1) (codes "make") make_rule make_option

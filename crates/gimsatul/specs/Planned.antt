@@ -7,8 +7,8 @@ use Rattle.gimsatul.specs.Words.{Command}
 
 -- what the words ask for
 abbrev pub plan_of : Option Command → Plan
-plan_of None = record { limit = 0; check = false; make = None }
-plan_of (Some command) = record { limit = command.conflicts; check = command.check; make = command.make }
+plan_of None = record { limit = 0; seed = 0; check = false; make = None }
+plan_of (Some command) = record { limit = command.conflicts; seed = command.seed; check = command.check; make = command.make }
 
 -- the test whether the formula is wanted once it is decided
 abbrev pub keeps_formula : Plan → Bool

@@ -1,10 +1,11 @@
 -- The command line, as `clap` reads it: the arguments that the program has, and what the words ask for.
-use Rattle.std.specs.Prelude.{◌≡◌, ◌⊎◌, ℕ, ◌^◌, ◌-◌, Bool, false, true, ◌&&◌, if◌then◌else◌, List, [], ◌∷◌, Some, None, is_some, option_map, codes}
+use Rattle.std.specs.Prelude.{◌≡◌, ◌⊎◌, ℕ, ◌^◌, ◌-◌, Bool, false, true, ◌&&◌, if◌then◌else◌, List, [], ◌∷◌, Some, None, is_some, option_map, option_copied, codes}
 use Rattle.std.specs.declared.option.Option.{Option}
 use Rattle.std.specs.Str.{bytes_eq}
 use Rattle.std.specs.Str.Parse.{digits_value, without_leading_plus}
 use Rattle.clap.specs.Words.{App, Kinds, Row, Rule, fault_of, first_of, matches_of, one_of, found_of, one_text, IsUnsignedIn, new_app, new_rule, with_rule}
 use Rattle.clap.specs.Simple.{on_top}
+use Rattle.gimsatul.specs.declared.words.Command.{Command as Asked}
 use Rattle.clap.specs.declared.parser.matches.ArgMatches.{ArgMatches}
 use Rattle.clap.specs.declared.builder.action.ArgAction.TheVariants.{Set, SetTrue}
 use Rattle.clap.specs.declared.builder.value_parser.ValueParser.TheVariants.{Unsigned}
@@ -24,6 +25,15 @@ threads_rule = record (new_rule (codes "threads")) {
   long = Some (codes "threads");
   parser = Some (Unsigned 1 1);
   defaults = codes "1" ∷ [];
+}
+
+-- `--seed N`, with N from 0 to 2^63 - 1; without it N is 0
+abbrev pub seed_rule : Rule
+seed_rule = record (new_rule (codes "seed")) {
+  long = Some (codes "seed");
+  action = Some Set;
+  parser = Some (Unsigned 0 (2 ^ 63 - 1));
+  defaults = codes "0" ∷ [];
 }
 
 -- `--proof PATH`
@@ -54,15 +64,24 @@ file_rule = new_rule (codes "file")
 abbrev pub bare_app : App
 bare_app = on_top (λ s. record s { no_binary_name = true; disable_help_flag = true; disable_version_flag = true }) (new_app (codes "gimsatul"))
 
+-- a command with more rules, in their order
+abbrev pub with_rules : App → List Rule → App
+with_rules app [] = app
+with_rules app (rule ∷ rules) = with_rules (with_rule app rule) rules
+
+-- the arguments of the program, in their order
+abbrev pub solver_rules : List Rule
+solver_rules = conflicts_rule ∷ threads_rule ∷ seed_rule ∷ proof_rule ∷ no_simplify_rule ∷ check_rule ∷ make_rule ∷ file_rule ∷ []
+
 -- the program's command
 abbrev pub solver_app : App
-solver_app =
-    with_rule (with_rule (with_rule (with_rule (with_rule (with_rule (with_rule bare_app conflicts_rule) threads_rule) proof_rule) no_simplify_rule) check_rule)
-    make_rule) file_rule
+solver_app = with_rules bare_app solver_rules
 
 pub record Command : Type 0 where
   -- how many lemmas the ring may learn
   pub conflicts : ℕ
+  -- what the first phases are made of
+  pub seed : ℕ
   -- where the proof goes, if it is wanted
   pub proof : Option (List ℕ)
   -- whether the log is checked
@@ -71,6 +90,17 @@ pub record Command : Type 0 where
   pub make : Option ℕ
   -- where the input comes from, if not from standard input
   pub file : Option (List ℕ)
+
+-- what the program's own command asks for
+abbrev pub asked_by : Asked → Command
+asked_by asked = record {
+  conflicts = asked.conflicts;
+  seed = asked.seed;
+  proof = option_copied asked.proof;
+  check = asked.check;
+  make = asked.make;
+  file = option_copied asked.file;
+}
 
 -- the value of digits, with a plus sign before them or none
 abbrev pub number_of : List ℕ → ℕ
@@ -89,6 +119,7 @@ flag_in (Some text) = bytes_eq text (codes "true")
 abbrev pub command_in : List Row → Command
 command_in rows = record {
   conflicts = number_in (one_of (codes "conflicts") rows);
+  seed = number_in (one_of (codes "seed") rows);
   proof = first_of (codes "proof") rows;
   check = flag_in (first_of (codes "check") rows);
   make = option_map number_of (one_of (codes "make") rows);
@@ -133,6 +164,10 @@ pub record HasNumber (id : List ℕ) (low high : ℕ) (matches : ArgMatches) : T
 -- they have one for `--conflicts`
 abbrev pub HasLimit : ArgMatches → Type 0
 HasLimit = HasNumber (codes "conflicts") 1 (10 ^ 12)
+
+-- they have one for `--seed`
+abbrev pub HasSeed : ArgMatches → Type 0
+HasSeed = HasNumber (codes "seed") 0 (2 ^ 63 - 1)
 
 -- they have one for `--make`, or no value
 abbrev pub HasMade : ArgMatches → Type 0

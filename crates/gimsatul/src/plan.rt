@@ -7,6 +7,8 @@ ghost use Rattle.gimsatul.specs.Planned.{keeps_formula};
 pub struct Plan {
     /// How many lemmas the ring may learn.
     pub limit: u64,
+    /// What the ring's first phases are made of.
+    pub seed: u64,
     /// Whether the log is checked.
     pub check: bool,
     /// The number of the formula, where it is made and not read.

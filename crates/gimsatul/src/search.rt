@@ -132,23 +132,24 @@ fn job_of<P: Sink>(
     alloc: Global,
     port: &PlainPort<LogLines<P>>,
     vars: u32,
-    limit: u64,
+    plan: &Plan,
 ) -> Result<Job, AllocError>
     requires vars { vars ≡ port.now.vars }
     requires few { vars < 2 ^ 28 }
-    requires some { 1 ≤ limit }
+    requires some { 1 ≤ plan.now.limit }
     requires ring { port.now.ring ≡ 0 }
     requires rings { port.now.rings ≡ 1 }
     ensures job { IfOk result (IsJobOf port.now) }
-    ensures limit { IfOk result (λ job. job.conflicts ≡ limit) }
+    ensures limit { IfOk result (λ job. job.conflicts ≡ plan.now.limit) }
+    ensures seed { IfOk result (λ job. job.seed ≡ plan.now.seed) }
 {
     Ok(Job {
         ring: 0,
         rings: 1,
         vars,
         start: Addresses::from_vec(port.start(alloc)?),
-        conflicts: limit,
-        seed: 0,
+        conflicts: plan.limit,
+        seed: plan.seed,
     })
 }
 
@@ -179,7 +180,7 @@ pub fn search<P: Sink>(alloc: Global, formula: Formula, plan: &Plan, proof: P) -
         Err(refused) => return Searched::starved(refused.value),
     };
     let formula = keep(plan, formula);
-    let Ok(job) = job_of(alloc, &port, vars, plan.limit) else {
+    let Ok(job) = job_of(alloc, &port, vars, plan) else {
         return close(port.into_lines(), formula, Err(End::Memory), 0);
     };
     let (end, counts) = run_ring(alloc, &mut port, &job);

@@ -244,6 +244,32 @@ fn models(rt: HostRuntime) -> Result<(), Fail> {
 }
 
 #[test]
+fn a_seed_gives_the_first_phases(rt: HostRuntime) -> Result<(), Fail> {
+    let row = Row {
+        input: b"p cnf 8 4\n1 2 0\n3 4 0\n5 6 0\n7 8 0\n",
+        compares_proof: false,
+        ..MODEL
+    };
+    let rows = [
+        Row {
+            out: b"s SATISFIABLE\nv 1 -2 3 -4 5 -6 7 -8 0\n",
+            ..row
+        },
+        Row {
+            words: &["--seed", "1"],
+            out: b"s SATISFIABLE\nv 1 2 3 -4 5 -6 7 -8 0\n",
+            ..row
+        },
+        Row {
+            words: &["--seed", "2"],
+            out: b"s SATISFIABLE\nv 1 -2 3 4 5 -6 -7 8 0\n",
+            ..row
+        },
+    ];
+    check_rows(&rt, &rows)
+}
+
+#[test]
 fn a_model_of_two_lines(rt: HostRuntime) -> Result<(), Fail> {
     let row = Row {
         input: b"p cnf 30 30\n1 0\n2 0\n3 0\n4 0\n5 0\n6 0\n7 0\n8 0\n9 0\n10 0\n11 0\n12 0\n13 0\n14 0\n15 0\n16 0\n17 0\n18 0\n19 0\n20 0\n21 0\n22 0\n23 0\n24 0\n25 0\n26 0\n27 0\n28 0\n29 0\n30 0\n",
@@ -394,7 +420,10 @@ fn words_that_are_refused(rt: HostRuntime) -> Result<(), Fail> {
         proof: None,
         ..PLAIN
     };
-    let table: [&[&str]; 16] = [
+    let table: [&[&str]; 19] = [
+        &["--seed", "-1"],
+        &["--seed", "9223372036854775808"],
+        &["--seed", "1", "--seed", "1"],
         &["--make", "7", "x.cnf"],
         &["--make", "-1"],
         &["--make", "9223372036854775808"],
@@ -421,7 +450,8 @@ fn words_that_are_taken(rt: HostRuntime) -> Result<(), Fail> {
         out: b"s SATISFIABLE\nv 0\n",
         ..MODEL
     };
-    let table: [&[&str]; 6] = [
+    let table: [&[&str]; 7] = [
+        &["--seed", "9223372036854775807"],
         &["--threads", "1"],
         &["--threads=+1"],
         &["--threads", "01"],

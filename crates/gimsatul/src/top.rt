@@ -179,10 +179,11 @@ fn decide<R: Source, I: Source, W: Sink, O: Sink>(
 
 /// How the words ask that a formula is decided.
 fn plan_in(command: &Command<'_>) -> Plan
-    ensures { result ≡ record { limit = command.now.conflicts; check = command.now.check; make = command.now.make } }
+    ensures { result ≡ record { limit = command.now.conflicts; seed = command.now.seed; check = command.now.check; make = command.now.make } }
 {
     Plan {
         limit: command.conflicts,
+        seed: command.seed,
         check: command.check,
         make: command.make,
     }

@@ -1,9 +1,9 @@
 // The words of the command line.
-ghost use Rattle.std.specs.Prelude.{◌≡◌, ◌≤◌, ◌↔◌, false, map, string_bytes, option_copied, IfOk, IfErr, IsErrOf, Some, None};
+ghost use Rattle.std.specs.Prelude.{◌≡◌, ◌≤◌, ◌↔◌, false, map, string_bytes, IfOk, IfErr, IsErrOf, Some, None};
 ghost use Rattle.clap.specs.Words.{app_of, found_of, rows_of, rule_of};
 ghost use Rattle.clap.specs.declared.error.kind.ErrorKind.TheVariants.{OutOfMemory};
 ghost use Rattle.gimsatul.specs.Ends.{IsWordsEnd};
-ghost use Rattle.gimsatul.specs.Words.{HasLimit, HasMade, command_in, command_of, unless_both, solver_app, conflicts_rule, threads_rule, proof_rule, no_simplify_rule, check_rule, make_rule, file_rule};
+ghost use Rattle.gimsatul.specs.Words.{HasLimit, HasSeed, HasMade, asked_by, command_in, command_of, unless_both, solver_app, conflicts_rule, threads_rule, seed_rule, proof_rule, no_simplify_rule, check_rule, make_rule, file_rule};
 
 use crate::report::End;
 use clap::builder::ValueParser;
@@ -14,6 +14,9 @@ use std::alloc::{AllocError, Global};
 /// The most lemmas that a ring may be allowed to learn.
 const MOST_CONFLICTS: u64 = 1_000_000_000_000;
 
+/// The greatest seed.
+const MOST_SEED: u64 = (1 << 63) - 1;
+
 /// The greatest number of a formula that can be made.
 const MOST_MADE: u64 = (1 << 63) - 1;
 
@@ -22,6 +25,8 @@ const MOST_MADE: u64 = (1 << 63) - 1;
 pub struct Command<'a> {
     /// How many lemmas the ring may learn.
     pub conflicts: u64,
+    /// What the ring's first phases are made of.
+    pub seed: u64,
     /// Where the proof goes, if it is wanted.
     pub proof: Option<&'a str>,
     /// Whether the log is checked.
@@ -51,6 +56,17 @@ fn threads_arg<'a>(alloc: Global) -> Arg<'a>
         .long("threads")
         .value_parser(ValueParser::unsigned(1, 1))
         .default_value("1")
+}
+
+fn seed_arg<'a>(alloc: Global) -> Arg<'a>
+    ensures rule { rule_of result ≡ seed_rule }
+    ensures local { result.global ≡ false }
+{
+    Arg::new(alloc, "seed")
+        .long("seed")
+        .action(ArgAction::Set)
+        .value_parser(ValueParser::unsigned(0, MOST_SEED))
+        .default_value("0")
 }
 
 fn proof_arg<'a>(alloc: Global) -> Arg<'a>
@@ -105,6 +121,7 @@ fn solver<'a>(alloc: Global) -> Result<clap::Command<'a>, AllocError>
         .disable_version_flag(true);
     bare.arg(conflicts_arg(alloc))?
         .arg(threads_arg(alloc))?
+        .arg(seed_arg(alloc))?
         .arg(proof_arg(alloc))?
         .arg(no_simplify_arg(alloc))?
         .arg(check_arg(alloc))?
@@ -119,6 +136,17 @@ fn conflicts_in(matches: &ArgMatches<'_>) -> u64
     ensures some { 1 ≤ result }
 {
     match matches.get_one::<u64>("conflicts") {
+        Some(number) => number,
+        None => unreachable!(),
+    }
+}
+
+/// What the first phases are made of.
+fn seed_in(matches: &ArgMatches<'_>) -> u64
+    requires { HasSeed matches.now }
+    ensures { result ≡ (command_in (rows_of (found_of matches.now))).seed }
+{
+    match matches.get_one::<u64>("seed") {
         Some(number) => number,
         None => unreachable!(),
     }
@@ -148,12 +176,14 @@ fn make_in(matches: &ArgMatches<'_>) -> Option<u64>
 /// What the matches ask for.
 fn command_in<'a>(matches: &ArgMatches<'a>) -> Command<'a>
     requires limit { HasLimit matches.now }
+    requires seed { HasSeed matches.now }
     requires made { HasMade matches.now }
-    ensures asks { command_in (rows_of (found_of matches.now)) ≡ record { conflicts = result.conflicts; proof = option_copied result.proof; check = result.check; make = result.make; file = option_copied result.file } }
+    ensures asks { command_in (rows_of (found_of matches.now)) ≡ asked_by result }
     ensures some { 1 ≤ result.conflicts }
 {
     Command {
         conflicts: conflicts_in(matches),
+        seed: seed_in(matches),
         proof: matches.get_str("proof"),
         check: check_in(matches),
         make: make_in(matches),
@@ -173,9 +203,9 @@ fn end_of_kind(kind: ErrorKind) -> End
 
 /// A formula is made or read from a file, and not both.
 fn unless_both(command: Command<'_>) -> Result<Command<'_>, End>
-    ensures asks { IfOk result (λ taken. unless_both (record { conflicts = command.entry.conflicts; proof = option_copied command.entry.proof; check = command.entry.check; make = command.entry.make; file = option_copied command.entry.file }) ≡ Some (record { conflicts = taken.conflicts; proof = option_copied taken.proof; check = taken.check; make = taken.make; file = option_copied taken.file })) }
+    ensures asks { IfOk result (λ taken. unless_both (asked_by command.entry) ≡ Some (asked_by taken)) }
     ensures some { 1 ≤ command.entry.conflicts → IfOk result (λ taken. 1 ≤ taken.conflicts) }
-    ensures usage { IfErr result (λ end. unless_both (record { conflicts = command.entry.conflicts; proof = option_copied command.entry.proof; check = command.entry.check; make = command.entry.make; file = option_copied command.entry.file }) ≡ None) }
+    ensures usage { IfErr result (λ end. unless_both (asked_by command.entry) ≡ None) }
     ensures ends { IfErr result (λ end. end ≡ End.Usage) }
 {
     if command.make.is_some() && command.file.is_some() {
@@ -187,7 +217,7 @@ fn unless_both(command: Command<'_>) -> Result<Command<'_>, End>
 /// Reads the words, without the program's name. They are refused exactly where `clap` refuses them, and where `--make`
 /// stands with FILE.
 pub fn parse<'a>(alloc: Global, words: &'a [String]) -> Result<Command<'a>, End>
-    ensures asks { IfOk result (λ command. command_of (map string_bytes words.entry.now) ≡ Some (record { conflicts = command.conflicts; proof = option_copied command.proof; check = command.check; make = command.make; file = option_copied command.file })) }
+    ensures asks { IfOk result (λ command. command_of (map string_bytes words.entry.now) ≡ Some (asked_by command)) }
     ensures some { IfOk result (λ command. 1 ≤ command.conflicts) }
     ensures usage { IsErrOf result End.Usage → command_of (map string_bytes words.entry.now) ≡ None }
     ensures ends { IfErr result IsWordsEnd }

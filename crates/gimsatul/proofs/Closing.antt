@@ -23,6 +23,7 @@ use Rattle.drat_text.specs.Text.{text, line_text}
 use Rattle.drat_text.specs.Front.{IsCutText}
 use Rattle.drat_text.proofs.Fronts.{cut_text}
 use Rattle.drat_text.proofs.Text.{text-push}
+use Rattle.gimsatul.specs.declared.plan.Plan.{Plan}
 use Rattle.gimsatul.specs.declared.report.Verdict.{Verdict}
 use Rattle.gimsatul.specs.declared.report.End.{End}
 use Rattle.gimsatul.specs.Journaled.{CanBeSpelled, HoldsText, IsCutShort}
@@ -131,9 +132,9 @@ any_line_is_spelled zero x lt (suc (suc j)) l less = absurd (omega arith)
 any_line_is_spelled (suc k) x lt j l less = absurd (omega arith)
 
 -- a writer that has a front of what a search gave it
-cut_search : (limit : ℕ) (formula : FormulaData) (verdict : Result Verdict End) (count faults : ℕ) (all written : Option (List ℕ))
-    → (h : IsSearch limit formula verdict count faults all None) → IsFrontTold written all → IsCutShort formula.clauses h.journal written
-cut_search limit formula verdict count faults all written h f = by faults refl
+cut_search : (plan : Plan) (formula : FormulaData) (verdict : Result Verdict End) (count faults : ℕ) (all written : Option (List ℕ))
+    → (h : IsSearch plan formula verdict count faults all None) → IsFrontTold written all → IsCutShort formula.clauses h.journal written
+cut_search plan formula verdict count faults all written h f = by faults refl
   where
     L : List Line
     L = lines formula.clauses h.journal
@@ -161,14 +162,15 @@ cut_search limit formula verdict count faults all written h f = by faults refl
     by zero e = whole e
     by (suc n) e = short (λ none. absurd (omega (arith, e, none)))
 
-pub closed_search : (unique : Unique) (limit : ℕ) (formula : FormulaData) (verdict told : Result Verdict End) (count : ℕ) (out : LineState) (faults : ℕ) (written : Option (List ℕ)) (kept : Option (List Line))
-    → IsSearch limit formula verdict count out.faults out.written None → (out.spent ≡ true → Rose 0 out.faults) → (out.spent ≡ false → out.faults ≡ 0)
-    → HasClosed out verdict told faults written → TellsKept kept out.written → IsSearch limit formula told count faults written kept
-closed_search unique limit formula verdict told count out faults written kept h rose still (inl w) tells =
-    subst (λ (v : Result Verdict End). IsSearch limit formula v count faults written kept) (sym w.is)
-    (subst (λ (n : ℕ). IsSearch limit formula verdict count n written kept) (sym w.quiet) (record {
+pub closed_search : (unique : Unique) (plan : Plan) (formula : FormulaData) (verdict told : Result Verdict End) (count : ℕ) (out : LineState) (faults : ℕ) (written : Option (List ℕ)) (kept : Option (List Line))
+    → IsSearch plan formula verdict count out.faults out.written None → (out.spent ≡ true → Rose 0 out.faults) → (out.spent ≡ false → out.faults ≡ 0)
+    → HasClosed out verdict told faults written → TellsKept kept out.written → IsSearch plan formula told count faults written kept
+closed_search unique plan formula verdict told count out faults written kept h rose still (inl w) tells =
+    subst (λ (v : Result Verdict End). IsSearch plan formula v count faults written kept) (sym w.is)
+    (subst (λ (n : ℕ). IsSearch plan formula verdict count n written kept) (sym w.quiet) (record {
       journal = h.journal;
       stands = h.stands;
+      ruled = h.ruled;
       counts = h.counts;
       within = h.within;
       conclusion = h.conclusion;
@@ -176,15 +178,16 @@ closed_search unique limit formula verdict told count out faults written kept h 
       short = λ some. same_cut formula.clauses h.journal written out.written w.bytes (h.short some);
       keeps = λ none. kept_lines unique kept out.written (lines formula.clauses h.journal) tells h.stands.spelled (h.whole none);
     }))
-closed_search unique limit formula verdict told count out faults written kept h rose still (inr b) tells =
+closed_search unique plan formula verdict told count out faults written kept h rose still (inr b) tells =
     let failed : Rose 0 faults = elim (cases_Bool out.spent) as (λ _. Rose 0 faults) [
       | inl e ↦ subst (Rose 0) (sym (b.before e)) (rose e)
       | inr e ↦ subst (λ (n : ℕ). Rose n faults) (still e) (b.now e)
     ] in
-    let cut = cut_search limit formula verdict count out.faults out.written written h b.front in
-    subst (λ (v : Result Verdict End). IsSearch limit formula v count faults written kept) (sym b.is) (record {
+    let cut = cut_search plan formula verdict count out.faults out.written written h b.front in
+    subst (λ (v : Result Verdict End). IsSearch plan formula v count faults written kept) (sym b.is) (record {
       journal = h.journal;
       stands = h.stands;
+      ruled = h.ruled;
       counts = h.counts;
       within = h.within;
       conclusion = failed;

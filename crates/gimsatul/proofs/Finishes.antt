@@ -49,12 +49,13 @@ unread plan text source out f0 f1 w0 w1 fl0 fl1 result quiet empty same cause fl
 
 -- the search came to its end, and the proof was flushed
 pub started : (plan : Plan) (text : Option (List ℕ)) (source : Count) (out : Output) (formula : FormulaData) (found : Result Verdict End) (count : ℕ) (tally : Tally) (f0 : ℕ) (w0 : Option (List ℕ)) (writer : Writer) (kept : Option (List Line))
-    → (s : IsSearch plan.limit formula found count f0 w0 kept) → WasGiven plan.make text formula → IsStill source → tally ≡ ring_tally count → writer.written ≡ w0 → IsClosed f0 writer
+    → (s : IsSearch plan formula found count f0 w0 kept) → WasGiven plan.make text formula → IsStill source → tally ≡ ring_tally count → writer.written ≡ w0 → IsClosed f0 writer
     → IsStarted f0 formula s.journal tally (record { plan = plan; text = text; source = source; proof = Some writer; out = out })
 started plan text source out formula found count tally f0 w0 writer kept s given still counts same close = record {
   given = given;
   source = still;
   journal_stands = s.stands;
+  ruled = s.ruled;
   log = closed_log formula.clauses s.journal f0 w0 writer s.whole s.short same close;
   within = subst (λ (n : ℕ). n ≤ plan.limit) s.counts s.within;
   counts = counts ∙ ap ring_tally s.counts;
@@ -82,6 +83,7 @@ stop_cases (Room lack) plan F J before tally text source out f0 writer why later
   given = s.given;
   source = s.source;
   journal_stands = s.journal_stands;
+  ruled = s.ruled;
   log = subst (λ (n : ℕ). HoldsLog F.clauses J n writer) why.0 s.log;
   fewer = why.1;
   unrefuted = why.3;

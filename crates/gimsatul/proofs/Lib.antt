@@ -4,19 +4,17 @@ pub mod Checks
 pub mod Lawful
 pub mod CommandLine
 pub mod StatusLemmas
-pub mod Opposites
-pub mod Pairs
-pub mod Units
-pub mod Opens
 pub mod Newness
-pub mod Starting
 pub mod Models
 pub mod Satisfied
 pub mod Closing
 pub mod Keeping
+pub mod Ruling
 mod Alive
+mod Texts
+mod Alone
 mod Standing
-pub mod Refuting
+pub mod Beginning
 mod AnswerText
 pub mod PlainNumbers
 pub mod PlainTokens

@@ -1,11 +1,10 @@
 -- The journal of a run, and what the writer of its proof holds.
-use Rattle.std.specs.Prelude.{◌≡◌, ◌≤◌, ◌⊎◌, ◌<◌, ℕ, List, [], ◌∷◌, ◌++◌, length, take, All, false, ⊤, Some, None}
+use Rattle.std.specs.Prelude.{◌≡◌, ◌≤◌, ◌⊎◌, ◌<◌, ℕ, List, [], ◌∷◌, ◌++◌, length, take, All, true, false, ⊤, Some, None}
 use Rattle.std.specs.List.{list_any}
 use Rattle.std.specs.declared.option.Option.{Option}
 use Rattle.sat_words.specs.Literal.{Literal}
 use Rattle.sat_words.specs.Clause.{is_empty}
 use Rattle.sat_words.specs.declared.line.Line.{Line}
-use Rattle.rup_model.specs.declared.journal.TheConstants.{RULER_RING}
 use Rattle.rup_model.specs.declared.journal.Addition.{Addition}
 use Rattle.rup_model.specs.declared.journal.Entry.{Entry}
 use Rattle.rup_model.specs.declared.journal.Entry.TheVariants.{Add, Del, Reduce}
@@ -14,26 +13,30 @@ use Rattle.rup_model.specs.declared.journal.Kind.TheVariants.{Ruler, Learn, Deri
 use Rattle.rup_model.specs.Basics.{EachAfter}
 use Rattle.rup_model.specs.Log.{Accepted}
 use Rattle.rup_model.specs.Journal.{added, lines, ring_of, Fits, EmptyLast}
-use Rattle.rup_model.specs.Opening.{program_opening, IsNew}
+use Rattle.rup_model.specs.Opening.{is_rulers, program_opening, IsNew}
 use Rattle.rup_model.specs.Spent.{ruler_part, rings_part}
 pub use Rattle.drat_text.specs.Text.{CanBeSpelled}
 use Rattle.drat_text.specs.Text.{text, line_text}
 use Rattle.io_edge.specs.Causes.{Rose}
 use Rattle.gimsatul.specs.Run.{Writer}
 
--- an addition of this kind: the ruler's is the empty clause; the one ring learns clauses of a literal or more, adds the
--- lines of units, and derives the empty clause
+-- an addition of this kind by the one ring: it learns clauses of a literal or more, adds the lines of units, and derives the
+-- empty clause
 abbrev pub IsPlainAddition : Kind → Addition → Type 0
-IsPlainAddition Ruler x = (x.ring ≡ RULER_RING) × (x.lits ≡ [])
+IsPlainAddition Ruler x = ⊥
 IsPlainAddition Learn x = (x.ring ≡ 0) × (1 ≤ length x.lits)
 IsPlainAddition Derive x = (x.ring ≡ 0) × (x.lits ≡ [])
 IsPlainAddition UnitLine x = (x.ring ≡ 0) × (length x.lits ≡ 1)
 
--- an entry of the ruler, or of the one ring that searches: an addition, or the ring's deletion; nothing is reduced
+-- an entry of the one ring that searches: an addition, or a deletion; nothing is reduced
+abbrev pub IsRingsEntry : Entry → Type 0
+IsRingsEntry (Add x) = IsPlainAddition x.kind x
+IsRingsEntry (Del r n) = r ≡ 0
+IsRingsEntry (Reduce r) = ⊥
+
+-- an entry of the ruler, or of the one ring
 abbrev pub IsPlainEntry : Entry → Type 0
-IsPlainEntry (Add x) = IsPlainAddition x.kind x
-IsPlainEntry (Del r n) = r ≡ 0
-IsPlainEntry (Reduce r) = ⊥
+IsPlainEntry e = (is_rulers e ≡ true) ⊎ IsRingsEntry e
 
 -- a journal of this many rings: its numbers fit, each line is valid where it stands, nothing follows the empty clause,
 -- its lines can be spelled, what the ruler didn't write is of one of the rings, and each clause that a ring learned was new

@@ -10,8 +10,8 @@ pub mod Journaled
 pub mod Logged
 pub mod Decided
 pub mod Checked
+pub mod Ruled
 pub mod Searched
-pub mod Opened
 pub mod Begun
 pub mod Occurring
 pub mod Concluded

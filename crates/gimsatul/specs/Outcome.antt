@@ -21,6 +21,7 @@ use Rattle.gimsatul.specs.Answer.{answer_text, remarks_of}
 use Rattle.gimsatul.specs.Run.{Count, Writer, Output, Run, Call, run_of, HasFile, RoseIn, IsStill, Prints, PrintsPart}
 use Rattle.gimsatul.specs.Journaled.{IsJournal, IsUnrefuted, HoldsLog}
 use Rattle.gimsatul.specs.Decided.{Decides, IsDecided, IsFull}
+use Rattle.gimsatul.specs.Ruled.{IsRuled}
 use Rattle.gimsatul.specs.Tallied.{no_tally, ring_tally, room_tally, bad_tally}
 
 -- the proof's writer is there and holds the journal, and its last call was a flush, before which it had failed so often
@@ -47,12 +48,14 @@ pub record IsBroken (formula : FormulaData) (journal : List Entry) (tally : Tall
   pub counts : tally ≡ no_tally
   pub out : IsStill run.out.faults
 
--- the formula was made, or read without a fault, and the ring started; its journal stands, and has no more lemmas than the limit; the
+-- the formula was made, or read without a fault, and the search started; its journal stands, begins with what the ruler wrote in
+-- the rounds that the words allow, and has no more lemmas than the limit; the
 -- proof's writer had failed so often before its last flush; the tally has the number of lemmas
 pub record IsStarted (before : ℕ) (formula : FormulaData) (journal : List Entry) (tally : Tally) (run : Run) : Type 0 where
   pub given : WasGiven run.plan.make run.text formula
   pub source : IsStill run.source
   pub journal_stands : IsJournal 1 formula.clauses journal
+  pub ruled : IsRuled formula run.plan.rounds journal
   pub log : HasLog formula journal before run
   pub within : length (learned 0 journal) ≤ run.plan.limit
   pub counts : tally ≡ ring_tally (length (learned 0 journal))
@@ -96,6 +99,7 @@ pub record IsCrowded (lack : NoRoom) (formula : FormulaData) (journal : List Ent
   pub given : WasGiven run.plan.make run.text formula
   pub source : IsStill run.source
   pub journal_stands : IsJournal 1 formula.clauses journal
+  pub ruled : IsRuled formula run.plan.rounds journal
   pub log : HasLog formula journal 0 run
   pub fewer : length (learned 0 journal) < run.plan.limit
   pub unrefuted : IsUnrefuted journal

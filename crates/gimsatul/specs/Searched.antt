@@ -13,6 +13,8 @@ use Rattle.gimsatul.specs.declared.report.End.{End}
 use Rattle.gimsatul.specs.declared.report.End.TheVariants.{ProofFault, Room, Memory}
 use Rattle.gimsatul.specs.Journaled.{IsJournal, IsUnrefuted, HoldsText, IsCutShort}
 use Rattle.gimsatul.specs.Decided.{Decides, IsFull}
+use Rattle.gimsatul.specs.declared.plan.Plan.{Plan}
+use Rattle.gimsatul.specs.Ruled.{IsRuled}
 use Rattle.gimsatul.specs.Logged.{IsSameTold, IsFrontTold}
 
 -- a verdict that holds of the journal; or the end without one: where no write failed, neither is the
@@ -24,14 +26,16 @@ Concludes limit formula journal faults (Err (Room lack)) = (faults ≡ 0) × (le
 Concludes limit formula journal faults (Err Memory) = (faults ≡ 0) × (length (learned 0 journal) < limit) × IsUnrefuted journal
 Concludes limit formula journal faults (Err _) = ⊥
 
--- a search with this result, which counted so many lemmas, no more than may be learned, and left the proof's writer with
+-- a search with this result, which began with as many rounds of simplifiers as the plan has, counted so many lemmas, no more
+-- than may be learned, and left the proof's writer with
 -- these faults and bytes; where lines were kept and no write failed, they are the journal's
-pub record IsSearch (limit : ℕ) (formula : FormulaData) (verdict : Result Verdict End) (count : ℕ) (faults : ℕ) (written : Option (List ℕ)) (kept : Option (List Line)) : Type 0 where
+pub record IsSearch (plan : Plan) (formula : FormulaData) (verdict : Result Verdict End) (count : ℕ) (faults : ℕ) (written : Option (List ℕ)) (kept : Option (List Line)) : Type 0 where
   pub journal : List Entry
   pub stands : IsJournal 1 formula.clauses journal
+  pub ruled : IsRuled formula plan.rounds journal
   pub counts : count ≡ length (learned 0 journal)
-  pub within : count ≤ limit
-  pub conclusion : Concludes limit formula journal faults verdict
+  pub within : count ≤ plan.limit
+  pub conclusion : Concludes plan.limit formula journal faults verdict
   pub whole : faults ≡ 0 → HoldsText written (text (lines formula.clauses journal))
   pub short : (faults ≡ 0 → ⊥) → IsCutShort formula.clauses journal written
   pub keeps : faults ≡ 0 → IfSome kept (λ L. L ≡ lines formula.clauses journal)

@@ -82,6 +82,8 @@ pub record Command : Type 0 where
   pub conflicts : ℕ
   -- what the first phases are made of
   pub seed : ℕ
+  -- whether nothing is simplified but units
+  pub no_simplify : Bool
   -- where the proof goes, if it is wanted
   pub proof : Option (List ℕ)
   -- whether the log is checked
@@ -96,6 +98,7 @@ abbrev pub asked_by : Asked → Command
 asked_by asked = record {
   conflicts = asked.conflicts;
   seed = asked.seed;
+  no_simplify = asked.no_simplify;
   proof = option_copied asked.proof;
   check = asked.check;
   make = asked.make;
@@ -120,6 +123,7 @@ abbrev pub command_in : List Row → Command
 command_in rows = record {
   conflicts = number_in (one_of (codes "conflicts") rows);
   seed = number_in (one_of (codes "seed") rows);
+  no_simplify = flag_in (first_of (codes "no-simplify") rows);
   proof = first_of (codes "proof") rows;
   check = flag_in (first_of (codes "check") rows);
   make = option_map number_of (one_of (codes "make") rows);

@@ -14,7 +14,6 @@ mod laws;
 mod log_lines;
 mod message;
 mod occurring;
-mod opening;
 mod plan;
 mod remarks;
 mod report;

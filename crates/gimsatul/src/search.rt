@@ -1,27 +1,28 @@
-// The search: one ring over the formula, whose lines go to the proof.
-ghost use Rattle.std.specs.Prelude.{◌≡◌, ◌<◌, ◌≤◌, ◌^◌, All, IfOk, IfErr, OnOk, is_some, length, true, map, [], Err, None};
-ghost use Rattle.std.specs.List.{list_any};
+// The search: the ruler over the formula, and one ring over what it leaves. Their lines go to the proof.
+ghost use Rattle.std.specs.Prelude.{◌≡◌, ◌<◌, ◌≤◌, ◌^◌, All, IfOk, OnOk, is_some, Ok, Err, None};
 ghost use Rattle.std.specs.Option.{option_map};
 ghost use Rattle.io_edge.specs.Paths.{IsEmptyWhereTold};
-ghost use Rattle.sat_words.specs.Clause.{is_empty};
 ghost use Rattle.sat_words.specs.Literal.{IsOn};
 ghost use Rattle.ring_run.specs.Ended.{IsJobOf};
 ghost use Rattle.gimsatul.specs.declared.report.End.TheVariants.{Memory};
 ghost use Rattle.gimsatul.specs.Logged.{logged_by, TellsKept};
 ghost use Rattle.gimsatul.specs.Planned.{kept_formula};
+ghost use Rattle.ruler_simp.specs.declared.ruling.Outcome.TheVariants.{Simplified as LeftOver};
+ghost use Rattle.gimsatul.specs.Ruled.{WasRuled};
 ghost use Rattle.gimsatul.specs.Searched.{IsSearch, HasClosed};
 
-use crate::conclude::verdict_of;
+use crate::conclude::{end_of_stop, verdict_of};
 use crate::log_lines::LogLines;
 use crate::occurring::occurring_in;
 use crate::plan::Plan;
 use crate::report::{End, Verdict};
-use crate::start::{has_empty, open_port};
-use drat_text::{LineOut, LineStop, text_determines_lines};
+use crate::start::open_port;
+use drat_text::text_determines_lines;
 use io_edge::{Failed, Sink};
 use ring_port::PlainPort;
 use ring_run::{Addresses, Job, run_ring};
-use sat_words::{Formula, Line, Lits};
+use ruler_simp::{Outcome, Simplified, simplify};
+use sat_words::{Formula, Line};
 use std::alloc::{AllocError, Global};
 
 /// A verdict or the end without one, how many lemmas were learned, what was kept, and the proof's sink.
@@ -100,33 +101,6 @@ fn keep(plan: &Plan, formula: Formula) -> Option<Formula>
     }
 }
 
-/// Writes the empty clause, which the formula has.
-fn refute<P: Sink>(alloc: Global, formula: Formula, plan: &Plan, proof: P) -> Searched<P>
-    requires some { 1 ≤ plan.now.limit }
-    requires given { list_any is_empty formula.clauses ≡ true }
-    requires on_variables { All (All (IsOn formula.vars)) formula.clauses }
-    requires empty { IsEmptyWhereTold (P.written proof) }
-    requires quiet { P.faults proof ≡ 0 }
-    ensures searched { IsSearch plan.now.limit formula result.verdict result.learned (P.faults result.proof) (P.written result.proof) (option_map (λ v. v.items) result.kept.lines) }
-    ensures formula { OnOk result.verdict (result.kept.formula ≡ kept_formula plan.now formula) }
-    ensures lines { OnOk result.verdict (is_some result.kept.lines ≡ plan.now.check) }
-    ensures target { P.target result.proof ≡ P.target proof }
-{
-    // So lines that were kept are the log's.
-    text_determines_lines();
-    let mut lines = match LogLines::new(alloc, formula.clauses().len() as u64, plan.check, proof) {
-        Ok(lines) => lines,
-        Err(refused) => return Searched::starved(refused.value),
-    };
-    let verdict = match lines.put(&Line::Add(Lits::from_vec(Vec::new(alloc)))) {
-        Ok(_) => Ok(Verdict::Unsatisfiable),
-        Err(LineStop::ProofFault) => Err(End::ProofFault),
-        Err(LineStop::Full) => unreachable!(),
-        Err(LineStop::Memory) => Err(End::Memory),
-    };
-    close(lines, keep(plan, formula), verdict, 0)
-}
-
 /// The part of ring 0, which searches alone.
 fn job_of<P: Sink>(
     alloc: Global,
@@ -153,38 +127,71 @@ fn job_of<P: Sink>(
     })
 }
 
-/// Searches for a model of the formula, and writes each lemma to the proof. It learns at most the plan's limit of lemmas.
-/// The formula is let go before the ring starts, unless it is wanted behind a verdict.
+/// Searches over what the ruler left. The formula is let go before the ring starts, unless it is wanted behind a verdict.
+fn search_left<P: Sink>(
+    alloc: Global,
+    formula: Formula,
+    plan: &Plan,
+    left: Simplified,
+    lines: LogLines<P>,
+) -> Searched<P>
+    requires few { formula.vars < 2 ^ 28 }
+    requires on_variables { All (All (IsOn formula.vars)) formula.clauses }
+    requires some { 1 ≤ plan.now.limit }
+    requires ruled { WasRuled plan.now.check formula plan.now.rounds (logged_by P.written P.flushed P.target P.faults lines) (Ok (LeftOver left)) }
+    ensures searched { IsSearch plan.now formula result.verdict result.learned (P.faults result.proof) (P.written result.proof) (option_map (λ v. v.items) result.kept.lines) }
+    ensures formula { OnOk result.verdict (result.kept.formula ≡ kept_formula plan.now formula) }
+    ensures lines { OnOk result.verdict (is_some result.kept.lines ≡ plan.now.check) }
+    ensures target { P.target result.proof ≡ P.target lines.lines.sink }
+{
+    // So lines that were kept are the log's.
+    text_determines_lines();
+    let vars = formula.vars();
+    let Ok(occurring) = occurring_in(alloc, formula.clauses(), vars) else {
+        return close(lines, None, Err(End::Memory), 0);
+    };
+    let formula = keep(plan, formula);
+    let Simplified {
+        start,
+        units,
+        stack,
+    } = left;
+    let mut port = match open_port(alloc, vars, start, units, lines) {
+        Ok(port) => port,
+        Err(refused) => return close(refused.value, None, Err(End::Memory), 0),
+    };
+    let Ok(job) = job_of(alloc, &port, vars, plan) else {
+        return close(port.into_lines(), None, Err(End::Memory), 0);
+    };
+    let (end, counts) = run_ring(alloc, &mut port, &job);
+    let lines = port.into_lines();
+    let verdict = verdict_of(occurring, vars, &stack, end);
+    close(lines, formula, verdict, counts.learned)
+}
+
+/// Simplifies the formula in the plan's rounds, searches for a model of what is left, and writes each line to the proof. It
+/// learns at most the plan's limit of lemmas.
 pub fn search<P: Sink>(alloc: Global, formula: Formula, plan: &Plan, proof: P) -> Searched<P>
     requires few { formula.vars < 2 ^ 28 }
     requires on_variables { All (All (IsOn formula.vars)) formula.clauses }
     requires empty { IsEmptyWhereTold (P.written proof) }
     requires quiet { P.faults proof ≡ 0 }
     requires some { 1 ≤ plan.now.limit }
-    ensures searched { IsSearch plan.now.limit formula result.verdict result.learned (P.faults result.proof) (P.written result.proof) (option_map (λ v. v.items) result.kept.lines) }
+    ensures searched { IsSearch plan.now formula result.verdict result.learned (P.faults result.proof) (P.written result.proof) (option_map (λ v. v.items) result.kept.lines) }
     ensures formula { OnOk result.verdict (result.kept.formula ≡ kept_formula plan.now formula) }
     ensures lines { OnOk result.verdict (is_some result.kept.lines ≡ plan.now.check) }
     ensures target { P.target result.proof ≡ P.target proof }
 {
-    if has_empty(formula.clauses()) {
-        return refute(alloc, formula, plan, proof);
-    }
     // So lines that were kept are the log's.
     text_determines_lines();
-    let vars = formula.vars();
-    let Ok(occurring) = occurring_in(alloc, formula.clauses(), vars) else {
-        return Searched::starved(proof);
-    };
-    let mut port = match open_port(alloc, &formula, plan.check, proof) {
-        Ok(port) => port,
+    let lines = match LogLines::new(alloc, formula.clauses().len() as u64, plan.check, proof) {
+        Ok(lines) => lines,
         Err(refused) => return Searched::starved(refused.value),
     };
-    let formula = keep(plan, formula);
-    let Ok(job) = job_of(alloc, &port, vars, plan) else {
-        return close(port.into_lines(), formula, Err(End::Memory), 0);
-    };
-    let (end, counts) = run_ring(alloc, &mut port, &job);
-    let lines = port.into_lines();
-    let verdict = verdict_of(occurring, vars, end);
-    close(lines, formula, verdict, counts.learned)
+    let (outcome, lines) = simplify(alloc, &formula, plan.rounds, lines);
+    match outcome {
+        Ok(Outcome::Simplified(left)) => search_left(alloc, formula, plan, left, lines),
+        Ok(Outcome::Refuted) => close(lines, keep(plan, formula), Ok(Verdict::Unsatisfiable), 0),
+        Err(stop) => close(lines, None, Err(end_of_stop(stop)), 0),
+    }
 }

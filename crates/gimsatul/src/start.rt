@@ -1,63 +1,49 @@
-// How the ring's port begins.
-ghost use Rattle.std.specs.Prelude.{◌≡◌, ◌≤◌, ◌<◌, ◌^◌, [], true, false, All, IfOk, IfErr, length};
+// How the ring's port begins, over what the ruler left.
+ghost use Rattle.std.specs.Prelude.{◌≡◌, ◌++◌, ◌∷◌, [], false, ℕ, List, All, IfOk, IfErr, OnOk};
 ghost use Rattle.std.specs.List.{list_any};
-ghost use Rattle.io_edge.specs.Paths.{IsEmptyWhereTold};
-ghost use Rattle.sat_words.specs.Clause.{is_empty, InOrder};
-ghost use Rattle.sat_words.specs.Literal.{IsOn};
-ghost use Rattle.gimsatul.specs.Begun.{Begins, begun_lines};
+ghost use Rattle.sat_words.specs.Literal.{Literal};
+ghost use Rattle.sat_words.specs.Clause.{is_empty};
+ghost use Rattle.rup_model.specs.declared.journal.Entry.{Entry};
+ghost use Rattle.ring_port.specs.PortState.{IsOn};
+ghost use Rattle.ring_port.specs.PlainPort.{OpensOver, CanOpen, starts_of, begun_with};
 ghost use Rattle.gimsatul.specs.Logged.{logged_by};
+ghost use Rattle.gimsatul.specs.Begun.{HasOpened};
 
 use crate::log_lines::LogLines;
-use crate::opening::{starts_of, units_of};
 use io_edge::Sink;
-use ring_port::PlainPort;
-use sat_words::{Clause, Formula, a_clause_is_a_set};
-use std::alloc::{AllocFailed, Global};
+use ring_port::{PlainPort, Starts};
+use sat_words::{Clause, Lit};
+use std::alloc::{AllocError, AllocFailed, Global};
 
-/// Whether a clause is empty.
-pub(crate) fn has_empty(clauses: &[Clause]) -> bool
-    ensures empty { result ≡ list_any is_empty clauses.now }
-    ensures ordered { result ≡ false → All InOrder clauses.now }
+/// The start clauses as the port takes them.
+fn starts_of(alloc: Global, clauses: &[(u64, Clause)]) -> Result<Starts, AllocError>
+    ensures { IfOk result (λ starts. starts ≡ clauses.now) }
 {
-    a_clause_is_a_set();
-    for clause in clauses {
-        if clause.lits().is_empty() {
-            return true;
-        }
+    let mut starts = Starts::new(alloc);
+    for (number, clause) in clauses {
+        starts.push(*number, clause.lits())?;
     }
-    false
+    Ok(starts)
 }
 
-/// The port of the one ring over the formula, whose lines are kept where `keep` says so. Refused for memory it gives the sink
-/// back.
+/// The port of the one ring over these start clauses, each with its number, and these units, whose lines go on where the
+/// ruler's end. The clauses are copied, and let go. Refused for memory it gives the lines back.
 pub(crate) fn open_port<S: Sink>(
     alloc: Global,
-    formula: &Formula,
-    keep: bool,
-    proof: S,
-) -> Result<PlainPort<LogLines<S>>, AllocFailed<S>>
-    requires few { formula.now.vars < 2 ^ 28 }
-    requires on_variables { All (All (IsOn formula.now.vars)) formula.now.clauses }
-    requires going { list_any is_empty formula.now.clauses ≡ false }
-    requires ordered { All InOrder formula.now.clauses }
-    requires empty { IsEmptyWhereTold (S.written proof) }
-    ensures begins { IfOk result (λ port. Begins formula.now (logged_by S.written S.flushed S.target S.faults (begun_lines keep formula.now proof)) port) }
-    ensures back { IfErr result (λ refused. refused.value ≡ proof) }
+    vars: u32,
+    start: Vec<(u64, Clause)>,
+    units: Vec<Lit>,
+    lines: LogLines<S>,
+) -> Result<PlainPort<LogLines<S>>, AllocFailed<LogLines<S>>>
+    requires opening { CanOpen (starts_of start.items) units.items (logged_by S.written S.flushed S.target S.faults lines) }
+    requires unspent { (logged_by S.written S.flushed S.target S.faults lines).spent ≡ false }
+    requires starts_on { All (λ s. All (IsOn vars) s.1) start.items }
+    requires units_on { All (IsOn vars) units.items }
+    ensures opened { IfOk result (λ port. HasOpened vars start.items units.items (logged_by S.written S.flushed S.target S.faults lines) port) }
+    ensures back { IfErr result (λ refused. refused.value ≡ lines) }
 {
-    let vars = formula.vars();
-    let clauses = formula.clauses();
-    let Ok(starts) = starts_of(alloc, clauses) else {
-        return Err(AllocFailed { value: proof });
+    let Ok(starts) = starts_of(alloc, start.as_slice()) else {
+        return Err(AllocFailed { value: lines });
     };
-    let Ok(units) = units_of(alloc, clauses, vars) else {
-        return Err(AllocFailed { value: proof });
-    };
-    let lines = LogLines::new(alloc, clauses.len() as u64, keep, proof)?;
-    match PlainPort::new(alloc, vars, starts, units, lines) {
-        Ok(port) => Ok(port),
-        Err(refused) => {
-            let (_, value, _) = refused.value.finish();
-            Err(AllocFailed { value })
-        }
-    }
+    PlainPort::new(alloc, vars, starts, units, lines)
 }

@@ -3,7 +3,7 @@ ghost use Rattle.std.specs.Prelude.{◌≡◌, ◌≤◌, ◌⊎◌, Bool, true,
 ghost use Rattle.io_edge.specs.Causes.{HasCause};
 ghost use Rattle.io_edge.specs.Paths.{IsEmptyWhereTold, IsThere};
 ghost use Rattle.gimsatul.specs.Words.{command_of, file_path, make_number, proof_path};
-ghost use Rattle.gimsatul.specs.Planned.{plan_of};
+ghost use Rattle.gimsatul.specs.Planned.{plan_of, rounds_of};
 ghost use Rattle.gimsatul.specs.Run.{target_in, text_left, source_in, writer_of, IsOpened};
 ghost use Rattle.gimsatul.specs.Outcome.{IsCall, IsRun};
 ghost use Rattle.gimsatul.specs.Tallied.{no_tally};
@@ -12,7 +12,7 @@ ghost use Rattle.gimsatul.specs.Statuses.{Statuses};
 
 use crate::decide::{Decided, decide_made, decide_over};
 use crate::message::put_message;
-use crate::plan::Plan;
+use crate::plan::{Plan, rounds_of};
 use crate::report::{End, Report, Tally};
 use crate::words::{Command, parse};
 use dimacs_read::read_or_bad;
@@ -179,11 +179,12 @@ fn decide<R: Source, I: Source, W: Sink, O: Sink>(
 
 /// How the words ask that a formula is decided.
 fn plan_in(command: &Command<'_>) -> Plan
-    ensures { result ≡ record { limit = command.now.conflicts; seed = command.now.seed; check = command.now.check; make = command.now.make } }
+    ensures { result ≡ record { limit = command.now.conflicts; seed = command.now.seed; rounds = rounds_of command.now.no_simplify; check = command.now.check; make = command.now.make } }
 {
     Plan {
         limit: command.conflicts,
         seed: command.seed,
+        rounds: rounds_of(command.no_simplify),
         check: command.check,
         make: command.make,
     }

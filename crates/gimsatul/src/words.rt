@@ -27,6 +27,8 @@ pub struct Command<'a> {
     pub conflicts: u64,
     /// What the ring's first phases are made of.
     pub seed: u64,
+    /// Whether nothing is simplified but units.
+    pub no_simplify: bool,
     /// Where the proof goes, if it is wanted.
     pub proof: Option<&'a str>,
     /// Whether the log is checked.
@@ -152,6 +154,16 @@ fn seed_in(matches: &ArgMatches<'_>) -> u64
     }
 }
 
+/// Whether nothing is simplified but units.
+fn no_simplify_in(matches: &ArgMatches<'_>) -> bool
+    ensures { result ≡ (command_in (rows_of (found_of matches.now))).no_simplify }
+{
+    match matches.get_str("no-simplify") {
+        Some(value) => value == "true",
+        None => false,
+    }
+}
+
 /// Whether the log is checked.
 fn check_in(matches: &ArgMatches<'_>) -> bool
     ensures { result ≡ (command_in (rows_of (found_of matches.now))).check }
@@ -184,6 +196,7 @@ fn command_in<'a>(matches: &ArgMatches<'a>) -> Command<'a>
     Command {
         conflicts: conflicts_in(matches),
         seed: seed_in(matches),
+        no_simplify: no_simplify_in(matches),
         proof: matches.get_str("proof"),
         check: check_in(matches),
         make: make_in(matches),

@@ -4,4 +4,4 @@ mod Turning
 mod Units
 mod Numbered
 mod Leaving
-mod Telling
+pub mod Telling

@@ -14,7 +14,11 @@ fn learns_from_the_third_clause(rt: HostRuntime) -> Result<(), Fail> {
     trail.decide(Lit::new(4, false));
     trail.assign(Lit::new(5, false), Some(Cref { address: 2 }));
     let mut analysis = Analysis::new(rt.alloc(), 5)?;
-    let conclusion = analysis.analyze(&mut SamplePort { stage: 0, loads: 0 }, &trail, Cref { address: 3 });
+    let conclusion = analysis.analyze(
+        &mut SamplePort { stage: 0, loads: 0 },
+        &trail,
+        Cref { address: 3 },
+    );
     assert_eq!(rt; conclusion, Conclusion::Lemma { back: 1, glue: 1 });
     let lits = analysis.lits();
     assert_eq!(rt; lits.len(), 2);
@@ -32,7 +36,11 @@ fn learns_from_the_second_clause(rt: HostRuntime) -> Result<(), Fail> {
     trail.decide(Lit::new(4, false));
     trail.assign(Lit::new(5, true), Some(Cref { address: 3 }));
     let mut analysis = Analysis::new(rt.alloc(), 5)?;
-    let conclusion = analysis.analyze(&mut SamplePort { stage: 0, loads: 0 }, &trail, Cref { address: 2 });
+    let conclusion = analysis.analyze(
+        &mut SamplePort { stage: 0, loads: 0 },
+        &trail,
+        Cref { address: 2 },
+    );
     assert_eq!(rt; conclusion, Conclusion::Lemma { back: 1, glue: 1 });
     let lits = analysis.lits();
     assert_eq!(rt; lits.len(), 2);

@@ -17,7 +17,6 @@ pub struct SamplePort {
     pub loads: u64,
 }
 
-
 fn other_stop() -> Stop
     ensures { Some result ≡ sample_state.stop }
 {

@@ -1,8 +1,9 @@
 """Checks the built program against exhaustive search and a naive DRAT checker, both of their own.
 
-Seeded random formulas of up to 16 variables, pigeonhole formulas and formulas with the empty clause go through the
-program with `--proof`, half of them with `--check`, half of them with a seed, most of them in odd spellings, on standard input or as a file. Its answer is compared with a truth
-table, its `v` lines with the clauses and the format, and every line of its proof with the definition of DRAT. Before
+Seeded random formulas of up to 16 variables, chains of equivalences, gates, colourings, pigeonhole formulas and formulas with
+the empty clause go through the program with `--proof`, each simplified and with `--no-simplify`, half of the runs with
+`--check` and half with a seed, most formulas in odd spellings, on standard input or as a file. Its answer is compared with a
+truth table, its `v` lines with the clauses and the format, and every line of its proof with the definition of DRAT. Before
 that, a damaged proof and a wrong model are tried, which must be caught. Real files that fail, refused words and refused
 inputs bring the program to each status but 8 and 9, and each time the folder that it runs in must have no file but those
 that were to be there. Nothing here shares code with the program.
@@ -18,6 +19,7 @@ import time
 
 SEED = 20261126
 RANDOM_FORMULAS = 300
+STRUCTURED_FORMULAS = 20
 MOST_VARIABLES = 16
 SECONDS = 100
 LINE = re.compile(r"(d )?((?:-?[1-9][0-9]* )*)0")
@@ -86,6 +88,38 @@ def oddly_spelled(rng, variables, clauses):
     if end == "" and not words:
         end = newline
     return (text + end).encode()
+
+
+def equivalences(rng):
+    """A chain of literals that are all equivalent, and clauses on some of them."""
+    variables = rng.randint(4, 14)
+    chain = [v if rng.random() < 0.5 else -v for v in rng.sample(range(1, variables + 1), variables)]
+    clauses = [c for a, b in zip(chain, chain[1:]) for c in ([-a, b], [a, -b])]
+    return variables, clauses + [[l if rng.random() < 0.5 else -l for l in rng.sample(chain, 3)] for _ in range(rng.randint(0, 4))]
+
+
+def gates(rng):
+    """Gates of two inputs, each input a variable before it, and what two of the outputs are to be."""
+    inputs, count = 3, rng.randint(3, 11)
+    clauses = []
+    for g in range(inputs + 1, inputs + count + 1):
+        a, b = (v if rng.random() < 0.5 else -v for v in rng.sample(range(1, g), 2))
+        if rng.random() < 0.5:
+            clauses += [[-g, a], [-g, b], [g, -a, -b]]
+        else:
+            clauses += [[-g, a, b], [-g, -a, -b], [g, -a, b], [g, a, -b]]
+    return inputs + count, clauses + [[rng.choice([-1, 1]) * v] for v in rng.sample(range(inputs + 1, inputs + count + 1), 2)]
+
+
+def colouring(rng):
+    """A graph of few nodes, to be coloured with three colours."""
+    nodes = rng.randint(3, 5)
+    clauses = [[3 * n + 1, 3 * n + 2, 3 * n + 3] for n in range(nodes)]
+    for n in range(nodes):
+        for m in range(n):
+            if rng.random() < 0.7:
+                clauses += [[-(3 * n + c), -(3 * m + c)] for c in (1, 2, 3)]
+    return 3 * nodes, clauses
 
 
 def is_satisfiable(variables, clauses):
@@ -226,10 +260,12 @@ def check_answer(variables, clauses, status, out, err, proof, satisfiable, check
         raise Wrong("status %d" % status)
 
 
-def run(program, folder, variables, clauses, satisfiable, text, from_file, checked, seed):
-    """Runs the program on the text, as a file or on standard input, lets it check its log or not, and gives it a seed or none."""
+def run(program, folder, variables, clauses, satisfiable, text, from_file, checked, seed, simplified):
+    """Runs the program on the text, as a file or on standard input, lets it check its log or not, gives it a seed or none, and
+    lets it simplify or not."""
     path = os.path.join(folder, "proof")
-    words = [program, "--proof", path] + ["--check"] * checked + ([] if seed is None else ["--seed", str(seed)])
+    words = [program, "--proof", path] + ["--check"] * checked + ["--no-simplify"] * (not simplified)
+    words += [] if seed is None else ["--seed", str(seed)]
     if from_file:
         words.append(os.path.join(folder, "input"))
         with open(words[-1], "wb") as file:
@@ -317,7 +353,7 @@ def statuses():
     made = "c vars 20000\nc clauses 60000\n"
     yield Case(0, ["--conflicts", "1", "--make", "7"], b"1 0\n", stdout=made + "s UNKNOWN\n")
     accepted = "c proof accepted\n"
-    yield Case(0, ["--make", "0", "--check", "--conflicts", "1"], stdout=made + accepted + "s UNKNOWN\n")
+    yield Case(0, ["--make", "0", "--check", "--conflicts", "1", "--no-simplify"], stdout=made + accepted + "s UNKNOWN\n")
     yield Case(0, ["--conflicts", "9", "--check", "input"], MODEL, pigeonhole, stdout=accepted + "s UNKNOWN\n", here=["input"])
     yield Case(10, [], MODEL, stdout="s SATISFIABLE\nv -1 2 0\n")
     yield Case(20, ["input"], MODEL, REFUTED, stdout="s UNSATISFIABLE\n", here=["input"])
@@ -398,6 +434,10 @@ def cases(rng):
     for _ in range(RANDOM_FORMULAS):
         variables, clauses = random_formula(rng)
         yield variables, clauses, is_satisfiable(variables, clauses)
+    for make in [equivalences, gates, colouring]:
+        for _ in range(STRUCTURED_FORMULAS):
+            variables, clauses = make(rng)
+            yield variables, clauses, is_satisfiable(variables, clauses)
     yield 0, [], True
     yield 0, [[]], False
     yield 3, [[1, 2], [], [3]], False
@@ -432,11 +472,13 @@ def main():
             tried += 1
             odd = rng.random() < 0.7
             text = oddly_spelled(rng, variables, clauses) if odd else spelled(variables, clauses)
-            try:
-                run(program, folder, variables, clauses, satisfiable, text, rng.random() < 0.5, rng.random() < 0.5, rng.choice([None, rng.getrandbits(63)]))
-            except Wrong as fault:
-                wrong += 1
-                print("wrong: %s\n%s" % (fault, text.decode("ascii")))
+            for simplified in [True, False]:
+                seed = rng.choice([None, rng.getrandbits(63)])
+                try:
+                    run(program, folder, variables, clauses, satisfiable, text, rng.random() < 0.5, rng.random() < 0.5, seed, simplified)
+                except Wrong as fault:
+                    wrong += 1
+                    print("wrong: %s\n%s" % (fault, text.decode("ascii")))
     print("crosscheck: %d tried, %d wrong" % (tried, wrong))
     return 1 if wrong else 0
 

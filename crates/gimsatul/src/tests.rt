@@ -219,13 +219,13 @@ fn models(rt: HostRuntime) -> Result<(), Fail> {
         Row {
             input: b"c x\np cnf 3 3\n1 0 -1 2\n0 -2 -3 0\n",
             out: b"s SATISFIABLE\nv 1 2 -3 0\n",
-            proof: Some(b"2 0\n-3 0\n"),
+            proof: Some(b"2 0\n-3 0\nd -1 2 0\nd -2 -3 0\n"),
             ..MODEL
         },
         Row {
             input: b"p cnf 2 3\n1 1 0\n2 -2 0\n-1 -2 -2 0",
             out: b"s SATISFIABLE\nv 1 -2 0\n",
-            proof: Some(b"-2 0\n"),
+            proof: Some(b"-2 0\nd -1 -2 0\n"),
             ..MODEL
         },
         Row {
@@ -239,6 +239,21 @@ fn models(rt: HostRuntime) -> Result<(), Fail> {
             out: b"s SATISFIABLE\nv 1 -2 -3 0\n",
             ..MODEL
         },
+        // Every clause is taken away, and the stack gives the values back.
+        Row {
+            input: b"p cnf 3 4\n1 2 0\n-1 2 0\n-2 3 0\n-3 -1 0\n",
+            out: b"s SATISFIABLE\nv -1 2 3 0\n",
+            proof: Some(b"2 0\nd -1 2 0\n2 -3 0\nd 1 2 0\nd -1 -3 0\nd -2 3 0\nd 2 -3 0\n"),
+            ..MODEL
+        },
+        // Only units are simplified.
+        Row {
+            words: &["--no-simplify"],
+            input: b"p cnf 3 4\n1 2 0\n-1 2 0\n-2 3 0\n-3 -1 0\n",
+            out: b"s SATISFIABLE\nv -1 2 3 0\n",
+            compares_proof: false,
+            ..MODEL
+        },
     ];
     check_rows(&rt, &rows)
 }
@@ -246,8 +261,8 @@ fn models(rt: HostRuntime) -> Result<(), Fail> {
 #[test]
 fn a_seed_gives_the_first_phases(rt: HostRuntime) -> Result<(), Fail> {
     let row = Row {
+        words: &["--no-simplify"],
         input: b"p cnf 8 4\n1 2 0\n3 4 0\n5 6 0\n7 8 0\n",
-        compares_proof: false,
         ..MODEL
     };
     let rows = [
@@ -256,12 +271,12 @@ fn a_seed_gives_the_first_phases(rt: HostRuntime) -> Result<(), Fail> {
             ..row
         },
         Row {
-            words: &["--seed", "1"],
+            words: &["--no-simplify", "--seed", "1"],
             out: b"s SATISFIABLE\nv 1 2 3 -4 5 -6 7 -8 0\n",
             ..row
         },
         Row {
-            words: &["--seed", "2"],
+            words: &["--no-simplify", "--seed", "2"],
             out: b"s SATISFIABLE\nv 1 -2 3 4 5 -6 -7 8 0\n",
             ..row
         },
@@ -298,6 +313,12 @@ fn refutations(rt: HostRuntime) -> Result<(), Fail> {
             ..refuted
         },
         Row {
+            input: b"p cnf 2 4\n1 2 0\n1 -2 0\n-1 2 0\n-1 -2 0\n",
+            proof: Some(b"1 0\nd 1 -2 0\n2 0\nd -1 2 0\n0\n"),
+            ..refuted
+        },
+        Row {
+            words: &["--no-simplify", "--proof", "P"],
             input: b"p cnf 2 4\n1 2 0\n1 -2 0\n-1 2 0\n-1 -2 0\n",
             proof: Some(b"2 0\n0\n"),
             learned: &[1],
@@ -605,6 +626,7 @@ fn faults_of_the_proof(rt: HostRuntime) -> Result<(), Fail> {
         ..MODEL
     };
     let two_lines = Row {
+        words: &["--no-simplify", "--proof", "P"],
         input: b"p cnf 2 4\n1 2 0\n1 -2 0\n-1 2 0\n-1 -2 0\n",
         learned: &[1],
         ..unproved
@@ -633,6 +655,12 @@ fn faults_of_the_proof(rt: HostRuntime) -> Result<(), Fail> {
         two_lines,
         Row {
             proof_fails: &[1, 2],
+            ..two_lines
+        },
+        // The ruler's lines fail, which come to the empty clause.
+        Row {
+            words: &["--proof", "P"],
+            learned: &[0],
             ..two_lines
         },
     ];
@@ -664,7 +692,7 @@ fn six_pigeons_in_five_holes(rt: HostRuntime) -> Result<(), Fail> {
         status: 20,
         out: b"s UNSATISFIABLE\n",
         compares_proof: false,
-        learned: &[141],
+        learned: &[140],
         ..PLAIN
     };
     check_row(&rt, row, 65536)
@@ -705,7 +733,7 @@ fn checked_logs(rt: HostRuntime) -> Result<(), Fail> {
             status: 20,
             out: b"c proof accepted\ns UNSATISFIABLE\n",
             compares_proof: false,
-            learned: &[141],
+            learned: &[140],
             ..PLAIN
         },
     ];
@@ -715,14 +743,15 @@ fn checked_logs(rt: HostRuntime) -> Result<(), Fail> {
     Ok(())
 }
 
-/// The formula of number 7 is made in place of an input, of which nothing is read. What is printed of it is the same each time,
-/// and its model is reported alone.
+/// The formula of number 7 is made in place of an input, of which nothing is read. What is printed of it is the same with the
+/// ruler and without it, and its model is reported alone.
 #[test]
 fn a_formula_that_is_made(rt: HostRuntime) -> Result<(), Fail> {
     let alloc = rt.alloc();
-    let words = words_of(alloc, &["--make", "7"])?;
-    for _run in 0..2 {
-        let spare = MemSink::new(alloc, 1 << 20, NEVER)?;
+    let table: [&[&str]; 2] = [&["--make", "7"], &["--make", "7", "--no-simplify"]];
+    for words in table {
+        let words = words_of(alloc, words)?;
+        let spare = MemSink::new(alloc, 1 << 22, NEVER)?;
         let mut files = MemFiles::new(alloc, &[], Vec::new(alloc), spare, FIRST);
         let mut input = MemSource::in_pieces(NOTHING, 65536, FIRST);
         let mut out = MemSink::new(alloc, ROOM, NEVER)?;

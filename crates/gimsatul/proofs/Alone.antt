@@ -90,7 +90,7 @@ module _ (plan : Plan) (F : FormulaData) (keep : Bool) (now : LineState) (result
   }
 
   ruled : IsRuled F plan.rounds J
-  ruled = record { output = was.before; work = was.ruled.work; result = run_of result; ran = subst (SimplifiedTo plan.rounds (begun F was.before) was.ruled.work (run_of result)) (sym ruler_part_is) was.ruled.ran; alone = λ _. rings_part_is }
+  ruled = record { output = was.before; unspent = was.blank.unspent; none = was.blank.none; last = was.blank.last; work = was.ruled.work; result = run_of result; ran = subst (SimplifiedTo plan.rounds (begun F was.before) was.ruled.work (run_of result)) (sym ruler_part_is) was.ruled.ran; alone = λ _. rings_part_is }
 
   none_learned : 0 ≡ length (learned 0 J)
   none_learned = sym (ap length (rulers_learned 0 J rulers))
@@ -182,17 +182,17 @@ untouched plan F faults written few on some quiet empty =
     let old : LineState = record { entries = 0; last = length F.clauses; faults = faults; written = written; flushed = None; target = None; spent = false } in
     let was : WasRuled false F plan.rounds old (Err stop.Memory) = record {
       before = old;
-      blank = record { empty = empty; quiet = quiet; flushed = refl };
+      blank = record { empty = empty; quiet = quiet; unspent = refl; none = refl; last = refl; flushed = refl };
       ruled = none_made F plan.rounds old refl refl refl on old refl;
     } in
     stopped plan F false old (Err stop.Memory) few on some was stop.Memory refl
 
 -- what the ruler came to, where its lines began with none put
 pub was_ruled : (keep : Bool) (F : FormulaData) (rounds faults : ℕ) (written : Option (List ℕ)) (before now : LineState) (result : Result Outcome LineStop)
-    → before.written ≡ told_bytes (if keep then Some [] else None) (append_known written []) → before.faults ≡ faults → before.flushed ≡ kept_mark (begun_kept keep) → IsEmptyWhereTold written → faults ≡ 0
+    → before.written ≡ told_bytes (if keep then Some [] else None) (append_known written []) → before.faults ≡ faults → before.flushed ≡ kept_mark (begun_kept keep) → before.spent ≡ false → before.entries ≡ 0 → before.last ≡ length F.clauses → IsEmptyWhereTold written → faults ≡ 0
     → Ruled F rounds before now result → WasRuled keep F rounds now result
-was_ruled keep F rounds faults written before now result bytes counts flushed empty quiet ruled = record {
+was_ruled keep F rounds faults written before now result bytes counts flushed unspent none last empty quiet ruled = record {
   before = before;
-  blank = record { empty = subst IsEmptyWhereTold (sym bytes) (begun_empty keep written empty); quiet = counts ∙ quiet; flushed = flushed };
+  blank = record { empty = subst IsEmptyWhereTold (sym bytes) (begun_empty keep written empty); quiet = counts ∙ quiet; unspent = unspent; none = none; last = last; flushed = flushed };
   ruled = ruled;
 }

@@ -196,6 +196,9 @@ module _ (plan : Plan) (formula : FormulaData) (keep : Bool) (output : LineState
   ruled : IsRuled formula plan.rounds J
   ruled = record {
     output = was.before;
+    unspent = was.blank.unspent;
+    none = was.blank.none;
+    last = was.blank.last;
     work = was.ruled.work;
     result = Ok Done;
     ran = subst (SimplifiedTo plan.rounds (begun formula was.before) was.ruled.work (Ok Done)) (sym ruler) was.ruled.ran;

@@ -1,5 +1,5 @@
 -- How the port of the one ring stands over a formula before and after the search.
-use Rattle.std.specs.Prelude.{◌≡◌, ℕ, Bool, true, false, List, [], length, Some, None, if◌then◌else◌}
+use Rattle.std.specs.Prelude.{◌≡◌, ℕ, Bool, true, false, List, [], Some, None, if◌then◌else◌}
 use Rattle.std.specs.List.{list_any}
 use Rattle.sat_words.specs.Literal.{Literal}
 use Rattle.sat_words.specs.Clause.{has, is_empty}
@@ -15,7 +15,6 @@ use Rattle.ring_port.specs.PlainPort.{OpensOver, starts_of, begun_with}
 use Rattle.ring_port.specs.Log.{Origin, StandsOver}
 use Rattle.std.specs.declared.option.Option.{Option}
 use Rattle.sat_words.specs.declared.line.Line.{Line}
-use Rattle.gimsatul.specs.Logged.{LogData}
 use Rattle.ring_run.specs.Ended.{IsUntouched, IsModelOf, opening_of}
 
 -- the lines of a proof over these clauses, of which the ruler has written these entries
@@ -25,10 +24,6 @@ origin_of clauses journal output = record { formula = clauses; journal = journal
 -- no line yet, where lines are to be kept
 abbrev pub begun_kept : Bool → Option (List Line)
 begun_kept keep = if keep then Some [] else None
-
--- the lines for a formula, of which none is put yet
-abbrev pub begun_lines : {S : Type 0} → Bool → FormulaData → S → LogData S
-begun_lines keep formula sink = record { kept = begun_kept keep; lines = record { entries = 0; last = length formula.clauses; spent = false; waiting = []; sink = sink } }
 
 -- each assignment that is true on what the port began with, mended by the stack, is true on the clauses
 abbrev pub Covers : PortState → List Fix → List (List Literal) → Type 0

@@ -1,5 +1,5 @@
 -- What the ruler does before the ring starts.
-use Rattle.std.specs.Prelude.{◌≡◌, ◌≢◌, ℕ, Bool, List, [], Result, Ok}
+use Rattle.std.specs.Prelude.{◌≡◌, ◌≢◌, ℕ, Bool, false, List, [], length, Result, Ok}
 use Rattle.io_edge.specs.Paths.{IsEmptyWhereTold}
 use Rattle.sat_words.specs.FormulaData.{FormulaData}
 use Rattle.rup_model.specs.declared.journal.Entry.{Entry}
@@ -15,10 +15,13 @@ use Rattle.ruler_simp.specs.Ruled.{Ruled}
 use Rattle.gimsatul.specs.Logged.{kept_mark}
 use Rattle.gimsatul.specs.Begun.{begun_kept}
 
--- the simplifiers ran over the formula in so many rounds, wrote the front of the journal and came to this; no ring wrote
--- anything unless they were done
+-- the simplifiers ran over the formula in so many rounds, their lines going to an output that had none, wrote the front of the
+-- journal and came to this; no ring wrote anything unless they were done
 pub record IsRuled (formula : FormulaData) (rounds : ℕ) (journal : List Entry) : Type 0 where
   pub output : LineState
+  pub unspent : output.spent ≡ false
+  pub none : output.entries ≡ 0
+  pub last : output.last ≡ length formula.clauses
   pub work : WorkState
   pub result : Result Run LineStop
   pub ran : SimplifiedTo rounds (begun formula output) work result (ruler_part journal)
@@ -28,6 +31,9 @@ pub record IsRuled (formula : FormulaData) (rounds : ℕ) (journal : List Entry)
 pub record AreBlank (keep : Bool) (formula : FormulaData) (lines : LineState) : Type 0 where
   pub empty : IsEmptyWhereTold lines.written
   pub quiet : lines.faults ≡ 0
+  pub unspent : lines.spent ≡ false
+  pub none : lines.entries ≡ 0
+  pub last : lines.last ≡ length formula.clauses
   pub flushed : lines.flushed ≡ kept_mark (begun_kept keep)
 
 -- the ruler has come to this over the formula, and its output is now here; it began where no line was put

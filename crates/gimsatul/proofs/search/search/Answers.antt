@@ -1,8 +1,9 @@
-use Rattle.std.proofs.Common.{◌≡◌, ◌∙◌, sym, subst, ℕ, Bool, List, Ok, Err, Some, None, refl, ap, is_some}
+use Rattle.std.proofs.Common.{◌≡◌, ◌∙◌, sym, subst, List, length, Ok, Err, None, ap}
 use Rattle.std.specs.Prelude.{Result}
 use Rattle.std.specs.Option.{option_map}
 use Rattle.std.specs.declared.option.Option.{Option}
 use Rattle.sat_words.specs.FormulaData.{FormulaData}
+use Rattle.sat_words.specs.Literal.{Literal}
 use Rattle.sat_words.specs.declared.line.Line.{Line}
 use Rattle.drat_text.specs.LineState.{LineState}
 use Rattle.drat_text.specs.declared.stop.LineStop.{LineStop}
@@ -34,7 +35,8 @@ returns-in-Ok-Refuted-clause-searched g c =
     let is : c.simplify-outcome.result.0 ≡ Ok NoModel = c.in-Ok-Refuted.is ∙ ap Ok c.in-Ok-Refuted.field-0-is in
     let was : WasRuled plan.check F plan.rounds now c.simplify-outcome.result.0 =
     was_ruled plan.check F plan.rounds (g.P.Sink.faults c.args.proof) (g.P.Sink.written c.args.proof) (told c.in-Ok.lines) now c.simplify-outcome.result.0 (ap (λ (p : LogData g.row.P.Denot). (told p).written) made)
-    (ap (λ (p : LogData g.row.P.Denot). (told p).faults) made) (ap (λ (p : LogData g.row.P.Denot). (told p).flushed) made) c.requires.empty c.requires.quiet c.simplify-outcome.ensures in
+    (ap (λ (p : LogData g.row.P.Denot). (told p).faults) made) (ap (λ (p : LogData g.row.P.Denot). (told p).flushed) made) (ap (λ (p : LogData g.row.P.Denot). (told p).spent) made) (ap (λ (p : LogData g.row.P.Denot). (told p).entries) made)
+    (ap (λ (p : LogData g.row.P.Denot). (told p).last) made ∙ ap (λ (cs : List (List Literal)). length cs) c.clauses.ensures) c.requires.empty c.requires.quiet c.simplify-outcome.ensures in
     refuted_closed plan F plan.check now c.simplify-outcome.result.0 c.requires.few c.requires.on_variables c.requires.some was c.text_determines_lines.ensures c.close.result.verdict c.close.result.learned (g.P.Sink.faults c.close.result.proof)
     (g.P.Sink.written c.close.result.proof) c.simplify-outcome.result.1.kept (option_map (λ v. v.items) c.close.result.kept.lines) is c.close.ensures.learned c.close.ensures.kept c.close.ensures.closed c.close.ensures.tells
 
@@ -50,7 +52,8 @@ returns-in-Err-outcome-clause-searched g c =
     let written = g.P.Sink.written c.close-in-Err-outcome.result.proof in
     let was : WasRuled plan.check F plan.rounds now c.simplify-outcome.result.0 =
     was_ruled plan.check F plan.rounds (g.P.Sink.faults c.args.proof) (g.P.Sink.written c.args.proof) (told c.in-Ok.lines) now c.simplify-outcome.result.0 (ap (λ (p : LogData g.row.P.Denot). (told p).written) made)
-    (ap (λ (p : LogData g.row.P.Denot). (told p).faults) made) (ap (λ (p : LogData g.row.P.Denot). (told p).flushed) made) c.requires.empty c.requires.quiet c.simplify-outcome.ensures in
+    (ap (λ (p : LogData g.row.P.Denot). (told p).faults) made) (ap (λ (p : LogData g.row.P.Denot). (told p).flushed) made) (ap (λ (p : LogData g.row.P.Denot). (told p).spent) made) (ap (λ (p : LogData g.row.P.Denot). (told p).entries) made)
+    (ap (λ (p : LogData g.row.P.Denot). (told p).last) made ∙ ap (λ (cs : List (List Literal)). length cs) c.clauses.ensures) c.requires.empty c.requires.quiet c.simplify-outcome.ensures in
     stopped_closed plan F plan.check now c.simplify-outcome.result.0 c.requires.few c.requires.on_variables c.requires.some was c.text_determines_lines.ensures why c.close-in-Err-outcome.result.verdict c.close-in-Err-outcome.result.learned faults
     written c.simplify-outcome.result.1.kept (option_map (λ v. v.items) c.close-in-Err-outcome.result.kept.lines) c.in-Err-outcome.is c.close-in-Err-outcome.ensures.learned c.close-in-Err-outcome.ensures.kept
     (subst (λ (e : End). HasClosed now (Err e) c.close-in-Err-outcome.result.verdict faults written) c.end_of_stop.ensures c.close-in-Err-outcome.ensures.closed) c.close-in-Err-outcome.ensures.tells

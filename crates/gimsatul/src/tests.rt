@@ -692,7 +692,7 @@ fn six_pigeons_in_five_holes(rt: HostRuntime) -> Result<(), Fail> {
         status: 20,
         out: b"s UNSATISFIABLE\n",
         compares_proof: false,
-        learned: &[140],
+        learned: &[143],
         ..PLAIN
     };
     check_row(&rt, row, 65536)
@@ -733,7 +733,7 @@ fn checked_logs(rt: HostRuntime) -> Result<(), Fail> {
             status: 20,
             out: b"c proof accepted\ns UNSATISFIABLE\n",
             compares_proof: false,
-            learned: &[140],
+            learned: &[143],
             ..PLAIN
         },
     ];

@@ -1,23 +1,21 @@
 -- What the deletion of a clause that waits keeps of the one journal behind its port.
-use Rattle.std.proofs.Common.{◌≡◌, ◌≢◌, ℕ, suc, ◌+◌, get_or, true, false, not, List, [], ◌∷◌, ◌++◌, length, map, sym, refl, ap, subst, ◌∙◌, arith, Some, None, append_assoc, append-nil, length-append, inl, inr, ⊎_elim}
+use Rattle.std.proofs.Common.{◌≡◌, ◌≢◌, ℕ, suc, ◌+◌, get_or, true, false, List, [], ◌∷◌, ◌++◌, length, sym, refl, ap, subst, ◌∙◌, arith, Some, None, append_assoc, append-nil, length-append, inl, inr}
 use Rattle.std.specs.List.{list_any, All, Contains}
 use Rattle.std.specs.Prelude.{IsSomeAnd}
 use Rattle.std.specs.Option.{unwrap_or}
 use Rattle.std.specs.declared.option.Option.{Option}
 use Rattle.std.specs.Io.KnownBytes.{append_known}
-use Rattle.std.proofs.lemmas.Bool.{not-true, false≢true}
+use Rattle.std.proofs.lemmas.Bool.{false≢true}
 use Rattle.std.proofs.lemmas.List.Elements.{All-append}
 use Rattle.sat_words.specs.Literal.{Literal}
 use Rattle.sat_words.specs.Clause.{same_set, is_empty}
-use Rattle.sat_words.specs.declared.line.Line.{Line}
 use Rattle.sat_words.specs.declared.line.Line.TheVariants.{Del as DelLine}
 use Rattle.rup_model.specs.declared.journal.Entry.{Entry}
 use Rattle.rup_model.specs.declared.journal.Entry.TheVariants.{Del}
-use Rattle.rup_model.specs.Basics.{put}
 use Rattle.rup_model.specs.Log.{Accepted}
 use Rattle.rup_model.specs.Opening.{IsLong}
 use Rattle.rup_model.specs.Journal.{Book, book_after, book, lines, lines_after, added, ring_of, LogSound}
-use Rattle.rup_model.proofs.Lists.{In, In_Contains, Contains_In, In_get_or}
+use Rattle.rup_model.proofs.Lists.{In_Contains, Contains_In, In_get_or}
 use Rattle.rup_model.proofs.Sums.{put_else}
 use Rattle.rup_model.proofs.Units.{long_two}
 use Rattle.rup_model.proofs.Numbers.{book_last, lines_last}
@@ -29,7 +27,6 @@ use Rattle.drat_text.specs.LineOut.{PutLine}
 use Rattle.drat_text.proofs.JournalLines.{has_text_next}
 use Rattle.ring_port.specs.PortState.{Holding, PortState, IsOn}
 use Rattle.ring_port.specs.Log.{Origin, Keeps, StandsOver, HasLines, journal_of}
-use Rattle.ring_port.proofs.Holdings.{All_In}
 use Rattle.ring_port.proofs.LogSteps.{one_All, output_of, caused_later, caused_same}
 
 module _ (o : Origin) (s : PortState) (h : StandsOver o s) (w : Holding) (rest : List Holding) (first : s.waiting ≡ w ∷ rest) (long : IsLong w.lits) (going : s.ended ≡ false) where

@@ -1,5 +1,5 @@
 -- Lists of clauses at addresses: those that are dropped, and those that wait.
-use Rattle.std.proofs.Common.{◌≡◌, ◌≢◌, ℕ, zero, suc, ◌<◌, ◌≤◌, ◌==◌, Bool, true, false, cond, List, [], ◌∷◌, ◌++◌, length, get_or, sym, refl, ap, subst, ◌∙◌, inl, inr, arith, Some, None, ne_eqb}
+use Rattle.std.proofs.Common.{◌≡◌, ◌≢◌, ℕ, zero, suc, ◌<◌, ◌==◌, Bool, true, false, cond, List, [], ◌∷◌, ◌++◌, length, get_or, sym, refl, ap, subst, ◌∙◌, inl, inr, arith, Some, None, ne_eqb}
 use Rattle.std.specs.List.{All, find, slice_get, filter_map}
 use Rattle.std.specs.Prelude.{is_some, is_ok, is_err, if◌then◌else◌, Result, Ok, Err}
 use Rattle.std.specs.Option.{unwrap_or}

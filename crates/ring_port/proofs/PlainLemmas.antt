@@ -1,5 +1,5 @@
 -- What is kept of a port in memory, and what its calls find.
-use Rattle.std.proofs.Common.{◌≡◌, ◌≢◌, ℕ, zero, suc, ◌+◌, ◌<◌, ◌≤◌, ◌==◌, true, List, [], ◌∷◌, ◌++◌, length, map, take, drop, get_or, sym, refl, ap, subst, ◌∙◌, ⊎_elim, arith, Some, None, IsSome, IfSome, length-append, cond, eq-eqb, ne_eqb, false, ◌⊎◌}
+use Rattle.std.proofs.Common.{◌≡◌, ◌≢◌, ℕ, suc, ◌+◌, ◌<◌, ◌≤◌, ◌==◌, true, List, [], ◌∷◌, ◌++◌, length, take, drop, get_or, sym, refl, ap, subst, ◌∙◌, ⊎_elim, arith, Some, None, IsSome, IfSome, length-append, cond, eq-eqb, ne_eqb, false}
 use Rattle.std.specs.List.{All, slice_get, find, list_any}
 use Rattle.std.specs.Prelude.{is_some}
 use Rattle.std.specs.Option.{option_or}
@@ -19,7 +19,7 @@ use Rattle.rup_model.specs.declared.journal.Kind.{Kind}
 use Rattle.drat_text.specs.LineState.{LineState}
 use Rattle.ring_port.specs.declared.stops.PortStop.{PortStop}
 use Rattle.ring_port.specs.declared.stops.PortStop.TheVariants.{Ended, Broken, ProofFault, NoHole, Memory}
-use Rattle.rup_model.proofs.Lists.{In, In_Contains, Contains_In}
+use Rattle.rup_model.proofs.Lists.{In, Contains_In}
 use Rattle.ring_port.specs.PortState.{Holding, PortState, AreApart, IsPort, IsKept, IsOn, IsStop, held_at, head_of, lits_in}
 use Rattle.ring_port.specs.Port.{KeepsHeld, WroteUnit, Refused, after_refusal}
 use Rattle.ring_port.specs.OwnLog.{LogData}

@@ -1,5 +1,5 @@
 -- What a port does where a ring gives clauses up: they are held once less, and those that nobody holds are deleted.
-use Rattle.std.specs.Prelude.{◌≡◌, ◌≢◌, ◌⊎◌, ℕ, ◌<◌, ◌==◌, false, List, [], ◌∷◌, ◌++◌, if◌then◌else◌, map, length, take, drop, Some, None, Result, Ok, Err}
+use Rattle.std.specs.Prelude.{◌≡◌, ◌⊎◌, ℕ, ◌<◌, ◌==◌, false, List, [], ◌∷◌, ◌++◌, if◌then◌else◌, map, length, take, drop, Some, None, Result, Ok, Err}
 use Rattle.std.specs.List.{list_any}
 use Rattle.rup_model.specs.declared.journal.Entry.{Entry}
 use Rattle.rup_model.specs.declared.journal.Entry.TheVariants.{Del}

@@ -1,5 +1,5 @@
 -- What a port does where a ring gives up what it learned before.
-use Rattle.std.specs.Prelude.{◌≡◌, ◌≤◌, false, List, [], ◌∷◌, ◌++◌, length, Result, Ok, Err}
+use Rattle.std.specs.Prelude.{◌≡◌, ◌≤◌, false, [], ◌∷◌, ◌++◌, length, Result, Ok, Err}
 use Rattle.rup_model.specs.declared.journal.TheConstants.{LEARNED_PER_REDUCTION}
 use Rattle.rup_model.specs.declared.journal.Entry.TheVariants.{Reduce}
 use Rattle.rup_model.specs.Journal.{recent}

@@ -4,7 +4,10 @@
 mod cell;
 mod class;
 mod laws;
+mod opening_units;
 mod own_log;
+mod plain_calls;
+mod plain_lines;
 mod plain_port;
 mod port;
 mod starts;

@@ -1,4 +1,4 @@
-use Rattle.std.proofs.Common.{◌≡◌, ◌∙◌, ◌++◌, ◌∷◌, [], List, sym, ap, subst, append-nil}
+use Rattle.std.proofs.Common.{◌∙◌, ◌∷◌, [], sym, ap, subst, append-nil}
 use Rattle.rup_model.specs.Basics.{EachAfter}
 use Rattle.rup_model.specs.declared.journal.Entry.TheVariants.{Reduce}
 use Rattle.rup_model.specs.Journal.{learned, IsSpaced}

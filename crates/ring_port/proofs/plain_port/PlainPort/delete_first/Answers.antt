@@ -2,7 +2,7 @@ use Rattle.std.proofs.Common.{◌≡◌, ◌-◌, ◌≤◌, length, drop, sym, 
 use Rattle.std.specs.Vec.{vec_capacity}
 use Rattle.std.specs.declared.option.Option.{Option}
 use Rattle.sat_words.specs.declared.line.Line.TheVariants.{Del as DelLine}
-use Rattle.ring_port.specs.PortState.{Holding, IsPort, head_of, lits_in}
+use Rattle.ring_port.specs.PortState.{Holding, head_of, lits_in}
 use Rattle.ring_port.specs.Port.{is_usable}
 use Rattle.ring_port.specs.Log.{KeepsLog}
 use Rattle.ring_port.specs.OwnLog.{DeletedEntry, NotPut}

@@ -1,4 +1,4 @@
-use Rattle.std.proofs.Common.{◌≡◌, List, length, sym, ap, subst, ◌∙◌, true, ◌∷◌, [], ◌++◌, Some, ◌-◌, vec_len}
+use Rattle.std.proofs.Common.{◌≡◌, List, length, sym, ap, subst, ◌∙◌, true, ◌∷◌, [], ◌++◌, ◌-◌, vec_len}
 use Rattle.std.specs.Vec.{vec_capacity}
 use Rattle.sat_words.specs.declared.line.Line.TheVariants.{Add as AddLine}
 use Rattle.rup_model.specs.Rup.{rup}

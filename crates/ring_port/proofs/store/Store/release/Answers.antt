@@ -1,6 +1,6 @@
-use Rattle.std.proofs.Common.{◌≡◌, ◌<◌, ◌==◌, length, set, get_or, sym, ap, subst, ◌∙◌, arith, IsSome, true}
+use Rattle.std.proofs.Common.{◌≡◌, ◌<◌, ◌==◌, length, get_or, sym, ap, subst, ◌∙◌, arith, IsSome, true}
 use Rattle.std.specs.List.{find}
-use Rattle.ring_port.specs.Store.{holdings, live}
+use Rattle.ring_port.specs.Store.{live}
 use Rattle.ring_port.specs.Deleting.{without_one}
 use Rattle.ring_port.proofs.StoreLemmas.{live_at, all_dropped, live_dropped}
 use Rattle.ring_port.proofs.store.Store.release.Goals as goal

@@ -1,0 +1,119 @@
+ghost use Rattle.std.specs.Prelude.{◌≡◌, ◌≤◌, ◌∷◌, [], true, Some, length};
+ghost use Rattle.std.specs.Option.{option_map};
+ghost use Rattle.rup_model.specs.Rup.{rup};
+ghost use Rattle.ring_port.specs.PortState.{IsPort, IsOn, known};
+ghost use Rattle.ring_port.specs.Log.{KeepsLog};
+ghost use Rattle.ring_port.specs.Port.{is_usable, IsClause, KeepsHeld, UnitPut, ClausePut, last_after};
+ghost use Rattle.ring_port.specs.Deleting.{TidiedFirst};
+ghost use Rattle.ring_port.specs.PlainPort.{HasCauseAlone};
+
+use crate::plain_port::PlainPort;
+use crate::stops::PortStop;
+use drat_text::LineOut;
+use rup_model::Kind;
+use sat_words::{Cref, Lit, Lits};
+use std::collections::VecDeque;
+
+/// The clause learned last, once one was added.
+fn last_after(kind: Kind, last: Option<Cref>, c: Cref) -> Option<Cref>
+    ensures { option_map (λ x. x.address) result ≡ last_after kind (option_map (λ x. x.address) last) c.address }
+{
+    match kind {
+        Kind::Learn => Some(c),
+        Kind::Ruler | Kind::Derive | Kind::UnitLine => last,
+    }
+}
+
+/// How many addresses the queue has.
+fn queue_len(queue: &VecDeque<Cref>) -> usize
+    ensures { result ≡ length queue.now.items }
+{
+    queue.len()
+}
+
+impl<L: LineOut> PlainPort<L> {
+    /// Writes the line of a unit, which is seen from then on.
+    pub(crate) fn put_unit(
+        &mut self,
+        lit: Lit,
+        kind: Kind,
+        last: Option<Cref>,
+    ) -> Result<(), PortStop>
+        requires usable { is_usable self.old.refused ≡ true }
+        requires on { IsOn self.old.vars lit }
+        requires rup { rup (known self.old) (lit ∷ []) ≡ true }
+        ensures cause { HasCauseAlone self.old self.new result }
+        ensures put { UnitPut self.old self.new lit kind (option_map (λ c. c.address) last) result }
+        ensures log { KeepsLog self.old self.new }
+        ensures port { IsPort self.new }
+    {
+        self.log.make_room()?;
+        if self.written.reserve(1).is_err() {
+            return Err(PortStop::Memory);
+        }
+        let Ok(lits) = Lits::from_slice(self.alloc, &[lit]) else {
+            return Err(PortStop::Memory);
+        };
+        self.log.add(lits, kind)?;
+        self.written.push_reserved(lit);
+        self.last = last;
+        Ok(())
+    }
+
+    /// How many clauses wait for their deletion.
+    pub(crate) fn waits(&self) -> usize
+        ensures many { result ≡ length self.now.waiting }
+        ensures port { IsPort self.now }
+    {
+        queue_len(&self.waiting)
+    }
+
+    /// Writes the line that deletes the first clause that waits.
+    pub(crate) fn delete_first(&mut self) -> Result<(), PortStop>
+        requires usable { is_usable self.old.refused ≡ true }
+        requires some { 1 ≤ length self.old.waiting }
+        ensures cause { HasCauseAlone self.old self.new result }
+        ensures tidied { TidiedFirst self.old self.new result }
+        ensures log { KeepsLog self.old self.new }
+        ensures port { IsPort self.new }
+    {
+        let c = self.waiting[0];
+        self.log.make_room()?;
+        let Ok(lits) = Lits::from_slice(self.alloc, self.store.lits(c)) else {
+            return Err(PortStop::Memory);
+        };
+        let number = self.store.head(c).number;
+        self.log.delete(lits, number)?;
+        self.waiting.pop_front();
+        Ok(())
+    }
+
+    /// Writes the line of a clause of two literals or more, which is held from then on.
+    pub(crate) fn put_clause(
+        &mut self,
+        lits: &[Lit],
+        glue: u32,
+        kind: Kind,
+    ) -> Result<Cref, PortStop>
+        requires usable { is_usable self.old.refused ≡ true }
+        requires long { 2 ≤ length lits.now }
+        requires clause { IsClause self.old.vars lits.now }
+        requires rup { rup (known self.old) lits.now ≡ true }
+        ensures cause { HasCauseAlone self.old self.new result }
+        ensures put { ClausePut self.old self.new lits.now glue kind result }
+        ensures kept { KeepsHeld self.old self.new }
+        ensures log { KeepsLog self.old self.new }
+        ensures port { IsPort self.new }
+    {
+        self.store.make_room(lits)?;
+        self.log.make_room()?;
+        let Ok(copy) = Lits::from_slice(self.alloc, lits) else {
+            return Err(PortStop::Memory);
+        };
+        let number = self.log.add(copy, kind)?;
+        let c = self.store.push(lits, number, glue);
+        let last = last_after(kind, self.last, c);
+        self.last = last;
+        Ok(c)
+    }
+}

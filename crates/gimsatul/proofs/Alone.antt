@@ -38,7 +38,7 @@ use Rattle.gimsatul.specs.Journaled.{IsJournal, IsUnrefuted, HoldsText, IsCutSho
 use Rattle.gimsatul.specs.Concluded.{end_of_stop}
 use Rattle.gimsatul.specs.Begun.{begun_kept}
 use Rattle.gimsatul.specs.Logged.{TellsKept, told_bytes, kept_mark}
-use Rattle.gimsatul.specs.Ruled.{IsRuled, WasRuled}
+use Rattle.gimsatul.specs.Ruled.{IsRuled, IsRuledThrough, WasRuled}
 use Rattle.gimsatul.specs.Searched.{Concludes, IsSearch, HasClosed}
 use Rattle.ruler_simp.proofs.Telling.{none_made}
 use Rattle.gimsatul.proofs.Alive.{formula_on, spelled_from}
@@ -102,7 +102,7 @@ module _ (plan : Plan) (F : FormulaData) (keep : Bool) (now : LineState) (result
   pub ruler_whole : now.faults ≡ 0 → HoldsText now.written (text (lines F.clauses J))
   ruler_whole = whole over J F.vars (omega arith) now spelled (holds_nothing was.before.written was.blank.empty) was.blank.quiet has_lines.whole has_lines.short
 
-  is_search : (found : Result Verdict End) → Concludes plan.limit F J now.faults found → IsSearch plan F found 0 now.faults now.written None
+  is_search : (found : Result Verdict End) → Concludes plan F J now.faults found → IsSearch plan F found 0 now.faults now.written None
   is_search found conclusion = record {
     journal = J;
     stands = journal_stands;
@@ -119,7 +119,7 @@ module _ (plan : Plan) (F : FormulaData) (keep : Bool) (now : LineState) (result
   full = one_line_each (formula_book F.clauses) J rulers
 
   -- the ruler was stopped
-  stopped_by : (why : LineStop) → IsAnswer F J was.before now (Err why) → Concludes plan.limit F J now.faults (Err (end_of_stop why))
+  stopped_by : (why : LineStop) → IsAnswer F J was.before now (Err why) → Concludes plan F J now.faults (Err (end_of_stop why))
   stopped_by stop.ProofFault h = subst (λ (n : ℕ). Rose n now.faults) was.blank.quiet h.0
   stopped_by stop.Full h = (h.0.1 ∙ was.blank.quiet, fewer, record { entries = sym full ∙ sym has_lines.entries ∙ h.0.0; needed = refl; found = refl }, h.1)
   stopped_by stop.Memory h = (h.0 ∙ was.blank.quiet, fewer, h.1)
@@ -127,12 +127,26 @@ module _ (plan : Plan) (F : FormulaData) (keep : Bool) (now : LineState) (result
   pub stopped : (why : LineStop) → result ≡ Err why → IsSearch plan F (Err (end_of_stop why)) 0 now.faults now.written None
   stopped why is = is_search (Err (end_of_stop why)) (stopped_by why (subst (IsAnswer F J was.before now) is was.ruled.answer))
 
-  refuted_by : IsAnswer F J was.before now (Ok NoModel) → Concludes plan.limit F J now.faults (Ok Unsatisfiable)
-  refuted_by h = (h.1.quiet ∙ was.blank.quiet, record { refuted = h.0; no_model = λ m t. refutes_none F.clauses (lines F.clauses J) h.0 (on_variables (lines F.clauses J) spelled) (m, t) })
+  -- the simplifiers came to their end
+  ruled_through : result ≡ Ok NoModel → IsRuledThrough F plan.rounds J
+  unfolding ruled
+  ruled_through is = record { ruled = ruled; through = λ why e. found_none why (sym (ap run_of is) ∙ e) }
+    where
+      found_none : (why : LineStop) → run_of (Ok NoModel) ≢ Err why
+      found_none why clash = cc clash
+
+  refuted_by : result ≡ Ok NoModel → IsAnswer F J was.before now (Ok NoModel) → Concludes plan F J now.faults (Ok Unsatisfiable)
+  refuted_by is h = (
+    h.1.quiet ∙ was.blank.quiet,
+    record {
+      holds = record { refuted = h.0; no_model = λ m t. refutes_none F.clauses (lines F.clauses J) h.0 (on_variables (lines F.clauses J) spelled) (m, t) };
+      ruled = ruled_through is;
+    },
+  )
 
   -- it found no model
   pub refuted : result ≡ Ok NoModel → IsSearch plan F (Ok Unsatisfiable) 0 now.faults now.written None
-  refuted is = is_search (Ok Unsatisfiable) (refuted_by (subst (IsAnswer F J was.before now) is was.ruled.answer))
+  refuted is = is_search (Ok Unsatisfiable) (refuted_by is (subst (IsAnswer F J was.before now) is was.ruled.answer))
 
   -- memory ran out behind it
   pub starved : (left : Simplified) → result ≡ Ok (LeftOver left) → IsSearch plan F (Err Memory) 0 now.faults now.written None

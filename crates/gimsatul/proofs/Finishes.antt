@@ -73,7 +73,7 @@ counted t learned n start set =
     λ i. record (start i) { learned = one i }
 
 stop_cases : (end : End) (plan : Plan) (F : FormulaData) (J : List Entry) (before tally : Tally) (text : Option (List ℕ)) (source : Count) (out : Output) (f0 : ℕ) (writer : Writer)
-    → Concludes plan.limit F J f0 (Err end) → f0 ≤ writer.faults → tally ≡ noted end before → IsStill out.faults
+    → Concludes plan F J f0 (Err end) → f0 ≤ writer.faults → tally ≡ noted end before → IsStill out.faults
     → IsStarted f0 F J before (record { plan = plan; text = text; source = source; proof = Some writer; out = out })
     → Outcome end F J tally (record { plan = plan; text = text; source = source; proof = Some writer; out = out })
 stop_cases ProofFault plan F J before tally text source out f0 writer rose later counts still s =
@@ -98,15 +98,15 @@ stop_cases _ plan F J before tally text source out f0 writer why later counts st
 -- the search stopped without a verdict
 pub stopped : (end : End) (plan : Plan) (found : Result Verdict End) (F : FormulaData) (J : List Entry) (before tally : Tally) (text : Option (List ℕ)) (source : Count) (out : Output) (f0 : ℕ) (writer : Writer)
     → found ≡ Err end
-    → Concludes plan.limit F J f0 found → f0 ≤ writer.faults → tally ≡ noted end before → IsStill out.faults
+    → Concludes plan F J f0 found → f0 ≤ writer.faults → tally ≡ noted end before → IsStill out.faults
     → IsStarted f0 F J before (record { plan = plan; text = text; source = source; proof = Some writer; out = out })
     → Outcome end F J tally (record { plan = plan; text = text; source = source; proof = Some writer; out = out })
 stopped end plan found F J before tally text source out f0 writer err why later counts still s =
-    stop_cases end plan F J before tally text source out f0 writer (subst (λ (r : Result Verdict End). Concludes plan.limit F J f0 r) err why) later counts still s
+    stop_cases end plan F J before tally text source out f0 writer (subst (λ (r : Result Verdict End). Concludes plan F J f0 r) err why) later counts still s
 
 -- the search found a verdict, and met no fault
-pub concluded : (verdict : Verdict) (limit : ℕ) (found : Result Verdict End) (F : FormulaData) (J : List Entry) (f0 : ℕ) → found ≡ Ok verdict → Concludes limit F J f0 found → (f0 ≡ 0) × Decides limit F J verdict
-concluded verdict limit found F J f0 is why = subst (λ (r : Result Verdict End). Concludes limit F J f0 r) is why
+pub concluded : (verdict : Verdict) (plan : Plan) (found : Result Verdict End) (F : FormulaData) (J : List Entry) (f0 : ℕ) → found ≡ Ok verdict → Concludes plan F J f0 found → (f0 ≡ 0) × Decides plan F J verdict
+concluded verdict plan found F J f0 is why = subst (λ (r : Result Verdict End). Concludes plan F J f0 r) is why
 
 -- a verdict that was reached has closed the proof
 pub finish_closes : (text : List ℕ) (checked : Bool) (verdict : Verdict) (told : End) (before : ℕ) (writer : Writer) (out : Output) → Finishes text checked verdict told before writer out → IsClosed before writer
@@ -116,7 +116,7 @@ finish_closes text checked verdict told before writer out (inr (inr (inl h))) = 
 finish_closes text checked verdict told before writer out (inr (inr (inr h))) = inl (h.proof.quiet, h.proof.flushed)
 
 finish_cases : (verdict : Verdict) (told : End) (plan : Plan) (F : FormulaData) (J : List Entry) (tally : Tally) (text : Option (List ℕ)) (source : Count) (out : Output) (writer : Writer)
-    → Decides plan.limit F J verdict → Finishes (printed_of plan F verdict) plan.check verdict told 0 writer out
+    → Decides plan F J verdict → Finishes (printed_of plan F verdict) plan.check verdict told 0 writer out
     → IsStarted 0 F J tally (record { plan = plan; text = text; source = source; proof = Some writer; out = out })
     → Outcome told F J tally (record { plan = plan; text = text; source = source; proof = Some writer; out = out })
 finish_cases verdict told plan F J tally text source out writer decided (inl h) s =
@@ -138,7 +138,7 @@ finish_cases verdict told plan F J tally text source out writer decided (inr (in
 
 -- a verdict was reached
 pub finished : (verdict : Verdict) (told : End) (plan : Plan) (F : FormulaData) (J : List Entry) (tally : Tally) (text : Option (List ℕ)) (source : Count) (out : Output) (f0 : ℕ) (writer : Writer)
-    → f0 ≡ 0 → Decides plan.limit F J verdict → Finishes (printed_of plan F verdict) plan.check verdict told f0 writer out
+    → f0 ≡ 0 → Decides plan F J verdict → Finishes (printed_of plan F verdict) plan.check verdict told f0 writer out
     → IsStarted f0 F J tally (record { plan = plan; text = text; source = source; proof = Some writer; out = out })
     → Outcome told F J tally (record { plan = plan; text = text; source = source; proof = Some writer; out = out })
 finished verdict told plan F J tally text source out f0 writer none decided ends s =

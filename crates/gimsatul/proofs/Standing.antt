@@ -46,9 +46,10 @@ use Rattle.ruler_simp.specs.Rounds.{SimplifiedTo}
 use Rattle.ruler_simp.specs.Ruled.{IsAnswer}
 use Rattle.gimsatul.specs.declared.plan.Plan.{Plan}
 use Rattle.gimsatul.specs.declared.report.Verdict.{Verdict}
+use Rattle.gimsatul.specs.declared.report.Verdict.TheVariants.{Satisfiable, Unsatisfiable, Unknown}
 use Rattle.gimsatul.specs.declared.report.End.{End as CallEnd}
 use Rattle.gimsatul.specs.Journaled.{CanBeSpelled, IsRingsEntry, IsPlainEntry, IsPlainAddition, IsJournal, IsUnrefuted, HoldsText, IsCutShort}
-use Rattle.gimsatul.specs.Decided.{IsRefutation, IsFull}
+use Rattle.gimsatul.specs.Decided.{IsRefutation, IsFull, Holds, Decides}
 use Rattle.gimsatul.specs.Logged.{TellsKept, kept_mark}
 use Rattle.gimsatul.specs.Ruled.{IsRuled, WasRuled}
 use Rattle.gimsatul.specs.Searched.{Concludes, IsSearch, HasClosed}
@@ -286,22 +287,27 @@ module _ (plan : Plan) (formula : FormulaData) (keep : Bool) (output : LineState
   fewer : (x : End) → (count ≡ plan.limit → x ≡ SpentEnd) → (x ≡ SpentEnd → ⊥) → length (learned 0 J) < plan.limit
   fewer x un other = subst (λ (n : ℕ). n < plan.limit) counts (less_or count plan.limit within (λ e. other (un e)))
 
-  concludes : (occurring : List Bool) → IsOccurring formula.clauses formula.vars occurring → (result : Result Verdict CallEnd) → IsVerdictOf occurring left.stack end result → Concludes plan.limit formula J out.faults result
+  -- what holds is decided, since the simplifiers came to their end
+  decides : (verdict : Verdict) → Holds plan.limit formula J verdict → Decides plan formula J verdict
+  unfolding ruled
+  decides verdict h = record { holds = h; ruled = record { ruled = ruled; through = λ why e. cc e } }
+
+  concludes : (occurring : List Bool) → IsOccurring formula.clauses formula.vars occurring → (result : Result Verdict CallEnd) → IsVerdictOf occurring left.stack end result → Concludes plan formula J out.faults result
   concludes occurring marked result = by end spent unspent ends result
     where
-      model_by : (a : List Bool) → out.faults ≡ 0 → IsModelOf s a → (r : Result Verdict CallEnd) → IsCleared occurring left.stack a r → Concludes plan.limit formula J out.faults r
+      model_by : (a : List Bool) → out.faults ≡ 0 → IsModelOf s a → (r : Result Verdict CallEnd) → IsCleared occurring left.stack a r → Concludes plan formula J out.faults r
       model_by a none m r h =
-          subst (λ (w : Result Verdict CallEnd). Concludes plan.limit formula J out.faults w) (sym h.is) (none, cleared formula occurring (extend left.stack a) h.model (model a m) marked h.both)
+          subst (λ (w : Result Verdict CallEnd). Concludes plan formula J out.faults w) (sym h.is) (none, decides (Satisfiable h.model) (cleared formula occurring (extend left.stack a) h.model (model a m) marked h.both))
 
-      by : (x : End) → (x ≡ SpentEnd → count ≡ plan.limit) → (count ≡ plan.limit → x ≡ SpentEnd) → Ends s x → (r : Result Verdict CallEnd) → IsVerdictOf occurring left.stack x r → Concludes plan.limit formula J out.faults r
+      by : (x : End) → (x ≡ SpentEnd → count ≡ plan.limit) → (count ≡ plan.limit → x ≡ SpentEnd) → Ends s x → (r : Result Verdict CallEnd) → IsVerdictOf occurring left.stack x r → Concludes plan formula J out.faults r
       by (Sat a) sp un en r v = model_by a (still_where en.cause.1) en.cause.0 r v
-      by Refuted sp un en r v = subst (λ (w : Result Verdict CallEnd). Concludes plan.limit formula J out.faults w) (sym v) (still_where en.cause.1, refutation en.cause.0)
-      by SpentEnd sp un en r v = subst (λ (w : Result Verdict CallEnd). Concludes plan.limit formula J out.faults w) (sym v) (still_where en.cause.usable, spent_all en.cause (sp refl))
+      by Refuted sp un en r v = subst (λ (w : Result Verdict CallEnd). Concludes plan formula J out.faults w) (sym v) (still_where en.cause.1, decides Unsatisfiable (refutation en.cause.0))
+      by SpentEnd sp un en r v = subst (λ (w : Result Verdict CallEnd). Concludes plan formula J out.faults w) (sym v) (still_where en.cause.usable, decides Unknown (spent_all en.cause (sp refl)))
       by (Stopped x) sp un en r v = absurd v
       by (NoHole lack) sp un en r v =
-          subst (λ (w : Result Verdict CallEnd). Concludes plan.limit formula J out.faults w) (sym v) (still_where (ap is_usable en.cause.0), fewer (NoHole lack) un (λ e. cc e), full lack en.cause.0, unrefuted en.cause.2)
-      by ProofFault sp un en r v = subst (λ (w : Result Verdict CallEnd). Concludes plan.limit formula J out.faults w) (sym v) (rose_where en.cause.0)
-      by Memory sp un en r v = subst (λ (w : Result Verdict CallEnd). Concludes plan.limit formula J out.faults w) (sym v) (still_where en.cause.0, fewer Memory un (λ e. cc e), unrefuted en.cause.1)
+          subst (λ (w : Result Verdict CallEnd). Concludes plan formula J out.faults w) (sym v) (still_where (ap is_usable en.cause.0), fewer (NoHole lack) un (λ e. cc e), full lack en.cause.0, unrefuted en.cause.2)
+      by ProofFault sp un en r v = subst (λ (w : Result Verdict CallEnd). Concludes plan formula J out.faults w) (sym v) (rose_where en.cause.0)
+      by Memory sp un en r v = subst (λ (w : Result Verdict CallEnd). Concludes plan formula J out.faults w) (sym v) (still_where en.cause.0, fewer Memory un (λ e. cc e), unrefuted en.cause.1)
 
   is_search : (occurring : List Bool) → IsOccurring formula.clauses formula.vars occurring → (result : Result Verdict CallEnd) → IsVerdictOf occurring left.stack end result → IsSearch plan formula result count out.faults out.written None
   is_search occurring marked result v = record { journal = J; stands = journal_stands; ruled = ruled; counts = counts; within = within; conclusion = concludes occurring marked result v; whole = whole_there; short = short_there; keeps = λ _. tt }

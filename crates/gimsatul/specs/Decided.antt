@@ -10,6 +10,8 @@ use Rattle.rup_model.specs.Log.{Refutes}
 use Rattle.rup_model.specs.Journal.{lines}
 use Rattle.rup_model.specs.Spent.{SpentAll}
 use Rattle.sat_words.specs.declared.shared.TheConstants.{MAX_ENTRIES}
+use Rattle.gimsatul.specs.Ruled.{IsRuledThrough}
+use Rattle.gimsatul.specs.declared.plan.Plan.{Plan}
 use Rattle.gimsatul.specs.declared.report.Verdict.{Verdict}
 use Rattle.gimsatul.specs.declared.report.Verdict.TheVariants.{Satisfiable, Unsatisfiable, Unknown}
 
@@ -37,15 +39,20 @@ abbrev pub IsSpent : ℕ → List (List Literal) → List Entry → Type 0
 IsSpent limit clauses journal = SpentAll clauses journal 1 limit
 
 -- the verdict holds, of a ring that may learn so many lemmas
-abbrev pub Decides : ℕ → FormulaData → List Entry → Verdict → Type 0
-Decides limit formula journal (Satisfiable model) = IsModel formula model
-Decides limit formula journal Unsatisfiable = IsRefutation formula.clauses journal
-Decides limit formula journal Unknown = IsSpent limit formula.clauses journal
+abbrev pub Holds : ℕ → FormulaData → List Entry → Verdict → Type 0
+Holds limit formula journal (Satisfiable model) = IsModel formula model
+Holds limit formula journal Unsatisfiable = IsRefutation formula.clauses journal
+Holds limit formula journal Unknown = IsSpent limit formula.clauses journal
+
+-- the verdict holds of a run so planned, in which the simplifiers came to their end
+pub record Decides (plan : Plan) (formula : FormulaData) (journal : List Entry) (verdict : Verdict) : Type 0 where
+  pub holds : Holds plan.limit formula journal verdict
+  pub ruled : IsRuledThrough formula plan.rounds journal
 
 -- some verdict holds
-pub record IsDecided (limit : ℕ) (formula : FormulaData) (journal : List Entry) : Type 0 where
+pub record IsDecided (plan : Plan) (formula : FormulaData) (journal : List Entry) : Type 0 where
   pub verdict : Verdict
-  pub decides : Decides limit formula journal verdict
+  pub decides : Decides plan formula journal verdict
 
 -- the journal has as many entries as may stand: one more is needed than there is room for
 pub record IsFull (journal : List Entry) (lack : NoRoom) : Type 0 where

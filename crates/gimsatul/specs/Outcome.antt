@@ -73,7 +73,7 @@ printed_of plan formula verdict = answer_text formula.vars (remarks_of (is_some 
 -- the verdict holds, and its text is printed, and nothing else
 pub record IsAnswered (verdict : Verdict) (formula : FormulaData) (journal : List Entry) (tally : Tally) (run : Run) : Type 0 where
   pub started : IsStarted 0 formula journal tally run
-  pub decided : Decides run.plan.limit formula journal verdict
+  pub decided : Decides run.plan formula journal verdict
   pub printed : Prints run.out (printed_of run.plan formula verdict)
   pub quiet : IsQuiet run
 
@@ -81,7 +81,7 @@ pub record IsAnswered (verdict : Verdict) (formula : FormulaData) (journal : Lis
 pub record IsCutOff (formula : FormulaData) (journal : List Entry) (tally : Tally) (run : Run) : Type 0 where
   pub started : IsStarted 0 formula journal tally run
   pub verdict : Verdict
-  pub decided : Decides run.plan.limit formula journal verdict
+  pub decided : Decides run.plan formula journal verdict
   pub proof : IsSomeAnd run.proof (λ writer. writer.faults ≡ 0)
   pub printed : PrintsPart run.out (printed_of run.plan formula verdict)
   pub rose : RoseIn run.out.faults
@@ -90,7 +90,7 @@ pub record IsCutOff (formula : FormulaData) (journal : List Entry) (tally : Tall
 pub record IsUnproved (formula : FormulaData) (journal : List Entry) (tally : Tally) (run : Run) : Type 0 where
   pub before : ℕ
   pub started : IsStarted before formula journal tally run
-  pub decided : before ≡ 0 → IsDecided run.plan.limit formula journal
+  pub decided : before ≡ 0 → IsDecided run.plan formula journal
   pub rose : IsSomeAnd run.proof (λ writer. Rose 0 writer.faults)
 
 -- as many lines stand as may, so that there was no room for one more, and none failed; the journal has fewer lemmas than the
@@ -119,7 +119,7 @@ pub record IsStarved (formula : FormulaData) (journal : List Entry) (tally : Tal
 pub record IsUnchecked (formula : FormulaData) (journal : List Entry) (tally : Tally) (run : Run) : Type 0 where
   pub asked : run.plan.check ≡ true
   pub started : IsStarted 0 formula journal tally run
-  pub decided : IsDecided run.plan.limit formula journal
+  pub decided : IsDecided run.plan formula journal
   pub quiet : IsQuiet run
 
 abbrev pub Outcome : End → FormulaData → List Entry → Tally → Run → Type 0

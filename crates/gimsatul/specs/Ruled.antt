@@ -1,5 +1,5 @@
 -- What the ruler does before the ring starts.
-use Rattle.std.specs.Prelude.{◌≡◌, ◌≢◌, ℕ, Bool, false, List, [], length, Result, Ok}
+use Rattle.std.specs.Prelude.{◌≡◌, ◌≢◌, ℕ, Bool, false, List, [], length, Result, Ok, Err}
 use Rattle.io_edge.specs.Paths.{IsEmptyWhereTold}
 use Rattle.sat_words.specs.FormulaData.{FormulaData}
 use Rattle.rup_model.specs.declared.journal.Entry.{Entry}
@@ -26,6 +26,11 @@ pub record IsRuled (formula : FormulaData) (rounds : ℕ) (journal : List Entry)
   pub result : Result Run LineStop
   pub ran : SimplifiedTo rounds (begun formula output) work result (ruler_part journal)
   pub alone : result ≢ Ok Done → rings_part journal ≡ []
+
+-- the simplifiers ran to their end, and no line of theirs was refused
+pub record IsRuledThrough (formula : FormulaData) (rounds : ℕ) (journal : List Entry) : Type 0 where
+  pub ruled : IsRuled formula rounds journal
+  pub through : (why : LineStop) → ruled.result ≢ Err why
 
 -- the lines of a formula of which none is put yet, where nothing has failed, and where nothing was written
 pub record AreBlank (keep : Bool) (formula : FormulaData) (lines : LineState) : Type 0 where

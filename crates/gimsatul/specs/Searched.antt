@@ -19,12 +19,12 @@ use Rattle.gimsatul.specs.Logged.{IsSameTold, IsFrontTold}
 
 -- a verdict that holds of the journal; or the end without one: where no write failed, neither is the
 -- limit learned then nor the empty clause added
-abbrev pub Concludes : ℕ → FormulaData → List Entry → ℕ → Result Verdict End → Type 0
-Concludes limit formula journal faults (Ok verdict) = (faults ≡ 0) × Decides limit formula journal verdict
-Concludes limit formula journal faults (Err ProofFault) = Rose 0 faults
-Concludes limit formula journal faults (Err (Room lack)) = (faults ≡ 0) × (length (learned 0 journal) < limit) × IsFull journal lack × IsUnrefuted journal
-Concludes limit formula journal faults (Err Memory) = (faults ≡ 0) × (length (learned 0 journal) < limit) × IsUnrefuted journal
-Concludes limit formula journal faults (Err _) = ⊥
+abbrev pub Concludes : Plan → FormulaData → List Entry → ℕ → Result Verdict End → Type 0
+Concludes plan formula journal faults (Ok verdict) = (faults ≡ 0) × Decides plan formula journal verdict
+Concludes plan formula journal faults (Err ProofFault) = Rose 0 faults
+Concludes plan formula journal faults (Err (Room lack)) = (faults ≡ 0) × (length (learned 0 journal) < plan.limit) × IsFull journal lack × IsUnrefuted journal
+Concludes plan formula journal faults (Err Memory) = (faults ≡ 0) × (length (learned 0 journal) < plan.limit) × IsUnrefuted journal
+Concludes plan formula journal faults (Err _) = ⊥
 
 -- a search with this result, which began with as many rounds of simplifiers as the plan has, counted so many lemmas, no more
 -- than may be learned, and left the proof's writer with
@@ -35,7 +35,7 @@ pub record IsSearch (plan : Plan) (formula : FormulaData) (verdict : Result Verd
   pub ruled : IsRuled formula plan.rounds journal
   pub counts : count ≡ length (learned 0 journal)
   pub within : count ≤ plan.limit
-  pub conclusion : Concludes plan.limit formula journal faults verdict
+  pub conclusion : Concludes plan formula journal faults verdict
   pub whole : faults ≡ 0 → HoldsText written (text (lines formula.clauses journal))
   pub short : (faults ≡ 0 → ⊥) → IsCutShort formula.clauses journal written
   pub keeps : faults ≡ 0 → IfSome kept (λ L. L ≡ lines formula.clauses journal)

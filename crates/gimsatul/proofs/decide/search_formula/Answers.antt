@@ -10,7 +10,7 @@ finish-requires-clause-accepted g c =
     let made = c.search-verdict.ensures in
     let s = made.searched in
     let plan = c.args.plan.now in
-    let found = concluded c.in-Ok.verdict plan.limit c.search-verdict.result.verdict c.args.formula s.journal _ c.in-Ok.is s.conclusion in
+    let found = concluded c.in-Ok.verdict plan c.search-verdict.result.verdict c.args.formula s.journal _ c.in-Ok.is s.conclusion in
     accepted_by plan c.args.formula s.journal c.search-verdict.result.kept.formula _ (ok_holds c.search-verdict.result.verdict c.in-Ok.verdict c.in-Ok.is made.formula) (is_some-map _ c.search-verdict.result.kept.lines ∙ ok_holds c.search-verdict.result.verdict c.in-Ok.verdict c.in-Ok.is made.lines) (s.keeps found.0) s.stands.accepted
 
 pub returns-in-Err-clause-outcome : goal.returns-in-Err-clause-outcome
@@ -33,7 +33,7 @@ returns-clause-outcome g c = λ text source given still.
     let plan = c.args.plan.now in
     let end = c.finish in
     let counts = counted c.args.tally.now c.set.new.self c.search-verdict.result.learned c.requires.started c.set.ensures in
-    let found = concluded c.in-Ok.verdict plan.limit c.search-verdict.result.verdict c.args.formula s.journal _ c.in-Ok.is s.conclusion in
+    let found = concluded c.in-Ok.verdict plan c.search-verdict.result.verdict c.args.formula s.journal _ c.in-Ok.is s.conclusion in
     let kept = ok_holds c.search-verdict.result.verdict c.in-Ok.verdict c.in-Ok.is made.formula in
     let checked = ok_holds c.search-verdict.result.verdict c.in-Ok.verdict c.in-Ok.is made.lines in
     record {

@@ -14,3 +14,6 @@ pub mod Literals
 pub mod Contiguous
 pub mod Filling
 pub mod Accounts
+pub mod LowWords
+pub mod Exchanging
+pub mod Stopping

@@ -10,3 +10,5 @@ pub mod Openings
 pub mod Told
 pub mod Passes
 pub mod FirstWords
+pub mod Exchanges
+pub mod ExchangesTold

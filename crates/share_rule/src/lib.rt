@@ -6,6 +6,8 @@
 #![tactic(auto)]
 
 mod closing;
+mod exchange_laws;
+mod exchange_plays;
 mod first_words;
 mod laws;
 mod ledger;
@@ -20,6 +22,11 @@ ghost use Rattle.share_rule.specs.Layout.{table_words};
 
 use atomic_table::Table;
 pub use closing::close;
+pub use exchange_laws::{
+    a_get_is_its_event, a_look_at_the_stop_is_no_event, a_put_is_its_event, a_stop_is_its_event,
+    a_stop_is_of_one_ring,
+};
+pub use exchange_plays::{Gets, LooksAtStop, Puts, SetsStop};
 pub use laws::{
     a_drop_is_its_event, a_grant_is_its_event, a_join_is_no_event, a_load_is_no_event,
     a_share_is_its_event, a_split_is_no_event, a_store_is_no_event, an_opening_is_its_event,

@@ -1,0 +1,6 @@
+use Rattle.share_rule.specs.Books.{StandsFor}
+use Rattle.share_rule.proofs.Exchanging.{get_next}
+use Rattle.share_rule.proofs.exchange_laws.a_get_is_its_event.Goals as goal
+
+pub returns : goal.returns
+returns g c = get_next (StandsFor g.B.Ledger.account g.B.Ledger.stands)

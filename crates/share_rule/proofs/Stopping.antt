@@ -216,3 +216,7 @@ few_found v s n is = dite (ℕ_discrete n 0)
     let few = s.left.opens.few_rings in
     let r = t.2 in
     omega arith)
+
+-- who lost sees what was found
+pub lost_sees : (code n : ℕ) (v : View) → n ≢ 0 → (after_set code n v).stop ≡ stop_of n
+lost_sees code n v ne = λ i. (if ne_eqb n 0 ne i then after_win code v else after_loss code n v).stop

@@ -1,4 +1,2 @@
 mod Decoding
 mod Waiting
-mod Trying
-mod Trading

@@ -12,12 +12,3 @@ mod reads;
 pub use builds::{open_cell, store_word};
 pub use counts::{Dropped, drop_count, share, take_grant};
 pub use reads::{read_head, read_lit};
-
-#[cfg(test)]
-mod tests;
-#[cfg(test)]
-mod tests_book;
-#[cfg(test)]
-mod tests_problem;
-#[cfg(test)]
-mod tests_rings;

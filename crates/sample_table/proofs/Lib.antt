@@ -1,0 +1,2 @@
+mod Trying
+pub mod Trading

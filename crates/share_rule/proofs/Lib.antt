@@ -7,6 +7,12 @@ pub mod Steps
 pub mod Granting
 pub mod Loading
 pub mod Building
+pub mod Sheets
+pub mod Noting
+pub mod Turning
+pub mod Written
+pub mod UnitWords
+pub mod Listing
 pub mod Seats
 pub mod Openings
 pub mod Ends

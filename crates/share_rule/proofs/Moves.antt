@@ -115,7 +115,7 @@ pub record Frame (r : ℕ) (c d : State) (glue glue' : ℕ → ℕ) : Type 0 whe
   pub stop_stays : (t : Stop) → c.stop ≡ Some t → d.stop ≡ Some t
   pub stop_new : (t : Stop) → d.stop ≡ Some t → (c.stop ≡ Some t) ⊎ (t.ring ≡ r)
   pub ends : ended c.opening.formula c.journal ≡ true → ended d.opening.formula d.journal ≡ true
-  pub given : (i : ℕ) (gave : List ClauseAt) → i ≢ r → HasGiven c i gave → HasGiven d i gave
+  pub given : (i : ℕ) (gave : List ClauseAt) → i ≢ r → i < c.opening.rings → HasGiven c i gave → HasGiven d i gave
   pub glue_kept : (n : ℕ) → n < (book c.opening.formula c.journal).next → glue' n ≡ glue n
 
 -- where journal, turn, units, stop, slots and glues stay, and the clauses of cells
@@ -141,7 +141,7 @@ frame_of r c d glue s g p = record {
   stop_stays = λ t e. s.stop ∙ e;
   stop_new = λ t e. inl (sym s.stop ∙ e);
   ends = λ e. (λ i. ended (s.opening i).formula (s.journal i)) ∙ e;
-  given = λ i gave ne h. given_same c d i gave s.opening s.slots s.clauses h;
+  given = λ i gave ne lt h. given_same c d i gave s.opening s.slots s.clauses h;
   glue_kept = λ n lt. refl;
 }
 
@@ -162,7 +162,7 @@ part_else r c d glue glue' p sound f ne h =
       refused = λ x e. f.refused x (h.refused x e);
       set = h.set ∙ sym (f.own (ring_of p) ne);
       ended_is = λ e. f.ends (h.ended_is e);
-      given = f.given (ring_of p) p.gave ne h.given;
+      given = f.given (ring_of p) p.gave ne h.ring h.given;
     }
 
 module _ {S : Type 0} (stands : S → Layout → CoreOpening → List Entry → Type 0) (l : Layout) where

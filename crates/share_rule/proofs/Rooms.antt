@@ -215,7 +215,7 @@ placed_else m k size n ne = by (first_fit (words_for size) m.holes)
     by None = refl
     by (Some a) = put_else m.words k (Some (range a (words_for size))) n ne
 
-freed_else : (m : Room) (k n : ℕ) → n ≢ k → (freed m k).words n ≡ m.words n
+pub freed_else : (m : Room) (k n : ℕ) → n ≢ k → (freed m k).words n ≡ m.words n
 freed_else m k n ne = by (m.words k)
   where
     by : (q : Option Hole) → (without_words k m q).words n ≡ m.words n

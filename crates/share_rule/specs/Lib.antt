@@ -8,6 +8,10 @@ pub mod Seen
 pub mod Shown
 pub mod Openings
 pub mod Told
+pub mod Turns
+pub mod TurnsTold
+pub mod Units
+pub mod UnitsTold
 pub mod Passes
 pub mod FirstWords
 pub mod Exchanges

@@ -1,8 +1,9 @@
 //! The shared table of words, and the one rule over it: what the words, the book in the table's slot and the views of
 //! the passes show is a state of the core that enabled events leave, so a sound one.
 //!
-//! A `Pass` is a seat at the table. It moves the words of the rings whose parts it has, by the steps of `plays`; the
-//! crates above take them. `laws` says of each step which event of the core it is.
+//! A `Pass` is a seat at the table. It moves the words of the rings whose parts it has, by the steps of `plays`,
+//! `turn_plays` and `unit_plays`; the crates above take them. `laws`, `turn_laws` and `unit_laws` say of each step which
+//! event of the core it is.
 #![tactic(auto)]
 
 mod closing;
@@ -12,9 +13,14 @@ mod first_words;
 mod laws;
 mod ledger;
 mod making;
+mod note;
 mod passes;
 mod plays;
 mod rule;
+mod turn_laws;
+mod turn_plays;
+mod unit_laws;
+mod unit_plays;
 mod view;
 
 ghost use Rattle.std.specs.Prelude.{◌≡◌, ◌≤◌, ◌^◌};
@@ -35,10 +41,18 @@ pub use laws::{
 };
 pub use ledger::{BookState, Ledger};
 pub use making::{MakeStop, make};
+pub use note::Note;
 pub use passes::{join, split};
 pub use plays::{Drops, Grants, Loads, Looks, Opens, Shares, Stores};
 pub use rule::{Key, Pass, Rule};
 use std::alloc::Global;
+pub use turn_laws::{a_turn_is_its_events, a_turn_missed_is_no_event, a_turn_taken_is_its_event};
+pub use turn_plays::{Gives, Notes, Takes};
+pub use unit_laws::{
+    a_unit_count_is_no_event, a_unit_listed_is_its_event, a_unit_seen_is_its_event,
+    a_unit_stored_is_no_event,
+};
+pub use unit_plays::{CountsUnits, ListsUnit, SeesUnit, StoresUnit, Unit};
 pub use view::{GlueAt, LastStep, Op, Refusal, RingPart, Stage, StoredWord, Taken, View};
 
 /// How many rings, variables and words for cells a table has.

@@ -87,7 +87,7 @@ pub struct RingPart {
     pub whole: bool,
     /// The word that it stored for the next listed unit, not counted yet.
     pub unit: Option<u64>,
-    /// What its turns were refused first.
+    /// What its turns were refused last.
     pub refused: Option<Refusal>,
     /// The stop that it set.
     pub set: Option<Stop>,

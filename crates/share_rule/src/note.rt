@@ -1,0 +1,35 @@
+//! What a ring writes while it has the turn.
+use rup_model::Kind;
+use sat_words::{Lit, Lits};
+
+/// One entry that a ring writes. Its number, where it has one, is the next of the log.
+#[derive(Drop)]
+pub enum Note {
+    /// A clause of two literals or more, for a cell at this address.
+    Clause {
+        /// Whether it is learned or derived.
+        kind: Kind,
+        /// Its literals, in the cell's order.
+        lits: Lits,
+        /// Its glue.
+        glue: u32,
+        /// The first word of its cell.
+        address: u64,
+    },
+    /// A unit clause.
+    Unit {
+        /// Whether it is learned or propagated.
+        kind: Kind,
+        /// Its literal.
+        lit: Lit,
+    },
+    /// The empty clause, with which the log ends.
+    Empty,
+    /// The ring reduces its clauses.
+    Reduce,
+    /// The clause of a cell that waits is deleted, and its words are free again.
+    Bury {
+        /// The first word of its cell.
+        address: u64,
+    },
+}

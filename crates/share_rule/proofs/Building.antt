@@ -1,5 +1,5 @@
 -- Storing words of a cell and opening it keep the rule.
-use Rattle.std.proofs.Common.{◌≡◌, ℕ, ◌+◌, ◌<◌, ◌≤◌, true, List, length, set, refl, sym, ap, ◌∙◌, subst, arith, inr, Option}
+use Rattle.std.proofs.Common.{◌≡◌, ℕ, ◌+◌, ◌<◌, ◌≤◌, true, List, length, set, refl, sym, ap, ◌∙◌, subst, arith, inr, Option, Bool}
 use Rattle.std.specs.Prelude.{slice_index}
 use mathlib.Core.Option.{some, some-injective, some-ne-none}
 use mathlib.Core.Option as maybe
@@ -39,7 +39,7 @@ use Rattle.share_rule.proofs.Words.{places_recounted, count_words, recount_store
 use Rattle.share_rule.proofs.Moves.{one_ring, Stays, frame_of, given_same, stops_same, moved}
 use Rattle.share_rule.proofs.Steps.{told, recount_stays, stays_still}
 
-module _ {S : Type 0} (stands : S → Layout → CoreOpening → List Entry → Type 0) (k : Key) where
+module _ {S : Type 0} (stands : S → Layout → CoreOpening → List Entry → Bool → Type 0) (k : Key) where
   pub store_next : (s : Table (Option S) View) (h : Shows stands k.layout s) (id a i n : ℕ) (v : View) → get_elem? s.views id ≡ some v → is_ready v.stage ≡ true → IsBuilding a v → 0 < i → i < words_for (length (making_of a v).lits)
       → (m : Shows stands k.layout (record { words = set s.words (a + i) n; homes = s.homes; views = set s.views id (after_store (a + i) n v) })) × (m.core ≡ h.core)
   store_next s h id a i n v at ready building some_i few_i =

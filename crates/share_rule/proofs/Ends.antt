@@ -1,5 +1,5 @@
 -- The table is taken apart.
-use Rattle.std.proofs.Common.{◌≡◌, ℕ, zero, suc, ◌<◌, ◌==◌, true, List, [], ◌∷◌, map, refl, sym, ap, ◌∙◌, subst, arith, ne_eqb, Option, Some, None}
+use Rattle.std.proofs.Common.{◌≡◌, ℕ, zero, suc, ◌<◌, ◌==◌, true, List, [], ◌∷◌, map, refl, sym, ap, ◌∙◌, subst, arith, ne_eqb, Option, Some, None, Bool}
 use mathlib.Core.Option.{some, some-injective, some-ne-none}
 use mathlib.Core.Logic.{dite}
 use native.Mathlib.Decide.{ℕ_discrete}
@@ -17,7 +17,7 @@ use Rattle.share_rule.specs.declared.view.View.{View}
 use Rattle.share_rule.specs.Views.{times_in, is_ready}
 use Rattle.share_rule.specs.Seen.{Seen, turn_of}
 use Rattle.share_rule.specs.Shown.{Shown, Shows, ring_of}
-use Rattle.share_rule.specs.Passes.{IsWhole, NoTurns}
+use Rattle.share_rule.specs.Passes.{IsWhole, NoTurns, TellsFaults}
 use Rattle.share_rule.proofs.Parts.{is_open, seen_with}
 use Rattle.share_rule.proofs.Moves.{turn_some}
 
@@ -36,8 +36,8 @@ none_of : (t : Option ℕ) → ((r : ℕ) → t ≡ Some r → ⊥) → t ≡ No
 none_of None h = refl
 none_of (Some r) h = absurd (h r refl)
 
-pub closes : {S : Type 0} (stands : S → Layout → CoreOpening → List Entry → Type 0) (k : Key) (id : ℕ) (v : View) (ws : List ℕ) (xs : List (Option S)) (slot : Option S) → is_ready v.stage ≡ true → IsWhole v → NoTurns v.parts
-    → Final (Sees (Shown stands k) id v) ws xs → get_elem? xs 0 ≡ some slot → (s : Seen v) × (b : S) × (slot ≡ Some b) × stands b v.layout v.opening s.core.journal
+pub closes : {S : Type 0} (stands : S → Layout → CoreOpening → List Entry → Bool → Type 0) (k : Key) (id : ℕ) (v : View) (ws : List ℕ) (xs : List (Option S)) (slot : Option S) → is_ready v.stage ≡ true → IsWhole v → NoTurns v.parts
+    → Final (Sees (Shown stands k) id v) ws xs → get_elem? xs 0 ≡ some slot → (s : Seen v) × (b : S) × (slot ≡ Some b) × ((fault : Bool) × stands b v.layout v.opening s.core.journal fault × TellsFaults v.parts fault)
 closes stands k id v ws xs slot ready whole none f at_slot =
     let s = f.0 in
     let h : Shows stands k.layout s = is_open stands k s id v f.1.0 f.1.1 ready in
@@ -53,5 +53,5 @@ closes stands k id v ws xs slot ready whole none f at_slot =
       seen.0,
       home.0,
       some-injective slot (Some home.0) (sym at_slot ∙ f.4 0 (Some home.0) home.1),
-      subst (λ (y : Layout × (CoreOpening × List Entry)). stands home.0 y.0 y.1.0 y.1.1) (λ i. (sym t.0 i, (sym t.1 i, ap (λ (q : State). q.journal) (sym seen.1) i))) home.2,
+      (h.fault, subst (λ (y : Layout × (CoreOpening × List Entry)). stands home.0 y.0 y.1.0 y.1.1 h.fault) (λ i. (sym t.0 i, (sym t.1 i, ap (λ (q : State). q.journal) (sym seen.1) i))) home.2, λ i p e. (h.faults id v i p f.1.1 e).told),
     )

@@ -31,7 +31,7 @@ use Rattle.share_rule.specs.Views.{glue_in, start_glues, IsRight}
 use Rattle.share_rule.specs.Steps.{new_part, after_grant}
 use Rattle.share_rule.specs.Seen.{IsPart, IsStopOf, HasGiven, turn_of}
 use Rattle.share_rule.specs.declared.view.Taken.{Taken}
-use Rattle.share_rule.specs.Shown.{Fits, Shown, Shows, IsOut, ring_of}
+use Rattle.share_rule.specs.Shown.{Fits, Shown, Shows, IsOut, ring_of, KnowsFault}
 use Rattle.share_rule.specs.Told.{Knows, took_grant}
 use Rattle.share_core.proofs.Leaving.{left_sound, left_one}
 use Rattle.share_rule.proofs.Lists.{times_without, both_true, not_true, no_test, small_test, start_glue}
@@ -58,7 +58,7 @@ none_given c d r sound lt same slots fresh = subst (λ (y : CoreOpening × (ℕ 
     (λ i. (sym same i, sym slots i))
     (λ to class lt' few some. absurd (some (sound.slots r to class lt lt' few some ∙ ap (λ (q : Part). last_put to class q.puts) fresh)))
 
-module _ {S : Type 0} (stands : S → Layout → CoreOpening → List Entry → Type 0) (k : Key) where
+module _ {S : Type 0} (stands : S → Layout → CoreOpening → List Entry → Bool → Type 0) (k : Key) where
   grant_stops : (o : Option Stop) (v : View) → {r : ℕ} → IsStopOf o v.stop v.parts → IsStopOf o v.stop (new_part v.opening r ∷ v.parts)
   grant_stops o v {r} f = record { stands = f.stands; own = own }
     where
@@ -108,7 +108,7 @@ module _ {S : Type 0} (stands : S → Layout → CoreOpening → List Entry → 
       let frame : Frame r c d h.glue h.glue = frame_of r c d h.glue (record { opening = refl; journal = refl; turn = refl; units = refl; stop = refl; slots = λ _. refl; clauses = λ _. refl }) else_where others in
       let next = acted stands l s h d h.glue id r v w (set s.words (grant_at r) 0) s.homes at (left_one c.opening c (Grant r) h.left (lt, closed))
       (record { rings = h.places.rings; words = h.places.words; vars = h.places.vars; starts = h.places.starts; units = h.places.units; few = h.places.few })
-      (grant_words l c h.glue s.words r p (standing_of stands l s h) in_layout h.words) frame own lt here h.home
+      (grant_words l c h.glue s.words r p (standing_of stands l s h) in_layout h.words) frame own lt here h.fault h.home
       (record {
         rights = λ i it. let q = times_without r i v.rights some_right in dite (ℕ_discrete i r)
             (λ e. let o : one_if (r == i) ≡ 1 = ap one_if (eq-eqb r i (sym e)) in let old = f.rights i it in
@@ -128,13 +128,19 @@ module _ {S : Type 0} (stands : S → Layout → CoreOpening → List Entry → 
         parts = λ i y e. each_part c d h.glue v sound frame (λ j z q. (f.parts j z q, (part_owner l c h.glue h.owner id v j z f q).2)) first closed i y e;
       })
       (λ y _ z. (grant_stored l c d s.words r (ring_of y) y.stored (standing_of stands l s h) in_layout (λ _. refl) z.0, unit_kept l c d s.words (grant_at r) 0 y refl refl (λ k' lt e. omega arith) z.1))
-      (λ i y e. stored_part l d (set s.words (grant_at r) 0) v (λ j z q. let out = h.stored id v j z at q in (grant_stored l c d s.words r (ring_of z) z.stored (standing_of stands l s h) in_layout (λ _. refl) out.0, unit_kept l c d s.words (grant_at r) 0 z refl refl (λ k' lt e. omega arith) out.1)) i y e) in
+      (λ i y e. stored_part l d (set s.words (grant_at r) 0) v (λ j z q. let out = h.stored id v j z at q in (grant_stored l c d s.words r (ring_of z) z.stored (standing_of stands l s h) in_layout (λ _. refl) out.0, unit_kept l c d s.words (grant_at r) 0 z refl refl (λ k' lt e. omega arith) out.1)) i y e)
+      (λ _ _ _ z. z) (λ i y e. knows_part h.fault v (λ t is. none_some t is) (λ j z q. h.faults id v j z at q) i y e) in
       (next.0, next.1, n_is)
     where
       stored_part : (l : Layout) (d : State) (ws : List ℕ) (v : View) → ((i : ℕ) (p : RingPart) → get_elem? v.parts i ≡ some p → IsOut l d ws p)
           → (i : ℕ) (y : RingPart) → get_elem? (new_part v.opening r ∷ v.parts) i ≡ some y → IsOut l d ws y
       stored_part l d ws v old zero y e = subst (IsOut l d ws) (some-injective (new_part v.opening r) y e) (record { words = λ w n q. absurd (none_some n q); inside = λ w n q. absurd (none_some n q) }, λ n q. absurd (none_some n q))
       stored_part l d ws v old (suc i) y e = old i y e
+
+      knows_part : (fault : Bool) (v : View) → ((t : Taken) → (new_part v.opening r).turn ≡ Some t → ⊥) → ((i : ℕ) (p : RingPart) → get_elem? v.parts i ≡ some p → KnowsFault fault p)
+          → (i : ℕ) (y : RingPart) → get_elem? (new_part v.opening r ∷ v.parts) i ≡ some y → KnowsFault fault y
+      knows_part fault v none old zero y e = subst (KnowsFault fault) (some-injective (new_part v.opening r) y e) (record { told = λ q. absurd (true≢false (sym q)); taken = λ t q f. absurd (none t q) })
+      knows_part fault v none old (suc i) y e = old i y e
 
       each_part : (c d : State) (glue : ℕ → ℕ) (v : View) → Sound c → Frame r c d glue glue → ((i : ℕ) (p : RingPart) → get_elem? v.parts i ≡ some p → IsPart c glue p × (c.granted (ring_of p) ≡ true))
           → IsPart d glue (new_part v.opening r) → c.granted r ≡ false

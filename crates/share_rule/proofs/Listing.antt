@@ -1,5 +1,5 @@
 -- Units are listed and seen.
-use Rattle.std.proofs.Common.{◌≡◌, ℕ, zero, suc, ◌+◌, ◌*◌, ◌<◌, ◌≤◌, true, List, [], ◌∷◌, ◌++◌, map, length, set, refl, sym, ap, ◌∙◌, subst, inl, inr, arith, true≢false, length-append, get_or-set_same, Option, Some, None}
+use Rattle.std.proofs.Common.{◌≡◌, ℕ, zero, suc, ◌+◌, ◌*◌, ◌<◌, ◌≤◌, true, List, [], ◌∷◌, ◌++◌, map, length, set, refl, sym, ap, ◌∙◌, subst, inl, inr, arith, true≢false, length-append, get_or-set_same, Option, Some, None, Bool}
 use Rattle.std.specs.Prelude.{slice_index, slice_index_or, is_some}
 use mathlib.Core.Option.{some, some-injective, some-ne-none}
 use mathlib.Core.Option as maybe
@@ -39,7 +39,7 @@ use Rattle.share_rule.proofs.Literals.{few_distinct}
 use Rattle.share_rule.proofs.Steps.{told, stays_still}
 use Rattle.share_rule.proofs.UnitWords.{low_stored, unit_words, list_words, Listable, listable, seen_few, only_changed}
 
-module _ {S : Type 0} (stands : S → Layout → CoreOpening → List Entry → Type 0) (k : Key) where
+module _ {S : Type 0} (stands : S → Layout → CoreOpening → List Entry → Bool → Type 0) (k : Key) where
   -- the number of listed units is loaded
   counted_next : (s : Table (Option S) View) (h : Shows stands k.layout s) (id : ℕ) (v : View) → get_elem? s.views id ≡ some v → is_ready v.stage ≡ true → v.parts ≡ only v ∷ []
       → (m : Shows stands k.layout (record { words = s.words; homes = s.homes; views = set s.views id (after_count (slice_index s.words 2) v) })) × (m.core ≡ h.core)
@@ -183,7 +183,7 @@ module _ {S : Type 0} (stands : S → Layout → CoreOpening → List Entry → 
         turn = λ _ _. refl;
         units = omega arith;
         kept_turn = λ i ne e. absurd (ne (some_same i r (sym e ∙ ok.turn)));
-        refused = λ x e. e;
+        refused = λ _ x e. e;
         own = λ _ _. refl;
         stop_stays = λ _ e. e;
         stop_new = λ _ e. inl e;

@@ -1,5 +1,5 @@
 -- Reading keeps the rule, and what is read of a cell that is held is its clause.
-use Rattle.std.proofs.Common.{◌≡◌, ℕ, ◌<◌, true, List, [], ◌∷◌, set, refl, sym, ap, ◌∙◌, subst, inr, Option}
+use Rattle.std.proofs.Common.{◌≡◌, ℕ, ◌<◌, true, List, [], ◌∷◌, set, refl, sym, ap, ◌∙◌, subst, inr, Option, Bool}
 use Rattle.std.specs.Prelude.{slice_index}
 use mathlib.Core.Option.{some, some-injective, some-ne-none}
 use mathlib.Core.Option as maybe
@@ -31,7 +31,7 @@ use Rattle.share_rule.proofs.Parts.{held_is, held_clause, is_open}
 use Rattle.share_rule.proofs.Moves.{one_ring, looked}
 use Rattle.share_rule.proofs.Steps.{told}
 
-module _ {S : Type 0} (stands : S → Layout → CoreOpening → List Entry → Type 0) (k : Key) where
+module _ {S : Type 0} (stands : S → Layout → CoreOpening → List Entry → Bool → Type 0) (k : Key) where
   -- what is read of a held cell
   pub words_of : (l : Layout) (s : Table (Option S) View) (h : Shows stands l s) (v : View) (p : IsPart h.core h.glue (only v)) (a : ℕ) → 0 < times_at a (only v).core.held
       → Spells s.words a (clause_of a v).number (glue_in (clause_of a v).number (only v).glues) (clause_of a v).lits

@@ -1,5 +1,5 @@
 -- What stays of the rule when one pass and the part of one ring move.
-use Rattle.std.proofs.Common.{◌≡◌, ◌≢◌, ◌⊎◌, inl, ℕ, zero, suc, ◌<◌, ◌≤◌, ◌==◌, ◌&&◌, true, not, List, [], ◌∷◌, map, length, All, set, refl, sym, ap, ◌∙◌, subst, ⊎_elim, arith, eq-eqb, ne_eqb, eqb-true, true≢false, length-set, Option, Some, None}
+use Rattle.std.proofs.Common.{◌≡◌, ◌≢◌, ◌⊎◌, inl, ℕ, zero, suc, ◌<◌, ◌≤◌, ◌==◌, ◌&&◌, Bool, true, not, List, [], ◌∷◌, map, length, All, set, refl, sym, ap, ◌∙◌, subst, ⊎_elim, arith, eq-eqb, ne_eqb, eqb-true, true≢false, length-set, Option, Some, None}
 use Rattle.std.specs.Prelude.{Contains, if◌then◌else◌}
 use mathlib.Core.Option.{some, some-injective, some-ne-none}
 use mathlib.Core.Option as maybe
@@ -32,7 +32,7 @@ use Rattle.sat_words.specs.Literal.{Literal}
 use Rattle.share_core.proofs.Leaving.{left_sound}
 use Rattle.share_rule.proofs.Parts.{cell_below, number_below}
 use Rattle.share_rule.specs.Room.{Places}
-use Rattle.share_rule.specs.Shown.{Words, Fits, Shows, IsHome, IsOut, ring_of}
+use Rattle.share_rule.specs.Shown.{Words, Fits, Shows, IsHome, IsOut, KnowsFault, ring_of}
 use Rattle.share_rule.proofs.Lists.{both_true, times_at_part, off}
 
 -- the owner of a part's ring
@@ -79,11 +79,18 @@ turn_is c i t e = sym (ap (λ (x : Taken). x.journal) (some_same (record { journ
 pub turn_same : (c d : State) (i : ℕ) → d.journal ≡ c.journal → d.turn ≡ c.turn → turn_of d i ≡ turn_of c i
 turn_same c d i j t = λ k. if is_ring i (t k) then Some (record { journal = j k }) else None
 
-pub refused_same : (c d : State) → d.opening ≡ c.opening → d.journal ≡ c.journal → (x : Refusal) → IsRefused c.opening c.journal x → IsRefused d.opening d.journal x
-refused_same c d o j Ended e = (λ i. ended (o i).formula (j i)) ∙ e
-refused_same c d o j Broken h = h
-refused_same c d o j ProofFault h = h
-refused_same c d o j (NoHole need largest) lt = lt
+pub refused_same : (c d : State) → d.opening ≡ c.opening → d.journal ≡ c.journal → (failed : Bool) (x : Refusal) → IsRefused c.opening c.journal failed x → IsRefused d.opening d.journal failed x
+refused_same c d o j failed Ended e = (λ i. ended (o i).formula (j i)) ∙ e
+refused_same c d o j failed Broken h = h
+refused_same c d o j failed ProofFault h = h
+refused_same c d o j failed (NoHole need largest) lt = lt
+
+-- a ring that is told of a failed write was refused for as good a cause
+pub refused_more : (o : CoreOpening) (J : List Entry) (was now : Bool) → (was ≡ true → now ≡ true) → (x : Refusal) → IsRefused o J was x → IsRefused o J now x
+refused_more o J was now more Ended e = e
+refused_more o J was now more Broken e = more e
+refused_more o J was now more ProofFault e = more e
+refused_more o J was now more (NoHole need largest) lt = lt
 
 -- what slots have is the same where slots and clauses are
 pub given_same : (c d : State) (i : ℕ) (gave : List ClauseAt) → d.opening ≡ c.opening → ((k : ℕ) → d.slot k ≡ c.slot k) → ((a : ℕ) → clause_at d a ≡ clause_at c a) → HasGiven c i gave → HasGiven d i gave
@@ -100,6 +107,10 @@ stops_same o v w q one wp ws set f = record { stands = λ t e. f.stands t (sym w
     by zero p at t e = ws ∙ f.own 0 (only v) (ap (λ ps. get_elem? ps 0) one) t (sym set ∙ ap (λ (x : RingPart). x.set) (some-injective q p (ap (λ ps. get_elem? ps 0) (sym wp) ∙ at)) ∙ e)
     by (suc i) p at t e = absurd (some-ne-none p (sym at ∙ ap (λ ps. get_elem? ps (suc i)) wp))
 
+-- whose part it is, and what the ring has with the turn
+abbrev pub with_turn : RingPart → ℕ × (Option Taken × Bool)
+with_turn p = (ring_of p, (p.turn, p.failed))
+
 -- Another ring's part
 
 -- what a step of ring r leaves alone
@@ -110,7 +121,7 @@ pub record Frame (r : ℕ) (c d : State) (glue glue' : ℕ → ℕ) : Type 0 whe
   pub turn : (i : ℕ) → i ≢ r → turn_of d i ≡ turn_of c i
   pub units : length c.units ≤ length d.units
   pub kept_turn : (i : ℕ) → i ≢ r → c.turn ≡ Some i → (d.turn ≡ Some i) × (length d.units ≡ length c.units)
-  pub refused : (x : Refusal) → IsRefused c.opening c.journal x → IsRefused d.opening d.journal x
+  pub refused : (failed : Bool) (x : Refusal) → IsRefused c.opening c.journal failed x → IsRefused d.opening d.journal failed x
   pub own : (i : ℕ) → i ≢ r → own_stop i d.stop ≡ own_stop i c.stop
   pub stop_stays : (t : Stop) → c.stop ≡ Some t → d.stop ≡ Some t
   pub stop_new : (t : Stop) → d.stop ≡ Some t → (c.stop ≡ Some t) ⊎ (t.ring ≡ r)
@@ -159,20 +170,21 @@ part_else r c d glue glue' p sound f ne h =
       turn = h.turn ∙ sym (f.turn (ring_of p) ne);
       listed = let u = f.units in let k = h.listed in omega arith;
       whole = λ e. let w = h.whole e in let k = f.kept_turn (ring_of p) ne w.0 in (k.0, k.1 ∙ w.1);
-      refused = λ x e. f.refused x (h.refused x e);
+      refused = λ x e. f.refused p.failed x (h.refused x e);
       set = h.set ∙ sym (f.own (ring_of p) ne);
       ended_is = λ e. f.ends (h.ended_is e);
       given = f.given (ring_of p) p.gave ne h.ring h.given;
     }
 
-module _ {S : Type 0} (stands : S → Layout → CoreOpening → List Entry → Type 0) (l : Layout) where
+module _ {S : Type 0} (stands : S → Layout → CoreOpening → List Entry → Bool → Type 0) (l : Layout) where
   -- one pass moves, and the part and the grant of one ring of its own, and homes
   pub acted : (s : Table (Option S) View) (h : Shows stands l s) (d : State) (glue' : ℕ → ℕ) (id r : ℕ) (v w : View) (ws : List ℕ) (hs : List (maybe.Option (Option S))) → get_elem? s.views id ≡ some v
       → Left d.opening d → Places l d → Words l d glue' ws → Frame r h.core d h.glue glue' → h.owner r ≡ id → r < d.opening.rings → d.granted r ≡ true
-      → IsHome stands l d (record { words = ws; homes = hs; views = set s.views id w }) → Fits l d glue' h.owner id w
+      → (fault : Bool) → IsHome stands l d fault (record { words = ws; homes = hs; views = set s.views id w }) → Fits l d glue' h.owner id w
       → ((p : RingPart) → ring_of p ≢ r → IsOut l h.core s.words p → IsOut l d ws p) → ((i : ℕ) (p : RingPart) → get_elem? w.parts i ≡ some p → IsOut l d ws p)
+      → ((p : RingPart) → ring_of p ≢ r → IsPart d glue' p → KnowsFault h.fault p → KnowsFault fault p) → ((i : ℕ) (p : RingPart) → get_elem? w.parts i ≡ some p → KnowsFault fault p)
       → (n : Shows stands l (record { words = ws; homes = hs; views = set s.views id w })) × (n.core ≡ d)
-  acted s h d glue' id r v w ws hs at left st words frame own inside now home fit keep mine =
+  acted s h d glue' id r v w ws hs at left st words frame own inside now fault home fit keep mine others knows =
       let sound : Sound h.core = left_sound h.core.opening h.core h.left in
       let same : d.opening ≡ h.core.opening = frame.opening in (
         record {
@@ -196,7 +208,14 @@ module _ {S : Type 0} (stands : S → Layout → CoreOpening → List Entry → 
           start_glues = subst (λ (o : CoreOpening). All (λ k. glue' k.number ≡ 0) o.starts) (sym same)
               (all_map (λ (k : ClauseAt). h.glue k.number ≡ 0) (λ (k : ClauseAt). glue' k.number ≡ 0) h.core.opening.starts (λ x i e. frame.glue_kept x.number (number_below h.core sound x i) ∙ e) h.start_glues);
           owners = λ i lt. let o = h.owners i (subst (λ (o : CoreOpening). i < o.rings) same lt) in let n : length (set s.views id w) ≡ length s.views = length-set s.views id w in omega arith;
+          fault = fault;
           home = home;
+          faults = λ j u i p is e. ⊎_elim
+              (λ (x : (j ≡ id) × (w ≡ u)). knows i p (ap (λ (y : View). get_elem? y.parts i) x.1 ∙ e))
+              (λ (x : (j ≢ id) × (get_elem? s.views j ≡ some u)). let f : Fits l h.core h.glue h.owner j u = h.each j u x.1 in
+              let ne : ring_of p ≢ r = λ q. x.0 (sym (part_owner l h.core h.glue h.owner j u i p f e).1 ∙ ap h.owner q ∙ own) in
+              others p ne (part_else r h.core d h.glue glue' p sound frame ne (f.parts i p e)) (h.faults j u i p x.1 e))
+              (at_set s.views id j w u is);
           each = λ j u is. ⊎_elim
               (λ (x : (j ≡ id) × (w ≡ u)). subst (λ (y : ℕ × View). Fits l d glue' h.owner y.0 y.1) (λ i. (sym x.0 i, x.1 i)) fit)
               (λ (x : (j ≢ id) × (get_elem? s.views j ≡ some u)). let f : Fits l h.core h.glue h.owner j u = h.each j u x.1 in record {
@@ -221,25 +240,26 @@ module _ {S : Type 0} (stands : S → Layout → CoreOpening → List Entry → 
       )
 
   -- the same where the pass has that one ring, and the grants stay
-  pub moved : (s : Table (Option S) View) (h : Shows stands l s) (d : State) (glue' : ℕ → ℕ) (id : ℕ) (v w : View) (q : RingPart) (ws : List ℕ) (hs : List (maybe.Option (Option S))) → get_elem? s.views id ≡ some v
+  pub moved_with : (s : Table (Option S) View) (h : Shows stands l s) (d : State) (glue' : ℕ → ℕ) (id : ℕ) (v w : View) (q : RingPart) (ws : List ℕ) (hs : List (maybe.Option (Option S))) → get_elem? s.views id ≡ some v
       → Left d.opening d → Places l d → Words l d glue' ws → Frame (ring_of (only v)) h.core d h.glue glue' → ((i : ℕ) → d.granted i ≡ h.core.granted i)
-      → IsHome stands l d (record { words = ws; homes = hs; views = set s.views id w }) → v.parts ≡ only v ∷ [] → w.rights ≡ v.rights → w.parts ≡ q ∷ [] → ring_of q ≡ ring_of (only v) → w.layout ≡ v.layout → w.opening ≡ v.opening → is_ready w.stage ≡ is_ready v.stage → in_draft w.stage ≡ in_draft v.stage → IsStopOf d.stop w.stop w.parts → IsPart d glue' q
+      → (fault : Bool) → IsHome stands l d fault (record { words = ws; homes = hs; views = set s.views id w }) → v.parts ≡ only v ∷ [] → w.rights ≡ v.rights → w.parts ≡ q ∷ [] → ring_of q ≡ ring_of (only v) → w.layout ≡ v.layout → w.opening ≡ v.opening → is_ready w.stage ≡ is_ready v.stage → in_draft w.stage ≡ in_draft v.stage → IsStopOf d.stop w.stop w.parts → IsPart d glue' q
       → ((p : RingPart) → ring_of p ≢ ring_of (only v) → IsOut l h.core s.words p → IsOut l d ws p) → IsOut l d ws q
+      → ((p : RingPart) → ring_of p ≢ ring_of (only v) → IsPart d glue' p → KnowsFault h.fault p → KnowsFault fault p) → KnowsFault fault q
       → (n : Shows stands l (record { words = ws; homes = hs; views = set s.views id w })) × (n.core ≡ d)
-  moved s h d glue' id v w q ws hs at left st words frame grants home vp wr wp qr wl wo wop wd stops part keep own =
+  moved_with s h d glue' id v w q ws hs at left st words frame grants fault home vp wr wp qr wl wo wop wd stops part keep own others knows =
       let r : ℕ = ring_of (only v) in
       let same : d.opening ≡ h.core.opening = frame.opening in
       let fit : Fits l h.core h.glue h.owner id v = h.each id v at in
       let mine = one_ring l h.core h.glue h.owner id v fit vp in
       let rings : map ring_of w.parts ≡ map ring_of v.parts = ap (map ring_of) wp ∙ (λ i. qr i ∷ []) ∙ ap (map ring_of) (sym vp) in
-      acted s h d glue' id r v w ws hs at left st words frame mine.1 (subst (λ (o : CoreOpening). r < o.rings) (sym same) (mine.0).ring) (grants r ∙ mine.2) home (record {
+      acted s h d glue' id r v w ws hs at left st words frame mine.1 (subst (λ (o : CoreOpening). r < o.rings) (sym same) (mine.0).ring) (grants r ∙ mine.2) fault home (record {
         rights = λ i lt. ap (times_in i) wr ∙ fit.rights i (subst (λ (o : CoreOpening). i < o.rings) same lt) ∙ (λ k. one_if ((h.owner i == id) && not (sym (grants i) k)));
         owned = λ i lt. ap (times_in i) rings ∙ fit.owned i (subst (λ (o : CoreOpening). i < o.rings) same lt) ∙ (λ k. one_if ((h.owner i == id) && sym (grants i) k));
         settled = wd ∙ fit.settled;
         stops = stops;
         told = λ op. let t = fit.told (sym wop ∙ op) in (wl ∙ t.0, wo ∙ t.1 ∙ sym same);
         parts = λ i y e. only_part i y e;
-      }) keep (λ i y e. only_stored i y e)
+      }) keep (λ i y e. only_stored i y e) others (λ i y e. only_knows i y e)
     where
       only_part : (i : ℕ) (y : RingPart) → get_elem? w.parts i ≡ some y → IsPart d glue' y
       only_part zero y e = subst (IsPart d glue') (some-injective q y (ap (λ ps. get_elem? ps 0) (sym wp) ∙ e)) part
@@ -248,6 +268,23 @@ module _ {S : Type 0} (stands : S → Layout → CoreOpening → List Entry → 
       only_stored : (i : ℕ) (y : RingPart) → get_elem? w.parts i ≡ some y → IsOut l d ws y
       only_stored zero y e = subst (IsOut l d ws) (some-injective q y (ap (λ ps. get_elem? ps 0) (sym wp) ∙ e)) own
       only_stored (suc i) y e = absurd (some-ne-none y (sym e ∙ ap (λ ps. get_elem? ps (suc i)) wp))
+
+      only_knows : (i : ℕ) (y : RingPart) → get_elem? w.parts i ≡ some y → KnowsFault fault y
+      only_knows zero y e = subst (KnowsFault fault) (some-injective q y (ap (λ ps. get_elem? ps 0) (sym wp) ∙ e)) knows
+      only_knows (suc i) y e = absurd (some-ne-none y (sym e ∙ ap (λ ps. get_elem? ps (suc i)) wp))
+
+  -- the same where the ring neither takes the turn nor gives it back
+  pub moved : (s : Table (Option S) View) (h : Shows stands l s) (d : State) (glue' : ℕ → ℕ) (id : ℕ) (v w : View) (q : RingPart) (ws : List ℕ) (hs : List (maybe.Option (Option S))) → get_elem? s.views id ≡ some v
+      → Left d.opening d → Places l d → Words l d glue' ws → Frame (ring_of (only v)) h.core d h.glue glue' → ((i : ℕ) → d.granted i ≡ h.core.granted i)
+      → IsHome stands l d h.fault (record { words = ws; homes = hs; views = set s.views id w }) → v.parts ≡ only v ∷ [] → w.rights ≡ v.rights → w.parts ≡ q ∷ [] → with_turn q ≡ with_turn (only v) → w.layout ≡ v.layout → w.opening ≡ v.opening → is_ready w.stage ≡ is_ready v.stage → in_draft w.stage ≡ in_draft v.stage → IsStopOf d.stop w.stop w.parts → IsPart d glue' q
+      → ((p : RingPart) → ring_of p ≢ ring_of (only v) → IsOut l h.core s.words p → IsOut l d ws p) → IsOut l d ws q
+      → (n : Shows stands l (record { words = ws; homes = hs; views = set s.views id w })) × (n.core ≡ d)
+  moved s h d glue' id v w q ws hs at left st words frame grants home vp wr wp qt wl wo wop wd stops part keep own =
+      let was : KnowsFault h.fault (only v) = h.faults id v 0 (only v) at (ap (λ ps. get_elem? ps 0) vp) in
+      moved_with s h d glue' id v w q ws hs at left st words frame grants h.fault home vp wr wp (ap (λ t. t.0) qt) wl wo wop wd stops part keep own (λ _ _ _ z. z) (record {
+        told = λ e. was.told (ap (λ t. t.1.1) (sym qt) ∙ e);
+        taken = λ t e f. ap (λ t. t.1.1) qt ∙ was.taken t (ap (λ t. t.1.0) (sym qt) ∙ e) f;
+      })
 
   -- one pass looks: its rights and parts stay
   pub looked : (s : Table (Option S) View) (h : Shows stands l s) (id : ℕ) (v w : View) → get_elem? s.views id ≡ some v
@@ -267,7 +304,12 @@ module _ {S : Type 0} (stands : S → Layout → CoreOpening → List Entry → 
       turned = h.turned;
       start_glues = h.start_glues;
       owners = λ i lt. let o = h.owners i lt in let n : length (set s.views id w) ≡ length s.views = length-set s.views id w in omega arith;
+      fault = h.fault;
       home = h.home;
+      faults = λ j u i p is e. ⊎_elim
+          (λ (x : (j ≡ id) × (w ≡ u)). h.faults id v i p at (ap (λ ps. get_elem? ps i) (sym wp) ∙ ap (λ (y : View). get_elem? y.parts i) x.1 ∙ e))
+          (λ (x : (j ≢ id) × (get_elem? s.views j ≡ some u)). h.faults j u i p x.1 e)
+          (at_set s.views id j w u is);
       each = λ j u is. ⊎_elim
           (λ (x : (j ≡ id) × (w ≡ u)). let f = h.each id v at in subst (λ (y : ℕ × View). Fits l h.core h.glue h.owner y.0 y.1) (λ i. (sym x.0 i, x.1 i)) (record {
             rights = λ i lt. ap (times_in i) wr ∙ f.rights i lt;

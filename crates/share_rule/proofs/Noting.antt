@@ -59,11 +59,11 @@ module _ (l : Layout) (small : table_words l ≤ 2 ^ 63) (r : ℕ) where
     room_next : (e : Entry) → room l o (c.journal ++ e ∷ []) ≡ room_after M e
     room_next e = room_more l o c.journal (e ∷ []) (begins_long c sound)
 
-    still : (J : List Entry) → ended o.formula c.journal ≡ false → (x : Refusal) → IsRefused o c.journal x → IsRefused o J x
-    still J going Ended e = absurd (true≢false (sym e ∙ going))
-    still J going Broken h = h
-    still J going ProofFault h = h
-    still J going (NoHole need largest) lt = lt
+    still : (K : List Entry) → ended o.formula c.journal ≡ false → (failed : Bool) (x : Refusal) → IsRefused o c.journal failed x → IsRefused o K failed x
+    still K going failed Ended e = absurd (true≢false (sym e ∙ going))
+    still K going failed Broken h = h
+    still K going failed ProofFault h = h
+    still K going failed (NoHole need largest) lt = lt
 
     writes : IsGoing o s.journal → Writes c r
     writes g = subst (λ (J : List Entry). IsGoing o J → Writes c r) (sym sh.journal) (λ k. record { turn = turn; going = k.going; room = k.room }) g

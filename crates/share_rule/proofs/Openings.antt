@@ -1,5 +1,5 @@
 -- The rule holds at the start, and the table is opened.
-use Rattle.std.proofs.Common.{◌≡◌, ℕ, zero, suc, ◌*◌, ◌<◌, ◌≤◌, ◌==◌, List, [], ◌∷◌, set, refl, sym, ap, ◌∙◌, subst, arith, eq-eqb, ne_eqb, inl, inr, Option, Some, None}
+use Rattle.std.proofs.Common.{false, ◌≡◌, ℕ, zero, suc, ◌*◌, ◌<◌, ◌≤◌, ◌==◌, List, [], ◌∷◌, set, refl, sym, ap, ◌∙◌, subst, arith, eq-eqb, ne_eqb, inl, inr, Option, Some, None, Bool}
 use Rattle.std.specs.Prelude.{replicate}
 use mathlib.Core.Option.{some, some-injective, some-ne-none}
 use mathlib.Core.Option as maybe
@@ -18,7 +18,7 @@ use Rattle.share_rule.specs.declared.rule.Key.{Key}
 use Rattle.share_rule.specs.declared.view.RingPart.{RingPart}
 use Rattle.share_rule.specs.declared.view.View.{View}
 use Rattle.share_rule.specs.Views.{times_in, up_to, closed_view, taken_view, first_view}
-use Rattle.share_rule.specs.Shown.{Fits, Shown, Shows, Draft, IsOut}
+use Rattle.share_rule.specs.Shown.{Fits, Shown, Shows, Draft, IsOut, KnowsFault}
 use Rattle.share_rule.specs.Openings.{Opens}
 use Rattle.share_rule.specs.Told.{began, opened_table}
 use Rattle.share_core.proofs.Counting.{none_some}
@@ -35,7 +35,7 @@ times_up_to r (suc n) h = dite (ℕ_discrete n r)
     (λ e. let z : one_if (n == r) ≡ 1 = ap one_if (eq-eqb n r e) in let k = times_past r n (omega arith) in omega arith)
     (λ ne. let z : one_if (n == r) ≡ 0 = ap one_if (ne_eqb n r ne) in let k = times_up_to r n (omega arith) in omega arith)
 
-module _ {S : Type 0} (stands : S → Layout → CoreOpening → List Entry → Type 0) (k : Key) where
+module _ {S : Type 0} (stands : S → Layout → CoreOpening → List Entry → Bool → Type 0) (k : Key) where
   pub drafted : Shown stands k (table.opening k.words.items (replicate 1 None) (closed_view k.layout))
   drafted = inl (record { words = refl; view = closed_view k.layout; views = refl; closed = (refl, refl, refl); home = λ _. refl })
 
@@ -88,9 +88,11 @@ module _ {S : Type 0} (stands : S → Layout → CoreOpening → List Entry → 
     turned = λ r e. absurd (none_some r e);
     start_glues = λ _ _ _. refl;
     owners = λ r lt. omega arith;
+    fault = false;
     home = λ _. (b, at, h.stood);
     each = one;
     stored = none_stored;
+    faults = none_knows;
   }
     where
       fits : Fits k.layout (opened o) (λ _. 0) (λ _. 0) 0 (first_view k.layout o)
@@ -99,6 +101,10 @@ module _ {S : Type 0} (stands : S → Layout → CoreOpening → List Entry → 
       none_stored : (j : ℕ) (v : View) (i : ℕ) (p : RingPart) → get_elem? (first_view k.layout o ∷ []) j ≡ some v → get_elem? v.parts i ≡ some p → IsOut k.layout (opened o) (set k.words.items 0 (256 * entries)) p
       none_stored zero v i p is e = absurd (some-ne-none p (sym (ap (λ (z : View). get_elem? z.parts i) (some-injective (first_view k.layout o) v is) ∙ e)))
       none_stored (suc j) v i p is e = absurd (some-ne-none v (sym is))
+
+      none_knows : (j : ℕ) (v : View) (i : ℕ) (p : RingPart) → get_elem? (first_view k.layout o ∷ []) j ≡ some v → get_elem? v.parts i ≡ some p → KnowsFault false p
+      none_knows zero v i p is e = absurd (some-ne-none p (sym (ap (λ (z : View). get_elem? z.parts i) (some-injective (first_view k.layout o) v is) ∙ e)))
+      none_knows (suc j) v i p is e = absurd (some-ne-none v (sym is))
 
       one : (j : ℕ) (v : View) → get_elem? (first_view k.layout o ∷ []) j ≡ some v → Fits k.layout (opened o) (λ _. 0) (λ _. 0) j v
       one zero v e = subst (Fits k.layout (opened o) (λ _. 0) (λ _. 0) 0) (some-injective (first_view k.layout o) v e) fits

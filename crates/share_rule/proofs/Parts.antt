@@ -1,5 +1,5 @@
 -- What a pass knows of cells.
-use Rattle.std.proofs.Common.{◌≡◌, ℕ, zero, suc, ◌+◌, ◌^◌, ◌<◌, ◌≤◌, true, false, List, [], ◌∷◌, length, Option, Some, None, refl, sym, ap, ◌∙◌, subst, ⊎_elim, arith, true≢false}
+use Rattle.std.proofs.Common.{◌≡◌, ℕ, zero, suc, ◌+◌, ◌^◌, ◌<◌, ◌≤◌, true, false, List, [], ◌∷◌, length, Option, Some, None, refl, sym, ap, ◌∙◌, subst, ⊎_elim, arith, true≢false, Bool}
 use mathlib.Core.Option.{some, some-injective, some-ne-none}
 use lib.ListN.{get_elem?}
 use Rattle.atomic_table.specs.Table.{State as Table}
@@ -79,7 +79,7 @@ module _ (c : State) (sound : Sound c) (r a : ℕ) (lt : r < c.opening.rings) (m
 
 -- Views
 
-module _ {S : Type 0} (stands : S → Layout → CoreOpening → List Entry → Type 0) where
+module _ {S : Type 0} (stands : S → Layout → CoreOpening → List Entry → Bool → Type 0) where
   -- where a pass is open, the table is
   pub is_open : (k : Key) (s : Table (Option S) View) (id : ℕ) (v : View) → Shown stands k s → get_elem? s.views id ≡ some v → is_ready v.stage ≡ true → Shows stands k.layout s
   is_open k s id v h at op = ⊎_elim

@@ -104,7 +104,7 @@ module _ (l : Layout) (c : State) (glue owner : ℕ → ℕ) (r : ℕ) where
       parts = λ i p e. absurd (some-ne-none p (sym e));
     }
 
-module _ {S : Type 0} (stands : S → Layout → CoreOpening → List Entry → Type 0) (k : Key) where
+module _ {S : Type 0} (stands : S → Layout → CoreOpening → List Entry → Bool → Type 0) (k : Key) where
   -- a right moves to a new pass
   pub split_next : (s : Table (Option S) View) (h : Shows stands k.layout s) (id r : ℕ) (v : View) → get_elem? s.views id ≡ some v → is_ready v.stage ≡ true → IsRight r v
       → (n : Shows stands k.layout (record { words = s.words; homes = s.homes; views = set s.views id (without_right r v) ++ with_right r v ∷ [] })) × (n.core ≡ h.core)
@@ -140,6 +140,7 @@ module _ {S : Type 0} (stands : S → Layout → CoreOpening → List Entry → 
         owners = λ i it. let long = length-append (set s.views id cut) (with_right r v ∷ []) in dite (ℕ_discrete i r)
             (λ e. let q : owner' i ≡ n = ap owner' e ∙ here in omega arith)
             (λ ne. let q : owner' i ≡ h.owner i = there i ne in let o = h.owners i it in omega arith);
+        fault = h.fault;
         home = h.home;
         each = λ j u is. ⊎_elim
             (λ (x : (j < length (set s.views id cut)) × (get_elem? (set s.views id cut) j ≡ some u)).
@@ -156,6 +157,13 @@ module _ {S : Type 0} (stands : S → Layout → CoreOpening → List Entry → 
             (λ (x : (j < length (set s.views id cut)) × (get_elem? (set s.views id cut) j ≡ some u)). ⊎_elim
             (λ (y : (j ≡ id) × (cut ≡ u)). h.stored id v i p at (ap (λ (z : View). get_elem? z.parts i) y.1 ∙ e))
             (λ (y : (j ≢ id) × (get_elem? s.views j ≡ some u)). h.stored j u i p y.1 e)
+            (at_set s.views id j cut u x.1))
+            (λ (x : (j ≡ length (set s.views id cut)) × (with_right r v ≡ u)). absurd (some-ne-none p (sym (ap (λ (z : View). get_elem? z.parts i) x.1 ∙ e))))
+            (at_end (set s.views id cut) (with_right r v) u j is);
+        faults = λ j u i p is e. ⊎_elim
+            (λ (x : (j < length (set s.views id cut)) × (get_elem? (set s.views id cut) j ≡ some u)). ⊎_elim
+            (λ (y : (j ≡ id) × (cut ≡ u)). h.faults id v i p at (ap (λ (z : View). get_elem? z.parts i) y.1 ∙ e))
+            (λ (y : (j ≢ id) × (get_elem? s.views j ≡ some u)). h.faults j u i p y.1 e)
             (at_set s.views id j cut u x.1))
             (λ (x : (j ≡ length (set s.views id cut)) × (with_right r v ≡ u)). absurd (some-ne-none p (sym (ap (λ (z : View). get_elem? z.parts i) x.1 ∙ e))))
             (at_end (set s.views id cut) (with_right r v) u j is);
@@ -194,6 +202,7 @@ module _ {S : Type 0} (stands : S → Layout → CoreOpening → List Entry → 
           owners = λ i it. dite (ℕ_discrete (h.owner i) other)
               (λ e. let q : owner' i ≡ id = to i e in let b = at_in s.views id v at in omega arith)
               (λ ne. let q : owner' i ≡ h.owner i = same i ne in let b = h.owners i it in omega arith);
+          fault = h.fault;
           home = h.home;
           each = λ j u is. ⊎_elim
               (λ (x : (j ≡ other) × (spent_view ≡ u)). subst (λ (y : ℕ × View). Fits l c h.glue owner' y.0 y.1) (λ i. (sym x.0 i, x.1 i)) (record {
@@ -229,6 +238,13 @@ module _ {S : Type 0} (stands : S → Layout → CoreOpening → List Entry → 
               (λ (x : (j ≢ other) × (get_elem? (set s.views id both) j ≡ some u)). ⊎_elim
               (λ (y : (j ≡ id) × (both ≡ u)). ⊎_elim (λ (q : get_elem? v.parts i ≡ some p). h.stored id v i p at q) (λ (q : (n : ℕ) × (get_elem? w.parts n ≡ some p)). h.stored other w q.0 p w_at q.1) (at_both v.parts w.parts p i (ap (λ (z : View). get_elem? z.parts i) y.1 ∙ e)))
               (λ (y : (j ≢ id) × (get_elem? s.views j ≡ some u)). h.stored j u i p y.1 e)
+              (at_set s.views id j both u x.1))
+              (at_set (set s.views id both) other j spent_view u is);
+          faults = λ j u i p is e. ⊎_elim
+              (λ (x : (j ≡ other) × (spent_view ≡ u)). absurd (some-ne-none p (sym (ap (λ (z : View). get_elem? z.parts i) x.1 ∙ e))))
+              (λ (x : (j ≢ other) × (get_elem? (set s.views id both) j ≡ some u)). ⊎_elim
+              (λ (y : (j ≡ id) × (both ≡ u)). ⊎_elim (λ (q : get_elem? v.parts i ≡ some p). h.faults id v i p at q) (λ (q : (n : ℕ) × (get_elem? w.parts n ≡ some p)). h.faults other w q.0 p w_at q.1) (at_both v.parts w.parts p i (ap (λ (z : View). get_elem? z.parts i) y.1 ∙ e)))
+              (λ (y : (j ≢ id) × (get_elem? s.views j ≡ some u)). h.faults j u i p y.1 e)
               (at_set s.views id j both u x.1))
               (at_set (set s.views id both) other j spent_view u is);
         },

@@ -1,5 +1,5 @@
 -- Shares and drops keep the rule.
-use Rattle.std.proofs.Common.{◌≡◌, ℕ, ◌+◌, ◌-◌, ◌*◌, ◌%◌, ◌^◌, ◌<◌, ◌≤◌, true, List, [], ◌∷◌, ◌++◌, All, set, refl, sym, ap, ◌∙◌, subst, arith, inr, Option, Some, None}
+use Rattle.std.proofs.Common.{◌≡◌, ℕ, ◌+◌, ◌-◌, ◌*◌, ◌%◌, ◌^◌, ◌<◌, ◌≤◌, true, List, [], ◌∷◌, ◌++◌, All, set, refl, sym, ap, ◌∙◌, subst, arith, inr, Option, Some, None, Bool}
 use Rattle.std.specs.Prelude.{slice_index}
 use mathlib.Core.Option.{some, some-injective, some-ne-none}
 use mathlib.Core.Option as maybe
@@ -47,7 +47,7 @@ stays_still c = record { opening = refl; journal = refl; turn = refl; units = re
 no_maker : (y x : Cell) (i : ℕ) → Some y ≡ Some x → x.maker ≡ None → y.maker ≡ Some i → ⊥
 no_maker y x i e o mk = none_some i (sym o ∙ sym (ap (λ (z : Cell). z.maker) (some_same y x e)) ∙ mk)
 
-module _ {S : Type 0} (stands : S → Layout → CoreOpening → List Entry → Type 0) (k : Key) where
+module _ {S : Type 0} (stands : S → Layout → CoreOpening → List Entry → Bool → Type 0) (k : Key) where
   -- what a step tells of the view that it leaves
   pub told : (s : Table (Option S) View) (ws : List ℕ) (id : ℕ) (v w : View) → get_elem? s.views id ≡ some v → is_ready w.stage ≡ true
       → Shows stands k.layout (record { words = ws; homes = s.homes; views = set s.views id w }) → Seen w

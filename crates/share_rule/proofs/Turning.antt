@@ -35,14 +35,14 @@ use Rattle.share_rule.specs.declared.view.Refusal.TheVariants.{Ended}
 use Rattle.share_rule.specs.Steps.{on_first}
 use Rattle.share_rule.specs.Views.{only, own_stop, is_ready}
 use Rattle.share_rule.specs.Seen.{Stands, IsPart, IsStopOf, HasGiven, Seen, turn_of, IsRefused}
-use Rattle.share_rule.specs.Shown.{Words, Fits, Shown, Shows, IsStored, IsOut, UnitOut, turn_number, ring_of}
+use Rattle.share_rule.specs.Shown.{Words, Fits, Shown, Shows, IsStored, IsOut, UnitOut, turn_number, ring_of, KnowsFault}
 use Rattle.share_rule.specs.Turns.{event_of, sheet_after, AllNoted, journal_in, IsFree, IsWriting, sheet_of, written_of, MayWrite, WasRefused, newer, take_part, give_part, after_take, after_miss, after_give}
 use Rattle.share_rule.specs.TurnsTold.{takes_turn, gives_turn}
 use Rattle.share_rule.proofs.Parts.{cell_below, is_open, standing_of, seen_of}
 use Rattle.share_rule.proofs.Words.{spells_else}
 use Rattle.share_rule.proofs.Sheets.{Beside, Noted, IsSheet, noted_given}
 use Rattle.share_rule.proofs.Noting.{all_notes}
-use Rattle.share_rule.proofs.Moves.{one_ring, turn_some, turn_none, turn_other, turn_is, turn_has, given_same, stops_same, moved, looked}
+use Rattle.share_rule.proofs.Moves.{one_ring, turn_some, turn_none, turn_other, turn_is, turn_has, given_same, stops_same, moved_with, refused_more, looked}
 use Rattle.share_rule.proofs.Lists.{at_in, set_itself}
 
 -- the first word changes, and cells that are not open
@@ -77,7 +77,7 @@ free_turn : (t : Option ℕ) (n len rings : ℕ) → n ≡ 256 * len + turn_numb
 free_turn None n len rings e low few le = refl
 free_turn (Some q) n len rings e low few le = let k = few q refl in absurd (omega arith)
 
-module _ {S : Type 0} (stands : S → Layout → CoreOpening → List Entry → Type 0) (k : Key) where
+module _ {S : Type 0} (stands : S → Layout → CoreOpening → List Entry → Bool → Type 0) (k : Key) where
   -- what a step tells of the view that it leaves
   pub told_out : (s : Table (Option S) View) (ws : List ℕ) (hs : List (maybe.Option (Option S))) (id : ℕ) (v w : View) → get_elem? s.views id ≡ some v → is_ready w.stage ≡ true
       → Shows stands k.layout (record { words = ws; homes = hs; views = set s.views id w }) → Seen w
@@ -85,7 +85,7 @@ module _ {S : Type 0} (stands : S → Layout → CoreOpening → List Entry → 
 
   taken_next : (s : Table (Option S) View) (h : Shows stands k.layout s) (id free new : ℕ) (v : View) → get_elem? s.views id ≡ some v → is_ready v.stage ≡ true → IsFree v → h.core.turn ≡ None
       → new ≡ 256 * length h.core.journal + (ring_of (only v) + 1)
-      → (m : Shows stands k.layout (record { words = set s.words 0 new; homes = set s.homes 0 maybe.none; views = set s.views id (after_take free new h.core.journal v) })) × (m.core ≡ after h.core (TakeTurn (ring_of (only v))))
+      → (m : Shows stands k.layout (record { words = set s.words 0 new; homes = set s.homes 0 maybe.none; views = set s.views id (after_take free new h.core.journal h.fault v) })) × (m.core ≡ after h.core (TakeTurn (ring_of (only v))))
   taken_next s h id free new v at ready free_pass none new_is =
       let l : Layout = k.layout in
       let c : State = h.core in
@@ -96,7 +96,8 @@ module _ {S : Type 0} (stands : S → Layout → CoreOpening → List Entry → 
       let d : State = after c (TakeTurn r) in
       let st : Stands l c = standing_of stands l s h in
       let own = h.stored id v 0 p at (ap (λ ps. get_elem? ps 0) free_pass.0) in
-      moved stands l s h d h.glue id v (after_take free new c.journal v) (take_part c.journal p) (set s.words 0 new) (set s.homes 0 maybe.none) at
+      let knew : KnowsFault h.fault p = h.faults id v 0 p at (ap (λ ps. get_elem? ps 0) free_pass.0) in
+      moved_with stands l s h d h.glue id v (after_take free new c.journal h.fault v) (take_part c.journal h.fault p) (set s.words 0 new) (set s.homes 0 maybe.none) at
       (left_one c.opening c (TakeTurn r) h.left (part.ring, none))
       (record { rings = h.places.rings; words = h.places.words; vars = h.places.vars; starts = h.places.starts; units = h.places.units; few = h.places.few })
       (turn_words l c d h.glue h.glue s.words new st h.words new_is refl refl (λ _. refl) (λ _. refl) (λ a x is o. (is, refl)))
@@ -107,7 +108,7 @@ module _ {S : Type 0} (stands : S → Layout → CoreOpening → List Entry → 
         turn = λ i ne. turn_other d r i refl ne ∙ sym (turn_none c i none);
         units = omega arith;
         kept_turn = λ i _ e. absurd (none_some i (sym none ∙ e));
-        refused = λ x e. e;
+        refused = λ _ x e. e;
         own = λ _ _. refl;
         stop_stays = λ _ e. e;
         stop_new = λ _ e. inl e;
@@ -115,18 +116,19 @@ module _ {S : Type 0} (stands : S → Layout → CoreOpening → List Entry → 
         given = λ i gave _ _ given. given_same c d i gave refl (λ _. refl) (λ _. refl) given;
         glue_kept = λ n lt. refl;
       })
-      (λ _. refl) (λ e. absurd (none_some r (sym e))) free_pass.0 refl (ap (on_first (take_part c.journal)) free_pass.0) refl refl refl refl refl
-      (stops_same c.stop v (after_take free new c.journal v) (take_part c.journal p) free_pass.0 (ap (on_first (take_part c.journal)) free_pass.0) refl refl (h.each id v at).stops)
-      (record { ring = part.ring; part = part.part; glues = part.glues; made_glues = part.made_glues; turn = sym (turn_some d r refl); listed = part.listed; whole = λ e. absurd (true≢false (sym e)); refused = part.refused; set = part.set; ended_is = part.ended_is; given = given_same c d r p.gave refl (λ _. refl) (λ _. refl) part.given })
+      (λ _. refl) h.fault (λ e. absurd (none_some r (sym e))) free_pass.0 refl (ap (on_first (take_part c.journal h.fault)) free_pass.0) refl refl refl refl refl
+      (stops_same c.stop v (after_take free new c.journal h.fault v) (take_part c.journal h.fault p) free_pass.0 (ap (on_first (take_part c.journal h.fault)) free_pass.0) refl refl (h.each id v at).stops)
+      (record { ring = part.ring; part = part.part; glues = part.glues; made_glues = part.made_glues; turn = sym (turn_some d r refl); listed = part.listed; whole = λ e. absurd (true≢false (sym e)); refused = λ x e. refused_more c.opening c.journal p.failed h.fault knew.told x (part.refused x e); set = part.set; ended_is = part.ended_is; given = given_same c d r p.gave refl (λ _. refl) (λ _. refl) part.given })
       (λ y ne z. (turn_stored l c d s.words new (ring_of y) y.stored st (λ _ _ _ is _. is) z.0, λ n e. absurd (none_some (ring_of y) (sym none ∙ (z.1 n e).0))))
       (turn_stored l c d s.words new r p.stored st (λ _ _ _ is _. is) own.0, λ n e. absurd (none_some r (sym none ∙ (own.1 n e).0)))
+      (λ _ _ _ z. z) (record { told = λ e. e; taken = λ t _ e. e })
 
   -- nobody has the turn where the word tells so
   is_free_turn : (s : Table (Option S) View) (h : Shows stands k.layout s) (free : ℕ) → slice_index s.words 0 ≡ free → free % 256 ≡ 0 → h.core.turn ≡ None
   is_free_turn s h free is low = let c : State = h.core in free_turn c.turn free (length c.journal) c.opening.rings (sym is ∙ h.words.turn_is) low (λ q z. (h.turned q z).0) h.left.opens.few_rings
 
   pub take_next : (s : Table (Option S) View) (h : Shows stands k.layout s) (id free : ℕ) (v : View) → get_elem? s.views id ≡ some v → is_ready v.stage ≡ true → IsFree v → slice_index s.words 0 ≡ free → free % 256 ≡ 0
-      → (m : Shows stands k.layout (record { words = set s.words 0 (free + (ring_of (only v) + 1)); homes = set s.homes 0 maybe.none; views = set s.views id (after_take free (free + (ring_of (only v) + 1)) h.core.journal v) })) × (m.core ≡ after h.core (TakeTurn (ring_of (only v))))
+      → (m : Shows stands k.layout (record { words = set s.words 0 (free + (ring_of (only v) + 1)); homes = set s.homes 0 maybe.none; views = set s.views id (after_take free (free + (ring_of (only v) + 1)) h.core.journal h.fault v) })) × (m.core ≡ after h.core (TakeTurn (ring_of (only v))))
   take_next s h id free v at ready free_pass is low =
       let none : h.core.turn ≡ None = is_free_turn s h free is low in
       let zero_turn : turn_number h.core.turn ≡ 0 = ap turn_number none in
@@ -156,7 +158,7 @@ module _ {S : Type 0} (stands : S → Layout → CoreOpening → List Entry → 
       let zero_turn : turn_number c.turn ≡ 0 = ap turn_number none in
       let home = h.home none in
       let b : S = home.0 in
-      let w : View = after_take free new c.journal v in
+      let w : View = after_take free new c.journal h.fault v in
       let next = taken_next s h id free new v at ready free_pass none (omega arith) in (
         w,
         takes 0 (Some b),
@@ -165,10 +167,11 @@ module _ {S : Type 0} (stands : S → Layout → CoreOpening → List Entry → 
         (
           (λ _. record {
             journal = c.journal;
+            failed = h.fault;
             book = b;
             out = refl;
             view = refl;
-            stood = subst (λ (y : Layout × CoreOpening). stands b y.0 y.1 c.journal) (λ i. (sym t.0 i, sym t.1 i)) home.2;
+            stood = subst (λ (y : Layout × CoreOpening). stands b y.0 y.1 c.journal h.fault) (λ i. (sym t.0 i, sym t.1 i)) home.2;
             seen = told_out s (set s.words 0 new) (set s.homes 0 maybe.none) id v w at ready next.0;
           }),
           (λ ne. absurd (ne e)),
@@ -185,11 +188,11 @@ module _ {S : Type 0} (stands : S → Layout → CoreOpening → List Entry → 
       let is : turn_of c (ring_of (only v)) ≡ Some t = sym part.turn ∙ has in
       (turn_has c (ring_of (only v)) t is, record { journal = ap journal_in has ∙ turn_is c (ring_of (only v)) t is; part = part.part; held_glues = part.glues; made_glues = part.made_glues })
 
-  pub give_next : (s : Table (Option S) View) (h : Shows stands k.layout s) (id : ℕ) (v : View) (b : S) (ns : List Note) (x : Option Refusal) → 0 < length s.homes → get_elem? s.views id ≡ some v → is_ready v.stage ≡ true → IsWriting v
-      → MayWrite v ns → WasRefused v ns x → stands b v.layout v.opening (written_of v ns).journal
-      → (m : Shows stands k.layout (record { words = set s.words 0 (256 * length (written_of v ns).journal); homes = set s.homes 0 (some (Some b)); views = set s.views id (after_give ns x v) }))
+  pub give_next : (s : Table (Option S) View) (h : Shows stands k.layout s) (id : ℕ) (v : View) (b : S) (ns : List Note) (x : Option Refusal) (failed : Bool) → 0 < length s.homes → get_elem? s.views id ≡ some v → is_ready v.stage ≡ true → IsWriting v
+      → MayWrite v ns → WasRefused v ns x failed → stands b v.layout v.opening (written_of v ns).journal failed
+      → (m : Shows stands k.layout (record { words = set s.words 0 (256 * length (written_of v ns).journal); homes = set s.homes 0 (some (Some b)); views = set s.views id (after_give ns x failed v) }))
       × (m.core.journal ≡ (written_of v ns).journal) × (m.core ≡ after (fold after h.core (map (event_of (ring_of (only v))) ns)) (GiveTurn (ring_of (only v))))
-  give_next s h id v b ns x room at ready writing may cause stood =
+  give_next s h id v b ns x failed room at ready writing may cause stood =
       let l : Layout = k.layout in
       let c : State = h.core in
       let p : RingPart = only v in
@@ -214,7 +217,9 @@ module _ {S : Type 0} (stands : S → Layout → CoreOpening → List Entry → 
       let sound : Sound c = left_sound c.opening c h.left in
       let below = cell_below c sound in
       let same_ring : (written_of v ns).part.ring ≡ r = ap (λ (q : Part). q.ring) sheet.part ∙ (left_sound m.opening m all.left).counts.named r in
-      let next = moved stands l s h d all.glue' id v (after_give ns x v) (give_part v.opening (written_of v ns) x p) (set s.words 0 n) (set s.homes 0 (some (Some b))) at
+      let knew : KnowsFault h.fault p = h.faults id v 0 p at (ap (λ ps. get_elem? ps 0) writing.0) in
+      let still : h.fault ≡ true → failed ≡ true = λ e. cause.1 (knew.taken writing.1.0 writing.1.1 e) in
+      let next = moved_with stands l s h d all.glue' id v (after_give ns x failed v) (give_part v.opening (written_of v ns) x failed p) (set s.words 0 n) (set s.homes 0 (some (Some b))) at
       (left_one m.opening m (GiveTurn r) all.left (lt, turn))
       (record { rings = all.places.rings; words = all.places.words; vars = all.places.vars; starts = all.places.starts; units = all.places.units; few = all.places.few })
       (turn_words l c d h.glue all.glue' s.words n st h.words n_is beside.stop beside.units beside.granted beside.slot
@@ -230,14 +235,14 @@ module _ {S : Type 0} (stands : S → Layout → CoreOpening → List Entry → 
         own = λ i _. ap (own_stop i) beside.stop;
         stop_stays = λ t e. beside.stop ∙ e;
         stop_new = λ t e. inl (sym beside.stop ∙ e);
-        ends = beside.refused Ended;
+        ends = beside.refused failed Ended;
         given = λ i gave _ lt' given. noted_given r c m h.glue all.glue' i gave sound beside lt' given;
         glue_kept = beside.glue_else;
       })
-      beside.granted
-      (λ _. (b, set_here s.homes 0 (some (Some b)) room, subst (λ (y : Layout × (CoreOpening × List Entry)). stands b y.0 y.1.0 y.1.1) (λ i. (t.0 i, ((t.1 ∙ sym beside.opening) i, sheet.journal i))) stood))
-      writing.0 refl (ap (on_first (give_part v.opening (written_of v ns) x)) writing.0) same_ring refl refl refl refl
-      (subst (λ (o : Option Stop). IsStopOf o v.stop (on_first (give_part v.opening (written_of v ns) x) v.parts)) (sym beside.stop) (stops_same c.stop v (after_give ns x v) (give_part v.opening (written_of v ns) x p) writing.0 (ap (on_first (give_part v.opening (written_of v ns) x)) writing.0) refl refl (h.each id v at).stops))
+      beside.granted failed
+      (λ _. (b, set_here s.homes 0 (some (Some b)) room, subst (λ (y : Layout × (CoreOpening × List Entry)). stands b y.0 y.1.0 y.1.1 failed) (λ i. (t.0 i, ((t.1 ∙ sym beside.opening) i, sheet.journal i))) stood))
+      writing.0 refl (ap (on_first (give_part v.opening (written_of v ns) x failed)) writing.0) same_ring refl refl refl refl
+      (subst (λ (o : Option Stop). IsStopOf o v.stop (on_first (give_part v.opening (written_of v ns) x failed) v.parts)) (sym beside.stop) (stops_same c.stop v (after_give ns x failed v) (give_part v.opening (written_of v ns) x failed p) writing.0 (ap (on_first (give_part v.opening (written_of v ns) x failed)) writing.0) refl refl (h.each id v at).stops))
       (record {
         ring = subst (λ (q : ℕ). q < m.opening.rings) (sym same_ring) lt;
         part = sheet.part ∙ ap m.part (sym same_ring);
@@ -246,35 +251,37 @@ module _ {S : Type 0} (stands : S → Layout → CoreOpening → List Entry → 
         turn = sym (turn_none d (written_of v ns).part.ring refl);
         listed = let q = ap (λ (us : List Literal). length us) beside.units in let g = part.listed in omega arith;
         whole = λ e. absurd (true≢false (sym e));
-        refused = refusals d.opening d.journal x p.refused (subst (λ (y : CoreOpening × List Entry). IfSome x (λ z. IsRefused y.0 y.1 z)) (λ i. ((t.1 ∙ sym beside.opening) i, sheet.journal i)) cause) (λ y e. beside.refused y (part.refused y e));
+        refused = refusals d.opening d.journal x p.refused (subst (λ (y : CoreOpening × List Entry). IfSome x (λ z. IsRefused y.0 y.1 failed z)) (λ i. ((t.1 ∙ sym beside.opening) i, sheet.journal i)) cause.0) (λ y e. refused_more d.opening d.journal p.failed failed cause.1 y (beside.refused p.failed y (part.refused y e)));
         set = part.set ∙ (λ i. own_stop (sym same_ring i) (sym beside.stop i));
-        ended_is = λ e. now_ended d.opening d.journal p.ended (λ was. beside.refused Ended (part.ended_is was)) (ap (λ (b : Bool). p.ended || b) (λ i. ended ((beside.opening ∙ sym t.1) i).formula (sym sheet.journal i)) ∙ e);
+        ended_is = λ e. now_ended d.opening d.journal p.ended (λ was. beside.refused failed Ended (part.ended_is was)) (ap (λ (b : Bool). p.ended || b) (λ i. ended ((beside.opening ∙ sym t.1) i).formula (sym sheet.journal i)) ∙ e);
         given = subst (λ (i : ℕ). HasGiven d i p.gave) (sym same_ring) (noted_given r c m h.glue all.glue' r p.gave sound beside part.ring part.given);
       })
       (λ y ne z. (turn_stored l c d s.words n (ring_of y) y.stored st beside.built z.0, λ q e. absurd (ne (some_same (ring_of y) r (sym (z.1 q e).0 ∙ on.0)))))
-      (subst (λ (q : ℕ). IsStored d (set s.words 0 n) q p.stored) (sym same_ring) (turn_stored l c d s.words n r p.stored st beside.built own.0), λ q e. absurd (none_some q e)) in
+      (subst (λ (q : ℕ). IsStored d (set s.words 0 n) q p.stored) (sym same_ring) (turn_stored l c d s.words n r p.stored st beside.built own.0), λ q e. absurd (none_some q e))
+      (λ y ne is z. record { told = λ e. still (z.told e); taken = λ t' e _. absurd (none_some t' (sym (turn_none d (ring_of y) refl) ∙ sym is.turn ∙ e)) })
+      (record { told = λ e. e; taken = λ t' e _. absurd (none_some t' e) }) in
       (next.0, ap (λ (q : State). q.journal) next.1 ∙ sym sheet.journal, next.1 ∙ ap (λ (q : State). after q (GiveTurn r)) all.runs)
     where
       now_ended : (o : CoreOpening) (K : List Entry) (was : Bool) → (was ≡ true → ended o.formula K ≡ true) → (was || ended o.formula K) ≡ true → ended o.formula K ≡ true
       now_ended o K true before e = before refl
       now_ended o K false before e = e
 
-      refusals : (o : CoreOpening) (J : List Entry) (x y : Option Refusal) → IfSome x (λ z. IsRefused o J z) → ((z : Refusal) → y ≡ Some z → IsRefused o J z) → (z : Refusal) → newer x y ≡ Some z → IsRefused o J z
-      refusals o J None y cause old z e = old z e
-      refusals o J (Some w) y cause old z e = subst (IsRefused o J) (some_same w z e) cause
+      refusals : (o : CoreOpening) (K : List Entry) (x y : Option Refusal) → IfSome x (λ z. IsRefused o K failed z) → ((z : Refusal) → y ≡ Some z → IsRefused o K failed z) → (z : Refusal) → newer x y ≡ Some z → IsRefused o K failed z
+      refusals o K None y cause old z e = old z e
+      refusals o K (Some w) y cause old z e = subst (IsRefused o K failed) (some_same w z e) cause
 
-  gives_at : (slots id : ℕ) (v : View) (b : S) (ns : List Note) (x : Option Refusal) → slots ≡ 1 → is_ready v.stage ≡ true → IsWriting v
-      → MayWrite v ns → WasRefused v ns x → stands b v.layout v.opening (written_of v ns).journal
+  gives_at : (slots id : ℕ) (v : View) (b : S) (ns : List Note) (x : Option Refusal) (failed : Bool) → slots ≡ 1 → is_ready v.stage ≡ true → IsWriting v
+      → MayWrite v ns → WasRefused v ns x failed → stands b v.layout v.opening (written_of v ns).journal failed
       → Allows (Shown stands k) slots id (v, (0, Some b) ∷ []) 0 (λ _. 256 * length (written_of v ns).journal)
-      (λ _. gives_turn ns x (step slots 0 (256 * length (written_of v ns).journal) 0 maybe.none) (v, (0, Some b) ∷ []) (256 * length (written_of v ns).journal))
-  gives_at slots id v b ns x one ready writing may cause stood s shown wide at small =
+      (λ _. gives_turn ns x failed (step slots 0 (256 * length (written_of v ns).journal) 0 maybe.none) (v, (0, Some b) ∷ []) (256 * length (written_of v ns).journal))
+  gives_at slots id v b ns x failed one ready writing may cause stood s shown wide at small =
       let h : Shows stands k.layout s = is_open stands k s id v shown at ready in
-      let next = give_next s h id v b ns x (omega arith) at ready writing may cause stood in
-      (after_give ns x v, gives, tt, inr next.0, (refl, refl, told_out s (set s.words 0 (256 * length (written_of v ns).journal)) (set s.homes 0 (some (Some b))) id v (after_give ns x v) at ready next.0))
+      let next = give_next s h id v b ns x failed (omega arith) at ready writing may cause stood in
+      (after_give ns x failed v, gives, tt, inr next.0, (refl, refl, told_out s (set s.words 0 (256 * length (written_of v ns).journal)) (set s.homes 0 (some (Some b))) id v (after_give ns x failed v) at ready next.0))
 
-  pub gives_it : (slots id : ℕ) (me : Me (Option S) View) (b : S) (ns : List Note) (x : Option Refusal) (new : ℕ) → slots ≡ 1 → is_ready me.0.stage ≡ true → me.1 ≡ (0, Some b) ∷ [] → IsWriting me.0
-      → MayWrite me.0 ns → WasRefused me.0 ns x → stands b me.0.layout me.0.opening (written_of me.0 ns).journal → new ≡ 256 * length (written_of me.0 ns).journal
-      → Allows (Shown stands k) slots id me 0 (λ _. new) (λ _. gives_turn ns x (step slots 0 new 0 maybe.none) me new)
-  gives_it slots id me b ns x new one ready out writing may cause stood new_is =
-      subst (λ (y : List (ℕ × Option S) × ℕ). Allows (Shown stands k) slots id (me.0, y.0) 0 (λ _. y.1) (λ _. gives_turn ns x (step slots 0 y.1 0 maybe.none) (me.0, y.0) y.1)) (λ i. (sym out i, sym new_is i))
-      (gives_at slots id me.0 b ns x one ready writing may cause stood)
+  pub gives_it : (slots id : ℕ) (me : Me (Option S) View) (b : S) (ns : List Note) (x : Option Refusal) (failed : Bool) (new : ℕ) → slots ≡ 1 → is_ready me.0.stage ≡ true → me.1 ≡ (0, Some b) ∷ [] → IsWriting me.0
+      → MayWrite me.0 ns → WasRefused me.0 ns x failed → stands b me.0.layout me.0.opening (written_of me.0 ns).journal failed → new ≡ 256 * length (written_of me.0 ns).journal
+      → Allows (Shown stands k) slots id me 0 (λ _. new) (λ _. gives_turn ns x failed (step slots 0 new 0 maybe.none) me new)
+  gives_it slots id me b ns x failed new one ready out writing may cause stood new_is =
+      subst (λ (y : List (ℕ × Option S) × ℕ). Allows (Shown stands k) slots id (me.0, y.0) 0 (λ _. y.1) (λ _. gives_turn ns x failed (step slots 0 y.1 0 maybe.none) (me.0, y.0) y.1)) (λ i. (sym out i, sym new_is i))
+      (gives_at slots id me.0 b ns x failed one ready writing may cause stood)

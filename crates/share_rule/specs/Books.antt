@@ -1,5 +1,5 @@
 -- What the book of the log accounts for.
-use Rattle.std.specs.Prelude.{◌≡◌, ℕ, suc, Bool, true, false, ⊤, List, length, Option, Some}
+use Rattle.std.specs.Prelude.{◌≡◌, ℕ, suc, Bool, true, false, not, ⊤, List, length, Option, Some}
 use Rattle.sat_words.specs.Literal.{Literal}
 use Rattle.sat_words.specs.declared.line.Line.{Line}
 use Rattle.clause_cell.specs.declared.holes.Hole.{Hole}
@@ -40,7 +40,8 @@ module _ {B : Type 0} (account : B → Account) (written : B → List (List Lite
     pub kept : is_whole (account b).state ≡ true → (ls : List Line) → (account b).kept ≡ Some ls → ls ≡ lines F J
     pub sink : written b F (lines F J)
 
-  -- and its holes are those that the journal leaves, unless a write has failed
-  pub record StandsFor (b : B) (l : Layout) (o : CoreOpening) (J : List Entry) : Type 0 where
+  -- its holes are those that the journal leaves, unless a write has failed; and it tells whether one has
+  pub record StandsFor (b : B) (l : Layout) (o : CoreOpening) (J : List Entry) (fault : Bool) : Type 0 where
     pub log : HasLog b o.formula J
     pub holes : is_whole (account b).state ≡ true → (account b).holes ≡ (room l o J).holes
+    pub faulty : is_whole (account b).state ≡ not fault

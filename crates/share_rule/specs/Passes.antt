@@ -1,5 +1,7 @@
 -- A pass of a table.
-use Rattle.std.specs.Prelude.{◌≡◌, ◌<◌, ℕ, true, ⊤, List, [], ◌∷◌, map, Option, None}
+use mathlib.Core.Option.{some}
+use lib.ListN.{get_elem?}
+use Rattle.std.specs.Prelude.{◌≡◌, ◌<◌, ℕ, Bool, true, ⊤, List, [], ◌∷◌, map, Option, None}
 use Rattle.atomic_table.specs.declared.shared.Seat.{Seat}
 use Rattle.share_rule.specs.declared.view.View.{View}
 use Rattle.share_rule.specs.declared.view.RingPart.{RingPart}
@@ -15,6 +17,10 @@ IsPassOf t p = (p.table_id ≡ t.table.shared.table_id) × (is_ready p.me.0.stag
 -- the seat stays, with its slots
 abbrev pub IsSamePass : {B : Type 0} → Seat (Option B) View → Seat (Option B) View → Type 0
 IsSamePass old new = (new.id ≡ old.id) × (new.me.1 ≡ old.me.1)
+
+-- a write has failed where one of the rings was told so
+abbrev pub TellsFaults : List RingPart → Bool → Type 0
+TellsFaults ps fault = (i : ℕ) (p : RingPart) → get_elem? ps i ≡ some p → p.failed ≡ true → fault ≡ true
 
 -- it has the parts of all rings
 abbrev pub IsWhole : View → Type 0

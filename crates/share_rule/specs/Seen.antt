@@ -1,5 +1,5 @@
 -- What a view says of a core that enabled events leave.
-use Rattle.std.specs.Prelude.{◌≡◌, ◌≢◌, ◌⊎◌, ℕ, ◌+◌, ◌*◌, ◌^◌, ◌<◌, ◌≤◌, true, ⊤, List, length, All, Contains, Option, Some, None, if◌then◌else◌}
+use Rattle.std.specs.Prelude.{◌≡◌, ◌≢◌, ◌⊎◌, ℕ, ◌+◌, ◌*◌, ◌^◌, ◌<◌, ◌≤◌, Bool, true, List, length, All, Contains, Option, Some, None, if◌then◌else◌}
 use mathlib.Core.Option.{some}
 use lib.ListN.{get_elem?}
 use Rattle.clause_cell.specs.Packing.{words_for}
@@ -35,12 +35,12 @@ pub record Stands (l : Layout) (c : State) : Type 0 where
 abbrev pub turn_of : State → ℕ → Option Taken
 turn_of c r = if is_ring r c.turn then Some (record { journal = c.journal }) else None
 
--- it was refused for cause; what a failed write leaves is said by the book
-abbrev pub IsRefused : CoreOpening → List Entry → Refusal → Type 0
-IsRefused o J Ended = ended o.formula J ≡ true
-IsRefused o J Broken = ⊤
-IsRefused o J ProofFault = ⊤
-IsRefused o J (NoHole need largest) = largest < need
+-- it was refused for cause, by a ring that was told of a failed write or not
+abbrev pub IsRefused : CoreOpening → List Entry → Bool → Refusal → Type 0
+IsRefused o J failed Ended = ended o.formula J ≡ true
+IsRefused o J failed Broken = failed ≡ true
+IsRefused o J failed ProofFault = failed ≡ true
+IsRefused o J failed (NoHole need largest) = largest < need
 
 -- what the ring's slots have for others is among these clauses
 abbrev pub HasGiven : State → ℕ → List ClauseAt → Type 0
@@ -56,7 +56,7 @@ pub record IsPart (c : State) (glue : ℕ → ℕ) (p : RingPart) : Type 0 where
   pub turn : p.turn ≡ turn_of c p.core.ring
   pub listed : p.listed ≤ length c.units
   pub whole : p.whole ≡ true → (c.turn ≡ Some p.core.ring) × (length c.units ≡ p.listed)
-  pub refused : (x : Refusal) → p.refused ≡ Some x → IsRefused c.opening c.journal x
+  pub refused : (x : Refusal) → p.refused ≡ Some x → IsRefused c.opening c.journal p.failed x
   pub set : p.set ≡ own_stop p.core.ring c.stop
   pub ended_is : p.ended ≡ true → ended c.opening.formula c.journal ≡ true
   pub given : HasGiven c p.core.ring p.gave

@@ -1,5 +1,5 @@
 -- The rule.
-use Rattle.std.specs.Prelude.{◌≡◌, ◌⊎◌, ℕ, ◌+◌, ◌*◌, ◌^◌, ◌<◌, ◌≤◌, true, false, not, ◌==◌, ◌&&◌, List, [], ◌∷◌, All, map, length, slice_index, slice_index_or, Option, Some, None}
+use Rattle.std.specs.Prelude.{◌≡◌, ◌⊎◌, ℕ, ◌+◌, ◌*◌, ◌^◌, ◌<◌, ◌≤◌, Bool, true, false, not, ◌==◌, ◌&&◌, List, [], ◌∷◌, All, map, length, slice_index, slice_index_or, Option, Some, None}
 use mathlib.Core.Option.{some}
 use lib.ListN.{get_elem?}
 use Rattle.atomic_table.specs.Table.{State as Table}
@@ -15,6 +15,7 @@ use Rattle.share_rule.specs.declared.rule.Key.{Key}
 use Rattle.clause_cell.specs.Packing.{words_for}
 use Rattle.share_rule.specs.declared.view.StoredWord.{StoredWord}
 use Rattle.share_rule.specs.declared.view.RingPart.{RingPart}
+use Rattle.share_rule.specs.declared.view.Taken.{Taken}
 use Rattle.share_rule.specs.declared.view.View.{View}
 use Rattle.share_rule.specs.Layout.{grant_at, unit_at, slots, slot_at, table_words}
 use Rattle.share_rule.specs.Cells.{Spells}
@@ -79,10 +80,15 @@ UnitOut l c ws p = (n : ℕ) → p.unit ≡ Some n → (c.turn ≡ Some (ring_of
 abbrev pub IsOut : Layout → State → List ℕ → RingPart → Type 0
 IsOut l c ws p = IsStored c ws (ring_of p) p.stored × UnitOut l c ws p
 
-module _ {S : Type 0} (stands : S → Layout → CoreOpening → List Entry → Type 0) where
-  -- while the turn is free, the book is at home and stands for the journal
-  abbrev pub IsHome : Layout → State → Table (Option S) View → Type 0
-  IsHome l c s = c.turn ≡ None → (b : S) × (get_elem? s.homes 0 ≡ some (some (Some b))) × stands b l c.opening c.journal
+-- the ring was told of a failed write only where one has failed, and while it has the turn it was told of any
+pub record KnowsFault (fault : Bool) (p : RingPart) : Type 0 where
+  pub told : p.failed ≡ true → fault ≡ true
+  pub taken : (t : Taken) → p.turn ≡ Some t → fault ≡ true → p.failed ≡ true
+
+module _ {S : Type 0} (stands : S → Layout → CoreOpening → List Entry → Bool → Type 0) where
+  -- while the turn is free, the book is at home and stands for the journal, and tells whether a write has failed
+  abbrev pub IsHome : Layout → State → Bool → Table (Option S) View → Type 0
+  IsHome l c fault s = c.turn ≡ None → (b : S) × (get_elem? s.homes 0 ≡ some (some (Some b))) × stands b l c.opening c.journal fault
 
   -- some list of enabled events leaves a state that the words, the book and the views show
   pub record Shows (l : Layout) (s : Table (Option S) View) : Type 0 where
@@ -98,9 +104,11 @@ module _ {S : Type 0} (stands : S → Layout → CoreOpening → List Entry → 
     pub stopper : (t : Stop) → core.stop ≡ Some t → core.granted t.ring ≡ true
     pub turned : (r : ℕ) → core.turn ≡ Some r → (r < core.opening.rings) × (core.granted r ≡ true)
     pub owners : (r : ℕ) → r < core.opening.rings → owner r < length s.views
-    pub home : IsHome l core s
+    pub fault : Bool
+    pub home : IsHome l core fault s
     pub each : (j : ℕ) (v : View) → get_elem? s.views j ≡ some v → Fits l core glue owner j v
     pub stored : (j : ℕ) (v : View) (i : ℕ) (p : RingPart) → get_elem? s.views j ≡ some v → get_elem? v.parts i ≡ some p → IsOut l core s.words p
+    pub faults : (j : ℕ) (v : View) (i : ℕ) (p : RingPart) → get_elem? s.views j ≡ some v → get_elem? v.parts i ≡ some p → KnowsFault fault p
 
   -- the table before it is open: its words are those that it was made with, and the slot has nothing until it is taken
   pub record Draft (k : Key) (s : Table (Option S) View) : Type 0 where

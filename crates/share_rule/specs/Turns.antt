@@ -1,6 +1,6 @@
 -- What a ring writes while it has the turn: one entry after the other, as changes of its own part and of the journal that
 -- it found.
-use Rattle.std.specs.Prelude.{◌≡◌, ℕ, ◌<◌, ◌≤◌, ◌||◌, false, true, ⊤, List, [], ◌∷◌, ◌++◌, length, fold, ◌*◌, Option, Some, None, IfSome}
+use Rattle.std.specs.Prelude.{◌≡◌, ℕ, ◌<◌, ◌≤◌, ◌||◌, Bool, false, true, ⊤, List, [], ◌∷◌, ◌++◌, length, fold, ◌*◌, Option, Some, None, IfSome}
 use Rattle.rup_model.specs.declared.journal.TheConstants.{LEARNED_PER_REDUCTION}
 use Rattle.rup_model.specs.declared.journal.Kind.TheVariants.{Derive}
 use Rattle.rup_model.specs.declared.journal.Entry.{Entry}
@@ -137,9 +137,9 @@ written_of v ns = sheet_after v.opening (only v).core.ring (sheet_of v) ns
 abbrev pub MayWrite : View → List Note → Type 0
 MayWrite v ns = AllNoted v.layout v.opening (only v).core.ring (sheet_of v) ns
 
--- it was refused for cause
-abbrev pub WasRefused : View → List Note → Option Refusal → Type 0
-WasRefused v ns x = IfSome x (λ y. IsRefused v.opening (written_of v ns).journal y)
+-- it was refused for cause, and knows whether a write has failed
+abbrev pub WasRefused : View → List Note → Option Refusal → Bool → Type 0
+WasRefused v ns x failed = IfSome x (λ y. IsRefused v.opening (written_of v ns).journal failed y) × ((only v).failed ≡ true → failed ≡ true)
 
 -- the newer of two, where there is one
 abbrev pub newer : Option Refusal → Option Refusal → Option Refusal
@@ -148,30 +148,31 @@ newer (Some x) y = Some x
 
 -- Steps
 
--- the ring has the turn, and what the book held with it
-abbrev pub take_part : List Entry → RingPart → RingPart
-take_part J p = record p { turn = Some (record { journal = J }); whole = false }
+-- the ring has the turn, and what the book held with it; it is told whether a write has failed
+abbrev pub take_part : List Entry → Bool → RingPart → RingPart
+take_part J failed p = record p { turn = Some (record { journal = J }); whole = false; failed = failed }
 
 -- what it wrote stands in its part; it knows whether the log is ended
-abbrev pub give_part : CoreOpening → Sheet → Option Refusal → RingPart → RingPart
-give_part o s x p = record p {
+abbrev pub give_part : CoreOpening → Sheet → Option Refusal → Bool → RingPart → RingPart
+give_part o s x failed p = record p {
   core = s.part;
   glues = s.glues;
   turn = None;
   whole = false;
   unit = None;
   refused = newer x p.refused;
+  failed = failed;
   ended = p.ended || ended o.formula s.journal;
 }
 
 -- the turn was free, and is the ring's
-abbrev pub after_take : ℕ → ℕ → List Entry → View → View
-after_take free new J v = stepped 0 (CompareExchange free new) free (changed (take_part J) v)
+abbrev pub after_take : ℕ → ℕ → List Entry → Bool → View → View
+after_take free new J failed v = stepped 0 (CompareExchange free new) free (changed (take_part J failed) v)
 
 -- it was not, or the log has grown
 abbrev pub after_miss : ℕ → ℕ → ℕ → View → View
 after_miss free new found v = stepped 0 (CompareExchange free new) found v
 
 -- the turn is free again
-abbrev pub after_give : List Note → Option Refusal → View → View
-after_give ns x v = let n = 256 * length (written_of v ns).journal in stepped 0 (Store n) n (changed (give_part v.opening (written_of v ns) x) v)
+abbrev pub after_give : List Note → Option Refusal → Bool → View → View
+after_give ns x failed v = let n = 256 * length (written_of v ns).journal in stepped 0 (Store n) n (changed (give_part v.opening (written_of v ns) x failed) v)

@@ -99,7 +99,7 @@ spent_view = record (closed_view (record { rings = 0; vars = 0; words = 0 })) { 
 
 -- no ring's
 abbrev pub no_part : RingPart
-no_part = record { core = blank 0; glues = []; stored = []; turn = None; listed = 0; whole = false; unit = None; refused = None; set = None; ended = false; gave = [] }
+no_part = record { core = blank 0; glues = []; stored = []; turn = None; listed = 0; whole = false; unit = None; refused = None; failed = false; set = None; ended = false; gave = [] }
 
 -- the part of the pass's one ring
 abbrev pub only : View → RingPart

@@ -1,5 +1,5 @@
 //! Steps on the turn: whatever the table is when a step comes, what it shows then is the step's events away.
-ghost use Rattle.std.specs.Prelude.{◌≡◌, ℕ, ◌+◌, ◌*◌, ◌%◌, ◌<◌, true, List, [], ◌∷◌, map, fold, length, slice_index, slice_set, Option, Some, None};
+ghost use Rattle.std.specs.Prelude.{◌≡◌, ℕ, ◌+◌, ◌*◌, ◌%◌, ◌<◌, Bool, true, List, [], ◌∷◌, map, fold, length, slice_index, slice_set, Option, Some, None};
 ghost use mathlib.Core.Option.{some, none};
 ghost use lib.ListN.{get_elem?};
 ghost use Rattle.atomic_table.specs.Table.{State as Table, stepped, keeps};
@@ -20,7 +20,7 @@ use crate::Ledger;
 /// leaves the slot.
 pub fn a_turn_taken_is_its_event<B: Ledger>()
     ensures { (k : Key) (s : Table (Option B) View) (h : Shows (StandsFor B.account B.stands) k.layout s) (id free : ℕ) (v : View) → get_elem? s.views id ≡ some v → is_ready v.stage ≡ true → IsFree v → slice_index s.words 0 ≡ free → free % 256 ≡ 0
-        → (n : Shows (StandsFor B.account B.stands) k.layout (record { words = slice_set s.words 0 (free + (ring_of (only v) + 1)); homes = slice_set s.homes 0 none; views = slice_set s.views id (after_take free (free + (ring_of (only v) + 1)) h.core.journal v) })) × (n.core ≡ after h.core (TakeTurn (ring_of (only v)))) }
+        → (n : Shows (StandsFor B.account B.stands) k.layout (record { words = slice_set s.words 0 (free + (ring_of (only v) + 1)); homes = slice_set s.homes 0 none; views = slice_set s.views id (after_take free (free + (ring_of (only v) + 1)) h.core.journal h.fault v) })) × (n.core ≡ after h.core (TakeTurn (ring_of (only v)))) }
 {}
 
 /// Missing it is none.
@@ -31,8 +31,8 @@ pub fn a_turn_missed_is_no_event<B: Ledger>()
 
 /// The store that gives the turn back is what was written in it, in order, and then the giving.
 pub fn a_turn_is_its_events<B: Ledger>()
-    ensures { (k : Key) (s : Table (Option B) View) (h : Shows (StandsFor B.account B.stands) k.layout s) (id : ℕ) (v : View) (book : B) (ns : List Note) (x : Option Refusal) → 0 < length s.homes → get_elem? s.views id ≡ some v → is_ready v.stage ≡ true → IsWriting v
-        → MayWrite v ns → WasRefused v ns x → StandsFor B.account B.stands book v.layout v.opening (written_of v ns).journal
-        → (n : Shows (StandsFor B.account B.stands) k.layout (record { words = slice_set s.words 0 (256 * length (written_of v ns).journal); homes = slice_set s.homes 0 (some (Some book)); views = slice_set s.views id (after_give ns x v) }))
+    ensures { (k : Key) (s : Table (Option B) View) (h : Shows (StandsFor B.account B.stands) k.layout s) (id : ℕ) (v : View) (book : B) (ns : List Note) (x : Option Refusal) (failed : Bool) → 0 < length s.homes → get_elem? s.views id ≡ some v → is_ready v.stage ≡ true → IsWriting v
+        → MayWrite v ns → WasRefused v ns x failed → StandsFor B.account B.stands book v.layout v.opening (written_of v ns).journal failed
+        → (n : Shows (StandsFor B.account B.stands) k.layout (record { words = slice_set s.words 0 (256 * length (written_of v ns).journal); homes = slice_set s.homes 0 (some (Some book)); views = slice_set s.views id (after_give ns x failed v) }))
         × (n.core.journal ≡ (written_of v ns).journal) × (n.core ≡ after (fold after h.core (map (event_of (ring_of (only v))) ns)) (GiveTurn (ring_of (only v)))) }
 {}

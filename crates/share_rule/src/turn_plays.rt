@@ -15,23 +15,27 @@ impl<B: Ledger> Play<Option<B>, View> for Takes<B> {
     ghost then = { takes_turn (StandsFor B.account B.stands) };
 }
 
-/// Names what a turn has written, and what it was refused. Each call picks them.
+/// Names what a turn has written, what it was refused, and whether a write of the book has failed. Each call picks them.
 pub trait Notes {
-    ghost use Rattle.std.specs.Prelude.{List, Option};
+    ghost use Rattle.std.specs.Prelude.{List, Option, Bool};
     ghost use Rattle.share_rule.specs.declared.note.Note.{Note};
     ghost use Rattle.share_rule.specs.declared.view.Refusal.{Refusal};
 
     ghost notes: { List Note };
 
     ghost refused: { Option Refusal };
+
+    ghost failed: { Bool };
 }
 
 impl Notes for Brand {
-    ghost use Rattle.std.specs.Prelude.{[], None};
+    ghost use Rattle.std.specs.Prelude.{[], None, false};
 
     ghost notes = { [] };
 
     ghost refused = { None };
+
+    ghost failed = { false };
 }
 
 /// The store that gives the turn back, and the slot with the book.
@@ -42,5 +46,5 @@ pub struct Gives<N> {
 impl<N: Notes, B> Play<Option<B>, View> for Gives<N> {
     ghost use Rattle.share_rule.specs.TurnsTold.{gives_turn};
 
-    ghost then = { gives_turn N.notes N.refused };
+    ghost then = { gives_turn N.notes N.refused N.failed };
 }

@@ -89,6 +89,8 @@ pub struct RingPart {
     pub unit: Option<u64>,
     /// What its turns were refused last.
     pub refused: Option<Refusal>,
+    /// It was told that a write of the book has failed.
+    pub failed: bool,
     /// The stop that it set.
     pub set: Option<Stop>,
     /// It wrote the empty clause, or found it written.

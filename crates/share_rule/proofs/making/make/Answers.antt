@@ -2,7 +2,7 @@ use Rattle.std.proofs.Common.{◌∙◌, ◌*◌, ℕ, List, length, sym, ap, su
 use Rattle.rup_model.specs.Journal.{book}
 use Rattle.share_core.specs.State.{opened}
 use Rattle.share_rule.specs.declared.rule.Key.{Key}
-use Rattle.share_rule.specs.Books.{StandsFor}
+use Rattle.share_rule.specs.Books.{StandsFor, is_whole}
 use Rattle.share_rule.specs.FirstWords.{begun_with}
 use Rattle.std.specs.Prelude.{slice_set}
 use Rattle.share_rule.specs.Shown.{Words}
@@ -58,6 +58,7 @@ open_table-requires-clause-opens g c =
       few = (let k = b.few_entries in omega arith);
       stood = record {
         log = log_kept g.B.Ledger.account g.B.Ledger.stands c.args.book c.with_holes-book.result c.in-Ok.laid.1 F J h c.with_holes-book.ensures.account c.with_holes-book.ensures.sink;
+        faulty = ap (λ a. is_whole a.state) c.with_holes-book.ensures.account ∙ c.requires.1.1.1;
         holes = λ _. ap (λ a. a.holes) c.with_holes-book.ensures.account ∙ c.in-Ok.ensures.holes ∙ ap (λ r. r.holes) (sym (begun_room F l J ss us b));
       };
     } in

@@ -9,3 +9,6 @@ mod stops;
 
 pub use answer::Set;
 pub use stops::{look, set};
+
+#[cfg(test)]
+mod tests;

@@ -1,6 +1,4 @@
-use Rattle.std.proofs.Common.{◌≡◌, ◌+◌, ◌*◌, ℕ, Option, arith}
-use Rattle.share_core.specs.declared.event.Stop.{Stop}
-use Rattle.share_rule.specs.declared.view.View.{View}
+use Rattle.std.proofs.Common.{◌+◌, ◌*◌, ℕ, arith}
 use Rattle.share_rule.specs.Books.{StandsFor}
 use Rattle.share_rule.specs.Exchanges.{after_set}
 use Rattle.share_rule.proofs.Stopping.{sets_stop, few_found, lost_sees}

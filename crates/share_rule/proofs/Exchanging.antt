@@ -1,5 +1,5 @@
 -- Puts and gets keep the rule.
-use Rattle.std.proofs.Common.{◌≡◌, ◌≢◌, ℕ, ◌+◌, ◌*◌, ◌<◌, ◌==◌, cond, true, List, [], ◌∷◌, ◌++◌, All, length, set, refl, sym, ap, ◌∙◌, subst, arith, eq-eqb, ne_eqb, inl, inr, Option, Some}
+use Rattle.std.proofs.Common.{◌≡◌, ◌≢◌, ℕ, ◌*◌, ◌<◌, cond, true, List, [], ◌∷◌, ◌++◌, All, set, refl, sym, ap, ◌∙◌, subst, arith, eq-eqb, ne_eqb, inl, inr, Bool, Option}
 use Rattle.std.specs.Prelude.{slice_index, Contains}
 use Rattle.std.proofs.lemmas.List.Elements.{Contains-append_left, Contains-append_right}
 use mathlib.Core.Option.{some}
@@ -9,7 +9,6 @@ use native.Mathlib.Decide.{ℕ_discrete}
 use lib.ListN.{get_elem?}
 use Rattle.atomic_table.specs.Table.{State as Table, Me, keeps, step, Allows}
 use Rattle.rup_model.specs.declared.journal.Entry.{Entry}
-use Rattle.rup_model.specs.Basics.{put}
 use Rattle.rup_model.proofs.Sums.{put_here, put_else, at_put}
 use Rattle.share_core.specs.declared.event.Event.TheVariants.{Put, Get}
 use Rattle.share_core.specs.declared.part.CoreOpening.{CoreOpening}
@@ -93,11 +92,11 @@ exchange_frame c r s a p glue empty =
       stop_stays = λ t e. e;
       stop_new = λ t e. inl e;
       ends = λ e. e;
-      given = λ i gave ne h. exchanged_given c r s a p i gave h (λ to class lt few e nz. absurd (nz (empty i to class ne lt few e)));
+      given = λ i gave ne lt h. exchanged_given c r s a p i gave h (λ to class at few e nz. absurd (nz (empty i to class ne at few e)));
       glue_kept = λ n lt. refl;
     }
 
-module _ {S : Type 0} (stands : S → Layout → CoreOpening → List Entry → Type 0) (k : Key) where
+module _ {S : Type 0} (stands : S → Layout → CoreOpening → List Entry → Bool → Type 0) (k : Key) where
   -- the slot of one ring for another
   slot_is_at : (s : Table (Option S) View) (h : Shows stands k.layout s) (id : ℕ) (v : View) → get_elem? s.views id ≡ some v → is_ready v.stage ≡ true → (from to class : ℕ)
       → slot_word v from to class ≡ slot_at k.layout (slot_of h.core.opening from to class)

@@ -1,5 +1,5 @@
 -- What a changed word below the cells leaves of the others.
-use Rattle.std.proofs.Common.{◌≡◌, ◌≢◌, ℕ, ◌+◌, ◌*◌, ◌<◌, length, set, sym, ap, ◌∙◌, List, arith, length-set, get_or-set_other, get_or-set_same, Option}
+use Rattle.std.proofs.Common.{◌≡◌, ◌≢◌, ℕ, ◌*◌, ◌<◌, length, set, sym, ap, ◌∙◌, List, arith, length-set, get_or-set_other, get_or-set_same, Option}
 use Rattle.std.specs.Prelude.{slice_index}
 use mathlib.Core.Logic.{dite}
 use native.Mathlib.Decide.{ℕ_discrete}

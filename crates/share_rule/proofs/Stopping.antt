@@ -1,5 +1,5 @@
 -- The stop is looked at and set.
-use Rattle.std.proofs.Common.{◌≡◌, ◌≢◌, ℕ, zero, suc, ◌+◌, ◌*◌, ◌/◌, ◌%◌, ◌<◌, ◌≤◌, ◌==◌, Bool, true, false, List, [], ◌∷◌, length, set, refl, sym, ap, ◌∙◌, subst, inl, inr, arith, eq-eqb, ne_eqb, true≢false, Option, Some, None}
+use Rattle.std.proofs.Common.{◌≡◌, ◌≢◌, ℕ, zero, suc, ◌+◌, ◌*◌, ◌/◌, ◌%◌, ◌<◌, ◌≤◌, ◌==◌, Bool, true, false, List, [], ◌∷◌, set, refl, sym, ap, ◌∙◌, subst, inr, arith, eq-eqb, ne_eqb, Option, Some, None}
 use Rattle.std.specs.Prelude.{slice_index, MatchOption, if◌then◌else◌}
 use mathlib.Core.Option.{some, some-injective, some-ne-none}
 use mathlib.Core.Option as maybe
@@ -31,7 +31,7 @@ use Rattle.share_rule.specs.Shown.{Words, Shown, Shows, ring_of, stop_number}
 use Rattle.share_rule.proofs.Lists.{set_itself}
 use Rattle.share_rule.proofs.Parts.{is_open, standing_of}
 use Rattle.share_rule.proofs.LowWords.{stop_words, low_out}
-use Rattle.share_rule.proofs.Moves.{one_ring, Frame, turn_same, refused_same, given_same, moved, looked}
+use Rattle.share_rule.proofs.Moves.{one_ring, turn_same, refused_same, given_same, moved, looked}
 use Rattle.share_rule.proofs.Steps.{told}
 
 -- a word of a stop spells it
@@ -65,7 +65,7 @@ stop_no_effect : (o : Option Stop) (t s : Stop) → o ≡ Some t → first_stop 
 stop_no_effect None t s e = absurd (none_some t e)
 stop_no_effect (Some u) t s e = refl
 
-module _ {S : Type 0} (stands : S → Layout → CoreOpening → List Entry → Type 0) (k : Key) where
+module _ {S : Type 0} (stands : S → Layout → CoreOpening → List Entry → Bool → Type 0) (k : Key) where
   -- the word spells the stop
   word_is : (s : Table (Option S) View) (h : Shows stands k.layout s) → stop_of (slice_index s.words 1) ≡ h.core.stop
   word_is s h =
@@ -144,7 +144,7 @@ module _ {S : Type 0} (stands : S → Layout → CoreOpening → List Entry → 
         stop_stays = λ u e. absurd (none_some u (sym none ∙ e));
         stop_new = λ u e. inr (ap (λ (x : Stop). x.ring) (some_same u t (sym e ∙ stop)) ∙ mine_ring);
         ends = λ e. e;
-        given = λ i gave ne g. given_same c d i gave refl (λ _. refl) (λ _. refl) g;
+        given = λ i gave ne lt g. given_same c d i gave refl (λ _. refl) (λ _. refl) g;
         glue_kept = λ n lt. refl;
       })
       (λ _. refl) h.home ring.0 refl (ap (on_first (set_part t)) ring.0) refl refl refl refl refl

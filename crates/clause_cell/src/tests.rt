@@ -219,3 +219,38 @@ fn holes_are_those_of_a_map(rt: HostRuntime) -> Result<(), Fail> {
     }
     Ok(())
 }
+
+// The next two are what bench/cells measures.
+
+/// How many holes.
+const HOLES: u64 = 100_000;
+
+/// Holes of two words, and behind them one of three.
+fn many_holes(alloc: Global) -> Result<Holes, Fail> {
+    let mut holes = hole(alloc, 0, 0)?;
+    for i in 0..HOLES {
+        give(&mut holes, 4 * i, 2)?;
+    }
+    give(&mut holes, 4 * HOLES, 3)?;
+    Ok(holes)
+}
+
+#[test]
+fn many_holes_stand(rt: HostRuntime) -> Result<(), Fail> {
+    assert_eq!(rt; many_holes(rt.alloc())?.largest(), 3);
+    Ok(())
+}
+
+// The first hole that is long enough is the last one, and then the first one.
+#[test]
+fn many_holes_are_taken_and_given_back(rt: HostRuntime) -> Result<(), Fail> {
+    let mut holes = many_holes(rt.alloc())?;
+    for _ in 0..5000 {
+        assert_eq!(rt; holes.take(3), Ok(4 * HOLES));
+        give(&mut holes, 4 * HOLES, 3)?;
+        assert_eq!(rt; holes.take(2), Ok(0));
+        give(&mut holes, 0, 2)?;
+    }
+    assert_eq!(rt; holes.largest(), 3);
+    Ok(())
+}

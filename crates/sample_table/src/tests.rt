@@ -1,7 +1,9 @@
 // Tables for small formulas: the worked row, cells read back, and rings on threads.
 ghost use Rattle.std.specs.Prelude.{◌<◌};
 
-use crate::tests_rings::{begin_all, count_of, gather_all, give_up_all, read_back, trade_all};
+use crate::tests_rings::{
+    begin_all, count_of, gather_all, give_up_all, read_back, sum_of_reads, trade, trade_all,
+};
 use crate::{Problem, begin, gather, give_up, open, refusal, start_cell};
 use clause_cell::HoleStop;
 use sat_words::Lit;
@@ -87,6 +89,57 @@ fn cells_are_read_back(rt: HostRuntime) -> Result<(), Fail> {
         assert_eq!(rt; (head.size, head.glue, head.number), (size, 0, 1));
         assert!(rt; read.as_slice() == lits.as_slice(), "of {size}");
     }
+    Ok(())
+}
+
+// The next two and the trades are what bench/cells measures: literals read from a cell, and as many from a vector.
+
+/// How often the literals are read.
+const READS: u32 = 2_500_000;
+
+/// The sum of the codes of forty literals, so often.
+const SUM: u64 = 1653 * 2_500_000;
+
+#[test]
+fn one_cell_is_read(rt: HostRuntime) -> Result<(), Fail> {
+    let lits = literals(rt.alloc(), 40)?;
+    let problem = Problem::new(rt.alloc(), 40);
+    let problem = problem.with(rt.alloc(), lits.as_slice())?;
+    let (table, mut first, cells) = open(rt.alloc(), &problem, 1, 64)?;
+    let cell = start_cell(&first, cells.as_slice(), 0)?;
+    let mut ring = begin(&table, &mut first, 0, cell);
+    assert_eq!(rt; sum_of_reads(&table, &mut ring, READS), SUM);
+    Ok(())
+}
+
+fn sum_of_codes(lits: &[Lit], start: u64) -> u64 {
+    let mut sum = start;
+    for lit in lits {
+        sum = sum.wrapping_add(lit.code() as u64);
+    }
+    sum
+}
+
+#[test]
+fn one_vector_is_read(rt: HostRuntime) -> Result<(), Fail> {
+    let lits = literals(rt.alloc(), 40)?;
+    let mut sum = 0;
+    for _ in 0..READS {
+        sum = sum_of_codes(lits.as_slice(), sum);
+    }
+    assert_eq!(rt; sum, SUM);
+    Ok(())
+}
+
+#[test]
+fn one_ring_trades_one_cell(rt: HostRuntime) -> Result<(), Fail> {
+    let problem = three(rt.alloc())?;
+    let (table, mut first, cells) = open(rt.alloc(), &problem, 1, 64)?;
+    let cell = start_cell(&first, cells.as_slice(), 2)?;
+    let mut ring = begin(&table, &mut first, 0, cell);
+    trade(&table, &mut ring, 4 * TURNS);
+    assert_eq!(rt; count_of(&table, cell), Some(1));
+    assert_eq!(rt; ring.lasts, 0);
     Ok(())
 }
 

@@ -1,7 +1,8 @@
 // What the rings of the tests do with a cell, one after another and beside each other.
-ghost use Rattle.std.specs.Prelude.{◌≡◌, ◌<◌, ◌+◌, ◌^◌, All, IfOk, OnOk, length, ℕ, slice_index_or, []};
+ghost use Rattle.std.specs.Prelude.{◌≡◌, ◌≤◌, ◌<◌, ◌+◌, ◌^◌, All, IfOk, OnOk, length, ℕ, slice_index_or, []};
 ghost use Rattle.share_core.specs.State.{times_at};
 ghost use Rattle.share_rule.specs.Passes.{IsPassOf};
+ghost use Rattle.share_rule.specs.Views.{IsHolding, clause_of};
 ghost use Rattle.sample_table.specs.Samples.{IsFirst, IsRing, IsHolder, IsGathered};
 ghost use Rattle.sample_table.specs.declared.rings.Ring.{Ring};
 
@@ -135,4 +136,32 @@ pub(crate) fn read_back<B: Ledger>(
         lits.push(read_lit(table, &mut ring.pass, ring.cell, place))?;
     }
     Ok((head, lits))
+}
+
+/// The codes of the literals of the ring's cell, in one sum.
+fn sum_of_cell<B: Ledger>(table: &Shared<B>, ring: &mut Ring<B>, size: u32, start: u64) -> u64
+    requires pass { IsPassOf table.now ring.old.pass }
+    requires held { IsHolding ring.old.cell.address ring.old.pass.me.0 }
+    requires size { size ≤ length (clause_of ring.old.cell.address ring.old.pass.me.0).lits }
+    ensures pass { IsPassOf table.now ring.new.pass }
+    ensures same { (ring.new.pass.me.0.parts ≡ ring.old.pass.me.0.parts) × (ring.new.cell ≡ ring.old.cell) }
+{
+    let mut sum = start;
+    for place in 0..size {
+        let lit = read_lit(table, &mut ring.pass, ring.cell, place);
+        sum = sum.wrapping_add(lit.code() as u64);
+    }
+    sum
+}
+
+/// The same so often, in one sum.
+pub(crate) fn sum_of_reads<B: Ledger>(table: &Shared<B>, ring: &mut Ring<B>, times: u32) -> u64
+    requires { (n : ℕ) × IsHolder table.now ring.old.pass ring.old.ring ring.old.cell.address n }
+{
+    let head = read_head(table, &mut ring.pass, ring.cell);
+    let mut sum: u64 = 0;
+    for _ in 0..times {
+        sum = sum_of_cell(table, ring, head.size, sum);
+    }
+    sum
 }

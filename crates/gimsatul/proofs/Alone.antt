@@ -3,7 +3,7 @@ use Rattle.std.proofs.Common.{◌≡◌, ◌≢◌, ◌∙◌, ◌<◌, ◌≤�
 use Rattle.std.specs.Prelude.{All, Result, if◌then◌else◌}
 use Rattle.std.specs.declared.option.Option.{Option}
 use Rattle.std.specs.Io.KnownBytes.{append_known}
-use Rattle.std.specs.List.{list_any}
+use Rattle.std.specs.List.{list_any, filter}
 use Rattle.io_edge.specs.Causes.{Rose}
 use Rattle.io_edge.specs.Paths.{IsEmptyWhereTold}
 use Rattle.sat_words.specs.Literal.{Literal, IsOn}
@@ -34,6 +34,7 @@ use Rattle.gimsatul.specs.declared.report.Verdict.{Verdict}
 use Rattle.gimsatul.specs.declared.report.Verdict.TheVariants.{Unsatisfiable}
 use Rattle.gimsatul.specs.declared.report.End.{End}
 use Rattle.gimsatul.specs.declared.report.End.TheVariants.{Memory}
+use Rattle.gimsatul.specs.Decided.{has_line}
 use Rattle.gimsatul.specs.Journaled.{IsJournal, IsUnrefuted, HoldsText, IsCutShort}
 use Rattle.gimsatul.specs.Concluded.{end_of_stop}
 use Rattle.gimsatul.specs.Begun.{begun_kept}
@@ -115,8 +116,8 @@ module _ (plan : Plan) (F : FormulaData) (keep : Bool) (now : LineState) (result
     keeps = λ _. tt;
   }
 
-  full : length (lines F.clauses J) ≡ length J
-  full = one_line_each (formula_book F.clauses) J rulers
+  full : length (lines F.clauses J) ≡ length (filter has_line J)
+  full = one_line_each (formula_book F.clauses) J
 
   -- the ruler was stopped
   stopped_by : (why : LineStop) → IsAnswer F J was.before now (Err why) → Concludes plan F J now.faults (Err (end_of_stop why))

@@ -1,16 +1,16 @@
 -- What is new to the port's opening is new to the program's, and to one behind the ruler's entries.
-use Rattle.std.proofs.Common.{◌≡◌, ◌∙◌, ◌==◌, ◌<◌, ℕ, suc, Bool, true, not, ◌&&◌, ◌||◌, List, [], ◌∷◌, ◌++◌, map, All, refl, sym, ap, subst, arith, append-nil, append_assoc}
+use Rattle.std.proofs.Common.{◌≡◌, ◌∙◌, ◌==◌, ◌<◌, ◌≤◌, ℕ, suc, length, Bool, true, not, ◌&&◌, ◌||◌, List, [], ◌∷◌, ◌++◌, map, All, refl, sym, ap, subst, arith, append-nil, append_assoc}
 use Rattle.std.specs.List.{list_any, filter, fold}
 use Rattle.std.proofs.lemmas.List.Elements.{filter-append}
 use Rattle.std.proofs.lemmas.List.Sums.{fold-append}
 use Rattle.sat_words.specs.Literal.{Literal}
 use Rattle.sat_words.specs.Clause.{has, includes, same_set}
 use Rattle.rup_model.specs.Basics.{EachAfter}
-use Rattle.rup_model.specs.declared.journal.TheConstants.{RULER_RING}
+use Rattle.rup_model.specs.declared.journal.TheConstants.{RULER_RING, LEARNED_PER_REDUCTION}
 use Rattle.rup_model.specs.declared.journal.Addition.{Addition}
 use Rattle.rup_model.specs.declared.journal.Entry.{Entry}
 use Rattle.rup_model.specs.declared.journal.Entry.TheVariants.{Add, Del, Reduce}
-use Rattle.rup_model.specs.Journal.{ring_of, additions, recent, recent_after, fresh}
+use Rattle.rup_model.specs.Journal.{ring_of, additions, recent, recent_after, fresh, IsSpaced}
 use Rattle.rup_model.specs.Opening.{is_rulers, Start, Opening, start_clauses, adds_unit, is_new, IsNew}
 use Rattle.rup_model.proofs.Additions.{additions-append}
 use Rattle.rup_model.proofs.Parts.{rulers_new, rulers_recent}
@@ -93,3 +93,17 @@ module _ (J0 : List Entry) (rulers : All (λ e. is_rulers e ≡ true) J0) where
   all_new o p mine same of_rings each =
       each_both (IsNew p) [] J0 mine (rulers_new p J0 rulers)
       (subst (λ (K : List Entry). EachAfter (IsNew p) K mine) (append-nil J0) (each_behind p [] mine of_rings (each_weaker (IsNew o) (IsNew p) (still_new o p same) [] mine each)))
+
+  -- the ruler learned nothing, so that what is spaced is so behind its entries
+  spaced_from : (before es : List Entry) → EachAfter IsSpaced before es → EachAfter IsSpaced (J0 ++ before) es
+  spaced_from before [] each = tt
+  spaced_from before (e ∷ es) each =
+      (one e each.0, subst (λ (K : List Entry). EachAfter IsSpaced K es) (sym (append_assoc J0 before (e ∷ []))) (spaced_from (before ++ e ∷ []) es each.1))
+    where
+      one : (x : Entry) → IsSpaced before x → IsSpaced (J0 ++ before) x
+      one (Add x) far = tt
+      one (Del q n) far = tt
+      one (Reduce q) far = subst (λ (cs : List (List Literal)). LEARNED_PER_REDUCTION ≤ length cs) (sym (recent_behind q before)) far
+
+  pub spaced_behind : (mine : List Entry) → EachAfter IsSpaced [] mine → EachAfter IsSpaced J0 mine
+  spaced_behind mine each = subst (λ (K : List Entry). EachAfter IsSpaced K mine) (append-nil J0) (spaced_from [] mine each)

@@ -12,6 +12,7 @@ use Rattle.rup_model.specs.declared.journal.Entry.TheVariants.{Add, Del, Reduce}
 use Rattle.rup_model.specs.Journal.{Book, book_after, lines_after, lines_from, ring_of, reduction, additions, learned, is_learn}
 use Rattle.rup_model.specs.Opening.{is_ruler, is_rulers}
 use Rattle.rup_model.proofs.Parts.{rulers_kind}
+use Rattle.gimsatul.specs.Decided.{has_line}
 use Rattle.gimsatul.specs.Journaled.{IsPlainEntry}
 
 abbrev pub AreRulers : List Entry → Type 0
@@ -23,20 +24,12 @@ later e J rulers k d lt = rulers (suc k) d (omega arith)
 ring_is : (e : Entry) → is_rulers e ≡ true → ring_of e ≡ RULER_RING
 ring_is e h = eqb-true (ring_of e) RULER_RING (and_parts (ring_of e == RULER_RING) (list_all (λ (x : Addition). is_ruler x.kind) (additions (e ∷ [])) && is_none (reduction e)) h).0
 
--- they reduce nothing
-no_reduction : (r : ℕ) → is_rulers (Reduce r) ≡ true → ⊥
-no_reduction r h = by (r == RULER_RING) h
-  where
-    by : (t : Bool) → (t && false) ≡ true → ⊥
-    by true e = true≢false (sym e)
-    by false e = true≢false (sym e)
-
--- so each has a line
-pub one_line_each : (b : Book) (J : List Entry) → AreRulers J → length (lines_from b J) ≡ length J
-one_line_each b [] rulers = refl
-one_line_each b (Add x ∷ J) rulers = ap suc (one_line_each (book_after b (Add x)) J (later (Add x) J rulers))
-one_line_each b (Del r n ∷ J) rulers = ap suc (one_line_each (book_after b (Del r n)) J (later (Del r n) J rulers))
-one_line_each b (Reduce r ∷ J) rulers = absurd (no_reduction r (rulers 0 (Reduce r) (omega arith)))
+-- as many lines stand as entries have one
+pub one_line_each : (b : Book) (J : List Entry) → length (lines_from b J) ≡ length (filter has_line J)
+one_line_each b [] = refl
+one_line_each b (Add x ∷ J) = ap suc (one_line_each (book_after b (Add x)) J)
+one_line_each b (Del r n ∷ J) = ap suc (one_line_each (book_after b (Del r n)) J)
+one_line_each b (Reduce r ∷ J) = one_line_each (book_after b (Reduce r)) J
 
 without : (x : Addition) (others : List Addition) (t u : Bool) → u ≡ false → map (λ (y : Addition). y.lits) others ≡ [] → map (λ (y : Addition). y.lits) (cond (t && u) (x ∷ others) others) ≡ []
 without x others true true e none = absurd (true≢false e)

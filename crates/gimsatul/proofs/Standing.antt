@@ -37,7 +37,7 @@ use Rattle.ring_port.specs.declared.stops.PortStop.TheVariants.{NoHole as NoHole
 use Rattle.ring_port.specs.Log.{Origin, StandsOver, HasLines, IsCaused, start_of}
 use Rattle.ring_run.specs.declared.job.End.{End}
 use Rattle.ring_run.specs.declared.job.End.TheVariants.{Sat, Refuted, Spent as SpentEnd, Stopped, NoHole, ProofFault, Memory}
-use Rattle.ring_run.specs.Ended.{Stays, IsOwn, IsOfKind, IsModelOf, IsIntact, Ends, AreNew, opening_of}
+use Rattle.ring_run.specs.Ended.{Stays, IsOwn, IsOfKind, IsModelOf, IsIntact, Ends, AreNew, AreSpaced, opening_of}
 use Rattle.simp_base.specs.WorkState.{begun}
 use Rattle.simp_base.specs.declared.work.Run.TheVariants.{Done}
 use Rattle.ruler_simp.specs.declared.ruling.Outcome.TheVariants.{Simplified as LeftOver}
@@ -61,7 +61,7 @@ use Rattle.gimsatul.proofs.Alone.{on_variables, ruler_keeps, ruler_whole}
 use Rattle.gimsatul.proofs.Closing.{Unique, closed_search}
 use Rattle.gimsatul.proofs.Keeping.{kept_by_mark, kept_where}
 use Rattle.gimsatul.proofs.Models.{cleared}
-use Rattle.gimsatul.proofs.Newness.{all_new}
+use Rattle.gimsatul.proofs.Newness.{all_new, spaced_behind}
 use Rattle.gimsatul.proofs.Ruling.{AreRulers, lines-append, one_line_each, rulers_learned, rulers_plain}
 use Rattle.gimsatul.proofs.Texts.{rose, still, whole, short}
 
@@ -72,12 +72,6 @@ later_All P x xs all k d lt = all (suc k) d (omega arith)
 
 first_All : {X : Type 0} (P : X → Type 0) (x : X) (xs : List X) → All P (x ∷ xs) → P x
 first_All P x xs all = all 0 x (omega arith)
-
-one_line : (vars : ℕ) (b : Book) (es : List Entry) → All (IsOwn 0 vars) es → length (lines_from b es) ≡ length es
-one_line vars b [] own = refl
-one_line vars b (Add x ∷ es) own = ap suc (one_line vars (book_after b (Add x)) es (later_All (IsOwn 0 vars) (Add x) es own))
-one_line vars b (Del r n ∷ es) own = ap suc (one_line vars (book_after b (Del r n)) es (later_All (IsOwn 0 vars) (Del r n) es own))
-one_line vars b (Reduce r ∷ es) own = absurd (first_All (IsOwn 0 vars) (Reduce r) es own)
 
 plain_from : (vars : ℕ) (es : List Entry) → All (IsOwn 0 vars) es → All IsRingsEntry es
 plain_from vars [] own = λ k d lt. absurd (omega arith)
@@ -91,7 +85,7 @@ plain_from vars (Add x ∷ es) own =
     by Derive ring h = (ring, h)
     by UnitLine ring h = (ring, h)
 plain_from vars (Del r n ∷ es) own = cons_All IsRingsEntry (Del r n) es (first_All (IsOwn 0 vars) (Del r n) es own) (plain_from vars es (later_All (IsOwn 0 vars) (Del r n) es own))
-plain_from vars (Reduce r ∷ es) own = absurd (first_All (IsOwn 0 vars) (Reduce r) es own)
+plain_from vars (Reduce r ∷ es) own = cons_All IsRingsEntry (Reduce r) es (first_All (IsOwn 0 vars) (Reduce r) es own) (plain_from vars es (later_All (IsOwn 0 vars) (Reduce r) es own))
 
 of_ring : (end vars : ℕ) → 1 ≤ end → (es : List Entry) → All (IsOwn 0 vars) es → All (λ e. ring_of e < end) es
 of_ring end vars some [] own = λ k d lt. absurd (omega arith)
@@ -100,13 +94,8 @@ of_ring end vars some (Add x ∷ es) own =
     cons_All (λ e. ring_of e < end) (Add x) es (let ring = h.0 in omega arith) (of_ring end vars some es (later_All (IsOwn 0 vars) (Add x) es own))
 of_ring end vars some (Del r n ∷ es) own =
     cons_All (λ e. ring_of e < end) (Del r n) es (let ring = first_All (IsOwn 0 vars) (Del r n) es own in omega (arith, ring)) (of_ring end vars some es (later_All (IsOwn 0 vars) (Del r n) es own))
-of_ring end vars some (Reduce r ∷ es) own = absurd (first_All (IsOwn 0 vars) (Reduce r) es own)
-
-spaced_from : (vars : ℕ) (before es : List Entry) → All (IsOwn 0 vars) es → EachAfter IsSpaced before es
-spaced_from vars before [] own = tt
-spaced_from vars before (Add x ∷ es) own = (tt, spaced_from vars (before ++ Add x ∷ []) es (later_All (IsOwn 0 vars) (Add x) es own))
-spaced_from vars before (Del r n ∷ es) own = (tt, spaced_from vars (before ++ Del r n ∷ []) es (later_All (IsOwn 0 vars) (Del r n) es own))
-spaced_from vars before (Reduce r ∷ es) own = absurd (first_All (IsOwn 0 vars) (Reduce r) es own)
+of_ring end vars some (Reduce r ∷ es) own =
+    cons_All (λ e. ring_of e < end) (Reduce r) es (let ring = first_All (IsOwn 0 vars) (Reduce r) es own in omega (arith, ring)) (of_ring end vars some es (later_All (IsOwn 0 vars) (Reduce r) es own))
 
 less_or : (a b : ℕ) → a ≤ b → (a ≡ b → ⊥) → a < b
 less_or zero zero le apart = absurd (apart refl)
@@ -117,7 +106,7 @@ less_or (suc a) (suc b) le apart = let h = less_or a b (omega arith) (λ e. apar
 module _ (plan : Plan) (formula : FormulaData) (keep : Bool) (output : LineState) (left : Simplified) (p s : PortState) (count : ℕ) (end : End) (out : LineState)
     (was : WasRuled keep formula plan.rounds output (Ok (LeftOver left))) (begins : Begins formula was.ruled.journal left.stack output p)
     (few : formula.vars < 2 ^ 28) (on : All (All (IsOn formula.vars)) formula.clauses) (some : 1 ≤ plan.limit)
-    (stays : Stays p s) (wrote : All (IsOwn p.ring p.vars) s.mine) (each_new : AreNew s) (counted : count ≡ length (learned s.ring s.mine))
+    (stays : Stays p s) (wrote : All (IsOwn p.ring p.vars) s.mine) (each_new : AreNew s) (each_spaced : AreSpaced s) (counted : count ≡ length (learned s.ring s.mine))
     (within : count ≤ plan.limit) (spent : end ≡ SpentEnd → count ≡ plan.limit) (unspent : count ≡ plan.limit → end ≡ SpentEnd) (ends : Ends s end) (lines_are : Some out ≡ s.output) where
   abbrev F : List (List Literal)
   F = formula.clauses
@@ -260,21 +249,16 @@ module _ (plan : Plan) (formula : FormulaData) (keep : Bool) (output : LineState
       of_rings = journal_stands.of_rings;
       fits = stands.sound.fits;
       learns = λ r lt. (let zero_ring : r ≡ 0 = omega arith in subst (λ (q : ℕ). length (learned q J) ≡ plan.limit) (sym zero_ring) (sym counts ∙ is));
-      spaced = each_both IsSpaced [] J0 s.mine (rulers_spaced J0 rulers) (spaced_from formula.vars J0 s.mine own);
+      spaced = each_both IsSpaced [] J0 s.mine (rulers_spaced J0 rulers) (spaced_behind J0 rulers s.mine each_spaced);
       going = unrefuted h.going;
     };
     each_new = all_new_there;
   }
 
-  one_line_all : length (lines F J) ≡ length J
-  one_line_all =
-      ap length (lines-append (formula_book F) J0 s.mine) ∙ length-append (lines F J0) (lines_from (book F J0) s.mine)
-      ∙ (let a = one_line_each (formula_book F) J0 rulers in let b = one_line formula.vars (book F J0) s.mine own in let c = length-append J0 s.mine in omega (arith, a, b, c))
-
   full : (lack : NoRoom) → s.refused ≡ Some (NoHoleAnswer lack) → IsFull J lack
   full lack e =
       let t : IsCaused s out (Some (NoHoleAnswer lack)) = subst (IsCaused s out) e has_lines.caused in
-      record { entries = sym (sym t.0 ∙ has_lines.entries ∙ one_line_all); needed = t.1; found = t.2 }
+      record { entries = sym (sym t.0 ∙ has_lines.entries ∙ one_line_each (formula_book F) J); needed = t.1; found = t.2 }
 
   -- a port that can be used has met no fault, and one that cannot has met one
   still_where : is_usable s.refused ≡ true → out.faults ≡ 0

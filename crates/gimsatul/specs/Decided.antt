@@ -1,11 +1,12 @@
 -- What a verdict says of the clauses and of the journal, and what want of room says of the journal.
 use Rattle.std.specs.Prelude.{◌≡◌, ◌+◌, ℕ, List, Bool, true, false, length, ◌==◌}
-use Rattle.std.specs.List.{list_any}
+use Rattle.std.specs.List.{list_any, filter}
 use Rattle.sat_words.specs.Literal.{Literal}
 use Rattle.sat_words.specs.Truth.{value_of, formula_true}
 use Rattle.sat_words.specs.FormulaData.{FormulaData}
 use Rattle.sat_words.specs.declared.shared.NoRoom.{NoRoom}
 use Rattle.rup_model.specs.declared.journal.Entry.{Entry}
+use Rattle.rup_model.specs.declared.journal.Entry.TheVariants.{Add, Del, Reduce}
 use Rattle.rup_model.specs.Log.{Refutes}
 use Rattle.rup_model.specs.Journal.{lines}
 use Rattle.rup_model.specs.Spent.{SpentAll}
@@ -54,8 +55,14 @@ pub record IsDecided (plan : Plan) (formula : FormulaData) (journal : List Entry
   pub verdict : Verdict
   pub decides : Decides plan formula journal verdict
 
--- the journal has as many entries as may stand: one more is needed than there is room for
+-- the entry has a line: a Reduce entry has none
+abbrev pub has_line : Entry → Bool
+has_line (Add x) = true
+has_line (Del r n) = true
+has_line (Reduce r) = false
+
+-- the journal has as many entries with a line as may stand: one more is needed than there is room for
 pub record IsFull (journal : List Entry) (lack : NoRoom) : Type 0 where
-  pub entries : length journal ≡ MAX_ENTRIES
+  pub entries : length (filter has_line journal) ≡ MAX_ENTRIES
   pub needed : lack.need ≡ MAX_ENTRIES + 1
   pub found : lack.largest ≡ MAX_ENTRIES

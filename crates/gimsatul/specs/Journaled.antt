@@ -28,11 +28,11 @@ IsPlainAddition Learn x = (x.ring ≡ 0) × (1 ≤ length x.lits)
 IsPlainAddition Derive x = (x.ring ≡ 0) × (x.lits ≡ [])
 IsPlainAddition UnitLine x = (x.ring ≡ 0) × (length x.lits ≡ 1)
 
--- an entry of the one ring that searches: an addition, or a deletion; nothing is reduced
+-- an entry of the one ring that searches: an addition, a deletion, or that it reduces its clauses
 abbrev pub IsRingsEntry : Entry → Type 0
 IsRingsEntry (Add x) = IsPlainAddition x.kind x
 IsRingsEntry (Del r n) = r ≡ 0
-IsRingsEntry (Reduce r) = ⊥
+IsRingsEntry (Reduce r) = r ≡ 0
 
 -- an entry of the ruler, or of the one ring
 abbrev pub IsPlainEntry : Entry → Type 0

@@ -26,7 +26,7 @@ no_lemmas s cs = record {
 
 -- Lists without repeats
 
-distinct_push : (cs : List Cref) (c : Cref) → AreDistinct cs → ((d : Cref) → In d cs → d.address ≢ c.address) → AreDistinct (cs ++ c ∷ [])
+pub distinct_push : (cs : List Cref) (c : Cref) → AreDistinct cs → ((d : Cref) → In d cs → d.address ≢ c.address) → AreDistinct (cs ++ c ∷ [])
 distinct_push [] c a f = (All-nil (λ (d : Cref). d.address ≢ c.address), tt)
 distinct_push (x ∷ cs) c a f =
     (In_All (λ (d : Cref). d.address ≢ x.address) (cs ++ c ∷ []) all, distinct_push cs c a.1 (λ d m. f d (inr m)))

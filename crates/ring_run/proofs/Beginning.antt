@@ -4,12 +4,14 @@ use Rattle.std.specs.Prelude.{All}
 use Rattle.std.specs.List.{list_any}
 use Rattle.std.specs.declared.option.Option.{Option}
 use Rattle.std.proofs.lemmas.Bool.{false≢true}
+use Rattle.std.proofs.lemmas.List.Elements.{All-nil}
+use Rattle.reduce_db.specs.Lemmas.{AreDistinct}
 use Rattle.sat_words.specs.Literal.{Literal}
 use Rattle.sat_words.specs.Clause.{has, is_empty}
 use Rattle.sat_words.specs.declared.shared.Cref.{Cref}
 use Rattle.rup_model.specs.declared.journal.Entry.{Entry}
 use Rattle.rup_model.specs.Basics.{EachAfter}
-use Rattle.rup_model.specs.Journal.{added, learned, recent}
+use Rattle.rup_model.specs.Journal.{added, learned, recent, IsSpaced}
 use Rattle.rup_model.specs.Opening.{adds_unit, IsNew}
 use Rattle.rup_model.proofs.Lists.{Contains_In, In_Contains, In_map, map_In, In_get_or, has_In}
 use Rattle.ring_port.specs.PortState.{PortState, Holding, HoldsStart, IsKept, IsOn, IsPort, held_at, lits_at, lits_in}
@@ -24,18 +26,19 @@ use Rattle.ring_run.specs.Ended.{IsJobOf, IsUntouched, IsOwn, IsNewLine, HasRest
 use Rattle.ring_run.specs.Strategy.{Decides, IsPaced, AreMarked}
 use Rattle.ring_run.specs.declared.job.Counts.{Counts}
 use Rattle.ring_run.specs.Searching.{IsHeldBy, AreTold, Runs, GoesOn}
-use Rattle.ring_run.specs.Course.{MayImport}
+use Rattle.ring_run.specs.Course.{HasLemmas, MayImport}
 use Rattle.ring_run.specs.declared.job.Job.{Job}
 use Rattle.ring_run.specs.declared.ring.Ring.{Ring}
 
 pub runs_begin : (s : PortState) → IsUntouched s → IsPort s → Runs s s 0
 runs_begin s p port = record {
   stays = record { start = refl; opening = refl; vars = refl; ring = refl; rings = refl; polled = omega arith; home = refl; log = λ o h. h };
-  kept = λ a h. refl;
+  held = p.held;
   wrote = subst (All (IsOwn s.ring s.vars)) (sym p.mine) (λ k d h. absurd (omega arith));
   counted = sym (ap (λ (J : List Entry). length (learned s.ring J)) p.mine);
   each_new = subst (EachAfter (IsNew (opening_of s)) []) (sym p.mine) tt;
   new_lines = subst (EachAfter (IsNewLine s.opening s.given s.ring) []) (sym p.mine) tt;
+  spaced = subst (EachAfter IsSpaced []) (sym p.mine) tt;
   glued = record { others = []; few = omega arith; each = λ h there. inl there };
   port = port;
 }
@@ -47,6 +50,16 @@ goes_begin s p port = record {
   stop = p.stop;
   refused = p.refused;
   held = p.held;
+}
+
+-- no lemma is listed yet
+pub listed_begin : (s : PortState) (ring : Ring) → s.mine ≡ [] → ring.learned ≡ 0 → ring.lemmas.items ≡ [] → ring.reductions ≡ 0 → ring.reduced_at ≡ 0 → HasLemmas s ring
+listed_begin s ring mine learned none reductions at = record {
+  distinct = subst AreDistinct (sym none) tt;
+  member = subst (All (Contains (attached ring.watches))) (sym none) (All-nil (Contains (attached ring.watches)));
+  apart = λ h c there m. absurd (Contains_In [] c (subst (λ (cs : List Cref). Contains cs c) none m));
+  count = (let lately = ap (λ (J : List Entry). length (recent s.ring J)) mine in omega (arith, lately, learned, at));
+  few = omega (arith, reductions, at);
 }
 
 -- the start clauses of the job are held

@@ -16,7 +16,7 @@ use Rattle.rup_model.specs.declared.journal.Addition.{Addition}
 use Rattle.rup_model.specs.declared.journal.Entry.{Entry}
 use Rattle.rup_model.specs.declared.journal.Entry.TheVariants.{Add, Del, Reduce}
 use Rattle.rup_model.specs.Basics.{EachAfter}
-use Rattle.rup_model.specs.Journal.{additions, added, learned, recent}
+use Rattle.rup_model.specs.Journal.{additions, added, learned, recent, IsSpaced}
 use Rattle.rup_model.specs.Opening.{adds_unit}
 use Rattle.rup_model.proofs.Lists.{In, Contains_In, In_Contains, In_append, In_append_left, In_append_right, In_has, has_In, map_In}
 use Rattle.ring_port.specs.PortState.{PortState, Holding, IsPort, held_at, lits_at, one_more}
@@ -33,7 +33,7 @@ use Rattle.ring_run.specs.Ended.{Stays, IsOwn, IsOfKind, IsUntold, IsNewLine, Ar
 use Rattle.ring_run.specs.Searching.{HasClauses, KeepsOn, IsHeldBy, AddedSeen, OnlyPolled}
 use Rattle.ring_run.specs.Course.{Searches}
 use Rattle.ring_run.proofs.Remembering.{held_same, LitsStay, lits_kept, remembered_as}
-use Rattle.ring_run.proofs.Progress.{stays_by, kept_by, news_moved, lines_moved, runs_same, starts_kept}
+use Rattle.ring_run.proofs.Progress.{stays_by, news_moved, lines_moved, runs_same, starts_kept}
 use Rattle.ring_run.proofs.Learning.{held_more}
 use Rattle.ring_run.proofs.Telling.{never, told_same}
 
@@ -251,11 +251,12 @@ module _ (s u : PortState) (given : List Cref) (d : Polls s u given) (one : leng
       record {
         runs = record {
           stays = stays_by start s u p.runs.stays stays;
-          kept = kept_by start s u p.runs.kept d.kept;
+          held = starts_kept s u d.start d.kept p.runs.held;
           wrote = subst (All (IsOwn start.ring start.vars)) (sym d.mine) p.runs.wrote;
           counted = p.runs.counted ∙ ap (λ (J : List Entry). length (learned s.ring J)) (sym d.mine) ∙ ap (λ (r : ℕ). length (learned r u.mine)) (sym d.ring);
           each_new = news_moved s u s.mine stays d.mine p.runs.each_new;
           new_lines = lines_moved s u s.mine stays d.units d.mine p.runs.new_lines;
+          spaced = subst (EachAfter IsSpaced []) (sym d.mine) p.runs.spaced;
           glued = polls_glued start p.runs.glued;
           port = port;
         };

@@ -22,7 +22,7 @@ use Rattle.ring_run.specs.Course.{Searches, InSearch, HasLeft, AreSameOffers, Is
 use Rattle.ring_run.specs.declared.ring.Ring.{Ring}
 use Rattle.ring_run.proofs.Remembering.{held_same, lits_same, remembered_same}
 use Rattle.ring_run.proofs.Standing.{reasoned_more}
-use Rattle.ring_run.proofs.Progress.{runs_same, lines_moved, starts_kept, glue_bounds}
+use Rattle.ring_run.proofs.Progress.{runs_same, lines_moved, starts_kept, glue_bounds, recent_still}
 use Rattle.ring_run.proofs.Telling.{told_same}
 use Rattle.ring_run.proofs.Turning.{wrote_search}
 use Rattle.ring_run.proofs.Offering.{nothing_same, OnlyLent, offers_stay, offers_learned, offers_kept}
@@ -31,6 +31,7 @@ pub lent_wrote : (s u : PortState) → OnlyLent s u → KeepsLog s u → OnlyWro
 lent_wrote s u p log =
     let is = p.state in
     record {
+      recent = recent_still s u (ap (λ (x : PortState). x.ring) is) (ap (λ (x : PortState). x.mine) is);
       stays = record {
         start = ap (λ (x : PortState). x.start) is;
         opening = ap (λ (x : PortState). x.opening) is;
@@ -85,6 +86,7 @@ left_before s u old new lits back address held (inl at) = inl (record {
   trail = at.trail;
   shape = at.shape;
   clauses = at.clauses;
+  listed = at.listed;
   written = at.written;
   watched = subst (λ (f : Lits). (t : TrailData) → Watched old.watches f t → Watched new.watches f t) (lits_same s u held) at.watched;
 })
@@ -93,6 +95,7 @@ left_before s u old new lits back address held (inr at) = inr (
   record {
     went = at.1.went;
     clauses = at.1.clauses;
+    listed = at.1.listed;
     written = at.1.written;
     watched = subst (λ (f : Lits). (t : TrailData) → Watched old.watches f t → Watched new.watches f t) (lits_same s u held) at.1.watched;
   },

@@ -16,5 +16,7 @@ pub mod Marked
 pub mod Pacing
 pub mod Offering
 pub mod Lending
+pub mod Listing
+pub mod Reducing
 mod ProblemsReady
 mod CrowdLemmas

@@ -1,5 +1,5 @@
 -- What each call of the port leaves of a run.
-use Rattle.std.proofs.Common.{◌≡◌, ◌∙◌, ℕ, ◌+◌, ◌-◌, ◌^◌, min, ◌≤◌, Bool, true, false, List, [], ◌∷◌, ◌++◌, length, map, sym, subst, ap, arith, inl, inr, ◌⊎◌, ◌<◌, Contains, drop, Some, None, IsSome, refl, length-append, slice_index_or, cond, nat_eq, eq-eqb}
+use Rattle.std.proofs.Common.{◌≡◌, ◌∙◌, ℕ, ◌+◌, ◌-◌, ◌^◌, min, ◌≤◌, Bool, true, false, List, [], ◌∷◌, ◌++◌, length, map, sym, subst, ap, arith, inl, inr, ◌⊎◌, ◌<◌, Contains, drop, Some, None, IsSome, refl, length-append, append-nil, slice_index_or, cond, nat_eq, eq-eqb}
 use Rattle.std.specs.Prelude.{All, ◌&&◌, ◌≢◌, MatchOption, IfSome, IfErr, Result, Ok, Err}
 use Rattle.std.specs.List.{list_any}
 use Rattle.std.specs.declared.option.Option.{Option}
@@ -17,7 +17,7 @@ use Rattle.rup_model.specs.declared.journal.Entry.TheVariants.{Add}
 use Rattle.rup_model.specs.declared.journal.Addition.{Addition}
 use Rattle.drat_text.specs.LineState.{LineState}
 use Rattle.rup_model.specs.Basics.{EachAfter}
-use Rattle.rup_model.specs.Journal.{added, learned, is_learn}
+use Rattle.rup_model.specs.Journal.{added, learned, recent, recent_after, is_learn, IsSpaced}
 use Rattle.rup_model.specs.Opening.{Opening, IsNew, adds_unit}
 use Rattle.rup_model.proofs.Lists.{In_append, Contains_In, In_Contains, has_In}
 use Rattle.std.specs.Set.{distinct_count, unique_keys, is_member}
@@ -25,7 +25,7 @@ use Rattle.std.proofs.lemmas.Map.Made.{distinct_count-le}
 use Rattle.ring_port.proofs.Holdings.{All_In}
 use Rattle.ring_trail.specs.declared.step.Step.{Step}
 use Rattle.analyze.specs.Levels.{level_of_lit, count_of_levels}
-use Rattle.rup_model.proofs.Sequences.{each_last}
+use Rattle.rup_model.proofs.Sequences.{each_last, fold_last}
 use Rattle.rup_model.proofs.Additions.{added-append, learned-append}
 use Rattle.ring_port.specs.PortState.{PortState, Holding, IsPort, IsOn, HoldsStart, held_at}
 use Rattle.ring_port.specs.Port.{holding_of, Learned, WroteUnit, UnitWritten, LearnedUnit, LearnedClause, EndedLog, Refused, HasReason, KeepsHeld, Looked, entry_of, after_refusal, IsClause, is_usable}
@@ -50,9 +50,6 @@ stays_by s u w p q = record {
   home = q.home ∙ p.home;
   log = λ o h. q.log o (p.log o h);
 }
-
-pub kept_by : (s u w : PortState) → KeepsHeld s u → KeepsHeld u w → KeepsHeld s w
-kept_by s u w p q = λ a h. q a (subst (λ (o : Option Holding). IsSome o) (sym (p a h)) h) ∙ p a h
 
 -- what a run starts from
 opening_moved : (s u : PortState) → Stays s u → opening_of u ≡ opening_of s
@@ -87,12 +84,16 @@ glued_by s u w p more q = record {
   each = λ h there. elim (q h there) as (λ _. Contains s.held h ⊎ (Contains p.others h.address ⊎ IsGlued h)) [ inl old ↦ p.each h old | inr new ↦ inr (inr new) ];
 }
 
+pub starts_kept : (s u : PortState) → u.start ≡ s.start → KeepsHeld s u → HoldsStart s → HoldsStart u
+starts_kept s u same kept held = subst (All (λ h. held_at u h.address ≡ Some h)) (sym same)
+    (λ k d lt. (let is = held k d lt in kept (slice_index_or s.start k d).address (subst (λ (o : Option Holding). IsSome o) (sym is) refl) ∙ is))
+
 -- a run goes on by an entry of its ring
 pub runs_adds : (start s u : PortState) (n m : ℕ) (e : Entry) → Runs start s n → Stays s u → KeepsHeld s u → u.mine ≡ s.mine ++ e ∷ [] → IsOwn start.ring start.vars e
-    → m ≡ n + length (learned s.ring (e ∷ [])) → IsNew (opening_of s) s.mine e → u.given ≡ s.given → IsNewLine s.opening s.given s.ring s.mine e → AddsGlued s u → IsPort u → Runs start u m
-runs_adds start s u n m e p stays kept is own count fresh given line glued port = record {
+    → m ≡ n + length (learned s.ring (e ∷ [])) → IsNew (opening_of s) s.mine e → u.given ≡ s.given → IsNewLine s.opening s.given s.ring s.mine e → IsSpaced s.mine e → AddsGlued s u → IsPort u → Runs start u m
+runs_adds start s u n m e p stays kept is own count fresh given line spaced glued port = record {
   stays = stays_by start s u p.stays stays;
-  kept = kept_by start s u p.kept kept;
+  held = starts_kept s u stays.start kept p.held;
   wrote = subst (All (IsOwn start.ring start.vars)) (sym is)
       (All-append (IsOwn start.ring start.vars) s.mine (e ∷ []) p.wrote (All-cons (IsOwn start.ring start.vars) e [] own (All-nil (IsOwn start.ring start.vars))));
   counted =
@@ -103,6 +104,7 @@ runs_adds start s u n m e p stays kept is own count fresh given line glued port 
       omega (arith, count, p.counted, split, both, here, there));
   each_new = news_moved s u (s.mine ++ e ∷ []) stays is (each_last (IsNew (opening_of s)) [] s.mine e p.each_new fresh);
   new_lines = lines_moved s u (s.mine ++ e ∷ []) stays given is (each_last (IsNewLine s.opening s.given s.ring) [] s.mine e p.new_lines line);
+  spaced = subst (EachAfter IsSpaced []) (sym is) (each_last IsSpaced [] s.mine e p.spaced spaced);
   glued = glued_by start s u p.glued stays.polled glued;
   port = port;
 }
@@ -111,18 +113,15 @@ runs_adds start s u n m e p stays kept is own count fresh given line glued port 
 pub runs_same : (start s u : PortState) (n : ℕ) → Runs start s n → Stays s u → u.held ≡ s.held → u.mine ≡ s.mine → AreNewLines u → IsPort u → Runs start u n
 runs_same start s u n p stays held is lines port = record {
   stays = stays_by start s u p.stays stays;
-  kept = kept_by start s u p.kept (λ a h. held_same s u a held);
+  held = starts_kept s u stays.start (λ a h. held_same s u a held) p.held;
   wrote = subst (All (IsOwn start.ring start.vars)) (sym is) p.wrote;
   counted = p.counted ∙ ap (λ (J : List Entry). length (learned s.ring J)) (sym is) ∙ ap (λ (r : ℕ). length (learned r u.mine)) (sym stays.ring);
   each_new = news_moved s u s.mine stays is p.each_new;
   new_lines = lines;
+  spaced = subst (EachAfter IsSpaced []) (sym is) p.spaced;
   glued = glued_by start s u p.glued stays.polled (glued_same s u held);
   port = port;
 }
-
-pub starts_kept : (s u : PortState) → u.start ≡ s.start → KeepsHeld s u → HoldsStart s → HoldsStart u
-starts_kept s u same kept held = subst (All (λ h. held_at u h.address ≡ Some h)) (sym same)
-    (λ k d lt. (let is = held k d lt in kept (slice_index_or s.start k d).address (subst (λ (o : Option Holding). IsSome o) (sym is) refl) ∙ is))
 
 pub going_more : (s u : PortState) (e : Entry) → u.mine ≡ s.mine ++ e ∷ [] → list_any is_empty (added s.mine) ≡ false → list_any is_empty (added (e ∷ [])) ≡ false
     → list_any is_empty (added u.mine) ≡ false
@@ -191,7 +190,7 @@ unit_goes_on start s u n l p on units unseen w log port =
     record {
       runs = runs_adds start s u n n e p.runs stays (λ a h. held_same s u a held) is
           (p.runs.stays.ring, subst (λ (v : ℕ). All (IsOn v) (l ∷ [])) p.runs.stays.vars (All-cons (IsOn s.vars) l [] on (All-nil (IsOn s.vars))), refl)
-          (no_lemma s.ring w.number l) (λ learns. absurd (false≢true learns)) (ap (λ (x : PortState). x.given) w.state) (new_line s l w.number units p.runs.port unseen) (glued_same s u held) port;
+          (no_lemma s.ring w.number l) (λ learns. absurd (false≢true learns)) (ap (λ (x : PortState). x.given) w.state) (new_line s l w.number units p.runs.port unseen) tt (glued_same s u held) port;
       going = going_more s u e is p.going refl;
       stop = ap (λ (x : PortState). x.stop) w.state ∙ p.stop;
       refused = ap (λ (x : PortState). x.refused) w.state ∙ p.refused;
@@ -401,7 +400,7 @@ learned_goes_on start s u n number lits p stays clause fresh some is given glued
     record {
       runs = runs_adds start s u n (n + 1) e p.runs stays kept is
           (p.runs.stays.ring, subst (λ (v : ℕ). All (IsOn v) lits) p.runs.stays.vars clause.on, some)
-          (omega (arith, one_learned s.ring (record { ring = s.ring; number = number; lits = lits; kind = Learn }) refl refl)) (λ learns. fresh.unlisted) given (λ is_line. absurd (false≢true is_line)) glued port;
+          (omega (arith, one_learned s.ring (record { ring = s.ring; number = number; lits = lits; kind = Learn }) refl refl)) (λ learns. fresh.unlisted) given (λ is_line. absurd (false≢true is_line)) tt glued port;
       going = going_more s u e is p.going (some_literal lits some);
       stop = stop ∙ p.stop;
       refused = refused ∙ p.refused;
@@ -440,14 +439,46 @@ empty_refutes start s u n limit below p w log port =
       runs = runs_adds start s u n n e p.runs stays (λ a h. held_same s u a (ap (λ (x : PortState). x.held) w.state)) (ap (λ (x : PortState). x.mine) w.state)
           (p.runs.stays.ring, All-nil (IsOn start.vars), refl)
           (omega (arith, not_learned s.ring (record { ring = s.ring; number = w.number; lits = []; kind = Derive }) refl)) (λ learns. absurd (false≢true learns))
-          (ap (λ (x : PortState). x.given) w.state) (λ is_line. absurd (false≢true is_line)) (glued_same s u (ap (λ (x : PortState). x.held) w.state)) port;
+          (ap (λ (x : PortState). x.given) w.state) (λ is_line. absurd (false≢true is_line)) tt (glued_same s u (ap (λ (x : PortState). x.held) w.state)) port;
       cause = (ap (λ (x : PortState). x.ended) w.state, usable_none u (ap (λ (x : PortState). x.refused) w.state ∙ p.refused));
       unset = ap (λ (x : PortState). x.stop) w.state ∙ p.stop;
       counts = below;
     }
 
+-- What was learned lately
+
+pub recent_still : (s u : PortState) → u.ring ≡ s.ring → u.mine ≡ s.mine → recent u.ring u.mine ≡ recent s.ring s.mine
+recent_still s u ring mine = ap (λ (r : ℕ). recent r u.mine) ring ∙ ap (recent s.ring) mine
+
+recent_added : (r : ℕ) (J : List Entry) (x : Addition) → recent r (J ++ Add x ∷ []) ≡ recent r J ++ learned r (Add x ∷ [])
+recent_added r J x = fold_last (recent_after r) [] J (Add x)
+
+none_learned : (r : ℕ) (x : Addition) → is_learn x.kind ≡ false → learned r (Add x ∷ []) ≡ []
+none_learned r x e = ap (λ (b : Bool). map (λ (y : Addition). y.lits) (cond b (x ∷ []) [])) (both (nat_eq x.ring r) (is_learn x.kind) e)
+  where
+    both : (a b : Bool) → b ≡ false → (a && b) ≡ false
+    both true b e = e
+    both false b e = refl
+
+-- an entry of another kind
+pub recent_other : (s u : PortState) (number : ℕ) (lits : List Literal) (kind : Kind) → is_learn kind ≡ false → u.ring ≡ s.ring → u.mine ≡ s.mine ++ entry_of s number lits kind ∷ [] → recent u.ring u.mine ≡ recent s.ring s.mine
+recent_other s u number lits kind other ring mine =
+    let x : Addition = record { ring = s.ring; number = number; lits = lits; kind = kind } in
+    ap (λ (r : ℕ). recent r u.mine) ring ∙ ap (recent s.ring) mine ∙ recent_added s.ring s.mine x
+    ∙ ap (λ (cs : List (List Literal)). recent s.ring s.mine ++ cs) (none_learned s.ring x other) ∙ append-nil (recent s.ring s.mine)
+
+-- a lemma
+pub recent_lemma : (s u : PortState) (number : ℕ) (lits : List Literal) → u.ring ≡ s.ring → u.mine ≡ s.mine ++ entry_of s number lits Learn ∷ [] → length (recent u.ring u.mine) ≡ length (recent s.ring s.mine) + 1
+recent_lemma s u number lits ring mine =
+    let x : Addition = record { ring = s.ring; number = number; lits = lits; kind = Learn } in
+    let is = ap (λ (r : ℕ). length (recent r u.mine)) ring ∙ ap (λ (J : List Entry). length (recent s.ring J)) mine ∙ ap (λ (cs : List (List Literal)). length cs) (recent_added s.ring s.mine x) in
+    let both = length-append (recent s.ring s.mine) (learned s.ring (Add x ∷ [])) in
+    let one = one_learned s.ring x refl refl in
+    omega (arith, is, both, one)
+
 pub wrote_none : (s : PortState) → OnlyWrote s s
 wrote_none s = record {
+  recent = refl;
   stays = record { start = refl; opening = refl; vars = refl; ring = refl; rings = refl; polled = omega arith; home = refl; log = λ o h. h };
   taken = refl;
   held = refl;
@@ -459,6 +490,7 @@ wrote_none s = record {
 
 pub wrote_by : (s u w : PortState) → OnlyWrote s u → OnlyWrote u w → OnlyWrote s w
 wrote_by s u w p q = record {
+  recent = q.recent ∙ p.recent;
   stays = stays_by s u w p.stays q.stays;
   taken = q.taken ∙ p.taken;
   held = q.held ∙ p.held;
@@ -470,6 +502,7 @@ wrote_by s u w p q = record {
 
 pub wrote_unit : (s u : PortState) (l : Literal) → WroteUnit s u l UnitLine s.last → KeepsLog s u → OnlyWrote s u
 wrote_unit s u l w log = record {
+  recent = recent_other s u w.number (l ∷ []) UnitLine refl (ap (λ (x : PortState). x.ring) w.state) (ap (λ (x : PortState). x.mine) w.state);
   stays = stays_unit s u l UnitLine s.last w log;
   taken = ap (λ (x : PortState). x.taken) w.state;
   held = ap (λ (x : PortState). x.held) w.state;
@@ -482,6 +515,7 @@ wrote_unit s u l w log = record {
 -- a look that found no stop
 pub looked_wrote : (s u : PortState) (k : ℕ) → u ≡ record s { looks = k } → KeepsLog s u → OnlyWrote s u
 looked_wrote s u k is log = record {
+  recent = recent_still s u (ap (λ (x : PortState). x.ring) is) (ap (λ (x : PortState). x.mine) is);
   stays = record {
     start = ap (λ (x : PortState). x.start) is;
     opening = ap (λ (x : PortState). x.opening) is;

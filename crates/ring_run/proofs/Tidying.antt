@@ -13,7 +13,7 @@ use Rattle.rup_model.specs.declared.journal.Addition.{Addition}
 use Rattle.rup_model.specs.declared.journal.Entry.{Entry}
 use Rattle.rup_model.specs.declared.journal.Entry.TheVariants.{Del}
 use Rattle.rup_model.specs.Basics.{EachAfter}
-use Rattle.rup_model.specs.Journal.{additions, added, learned, recent, recent_after, is_learn}
+use Rattle.rup_model.specs.Journal.{additions, added, learned, recent, recent_after, is_learn, IsSpaced}
 use Rattle.rup_model.specs.Opening.{IsNew, adds_unit}
 use Rattle.rup_model.proofs.Additions.{additions-append}
 use Rattle.rup_model.proofs.Sequences.{each_both}
@@ -32,7 +32,7 @@ use Rattle.ring_run.proofs.Remembering.{held_same, lits_same, remembered_as}
 use Rattle.ring_run.proofs.Standing.{reasoned_more}
 use Rattle.ring_run.proofs.Telling.{told_same}
 use Rattle.ring_run.proofs.Turning.{wrote_search}
-use Rattle.ring_run.proofs.Progress.{Same, same_refused, stays_by, kept_by, news_moved, lines_moved, glued_same, glued_by, starts_kept, usable_none, refused_cause, refused_counts, unset}
+use Rattle.ring_run.proofs.Progress.{Same, same_refused, stays_by, news_moved, lines_moved, glued_same, glued_by, starts_kept, usable_none, refused_cause, refused_counts, unset}
 
 -- Deletions in a journal
 
@@ -148,7 +148,7 @@ module _ (s u : PortState) (hs : List Holding) (d : Deleted s u hs) (log : Keeps
   deleted_runs : (start : PortState) (n : ℕ) → Runs start s n → IsPort u → Runs start u n
   deleted_runs start n p port = record {
     stays = stays_by start s u p.stays deleted_stays;
-    kept = kept_by start s u p.kept (λ a h. held_same s u a d.held);
+    held = starts_kept s u d.start (λ a h. held_same s u a d.held) p.held;
     wrote = subst (All (IsOwn start.ring start.vars)) (sym d.mine)
         (All-append (IsOwn start.ring start.vars) s.mine (deletions s.ring hs) p.wrote (own_deletions start.ring start.vars s.ring hs p.stays.ring));
     counted = p.counted ∙ ap (λ (G : List (List Literal)). length G) (sym deleted_learned);
@@ -156,6 +156,7 @@ module _ (s u : PortState) (hs : List Holding) (d : Deleted s u hs) (log : Keeps
         (each_both (IsNew (opening_of s)) [] s.mine (deletions s.ring hs) p.each_new (each_deletion (IsNew (opening_of s)) (λ before r k. tt) s.mine s.ring hs));
     new_lines = lines_moved s u (s.mine ++ deletions s.ring hs) deleted_stays d.given d.mine
         (each_both (IsNewLine s.opening s.given s.ring) [] s.mine (deletions s.ring hs) p.new_lines (each_deletion (IsNewLine s.opening s.given s.ring) (λ before r k. tt) s.mine s.ring hs));
+    spaced = subst (EachAfter IsSpaced []) (sym d.mine) (each_both IsSpaced [] s.mine (deletions s.ring hs) p.spaced (each_deletion IsSpaced (λ before r k. tt) s.mine s.ring hs));
     glued = glued_by start s u p.glued deleted_stays.polled (glued_same s u d.held);
     port = port;
   }
@@ -169,6 +170,7 @@ module _ (s u : PortState) (hs : List Holding) (d : Deleted s u hs) (log : Keeps
 
   deleted_wrote : u.seen ≡ s.seen → u.refused ≡ s.refused → OnlyWrote s u
   deleted_wrote seen refused = record {
+    recent = ap (λ (r : ℕ). recent r u.mine) d.ring ∙ ap (recent s.ring) d.mine ∙ same_recent s.ring s.ring s.mine hs;
     stays = deleted_stays;
     taken = d.taken;
     held = d.held;

@@ -26,11 +26,11 @@ use Rattle.ring_run.proofs.Standing.{within_more, reasoned_more}
 use Rattle.ring_run.proofs.Progress.{starts_kept, looked_wrote}
 use Rattle.ring_run.proofs.Telling.{told_saw, told_grown, told_same}
 
-held_by_same : (s u : PortState) (cs : List Cref) → u.held ≡ s.held → All (IsHeldBy s) cs → All (IsHeldBy u) cs
+pub held_by_same : (s u : PortState) (cs : List Cref) → u.held ≡ s.held → All (IsHeldBy s) cs → All (IsHeldBy u) cs
 held_by_same s u cs e all = λ k d h. subst (λ (o : Option Holding). IsSome o) (sym (held_same s u (get_or cs k d).address e)) (all k d h)
 
 -- what stays of the clauses attached where nothing that is held changes
-clauses_same : (s u : PortState) (cs : List Cref) → HasClauses s cs → Stays s u → u.taken ≡ s.taken → u.held ≡ s.held → u.stop ≡ s.stop → u.refused ≡ s.refused → Remembers u cs → IsPort u → HasClauses u cs
+pub clauses_same : (s u : PortState) (cs : List Cref) → HasClauses s cs → Stays s u → u.taken ≡ s.taken → u.held ≡ s.held → u.stop ≡ s.stop → u.refused ≡ s.refused → Remembers u cs → IsPort u → HasClauses u cs
 clauses_same s u cs p stays taken held stop refused own port = record {
   held = held_by_same s u cs held p.held;
   starts = λ h there. p.starts h (subst (λ (hs : List Holding). Contains hs h) stays.start there);

@@ -1,9 +1,11 @@
 -- What a ring has while it searches, and what each step of the search comes to.
-use Rattle.std.specs.Prelude.{◌≡◌, ◌⊎◌, ℕ, ◌+◌, ◌<◌, ◌≤◌, true, false, if◌then◌else◌, List, ◌∷◌, ◌++◌, take, length, Option}
+use Rattle.std.specs.Prelude.{◌≡◌, ◌≢◌, ◌⊎◌, ℕ, ◌+◌, ◌<◌, ◌≤◌, true, false, if◌then◌else◌, List, ◌∷◌, ◌++◌, take, length, All, Contains, Option}
 use Rattle.std.specs.Option.{option_to_list}
 use Rattle.sat_words.specs.Literal.{Literal}
 use Rattle.sat_words.specs.declared.shared.Cref.{Cref}
-use Rattle.ring_port.specs.PortState.{PortState, lits_at}
+use Rattle.rup_model.specs.Journal.{recent}
+use Rattle.ring_port.specs.PortState.{PortState, Holding, lits_at}
+use Rattle.reduce_db.specs.Lemmas.{AreDistinct}
 use Rattle.ring_trail.specs.TrailData.{TrailData, IsTrail, HasNoPlace, cut_back, assigned}
 use Rattle.watch_prop.specs.WatchData.{WatchData, attached}
 use Rattle.watch_prop.specs.Watched.{Watched}
@@ -60,6 +62,12 @@ pub record CanAssert (t : TrailData) (lits : List Literal) (back : ℕ) : Type 0
   pub on : first.var ≤ t.vars
   pub free : (v : TrailData) → WentBack t v back → HasNoPlace v.steps first.var
 
+-- the clause joins the lemmas where it has an address
+pub record Lists (old new : Ring) (address : Option Cref) : Type 0 where
+  pub lemmas : new.lemmas.items ≡ old.lemmas.items ++ option_to_list address
+  pub reductions : new.reductions ≡ old.reductions
+  pub reduced_at : new.reduced_at ≡ old.reduced_at
+
 -- the trail went back, the clause was attached where it has an address, and the first literal was made true
 pub record Asserted (s : PortState) (old new : Ring) (lits : List Literal) (back : ℕ) (address : Option Cref) : Type 0 where
   pub middle : TrailData
@@ -70,6 +78,7 @@ pub record Asserted (s : PortState) (old new : Ring) (lits : List Literal) (back
   pub trail : new.trail ≡ assigned middle first address
   pub shape : IsTrail new.trail
   pub clauses : attached new.watches ≡ attached old.watches ++ option_to_list address
+  pub listed : Lists old new address
   pub written : new.written ≡ old.written
   pub watched : (t : TrailData) → Watched old.watches (lits_at s) t → Watched new.watches (lits_at s) t
 
@@ -77,6 +86,7 @@ pub record Asserted (s : PortState) (old new : Ring) (lits : List Literal) (back
 pub record Restarted (s : PortState) (old new : Ring) (address : Option Cref) : Type 0 where
   pub went : WentBack old.trail new.trail 0
   pub clauses : attached new.watches ≡ attached old.watches ++ option_to_list address
+  pub listed : Lists old new address
   pub written : new.written ≡ old.written
   pub watched : (t : TrailData) → Watched old.watches (lits_at s) t → Watched new.watches (lits_at s) t
 
@@ -135,6 +145,19 @@ pub record MayImport (s : PortState) (t : TrailData) (w : WatchData) (n : ℕ) :
   pub reasons : HasReasons (attached w) s t.steps
   pub told : AreTold s t n
   pub whole : n ≡ length t.steps
+
+-- no two lemmas are at the same address, each is attached, and none is at the address of a start clause; the lemmas learned
+-- since the ring last reduced them are counted
+pub record HasLemmas (s : PortState) (ring : Ring) : Type 0 where
+  pub distinct : AreDistinct ring.lemmas.items
+  pub member : All (Contains (attached ring.watches)) ring.lemmas.items
+  pub apart : (h : Holding) (c : Cref) → Contains s.start h → Contains ring.lemmas.items c → c.address ≢ h.address
+  pub count : ring.learned ≡ ring.reduced_at + length (recent s.ring s.mine)
+  pub few : ring.reductions ≤ ring.reduced_at
+
+-- where it was so before
+abbrev pub KeepsLemmas : PortState → Ring → PortState → Ring → Type 0
+KeepsLemmas old before new ring = HasLemmas old before → HasLemmas new ring
 
 -- how often the ring has imported: at its start and at each restart, but for the last of these where that is yet to be
 abbrev pub imports_of : Ring → ℕ

@@ -10,7 +10,7 @@ use Rattle.rup_model.specs.declared.journal.Entry.TheVariants.{Add, Del, Reduce}
 use Rattle.rup_model.specs.declared.journal.Kind.{Kind}
 use Rattle.rup_model.specs.declared.journal.Kind.TheVariants.{Ruler, Learn, Derive, UnitLine}
 use Rattle.rup_model.specs.Basics.{EachAfter}
-use Rattle.rup_model.specs.Journal.{addition, added, learned, recent}
+use Rattle.rup_model.specs.Journal.{addition, added, learned, recent, IsSpaced}
 use Rattle.rup_model.specs.Opening.{Opening, IsNew, adds_unit}
 use Rattle.rup_model.specs.Rounds.{Rounds}
 use Rattle.ring_port.specs.PortState.{PortState, Holding, IsOn, HoldsStart}
@@ -66,11 +66,11 @@ IsOfKind Learn c = 1 ≤ length c
 IsOfKind Derive c = c ≡ []
 IsOfKind UnitLine c = length c ≡ 1
 
--- the entry is this ring's: it adds a clause on the variables, or deletes one
+-- the entry is this ring's: it adds a clause on the variables or deletes one, or the ring reduces its clauses
 abbrev pub IsOwn : (ring vars : ℕ) → Entry → Type 0
 IsOwn ring vars (Add x) = (x.ring ≡ ring) × All (IsOn vars) x.lits × IsOfKind x.kind x.lits
 IsOwn ring vars (Del r n) = r ≡ ring
-IsOwn ring vars (Reduce r) = ⊥
+IsOwn ring vars (Reduce r) = r ≡ ring
 
 -- what the ring starts from: the start clauses with their numbers, and the units that are listed from the start, without the
 -- ruler's entries, which no clause that is learned is compared with
@@ -81,6 +81,10 @@ opening_of s = record { journal = []; starts = map start_of s.start; units = s.o
 -- learned since it last reduced, and no literal that is listed as a unit or whose unit clause the ring had added
 abbrev pub AreNew : PortState → Type 0
 AreNew s = EachAfter (IsNew (opening_of s)) [] s.mine
+
+-- the ring learned clauses enough before each Reduce entry since the one before
+abbrev pub AreSpaced : PortState → Type 0
+AreSpaced s = EachAfter IsSpaced [] s.mine
 
 -- the line of a unit that propagation made true
 abbrev pub is_unit_line : Kind → Bool

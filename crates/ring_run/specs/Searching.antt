@@ -7,7 +7,7 @@ use Rattle.sat_words.specs.declared.shared.Cref.{Cref}
 use Rattle.rup_model.specs.Journal.{added, learned, recent}
 use Rattle.rup_model.specs.Opening.{adds_unit, is_new}
 use Rattle.rup_model.specs.Rup.{rup}
-use Rattle.ring_port.specs.Port.{IsClause, IsFreshClause, KeepsHeld}
+use Rattle.ring_port.specs.Port.{IsClause, IsFreshClause}
 use Rattle.ring_port.specs.PortState.{PortState, Holding, HoldsStart, IsPort, held_at, lits_at, known, clause_at}
 use Rattle.ring_port.specs.Exchange.{Offered, class_at, other_rings}
 use Rattle.ring_trail.specs.declared.step.Step.{Step}
@@ -15,7 +15,7 @@ use Rattle.ring_trail.specs.TrailData.{TrailData, IsFalseOn, lit_at, level_at, r
 use Rattle.ring_trail.specs.Reasoned.{IsReasoned}
 use Rattle.ring_trail.specs.Closed.{TrueWithin, IsClosedClause}
 use Rattle.analyze.specs.Levels.{level_of_lit, count_of_levels}
-use Rattle.ring_run.specs.Ended.{Stays, IsOwn, AreNew, AreNewLines, HoldsGlued, opening_of}
+use Rattle.ring_run.specs.Ended.{Stays, IsOwn, AreNew, AreNewLines, AreSpaced, HoldsGlued, opening_of}
 use Rattle.ring_run.specs.declared.units.Units.{Units}
 use Rattle.ring_run.specs.declared.units.Units.TheVariants.{Opposed, True}
 
@@ -34,6 +34,10 @@ pub record IsSeenUnit (s : PortState) (c : List Literal) : Type 0 where
 -- the clause stands at one of the addresses, or is a unit that is seen
 abbrev pub IsAmong : PortState → List Cref → List Literal → Type 0
 IsAmong s cs c = Contains (map (λ (x : Cref). lits_at s x.address) cs) c ⊎ IsSeenUnit s c
+
+-- none of the first is missing
+abbrev pub AreMoreClauses : List Cref → List Cref → Type 0
+AreMoreClauses cs ds = (c : Cref) → Contains cs c → Contains ds c
 
 -- each clause that the ring learned since it last reduced is attached or seen, and each unit that it added is seen
 pub record Remembers (s : PortState) (cs : List Cref) : Type 0 where
@@ -90,8 +94,9 @@ pub record OnlySaw (old new : PortState) : Type 0 where
 pub record OnlyPolled (old new : PortState) : Type 0 where
   pub state : new ≡ record old { held = new.held; taken = new.taken; polled = new.polled }
 
--- lines of units were written, which are seen now
+-- lines of units were written, which are seen now; nothing was learned
 pub record OnlyWrote (old new : PortState) : Type 0 where
+  pub recent : recent new.ring new.mine ≡ recent old.ring old.mine
   pub stays : Stays old new
   pub taken : new.taken ≡ old.taken
   pub held : new.held ≡ old.held
@@ -141,14 +146,15 @@ abbrev pub AreTaken : PortState → TrailData → Units → Type 0
 AreTaken s t True = Stands s t × OpeningSeen s
 AreTaken s t Opposed = rup (known s) [] ≡ true
 
--- a run that began in one state and stands in another, with as many lemmas as are counted
+-- a run that began in one state and stands in another, with as many lemmas as are counted; each start clause is held
 pub record Runs (start s : PortState) (count : ℕ) : Type 0 where
   pub stays : Stays start s
-  pub kept : KeepsHeld start s
+  pub held : HoldsStart s
   pub wrote : All (IsOwn start.ring start.vars) s.mine
   pub counted : count ≡ length (learned s.ring s.mine)
   pub each_new : AreNew s
   pub new_lines : AreNewLines s
+  pub spaced : AreSpaced s
   pub glued : HoldsGlued start s
   pub port : IsPort s
 

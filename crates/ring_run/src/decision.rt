@@ -7,13 +7,13 @@ ghost use Rattle.ring_trail.specs.TrailData.{IsTrail, IsTrueOn};
 ghost use Rattle.watch_prop.specs.Propagation.{IsQuiet};
 ghost use Rattle.ring_run.specs.Ended.{Stays};
 ghost use Rattle.ring_run.specs.Strategy.{Decides};
-ghost use Rattle.ring_run.specs.Searching.{OffersNothing, AreFirst, KeepsOn};
+ghost use Rattle.ring_run.specs.Searching.{OffersNothing, AreFirst, KeepsOn, OnlyWrote};
 ghost use Rattle.ring_run.specs.Ending.{EndsAt, end_refused};
-ghost use Rattle.ring_run.specs.Course.{AreSameOffers, InSearch, Leads, IsFurther, KeepsLooking, TakesALook, KeepsOffering, KeepsPolling, IsPolling, HasPolledBy};
+ghost use Rattle.ring_run.specs.Course.{AreSameOffers, InSearch, HasLemmas, KeepsLemmas, Leads, IsFurther, KeepsLooking, TakesALook, KeepsOffering, KeepsPolling, IsPolling, HasPolledBy};
 
 use crate::course::{Course, end_refused};
-use crate::imports::import;
 use crate::job::End;
+use crate::reduction::renew;
 use crate::ring::Ring;
 use crate::units::write_units;
 use ring_port::{Port, PortStop};
@@ -52,6 +52,7 @@ fn decide<P: Port>(alloc: Global, port: &mut P, ring: &mut Ring, limit: u64) -> 
     ensures looks { TakesALook (P.state port.old) ring.old ring.new result }
     ensures restarts { ring.new.restarts ≡ ring.old.restarts }
     ensures offers { AreSameOffers ring.old ring.new }
+    ensures listed { KeepsLemmas (P.state port.old) ring.old (P.state port.new) ring.new }
     ensures active { ring.new.decider.active ≡ ring.old.decider.active }
     ensures port { IsPort (P.state port.new) }
     ensures same { P.state port.new ≡ P.state port.old }
@@ -79,7 +80,9 @@ pub(crate) fn write_pending<P: Port>(port: &mut P, ring: &mut Ring) -> Result<()
     ensures pending { ring.new.pending ≡ ring.old.pending }
     ensures trail { ring.new.trail ≡ ring.old.trail }
     ensures stays { OnOk result (Stays (P.state port.old) (P.state port.new)) }
+    ensures wrote { OnOk result (OnlyWrote (P.state port.old) (P.state port.new)) }
     ensures watches { ring.new.watches ≡ ring.old.watches }
+    ensures listed { OnOk result (KeepsLemmas (P.state port.old) ring.old (P.state port.new) ring.new) }
     ensures learned { ring.new.learned ≡ ring.old.learned }
     ensures restarts { ring.new.restarts ≡ ring.old.restarts }
     ensures offers { AreSameOffers ring.old ring.new }
@@ -99,7 +102,8 @@ pub(crate) fn write_pending<P: Port>(port: &mut P, ring: &mut Ring) -> Result<()
     }
 }
 
-/// Where nothing is left to propagate: looks for a stop, writes what is true for good, and decides; behind a restart it imports.
+/// Where nothing is left to propagate: looks for a stop, writes what is true for good, and decides; behind a restart it
+/// reduces its lemmas where that is due, and imports.
 pub(crate) fn decide_next<P: Port>(
     alloc: Global,
     port: &mut P,
@@ -111,12 +115,14 @@ pub(crate) fn decide_next<P: Port>(
     requires decides { Decides (P.state port.old) ring.old.decider }
     requires quiet { IsQuiet ring.old.watches (lits_at (P.state port.old)) ring.old.trail }
     requires polling { IsPolling (P.state port.old) ring.old }
+    requires listed { HasLemmas (P.state port.old) ring.old }
     ensures leads { Leads (P.state port.old) ring.old (P.state port.new) ring.new limit result }
     ensures learned { ring.new.learned ≡ ring.old.learned }
     ensures further { result ≡ Course.On → IsFurther ring.old ring.new }
     ensures restarts { ring.new.restarts ≡ ring.old.restarts }
     ensures offering { KeepsOffering (P.state port.old) ring.old (P.state port.new) ring.new }
     ensures polls { HasPolledBy (P.state port.new) ring.new result }
+    ensures listed { result ≡ Course.On → HasLemmas (P.state port.new) ring.new }
     ensures active { ring.new.decider.active ≡ ring.old.decider.active }
     ensures looks { KeepsLooking (P.state port.old) ring.old (P.state port.new) ring.new result }
     ensures port { IsPort (P.state port.new) }
@@ -129,7 +135,7 @@ pub(crate) fn decide_next<P: Port>(
         Err(stop) => return Course::Over(end_refused(stop)),
     }
     if ring.pending {
-        return import(port, ring);
+        return renew(alloc, port, ring);
     }
     decide(alloc, port, ring, limit)
 }

@@ -2,8 +2,9 @@
 ghost use Rattle.std.specs.Prelude.{◌≡◌, ◌≢◌, ◌<◌, ◌≤◌, ◌+◌, ◌*◌, ◌-◌, ◌^◌, ℕ, min, true, false, length, OnOk};
 ghost use Rattle.ring_port.specs.PortState.{IsPort, one_more};
 ghost use Rattle.ring_port.specs.Exchange.{other_rings};
-ghost use Rattle.ring_run.specs.Searching.{KeepsOn, OnlyPolled};
-ghost use Rattle.ring_run.specs.Course.{InSearch, MayImport, Leads, KeepsLooking, KeepsOffering, IsPolling, HasPolledBy};
+ghost use Rattle.watch_prop.specs.WatchData.{attached};
+ghost use Rattle.ring_run.specs.Searching.{AreMoreClauses, KeepsOn, OnlyPolled};
+ghost use Rattle.ring_run.specs.Course.{InSearch, KeepsLemmas, MayImport, Leads, KeepsLooking, KeepsOffering, IsPolling, HasPolledBy};
 
 use crate::course::{Course, refute};
 use crate::job::End;
@@ -34,6 +35,7 @@ fn take_class<P: Port>(
     ensures few { (P.state port.new).polled ≤ one_more (P.state port.old).polled }
     ensures only { OnlyPolled (P.state port.old) (P.state port.new) }
     ensures same { ring.new ≡ record ring.old { watches = ring.new.watches } }
+    ensures more { OnOk result (AreMoreClauses (attached ring.old.watches) (attached ring.new.watches)) }
     ensures port { IsPort (P.state port.new) }
 {
     let Ok(taken) = port.poll(from, class) else {
@@ -59,6 +61,7 @@ fn take_from<P: Port>(port: &mut P, ring: &mut Ring, from: u32) -> Result<(), Al
     ensures few { (P.state port.new).polled ≤ min ((P.state port.old).polled + 4) (2 ^ 64 - 1) }
     ensures only { OnlyPolled (P.state port.old) (P.state port.new) }
     ensures same { ring.new ≡ record ring.old { watches = ring.new.watches } }
+    ensures more { OnOk result (AreMoreClauses (attached ring.old.watches) (attached ring.new.watches)) }
     ensures port { IsPort (P.state port.new) }
 {
     for class in 0..CLASSES {
@@ -82,6 +85,7 @@ fn take_clauses<P: Port>(port: &mut P, ring: &mut Ring) -> Result<(), AllocError
     ensures few { (P.state port.new).polled ≤ min ((P.state port.old).polled + 4 * length (other_rings (P.state port.old))) (2 ^ 64 - 1) }
     ensures only { OnlyPolled (P.state port.old) (P.state port.new) }
     ensures same { ring.new ≡ record ring.old { watches = ring.new.watches } }
+    ensures more { OnOk result (AreMoreClauses (attached ring.old.watches) (attached ring.new.watches)) }
     ensures port { IsPort (P.state port.new) }
 {
     for from in 0..ring.place.rings {
@@ -109,6 +113,7 @@ pub(crate) fn import<P: Port>(port: &mut P, ring: &mut Ring) -> Course
     ensures looks { KeepsLooking (P.state port.old) ring.old (P.state port.new) ring.new result }
     ensures learned { ring.new.learned ≡ ring.old.learned }
     ensures restarts { ring.new.restarts ≡ ring.old.restarts }
+    ensures listed { result ≡ Course.On → KeepsLemmas (P.state port.old) ring.old (P.state port.new) ring.new }
     ensures decider { ring.new.decider ≡ ring.old.decider }
     ensures port { IsPort (P.state port.new) }
 {

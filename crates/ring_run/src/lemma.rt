@@ -10,7 +10,7 @@ ghost use Rattle.watch_prop.specs.Propagation.{IsConflict};
 ghost use Rattle.ring_run.specs.Strategy.{Decides, IsPaced};
 ghost use Rattle.ring_run.specs.Searching.{OffersNothing, HasLent, IsAsserting, IsGlueOf, HoldsByGlue, OnlyWrote, KeepsOn};
 ghost use Rattle.ring_run.specs.Ending.{EndsAt, end_refused};
-ghost use Rattle.ring_run.specs.Course.{AreSameOffers, IsOffering, InSearch, Leads, CanAssert, Asserted, Restarted, HasLeft, KeepsLooking, KeepsPolling};
+ghost use Rattle.ring_run.specs.Course.{AreSameOffers, IsOffering, InSearch, HasLemmas, Leads, CanAssert, Asserted, Restarted, HasLeft, KeepsLooking, KeepsPolling};
 
 use crate::course::{Course, end_refused, refute};
 use crate::job::End;
@@ -23,11 +23,12 @@ use sat_words::{Cref, Lit};
 use std::alloc::AllocError;
 use watch_prop::Watches;
 
-/// Attaches a lemma that is held. A unit has no address, and isn't.
+/// Attaches a lemma that is held, and lists it. A unit has no address, and neither is done.
 fn attach_lemma<P: Port>(
     port: &mut P,
     trail: &Trail,
     watches: &mut Watches,
+    lemmas: &mut Vec<Cref>,
     address: Option<Cref>,
 ) -> Result<(), AllocError>
     requires held { IfSome address (λ c. IsSome (held_at (P.state port.old) c.address)) }
@@ -35,11 +36,14 @@ fn attach_lemma<P: Port>(
     ensures same { P.state port.new ≡ P.state port.old }
     ensures attached { OnOk result (attached watches.new ≡ attached watches.old ++ option_to_list address) }
     ensures watched { OnOk result ((t : TrailData) → Watched watches.old (lits_at (P.state port.old)) t → Watched watches.new (lits_at (P.state port.old)) t) }
+    ensures listed { OnOk result (lemmas.new.items ≡ lemmas.old.items ++ option_to_list address) }
 {
-    match address {
-        Some(clause) => watches.attach(port, trail, clause),
-        None => Ok(()),
-    }
+    let Some(clause) = address else {
+        return Ok(());
+    };
+    watches.attach(port, trail, clause)?;
+    lemmas.push(clause)?;
+    Ok(())
 }
 
 /// Goes back, attaches the lemma, and makes its first literal true, which is the only one that isn't false there.
@@ -63,7 +67,13 @@ fn assert_lemma<P: Port>(
     ensures offers { AreSameOffers ring.old ring.new }
 {
     go_back(ring, back);
-    attach_lemma(port, &ring.trail, &mut ring.watches, address)?;
+    attach_lemma(
+        port,
+        &ring.trail,
+        &mut ring.watches,
+        &mut ring.lemmas,
+        address,
+    )?;
     ring.trail.assign(lits[0], address);
     Ok(())
 }
@@ -83,7 +93,13 @@ fn restart<P: Port>(port: &mut P, ring: &mut Ring, address: Option<Cref>) -> Res
     ensures offers { AreSameOffers ring.old ring.new }
 {
     go_back(ring, 0);
-    attach_lemma(port, &ring.trail, &mut ring.watches, address)?;
+    attach_lemma(
+        port,
+        &ring.trail,
+        &mut ring.watches,
+        &mut ring.lemmas,
+        address,
+    )?;
     Ok(())
 }
 
@@ -138,7 +154,7 @@ fn offer_lemma<P: Port>(port: &mut P, ring: &mut Ring, address: Option<Cref>)
 }
 
 /// Writes the deletion lines of what an offer brought back.
-fn tidy_up<P: Port>(port: &mut P) -> Result<(), PortStop>
+pub(crate) fn tidy_up<P: Port>(port: &mut P) -> Result<(), PortStop>
     requires refused { (P.state port.old).refused ≡ None }
     requires port { IsPort (P.state port.old) }
     ensures ok { OnOk result (KeepsOn (P.state port.old) (P.state port.new)) }
@@ -168,11 +184,13 @@ fn learn_lemma<P: Port>(
     requires decides { Decides (P.state port.old) ring.old.decider }
     requires paced { IsPaced ring.old.restarts ring.old.learned limit }
     requires offering { IsOffering (P.state port.old) ring.old }
+    requires listed { HasLemmas (P.state port.old) ring.old }
     requires lemma { IsAsserting (P.state port.old) ring.old.trail lits.now back }
     requires glue { IsGlueOf ring.old.trail.steps lits.now glue }
     ensures leads { Leads (P.state port.old) ring.old (P.state port.new) ring.new limit result }
     ensures more { result ≡ Course.On → ring.new.learned ≡ ring.old.learned + 1 }
     ensures tidied { result ≡ Course.On → (P.state port.new).waiting ≡ [] }
+    ensures listed { result ≡ Course.On → HasLemmas (P.state port.new) ring.new }
     ensures stored { HoldsByGlue (P.state port.old) (P.state port.new) ring.old.trail.steps }
     ensures looks { KeepsLooking (P.state port.old) ring.old (P.state port.new) ring.new result }
     ensures paced { IsPaced ring.new.restarts ring.new.learned limit }
@@ -216,11 +234,13 @@ pub(crate) fn learn_from<P: Port>(
     requires decides { Decides (P.state port.old) ring.old.decider }
     requires paced { IsPaced ring.old.restarts ring.old.learned limit }
     requires offering { IsOffering (P.state port.old) ring.old }
+    requires listed { HasLemmas (P.state port.old) ring.old }
     requires vars { analysis.old.vars ≡ ring.old.trail.vars }
     requires conflict { IsConflict ring.old.watches (lits_at (P.state port.old)) ring.old.trail conflict }
     ensures leads { Leads (P.state port.old) ring.old (P.state port.new) ring.new limit result }
     ensures more { result ≡ Course.On → ring.new.learned ≡ ring.old.learned + 1 }
     ensures tidied { result ≡ Course.On → (P.state port.new).waiting ≡ [] }
+    ensures listed { result ≡ Course.On → HasLemmas (P.state port.new) ring.new }
     ensures stored { HoldsByGlue (P.state port.old) (P.state port.new) ring.old.trail.steps }
     ensures looks { KeepsLooking (P.state port.old) ring.old (P.state port.new) ring.new result }
     ensures paced { IsPaced ring.new.restarts ring.new.learned limit }

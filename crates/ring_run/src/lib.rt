@@ -1,6 +1,6 @@
 //! A ring: conflict-driven clause learning over any port, on one thread.
 //!
-//! `run_ring` is the loop of MiniSat (Eén and Sörensson 2003), without deletions. It propagates. At a conflict it learns the
+//! `run_ring` is the loop of MiniSat (Eén and Sörensson 2003). It propagates. At a conflict it learns the
 //! clause of the first unique implication point, goes back to where that forces its first literal, and makes this true; or it
 //! restarts, and goes back to level 0. Where nothing is left to propagate it decides a variable of the start clauses without a
 //! value. A conflict without decisions refutes the clauses, and where each of these variables has a value there is a model.
@@ -12,6 +12,7 @@ mod decision;
 mod imports;
 mod job;
 mod lemma;
+mod reduction;
 mod ring;
 mod run;
 mod search;

@@ -7,6 +7,7 @@ use crate::variables::{Bump, save_phases};
 use restart_plan::Restarts;
 use ring_decide::Decider;
 use ring_trail::Trail;
+use sat_words::Cref;
 use watch_prop::Watches;
 
 /// Which ring it is, and how many there are.
@@ -29,6 +30,12 @@ pub(crate) struct Ring {
     pub watches: Watches,
     /// How many lemmas were learned.
     pub learned: u64,
+    /// The lemmas of two literals or more that it learned and still holds, in order. They are attached.
+    pub lemmas: Vec<Cref>,
+    /// How often it reduced these.
+    pub reductions: u64,
+    /// How many lemmas were learned when it last did.
+    pub reduced_at: u64,
     /// How many of the first literals at level 0 have their lines.
     pub written: u32,
     /// Which variable is decided next, and how.

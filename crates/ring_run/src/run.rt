@@ -1,11 +1,10 @@
 // A run of a ring, from its job to its end.
 ghost use Rattle.std.specs.Prelude.{◌≡◌, ◌≤◌, ◌<◌, ◌+◌, ◌++◌, ◌^◌, ◌%◌, ◌==◌, ◌↔◌, ℕ, All, IfOk, OnOk, [], true};
 ghost use Rattle.ring_port.specs.PortState.{IsPort, HoldsStart, lits_at};
-ghost use Rattle.ring_port.specs.Port.{KeepsHeld};
 ghost use Rattle.ring_trail.specs.TrailData.{TrailData, IsTrail};
 ghost use Rattle.watch_prop.specs.WatchData.{attached};
 ghost use Rattle.watch_prop.specs.Watched.{Watched, IsFresh};
-ghost use Rattle.ring_run.specs.Ended.{IsJobOf, IsUntouched, Stays, IsOwn, IsCounted, HasOffered, HasRestarted, HasPolled, AreNew, AreNewLines, HoldsGlued, HasLooked, last_looks, stop_kind, Cause, Ends};
+ghost use Rattle.ring_run.specs.Ended.{IsJobOf, IsUntouched, Stays, IsOwn, IsCounted, HasOffered, HasRestarted, HasPolled, AreNew, AreNewLines, AreSpaced, HoldsGlued, HasLooked, last_looks, stop_kind, Cause, Ends};
 ghost use Rattle.ring_run.specs.Searching.{IsHeldBy, OffersNothing};
 ghost use Rattle.ring_decide.specs.Phases.{first_phases};
 ghost use Rattle.restart_plan.specs.Plan.{IsRestarting, begun};
@@ -49,6 +48,9 @@ const NOTHING: Counts = Counts {
 /// clause that lies ready, by ring and class, which is attached at once. So it polls each class of each other ring once at its
 /// start and once at each restart.
 ///
+/// At a restart, before it imports, the ring reduces its lemmas where that is due: the Reduce entry is written, the last half of
+/// those that may be dropped is, and their deletion lines come at once. The start clauses and what other rings gave stay held.
+///
 /// Every end but `Spent` and `Stopped` has set this ring's stop, and was the first to set one: a ring that comes second
 /// answers `Stopped` with the stop that stands. A call of the port that was refused for want of memory, room or a write
 /// ends the run; what was held and written before it stays. After `Memory` the ring has no answer, and its stop tells the
@@ -58,10 +60,11 @@ pub fn run_ring<P: Port>(alloc: Global, port: &mut P, job: &Job) -> (End, Counts
     requires untouched { IsUntouched (P.state port.old) }
     requires port { IsPort (P.state port.old) }
     ensures stays { Stays (P.state port.old) (P.state port.new) }
-    ensures kept { KeepsHeld (P.state port.old) (P.state port.new) }
+    ensures held { HoldsStart (P.state port.new) }
     ensures wrote { All (IsOwn (P.state port.old).ring (P.state port.old).vars) (P.state port.new).mine }
     ensures new { AreNew (P.state port.new) }
     ensures new_lines { AreNewLines (P.state port.new) }
+    ensures spaced { AreSpaced (P.state port.new) }
     ensures glued { HoldsGlued (P.state port.old) (P.state port.new) }
     ensures looked { HasLooked ((P.state port.old).looks + result.1.learned + last_looks result.0) (P.state port.new) }
     ensures counts { IsCounted (P.state port.new) result.1 }
@@ -144,6 +147,7 @@ pub(crate) fn make_ring<P: Port>(alloc: Global, port: &mut P, job: &Job) -> Resu
     ensures attached { IfOk result (λ ring. attached ring.watches ≡ job.now.start) }
     ensures watched { IfOk result (λ ring. (t : TrailData) → t.vars ≡ job.now.vars → IsFresh t → Watched ring.watches (lits_at (P.state port.old)) t) }
     ensures learned { IfOk result (λ ring. ring.learned ≡ 0) }
+    ensures listed { IfOk result (λ ring. (ring.lemmas.items ≡ []) × (ring.reductions ≡ 0) × (ring.reduced_at ≡ 0)) }
     ensures written { IfOk result (λ ring. ring.written ≡ 0) }
     ensures decider { IfOk result (λ ring. Decides (P.state port.old) ring.decider) }
     ensures phases { IfOk result (λ ring. ring.decider.phase ≡ first_phases job.now.seed job.now.ring job.now.vars) }
@@ -167,6 +171,9 @@ pub(crate) fn make_ring<P: Port>(alloc: Global, port: &mut P, job: &Job) -> Resu
         trail,
         watches,
         learned: 0,
+        lemmas: Vec::new(alloc),
+        reductions: 0,
+        reduced_at: 0,
         written: 0,
         decider,
         restarts,

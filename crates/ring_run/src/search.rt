@@ -5,7 +5,7 @@ ghost use Rattle.ring_run.specs.Ended.{HasLooked, HasPolled, last_looks};
 ghost use Rattle.ring_run.specs.Strategy.{Decides, IsPaced};
 ghost use Rattle.ring_run.specs.Searching.{GoesOn};
 ghost use Rattle.ring_run.specs.Ending.{ComesTo};
-ghost use Rattle.ring_run.specs.Course.{IsOffering, InSearch, MayImport, Leads, IsFurther, IsLooking, KeepsLooking, IsPolling, HasPolledBy};
+ghost use Rattle.ring_run.specs.Course.{IsOffering, InSearch, HasLemmas, MayImport, Leads, IsFurther, IsLooking, KeepsLooking, IsPolling, HasPolledBy};
 
 use crate::course::Course;
 use crate::decision::decide_next;
@@ -32,6 +32,7 @@ fn turn<P: Port>(
     requires paced { IsPaced ring.old.restarts ring.old.learned limit }
     requires offering { IsOffering (P.state port.old) ring.old }
     requires polling { IsPolling (P.state port.old) ring.old }
+    requires listed { HasLemmas (P.state port.old) ring.old }
     requires vars { analysis.old.vars ≡ ring.old.trail.vars }
     ensures leads { Leads (P.state port.old) ring.old (P.state port.new) ring.new limit result }
     ensures further { result ≡ Course.On → IsFurther ring.old ring.new }
@@ -39,6 +40,7 @@ fn turn<P: Port>(
     ensures paced { IsPaced ring.new.restarts ring.new.learned limit }
     ensures offering { IsOffering (P.state port.new) ring.new }
     ensures polls { HasPolledBy (P.state port.new) ring.new result }
+    ensures listed { result ≡ Course.On → HasLemmas (P.state port.new) ring.new }
     ensures odd { ring.new.restarts.odd ≡ ring.old.restarts.odd }
     ensures active { ring.new.decider.active ≡ ring.old.decider.active }
     ensures vars { analysis.new.vars ≡ analysis.old.vars }
@@ -71,6 +73,7 @@ pub(crate) fn search<P: Port>(
     requires paced { IsPaced ring.old.restarts ring.old.learned limit }
     requires offering { IsOffering (P.state port.old) ring.old }
     requires polling { IsPolling (P.state port.old) ring.old }
+    requires listed { HasLemmas (P.state port.old) ring.old }
     requires vars { analysis.old.vars ≡ ring.old.trail.vars }
     ensures ends { ComesTo (P.state port.old) (P.state port.new) ring.new.learned limit result }
     ensures looks { (base : ℕ) → IsLooking base (P.state port.old) ring.old → HasLooked (base + ring.new.learned + last_looks result) (P.state port.new) }

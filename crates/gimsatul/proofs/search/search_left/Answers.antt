@@ -117,6 +117,6 @@ returns-clause-searched g c =
     let kept : option_map (λ v. v.items) c.close-2.result.kept.lines ≡ c.into_lines-lines.result.kept = c.close-2.ensures.kept in
     subst (λ (n : ℕ). IsSearch plan F c.close-2.result.verdict n faults written (option_map (λ v. v.items) c.close-2.result.kept.lines)) (sym c.close-2.ensures.learned)
     (subst (IsSearch plan F c.close-2.result.verdict count faults written) (sym kept)
-    (is_closed_search plan F plan.check now c.args.left before after count end out w started c.requires.few c.requires.on_variables c.requires.some c.run_ring-end.ensures.stays c.run_ring-end.ensures.wrote c.run_ring-end.ensures.new counted.learned_is
+    (is_closed_search plan F plan.check now c.args.left before after count end out w started c.requires.few c.requires.on_variables c.requires.some c.run_ring-end.ensures.stays c.run_ring-end.ensures.wrote c.run_ring-end.ensures.new c.run_ring-end.ensures.spaced counted.learned_is
     within spent unspent c.run_ring-end.ensures.ends c.into_lines-lines.ensures c.text_determines_lines.ensures c.in-Ok.occurring marked v c.close-2.result.verdict faults written c.into_lines-lines.result.kept c.verdict_of-verdict.ensures
     c.close-2.ensures.closed c.close-2.ensures.tells))

@@ -8,9 +8,10 @@ use Rattle.ring_run.specs.Ending.{ComesTo}
 use Rattle.ring_run.specs.Course.{imports_of, IsOffering}
 use Rattle.ring_run.proofs.Deciding.{decides_by}
 use Rattle.ring_run.proofs.Lending.{offering_stays}
+use Rattle.ring_run.proofs.Listing.{listed_same}
 use Rattle.ring_run.proofs.Offering.{nothing_looked, nothing_then}
 use Rattle.ring_run.proofs.Polling.{polls_same, polled_over, polled_halted, polling_same}
-use Rattle.ring_run.proofs.Progress.{stop_seen, looked_goes_on}
+use Rattle.ring_run.proofs.Progress.{stop_seen, looked_goes_on, recent_still}
 use Rattle.ring_run.proofs.Tidying.{refused_halted}
 use Rattle.ring_run.proofs.Turning.{quiet_same, looked_search, compose}
 use Rattle.ring_run.proofs.decision.decide_next.Goals as goal
@@ -64,8 +65,8 @@ returns-in-Err-clause-polls g c =
     subst (HasPolled w ring.restarts.made) (sym c.end_refused.ensures)
     (polled_halted w ring.restarts.made _ (refused_halted c.in-Err.stop) (polled_over w ring (polling_same s w old ring nothing c.write_pending.ensures.offers.place c.write_pending.ensures.restarts c.write_pending.ensures.pending (ap (λ (t : TrailData). t.level) c.write_pending.ensures.trail) c.requires.polling).polled))
 
-pub import-requires-clause-import : goal.import-requires-clause-import
-import-requires-clause-import g c =
+pub renew-requires-clause-import : goal.renew-requires-clause-import
+renew-requires-clause-import g c =
     let s = g.P.Port.state c.args.port.now in
     let m = g.P.Port.state c.stopped.new.self in
     let w = g.P.Port.state c.write_pending.new.port in
@@ -84,8 +85,8 @@ import-requires-clause-import g c =
       whole = c.in-Ok.ensures.whole level;
     }
 
-pub import-requires-clause-polling : goal.import-requires-clause-polling
-import-requires-clause-polling g c =
+pub renew-requires-clause-polling : goal.renew-requires-clause-polling
+renew-requires-clause-polling g c =
     let s = g.P.Port.state c.args.port.now in
     let m = g.P.Port.state c.stopped.new.self in
     let w = g.P.Port.state c.write_pending.new.port in
@@ -101,9 +102,9 @@ returns-then-ring-clause-leads g c =
     let w = g.P.Port.state c.write_pending.new.port in
     let old = c.args.ring.now in
     let ring = c.write_pending.new.ring in
-    compose c.import.result s w (g.P.Port.state c.import.new.port) old ring c.import.new.ring c.args.limit
+    compose c.renew.result s w (g.P.Port.state c.renew.new.port) old ring c.renew.new.ring c.args.limit
     (λ start p. subst (GoesOn start w) (sym c.write_pending.ensures.learned) (c.in-Ok.ensures.ok start old.learned (looked_goes_on start s m old.learned (one_more s.looks) p c.in_default.ensures.looked.1 c.stopped.ensures.log c.stopped.ensures.port)))
-    (c.import.ensures.leads c.args.limit (omega (arith, c.requires.below, c.write_pending.ensures.learned)))
+    (c.renew.ensures.leads c.args.limit (omega (arith, c.requires.below, c.write_pending.ensures.learned)))
 
 pub returns-then-ring-clause-offering : goal.returns-then-ring-clause-offering
 returns-then-ring-clause-offering g c = λ p.
@@ -113,14 +114,14 @@ returns-then-ring-clause-offering g c = λ p.
     let old = c.args.ring.now in
     let ring = c.write_pending.new.ring in
     let nothing : OffersNothing s w = nothing_then s m w (nothing_looked s m c.stopped.result c.stopped.ensures.looked) c.write_pending.ensures.nothing in
-    c.import.ensures.offering (offering_stays s w old ring nothing c.write_pending.ensures.offers c.write_pending.ensures.learned p)
+    c.renew.ensures.offering (offering_stays s w old ring nothing c.write_pending.ensures.offers c.write_pending.ensures.learned p)
 
 pub returns-then-ring-clause-further : goal.returns-then-ring-clause-further
 returns-then-ring-clause-further g c = λ on.
     (let trail = ap (λ (t : TrailData). length t.steps) c.write_pending.ensures.trail in
     inr (
-      record { learned = c.import.ensures.learned ∙ c.write_pending.ensures.learned; steps = omega (arith, c.import.ensures.steps on, trail) },
-      inr (sym c.write_pending.ensures.pending ∙ c.if-ring.true, c.import.ensures.settled on),
+      record { learned = c.renew.ensures.learned ∙ c.write_pending.ensures.learned; steps = omega (arith, c.renew.ensures.steps on, trail) },
+      inr (sym c.write_pending.ensures.pending ∙ c.if-ring.true, c.renew.ensures.settled on),
     ))
 
 pub decide-requires-clause-quiet : goal.decide-requires-clause-quiet
@@ -177,3 +178,23 @@ returns-clause-further g c = λ on.
       record { learned = c.decide.ensures.learned ∙ c.write_pending.ensures.learned; steps = omega (arith, c.decide.ensures.longer on, trail) },
       inl (c.decide.ensures.pending ∙ c.write_pending.ensures.pending, omega (arith, c.decide.ensures.longer on, trail)),
     ))
+
+pub renew-requires-clause-listed : goal.renew-requires-clause-listed
+renew-requires-clause-listed g c =
+    let s = g.P.Port.state c.args.port.now in
+    let m = g.P.Port.state c.stopped.new.self in
+    let is = c.in_default.ensures.looked.1 in
+    c.in-Ok.ensures.listed (listed_same s m c.args.ring.now c.args.ring.now (ap (λ (x : PortState). x.start) is) (recent_still s m (ap (λ (x : PortState). x.ring) is) (ap (λ (x : PortState). x.mine) is)) refl (λ d there. there) refl refl refl c.requires.listed)
+
+pub returns-clause-listed : goal.returns-clause-listed
+returns-clause-listed g c = λ on.
+    (let s = g.P.Port.state c.args.port.now in
+    let m = g.P.Port.state c.stopped.new.self in
+    let is = c.in_default.ensures.looked.1 in
+    c.decide.ensures.listed
+    (c.in-Ok.ensures.listed (listed_same s m c.args.ring.now c.args.ring.now (ap (λ (x : PortState). x.start) is) (recent_still s m (ap (λ (x : PortState). x.ring) is) (ap (λ (x : PortState). x.mine) is)) refl (λ d there. there) refl refl refl c.requires.listed)))
+
+pub renew-requires-clause-few : goal.renew-requires-clause-few
+renew-requires-clause-few g c =
+    let p = renew-requires-clause-listed g c in
+    omega (arith, p.count, p.few, c.requires.below, c.write_pending.ensures.learned)

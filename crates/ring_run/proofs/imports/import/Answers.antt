@@ -9,9 +9,10 @@ use Rattle.ring_run.specs.Course.{imports_of}
 use Rattle.ring_run.specs.declared.ring.Ring.{Ring}
 use Rattle.ring_run.proofs.Offering.{nothing_then}
 use Rattle.ring_run.proofs.Lending.{saw_nothing, offering_stays, offering_kept}
+use Rattle.ring_run.proofs.Listing.{listed_same}
 use Rattle.ring_run.proofs.Turning.{saw_search}
 use Rattle.ring_run.proofs.Learning.{goes_on_by}
-use Rattle.ring_run.proofs.Progress.{out_of_memory}
+use Rattle.ring_run.proofs.Progress.{out_of_memory, recent_still}
 use Rattle.ring_run.proofs.Polling.{imported, imported_most, polls_same, polled_over, polled_halted, place_moved}
 use Rattle.ring_run.proofs.imports.import.Goals as goal
 
@@ -126,3 +127,16 @@ take_clauses-requires-clause-search g c =
     let ring = c.args.ring.now in
     let units = c.in-True.ensures in
     saw_search s m ring.trail c.take_units.new.trail ring.watches ring.written c.requires.import units.saw units.port units.trail units.grown units.taken.0 units.taken.1 (units.reasons _ c.requires.import.reasons) units.bare (units.watched ring.watches _ c.requires.import.watched)
+
+pub returns-clause-listed : goal.returns-clause-listed
+returns-clause-listed g c = λ on p.
+    let s = g.P.Port.state c.args.port.now in
+    let m = g.P.Port.state c.take_units.new.port in
+    let u = g.P.Port.state c.take_clauses.new.port in
+    let after = c.take_clauses.new.ring in
+    let same = c.take_clauses.ensures.same in
+    let only = c.take_clauses.ensures.only.state in
+    let saw = c.take_units.ensures.saw in
+    listed_same s u c.args.ring.now (record after { pending = false }) (ap (λ (x : PortState). x.start) only ∙ saw.stays.start)
+    (recent_still m u (ap (λ (x : PortState). x.ring) only) (ap (λ (x : PortState). x.mine) only) ∙ recent_still s m saw.stays.ring saw.mine)
+    (ap (λ (r : Ring). r.lemmas.items) same) c.in-Ok.ensures.more (ap (λ (r : Ring). r.learned) same) (ap (λ (r : Ring). r.reductions) same) (ap (λ (r : Ring). r.reduced_at) same) p

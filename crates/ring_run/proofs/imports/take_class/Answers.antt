@@ -1,10 +1,11 @@
-use Rattle.std.proofs.Common.{◌≡◌, [], ◌∷◌, Ok, arith, append-nil, sym, subst}
+use Rattle.std.proofs.Common.{◌≡◌, [], ◌∷◌, ◌++◌, List, Contains, Ok, arith, append-nil, sym, subst}
 use Rattle.std.specs.declared.option.Option.{Option}
 use Rattle.std.proofs.lemmas.List.Elements.{All-cons, All-nil}
 use Rattle.sat_words.specs.declared.shared.Cref.{Cref}
 use Rattle.ring_port.specs.PortState.{PortState}
 use Rattle.ring_port.specs.Exchange.{TookClause, Polled, looked_again}
 use Rattle.watch_prop.specs.WatchData.{attached}
+use Rattle.rup_model.proofs.Lists.{Contains_In, In_Contains, In_append_left}
 use Rattle.ring_run.specs.Searching.{IsHeldBy, KeepsOn}
 use Rattle.ring_run.specs.Course.{Searches}
 use Rattle.ring_run.proofs.Importing.{polled_none, polled_some, polls_keep, polls_search, taken_held}
@@ -57,3 +58,9 @@ returns-clause-search g c =
     subst (λ (x : PortState). Searches x ring.trail c.attach.new.self ring.written) (sym c.attach.ensures.same)
     (polls_search s u (clause ∷ []) (polled_some s u clause took c.poll.ensures.kept) (omega arith) ring.trail ring.watches c.attach.new.self ring.written c.requires.search c.requires.level c.poll.ensures.port
     c.in_ok-attach.ensures.attached (All-cons (IsHeldBy u) clause [] (taken_held s u clause took c.poll.ensures.port) (All-nil (IsHeldBy u))) c.attach.ensures.watched)
+
+pub returns-clause-more : goal.returns-clause-more
+returns-clause-more g c = λ d there.
+    let cs = attached c.args.ring.now.watches in
+    subst (λ (ds : List Cref). Contains ds d) (sym c.in_ok-attach.ensures.attached)
+    (In_Contains (cs ++ c.in-Some.clause ∷ []) d (In_append_left cs (c.in-Some.clause ∷ []) d (Contains_In cs d there)))

@@ -31,6 +31,7 @@ loop-from-preserved g c =
       search = taken.search;
       polled = omega (arith, taken.polled, i.polled, next);
       only = only_then s (g.P.Port.state c.loop-from.port) (g.P.Port.state c.take_from.new.port) i.only taken.only;
+      more = λ d there. taken.more d (i.more d there);
       same = taken.same ∙ ap (λ (r : Ring). record r { watches = c.take_from.new.ring.watches }) i.same;
       port = taken.port;
     }
@@ -41,4 +42,4 @@ loop-from-preserved-then-from-ring g c =
     let i = c.loop-from.invariant in
     let own : c.loop-from.ring.place.ring ≡ s.ring = ap (λ (r : Ring). r.place.ring) i.same ∙ ap (λ (p : Place). p.ring) c.requires.place in
     let next = below_own s.ring c.loop-from.from (c.if-from-ring.true ∙ own) in
-    record { keeps = i.keeps; search = i.search; polled = omega (arith, i.polled, next); only = i.only; same = i.same; port = i.port }
+    record { keeps = i.keeps; search = i.search; polled = omega (arith, i.polled, next); only = i.only; more = i.more; same = i.same; port = i.port }

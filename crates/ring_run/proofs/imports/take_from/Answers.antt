@@ -15,6 +15,7 @@ loop-class-preserved g c =
       search = taken.search;
       polled = omega (arith, taken.polled, i.polled);
       only = only_then (g.P.Port.state c.args.port.now) (g.P.Port.state c.loop-class.port) (g.P.Port.state c.take_class.new.port) i.only taken.only;
+      more = λ d there. taken.more d (i.more d there);
       same = taken.same ∙ ap (λ (r : Ring). record r { watches = c.take_class.new.ring.watches }) i.same;
       port = taken.port;
     }

@@ -1,6 +1,7 @@
 use Rattle.std.proofs.Common.{◌≡◌, ◌+◌, ◌-◌, ◌^◌, min}
 use Rattle.ring_port.specs.PortState.{IsPort}
-use Rattle.ring_run.specs.Searching.{KeepsOn, OnlyPolled}
+use Rattle.watch_prop.specs.WatchData.{attached}
+use Rattle.ring_run.specs.Searching.{AreMoreClauses, KeepsOn, OnlyPolled}
 use Rattle.ring_run.specs.Course.{InSearch}
 use Rattle.ring_run.proofs.imports.take_from.Given as goal
 
@@ -10,6 +11,7 @@ invariant-loop-class g l = record {
   search : InSearch (g.P.Port.state l.port) l.ring;
   polled : (g.P.Port.state l.port).polled ≡ min ((g.P.Port.state l.fn.port).polled + l.class) (2 ^ 64 - 1);
   only : OnlyPolled (g.P.Port.state l.fn.port) (g.P.Port.state l.port);
+  more : AreMoreClauses (attached l.fn.ring.watches) (attached l.ring.watches);
   same : l.ring ≡ record l.fn.ring { watches = l.ring.watches };
   port : IsPort (g.P.Port.state l.port);
 }

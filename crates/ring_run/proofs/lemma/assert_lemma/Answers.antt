@@ -32,6 +32,11 @@ returns-clause-asserted g c =
       trail = c.assign.ensures.step ∙ ap (λ (l : Literal). assigned c.go_back.new.ring.trail l c.args.address) first;
       shape = c.assign.ensures.trail;
       clauses = c.in_ok-attach_lemma.ensures.attached ∙ ap (λ (w : WatchData). attached w ++ option_to_list c.args.address) same;
+      listed = record {
+        lemmas = c.in_ok-attach_lemma.ensures.listed ∙ ap (λ (r : Ring). r.lemmas.items ++ option_to_list c.args.address) c.go_back.ensures.same;
+        reductions = ap (λ (r : Ring). r.reductions) c.go_back.ensures.same;
+        reduced_at = ap (λ (r : Ring). r.reduced_at) c.go_back.ensures.same;
+      };
       written = ap (λ (r : Ring). r.written) c.go_back.ensures.same;
       watched = λ t w. c.in_ok-attach_lemma.ensures.watched t (subst (λ (x : WatchData). Watched x (lits_at s) t) (sym same) w);
     }

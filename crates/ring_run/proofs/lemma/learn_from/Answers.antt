@@ -5,7 +5,7 @@ use Rattle.ring_run.specs.Searching.{IsAsserting, GoesOn, OffersNothing}
 use Rattle.ring_run.proofs.Lending.{offering_stays}
 use Rattle.ring_run.specs.declared.ring.Ring.{Ring}
 use Rattle.ring_run.specs.Ended.{polls_of}
-use Rattle.ring_run.specs.Course.{IsPolling, imports_of}
+use Rattle.ring_run.specs.Course.{HasLemmas, IsPolling, imports_of}
 use Rattle.ring_run.proofs.Polling.{polls_same, polled_over, polled_halted}
 use Rattle.ring_run.proofs.Asserting.{lemma_asserts}
 use Rattle.ring_run.proofs.Turning.{compose}
@@ -54,3 +54,9 @@ pub returns-else-is_err-clause-polls : goal.returns-else-is_err-clause-polls
 returns-else-is_err-clause-polls g c = λ p.
     let between : Ring = record c.args.ring.now { decider = c.bump_met.new.decider; bumps = c.bump_met.new.bumps } in
     c.learn_lemma.ensures.polls (subst (λ (x : PortState). IsPolling x between) (sym c.analyze.ensures.same) (record { place = p.place; polled = p.polled; low = p.low }))
+
+pub learn_lemma-requires-clause-listed : goal.learn_lemma-requires-clause-listed
+learn_lemma-requires-clause-listed g c =
+    let p = c.requires.listed in
+    let between : Ring = record c.args.ring.now { decider = c.bump_met.new.decider; bumps = c.bump_met.new.bumps } in
+    subst (λ (x : PortState). HasLemmas x between) (sym c.analyze.ensures.same) (record { distinct = p.distinct; member = p.member; apart = p.apart; count = p.count; few = p.few })

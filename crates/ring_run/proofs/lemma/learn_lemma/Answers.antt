@@ -1,4 +1,4 @@
-use Rattle.std.proofs.Common.{◌≡◌, ◌≤◌, ◌+◌, ◌∙◌, ℕ, ap, subst, sym, refl, arith}
+use Rattle.std.proofs.Common.{◌≡◌, ◌≤◌, ◌+◌, ◌∙◌, ◌++◌, ℕ, ap, subst, sym, refl, arith}
 use Rattle.std.specs.Prelude.{if◌then◌else◌}
 use Rattle.restart_plan.specs.Plan.{Restarting, asked, is_due}
 use Rattle.ring_run.specs.Ended.{HasPolled, polls_of}
@@ -14,11 +14,14 @@ use Rattle.ring_run.proofs.Lending.{lent_held, lent_goes_on, lent_search, left_b
 use Rattle.ring_run.proofs.Tidying.{tidied_search, held_stays, refused_last, refused_halted}
 use Rattle.ring_run.specs.Ended.{last_looks}
 use Rattle.ring_run.specs.Ending.{ComesTo, end_refused}
-use Rattle.ring_run.specs.Course.{GoesOnBy, InSearch, CanAssert, IsOffering, IsPolling, imports_of}
+use Rattle.std.specs.Option.{option_to_list}
+use Rattle.watch_prop.specs.WatchData.{attached}
+use Rattle.ring_run.proofs.Listing.{left_lists, listed_learned}
+use Rattle.ring_run.specs.Course.{GoesOnBy, InSearch, HasLemmas, CanAssert, IsOffering, IsPolling, imports_of}
 use Rattle.ring_run.specs.declared.ring.Ring.{Ring}
 use Rattle.ring_run.proofs.Asserting.{can_assert, back_below}
 use Rattle.ring_run.proofs.Learning.{learned_any, goes_on_by, left_search, left_level}
-use Rattle.ring_run.proofs.Progress.{out_of_memory, refused_ends, spent, learned_looks, learned_by_glue}
+use Rattle.ring_run.proofs.Progress.{out_of_memory, refused_ends, spent, learned_looks, learned_by_glue, recent_still}
 use Rattle.ring_run.proofs.lemma.learn_lemma.Goals as goal
 
 pub returns-then-ring-limit-clause-leads : goal.returns-then-ring-limit-clause-leads
@@ -374,3 +377,29 @@ returns-in-Ok-leave_conflict-clause-polls g c = λ p.
       polled = subst (λ (k : ℕ). w.polled ≡ polls_of w k) (let e : 1 + ring.restarts.made ≡ imports_of left = omega (arith, imports, made) in e) after;
       low = λ e. c.in-Ok-leave_conflict.ensures.low (sym c.leave_conflict.ensures.pending ∙ e);
     })
+
+pub returns-in-Ok-leave_conflict-clause-listed : goal.returns-in-Ok-leave_conflict-clause-listed
+returns-in-Ok-leave_conflict-clause-listed g c = λ on.
+    (let s = g.P.Port.state c.args.port.now in
+    let u = g.P.Port.state c.learn.new.self in
+    let v = g.P.Port.state c.offer_lemma.new.port in
+    let w = g.P.Port.state c.tidy_up.new.port in
+    let old = c.args.ring.now in
+    let middle = c.offer_lemma.new.ring in
+    let between : Ring = record middle { restarts = c.due-ring.new.self; pending = c.due-ring.result } in
+    let left = c.leave_conflict.new.ring in
+    let same = c.offer_lemma.ensures.same in
+    let lent = only_lent u v c.in-Ok.address old.exported old.offered middle.exported middle.offered c.offer_lemma.ensures.lent in
+    let wrote = c.in-Ok-tidy_up.ensures.wrote in
+    let lists = left_lists w between left c.args.lits.now c.args.back c.in-Ok.address c.in-Ok-leave_conflict.ensures.left in
+    let count = c.leave_conflict.ensures.learned ∙ ap (λ (r : Ring). r.learned) same in
+    subst (λ (x : PortState). HasLemmas x left) (sym c.leave_conflict.ensures.same)
+    (listed_learned s u w old left c.args.lits.now c.args.glue c.in-Ok.address c.requires.search.clauses c.in-Ok.ensures.learned
+    (wrote.stays.start ∙ ap (λ (x : PortState). x.start) lent.state)
+    (wrote.recent ∙ recent_still u v (ap (λ (x : PortState). x.ring) lent.state) (ap (λ (x : PortState). x.mine) lent.state))
+    (record {
+      lemmas = lists.0.lemmas ∙ ap (λ (r : Ring). r.lemmas.items ++ option_to_list c.in-Ok.address) same;
+      reductions = lists.0.reductions ∙ ap (λ (r : Ring). r.reductions) same;
+      reduced_at = lists.0.reduced_at ∙ ap (λ (r : Ring). r.reduced_at) same;
+    })
+    (lists.1 ∙ ap (λ (r : Ring). attached r.watches ++ option_to_list c.in-Ok.address) same) count c.requires.listed))

@@ -8,9 +8,9 @@ use Rattle.ring_trail.specs.TrailData.{TrailData}
 use Rattle.ring_port.specs.PortState.{PortState}
 use Rattle.ring_run.specs.Searching.{GoesOn}
 use Rattle.ring_run.specs.Ending.{ComesTo}
-use Rattle.ring_run.specs.Course.{MayImport, IsOffering, IsPolling}
+use Rattle.ring_run.specs.Course.{HasLemmas, MayImport, IsOffering, IsPolling}
 use Rattle.ring_run.specs.declared.job.End.TheVariants.{Memory}
-use Rattle.ring_run.proofs.Beginning.{goes_begin, begun, paced_begin, restarted_by, restarted_none}
+use Rattle.ring_run.proofs.Beginning.{listed_begin, goes_begin, begun, paced_begin, restarted_by, restarted_none}
 use Rattle.ring_run.proofs.Progress.{out_of_memory}
 use Rattle.ring_run.proofs.run.run_job.Goals as goal
 
@@ -120,3 +120,10 @@ returns-in_default-new-clause-polled g c =
 pub returns-clause-polled : goal.returns-clause-polled
 returns-clause-polled g c =
     subst (λ (n : ℕ). HasPolled (g.P.Port.state c.search-end.new.port) n c.search-end.result) (sym c.counts_of.ensures.restarts) c.search-end.ensures.polled
+
+pub search-end-requires-clause-listed : goal.search-end-requires-clause-listed
+search-end-requires-clause-listed g c =
+    let s = g.P.Port.state c.args.port.now in
+    let listed = c.in-Ok.ensures.listed in
+    subst (λ (x : PortState). HasLemmas x c.in-Ok.ring) (sym c.in-Ok.ensures.same)
+    (listed_begin s c.in-Ok.ring c.requires.untouched.mine c.in-Ok.ensures.learned listed.0 listed.1 listed.2)

@@ -4,8 +4,8 @@ use Rattle.ring_run.proofs.run.run_ring.Goals as goal
 pub returns-clause-stays : goal.returns-clause-stays
 returns-clause-stays g c = (c.claim.ensures.runs (g.P.Port.state c.args.port.now) c.run_job-end.result.1.learned c.run_job-end.ensures.ends.runs).stays
 
-pub returns-clause-kept : goal.returns-clause-kept
-returns-clause-kept g c = (c.claim.ensures.runs (g.P.Port.state c.args.port.now) c.run_job-end.result.1.learned c.run_job-end.ensures.ends.runs).kept
+pub returns-clause-held : goal.returns-clause-held
+returns-clause-held g c = (c.claim.ensures.runs (g.P.Port.state c.args.port.now) c.run_job-end.result.1.learned c.run_job-end.ensures.ends.runs).held
 
 pub returns-clause-wrote : goal.returns-clause-wrote
 returns-clause-wrote g c = (c.claim.ensures.runs (g.P.Port.state c.args.port.now) c.run_job-end.result.1.learned c.run_job-end.ensures.ends.runs).wrote
@@ -27,3 +27,6 @@ returns-clause-counts g c = record {
 
 pub returns-clause-polled : goal.returns-clause-polled
 returns-clause-polled g c = c.claim.ensures.polled c.run_job-end.result.1.restarts c.run_job-end.ensures.polled
+
+pub returns-clause-spaced : goal.returns-clause-spaced
+returns-clause-spaced g c = (c.claim.ensures.runs (g.P.Port.state c.args.port.now) c.run_job-end.result.1.learned c.run_job-end.ensures.ends.runs).spaced

@@ -29,6 +29,7 @@ loop-end-init g c =
       decides = decides_moved s s u c.args.ring.now.decider c.import.new.ring.decider c.requires.decides c.requires.goes.runs.stays goes.runs.stays (ap (λ (d : DeciderData). d.active) c.import.ensures.decider);
       offering = c.import.ensures.offering c.requires.offering;
       polling = c.in_default.ensures.polls;
+      listed = c.in_default.ensures.listed refl c.requires.listed;
       paced = subst (λ (r : Restarting). IsPaced r c.import.new.ring.learned c.args.limit) (sym c.import.ensures.restarts)
           (subst (λ n. IsPaced c.args.ring.now.restarts n c.args.limit) (sym c.import.ensures.learned) c.requires.paced);
       odd = ap (λ (r : Restarting). r.odd) c.import.ensures.restarts;
@@ -62,6 +63,7 @@ loop-end-preserved g c =
       paced = c.turn.ensures.paced;
       offering = c.turn.ensures.offering;
       polling = c.in_default-turn.ensures.polls;
+      listed = c.in_default-turn.ensures.listed refl;
       odd = c.turn.ensures.odd ∙ c.loop-end.invariant.odd;
       vars = c.turn.ensures.vars ∙ c.loop-end.invariant.vars ∙ c.loop-end.invariant.search.stands.vars ∙ c.loop-end.invariant.goes.runs.stays.vars ∙ sym goes.runs.stays.vars ∙ sym found.search.stands.vars;
     }

@@ -1,7 +1,7 @@
 use Rattle.std.proofs.Common.{◌≡◌, ℕ, ◌<◌, length}
 use Rattle.ring_run.specs.Searching.{GoesOn}
 use Rattle.ring_run.specs.Strategy.{Decides, IsPaced}
-use Rattle.ring_run.specs.Course.{IsOffering, IsPolling, InSearch, IsLooking}
+use Rattle.ring_run.specs.Course.{HasLemmas, IsOffering, IsPolling, InSearch, IsLooking}
 use Rattle.ring_run.proofs.Turning.{left_to_do}
 use Rattle.ring_run.proofs.search.search.Given as goal
 
@@ -14,6 +14,7 @@ invariant-loop-end g l = record {
   decides : Decides (g.P.Port.state l.port) l.ring.decider;
   offering : IsOffering (g.P.Port.state l.port) l.ring;
   polling : IsPolling (g.P.Port.state l.port) l.ring;
+  listed : HasLemmas (g.P.Port.state l.port) l.ring;
   paced : IsPaced l.ring.restarts l.ring.learned l.limit;
   odd : l.ring.restarts.odd ≡ l.fn.ring.restarts.odd;
   vars : l.analysis.vars ≡ l.ring.trail.vars;

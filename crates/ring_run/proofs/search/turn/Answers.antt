@@ -1,12 +1,14 @@
-use Rattle.std.proofs.Common.{◌∙◌, ◌≤◌, ◌+◌, List, length, subst, sym, ap, refl, arith, length-append}
+use Rattle.std.proofs.Common.{◌∙◌, ◌≤◌, ◌+◌, List, length, subst, sym, ap, refl, arith, length-append, Contains}
+use Rattle.sat_words.specs.declared.shared.Cref.{Cref}
 use Rattle.ring_trail.specs.declared.step.Step.{Step}
 use Rattle.ring_run.specs.Ended.{polls_of}
-use Rattle.ring_run.specs.Course.{IsOffering, IsPolling}
+use Rattle.ring_run.specs.Course.{HasLemmas, IsOffering, IsPolling}
 use Rattle.ring_run.proofs.Polling.{polled_over}
 use Rattle.ring_port.specs.PortState.{PortState}
 use Rattle.ring_run.specs.Searching.{GoesOn}
 use Rattle.ring_run.specs.declared.ring.Ring.{Ring}
 use Rattle.ring_run.proofs.Turning.{grown_search, compose, further_grown}
+use Rattle.ring_run.proofs.Listing.{listed_same}
 use Rattle.ring_run.proofs.search.turn.Goals as goal
 
 pub learn_from-requires-clause-search : goal.learn_from-requires-clause-search
@@ -65,3 +67,17 @@ returns-in-Quiet-clause-further g c = λ on.
 pub returns-in_default-clause-polls : goal.returns-in_default-clause-polls
 returns-in_default-clause-polls g c =
     subst (λ (x : PortState). x.polled ≤ polls_of x (1 + c.args.ring.now.restarts.made)) (sym c.propagate.ensures.same) (polled_over (g.P.Port.state c.args.port.now) c.args.ring.now c.requires.polling.polled)
+
+pub learn_from-requires-clause-listed : goal.learn_from-requires-clause-listed
+learn_from-requires-clause-listed g c =
+    let s = g.P.Port.state c.args.port.now in
+    let between : Ring = record c.args.ring.now { trail = c.propagate.new.trail; watches = c.propagate.new.self } in
+    subst (λ (x : PortState). HasLemmas x between) (sym c.propagate.ensures.same)
+    (listed_same s s c.args.ring.now between refl refl refl (λ d there. subst (λ (cs : List Cref). Contains cs d) (sym c.propagate.ensures.attached) there) refl refl refl c.requires.listed)
+
+pub decide_next-requires-clause-listed : goal.decide_next-requires-clause-listed
+decide_next-requires-clause-listed g c =
+    let s = g.P.Port.state c.args.port.now in
+    let between : Ring = record c.args.ring.now { trail = c.propagate.new.trail; watches = c.propagate.new.self } in
+    subst (λ (x : PortState). HasLemmas x between) (sym c.propagate.ensures.same)
+    (listed_same s s c.args.ring.now between refl refl refl (λ d there. subst (λ (cs : List Cref). Contains cs d) (sym c.propagate.ensures.attached) there) refl refl refl c.requires.listed)

@@ -1,0 +1,100 @@
+-- The lemmas that a ring lists.
+use Rattle.std.proofs.Common.{◌≡◌, ◌≢◌, ◌∙◌, ℕ, ◌+◌, List, [], ◌∷◌, ◌++◌, length, sym, subst, ap, arith, inl, inr, refl, Contains, IsSome, Some, None, Ok, append-nil}
+use Rattle.std.specs.Prelude.{All}
+use Rattle.std.specs.Option.{option_to_list}
+use Rattle.std.specs.declared.option.Option.{Option}
+use Rattle.sat_words.specs.Literal.{Literal}
+use Rattle.sat_words.specs.declared.shared.Cref.{Cref}
+use Rattle.rup_model.specs.declared.journal.Kind.TheVariants.{Learn}
+use Rattle.rup_model.specs.Journal.{recent}
+use Rattle.rup_model.proofs.Lists.{In, Contains_In, In_Contains, In_append, In_append_left, In_append_right}
+use Rattle.ring_port.specs.PortState.{PortState, Holding, held_at}
+use Rattle.ring_port.specs.Port.{AddedClause, Learned}
+use Rattle.ring_port.proofs.Holdings.{All_In}
+use Rattle.ring_port.proofs.LogSteps.{In_All}
+use Rattle.watch_prop.specs.WatchData.{attached}
+use Rattle.reduce_db.specs.Lemmas.{AreDistinct}
+use Rattle.reduce_db.proofs.Changes.{distinct_push}
+use Rattle.ring_run.specs.Searching.{AreMoreClauses, HasClauses, IsHeldBy}
+use Rattle.ring_run.specs.Course.{HasLemmas, HasLeft, Lists}
+use Rattle.ring_run.specs.declared.ring.Ring.{Ring}
+use Rattle.ring_run.proofs.Progress.{recent_lemma}
+
+-- no lemma more or less, and none detached
+pub listed_same : (s u : PortState) (old new : Ring) → u.start ≡ s.start → recent u.ring u.mine ≡ recent s.ring s.mine → new.lemmas.items ≡ old.lemmas.items → AreMoreClauses (attached old.watches) (attached new.watches)
+    → new.learned ≡ old.learned → new.reductions ≡ old.reductions → new.reduced_at ≡ old.reduced_at → HasLemmas s old → HasLemmas u new
+listed_same s u old new start lately items more learned reductions at p = record {
+  distinct = subst AreDistinct (sym items) p.distinct;
+  member = subst (All (Contains (attached new.watches))) (sym items)
+      (In_All (Contains (attached new.watches)) old.lemmas.items (λ c m. more c (All_In (Contains (attached old.watches)) old.lemmas.items c p.member m)));
+  apart = λ h c there member. p.apart h c (subst (λ (hs : List Holding). Contains hs h) start there) (subst (λ (cs : List Cref). Contains cs c) items member);
+  count = (let many = ap (λ (cs : List (List Literal)). length cs) lately in omega (arith, p.count, learned, at, many));
+  few = omega (arith, p.few, reductions, at);
+}
+
+none_held : (o : Option Holding) → IsSome o → o ≡ None → ⊥
+none_held None h e = absurd cc
+none_held (Some y) h e = absurd cc
+
+-- a clause of two literals or more joins the lemmas
+module _ (s u : PortState) (cs lemmas : List Cref) (lits : List Literal) (glue : ℕ) (c : Cref) (clauses : HasClauses s cs) (w : AddedClause s u lits glue Learn c) (member : All (Contains cs) lemmas) where
+  held_before : (d : Cref) → In d lemmas → IsSome (held_at s d.address)
+  held_before d m = All_In (IsHeldBy s) cs d clauses.held (Contains_In cs d (All_In (Contains cs) lemmas d member m))
+
+  pub joined_distinct : AreDistinct lemmas → AreDistinct (lemmas ++ c ∷ [])
+  joined_distinct a = distinct_push lemmas c a (λ d m e. none_held (held_at s c.address) (subst (λ (a : ℕ). IsSome (held_at s a)) e (held_before d m)) w.free.not_held)
+
+  pub joined_member : All (Contains (cs ++ c ∷ [])) (lemmas ++ c ∷ [])
+  joined_member = In_All (Contains (cs ++ c ∷ [])) (lemmas ++ c ∷ []) (λ d m. elim (In_append lemmas (c ∷ []) d m) as (λ _. Contains (cs ++ c ∷ []) d) [
+    | inl old ↦ In_Contains (cs ++ c ∷ []) d (In_append_left cs (c ∷ []) d (Contains_In cs d (All_In (Contains cs) lemmas d member old)))
+    | inr new ↦ In_Contains (cs ++ c ∷ []) d (In_append_right cs (c ∷ []) d new)
+  ])
+
+  -- no start clause is at its address, since these are held
+  new_apart : (h : Holding) → Contains s.start h → c.address ≢ h.address
+  new_apart h there e =
+      let is : held_at s h.address ≡ Some h = All_In (λ (k : Holding). held_at s k.address ≡ Some k) s.start h clauses.starts_held (Contains_In s.start h there) in
+      let none : None ≡ Some h = sym w.free.not_held ∙ ap (held_at s) e ∙ is in
+      none_held (Some h) refl (sym none)
+
+  pub joined_apart : ((h : Holding) (d : Cref) → Contains s.start h → Contains lemmas d → d.address ≢ h.address) → (h : Holding) (d : Cref) → Contains s.start h → Contains (lemmas ++ c ∷ []) d → d.address ≢ h.address
+  joined_apart p h d there m = elim (In_append lemmas (c ∷ []) d (Contains_In (lemmas ++ c ∷ []) d m)) as (λ _. d.address ≢ h.address) [
+    | inl old ↦ p h d there (In_Contains lemmas d old)
+    | inr (inl is) ↦ (λ e. new_apart h there (ap (λ (x : Cref). x.address) is ∙ e))
+    | inr (inr none) ↦ absurd none
+  ]
+
+-- a lemma was learned, and listed where it has an address
+pub listed_learned : (s u w : PortState) (old new : Ring) (lits : List Literal) (glue : ℕ) (address : Option Cref) → HasClauses s (attached old.watches) → Learned s u lits glue (Ok address)
+    → w.start ≡ u.start → recent w.ring w.mine ≡ recent u.ring u.mine → Lists old new address → attached new.watches ≡ attached old.watches ++ option_to_list address → new.learned ≡ old.learned + 1 → HasLemmas s old → HasLemmas w new
+listed_learned s u w old new lits glue (Some c) clauses k start lately lists now count p =
+    let items : new.lemmas.items ≡ old.lemmas.items ++ c ∷ [] = lists.lemmas in
+    let cs = attached old.watches in
+    record {
+      distinct = subst AreDistinct (sym items) (joined_distinct s u cs old.lemmas.items lits glue c clauses k p.member p.distinct);
+      member = subst (λ (ds : List Cref). All (Contains ds) new.lemmas.items) (sym now)
+          (subst (All (Contains (cs ++ c ∷ []))) (sym items) (joined_member s u cs old.lemmas.items lits glue c clauses k p.member));
+      apart = λ h d there m. joined_apart s u cs old.lemmas.items lits glue c clauses k p.member p.apart h d
+          (subst (λ (hs : List Holding). Contains hs h) (start ∙ ap (λ (x : PortState). x.start) k.state) there) (subst (λ (ds : List Cref). Contains ds d) items m);
+      count = (let many = ap (λ (ls : List (List Literal)). length ls) lately in
+          let more = recent_lemma s u k.number lits (ap (λ (x : PortState). x.ring) k.state) (ap (λ (x : PortState). x.mine) k.state) in
+          omega (arith, p.count, count, lists.reduced_at, many, more));
+      few = omega (arith, p.few, lists.reductions, lists.reduced_at);
+    }
+listed_learned s u w old new lits glue None clauses k start lately lists now count p =
+    let items : new.lemmas.items ≡ old.lemmas.items = lists.lemmas ∙ append-nil old.lemmas.items in
+    let same : attached new.watches ≡ attached old.watches = now ∙ append-nil (attached old.watches) in
+    record {
+      distinct = subst AreDistinct (sym items) p.distinct;
+      member = subst (λ (ds : List Cref). All (Contains ds) new.lemmas.items) (sym same) (subst (All (Contains (attached old.watches))) (sym items) p.member);
+      apart = λ h d there m. p.apart h d (subst (λ (hs : List Holding). Contains hs h) (start ∙ ap (λ (x : PortState). x.start) k.wrote.state) there) (subst (λ (ds : List Cref). Contains ds d) items m);
+      count = (let many = ap (λ (ls : List (List Literal)). length ls) lately in
+          let more = recent_lemma s u k.wrote.number (k.lit ∷ []) (ap (λ (x : PortState). x.ring) k.wrote.state) (ap (λ (x : PortState). x.mine) k.wrote.state) in
+          omega (arith, p.count, count, lists.reduced_at, many, more));
+      few = omega (arith, p.few, lists.reductions, lists.reduced_at);
+    }
+
+-- where the conflict was left
+pub left_lists : (s : PortState) (old new : Ring) (lits : List Literal) (back : ℕ) (address : Option Cref) → HasLeft s old new lits back address → Lists old new address × (attached new.watches ≡ attached old.watches ++ option_to_list address)
+left_lists s old new lits back address (inl at) = (at.listed, at.clauses)
+left_lists s old new lits back address (inr at) = (at.1.listed, at.1.clauses)

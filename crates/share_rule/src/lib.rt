@@ -2,8 +2,8 @@
 //! the passes show is a state of the core that enabled events leave, so a sound one.
 //!
 //! A `Pass` is a seat at the table. It moves the words of the rings whose parts it has, by the steps of `plays`,
-//! `turn_plays` and `unit_plays`; the crates above take them. `laws`, `turn_laws` and `unit_laws` say of each step which
-//! event of the core it is.
+//! `turn_plays`, `exchange_plays` and `unit_plays`; the crates above take them. `laws`, `turn_laws`, `exchange_laws` and
+//! `unit_laws` say of each step which event of the core it is.
 #![tactic(auto)]
 
 mod closing;

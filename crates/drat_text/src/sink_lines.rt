@@ -1,11 +1,12 @@
 // The lines of a log as the text of a DRAT proof.
-ghost use Rattle.std.specs.Prelude.{◌≡◌, ◌≤◌, ◌<◌, ◌+◌, ◌^◌, [], true, false, length, is_err, IfOk, IfErr, OnOk, OnErr};
+ghost use Rattle.std.specs.Prelude.{◌≡◌, ◌≢◌, Err, ◌≤◌, ◌<◌, ◌+◌, ◌^◌, [], true, false, length, is_err, IfOk, IfErr, OnOk, OnErr};
 ghost use Rattle.std.specs.Io.KnownBytes.{append_known};
 ghost use Rattle.io_edge.specs.Bytes.{IsFront};
 ghost use Rattle.io_edge.specs.Causes.{HasCause};
 ghost use Rattle.io_edge.specs.Paths.{IsEmptyWhereTold};
 ghost use Rattle.drat_text.specs.SinkData.{SinkData, told_by};
 ghost use Rattle.drat_text.specs.LineOut.{WasPut};
+ghost use Rattle.drat_text.specs.declared.stop.LineStop.TheVariants.{Memory};
 ghost use Rattle.drat_text.specs.Text.{line_text};
 ghost use Rattle.drat_text.specs.declared.blocks.TheConstants.{BLOCK};
 
@@ -99,6 +100,7 @@ impl<S: Sink> LineOut for SinkLines<S> {
     fn put(&mut self, line: &Line) -> Result<u64, LineStop>
         requires unspent { self.old.spent ≡ false }
         ensures put { WasPut (told_by S.written S.flushed S.target S.faults self.old) (told_by S.written S.flushed S.target S.faults self.new) line.now result }
+        ensures memory { result ≢ Err Memory }
         ensures gathers { length self.old.waiting + length (line_text line.now) < BLOCK → self.new.sink ≡ self.old.sink }
     {
         if self.numbers.is_full() {

@@ -1,0 +1,75 @@
+use Rattle.std.proofs.Common.{◌≡◌, ◌≢◌, ◌∙◌, ◌+◌, ◌<◌, ◌≤◌, ◌^◌, ◌∷◌, [], ◌++◌, ◌||◌, ℕ, suc, List, Bool, true, false, not, length, append-nil, Option, Some, sym, ap, refl, subst, arith}
+use Rattle.std.specs.Option.{unwrap_or}
+use Rattle.sat_words.specs.Literal.{Literal}
+use Rattle.sat_words.specs.Clause.{is_empty}
+use Rattle.sat_words.specs.declared.line.Line.{Line}
+use Rattle.sat_words.specs.declared.line.Line.TheVariants.{Add as AddLine, Del as DelLine}
+use Rattle.clause_cell.specs.declared.holes.Hole.{Hole}
+use Rattle.clause_cell.specs.Packing.{words_for}
+use Rattle.clause_cell.specs.Free.{is_clear, with_range, without_fit, first_fit}
+use Rattle.rup_model.specs.Journal.{book, lines}
+use Rattle.share_rule.specs.declared.note.Note.{Note}
+use Rattle.share_rule.specs.declared.note.Note.TheVariants.{Clause, Empty, Reduce, Bury}
+use Rattle.share_rule.specs.declared.view.View.{View}
+use Rattle.share_rule.specs.Room.{Room, room, with_clause, without_words}
+use Rattle.share_rule.specs.Turns.{next_number}
+use Rattle.share_rule.specs.Views.{only}
+use Rattle.share_rule.proofs.Sheets.{long_entry}
+use Rattle.drat_text.specs.Text.{text}
+use Rattle.log_book.specs.Books.{HoldsText, told_of, AreAlike, HasPut, HasFailed}
+use Rattle.log_book.specs.Turns.{sheet, waiting}
+use Rattle.log_book.specs.declared.book.Book.{Book}
+use Rattle.log_book.proofs.Standings.{line_turn, failed_turn, note_turn, alike_turn}
+use Rattle.log_book.proofs.Waits.{Waits, waits_so, waits_clear, not_empty}
+use Rattle.log_book.proofs.turn.Turn.write_clause.Goals as goal
+
+pub returns-in-Ok-write-clause-added : goal.returns-in-Ok-write-clause-added
+returns-in-Ok-write-clause-added g c =
+    let v : View = c.args.pass.now.me.0 in
+    let t = c.args.self.now in
+    let h = c.requires.turn in
+    let could = c.in_default.ensures.going in
+    let same = c.make_room.ensures.same in
+    let lits : List Literal = c.args.lits.now in
+    let a : ℕ = c.in-Ok-take.address in
+    let note : Note = Clause c.args.kind lits c.args.glue a in
+    let m : Room = room v.layout v.opening (sheet v t).journal in
+    let need : ℕ = words_for (length lits) in
+    let need_is : c.words_for-need.result ≡ need = c.words_for-need.ensures in
+    let holes_are : c.make_room.new.self.book.holes ≡ m.holes = same.holes ∙ h.stands.holes (h.stands.faulty ∙ ap not could.1) in
+    let fit : first_fit need m.holes ≡ Some a = (λ i. first_fit (sym need_is i) (sym holes_are i)) ∙ c.in-Ok-take.ensures.found in
+    let k = c.requires.note.0 in
+    let long = (k.1).long in
+    let copied : c.in-Ok-from_slice.noted ≡ lits = c.in-Ok-from_slice.ensures in
+    let noted_is = c.push_reserved.ensures.items ∙ (λ i. c.make_room.ensures.noted.0 i ++ Clause c.args.kind (copied i) c.args.glue a ∷ []) in
+    let last = h.stands.log.last in
+    record {
+      noted = noted_is;
+      refused = c.make_room.ensures.noted.1;
+      turn = line_turn g.S.Sink.written g.S.Sink.flushed g.S.Sink.target g.S.Sink.faults v t c.requires.seen h note could (k.0, k.1, k.2, k.3, fit) _ refl _ (AddLine c.in-Ok.copy) _ (λ i. AddLine (sym c.in-Ok.ensures i) ∷ []) noted_is c.make_room.ensures.noted.1
+          _ same.lines same.entries same.ended same.kept c.write.new.self c.in-Ok-write.ensures refl refl refl refl
+          (c.in-Ok-write.ensures.holes ∙ c.in-Ok-take.ensures.left ∙ (λ i. without_fit (need_is i) (holes_are i)) ∙ sym (ap (λ (q : Room). q.holes) (long_entry m (next_number v.opening (sheet v t).journal) lits (only v).core.ring c.args.kind long ∙ ap (with_clause (next_number v.opening (sheet v t).journal) (length lits) m) fit)))
+          (omega arith) (ap is_empty c.in-Ok.ensures ∙ (not_empty lits long).0 ∙ sym (not_empty lits long).1);
+      going = could;
+    }
+
+pub returns-in-Err-write-clause-stopped : goal.returns-in-Err-write-clause-stopped
+returns-in-Err-write-clause-stopped g c =
+    let v : View = c.args.pass.now.me.0 in
+    let t = c.args.self.now in
+    let h = c.requires.turn in
+    let could = c.in_default.ensures.going in
+    let same = c.make_room.ensures.same in
+    let lits : List Literal = c.args.lits.now in
+    let a : ℕ = c.in-Ok-take.address in
+    let note : Note = Clause c.args.kind lits c.args.glue a in
+    let m : Room = room v.layout v.opening (sheet v t).journal in
+    let need : ℕ = words_for (length lits) in
+    let need_is : c.words_for-need.result ≡ need = c.words_for-need.ensures in
+    let holes_are : c.make_room.new.self.book.holes ≡ m.holes = same.holes ∙ h.stands.holes (h.stands.faulty ∙ ap not could.1) in
+    let fit : first_fit need m.holes ≡ Some a = (λ i. first_fit (sym need_is i) (sym holes_are i)) ∙ c.in-Ok-take.ensures.found in
+    let k = c.requires.note.0 in
+    let long = (k.1).long in
+    let f = failed_turn g.S.Sink.written g.S.Sink.flushed g.S.Sink.target g.S.Sink.faults v t c.requires.seen h note could (k.0, k.1, k.2, k.3, fit) _ refl _ (AddLine c.in-Ok.copy) (λ i. AddLine (sym c.in-Ok.ensures i) ∷ []) c.make_room.ensures.noted.0 c.make_room.ensures.noted.1
+    _ same.lines same.entries same.ended c.write.new.self c.in-Err-write.ensures refl refl refl in
+    record { noted = c.make_room.ensures.noted.0; refused = c.make_room.ensures.noted.1; turn = f.0; grounded = f.1; alike = λ ne. absurd (ne refl) }

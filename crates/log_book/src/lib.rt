@@ -1,0 +1,22 @@
+//! The log behind its turn. The book has the proof's sink, the numbers of its lines, and the words that are free for
+//! cells. While rings run it lies in the shared table's slot; whoever has the turn takes it out, writes, and brings it
+//! home. Before the rings it takes lines as any line output does.
+//!
+//! The text streams: it gathers in a block that is written whenever it is full, so that a write may end inside a line,
+//! and the lines themselves are kept only where that is asked for.
+#![tactic(auto)]
+
+mod book;
+mod book_lines;
+mod calls;
+mod kept;
+mod steps;
+mod stop;
+mod turn;
+mod turns;
+mod writes;
+
+pub use book::Book;
+pub use stop::TurnStop;
+pub use turn::Turn;
+pub use turns::{give_turn, take_turn, try_turn};

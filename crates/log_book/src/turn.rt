@@ -1,0 +1,13 @@
+// The turn.
+use crate::book::Book;
+use share_rule::{Note, Refusal};
+
+/// What a ring has while the turn is its own: the book, and what it wrote since it took it. It must be given back.
+pub struct Turn<S> {
+    /// The book.
+    pub book: Book<S>,
+    /// What was written, in order.
+    pub noted: Vec<Note>,
+    /// What was refused last.
+    pub refused: Option<Refusal>,
+}

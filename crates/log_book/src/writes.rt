@@ -1,0 +1,193 @@
+// What a turn writes.
+ghost use Rattle.std.specs.Prelude.{◌≡◌, MatchResult, false, ℕ, ◌+◌, ◌^◌, ◌<◌, ◌≤◌, ◌∷◌, [], ◌++◌, length, IfOk, IfErr, OnOk, OnErr, vec_len, vec_capacity};
+ghost use Rattle.clause_cell.specs.Packing.{words_for};
+ghost use Rattle.share_rule.specs.declared.note.Note.TheVariants.{Clause, Unit as UnitNote, Empty, Reduce, Bury};
+ghost use Rattle.share_rule.specs.Seen.{Seen};
+ghost use Rattle.share_rule.specs.Turns.{next_number};
+ghost use Rattle.log_book.specs.Books.{AreAlike, HasPut, HasFailed};
+ghost use Rattle.log_book.specs.Kept.{IsReady};
+ghost use Rattle.log_book.specs.Turns.{IsTurn, MayNext, MayAdd, Grown, Stopped, Refused, IsGrounded, IsCause, IsAddCause, CouldWrite, waiting, sheet, noted_as};
+ghost use Rattle.log_book.specs.declared.stop.TurnStop.TheVariants as stop;
+
+use crate::book::Book;
+use crate::stop::TurnStop;
+use crate::turn::Turn;
+use clause_cell::words_for;
+use io_edge::{Failed, Sink};
+use rup_model::Kind;
+use sat_words::{Cref, Line, Lit, Lits};
+use share_rule::{Note, Pass};
+use std::alloc::Global;
+
+impl<S: Sink> Turn<S> {
+    pub(crate) fn write_unit(
+        &mut self,
+        alloc: Global,
+        pass: &Pass<Book<S>>,
+        kind: Kind,
+        lit: Lit,
+    ) -> Result<u64, TurnStop>
+        requires seen { Seen pass.now.me.0 }
+        requires turn { IsTurn S.written S.flushed S.target S.faults pass.now.me.0 self.old }
+        requires note { MayNext pass.now.me.0 self.old (UnitNote kind lit) }
+        ensures added { OnOk result (Grown S.written S.flushed S.target S.faults pass.now.me.0 self.old self.new (UnitNote kind lit)) }
+        ensures number { IfOk result (λ n. n ≡ next_number pass.now.me.0.opening (sheet pass.now.me.0 self.old).journal) }
+        ensures stopped { IfErr result (Stopped S.written S.flushed S.target S.faults pass.now.me.0 self.old self.new) }
+        ensures cause { IfErr result (IsCause S.faults pass.now.me.0 self.old self.new) }
+    {
+        if let Err(stop) = self.test(pass) {
+            return Err(stop);
+        }
+        let Ok(lits) = Lits::from_slice(alloc, &[lit]) else {
+            return Err(TurnStop::Memory);
+        };
+        let line = Line::Add(lits);
+        if self.make_room(&line).is_err() {
+            return Err(TurnStop::Memory);
+        }
+        match self.book.write(&line) {
+            Ok(number) => {
+                self.noted.push_reserved(Note::Unit { kind, lit });
+                Ok(number)
+            }
+            Err(Failed) => Err(TurnStop::ProofFault),
+        }
+    }
+
+    pub(crate) fn write_empty(
+        &mut self,
+        alloc: Global,
+        pass: &Pass<Book<S>>,
+    ) -> Result<(), TurnStop>
+        requires seen { Seen pass.now.me.0 }
+        requires turn { IsTurn S.written S.flushed S.target S.faults pass.now.me.0 self.old }
+        requires note { MayNext pass.now.me.0 self.old Empty }
+        ensures added { OnOk result (Grown S.written S.flushed S.target S.faults pass.now.me.0 self.old self.new Empty) }
+        ensures stopped { IfErr result (Stopped S.written S.flushed S.target S.faults pass.now.me.0 self.old self.new) }
+        ensures cause { IfErr result (IsCause S.faults pass.now.me.0 self.old self.new) }
+    {
+        if let Err(stop) = self.test(pass) {
+            return Err(stop);
+        }
+        let line = Line::Add(Lits::from_vec(Vec::new(alloc)));
+        if self.make_room(&line).is_err() {
+            return Err(TurnStop::Memory);
+        }
+        match self.book.write(&line) {
+            Ok(_) => {
+                self.noted.push_reserved(Note::Empty);
+                Ok(())
+            }
+            Err(Failed) => Err(TurnStop::ProofFault),
+        }
+    }
+
+    pub(crate) fn write_reduction(&mut self, pass: &Pass<Book<S>>) -> Result<(), TurnStop>
+        requires seen { Seen pass.now.me.0 }
+        requires turn { IsTurn S.written S.flushed S.target S.faults pass.now.me.0 self.old }
+        requires note { MayNext pass.now.me.0 self.old Reduce }
+        ensures added { OnOk result (Grown S.written S.flushed S.target S.faults pass.now.me.0 self.old self.new Reduce) }
+        ensures stopped { IfErr result (Stopped S.written S.flushed S.target S.faults pass.now.me.0 self.old self.new) }
+        ensures cause { IfErr result (IsCause S.faults pass.now.me.0 self.old self.new) }
+    {
+        if let Err(stop) = self.test(pass) {
+            return Err(stop);
+        }
+        if self.noted.reserve(1).is_err() {
+            return Err(TurnStop::Memory);
+        }
+        self.book.count_reduction();
+        self.noted.push_reserved(Note::Reduce);
+        Ok(())
+    }
+
+    pub(crate) fn write_deletion(
+        &mut self,
+        alloc: Global,
+        pass: &Pass<Book<S>>,
+        cell: Cref,
+        lits: &[Lit],
+    ) -> Result<(), TurnStop>
+        requires seen { Seen pass.now.me.0 }
+        requires turn { IsTurn S.written S.flushed S.target S.faults pass.now.me.0 self.old }
+        requires note { MayNext pass.now.me.0 self.old (Bury cell.address) }
+        requires clause { (lits.now ≡ (waiting pass.now.me.0 self.old cell.address).lits) × (length lits.now ≤ 2 ^ 31) }
+        ensures added { OnOk result (Grown S.written S.flushed S.target S.faults pass.now.me.0 self.old self.new (Bury cell.address)) }
+        ensures stopped { IfErr result (Stopped S.written S.flushed S.target S.faults pass.now.me.0 self.old self.new) }
+        ensures cause { IfErr result (IsCause S.faults pass.now.me.0 self.old self.new) }
+    {
+        if let Err(stop) = self.test(pass) {
+            return Err(stop);
+        }
+        let Ok(copy) = Lits::from_slice(alloc, lits) else {
+            return Err(TurnStop::Memory);
+        };
+        let line = Line::Del(copy);
+        if self.make_room(&line).is_err() {
+            return Err(TurnStop::Memory);
+        }
+        let words = words_for(lits.len() as u32);
+        let Ok(()) = self.book.holes.give(cell.address, words) else {
+            return Err(TurnStop::Memory);
+        };
+        match self.book.write(&line) {
+            Ok(_) => {
+                self.noted.push_reserved(Note::Bury {
+                    address: cell.address,
+                });
+                Ok(())
+            }
+            Err(Failed) => Err(TurnStop::ProofFault),
+        }
+    }
+
+    pub(crate) fn write_clause(
+        &mut self,
+        alloc: Global,
+        pass: &Pass<Book<S>>,
+        kind: Kind,
+        lits: &[Lit],
+        glue: u32,
+    ) -> Result<Cref, TurnStop>
+        requires seen { Seen pass.now.me.0 }
+        requires turn { IsTurn S.written S.flushed S.target S.faults pass.now.me.0 self.old }
+        requires note { MayAdd pass.now.me.0 self.old kind lits.now × (length lits.now ≤ 2 ^ 31) }
+        ensures added { IfOk result (λ c. Grown S.written S.flushed S.target S.faults pass.now.me.0 self.old self.new (Clause kind lits.now glue c.address)) }
+        ensures stopped { IfErr result (Stopped S.written S.flushed S.target S.faults pass.now.me.0 self.old self.new) }
+        ensures cause { IfErr result (IsAddCause S.faults pass.now.me.0 self.old self.new (length lits.now)) }
+    {
+        if let Err(stop) = self.test(pass) {
+            return Err(stop);
+        }
+        let need = words_for(lits.len() as u32);
+        let largest = self.book.holes.largest();
+        if need > largest {
+            return Err(TurnStop::NoHole { need, largest });
+        }
+        let Ok(copy) = Lits::from_slice(alloc, lits) else {
+            return Err(TurnStop::Memory);
+        };
+        let Ok(noted) = Lits::from_slice(alloc, lits) else {
+            return Err(TurnStop::Memory);
+        };
+        let line = Line::Add(copy);
+        if self.make_room(&line).is_err() {
+            return Err(TurnStop::Memory);
+        }
+        let Ok(address) = self.book.holes.take(need) else {
+            unreachable!()
+        };
+        match self.book.write(&line) {
+            Ok(_) => {
+                self.noted.push_reserved(Note::Clause {
+                    kind,
+                    lits: noted,
+                    glue,
+                    address,
+                });
+                Ok(Cref { address })
+            }
+            Err(Failed) => Err(TurnStop::ProofFault),
+        }
+    }
+}

@@ -1,0 +1,86 @@
+use Rattle.share_rule.specs.Books.{StandsFor}
+use Rattle.share_rule.specs.Views.{is_ready}
+use Rattle.std.proofs.Common.{◌≡◌, ◌∙◌, ◌+◌, ◌*◌, ◌^◌, ◌<◌, ◌≤◌, ℕ, [], ◌∷◌, List, length, sym, ap, arith, subst}
+use Rattle.std.specs.Prelude.{slice_index_or}
+use Rattle.sat_words.specs.Literal.{Literal, code_of}
+use Rattle.share_rule.specs.declared.Layout.{Layout}
+use Rattle.share_rule.specs.declared.view.RingPart.{RingPart}
+use Rattle.share_rule.specs.declared.view.View.{View}
+use Rattle.share_rule.specs.Layout.{unit_at}
+use Rattle.share_rule.specs.Views.{only, no_part}
+use Rattle.share_rule.specs.Layout.{InVars}
+use Rattle.share_rule.specs.Units.{count_part, after_count, next_unit_at}
+use Rattle.share_rule.proofs.Listing.{counts_it, sees_it, seen_room}
+use Rattle.share_rule.proofs.UnitWords.{only_changed}
+use Rattle.unit_share.proofs.Codes.{UnitCode, unit_code}
+use Rattle.unit_share.proofs.units.next_unit.Goals as goal
+
+pub load-listed-requires : goal.load-listed-requires
+load-listed-requires g c =
+    let table = c.args.table.now in
+    let size = table.sized in
+    let p = c.requires.pass in
+    (p.0, omega arith, counts_it (StandsFor g.B.Ledger.account g.B.Ledger.stands) table.table.shared.key table.table.shared.table_id.slots c.args.pass.now.id c.args.pass.now.me p.1 c.requires.ring.0)
+
+pub overflow_add-table-2 : goal.overflow_add-table-2
+overflow_add-table-2 g c =
+    let p = c.requires.pass in
+    let few = (seen_room c.args.pass.now.me.0 p.3 c.requires.ring.0).0 in
+    let e = c.requires.ring.1 in
+    let vars = c.args.table.now.vars in
+    let same = ap (λ (l : Layout). l.vars) p.2 in
+    let rings = c.args.table.now.rings in
+    omega arith
+
+pub load-code-requires : goal.load-code-requires
+load-code-requires g c =
+    let table = c.args.table.now in
+    let size = table.sized in
+    let p = c.requires.pass in
+    let v : View = c.args.pass.now.me.0 in
+    let few = (seen_room v p.3 c.requires.ring.0).0 in
+    let e = c.requires.ring.1 in
+    let same = ap (λ (l : Layout). l.vars) p.2 in
+    let rings = ap (λ (l : Layout). l.rings) p.2 in
+    let x = c.load-listed.ensures in
+    let n : ℕ = c.load-listed.result in
+    let me = c.load-listed.new.seat.me in
+    let is : me.0 ≡ after_count n v = x.2.0.1 in
+    let only_is : only (after_count n v) ≡ count_part n (only v) = ap (λ (ps : List RingPart). slice_index_or ps 0 no_part) (only_changed (count_part n) v c.requires.ring.0) in
+    let one : (after_count n v).parts ≡ only (after_count n v) ∷ [] = only_changed (count_part n) v c.requires.ring.0 ∙ (λ i. sym only_is i ∷ []) in
+    let ne = c.if-listed-seen.false in
+    let le = x.2.1 in
+    let lt : length (only v).core.seen < n = omega arith in
+    let most : n ≤ 2 * v.layout.vars = subst (λ (q : RingPart). q.listed ≤ 2 * v.layout.vars) only_is (seen_room (after_count n v) x.2.0.2 one).1 in
+    let lt' : length (only (after_count n v)).core.seen < (only (after_count n v)).listed = subst (λ (q : RingPart). length q.core.seen < q.listed) (sym only_is) lt in
+    let w_is : 3 + table.layout.rings + c.args.seen ≡ next_unit_at (after_count n v) = subst (λ (q : RingPart). 3 + table.layout.rings + c.args.seen ≡ unit_at v.layout (length q.core.seen)) (sym only_is) (omega arith) in (
+      x.0 ∙ p.0,
+      omega arith,
+      sees_it (StandsFor g.B.Ledger.account g.B.Ledger.stands) table.table.shared.key table.table.shared.table_id.slots c.load-listed.new.seat.id me (3 + table.layout.rings + c.args.seen)
+          (ap (λ (u : View). is_ready u.stage) is ∙ p.1) (subst (λ (u : View). u.parts ≡ only u ∷ []) (sym is) one) (subst (λ (u : View). length (only u).core.seen < (only u).listed) (sym is) lt') (w_is ∙ ap next_unit_at (sym is)),
+    )
+
+-- the code that was read
+read : (vars : ℕ) (l m : Layout) (lit : Literal) (code : ℕ) → l.vars ≤ vars → m ≡ l → InVars m (lit ∷ []) → code ≡ code_of lit → UnitCode vars code lit
+read vars l m lit code few same h e =
+    let u = unit_code m lit code h e in
+    let le = ap (λ (k : Layout). k.vars) same in
+    let hi = u.high in
+    record { low = u.low; high = omega arith; literal = u.literal }
+
+pub overflow_cast-code : goal.overflow_cast-code
+overflow_cast-code g c =
+    let t = c.load-code.ensures.2 in
+    let u = read (2 ^ 30) c.args.table.now.layout c.load-listed.new.seat.me.0.layout t.0 c.load-code.result c.args.table.now.vars (ap (λ (v : View). v.layout) c.load-listed.ensures.2.0.1 ∙ c.requires.pass.2) t.2 t.1 in
+    let hi = u.high in
+    omega arith
+
+pub new-requires-clause-low : goal.new-requires-clause-low
+new-requires-clause-low g c =
+    let t = c.load-code.ensures.2 in
+    (read (2 ^ 30) c.args.table.now.layout c.load-listed.new.seat.me.0.layout t.0 c.load-code.result c.args.table.now.vars (ap (λ (v : View). v.layout) c.load-listed.ensures.2.0.1 ∙ c.requires.pass.2) t.2 t.1).low
+
+pub new-requires-clause-high : goal.new-requires-clause-high
+new-requires-clause-high g c =
+    let t = c.load-code.ensures.2 in
+    (read (2 ^ 30) c.args.table.now.layout c.load-listed.new.seat.me.0.layout t.0 c.load-code.result c.args.table.now.vars (ap (λ (v : View). v.layout) c.load-listed.ensures.2.0.1 ∙ c.requires.pass.2) t.2 t.1).high

@@ -108,12 +108,12 @@ fn job_of<P: Sink>(
     vars: u32,
     plan: &Plan,
 ) -> Result<Job, AllocError>
-    requires vars { vars ≡ port.now.vars }
+    requires vars { vars ≡ port.now.state.vars }
     requires few { vars < 2 ^ 28 }
     requires some { 1 ≤ plan.now.limit }
-    requires ring { port.now.ring ≡ 0 }
-    requires rings { port.now.rings ≡ 1 }
-    ensures job { IfOk result (IsJobOf port.now) }
+    requires ring { port.now.state.ring ≡ 0 }
+    requires rings { port.now.state.rings ≡ 1 }
+    ensures job { IfOk result (IsJobOf port.now.state) }
     ensures limit { IfOk result (λ job. job.conflicts ≡ plan.now.limit) }
     ensures seed { IfOk result (λ job. job.seed ≡ plan.now.seed) }
 {

@@ -39,7 +39,7 @@ pub(crate) fn open_port<S: Sink>(
     requires unspent { (logged_by S.written S.flushed S.target S.faults lines).spent ≡ false }
     requires starts_on { All (λ s. All (IsOn vars) s.1) start.items }
     requires units_on { All (IsOn vars) units.items }
-    ensures opened { IfOk result (λ port. HasOpened vars start.items units.items (logged_by S.written S.flushed S.target S.faults lines) port) }
+    ensures opened { IfOk result (λ port. HasOpened vars start.items units.items (logged_by S.written S.flushed S.target S.faults lines) port.state) }
     ensures back { IfErr result (λ refused. refused.value ≡ lines) }
 {
     let Ok(starts) = starts_of(alloc, start.as_slice()) else {

@@ -23,12 +23,16 @@ use Rattle.rup_model.proofs.Lists.{In, Contains_In}
 use Rattle.ring_port.specs.PortState.{Holding, PortState, AreApart, IsPort, IsKept, IsOn, IsStop, held_at, head_of, lits_in}
 use Rattle.ring_port.specs.Port.{KeepsHeld, WroteUnit, Refused, after_refusal}
 use Rattle.ring_port.specs.OwnLog.{LogData}
-use Rattle.ring_port.specs.PlainPort.{PlainData, kept_at, state_of, IsIndexed, IsOwnStop, IsPlain}
+use Rattle.ring_port.specs.PlainPort.{PlainData, PlainView, kept_at, state_of, IsIndexed, IsOwnStop, IsPlain}
 use Rattle.ring_port.specs.Deleting.{without_one, DroppedOnce}
 use Rattle.ring_port.proofs.Holdings.{holding, found_in_front, All_In}
 use Rattle.ring_port.proofs.StoreLemmas.{slice_get_is}
 use Rattle.ring_port.proofs.LogSteps.{In_All, one_All}
 use Rattle.ring_port.proofs.Dropping.{some_inside, some_In, get_in_front, get_behind, is_at, none_at, never_at, found_address, find_In, apart_pushed, All_without, apart_without, find_other, gone, still_none, kept_pushed_at, kept_first, kept_grown, All_kept}
+
+-- equal ports have equal states
+pub state_is : {v w : PlainView} → v ≡ w → v.state ≡ w.state
+state_is e = ap (λ (v : PlainView). v.state) e
 
 -- the place of a clause that is held
 pub place_of : (p : PlainData) (h : Holding) → IsPlain p → In h p.held → slice_get p.all h.address ≡ Some h

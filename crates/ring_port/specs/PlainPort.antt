@@ -98,6 +98,11 @@ pub record IsPlain (p : PlainData) : Type 0 where
   pub written : All (IsOn p.vars) p.written
   pub stop : IfSome p.stop IsOwnStop
 
+-- what a port in memory tells: its state, and how often the head or a literal of a clause was read
+pub record PlainView : Type 0 where
+  pub state : PortState
+  pub loads : ℕ
+
 -- How it begins
 
 -- the start clauses, each with its number

@@ -1,11 +1,13 @@
-ghost use Rattle.std.specs.Prelude.{◌≡◌, ◌≤◌, ◌∷◌, ◌⊎◌, [], true, Some, None, IfErr, IfSome, length};
+ghost use Rattle.std.specs.Prelude.{◌≡◌, ◌<◌, ◌≤◌, ◌∷◌, ◌⊎◌, [], true, Some, None, IfErr, IfSome, IsSome, length, slice_get};
 ghost use Rattle.sat_words.specs.Clause.{has};
+ghost use Rattle.sat_words.specs.declared.shared.TheConstants.{STOP_SAT, STOP_MEMORY};
 ghost use Rattle.rup_model.specs.Rup.{rup};
-ghost use Rattle.ring_port.specs.PortState.{IsPort, IsOn, known};
+ghost use Rattle.ring_port.specs.PortState.{IsPort, IsOn, held_at, lits_at, head_of, known, one_more};
 ghost use Rattle.ring_port.specs.Log.{KeepsLog};
-ghost use Rattle.ring_port.specs.Port.{is_usable, IsClause, Learned, Derived, KeepsHeld, UnitWritten, EmptyWritten, Took};
+ghost use Rattle.ring_port.specs.Port.{is_usable, IsClause, Learned, Derived, KeepsHeld, UnitWritten, EmptyWritten, Took, Looked, SetStop};
 ghost use Rattle.ring_port.specs.Reducing.{Noted};
-ghost use Rattle.ring_port.specs.Deleting.{Tidied};
+ghost use Rattle.ring_port.specs.Deleting.{Dropped, Tidied};
+ghost use Rattle.ring_port.specs.Exchange.{class_at, other_rings, OfferedAs};
 ghost use Rattle.ring_port.specs.PlainPort.{HasCauseAlone};
 
 use crate::opening_units::first_new_from;
@@ -17,30 +19,47 @@ use rup_model::Kind;
 use sat_words::{Cref, Head, Lit, Lits, Stop};
 
 impl<L: LineOut> Port for PlainPort<L> {
-    ghost state = { λ p. p };
+    ghost state = { λ p. p.state };
 
     fn vars(&self) -> u32 {
         self.vars
     }
 
-    fn head(&mut self, c: Cref) -> Head {
+    fn head(&mut self, c: Cref) -> Head
+        requires { IsSome (held_at self.old.state c.address) }
+        ensures value { IfSome (held_at self.old.state c.address) (λ h. result ≡ head_of h) }
+        ensures size { result.size ≡ length (lits_at self.old.state c.address) }
+        ensures same { self.new.state ≡ self.old.state }
+        ensures port { IsPort self.new.state }
+        ensures loads { self.new.loads ≡ one_more self.old.loads }
+    {
+        self.loads = self.loads.saturating_add(1);
         self.store.head(c)
     }
 
-    fn read_lit(&mut self, c: Cref, i: u32) -> Lit {
+    fn read_lit(&mut self, c: Cref, i: u32) -> Lit
+        requires held { IsSome (held_at self.old.state c.address) }
+        requires inside { i < length (lits_at self.old.state c.address) }
+        ensures value { slice_get (lits_at self.old.state c.address) i ≡ Some result }
+        ensures same { self.new.state ≡ self.old.state }
+        ensures port { IsPort self.new.state }
+        ensures loads { self.new.loads ≡ one_more self.old.loads }
+    {
+        self.loads = self.loads.saturating_add(1);
         self.store.lit(c, i)
     }
 
     fn learn(&mut self, lits: &[Lit], glue: u32) -> Result<Option<Cref>, PortStop>
-        requires usable { is_usable self.old.refused ≡ true }
+        requires usable { is_usable self.old.state.refused ≡ true }
         requires some { 1 ≤ length lits.now }
-        requires clause { IsClause self.old.vars lits.now }
-        requires rup { rup (known self.old) lits.now ≡ true }
-        ensures cause { HasCauseAlone self.old self.new result }
-        ensures learned { Learned self.old self.new lits.now glue result }
-        ensures kept { KeepsHeld self.old self.new }
-        ensures log { KeepsLog self.old self.new }
-        ensures port { IsPort self.new }
+        requires clause { IsClause self.old.state.vars lits.now }
+        requires rup { rup (known self.old.state) lits.now ≡ true }
+        ensures cause { HasCauseAlone self.old.state self.new.state result }
+        ensures learned { Learned self.old.state self.new.state lits.now glue result }
+        ensures kept { KeepsHeld self.old.state self.new.state }
+        ensures log { KeepsLog self.old.state self.new.state }
+        ensures port { IsPort self.new.state }
+        ensures loads { self.new.loads ≡ self.old.loads }
     {
         match lits {
             [lit] => {
@@ -52,39 +71,42 @@ impl<L: LineOut> Port for PlainPort<L> {
     }
 
     fn derive(&mut self, lits: &[Lit], glue: u32) -> Result<Cref, PortStop>
-        requires usable { is_usable self.old.refused ≡ true }
+        requires usable { is_usable self.old.state.refused ≡ true }
         requires long { 2 ≤ length lits.now }
-        requires clause { IsClause self.old.vars lits.now }
-        requires rup { rup (known self.old) lits.now ≡ true }
-        ensures cause { HasCauseAlone self.old self.new result }
-        ensures derived { Derived self.old self.new lits.now glue result }
-        ensures kept { KeepsHeld self.old self.new }
-        ensures log { KeepsLog self.old self.new }
-        ensures port { IsPort self.new }
+        requires clause { IsClause self.old.state.vars lits.now }
+        requires rup { rup (known self.old.state) lits.now ≡ true }
+        ensures cause { HasCauseAlone self.old.state self.new.state result }
+        ensures derived { Derived self.old.state self.new.state lits.now glue result }
+        ensures kept { KeepsHeld self.old.state self.new.state }
+        ensures log { KeepsLog self.old.state self.new.state }
+        ensures port { IsPort self.new.state }
+        ensures loads { self.new.loads ≡ self.old.loads }
     {
         self.put_clause(lits, glue, Kind::Derive)
     }
 
     fn unit(&mut self, lit: Lit) -> Result<(), PortStop>
-        requires usable { is_usable self.old.refused ≡ true }
-        requires on { IsOn self.old.vars lit }
-        requires rup { rup (known self.old) (lit ∷ []) ≡ true }
-        ensures cause { HasCauseAlone self.old self.new result }
-        ensures written { UnitWritten self.old self.new lit result }
-        ensures log { KeepsLog self.old self.new }
-        ensures port { IsPort self.new }
+        requires usable { is_usable self.old.state.refused ≡ true }
+        requires on { IsOn self.old.state.vars lit }
+        requires rup { rup (known self.old.state) (lit ∷ []) ≡ true }
+        ensures cause { HasCauseAlone self.old.state self.new.state result }
+        ensures written { UnitWritten self.old.state self.new.state lit result }
+        ensures log { KeepsLog self.old.state self.new.state }
+        ensures port { IsPort self.new.state }
+        ensures loads { self.new.loads ≡ self.old.loads }
     {
         let last = self.last;
         self.put_unit(lit, Kind::UnitLine, last)
     }
 
     fn empty(&mut self) -> Result<(), PortStop>
-        requires usable { is_usable self.old.refused ≡ true }
-        requires rup { rup (known self.old) [] ≡ true }
-        ensures cause { HasCauseAlone self.old self.new result }
-        ensures written { EmptyWritten self.old self.new result }
-        ensures log { KeepsLog self.old self.new }
-        ensures port { IsPort self.new }
+        requires usable { is_usable self.old.state.refused ≡ true }
+        requires rup { rup (known self.old.state) [] ≡ true }
+        ensures cause { HasCauseAlone self.old.state self.new.state result }
+        ensures written { EmptyWritten self.old.state self.new.state result }
+        ensures log { KeepsLog self.old.state self.new.state }
+        ensures port { IsPort self.new.state }
+        ensures loads { self.new.loads ≡ self.old.loads }
     {
         self.log.make_room()?;
         self.log
@@ -93,7 +115,13 @@ impl<L: LineOut> Port for PlainPort<L> {
         Ok(())
     }
 
-    fn drop_clause(&mut self, c: Cref) -> Result<(), PortStop> {
+    fn drop_clause(&mut self, c: Cref) -> Result<(), PortStop>
+        requires held { IsSome (held_at self.old.state c.address) }
+        ensures dropped { Dropped self.old.state self.new.state c.address result }
+        ensures log { KeepsLog self.old.state self.new.state }
+        ensures port { IsPort self.new.state }
+        ensures loads { self.new.loads ≡ self.old.loads }
+    {
         if self.waiting.push_back(c).is_err() {
             return Err(PortStop::Memory);
         }
@@ -102,10 +130,11 @@ impl<L: LineOut> Port for PlainPort<L> {
     }
 
     fn tidy(&mut self) -> Result<(), PortStop>
-        requires usable { is_usable self.old.refused ≡ true }
-        ensures tidied { Tidied self.old self.new result }
-        ensures log { KeepsLog self.old self.new }
-        ensures port { IsPort self.new }
+        requires usable { is_usable self.old.state.refused ≡ true }
+        ensures tidied { Tidied self.old.state self.new.state result }
+        ensures log { KeepsLog self.old.state self.new.state }
+        ensures port { IsPort self.new.state }
+        ensures loads { self.new.loads ≡ self.old.loads }
     {
         for _ in 0..self.waits() {
             self.delete_first()?;
@@ -114,18 +143,26 @@ impl<L: LineOut> Port for PlainPort<L> {
     }
 
     fn note_reduce(&mut self) -> Result<(), PortStop>
-        requires usable { is_usable self.old.refused ≡ true }
-        ensures cause { IfErr result (λ stop. (stop ≡ PortStop.Memory) ⊎ (self.old.ended ≡ true)) }
-        ensures noted { Noted self.old self.new result }
-        ensures log { KeepsLog self.old self.new }
-        ensures port { IsPort self.new }
+        requires usable { is_usable self.old.state.refused ≡ true }
+        ensures cause { IfErr result (λ stop. (stop ≡ PortStop.Memory) ⊎ (self.old.state.ended ≡ true)) }
+        ensures noted { Noted self.old.state self.new.state result }
+        ensures log { KeepsLog self.old.state self.new.state }
+        ensures port { IsPort self.new.state }
+        ensures loads { self.new.loads ≡ self.old.loads }
     {
         self.log.make_room()?;
         self.log.reduce()
     }
 
     /// There is no other ring.
-    fn offer(&mut self, _c: Cref) -> u64 {
+    fn offer(&mut self, _c: Cref) -> u64
+        requires class { IsSome (class_at self.old.state _c.address) }
+        ensures offered { OfferedAs self.old.state self.new.state (class_at self.old.state _c.address) _c.address }
+        ensures many { result ≡ length (other_rings self.old.state) }
+        ensures log { KeepsLog self.old.state self.new.state }
+        ensures port { IsPort self.new.state }
+        ensures loads { self.new.loads ≡ self.old.loads }
+    {
         self.last = None;
         0
     }
@@ -137,10 +174,11 @@ impl<L: LineOut> Port for PlainPort<L> {
     }
 
     fn next_unit(&mut self) -> Option<Lit>
-        ensures listed { IfSome result (λ lit. has self.old.opening lit ≡ true) }
-        ensures took { Took self.old self.new result }
-        ensures log { KeepsLog self.old self.new }
-        ensures port { IsPort self.new }
+        ensures listed { IfSome result (λ lit. has self.old.state.opening lit ≡ true) }
+        ensures took { Took self.old.state self.new.state result }
+        ensures log { KeepsLog self.old.state self.new.state }
+        ensures port { IsPort self.new.state }
+        ensures loads { self.new.loads ≡ self.old.loads }
     {
         let skipped = first_new_from(&self.opening, self.passed, &self.written)?;
         let place = self.passed + skipped;
@@ -150,7 +188,12 @@ impl<L: LineOut> Port for PlainPort<L> {
         Some(unit)
     }
 
-    fn stopped(&mut self) -> Option<Stop> {
+    fn stopped(&mut self) -> Option<Stop>
+        ensures looked { Looked self.old.state self.new.state result }
+        ensures log { KeepsLog self.old.state self.new.state }
+        ensures port { IsPort self.new.state }
+        ensures loads { self.new.loads ≡ self.old.loads }
+    {
         match self.stop {
             Some(stop) => Some(stop),
             None => {
@@ -160,7 +203,14 @@ impl<L: LineOut> Port for PlainPort<L> {
         }
     }
 
-    fn stop(&mut self, kind: u8) -> Set {
+    fn stop(&mut self, kind: u8) -> Set
+        requires low { STOP_SAT ≤ kind }
+        requires high { kind ≤ STOP_MEMORY }
+        ensures set { SetStop self.old.state self.new.state kind result }
+        ensures log { KeepsLog self.old.state self.new.state }
+        ensures port { IsPort self.new.state }
+        ensures loads { self.new.loads ≡ self.old.loads }
+    {
         match self.stop {
             Some(stop) => Set::Lost(stop),
             None => {

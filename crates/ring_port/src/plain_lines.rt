@@ -39,13 +39,14 @@ impl<L: LineOut> PlainPort<L> {
         kind: Kind,
         last: Option<Cref>,
     ) -> Result<(), PortStop>
-        requires usable { is_usable self.old.refused ≡ true }
-        requires on { IsOn self.old.vars lit }
-        requires rup { rup (known self.old) (lit ∷ []) ≡ true }
-        ensures cause { HasCauseAlone self.old self.new result }
-        ensures put { UnitPut self.old self.new lit kind (option_map (λ c. c.address) last) result }
-        ensures log { KeepsLog self.old self.new }
-        ensures port { IsPort self.new }
+        requires usable { is_usable self.old.state.refused ≡ true }
+        requires on { IsOn self.old.state.vars lit }
+        requires rup { rup (known self.old.state) (lit ∷ []) ≡ true }
+        ensures cause { HasCauseAlone self.old.state self.new.state result }
+        ensures put { UnitPut self.old.state self.new.state lit kind (option_map (λ c. c.address) last) result }
+        ensures log { KeepsLog self.old.state self.new.state }
+        ensures port { IsPort self.new.state }
+        ensures loads { self.new.loads ≡ self.old.loads }
     {
         self.log.make_room()?;
         if self.written.reserve(1).is_err() {
@@ -62,20 +63,21 @@ impl<L: LineOut> PlainPort<L> {
 
     /// How many clauses wait for their deletion.
     pub(crate) fn waits(&self) -> usize
-        ensures many { result ≡ length self.now.waiting }
-        ensures port { IsPort self.now }
+        ensures many { result ≡ length self.now.state.waiting }
+        ensures port { IsPort self.now.state }
     {
         queue_len(&self.waiting)
     }
 
     /// Writes the line that deletes the first clause that waits.
     pub(crate) fn delete_first(&mut self) -> Result<(), PortStop>
-        requires usable { is_usable self.old.refused ≡ true }
-        requires some { 1 ≤ length self.old.waiting }
-        ensures cause { HasCauseAlone self.old self.new result }
-        ensures tidied { TidiedFirst self.old self.new result }
-        ensures log { KeepsLog self.old self.new }
-        ensures port { IsPort self.new }
+        requires usable { is_usable self.old.state.refused ≡ true }
+        requires some { 1 ≤ length self.old.state.waiting }
+        ensures cause { HasCauseAlone self.old.state self.new.state result }
+        ensures tidied { TidiedFirst self.old.state self.new.state result }
+        ensures log { KeepsLog self.old.state self.new.state }
+        ensures port { IsPort self.new.state }
+        ensures loads { self.new.loads ≡ self.old.loads }
     {
         let c = self.waiting[0];
         self.log.make_room()?;
@@ -95,15 +97,16 @@ impl<L: LineOut> PlainPort<L> {
         glue: u32,
         kind: Kind,
     ) -> Result<Cref, PortStop>
-        requires usable { is_usable self.old.refused ≡ true }
+        requires usable { is_usable self.old.state.refused ≡ true }
         requires long { 2 ≤ length lits.now }
-        requires clause { IsClause self.old.vars lits.now }
-        requires rup { rup (known self.old) lits.now ≡ true }
-        ensures cause { HasCauseAlone self.old self.new result }
-        ensures put { ClausePut self.old self.new lits.now glue kind result }
-        ensures kept { KeepsHeld self.old self.new }
-        ensures log { KeepsLog self.old self.new }
-        ensures port { IsPort self.new }
+        requires clause { IsClause self.old.state.vars lits.now }
+        requires rup { rup (known self.old.state) lits.now ≡ true }
+        ensures cause { HasCauseAlone self.old.state self.new.state result }
+        ensures put { ClausePut self.old.state self.new.state lits.now glue kind result }
+        ensures kept { KeepsHeld self.old.state self.new.state }
+        ensures log { KeepsLog self.old.state self.new.state }
+        ensures port { IsPort self.new.state }
+        ensures loads { self.new.loads ≡ self.old.loads }
     {
         self.store.make_room(lits)?;
         self.log.make_room()?;

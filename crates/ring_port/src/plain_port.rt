@@ -32,31 +32,34 @@ pub struct PlainPort<L: LineOut> {
     pub(crate) last: Option<Cref>,
     pub(crate) stop: Option<Stop>,
     pub(crate) looks: u64,
+    pub(crate) loads: u64,
 }
 
 impl<L: LineOut> Model for PlainPort<L> {
     ghost use Rattle.std.specs.Prelude.{◌-◌, vec_len, vec_capacity};
-    ghost use Rattle.ring_port.specs.PortState.{PortState};
-    ghost use Rattle.ring_port.specs.PlainPort.{state_of, IsPlain};
+    ghost use Rattle.ring_port.specs.PlainPort.{PlainView, state_of, IsPlain};
 
-    ghost Value = { PortState };
+    ghost Value = { PlainView };
 
-    ghost view = { λ p. state_of (record {
-      vars = p.vars;
-      all = p.store.all;
-      held = p.store.held;
-      waiting = p.waiting.items;
-      begun = p.begun;
-      opening = p.opening.items;
-      passed = p.passed;
-      given = p.given.items;
-      given_room = vec_capacity p.given - vec_len p.given;
-      written = p.written.items;
-      log = p.log;
-      last = p.last;
-      stop = p.stop;
-      looks = p.looks;
-    }) };
+    ghost view = { λ p. record {
+      loads = p.loads;
+      state = state_of (record {
+        vars = p.vars;
+        all = p.store.all;
+        held = p.store.held;
+        waiting = p.waiting.items;
+        begun = p.begun;
+        opening = p.opening.items;
+        passed = p.passed;
+        given = p.given.items;
+        given_room = vec_capacity p.given - vec_len p.given;
+        written = p.written.items;
+        log = p.log;
+        last = p.last;
+        stop = p.stop;
+        looks = p.looks;
+      });
+    } };
 
     ghost invariant = { λ p. IsPlain (record {
       vars = p.vars;
@@ -102,10 +105,11 @@ impl<L: LineOut> PlainPort<L> {
         requires unspent { (L.told output).spent ≡ false }
         requires starts_on { All (λ s. All (IsOn vars) s.1) starts }
         requires units_on { All (IsOn vars) units.items }
-        ensures made { IfOk result (λ port. port ≡ begun_with vars starts units.items (L.told output)) }
-        ensures stands { IfOk result (λ port. (F : List (List Literal)) (J : List Entry) → OpensOver F (starts_of starts) units.items (L.told output) J → list_any is_empty F ≡ false → StandsOver (record { formula = F; journal = J; output = L.told output }) port) }
-        ensures holds { IfOk result HoldsStart }
-        ensures port { IfOk result IsPort }
+        ensures made { IfOk result (λ port. port.state ≡ begun_with vars starts units.items (L.told output)) }
+        ensures stands { IfOk result (λ port. (F : List (List Literal)) (J : List Entry) → OpensOver F (starts_of starts) units.items (L.told output) J → list_any is_empty F ≡ false → StandsOver (record { formula = F; journal = J; output = L.told output }) port.state) }
+        ensures holds { IfOk result (λ port. HoldsStart port.state) }
+        ensures port { IfOk result (λ port. IsPort port.state) }
+        ensures loads { IfOk result (λ port. port.loads ≡ 0) }
         ensures back { IfErr result (λ refused. refused.value ≡ output) }
     {
         let Ok(given) = Vec::with_capacity(alloc, units.len()) else {
@@ -128,19 +132,27 @@ impl<L: LineOut> PlainPort<L> {
             last: None,
             stop: None,
             looks: 0,
+            loads: 0,
         })
     }
 
     /// The addresses of the start clauses, in their order, in a vector of the caller's.
     pub fn start(&self, alloc: Global) -> Result<Vec<Cref>, AllocError>
-        ensures { IfOk result (λ refs. refs.items ≡ map (λ (h : Holding). record { address = h.address }) self.now.start) }
+        ensures { IfOk result (λ refs. refs.items ≡ map (λ (h : Holding). record { address = h.address }) self.now.state.start) }
     {
         addresses_below(alloc, self.begun as u64)
     }
 
+    /// How often the head or a literal of a clause was read, up to the last count of 64 bits.
+    pub fn loads(&self) -> u64
+        ensures { result ≡ self.now.loads }
+    {
+        self.loads
+    }
+
     /// Gives the line output back.
     pub fn into_lines(self) -> L
-        ensures { Some (L.told result) ≡ self.output }
+        ensures { Some (L.told result) ≡ self.state.output }
     {
         let PlainPort { log, .. } = self;
         log.into_output()

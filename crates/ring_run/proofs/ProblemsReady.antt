@@ -12,7 +12,7 @@ use Rattle.rup_model.specs.Opening.{is_rulers, IsRulersPart, IsStart}
 use Rattle.ring_port.specs.PortState.{IsOn}
 use Rattle.drat_text.specs.LineState.{LineState}
 use Rattle.ring_port.specs.PlainPort.{starts_of, CanOpen}
-use Rattle.ring_run.specs.Problems.{CanStart, lit, square, square_starts, chain, chain_starts, chain_units, triples, triples_starts, opposed, opposed_units, row, row_starts}
+use Rattle.ring_run.specs.Problems.{CanStart, lit, square, square_starts, chain, chain_starts, chain_units, triples, triples_starts, opposed, opposed_units, row, row_starts, ladder, ladder_starts}
 
 -- before the ruler has written anything
 no_entries : (F : List (List Literal)) → IsRulersPart F []
@@ -189,6 +189,47 @@ row_ready =
         ),
       );
       units_on = All-nil (IsOn 5);
+      small = omega arith;
+      few = omega arith;
+    }
+
+pub ladder_ready : CanStart ladder ladder_starts [] 6
+ladder_ready =
+    let one : IsOn 6 (lit 1 true) = on 6 1 true (omega arith) (omega arith) in
+    let two = λ (b : Bool). on 6 2 b (omega arith) (omega arith) in
+    let three = λ (b : Bool). on 6 3 b (omega arith) (omega arith) in
+    let four : IsOn 6 (lit 4 false) = on 6 4 false (omega arith) (omega arith) in
+    let five : IsOn 6 (lit 5 true) = on 6 5 true (omega arith) (omega arith) in
+    let six : IsOn 6 (lit 6 false) = on 6 6 false (omega arith) (omega arith) in
+    record {
+      opens = record {
+        rulers_part = no_entries ladder;
+        starts = All-from_recursion (IsStart (book ladder [])) (starts_of ladder_starts) (
+          long ladder 1 (lit 1 true) (lit 2 false) refl refl refl,
+          (
+            long ladder 2 (lit 2 true) (lit 3 false) refl refl refl,
+            (
+              long ladder 3 (lit 3 true) (lit 4 false) refl refl refl,
+              (record { alive = refl; shape = record { long = omega arith; distinct = refl; no_opposites = refl } }, tt),
+            ),
+          ),
+        );
+        numbers = numbers_1_to_4;
+        told = All-nil (λ (l : Literal). is_told ladder [] l ≡ true);
+        distinct = refl;
+      };
+      going = refl;
+      starts_on = All-from_recursion (On 6) ladder_starts (
+        on_two 6 (lit 1 true) (lit 2 false) one (two false),
+        (
+          on_two 6 (lit 2 true) (lit 3 false) (two true) (three false),
+          (
+            on_two 6 (lit 3 true) (lit 4 false) (three true) four,
+            (All-from_recursion (IsOn 6) (lit 4 false ∷ lit 5 true ∷ lit 6 false ∷ []) (four, (five, (six, tt))), tt),
+          ),
+        ),
+      );
+      units_on = All-nil (IsOn 6);
       small = omega arith;
       few = omega arith;
     }

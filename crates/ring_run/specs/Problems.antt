@@ -63,3 +63,14 @@ abbrev pub row_starts : List (ℕ × List Literal)
 row_starts =
     (1, lit 1 true ∷ lit 2 false ∷ []) ∷ (2, lit 1 true ∷ lit 4 true ∷ lit 5 false ∷ [])
     ∷ (3, lit 2 true ∷ lit 4 true ∷ lit 5 true ∷ []) ∷ []
+
+-- 1, 2 and 3 each force the next, and where 4 is true the last clause is
+abbrev pub ladder : List (List Literal)
+ladder =
+    (lit 1 true ∷ lit 2 false ∷ []) ∷ (lit 2 true ∷ lit 3 false ∷ []) ∷ (lit 3 true ∷ lit 4 false ∷ [])
+    ∷ (lit 4 false ∷ lit 5 true ∷ lit 6 false ∷ []) ∷ []
+
+abbrev pub ladder_starts : List (ℕ × List Literal)
+ladder_starts =
+    (1, lit 1 true ∷ lit 2 false ∷ []) ∷ (2, lit 2 true ∷ lit 3 false ∷ [])
+    ∷ (3, lit 3 true ∷ lit 4 false ∷ []) ∷ (4, lit 4 false ∷ lit 5 true ∷ lit 6 false ∷ []) ∷ []

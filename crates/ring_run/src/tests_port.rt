@@ -47,9 +47,9 @@ impl<L: LineOut> Model for Crowd<L> {
 
     ghost Value = { PortState };
 
-    ghost view = { λ p. crowd_of p.inner p.stop p.looks p.refused p.polled };
+    ghost view = { λ p. crowd_of p.inner.state p.stop p.looks p.refused p.polled };
 
-    ghost invariant = { λ p. IsPort (crowd_of p.inner p.stop p.looks p.refused p.polled) };
+    ghost invariant = { λ p. IsPort (crowd_of p.inner.state p.stop p.looks p.refused p.polled) };
 }
 
 /// The stop of the third ring.
@@ -64,8 +64,8 @@ fn other_stop() -> Stop
 
 impl<L: LineOut> Crowd<L> {
     fn over(alloc: Global, inner: PlainPort<L>, quiet: u64, memory: bool) -> Crowd<L>
-        requires { IsPort inner }
-        ensures { result ≡ crowd_of inner None 0 None 0 }
+        requires { IsPort inner.state }
+        ensures { result ≡ crowd_of inner.state None 0 None 0 }
     {
         Crowd {
             inner,

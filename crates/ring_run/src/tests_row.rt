@@ -4,7 +4,7 @@ ghost use Rattle.ring_port.specs.PortState.{IsPort, lits_at};
 ghost use Rattle.watch_prop.specs.Propagation.{IsConflict, IsQuiet, IsPropagated};
 ghost use Rattle.ring_run.specs.Ended.{IsJobOf, IsUntouched};
 ghost use Rattle.ring_run.specs.Course.{InSearch, MayImport};
-ghost use Rattle.ring_run.specs.Problems.{CanStart, row, row_starts};
+ghost use Rattle.ring_run.specs.Problems.{CanStart, row, row_starts, ladder, ladder_starts};
 
 use crate::decision::write_pending;
 use crate::ring::Ring;
@@ -100,6 +100,22 @@ fn value(trail: &Trail, var: u32) -> Option<bool> {
     trail.value(var)
 }
 
+/// A ring that has taken the opening, and to which nothing is left to propagate.
+fn ready_ring<P: Port>(alloc: Global, port: &mut P, job: &Job) -> Result<Ring, Fail>
+    requires job { IsJobOf (P.state port.old) job.now }
+    requires untouched { IsUntouched (P.state port.old) }
+    requires port { IsPort (P.state port.old) }
+    ensures search { IfOk result (InSearch (P.state port.new)) }
+    ensures quiet { IfOk result (λ ring. IsQuiet ring.watches (lits_at (P.state port.new)) ring.trail) }
+{
+    let mut ring = fresh_ring(alloc, port, job)?;
+    take_opening(port, &mut ring)?;
+    let Propagated::Quiet = propagate(port, &mut ring)? else {
+        return Err(Fail::from("a conflict without a decision"));
+    };
+    Ok(ring)
+}
+
 /// Makes a literal true at a level of its own, where its variable has no value, and propagates.
 fn decide_and_propagate<P: Port>(
     port: &mut P,
@@ -145,11 +161,7 @@ fn walk<P: Port>(alloc: Global, port: &mut P, job: &Job) -> Result<Walked, Fail>
     requires untouched { IsUntouched (P.state port.old) }
     requires port { IsPort (P.state port.old) }
 {
-    let mut ring = fresh_ring(alloc, port, job)?;
-    take_opening(port, &mut ring)?;
-    let Propagated::Quiet = propagate(port, &mut ring)? else {
-        return Err(Fail::from("a conflict without a decision"));
-    };
+    let mut ring = ready_ring(alloc, port, job)?;
     let Propagated::Quiet = decide_and_propagate(port, &mut ring, Lit::new(1, false))? else {
         return Err(Fail::from("a conflict after one decision"));
     };
@@ -198,5 +210,80 @@ fn learns_a_minimised_lemma(rt: HostRuntime) -> Result<(), Fail> {
     assert_eq!(rt; lits.len(), 2);
     assert_eq!(rt; lits[0], Lit::new(4, true));
     assert_eq!(rt; lits[1], Lit::new(1, true));
+    Ok(())
+}
+
+/// Each of 1, 2 and 3 forces the next, and the last clause is true where 4 is.
+fn ladder_clauses(alloc: Global) -> Result<(Formula, Starts), AllocError>
+    ensures formula { IfOk result (λ made. made.0 ≡ record { vars = 6; clauses = ladder }) }
+    ensures start { IfOk result (λ made. made.1 ≡ ladder_starts) }
+{
+    let two = Lit::new(2, false);
+    let three = Lit::new(3, false);
+    let four = Lit::new(4, false);
+    let mut formula = Formula::new(alloc, 6);
+    let mut start = Starts::new(alloc);
+    put(alloc, &mut formula, &mut start, &[Lit::new(1, true), two])?;
+    put(alloc, &mut formula, &mut start, &[two.not(), three])?;
+    put(alloc, &mut formula, &mut start, &[three.not(), four])?;
+    put(
+        alloc,
+        &mut formula,
+        &mut start,
+        &[four, Lit::new(5, true), Lit::new(6, false)],
+    )?;
+    Ok((formula, start))
+}
+
+/// What was seen where 1 and then 5 were decided.
+#[derive(Drop)]
+struct Climbed {
+    /// How often a clause was read by then, but for what was read before.
+    loads: u64,
+    /// What is true.
+    trail: Trail,
+}
+
+/// Decides 1 and then 5 over a port in memory that holds these clauses.
+fn climb(alloc: Global, formula: &Formula, start: Starts) -> Result<Climbed, Fail>
+    requires { CanStart formula.now.clauses start [] formula.now.vars }
+{
+    let lines = CountedLines::new(formula.clauses().len() as u64, 0);
+    let Ok(mut port) = PlainPort::new(alloc, formula.vars(), start, Vec::new(alloc), lines) else {
+        return Err(Fail::from("no memory for the port"));
+    };
+    let job = Job {
+        ring: 0,
+        rings: 1,
+        vars: formula.vars(),
+        start: Addresses::from_vec(port.start(alloc)?),
+        conflicts: 1,
+        seed: 0,
+    };
+    let mut ring = ready_ring(alloc, &mut port, &job)?;
+    let before = port.loads();
+    let Propagated::Quiet = decide_and_propagate(&mut port, &mut ring, Lit::new(1, false))? else {
+        return Err(Fail::from("a conflict after one decision"));
+    };
+    let Propagated::Quiet = decide_and_propagate(&mut port, &mut ring, Lit::new(5, false))? else {
+        return Err(Fail::from("a conflict after two decisions"));
+    };
+    Ok(Climbed {
+        loads: port.loads().saturating_sub(before),
+        trail: ring.trail,
+    })
+}
+
+// 1 forces 2, this 3 and this 4, each by a clause of two literals. Where 5 is decided the last clause has another literal
+// that is true, which stands beside its watch. So no clause is read.
+#[test]
+fn propagates_without_a_load(rt: HostRuntime) -> Result<(), Fail> {
+    let (formula, start) = ladder_clauses(rt.alloc())?;
+    let climbed = climb(rt.alloc(), &formula, start)?;
+    assert_eq!(rt; value(&climbed.trail, 2), Some(true));
+    assert_eq!(rt; value(&climbed.trail, 3), Some(true));
+    assert_eq!(rt; value(&climbed.trail, 4), Some(true));
+    assert_eq!(rt; value(&climbed.trail, 6), None);
+    assert_eq!(rt; climbed.loads, 0);
     Ok(())
 }

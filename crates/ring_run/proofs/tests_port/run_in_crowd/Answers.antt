@@ -22,7 +22,7 @@ pub run_ring-end-requires-clause-untouched : goal.run_ring-end-requires-clause-u
 run_ring-end-requires-clause-untouched c =
     let over = c.over-port.ensures in
     record {
-      held = subst HoldsStart (sym over) (crowd_holds c.in-Ok.inner None 0 None 0 c.in-Ok.ensures.holds);
+      held = subst HoldsStart (sym over) (crowd_holds c.in-Ok.inner.state None 0 None 0 c.in-Ok.ensures.holds);
       seen = ap (λ (s : PortState). s.seen) over;
       mine = ap (λ (s : PortState). s.mine) over;
       taken = ap (λ (s : PortState). s.taken) over;

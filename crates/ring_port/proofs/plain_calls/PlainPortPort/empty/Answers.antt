@@ -9,7 +9,7 @@ use Rattle.ring_port.specs.Port.{is_usable}
 use Rattle.ring_port.specs.Log.{KeepsLog}
 use Rattle.ring_port.specs.OwnLog.{AddedEntry, NotPut}
 use Rattle.ring_port.specs.PlainPort.{PlainData, state_of}
-use Rattle.ring_port.proofs.PlainLemmas.{plain_port, plain_log}
+use Rattle.ring_port.proofs.PlainLemmas.{state_is, plain_port, plain_log}
 use Rattle.ring_port.proofs.PlainSteps.{empty_keeps, refused_keeps}
 use Rattle.ring_port.proofs.plain_calls.PlainPortPort.empty.Goals as goal
 
@@ -23,12 +23,12 @@ pub returns-clause-log : goal.returns-clause-log
 returns-clause-log g c =
     let i = c.self.inside in
     let p : PlainData = record { vars = i.vars; all = i.store.all; held = i.store.held; waiting = i.waiting.items; begun = i.begun; opening = i.opening.items; passed = i.passed; given = i.given.items; given_room = vec_capacity i.given - vec_len i.given; written = i.written.items; log = i.log; last = i.last; stop = i.stop; looks = i.looks } in
-    let usable : is_usable i.log.refused ≡ true = subst (λ s. is_usable s.refused ≡ true) (sym c.self.view_is) c.requires.usable in
-    let follows : rup (known (state_of p)) [] ≡ true = subst (λ s. rup (known s) [] ≡ true) (sym c.self.view_is) c.requires.rup in
+    let usable : is_usable i.log.refused ≡ true = subst (λ s. is_usable s.refused ≡ true) (sym (state_is c.self.view_is)) c.requires.usable in
+    let follows : rup (known (state_of p)) [] ≡ true = subst (λ s. rup (known s) [] ≡ true) (sym (state_is c.self.view_is)) c.requires.rup in
     let added : AddedEntry (record i.log { room = c.make_room.new.self.room }) c.add.new.self [] Derive c.in_ok-add.field-0 =
     subst (λ k. AddedEntry k c.add.new.self [] Derive c.in_ok-add.field-0) c.make_room.ensures.same
     (subst (λ ls. AddedEntry c.make_room.new.self c.add.new.self ls Derive c.in_ok-add.field-0) (c.from_vec.ensures ∙ c.new.ensures.items) c.in_ok-add.ensures) in
-    subst (λ s. KeepsLog s (state_of (record p { log = c.end.new.self }))) c.self.view_is
+    subst (λ s. KeepsLog s (state_of (record p { log = c.end.new.self }))) (state_is c.self.view_is)
     (subst (λ k. KeepsLog (state_of p) (state_of (record p { log = k }))) (sym c.end.ensures)
     (empty_keeps p c.make_room.new.self.room c.add.new.self Derive c.in_ok-add.field-0 usable follows added))
 
@@ -42,13 +42,13 @@ pub returns-in_err-add-clause-log : goal.returns-in_err-add-clause-log
 returns-in_err-add-clause-log g c =
     let i = c.self.inside in
     let p : PlainData = record { vars = i.vars; all = i.store.all; held = i.store.held; waiting = i.waiting.items; begun = i.begun; opening = i.opening.items; passed = i.passed; given = i.given.items; given_room = vec_capacity i.given - vec_len i.given; written = i.written.items; log = i.log; last = i.last; stop = i.stop; looks = i.looks } in
-    let usable : is_usable i.log.refused ≡ true = subst (λ s. is_usable s.refused ≡ true) (sym c.self.view_is) c.requires.usable in
-    let follows : rup (known (state_of p)) [] ≡ true = subst (λ s. rup (known s) [] ≡ true) (sym c.self.view_is) c.requires.rup in
+    let usable : is_usable i.log.refused ≡ true = subst (λ s. is_usable s.refused ≡ true) (sym (state_is c.self.view_is)) c.requires.usable in
+    let follows : rup (known (state_of p)) [] ≡ true = subst (λ s. rup (known s) [] ≡ true) (sym (state_is c.self.view_is)) c.requires.rup in
     let none : All (IsOn i.vars) [] = λ k d lt. absurd (omega arith) in
     let why : NotPut (record i.log { room = c.make_room.new.self.room }) c.add.new.self (AddLine []) c.in_err-add.field-0.0 =
     subst (λ k. NotPut k c.add.new.self (AddLine []) c.in_err-add.field-0.0) c.make_room.ensures.same
     (subst (λ ls. NotPut c.make_room.new.self c.add.new.self (AddLine ls) c.in_err-add.field-0.0) (c.from_vec.ensures ∙ c.new.ensures.items) c.in_err-add.ensures) in
-    subst (λ s. KeepsLog s (state_of (record p { log = c.add.new.self }))) c.self.view_is
+    subst (λ s. KeepsLog s (state_of (record p { log = c.add.new.self }))) (state_is c.self.view_is)
     (refused_keeps p c.make_room.new.self.room c.add.new.self [] c.in_err-add.field-0.0 usable none follows why)
 
 pub returns-in_err-make_room-clause-port : goal.returns-in_err-make_room-clause-port

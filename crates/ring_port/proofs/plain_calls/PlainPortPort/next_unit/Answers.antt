@@ -6,7 +6,7 @@ use Rattle.ring_port.specs.Port.{TookUnit, TookNone, Took}
 use Rattle.ring_port.specs.PortState.{IsPort}
 use Rattle.ring_port.specs.Log.{KeepsLog}
 use Rattle.ring_port.specs.PlainPort.{PlainData, state_of, IsPlain}
-use Rattle.ring_port.proofs.PlainLemmas.{plain_port, plain_given}
+use Rattle.ring_port.proofs.PlainLemmas.{state_is, plain_port, plain_given}
 use Rattle.ring_port.proofs.PlainSteps.{given_keeps}
 use Rattle.ring_port.proofs.Units.{in_range, took_unit, took_none, took_listed, took_front}
 use Rattle.ring_port.proofs.plain_calls.PlainPortPort.next_unit.Goals as goal
@@ -44,7 +44,7 @@ returns-clause-listed g c =
     let p : PlainData = record { vars = i.vars; all = i.store.all; held = i.store.held; waiting = i.waiting.items; begun = i.begun; opening = i.opening.items; passed = i.passed; given = i.given.items; given_room = vec_capacity i.given - vec_len i.given; written = i.written.items; log = i.log; last = i.last; stop = i.stop; looks = i.looks } in
     let some : position (λ j. not (has i.written.items j)) (drop i.passed i.opening.items) ≡ Some c.in_ok-skipped.skipped =
     (λ x. position (λ j. not (has (sym c.deref-2.ensures.value x) j)) (drop i.passed (sym c.deref.ensures.value x))) ∙ sym c.in_ok-skipped.ensures in
-    subst (λ s. has s.opening c.index-unit.result.now ≡ true) c.self.view_is (took_listed p c.in_ok-skipped.skipped c.index-unit.result.now some c.index-unit.ensures)
+    subst (λ s. has s.opening c.index-unit.result.now ≡ true) (state_is c.self.view_is) (took_listed p c.in_ok-skipped.skipped c.index-unit.result.now some c.index-unit.ensures)
 
 pub returns-clause-took : goal.returns-clause-took
 returns-clause-took g c =
@@ -53,7 +53,7 @@ returns-clause-took g c =
     let some : position (λ j. not (has i.written.items j)) (drop i.passed i.opening.items) ≡ Some c.in_ok-skipped.skipped =
     (λ x. position (λ j. not (has (sym c.deref-2.ensures.value x) j)) (drop i.passed (sym c.deref.ensures.value x))) ∙ sym c.in_ok-skipped.ensures in
     let room = vec_capacity c.push_reserved.new.self - vec_len c.push_reserved.new.self in
-    subst (λ s. TookUnit s (state_of (record p { passed = i.passed + c.in_ok-skipped.skipped + 1; given = c.push_reserved.new.self.items; given_room = room })) c.index-unit.result.now) c.self.view_is
+    subst (λ s. TookUnit s (state_of (record p { passed = i.passed + c.in_ok-skipped.skipped + 1; given = c.push_reserved.new.self.items; given_room = room })) c.index-unit.result.now) (state_is c.self.view_is)
     (subst (λ ls. TookUnit (state_of p) (state_of (record p { passed = i.passed + c.in_ok-skipped.skipped + 1; given = ls; given_room = room })) c.index-unit.result.now) (sym c.push_reserved.ensures.items)
     (took_unit p c.self.invariant c.in_ok-skipped.skipped room c.index-unit.result.now some c.index-unit.ensures))
 
@@ -62,7 +62,7 @@ returns-clause-log g c =
     let i = c.self.inside in
     let p : PlainData = record { vars = i.vars; all = i.store.all; held = i.store.held; waiting = i.waiting.items; begun = i.begun; opening = i.opening.items; passed = i.passed; given = i.given.items; given_room = vec_capacity i.given - vec_len i.given; written = i.written.items; log = i.log; last = i.last; stop = i.stop; looks = i.looks } in
     let room = vec_capacity c.push_reserved.new.self - vec_len c.push_reserved.new.self in
-    subst (λ s. KeepsLog s (state_of (record p { passed = i.passed + c.in_ok-skipped.skipped + 1; given = c.push_reserved.new.self.items; given_room = room }))) c.self.view_is
+    subst (λ s. KeepsLog s (state_of (record p { passed = i.passed + c.in_ok-skipped.skipped + 1; given = c.push_reserved.new.self.items; given_room = room }))) (state_is c.self.view_is)
     (given_keeps p (i.passed + c.in_ok-skipped.skipped + 1) c.push_reserved.new.self.items room)
 
 pub returns-in_err-skipped-clause-took : goal.returns-in_err-skipped-clause-took
@@ -71,8 +71,8 @@ returns-in_err-skipped-clause-took g c =
     let p : PlainData = record { vars = i.vars; all = i.store.all; held = i.store.held; waiting = i.waiting.items; begun = i.begun; opening = i.opening.items; passed = i.passed; given = i.given.items; given_room = vec_capacity i.given - vec_len i.given; written = i.written.items; log = i.log; last = i.last; stop = i.stop; looks = i.looks } in
     let none : position (λ j. not (has i.written.items j)) (drop i.passed i.opening.items) ≡ None =
     (λ x. position (λ j. not (has (sym c.deref-2.ensures.value x) j)) (drop i.passed (sym c.deref.ensures.value x))) ∙ sym c.in_err-skipped.ensures in
-    subst (λ r. Took c.args.self.now c.args.self.now r) (sym c.from_residual.ensures)
-    (subst (λ s. TookNone s s) c.self.view_is (took_none p none))
+    subst (λ r. Took c.args.self.now.state c.args.self.now.state r) (sym c.from_residual.ensures)
+    (subst (λ s. TookNone s s) (state_is c.self.view_is) (took_none p none))
 
 pub returns-in_err-skipped-clause-port : goal.returns-in_err-skipped-clause-port
-returns-in_err-skipped-clause-port g c = subst IsPort c.self.view_is (plain_port _ c.self.invariant)
+returns-in_err-skipped-clause-port g c = subst IsPort (state_is c.self.view_is) (plain_port _ c.self.invariant)

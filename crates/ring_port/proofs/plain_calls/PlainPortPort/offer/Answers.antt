@@ -2,7 +2,7 @@ use Rattle.std.proofs.Common.{◌-◌, subst, None, vec_len}
 use Rattle.std.specs.Vec.{vec_capacity}
 use Rattle.ring_port.specs.Log.{KeepsLog}
 use Rattle.ring_port.specs.PlainPort.{PlainData, state_of}
-use Rattle.ring_port.proofs.PlainLemmas.{plain_port, plain_log}
+use Rattle.ring_port.proofs.PlainLemmas.{state_is, plain_port, plain_log}
 use Rattle.ring_port.proofs.PlainSteps.{last_keeps}
 use Rattle.ring_port.proofs.plain_calls.PlainPortPort.offer.Goals as goal
 
@@ -10,7 +10,7 @@ pub returns-clause-log : goal.returns-clause-log
 returns-clause-log g c =
     let i = c.self.inside in
     let p : PlainData = record { vars = i.vars; all = i.store.all; held = i.store.held; waiting = i.waiting.items; begun = i.begun; opening = i.opening.items; passed = i.passed; given = i.given.items; given_room = vec_capacity i.given - vec_len i.given; written = i.written.items; log = i.log; last = i.last; stop = i.stop; looks = i.looks } in
-    subst (λ s. KeepsLog s (state_of (record p { last = None }))) c.self.view_is (last_keeps p None)
+    subst (λ s. KeepsLog s (state_of (record p { last = None }))) (state_is c.self.view_is) (last_keeps p None)
 
 pub returns-clause-port : goal.returns-clause-port
 returns-clause-port g c =

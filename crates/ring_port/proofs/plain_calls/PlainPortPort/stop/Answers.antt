@@ -3,18 +3,18 @@ use Rattle.std.specs.Vec.{vec_capacity}
 use Rattle.ring_port.specs.PortState.{IsPort}
 use Rattle.ring_port.specs.Log.{KeepsLog}
 use Rattle.ring_port.specs.PlainPort.{PlainData, state_of}
-use Rattle.ring_port.proofs.PlainLemmas.{plain_port, plain_stopped}
+use Rattle.ring_port.proofs.PlainLemmas.{state_is, plain_port, plain_stopped}
 use Rattle.ring_port.proofs.PlainSteps.{looked_keeps}
 use Rattle.ring_port.proofs.plain_calls.PlainPortPort.stop.Goals as goal
 
 pub returns-in-Some-clause-port : goal.returns-in-Some-clause-port
-returns-in-Some-clause-port g c = subst IsPort c.self.view_is (plain_port _ c.self.invariant)
+returns-in-Some-clause-port g c = subst IsPort (state_is c.self.view_is) (plain_port _ c.self.invariant)
 
 pub returns-in-None-clause-log : goal.returns-in-None-clause-log
 returns-in-None-clause-log g c =
     let i = c.self.inside in
     let p : PlainData = record { vars = i.vars; all = i.store.all; held = i.store.held; waiting = i.waiting.items; begun = i.begun; opening = i.opening.items; passed = i.passed; given = i.given.items; given_room = vec_capacity i.given - vec_len i.given; written = i.written.items; log = i.log; last = i.last; stop = i.stop; looks = i.looks } in
-    subst (λ s. KeepsLog s (state_of (record p { stop = Some (record { kind = c.args.kind; ring = 0 }) }))) c.self.view_is (looked_keeps p (Some (record { kind = c.args.kind; ring = 0 })) i.looks)
+    subst (λ s. KeepsLog s (state_of (record p { stop = Some (record { kind = c.args.kind; ring = 0 }) }))) (state_is c.self.view_is) (looked_keeps p (Some (record { kind = c.args.kind; ring = 0 })) i.looks)
 
 pub returns-in-None-clause-port : goal.returns-in-None-clause-port
 returns-in-None-clause-port g c =

@@ -7,9 +7,10 @@ use Rattle.ring_port.proofs.plain_calls.PlainPortPort.tidy.Given as goal
 
 abbrev pub invariant-loop : goal.invariant-loop
 invariant-loop g l = record {
-  tidied : TidiedUpTo l.fn.self l.self l.counter;
-  end : l.end ≡ length l.fn.self.waiting;
-  usable : is_usable l.self.refused ≡ true;
-  log : KeepsLog l.fn.self l.self;
-  port : IsPort l.self;
+  tidied : TidiedUpTo l.fn.self.state l.self.state l.counter;
+  end : l.end ≡ length l.fn.self.state.waiting;
+  usable : is_usable l.self.state.refused ≡ true;
+  log : KeepsLog l.fn.self.state l.self.state;
+  port : IsPort l.self.state;
+  loads : l.self.loads ≡ l.fn.self.loads;
 }

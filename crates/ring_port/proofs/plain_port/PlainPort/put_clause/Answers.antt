@@ -7,7 +7,7 @@ use Rattle.ring_port.specs.Port.{is_usable, holding_of, IsClause, KeepsHeld, Add
 use Rattle.ring_port.specs.Log.{KeepsLog}
 use Rattle.ring_port.specs.OwnLog.{AddedEntry, NotPut}
 use Rattle.ring_port.specs.PlainPort.{PlainData, state_of, IsPlain}
-use Rattle.ring_port.proofs.PlainLemmas.{plain_port, plain_log, plain_pushed, kept_pushed, same_lookup}
+use Rattle.ring_port.proofs.PlainLemmas.{state_is, plain_port, plain_log, plain_pushed, kept_pushed, same_lookup}
 use Rattle.ring_port.proofs.PlainSteps.{clause_keeps, clause_put, refused_keeps}
 use Rattle.ring_port.proofs.plain_port.PlainPort.put_clause.Goals as goal
 
@@ -25,7 +25,7 @@ invariant_of-self-2 g c =
     c.push-c.ensures.held
     ∙ ap (λ hs. hs ++ record { address = length c.make_room.new.self.all; number = c.in_ok-number.number; glue = c.args.glue; lits = c.args.lits.now } ∷ []) c.make_room.ensures.held
     ∙ ap (λ a. i.store.held ++ record { address = a; number = c.in_ok-number.number; glue = c.args.glue; lits = c.args.lits.now } ∷ []) (sym c.push-c.ensures.address) in
-    let clause = subst (λ s. IsClause s.vars c.args.lits.now) (sym c.self.view_is) c.requires.clause in
+    let clause = subst (λ s. IsClause s.vars c.args.lits.now) (sym (state_is c.self.view_is)) c.requires.clause in
     let kept : IsKept i.vars x = record { shape = record { long = c.requires.long; distinct = clause.distinct; no_opposites = clause.no_opposites }; on = clause.on } in
     subst (λ (w : List Holding × List Holding). IsPlain (record p { all = w.0; held = w.1; log = c.add.new.self; last = c.last_after-last.result })) (λ i. (sym grown i, sym pushed i))
     (plain_pushed p c.self.invariant x kept address c.add.new.self c.last_after-last.result)
@@ -50,7 +50,7 @@ returns-clause-put g c =
     let added : AddedEntry (record i.log { room = c.make_room-2.new.self.room }) c.add.new.self c.args.lits.now c.args.kind c.in_ok-number.number =
     subst (λ k. AddedEntry k c.add.new.self c.args.lits.now c.args.kind c.in_ok-number.number) c.make_room-2.ensures.same
     (subst (λ ls. AddedEntry c.make_room-2.new.self c.add.new.self ls c.args.kind c.in_ok-number.number) c.in-Ok.ensures c.in_ok-number.ensures) in
-    subst (λ s. AddedClause s (state_of (record p { all = c.push-c.new.self.all; held = c.push-c.new.self.held; log = c.add.new.self; last = c.last_after-last.result })) c.args.lits.now c.args.glue c.args.kind c.push-c.result) c.self.view_is
+    subst (λ s. AddedClause s (state_of (record p { all = c.push-c.new.self.all; held = c.push-c.new.self.held; log = c.add.new.self; last = c.last_after-last.result })) c.args.lits.now c.args.glue c.args.kind c.push-c.result) (state_is c.self.view_is)
     (subst (λ (w : List Holding × List Holding). AddedClause (state_of p) (state_of (record p { all = w.0; held = w.1; log = c.add.new.self; last = c.last_after-last.result })) c.args.lits.now c.args.glue c.args.kind c.push-c.result) (λ i. (sym grown i, sym pushed i))
     (clause_put p c.self.invariant c.make_room-2.new.self.room c.add.new.self c.args.lits.now c.args.kind c.in_ok-number.number c.args.glue c.push-c.result c.last_after-last.result address c.requires.long c.last_after-last.ensures added))
 
@@ -68,7 +68,7 @@ returns-clause-kept g c =
     c.push-c.ensures.held
     ∙ ap (λ hs. hs ++ record { address = length c.make_room.new.self.all; number = c.in_ok-number.number; glue = c.args.glue; lits = c.args.lits.now } ∷ []) c.make_room.ensures.held
     ∙ ap (λ a. i.store.held ++ record { address = a; number = c.in_ok-number.number; glue = c.args.glue; lits = c.args.lits.now } ∷ []) (sym c.push-c.ensures.address) in
-    subst (λ s. KeepsHeld s (state_of (record p { all = c.push-c.new.self.all; held = c.push-c.new.self.held; log = c.add.new.self; last = c.last_after-last.result }))) c.self.view_is
+    subst (λ s. KeepsHeld s (state_of (record p { all = c.push-c.new.self.all; held = c.push-c.new.self.held; log = c.add.new.self; last = c.last_after-last.result }))) (state_is c.self.view_is)
     (kept_pushed (state_of p) (state_of (record p { all = c.push-c.new.self.all; held = c.push-c.new.self.held; log = c.add.new.self; last = c.last_after-last.result })) x pushed)
 
 pub returns-clause-log : goal.returns-clause-log
@@ -88,10 +88,10 @@ returns-clause-log g c =
     let added : AddedEntry (record i.log { room = c.make_room-2.new.self.room }) c.add.new.self c.args.lits.now c.args.kind c.in_ok-number.number =
     subst (λ k. AddedEntry k c.add.new.self c.args.lits.now c.args.kind c.in_ok-number.number) c.make_room-2.ensures.same
     (subst (λ ls. AddedEntry c.make_room-2.new.self c.add.new.self ls c.args.kind c.in_ok-number.number) c.in-Ok.ensures c.in_ok-number.ensures) in
-    let usable : is_usable i.log.refused ≡ true = subst (λ s. is_usable s.refused ≡ true) (sym c.self.view_is) c.requires.usable in
-    let clause = subst (λ s. IsClause s.vars c.args.lits.now) (sym c.self.view_is) c.requires.clause in
-    let follows : rup (known (state_of p)) c.args.lits.now ≡ true = subst (λ s. rup (known s) c.args.lits.now ≡ true) (sym c.self.view_is) c.requires.rup in
-    subst (λ s. KeepsLog s (state_of (record p { all = c.push-c.new.self.all; held = c.push-c.new.self.held; log = c.add.new.self; last = c.last_after-last.result }))) c.self.view_is
+    let usable : is_usable i.log.refused ≡ true = subst (λ s. is_usable s.refused ≡ true) (sym (state_is c.self.view_is)) c.requires.usable in
+    let clause = subst (λ s. IsClause s.vars c.args.lits.now) (sym (state_is c.self.view_is)) c.requires.clause in
+    let follows : rup (known (state_of p)) c.args.lits.now ≡ true = subst (λ s. rup (known s) c.args.lits.now ≡ true) (sym (state_is c.self.view_is)) c.requires.rup in
+    subst (λ s. KeepsLog s (state_of (record p { all = c.push-c.new.self.all; held = c.push-c.new.self.held; log = c.add.new.self; last = c.last_after-last.result }))) (state_is c.self.view_is)
     (subst (λ (w : List Holding × List Holding). KeepsLog (state_of p) (state_of (record p { all = w.0; held = w.1; log = c.add.new.self; last = c.last_after-last.result }))) (λ i. (sym grown i, sym pushed i))
     (clause_keeps p c.make_room-2.new.self.room c.add.new.self c.args.lits.now c.args.kind c.in_ok-number.number c.args.glue c.push-c.result.address c.last_after-last.result c.self.invariant usable c.requires.long clause.on follows added))
 
@@ -106,20 +106,20 @@ pub returns-in_err-number-clause-kept : goal.returns-in_err-number-clause-kept
 returns-in_err-number-clause-kept g c =
     let i = c.self.inside in
     let p : PlainData = record { vars = i.vars; all = i.store.all; held = i.store.held; waiting = i.waiting.items; begun = i.begun; opening = i.opening.items; passed = i.passed; given = i.given.items; given_room = vec_capacity i.given - vec_len i.given; written = i.written.items; log = i.log; last = i.last; stop = i.stop; looks = i.looks } in
-    subst (λ s. KeepsHeld s (state_of (record p { all = c.make_room.new.self.all; held = c.make_room.new.self.held; log = c.add.new.self }))) c.self.view_is
+    subst (λ s. KeepsHeld s (state_of (record p { all = c.make_room.new.self.all; held = c.make_room.new.self.held; log = c.add.new.self }))) (state_is c.self.view_is)
     (λ a some. same_lookup (state_of p) (state_of (record p { all = c.make_room.new.self.all; held = c.make_room.new.self.held; log = c.add.new.self })) a c.make_room.ensures.held)
 
 pub returns-in_err-number-clause-log : goal.returns-in_err-number-clause-log
 returns-in_err-number-clause-log g c =
     let i = c.self.inside in
     let p : PlainData = record { vars = i.vars; all = i.store.all; held = i.store.held; waiting = i.waiting.items; begun = i.begun; opening = i.opening.items; passed = i.passed; given = i.given.items; given_room = vec_capacity i.given - vec_len i.given; written = i.written.items; log = i.log; last = i.last; stop = i.stop; looks = i.looks } in
-    let usable : is_usable i.log.refused ≡ true = subst (λ s. is_usable s.refused ≡ true) (sym c.self.view_is) c.requires.usable in
-    let clause = subst (λ s. IsClause s.vars c.args.lits.now) (sym c.self.view_is) c.requires.clause in
-    let follows : rup (known (state_of p)) c.args.lits.now ≡ true = subst (λ s. rup (known s) c.args.lits.now ≡ true) (sym c.self.view_is) c.requires.rup in
+    let usable : is_usable i.log.refused ≡ true = subst (λ s. is_usable s.refused ≡ true) (sym (state_is c.self.view_is)) c.requires.usable in
+    let clause = subst (λ s. IsClause s.vars c.args.lits.now) (sym (state_is c.self.view_is)) c.requires.clause in
+    let follows : rup (known (state_of p)) c.args.lits.now ≡ true = subst (λ s. rup (known s) c.args.lits.now ≡ true) (sym (state_is c.self.view_is)) c.requires.rup in
     let why : NotPut (record i.log { room = c.make_room-2.new.self.room }) c.add.new.self (AddLine c.args.lits.now) c.in_err-number.field-0.0 =
     subst (λ k. NotPut k c.add.new.self (AddLine c.args.lits.now) c.in_err-number.field-0.0) c.make_room-2.ensures.same
     (subst (λ ls. NotPut c.make_room-2.new.self c.add.new.self (AddLine ls) c.in_err-number.field-0.0) c.in-Ok.ensures c.in_err-number.ensures) in
-    subst (λ s. KeepsLog s (state_of (record p { all = c.make_room.new.self.all; held = c.make_room.new.self.held; log = c.add.new.self }))) c.self.view_is
+    subst (λ s. KeepsLog s (state_of (record p { all = c.make_room.new.self.all; held = c.make_room.new.self.held; log = c.add.new.self }))) (state_is c.self.view_is)
     (subst (λ (w : List Holding × List Holding). KeepsLog (state_of p) (state_of (record p { all = w.0; held = w.1; log = c.add.new.self }))) (λ i. (sym c.make_room.ensures.all i, sym c.make_room.ensures.held i))
     (refused_keeps p c.make_room-2.new.self.room c.add.new.self c.args.lits.now c.in_err-number.field-0.0 usable clause.on follows why))
 

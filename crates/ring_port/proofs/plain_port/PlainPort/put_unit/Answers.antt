@@ -8,7 +8,7 @@ use Rattle.ring_port.specs.Port.{is_usable}
 use Rattle.ring_port.specs.Log.{KeepsLog}
 use Rattle.ring_port.specs.OwnLog.{AddedEntry, NotPut}
 use Rattle.ring_port.specs.PlainPort.{PlainData, state_of, IsPlain}
-use Rattle.ring_port.proofs.PlainLemmas.{plain_port, plain_log, plain_unit}
+use Rattle.ring_port.proofs.PlainLemmas.{state_is, plain_port, plain_log, plain_unit}
 use Rattle.ring_port.proofs.PlainSteps.{unit_keeps, refused_keeps}
 use Rattle.ring_port.proofs.plain_port.PlainPort.put_unit.Goals as goal
 
@@ -17,7 +17,7 @@ invariant_of-self-2 g c =
     let i = c.self.inside in
     let p : PlainData = record { vars = i.vars; all = i.store.all; held = i.store.held; waiting = i.waiting.items; begun = i.begun; opening = i.opening.items; passed = i.passed; given = i.given.items; given_room = vec_capacity i.given - vec_len i.given; written = i.written.items; log = i.log; last = i.last; stop = i.stop; looks = i.looks } in
     subst (λ ls. IsPlain (record p { written = ls; log = c.add.new.self; last = c.args.last })) (sym (c.push_reserved.ensures.items ∙ ap (λ ls. ls ++ c.args.lit ∷ []) c.reserve.ensures.items))
-    (plain_unit p c.self.invariant c.args.lit (subst (λ s. IsOn s.vars c.args.lit) (sym c.self.view_is) c.requires.on) c.add.new.self c.args.last)
+    (plain_unit p c.self.invariant c.args.lit (subst (λ s. IsOn s.vars c.args.lit) (sym (state_is c.self.view_is)) c.requires.on) c.add.new.self c.args.last)
 
 pub returns-clause-port : goal.returns-clause-port
 returns-clause-port g c = plain_port _ (invariant_of-self-2 g c)
@@ -26,13 +26,13 @@ pub returns-clause-log : goal.returns-clause-log
 returns-clause-log g c =
     let i = c.self.inside in
     let p : PlainData = record { vars = i.vars; all = i.store.all; held = i.store.held; waiting = i.waiting.items; begun = i.begun; opening = i.opening.items; passed = i.passed; given = i.given.items; given_room = vec_capacity i.given - vec_len i.given; written = i.written.items; log = i.log; last = i.last; stop = i.stop; looks = i.looks } in
-    let usable : is_usable i.log.refused ≡ true = subst (λ s. is_usable s.refused ≡ true) (sym c.self.view_is) c.requires.usable in
-    let on : IsOn i.vars c.args.lit = subst (λ s. IsOn s.vars c.args.lit) (sym c.self.view_is) c.requires.on in
-    let follows : rup (known (state_of p)) (c.args.lit ∷ []) ≡ true = subst (λ s. rup (known s) (c.args.lit ∷ []) ≡ true) (sym c.self.view_is) c.requires.rup in
+    let usable : is_usable i.log.refused ≡ true = subst (λ s. is_usable s.refused ≡ true) (sym (state_is c.self.view_is)) c.requires.usable in
+    let on : IsOn i.vars c.args.lit = subst (λ s. IsOn s.vars c.args.lit) (sym (state_is c.self.view_is)) c.requires.on in
+    let follows : rup (known (state_of p)) (c.args.lit ∷ []) ≡ true = subst (λ s. rup (known s) (c.args.lit ∷ []) ≡ true) (sym (state_is c.self.view_is)) c.requires.rup in
     let added : AddedEntry (record i.log { room = c.make_room.new.self.room }) c.add.new.self (c.args.lit ∷ []) c.args.kind c.in_ok-add.field-0 =
     subst (λ k. AddedEntry k c.add.new.self (c.args.lit ∷ []) c.args.kind c.in_ok-add.field-0) c.make_room.ensures.same
     (subst (λ ls. AddedEntry c.make_room.new.self c.add.new.self ls c.args.kind c.in_ok-add.field-0) c.in-Ok.ensures c.in_ok-add.ensures) in
-    subst (λ s. KeepsLog s (state_of (record p { written = c.push_reserved.new.self.items; log = c.add.new.self; last = c.args.last }))) c.self.view_is
+    subst (λ s. KeepsLog s (state_of (record p { written = c.push_reserved.new.self.items; log = c.add.new.self; last = c.args.last }))) (state_is c.self.view_is)
     (subst (λ ls. KeepsLog (state_of p) (state_of (record p { written = ls; log = c.add.new.self; last = c.args.last }))) (sym (c.push_reserved.ensures.items ∙ ap (λ ls. ls ++ c.args.lit ∷ []) c.reserve.ensures.items))
     (unit_keeps p c.make_room.new.self.room c.add.new.self c.args.lit c.args.kind c.in_ok-add.field-0 c.args.last usable on follows added))
 
@@ -47,13 +47,13 @@ pub returns-in_err-add-clause-log : goal.returns-in_err-add-clause-log
 returns-in_err-add-clause-log g c =
     let i = c.self.inside in
     let p : PlainData = record { vars = i.vars; all = i.store.all; held = i.store.held; waiting = i.waiting.items; begun = i.begun; opening = i.opening.items; passed = i.passed; given = i.given.items; given_room = vec_capacity i.given - vec_len i.given; written = i.written.items; log = i.log; last = i.last; stop = i.stop; looks = i.looks } in
-    let usable : is_usable i.log.refused ≡ true = subst (λ s. is_usable s.refused ≡ true) (sym c.self.view_is) c.requires.usable in
-    let on : IsOn i.vars c.args.lit = subst (λ s. IsOn s.vars c.args.lit) (sym c.self.view_is) c.requires.on in
-    let follows : rup (known (state_of p)) (c.args.lit ∷ []) ≡ true = subst (λ s. rup (known s) (c.args.lit ∷ []) ≡ true) (sym c.self.view_is) c.requires.rup in
+    let usable : is_usable i.log.refused ≡ true = subst (λ s. is_usable s.refused ≡ true) (sym (state_is c.self.view_is)) c.requires.usable in
+    let on : IsOn i.vars c.args.lit = subst (λ s. IsOn s.vars c.args.lit) (sym (state_is c.self.view_is)) c.requires.on in
+    let follows : rup (known (state_of p)) (c.args.lit ∷ []) ≡ true = subst (λ s. rup (known s) (c.args.lit ∷ []) ≡ true) (sym (state_is c.self.view_is)) c.requires.rup in
     let why : NotPut (record i.log { room = c.make_room.new.self.room }) c.add.new.self (AddLine (c.args.lit ∷ [])) c.in_err-add.field-0.0 =
     subst (λ k. NotPut k c.add.new.self (AddLine (c.args.lit ∷ [])) c.in_err-add.field-0.0) c.make_room.ensures.same
     (subst (λ ls. NotPut c.make_room.new.self c.add.new.self (AddLine ls) c.in_err-add.field-0.0) c.in-Ok.ensures c.in_err-add.ensures) in
-    subst (λ s. KeepsLog s (state_of (record p { written = c.reserve.new.self.items; log = c.add.new.self }))) c.self.view_is
+    subst (λ s. KeepsLog s (state_of (record p { written = c.reserve.new.self.items; log = c.add.new.self }))) (state_is c.self.view_is)
     (subst (λ ls. KeepsLog (state_of p) (state_of (record p { written = ls; log = c.add.new.self }))) (sym c.reserve.ensures.items)
     (refused_keeps p c.make_room.new.self.room c.add.new.self (c.args.lit ∷ []) c.in_err-add.field-0.0 usable (one_All (IsOn i.vars) c.args.lit on) follows why))
 

@@ -8,5 +8,5 @@ use Rattle.ring_run.proofs.tests_port.CrowdPort.learn.Goals as goal
 pub returns-clause-kept : goal.returns-clause-kept
 returns-clause-kept g c =
     let i = c.self.inside in
-    subst (λ s. KeepsHeld s (crowd_of i.inner i.stop i.looks (Some (NoHole (record { need = 9; largest = 7 }))) i.polled)) c.self.view_is
-    (λ a some. held_same (crowd_of i.inner i.stop i.looks i.refused i.polled) (crowd_of i.inner i.stop i.looks (Some (NoHole (record { need = 9; largest = 7 }))) i.polled) a refl)
+    subst (λ s. KeepsHeld s (crowd_of i.inner.state i.stop i.looks (Some (NoHole (record { need = 9; largest = 7 }))) i.polled)) c.self.view_is
+    (λ a some. held_same (crowd_of i.inner.state i.stop i.looks i.refused i.polled) (crowd_of i.inner.state i.stop i.looks (Some (NoHole (record { need = 9; largest = 7 }))) i.polled) a refl)

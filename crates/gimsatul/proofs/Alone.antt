@@ -15,7 +15,7 @@ use Rattle.rup_model.specs.Journal.{formula_book, lines, added, learned, ring_of
 use Rattle.rup_model.specs.Opening.{program_opening, IsNew}
 use Rattle.rup_model.specs.Spent.{ruler_part, rings_part}
 use Rattle.rup_model.proofs.LogLaw.{refutes_none}
-use Rattle.rup_model.proofs.Parts.{ruler_part-append, rings_part-append, rulers_new}
+use Rattle.rup_model.proofs.Parts.{ruler_part-append, rings_part-append, rulers_new, rulers_spaced}
 use Rattle.drat_text.specs.LineState.{LineState}
 use Rattle.drat_text.specs.JournalText.{Origin}
 use Rattle.drat_text.specs.Text.{CanBeSpelled, text}
@@ -88,6 +88,7 @@ module _ (plan : Plan) (F : FormulaData) (keep : Bool) (now : LineState) (result
     of_rings = subst (λ (K : List Entry). All (λ e. ring_of e < 1) K) (sym rings_part_is) (λ k d lt. absurd (omega arith));
     plain = rulers_plain J rulers;
     each_new = rulers_new (program_opening F.clauses (ruler_part J)) J rulers;
+    spaced = rulers_spaced J rulers;
   }
 
   ruled : IsRuled F plan.rounds J

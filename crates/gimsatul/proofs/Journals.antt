@@ -13,7 +13,7 @@ use Rattle.gimsatul.specs.Run.{Writer}
 use Rattle.gimsatul.specs.Journaled.{IsJournal, HoldsText, IsCutShort, IsClosed, HoldsLog}
 
 pub empty_journal : (clauses : List (List Literal)) → IsJournal 1 clauses []
-empty_journal clauses = record { fits = tt; accepted = tt; last = tt; spelled = λ k x lt. absurd (omega arith); of_rings = λ k x lt. absurd (omega arith); plain = λ k x lt. absurd (omega arith); each_new = tt }
+empty_journal clauses = record { fits = tt; accepted = tt; last = tt; spelled = λ k x lt. absurd (omega arith); spaced = tt; of_rings = λ k x lt. absurd (omega arith); plain = λ k x lt. absurd (omega arith); each_new = tt }
 
 -- a flush closes a writer
 pub closed : {T E : Type 0} (f0 f1 : ℕ) (w fl0 fl1 : Option (List ℕ)) (result : Result T E) → HasCause f0 f1 result → WasFlushed w fl0 fl1 result → IsClosed f0 (record { faults = f1; written = w; flushed = fl1 })

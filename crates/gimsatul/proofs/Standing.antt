@@ -181,6 +181,7 @@ module _ (plan : Plan) (formula : FormulaData) (keep : Bool) (output : LineState
     of_rings = subst (λ (K : List Entry). All (λ e. ring_of e < 1) K) (sym rings) (of_ring 1 formula.vars (omega arith) s.mine own);
     plain = plain;
     each_new = all_new_there;
+    spaced = each_both IsSpaced [] J0 s.mine (rulers_spaced J0 rulers) (spaced_behind J0 rulers s.mine each_spaced);
   }
 
   ruled : IsRuled formula plan.rounds J
@@ -249,7 +250,7 @@ module _ (plan : Plan) (formula : FormulaData) (keep : Bool) (output : LineState
       of_rings = journal_stands.of_rings;
       fits = stands.sound.fits;
       learns = λ r lt. (let zero_ring : r ≡ 0 = omega arith in subst (λ (q : ℕ). length (learned q J) ≡ plan.limit) (sym zero_ring) (sym counts ∙ is));
-      spaced = each_both IsSpaced [] J0 s.mine (rulers_spaced J0 rulers) (spaced_behind J0 rulers s.mine each_spaced);
+      spaced = journal_stands.spaced;
       going = unrefuted h.going;
     };
     each_new = all_new_there;

@@ -12,7 +12,7 @@ use Rattle.rup_model.specs.declared.journal.Kind.{Kind}
 use Rattle.rup_model.specs.declared.journal.Kind.TheVariants.{Ruler, Learn, Derive, UnitLine}
 use Rattle.rup_model.specs.Basics.{EachAfter}
 use Rattle.rup_model.specs.Log.{Accepted}
-use Rattle.rup_model.specs.Journal.{added, lines, ring_of, Fits, EmptyLast}
+use Rattle.rup_model.specs.Journal.{added, lines, ring_of, Fits, EmptyLast, IsSpaced}
 use Rattle.rup_model.specs.Opening.{is_rulers, program_opening, IsNew}
 use Rattle.rup_model.specs.Spent.{ruler_part, rings_part}
 pub use Rattle.drat_text.specs.Text.{CanBeSpelled}
@@ -39,8 +39,8 @@ abbrev pub IsPlainEntry : Entry → Type 0
 IsPlainEntry e = (is_rulers e ≡ true) ⊎ IsRingsEntry e
 
 -- a journal of this many rings: its numbers fit, each line is valid where it stands, nothing follows the empty clause,
--- its lines can be spelled, what the ruler didn't write is of one of the rings, and each clause that a ring learned was new
--- when it was added; today one ring searches alone
+-- its lines can be spelled, what the ruler didn't write is of one of the rings, each clause that a ring learned was new
+-- when it was added, and enough were learned before each Reduce entry since the one before; today one ring searches alone
 pub record IsJournal (rings : ℕ) (clauses : List (List Literal)) (journal : List Entry) : Type 0 where
   pub fits : Fits clauses journal
   pub accepted : Accepted clauses (lines clauses journal)
@@ -49,6 +49,7 @@ pub record IsJournal (rings : ℕ) (clauses : List (List Literal)) (journal : Li
   pub of_rings : All (λ e. ring_of e < rings) (rings_part journal)
   pub plain : All IsPlainEntry journal
   pub each_new : EachAfter (IsNew (program_opening clauses (ruler_part journal))) [] journal
+  pub spaced : EachAfter IsSpaced [] journal
 
 -- no entry adds the empty clause
 abbrev pub IsUnrefuted : List Entry → Type 0

@@ -3,6 +3,7 @@ ghost use Rattle.std.specs.Prelude.{◌≡◌, ◌<◌, ◌≤◌, ◌+◌, ◌-
 ghost use Rattle.reduce_db.specs.Moment.{lemmas_before};
 ghost use Rattle.ring_port.specs.PortState.{IsPort};
 ghost use Rattle.ring_run.specs.Searching.{OffersNothing, KeepsOn};
+ghost use Rattle.ring_run.specs.Renewal.{IsDue, HasReduced, HasTidied, IsIdle, HasRenewed};
 ghost use Rattle.ring_run.specs.Ending.{EndsAt, end_refused};
 ghost use Rattle.ring_run.specs.Course.{HasLemmas, MayImport, Leads, KeepsLooking, KeepsOffering, IsPolling, HasPolledBy};
 
@@ -19,7 +20,8 @@ fn reduce_lemmas<P: Port>(alloc: Global, port: &mut P, ring: &mut Ring) -> Resul
     requires import { MayImport (P.state port.old) ring.old.trail ring.old.watches ring.old.written }
     requires listed { HasLemmas (P.state port.old) ring.old }
     requires few { ring.old.reductions < 2 ^ 64 - 1 }
-    requires due { lemmas_before (ring.old.reductions + 1) ≤ ring.old.learned - ring.old.reduced_at }
+    requires due { IsDue ring.old }
+    ensures reduced { OnOk result (HasReduced (P.state port.old) (P.state port.new) ring.old ring.new) }
     ensures ok { OnOk result (KeepsOn (P.state port.old) (P.state port.new)) }
     ensures over { IfErr result (λ stop. EndsAt (P.state port.old) (P.state port.new) (end_refused stop)) }
     ensures import { OnOk result (MayImport (P.state port.new) ring.new.trail ring.new.watches ring.new.written) }
@@ -53,6 +55,8 @@ fn reduce_due<P: Port>(alloc: Global, port: &mut P, ring: &mut Ring) -> Result<(
     requires import { MayImport (P.state port.old) ring.old.trail ring.old.watches ring.old.written }
     requires listed { HasLemmas (P.state port.old) ring.old }
     requires few { ring.old.reductions < 2 ^ 64 - 1 }
+    ensures due { IsDue ring.old → OnOk result (HasTidied (P.state port.old) (P.state port.new) ring.old ring.new) }
+    ensures early { ring.old.learned - ring.old.reduced_at < lemmas_before (ring.old.reductions + 1) → IsIdle (P.state port.old) (P.state port.new) ring.old ring.new }
     ensures ok { OnOk result (KeepsOn (P.state port.old) (P.state port.new)) }
     ensures over { IfErr result (λ stop. EndsAt (P.state port.old) (P.state port.new) (end_refused stop)) }
     ensures import { OnOk result (MayImport (P.state port.new) ring.new.trail ring.new.watches ring.new.written) }
@@ -82,6 +86,7 @@ pub(crate) fn renew<P: Port>(alloc: Global, port: &mut P, ring: &mut Ring) -> Co
     requires pending { ring.old.pending ≡ true }
     ensures leads { (limit : ℕ) → ring.old.learned < limit → Leads (P.state port.old) ring.old (P.state port.new) ring.new limit result }
     ensures settled { result ≡ Course.On → ring.new.pending ≡ false }
+    ensures renewed { result ≡ Course.On → HasRenewed ring.old ring.new }
     ensures steps { result ≡ Course.On → length ring.old.trail.steps ≤ length ring.new.trail.steps }
     ensures polls { HasPolledBy (P.state port.new) ring.new result }
     ensures offering { KeepsOffering (P.state port.old) ring.old (P.state port.new) ring.new }

@@ -1,7 +1,11 @@
 use Rattle.std.proofs.Common.{refl}
 use Rattle.ring_run.proofs.Listing.{listed_same}
-use Rattle.ring_run.proofs.Reducing.{ok_then, err_then, wrote_import}
+use Rattle.ring_run.proofs.Reducing.{ok_then, err_then, tidied_then, wrote_import}
 use Rattle.ring_run.proofs.reduction.reduce_due.Goals as goal
+
+pub returns-clause-due : goal.returns-clause-due
+returns-clause-due g c = λ _. tidied_then c.tidy_up.result (g.P.Port.state c.args.port.now) (g.P.Port.state c.reduce_lemmas.new.port) (g.P.Port.state c.tidy_up.new.port) c.args.ring.now c.reduce_lemmas.new.ring
+    c.in-Ok.ensures.reduced c.tidy_up.ensures.wrote c.tidy_up.ensures.tidied
 
 pub returns-clause-ok : goal.returns-clause-ok
 returns-clause-ok g c = ok_then c.tidy_up.result c.tidy_up.ensures.ok (λ keeps start n p. keeps start n (c.in-Ok.ensures.ok start n p))

@@ -30,6 +30,9 @@ returns-in-Err-reduce-clause-nothing g c =
     let u = g.P.Port.state c.reduce.new.port in
     nothing_then s m u (noted_nothing s m c.in-Ok.ensures.noted) (cut_short_nothing m u c.args.ring.now c.in-Err-reduce.stop c.in-Err-reduce.ensures.reduced)
 
+pub returns-clause-reduced : goal.returns-clause-reduced
+returns-clause-reduced g c = record { noted = g.P.Port.state c.note_reduce.new.self; entry = c.in-Ok.ensures.noted; reduced = c.in-Ok-reduce.ensures.reduced; counted = refl; since = refl }
+
 pub returns-clause-ok : goal.returns-clause-ok
 returns-clause-ok g c = λ start n p.
     let s = g.P.Port.state c.args.port.now in

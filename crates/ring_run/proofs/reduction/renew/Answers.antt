@@ -1,4 +1,4 @@
-use Rattle.std.proofs.Common.{ap, sym, subst, ◌≡◌, ℕ, arith}
+use Rattle.std.proofs.Common.{ap, sym, ◌∙◌, subst, ◌≡◌, ℕ, arith}
 use Rattle.ring_run.specs.Ended.{HasPolled}
 use Rattle.ring_run.specs.Ending.{ComesTo}
 use Rattle.ring_run.specs.Searching.{GoesOn}
@@ -28,6 +28,12 @@ returns-in-Err-clause-polls g c =
     subst (λ (n : ℕ). HasPolled u n c.end_refused.result) (sym made)
     (subst (HasPolled u ring.restarts.made) (sym c.end_refused.ensures)
     (polled_halted u ring.restarts.made _ (refused_halted c.in-Err.stop) (polled_over u ring (polls_same s u (imports_of ring) c.reduce_due.ensures.nothing c.requires.polling.polled))))
+
+pub returns-clause-renewed : goal.returns-clause-renewed
+returns-clause-renewed g c = λ _. record {
+  due = λ due. c.import.ensures.reductions ∙ (c.in-Ok.ensures.due due).reduced.counted;
+  early = λ early. c.import.ensures.reductions ∙ ap (λ (r : Ring). r.reductions) (c.in-Ok.ensures.early early).ring;
+}
 
 pub returns-clause-leads : goal.returns-clause-leads
 returns-clause-leads g c = λ limit below.

@@ -11,3 +11,11 @@ pub use ruling::{Outcome, Simplified, simplify};
 
 #[cfg(test)]
 mod tests;
+#[cfg(test)]
+mod trials;
+#[cfg(test)]
+mod trials_draws;
+#[cfg(test)]
+mod trials_models;
+#[cfg(test)]
+mod trials_plain;

@@ -2,7 +2,7 @@ ghost use Rattle.std.specs.Prelude.{◌≡◌, ◌≤◌, All, IfOk, length};
 
 // Assignments to all variables, tried one after another.
 
-use crate::draws::VARS;
+use crate::trials_draws::VARS;
 use model_stack::Stack;
 use sat_words::{Assignment, Clause, Formula, Lit};
 use std::alloc::{AllocError, Global};

@@ -2,12 +2,12 @@ ghost use Rattle.std.specs.Prelude.{◌≡◌, ◌≤◌, true, false, All, IfOk
 ghost use Rattle.sat_words.specs.Literal.{IsOn};
 ghost use Rattle.simp_base.specs.WorkState.{IsWork};
 
-// Each simplifier over many formulas. What it came to is what its definition, run the slow way, comes to; a formula that it
+// Trials: each simplifier over many formulas. What it came to is what its definition, run the slow way, comes to; a formula that it
 // refutes has no model, and the models of what is left become models of the formula.
 
-use crate::draws::draw_formula;
-use crate::models::{has_no_model, models_lift};
-use crate::plain::{are_units_taken, is_eliminated, is_reduced, is_substituted};
+use crate::trials_draws::draw_formula;
+use crate::trials_models::{has_no_model, models_lift};
+use crate::trials_plain::{are_units_taken, is_eliminated, is_reduced, is_substituted};
 use drat_text::CountedLines;
 use sat_words::{Clause, Formula};
 use simp_base::{Parts, Run, Work};

@@ -3,6 +3,7 @@
 
 mod cell;
 mod class;
+mod gate;
 mod laws;
 mod opening_units;
 mod own_log;
@@ -15,6 +16,7 @@ mod stops;
 mod store;
 
 pub use class::class_of;
+pub use gate::{Gate, OpenGate, Point};
 pub use laws::{
     a_log_is_accepted, a_reduction_forgets, dropping_keeps_the_others, held_clauses_are_known,
     held_clauses_are_long, seen_units_are_known,

@@ -1,6 +1,5 @@
 -- What is known of a ring's port: what the ring holds and has seen, what it wrote, and how its search began.
 use Rattle.std.specs.Prelude.{◌≡◌, ◌≢◌, ⊤, ℕ, ◌+◌, ◌-◌, ◌^◌, ◌<◌, ◌≤◌, ◌==◌, min, Bool, true, List, [], ◌∷◌, ◌++◌, map, length, find, All, Contains, Option, Some, None, IfSome, IsSome}
-use Rattle.std.specs.List.{count_by}
 use Rattle.std.specs.Option.{option_map, option_map_or}
 use Rattle.sat_words.specs.Literal.{Literal}
 pub use Rattle.sat_words.specs.Literal.{IsOn}
@@ -93,10 +92,6 @@ clause_at s a = option_map (λ h. h.lits) (held_at s a)
 -- one more, where it is not the last count of 64 bits
 abbrev pub one_more : ℕ → ℕ
 one_more n = min (n + 1) (2 ^ 64 - 1)
-
--- how often the address is held
-abbrev pub times_held : PortState → ℕ → ℕ
-times_held s a = count_by (λ h. h.address == a) s.held
 
 -- what stands before the literals of a clause that is held
 abbrev pub head_of : Holding → Head

@@ -1,3 +1,4 @@
 pub mod Standings
 pub mod Waits
 pub mod Taking
+pub mod Filling

@@ -1,5 +1,6 @@
 -- A turn is taken and given back.
-use Rattle.std.proofs.Common.{◌≡◌, ◌∙◌, ℕ, ◌+◌, Bool, true, false, not, List, [], ◌∷◌, refl, sym, ap, subst, true≢false, arith, Some, None}
+use Rattle.io_edge.specs.declared.edge.Sink.{Ghosts}
+use Rattle.std.proofs.Common.{◌≡◌, ◌∙◌, ℕ, ◌+◌, Bool, true, false, not, List, [], ◌∷◌, refl, sym, ap, subst, arith, Some, None}
 use Rattle.std.specs.Prelude.{slice_index_or}
 use Rattle.std.specs.declared.option.Option.{Option}
 use Rattle.rup_model.specs.declared.journal.Entry.{Entry}
@@ -16,56 +17,45 @@ use Rattle.log_book.specs.declared.book.Book.{Book}
 use Rattle.log_book.specs.declared.turn.Turn.{Turn}
 use Rattle.log_book.specs.Books.{account_of, IsLogOf}
 use Rattle.log_book.specs.Turns.{IsTurn, HasBook, HasTaken, HasMissed}
-use Rattle.log_book.proofs.Standings.{state_whole}
-
-same_not : (a b : Bool) → not a ≡ not b → a ≡ b
-same_not true true e = refl
-same_not true false e = absurd (true≢false (sym e))
-same_not false true e = absurd (true≢false e)
-same_not false false e = refl
 
 pub missed : (v w : View) (free new found : ℕ) → w ≡ after_miss free new found v → HasMissed v w
-missed v w free new found e = record { parts = ap (λ (u : View). u.parts) e; rights = ap (λ (u : View). u.rights) e; stop = ap (λ (u : View). u.stop) e; layout = ap (λ (u : View). u.layout) e; opening = ap (λ (u : View). u.opening) e }
+missed v w free new found e = record { origin = ap (λ (u : View). u.origin) e; parts = ap (λ (u : View). u.parts) e; rights = ap (λ (u : View). u.rights) e; stop = ap (λ (u : View). u.stop) e; layout = ap (λ (u : View). u.layout) e; opening = ap (λ (u : View). u.opening) e }
 
 pub missed_none : (v : View) → HasMissed v v
-missed_none v = record { parts = refl; rights = refl; stop = refl; layout = refl; opening = refl }
+missed_none v = record { origin = refl; parts = refl; rights = refl; stop = refl; layout = refl; opening = refl }
 
 pub missed_both : (u v w : View) → HasMissed u v → HasMissed v w → HasMissed u w
-missed_both u v w a b = record { parts = b.parts ∙ a.parts; rights = b.rights ∙ a.rights; stop = b.stop ∙ a.stop; layout = b.layout ∙ a.layout; opening = b.opening ∙ a.opening }
+missed_both u v w a b = record { origin = b.origin ∙ a.origin; parts = b.parts ∙ a.parts; rights = b.rights ∙ a.rights; stop = b.stop ∙ a.stop; layout = b.layout ∙ a.layout; opening = b.opening ∙ a.opening }
 
 pub free_still : (v w : View) → HasMissed v w → IsFree v → (only w ≡ only v) × IsFree w
 free_still v w m h =
     let is : only w ≡ only v = ap (λ ps. slice_index_or ps 0 no_part) m.parts in
     (is, (m.parts ∙ h.0 ∙ (λ i. sym is i ∷ []), ap (λ (p : RingPart). p.turn) is ∙ h.1))
 
-module _ {S : Type 0} (written flushed target : S → Option (List ℕ)) (faults : S → ℕ) where
-  -- the book tells whether a write has failed
-  pub fault_is : (b : Book S) (l : Layout) (o : CoreOpening) (J : List Entry) (fault : Bool) → StandsFor account_of (IsLogOf written flushed target faults) b l o J fault → b.lines.spent ≡ fault
-  fault_is b l o J fault h = same_not b.lines.spent fault (sym (state_whole b.lines.spent b.ended) ∙ h.faulty)
-
-  pub has_book : (v w : View) (b : Book S) (J : List Entry) (fault : Bool) (free new : ℕ) → w ≡ after_take free new J fault v → new ≡ free + (only v).core.ring + 1 → StandsFor account_of (IsLogOf written flushed target faults) b v.layout v.opening J fault → HasBook written flushed target faults v w b
-  has_book v w b J fault free new e new_is h =
-      let f : b.lines.spent ≡ fault = fault_is b v.layout v.opening J fault h in
-      record {
-        journal = J;
-        free = free;
-        view = e ∙ (λ i. after_take free (new_is i) J (sym f i) v);
-        stands = subst (StandsFor account_of (IsLogOf written flushed target faults) b v.layout v.opening J) (sym f) h;
-      }
+module _ {S : Type 0} {d : Ghosts S} (written flushed target : S → Option (List ℕ)) (faults : S → ℕ) where
+  pub has_book : (v w : View) (b : Book S d) (J : List Entry) (fault : Bool) (free new : ℕ) → w ≡ after_take free new J fault v → new ≡ free + (only v).core.ring + 1 → StandsFor account_of (IsLogOf written flushed target faults) b v.origin v.layout v.opening J fault
+      → ((only v).failed ≡ true → fault ≡ true) → HasBook written flushed target faults v w b
+  has_book v w b J fault free new e new_is h still = record {
+    journal = J;
+    free = free;
+    view = e ∙ (λ i. after_take free (new_is i) J (sym h.faulty i) v);
+    stands = subst (StandsFor account_of (IsLogOf written flushed target faults) b v.origin v.layout v.opening J) (sym h.faulty) h;
+    still = λ q. h.faulty ∙ still q;
+  }
 
   -- nothing is written yet
-  pub has_taken : (v w : View) (t : Turn S) → v.parts ≡ only v ∷ [] → HasBook written flushed target faults v w t.book → t.noted.items ≡ [] → t.refused ≡ None → HasTaken written flushed target faults v w t
+  pub has_taken : (v w : View) (t : Turn S d) → v.parts ≡ only v ∷ [] → HasBook written flushed target faults v w t.book → t.noted.items ≡ [] → t.refused ≡ None → HasTaken written flushed target faults v w t
   has_taken v w t one b noted refused = record { book = b; noted = noted; refused = refused; turn = subst (λ (u : View). IsTurn written flushed target faults u t) (sym b.view) turn }
     where
-      turn : IsTurn written flushed target faults (after_take b.free (b.free + (only v).core.ring + 1) b.journal t.book.lines.spent v) t
+      turn : IsTurn written flushed target faults (after_take b.free (b.free + (only v).core.ring + 1) b.journal t.book.log.lines.spent v) t
       turn =
-          let u : View = after_take b.free (b.free + (only v).core.ring + 1) b.journal t.book.lines.spent v in
-          let parts : u.parts ≡ take_part b.journal t.book.lines.spent (only v) ∷ [] = ap (on_first (take_part b.journal t.book.lines.spent)) one in
-          let is : only u ≡ take_part b.journal t.book.lines.spent (only v) = ap (λ ps. slice_index_or ps 0 no_part) parts in
+          let u : View = after_take b.free (b.free + (only v).core.ring + 1) b.journal t.book.log.lines.spent v in
+          let parts : u.parts ≡ take_part b.journal t.book.log.lines.spent (only v) ∷ [] = ap (on_first (take_part b.journal t.book.log.lines.spent)) one in
+          let is : only u ≡ take_part b.journal t.book.log.lines.spent (only v) = ap (λ ps. slice_index_or ps 0 no_part) parts in
           let journal : (written_of u t.noted.items).journal ≡ b.journal = ap (λ (ns : List Note). (written_of u ns).journal) noted ∙ ap (λ (p : RingPart). journal_in p.turn) is in
           record {
             writing = (parts ∙ (λ i. sym is i ∷ []), (record { journal = b.journal }, ap (λ (p : RingPart). p.turn) is));
             may = subst (λ (ns : List Note). MayWrite u ns) (sym noted) tt;
-            refused = (subst (λ x. Rattle.std.specs.Prelude.IfSome x (λ z. Rattle.share_rule.specs.Seen.IsRefused u.opening (written_of u t.noted.items).journal t.book.lines.spent z)) (sym refused) tt, λ e. sym (ap (λ (p : RingPart). p.failed) is) ∙ e);
-            stands = subst (λ (K : List Entry). StandsFor account_of (IsLogOf written flushed target faults) t.book v.layout v.opening K t.book.lines.spent) (sym journal) b.stands;
+            refused = (subst (λ x. Rattle.std.specs.Prelude.IfSome x (λ z. Rattle.share_rule.specs.Seen.IsRefused u.opening (written_of u t.noted.items).journal t.book.log.lines.spent z)) (sym refused) tt, λ e. sym (ap (λ (p : RingPart). p.failed) is) ∙ e);
+            stands = subst (λ (K : List Entry). StandsFor account_of (IsLogOf written flushed target faults) t.book v.origin v.layout v.opening K t.book.log.lines.spent) (sym journal) b.stands;
           }

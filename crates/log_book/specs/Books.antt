@@ -1,104 +1,114 @@
 -- What a book is, and what its sink stands for.
-use Rattle.std.specs.Prelude.{◌≡◌, ◌≤◌, ◌+◌, ◌||◌, ℕ, Bool, true, false, ⊤, List, [], ◌∷◌, ◌++◌, Some, None, if◌then◌else◌}
+use Rattle.io_edge.specs.declared.edge.Sink.{Ghosts}
+use Rattle.std.specs.Prelude.{◌≡◌, ◌+◌, ◌||◌, ℕ, suc, Bool, true, false, List, [], ◌∷◌, length, Some, None, is_some, if◌then◌else◌}
 use Rattle.std.specs.declared.option.Option.{Option}
-use Rattle.std.specs.List.{list_any}
 use Rattle.sat_words.specs.Literal.{Literal}
+use Rattle.sat_words.specs.Clause.{is_empty}
 use Rattle.sat_words.specs.declared.line.Line.{Line}
-use Rattle.rup_model.specs.Log.{Accepted}
-use Rattle.drat_text.specs.Text.{text}
+use Rattle.sat_words.specs.declared.line.Line.TheVariants.{Add, Del}
+use Rattle.rup_model.specs.declared.journal.Entry.{Entry}
+use Rattle.rup_model.specs.Journal.{book, lines}
+use Rattle.drat_text.specs.Text.{CanBeSpelled}
 use Rattle.drat_text.specs.LineState.{LineState}
 use Rattle.drat_text.specs.LineOut.{PutLine, FailedLine}
 use Rattle.drat_text.specs.SinkData.{told_by}
-use Rattle.sat_words.specs.Clause.{is_empty}
-use Rattle.sat_words.specs.declared.line.Line.TheVariants.{Add, Del}
+use Rattle.drat_text.specs.JournalText.{Origin, HasText, HasTextCut}
+use Rattle.share_rule.specs.declared.Layout.{Layout}
+use Rattle.share_rule.specs.declared.view.BookOrigin.{BookOrigin}
 use Rattle.share_rule.specs.Books.{Account}
-use Rattle.log_book.specs.Kept.{with_line}
+use Rattle.log_book.specs.Kept.{with_line, with_kept}
 use Rattle.log_book.specs.declared.book.Book.{Book}
-use Rattle.share_rule.specs.declared.ledger.BookState.{BookState}
-use Rattle.share_rule.specs.declared.ledger.BookState.TheVariants.{Live, Ended, Broken}
-
--- where the book stands
-abbrev pub state_of : Bool → Bool → BookState
-state_of true ended = Broken
-state_of false true = Ended
-state_of false false = Live
-
--- the bytes, where they are told, are the text
-abbrev pub HoldsText : Option (List ℕ) → List ℕ → Type 0
-HoldsText None all = ⊤
-HoldsText (Some bytes) all = bytes ≡ all
-
--- the bytes, where they are told, are a front of the text
-abbrev pub HoldsFront : Option (List ℕ) → List ℕ → Type 0
-HoldsFront None all = ⊤
-HoldsFront (Some bytes) all = (rest : List ℕ) × (bytes ++ rest ≡ all)
-
--- a write failed at a line that is accepted behind the others: the sink has a front of the text of all of them, and has
--- counted a fault
-pub record IsCut (F : List (List Literal)) (ls : List Line) (out : LineState) : Type 0 where
-  pub line : Line
-  pub accepted : Accepted F (ls ++ line ∷ [])
-  pub front : HoldsFront out.written (text (ls ++ line ∷ []))
-  pub fault : 1 ≤ out.faults
-
--- what the sink has, and behind it what waits, is the text of the lines, unless a write has failed
-pub record IsLog (F : List (List Literal)) (ls : List Line) (out : LineState) : Type 0 where
-  pub whole : out.spent ≡ false → HoldsText out.written (text ls)
-  pub cut : out.spent ≡ true → IsCut F ls out
 
 -- the line adds the empty clause
 abbrev pub ends : Line → Bool
 ends (Add lits) = is_empty lits
 ends (Del lits) = false
 
--- the empty clause was given, or one of the lines adds it
-abbrev pub ended_by : List (List Literal) → List Line → Bool
-ended_by F ls = list_any is_empty F || list_any ends ls
+-- no byte, where bytes are told
+abbrev pub no_byte : Bool → Option (List ℕ)
+no_byte true = Some []
+no_byte false = None
+
+-- a line output, which had these bytes and faults, before the first line of a log for this formula
+abbrev pub begun : List (List Literal) → LineState → Origin
+begun F out = record { formula = F; journal = []; output = out }
+
+-- what a book that began so told then
+abbrev pub began : BookOrigin → List (List Literal) → LineState
+began w F = record { entries = 0; last = length F; spent = false; faults = w.faults; written = no_byte w.tells; target = w.target; flushed = w.flushed }
 
 -- The book itself
 
 -- what it accounts for
-abbrev pub account_of : {S : Type 0} → Book S → Account
-account_of b = record { entries = b.entries; last = b.lines.last; state = state_of b.lines.spent b.ended; holes = b.holes; kept = b.kept.lines }
+abbrev pub account_of : {S : Type 0} {d : Ghosts S} → Book S d → Account
+account_of b = record { entries = b.entries; last = b.log.lines.last; ended = b.ended; broken = b.log.lines.spent; holes = b.holes; kept = b.log.kept.lines }
 
 -- nothing stands in it yet
-pub record IsNew {S : Type 0} (clauses : ℕ) (sink : S) (asked : Bool) (b : Book S) : Type 0 where
-  pub lines : b.lines ≡ record { entries = 0; last = clauses; spent = false; waiting = []; sink = sink }
+pub record IsNew {S : Type 0} {d : Ghosts S} (clauses : ℕ) (sink : S) (asked : Bool) (b : Book S d) : Type 0 where
+  pub lines : b.log.lines ≡ record { entries = 0; last = clauses; spent = false; waiting = []; sink = sink }
+  pub kept : b.log.kept.lines ≡ (if asked then Some [] else None)
   pub entries : b.entries ≡ 0
   pub ended : b.ended ≡ false
   pub holes : b.holes ≡ []
-  pub kept : b.kept.lines ≡ (if asked then Some [] else None)
 
 -- it is the same, but for room
-pub record AreAlike {S : Type 0} (old new : Book S) : Type 0 where
-  pub lines : new.lines ≡ old.lines
+pub record AreAlike {S : Type 0} {d : Ghosts S} (old new : Book S d) : Type 0 where
+  pub lines : new.log.lines ≡ old.log.lines
+  pub kept : new.log.kept.lines ≡ old.log.kept.lines
   pub entries : new.entries ≡ old.entries
   pub ended : new.ended ≡ old.ended
   pub holes : new.holes ≡ old.holes
-  pub kept : new.kept.lines ≡ old.kept.lines
 
-module _ {S : Type 0} (written flushed target : S → Option (List ℕ)) (faults : S → ℕ) where
-  -- the lines as they are told, with the entries that have none
-  abbrev pub told_of : Book S → LineState
-  told_of b = record (told_by written flushed target faults b.lines) { entries = b.entries }
+-- a line output has come to a journal since it began, has failed at none of its lines, and each variable of the lines is one
+-- that a proof may name
+pub record IsFilled (o : Origin) (J : List Entry) (out : LineState) : Type 0 where
+  pub unspent : out.spent ≡ false
+  pub entries : out.entries ≡ length J
+  pub last : suc out.last ≡ (book o.formula J).next
+  pub text : HasText o J out
+  pub target : out.target ≡ o.output.target
+  pub flushed : out.flushed ≡ o.output.flushed
+  pub spelled : CanBeSpelled (lines o.formula J)
+
+-- what a new book tells
+abbrev pub told_new : {S : Type 0} (written flushed target : S → Option (List ℕ)) (faults : S → ℕ) → ℕ → S → Bool → LineState
+told_new written flushed target faults clauses sink asked = with_kept (if asked then Some [] else None) (told_by written flushed target faults (record { entries = 0; last = clauses; spent = false; waiting = []; sink = sink }))
+
+-- the origin tells this sink, which has not failed since, and that lines are kept where that was asked for
+pub record IsFrom {S : Type 0} (target : S → Option (List ℕ)) (faults : S → ℕ) (sink : S) (asked : Bool) (w : BookOrigin) : Type 0 where
+  pub target_is : w.target ≡ target sink
+  pub faults_are : w.faults ≡ faults sink
+  pub keeps : w.keeps ≡ asked
+
+module _ {S : Type 0} {d : Ghosts S} (written flushed target : S → Option (List ℕ)) (faults : S → ℕ) where
+  -- the lines as they are told, with the entries that have none and by the lines that are kept
+  abbrev pub told_of : Book S d → LineState
+  told_of b = record (with_kept b.log.kept.lines (told_by written flushed target faults b.log.lines)) { entries = b.entries }
+
+  -- what its sink tells, and whether it keeps its lines
+  abbrev pub origin_of : Book S d → BookOrigin
+  origin_of b = record { tells = is_some (written b.log.lines.sink); target = target b.log.lines.sink; flushed = flushed b.log.lines.sink; faults = faults b.log.lines.sink; keeps = is_some b.log.kept.lines }
 
   -- the line stands, under this number
-  pub record HasPut (old new : Book S) (line : Line) (number : ℕ) : Type 0 where
-    pub put : PutLine (told_by written flushed target faults old.lines) (told_by written flushed target faults new.lines) line number
+  pub record HasPut (old new : Book S d) (line : Line) (number : ℕ) : Type 0 where
+    pub put : PutLine (told_by written flushed target faults old.log.lines) (told_by written flushed target faults new.log.lines) line number
+    pub kept : new.log.kept.lines ≡ with_line old.log.kept.lines line
     pub entries : new.entries ≡ old.entries + 1
     pub ended : new.ended ≡ (old.ended || ends line)
     pub holes : new.holes ≡ old.holes
-    pub kept : new.kept.lines ≡ with_line old.kept.lines line
 
   -- the sink failed at it
-  pub record HasFailed (old new : Book S) (line : Line) : Type 0 where
-    pub failed : FailedLine (told_by written flushed target faults old.lines) (told_by written flushed target faults new.lines) line
+  pub record HasFailed (old new : Book S d) (line : Line) : Type 0 where
+    pub failed : FailedLine (told_by written flushed target faults old.log.lines) (told_by written flushed target faults new.log.lines) line
+    pub kept : new.log.kept.lines ≡ old.log.kept.lines
     pub entries : new.entries ≡ old.entries
     pub ended : new.ended ≡ old.ended
     pub holes : new.holes ≡ old.holes
-    pub kept : new.kept.lines ≡ old.kept.lines
 
-  -- its sink stands for the lines, and it knows whether they end the log
-  pub record IsLogOf (b : Book S) (F : List (List Literal)) (ls : List Line) : Type 0 where
-    pub sink : IsLog F ls (told_of b)
-    pub ended : b.ended ≡ ended_by F ls
+  -- its sink has failed since this origin exactly where a line failed; what it has, and behind it what waits, is the text of
+  -- the journal's lines, and where one failed a front of it; it was not flushed, and is for the same path
+  pub record IsLogOf (b : Book S d) (w : BookOrigin) (l : Layout) (F : List (List Literal)) (J : List Entry) : Type 0 where
+    pub whole : b.log.lines.spent ≡ false → HasText (begun F (began w F)) J (told_by written flushed target faults b.log.lines)
+    pub cut : b.log.lines.spent ≡ true → HasTextCut (begun F (began w F)) J l.vars (told_by written flushed target faults b.log.lines)
+    pub target_is : target b.log.lines.sink ≡ w.target
+    pub flushed_is : flushed b.log.lines.sink ≡ w.flushed

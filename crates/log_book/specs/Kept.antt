@@ -1,8 +1,13 @@
 -- Lines that are kept where they are asked for.
-use Rattle.std.specs.Prelude.{◌≡◌, ◌<◌, ℕ, List, [], ◌++◌, ◌∷◌, Some, IfSome}
+use Rattle.std.specs.Prelude.{◌≡◌, ◌<◌, ◌^◌, ℕ, false, List, [], ◌++◌, ◌∷◌, ⊤, All, Some, None, IfSome}
 use Rattle.std.specs.declared.option.Option.{Option}
 use Rattle.std.specs.Option.{option_map}
+use Rattle.sat_words.specs.Literal.{IsOn}
 use Rattle.sat_words.specs.declared.line.Line.{Line}
+use Rattle.rup_model.specs.Log.{lits_of}
+use Rattle.drat_text.specs.Text.{text, CanBeSpelled}
+use Rattle.drat_text.specs.LineState.{LineState}
+use Rattle.drat_text.specs.SinkData.{SinkData}
 
 -- the lines, for how many more there is room, and the copy of the line that comes next
 pub record KeptLines : Type 0 where
@@ -14,6 +19,46 @@ pub record KeptLines : Type 0 where
 abbrev pub with_line : Option (List Line) → Line → Option (List Line)
 with_line kept line = option_map (λ ls. ls ++ line ∷ []) kept
 
+-- the variables of the line are some that a proof may name
+abbrev pub IsSpelled : Line → Type 0
+IsSpelled line = All (IsOn (2 ^ 30)) (lits_of line)
+
 -- where lines are asked for, this one can be kept without memory
 abbrev pub IsReady : KeptLines → Line → Type 0
-IsReady k line = IfSome k.lines (λ _. (0 < k.room) × (k.next ≡ Some line))
+IsReady k line = IfSome k.lines (λ _. (0 < k.room) × (k.next ≡ Some line) × IsSpelled line)
+
+-- Lines on their way to a sink, which are kept where that is asked for
+
+-- those on their way, and those that are kept
+pub record LogData (S : Type 0) : Type 0 where
+  pub lines : SinkData S
+  pub kept : KeptLines
+
+-- the bytes, where they are told, are the text
+abbrev pub HoldsText : Option (List ℕ) → List ℕ → Type 0
+HoldsText None all = ⊤
+HoldsText (Some bytes) all = bytes ≡ all
+
+-- unless writing failed, what a line output has is the text of these lines
+pub record IsInStep (lines : List Line) (out : LineState) : Type 0 where
+  pub spelled : CanBeSpelled lines
+  pub whole : out.spent ≡ false → HoldsText out.written (text lines)
+
+-- kept lines are in step with those on their way
+abbrev pub AreInStep : Option (List Line) → LineState → Type 0
+AreInStep None out = ⊤
+AreInStep (Some lines) out = IsInStep lines out
+
+-- the bytes, which kept lines tell by their text, else the sink where it does
+abbrev pub told_bytes : Option (List Line) → Option (List ℕ) → Option (List ℕ)
+told_bytes None bytes = bytes
+told_bytes (Some lines) bytes = Some (text lines)
+
+-- what a flush has made sure of is told where lines are kept: nothing. So what is told shows whether they are.
+abbrev pub kept_mark : Option (List Line) → Option (List ℕ)
+kept_mark None = None
+kept_mark (Some lines) = Some []
+
+-- a line output with what kept lines tell
+abbrev pub with_kept : Option (List Line) → LineState → LineState
+with_kept kept out = record out { written = told_bytes kept out.written; flushed = kept_mark kept }

@@ -2,34 +2,33 @@
 ghost use Rattle.std.specs.Prelude.{◌≤◌};
 ghost use Rattle.sat_words.specs.declared.shared.TheConstants.{MAX_ENTRIES};
 
-use crate::kept::Kept;
+use crate::log_lines::LogLines;
 use clause_cell::Holes;
-use drat_text::SinkLines;
 use io_edge::Sink;
 use share_rule::Ledger;
 
-/// The proof's sink and the numbers of the log's lines, the words that are free for cells, and where they are asked for
-/// the lines.
+/// The proof's sink and the numbers of the log's lines, with the lines where they are asked for, and the words that are free
+/// for cells.
 #[derive(Drop)]
-pub struct Book<S> {
+pub struct Book<S: Sink> {
     /// The lines on their way to the sink.
-    pub lines: SinkLines<S>,
+    pub log: LogLines<S>,
     /// How many entries stand: the lines, and the reductions, which have none.
     pub entries: u64,
-    /// The empty clause was added.
+    /// The empty clause was added since rings began.
     pub ended: bool,
     /// The words that are free for cells.
     pub holes: Holes,
-    /// The lines, where they are asked for.
-    pub kept: Kept,
-    pub ghost counted: { lines.entries ≤ entries },
+    pub ghost counted: { log.lines.entries ≤ entries },
     pub ghost few: { entries ≤ MAX_ENTRIES },
 }
 
 impl<S: Sink> Ledger for Book<S> {
-    ghost use Rattle.log_book.specs.Books.{account_of, IsLogOf};
+    ghost use Rattle.log_book.specs.Books.{account_of, origin_of, IsLogOf};
 
     ghost account = { account_of };
+
+    ghost origin = { origin_of S.written S.flushed S.target S.faults };
 
     ghost stands = { IsLogOf S.written S.flushed S.target S.faults };
 
@@ -39,18 +38,16 @@ impl<S: Sink> Ledger for Book<S> {
 
     fn with_holes(self, holes: Holes) -> Self {
         let Book {
-            lines,
+            log,
             entries,
-            ended,
+            ended: _,
             holes: _,
-            kept,
         } = self;
         Book {
-            lines,
+            log,
             entries,
-            ended,
+            ended: false,
             holes,
-            kept,
         }
     }
 }

@@ -1,19 +1,22 @@
 // What a book does: it takes lines, and ends.
-ghost use Rattle.std.specs.Prelude.{◌≡◌, ◌<◌, ◌≤◌, ◌+◌, ◌^◌, ◌⊎◌, ◌||◌, [], true, false, Some, None, IfOk, IfErr, OnOk, OnErr, MatchResult, if◌then◌else◌};
+ghost use Rattle.std.specs.Prelude.{◌≡◌, ◌<◌, ◌+◌, ◌^◌, ◌≤◌, ◌⊎◌, length, [], true, false, is_err, List, IfOk, IfErr, OnOk, OnErr, MatchResult, Bool};
 ghost use Rattle.std.specs.Option.{option_map};
 ghost use Rattle.std.specs.Io.KnownBytes.{append_known};
 ghost use Rattle.io_edge.specs.Bytes.{IsFront};
-ghost use Rattle.io_edge.specs.Causes.{Rose};
+ghost use Rattle.io_edge.specs.Causes.{HasCause, Rose};
 ghost use Rattle.io_edge.specs.Paths.{IsEmptyWhereTold};
+ghost use Rattle.sat_words.specs.Literal.{Literal};
 ghost use Rattle.sat_words.specs.declared.shared.TheConstants.{MAX_ENTRIES};
-ghost use Rattle.drat_text.specs.LineOut.{WasPut};
-ghost use Rattle.log_book.specs.Books.{ends, told_of, IsNew, AreAlike, HasPut, HasFailed};
-ghost use Rattle.log_book.specs.Kept.{with_line, IsReady};
+ghost use Rattle.rup_model.specs.declared.journal.Entry.{Entry};
+ghost use Rattle.share_rule.specs.declared.Layout.{Layout};
+ghost use Rattle.share_rule.specs.Books.{HasLog};
+ghost use Rattle.log_book.specs.Books.{ends, begun, told_of, told_new, account_of, origin_of, IsNew, IsFilled, IsFrom, IsLogOf, AreAlike, HasPut, HasFailed};
+ghost use Rattle.log_book.specs.Kept.{IsReady};
 
 use crate::book::Book;
-use crate::kept::Kept;
+use crate::log_lines::LogLines;
 use clause_cell::Holes;
-use drat_text::{LineOut, LineStop, SinkLines};
+use drat_text::{LineOut, LineStop, text_determines_lines};
 use io_edge::{Failed, Sink};
 use sat_words::{Line, MAX_ENTRIES};
 use std::alloc::{AllocError, AllocFailed, Global};
@@ -40,41 +43,58 @@ impl<S: Sink> Book<S> {
         requires few { clauses ≤ 2 ^ 63 }
         requires empty { IsEmptyWhereTold (S.written sink) }
         ensures made { IfOk result (λ book. IsNew clauses sink keep_lines book) }
+        ensures told { IfOk result (λ book. told_of S.written S.flushed S.target S.faults book ≡ told_new S.written S.flushed S.target S.faults clauses sink keep_lines) }
         ensures back { IfErr result (λ refused. refused.value ≡ sink) }
     {
         let Ok(holes) = Holes::new(alloc, 0, 0) else {
             return Err(AllocFailed { value: sink });
         };
-        match SinkLines::new(alloc, clauses, sink) {
-            Ok(lines) => Ok(Book {
-                lines,
+        match LogLines::new(alloc, clauses, sink, keep_lines) {
+            Ok(log) => Ok(Book {
+                log,
                 entries: 0,
                 ended: false,
                 holes,
-                kept: Kept::new(alloc, keep_lines),
             }),
             Err(refused) => Err(refused),
         }
     }
 
+    /// The last number that was given: that of the last addition, or where there is none that of the formula's last clause.
+    pub fn last(&self) -> u64
+        ensures { result ≡ self.now.log.lines.last }
+    {
+        self.log.last()
+    }
+
+    /// A table can be made over a book that was filled through the bound of a line output, where it tells the text of a
+    /// journal's lines since it was new. The call computes nothing.
+    pub fn has_its_log(&self)
+        ensures { (F : List (List Literal)) (J : List Entry) (l : Layout) (sink : S) (asked : Bool) → IsEmptyWhereTold (S.written sink)
+            → IsFilled (begun F (told_new S.written S.flushed S.target S.faults (length F) sink asked)) J (told_of S.written S.flushed S.target S.faults self.now)
+            → HasLog account_of (IsLogOf S.written S.flushed S.target S.faults) self.now (origin_of S.written S.flushed S.target S.faults self.now) l F J × IsFrom S.target S.faults sink asked (origin_of S.written S.flushed S.target S.faults self.now) }
+    {
+        self.log.keeps_step();
+        text_determines_lines();
+    }
+
     /// Makes ready for the line: what follows takes no memory.
     pub(crate) fn prepare(&mut self, line: &Line) -> Result<(), AllocError>
         ensures same { AreAlike self.old self.new }
-        ensures ready { OnOk result (IsReady self.new.kept line.now) }
+        ensures ready { OnOk result (IsReady self.new.log.kept line.now) }
     {
-        self.kept.prepare(line)
+        self.log.prepare(line)
     }
 
     /// Puts the line behind the others, and answers the number of an addition.
     pub(crate) fn write(&mut self, line: &Line) -> Result<u64, Failed>
-        requires unspent { self.old.lines.spent ≡ false }
+        requires unspent { self.old.log.lines.spent ≡ false }
         requires room { self.old.entries < MAX_ENTRIES }
-        requires ready { IsReady self.old.kept line.now }
+        requires ready { IsReady self.old.log.kept line.now }
         ensures { MatchResult result (λ n. HasPut S.written S.flushed S.target S.faults self.old self.new line.now n) (λ _. HasFailed S.written S.flushed S.target S.faults self.old self.new line.now) }
     {
-        match self.lines.put(line) {
+        match self.log.put(line) {
             Ok(number) => {
-                self.kept.keep(line);
                 self.ended = self.ended || is_end(line);
                 self.entries += 1;
                 Ok(number)
@@ -88,7 +108,7 @@ impl<S: Sink> Book<S> {
     /// Counts a reduction, which has no line.
     pub(crate) fn count_reduction(&mut self)
         requires { self.old.entries < MAX_ENTRIES }
-        ensures { (self.new.lines ≡ self.old.lines) × (self.new.entries ≡ self.old.entries + 1) × (self.new.ended ≡ self.old.ended) × (self.new.holes ≡ self.old.holes) × (self.new.kept ≡ self.old.kept) }
+        ensures { (self.new.log ≡ self.old.log) × (self.new.entries ≡ self.old.entries + 1) × (self.new.ended ≡ self.old.ended) × (self.new.holes ≡ self.old.holes) }
     {
         self.entries += 1;
     }
@@ -96,21 +116,23 @@ impl<S: Sink> Book<S> {
     /// Writes what waits, flushes, and gives the sink back, with the lines where they were asked for. It fails exactly where
     /// the sink fails now, or failed before; of a broken book it only flushes.
     pub fn finish(self) -> (Result<(), Failed>, S, Option<Vec<Line>>)
-        ensures kept { option_map (λ v. v.items) result.2 ≡ self.kept.lines }
-        ensures whole { OnOk result.0 ((self.lines.spent ≡ false) × (S.written result.1 ≡ append_known (S.written self.lines.sink) self.lines.waiting) × (S.flushed result.1 ≡ S.written result.1) × (S.faults result.1 ≡ S.faults self.lines.sink)) }
-        ensures failed { OnErr result.0 ((self.lines.spent ≡ true) ⊎ Rose (S.faults self.lines.sink) (S.faults result.1)) }
-        ensures front { OnErr result.0 (IsFront (S.written result.1) (append_known (S.written self.lines.sink) self.lines.waiting)) }
-        ensures later { S.faults self.lines.sink ≤ S.faults result.1 }
-        ensures target { S.target result.1 ≡ S.target self.lines.sink }
+        ensures kept { option_map (λ v. v.items) result.2 ≡ self.log.kept.lines }
+        ensures whole { OnOk result.0 ((self.log.lines.spent ≡ false) × (S.written result.1 ≡ append_known (S.written self.log.lines.sink) self.log.lines.waiting) × (S.flushed result.1 ≡ S.written result.1)) }
+        ensures front { OnErr result.0 (IsFront (S.written result.1) (append_known (S.written self.log.lines.sink) self.log.lines.waiting)) }
+        ensures broken { self.log.lines.spent ≡ true → (is_err result.0 ≡ true) × (S.written result.1 ≡ S.written self.log.lines.sink) }
+        ensures cause { self.log.lines.spent ≡ false → HasCause (S.faults self.log.lines.sink) (S.faults result.1) result.0 }
+        ensures flushed { (S.flushed result.1 ≡ S.written result.1) ⊎ ((S.flushed result.1 ≡ S.flushed self.log.lines.sink) × Rose (S.faults self.log.lines.sink) (S.faults result.1)) }
+        ensures later { S.faults self.log.lines.sink ≤ S.faults result.1 }
+        ensures target { S.target result.1 ≡ S.target self.log.lines.sink }
     {
-        let Book { lines, kept, .. } = self;
-        let (written, mut sink) = lines.finish();
+        let Book { log, .. } = self;
+        let (written, mut sink, lines) = log.finish();
         let flushed = sink.flush();
         let result = match written {
             Ok(()) => flushed,
             Err(Failed) => Err(Failed),
         };
-        (result, sink, kept.into_lines())
+        (result, sink, lines)
     }
 }
 
@@ -119,12 +141,7 @@ impl<S: Sink> LineOut for Book<S> {
 
     ghost told = { told_of S.written S.flushed S.target S.faults };
 
-    fn put(&mut self, line: &Line) -> Result<u64, LineStop>
-        requires unspent { self.old.lines.spent ≡ false }
-        ensures put { WasPut (told_of S.written S.flushed S.target S.faults self.old) (told_of S.written S.flushed S.target S.faults self.new) line.now result }
-        ensures kept { MatchResult result (λ _. self.new.kept.lines ≡ with_line self.old.kept.lines line.now) (λ _. self.new.kept.lines ≡ self.old.kept.lines) }
-        ensures ended { MatchResult result (λ _. self.new.ended ≡ (self.old.ended || ends line.now)) (λ _. self.new.ended ≡ self.old.ended) }
-    {
+    fn put(&mut self, line: &Line) -> Result<u64, LineStop> {
         if self.entries == MAX_ENTRIES {
             return Err(LineStop::Full);
         }

@@ -10,6 +10,7 @@ mod book;
 mod book_lines;
 mod calls;
 mod kept;
+mod log_lines;
 mod steps;
 mod stop;
 mod turn;
@@ -17,6 +18,7 @@ mod turns;
 mod writes;
 
 pub use book::Book;
+pub use log_lines::LogLines;
 pub use stop::TurnStop;
 pub use turn::Turn;
-pub use turns::{give_turn, take_turn, try_turn};
+pub use turns::{give_turn, take_turn};

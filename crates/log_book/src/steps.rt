@@ -1,12 +1,9 @@
 // What each write of a turn begins and ends with.
-ghost use Rattle.std.specs.Prelude.{◌≡◌, MatchResult, false, ℕ, ◌+◌, ◌^◌, ◌<◌, ◌≤◌, ◌∷◌, [], ◌++◌, length, IfOk, IfErr, OnOk, OnErr, vec_len, vec_capacity};
-ghost use Rattle.clause_cell.specs.Packing.{words_for};
-ghost use Rattle.share_rule.specs.declared.note.Note.TheVariants.{Clause, Unit as UnitNote, Empty, Reduce, Bury};
+ghost use Rattle.std.specs.Prelude.{◌≡◌, ◌≢◌, ◌<◌, Err, IfErr, OnOk, vec_len, vec_capacity};
 ghost use Rattle.share_rule.specs.Seen.{Seen};
-ghost use Rattle.share_rule.specs.Turns.{next_number};
-ghost use Rattle.log_book.specs.Books.{AreAlike, HasPut, HasFailed};
+ghost use Rattle.log_book.specs.Books.{AreAlike};
 ghost use Rattle.log_book.specs.Kept.{IsReady};
-ghost use Rattle.log_book.specs.Turns.{IsTurn, MayNext, MayAdd, Grown, Stopped, Refused, IsGrounded, IsCause, IsAddCause, CouldWrite, waiting, sheet, noted_as};
+ghost use Rattle.log_book.specs.Turns.{IsTurn, Stopped, IsGrounded, IsCause, CouldWrite, noted_as};
 ghost use Rattle.log_book.specs.declared.stop.TurnStop.TheVariants as stop;
 
 use crate::book::Book;
@@ -38,11 +35,13 @@ impl<S: Sink> Turn<S> {
         ensures going { OnOk result (CouldWrite pass.now.me.0 self.now) }
         ensures cause { IfErr result (IsCause S.faults pass.now.me.0 self.now self.now) }
         ensures stopped { IfErr result (Stopped S.written S.flushed S.target S.faults pass.now.me.0 self.now self.now) }
+        ensures memory { result ≢ Err stop.Memory }
+        ensures fault { result ≢ Err stop.ProofFault }
     {
         if self.book.ended {
             return Err(TurnStop::Ended);
         }
-        if self.book.lines.is_spent() {
+        if self.book.log.is_spent() {
             return Err(TurnStop::Broken);
         }
         if self.book.entries >= MAX_ENTRIES {
@@ -59,7 +58,7 @@ impl<S: Sink> Turn<S> {
         ensures noted { (self.new.noted.items ≡ self.old.noted.items) × (self.new.refused ≡ self.old.refused) }
         ensures same { AreAlike self.old.book self.new.book }
         ensures room { OnOk result (vec_len self.new.noted < vec_capacity self.new.noted) }
-        ensures ready { OnOk result (IsReady self.new.book.kept line.now) }
+        ensures ready { OnOk result (IsReady self.new.book.log.kept line.now) }
     {
         self.noted.reserve(1)?;
         self.book.prepare(line)

@@ -37,7 +37,7 @@ fn try_take<S: Sink>(
 }
 
 /// One try to take the turn, in which nothing is written yet. None where another has it, or had it meanwhile.
-pub fn try_turn<S: Sink>(
+pub(crate) fn try_turn<S: Sink>(
     alloc: Global,
     table: &Shared<Book<S>>,
     pass: &mut Pass<Book<S>>,
@@ -91,7 +91,7 @@ fn give_as<N: Notes, S: Sink>(
 )
     requires pass { IsPassOf table.now pass.old × (pass.old.me.1 ≡ (0, None) ∷ []) }
     requires turn { IsWriting pass.old.me.0 × MayWrite pass.old.me.0 N.notes × WasRefused pass.old.me.0 N.notes N.refused N.failed }
-    requires book { Stands S.written S.flushed S.target S.faults book pass.old.me.0.layout pass.old.me.0.opening (written_of pass.old.me.0 N.notes).journal N.failed }
+    requires book { Stands S.written S.flushed S.target S.faults book pass.old.me.0.origin pass.old.me.0.layout pass.old.me.0.opening (written_of pass.old.me.0 N.notes).journal N.failed }
     ensures pass { IsPassOf table.now pass.new × (pass.new.id ≡ pass.old.id) × (pass.new.me.1 ≡ []) }
     ensures turn { pass.new.me.0 ≡ after_give N.notes N.refused N.failed pass.old.me.0 }
 {
@@ -114,7 +114,7 @@ fn give<S: Sink>(
 )
     requires pass { IsPassOf table.now pass.old × (pass.old.me.1 ≡ (0, None) ∷ []) }
     requires turn { IsWriting pass.old.me.0 × MayWrite pass.old.me.0 noted.now × WasRefused pass.old.me.0 noted.now refused failed }
-    requires book { Stands S.written S.flushed S.target S.faults book pass.old.me.0.layout pass.old.me.0.opening (written_of pass.old.me.0 noted.now).journal failed }
+    requires book { Stands S.written S.flushed S.target S.faults book pass.old.me.0.origin pass.old.me.0.layout pass.old.me.0.opening (written_of pass.old.me.0 noted.now).journal failed }
     ensures pass { IsPassOf table.now pass.new × (pass.new.id ≡ pass.old.id) × (pass.new.me.1 ≡ []) }
     ensures turn { pass.new.me.0 ≡ after_give noted.now refused failed pass.old.me.0 }
 {
@@ -126,14 +126,14 @@ pub fn give_turn<S: Sink>(table: &Shared<Book<S>>, pass: &mut Pass<Book<S>>, tur
     requires pass { IsPassOf table.now pass.old × (pass.old.me.1 ≡ (0, None) ∷ []) }
     requires turn { IsTurn S.written S.flushed S.target S.faults pass.old.me.0 turn }
     ensures pass { IsPassOf table.now pass.new × (pass.new.id ≡ pass.old.id) × (pass.new.me.1 ≡ []) }
-    ensures turn { pass.new.me.0 ≡ after_give turn.noted.items turn.refused turn.book.lines.spent pass.old.me.0 }
+    ensures turn { pass.new.me.0 ≡ after_give turn.noted.items turn.refused turn.book.log.lines.spent pass.old.me.0 }
 {
     let Turn {
         book,
         noted,
         refused,
     } = turn;
-    let failed = book.lines.is_spent();
+    let failed = book.log.is_spent();
     give(table, pass, book, noted.as_slice(), refused, failed);
     drop(noted);
     table.table.shared.wake_one(0);

@@ -1,13 +1,9 @@
 // What a turn writes.
-ghost use Rattle.std.specs.Prelude.{◌≡◌, MatchResult, false, ℕ, ◌+◌, ◌^◌, ◌<◌, ◌≤◌, ◌∷◌, [], ◌++◌, length, IfOk, IfErr, OnOk, OnErr, vec_len, vec_capacity};
-ghost use Rattle.clause_cell.specs.Packing.{words_for};
+ghost use Rattle.std.specs.Prelude.{◌≡◌, length, IfOk, IfErr, OnOk};
 ghost use Rattle.share_rule.specs.declared.note.Note.TheVariants.{Clause, Unit as UnitNote, Empty, Reduce, Bury};
 ghost use Rattle.share_rule.specs.Seen.{Seen};
 ghost use Rattle.share_rule.specs.Turns.{next_number};
-ghost use Rattle.log_book.specs.Books.{AreAlike, HasPut, HasFailed};
-ghost use Rattle.log_book.specs.Kept.{IsReady};
-ghost use Rattle.log_book.specs.Turns.{IsTurn, MayNext, MayAdd, Grown, Stopped, Refused, IsGrounded, IsCause, IsAddCause, CouldWrite, waiting, sheet, noted_as};
-ghost use Rattle.log_book.specs.declared.stop.TurnStop.TheVariants as stop;
+ghost use Rattle.log_book.specs.Turns.{IsTurn, MayNext, MayAdd, Grown, Stopped, IsCause, IsAddCause, waiting, sheet};
 
 use crate::book::Book;
 use crate::stop::TurnStop;
@@ -111,7 +107,7 @@ impl<S: Sink> Turn<S> {
         requires seen { Seen pass.now.me.0 }
         requires turn { IsTurn S.written S.flushed S.target S.faults pass.now.me.0 self.old }
         requires note { MayNext pass.now.me.0 self.old (Bury cell.address) }
-        requires clause { (lits.now ≡ (waiting pass.now.me.0 self.old cell.address).lits) × (length lits.now ≤ 2 ^ 31) }
+        requires clause { lits.now ≡ (waiting pass.now.me.0 self.old cell.address).lits }
         ensures added { OnOk result (Grown S.written S.flushed S.target S.faults pass.now.me.0 self.old self.new (Bury cell.address)) }
         ensures stopped { IfErr result (Stopped S.written S.flushed S.target S.faults pass.now.me.0 self.old self.new) }
         ensures cause { IfErr result (IsCause S.faults pass.now.me.0 self.old self.new) }
@@ -151,7 +147,7 @@ impl<S: Sink> Turn<S> {
     ) -> Result<Cref, TurnStop>
         requires seen { Seen pass.now.me.0 }
         requires turn { IsTurn S.written S.flushed S.target S.faults pass.now.me.0 self.old }
-        requires note { MayAdd pass.now.me.0 self.old kind lits.now × (length lits.now ≤ 2 ^ 31) }
+        requires note { MayAdd pass.now.me.0 self.old kind lits.now }
         ensures added { IfOk result (λ c. Grown S.written S.flushed S.target S.faults pass.now.me.0 self.old self.new (Clause kind lits.now glue c.address)) }
         ensures stopped { IfErr result (Stopped S.written S.flushed S.target S.faults pass.now.me.0 self.old self.new) }
         ensures cause { IfErr result (IsAddCause S.faults pass.now.me.0 self.old self.new (length lits.now)) }

@@ -17,6 +17,7 @@ use Rattle.share_core.proofs.ClauseLists.{all_last}
 use Rattle.share_rule.specs.declared.Layout.{Layout}
 use Rattle.atomic_table.specs.declared.shared.Seat.{Seat}
 use Rattle.share_rule.specs.declared.Shared.{Shared}
+use Rattle.share_rule.specs.declared.view.BookOrigin.{BookOrigin}
 use Rattle.share_rule.specs.declared.view.View.{View}
 use Rattle.share_rule.specs.FirstWords.{MayBegin, begun_with}
 use Rattle.share_rule.specs.Passes.{IsPassOf}
@@ -82,6 +83,15 @@ starts_on l n [] fine j d lt = absurd (omega arith)
 starts_on l n (c ∷ cs) fine zero d lt = (fine 0 c (omega arith)).2
 starts_on l n (c ∷ cs) fine (suc j) d lt = starts_on l (suc n) cs (λ i e q. fine (suc i) e (omega arith)) j d (omega arith)
 
+-- the log is not ended
+pub going : (vars : ℕ) (F : List (List Literal)) → All (IsFine vars) F → ended F [] ≡ false
+going vars F fine = ap (list_any is_empty) (append-nil F) ∙ none F fine
+  where
+    none : (G : List (List Literal)) → All (IsFine vars) G → list_any is_empty G ≡ false
+    none [] h = refl
+    none ([] ∷ G) h = let long = (h 0 [] (omega arith)).0.long in absurd (omega arith)
+    none ((k ∷ c) ∷ G) h = none G (λ j d lt. h (suc j) d (omega arith))
+
 pub may_begin : (f : FormulaData) (ss : List (ℕ × List Literal)) (l : Layout) → IsProblem f ss → l.vars ≡ f.vars → 1 ≤ l.rings → l.rings ≤ 16 → l.vars ≤ 2 ^ 30 → l.words ≤ 2 ^ 31 → MayBegin f.clauses l [] ss []
 may_begin f ss l p vars some few_rings few_vars few_words =
     let fine : All (IsFine l.vars) f.clauses = subst (λ (v : ℕ). All (IsFine v) f.clauses) (sym vars) p.fine in
@@ -97,25 +107,17 @@ may_begin f ss l p vars some few_rings few_vars few_words =
         told = λ k x lt. absurd (omega arith);
         distinct = refl;
       };
+      going = going f.vars f.clauses p.fine;
       few_entries = omega arith;
       starts = starts_on l 1 f.clauses fine;
       units = λ k x lt. absurd (omega arith);
     })
 
--- the log is not ended
-pub going : (vars : ℕ) (F : List (List Literal)) → All (IsFine vars) F → ended F [] ≡ false
-going vars F fine = ap (list_any is_empty) (append-nil F) ∙ none F fine
-  where
-    none : (G : List (List Literal)) → All (IsFine vars) G → list_any is_empty G ≡ false
-    none [] h = refl
-    none ([] ∷ G) h = let long = (h 0 [] (omega arith)).0.long in absurd (omega arith)
-    none ((k ∷ c) ∷ G) h = none G (λ j d lt. h (suc j) d (omega arith))
-
 -- the first pass of a new table
-pub first_from : {B : Type 0} (t : Shared B) (p : Seat (Option B) View) (l : Layout) (F : List (List Literal)) (ss : List (ℕ × List Literal)) → IsPassOf t p → p.me ≡ (first_view l (begun_with F l [] ss []), [])
+pub first_from : {B : Type 0} (t : Shared B) (p : Seat (Option B) View) (l : Layout) (F : List (List Literal)) (ss : List (ℕ × List Literal)) (w : BookOrigin) → IsPassOf t p → p.me ≡ (first_view l (begun_with F l [] ss []) w, [])
     → IsFirst t p 0 × (p.me.0.parts ≡ []) × (p.me.0.opening.rings ≡ l.rings)
-first_from t p l F ss pass is =
-    let v : p.me.0 ≡ first_view l (begun_with F l [] ss []) = ap (λ m. m.0) is in (
+first_from t p l F ss w pass is =
+    let v : p.me.0 ≡ first_view l (begun_with F l [] ss []) w = ap (λ m. m.0) is in (
       record { pass = pass; slots = ap (λ m. m.1) is; rights = λ r le lt. subst (λ (u : View). r < u.opening.rings → 0 < times_in r u.rights) (sym v) (λ low. let k = times_up_to r l.rings low in omega arith) lt },
       ap (λ (u : View). u.parts) v,
       ap (λ (u : View). u.opening.rings) v,

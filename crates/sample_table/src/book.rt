@@ -16,13 +16,15 @@ pub struct SampleBook {
 }
 
 impl Ledger for SampleBook {
-    ghost use Rattle.std.specs.Prelude.{⊤, None};
-    ghost use Rattle.share_rule.specs.declared.ledger.BookState.TheVariants.{Live};
+    ghost use Rattle.std.specs.Prelude.{⊤, None, false};
+    ghost use Rattle.share_rule.specs.Views.{no_origin};
 
     // No lines are kept, and nothing is written.
-    ghost account = { λ b. record { entries = b.entries; last = b.last; state = Live; holes = b.holes; kept = None } };
+    ghost account = { λ b. record { entries = b.entries; last = b.last; ended = false; broken = false; holes = b.holes; kept = None } };
 
-    ghost stands = { λ b F ls. ⊤ };
+    ghost origin = { λ b. no_origin };
+
+    ghost stands = { λ b w l F J. ⊤ };
 
     fn entries(&self) -> u64 {
         self.entries

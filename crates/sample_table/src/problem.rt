@@ -1,9 +1,9 @@
 //! Formulas of long clauses, and tables that are made for them.
-ghost use Rattle.std.specs.Prelude.{◌≡◌, ◌≤◌, ◌^◌, [], true, ◌&&◌, nat_le, IfOk};
+ghost use Rattle.std.specs.Prelude.{◌≡◌, ◌≤◌, ◌^◌, [], true, false, ◌&&◌, nat_le, IfOk};
 ghost use Rattle.std.specs.List.{list_all};
 ghost use Rattle.sat_words.specs.Clause.{has_opposites};
 ghost use Rattle.rup_model.specs.Opening.{IsLong};
-ghost use Rattle.share_rule.specs.Books.{HasLog, is_whole};
+ghost use Rattle.share_rule.specs.Books.{HasLog};
 ghost use Rattle.share_rule.specs.FirstWords.{MayBegin, begun_with, starts_at, addresses};
 ghost use Rattle.share_rule.specs.Layout.{first_cell};
 ghost use Rattle.share_rule.specs.Passes.{IsPassOf};
@@ -93,9 +93,9 @@ fn make_over<B: Ledger>(
     book: B,
 ) -> Result<(Shared<B>, Pass<B>, Vec<Cref>), MakeStop<B>>
     requires begins { MayBegin formula.now.clauses layout [] start.now units.now }
-    requires book { HasLog B.account B.stands book formula.now.clauses [] }
-    requires whole { is_whole (B.account book).state ≡ true }
-    ensures made { IfOk result (λ m. (m.0.layout ≡ layout) × IsPassOf m.0 m.1 × (m.1.me ≡ (first_view layout (begun_with formula.now.clauses layout [] start.now units.now), []))) }
+    requires book { HasLog B.account B.stands book (B.origin book) layout formula.now.clauses [] }
+    requires whole { (B.account book).broken ≡ false }
+    ensures made { IfOk result (λ m. (m.0.layout ≡ layout) × IsPassOf m.0 m.1 × (m.1.me ≡ (first_view layout (begun_with formula.now.clauses layout [] start.now units.now) (B.origin book), []))) }
     ensures cells { IfOk result (λ m. m.2.items ≡ addresses (starts_at (first_cell layout) start.now)) }
 {
     make(alloc, formula, layout, start, units, book)

@@ -18,6 +18,7 @@ use Rattle.share_core.specs.Events.{after, opened_part}
 use Rattle.share_core.specs.Sound.{Sound}
 use Rattle.share_core.proofs.Counting.{some_same}
 use Rattle.share_core.proofs.ClauseLists.{all_in}
+use Rattle.share_rule.specs.declared.view.BookOrigin.{BookOrigin}
 use Rattle.share_rule.specs.declared.Layout.{Layout}
 use Rattle.share_rule.specs.declared.rule.Key.{Key}
 use Rattle.share_rule.specs.declared.view.RingPart.{RingPart}
@@ -39,7 +40,7 @@ use Rattle.share_rule.proofs.Words.{places_recounted, count_words, recount_store
 use Rattle.share_rule.proofs.Moves.{one_ring, Stays, frame_of, given_same, stops_same, moved}
 use Rattle.share_rule.proofs.Steps.{told, recount_stays, stays_still}
 
-module _ {S : Type 0} (stands : S → Layout → CoreOpening → List Entry → Bool → Type 0) (k : Key) where
+module _ {S : Type 0} (stands : S → BookOrigin → Layout → CoreOpening → List Entry → Bool → Type 0) (k : Key) where
   pub store_next : (s : Table (Option S) View) (h : Shows stands k.layout s) (id a i n : ℕ) (v : View) → get_elem? s.views id ≡ some v → is_ready v.stage ≡ true → IsBuilding a v → 0 < i → i < words_for (length (making_of a v).lits)
       → (m : Shows stands k.layout (record { words = set s.words (a + i) n; homes = s.homes; views = set s.views id (after_store (a + i) n v) })) × (m.core ≡ h.core)
   store_next s h id a i n v at ready building some_i few_i =

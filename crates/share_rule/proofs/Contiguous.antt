@@ -16,7 +16,7 @@ use Rattle.clause_cell.specs.Free.{range, whole, first_fit, without_fit, rest_of
 use Rattle.rup_model.specs.declared.journal.Entry.{Entry}
 use Rattle.rup_model.specs.Basics.{put, one_if}
 use Rattle.rup_model.specs.Opening.{IsOpening, IsStart, Start}
-use Rattle.rup_model.specs.Journal.{Book}
+use Rattle.rup_model.specs.Journal.{Book, added}
 use Rattle.rup_model.proofs.Sums.{put_here}
 use Rattle.rup_model.proofs.Lists.{In}
 use Rattle.rup_model.proofs.ProgramOpening.{All_from_In}
@@ -247,13 +247,16 @@ module _ (F : List (List Literal)) (l : Layout) (J : List Entry) (ss : List (ℕ
   pub begun_places : total ss ≤ l.words → Places l (opened (begun_with F l J ss us))
   begun_places le = record {
     rings = refl;
+    small = may.few_vars;
     words = λ a x e. let s = cell_start l.rings (starts_at (first_cell l) ss) a x e in
         subst (λ (y : ℕ × Cell). (room l (begun_with F l J ss us) J).words y.1.number ≡ Some (range y.0 (words_for (length y.1.lits)))) (λ i. (s.2 i, s.3 i))
         (ap (λ (m : Room). m.words s.0.number) begun_room ∙ placed_words ss (record { holes = whole (first_cell l) l.words; words = λ _. None }) (first_cell l) l.words refl le (subst (IsDistinct nat_eq) (numbers ss) may.opens.numbers) s.0 s.1);
     vars = λ a x e. let s = cell_start l.rings (starts_at (first_cell l) ss) a x e in subst (λ (y : Cell). InVars l y.lits) s.3 (start_vars l ss (first_cell l) may.starts s.0 s.1).1;
     starts = All_from_In (λ s. InVars l s.lits) (starts_at (first_cell l) ss) (λ h i. (start_vars l ss (first_cell l) may.starts h i).1);
+    entries = subst (λ (K : List Entry). All (InVars l) (added K)) (sym (drop_all (length J) J (omega arith))) (λ i k lt. absurd (omega arith));
     units = may.units;
     few = few_distinct l.vars us may.opens.distinct may.units;
+    first = ([], sym (append-nil us));
   }
     where
       numbers : (ks : List (ℕ × List Literal)) → map (λ (s : Start). s.number) (map (λ (s : ℕ × List Literal). record { number = s.0; lits = s.1 }) ks) ≡ map (λ (s : ℕ × List Literal). s.0) ks

@@ -10,6 +10,7 @@ use Rattle.rup_model.specs.Basics.{one_if}
 use Rattle.share_core.specs.declared.part.CoreOpening.{CoreOpening}
 use Rattle.share_core.specs.State.{State}
 use Rattle.share_core.proofs.Counting.{none_some}
+use Rattle.share_rule.specs.declared.view.BookOrigin.{BookOrigin}
 use Rattle.share_rule.specs.declared.Layout.{Layout}
 use Rattle.share_rule.specs.declared.rule.Key.{Key}
 use Rattle.share_rule.specs.declared.view.RingPart.{RingPart}
@@ -36,8 +37,8 @@ none_of : (t : Option ℕ) → ((r : ℕ) → t ≡ Some r → ⊥) → t ≡ No
 none_of None h = refl
 none_of (Some r) h = absurd (h r refl)
 
-pub closes : {S : Type 0} (stands : S → Layout → CoreOpening → List Entry → Bool → Type 0) (k : Key) (id : ℕ) (v : View) (ws : List ℕ) (xs : List (Option S)) (slot : Option S) → is_ready v.stage ≡ true → IsWhole v → NoTurns v.parts
-    → Final (Sees (Shown stands k) id v) ws xs → get_elem? xs 0 ≡ some slot → (s : Seen v) × (b : S) × (slot ≡ Some b) × ((fault : Bool) × stands b v.layout v.opening s.core.journal fault × TellsFaults v.parts fault)
+pub closes : {S : Type 0} (stands : S → BookOrigin → Layout → CoreOpening → List Entry → Bool → Type 0) (k : Key) (id : ℕ) (v : View) (ws : List ℕ) (xs : List (Option S)) (slot : Option S) → is_ready v.stage ≡ true → IsWhole v → NoTurns v.parts
+    → Final (Sees (Shown stands k) id v) ws xs → get_elem? xs 0 ≡ some slot → (s : Seen v) × (b : S) × (slot ≡ Some b) × ((fault : Bool) × stands b v.origin v.layout v.opening s.core.journal fault × TellsFaults v.parts fault)
 closes stands k id v ws xs slot ready whole none f at_slot =
     let s = f.0 in
     let h : Shows stands k.layout s = is_open stands k s id v f.1.0 f.1.1 ready in
@@ -53,5 +54,5 @@ closes stands k id v ws xs slot ready whole none f at_slot =
       seen.0,
       home.0,
       some-injective slot (Some home.0) (sym at_slot ∙ f.4 0 (Some home.0) home.1),
-      (h.fault, subst (λ (y : Layout × (CoreOpening × List Entry)). stands home.0 y.0 y.1.0 y.1.1 h.fault) (λ i. (sym t.0 i, (sym t.1 i, ap (λ (q : State). q.journal) (sym seen.1) i))) home.2, λ i p e. (h.faults id v i p f.1.1 e).told),
+      (h.fault, subst (λ (y : BookOrigin × (Layout × (CoreOpening × List Entry))). stands home.0 y.0 y.1.0 y.1.1.0 y.1.1.1 h.fault) (λ i. (sym (h.origins id v f.1.1 ready) i, (sym t.0 i, (sym t.1 i, ap (λ (q : State). q.journal) (sym seen.1) i)))) home.2, λ i p e. (h.faults id v i p f.1.1 e).told),
     )

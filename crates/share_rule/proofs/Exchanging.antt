@@ -22,6 +22,7 @@ use Rattle.share_core.proofs.Counting.{slot_below}
 use Rattle.share_core.proofs.Slots.{slot_own}
 use Rattle.share_core.proofs.ClauseLists.{all_map, all_some}
 use Rattle.share_core.proofs.Leaving.{left_sound, left_one}
+use Rattle.share_rule.specs.declared.view.BookOrigin.{BookOrigin}
 use Rattle.share_rule.specs.declared.Layout.{Layout}
 use Rattle.share_rule.specs.declared.rule.Key.{Key}
 use Rattle.share_rule.specs.declared.view.GlueAt.{GlueAt}
@@ -96,7 +97,7 @@ exchange_frame c r s a p glue empty =
       glue_kept = λ n lt. refl;
     }
 
-module _ {S : Type 0} (stands : S → Layout → CoreOpening → List Entry → Bool → Type 0) (k : Key) where
+module _ {S : Type 0} (stands : S → BookOrigin → Layout → CoreOpening → List Entry → Bool → Type 0) (k : Key) where
   -- the slot of one ring for another
   slot_is_at : (s : Table (Option S) View) (h : Shows stands k.layout s) (id : ℕ) (v : View) → get_elem? s.views id ≡ some v → is_ready v.stage ≡ true → (from to class : ℕ)
       → slot_word v from to class ≡ slot_at k.layout (slot_of h.core.opening from to class)
@@ -141,7 +142,7 @@ module _ {S : Type 0} (stands : S → Layout → CoreOpening → List Entry → 
         part.given to class lt few,
         moved stands l s h d h.glue id v (after_put to class a x g v) (gave_part note x g p) (set s.words (slot_word v r to class) a) s.homes at
             (left_one c.opening c (Put r to class a) h.left (part.ring, lt, other.2, few, held))
-            (record { rings = h.places.rings; words = h.places.words; vars = h.places.vars; starts = h.places.starts; units = h.places.units; few = h.places.few })
+            (record { rings = h.places.rings; small = h.places.small; words = h.places.words; vars = h.places.vars; starts = h.places.starts; entries = h.places.entries; units = h.places.units; few = h.places.few; first = h.places.first })
             (subst (λ (y : ℕ). Words l d h.glue (set s.words y a)) (sym word) (slot_words l c h.glue s.words i a r q' st in_slots h.words))
             (exchange_frame c r i a q' h.glue (λ i' to' class' ne lt' few' e. absurd (ne (slot_own c.opening i' to' class' r to class lt' lt few' few e).0)))
             (λ _. refl) h.home holding.0 refl (ap (on_first (gave_part note x g)) holding.0) refl refl refl refl refl
@@ -214,7 +215,7 @@ module _ {S : Type 0} (stands : S → Layout → CoreOpening → List Entry → 
         keeps_glues h.glue x p part.glues,
         moved stands l s h d h.glue id v (after_get from class x g v) (took_part x g p) (set s.words (slot_word v from r class) 0) s.homes at
             (left_one c.opening c (Get r from class) h.left (part.ring, lt, other.2, few))
-            (record { rings = h.places.rings; words = h.places.words; vars = h.places.vars; starts = h.places.starts; units = h.places.units; few = h.places.few })
+            (record { rings = h.places.rings; small = h.places.small; words = h.places.words; vars = h.places.vars; starts = h.places.starts; entries = h.places.entries; units = h.places.units; few = h.places.few; first = h.places.first })
             (subst (λ (y : ℕ). Words l d h.glue (set s.words y 0)) (sym word) (slot_words l c h.glue s.words i 0 r q' st in_slots h.words))
             (exchange_frame c r i 0 q' h.glue (λ _ _ _ _ _ _ _. refl))
             (λ _. refl) h.home other.0 refl (ap (on_first (took_part x g)) other.0) refl refl refl refl refl

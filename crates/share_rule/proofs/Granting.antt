@@ -22,6 +22,7 @@ use Rattle.share_core.specs.Events.{after, granted_part}
 use Rattle.share_core.specs.Sound.{Sound, last_put}
 use Rattle.share_core.proofs.Counting.{none_some}
 use Rattle.share_core.proofs.ClauseLists.{all_map}
+use Rattle.share_rule.specs.declared.view.BookOrigin.{BookOrigin}
 use Rattle.share_rule.specs.declared.Layout.{Layout}
 use Rattle.share_rule.specs.declared.rule.Key.{Key}
 use Rattle.share_rule.specs.declared.view.RingPart.{RingPart}
@@ -58,7 +59,7 @@ none_given c d r sound lt same slots fresh = subst (λ (y : CoreOpening × (ℕ 
     (λ i. (sym same i, sym slots i))
     (λ to class lt' few some. absurd (some (sound.slots r to class lt lt' few some ∙ ap (λ (q : Part). last_put to class q.puts) fresh)))
 
-module _ {S : Type 0} (stands : S → Layout → CoreOpening → List Entry → Bool → Type 0) (k : Key) where
+module _ {S : Type 0} (stands : S → BookOrigin → Layout → CoreOpening → List Entry → Bool → Type 0) (k : Key) where
   grant_stops : (o : Option Stop) (v : View) → {r : ℕ} → IsStopOf o v.stop v.parts → IsStopOf o v.stop (new_part v.opening r ∷ v.parts)
   grant_stops o v {r} f = record { stands = f.stands; own = own }
     where
@@ -107,7 +108,7 @@ module _ {S : Type 0} (stands : S → Layout → CoreOpening → List Entry → 
       } in
       let frame : Frame r c d h.glue h.glue = frame_of r c d h.glue (record { opening = refl; journal = refl; turn = refl; units = refl; stop = refl; slots = λ _. refl; clauses = λ _. refl }) else_where others in
       let next = acted stands l s h d h.glue id r v w (set s.words (grant_at r) 0) s.homes at (left_one c.opening c (Grant r) h.left (lt, closed))
-      (record { rings = h.places.rings; words = h.places.words; vars = h.places.vars; starts = h.places.starts; units = h.places.units; few = h.places.few })
+      (record { rings = h.places.rings; small = h.places.small; words = h.places.words; vars = h.places.vars; starts = h.places.starts; entries = h.places.entries; units = h.places.units; few = h.places.few; first = h.places.first })
       (grant_words l c h.glue s.words r p (standing_of stands l s h) in_layout h.words) frame own lt here h.fault h.home
       (record {
         rights = λ i it. let q = times_without r i v.rights some_right in dite (ℕ_discrete i r)
@@ -127,6 +128,7 @@ module _ {S : Type 0} (stands : S → Layout → CoreOpening → List Entry → 
         told = λ op. t;
         parts = λ i y e. each_part c d h.glue v sound frame (λ j z q. (f.parts j z q, (part_owner l c h.glue h.owner id v j z f q).2)) first closed i y e;
       })
+      (λ _. h.origins id v at ready)
       (λ y _ z. (grant_stored l c d s.words r (ring_of y) y.stored (standing_of stands l s h) in_layout (λ _. refl) z.0, unit_kept l c d s.words (grant_at r) 0 y refl refl (λ k' lt e. omega arith) z.1))
       (λ i y e. stored_part l d (set s.words (grant_at r) 0) v (λ j z q. let out = h.stored id v j z at q in (grant_stored l c d s.words r (ring_of z) z.stored (standing_of stands l s h) in_layout (λ _. refl) out.0, unit_kept l c d s.words (grant_at r) 0 z refl refl (λ k' lt e. omega arith) out.1)) i y e)
       (λ _ _ _ z. z) (λ i y e. knows_part h.fault v (λ t is. none_some t is) (λ j z q. h.faults id v j z at q) i y e) in

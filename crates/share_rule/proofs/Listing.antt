@@ -1,5 +1,5 @@
 -- Units are listed and seen.
-use Rattle.std.proofs.Common.{◌≡◌, ℕ, zero, suc, ◌+◌, ◌*◌, ◌<◌, ◌≤◌, true, List, [], ◌∷◌, ◌++◌, map, length, set, refl, sym, ap, ◌∙◌, subst, inl, inr, arith, true≢false, length-append, get_or-set_same, Option, Some, None, Bool}
+use Rattle.std.proofs.Common.{◌≡◌, ℕ, zero, suc, ◌+◌, ◌*◌, ◌<◌, ◌≤◌, true, List, [], ◌∷◌, ◌++◌, map, length, set, refl, sym, ap, ◌∙◌, subst, inl, inr, arith, true≢false, append_assoc, length-append, get_or-set_same, Option, Some, None, Bool}
 use Rattle.std.specs.Prelude.{slice_index, slice_index_or, is_some}
 use mathlib.Core.Option.{some, some-injective, some-ne-none}
 use mathlib.Core.Option as maybe
@@ -18,6 +18,7 @@ use Rattle.share_core.specs.Events.{after, seen_part, unit_at as core_unit}
 use Rattle.share_core.specs.Sound.{Sound}
 use Rattle.share_core.proofs.Counting.{some_same, none_some}
 use Rattle.share_core.proofs.ClauseLists.{all_one, all_last}
+use Rattle.share_rule.specs.declared.view.BookOrigin.{BookOrigin}
 use Rattle.share_rule.specs.declared.view.Taken.{Taken}
 use Rattle.share_rule.specs.declared.Layout.{Layout}
 use Rattle.share_rule.specs.declared.rule.Key.{Key}
@@ -37,9 +38,9 @@ use Rattle.share_rule.proofs.Moves.{one_ring, frame_of, turn_has, given_same, st
 use Rattle.share_rule.proofs.Lists.{set_itself}
 use Rattle.share_rule.proofs.Literals.{few_distinct}
 use Rattle.share_rule.proofs.Steps.{told, stays_still}
-use Rattle.share_rule.proofs.UnitWords.{low_stored, unit_words, list_words, Listable, listable, seen_few, only_changed}
+use Rattle.share_rule.proofs.UnitWords.{low_stored, unit_words, list_words, Listable, listable, units_front, seen_few, only_changed}
 
-module _ {S : Type 0} (stands : S → Layout → CoreOpening → List Entry → Bool → Type 0) (k : Key) where
+module _ {S : Type 0} (stands : S → BookOrigin → Layout → CoreOpening → List Entry → Bool → Type 0) (k : Key) where
   -- the number of listed units is loaded
   counted_next : (s : Table (Option S) View) (h : Shows stands k.layout s) (id : ℕ) (v : View) → get_elem? s.views id ≡ some v → is_ready v.stage ≡ true → v.parts ≡ only v ∷ []
       → (m : Shows stands k.layout (record { words = s.words; homes = s.homes; views = set s.views id (after_count (slice_index s.words 2) v) })) × (m.core ≡ h.core)
@@ -99,7 +100,7 @@ module _ {S : Type 0} (stands : S → Layout → CoreOpening → List Entry → 
         subst (λ (y : Layout). InVars y (lit ∷ [])) (sym t.0) (one_of l c.units (length p.core.seen) lt h.places.units),
         moved stands l s h d h.glue id v (after_see lit v) (see_part lit p) s.words s.homes at
             (left_one c.opening c (See r) h.left (part.ring, subst (λ (y : ℕ). y < length c.units) same lt))
-            (record { rings = h.places.rings; words = h.places.words; vars = h.places.vars; starts = h.places.starts; units = h.places.units; few = h.places.few })
+            (record { rings = h.places.rings; small = h.places.small; words = h.places.words; vars = h.places.vars; starts = h.places.starts; entries = h.places.entries; units = h.places.units; few = h.places.few; first = h.places.first })
             (record { wide = h.words.wide; turn_is = h.words.turn_is; stop_is = h.words.stop_is; listed_is = h.words.listed_is; grant_is = h.words.grant_is; unit_is = h.words.unit_is; slot_is = h.words.slot_is; count_is = h.words.count_is; cell_is = h.words.cell_is })
             (frame_of r c d h.glue (record { opening = refl; journal = refl; turn = refl; units = refl; stop = refl; slots = λ _. refl; clauses = λ _. refl }) (λ _ _. refl) (put_else c.part r q')) (λ _. refl) h.home one refl (only_changed (see_part lit) v one) refl refl refl refl refl
             (stops_same c.stop v (after_see lit v) (see_part lit p) one (only_changed (see_part lit) v one) refl refl (h.each id v at).stops)
@@ -174,7 +175,7 @@ module _ {S : Type 0} (stands : S → Layout → CoreOpening → List Entry → 
       subst (λ (y : ℕ). (m : Shows stands l (record { words = set s.words 2 y; homes = s.homes; views = set s.views id (after_list lit v) })) × (m.core ≡ d)) (sym n_is)
       (moved stands l s h d h.glue id v (after_list lit v) (list_part lit p) (set s.words 2 n) s.homes at
       (left_one c.opening c (Publish r lit) h.left (part.ring, ok.turn, ok.told, same, ok.new))
-      (record { rings = h.places.rings; words = h.places.words; vars = h.places.vars; starts = h.places.starts; few = let q = long in let z = ok.room in omega arith; units = all_last (λ (x : Literal). (1 ≤ x.var) × (x.var ≤ l.vars)) c.units lit h.places.units (lit_vars 0 lit (omega arith)) })
+      (record { rings = h.places.rings; small = h.places.small; words = h.places.words; vars = h.places.vars; starts = h.places.starts; few = let q = long in let z = ok.room in omega arith; entries = h.places.entries; first = (h.places.first.0 ++ lit ∷ [], ap (λ (us : List Literal). us ++ lit ∷ []) h.places.first.1 ∙ append_assoc c.opening.units h.places.first.0 (lit ∷ [])); units = all_last (λ (x : Literal). (1 ≤ x.var) × (x.var ≤ l.vars)) c.units lit h.places.units (lit_vars 0 lit (omega arith)) })
       (list_words l c r lit h.glue s.words st ok.room word h.words)
       (record {
         opening = refl;
@@ -236,7 +237,10 @@ module _ {S : Type 0} (stands : S → Layout → CoreOpening → List Entry → 
       let mine = one_ring k.layout h.core h.glue h.owner id v (h.each id v at) one in
       let few = seen_few h.core (left_sound h.core.opening h.core h.left) h.glue (only v) mine.0 in
       let n_is = h.words.listed_is in
-      (after_count n v, keeps, tt, inr next, ((refl, refl, told stands k s (set s.words 2 n) id v (after_count n v) at ready next), omega arith))
+      let first = ap (λ (us : List Literal). length us) h.places.first.1 in
+      let long = length-append h.core.opening.units h.places.first.0 in
+      let same = ap (λ (o : CoreOpening). length o.units) ((h.each id v at).told ready).1 in
+      (after_count n v, keeps, tt, inr next, ((refl, refl, told stands k s (set s.words 2 n) id v (after_count n v) at ready next), omega arith, omega arith))
 
   pub sees_it : (slots id : ℕ) (me : Me (Option S) View) (w : ℕ) → is_ready me.0.stage ≡ true → me.0.parts ≡ only me.0 ∷ [] → length (only me.0).core.seen < (only me.0).listed → w ≡ next_unit_at me.0
       → Allows (Shown stands k) slots id me w (λ n. n) (saw_unit (step slots w 0 0 maybe.none) me)
@@ -277,6 +281,23 @@ seen_room v s one =
     let all = few_distinct v.layout.vars s.core.units sound.units.distinct s.standing.units in
     let listed = part.listed in
     (omega arith, omega arith)
+
+shorter_front : (xs ys ks ls : List Literal) → xs ++ ks ≡ ys ++ ls → length ys ≤ length xs → (later : List Literal) × (xs ≡ ys ++ later)
+shorter_front xs [] ks ls e le = (xs, refl)
+shorter_front [] (y ∷ ys) ks ls e le = absurd (omega arith)
+shorter_front (x ∷ xs) (y ∷ ys) ks ls e le =
+    let head : x ≡ y = cc in
+    let tail : xs ++ ks ≡ ys ++ ls = cc in
+    let r = shorter_front xs ys ks ls tail (omega arith) in
+    (r.0, λ i. head i ∷ r.1 i)
+
+-- a ring that has seen as many units as were listed from the start has seen those
+pub seen_first : (v : View) → Seen v → v.parts ≡ only v ∷ [] → length v.opening.units ≤ length (only v).core.seen → (later : List Literal) × ((only v).core.seen ≡ v.opening.units ++ later)
+seen_first v s one le =
+    let part : IsPart s.core s.glue (only v) = s.parts 0 (only v) (ap (λ ps. get_elem? ps 0) one) in
+    let front = units_front s.core (left_sound s.core.opening s.core s.left) s.glue (only v) part in
+    let first = s.places.first in
+    shorter_front (only v).core.seen v.opening.units front.0 first.0 (sym front.1 ∙ first.1 ∙ ap (λ (o : CoreOpening). o.units ++ first.0) (sym s.opening)) le
 
 -- a unit may be listed where its word is stored
 pub still : (lit : Literal) (n : ℕ) (v : View) → MayPublish lit v → (only (after_unit n v) ≡ unit_part n (only v)) × MayPublish lit (after_unit n v)

@@ -15,6 +15,7 @@ use Rattle.share_core.specs.State.{State, times_at, number_at, lits_at, clause_a
 use Rattle.share_core.specs.Events.{after}
 use Rattle.share_core.specs.Sound.{Sound}
 use Rattle.share_core.proofs.ClauseLists.{all_in}
+use Rattle.share_rule.specs.declared.view.BookOrigin.{BookOrigin}
 use Rattle.share_rule.specs.declared.Layout.{Layout}
 use Rattle.share_rule.specs.declared.rule.Key.{Key}
 use Rattle.share_rule.specs.declared.view.View.{View}
@@ -31,7 +32,7 @@ use Rattle.share_rule.proofs.Parts.{held_is, held_clause, is_open}
 use Rattle.share_rule.proofs.Moves.{one_ring, looked}
 use Rattle.share_rule.proofs.Steps.{told}
 
-module _ {S : Type 0} (stands : S → Layout → CoreOpening → List Entry → Bool → Type 0) (k : Key) where
+module _ {S : Type 0} (stands : S → BookOrigin → Layout → CoreOpening → List Entry → Bool → Type 0) (k : Key) where
   -- what is read of a held cell
   pub words_of : (l : Layout) (s : Table (Option S) View) (h : Shows stands l s) (v : View) (p : IsPart h.core h.glue (only v)) (a : ℕ) → 0 < times_at a (only v).core.held
       → Spells s.words a (clause_of a v).number (glue_in (clause_of a v).number (only v).glues) (clause_of a v).lits

@@ -13,6 +13,7 @@ use Rattle.rup_model.specs.Basics.{one_if}
 use Rattle.share_core.specs.State.{State, clause_at, slot_of}
 use Rattle.share_core.specs.declared.part.CoreOpening.{CoreOpening}
 use Rattle.share_core.specs.declared.part.Part.{Part}
+use Rattle.share_rule.specs.declared.view.BookOrigin.{BookOrigin}
 use Rattle.share_rule.specs.declared.Layout.{Layout}
 use Rattle.share_rule.specs.declared.view.RingPart.{RingPart}
 use Rattle.share_rule.specs.declared.view.View.{View}
@@ -111,6 +112,10 @@ stops_same o v w q one wp ws set f = record { stands = λ t e. f.stands t (sym w
 abbrev pub with_turn : RingPart → ℕ × (Option Taken × Bool)
 with_turn p = (ring_of p, (p.turn, p.failed))
 
+-- where the words lie, and what the book was
+abbrev pub ground : View → Layout × BookOrigin
+ground v = (v.layout, v.origin)
+
 -- Another ring's part
 
 -- what a step of ring r leaves alone
@@ -176,15 +181,15 @@ part_else r c d glue glue' p sound f ne h =
       given = f.given (ring_of p) p.gave ne h.ring h.given;
     }
 
-module _ {S : Type 0} (stands : S → Layout → CoreOpening → List Entry → Bool → Type 0) (l : Layout) where
+module _ {S : Type 0} (stands : S → BookOrigin → Layout → CoreOpening → List Entry → Bool → Type 0) (l : Layout) where
   -- one pass moves, and the part and the grant of one ring of its own, and homes
   pub acted : (s : Table (Option S) View) (h : Shows stands l s) (d : State) (glue' : ℕ → ℕ) (id r : ℕ) (v w : View) (ws : List ℕ) (hs : List (maybe.Option (Option S))) → get_elem? s.views id ≡ some v
       → Left d.opening d → Places l d → Words l d glue' ws → Frame r h.core d h.glue glue' → h.owner r ≡ id → r < d.opening.rings → d.granted r ≡ true
-      → (fault : Bool) → IsHome stands l d fault (record { words = ws; homes = hs; views = set s.views id w }) → Fits l d glue' h.owner id w
+      → (fault : Bool) → IsHome stands h.origin l d fault (record { words = ws; homes = hs; views = set s.views id w }) → Fits l d glue' h.owner id w → (is_ready w.stage ≡ true → w.origin ≡ h.origin)
       → ((p : RingPart) → ring_of p ≢ r → IsOut l h.core s.words p → IsOut l d ws p) → ((i : ℕ) (p : RingPart) → get_elem? w.parts i ≡ some p → IsOut l d ws p)
       → ((p : RingPart) → ring_of p ≢ r → IsPart d glue' p → KnowsFault h.fault p → KnowsFault fault p) → ((i : ℕ) (p : RingPart) → get_elem? w.parts i ≡ some p → KnowsFault fault p)
       → (n : Shows stands l (record { words = ws; homes = hs; views = set s.views id w })) × (n.core ≡ d)
-  acted s h d glue' id r v w ws hs at left st words frame own inside now fault home fit keep mine others knows =
+  acted s h d glue' id r v w ws hs at left st words frame own inside now fault home fit from keep mine others knows =
       let sound : Sound h.core = left_sound h.core.opening h.core h.left in
       let same : d.opening ≡ h.core.opening = frame.opening in (
         record {
@@ -209,7 +214,12 @@ module _ {S : Type 0} (stands : S → Layout → CoreOpening → List Entry → 
               (all_map (λ (k : ClauseAt). h.glue k.number ≡ 0) (λ (k : ClauseAt). glue' k.number ≡ 0) h.core.opening.starts (λ x i e. frame.glue_kept x.number (number_below h.core sound x i) ∙ e) h.start_glues);
           owners = λ i lt. let o = h.owners i (subst (λ (o : CoreOpening). i < o.rings) same lt) in let n : length (set s.views id w) ≡ length s.views = length-set s.views id w in omega arith;
           fault = fault;
+          origin = h.origin;
           home = home;
+          origins = λ j u is ready. ⊎_elim
+              (λ (x : (j ≡ id) × (w ≡ u)). ap (λ (y : View). y.origin) (sym x.1) ∙ from (ap (λ (y : View). is_ready y.stage) x.1 ∙ ready))
+              (λ (x : (j ≢ id) × (get_elem? s.views j ≡ some u)). h.origins j u x.1 ready)
+              (at_set s.views id j w u is);
           faults = λ j u i p is e. ⊎_elim
               (λ (x : (j ≡ id) × (w ≡ u)). knows i p (ap (λ (y : View). get_elem? y.parts i) x.1 ∙ e))
               (λ (x : (j ≢ id) × (get_elem? s.views j ≡ some u)). let f : Fits l h.core h.glue h.owner j u = h.each j u x.1 in
@@ -242,7 +252,7 @@ module _ {S : Type 0} (stands : S → Layout → CoreOpening → List Entry → 
   -- the same where the pass has that one ring, and the grants stay
   pub moved_with : (s : Table (Option S) View) (h : Shows stands l s) (d : State) (glue' : ℕ → ℕ) (id : ℕ) (v w : View) (q : RingPart) (ws : List ℕ) (hs : List (maybe.Option (Option S))) → get_elem? s.views id ≡ some v
       → Left d.opening d → Places l d → Words l d glue' ws → Frame (ring_of (only v)) h.core d h.glue glue' → ((i : ℕ) → d.granted i ≡ h.core.granted i)
-      → (fault : Bool) → IsHome stands l d fault (record { words = ws; homes = hs; views = set s.views id w }) → v.parts ≡ only v ∷ [] → w.rights ≡ v.rights → w.parts ≡ q ∷ [] → ring_of q ≡ ring_of (only v) → w.layout ≡ v.layout → w.opening ≡ v.opening → is_ready w.stage ≡ is_ready v.stage → in_draft w.stage ≡ in_draft v.stage → IsStopOf d.stop w.stop w.parts → IsPart d glue' q
+      → (fault : Bool) → IsHome stands h.origin l d fault (record { words = ws; homes = hs; views = set s.views id w }) → v.parts ≡ only v ∷ [] → w.rights ≡ v.rights → w.parts ≡ q ∷ [] → ring_of q ≡ ring_of (only v) → ground w ≡ ground v → w.opening ≡ v.opening → is_ready w.stage ≡ is_ready v.stage → in_draft w.stage ≡ in_draft v.stage → IsStopOf d.stop w.stop w.parts → IsPart d glue' q
       → ((p : RingPart) → ring_of p ≢ ring_of (only v) → IsOut l h.core s.words p → IsOut l d ws p) → IsOut l d ws q
       → ((p : RingPart) → ring_of p ≢ ring_of (only v) → IsPart d glue' p → KnowsFault h.fault p → KnowsFault fault p) → KnowsFault fault q
       → (n : Shows stands l (record { words = ws; homes = hs; views = set s.views id w })) × (n.core ≡ d)
@@ -257,9 +267,9 @@ module _ {S : Type 0} (stands : S → Layout → CoreOpening → List Entry → 
         owned = λ i lt. ap (times_in i) rings ∙ fit.owned i (subst (λ (o : CoreOpening). i < o.rings) same lt) ∙ (λ k. one_if ((h.owner i == id) && sym (grants i) k));
         settled = wd ∙ fit.settled;
         stops = stops;
-        told = λ op. let t = fit.told (sym wop ∙ op) in (wl ∙ t.0, wo ∙ t.1 ∙ sym same);
+        told = λ op. let t = fit.told (sym wop ∙ op) in (ap (λ q. q.0) wl ∙ t.0, wo ∙ t.1 ∙ sym same);
         parts = λ i y e. only_part i y e;
-      }) keep (λ i y e. only_stored i y e) others (λ i y e. only_knows i y e)
+      }) (λ op. ap (λ q. q.1) wl ∙ h.origins id v at (sym wop ∙ op)) keep (λ i y e. only_stored i y e) others (λ i y e. only_knows i y e)
     where
       only_part : (i : ℕ) (y : RingPart) → get_elem? w.parts i ≡ some y → IsPart d glue' y
       only_part zero y e = subst (IsPart d glue') (some-injective q y (ap (λ ps. get_elem? ps 0) (sym wp) ∙ e)) part
@@ -276,7 +286,7 @@ module _ {S : Type 0} (stands : S → Layout → CoreOpening → List Entry → 
   -- the same where the ring neither takes the turn nor gives it back
   pub moved : (s : Table (Option S) View) (h : Shows stands l s) (d : State) (glue' : ℕ → ℕ) (id : ℕ) (v w : View) (q : RingPart) (ws : List ℕ) (hs : List (maybe.Option (Option S))) → get_elem? s.views id ≡ some v
       → Left d.opening d → Places l d → Words l d glue' ws → Frame (ring_of (only v)) h.core d h.glue glue' → ((i : ℕ) → d.granted i ≡ h.core.granted i)
-      → IsHome stands l d h.fault (record { words = ws; homes = hs; views = set s.views id w }) → v.parts ≡ only v ∷ [] → w.rights ≡ v.rights → w.parts ≡ q ∷ [] → with_turn q ≡ with_turn (only v) → w.layout ≡ v.layout → w.opening ≡ v.opening → is_ready w.stage ≡ is_ready v.stage → in_draft w.stage ≡ in_draft v.stage → IsStopOf d.stop w.stop w.parts → IsPart d glue' q
+      → IsHome stands h.origin l d h.fault (record { words = ws; homes = hs; views = set s.views id w }) → v.parts ≡ only v ∷ [] → w.rights ≡ v.rights → w.parts ≡ q ∷ [] → with_turn q ≡ with_turn (only v) → ground w ≡ ground v → w.opening ≡ v.opening → is_ready w.stage ≡ is_ready v.stage → in_draft w.stage ≡ in_draft v.stage → IsStopOf d.stop w.stop w.parts → IsPart d glue' q
       → ((p : RingPart) → ring_of p ≢ ring_of (only v) → IsOut l h.core s.words p → IsOut l d ws p) → IsOut l d ws q
       → (n : Shows stands l (record { words = ws; homes = hs; views = set s.views id w })) × (n.core ≡ d)
   moved s h d glue' id v w q ws hs at left st words frame grants home vp wr wp qt wl wo wop wd stops part keep own =
@@ -288,7 +298,7 @@ module _ {S : Type 0} (stands : S → Layout → CoreOpening → List Entry → 
 
   -- one pass looks: its rights and parts stay
   pub looked : (s : Table (Option S) View) (h : Shows stands l s) (id : ℕ) (v w : View) → get_elem? s.views id ≡ some v
-      → w.rights ≡ v.rights → w.parts ≡ v.parts → w.layout ≡ v.layout → w.opening ≡ v.opening → is_ready w.stage ≡ is_ready v.stage → in_draft w.stage ≡ in_draft v.stage → IsStopOf h.core.stop w.stop w.parts
+      → w.rights ≡ v.rights → w.parts ≡ v.parts → ground w ≡ ground v → w.opening ≡ v.opening → is_ready w.stage ≡ is_ready v.stage → in_draft w.stage ≡ in_draft v.stage → IsStopOf h.core.stop w.stop w.parts
       → (n : Shows stands l (record { words = s.words; homes = s.homes; views = set s.views id w })) × (n.core ≡ h.core)
   looked s h id v w at wr wp wl wo wop wd stops = (
     record {
@@ -305,7 +315,12 @@ module _ {S : Type 0} (stands : S → Layout → CoreOpening → List Entry → 
       start_glues = h.start_glues;
       owners = λ i lt. let o = h.owners i lt in let n : length (set s.views id w) ≡ length s.views = length-set s.views id w in omega arith;
       fault = h.fault;
+      origin = h.origin;
       home = h.home;
+      origins = λ j u is ready. ⊎_elim
+          (λ (x : (j ≡ id) × (w ≡ u)). ap (λ (y : View). y.origin) (sym x.1) ∙ ap (λ q. q.1) wl ∙ h.origins id v at (sym wop ∙ ap (λ (y : View). is_ready y.stage) x.1 ∙ ready))
+          (λ (x : (j ≢ id) × (get_elem? s.views j ≡ some u)). h.origins j u x.1 ready)
+          (at_set s.views id j w u is);
       faults = λ j u i p is e. ⊎_elim
           (λ (x : (j ≡ id) × (w ≡ u)). h.faults id v i p at (ap (λ ps. get_elem? ps i) (sym wp) ∙ ap (λ (y : View). get_elem? y.parts i) x.1 ∙ e))
           (λ (x : (j ≢ id) × (get_elem? s.views j ≡ some u)). h.faults j u i p x.1 e)
@@ -316,7 +331,7 @@ module _ {S : Type 0} (stands : S → Layout → CoreOpening → List Entry → 
             owned = λ i lt. ap (λ ps. times_in i (map ring_of ps)) wp ∙ f.owned i lt;
             settled = wd ∙ f.settled;
             stops = stops;
-            told = λ op. let t = f.told (sym wop ∙ op) in (wl ∙ t.0, wo ∙ t.1);
+            told = λ op. let t = f.told (sym wop ∙ op) in (ap (λ q. q.0) wl ∙ t.0, wo ∙ t.1);
             parts = λ i y e. f.parts i y (ap (λ ps. get_elem? ps i) (sym wp) ∙ e);
           }))
           (λ (x : (j ≢ id) × (get_elem? s.views j ≡ some u)). h.each j u x.1)

@@ -1,5 +1,5 @@
 -- Each note is its event, and so are all notes of a turn.
-use Rattle.std.proofs.Common.{◌≡◌, ◌≢◌, ℕ, zero, suc, ◌^◌, ◌<◌, ◌≤◌, ◌==◌, ◌||◌, ◌&&◌, Bool, true, false, List, [], ◌∷◌, ◌++◌, length, fold, map, All, refl, sym, ap, ◌∙◌, subst, ⊎_elim, arith, eq-eqb, ne_eqb, true≢false, Option, Some, None}
+use Rattle.std.proofs.Common.{◌≡◌, ◌≢◌, ℕ, zero, suc, ◌^◌, ◌<◌, ◌≤◌, ◌==◌, ◌||◌, ◌&&◌, Bool, true, false, List, [], ◌∷◌, ◌++◌, length, drop, fold, map, All, refl, sym, ap, ◌∙◌, subst, ⊎_elim, arith, eq-eqb, ne_eqb, true≢false, Option, Some, None}
 use Rattle.std.specs.Prelude.{if◌then◌else◌}
 use Rattle.std.specs.Option.{is_none}
 use Rattle.sat_words.specs.Literal.{Literal}
@@ -11,7 +11,10 @@ use Rattle.rup_model.specs.declared.journal.Kind.TheVariants.{Derive}
 use Rattle.rup_model.specs.declared.journal.Entry.{Entry}
 use Rattle.rup_model.specs.declared.journal.Entry.TheVariants.{Del, Reduce as ReduceEntry}
 use Rattle.rup_model.specs.Basics.{put, one_if}
-use Rattle.rup_model.specs.Journal.{ended}
+use Rattle.std.proofs.lemmas.List.{drop-append-le}
+use Rattle.std.proofs.lemmas.List.Elements.{All-append}
+use Rattle.rup_model.specs.Journal.{added, ended}
+use Rattle.rup_model.proofs.Additions.{added-append}
 use Rattle.rup_model.proofs.Sums.{put_here, put_else, at_put, below_at}
 use Rattle.share_core.specs.declared.event.Event.TheVariants as event
 use Rattle.share_core.specs.declared.stored.ClauseAt.{ClauseAt}
@@ -23,7 +26,7 @@ use Rattle.share_core.specs.Events.{after, made_part, wrote_part, buried_part, w
 use Rattle.share_core.specs.Enabled.{Writes}
 use Rattle.share_core.specs.Sound.{Sound, IsCopy, idle_at}
 use Rattle.share_core.proofs.Counting.{some_same, none_some, cell_cases}
-use Rattle.share_core.proofs.ClauseLists.{all_in, all_map}
+use Rattle.share_core.proofs.ClauseLists.{all_in, all_map, all_one}
 use Rattle.share_rule.specs.declared.Layout.{Layout}
 use Rattle.share_rule.specs.declared.note.Note.{Note}
 use Rattle.share_rule.specs.declared.note.Note.TheVariants.{Clause, Unit as UnitNote, Empty, Reduce, Bury}
@@ -68,21 +71,30 @@ module _ (l : Layout) (small : table_words l ≤ 2 ^ 63) (r : ℕ) where
     writes : IsGoing o s.journal → Writes c r
     writes g = subst (λ (J : List Entry). IsGoing o J → Writes c r) (sym sh.journal) (λ k. record { turn = turn; going = k.going; room = k.room }) g
 
-    plain_note : (n : Note) (e : Entry) → written c r (c.part r) e ≡ after c (event_of r n) → ended o.formula c.journal ≡ false → Left o (written c r (c.part r) e) → entry_of o r c.journal (c.part r) n ≡ e → room_after M e ≡ M → noted_core o r c.journal n (c.part r) ≡ wrote_part (length c.journal) e (c.part r)
+    -- the rings' additions stay on the variables
+    entries_next : (e : Entry) → All (InVars l) (added (e ∷ [])) → All (InVars l) (added (drop (length o.journal) (c.journal ++ e ∷ [])))
+    entries_next e h =
+        subst (All (InVars l)) (sym (ap added (drop-append-le (length o.journal) c.journal (e ∷ []) (begins_long c sound)) ∙ added-append (drop (length o.journal) c.journal) (e ∷ [])))
+        (All-append (InVars l) (added (drop (length o.journal) c.journal)) (added (e ∷ [])) pl.entries h)
+
+    plain_note : (n : Note) (e : Entry) → All (InVars l) (added (e ∷ [])) → written c r (c.part r) e ≡ after c (event_of r n) → ended o.formula c.journal ≡ false → Left o (written c r (c.part r) e) → entry_of o r c.journal (c.part r) n ≡ e → room_after M e ≡ M → noted_core o r c.journal n (c.part r) ≡ wrote_part (length c.journal) e (c.part r)
         → All (λ h. glue_in h.number (noted o r s n).glues ≡ glue h.number) (noted o r s n).part.held → All (λ h. glue_in h.number (noted o r s n).glues ≡ glue h.number) (noted o r s n).part.making
         → Noted l r c glue (n ∷ []) (noted o r s n)
-    plain_note n e runs going left' entry free part held made = record {
+    plain_note n e on runs going left' entry free part held made = record {
       core = written c r (c.part r) e;
       runs = runs;
       glue' = glue;
       left = left';
       places = record {
         rings = pl.rings;
+        small = pl.small;
         words = λ a x is. ap (λ (m : Room). m.words x.number) (room_next e ∙ free) ∙ pl.words a x is;
         vars = pl.vars;
         starts = pl.starts;
+        entries = entries_next e on;
         units = pl.units;
         few = pl.few;
+        first = pl.first;
       };
       beside = record {
         opening = refl;
@@ -107,20 +119,26 @@ module _ (l : Layout) (small : table_words l ≤ 2 ^ 63) (r : ℕ) where
       };
     }
 
+    none_on : InVars l []
+    none_on i k lt = absurd (omega arith)
+
+    none_added : All (InVars l) []
+    none_added i k lt = absurd (omega arith)
+
     may : (n : Note) → MayNote l o r s.journal s.part n → MayNote l o r c.journal (c.part r) n
     may n h = subst (λ (y : List Entry × Part). MayNote l o r y.0 y.1 n) (λ i. (sh.journal i, sh.part i)) h
 
     unit_note : (kind : Kind) (lit : Literal) → IsGoing o s.journal → MayNote l o r s.journal s.part (UnitNote kind lit) → Noted l r c glue ((UnitNote kind lit) ∷ []) (noted o r s (UnitNote kind lit))
     unit_note kind lit going h = let k = may (UnitNote kind lit) h in
-        plain_note (UnitNote kind lit) (addition_of c r kind (lit ∷ [])) refl (writes going).going (left_one o c (event.AddUnit r kind lit) left (lt, writes going, k.0, k.1)) refl refl refl sh.held_glues sh.made_glues
+        plain_note (UnitNote kind lit) (addition_of c r kind (lit ∷ [])) (all_one (InVars l) (lit ∷ []) k.2) refl (writes going).going (left_one o c (event.AddUnit r kind lit) left (lt, writes going, k.0, k.1)) refl refl refl sh.held_glues sh.made_glues
 
     empty_note : IsGoing o s.journal → MayNote l o r s.journal s.part Empty → Noted l r c glue (Empty ∷ []) (noted o r s Empty)
     empty_note going h = let k = may Empty h in
-        plain_note Empty (addition_of c r Derive []) refl (writes going).going (left_one o c (event.AddEmpty r) left (lt, writes going, k)) refl refl refl sh.held_glues sh.made_glues
+        plain_note Empty (addition_of c r Derive []) (all_one (InVars l) [] none_on) refl (writes going).going (left_one o c (event.AddEmpty r) left (lt, writes going, k)) refl refl refl sh.held_glues sh.made_glues
 
     reduce_note : IsGoing o s.journal → MayNote l o r s.journal s.part Reduce → Noted l r c glue (Reduce ∷ []) (noted o r s Reduce)
     reduce_note going h = let k = may Reduce h in
-        plain_note Reduce (ReduceEntry r) refl (writes going).going (left_one o c (event.Reduce r) left (lt, writes going, k)) refl refl refl sh.held_glues sh.made_glues
+        plain_note Reduce (ReduceEntry r) none_added refl (writes going).going (left_one o c (event.Reduce r) left (lt, writes going, k)) refl refl refl sh.held_glues sh.made_glues
 
     -- the ring's clauses are known by numbers below the next
     held_below : (h : ClauseAt) → IsCopy c.cell h → h.number < N
@@ -156,6 +174,7 @@ module _ (l : Layout) (small : table_words l ≤ 2 ^ 63) (r : ℕ) where
           left = left_one o c (event.AddClause r kind lits a) left (lt, writes going, k.0, k.1, free, some, k.2);
           places = record {
             rings = pl.rings;
+            small = pl.small;
             words = λ b y. at_put c.cell a (Some new) (λ (q : Option Cell). q ≡ Some y → (room l o (c.journal ++ e ∷ [])).words y.number ≡ Some (range b (words_for (length y.lits)))) b
                 (λ here is. subst (λ (z : Cell). (room l o (c.journal ++ e ∷ [])).words z.number ≡ Some (range b (words_for (length z.lits)))) (some_same new y is)
                 (ap (λ (m : Room). m.words N) after_it ∙ put_here M.words N (Some (range a need)) ∙ ap (λ (q : ℕ). Some (range q need)) (sym here)))
@@ -164,8 +183,10 @@ module _ (l : Layout) (small : table_words l ≤ 2 ^ 63) (r : ℕ) where
                 (λ here is. subst (λ (z : Cell). InVars l z.lits) (some_same new y is) k.3)
                 (λ ne is. pl.vars b y is);
             starts = pl.starts;
+            entries = entries_next e (all_one (InVars l) lits k.3);
             units = pl.units;
             few = pl.few;
+            first = pl.first;
           };
           beside = record {
             opening = refl;
@@ -223,6 +244,7 @@ module _ (l : Layout) (small : table_words l ≤ 2 ^ 63) (r : ℕ) where
           left = left_one o c (event.Bury r a) left (lt, writes going, k);
           places = record {
             rings = pl.rings;
+            small = pl.small;
             words = λ b y. at_put c.cell a None (λ (q : Option Cell). q ≡ Some y → (room l o (c.journal ++ e ∷ [])).words y.number ≡ Some (range b (words_for (length y.lits)))) b
                 (λ here is. absurd (none_some y is))
                 (λ ne is. ap (λ (m : Room). m.words y.number) (room_next e) ∙ freed_else M n y.number (λ q. ne (sound.cells.own b a y x is there (q ∙ n_is))) ∙ pl.words b y is);
@@ -230,8 +252,10 @@ module _ (l : Layout) (small : table_words l ≤ 2 ^ 63) (r : ℕ) where
                 (λ here is. absurd (none_some y is))
                 (λ ne is. pl.vars b y is);
             starts = pl.starts;
+            entries = entries_next e none_added;
             units = pl.units;
             few = pl.few;
+            first = pl.first;
           };
           beside = record {
             opening = refl;

@@ -20,6 +20,7 @@ use Rattle.share_core.proofs.Leaving.{left_sound}
 use Rattle.share_core.proofs.Standing.{start_below, next_more}
 use Rattle.share_core.proofs.Counting.{held_cell, held_counted, is_made, cell_cases, none_some}
 use Rattle.share_core.proofs.ClauseLists.{all_in}
+use Rattle.share_rule.specs.declared.view.BookOrigin.{BookOrigin}
 use Rattle.share_rule.specs.declared.Layout.{Layout}
 use Rattle.share_rule.specs.declared.rule.Key.{Key}
 use Rattle.share_rule.specs.declared.view.RingPart.{RingPart}
@@ -79,7 +80,7 @@ module _ (c : State) (sound : Sound c) (r a : ℕ) (lt : r < c.opening.rings) (m
 
 -- Views
 
-module _ {S : Type 0} (stands : S → Layout → CoreOpening → List Entry → Bool → Type 0) where
+module _ {S : Type 0} (stands : S → BookOrigin → Layout → CoreOpening → List Entry → Bool → Type 0) where
   -- where a pass is open, the table is
   pub is_open : (k : Key) (s : Table (Option S) View) (id : ℕ) (v : View) → Shown stands k s → get_elem? s.views id ≡ some v → is_ready v.stage ≡ true → Shows stands k.layout s
   is_open k s id v h at op = ⊎_elim

@@ -11,6 +11,7 @@ use Rattle.rup_model.specs.Basics.{put, one_if}
 use Rattle.rup_model.proofs.Sums.{put_here, put_else}
 use Rattle.share_core.specs.declared.part.CoreOpening.{CoreOpening}
 use Rattle.share_core.specs.State.{State}
+use Rattle.share_rule.specs.declared.view.BookOrigin.{BookOrigin}
 use Rattle.share_rule.specs.declared.Layout.{Layout}
 use Rattle.share_rule.specs.declared.rule.Key.{Key}
 use Rattle.share_rule.specs.declared.view.RingPart.{RingPart}
@@ -104,7 +105,7 @@ module _ (l : Layout) (c : State) (glue owner : ℕ → ℕ) (r : ℕ) where
       parts = λ i p e. absurd (some-ne-none p (sym e));
     }
 
-module _ {S : Type 0} (stands : S → Layout → CoreOpening → List Entry → Bool → Type 0) (k : Key) where
+module _ {S : Type 0} (stands : S → BookOrigin → Layout → CoreOpening → List Entry → Bool → Type 0) (k : Key) where
   -- a right moves to a new pass
   pub split_next : (s : Table (Option S) View) (h : Shows stands k.layout s) (id r : ℕ) (v : View) → get_elem? s.views id ≡ some v → is_ready v.stage ≡ true → IsRight r v
       → (n : Shows stands k.layout (record { words = s.words; homes = s.homes; views = set s.views id (without_right r v) ++ with_right r v ∷ [] })) × (n.core ≡ h.core)
@@ -141,7 +142,15 @@ module _ {S : Type 0} (stands : S → Layout → CoreOpening → List Entry → 
             (λ e. let q : owner' i ≡ n = ap owner' e ∙ here in omega arith)
             (λ ne. let q : owner' i ≡ h.owner i = there i ne in let o = h.owners i it in omega arith);
         fault = h.fault;
+        origin = h.origin;
         home = h.home;
+        origins = λ j u is op. ⊎_elim
+            (λ (x : (j < length (set s.views id cut)) × (get_elem? (set s.views id cut) j ≡ some u)). ⊎_elim
+            (λ (y : (j ≡ id) × (cut ≡ u)). ap (λ (z : View). z.origin) (sym y.1) ∙ h.origins id v at (ap (λ (z : View). is_ready z.stage) y.1 ∙ op))
+            (λ (y : (j ≢ id) × (get_elem? s.views j ≡ some u)). h.origins j u y.1 op)
+            (at_set s.views id j cut u x.1))
+            (λ (x : (j ≡ length (set s.views id cut)) × (with_right r v ≡ u)). ap (λ (z : View). z.origin) (sym x.1) ∙ h.origins id v at ready)
+            (at_end (set s.views id cut) (with_right r v) u j is);
         each = λ j u is. ⊎_elim
             (λ (x : (j < length (set s.views id cut)) × (get_elem? (set s.views id cut) j ≡ some u)).
             let low : j < n = let q = x.0 in omega arith in
@@ -203,7 +212,15 @@ module _ {S : Type 0} (stands : S → Layout → CoreOpening → List Entry → 
               (λ e. let q : owner' i ≡ id = to i e in let b = at_in s.views id v at in omega arith)
               (λ ne. let q : owner' i ≡ h.owner i = same i ne in let b = h.owners i it in omega arith);
           fault = h.fault;
+          origin = h.origin;
           home = h.home;
+          origins = λ j u is op. ⊎_elim
+              (λ (x : (j ≡ other) × (spent_view ≡ u)). absurd (true≢false (sym op ∙ ap (λ (z : View). is_ready z.stage) (sym x.1))))
+              (λ (x : (j ≢ other) × (get_elem? (set s.views id both) j ≡ some u)). ⊎_elim
+              (λ (y : (j ≡ id) × (both ≡ u)). ap (λ (z : View). z.origin) (sym y.1) ∙ h.origins id v at (ap (λ (z : View). is_ready z.stage) y.1 ∙ op))
+              (λ (y : (j ≢ id) × (get_elem? s.views j ≡ some u)). h.origins j u y.1 op)
+              (at_set s.views id j both u x.1))
+              (at_set (set s.views id both) other j spent_view u is);
           each = λ j u is. ⊎_elim
               (λ (x : (j ≡ other) × (spent_view ≡ u)). subst (λ (y : ℕ × View). Fits l c h.glue owner' y.0 y.1) (λ i. (sym x.0 i, x.1 i)) (record {
                 rights = λ i it. sym (off (owner' i) other (not (c.granted i)) (away h.owner owner' to same i));

@@ -21,6 +21,7 @@ use Rattle.share_core.specs.Events.{recounted, after, shared_part, dropped_part}
 use Rattle.share_core.specs.Sound.{Sound}
 use Rattle.share_core.proofs.Counting.{some_same, none_some}
 use Rattle.share_core.proofs.ClauseLists.{all_in}
+use Rattle.share_rule.specs.declared.view.BookOrigin.{BookOrigin}
 use Rattle.share_rule.specs.declared.Layout.{Layout}
 use Rattle.share_rule.specs.declared.rule.Key.{Key}
 use Rattle.share_rule.specs.declared.view.RingPart.{RingPart}
@@ -47,7 +48,7 @@ stays_still c = record { opening = refl; journal = refl; turn = refl; units = re
 no_maker : (y x : Cell) (i : ℕ) → Some y ≡ Some x → x.maker ≡ None → y.maker ≡ Some i → ⊥
 no_maker y x i e o mk = none_some i (sym o ∙ sym (ap (λ (z : Cell). z.maker) (some_same y x e)) ∙ mk)
 
-module _ {S : Type 0} (stands : S → Layout → CoreOpening → List Entry → Bool → Type 0) (k : Key) where
+module _ {S : Type 0} (stands : S → BookOrigin → Layout → CoreOpening → List Entry → Bool → Type 0) (k : Key) where
   -- what a step tells of the view that it leaves
   pub told : (s : Table (Option S) View) (ws : List ℕ) (id : ℕ) (v w : View) → get_elem? s.views id ≡ some v → is_ready w.stage ≡ true
       → Shows stands k.layout (record { words = ws; homes = s.homes; views = set s.views id w }) → Seen w

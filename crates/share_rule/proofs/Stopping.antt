@@ -17,6 +17,7 @@ use Rattle.share_core.specs.Events.{after, first_stop}
 use Rattle.share_core.specs.Sound.{Sound}
 use Rattle.share_core.proofs.Counting.{some_same, none_some}
 use Rattle.share_core.proofs.Leaving.{left_sound, left_one}
+use Rattle.share_rule.specs.declared.view.BookOrigin.{BookOrigin}
 use Rattle.share_rule.specs.declared.Layout.{Layout}
 use Rattle.share_rule.specs.declared.rule.Key.{Key}
 use Rattle.share_rule.specs.declared.view.RingPart.{RingPart}
@@ -31,7 +32,7 @@ use Rattle.share_rule.specs.Shown.{Words, Shown, Shows, ring_of, stop_number}
 use Rattle.share_rule.proofs.Lists.{set_itself}
 use Rattle.share_rule.proofs.Parts.{is_open, standing_of}
 use Rattle.share_rule.proofs.LowWords.{stop_words, low_out}
-use Rattle.share_rule.proofs.Moves.{one_ring, turn_same, refused_same, given_same, moved, looked}
+use Rattle.share_rule.proofs.Moves.{ground, one_ring, turn_same, refused_same, given_same, moved, looked}
 use Rattle.share_rule.proofs.Steps.{told}
 
 -- a word of a stop spells it
@@ -65,7 +66,7 @@ stop_no_effect : (o : Option Stop) (t s : Stop) → o ≡ Some t → first_stop 
 stop_no_effect None t s e = absurd (none_some t e)
 stop_no_effect (Some u) t s e = refl
 
-module _ {S : Type 0} (stands : S → Layout → CoreOpening → List Entry → Bool → Type 0) (k : Key) where
+module _ {S : Type 0} (stands : S → BookOrigin → Layout → CoreOpening → List Entry → Bool → Type 0) (k : Key) where
   -- the word spells the stop
   word_is : (s : Table (Option S) View) (h : Shows stands k.layout s) → stop_of (slice_index s.words 1) ≡ h.core.stop
   word_is s h =
@@ -74,7 +75,7 @@ module _ {S : Type 0} (stands : S → Layout → CoreOpening → List Entry → 
 
   -- a view that has what stands
   stop_seen : (s : Table (Option S) View) (h : Shows stands k.layout s) (id : ℕ) (v w : View) → get_elem? s.views id ≡ some v
-      → w.rights ≡ v.rights → w.parts ≡ v.parts → w.layout ≡ v.layout → w.opening ≡ v.opening → is_ready w.stage ≡ is_ready v.stage → in_draft w.stage ≡ in_draft v.stage → w.stop ≡ stop_of (slice_index s.words 1)
+      → w.rights ≡ v.rights → w.parts ≡ v.parts → ground w ≡ ground v → w.opening ≡ v.opening → is_ready w.stage ≡ is_ready v.stage → in_draft w.stage ≡ in_draft v.stage → w.stop ≡ stop_of (slice_index s.words 1)
       → (n : Shows stands k.layout (record { words = set s.words 1 (slice_index s.words 1); homes = s.homes; views = set s.views id w })) × (n.core ≡ h.core)
   stop_seen s h id v w at wr wp wl wo wn wd ws =
       let f = (h.each id v at).stops in
@@ -130,7 +131,7 @@ module _ {S : Type 0} (stands : S → Layout → CoreOpening → List Entry → 
       let own : own_stop (ring_of p) d.stop ≡ Some t = ap (own_stop (ring_of p)) stop ∙ (λ i. if eq-eqb t.ring (ring_of p) mine_ring i then Some t else None) in
       moved stands l s h d h.glue id v (after_win code v) (set_part t p) (set s.words 1 code) s.homes at
       (left_one c.opening c (StopEvent r kind) h.left (rp, low, high, λ e. part.ended_is (refuted e)))
-      (record { rings = h.places.rings; words = h.places.words; vars = h.places.vars; starts = h.places.starts; units = h.places.units; few = h.places.few })
+      (record { rings = h.places.rings; small = h.places.small; words = h.places.words; vars = h.places.vars; starts = h.places.starts; entries = h.places.entries; units = h.places.units; few = h.places.few; first = h.places.first })
       (subst (λ (n : ℕ). Words l d h.glue (set s.words 1 n)) number (stop_words l c h.glue s.words d.stop st h.words))
       (record {
         opening = refl;

@@ -18,6 +18,7 @@ use Rattle.share_core.specs.State.{State}
 use Rattle.share_core.specs.Events.{after}
 use Rattle.share_core.specs.Sound.{Sound}
 use Rattle.share_core.proofs.Counting.{some_same, none_some}
+use Rattle.share_rule.specs.declared.view.BookOrigin.{BookOrigin}
 use Rattle.share_rule.specs.declared.Layout.{Layout}
 use Rattle.share_rule.specs.declared.rule.Key.{Key}
 use Rattle.share_rule.specs.declared.note.Note.{Note}
@@ -77,7 +78,7 @@ free_turn : (t : Option ℕ) (n len rings : ℕ) → n ≡ 256 * len + turn_numb
 free_turn None n len rings e low few le = refl
 free_turn (Some q) n len rings e low few le = let k = few q refl in absurd (omega arith)
 
-module _ {S : Type 0} (stands : S → Layout → CoreOpening → List Entry → Bool → Type 0) (k : Key) where
+module _ {S : Type 0} (stands : S → BookOrigin → Layout → CoreOpening → List Entry → Bool → Type 0) (k : Key) where
   -- what a step tells of the view that it leaves
   pub told_out : (s : Table (Option S) View) (ws : List ℕ) (hs : List (maybe.Option (Option S))) (id : ℕ) (v w : View) → get_elem? s.views id ≡ some v → is_ready w.stage ≡ true
       → Shows stands k.layout (record { words = ws; homes = hs; views = set s.views id w }) → Seen w
@@ -99,7 +100,7 @@ module _ {S : Type 0} (stands : S → Layout → CoreOpening → List Entry → 
       let knew : KnowsFault h.fault p = h.faults id v 0 p at (ap (λ ps. get_elem? ps 0) free_pass.0) in
       moved_with stands l s h d h.glue id v (after_take free new c.journal h.fault v) (take_part c.journal h.fault p) (set s.words 0 new) (set s.homes 0 maybe.none) at
       (left_one c.opening c (TakeTurn r) h.left (part.ring, none))
-      (record { rings = h.places.rings; words = h.places.words; vars = h.places.vars; starts = h.places.starts; units = h.places.units; few = h.places.few })
+      (record { rings = h.places.rings; small = h.places.small; words = h.places.words; vars = h.places.vars; starts = h.places.starts; entries = h.places.entries; units = h.places.units; few = h.places.few; first = h.places.first })
       (turn_words l c d h.glue h.glue s.words new st h.words new_is refl refl (λ _. refl) (λ _. refl) (λ a x is o. (is, refl)))
       (record {
         opening = refl;
@@ -171,7 +172,8 @@ module _ {S : Type 0} (stands : S → Layout → CoreOpening → List Entry → 
             book = b;
             out = refl;
             view = refl;
-            stood = subst (λ (y : Layout × CoreOpening). stands b y.0 y.1 c.journal h.fault) (λ i. (sym t.0 i, sym t.1 i)) home.2;
+            stood = subst (λ (y : BookOrigin × (Layout × CoreOpening)). stands b y.0 y.1.0 y.1.1 c.journal h.fault) (λ i. (sym (h.origins id v at ready) i, (sym t.0 i, sym t.1 i))) home.2;
+            still = (h.faults id v 0 (only v) at (ap (λ ps. get_elem? ps 0) free_pass.0)).told;
             seen = told_out s (set s.words 0 new) (set s.homes 0 maybe.none) id v w at ready next.0;
           }),
           (λ ne. absurd (ne e)),
@@ -189,7 +191,7 @@ module _ {S : Type 0} (stands : S → Layout → CoreOpening → List Entry → 
       (turn_has c (ring_of (only v)) t is, record { journal = ap journal_in has ∙ turn_is c (ring_of (only v)) t is; part = part.part; held_glues = part.glues; made_glues = part.made_glues })
 
   pub give_next : (s : Table (Option S) View) (h : Shows stands k.layout s) (id : ℕ) (v : View) (b : S) (ns : List Note) (x : Option Refusal) (failed : Bool) → 0 < length s.homes → get_elem? s.views id ≡ some v → is_ready v.stage ≡ true → IsWriting v
-      → MayWrite v ns → WasRefused v ns x failed → stands b v.layout v.opening (written_of v ns).journal failed
+      → MayWrite v ns → WasRefused v ns x failed → stands b v.origin v.layout v.opening (written_of v ns).journal failed
       → (m : Shows stands k.layout (record { words = set s.words 0 (256 * length (written_of v ns).journal); homes = set s.homes 0 (some (Some b)); views = set s.views id (after_give ns x failed v) }))
       × (m.core.journal ≡ (written_of v ns).journal) × (m.core ≡ after (fold after h.core (map (event_of (ring_of (only v))) ns)) (GiveTurn (ring_of (only v))))
   give_next s h id v b ns x failed room at ready writing may cause stood =
@@ -221,7 +223,7 @@ module _ {S : Type 0} (stands : S → Layout → CoreOpening → List Entry → 
       let still : h.fault ≡ true → failed ≡ true = λ e. cause.1 (knew.taken writing.1.0 writing.1.1 e) in
       let next = moved_with stands l s h d all.glue' id v (after_give ns x failed v) (give_part v.opening (written_of v ns) x failed p) (set s.words 0 n) (set s.homes 0 (some (Some b))) at
       (left_one m.opening m (GiveTurn r) all.left (lt, turn))
-      (record { rings = all.places.rings; words = all.places.words; vars = all.places.vars; starts = all.places.starts; units = all.places.units; few = all.places.few })
+      (record { rings = all.places.rings; small = all.places.small; words = all.places.words; vars = all.places.vars; starts = all.places.starts; entries = all.places.entries; units = all.places.units; few = all.places.few; first = all.places.first })
       (turn_words l c d h.glue all.glue' s.words n st h.words n_is beside.stop beside.units beside.granted beside.slot
       (λ a y is o. let was = beside.open_cells a y is o in (was, beside.glue_else y.number (below a y was))))
       (record {
@@ -240,7 +242,7 @@ module _ {S : Type 0} (stands : S → Layout → CoreOpening → List Entry → 
         glue_kept = beside.glue_else;
       })
       beside.granted failed
-      (λ _. (b, set_here s.homes 0 (some (Some b)) room, subst (λ (y : Layout × (CoreOpening × List Entry)). stands b y.0 y.1.0 y.1.1 failed) (λ i. (t.0 i, ((t.1 ∙ sym beside.opening) i, sheet.journal i))) stood))
+      (λ _. (b, set_here s.homes 0 (some (Some b)) room, subst (λ (y : BookOrigin × (Layout × (CoreOpening × List Entry))). stands b y.0 y.1.0 y.1.1.0 y.1.1.1 failed) (λ i. (h.origins id v at ready i, (t.0 i, ((t.1 ∙ sym beside.opening) i, sheet.journal i)))) stood))
       writing.0 refl (ap (on_first (give_part v.opening (written_of v ns) x failed)) writing.0) same_ring refl refl refl refl
       (subst (λ (o : Option Stop). IsStopOf o v.stop (on_first (give_part v.opening (written_of v ns) x failed) v.parts)) (sym beside.stop) (stops_same c.stop v (after_give ns x failed v) (give_part v.opening (written_of v ns) x failed p) writing.0 (ap (on_first (give_part v.opening (written_of v ns) x failed)) writing.0) refl refl (h.each id v at).stops))
       (record {
@@ -271,7 +273,7 @@ module _ {S : Type 0} (stands : S → Layout → CoreOpening → List Entry → 
       refusals o K (Some w) y cause old z e = subst (IsRefused o K failed) (some_same w z e) cause
 
   gives_at : (slots id : ℕ) (v : View) (b : S) (ns : List Note) (x : Option Refusal) (failed : Bool) → slots ≡ 1 → is_ready v.stage ≡ true → IsWriting v
-      → MayWrite v ns → WasRefused v ns x failed → stands b v.layout v.opening (written_of v ns).journal failed
+      → MayWrite v ns → WasRefused v ns x failed → stands b v.origin v.layout v.opening (written_of v ns).journal failed
       → Allows (Shown stands k) slots id (v, (0, Some b) ∷ []) 0 (λ _. 256 * length (written_of v ns).journal)
       (λ _. gives_turn ns x failed (step slots 0 (256 * length (written_of v ns).journal) 0 maybe.none) (v, (0, Some b) ∷ []) (256 * length (written_of v ns).journal))
   gives_at slots id v b ns x failed one ready writing may cause stood s shown wide at small =
@@ -280,7 +282,7 @@ module _ {S : Type 0} (stands : S → Layout → CoreOpening → List Entry → 
       (after_give ns x failed v, gives, tt, inr next.0, (refl, refl, told_out s (set s.words 0 (256 * length (written_of v ns).journal)) (set s.homes 0 (some (Some b))) id v (after_give ns x failed v) at ready next.0))
 
   pub gives_it : (slots id : ℕ) (me : Me (Option S) View) (b : S) (ns : List Note) (x : Option Refusal) (failed : Bool) (new : ℕ) → slots ≡ 1 → is_ready me.0.stage ≡ true → me.1 ≡ (0, Some b) ∷ [] → IsWriting me.0
-      → MayWrite me.0 ns → WasRefused me.0 ns x failed → stands b me.0.layout me.0.opening (written_of me.0 ns).journal failed → new ≡ 256 * length (written_of me.0 ns).journal
+      → MayWrite me.0 ns → WasRefused me.0 ns x failed → stands b me.0.origin me.0.layout me.0.opening (written_of me.0 ns).journal failed → new ≡ 256 * length (written_of me.0 ns).journal
       → Allows (Shown stands k) slots id me 0 (λ _. new) (λ _. gives_turn ns x failed (step slots 0 new 0 maybe.none) me new)
   gives_it slots id me b ns x failed new one ready out writing may cause stood new_is =
       subst (λ (y : List (ℕ × Option S) × ℕ). Allows (Shown stands k) slots id (me.0, y.0) 0 (λ _. y.1) (λ _. gives_turn ns x failed (step slots 0 y.1 0 maybe.none) (me.0, y.0) y.1)) (λ i. (sym out i, sym new_is i))

@@ -1,5 +1,5 @@
 -- What a table begins with.
-use Rattle.std.specs.Prelude.{◌≡◌, ◌≤◌, ◌<◌, ◌^◌, ℕ, zero, suc, ⊤, ◌+◌, ◌-◌, ◌*◌, ◌/◌, List, [], ◌∷◌, ◌++◌, map, length, replicate, All}
+use Rattle.std.specs.Prelude.{◌≡◌, ◌≤◌, ◌<◌, ◌^◌, false, ℕ, zero, suc, ⊤, ◌+◌, ◌-◌, ◌*◌, ◌/◌, List, [], ◌∷◌, ◌++◌, map, length, replicate, All}
 use Rattle.sat_words.specs.Literal.{Literal, code_of}
 use Rattle.sat_words.specs.declared.shared.TheConstants.{MAX_ENTRIES}
 use Rattle.clause_cell.specs.Packing.{words_for, pair_of, lit_word}
@@ -9,6 +9,7 @@ use Rattle.clause_cell.specs.declared.holes.HoleStop.TheVariants.{NoHole, Memory
 use Rattle.clause_cell.specs.Free.{largest}
 use Rattle.rup_model.specs.declared.journal.TheConstants.{RULER_RING}
 use Rattle.rup_model.specs.declared.journal.Entry.{Entry}
+use Rattle.rup_model.specs.Journal.{ended}
 use Rattle.rup_model.specs.Opening.{IsOpening}
 use Rattle.share_core.specs.declared.stored.ClauseAt.{ClauseAt}
 use Rattle.share_core.specs.declared.part.CoreOpening.{CoreOpening}
@@ -32,13 +33,14 @@ starts_at a (s ∷ ss) = record { address = a; number = s.0; lits = s.1 } ∷ st
 abbrev pub begun_with : List (List Literal) → Layout → List Entry → List (ℕ × List Literal) → List Literal → CoreOpening
 begun_with F l J ss us = record { formula = F; rings = l.rings; journal = J; starts = starts_at (first_cell l) ss; units = us }
 
--- a small layout, and an opening whose literals are on its variables
+-- a small layout, and an opening whose literals are on its variables; the formula has no empty clause
 pub record MayBegin (F : List (List Literal)) (l : Layout) (J : List Entry) (ss : List (ℕ × List Literal)) (us : List Literal) : Type 0 where
   pub some_ring : 1 ≤ l.rings
   pub few_rings : l.rings ≤ RULER_RING
   pub few_vars : l.vars ≤ 2 ^ 30
   pub few_words : l.words ≤ 2 ^ 31
   pub opens : IsOpening F (record { journal = J; starts = map (λ s. record { number = s.0; lits = s.1 }) ss; units = us })
+  pub going : ended F J ≡ false
   pub few_entries : length J ≤ MAX_ENTRIES
   pub starts : All (λ s. InVars l s.1) ss
   pub units : InVars l us

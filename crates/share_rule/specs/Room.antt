@@ -1,13 +1,14 @@
 -- Where clauses lie: a fold over the entries of a journal.
 use Rattle.std.specs.Option.{option_map}
-use Rattle.std.specs.Prelude.{◌≡◌, ◌≤◌, ◌||◌, Bool, ℕ, ◌*◌, List, length, drop, fold, All, Option, Some, None, if◌then◌else◌, nat_le}
+use Rattle.std.specs.Prelude.{◌≡◌, ◌≤◌, ◌++◌, ◌^◌, ◌||◌, Bool, ℕ, ◌*◌, List, length, drop, fold, All, Option, Some, None, if◌then◌else◌, nat_le}
+use Rattle.sat_words.specs.Literal.{Literal}
 use Rattle.clause_cell.specs.declared.holes.Hole.{Hole}
 use Rattle.clause_cell.specs.Packing.{words_for}
 use Rattle.clause_cell.specs.Free.{range, whole, first_fit, without_fit, with_range}
 use Rattle.rup_model.specs.declared.journal.Addition.{Addition}
 use Rattle.rup_model.specs.declared.journal.Entry.{Entry}
 use Rattle.rup_model.specs.Basics.{put}
-use Rattle.rup_model.specs.Journal.{addition, deletion, is_ring}
+use Rattle.rup_model.specs.Journal.{addition, added, deletion, is_ring}
 use Rattle.share_core.specs.declared.stored.ClauseAt.{ClauseAt}
 use Rattle.share_core.specs.declared.part.CoreOpening.{CoreOpening}
 use Rattle.share_core.specs.declared.stored.Cell.{Cell}
@@ -64,12 +65,16 @@ start_room l ss = fold (λ m s. placed m s.number (length s.lits)) (record { hol
 abbrev pub room : Layout → CoreOpening → List Entry → Room
 room l o J = fold room_after (start_room l o.starts) (drop (length o.journal) J)
 
--- cells lie where their clauses do; their literals and those of the listed units, of which there are no more than two a
--- variable, are on the layout's variables
+-- cells lie where their clauses do; their literals, those of the rings' additions and those of the listed units are on the
+-- layout's variables, which are no more than a proof may name; the units that were listed from the start stand first, and
+-- there are no more than two a variable
 pub record Places (l : Layout) (c : State) : Type 0 where
   pub rings : l.rings ≡ c.opening.rings
+  pub small : l.vars ≤ 2 ^ 30
   pub words : (a : ℕ) (x : Cell) → c.cell a ≡ Some x → (room l c.opening c.journal).words x.number ≡ Some (range a (words_for (length x.lits)))
   pub vars : (a : ℕ) (x : Cell) → c.cell a ≡ Some x → InVars l x.lits
   pub starts : All (λ s. InVars l s.lits) c.opening.starts
+  pub entries : All (InVars l) (added (drop (length c.opening.journal) c.journal))
   pub units : InVars l c.units
   pub few : length c.units ≤ 2 * l.vars
+  pub first : (later : List Literal) × (c.units ≡ c.opening.units ++ later)

@@ -10,6 +10,7 @@ use Rattle.share_core.specs.declared.event.Stop.{Stop}
 use Rattle.share_core.specs.declared.stored.Cell.{Cell}
 use Rattle.share_core.specs.State.{State, blank}
 use Rattle.share_core.specs.declared.part.CoreOpening.{CoreOpening}
+use Rattle.share_rule.specs.declared.view.BookOrigin.{BookOrigin}
 use Rattle.share_rule.specs.declared.Layout.{Layout}
 use Rattle.share_rule.specs.declared.rule.Key.{Key}
 use Rattle.clause_cell.specs.Packing.{words_for}
@@ -85,10 +86,10 @@ pub record KnowsFault (fault : Bool) (p : RingPart) : Type 0 where
   pub told : p.failed ≡ true → fault ≡ true
   pub taken : (t : Taken) → p.turn ≡ Some t → fault ≡ true → p.failed ≡ true
 
-module _ {S : Type 0} (stands : S → Layout → CoreOpening → List Entry → Bool → Type 0) where
+module _ {S : Type 0} (stands : S → BookOrigin → Layout → CoreOpening → List Entry → Bool → Type 0) where
   -- while the turn is free, the book is at home and stands for the journal, and tells whether a write has failed
-  abbrev pub IsHome : Layout → State → Bool → Table (Option S) View → Type 0
-  IsHome l c fault s = c.turn ≡ None → (b : S) × (get_elem? s.homes 0 ≡ some (some (Some b))) × stands b l c.opening c.journal fault
+  abbrev pub IsHome : BookOrigin → Layout → State → Bool → Table (Option S) View → Type 0
+  IsHome w l c fault s = c.turn ≡ None → (b : S) × (get_elem? s.homes 0 ≡ some (some (Some b))) × stands b w l c.opening c.journal fault
 
   -- some list of enabled events leaves a state that the words, the book and the views show
   pub record Shows (l : Layout) (s : Table (Option S) View) : Type 0 where
@@ -105,7 +106,9 @@ module _ {S : Type 0} (stands : S → Layout → CoreOpening → List Entry → 
     pub turned : (r : ℕ) → core.turn ≡ Some r → (r < core.opening.rings) × (core.granted r ≡ true)
     pub owners : (r : ℕ) → r < core.opening.rings → owner r < length s.views
     pub fault : Bool
-    pub home : IsHome l core fault s
+    pub origin : BookOrigin
+    pub home : IsHome origin l core fault s
+    pub origins : (j : ℕ) (v : View) → get_elem? s.views j ≡ some v → is_ready v.stage ≡ true → v.origin ≡ origin
     pub each : (j : ℕ) (v : View) → get_elem? s.views j ≡ some v → Fits l core glue owner j v
     pub stored : (j : ℕ) (v : View) (i : ℕ) (p : RingPart) → get_elem? s.views j ≡ some v → get_elem? v.parts i ≡ some p → IsOut l core s.words p
     pub faults : (j : ℕ) (v : View) (i : ℕ) (p : RingPart) → get_elem? s.views j ≡ some v → get_elem? v.parts i ≡ some p → KnowsFault fault p

@@ -87,7 +87,7 @@ without_right r v = record v { rights = without_in r v.rights }
 
 -- to this one
 abbrev pub with_right : ℕ → View → View
-with_right r v = view v.layout v.opening (r ∷ [])
+with_right r v = view v.layout v.opening v.origin (r ∷ [])
 
 -- two passes in one
 abbrev pub joined : View → View → View

@@ -2,6 +2,7 @@
 use Rattle.std.specs.Prelude.{◌≡◌, ℕ, ◌∷◌, Option, None}
 use Rattle.atomic_table.specs.Table.{Me, Step, rest}
 use Rattle.share_core.specs.declared.part.CoreOpening.{CoreOpening}
+use Rattle.share_rule.specs.declared.view.BookOrigin.{BookOrigin}
 use Rattle.share_rule.specs.declared.view.View.{View}
 use Rattle.share_rule.specs.Layout.{grant_at}
 use Rattle.share_rule.specs.Views.{IsWord, taken_view, first_view}
@@ -42,8 +43,8 @@ module _ {S : Type 0} where
   looked st m n m' = Knows (after_load st.word n m.0) m m'
 
   -- the table is open, and its first pass has all rights
-  abbrev pub opened_table : CoreOpening → Step S → Me S View → ℕ → Me S View → Type 0
-  opened_table o st m n m' = (m'.1 ≡ rest m.1) × (m'.0 ≡ first_view m.0.layout o) × Seen (first_view m.0.layout o)
+  abbrev pub opened_table : CoreOpening → BookOrigin → Step S → Me S View → ℕ → Me S View → Type 0
+  opened_table o w st m n m' = (m'.1 ≡ rest m.1) × (m'.0 ≡ first_view m.0.layout o w) × Seen (first_view m.0.layout o w)
 
 -- the slot is out, with nothing in it
 abbrev pub began : {B : Type 0} → Step (Option B) → Me (Option B) View → ℕ → Me (Option B) View → Type 0

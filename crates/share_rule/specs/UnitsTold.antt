@@ -17,9 +17,9 @@ module _ {S : Type 0} where
   abbrev pub listed_unit : Literal → Step S → Me S View → ℕ → Me S View → Type 0
   listed_unit lit st m n m' = Knows (after_list lit m.0) m m'
 
-  -- the ring knows how many units are listed, which are no fewer than it has seen
+  -- the ring knows how many units are listed, which are no fewer than it has seen and no fewer than were from the start
   abbrev pub counted_units : Step S → Me S View → ℕ → Me S View → Type 0
-  counted_units st m n m' = Knows (after_count n m.0) m m' × (length (only m.0).core.seen ≤ n)
+  counted_units st m n m' = Knows (after_count n m.0) m m' × (length (only m.0).core.seen ≤ n) × (length m.0.opening.units ≤ n)
 
   -- the word is a unit's, which the ring has seen
   abbrev pub saw_unit : Step S → Me S View → ℕ → Me S View → Type 0

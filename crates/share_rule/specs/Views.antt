@@ -12,6 +12,7 @@ use Rattle.share_rule.specs.declared.view.StoredWord.{StoredWord}
 use Rattle.share_rule.specs.declared.view.RingPart.{RingPart}
 use Rattle.share_rule.specs.declared.view.Stage.{Stage}
 use Rattle.share_rule.specs.declared.view.Stage.TheVariants.{Draft, Open, Spent}
+use Rattle.share_rule.specs.declared.view.BookOrigin.{BookOrigin}
 use Rattle.share_rule.specs.declared.view.View.{View}
 use Rattle.clause_cell.specs.Packing.{pair_of, words_for}
 use Rattle.clause_cell.specs.Packing.{lit_word, cell_word}
@@ -77,21 +78,25 @@ in_draft Spent = false
 abbrev pub no_opening : CoreOpening
 no_opening = record { formula = []; rings = 0; journal = []; starts = []; units = [] }
 
+-- of none
+abbrev pub no_origin : BookOrigin
+no_origin = record { tells = false; target = None; flushed = None; faults = 0; keeps = false }
+
 -- before the table is open
 abbrev pub closed_view : Layout → View
-closed_view l = record { stage = Draft; layout = l; opening = no_opening; steps = 0; last = None; stop = None; rights = []; parts = [] }
+closed_view l = record { stage = Draft; layout = l; opening = no_opening; origin = no_origin; steps = 0; last = None; stop = None; rights = []; parts = [] }
 
 -- with the slot in hand
 abbrev pub taken_view : Layout → View
 taken_view l = record (closed_view l) { steps = 1 }
 
 -- with these rights, and no ring yet
-abbrev pub view : Layout → CoreOpening → List ℕ → View
-view l o rights = record { stage = Open; layout = l; opening = o; steps = 0; last = None; stop = None; rights = rights; parts = [] }
+abbrev pub view : Layout → CoreOpening → BookOrigin → List ℕ → View
+view l o w rights = record { stage = Open; layout = l; opening = o; origin = w; steps = 0; last = None; stop = None; rights = rights; parts = [] }
 
 -- the first pass's
-abbrev pub first_view : Layout → CoreOpening → View
-first_view l o = view l o (up_to o.rings)
+abbrev pub first_view : Layout → CoreOpening → BookOrigin → View
+first_view l o w = view l o w (up_to o.rings)
 
 -- what a pass is left with that was joined to another
 abbrev pub spent_view : View

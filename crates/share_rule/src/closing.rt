@@ -12,7 +12,7 @@ pub fn close<B: Ledger>(table: Shared<B>, pass: Pass<B>) -> B
     requires pass { IsPassOf table pass × (pass.me.1 ≡ []) }
     requires whole { IsWhole pass.me.0 }
     requires free { NoTurns pass.me.0.parts }
-    ensures { (s : IsSeen pass.me.0) × (fault : Bool) × StandsFor B.account B.stands result pass.me.0.layout pass.me.0.opening s.core.journal fault × TellsFaults pass.me.0.parts fault }
+    ensures { (s : IsSeen pass.me.0) × (fault : Bool) × StandsFor B.account B.stands result pass.me.0.origin pass.me.0.layout pass.me.0.opening s.core.journal fault × TellsFaults pass.me.0.parts fault }
 {
     let Shared {
         table: words,

@@ -39,7 +39,7 @@ pub use laws::{
     cells_lie_apart, clauses_lie_apart, entries_change_their_own_words,
     held_clauses_are_in_the_log, longer_journals_fold_on, what_is_shown_is_sound,
 };
-pub use ledger::{BookState, Ledger};
+pub use ledger::Ledger;
 pub use making::{MakeStop, make};
 pub use note::Note;
 pub use passes::{join, split};
@@ -53,7 +53,9 @@ pub use unit_laws::{
     a_unit_stored_is_no_event,
 };
 pub use unit_plays::{CountsUnits, ListsUnit, SeesUnit, StoresUnit, Unit};
-pub use view::{GlueAt, LastStep, Op, Refusal, RingPart, Stage, StoredWord, Taken, View};
+pub use view::{
+    BookOrigin, GlueAt, LastStep, Op, Refusal, RingPart, Stage, StoredWord, Taken, View,
+};
 
 /// How many rings, variables and words for cells a table has.
 #[derive(Clone, Copy)]

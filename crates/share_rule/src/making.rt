@@ -1,8 +1,8 @@
 //! How a table begins.
-ghost use Rattle.std.specs.Prelude.{◌≡◌, [], true, List, IfOk, IfErr};
+ghost use Rattle.std.specs.Prelude.{◌≡◌, [], false, List, IfOk, IfErr};
 ghost use Rattle.rup_model.specs.declared.journal.Entry.{Entry};
 ghost use Rattle.share_rule.specs.Layout.{first_cell};
-ghost use Rattle.share_rule.specs.Books.{HasLog, StandsFor, is_whole};
+ghost use Rattle.share_rule.specs.Books.{HasLog, StandsFor};
 ghost use Rattle.share_rule.specs.Views.{first_view, closed_view};
 ghost use Rattle.share_rule.specs.FirstWords.{starts_at, addresses, begun_with, MayBegin, IsMakeStop};
 ghost use Rattle.share_rule.specs.Openings.{Opens};
@@ -38,8 +38,8 @@ fn open_table<O: OpenedWith, B: Ledger>(
     _units: &[Lit],
 )
     requires pass { (pass.old.table_id ≡ table.now.table.shared.table_id) × (pass.old.me ≡ (closed_view table.now.layout, [])) }
-    requires opens { Opens (StandsFor B.account B.stands) table.now.table.shared.key O.opening book entries }
-    ensures { IsPassOf table.now pass.new × (pass.new.me ≡ (first_view table.now.layout O.opening, [])) }
+    requires opens { Opens (StandsFor B.account B.stands) table.now.table.shared.key O.opening O.origin book entries }
+    ensures { IsPassOf table.now pass.new × (pass.new.me ≡ (first_view table.now.layout O.opening O.origin, [])) }
 {
     let words = &table.table.shared;
     words.load::<Begins>(pass, 0);
@@ -52,7 +52,7 @@ fn open_table<O: OpenedWith, B: Ledger>(
 
 /// A table for this formula, with its first pass and the addresses of the start clauses. The start clauses, each with its
 /// number in the log, are placed in the order given, which is that of their numbers. The book has the log that the rings
-/// go on with, `journal`; it gets its holes here.
+/// go on with, `journal`; it gets its holes here. What it is now stays known as its origin.
 pub fn make<B: Ledger>(
     alloc: Global,
     _formula: &Formula,
@@ -63,9 +63,9 @@ pub fn make<B: Ledger>(
 ) -> Result<(Shared<B>, Pass<B>, Vec<Cref>), MakeStop<B>>
     ghost journal: { List Entry }
     requires begins { MayBegin _formula.now.clauses layout journal start.now units.now }
-    requires book { HasLog B.account B.stands book _formula.now.clauses journal }
-    requires whole { is_whole (B.account book).state ≡ true }
-    ensures made { IfOk result (λ m. (m.0.layout ≡ layout) × IsPassOf m.0 m.1 × (m.1.me ≡ (first_view layout (begun_with _formula.now.clauses layout journal start.now units.now), []))) }
+    requires book { HasLog B.account B.stands book (B.origin book) layout _formula.now.clauses journal }
+    requires whole { (B.account book).broken ≡ false }
+    ensures made { IfOk result (λ m. (m.0.layout ≡ layout) × IsPassOf m.0 m.1 × (m.1.me ≡ (first_view layout (begun_with _formula.now.clauses layout journal start.now units.now) (B.origin book), []))) }
     ensures cells { IfOk result (λ m. m.2.items ≡ addresses (starts_at (first_cell layout) start.now)) }
     ensures stopped { IfErr result (λ e. IsMakeStop layout start.now e.why) }
     ensures back { IfErr result (λ e. e.book ≡ book) }

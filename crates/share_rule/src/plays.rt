@@ -78,14 +78,19 @@ impl<S> Play<Option<S>, View> for Begins {
 /// Names what a table is opened with. Each call picks it.
 pub trait OpenedWith {
     ghost use Rattle.share_core.specs.declared.part.CoreOpening.{CoreOpening};
+    ghost use Rattle.share_rule.specs.declared.view.BookOrigin.{BookOrigin};
 
     ghost opening: { CoreOpening };
+
+    ghost origin: { BookOrigin };
 }
 
 impl OpenedWith for Brand {
-    ghost use Rattle.share_rule.specs.Views.{no_opening};
+    ghost use Rattle.share_rule.specs.Views.{no_opening, no_origin};
 
     ghost opening = { no_opening };
+
+    ghost origin = { no_origin };
 }
 
 /// The store that frees the turn, with which the table is open.
@@ -96,7 +101,7 @@ pub struct Begun<O> {
 impl<O: OpenedWith, S> Play<S, View> for Begun<O> {
     ghost use Rattle.share_rule.specs.Told.{opened_table};
 
-    ghost then = { opened_table O.opening };
+    ghost then = { opened_table O.opening O.origin };
 }
 
 /// Names a ring. Each call picks it.

@@ -32,7 +32,7 @@ pub fn a_turn_missed_is_no_event<B: Ledger>()
 /// The store that gives the turn back is what was written in it, in order, and then the giving.
 pub fn a_turn_is_its_events<B: Ledger>()
     ensures { (k : Key) (s : Table (Option B) View) (h : Shows (StandsFor B.account B.stands) k.layout s) (id : ℕ) (v : View) (book : B) (ns : List Note) (x : Option Refusal) (failed : Bool) → 0 < length s.homes → get_elem? s.views id ≡ some v → is_ready v.stage ≡ true → IsWriting v
-        → MayWrite v ns → WasRefused v ns x failed → StandsFor B.account B.stands book v.layout v.opening (written_of v ns).journal failed
+        → MayWrite v ns → WasRefused v ns x failed → StandsFor B.account B.stands book v.origin v.layout v.opening (written_of v ns).journal failed
         → (n : Shows (StandsFor B.account B.stands) k.layout (record { words = slice_set s.words 0 (256 * length (written_of v ns).journal); homes = slice_set s.homes 0 (some (Some book)); views = slice_set s.views id (after_give ns x failed v) }))
         × (n.core.journal ≡ (written_of v ns).journal) × (n.core ≡ after (fold after h.core (map (event_of (ring_of (only v))) ns)) (GiveTurn (ring_of (only v)))) }
 {}

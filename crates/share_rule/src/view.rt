@@ -99,6 +99,20 @@ pub struct RingPart {
     pub gave: LinkedList<ClauseAt>,
 }
 
+/// What a book was when the table was made: what its sink told, and whether it keeps its lines.
+pub struct BookOrigin {
+    /// The sink tells its bytes; there was none then.
+    pub tells: bool,
+    /// The path that the sink is for, where it is told.
+    pub target: Option<LinkedList<u8>>,
+    /// The bytes that a flush had made sure of, where they are told.
+    pub flushed: Option<LinkedList<u8>>,
+    /// How often the sink had failed.
+    pub faults: u64,
+    /// The book keeps its lines.
+    pub keeps: bool,
+}
+
 /// How far a pass is.
 pub enum Stage {
     /// Its table is not open yet.
@@ -117,6 +131,8 @@ pub struct View {
     pub layout: Layout,
     /// What the table was opened with.
     pub opening: CoreOpening,
+    /// What the book was then.
+    pub origin: BookOrigin,
     /// How many steps on words the pass took.
     pub steps: u64,
     /// The last of them.

@@ -1,6 +1,6 @@
 // The listed units.
-ghost use Rattle.std.specs.Prelude.{◌≡◌, ℕ, ◌<◌, ◌∷◌, [], length, MatchOption};
-ghost use Rattle.sat_words.specs.Literal.{code_of};
+ghost use Rattle.std.specs.Prelude.{◌≡◌, ℕ, ◌<◌, List, ◌∷◌, ◌++◌, [], length, MatchOption};
+ghost use Rattle.sat_words.specs.Literal.{Literal, code_of};
 ghost use Rattle.share_rule.specs.Passes.{IsPassOf, IsSamePass};
 ghost use Rattle.share_rule.specs.Views.{only};
 ghost use Rattle.share_rule.specs.Units.{MayPublish, after_unit, after_list, after_count, after_see};
@@ -10,12 +10,12 @@ use share_rule::{CountsUnits, Ledger, ListsUnit, Pass, SeesUnit, Shared, StoresU
 use std::marker::Brand;
 
 /// The next listed unit that the pass's ring has not seen, of which it has seen so many. None exactly where the word that
-/// counts the listed units is this number.
+/// counts the listed units is this number; then it has seen the units that were listed from the start, which come first.
 pub fn next_unit<B: Ledger>(table: &Shared<B>, pass: &mut Pass<B>, seen: u64) -> Option<Lit>
     requires pass { IsPassOf table.now pass.old }
     requires ring { (pass.old.me.0.parts ≡ only pass.old.me.0 ∷ []) × (seen ≡ length (only pass.old.me.0).core.seen) }
     ensures pass { IsPassOf table.now pass.new × IsSamePass pass.old pass.new }
-    ensures unit { MatchOption result (pass.new.me.0 ≡ after_count seen pass.old.me.0) (λ lit. (n : ℕ) × (seen < n) × (pass.new.me.0 ≡ after_see lit (after_count n pass.old.me.0))) }
+    ensures unit { MatchOption result ((pass.new.me.0 ≡ after_count seen pass.old.me.0) × ((later : List Literal) × ((only pass.old.me.0).core.seen ≡ pass.old.me.0.opening.units ++ later))) (λ lit. (n : ℕ) × (seen < n) × (pass.new.me.0 ≡ after_see lit (after_count n pass.old.me.0))) }
 {
     let words = &table.table.shared;
     let listed = words.load::<CountsUnits>(pass, 2);

@@ -24,6 +24,6 @@ store-requires g c =
       omega arith,
       gives_it (StandsFor account_of (IsLogOf g.S.Sink.written g.S.Sink.flushed g.S.Sink.target g.S.Sink.faults)) table.table.shared.key table.table.shared.table_id.slots c.exchange.new.seat.id me c.args.book g.N.Notes.notes g.N.Notes.refused g.N.Notes.failed (256 * c.args.book.entries)
           table.slots (ap (λ (u : View). is_ready u.stage) same ∙ p.0.1) out (subst IsWriting (sym same) t.0) (subst (λ (u : View). MayWrite u g.N.Notes.notes) (sym same) t.1) (subst (λ (u : View). WasRefused u g.N.Notes.notes g.N.Notes.refused g.N.Notes.failed) (sym same) t.2)
-          (subst (λ (u : View). StandsFor account_of (IsLogOf g.S.Sink.written g.S.Sink.flushed g.S.Sink.target g.S.Sink.faults) c.args.book u.layout u.opening (written_of u g.N.Notes.notes).journal g.N.Notes.failed) (sym same) c.requires.book)
+          (subst (λ (u : View). StandsFor account_of (IsLogOf g.S.Sink.written g.S.Sink.flushed g.S.Sink.target g.S.Sink.faults) c.args.book u.origin u.layout u.opening (written_of u g.N.Notes.notes).journal g.N.Notes.failed) (sym same) c.requires.book)
           (subst (λ (u : View). 256 * c.args.book.entries ≡ 256 * length (written_of u g.N.Notes.notes).journal) (sym same) e),
     )

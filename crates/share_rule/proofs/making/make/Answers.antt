@@ -2,7 +2,8 @@ use Rattle.std.proofs.Common.{◌∙◌, ◌*◌, ℕ, List, length, sym, ap, su
 use Rattle.rup_model.specs.Journal.{book}
 use Rattle.share_core.specs.State.{opened}
 use Rattle.share_rule.specs.declared.rule.Key.{Key}
-use Rattle.share_rule.specs.Books.{StandsFor, is_whole}
+use Rattle.share_rule.specs.declared.view.BookOrigin.{BookOrigin}
+use Rattle.share_rule.specs.Books.{StandsFor}
 use Rattle.share_rule.specs.FirstWords.{begun_with}
 use Rattle.std.specs.Prelude.{slice_set}
 use Rattle.share_rule.specs.Shown.{Words}
@@ -49,17 +50,19 @@ open_table-requires-clause-opens g c =
     let e = c.in-Ok-vacant.ensures in
     let fits = c.in-Ok.ensures.fits in
     let o = begun_with F l J ss us in
+    let w = g.B.Ledger.origin c.args.book in
     let n = c.entries-entries.ensures ∙ h.entries in
-    let start : Opens (StandsFor g.B.Ledger.account g.B.Ledger.stands) (record { layout = l; words = c.in-Ok.laid.0 }) o c.with_holes-book.result c.entries-entries.result = record {
+    let start : Opens (StandsFor g.B.Ledger.account g.B.Ledger.stands) (record { layout = l; words = c.in-Ok.laid.0 }) o w c.with_holes-book.result c.entries-entries.result = record {
       opens = begun_opens F l J ss us b;
       small = (let k = few_words l b.few_rings b.few_vars b.few_words in omega arith);
       words = subst (λ (ws : List ℕ). Words l (opened o) (λ _. 0) (slice_set ws 0 (256 * c.entries-entries.result))) (sym c.in-Ok.ensures.words) (begun_words F l J ss us few fits (256 * c.entries-entries.result) (omega arith));
       places = begun_places F l J ss us b fits;
       few = (let k = b.few_entries in omega arith);
       stood = record {
-        log = log_kept g.B.Ledger.account g.B.Ledger.stands c.args.book c.with_holes-book.result c.in-Ok.laid.1 F J h c.with_holes-book.ensures.account c.with_holes-book.ensures.sink;
-        faulty = ap (λ a. is_whole a.state) c.with_holes-book.ensures.account ∙ c.requires.1.1.1;
+        log = log_kept g.B.Ledger.account g.B.Ledger.stands c.args.book c.with_holes-book.result c.in-Ok.laid.1 w l F J h c.with_holes-book.ensures.account c.with_holes-book.ensures.sink;
+        ended = ap (λ a. a.ended) c.with_holes-book.ensures.account ∙ sym b.going;
+        faulty = ap (λ a. a.broken) c.with_holes-book.ensures.account ∙ c.requires.1.1.1;
         holes = λ _. ap (λ a. a.holes) c.with_holes-book.ensures.account ∙ c.in-Ok.ensures.holes ∙ ap (λ r. r.holes) (sym (begun_room F l J ss us b));
       };
     } in
-    subst (λ (k : Key). Opens (StandsFor g.B.Ledger.account g.B.Ledger.stands) k o c.with_holes-book.result c.entries-entries.result) (sym e.5) start
+    subst (λ (y : Key × BookOrigin). Opens (StandsFor g.B.Ledger.account g.B.Ledger.stands) y.0 o y.1 c.with_holes-book.result c.entries-entries.result) (λ i. (sym e.5 i, sym c.with_holes-book.ensures.origin i)) start

@@ -26,6 +26,6 @@ store-requires g c =
     let slots = ap rest l.2.1 ∙ ap (λ (m : Me (Option g.row.B.Denot) View). m.1) p.1 in (
       x.0 ∙ l.0 ∙ p.0,
       omega arith,
-      opens (StandsFor g.B.Ledger.account g.B.Ledger.stands) table.table.shared.key table.table.shared.table_id.slots c.exchange.new.seat.id c.exchange.new.seat.me g.O.OpenedWith.opening c.args.book c.args.entries table.slots
+      opens (StandsFor g.B.Ledger.account g.B.Ledger.stands) table.table.shared.key table.table.shared.table_id.slots c.exchange.new.seat.id c.exchange.new.seat.me g.O.OpenedWith.opening g.O.OpenedWith.origin c.args.book c.args.entries table.slots
           (x.3 ∙ (λ i. (view i, (0, Some c.args.book) ∷ slots i))) c.requires.opens,
     )

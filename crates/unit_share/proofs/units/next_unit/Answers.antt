@@ -10,7 +10,7 @@ use Rattle.share_rule.specs.Layout.{unit_at}
 use Rattle.share_rule.specs.Views.{only, no_part}
 use Rattle.share_rule.specs.Layout.{InVars}
 use Rattle.share_rule.specs.Units.{count_part, after_count, next_unit_at}
-use Rattle.share_rule.proofs.Listing.{counts_it, sees_it, seen_room}
+use Rattle.share_rule.proofs.Listing.{counts_it, sees_it, seen_room, seen_first}
 use Rattle.share_rule.proofs.UnitWords.{only_changed}
 use Rattle.unit_share.proofs.Codes.{UnitCode, unit_code}
 use Rattle.unit_share.proofs.units.next_unit.Goals as goal
@@ -84,3 +84,12 @@ pub new-requires-clause-high : goal.new-requires-clause-high
 new-requires-clause-high g c =
     let t = c.load-code.ensures.2 in
     (read (2 ^ 30) c.args.table.now.layout c.load-listed.new.seat.me.0.layout t.0 c.load-code.result c.args.table.now.vars (ap (λ (v : View). v.layout) c.load-listed.ensures.2.0.1 ∙ c.requires.pass.2) t.2 t.1).high
+
+pub returns-then-listed-seen-clause-unit : goal.returns-then-listed-seen-clause-unit
+returns-then-listed-seen-clause-unit g c =
+    let v : View = c.args.pass.now.me.0 in
+    let x = c.load-listed.ensures.2 in
+    let same : c.load-listed.result ≡ c.args.seen = c.if-listed-seen.true in
+    let le = x.2 in
+    let e = c.requires.ring.1 in
+    (x.0.1 ∙ ap (λ (n : ℕ). after_count n v) same, seen_first v c.requires.pass.3 c.requires.ring.0 (omega arith))

@@ -1,6 +1,6 @@
-use Rattle.std.proofs.Common.{◌≡◌, ◌≢◌, ◌∙◌, ◌+◌, ◌<◌, ◌≤◌, ◌^◌, ◌∷◌, [], ◌++◌, ◌||◌, ℕ, suc, List, Bool, true, false, not, length, append-nil, Option, Some, sym, ap, refl, subst, arith}
+use Rattle.std.proofs.Common.{◌≡◌, ◌≢◌, ◌∙◌, ◌+◌, ◌<◌, ◌≤◌, ◌^◌, ◌∷◌, [], ◌++◌, ◌||◌, ℕ, suc, List, Bool, true, false, not, All, length, append-nil, Option, Some, sym, ap, refl, subst, arith}
 use Rattle.std.specs.Option.{unwrap_or}
-use Rattle.sat_words.specs.Literal.{Literal}
+use Rattle.sat_words.specs.Literal.{Literal, IsOn}
 use Rattle.sat_words.specs.Clause.{is_empty}
 use Rattle.sat_words.specs.declared.line.Line.{Line}
 use Rattle.sat_words.specs.declared.line.Line.TheVariants.{Add as AddLine, Del as DelLine}
@@ -15,12 +15,10 @@ use Rattle.share_rule.specs.Room.{Room, room, with_clause, without_words}
 use Rattle.share_rule.specs.Turns.{next_number}
 use Rattle.share_rule.specs.Views.{only}
 use Rattle.share_rule.proofs.Sheets.{long_entry}
-use Rattle.drat_text.specs.Text.{text}
-use Rattle.log_book.specs.Books.{HoldsText, told_of, AreAlike, HasPut, HasFailed}
 use Rattle.log_book.specs.Turns.{sheet, waiting}
 use Rattle.log_book.specs.declared.book.Book.{Book}
 use Rattle.log_book.proofs.Standings.{line_turn, failed_turn, note_turn, alike_turn}
-use Rattle.log_book.proofs.Waits.{Waits, waits_so, waits_clear, not_empty}
+use Rattle.log_book.proofs.Waits.{all_on, few_lits, not_empty}
 use Rattle.log_book.proofs.turn.Turn.write_clause.Goals as goal
 
 pub returns-in-Ok-write-clause-added : goal.returns-in-Ok-write-clause-added
@@ -36,9 +34,9 @@ returns-in-Ok-write-clause-added g c =
     let m : Room = room v.layout v.opening (sheet v t).journal in
     let need : ℕ = words_for (length lits) in
     let need_is : c.words_for-need.result ≡ need = c.words_for-need.ensures in
-    let holes_are : c.make_room.new.self.book.holes ≡ m.holes = same.holes ∙ h.stands.holes (h.stands.faulty ∙ ap not could.1) in
+    let holes_are : c.make_room.new.self.book.holes ≡ m.holes = same.holes ∙ h.stands.holes could.1 in
     let fit : first_fit need m.holes ≡ Some a = (λ i. first_fit (sym need_is i) (sym holes_are i)) ∙ c.in-Ok-take.ensures.found in
-    let k = c.requires.note.0 in
+    let k = c.requires.note in
     let long = (k.1).long in
     let copied : c.in-Ok-from_slice.noted ≡ lits = c.in-Ok-from_slice.ensures in
     let noted_is = c.push_reserved.ensures.items ∙ (λ i. c.make_room.ensures.noted.0 i ++ Clause c.args.kind (copied i) c.args.glue a ∷ []) in
@@ -47,7 +45,7 @@ returns-in-Ok-write-clause-added g c =
       noted = noted_is;
       refused = c.make_room.ensures.noted.1;
       turn = line_turn g.S.Sink.written g.S.Sink.flushed g.S.Sink.target g.S.Sink.faults v t c.requires.seen h note could (k.0, k.1, k.2, k.3, fit) _ refl _ (AddLine c.in-Ok.copy) _ (λ i. AddLine (sym c.in-Ok.ensures i) ∷ []) noted_is c.make_room.ensures.noted.1
-          _ same.lines same.entries same.ended same.kept c.write.new.self c.in-Ok-write.ensures refl refl refl refl
+          _ same.lines same.entries same.ended same.kept c.write.new.self c.in-Ok-write.ensures refl refl refl
           (c.in-Ok-write.ensures.holes ∙ c.in-Ok-take.ensures.left ∙ (λ i. without_fit (need_is i) (holes_are i)) ∙ sym (ap (λ (q : Room). q.holes) (long_entry m (next_number v.opening (sheet v t).journal) lits (only v).core.ring c.args.kind long ∙ ap (with_clause (next_number v.opening (sheet v t).journal) (length lits) m) fit)))
           (omega arith) (ap is_empty c.in-Ok.ensures ∙ (not_empty lits long).0 ∙ sym (not_empty lits long).1);
       going = could;
@@ -66,10 +64,16 @@ returns-in-Err-write-clause-stopped g c =
     let m : Room = room v.layout v.opening (sheet v t).journal in
     let need : ℕ = words_for (length lits) in
     let need_is : c.words_for-need.result ≡ need = c.words_for-need.ensures in
-    let holes_are : c.make_room.new.self.book.holes ≡ m.holes = same.holes ∙ h.stands.holes (h.stands.faulty ∙ ap not could.1) in
+    let holes_are : c.make_room.new.self.book.holes ≡ m.holes = same.holes ∙ h.stands.holes could.1 in
     let fit : first_fit need m.holes ≡ Some a = (λ i. first_fit (sym need_is i) (sym holes_are i)) ∙ c.in-Ok-take.ensures.found in
-    let k = c.requires.note.0 in
+    let k = c.requires.note in
     let long = (k.1).long in
-    let f = failed_turn g.S.Sink.written g.S.Sink.flushed g.S.Sink.target g.S.Sink.faults v t c.requires.seen h note could (k.0, k.1, k.2, k.3, fit) _ refl _ (AddLine c.in-Ok.copy) (λ i. AddLine (sym c.in-Ok.ensures i) ∷ []) c.make_room.ensures.noted.0 c.make_room.ensures.noted.1
-    _ same.lines same.entries same.ended c.write.new.self c.in-Err-write.ensures refl refl refl in
+    let f = failed_turn g.S.Sink.written g.S.Sink.flushed g.S.Sink.target g.S.Sink.faults v t c.requires.seen h note could (k.0, k.1, k.2, k.3, fit) _ refl _ (AddLine c.in-Ok.copy) (λ i. AddLine (sym c.in-Ok.ensures i) ∷ []) (subst (λ (ks : List Literal). All (IsOn v.layout.vars) ks) (sym c.in-Ok.ensures) (all_on v.layout lits k.3)) c.make_room.ensures.noted.0 c.make_room.ensures.noted.1
+    _ same.lines same.entries same.ended same.kept c.write.new.self c.in-Err-write.ensures refl refl refl in
     record { noted = c.make_room.ensures.noted.0; refused = c.make_room.ensures.noted.1; turn = f.0; grounded = f.1; alike = λ ne. absurd (ne refl) }
+
+pub overflow_cast-lits : goal.overflow_cast-lits
+overflow_cast-lits g c =
+    let v : View = c.args.pass.now.me.0 in
+    let few = few_lits v.layout c.args.lits.now c.requires.seen.places.small (c.requires.note.1).distinct c.requires.note.3 in
+    omega arith

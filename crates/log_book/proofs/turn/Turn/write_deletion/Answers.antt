@@ -1,6 +1,6 @@
-use Rattle.std.proofs.Common.{◌≡◌, ◌≢◌, ◌∙◌, ◌+◌, ◌<◌, ◌≤◌, ◌^◌, ◌∷◌, [], ◌++◌, ◌||◌, ℕ, suc, List, Bool, true, false, not, length, append-nil, Option, Some, sym, ap, refl, subst, arith}
+use Rattle.std.proofs.Common.{◌≡◌, ◌≢◌, ◌∙◌, ◌+◌, ◌<◌, ◌≤◌, ◌^◌, ◌∷◌, [], ◌++◌, ◌||◌, ℕ, suc, List, Bool, true, false, not, All, length, append-nil, Option, Some, sym, ap, refl, subst, arith}
 use Rattle.std.specs.Option.{unwrap_or}
-use Rattle.sat_words.specs.Literal.{Literal}
+use Rattle.sat_words.specs.Literal.{Literal, IsOn}
 use Rattle.sat_words.specs.declared.line.Line.{Line}
 use Rattle.sat_words.specs.declared.line.Line.TheVariants.{Add as AddLine, Del as DelLine}
 use Rattle.clause_cell.specs.declared.holes.Hole.{Hole}
@@ -14,8 +14,6 @@ use Rattle.share_rule.specs.Room.{Room, room, with_clause, without_words}
 use Rattle.share_rule.specs.Turns.{next_number}
 use Rattle.share_rule.specs.Views.{only}
 use Rattle.share_rule.proofs.Sheets.{long_entry}
-use Rattle.drat_text.specs.Text.{text}
-use Rattle.log_book.specs.Books.{HoldsText, told_of, AreAlike, HasPut, HasFailed}
 use Rattle.log_book.specs.Turns.{sheet, waiting}
 use Rattle.log_book.specs.declared.book.Book.{Book}
 use Rattle.log_book.proofs.Standings.{line_turn, failed_turn, note_turn, alike_turn}
@@ -34,8 +32,8 @@ give-requires-clause-range g c =
     let w : Waits v t a = waits_so g.S.Sink.written g.S.Sink.flushed g.S.Sink.target g.S.Sink.faults v t a c.requires.seen h c.requires.note in
     let n : ℕ = (waiting v t a).number in
     let m : Room = room v.layout v.opening (sheet v t).journal in
-    let n_is : c.words_for-words.result ≡ words_for (length (waiting v t a).lits) = c.words_for-words.ensures ∙ ap (λ (ks : List Literal). words_for (length ks)) c.requires.clause.0 in
-    let holes_are : c.make_room.new.self.book.holes ≡ m.holes = same.holes ∙ h.stands.holes (h.stands.faulty ∙ ap not could.1) in
+    let n_is : c.words_for-words.result ≡ words_for (length (waiting v t a).lits) = c.words_for-words.ensures ∙ ap (λ (ks : List Literal). words_for (length ks)) c.requires.clause in
+    let holes_are : c.make_room.new.self.book.holes ≡ m.holes = same.holes ∙ h.stands.holes could.1 in
     let at = w.room_is.some (waiting v t a).number _ w.words in
     let small = c.requires.seen.small in
     let hi = at.2 in
@@ -53,8 +51,8 @@ give-requires-clause-clear g c =
     let w : Waits v t a = waits_so g.S.Sink.written g.S.Sink.flushed g.S.Sink.target g.S.Sink.faults v t a c.requires.seen h c.requires.note in
     let n : ℕ = (waiting v t a).number in
     let m : Room = room v.layout v.opening (sheet v t).journal in
-    let n_is : c.words_for-words.result ≡ words_for (length (waiting v t a).lits) = c.words_for-words.ensures ∙ ap (λ (ks : List Literal). words_for (length ks)) c.requires.clause.0 in
-    let holes_are : c.make_room.new.self.book.holes ≡ m.holes = same.holes ∙ h.stands.holes (h.stands.faulty ∙ ap not could.1) in
+    let n_is : c.words_for-words.result ≡ words_for (length (waiting v t a).lits) = c.words_for-words.ensures ∙ ap (λ (ks : List Literal). words_for (length ks)) c.requires.clause in
+    let holes_are : c.make_room.new.self.book.holes ≡ m.holes = same.holes ∙ h.stands.holes could.1 in
     subst (λ (y : ℕ × List Hole). is_clear a y.0 y.1 ≡ true) (λ i. (sym n_is i, sym holes_are i)) (waits_clear v t a w)
 
 pub returns-in-Ok-write-clause-added : goal.returns-in-Ok-write-clause-added
@@ -69,9 +67,9 @@ returns-in-Ok-write-clause-added g c =
     let w : Waits v t a = waits_so g.S.Sink.written g.S.Sink.flushed g.S.Sink.target g.S.Sink.faults v t a c.requires.seen h c.requires.note in
     let n : ℕ = (waiting v t a).number in
     let m : Room = room v.layout v.opening (sheet v t).journal in
-    let n_is : c.words_for-words.result ≡ words_for (length (waiting v t a).lits) = c.words_for-words.ensures ∙ ap (λ (ks : List Literal). words_for (length ks)) c.requires.clause.0 in
-    let holes_are : c.make_room.new.self.book.holes ≡ m.holes = same.holes ∙ h.stands.holes (h.stands.faulty ∙ ap not could.1) in
-    let made = c.in-Ok.ensures ∙ c.requires.clause.0 in
+    let n_is : c.words_for-words.result ≡ words_for (length (waiting v t a).lits) = c.words_for-words.ensures ∙ ap (λ (ks : List Literal). words_for (length ks)) c.requires.clause in
+    let holes_are : c.make_room.new.self.book.holes ≡ m.holes = same.holes ∙ h.stands.holes could.1 in
+    let made = c.in-Ok.ensures ∙ c.requires.clause in
     let line : unwrap_or ((book v.opening.formula (sheet v t).journal).clause n) [] ≡ (waiting v t a).lits = ap (λ (q : Option (List Literal)). unwrap_or q []) w.clause in
     let given : c.give.new.self ≡ with_range a (words_for (length (waiting v t a).lits)) m.holes = c.in-Ok-give.ensures.given ∙ (λ i. with_range a (n_is i) (holes_are i)) in
     let noted_is = c.push_reserved.ensures.items ∙ ap (λ (ns : List Note). ns ++ note ∷ []) c.make_room.ensures.noted.0 in
@@ -79,7 +77,7 @@ returns-in-Ok-write-clause-added g c =
       noted = noted_is;
       refused = c.make_room.ensures.noted.1;
       turn = line_turn g.S.Sink.written g.S.Sink.flushed g.S.Sink.target g.S.Sink.faults v t c.requires.seen h note could c.requires.note _ refl _ (DelLine c.in-Ok.copy) _ (λ i. DelLine ((line ∙ sym made) i) ∷ []) noted_is c.make_room.ensures.noted.1
-          _ same.lines same.entries same.ended same.kept c.write.new.self c.in-Ok-write.ensures refl refl refl refl (c.in-Ok-write.ensures.holes ∙ given ∙ sym (ap (λ (q : Option Hole). (without_words n m q).holes) w.words)) h.stands.log.last refl;
+          _ same.lines same.entries same.ended same.kept c.write.new.self c.in-Ok-write.ensures refl refl refl (c.in-Ok-write.ensures.holes ∙ given ∙ sym (ap (λ (q : Option Hole). (without_words n m q).holes) w.words)) h.stands.log.last refl;
       going = could;
     }
 
@@ -95,10 +93,18 @@ returns-clause-stopped g c =
     let w : Waits v t a = waits_so g.S.Sink.written g.S.Sink.flushed g.S.Sink.target g.S.Sink.faults v t a c.requires.seen h c.requires.note in
     let n : ℕ = (waiting v t a).number in
     let m : Room = room v.layout v.opening (sheet v t).journal in
-    let n_is : c.words_for-words.result ≡ words_for (length (waiting v t a).lits) = c.words_for-words.ensures ∙ ap (λ (ks : List Literal). words_for (length ks)) c.requires.clause.0 in
-    let holes_are : c.make_room.new.self.book.holes ≡ m.holes = same.holes ∙ h.stands.holes (h.stands.faulty ∙ ap not could.1) in
-    let made = c.in-Ok.ensures ∙ c.requires.clause.0 in
+    let n_is : c.words_for-words.result ≡ words_for (length (waiting v t a).lits) = c.words_for-words.ensures ∙ ap (λ (ks : List Literal). words_for (length ks)) c.requires.clause in
+    let holes_are : c.make_room.new.self.book.holes ≡ m.holes = same.holes ∙ h.stands.holes could.1 in
+    let made = c.in-Ok.ensures ∙ c.requires.clause in
     let line : unwrap_or ((book v.opening.formula (sheet v t).journal).clause n) [] ≡ (waiting v t a).lits = ap (λ (q : Option (List Literal)). unwrap_or q []) w.clause in
-    let f = failed_turn g.S.Sink.written g.S.Sink.flushed g.S.Sink.target g.S.Sink.faults v t c.requires.seen h note could c.requires.note _ refl _ (DelLine c.in-Ok.copy) (λ i. DelLine ((line ∙ sym made) i) ∷ []) c.make_room.ensures.noted.0 c.make_room.ensures.noted.1
-    _ same.lines same.entries same.ended c.write.new.self c.in-Err-write.ensures refl refl refl in
+    let f = failed_turn g.S.Sink.written g.S.Sink.flushed g.S.Sink.target g.S.Sink.faults v t c.requires.seen h note could c.requires.note _ refl _ (DelLine c.in-Ok.copy) (λ i. DelLine ((line ∙ sym made) i) ∷ []) (subst (λ (ks : List Literal). All (IsOn v.layout.vars) ks) (sym made) w.on) c.make_room.ensures.noted.0 c.make_room.ensures.noted.1
+    _ same.lines same.entries same.ended same.kept c.write.new.self c.in-Err-write.ensures refl refl refl in
     record { noted = c.make_room.ensures.noted.0; refused = c.make_room.ensures.noted.1; turn = f.0; grounded = f.1; alike = λ ne. absurd (ne refl) }
+
+pub overflow_cast-lits : goal.overflow_cast-lits
+overflow_cast-lits g c =
+    let v : View = c.args.pass.now.me.0 in
+    let w : Waits v c.args.self.now c.args.cell.address = waits_so g.S.Sink.written g.S.Sink.flushed g.S.Sink.target g.S.Sink.faults v c.args.self.now c.args.cell.address c.requires.seen c.requires.turn c.requires.note in
+    let few = w.few in
+    let same = ap (λ (ks : List Literal). length ks) c.requires.clause in
+    omega arith

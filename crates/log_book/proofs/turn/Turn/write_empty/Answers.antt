@@ -23,7 +23,7 @@ returns-in-Ok-clause-added g c =
       noted = noted_is;
       refused = c.make_room.ensures.noted.1;
       turn = line_turn g.S.Sink.written g.S.Sink.flushed g.S.Sink.target g.S.Sink.faults v t c.requires.seen h note could c.requires.note _ refl _ (AddLine []) _ refl noted_is c.make_room.ensures.noted.1
-          c.make_room.new.self.book same.lines same.entries same.ended same.kept c.write.new.self put refl refl refl refl (put.holes ∙ same.holes ∙ h.stands.holes (h.stands.faulty ∙ ap not could.1)) (omega arith) refl;
+          c.make_room.new.self.book same.lines same.entries same.ended same.kept c.write.new.self put refl refl refl (put.holes ∙ same.holes ∙ h.stands.holes could.1) (omega arith) refl;
       going = could;
     }
 
@@ -36,6 +36,6 @@ returns-clause-stopped g c =
     let same = c.make_room.ensures.same in
     let note : Note = Empty in
     let failed = subst (λ (ls : List Literal). HasFailed g.S.Sink.written g.S.Sink.flushed g.S.Sink.target g.S.Sink.faults c.make_room.new.self.book c.write.new.self (AddLine ls)) (c.from_vec.ensures ∙ c.new.ensures.items) c.in-Err-write.ensures in
-    let f = failed_turn g.S.Sink.written g.S.Sink.flushed g.S.Sink.target g.S.Sink.faults v t c.requires.seen h note could c.requires.note _ refl _ (AddLine []) refl c.make_room.ensures.noted.0 c.make_room.ensures.noted.1
-    c.make_room.new.self.book same.lines same.entries same.ended c.write.new.self failed refl refl refl in
+    let f = failed_turn g.S.Sink.written g.S.Sink.flushed g.S.Sink.target g.S.Sink.faults v t c.requires.seen h note could c.requires.note _ refl _ (AddLine []) refl (λ i k lt. absurd (omega arith)) c.make_room.ensures.noted.0 c.make_room.ensures.noted.1
+    c.make_room.new.self.book same.lines same.entries same.ended same.kept c.write.new.self failed refl refl refl in
     record { noted = c.make_room.ensures.noted.0; refused = c.make_room.ensures.noted.1; turn = f.0; grounded = f.1; alike = λ ne. absurd (ne refl) }

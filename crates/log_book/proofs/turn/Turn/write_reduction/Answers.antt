@@ -1,13 +1,16 @@
-use Rattle.std.proofs.Common.{◌≡◌, ◌∙◌, ◌∷◌, [], ◌++◌, ◌||◌, suc, List, Bool, true, false, not, append-nil, sym, ap, refl, subst}
-use Rattle.sat_words.specs.declared.line.Line.{Line}
+use Rattle.std.proofs.Common.{◌≡◌, ◌∙◌, ◌∷◌, [], ◌++◌, ◌||◌, suc, List, Bool, true, false, append-nil, sym, ap, refl, subst}
+use Rattle.std.specs.Prelude.{is_some}
+use Rattle.rup_model.specs.declared.journal.Entry.TheVariants.{Reduce as ReduceEntry}
 use Rattle.rup_model.specs.Journal.{lines}
+use Rattle.drat_text.specs.SinkData.{told_by}
+use Rattle.drat_text.specs.JournalText.{HasText}
 use Rattle.share_rule.specs.declared.note.Note.{Note}
 use Rattle.share_rule.specs.declared.note.Note.TheVariants.{Reduce}
 use Rattle.share_rule.specs.declared.view.View.{View}
-use Rattle.drat_text.specs.Text.{text}
-use Rattle.log_book.specs.Books.{HoldsText, told_of}
+use Rattle.share_rule.specs.Views.{only}
+use Rattle.log_book.specs.Books.{begun, began}
 use Rattle.log_book.specs.Turns.{sheet}
-use Rattle.log_book.proofs.Standings.{note_turn}
+use Rattle.log_book.proofs.Standings.{note_turn, text_still}
 use Rattle.log_book.proofs.turn.Turn.write_reduction.Goals as goal
 
 pub returns-clause-added : goal.returns-clause-added
@@ -24,11 +27,12 @@ returns-clause-added g c =
     record {
       noted = noted_is;
       refused = refl;
-      turn = note_turn g.S.Sink.written g.S.Sink.flushed g.S.Sink.target g.S.Sink.faults v t c.requires.seen h note could c.requires.note _ refl _ noted_is refl (ap (λ l. l.spent) x.0 ∙ could.1)
-          (x.3 ∙ h.stands.holes (h.stands.faulty ∙ ap not could.1)) x.1 (ap (λ l. suc l.last) x.0 ∙ h.stands.log.last) (x.2 ∙ or_none t.book.ended)
-          (λ ls q. h.stands.log.kept (h.stands.faulty ∙ ap not could.1) ls (sym (ap (λ k. k.lines) x.4) ∙ q) ∙ sym (append-nil (lines F J)))
-          (subst (λ (ls : List Line). HoldsText (told_of g.S.Sink.written g.S.Sink.flushed g.S.Sink.target g.S.Sink.faults c.count_reduction.new.self).written (text ls)) (sym (append-nil (lines F J)))
-          (subst (λ l. HoldsText (Rattle.drat_text.specs.SinkData.told_by g.S.Sink.written g.S.Sink.flushed g.S.Sink.target g.S.Sink.faults l).written (text (lines F J))) (sym x.0) (h.stands.log.sink.sink.whole could.1)));
+      turn = note_turn g.S.Sink.written g.S.Sink.flushed g.S.Sink.target g.S.Sink.faults v t c.requires.seen h note could c.requires.note _ refl _ noted_is refl (ap (λ l. l.lines.spent) x.0 ∙ could.1)
+          (x.3 ∙ h.stands.holes could.1) x.1 (ap (λ l. suc l.lines.last) x.0 ∙ h.stands.log.last) (x.2 ∙ or_none t.book.ended)
+          (ap (λ l. is_some l.kept.lines) x.0)
+          (λ ls q. h.stands.log.kept could.1 ls (sym (ap (λ l. l.kept.lines) x.0) ∙ q) ∙ sym (append-nil (lines F J)))
+          (subst (λ l. HasText (begun F (began v.origin F)) (J ++ ReduceEntry (only v).core.ring ∷ []) (told_by g.S.Sink.written g.S.Sink.flushed g.S.Sink.target g.S.Sink.faults l.lines)) (sym x.0) (text_still F (began v.origin F) J (ReduceEntry (only v).core.ring) _ refl (h.stands.log.sink.whole could.1)))
+          (ap (λ l. g.S.Sink.target l.lines.sink) x.0) (ap (λ l. g.S.Sink.flushed l.lines.sink) x.0);
       going = could;
     }
   where

@@ -6,6 +6,7 @@ use Rattle.share_rule.specs.declared.note.Note.TheVariants.{Unit as UnitNote}
 use Rattle.share_rule.specs.declared.view.View.{View}
 use Rattle.log_book.specs.Books.{HasPut, HasFailed}
 use Rattle.log_book.proofs.Standings.{line_turn, failed_turn}
+use Rattle.log_book.proofs.Waits.{all_on}
 use Rattle.log_book.proofs.turn.Turn.write_unit.Goals as goal
 
 pub returns-in-Ok-write-clause-added : goal.returns-in-Ok-write-clause-added
@@ -23,7 +24,7 @@ returns-in-Ok-write-clause-added g c =
       noted = noted_is;
       refused = c.make_room.ensures.noted.1;
       turn = line_turn g.S.Sink.written g.S.Sink.flushed g.S.Sink.target g.S.Sink.faults v t c.requires.seen h note could c.requires.note _ refl _ (AddLine (c.args.lit ∷ [])) c.in-Ok-write.number refl noted_is c.make_room.ensures.noted.1
-          c.make_room.new.self.book same.lines same.entries same.ended same.kept c.write.new.self put refl refl refl refl (put.holes ∙ same.holes ∙ h.stands.holes (h.stands.faulty ∙ ap not could.1)) (omega arith) refl;
+          c.make_room.new.self.book same.lines same.entries same.ended same.kept c.write.new.self put refl refl refl (put.holes ∙ same.holes ∙ h.stands.holes could.1) (omega arith) refl;
       going = could;
     }
 
@@ -36,6 +37,6 @@ returns-clause-stopped g c =
     let could = c.in_default.ensures.going in
     let same = c.make_room.ensures.same in
     let failed = subst (λ (ls : List Literal). HasFailed g.S.Sink.written g.S.Sink.flushed g.S.Sink.target g.S.Sink.faults c.make_room.new.self.book c.write.new.self (AddLine ls)) c.in-Ok.ensures c.in-Err-write.ensures in
-    let f = failed_turn g.S.Sink.written g.S.Sink.flushed g.S.Sink.target g.S.Sink.faults v t c.requires.seen h note could c.requires.note _ refl _ (AddLine (c.args.lit ∷ [])) refl c.make_room.ensures.noted.0 c.make_room.ensures.noted.1
-    c.make_room.new.self.book same.lines same.entries same.ended c.write.new.self failed refl refl refl in
+    let f = failed_turn g.S.Sink.written g.S.Sink.flushed g.S.Sink.target g.S.Sink.faults v t c.requires.seen h note could c.requires.note _ refl _ (AddLine (c.args.lit ∷ [])) refl (all_on v.layout (c.args.lit ∷ []) c.requires.note.2) c.make_room.ensures.noted.0 c.make_room.ensures.noted.1
+    c.make_room.new.self.book same.lines same.entries same.ended same.kept c.write.new.self failed refl refl refl in
     record { noted = c.make_room.ensures.noted.0; refused = c.make_room.ensures.noted.1; turn = f.0; grounded = f.1; alike = λ ne. absurd (ne refl) }

@@ -1,0 +1,128 @@
+// The lines on their way to the sink, of which a list is kept where that is asked for.
+ghost use Rattle.std.specs.Prelude.{◌≡◌, ◌≢◌, ◌≤◌, ◌^◌, [], true, false, Some, None, Err, is_err, IfOk, IfErr, OnOk, OnErr, MatchResult, if◌then◌else◌};
+ghost use Rattle.std.specs.Option.{option_map};
+ghost use Rattle.std.specs.Io.KnownBytes.{append_known};
+ghost use Rattle.io_edge.specs.Bytes.{IsFront};
+ghost use Rattle.io_edge.specs.Causes.{HasCause};
+ghost use Rattle.io_edge.specs.Paths.{IsEmptyWhereTold};
+ghost use Rattle.drat_text.specs.LineOut.{WasPut};
+ghost use Rattle.drat_text.specs.SinkData.{told_by};
+ghost use Rattle.drat_text.specs.declared.stop.LineStop.TheVariants.{Memory};
+ghost use Rattle.log_book.specs.Kept.{with_line, IsReady, AreInStep};
+
+use crate::kept::Kept;
+use drat_text::{LineOut, LineStop, SinkLines};
+use io_edge::{Failed, Sink};
+use sat_words::Line;
+use std::alloc::{AllocError, AllocFailed, Global};
+use std::marker::Model;
+
+/// The lines on their way to the sink, the last number given, and the lines where they are asked for.
+#[derive(Drop)]
+pub struct LogLines<S: Sink> {
+    lines: SinkLines<S>,
+    last: u64,
+    kept: Kept,
+}
+
+impl<S: Sink> Model for LogLines<S> {
+    ghost use Rattle.std.specs.Prelude.{◌≡◌};
+    ghost use Rattle.drat_text.specs.SinkData.{told_by};
+    ghost use Rattle.log_book.specs.Kept.{LogData, AreInStep};
+
+    ghost Value = { LogData S };
+
+    ghost view = { λ p. record { lines = p.lines; kept = p.kept } };
+
+    ghost invariant = { λ p. (p.last ≡ p.lines.last) × AreInStep p.kept.lines (told_by S.written S.flushed S.target S.faults p.lines) };
+}
+
+impl<S: Sink> LogLines<S> {
+    /// No line yet, for a formula of so many clauses and in a sink to which nothing was written. Refused for memory it gives
+    /// the sink back.
+    pub(crate) fn new(
+        alloc: Global,
+        clauses: u64,
+        sink: S,
+        keep_lines: bool,
+    ) -> Result<Self, AllocFailed<S>>
+        requires few { clauses ≤ 2 ^ 63 }
+        requires empty { IsEmptyWhereTold (S.written sink) }
+        ensures made { IfOk result (λ log. log.lines ≡ record { entries = 0; last = clauses; spent = false; waiting = []; sink = sink }) }
+        ensures kept { IfOk result (λ log. log.kept.lines ≡ (if keep_lines then Some [] else None)) }
+        ensures back { IfErr result (λ refused. refused.value ≡ sink) }
+    {
+        match SinkLines::new(alloc, clauses, sink) {
+            Ok(lines) => Ok(LogLines {
+                lines,
+                last: clauses,
+                kept: Kept::new(alloc, keep_lines),
+            }),
+            Err(refused) => Err(refused),
+        }
+    }
+
+    /// Whether a write has failed.
+    pub(crate) fn is_spent(&self) -> bool
+        ensures { result ≡ self.now.lines.spent }
+    {
+        self.lines.is_spent()
+    }
+
+    /// The last number given.
+    pub(crate) fn last(&self) -> u64
+        ensures { result ≡ self.now.lines.last }
+    {
+        self.last
+    }
+
+    /// Kept lines are in step with those on their way.
+    pub(crate) fn keeps_step(&self)
+        ensures { AreInStep self.now.kept.lines (told_by S.written S.flushed S.target S.faults self.now.lines) }
+    {
+        let _ = &self.kept;
+    }
+
+    /// Makes ready for the line: what follows takes no memory.
+    pub(crate) fn prepare(&mut self, line: &Line) -> Result<(), AllocError>
+        ensures same { (self.new.lines ≡ self.old.lines) × (self.new.kept.lines ≡ self.old.kept.lines) }
+        ensures ready { OnOk result (IsReady self.new.kept line.now) }
+    {
+        self.kept.prepare(line)
+    }
+
+    /// Puts the line behind the others.
+    pub(crate) fn put(&mut self, line: &Line) -> Result<u64, LineStop>
+        requires unspent { self.old.lines.spent ≡ false }
+        requires ready { IsReady self.old.kept line.now }
+        ensures put { WasPut (told_by S.written S.flushed S.target S.faults self.old.lines) (told_by S.written S.flushed S.target S.faults self.new.lines) line.now result }
+        ensures kept { MatchResult result (λ _. self.new.kept.lines ≡ with_line self.old.kept.lines line.now) (λ _. self.new.kept.lines ≡ self.old.kept.lines) }
+        ensures memory { result ≢ Err Memory }
+    {
+        match self.lines.put(line) {
+            Ok(number) => {
+                self.kept.keep(line);
+                if number > 0 {
+                    self.last = number;
+                }
+                Ok(number)
+            }
+            Err(stop) => Err(stop),
+        }
+    }
+
+    /// Writes what waits, and gives the sink back, with the lines where they were asked for. It does not flush.
+    pub(crate) fn finish(self) -> (Result<(), Failed>, S, Option<Vec<Line>>)
+        ensures kept { option_map (λ v. v.items) result.2 ≡ self.kept.lines }
+        ensures whole { OnOk result.0 (S.written result.1 ≡ append_known (S.written self.lines.sink) self.lines.waiting) }
+        ensures front { OnErr result.0 (IsFront (S.written result.1) (append_known (S.written self.lines.sink) self.lines.waiting)) }
+        ensures spent { self.lines.spent ≡ true → (is_err result.0 ≡ true) × (result.1 ≡ self.lines.sink) }
+        ensures cause { self.lines.spent ≡ false → HasCause (S.faults self.lines.sink) (S.faults result.1) result.0 }
+        ensures flushed { S.flushed result.1 ≡ S.flushed self.lines.sink }
+        ensures target { S.target result.1 ≡ S.target self.lines.sink }
+    {
+        let LogLines { lines, kept, .. } = self;
+        let (written, sink) = lines.finish();
+        (written, sink, kept.into_lines())
+    }
+}

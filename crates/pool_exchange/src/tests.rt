@@ -6,7 +6,8 @@ ghost use Rattle.sample_table.specs.Samples.{IsRing as IsAlone};
 
 use crate::{class_of, get, put};
 use ref_count::{Dropped, drop_count};
-use sample_table::{Problem, Ring, begin, give_up, open, start_cell};
+use sample_formula::Problem;
+use sample_table::{Ring, begin, give_up, open, start_cell};
 use sat_words::{Cref, Lit};
 use share_rule::{Ledger, Shared};
 use std::test::Fail;

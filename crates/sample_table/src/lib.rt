@@ -3,11 +3,11 @@
 #![tactic(auto)]
 
 mod book;
-mod problem;
+mod making;
 mod rings;
 
 pub use book::SampleBook;
-pub use problem::{Problem, open, refusal};
+pub use making::{open, refusal};
 pub use rings::{Ring, begin, gather, give_up, start_cell};
 
 #[cfg(test)]

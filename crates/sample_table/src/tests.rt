@@ -1,15 +1,18 @@
 // Tables for small formulas: the worked row, cells read back, and rings on threads.
-ghost use Rattle.std.specs.Prelude.{◌<◌};
+ghost use Rattle.std.specs.Prelude.{◌≤◌, ◌<◌, ◌^◌};
 
 use crate::tests_rings::{
     begin_all, count_of, gather_all, give_up_all, read_back, sum_of_reads, trade, trade_all,
 };
-use crate::{Problem, begin, gather, give_up, open, refusal, start_cell};
+use crate::{begin, gather, give_up, open, refusal, start_cell};
 use clause_cell::HoleStop;
+use sample_formula::Problem;
 use sat_words::Lit;
 use share_rule::close;
 use std::alloc::Global;
+use std::process::Abort;
 use std::test::Fail;
+use std::thread::Threads;
 
 /// Three clauses, of which 2 follows.
 fn three(alloc: Global) -> Result<Problem, Fail> {
@@ -45,23 +48,45 @@ fn the_last_of_two_rings_is_told(rt: HostRuntime) -> Result<(), Fail> {
     Ok(())
 }
 
+/// Rings on threads that each take one more count of a start cell and give one up, so often, and then give up the one that
+/// they began with: how often a ring was told that it was the last.
+fn race(
+    rt: &(impl Abort + AllocGlobal + Threads + Sync),
+    rings: u32,
+    place: usize,
+    turns: u64,
+) -> Result<u64, Fail>
+    requires some { 1 ≤ rings }
+    requires few { rings ≤ 16 }
+    requires turns { turns < 2 ^ 56 }
+{
+    let problem = three(rt.alloc())?;
+    let (table, mut first, cells) = open(rt.alloc(), &problem, rings, 64)?;
+    let cell = start_cell(&first, cells.as_slice(), place)?;
+    let mut rings = begin_all(rt.alloc(), &table, &mut first, cell, rings)?;
+    let count = rings.len() as u64;
+    assert_eq!(rt; count_of(&table, cell), Some(count));
+    trade_all(rt, &table, rings.as_mut_slice(), turns);
+    assert_eq!(rt; count_of(&table, cell), Some(count));
+    give_up_all(rt, &table, rings.as_mut_slice(), turns);
+    assert_eq!(rt; count_of(&table, cell), Some(0));
+    let lasts = gather_all(&table, &mut first, rings);
+    assert_eq!(rt; close(table, first).holes.largest(), 50);
+    Ok(lasts)
+}
+
 /// How often each ring takes one more count and gives one up.
 const TURNS: u64 = 100_000;
 
 #[test]
 fn four_rings_trade_one_cell(rt: HostRuntime) -> Result<(), Fail> {
-    let problem = three(rt.alloc())?;
-    let (table, mut first, cells) = open(rt.alloc(), &problem, 4, 64)?;
-    let cell = start_cell(&first, cells.as_slice(), 2)?;
-    let mut rings = begin_all(rt.alloc(), &table, &mut first, cell, 4)?;
-    assert_eq!(rt; count_of(&table, cell), Some(4));
-    trade_all(&rt, &table, rings.as_mut_slice(), TURNS);
-    assert_eq!(rt; count_of(&table, cell), Some(4));
-    give_up_all(&rt, &table, rings.as_mut_slice(), TURNS);
-    assert_eq!(rt; count_of(&table, cell), Some(0));
-    assert_eq!(rt; gather_all(&table, &mut first, rings), 1);
-    let book = close(table, first);
-    assert_eq!(rt; book.holes.largest(), 50);
+    assert_eq!(rt; race(&rt, 4, 2, TURNS)?, 1);
+    Ok(())
+}
+
+#[test]
+fn two_rings_on_threads_give_a_cell_up(rt: HostRuntime) -> Result<(), Fail> {
+    assert_eq!(rt; race(&rt, 2, 0, 0)?, 1);
     Ok(())
 }
 

@@ -1,6 +1,7 @@
 // Two rings and one stop.
 use crate::{Set, look, set};
-use sample_table::{Problem, begin, open, start_cell};
+use sample_formula::Problem;
+use sample_table::{begin, open, start_cell};
 use sat_words::{Lit, STOP_MEMORY, STOP_SAT, Stop};
 use std::test::Fail;
 

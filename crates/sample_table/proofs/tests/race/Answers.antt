@@ -3,16 +3,16 @@ use Rattle.sample_table.specs.Samples.{IsRing, IsHolder}
 use Rattle.sample_table.specs.declared.rings.Ring.{Ring}
 use Rattle.sample_table.specs.declared.book.SampleBook.{SampleBook}
 use Rattle.sample_table.proofs.Trading.{written_back}
-use Rattle.sample_table.proofs.tests.four_rings_trade_one_cell.Goals as goal
+use Rattle.sample_table.proofs.tests.race.Goals as goal
 
 pub give_up_all-requires-after_bounds : goal.give_up_all-requires-after_bounds
-give_up_all-requires-after_bounds g c κs =
+give_up_all-requires-after_bounds g c κs b =
     let size = ap (λ (rs : List (Ring SampleBook)). length rs) c.as_mut_slice.ensures.value in
     let back = written_back c.in_ok-rings.rings.items c.trade_all.new.rings c.in_ok-rings.rings.len (c.trade_all.auto.rings ∙ size) (sym c.as_mut_slice.ensures.len ∙ size) in
-    subst (All (λ (r : Ring SampleBook). IsHolder c.in_ok-table.table r.pass r.ring r.cell.address 100000)) (sym (c.as_mut_slice-2.ensures.value ∙ back)) c.trade_all.ensures.each
+    subst (All (λ (r : Ring SampleBook). IsHolder c.in_ok-table.table r.pass r.ring r.cell.address c.args.turns)) (sym (c.as_mut_slice-2.ensures.value ∙ back)) c.trade_all.ensures.each
 
-pub gather_all-requires-clause-each : goal.gather_all-requires-clause-each
-gather_all-requires-clause-each g c =
+pub gather_all-lasts-requires-clause-each : goal.gather_all-lasts-requires-clause-each
+gather_all-lasts-requires-clause-each g c =
     let items = c.in_ok-rings.rings.items in
     let n = c.in_ok-rings.rings.len in
     let one = c.trade_all.new.rings in
@@ -26,8 +26,8 @@ gather_all-requires-clause-each g c =
     let back2 = ap (λ (rs : List (Ring SampleBook)). take n (two ++ drop (length two) rs)) back ∙ written_back one two n (c.give_up_all.auto.rings ∙ size2) (all ∙ sym first) in
     subst (All (λ (r : Ring SampleBook). IsRing c.in_ok-table.table r.pass r.ring)) (sym back2) c.give_up_all.ensures.each
 
-pub gather_all-requires-clause-numbers : goal.gather_all-requires-clause-numbers
-gather_all-requires-clause-numbers g c =
+pub gather_all-lasts-requires-clause-numbers : goal.gather_all-lasts-requires-clause-numbers
+gather_all-lasts-requires-clause-numbers g c =
     let items = c.in_ok-rings.rings.items in
     let n = c.in_ok-rings.rings.len in
     let one = c.trade_all.new.rings in

@@ -3,10 +3,10 @@ use Rattle.sat_words.specs.Literal.{Literal}
 use Rattle.share_core.proofs.Counting.{none_some}
 use Rattle.sample_table.proofs.Trying.{may_begin, first_from}
 use Rattle.share_rule.specs.Views.{no_origin}
-use Rattle.sample_table.proofs.problem.try_over.Goals as goal
+use Rattle.sample_table.proofs.making.try_over.Goals as goal
 
 pub make_over-requires-clause-begins : goal.make_over-requires-clause-begins
-make_over-requires-clause-begins c = may_begin c.args.formula.now c.args.start.now (record { rings = c.args.rings; vars = c.vars-vars.result; words = c.args.words }) c.requires c.vars-vars.ensures
+make_over-requires-clause-begins c = may_begin c.args.formula.now c.args.start.now c.args.units.now (record { rings = c.args.rings; vars = c.vars-vars.result; words = c.args.words }) c.requires c.vars-vars.ensures
     (omega (arith, c.if-rings-eq0.false)) (omega (arith, c.if-rings-gt16.false)) (omega (arith, c.if-vars.false)) (omega (arith, c.if-words.false))
 
 pub make_over-requires-clause-book : goal.make_over-requires-clause-book
@@ -19,4 +19,4 @@ make_over-requires-clause-book c = record {
 }
 
 pub returns-in-Ok-clause-first : goal.returns-in-Ok-clause-first
-returns-in-Ok-clause-first c = first_from c.in-Ok.made.0 c.in-Ok.made.1 (record { rings = c.args.rings; vars = c.vars-vars.result; words = c.args.words }) c.args.formula.now.clauses c.args.start.now no_origin c.in-Ok.ensures.made.1 c.in-Ok.ensures.made.2
+returns-in-Ok-clause-first c = first_from c.in-Ok.made.0 c.in-Ok.made.1 (record { rings = c.args.rings; vars = c.vars-vars.result; words = c.args.words }) c.args.formula.now.clauses c.args.start.now c.args.units.now no_origin c.in-Ok.ensures.made.1 c.in-Ok.ensures.made.2

@@ -13,18 +13,7 @@ use crate::log_lines::LogLines;
 use io_edge::Sink;
 use ring_port::{PlainPort, Starts};
 use sat_words::{Clause, Lit};
-use std::alloc::{AllocError, AllocFailed, Global};
-
-/// The start clauses as the port takes them.
-fn starts_of(alloc: Global, clauses: &[(u64, Clause)]) -> Result<Starts, AllocError>
-    ensures { IfOk result (λ starts. starts ≡ clauses.now) }
-{
-    let mut starts = Starts::new(alloc);
-    for (number, clause) in clauses {
-        starts.push(*number, clause.lits())?;
-    }
-    Ok(starts)
-}
+use std::alloc::{AllocFailed, Global};
 
 /// The port of the one ring over these start clauses, each with its number, and these units, whose lines go on where the
 /// ruler's end. The clauses are copied, and let go. Refused for memory it gives the lines back.
@@ -42,7 +31,7 @@ pub(crate) fn open_port<S: Sink>(
     ensures opened { IfOk result (λ port. HasOpened vars start.items units.items (logged_by S.written S.flushed S.target S.faults lines) port.state) }
     ensures back { IfErr result (λ refused. refused.value ≡ lines) }
 {
-    let Ok(starts) = starts_of(alloc, start.as_slice()) else {
+    let Ok(starts) = Starts::of_clauses(alloc, start.as_slice()) else {
         return Err(AllocFailed { value: lines });
     };
     PlainPort::new(alloc, vars, starts, units, lines)

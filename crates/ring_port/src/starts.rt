@@ -1,8 +1,8 @@
 // What a port in memory starts with.
-ghost use Rattle.std.specs.Prelude.{◌≡◌, ◌++◌, ◌∷◌, [], OnOk};
+ghost use Rattle.std.specs.Prelude.{◌≡◌, ◌++◌, ◌∷◌, [], IfOk, OnOk};
 
 use crate::store::Store;
-use sat_words::Lit;
+use sat_words::{Clause, Lit};
 use std::alloc::{AllocError, Global};
 use std::marker::Model;
 
@@ -33,6 +33,17 @@ impl Starts {
         Starts {
             store: Store::new(alloc),
         }
+    }
+
+    /// Copies of these clauses, each under its number.
+    pub fn of_clauses(alloc: Global, clauses: &[(u64, Clause)]) -> Result<Starts, AllocError>
+        ensures { IfOk result (λ starts. starts ≡ clauses.now) }
+    {
+        let mut starts = Starts::new(alloc);
+        for (number, clause) in clauses {
+            starts.push(*number, clause.lits())?;
+        }
+        Ok(starts)
     }
 
     /// Copies the literals of one clause more. For 2^32 literals there is no room.

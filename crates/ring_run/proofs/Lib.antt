@@ -18,5 +18,3 @@ pub mod Offering
 pub mod Lending
 pub mod Listing
 pub mod Reducing
-mod ProblemsReady
-mod CrowdLemmas

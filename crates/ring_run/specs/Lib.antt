@@ -4,5 +4,3 @@ pub mod Ending
 pub mod Strategy
 pub mod Course
 pub mod Renewal
-pub mod Problems
-pub mod Crowd

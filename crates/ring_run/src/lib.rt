@@ -25,6 +25,8 @@ pub use run::run_ring;
 #[cfg(test)]
 mod tests;
 #[cfg(test)]
+mod tests_begin;
+#[cfg(test)]
 mod tests_port;
 #[cfg(test)]
 mod tests_row;

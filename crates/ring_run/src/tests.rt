@@ -1,14 +1,13 @@
 // A ring over the port in memory, on small formulas.
-ghost use Rattle.std.specs.Prelude.{◌≡◌, ◌≤◌, ◌+◌, ◌++◌, ◌∷◌, [], false, IfOk, OnOk, length};
-ghost use Rattle.sat_words.specs.Clause.{clause_of};
-ghost use Rattle.ring_run.specs.Problems.{CanStart, square, square_starts, chain, chain_starts, triples, triples_starts, opposed};
+ghost use Rattle.std.specs.Prelude.{◌≡◌, ◌≤◌, false, length};
 
-use crate::{Addresses, Counts, End, Job, run_ring};
+use crate::tests_begin::begin;
+use crate::{Counts, End, run_ring};
 use drat_text::{CountedLines, LineOut, SinkLines};
 use io_edge::MemSink;
-use ring_port::{PlainPort, Starts};
-use sat_words::{Clause, Formula, Lit};
-use std::alloc::{AllocError, Global};
+use sample_formula::Problem;
+use sat_words::Lit;
+use std::alloc::Global;
 use std::test::Fail;
 
 /// By this seed the first words of the reference generator of ring 0 end in the bits 1, 0 and 0: variables 2 and 3 are decided
@@ -18,111 +17,57 @@ const SEED: u64 = 3;
 /// Room for the text of a proof, in bytes.
 const ROOM: usize = 64;
 
-/// Puts a clause behind those of the formula, and among the start clauses.
-pub(crate) fn put(
-    alloc: Global,
-    formula: &mut Formula,
-    start: &mut Starts,
-    lits: &[Lit],
-) -> Result<(), AllocError>
-    ensures formula { OnOk result (formula.new ≡ record formula.old { clauses = formula.old.clauses ++ clause_of lits.now ∷ [] }) }
-    ensures start { OnOk result (start.new ≡ start.old ++ (length formula.old.clauses + 1, clause_of lits.now) ∷ []) }
-{
-    formula.push(Clause::from_lits(alloc, lits)?)?;
-    let number = formula.clauses().len() as u64;
-    let clause = Clause::from_lits(alloc, lits)?;
-    start.push(number, clause.lits())
-}
-
 /// The four clauses on two variables, which no assignment makes true.
-fn four_clauses(alloc: Global) -> Result<(Formula, Starts), AllocError>
-    ensures formula { IfOk result (λ made. made.0 ≡ record { vars = 2; clauses = square }) }
-    ensures start { IfOk result (λ made. made.1 ≡ square_starts) }
-{
+fn four_clauses(alloc: Global) -> Result<Problem, Fail> {
     let one = Lit::new(1, false);
     let two = Lit::new(2, false);
-    let mut formula = Formula::new(alloc, 2);
-    let mut start = Starts::new(alloc);
-    put(alloc, &mut formula, &mut start, &[one, two])?;
-    put(alloc, &mut formula, &mut start, &[one, two.not()])?;
-    put(alloc, &mut formula, &mut start, &[one.not(), two])?;
-    put(alloc, &mut formula, &mut start, &[one.not(), two.not()])?;
-    Ok((formula, start))
+    let problem = Problem::new(alloc, 2);
+    let problem = problem.with(alloc, &[one, two])?;
+    let problem = problem.with(alloc, &[one, two.not()])?;
+    let problem = problem.with(alloc, &[one.not(), two])?;
+    problem.with(alloc, &[one.not(), two.not()])
 }
 
 /// A unit that forces 1, which forces 3; 4 occurs nowhere.
-fn three_clauses(alloc: Global) -> Result<(Formula, Starts), AllocError>
-    ensures formula { IfOk result (λ made. made.0 ≡ record { vars = 4; clauses = chain }) }
-    ensures start { IfOk result (λ made. made.1 ≡ chain_starts) }
-{
+fn three_clauses(alloc: Global) -> Result<Problem, Fail> {
     let one = Lit::new(1, false);
     let two = Lit::new(2, false);
-    let mut formula = Formula::new(alloc, 4);
-    let mut start = Starts::new(alloc);
-    put(alloc, &mut formula, &mut start, &[one, two])?;
-    put(
-        alloc,
-        &mut formula,
-        &mut start,
-        &[one.not(), Lit::new(3, false)],
-    )?;
-    formula.push(Clause::from_lits(alloc, &[two.not()])?)?;
-    Ok((formula, start))
+    let problem = Problem::new(alloc, 4);
+    let problem = problem.with(alloc, &[one, two])?;
+    let problem = problem.with(alloc, &[one.not(), Lit::new(3, false)])?;
+    problem.with_unit(alloc, two.not())
 }
 
 /// Two clauses that oppose each other where 2 and 3 are false.
-pub(crate) fn two_clauses(alloc: Global) -> Result<(Formula, Starts), AllocError>
-    ensures formula { IfOk result (λ made. made.0 ≡ record { vars = 3; clauses = triples }) }
-    ensures start { IfOk result (λ made. made.1 ≡ triples_starts) }
-{
+pub(crate) fn two_clauses(alloc: Global) -> Result<Problem, Fail> {
     let one = Lit::new(1, false);
     let two = Lit::new(2, false);
     let three = Lit::new(3, false);
-    let mut formula = Formula::new(alloc, 3);
-    let mut start = Starts::new(alloc);
-    put(alloc, &mut formula, &mut start, &[one, two, three])?;
-    put(alloc, &mut formula, &mut start, &[one.not(), two, three])?;
-    Ok((formula, start))
+    let problem = Problem::new(alloc, 3);
+    let problem = problem.with(alloc, &[one, two, three])?;
+    problem.with(alloc, &[one.not(), two, three])
 }
 
 /// Two units that differ in sign.
-fn two_units(alloc: Global) -> Result<Formula, AllocError>
-    ensures { IfOk result (λ formula. formula ≡ record { vars = 1; clauses = opposed }) }
-{
+fn two_units(alloc: Global) -> Result<Problem, Fail> {
     let one = Lit::new(1, false);
-    let mut formula = Formula::new(alloc, 1);
-    formula.push(Clause::from_lits(alloc, &[one])?)?;
-    formula.push(Clause::from_lits(alloc, &[one.not()])?)?;
-    Ok(formula)
+    let problem = Problem::new(alloc, 1).with_unit(alloc, one)?;
+    problem.with_unit(alloc, one.not())
 }
 
-/// Runs a ring from these clauses and units, with its proof into these lines.
+/// Runs a ring on a problem.
 fn run_over<L: LineOut + Drop>(
     alloc: Global,
-    formula: &Formula,
-    start: Starts,
-    units: &[Lit],
+    problem: Problem,
     conflicts: u64,
     lines: L,
 ) -> Result<(End, Counts, L), Fail>
-    requires ready { CanStart formula.now.clauses start units.now formula.now.vars }
     requires some { 1 ≤ conflicts }
     requires none { (L.told lines).entries ≡ 0 }
-    requires last { (L.told lines).last ≡ length formula.now.clauses }
+    requires last { (L.told lines).last ≡ length problem.formula.clauses }
     requires unspent { (L.told lines).spent ≡ false }
 {
-    let units = Vec::from_slice(alloc, units)?;
-    let Ok(mut port) = PlainPort::new(alloc, formula.vars(), start, units, lines) else {
-        return Err(Fail::from("no memory for the port"));
-    };
-    let job = Job {
-        ring: 0,
-        rings: 1,
-        vars: formula.vars(),
-        start: Addresses::from_vec(port.start(alloc)?),
-        conflicts,
-        seed: SEED,
-    };
+    let (mut port, job) = begin(alloc, problem, conflicts, SEED, lines)?;
     let (end, counts) = run_ring(alloc, &mut port, &job);
     Ok((end, counts, port.into_lines()))
 }
@@ -130,19 +75,17 @@ fn run_over<L: LineOut + Drop>(
 /// The same with its proof into a sink.
 fn run_on(
     alloc: Global,
-    formula: &Formula,
-    start: Starts,
-    units: &[Lit],
+    problem: Problem,
     conflicts: u64,
 ) -> Result<(End, Counts, MemSink<'static>), Fail>
-    requires ready { CanStart formula.now.clauses start units.now formula.now.vars }
-    requires some { 1 ≤ conflicts }
+    requires { 1 ≤ conflicts }
 {
     let sink = MemSink::new(alloc, ROOM, &[])?;
-    let Ok(lines) = SinkLines::new(alloc, formula.clauses().len() as u64, sink) else {
+    let clauses = problem.formula.clauses().len() as u64;
+    let Ok(lines) = SinkLines::new(alloc, clauses, sink) else {
         return Err(Fail::from("no memory for the lines"));
     };
-    let (end, counts, lines) = run_over(alloc, formula, start, units, conflicts, lines)?;
+    let (end, counts, lines) = run_over(alloc, problem, conflicts, lines)?;
     match lines.finish() {
         (Ok(()), sink) => Ok((end, counts, sink)),
         (Err(_), _) => Err(Fail::from("the sink failed")),
@@ -153,8 +96,7 @@ fn run_on(
 fn run_on_four(alloc: Global, conflicts: u64) -> Result<(End, Counts, MemSink<'static>), Fail>
     requires { 1 ≤ conflicts }
 {
-    let (formula, start) = four_clauses(alloc)?;
-    run_on(alloc, &formula, start, &[], conflicts)
+    run_on(alloc, four_clauses(alloc)?, conflicts)
 }
 
 /// The counts of a ring alone, which offers to nobody.
@@ -189,9 +131,9 @@ fn stops_at_its_limit(rt: HostRuntime) -> Result<(), Fail> {
 #[test]
 fn tells_that_its_proof_failed(rt: HostRuntime) -> Result<(), Fail> {
     let alloc = rt.alloc();
-    let (formula, start) = four_clauses(alloc)?;
-    let lines = CountedLines::new(4, 1);
-    let (end, counts, _) = run_over(alloc, &formula, start, &[], 2, lines)?;
+    let problem = four_clauses(alloc)?;
+    let lines = CountedLines::new(problem.formula.clauses().len() as u64, 1);
+    let (end, counts, _) = run_over(alloc, problem, 2, lines)?;
     assert!(rt; matches!(end, End::ProofFault));
     assert_eq!(rt; counts, counted(0, 0));
     Ok(())
@@ -201,8 +143,7 @@ fn tells_that_its_proof_failed(rt: HostRuntime) -> Result<(), Fail> {
 #[test]
 fn finds_a_model(rt: HostRuntime) -> Result<(), Fail> {
     let alloc = rt.alloc();
-    let (formula, start) = three_clauses(alloc)?;
-    let (end, counts, sink) = run_on(alloc, &formula, start, &[Lit::new(2, true)], 1)?;
+    let (end, counts, sink) = run_on(alloc, three_clauses(alloc)?, 1)?;
     let End::Sat(model) = end else {
         return Err(Fail::from("no model"));
     };
@@ -219,8 +160,7 @@ fn finds_a_model(rt: HostRuntime) -> Result<(), Fail> {
 #[test]
 fn learns_a_clause(rt: HostRuntime) -> Result<(), Fail> {
     let alloc = rt.alloc();
-    let (formula, start) = two_clauses(alloc)?;
-    let (end, counts, sink) = run_on(alloc, &formula, start, &[], 2)?;
+    let (end, counts, sink) = run_on(alloc, two_clauses(alloc)?, 2)?;
     let End::Sat(model) = end else {
         return Err(Fail::from("no model"));
     };
@@ -235,9 +175,7 @@ fn learns_a_clause(rt: HostRuntime) -> Result<(), Fail> {
 #[test]
 fn refutes_opposed_units(rt: HostRuntime) -> Result<(), Fail> {
     let alloc = rt.alloc();
-    let formula = two_units(alloc)?;
-    let units = [Lit::new(1, false), Lit::new(1, true)];
-    let (end, counts, sink) = run_on(alloc, &formula, Starts::new(alloc), &units, 1)?;
+    let (end, counts, sink) = run_on(alloc, two_units(alloc)?, 1)?;
     assert!(rt; matches!(end, End::Refuted));
     assert_eq!(rt; counts, counted(0, 0));
     assert!(rt; sink.bytes() == b"0\n".as_slice());

@@ -4,20 +4,20 @@ ghost use Rattle.ring_port.specs.PortState.{IsPort, lits_at};
 ghost use Rattle.watch_prop.specs.Propagation.{IsConflict, IsQuiet, IsPropagated};
 ghost use Rattle.ring_run.specs.Ended.{IsJobOf, IsUntouched};
 ghost use Rattle.ring_run.specs.Course.{InSearch, MayImport};
-ghost use Rattle.ring_run.specs.Problems.{CanStart, row, row_starts, ladder, ladder_starts};
 
+use crate::Job;
 use crate::decision::write_pending;
 use crate::ring::Ring;
 use crate::run::make_ring;
-use crate::tests::put;
+use crate::tests_begin::begin;
 use crate::units::{Units, take_units};
-use crate::{Addresses, Job};
 use analyze::{Analysis, Conclusion};
 use drat_text::CountedLines;
-use ring_port::{PlainPort, Port, Starts};
+use ring_port::Port;
 use ring_trail::Trail;
-use sat_words::{Cref, Formula, Lit};
-use std::alloc::{AllocError, Global};
+use sample_formula::Problem;
+use sat_words::{Cref, Lit};
+use std::alloc::Global;
 use std::test::Fail;
 use watch_prop::Propagated;
 
@@ -34,25 +34,15 @@ struct Walked {
 
 /// 1 forces 2, and where 1 and 4 are true the last two clauses oppose each other. A clause has
 /// its literals in the order of their variables, however they are given.
-fn row_clauses(alloc: Global) -> Result<(Formula, Starts), AllocError>
-    ensures formula { IfOk result (λ made. made.0 ≡ record { vars = 5; clauses = row }) }
-    ensures start { IfOk result (λ made. made.1 ≡ row_starts) }
-{
+fn row_clauses(alloc: Global) -> Result<Problem, Fail> {
     let one = Lit::new(1, true);
     let four = Lit::new(4, true);
     let two = Lit::new(2, false);
     let five = Lit::new(5, false);
-    let mut formula = Formula::new(alloc, 5);
-    let mut start = Starts::new(alloc);
-    put(alloc, &mut formula, &mut start, &[one, two])?;
-    put(alloc, &mut formula, &mut start, &[four, one, five])?;
-    put(
-        alloc,
-        &mut formula,
-        &mut start,
-        &[four, two.not(), five.not()],
-    )?;
-    Ok((formula, start))
+    let problem = Problem::new(alloc, 5);
+    let problem = problem.with(alloc, &[one, two])?;
+    let problem = problem.with(alloc, &[four, one, five])?;
+    problem.with(alloc, &[four, two.not(), five.not()])
 }
 
 /// A ring that has attached the job's clauses.
@@ -178,22 +168,10 @@ fn walk<P: Port>(alloc: Global, port: &mut P, job: &Job) -> Result<Walked, Fail>
     })
 }
 
-/// Walks over a port in memory that holds these clauses.
-fn walk_on(alloc: Global, formula: &Formula, start: Starts) -> Result<Walked, Fail>
-    requires { CanStart formula.now.clauses start [] formula.now.vars }
-{
-    let lines = CountedLines::new(formula.clauses().len() as u64, 0);
-    let Ok(mut port) = PlainPort::new(alloc, formula.vars(), start, Vec::new(alloc), lines) else {
-        return Err(Fail::from("no memory for the port"));
-    };
-    let job = Job {
-        ring: 0,
-        rings: 1,
-        vars: formula.vars(),
-        start: Addresses::from_vec(port.start(alloc)?),
-        conflicts: 1,
-        seed: 0,
-    };
+/// Walks over a port in memory.
+fn walk_on(alloc: Global, problem: Problem) -> Result<Walked, Fail> {
+    let lines = CountedLines::new(problem.formula.clauses().len() as u64, 0);
+    let (mut port, job) = begin(alloc, problem, 1, 0, lines)?;
     walk(alloc, &mut port, &job)
 }
 
@@ -202,8 +180,7 @@ fn walk_on(alloc: Global, formula: &Formula, start: Starts) -> Result<Walked, Fa
 // own.
 #[test]
 fn learns_a_minimised_lemma(rt: HostRuntime) -> Result<(), Fail> {
-    let (formula, start) = row_clauses(rt.alloc())?;
-    let walked = walk_on(rt.alloc(), &formula, start)?;
+    let walked = walk_on(rt.alloc(), row_clauses(rt.alloc())?)?;
     assert_eq!(rt; walked.two, Some(true));
     assert_eq!(rt; walked.conclusion, Conclusion::Lemma { back: 1, glue: 1 });
     let lits = walked.analysis.lits();
@@ -214,25 +191,15 @@ fn learns_a_minimised_lemma(rt: HostRuntime) -> Result<(), Fail> {
 }
 
 /// Each of 1, 2 and 3 forces the next, and the last clause is true where 4 is.
-fn ladder_clauses(alloc: Global) -> Result<(Formula, Starts), AllocError>
-    ensures formula { IfOk result (λ made. made.0 ≡ record { vars = 6; clauses = ladder }) }
-    ensures start { IfOk result (λ made. made.1 ≡ ladder_starts) }
-{
+fn ladder_clauses(alloc: Global) -> Result<Problem, Fail> {
     let two = Lit::new(2, false);
     let three = Lit::new(3, false);
     let four = Lit::new(4, false);
-    let mut formula = Formula::new(alloc, 6);
-    let mut start = Starts::new(alloc);
-    put(alloc, &mut formula, &mut start, &[Lit::new(1, true), two])?;
-    put(alloc, &mut formula, &mut start, &[two.not(), three])?;
-    put(alloc, &mut formula, &mut start, &[three.not(), four])?;
-    put(
-        alloc,
-        &mut formula,
-        &mut start,
-        &[four, Lit::new(5, true), Lit::new(6, false)],
-    )?;
-    Ok((formula, start))
+    let problem = Problem::new(alloc, 6);
+    let problem = problem.with(alloc, &[Lit::new(1, true), two])?;
+    let problem = problem.with(alloc, &[two.not(), three])?;
+    let problem = problem.with(alloc, &[three.not(), four])?;
+    problem.with(alloc, &[four, Lit::new(5, true), Lit::new(6, false)])
 }
 
 /// What was seen where 1 and then 5 were decided.
@@ -244,22 +211,10 @@ struct Climbed {
     trail: Trail,
 }
 
-/// Decides 1 and then 5 over a port in memory that holds these clauses.
-fn climb(alloc: Global, formula: &Formula, start: Starts) -> Result<Climbed, Fail>
-    requires { CanStart formula.now.clauses start [] formula.now.vars }
-{
-    let lines = CountedLines::new(formula.clauses().len() as u64, 0);
-    let Ok(mut port) = PlainPort::new(alloc, formula.vars(), start, Vec::new(alloc), lines) else {
-        return Err(Fail::from("no memory for the port"));
-    };
-    let job = Job {
-        ring: 0,
-        rings: 1,
-        vars: formula.vars(),
-        start: Addresses::from_vec(port.start(alloc)?),
-        conflicts: 1,
-        seed: 0,
-    };
+/// Decides 1 and then 5 over a port in memory.
+fn climb(alloc: Global, problem: Problem) -> Result<Climbed, Fail> {
+    let lines = CountedLines::new(problem.formula.clauses().len() as u64, 0);
+    let (mut port, job) = begin(alloc, problem, 1, 0, lines)?;
     let mut ring = ready_ring(alloc, &mut port, &job)?;
     let before = port.loads();
     let Propagated::Quiet = decide_and_propagate(&mut port, &mut ring, Lit::new(1, false))? else {
@@ -278,8 +233,7 @@ fn climb(alloc: Global, formula: &Formula, start: Starts) -> Result<Climbed, Fai
 // that is true, which stands beside its watch. So no clause is read.
 #[test]
 fn propagates_without_a_load(rt: HostRuntime) -> Result<(), Fail> {
-    let (formula, start) = ladder_clauses(rt.alloc())?;
-    let climbed = climb(rt.alloc(), &formula, start)?;
+    let climbed = climb(rt.alloc(), ladder_clauses(rt.alloc())?)?;
     assert_eq!(rt; value(&climbed.trail, 2), Some(true));
     assert_eq!(rt; value(&climbed.trail, 3), Some(true));
     assert_eq!(rt; value(&climbed.trail, 4), Some(true));

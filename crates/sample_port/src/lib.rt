@@ -1,6 +1,8 @@
-//! A small port, for the tests of what reads clauses through one.
+//! Small ports, for the tests of what stands on one.
 #![tactic(auto)]
 
+mod crowd;
 mod port;
 
+pub use crowd::{Crowd, Poll, third_stop};
 pub use port::SamplePort;

@@ -1,0 +1,52 @@
+// How a ring of the tests begins.
+ghost use Rattle.std.specs.Prelude.{◌≡◌, ◌≤◌, false, length, IfOk};
+ghost use Rattle.ring_port.specs.PortState.{IsPort, HoldsStart};
+ghost use Rattle.ring_run.specs.Ended.{IsJobOf, IsUntouched};
+
+use crate::{Addresses, Job};
+use drat_text::LineOut;
+use ring_port::{PlainPort, Starts};
+use sample_formula::Problem;
+use std::alloc::Global;
+use std::test::Fail;
+
+/// The port in memory over a problem, and the job of a ring that searches there alone.
+pub(crate) fn begin<L: LineOut + Drop>(
+    alloc: Global,
+    problem: Problem,
+    conflicts: u64,
+    seed: u64,
+    lines: L,
+) -> Result<(PlainPort<L>, Job), Fail>
+    requires some { 1 ≤ conflicts }
+    requires none { (L.told lines).entries ≡ 0 }
+    requires last { (L.told lines).last ≡ length problem.formula.clauses }
+    requires unspent { (L.told lines).spent ≡ false }
+    ensures job { IfOk result (λ begun. IsJobOf begun.0.state begun.1 × (begun.1.conflicts ≡ conflicts)) }
+    ensures untouched { IfOk result (λ begun. IsUntouched begun.0.state) }
+    ensures port { IfOk result (λ begun. IsPort begun.0.state) }
+{
+    let Problem {
+        formula,
+        start,
+        units,
+    } = problem;
+    let vars = formula.vars();
+    if vars > 1 << 30 {
+        return Err(Fail::from("too many variables"));
+    }
+    let starts = Starts::of_clauses(alloc, start.as_slice())?;
+    let Ok(port) = PlainPort::new(alloc, vars, starts, units, lines) else {
+        return Err(Fail::from("no memory for the port"));
+    };
+    let start = Addresses::from_vec(port.start(alloc)?);
+    let job = Job {
+        ring: 0,
+        rings: 1,
+        vars,
+        start,
+        conflicts,
+        seed,
+    };
+    Ok((port, job))
+}

@@ -1,0 +1,12 @@
+use Rattle.std.proofs.Common.{subst, refl, Some}
+use Rattle.ring_port.specs.declared.stops.PortStop.TheVariants.{NoHole}
+use Rattle.ring_port.specs.Port.{KeepsHeld}
+use Rattle.sample_port.specs.Crowd.{crowd_of}
+use Rattle.sample_port.proofs.CrowdLemmas.{held_same}
+use Rattle.sample_port.proofs.crowd.CrowdPort.learn.Goals as goal
+
+pub returns-clause-kept : goal.returns-clause-kept
+returns-clause-kept g c =
+    let i = c.self.inside in
+    subst (λ s. KeepsHeld s (crowd_of i.inner.state i.stop i.looks (Some (NoHole (record { need = 9; largest = 7 }))) i.polled)) c.self.view_is
+    (λ a some. held_same (crowd_of i.inner.state i.stop i.looks i.refused i.polled) (crowd_of i.inner.state i.stop i.looks (Some (NoHole (record { need = 9; largest = 7 }))) i.polled) a refl)

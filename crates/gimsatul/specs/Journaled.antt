@@ -21,11 +21,11 @@ use Rattle.io_edge.specs.Causes.{Rose}
 use Rattle.gimsatul.specs.Run.{Writer}
 
 -- an addition of this kind by the one ring: it learns clauses of a literal or more, adds the lines of units, and derives the
--- empty clause
+-- empty clause and shorter clauses of two literals or more
 abbrev pub IsPlainAddition : Kind → Addition → Type 0
 IsPlainAddition Ruler x = ⊥
 IsPlainAddition Learn x = (x.ring ≡ 0) × (1 ≤ length x.lits)
-IsPlainAddition Derive x = (x.ring ≡ 0) × (x.lits ≡ [])
+IsPlainAddition Derive x = (x.ring ≡ 0) × ((x.lits ≡ []) ⊎ (2 ≤ length x.lits))
 IsPlainAddition UnitLine x = (x.ring ≡ 0) × (length x.lits ≡ 1)
 
 -- an entry of the one ring that searches: an addition, a deletion, or that it reduces its clauses

@@ -18,3 +18,10 @@ pub mod Offering
 pub mod Lending
 pub mod Listing
 pub mod Reducing
+pub mod Shortened
+pub mod Resting
+pub mod Turns
+pub mod Shrinking
+pub mod LeftBehind
+mod ProblemsReady
+mod CrowdLemmas

@@ -89,11 +89,11 @@ starts_kept s u same kept held = subst (All (λ h. held_at u h.address ≡ Some 
     (λ k d lt. (let is = held k d lt in kept (slice_index_or s.start k d).address (subst (λ (o : Option Holding). IsSome o) (sym is) refl) ∙ is))
 
 -- a run goes on by an entry of its ring
-pub runs_adds : (start s u : PortState) (n m : ℕ) (e : Entry) → Runs start s n → Stays s u → KeepsHeld s u → u.mine ≡ s.mine ++ e ∷ [] → IsOwn start.ring start.vars e
+pub runs_entry : (start s u : PortState) (n m : ℕ) (e : Entry) → Runs start s n → Stays s u → HoldsStart u → u.mine ≡ s.mine ++ e ∷ [] → IsOwn start.ring start.vars e
     → m ≡ n + length (learned s.ring (e ∷ [])) → IsNew (opening_of s) s.mine e → u.given ≡ s.given → IsNewLine s.opening s.given s.ring s.mine e → IsSpaced s.mine e → AddsGlued s u → IsPort u → Runs start u m
-runs_adds start s u n m e p stays kept is own count fresh given line spaced glued port = record {
+runs_entry start s u n m e p stays held is own count fresh given line spaced glued port = record {
   stays = stays_by start s u p.stays stays;
-  held = starts_kept s u stays.start kept p.held;
+  held = held;
   wrote = subst (All (IsOwn start.ring start.vars)) (sym is)
       (All-append (IsOwn start.ring start.vars) s.mine (e ∷ []) p.wrote (All-cons (IsOwn start.ring start.vars) e [] own (All-nil (IsOwn start.ring start.vars))));
   counted =
@@ -108,6 +108,12 @@ runs_adds start s u n m e p stays kept is own count fresh given line spaced glue
   glued = glued_by start s u p.glued stays.polled glued;
   port = port;
 }
+
+-- where what was held still is
+pub runs_adds : (start s u : PortState) (n m : ℕ) (e : Entry) → Runs start s n → Stays s u → KeepsHeld s u → u.mine ≡ s.mine ++ e ∷ [] → IsOwn start.ring start.vars e
+    → m ≡ n + length (learned s.ring (e ∷ [])) → IsNew (opening_of s) s.mine e → u.given ≡ s.given → IsNewLine s.opening s.given s.ring s.mine e → IsSpaced s.mine e → AddsGlued s u → IsPort u → Runs start u m
+runs_adds start s u n m e p stays kept is own count fresh given line spaced glued port =
+    runs_entry start s u n m e p stays (starts_kept s u stays.start kept p.held) is own count fresh given line spaced glued port
 
 -- and by a call that writes nothing
 pub runs_same : (start s u : PortState) (n : ℕ) → Runs start s n → Stays s u → u.held ≡ s.held → u.mine ≡ s.mine → AreNewLines u → IsPort u → Runs start u n
@@ -168,7 +174,7 @@ one_learned r x same_ring e = ap (λ (b : Bool). length (map (λ (y : Addition).
     both false b p q = cc
 
 -- a unit's line that is new: the unit was not seen before
-new_line : (s : PortState) (l : Literal) (number : ℕ) → UnitsSeen s → IsPort s → has s.seen l ≡ false → IsNewLine s.opening s.given s.ring s.mine (entry_of s number (l ∷ []) UnitLine)
+pub new_line : (s : PortState) (l : Literal) (number : ℕ) → UnitsSeen s → IsPort s → has s.seen l ≡ false → IsNewLine s.opening s.given s.ring s.mine (entry_of s number (l ∷ []) UnitLine)
 new_line s l number units port unseen is_line =
     All-cons (IsUntold s.opening s.given s.ring s.mine) l [] (record {
       not_listed = none (has s.opening l) (units.opening l);
@@ -336,7 +342,7 @@ stays_learned s u lits glue c w log = record {
   log = log;
 }
 
-some_literal : (c : List Literal) → 1 ≤ length c → list_any is_empty (c ∷ []) ≡ false
+pub some_literal : (c : List Literal) → 1 ≤ length c → list_any is_empty (c ∷ []) ≡ false
 some_literal [] h = absurd (omega arith)
 some_literal (l ∷ c) h = refl
 
@@ -437,7 +443,7 @@ empty_refutes start s u n limit below p w log port =
     } in
     record {
       runs = runs_adds start s u n n e p.runs stays (λ a h. held_same s u a (ap (λ (x : PortState). x.held) w.state)) (ap (λ (x : PortState). x.mine) w.state)
-          (p.runs.stays.ring, All-nil (IsOn start.vars), refl)
+          (p.runs.stays.ring, All-nil (IsOn start.vars), inl refl)
           (omega (arith, not_learned s.ring (record { ring = s.ring; number = w.number; lits = []; kind = Derive }) refl)) (λ learns. absurd (false≢true learns))
           (ap (λ (x : PortState). x.given) w.state) (λ is_line. absurd (false≢true is_line)) tt (glued_same s u (ap (λ (x : PortState). x.held) w.state)) port;
       cause = (ap (λ (x : PortState). x.ended) w.state, usable_none u (ap (λ (x : PortState). x.refused) w.state ∙ p.refused));
@@ -453,7 +459,7 @@ recent_still s u ring mine = ap (λ (r : ℕ). recent r u.mine) ring ∙ ap (rec
 recent_added : (r : ℕ) (J : List Entry) (x : Addition) → recent r (J ++ Add x ∷ []) ≡ recent r J ++ learned r (Add x ∷ [])
 recent_added r J x = fold_last (recent_after r) [] J (Add x)
 
-none_learned : (r : ℕ) (x : Addition) → is_learn x.kind ≡ false → learned r (Add x ∷ []) ≡ []
+pub none_learned : (r : ℕ) (x : Addition) → is_learn x.kind ≡ false → learned r (Add x ∷ []) ≡ []
 none_learned r x e = ap (λ (b : Bool). map (λ (y : Addition). y.lits) (cond b (x ∷ []) [])) (both (nat_eq x.ring r) (is_learn x.kind) e)
   where
     both : (a b : Bool) → b ≡ false → (a && b) ≡ false

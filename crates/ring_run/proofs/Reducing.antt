@@ -41,7 +41,6 @@ use Rattle.ring_run.specs.Ended.{Stays, IsOwn}
 use Rattle.ring_run.specs.Searching.{IsHeldBy, HasClauses, GoesOn, OffersNothing, OnlyWrote}
 use Rattle.ring_run.specs.Ending.{ComesTo, end_refused}
 use Rattle.ring_run.specs.Course.{HasLemmas, MayImport}
-use Rattle.ring_run.specs.Renewal.{HasReduced, HasTidied}
 use Rattle.ring_run.specs.declared.ring.Ring.{Ring}
 use Rattle.ring_run.proofs.Remembering.{held_same, lits_same, clause_at_same}
 use Rattle.ring_run.proofs.Standing.{reasoned_more}
@@ -163,7 +162,7 @@ module _ (s u : PortState) (w : NotedReduce s u) where
 
 -- Dropped lemmas
 
-less_one : (hs : List Holding) (a : ℕ) (h : Holding) → In h (without_one hs a) → In h hs
+pub less_one : (hs : List Holding) (a : ℕ) (h : Holding) → In h (without_one hs a) → In h hs
 less_one [] a h there = there
 less_one (k ∷ hs) a h there = by (k.address == a) (λ m. less_one hs a h m) there
   where
@@ -354,11 +353,6 @@ ok_then (Err e) p f = tt
 pub err_then : {A E : Type 0} {P Q : E → Type 0} (r : Result A E) → IfErr r P → ((e : E) → P e → Q e) → IfErr r Q
 err_then (Ok a) p f = tt
 err_then (Err e) p f = f e p
-
--- a reduction stands, with its deletion lines
-pub tidied_then : (r : Result (Unit {0}) PortStop) (old dropped new : PortState) (before after : Ring) → HasReduced old dropped before after → OnOk r (OnlyWrote dropped new) → OnOk r (new.waiting ≡ []) → OnOk r (HasTidied old new before after)
-tidied_then (Ok done) old dropped new before after reduced lines none = record { dropped = dropped; reduced = reduced; lines = lines; none_waits = none }
-tidied_then (Err stop) old dropped new before after reduced lines none = tt
 
 -- a search may import over a port that has tidied
 pub wrote_import : (s u : PortState) (r : Result (Unit {0}) PortStop) (t : TrailData) (w : WatchData) (n : ℕ) → MayImport s t w n → OnOk r (OnlyWrote s u) → OnOk r (u.seen ≡ s.seen) → IsPort u → OnOk r (MayImport u t w n)

@@ -71,7 +71,7 @@ recent_cases r J x d h =
       | inr new ↦ inr (learned_is r x d new)
     ]
 
-unit_cases : (r : ℕ) (J : List Entry) (x : Addition) (l : Literal) → adds_unit r (J ++ Add x ∷ []) l ≡ true → (adds_unit r J l ≡ true) ⊎ (same_set (l ∷ []) x.lits ≡ true)
+pub unit_cases : (r : ℕ) (J : List Entry) (x : Addition) (l : Literal) → adds_unit r (J ++ Add x ∷ []) l ≡ true → (adds_unit r J l ≡ true) ⊎ (same_set (l ∷ []) x.lits ≡ true)
 unit_cases r J x l h =
     let p : Addition → Bool = λ y. y.ring == r in
     let lits : Addition → List Literal = λ y. y.lits in
@@ -101,7 +101,7 @@ same_unit l k e = by (and_parts (list_all (has (l ∷ [])) (k ∷ [])) (list_all
         ]
 
 -- no clause of two literals that differ is a unit
-no_unit : (l : Literal) (c : List Literal) → 2 ≤ length c → distinct_lits c ≡ true → same_set (l ∷ []) c ≡ true → ⊥
+pub no_unit : (l : Literal) (c : List Literal) → 2 ≤ length c → distinct_lits c ≡ true → same_set (l ∷ []) c ≡ true → ⊥
 no_unit l [] long distinct e = absurd (omega arith)
 no_unit l (a ∷ []) long distinct e = absurd (omega arith)
 no_unit l (a ∷ b ∷ c) long distinct e =

@@ -59,11 +59,11 @@ pub record Stays (old new : PortState) : Type 0 where
   pub home : new.home ≡ old.home
   pub log : KeepsLog old new
 
--- a clause learned has a literal or more, a unit's line one, and only the empty clause is derived
+-- a clause learned has a literal or more, a unit's line one, and what is derived is the empty clause or has two or more
 abbrev pub IsOfKind : Kind → List Literal → Type 0
 IsOfKind Ruler c = ⊥
 IsOfKind Learn c = 1 ≤ length c
-IsOfKind Derive c = c ≡ []
+IsOfKind Derive c = (c ≡ []) ⊎ (2 ≤ length c)
 IsOfKind UnitLine c = length c ≡ 1
 
 -- the entry is this ring's: it adds a clause on the variables or deletes one, or the ring reduces its clauses

@@ -1,11 +1,28 @@
 -- What a ring does behind a restart, before it imports.
-use Rattle.std.specs.Prelude.{◌≡◌, ◌+◌, ◌-◌, ◌<◌, ◌≤◌, []}
-use Rattle.ring_port.specs.PortState.{PortState}
+use Rattle.std.specs.Prelude.{◌≡◌, ℕ, ◌+◌, ◌-◌, ◌<◌, ◌≤◌, ◌⊎◌, true, List, [], ◌∷◌, ◌++◌, take, drop, length, Contains, Option, Some, None, IfSome, IsSome, ◌≢◌}
+use Rattle.std.specs.Option.{option_to_list}
+use Rattle.sat_words.specs.Literal.{Literal}
+use Rattle.sat_words.specs.Clause.{has}
+use Rattle.sat_words.specs.declared.shared.Cref.{Cref}
+use Rattle.rup_model.specs.Journal.{recent}
+use Rattle.ring_port.specs.PortState.{PortState, Holding, held_at, lits_at}
 use Rattle.ring_port.specs.Reducing.{NotedReduce}
+use Rattle.ring_trail.specs.TrailData.{TrailData, IsTrail, HasGrown, HasNoPlace, IsTrueOn, assigned}
+use Rattle.watch_prop.specs.WatchData.{WatchData, attached}
+use Rattle.watch_prop.specs.Propagation.{IsQuiet}
 use Rattle.reduce_db.specs.Moment.{lemmas_before}
 use Rattle.reduce_db.specs.Reduction.{WasReduced}
-use Rattle.ring_run.specs.Searching.{OnlyWrote}
+use Rattle.vivify.specs.Outcome.{glue_at, IsVivified}
+use Rattle.vivify.specs.declared.shorten.Vivified.{Vivified}
+use Rattle.vivify.specs.declared.shorten.Vivified.TheVariants.{Kept, Shorter, Unit, Empty}
+use Rattle.ring_run.specs.Ended.{IsHalted, last_looks}
+use Rattle.ring_run.specs.Searching.{OnlyWrote, AreTold}
+use Rattle.ring_run.specs.Ending.{EndsAt}
+use Rattle.ring_run.specs.Course.{InSearch}
+use Rattle.ring_run.specs.declared.job.End.{End}
 use Rattle.ring_run.specs.declared.ring.Ring.{Ring}
+
+-- Reduction
 
 -- a reduction is due: enough lemmas were learned since the last one
 abbrev pub IsDue : Ring → Type 0
@@ -19,11 +36,123 @@ pub record HasReduced (old new : PortState) (before after : Ring) : Type 0 where
   pub counted : after.reductions ≡ before.reductions + 1
   pub since : after.reduced_at ≡ before.learned
 
--- so it is, and the deletion lines were written behind it
-pub record HasTidied (old new : PortState) (before after : Ring) : Type 0 where
+-- Vivification
+
+-- where a ring stands while it vivifies: what its port has, its watches and its trail
+pub record Point : Type 0 where
+  pub port : PortState
+  pub watches : WatchData
+  pub trail : TrailData
+
+abbrev pub point : PortState → Ring → Point
+point s ring = record { port = s; watches = ring.watches; trail = ring.trail }
+
+-- a lemma is vivified where its glue is one or two, unless one of its literals is true
+pub record IsNamed (p : Point) (c : Cref) : Type 0 where
+  pub some : 1 ≤ glue_at p.port c.address
+  pub few : glue_at p.port c.address ≤ 2
+  pub none_true : (l : Literal) → has (lits_at p.port c.address) l ≡ true → IsTrueOn p.trail.steps l → ⊥
+
+-- the unit was made true, and what follows from it by propagation; each literal is told, and nothing is left to propagate
+pub record HasFollowed (p q : Point) (l : Literal) : Type 0 where
+  pub grown : HasGrown (assigned p.trail l None) q.trail
+  pub lines : OnlyWrote p.port q.port
+  pub told : AreTold q.port q.trail (length q.trail.steps)
+  pub same_clauses : attached q.watches ≡ attached p.watches
+  pub quiet : IsQuiet q.watches (lits_at q.port) q.trail
+
+-- what takes the lemma's place once it was vivified: itself, the shorter clause, or none behind a unit, which is followed
+abbrev pub WentOn : Point → Point → Cref → Vivified → Option Cref → Type 0
+WentOn p q c Kept left = (q ≡ p) × (left ≡ Some c)
+WentOn p q c (Shorter d) left = (q ≡ p) × (left ≡ Some d)
+WentOn p q c (Unit l) left = HasFollowed p q l × (left ≡ None)
+WentOn p q c Empty left = ⊥
+
+-- the lemma was vivified
+pub record WasVivified (p q : Point) (c : Cref) (left : Option Cref) : Type 0 where
+  pub outcome : Vivified
+  pub between : Point
+  pub trail : between.trail ≡ p.trail
+  pub vivified : IsVivified p.port between.port p.watches between.watches p.trail.steps c outcome
+  pub after : WentOn between q c outcome left
+
+-- a lemma's turn: it was vivified where it is one of those, and else nothing was done
+abbrev pub TookLemma : Point → Point → Cref → Option Cref → Type 0
+TookLemma p q c left = (IsNamed p c × WasVivified p q c left) ⊎ ((IsNamed p c → ⊥) × (q ≡ p) × (left ≡ Some c))
+
+-- each lemma had its turn, one after the other, and this is left of them
+abbrev pub TookEach : Point → Point → List Cref → List Cref → Type 0
+TookEach p q [] left = (q ≡ p) × (left ≡ [])
+TookEach p q (c ∷ cs) left =
+    (between : Point) × (first : Option Cref) × (rest : List Cref) × TookLemma p between c first × TookEach between q cs rest × (left ≡ option_to_list first ++ rest)
+
+-- the lemma at this place had its turn, and the next one's is at the other place
+pub record TookPlace (p q : Point) (before after : List Cref) (place next : ℕ) : Type 0 where
+  pub lemma : Cref
+  pub left : Option Cref
+  pub took : TookLemma p q lemma left
+  pub there : drop place before ≡ lemma ∷ drop (place + 1) before
+  pub done : take next after ≡ take place before ++ option_to_list left
+  pub rest : drop next after ≡ drop (place + 1) before
+  pub short : next ≤ length after
+
+-- What holds meanwhile
+
+-- the ring rests at level 0: nothing is left to propagate, each literal is told, and nothing that was learned or taken has to
+-- be kept
+pub record IsResting (s : PortState) (ring : Ring) : Type 0 where
+  pub search : InSearch s ring
+  pub level : ring.trail.level ≡ 0
+  pub quiet : IsQuiet ring.watches (lits_at s) ring.trail
+  pub whole : ring.written ≡ length ring.trail.steps
+  pub lately : recent s.ring s.mine ≡ []
+  pub none_taken : s.taken ≡ []
+
+-- at level 0 a unit is seen that has no value yet: once it is true the search goes on
+pub record AwaitsUnit (s : PortState) (ring : Ring) (l : Literal) : Type 0 where
+  pub search : IsTrail (assigned ring.trail l None) → InSearch s (record ring { trail = assigned ring.trail l None })
+  pub level : ring.trail.level ≡ 0
+  pub high : l.var ≤ ring.trail.vars
+  pub free : HasNoPlace ring.trail.steps l.var
+  pub lately : recent s.ring s.mine ≡ []
+  pub none_taken : s.taken ≡ []
+
+-- what vivification of a clause leaves of the ring
+abbrev pub LeftBehind : PortState → Ring → Vivified → Type 0
+LeftBehind s ring Kept = IsResting s ring
+LeftBehind s ring (Shorter d) = IsResting s ring
+LeftBehind s ring (Unit l) = AwaitsUnit s ring l
+LeftBehind s ring Empty = ⊥
+
+-- it comes to an end that is no model, and takes no look
+pub record HaltsAt (old new : PortState) (end : End) : Type 0 where
+  pub ends : EndsAt old new end
+  pub halted : IsHalted end
+  pub none : last_looks end ≡ 0
+
+-- the lemma is attached, and at no start clause's address
+pub record MayVivify (s : PortState) (w : WatchData) (c : Cref) : Type 0 where
+  pub member : Contains (attached w) c
+  pub apart : (h : Holding) → Contains s.start h → c.address ≢ h.address
+
+-- the other clauses stay attached, and so is what takes the lemma's place, at an address of its own
+pub record KeepsOthers (s : PortState) (v w : WatchData) (c : Cref) (left : Option Cref) : Type 0 where
+  pub others : (d : Cref) → Contains (attached v) d → d.address ≢ c.address → Contains (attached w) d
+  pub left_attached : IfSome left (Contains (attached w))
+  pub left_apart : IfSome left (λ (d : Cref). (a : ℕ) → IsSome (held_at s a) → a ≢ c.address → d.address ≢ a)
+
+-- Both
+
+-- the lemmas were reduced, those left had their turns, and the deletion lines were written behind it
+pub record HasShrunk (old new : PortState) (before after : Ring) : Type 0 where
   pub dropped : PortState
-  pub reduced : HasReduced old dropped before after
-  pub lines : OnlyWrote dropped new
+  pub between : Ring
+  pub reduced : HasReduced old dropped before between
+  pub same_trail : between.trail ≡ before.trail
+  pub vivified_port : PortState
+  pub vivified : TookEach (point dropped between) (point vivified_port after) between.lemmas.items after.lemmas.items
+  pub counted : after.reductions ≡ between.reductions
+  pub lines : OnlyWrote vivified_port new
   pub none_waits : new.waiting ≡ []
 
 -- nothing was done
@@ -31,7 +160,7 @@ pub record IsIdle (old new : PortState) (before after : Ring) : Type 0 where
   pub port : new ≡ old
   pub ring : after ≡ before
 
--- how often the ring has reduced its lemmas, behind the moment at which it may
-pub record HasRenewed (before after : Ring) : Type 0 where
-  pub due : IsDue before → after.reductions ≡ before.reductions + 1
-  pub early : before.learned - before.reduced_at < lemmas_before (before.reductions + 1) → after.reductions ≡ before.reductions
+-- behind a restart the lemmas were reduced and vivified where that was due, and else kept, before the ring imported
+pub record HasRenewed (old : PortState) (before after : Ring) : Type 0 where
+  pub due : IsDue before → (middle : PortState) × (ring : Ring) × HasShrunk old middle before ring × (after.reductions ≡ ring.reductions) × (after.lemmas ≡ ring.lemmas)
+  pub early : before.learned - before.reduced_at < lemmas_before (before.reductions + 1) → (after.reductions ≡ before.reductions) × (after.lemmas ≡ before.lemmas)

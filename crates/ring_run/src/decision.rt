@@ -82,6 +82,7 @@ pub(crate) fn write_pending<P: Port>(port: &mut P, ring: &mut Ring) -> Result<()
     ensures stays { OnOk result (Stays (P.state port.old) (P.state port.new)) }
     ensures wrote { OnOk result (OnlyWrote (P.state port.old) (P.state port.new)) }
     ensures watches { ring.new.watches ≡ ring.old.watches }
+    ensures same { ring.new ≡ record ring.old { written = ring.new.written } }
     ensures listed { OnOk result (KeepsLemmas (P.state port.old) ring.old (P.state port.new) ring.new) }
     ensures learned { ring.new.learned ≡ ring.old.learned }
     ensures restarts { ring.new.restarts ≡ ring.old.restarts }

@@ -114,6 +114,7 @@ pub(crate) fn import<P: Port>(port: &mut P, ring: &mut Ring) -> Course
     ensures learned { ring.new.learned ≡ ring.old.learned }
     ensures restarts { ring.new.restarts ≡ ring.old.restarts }
     ensures reductions { ring.new.reductions ≡ ring.old.reductions }
+    ensures lemmas { ring.new.lemmas ≡ ring.old.lemmas }
     ensures listed { result ≡ Course.On → KeepsLemmas (P.state port.old) ring.old (P.state port.new) ring.new }
     ensures decider { ring.new.decider ≡ ring.old.decider }
     ensures port { IsPort (P.state port.new) }

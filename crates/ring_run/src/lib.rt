@@ -4,7 +4,8 @@
 //! clause of the first unique implication point, goes back to where that forces its first literal, and makes this true; or it
 //! restarts, and goes back to level 0. Where nothing is left to propagate it decides a variable of the start clauses without a
 //! value. A conflict without decisions refutes the clauses, and where each of these variables has a value there is a model.
-//! The clauses that it started with or learned are propagated by two watched literals.
+//! The clauses that it started with or learned are propagated by two watched literals. Behind a restart it gives up lemmas
+//! of great glue, and vivifies those of small glue.
 #![tactic(auto)]
 
 mod course;
@@ -18,6 +19,7 @@ mod run;
 mod search;
 mod units;
 mod variables;
+mod vivification;
 
 pub use job::{Addresses, Counts, End, Job};
 pub use run::run_ring;

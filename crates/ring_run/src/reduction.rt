@@ -1,16 +1,19 @@
-// Where a restart was made: the ring gives up lemmas where that is due, and then imports.
+// Where a restart was made: the ring gives up lemmas where that is due, makes others shorter, and then imports.
 ghost use Rattle.std.specs.Prelude.{◌≡◌, ◌<◌, ◌≤◌, ◌+◌, ◌-◌, ◌^◌, ℕ, true, false, length, OnOk, IfErr};
 ghost use Rattle.reduce_db.specs.Moment.{lemmas_before};
-ghost use Rattle.ring_port.specs.PortState.{IsPort};
-ghost use Rattle.ring_run.specs.Searching.{OffersNothing, KeepsOn};
-ghost use Rattle.ring_run.specs.Renewal.{IsDue, HasReduced, HasTidied, IsIdle, HasRenewed};
+ghost use Rattle.ring_port.specs.PortState.{IsPort, lits_at};
+ghost use Rattle.watch_prop.specs.Propagation.{IsQuiet};
+ghost use Rattle.ring_run.specs.Searching.{OffersNothing, OpeningSeen, KeepsOn};
+ghost use Rattle.ring_run.specs.Renewal.{IsDue, HasReduced, HasShrunk, IsIdle, HasRenewed, IsResting, HaltsAt};
 ghost use Rattle.ring_run.specs.Ending.{EndsAt, end_refused};
 ghost use Rattle.ring_run.specs.Course.{HasLemmas, MayImport, Leads, KeepsLooking, KeepsOffering, IsPolling, HasPolledBy};
 
 use crate::course::{Course, end_refused};
 use crate::imports::import;
+use crate::job::End;
 use crate::lemma::tidy_up;
 use crate::ring::Ring;
+use crate::vivification::vivify_lemmas;
 use reduce_db::{due, reduce};
 use ring_port::{Port, PortStop};
 use std::alloc::Global;
@@ -18,13 +21,15 @@ use std::alloc::Global;
 /// Drops half of the lemmas that may be dropped, behind the entry that tells it.
 fn reduce_lemmas<P: Port>(alloc: Global, port: &mut P, ring: &mut Ring) -> Result<(), PortStop>
     requires import { MayImport (P.state port.old) ring.old.trail ring.old.watches ring.old.written }
+    requires quiet { IsQuiet ring.old.watches (lits_at (P.state port.old)) ring.old.trail }
+    requires opening { OpeningSeen (P.state port.old) }
     requires listed { HasLemmas (P.state port.old) ring.old }
     requires few { ring.old.reductions < 2 ^ 64 - 1 }
     requires due { IsDue ring.old }
     ensures reduced { OnOk result (HasReduced (P.state port.old) (P.state port.new) ring.old ring.new) }
     ensures ok { OnOk result (KeepsOn (P.state port.old) (P.state port.new)) }
     ensures over { IfErr result (λ stop. EndsAt (P.state port.old) (P.state port.new) (end_refused stop)) }
-    ensures import { OnOk result (MayImport (P.state port.new) ring.new.trail ring.new.watches ring.new.written) }
+    ensures resting { OnOk result (IsResting (P.state port.new) ring.new) }
     ensures listed { OnOk result (HasLemmas (P.state port.new) ring.new) }
     ensures same { ring.new ≡ record ring.old { watches = ring.new.watches; lemmas = ring.new.lemmas; reductions = ring.new.reductions; reduced_at = ring.new.reduced_at } }
     ensures looks { (P.state port.new).looks ≡ (P.state port.old).looks }
@@ -50,18 +55,55 @@ fn reduce_lemmas<P: Port>(alloc: Global, port: &mut P, ring: &mut Ring) -> Resul
     Ok(())
 }
 
-/// Reduces the lemmas where that is due, and writes their deletion lines. At level 0, where each literal has its line.
-fn reduce_due<P: Port>(alloc: Global, port: &mut P, ring: &mut Ring) -> Result<(), PortStop>
+/// Reduces the lemmas, gives those that are left their turns to be vivified, and writes the deletion lines.
+fn shrink_lemmas<P: Port>(alloc: Global, port: &mut P, ring: &mut Ring) -> Result<(), End>
     requires import { MayImport (P.state port.old) ring.old.trail ring.old.watches ring.old.written }
+    requires quiet { IsQuiet ring.old.watches (lits_at (P.state port.old)) ring.old.trail }
+    requires opening { OpeningSeen (P.state port.old) }
     requires listed { HasLemmas (P.state port.old) ring.old }
     requires few { ring.old.reductions < 2 ^ 64 - 1 }
-    ensures due { IsDue ring.old → OnOk result (HasTidied (P.state port.old) (P.state port.new) ring.old ring.new) }
-    ensures early { ring.old.learned - ring.old.reduced_at < lemmas_before (ring.old.reductions + 1) → IsIdle (P.state port.old) (P.state port.new) ring.old ring.new }
-    ensures ok { OnOk result (KeepsOn (P.state port.old) (P.state port.new)) }
-    ensures over { IfErr result (λ stop. EndsAt (P.state port.old) (P.state port.new) (end_refused stop)) }
+    requires due { IsDue ring.old }
+    ensures shrunk { OnOk result (HasShrunk (P.state port.old) (P.state port.new) ring.old ring.new) }
+    ensures over { IfErr result (HaltsAt (P.state port.old) (P.state port.new)) }
+    ensures keeps { OnOk result (KeepsOn (P.state port.old) (P.state port.new)) }
     ensures import { OnOk result (MayImport (P.state port.new) ring.new.trail ring.new.watches ring.new.written) }
     ensures listed { OnOk result (HasLemmas (P.state port.new) ring.new) }
-    ensures same { ring.new ≡ record ring.old { watches = ring.new.watches; lemmas = ring.new.lemmas; reductions = ring.new.reductions; reduced_at = ring.new.reduced_at } }
+    ensures steps { OnOk result (length ring.old.trail.steps ≤ length ring.new.trail.steps) }
+    ensures same { ring.new ≡ record ring.old { trail = ring.new.trail; watches = ring.new.watches; written = ring.new.written; lemmas = ring.new.lemmas; reductions = ring.new.reductions; reduced_at = ring.new.reduced_at } }
+    ensures looks { (P.state port.new).looks ≡ (P.state port.old).looks }
+    ensures nothing { OffersNothing (P.state port.old) (P.state port.new) }
+    ensures port { IsPort (P.state port.new) }
+{
+    match reduce_lemmas(alloc, port, ring) {
+        Ok(()) => {}
+        Err(stop) => return Err(end_refused(stop)),
+    }
+    match vivify_lemmas(alloc, port, ring) {
+        Ok(()) => {}
+        Err(end) => return Err(end),
+    }
+    match tidy_up(port) {
+        Ok(()) => Ok(()),
+        Err(stop) => Err(end_refused(stop)),
+    }
+}
+
+/// Reduces and vivifies the lemmas where that is due. At level 0, where each literal has its line and nothing is left to
+/// propagate.
+fn shrink_due<P: Port>(alloc: Global, port: &mut P, ring: &mut Ring) -> Result<(), End>
+    requires import { MayImport (P.state port.old) ring.old.trail ring.old.watches ring.old.written }
+    requires quiet { IsQuiet ring.old.watches (lits_at (P.state port.old)) ring.old.trail }
+    requires opening { OpeningSeen (P.state port.old) }
+    requires listed { HasLemmas (P.state port.old) ring.old }
+    requires few { ring.old.reductions < 2 ^ 64 - 1 }
+    ensures due { IsDue ring.old → OnOk result (HasShrunk (P.state port.old) (P.state port.new) ring.old ring.new) }
+    ensures early { ring.old.learned - ring.old.reduced_at < lemmas_before (ring.old.reductions + 1) → IsIdle (P.state port.old) (P.state port.new) ring.old ring.new }
+    ensures over { IfErr result (HaltsAt (P.state port.old) (P.state port.new)) }
+    ensures keeps { OnOk result (KeepsOn (P.state port.old) (P.state port.new)) }
+    ensures import { OnOk result (MayImport (P.state port.new) ring.new.trail ring.new.watches ring.new.written) }
+    ensures listed { OnOk result (HasLemmas (P.state port.new) ring.new) }
+    ensures steps { OnOk result (length ring.old.trail.steps ≤ length ring.new.trail.steps) }
+    ensures same { ring.new ≡ record ring.old { trail = ring.new.trail; watches = ring.new.watches; written = ring.new.written; lemmas = ring.new.lemmas; reductions = ring.new.reductions; reduced_at = ring.new.reduced_at } }
     ensures looks { (P.state port.new).looks ≡ (P.state port.old).looks }
     ensures nothing { OffersNothing (P.state port.old) (P.state port.new) }
     ensures port { IsPort (P.state port.new) }
@@ -70,23 +112,21 @@ fn reduce_due<P: Port>(alloc: Global, port: &mut P, ring: &mut Ring) -> Result<(
     if !due(ring.learned - ring.reduced_at, ring.reductions + 1) {
         return Ok(());
     }
-    match reduce_lemmas(alloc, port, ring) {
-        Ok(()) => {}
-        Err(stop) => return Err(stop),
-    }
-    tidy_up(port)
+    shrink_lemmas(alloc, port, ring)
 }
 
-/// Reduces the lemmas where that is due, and imports. No import is yet to be then.
+/// Reduces and vivifies the lemmas where that is due, and imports. No import is yet to be then.
 pub(crate) fn renew<P: Port>(alloc: Global, port: &mut P, ring: &mut Ring) -> Course
     requires import { MayImport (P.state port.old) ring.old.trail ring.old.watches ring.old.written }
+    requires quiet { IsQuiet ring.old.watches (lits_at (P.state port.old)) ring.old.trail }
+    requires opening { OpeningSeen (P.state port.old) }
     requires polling { IsPolling (P.state port.old) ring.old }
     requires listed { HasLemmas (P.state port.old) ring.old }
     requires few { ring.old.reductions < 2 ^ 64 - 1 }
     requires pending { ring.old.pending ≡ true }
     ensures leads { (limit : ℕ) → ring.old.learned < limit → Leads (P.state port.old) ring.old (P.state port.new) ring.new limit result }
     ensures settled { result ≡ Course.On → ring.new.pending ≡ false }
-    ensures renewed { result ≡ Course.On → HasRenewed ring.old ring.new }
+    ensures renewed { result ≡ Course.On → HasRenewed (P.state port.old) ring.old ring.new }
     ensures steps { result ≡ Course.On → length ring.old.trail.steps ≤ length ring.new.trail.steps }
     ensures polls { HasPolledBy (P.state port.new) ring.new result }
     ensures offering { KeepsOffering (P.state port.old) ring.old (P.state port.new) ring.new }
@@ -97,9 +137,9 @@ pub(crate) fn renew<P: Port>(alloc: Global, port: &mut P, ring: &mut Ring) -> Co
     ensures decider { ring.new.decider ≡ ring.old.decider }
     ensures port { IsPort (P.state port.new) }
 {
-    match reduce_due(alloc, port, ring) {
+    match shrink_due(alloc, port, ring) {
         Ok(()) => {}
-        Err(stop) => return Course::Over(end_refused(stop)),
+        Err(end) => return Course::Over(end),
     }
     import(port, ring)
 }

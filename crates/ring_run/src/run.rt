@@ -48,8 +48,10 @@ const NOTHING: Counts = Counts {
 /// clause that lies ready, by ring and class, which is attached at once. So it polls each class of each other ring once at its
 /// start and once at each restart.
 ///
-/// At a restart, before it imports, the ring reduces its lemmas where that is due: the Reduce entry is written, the last half of
-/// those that may be dropped is, and their deletion lines come at once. The start clauses and what other rings gave stay held.
+/// At a restart, before it imports, the ring reduces its lemmas where that is due: the Reduce entry is written, and the last half of
+/// those that may be dropped is. Then each lemma of glue one or two that is left is vivified, in order, unless it is true at level
+/// 0: a shorter clause takes its place, or a unit, which is made true with what follows from it. The deletion lines come at once.
+/// The start clauses and what other rings gave stay held as they are.
 ///
 /// Every end but `Spent` and `Stopped` has set this ring's stop, and was the first to set one: a ring that comes second
 /// answers `Stopped` with the stop that stands. A call of the port that was refused for want of memory, room or a write

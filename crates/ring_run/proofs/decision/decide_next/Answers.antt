@@ -198,3 +198,8 @@ pub renew-requires-clause-few : goal.renew-requires-clause-few
 renew-requires-clause-few g c =
     let p = renew-requires-clause-listed g c in
     omega (arith, p.count, p.few, c.requires.below, c.write_pending.ensures.learned)
+
+pub renew-requires-clause-quiet : goal.renew-requires-clause-quiet
+renew-requires-clause-quiet g c =
+    quiet_same (g.P.Port.state c.args.port.now) (g.P.Port.state c.write_pending.new.port) c.args.ring.now.trail c.write_pending.new.ring.trail c.args.ring.now.watches c.write_pending.new.ring.watches
+    (c.write_pending.ensures.held ∙ ap (λ (x : PortState). x.held) c.in_default.ensures.looked.1) c.write_pending.ensures.trail c.write_pending.ensures.watches c.requires.quiet

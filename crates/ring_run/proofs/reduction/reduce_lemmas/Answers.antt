@@ -2,6 +2,8 @@ use Rattle.std.proofs.Common.{◌+◌, refl}
 use Rattle.ring_run.proofs.Offering.{nothing_then}
 use Rattle.ring_run.proofs.Progress.{refused_ends}
 use Rattle.ring_run.proofs.Reducing.{may_reduce, noted_goes_on, noted_import, noted_lemmas, noted_nothing, cut_short_over, cut_short_nothing, reduced_goes_on, reduced_import, reduced_nothing, reduced_lemmas}
+use Rattle.ring_run.proofs.Resting.{import_resting}
+use Rattle.ring_run.proofs.Shrinking.{reduced_opening, reduced_quiet, reduced_lately, reduced_none}
 use Rattle.ring_run.proofs.reduction.reduce_lemmas.Goals as goal
 
 pub returns-in-Err-clause-over : goal.returns-in-Err-clause-over
@@ -41,13 +43,22 @@ returns-clause-ok g c = λ start n p.
     (noted_goes_on s m c.in-Ok.ensures.noted start n p (may_reduce s c.args.ring.now c.requires.listed c.requires.due) c.note_reduce.ensures.log c.note_reduce.ensures.port)
     c.reduce.ensures.log c.reduce.ensures.port
 
-pub returns-clause-import : goal.returns-clause-import
-returns-clause-import g c =
+pub returns-clause-resting : goal.returns-clause-resting
+returns-clause-resting g c =
     let s = g.P.Port.state c.args.port.now in
     let m = g.P.Port.state c.note_reduce.new.self in
+    let u = g.P.Port.state c.reduce.new.port in
     let ring = c.args.ring.now in
-    reduced_import s m (g.P.Port.state c.reduce.new.port) ring c.in-Ok.ensures.noted c.requires.listed ring.trail ring.watches c.reduce.new.watches ring.written c.reduce.new.lemmas.items c.in-Ok-reduce.ensures.reduced
-    (noted_import s m c.in-Ok.ensures.noted ring.trail ring.watches ring.written c.requires.import c.note_reduce.ensures.port) c.in-Ok-reduce.ensures.ready c.reduce.ensures.port
+    let noted = c.in-Ok.ensures.noted in
+    let done = c.in-Ok-reduce.ensures.reduced in
+    let ready = c.in-Ok-reduce.ensures.ready in
+    import_resting u (record ring { watches = c.reduce.new.watches; lemmas = c.reduce.new.lemmas; reductions = ring.reductions + 1; reduced_at = ring.learned })
+    (reduced_import s m u ring noted c.requires.listed ring.trail ring.watches c.reduce.new.watches ring.written c.reduce.new.lemmas.items done
+    (noted_import s m noted ring.trail ring.watches ring.written c.requires.import c.note_reduce.ensures.port) ready c.reduce.ensures.port)
+    (reduced_opening s m u noted ring.watches c.reduce.new.watches ring.trail.steps ring.lemmas.items c.reduce.new.lemmas.items done c.requires.opening)
+    (reduced_quiet s m u noted ring.watches c.reduce.new.watches ring.trail.steps ring.lemmas.items c.reduce.new.lemmas.items done ring.trail c.requires.quiet ready)
+    (reduced_lately s m u noted ring.watches c.reduce.new.watches ring.trail.steps ring.lemmas.items c.reduce.new.lemmas.items done)
+    (reduced_none s m u noted ring.watches c.reduce.new.watches ring.trail.steps ring.lemmas.items c.reduce.new.lemmas.items done)
 
 pub returns-clause-listed : goal.returns-clause-listed
 returns-clause-listed g c =

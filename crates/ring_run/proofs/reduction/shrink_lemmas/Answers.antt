@@ -1,0 +1,80 @@
+use Rattle.std.proofs.Common.{◌≡◌, ◌∙◌, ◌≤◌, ap, refl, arith, length, Ok}
+use Rattle.ring_port.specs.PortState.{PortState}
+use Rattle.ring_trail.specs.TrailData.{TrailData}
+use Rattle.ring_run.specs.declared.ring.Ring.{Ring}
+use Rattle.ring_run.proofs.Listing.{listed_same}
+use Rattle.ring_run.proofs.Offering.{nothing_then}
+use Rattle.ring_run.proofs.Reducing.{wrote_import}
+use Rattle.ring_run.proofs.Resting.{resting_import}
+use Rattle.ring_run.proofs.Shrinking.{refused_halts, halts_then}
+use Rattle.ring_run.proofs.reduction.shrink_lemmas.Goals as goal
+
+pub returns-in-Err-clause-over : goal.returns-in-Err-clause-over
+returns-in-Err-clause-over g c =
+    refused_halts (g.P.Port.state c.args.port.now) (g.P.Port.state c.reduce_lemmas.new.port) c.in-Err.stop c.end_refused.result c.end_refused.ensures c.in-Err.ensures.over
+
+pub returns-in-Err-vivify_lemmas-clause-over : goal.returns-in-Err-vivify_lemmas-clause-over
+returns-in-Err-vivify_lemmas-clause-over g c =
+    halts_then (g.P.Port.state c.args.port.now) (g.P.Port.state c.reduce_lemmas.new.port) (g.P.Port.state c.vivify_lemmas.new.port) c.in-Err-vivify_lemmas.end c.in-Ok.ensures.ok c.in-Err-vivify_lemmas.ensures.over
+
+pub returns-in-Err-vivify_lemmas-clause-nothing : goal.returns-in-Err-vivify_lemmas-clause-nothing
+returns-in-Err-vivify_lemmas-clause-nothing g c =
+    nothing_then (g.P.Port.state c.args.port.now) (g.P.Port.state c.reduce_lemmas.new.port) (g.P.Port.state c.vivify_lemmas.new.port) c.reduce_lemmas.ensures.nothing c.vivify_lemmas.ensures.nothing
+
+pub returns-in-Ok-tidy_up-clause-shrunk : goal.returns-in-Ok-tidy_up-clause-shrunk
+returns-in-Ok-tidy_up-clause-shrunk g c = record {
+  dropped = g.P.Port.state c.reduce_lemmas.new.port;
+  between = c.reduce_lemmas.new.ring;
+  reduced = c.in-Ok.ensures.reduced;
+  same_trail = ap (λ (r : Ring). r.trail) c.reduce_lemmas.ensures.same;
+  vivified_port = g.P.Port.state c.vivify_lemmas.new.port;
+  vivified = c.in-Ok-vivify_lemmas.ensures.took;
+  counted = ap (λ (r : Ring). r.reductions) c.vivify_lemmas.ensures.same;
+  lines = c.in-Ok-tidy_up.ensures.wrote;
+  none_waits = c.in-Ok-tidy_up.ensures.tidied;
+}
+
+pub returns-in-Ok-tidy_up-clause-keeps : goal.returns-in-Ok-tidy_up-clause-keeps
+returns-in-Ok-tidy_up-clause-keeps g c = λ start n p. c.in-Ok-tidy_up.ensures.ok start n (c.in-Ok-vivify_lemmas.ensures.keeps start n (c.in-Ok.ensures.ok start n p))
+
+pub returns-in-Ok-tidy_up-clause-import : goal.returns-in-Ok-tidy_up-clause-import
+returns-in-Ok-tidy_up-clause-import g c =
+    let m = g.P.Port.state c.vivify_lemmas.new.port in
+    let u = g.P.Port.state c.tidy_up.new.port in
+    let ring = c.vivify_lemmas.new.ring in
+    wrote_import m u (Ok c.in-Ok-tidy_up.field-0) ring.trail ring.watches ring.written (resting_import m ring c.in-Ok-vivify_lemmas.ensures.resting) c.in-Ok-tidy_up.ensures.wrote c.in-Ok-tidy_up.ensures.seen c.tidy_up.ensures.port
+
+pub returns-in-Ok-tidy_up-clause-listed : goal.returns-in-Ok-tidy_up-clause-listed
+returns-in-Ok-tidy_up-clause-listed g c =
+    let m = g.P.Port.state c.vivify_lemmas.new.port in
+    let u = g.P.Port.state c.tidy_up.new.port in
+    let ring = c.vivify_lemmas.new.ring in
+    let wrote = c.in-Ok-tidy_up.ensures.wrote in
+    listed_same m u ring ring wrote.stays.start wrote.recent refl (λ d there. there) refl refl refl c.in-Ok-vivify_lemmas.ensures.listed
+
+pub returns-in-Ok-tidy_up-clause-steps : goal.returns-in-Ok-tidy_up-clause-steps
+returns-in-Ok-tidy_up-clause-steps g c =
+    let same = ap (λ (r : Ring). length r.trail.steps) c.reduce_lemmas.ensures.same in
+    omega (arith, same, c.in-Ok-vivify_lemmas.ensures.steps)
+
+pub returns-in-Ok-tidy_up-clause-nothing : goal.returns-in-Ok-tidy_up-clause-nothing
+returns-in-Ok-tidy_up-clause-nothing g c =
+    let s = g.P.Port.state c.args.port.now in
+    let m = g.P.Port.state c.reduce_lemmas.new.port in
+    let v = g.P.Port.state c.vivify_lemmas.new.port in
+    nothing_then s m (g.P.Port.state c.tidy_up.new.port) c.reduce_lemmas.ensures.nothing (nothing_then m v (g.P.Port.state c.tidy_up.new.port) c.vivify_lemmas.ensures.nothing c.tidy_up.ensures.nothing)
+
+pub returns-in-Err-tidy_up-clause-over : goal.returns-in-Err-tidy_up-clause-over
+returns-in-Err-tidy_up-clause-over g c =
+    let s = g.P.Port.state c.args.port.now in
+    let v = g.P.Port.state c.vivify_lemmas.new.port in
+    let u = g.P.Port.state c.tidy_up.new.port in
+    halts_then s v u c.end_refused-in-Err-tidy_up.result (λ start n p. c.in-Ok-vivify_lemmas.ensures.keeps start n (c.in-Ok.ensures.ok start n p))
+    (refused_halts v u c.in-Err-tidy_up.stop c.end_refused-in-Err-tidy_up.result c.end_refused-in-Err-tidy_up.ensures c.in-Err-tidy_up.ensures.over)
+
+pub returns-in-Err-tidy_up-clause-nothing : goal.returns-in-Err-tidy_up-clause-nothing
+returns-in-Err-tidy_up-clause-nothing g c =
+    let s = g.P.Port.state c.args.port.now in
+    let m = g.P.Port.state c.reduce_lemmas.new.port in
+    let v = g.P.Port.state c.vivify_lemmas.new.port in
+    nothing_then s m (g.P.Port.state c.tidy_up.new.port) c.reduce_lemmas.ensures.nothing (nothing_then m v (g.P.Port.state c.tidy_up.new.port) c.vivify_lemmas.ensures.nothing c.tidy_up.ensures.nothing)

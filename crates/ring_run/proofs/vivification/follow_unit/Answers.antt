@@ -1,0 +1,117 @@
+use Rattle.std.proofs.Common.{◌≡◌, ◌∙◌, ℕ, [], subst, ap, sym, length, None}
+use Rattle.std.specs.declared.option.Option.{Option}
+use Rattle.sat_words.specs.declared.shared.Cref.{Cref}
+use Rattle.rup_model.specs.Journal.{recent}
+use Rattle.rup_model.specs.Rup.{rup}
+use Rattle.ring_port.specs.PortState.{PortState, lits_at, known}
+use Rattle.ring_trail.specs.TrailData.{TrailData, IsTrail, HasGrown, assigned}
+use Rattle.watch_prop.specs.WatchData.{WatchData, attached}
+use Rattle.watch_prop.specs.Watched.{Watched}
+use Rattle.watch_prop.specs.Propagation.{HasReasons, IsClosedBelow, IsPropagated, IsConflict, IsQuiet}
+use Rattle.watch_prop.specs.declared.propagated.Propagated.{Propagated}
+use Rattle.ring_run.specs.Searching.{GoesOn, OnlyWrote, AreTold}
+use Rattle.ring_run.specs.Ending.{EndsAt, end_refused}
+use Rattle.ring_run.specs.Course.{Searches}
+use Rattle.ring_run.specs.declared.job.End.{End}
+use Rattle.ring_run.proofs.Resting.{conflict_refutes}
+use Rattle.ring_run.proofs.Shrinking.{refused_halts}
+use Rattle.ring_run.proofs.Standing.{no_value}
+use Rattle.ring_run.proofs.Turning.{grown_search, quiet_same}
+use Rattle.ring_run.proofs.vivification.follow_unit.Given.{Over}
+use Rattle.ring_run.proofs.vivification.follow_unit.Goals as goal
+
+pub assign-requires-clause-free : goal.assign-requires-clause-free
+assign-requires-clause-free g c = no_value c.args.ring.now.trail.steps c.args.lit.var c.requires.awaits.free
+
+pub propagate-requires-clause-watched : goal.propagate-requires-clause-watched
+propagate-requires-clause-watched g c =
+    let found = c.requires.awaits.search (subst IsTrail c.assign.ensures.step c.assign.ensures.trail) in
+    subst (λ (t : TrailData). Watched c.args.ring.now.watches (lits_at (g.P.Port.state c.args.port.now)) t) (sym c.assign.ensures.step) found.watched
+
+pub propagate-requires-clause-below : goal.propagate-requires-clause-below
+propagate-requires-clause-below g c =
+    let found = c.requires.awaits.search (subst IsTrail c.assign.ensures.step c.assign.ensures.trail) in
+    subst (λ (t : TrailData). IsClosedBelow c.args.ring.now.watches (lits_at (g.P.Port.state c.args.port.now)) t) (sym c.assign.ensures.step) found.closed
+
+pub propagate-requires-clause-reasons : goal.propagate-requires-clause-reasons
+propagate-requires-clause-reasons g c =
+    let found = c.requires.awaits.search (subst IsTrail c.assign.ensures.step c.assign.ensures.trail) in
+    subst (λ (t : TrailData). HasReasons (attached c.args.ring.now.watches) (g.P.Port.state c.args.port.now) t.steps) (sym c.assign.ensures.step) found.reasons
+
+pub refute-requires-clause-rup : goal.refute-requires-clause-rup
+refute-requires-clause-rup g c =
+    let s = g.P.Port.state c.args.port.now in
+    let m = g.P.Port.state c.propagate.new.port in
+    let old = c.args.ring.now in
+    let t = c.propagate.new.trail in
+    let w = c.propagate.new.self in
+    let found = c.requires.awaits.search (subst IsTrail c.assign.ensures.step c.assign.ensures.trail) in
+    let grown : HasGrown (assigned old.trail c.args.lit None) t = subst (λ (x : TrailData). HasGrown x t) c.assign.ensures.step c.propagate.ensures.grown in
+    let search : Searches m t w old.written = grown_search s m (assigned old.trail c.args.lit None) t old.watches w old.written found c.propagate.ensures.same c.present-lawful.ensures.trail c.propagate.ensures.attached grown c.propagate.ensures.reasons c.propagate.ensures.watched in
+    let bad : IsConflict w (lits_at s) t c.in-Conflict.field-0 = subst (IsPropagated w (lits_at s) t) c.in-Conflict.is c.in-Ok.ensures.propagated in
+    conflict_refutes m t w w old.written c.in-Conflict.field-0 search (grown.level ∙ c.requires.awaits.level) (subst (λ (x : PortState). IsConflict w (lits_at x) t c.in-Conflict.field-0) (sym c.propagate.ensures.same) bad) Rattle.std.proofs.Common.refl
+
+pub refute-requires-clause-usable : goal.refute-requires-clause-usable
+refute-requires-clause-usable g c =
+    let found = c.requires.awaits.search (subst IsTrail c.assign.ensures.step c.assign.ensures.trail) in
+    ap (λ (x : PortState). x.refused) c.propagate.ensures.same ∙ found.clauses.refused
+
+pub returns-in-Conflict-clause-over : goal.returns-in-Conflict-clause-over
+returns-in-Conflict-clause-over g c =
+    record { ends = subst (λ (x : PortState). EndsAt x (g.P.Port.state c.refute.new.port) c.refute.result) c.propagate.ensures.same c.refute.ensures.ends; halted = c.refute.ensures.halted; none = c.refute.ensures.none }
+
+pub write_pending-requires : goal.write_pending-requires
+write_pending-requires g c =
+    let s = g.P.Port.state c.args.port.now in
+    let m = g.P.Port.state c.propagate.new.port in
+    let old = c.args.ring.now in
+    let t = c.propagate.new.trail in
+    let w = c.propagate.new.self in
+    let found = c.requires.awaits.search (subst IsTrail c.assign.ensures.step c.assign.ensures.trail) in
+    let grown : HasGrown (assigned old.trail c.args.lit None) t = subst (λ (x : TrailData). HasGrown x t) c.assign.ensures.step c.propagate.ensures.grown in
+    record { search = grown_search s m (assigned old.trail c.args.lit None) t old.watches w old.written found c.propagate.ensures.same c.present-lawful.ensures.trail c.propagate.ensures.attached grown c.propagate.ensures.reasons c.propagate.ensures.watched }
+
+pub returns-in-Ok-write_pending-clause-keeps : goal.returns-in-Ok-write_pending-clause-keeps
+returns-in-Ok-write_pending-clause-keeps g c = λ start n p. c.in-Ok-write_pending.ensures.ok start n (subst (λ (x : PortState). GoesOn start x n) (sym c.propagate.ensures.same) p)
+
+pub returns-in-Ok-write_pending-clause-resting : goal.returns-in-Ok-write_pending-clause-resting
+returns-in-Ok-write_pending-clause-resting g c =
+    let s = g.P.Port.state c.args.port.now in
+    let u = g.P.Port.state c.write_pending.new.port in
+    let t = c.propagate.new.trail in
+    let w = c.propagate.new.self in
+    let k = c.in-Ok-write_pending.ensures in
+    let same = c.propagate.ensures.same in
+    let grown : HasGrown (assigned c.args.ring.now.trail c.args.lit None) t = subst (λ (x : TrailData). HasGrown x t) c.assign.ensures.step c.propagate.ensures.grown in
+    let level : t.level ≡ 0 = grown.level ∙ c.requires.awaits.level in
+    let quiet : IsQuiet w (lits_at s) t = subst (IsPropagated w (lits_at s) t) c.in-Quiet.is c.in-Ok.ensures.propagated in
+    record {
+      search = k.search;
+      level = ap (λ (x : TrailData). x.level) c.write_pending.ensures.trail ∙ level;
+      quiet = quiet_same s u t c.write_pending.new.ring.trail w c.write_pending.new.ring.watches (c.write_pending.ensures.held ∙ ap (λ (x : PortState). x.held) same) c.write_pending.ensures.trail c.write_pending.ensures.watches quiet;
+      whole = k.whole level;
+      lately = k.wrote.recent ∙ ap (λ (x : PortState). recent x.ring x.mine) same ∙ c.requires.awaits.lately;
+      none_taken = k.wrote.taken ∙ ap (λ (x : PortState). x.taken) same ∙ c.requires.awaits.none_taken;
+    }
+
+pub returns-in-Ok-write_pending-clause-followed : goal.returns-in-Ok-write_pending-clause-followed
+returns-in-Ok-write_pending-clause-followed g c =
+    let s = g.P.Port.state c.args.port.now in
+    let u = g.P.Port.state c.write_pending.new.port in
+    let t = c.propagate.new.trail in
+    let k = c.in-Ok-write_pending.ensures in
+    let grown : HasGrown (assigned c.args.ring.now.trail c.args.lit None) t = subst (λ (x : TrailData). HasGrown x t) c.assign.ensures.step c.propagate.ensures.grown in
+    let rests = returns-in-Ok-write_pending-clause-resting g c in
+    record {
+      grown = subst (λ (x : TrailData). HasGrown (assigned c.args.ring.now.trail c.args.lit None) x) (sym c.write_pending.ensures.trail) grown;
+      lines = subst (λ (x : PortState). OnlyWrote x u) c.propagate.ensures.same k.wrote;
+      told = subst (AreTold u c.write_pending.new.ring.trail) rests.whole k.search.told;
+      same_clauses = ap (λ (x : WatchData). attached x) c.write_pending.ensures.watches ∙ c.propagate.ensures.attached;
+      quiet = rests.quiet;
+    }
+
+pub returns-in-Err-clause-over : goal.returns-in-Err-clause-over
+returns-in-Err-clause-over g c =
+    let s = g.P.Port.state c.args.port.now in
+    let u = g.P.Port.state c.write_pending.new.port in
+    refused_halts s u c.in-Err.stop c.end_refused.result c.end_refused.ensures (subst (λ (x : PortState). EndsAt x u (end_refused c.in-Err.stop)) c.propagate.ensures.same c.in-Err.ensures.over)

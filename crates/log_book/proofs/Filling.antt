@@ -1,6 +1,6 @@
 -- A book that is filled through the bound of a line output.
 use Rattle.io_edge.specs.declared.edge.Sink.{Ghosts}
-use Rattle.std.proofs.Common.{◌≡◌, ◌∙◌, ℕ, ◌+◌, ◌<◌, Bool, true, false, List, [], ◌∷◌, ◌++◌, ◌≤◌, length, Some, None, refl, sym, ap, subst, append-nil, arith, true≢false}
+use Rattle.std.proofs.Common.{◌≡◌, ◌∙◌, ℕ, ◌<◌, Bool, true, false, List, [], ◌∷◌, ◌++◌, ◌≤◌, length, Some, None, refl, sym, ap, subst, append-nil, arith, true≢false}
 use Rattle.std.specs.Prelude.{is_some, if◌then◌else◌, IfSome}
 use Rattle.std.specs.declared.option.Option.{Option}
 use Rattle.std.specs.Io.KnownBytes.{append_known}
@@ -22,7 +22,7 @@ use Rattle.share_core.proofs.Counting.{some_same, none_some}
 use Rattle.share_rule.specs.declared.Layout.{Layout}
 use Rattle.share_rule.specs.Books.{HasLog}
 use Rattle.log_book.specs.declared.book.Book.{Book}
-use Rattle.log_book.specs.Kept.{KeptLines, IsReady, IsSpelled, with_line, HoldsText, IsInStep, AreInStep, told_bytes, kept_mark}
+use Rattle.log_book.specs.Kept.{KeptLines, IsReady, IsSpelled, with_line, HoldsText, AreInStep, told_bytes, kept_mark}
 use Rattle.log_book.specs.Books.{no_byte, begun, account_of, IsNew, AreAlike, IsFilled, told_of, told_new, origin_of, HasPut, HasFailed, IsLogOf, IsFrom}
 
 -- Bytes

@@ -1,8 +1,7 @@
 -- What a turn is: a book that is out, and what was written since.
 use Rattle.io_edge.specs.declared.edge.Sink.{Ghosts}
-use Rattle.std.specs.Prelude.{◌≡◌, ◌≢◌, ◌⊎◌, ◌+◌, ◌^◌, ◌<◌, ◌≤◌, ℕ, Bool, true, false, ⊤, List, [], ◌∷◌, ◌++◌, length, Option, Some, None}
+use Rattle.std.specs.Prelude.{◌≡◌, ◌≢◌, ◌⊎◌, ◌+◌, ◌<◌, ◌≤◌, ℕ, Bool, true, false, ⊤, List, [], ◌∷◌, ◌++◌, length, Option, Some, None}
 use Rattle.sat_words.specs.Literal.{Literal}
-use Rattle.sat_words.specs.declared.line.Line.{Line}
 use Rattle.sat_words.specs.declared.shared.TheConstants.{MAX_ENTRIES}
 use Rattle.clause_cell.specs.Packing.{words_for}
 use Rattle.clause_cell.specs.Free.{largest}

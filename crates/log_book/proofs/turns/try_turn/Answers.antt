@@ -1,4 +1,4 @@
-use Rattle.std.proofs.Common.{◌≡◌, refl}
+use Rattle.std.proofs.Common.{refl}
 use Rattle.log_book.proofs.Taking.{has_taken}
 use Rattle.log_book.proofs.turns.try_turn.Goals as goal
 

@@ -1,4 +1,4 @@
-use Rattle.std.proofs.Common.{◌≡◌, ◌∙◌, false, Option, List, sym, ap, subst}
+use Rattle.std.proofs.Common.{◌∙◌, Option, List, sym, ap, subst}
 use Rattle.sat_words.specs.declared.line.Line.{Line}
 use Rattle.drat_text.specs.LineState.{LineState}
 use Rattle.drat_text.specs.SinkData.{told_by}

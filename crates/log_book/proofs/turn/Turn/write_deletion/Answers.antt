@@ -1,23 +1,18 @@
-use Rattle.std.proofs.Common.{◌≡◌, ◌≢◌, ◌∙◌, ◌+◌, ◌<◌, ◌≤◌, ◌^◌, ◌∷◌, [], ◌++◌, ◌||◌, ℕ, suc, List, Bool, true, false, not, All, length, append-nil, Option, Some, sym, ap, refl, subst, arith}
+use Rattle.std.proofs.Common.{◌≡◌, ◌∙◌, ◌∷◌, [], ◌++◌, ℕ, List, true, All, length, Option, sym, ap, refl, subst, arith}
 use Rattle.std.specs.Option.{unwrap_or}
 use Rattle.sat_words.specs.Literal.{Literal, IsOn}
-use Rattle.sat_words.specs.declared.line.Line.{Line}
-use Rattle.sat_words.specs.declared.line.Line.TheVariants.{Add as AddLine, Del as DelLine}
+use Rattle.sat_words.specs.declared.line.Line.TheVariants.{Del as DelLine}
 use Rattle.clause_cell.specs.declared.holes.Hole.{Hole}
 use Rattle.clause_cell.specs.Packing.{words_for}
-use Rattle.clause_cell.specs.Free.{is_clear, with_range, without_fit, first_fit}
-use Rattle.rup_model.specs.Journal.{book, lines}
+use Rattle.clause_cell.specs.Free.{is_clear, with_range}
+use Rattle.rup_model.specs.Journal.{book}
 use Rattle.share_rule.specs.declared.note.Note.{Note}
-use Rattle.share_rule.specs.declared.note.Note.TheVariants.{Clause, Empty, Reduce, Bury}
+use Rattle.share_rule.specs.declared.note.Note.TheVariants.{Bury}
 use Rattle.share_rule.specs.declared.view.View.{View}
-use Rattle.share_rule.specs.Room.{Room, room, with_clause, without_words}
-use Rattle.share_rule.specs.Turns.{next_number}
-use Rattle.share_rule.specs.Views.{only}
-use Rattle.share_rule.proofs.Sheets.{long_entry}
+use Rattle.share_rule.specs.Room.{Room, room, without_words}
 use Rattle.log_book.specs.Turns.{sheet, waiting}
-use Rattle.log_book.specs.declared.book.Book.{Book}
-use Rattle.log_book.proofs.Standings.{line_turn, failed_turn, note_turn, alike_turn}
-use Rattle.log_book.proofs.Waits.{Waits, waits_so, waits_clear, not_empty}
+use Rattle.log_book.proofs.Standings.{line_turn, failed_turn}
+use Rattle.log_book.proofs.Waits.{Waits, waits_so, waits_clear}
 use Rattle.log_book.proofs.turn.Turn.write_deletion.Goals as goal
 
 pub give-requires-clause-range : goal.give-requires-clause-range

@@ -1,0 +1,6 @@
+mod Beginning
+mod PollsHere
+mod RingPorts
+mod Stays
+mod StopsHere
+mod Units

@@ -1,0 +1,36 @@
+use Rattle.std.proofs.Common.{◌≡◌, ◌∙◌, ◌+◌, ap, sym, subst, length, IsSome, IfSome, vec_capacity}
+use Rattle.share_rule.specs.declared.view.View.{View}
+use Rattle.share_rule.specs.Steps.{after_load}
+use Rattle.ring_port.specs.PortState.{PortState, held_at, lits_at, head_of}
+use Rattle.ring_pass.specs.Looks.{OnlyLooked}
+use Rattle.ring_pass.proofs.Stays.{loaded_twice, ring_stays, port_stays, room_stays, ring_port, ring_holds, head_found, lits_found}
+use Rattle.ring_pass.proofs.pass.RingPass.head.Goals as goal
+
+pub read_head-requires-clause-held : goal.read_head-requires-clause-held
+read_head-requires-clause-held g c = ring_holds c.args.self.now c.args.c.address c.self.invariant.0 c.self.view_is c.requires
+
+pub invariant_of-self : goal.invariant_of-self
+invariant_of-self g c =
+    let e = c.read_head.ensures in
+    let looked = loaded_twice (c.args.c.address + 1) (c.args.c.address + 2) c.self.inside.pass.me.0 c.read_head.new.pass.me.0 e.part in (
+      ring_stays c.read_head.new.pass c.self.invariant.0 e.pass.0 e.pass.1 looked,
+      room_stays c.self.inside.pass.me.0 c.read_head.new.pass.me.0 c.self.inside.last c.self.inside.waiting.items (vec_capacity c.self.inside.waiting) looked c.self.invariant.1,
+    )
+
+pub returns-clause-value : goal.returns-clause-value
+returns-clause-value g c =
+    let e = c.read_head.ensures in
+    head_found c.self.inside.pass.me.0 _ c.args.self.now c.args.c.address c.read_head.result c.self.view_is c.requires e.size e.number e.glue
+
+pub returns-clause-size : goal.returns-clause-size
+returns-clause-size g c = c.read_head.ensures.size ∙ sym (ap length (lits_found c.self.inside.pass.me.0 _ c.args.self.now c.args.c.address c.self.view_is c.requires))
+
+pub returns-clause-same : goal.returns-clause-same
+returns-clause-same g c =
+    let e = c.read_head.ensures in
+    port_stays c.read_head.new.pass c.self.invariant.0 e.pass.0 (loaded_twice (c.args.c.address + 1) (c.args.c.address + 2) c.self.inside.pass.me.0 c.read_head.new.pass.me.0 e.part) ∙ c.self.view_is
+
+pub returns-clause-port : goal.returns-clause-port
+returns-clause-port g c =
+    let e = c.read_head.ensures in
+    ring_port (ring_stays c.read_head.new.pass c.self.invariant.0 e.pass.0 e.pass.1 (loaded_twice (c.args.c.address + 1) (c.args.c.address + 2) c.self.inside.pass.me.0 c.read_head.new.pass.me.0 e.part))

@@ -1,0 +1,10 @@
+use Rattle.std.proofs.Common.{◌∙◌, ap}
+use Rattle.ring_port.specs.PortState.{PortState}
+use Rattle.ring_pass.proofs.Beginning.{home_pass}
+use Rattle.ring_pass.proofs.pass.RingPass.into_pass.Goals as goal
+
+pub returns-clause-pass : goal.returns-clause-pass
+returns-clause-pass g c = (home_pass c.args.table.now c.self.inside.table.now c.args._other.now c.self.inside.pass c.requires.other c.self.invariant.0.pass (ap (λ (s : PortState). s.home) c.self.view_is ∙ c.requires.home), c.self.invariant.0.slots)
+
+pub returns-clause-state : goal.returns-clause-state
+returns-clause-state g c = (_, c.self.view_is)

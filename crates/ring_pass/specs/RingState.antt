@@ -1,0 +1,171 @@
+-- A ring with its pass, as a port.
+use Rattle.std.specs.Prelude.{◌≡◌, ℕ, ◌+◌, ◌-◌, ◌*◌, ◌<◌, ◌≤◌, true, false, not, ⊤, List, [], ◌∷◌, map, length, take, drop, filter, All, Option, Some, None, IfSome}
+use Rattle.std.specs.Option.{option_map}
+use Rattle.sat_words.specs.Literal.{Literal}
+use Rattle.sat_words.specs.Clause.{has, distinct_lits}
+use Rattle.sat_words.specs.declared.shared.Cref.{Cref}
+use Rattle.sat_words.specs.declared.shared.Stop.{Stop}
+use Rattle.atomic_table.specs.declared.shared.Seat.{Seat}
+use Rattle.share_core.specs.declared.event.Stop.{Stop as CoreStop}
+use Rattle.share_core.specs.declared.part.Placed.{Placed}
+use Rattle.share_core.specs.declared.stored.ClauseAt.{ClauseAt}
+use Rattle.share_core.specs.declared.stored.PutNote.{PutNote}
+use Rattle.share_core.specs.State.{times_at}
+use Rattle.share_rule.specs.declared.Shared.{Shared}
+use Rattle.share_rule.specs.declared.view.GlueAt.{GlueAt}
+use Rattle.share_rule.specs.declared.view.RingPart.{RingPart}
+use Rattle.share_rule.specs.declared.view.View.{View}
+use Rattle.share_rule.specs.FirstWords.{addresses}
+use Rattle.share_rule.specs.Passes.{IsPassOf}
+use Rattle.share_rule.specs.Views.{only, glue_in, start_glues}
+use Rattle.ring_port.specs.declared.stops.PortStop.{PortStop}
+use Rattle.ring_port.specs.PortState.{Holding, Offer, PortState}
+use Rattle.ring_pass.specs.declared.waiting.Waiting.{Waiting}
+
+-- What the ring keeps beside its pass
+
+pub record Own : Type 0 where
+  -- the listed units that it has seen, in order, but for those that it wrote before they were given
+  pub arrived : List Literal
+  -- how many of them `next_unit` gave, the first ones
+  pub passed : ℕ
+  -- the clause that it learned last, until it is offered
+  pub last : Option Cref
+  -- how often it looked for a clause of another ring
+  pub polled : ℕ
+  -- how often it looked for a stop and found none
+  pub looks : ℕ
+  -- the last answer that refused, but for want of memory
+  pub refused : Option PortStop
+  -- what it has taken from other rings since its last Reduce entry
+  pub taken : List Cref
+  -- the name of the table
+  pub home : List ℕ
+
+-- the units that are seen and not given yet
+abbrev pub kept : Own → List Literal
+kept o = drop o.passed o.arrived
+
+-- The port's state
+
+-- a clause as the port knows it
+abbrev pub holding_of : List GlueAt → ClauseAt → Holding
+holding_of gs h = record { address = h.address; number = h.number; glue = glue_in h.number gs; lits = h.lits }
+
+abbrev pub offer_of : PutNote → Offer
+offer_of n = record { ring = n.to; class = n.class; address = n.address }
+
+abbrev pub stop_as : CoreStop → Stop
+stop_as s = record { kind = s.kind; ring = s.ring }
+
+-- the units that are not among these
+abbrev pub without_kept : List Literal → List Literal → List Literal
+without_kept ks seen = filter (λ l. not (has ks l)) seen
+
+-- the port, where the pass's ring has this part
+abbrev pub port_with : View → RingPart → Own → PortState
+port_with v p o = record {
+  held = map (holding_of p.glues) p.core.held;
+  waiting = map (holding_of p.glues) p.core.waiting;
+  seen = without_kept (kept o) p.core.seen;
+  given = take o.passed o.arrived;
+  coming = 2 * v.layout.vars - o.passed;
+  start = map (holding_of (start_glues v.opening.starts)) v.opening.starts;
+  opening = v.opening.units;
+  mine = map (λ (e : Placed). e.entry) p.core.wrote;
+  shared = p.core.shared;
+  polled = o.polled;
+  puts = map offer_of p.core.puts;
+  taken = map (λ (c : Cref). c.address) o.taken;
+  vars = v.layout.vars;
+  ring = p.core.ring;
+  rings = v.opening.rings;
+  last = option_map (λ (c : Cref). c.address) o.last;
+  stop = option_map stop_as v.stop;
+  looks = o.looks;
+  refused = o.refused;
+  ended = p.ended;
+  output = None;
+  home = o.home;
+}
+
+abbrev pub port_of : View → Own → PortState
+port_of v o = port_with v (only v) o
+
+-- the name of the table of a pass, with its layout
+abbrev pub home_of : {B : Type 0} → Seat (Option B) View → List ℕ
+home_of p = p.me.0.layout.rings ∷ p.me.0.layout.vars ∷ p.me.0.layout.words ∷ p.table_id.words ∷ p.table_id.slots ∷ p.table_id.views_name ∷ p.table_id.atom ∷ p.table_id.block ∷ p.table_id.offset ∷ p.table_id.slot_names
+
+-- What is kept of it
+
+-- what is kept beside the pass is so: no unit arrived twice, each is seen, and what was taken is held
+pub record IsOwn (p : RingPart) (o : Own) : Type 0 where
+  pub passed : o.passed ≤ length o.arrived
+  pub distinct : distinct_lits o.arrived ≡ true
+  pub told : All (λ l. has p.core.seen l ≡ true) o.arrived
+  pub taken : All (λ c. 0 < times_at c.address p.core.held) o.taken
+
+-- how many places the offer of what was learned last may take
+abbrev pub pending : ℕ → Option Cref → ℕ
+pending rings None = 0
+pending rings (Some c) = rings - 1
+
+-- what is kept of a clause that waits is so
+pub record IsWaiting (w : Waiting) (h : ClauseAt) : Type 0 where
+  pub address : w.cell.address ≡ h.address
+  pub number : w.number ≡ h.number
+  pub lits : IfSome w.lits (λ ls. ls.items ≡ h.lits)
+
+-- of each of them
+abbrev pub AreWaiting : List Waiting → List ClauseAt → Type 0
+AreWaiting [] [] = ⊤
+AreWaiting [] (h ∷ hs) = ⊥
+AreWaiting (w ∷ ws) [] = ⊥
+AreWaiting (w ∷ ws) (h ∷ hs) = IsWaiting w h × AreWaiting ws hs
+
+-- the clauses that wait are kept, with places for as many as the next offer may bring back; no more shares are made than
+-- fifteen for each entry
+pub record HasRoom (p : RingPart) (rings : ℕ) (last : Option Cref) (ws : List Waiting) (room : ℕ) : Type 0 where
+  pub waits : AreWaiting ws p.core.waiting
+  pub places : length ws + pending rings last ≤ room
+  pub few : p.core.shared + pending rings last ≤ 15 * length p.core.wrote
+
+-- the pass has this ring alone, which has not the turn; these are the addresses of the start clauses
+pub record IsRingPass {B : Type 0} (t : Shared B) (p : Seat (Option B) View) (n : ℕ) (starts : List Cref) (o : Own) : Type 0 where
+  pub pass : IsPassOf t p
+  pub slots : p.me.1 ≡ []
+  pub one : p.me.0.parts ≡ only p.me.0 ∷ []
+  pub ring : n ≡ (only p.me.0).core.ring
+  pub free : (only p.me.0).turn ≡ None
+  pub home : o.home ≡ home_of p
+  pub start : starts ≡ addresses p.me.0.opening.starts
+  pub own : IsOwn (only p.me.0) o
+
+-- How it begins
+
+-- the ring with this number has its grant, and has done nothing
+abbrev pub begun_as : View → ℕ → List ℕ → PortState
+begun_as v r home = record {
+  held = map (holding_of (start_glues v.opening.starts)) v.opening.starts;
+  waiting = [];
+  seen = [];
+  given = [];
+  coming = 2 * v.layout.vars;
+  start = map (holding_of (start_glues v.opening.starts)) v.opening.starts;
+  opening = v.opening.units;
+  mine = [];
+  shared = 0;
+  polled = 0;
+  puts = [];
+  taken = [];
+  vars = v.layout.vars;
+  ring = r;
+  rings = v.opening.rings;
+  last = None;
+  stop = option_map stop_as v.stop;
+  looks = 0;
+  refused = None;
+  ended = false;
+  output = None;
+  home = home;
+}

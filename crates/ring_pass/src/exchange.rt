@@ -1,0 +1,38 @@
+// The calls on clauses of other rings.
+ghost use Rattle.std.specs.Prelude.{◌≡◌, ◌≢◌, ◌<◌, ◌≤◌};
+ghost use Rattle.ring_port.specs.PortState.{IsPort};
+ghost use Rattle.ring_port.specs.Log.{KeepsLog};
+ghost use Rattle.ring_port.specs.Port.{KeepsHeld};
+ghost use Rattle.ring_port.specs.Exchange.{Polled};
+
+use crate::pass::RingPass;
+use io_edge::Sink;
+use ring_port::{Gate, PortStop};
+use sat_words::Cref;
+
+impl<'a, S: Sink, G: Gate, H> RingPass<'a, S, G, H> {
+    /// Takes the clause of a class that another ring has put for this one, which is held from then on; none where nothing is
+    /// there. It is refused for want of memory alone, before it looks.
+    pub fn poll(&mut self, from: u32, class: u8) -> Result<Option<Cref>, PortStop>
+        requires other { from ≢ self.old.ring }
+        requires ring { from < self.old.rings }
+        requires class { class ≤ 3 }
+        ensures polled { Polled self.old self.new result }
+        ensures kept { KeepsHeld self.old self.new }
+        ensures log { KeepsLog self.old self.new }
+        ensures port { IsPort self.new }
+    {
+        if self.taken.reserve(1).is_err() {
+            return Err(PortStop::Memory);
+        }
+        let found = pool_exchange::get(self.table, &mut self.pass, self.ring, from, class);
+        self.polled = self.polled.saturating_add(1);
+        match found {
+            None => Ok(None),
+            Some(c) => {
+                self.taken.push_reserved(c);
+                Ok(Some(c))
+            }
+        }
+    }
+}

@@ -1,0 +1,40 @@
+// The calls that only read.
+ghost use Rattle.std.specs.Prelude.{◌≡◌, ◌<◌, Some, IfSome, IsSome, length, slice_get};
+ghost use Rattle.ring_port.specs.PortState.{IsPort, held_at, lits_at, head_of};
+
+use crate::pass::RingPass;
+use io_edge::Sink;
+use ring_port::Gate;
+use sat_words::{Cref, Head, Lit};
+
+impl<'a, S: Sink, G: Gate, H> RingPass<'a, S, G, H> {
+    /// The greatest variable. It tells what no call changes.
+    pub fn vars(&self) -> u32
+        ensures value { result ≡ self.now.vars }
+        ensures port { IsPort self.now }
+    {
+        self.table.layout.vars
+    }
+
+    /// The size, the glue and the number of a clause that is held.
+    pub fn head(&mut self, c: Cref) -> Head
+        requires { IsSome (held_at self.old c.address) }
+        ensures value { IfSome (held_at self.old c.address) (λ h. result ≡ head_of h) }
+        ensures size { result.size ≡ length (lits_at self.old c.address) }
+        ensures same { self.new ≡ self.old }
+        ensures port { IsPort self.new }
+    {
+        ref_count::read_head(self.table, &mut self.pass, c)
+    }
+
+    /// The literal at place `i`, from 0, of a clause that is held.
+    pub fn read_lit(&mut self, c: Cref, i: u32) -> Lit
+        requires held { IsSome (held_at self.old c.address) }
+        requires inside { i < length (lits_at self.old c.address) }
+        ensures value { slice_get (lits_at self.old c.address) i ≡ Some result }
+        ensures same { self.new ≡ self.old }
+        ensures port { IsPort self.new }
+    {
+        ref_count::read_lit(self.table, &mut self.pass, c, i)
+    }
+}

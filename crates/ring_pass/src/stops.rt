@@ -1,0 +1,55 @@
+// The calls on the stop.
+ghost use Rattle.std.specs.Prelude.{◌≡◌, ◌≤◌, true};
+ghost use Rattle.sat_words.specs.declared.shared.TheConstants.{STOP_SAT, STOP_REFUTED, STOP_MEMORY};
+ghost use Rattle.ring_port.specs.PortState.{IsPort};
+ghost use Rattle.ring_port.specs.Log.{KeepsLog};
+ghost use Rattle.ring_port.specs.Port.{Looked, SetStop};
+ghost use Rattle.ring_pass.specs.Stops.{port_set};
+
+use crate::pass::RingPass;
+use io_edge::Sink;
+use ring_port::{Gate, Set};
+use sat_words::Stop;
+
+/// What a try to set the stop came to, as the port says it.
+fn port_answer(answer: stop_word::Set) -> Set
+    ensures { result ≡ port_set answer }
+{
+    match answer {
+        stop_word::Set::Won => Set::Won,
+        stop_word::Set::Lost(other) => Set::Lost(other),
+    }
+}
+
+impl<'a, S: Sink, G: Gate, H> RingPass<'a, S, G, H> {
+    /// The stop that stands, if any.
+    pub fn stopped(&mut self) -> Option<Stop>
+        ensures looked { Looked self.old self.new result }
+        ensures log { KeepsLog self.old self.new }
+        ensures port { IsPort self.new }
+    {
+        match stop_word::look(self.table, &mut self.pass) {
+            None => {
+                self.looks = self.looks.saturating_add(1);
+                None
+            }
+            Some(stop) => Some(stop),
+        }
+    }
+
+    /// Sets this ring's stop, one of the kinds from `STOP_SAT` to `STOP_MEMORY`, where none stands.
+    pub fn stop(&mut self, kind: u8) -> Set
+        requires low { STOP_SAT ≤ kind }
+        requires high { kind ≤ STOP_MEMORY }
+        requires refuted { kind ≡ STOP_REFUTED → self.old.ended ≡ true }
+        ensures set { SetStop self.old self.new kind result }
+        ensures log { KeepsLog self.old self.new }
+        ensures port { IsPort self.new }
+    {
+        let stop = Stop {
+            kind,
+            ring: self.ring,
+        };
+        port_answer(stop_word::set(self.table, &mut self.pass, stop))
+    }
+}

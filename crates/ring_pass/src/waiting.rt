@@ -1,0 +1,12 @@
+use sat_words::{Cref, Lit};
+
+/// A clause that waits for its deletion: nobody holds it any more.
+#[derive(Drop)]
+pub struct Waiting {
+    /// Its address.
+    pub cell: Cref,
+    /// Its number in the log.
+    pub number: u64,
+    /// Its literals, as they were read while it was held. None where there was no memory for them: it can't be deleted then.
+    pub lits: Option<Vec<Lit>>,
+}

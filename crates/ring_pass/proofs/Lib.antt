@@ -1,4 +1,5 @@
 mod Beginning
+mod DropsHere
 mod PollsHere
 mod RingPorts
 mod Stays

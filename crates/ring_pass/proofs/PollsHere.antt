@@ -87,7 +87,7 @@ part_after h g None p f = none_part h g p f
 part_after h g (Some c) p f = some_part h g p f.0
 
 -- the port, by its parts
-port_step : (v w : View) (x : RingPart) (o : Own) → w.parts ≡ x ∷ [] → w.layout ≡ v.layout → w.opening ≡ v.opening → w.stop ≡ v.stop → port_of w o ≡ port_with v x o
+pub port_step : (v w : View) (x : RingPart) (o : Own) → w.parts ≡ x ∷ [] → w.layout ≡ v.layout → w.opening ≡ v.opening → w.stop ≡ v.stop → port_of w o ≡ port_with v x o
 port_step v w x o e l op st i = port_with (record v { layout = l i; opening = op i; stop = st i }) (only_is w x e i) o
 
 -- What is kept

@@ -220,6 +220,13 @@ module _ (v : View) (s : Seen v) (one : v.parts ≡ only v ∷ []) where
         ring = subst (λ (q : CoreOpening). (only v).core.ring < q.rings) (sym s.opening) part_of.ring;
       }
 
+-- there is a ring at least, and the layout tells how many there are
+pub rings_here : (v : View) (s : Seen v) → v.parts ≡ only v ∷ [] → (1 ≤ v.opening.rings) × (v.layout.rings ≡ v.opening.rings)
+rings_here v s one =
+    let same = ap (λ (o : CoreOpening). o.rings) s.opening in
+    let some = (left_sound s.core.opening s.core s.left).opens.some_ring in
+    (omega arith, s.standing.rings ∙ sym same)
+
 -- What the port finds
 
 -- the literals that the port finds are those that the pass has

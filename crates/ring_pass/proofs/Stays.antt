@@ -156,3 +156,7 @@ port_retaken {B} {t} {p} {n} {st} {o} ts r e = subst (λ (cs : List Cref). IsPor
 -- the name of the table
 pub name_stays : {B : Type 0} {t : Shared B} {p : Seat (Option B) View} {n : ℕ} {st : List Cref} {o : Own} (q : Seat (Option B) View) → IsRingPass t p n st o → IsPassOf t q → home_of q ≡ o.home
 name_stays {B} {t} {p} {n} {st} {o} q r pass = home_same t p q r.pass pass ∙ sym r.home
+
+-- two looks, one after the other
+pub same_both : {B : Type 0} (p q r : Seat (Option B) View) → IsSamePass p q → IsSamePass q r → IsSamePass p r
+same_both p q r e f = (f.0 ∙ e.0, f.1 ∙ e.1)

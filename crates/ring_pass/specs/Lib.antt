@@ -1,3 +1,4 @@
+pub mod Giving
 pub mod Looks
 pub mod RingState
 pub mod Stops

@@ -1,6 +1,7 @@
 //! A ring's port over one pass of the shared table.
 #![tactic(auto)]
 
+mod drops;
 mod exchange;
 mod literals;
 mod pass;

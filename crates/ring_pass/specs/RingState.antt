@@ -1,5 +1,5 @@
 -- A ring with its pass, as a port.
-use Rattle.std.specs.Prelude.{◌≡◌, ℕ, ◌+◌, ◌-◌, ◌*◌, ◌<◌, ◌≤◌, true, false, not, ⊤, List, [], ◌∷◌, map, length, take, drop, filter, All, Option, Some, None, IfSome}
+use Rattle.std.specs.Prelude.{◌≡◌, ℕ, ◌+◌, ◌-◌, ◌*◌, ◌<◌, ◌≤◌, true, false, not, ⊤, List, [], ◌∷◌, map, length, take, drop, filter, All, Option, Some, None}
 use Rattle.std.specs.Option.{option_map}
 use Rattle.sat_words.specs.Literal.{Literal}
 use Rattle.sat_words.specs.Clause.{has, distinct_lits}
@@ -114,7 +114,7 @@ pending rings (Some c) = rings - 1
 pub record IsWaiting (w : Waiting) (h : ClauseAt) : Type 0 where
   pub address : w.cell.address ≡ h.address
   pub number : w.number ≡ h.number
-  pub lits : IfSome w.lits (λ ls. ls.items ≡ h.lits)
+  pub lits : w.lits.items ≡ h.lits
 
 -- of each of them
 abbrev pub AreWaiting : List Waiting → List ClauseAt → Type 0

@@ -38,7 +38,7 @@ impl<'a, S: Sink, G: Gate, H> RingPass<'a, S, G, H> {
                 self.waiting.push_reserved(Waiting {
                     cell: c,
                     number: head.number,
-                    lits: Some(lits),
+                    lits,
                 });
                 self.gate.at(self.ring, Point::Dropped, self.learned);
                 Ok(())

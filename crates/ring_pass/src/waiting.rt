@@ -7,6 +7,6 @@ pub struct Waiting {
     pub cell: Cref,
     /// Its number in the log.
     pub number: u64,
-    /// Its literals, as they were read while it was held. None where there was no memory for them: it can't be deleted then.
-    pub lits: Option<Vec<Lit>>,
+    /// Its literals, as they were read while it was held.
+    pub lits: Vec<Lit>,
 }

@@ -23,7 +23,7 @@ use Rattle.share_rule.specs.Passes.{IsPassOf, IsSamePass}
 use Rattle.share_rule.specs.Steps.{drop_part, after_drop}
 use Rattle.share_rule.specs.Views.{only, clause_in, clause_of, IsHolding}
 use Rattle.share_rule.proofs.Lists.{first_at}
-use Rattle.ring_port.specs.Deleting.{without_one, IsNotTaken}
+use Rattle.ring_port.specs.Deleting.{without_one, IsNotTaken, DroppedOnce}
 use Rattle.ring_port.specs.PortState.{Holding, PortState, held_at}
 use Rattle.ring_pass.specs.Giving.{GaveUpOnce}
 use Rattle.ring_pass.specs.declared.waiting.Waiting.{Waiting}
@@ -159,3 +159,13 @@ ring_not_taken {B} {t} {p} {n} {st} {o} s a r view h = not_taken s o a (ap (λ (
 pub on_ok : {T E : Type 0} (r : Result T E) (P : Type 0) (b : Bool) → b ≡ is_err r → b ≡ false → OnOk r P → P
 on_ok (Ok x) P b e f h = h
 on_ok (Err x) P b e f h = absurd (false≢true (sym f ∙ e))
+
+-- beside other rings it is what a port's call says
+pub once_with_others : {old new : PortState} {a : ℕ} → GaveUpOnce old new a → old.rings ≢ 1 → DroppedOnce old new a
+once_with_others g ne = record {
+  clause = g.clause;
+  there = g.there;
+  waits = g.waits;
+  alone = λ e h. absurd (ne e);
+  state = g.state;
+}

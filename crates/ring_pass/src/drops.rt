@@ -1,25 +1,27 @@
 // Clauses given up.
-ghost use Rattle.std.specs.Prelude.{◌≡◌, IsSome};
+ghost use Rattle.std.specs.Prelude.{◌≡◌, ◌≢◌, IsSome};
 ghost use Rattle.ring_port.specs.PortState.{IsPort, held_at};
 ghost use Rattle.ring_port.specs.Log.{KeepsLog};
-ghost use Rattle.ring_port.specs.Deleting.{IsNotTaken};
+ghost use Rattle.ring_port.specs.Deleting.{IsNotTaken, Dropped};
 ghost use Rattle.ring_pass.specs.Giving.{GaveUp};
 
 use crate::literals::read_clause;
 use crate::pass::RingPass;
 use crate::waiting::Waiting;
 use io_edge::Sink;
-use ref_count::{Dropped, drop_count, read_head};
+use ref_count::{drop_count, read_head};
 use ring_port::{Gate, Point, PortStop};
 use sat_words::Cref;
 
 impl<'a, S: Sink, G: Gate, H> RingPass<'a, S, G, H> {
     /// Holds the clause once less. Where nobody holds it any more it waits for its deletion: its number and its literals are
-    /// read before its count is given up, and room for them is taken first.
+    /// read before its count is given up, and room for them is taken first. Beside other rings this is the port's call
+    /// (`dropped`); that a lone ring's clause waits as soon as the ring holds it no more is not said.
     pub fn drop_clause(&mut self, c: Cref) -> Result<(), PortStop>
         requires held { IsSome (held_at self.old c.address) }
         requires apart { IsNotTaken self.old c.address }
         ensures given { GaveUp self.old self.new c.address result }
+        ensures dropped { self.old.rings ≢ 1 → Dropped self.old self.new c.address result }
         ensures log { KeepsLog self.old self.new }
         ensures port { IsPort self.new }
     {
@@ -33,8 +35,8 @@ impl<'a, S: Sink, G: Gate, H> RingPass<'a, S, G, H> {
         };
         read_clause(self.table, &mut self.pass, c, head.size, &mut lits);
         match drop_count(self.table, &mut self.pass, c) {
-            Dropped::Left => Ok(()),
-            Dropped::Last => {
+            ref_count::Dropped::Left => Ok(()),
+            ref_count::Dropped::Last => {
                 self.waiting.push_reserved(Waiting {
                     cell: c,
                     number: head.number,

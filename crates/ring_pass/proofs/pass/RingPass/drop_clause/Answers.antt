@@ -5,7 +5,7 @@ use Rattle.share_rule.specs.Views.{clause_of}
 use Rattle.share_rule.proofs.Lists.{first_at}
 use Rattle.ref_count.specs.Drops.{IsDropped}
 use Rattle.ring_port.specs.PortState.{PortState}
-use Rattle.ring_pass.proofs.DropsHere.{ring_not_taken, on_ok, ring_drops, port_drops, room_left, room_last, room_grows}
+use Rattle.ring_pass.proofs.DropsHere.{once_with_others, ring_not_taken, on_ok, ring_drops, port_drops, room_left, room_last, room_grows}
 use Rattle.ring_pass.proofs.RingPorts.{rings_here}
 use Rattle.ring_pass.proofs.Stays.{clause_same, holding_same, loaded_twice, looked_both, only_same, same_both, ring_stays, port_stays, room_stays, ring_port, ring_holds, one_same}
 use Rattle.ring_pass.proofs.pass.RingPass.drop_clause.Goals as goal
@@ -108,3 +108,9 @@ returns-in-Last-clause-given g c =
 
 pub returns-in-Last-clause-port : goal.returns-in-Last-clause-port
 returns-in-Last-clause-port g c = ring_port (invariant_of-self-in-Last g c).0
+
+pub returns-in-Left-clause-dropped : goal.returns-in-Left-clause-dropped
+returns-in-Left-clause-dropped g c = once_with_others (returns-in-Left-clause-given g c)
+
+pub returns-in-Last-clause-dropped : goal.returns-in-Last-clause-dropped
+returns-in-Last-clause-dropped g c = once_with_others (returns-in-Last-clause-given g c)

@@ -23,5 +23,3 @@ pub mod Resting
 pub mod Turns
 pub mod Shrinking
 pub mod LeftBehind
-mod ProblemsReady
-mod CrowdLemmas

@@ -1,9 +1,37 @@
-use Rattle.std.proofs.Common.{◌∙◌, [], sym, ap, arith}
+use Rattle.std.proofs.Common.{◌≡◌, ◌∙◌, ℕ, List, [], All, refl, sym, ap, subst, arith}
+use Rattle.sat_words.specs.Literal.{Literal, IsOn}
 use Rattle.ring_port.specs.PortState.{PortState}
+use Rattle.ring_port.specs.PlainPort.{CanOpen, starts_of}
 use Rattle.ring_run.proofs.tests_begin.begin.Goals as goal
 
 pub new-requires-clause-opening : goal.new-requires-clause-opening
-new-requires-clause-opening g c = ?
+new-requires-clause-opening g c =
+    let p = c.args.problem.ready in
+    let same = c.in_ok-starts.ensures ∙ c.as_slice.ensures.value in
+    subst (λ (ss : List (ℕ × List Literal)). CanOpen (starts_of ss) c.args.problem.units.items (g.L.LineOut.told c.args.lines)) (sym same) (record {
+      clauses = c.args.problem.formula.clauses;
+      journal = [];
+      over = record { opens = p.opens; lines = record { entries = c.requires.none; last = (let n = c.requires.last in omega arith) } };
+    })
 
-pub returns-in-Ok-clause-job : goal.returns-in-Ok-clause-job
-returns-in-Ok-clause-job g c = ?
+pub new-requires-clause-starts_on : goal.new-requires-clause-starts_on
+new-requires-clause-starts_on g c =
+    let same = c.in_ok-starts.ensures ∙ c.as_slice.ensures.value in
+    subst (λ (ss : List (ℕ × List Literal)). All (λ s. All (IsOn c.vars-vars.result) s.1) ss) (sym same) (subst (λ (n : ℕ). All (λ s. All (IsOn n) s.1) c.args.problem.start.items) (sym c.vars-vars.ensures) c.args.problem.ready.starts_on)
+
+pub new-requires-clause-units_on : goal.new-requires-clause-units_on
+new-requires-clause-units_on g c = subst (λ (n : ℕ). All (IsOn n) c.args.problem.units.items) (sym c.vars-vars.ensures) c.args.problem.ready.units_on
+
+pub returns-clause-job : goal.returns-clause-job
+returns-clause-job g c =
+    let made = c.in-Ok.ensures.made in (
+      record {
+        small = omega (arith, c.if-vars.false);
+        ring = sym (ap (λ (s : PortState). s.ring) made);
+        rings = sym (ap (λ (s : PortState). s.rings) made);
+        vars = sym (ap (λ (s : PortState). s.vars) made);
+        start = c.from_vec-start.ensures ∙ c.in_ok-start.ensures;
+        some = c.requires.some;
+      },
+      refl,
+    )

@@ -2,6 +2,7 @@
 ghost use Rattle.std.specs.Prelude.{◌≡◌, ℕ, ◌<◌, [], None};
 ghost use Rattle.share_core.specs.declared.event.TheConstants.{MAX_SHARES};
 ghost use Rattle.share_core.specs.Readable.{waiting_times};
+ghost use Rattle.share_core.specs.State.{times_at};
 ghost use Rattle.share_core.specs.Sound.{counted};
 ghost use Rattle.share_rule.specs.Passes.{IsPassOf, IsSamePass};
 ghost use Rattle.share_rule.specs.Views.{IsRight, IsHolding, only};
@@ -51,13 +52,15 @@ pub fn share<B: Ledger>(table: &Shared<B>, pass: &mut Pass<B>, cell: Cref)
 }
 
 /// Gives one count of a cell up. It was the last one exactly where the step found 1; the cell then waits at the pass's
-/// ring and at no other, and nobody holds it. The ring has not the turn, since what a turn writes rests on what is held.
+/// ring and at no other, and nobody holds it; where there is no other ring it is the last one exactly where the ring held the
+/// cell once. The ring has not the turn, since what a turn writes rests on what is held.
 pub fn drop_count<B: Ledger>(table: &Shared<B>, pass: &mut Pass<B>, cell: Cref) -> Dropped
     requires pass { IsPassOf table.now pass.old }
     requires held { IsHolding cell.address pass.old.me.0 }
     requires turn { (only pass.old.me.0).turn ≡ None }
     ensures pass { IsPassOf table.now pass.new × IsSamePass pass.old pass.new }
     ensures part { (found : ℕ) × (pass.new.me.0 ≡ after_drop cell.address found pass.old.me.0) × IsDropped found result }
+    ensures lone { pass.old.me.0.opening.rings ≡ 1 → IsDropped (times_at cell.address (only pass.old.me.0).core.held) result }
     ensures alone { result ≡ Last → (s : IsSeen pass.new.me.0) → (waiting_times s.core cell.address ≡ 1) × (counted s.core.opening s.core cell.address ≡ 0) }
 {
     let found = table

@@ -3,6 +3,7 @@ pub mod Rooms
 pub mod Parts
 pub mod Words
 pub mod Moves
+pub mod Lone
 pub mod Steps
 pub mod Granting
 pub mod Loading

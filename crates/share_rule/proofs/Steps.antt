@@ -19,7 +19,7 @@ use Rattle.share_rule.specs.Views.{is_ready}
 use Rattle.share_core.specs.State.{State, times_at, count_at, clause_at}
 use Rattle.share_core.specs.Events.{recounted, after, shared_part, dropped_part}
 use Rattle.share_core.specs.Sound.{Sound}
-use Rattle.share_core.proofs.Counting.{some_same, none_some}
+use Rattle.share_core.proofs.Counting.{some_same, none_some, held_counted, held_cell}
 use Rattle.share_core.proofs.ClauseLists.{all_in}
 use Rattle.share_rule.specs.declared.view.BookOrigin.{BookOrigin}
 use Rattle.share_rule.specs.declared.Layout.{Layout}
@@ -36,6 +36,7 @@ use Rattle.share_core.proofs.Leaving.{left_sound, left_one}
 use Rattle.share_rule.proofs.Lists.{first_at, all_without, all_more, at_in}
 use Rattle.share_rule.proofs.Parts.{held_is, held_clause, is_open, standing_of, seen_of}
 use Rattle.share_rule.proofs.Words.{clause_recounted, places_recounted, count_words, recount_stored, unit_kept}
+use Rattle.share_rule.proofs.Lone.{counted_alone}
 use Rattle.share_rule.proofs.Moves.{one_ring, Stays, frame_of, given_same, stops_same, moved}
 
 -- what a changed count leaves alone
@@ -53,6 +54,24 @@ module _ {S : Type 0} (stands : S → BookOrigin → Layout → CoreOpening → 
   pub told : (s : Table (Option S) View) (ws : List ℕ) (id : ℕ) (v w : View) → get_elem? s.views id ≡ some v → is_ready w.stage ≡ true
       → Shows stands k.layout (record { words = ws; homes = s.homes; views = set s.views id w }) → Seen w
   told s ws id v w at ready next = seen_of stands k.layout (record { words = ws; homes = s.homes; views = set s.views id w }) id w next (set_here s.views id w (at_in s.views id v at)) ready
+
+  -- what a drop finds, where there is no other ring
+  alone_found : (s : Table (Option S) View) (h : Shows stands k.layout s) (id a : ℕ) (v : View) → get_elem? s.views id ≡ some v → is_ready v.stage ≡ true → IsHolding a v → v.opening.rings ≡ 1
+      → slice_index s.words a ≡ times_at a (only v).core.held
+  alone_found s h id a v at ready holding alone =
+      let c : State = h.core in
+      let p : RingPart = only v in
+      let r : ℕ = ring_of p in
+      let fit = h.each id v at in
+      let mine = one_ring k.layout c h.glue h.owner id v fit holding.0 in
+      let part : IsPart c h.glue p = mine.0 in
+      let held : 0 < times_at a (c.part r).held = subst (λ (q : Part). 0 < times_at a q.held) part.part holding.1 in
+      let sound : Sound c = left_sound c.opening c h.left in
+      let one : c.opening.rings ≡ 1 = sym (ap (λ (o : CoreOpening). o.rings) (fit.told ready).1) ∙ alone in
+      let t = held_cell c.opening c sound.counts r a part.ring held in
+      h.words.count_is a t.0 t.1 t.3 ∙ t.2
+      ∙ counted_alone c r a h.left one part.ring mine.2 (held_counted c.opening c sound.counts r a part.ring held).0
+      ∙ sym (ap (λ (q : Part). times_at a q.held) part.part)
 
   pub drop_next : (s : Table (Option S) View) (h : Shows stands k.layout s) (id a : ℕ) (v : View) → get_elem? s.views id ≡ some v → is_ready v.stage ≡ true → IsHolding a v → slice_index s.words a < 2 ^ 64
       → (n : Shows stands k.layout (record { words = set s.words a ((slice_index s.words a + (2 ^ 64 - 1)) % 2 ^ 64); homes = s.homes; views = set s.views id (after_drop a (slice_index s.words a) v) })) × (n.core ≡ after h.core (DropCount (ring_of (only v)) a))
@@ -104,7 +123,7 @@ module _ {S : Type 0} (stands : S → BookOrigin → Layout → CoreOpening → 
       let h : Shows stands k.layout s = is_open stands k s id me.0 shown at ready in
       let n : ℕ = slice_index s.words a in
       let next = drop_next s h id a me.0 at ready holding small in
-      (after_drop a n me.0, keeps, tt, inr next.0, (refl, refl, told s (set s.words a ((n + (2 ^ 64 - 1)) % 2 ^ 64)) id me.0 (after_drop a n me.0) at ready next.0))
+      (after_drop a n me.0, keeps, tt, inr next.0, ((refl, refl, told s (set s.words a ((n + (2 ^ 64 - 1)) % 2 ^ 64)) id me.0 (after_drop a n me.0) at ready next.0), alone_found s h id a me.0 at ready holding))
 
   pub share_next : (s : Table (Option S) View) (h : Shows stands k.layout s) (id a : ℕ) (v : View) → get_elem? s.views id ≡ some v → is_ready v.stage ≡ true → IsHolding a v → (only v).core.shared < MAX_SHARES
       → (n : Shows stands k.layout (record { words = set s.words a ((slice_index s.words a + 1) % 2 ^ 64); homes = s.homes; views = set s.views id (after_share a (slice_index s.words a) v) })) × (n.core ≡ after h.core (Share (ring_of (only v)) a))

@@ -2,10 +2,11 @@
 use Rattle.std.specs.Prelude.{◌≡◌, ℕ, ◌∷◌, Option, None}
 use Rattle.atomic_table.specs.Table.{Me, Step, rest}
 use Rattle.share_core.specs.declared.part.CoreOpening.{CoreOpening}
+use Rattle.share_core.specs.State.{times_at}
 use Rattle.share_rule.specs.declared.view.BookOrigin.{BookOrigin}
 use Rattle.share_rule.specs.declared.view.View.{View}
 use Rattle.share_rule.specs.Layout.{grant_at}
-use Rattle.share_rule.specs.Views.{IsWord, taken_view, first_view}
+use Rattle.share_rule.specs.Views.{IsWord, only, taken_view, first_view}
 use Rattle.share_rule.specs.Steps.{after_grant, after_share, after_drop, after_load, after_store, after_open}
 use Rattle.share_rule.specs.Seen.{Seen}
 
@@ -22,9 +23,10 @@ module _ {S : Type 0} where
   abbrev pub shared : Step S → Me S View → ℕ → Me S View → Type 0
   shared st m n m' = Knows (after_share st.word n m.0) m m'
 
-  -- one less is; what was found tells whether it was the last
+  -- one less is; what was found tells whether it was the last; it is how often the ring held the cell, where there is no
+  -- other ring
   abbrev pub dropped : Step S → Me S View → ℕ → Me S View → Type 0
-  dropped st m n m' = Knows (after_drop st.word n m.0) m m'
+  dropped st m n m' = Knows (after_drop st.word n m.0) m m' × (m.0.opening.rings ≡ 1 → n ≡ times_at st.word (only m.0).core.held)
 
   -- the word was read; of a cell that is held it is as the pass knows it
   abbrev pub loaded : Step S → Me S View → ℕ → Me S View → Type 0

@@ -16,4 +16,4 @@ fetch_sub-found-requires g c =
     (c.requires.pass.0, omega arith, drops (StandsFor g.B.Ledger.account g.B.Ledger.stands) table.table.shared.key table.table.shared.table_id.slots pass.id pass.me c.args.cell.address c.requires.pass.1 c.requires.held)
 
 pub returns-then-found-eq1-clause-alone : goal.returns-then-found-eq1-clause-alone
-returns-then-found-eq1-clause-alone g c = λ _. last_waits c.args.pass.now.me.0 c.fetch_sub-found.new.seat.me.0 c.args.cell.address c.fetch_sub-found.result c.requires.held c.fetch_sub-found.ensures.2.1 c.if-found-eq1.true
+returns-then-found-eq1-clause-alone g c = λ _. last_waits c.args.pass.now.me.0 c.fetch_sub-found.new.seat.me.0 c.args.cell.address c.fetch_sub-found.result c.requires.held c.fetch_sub-found.ensures.2.0.1 c.if-found-eq1.true

@@ -64,11 +64,12 @@ each_more : (old mid new : PortState) (cs : List Cref) (c : Cref) → DroppedEac
 each_more old mid new [] c e k = (new, subst (λ (s : PortState). DroppedOnce s new c.address) e k, refl)
 each_more old mid new (x ∷ cs) c e k = (e.0, e.1, each_more e.0 mid new cs c e.2 k)
 
-fields_after : (s r : PortState) (a : ℕ) → DroppedOnce s r a → r ≡ record s { held = r.held; waiting = r.waiting }
-fields_after s r a k = k.state ∙ ap (λ (H : List Holding). record s { held = H; waiting = r.waiting }) (sym (ap (λ (q : PortState). q.held) k.state))
+fields_after : (s r : PortState) (a : ℕ) → DroppedOnce s r a → r ≡ record s { held = r.held; waiting = r.waiting; last = r.last }
+fields_after s r a k = k.state ∙ (λ i. record s { held = (sym (ap (λ (q : PortState). q.held) k.state)) i; waiting = r.waiting; last = (sym (ap (λ (q : PortState). q.last) k.state)) i })
 
-fields_again : (old s r : PortState) → s ≡ record old { held = s.held; waiting = s.waiting } → r ≡ record s { held = r.held; waiting = r.waiting } → r ≡ record old { held = r.held; waiting = r.waiting }
-fields_again old s r e f = f ∙ ap (λ (q : PortState). record q { held = r.held; waiting = r.waiting }) e
+fields_again : (old s r : PortState) → s ≡ record old { held = s.held; waiting = s.waiting; last = s.last } → r ≡ record s { held = r.held; waiting = r.waiting; last = r.last }
+    → r ≡ record old { held = r.held; waiting = r.waiting; last = r.last }
+fields_again old s r e f = f ∙ ap (λ (q : PortState). record q { held = r.held; waiting = r.waiting; last = r.last }) e
 
 pub dropped_none : (s : PortState) → DroppedAll s s []
 dropped_none s = record { each = refl; state = refl; others = λ a f. refl }

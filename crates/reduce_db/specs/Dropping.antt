@@ -23,10 +23,11 @@ is_among cs a = list_any (λ (c : Cref). c.address == a) cs
 abbrev pub without_all : List Cref → List Cref → List Cref
 without_all cs ds = filter (λ (c : Cref). not (is_among ds c.address)) cs
 
--- these clauses were dropped: nothing but what is held and what waits has changed, and each other clause is held as it was
+-- these clauses were dropped: nothing but what is held, what waits and what can be offered has changed, and each other clause is
+-- held as it was
 pub record DroppedAll (old new : PortState) (dropped : List Cref) : Type 0 where
   pub each : DroppedEach old new dropped
-  pub state : new ≡ record old { held = new.held; waiting = new.waiting }
+  pub state : new ≡ record old { held = new.held; waiting = new.waiting; last = new.last }
   pub others : (a : ℕ) → ((c : Cref) → Contains dropped c → c.address ≢ a) → held_at new a ≡ held_at old a
 
 -- whatever held between port, watches and trail still does

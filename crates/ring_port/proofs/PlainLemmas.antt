@@ -196,8 +196,8 @@ plain_pushed p h x kept at g last = record {
 abbrev pub dropped_data : PlainData → Cref → PlainData
 dropped_data p c = record p { held = without_one p.held c.address; waiting = p.waiting ++ c ∷ [] }
 
-pub plain_dropped : (p : PlainData) → IsPlain p → (c : Cref) (x : Holding) → slice_get p.all c.address ≡ Some x → find (is_at c.address) p.held ≡ Some x → IsPlain (dropped_data p c)
-plain_dropped p h c x there held = record {
+pub plain_dropped : (p : PlainData) → IsPlain p → (c : Cref) (x : Holding) → slice_get p.all c.address ≡ Some x → find (is_at c.address) p.held ≡ Some x → (last : Option Cref) → IsPlain (record (dropped_data p c) { last = last })
+plain_dropped p h c x there held last = record {
   all = h.all;
   indexed = h.indexed;
   placed = All_without (λ k. slice_get p.all k.address ≡ Some k) p.held c.address h.placed;

@@ -1,10 +1,10 @@
 -- What the calls of a port in memory keep of the one journal behind it.
-use Rattle.std.proofs.Common.{◌≡◌, ◌≢◌, ℕ, ◌+◌, ◌-◌, ◌≤◌, ◌==◌, inl, inr, ⊎_elim, drop, true, false, not, List, [], ◌∷◌, ◌++◌, length, take, sym, refl, ap, subst, ◌∙◌, arith, Some, None, Result, Ok, Err, append_assoc, length-append}
+use Rattle.std.proofs.Common.{◌≡◌, ◌≢◌, ℕ, ◌+◌, ◌-◌, ◌≤◌, ◌==◌, inl, inr, ⊎_elim, drop, true, false, not, List, [], ◌∷◌, ◌++◌, length, take, sym, refl, ap, subst, ◌∙◌, arith, Some, None, Result, Ok, Err, IsSome, append_assoc, append-nil, length-append}
 use Rattle.std.specs.List.{All, Contains, find, slice_get, list_any}
 use Rattle.rup_model.proofs.Lists.{In, In_append, In_Contains, Contains_In}
 use Rattle.std.specs.Option.{option_map}
 use Rattle.std.specs.declared.option.Option.{Option}
-use Rattle.std.proofs.lemmas.Bool.{not-true, or_right}
+use Rattle.std.proofs.lemmas.Bool.{not-true, or_right, false≢true}
 use Rattle.std.proofs.lemmas.List.{get_or-append-add}
 use Rattle.std.proofs.lemmas.List.Elements.{All-append, All-take}
 use Rattle.sat_words.specs.Literal.{Literal}
@@ -24,10 +24,11 @@ use Rattle.ring_port.specs.Port.{is_usable, holding_of, last_after, AddedClause}
 use Rattle.ring_port.specs.Log.{Origin, Keeps, StandsOver, KeepsLog, journal_of}
 use Rattle.ring_port.specs.OwnLog.{LogData, AddedEntry, DeletedEntry, NotPut, WasReduced, own_entry}
 use Rattle.ring_port.specs.PlainPort.{PlainData, kept_at, state_of, IsPlain}
-use Rattle.ring_port.specs.Deleting.{without_one, deletions, DroppedOnce, TidiedUpTo}
+use Rattle.ring_port.specs.Exchange.{OfferedAs}
+use Rattle.ring_port.specs.Deleting.{without_one, unless_at, deletions, DroppedOnce, TidiedUpTo}
 use Rattle.ring_port.proofs.Holdings.{All_In}
 use Rattle.ring_port.proofs.Dropping.{is_at, find_In, some_In, never_at, gone, without_in, All_without, kept_pushed_at, kept_first, kept_grown}
-use Rattle.ring_port.proofs.PlainLemmas.{pushed_data, dropped_data, start_stays, free_behind, waits_nowhere, found_pushed}
+use Rattle.ring_port.proofs.PlainLemmas.{pushed_data, dropped_data, start_stays, free_behind, waits_nowhere, found_pushed, same_lookup}
 use Rattle.ring_port.proofs.LogSteps.{one_All, output_of, held_next, added_here, all_told_next, told_here, ended_next, ended_stays, number_is, stands_after, stands_failed, stands_with, numbers_next, accepted_next, caused_same}
 use Rattle.ring_port.proofs.Deletions.{accepted_deletion, stands_deleted, stands_dropped}
 use Rattle.ring_port.proofs.Reductions.{stands_reduced}
@@ -160,6 +161,17 @@ looked_keeps p st k o h =
     let was = output_of o (state_of p) p.log.output h refl in
     stands_with o (state_of p) h p.log.output refl (take p.passed p.opening ++ p.written) p.given (length p.opening - p.passed) st k p.log.refused p.log.ended h.seen was.usable refl was.caused
 
+-- there is no ring to offer a clause to
+pub offer_did : (p : PlainData) (class : Option ℕ) (a : ℕ) → IsSome class → OfferedAs (state_of p) (state_of (record p { last = None })) class a
+offer_did p None a some = absurd (false≢true some)
+offer_did p (Some class) a some = record {
+  back = [];
+  few = omega arith;
+  same = λ b. same_lookup (state_of p) (state_of (record p { last = None })) b refl;
+  often = λ b. refl;
+  state = λ i. record (state_of (record p { last = None })) { waiting = sym (append-nil (kept_at p.all p.waiting)) i };
+}
+
 -- what a longer clause did to the port
 pub clause_put : (p : PlainData) → IsPlain p → (r : ℕ) (g : LogData) (lits : List Literal) (kind : Kind) (number glue : ℕ) (c : Cref) (last : Option Cref) → c.address ≡ length p.all
     → 2 ≤ length lits → option_map (λ x. x.address) last ≡ last_after kind (option_map (λ x. x.address) p.last) c.address → AddedEntry (record p.log { room = r }) g lits kind number
@@ -183,8 +195,8 @@ module _ (p : PlainData) (plain : IsPlain p) (c : Cref) (x : Holding) (there : s
   more_waits : kept_at p.all (p.waiting ++ c ∷ []) ≡ kept_at p.all p.waiting ++ x ∷ []
   more_waits = kept_pushed_at p.all p.waiting c x there
 
-  pub drop_keeps : KeepsLog (state_of p) (state_of (dropped_data p c))
-  drop_keeps o h =
+  drop_waits : KeepsLog (state_of p) (state_of (dropped_data p c))
+  drop_waits o h =
       let among : In x p.held = find_In (is_at c.address) p.held x held in
       let P : Holding → Type 0 = λ k. (book o.formula (journal_of o (state_of p))).clause k.number ≡ Some k.lits in
       subst (λ ws. StandsOver o (record (state_of p) { held = without_one p.held c.address; waiting = ws })) (sym more_waits)
@@ -200,14 +212,18 @@ module _ (p : PlainData) (plain : IsPlain p) (c : Cref) (x : Holding) (there : s
           last (inl e) = inl (subst (Contains p.held) e (In_Contains p.held x (find_In (is_at c.address) p.held x held)))
           last (inr k) = absurd k
 
-  pub drop_did : DroppedOnce (state_of p) (state_of (dropped_data p c)) c.address
+  pub drop_keeps : (last : Option Cref) → KeepsLog (state_of p) (state_of (record (dropped_data p c) { last = last }))
+  drop_keeps last o h = last_keeps (dropped_data p c) last o (drop_waits o h)
+
+  pub drop_did : (last : Option Cref) → option_map (λ k. k.address) last ≡ unless_at (option_map (λ k. k.address) p.last) c.address
+      → DroppedOnce (state_of p) (state_of (record (dropped_data p c) { last = last })) c.address
   unfolding held_at
-  drop_did = record {
+  drop_did last is = record {
     clause = x;
     there = held;
     waits = inr (more_waits, gone p.held c.address plain.apart);
     alone = λ one none. more_waits;
-    state = refl;
+    state = λ i. record (state_of (dropped_data p c)) { last = is i };
   }
 
 -- the first clause that waits is deleted

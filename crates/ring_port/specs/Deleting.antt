@@ -1,5 +1,5 @@
 -- What a port does where a ring gives clauses up: they are held once less, and those that nobody holds are deleted.
-use Rattle.std.specs.Prelude.{◌≡◌, ◌⊎◌, ℕ, ◌<◌, ◌==◌, false, List, [], ◌∷◌, ◌++◌, if◌then◌else◌, map, length, take, drop, Some, None, Result, Ok, Err}
+use Rattle.std.specs.Prelude.{◌≡◌, ◌⊎◌, ℕ, ◌<◌, ◌==◌, false, List, [], ◌∷◌, ◌++◌, if◌then◌else◌, map, length, take, drop, Option, Some, None, Result, Ok, Err}
 use Rattle.std.specs.List.{list_any}
 use Rattle.rup_model.specs.declared.journal.Entry.{Entry}
 use Rattle.rup_model.specs.declared.journal.Entry.TheVariants.{Del}
@@ -19,14 +19,19 @@ without_one (h ∷ hs) a = if h.address == a then hs else h ∷ without_one hs a
 abbrev pub IsNotTaken : PortState → ℕ → Type 0
 IsNotTaken s a = list_any (λ b. b == a) s.taken ≡ false
 
--- the clause is held once less; where that was the last time that anybody held it, it waits to be deleted, and so it does at
--- once where there is no other ring
+-- the address, unless it is this one
+abbrev pub unless_at : Option ℕ → ℕ → Option ℕ
+unless_at None a = None
+unless_at (Some b) a = if b == a then None else Some b
+
+-- the clause is held once less, and can't be offered any more; where that was the last time that anybody held it, it waits to be
+-- deleted, and so it does at once where there is no other ring
 pub record DroppedOnce (old new : PortState) (a : ℕ) : Type 0 where
   pub clause : Holding
   pub there : held_at old a ≡ Some clause
   pub waits : (new.waiting ≡ old.waiting) ⊎ ((new.waiting ≡ old.waiting ++ clause ∷ []) × (held_at new a ≡ None))
   pub alone : old.rings ≡ 1 → held_at new a ≡ None → new.waiting ≡ old.waiting ++ clause ∷ []
-  pub state : new ≡ record old { held = without_one old.held a; waiting = new.waiting }
+  pub state : new ≡ record old { held = without_one old.held a; waiting = new.waiting; last = unless_at old.last a }
 
 -- what `drop_clause` did; it is refused for want of memory alone
 abbrev pub Dropped : PortState → PortState → ℕ → Result (Unit {0}) PortStop → Type 0

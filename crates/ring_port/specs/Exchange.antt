@@ -1,5 +1,5 @@
 -- What a port does where rings hand each other clauses.
-use Rattle.std.specs.Prelude.{◌≡◌, ℕ, ◌+◌, ◌==◌, ◌&&◌, not, nat_le, List, [], ◌∷◌, ◌++◌, if◌then◌else◌, map, filter, length, Option, Some, None, Result, Ok, Err}
+use Rattle.std.specs.Prelude.{◌≡◌, ℕ, ◌+◌, ◌≤◌, ◌==◌, count_by, ◌&&◌, not, nat_le, List, [], ◌∷◌, ◌++◌, if◌then◌else◌, map, filter, length, Option, Some, None, Result, Ok, Err}
 use Rattle.std.specs.List.{range_with_len}
 use Rattle.std.specs.Option.{option_and_then}
 use Rattle.sat_words.specs.declared.shared.Cref.{Cref}
@@ -33,10 +33,19 @@ other_rings s = filter (λ r. not (r == s.ring)) (range_with_len 0 s.rings)
 abbrev pub offers_to : PortState → (class address : ℕ) → List Offer
 offers_to s class address = map (λ r. record { ring = r; class = class; address = address }) (other_rings s)
 
--- the lemma learned last was put for each other ring, and can't be offered again; clauses that came back may wait
+-- how often a clause is held at an address
+abbrev pub times_held : PortState → ℕ → ℕ
+times_held s a = count_by (λ h. h.address == a) s.held
+
+-- the lemma learned last was put for each other ring, and can't be offered again; at most as many clauses came back, which then
+-- wait; each clause is held as often as before
 pub record Offered (old new : PortState) (class address : ℕ) : Type 0 where
   pub back : List Holding
+  pub few : length back ≤ length (other_rings old)
+  pub same : (a : ℕ) → held_at new a ≡ held_at old a
+  pub often : (a : ℕ) → times_held new a ≡ times_held old a
   pub state : new ≡ record old {
+    held = new.held;
     shared = old.shared + length (other_rings old);
     puts = old.puts ++ offers_to old class address;
     waiting = old.waiting ++ back;

@@ -12,8 +12,8 @@ pub enum Point {
 }
 
 /// What a ring passes now and then, outside of the log's turn. A gate may tell and hold up a ring; it changes nothing that
-/// contracts see.
-pub trait Gate: Sync {
+/// contracts see. Rings on several threads share one, so whoever runs them asks that it is `Sync`.
+pub trait Gate {
     /// The ring is at this point, and has learned so many clauses.
     fn at(&self, ring: u32, point: Point, learned: u64);
 }

@@ -11,6 +11,7 @@ ghost use Rattle.ring_port.specs.Exchange.{class_at, other_rings, OfferedAs};
 ghost use Rattle.ring_port.specs.PlainPort.{HasCauseAlone};
 
 use crate::opening_units::first_new_from;
+use crate::plain_lines::unless_at;
 use crate::plain_port::PlainPort;
 use crate::port::Port;
 use crate::stops::{PortStop, Set};
@@ -126,6 +127,8 @@ impl<L: LineOut> Port for PlainPort<L> {
             return Err(PortStop::Memory);
         }
         self.store.release(c);
+        let last = unless_at(self.last, c);
+        self.last = last;
         Ok(())
     }
 

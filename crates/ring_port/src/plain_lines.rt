@@ -4,7 +4,7 @@ ghost use Rattle.rup_model.specs.Rup.{rup};
 ghost use Rattle.ring_port.specs.PortState.{IsPort, IsOn, known};
 ghost use Rattle.ring_port.specs.Log.{KeepsLog};
 ghost use Rattle.ring_port.specs.Port.{is_usable, IsClause, KeepsHeld, UnitPut, ClausePut, last_after};
-ghost use Rattle.ring_port.specs.Deleting.{TidiedFirst};
+ghost use Rattle.ring_port.specs.Deleting.{TidiedFirst, unless_at};
 ghost use Rattle.ring_port.specs.PlainPort.{HasCauseAlone};
 
 use crate::plain_port::PlainPort;
@@ -21,6 +21,16 @@ fn last_after(kind: Kind, last: Option<Cref>, c: Cref) -> Option<Cref>
     match kind {
         Kind::Learn => Some(c),
         Kind::Ruler | Kind::Derive | Kind::UnitLine => last,
+    }
+}
+
+/// The clause learned last, unless it is this one.
+pub(crate) fn unless_at(last: Option<Cref>, c: Cref) -> Option<Cref>
+    ensures { option_map (λ x. x.address) result ≡ unless_at (option_map (λ x. x.address) last) c.address }
+{
+    match last {
+        Some(lemma) if lemma.address != c.address => Some(lemma),
+        _ => None,
     }
 }
 

@@ -87,7 +87,7 @@ pub trait Port {
         ensures log { KeepsLog (state self.old) (state self.new) }
         ensures port { IsPort (state self.new) };
 
-    /// Holds the clause once less. Where nobody holds it any more it waits for its deletion.
+    /// Holds the clause once less. Where nobody holds it any more it waits for its deletion. What is given up can't be offered.
     fn drop_clause(&mut self, c: Cref) -> Result<(), PortStop>
         requires held { IsSome (held_at (state self.old) c.address) }
         requires apart { IsNotTaken (state self.old) c.address }

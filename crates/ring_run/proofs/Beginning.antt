@@ -11,7 +11,7 @@ use Rattle.sat_words.specs.Clause.{has, is_empty}
 use Rattle.sat_words.specs.declared.shared.Cref.{Cref}
 use Rattle.rup_model.specs.declared.journal.Entry.{Entry}
 use Rattle.rup_model.specs.Basics.{EachAfter}
-use Rattle.rup_model.specs.Journal.{added, learned, recent, IsSpaced}
+use Rattle.rup_model.specs.Journal.{added, learned, recent}
 use Rattle.rup_model.specs.Opening.{adds_unit, IsNew}
 use Rattle.rup_model.proofs.Lists.{Contains_In, In_Contains, In_map, map_In, In_get_or, has_In}
 use Rattle.ring_port.specs.PortState.{PortState, Holding, HoldsStart, IsKept, IsOn, IsPort, held_at, lits_at, lits_in}
@@ -22,13 +22,14 @@ use Rattle.watch_prop.specs.Watched.{Watched, IsFresh}
 use Rattle.ring_decide.specs.DeciderData.{DeciderData}
 use Rattle.restart_plan.specs.Plan.{Restarting, IsRestarting, IsExact, AreMost, AreMostBefore, begun as nothing_came}
 use Rattle.restart_plan.proofs.Restarting.{exact-none, exact-most}
-use Rattle.ring_run.specs.Ended.{IsJobOf, IsUntouched, IsOwn, IsNewLine, HasRestarted, opening_of}
+use Rattle.ring_run.specs.Ended.{IsTimely, IsJobOf, IsUntouched, IsOwn, IsNewLine, HasRestarted, opening_of, reductions}
 use Rattle.ring_run.specs.Strategy.{Decides, IsPaced, AreMarked}
 use Rattle.ring_run.specs.declared.job.Counts.{Counts}
 use Rattle.ring_run.specs.Searching.{IsHeldBy, AreTold, Runs, GoesOn}
-use Rattle.ring_run.specs.Course.{HasLemmas, MayImport}
+use Rattle.ring_run.specs.Course.{HasLemmas, MayImport, AreOrdered}
 use Rattle.ring_run.specs.declared.job.Job.{Job}
 use Rattle.ring_run.specs.declared.ring.Ring.{Ring}
+use Rattle.ring_run.proofs.Numbering.{ordered_none}
 
 pub runs_begin : (s : PortState) → IsUntouched s → IsPort s → Runs s s 0
 runs_begin s p port = record {
@@ -38,7 +39,7 @@ runs_begin s p port = record {
   counted = sym (ap (λ (J : List Entry). length (learned s.ring J)) p.mine);
   each_new = subst (EachAfter (IsNew (opening_of s)) []) (sym p.mine) tt;
   new_lines = subst (EachAfter (IsNewLine s.opening s.given s.ring) []) (sym p.mine) tt;
-  spaced = subst (EachAfter IsSpaced []) (sym p.mine) tt;
+  timely = subst (EachAfter IsTimely []) (sym p.mine) tt;
   glued = record { others = []; few = omega arith; each = λ h there. inl there };
   port = port;
 }
@@ -54,12 +55,15 @@ goes_begin s p port = record {
 
 -- no lemma is listed yet
 pub listed_begin : (s : PortState) (ring : Ring) → s.mine ≡ [] → ring.learned ≡ 0 → ring.lemmas.items ≡ [] → ring.reductions ≡ 0 → ring.reduced_at ≡ 0 → HasLemmas s ring
-listed_begin s ring mine learned none reductions at = record {
+listed_begin s ring mine learned none reductions_none at = record {
+  ordered = subst (AreOrdered s) (sym none) (ordered_none s);
+  glued = λ c m. absurd (Contains_In [] c (subst (λ (cs : List Cref). Contains cs c) none m));
+  noted = reductions_none ∙ sym (ap (λ (J : List Entry). reductions s.ring J) mine);
   distinct = subst AreDistinct (sym none) tt;
   member = subst (All (Contains (attached ring.watches))) (sym none) (All-nil (Contains (attached ring.watches)));
   apart = λ h c there m. absurd (Contains_In [] c (subst (λ (cs : List Cref). Contains cs c) none m));
   count = (let lately = ap (λ (J : List Entry). length (recent s.ring J)) mine in omega (arith, lately, learned, at));
-  few = omega (arith, reductions, at);
+  few = omega (arith, reductions_none, at);
 }
 
 -- the start clauses of the job are held

@@ -16,7 +16,7 @@ use Rattle.rup_model.specs.declared.journal.Addition.{Addition}
 use Rattle.rup_model.specs.declared.journal.Entry.{Entry}
 use Rattle.rup_model.specs.declared.journal.Entry.TheVariants.{Add, Del, Reduce}
 use Rattle.rup_model.specs.Basics.{EachAfter}
-use Rattle.rup_model.specs.Journal.{additions, added, learned, recent, IsSpaced}
+use Rattle.rup_model.specs.Journal.{additions, added, learned, recent}
 use Rattle.rup_model.specs.Opening.{adds_unit}
 use Rattle.rup_model.proofs.Lists.{In, Contains_In, In_Contains, In_append, In_append_left, In_append_right, In_has, has_In, map_In}
 use Rattle.ring_port.specs.PortState.{PortState, Holding, IsPort, held_at, lits_at, one_more}
@@ -29,13 +29,14 @@ use Rattle.watch_prop.specs.WatchData.{WatchData, attached}
 use Rattle.watch_prop.specs.Watched.{Watched}
 use Rattle.watch_prop.specs.Propagation.{HasReasons}
 use Rattle.watch_prop.proofs.TrailLaws.{Watched-port, Reasons-more, Reasons-held}
-use Rattle.ring_run.specs.Ended.{Stays, IsOwn, IsOfKind, IsUntold, IsNewLine, AreNewLines, IsGlued, HoldsGlued, is_unit_line}
+use Rattle.ring_run.specs.Ended.{IsTimely, Stays, IsOwn, IsOfKind, IsUntold, IsNewLine, AreNewLines, IsGlued, HoldsGlued, is_unit_line}
 use Rattle.ring_run.specs.Searching.{HasClauses, KeepsOn, IsHeldBy, AddedSeen, OnlyPolled}
 use Rattle.ring_run.specs.Course.{Searches}
 use Rattle.ring_run.proofs.Remembering.{held_same, LitsStay, lits_kept, remembered_as}
 use Rattle.ring_run.proofs.Progress.{stays_by, news_moved, lines_moved, runs_same, starts_kept}
 use Rattle.ring_run.proofs.Learning.{held_more}
 use Rattle.ring_run.proofs.Telling.{never, told_same}
+use Rattle.std.specs.declared.option.Option.{Option}
 
 -- Units
 
@@ -256,7 +257,7 @@ module _ (s u : PortState) (given : List Cref) (d : Polls s u given) (one : leng
           counted = p.runs.counted ∙ ap (λ (J : List Entry). length (learned s.ring J)) (sym d.mine) ∙ ap (λ (r : ℕ). length (learned r u.mine)) (sym d.ring);
           each_new = news_moved s u s.mine stays d.mine p.runs.each_new;
           new_lines = lines_moved s u s.mine stays d.units d.mine p.runs.new_lines;
-          spaced = subst (EachAfter IsSpaced []) (sym d.mine) p.runs.spaced;
+          timely = subst (EachAfter IsTimely []) (sym d.mine) p.runs.timely;
           glued = polls_glued start p.runs.glued;
           port = port;
         };
@@ -314,20 +315,23 @@ taken_held s u c w port =
 
 -- nothing but what is held, taken and polled has changed
 pub only_none : (s : PortState) → OnlyPolled s s
-only_none s = record { state = refl }
+only_none s = record { kept = λ a h. refl; state = refl }
 
-only_eta : (s : PortState) (held : List Holding) (taken : List ℕ) (polled : ℕ) → OnlyPolled s (record s { held = held; taken = taken; polled = polled })
-only_eta s held taken polled = record { state = refl }
+only_eta : (s : PortState) (held : List Holding) (taken : List ℕ) (polled : ℕ) → KeepsHeld s (record s { held = held; taken = taken; polled = polled }) → OnlyPolled s (record s { held = held; taken = taken; polled = polled })
+only_eta s held taken polled kept = record { kept = kept; state = refl }
 
 pub only_looked : (s u : PortState) → u ≡ looked_again s → OnlyPolled s u
-only_looked s u is = subst (OnlyPolled s) (sym is) (only_eta s s.held s.taken (one_more s.polled))
+only_looked s u is = subst (OnlyPolled s) (sym is) (only_eta s s.held s.taken (one_more s.polled) (λ a h. held_same s (looked_again s) a refl))
 
-pub only_took : (s u : PortState) (c : Cref) → TookClause s u c → OnlyPolled s u
-only_took s u c w = subst (OnlyPolled s) (sym w.state) (only_eta s (s.held ++ w.clause ∷ []) (s.taken ++ c.address ∷ []) (one_more s.polled))
+pub only_took : (s u : PortState) (c : Cref) → TookClause s u c → KeepsHeld s u → OnlyPolled s u
+only_took s u c w kept = subst (OnlyPolled s) (sym w.state) (only_eta s (s.held ++ w.clause ∷ []) (s.taken ++ c.address ∷ []) (one_more s.polled) (subst (KeepsHeld s) w.state kept))
 
 pub only_same : (s u : PortState) → u ≡ s → OnlyPolled s u
 only_same s u is = subst (OnlyPolled s) (sym is) (only_none s)
 
 pub only_then : (s u w : PortState) → OnlyPolled s u → OnlyPolled u w → OnlyPolled s w
 only_then s u w p q =
-    record { state = q.state ∙ ap (λ (x : PortState). record x { held = w.held; taken = w.taken; polled = w.polled }) p.state }
+    record {
+      kept = λ a h. q.kept a (subst (λ (o : Option Holding). IsSome o) (sym (p.kept a h)) h) ∙ p.kept a h;
+      state = q.state ∙ ap (λ (x : PortState). record x { held = w.held; taken = w.taken; polled = w.polled }) p.state;
+    }

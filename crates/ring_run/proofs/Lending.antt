@@ -1,82 +1,116 @@
 -- A ring that has offered a lemma.
-use Rattle.std.proofs.Common.{◌≡◌, ◌∙◌, ℕ, ◌+◌, ◌≤◌, List, sym, subst, ap, arith, inl, inr, Some, None, Ok, Contains, IsSome, refl}
+use Rattle.std.proofs.Common.{◌≡◌, ◌∙◌, ℕ, ◌+◌, ◌≤◌, ◌==◌, Bool, true, false, cond, List, [], ◌∷◌, sym, subst, ap, arith, inl, inr, Some, None, Ok, Contains, IsSome, refl, eq-eqb}
 use Rattle.std.specs.Prelude.{IfSome}
-use Rattle.std.specs.List.{list_any}
+use Rattle.std.specs.List.{list_any, find}
 use Rattle.std.specs.declared.option.Option.{Option}
+use Rattle.std.proofs.lemmas.Bool.{false≢true, eqb-true}
 use Rattle.sat_words.specs.Literal.{Literal}
 use Rattle.sat_words.specs.Clause.{has, is_empty}
 use Rattle.sat_words.specs.declared.shared.Cref.{Cref}
 use Rattle.rup_model.specs.declared.journal.Entry.{Entry}
 use Rattle.rup_model.specs.Journal.{added, learned}
+use Rattle.rup_model.proofs.Lists.{In, Contains_In, In_Contains}
 use Rattle.ring_port.specs.PortState.{PortState, Holding, IsPort, held_at}
 use Rattle.ring_port.specs.Port.{Learned}
 use Rattle.ring_port.specs.Log.{KeepsLog}
 use Rattle.ring_port.specs.Exchange.{class_at}
+use Rattle.ring_port.proofs.Holdings.{found}
+use Rattle.ring_port.proofs.Dropping.{find_In}
 use Rattle.ring_trail.specs.declared.step.Step.{Step}
 use Rattle.ring_trail.specs.TrailData.{TrailData}
-use Rattle.watch_prop.specs.WatchData.{WatchData, Lits}
+use Rattle.watch_prop.specs.WatchData.{WatchData, Lits, attached}
 use Rattle.watch_prop.specs.Watched.{Watched}
-use Rattle.ring_run.specs.Ended.{HasOffered}
-use Rattle.ring_run.specs.Searching.{GoesOn, OnlySaw, OnlyWrote, OffersNothing, HasLent, HasLentBy, HoldsByGlue, IsGlueOf}
+use Rattle.watch_prop.specs.Propagation.{IsClosedBelow}
+use Rattle.watch_prop.proofs.TrailLaws.{Reasons-more}
+use Rattle.ring_run.specs.Ended.{Stays, HasOffered}
+use Rattle.ring_run.specs.Searching.{GoesOn, OnlySaw, OffersNothing, HasLent, HasLentBy, HoldsByGlue, IsGlueOf}
 use Rattle.ring_run.specs.Course.{Searches, InSearch, HasLeft, AreSameOffers, IsOffering}
 use Rattle.ring_run.specs.declared.ring.Ring.{Ring}
-use Rattle.ring_run.proofs.Remembering.{held_same, lits_same, remembered_same}
-use Rattle.ring_run.proofs.Standing.{reasoned_more}
-use Rattle.ring_run.proofs.Progress.{runs_same, lines_moved, starts_kept, glue_bounds, recent_still}
+use Rattle.ring_run.proofs.Remembering.{HoldsAlike, lits_alike, clause_alike, remembered_same}
+use Rattle.ring_run.proofs.Standing.{reasoned_alike}
+use Rattle.ring_run.proofs.Progress.{runs_alike, lines_moved, starts_kept, glue_bounds}
 use Rattle.ring_run.proofs.Telling.{told_same}
-use Rattle.ring_run.proofs.Turning.{wrote_search}
+use Rattle.ring_run.proofs.Turning.{clauses_alike}
 use Rattle.ring_run.proofs.Offering.{nothing_same, OnlyLent, offers_stay, offers_learned, offers_kept}
 
-pub lent_wrote : (s u : PortState) → OnlyLent s u → KeepsLog s u → OnlyWrote s u
-lent_wrote s u p log =
+lent_stays : (s u : PortState) → OnlyLent s u → KeepsLog s u → Stays s u
+lent_stays s u p log =
     let is = p.state in
     record {
-      recent = recent_still s u (ap (λ (x : PortState). x.ring) is) (ap (λ (x : PortState). x.mine) is);
-      stays = record {
-        start = ap (λ (x : PortState). x.start) is;
-        opening = ap (λ (x : PortState). x.opening) is;
-        vars = ap (λ (x : PortState). x.vars) is;
-        ring = ap (λ (x : PortState). x.ring) is;
-        rings = ap (λ (x : PortState). x.rings) is;
-        polled = omega (arith, ap (λ (x : PortState). x.polled) is);
-        home = ap (λ (x : PortState). x.home) is;
-        log = log;
-      };
-      taken = ap (λ (x : PortState). x.taken) is;
-      held = ap (λ (x : PortState). x.held) is;
-      own = λ cs q. remembered_same s u cs (ap (λ (x : PortState). x.ring) is) (ap (λ (x : PortState). x.mine) is)
-          (λ c there. ap (λ (f : ℕ → List Literal). f c.address) (lits_same s u (ap (λ (x : PortState). x.held) is))) (λ l h. ap (λ (ls : List Literal). has ls l) (ap (λ (x : PortState). x.seen) is) ∙ h) q;
-      stop = ap (λ (x : PortState). x.stop) is;
-      refused = ap (λ (x : PortState). x.refused) is;
-      more = λ l h. ap (λ (ls : List Literal). has ls l) (ap (λ (x : PortState). x.seen) is) ∙ h;
+      start = ap (λ (x : PortState). x.start) is;
+      opening = ap (λ (x : PortState). x.opening) is;
+      vars = ap (λ (x : PortState). x.vars) is;
+      ring = ap (λ (x : PortState). x.ring) is;
+      rings = ap (λ (x : PortState). x.rings) is;
+      polled = omega (arith, ap (λ (x : PortState). x.polled) is);
+      home = ap (λ (x : PortState). x.home) is;
+      log = log;
     }
+
+-- a clause that is held is found at its address
+some_there : (hs : List Holding) (h : Holding) → In h hs → IsSome (find (λ k. k.address == h.address) hs)
+some_there [] h m = absurd m
+some_there (k ∷ hs) h m = by (k.address == h.address) refl m (some_there hs h)
+  where
+    by : (b : Bool) → (k.address == h.address) ≡ b → In h (k ∷ hs) → (In h hs → IsSome (find (λ x. x.address == h.address) hs)) → IsSome (cond b (Some k) (find (λ x. x.address == h.address) hs))
+    by true e m rest = refl
+    by false e (inl is) rest = absurd (false≢true (sym e ∙ eq-eqb k.address h.address (ap (λ (x : Holding). x.address) is)))
+    by false e (inr m) rest = rest m
+
+found_one : (s : PortState) (h : Holding) → IsPort s → Contains s.held h → held_at s h.address ≡ Some h
+unfolding held_at
+found_one s h port there =
+    let t = found (λ k. k.address == h.address) s.held (some_there s.held h (Contains_In s.held h there)) in
+    t.is ∙ ap (λ (x : Holding). Some x) (port.one t.it h (In_Contains s.held t.it t.among) there (eqb-true t.it.address h.address t.passes))
+
+holds_found : (s : PortState) (a : ℕ) (h : Holding) → held_at s a ≡ Some h → Contains s.held h
+unfolding held_at
+holds_found s a h is = In_Contains s.held h (find_In (λ k. k.address == a) s.held h is)
+
+-- what is held then was held before
+lent_contains : (s u : PortState) → HoldsAlike s u → IsPort u → (h : Holding) → Contains u.held h → Contains s.held h
+lent_contains s u alike port h there = holds_found s h.address h (sym (alike h.address) ∙ found_one u h port there)
 
 pub lent_goes_on : (start s u : PortState) (n : ℕ) → GoesOn start s n → OnlyLent s u → KeepsLog s u → IsPort u → GoesOn start u n
 lent_goes_on start s u n p lent log port =
-    let w = lent_wrote s u lent log in
+    let stays = lent_stays s u lent log in
     let mine : u.mine ≡ s.mine = ap (λ (x : PortState). x.mine) lent.state in
     record {
-      runs = runs_same start s u n p.runs w.stays w.held mine (lines_moved s u s.mine w.stays (ap (λ (x : PortState). x.given) lent.state) mine p.runs.new_lines) port;
+      runs = runs_alike start s u n p.runs stays (λ a h. lent.same a) (λ h there. inl (lent_contains s u lent.same port h there)) mine
+          (lines_moved s u s.mine stays (ap (λ (x : PortState). x.given) lent.state) mine p.runs.new_lines) port;
       going = ap (λ (J : List Entry). list_any is_empty (added J)) mine ∙ p.going;
-      stop = w.stop ∙ p.stop;
-      refused = w.refused ∙ p.refused;
-      held = starts_kept s u w.stays.start (λ a h. held_same s u a w.held) p.held;
+      stop = ap (λ (x : PortState). x.stop) lent.state ∙ p.stop;
+      refused = ap (λ (x : PortState). x.refused) lent.state ∙ p.refused;
+      held = starts_kept s u stays.start (λ a h. lent.same a) p.held;
     }
 
 lent_searches : (s u : PortState) (t : TrailData) (w : WatchData) (n : ℕ) → Searches s t w n → OnlyLent s u → KeepsLog s u → IsPort u → Searches u t w n
 lent_searches s u t w n p lent log port =
-    let wrote = lent_wrote s u lent log in
-    wrote_search s u t w n n p wrote port (record {
-      vars = p.stands.vars ∙ sym wrote.stays.vars;
-      reasoned = reasoned_more s u t.steps wrote.held wrote.more p.stands.reasoned;
-      seen = λ l h. p.stands.seen l (ap (λ (x : PortState). has x.seen l) (sym lent.state) ∙ h);
-    }) (told_same s u t n (ap (λ (x : PortState). x.seen) lent.state) p.told)
+    let is = lent.state in
+    let stays = lent_stays s u lent log in
+    let more : (l : Literal) → has s.seen l ≡ true → has u.seen l ≡ true = λ l h. ap (λ (ls : List Literal). has ls l) (ap (λ (x : PortState). x.seen) is) ∙ h in
+    let own = remembered_same s u (attached w) (ap (λ (x : PortState). x.ring) is) (ap (λ (x : PortState). x.mine) is)
+    (λ c there. ap (λ (f : Lits). f c.address) (lits_alike s u lent.same)) more p.clauses.own in
+    record {
+      clauses = clauses_alike s u (attached w) p.clauses stays (ap (λ (x : PortState). x.taken) is) lent.same (ap (λ (x : PortState). x.stop) is) (ap (λ (x : PortState). x.refused) is) own port;
+      opening = λ l h. more l (p.opening l (ap (λ (ls : List Literal). has ls l) (sym stays.opening) ∙ h));
+      stands = record {
+        vars = p.stands.vars ∙ sym stays.vars;
+        reasoned = reasoned_alike s u t.steps lent.same more p.stands.reasoned;
+        seen = λ l h. p.stands.seen l (ap (λ (x : PortState). has x.seen l) (sym is) ∙ h);
+      };
+      trail = p.trail;
+      watched = subst (λ (f : Lits). Watched w f t) (sym (lits_alike s u lent.same)) p.watched;
+      closed = subst (λ (f : Lits). IsClosedBelow w f t) (sym (lits_alike s u lent.same)) p.closed;
+      reasons = Reasons-more (attached w) (attached w) s u t.steps (λ c there. (there, clause_alike s u lent.same c.address)) more p.reasons;
+      told = told_same s u t n (ap (λ (x : PortState). x.seen) is) p.told;
+    }
 
 pub lent_search : (s u : PortState) (ring : Ring) → InSearch s ring → OnlyLent s u → KeepsLog s u → IsPort u → InSearch u ring
 lent_search s u ring p lent log port = lent_searches s u ring.trail ring.watches ring.written p lent log port
 
 -- a conflict was left in the one state as in the other, since the same clauses are held
-pub left_before : (s u : PortState) (old new : Ring) (lits : List Literal) (back : ℕ) (address : Option Cref) → u.held ≡ s.held → HasLeft u old new lits back address → HasLeft s old new lits back address
+pub left_before : (s u : PortState) (old new : Ring) (lits : List Literal) (back : ℕ) (address : Option Cref) → HoldsAlike s u → HasLeft u old new lits back address → HasLeft s old new lits back address
 left_before s u old new lits back address held (inl at) = inl (record {
   middle = at.middle;
   went = at.went;
@@ -88,7 +122,7 @@ left_before s u old new lits back address held (inl at) = inl (record {
   clauses = at.clauses;
   listed = at.listed;
   written = at.written;
-  watched = subst (λ (f : Lits). (t : TrailData) → Watched old.watches f t → Watched new.watches f t) (lits_same s u held) at.watched;
+  watched = subst (λ (f : Lits). (t : TrailData) → Watched old.watches f t → Watched new.watches f t) (lits_alike s u held) at.watched;
 })
 left_before s u old new lits back address held (inr at) = inr (
   at.0,
@@ -97,12 +131,12 @@ left_before s u old new lits back address held (inr at) = inr (
     clauses = at.1.clauses;
     listed = at.1.listed;
     written = at.1.written;
-    watched = subst (λ (f : Lits). (t : TrailData) → Watched old.watches f t → Watched new.watches f t) (lits_same s u held) at.1.watched;
+    watched = subst (λ (f : Lits). (t : TrailData) → Watched old.watches f t → Watched new.watches f t) (lits_alike s u held) at.1.watched;
   },
 )
 
-pub lent_glue : (s u v : PortState) (steps : List Step) → HoldsByGlue s u steps → v.held ≡ u.held → HoldsByGlue s v steps
-lent_glue s u v steps p held h there = p h (subst (λ (hs : List Holding). Contains hs h) held there)
+pub lent_glue : (s u v w : PortState) (steps : List Step) → HoldsByGlue s u steps → OnlyLent u v → IsPort v → w.held ≡ v.held → HoldsByGlue s w steps
+lent_glue s u v w steps p lent port held h there = p h (lent_contains u v lent.same port h (subst (λ (hs : List Holding). Contains hs h) held there))
 
 -- what is counted stays true where nothing is learned or offered
 pub offering_kept : (s u : PortState) (old new : Ring) → u.shared ≡ s.shared → u.ring ≡ s.ring → u.rings ≡ s.rings → learned u.ring u.mine ≡ learned s.ring s.mine → new.exported ≡ old.exported → new.offered ≡ old.offered → new.learned ≡ old.learned
@@ -141,5 +175,5 @@ saw_nothing s u p = nothing_same s u p.shared p.polled p.stays.ring p.stays.ring
 pub lent_held : (s u v : PortState) (lits : List Literal) (glue : ℕ) (address : Option Cref) → Learned s u lits glue (Ok address) → OnlyLent u v → IfSome address (λ c. IsSome (held_at v c.address))
 lent_held s u v lits glue (Some c) w lent =
     let held : IsSome (held_at u c.address) = subst (λ (o : Option Holding). IsSome o) (sym w.there) refl in
-    subst (λ (o : Option Holding). IsSome o) (sym (held_same u v c.address (ap (λ (x : PortState). x.held) lent.state))) held
+    subst (λ (o : Option Holding). IsSome o) (sym (lent.same c.address)) held
 lent_held s u v lits glue None w lent = tt

@@ -1,5 +1,6 @@
 pub mod LevelZero
 pub mod Remembering
+pub mod Numbering
 pub mod Standing
 pub mod Progress
 pub mod News

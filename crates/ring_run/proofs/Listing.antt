@@ -1,7 +1,7 @@
 -- The lemmas that a ring lists.
-use Rattle.std.proofs.Common.{◌≡◌, ◌≢◌, ◌∙◌, ℕ, ◌+◌, List, [], ◌∷◌, ◌++◌, length, sym, subst, ap, arith, inl, inr, refl, Contains, IsSome, Some, None, Ok, append-nil}
+use Rattle.std.proofs.Common.{◌≡◌, ◌≢◌, ◌∙◌, ℕ, ◌+◌, List, [], ◌∷◌, ◌++◌, length, sym, subst, ap, arith, inl, inr, refl, Contains, IsSome, Some, None, Ok, append-nil, ◌≤◌}
 use Rattle.std.specs.Prelude.{All}
-use Rattle.std.specs.Option.{option_to_list}
+use Rattle.std.specs.Option.{option_to_list, option_map_or}
 use Rattle.std.specs.declared.option.Option.{Option}
 use Rattle.sat_words.specs.Literal.{Literal}
 use Rattle.sat_words.specs.declared.shared.Cref.{Cref}
@@ -9,27 +9,35 @@ use Rattle.rup_model.specs.declared.journal.Kind.TheVariants.{Learn}
 use Rattle.rup_model.specs.Journal.{recent}
 use Rattle.rup_model.proofs.Lists.{In, Contains_In, In_Contains, In_append, In_append_left, In_append_right}
 use Rattle.ring_port.specs.PortState.{PortState, Holding, held_at}
-use Rattle.ring_port.specs.Port.{AddedClause, Learned}
+use Rattle.ring_port.specs.Port.{AddedClause, Learned, KeepsHeld, holding_of}
 use Rattle.ring_port.proofs.Holdings.{All_In}
 use Rattle.ring_port.proofs.LogSteps.{In_All}
 use Rattle.watch_prop.specs.WatchData.{attached}
 use Rattle.reduce_db.specs.Lemmas.{AreDistinct}
 use Rattle.reduce_db.proofs.Changes.{distinct_push}
-use Rattle.ring_run.specs.Searching.{AreMoreClauses, HasClauses, IsHeldBy}
-use Rattle.ring_run.specs.Course.{HasLemmas, HasLeft, Lists}
+use Rattle.ring_run.specs.Searching.{AreMoreClauses, HasClauses, IsHeldBy, HasGrownLog}
+use Rattle.ring_run.specs.Course.{HasLemmas, HasLeft, Lists, AreOrdered, numbers, number_at}
 use Rattle.ring_run.specs.declared.ring.Ring.{Ring}
 use Rattle.ring_run.proofs.Progress.{recent_lemma}
+use Rattle.ring_run.specs.Ended.{reductions}
+use Rattle.ring_run.proofs.Numbering.{KeepsListed, ordered_kept, ordered_joined, numbers_added, glue_kept, grown_then, reductions_other}
+use Rattle.rup_model.specs.declared.journal.Addition.{Addition}
+use Rattle.rup_model.specs.declared.journal.Entry.TheVariants.{Add}
+use Rattle.vivify.specs.Outcome.{glue_at}
 
 -- no lemma more or less, and none detached
 pub listed_same : (s u : PortState) (old new : Ring) → u.start ≡ s.start → recent u.ring u.mine ≡ recent s.ring s.mine → new.lemmas.items ≡ old.lemmas.items → AreMoreClauses (attached old.watches) (attached new.watches)
-    → new.learned ≡ old.learned → new.reductions ≡ old.reductions → new.reduced_at ≡ old.reduced_at → HasLemmas s old → HasLemmas u new
-listed_same s u old new start lately items more learned reductions at p = record {
+    → new.learned ≡ old.learned → new.reductions ≡ old.reductions → new.reduced_at ≡ old.reduced_at → KeepsListed s u old.lemmas.items → HasLemmas s old → HasLemmas u new
+listed_same s u old new start lately items more learned reductions_same at k p = record {
+  ordered = subst (AreOrdered u) (sym items) (ordered_kept s u old.lemmas.items (λ c m. k.held c (In_Contains old.lemmas.items c m)) k.grown p.ordered);
+  glued = λ c m. (let there = subst (λ (cs : List Cref). Contains cs c) items m in glue_kept (held_at u c.address) (held_at s c.address) (k.held c there) (p.glued c there));
+  noted = reductions_same ∙ p.noted ∙ sym k.noted;
   distinct = subst AreDistinct (sym items) p.distinct;
   member = subst (All (Contains (attached new.watches))) (sym items)
       (In_All (Contains (attached new.watches)) old.lemmas.items (λ c m. more c (All_In (Contains (attached old.watches)) old.lemmas.items c p.member m)));
   apart = λ h c there member. p.apart h c (subst (λ (hs : List Holding). Contains hs h) start there) (subst (λ (cs : List Cref). Contains cs c) items member);
   count = (let many = ap (λ (cs : List (List Literal)). length cs) lately in omega (arith, p.count, learned, at, many));
-  few = omega (arith, p.few, reductions, at);
+  few = omega (arith, p.few, reductions_same, at);
 }
 
 none_held : (o : Option Holding) → IsSome o → o ≡ None → ⊥
@@ -66,11 +74,26 @@ module _ (s u : PortState) (cs lemmas : List Cref) (lits : List Literal) (glue :
 
 -- a lemma was learned, and listed where it has an address
 pub listed_learned : (s u w : PortState) (old new : Ring) (lits : List Literal) (glue : ℕ) (address : Option Cref) → HasClauses s (attached old.watches) → Learned s u lits glue (Ok address)
-    → w.start ≡ u.start → recent w.ring w.mine ≡ recent u.ring u.mine → Lists old new address → attached new.watches ≡ attached old.watches ++ option_to_list address → new.learned ≡ old.learned + 1 → HasLemmas s old → HasLemmas w new
-listed_learned s u w old new lits glue (Some c) clauses k start lately lists now count p =
+    → w.start ≡ u.start → recent w.ring w.mine ≡ recent u.ring u.mine → Lists old new address → attached new.watches ≡ attached old.watches ++ option_to_list address → new.learned ≡ old.learned + 1
+    → KeepsHeld s u → ((a : ℕ) → held_at w a ≡ held_at u a) → HasGrownLog u w → reductions w.ring w.mine ≡ reductions u.ring u.mine → (2 ≤ length lits → 1 ≤ glue) → HasLemmas s old → HasLemmas w new
+listed_learned s u w old new lits glue (Some c) clauses k start lately lists now count kept alike grown noted bound p =
     let items : new.lemmas.items ≡ old.lemmas.items ++ c ∷ [] = lists.lemmas in
     let cs = attached old.watches in
+    let x : Addition = record { ring = s.ring; number = k.number; lits = lits; kind = Learn } in
+    let ring_u : u.ring ≡ s.ring = ap (λ (y : PortState). y.ring) k.state in
+    let mine_u : u.mine ≡ s.mine ++ Add x ∷ [] = ap (λ (y : PortState). y.mine) k.state in
+    let stay : (d : Cref) → In d old.lemmas.items → held_at u d.address ≡ held_at s d.address = λ d m. kept d.address (held_before s u cs old.lemmas.items lits glue c clauses k p.member d m) in
+    let own : number_at u c.address ≡ k.number = ap (λ (o : Option Holding). option_map_or (λ (h : Holding). h.number) o 0) k.there in
+    let joined : AreOrdered u (old.lemmas.items ++ c ∷ []) = ordered_joined s u old.lemmas.items c stay (numbers_added s u x mine_u ∙ ap (λ (n : ℕ). numbers s ++ n ∷ []) (sym own)) p.ordered in
     record {
+      ordered = subst (AreOrdered w) (sym items) (ordered_kept u w (old.lemmas.items ++ c ∷ []) (λ d m. alike d.address) grown joined);
+      glued = λ d m. glue_kept (held_at w d.address) (held_at u d.address) (alike d.address)
+          (elim (In_append old.lemmas.items (c ∷ []) d (Contains_In (old.lemmas.items ++ c ∷ []) d (subst (λ (ds : List Cref). Contains ds d) items m))) as (λ _. 1 ≤ glue_at u d.address) [
+            | inl old_one ↦ glue_kept (held_at u d.address) (held_at s d.address) (stay d old_one) (p.glued d (In_Contains old.lemmas.items d old_one))
+            | inr (inl is) ↦ subst (λ (e : Cref). 1 ≤ glue_at u e.address) is (glue_kept (held_at u c.address) (Some (holding_of c k.number glue lits)) k.there (bound k.long))
+            | inr (inr none) ↦ absurd none
+          ]);
+      noted = lists.reductions ∙ p.noted ∙ sym (noted ∙ reductions_other s u x ring_u mine_u);
       distinct = subst AreDistinct (sym items) (joined_distinct s u cs old.lemmas.items lits glue c clauses k p.member p.distinct);
       member = subst (λ (ds : List Cref). All (Contains ds) new.lemmas.items) (sym now)
           (subst (All (Contains (cs ++ c ∷ []))) (sym items) (joined_member s u cs old.lemmas.items lits glue c clauses k p.member));
@@ -81,10 +104,18 @@ listed_learned s u w old new lits glue (Some c) clauses k start lately lists now
           omega (arith, p.count, count, lists.reduced_at, many, more));
       few = omega (arith, p.few, lists.reductions, lists.reduced_at);
     }
-listed_learned s u w old new lits glue None clauses k start lately lists now count p =
+listed_learned s u w old new lits glue None clauses k start lately lists now count kept alike grown noted bound p =
     let items : new.lemmas.items ≡ old.lemmas.items = lists.lemmas ∙ append-nil old.lemmas.items in
     let same : attached new.watches ≡ attached old.watches = now ∙ append-nil (attached old.watches) in
+    let x : Addition = record { ring = s.ring; number = k.wrote.number; lits = k.lit ∷ []; kind = Learn } in
+    let ring_u : u.ring ≡ s.ring = ap (λ (y : PortState). y.ring) k.wrote.state in
+    let mine_u : u.mine ≡ s.mine ++ Add x ∷ [] = ap (λ (y : PortState). y.mine) k.wrote.state in
+    let stay : (d : Cref) → In d old.lemmas.items → held_at w d.address ≡ held_at s d.address
+    = λ d m. alike d.address ∙ kept d.address (All_In (IsHeldBy s) (attached old.watches) d clauses.held (Contains_In (attached old.watches) d (All_In (Contains (attached old.watches)) old.lemmas.items d p.member m))) in
     record {
+      ordered = subst (AreOrdered w) (sym items) (ordered_kept s w old.lemmas.items stay (grown_then s u w (Add x ∷ [], mine_u) grown) p.ordered);
+      glued = λ d m. (let there = subst (λ (ds : List Cref). Contains ds d) items m in glue_kept (held_at w d.address) (held_at s d.address) (stay d (Contains_In old.lemmas.items d there)) (p.glued d there));
+      noted = lists.reductions ∙ p.noted ∙ sym (noted ∙ reductions_other s u x ring_u mine_u);
       distinct = subst AreDistinct (sym items) p.distinct;
       member = subst (λ (ds : List Cref). All (Contains ds) new.lemmas.items) (sym same) (subst (All (Contains (attached old.watches))) (sym items) p.member);
       apart = λ h d there m. p.apart h d (subst (λ (hs : List Holding). Contains hs h) (start ∙ ap (λ (x : PortState). x.start) k.wrote.state) there) (subst (λ (ds : List Cref). Contains ds d) items m);

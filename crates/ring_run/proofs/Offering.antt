@@ -17,7 +17,7 @@ use Rattle.rup_model.specs.declared.journal.Entry.TheVariants.{Add}
 use Rattle.rup_model.specs.declared.journal.Addition.{Addition}
 use Rattle.rup_model.specs.Journal.{learned, is_learn}
 use Rattle.rup_model.proofs.Additions.{learned-append}
-use Rattle.ring_port.specs.PortState.{PortState, Holding, Offer}
+use Rattle.ring_port.specs.PortState.{PortState, Holding, Offer, held_at}
 use Rattle.ring_port.specs.Port.{Learned, LearnedClause, UnitWritten, EmptyWritten, Refused, Looked, SetStop, entry_of}
 use Rattle.ring_port.specs.Exchange.{Offered, class_of, class_at, other_rings}
 use Rattle.ring_port.specs.declared.stops.PortStop.{PortStop}
@@ -225,17 +225,24 @@ offers_learned s u v e o more told glue lits (Some c) h w bounds lent =
         subst (λ (x : PortState). HasOffered x more told) (sym q.0) (subst (λ (n : ℕ). HasOffered u n told) (sym q.1) (subst (HasOffered u e) (sym q.2) here))
     by (Some class) is q = offers_one s u v e o more told glue lits h w.number class c.address shared_u ring_u rings_u mine_u w.long q.0 q.1 q.2
 
--- what an offer leaves as it was
+-- what an offer leaves as it was: each clause is held where it was
 pub record OnlyLent (old new : PortState) : Type 0 where
-  pub state : new ≡ record old { shared = new.shared; puts = new.puts; waiting = new.waiting; last = new.last }
+  pub state : new ≡ record old { held = new.held; shared = new.shared; puts = new.puts; waiting = new.waiting; last = new.last }
+  pub same : (a : ℕ) → held_at new a ≡ held_at old a
 
-lent_eta : (u : PortState) (shared : ℕ) (puts : List Offer) (waiting : List Holding) (last : Option ℕ) → OnlyLent u (record u { shared = shared; puts = puts; waiting = waiting; last = last })
-lent_eta u shared puts waiting last = record { state = refl }
+lent_eta : (u : PortState) (held : List Holding) (shared : ℕ) (puts : List Offer) (waiting : List Holding) (last : Option ℕ)
+    → ((a : ℕ) → held_at (record u { held = held; shared = shared; puts = puts; waiting = waiting; last = last }) a ≡ held_at u a)
+    → OnlyLent u (record u { held = held; shared = shared; puts = puts; waiting = waiting; last = last })
+lent_eta u held shared puts waiting last same = record { state = refl; same = same }
+
+lent_none : (u v : PortState) → v ≡ u → OnlyLent u v
+lent_none u v is = subst (OnlyLent u) (sym is) (record { state = refl; same = λ a. refl })
 
 lent_by : (u v : PortState) (k : Option ℕ) (a e o more told : ℕ) → HasLentBy u v k a e o more told → OnlyLent u v
-lent_by u v None a e o more told lent = subst (OnlyLent u) (sym lent.0) (record { state = refl })
-lent_by u v (Some class) a e o more told lent = subst (OnlyLent u) (sym lent.0.state) (lent_eta u _ _ _ None)
+lent_by u v None a e o more told lent = lent_none u v lent.0
+lent_by u v (Some class) a e o more told lent =
+    subst (OnlyLent u) (sym lent.0.state) (lent_eta u v.held _ _ _ None (subst (λ (x : PortState). (b : ℕ) → held_at x b ≡ held_at u b) lent.0.state lent.0.same))
 
 pub only_lent : (u v : PortState) (address : Option Cref) (e o more told : ℕ) → HasLent u v address e o more told → OnlyLent u v
-only_lent u v None e o more told lent = subst (OnlyLent u) (sym lent.0) (record { state = refl })
+only_lent u v None e o more told lent = lent_none u v lent.0
 only_lent u v (Some c) e o more told lent = lent_by u v (class_at u c.address) c.address e o more told lent

@@ -17,7 +17,7 @@ use Rattle.rup_model.specs.declared.journal.Entry.TheVariants.{Add}
 use Rattle.rup_model.specs.declared.journal.Addition.{Addition}
 use Rattle.drat_text.specs.LineState.{LineState}
 use Rattle.rup_model.specs.Basics.{EachAfter}
-use Rattle.rup_model.specs.Journal.{added, learned, recent, recent_after, is_learn, IsSpaced}
+use Rattle.rup_model.specs.Journal.{added, learned, recent, recent_after, is_learn}
 use Rattle.rup_model.specs.Opening.{Opening, IsNew, adds_unit}
 use Rattle.rup_model.proofs.Lists.{In_append, Contains_In, In_Contains, has_In}
 use Rattle.std.specs.Set.{distinct_count, unique_keys, is_member}
@@ -32,11 +32,12 @@ use Rattle.ring_port.specs.Port.{holding_of, Learned, WroteUnit, UnitWritten, Le
 use Rattle.ring_port.specs.Log.{KeepsLog, start_of}
 use Rattle.ring_port.specs.declared.stops.PortStop.{PortStop}
 use Rattle.ring_port.specs.declared.stops.PortStop.TheVariants.{Ended, Broken, ProofFault, NoHole, Memory}
-use Rattle.ring_run.specs.Ended.{Stays, IsOwn, AreNew, IsUntold, IsNewLine, AreNewLines, IsGlued, HoldsGlued, Cause, stop_kind, opening_of}
+use Rattle.ring_run.specs.Ended.{IsTimely, Stays, IsOwn, AreNew, IsUntold, IsNewLine, AreNewLines, IsGlued, HoldsGlued, Cause, stop_kind, opening_of}
 use Rattle.ring_run.specs.Searching.{Runs, GoesOn, OnlyWrote, IsNewTo, UnitsSeen, IsGlueOf, HoldsByGlue}
 use Rattle.ring_run.specs.Ending.{CountsTo, IsUnset, ComesTo, EndsAt, end_refused}
 use Rattle.ring_run.specs.declared.job.End.{End}
 use Rattle.ring_run.specs.declared.job.End.TheVariants as ring_end
+use Rattle.ring_run.proofs.Numbering.{grown_none, grown_then, reductions_still, reductions_other}
 use Rattle.ring_run.proofs.Remembering.{held_same, lits_same, unit_remembered, remembered_same}
 
 pub stays_by : (s u w : PortState) → Stays s u → Stays u w → Stays s w
@@ -90,8 +91,8 @@ starts_kept s u same kept held = subst (All (λ h. held_at u h.address ≡ Some 
 
 -- a run goes on by an entry of its ring
 pub runs_entry : (start s u : PortState) (n m : ℕ) (e : Entry) → Runs start s n → Stays s u → HoldsStart u → u.mine ≡ s.mine ++ e ∷ [] → IsOwn start.ring start.vars e
-    → m ≡ n + length (learned s.ring (e ∷ [])) → IsNew (opening_of s) s.mine e → u.given ≡ s.given → IsNewLine s.opening s.given s.ring s.mine e → IsSpaced s.mine e → AddsGlued s u → IsPort u → Runs start u m
-runs_entry start s u n m e p stays held is own count fresh given line spaced glued port = record {
+    → m ≡ n + length (learned s.ring (e ∷ [])) → IsNew (opening_of s) s.mine e → u.given ≡ s.given → IsNewLine s.opening s.given s.ring s.mine e → IsTimely s.mine e → AddsGlued s u → IsPort u → Runs start u m
+runs_entry start s u n m e p stays held is own count fresh given line timely glued port = record {
   stays = stays_by start s u p.stays stays;
   held = held;
   wrote = subst (All (IsOwn start.ring start.vars)) (sym is)
@@ -104,30 +105,33 @@ runs_entry start s u n m e p stays held is own count fresh given line spaced glu
       omega (arith, count, p.counted, split, both, here, there));
   each_new = news_moved s u (s.mine ++ e ∷ []) stays is (each_last (IsNew (opening_of s)) [] s.mine e p.each_new fresh);
   new_lines = lines_moved s u (s.mine ++ e ∷ []) stays given is (each_last (IsNewLine s.opening s.given s.ring) [] s.mine e p.new_lines line);
-  spaced = subst (EachAfter IsSpaced []) (sym is) (each_last IsSpaced [] s.mine e p.spaced spaced);
+  timely = subst (EachAfter IsTimely []) (sym is) (each_last IsTimely [] s.mine e p.timely timely);
   glued = glued_by start s u p.glued stays.polled glued;
   port = port;
 }
 
 -- where what was held still is
 pub runs_adds : (start s u : PortState) (n m : ℕ) (e : Entry) → Runs start s n → Stays s u → KeepsHeld s u → u.mine ≡ s.mine ++ e ∷ [] → IsOwn start.ring start.vars e
-    → m ≡ n + length (learned s.ring (e ∷ [])) → IsNew (opening_of s) s.mine e → u.given ≡ s.given → IsNewLine s.opening s.given s.ring s.mine e → IsSpaced s.mine e → AddsGlued s u → IsPort u → Runs start u m
-runs_adds start s u n m e p stays kept is own count fresh given line spaced glued port =
-    runs_entry start s u n m e p stays (starts_kept s u stays.start kept p.held) is own count fresh given line spaced glued port
+    → m ≡ n + length (learned s.ring (e ∷ [])) → IsNew (opening_of s) s.mine e → u.given ≡ s.given → IsNewLine s.opening s.given s.ring s.mine e → IsTimely s.mine e → AddsGlued s u → IsPort u → Runs start u m
+runs_adds start s u n m e p stays kept is own count fresh given line timely glued port =
+    runs_entry start s u n m e p stays (starts_kept s u stays.start kept p.held) is own count fresh given line timely glued port
 
 -- and by a call that writes nothing
-pub runs_same : (start s u : PortState) (n : ℕ) → Runs start s n → Stays s u → u.held ≡ s.held → u.mine ≡ s.mine → AreNewLines u → IsPort u → Runs start u n
-runs_same start s u n p stays held is lines port = record {
+pub runs_alike : (start s u : PortState) (n : ℕ) → Runs start s n → Stays s u → KeepsHeld s u → AddsGlued s u → u.mine ≡ s.mine → AreNewLines u → IsPort u → Runs start u n
+runs_alike start s u n p stays kept adds is lines port = record {
   stays = stays_by start s u p.stays stays;
-  held = starts_kept s u stays.start (λ a h. held_same s u a held) p.held;
+  held = starts_kept s u stays.start kept p.held;
   wrote = subst (All (IsOwn start.ring start.vars)) (sym is) p.wrote;
   counted = p.counted ∙ ap (λ (J : List Entry). length (learned s.ring J)) (sym is) ∙ ap (λ (r : ℕ). length (learned r u.mine)) (sym stays.ring);
   each_new = news_moved s u s.mine stays is p.each_new;
   new_lines = lines;
-  spaced = subst (EachAfter IsSpaced []) (sym is) p.spaced;
-  glued = glued_by start s u p.glued stays.polled (glued_same s u held);
+  timely = subst (EachAfter IsTimely []) (sym is) p.timely;
+  glued = glued_by start s u p.glued stays.polled adds;
   port = port;
 }
+
+pub runs_same : (start s u : PortState) (n : ℕ) → Runs start s n → Stays s u → u.held ≡ s.held → u.mine ≡ s.mine → AreNewLines u → IsPort u → Runs start u n
+runs_same start s u n p stays held is lines port = runs_alike start s u n p stays (λ a h. held_same s u a held) (glued_same s u held) is lines port
 
 pub going_more : (s u : PortState) (e : Entry) → u.mine ≡ s.mine ++ e ∷ [] → list_any is_empty (added s.mine) ≡ false → list_any is_empty (added (e ∷ [])) ≡ false
     → list_any is_empty (added u.mine) ≡ false
@@ -445,7 +449,7 @@ empty_refutes start s u n limit below p w log port =
       runs = runs_adds start s u n n e p.runs stays (λ a h. held_same s u a (ap (λ (x : PortState). x.held) w.state)) (ap (λ (x : PortState). x.mine) w.state)
           (p.runs.stays.ring, All-nil (IsOn start.vars), inl refl)
           (omega (arith, not_learned s.ring (record { ring = s.ring; number = w.number; lits = []; kind = Derive }) refl)) (λ learns. absurd (false≢true learns))
-          (ap (λ (x : PortState). x.given) w.state) (λ is_line. absurd (false≢true is_line)) tt (glued_same s u (ap (λ (x : PortState). x.held) w.state)) port;
+          (ap (λ (x : PortState). x.given) w.state) (λ is_line. absurd (false≢true is_line)) (λ two. absurd (omega (arith, two))) (glued_same s u (ap (λ (x : PortState). x.held) w.state)) port;
       cause = (ap (λ (x : PortState). x.ended) w.state, usable_none u (ap (λ (x : PortState). x.refused) w.state ∙ p.refused));
       unset = ap (λ (x : PortState). x.stop) w.state ∙ p.stop;
       counts = below;
@@ -485,6 +489,8 @@ recent_lemma s u number lits ring mine =
 pub wrote_none : (s : PortState) → OnlyWrote s s
 wrote_none s = record {
   recent = refl;
+  reduced = refl;
+  grown = grown_none s s refl;
   stays = record { start = refl; opening = refl; vars = refl; ring = refl; rings = refl; polled = omega arith; home = refl; log = λ o h. h };
   taken = refl;
   held = refl;
@@ -497,6 +503,8 @@ wrote_none s = record {
 pub wrote_by : (s u w : PortState) → OnlyWrote s u → OnlyWrote u w → OnlyWrote s w
 wrote_by s u w p q = record {
   recent = q.recent ∙ p.recent;
+  reduced = q.reduced ∙ p.reduced;
+  grown = grown_then s u w p.grown q.grown;
   stays = stays_by s u w p.stays q.stays;
   taken = q.taken ∙ p.taken;
   held = q.held ∙ p.held;
@@ -509,6 +517,8 @@ wrote_by s u w p q = record {
 pub wrote_unit : (s u : PortState) (l : Literal) → WroteUnit s u l UnitLine s.last → KeepsLog s u → OnlyWrote s u
 wrote_unit s u l w log = record {
   recent = recent_other s u w.number (l ∷ []) UnitLine refl (ap (λ (x : PortState). x.ring) w.state) (ap (λ (x : PortState). x.mine) w.state);
+  reduced = reductions_other s u (record { ring = s.ring; number = w.number; lits = l ∷ []; kind = UnitLine }) (ap (λ (x : PortState). x.ring) w.state) (ap (λ (x : PortState). x.mine) w.state);
+  grown = (entry_of s w.number (l ∷ []) UnitLine ∷ [], ap (λ (x : PortState). x.mine) w.state);
   stays = stays_unit s u l UnitLine s.last w log;
   taken = ap (λ (x : PortState). x.taken) w.state;
   held = ap (λ (x : PortState). x.held) w.state;
@@ -522,6 +532,8 @@ wrote_unit s u l w log = record {
 pub looked_wrote : (s u : PortState) (k : ℕ) → u ≡ record s { looks = k } → KeepsLog s u → OnlyWrote s u
 looked_wrote s u k is log = record {
   recent = recent_still s u (ap (λ (x : PortState). x.ring) is) (ap (λ (x : PortState). x.mine) is);
+  reduced = reductions_still s u (ap (λ (x : PortState). x.ring) is) (ap (λ (x : PortState). x.mine) is);
+  grown = grown_none s u (ap (λ (x : PortState). x.mine) is);
   stays = record {
     start = ap (λ (x : PortState). x.start) is;
     opening = ap (λ (x : PortState). x.opening) is;

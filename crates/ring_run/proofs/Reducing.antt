@@ -13,7 +13,7 @@ use Rattle.rup_model.specs.Basics.{EachAfter}
 use Rattle.rup_model.specs.declared.journal.Addition.{Addition}
 use Rattle.rup_model.specs.declared.journal.Entry.{Entry}
 use Rattle.rup_model.specs.declared.journal.Entry.TheVariants.{Reduce}
-use Rattle.rup_model.specs.Journal.{additions, added, learned, recent, recent_after, is_learn, IsSpaced}
+use Rattle.rup_model.specs.Journal.{additions, added, learned, recent, recent_after, is_learn}
 use Rattle.rup_model.specs.Opening.{adds_unit}
 use Rattle.rup_model.proofs.Additions.{additions-append}
 use Rattle.rup_model.proofs.Lists.{In, Contains_In, In_Contains, any_In}
@@ -37,16 +37,17 @@ use Rattle.reduce_db.specs.Moment.{lemmas_before}
 use Rattle.reduce_db.specs.Reduction.{WasReduced, WasCutShort}
 use Rattle.reduce_db.proofs.Choosing.{passes_filter}
 use Rattle.reduce_db.proofs.Drops.{stays_attached}
-use Rattle.ring_run.specs.Ended.{Stays, IsOwn}
+use Rattle.ring_run.specs.Ended.{IsTimely, Stays, IsOwn, reductions}
 use Rattle.ring_run.specs.Searching.{IsHeldBy, HasClauses, GoesOn, OffersNothing, OnlyWrote}
 use Rattle.ring_run.specs.Ending.{ComesTo, end_refused}
-use Rattle.ring_run.specs.Course.{HasLemmas, MayImport}
+use Rattle.ring_run.specs.Course.{HasLemmas, MayImport, AreOrdered}
 use Rattle.ring_run.specs.declared.ring.Ring.{Ring}
 use Rattle.ring_run.proofs.Remembering.{held_same, lits_same, clause_at_same}
 use Rattle.ring_run.proofs.Standing.{reasoned_more}
 use Rattle.ring_run.proofs.Progress.{runs_adds, going_more, stays_by, starts_kept, news_moved, lines_moved, glued_by, glued_same, out_of_memory}
 use Rattle.ring_run.proofs.Telling.{told_same}
 use Rattle.ring_run.proofs.Turning.{held_by_same, clauses_same}
+use Rattle.ring_run.proofs.Numbering.{ordered_kept, ordered_filter, glue_kept, grown_none, reductions_reduced}
 
 -- The Reduce entry
 
@@ -92,7 +93,7 @@ module _ (s u : PortState) (w : NotedReduce s u) where
     log = log;
   }
 
-  pub noted_goes_on : (start : PortState) (n : ℕ) → GoesOn start s n → MayReduce s → KeepsLog s u → IsPort u → GoesOn start u n
+  pub noted_goes_on : (start : PortState) (n : ℕ) → GoesOn start s n → IsTimely s.mine (Reduce s.ring) → KeepsLog s u → IsPort u → GoesOn start u n
   noted_goes_on start n p may log port =
       let stays = noted_stays log in
       let none : length (learned s.ring (Reduce s.ring ∷ [])) ≡ 0 = refl in
@@ -223,7 +224,7 @@ module _ (s u : PortState) (dropped lemmas : List Cref) (gone : DroppedAll s u d
           counted = p.runs.counted ∙ ap (λ (J : List Entry). length (learned s.ring J)) (sym mine) ∙ ap (λ (r : ℕ). length (learned r u.mine)) (sym stays.ring);
           each_new = news_moved s u s.mine stays mine p.runs.each_new;
           new_lines = lines_moved s u s.mine stays (ap (λ (x : PortState). x.given) gone.state) mine p.runs.new_lines;
-          spaced = subst (EachAfter IsSpaced []) (sym mine) p.runs.spaced;
+          timely = subst (EachAfter IsTimely []) (sym mine) p.runs.timely;
           glued = glued_by start s u p.runs.glued stays.polled (λ h there. inl (In_Contains s.held h (held_less s u dropped gone.each h (Contains_In u.held h there))));
           port = port;
         };
@@ -291,6 +292,10 @@ dropped_nothing s u dropped gone = record {
 pub may_reduce : (s : PortState) (ring : Ring) → HasLemmas s ring → lemmas_before (ring.reductions + 1) ≤ ring.learned - ring.reduced_at → MayReduce s
 may_reduce s ring p due = omega (arith, p.count, due)
 
+-- and as its reduction comes after
+pub timely_reduce : (s : PortState) (ring : Ring) → HasLemmas s ring → lemmas_before (ring.reductions + 1) ≤ ring.learned - ring.reduced_at → IsTimely s.mine (Reduce s.ring)
+timely_reduce s ring p due = omega (arith, p.count, p.noted, due)
+
 -- What a call that reduces leaves, behind the Reduce entry
 
 kept_among : (s : PortState) (steps : List Step) (lemmas kept dropped : List Cref) → IsChoice s steps lemmas kept dropped → (c : Cref) → Contains kept c → Contains lemmas c
@@ -325,14 +330,34 @@ module _ (s m u : PortState) (ring : Ring) (noted : NotedReduce s m) (listed : H
     -- the lemmas that are left are listed
     pub reduced_lemmas : (new : Ring) → lemmas_before (ring.reductions + 1) ≤ ring.learned - ring.reduced_at → AreLemmas u (attached w) left → new.lemmas.items ≡ left → attached new.watches ≡ attached w
         → new.learned ≡ ring.learned → new.reductions ≡ ring.reductions + 1 → new.reduced_at ≡ ring.learned → HasLemmas u new
-    reduced_lemmas new due are items now learned_is reductions at = record {
+    reduced_lemmas new due are items now learned_is reductions_is at = record {
+      ordered = subst (AreOrdered u) (sym items) ordered_left;
+      glued = λ c inside. (
+          let there : Contains left c = subst (λ (cs : List Cref). Contains cs c) items inside in
+          let member = All_In (Contains (attached w)) left c are.member (Contains_In left c there) in
+          glue_kept (held_at u c.address) (held_at s c.address) (held_left c member) (listed.glued c (kept_among m steps lemmas left done.dropped done.choice c there)));
+      noted = (let one = reductions_reduced s.ring s.mine in
+          let is = ap (λ (x : PortState). reductions x.ring x.mine) done.port.state ∙ ap (λ (x : PortState). reductions x.ring x.mine) noted.state in
+          omega (arith, one, is, reductions_is, listed.noted));
       distinct = subst AreDistinct (sym items) are.distinct;
       member = subst (All (Contains (attached new.watches))) (sym items) (subst (λ (cs : List Cref). All (Contains cs) left) (sym now) are.member);
       apart = λ h c there member. apart_then h c (subst (λ (hs : List Holding). Contains hs h) (ap (λ (x : PortState). x.start) done.port.state) there)
           (kept_among m steps lemmas left done.dropped done.choice c (subst (λ (cs : List Cref). Contains cs c) items member));
       count = (let none = ap (λ (cs : List (List Literal)). length cs) lately in omega (arith, learned_is, at, none));
-      few = omega (arith, listed.few, due, reductions, at);
+      few = omega (arith, listed.few, due, reductions_is, at);
     }
+      where
+        held_left : (c : Cref) → Contains (attached w) c → held_at u c.address ≡ held_at s c.address
+        held_left c member =
+            left_held m u done.dropped lemmas done.port among apart_then (attached v) c (subst (λ (cs : List Cref). Contains cs c) done.attached_now member)
+            ∙ held_same s m c.address (ap (λ (x : PortState). x.held) noted.state)
+
+        ordered_left : AreOrdered u left
+        ordered_left =
+            ordered_kept m u left (λ c there. left_held m u done.dropped lemmas done.port among apart_then (attached v) c
+            (subst (λ (cs : List Cref). Contains cs c) done.attached_now (All_In (Contains (attached w)) left c are.member there))) (grown_none m u (ap (λ (x : PortState). x.mine) done.port.state))
+            (subst (AreOrdered m) (sym done.choice.kept_is) (ordered_filter m (λ x. not (done.choice.drops x)) lemmas
+            (ordered_kept s m lemmas (λ c there. held_same s m c.address (ap (λ (x : PortState). x.held) noted.state)) (Reduce s.ring ∷ [], ap (λ (x : PortState). x.mine) noted.state) listed.ordered)))
 
   pub reduced_import : (t : TrailData) (v w : WatchData) (n : ℕ) (left : List Cref) → WasReduced m u v w t.steps lemmas left → MayImport m t v n → StaysReady m u v w t → IsPort u → MayImport u t w n
   reduced_import t v w n left done p ready port =

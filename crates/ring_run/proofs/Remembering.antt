@@ -37,8 +37,18 @@ pub lits_same : (s u : PortState) → u.held ≡ s.held → lits_at u ≡ lits_a
 unfolding held_at
 lits_same s u e = ap (λ (hs : List Holding). lits_at (record s { held = hs })) e
 
+-- each clause is held where it was
+abbrev pub HoldsAlike : PortState → PortState → Type 0
+HoldsAlike s u = (a : ℕ) → held_at u a ≡ held_at s a
+
+pub lits_alike : (s u : PortState) → HoldsAlike s u → lits_at u ≡ lits_at s
+lits_alike s u e = λ i a. lits_in (e a i)
+
+pub clause_alike : (s u : PortState) → HoldsAlike s u → (a : ℕ) → clause_at u a ≡ clause_at s a
+clause_alike s u e a = ap (option_map (λ (h : Holding). h.lits)) (e a)
+
 pub clause_at_same : (s u : PortState) → u.held ≡ s.held → (a : ℕ) → clause_at u a ≡ clause_at s a
-clause_at_same s u e a = ap (option_map (λ (h : Holding). h.lits)) (held_same s u a e)
+clause_at_same s u e a = clause_alike s u (λ b. held_same s u b e) a
 
 -- of each clause attached
 abbrev pub LitsStay : PortState → PortState → List Cref → Type 0

@@ -1,50 +1,46 @@
 -- What vivification of a clause leaves of a search at level 0.
-use Rattle.std.proofs.Common.{◌≡◌, ◌≢◌, ◌∙◌, ℕ, ◌+◌, ◌<◌, ◌≤◌, Bool, true, false, not, List, [], ◌∷◌, ◌++◌, length, map, sym, subst, ap, arith, inl, inr, ◌⊎◌, refl, Contains, IsSome, Some, None, append-nil}
-use Rattle.std.specs.Prelude.{All, IfSome, ◌==◌}
+use Rattle.std.proofs.Common.{◌≡◌, ◌≢◌, ◌∙◌, ℕ, ◌≤◌, Bool, true, false, not, List, [], ◌∷◌, ◌++◌, length, sym, subst, ap, arith, inl, inr, ◌⊎◌, refl, Contains, IsSome, Some, None}
+use Rattle.std.specs.Prelude.{All, IfSome}
 use Rattle.std.specs.Option.{option_to_list}
 use Rattle.std.specs.declared.option.Option.{Option}
-use Rattle.std.proofs.lemmas.Bool.{or_left, false≢true, cases_Bool}
-use Rattle.std.proofs.lemmas.Bool.Decides.{nat_tests}
+use Rattle.std.proofs.lemmas.Bool.{false≢true, cases_Bool}
 use Rattle.sat_words.specs.Literal.{Literal, opposite, same}
 use Rattle.sat_words.specs.Clause.{has, distinct_lits}
 use Rattle.sat_words.specs.declared.shared.Cref.{Cref}
 use Rattle.rup_model.specs.declared.journal.Addition.{Addition}
-use Rattle.rup_model.specs.declared.journal.Kind.{Kind}
-use Rattle.rup_model.specs.declared.journal.Kind.TheVariants.{Derive, UnitLine}
+use Rattle.rup_model.specs.declared.journal.Kind.TheVariants.{Derive}
 use Rattle.rup_model.specs.declared.journal.Entry.{Entry}
 use Rattle.rup_model.specs.declared.journal.Entry.TheVariants.{Add}
 use Rattle.rup_model.specs.Journal.{recent}
 use Rattle.rup_model.specs.Opening.{adds_unit}
 use Rattle.rup_model.specs.Rup.{rup}
-use Rattle.rup_model.proofs.Lists.{In, Contains_In, In_Contains, In_append, In_append_left, In_append_right, In_has, has_In}
-use Rattle.ring_port.specs.PortState.{PortState, Holding, HoldsStart, IsPort, held_at, lits_at, known}
-use Rattle.ring_port.specs.Port.{AddedClause, WroteUnit, Sees, entry_of}
+use Rattle.rup_model.proofs.Lists.{In, Contains_In, In_Contains, In_append, In_append_left, In_append_right}
+use Rattle.ring_port.specs.PortState.{PortState, Holding, IsPort, held_at, lits_at, known}
+use Rattle.ring_port.specs.Port.{Sees, entry_of}
 use Rattle.ring_port.proofs.Holdings.{All_In, held_is_known}
 use Rattle.ring_port.proofs.LogSteps.{In_All}
 use Rattle.ring_trail.specs.declared.step.Step.{Step}
-use Rattle.ring_trail.specs.TrailData.{TrailData, IsTrail, HasNoPlace, IsTrueOn, IsFalseOn, HasGrown, lit_at, var_at, level_at, assigned, reason_at}
-use Rattle.ring_trail.specs.Reasoned.{IsSeen}
+use Rattle.ring_trail.specs.TrailData.{TrailData, IsTrail, HasNoPlace, IsTrueOn, IsFalseOn, lit_at, assigned}
 use Rattle.ring_trail.specs.Closed.{TrueWithin}
 use Rattle.ring_trail.proofs.Causes.{IsReasoned-seen}
-use Rattle.watch_prop.specs.WatchData.{WatchData, Lits, attached, without}
+use Rattle.watch_prop.specs.WatchData.{WatchData, attached, without}
 use Rattle.watch_prop.specs.Watched.{Watched}
 use Rattle.watch_prop.specs.Propagation.{HasReasons, IsQuiet, IsConflict, attached_at}
 use Rattle.watch_prop.proofs.TrailLaws.{Watched-assign, Reasons-held}
 use Rattle.watch_prop.proofs.DetachingLaws.{without-others}
 use Rattle.vivify.specs.Walking.{IsNoReason}
-use Rattle.vivify.specs.Outcome.{WasKept, WasShortened, BecameUnit}
-use Rattle.ring_run.specs.Searching.{IsHeldBy, HasClauses, Stands, AreTold, OpeningSeen, UnitsSeen}
-use Rattle.ring_run.specs.Course.{Searches, InSearch, MayImport, HasLemmas}
-use Rattle.ring_run.specs.Renewal.{IsResting, MayVivify, KeepsOthers}
+use Rattle.ring_run.specs.Searching.{IsHeldBy, HasClauses, OpeningSeen, UnitsSeen}
+use Rattle.ring_run.specs.Course.{Searches, MayImport}
+use Rattle.ring_run.specs.Renewal.{IsResting}
 use Rattle.ring_run.specs.declared.ring.Ring.{Ring}
 use Rattle.ring_run.proofs.LevelZero.{false_at_zero}
-use Rattle.ring_run.proofs.Progress.{recent_other}
 use Rattle.ring_run.proofs.Remembering.{unit_cases, no_unit}
 use Rattle.ring_run.proofs.Shortened.{Behind, starts_left}
-use Rattle.ring_run.proofs.Standing.{within_more, within_last, within_zero, sees_old, sees_new}
+use Rattle.ring_run.proofs.Standing.{within_more, within_last, sees_old, sees_new}
 use Rattle.ring_run.proofs.Telling.{told_step, told_unit, told_same}
-use Rattle.std.proofs.lemmas.Bool.{or_cases, or_right}
-use Rattle.sat_words.proofs.Members.{same-true, same-refl}
+use Rattle.std.proofs.lemmas.Bool.{or_cases}
+use Rattle.sat_words.proofs.Members.{same-true}
+use Rattle.ring_run.specs.Ended.{reductions}
 
 -- Before
 
@@ -223,8 +219,9 @@ resting_import s ring p = record {
 }
 
 -- and one that may import rests, once nothing that was learned or taken has to be kept
-pub import_resting : (s : PortState) (ring : Ring) → MayImport s ring.trail ring.watches ring.written → OpeningSeen s → IsQuiet ring.watches (lits_at s) ring.trail → recent s.ring s.mine ≡ [] → s.taken ≡ [] → IsResting s ring
-import_resting s ring p opening quiet lately none = record {
+pub import_resting : (s : PortState) (ring : Ring) → MayImport s ring.trail ring.watches ring.written → OpeningSeen s → IsQuiet ring.watches (lits_at s) ring.trail → 1 ≤ reductions s.ring s.mine → recent s.ring s.mine ≡ [] → s.taken ≡ [] → IsResting s ring
+import_resting s ring p opening quiet reduced lately none = record {
+  reduced = reduced;
   search = record {
     clauses = p.clauses;
     opening = opening;

@@ -1,39 +1,34 @@
 -- What vivification of a clause leaves of a run.
-use Rattle.std.proofs.Common.{◌≡◌, ◌≢◌, ◌∙◌, ℕ, ◌+◌, ◌-◌, ◌<◌, ◌≤◌, min, true, false, List, [], ◌∷◌, ◌++◌, length, sym, subst, ap, arith, inl, inr, ◌⊎◌, refl, Contains, IsSome, Some, None}
+use Rattle.std.proofs.Common.{◌≡◌, ◌≢◌, ◌∙◌, ℕ, ◌-◌, ◌≤◌, min, false, List, [], ◌∷◌, ◌++◌, length, sym, subst, ap, arith, inl, inr, ◌⊎◌, refl, Contains, IsSome, Some}
 use Rattle.std.specs.Prelude.{All}
-use Rattle.std.specs.List.{list_any}
 use Rattle.std.specs.declared.option.Option.{Option}
 use Rattle.std.proofs.lemmas.Bool.{false≢true}
 use Rattle.std.proofs.lemmas.List.Elements.{All-cons, All-nil}
 use Rattle.sat_words.specs.Literal.{Literal}
-use Rattle.sat_words.specs.Clause.{has, includes, is_empty, distinct_lits}
+use Rattle.sat_words.specs.Clause.{has}
 use Rattle.sat_words.specs.declared.shared.Cref.{Cref}
-use Rattle.sat_words.specs.declared.shared.Stop.{Stop}
 use Rattle.rup_model.specs.declared.journal.Addition.{Addition}
 use Rattle.rup_model.specs.declared.journal.Entry.{Entry}
-use Rattle.rup_model.specs.declared.journal.Kind.{Kind}
 use Rattle.rup_model.specs.declared.journal.Kind.TheVariants.{Derive, UnitLine}
-use Rattle.rup_model.specs.Journal.{added, learned, recent, is_learn}
-use Rattle.rup_model.specs.Opening.{adds_unit}
+use Rattle.rup_model.specs.Journal.{learned, recent, is_learn}
 use Rattle.rup_model.proofs.Lists.{In, Contains_In, In_Contains, In_append}
 use Rattle.ring_port.specs.declared.stops.PortStop.{PortStop}
 use Rattle.ring_port.specs.PortState.{PortState, Holding, HoldsStart, IsPort, IsOn, held_at, lits_at}
-use Rattle.ring_port.specs.Port.{AddedClause, WroteUnit, Refused, IsClause, entry_of, holding_of, after_refusal}
-use Rattle.ring_port.specs.Deleting.{DroppedOnce, without_one}
+use Rattle.ring_port.specs.Port.{AddedClause, WroteUnit, Refused, IsClause, entry_of, holding_of}
+use Rattle.ring_port.specs.Deleting.{DroppedOnce}
 use Rattle.ring_port.specs.Log.{KeepsLog}
 use Rattle.ring_port.proofs.Holdings.{All_In}
 use Rattle.ring_port.proofs.LogSteps.{In_All}
 use Rattle.ring_trail.specs.declared.step.Step.{Step}
 use Rattle.watch_prop.specs.WatchData.{WatchData, attached}
-use Rattle.vivify.specs.Walk.{left_of, others}
+use Rattle.vivify.specs.Walk.{others}
 use Rattle.vivify.specs.Outcome.{glue_at, left_at, WasShortened, BecameUnit, WroteLeft, WasCutShort}
 use Rattle.vivify.proofs.Parts.{left_part, left_distinct}
 use Rattle.vivify.proofs.Shortening.{part_clause}
-use Rattle.ring_run.specs.Ended.{Stays, IsGlued, Cause}
+use Rattle.ring_run.specs.Ended.{Stays, IsGlued, Cause, reductions}
 use Rattle.ring_run.specs.Searching.{GoesOn, KeepsOn, Runs, UnitsSeen, OffersNothing}
 use Rattle.ring_run.specs.Ending.{EndsAt, end_refused}
-use Rattle.ring_run.proofs.Offering.{nothing_none}
-use Rattle.ring_run.proofs.Progress.{Same, AddsGlued, same_refused, runs_entry, new_line, not_learned, none_learned, recent_other, some_literal, going_more, refused_cause, refused_counts, refused_ends, unset, usable_none}
+use Rattle.ring_run.proofs.Progress.{Same, AddsGlued, same_refused, runs_entry, new_line, not_learned, none_learned, some_literal, going_more, refused_cause, refused_counts, refused_ends, unset, usable_none}
 use Rattle.ring_run.proofs.Reducing.{less_one}
 use Rattle.rup_model.proofs.Additions.{learned-append}
 use Rattle.std.proofs.Common.{append-nil}
@@ -178,12 +173,12 @@ left_clause s v steps c port held =
     part_clause s c.address (left_at s (attached v) steps c.address) port held (left_part G (lits_at s c.address)) (λ d. left_distinct G (lits_at s c.address) d)
 
 -- a shorter clause was derived
-derived_runs : (start s u : PortState) (n number : ℕ) (lits : List Literal) → GoesOn start s n → Behind s u (entry_of s number lits Derive) → KeepsLog s u → HoldsStart u → IsClause s.vars lits → 2 ≤ length lits → AddsGlued s u → IsPort u → Runs start u n
-derived_runs start s u n number lits p b log held clause long glued port =
+derived_runs : (start s u : PortState) (n number : ℕ) (lits : List Literal) → GoesOn start s n → Behind s u (entry_of s number lits Derive) → KeepsLog s u → HoldsStart u → IsClause s.vars lits → 2 ≤ length lits → (1 ≤ reductions s.ring s.mine) × (recent s.ring s.mine ≡ []) → AddsGlued s u → IsPort u → Runs start u n
+derived_runs start s u n number lits p b log held clause long time glued port =
     let x : Addition = record { ring = s.ring; number = number; lits = lits; kind = Derive } in
     runs_entry start s u n n (entry_of s number lits Derive) p.runs (behind_stays s u (entry_of s number lits Derive) b log) held b.mine
     (p.runs.stays.ring, subst (λ (v : ℕ). All (IsOn v) lits) p.runs.stays.vars clause.on, inr long)
-    (omega (arith, not_learned s.ring x refl)) (λ learns. absurd (false≢true learns)) b.given (λ is_line. absurd (false≢true is_line)) tt glued port
+    (omega (arith, not_learned s.ring x refl)) (λ learns. absurd (false≢true learns)) b.given (λ is_line. absurd (false≢true is_line)) (λ two. time) glued port
 
 -- the line of a unit was written
 unit_runs : (start s u : PortState) (n number : ℕ) (l : Literal) → GoesOn start s n → Behind s u (entry_of s number (l ∷ []) UnitLine) → KeepsLog s u → HoldsStart u → IsOn s.vars l → UnitsSeen s → has s.seen l ≡ false → AddsGlued s u → IsPort u → Runs start u n
@@ -194,6 +189,7 @@ unit_runs start s u n number l p b log held on units unseen glued port =
     (omega (arith, not_learned s.ring x refl)) (λ learns. absurd (false≢true learns)) b.given (new_line s l number units p.runs.port unseen) tt glued port
 
 module _ (s u : PortState) (v : WatchData) (steps : List Step) (c : Cref) (port : IsPort s) (held : IsSome (held_at s c.address)) (some : 1 ≤ glue_at s c.address)
+    (time : (1 ≤ reductions s.ring s.mine) × (recent s.ring s.mine ≡ []))
     (others : (a : ℕ) → a ≢ c.address → IsSome (held_at s a) → held_at u a ≡ held_at s a) (apart : (h : Holding) → Contains s.start h → c.address ≢ h.address) (log : KeepsLog s u) (port_then : IsPort u) where
   abbrev left : List Literal
   left = left_at s (attached v) steps c.address
@@ -207,7 +203,7 @@ module _ (s u : PortState) (v : WatchData) (steps : List Step) (c : Cref) (port 
       let b = shorter_behind w d z in
       let starts = starts_left s u c others apart b.start p.held in
       record {
-        runs = derived_runs start s u n z.derived.number left p b log starts (left_clause s v steps c port held) z.derived.long
+        runs = derived_runs start s u n z.derived.number left p b log starts (left_clause s v steps c port held) z.derived.long time
             (λ h there. derived_glued s z.middle left (glue_at s c.address) d z.derived some h (dropped_less z.middle u c.address z.dropped h there)) port_then;
         going = going_more s u e b.mine p.going (some_literal left (omega (arith, z.derived.long)));
         stop = b.stop ∙ p.stop;
@@ -254,7 +250,7 @@ module _ (s u : PortState) (v : WatchData) (steps : List Step) (c : Cref) (port 
             let e : Entry = entry_of s k.1.number left Derive in
             let b = same_behind s m u e first same in
             record {
-              runs = derived_runs start s u n k.1.number left p b log (starts_left s u c others apart b.start p.held) (left_clause s v steps c port held) k.1.long
+              runs = derived_runs start s u n k.1.number left p b log (starts_left s u c others apart b.start p.held) (left_clause s v steps c port held) k.1.long time
                   (λ h there. derived_glued s m left (glue_at s c.address) k.0 k.1 some h (subst (λ (hs : List Holding). Contains hs h) same.held there)) port_then;
               cause = subst (λ (x : PortState). Cause x (end_refused stop)) (sym r.state) (refused_cause m u.output stop r.reason (usable_none m (ap (λ (x : PortState). x.refused) k.1.state ∙ p.refused))
                   (going_more s m e first.mine p.going (some_literal left (omega (arith, k.1.long)))));

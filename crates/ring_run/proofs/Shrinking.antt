@@ -1,5 +1,5 @@
 -- A ring that has reduced its lemmas rests, and goes on from there.
-use Rattle.std.proofs.Common.{◌≡◌, ◌≢◌, ◌∙◌, ℕ, ◌+◌, ◌<◌, ◌≤◌, true, List, [], ◌∷◌, sym, subst, ap, arith, refl}
+use Rattle.std.proofs.Common.{◌≡◌, ◌∙◌, ℕ, ◌+◌, ◌≤◌, List, [], sym, subst, ap, arith}
 use Rattle.sat_words.specs.Literal.{Literal}
 use Rattle.sat_words.specs.Clause.{has}
 use Rattle.sat_words.specs.declared.shared.Cref.{Cref}
@@ -13,21 +13,28 @@ use Rattle.watch_prop.specs.WatchData.{WatchData, Lits}
 use Rattle.watch_prop.specs.Propagation.{IsQuiet}
 use Rattle.reduce_db.specs.Dropping.{StaysReady}
 use Rattle.reduce_db.specs.Reduction.{WasReduced}
-use Rattle.ring_run.specs.Ended.{HasLooked, last_looks}
+use Rattle.ring_run.specs.Ended.{HasLooked, last_looks, reductions}
 use Rattle.ring_run.specs.Searching.{OpeningSeen, KeepsOn}
 use Rattle.ring_run.specs.Ending.{EndsAt, end_refused}
 use Rattle.ring_run.specs.Renewal.{HaltsAt}
 use Rattle.ring_run.specs.Course.{IsLooking}
 use Rattle.ring_run.specs.declared.job.End.{End}
 use Rattle.ring_run.specs.declared.ring.Ring.{Ring}
-use Rattle.std.specs.Prelude.{Result, Ok, Err, IfOk}
+use Rattle.std.specs.Prelude.{Result, Ok, Err, IfOk, OnOk}
 use Rattle.ring_run.proofs.Reducing.{noted_lately, noted_none}
 use Rattle.ring_run.proofs.Remembering.{lits_same}
 use Rattle.ring_run.proofs.Tidying.{refused_halted, refused_last}
+use Rattle.ring_run.proofs.Numbering.{reductions_reduced}
 
 module _ (s m u : PortState) (noted : NotedReduce s m) (v w : WatchData) (steps : List Step) (lemmas left : List Cref) (done : WasReduced m u v w steps lemmas left) where
   pub reduced_lately : recent u.ring u.mine ≡ []
   reduced_lately = ap (λ (x : PortState). recent x.ring x.mine) done.port.state ∙ noted_lately s m noted
+
+  pub reduced_some : 1 ≤ reductions u.ring u.mine
+  reduced_some =
+      let one = reductions_reduced s.ring s.mine in
+      let is = ap (λ (x : PortState). reductions x.ring x.mine) done.port.state ∙ ap (λ (x : PortState). reductions x.ring x.mine) noted.state in
+      omega (arith, one, is)
 
   pub reduced_none : u.taken ≡ []
   reduced_none = ap (λ (x : PortState). x.taken) done.port.state ∙ noted_none s m noted
@@ -57,6 +64,10 @@ pub looks_halted : (s u : PortState) (old new : Ring) (base : ℕ) (end : End) �
 looks_halted s u old new base end looks learned none p = omega (arith, p, looks, learned, none)
 
 -- what is known of an answer
+pub ok_of : {A E : Type 0} {P : A → Type 0} {Q : Type 0} (r : Result A E) → ((a : A) → P a → Q) → IfOk r P → OnOk r Q
+ok_of (Ok a) f p = f a p
+ok_of (Err e) f p = tt
+
 pub if_ok_then : {A E : Type 0} {P Q : A → Type 0} (r : Result A E) → IfOk r P → ((a : A) → P a → Q a) → IfOk r Q
 if_ok_then (Ok a) p f = f a p
 if_ok_then (Err e) p f = tt

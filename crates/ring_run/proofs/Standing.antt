@@ -30,7 +30,7 @@ use Rattle.watch_prop.proofs.TrailLaws.{Reasons-more}
 use Rattle.ring_port.specs.PortState.{clause_at}
 use Rattle.ring_run.specs.Searching.{OnlySaw, Stands}
 use Rattle.ring_run.proofs.LevelZero.{false_at_zero}
-use Rattle.ring_run.proofs.Remembering.{clause_at_same}
+use Rattle.ring_run.proofs.Remembering.{HoldsAlike, held_same, clause_alike, clause_at_same}
 
 -- a literal that is true stays so as the trail grows
 pub within_more : (steps more : List Step) (k : ℕ) (l : Literal) → TrueWithin steps k l → TrueWithin (steps ++ more) k l
@@ -78,12 +78,16 @@ grown_by t u l r p =
       at_level = All-append (λ (s : Step). s.level ≡ t.level) p.more (x ∷ []) p.at_level (All-cons (λ (s : Step). s.level ≡ t.level) x [] p.level (All-nil (λ (s : Step). s.level ≡ t.level)));
     }
 
--- the reasons stay where nothing that is held changes and more is seen
+-- the reasons stay where each clause is held where it was and more is seen
+pub reasoned_alike : (s u : PortState) (steps : List Step) → HoldsAlike s u → ((l : Literal) → has s.seen l ≡ true → has u.seen l ≡ true)
+    → IsReasoned (clause_at s) s.seen steps → IsReasoned (clause_at u) u.seen steps
+reasoned_alike s u steps e more r =
+    IsReasoned-held (clause_at s) (clause_at u) s.seen u.seen steps r
+    (λ p c d h is held. inl (clause_alike s u e c.address ∙ held)) more
+
 pub reasoned_more : (s u : PortState) (steps : List Step) → u.held ≡ s.held → ((l : Literal) → has s.seen l ≡ true → has u.seen l ≡ true)
     → IsReasoned (clause_at s) s.seen steps → IsReasoned (clause_at u) u.seen steps
-reasoned_more s u steps e more r =
-    IsReasoned-held (clause_at s) (clause_at u) s.seen u.seen steps r
-    (λ p c d h is held. inl (clause_at_same s u e c.address ∙ held)) more
+reasoned_more s u steps e more r = reasoned_alike s u steps (λ a. held_same s u a e) more r
 
 pub sees_old : (old new : List Literal) (l k : Literal) → Sees old new l → has old k ≡ true → has new k ≡ true
 sees_old old new l k sees h = sees k ∙ or_left (has old k) (same l k) h

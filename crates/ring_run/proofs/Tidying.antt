@@ -13,7 +13,7 @@ use Rattle.rup_model.specs.declared.journal.Addition.{Addition}
 use Rattle.rup_model.specs.declared.journal.Entry.{Entry}
 use Rattle.rup_model.specs.declared.journal.Entry.TheVariants.{Del}
 use Rattle.rup_model.specs.Basics.{EachAfter}
-use Rattle.rup_model.specs.Journal.{additions, added, learned, recent, recent_after, is_learn, IsSpaced}
+use Rattle.rup_model.specs.Journal.{additions, added, learned, recent, recent_after, is_learn}
 use Rattle.rup_model.specs.Opening.{IsNew, adds_unit}
 use Rattle.rup_model.proofs.Additions.{additions-append}
 use Rattle.rup_model.proofs.Sequences.{each_both}
@@ -23,11 +23,12 @@ use Rattle.ring_port.specs.Log.{KeepsLog}
 use Rattle.ring_port.specs.declared.stops.PortStop.{PortStop}
 use Rattle.ring_port.specs.declared.stops.PortStop.TheVariants.{Ended, Broken, ProofFault, NoHole, Memory}
 use Rattle.watch_prop.specs.WatchData.{Lits}
-use Rattle.ring_run.specs.Ended.{Stays, IsOwn, IsNewLine, Cause, IsHalted, last_looks, opening_of}
+use Rattle.ring_run.specs.Ended.{reductions, IsTimely, Stays, IsOwn, IsNewLine, Cause, IsHalted, last_looks, opening_of}
 use Rattle.ring_run.specs.Searching.{Runs, GoesOn, KeepsOn, OnlyWrote, OffersNothing, Remembers}
 use Rattle.ring_run.specs.Ending.{EndsAt, end_refused}
 use Rattle.ring_run.specs.Course.{InSearch}
 use Rattle.ring_run.specs.declared.ring.Ring.{Ring}
+use Rattle.ring_run.proofs.Numbering.{reductions_deleted}
 use Rattle.ring_run.proofs.Remembering.{held_same, lits_same, remembered_as}
 use Rattle.ring_run.proofs.Standing.{reasoned_more}
 use Rattle.ring_run.proofs.Telling.{told_same}
@@ -156,7 +157,7 @@ module _ (s u : PortState) (hs : List Holding) (d : Deleted s u hs) (log : Keeps
         (each_both (IsNew (opening_of s)) [] s.mine (deletions s.ring hs) p.each_new (each_deletion (IsNew (opening_of s)) (λ before r k. tt) s.mine s.ring hs));
     new_lines = lines_moved s u (s.mine ++ deletions s.ring hs) deleted_stays d.given d.mine
         (each_both (IsNewLine s.opening s.given s.ring) [] s.mine (deletions s.ring hs) p.new_lines (each_deletion (IsNewLine s.opening s.given s.ring) (λ before r k. tt) s.mine s.ring hs));
-    spaced = subst (EachAfter IsSpaced []) (sym d.mine) (each_both IsSpaced [] s.mine (deletions s.ring hs) p.spaced (each_deletion IsSpaced (λ before r k. tt) s.mine s.ring hs));
+    timely = subst (EachAfter IsTimely []) (sym d.mine) (each_both IsTimely [] s.mine (deletions s.ring hs) p.timely (each_deletion IsTimely (λ before r k. tt) s.mine s.ring hs));
     glued = glued_by start s u p.glued deleted_stays.polled (glued_same s u d.held);
     port = port;
   }
@@ -170,6 +171,8 @@ module _ (s u : PortState) (hs : List Holding) (d : Deleted s u hs) (log : Keeps
 
   deleted_wrote : u.seen ≡ s.seen → u.refused ≡ s.refused → OnlyWrote s u
   deleted_wrote seen refused = record {
+    reduced = ap (λ (r : ℕ). reductions r u.mine) d.ring ∙ ap (reductions s.ring) d.mine ∙ reductions_deleted s.ring s.ring s.mine hs;
+    grown = (deletions s.ring hs, d.mine);
     recent = ap (λ (r : ℕ). recent r u.mine) d.ring ∙ ap (recent s.ring) d.mine ∙ same_recent s.ring s.ring s.mine hs;
     stays = deleted_stays;
     taken = d.taken;

@@ -21,26 +21,33 @@ use Rattle.ring_run.specs.Course.{Searches, InSearch, MayImport, Leads, IsFurthe
 use Rattle.ring_run.specs.declared.ring.Ring.{Ring}
 use Rattle.ring_run.specs.declared.course.Course.{Course}
 use Rattle.ring_run.specs.declared.course.Course.TheVariants.{On, Over}
-use Rattle.ring_run.proofs.Remembering.{held_same, lits_same, clause_at_same, remembered_same}
+use Rattle.ring_run.proofs.Remembering.{HoldsAlike, held_same, lits_same, clause_at_same, remembered_same}
 use Rattle.ring_run.proofs.Standing.{within_more, reasoned_more}
 use Rattle.ring_run.proofs.Progress.{starts_kept, looked_wrote}
 use Rattle.ring_run.proofs.Telling.{told_saw, told_grown, told_same}
 
-pub held_by_same : (s u : PortState) (cs : List Cref) → u.held ≡ s.held → All (IsHeldBy s) cs → All (IsHeldBy u) cs
-held_by_same s u cs e all = λ k d h. subst (λ (o : Option Holding). IsSome o) (sym (held_same s u (get_or cs k d).address e)) (all k d h)
+held_by_alike : (s u : PortState) (cs : List Cref) → HoldsAlike s u → All (IsHeldBy s) cs → All (IsHeldBy u) cs
+held_by_alike s u cs e all = λ k d h. subst (λ (o : Option Holding). IsSome o) (sym (e (get_or cs k d).address)) (all k d h)
 
--- what stays of the clauses attached where nothing that is held changes
-pub clauses_same : (s u : PortState) (cs : List Cref) → HasClauses s cs → Stays s u → u.taken ≡ s.taken → u.held ≡ s.held → u.stop ≡ s.stop → u.refused ≡ s.refused → Remembers u cs → IsPort u → HasClauses u cs
-clauses_same s u cs p stays taken held stop refused own port = record {
-  held = held_by_same s u cs held p.held;
+pub held_by_same : (s u : PortState) (cs : List Cref) → u.held ≡ s.held → All (IsHeldBy s) cs → All (IsHeldBy u) cs
+held_by_same s u cs e all = held_by_alike s u cs (λ a. held_same s u a e) all
+
+-- what stays of the clauses attached where each clause is held where it was
+pub clauses_alike : (s u : PortState) (cs : List Cref) → HasClauses s cs → Stays s u → u.taken ≡ s.taken → HoldsAlike s u → u.stop ≡ s.stop → u.refused ≡ s.refused → Remembers u cs → IsPort u → HasClauses u cs
+clauses_alike s u cs p stays taken held stop refused own port = record {
+  held = held_by_alike s u cs held p.held;
   starts = λ h there. p.starts h (subst (λ (hs : List Holding). Contains hs h) stays.start there);
-  starts_held = starts_kept s u stays.start (λ a h. held_same s u a held) p.starts_held;
+  starts_held = starts_kept s u stays.start (λ a h. held a) p.starts_held;
   own = own;
   taken = λ a there. p.taken a (subst (λ (xs : List ℕ). Contains xs a) taken there);
   refused = refused ∙ p.refused;
   stop = stop ∙ p.stop;
   port = port;
 }
+
+-- and where nothing that is held changes
+pub clauses_same : (s u : PortState) (cs : List Cref) → HasClauses s cs → Stays s u → u.taken ≡ s.taken → u.held ≡ s.held → u.stop ≡ s.stop → u.refused ≡ s.refused → Remembers u cs → IsPort u → HasClauses u cs
+clauses_same s u cs p stays taken held stop refused own port = clauses_alike s u cs p stays taken (λ a. held_same s u a held) stop refused own port
 
 -- lines of units leave a search as it is
 pub wrote_search : (s u : PortState) (t : TrailData) (w : WatchData) (n m : ℕ) → Searches s t w n → OnlyWrote s u → IsPort u → Stands u t → AreTold u t m → Searches u t w m

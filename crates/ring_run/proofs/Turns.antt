@@ -1,7 +1,6 @@
 -- Lemmas have their turns in a list, one after the other.
-use Rattle.std.proofs.Common.{◌≡◌, ◌≢◌, ◌∙◌, ℕ, zero, suc, ◌+◌, ◌<◌, ◌≤◌, List, [], ◌∷◌, ◌++◌, length, take, drop, sym, subst, ap, arith, inl, inr, ◌⊎◌, refl, Contains, IsSome, Some, None, append-nil, append_assoc, slice_index_or, slice_set}
-use Rattle.std.specs.Prelude.{All, IfSome}
-use Rattle.std.specs.Option.{option_to_list}
+use Rattle.std.proofs.Common.{◌≡◌, ◌≢◌, ◌∙◌, ℕ, zero, suc, ◌+◌, ◌<◌, ◌≤◌, List, [], ◌∷◌, ◌++◌, length, take, drop, sym, subst, ap, arith, inl, inr, ◌⊎◌, refl, Contains, IsSome, Some, None, append-nil, append_assoc, slice_index_or}
+use Rattle.std.specs.Prelude.{All}
 use Rattle.std.specs.declared.option.Option.{Option}
 use Rattle.sat_words.specs.Literal.{Literal}
 use Rattle.sat_words.specs.declared.shared.Cref.{Cref}
@@ -12,10 +11,15 @@ use Rattle.ring_port.proofs.Holdings.{All_In}
 use Rattle.ring_port.proofs.LogSteps.{In_All}
 use Rattle.watch_prop.specs.WatchData.{attached}
 use Rattle.reduce_db.specs.Lemmas.{AreDistinct}
-use Rattle.ring_run.specs.Course.{HasLemmas}
-use Rattle.ring_run.specs.Renewal.{Point, TookLemma, TookEach, TookPlace, IsResting, KeepsOthers}
+use Rattle.ring_run.specs.Course.{HasLemmas, AreOrdered}
+use Rattle.ring_run.specs.Renewal.{Point, TookLemma, TookEach, TookPlace, IsResting, KeepsOthers, TookAll, IsLeft, in_place, behind}
 use Rattle.ring_run.specs.declared.ring.Ring.{Ring}
 use Rattle.ring_run.proofs.Resting.{held_member}
+use Rattle.ring_run.specs.declared.vivification.Left.{Left}
+use Rattle.ring_run.specs.declared.vivification.Left.TheVariants.{Same, Other}
+use Rattle.ring_run.proofs.Numbering.{ordered_kept, ordered_without, ordered_joined, glue_kept}
+use Rattle.reduce_db.proofs.Changes.{distinct_push}
+use Rattle.vivify.specs.Outcome.{glue_at}
 
 -- Places in a list
 
@@ -28,16 +32,6 @@ drop_put : (n : ℕ) (xs ys : List Cref) → n ≤ length xs → drop n (take n 
 drop_put zero xs ys h = refl
 drop_put (suc n) [] ys h = absurd (omega arith)
 drop_put (suc n) (x ∷ xs) ys h = drop_put n xs ys (omega arith)
-
-take_one : (n : ℕ) (xs ys : List Cref) (d : Cref) → n ≤ length xs → take (suc n) (take n xs ++ d ∷ ys) ≡ take n xs ++ d ∷ []
-take_one zero xs ys d h = refl
-take_one (suc n) [] ys d h = absurd (omega arith)
-take_one (suc n) (x ∷ xs) ys d h = ap (λ (zs : List Cref). x ∷ zs) (take_one n xs ys d (omega arith))
-
-drop_one : (n : ℕ) (xs ys : List Cref) (d : Cref) → n ≤ length xs → drop (suc n) (take n xs ++ d ∷ ys) ≡ ys
-drop_one zero xs ys d h = refl
-drop_one (suc n) [] ys d h = absurd (omega arith)
-drop_one (suc n) (x ∷ xs) ys d h = drop_one n xs ys d (omega arith)
 
 pub drop_at : (n : ℕ) (xs : List Cref) (d : Cref) → n < length xs → drop n xs ≡ slice_index_or xs n d ∷ drop (suc n) xs
 drop_at n [] d h = absurd (omega arith)
@@ -53,11 +47,6 @@ long_put : (n : ℕ) (xs ys : List Cref) → n ≤ length xs → n ≤ length (t
 long_put zero xs ys h = omega arith
 long_put (suc n) [] ys h = absurd (omega arith)
 long_put (suc n) (x ∷ xs) ys h = let less = long_put n xs ys (omega arith) in omega (arith, less)
-
-long_one : (n : ℕ) (xs ys : List Cref) (d : Cref) → n ≤ length xs → suc n ≤ length (take n xs ++ d ∷ ys)
-long_one zero xs ys d h = omega arith
-long_one (suc n) [] ys d h = absurd (omega arith)
-long_one (suc n) (x ∷ xs) ys d h = let less = long_one n xs ys d (omega arith) in omega (arith, less)
 
 not_none : (c : Cref) (ys : List Cref) → [] ≡ c ∷ ys → ⊥
 not_none c ys e = cc
@@ -85,44 +74,74 @@ in_at n [] d h = absurd (omega arith)
 in_at zero (x ∷ xs) d h = inl refl
 in_at (suc n) (x ∷ xs) d h = inr (in_at n xs d (omega arith))
 
-set_parts : (n : ℕ) (xs : List Cref) (d : Cref) → n < length xs → slice_set xs n d ≡ take n xs ++ d ∷ drop (suc n) xs
-set_parts n [] d h = absurd (omega arith)
-set_parts zero (x ∷ xs) d h = refl
-set_parts (suc n) (x ∷ xs) d h = ap (λ (zs : List Cref). x ∷ zs) (set_parts n xs d (omega arith))
-
 -- one place more, in both spellings
 one_more_place : (n : ℕ) → suc n ≡ n + 1
 one_more_place n = omega arith
 
+none_free : (o : Option Holding) → IsSome o → o ≡ None → ⊥
+none_free None h e = absurd cc
+none_free (Some x) h e = absurd cc
+
 -- Turns
 
-took_more : (p q r : Point) (cs left : List Cref) (c : Cref) (o : Option Cref) → TookEach p q cs left → TookLemma q r c o → TookEach p r (cs ++ c ∷ []) (left ++ option_to_list o)
-took_more p q r [] left c o each took =
-    (r, o, [], subst (λ (x : Point). TookLemma x r c o) each.0 took, (refl, refl), ap (λ (xs : List Cref). xs ++ option_to_list o) each.1 ∙ sym (append-nil (option_to_list o)))
-took_more p q r (x ∷ cs) left c o each took =
-    (each.0, each.1, each.2 ++ option_to_list o, each.3, took_more each.0 q r cs each.2 c o each.4 took, ap (λ (xs : List Cref). xs ++ option_to_list o) each.5 ∙ append_assoc (option_to_list each.1) each.2 (option_to_list o))
+took_more : (p q r : Point) (cs kept shorter : List Cref) (c : Cref) (o : Left) → TookEach p q cs kept shorter → TookLemma q r c o → TookEach p r (cs ++ c ∷ []) (kept ++ in_place c o) (shorter ++ behind o)
+took_more p q r [] kept shorter c o each took = (
+  r,
+  o,
+  [],
+  [],
+  subst (λ (x : Point). TookLemma x r c o) each.0 took,
+  (refl, refl, refl),
+  ap (λ (xs : List Cref). xs ++ in_place c o) each.1 ∙ sym (append-nil (in_place c o)),
+  ap (λ (xs : List Cref). xs ++ behind o) each.2 ∙ sym (append-nil (behind o)),
+)
+took_more p q r (x ∷ cs) kept shorter c o each took = (
+  each.0,
+  each.1,
+  each.2 ++ in_place c o,
+  each.3 ++ behind o,
+  each.4,
+  took_more each.0 q r cs each.2 each.3 c o each.5 took,
+  ap (λ (xs : List Cref). xs ++ in_place c o) each.6 ∙ append_assoc (in_place x each.1) each.2 (in_place c o),
+  ap (λ (xs : List Cref). xs ++ behind o) each.7 ∙ append_assoc (behind each.1) each.3 (behind o),
+)
 
--- the first lemmas had their turns, and the others stand behind them
+-- the first lemmas had their turns; the others stand behind what is left of them, and then the shorter clauses
 pub record AreTurned (p q : Point) (before after : List Cref) (i place : ℕ) : Type 0 where
-  pub each : TookEach p q (take i before) (take place after)
-  pub rest : drop place after ≡ drop i before
+  pub shorter : List Cref
+  pub each : TookEach p q (take i before) (take place after) shorter
+  pub rest : drop place after ≡ drop i before ++ shorter
   pub short : place ≤ length after
 
 pub none_turned : (p : Point) (cs : List Cref) → AreTurned p p cs cs 0 0
-none_turned p cs = record { each = (refl, refl); rest = refl; short = omega arith }
+none_turned p cs = record { shorter = []; each = (refl, refl, refl); rest = sym (append-nil cs); short = omega arith }
 
 pub next_inside : (p q : Point) (before after : List Cref) (i place : ℕ) (d : Cref) → AreTurned p q before after i place → i < length before → place < length after
-next_inside p q before after i place d t h = inside_drop place after (drop (suc i) before) (slice_index_or before i d) (t.rest ∙ drop_at i before d h)
+next_inside p q before after i place d t h =
+    inside_drop place after (drop (suc i) before ++ t.shorter) (slice_index_or before i d) (t.rest ∙ ap (λ (xs : List Cref). xs ++ t.shorter) (drop_at i before d h))
 
-pub one_turned : (p q r : Point) (before between after : List Cref) (i place next : ℕ) → AreTurned p q before between i place → TookPlace q r between after place next → AreTurned p r before after (i + 1) next
-one_turned p q r before between after i place next t k =
-    let there : drop i before ≡ k.lemma ∷ drop (place + 1) between = sym t.rest ∙ k.there in
+heads : (x y : Cref) (xs ys : List Cref) → (x ∷ xs) ≡ (y ∷ ys) → x ≡ y
+heads x y xs ys e = cc
+
+tails : (x y : Cref) (xs ys : List Cref) → (x ∷ xs) ≡ (y ∷ ys) → xs ≡ ys
+tails x y xs ys e = cc
+
+pub one_turned : (p q r : Point) (before between after : List Cref) (i place next : ℕ) → i < length before → AreTurned p q before between i place → TookPlace q r between after place next → AreTurned p r before after (i + 1) next
+one_turned p q r before between after i place next lt t k =
+    let d : Cref = slice_index_or before i (record { address = 0 }) in
+    let front : drop i before ≡ d ∷ drop (suc i) before = drop_at i before (record { address = 0 }) lt in
+    let both : (d ∷ (drop (suc i) before ++ t.shorter)) ≡ (k.lemma ∷ drop (place + 1) between) = ap (λ (xs : List Cref). xs ++ t.shorter) (sym front) ∙ sym t.rest ∙ k.there in
+    let same : d ≡ k.lemma = heads d k.lemma (drop (suc i) before ++ t.shorter) (drop (place + 1) between) both in
+    let behind_it : (drop (suc i) before ++ t.shorter) ≡ drop (place + 1) between = tails d k.lemma (drop (suc i) before ++ t.shorter) (drop (place + 1) between) both in
     let more : take (i + 1) before ≡ take i before ++ k.lemma ∷ [] =
-    ap (λ (n : ℕ). take n before) (sym (one_more_place i)) ∙ take_next i before (drop (place + 1) between) k.lemma there in
+    ap (λ (n : ℕ). take n before) (sym (one_more_place i)) ∙ take_next i before (drop (suc i) before) k.lemma (front ∙ ap (λ (x : Cref). x ∷ drop (suc i) before) same) in
     record {
-      each = subst (λ (xs : List Cref). TookEach p r xs (take next after)) (sym more)
-          (subst (TookEach p r (take i before ++ k.lemma ∷ [])) (sym k.done) (took_more p q r (take i before) (take place between) k.lemma k.left t.each k.took));
-      rest = k.rest ∙ sym (ap (λ (n : ℕ). drop n before) (sym (one_more_place i)) ∙ drop_next i before (drop (place + 1) between) k.lemma there);
+      shorter = t.shorter ++ behind k.left;
+      each = subst (λ (xs : List Cref). TookEach p r xs (take next after) (t.shorter ++ behind k.left)) (sym more)
+          (subst (λ (xs : List Cref). TookEach p r (take i before ++ k.lemma ∷ []) xs (t.shorter ++ behind k.left)) (sym k.done)
+          (took_more p q r (take i before) (take place between) t.shorter k.lemma k.left t.each k.took));
+      rest = k.rest ∙ ap (λ (xs : List Cref). xs ++ behind k.left) (sym behind_it) ∙ append_assoc (drop (suc i) before) t.shorter (behind k.left)
+          ∙ ap (λ (n : ℕ). drop n before ++ (t.shorter ++ behind k.left)) (one_more_place i);
       short = k.short;
     }
 
@@ -135,11 +154,15 @@ drop_end (suc n) (x ∷ xs) h = drop_end n xs (omega arith)
 whole_front : (n : ℕ) (xs : List Cref) → drop n xs ≡ [] → take n xs ≡ xs
 whole_front n xs e = sym (append-nil (take n xs)) ∙ ap (λ (ys : List Cref). take n xs ++ ys) (sym e) ∙ both_parts n xs
 
-pub all_turned : (p q : Point) (before after : List Cref) (i place : ℕ) → AreTurned p q before after i place → length before ≤ i → TookEach p q before after
+pub all_turned : (p q : Point) (before after : List Cref) (i place : ℕ) → AreTurned p q before after i place → length before ≤ i → TookAll p q before after
 all_turned p q before after i place t h =
     let none = drop_end i before h in
-    subst (λ (xs : List Cref). TookEach p q xs after) (whole_front i before none)
-    (subst (TookEach p q (take i before)) (whole_front place after (t.rest ∙ none)) t.each)
+    record {
+      kept = take place after;
+      shorter = t.shorter;
+      each = subst (λ (xs : List Cref). TookEach p q xs (take place after) t.shorter) (whole_front i before none) t.each;
+      list = sym (both_parts place after) ∙ ap (λ (xs : List Cref). take place after ++ xs) (t.rest ∙ ap (λ (xs : List Cref). xs ++ t.shorter) none);
+    }
 
 -- What a lemma's turn leaves of the list
 
@@ -154,39 +177,23 @@ in_both front back c d h = elim (In_append front back d h) as (λ _. In d (front
   | inr m ↦ In_append_right front (c ∷ back) d (inr m)
 ]
 
--- what stands in a list with something in the middle
-in_parts : (front back : List Cref) (o : Option Cref) (d : Cref) → In d (front ++ (option_to_list o ++ back)) → In d (front ++ back) ⊎ (o ≡ Some d)
-in_parts front back o d h =
-    elim (In_append front (option_to_list o ++ back) d h) as (λ _. In d (front ++ back) ⊎ (o ≡ Some d)) [
-      | inl m ↦ inl (In_append_left front back d m)
-      | inr more ↦ elim (In_append (option_to_list o) back d more) as (λ _. In d (front ++ back) ⊎ (o ≡ Some d)) [
-        | inl own ↦ inr (one o own)
-        | inr m ↦ inl (In_append_right front back d m)
-      ]
-    ]
-  where
-    one : (x : Option Cref) → In d (option_to_list x) → x ≡ Some d
-    one None m = absurd m
-    one (Some y) (inl e) = ap Some e
-    one (Some y) (inr none) = absurd none
-
-distinct_left : (front back : List Cref) (c : Cref) (o : Option Cref) → AreDistinct (front ++ c ∷ back) → ((d e : Cref) → o ≡ Some d → In e (front ++ back) → d.address ≢ e.address) → AreDistinct (front ++ (option_to_list o ++ back))
-distinct_left [] back c None a f = a.1
-distinct_left [] back c (Some d) a f = (In_All (λ (y : Cref). y.address ≢ d.address) back (λ e m z. f d e refl m (sym z)), a.1)
-distinct_left (x ∷ front) back c o a f = (
-  In_All (λ (y : Cref). y.address ≢ x.address) (front ++ (option_to_list o ++ back)) (λ y m. elim (in_parts front back o y m) as (λ _. y.address ≢ x.address) [
-    | inl old ↦ All_In (λ (z : Cref). z.address ≢ x.address) (front ++ c ∷ back) y a.0 (in_both front back c y old)
-    | inr is ↦ f y x is (inl refl)
-  ]),
-  distinct_left front back c o a.1 (λ d e is m. f d e is (inr m)),
+-- without the one in the middle
+distinct_without : (front back : List Cref) (c : Cref) → AreDistinct (front ++ c ∷ back) → AreDistinct (front ++ back)
+distinct_without [] back c a = a.1
+distinct_without (x ∷ front) back c a = (
+  In_All (λ (y : Cref). y.address ≢ x.address) (front ++ back) (λ y m. All_In (λ (z : Cref). z.address ≢ x.address) (front ++ c ∷ back) y a.0 (in_both front back c y m)),
+  distinct_without front back c a.1,
 )
 
-if_left : (o : Option Cref) (P : Cref → Type 0) (d : Cref) → o ≡ Some d → IfSome o P → P d
-if_left None P d e h = absurd cc
-if_left (Some x) P d e h = let is : x ≡ d = cc in subst P is h
+-- what is known of a lemma that is listed then
+record IsListed (s u : PortState) (new : Ring) (d : Cref) : Type 0 where
+  pub member : Contains (attached new.watches) d
+  pub apart : (h : Holding) → Contains s.start h → d.address ≢ h.address
+  pub glued : 1 ≤ glue_at u d.address
 
-module _ (s u : PortState) (old new : Ring) (c : Cref) (left : Option Cref) (place : ℕ) (p : HasLemmas s old) (rests : IsResting s old) (k : KeepsOthers s old.watches new.watches c left)
-    (there : drop place old.lemmas.items ≡ c ∷ drop (place + 1) old.lemmas.items) (items : new.lemmas.items ≡ take place old.lemmas.items ++ (option_to_list left ++ drop (place + 1) old.lemmas.items)) where
+module _ (s u : PortState) (old new : Ring) (c : Cref) (place : ℕ) (p : HasLemmas s old) (rests : IsResting s old) (k : KeepsOthers s u old.watches new.watches c)
+    (there : drop place old.lemmas.items ≡ c ∷ drop (place + 1) old.lemmas.items)
+    (start : u.start ≡ s.start) (lately : recent u.ring u.mine ≡ []) (learned : new.learned ≡ old.learned) (reductions : new.reductions ≡ old.reductions) (at : new.reduced_at ≡ old.reduced_at) where
   abbrev front : List Cref
   front = take place old.lemmas.items
 
@@ -199,60 +206,124 @@ module _ (s u : PortState) (old new : Ring) (c : Cref) (left : Option Cref) (pla
   distinct_before : AreDistinct (front ++ c ∷ back)
   distinct_before = subst AreDistinct split p.distinct
 
-  member_before : (d : Cref) → In d (front ++ back) → Contains (attached old.watches) d
-  member_before d m = All_In (Contains (attached old.watches)) old.lemmas.items d p.member (subst (In d) (sym split) (in_both front back c d m))
+  in_before : (d : Cref) → In d (front ++ back) → In d old.lemmas.items
+  in_before d m = subst (In d) (sym split) (in_both front back c d m)
+
+  member_before : (d : Cref) → In d old.lemmas.items → Contains (attached old.watches) d
+  member_before d m = All_In (Contains (attached old.watches)) old.lemmas.items d p.member m
 
   other_before : (d : Cref) → In d (front ++ back) → d.address ≢ c.address
   other_before d m = middle_apart front back c distinct_before d m
 
-  new_before : (d : Cref) → In d new.lemmas.items → In d (front ++ back) ⊎ (left ≡ Some d)
-  new_before d m = in_parts front back left d (subst (In d) items m)
+  held_before : (d : Cref) → In d (front ++ back) → IsSome (held_at s d.address)
+  held_before d m = held_member s old d rests (member_before d (in_before d m))
 
-  pub place_listed : u.start ≡ s.start → recent u.ring u.mine ≡ [] → new.learned ≡ old.learned → new.reductions ≡ old.reductions → new.reduced_at ≡ old.reduced_at
-      → ((h : Holding) → Contains s.start h → c.address ≢ h.address) → ((h : Holding) → Contains s.start h → IsSome (held_at s h.address)) → HasLemmas u new
-  place_listed start lately learned reductions at apart starts = record {
-    distinct = subst AreDistinct (sym items) (distinct_left front back c left distinct_before (λ d e is m.
-        if_left left (λ (x : Cref). (a : ℕ) → IsSome (held_at s a) → a ≢ c.address → x.address ≢ a) d is k.left_apart e.address (held_member s old e rests (member_before e m)) (other_before e m)));
-    member = In_All (Contains (attached new.watches)) new.lemmas.items (λ d m. elim (new_before d m) as (λ _. Contains (attached new.watches) d) [
-      | inl old_one ↦ k.others d (member_before d old_one) (other_before d old_one)
-      | inr is ↦ if_left left (Contains (attached new.watches)) d is k.left_attached
-    ]);
-    apart = λ h d start_there member. (
-        let here : Contains s.start h = subst (λ (hs : List Holding). Contains hs h) start start_there in
-        elim (new_before d (Contains_In new.lemmas.items d member)) as (λ _. d.address ≢ h.address) [
-          | inl old_one ↦ p.apart h d here (In_Contains old.lemmas.items d (subst (In d) (sym split) (in_both front back c d old_one)))
-          | inr is ↦ if_left left (λ (x : Cref). (a : ℕ) → IsSome (held_at s a) → a ≢ c.address → x.address ≢ a) d is k.left_apart h.address (starts h here) (λ e. apart h here (sym e))
-        ]);
+  held_as : (d : Cref) → In d (front ++ back) → held_at u d.address ≡ held_at s d.address
+  held_as d m = k.held d.address (other_before d m) (held_before d m)
+
+  ordered_before : AreOrdered s (front ++ back)
+  ordered_before = ordered_without s front back c (subst (AreOrdered s) split p.ordered)
+
+  listed_before : (d : Cref) → In d (front ++ back) → IsListed s u new d
+  listed_before d m = record {
+    member = k.others d (member_before d (in_before d m)) (other_before d m);
+    apart = λ h is. p.apart h d is (In_Contains old.lemmas.items d (in_before d m));
+    glued = glue_kept (held_at u d.address) (held_at s d.address) (held_as d m) (p.glued d (In_Contains old.lemmas.items d (in_before d m)));
+  }
+
+  listed_by : (cs : List Cref) → new.lemmas.items ≡ cs → AreDistinct cs → ((d : Cref) → In d cs → IsListed s u new d) → AreOrdered u cs → HasLemmas u new
+  listed_by cs items distinct each ordered = record {
+    ordered = subst (AreOrdered u) (sym items) ordered;
+    glued = λ d m. (each d (Contains_In cs d (subst (λ (xs : List Cref). Contains xs d) items m))).glued;
+    noted = reductions ∙ p.noted ∙ sym k.noted;
+    distinct = subst AreDistinct (sym items) distinct;
+    member = subst (All (Contains (attached new.watches))) (sym items) (In_All (Contains (attached new.watches)) cs (λ d m. (each d m).member));
+    apart = λ h d is m. (each d (Contains_In cs d (subst (λ (xs : List Cref). Contains xs d) items m))).apart h (subst (λ (hs : List Holding). Contains hs h) start is);
     count = (let many = ap (λ (cs : List (List Literal)). length cs) lately in
         let before = ap (λ (cs : List (List Literal)). length cs) rests.lately in
         omega (arith, p.count, learned, at, many, before));
     few = omega (arith, p.few, reductions, at);
   }
 
--- the place was taken by one lemma, or by none
-pub one_place : (p q : Point) (before after : List Cref) (c d : Cref) (place : ℕ) → place < length before → drop place before ≡ c ∷ drop (place + 1) before → after ≡ take place before ++ d ∷ drop (place + 1) before
-    → TookLemma p q c (Some d) → TookPlace p q before after place (place + 1)
-one_place p q before after c d place h there is took = record {
+  -- where the lemma is left
+  pub same_listed : new.lemmas.items ≡ old.lemmas.items → IsLeft s u new.watches c Same → HasLemmas u new
+  same_listed items left =
+      listed_by (front ++ c ∷ back) (items ∙ split) distinct_before each (ordered_kept s u (front ++ c ∷ back) held (k.grown) (subst (AreOrdered s) split p.ordered))
+    where
+      own : In c old.lemmas.items
+      own = subst (In c) (sym split) (In_append_right front (c ∷ back) c (inl refl))
+
+      case_of : (d : Cref) → In d (front ++ c ∷ back) → In d (front ++ back) ⊎ (c ≡ d)
+      case_of d m = elim (In_append front (c ∷ back) d m) as (λ _. In d (front ++ back) ⊎ (c ≡ d)) [
+        | inl first ↦ inl (In_append_left front back d first)
+        | inr (inl is) ↦ inr is
+        | inr (inr last) ↦ inl (In_append_right front back d last)
+      ]
+
+      held : (d : Cref) → In d (front ++ c ∷ back) → held_at u d.address ≡ held_at s d.address
+      held d m = elim (case_of d m) as (λ _. held_at u d.address ≡ held_at s d.address) [
+        | inl old_one ↦ held_as d old_one
+        | inr is ↦ subst (λ (e : Cref). held_at u e.address ≡ held_at s e.address) is left.1
+      ]
+
+      each : (d : Cref) → In d (front ++ c ∷ back) → IsListed s u new d
+      each d m = elim (case_of d m) as (λ _. IsListed s u new d) [
+        | inl old_one ↦ listed_before d old_one
+        | inr is ↦ subst (IsListed s u new) is (record {
+          member = left.0;
+          apart = λ h there. p.apart h c there (In_Contains old.lemmas.items c own);
+          glued = glue_kept (held_at u c.address) (held_at s c.address) left.1 (p.glued c (In_Contains old.lemmas.items c own));
+        })
+      ]
+
+  -- where nothing is left of it
+  pub gone_listed : new.lemmas.items ≡ front ++ back → HasLemmas u new
+  gone_listed items = listed_by (front ++ back) items (distinct_without front back c distinct_before) listed_before (ordered_kept s u (front ++ back) held_as (k.grown) ordered_before)
+
+  -- where a shorter clause is
+  pub other_listed : (d : Cref) → new.lemmas.items ≡ (front ++ back) ++ d ∷ [] → IsLeft s u new.watches c (Other d) → ((h : Holding) → Contains s.start h → IsSome (held_at s h.address)) → HasLemmas u new
+  other_listed d items left starts =
+      listed_by ((front ++ back) ++ d ∷ []) items
+      (distinct_push (front ++ back) d (distinct_without front back c distinct_before) (λ e m is. none_free (held_at s d.address) (subst (λ (a : ℕ). IsSome (held_at s a)) is (held_before e m)) left.free))
+      each (ordered_joined s u (front ++ back) d held_as left.last ordered_before)
+    where
+      each : (e : Cref) → In e ((front ++ back) ++ d ∷ []) → IsListed s u new e
+      each e m = elim (In_append (front ++ back) (d ∷ []) e m) as (λ _. IsListed s u new e) [
+        | inl old_one ↦ listed_before e old_one
+        | inr (inl is) ↦ subst (IsListed s u new) is (record {
+          member = left.member;
+          apart = λ h there same. none_free (held_at s d.address) (subst (λ (a : ℕ). IsSome (held_at s a)) (sym same) (starts h there)) left.free;
+          glued = left.glued;
+        })
+        | inr (inr none) ↦ absurd none
+      ]
+
+-- the lemma kept its place, or lost it
+pub same_place : (p q : Point) (before after : List Cref) (c : Cref) (place : ℕ) → place < length before → drop place before ≡ c ∷ drop (place + 1) before → after ≡ before
+    → TookLemma p q c Same → TookPlace p q before after place (place + 1)
+same_place p q before after c place h there is took = record {
   lemma = c;
-  left = Some d;
+  left = Same;
   took = took;
   there = there;
-  done = ap (λ (xs : List Cref). take (place + 1) xs) is ∙ ap (λ (n : ℕ). take n (take place before ++ d ∷ drop (place + 1) before)) (sym (one_more_place place)) ∙ take_one place before (drop (place + 1) before) d (omega (arith, h));
-  rest = ap (λ (xs : List Cref). drop (place + 1) xs) is ∙ ap (λ (n : ℕ). drop n (take place before ++ d ∷ drop (place + 1) before)) (sym (one_more_place place)) ∙ drop_one place before (drop (place + 1) before) d (omega (arith, h));
-  short = (let long = long_one place before (drop (place + 1) before) d (omega (arith, h)) in let same = ap (λ (xs : List Cref). length xs) is in omega (arith, long, same));
+  done = ap (λ (xs : List Cref). take (place + 1) xs) is ∙ ap (λ (n : ℕ). take n before) (sym (one_more_place place)) ∙ take_next place before (drop (place + 1) before) c there;
+  rest = ap (λ (xs : List Cref). drop (place + 1) xs) is ∙ sym (append-nil (drop (place + 1) before));
+  short = (let same = ap (λ (xs : List Cref). length xs) is in omega (arith, h, same));
 }
 
-pub no_place_left : (p q : Point) (before after : List Cref) (c : Cref) (place : ℕ) → place < length before → drop place before ≡ c ∷ drop (place + 1) before → after ≡ take place before ++ drop (place + 1) before
-    → TookLemma p q c None → TookPlace p q before after place place
-no_place_left p q before after c place h there is took = record {
-  lemma = c;
-  left = None;
-  took = took;
-  there = there;
-  done = ap (λ (xs : List Cref). take place xs) is ∙ take_put place before (drop (place + 1) before) (omega (arith, h)) ∙ sym (append-nil (take place before));
-  rest = ap (λ (xs : List Cref). drop place xs) is ∙ drop_put place before (drop (place + 1) before) (omega (arith, h));
-  short = (let long = long_put place before (drop (place + 1) before) (omega (arith, h)) in let same = ap (λ (xs : List Cref). length xs) is in omega (arith, long, same));
-}
+pub other_place : (p q : Point) (before after : List Cref) (c : Cref) (o : Left) (place : ℕ) → place < length before → drop place before ≡ c ∷ drop (place + 1) before → in_place c o ≡ []
+    → after ≡ (take place before ++ drop (place + 1) before) ++ behind o → TookLemma p q c o → TookPlace p q before after place place
+other_place p q before after c o place h there none list took =
+    let is : after ≡ take place before ++ (drop (place + 1) before ++ behind o) = list ∙ append_assoc (take place before) (drop (place + 1) before) (behind o) in
+    record {
+      lemma = c;
+      left = o;
+      took = took;
+      there = there;
+      done = ap (λ (xs : List Cref). take place xs) is ∙ take_put place before (drop (place + 1) before ++ behind o) (omega (arith, h)) ∙ sym (ap (λ (xs : List Cref). take place before ++ xs) none ∙ append-nil (take place before));
+      rest = ap (λ (xs : List Cref). drop place xs) is ∙ drop_put place before (drop (place + 1) before ++ behind o) (omega (arith, h));
+      short = (let long = long_put place before (drop (place + 1) before ++ behind o) (omega (arith, h)) in let same = ap (λ (xs : List Cref). length xs) is in omega (arith, long, same));
+    }
 
 -- the lemma at a place
 pub there_at : (n : ℕ) (xs : List Cref) (c : Cref) → n < length xs → c ≡ slice_index_or xs n c → drop n xs ≡ c ∷ drop (n + 1) xs
@@ -260,9 +331,6 @@ there_at n xs c h is = drop_at n xs c h ∙ ap (λ (y : Cref). y ∷ drop (suc n
 
 pub lemma_in : (n : ℕ) (xs : List Cref) (c : Cref) → n < length xs → c ≡ slice_index_or xs n c → Contains xs c
 lemma_in n xs c h is = In_Contains xs c (subst (λ (y : Cref). In y xs) (sym is) (in_at n xs c h))
-
-pub put_at : (n : ℕ) (xs ys : List Cref) (d : Cref) → n < length xs → ys ≡ xs → slice_set ys n d ≡ take n xs ++ d ∷ drop (n + 1) xs
-put_at n xs ys d h is = ap (λ (zs : List Cref). slice_set zs n d) is ∙ set_parts n xs d h ∙ ap (λ (m : ℕ). take n xs ++ d ∷ drop m xs) (one_more_place n)
 
 pub taken_at : (n : ℕ) (xs ys zs : List Cref) → ys ≡ xs → zs ≡ take n ys ++ drop (suc n) ys → zs ≡ take n xs ++ drop (n + 1) xs
 taken_at n xs ys zs is made = made ∙ ap (λ (ws : List Cref). take n ws ++ drop (suc n) ws) is ∙ ap (λ (m : ℕ). take n xs ++ drop m xs) (one_more_place n)

@@ -1,16 +1,18 @@
 -- What a ring has while it searches, and what each step of the search comes to.
-use Rattle.std.specs.Prelude.{◌≡◌, ◌≢◌, ◌⊎◌, ℕ, ◌+◌, ◌<◌, ◌≤◌, true, false, if◌then◌else◌, List, ◌∷◌, ◌++◌, take, length, All, Contains, Option}
-use Rattle.std.specs.Option.{option_to_list}
+use Rattle.std.specs.Prelude.{◌≡◌, ◌≢◌, ◌⊎◌, ℕ, ◌+◌, ◌<◌, ◌≤◌, true, false, if◌then◌else◌, List, [], ◌∷◌, ◌++◌, map, take, length, All, Contains, Option, ⊤}
+use Rattle.std.specs.Option.{option_to_list, option_map_or}
 use Rattle.sat_words.specs.Literal.{Literal}
 use Rattle.sat_words.specs.declared.shared.Cref.{Cref}
-use Rattle.rup_model.specs.Journal.{recent}
-use Rattle.ring_port.specs.PortState.{PortState, Holding, lits_at}
+use Rattle.rup_model.specs.declared.journal.Addition.{Addition}
+use Rattle.rup_model.specs.Journal.{additions, recent}
+use Rattle.ring_port.specs.PortState.{PortState, Holding, held_at, lits_at}
 use Rattle.reduce_db.specs.Lemmas.{AreDistinct}
 use Rattle.ring_trail.specs.TrailData.{TrailData, IsTrail, HasNoPlace, cut_back, assigned}
 use Rattle.watch_prop.specs.WatchData.{WatchData, attached}
 use Rattle.watch_prop.specs.Watched.{Watched}
 use Rattle.watch_prop.specs.Propagation.{HasReasons, IsClosedBelow}
-use Rattle.ring_run.specs.Ended.{HasLooked, HasOffered, HasPolled, polls_of, last_looks}
+use Rattle.vivify.specs.Outcome.{glue_at}
+use Rattle.ring_run.specs.Ended.{HasLooked, HasOffered, HasPolled, polls_of, last_looks, reductions}
 use Rattle.ring_run.specs.Searching.{HasClauses, Stands, OpeningSeen, AreTold, GoesOn}
 use Rattle.ring_run.specs.Ending.{EndsBy}
 use Rattle.ring_run.specs.declared.ring.Ring.{Ring}
@@ -146,9 +148,32 @@ pub record MayImport (s : PortState) (t : TrailData) (w : WatchData) (n : ℕ) :
   pub told : AreTold s t n
   pub whole : n ≡ length t.steps
 
--- no two lemmas are at the same address, each is attached, and none is at the address of a start clause; the lemmas learned
--- since the ring last reduced them are counted
+-- the part has some of the whole's numbers, in their order
+abbrev pub IsInOrder : (whole part : List ℕ) → Type 0
+IsInOrder [] [] = ⊤
+IsInOrder [] (x ∷ xs) = ⊥
+IsInOrder (y ∷ ys) [] = ⊤
+IsInOrder (y ∷ ys) (x ∷ xs) = ((x ≡ y) × IsInOrder ys xs) ⊎ IsInOrder ys (x ∷ xs)
+
+-- the numbers of the clauses that the ring added, in the order of their lines: each is greater than those before it
+abbrev pub numbers : PortState → List ℕ
+numbers s = map (λ (x : Addition). x.number) (additions s.mine)
+
+-- the number of the clause at an address
+abbrev pub number_at : PortState → ℕ → ℕ
+number_at s a = option_map_or (λ (h : Holding). h.number) (held_at s a) 0
+
+-- the clauses stand in the order in which the ring added them, which is that of their numbers
+abbrev pub AreOrdered : PortState → List Cref → Type 0
+AreOrdered s cs = IsInOrder (numbers s) (map (λ (c : Cref). number_at s c.address) cs)
+
+-- no two lemmas are at the same address, each is attached, and none is at the address of a start clause; they stand in the
+-- order of their numbers, and the glue of each is one at least; the lemmas learned since the ring last reduced them are
+-- counted, and so are the reductions
 pub record HasLemmas (s : PortState) (ring : Ring) : Type 0 where
+  pub ordered : AreOrdered s ring.lemmas.items
+  pub glued : (c : Cref) → Contains ring.lemmas.items c → 1 ≤ glue_at s c.address
+  pub noted : ring.reductions ≡ reductions s.ring s.mine
   pub distinct : AreDistinct ring.lemmas.items
   pub member : All (Contains (attached ring.watches)) ring.lemmas.items
   pub apart : (h : Holding) (c : Cref) → Contains s.start h → Contains ring.lemmas.items c → c.address ≢ h.address

@@ -1,5 +1,5 @@
 -- What a run of a ring says: what it asks of its port, what it wrote, and what each end says.
-use Rattle.std.specs.Prelude.{◌≡◌, ◌≢◌, ◌≤◌, ◌<◌, ◌⊎◌, ℕ, ◌+◌, ◌-◌, ◌*◌, ◌%◌, ◌^◌, min, Bool, true, false, List, [], ◌∷◌, ◌++◌, map, filter, length, All, Contains, Option, Some, None, IfSome, nat_le, ◌&&◌, ⊤}
+use Rattle.std.specs.Prelude.{◌≡◌, ◌≢◌, ◌≤◌, ◌<◌, ◌⊎◌, ℕ, ◌+◌, ◌-◌, ◌*◌, ◌%◌, ◌^◌, ◌==◌, min, Bool, true, false, List, [], ◌∷◌, ◌++◌, map, filter, length, All, Contains, Option, Some, None, IfSome, nat_le, ◌&&◌, ⊤}
 use Rattle.std.specs.List.{list_any}
 use Rattle.sat_words.specs.Literal.{Literal}
 use Rattle.sat_words.specs.Clause.{has, is_empty}
@@ -18,6 +18,7 @@ use Rattle.ring_port.specs.Port.{is_usable, start_lits}
 use Rattle.ring_port.specs.Exchange.{other_rings}
 use Rattle.ring_port.specs.Log.{KeepsLog, start_of}
 use Rattle.ring_port.specs.declared.stops.PortStop.TheVariants.{NoHole as NoHoleAnswer}
+use Rattle.reduce_db.specs.Moment.{lemmas_before}
 use Rattle.restart_plan.specs.Plan.{AreMost, AreMostBefore}
 use Rattle.ring_run.specs.declared.job.Job.{Job}
 use Rattle.ring_run.specs.declared.job.Counts.{Counts}
@@ -85,6 +86,33 @@ AreNew s = EachAfter (IsNew (opening_of s)) [] s.mine
 -- the ring learned clauses enough before each Reduce entry since the one before
 abbrev pub AreSpaced : PortState → Type 0
 AreSpaced s = EachAfter IsSpaced [] s.mine
+
+-- the entry notes a reduction of the ring
+abbrev pub is_reduction : ℕ → Entry → Bool
+is_reduction r (Add x) = false
+is_reduction r (Del q n) = false
+is_reduction r (Reduce q) = q == r
+
+-- how many reductions of the ring the entries note
+abbrev pub reductions : ℕ → List Entry → ℕ
+reductions r J = length (filter (is_reduction r) J)
+
+-- of two literals or more a clause is derived only behind a Reduce entry of the ring, and before it learns again
+abbrev pub IsDerivedInTime : List Entry → ℕ → Kind → List Literal → Type 0
+IsDerivedInTime before r Ruler c = ⊤
+IsDerivedInTime before r Learn c = ⊤
+IsDerivedInTime before r Derive c = 2 ≤ length c → (1 ≤ reductions r before) × (recent r before ≡ [])
+IsDerivedInTime before r UnitLine c = ⊤
+
+-- the ring learned as many clauses before its i-th Reduce entry, since the one before, as reduction i comes after
+abbrev pub IsTimely : List Entry → Entry → Type 0
+IsTimely before (Add x) = IsDerivedInTime before x.ring x.kind x.lits
+IsTimely before (Del r n) = ⊤
+IsTimely before (Reduce r) = lemmas_before (reductions r before + 1) ≤ length (recent r before)
+
+-- each reduction of the ring comes behind so many lemmas, and clauses are made shorter only then
+abbrev pub AreTimely : PortState → Type 0
+AreTimely s = EachAfter IsTimely [] s.mine
 
 -- the line of a unit that propagation made true
 abbrev pub is_unit_line : Kind → Bool

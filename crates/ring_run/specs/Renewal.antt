@@ -1,6 +1,5 @@
 -- What a ring does behind a restart, before it imports.
-use Rattle.std.specs.Prelude.{◌≡◌, ℕ, ◌+◌, ◌-◌, ◌<◌, ◌≤◌, ◌⊎◌, true, List, [], ◌∷◌, ◌++◌, take, drop, length, Contains, Option, Some, None, IfSome, IsSome, ◌≢◌}
-use Rattle.std.specs.Option.{option_to_list}
+use Rattle.std.specs.Prelude.{◌≡◌, ℕ, ◌+◌, ◌-◌, ◌<◌, ◌≤◌, ◌⊎◌, true, List, [], ◌∷◌, ◌++◌, take, drop, length, Contains, None, IsSome, ◌≢◌, ⊤}
 use Rattle.sat_words.specs.Literal.{Literal}
 use Rattle.sat_words.specs.Clause.{has}
 use Rattle.sat_words.specs.declared.shared.Cref.{Cref}
@@ -15,10 +14,12 @@ use Rattle.reduce_db.specs.Reduction.{WasReduced}
 use Rattle.vivify.specs.Outcome.{glue_at, IsVivified}
 use Rattle.vivify.specs.declared.shorten.Vivified.{Vivified}
 use Rattle.vivify.specs.declared.shorten.Vivified.TheVariants.{Kept, Shorter, Unit, Empty}
-use Rattle.ring_run.specs.Ended.{IsHalted, last_looks}
-use Rattle.ring_run.specs.Searching.{OnlyWrote, AreTold}
+use Rattle.ring_run.specs.Ended.{IsHalted, last_looks, reductions}
+use Rattle.ring_run.specs.Searching.{OnlyWrote, HasGrownLog, AreTold}
 use Rattle.ring_run.specs.Ending.{EndsAt}
-use Rattle.ring_run.specs.Course.{InSearch}
+use Rattle.ring_run.specs.Course.{InSearch, numbers, number_at, AreOrdered}
+use Rattle.ring_run.specs.declared.vivification.Left.{Left}
+use Rattle.ring_run.specs.declared.vivification.Left.TheVariants.{Same, Other, Nothing}
 use Rattle.ring_run.specs.declared.job.End.{End}
 use Rattle.ring_run.specs.declared.ring.Ring.{Ring}
 
@@ -47,9 +48,8 @@ pub record Point : Type 0 where
 abbrev pub point : PortState → Ring → Point
 point s ring = record { port = s; watches = ring.watches; trail = ring.trail }
 
--- a lemma is vivified where its glue is one or two, unless one of its literals is true
+-- a lemma is vivified where its glue is two at most, unless one of its literals is true
 pub record IsNamed (p : Point) (c : Cref) : Type 0 where
-  pub some : 1 ≤ glue_at p.port c.address
   pub few : glue_at p.port c.address ≤ 2
   pub none_true : (l : Literal) → has (lits_at p.port c.address) l ≡ true → IsTrueOn p.trail.steps l → ⊥
 
@@ -61,46 +61,67 @@ pub record HasFollowed (p q : Point) (l : Literal) : Type 0 where
   pub same_clauses : attached q.watches ≡ attached p.watches
   pub quiet : IsQuiet q.watches (lits_at q.port) q.trail
 
--- what takes the lemma's place once it was vivified: itself, the shorter clause, or none behind a unit, which is followed
-abbrev pub WentOn : Point → Point → Cref → Vivified → Option Cref → Type 0
-WentOn p q c Kept left = (q ≡ p) × (left ≡ Some c)
-WentOn p q c (Shorter d) left = (q ≡ p) × (left ≡ Some d)
-WentOn p q c (Unit l) left = HasFollowed p q l × (left ≡ None)
-WentOn p q c Empty left = ⊥
+-- what is left of the lemma once it was vivified: itself, the shorter clause, or nothing behind a unit, which is followed
+abbrev pub WentOn : Point → Point → Vivified → Left → Type 0
+WentOn p q Kept left = (q ≡ p) × (left ≡ Same)
+WentOn p q (Shorter d) left = (q ≡ p) × (left ≡ Other d)
+WentOn p q (Unit l) left = HasFollowed p q l × (left ≡ Nothing)
+WentOn p q Empty left = ⊥
 
 -- the lemma was vivified
-pub record WasVivified (p q : Point) (c : Cref) (left : Option Cref) : Type 0 where
+pub record WasVivified (p q : Point) (c : Cref) (left : Left) : Type 0 where
   pub outcome : Vivified
   pub between : Point
   pub trail : between.trail ≡ p.trail
   pub vivified : IsVivified p.port between.port p.watches between.watches p.trail.steps c outcome
-  pub after : WentOn between q c outcome left
+  pub after : WentOn between q outcome left
 
 -- a lemma's turn: it was vivified where it is one of those, and else nothing was done
-abbrev pub TookLemma : Point → Point → Cref → Option Cref → Type 0
-TookLemma p q c left = (IsNamed p c × WasVivified p q c left) ⊎ ((IsNamed p c → ⊥) × (q ≡ p) × (left ≡ Some c))
+abbrev pub TookLemma : Point → Point → Cref → Left → Type 0
+TookLemma p q c left = (IsNamed p c × WasVivified p q c left) ⊎ ((IsNamed p c → ⊥) × (q ≡ p) × (left ≡ Same))
 
--- each lemma had its turn, one after the other, and this is left of them
-abbrev pub TookEach : Point → Point → List Cref → List Cref → Type 0
-TookEach p q [] left = (q ≡ p) × (left ≡ [])
-TookEach p q (c ∷ cs) left =
-    (between : Point) × (first : Option Cref) × (rest : List Cref) × TookLemma p between c first × TookEach between q cs rest × (left ≡ option_to_list first ++ rest)
+-- the lemma, where it is left as it was
+abbrev pub in_place : Cref → Left → List Cref
+in_place c Same = c ∷ []
+in_place c (Other d) = []
+in_place c Nothing = []
+
+-- the shorter clause that is left of a lemma, where there is one
+abbrev pub behind : Left → List Cref
+behind Same = []
+behind (Other d) = d ∷ []
+behind Nothing = []
+
+-- each lemma had its turn, one after the other; some are left as they were, and of others shorter clauses, in the same order
+abbrev pub TookEach : Point → Point → (lemmas kept shorter : List Cref) → Type 0
+TookEach p q [] kept shorter = (q ≡ p) × (kept ≡ []) × (shorter ≡ [])
+TookEach p q (c ∷ cs) kept shorter =
+    (between : Point) × (left : Left) × (rest : List Cref) × (later : List Cref) × TookLemma p between c left × TookEach between q cs rest later × (kept ≡ in_place c left ++ rest) × (shorter ≡ behind left ++ later)
+
+-- each lemma that was listed had its turn, in the order of the list, and no other clause; the shorter clauses stand behind
+-- those that are left as they were
+pub record TookAll (p q : Point) (before after : List Cref) : Type 0 where
+  pub kept : List Cref
+  pub shorter : List Cref
+  pub each : TookEach p q before kept shorter
+  pub list : after ≡ kept ++ shorter
 
 -- the lemma at this place had its turn, and the next one's is at the other place
 pub record TookPlace (p q : Point) (before after : List Cref) (place next : ℕ) : Type 0 where
   pub lemma : Cref
-  pub left : Option Cref
+  pub left : Left
   pub took : TookLemma p q lemma left
   pub there : drop place before ≡ lemma ∷ drop (place + 1) before
-  pub done : take next after ≡ take place before ++ option_to_list left
-  pub rest : drop next after ≡ drop (place + 1) before
+  pub done : take next after ≡ take place before ++ in_place lemma left
+  pub rest : drop next after ≡ drop (place + 1) before ++ behind left
   pub short : next ≤ length after
 
 -- What holds meanwhile
 
 -- the ring rests at level 0: nothing is left to propagate, each literal is told, and nothing that was learned or taken has to
--- be kept
+-- be kept, since it reduces its lemmas
 pub record IsResting (s : PortState) (ring : Ring) : Type 0 where
+  pub reduced : 1 ≤ reductions s.ring s.mine
   pub search : InSearch s ring
   pub level : ring.trail.level ≡ 0
   pub quiet : IsQuiet ring.watches (lits_at s) ring.trail
@@ -110,6 +131,7 @@ pub record IsResting (s : PortState) (ring : Ring) : Type 0 where
 
 -- at level 0 a unit is seen that has no value yet: once it is true the search goes on
 pub record AwaitsUnit (s : PortState) (ring : Ring) (l : Literal) : Type 0 where
+  pub reduced : 1 ≤ reductions s.ring s.mine
   pub search : IsTrail (assigned ring.trail l None) → InSearch s (record ring { trail = assigned ring.trail l None })
   pub level : ring.trail.level ≡ 0
   pub high : l.var ≤ ring.trail.vars
@@ -130,27 +152,44 @@ pub record HaltsAt (old new : PortState) (end : End) : Type 0 where
   pub halted : IsHalted end
   pub none : last_looks end ≡ 0
 
--- the lemma is attached, and at no start clause's address
+-- the lemma is attached, at no start clause's address, and its glue is one at least
 pub record MayVivify (s : PortState) (w : WatchData) (c : Cref) : Type 0 where
   pub member : Contains (attached w) c
+  pub glued : 1 ≤ glue_at s c.address
   pub apart : (h : Holding) → Contains s.start h → c.address ≢ h.address
 
--- the other clauses stay attached, and so is what takes the lemma's place, at an address of its own
-pub record KeepsOthers (s : PortState) (v w : WatchData) (c : Cref) (left : Option Cref) : Type 0 where
+-- the other clauses stay attached, and are held as they were; entries came behind, none of which notes a reduction
+pub record KeepsOthers (s u : PortState) (v w : WatchData) (c : Cref) : Type 0 where
   pub others : (d : Cref) → Contains (attached v) d → d.address ≢ c.address → Contains (attached w) d
-  pub left_attached : IfSome left (Contains (attached w))
-  pub left_apart : IfSome left (λ (d : Cref). (a : ℕ) → IsSome (held_at s a) → a ≢ c.address → d.address ≢ a)
+  pub held : (a : ℕ) → a ≢ c.address → IsSome (held_at s a) → held_at u a ≡ held_at s a
+  pub grown : HasGrownLog s u
+  pub noted : reductions u.ring u.mine ≡ reductions s.ring s.mine
+
+-- the shorter clause is attached, at an address where no clause was held; its glue is one at least, and its line is the last
+-- that adds a clause
+pub record HasJoined (s u : PortState) (w : WatchData) (d : Cref) : Type 0 where
+  pub member : Contains (attached w) d
+  pub free : held_at s d.address ≡ None
+  pub glued : 1 ≤ glue_at u d.address
+  pub last : numbers u ≡ numbers s ++ number_at u d.address ∷ []
+
+-- what is left of the lemma
+abbrev pub IsLeft : PortState → PortState → WatchData → Cref → Left → Type 0
+IsLeft s u w c Same = Contains (attached w) c × (held_at u c.address ≡ held_at s c.address)
+IsLeft s u w c (Other d) = HasJoined s u w d
+IsLeft s u w c Nothing = ⊤
 
 -- Both
 
--- the lemmas were reduced, those left had their turns, and the deletion lines were written behind it
+-- the lemmas were reduced, those left had their turns in order of number, and the deletion lines were written behind it
 pub record HasShrunk (old new : PortState) (before after : Ring) : Type 0 where
   pub dropped : PortState
   pub between : Ring
   pub reduced : HasReduced old dropped before between
   pub same_trail : between.trail ≡ before.trail
   pub vivified_port : PortState
-  pub vivified : TookEach (point dropped between) (point vivified_port after) between.lemmas.items after.lemmas.items
+  pub ordered : AreOrdered dropped between.lemmas.items
+  pub vivified : TookAll (point dropped between) (point vivified_port after) between.lemmas.items after.lemmas.items
   pub counted : after.reductions ≡ between.reductions
   pub lines : OnlyWrote vivified_port new
   pub none_waits : new.waiting ≡ []

@@ -1,13 +1,14 @@
 -- What a search keeps of its port and its trail.
-use Rattle.std.specs.Prelude.{◌≡◌, ◌⊎◌, ℕ, ◌+◌, ◌-◌, ◌^◌, min, ◌<◌, ◌≤◌, true, false, List, [], ◌∷◌, map, length, drop, All, Contains, Option, Some, None, IsSome}
+use Rattle.std.specs.Prelude.{◌≡◌, ◌⊎◌, ℕ, ◌+◌, ◌-◌, ◌^◌, min, ◌<◌, ◌≤◌, true, false, List, [], ◌∷◌, ◌++◌, map, length, drop, All, Contains, Option, Some, None, IsSome}
 use Rattle.std.specs.List.{list_any}
 use Rattle.sat_words.specs.Literal.{Literal}
 use Rattle.sat_words.specs.Clause.{has, is_empty}
 use Rattle.sat_words.specs.declared.shared.Cref.{Cref}
+use Rattle.rup_model.specs.declared.journal.Entry.{Entry}
 use Rattle.rup_model.specs.Journal.{added, learned, recent}
 use Rattle.rup_model.specs.Opening.{adds_unit, is_new}
 use Rattle.rup_model.specs.Rup.{rup}
-use Rattle.ring_port.specs.Port.{IsClause, IsFreshClause}
+use Rattle.ring_port.specs.Port.{IsClause, IsFreshClause, KeepsHeld}
 use Rattle.ring_port.specs.PortState.{PortState, Holding, HoldsStart, IsPort, held_at, lits_at, known, clause_at}
 use Rattle.ring_port.specs.Exchange.{Offered, class_at, other_rings}
 use Rattle.ring_trail.specs.declared.step.Step.{Step}
@@ -15,7 +16,7 @@ use Rattle.ring_trail.specs.TrailData.{TrailData, IsFalseOn, lit_at, level_at, r
 use Rattle.ring_trail.specs.Reasoned.{IsReasoned}
 use Rattle.ring_trail.specs.Closed.{TrueWithin, IsClosedClause}
 use Rattle.analyze.specs.Levels.{level_of_lit, count_of_levels}
-use Rattle.ring_run.specs.Ended.{Stays, IsOwn, AreNew, AreNewLines, AreSpaced, HoldsGlued, opening_of}
+use Rattle.ring_run.specs.Ended.{Stays, IsOwn, AreNew, AreNewLines, AreTimely, reductions, HoldsGlued, opening_of}
 use Rattle.ring_run.specs.declared.units.Units.{Units}
 use Rattle.ring_run.specs.declared.units.Units.TheVariants.{Opposed, True}
 
@@ -90,13 +91,20 @@ pub record OnlySaw (old new : PortState) : Type 0 where
   pub looks : new.looks ≡ old.looks
   pub more : (l : Literal) → has old.seen l ≡ true → has new.seen l ≡ true
 
--- no call has changed more than what is held and taken, and how often the ring has polled
+-- no call has changed more than what is held and taken, and how often the ring has polled; what was held still is
 pub record OnlyPolled (old new : PortState) : Type 0 where
+  pub kept : KeepsHeld old new
   pub state : new ≡ record old { held = new.held; taken = new.taken; polled = new.polled }
+
+-- the ring's entries are those from before, and perhaps more behind them
+abbrev pub HasGrownLog : PortState → PortState → Type 0
+HasGrownLog old new = (more : List Entry) × (new.mine ≡ old.mine ++ more)
 
 -- lines of units were written, which are seen now; nothing was learned
 pub record OnlyWrote (old new : PortState) : Type 0 where
   pub recent : recent new.ring new.mine ≡ recent old.ring old.mine
+  pub reduced : reductions new.ring new.mine ≡ reductions old.ring old.mine
+  pub grown : HasGrownLog old new
   pub stays : Stays old new
   pub taken : new.taken ≡ old.taken
   pub held : new.held ≡ old.held
@@ -154,7 +162,7 @@ pub record Runs (start s : PortState) (count : ℕ) : Type 0 where
   pub counted : count ≡ length (learned s.ring s.mine)
   pub each_new : AreNew s
   pub new_lines : AreNewLines s
-  pub spaced : AreSpaced s
+  pub timely : AreTimely s
   pub glued : HoldsGlued start s
   pub port : IsPort s
 

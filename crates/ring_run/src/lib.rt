@@ -32,3 +32,5 @@ mod tests_begin;
 mod tests_port;
 #[cfg(test)]
 mod tests_row;
+#[cfg(test)]
+mod tests_vivify;

@@ -30,8 +30,8 @@ pub(crate) struct Ring {
     pub watches: Watches,
     /// How many lemmas were learned.
     pub learned: u64,
-    /// The lemmas of two literals or more that it learned and still holds, in order, or what vivification left of them. They are
-    /// attached.
+    /// The lemmas of two literals or more that it learned and still holds, or what vivification left of them, in the order of
+    /// their numbers. They are attached.
     pub lemmas: Vec<Cref>,
     /// How often it reduced these.
     pub reductions: u64,

@@ -4,7 +4,7 @@ ghost use Rattle.ring_port.specs.PortState.{IsPort, HoldsStart, lits_at};
 ghost use Rattle.ring_trail.specs.TrailData.{TrailData, IsTrail};
 ghost use Rattle.watch_prop.specs.WatchData.{attached};
 ghost use Rattle.watch_prop.specs.Watched.{Watched, IsFresh};
-ghost use Rattle.ring_run.specs.Ended.{IsJobOf, IsUntouched, Stays, IsOwn, IsCounted, HasOffered, HasRestarted, HasPolled, AreNew, AreNewLines, AreSpaced, HoldsGlued, HasLooked, last_looks, stop_kind, Cause, Ends};
+ghost use Rattle.ring_run.specs.Ended.{IsJobOf, IsUntouched, Stays, IsOwn, IsCounted, HasOffered, HasRestarted, HasPolled, AreNew, AreNewLines, AreSpaced, AreTimely, HoldsGlued, HasLooked, last_looks, stop_kind, Cause, Ends};
 ghost use Rattle.ring_run.specs.Searching.{IsHeldBy, OffersNothing};
 ghost use Rattle.ring_decide.specs.Phases.{first_phases};
 ghost use Rattle.restart_plan.specs.Plan.{IsRestarting, begun};
@@ -48,10 +48,10 @@ const NOTHING: Counts = Counts {
 /// clause that lies ready, by ring and class, which is attached at once. So it polls each class of each other ring once at its
 /// start and once at each restart.
 ///
-/// At a restart, before it imports, the ring reduces its lemmas where that is due: the Reduce entry is written, and the last half of
-/// those that may be dropped is. Then each lemma of glue one or two that is left is vivified, in order, unless it is true at level
-/// 0: a shorter clause takes its place, or a unit, which is made true with what follows from it. The deletion lines come at once.
-/// The start clauses and what other rings gave stay held as they are.
+/// At a restart, before it imports, the ring reduces its lemmas where that is due: the Reduce entry is written, and the last half
+/// of those that may be dropped is. Then each lemma of glue one or two that is left is vivified, in the order of their numbers,
+/// unless it is true at level 0: a shorter clause takes its place in the log, or a unit, which is made true with what follows from
+/// it. The deletion lines come at once. The start clauses and what other rings gave stay held as they are.
 ///
 /// Every end but `Spent` and `Stopped` has set this ring's stop, and was the first to set one: a ring that comes second
 /// answers `Stopped` with the stop that stands. A call of the port that was refused for want of memory, room or a write
@@ -67,6 +67,7 @@ pub fn run_ring<P: Port>(alloc: Global, port: &mut P, job: &Job) -> (End, Counts
     ensures new { AreNew (P.state port.new) }
     ensures new_lines { AreNewLines (P.state port.new) }
     ensures spaced { AreSpaced (P.state port.new) }
+    ensures timely { AreTimely (P.state port.new) }
     ensures glued { HoldsGlued (P.state port.old) (P.state port.new) }
     ensures looked { HasLooked ((P.state port.old).looks + result.1.learned + last_looks result.0) (P.state port.new) }
     ensures counts { IsCounted (P.state port.new) result.1 }

@@ -72,15 +72,16 @@ fn run_over<L: LineOut + Drop>(
     Ok((end, counts, port.into_lines()))
 }
 
-/// The same with its proof into a sink.
-fn run_on(
+/// The same with its proof into a sink of this room.
+pub(crate) fn run_in(
     alloc: Global,
     problem: Problem,
     conflicts: u64,
+    room: usize,
 ) -> Result<(End, Counts, MemSink<'static>), Fail>
     requires { 1 ≤ conflicts }
 {
-    let sink = MemSink::new(alloc, ROOM, &[])?;
+    let sink = MemSink::new(alloc, room, &[])?;
     let clauses = problem.formula.clauses().len() as u64;
     let Ok(lines) = SinkLines::new(alloc, clauses, sink) else {
         return Err(Fail::from("no memory for the lines"));
@@ -90,6 +91,17 @@ fn run_on(
         (Ok(()), sink) => Ok((end, counts, sink)),
         (Err(_), _) => Err(Fail::from("the sink failed")),
     }
+}
+
+/// The same in a small room.
+fn run_on(
+    alloc: Global,
+    problem: Problem,
+    conflicts: u64,
+) -> Result<(End, Counts, MemSink<'static>), Fail>
+    requires { 1 ≤ conflicts }
+{
+    run_in(alloc, problem, conflicts, ROOM)
 }
 
 /// Runs a ring on the four clauses.

@@ -5,7 +5,7 @@ ghost use Rattle.sat_words.specs.Clause.{has};
 ghost use Rattle.ring_port.specs.PortState.{IsPort, held_at, lits_at};
 ghost use Rattle.ring_trail.specs.TrailData.{IsTrueOn};
 ghost use Rattle.ring_run.specs.Searching.{OffersNothing, KeepsOn};
-ghost use Rattle.ring_run.specs.Renewal.{point, IsNamed, HasFollowed, WentOn, TookLemma, TookEach, TookPlace, IsResting, AwaitsUnit, LeftBehind, HaltsAt, MayVivify, KeepsOthers};
+ghost use Rattle.ring_run.specs.Renewal.{point, IsNamed, HasFollowed, WentOn, TookLemma, TookAll, TookPlace, IsResting, AwaitsUnit, LeftBehind, HaltsAt, MayVivify, KeepsOthers, IsLeft};
 ghost use Rattle.ring_run.specs.Course.{HasLemmas};
 
 use crate::course::{end_refused, refute};
@@ -21,6 +21,17 @@ use watch_prop::Propagated;
 
 /// The greatest glue of the lemmas that are vivified.
 const GREATEST_GLUE: u32 = 2;
+
+/// What a lemma's turn leaves of it.
+#[derive(Clone, Copy)]
+pub(crate) enum Left {
+    /// The lemma itself.
+    Same,
+    /// A shorter clause.
+    Other(Cref),
+    /// Nothing.
+    Nothing,
+}
 
 /// Whether a literal of a clause is true.
 fn is_true<P: Port>(port: &mut P, trail: &Trail, c: Cref) -> bool
@@ -51,7 +62,7 @@ fn is_named<P: Port>(port: &mut P, ring: &Ring, c: Cref) -> bool
     ensures no { result ≡ false → IsNamed (point (P.state port.old) ring.now) c → ⊥ }
 {
     let glue = port.head(c).glue;
-    if glue == 0 || glue > GREATEST_GLUE {
+    if glue > GREATEST_GLUE {
         return false;
     }
     !is_true(port, &ring.trail, c)
@@ -84,18 +95,13 @@ fn follow_unit<P: Port>(port: &mut P, ring: &mut Ring, lit: Lit) -> Result<(), E
     }
 }
 
-/// What takes the place of a lemma that was vivified. A unit that is left is made true, with what follows from it.
-fn settle_left<P: Port>(
-    port: &mut P,
-    ring: &mut Ring,
-    c: Cref,
-    left: Vivified,
-) -> Result<Option<Cref>, End>
+/// What is left of a lemma that was vivified. A unit is made true, with what follows from it.
+fn settle_left<P: Port>(port: &mut P, ring: &mut Ring, left: Vivified) -> Result<Left, End>
     requires left { LeftBehind (P.state port.old) ring.old left }
     ensures over { IfErr result (HaltsAt (P.state port.old) (P.state port.new)) }
     ensures keeps { OnOk result (KeepsOn (P.state port.old) (P.state port.new)) }
     ensures resting { OnOk result (IsResting (P.state port.new) ring.new) }
-    ensures went { IfOk result (WentOn (point (P.state port.old) ring.old) (point (P.state port.new) ring.new) c left) }
+    ensures went { IfOk result (WentOn (point (P.state port.old) ring.old) (point (P.state port.new) ring.new) left) }
     ensures same { ring.new ≡ record ring.old { trail = ring.new.trail; watches = ring.new.watches; written = ring.new.written } }
     ensures looks { (P.state port.new).looks ≡ (P.state port.old).looks }
     ensures nothing { OffersNothing (P.state port.old) (P.state port.new) }
@@ -103,29 +109,25 @@ fn settle_left<P: Port>(
 {
     let _vars = port.vars();
     match left {
-        Vivified::Kept | Vivified::Empty => Ok(Some(c)),
-        Vivified::Shorter(shorter) => Ok(Some(shorter)),
+        Vivified::Kept | Vivified::Empty => Ok(Left::Same),
+        Vivified::Shorter(shorter) => Ok(Left::Other(shorter)),
         Vivified::Unit(lit) => match follow_unit(port, ring, lit) {
-            Ok(()) => Ok(None),
+            Ok(()) => Ok(Left::Nothing),
             Err(end) => Err(end),
         },
     }
 }
 
-/// Vivifies a lemma where that is its turn, and answers what takes its place.
-fn vivify_lemma<P: Port>(
-    alloc: Global,
-    port: &mut P,
-    ring: &mut Ring,
-    c: Cref,
-) -> Result<Option<Cref>, End>
+/// Vivifies a lemma where it is one of those, and answers what is left of it.
+fn vivify_lemma<P: Port>(alloc: Global, port: &mut P, ring: &mut Ring, c: Cref) -> Result<Left, End>
     requires resting { IsResting (P.state port.old) ring.old }
     requires lemma { MayVivify (P.state port.old) ring.old.watches c }
     ensures over { IfErr result (HaltsAt (P.state port.old) (P.state port.new)) }
     ensures keeps { OnOk result (KeepsOn (P.state port.old) (P.state port.new)) }
     ensures resting { OnOk result (IsResting (P.state port.new) ring.new) }
     ensures took { IfOk result (TookLemma (point (P.state port.old) ring.old) (point (P.state port.new) ring.new) c) }
-    ensures others { IfOk result (KeepsOthers (P.state port.old) ring.old.watches ring.new.watches c) }
+    ensures others { OnOk result (KeepsOthers (P.state port.old) (P.state port.new) ring.old.watches ring.new.watches c) }
+    ensures left { IfOk result (IsLeft (P.state port.old) (P.state port.new) ring.new.watches c) }
     ensures start { OnOk result ((P.state port.new).start ≡ (P.state port.old).start) }
     ensures steps { OnOk result (length ring.old.trail.steps ≤ length ring.new.trail.steps) }
     ensures same { ring.new ≡ record ring.old { trail = ring.new.trail; watches = ring.new.watches; written = ring.new.written } }
@@ -135,15 +137,16 @@ fn vivify_lemma<P: Port>(
 {
     let _vars = port.vars();
     if !is_named(port, ring, c) {
-        return Ok(Some(c));
+        return Ok(Left::Same);
     }
     match vivify(alloc, port, &mut ring.watches, &mut ring.trail, c) {
-        Ok(left) => settle_left(port, ring, c, left),
+        Ok(left) => settle_left(port, ring, left),
         Err(stop) => Err(end_refused(stop)),
     }
 }
 
-/// Gives the lemma at this place its turn, and answers where the next one stands.
+/// Gives the lemma at this place its turn, and answers where the next one stands. A shorter clause goes behind all others,
+/// since its number is the greatest.
 fn vivify_at<P: Port>(
     alloc: Global,
     port: &mut P,
@@ -166,11 +169,13 @@ fn vivify_at<P: Port>(
 {
     let lemma = ring.lemmas[place];
     match vivify_lemma(alloc, port, ring, lemma) {
-        Ok(Some(left)) => {
-            ring.lemmas[place] = left;
-            Ok(place + 1)
+        Ok(Left::Same) => Ok(place + 1),
+        Ok(Left::Other(shorter)) => {
+            ring.lemmas.remove(place);
+            ring.lemmas.push_reserved(shorter);
+            Ok(place)
         }
-        Ok(None) => {
+        Ok(Left::Nothing) => {
             ring.lemmas.remove(place);
             Ok(place)
         }
@@ -178,7 +183,7 @@ fn vivify_at<P: Port>(
     }
 }
 
-/// Gives each lemma its turn to be vivified, in order.
+/// Gives each lemma its turn to be vivified, in order. The shorter clauses have none.
 pub(crate) fn vivify_lemmas<P: Port>(
     alloc: Global,
     port: &mut P,
@@ -190,7 +195,7 @@ pub(crate) fn vivify_lemmas<P: Port>(
     ensures keeps { OnOk result (KeepsOn (P.state port.old) (P.state port.new)) }
     ensures resting { OnOk result (IsResting (P.state port.new) ring.new) }
     ensures listed { OnOk result (HasLemmas (P.state port.new) ring.new) }
-    ensures took { OnOk result (TookEach (point (P.state port.old) ring.old) (point (P.state port.new) ring.new) ring.old.lemmas.items ring.new.lemmas.items) }
+    ensures took { OnOk result (TookAll (point (P.state port.old) ring.old) (point (P.state port.new) ring.new) ring.old.lemmas.items ring.new.lemmas.items) }
     ensures steps { OnOk result (length ring.old.trail.steps ≤ length ring.new.trail.steps) }
     ensures same { ring.new ≡ record ring.old { trail = ring.new.trail; watches = ring.new.watches; written = ring.new.written; lemmas = ring.new.lemmas } }
     ensures looks { (P.state port.new).looks ≡ (P.state port.old).looks }

@@ -1,5 +1,5 @@
 -- What holds of the small port.
-use Rattle.std.proofs.Common.{◌==◌, ◌≡◌, ◌∙◌, ℕ, List, [], ◌∷◌, Some, None, IsSome, sym, refl, ap, subst, inl, inr, ◌⊎◌}
+use Rattle.std.proofs.Common.{arith, ◌==◌, ◌≡◌, ◌∙◌, ℕ, List, [], ◌∷◌, Some, None, IsSome, sym, refl, ap, subst, inl, inr, ◌⊎◌}
 use Rattle.std.specs.List.{slice_get}
 use Rattle.std.proofs.lemmas.Option.{cond_some}
 use Rattle.std.proofs.lemmas.Bool.{eqb-true, cases_eq, ne_eqb, false≢true}
@@ -52,9 +52,13 @@ at_third n a one two h =
       | inr r ↦ (elim r as (λ _. held_at (sample_at n) a ≡ Some third) [ inl e ↦ absurd (two e) | inr e ↦ ap (held_at (sample_at n)) e ∙ held_third n ])
     ]
 
+same_held : (n m a : ℕ) → held_at (sample_at n) a ≡ held_at (sample_at m) a
+unfolding held_at
+same_held n m a = refl
+
 -- the first clause is what can be offered
 offered_first : OfferedAs (sample_at 1) (sample_at 2) (class_at (sample_at 1) 1) 1
-offered_first = rw (held_first 1) (record { back = []; state = refl })
+offered_first = rw (held_first 1) (record { back = []; few = omega arith; same = λ a. same_held 2 1 a; often = λ a. refl; state = refl })
 
 pub offered : (n a : ℕ) → (sample_at n).last ≡ Some a → OfferedAs (sample_at n) (sample_at 2) (class_at (sample_at n) a) a
 offered n a h =

@@ -15,6 +15,7 @@ use Rattle.ring_run.proofs.Progress.{stop_seen, looked_goes_on, recent_still}
 use Rattle.ring_run.proofs.Tidying.{refused_halted}
 use Rattle.ring_run.proofs.Turning.{quiet_same, looked_search, compose}
 use Rattle.ring_run.proofs.decision.decide_next.Goals as goal
+use Rattle.ring_run.proofs.Numbering.{kept_looked}
 
 pub write_pending-requires : goal.write_pending-requires
 write_pending-requires g c = record {
@@ -184,7 +185,7 @@ renew-requires-clause-listed g c =
     let s = g.P.Port.state c.args.port.now in
     let m = g.P.Port.state c.stopped.new.self in
     let is = c.in_default.ensures.looked.1 in
-    c.in-Ok.ensures.listed (listed_same s m c.args.ring.now c.args.ring.now (ap (λ (x : PortState). x.start) is) (recent_still s m (ap (λ (x : PortState). x.ring) is) (ap (λ (x : PortState). x.mine) is)) refl (λ d there. there) refl refl refl c.requires.listed)
+    c.in-Ok.ensures.listed (listed_same s m c.args.ring.now c.args.ring.now (ap (λ (x : PortState). x.start) is) (recent_still s m (ap (λ (x : PortState). x.ring) is) (ap (λ (x : PortState). x.mine) is)) refl (λ d there. there) refl refl refl (kept_looked s m c.args.ring.now.lemmas.items _ is) c.requires.listed)
 
 pub returns-clause-listed : goal.returns-clause-listed
 returns-clause-listed g c = λ on.
@@ -192,7 +193,7 @@ returns-clause-listed g c = λ on.
     let m = g.P.Port.state c.stopped.new.self in
     let is = c.in_default.ensures.looked.1 in
     c.decide.ensures.listed
-    (c.in-Ok.ensures.listed (listed_same s m c.args.ring.now c.args.ring.now (ap (λ (x : PortState). x.start) is) (recent_still s m (ap (λ (x : PortState). x.ring) is) (ap (λ (x : PortState). x.mine) is)) refl (λ d there. there) refl refl refl c.requires.listed)))
+    (c.in-Ok.ensures.listed (listed_same s m c.args.ring.now c.args.ring.now (ap (λ (x : PortState). x.start) is) (recent_still s m (ap (λ (x : PortState). x.ring) is) (ap (λ (x : PortState). x.mine) is)) refl (λ d there. there) refl refl refl (kept_looked s m c.args.ring.now.lemmas.items _ is) c.requires.listed)))
 
 pub renew-requires-clause-few : goal.renew-requires-clause-few
 renew-requires-clause-few g c =

@@ -1,9 +1,9 @@
-use Rattle.std.proofs.Common.{◌≡◌, ◌∙◌, ◌≤◌, ◌+◌, ℕ, ap, sym, subst, arith, refl, Bool, false}
+use Rattle.std.proofs.Common.{◌≡◌, ◌∙◌, ◌≤◌, ◌+◌, ℕ, ap, sym, subst, arith, refl, Bool, false, IsSome, Contains}
 use Rattle.std.specs.Prelude.{if◌then◌else◌}
 use Rattle.std.proofs.lemmas.Bool.{false≢true}
-use Rattle.ring_port.specs.PortState.{PortState}
+use Rattle.ring_port.specs.PortState.{PortState, Holding, held_at}
 use Rattle.ring_run.specs.Ended.{polls_of}
-use Rattle.ring_run.specs.Searching.{OffersNothing, GoesOn}
+use Rattle.ring_run.specs.Searching.{OffersNothing, GoesOn, IsHeldBy}
 use Rattle.rup_model.specs.Journal.{learned}
 use Rattle.ring_run.specs.Course.{imports_of}
 use Rattle.ring_run.specs.declared.ring.Ring.{Ring}
@@ -15,6 +15,12 @@ use Rattle.ring_run.proofs.Learning.{goes_on_by}
 use Rattle.ring_run.proofs.Progress.{out_of_memory, recent_still}
 use Rattle.ring_run.proofs.Polling.{imported, imported_most, polls_same, polled_over, polled_halted, place_moved}
 use Rattle.ring_run.proofs.imports.import.Goals as goal
+use Rattle.ring_run.proofs.Numbering.{grown_none, reductions_still}
+use Rattle.ring_run.proofs.Remembering.{held_same}
+use Rattle.ring_port.proofs.Holdings.{All_In}
+use Rattle.rup_model.proofs.Lists.{Contains_In}
+use Rattle.watch_prop.specs.WatchData.{attached}
+use Rattle.std.specs.declared.option.Option.{Option}
 
 pub returns-in-Opposed-clause-leads : goal.returns-in-Opposed-clause-leads
 returns-in-Opposed-clause-leads g c = λ limit below start p.
@@ -137,6 +143,16 @@ returns-clause-listed g c = λ on p.
     let same = c.take_clauses.ensures.same in
     let only = c.take_clauses.ensures.only.state in
     let saw = c.take_units.ensures.saw in
+    let ring = c.args.ring.now in
     listed_same s u c.args.ring.now (record after { pending = false }) (ap (λ (x : PortState). x.start) only ∙ saw.stays.start)
     (recent_still m u (ap (λ (x : PortState). x.ring) only) (ap (λ (x : PortState). x.mine) only) ∙ recent_still s m saw.stays.ring saw.mine)
-    (ap (λ (r : Ring). r.lemmas.items) same) c.in-Ok.ensures.more (ap (λ (r : Ring). r.learned) same) (ap (λ (r : Ring). r.reductions) same) (ap (λ (r : Ring). r.reduced_at) same) p
+    (ap (λ (r : Ring). r.lemmas.items) same) c.in-Ok.ensures.more (ap (λ (r : Ring). r.learned) same) (ap (λ (r : Ring). r.reductions) same) (ap (λ (r : Ring). r.reduced_at) same)
+    (record {
+      held = λ d there. (
+          let before : IsSome (held_at s d.address) = All_In (IsHeldBy s) (attached ring.watches) d c.requires.import.clauses.held
+          (Contains_In (attached ring.watches) d (All_In (Contains (attached ring.watches)) ring.lemmas.items d p.member (Contains_In ring.lemmas.items d there))) in
+          let first = held_same s m d.address saw.held in
+          c.take_clauses.ensures.only.kept d.address (subst (λ (o : Option Holding). IsSome o) (sym first) before) ∙ first);
+      grown = grown_none s u (ap (λ (x : PortState). x.mine) only ∙ saw.mine);
+      noted = reductions_still s u (ap (λ (x : PortState). x.ring) only ∙ saw.stays.ring) (ap (λ (x : PortState). x.mine) only ∙ saw.mine);
+    }) p

@@ -59,4 +59,4 @@ pub learn_lemma-requires-clause-listed : goal.learn_lemma-requires-clause-listed
 learn_lemma-requires-clause-listed g c =
     let p = c.requires.listed in
     let between : Ring = record c.args.ring.now { decider = c.bump_met.new.decider; bumps = c.bump_met.new.bumps } in
-    subst (λ (x : PortState). HasLemmas x between) (sym c.analyze.ensures.same) (record { distinct = p.distinct; member = p.member; apart = p.apart; count = p.count; few = p.few })
+    subst (λ (x : PortState). HasLemmas x between) (sym c.analyze.ensures.same) (record { ordered = p.ordered; glued = p.glued; noted = p.noted; distinct = p.distinct; member = p.member; apart = p.apart; count = p.count; few = p.few })

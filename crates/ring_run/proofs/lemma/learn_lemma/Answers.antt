@@ -21,8 +21,10 @@ use Rattle.ring_run.specs.Course.{GoesOnBy, InSearch, HasLemmas, CanAssert, IsOf
 use Rattle.ring_run.specs.declared.ring.Ring.{Ring}
 use Rattle.ring_run.proofs.Asserting.{can_assert, back_below}
 use Rattle.ring_run.proofs.Learning.{learned_any, goes_on_by, left_search, left_level}
-use Rattle.ring_run.proofs.Progress.{out_of_memory, refused_ends, spent, learned_looks, learned_by_glue, recent_still}
+use Rattle.ring_run.proofs.Remembering.{held_same}
+use Rattle.ring_run.proofs.Progress.{out_of_memory, refused_ends, spent, learned_looks, learned_by_glue, recent_still, glue_bounds}
 use Rattle.ring_run.proofs.lemma.learn_lemma.Goals as goal
+use Rattle.ring_run.proofs.Numbering.{grown_none, grown_then, reductions_still}
 
 pub returns-then-ring-limit-clause-leads : goal.returns-then-ring-limit-clause-leads
 returns-then-ring-limit-clause-leads g c = λ start p.
@@ -55,7 +57,7 @@ returns-in-Ok-leave_conflict-clause-leads g c =
     let same = c.offer_lemma.ensures.same in
     let lent = only_lent u v c.in-Ok.address c.args.ring.now.exported c.args.ring.now.offered middle.exported middle.offered c.offer_lemma.ensures.lent in
     let w = g.P.Port.state c.tidy_up.new.port in
-    let left = left_before u w between c.leave_conflict.new.ring c.args.lits.now c.args.back c.in-Ok.address (c.tidy_up.ensures.held ∙ ap (λ (x : PortState). x.held) lent.state) c.in-Ok-leave_conflict.ensures.left in
+    let left = left_before u w between c.leave_conflict.new.ring c.args.lits.now c.args.back c.in-Ok.address (λ a. held_same v w a c.tidy_up.ensures.held ∙ lent.same a) c.in-Ok-leave_conflict.ensures.left in
     let count = c.leave_conflict.ensures.learned ∙ ap (λ (r : Ring). r.learned) same in
     subst (λ (x : PortState). GoesOnBy s c.args.ring.now x c.leave_conflict.new.ring c.args.limit) (sym c.leave_conflict.ensures.same)
     (goes_on_by s w c.args.ring.now c.leave_conflict.new.ring c.args.limit
@@ -91,8 +93,8 @@ returns-then-ring-limit-clause-stored g c =
     let u = g.P.Port.state c.learn.new.self in
     let v = g.P.Port.state c.offer_lemma.new.port in
     let lent = only_lent u v c.in-Ok.address c.args.ring.now.exported c.args.ring.now.offered c.offer_lemma.new.ring.exported c.offer_lemma.new.ring.offered c.offer_lemma.ensures.lent in
-    (lent_glue s u v c.args.ring.now.trail.steps
-    (learned_by_glue s u c.args.ring.now.trail.steps c.args.lits.now c.args.glue c.in-Ok.address c.in-Ok.ensures.learned c.requires.glue) (ap (λ (x : PortState). x.held) lent.state))
+    (lent_glue s u v v c.args.ring.now.trail.steps
+    (learned_by_glue s u c.args.ring.now.trail.steps c.args.lits.now c.args.glue c.in-Ok.address c.in-Ok.ensures.learned c.requires.glue) lent c.offer_lemma.ensures.port refl)
 
 pub returns-in-Ok-leave_conflict-clause-stored : goal.returns-in-Ok-leave_conflict-clause-stored
 returns-in-Ok-leave_conflict-clause-stored g c =
@@ -102,8 +104,8 @@ returns-in-Ok-leave_conflict-clause-stored g c =
     let lent = only_lent u v c.in-Ok.address c.args.ring.now.exported c.args.ring.now.offered c.offer_lemma.new.ring.exported c.offer_lemma.new.ring.offered c.offer_lemma.ensures.lent in
     let w = g.P.Port.state c.tidy_up.new.port in
     subst (λ (x : PortState). HoldsByGlue s x c.args.ring.now.trail.steps) (sym c.leave_conflict.ensures.same)
-    (lent_glue s u w c.args.ring.now.trail.steps
-    (learned_by_glue s u c.args.ring.now.trail.steps c.args.lits.now c.args.glue c.in-Ok.address c.in-Ok.ensures.learned c.requires.glue) (c.tidy_up.ensures.held ∙ ap (λ (x : PortState). x.held) lent.state))
+    (lent_glue s u v w c.args.ring.now.trail.steps
+    (learned_by_glue s u c.args.ring.now.trail.steps c.args.lits.now c.args.glue c.in-Ok.address c.in-Ok.ensures.learned c.requires.glue) lent c.offer_lemma.ensures.port c.tidy_up.ensures.held)
 
 pub returns-in-Err-leave_conflict-clause-stored : goal.returns-in-Err-leave_conflict-clause-stored
 returns-in-Err-leave_conflict-clause-stored g c =
@@ -113,8 +115,8 @@ returns-in-Err-leave_conflict-clause-stored g c =
     let lent = only_lent u v c.in-Ok.address c.args.ring.now.exported c.args.ring.now.offered c.offer_lemma.new.ring.exported c.offer_lemma.new.ring.offered c.offer_lemma.ensures.lent in
     let w = g.P.Port.state c.tidy_up.new.port in
     subst (λ (x : PortState). HoldsByGlue s x c.args.ring.now.trail.steps) (sym c.leave_conflict.ensures.same)
-    (lent_glue s u w c.args.ring.now.trail.steps
-    (learned_by_glue s u c.args.ring.now.trail.steps c.args.lits.now c.args.glue c.in-Ok.address c.in-Ok.ensures.learned c.requires.glue) (c.tidy_up.ensures.held ∙ ap (λ (x : PortState). x.held) lent.state))
+    (lent_glue s u v w c.args.ring.now.trail.steps
+    (learned_by_glue s u c.args.ring.now.trail.steps c.args.lits.now c.args.glue c.in-Ok.address c.in-Ok.ensures.learned c.requires.glue) lent c.offer_lemma.ensures.port c.tidy_up.ensures.held)
 
 pub returns-then-ring-limit-clause-looks : goal.returns-then-ring-limit-clause-looks
 returns-then-ring-limit-clause-looks g c = λ base before.
@@ -252,8 +254,8 @@ returns-in-Err-tidy_up-clause-stored g c =
     let v = g.P.Port.state c.offer_lemma.new.port in
     let w = g.P.Port.state c.tidy_up.new.port in
     let lent = only_lent u v c.in-Ok.address c.args.ring.now.exported c.args.ring.now.offered c.offer_lemma.new.ring.exported c.offer_lemma.new.ring.offered c.offer_lemma.ensures.lent in
-    lent_glue s u w c.args.ring.now.trail.steps
-    (learned_by_glue s u c.args.ring.now.trail.steps c.args.lits.now c.args.glue c.in-Ok.address c.in-Ok.ensures.learned c.requires.glue) (c.tidy_up.ensures.held ∙ ap (λ (x : PortState). x.held) lent.state)
+    lent_glue s u v w c.args.ring.now.trail.steps
+    (learned_by_glue s u c.args.ring.now.trail.steps c.args.lits.now c.args.glue c.in-Ok.address c.in-Ok.ensures.learned c.requires.glue) lent c.offer_lemma.ensures.port c.tidy_up.ensures.held
 
 pub returns-in-Err-tidy_up-clause-looks : goal.returns-in-Err-tidy_up-clause-looks
 returns-in-Err-tidy_up-clause-looks g c = λ base before.
@@ -402,4 +404,8 @@ returns-in-Ok-leave_conflict-clause-listed g c = λ on.
       reductions = lists.0.reductions ∙ ap (λ (r : Ring). r.reductions) same;
       reduced_at = lists.0.reduced_at ∙ ap (λ (r : Ring). r.reduced_at) same;
     })
-    (lists.1 ∙ ap (λ (r : Ring). attached r.watches ++ option_to_list c.in-Ok.address) same) count c.requires.listed))
+    (lists.1 ∙ ap (λ (r : Ring). attached r.watches ++ option_to_list c.in-Ok.address) same) count
+    c.learn.ensures.kept (λ a. held_same v w a c.tidy_up.ensures.held ∙ lent.same a)
+    (grown_then u v w (grown_none u v (ap (λ (x : PortState). x.mine) lent.state)) wrote.grown)
+    (wrote.reduced ∙ reductions_still u v (ap (λ (x : PortState). x.ring) lent.state) (ap (λ (x : PortState). x.mine) lent.state))
+    (λ long. (glue_bounds old.trail.steps c.args.lits.now c.args.glue c.requires.glue long).0) c.requires.listed))

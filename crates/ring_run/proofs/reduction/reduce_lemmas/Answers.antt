@@ -1,9 +1,9 @@
 use Rattle.std.proofs.Common.{◌+◌, refl}
 use Rattle.ring_run.proofs.Offering.{nothing_then}
 use Rattle.ring_run.proofs.Progress.{refused_ends}
-use Rattle.ring_run.proofs.Reducing.{may_reduce, noted_goes_on, noted_import, noted_lemmas, noted_nothing, cut_short_over, cut_short_nothing, reduced_goes_on, reduced_import, reduced_nothing, reduced_lemmas}
+use Rattle.ring_run.proofs.Reducing.{noted_goes_on, noted_import, noted_lemmas, noted_nothing, cut_short_over, cut_short_nothing, reduced_goes_on, reduced_import, reduced_nothing, reduced_lemmas, timely_reduce}
 use Rattle.ring_run.proofs.Resting.{import_resting}
-use Rattle.ring_run.proofs.Shrinking.{reduced_opening, reduced_quiet, reduced_lately, reduced_none}
+use Rattle.ring_run.proofs.Shrinking.{reduced_opening, reduced_quiet, reduced_lately, reduced_none, reduced_some}
 use Rattle.ring_run.proofs.reduction.reduce_lemmas.Goals as goal
 
 pub returns-in-Err-clause-over : goal.returns-in-Err-clause-over
@@ -23,7 +23,7 @@ returns-in-Err-reduce-clause-over g c = λ n limit below start p.
     let s = g.P.Port.state c.args.port.now in
     let m = g.P.Port.state c.note_reduce.new.self in
     cut_short_over s m (g.P.Port.state c.reduce.new.port) c.args.ring.now c.in-Ok.ensures.noted c.requires.listed c.in-Err-reduce.stop c.in-Err-reduce.ensures.reduced c.reduce.ensures.log c.reduce.ensures.port start n limit below
-    (noted_goes_on s m c.in-Ok.ensures.noted start n p (may_reduce s c.args.ring.now c.requires.listed c.requires.due) c.note_reduce.ensures.log c.note_reduce.ensures.port)
+    (noted_goes_on s m c.in-Ok.ensures.noted start n p (timely_reduce s c.args.ring.now c.requires.listed c.requires.due) c.note_reduce.ensures.log c.note_reduce.ensures.port)
 
 pub returns-in-Err-reduce-clause-nothing : goal.returns-in-Err-reduce-clause-nothing
 returns-in-Err-reduce-clause-nothing g c =
@@ -40,7 +40,7 @@ returns-clause-ok g c = λ start n p.
     let s = g.P.Port.state c.args.port.now in
     let m = g.P.Port.state c.note_reduce.new.self in
     reduced_goes_on s m (g.P.Port.state c.reduce.new.port) c.args.ring.now c.in-Ok.ensures.noted c.requires.listed c.args.ring.now.watches c.reduce.new.watches c.args.ring.now.trail.steps c.reduce.new.lemmas.items c.in-Ok-reduce.ensures.reduced start n
-    (noted_goes_on s m c.in-Ok.ensures.noted start n p (may_reduce s c.args.ring.now c.requires.listed c.requires.due) c.note_reduce.ensures.log c.note_reduce.ensures.port)
+    (noted_goes_on s m c.in-Ok.ensures.noted start n p (timely_reduce s c.args.ring.now c.requires.listed c.requires.due) c.note_reduce.ensures.log c.note_reduce.ensures.port)
     c.reduce.ensures.log c.reduce.ensures.port
 
 pub returns-clause-resting : goal.returns-clause-resting
@@ -57,6 +57,7 @@ returns-clause-resting g c =
     (noted_import s m noted ring.trail ring.watches ring.written c.requires.import c.note_reduce.ensures.port) ready c.reduce.ensures.port)
     (reduced_opening s m u noted ring.watches c.reduce.new.watches ring.trail.steps ring.lemmas.items c.reduce.new.lemmas.items done c.requires.opening)
     (reduced_quiet s m u noted ring.watches c.reduce.new.watches ring.trail.steps ring.lemmas.items c.reduce.new.lemmas.items done ring.trail c.requires.quiet ready)
+    (reduced_some s m u noted ring.watches c.reduce.new.watches ring.trail.steps ring.lemmas.items c.reduce.new.lemmas.items done)
     (reduced_lately s m u noted ring.watches c.reduce.new.watches ring.trail.steps ring.lemmas.items c.reduce.new.lemmas.items done)
     (reduced_none s m u noted ring.watches c.reduce.new.watches ring.trail.steps ring.lemmas.items c.reduce.new.lemmas.items done)
 

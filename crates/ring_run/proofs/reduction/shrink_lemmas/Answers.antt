@@ -1,6 +1,4 @@
-use Rattle.std.proofs.Common.{◌≡◌, ◌∙◌, ◌≤◌, ap, refl, arith, length, Ok}
-use Rattle.ring_port.specs.PortState.{PortState}
-use Rattle.ring_trail.specs.TrailData.{TrailData}
+use Rattle.std.proofs.Common.{ap, refl, arith, length, Ok}
 use Rattle.ring_run.specs.declared.ring.Ring.{Ring}
 use Rattle.ring_run.proofs.Listing.{listed_same}
 use Rattle.ring_run.proofs.Offering.{nothing_then}
@@ -8,6 +6,7 @@ use Rattle.ring_run.proofs.Reducing.{wrote_import}
 use Rattle.ring_run.proofs.Resting.{resting_import}
 use Rattle.ring_run.proofs.Shrinking.{refused_halts, halts_then}
 use Rattle.ring_run.proofs.reduction.shrink_lemmas.Goals as goal
+use Rattle.ring_run.proofs.Numbering.{kept_wrote}
 
 pub returns-in-Err-clause-over : goal.returns-in-Err-clause-over
 returns-in-Err-clause-over g c =
@@ -28,6 +27,7 @@ returns-in-Ok-tidy_up-clause-shrunk g c = record {
   reduced = c.in-Ok.ensures.reduced;
   same_trail = ap (λ (r : Ring). r.trail) c.reduce_lemmas.ensures.same;
   vivified_port = g.P.Port.state c.vivify_lemmas.new.port;
+  ordered = c.in-Ok.ensures.listed.ordered;
   vivified = c.in-Ok-vivify_lemmas.ensures.took;
   counted = ap (λ (r : Ring). r.reductions) c.vivify_lemmas.ensures.same;
   lines = c.in-Ok-tidy_up.ensures.wrote;
@@ -50,7 +50,7 @@ returns-in-Ok-tidy_up-clause-listed g c =
     let u = g.P.Port.state c.tidy_up.new.port in
     let ring = c.vivify_lemmas.new.ring in
     let wrote = c.in-Ok-tidy_up.ensures.wrote in
-    listed_same m u ring ring wrote.stays.start wrote.recent refl (λ d there. there) refl refl refl c.in-Ok-vivify_lemmas.ensures.listed
+    listed_same m u ring ring wrote.stays.start wrote.recent refl (λ d there. there) refl refl refl (kept_wrote m u ring.lemmas.items wrote) c.in-Ok-vivify_lemmas.ensures.listed
 
 pub returns-in-Ok-tidy_up-clause-steps : goal.returns-in-Ok-tidy_up-clause-steps
 returns-in-Ok-tidy_up-clause-steps g c =

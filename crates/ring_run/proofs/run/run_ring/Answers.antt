@@ -1,5 +1,7 @@
 use Rattle.ring_run.proofs.Offering.{offers_stay}
 use Rattle.ring_run.proofs.run.run_ring.Goals as goal
+use Rattle.std.proofs.Common.{[]}
+use Rattle.ring_run.proofs.Numbering.{timely_spaced}
 
 pub returns-clause-stays : goal.returns-clause-stays
 returns-clause-stays g c = (c.claim.ensures.runs (g.P.Port.state c.args.port.now) c.run_job-end.result.1.learned c.run_job-end.ensures.ends.runs).stays
@@ -29,4 +31,7 @@ pub returns-clause-polled : goal.returns-clause-polled
 returns-clause-polled g c = c.claim.ensures.polled c.run_job-end.result.1.restarts c.run_job-end.ensures.polled
 
 pub returns-clause-spaced : goal.returns-clause-spaced
-returns-clause-spaced g c = (c.claim.ensures.runs (g.P.Port.state c.args.port.now) c.run_job-end.result.1.learned c.run_job-end.ensures.ends.runs).spaced
+returns-clause-spaced g c = timely_spaced [] (g.P.Port.state c.claim.new.port).mine (c.claim.ensures.runs (g.P.Port.state c.args.port.now) c.run_job-end.result.1.learned c.run_job-end.ensures.ends.runs).timely
+
+pub returns-clause-timely : goal.returns-clause-timely
+returns-clause-timely g c = (c.claim.ensures.runs (g.P.Port.state c.args.port.now) c.run_job-end.result.1.learned c.run_job-end.ensures.ends.runs).timely

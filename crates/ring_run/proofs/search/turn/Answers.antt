@@ -10,6 +10,7 @@ use Rattle.ring_run.specs.declared.ring.Ring.{Ring}
 use Rattle.ring_run.proofs.Turning.{grown_search, compose, further_grown}
 use Rattle.ring_run.proofs.Listing.{listed_same}
 use Rattle.ring_run.proofs.search.turn.Goals as goal
+use Rattle.ring_run.proofs.Numbering.{kept_none}
 
 pub learn_from-requires-clause-search : goal.learn_from-requires-clause-search
 learn_from-requires-clause-search g c =
@@ -73,11 +74,11 @@ learn_from-requires-clause-listed g c =
     let s = g.P.Port.state c.args.port.now in
     let between : Ring = record c.args.ring.now { trail = c.propagate.new.trail; watches = c.propagate.new.self } in
     subst (λ (x : PortState). HasLemmas x between) (sym c.propagate.ensures.same)
-    (listed_same s s c.args.ring.now between refl refl refl (λ d there. subst (λ (cs : List Cref). Contains cs d) (sym c.propagate.ensures.attached) there) refl refl refl c.requires.listed)
+    (listed_same s s c.args.ring.now between refl refl refl (λ d there. subst (λ (cs : List Cref). Contains cs d) (sym c.propagate.ensures.attached) there) refl refl refl (kept_none s c.args.ring.now.lemmas.items) c.requires.listed)
 
 pub decide_next-requires-clause-listed : goal.decide_next-requires-clause-listed
 decide_next-requires-clause-listed g c =
     let s = g.P.Port.state c.args.port.now in
     let between : Ring = record c.args.ring.now { trail = c.propagate.new.trail; watches = c.propagate.new.self } in
     subst (λ (x : PortState). HasLemmas x between) (sym c.propagate.ensures.same)
-    (listed_same s s c.args.ring.now between refl refl refl (λ d there. subst (λ (cs : List Cref). Contains cs d) (sym c.propagate.ensures.attached) there) refl refl refl c.requires.listed)
+    (listed_same s s c.args.ring.now between refl refl refl (λ d there. subst (λ (cs : List Cref). Contains cs d) (sym c.propagate.ensures.attached) there) refl refl refl (kept_none s c.args.ring.now.lemmas.items) c.requires.listed)

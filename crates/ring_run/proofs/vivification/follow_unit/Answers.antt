@@ -1,24 +1,19 @@
-use Rattle.std.proofs.Common.{◌≡◌, ◌∙◌, ℕ, [], subst, ap, sym, length, None}
-use Rattle.std.specs.declared.option.Option.{Option}
-use Rattle.sat_words.specs.declared.shared.Cref.{Cref}
+use Rattle.std.proofs.Common.{◌≡◌, ◌∙◌, ℕ, [], subst, ap, sym, length, None, arith}
 use Rattle.rup_model.specs.Journal.{recent}
-use Rattle.rup_model.specs.Rup.{rup}
-use Rattle.ring_port.specs.PortState.{PortState, lits_at, known}
+use Rattle.ring_port.specs.PortState.{PortState, lits_at}
 use Rattle.ring_trail.specs.TrailData.{TrailData, IsTrail, HasGrown, assigned}
 use Rattle.watch_prop.specs.WatchData.{WatchData, attached}
 use Rattle.watch_prop.specs.Watched.{Watched}
 use Rattle.watch_prop.specs.Propagation.{HasReasons, IsClosedBelow, IsPropagated, IsConflict, IsQuiet}
-use Rattle.watch_prop.specs.declared.propagated.Propagated.{Propagated}
 use Rattle.ring_run.specs.Searching.{GoesOn, OnlyWrote, AreTold}
 use Rattle.ring_run.specs.Ending.{EndsAt, end_refused}
 use Rattle.ring_run.specs.Course.{Searches}
-use Rattle.ring_run.specs.declared.job.End.{End}
 use Rattle.ring_run.proofs.Resting.{conflict_refutes}
 use Rattle.ring_run.proofs.Shrinking.{refused_halts}
 use Rattle.ring_run.proofs.Standing.{no_value}
 use Rattle.ring_run.proofs.Turning.{grown_search, quiet_same}
-use Rattle.ring_run.proofs.vivification.follow_unit.Given.{Over}
 use Rattle.ring_run.proofs.vivification.follow_unit.Goals as goal
+use Rattle.ring_run.specs.Ended.{reductions}
 
 pub assign-requires-clause-free : goal.assign-requires-clause-free
 assign-requires-clause-free g c = no_value c.args.ring.now.trail.steps c.args.lit.var c.requires.awaits.free
@@ -90,6 +85,7 @@ returns-in-Ok-write_pending-clause-resting g c =
       level = ap (λ (x : TrailData). x.level) c.write_pending.ensures.trail ∙ level;
       quiet = quiet_same s u t c.write_pending.new.ring.trail w c.write_pending.new.ring.watches (c.write_pending.ensures.held ∙ ap (λ (x : PortState). x.held) same) c.write_pending.ensures.trail c.write_pending.ensures.watches quiet;
       whole = k.whole level;
+      reduced = (let same_log = ap (λ (x : PortState). reductions x.ring x.mine) same in let wrote = k.wrote.reduced in omega (arith, same_log, wrote, c.requires.awaits.reduced));
       lately = k.wrote.recent ∙ ap (λ (x : PortState). recent x.ring x.mine) same ∙ c.requires.awaits.lately;
       none_taken = k.wrote.taken ∙ ap (λ (x : PortState). x.taken) same ∙ c.requires.awaits.none_taken;
     }

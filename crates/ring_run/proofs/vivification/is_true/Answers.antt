@@ -1,16 +1,13 @@
-use Rattle.std.proofs.Common.{◌≡◌, ◌∙◌, ◌<◌, ◌≤◌, ℕ, Bool, true, false, not, length, Some, subst, ap, sym, refl, inl, inr, arith}
+use Rattle.std.proofs.Common.{◌≡◌, ◌∙◌, length, Some, subst, ap, sym, inl, inr, arith}
 use Rattle.std.specs.List.{slice_get}
-use Rattle.sat_words.specs.Literal.{Literal, IsOn, opposite}
-use Rattle.sat_words.specs.Clause.{has}
+use Rattle.sat_words.specs.Literal.{Literal, IsOn}
 use Rattle.ring_port.specs.PortState.{PortState, lits_at}
 use Rattle.ring_port.proofs.Holdings.{held_is_kept}
-use Rattle.ring_trail.specs.declared.step.Step.{Step}
 use Rattle.ring_trail.specs.TrailData.{IsTrueOn, IsFalseOn}
 use Rattle.watch_prop.proofs.ListsLemmas.{cases_eq}
 use Rattle.watch_prop.proofs.Ranks.{at_has, has_at, same_there}
 use Rattle.ring_run.proofs.Marked.{all_at}
 use Rattle.ring_run.proofs.Resting.{opposite_false, true_is_not}
-use Rattle.ring_run.proofs.vivification.is_true.Given.{Over}
 use Rattle.ring_run.proofs.vivification.is_true.Goals as goal
 
 pub is_false-requires : goal.is_false-requires

@@ -1,15 +1,14 @@
 use Rattle.std.proofs.Common.{◌≡◌, ◌≢◌, ◌∙◌, ℕ, IsSome, subst, ap, refl, Ok}
-use Rattle.sat_words.specs.declared.shared.Cref.{Cref}
 use Rattle.ring_port.specs.PortState.{PortState, held_at}
 use Rattle.ring_port.specs.Log.{KeepsLog}
 use Rattle.vivify.specs.Outcome.{IsVivified, WasCutShort}
 use Rattle.vivify.specs.declared.shorten.Vivified.{Vivified}
 use Rattle.ring_run.specs.Renewal.{point, IsNamed}
 use Rattle.ring_run.specs.declared.ring.Ring.{Ring}
-use Rattle.ring_run.proofs.LeftBehind.{left_behind, left_keeps, left_rest, left_others, cut_over, cut_rest}
+use Rattle.ring_run.proofs.LeftBehind.{left_behind, left_keeps, left_rest, left_others, cut_over, cut_rest, what_is_left}
 use Rattle.ring_run.proofs.Offering.{nothing_then}
 use Rattle.ring_run.proofs.Reducing.{ok_then, err_then}
-use Rattle.ring_run.proofs.Shrinking.{refused_halts, halts_then, if_ok_then}
+use Rattle.ring_run.proofs.Shrinking.{refused_halts, halts_then, if_ok_then, ok_of}
 use Rattle.ring_run.proofs.vivification.vivify_lemma.Goals as goal
 
 pub settle_left-requires : goal.settle_left-requires
@@ -73,7 +72,22 @@ returns-in-Ok-clause-others g c =
     let log = subst (λ (x : PortState). KeepsLog x m) same c.vivify.ensures.log in
     let port = c.vivify.ensures.port in
     let z : IsVivified s m ring.watches mid.watches ring.trail.steps lemma c.in-Ok.left = subst (λ (x : PortState). IsVivified x m ring.watches mid.watches ring.trail.steps lemma c.in-Ok.left) same c.in-Ok.ensures.vivified in
-    if_ok_then c.settle_left.result c.settle_left.ensures.went (λ o w. left_others s m ring mid lemma c.requires.resting c.requires.lemma named stay log port (g.P.Port.state c.settle_left.new.port) c.settle_left.new.ring c.in-Ok.left o z w)
+    ok_of c.settle_left.result (λ o w. left_others s m ring mid lemma c.requires.resting c.requires.lemma named stay log port (g.P.Port.state c.settle_left.new.port) c.settle_left.new.ring c.in-Ok.left o z w) c.settle_left.ensures.went
+
+pub returns-in-Ok-clause-left : goal.returns-in-Ok-clause-left
+returns-in-Ok-clause-left g c =
+    let s = g.P.Port.state c.args.port.now in
+    let m = g.P.Port.state c.vivify.new.port in
+    let ring = c.args.ring.now in
+    let mid : Ring = record ring { trail = c.vivify.new.trail; watches = c.vivify.new.watches } in
+    let lemma = c.args.c in
+    let same = c.is_named.ensures.same in
+    let named : IsNamed (point s ring) lemma = c.is_named.ensures.yes c.if-not-is_named.false in
+    let stay = subst (λ (x : PortState). (a : ℕ) → a ≢ lemma.address → IsSome (held_at x a) → held_at m a ≡ held_at x a) same c.vivify.ensures.others in
+    let log = subst (λ (x : PortState). KeepsLog x m) same c.vivify.ensures.log in
+    let port = c.vivify.ensures.port in
+    let z : IsVivified s m ring.watches mid.watches ring.trail.steps lemma c.in-Ok.left = subst (λ (x : PortState). IsVivified x m ring.watches mid.watches ring.trail.steps lemma c.in-Ok.left) same c.in-Ok.ensures.vivified in
+    if_ok_then c.settle_left.result c.settle_left.ensures.went (λ o w. what_is_left s m ring mid lemma c.requires.resting c.requires.lemma named stay log port (g.P.Port.state c.settle_left.new.port) c.settle_left.new.ring c.in-Ok.left o z w)
 
 pub returns-in-Ok-clause-nothing : goal.returns-in-Ok-clause-nothing
 returns-in-Ok-clause-nothing g c =

@@ -1,5 +1,4 @@
-use Rattle.std.proofs.Common.{◌≡◌, ◌∙◌, ◌≤◌, ◌<◌, ap, sym, subst, refl, arith, length}
-use Rattle.ring_port.specs.PortState.{PortState}
+use Rattle.std.proofs.Common.{◌∙◌, ◌≤◌, ◌<◌, ap, refl, arith, length}
 use Rattle.ring_run.specs.Renewal.{point}
 use Rattle.ring_run.specs.declared.ring.Ring.{Ring}
 use Rattle.ring_run.proofs.Offering.{nothing_none, nothing_then}
@@ -36,7 +35,8 @@ loop-turn-preserved g c =
       keeps = λ start n p. k.keeps start n (i.keeps start n p);
       resting = k.resting;
       listed = k.listed;
-      turned = one_turned (point s old) (point m mid) (point u new) old.lemmas.items mid.lemmas.items new.lemmas.items c.loop-turn._turn c.loop-turn.place c.in-Ok.next i.turned k.took;
+      turned = one_turned (point s old) (point m mid) (point u new) old.lemmas.items mid.lemmas.items new.lemmas.items c.loop-turn._turn c.loop-turn.place c.in-Ok.next
+          (let q = c.loop-turn-test.true in let n = c.len-turn-end.ensures in let e = old.lemmas.ok.0 in omega (arith, q, n, e)) i.turned k.took;
       steps = omega (arith, i.steps, k.steps);
       same = k.same ∙ ap (λ (r : Ring). record r { trail = new.trail; watches = new.watches; written = new.written; lemmas = new.lemmas }) i.same;
       looks = k.looks ∙ i.looks;

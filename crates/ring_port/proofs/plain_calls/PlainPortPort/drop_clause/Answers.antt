@@ -31,8 +31,8 @@ invariant_of-self-2 g c =
     let some : IsSome (find (is_at c.args.c.address) p.held) = at_address (state_of p) c.args.c.address (subst (λ s. IsSome (held_at s c.args.c.address)) (sym (state_is c.self.view_is)) c.requires.held) in
     let place = held_place p c.self.invariant c.args.c.address some in
     let waits : c.push_back.new.self.items ≡ p.waiting ++ c.args.c ∷ [] = pushed_ok c.push_back.result (p.waiting ++ c.args.c ∷ []) p.waiting c.push_back.new.self.items c.push_back.ensures.items (sym c.is_err.ensures.value ∙ c.if-is_err.false) in
-    subst (λ (w : List Holding × List Holding × List Cref). IsPlain (record p { all = w.0; held = w.1; waiting = w.2 })) (λ i. (sym c.release.ensures.all i, sym c.release.ensures.held i, sym waits i))
-    (plain_dropped p c.self.invariant c.args.c place.0 place.1 place.2)
+    subst (λ (w : List Holding × List Holding × List Cref). IsPlain (record p { all = w.0; held = w.1; waiting = w.2; last = c.unless_at-last.result })) (λ i. (sym c.release.ensures.all i, sym c.release.ensures.held i, sym waits i))
+    (plain_dropped p c.self.invariant c.args.c place.0 place.1 place.2 c.unless_at-last.result)
 
 pub returns-clause-port : goal.returns-clause-port
 returns-clause-port g c = plain_port _ (invariant_of-self-2 g c)
@@ -44,9 +44,9 @@ returns-clause-dropped g c =
     let some : IsSome (find (is_at c.args.c.address) p.held) = at_address (state_of p) c.args.c.address (subst (λ s. IsSome (held_at s c.args.c.address)) (sym (state_is c.self.view_is)) c.requires.held) in
     let place = held_place p c.self.invariant c.args.c.address some in
     let waits : c.push_back.new.self.items ≡ p.waiting ++ c.args.c ∷ [] = pushed_ok c.push_back.result (p.waiting ++ c.args.c ∷ []) p.waiting c.push_back.new.self.items c.push_back.ensures.items (sym c.is_err.ensures.value ∙ c.if-is_err.false) in
-    subst (λ s. DroppedOnce s (state_of (record p { all = c.release.new.self.all; held = c.release.new.self.held; waiting = c.push_back.new.self.items })) c.args.c.address) (state_is c.self.view_is)
-    (subst (λ (w : List Holding × List Holding × List Cref). DroppedOnce (state_of p) (state_of (record p { all = w.0; held = w.1; waiting = w.2 })) c.args.c.address) (λ i. (sym c.release.ensures.all i, sym c.release.ensures.held i, sym waits i))
-    (drop_did p c.self.invariant c.args.c place.0 place.1 place.2))
+    subst (λ s. DroppedOnce s (state_of (record p { all = c.release.new.self.all; held = c.release.new.self.held; waiting = c.push_back.new.self.items; last = c.unless_at-last.result })) c.args.c.address) (state_is c.self.view_is)
+    (subst (λ (w : List Holding × List Holding × List Cref). DroppedOnce (state_of p) (state_of (record p { all = w.0; held = w.1; waiting = w.2; last = c.unless_at-last.result })) c.args.c.address) (λ i. (sym c.release.ensures.all i, sym c.release.ensures.held i, sym waits i))
+    (drop_did p c.self.invariant c.args.c place.0 place.1 place.2 c.unless_at-last.result c.unless_at-last.ensures))
 
 pub returns-clause-log : goal.returns-clause-log
 returns-clause-log g c =
@@ -55,6 +55,6 @@ returns-clause-log g c =
     let some : IsSome (find (is_at c.args.c.address) p.held) = at_address (state_of p) c.args.c.address (subst (λ s. IsSome (held_at s c.args.c.address)) (sym (state_is c.self.view_is)) c.requires.held) in
     let place = held_place p c.self.invariant c.args.c.address some in
     let waits : c.push_back.new.self.items ≡ p.waiting ++ c.args.c ∷ [] = pushed_ok c.push_back.result (p.waiting ++ c.args.c ∷ []) p.waiting c.push_back.new.self.items c.push_back.ensures.items (sym c.is_err.ensures.value ∙ c.if-is_err.false) in
-    subst (λ s. KeepsLog s (state_of (record p { all = c.release.new.self.all; held = c.release.new.self.held; waiting = c.push_back.new.self.items }))) (state_is c.self.view_is)
-    (subst (λ (w : List Holding × List Holding × List Cref). KeepsLog (state_of p) (state_of (record p { all = w.0; held = w.1; waiting = w.2 }))) (λ i. (sym c.release.ensures.all i, sym c.release.ensures.held i, sym waits i))
-    (drop_keeps p c.self.invariant c.args.c place.0 place.1 place.2))
+    subst (λ s. KeepsLog s (state_of (record p { all = c.release.new.self.all; held = c.release.new.self.held; waiting = c.push_back.new.self.items; last = c.unless_at-last.result }))) (state_is c.self.view_is)
+    (subst (λ (w : List Holding × List Holding × List Cref). KeepsLog (state_of p) (state_of (record p { all = w.0; held = w.1; waiting = w.2; last = c.unless_at-last.result }))) (λ i. (sym c.release.ensures.all i, sym c.release.ensures.held i, sym waits i))
+    (drop_keeps p c.self.invariant c.args.c place.0 place.1 place.2 c.unless_at-last.result))

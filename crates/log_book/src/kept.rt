@@ -34,7 +34,7 @@ fn same(lit: Lit) -> Lit
     Lit::new(lit.var(), lit.is_neg())
 }
 
-pub(crate) fn copy_of_lits(alloc: Global, lits: &[Lit]) -> Result<Lits, AllocError>
+fn copy_of_lits(alloc: Global, lits: &[Lit]) -> Result<Lits, AllocError>
     ensures is { IfOk result (λ copy. copy ≡ lits.now) }
     ensures on { OnOk result (All (IsOn (2 ^ 30)) lits.now) }
 {

@@ -25,3 +25,5 @@ pub use turns::{give_turn, take_turn};
 
 #[cfg(test)]
 mod tests;
+#[cfg(test)]
+mod tests_speed;

@@ -1,14 +1,16 @@
 // What a turn writes.
-ghost use Rattle.std.specs.Prelude.{◌≡◌, length, IfOk, IfErr, OnOk};
+ghost use Rattle.std.specs.Prelude.{◌≡◌, ◌≤◌, ◌<◌, ◌⊎◌, length, IfOk, IfErr, OnOk};
 ghost use Rattle.share_rule.specs.declared.note.Note.TheVariants.{Clause, Unit as UnitNote, Empty, Reduce, Bury};
 ghost use Rattle.share_rule.specs.Seen.{Seen};
 ghost use Rattle.share_rule.specs.Turns.{next_number};
+ghost use Rattle.clause_cell.specs.Free.{largest};
+ghost use Rattle.log_book.specs.declared.stop.TurnStop.TheVariants.{NoHole, Memory};
 ghost use Rattle.log_book.specs.Turns.{IsTurn, MayNext, MayAdd, Grown, Stopped, IsCause, IsAddCause, waiting, sheet};
 
 use crate::book::Book;
 use crate::stop::TurnStop;
 use crate::turn::Turn;
-use clause_cell::words_for;
+use clause_cell::{HoleStop, words_for};
 use io_edge::{Failed, Sink};
 use rup_model::Kind;
 use sat_words::{Cref, Line, Lit, Lits};
@@ -137,6 +139,18 @@ impl<S: Sink> Turn<S> {
         }
     }
 
+    /// Why a clause of so many words is refused where memory ran out: for want of a hole, where there is none.
+    fn no_memory(&self, need: u64) -> TurnStop
+        ensures { ((need ≤ largest self.now.book.holes) × (result ≡ Memory)) ⊎ ((largest self.now.book.holes < need) × (result ≡ NoHole need (largest self.now.book.holes))) }
+    {
+        let largest = self.book.holes.largest();
+        if need > largest {
+            TurnStop::NoHole { need, largest }
+        } else {
+            TurnStop::Memory
+        }
+    }
+
     pub(crate) fn write_clause(
         &mut self,
         alloc: Global,
@@ -156,22 +170,22 @@ impl<S: Sink> Turn<S> {
             return Err(stop);
         }
         let need = words_for(lits.len() as u32);
-        let largest = self.book.holes.largest();
-        if need > largest {
-            return Err(TurnStop::NoHole { need, largest });
-        }
         let Ok(copy) = Lits::from_slice(alloc, lits) else {
-            return Err(TurnStop::Memory);
+            return Err(self.no_memory(need));
         };
         let Ok(noted) = Lits::from_slice(alloc, lits) else {
-            return Err(TurnStop::Memory);
+            return Err(self.no_memory(need));
         };
         let line = Line::Add(copy);
         if self.make_room(&line).is_err() {
-            return Err(TurnStop::Memory);
+            return Err(self.no_memory(need));
         }
-        let Ok(address) = self.book.holes.take(need) else {
-            unreachable!()
+        let address = match self.book.holes.take(need) {
+            Ok(address) => address,
+            Err(HoleStop::NoHole { need, largest }) => {
+                return Err(TurnStop::NoHole { need, largest });
+            }
+            Err(HoleStop::Memory) => unreachable!(),
         };
         match self.book.write(&line) {
             Ok(_) => {

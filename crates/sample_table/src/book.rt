@@ -16,15 +16,14 @@ pub struct SampleBook {
 }
 
 impl Ledger for SampleBook {
-    ghost use Rattle.std.specs.Prelude.{⊤, None, false};
     ghost use Rattle.share_rule.specs.Views.{no_origin};
+    ghost use Rattle.sample_table.specs.Books.{account_of, IsAnyLog};
 
-    // No lines are kept, and nothing is written.
-    ghost account = { λ b. record { entries = b.entries; last = b.last; ended = false; broken = false; holes = b.holes; kept = None } };
+    ghost account = { account_of };
 
     ghost origin = { λ b. no_origin };
 
-    ghost stands = { λ b w l F J. ⊤ };
+    ghost stands = { IsAnyLog };
 
     fn entries(&self) -> u64 {
         self.entries

@@ -7,7 +7,7 @@ mod making;
 mod rings;
 
 pub use book::SampleBook;
-pub use making::{open, refusal};
+pub use making::{open, open_with, refusal};
 pub use rings::{Ring, begin, gather, give_up, start_cell};
 
 #[cfg(test)]

@@ -1,7 +1,8 @@
 //! Rings with their passes.
-ghost use Rattle.std.specs.Prelude.{◌≡◌, ◌<◌, ◌+◌, IfOk, ℕ};
+ghost use Rattle.std.specs.Prelude.{◌≡◌, ◌<◌, ◌+◌, ◌∷◌, [], IfOk, ℕ};
 ghost use Rattle.share_core.specs.State.{times_at};
 ghost use Rattle.share_rule.specs.FirstWords.{addresses};
+ghost use Rattle.share_rule.specs.Steps.{new_part};
 ghost use Rattle.share_rule.specs.Views.{only};
 ghost use Rattle.sample_table.specs.Samples.{IsFirst, IsRing, IsHolder, IsGathered};
 
@@ -31,6 +32,7 @@ pub fn begin<B: Ledger>(table: &Shared<B>, first: &mut Pass<B>, ring: u32, cell:
     ensures first { IsFirst table.now first.new (ring + 1) }
     ensures same { (first.new.me.0.opening ≡ first.old.me.0.opening) × (first.new.me.0.parts ≡ first.old.me.0.parts) }
     ensures held { (only result.pass.me.0).core.held ≡ first.old.me.0.opening.starts }
+    ensures part { (result.pass.me.0.parts ≡ new_part first.old.me.0.opening ring ∷ []) × (result.pass.me.0.opening ≡ first.old.me.0.opening) }
     ensures ring { IsHolder table.now result.pass ring cell.address 0 × (result.ring ≡ ring) × (result.cell ≡ cell) }
 {
     let mut pass = split(table, first, ring);

@@ -4,6 +4,9 @@ use Rattle.sat_words.specs.Clause.{is_empty}
 use Rattle.sat_words.specs.declared.line.Line.TheVariants.{Add as AddLine}
 use Rattle.clause_cell.specs.Packing.{words_for}
 use Rattle.clause_cell.specs.Free.{without_fit, first_fit}
+use Rattle.clause_cell.proofs.Ranges.{some_largest}
+use Rattle.io_edge.specs.Causes.{Rose}
+use Rattle.drat_text.specs.LineState.{LineState}
 use Rattle.share_rule.specs.declared.note.Note.{Note}
 use Rattle.share_rule.specs.declared.note.Note.TheVariants.{Clause}
 use Rattle.share_rule.specs.declared.view.View.{View}
@@ -66,6 +69,24 @@ returns-in-Err-write-clause-stopped g c =
     let f = failed_turn g.S.Sink.written g.S.Sink.flushed g.S.Sink.target g.S.Sink.faults v t c.requires.seen h note could (k.0, k.1, k.2, k.3, fit) _ refl _ (AddLine c.in-Ok.copy) (λ i. AddLine (sym c.in-Ok.ensures i) ∷ []) (subst (λ (ks : List Literal). All (IsOn v.layout.vars) ks) (sym c.in-Ok.ensures) (all_on v.layout lits k.3)) c.make_room.ensures.noted.0 c.make_room.ensures.noted.1
     _ same.lines same.entries same.ended same.kept c.write.new.self c.in-Err-write.ensures refl refl refl in
     record { noted = c.make_room.ensures.noted.0; refused = c.make_room.ensures.noted.1; turn = f.0; grounded = f.1; alike = λ ne. absurd (ne refl) }
+
+pub returns-in-Err-write-clause-cause : goal.returns-in-Err-write-clause-cause
+returns-in-Err-write-clause-cause g c =
+    let v : View = c.args.pass.now.me.0 in
+    let t = c.args.self.now in
+    let h = c.requires.turn in
+    let could = c.in_default.ensures.going in
+    let same = c.make_room.ensures.same in
+    let lits : List Literal = c.args.lits.now in
+    let m : Room = room v.layout v.opening (sheet v t).journal in
+    let need : ℕ = words_for (length lits) in
+    let need_is : c.words_for-need.result ≡ need = c.words_for-need.ensures in
+    let holes_are : c.make_room.new.self.book.holes ≡ m.holes = same.holes ∙ h.stands.holes could.1 in
+    let fit : first_fit need m.holes ≡ Some c.in-Ok-take.address = (λ i. first_fit (sym need_is i) (sym holes_are i)) ∙ c.in-Ok-take.ensures.found in
+    let f = c.in-Err-write.ensures.failed in (
+      (could.0, could.1, ap (λ (s : LineState). s.spent) f.state, subst (λ (n : ℕ). Rose n (g.S.Sink.faults c.write.new.self.log.lines.sink)) (λ i. g.S.Sink.faults (same.lines i).sink) f.rose),
+      some_largest need m.holes c.in-Ok-take.address fit,
+    )
 
 pub overflow_cast-lits : goal.overflow_cast-lits
 overflow_cast-lits g c =

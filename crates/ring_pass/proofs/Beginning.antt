@@ -1,5 +1,5 @@
 -- A ring that begins, and one that ends.
-use Rattle.std.proofs.Common.{◌≡◌, ◌≢◌, ℕ, ◌<◌, ◌≤◌, ◌==◌, true, List, [], ◌∷◌, map, length, drop, get_or, refl, sym, ap, subst, ◌∙◌, arith, Option, Some, None, IsSome}
+use Rattle.std.proofs.Common.{◌≡◌, ◌<◌, true, false, true≢false, List, [], ◌∷◌, map, drop, get_or, refl, sym, ap, subst, ◌∙◌, arith, Option, Some, IsSome}
 use Rattle.std.specs.List.{All}
 use Rattle.sat_words.specs.Literal.{Literal}
 use Rattle.sat_words.specs.Clause.{has, distinct_lits}
@@ -23,12 +23,13 @@ use Rattle.ring_pass.specs.RingState.{Own, port_of, home_of, holding_of, IsOwn}
 use Rattle.ring_pass.proofs.RingPorts.{there_here}
 
 -- nothing is kept yet
-pub own_begun : (p : RingPart) (o : Own) → o.arrived ≡ [] → o.passed ≡ 0 → o.taken ≡ [] → IsOwn p o
-own_begun p o none zero_is empty = record {
+pub own_begun : (p : RingPart) (o : Own) → o.arrived ≡ [] → o.passed ≡ 0 → o.taken ≡ [] → o.ended ≡ false → IsOwn p o
+own_begun p o none zero_is empty going = record {
   passed = let z = zero_is in omega arith;
   distinct = subst (λ (ls : List Literal). distinct_lits ls ≡ true) (sym none) refl;
   told = subst (λ (ls : List Literal). All (λ l. has p.core.seen l ≡ true) ls) (sym none) (λ k d lt. absurd (omega arith));
   taken = subst (λ (cs : List Cref). All (λ c. 0 < times_at c.address p.core.held) cs) (sym empty) (λ k d lt. absurd (omega arith));
+  ended_is = λ e. absurd (true≢false (sym e ∙ going));
 }
 
 -- where the start clauses are all that is held, each is found at its address

@@ -1,16 +1,16 @@
 -- What the port says after a look into another ring's slot.
-use Rattle.std.proofs.Common.{◌≡◌, ◌≢◌, ℕ, zero, suc, ◌+◌, ◌*◌, ◌<◌, ◌≤◌, ◌==◌, Bool, true, false, if◌then◌else◌, List, [], ◌∷◌, ◌++◌, map, length, refl, sym, ap, subst, ◌∙◌, inl, inr, arith, Option, Some, None, IsSome, eq-eqb, ne_eqb}
+use Rattle.std.proofs.Common.{◌≡◌, ◌≢◌, ℕ, suc, ◌+◌, ◌<◌, ◌==◌, Bool, true, false, if◌then◌else◌, List, [], ◌∷◌, ◌++◌, map, refl, sym, ap, subst, ◌∙◌, inl, arith, Option, Some, None, eq-eqb, ne_eqb}
 use Rattle.std.specs.Prelude.{Ok}
-use Rattle.std.specs.List.{All, find}
-use Rattle.sat_words.specs.Clause.{has}
+use Rattle.std.specs.List.{All}
+use Rattle.sat_words.specs.Literal.{Literal}
 use Rattle.sat_words.specs.declared.shared.Cref.{Cref}
 use Rattle.rup_model.specs.Basics.{one_if}
-use Rattle.rup_model.proofs.Lists.{In, In_append_left, In_append_right}
+use Rattle.rup_model.proofs.Lists.{In, In_append_right}
 use Rattle.rup_model.proofs.ProgramOpening.{All_from_In}
 use Rattle.atomic_table.specs.declared.shared.Seat.{Seat}
 use Rattle.share_core.specs.declared.stored.ClauseAt.{ClauseAt}
 use Rattle.share_core.specs.declared.part.CoreOpening.{CoreOpening}
-use Rattle.share_core.specs.State.{times_at, with_cell}
+use Rattle.share_core.specs.State.{times_at}
 use Rattle.share_core.proofs.ClauseLists.{all_last, all_map, at_both, at_in}
 use Rattle.share_core.proofs.Leaving.{left_sound}
 use Rattle.share_rule.specs.declared.Shared.{Shared}
@@ -20,21 +20,21 @@ use Rattle.share_rule.specs.declared.view.RingPart.{RingPart}
 use Rattle.share_rule.specs.declared.view.View.{View}
 use Rattle.share_rule.specs.Views.{only, glue_in}
 use Rattle.share_rule.specs.Seen.{Seen}
-use Rattle.share_rule.specs.Exchanges.{KeepsGlues, with_glue, took_part, after_get}
+use Rattle.share_rule.specs.Exchanges.{KeepsGlues, took_part, after_get}
 use Rattle.pool_exchange.specs.Found.{IsFound}
 use Rattle.ring_port.specs.PortState.{Holding, PortState, IsKept, held_at, one_more}
 use Rattle.ring_port.specs.Port.{KeepsHeld}
 use Rattle.ring_port.specs.Exchange.{Polled}
 use Rattle.ring_port.proofs.Holdings.{found_in_front}
 use Rattle.ring_pass.specs.declared.waiting.Waiting.{Waiting}
-use Rattle.ring_pass.specs.RingState.{Own, port_with, port_of, home_of, holding_of, IsOwn, IsRingPass, HasRoom}
+use Rattle.ring_pass.specs.RingState.{Own, port_with, port_of, home_of, holding_of, IsOwn, IsRingPass, HasRoom, HasUnits}
 use Rattle.ring_pass.proofs.RingPorts.{copy_of, kept_of, waiting_copy, waits_free}
-use Rattle.ring_pass.proofs.Stays.{only_is, one_is, one_changed, ring_changes, name_stays}
+use Rattle.ring_pass.proofs.Stays.{only_is, one_is, one_changed, ring_changes, name_stays, units_keep}
 
 -- Glues
 
 -- of clauses that are held or wait, only copies of one cell have one number
-numbers_apart : (w : View) (s : Seen w) → w.parts ≡ only w ∷ [] → (h k : ClauseAt) → In h (only w).core.held → In k (only w).core.waiting → k.number ≢ h.number
+pub numbers_apart : (w : View) (s : Seen w) → w.parts ≡ only w ∷ [] → (h k : ClauseAt) → In h (only w).core.held → In k (only w).core.waiting → k.number ≢ h.number
 numbers_apart w s one h k i j e =
     let c = copy_of w s one h i in
     let d = waiting_copy w s one k j in
@@ -98,7 +98,7 @@ taken_after None cs = cs
 taken_after (Some c) cs = cs ++ c ∷ []
 
 own_with : (h : ClauseAt) (g : ℕ) (r : Option Cref) (p : RingPart) (o : Own) (k : ℕ) (home : List ℕ) → IsFound h.address r → IsOwn p o → IsOwn (after_part h g r p) (record o { polled = k; taken = taken_after r o.taken; home = home })
-own_with h g None p o k home f own = record { passed = own.passed; distinct = own.distinct; told = own.told; taken = own.taken }
+own_with h g None p o k home f own = record { passed = own.passed; distinct = own.distinct; told = own.told; taken = own.taken; ended_is = own.ended_is }
 own_with h g (Some c) p o k home f own =
     let more : (a : ℕ) → times_at a (p.core.held ++ h ∷ []) ≡ times_at a p.core.held + times_at a (h ∷ []) = λ a. at_both a p.core.held (h ∷ []) in
     record {
@@ -108,6 +108,7 @@ own_with h g (Some c) p o k home f own =
       taken = all_last (λ (x : Cref). 0 < times_at x.address (p.core.held ++ h ∷ [])) o.taken c
           (all_map (λ (x : Cref). 0 < times_at x.address p.core.held) (λ (x : Cref). 0 < times_at x.address (p.core.held ++ h ∷ [])) o.taken (λ x i lt. let m = more x.address in omega arith) own.taken)
           (let m = more c.address in let here : one_if (h.address == c.address) ≡ 1 = ap one_if (eq-eqb h.address c.address (sym f.1)) in omega arith);
+      ended_is = own.ended_is;
     }
 
 pub own_after : (h : ClauseAt) (g : ℕ) (r : Option Cref) (p : RingPart) (o : Own) (k : ℕ) (ts : List Cref) (home : List ℕ) → IsFound h.address r → IsOwn p o → ts ≡ taken_after r o.taken → IsOwn (after_part h g r p) (record o { polled = k; taken = ts; home = home })
@@ -154,7 +155,7 @@ polled_keeps s t (Some c) is a h = ap (λ (x : PortState). held_at x a) is.state
 
 -- For a ring with its pass
 
-got_parts : (v w : View) (from class : ℕ) (h : ClauseAt) (g : ℕ) (r : Option Cref) → v.parts ≡ only v ∷ [] → w ≡ after_get from class h g v → IsFound h.address r → w.parts ≡ after_part h g r (only v) ∷ []
+pub got_parts : (v w : View) (from class : ℕ) (h : ClauseAt) (g : ℕ) (r : Option Cref) → v.parts ≡ only v ∷ [] → w ≡ after_get from class h g v → IsFound h.address r → w.parts ≡ after_part h g r (only v) ∷ []
 got_parts v w from class h g r one is f = one_changed (took_part h g) v w one (ap (λ (u : View). u.parts) is) ∙ (λ i. part_after h g r (only v) f i ∷ [])
 
 pub ring_polls : {B : Type 0} {t : Shared B} {p : Seat (Option B) View} {n : ℕ} {st : List Cref} {o : Own} (q : Seat (Option B) View) (from class : ℕ) (h : ClauseAt) (g : ℕ) (x : Option Cref) (k : ℕ) (ts : List Cref) → IsRingPass t p n st o → IsPassOf t q → IsSamePass p q
@@ -176,6 +177,14 @@ pub room_polls : (v w : View) (from class : ℕ) (h : ClauseAt) (g : ℕ) (x : O
 room_polls v w from class h g x last ws room one is f m =
     subst (λ (o : CoreOpening). HasRoom (only w) o.rings last ws room) (sym (ap (λ (u : View). u.opening) is))
     (subst (λ (y : RingPart). HasRoom y v.opening.rings last ws room) (sym (only_is w (after_part h g x (only v)) (got_parts v w from class h g x one is f))) (room_after h g x (only v) v.opening.rings last ws room m))
+
+pub units_polls : (v w : View) (from class : ℕ) (h : ClauseAt) (g : ℕ) (x : Option Cref) (seen : List Literal) (a b : ℕ) → v.parts ≡ only v ∷ [] → w ≡ after_get from class h g v → IsFound h.address x → HasUnits (only v) v.layout.vars seen a b → HasUnits (only w) w.layout.vars seen a b
+units_polls v w from class h g x seen a b one is f u =
+    units_keep v w seen a b (ap (λ (p : RingPart). p.core.seen) (only_is w (after_part h g x (only v)) (got_parts v w from class h g x one is f)) ∙ by x) (ap (λ (y : View). y.layout) is) u
+  where
+    by : (y : Option Cref) → (after_part h g y (only v)).core.seen ≡ (only v).core.seen
+    by None = refl
+    by (Some c) = refl
 
 pub port_polls : {B : Type 0} {t : Shared B} {p : Seat (Option B) View} {n : ℕ} {st : List Cref} {o : Own} (q : Seat (Option B) View) (s : PortState) (from class : ℕ) (h : ClauseAt) (g : ℕ) (x : Option Cref) (k : ℕ) (ts : List Cref) → IsRingPass t p n st o → IsPassOf t q → port_of p.me.0 o ≡ s
     → q.me.0 ≡ after_get from class h g p.me.0 → IsFound h.address x → KeepsGlues h g (only p.me.0) → k ≡ one_more o.polled → ts ≡ taken_after x o.taken → Polled s (port_of q.me.0 (record o { polled = k; taken = ts; home = home_of q })) (Ok x)

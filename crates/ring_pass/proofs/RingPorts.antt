@@ -1,5 +1,5 @@
 -- A ring with its pass is a port.
-use Rattle.std.proofs.Common.{◌≡◌, ◌≢◌, ℕ, zero, suc, ◌+◌, ◌<◌, ◌≤◌, Bool, true, false, not, ◌&&◌, if◌then◌else◌, List, [], ◌∷◌, ◌++◌, map, length, get_or, take, drop, fold, refl, sym, ap, subst, ◌∙◌, inl, inr, arith, Some, None, IfSome, IsSome, Option, ◌==◌, eq-eqb, ne_eqb}
+use Rattle.std.proofs.Common.{◌≡◌, ◌≢◌, ℕ, zero, suc, ◌<◌, ◌≤◌, Bool, true, false, not, ◌&&◌, if◌then◌else◌, List, [], ◌∷◌, ◌++◌, map, length, take, refl, sym, ap, subst, ◌∙◌, arith, Some, None, IfSome, IsSome, Option, ◌==◌, eq-eqb, ne_eqb}
 use Rattle.std.specs.List.{All, find, slice_get}
 use Rattle.std.specs.Option.{option_map, option_map_or, is_none}
 use Rattle.std.proofs.lemmas.Bool.{false≢true}
@@ -10,11 +10,10 @@ use Rattle.sat_words.specs.Literal.{Literal}
 use Rattle.sat_words.specs.Clause.{has}
 use Rattle.sat_words.specs.declared.shared.Cref.{Cref}
 use Rattle.sat_words.specs.declared.shared.Head.{Head}
-use Rattle.sat_words.specs.declared.shared.Stop.{Stop}
-use Rattle.rup_model.specs.Basics.{one_if, below}
+use Rattle.rup_model.specs.Basics.{one_if}
 use Rattle.rup_model.specs.Opening.{IsLong, IsStart}
 use Rattle.rup_model.specs.Journal.{book}
-use Rattle.rup_model.proofs.Lists.{In, has_In, In_has, Contains_In, map_In, In_map, In_append_left}
+use Rattle.rup_model.proofs.Lists.{In, Contains_In, map_In, In_map, In_append_left}
 use Rattle.rup_model.proofs.ProgramOpening.{All_from_In}
 use Rattle.rup_model.proofs.Sums.{below_at}
 use Rattle.atomic_table.specs.declared.shared.Seat.{Seat}
@@ -24,13 +23,11 @@ use Rattle.share_core.specs.declared.stored.Cell.{Cell}
 use Rattle.share_core.specs.declared.part.Part.{Part}
 use Rattle.share_core.specs.declared.part.CoreOpening.{CoreOpening}
 use Rattle.share_core.specs.State.{IsCoreOpening, State, opened, opening_of, times_at, count_at}
-use Rattle.share_core.specs.Events.{after}
 use Rattle.share_core.specs.Sound.{Sound, IsCopy, counted, reach, idle_at}
 use Rattle.share_core.proofs.ClauseLists.{all_in, at_in}
 use Rattle.share_core.proofs.Counting.{some_same, none_some, waiting_cell}
 use Rattle.share_core.proofs.Leaving.{left_sound}
 use Rattle.share_core.proofs.Others.{run_units}
-use Rattle.share_rule.specs.declared.Layout.{Layout}
 use Rattle.share_rule.specs.declared.Shared.{Shared}
 use Rattle.share_rule.specs.declared.view.GlueAt.{GlueAt}
 use Rattle.share_rule.specs.declared.view.RingPart.{RingPart}
@@ -39,7 +36,7 @@ use Rattle.share_rule.specs.Layout.{InVars}
 use Rattle.share_rule.specs.Views.{only, glue_in, start_glues, clause_in, clause_of, lit_in}
 use Rattle.share_rule.specs.Passes.{IsPassOf}
 use Rattle.share_rule.specs.Seen.{Seen, IsPart}
-use Rattle.ring_port.specs.PortState.{Holding, PortState, IsPort, IsKept, IsOn, IsStop, AreApart, held_at, lits_at, head_of}
+use Rattle.ring_port.specs.PortState.{Holding, IsPort, IsKept, IsOn, IsStop, AreApart, held_at, lits_at, head_of}
 use Rattle.ring_pass.specs.RingState.{home_of, Own, kept, holding_of, stop_as, without_kept, port_of, IsOwn}
 use Rattle.ring_pass.proofs.Units.{filter_In, take_In, front_left}
 
@@ -169,7 +166,7 @@ module _ (v : View) (s : Seen v) (one : v.parts ≡ only v ∷ []) where
       let start = all_in (IsStart (book s.core.opening.formula s.core.opening.journal)) (opening_of s.core.opening).starts (record { number = h.number; lits = h.lits }) (In_map (λ (k : ClauseAt). record { number = k.number; lits = k.lits }) s.core.opening.starts h j) opens.opens.starts in
       record { shape = start.shape; on = on_of h.lits (all_in (λ (k : ClauseAt). InVars v.layout k.lits) s.core.opening.starts h j s.standing.starts) }
 
-  unit_on : (l : Literal) → In l s.core.units → IsOn v.layout.vars l
+  pub unit_on : (l : Literal) → In l s.core.units → IsOn v.layout.vars l
   unit_on l i = let t = all_in (λ (k : Literal). (1 ≤ k.var) × (k.var ≤ v.layout.vars)) s.core.units l i s.standing.units in record { low = t.0; high = t.1 }
 
   -- what the ring has seen is listed, and so is what the opening lists

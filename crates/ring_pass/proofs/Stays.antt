@@ -1,6 +1,7 @@
 -- What stays of a ring with its pass, step by step.
 use Rattle.std.proofs.Common.{◌≡◌, ℕ, ◌+◌, ◌*◌, ◌<◌, ◌≤◌, true, List, [], ◌∷◌, length, refl, sym, ap, subst, ◌∙◌, Option, None, IsSome, IfSome}
 use Rattle.std.specs.Prelude.{slice_index_or, All, IsSomeAnd}
+use Rattle.sat_words.specs.Literal.{Literal}
 use Rattle.sat_words.specs.Clause.{has}
 use Rattle.sat_words.specs.declared.shared.Cref.{Cref}
 use Rattle.sat_words.specs.declared.shared.Head.{Head}
@@ -8,6 +9,7 @@ use Rattle.atomic_table.specs.declared.shared.Seat.{Seat}
 use Rattle.share_core.specs.State.{times_at}
 use Rattle.share_core.specs.declared.part.CoreOpening.{CoreOpening}
 use Rattle.share_core.specs.declared.part.Part.{Part}
+use Rattle.share_rule.specs.declared.Layout.{Layout}
 use Rattle.share_rule.specs.declared.Shared.{Shared}
 use Rattle.share_rule.specs.declared.view.RingPart.{RingPart}
 use Rattle.share_rule.specs.declared.view.View.{View}
@@ -20,7 +22,7 @@ use Rattle.ring_port.specs.Log.{KeepsLog, HasLines}
 use Rattle.ring_port.specs.PortState.{PortState, IsPort, held_at, lits_at, head_of}
 use Rattle.ring_pass.specs.declared.waiting.Waiting.{Waiting}
 use Rattle.ring_pass.specs.Looks.{OnlyLooked}
-use Rattle.ring_pass.specs.RingState.{Own, port_with, port_of, home_of, IsOwn, AreWaiting, IsRingPass, HasRoom, pending}
+use Rattle.ring_pass.specs.RingState.{Own, port_with, port_of, home_of, IsOwn, AreWaiting, IsRingPass, HasRoom, HasUnits, pending}
 use Rattle.ring_pass.proofs.RingPorts.{is_port, held_here, lits_here, head_here, home_same}
 
 -- Looks
@@ -48,7 +50,7 @@ holding_same v w a k h = (one_same v w k h.0, subst (λ (p : RingPart). 0 < time
 
 -- under another name
 renamed : (p : RingPart) (o : Own) (home : List ℕ) → IsOwn p o → IsOwn p (record o { home = home })
-renamed p o home own = record { passed = own.passed; distinct = own.distinct; told = own.told; taken = own.taken }
+renamed p o home own = record { passed = own.passed; distinct = own.distinct; told = own.told; taken = own.taken; ended_is = own.ended_is }
 
 -- the pass is the ring's still
 pub ring_stays : {B : Type 0} {t : Shared B} {p : Seat (Option B) View} {n : ℕ} {st : List Cref} {o : Own} (q : Seat (Option B) View) → IsRingPass t p n st o → IsPassOf t q → IsSamePass p q → OnlyLooked p.me.0 q.me.0 → IsRingPass t q n st (record o { home = home_of q })
@@ -73,6 +75,17 @@ port_stays {B} {t} {p} {n} {st} {o} q r pass looked =
 
 pub room_stays : (v w : View) (last : Option Cref) (ws : List Waiting) (room : ℕ) → OnlyLooked v w → HasRoom (only v) v.opening.rings last ws room → HasRoom (only w) w.opening.rings last ws room
 room_stays v w last ws room h r = subst (λ (p : RingPart). HasRoom p w.opening.rings last ws room) (sym (only_same v w h)) (subst (λ (o : CoreOpening). HasRoom (only v) o.rings last ws room) (sym h.opening) r)
+
+-- where the ring has seen nothing more
+pub units_keep : (v w : View) (seen : List Literal) (a b : ℕ) → (only w).core.seen ≡ (only v).core.seen → w.layout ≡ v.layout → HasUnits (only v) v.layout.vars seen a b → HasUnits (only w) w.layout.vars seen a b
+units_keep v w seen a b e l h = record {
+  all = h.all ∙ sym e;
+  seen_room_is = subst (λ (y : Layout). 2 * y.vars ≤ a) (sym l) h.seen_room_is;
+  arrived_room_is = subst (λ (y : Layout). 2 * y.vars ≤ b) (sym l) h.arrived_room_is;
+}
+
+pub units_stay : (v w : View) (seen : List Literal) (a b : ℕ) → OnlyLooked v w → HasUnits (only v) v.layout.vars seen a b → HasUnits (only w) w.layout.vars seen a b
+units_stay v w seen a b h u = units_keep v w seen a b (ap (λ (p : RingPart). p.core.seen) (only_same v w h)) h.layout u
 
 -- What a port of the pass is
 
@@ -121,12 +134,13 @@ ring_changes {B} {t} {p} {n} {st} {o} q x o' r pass same opening is ring turn ho
     }
 
 -- where its part of the core stays, so does what is kept beside
-pub own_stays : (p x : RingPart) (o : Own) (looks : ℕ) (home : List ℕ) → x.core ≡ p.core → IsOwn p o → IsOwn x (record o { looks = looks; home = home })
-own_stays p x o looks home e own = record {
+pub own_stays : (p x : RingPart) (o : Own) (looks : ℕ) (home : List ℕ) → x.core ≡ p.core → x.ended ≡ p.ended → IsOwn p o → IsOwn x (record o { looks = looks; home = home })
+own_stays p x o looks home e end own = record {
   passed = own.passed;
   distinct = own.distinct;
   told = subst (λ (k : Part). All (λ l. has k.seen l ≡ true) o.arrived) (sym e) own.told;
   taken = subst (λ (k : Part). All (λ c. 0 < times_at c.address k.held) o.taken) (sym e) own.taken;
+  ended_is = λ q. end ∙ own.ended_is q;
 }
 
 pub room_steps : (p x : RingPart) (w : View) (rings rings' : ℕ) (last : Option Cref) (ws : List Waiting) (room : ℕ) → w.parts ≡ x ∷ [] → x.core ≡ p.core → rings' ≡ rings → HasRoom p rings last ws room → HasRoom (only w) rings' last ws room
@@ -145,9 +159,9 @@ no_output s t e = λ o st. absurd (subst (λ (q : Option LineState). IsSomeAnd q
 
 -- Steps that leave its part of the core
 
-pub port_steps : {B : Type 0} {t : Shared B} {p : Seat (Option B) View} {n : ℕ} {st : List Cref} {o : Own} (q : Seat (Option B) View) (x : RingPart) (looks : ℕ) → IsRingPass t p n st o → IsPassOf t q → q.me.0.parts ≡ x ∷ [] → x.core ≡ (only p.me.0).core → IsPort (port_of q.me.0 (record o { looks = looks; home = home_of q }))
-port_steps {B} {t} {p} {n} {st} {o} q x looks r pass is e =
-    is_port q.me.0 pass.3 (one_is q.me.0 x is) (record o { looks = looks; home = home_of q }) (subst (λ (y : RingPart). IsOwn y (record o { looks = looks; home = home_of q })) (sym (only_is q.me.0 x is)) (own_stays (only p.me.0) x o looks (home_of q) e r.own))
+pub port_steps : {B : Type 0} {t : Shared B} {p : Seat (Option B) View} {n : ℕ} {st : List Cref} {o : Own} (q : Seat (Option B) View) (x : RingPart) (looks : ℕ) → IsRingPass t p n st o → IsPassOf t q → q.me.0.parts ≡ x ∷ [] → x.core ≡ (only p.me.0).core → x.ended ≡ (only p.me.0).ended → IsPort (port_of q.me.0 (record o { looks = looks; home = home_of q }))
+port_steps {B} {t} {p} {n} {st} {o} q x looks r pass is e end =
+    is_port q.me.0 pass.3 (one_is q.me.0 x is) (record o { looks = looks; home = home_of q }) (subst (λ (y : RingPart). IsOwn y (record o { looks = looks; home = home_of q })) (sym (only_is q.me.0 x is)) (own_stays (only p.me.0) x o looks (home_of q) e end r.own))
 
 -- what was taken, in another vector
 pub port_retaken : {B : Type 0} {t : Shared B} {p : Seat (Option B) View} {n : ℕ} {st : List Cref} {o : Own} (ts : List Cref) → IsRingPass t p n st o → ts ≡ o.taken → IsPort (port_of p.me.0 (record o { taken = ts }))

@@ -1,5 +1,5 @@
 -- Lists of units, some of which are left out.
-use Rattle.std.proofs.Common.{◌≡◌, ℕ, zero, suc, Bool, true, false, not, ◌&&◌, List, [], ◌∷◌, if◌then◌else◌, take, drop, refl, sym, ap, subst, ◌∙◌, inl, inr, ⊎_elim}
+use Rattle.std.proofs.Common.{◌≡◌, ℕ, zero, suc, Bool, true, false, not, List, [], ◌∷◌, if◌then◌else◌, take, drop, refl, sym, ap, subst, ◌∙◌, inl, inr}
 use Rattle.std.specs.List.{filter}
 use Rattle.std.proofs.lemmas.Bool.{false≢true, and_parts}
 use Rattle.sat_words.specs.Literal.{Literal}
@@ -39,7 +39,7 @@ drop_In (suc n) [] l i = i
 drop_In (suc n) (x ∷ xs) l i = inr (drop_In n xs l i)
 
 -- the first of a list without repeats is not among the others
-head_else : (x : Literal) (xs : List Literal) → distinct_lits (x ∷ xs) ≡ true → has xs x ≡ false
+pub head_else : (x : Literal) (xs : List Literal) → distinct_lits (x ∷ xs) ≡ true → has xs x ≡ false
 head_else x xs d = by (has xs x) (and_parts (not (has xs x)) (distinct_lits xs) d).0
   where
     by : (b : Bool) → not b ≡ true → b ≡ false

@@ -1,4 +1,11 @@
+pub mod Adding
+pub mod Cells
+pub mod Deletions
 pub mod Giving
 pub mod Looks
+pub mod Offering
+pub mod Refusals
 pub mod RingState
+pub mod Sights
 pub mod Stops
+pub mod Writes

@@ -1,6 +1,7 @@
 -- A ring with its pass, as a port.
-use Rattle.std.specs.Prelude.{◌≡◌, ℕ, ◌+◌, ◌-◌, ◌*◌, ◌<◌, ◌≤◌, true, false, not, ⊤, List, [], ◌∷◌, map, length, take, drop, filter, All, Option, Some, None}
+use Rattle.std.specs.Prelude.{◌≡◌, Bool, ℕ, ◌+◌, ◌-◌, ◌*◌, ◌<◌, ◌≤◌, true, false, not, ⊤, List, [], ◌∷◌, map, length, take, drop, filter, All, Option, Some, None, IfSome, vec_capacity}
 use Rattle.std.specs.Option.{option_map}
+use Rattle.std.specs.Global.{Vec}
 use Rattle.sat_words.specs.Literal.{Literal}
 use Rattle.sat_words.specs.Clause.{has, distinct_lits}
 use Rattle.sat_words.specs.declared.shared.Cref.{Cref}
@@ -17,9 +18,10 @@ use Rattle.share_rule.specs.declared.view.RingPart.{RingPart}
 use Rattle.share_rule.specs.declared.view.View.{View}
 use Rattle.share_rule.specs.FirstWords.{addresses}
 use Rattle.share_rule.specs.Passes.{IsPassOf}
-use Rattle.share_rule.specs.Views.{only, glue_in, start_glues}
+use Rattle.share_rule.specs.Views.{only, clause_in, glue_in, start_glues}
 use Rattle.ring_port.specs.declared.stops.PortStop.{PortStop}
 use Rattle.ring_port.specs.PortState.{Holding, Offer, PortState}
+use Rattle.ring_pass.specs.declared.spares.Spares.{Spares}
 use Rattle.ring_pass.specs.declared.waiting.Waiting.{Waiting}
 
 -- What the ring keeps beside its pass
@@ -39,6 +41,8 @@ pub record Own : Type 0 where
   pub refused : Option PortStop
   -- what it has taken from other rings since its last Reduce entry
   pub taken : List Cref
+  -- whether it wrote the empty clause, or was refused since it stands
+  pub ended : Bool
   -- the name of the table
   pub home : List ℕ
 
@@ -84,7 +88,7 @@ port_with v p o = record {
   stop = option_map stop_as v.stop;
   looks = o.looks;
   refused = o.refused;
-  ended = p.ended;
+  ended = o.ended;
   output = None;
   home = o.home;
 }
@@ -98,12 +102,14 @@ home_of p = p.me.0.layout.rings ∷ p.me.0.layout.vars ∷ p.me.0.layout.words �
 
 -- What is kept of it
 
--- what is kept beside the pass is so: no unit arrived twice, each is seen, and what was taken is held
+-- what is kept beside the pass is so: no unit arrived twice, each is seen, what was taken is held, and the log is ended where
+-- the port says so
 pub record IsOwn (p : RingPart) (o : Own) : Type 0 where
   pub passed : o.passed ≤ length o.arrived
   pub distinct : distinct_lits o.arrived ≡ true
   pub told : All (λ l. has p.core.seen l ≡ true) o.arrived
   pub taken : All (λ c. 0 < times_at c.address p.core.held) o.taken
+  pub ended_is : o.ended ≡ true → p.ended ≡ true
 
 -- how many places the offer of what was learned last may take
 abbrev pub pending : ℕ → Option Cref → ℕ
@@ -129,6 +135,28 @@ pub record HasRoom (p : RingPart) (rings : ℕ) (last : Option Cref) (ws : List 
   pub waits : AreWaiting ws p.core.waiting
   pub places : length ws + pending rings last ≤ room
   pub few : p.core.shared + pending rings last ≤ 15 * length p.core.wrote
+
+-- all units that the ring has seen are kept in order, and there is room for all that may ever be listed
+pub record HasUnits (p : RingPart) (vars : ℕ) (seen : List Literal) (seen_room arrived_room : ℕ) : Type 0 where
+  pub all : seen ≡ p.core.seen
+  pub seen_room_is : 2 * vars ≤ seen_room
+  pub arrived_room_is : 2 * vars ≤ arrived_room
+
+-- the clauses are no longer than this
+abbrev pub AreShort : ℕ → List ClauseAt → Type 0
+AreShort n hs = All (λ h. length h.lits ≤ n) hs
+
+-- an empty buffer with room for as many literals
+abbrev pub IsBuffer : ℕ → Vec Literal → Type 0
+IsBuffer n b = (b.items ≡ []) × (n ≤ vec_capacity b)
+
+-- what the ring has put, and may put next, is no longer than the longest; what comes back in the next offer can be read into
+-- buffers of that length before its count is given up
+pub record CanOffer (p : RingPart) (rings : ℕ) (last : Option Cref) (s : Spares) : Type 0 where
+  pub buffers : All (IsBuffer s.longest) s.buffers.items
+  pub enough : pending rings last ≤ length s.buffers.items
+  pub gave : AreShort s.longest p.gave
+  pub next : IfSome last (λ c. (0 < times_at c.address p.core.held) × (length (clause_in c.address p.core.held).lits ≤ s.longest))
 
 -- the pass has this ring alone, which has not the turn; these are the addresses of the start clauses
 pub record IsRingPass {B : Type 0} (t : Shared B) (p : Seat (Option B) View) (n : ℕ) (starts : List Cref) (o : Own) : Type 0 where

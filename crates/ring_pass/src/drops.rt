@@ -3,7 +3,7 @@ ghost use Rattle.std.specs.Prelude.{◌≡◌, ◌≢◌, IsSome};
 ghost use Rattle.ring_port.specs.PortState.{IsPort, held_at};
 ghost use Rattle.ring_port.specs.Log.{KeepsLog};
 ghost use Rattle.ring_port.specs.Deleting.{IsNotTaken, Dropped};
-ghost use Rattle.ring_pass.specs.Giving.{GaveUp};
+ghost use Rattle.ring_pass.specs.Giving.{unless_cell};
 
 use crate::literals::read_clause;
 use crate::pass::RingPass;
@@ -13,15 +13,23 @@ use ref_count::{drop_count, read_head};
 use ring_port::{Gate, Point, PortStop};
 use sat_words::Cref;
 
+/// The clause learned last, unless it is this one.
+fn unless_at(last: Option<Cref>, c: Cref) -> Option<Cref>
+    ensures { result ≡ unless_cell last c.address }
+{
+    match last {
+        Some(lemma) if lemma.address != c.address => Some(lemma),
+        _ => None,
+    }
+}
+
 impl<'a, S: Sink, G: Gate, H> RingPass<'a, S, G, H> {
     /// Holds the clause once less. Where nobody holds it any more it waits for its deletion: its number and its literals are
-    /// read before its count is given up, and room for them is taken first. Beside other rings this is the port's call
-    /// (`dropped`); that a lone ring's clause waits as soon as the ring holds it no more is not said.
+    /// read before its count is given up, and room for them is taken first.
     pub fn drop_clause(&mut self, c: Cref) -> Result<(), PortStop>
         requires held { IsSome (held_at self.old c.address) }
         requires apart { IsNotTaken self.old c.address }
-        ensures given { GaveUp self.old self.new c.address result }
-        ensures dropped { self.old.rings ≢ 1 → Dropped self.old self.new c.address result }
+        ensures dropped { Dropped self.old self.new c.address result }
         ensures log { KeepsLog self.old self.new }
         ensures port { IsPort self.new }
     {
@@ -34,6 +42,7 @@ impl<'a, S: Sink, G: Gate, H> RingPass<'a, S, G, H> {
             return Err(PortStop::Memory);
         };
         read_clause(self.table, &mut self.pass, c, head.size, &mut lits);
+        self.last = unless_at(self.last, c);
         match drop_count(self.table, &mut self.pass, c) {
             ref_count::Dropped::Left => Ok(()),
             ref_count::Dropped::Last => {

@@ -1,17 +1,34 @@
 //! The port of a ring over its pass of the shared table. What the ring holds, has seen and has done is the pass's part, and
 //! what the port keeps beside is fields of `RingPass`; contracts see both as the state of a port.
 //!
-//! Each call here takes steps that wait for nobody. A clause is read only while the ring holds it: its number and literals are
-//! read before its last count may go, since its deletion will need them. The calls that take the log's turn, those that list or
-//! give units, and the offer are not written yet.
+//! Calls that write take the log's turn for each entry, and may wait for it; all others take steps that wait for nobody. A
+//! clause is read only while the ring holds it: its number and literals are read before its last count may go, since its
+//! deletion will need them. An offer takes no memory: room for what comes back in it is taken when the clause is learned.
+//! Listed units are seen one by one, and kept until they are given; a unit of the ring's own is listed in a second turn, once
+//! its line stands.
 #![tactic(auto)]
 
+mod additions;
+mod cells;
+mod clauses;
+mod deletions;
+mod derives;
 mod drops;
+mod endings;
 mod exchange;
+mod learns;
+mod listed;
 mod literals;
+mod offers;
 mod pass;
+mod port;
 mod reads;
+mod reductions;
+mod refusals;
+mod sights;
+mod spares;
 mod stops;
+mod turns;
 mod waiting;
 
 pub use pass::RingPass;

@@ -1,4 +1,4 @@
-ghost use Rattle.std.specs.Prelude.{◌≡◌, [], ◌∷◌, None, IfOk, IfErr, map, ℕ};
+ghost use Rattle.std.specs.Prelude.{◌≡◌, [], ◌∷◌, true, None, IfOk, IfErr, map, ℕ};
 ghost use Rattle.ring_port.specs.PortState.{Holding, IsPort, HoldsStart};
 ghost use Rattle.share_rule.specs.FirstWords.{addresses};
 ghost use Rattle.share_rule.specs.Passes.{IsPassOf};
@@ -6,6 +6,7 @@ ghost use Rattle.share_rule.specs.Steps.{new_part};
 ghost use Rattle.share_rule.specs.Views.{only};
 ghost use Rattle.ring_pass.specs.RingState.{Own, port_of, home_of, begun_as};
 
+use crate::spares::Spares;
 use crate::waiting::Waiting;
 use io_edge::Sink;
 use log_book::Book;
@@ -25,22 +26,25 @@ pub struct RingPass<'a, S: Sink, G: Gate, H> {
     pub(crate) pass: Pass<Book<S>>,
     pub(crate) ring: u32,
     pub(crate) start: &'a [Cref],
+    pub(crate) seen: Vec<Lit>,
     pub(crate) arrived: Vec<Lit>,
     pub(crate) passed: usize,
     pub(crate) waiting: Vec<Waiting>,
+    pub(crate) spares: Spares,
     pub(crate) last: Option<Cref>,
     pub(crate) learned: u64,
     pub(crate) polled: u64,
     pub(crate) looks: u64,
     pub(crate) refused: Option<PortStop>,
     pub(crate) taken: Vec<Cref>,
+    pub(crate) ended: bool,
 }
 
 impl<'a, S: Sink, G: Gate, H> Model for RingPass<'a, S, G, H> {
     ghost use Rattle.std.specs.Prelude.{vec_capacity};
     ghost use Rattle.ring_port.specs.PortState.{PortState};
     ghost use Rattle.share_rule.specs.Views.{only};
-    ghost use Rattle.ring_pass.specs.RingState.{port_of, home_of, IsRingPass, HasRoom};
+    ghost use Rattle.ring_pass.specs.RingState.{port_of, home_of, IsRingPass, HasRoom, HasUnits, CanOffer};
 
     ghost Value = { PortState };
 
@@ -52,6 +56,7 @@ impl<'a, S: Sink, G: Gate, H> Model for RingPass<'a, S, G, H> {
       looks = p.looks;
       refused = p.refused;
       taken = p.taken.items;
+      ended = p.ended;
       home = home_of p.pass;
     }) };
 
@@ -63,8 +68,11 @@ impl<'a, S: Sink, G: Gate, H> Model for RingPass<'a, S, G, H> {
       looks = p.looks;
       refused = p.refused;
       taken = p.taken.items;
+      ended = p.ended;
       home = home_of p.pass;
-    }) × HasRoom (only p.pass.me.0) p.pass.me.0.opening.rings p.last p.waiting.items (vec_capacity p.waiting) };
+    }) × HasRoom (only p.pass.me.0) p.pass.me.0.opening.rings p.last p.waiting.items (vec_capacity p.waiting)
+        × HasUnits (only p.pass.me.0) p.pass.me.0.layout.vars p.seen.items (vec_capacity p.seen) (vec_capacity p.arrived)
+        × CanOffer (only p.pass.me.0) p.pass.me.0.opening.rings p.last p.spares };
 }
 
 impl<'a, S: Sink, G: Gate, H> RingPass<'a, S, G, H> {
@@ -88,7 +96,11 @@ impl<'a, S: Sink, G: Gate, H> RingPass<'a, S, G, H> {
         ensures port { IfOk result (λ port. IsPort port) }
         ensures back { IfErr result (λ refused. refused.value ≡ pass) }
     {
-        let Ok(arrived) = Vec::with_capacity(alloc, 2 * table.layout.vars as usize) else {
+        let room = 2 * table.layout.vars as usize;
+        let Ok(seen) = Vec::with_capacity(alloc, room) else {
+            return Err(AllocFailed { value: pass });
+        };
+        let Ok(arrived) = Vec::with_capacity(alloc, room) else {
             return Err(AllocFailed { value: pass });
         };
         Ok(RingPass {
@@ -99,15 +111,21 @@ impl<'a, S: Sink, G: Gate, H> RingPass<'a, S, G, H> {
             pass,
             ring,
             start,
+            seen,
             arrived,
             passed: 0,
             waiting: Vec::new(alloc),
+            spares: Spares {
+                buffers: Vec::new(alloc),
+                longest: 0,
+            },
             last: None,
             learned: 0,
             polled: 0,
             looks: 0,
             refused: None,
             taken: Vec::new(alloc),
+            ended: false,
         })
     }
 
@@ -125,6 +143,7 @@ impl<'a, S: Sink, G: Gate, H> RingPass<'a, S, G, H> {
         ensures pass { IsPassOf table.now result × (result.me.1 ≡ []) }
         ensures ring { (result.me.0.parts ≡ only result.me.0 ∷ []) × ((only result.me.0).turn ≡ None) }
         ensures state { (o : Own) × (port_of result.me.0 o ≡ self.entry) }
+        ensures ended { self.entry.ended ≡ true → (only result.me.0).ended ≡ true }
     {
         let RingPass { pass, .. } = self;
         pass

@@ -1,9 +1,6 @@
-use Rattle.std.proofs.Common.{◌≡◌, ◌∙◌, ◌+◌, ap, sym, subst, length, IsSome, IfSome, vec_capacity}
-use Rattle.share_rule.specs.declared.view.View.{View}
-use Rattle.share_rule.specs.Steps.{after_load}
-use Rattle.ring_port.specs.PortState.{PortState, held_at, lits_at, head_of}
-use Rattle.ring_pass.specs.Looks.{OnlyLooked}
-use Rattle.ring_pass.proofs.Stays.{loaded_twice, ring_stays, port_stays, room_stays, ring_port, ring_holds, head_found, lits_found}
+use Rattle.std.proofs.Common.{◌∙◌, ◌+◌, ap, sym, length, vec_capacity}
+use Rattle.ring_pass.proofs.CanOffers.{offer_stays}
+use Rattle.ring_pass.proofs.Stays.{loaded_twice, ring_stays, port_stays, room_stays, units_stay, ring_port, ring_holds, head_found, lits_found}
 use Rattle.ring_pass.proofs.pass.RingPass.head.Goals as goal
 
 pub read_head-requires-clause-held : goal.read_head-requires-clause-held
@@ -15,6 +12,8 @@ invariant_of-self g c =
     let looked = loaded_twice (c.args.c.address + 1) (c.args.c.address + 2) c.self.inside.pass.me.0 c.read_head.new.pass.me.0 e.part in (
       ring_stays c.read_head.new.pass c.self.invariant.0 e.pass.0 e.pass.1 looked,
       room_stays c.self.inside.pass.me.0 c.read_head.new.pass.me.0 c.self.inside.last c.self.inside.waiting.items (vec_capacity c.self.inside.waiting) looked c.self.invariant.1,
+      units_stay c.self.inside.pass.me.0 c.read_head.new.pass.me.0 c.self.inside.seen.items (vec_capacity c.self.inside.seen) (vec_capacity c.self.inside.arrived) looked c.self.invariant.2,
+      offer_stays c.self.inside.pass.me.0 c.read_head.new.pass.me.0 c.self.inside.last c.self.inside.spares looked c.self.invariant.3,
     )
 
 pub returns-clause-value : goal.returns-clause-value

@@ -1,8 +1,9 @@
-use Rattle.std.proofs.Common.{◌≡◌, ◌∙◌, ◌∷◌, [], ◌++◌, Option, Some, None, List, refl, sym, ap, subst, vec_capacity}
+use Rattle.std.proofs.Common.{◌∙◌, ◌∷◌, [], ◌++◌, Option, Some, None, List, ap, subst, vec_capacity}
 use Rattle.sat_words.specs.declared.shared.Cref.{Cref}
 use Rattle.pool_exchange.specs.Found.{IsFound}
+use Rattle.ring_pass.proofs.CanOffers.{offer_polls}
 use Rattle.ring_pass.proofs.Stays.{ring_port, port_retaken}
-use Rattle.ring_pass.proofs.PollsHere.{ring_polls, room_polls, port_polls, polled_keeps}
+use Rattle.ring_pass.proofs.PollsHere.{ring_polls, room_polls, units_polls, port_polls, polled_keeps}
 use Rattle.ring_pass.proofs.pass.RingPass.poll.Goals as goal
 
 pub returns-then-is_err-clause-port : goal.returns-then-is_err-clause-port
@@ -15,6 +16,8 @@ invariant_of-self-in-None g c =
     let f = subst (λ (r : Option Cref). IsFound p.0.address r) c.in-None.is p.3 in (
       ring_polls c.get-found.new.pass c.args.from c.args.class p.0 p.1 None c.saturating_add-self-inside.result c.reserve.new.self.items c.self.invariant.0 e.pass.0 e.pass.1 p.2 f c.reserve.ensures.items,
       room_polls c.self.inside.pass.me.0 c.get-found.new.pass.me.0 c.args.from c.args.class p.0 p.1 None c.self.inside.last c.self.inside.waiting.items (vec_capacity c.self.inside.waiting) c.self.invariant.0.one p.2 f c.self.invariant.1,
+      units_polls c.self.inside.pass.me.0 c.get-found.new.pass.me.0 c.args.from c.args.class p.0 p.1 None c.self.inside.seen.items (vec_capacity c.self.inside.seen) (vec_capacity c.self.inside.arrived) c.self.invariant.0.one p.2 f c.self.invariant.2,
+      offer_polls c.self.inside.pass.me.0 c.get-found.new.pass.me.0 c.args.from c.args.class p.0 p.1 None c.self.inside.last c.self.inside.spares c.self.invariant.0.one p.2 f c.self.invariant.3,
     )
 
 pub returns-in-None-clause-polled : goal.returns-in-None-clause-polled
@@ -36,6 +39,8 @@ invariant_of-self-in-Some g c =
     let f = subst (λ (r : Option Cref). IsFound p.0.address r) c.in-Some.is p.3 in (
       ring_polls c.get-found.new.pass c.args.from c.args.class p.0 p.1 (Some c.in-Some.c) c.saturating_add-self-inside.result c.push_reserved.new.self.items c.self.invariant.0 e.pass.0 e.pass.1 p.2 f (c.push_reserved.ensures.items ∙ ap (λ (cs : List Cref). cs ++ c.in-Some.c ∷ []) c.reserve.ensures.items),
       room_polls c.self.inside.pass.me.0 c.get-found.new.pass.me.0 c.args.from c.args.class p.0 p.1 (Some c.in-Some.c) c.self.inside.last c.self.inside.waiting.items (vec_capacity c.self.inside.waiting) c.self.invariant.0.one p.2 f c.self.invariant.1,
+      units_polls c.self.inside.pass.me.0 c.get-found.new.pass.me.0 c.args.from c.args.class p.0 p.1 (Some c.in-Some.c) c.self.inside.seen.items (vec_capacity c.self.inside.seen) (vec_capacity c.self.inside.arrived) c.self.invariant.0.one p.2 f c.self.invariant.2,
+      offer_polls c.self.inside.pass.me.0 c.get-found.new.pass.me.0 c.args.from c.args.class p.0 p.1 (Some c.in-Some.c) c.self.inside.last c.self.inside.spares c.self.invariant.0.one p.2 f c.self.invariant.3,
     )
 
 pub returns-in-Some-clause-polled : goal.returns-in-Some-clause-polled

@@ -1,10 +1,10 @@
-use Rattle.std.proofs.Common.{◌≡◌, ◌∙◌, ◌+◌, ◌/◌, ◌<◌, ℕ, List, ap, sym, subst, length, IsSome, Some, vec_capacity}
+use Rattle.std.proofs.Common.{◌∙◌, ◌+◌, ◌/◌, ◌<◌, ℕ, List, ap, sym, subst, length, Some, vec_capacity}
 use Rattle.std.specs.Prelude.{slice_get}
 use Rattle.sat_words.specs.Literal.{Literal}
 use Rattle.share_rule.specs.Views.{clause_of}
-use Rattle.ring_port.specs.PortState.{PortState}
+use Rattle.ring_pass.proofs.CanOffers.{offer_stays}
 use Rattle.ring_pass.proofs.RingPorts.{lit_here}
-use Rattle.ring_pass.proofs.Stays.{loaded, ring_stays, port_stays, room_stays, ring_port, ring_holds, lits_found}
+use Rattle.ring_pass.proofs.Stays.{loaded, ring_stays, port_stays, room_stays, units_stay, ring_port, ring_holds, lits_found}
 use Rattle.ring_pass.proofs.pass.RingPass.read_lit.Goals as goal
 
 pub read_lit-requires-clause-held : goal.read_lit-requires-clause-held
@@ -19,6 +19,8 @@ invariant_of-self g c =
     let looked = loaded c.self.inside.pass.me.0 c.read_lit.new.pass.me.0 (c.args.c.address + 3 + c.args.i / 2) e.part.0 e.part.1 in (
       ring_stays c.read_lit.new.pass c.self.invariant.0 e.pass.0 e.pass.1 looked,
       room_stays c.self.inside.pass.me.0 c.read_lit.new.pass.me.0 c.self.inside.last c.self.inside.waiting.items (vec_capacity c.self.inside.waiting) looked c.self.invariant.1,
+      units_stay c.self.inside.pass.me.0 c.read_lit.new.pass.me.0 c.self.inside.seen.items (vec_capacity c.self.inside.seen) (vec_capacity c.self.inside.arrived) looked c.self.invariant.2,
+      offer_stays c.self.inside.pass.me.0 c.read_lit.new.pass.me.0 c.self.inside.last c.self.inside.spares looked c.self.invariant.3,
     )
 
 pub returns-clause-value : goal.returns-clause-value

@@ -1,5 +1,4 @@
 use Rattle.std.proofs.Common.{◌∙◌, ap, map}
-use Rattle.sat_words.specs.declared.shared.Cref.{Cref}
 use Rattle.share_rule.specs.Views.{start_glues}
 use Rattle.ring_port.specs.PortState.{Holding, PortState}
 use Rattle.ring_pass.proofs.Beginning.{addresses_of}

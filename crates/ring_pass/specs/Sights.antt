@@ -1,0 +1,108 @@
+-- What looking for the next listed unit does.
+use Rattle.std.specs.Prelude.{◌≡◌, ◌≤◌, ℕ, Bool, true, false, not, ◌&&◌, ◌||◌, List, [], ◌∷◌, ◌++◌, length, take, drop, All, None, is_some}
+use Rattle.std.specs.List.{list_any}
+use Rattle.sat_words.specs.Literal.{Literal, same}
+use Rattle.sat_words.specs.Clause.{has, distinct_lits, same_set}
+use Rattle.rup_model.specs.Journal.{added, is_told}
+use Rattle.share_rule.specs.declared.view.RingPart.{RingPart}
+use Rattle.share_rule.specs.declared.view.View.{View}
+use Rattle.share_rule.specs.Units.{after_count, after_see}
+use Rattle.share_rule.specs.Layout.{InVars}
+use Rattle.share_rule.specs.Turns.{IsWriting, journal_in}
+use Rattle.share_rule.specs.Views.{only}
+use Rattle.ring_pass.specs.Writes.{entries_of}
+
+-- one more is seen, and is kept behind those that arrived
+pub record SawOne (v w : View) (seen seen' arrived arrived' : List Literal) (lit : Literal) : Type 0 where
+  pub listed : ℕ
+  pub view : w ≡ after_see lit (after_count listed v)
+  pub seen_is : seen' ≡ seen ++ lit ∷ []
+  pub arrived_is : arrived' ≡ arrived ++ lit ∷ []
+
+-- all listed units are seen, among them those that were listed from the start
+pub record SawAll (v w : View) (count : ℕ) (seen seen' arrived arrived' : List Literal) : Type 0 where
+  pub view : w ≡ after_count count v
+  pub opening : (later : List Literal) × ((only v).core.seen ≡ v.opening.units ++ later)
+  pub seen_is : seen' ≡ seen
+  pub arrived_is : arrived' ≡ arrived
+
+-- some more are seen, and kept behind those that arrived
+pub record SawNews (v w : View) (seen' arrived arrived' : List Literal) : Type 0 where
+  pub news : List Literal
+  pub part : RingPart
+  pub parts : w.parts ≡ part ∷ []
+  pub layout : w.layout ≡ v.layout
+  pub opening : w.opening ≡ v.opening
+  pub origin : w.origin ≡ v.origin
+  pub stop : w.stop ≡ v.stop
+  pub core : part.core ≡ record (only v).core { seen = (only v).core.seen ++ news }
+  pub glues : part.glues ≡ (only v).glues
+  pub gave : part.gave ≡ (only v).gave
+  pub turn : part.turn ≡ (only v).turn
+  pub ended : part.ended ≡ (only v).ended
+  pub failed : part.failed ≡ (only v).failed
+  pub seen_is : seen' ≡ part.core.seen
+  pub arrived_is : arrived' ≡ arrived ++ news
+  pub distinct : distinct_lits arrived' ≡ true
+  pub told : All (λ l. has part.core.seen l ≡ true) arrived'
+
+-- all listed units are seen, of which the ring knows the number; it knows that it is all of them where it has the turn
+pub record SawRest (v w : View) (seen' arrived arrived' : List Literal) : Type 0 where
+  pub saw : SawNews v w seen' arrived arrived'
+  pub whole : (only w).whole ≡ is_some (only v).turn
+  pub listed : (only w).listed ≡ length (only w).core.seen
+
+-- the ring wrote this unit
+abbrev pub wrote_unit : RingPart → Literal → Bool
+wrote_unit p lit = list_any (same_set (lit ∷ [])) (added (entries_of p))
+
+-- a unit that the ring wrote is listed, and all others that were are seen and kept
+pub record Listed (v w : View) (arrived arrived' : List Literal) (lit : Literal) : Type 0 where
+  pub news : List Literal
+  pub part : RingPart
+  pub parts : w.parts ≡ part ∷ []
+  pub layout : w.layout ≡ v.layout
+  pub opening : w.opening ≡ v.opening
+  pub stop : w.stop ≡ v.stop
+  pub core : part.core ≡ record (only v).core { seen = part.core.seen }
+  pub glues : part.glues ≡ (only v).glues
+  pub gave : part.gave ≡ (only v).gave
+  pub turn : part.turn ≡ None
+  pub ended_is : (only v).ended ≡ true → part.ended ≡ true
+  pub sees : (k : Literal) → has part.core.seen k ≡ (has ((only v).core.seen ++ news) k || same lit k)
+  pub apart : (k : Literal) → has news k ≡ true → has (only v).core.seen k ≡ false
+  pub arrived_is : arrived' ≡ arrived ++ news
+  pub distinct : distinct_lits arrived' ≡ true
+  pub told : All (λ l. has part.core.seen l ≡ true) arrived'
+
+-- it is not among those that are to be given any more
+pub record LeftOut (passed : ℕ) (lit : Literal) (old new : List Literal) : Type 0 where
+  pub front : take passed new ≡ take passed old
+  pub rest : (k : Literal) → has (drop passed new) k ≡ (has (drop passed old) k && not (same lit k))
+  pub passed_is : passed ≤ length new
+  pub distinct : distinct_lits new ≡ true
+  pub among : (k : Literal) → has new k ≡ true → has old k ≡ true
+
+-- the ring has the turn and has seen all listed units; this one stood in the log before the turn
+pub record MayList (lit : Literal) (v : View) : Type 0 where
+  pub writing : IsWriting v
+  pub whole : ((only v).whole ≡ true) × ((only v).listed ≡ length (only v).core.seen)
+  pub told : is_told v.opening.formula (journal_in (only v).turn) lit ≡ true
+  pub vars : InVars v.layout (lit ∷ [])
+
+-- it is listed
+pub record ListedOne (v w : View) (seen' : List Literal) (lit : Literal) : Type 0 where
+  pub part : RingPart
+  pub parts : w.parts ≡ part ∷ []
+  pub layout : w.layout ≡ v.layout
+  pub opening : w.opening ≡ v.opening
+  pub origin : w.origin ≡ v.origin
+  pub stop : w.stop ≡ v.stop
+  pub core : part.core ≡ record (only v).core { seen = part.core.seen }
+  pub glues : part.glues ≡ (only v).glues
+  pub gave : part.gave ≡ (only v).gave
+  pub turn : part.turn ≡ (only v).turn
+  pub ended : part.ended ≡ (only v).ended
+  pub failed : part.failed ≡ (only v).failed
+  pub seen_is : seen' ≡ part.core.seen
+  pub sees : (k : Literal) → has part.core.seen k ≡ (has (only v).core.seen k || same lit k)

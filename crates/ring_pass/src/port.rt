@@ -1,0 +1,70 @@
+// All calls together: a ring with its pass is a port.
+use crate::pass::RingPass;
+use io_edge::Sink;
+use ring_port::{Gate, Port, PortStop, Set};
+use sat_words::{Cref, Head, Lit, Stop};
+use std::sync::Wait;
+
+impl<'a, S: Sink, G: Gate, H: Wait> Port for RingPass<'a, S, G, H> {
+    ghost state = { λ p. p };
+
+    fn vars(&self) -> u32 {
+        self.vars()
+    }
+
+    fn head(&mut self, c: Cref) -> Head {
+        self.head(c)
+    }
+
+    fn read_lit(&mut self, c: Cref, i: u32) -> Lit {
+        self.read_lit(c, i)
+    }
+
+    fn learn(&mut self, lits: &[Lit], glue: u32) -> Result<Option<Cref>, PortStop> {
+        self.learn(lits, glue)
+    }
+
+    fn derive(&mut self, lits: &[Lit], glue: u32) -> Result<Cref, PortStop> {
+        self.derive(lits, glue)
+    }
+
+    fn unit(&mut self, lit: Lit) -> Result<(), PortStop> {
+        self.unit(lit)
+    }
+
+    fn empty(&mut self) -> Result<(), PortStop> {
+        self.empty()
+    }
+
+    fn drop_clause(&mut self, c: Cref) -> Result<(), PortStop> {
+        self.drop_clause(c)
+    }
+
+    fn tidy(&mut self) -> Result<(), PortStop> {
+        self.tidy()
+    }
+
+    fn note_reduce(&mut self) -> Result<(), PortStop> {
+        self.note_reduce()
+    }
+
+    fn offer(&mut self, c: Cref) -> u64 {
+        self.offer(c)
+    }
+
+    fn poll(&mut self, from: u32, class: u8) -> Result<Option<Cref>, PortStop> {
+        self.poll(from, class)
+    }
+
+    fn next_unit(&mut self) -> Option<Lit> {
+        self.next_unit()
+    }
+
+    fn stopped(&mut self) -> Option<Stop> {
+        self.stopped()
+    }
+
+    fn stop(&mut self, kind: u8) -> Set {
+        self.stop(kind)
+    }
+}

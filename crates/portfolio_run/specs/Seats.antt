@@ -1,0 +1,41 @@
+-- Passes of rings, before they run and behind them.
+use Rattle.std.specs.Prelude.{◌≡◌, ℕ, ◌<◌, ◌≤◌, List, [], ◌∷◌, ◌++◌, length, slice_index_or, Option}
+use Rattle.atomic_table.specs.declared.shared.Seat.{Seat}
+use Rattle.share_rule.specs.declared.Shared.{Shared}
+use Rattle.share_rule.specs.declared.view.RingPart.{RingPart}
+use Rattle.share_rule.specs.declared.view.View.{View}
+use Rattle.share_rule.specs.Passes.{IsPassOf}
+use Rattle.share_rule.specs.Steps.{new_part}
+use Rattle.share_rule.specs.Views.{times_in}
+
+-- what the table was opened with is the same
+pub record IsSameTable (old new : View) : Type 0 where
+  pub layout : new.layout ≡ old.layout
+  pub opening : new.opening ≡ old.opening
+  pub origin : new.origin ≡ old.origin
+
+-- the pass has no ring, and the rights to the grants of all rings from this one on
+pub record HasRightsFrom {B : Type 0} (t : Shared B) (p : Seat (Option B) View) (ring : ℕ) : Type 0 where
+  pub pass : IsPassOf t p
+  pub slots : p.me.1 ≡ []
+  pub none : p.me.0.parts ≡ []
+  pub rights : (r : ℕ) → ring ≤ r → r < p.me.0.opening.rings → 0 < times_in r p.me.0.rights
+
+-- a pass of the table, with nothing in hand
+abbrev pub IsAtRest : {B : Type 0} → Shared B → Seat (Option B) View → Type 0
+IsAtRest t p = IsPassOf t p × (p.me.1 ≡ [])
+
+-- the pass has this ring alone, whose grant it has taken, and which has done nothing else
+pub record IsBegun {B : Type 0} (t : Shared B) (v : View) (ring : ℕ) (p : Seat (Option B) View) : Type 0 where
+  pub pass : IsAtRest t p
+  pub ring_is : p.me.0.parts ≡ new_part v.opening ring ∷ []
+  pub same : IsSameTable v p.me.0
+
+-- each of them has the ring of its place
+abbrev pub AreBegun : {B : Type 0} → Shared B → View → List (Seat (Option B) View) → Type 0
+AreBegun {B} t v ps = (i : ℕ) (d : Seat (Option B) View) → i < length ps → IsBegun t v i (slice_index_or ps i d)
+
+-- the parts of all rings that the passes have, in order
+abbrev pub all_parts : {B : Type 0} → List (Seat (Option B) View) → List RingPart
+all_parts [] = []
+all_parts (p ∷ ps) = p.me.0.parts ++ all_parts ps

@@ -1,0 +1,11 @@
+//! Rings beside each other: one pass of the shared table for each ring, all rings run at once, and the passes taken in again
+//! behind them.
+//!
+//! The first pass of a table stays with the caller, with no ring: it is the one into which all others are gathered.
+#![tactic(auto)]
+
+mod jobs;
+mod seats;
+
+pub use jobs::{RingJob, run_all};
+pub use seats::{gather, hand_out};

@@ -28,7 +28,7 @@ use Rattle.log_book.specs.Turns.{WasTaken, Grown, MayAdd, sheet}
 use Rattle.ring_pass.specs.Cells.{WroteClause}
 use Rattle.ring_pass.specs.Writes.{entries_of, sheet_with, KnowsJournal}
 use Rattle.ring_pass.proofs.Stays.{only_is}
-use Rattle.ring_pass.proofs.TurnsHere.{HasTurn, turn_taken, sheet_taken, journal_known, turn_given}
+use Rattle.ring_pass.proofs.TurnsHere.{HasTurn, turn_taken, failed_taken, sheet_taken, journal_known, turn_given}
 
 -- a clause may be added where it is fresh to the ring's own entries
 pub may_add : (v : View) (J : List Entry) (kind : Kind) (lits : List Literal) → KnowsJournal v J → MayAddClause v.opening (entries_of (only v)) (only v).core (only v).core.ring kind lits → MayAddClause v.opening J (only v).core (only v).core.ring kind lits
@@ -76,7 +76,7 @@ wrote_clause {S} {d} {written} {flushed} {target} {faults} {v} {w} {t} {t'} u ki
         refused = t'.refused;
         failed = t'.book.log.lines.spent;
         knows = journal_known v w J t.book.log.lines.spent has s;
-        gave = turn_given v w u J t.book.log.lines.spent (n ∷ []) t'.noted.items t'.refused t'.book.log.lines.spent has is noted;
+        gave = turn_given v w u J t.book.log.lines.spent (n ∷ []) t'.noted.items t'.refused t'.book.log.lines.spent has is noted (failed_taken J h has g.turn);
         going = (λ i. ended (sym has.opening i).formula (sym before i)) ∙ g.going.0.going;
       };
       number_is = omega arith;

@@ -1,5 +1,5 @@
 -- A ring that begins, and one that ends.
-use Rattle.std.proofs.Common.{◌≡◌, ◌<◌, true, false, true≢false, List, [], ◌∷◌, map, drop, get_or, refl, sym, ap, subst, ◌∙◌, arith, Option, Some, IsSome}
+use Rattle.std.proofs.Common.{◌≡◌, ◌<◌, true, false, true≢false, List, [], ◌∷◌, map, drop, get_or, refl, sym, ap, subst, ◌∙◌, arith, Option, Some, None, IsSome}
 use Rattle.std.specs.List.{All}
 use Rattle.sat_words.specs.Literal.{Literal}
 use Rattle.sat_words.specs.Clause.{has, distinct_lits}
@@ -17,19 +17,21 @@ use Rattle.share_rule.specs.declared.view.View.{View}
 use Rattle.share_rule.specs.FirstWords.{addresses}
 use Rattle.share_rule.specs.Passes.{IsPassOf}
 use Rattle.share_rule.specs.Views.{only}
+use Rattle.ring_port.specs.Port.{is_usable}
 use Rattle.ring_port.specs.PortState.{Holding, PortState, IsPort, HoldsStart, held_at}
 use Rattle.ring_port.proofs.Holdings.{holding}
 use Rattle.ring_pass.specs.RingState.{Own, port_of, home_of, holding_of, IsOwn}
 use Rattle.ring_pass.proofs.RingPorts.{there_here}
 
 -- nothing is kept yet
-pub own_begun : (p : RingPart) (o : Own) → o.arrived ≡ [] → o.passed ≡ 0 → o.taken ≡ [] → o.ended ≡ false → IsOwn p o
-own_begun p o none zero_is empty going = record {
+pub own_begun : (p : RingPart) (o : Own) → o.arrived ≡ [] → o.passed ≡ 0 → o.taken ≡ [] → o.ended ≡ false → o.refused ≡ None → IsOwn p o
+own_begun p o none zero_is empty going fine = record {
   passed = let z = zero_is in omega arith;
   distinct = subst (λ (ls : List Literal). distinct_lits ls ≡ true) (sym none) refl;
   told = subst (λ (ls : List Literal). All (λ l. has p.core.seen l ≡ true) ls) (sym none) (λ k d lt. absurd (omega arith));
   taken = subst (λ (cs : List Cref). All (λ c. 0 < times_at c.address p.core.held) cs) (sym empty) (λ k d lt. absurd (omega arith));
   ended_is = λ e. absurd (true≢false (sym e ∙ going));
+  faulty_is = λ e. absurd (true≢false (sym (ap is_usable fine) ∙ e));
 }
 
 -- where the start clauses are all that is held, each is found at its address

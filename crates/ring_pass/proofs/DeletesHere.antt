@@ -28,6 +28,7 @@ use Rattle.share_rule.specs.Views.{only, clause_in}
 use Rattle.log_book.specs.declared.stop.TurnStop.{TurnStop}
 use Rattle.ring_port.specs.declared.stops.PortStop.{PortStop}
 use Rattle.ring_port.specs.Deleting.{deletions, TidiedUpTo, TidiedSome}
+use Rattle.ring_port.specs.Port.{is_usable}
 use Rattle.ring_port.specs.PortState.{PortState}
 use Rattle.ring_pass.specs.declared.waiting.Waiting.{Waiting}
 use Rattle.ring_pass.specs.Deletions.{deletions_of, Deleted, DeletedSome}
@@ -36,7 +37,7 @@ use Rattle.ring_pass.specs.RingState.{Own, holding_of, port_with, port_of, home_
 use Rattle.ring_pass.specs.Writes.{entries_of, sheet_with, Wrote}
 use Rattle.ring_pass.proofs.PollsHere.{port_step}
 use Rattle.ring_pass.proofs.Stays.{only_is, one_is, units_keep}
-use Rattle.ring_pass.proofs.TurnsHere.{mine_last, not_ended, refused_here, room_refused, units_refused, ring_turns, end_refused}
+use Rattle.ring_pass.proofs.TurnsHere.{mine_last, not_ended, refused_here, room_refused, units_refused, ring_turns, end_refused, fault_refused}
 
 -- Lists
 
@@ -101,6 +102,7 @@ deleted_none v one free = record {
   wrote = sym (append-nil (entries_of (only v)));
   going = λ lt. absurd (omega arith);
   ended_is = λ e. e;
+  failed_is = λ e. e;
 }
 
 -- what waits next
@@ -153,6 +155,7 @@ deleted_more v w u k ws x d a lt e h =
           ∙ ap (λ (es : List Entry). entries_of (only v) ++ es) (sym (map-append (λ (c : ClauseAt). Del r c.number) (take k hs) (n.clause ∷ [])) ∙ ap (deletions_of r) (sym n.front ∙ ap (λ (m : ℕ). take m hs) step));
       going = λ some. by k refl d.going (not_ended w h.journal h.knows h.going) (ap (λ (q : RingPart). q.ended) now) d.ended_is;
       ended_is = λ t. or_left (only w).ended (ended w.opening.formula (h.journal ++ Del (only w).core.ring (clause_in x.cell.address (only w).core.waiting).number ∷ [])) (ap (λ (q : RingPart). q.ended) now ∙ d.ended_is t);
+      failed_is = λ t. h.gave.still (ap (λ (q : RingPart). q.failed) now ∙ d.failed_is t);
     }
   where
     by : (m : ℕ) → m ≡ k → (0 < k → (only v).ended ≡ false) → (only w).ended ≡ false → (only w).ended ≡ d.part.ended → ((only v).ended ≡ true → d.part.ended ≡ true) → (only v).ended ≡ false
@@ -184,17 +187,18 @@ tidied_here v w o k home own d hm = record {
     mine = d.wrote ∙ ap (λ (es : List Entry). entries_of (only v) ++ es) (dels_take (only v).glues (only v).core.ring k (only v).core.waiting)
 
 -- what is kept beside stays
-own_deleted : (v : View) (o : Own) (p : RingPart) (home : List ℕ) → p.core ≡ record (only v).core { waiting = p.core.waiting; wrote = p.core.wrote } → ((only v).ended ≡ true → p.ended ≡ true) → IsOwn (only v) o → IsOwn p (record o { home = home })
-own_deleted v o p home core end own = record {
+own_deleted : (v : View) (o : Own) (p : RingPart) (home : List ℕ) → p.core ≡ record (only v).core { waiting = p.core.waiting; wrote = p.core.wrote } → ((only v).ended ≡ true → p.ended ≡ true) → ((only v).failed ≡ true → p.failed ≡ true) → IsOwn (only v) o → IsOwn p (record o { home = home })
+own_deleted v o p home core end fail own = record {
   passed = own.passed;
   distinct = own.distinct;
   told = subst (λ (ls : List Literal). All (λ l. has ls l ≡ true) o.arrived) (sym (ap (λ (c : Part). c.seen) core)) own.told;
   taken = subst (λ (hs : List ClauseAt). All (λ c. 0 < times_at c.address hs) o.taken) (sym (ap (λ (c : Part). c.held) core)) own.taken;
   ended_is = λ e. end (own.ended_is e);
+  faulty_is = λ e. fail (own.faulty_is e);
 }
 
 pub ring_deleted : {B : Type 0} {t : Shared B} {p : Seat (Option B) View} {n : ℕ} {st : List Cref} {o : Own} (q : Seat (Option B) View) (k : ℕ) → IsRingPass t p n st o → IsPassOf t q → q.id ≡ p.id → q.me.1 ≡ [] → Deleted p.me.0 q.me.0 k → IsRingPass t q n st (record o { home = home_of q })
-ring_deleted {B} {t} {p} {n} {st} {o} q k r pass id slots d = ring_turns q d.part (record o { home = home_of q }) r pass id slots d.opening d.parts (ap (λ (c : Part). c.ring) d.core) d.turn refl (own_deleted p.me.0 o d.part (home_of q) d.core d.ended_is r.own)
+ring_deleted {B} {t} {p} {n} {st} {o} q k r pass id slots d = ring_turns q d.part (record o { home = home_of q }) r pass id slots d.opening d.parts (ap (λ (c : Part). c.ring) d.core) d.turn refl (own_deleted p.me.0 o d.part (home_of q) d.core d.ended_is d.failed_is r.own)
 
 -- fewer wait, in as much room
 pub room_deleted : (v w : View) (k : ℕ) (last : Option Cref) (ws ws' : List Waiting) (room room' : ℕ) → Deleted v w k → ws' ≡ drop k ws → room' ≡ room → HasRoom (only v) v.opening.rings last ws room → HasRoom (only w) w.opening.rings last ws' room'
@@ -223,7 +227,7 @@ units_deleted v w k seen a b d m = units_keep v w seen a b (ap (λ (p : RingPart
 
 -- at the ring, before what was refused
 own_middle : (v m : View) (o : Own) (k : ℕ) → Deleted v m k → IsOwn (only v) o → IsOwn (only m) o
-own_middle v m o k d own = subst (λ (p : RingPart). IsOwn p o) (sym (only_is m d.part d.parts)) (own_deleted v o d.part o.home d.core d.ended_is own)
+own_middle v m o k d own = subst (λ (p : RingPart). IsOwn p o) (sym (only_is m d.part d.parts)) (own_deleted v o d.part o.home d.core d.ended_is d.failed_is own)
 
 pub tidied_some : {v u : View} {many k : ℕ} {e : TurnStop} (o : Own) (s : PortState) (kept : Option PortStop) (over : Bool) (stop : PortStop) (home : List ℕ) → port_of v o ≡ s → IsOwn (only v) o → DeletedSome v u many k e → many ≡ length (only v).core.waiting → kept ≡ refused_after e o.refused → over ≡ ended_after e o.ended → stop ≡ port_stop e → home ≡ o.home
     → TidiedSome s (port_of u (record o { refused = kept; ended = over; home = home })) stop
@@ -238,15 +242,15 @@ tidied_some {v} {u} {many} {k} {e} o s kept over stop home view own d all kp b t
       refused = refused_here d.middle u o e home (own_middle v d.middle o k d.first own) d.refused hm;
     })
 
-pub ring_some : {B : Type 0} {t : Shared B} {p : Seat (Option B) View} {n : ℕ} {st : List Cref} {o : Own} (q : Seat (Option B) View) (many k : ℕ) (e : TurnStop) (kept : Option PortStop) (over : Bool) → IsRingPass t p n st o → IsPassOf t q → q.id ≡ p.id → q.me.1 ≡ [] → DeletedSome p.me.0 q.me.0 many k e → over ≡ ended_after e o.ended
+pub ring_some : {B : Type 0} {t : Shared B} {p : Seat (Option B) View} {n : ℕ} {st : List Cref} {o : Own} (q : Seat (Option B) View) (many k : ℕ) (e : TurnStop) (kept : Option PortStop) (over : Bool) → IsRingPass t p n st o → IsPassOf t q → q.id ≡ p.id → q.me.1 ≡ [] → DeletedSome p.me.0 q.me.0 many k e → kept ≡ refused_after e o.refused → over ≡ ended_after e o.ended
     → IsRingPass t q n st (record o { refused = kept; ended = over; home = home_of q })
-ring_some {B} {t} {p} {n} {st} {o} q many k e kept over r pass id slots d b =
+ring_some {B} {t} {p} {n} {st} {o} q many k e kept over r pass id slots d a b =
     let m : View = d.middle in
     let w = d.refused in
     let own = own_middle p.me.0 m o k d.first r.own in
     let ring : (only m).core.ring ≡ (only p.me.0).core.ring = ap (λ (x : RingPart). x.core.ring) (only_is m d.first.part d.first.parts) ∙ ap (λ (c : Part). c.ring) d.first.core in
     ring_turns q (give_part m.opening (sheet_with w.journal (only m)) w.refused w.failed (only m)) (record o { refused = kept; ended = over; home = home_of q }) r pass id slots (w.gave.opening ∙ d.first.opening) w.gave.parts ring refl refl
-    (record { passed = own.passed; distinct = own.distinct; told = own.told; taken = own.taken; ended_is = λ x. end_refused m o w.journal e own w.why (sym b ∙ x) })
+    (record { passed = own.passed; distinct = own.distinct; told = own.told; taken = own.taken; ended_is = λ x. end_refused m o w.journal e own w.why (sym b ∙ x); faulty_is = λ x. fault_refused m q.me.0 o e own w (ap is_usable (sym a) ∙ x) })
 
 pub room_some : (v u : View) (many k : ℕ) (e : TurnStop) (last : Option Cref) (ws ws' : List Waiting) (room room' : ℕ) → DeletedSome v u many k e → ws' ≡ drop k ws → room' ≡ room → HasRoom (only v) v.opening.rings last ws room → HasRoom (only u) u.opening.rings last ws' room'
 room_some v u many k e last ws ws' room room' d is same m = room_refused d.middle u e last ws' room' d.refused (room_deleted v d.middle k last ws ws' room room' d.first is same m)

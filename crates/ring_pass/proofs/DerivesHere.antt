@@ -171,6 +171,7 @@ ring_adds {B} {t} {p} {n} {st} {o} q kind lits glue a last r pass id slots f =
       taken = subst (λ (hs : List ClauseAt). All (λ x. 0 < times_at x.address hs) o.taken) (sym (ap (λ (k : Part). k.held) f.core))
           (all_map (λ (x : Cref). 0 < times_at x.address (only p.me.0).core.held) (λ (x : Cref). 0 < times_at x.address ((only p.me.0).core.held ++ clause_with a f.number lits ∷ [])) o.taken (λ x i lt. let m = at_both x.address (only p.me.0).core.held (clause_with a f.number lits ∷ []) in omega arith) r.own.taken);
       ended_is = λ e. f.ended_is (r.own.ended_is e);
+      faulty_is = λ e. f.failed_is (r.own.faulty_is e);
     })
 
 pub room_adds : (v w : View) (kind : Kind) (lits : List Literal) (glue a : ℕ) (last : Option Cref) (ws : List Waiting) (room : ℕ) → Added v w kind lits glue a → HasRoom (only v) v.opening.rings last ws room → HasRoom (only w) w.opening.rings last ws room

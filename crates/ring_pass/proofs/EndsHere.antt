@@ -93,6 +93,7 @@ ring_ended {B} {t} {p} {n} {st} {o} q r pass id slots h =
       told = r.own.told;
       taken = r.own.taken;
       ended_is = λ e. or_right (only p.me.0).ended (ended p.me.0.opening.formula (h.journal ++ empty_entry p.me.0 h.journal ∷ [])) (over p.me.0 h.journal);
+      faulty_is = λ e. h.gave.still (r.own.faulty_is e);
     })
 
 pub room_ended : (v u : View) (last : Option Cref) (ws : List Waiting) (room : ℕ) → Wrote v u Empty → HasRoom (only v) v.opening.rings last ws room → HasRoom (only u) u.opening.rings last ws room

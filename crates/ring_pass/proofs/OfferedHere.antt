@@ -117,6 +117,7 @@ module _ (v w : View) (o : Own) (home : List ℕ) (class a : ℕ) (tos : List �
             let lt = all_in (λ (x : Cref). 0 < times_at x.address (only v).core.held) o.taken c i own.taken in
             omega arith);
         ended_is = λ e. ap (λ (y : RingPart). y.ended) f.part.part ∙ own.ended_is e;
+        faulty_is = λ e. ap (λ (y : RingPart). y.failed) f.part.part ∙ own.faulty_is e;
       }
 
 -- The class

@@ -50,7 +50,7 @@ holding_same v w a k h = (one_same v w k h.0, subst (λ (p : RingPart). 0 < time
 
 -- under another name
 renamed : (p : RingPart) (o : Own) (home : List ℕ) → IsOwn p o → IsOwn p (record o { home = home })
-renamed p o home own = record { passed = own.passed; distinct = own.distinct; told = own.told; taken = own.taken; ended_is = own.ended_is }
+renamed p o home own = record { passed = own.passed; distinct = own.distinct; told = own.told; taken = own.taken; ended_is = own.ended_is; faulty_is = own.faulty_is }
 
 -- the pass is the ring's still
 pub ring_stays : {B : Type 0} {t : Shared B} {p : Seat (Option B) View} {n : ℕ} {st : List Cref} {o : Own} (q : Seat (Option B) View) → IsRingPass t p n st o → IsPassOf t q → IsSamePass p q → OnlyLooked p.me.0 q.me.0 → IsRingPass t q n st (record o { home = home_of q })
@@ -134,13 +134,14 @@ ring_changes {B} {t} {p} {n} {st} {o} q x o' r pass same opening is ring turn ho
     }
 
 -- where its part of the core stays, so does what is kept beside
-pub own_stays : (p x : RingPart) (o : Own) (looks : ℕ) (home : List ℕ) → x.core ≡ p.core → x.ended ≡ p.ended → IsOwn p o → IsOwn x (record o { looks = looks; home = home })
-own_stays p x o looks home e end own = record {
+pub own_stays : (p x : RingPart) (o : Own) (looks : ℕ) (home : List ℕ) → x.core ≡ p.core → x.ended ≡ p.ended → x.failed ≡ p.failed → IsOwn p o → IsOwn x (record o { looks = looks; home = home })
+own_stays p x o looks home e end fail own = record {
   passed = own.passed;
   distinct = own.distinct;
   told = subst (λ (k : Part). All (λ l. has k.seen l ≡ true) o.arrived) (sym e) own.told;
   taken = subst (λ (k : Part). All (λ c. 0 < times_at c.address k.held) o.taken) (sym e) own.taken;
   ended_is = λ q. end ∙ own.ended_is q;
+  faulty_is = λ q. fail ∙ own.faulty_is q;
 }
 
 pub room_steps : (p x : RingPart) (w : View) (rings rings' : ℕ) (last : Option Cref) (ws : List Waiting) (room : ℕ) → w.parts ≡ x ∷ [] → x.core ≡ p.core → rings' ≡ rings → HasRoom p rings last ws room → HasRoom (only w) rings' last ws room
@@ -159,9 +160,9 @@ no_output s t e = λ o st. absurd (subst (λ (q : Option LineState). IsSomeAnd q
 
 -- Steps that leave its part of the core
 
-pub port_steps : {B : Type 0} {t : Shared B} {p : Seat (Option B) View} {n : ℕ} {st : List Cref} {o : Own} (q : Seat (Option B) View) (x : RingPart) (looks : ℕ) → IsRingPass t p n st o → IsPassOf t q → q.me.0.parts ≡ x ∷ [] → x.core ≡ (only p.me.0).core → x.ended ≡ (only p.me.0).ended → IsPort (port_of q.me.0 (record o { looks = looks; home = home_of q }))
-port_steps {B} {t} {p} {n} {st} {o} q x looks r pass is e end =
-    is_port q.me.0 pass.3 (one_is q.me.0 x is) (record o { looks = looks; home = home_of q }) (subst (λ (y : RingPart). IsOwn y (record o { looks = looks; home = home_of q })) (sym (only_is q.me.0 x is)) (own_stays (only p.me.0) x o looks (home_of q) e end r.own))
+pub port_steps : {B : Type 0} {t : Shared B} {p : Seat (Option B) View} {n : ℕ} {st : List Cref} {o : Own} (q : Seat (Option B) View) (x : RingPart) (looks : ℕ) → IsRingPass t p n st o → IsPassOf t q → q.me.0.parts ≡ x ∷ [] → x.core ≡ (only p.me.0).core → x.ended ≡ (only p.me.0).ended → x.failed ≡ (only p.me.0).failed → IsPort (port_of q.me.0 (record o { looks = looks; home = home_of q }))
+port_steps {B} {t} {p} {n} {st} {o} q x looks r pass is e end fail =
+    is_port q.me.0 pass.3 (one_is q.me.0 x is) (record o { looks = looks; home = home_of q }) (subst (λ (y : RingPart). IsOwn y (record o { looks = looks; home = home_of q })) (sym (only_is q.me.0 x is)) (own_stays (only p.me.0) x o looks (home_of q) e end fail r.own))
 
 -- what was taken, in another vector
 pub port_retaken : {B : Type 0} {t : Shared B} {p : Seat (Option B) View} {n : ℕ} {st : List Cref} {o : Own} (ts : List Cref) → IsRingPass t p n st o → ts ≡ o.taken → IsPort (port_of p.me.0 (record o { taken = ts }))

@@ -1,7 +1,7 @@
 -- What a turn of the log leaves of a ring with its pass.
 use Rattle.io_edge.specs.declared.edge.Sink.{Ghosts}
 use Rattle.std.proofs.Common.{◌≡◌, ℕ, ◌<◌, ◌≤◌, Bool, true, false, not, ◌||◌, List, [], ◌∷◌, ◌++◌, map, length, refl, sym, ap, subst, ◌∙◌, inl, inr, arith, Option, Some, None, length-append}
-use Rattle.std.specs.Prelude.{slice_index_or, Result, Ok, Err, OnOk, IfErr}
+use Rattle.std.specs.Prelude.{slice_index_or, Result, Ok, Err, OnOk, IfErr, IfSome}
 use Rattle.std.specs.List.{All, list_any}
 use Rattle.std.proofs.lemmas.Bool.{true≢false, or_left, or_right}
 use Rattle.sat_words.specs.declared.shared.Cref.{Cref}
@@ -30,7 +30,7 @@ use Rattle.share_rule.specs.declared.view.Refusal.{Refusal}
 use Rattle.share_rule.specs.declared.view.RingPart.{RingPart}
 use Rattle.share_rule.specs.declared.view.View.{View}
 use Rattle.share_rule.specs.Passes.{IsPassOf}
-use Rattle.share_rule.specs.Seen.{Seen, IsPart}
+use Rattle.share_rule.specs.Seen.{Seen, IsPart, IsRefused}
 use Rattle.share_rule.specs.Steps.{on_first}
 use Rattle.share_rule.specs.Turns.{Sheet, MayNote, journal_in, sheet_after, written_of, take_part, give_part, after_give}
 use Rattle.share_rule.specs.Views.{only, no_part, clause_in}
@@ -38,10 +38,10 @@ use Rattle.share_rule.proofs.Moves.{turn_is}
 use Rattle.log_book.specs.declared.stop.TurnStop.{TurnStop}
 use Rattle.log_book.specs.declared.stop.TurnStop.TheVariants.{Ended, Broken, NoHole, Memory, ProofFault}
 use Rattle.log_book.specs.declared.turn.Turn.{Turn}
-use Rattle.log_book.specs.Turns.{WasTaken, Grown, Refused as TurnRefused, MayNext, IsCause, IsAddCause, waiting, sheet}
+use Rattle.log_book.specs.Turns.{WasTaken, IsTurn, Grown, Refused as TurnRefused, MayNext, IsCause, IsAddCause, noted_as, waiting, sheet}
 use Rattle.ring_port.specs.declared.stops.PortStop.{PortStop}
 use Rattle.ring_port.specs.declared.stops.PortStop.TheVariants as port
-use Rattle.ring_port.specs.Port.{HasReason, after_refusal, Refused}
+use Rattle.ring_port.specs.Port.{HasReason, after_refusal, Refused, is_fault, is_usable}
 use Rattle.ring_port.specs.PortState.{PortState}
 use Rattle.ring_port.specs.Reducing.{NotedReduce}
 use Rattle.ring_pass.specs.declared.waiting.Waiting.{Waiting}
@@ -72,6 +72,14 @@ turn_taken {S} {d} {written} {flushed} {target} {faults} {v} {w} {t} one h =
       stop = ap (λ (u : View). u.stop) b.view ∙ h.missed.stop;
     }
 
+-- it knows of a failed write what the book tells with it
+pub failed_taken : {S : Type 0} {d : Ghosts S} {written flushed target : S → Option (List ℕ)} {faults : S → ℕ} {v w : View} {t t' : Turn S d} (J : List Entry) → (h : WasTaken written flushed target faults v w t) → HasTurn v w J t.book.log.lines.spent → IsTurn written flushed target faults w t'
+    → (only v).failed ≡ true → t'.book.log.lines.spent ≡ true
+failed_taken {S} {d} {written} {flushed} {target} {faults} {v} {w} {t} {t'} J h has turn e =
+    let before : (only h.before).failed ≡ true = ap (λ (ps : List RingPart). (slice_index_or ps 0 no_part).failed) h.missed.parts ∙ e in
+    let told : (only w).failed ≡ t.book.log.lines.spent = ap (λ (p : RingPart). p.failed) (only_is w (take_part J t.book.log.lines.spent (only v)) has.parts) in
+    turn.refused.1 (told ∙ h.taken.book.still before)
+
 -- its sheet then
 pub sheet_taken : (v w : View) (J : List Entry) (failed : Bool) (ns : List Note) → HasTurn v w J failed → written_of w ns ≡ sheet_after v.opening (only v).core.ring (sheet_with J (only v)) ns
 sheet_taken v w J failed ns h i =
@@ -93,12 +101,13 @@ journal_known v w J failed h s =
 
 -- The turn is given back
 
-pub turn_given : (v w u : View) (J : List Entry) (was : Bool) (ns ms : List Note) (x : Option Refusal) (failed : Bool) → HasTurn v w J was → u ≡ after_give ms x failed w → ms ≡ ns → GaveTurn v u J ns x failed
-turn_given v w u J was ns ms x failed h is same = record {
+pub turn_given : (v w u : View) (J : List Entry) (was : Bool) (ns ms : List Note) (x : Option Refusal) (failed : Bool) → HasTurn v w J was → u ≡ after_give ms x failed w → ms ≡ ns → ((only v).failed ≡ true → failed ≡ true) → GaveTurn v u J ns x failed
+turn_given v w u J was ns ms x failed h is same still = record {
   parts = ap (λ (y : View). y.parts) is ∙ (λ i. on_first (give_part (h.opening i) (sheet_taken v w J was ms h i) x failed) (h.parts i)) ∙ (λ i. give_part v.opening (sheet_after v.opening (only v).core.ring (sheet_with J (only v)) (same i)) x failed (only v) ∷ []);
   layout = ap (λ (y : View). y.layout) is ∙ h.layout;
   opening = ap (λ (y : View). y.opening) is ∙ h.opening;
   stop = ap (λ (y : View). y.stop) is ∙ h.stop;
+  still = still;
 }
 
 -- the pass is the ring's again, with this part
@@ -208,11 +217,19 @@ end_refused v o J (NoHole need most) own why k = or_left (only v).ended (ended v
 end_refused v o J Memory own why k = or_left (only v).ended (ended v.opening.formula J) (own.ended_is k)
 end_refused v o J ProofFault own why k = or_left (only v).ended (ended v.opening.formula J) (own.ended_is k)
 
-pub ring_refused : {B : Type 0} {t : Shared B} {p : Seat (Option B) View} {n : ℕ} {st : List Cref} {o : Own} (q : Seat (Option B) View) (e : TurnStop) (kept : Option PortStop) (over : Bool) → IsRingPass t p n st o → IsPassOf t q → q.id ≡ p.id → q.me.1 ≡ [] → WroteNone p.me.0 q.me.0 e → over ≡ ended_after e o.ended
+-- and of a failed write
+pub fault_refused : (v u : View) (o : Own) (e : TurnStop) → IsOwn (only v) o → (w : WroteNone v u e) → is_usable (refused_after e o.refused) ≡ false → w.failed ≡ true
+fault_refused v u o Ended own w k = absurd (true≢false k)
+fault_refused v u o Broken own w k = w.faulty refl
+fault_refused v u o (NoHole need most) own w k = absurd (true≢false k)
+fault_refused v u o Memory own w k = w.gave.still (own.faulty_is k)
+fault_refused v u o ProofFault own w k = w.faulty refl
+
+pub ring_refused : {B : Type 0} {t : Shared B} {p : Seat (Option B) View} {n : ℕ} {st : List Cref} {o : Own} (q : Seat (Option B) View) (e : TurnStop) (kept : Option PortStop) (over : Bool) → IsRingPass t p n st o → IsPassOf t q → q.id ≡ p.id → q.me.1 ≡ [] → WroteNone p.me.0 q.me.0 e → kept ≡ refused_after e o.refused → over ≡ ended_after e o.ended
     → IsRingPass t q n st (record o { refused = kept; ended = over; home = home_of q })
-ring_refused {B} {t} {p} {n} {st} {o} q e kept over r pass id slots h b =
+ring_refused {B} {t} {p} {n} {st} {o} q e kept over r pass id slots h a b =
     ring_turns q (give_part p.me.0.opening (sheet_with h.journal (only p.me.0)) h.refused h.failed (only p.me.0)) (record o { refused = kept; ended = over; home = home_of q }) r pass id slots h.gave.opening h.gave.parts refl refl refl
-    (record { passed = r.own.passed; distinct = r.own.distinct; told = r.own.told; taken = r.own.taken; ended_is = λ k. end_refused p.me.0 o h.journal e r.own h.why (sym b ∙ k) })
+    (record { passed = r.own.passed; distinct = r.own.distinct; told = r.own.told; taken = r.own.taken; ended_is = λ k. end_refused p.me.0 o h.journal e r.own h.why (sym b ∙ k); faulty_is = λ k. fault_refused p.me.0 q.me.0 o e r.own h (ap is_usable (sym a) ∙ k) })
 
 pub room_refused : (v u : View) (e : TurnStop) (last : Option Cref) (ws : List Waiting) (room : ℕ) → WroteNone v u e → HasRoom (only v) v.opening.rings last ws room → HasRoom (only u) u.opening.rings last ws room
 room_refused v u e last ws room h m = room_turns v u (give_part v.opening (sheet_with h.journal (only v)) h.refused h.failed (only v)) last ws room h.gave.opening h.gave.parts refl refl (omega arith) m
@@ -244,9 +261,17 @@ wrote_one {S} {d} {written} {flushed} {target} {faults} {v} {w} {t} {t'} u n one
       refused = t'.refused;
       failed = t'.book.log.lines.spent;
       knows = journal_known v w J t.book.log.lines.spent has s;
-      gave = turn_given v w u J t.book.log.lines.spent (n ∷ []) t'.noted.items t'.refused t'.book.log.lines.spent has is noted;
+      gave = turn_given v w u J t.book.log.lines.spent (n ∷ []) t'.noted.items t'.refused t'.book.log.lines.spent has is noted (failed_taken J h has g.turn);
       going = (λ i. ended (sym has.opening i).formula (sym (journal_taken v w t J t.book.log.lines.spent has h.taken.noted) i)) ∙ g.going.0.going;
     }
+
+-- a fault is noted where a write has failed
+fault_told : (o : CoreOpening) (J : List Entry) (old : Option Refusal) {failed : Bool} {x : Option Refusal} (e : TurnStop) → x ≡ noted_as e old → IfSome x (IsRefused o J failed) → is_fault (port_stop e) ≡ true → failed ≡ true
+fault_told o J old {failed} {x} Ended is h k = absurd (true≢false (sym k))
+fault_told o J old {failed} {x} Broken is h k = subst (λ (y : Option Refusal). IfSome y (IsRefused o J failed)) is h
+fault_told o J old {failed} {x} (NoHole need most) is h k = absurd (true≢false (sym k))
+fault_told o J old {failed} {x} Memory is h k = absurd (true≢false (sym k))
+fault_told o J old {failed} {x} ProofFault is h k = subst (λ (y : Option Refusal). IfSome y (IsRefused o J failed)) is h
 
 -- a turn with none
 pub wrote_none : {S : Type 0} {d : Ghosts S} {written flushed target : S → Option (List ℕ)} {faults : S → ℕ} {v w : View} {t t' : Turn S d} (u : View) (e : TurnStop) → v.parts ≡ only v ∷ [] → (h : WasTaken written flushed target faults v w t) → Seen w → TurnRefused written flushed target faults w t t' e
@@ -259,8 +284,9 @@ wrote_none {S} {d} {written} {flushed} {target} {faults} {v} {w} {t} {t'} u e on
       refused = t'.refused;
       failed = t'.book.log.lines.spent;
       knows = journal_known v w J t.book.log.lines.spent has s;
-      gave = turn_given v w u J t.book.log.lines.spent [] t'.noted.items t'.refused t'.book.log.lines.spent has is (r.noted ∙ h.taken.noted);
+      gave = turn_given v w u J t.book.log.lines.spent [] t'.noted.items t'.refused t'.book.log.lines.spent has is (r.noted ∙ h.taken.noted) (failed_taken J h has r.turn);
       why = why;
+      faulty = fault_told w.opening (written_of w t'.noted.items).journal t.refused e r.refused r.turn.refused.0;
     }
 
 -- a reduction may be noted where the ring has learned enough
@@ -323,6 +349,7 @@ ring_reduced {B} {t} {p} {n} {st} {o} q ts r pass id slots h none =
       told = r.own.told;
       taken = subst (λ (cs : List Cref). All (λ c. 0 < times_at c.address (only p.me.0).core.held) cs) (sym none) (λ k d lt. absurd (omega arith));
       ended_is = λ e. or_left (only p.me.0).ended (ended p.me.0.opening.formula (h.journal ++ ReduceEntry (only p.me.0).core.ring ∷ [])) (r.own.ended_is e);
+      faulty_is = λ e. h.gave.still (r.own.faulty_is e);
     })
 
 pub room_reduced : (v u : View) (last : Option Cref) (ws : List Waiting) (room : ℕ) → Wrote v u Reduce → HasRoom (only v) v.opening.rings last ws room → HasRoom (only u) u.opening.rings last ws room

@@ -206,6 +206,7 @@ ring_unit {B} {t} {p} {n} {st} {o} {w} {kind} {lit} {arrived'} {last} q cell r p
       told = All_from_In (λ (x : Literal). has l.part.core.seen x ≡ true) last (λ x i. all_in (λ (y : Literal). has l.part.core.seen y ≡ true) arrived' x (has_In arrived' x (out.among x (In_has last x i))) l.told);
       taken = subst (λ (hs : List ClauseAt). All (λ c. 0 < times_at c.address hs) o.taken) (sym (ap (λ (c : Part). c.held) core ∙ ap (λ (x : RingPart). x.core.held) is)) r.own.taken;
       ended_is = λ e. l.ended_is (ap (λ (x : RingPart). x.ended) is ∙ or_left (only p.me.0).ended (ended p.me.0.opening.formula (h.journal ++ unit_entry p.me.0 h.journal kind lit ∷ [])) (r.own.ended_is e));
+      faulty_is = λ e. l.failed_is (ap (λ (x : RingPart). x.failed) is ∙ h.gave.still (r.own.faulty_is e));
     })
 
 pub room_unit : {v w u : View} {kind : Kind} {lit : Literal} {arrived arrived' : List Literal} (last : Option Cref) (ws : List Waiting) (room : ℕ) → Wrote v w (UnitNote kind lit) → Listed w u arrived arrived' lit → HasRoom (only v) v.opening.rings last ws room → HasRoom (only u) u.opening.rings last ws room

@@ -37,6 +37,7 @@ pub record Added (v w : View) (kind : Kind) (lits : List Literal) (glue a : ℕ)
   pub turn : part.turn ≡ None
   pub going : (only v).ended ≡ false
   pub ended_is : (only v).ended ≡ true → part.ended ≡ true
+  pub failed_is : (only v).failed ≡ true → part.failed ≡ true
   pub not_held : times_at a (only v).core.held ≡ 0
   pub not_waiting : times_at a (only v).core.waiting ≡ 0
   pub held_apart : All (λ k. k.number ≢ number) (only v).core.held

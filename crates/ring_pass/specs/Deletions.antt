@@ -28,6 +28,7 @@ pub record Deleted (v w : View) (k : ℕ) : Type 0 where
   pub wrote : entries_of part ≡ entries_of (only v) ++ deletions_of (only v).core.ring (take k (only v).core.waiting)
   pub going : 0 < k → (only v).ended ≡ false
   pub ended_is : (only v).ended ≡ true → part.ended ≡ true
+  pub failed_is : (only v).failed ≡ true → part.failed ≡ true
 
 -- the deletion of the next one was refused
 pub record DeletedSome (v w : View) (many : ℕ) (k : ℕ) (e : TurnStop) : Type 0 where

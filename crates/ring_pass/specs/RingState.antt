@@ -20,6 +20,7 @@ use Rattle.share_rule.specs.FirstWords.{addresses}
 use Rattle.share_rule.specs.Passes.{IsPassOf}
 use Rattle.share_rule.specs.Views.{only, clause_in, glue_in, start_glues}
 use Rattle.ring_port.specs.declared.stops.PortStop.{PortStop}
+use Rattle.ring_port.specs.Port.{is_usable}
 use Rattle.ring_port.specs.PortState.{Holding, Offer, PortState}
 use Rattle.ring_pass.specs.declared.spares.Spares.{Spares}
 use Rattle.ring_pass.specs.declared.waiting.Waiting.{Waiting}
@@ -102,14 +103,15 @@ home_of p = p.me.0.layout.rings ∷ p.me.0.layout.vars ∷ p.me.0.layout.words �
 
 -- What is kept of it
 
--- what is kept beside the pass is so: no unit arrived twice, each is seen, what was taken is held, and the log is ended where
--- the port says so
+-- what is kept beside the pass is so: no unit arrived twice, each is seen, what was taken is held, the log is ended where the
+-- port says so, and where it was refused for a fault the ring was told that a write of the log has failed
 pub record IsOwn (p : RingPart) (o : Own) : Type 0 where
   pub passed : o.passed ≤ length o.arrived
   pub distinct : distinct_lits o.arrived ≡ true
   pub told : All (λ l. has p.core.seen l ≡ true) o.arrived
   pub taken : All (λ c. 0 < times_at c.address p.core.held) o.taken
   pub ended_is : o.ended ≡ true → p.ended ≡ true
+  pub faulty_is : is_usable o.refused ≡ false → p.failed ≡ true
 
 -- how many places the offer of what was learned last may take
 abbrev pub pending : ℕ → Option Cref → ℕ

@@ -69,6 +69,7 @@ pub record Listed (v w : View) (arrived arrived' : List Literal) (lit : Literal)
   pub gave : part.gave ≡ (only v).gave
   pub turn : part.turn ≡ None
   pub ended_is : (only v).ended ≡ true → part.ended ≡ true
+  pub failed_is : (only v).failed ≡ true → part.failed ≡ true
   pub sees : (k : Literal) → has part.core.seen k ≡ (has ((only v).core.seen ++ news) k || same lit k)
   pub apart : (k : Literal) → has news k ≡ true → has (only v).core.seen k ≡ false
   pub arrived_is : arrived' ≡ arrived ++ news

@@ -12,6 +12,8 @@ use Rattle.share_rule.specs.Turns.{Sheet, sheet_after, give_part}
 use Rattle.share_rule.specs.Views.{only}
 use Rattle.log_book.specs.declared.stop.TurnStop.{TurnStop}
 use Rattle.log_book.specs.declared.stop.TurnStop.TheVariants.{Ended, Broken, NoHole, Memory, ProofFault}
+use Rattle.ring_port.specs.Port.{is_fault}
+use Rattle.ring_pass.specs.Refusals.{port_stop}
 
 -- the ring's own entries
 abbrev pub entries_of : RingPart → List Entry
@@ -26,12 +28,14 @@ pub record KnowsJournal (v : View) (J : List Entry) : Type 0 where
   pub ended_is : (only v).ended ≡ true → ended v.opening.formula J ≡ true
   pub recent_is : recent (only v).core.ring J ≡ recent (only v).core.ring (entries_of (only v))
 
--- the ring found this journal and wrote these notes; it waits for nobody any more
+-- the ring found this journal and wrote these notes; it waits for nobody any more; it is told whether a write of the log has
+-- failed, and that stays so
 pub record GaveTurn (v w : View) (J : List Entry) (ns : List Note) (x : Option Refusal) (failed : Bool) : Type 0 where
   pub parts : w.parts ≡ give_part v.opening (sheet_after v.opening (only v).core.ring (sheet_with J (only v)) ns) x failed (only v) ∷ []
   pub layout : w.layout ≡ v.layout
   pub opening : w.opening ≡ v.opening
   pub stop : w.stop ≡ v.stop
+  pub still : (only v).failed ≡ true → failed ≡ true
 
 -- it wrote this one note
 pub record Wrote (v w : View) (n : Note) : Type 0 where
@@ -50,7 +54,7 @@ IsWhy o J (NoHole need most) = (ended o.formula J ≡ false) × (most < need)
 IsWhy o J Memory = ended o.formula J ≡ false
 IsWhy o J ProofFault = ended o.formula J ≡ false
 
--- it wrote none
+-- it wrote none; where the refusal is a fault a write of the log has failed
 pub record WroteNone (v w : View) (e : TurnStop) : Type 0 where
   pub journal : List Entry
   pub refused : Option Refusal
@@ -58,3 +62,4 @@ pub record WroteNone (v w : View) (e : TurnStop) : Type 0 where
   pub knows : KnowsJournal v journal
   pub gave : GaveTurn v w journal [] refused failed
   pub why : IsWhy v.opening journal e
+  pub faulty : is_fault (port_stop e) ≡ true → failed ≡ true

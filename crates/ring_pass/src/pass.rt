@@ -1,4 +1,5 @@
-ghost use Rattle.std.specs.Prelude.{◌≡◌, [], ◌∷◌, true, None, IfOk, IfErr, map, ℕ};
+ghost use Rattle.std.specs.Prelude.{◌≡◌, [], ◌∷◌, true, false, None, IfOk, IfErr, map, ℕ};
+ghost use Rattle.ring_port.specs.Port.{is_usable};
 ghost use Rattle.ring_port.specs.PortState.{Holding, IsPort, HoldsStart};
 ghost use Rattle.share_rule.specs.FirstWords.{addresses};
 ghost use Rattle.share_rule.specs.Passes.{IsPassOf};
@@ -144,6 +145,7 @@ impl<'a, S: Sink, G: Gate, H> RingPass<'a, S, G, H> {
         ensures ring { (result.me.0.parts ≡ only result.me.0 ∷ []) × ((only result.me.0).turn ≡ None) }
         ensures state { (o : Own) × (port_of result.me.0 o ≡ self.entry) }
         ensures ended { self.entry.ended ≡ true → (only result.me.0).ended ≡ true }
+        ensures faulty { is_usable self.entry.refused ≡ false → (only result.me.0).failed ≡ true }
     {
         let RingPass { pass, .. } = self;
         pass

@@ -45,7 +45,7 @@ pub invariant_of-self-in-Err : goal.invariant_of-self-in-Err
 invariant_of-self-in-Err g c =
     let e = c.add_clause-added.ensures in
     let w = c.in-Err.ensures.refused in (
-      ring_refused c.add_clause-added.new.pass c.in-Err.stop _ c.refuse.new.ended c.self.invariant.0 e.pass.0 e.pass.1 e.pass.2 w c.refuse.ensures.ended,
+      ring_refused c.add_clause-added.new.pass c.in-Err.stop _ c.refuse.new.ended c.self.invariant.0 e.pass.0 e.pass.1 e.pass.2 w c.refuse.ensures.kept c.refuse.ensures.ended,
       room_refused c.self.inside.pass.me.0 c.add_clause-added.new.pass.me.0 c.in-Err.stop c.self.inside.last c.self.inside.waiting.items (vec_capacity c.self.inside.waiting) w c.self.invariant.1,
       units_refused c.self.inside.pass.me.0 c.add_clause-added.new.pass.me.0 c.in-Err.stop c.self.inside.seen.items (vec_capacity c.self.inside.seen) (vec_capacity c.self.inside.arrived) w c.self.invariant.2,
       offer_refused c.self.inside.pass.me.0 c.add_clause-added.new.pass.me.0 c.in-Err.stop c.self.inside.last c.self.inside.spares w c.self.invariant.3,

@@ -11,7 +11,7 @@ use Rattle.ring_pass.proofs.pass.RingPass.stopped.Goals as goal
 pub returns-in-None-clause-port : goal.returns-in-None-clause-port
 returns-in-None-clause-port g c =
     let e = c.look.ensures in
-    port_steps c.look.new.pass (only c.self.inside.pass.me.0) c.saturating_add-self-inside.result c.self.invariant.0 e.pass.0 (ap (λ (u : View). u.parts) e.part.1 ∙ c.self.invariant.0.one) refl refl
+    port_steps c.look.new.pass (only c.self.inside.pass.me.0) c.saturating_add-self-inside.result c.self.invariant.0 e.pass.0 (ap (λ (u : View). u.parts) e.part.1 ∙ c.self.invariant.0.one) refl refl refl
 
 pub returns-in-Some-clause-looked : goal.returns-in-Some-clause-looked
 returns-in-Some-clause-looked g c =
@@ -21,4 +21,4 @@ returns-in-Some-clause-looked g c =
 pub returns-in-Some-clause-port : goal.returns-in-Some-clause-port
 returns-in-Some-clause-port g c =
     let e = c.look.ensures in
-    port_steps c.look.new.pass (only c.self.inside.pass.me.0) c.self.inside.looks c.self.invariant.0 e.pass.0 (ap (λ (u : View). u.parts) e.part.1 ∙ c.self.invariant.0.one) refl refl
+    port_steps c.look.new.pass (only c.self.inside.pass.me.0) c.self.inside.looks c.self.invariant.0 e.pass.0 (ap (λ (u : View). u.parts) e.part.1 ∙ c.self.invariant.0.one) refl refl refl

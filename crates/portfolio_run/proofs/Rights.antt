@@ -50,4 +50,5 @@ begun_same t u v ring p same b = record {
   pass = b.pass;
   ring_is = b.ring_is ∙ ap (λ (o : CoreOpening). new_part o ring ∷ []) same.opening;
   same = same_both u v p.me.0 same b.same;
+  unstopped = b.unstopped;
 }

@@ -1,12 +1,13 @@
 -- Passes of rings, before they run and behind them.
-use Rattle.std.specs.Prelude.{◌≡◌, ℕ, ◌<◌, ◌≤◌, List, [], ◌∷◌, ◌++◌, length, slice_index_or, Option}
+use Rattle.std.specs.Prelude.{◌≡◌, ℕ, ◌<◌, ◌≤◌, List, [], ◌∷◌, ◌++◌, length, slice_index_or, Option, None}
 use Rattle.atomic_table.specs.declared.shared.Seat.{Seat}
 use Rattle.share_rule.specs.declared.Shared.{Shared}
 use Rattle.share_rule.specs.declared.view.RingPart.{RingPart}
 use Rattle.share_rule.specs.declared.view.View.{View}
 use Rattle.share_rule.specs.Passes.{IsPassOf}
 use Rattle.share_rule.specs.Steps.{new_part}
-use Rattle.share_rule.specs.Views.{times_in}
+use Rattle.share_core.specs.declared.event.Stop.{Stop}
+use Rattle.share_rule.specs.Views.{times_in, only, first_of}
 
 -- what the table was opened with is the same
 pub record IsSameTable (old new : View) : Type 0 where
@@ -30,6 +31,7 @@ pub record IsBegun {B : Type 0} (t : Shared B) (v : View) (ring : ℕ) (p : Seat
   pub pass : IsAtRest t p
   pub ring_is : p.me.0.parts ≡ new_part v.opening ring ∷ []
   pub same : IsSameTable v p.me.0
+  pub unstopped : p.me.0.stop ≡ None
 
 -- each of them has the ring of its place
 abbrev pub AreBegun : {B : Type 0} → Shared B → View → List (Seat (Option B) View) → Type 0
@@ -39,3 +41,19 @@ AreBegun {B} t v ps = (i : ℕ) (d : Seat (Option B) View) → i < length ps →
 abbrev pub all_parts : {B : Type 0} → List (Seat (Option B) View) → List RingPart
 all_parts [] = []
 all_parts (p ∷ ps) = p.me.0.parts ++ all_parts ps
+
+-- the first stop that is known, beginning with this one
+abbrev pub stop_among : {B : Type 0} → Option Stop → List (Seat (Option B) View) → Option Stop
+stop_among s [] = s
+stop_among s (p ∷ ps) = stop_among (first_of s p.me.0.stop) ps
+
+-- the pass has this ring alone, which has not the turn, and nothing in hand
+pub record HasRing {B : Type 0} (t : Shared B) (ring : ℕ) (p : Seat (Option B) View) : Type 0 where
+  pub pass : IsAtRest t p
+  pub one : p.me.0.parts ≡ only p.me.0 ∷ []
+  pub ring_is : (only p.me.0).core.ring ≡ ring
+  pub free : (only p.me.0).turn ≡ None
+
+-- each of them has the ring of its place
+abbrev pub HaveRings : {B : Type 0} → Shared B → List (Seat (Option B) View) → Type 0
+HaveRings {B} t ps = (i : ℕ) (d : Seat (Option B) View) → i < length ps → HasRing t i (slice_index_or ps i d)

@@ -1,7 +1,7 @@
 // The passes of the rings: handed out before the rings run, and gathered behind them.
 ghost use Rattle.std.specs.Prelude.{◌≡◌, ◌+◌, ◌++◌, ◌<◌, [], All, length, IfOk, OnErr};
 ghost use Rattle.share_rule.specs.Passes.{IsPassOf};
-ghost use Rattle.portfolio_run.specs.Seats.{HasRightsFrom, IsSameTable, IsBegun, AreBegun, IsAtRest, all_parts};
+ghost use Rattle.portfolio_run.specs.Seats.{HasRightsFrom, IsSameTable, IsBegun, AreBegun, IsAtRest, all_parts, stop_among};
 
 use ref_count::take_grant;
 use share_rule::{Ledger, Pass, Shared, join, split};
@@ -50,6 +50,7 @@ pub fn gather<B: Ledger>(table: &Shared<B>, first: &mut Pass<B>, passes: Vec<Pas
     ensures first { IsPassOf table.now first.new × (first.new.me.1 ≡ []) }
     ensures same { IsSameTable first.old.me.0 first.new.me.0 }
     ensures parts { first.new.me.0.parts ≡ first.old.me.0.parts ++ all_parts passes.items }
+    ensures stop { first.new.me.0.stop ≡ stop_among first.old.me.0.stop passes.items }
 {
     for pass in passes {
         join(table, first, pass);

@@ -3,8 +3,9 @@ use Rattle.std.specs.Vec.Iter.{into_iter_items}
 use Rattle.std.proofs.lemmas.List.{nil_from_length}
 use Rattle.std.proofs.lemmas.List.Elements.{All-head, All-tail}
 use Rattle.atomic_table.specs.declared.shared.Seat.{Seat}
+use Rattle.share_core.specs.declared.event.Stop.{Stop}
 use Rattle.share_rule.specs.declared.view.View.{View}
-use Rattle.portfolio_run.specs.Seats.{IsAtRest, all_parts}
+use Rattle.portfolio_run.specs.Seats.{IsAtRest, all_parts, stop_among}
 use Rattle.portfolio_run.proofs.Rights.{same_still, same_both, parts_more}
 use Rattle.portfolio_run.proofs.seats.gather.Goals as goal
 
@@ -16,6 +17,7 @@ loop-pass-init g c =
       same_still v,
       subst (All (IsAtRest c.args.table.now)) (sym gives.0) c.requires.passes,
       ap (λ (ps : List (Seat (Option g.row.B.Denot) View)). v.parts ++ all_parts ps) gives.0,
+      ap (stop_among v.stop) gives.0,
       gives.1 ∙ c.args.passes.ok.0 ∙ ap length (sym gives.0),
     )
 
@@ -40,7 +42,8 @@ loop-pass-preserved g c =
       same_both c.args.first.now.me.0 v w at.1 (record { layout = ap (λ (u : View). u.layout) is; opening = ap (λ (u : View). u.opening) is; origin = ap (λ (u : View). u.origin) is }),
       All-tail (IsAtRest c.args.table.now) x rest (subst (All (IsAtRest c.args.table.now)) steps.0 at.2),
       parts_more v.parts w.parts x.me.0.parts (all_parts rest) (all_parts (into_iter_items c.loop-pass.pass-iterator)) (ap (λ (u : View). u.parts) is) (ap all_parts steps.0) ∙ at.3,
-      (let was = at.4 in
+      ap (λ (o : Option Stop). stop_among o rest) (ap (λ (u : View). u.stop) is) ∙ sym (ap (stop_among v.stop) steps.0) ∙ at.4,
+      (let was = at.5 in
           let gone = steps.1 in
           let short = ap length steps.0 in
           omega arith),
@@ -57,5 +60,13 @@ returns-clause-parts g c =
     let at = c.loop-pass.invariant in
     let v : View = c.loop-pass.first.me.0 in
     let none = c.in-None.ensures.steps in
-    let empty : into_iter_items c.loop-pass.pass-iterator ≡ [] = nil_from_length (into_iter_items c.loop-pass.pass-iterator) (sym at.4 ∙ none.0) in
+    let empty : into_iter_items c.loop-pass.pass-iterator ≡ [] = nil_from_length (into_iter_items c.loop-pass.pass-iterator) (sym at.5 ∙ none.0) in
     sym (append-nil v.parts) ∙ sym (ap (λ (ps : List (Seat (Option g.row.B.Denot) View)). v.parts ++ all_parts ps) empty) ∙ at.3
+
+pub returns-clause-stop : goal.returns-clause-stop
+returns-clause-stop g c =
+    let at = c.loop-pass.invariant in
+    let v : View = c.loop-pass.first.me.0 in
+    let none = c.in-None.ensures.steps in
+    let empty : into_iter_items c.loop-pass.pass-iterator ≡ [] = nil_from_length (into_iter_items c.loop-pass.pass-iterator) (sym at.5 ∙ none.0) in
+    sym (ap (stop_among v.stop) empty) ∙ at.4

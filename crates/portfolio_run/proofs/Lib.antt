@@ -1,1 +1,4 @@
+mod Each
+mod Making
+mod Readiness
 mod Rights

@@ -1,2 +1,3 @@
 pub mod Jobs
+pub mod Ports
 pub mod Seats

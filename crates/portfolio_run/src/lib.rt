@@ -5,7 +5,11 @@
 #![tactic(auto)]
 
 mod jobs;
+mod plan;
+mod ports;
 mod seats;
 
 pub use jobs::{RingJob, run_all};
+pub use plan::RingPlan;
+pub use ports::make_ports;
 pub use seats::{gather, hand_out};

@@ -1,0 +1,13 @@
+use Rattle.std.proofs.Common.{◌∷◌, ap, ◌∙◌}
+use Rattle.ring_port.specs.PortState.{PortState}
+use Rattle.portfolio_run.proofs.ports.pass_of.Goals as goal
+
+pub returns : goal.returns
+returns g c =
+    let e = c.into_pass.ensures in
+    record {
+      pass = e.pass;
+      one = e.ring.0;
+      ring_is = ap (λ (s : PortState). s.ring) e.state.1;
+      free = e.ring.1;
+    }

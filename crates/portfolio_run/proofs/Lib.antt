@@ -2,3 +2,5 @@ mod Each
 mod Making
 mod Readiness
 mod Rights
+mod Running
+mod Winning

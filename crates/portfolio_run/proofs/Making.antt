@@ -1,18 +1,18 @@
 -- Ports that are made, and passes that are left.
-use Rattle.std.proofs.Common.{◌≡◌, ◌≤◌, ◌^◌, ℕ, ◌+◌, ◌<◌, List, [], ◌∷◌, ◌++◌, length, length-append, refl, sym, ap, subst, ◌∙◌, arith, None, Option, get_or}
+use Rattle.std.proofs.Common.{◌≡◌, ℕ, ◌+◌, ◌<◌, List, [], ◌∷◌, ◌++◌, length, length-append, sym, ap, subst, ◌∙◌, arith, None, Option, get_or}
 use Rattle.atomic_table.specs.declared.shared.Seat.{Seat}
 use Rattle.share_rule.specs.declared.Shared.{Shared}
 use Rattle.share_rule.specs.declared.view.View.{View}
 use Rattle.share_rule.specs.declared.view.RingPart.{RingPart}
 use Rattle.share_rule.specs.Passes.{IsPassOf}
-use Rattle.share_rule.specs.Views.{only, no_part}
+use Rattle.share_rule.specs.Views.{no_part}
 use Rattle.std.specs.Prelude.{slice_index_or, All}
 use Rattle.ring_port.specs.PortState.{PortState}
 use Rattle.ring_pass.specs.RingState.{begun_as, home_of}
 use Rattle.portfolio_run.specs.declared.jobs.RingJob.{RingJob}
 use Rattle.portfolio_run.specs.declared.plan.RingPlan.{RingPlan}
 use Rattle.portfolio_run.specs.Jobs.{IsReady}
-use Rattle.portfolio_run.specs.Ports.{IsMade, begun_at, job_at, IsAt}
+use Rattle.portfolio_run.specs.Ports.{IsMade, job_at, IsAt}
 use Rattle.portfolio_run.specs.Seats.{IsSameTable, IsBegun, HasRing}
 use Rattle.portfolio_run.proofs.Each.{EachFrom, each_of, index_of, each_by, each_last, each_both}
 

@@ -12,7 +12,6 @@ use Rattle.share_rule.specs.declared.view.GlueAt.{GlueAt}
 use Rattle.share_core.specs.declared.stored.ClauseAt.{ClauseAt}
 use Rattle.sat_words.specs.declared.shared.Cref.{Cref}
 use Rattle.ring_pass.specs.RingState.{begun_as, stop_as, holding_of}
-use Rattle.ring_run.specs.Ended.{IsJobOf, IsUntouched}
 use Rattle.ring_run.specs.declared.job.Job.{Job}
 use Rattle.portfolio_run.specs.Jobs.{IsReady}
 

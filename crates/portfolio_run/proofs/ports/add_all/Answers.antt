@@ -1,4 +1,4 @@
-use Rattle.std.proofs.Common.{◌++◌, ◌∷◌, [], List, length, length-append, ap, arith}
+use Rattle.std.proofs.Common.{length, length-append, ap, arith}
 use Rattle.std.specs.Vec.Iter.{into_iter_items}
 use Rattle.portfolio_run.proofs.ports.add_all.Goals as goal
 

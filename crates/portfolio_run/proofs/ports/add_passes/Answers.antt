@@ -1,7 +1,5 @@
-use Rattle.std.proofs.Common.{◌≡◌, ◌+◌, ℕ, [], ◌∷◌, List, length, ap, sym, subst, ◌∙◌, Option, arith}
+use Rattle.std.proofs.Common.{◌≡◌, ◌+◌, ℕ, length, ap, sym, subst, ◌∙◌, arith}
 use Rattle.std.specs.Vec.Iter.{into_iter_items}
-use Rattle.atomic_table.specs.declared.shared.Seat.{Seat}
-use Rattle.share_rule.specs.declared.view.View.{View}
 use Rattle.ring_port.specs.PortState.{PortState}
 use Rattle.ring_pass.specs.RingState.{home_of}
 use Rattle.portfolio_run.specs.declared.jobs.RingJob.{RingJob}

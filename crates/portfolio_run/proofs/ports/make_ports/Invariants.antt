@@ -1,12 +1,6 @@
-use Rattle.std.proofs.Common.{◌≡◌, ◌+◌, ◌≤◌, ℕ, [], length, vec_capacity}
+use Rattle.std.proofs.Common.{◌≡◌, ◌+◌, ◌≤◌, length, vec_capacity}
 use Rattle.std.specs.Vec.Iter.{into_iter_items, into_iter_len}
 use Rattle.ring_pass.specs.RingState.{home_of}
-use Rattle.ring_port.specs.PortState.{PortState}
-use Rattle.portfolio_run.specs.declared.jobs.RingJob.{RingJob}
-use Rattle.portfolio_run.specs.Jobs.{IsReady}
-use Rattle.portfolio_run.specs.Ports.{IsMade}
-use Rattle.portfolio_run.specs.Seats.{IsBegun}
-use Rattle.portfolio_run.proofs.Each.{EachFrom}
 use Rattle.portfolio_run.proofs.Making.{Placed}
 use Rattle.portfolio_run.proofs.ports.make_ports.Given as goal
 

@@ -1,4 +1,4 @@
-use Rattle.std.proofs.Common.{◌∷◌, ap, ◌∙◌}
+use Rattle.std.proofs.Common.{ap}
 use Rattle.ring_port.specs.PortState.{PortState}
 use Rattle.portfolio_run.proofs.ports.pass_of.Goals as goal
 

@@ -184,7 +184,7 @@ module _ {S : Type 0} {d : Ghosts S} (written flushed target : S → Maybe (List
           let state = failed.failed.state in
           let J' : (sheet v t').journal ≡ J = ap (λ (ns : List Note). (written_of v ns).journal) noted_is in
           let lines_are : t'.book.log.lines ≡ c.log.lines = ap (λ k. k.lines) log_are in
-          let kept_are : t'.book.log.kept.lines ≡ t.book.log.kept.lines = ap (λ k. k.kept.lines) log_are ∙ failed.kept ∙ b_kept in
+          let kept_are : t'.book.log.kept.lines ≡ with_line t.book.log.kept.lines x = ap (λ k. k.kept.lines) log_are ∙ failed.kept ∙ ap (λ k. with_line k x) b_kept in
           let spent : t'.book.log.lines.spent ≡ true = ap (λ l. l.spent) lines_are ∙ ap (λ (l : LineState). l.spent) state in
           let was : HasText O J (told_by written flushed target faults b.log.lines) = subst (λ l. HasText O J (told_by written flushed target faults l)) (sym b_lines) (h.stands.log.sink.whole could.1) in
           let cut = has_text_cut O J (told_by written flushed target faults b.log.lines) (told_by written flushed target faults c.log.lines) x was (next_accepted x line) v.layout.vars on failed.failed in (
@@ -197,7 +197,7 @@ module _ {S : Type 0} {d : Ghosts S} (written flushed target : S → Maybe (List
                 log = record {
                   entries = entries_are ∙ failed.entries ∙ b_entries ∙ h.stands.log.entries;
                   last = ap (λ l. suc l.last) lines_are ∙ ap (λ (l : LineState). suc l.last) state ∙ ap (λ l. suc l.last) b_lines ∙ h.stands.log.last;
-                  keeps = ap is_some kept_are ∙ h.stands.log.keeps;
+                  keeps = ap is_some kept_are ∙ some_with t.book.log.kept.lines x ∙ h.stands.log.keeps;
                   kept = λ q. absurd (true≢false (sym spent ∙ q));
                   sink = record {
                     whole = λ q. absurd (true≢false (sym spent ∙ q));

@@ -70,6 +70,12 @@ pub record IsFilled (o : Origin) (J : List Entry) (out : LineState) : Type 0 whe
   pub flushed : out.flushed ≡ o.output.flushed
   pub spelled : CanBeSpelled (lines o.formula J)
 
+-- or it failed at a line behind those of the journal
+pub record IsCutOff (o : Origin) (J : List Entry) (vars : ℕ) (out : LineState) : Type 0 where
+  pub spent : out.spent ≡ true
+  pub text : HasTextCut o J vars out
+  pub target : out.target ≡ o.output.target
+
 -- what a new book tells
 abbrev pub told_new : {S : Type 0} (written flushed target : S → Option (List ℕ)) (faults : S → ℕ) → ℕ → S → Bool → LineState
 told_new written flushed target faults clauses sink asked = with_kept (if asked then Some [] else None) (told_by written flushed target faults (record { entries = 0; last = clauses; spent = false; waiting = []; sink = sink }))
@@ -97,10 +103,10 @@ module _ {S : Type 0} {d : Ghosts S} (written flushed target : S → Option (Lis
     pub ended : new.ended ≡ (old.ended || ends line)
     pub holes : new.holes ≡ old.holes
 
-  -- the sink failed at it
+  -- the sink failed at it; it is kept
   pub record HasFailed (old new : Book S d) (line : Line) : Type 0 where
     pub failed : FailedLine (told_by written flushed target faults old.log.lines) (told_by written flushed target faults new.log.lines) line
-    pub kept : new.log.kept.lines ≡ old.log.kept.lines
+    pub kept : new.log.kept.lines ≡ with_line old.log.kept.lines line
     pub entries : new.entries ≡ old.entries
     pub ended : new.ended ≡ old.ended
     pub holes : new.holes ≡ old.holes
@@ -112,3 +118,10 @@ module _ {S : Type 0} {d : Ghosts S} (written flushed target : S → Option (Lis
     pub cut : b.log.lines.spent ≡ true → HasTextCut (begun F (began w F)) J l.vars (told_by written flushed target faults b.log.lines)
     pub target_is : target b.log.lines.sink ≡ w.target
     pub flushed_is : flushed b.log.lines.sink ≡ w.flushed
+
+  -- since it had this sink, in which nothing was written, the book failed at a line behind those of the journal
+  pub record IsCutLog (sink : S) (b : Book S d) (l : Layout) (F : List (List Literal)) (J : List Entry) : Type 0 where
+    pub origin : BookOrigin
+    pub target_is : origin.target ≡ target sink
+    pub faults_are : origin.faults ≡ faults sink
+    pub log : IsLogOf b origin l F J

@@ -1,13 +1,16 @@
 -- Lines that are kept where they are asked for.
-use Rattle.std.specs.Prelude.{◌≡◌, ◌<◌, ◌^◌, ℕ, false, List, [], ◌++◌, ◌∷◌, ⊤, All, Some, None, IfSome}
+use Rattle.std.specs.Prelude.{◌≡◌, ◌<◌, ◌^◌, ℕ, false, List, [], ◌++◌, ◌∷◌, ⊤, All, Some, None, IfSome, Result, Ok, Err}
 use Rattle.std.specs.declared.option.Option.{Option}
 use Rattle.std.specs.Option.{option_map}
+use Rattle.io_edge.specs.Bytes.{IsFront}
 use Rattle.sat_words.specs.Literal.{IsOn}
 use Rattle.sat_words.specs.declared.line.Line.{Line}
 use Rattle.rup_model.specs.Log.{lits_of}
 use Rattle.drat_text.specs.Text.{text, CanBeSpelled}
 use Rattle.drat_text.specs.LineState.{LineState}
 use Rattle.drat_text.specs.SinkData.{SinkData}
+use Rattle.drat_text.specs.declared.stop.LineStop.{LineStop}
+use Rattle.drat_text.specs.declared.stop.LineStop.TheVariants.{ProofFault, Full, Memory}
 
 -- the lines, for how many more there is room, and the copy of the line that comes next
 pub record KeptLines : Type 0 where
@@ -18,6 +21,13 @@ pub record KeptLines : Type 0 where
 -- with one line more
 abbrev pub with_line : Option (List Line) → Line → Option (List Line)
 with_line kept line = option_map (λ ls. ls ++ line ∷ []) kept
+
+-- once the line was put: it is kept where it stands, and where writing failed at it
+abbrev pub kept_after : Result ℕ LineStop → Option (List Line) → Line → Option (List Line)
+kept_after (Ok number) kept line = with_line kept line
+kept_after (Err ProofFault) kept line = with_line kept line
+kept_after (Err Full) kept line = kept
+kept_after (Err Memory) kept line = kept
 
 -- the variables of the line are some that a proof may name
 abbrev pub IsSpelled : Line → Type 0
@@ -39,10 +49,17 @@ abbrev pub HoldsText : Option (List ℕ) → List ℕ → Type 0
 HoldsText None all = ⊤
 HoldsText (Some bytes) all = bytes ≡ all
 
--- unless writing failed, what a line output has is the text of these lines
+-- the bytes, where they are told, are a front of the text
+abbrev pub IsFrontTold : Option (List ℕ) → List ℕ → Type 0
+IsFrontTold None all = ⊤
+IsFrontTold (Some bytes) all = IsFront (Some bytes) (Some all)
+
+-- what a line output has is the text of these lines, or where it failed a front of it, the last of the lines being that which
+-- failed
 pub record IsInStep (lines : List Line) (out : LineState) : Type 0 where
   pub spelled : CanBeSpelled lines
   pub whole : out.spent ≡ false → HoldsText out.written (text lines)
+  pub front : IsFrontTold out.written (text lines)
 
 -- kept lines are in step with those on their way
 abbrev pub AreInStep : Option (List Line) → LineState → Type 0

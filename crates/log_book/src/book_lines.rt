@@ -10,7 +10,7 @@ ghost use Rattle.sat_words.specs.declared.shared.TheConstants.{MAX_ENTRIES};
 ghost use Rattle.rup_model.specs.declared.journal.Entry.{Entry};
 ghost use Rattle.share_rule.specs.declared.Layout.{Layout};
 ghost use Rattle.share_rule.specs.Books.{HasLog};
-ghost use Rattle.log_book.specs.Books.{ends, begun, told_of, told_new, account_of, origin_of, IsNew, IsFilled, IsFrom, IsLogOf, AreAlike, HasPut, HasFailed};
+ghost use Rattle.log_book.specs.Books.{ends, begun, told_of, told_new, account_of, origin_of, IsNew, IsFilled, IsFrom, IsCutOff, IsCutLog, IsLogOf, AreAlike, HasPut, HasFailed};
 ghost use Rattle.log_book.specs.Kept.{IsReady};
 
 use crate::book::Book;
@@ -68,11 +68,15 @@ impl<S: Sink> Book<S> {
     }
 
     /// A table can be made over a book that was filled through the bound of a line output, where it tells the text of a
-    /// journal's lines since it was new. The call computes nothing.
+    /// journal's lines since it was new. Where the output failed at a line behind those, what its sink has is known too. The
+    /// call computes nothing.
     pub fn has_its_log(&self)
-        ensures { (F : List (List Literal)) (J : List Entry) (l : Layout) (sink : S) (asked : Bool) → IsEmptyWhereTold (S.written sink)
+        ensures whole { (F : List (List Literal)) (J : List Entry) (l : Layout) (sink : S) (asked : Bool) → IsEmptyWhereTold (S.written sink)
             → IsFilled (begun F (told_new S.written S.flushed S.target S.faults (length F) sink asked)) J (told_of S.written S.flushed S.target S.faults self.now)
             → HasLog account_of (IsLogOf S.written S.flushed S.target S.faults) self.now (origin_of S.written S.flushed S.target S.faults self.now) l F J × IsFrom S.target S.faults sink asked (origin_of S.written S.flushed S.target S.faults self.now) }
+        ensures cut { (F : List (List Literal)) (J : List Entry) (l : Layout) (sink : S) (asked : Bool) → IsEmptyWhereTold (S.written sink)
+            → IsCutOff (begun F (told_new S.written S.flushed S.target S.faults (length F) sink asked)) J l.vars (told_of S.written S.flushed S.target S.faults self.now)
+            → IsCutLog S.written S.flushed S.target S.faults sink self.now l F J }
     {
         self.log.keeps_step();
         text_determines_lines();

@@ -1,5 +1,5 @@
 // The lines on their way to the sink, of which a list is kept where that is asked for.
-ghost use Rattle.std.specs.Prelude.{◌≡◌, ◌≢◌, ◌≤◌, ◌^◌, [], true, false, Some, None, Err, is_err, IfOk, IfErr, OnOk, OnErr, MatchResult, if◌then◌else◌};
+ghost use Rattle.std.specs.Prelude.{◌≡◌, ◌≢◌, ◌≤◌, ◌^◌, [], true, false, Some, None, Err, is_err, IfOk, IfErr, OnOk, OnErr, if◌then◌else◌};
 ghost use Rattle.std.specs.Option.{option_map};
 ghost use Rattle.std.specs.Io.KnownBytes.{append_known};
 ghost use Rattle.io_edge.specs.Bytes.{IsFront};
@@ -8,7 +8,7 @@ ghost use Rattle.io_edge.specs.Paths.{IsEmptyWhereTold};
 ghost use Rattle.drat_text.specs.LineOut.{WasPut};
 ghost use Rattle.drat_text.specs.SinkData.{told_by};
 ghost use Rattle.drat_text.specs.declared.stop.LineStop.TheVariants.{Memory};
-ghost use Rattle.log_book.specs.Kept.{with_line, IsReady, AreInStep};
+ghost use Rattle.log_book.specs.Kept.{kept_after, IsReady, AreInStep};
 
 use crate::kept::Kept;
 use drat_text::{LineOut, LineStop, SinkLines};
@@ -91,12 +91,12 @@ impl<S: Sink> LogLines<S> {
         self.kept.prepare(line)
     }
 
-    /// Puts the line behind the others.
+    /// Puts the line behind the others, and keeps it, also the line at which writing failed.
     pub(crate) fn put(&mut self, line: &Line) -> Result<u64, LineStop>
         requires unspent { self.old.lines.spent ≡ false }
         requires ready { IsReady self.old.kept line.now }
         ensures put { WasPut (told_by S.written S.flushed S.target S.faults self.old.lines) (told_by S.written S.flushed S.target S.faults self.new.lines) line.now result }
-        ensures kept { MatchResult result (λ _. self.new.kept.lines ≡ with_line self.old.kept.lines line.now) (λ _. self.new.kept.lines ≡ self.old.kept.lines) }
+        ensures kept { self.new.kept.lines ≡ kept_after result self.old.kept.lines line.now }
         ensures memory { result ≢ Err Memory }
     {
         match self.lines.put(line) {
@@ -107,7 +107,12 @@ impl<S: Sink> LogLines<S> {
                 }
                 Ok(number)
             }
-            Err(stop) => Err(stop),
+            Err(LineStop::ProofFault) => {
+                self.kept.keep(line);
+                Err(LineStop::ProofFault)
+            }
+            Err(LineStop::Full) => Err(LineStop::Full),
+            Err(LineStop::Memory) => Err(LineStop::Memory),
         }
     }
 

@@ -95,7 +95,7 @@ fn lines_are_kept_where_they_are_asked_for(rt: HostRuntime) -> Result<(), Fail> 
     assert!(rt; found == (7, None, 8, Ok(()), 42, Some(7)));
     let found = ending(&rt, &[1], 10_930, true)?;
     let fault = Some(LineStop::ProofFault);
-    assert!(rt; found == (10_922, fault, 10_923, Err(Failed), 0, Some(10_922)));
+    assert!(rt; found == (10_922, fault, 10_923, Err(Failed), 0, Some(10_923)));
     Ok(())
 }
 

@@ -1,5 +1,5 @@
 -- From a port that has run to what its pass has of the ring.
-use Rattle.std.proofs.Common.{◌≡◌, ◌≢◌, ℕ, ◌*◌, ◌-◌, List, [], ◌∷◌, map, refl, sym, ap, subst, ◌∙◌, Option, Some, None, IfSome, IsSome, eq-eqb, ne_eqb, if◌then◌else◌}
+use Rattle.std.proofs.Common.{◌≡◌, ◌≢◌, ℕ, ◌*◌, ◌-◌, ◌<◌, arith, length, get_or, List, [], ◌∷◌, map, refl, sym, ap, subst, ◌∙◌, Option, Some, None, IfSome, IsSome, eq-eqb, ne_eqb, if◌then◌else◌}
 use Rattle.std.specs.Option.{option_map}
 use mathlib.Core.Logic.{dite}
 use mathlib.Core.Option.{some}
@@ -15,6 +15,7 @@ use Rattle.share_rule.specs.declared.view.View.{View}
 use Rattle.share_rule.specs.Passes.{IsPassOf}
 use Rattle.share_rule.specs.Seen.{Seen}
 use Rattle.share_rule.specs.Views.{only, own_stop, start_glues}
+use Rattle.ring_port.specs.Port.{is_usable}
 use Rattle.ring_port.specs.PortState.{PortState}
 use Rattle.ring_pass.specs.RingState.{Own, port_of, port_with, home_of, holding_of, stop_as}
 use Rattle.ring_run.specs.declared.job.Counts.{Counts}
@@ -22,10 +23,11 @@ use Rattle.ring_run.specs.declared.job.End.{End}
 use Rattle.ring_run.specs.declared.job.Job.{Job}
 use Rattle.ring_run.specs.declared.job.End.TheVariants.{Sat, Refuted, Spent, Stopped, NoHole, ProofFault, Memory}
 use Rattle.ring_run.specs.Ended.{Ends, HasWon, stop_kind}
-use Rattle.portfolio_run.specs.declared.plan.RingPlan.{RingPlan}
+use Rattle.portfolio_run.specs.declared.jobs.RingJob.{RingJob}
+use Rattle.portfolio_run.specs.declared.plan.Plan.{Plan}
 use Rattle.portfolio_run.specs.Ends.{set_of}
 use Rattle.portfolio_run.specs.Jobs.{RanTo, HasRun}
-use Rattle.portfolio_run.specs.Ports.{begun_at, job_at}
+use Rattle.portfolio_run.specs.Ports.{begun_at, job_at, AreMade}
 use Rattle.portfolio_run.specs.Runs.{Shows, IsRun}
 
 -- The stop that a ring has set
@@ -82,7 +84,7 @@ same_port v w part own s lay is start opening rings =
     sym is ∙ (λ i. record (port_with w part own) { coming = 2 * (lay i).vars - own.passed; start = st i; opening = op i; vars = (lay i).vars; rings = rg i })
 
 -- what a port that has run shows is so of its pass
-pub run_of : {B : Type 0} (t : Shared B) (first p : Seat (Option B) View) (plan : RingPlan) (ring : ℕ) (s : PortState) (end : Option (End × Counts)) (e : End × Counts) → IsPassOf t first → HasRun (begun_at first.me.0 (home_of first) ring) (job_at first.me.0 plan ring) s end → Shows t s end p e → IsRun t first.me.0 (home_of first) plan ring p e
+pub run_of : {B : Type 0} (t : Shared B) (first p : Seat (Option B) View) (plan : Plan) (ring : ℕ) (s : PortState) (end : Option (End × Counts)) (e : End × Counts) → IsPassOf t first → HasRun (begun_at first.me.0 (home_of first) ring) (job_at first.me.0 plan ring) s end → Shows t s end p e → IsRun t first.me.0 (home_of first) plan ring p e
 run_of {B} t first p plan ring s end e pass run shows =
     let v : View = first.me.0 in
     let w : View = p.me.0 in
@@ -99,6 +101,7 @@ run_of {B} t first p plan ring s end e pass run shows =
         own = own;
         ran = subst (λ (x : PortState). RanTo old job x e.0 e.1) same ran;
         ended_is = λ q. shows.ended_is (sym (ap (λ (x : PortState). x.ended) shows.state) ∙ q);
+        faulty_is = λ q. shows.faulty_is (sym (ap (λ (x : PortState). is_usable x.refused) shows.state) ∙ q);
         set = end_is_set w shows.pass.0.3 shows.one own e.0 (subst (λ (x : PortState). Ends x e.0) (sym shows.state) ran.ends) ∙ ap (λ (r : ℕ). set_of r e.0) ring_is;
       };
     }
@@ -111,3 +114,11 @@ run_home old job s (Some e) h = h.stays.home
 pub run_some : (old : PortState) (job : Job) (s : PortState) (end : Option (End × Counts)) → HasRun old job s end → IsSome end
 run_some old job s None h = absurd h
 run_some old job s (Some e) h = refl
+
+-- each ring that was made so has run
+pub ran_all : (v : View) (home : List ℕ) (plan : Plan) (made ran : List (RingJob PortState)) → AreMade v home plan made → length ran ≡ length made → ((i : ℕ) (d : RingJob PortState) → i < length made → HasRun (get_or made i d).port (get_or made i d).job (get_or ran i d).port (get_or ran i d).end) → (i : ℕ) (d : RingJob PortState) → i < length ran → HasRun (begun_at v home i) (job_at v plan i) (get_or ran i d).port (get_or ran i d).end
+ran_all v home plan made ran at same run i d lt =
+    let below : i < length made = omega arith in
+    let m = at i d below in
+    let r = get_or ran i d in
+    subst (λ (s : PortState). HasRun s (job_at v plan i) r.port r.end) m.port (subst (λ (j : Job). HasRun (get_or made i d).port j r.port r.end) m.job (run i d below))

@@ -1,5 +1,13 @@
 pub mod Ends
+pub mod Held
 pub mod Jobs
+pub mod Journaled
+pub mod Noted
 pub mod Ports
+pub mod Reached
+pub mod Ruled
 pub mod Runs
+pub mod Searched
 pub mod Seats
+pub mod Solved
+pub mod Tables

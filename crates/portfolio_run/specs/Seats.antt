@@ -54,6 +54,11 @@ pub record HasRing {B : Type 0} (t : Shared B) (ring : ℕ) (p : Seat (Option B)
   pub ring_is : (only p.me.0).core.ring ≡ ring
   pub free : (only p.me.0).turn ≡ None
 
+-- and which has written nothing
+pub record HasIdle {B : Type 0} (t : Shared B) (ring : ℕ) (p : Seat (Option B) View) : Type 0 where
+  pub has : HasRing t ring p
+  pub idle : (only p.me.0).core.wrote ≡ []
+
 -- each of them has the ring of its place
-abbrev pub HaveRings : {B : Type 0} → Shared B → List (Seat (Option B) View) → Type 0
-HaveRings {B} t ps = (i : ℕ) (d : Seat (Option B) View) → i < length ps → HasRing t i (slice_index_or ps i d)
+abbrev pub AreIdle : {B : Type 0} → Shared B → List (Seat (Option B) View) → Type 0
+AreIdle {B} t ps = (i : ℕ) (d : Seat (Option B) View) → i < length ps → HasIdle t i (slice_index_or ps i d)

@@ -11,13 +11,13 @@ use std::thread::Threads;
 
 /// A ring: its port, what it is told to do, and what its run came to.
 #[derive(Drop)]
-pub struct RingJob<P> {
+pub(crate) struct RingJob<P> {
     /// What it holds and writes.
-    pub port: P,
+    pub(crate) port: P,
     /// What it is told to do.
-    pub job: Job,
+    pub(crate) job: Job,
     /// How it ended and what it counted, once it has run.
-    pub end: Option<(End, Counts)>,
+    pub(crate) end: Option<(End, Counts)>,
 }
 
 /// Runs the ring.
@@ -29,7 +29,11 @@ fn run_one<P: Port>(alloc: Global, ring: &mut RingJob<P>)
 }
 
 /// Runs all rings at once, each in a thread of its own where threads can be made; where none can they run one after another.
-pub fn run_all<P: Port + Send, H: Threads + Sync>(rt: &H, alloc: Global, rings: &mut [RingJob<P>])
+pub(crate) fn run_all<P: Port + Send, H: Threads + Sync>(
+    rt: &H,
+    alloc: Global,
+    rings: &mut [RingJob<P>],
+)
     requires ready { All (λ r. IsReady (P.state r.port) r.job) rings.old }
     ensures many { length rings.new ≡ length rings.old }
     ensures run { (i : ℕ) (d : RingJob P) → i < length rings.old → HasRun (P.state (slice_index_or rings.old i d).port) (slice_index_or rings.old i d).job (P.state (slice_index_or rings.new i d).port) (slice_index_or rings.new i d).end }

@@ -1,19 +1,23 @@
-//! Rings beside each other: one pass of the shared table for each ring, all rings run at once, and the passes taken in again
-//! behind them.
+//! Formulas decided by rings beside each other. The ruler simplifies the formula, a table is opened over what is left, each
+//! ring gets a pass of it with its grant and a port over the pass, and all rings run at once. The passes are taken in again
+//! behind them, the end that counts gives the answer, and the table is closed, so that the proof can be finished.
 //!
-//! The first pass of a table stays with the caller, with no ring: it is the one into which all others are gathered.
+//! The first pass of a table has no ring: it is the one into which all others are gathered.
 #![tactic(auto)]
 
+mod answer;
 mod decision;
+mod finish;
 mod jobs;
+mod noted;
 mod parts;
 mod plan;
 mod ports;
+mod search;
 mod seats;
+mod solving;
+mod tables;
 
-pub use decision::winner;
-pub use jobs::{RingJob, run_all};
-pub use parts::take_apart;
-pub use plan::RingPlan;
-pub use ports::make_ports;
-pub use seats::{gather, hand_out};
+pub use answer::{Answer, Solved};
+pub use plan::Plan;
+pub use solving::solve;

@@ -1,8 +1,16 @@
-/// What all rings are told alike.
+/// How a formula is decided.
 #[derive(Clone, Copy, PartialEq, Eq, Debug, Drop)]
-pub struct RingPlan {
-    /// How many lemmas each ring may learn.
+pub struct Plan {
+    /// How many rings search, from 1 to 16.
+    pub threads: u32,
+    /// How many lemmas each ring may learn, from 1.
     pub conflicts: u64,
+    /// How many words of 64 bits there are for clauses, up to 2^31.
+    pub words: u64,
     /// What the first phases of the variables are made of, with each ring's number.
     pub seed: u64,
+    /// How many rounds of simplifiers the formula may get before the search; in none, units alone are propagated.
+    pub rounds: u32,
+    /// Whether the lines of the log are kept, for a check.
+    pub keep_lines: bool,
 }

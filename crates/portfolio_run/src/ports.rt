@@ -7,10 +7,10 @@ ghost use Rattle.ring_pass.specs.RingState.{home_of};
 ghost use Rattle.portfolio_run.specs.Jobs.{IsReady};
 ghost use Rattle.ring_port.specs.PortState.{PortState};
 ghost use Rattle.portfolio_run.specs.Ports.{IsAt, IsMade, AreMade};
-ghost use Rattle.portfolio_run.specs.Seats.{AreBegun, IsAtRest, HasRing, HaveRings};
+ghost use Rattle.portfolio_run.specs.Seats.{AreBegun, IsAtRest, HasIdle, AreIdle};
 
 use crate::jobs::RingJob;
-use crate::plan::RingPlan;
+use crate::plan::Plan;
 use io_edge::Sink;
 use log_book::Book;
 use ring_pass::RingPass;
@@ -25,7 +25,7 @@ fn job_of<S: Sink>(
     alloc: Global,
     table: &Shared<Book<S>>,
     start: &[Cref],
-    plan: &RingPlan,
+    plan: &Plan,
     ring: u32,
 ) -> Result<Job, AllocError>
     ensures { IfOk result (λ job. job ≡ record { ring = ring; rings = table.now.layout.rings; vars = table.now.layout.vars; start = start.now; conflicts = plan.now.conflicts; seed = plan.now.seed }) }
@@ -48,7 +48,7 @@ fn make_port<'a, S: Sink, G: Gate, H>(
     gate: &'a G,
     rt: &'a H,
     start: &'a [Cref],
-    plan: &RingPlan,
+    plan: &Plan,
     ring: u32,
     pass: Pass<Book<S>>,
 ) -> Result<RingJob<RingPass<'a, S, G, H>>, AllocFailed<Pass<Book<S>>>>
@@ -89,7 +89,8 @@ fn pass_of<S: Sink, G: Gate, H>(
 ) -> Pass<Book<S>>
     requires first { IsPassOf table.now first.now }
     requires home { made.port.home ≡ home_of first.now }
-    ensures { HasRing table.now made.entry.port.ring result }
+    requires idle { made.port.mine ≡ [] }
+    ensures { HasIdle table.now made.entry.port.ring result }
 {
     made.port.into_pass(table, first)
 }
@@ -106,7 +107,7 @@ fn add_passes<S: Sink, G: Gate, H>(
     requires room { length made.items ≤ vec_capacity into.old }
     requires made { (i : ℕ) (d : RingJob PortState) → i < length made.items → IsAt (home_of first.now) i (slice_index_or made.items i d).port }
     ensures many { length into.new.items ≡ length made.entry.items }
-    ensures rings { HaveRings table.now into.new.items }
+    ensures rings { AreIdle table.now into.new.items }
     ensures room { vec_capacity into.new ≡ vec_capacity into.old }
 {
     for one in made {
@@ -114,16 +115,16 @@ fn add_passes<S: Sink, G: Gate, H>(
     }
 }
 
-/// The port of each ring that has a pass, with its job, in order. Refused for memory it gives the passes back, each as one of
-/// its ring that has done nothing but to take its grant, or to give it up with the port that it was in.
-pub fn make_ports<'a, S: Sink, G: Gate, H>(
+/// The port of each ring that has a pass, with its job, in order. Refused for memory it gives the passes back, and no ring has
+/// written anything.
+pub(crate) fn make_ports<'a, S: Sink, G: Gate, H>(
     alloc: Global,
     table: &'a Shared<Book<S>>,
     first: &Pass<Book<S>>,
     gate: &'a G,
     rt: &'a H,
     start: &'a [Cref],
-    plan: &RingPlan,
+    plan: &Plan,
     passes: Vec<Pass<Book<S>>>,
 ) -> Result<Vec<RingJob<RingPass<'a, S, G, H>>>, AllocFailed<Vec<Pass<Book<S>>>>>
     requires first { IsPassOf table.now first.now }
@@ -134,7 +135,7 @@ pub fn make_ports<'a, S: Sink, G: Gate, H>(
     ensures many { IfOk result (λ made. length made.items ≡ length passes.items) }
     ensures made { IfOk result (λ made. AreMade first.now.me.0 (home_of first.now) plan.now made.items) }
     ensures ready { IfOk result (λ made. All (λ r. IsReady r.port r.job) made.items) }
-    ensures back { IfErr result (λ refused. (length refused.value.items ≡ length passes.items) × HaveRings table.now refused.value.items) }
+    ensures back { IfErr result (λ refused. (length refused.value.items ≡ length passes.items) × AreIdle table.now refused.value.items) }
 {
     let rings = passes.len();
     let Ok(mut made) = Vec::with_capacity(alloc, rings) else {

@@ -1,18 +1,20 @@
 // The passes of the rings: handed out before the rings run, and gathered behind them.
-ghost use Rattle.std.specs.Prelude.{◌≡◌, ◌+◌, ◌++◌, ◌<◌, [], All, length, IfOk, OnErr};
-ghost use Rattle.share_rule.specs.Passes.{IsPassOf};
+ghost use Rattle.std.specs.Prelude.{◌≡◌, ◌≢◌, ℕ, ◌+◌, ◌++◌, ◌∷◌, ◌<◌, ◌≤◌, [], All, length, vec_capacity};
+ghost use Rattle.share_rule.specs.Passes.{IsPassOf, IsSamePass};
+ghost use Rattle.share_rule.specs.Steps.{after_load, new_part, without_right};
+ghost use Rattle.share_rule.specs.Views.{IsRight, times_in};
+ghost use Rattle.portfolio_run.specs.Reached.{HaveRested};
 ghost use Rattle.portfolio_run.specs.Seats.{HasRightsFrom, IsSameTable, IsBegun, AreBegun, IsAtRest, all_parts, stop_among};
 
 use ref_count::take_grant;
 use share_rule::{Ledger, Pass, Shared, join, split};
-use std::alloc::{AllocError, Global};
 
 /// Splits a pass off for the ring, which takes its grant.
 fn begin<B: Ledger>(table: &Shared<B>, first: &mut Pass<B>, ring: u32) -> Pass<B>
-    requires first { HasRightsFrom table.now first.old ring }
-    requires ring { ring < first.old.me.0.opening.rings }
-    ensures first { HasRightsFrom table.now first.new (ring + 1) }
-    ensures same { IsSameTable first.old.me.0 first.new.me.0 }
+    requires first { IsPassOf table.now first.old }
+    requires right { IsRight ring first.old.me.0 }
+    ensures first { IsPassOf table.now first.new × IsSamePass first.old first.new }
+    ensures old { (found : ℕ) × (first.new.me.0 ≡ after_load 0 found (without_right ring first.old.me.0)) }
     ensures begun { IsBegun table.now first.old.me.0 ring result }
 {
     let mut pass = split(table, first, ring);
@@ -20,31 +22,55 @@ fn begin<B: Ledger>(table: &Shared<B>, first: &mut Pass<B>, ring: u32) -> Pass<B
     pass
 }
 
-/// A pass for each ring, in order, with the ring's grant taken and nothing else done. The first pass is left with no ring and
-/// no right. Refused for memory before anything is done.
-pub fn hand_out<B: Ledger>(
-    alloc: Global,
+/// Hands a pass out for each ring, in order, with the ring's grant taken and nothing else done. The first pass is left with no
+/// ring and no right.
+pub(crate) fn hand_out<B: Ledger>(
     table: &Shared<B>,
     first: &mut Pass<B>,
     rings: u32,
-) -> Result<Vec<Pass<B>>, AllocError>
+    passes: &mut Vec<Pass<B>>,
+)
     requires first { HasRightsFrom table.now first.old 0 }
     requires rings { rings ≡ first.old.me.0.opening.rings }
-    ensures first { IfOk result (λ _. HasRightsFrom table.now first.new rings) }
+    requires none { passes.old.items ≡ [] }
+    requires room { rings ≤ vec_capacity passes.old }
+    ensures first { HasRightsFrom table.now first.new rings }
     ensures same { IsSameTable first.old.me.0 first.new.me.0 }
-    ensures begun { IfOk result (λ passes. (length passes.items ≡ rings) × AreBegun table.now first.old.me.0 passes.items) }
-    ensures nothing { OnErr result (first.new ≡ first.old) }
+    ensures many { length passes.new.items ≡ rings }
+    ensures begun { AreBegun table.now first.old.me.0 passes.new.items }
 {
-    let mut passes = Vec::with_capacity(alloc, rings as usize)?;
     for ring in 0..rings {
         let pass = begin(table, first, ring);
         passes.push_reserved(pass);
     }
-    Ok(passes)
+}
+
+/// Takes the ring's grant, and takes the ring in.
+fn grant<B: Ledger>(table: &Shared<B>, first: &mut Pass<B>, ring: u32)
+    requires first { IsAtRest table.now first.old }
+    requires right { IsRight ring first.old.me.0 }
+    ensures first { IsAtRest table.now first.new }
+    ensures same { IsSameTable first.old.me.0 first.new.me.0 }
+    ensures parts { first.new.me.0.parts ≡ first.old.me.0.parts ++ new_part first.old.me.0.opening ring ∷ [] }
+    ensures rights { (r : ℕ) → ring < r → 0 < times_in r first.old.me.0.rights → 0 < times_in r first.new.me.0.rights }
+{
+    let pass = begin(table, first, ring);
+    join(table, first, pass);
+}
+
+/// Takes the grants of all rings, and all rings in, where there is no room for passes of their own. It takes no memory.
+pub(crate) fn grant_all<B: Ledger>(table: &Shared<B>, first: &mut Pass<B>, rings: u32)
+    requires first { HasRightsFrom table.now first.old 0 }
+    requires rings { rings ≡ first.old.me.0.opening.rings }
+    ensures { HaveRested table.now first.old.me.0 first.new }
+{
+    for next in 0..rings {
+        grant(table, first, next);
+    }
 }
 
 /// Takes all passes in, in order, with their rings.
-pub fn gather<B: Ledger>(table: &Shared<B>, first: &mut Pass<B>, passes: Vec<Pass<B>>)
+pub(crate) fn gather<B: Ledger>(table: &Shared<B>, first: &mut Pass<B>, passes: Vec<Pass<B>>)
     requires first { IsPassOf table.now first.old × (first.old.me.1 ≡ []) }
     requires passes { All (IsAtRest table.now) passes.items }
     ensures first { IsPassOf table.now first.new × (first.new.me.1 ≡ []) }

@@ -11,6 +11,12 @@ returns-clause-same g c =
     let is = c.look-stop.ensures.part.1 in
     (record { layout = ap (λ (u : View). u.layout) is; opening = ap (λ (u : View). u.opening) is; origin = ap (λ (u : View). u.origin) is }, ap (λ (u : View). u.parts) is)
 
+pub returns-clause-ends : goal.returns-clause-ends
+returns-clause-ends g c =
+    let e = c.look-stop.ensures in
+    let w : View = c.look-stop.new.pass.me.0 in
+    ends_stay c.args.first.now.me.0 w e.part.0 c.args._ends.now e.part.1 e.part.2 c.requires.ends
+
 pub returns-clause-spent : goal.returns-clause-spent
 returns-clause-spent g c =
     let e = c.look-stop.ensures in

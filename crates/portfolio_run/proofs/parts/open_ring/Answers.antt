@@ -10,5 +10,6 @@ returns g c =
       own = e.state.0;
       state = e.state.1;
       ended_is = e.ended;
+      faulty_is = e.faulty;
       end_is = c.unwrap.ensures;
     }

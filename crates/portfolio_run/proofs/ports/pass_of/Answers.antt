@@ -1,13 +1,18 @@
-use Rattle.std.proofs.Common.{ap}
+use Rattle.std.proofs.Common.{◌∙◌, ap}
 use Rattle.ring_port.specs.PortState.{PortState}
+use Rattle.share_rule.specs.Views.{only}
+use Rattle.portfolio_run.proofs.Making.{none_written}
 use Rattle.portfolio_run.proofs.ports.pass_of.Goals as goal
 
 pub returns : goal.returns
 returns g c =
     let e = c.into_pass.ensures in
     record {
-      pass = e.pass;
-      one = e.ring.0;
-      ring_is = ap (λ (s : PortState). s.ring) e.state.1;
-      free = e.ring.1;
+      has = record {
+        pass = e.pass;
+        one = e.ring.0;
+        ring_is = ap (λ (s : PortState). s.ring) e.state.1;
+        free = e.ring.1;
+      };
+      idle = none_written (only c.into_pass.result.me.0).core.wrote (ap (λ (s : PortState). s.mine) e.state.1 ∙ c.requires.idle);
     }

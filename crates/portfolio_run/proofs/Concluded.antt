@@ -1,0 +1,114 @@
+-- Once all rings ran over an open table and the table was closed, the answer holds over one journal, whose lines the book has.
+use Rattle.io_edge.specs.declared.edge.Sink.{Ghosts}
+use Rattle.std.proofs.Common.{◌≡◌, ◌∙◌, ◌^◌, ◌<◌, ◌≤◌, ◌==◌, ℕ, suc, Bool, true, List, [], ◌∷◌, replicate, map, ne_eqb, Ok, refl, sym, ap, subst, arith, inl, inr}
+use Rattle.std.specs.Prelude.{◌⊎◌, All, Option}
+use mathlib.Core.Option.{some}
+use mathlib.Core.Logic.{dite}
+use native.Mathlib.Decide.{ℕ_discrete}
+use lib.ListN.{get_elem?}
+use Rattle.io_edge.specs.Causes.{Rose}
+use Rattle.atomic_table.specs.declared.shared.Seat.{Seat}
+use Rattle.sat_words.specs.Literal.{IsOn}
+use Rattle.sat_words.specs.FormulaData.{FormulaData}
+use Rattle.rup_model.specs.declared.journal.TheConstants.{RULER_RING}
+use Rattle.rup_model.specs.declared.journal.Entry.{Entry}
+use Rattle.rup_model.specs.Basics.{one_if}
+use Rattle.share_core.specs.declared.part.CoreOpening.{CoreOpening}
+use Rattle.share_core.specs.declared.part.Part.{Part}
+use Rattle.share_rule.specs.declared.Layout.{Layout}
+use Rattle.share_rule.specs.declared.Shared.{Shared}
+use Rattle.share_rule.specs.declared.view.BookOrigin.{BookOrigin}
+use Rattle.share_rule.specs.declared.view.RingPart.{RingPart}
+use Rattle.share_rule.specs.declared.view.View.{View}
+use Rattle.share_rule.specs.Books.{StandsFor}
+use Rattle.share_rule.specs.Passes.{TellsFaults}
+use Rattle.share_rule.specs.Seen.{Seen}
+use Rattle.share_rule.specs.Shown.{ring_of}
+use Rattle.share_rule.specs.Views.{first_view, times_in}
+use Rattle.log_book.specs.declared.book.Book.{Book}
+use Rattle.log_book.specs.Books.{account_of, IsLogOf}
+use Rattle.ring_run.specs.declared.job.Counts.{Counts}
+use Rattle.ruler_simp.specs.declared.ruling.Outcome.TheVariants.{Simplified as LeftOver}
+use Rattle.ruler_simp.specs.declared.ruling.Simplified.{Simplified}
+use Rattle.portfolio_run.specs.declared.answer.Answer.{Answer}
+use Rattle.portfolio_run.specs.declared.plan.Plan.{Plan}
+use Rattle.portfolio_run.specs.Held.{no_counts}
+use Rattle.portfolio_run.specs.Reached.{Records, WasRuled, HasReached, IsGathered, HaveRested}
+use Rattle.portfolio_run.specs.Searched.{HasRunTo, HasStarved, HasSearched, AllSpent, WasWon}
+use Rattle.portfolio_run.proofs.Deciding.{IsDecided, starved, decided_spent, decided_won}
+use Rattle.portfolio_run.proofs.Gathered.{GoesOn, began_with, entries, goes_on, records}
+
+-- the place of a ring's part
+part_at : (r : ℕ) (ps : List RingPart) → 0 < times_in r (map ring_of ps) → (i : ℕ) × (q : RingPart) × (get_elem? ps i ≡ some q) × (ring_of q ≡ r)
+part_at r [] h = absurd (omega arith)
+part_at r (q ∷ ps) h = dite (ℕ_discrete (ring_of q) r)
+    (λ e. (0, q, refl, e))
+    (λ ne. let z : one_if (ring_of q == r) ≡ 0 = ap one_if (ne_eqb (ring_of q) r ne) in let t = part_at r ps (omega arith) in (suc t.0, t.1, t.2, t.3))
+
+-- in both cases the passes are gathered
+pub gathered_of : {B : Type 0} (t : Shared B) (v : View) (home : List ℕ) (plan : Plan) (left : Simplified) (p : Seat (Option B) View) (before tally : List Counts) (answer : Answer) → HasSearched t v home plan left.stack p before tally answer → IsGathered t v p
+gathered_of t v home plan left p before tally answer (inl h) = h.run.gathered
+gathered_of t v home plan left p before tally answer (inr h) = h.rested.gathered
+
+module _ {S : Type 0} {d : Ghosts S} (written flushed target : S → Option (List ℕ)) (faults : S → ℕ) (sink : S) (plan : Plan) (F : FormulaData) (old : Book S d) (left : Simplified) (l : Layout) (origin : BookOrigin)
+    (few : F.vars ≤ 2 ^ 30) (on : All (All (IsOn F.vars)) F.clauses) (some_conflicts : 1 ≤ plan.conflicts) (some_ring : 1 ≤ plan.threads) (few_rings : plan.threads ≤ 16)
+    (was : WasRuled written flushed target faults sink plan F old (Ok (LeftOver left))) (rings_are : l.rings ≡ plan.threads) (vars_are : l.vars ≡ F.vars)
+    (faults_are : origin.faults ≡ faults sink) (target_is : origin.target ≡ target sink)
+    (t : Shared (Book S d)) (home : List ℕ) (p : Seat (Option (Book S d)) View) (tally : List Counts) (answer : Answer)
+    (b : Book S d) (s : Seen p.me.0) (fault : Bool) (stands : StandsFor account_of (IsLogOf written flushed target faults) b p.me.0.origin p.me.0.layout p.me.0.opening s.core.journal fault) (tells : TellsFaults p.me.0.parts fault) where
+  abbrev v : View
+  v = first_view l (began_with F l was.ruled.journal left) origin
+
+  few_rings_there : plan.threads ≤ RULER_RING
+  few_rings_there = few_rings
+
+  module _ (searched : HasSearched t v home plan left.stack p (replicate plan.threads no_counts) tally answer) where
+    gathered : IsGathered t v p
+    gathered = gathered_of t v home plan left p (replicate plan.threads no_counts) tally answer searched
+
+    abbrev K : List Entry
+    K = entries written flushed target faults sink plan F old left l origin few on some_conflicts some_ring few_rings_there was rings_are vars_are p.me.0 gathered.same s
+
+    g : GoesOn plan F left l was.ruled.journal K p.me.0 s
+    g = goes_on written flushed target faults sink plan F old left l origin few on some_conflicts some_ring few_rings_there was rings_are vars_are p.me.0 gathered.same s
+
+    -- the book has come to the journal
+    pub book_records : Records written flushed target faults sink F.clauses s.core.journal b
+    book_records = records written flushed target faults sink plan F old left l origin few on some_conflicts some_ring few_rings_there was rings_are vars_are p.me.0 gathered.same s b fault faults_are target_is stands
+
+    idle_at : HaveRested t v p → (r : ℕ) → r < plan.threads → (s.core.part r).wrote ≡ []
+    idle_at h r lt =
+        let rings_there : p.me.0.opening.rings ≡ plan.threads = ap (λ (o : CoreOpening). o.rings) gathered.same.opening ∙ rings_are in
+        let there = part_at r p.me.0.parts (h.gathered.whole r (subst (λ (n : ℕ). r < n) (sym rings_there) lt)) in
+        ap (λ (q : Part). q.wrote) (sym ((s.parts there.0 there.1 there.2).part ∙ ap s.core.part there.3)) ∙ h.idle there.0 there.1 there.2
+
+    -- where the answer is a fault of the proof, the book's lines are cut short
+    abbrev Failed : Type 0
+    Failed = b.log.lines.spent ≡ true
+
+    by_starved : HasStarved t v p (replicate plan.threads no_counts) tally answer → IsDecided plan F answer tally Failed s.core.journal
+    by_starved h =
+        subst (λ (x : Answer). IsDecided plan F x tally Failed s.core.journal) (sym h.is)
+        (starved plan F left l origin was.ruled.journal K p.me.0 s g Failed tally h.tally_is (idle_at h.rested))
+
+    by_ends : (h : HasRunTo t v home plan left.stack p tally answer) → AllSpent h.ends answer ⊎ WasWon p.me.0 left.stack h.ends answer → IsDecided plan F answer tally Failed s.core.journal
+    by_ends h (inl spent) = decided_spent plan F left l origin was.ruled.journal K p.me.0 s g home h.ends (h.run.many ∙ rings_are) h.run.ran tally h.tally_is Failed answer spent
+    by_ends h (inr won) =
+        decided_won plan F left l origin was.ruled.journal K p.me.0 s g home h.ends (h.run.many ∙ rings_are) h.run.ran tally h.tally_is Failed fault (λ e. stands.faulty ∙ e) tells answer won
+
+    by_search : HasSearched t v home plan left.stack p (replicate plan.threads no_counts) tally answer → IsDecided plan F answer tally Failed s.core.journal
+    by_search (inl h) = by_ends h h.decided
+    by_search (inr h) = by_starved h
+
+    -- the sink has failed since where the lines are cut short
+    pub sink_failed : b.log.lines.spent ≡ true → Rose (faults sink) (faults b.log.lines.sink)
+    sink_failed spent = subst (λ (n : ℕ). Rose n (faults b.log.lines.sink)) (ap (λ (x : BookOrigin). x.faults) gathered.same.origin ∙ faults_are) (stands.log.sink.cut spent).rose
+
+    -- both
+    pub has_reached : HasReached written flushed target faults sink plan F answer tally b
+    has_reached = let h = by_search searched in record { journal = s.core.journal; records = book_records; reached = record { stands = h.stands; ruled = h.ruled.ruled; held = h.held; holds = h.holds; through = λ _. h.ruled; rose = λ e. sink_failed (h.rose e) } }
+
+  -- over a table whose first pass knew no more than what it was opened with, where nothing was counted before
+  pub concluded : (u : View) (before : List Counts) → u ≡ v → before ≡ replicate plan.threads no_counts → HasSearched t u home plan left.stack p before tally answer → HasReached written flushed target faults sink plan F answer tally b
+  concluded u before is none searched =
+      has_reached (subst (λ (cs : List Counts). HasSearched t v home plan left.stack p cs tally answer) none (subst (λ (x : View). HasSearched t x home plan left.stack p before tally answer) is searched))

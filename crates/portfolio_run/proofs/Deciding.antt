@@ -1,0 +1,226 @@
+-- The answer of the end that counts holds over the journal of all rings.
+use Rattle.std.proofs.Common.{◌≡◌, ◌∙◌, ◌<◌, ℕ, Bool, true, false, List, [], ◌++◌, map, length, replicate, get_or, refl, sym, ap, subst, arith, inl, inr}
+use Rattle.std.specs.Prelude.{Some}
+use Rattle.std.proofs.lemmas.List.{get_or-map, length-map}
+use Rattle.std.specs.List.{list_any}
+use Rattle.sat_words.specs.Clause.{is_empty}
+use Rattle.sat_words.specs.FormulaData.{FormulaData}
+use Rattle.rup_model.specs.declared.journal.Entry.{Entry}
+use Rattle.rup_model.specs.Journal.{added, ended, learned}
+use Rattle.rup_model.specs.Opening.{program_opening}
+use Rattle.rup_model.specs.Spent.{ruler_part}
+use Rattle.share_core.specs.declared.part.CoreOpening.{CoreOpening}
+use Rattle.share_core.specs.declared.part.Placed.{Placed}
+use Rattle.share_core.specs.State.{opening_of}
+use Rattle.share_core.proofs.Counting.{none_some}
+use Rattle.share_rule.specs.declared.Layout.{Layout}
+use Rattle.share_rule.specs.declared.view.BookOrigin.{BookOrigin}
+use Rattle.share_rule.specs.declared.view.View.{View}
+use Rattle.share_rule.specs.FirstWords.{starts_at}
+use Rattle.share_rule.specs.Layout.{first_cell}
+use Rattle.share_rule.specs.Passes.{TellsFaults}
+use Rattle.share_rule.specs.Seen.{Seen}
+use Rattle.share_rule.specs.Views.{first_view, start_glues}
+use Rattle.ring_port.specs.PortState.{PortState}
+use Rattle.ring_run.specs.declared.job.Counts.{Counts}
+use Rattle.ring_run.specs.declared.job.End.{End}
+use Rattle.ring_run.specs.declared.job.End.TheVariants as end
+use Rattle.ring_run.specs.Ended.{IsIntact, Cause, stop_kind}
+use Rattle.ruler_simp.specs.declared.ruling.Simplified.{Simplified}
+use Rattle.portfolio_run.specs.declared.answer.Answer.{Answer}
+use Rattle.portfolio_run.specs.declared.answer.Answer.TheVariants.{Unknown, ProofFault, Memory}
+use Rattle.portfolio_run.specs.declared.plan.Plan.{Plan}
+use Rattle.portfolio_run.specs.Held.{IsProgramOpening, IsTallied, RanOnce, IsHeld, no_counts}
+use Rattle.portfolio_run.specs.Journaled.{IsJournal, IsUnrefuted}
+use Rattle.portfolio_run.specs.Reached.{RanAt}
+use Rattle.portfolio_run.specs.Ruled.{IsRuledThrough}
+use Rattle.portfolio_run.specs.Searched.{answer_of, AllSpent, WasWon}
+use Rattle.portfolio_run.specs.Solved.{Holds, IsUnsettled}
+use Rattle.portfolio_run.proofs.Gathered.{GoesOn, began_with}
+use Rattle.portfolio_run.proofs.Interleaving.{own, none_of}
+use Rattle.portfolio_run.proofs.Mending.{alike, model, placed_starts}
+use Rattle.portfolio_run.proofs.Placing.{placed_own}
+use Rattle.portfolio_run.proofs.RingsJournal.{HasWritten, AreTogether, ruler_is, rings_is, journal_stands, learned_there, spent_all, unsettled, refutation}
+use Rattle.portfolio_run.proofs.RingsRun.{starts_from, port, has_written, learned_many, tallied, ended_is, cause, faulty, spent_is, fewer, unrefuted}
+use Rattle.portfolio_run.proofs.Behind.{IsAlike}
+
+-- the answer holds over this journal, whose first part the ruler wrote, and what this says is so where it is a fault of the proof
+pub record IsDecided (plan : Plan) (F : FormulaData) (answer : Answer) (tally : List Counts) (Failed : Type 0) (J : List Entry) : Type 0 where
+  pub stands : IsJournal plan.threads F.clauses J
+  pub ruled : IsRuledThrough F plan.rounds J
+  pub held : IsHeld plan.threads plan.conflicts F.clauses J tally
+  pub holds : Holds plan F J answer
+  pub rose : answer ≡ ProofFault → Failed
+
+module _ (plan : Plan) (F : FormulaData) (left : Simplified) (l : Layout) (origin : BookOrigin) (J0 K : List Entry) (w : View) (s : Seen w) (g : GoesOn plan F left l J0 K w s) where
+  abbrev J : List Entry
+  J = J0 ++ K
+
+  -- the table as it was opened
+  abbrev v : View
+  v = first_view l (began_with F l J0 left) origin
+
+  alike_there : IsAlike (starts_from v) (program_opening F.clauses J0)
+  alike_there = alike F J0 left g.left_is (start_glues (starts_at (first_cell l) left.start.items)) (first_cell l)
+
+  together : ((r : ℕ) → r < plan.threads → HasWritten F.vars (starts_from v) r (own r K)) → AreTogether F J0 K plan.threads (starts_from v)
+  together each = record {
+    few = g.few;
+    on = g.on;
+    few_rings = g.few_rings;
+    rulers = g.rulers;
+    on_ruler = g.on_ruler;
+    going = g.left_is.opens.rulers_part.going;
+    sound = g.sound;
+    of_rings = g.of_rings;
+    same = alike_there;
+    each = each;
+  }
+
+  -- No ring wrote anything
+
+  nothing_written : (r : ℕ) → own r K ≡ [] → HasWritten F.vars (starts_from v) r (own r K)
+  nothing_written r none = subst (HasWritten F.vars (starts_from v) r) (sym none) (record { wrote = λ k d lt. absurd (omega arith); each_new = tt; spaced = tt })
+
+  pub starved : (Failed : Type 0) (tally : List Counts) → tally ≡ replicate plan.threads no_counts → ((r : ℕ) → r < plan.threads → (s.core.part r).wrote ≡ []) → IsDecided plan F Memory tally Failed s.core.journal
+  starved Failed tally none idle =
+      let own_none : (r : ℕ) → r < plan.threads → own r K ≡ [] = λ r lt. sym (placed_own r (length s.core.opening.journal) K) ∙ ap (map (λ (p : Placed). p.entry)) (sym (g.wrote r lt) ∙ idle r lt) in
+      let t : AreTogether F J0 K plan.threads (starts_from v) = together (λ r lt. nothing_written r (own_none r lt)) in
+      let o = starts_from v in
+      let threads = plan.threads in
+      let some_ring : 0 < plan.threads = let h = g.some_ring in omega (arith, h) in
+      let none_there : own 0 K ≡ [] = own_none 0 some_ring in
+      subst (IsDecided plan F Memory tally Failed) (sym g.journal_is) (record {
+        stands = journal_stands F J0 K threads o t;
+        ruled = g.through;
+        held = inl (record { rulers = rings_is F J0 K threads o t ∙ none_of plan.threads K g.of_rings own_none; none = inr none });
+        holds = unsettled F J0 K threads o t plan.conflicts 0 some_ring
+            (let h : length (learned 0 (own 0 K)) ≡ 0 = ap (λ (I : List Entry). length (learned 0 I)) none_there in let k = g.some in omega (arith, h, k))
+            (ap (λ (I : List Entry). list_any is_empty (added I)) none_there);
+        rose = λ e. cc e;
+      })
+
+  -- All rings ran
+
+  module _ (home : List ℕ) (ends : List (End × Counts)) (many : length ends ≡ plan.threads)
+      (ran : (i : ℕ) (d : End × Counts) → i < length ends → RanAt v home plan w i (get_or ends i d).0 (get_or ends i d).1)
+      (tally : List Counts) (tally_is : tally ≡ map (λ e. e.1) ends) where
+    none_ended : End × Counts
+    none_ended = (end.Spent, no_counts)
+
+    abbrev end_at : ℕ → End
+    end_at r = (get_or ends r none_ended).0
+
+    abbrev counts_at : ℕ → Counts
+    counts_at r = (get_or ends r none_ended).1
+
+    abbrev start : ℕ
+    start = length s.core.opening.journal
+
+    among : (r : ℕ) → r < plan.threads → r < length ends
+    among r lt = omega (arith, many)
+
+    ran_at : (r : ℕ) → r < plan.threads → RanAt v home plan w r (end_at r) (counts_at r)
+    ran_at r lt = ran r none_ended (among r lt)
+
+    abbrev port_at : (r : ℕ) → r < plan.threads → PortState
+    port_at r lt = port v w home plan s r (end_at r) (counts_at r) (ran_at r lt) plan.threads g.rings_are lt K start (g.wrote r lt)
+
+    cause_at : (r : ℕ) (lt : r < plan.threads) → Cause (port_at r lt) (end_at r)
+    cause_at r lt = cause v w home plan s r (end_at r) (counts_at r) (ran_at r lt) plan.threads g.rings_are lt K start (g.wrote r lt)
+
+    unrefuted_at : (r : ℕ) (lt : r < plan.threads) → list_any is_empty (added (port_at r lt).mine) ≡ false → IsUnrefuted (own r K)
+    unrefuted_at r lt = unrefuted v w home plan s r (end_at r) (counts_at r) (ran_at r lt) plan.threads g.rings_are lt K start (g.wrote r lt)
+
+    written_at : (r : ℕ) → r < plan.threads → HasWritten F.vars (starts_from v) r (own r K)
+    written_at r lt =
+        subst (λ (n : ℕ). HasWritten n (starts_from v) r (own r K)) g.vars_are
+        (has_written v w home plan s r (end_at r) (counts_at r) (ran_at r lt) plan.threads g.rings_are lt K start (g.wrote r lt))
+
+    t : AreTogether F J0 K plan.threads (starts_from v)
+    t = together written_at
+
+    tallied_at : (r : ℕ) (d : Counts) → r < plan.threads → IsTallied plan.threads plan.conflicts r s.left.events J (get_or tally r d)
+    tallied_at r d lt =
+        subst (IsTallied plan.threads plan.conflicts r s.left.events J) (sym (ap (λ (cs : List Counts). get_or cs r d) tally_is ∙ get_or-map (λ (e : End × Counts). e.1) ends r none_ended d (among r lt)))
+        (tallied v w home plan s r (end_at r) (counts_at r) (ran_at r lt) plan.threads g.rings_are lt K start (g.wrote r lt) J (learned_there F J0 K plan.threads (starts_from v) t r))
+
+    program : IsProgramOpening F.clauses (ruler_part J) (opening_of s.core.opening)
+    program =
+        subst (λ (I : List Entry). IsProgramOpening F.clauses I (opening_of s.core.opening)) (sym (ruler_is F J0 K plan.threads (starts_from v) t))
+        (subst (λ (q : CoreOpening). IsProgramOpening F.clauses J0 (opening_of q)) (sym g.opening_is)
+        (record { journal_is = refl; starts = placed_starts (first_cell l) left.start.items ∙ g.left_is.starts; units = g.left_is.units }))
+
+    ran_once : RanOnce plan.threads plan.conflicts F.clauses J tally
+    ran_once = record {
+      opening = s.core.opening;
+      rings_are = ap (λ (q : CoreOpening). q.rings) g.opening_is ∙ g.rings_are;
+      formula_is = ap (λ (q : CoreOpening). q.formula) g.opening_is;
+      program = program;
+      core = s.core;
+      left = s.left;
+      leaves = g.journal_is;
+      many = ap length tally_is ∙ length-map ends (λ (e : End × Counts). e.1) ∙ many;
+      tallied = tallied_at;
+    }
+
+    decided : (Failed : Type 0) (answer : Answer) → Holds plan F J answer → (answer ≡ ProofFault → Failed) → IsDecided plan F answer tally Failed s.core.journal
+    decided Failed answer holds rose =
+        subst (IsDecided plan F answer tally Failed) (sym g.journal_is)
+        (record { stands = journal_stands F J0 K plan.threads (starts_from v) t; ruled = g.through; held = inr ran_once; holds = holds; rose = rose })
+
+    -- no stop stands
+    pub decided_spent : (Failed : Type 0) (answer : Answer) → AllSpent ends answer → IsDecided plan F answer tally Failed s.core.journal
+    decided_spent Failed answer h =
+        decided Failed answer
+        (subst (Holds plan F J) (sym h.is) (spent_all F J0 K plan.threads (starts_from v) t plan.conflicts one))
+        (λ e. (let clash : Unknown ≡ ProofFault = sym h.is ∙ e in absurd (cc clash)))
+      where
+        one : (r : ℕ) → r < plan.threads → (length (learned r (own r K)) ≡ plan.conflicts) × IsUnrefuted (own r K)
+        one r lt =
+            let is : end_at r ≡ end.Spent = h.each r none_ended (among r lt) in
+            let intact : IsIntact (port_at r lt) = subst (Cause (port_at r lt)) is (cause_at r lt) in (
+              sym (learned_many v w home plan s r (end_at r) (counts_at r) (ran_at r lt) plan.threads g.rings_are lt K start (g.wrote r lt))
+                  ∙ spent_is v w home plan s r (end_at r) (counts_at r) (ran_at r lt) plan.threads g.rings_are lt K start (g.wrote r lt) is,
+              unrefuted_at r lt intact.going,
+            )
+
+    -- what the end of a ring whose stop stands says
+    module _ (r : ℕ) (lt : r < plan.threads) where
+      log_ended : (port_at r lt).ended ≡ true → ended F.clauses J ≡ true
+      log_ended e =
+          ap (ended F.clauses) (sym g.journal_is) ∙ ap (λ (q : CoreOpening). ended q.formula s.core.journal) (sym g.opening_is)
+          ∙ ended_is v w home plan s r (end_at r) (counts_at r) (ran_at r lt) plan.threads g.rings_are lt K start (g.wrote r lt) e
+
+      unsettled_by : (x : End) → end_at r ≡ x → (x ≡ end.Spent → ⊥) → list_any is_empty (added (port_at r lt).mine) ≡ false → IsUnsettled plan.threads plan.conflicts J
+      unsettled_by x is other none =
+          unsettled F J0 K plan.threads (starts_from v) t plan.conflicts r lt
+          (fewer v w home plan s r (end_at r) (counts_at r) (ran_at r lt) plan.threads g.rings_are lt K start (g.wrote r lt) (λ e. other (sym is ∙ e)))
+          (unrefuted_at r lt none)
+
+      holds_by : (kind : ℕ) (x : End) → end_at r ≡ x → Cause (port_at r lt) x → stop_kind x ≡ Some kind → Holds plan F J (answer_of left.stack x)
+      holds_by kind (end.Sat a) is c won = model F J0 left g.left_is (start_glues (starts_at (first_cell l) left.start.items)) (first_cell l) a (c.0.long ∙ g.vars_are) c.0.start c.0.opening
+      holds_by kind end.Refuted is c won = refutation F J0 K plan.threads (starts_from v) t g.left_is.going (log_ended c.0)
+      holds_by kind end.Spent is c won = absurd (none_some kind won)
+      holds_by kind (end.Stopped x) is c won = absurd (none_some kind won)
+      holds_by kind (end.NoHole lack) is c won = (c.1, unsettled_by (end.NoHole lack) is (λ e. cc e) c.2)
+      holds_by kind end.ProofFault is c won = tt
+      holds_by kind end.Memory is c won = unsettled_by end.Memory is (λ e. cc e) c.1
+
+      rose_by : (fault : Bool) → TellsFaults w.parts fault → (x : End) → Cause (port_at r lt) x → answer_of left.stack x ≡ ProofFault → fault ≡ true
+      rose_by fault tells (end.Sat a) c e = absurd (cc e)
+      rose_by fault tells end.Refuted c e = absurd (cc e)
+      rose_by fault tells end.Spent c e = absurd (cc e)
+      rose_by fault tells (end.Stopped x) c e = absurd (cc e)
+      rose_by fault tells (end.NoHole lack) c e = absurd (cc e)
+      rose_by fault tells end.ProofFault c e = faulty v w home plan s r (end_at r) (counts_at r) (ran_at r lt) plan.threads g.rings_are lt K start (g.wrote r lt) fault tells c.0
+      rose_by fault tells end.Memory c e = absurd (cc e)
+
+    -- the stop that stands is a ring's, whose end counts
+    pub decided_won : (Failed : Type 0) (fault : Bool) → (fault ≡ true → Failed) → TellsFaults w.parts fault → (answer : Answer) → WasWon w left.stack ends answer → IsDecided plan F answer tally Failed s.core.journal
+    decided_won Failed fault fails tells answer h =
+        let lt : h.ring < plan.threads = let below = h.won.below in omega (arith, below, many) in
+        let is : answer ≡ answer_of left.stack (end_at h.ring) = h.is none_ended in
+        decided Failed answer
+        (subst (Holds plan F J) (sym is) (holds_by h.ring lt h.won.kind (end_at h.ring) refl (cause_at h.ring lt) (h.won.decided none_ended)))
+        (λ e. fails (rose_by h.ring lt fault tells (end_at h.ring) (cause_at h.ring lt) (sym is ∙ e)))

@@ -1,0 +1,158 @@
+-- What the core of a closed table says, from which the rings began with what the ruler left.
+use Rattle.io_edge.specs.declared.edge.Sink.{Ghosts}
+use Rattle.std.proofs.Common.{◌≡◌, ◌∙◌, ◌^◌, ◌<◌, ◌≤◌, ℕ, Bool, List, ◌++◌, length, Ok, refl, sym, ap, subst, arith}
+use Rattle.std.specs.Prelude.{All, Option}
+use Rattle.sat_words.specs.Literal.{Literal, IsOn}
+use Rattle.sat_words.specs.FormulaData.{FormulaData}
+use Rattle.rup_model.specs.declared.journal.TheConstants.{RULER_RING}
+use Rattle.rup_model.specs.declared.journal.Entry.{Entry}
+use Rattle.rup_model.specs.Journal.{ring_of, added, lines, LogSound}
+use Rattle.rup_model.specs.Spent.{ruler_part}
+use Rattle.rup_model.proofs.Parts.{ruler_part-append}
+use Rattle.drat_text.specs.LineState.{LineState}
+use Rattle.share_core.specs.declared.part.CoreOpening.{CoreOpening}
+use Rattle.share_core.specs.Sound.{Sound, placed}
+use Rattle.share_core.proofs.Leaving.{left_sound}
+use Rattle.share_rule.specs.declared.Layout.{Layout}
+use Rattle.share_rule.specs.declared.view.BookOrigin.{BookOrigin}
+use Rattle.share_rule.specs.declared.view.View.{View}
+use Rattle.share_rule.specs.Books.{StandsFor}
+use Rattle.share_rule.specs.FirstWords.{begun_with}
+use Rattle.share_rule.specs.Seen.{Seen}
+use Rattle.share_rule.specs.Views.{first_view}
+use Rattle.log_book.specs.declared.book.Book.{Book}
+use Rattle.log_book.specs.Books.{account_of, IsLogOf, told_new, told_of}
+use Rattle.simp_base.specs.WorkState.{begun}
+use Rattle.simp_base.specs.declared.work.Run.TheVariants.{Done}
+use Rattle.ruler_simp.specs.declared.ruling.Outcome.TheVariants.{Simplified as LeftOver}
+use Rattle.ruler_simp.specs.declared.ruling.Simplified.{Simplified}
+use Rattle.ruler_simp.specs.Rounds.{SimplifiedTo}
+use Rattle.ruler_simp.specs.Ruled.{IsAnswer, IsSimplified}
+use Rattle.portfolio_run.specs.declared.plan.Plan.{Plan}
+use Rattle.portfolio_run.specs.Reached.{Records, WasRuled}
+use Rattle.portfolio_run.specs.Ruled.{IsRuled, IsRuledThrough}
+use Rattle.portfolio_run.specs.Seats.{IsSameTable}
+use Rattle.portfolio_run.proofs.Placing.{same_rest}
+use Rattle.portfolio_run.proofs.Rulers.{AreRulers}
+
+-- what the rings began with
+abbrev pub began_with : FormulaData → Layout → List Entry → Simplified → CoreOpening
+began_with F l J0 left = begun_with F.clauses l J0 left.start.items left.units.items
+
+-- a small plan and formula, which the ruler has simplified, writing the front of a journal; the core was opened with what is left
+-- of it, and its journal goes on with the entries of the rings, each where its ring has it
+pub record GoesOn (plan : Plan) (F : FormulaData) (left : Simplified) (l : Layout) (J0 K : List Entry) (w : View) (s : Seen w) : Type 0 where
+  pub few : F.vars ≤ 2 ^ 30
+  pub on : All (All (IsOn F.vars)) F.clauses
+  pub some : 1 ≤ plan.conflicts
+  pub some_ring : 1 ≤ plan.threads
+  pub few_rings : plan.threads ≤ RULER_RING
+  pub rings_are : l.rings ≡ plan.threads
+  pub vars_are : l.vars ≡ F.vars
+  pub rulers : AreRulers J0
+  pub on_ruler : All (All (IsOn F.vars)) (added J0)
+  pub left_is : IsSimplified F J0 left
+  pub through : IsRuledThrough F plan.rounds (J0 ++ K)
+  pub opening_is : s.core.opening ≡ began_with F l J0 left
+  pub journal_is : s.core.journal ≡ J0 ++ K
+  pub of_rings : All (λ e. ring_of e < plan.threads) K
+  pub wrote : (r : ℕ) → r < plan.threads → (s.core.part r).wrote ≡ placed r (length s.core.opening.journal) K
+  pub sound : LogSound F.clauses (J0 ++ K)
+
+module _ {S : Type 0} {d : Ghosts S} (written flushed target : S → Option (List ℕ)) (faults : S → ℕ) (sink : S) (plan : Plan) (F : FormulaData) (old : Book S d) (left : Simplified) (l : Layout) (origin : BookOrigin)
+    (few : F.vars ≤ 2 ^ 30) (on : All (All (IsOn F.vars)) F.clauses) (some : 1 ≤ plan.conflicts) (some_ring : 1 ≤ plan.threads) (few_rings : plan.threads ≤ RULER_RING)
+    (was : WasRuled written flushed target faults sink plan F old (Ok (LeftOver left))) (rings_are : l.rings ≡ plan.threads) (vars_are : l.vars ≡ F.vars)
+    (w : View) (same : IsSameTable (first_view l (began_with F l was.ruled.journal left) origin) w) (s : Seen w) where
+  abbrev J0 : List Entry
+  J0 = was.ruled.journal
+
+  abbrev first : LineState
+  first = told_new written flushed target faults (length F.clauses) sink plan.keep_lines
+
+  rulers : AreRulers J0
+  rulers = was.ruled.stands.rulers
+
+  answered : IsAnswer F J0 first (told_of written flushed target faults old) (Ok (LeftOver left))
+  answered = was.ruled.answer
+
+  opening_is : s.core.opening ≡ began_with F l J0 left
+  opening_is = sym s.opening ∙ same.opening
+
+  abbrev pub sound : Sound s.core
+  sound = left_sound s.core.opening s.core s.left
+
+  -- the entries of the rings
+  abbrev pub entries : List Entry
+  entries = sound.log.begins.0
+
+  journal_is : s.core.journal ≡ J0 ++ entries
+  journal_is = sound.log.begins.1 ∙ ap (λ (o : CoreOpening). o.journal ++ entries) opening_is
+
+  rings_there : s.core.opening.rings ≡ plan.threads
+  rings_there = ap (λ (o : CoreOpening). o.rings) opening_is ∙ rings_are
+
+  of_rings : All (λ e. ring_of e < plan.threads) entries
+  of_rings = subst (λ (n : ℕ). All (λ e. ring_of e < n) entries) rings_there sound.log.begins.2
+
+  wrote : (r : ℕ) → r < plan.threads → (s.core.part r).wrote ≡ placed r (length s.core.opening.journal) entries
+  wrote r lt =
+      sound.entries.2 r (subst (λ (n : ℕ). r < n) (sym rings_there) lt)
+      ∙ ap (placed r (length s.core.opening.journal)) (same_rest s.core.opening.journal s.core.journal sound.entries.0 entries sound.entries.1 sound.log.begins.1)
+
+  log_sound : LogSound F.clauses (J0 ++ entries)
+  log_sound = subst (LogSound F.clauses) journal_is (subst (λ (G : List (List Literal)). LogSound G s.core.journal) (ap (λ (o : CoreOpening). o.formula) opening_is) sound.log.log)
+
+  ruler_is : ruler_part (J0 ++ entries) ≡ J0
+  ruler_is = ruler_part-append J0 entries rulers (λ k e lt. (let h = of_rings k e lt in omega (arith, h)))
+
+  ruled : IsRuled F plan.rounds (J0 ++ entries)
+  ruled = record {
+    output = first;
+    unspent = refl;
+    none = refl;
+    last = refl;
+    work = was.ruled.work;
+    result = Ok Done;
+    ran = subst (SimplifiedTo plan.rounds (begun F first) was.ruled.work (Ok Done)) (sym ruler_is) was.ruled.ran;
+    alone = λ other. absurd (other refl);
+  }
+
+  through : IsRuledThrough F plan.rounds (J0 ++ entries)
+  unfolding ruled
+  through = record { ruled = ruled; through = λ why e. cc e }
+
+  pub goes_on : GoesOn plan F left l J0 entries w s
+  goes_on = record {
+    few = few;
+    on = on;
+    some = some;
+    some_ring = some_ring;
+    few_rings = few_rings;
+    rings_are = rings_are;
+    vars_are = vars_are;
+    rulers = rulers;
+    on_ruler = subst (λ (n : ℕ). All (All (IsOn n)) (added J0)) was.ruled.vars was.ruled.stands.on;
+    left_is = answered.0;
+    through = through;
+    opening_is = opening_is;
+    journal_is = journal_is;
+    of_rings = of_rings;
+    wrote = wrote;
+    sound = log_sound;
+  }
+
+  -- the book has come to the journal
+  pub records : (b : Book S d) (fault : Bool) → origin.faults ≡ faults sink → origin.target ≡ target sink
+      → StandsFor account_of (IsLogOf written flushed target faults) b w.origin w.layout w.opening s.core.journal fault → Records written flushed target faults sink F.clauses s.core.journal b
+  records b fault faults_are target_is h =
+      let formula_is : w.opening.formula ≡ F.clauses = ap (λ (o : CoreOpening). o.formula) same.opening in
+      let vars_there : w.layout.vars ≡ F.vars = ap (λ (m : Layout). m.vars) same.layout ∙ vars_are in
+      record {
+        origin = w.origin;
+        layout = w.layout;
+        few = omega (arith, vars_there);
+        faults_are = ap (λ (x : BookOrigin). x.faults) same.origin ∙ faults_are;
+        target_is = ap (λ (x : BookOrigin). x.target) same.origin ∙ target_is;
+        log = subst (λ (G : List (List Literal)). IsLogOf written flushed target faults b w.origin w.layout G s.core.journal) formula_is h.log.sink;
+        kept = λ unspent ls is. h.log.kept unspent ls is ∙ ap (λ (G : List (List Literal)). lines G s.core.journal) formula_is;
+      }

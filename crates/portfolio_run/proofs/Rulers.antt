@@ -1,0 +1,63 @@
+-- Entries of the ruler, and what a journal has that consists of them.
+use Rattle.std.proofs.Common.{◌≡◌, ◌∙◌, ◌==◌, ◌<◌, ◌&&◌, ℕ, suc, Bool, true, false, cond, List, [], ◌∷◌, map, length, All, refl, sym, ap, inl, arith, ne_eqb, append-nil}
+use Rattle.std.specs.List.{filter, list_all}
+use Rattle.std.specs.Option.{is_none}
+use Rattle.std.proofs.lemmas.Bool.{and_parts, eqb-true, true≢false}
+use Rattle.rup_model.specs.declared.journal.TheConstants.{RULER_RING}
+use Rattle.rup_model.specs.declared.journal.Addition.{Addition}
+use Rattle.rup_model.specs.declared.journal.Entry.{Entry}
+use Rattle.rup_model.specs.declared.journal.Entry.TheVariants.{Add, Del, Reduce}
+use Rattle.rup_model.specs.Journal.{Book, book_after, lines_from, ring_of, reduction, additions, learned, is_learn}
+use Rattle.rup_model.specs.Opening.{is_ruler, is_rulers}
+use Rattle.rup_model.specs.Spent.{ruler_part, rings_part}
+use Rattle.rup_model.proofs.Parts.{ruler_part-append, rings_part-append, rulers_kind}
+use Rattle.portfolio_run.specs.Journaled.{IsPlainEntry}
+
+abbrev pub AreRulers : List Entry → Type 0
+AreRulers J = All (λ e. is_rulers e ≡ true) J
+
+pub later : (e : Entry) (J : List Entry) → AreRulers (e ∷ J) → AreRulers J
+later e J rulers k d lt = rulers (suc k) d (omega arith)
+
+parts : (e : Entry) → is_rulers e ≡ true → ((ring_of e == RULER_RING) ≡ true) × ((list_all (λ (x : Addition). is_ruler x.kind) (additions (e ∷ [])) && is_none (reduction e)) ≡ true)
+parts e h = and_parts (ring_of e == RULER_RING) (list_all (λ (x : Addition). is_ruler x.kind) (additions (e ∷ [])) && is_none (reduction e)) h
+
+ring_is : (e : Entry) → is_rulers e ≡ true → ring_of e ≡ RULER_RING
+ring_is e h = eqb-true (ring_of e) RULER_RING (parts e h).0
+
+-- each of them has one line
+pub rulers_lines : (b : Book) (J : List Entry) → AreRulers J → length (lines_from b J) ≡ length J
+rulers_lines b [] rulers = refl
+rulers_lines b (Add x ∷ J) rulers = ap suc (rulers_lines (book_after b (Add x)) J (later (Add x) J rulers))
+rulers_lines b (Del r n ∷ J) rulers = ap suc (rulers_lines (book_after b (Del r n)) J (later (Del r n) J rulers))
+rulers_lines b (Reduce r ∷ J) rulers = absurd (true≢false (sym (parts (Reduce r) (rulers 0 (Reduce r) (omega arith))).1))
+
+without : (x : Addition) (others : List Addition) (t u : Bool) → u ≡ false → map (λ (y : Addition). y.lits) others ≡ [] → map (λ (y : Addition). y.lits) (cond (t && u) (x ∷ others) others) ≡ []
+without x others true true e none = absurd (true≢false e)
+without x others true false e none = none
+without x others false u e none = none
+
+-- nothing in them was learned
+pub rulers_learned : (r : ℕ) (J : List Entry) → AreRulers J → learned r J ≡ []
+rulers_learned r [] rulers = refl
+rulers_learned r (Add x ∷ J) rulers =
+    without x (filter (λ (y : Addition). (y.ring == r) && is_learn y.kind) (additions J)) (x.ring == r) (is_learn x.kind) (rulers_kind x (rulers 0 (Add x) (omega arith))) (rulers_learned r J (later (Add x) J rulers))
+rulers_learned r (Del q n ∷ J) rulers = rulers_learned r J (later (Del q n) J rulers)
+rulers_learned r (Reduce q ∷ J) rulers = rulers_learned r J (later (Reduce q) J rulers)
+
+-- none of them is a ring's
+pub rulers_of_no_ring : (r : ℕ) → r < RULER_RING → (J : List Entry) → AreRulers J → filter (λ e. ring_of e == r) J ≡ []
+rulers_of_no_ring r lt [] rulers = refl
+rulers_of_no_ring r lt (e ∷ J) rulers =
+    ap (λ (t : Bool). cond t (e ∷ filter (λ (x : Entry). ring_of x == r) J) (filter (λ (x : Entry). ring_of x == r) J))
+    (ne_eqb (ring_of e) r (λ q. (let h = ring_is e (rulers 0 e (omega arith)) in absurd (omega (arith, q, h))))) ∙ rulers_of_no_ring r lt J (later e J rulers)
+
+pub rulers_plain : (J : List Entry) → AreRulers J → All IsPlainEntry J
+rulers_plain J rulers k d lt = inl (rulers k d lt)
+
+-- all of the journal is the ruler's part
+pub all_rulers : (J : List Entry) → AreRulers J → (ruler_part J ≡ J) × (rings_part J ≡ [])
+all_rulers J rulers = (
+  ap ruler_part (sym (append-nil J)) ∙ ruler_part-append J [] rulers (λ k d lt. absurd (omega arith)),
+  ap rings_part (sym (append-nil J)) ∙ rings_part-append J [] rulers (λ k d lt. absurd (omega arith)),
+)

@@ -1,0 +1,300 @@
+-- What is known once the ruler has come to its end, and no ring has written anything.
+use Rattle.io_edge.specs.declared.edge.Sink.{Ghosts}
+use Rattle.std.proofs.Common.{◌≡◌, ◌≢◌, ◌∙◌, ◌<◌, ◌≤◌, ◌^◌, ◌+◌, ◌||◌, ℕ, Bool, true, false, List, [], ◌++◌, length, Ok, Err, Some, None, refl, sym, ap, subst, inl, inr, arith, true≢false}
+use Rattle.std.specs.Prelude.{All, Result, replicate, slice_index_or, ◌⊎◌}
+use Rattle.std.specs.declared.option.Option.{Option}
+use Rattle.std.proofs.lemmas.Bool.{cases_Bool}
+use Rattle.std.proofs.lemmas.List.Folds.{list_any-append}
+use Rattle.std.specs.Io.KnownBytes.{append_known}
+use Rattle.io_edge.specs.Bytes.{WasFlushed}
+use Rattle.io_edge.specs.Causes.{Rose, HasCause}
+use Rattle.io_edge.specs.Paths.{IsEmptyWhereTold}
+use Rattle.sat_words.specs.Literal.{Literal, IsOn}
+use Rattle.sat_words.specs.Clause.{is_empty}
+use Rattle.sat_words.specs.FormulaData.{FormulaData}
+use Rattle.sat_words.specs.declared.line.Line.{Line}
+use Rattle.sat_words.specs.declared.shared.TheConstants.{MAX_ENTRIES}
+use Rattle.clause_cell.specs.declared.holes.HoleStop.{HoleStop}
+use Rattle.clause_cell.specs.declared.holes.HoleStop.TheVariants as hole_stop
+use Rattle.rup_model.specs.Log.{OnVariables}
+use Rattle.rup_model.specs.declared.journal.Entry.{Entry}
+use Rattle.rup_model.specs.Journal.{formula_book, lines, added, ring_of}
+use Rattle.rup_model.specs.Opening.{program_opening}
+use Rattle.rup_model.specs.Spent.{ruler_part}
+use Rattle.rup_model.proofs.LogLaw.{refutes_none}
+use Rattle.rup_model.proofs.Parts.{rulers_new, rulers_spaced}
+use Rattle.drat_text.specs.LineState.{LineState}
+use Rattle.drat_text.specs.Text.{CanBeSpelled, text}
+use Rattle.drat_text.specs.declared.stop.LineStop.{LineStop}
+use Rattle.drat_text.specs.declared.stop.LineStop.TheVariants as line_stop
+use Rattle.simp_base.specs.Log.{HasLines}
+use Rattle.simp_base.specs.WorkState.{begun as begun_work}
+use Rattle.ruler_simp.specs.declared.ruling.Outcome.{Outcome}
+use Rattle.ruler_simp.specs.declared.ruling.Outcome.TheVariants.{Simplified as LeftOver, Refuted as NoModel}
+use Rattle.ruler_simp.specs.declared.ruling.Simplified.{Simplified}
+use Rattle.ruler_simp.specs.Ruled.{IsAnswer, Ruled, run_of, origin_of as work_origin}
+use Rattle.ruler_simp.specs.Rounds.{SimplifiedTo}
+use Rattle.ruler_simp.proofs.Telling.{none_made}
+use Rattle.share_core.proofs.Counting.{some_same}
+use Rattle.share_rule.specs.declared.Layout.{Layout}
+use Rattle.share_rule.specs.Books.{HasLog}
+use Rattle.share_rule.specs.FirstWords.{MayBegin, IsMakeStop}
+use Rattle.share_rule.specs.Layout.{InVars}
+use Rattle.log_book.specs.declared.book.Book.{Book}
+use Rattle.log_book.specs.Kept.{HoldsText}
+use Rattle.log_book.specs.Books.{begun, told_new, told_of, account_of, origin_of, IsLogOf, IsFilled, IsFrom, IsCutOff, IsCutLog}
+use Rattle.ring_run.specs.declared.job.Counts.{Counts}
+use Rattle.portfolio_run.specs.declared.answer.Answer.{Answer}
+use Rattle.portfolio_run.specs.declared.answer.Answer.TheVariants.{Unsat, NoHole, ProofFault, Memory}
+use Rattle.portfolio_run.specs.declared.plan.Plan.{Plan}
+use Rattle.portfolio_run.specs.Held.{IsHeld, no_counts}
+use Rattle.portfolio_run.specs.Journaled.{IsJournal, IsUnrefuted}
+use Rattle.portfolio_run.specs.Reached.{Records, WasRuled, IsReached, HasReached, stopped_answer, unmade_answer}
+use Rattle.portfolio_run.specs.Ruled.{IsRuled, IsRuledThrough}
+use Rattle.portfolio_run.specs.Solved.{is_verdict, Holds, IsUnsettled, IsSolved, IsClosed}
+use Rattle.portfolio_run.proofs.Cuts.{cut_whole, front_of_same}
+use Rattle.portfolio_run.proofs.Rulers.{AreRulers, all_rulers, rulers_learned, rulers_lines, rulers_of_no_ring, rulers_plain}
+use Rattle.portfolio_run.proofs.Spelling.{formula_on, spelled_from}
+
+on_variables : (L : List Line) → CanBeSpelled L → OnVariables L
+on_variables L spelled k d lt j l less = (spelled k d lt j l less).low
+
+in_vars : (l : Layout) (lits : List Literal) → All (IsOn l.vars) lits → InVars l lits
+in_vars l lits on k d lt = let h = on k d lt in (h.low, h.high)
+
+no_hole : (l : Layout) (ss : List (ℕ × List Literal)) (need most : ℕ) → IsMakeStop l ss (hole_stop.NoHole need most) → most < need
+no_hole l ss need most (front, rest, s, split, n, m, lt) = lt
+
+module _ (plan : Plan) (formula : FormulaData) (old now : LineState) (result : Result Outcome LineStop) (tally : List Counts) (few : formula.vars ≤ 2 ^ 30) (on : All (All (IsOn formula.vars)) formula.clauses)
+    (rings : 1 ≤ plan.threads) (some : 1 ≤ plan.conflicts) (none : (tally ≡ []) ⊎ (tally ≡ replicate plan.threads no_counts)) (unspent : old.spent ≡ false) (begins : old.entries ≡ 0) (last_is : old.last ≡ length formula.clauses)
+    (was : Ruled formula plan.rounds old now result) where
+  abbrev F : List (List Literal)
+  F = formula.clauses
+
+  abbrev J : List Entry
+  J = was.journal
+
+  rulers : AreRulers J
+  rulers = was.stands.rulers
+
+  pub has_lines : HasLines (work_origin formula old) J formula.vars now
+  has_lines = subst (λ (s : LineState). HasLines (work_origin formula old) J formula.vars s) (sym was.output) (subst (λ (n : ℕ). HasLines (work_origin formula old) J n was.work.output) was.vars was.stands.lines)
+
+  pub spelled : CanBeSpelled (lines F J)
+  spelled = spelled_from formula.vars few (formula_book F) J (formula_on formula.vars F on) (subst (λ (n : ℕ). All (All (IsOn n)) (added J)) was.vars was.stands.on)
+
+  pub journal_stands : IsJournal plan.threads F J
+  journal_stands = record {
+    fits = was.stands.sound.fits;
+    accepted = was.stands.sound.accepted;
+    last = was.stands.sound.empty_last;
+    spelled = spelled;
+    of_rings = subst (λ (K : List Entry). All (λ e. ring_of e < plan.threads) K) (sym (all_rulers J rulers).1) (λ k d lt. absurd (omega arith));
+    plain = rulers_plain J rulers;
+    each_new = rulers_new (program_opening F (ruler_part J)) J rulers;
+    spaced = rulers_spaced J rulers;
+  }
+
+  pub ruled : IsRuled formula plan.rounds J
+  ruled = record {
+    output = old;
+    unspent = unspent;
+    none = begins;
+    last = last_is;
+    work = was.work;
+    result = run_of result;
+    ran = subst (SimplifiedTo plan.rounds (begun_work formula old) was.work (run_of result)) (sym (all_rulers J rulers).0) was.ran;
+    alone = λ _. (all_rulers J rulers).1;
+  }
+
+  pub held : IsHeld plan.threads plan.conflicts F J tally
+  held = inl (record { rulers = (all_rulers J rulers).1; none = none })
+
+  pub unsettled : IsUnrefuted J → IsUnsettled plan.threads plan.conflicts J
+  unsettled going = record {
+    ring = 0;
+    below = omega arith;
+    fewer = (let n = ap (λ (cs : List (List Literal)). length cs) (rulers_learned 0 J rulers) in omega (arith, n, some));
+    going = subst IsUnrefuted (sym (rulers_of_no_ring 0 (omega arith) J rulers)) refl;
+    rulers = subst IsUnrefuted (sym (all_rulers J rulers).0) going;
+  }
+
+  -- the output has come to the ruler's lines
+  pub filled : now.spent ≡ false → IsFilled (begun F old) J now
+  filled q =
+      let last = has_lines.last in
+      record {
+        unspent = q;
+        entries = has_lines.entries ∙ rulers_lines (formula_book F) J rulers;
+        last = omega arith;
+        text = has_lines.whole q;
+        target = has_lines.target;
+        flushed = has_lines.flushed;
+        spelled = spelled;
+      }
+
+  pub is_reached : (answer : Answer) → Holds plan formula J answer → (is_verdict answer ≡ true → IsRuledThrough formula plan.rounds J) → (answer ≡ ProofFault → Rose old.faults now.faults)
+      → IsReached plan formula answer tally old.faults now.faults J
+  is_reached answer holds through rose = record { stands = journal_stands; ruled = ruled; held = held; holds = holds; through = through; rose = rose }
+
+  -- the formula was refuted
+
+  ruled_through : result ≡ Ok NoModel → IsRuledThrough formula plan.rounds J
+  unfolding ruled
+  ruled_through is = record { ruled = ruled; through = λ why e. found_none why (sym (ap run_of is) ∙ e) }
+    where
+      found_none : (why : LineStop) → run_of (Ok NoModel) ≢ Err why
+      found_none why clash = cc clash
+
+  refuted_by : result ≡ Ok NoModel → IsAnswer formula J old now (Ok NoModel) → IsReached plan formula Unsat tally old.faults now.faults J
+  refuted_by is h =
+      is_reached Unsat (record { refuted = h.0; no_model = λ m t. refutes_none F (lines F J) h.0 (on_variables (lines F J) spelled) (m, t) }) (λ _. ruled_through is)
+      (λ e. absurd (let no : ⊥ = cc in no))
+
+  pub refuted : result ≡ Ok NoModel → IsReached plan formula Unsat tally old.faults now.faults J
+  refuted is = refuted_by is (subst (IsAnswer formula J old now) is was.answer)
+
+  -- it was stopped
+  stopped_by : (why : LineStop) → IsAnswer formula J old now (Err why) → IsReached plan formula (stopped_answer why) tally old.faults now.faults J
+  stopped_by line_stop.ProofFault h = is_reached ProofFault tt (λ e. absurd (true≢false (sym e))) (λ _. h.0)
+  stopped_by line_stop.Full h = is_reached (NoHole (record { need = MAX_ENTRIES + 1; largest = MAX_ENTRIES })) (omega arith, unsettled h.1) (λ e. absurd (true≢false (sym e))) (λ e. absurd (let no : ⊥ = cc in no))
+  stopped_by line_stop.Memory h = is_reached Memory (unsettled h.1) (λ e. absurd (true≢false (sym e))) (λ e. absurd (let no : ⊥ = cc in no))
+
+  pub stopped : (why : LineStop) → result ≡ Err why → IsReached plan formula (stopped_answer why) tally old.faults now.faults J
+  stopped why is = stopped_by why (subst (IsAnswer formula J old now) is was.answer)
+
+  -- something is left, over which no table could be made
+  unmade_by : (l : Layout) (left : Simplified) → IsAnswer formula J old now (Ok (LeftOver left)) → (why : HoleStop) → IsMakeStop l left.start.items why → IsReached plan formula (unmade_answer why) tally old.faults now.faults J
+  unmade_by l left h (hole_stop.NoHole need most) s =
+      is_reached (NoHole (record { need = need; largest = most })) (no_hole l left.start.items need most s, unsettled h.0.opens.rulers_part.going) (λ e. absurd (true≢false (sym e))) (λ e. absurd (let no : ⊥ = cc in no))
+  unmade_by l left h hole_stop.Memory s = is_reached Memory (unsettled h.0.opens.rulers_part.going) (λ e. absurd (true≢false (sym e))) (λ e. absurd (let no : ⊥ = cc in no))
+
+  pub unmade : (l : Layout) (left : Simplified) → result ≡ Ok (LeftOver left) → (why : HoleStop) → IsMakeStop l left.start.items why → IsReached plan formula (unmade_answer why) tally old.faults now.faults J
+  unmade l left is why s = unmade_by l left (subst (IsAnswer formula J old now) is was.answer) why s
+
+module _ {S : Type 0} {d : Ghosts S} (written flushed target : S → Option (List ℕ)) (faults : S → ℕ) where
+  -- what a book promises that was filled through the bound of a line output
+  abbrev pub LogLaw : Book S d → Type 0
+  LogLaw b = (F : List (List Literal)) (J : List Entry) (l : Layout) (sink : S) (asked : Bool) → IsEmptyWhereTold (written sink)
+      → IsFilled (begun F (told_new written flushed target faults (length F) sink asked)) J (told_of written flushed target faults b)
+      → HasLog account_of (IsLogOf written flushed target faults) b (origin_of written flushed target faults b) l F J × IsFrom target faults sink asked (origin_of written flushed target faults b)
+
+  -- and one whose sink failed meanwhile
+  abbrev pub CutLaw : Book S d → Type 0
+  CutLaw b = (F : List (List Literal)) (J : List Entry) (l : Layout) (sink : S) (asked : Bool) → IsEmptyWhereTold (written sink)
+      → IsCutOff (begun F (told_new written flushed target faults (length F) sink asked)) J l.vars (told_of written flushed target faults b)
+      → IsCutLog written flushed target faults sink b l F J
+
+  module _ (sink : S) (plan : Plan) (formula : FormulaData) (b : Book S d) (result : Result Outcome LineStop) (tally : List Counts) (few : formula.vars ≤ 2 ^ 30) (on : All (All (IsOn formula.vars)) formula.clauses)
+      (rings : 1 ≤ plan.threads) (some : 1 ≤ plan.conflicts) (none : tally ≡ replicate plan.threads no_counts) (was : WasRuled written flushed target faults sink plan formula b result) where
+    abbrev F' : List (List Literal)
+    F' = formula.clauses
+
+    -- the ruler's journal
+    abbrev pub rulers_journal : List Entry
+    rulers_journal = was.ruled.journal
+
+    abbrev before : LineState
+    before = told_new written flushed target faults (length F') sink plan.keep_lines
+
+    abbrev told : LineState
+    told = told_of written flushed target faults b
+
+    -- the layout of a table for these rings
+    abbrev pub table_layout : Layout
+    table_layout = record { rings = plan.threads; vars = formula.vars; words = plan.words }
+
+    lines_are : HasLines (work_origin formula before) rulers_journal formula.vars told
+    lines_are = has_lines plan formula before told result tally few on rings some (inr none) refl refl refl was.ruled
+
+    filled_book : told.spent ≡ false → IsFilled (begun F' before) rulers_journal told
+    filled_book = filled plan formula before told result tally few on rings some (inr none) refl refl refl was.ruled
+
+    records_whole : LogLaw b → b.log.lines.spent ≡ false → Records written flushed target faults sink F' rulers_journal b
+    records_whole law q =
+        let h = law F' rulers_journal table_layout sink plan.keep_lines was.empty (filled_book q) in
+        record { origin = origin_of written flushed target faults b; layout = table_layout; few = few; faults_are = h.1.faults_are; target_is = h.1.target_is; log = h.0.sink; kept = h.0.kept }
+
+    records_cut : CutLaw b → b.log.lines.spent ≡ true → Records written flushed target faults sink F' rulers_journal b
+    records_cut law q =
+        let h = law F' rulers_journal table_layout sink plan.keep_lines was.empty (record { spent = q; text = lines_are.short q; target = lines_are.target }) in
+        record { origin = h.origin; layout = table_layout; few = few; faults_are = h.faults_are; target_is = h.target_is; log = h.log; kept = λ c. absurd (true≢false (sym q ∙ c)) }
+
+    pub records : LogLaw b → CutLaw b → Records written flushed target faults sink F' rulers_journal b
+    records law cut = elim (cases_Bool b.log.lines.spent) as (λ _. Records written flushed target faults sink F' rulers_journal b) [
+      | inl q ↦ records_cut cut q
+      | inr q ↦ records_whole law q
+    ]
+
+    pub refuted_book : LogLaw b → CutLaw b → result ≡ Ok NoModel → HasReached written flushed target faults sink plan formula Unsat tally b
+    refuted_book law cut is = record { journal = rulers_journal; records = records law cut; reached = refuted plan formula before told result tally few on rings some (inr none) refl refl refl was.ruled is }
+
+    pub stopped_book : LogLaw b → CutLaw b → (why : LineStop) → result ≡ Err why → HasReached written flushed target faults sink plan formula (stopped_answer why) tally b
+    stopped_book law cut why is = record { journal = rulers_journal; records = records law cut; reached = stopped plan formula before told result tally few on rings some (inr none) refl refl refl was.ruled why is }
+
+    -- something is left
+    module _ (left : Simplified) (is : result ≡ Ok (LeftOver left)) where
+      left_answer : IsAnswer formula rulers_journal before told (Ok (LeftOver left))
+      left_answer = subst (IsAnswer formula rulers_journal before told) is was.ruled.answer
+
+      pub left_unspent : b.log.lines.spent ≡ false
+      left_unspent = left_answer.1.unspent
+
+      -- no table could be made
+      pub unmade_book : LogLaw b → CutLaw b → (why : HoleStop) → IsMakeStop table_layout left.start.items why → HasReached written flushed target faults sink plan formula (unmade_answer why) tally b
+      unmade_book law cut why s = record {
+        journal = rulers_journal;
+        records = records law cut;
+        reached = unmade plan formula before told result tally few on rings some (inr none) refl refl refl was.ruled table_layout left is why s;
+      }
+
+      -- a table may be made
+      pub may_begin : plan.threads ≤ 16 → plan.words ≤ 2 ^ 31 → MayBegin F' table_layout rulers_journal left.start.items left.units.items
+      may_begin few_rings few_words =
+          let entries = (filled_book left_unspent).entries in
+          let small = b.few in
+          let on_left = left_answer.0.on in
+          record {
+            some_ring = rings;
+            few_rings = few_rings;
+            few_vars = few;
+            few_words = few_words;
+            opens = left_answer.0.opens;
+            going = list_any-append is_empty F' (added rulers_journal) ∙ (λ i. left_answer.0.going i || left_answer.0.opens.rulers_part.going i);
+            few_entries = omega arith;
+            starts = λ k x lt. in_vars table_layout (slice_index_or left.start.items k x).1 (on_left.start k x lt);
+            units = in_vars table_layout left.units.items on_left.units;
+          }
+
+      -- over the book, which began with the sink
+      pub has_log : LogLaw b
+          → HasLog account_of (IsLogOf written flushed target faults) b (origin_of written flushed target faults b) table_layout F' rulers_journal × IsFrom target faults sink plan.keep_lines (origin_of written flushed target faults b)
+      has_log law = law F' rulers_journal table_layout sink plan.keep_lines was.empty (filled_book left_unspent)
+
+-- memory ran out before a line was put
+pub starved : (plan : Plan) (formula : FormulaData) (tally : List Counts) (before faults : ℕ) (written : Option (List ℕ)) → formula.vars ≤ 2 ^ 30 → All (All (IsOn formula.vars)) formula.clauses → 1 ≤ plan.threads → 1 ≤ plan.conflicts
+    → (tally ≡ []) ⊎ (tally ≡ replicate plan.threads no_counts) → IsEmptyWhereTold written → IsSolved plan formula Memory tally before faults written None
+starved plan formula tally before faults written few on rings some none empty =
+    let old : LineState = record { entries = 0; last = length formula.clauses; spent = false; faults = before; written = written; target = None; flushed = None } in
+    let was : Ruled formula plan.rounds old old (Err line_stop.Memory) = none_made formula plan.rounds old refl refl refl on old refl in
+    let h : IsReached plan formula Memory tally before before was.journal = stopped plan formula old old (Err line_stop.Memory) tally few on rings some none refl refl refl was line_stop.Memory refl in
+    let holds : HoldsText written (text (lines formula.clauses was.journal)) = told_text written (text (lines formula.clauses was.journal)) empty ((has_lines plan formula old old (Err line_stop.Memory) tally few on rings some none refl refl refl was).whole refl).bytes in
+    record {
+      journal = was.journal;
+      stands = h.stands;
+      ruled = h.ruled;
+      held = h.held;
+      concludes = record { holds = h.holds; quiet = λ e. absurd (true≢false (sym e)); ruled = λ e. absurd (true≢false (sym e)); rose = λ e. absurd (let no : ⊥ = cc in no) };
+      whole = λ _. holds;
+      short = cut_whole formula.clauses was.journal written written h.stands.accepted h.stands.spelled holds (front_of_same written);
+      keeps = λ _. tt;
+    }
+  where
+    told_text : (bytes : Option (List ℕ)) (all : List ℕ) → IsEmptyWhereTold bytes → bytes ≡ append_known bytes all → HoldsText bytes all
+    told_text None all none e = tt
+    told_text (Some bytes) all none e = some_same bytes (bytes ++ all) e ∙ ap (λ (bs : List ℕ). bs ++ all) none
+
+-- a flush closes a sink
+pub flushed_closes : {T E : Type 0} (before faults : ℕ) (written old new : Option (List ℕ)) (r : Result T E) → HasCause before faults r → WasFlushed written old new r → IsClosed before faults new written
+flushed_closes was faults written old new (Ok x) cause flush = inl flush
+flushed_closes was faults written old new (Err e) cause flush = inr cause.failed

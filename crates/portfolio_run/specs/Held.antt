@@ -1,0 +1,58 @@
+-- The steps of the rings, what they leave of the journal, and what the rings counted.
+use Rattle.std.specs.Prelude.{◌≡◌, ◌⊎◌, ℕ, ◌≤◌, ◌<◌, ◌*◌, ◌-◌, List, [], filter, length, replicate, slice_index_or, count_by}
+use Rattle.sat_words.specs.Literal.{Literal}
+use Rattle.sat_words.specs.Clause.{has}
+use Rattle.rup_model.specs.declared.journal.Entry.{Entry}
+use Rattle.rup_model.specs.Journal.{learned}
+use Rattle.rup_model.specs.Opening.{Opening, program_opening}
+use Rattle.rup_model.specs.Spent.{ruler_part, rings_part}
+use Rattle.share_core.specs.declared.event.Event.{Event}
+use Rattle.share_core.specs.declared.part.CoreOpening.{CoreOpening}
+use Rattle.share_core.specs.State.{State, opening_of}
+use Rattle.share_core.specs.Left.{Left, shares}
+use Rattle.ring_run.specs.declared.job.Counts.{Counts}
+use Rattle.ring_run.specs.Ended.{is_short, is_long, HasRestarted}
+
+-- the rings start from the ruler's journal, from the start clauses of the program's opening, in their order and with their
+-- numbers, and from its units
+pub record IsProgramOpening (clauses : List (List Literal)) (journal : List Entry) (o : Opening) : Type 0 where
+  pub journal_is : o.journal ≡ journal
+  pub starts : o.starts ≡ (program_opening clauses journal).starts
+  pub units : (l : Literal) → has o.units l ≡ has (program_opening clauses journal).units l
+
+-- what the ring counted: its lemmas, no more than it may learn; how many of them it offered, all of two to seven literals and
+-- none of one; its shares among the events, one for each other ring and lemma offered; and its restarts
+pub record IsTallied (rings limit ring : ℕ) (events : List Event) (journal : List Entry) (counts : Counts) : Type 0 where
+  pub learned_is : counts.learned ≡ length (learned ring journal)
+  pub within : counts.learned ≤ limit
+  pub all : length (filter is_short (learned ring journal)) ≤ counts.exported
+  pub few : counts.exported ≤ length (filter is_long (learned ring journal))
+  pub shares_are : counts.offered ≡ count_by (shares ring) events
+  pub offered_is : counts.offered ≡ (rings - 1) * counts.exported
+  pub restarted : HasRestarted ring limit counts
+
+-- a list of enabled events leads from the program's opening for these rings to a state with this journal: so no clause was
+-- deleted that a ring, a slot or an open grant still had; each ring counted what it did
+pub record RanOnce (rings limit : ℕ) (clauses : List (List Literal)) (journal : List Entry) (tally : List Counts) : Type 0 where
+  pub opening : CoreOpening
+  pub rings_are : opening.rings ≡ rings
+  pub formula_is : opening.formula ≡ clauses
+  pub program : IsProgramOpening clauses (ruler_part journal) (opening_of opening)
+  pub core : State
+  pub left : Left opening core
+  pub leaves : core.journal ≡ journal
+  pub many : length tally ≡ rings
+  pub tallied : (ring : ℕ) (d : Counts) → ring < rings → IsTallied rings limit ring left.events journal (slice_index_or tally ring d)
+
+-- of a ring that did not run
+abbrev pub no_counts : Counts
+no_counts = record { learned = 0; exported = 0; offered = 0; restarts = 0 }
+
+-- no ring ran: only the ruler wrote, and nothing was counted
+pub record NoneRan (rings : ℕ) (journal : List Entry) (tally : List Counts) : Type 0 where
+  pub rulers : rings_part journal ≡ []
+  pub none : (tally ≡ []) ⊎ (tally ≡ replicate rings no_counts)
+
+-- either
+abbrev pub IsHeld : ℕ → ℕ → List (List Literal) → List Entry → List Counts → Type 0
+IsHeld rings limit clauses journal tally = NoneRan rings journal tally ⊎ RanOnce rings limit clauses journal tally

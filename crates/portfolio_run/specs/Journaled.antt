@@ -1,0 +1,56 @@
+-- The journal of a run, and what the writer of its proof holds.
+use Rattle.std.specs.Prelude.{◌≡◌, ◌⊎◌, ◌<◌, ℕ, List, [], ◌∷◌, ◌++◌, take, All, true, false, ⊤}
+use Rattle.std.specs.List.{list_any}
+use Rattle.std.specs.declared.option.Option.{Option}
+use Rattle.sat_words.specs.Literal.{Literal}
+use Rattle.sat_words.specs.Clause.{is_empty}
+use Rattle.sat_words.specs.declared.line.Line.{Line}
+use Rattle.rup_model.specs.declared.journal.Entry.{Entry}
+use Rattle.rup_model.specs.declared.journal.Entry.TheVariants.{Add, Del, Reduce}
+use Rattle.rup_model.specs.Basics.{EachAfter}
+use Rattle.rup_model.specs.Log.{Accepted}
+use Rattle.rup_model.specs.Journal.{added, lines, ring_of, Fits, EmptyLast, IsSpaced}
+use Rattle.rup_model.specs.Opening.{is_rulers, program_opening, IsNew}
+use Rattle.rup_model.specs.Spent.{ruler_part, rings_part}
+use Rattle.drat_text.specs.Text.{CanBeSpelled, text, line_text}
+use Rattle.log_book.specs.Kept.{HoldsText}
+use Rattle.ring_run.specs.Ended.{IsOfKind}
+
+-- an entry of a ring: it learns a clause of a literal or more, adds the line of a unit, or derives the empty clause or a clause
+-- of two literals or more; it deletes a clause, or reduces its clauses
+abbrev pub IsRingsEntry : Entry → Type 0
+IsRingsEntry (Add x) = IsOfKind x.kind x.lits
+IsRingsEntry (Del r n) = ⊤
+IsRingsEntry (Reduce r) = ⊤
+
+-- an entry of the ruler, or of a ring
+abbrev pub IsPlainEntry : Entry → Type 0
+IsPlainEntry e = (is_rulers e ≡ true) ⊎ IsRingsEntry e
+
+-- a journal of this many rings: its numbers fit, each line is valid where it stands, nothing follows the empty clause,
+-- its lines can be spelled, what the ruler didn't write is of one of the rings, each clause that a ring learned was new
+-- when it was added, and enough were learned before each Reduce entry since the one before
+pub record IsJournal (rings : ℕ) (clauses : List (List Literal)) (journal : List Entry) : Type 0 where
+  pub fits : Fits clauses journal
+  pub accepted : Accepted clauses (lines clauses journal)
+  pub last : EmptyLast journal
+  pub spelled : CanBeSpelled (lines clauses journal)
+  pub of_rings : All (λ e. ring_of e < rings) (rings_part journal)
+  pub plain : All IsPlainEntry journal
+  pub each_new : EachAfter (IsNew (program_opening clauses (ruler_part journal))) [] journal
+  pub spaced : EachAfter IsSpaced [] journal
+
+-- no entry adds the empty clause
+abbrev pub IsUnrefuted : List Entry → Type 0
+IsUnrefuted journal = list_any is_empty (added journal) ≡ false
+
+-- some lines of the journal, and the front of one line more; all of them are accepted
+pub record IsCutShort (clauses : List (List Literal)) (journal : List Entry) (written : Option (List ℕ)) : Type 0 where
+  pub front : List Line
+  pub rest : List Line
+  pub front_of : lines clauses journal ≡ front ++ rest
+  pub line : Line
+  pub cut : ℕ
+  pub accepted : Accepted clauses (front ++ line ∷ [])
+  pub spelled : CanBeSpelled (front ++ line ∷ [])
+  pub bytes : HoldsText written (text front ++ take cut (line_text line))

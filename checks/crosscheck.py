@@ -1,12 +1,13 @@
 """Checks the built program against exhaustive search and a naive DRAT checker, both of their own.
 
 Seeded random formulas of up to 16 variables, chains of equivalences, gates, colourings, pigeonhole formulas and formulas with
-the empty clause go through the program with `--proof`, each simplified and with `--no-simplify`, half of the runs with
-`--check` and half with a seed, most formulas in odd spellings, on standard input or as a file. Its answer is compared with a
-truth table, its `v` lines with the clauses and the format, and every line of its proof with the definition of DRAT. Before
-that, a damaged proof and a wrong model are tried, which must be caught. Real files that fail, refused words and refused
-inputs bring the program to each status but 8 and 9, and each time the folder that it runs in must have no file but those
-that were to be there. Nothing here shares code with the program.
+the empty clause go through the program with `--proof`, each simplified and with `--no-simplify`, with 1, 2, 4, 8 or 16 rings,
+few words for clauses or many, half of the runs with `--check`, half with a seed and some with a small limit of lemmas, most
+formulas in odd spellings, on standard input or as a file. Its answer is compared with a truth table, its `v` lines with the
+clauses and the format, and every line of its proof with the definition of DRAT. Before that, a damaged proof and a wrong
+model are tried, which must be caught. Real files that fail, refused words, refused inputs and a table with too few words bring
+the program to each status but 9, and each time the folder that it runs in must have no file but those that were to be there.
+Nothing here shares code with the program.
 """
 
 import os
@@ -18,10 +19,11 @@ import tempfile
 import time
 
 SEED = 20261126
-RANDOM_FORMULAS = 300
+RANDOM_FORMULAS = 1000
 STRUCTURED_FORMULAS = 20
 MOST_VARIABLES = 16
-SECONDS = 100
+SECONDS = 240
+ROOM = re.compile(r"gimsatul: no room: need ([0-9]+), largest hole ([0-9]+)\n")
 LINE = re.compile(r"(d )?((?:-?[1-9][0-9]* )*)0")
 
 
@@ -233,7 +235,19 @@ def check_model(variables, clauses, lines):
             raise Wrong("variable %d occurs in no clause and is true" % variable)
 
 
-def check_answer(variables, clauses, status, out, err, proof, satisfiable, checked=False):
+def check_no_room(out, err):
+    """Whether it is told that there was no room, and nothing is printed."""
+    told = ROOM.fullmatch(err)
+    if told is None or int(told.group(1)) <= int(told.group(2)) or out:
+        raise Wrong("status 8 with %r on standard error and %r printed" % (err, out))
+
+
+def check_answer(variables, clauses, status, out, err, proof, satisfiable, checked=False, limited=False, narrow=False):
+    """`limited` says that the rings may learn few lemmas, `narrow` that there are few words for clauses."""
+    if status == 8 and narrow:
+        check_no_room(out, err)
+        check_proof(clauses, proof)
+        return
     lines = out.split("\n")
     if lines[-1] != "":
         raise Wrong("the answer's last line has no newline")
@@ -256,16 +270,35 @@ def check_answer(variables, clauses, status, out, err, proof, satisfiable, check
             raise Wrong("status 20 with another answer or without a refutation")
         if satisfiable is True:
             raise Wrong("20 for a formula that an assignment satisfies")
+    elif status == 0 and limited:
+        if lines != ["s UNKNOWN"] or ended:
+            raise Wrong("status 0 with another answer or with a refutation")
     else:
         raise Wrong("status %d" % status)
 
 
-def run(program, folder, variables, clauses, satisfiable, text, from_file, checked, seed, simplified):
-    """Runs the program on the text, as a file or on standard input, lets it check its log or not, gives it a seed or none, and
-    lets it simplify or not."""
+class Options:
+    """How the program is to decide: by how many rings, with how many words for clauses and lemmas for each ring, from which seed,
+    and whether it simplifies and checks its log. None leaves an option out."""
+
+    def __init__(self, rng, simplified):
+        self.simplified, self.checked = simplified, rng.random() < 0.5
+        self.numbers = {
+            "--threads": rng.choice([1, 2, 4, 8, 16]),
+            "--words": rng.choice([64, 256, 1024] + [65536] * 6) if rng.random() < 0.95 else None,
+            "--conflicts": rng.choice([None] * 4 + [1, 10]),
+            "--seed": rng.choice([None, rng.getrandbits(63)]),
+        }
+
+    def words(self):
+        named = [word for name, number in self.numbers.items() if number is not None for word in (name, str(number))]
+        return named + ["--check"] * self.checked + ["--no-simplify"] * (not self.simplified)
+
+
+def run(program, folder, variables, clauses, satisfiable, text, from_file, options):
+    """Runs the program on the text, as a file or on standard input."""
     path = os.path.join(folder, "proof")
-    words = [program, "--proof", path] + ["--check"] * checked + ["--no-simplify"] * (not simplified)
-    words += [] if seed is None else ["--seed", str(seed)]
+    words = [program, "--proof", path] + options.words()
     if from_file:
         words.append(os.path.join(folder, "input"))
         with open(words[-1], "wb") as file:
@@ -288,7 +321,9 @@ def run(program, folder, variables, clauses, satisfiable, text, from_file, check
         done.stderr.decode("ascii"),
         text,
         satisfiable,
-        checked,
+        options.checked,
+        options.numbers["--conflicts"] is not None,
+        options.numbers["--words"] is not None,
     )
 
 
@@ -307,11 +342,13 @@ FULL = "/dev/full"
 
 
 def statuses():
-    """Each status but 8 and 9, most by more than one cause."""
+    """Each status but 9, most by more than one cause."""
     pigeonhole = spelled(*pigeons(4))
     for words in [
         "--threads 0",
-        "--threads 2",
+        "--threads 17",
+        "--words 63",
+        "--words 2147483649",
         "--conflicts 0",
         "--proof",
         "--other",
@@ -348,13 +385,16 @@ def statuses():
         yield Case(6, ["--proof", "proof"], text, stderr="gimsatul: write fault\n", out=FULL, here=["proof"])
     for text in [REFUTED, pigeonhole]:
         yield Case(7, ["--proof", FULL], text, stderr="gimsatul: proof fault\n")
-    yield Case(0, ["--conflicts", "1", "--proof", "proof"], pigeonhole, stdout="s UNKNOWN\n", here=["proof"])
-    yield Case(0, ["--conflicts", "1", "input"], MODEL, pigeonhole, stdout="s UNKNOWN\n", here=["input"])
+    alone = ["--threads", "1", "--conflicts"]
+    yield Case(0, [*alone, "1", "--proof", "proof"], pigeonhole, stdout="s UNKNOWN\n", here=["proof"])
+    yield Case(0, [*alone, "1", "input"], MODEL, pigeonhole, stdout="s UNKNOWN\n", here=["input"])
     made = "c vars 20000\nc clauses 60000\n"
-    yield Case(0, ["--conflicts", "1", "--make", "7"], b"1 0\n", stdout=made + "s UNKNOWN\n")
+    yield Case(0, [*alone, "1", "--make", "7"], b"1 0\n", stdout=made + "s UNKNOWN\n")
     accepted = "c proof accepted\n"
-    yield Case(0, ["--make", "0", "--check", "--conflicts", "1", "--no-simplify"], stdout=made + accepted + "s UNKNOWN\n")
-    yield Case(0, ["--conflicts", "9", "--check", "input"], MODEL, pigeonhole, stdout=accepted + "s UNKNOWN\n", here=["input"])
+    yield Case(0, [*alone, "1", "--make", "0", "--check", "--no-simplify"], stdout=made + accepted + "s UNKNOWN\n")
+    yield Case(0, [*alone, "9", "--check", "input"], MODEL, pigeonhole, stdout=accepted + "s UNKNOWN\n", here=["input"])
+    chain = b"p cnf 15 13\n" + b"".join(b"%d %d %d 0\n" % (i, i + 1, i + 2) for i in range(1, 14))
+    yield Case(8, ["--no-simplify", "--words", "64"], chain, stderr="gimsatul: no room: need 5, largest hole 4\n")
     yield Case(10, [], MODEL, stdout="s SATISFIABLE\nv -1 2 0\n")
     yield Case(20, ["input"], MODEL, REFUTED, stdout="s UNSATISFIABLE\n", here=["input"])
 
@@ -473,12 +513,12 @@ def main():
             odd = rng.random() < 0.7
             text = oddly_spelled(rng, variables, clauses) if odd else spelled(variables, clauses)
             for simplified in [True, False]:
-                seed = rng.choice([None, rng.getrandbits(63)])
+                options = Options(rng, simplified)
                 try:
-                    run(program, folder, variables, clauses, satisfiable, text, rng.random() < 0.5, rng.random() < 0.5, seed, simplified)
+                    run(program, folder, variables, clauses, satisfiable, text, rng.random() < 0.5, options)
                 except Wrong as fault:
                     wrong += 1
-                    print("wrong: %s\n%s" % (fault, text.decode("ascii")))
+                    print("wrong: %s: %s\n%s" % (" ".join(options.words()), fault, text.decode("ascii")))
     print("crosscheck: %d tried, %d wrong" % (tried, wrong))
     return 1 if wrong else 0
 

@@ -23,7 +23,7 @@ use Rattle.clap.specs.declared.error.kind.ErrorKind.{ErrorKind}
 use Rattle.clap.proofs.CallerLemmas.{default_present, entry_by_id, same_rules_by_id}
 use Rattle.clap.proofs.SimpleLemmas.{is_false, is_nil, plain_fields}
 use Rattle.clap.proofs.WalkLemmas.{both}
-use Rattle.gimsatul.specs.Words.{Command, HasNumber, HasLimit, HasSeed, HasMade, command_in, command_of, unless_both, unless_refused, solver_app, solver_rules, conflicts_rule, seed_rule, make_rule}
+use Rattle.gimsatul.specs.Words.{Command, HasNumber, HasThreads, HasLimit, HasWords, HasSeed, HasMade, command_in, command_of, unless_both, unless_refused, solver_app, solver_rules, conflicts_rule, threads_rule, words_rule, seed_rule, make_rule}
 
 pub solver_simple : is_simple solver_app ≡ true
 solver_simple = refl
@@ -68,7 +68,7 @@ no_condition a simple =
     let s = both _ _ r.1 in
     (is_nil _ q.0, is_none _ s.0)
 
-all_simple : (k : ℕ) (r : Rule) → k < 8 → ((slice_index_or solver_rules k r).is_simple ≡ true) × ((slice_index_or solver_rules k r).is_free ≡ true)
+all_simple : (k : ℕ) (r : Rule) → k < 9 → ((slice_index_or solver_rules k r).is_simple ≡ true) × ((slice_index_or solver_rules k r).is_free ≡ true)
 all_simple zero r lt = (refl, refl)
 all_simple (suc zero) r lt = (refl, refl)
 all_simple (suc (suc zero)) r lt = (refl, refl)
@@ -77,9 +77,10 @@ all_simple (suc (suc (suc (suc zero)))) r lt = (refl, refl)
 all_simple (suc (suc (suc (suc (suc zero))))) r lt = (refl, refl)
 all_simple (suc (suc (suc (suc (suc (suc zero)))))) r lt = (refl, refl)
 all_simple (suc (suc (suc (suc (suc (suc (suc zero))))))) r lt = (refl, refl)
-all_simple (suc (suc (suc (suc (suc (suc (suc (suc k)))))))) r lt = absurd (omega arith)
+all_simple (suc (suc (suc (suc (suc (suc (suc (suc zero)))))))) r lt = (refl, refl)
+all_simple (suc (suc (suc (suc (suc (suc (suc (suc (suc k))))))))) r lt = absurd (omega arith)
 
-one_limit : (k : ℕ) (r : Rule) → k < 8 → bytes_eq (slice_index_or solver_rules k r).id (codes "conflicts") ≡ true → k ≡ 0
+one_limit : (k : ℕ) (r : Rule) → k < 9 → bytes_eq (slice_index_or solver_rules k r).id (codes "conflicts") ≡ true → k ≡ 0
 one_limit zero r lt e = refl
 one_limit (suc zero) r lt e = absurd (true≢false (sym e))
 one_limit (suc (suc zero)) r lt e = absurd (true≢false (sym e))
@@ -88,29 +89,56 @@ one_limit (suc (suc (suc (suc zero)))) r lt e = absurd (true≢false (sym e))
 one_limit (suc (suc (suc (suc (suc zero))))) r lt e = absurd (true≢false (sym e))
 one_limit (suc (suc (suc (suc (suc (suc zero)))))) r lt e = absurd (true≢false (sym e))
 one_limit (suc (suc (suc (suc (suc (suc (suc zero))))))) r lt e = absurd (true≢false (sym e))
-one_limit (suc (suc (suc (suc (suc (suc (suc (suc k)))))))) r lt e = absurd (omega arith)
+one_limit (suc (suc (suc (suc (suc (suc (suc (suc zero)))))))) r lt e = absurd (true≢false (sym e))
+one_limit (suc (suc (suc (suc (suc (suc (suc (suc (suc k))))))))) r lt e = absurd (omega arith)
 
-one_seed : (k : ℕ) (r : Rule) → k < 8 → bytes_eq (slice_index_or solver_rules k r).id (codes "seed") ≡ true → k ≡ 2
+one_threads : (k : ℕ) (r : Rule) → k < 9 → bytes_eq (slice_index_or solver_rules k r).id (codes "threads") ≡ true → k ≡ 1
+one_threads zero r lt e = absurd (true≢false (sym e))
+one_threads (suc zero) r lt e = refl
+one_threads (suc (suc zero)) r lt e = absurd (true≢false (sym e))
+one_threads (suc (suc (suc zero))) r lt e = absurd (true≢false (sym e))
+one_threads (suc (suc (suc (suc zero)))) r lt e = absurd (true≢false (sym e))
+one_threads (suc (suc (suc (suc (suc zero))))) r lt e = absurd (true≢false (sym e))
+one_threads (suc (suc (suc (suc (suc (suc zero)))))) r lt e = absurd (true≢false (sym e))
+one_threads (suc (suc (suc (suc (suc (suc (suc zero))))))) r lt e = absurd (true≢false (sym e))
+one_threads (suc (suc (suc (suc (suc (suc (suc (suc zero)))))))) r lt e = absurd (true≢false (sym e))
+one_threads (suc (suc (suc (suc (suc (suc (suc (suc (suc k))))))))) r lt e = absurd (omega arith)
+
+one_words : (k : ℕ) (r : Rule) → k < 9 → bytes_eq (slice_index_or solver_rules k r).id (codes "words") ≡ true → k ≡ 2
+one_words zero r lt e = absurd (true≢false (sym e))
+one_words (suc zero) r lt e = absurd (true≢false (sym e))
+one_words (suc (suc zero)) r lt e = refl
+one_words (suc (suc (suc zero))) r lt e = absurd (true≢false (sym e))
+one_words (suc (suc (suc (suc zero)))) r lt e = absurd (true≢false (sym e))
+one_words (suc (suc (suc (suc (suc zero))))) r lt e = absurd (true≢false (sym e))
+one_words (suc (suc (suc (suc (suc (suc zero)))))) r lt e = absurd (true≢false (sym e))
+one_words (suc (suc (suc (suc (suc (suc (suc zero))))))) r lt e = absurd (true≢false (sym e))
+one_words (suc (suc (suc (suc (suc (suc (suc (suc zero)))))))) r lt e = absurd (true≢false (sym e))
+one_words (suc (suc (suc (suc (suc (suc (suc (suc (suc k))))))))) r lt e = absurd (omega arith)
+
+one_seed : (k : ℕ) (r : Rule) → k < 9 → bytes_eq (slice_index_or solver_rules k r).id (codes "seed") ≡ true → k ≡ 3
 one_seed zero r lt e = absurd (true≢false (sym e))
 one_seed (suc zero) r lt e = absurd (true≢false (sym e))
-one_seed (suc (suc zero)) r lt e = refl
-one_seed (suc (suc (suc zero))) r lt e = absurd (true≢false (sym e))
+one_seed (suc (suc zero)) r lt e = absurd (true≢false (sym e))
+one_seed (suc (suc (suc zero))) r lt e = refl
 one_seed (suc (suc (suc (suc zero)))) r lt e = absurd (true≢false (sym e))
 one_seed (suc (suc (suc (suc (suc zero))))) r lt e = absurd (true≢false (sym e))
 one_seed (suc (suc (suc (suc (suc (suc zero)))))) r lt e = absurd (true≢false (sym e))
 one_seed (suc (suc (suc (suc (suc (suc (suc zero))))))) r lt e = absurd (true≢false (sym e))
-one_seed (suc (suc (suc (suc (suc (suc (suc (suc k)))))))) r lt e = absurd (omega arith)
+one_seed (suc (suc (suc (suc (suc (suc (suc (suc zero)))))))) r lt e = absurd (true≢false (sym e))
+one_seed (suc (suc (suc (suc (suc (suc (suc (suc (suc k))))))))) r lt e = absurd (omega arith)
 
-one_make : (k : ℕ) (r : Rule) → k < 8 → bytes_eq (slice_index_or solver_rules k r).id (codes "make") ≡ true → k ≡ 6
+one_make : (k : ℕ) (r : Rule) → k < 9 → bytes_eq (slice_index_or solver_rules k r).id (codes "make") ≡ true → k ≡ 7
 one_make zero r lt e = absurd (true≢false (sym e))
 one_make (suc zero) r lt e = absurd (true≢false (sym e))
 one_make (suc (suc zero)) r lt e = absurd (true≢false (sym e))
 one_make (suc (suc (suc zero))) r lt e = absurd (true≢false (sym e))
 one_make (suc (suc (suc (suc zero)))) r lt e = absurd (true≢false (sym e))
 one_make (suc (suc (suc (suc (suc zero))))) r lt e = absurd (true≢false (sym e))
-one_make (suc (suc (suc (suc (suc (suc zero)))))) r lt e = refl
-one_make (suc (suc (suc (suc (suc (suc (suc zero))))))) r lt e = absurd (true≢false (sym e))
-one_make (suc (suc (suc (suc (suc (suc (suc (suc k)))))))) r lt e = absurd (omega arith)
+one_make (suc (suc (suc (suc (suc (suc zero)))))) r lt e = absurd (true≢false (sym e))
+one_make (suc (suc (suc (suc (suc (suc (suc zero))))))) r lt e = refl
+one_make (suc (suc (suc (suc (suc (suc (suc (suc zero)))))))) r lt e = absurd (true≢false (sym e))
+one_make (suc (suc (suc (suc (suc (suc (suc (suc (suc k))))))))) r lt e = absurd (omega arith)
 
 first_arg : (xs : List Arg) → 0 < length xs → Arg
 first_arg [] lt = absurd (omega arith)
@@ -123,6 +151,14 @@ long_id id other is apart = apart (ap length is)
 limit_alone : (codes "conflicts" ≡ codes "help") ⊎ (codes "conflicts" ≡ codes "version") → ⊥
 limit_alone (inl h) = long_id (codes "conflicts") (codes "help") h (λ e. absurd (omega (arith, e)))
 limit_alone (inr h) = long_id (codes "conflicts") (codes "version") h (λ e. absurd (omega (arith, e)))
+
+threads_alone : (codes "threads" ≡ codes "help") ⊎ (codes "threads" ≡ codes "version") → ⊥
+threads_alone (inl h) = long_id (codes "threads") (codes "help") h (λ e. absurd (omega (arith, e)))
+threads_alone (inr h) = true≢false (sym (ap (λ (t : List ℕ). bytes_eq t (codes "version")) h))
+
+words_alone : (codes "words" ≡ codes "help") ⊎ (codes "words" ≡ codes "version") → ⊥
+words_alone (inl h) = long_id (codes "words") (codes "help") h (λ e. absurd (omega (arith, e)))
+words_alone (inr h) = long_id (codes "words") (codes "version") h (λ e. absurd (omega (arith, e)))
 
 seed_alone : (codes "seed" ≡ codes "help") ⊎ (codes "seed" ≡ codes "version") → ⊥
 seed_alone (inl h) = true≢false (sym (ap (λ (t : List ℕ). bytes_eq t (codes "help")) h))
@@ -206,9 +242,9 @@ entry_found (x ∷ xs) id (i, lt, at) = go (entry_found xs id) (bytes_eq x.0.now
 
 -- an option of the command that takes a number
 record IsOption (place low high : ℕ) (id : List ℕ) (rule : Rule) : Type 0 where
-  pub within : place < 8
+  pub within : place < 9
   pub at : (d : Rule) → slice_index_or solver_rules place d ≡ rule
-  pub alone : (k : ℕ) (r : Rule) → k < 8 → bytes_eq (slice_index_or solver_rules k r).id id ≡ true → k ≡ place
+  pub alone : (k : ℕ) (r : Rule) → k < 9 → bytes_eq (slice_index_or solver_rules k r).id id ≡ true → k ≡ place
   pub named : id ≡ [] → ⊥
   pub other : (id ≡ codes "help") ⊎ (id ≡ codes "version") → ⊥
   pub id_is : rule.id ≡ id
@@ -220,17 +256,23 @@ record IsOption (place low high : ℕ) (id : List ℕ) (rule : Rule) : Type 0 wh
 limit_option : IsOption 0 1 (10 ^ 12) (codes "conflicts") conflicts_rule
 limit_option = record { within = omega arith; at = λ d. refl; alone = one_limit; named = λ e. cc e; other = limit_alone; id_is = refl; simple = refl; sets = refl; parser = refl; one = refl }
 
-seed_option : IsOption 2 0 (2 ^ 63 - 1) (codes "seed") seed_rule
+threads_option : IsOption 1 1 16 (codes "threads") threads_rule
+threads_option = record { within = omega arith; at = λ d. refl; alone = one_threads; named = λ e. cc e; other = threads_alone; id_is = refl; simple = refl; sets = refl; parser = refl; one = refl }
+
+words_option : IsOption 2 64 (2 ^ 31) (codes "words") words_rule
+words_option = record { within = omega arith; at = λ d. refl; alone = one_words; named = λ e. cc e; other = words_alone; id_is = refl; simple = refl; sets = refl; parser = refl; one = refl }
+
+seed_option : IsOption 3 0 (2 ^ 63 - 1) (codes "seed") seed_rule
 seed_option = record { within = omega arith; at = λ d. refl; alone = one_seed; named = λ e. cc e; other = seed_alone; id_is = refl; simple = refl; sets = refl; parser = refl; one = refl }
 
-make_option : IsOption 6 0 (2 ^ 63 - 1) (codes "make") make_rule
+make_option : IsOption 7 0 (2 ^ 63 - 1) (codes "make") make_rule
 make_option = record { within = omega arith; at = λ d. refl; alone = one_make; named = λ e. cc e; other = make_alone; id_is = refl; simple = refl; sets = refl; parser = refl; one = refl }
 
 module _ (c : ClapCommand) (m : ArgMatches) (app : app_of c ≡ solver_app) (p : IsParsedFrom c m) where
   rules_are : map rule_of (args_of c) ≡ solver_rules
   rules_are = ap (λ (a : App). a.top.rules) app
 
-  long : length (args_of c) ≡ 8
+  long : length (args_of c) ≡ 9
   long = sym (length-map (args_of c) rule_of) ∙ ap length rules_are
 
   rule_at : (k : ℕ) (d : Arg) → k < length (args_of c) → rule_of (slice_index_or (args_of c) k d) ≡ slice_index_or solver_rules k (rule_of d)
@@ -323,10 +365,18 @@ module _ (c : ClapCommand) (m : ArgMatches) (app : app_of c ≡ solver_app) (p :
   pub limit_of : HasLimit m
   limit_of = number_by_default 0 1 (10 ^ 12) (codes "conflicts") conflicts_rule limit_option refl
 
+  -- they have one for `--threads`
+  pub threads_of : HasThreads m
+  threads_of = number_by_default 1 1 16 (codes "threads") threads_rule threads_option refl
+
+  -- they have one for `--words`
+  pub words_of : HasWords m
+  words_of = number_by_default 2 64 (2 ^ 31) (codes "words") words_rule words_option refl
+
   -- they have one for `--seed`
   pub seed_of : HasSeed m
-  seed_of = number_by_default 2 0 (2 ^ 63 - 1) (codes "seed") seed_rule seed_option refl
+  seed_of = number_by_default 3 0 (2 ^ 63 - 1) (codes "seed") seed_rule seed_option refl
 
   -- they have one for `--make`, or none
   pub made_of : HasMade m
-  made_of = number_or_none 6 0 (2 ^ 63 - 1) (codes "make") make_rule make_option
+  made_of = number_or_none 7 0 (2 ^ 63 - 1) (codes "make") make_rule make_option

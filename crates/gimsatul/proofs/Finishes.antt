@@ -1,14 +1,20 @@
 -- How a run over a source ends, from what its parts say.
-use Rattle.std.proofs.Common.{◌≡◌, ◌≢◌, ◌≤◌, ℕ, List, [], ◌∷◌, refl, sym, ap, ◌∙◌, subst, inl, inr, arith, Bool, Some, None, Ok, Err}
-use Rattle.std.specs.Prelude.{Result, slice_set}
+use Rattle.std.proofs.Common.{◌≡◌, ◌≢◌, ◌∙◌, ℕ, List, [], Bool, true, refl, sym, ap, subst, inl, inr, arith, Some, None, Ok, Err}
+use Rattle.std.specs.Prelude.{Result}
 use Rattle.std.specs.declared.option.Option.{Option}
 use Rattle.io_edge.specs.Bytes.{WasFlushed}
-use Rattle.io_edge.specs.Causes.{HasCause}
+use Rattle.io_edge.specs.Causes.{HasCause, Rose}
 use Rattle.io_edge.specs.Paths.{IsEmptyWhereTold}
 use Rattle.sat_words.specs.FormulaData.{FormulaData}
 use Rattle.sat_words.specs.declared.line.Line.{Line}
+use Rattle.sat_words.specs.declared.shared.NoRoom.{NoRoom}
 use Rattle.rup_model.specs.declared.journal.Entry.{Entry}
-use Rattle.rup_model.specs.Journal.{learned}
+use Rattle.ring_run.specs.declared.job.Counts.{Counts}
+use Rattle.portfolio_run.specs.declared.answer.Answer.{Answer}
+use Rattle.portfolio_run.specs.declared.answer.Answer.TheVariants.{Sat, Unsat, NoHole}
+use Rattle.portfolio_run.specs.declared.answer.Answer.TheVariants as answer
+use Rattle.portfolio_run.specs.declared.plan.Plan.{Plan as SearchPlan}
+use Rattle.portfolio_run.specs.Solved.{Concludes, IsSolved, IsClosed, is_verdict}
 use Rattle.gimsatul.specs.declared.plan.Plan.{Plan}
 use Rattle.gimsatul.specs.declared.report.Tally.{Tally}
 use Rattle.gimsatul.specs.declared.report.End.{End}
@@ -21,14 +27,17 @@ use Rattle.dimacs_read.specs.declared.stop.ReadStop.TheVariants as read_stop
 use Rattle.dimacs_read.specs.Answer.{IsAnswer}
 use Rattle.gimsatul.specs.Ends.{end_of, end_of_read}
 use Rattle.gimsatul.specs.Run.{Run, Count, Writer, Output, RoseIn, IsStill}
-use Rattle.gimsatul.specs.Journaled.{IsClosed, HoldsLog}
+use Rattle.gimsatul.specs.Journaled.{HoldsLog}
 use Rattle.gimsatul.specs.Finished.{Finishes}
 use Rattle.gimsatul.specs.Decided.{Decides}
-use Rattle.gimsatul.specs.Searched.{Concludes, IsSearch}
-use Rattle.gimsatul.specs.Tallied.{no_tally, ring_tally, noted}
+use Rattle.gimsatul.specs.Concluded.{IsVerdictOf}
+use Rattle.gimsatul.specs.Occurring.{IsOccurring}
+use Rattle.gimsatul.specs.Tallied.{no_tally, no_lack, zero_tally, rings_tally, counted, noted, AreLearned}
 use Rattle.gimsatul.specs.Input.{WasGiven}
-use Rattle.gimsatul.specs.Outcome.{Outcome, IsUnread, IsStarted, IsAnswered, printed_of}
-use Rattle.gimsatul.proofs.Journals.{closed, closed_log, holds_nothing}
+use Rattle.gimsatul.specs.Outcome.{Outcome, IsRun, IsUnread, IsStarted, IsAnswered, printed_of}
+use Rattle.gimsatul.proofs.Journals.{empty_log}
+use Rattle.gimsatul.proofs.Models.{cleared}
+use Rattle.gimsatul.proofs.Tallies.{each_counted, long_each, sizes, held_each, are_learned, counted_is}
 
 -- a formula for a run that reads none
 abbrev pub no_formula : FormulaData
@@ -39,113 +48,163 @@ pub unread : {T E : Type 0} (plan : Plan) (text : Option (List ℕ)) (source : C
     → f0 ≡ 0 → IsEmptyWhereTold w0 → w1 ≡ w0 → HasCause f0 f1 result → WasFlushed w1 fl0 fl1 result
     → IsUnread no_formula [] (record { plan = plan; text = text; source = source; proof = Some (record { faults = f1; written = w1; flushed = fl1 }); out = out })
 unread plan text source out f0 f1 w0 w1 fl0 fl1 result quiet empty same cause flush =
-    let writer : Writer = record { faults = f1; written = w1; flushed = fl1 } in
+    let none : IsEmptyWhereTold w1 = subst IsEmptyWhereTold (sym same) empty in
+    record { log = empty_log f0 f1 w1 fl0 fl1 result quiet none cause flush; nothing = refl; empty = none }
+
+-- ---- the answer of the rings
+
+-- a verdict that an answer comes to holds, and its proof is whole
+pub decided : (plan : SearchPlan) (F : FormulaData) (J : List Entry) (before faults : ℕ) (a : Answer) (occurring : List Bool) (found : Result Verdict End) (verdict : Verdict)
+    → IsOccurring F.clauses F.vars occurring → IsVerdictOf occurring a found → found ≡ Ok verdict → Concludes plan F J before faults a
+    → (is_verdict a ≡ true) × Decides plan F J verdict
+decided plan F J before faults (Sat model) occurring found verdict occurs is ok c =
+    let same : Satisfiable is.model ≡ verdict = let e : Ok (Satisfiable is.model) ≡ found = sym is.is in cc in
+    (refl, subst (Decides plan F J) same (record { holds = cleared F occurring model is.model c.holds occurs is.both; ruled = c.ruled refl }))
+decided plan F J before faults Unsat occurring found verdict occurs is ok c =
+    let same : Unsatisfiable ≡ verdict = cc in
+    (refl, subst (Decides plan F J) same (record { holds = c.holds; ruled = c.ruled refl }))
+decided plan F J before faults answer.Unknown occurring found verdict occurs is ok c =
+    let same : Unknown ≡ verdict = cc in
+    (refl, subst (Decides plan F J) same (record { holds = c.holds; ruled = c.ruled refl }))
+decided plan F J before faults (NoHole lack) occurring found verdict occurs is ok c = absurd (let no : ⊥ = cc in no)
+decided plan F J before faults answer.ProofFault occurring found verdict occurs is ok c = absurd (let no : ⊥ = cc in no)
+decided plan F J before faults answer.Memory occurring found verdict occurs is ok c = absurd (let no : ⊥ = cc in no)
+
+-- what the proof's writer holds behind an answer
+pub log_of : (plan : SearchPlan) (F : FormulaData) (a : Answer) (counts : List Counts) (faults : ℕ) (written flushed : Option (List ℕ)) (kept : Option (List Line))
+    → (s : IsSolved plan F a counts 0 faults written kept) → IsClosed 0 faults flushed written
+    → HoldsLog F.clauses s.journal (record { faults = faults; written = written; flushed = flushed })
+log_of plan F a counts faults written flushed kept s closed = record {
+  closed = closed;
+  whole = λ none. s.whole (inr (λ (rose : Rose 0 faults). absurd (omega (arith, none, rose))));
+  short = λ some. s.short;
+}
+
+-- the rings were to start
+pub started : (plan : Plan) (text : Option (List ℕ)) (source : Count) (out : Output) (F : FormulaData) (a : Answer) (counts : List Counts) (tally : Tally) (faults : ℕ) (written flushed : Option (List ℕ)) (kept : Option (List Line))
+    → (s : IsSolved plan.search F a counts 0 faults written kept) → IsClosed 0 faults flushed written → WasGiven plan.make text F → IsStill source
+    → tally ≡ rings_tally (each_counted plan.search.threads counts) no_lack
+    → IsStarted no_lack F s.journal tally (record { plan = plan; text = text; source = source; proof = Some (record { faults = faults; written = written; flushed = flushed }); out = out })
+started plan text source out F a counts tally faults written flushed kept s closed given still is =
+    let rings : ℕ = plan.search.threads in
+    let limit : ℕ = plan.search.conflicts in
+    let held = held_each rings limit F.clauses s.journal counts s.held in
+    let long = long_each rings counts (sizes rings limit F.clauses s.journal counts s.held) in
     record {
-      log = subst (λ (n : ℕ). HoldsLog no_formula.clauses [] n writer) quiet
-          (closed_log no_formula.clauses [] f0 w0 writer (λ none. holds_nothing w0 empty) (λ some. absurd (some quiet)) same (closed f0 f1 w1 fl0 fl1 result cause flush));
-      nothing = refl;
-      empty = subst IsEmptyWhereTold (sym same) empty;
+      given = given;
+      source = still;
+      journal_stands = s.stands;
+      ruled = s.ruled;
+      log = log_of plan.search F a counts faults written flushed kept s closed;
+      counts = each_counted rings counts;
+      held = held;
+      tally_is = is;
+      learned = subst (λ (t : Tally). AreLearned rings limit s.journal t.learned) (sym is) (are_learned rings limit F.clauses s.journal (each_counted rings counts) held long);
     }
 
--- the search came to its end, and the proof was flushed
-pub started : (plan : Plan) (text : Option (List ℕ)) (source : Count) (out : Output) (formula : FormulaData) (found : Result Verdict End) (count : ℕ) (tally : Tally) (f0 : ℕ) (w0 : Option (List ℕ)) (writer : Writer) (kept : Option (List Line))
-    → (s : IsSearch plan formula found count f0 w0 kept) → WasGiven plan.make text formula → IsStill source → tally ≡ ring_tally count → writer.written ≡ w0 → IsClosed f0 writer
-    → IsStarted f0 formula s.journal tally (record { plan = plan; text = text; source = source; proof = Some writer; out = out })
-started plan text source out formula found count tally f0 w0 writer kept s given still counts same close = record {
-  given = given;
-  source = still;
-  journal_stands = s.stands;
+-- with what there was no room for
+with_lack : (lack : NoRoom) (F : FormulaData) (J : List Entry) (tally : Tally) (run : Run) → IsStarted no_lack F J tally run → IsStarted lack F J (noted (Room lack) tally) run
+with_lack lack F J tally run s = record {
+  given = s.given;
+  source = s.source;
+  journal_stands = s.journal_stands;
   ruled = s.ruled;
-  log = closed_log formula.clauses s.journal f0 w0 writer s.whole s.short same close;
-  within = subst (λ (n : ℕ). n ≤ plan.limit) s.counts s.within;
-  counts = counts ∙ ap ring_tally s.counts;
+  log = s.log;
+  counts = s.counts;
+  held = s.held;
+  tally_is = ap (noted (Room lack)) s.tally_is;
+  learned = s.learned;
 }
+
+-- the rings came to no verdict
+pub stopped : (end : End) (plan : Plan) (text : Option (List ℕ)) (source : Count) (out : Output) (F : FormulaData) (J : List Entry) (a : Answer) (occurring : List Bool) (found : Result Verdict End) (before tally : Tally) (writer : Writer)
+    → IsVerdictOf occurring a found → found ≡ Err end → Concludes plan.search F J 0 writer.faults a → tally ≡ noted end before → IsStill out.faults
+    → IsStarted no_lack F J before (record { plan = plan; text = text; source = source; proof = Some writer; out = out })
+    → Outcome end F J tally (record { plan = plan; text = text; source = source; proof = Some writer; out = out })
+stopped end plan text source out F J a occurring found before tally writer is err c counts still s = by a is c
+  where
+    run : Run
+    run = record { plan = plan; text = text; source = source; proof = Some writer; out = out }
+
+    as_end : (e : End) → e ≡ end → Outcome e F J (noted e before) run → Outcome end F J tally run
+    as_end e same o = subst (λ (t : Tally). Outcome end F J t run) (sym counts) (subst (λ (x : End). Outcome x F J (noted x before) run) same o)
+
+    by : (b : Answer) → IsVerdictOf occurring b found → Concludes plan.search F J 0 writer.faults b → Outcome end F J tally run
+    by (Sat model) i d = absurd (let e = i.is in let no : ⊥ = cc in no)
+    by Unsat i d = absurd (let no : ⊥ = cc in no)
+    by answer.Unknown i d = absurd (let no : ⊥ = cc in no)
+    by (NoHole lack) i d = as_end (Room lack) (let e : Room lack ≡ end = cc in e) (record { started = with_lack lack F J before run s; short = d.holds.0; unsettled = d.holds.1 })
+    by answer.ProofFault i d = as_end ProofFault (let e : ProofFault ≡ end = cc in e) (record { started = s; rose = d.rose refl })
+    by answer.Memory i d = as_end Memory (let e : Memory ≡ end = cc in e) (inr (inl (record { started = s; unsettled = d.holds; out = still })))
+
+-- ---- the verdict printed
 
 answered_end : (verdict : Verdict) (F : FormulaData) (J : List Entry) (tally : Tally) (run : Run) → IsAnswered verdict F J tally run → Outcome (end_of verdict) F J tally run
 answered_end (Satisfiable model) F J tally run a = a
 answered_end Unsatisfiable F J tally run a = a
 answered_end Unknown F J tally run a = a
 
--- the tally once the lemmas are counted
-pub counted : (t : Tally) (learned : List ℕ) (n : ℕ) → t ≡ ring_tally 0 → learned ≡ slice_set t.learned 0 n → record t { learned = learned } ≡ ring_tally n
-counted t learned n start set =
-    let one : learned ≡ n ∷ [] = set ∙ ap (λ (u : Tally). slice_set u.learned 0 n) start in
-    λ i. record (start i) { learned = one i }
-
-stop_cases : (end : End) (plan : Plan) (F : FormulaData) (J : List Entry) (before tally : Tally) (text : Option (List ℕ)) (source : Count) (out : Output) (f0 : ℕ) (writer : Writer)
-    → Concludes plan F J f0 (Err end) → f0 ≤ writer.faults → tally ≡ noted end before → IsStill out.faults
-    → IsStarted f0 F J before (record { plan = plan; text = text; source = source; proof = Some writer; out = out })
-    → Outcome end F J tally (record { plan = plan; text = text; source = source; proof = Some writer; out = out })
-stop_cases ProofFault plan F J before tally text source out f0 writer rose later counts still s =
-    let run : Run = record { plan = plan; text = text; source = source; proof = Some writer; out = out } in
-    record { before = f0; started = subst (λ (t : Tally). IsStarted f0 F J t run) (sym counts) s; decided = λ none. absurd (omega (arith, none, rose)); rose = omega (arith, rose, later) }
-stop_cases (Room lack) plan F J before tally text source out f0 writer why later counts still s = record {
-  given = s.given;
-  source = s.source;
-  journal_stands = s.journal_stands;
-  ruled = s.ruled;
-  log = subst (λ (n : ℕ). HoldsLog F.clauses J n writer) why.0 s.log;
-  fewer = why.1;
-  unrefuted = why.3;
-  counts = counts ∙ ap (noted (Room lack)) s.counts;
-  full = why.2;
-}
-stop_cases Memory plan F J before tally text source out f0 writer why later counts still s =
-    let run : Run = record { plan = plan; text = text; source = source; proof = Some writer; out = out } in
-    inr (inl (record { started = subst (λ (n : ℕ). IsStarted n F J tally run) why.0 (subst (λ (t : Tally). IsStarted f0 F J t run) (sym counts) s); fewer = why.1; unrefuted = why.2; out = still }))
-stop_cases _ plan F J before tally text source out f0 writer why later counts still s = absurd why
-
--- the search stopped without a verdict
-pub stopped : (end : End) (plan : Plan) (found : Result Verdict End) (F : FormulaData) (J : List Entry) (before tally : Tally) (text : Option (List ℕ)) (source : Count) (out : Output) (f0 : ℕ) (writer : Writer)
-    → found ≡ Err end
-    → Concludes plan F J f0 found → f0 ≤ writer.faults → tally ≡ noted end before → IsStill out.faults
-    → IsStarted f0 F J before (record { plan = plan; text = text; source = source; proof = Some writer; out = out })
-    → Outcome end F J tally (record { plan = plan; text = text; source = source; proof = Some writer; out = out })
-stopped end plan found F J before tally text source out f0 writer err why later counts still s =
-    stop_cases end plan F J before tally text source out f0 writer (subst (λ (r : Result Verdict End). Concludes plan F J f0 r) err why) later counts still s
-
--- the search found a verdict, and met no fault
-pub concluded : (verdict : Verdict) (plan : Plan) (found : Result Verdict End) (F : FormulaData) (J : List Entry) (f0 : ℕ) → found ≡ Ok verdict → Concludes plan F J f0 found → (f0 ≡ 0) × Decides plan F J verdict
-concluded verdict plan found F J f0 is why = subst (λ (r : Result Verdict End). Concludes plan F J f0 r) is why
-
--- a verdict that was reached has closed the proof
-pub finish_closes : (text : List ℕ) (checked : Bool) (verdict : Verdict) (told : End) (before : ℕ) (writer : Writer) (out : Output) → Finishes text checked verdict told before writer out → IsClosed before writer
-finish_closes text checked verdict told before writer out (inl h) = inl (h.proof.quiet, h.proof.flushed)
-finish_closes text checked verdict told before writer out (inr (inl h)) = inl (h.proof.quiet, h.proof.flushed)
-finish_closes text checked verdict told before writer out (inr (inr (inl h))) = inr h.rose
-finish_closes text checked verdict told before writer out (inr (inr (inr h))) = inl (h.proof.quiet, h.proof.flushed)
-
-finish_cases : (verdict : Verdict) (told : End) (plan : Plan) (F : FormulaData) (J : List Entry) (tally : Tally) (text : Option (List ℕ)) (source : Count) (out : Output) (writer : Writer)
-    → Decides plan F J verdict → Finishes (printed_of plan F verdict) plan.check verdict told 0 writer out
-    → IsStarted 0 F J tally (record { plan = plan; text = text; source = source; proof = Some writer; out = out })
+-- a verdict was reached, and the proof didn't fail
+pub finished : (verdict : Verdict) (told : End) (plan : Plan) (F : FormulaData) (J : List Entry) (tally : Tally) (text : Option (List ℕ)) (source : Count) (out : Output) (writer : Writer)
+    → writer.faults ≡ 0 → Decides plan.search F J verdict → Finishes (printed_of plan F verdict) plan.search.keep_lines verdict told out
+    → IsStarted no_lack F J tally (record { plan = plan; text = text; source = source; proof = Some writer; out = out })
     → Outcome told F J tally (record { plan = plan; text = text; source = source; proof = Some writer; out = out })
-finish_cases verdict told plan F J tally text source out writer decided (inl h) s =
+finished verdict told plan F J tally text source out writer none decided (inl h) s =
     let run : Run = record { plan = plan; text = text; source = source; proof = Some writer; out = out } in
     subst (λ (e : End). Outcome e F J tally run) (sym h.is)
-    (answered_end verdict F J tally run (record { started = s; decided = decided; printed = h.printed; quiet = record { proof = h.proof.quiet; out = h.out } }))
-finish_cases verdict told plan F J tally text source out writer decided (inr (inl h)) s =
+    (answered_end verdict F J tally run (record { started = s; decided = decided; printed = h.printed; quiet = record { proof = none; out = h.out } }))
+finished verdict told plan F J tally text source out writer none decided (inr (inl h)) s =
     let run : Run = record { plan = plan; text = text; source = source; proof = Some writer; out = out } in
     subst (λ (e : End). Outcome e F J tally run) (sym h.is)
-    (record { started = s; verdict = verdict; decided = decided; proof = h.proof.quiet; printed = h.printed; rose = h.rose })
-finish_cases verdict told plan F J tally text source out writer decided (inr (inr (inl h))) s =
+    (record { started = s; verdict = verdict; decided = decided; proof = none; printed = h.printed; rose = h.rose })
+finished verdict told plan F J tally text source out writer none decided (inr (inr h)) s =
     let run : Run = record { plan = plan; text = text; source = source; proof = Some writer; out = out } in
     subst (λ (e : End). Outcome e F J tally run) (sym h.is)
-    (record { before = 0; started = s; decided = λ none. record { verdict = verdict; decides = decided }; rose = h.rose })
-finish_cases verdict told plan F J tally text source out writer decided (inr (inr (inr h))) s =
-    let run : Run = record { plan = plan; text = text; source = source; proof = Some writer; out = out } in
-    subst (λ (e : End). Outcome e F J tally run) (sym h.is)
-    (inr (inr (record { asked = h.asked; started = s; decided = record { verdict = verdict; decides = decided }; quiet = record { proof = h.proof.quiet; out = h.out } })))
+    (inr (inr (record { asked = h.asked; started = s; decided = record { verdict = verdict; decides = decided }; quiet = record { proof = none; out = h.out } })))
+
+-- ---- the whole search
+
+-- the tally behind an answer
+told : (plan : SearchPlan) (F : FormulaData) (a : Answer) (counts : List Counts) (faults : ℕ) (written : Option (List ℕ)) (kept : Option (List Line)) (before after : Tally)
+    → IsSolved plan F a counts 0 faults written kept → before ≡ zero_tally plan.threads → after ≡ counted counts before → after ≡ rings_tally (each_counted plan.threads counts) no_lack
+told plan F a counts faults written kept before after s zeros is = is ∙ ap (counted counts) zeros ∙ counted_is plan.threads counts (sizes plan.threads plan.conflicts F.clauses s.journal counts s.held)
 
 -- a verdict was reached
-pub finished : (verdict : Verdict) (told : End) (plan : Plan) (F : FormulaData) (J : List Entry) (tally : Tally) (text : Option (List ℕ)) (source : Count) (out : Output) (f0 : ℕ) (writer : Writer)
-    → f0 ≡ 0 → Decides plan F J verdict → Finishes (printed_of plan F verdict) plan.check verdict told f0 writer out
-    → IsStarted f0 F J tally (record { plan = plan; text = text; source = source; proof = Some writer; out = out })
-    → Outcome told F J tally (record { plan = plan; text = text; source = source; proof = Some writer; out = out })
-finished verdict told plan F J tally text source out f0 writer none decided ends s =
-    let run : Run = record { plan = plan; text = text; source = source; proof = Some writer; out = out } in
-    finish_cases verdict told plan F J tally text source out writer decided
-    (subst (λ (n : ℕ). Finishes (printed_of plan F verdict) plan.check verdict told n writer out) none ends)
-    (subst (λ (n : ℕ). IsStarted n F J tally run) none s)
+pub verdict_run : (plan : Plan) (text : Option (List ℕ)) (source : Count) (out : Output) (F : FormulaData) (a : Answer) (counts : List Counts) (f0 faults : ℕ) (written flushed : Option (List ℕ)) (kept : Option (List Line)) (before tally : Tally) (occurring : List Bool) (found : Result Verdict End) (verdict : Verdict) (end : End)
+    → f0 ≡ 0 → IsSolved plan.search F a counts f0 faults written kept → IsClosed f0 faults flushed written
+    → before ≡ zero_tally plan.search.threads → tally ≡ counted counts before
+    → IsOccurring F.clauses F.vars occurring → IsVerdictOf occurring a found → found ≡ Ok verdict → Finishes (printed_of plan F verdict) plan.search.keep_lines verdict end out
+    → WasGiven plan.make text F → IsStill source
+    → IsRun end tally (record { plan = plan; text = text; source = source; proof = Some (record { faults = faults; written = written; flushed = flushed }); out = out })
+verdict_run plan text source out F a counts f0 faults written flushed kept before tally occurring found verdict end none solved closed zeros is occurs of_answer ok finishes given still =
+    let s : IsSolved plan.search F a counts 0 faults written kept = subst (λ (n : ℕ). IsSolved plan.search F a counts n faults written kept) none solved in
+    let shut : IsClosed 0 faults flushed written = subst (λ (n : ℕ). IsClosed n faults flushed written) none closed in
+    let holds = decided plan.search F s.journal 0 faults a occurring found verdict occurs of_answer ok s.concludes in
+    record {
+      formula = F;
+      journal = s.journal;
+      outcome = finished verdict end plan F s.journal tally text source out (record { faults = faults; written = written; flushed = flushed }) (s.concludes.quiet holds.0) holds.1 finishes
+          (started plan text source out F a counts tally faults written flushed kept s shut given still (told plan.search F a counts faults written kept before tally s zeros is));
+    }
+
+-- none was
+pub stopped_run : (plan : Plan) (text : Option (List ℕ)) (source : Count) (out : Output) (F : FormulaData) (a : Answer) (counts : List Counts) (f0 faults : ℕ) (written flushed : Option (List ℕ)) (kept : Option (List Line)) (before between tally : Tally) (occurring : List Bool) (found : Result Verdict End) (end : End)
+    → f0 ≡ 0 → IsSolved plan.search F a counts f0 faults written kept → IsClosed f0 faults flushed written
+    → before ≡ zero_tally plan.search.threads → between ≡ counted counts before → tally ≡ noted end between
+    → IsVerdictOf occurring a found → found ≡ Err end → IsStill out.faults
+    → WasGiven plan.make text F → IsStill source
+    → IsRun end tally (record { plan = plan; text = text; source = source; proof = Some (record { faults = faults; written = written; flushed = flushed }); out = out })
+stopped_run plan text source out F a counts f0 faults written flushed kept before between tally occurring found end none solved closed zeros is noted_is of_answer err same given still =
+    let s : IsSolved plan.search F a counts 0 faults written kept = subst (λ (n : ℕ). IsSolved plan.search F a counts n faults written kept) none solved in
+    let shut : IsClosed 0 faults flushed written = subst (λ (n : ℕ). IsClosed n faults flushed written) none closed in
+    record {
+      formula = F;
+      journal = s.journal;
+      outcome = stopped end plan text source out F s.journal a occurring found between tally (record { faults = faults; written = written; flushed = flushed }) of_answer err s.concludes noted_is same
+          (started plan text source out F a counts between faults written flushed kept s shut given still (told plan.search F a counts faults written kept before between s zeros is));
+    }
+
+-- ---- nothing read
 
 read_cases : (stop : ReadStop) (tally : Tally) (rest : Option (List ℕ)) (run : Run)
     → run.plan.make ≡ None → IsAnswer run.text rest (Err stop)

@@ -1,39 +1,59 @@
--- The journal with no entry, and what a flush makes of a writer that holds a journal.
-use Rattle.std.proofs.Common.{◌≡◌, ℕ, List, [], sym, subst, inl, inr, arith, Some, None, Ok, Err}
-use Rattle.std.specs.Prelude.{Result}
+-- The journal with no entry, and what a writer holds of it.
+use Rattle.std.proofs.Common.{◌≡◌, ◌<◌, ◌^◌, ℕ, zero, suc, List, [], ◌∷◌, true, false, refl, subst, inl, inr, arith, Some, None, Ok, Err}
+use Rattle.std.specs.Prelude.{Result, slice_index_or}
 use Rattle.std.specs.declared.option.Option.{Option}
 use Rattle.io_edge.specs.Bytes.{WasFlushed}
-use Rattle.io_edge.specs.Causes.{HasCause}
+use Rattle.io_edge.specs.Causes.{HasCause, Rose}
 use Rattle.io_edge.specs.Paths.{IsEmptyWhereTold}
-use Rattle.sat_words.specs.Literal.{Literal}
-use Rattle.rup_model.specs.Journal.{lines}
-use Rattle.rup_model.specs.declared.journal.Entry.{Entry}
-use Rattle.drat_text.specs.Text.{text}
-use Rattle.gimsatul.specs.Run.{Writer}
-use Rattle.gimsatul.specs.Journaled.{IsJournal, HoldsText, IsCutShort, IsClosed, HoldsLog}
+use Rattle.sat_words.specs.Literal.{Literal, IsOn}
+use Rattle.sat_words.specs.declared.line.Line.TheVariants.{Add}
+use Rattle.rup_model.specs.Log.{is_valid}
+use Rattle.rup_model.specs.Rup.{rup}
+use Rattle.drat_text.specs.Text.{CanBeSpelled}
+use Rattle.log_book.specs.Kept.{HoldsText}
+use Rattle.portfolio_run.specs.Journaled.{IsJournal, IsCutShort}
+use Rattle.portfolio_run.specs.Solved.{IsClosed}
+use Rattle.gimsatul.specs.Journaled.{HoldsLog}
 
-pub empty_journal : (clauses : List (List Literal)) → IsJournal 1 clauses []
-empty_journal clauses = record { fits = tt; accepted = tt; last = tt; spelled = λ k x lt. absurd (omega arith); spaced = tt; of_rings = λ k x lt. absurd (omega arith); plain = λ k x lt. absurd (omega arith); each_new = tt }
-
--- a flush closes a writer
-pub closed : {T E : Type 0} (f0 f1 : ℕ) (w fl0 fl1 : Option (List ℕ)) (result : Result T E) → HasCause f0 f1 result → WasFlushed w fl0 fl1 result → IsClosed f0 (record { faults = f1; written = w; flushed = fl1 })
-closed f0 f1 w fl0 fl1 (Ok x) cause flush = inl (cause.quiet, flush)
-closed f0 f1 w fl0 fl1 (Err x) cause flush = inr cause.failed
-
--- what a writer holds, once it is closed
-pub closed_log : (F : List (List Literal)) (J : List Entry) (before : ℕ) (written : Option (List ℕ)) (writer : Writer)
-    → (before ≡ 0 → HoldsText written (text (lines F J)))
-    → ((before ≡ 0 → ⊥) → IsCutShort F J written)
-    → writer.written ≡ written
-    → IsClosed before writer
-    → HoldsLog F J before writer
-closed_log F J before written writer whole short same close = record {
-  closed = close;
-  whole = λ none. subst (λ (w : Option (List ℕ)). HoldsText w (text (lines F J))) (sym same) (whole none);
-  short = λ some. subst (λ (w : Option (List ℕ)). IsCutShort F J w) (sym same) (short some);
-}
+pub empty_journal : (rings : ℕ) (clauses : List (List Literal)) → IsJournal rings clauses []
+empty_journal rings clauses = record { fits = tt; accepted = tt; last = tt; spelled = λ k x lt. absurd (omega arith); spaced = tt; of_rings = λ k x lt. absurd (omega arith); plain = λ k x lt. absurd (omega arith); each_new = tt }
 
 -- where a writer that tells its bytes has none, it holds the text of no line
 pub holds_nothing : (written : Option (List ℕ)) → IsEmptyWhereTold written → HoldsText written []
 holds_nothing None h = tt
 holds_nothing (Some bytes) h = h
+
+-- a line that may stand anywhere
+abbrev any_lits : List Literal
+any_lits = record { var = 1; neg = false } ∷ record { var = 1; neg = true } ∷ []
+
+any_valid : is_valid [] (Add any_lits) ≡ true
+unfolding rup
+any_valid = refl
+
+any_on : (k : ℕ) (l : Literal) → k < 2 → IsOn (2 ^ 30) (slice_index_or any_lits k l)
+any_on zero l lt = record { low = omega arith; high = omega arith }
+any_on (suc zero) l lt = record { low = omega arith; high = omega arith }
+any_on (suc (suc k)) l lt = absurd (omega arith)
+
+any_spelled : CanBeSpelled (Add any_lits ∷ [])
+any_spelled zero x lt = any_on
+any_spelled (suc k) x lt = absurd (omega arith)
+
+-- no line, and nothing of one more
+cut_nothing : (written : Option (List ℕ)) → IsEmptyWhereTold written → IsCutShort [] [] written
+cut_nothing written h = record { front = []; rest = []; front_of = refl; line = Add any_lits; cut = 0; accepted = (any_valid, tt); spelled = any_spelled; bytes = holds_nothing written h }
+
+-- a flush closes a writer
+pub closed : {T E : Type 0} (f0 f1 : ℕ) (w fl0 fl1 : Option (List ℕ)) (result : Result T E) → f0 ≡ 0 → HasCause f0 f1 result → WasFlushed w fl0 fl1 result → IsClosed 0 f1 fl1 w
+closed f0 f1 w fl0 fl1 (Ok x) quiet cause flush = inl flush
+closed f0 f1 w fl0 fl1 (Err x) quiet cause flush = inr (subst (λ (n : ℕ). Rose n f1) quiet cause.failed)
+
+-- a writer with no byte that was flushed holds the journal of no entry
+pub empty_log : {T E : Type 0} (f0 f1 : ℕ) (w fl0 fl1 : Option (List ℕ)) (result : Result T E) → f0 ≡ 0 → IsEmptyWhereTold w → HasCause f0 f1 result → WasFlushed w fl0 fl1 result
+    → HoldsLog [] [] (record { faults = f1; written = w; flushed = fl1 })
+empty_log f0 f1 w fl0 fl1 result quiet empty cause flush = record {
+  closed = closed f0 f1 w fl0 fl1 result quiet cause flush;
+  whole = λ none. holds_nothing w empty;
+  short = λ some. cut_nothing w empty;
+}

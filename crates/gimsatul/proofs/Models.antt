@@ -5,10 +5,11 @@ use Rattle.std.proofs.Math.ListN.{set}
 use Rattle.std.proofs.lemmas.Bool.{cases_Bool, cases_lt}
 use Rattle.std.proofs.lemmas.List.{take_more, get_or-set_same, get_or-set_other}
 use Rattle.sat_words.specs.Literal.{Literal}
-use Rattle.sat_words.specs.Truth.{value_of, lit_true, clause_true, formula_true}
+use Rattle.sat_words.specs.Truth.{value_of, lit_true, clause_true}
 use Rattle.sat_words.specs.FormulaData.{FormulaData}
 use Rattle.rup_model.proofs.Lists.{any_In, In_any, all_In, In_all}
-use Rattle.gimsatul.specs.Decided.{mentions, IsModel}
+use Rattle.portfolio_run.specs.Solved.{IsModel}
+use Rattle.gimsatul.specs.Decided.{mentions, IsClearedModel}
 use Rattle.gimsatul.specs.Occurring.{Marks, IsOccurring, IsBoth}
 
 any-append : {X : Type 0} (p : X → Bool) (xs ys : List X) → list_any p (xs ++ ys) ≡ list_any p xs || list_any p ys
@@ -158,13 +159,15 @@ same_truth a m l e t = by l.neg (value_of a l.var) (value_of m l.var) e t
     by n x y e t = subst (λ (z : Bool). cond n (not z) z ≡ true) (sym e) t
 
 -- a model is one also without values for variables that don't occur
-pub cleared : (formula : FormulaData) (occurring a m : List Bool) → formula_true a formula.clauses ≡ true → IsOccurring formula.clauses formula.vars occurring → IsBoth occurring a m → IsModel formula m
-cleared formula occurring a m t o w = record {
-  holds = In_all (clause_true m) formula.clauses (λ c i.
-      (let h = In_any (lit_true a) c (all_In (clause_true a) formula.clauses c t i) in
-      let mentioned = any_In (λ (k : Literal). k.var == h.0.var) c h.0 h.1 (eq-eqb h.0.var h.0.var refl) in
-      let there = any_In (λ (d : List Literal). mentions d h.0.var) formula.clauses c i mentioned in
-      any_In (lit_true m) c h.0 h.1 (same_truth a m h.0 (w.value h.0.var ∙ ap (λ (b : Bool). b && value_of a h.0.var) (o.value h.0.var ∙ there)) h.2)));
-  long = w.long ∙ o.long;
+pub cleared : (formula : FormulaData) (occurring a m : List Bool) → IsModel formula a → IsOccurring formula.clauses formula.vars occurring → IsBoth occurring a m → IsClearedModel formula m
+cleared formula occurring a m model o w = record {
+  is_model = record {
+    holds = In_all (clause_true m) formula.clauses (λ c i.
+        (let h = In_any (lit_true a) c (all_In (clause_true a) formula.clauses c model.holds i) in
+        let mentioned = any_In (λ (k : Literal). k.var == h.0.var) c h.0 h.1 (eq-eqb h.0.var h.0.var refl) in
+        let there = any_In (λ (d : List Literal). mentions d h.0.var) formula.clauses c i mentioned in
+        any_In (lit_true m) c h.0 h.1 (same_truth a m h.0 (w.value h.0.var ∙ ap (λ (b : Bool). b && value_of a h.0.var) (o.value h.0.var ∙ there)) h.2)));
+    long = w.long ∙ o.long;
+  };
   idle = λ v none. w.value v ∙ ap (λ (b : Bool). b && value_of a v) (o.value v ∙ none);
 }

@@ -1,12 +1,15 @@
 -- From the case of a call's end to what its status says.
-use Rattle.std.proofs.Common.{◌≡◌, ◌≢◌, ◌⊎◌, ℕ, List, Bool, Some, None, refl, sym, ◌∙◌, inl, inr, subst, ⊎_elim, arith, rules, ap}
+use Rattle.std.proofs.Common.{◌≡◌, ◌≢◌, ◌⊎◌, ℕ, List, [], Bool, Some, None, refl, sym, ◌∙◌, inl, inr, subst, ⊎_elim, arith, rules, ap}
 use Rattle.std.specs.Prelude.{IfSome, IsSome, IsSomeAnd}
 use Rattle.std.specs.declared.option.Option.{Option}
 use Rattle.sat_words.specs.FormulaData.{FormulaData}
 use Rattle.sat_words.specs.declared.shared.NoRoom.{NoRoom}
 use Rattle.rup_model.specs.declared.journal.Entry.{Entry}
 use Rattle.io_edge.specs.Causes.{Rose}
+use Rattle.portfolio_run.specs.Journaled.{IsJournal}
+use Rattle.rup_model.specs.Spent.{rings_part}
 use Rattle.dimacs_read.specs.Input.{Reads, Bad}
+use Rattle.dimacs_read.specs.Codes.{number_of}
 use Rattle.dimacs_read.specs.declared.stop.Code.{Code}
 use Rattle.gimsatul.specs.declared.report.Tally.{Tally}
 use Rattle.gimsatul.specs.declared.report.End.{End}
@@ -17,11 +20,13 @@ use Rattle.gimsatul.specs.Words.{Command, command_of, file_path, make_number, pr
 use Rattle.gimsatul.specs.Planned.{plan_of}
 use Rattle.gimsatul.specs.Input.{WasBad, WasGiven}
 use Rattle.gimsatul.specs.Run.{Call, Count, Writer, RoseIn, IsStill, run_of, source_of, source_in, text_of}
-use Rattle.gimsatul.specs.Journaled.{IsJournal, HoldsLog}
+use Rattle.gimsatul.specs.Journaled.{HoldsLog}
 use Rattle.gimsatul.specs.Outcome.{CallOutcome, IsCall, IsWhole, IsUnread, IsRefused, IsAnswered, IsBroken, IsStarted, IsCutOff, IsUnproved, IsCrowded, IsStarved, IsUnchecked, IsBarren, IsIdle}
 use Rattle.gimsatul.specs.Ends.{status_of, model_of}
-use Rattle.gimsatul.specs.Statuses.{Answers, HasModel, IsUnasked, HasBadPlace, HasJournal, IsReadable, MustAnswer, MadeAll, RanOut, IsUnopened, IsUncreated, IsAnswer, Statuses}
+use Rattle.gimsatul.specs.Tallied.{no_tally, bad_tally}
+use Rattle.gimsatul.specs.Statuses.{search_in, Answers, HasModel, IsExhausted, IsUnasked, HasBadPlace, HasJournal, IsCounted, IsReadable, MustAnswer, MadeAll, RanOut, IsUnopened, IsUncreated, IsAnswer, Statuses}
 use Rattle.gimsatul.proofs.Journals.{empty_journal}
+use Rattle.gimsatul.proofs.Tallies.{all_learned}
 
 -- a writer that must be there is there
 there : (P : Writer → Type 0) (proof : Option Writer) → IsSomeAnd proof P → IsSome proof
@@ -86,8 +91,11 @@ module _ (F : FormulaData) (J : List Entry) (tally : Tally) (call : Call) where
   unsatisfiable Unsatisfiable o e = answers verdict.Unsatisfiable o.files o.input o.outcome
   unsatisfiable _ o e = absurd (omega arith)
 
-  unknown : (end : End) → CallOutcome end F J tally call → status_of end ≡ 0 → Answers verdict.Unknown F J tally call
-  unknown Unknown o e = answers verdict.Unknown o.files o.input o.outcome
+  unknown : (end : End) → CallOutcome end F J tally call → status_of end ≡ 0 → IsExhausted F J tally call
+  unknown Unknown o e = record {
+    answers = answers verdict.Unknown o.files o.input o.outcome;
+    learned = all_learned (search_in call).threads (search_in call).conflicts F.clauses J tally.learned o.outcome.started.learned o.outcome.decided.holds;
+  }
   unknown _ o e = absurd (omega arith)
 
   usage : (end : End) → CallOutcome end F J tally call → status_of end ≡ 1 → IsUnasked J tally call
@@ -132,7 +140,7 @@ module _ (F : FormulaData) (J : List Entry) (tally : Tally) (call : Call) where
 
   no_room : (lack : NoRoom) → IsCrowded lack F J tally (run_of call) → IsCrowded (record { need = tally.need; largest = tally.largest }) F J tally (run_of call)
   no_room lack c =
-      let same : lack ≡ record { need = tally.need; largest = tally.largest } = λ i. record { need = sym (ap (λ (t : Tally). t.need) c.counts) i; largest = sym (ap (λ (t : Tally). t.largest) c.counts) i } in
+      let same : lack ≡ record { need = tally.need; largest = tally.largest } = λ i. record { need = sym (ap (λ (t : Tally). t.need) c.started.tally_is) i; largest = sym (ap (λ (t : Tally). t.largest) c.started.tally_is) i } in
       subst (λ (l : NoRoom). IsCrowded l F J tally (run_of call)) same c
 
   room : (end : End) → CallOutcome end F J tally call → status_of end ≡ 8 → IsCrowded (record { need = tally.need; largest = tally.largest }) F J tally (run_of call)
@@ -140,10 +148,10 @@ module _ (F : FormulaData) (J : List Entry) (tally : Tally) (call : Call) where
   room _ o e = absurd (omega arith)
 
   made_broken : IsBroken F J tally (run_of call) → IsSome call.proof
-  made_broken b = there (HoldsLog F.clauses J 0) call.proof b.unread.log
+  made_broken b = there (HoldsLog F.clauses J) call.proof b.unread.log
 
-  made_started : {before : ℕ} → IsStarted before F J tally (run_of call) → IsSome call.proof
-  made_started {before} s = there (HoldsLog F.clauses J before) call.proof s.log
+  made_started : {lack : NoRoom} → IsStarted lack F J tally (run_of call) → IsSome call.proof
+  made_started s = there (HoldsLog F.clauses J) call.proof s.log
 
   -- all that the words ask for was made
   made_all : (end : End) → IsWhole end F J tally call → IsSome call.proof → MadeAll call
@@ -214,29 +222,29 @@ module _ (F : FormulaData) (J : List Entry) (tally : Tally) (call : Call) where
   made Unsatisfiable o a b c d = made_all Unsatisfiable o (made_started o.outcome.started)
   made Unknown o a b c d = made_all Unknown o (made_started o.outcome.started)
   made Usage o a b c d = absurd (a refl)
-  made (BadInput code line) o a b c d = made_all (BadInput code line) o (there (HoldsLog F.clauses J 0) call.proof o.outcome.unread.log)
+  made (BadInput code line) o a b c d = made_all (BadInput code line) o (there (HoldsLog F.clauses J) call.proof o.outcome.unread.log)
   made CannotOpen o a b c d = absurd (b refl)
   made CannotCreate o a b c d = absurd (c refl)
   made ReadFault o a b c d = made_all ReadFault o (made_broken o.outcome.2)
   made WriteFault o a b c d = made_all WriteFault o (made_started o.outcome.started)
   made ProofFault o a b c d = made_all ProofFault o (made_started o.outcome.started)
-  made (Room lack) o a b c d = made_all (Room lack) o (there (HoldsLog F.clauses J 0) call.proof o.outcome.log)
+  made (Room lack) o a b c d = made_all (Room lack) o (made_started o.outcome.started)
   made Memory o a b c d = absurd (d refl)
 
   given : WasGiven (run_of call).plan.make (text_of call) F → WasGiven (make_number (command_of call.words)) (text_of call) F
   given = subst (λ (m : Option ℕ). WasGiven m (text_of call) F) (planned (command_of call.words))
 
-  started : {before : ℕ} → IsStarted before F J tally (run_of call) → HasJournal F J call
-  started {before} s = record { stands = s.journal_stands; of_input = inr (given s.given); before = before; held = if_there (HoldsLog F.clauses J before) call.proof s.log }
+  started : {lack : NoRoom} → IsStarted lack F J tally (run_of call) → HasJournal F J call
+  started s = record { stands = s.journal_stands; of_input = inr (given s.given); log = if_there (HoldsLog F.clauses J) call.proof s.log }
 
-  crowded : {lack : NoRoom} → IsCrowded lack F J tally (run_of call) → HasJournal F J call
-  crowded c = record { stands = c.journal_stands; of_input = inr (given c.given); before = 0; held = if_there (HoldsLog F.clauses J 0) call.proof c.log }
+  nothing_stands : J ≡ [] → IsJournal (search_in call).threads F.clauses J
+  nothing_stands none = subst (IsJournal (search_in call).threads F.clauses) (sym none) (empty_journal (search_in call).threads F.clauses)
 
   unread : IsUnread F J (run_of call) → HasJournal F J call
-  unread u = record { stands = subst (IsJournal 1 F.clauses) (sym u.nothing) (empty_journal F.clauses); of_input = inl u.nothing; before = 0; held = if_there (HoldsLog F.clauses J 0) call.proof u.log }
+  unread u = record { stands = nothing_stands u.nothing; of_input = inl u.nothing; log = if_there (HoldsLog F.clauses J) call.proof u.log }
 
   barren : IsBarren J tally call → HasJournal F J call
-  barren b = record { stands = subst (IsJournal 1 F.clauses) (sym b.nothing) (empty_journal F.clauses); of_input = inl b.nothing; before = 0; held = if_none (HoldsLog F.clauses J 0) call.proof b.no_proof }
+  barren b = record { stands = nothing_stands b.nothing; of_input = inl b.nothing; log = if_none (HoldsLog F.clauses J) call.proof b.no_proof }
 
   stopped : (IsStill call.files × IsIdle J tally call) ⊎ IsWhole Memory F J tally call → HasJournal F J call
   stopped (inl h) = barren h.1.barren
@@ -253,8 +261,44 @@ module _ (F : FormulaData) (J : List Entry) (tally : Tally) (call : Call) where
   journaled ReadFault o = unread o.outcome.2.unread
   journaled WriteFault o = started o.outcome.started
   journaled ProofFault o = started o.outcome.started
-  journaled (Room lack) o = crowded o.outcome
+  journaled (Room lack) o = started o.outcome.started
   journaled Memory o = stopped o
+
+  counts_started : {lack : NoRoom} → IsStarted lack F J tally (run_of call) → IsCounted F J tally call
+  counts_started s = record {
+    counts = s.counts;
+    held = s.held;
+    told = record { learned = ap (λ (t : Tally). t.learned) s.tally_is; offered = ap (λ (t : Tally). t.offered) s.tally_is; exported = ap (λ (t : Tally). t.exported) s.tally_is };
+  }
+
+  -- no ring was to start
+  counts_none : (t : Tally) → tally ≡ t → t.learned ≡ [] → t.offered ≡ [] → t.exported ≡ [] → J ≡ [] → IsCounted F J tally call
+  counts_none t is learned offered exported none = record {
+    counts = [];
+    held = inl (record { rulers = ap rings_part none; none = inl refl });
+    told = record { learned = ap (λ (u : Tally). u.learned) is ∙ learned; offered = ap (λ (u : Tally). u.offered) is ∙ offered; exported = ap (λ (u : Tally). u.exported) is ∙ exported };
+  }
+
+  counts_no_tally : tally ≡ no_tally → J ≡ [] → IsCounted F J tally call
+  counts_no_tally is none = counts_none no_tally is refl refl refl none
+
+  counts_stopped : (IsStill call.files × IsIdle J tally call) ⊎ IsWhole Memory F J tally call → IsCounted F J tally call
+  counts_stopped (inl h) = counts_no_tally h.1.barren.counts h.1.barren.nothing
+  counts_stopped (inr o) = ⊎_elim (λ (b : IsStill (source_of call) × IsBroken F J tally (run_of call)). counts_no_tally b.1.counts b.1.unread.nothing) (λ (s : IsStarved F J tally (run_of call) ⊎ IsUnchecked F J tally (run_of call)). ⊎_elim (λ (x : IsStarved F J tally (run_of call)). counts_started x.started) (λ (x : IsUnchecked F J tally (run_of call)). counts_started x.started) s) o.outcome
+
+  counted : (end : End) → CallOutcome end F J tally call → IsCounted F J tally call
+  counted (Satisfiable model) o = counts_started o.outcome.started
+  counted Unsatisfiable o = counts_started o.outcome.started
+  counted Unknown o = counts_started o.outcome.started
+  counted Usage o = counts_no_tally o.1.barren.counts o.1.barren.nothing
+  counted (BadInput code line) o = counts_none (bad_tally (number_of code) line) o.outcome.counts refl refl refl o.outcome.unread.nothing
+  counted CannotOpen o = counts_no_tally o.2.barren.counts o.2.barren.nothing
+  counted CannotCreate o = counts_no_tally o.3.counts o.3.nothing
+  counted ReadFault o = counts_no_tally o.outcome.2.counts o.outcome.2.unread.nothing
+  counted WriteFault o = counts_started o.outcome.started
+  counted ProofFault o = counts_started o.outcome.started
+  counted (Room lack) o = counts_started o.outcome.started
+  counted Memory o = counts_stopped o
 
   module _ (apart : Apart) (must : MustAnswer call) where
     readable : (code : Code) (line : ℕ) → (run_of call).plan.make ≡ None → WasBad (text_of call) code line → ⊥
@@ -299,6 +343,7 @@ module _ (F : FormulaData) (J : List Entry) (tally : Tally) (call : Call) where
     no_model = no_model end o;
     made = made end o;
     log = journaled end o;
+    held = counted end o;
     complete = λ must. complete apart must end o;
   }
 

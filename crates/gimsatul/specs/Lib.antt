@@ -7,12 +7,7 @@ pub mod Ends
 pub mod Finished
 pub mod Run
 pub mod Journaled
-pub mod Logged
 pub mod Decided
-pub mod Checked
-pub mod Ruled
-pub mod Searched
-pub mod Begun
 pub mod Occurring
 pub mod Concluded
 pub mod Tallied

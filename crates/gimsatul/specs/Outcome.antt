@@ -1,12 +1,16 @@
 -- What each end of a call says, by cases, of the formula that was read or made and of the one journal of the run.
-use Rattle.std.specs.Prelude.{◌≡◌, ◌≤◌, ◌<◌, ◌⊎◌, ℕ, List, [], true, length, is_some, IfSome, IsSome, IsSomeAnd, Some, None}
+use Rattle.std.specs.Prelude.{◌≡◌, ◌<◌, ◌⊎◌, ℕ, List, [], true, is_some, IfSome, IsSome, IsSomeAnd, Some, None}
 use Rattle.std.specs.declared.option.Option.{Option}
 use Rattle.io_edge.specs.Causes.{Rose}
 use Rattle.io_edge.specs.Paths.{IsEmptyWhereTold}
 use Rattle.sat_words.specs.FormulaData.{FormulaData}
 use Rattle.sat_words.specs.declared.shared.NoRoom.{NoRoom}
 use Rattle.rup_model.specs.declared.journal.Entry.{Entry}
-use Rattle.rup_model.specs.Journal.{learned}
+use Rattle.ring_run.specs.declared.job.Counts.{Counts}
+use Rattle.portfolio_run.specs.Held.{IsHeld}
+use Rattle.portfolio_run.specs.Journaled.{IsJournal}
+use Rattle.portfolio_run.specs.Ruled.{IsRuled}
+use Rattle.portfolio_run.specs.Solved.{IsUnsettled}
 use Rattle.dimacs_read.specs.Codes.{number_of}
 use Rattle.dimacs_read.specs.declared.stop.Code.{Code}
 use Rattle.gimsatul.specs.declared.report.Tally.{Tally}
@@ -19,18 +23,17 @@ use Rattle.gimsatul.specs.declared.plan.Plan.{Plan}
 use Rattle.gimsatul.specs.Input.{WasGiven, WasBad}
 use Rattle.gimsatul.specs.Answer.{answer_text, remarks_of}
 use Rattle.gimsatul.specs.Run.{Count, Writer, Output, Run, Call, run_of, HasFile, RoseIn, IsStill, Prints, PrintsPart}
-use Rattle.gimsatul.specs.Journaled.{IsJournal, IsUnrefuted, HoldsLog}
-use Rattle.gimsatul.specs.Decided.{Decides, IsDecided, IsFull}
-use Rattle.gimsatul.specs.Ruled.{IsRuled}
-use Rattle.gimsatul.specs.Tallied.{no_tally, ring_tally, room_tally, bad_tally}
+use Rattle.gimsatul.specs.Journaled.{HoldsLog}
+use Rattle.gimsatul.specs.Decided.{Decides, IsDecided}
+use Rattle.gimsatul.specs.Tallied.{no_tally, bad_tally, rings_tally, no_lack, AreLearned}
 
--- the proof's writer is there and holds the journal, and its last call was a flush, before which it had failed so often
-abbrev pub HasLog : FormulaData → List Entry → ℕ → Run → Type 0
-HasLog formula journal before run = IsSomeAnd run.proof (HoldsLog formula.clauses journal before)
+-- the proof's writer is there and holds the journal, and its last call was a flush
+abbrev pub HasLog : FormulaData → List Entry → Run → Type 0
+HasLog formula journal run = IsSomeAnd run.proof (HoldsLog formula.clauses journal)
 
 -- no formula was read: the proof's writer is there, with no byte, and was only flushed
 pub record IsUnread (formula : FormulaData) (journal : List Entry) (run : Run) : Type 0 where
-  pub log : HasLog formula journal 0 run
+  pub log : HasLog formula journal run
   pub nothing : journal ≡ []
   pub empty : IfSome run.proof (λ writer. IsEmptyWhereTold writer.written)
 
@@ -42,23 +45,26 @@ pub record IsRefused (code : Code) (line : ℕ) (formula : FormulaData) (journal
   pub source : IsStill run.source
   pub unread : IsUnread formula journal run
 
--- the source failed, or memory ran out, before a formula was read; the output is as it was
+-- the source failed, or memory ran out, before a formula was read or before the ruler began; the output is as it was
 pub record IsBroken (formula : FormulaData) (journal : List Entry) (tally : Tally) (run : Run) : Type 0 where
   pub unread : IsUnread formula journal run
   pub counts : tally ≡ no_tally
   pub out : IsStill run.out.faults
 
--- the formula was made, or read without a fault, and the search started; its journal stands, begins with what the ruler wrote in
--- the rounds that the words allow, and has no more lemmas than the limit; the
--- proof's writer had failed so often before its last flush; the tally has the number of lemmas
-pub record IsStarted (before : ℕ) (formula : FormulaData) (journal : List Entry) (tally : Tally) (run : Run) : Type 0 where
+-- the formula was made, or read without a fault, and as many rings as the words ask for were to start. A journal of so many rings
+-- stands, begins with what the ruler wrote in the rounds that the words allow, and is what the rings' steps leave, none of which
+-- learned more lemmas than the words allow. The proof's writer holds the journal. The tally has what each ring counted, and what
+-- was needed and what there was where there was no room.
+pub record IsStarted (lack : NoRoom) (formula : FormulaData) (journal : List Entry) (tally : Tally) (run : Run) : Type 0 where
   pub given : WasGiven run.plan.make run.text formula
   pub source : IsStill run.source
-  pub journal_stands : IsJournal 1 formula.clauses journal
-  pub ruled : IsRuled formula run.plan.rounds journal
-  pub log : HasLog formula journal before run
-  pub within : length (learned 0 journal) ≤ run.plan.limit
-  pub counts : tally ≡ ring_tally (length (learned 0 journal))
+  pub journal_stands : IsJournal run.plan.search.threads formula.clauses journal
+  pub ruled : IsRuled formula run.plan.search.rounds journal
+  pub log : HasLog formula journal run
+  pub counts : List Counts
+  pub held : IsHeld run.plan.search.threads run.plan.search.conflicts formula.clauses journal counts
+  pub tally_is : tally ≡ rings_tally counts lack
+  pub learned : AreLearned run.plan.search.threads run.plan.search.conflicts journal tally.learned
 
 -- no call of the proof or the output failed
 pub record IsQuiet (run : Run) : Type 0 where
@@ -68,58 +74,49 @@ pub record IsQuiet (run : Run) : Type 0 where
 -- what is printed, by what the words ask for: where a formula is made it is told of, and the values of a model are not; where
 -- the log is checked that is told
 abbrev pub printed_of : Plan → FormulaData → Verdict → List ℕ
-printed_of plan formula verdict = answer_text formula.vars (remarks_of (is_some plan.make) plan.check formula verdict) verdict
+printed_of plan formula verdict = answer_text formula.vars (remarks_of (is_some plan.make) plan.search.keep_lines formula verdict) verdict
 
 -- the verdict holds, and its text is printed, and nothing else
 pub record IsAnswered (verdict : Verdict) (formula : FormulaData) (journal : List Entry) (tally : Tally) (run : Run) : Type 0 where
-  pub started : IsStarted 0 formula journal tally run
-  pub decided : Decides run.plan formula journal verdict
+  pub started : IsStarted no_lack formula journal tally run
+  pub decided : Decides run.plan.search formula journal verdict
   pub printed : Prints run.out (printed_of run.plan formula verdict)
   pub quiet : IsQuiet run
 
 -- the output failed in printing a verdict that holds; the proof didn't fail before
 pub record IsCutOff (formula : FormulaData) (journal : List Entry) (tally : Tally) (run : Run) : Type 0 where
-  pub started : IsStarted 0 formula journal tally run
+  pub started : IsStarted no_lack formula journal tally run
   pub verdict : Verdict
-  pub decided : Decides run.plan formula journal verdict
+  pub decided : Decides run.plan.search formula journal verdict
   pub proof : IsSomeAnd run.proof (λ writer. writer.faults ≡ 0)
   pub printed : PrintsPart run.out (printed_of run.plan formula verdict)
   pub rose : RoseIn run.out.faults
 
--- the proof failed: a line of it, or the flush after a verdict that holds
+-- the proof failed: a line of it, or the flush behind a verdict
 pub record IsUnproved (formula : FormulaData) (journal : List Entry) (tally : Tally) (run : Run) : Type 0 where
-  pub before : ℕ
-  pub started : IsStarted before formula journal tally run
-  pub decided : before ≡ 0 → IsDecided run.plan formula journal
+  pub started : IsStarted no_lack formula journal tally run
   pub rose : IsSomeAnd run.proof (λ writer. Rose 0 writer.faults)
 
--- as many lines stand as may, so that there was no room for one more, and none failed; the journal has fewer lemmas than the
--- limit and doesn't add the empty clause; the tally has their number, what was needed and what there is
+-- there was too little room: for a clause, or for one line more of the log. A ring has fewer lemmas than it may learn, and neither
+-- it nor the ruler has added the empty clause. The tally has what was needed and what there was.
 pub record IsCrowded (lack : NoRoom) (formula : FormulaData) (journal : List Entry) (tally : Tally) (run : Run) : Type 0 where
-  pub given : WasGiven run.plan.make run.text formula
-  pub source : IsStill run.source
-  pub journal_stands : IsJournal 1 formula.clauses journal
-  pub ruled : IsRuled formula run.plan.rounds journal
-  pub log : HasLog formula journal 0 run
-  pub fewer : length (learned 0 journal) < run.plan.limit
-  pub unrefuted : IsUnrefuted journal
-  pub counts : tally ≡ room_tally (length (learned 0 journal)) lack
-  pub full : IsFull journal lack
+  pub started : IsStarted lack formula journal tally run
+  pub short : lack.largest < lack.need
+  pub unsettled : IsUnsettled run.plan.search.threads run.plan.search.conflicts journal
 
--- memory ran out in the search, before a verdict: no line had failed, neither was the limit learned nor the
--- empty clause added; the output is as it was
+-- memory ran out in the search, before a verdict: a ring has fewer lemmas than it may learn, and neither it nor the ruler has added
+-- the empty clause; the output is as it was
 pub record IsStarved (formula : FormulaData) (journal : List Entry) (tally : Tally) (run : Run) : Type 0 where
-  pub started : IsStarted 0 formula journal tally run
-  pub fewer : length (learned 0 journal) < run.plan.limit
-  pub unrefuted : IsUnrefuted journal
+  pub started : IsStarted no_lack formula journal tally run
+  pub unsettled : IsUnsettled run.plan.search.threads run.plan.search.conflicts journal
   pub out : IsStill run.out.faults
 
 -- memory ran out in the check of the log, which is asked for, behind a verdict that holds; no call of the proof or the output
 -- failed
 pub record IsUnchecked (formula : FormulaData) (journal : List Entry) (tally : Tally) (run : Run) : Type 0 where
-  pub asked : run.plan.check ≡ true
-  pub started : IsStarted 0 formula journal tally run
-  pub decided : IsDecided run.plan formula journal
+  pub asked : run.plan.search.keep_lines ≡ true
+  pub started : IsStarted no_lack formula journal tally run
+  pub decided : IsDecided run.plan.search formula journal
   pub quiet : IsQuiet run
 
 abbrev pub Outcome : End → FormulaData → List Entry → Tally → Run → Type 0

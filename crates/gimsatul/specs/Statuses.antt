@@ -1,10 +1,14 @@
 -- What a report says, by its status: of the formula that was read or made and of the one journal of the run; and when the call must
 -- answer.
-use Rattle.std.specs.Prelude.{◌≡◌, ◌≢◌, ◌⊎◌, ℕ, List, [], Bool, Some, None, IfSome, IsSome}
+use Rattle.std.specs.Prelude.{◌≡◌, ◌≢◌, ◌⊎◌, ℕ, List, [], Bool, Some, None, replicate, IfSome, IsSome}
 use Rattle.std.specs.declared.option.Option.{Option}
 use Rattle.sat_words.specs.FormulaData.{FormulaData}
 use Rattle.rup_model.specs.declared.journal.Entry.{Entry}
 use Rattle.io_edge.specs.Causes.{Rose}
+use Rattle.ring_run.specs.declared.job.Counts.{Counts}
+use Rattle.portfolio_run.specs.declared.plan.Plan.{Plan as SearchPlan}
+use Rattle.portfolio_run.specs.Held.{IsHeld}
+use Rattle.portfolio_run.specs.Journaled.{IsJournal}
 use Rattle.dimacs_read.specs.Input.{Reads}
 use Rattle.dimacs_read.specs.declared.stop.Code.{Code}
 use Rattle.gimsatul.specs.declared.report.Tally.{Tally}
@@ -13,8 +17,14 @@ use Rattle.gimsatul.specs.declared.report.Verdict.TheVariants.{Satisfiable, Unsa
 use Rattle.gimsatul.specs.Words.{Command, command_of, file_path, make_number, proof_path}
 use Rattle.gimsatul.specs.Input.{WasGiven}
 use Rattle.gimsatul.specs.Run.{Call, HasFile, run_of, source_of, text_of, RoseIn, IsStill}
-use Rattle.gimsatul.specs.Journaled.{IsJournal, HoldsLog}
+use Rattle.gimsatul.specs.Journaled.{HoldsLog}
+use Rattle.gimsatul.specs.Planned.{plan_of}
+use Rattle.gimsatul.specs.Tallied.{Tells}
 use Rattle.gimsatul.specs.Outcome.{IsBroken, IsRefused, IsAnswered, IsCutOff, IsUnproved, IsCrowded, IsStarved, IsUnchecked, IsBarren, IsIdle}
+
+-- how the words ask that the ruler and the rings search
+abbrev pub search_in : Call → SearchPlan
+search_in call = (plan_of (command_of call.words)).search
 
 -- the verdict holds of the formula and the journal; nothing failed but perhaps a write to `err`
 pub record Answers (verdict : Verdict) (formula : FormulaData) (journal : List Entry) (tally : Tally) (call : Call) : Type 0 where
@@ -27,6 +37,11 @@ pub record HasModel (model : Option (List Bool)) (formula : FormulaData) (journa
   pub values : List Bool
   pub reported : model ≡ Some values
   pub answers : Answers (Satisfiable values) formula journal tally call
+
+-- each ring has learned as many lemmas as it may, and the tally says so
+pub record IsExhausted (formula : FormulaData) (journal : List Entry) (tally : Tally) (call : Call) : Type 0 where
+  pub answers : Answers Unknown formula journal tally call
+  pub learned : tally.learned ≡ replicate (search_in call).threads (search_in call).conflicts
 
 -- the words are refused, and nothing was opened or created
 pub record IsUnasked (journal : List Entry) (tally : Tally) (call : Call) : Type 0 where
@@ -60,9 +75,9 @@ pub record MadeAll (call : Call) : Type 0 where
   pub files : IsStill call.files
   pub input : (call.file ≡ None) ⊎ IsStill call.input
 
--- memory ran out: no count rose but perhaps the proof's, in its last flush, and that of `err`; nothing was made, or all that
--- the words ask for, and then no formula was read or made, or one was and the search came to no verdict, or it did and the
--- check of the log, which is asked for, came to no end
+-- memory ran out: no count rose but perhaps the proof's, and that of `err`; nothing was made, or all that the words ask for, and
+-- then no formula was read or made, or the ruler didn't begin, or the search came to no verdict, or it did and the check of the
+-- log, which is asked for, came to no end
 pub record RanOut (formula : FormulaData) (journal : List Entry) (tally : Tally) (call : Call) : Type 0 where
   pub files : IsStill call.files
   pub input : IsStill call.input
@@ -70,13 +85,20 @@ pub record RanOut (formula : FormulaData) (journal : List Entry) (tally : Tally)
   pub out : IsStill call.out.faults
   pub made : IsIdle journal tally call ⊎ (MadeAll call × (IsBroken formula journal tally (run_of call) ⊎ IsStarved formula journal tally (run_of call) ⊎ IsUnchecked formula journal tally (run_of call)))
 
--- the journal stands, and the proof, where there is one, holds it and was flushed last: it is of the formula that was read or
--- made, or empty
+-- one journal of as many rings as the words ask for stands, of the formula that was read or made, or empty. The proof, where there
+-- is one, holds it and was flushed last.
 pub record HasJournal (formula : FormulaData) (journal : List Entry) (call : Call) : Type 0 where
-  pub stands : IsJournal 1 formula.clauses journal
+  pub stands : IsJournal (search_in call).threads formula.clauses journal
   pub of_input : (journal ≡ []) ⊎ WasGiven (make_number (command_of call.words)) (text_of call) formula
-  pub before : ℕ
-  pub held : IfSome call.proof (HoldsLog formula.clauses journal before)
+  pub log : IfSome call.proof (HoldsLog formula.clauses journal)
+
+-- the ruler alone wrote the journal, or a list of enabled steps of the rings from the ruler's end on leaves it: so no clause was
+-- deleted that a ring, a place of an exchange or an open grant still had. The tally has what each ring counted, its lemmas, those
+-- that it offered, and the places of other rings in which it put them, one for each of them and lemma.
+pub record IsCounted (formula : FormulaData) (journal : List Entry) (tally : Tally) (call : Call) : Type 0 where
+  pub counts : List Counts
+  pub held : IsHeld (search_in call).threads (search_in call).conflicts formula.clauses journal counts
+  pub told : Tells counts tally
 
 -- the text is told and spells a formula
 pub record IsReadable (call : Call) : Type 0 where
@@ -105,7 +127,7 @@ pub record Statuses (call : Call) (status : ℕ) (model : Option (List Bool)) (t
   pub journal : List Entry
   pub satisfiable : status ≡ 10 → HasModel model formula journal tally call
   pub unsatisfiable : status ≡ 20 → Answers Unsatisfiable formula journal tally call
-  pub unknown : status ≡ 0 → Answers Unknown formula journal tally call
+  pub unknown : status ≡ 0 → IsExhausted formula journal tally call
   pub usage : status ≡ 1 → IsUnasked journal tally call
   pub refused : command_of call.words ≡ None → (status ≡ 1) ⊎ (status ≡ 9)
   pub bad_input : status ≡ 2 → HasBadPlace formula journal tally call
@@ -120,4 +142,5 @@ pub record Statuses (call : Call) (status : ℕ) (model : Option (List Bool)) (t
   pub no_model : status ≢ 10 → model ≡ None
   pub made : status ≢ 1 → status ≢ 3 → status ≢ 4 → status ≢ 9 → MadeAll call
   pub log : HasJournal formula journal call
+  pub held : IsCounted formula journal tally call
   pub complete : MustAnswer call → IsAnswer status ⊎ (status ≡ 8) ⊎ (status ≡ 9)

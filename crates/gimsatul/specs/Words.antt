@@ -19,12 +19,22 @@ conflicts_rule = record (new_rule (codes "conflicts")) {
   defaults = codes "1000000000" ∷ [];
 }
 
--- `--threads N`, with N from 1 to 1; without it N is 1
+-- `--threads N`, with N from 1 to 16; without it N is 4
 abbrev pub threads_rule : Rule
 threads_rule = record (new_rule (codes "threads")) {
   long = Some (codes "threads");
-  parser = Some (Unsigned 1 1);
-  defaults = codes "1" ∷ [];
+  action = Some Set;
+  parser = Some (Unsigned 1 16);
+  defaults = codes "4" ∷ [];
+}
+
+-- `--words N`, with N from 64 to 2^31; without it N is 2^24
+abbrev pub words_rule : Rule
+words_rule = record (new_rule (codes "words")) {
+  long = Some (codes "words");
+  action = Some Set;
+  parser = Some (Unsigned 64 (2 ^ 31));
+  defaults = codes "16777216" ∷ [];
 }
 
 -- `--seed N`, with N from 0 to 2^63 - 1; without it N is 0
@@ -71,15 +81,19 @@ with_rules app (rule ∷ rules) = with_rules (with_rule app rule) rules
 
 -- the arguments of the program, in their order
 abbrev pub solver_rules : List Rule
-solver_rules = conflicts_rule ∷ threads_rule ∷ seed_rule ∷ proof_rule ∷ no_simplify_rule ∷ check_rule ∷ make_rule ∷ file_rule ∷ []
+solver_rules = conflicts_rule ∷ threads_rule ∷ words_rule ∷ seed_rule ∷ proof_rule ∷ no_simplify_rule ∷ check_rule ∷ make_rule ∷ file_rule ∷ []
 
 -- the program's command
 abbrev pub solver_app : App
 solver_app = with_rules bare_app solver_rules
 
 pub record Command : Type 0 where
-  -- how many lemmas the ring may learn
+  -- how many rings search
+  pub threads : ℕ
+  -- how many lemmas each ring may learn
   pub conflicts : ℕ
+  -- how many words there are for clauses
+  pub words : ℕ
   -- what the first phases are made of
   pub seed : ℕ
   -- whether nothing is simplified but units
@@ -96,7 +110,9 @@ pub record Command : Type 0 where
 -- what the program's own command asks for
 abbrev pub asked_by : Asked → Command
 asked_by asked = record {
+  threads = asked.threads;
   conflicts = asked.conflicts;
+  words = asked.words;
   seed = asked.seed;
   no_simplify = asked.no_simplify;
   proof = option_copied asked.proof;
@@ -121,7 +137,9 @@ flag_in (Some text) = bytes_eq text (codes "true")
 -- what the matches say
 abbrev pub command_in : List Row → Command
 command_in rows = record {
+  threads = number_in (one_of (codes "threads") rows);
   conflicts = number_in (one_of (codes "conflicts") rows);
+  words = number_in (one_of (codes "words") rows);
   seed = number_in (one_of (codes "seed") rows);
   no_simplify = flag_in (first_of (codes "no-simplify") rows);
   proof = first_of (codes "proof") rows;
@@ -168,6 +186,14 @@ pub record HasNumber (id : List ℕ) (low high : ℕ) (matches : ArgMatches) : T
 -- they have one for `--conflicts`
 abbrev pub HasLimit : ArgMatches → Type 0
 HasLimit = HasNumber (codes "conflicts") 1 (10 ^ 12)
+
+-- they have one for `--threads`
+abbrev pub HasThreads : ArgMatches → Type 0
+HasThreads = HasNumber (codes "threads") 1 16
+
+-- they have one for `--words`
+abbrev pub HasWords : ArgMatches → Type 0
+HasWords = HasNumber (codes "words") 64 (2 ^ 31)
 
 -- they have one for `--seed`
 abbrev pub HasSeed : ArgMatches → Type 0

@@ -1,10 +1,9 @@
 // From a source, or the number of a formula, to a printed answer, once the proof is there.
-ghost use Rattle.std.specs.Prelude.{◌≡◌, ◌≤◌, ◌<◌, ◌^◌, ◌↔◌, All, Bool, true, false, ℕ, List, IsTrue, Some, None, is_some, if◌then◌else◌, IfOk, OnOk, OnErr, length};
+ghost use Rattle.std.specs.Prelude.{◌≡◌, ◌≤◌, ◌<◌, ◌^◌, ◌↔◌, All, Bool, true, false, ℕ, List, IsTrue, Some, None, is_some, if◌then◌else◌, IfOk, IfSome, OnOk, OnErr, length};
 ghost use Rattle.std.specs.Option.{option_map};
 ghost use Rattle.std.specs.declared.option.Option.{Option};
 ghost use Rattle.rup_model.specs.Log.{Accepted, Refutes};
 ghost use Rattle.sat_words.specs.FormulaData.{FormulaData};
-ghost use Rattle.sat_words.specs.Truth.{value_of, formula_true};
 ghost use Rattle.io_edge.specs.Bytes.{GrowsBy, GrowsByPart};
 ghost use Rattle.io_edge.specs.Causes.{HasCause};
 ghost use Rattle.io_edge.specs.Paths.{IsEmptyWhereTold};
@@ -12,23 +11,28 @@ ghost use Rattle.gimsatul.specs.Answer.{answer_text, summary_of};
 ghost use Rattle.gimsatul.specs.Ends.{end_of, end_of_read, status_of, prints_at};
 ghost use Rattle.sat_words.specs.Literal.{IsOn};
 ghost use Rattle.gimsatul.specs.Finished.{Finishes};
-ghost use Rattle.gimsatul.specs.Outcome.{Concluded, IsRun};
+ghost use Rattle.gimsatul.specs.Occurring.{IsOccurring};
+ghost use Rattle.gimsatul.specs.Outcome.{Concluded, IsRun, printed_of};
 ghost use Rattle.gimsatul.specs.Run.{Count, IsStill};
-ghost use Rattle.gimsatul.specs.Planned.{kept_formula};
-ghost use Rattle.gimsatul.specs.Checked.{AreAccepted};
-ghost use Rattle.gimsatul.specs.Tallied.{no_tally, ring_tally};
+ghost use Rattle.gimsatul.specs.Planned.{IsInRange};
+ghost use Rattle.gimsatul.specs.Tallied.{no_tally, zero_tally};
 
 use crate::answer::answer_text_to;
+use crate::conclude::verdict_of;
+use crate::occurring::occurring_in;
 use crate::plan::Plan;
 use crate::remarks::{Remarks, Summary, summary_of};
 use crate::report::{End, Tally, Verdict};
-use crate::search::{Kept, Searched, search};
 use cnf_make::make;
 use dimacs_read::{ReadStop, read};
 use drat_check::{Verdict as LogVerdict, check};
 use io_edge::{Failed, Sink, Source};
-use sat_words::{Formula, Line};
+use portfolio_run::{Solved, solve};
+use ring_port::Gate;
+use sat_words::{Assignment, Formula, Line};
 use std::alloc::{AllocError, Global};
+use std::sync::Wait;
+use std::thread::Threads;
 
 /// How a run over a source ended, and the proof's writer, given back.
 pub struct Decided<P> {
@@ -67,12 +71,12 @@ fn print<O: Sink>(
 }
 
 /// What is told of the formula before the answer, where it was made.
-fn told_of(plan: &Plan, formula: &Option<Formula>, verdict: &Verdict) -> Option<Summary>
-    ensures { (F : FormulaData) → formula.now ≡ kept_formula plan.now F → result ≡ (if is_some plan.now.make then Some (summary_of F verdict.now) else None) }
+fn told_of(plan: &Plan, formula: &Formula, verdict: &Verdict) -> Option<Summary>
+    ensures { result ≡ (if is_some plan.now.make then Some (summary_of formula.now verdict.now) else None) }
 {
-    match (plan.make, formula) {
-        (Some(_), Some(formula)) => Some(summary_of(formula, verdict)),
-        _ => None,
+    match plan.make {
+        Some(_) => Some(summary_of(formula, verdict)),
+        None => None,
     }
 }
 
@@ -89,37 +93,75 @@ fn check_log(alloc: Global, formula: &Formula, lines: &[Line]) -> Result<bool, A
 }
 
 /// Checks the log where its lines were kept, and answers whether they were.
-fn check_kept(alloc: Global, kept: &Kept) -> Result<bool, AllocError>
-    requires accepted { AreAccepted kept.now.formula (option_map (λ v. v.items) kept.now.lines) }
-    ensures kept { IfOk result (λ checked. checked ≡ is_some kept.now.lines) }
-    ensures asked { OnErr result (is_some kept.now.lines ≡ true) }
+fn check_kept(
+    alloc: Global,
+    formula: &Formula,
+    kept: &Option<Vec<Line>>,
+) -> Result<bool, AllocError>
+    requires accepted { IfSome (option_map (λ v. v.items) kept.now) (Accepted formula.now.clauses) }
+    ensures kept { IfOk result (λ checked. checked ≡ is_some kept.now) }
+    ensures asked { OnErr result (is_some kept.now ≡ true) }
 {
-    let Some(lines) = &kept.lines else {
-        return Ok(false);
-    };
-    match &kept.formula {
-        Some(formula) => {
+    match kept {
+        Some(lines) => {
             let _refuted = check_log(alloc, formula, lines.as_slice())?;
             Ok(true)
         }
-        None => unreachable!(),
+        None => Ok(false),
     }
 }
 
-/// Flushes the proof of a verdict that was reached, checks the log where its lines were kept, and prints the verdict. Only the
-/// check takes memory.
-fn finish<P: Sink, O: Sink>(
+/// Checks the log where its lines were kept, and prints the verdict. Only the check takes memory.
+fn finish<O: Sink>(
     alloc: Global,
-    vars: u32,
-    made: Option<Summary>,
+    formula: &Formula,
+    plan: &Plan,
     verdict: Verdict,
-    kept: &Kept,
+    kept: &Option<Vec<Line>>,
+    out: &mut O,
+) -> End
+    requires few { formula.now.vars < 2 ^ 28 }
+    requires kept { is_some kept.now ≡ plan.now.search.keep_lines }
+    requires accepted { IfSome (option_map (λ v. v.items) kept.now) (Accepted formula.now.clauses) }
+    ensures finishes { Finishes (printed_of plan.now formula.now verdict) plan.now.search.keep_lines verdict result
+        (record {
+          faults = record { before = O.faults out.old; after = O.faults out.new };
+          before = O.written out.old;
+          after = O.written out.new;
+          flushed = O.flushed out.new;
+        }) }
+    ensures unprinted { prints_at (status_of result) ≡ false → out.new ≡ out.old }
+{
+    let Ok(checked) = check_kept(alloc, formula, kept) else {
+        return End::Memory;
+    };
+    let made = told_of(plan, formula, &verdict);
+    match print(out, formula.vars(), &Remarks { made, checked }, &verdict) {
+        Ok(()) => into_end(verdict),
+        Err(Failed) => End::WriteFault,
+    }
+}
+
+/// Searches, with the proof written and flushed, and prints the answer.
+fn search_formula<H: Threads + Wait + Sync, P: Sink + Send, O: Sink, G: Gate + Sync>(
+    rt: &H,
+    alloc: Global,
+    formula: &Formula,
+    occurring: Assignment,
+    plan: &Plan,
     proof: P,
     out: &mut O,
+    tally: &mut Tally,
+    gate: &G,
 ) -> Decided<P>
-    requires few { vars ≤ 2 ^ 30 }
-    requires accepted { AreAccepted kept.now.formula (option_map (λ v. v.items) kept.now.lines) }
-    ensures finishes { Finishes (answer_text vars (record { made = made; checked = is_some kept.now.lines }) verdict) (is_some kept.now.lines) verdict result.end (P.faults proof)
+    requires ranges { IsInRange plan.now.search }
+    requires few { formula.now.vars < 2 ^ 28 }
+    requires on_variables { All (All (IsOn formula.now.vars)) formula.now.clauses }
+    requires occurring { IsOccurring formula.now.clauses formula.now.vars occurring }
+    requires empty { IsEmptyWhereTold (P.written proof) }
+    requires quiet { P.faults proof ≡ 0 }
+    requires started { tally.old ≡ zero_tally plan.now.search.threads }
+    ensures outcome { Concluded plan.now formula.now result.end tally.new
         (record { faults = P.faults result.proof; written = P.written result.proof; flushed = P.flushed result.proof })
         (record {
           faults = record { before = O.faults out.old; after = O.faults out.new };
@@ -127,112 +169,65 @@ fn finish<P: Sink, O: Sink>(
           after = O.written out.new;
           flushed = O.flushed out.new;
         }) }
-    ensures bytes { P.written result.proof ≡ P.written proof }
     ensures target { P.target result.proof ≡ P.target proof }
     ensures unprinted { prints_at (status_of result.end) ≡ false → out.new ≡ out.old }
 {
-    let mut proof = proof;
-    match proof.flush() {
-        Ok(()) => {}
-        Err(Failed) => {
-            return Decided {
-                end: End::ProofFault,
-                proof,
-            };
+    let Solved {
+        answer,
+        sink,
+        lines,
+        tally: counts,
+    } = solve(rt, alloc, formula, &plan.search, proof, gate);
+    tally.count(counts.as_slice());
+    match verdict_of(occurring, formula.vars(), answer) {
+        Ok(verdict) => Decided {
+            end: finish(alloc, formula, plan, verdict, &lines, out),
+            proof: sink,
+        },
+        Err(end) => {
+            tally.note(&end);
+            Decided { end, proof: sink }
         }
     }
-    let Ok(checked) = check_kept(alloc, kept) else {
+}
+
+/// Makes ready for the answer and for the report, searches, and goes on to the printed answer.
+fn decide_formula<H: Threads + Wait + Sync, P: Sink + Send, O: Sink, G: Gate + Sync>(
+    rt: &H,
+    alloc: Global,
+    formula: &Formula,
+    plan: &Plan,
+    proof: P,
+    out: &mut O,
+    tally: &mut Tally,
+    gate: &G,
+) -> Decided<P>
+    requires ranges { IsInRange plan.now.search }
+    requires few { formula.now.vars < 2 ^ 28 }
+    requires on_variables { All (All (IsOn formula.now.vars)) formula.now.clauses }
+    requires empty { IsEmptyWhereTold (P.written proof) }
+    requires quiet { P.faults proof ≡ 0 }
+    requires uncounted { tally.old ≡ no_tally }
+    ensures outcome { Concluded plan.now formula.now result.end tally.new
+        (record { faults = P.faults result.proof; written = P.written result.proof; flushed = P.flushed result.proof })
+        (record {
+          faults = record { before = O.faults out.old; after = O.faults out.new };
+          before = O.written out.old;
+          after = O.written out.new;
+          flushed = O.flushed out.new;
+        }) }
+    ensures target { P.target result.proof ≡ P.target proof }
+    ensures unprinted { prints_at (status_of result.end) ≡ false → out.new ≡ out.old }
+{
+    let Ok(occurring) = occurring_in(alloc, formula.clauses(), formula.vars()) else {
+        let mut proof = proof;
+        let _ = proof.flush();
         return Decided {
             end: End::Memory,
             proof,
         };
     };
-    match print(out, vars, &Remarks { made, checked }, &verdict) {
-        Ok(()) => Decided {
-            end: into_end(verdict),
-            proof,
-        },
-        Err(Failed) => Decided {
-            end: End::WriteFault,
-            proof,
-        },
-    }
-}
-
-/// Searches, writes and flushes the proof, and prints the answer.
-fn search_formula<P: Sink, O: Sink>(
-    alloc: Global,
-    formula: Formula,
-    plan: &Plan,
-    proof: P,
-    out: &mut O,
-    tally: &mut Tally,
-) -> Decided<P>
-    requires some { 1 ≤ plan.now.limit }
-    requires few { formula.vars < 2 ^ 28 }
-    requires on_variables { All (All (IsOn formula.vars)) formula.clauses }
-    requires empty { IsEmptyWhereTold (P.written proof) }
-    requires quiet { P.faults proof ≡ 0 }
-    requires started { tally.old ≡ ring_tally 0 }
-    ensures outcome { Concluded plan.now formula result.end tally.new
-        (record { faults = P.faults result.proof; written = P.written result.proof; flushed = P.flushed result.proof })
-        (record {
-          faults = record { before = O.faults out.old; after = O.faults out.new };
-          before = O.written out.old;
-          after = O.written out.new;
-          flushed = O.flushed out.new;
-        }) }
-    ensures target { P.target result.proof ≡ P.target proof }
-    ensures unprinted { prints_at (status_of result.end) ≡ false → out.new ≡ out.old }
-{
-    let vars = formula.vars();
-    let Searched {
-        verdict,
-        learned,
-        kept,
-        proof,
-    } = search(alloc, formula, plan, proof);
-    tally.learned.set(0, learned);
-    let verdict = match verdict {
-        Ok(verdict) => verdict,
-        Err(end) => {
-            let mut proof = proof;
-            let _ = proof.flush();
-            tally.note(&end);
-            return Decided { end, proof };
-        }
-    };
-    let made = told_of(plan, &kept.formula, &verdict);
-    finish(alloc, vars, made, verdict, &kept, proof, out)
-}
-
-/// Starts the search for a formula, and goes on to the printed answer.
-fn decide_formula<P: Sink, O: Sink>(
-    alloc: Global,
-    formula: Formula,
-    plan: &Plan,
-    proof: P,
-    out: &mut O,
-    tally: &mut Tally,
-) -> Decided<P>
-    requires some { 1 ≤ plan.now.limit }
-    requires few { formula.vars < 2 ^ 28 }
-    requires on_variables { All (All (IsOn formula.vars)) formula.clauses }
-    requires empty { IsEmptyWhereTold (P.written proof) }
-    requires quiet { P.faults proof ≡ 0 }
-    requires uncounted { tally.old ≡ no_tally }
-    ensures outcome { Concluded plan.now formula result.end tally.new
-        (record { faults = P.faults result.proof; written = P.written result.proof; flushed = P.flushed result.proof })
-        (record {
-          faults = record { before = O.faults out.old; after = O.faults out.new };
-          before = O.written out.old;
-          after = O.written out.new;
-          flushed = O.flushed out.new;
-        }) }
-    ensures target { P.target result.proof ≡ P.target proof }
-    ensures unprinted { prints_at (status_of result.end) ≡ false → out.new ≡ out.old }
-{
-    match Tally::with_ring(alloc) {
+    match Tally::with_rings(alloc, plan.search.threads) {
         Ok(started) => *tally = started,
         Err(_) => {
             let mut proof = proof;
@@ -243,7 +238,7 @@ fn decide_formula<P: Sink, O: Sink>(
             };
         }
     }
-    search_formula(alloc, formula, plan, proof, out, tally)
+    search_formula(rt, alloc, formula, occurring, plan, proof, out, tally, gate)
 }
 
 /// How a call ends whose input was not read.
@@ -257,16 +252,18 @@ fn read_end(stop: ReadStop) -> End
     }
 }
 
-/// Reads the source, searches, writes and flushes the proof, and prints the answer.
-pub fn decide_over<S: Source, P: Sink, O: Sink>(
+/// Reads the source, searches, with the proof written and flushed, and prints the answer.
+pub fn decide_over<H: Threads + Wait + Sync, S: Source, P: Sink + Send, O: Sink, G: Gate + Sync>(
+    rt: &H,
     alloc: Global,
     source: &mut S,
     plan: &Plan,
     proof: P,
     out: &mut O,
     tally: &mut Tally,
+    gate: &G,
 ) -> Decided<P>
-    requires some { 1 ≤ plan.now.limit }
+    requires ranges { IsInRange plan.now.search }
     requires empty { IsEmptyWhereTold (P.written proof) }
     requires quiet { P.faults proof ≡ 0 }
     requires uncounted { tally.old ≡ no_tally }
@@ -296,19 +293,21 @@ pub fn decide_over<S: Source, P: Sink, O: Sink>(
             return Decided { end, proof };
         }
     };
-    decide_formula(alloc, formula, plan, proof, out, tally)
+    decide_formula(rt, alloc, &formula, plan, proof, out, tally, gate)
 }
 
-/// Makes the formula of the number, searches, writes and flushes the proof, and prints the answer.
-pub fn decide_made<P: Sink, O: Sink>(
+/// Makes the formula of the number, searches, with the proof written and flushed, and prints the answer.
+pub fn decide_made<H: Threads + Wait + Sync, P: Sink + Send, O: Sink, G: Gate + Sync>(
+    rt: &H,
     alloc: Global,
     number: u64,
     plan: &Plan,
     proof: P,
     out: &mut O,
     tally: &mut Tally,
+    gate: &G,
 ) -> Decided<P>
-    requires some { 1 ≤ plan.now.limit }
+    requires ranges { IsInRange plan.now.search }
     requires empty { IsEmptyWhereTold (P.written proof) }
     requires quiet { P.faults proof ≡ 0 }
     requires uncounted { tally.old ≡ no_tally }
@@ -336,5 +335,5 @@ pub fn decide_made<P: Sink, O: Sink>(
             proof,
         };
     };
-    decide_formula(alloc, formula, plan, proof, out, tally)
+    decide_formula(rt, alloc, &formula, plan, proof, out, tally, gate)
 }

@@ -1,5 +1,6 @@
-//! `gimsatul [--threads N] [--conflicts N] [--proof PATH] [--no-simplify] [FILE]` reads a formula in DIMACS CNF from the
-//! file, or from standard input where none is given, decides it, prints the answer, and writes a DRAT proof to the path.
+//! `gimsatul [--threads N] [--conflicts N] [--words N] [--seed N] [--proof PATH] [--no-simplify] [--check] [--make N] [FILE]`
+//! reads a formula in DIMACS CNF from the file, or from standard input where none is given, or makes one, decides it by rings on
+//! threads of their own, prints the answer, and writes a DRAT proof to the path.
 //! `gimsatul` is the whole of it, over any files and streams; `main` gives it the real ones.
 #![tactic(auto)]
 
@@ -11,16 +12,15 @@ mod answer;
 mod conclude;
 mod decide;
 mod laws;
-mod log_lines;
 mod message;
 mod occurring;
 mod plan;
 mod remarks;
 mod report;
-mod search;
-mod start;
 #[cfg(test)]
 mod tests;
+#[cfg(test)]
+mod tests_rings;
 mod top;
 mod words;
 
@@ -30,6 +30,7 @@ pub use laws::the_plain_form_is_read;
 use message::put_message;
 pub use remarks::{Remarks, Summary};
 pub use report::{End, Numbers, Report, Tally, Verdict};
+use ring_port::OpenGate;
 use std::process::ExitCode;
 use std::{env, io};
 pub use top::gimsatul;
@@ -60,30 +61,31 @@ fn words_of(rt: &HostRuntime) -> Result<Vec<String>, End> {
     Ok(words)
 }
 
-/// Calls `gimsatul` on the real files and streams, and gives its status.
-fn run(rt: &HostRuntime) -> Result<u8, End> {
-    let words = words_of(rt)?;
-    let mut files = StdFiles::new(rt);
+/// Tells why the call is not made.
+fn refuse(rt: &HostRuntime, end: &End) -> ExitCode {
+    let _ = put_message(&mut StdSink::new(rt.stderr()), end);
+    ExitCode::from(end.status())
+}
+
+/// Calls `gimsatul` on the real files and streams, with a gate that no ring stops at, and ends with its status.
+fn main(rt: HostRuntime) -> ExitCode {
+    let words = match words_of(&rt) {
+        Ok(words) => words,
+        Err(end) => return refuse(&rt, &end),
+    };
+    let mut files = StdFiles::new(&rt);
     let mut input = StdSource::new(rt.stdin());
     let mut out = StdSink::new(rt.stdout());
     let mut err = StdSink::new(rt.stderr());
     let report = gimsatul(
+        &rt,
         rt.alloc(),
         &words,
         &mut files,
         &mut input,
         &mut out,
         &mut err,
+        &OpenGate,
     );
-    Ok(report.status)
-}
-
-fn main(rt: HostRuntime) -> ExitCode {
-    match run(&rt) {
-        Ok(status) => ExitCode::from(status),
-        Err(end) => {
-            let _ = put_message(&mut StdSink::new(rt.stderr()), &end);
-            ExitCode::from(end.status())
-        }
-    }
+    ExitCode::from(report.status)
 }

@@ -1,9 +1,10 @@
 // What a call comes to: its verdict, how it ended, and what it reports.
-ghost use Rattle.std.specs.Prelude.{◌≡◌, ◌<◌, List, ℕ, length, replicate, slice_set, IfOk, OnOk, OnErr, []};
+ghost use Rattle.std.specs.Prelude.{◌≡◌, ◌≤◌, ◌<◌, List, ℕ, length, replicate, slice_set, IfOk, []};
 ghost use Rattle.gimsatul.specs.Ends.{status_of};
-ghost use Rattle.gimsatul.specs.Tallied.{no_tally, ring_tally, noted};
+ghost use Rattle.gimsatul.specs.Tallied.{no_tally, zero_tally, counted, noted, HasRings};
 
 use dimacs_read::Code;
+use ring_run::Counts;
 use sat_words::{Assignment, NoRoom};
 use std::alloc::{AllocError, Global};
 use std::marker::Model;
@@ -15,7 +16,7 @@ pub enum Verdict {
     Satisfiable(Assignment),
     /// No assignment does, and the log shows it.
     Unsatisfiable,
-    /// The ring learned its limit of lemmas before it knew.
+    /// Each ring learned its limit of lemmas before one knew.
     Unknown,
 }
 
@@ -99,11 +100,11 @@ impl Numbers {
     }
 
     /// Sets a ring's number.
-    pub fn set(&mut self, ring: u32, number: u64)
+    pub fn set(&mut self, ring: usize, number: u64)
         requires { ring < length self.old }
         ensures { self.new ≡ slice_set self.old ring number }
     {
-        self.numbers[ring as usize] = number;
+        self.numbers[ring] = number;
     }
 
     /// The numbers, in the order of the rings.
@@ -123,9 +124,10 @@ pub struct Tally {
     pub offered: Numbers,
     /// How many of its lemmas each ring offered.
     pub exported: Numbers,
-    /// How much was needed where there was no room: of a line more than may stand, the number of lines with it. Else 0.
+    /// How much was needed where there was no room: how many words for a clause, or of a line more than may stand the number of
+    /// lines with it. Else 0.
     pub need: u64,
-    /// How much there is in one piece where there was no room: of lines, how many may stand. Else 0.
+    /// How much there is in one piece where there was no room: of words, or of lines how many may stand. Else 0.
     pub largest: u64,
     /// The number of the code of the input's first bad place, from 1, where the input was refused, else 0.
     pub code: u8,
@@ -149,19 +151,32 @@ impl Tally {
         }
     }
 
-    /// That of a call whose one ring starts.
-    pub fn with_ring(alloc: Global) -> Result<Tally, AllocError>
-        ensures { IfOk result (λ tally. tally ≡ ring_tally 0) }
+    /// That of a call whose rings start.
+    pub fn with_rings(alloc: Global, rings: u32) -> Result<Tally, AllocError>
+        ensures { IfOk result (λ tally. tally ≡ zero_tally rings) }
     {
         Ok(Tally {
-            learned: Numbers::zeros(alloc, 1)?,
-            offered: Numbers::zeros(alloc, 1)?,
-            exported: Numbers::zeros(alloc, 1)?,
+            learned: Numbers::zeros(alloc, rings)?,
+            offered: Numbers::zeros(alloc, rings)?,
+            exported: Numbers::zeros(alloc, rings)?,
             need: 0,
             largest: 0,
             code: 0,
             line: 0,
         })
+    }
+
+    /// Takes what the rings counted, in their order.
+    pub fn count(&mut self, counts: &[Counts])
+        requires { HasRings (length self.old.learned) self.old × (length counts.now ≤ length self.old.learned) }
+        ensures { self.new ≡ counted counts.now self.old }
+    {
+        for ring in 0..counts.len() {
+            let counted = counts[ring];
+            self.learned.set(ring, counted.learned);
+            self.offered.set(ring, counted.offered);
+            self.exported.set(ring, counted.exported);
+        }
     }
 
     /// Takes the numbers of an end that has some: of a bad place, or of what there was no room for.

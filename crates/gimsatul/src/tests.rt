@@ -1,12 +1,18 @@
 // Whole calls over objects in memory.
 use crate::{Remarks, Tally, Verdict, answer_text_to, gimsatul};
 use io_edge::{MemFile, MemFiles, MemOutput, MemSink, MemSource};
+use ring_port::OpenGate;
 use sat_words::Assignment;
 use std::alloc::Global;
 use std::process::Abort;
+use std::sync::Wait;
 use std::test::Fail;
+use std::thread::Threads;
 
 const ROOM: usize = 8192;
+
+/// Rings beside each other write more lines than one.
+const PROOF_ROOM: usize = 1 << 18;
 
 const NEVER: &[u64] = &[];
 
@@ -32,11 +38,17 @@ struct Row {
     /// None where no proof's writer may be there; its bytes are compared where `compares_proof` says so.
     proof: Option<&'static [u8]>,
     compares_proof: bool,
+    /// Whether the proof's last line is the empty clause, and no other line is.
+    ends_log: bool,
     /// Whether all that the proof's writer took was flushed, else none of it.
     flushes_proof: bool,
     /// What is left of standard input where each read gives one byte.
     left: &'static [u8],
+    /// A number for each ring; the numbers are compared where `compares_learned` says so.
     learned: &'static [u64],
+    compares_learned: bool,
+    need: u64,
+    largest: u64,
     code: u8,
     line: u64,
 }
@@ -59,9 +71,13 @@ const PLAIN: Row = Row {
     opened: false,
     proof: Some(b""),
     compares_proof: true,
+    ends_log: false,
     flushes_proof: true,
     left: b"",
     learned: &[],
+    compares_learned: true,
+    need: 0,
+    largest: 0,
     code: 0,
     line: 0,
 };
@@ -106,21 +122,53 @@ fn check_model(
     Ok(())
 }
 
+/// Each ring put each lemma that it offered where each other ring may get it, and offered none that it didn't learn.
+fn check_offers(rt: &impl Abort, tally: &Tally) {
+    let learned = tally.learned.as_slice();
+    let offered = tally.offered.as_slice();
+    let exported = tally.exported.as_slice();
+    assert_eq!(rt; offered.len(), learned.len());
+    assert_eq!(rt; exported.len(), learned.len());
+    let others = learned.len().saturating_sub(1) as u64;
+    for ring in 0..learned.len() {
+        assert_eq!(rt; offered[ring], exported[ring].wrapping_mul(others));
+        assert!(rt; exported[ring] <= learned[ring]);
+    }
+}
+
 fn check_tally(rt: &impl Abort, row: &Row, tally: &Tally) {
-    let zeros: &[u64] = if row.learned.is_empty() { &[] } else { &[0] };
-    assert!(rt; are_same(tally.learned.as_slice(), row.learned));
-    assert!(rt; are_same(tally.offered.as_slice(), zeros));
-    assert!(rt; are_same(tally.exported.as_slice(), zeros));
-    assert_eq!(rt; tally.need, 0);
-    assert_eq!(rt; tally.largest, 0);
+    let learned = tally.learned.as_slice();
+    assert_eq!(rt; learned.len(), row.learned.len());
+    assert!(rt; !row.compares_learned || are_same(learned, row.learned));
+    check_offers(rt, tally);
+    assert_eq!(rt; tally.need, row.need);
+    assert_eq!(rt; tally.largest, row.largest);
     assert_eq!(rt; tally.code, row.code);
     assert_eq!(rt; tally.line, row.line);
+}
+
+/// How many lines have no literal, and whether the last is one.
+fn empty_lines(bytes: &[u8]) -> (u64, bool) {
+    let mut count = 0;
+    let mut last = false;
+    for line in bytes.split(|byte| *byte == b'\n') {
+        if !line.is_empty() {
+            last = is_same(line, b"0");
+            if last {
+                count = u64::saturating_add(count, 1);
+            }
+        }
+    }
+    (count, last)
 }
 
 /// The proof's writer has these bytes, made sure of them, and is for the path of the words.
 fn check_writer(rt: &impl Abort, row: &Row, wanted: &[u8], writer: &MemSink<'_>) {
     let taken = writer.bytes();
     assert!(rt; !row.compares_proof || is_same(taken, wanted));
+    if row.ends_log {
+        assert_eq!(rt; empty_lines(taken), (1, true));
+    }
     let sure: &[u8] = if row.flushes_proof { taken } else { b"" };
     assert!(rt; is_same(writer.flushed_bytes(), sure));
     let path = if row.words.contains(&"--proof") {
@@ -161,7 +209,7 @@ fn check_left(rt: &impl Abort, row: &Row, piece: usize, input: &MemSource<'_>) {
     assert!(rt; is_same(input.left(), left));
 }
 
-fn words_of(alloc: Global, words: &[&str]) -> Result<Vec<String>, Fail> {
+pub(crate) fn words_of(alloc: Global, words: &[&str]) -> Result<Vec<String>, Fail> {
     let mut strings = Vec::new(alloc);
     for word in words {
         strings.push(String::from_str(alloc, word)?)?;
@@ -169,13 +217,31 @@ fn words_of(alloc: Global, words: &[&str]) -> Result<Vec<String>, Fail> {
     Ok(strings)
 }
 
+/// The words of a row, before which few words for clauses are asked for where the row asks for no number of them, so that a call
+/// takes little memory.
+fn words_of_row(alloc: Global, row: &Row) -> Result<Vec<String>, Fail> {
+    let mut strings = Vec::new(alloc);
+    if !row.words.contains(&"--words") {
+        strings.push(String::from_str(alloc, "--words")?)?;
+        strings.push(String::from_str(alloc, "65536")?)?;
+    }
+    for word in row.words {
+        strings.push(String::from_str(alloc, word)?)?;
+    }
+    Ok(strings)
+}
+
 /// Makes the call with a standard input that gives at most so many bytes a read.
-fn check_row(rt: &(impl Abort + AllocGlobal), row: Row, piece: usize) -> Result<(), Fail> {
+fn check_row<H: Threads + Wait + Abort + AllocGlobal + Sync>(
+    rt: &H,
+    row: Row,
+    piece: usize,
+) -> Result<(), Fail> {
     let alloc = rt.alloc();
-    let words = words_of(alloc, row.words)?;
+    let words = words_of_row(alloc, &row)?;
     let mut outputs = Vec::new(alloc);
-    outputs.push(MemOutput::new(alloc, "P", ROOM, row.proof_fails)?)?;
-    let spare = MemSink::new(alloc, ROOM, row.proof_fails)?;
+    outputs.push(MemOutput::new(alloc, "P", PROOF_ROOM, row.proof_fails)?)?;
+    let spare = MemSink::new(alloc, PROOF_ROOM, row.proof_fails)?;
     let mut files = MemFiles::new(alloc, row.inputs, outputs, spare, row.files_fail);
     if piece == 0 {
         return Err(Fail::from("a piece of no byte"));
@@ -183,7 +249,9 @@ fn check_row(rt: &(impl Abort + AllocGlobal), row: Row, piece: usize) -> Result<
     let mut input = MemSource::in_pieces(row.input, piece, row.input_fails);
     let mut out = MemSink::new(alloc, ROOM, row.out_fails)?;
     let mut err = MemSink::new(alloc, ROOM, row.err_fails)?;
-    let report = gimsatul(alloc, &words, &mut files, &mut input, &mut out, &mut err);
+    let report = gimsatul(
+        rt, alloc, &words, &mut files, &mut input, &mut out, &mut err, &OpenGate,
+    );
     assert_eq!(rt; report.status, row.status);
     assert_eq!(rt; report.file.is_some(), row.opened);
     assert!(rt; is_same(err.bytes(), row.err));
@@ -195,7 +263,10 @@ fn check_row(rt: &(impl Abort + AllocGlobal), row: Row, piece: usize) -> Result<
 }
 
 /// Makes each call whole and one byte a read.
-fn check_rows(rt: &(impl Abort + AllocGlobal), rows: &[Row]) -> Result<(), Fail> {
+fn check_rows<H: Threads + Wait + Abort + AllocGlobal + Sync>(
+    rt: &H,
+    rows: &[Row],
+) -> Result<(), Fail> {
     for row in rows {
         check_row(rt, *row, 65536)?;
         check_row(rt, *row, 1)?;
@@ -203,9 +274,9 @@ fn check_rows(rt: &(impl Abort + AllocGlobal), rows: &[Row]) -> Result<(), Fail>
     Ok(())
 }
 
-/// An answer with a model.
+/// An answer with a model, of four rings that learn nothing.
 const MODEL: Row = Row {
-    learned: &[0],
+    learned: &[0, 0, 0, 0],
     ..PLAIN
 };
 
@@ -252,6 +323,7 @@ fn models(rt: HostRuntime) -> Result<(), Fail> {
             input: b"p cnf 3 4\n1 2 0\n-1 2 0\n-2 3 0\n-3 -1 0\n",
             out: b"s SATISFIABLE\nv -1 2 3 0\n",
             compares_proof: false,
+            compares_learned: false,
             ..MODEL
         },
     ];
@@ -261,7 +333,8 @@ fn models(rt: HostRuntime) -> Result<(), Fail> {
 #[test]
 fn a_seed_gives_the_first_phases(rt: HostRuntime) -> Result<(), Fail> {
     let row = Row {
-        words: &["--no-simplify"],
+        words: &["--threads", "1", "--no-simplify"],
+        learned: &[0],
         input: b"p cnf 8 4\n1 2 0\n3 4 0\n5 6 0\n7 8 0\n",
         ..MODEL
     };
@@ -271,12 +344,12 @@ fn a_seed_gives_the_first_phases(rt: HostRuntime) -> Result<(), Fail> {
             ..row
         },
         Row {
-            words: &["--no-simplify", "--seed", "1"],
+            words: &["--threads", "1", "--no-simplify", "--seed", "1"],
             out: b"s SATISFIABLE\nv 1 2 3 -4 5 -6 7 -8 0\n",
             ..row
         },
         Row {
-            words: &["--no-simplify", "--seed", "2"],
+            words: &["--threads", "1", "--no-simplify", "--seed", "2"],
             out: b"s SATISFIABLE\nv 1 -2 3 4 5 -6 -7 8 0\n",
             ..row
         },
@@ -293,6 +366,9 @@ fn a_model_of_two_lines(rt: HostRuntime) -> Result<(), Fail> {
     };
     check_row(&rt, row, 1)
 }
+
+/// Each clause of two variables.
+const TWO_VARIABLES: &[u8] = b"p cnf 2 4\n1 2 0\n1 -2 0\n-1 2 0\n-1 -2 0\n";
 
 #[test]
 fn refutations(rt: HostRuntime) -> Result<(), Fail> {
@@ -313,13 +389,13 @@ fn refutations(rt: HostRuntime) -> Result<(), Fail> {
             ..refuted
         },
         Row {
-            input: b"p cnf 2 4\n1 2 0\n1 -2 0\n-1 2 0\n-1 -2 0\n",
+            input: TWO_VARIABLES,
             proof: Some(b"1 0\nd 1 -2 0\n2 0\nd -1 2 0\n0\n"),
             ..refuted
         },
         Row {
-            words: &["--no-simplify", "--proof", "P"],
-            input: b"p cnf 2 4\n1 2 0\n1 -2 0\n-1 2 0\n-1 -2 0\n",
+            words: &["--threads", "1", "--no-simplify", "--proof", "P"],
+            input: TWO_VARIABLES,
             proof: Some(b"2 0\n0\n"),
             learned: &[1],
             ..refuted
@@ -420,8 +496,8 @@ fn bad_clauses(rt: HostRuntime) -> Result<(), Fail> {
 }
 
 /// The same call with other words, each of which is refused or not.
-fn check_words(
-    rt: &(impl Abort + AllocGlobal),
+fn check_words<H: Threads + Wait + Abort + AllocGlobal + Sync>(
+    rt: &H,
     row: Row,
     words: &[&'static [&'static str]],
 ) -> Result<(), Fail> {
@@ -441,7 +517,7 @@ fn words_that_are_refused(rt: HostRuntime) -> Result<(), Fail> {
         proof: None,
         ..PLAIN
     };
-    let table: [&[&str]; 19] = [
+    let table: [&[&str]; 24] = [
         &["--seed", "-1"],
         &["--seed", "9223372036854775808"],
         &["--seed", "1", "--seed", "1"],
@@ -451,6 +527,11 @@ fn words_that_are_refused(rt: HostRuntime) -> Result<(), Fail> {
         &["--check", "--check"],
         &["--threads", "0"],
         &["--threads", "17"],
+        &["--threads", "1", "--threads", "1"],
+        &["--words", "63"],
+        &["--words", "2147483649"],
+        &["--words", "64", "--words", "64"],
+        &["--words"],
         &["--help"],
         &["--version"],
         &["-h"],
@@ -473,14 +554,26 @@ fn words_that_are_taken(rt: HostRuntime) -> Result<(), Fail> {
     };
     let table: [&[&str]; 7] = [
         &["--seed", "9223372036854775807"],
-        &["--threads", "1"],
-        &["--threads=+1"],
-        &["--threads", "01"],
+        &["--threads", "4"],
+        &["--threads=+4"],
+        &["--threads", "04"],
         &["--conflicts", "1000000000000"],
         &["--no-simplify", "--conflicts=+07"],
         &["--"],
     ];
-    check_words(&rt, row, &table)
+    check_words(&rt, row, &table)?;
+    let alone = Row {
+        learned: &[0],
+        ..row
+    };
+    let table: [&[&str]; 2] = [&["--threads", "1"], &["--words", "64", "--threads", "1"]];
+    check_words(&rt, alone, &table)?;
+    let many = Row {
+        learned: &[0, 0, 0, 0, 0, 0, 0, 0, 0, 0, 0, 0, 0, 0, 0, 0],
+        ..row
+    };
+    let table: [&[&str]; 1] = [&["--threads", "16"]];
+    check_words(&rt, many, &table)
 }
 
 /// A store with one file.
@@ -517,7 +610,7 @@ fn a_file_in_place_of_standard_input(rt: HostRuntime) -> Result<(), Fail> {
             status: 20,
             out: b"s UNSATISFIABLE\n",
             proof: Some(b"0\n"),
-            learned: &[0],
+            learned: &[0, 0, 0, 0],
             ..given
         },
         Row {
@@ -626,8 +719,8 @@ fn faults_of_the_proof(rt: HostRuntime) -> Result<(), Fail> {
         ..MODEL
     };
     let two_lines = Row {
-        words: &["--no-simplify", "--proof", "P"],
-        input: b"p cnf 2 4\n1 2 0\n1 -2 0\n-1 2 0\n-1 -2 0\n",
+        words: &["--threads", "1", "--no-simplify", "--proof", "P"],
+        input: TWO_VARIABLES,
         learned: &[1],
         ..unproved
     };
@@ -659,8 +752,15 @@ fn faults_of_the_proof(rt: HostRuntime) -> Result<(), Fail> {
         },
         // The ruler's lines fail, which come to the empty clause.
         Row {
-            words: &["--proof", "P"],
+            words: &["--threads", "1", "--proof", "P"],
             learned: &[0],
+            ..two_lines
+        },
+        // Lines of two rings fail.
+        Row {
+            words: &["--threads", "2", "--no-simplify", "--check", "--proof", "P"],
+            learned: &[0, 0],
+            compares_learned: false,
             ..two_lines
         },
     ];
@@ -681,13 +781,13 @@ fn a_read_fails_after_ten_bytes(rt: HostRuntime) -> Result<(), Fail> {
 }
 
 /// Six pigeons in five holes: the clause of each pigeon, and of each hole and pair of pigeons.
-const PIGEONS: &[u8] =
+pub(crate) const PIGEONS: &[u8] =
     b"p cnf 30 81\n1 2 3 4 5 0\n6 7 8 9 10 0\n11 12 13 14 15 0\n16 17 18 19 20 0\n21 22 23 24 25 0\n26 27 28 29 30 0\n-1 -6 0\n-1 -11 0\n-1 -16 0\n-1 -21 0\n-1 -26 0\n-6 -11 0\n-6 -16 0\n-6 -21 0\n-6 -26 0\n-11 -16 0\n-11 -21 0\n-11 -26 0\n-16 -21 0\n-16 -26 0\n-21 -26 0\n-2 -7 0\n-2 -12 0\n-2 -17 0\n-2 -22 0\n-2 -27 0\n-7 -12 0\n-7 -17 0\n-7 -22 0\n-7 -27 0\n-12 -17 0\n-12 -22 0\n-12 -27 0\n-17 -22 0\n-17 -27 0\n-22 -27 0\n-3 -8 0\n-3 -13 0\n-3 -18 0\n-3 -23 0\n-3 -28 0\n-8 -13 0\n-8 -18 0\n-8 -23 0\n-8 -28 0\n-13 -18 0\n-13 -23 0\n-13 -28 0\n-18 -23 0\n-18 -28 0\n-23 -28 0\n-4 -9 0\n-4 -14 0\n-4 -19 0\n-4 -24 0\n-4 -29 0\n-9 -14 0\n-9 -19 0\n-9 -24 0\n-9 -29 0\n-14 -19 0\n-14 -24 0\n-14 -29 0\n-19 -24 0\n-19 -29 0\n-24 -29 0\n-5 -10 0\n-5 -15 0\n-5 -20 0\n-5 -25 0\n-5 -30 0\n-10 -15 0\n-10 -20 0\n-10 -25 0\n-10 -30 0\n-15 -20 0\n-15 -25 0\n-15 -30 0\n-20 -25 0\n-20 -30 0\n-25 -30 0\n";
 
 #[test]
 fn six_pigeons_in_five_holes(rt: HostRuntime) -> Result<(), Fail> {
     let row = Row {
-        words: &["--proof", "P"],
+        words: &["--threads", "1", "--proof", "P"],
         input: PIGEONS,
         status: 20,
         out: b"s UNSATISFIABLE\n",
@@ -703,8 +803,8 @@ fn six_pigeons_in_five_holes(rt: HostRuntime) -> Result<(), Fail> {
 fn checked_logs(rt: HostRuntime) -> Result<(), Fail> {
     let rows = [
         Row {
-            words: &["--no-simplify", "--check", "--proof", "P"],
-            input: b"p cnf 2 4\n1 2 0\n1 -2 0\n-1 2 0\n-1 -2 0\n",
+            words: &["--threads", "1", "--no-simplify", "--check", "--proof", "P"],
+            input: TWO_VARIABLES,
             status: 20,
             out: b"c proof accepted\ns UNSATISFIABLE\n",
             proof: Some(b"2 0\n0\n"),
@@ -719,7 +819,7 @@ fn checked_logs(rt: HostRuntime) -> Result<(), Fail> {
             ..MODEL
         },
         Row {
-            words: &["--check", "--conflicts", "1"],
+            words: &["--threads", "1", "--check", "--conflicts", "1"],
             input: PIGEONS,
             status: 0,
             out: b"c proof accepted\ns UNKNOWN\n",
@@ -728,12 +828,23 @@ fn checked_logs(rt: HostRuntime) -> Result<(), Fail> {
             ..PLAIN
         },
         Row {
-            words: &["--check"],
+            words: &["--threads", "1", "--check"],
             input: PIGEONS,
             status: 20,
             out: b"c proof accepted\ns UNSATISFIABLE\n",
             compares_proof: false,
             learned: &[143],
+            ..PLAIN
+        },
+        // Four rings, whose lines are of one log.
+        Row {
+            words: &["--threads", "4", "--no-simplify", "--check"],
+            input: PIGEONS,
+            status: 20,
+            out: b"c proof accepted\ns UNSATISFIABLE\n",
+            compares_proof: false,
+            learned: &[0, 0, 0, 0],
+            compares_learned: false,
             ..PLAIN
         },
     ];
@@ -743,20 +854,66 @@ fn checked_logs(rt: HostRuntime) -> Result<(), Fail> {
     Ok(())
 }
 
+/// Two rings write one log, which ends in the empty clause and has it once.
+#[test]
+fn one_log_of_two_rings(rt: HostRuntime) -> Result<(), Fail> {
+    let row = Row {
+        words: &["--threads", "2", "--no-simplify", "--check", "--proof", "P"],
+        input: TWO_VARIABLES,
+        status: 20,
+        out: b"c proof accepted\ns UNSATISFIABLE\n",
+        compares_proof: false,
+        ends_log: true,
+        learned: &[0, 0],
+        compares_learned: false,
+        ..PLAIN
+    };
+    check_rows(&rt, &[row])
+}
+
+/// Twelve clauses of three literals, each in a cell of five words, leave four words of 64.
+#[test]
+fn too_few_words(rt: HostRuntime) -> Result<(), Fail> {
+    let row = Row {
+        words: &["--no-simplify", "--words", "64"],
+        input: b"p cnf 15 13\n1 2 3 0\n2 3 4 0\n3 4 5 0\n4 5 6 0\n5 6 7 0\n6 7 8 0\n7 8 9 0\n8 9 10 0\n9 10 11 0\n10 11 12 0\n11 12 13 0\n12 13 14 0\n13 14 15 0\n",
+        status: 8,
+        err: b"gimsatul: no room: need 5, largest hole 4\n",
+        learned: &[0, 0, 0, 0],
+        need: 5,
+        largest: 4,
+        ..PLAIN
+    };
+    check_rows(&rt, &[row])
+}
+
 /// The formula of number 7 is made in place of an input, of which nothing is read. What is printed of it is the same with the
 /// ruler and without it, and its model is reported alone.
 #[test]
 fn a_formula_that_is_made(rt: HostRuntime) -> Result<(), Fail> {
     let alloc = rt.alloc();
-    let table: [&[&str]; 2] = [&["--make", "7"], &["--make", "7", "--no-simplify"]];
+    let table: [&[&str]; 2] = [
+        &["--make", "7", "--threads", "4", "--words", "4194304"],
+        &[
+            "--make",
+            "7",
+            "--no-simplify",
+            "--threads",
+            "1",
+            "--words",
+            "4194304",
+        ],
+    ];
     for words in table {
         let words = words_of(alloc, words)?;
-        let spare = MemSink::new(alloc, 1 << 22, NEVER)?;
+        let spare = MemSink::new(alloc, 1 << 24, NEVER)?;
         let mut files = MemFiles::new(alloc, &[], Vec::new(alloc), spare, FIRST);
         let mut input = MemSource::in_pieces(NOTHING, 65536, FIRST);
         let mut out = MemSink::new(alloc, ROOM, NEVER)?;
         let mut err = MemSink::new(alloc, ROOM, NEVER)?;
-        let report = gimsatul(alloc, &words, &mut files, &mut input, &mut out, &mut err);
+        let report = gimsatul(
+            &rt, alloc, &words, &mut files, &mut input, &mut out, &mut err, &OpenGate,
+        );
         assert_eq!(rt; report.status, 10);
         assert!(rt;
             is_same(

@@ -2,8 +2,8 @@
 ghost use Rattle.std.specs.Prelude.{◌≡◌, ◌≤◌, ◌⊎◌, Bool, true, false, ℕ, Some, None, map, string_bytes, option_copied, option_map, is_some, IfOk, OnOk, OnErr, IfSome, IsSome, IsSomeAnd};
 ghost use Rattle.io_edge.specs.Causes.{HasCause};
 ghost use Rattle.io_edge.specs.Paths.{IsEmptyWhereTold, IsThere};
-ghost use Rattle.gimsatul.specs.Words.{command_of, file_path, make_number, proof_path};
-ghost use Rattle.gimsatul.specs.Planned.{plan_of, rounds_of};
+ghost use Rattle.gimsatul.specs.Words.{asked_by, command_of, file_path, make_number, proof_path};
+ghost use Rattle.gimsatul.specs.Planned.{plan_of, search_of, IsInRange};
 ghost use Rattle.gimsatul.specs.Run.{target_in, text_left, source_in, writer_of, IsOpened};
 ghost use Rattle.gimsatul.specs.Outcome.{IsCall, IsRun};
 ghost use Rattle.gimsatul.specs.Tallied.{no_tally};
@@ -17,7 +17,10 @@ use crate::report::{End, Report, Tally};
 use crate::words::{Command, parse};
 use dimacs_read::read_or_bad;
 use io_edge::{Failed, Files, Sink, Source};
+use ring_port::Gate;
 use std::alloc::Global;
+use std::sync::Wait;
+use std::thread::Threads;
 
 // How a call ended, with the input and the proof's writer that it made.
 struct Ended<R, W> {
@@ -60,7 +63,15 @@ fn create<F: Files>(files: &mut F, path: Option<&str>) -> Result<F::Writer, Fail
 }
 
 /// Decides what the file has, or where there is none what standard input has.
-fn decide_read<R: Source, I: Source, W: Sink, O: Sink>(
+fn decide_read<
+    H: Threads + Wait + Sync,
+    R: Source,
+    I: Source,
+    W: Sink + Send,
+    O: Sink,
+    G: Gate + Sync,
+>(
+    rt: &H,
     alloc: Global,
     file: Option<R>,
     input: &mut I,
@@ -68,8 +79,9 @@ fn decide_read<R: Source, I: Source, W: Sink, O: Sink>(
     proof: W,
     out: &mut O,
     tally: Tally,
+    gate: &G,
 ) -> Ended<R, W>
-    requires some { 1 ≤ plan.now.limit }
+    requires ranges { IsInRange plan.now.search }
     requires unmade { plan.now.make ≡ None }
     requires fresh { IfSome file (λ reader. R.faults reader ≡ 0) }
     requires empty { IsEmptyWhereTold (W.written proof) }
@@ -100,12 +112,14 @@ fn decide_read<R: Source, I: Source, W: Sink, O: Sink>(
         Some(reader) => {
             let mut reader = reader;
             let Decided { end, proof } = decide_over(
+                rt,
                 alloc,
                 &mut reader,
                 plan,
                 proof,
                 out,
                 &mut tally,
+                gate,
             );
             Ended {
                 end,
@@ -115,7 +129,9 @@ fn decide_read<R: Source, I: Source, W: Sink, O: Sink>(
             }
         }
         None => {
-            let Decided { end, proof } = decide_over(alloc, input, plan, proof, out, &mut tally);
+            let Decided { end, proof } = decide_over(
+                rt, alloc, input, plan, proof, out, &mut tally, gate,
+            );
             Ended {
                 end,
                 file: None,
@@ -127,7 +143,8 @@ fn decide_read<R: Source, I: Source, W: Sink, O: Sink>(
 }
 
 /// Decides the formula that is made, or what the file has, or where there is none what standard input has.
-fn decide<R: Source, I: Source, W: Sink, O: Sink>(
+fn decide<H: Threads + Wait + Sync, R: Source, I: Source, W: Sink + Send, O: Sink, G: Gate + Sync>(
+    rt: &H,
     alloc: Global,
     file: Option<R>,
     input: &mut I,
@@ -135,8 +152,9 @@ fn decide<R: Source, I: Source, W: Sink, O: Sink>(
     proof: W,
     out: &mut O,
     tally: Tally,
+    gate: &G,
 ) -> Ended<R, W>
-    requires some { 1 ≤ plan.now.limit }
+    requires ranges { IsInRange plan.now.search }
     requires fresh { IfSome file (λ reader. R.faults reader ≡ 0) }
     requires empty { IsEmptyWhereTold (W.written proof) }
     requires quiet { W.faults proof ≡ 0 }
@@ -163,10 +181,12 @@ fn decide<R: Source, I: Source, W: Sink, O: Sink>(
     ensures opened { leaves_files_at (status_of result.end) true ≡ false }
 {
     match plan.make {
-        None => decide_read(alloc, file, input, plan, proof, out, tally),
+        None => decide_read(rt, alloc, file, input, plan, proof, out, tally, gate),
         Some(number) => {
             let mut tally = tally;
-            let Decided { end, proof } = decide_made(alloc, number, plan, proof, out, &mut tally);
+            let Decided { end, proof } = decide_made(
+                rt, alloc, number, plan, proof, out, &mut tally, gate,
+            );
             Ended {
                 end,
                 file,
@@ -179,23 +199,30 @@ fn decide<R: Source, I: Source, W: Sink, O: Sink>(
 
 /// How the words ask that a formula is decided.
 fn plan_in(command: &Command<'_>) -> Plan
-    ensures { result ≡ record { limit = command.now.conflicts; seed = command.now.seed; rounds = rounds_of command.now.no_simplify; check = command.now.check; make = command.now.make } }
+    ensures { result ≡ record { search = search_of (asked_by command.now); make = command.now.make } }
 {
-    Plan {
-        limit: command.conflicts,
+    let search = portfolio_run::Plan {
+        threads: command.threads,
+        conflicts: command.conflicts,
+        words: command.words,
         seed: command.seed,
         rounds: rounds_of(command.no_simplify),
-        check: command.check,
+        keep_lines: command.check,
+    };
+    Plan {
+        search,
         make: command.make,
     }
 }
 
-fn run<F: Files, I: Source, O: Sink>(
+fn run<H: Threads + Wait + Sync, F: Files, I: Source, O: Sink, G: Gate + Sync>(
+    rt: &H,
     alloc: Global,
     words: &[String],
     files: &mut F,
     input: &mut I,
     out: &mut O,
+    gate: &G,
 ) -> Ended<F::Reader, F::Writer>
     ensures outcome { IsCall result.end result.tally (record {
       words = map string_bytes words.now;
@@ -245,7 +272,17 @@ fn run<F: Files, I: Source, O: Sink>(
         }
     };
     match create(files, command.proof) {
-        Ok(proof) => decide(alloc, file, input, &plan_in(&command), proof, out, tally),
+        Ok(proof) => decide(
+            rt,
+            alloc,
+            file,
+            input,
+            &plan_in(&command),
+            proof,
+            out,
+            tally,
+            gate,
+        ),
         Err(Failed) => Ended {
             end: End::CannotCreate,
             file,
@@ -282,18 +319,22 @@ fn report_of<R, W>(ended: Ended<R, W>) -> Report<R, W>
     }
 }
 
-/// All that the program does: reads the words and the input, searches, writes the proof and the answer, and reports.
+/// All that the program does: reads the words and the input, searches, writes the proof and the answer, and reports. The rings
+/// search on threads of their own, and pass the gate now and then; a call that waits for the log's turn keeps its promise if it
+/// returns.
 ///
 /// `words` are the arguments without the program's name. The input is FILE where it is given, and standard input is then
 /// left alone, as where the formula is made. A fault of `err` changes nothing. The first refusal that is met decides, and nothing after it is begun,
 /// except that a proof that was created is always flushed as far as it goes.
-pub fn gimsatul<F: Files, I: Source, O: Sink, E: Sink>(
+pub fn gimsatul<H: Threads + Wait + Sync, F: Files, I: Source, O: Sink, E: Sink, G: Gate + Sync>(
+    rt: &H,
     alloc: Global,
     words: &[String],
     files: &mut F,
     input: &mut I,
     out: &mut O,
     err: &mut E,
+    gate: &G,
 ) -> Report<F::Reader, F::Writer>
     ensures headline { Statuses (record {
       words = map string_bytes words.now;
@@ -321,7 +362,7 @@ pub fn gimsatul<F: Files, I: Source, O: Sink, E: Sink>(
 {
     // A text that spells a formula has no bad place, so where the call must answer it does not refuse the input.
     read_or_bad();
-    let ended = run(alloc, words, files, input, out);
+    let ended = run(rt, alloc, words, files, input, out, gate);
     let _ = put_message(err, &ended.end);
     report_of(ended)
 }

@@ -1,15 +1,25 @@
 // The words of the command line.
-ghost use Rattle.std.specs.Prelude.{◌≡◌, ◌≤◌, ◌↔◌, false, map, string_bytes, IfOk, IfErr, IsErrOf, Some, None};
+ghost use Rattle.std.specs.Prelude.{◌≡◌, ◌≤◌, ◌^◌, ◌↔◌, false, map, string_bytes, IfOk, IfErr, IsErrOf, Some, None};
 ghost use Rattle.clap.specs.Words.{app_of, found_of, rows_of, rule_of};
 ghost use Rattle.clap.specs.declared.error.kind.ErrorKind.TheVariants.{OutOfMemory};
 ghost use Rattle.gimsatul.specs.Ends.{IsWordsEnd};
-ghost use Rattle.gimsatul.specs.Words.{HasLimit, HasSeed, HasMade, asked_by, command_in, command_of, unless_both, solver_app, conflicts_rule, threads_rule, seed_rule, proof_rule, no_simplify_rule, check_rule, make_rule, file_rule};
+ghost use Rattle.gimsatul.specs.Planned.{IsInRange, search_of};
+ghost use Rattle.gimsatul.specs.Words.{HasThreads, HasLimit, HasWords, HasSeed, HasMade, asked_by, command_in, command_of, unless_both, solver_app, conflicts_rule, threads_rule, words_rule, seed_rule, proof_rule, no_simplify_rule, check_rule, make_rule, file_rule};
 
 use crate::report::End;
 use clap::builder::ValueParser;
 use clap::error::ErrorKind;
 use clap::{Arg, ArgAction, ArgMatches};
 use std::alloc::{AllocError, Global};
+
+/// The most rings.
+const MOST_THREADS: u64 = 16;
+
+/// The fewest words for clauses.
+const LEAST_WORDS: u64 = 64;
+
+/// The most words for clauses.
+const MOST_WORDS: u64 = 1 << 31;
 
 /// The most lemmas that a ring may be allowed to learn.
 const MOST_CONFLICTS: u64 = 1_000_000_000_000;
@@ -23,9 +33,13 @@ const MOST_MADE: u64 = (1 << 63) - 1;
 /// What the words ask for.
 #[derive(Clone, Copy)]
 pub struct Command<'a> {
-    /// How many lemmas the ring may learn.
+    /// How many rings search.
+    pub threads: u32,
+    /// How many lemmas each ring may learn.
     pub conflicts: u64,
-    /// What the ring's first phases are made of.
+    /// How many words of 64 bits there are for clauses.
+    pub words: u64,
+    /// What the rings' first phases are made of.
     pub seed: u64,
     /// Whether nothing is simplified but units.
     pub no_simplify: bool,
@@ -56,8 +70,20 @@ fn threads_arg<'a>(alloc: Global) -> Arg<'a>
 {
     Arg::new(alloc, "threads")
         .long("threads")
-        .value_parser(ValueParser::unsigned(1, 1))
-        .default_value("1")
+        .action(ArgAction::Set)
+        .value_parser(ValueParser::unsigned(1, MOST_THREADS))
+        .default_value("4")
+}
+
+fn words_arg<'a>(alloc: Global) -> Arg<'a>
+    ensures rule { rule_of result ≡ words_rule }
+    ensures local { result.global ≡ false }
+{
+    Arg::new(alloc, "words")
+        .long("words")
+        .action(ArgAction::Set)
+        .value_parser(ValueParser::unsigned(LEAST_WORDS, MOST_WORDS))
+        .default_value("16777216")
 }
 
 fn seed_arg<'a>(alloc: Global) -> Arg<'a>
@@ -123,6 +149,7 @@ fn solver<'a>(alloc: Global) -> Result<clap::Command<'a>, AllocError>
         .disable_version_flag(true);
     bare.arg(conflicts_arg(alloc))?
         .arg(threads_arg(alloc))?
+        .arg(words_arg(alloc))?
         .arg(seed_arg(alloc))?
         .arg(proof_arg(alloc))?
         .arg(no_simplify_arg(alloc))?
@@ -131,7 +158,32 @@ fn solver<'a>(alloc: Global) -> Result<clap::Command<'a>, AllocError>
         .arg(file_arg(alloc))
 }
 
-/// How many lemmas the ring may learn.
+/// How many rings search.
+fn threads_in(matches: &ArgMatches<'_>) -> u32
+    requires { HasThreads matches.now }
+    ensures number { result ≡ (command_in (rows_of (found_of matches.now))).threads }
+    ensures some { 1 ≤ result }
+    ensures few { result ≤ 16 }
+{
+    match matches.get_one::<u64>("threads") {
+        Some(number) => number as u32,
+        None => unreachable!(),
+    }
+}
+
+/// How many words there are for clauses.
+fn words_in(matches: &ArgMatches<'_>) -> u64
+    requires { HasWords matches.now }
+    ensures number { result ≡ (command_in (rows_of (found_of matches.now))).words }
+    ensures few { result ≤ 2 ^ 31 }
+{
+    match matches.get_one::<u64>("words") {
+        Some(number) => number,
+        None => unreachable!(),
+    }
+}
+
+/// How many lemmas each ring may learn.
 fn conflicts_in(matches: &ArgMatches<'_>) -> u64
     requires { HasLimit matches.now }
     ensures number { result ≡ (command_in (rows_of (found_of matches.now))).conflicts }
@@ -187,14 +239,18 @@ fn make_in(matches: &ArgMatches<'_>) -> Option<u64>
 
 /// What the matches ask for.
 fn command_in<'a>(matches: &ArgMatches<'a>) -> Command<'a>
+    requires threads { HasThreads matches.now }
     requires limit { HasLimit matches.now }
+    requires words { HasWords matches.now }
     requires seed { HasSeed matches.now }
     requires made { HasMade matches.now }
     ensures asks { command_in (rows_of (found_of matches.now)) ≡ asked_by result }
-    ensures some { 1 ≤ result.conflicts }
+    ensures ranges { IsInRange (search_of (asked_by result)) }
 {
     Command {
+        threads: threads_in(matches),
         conflicts: conflicts_in(matches),
+        words: words_in(matches),
         seed: seed_in(matches),
         no_simplify: no_simplify_in(matches),
         proof: matches.get_str("proof"),
@@ -217,7 +273,7 @@ fn end_of_kind(kind: ErrorKind) -> End
 /// A formula is made or read from a file, and not both.
 fn unless_both(command: Command<'_>) -> Result<Command<'_>, End>
     ensures asks { IfOk result (λ taken. unless_both (asked_by command.entry) ≡ Some (asked_by taken)) }
-    ensures some { 1 ≤ command.entry.conflicts → IfOk result (λ taken. 1 ≤ taken.conflicts) }
+    ensures ranges { IsInRange (search_of (asked_by command.entry)) → IfOk result (λ taken. IsInRange (search_of (asked_by taken))) }
     ensures usage { IfErr result (λ end. unless_both (asked_by command.entry) ≡ None) }
     ensures ends { IfErr result (λ end. end ≡ End.Usage) }
 {
@@ -231,7 +287,7 @@ fn unless_both(command: Command<'_>) -> Result<Command<'_>, End>
 /// stands with FILE.
 pub fn parse<'a>(alloc: Global, words: &'a [String]) -> Result<Command<'a>, End>
     ensures asks { IfOk result (λ command. command_of (map string_bytes words.entry.now) ≡ Some (asked_by command)) }
-    ensures some { IfOk result (λ command. 1 ≤ command.conflicts) }
+    ensures ranges { IfOk result (λ command. IsInRange (search_of (asked_by command))) }
     ensures usage { IsErrOf result End.Usage → command_of (map string_bytes words.entry.now) ≡ None }
     ensures ends { IfErr result IsWordsEnd }
 {

@@ -3,7 +3,7 @@ use crate::gimsatul;
 use crate::tests::{PIGEONS, words_of};
 use crossbeam_utils::Backoff;
 use io_edge::{MemFiles, MemSink, MemSource};
-use ring_port::{Gate, Point};
+use ring_port::{Gate, OpenGate, Point};
 use std::process::Abort;
 use std::sync::Wait;
 use std::sync::atomic::{AtomicU64, Ordering};
@@ -13,11 +13,11 @@ use std::thread::Threads;
 /// How many looks a gate makes at what it waits for before it lets go.
 const TURNS: u32 = 10_000_000;
 
-/// Looks until the number stands, and tells whether it came.
+/// Looks until the number is reached, and tells whether it was.
 fn comes(at: &AtomicU64, number: u64) -> bool {
     let backoff = Backoff::new();
     for _ in 0..TURNS {
-        if at.load(Ordering::SeqCst) == number {
+        if at.load(Ordering::SeqCst) >= number {
             return true;
         }
         backoff.spin();
@@ -68,6 +68,45 @@ impl Gate for Meeting {
     }
 }
 
+/// Holds ring 0 the first time that it is at a point, until ring 1 has learned ten lemmas; ring 1 waits until ring 0 is there.
+#[derive(Drop)]
+struct Holding {
+    point: Point,
+    /// 1 once ring 0 was held.
+    held: AtomicU64,
+    /// How many lemmas ring 1 has.
+    learned: AtomicU64,
+    /// 1 once a ring was let go in vain.
+    missed: AtomicU64,
+}
+
+impl Holding {
+    fn new(point: Point) -> Holding {
+        Holding {
+            point,
+            held: AtomicU64::new(0),
+            learned: AtomicU64::new(0),
+            missed: AtomicU64::new(0),
+        }
+    }
+}
+
+impl Gate for Holding {
+    fn at(&self, ring: u32, point: Point, learned: u64) {
+        let came = if ring == 1 {
+            self.learned.store(learned, Ordering::SeqCst);
+            comes(&self.held, 1)
+        } else if point == self.point && self.held.swap(1, Ordering::SeqCst) == 0 {
+            comes(&self.learned, 10)
+        } else {
+            true
+        };
+        if !came {
+            self.missed.store(1, Ordering::SeqCst);
+        }
+    }
+}
+
 /// What a call on six pigeons in five holes answers, over this gate.
 fn decide<G: Gate + Sync>(
     rt: &(impl Abort + AllocGlobal + Threads + Wait + Sync),
@@ -97,6 +136,54 @@ fn rings_run_beside_each_other(rt: HostRuntime) -> Result<(), Fail> {
         &gate,
     )?;
     assert_eq!(&rt; status, 20);
+    assert_eq!(&rt; gate.first.load(Ordering::SeqCst), 1);
+    assert_eq!(&rt; gate.second.load(Ordering::SeqCst), 1);
     assert_eq!(&rt; gate.missed.load(Ordering::SeqCst), 0);
+    Ok(())
+}
+
+/// A ring that is held before it offers its lemma, or behind an offer, keeps no other from taking turns, and the log stays one
+/// that is accepted.
+#[test]
+fn a_ring_is_held_while_another_goes_on(rt: HostRuntime) -> Result<(), Fail> {
+    for point in [Point::Learned, Point::Put] {
+        let gate = Holding::new(point);
+        let status = decide(
+            &rt,
+            &[
+                "--threads",
+                "2",
+                "--no-simplify",
+                "--check",
+                "--words",
+                "65536",
+            ],
+            &gate,
+        )?;
+        assert_eq!(&rt; status, 20);
+        assert_eq!(&rt; gate.held.load(Ordering::SeqCst), 1);
+        assert_eq!(&rt; gate.missed.load(Ordering::SeqCst), 0);
+    }
+    Ok(())
+}
+
+/// However many rings there are, they write one log that is accepted.
+#[test]
+fn many_rings_write_one_log(rt: HostRuntime) -> Result<(), Fail> {
+    for threads in ["1", "2", "4", "8", "16"] {
+        let status = decide(
+            &rt,
+            &[
+                "--threads",
+                threads,
+                "--no-simplify",
+                "--check",
+                "--words",
+                "65536",
+            ],
+            &OpenGate,
+        )?;
+        assert_eq!(&rt; status, 20);
+    }
     Ok(())
 }

@@ -20,7 +20,7 @@ use Rattle.share_rule.specs.Seen.{Seen, turn_of}
 use Rattle.share_rule.specs.Shown.{Shown, Shows, ring_of}
 use Rattle.share_rule.specs.Passes.{IsWhole, NoTurns, TellsFaults}
 use Rattle.share_rule.proofs.Parts.{is_open, seen_with}
-use Rattle.share_rule.proofs.Moves.{turn_some}
+use Rattle.share_rule.proofs.Moves.{part_owner, told_own, turn_some}
 
 part_at : (r : ℕ) (ps : List RingPart) → 0 < times_in r (map ring_of ps) → (i : ℕ) × (p : RingPart) × (get_elem? ps i ≡ some p) × (ring_of p ≡ r)
 part_at r [] h = absurd (omega arith)
@@ -49,10 +49,20 @@ closes stands k id v ws xs slot ready whole none f at_slot =
     let own = h.turned r e in
     let p = part_at r v.parts (whole r (subst (λ (o : CoreOpening). r < o.rings) (sym t.1) own.0)) in
     none_some (record { journal = c.journal }) (sym (no_turn_at v.parts p.0 p.1 none p.2) ∙ (fit.parts p.0 p.1 p.2).turn ∙ ap (turn_of c) p.3 ∙ turn_some c r e)) in
+    let own : (r : ℕ) → r < c.opening.rings → h.owner r ≡ id =
+    λ r lt. let p = part_at r v.parts (whole r (subst (λ (o : CoreOpening). r < o.rings) (sym t.1) lt)) in
+    ap h.owner (sym p.3) ∙ (part_owner k.layout c h.glue h.owner id v p.0 p.1 fit p.2).1 in
     let home = h.home free in
     let seen = seen_with stands k.layout s id v h f.1.1 ready in (
       seen.0,
       home.0,
       some-injective slot (Some home.0) (sym at_slot ∙ f.4 0 (Some home.0) home.1),
-      (h.fault, subst (λ (y : BookOrigin × (Layout × (CoreOpening × List Entry))). stands home.0 y.0 y.1.0 y.1.1.0 y.1.1.1 h.fault) (λ i. (sym (h.origins id v f.1.1 ready) i, (sym t.0 i, (sym t.1 i, ap (λ (q : State). q.journal) (sym seen.1) i)))) home.2, λ i p e. (h.faults id v i p f.1.1 e).told),
+      (
+        h.fault,
+        subst (λ (y : BookOrigin × (Layout × (CoreOpening × List Entry))). stands home.0 y.0 y.1.0 y.1.1.0 y.1.1.1 h.fault) (λ i. (sym (h.origins id v f.1.1 ready) i, (sym t.0 i, (sym t.1 i, ap (λ (q : State). q.journal) (sym seen.1) i)))) home.2,
+        record {
+          told = λ i p e. (h.faults id v i p f.1.1 e).told;
+          teller = λ e. told_own stands k.layout s h id v f.1.1 own (h.teller e);
+        },
+      ),
     )

@@ -40,6 +40,7 @@ use Rattle.share_rule.proofs.Parts.{is_open, standing_of}
 use Rattle.share_rule.proofs.Words.{grant_words, unit_kept, grant_stored}
 use Rattle.share_rule.proofs.Moves.{part_owner, Frame, frame_of, turn_has, part_else, acted}
 use Rattle.share_rule.proofs.Steps.{told}
+use Rattle.share_rule.proofs.Telling.{told_more, still_told}
 
 unturned : (c : State) (r : ℕ) → (c.turn ≡ Some r → c.granted r ≡ true) → c.granted r ≡ false → turn_of c r ≡ None
 unturned c r h closed = by (turn_of c r) refl
@@ -131,7 +132,8 @@ module _ {S : Type 0} (stands : S → BookOrigin → Layout → CoreOpening → 
       (λ _. h.origins id v at ready)
       (λ y _ z. (grant_stored l c d s.words r (ring_of y) y.stored (standing_of stands l s h) in_layout (λ _. refl) z.0, unit_kept l c d s.words (grant_at r) 0 y refl refl (λ k' lt e. omega arith) z.1))
       (λ i y e. stored_part l d (set s.words (grant_at r) 0) v (λ j z q. let out = h.stored id v j z at q in (grant_stored l c d s.words r (ring_of z) z.stored (standing_of stands l s h) in_layout (λ _. refl) out.0, unit_kept l c d s.words (grant_at r) 0 z refl refl (λ k' lt e. omega arith) out.1)) i y e)
-      (λ _ _ _ z. z) (λ i y e. knows_part h.fault v (λ t is. none_some t is) (λ j z q. h.faults id v j z at q) i y e) in
+      (λ _ _ _ z. z) (λ i y e. knows_part h.fault v (λ t is. none_some t is) (λ j z q. h.faults id v j z at q) i y e)
+      (λ e. still_told s.views id v w at (told_more (new_part v.opening r) v.parts) (h.teller e)) in
       (next.0, next.1, n_is)
     where
       stored_part : (l : Layout) (d : State) (ws : List ℕ) (v : View) → ((i : ℕ) (p : RingPart) → get_elem? v.parts i ≡ some p → IsOut l d ws p)

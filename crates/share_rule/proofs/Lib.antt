@@ -1,6 +1,7 @@
 pub mod Lists
 pub mod Rooms
 pub mod Parts
+pub mod Telling
 pub mod Words
 pub mod Moves
 pub mod Lone

@@ -33,7 +33,8 @@ use Rattle.sat_words.specs.Literal.{Literal}
 use Rattle.share_core.proofs.Leaving.{left_sound}
 use Rattle.share_rule.proofs.Parts.{cell_below, number_below}
 use Rattle.share_rule.specs.Room.{Places}
-use Rattle.share_rule.specs.Shown.{Words, Fits, Shows, IsHome, IsOut, KnowsFault, ring_of}
+use Rattle.share_rule.specs.Shown.{Words, Fits, Shows, IsHome, IsOut, KnowsFault, SomeTold, WasTold, ring_of}
+use Rattle.share_rule.proofs.Telling.{told_one, only_told, still_told}
 use Rattle.share_rule.proofs.Lists.{both_true, times_at_part, off}
 
 -- the owner of a part's ring
@@ -52,6 +53,14 @@ one_ring l c glue owner id v f is =
     let at : get_elem? v.parts 0 ≡ some (only v) = ap (λ ps. get_elem? ps 0) is in
     let o = part_owner l c glue owner id v 0 (only v) f at in
     (f.parts 0 (only v) at, o.1, o.2)
+
+-- the ring that was told is the pass's where the pass has all rings
+pub told_own : {S : Type 0} (stands : S → BookOrigin → Layout → CoreOpening → List Entry → Bool → Type 0) (l : Layout) (s : Table (Option S) View) (h : Shows stands l s) (id : ℕ) (v : View) → get_elem? s.views id ≡ some v
+    → ((r : ℕ) → r < h.core.opening.rings → h.owner r ≡ id) → WasTold s.views → SomeTold v.parts
+told_own stands l s h id v at own t =
+    let o = part_owner l h.core h.glue h.owner t.0 t.1 t.3.0 t.3.1 (h.each t.0 t.1 t.2) t.3.2 in
+    let here : t.0 ≡ id = sym o.1 ∙ own (ring_of t.3.1) o.0 in
+    subst (λ (u : View). SomeTold u.parts) (some-injective t.1 v (sym t.2 ∙ ap (get_elem? s.views) here ∙ at)) t.3
 
 -- who has the turn
 pub turn_some : (c : State) (i : ℕ) → c.turn ≡ Some i → turn_of c i ≡ Some (record { journal = c.journal })
@@ -187,9 +196,9 @@ module _ {S : Type 0} (stands : S → BookOrigin → Layout → CoreOpening → 
       → Left d.opening d → Places l d → Words l d glue' ws → Frame r h.core d h.glue glue' → h.owner r ≡ id → r < d.opening.rings → d.granted r ≡ true
       → (fault : Bool) → IsHome stands h.origin l d fault (record { words = ws; homes = hs; views = set s.views id w }) → Fits l d glue' h.owner id w → (is_ready w.stage ≡ true → w.origin ≡ h.origin)
       → ((p : RingPart) → ring_of p ≢ r → IsOut l h.core s.words p → IsOut l d ws p) → ((i : ℕ) (p : RingPart) → get_elem? w.parts i ≡ some p → IsOut l d ws p)
-      → ((p : RingPart) → ring_of p ≢ r → IsPart d glue' p → KnowsFault h.fault p → KnowsFault fault p) → ((i : ℕ) (p : RingPart) → get_elem? w.parts i ≡ some p → KnowsFault fault p)
+      → ((p : RingPart) → ring_of p ≢ r → IsPart d glue' p → KnowsFault h.fault p → KnowsFault fault p) → ((i : ℕ) (p : RingPart) → get_elem? w.parts i ≡ some p → KnowsFault fault p) → (fault ≡ true → WasTold (set s.views id w))
       → (n : Shows stands l (record { words = ws; homes = hs; views = set s.views id w })) × (n.core ≡ d)
-  acted s h d glue' id r v w ws hs at left st words frame own inside now fault home fit from keep mine others knows =
+  acted s h d glue' id r v w ws hs at left st words frame own inside now fault home fit from keep mine others knows teller =
       let sound : Sound h.core = left_sound h.core.opening h.core h.left in
       let same : d.opening ≡ h.core.opening = frame.opening in (
         record {
@@ -220,6 +229,7 @@ module _ {S : Type 0} (stands : S → BookOrigin → Layout → CoreOpening → 
               (λ (x : (j ≡ id) × (w ≡ u)). ap (λ (y : View). y.origin) (sym x.1) ∙ from (ap (λ (y : View). is_ready y.stage) x.1 ∙ ready))
               (λ (x : (j ≢ id) × (get_elem? s.views j ≡ some u)). h.origins j u x.1 ready)
               (at_set s.views id j w u is);
+          teller = teller;
           faults = λ j u i p is e. ⊎_elim
               (λ (x : (j ≡ id) × (w ≡ u)). knows i p (ap (λ (y : View). get_elem? y.parts i) x.1 ∙ e))
               (λ (x : (j ≢ id) × (get_elem? s.views j ≡ some u)). let f : Fits l h.core h.glue h.owner j u = h.each j u x.1 in
@@ -254,9 +264,9 @@ module _ {S : Type 0} (stands : S → BookOrigin → Layout → CoreOpening → 
       → Left d.opening d → Places l d → Words l d glue' ws → Frame (ring_of (only v)) h.core d h.glue glue' → ((i : ℕ) → d.granted i ≡ h.core.granted i)
       → (fault : Bool) → IsHome stands h.origin l d fault (record { words = ws; homes = hs; views = set s.views id w }) → v.parts ≡ only v ∷ [] → w.rights ≡ v.rights → w.parts ≡ q ∷ [] → ring_of q ≡ ring_of (only v) → ground w ≡ ground v → w.opening ≡ v.opening → is_ready w.stage ≡ is_ready v.stage → in_draft w.stage ≡ in_draft v.stage → IsStopOf d.stop w.stop w.parts → IsPart d glue' q
       → ((p : RingPart) → ring_of p ≢ ring_of (only v) → IsOut l h.core s.words p → IsOut l d ws p) → IsOut l d ws q
-      → ((p : RingPart) → ring_of p ≢ ring_of (only v) → IsPart d glue' p → KnowsFault h.fault p → KnowsFault fault p) → KnowsFault fault q
+      → ((p : RingPart) → ring_of p ≢ ring_of (only v) → IsPart d glue' p → KnowsFault h.fault p → KnowsFault fault p) → KnowsFault fault q → (fault ≡ true → WasTold (set s.views id w))
       → (n : Shows stands l (record { words = ws; homes = hs; views = set s.views id w })) × (n.core ≡ d)
-  moved_with s h d glue' id v w q ws hs at left st words frame grants fault home vp wr wp qr wl wo wop wd stops part keep own others knows =
+  moved_with s h d glue' id v w q ws hs at left st words frame grants fault home vp wr wp qr wl wo wop wd stops part keep own others knows teller =
       let r : ℕ = ring_of (only v) in
       let same : d.opening ≡ h.core.opening = frame.opening in
       let fit : Fits l h.core h.glue h.owner id v = h.each id v at in
@@ -269,7 +279,7 @@ module _ {S : Type 0} (stands : S → BookOrigin → Layout → CoreOpening → 
         stops = stops;
         told = λ op. let t = fit.told (sym wop ∙ op) in (ap (λ q. q.0) wl ∙ t.0, wo ∙ t.1 ∙ sym same);
         parts = λ i y e. only_part i y e;
-      }) (λ op. ap (λ q. q.1) wl ∙ h.origins id v at (sym wop ∙ op)) keep (λ i y e. only_stored i y e) others (λ i y e. only_knows i y e)
+      }) (λ op. ap (λ q. q.1) wl ∙ h.origins id v at (sym wop ∙ op)) keep (λ i y e. only_stored i y e) others (λ i y e. only_knows i y e) teller
     where
       only_part : (i : ℕ) (y : RingPart) → get_elem? w.parts i ≡ some y → IsPart d glue' y
       only_part zero y e = subst (IsPart d glue') (some-injective q y (ap (λ ps. get_elem? ps 0) (sym wp) ∙ e)) part
@@ -295,6 +305,7 @@ module _ {S : Type 0} (stands : S → BookOrigin → Layout → CoreOpening → 
         told = λ e. was.told (ap (λ t. t.1.1) (sym qt) ∙ e);
         taken = λ t e f. ap (λ t. t.1.1) qt ∙ was.taken t (ap (λ t. t.1.0) (sym qt) ∙ e) f;
       })
+      (λ f. still_told s.views id v w at (λ t. told_one w.parts q wp (ap (λ t. t.1.1) qt ∙ only_told v.parts (only v) vp t)) (h.teller f))
 
   -- one pass looks: its rights and parts stay
   pub looked : (s : Table (Option S) View) (h : Shows stands l s) (id : ℕ) (v w : View) → get_elem? s.views id ≡ some v
@@ -321,6 +332,7 @@ module _ {S : Type 0} (stands : S → BookOrigin → Layout → CoreOpening → 
           (λ (x : (j ≡ id) × (w ≡ u)). ap (λ (y : View). y.origin) (sym x.1) ∙ ap (λ q. q.1) wl ∙ h.origins id v at (sym wop ∙ ap (λ (y : View). is_ready y.stage) x.1 ∙ ready))
           (λ (x : (j ≢ id) × (get_elem? s.views j ≡ some u)). h.origins j u x.1 ready)
           (at_set s.views id j w u is);
+      teller = λ f. still_told s.views id v w at (subst SomeTold (sym wp)) (h.teller f);
       faults = λ j u i p is e. ⊎_elim
           (λ (x : (j ≡ id) × (w ≡ u)). h.faults id v i p at (ap (λ ps. get_elem? ps i) (sym wp) ∙ ap (λ (y : View). get_elem? y.parts i) x.1 ∙ e))
           (λ (x : (j ≢ id) × (get_elem? s.views j ≡ some u)). h.faults j u i p x.1 e)

@@ -1,5 +1,5 @@
 -- The rule holds at the start, and the table is opened.
-use Rattle.std.proofs.Common.{false, true, ◌≡◌, ℕ, zero, suc, ◌*◌, ◌<◌, ◌≤◌, ◌==◌, List, [], ◌∷◌, set, refl, sym, ap, ◌∙◌, subst, arith, eq-eqb, ne_eqb, inl, inr, Option, Some, None, Bool}
+use Rattle.std.proofs.Common.{false, true, ◌≡◌, ℕ, zero, suc, ◌*◌, ◌<◌, ◌≤◌, ◌==◌, List, [], ◌∷◌, set, refl, sym, ap, ◌∙◌, subst, arith, eq-eqb, ne_eqb, true≢false, inl, inr, Option, Some, None, Bool}
 use Rattle.std.specs.Prelude.{replicate}
 use mathlib.Core.Option.{some, some-injective, some-ne-none}
 use mathlib.Core.Option as maybe
@@ -96,6 +96,7 @@ module _ {S : Type 0} (stands : S → BookOrigin → Layout → CoreOpening → 
     each = one;
     stored = none_stored;
     faults = none_knows;
+    teller = λ e. absurd (true≢false (sym e));
   }
     where
       from : (j : ℕ) (v : View) → get_elem? (first_view k.layout o w ∷ []) j ≡ some v → is_ready v.stage ≡ true → v.origin ≡ w

@@ -24,6 +24,7 @@ use Rattle.share_rule.specs.Seen.{IsPart, IsStopOf}
 use Rattle.share_rule.specs.Shown.{Fits, Shown, Shows, ring_of}
 use Rattle.share_rule.proofs.Lists.{times_without, times_both, both_true, not_true, no_test, off, on, at_in}
 use Rattle.share_rule.proofs.Parts.{is_open}
+use Rattle.share_rule.proofs.Telling.{still_told, told_with, told_joined}
 
 module _ {A : Type 0} where
   at_end : (xs : List A) (a b : A) (j : ℕ) → get_elem? (xs ++ a ∷ []) j ≡ some b → ((j < length xs) × (get_elem? xs j ≡ some b)) ⊎ ((j ≡ length xs) × (a ≡ b))
@@ -169,6 +170,7 @@ module _ {S : Type 0} (stands : S → BookOrigin → Layout → CoreOpening → 
             (at_set s.views id j cut u x.1))
             (λ (x : (j ≡ length (set s.views id cut)) × (with_right r v ≡ u)). absurd (some-ne-none p (sym (ap (λ (z : View). get_elem? z.parts i) x.1 ∙ e))))
             (at_end (set s.views id cut) (with_right r v) u j is);
+        teller = λ f. told_with (set s.views id cut) (with_right r v) (still_told s.views id v cut at (λ t. t) (h.teller f));
         faults = λ j u i p is e. ⊎_elim
             (λ (x : (j < length (set s.views id cut)) × (get_elem? (set s.views id cut) j ≡ some u)). ⊎_elim
             (λ (y : (j ≡ id) × (cut ≡ u)). h.faults id v i p at (ap (λ (z : View). get_elem? z.parts i) y.1 ∙ e))
@@ -257,6 +259,7 @@ module _ {S : Type 0} (stands : S → BookOrigin → Layout → CoreOpening → 
               (λ (y : (j ≢ id) × (get_elem? s.views j ≡ some u)). h.stored j u i p y.1 e)
               (at_set s.views id j both u x.1))
               (at_set (set s.views id both) other j spent_view u is);
+          teller = λ f. told_joined s.views id other v w both spent_view at w_at apart refl (h.teller f);
           faults = λ j u i p is e. ⊎_elim
               (λ (x : (j ≡ other) × (spent_view ≡ u)). absurd (some-ne-none p (sym (ap (λ (z : View). get_elem? z.parts i) x.1 ∙ e))))
               (λ (x : (j ≢ other) × (get_elem? (set s.views id both) j ≡ some u)). ⊎_elim

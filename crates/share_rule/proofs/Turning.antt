@@ -43,7 +43,8 @@ use Rattle.share_rule.proofs.Parts.{cell_below, is_open, standing_of, seen_of}
 use Rattle.share_rule.proofs.Words.{spells_else}
 use Rattle.share_rule.proofs.Sheets.{Beside, Noted, IsSheet, noted_given}
 use Rattle.share_rule.proofs.Noting.{all_notes}
-use Rattle.share_rule.proofs.Moves.{one_ring, turn_some, turn_none, turn_other, turn_is, turn_has, given_same, stops_same, moved_with, refused_more, looked}
+use Rattle.share_rule.proofs.Telling.{told_one, only_told, told_here}
+use Rattle.share_rule.proofs.Moves.{one_ring, told_own, turn_some, turn_none, turn_other, turn_is, turn_has, given_same, stops_same, moved_with, refused_more, looked}
 use Rattle.share_rule.proofs.Lists.{at_in, set_itself}
 
 -- the first word changes, and cells that are not open
@@ -123,6 +124,7 @@ module _ {S : Type 0} (stands : S → BookOrigin → Layout → CoreOpening → 
       (λ y ne z. (turn_stored l c d s.words new (ring_of y) y.stored st (λ _ _ _ is _. is) z.0, λ n e. absurd (none_some (ring_of y) (sym none ∙ (z.1 n e).0))))
       (turn_stored l c d s.words new r p.stored st (λ _ _ _ is _. is) own.0, λ n e. absurd (none_some r (sym none ∙ (own.1 n e).0)))
       (λ _ _ _ z. z) (record { told = λ e. e; taken = λ t _ e. e })
+      (λ e. told_here s.views id v (after_take free new c.journal h.fault v) at (told_one (after_take free new c.journal h.fault v).parts (take_part c.journal h.fault p) (ap (on_first (take_part c.journal h.fault)) free_pass.0) e))
 
   -- nobody has the turn where the word tells so
   is_free_turn : (s : Table (Option S) View) (h : Shows stands k.layout s) (free : ℕ) → slice_index s.words 0 ≡ free → free % 256 ≡ 0 → h.core.turn ≡ None
@@ -142,6 +144,15 @@ module _ {S : Type 0} (stands : S → BookOrigin → Layout → CoreOpening → 
       let w : View = after_miss free new (slice_index s.words 0) v in
       subst (λ (ws : List ℕ). (m : Shows stands k.layout (record { words = ws; homes = s.homes; views = set s.views id w })) × (m.core ≡ h.core)) (sym (set_itself s.words 0))
       (looked stands k.layout s h id v w at refl refl refl refl refl refl (h.each id v at).stops)
+
+  -- a lone ring is told of no failed write but its own
+  told_alone : (s : Table (Option S) View) (h : Shows stands k.layout s) (id : ℕ) (v : View) → get_elem? s.views id ≡ some v → v.parts ≡ only v ∷ [] → v.opening ≡ h.core.opening
+      → v.opening.rings ≡ 1 → h.fault ≡ true → (only v).failed ≡ true
+  told_alone s h id v at one opening lone fault =
+      let mine = one_ring k.layout h.core h.glue h.owner id v (h.each id v at) one in
+      let rings : h.core.opening.rings ≡ 1 = ap (λ (o : CoreOpening). o.rings) (sym opening) ∙ lone in
+      let here = mine.0.ring in
+      only_told v.parts (only v) one (told_own stands k.layout s h id v at (λ r lt. let same : r ≡ ring_of (only v) = omega arith in ap h.owner same ∙ mine.1) (h.teller fault))
 
   pub takes_it : (slots id : ℕ) (me : Me (Option S) View) (free new : ℕ) → is_ready me.0.stage ≡ true → IsFree me.0 → free % 256 ≡ 0 → new ≡ free + (ring_of (only me.0) + 1)
       → Allows (Shown stands k) slots id me 0 (λ n. either (n == free) new n) (takes_turn stands (step slots 0 free new maybe.none) me)
@@ -174,6 +185,7 @@ module _ {S : Type 0} (stands : S → BookOrigin → Layout → CoreOpening → 
             view = refl;
             stood = subst (λ (y : BookOrigin × (Layout × CoreOpening)). stands b y.0 y.1.0 y.1.1 c.journal h.fault) (λ i. (sym (h.origins id v at ready) i, (sym t.0 i, sym t.1 i))) home.2;
             still = (h.faults id v 0 (only v) at (ap (λ ps. get_elem? ps 0) free_pass.0)).told;
+            alone = told_alone s h id v at free_pass.0 t.1;
             seen = told_out s (set s.words 0 new) (set s.homes 0 maybe.none) id v w at ready next.0;
           }),
           (λ ne. absurd (ne e)),
@@ -261,7 +273,8 @@ module _ {S : Type 0} (stands : S → BookOrigin → Layout → CoreOpening → 
       (λ y ne z. (turn_stored l c d s.words n (ring_of y) y.stored st beside.built z.0, λ q e. absurd (ne (some_same (ring_of y) r (sym (z.1 q e).0 ∙ on.0)))))
       (subst (λ (q : ℕ). IsStored d (set s.words 0 n) q p.stored) (sym same_ring) (turn_stored l c d s.words n r p.stored st beside.built own.0), λ q e. absurd (none_some q e))
       (λ y ne is z. record { told = λ e. still (z.told e); taken = λ t' e _. absurd (none_some t' (sym (turn_none d (ring_of y) refl) ∙ sym is.turn ∙ e)) })
-      (record { told = λ e. e; taken = λ t' e _. absurd (none_some t' e) }) in
+      (record { told = λ e. e; taken = λ t' e _. absurd (none_some t' e) })
+      (λ e. told_here s.views id v (after_give ns x failed v) at (told_one (after_give ns x failed v).parts (give_part v.opening (written_of v ns) x failed p) (ap (on_first (give_part v.opening (written_of v ns) x failed)) writing.0) e)) in
       (next.0, ap (λ (q : State). q.journal) next.1 ∙ sym sheet.journal, next.1 ∙ ap (λ (q : State). after q (GiveTurn r)) all.runs)
     where
       now_ended : (o : CoreOpening) (K : List Entry) (was : Bool) → (was ≡ true → ended o.formula K ≡ true) → (was || ended o.formula K) ≡ true → ended o.formula K ≡ true

@@ -7,7 +7,7 @@ use Rattle.share_rule.specs.declared.view.View.{View}
 use Rattle.share_rule.specs.declared.view.RingPart.{RingPart}
 use Rattle.share_rule.specs.Views.{times_in, is_ready}
 use Rattle.share_rule.specs.Seen.{Seen}
-use Rattle.share_rule.specs.Shown.{ring_of}
+use Rattle.share_rule.specs.Shown.{SomeTold, ring_of}
 use Rattle.share_rule.specs.declared.Shared.{Shared}
 
 -- it is an open pass of this table, and enabled events leave a state with its parts
@@ -18,9 +18,10 @@ IsPassOf t p = (p.table_id ≡ t.table.shared.table_id) × (is_ready p.me.0.stag
 abbrev pub IsSamePass : {B : Type 0} → Seat (Option B) View → Seat (Option B) View → Type 0
 IsSamePass old new = (new.id ≡ old.id) × (new.me.1 ≡ old.me.1)
 
--- a write has failed where one of the rings was told so
-abbrev pub TellsFaults : List RingPart → Bool → Type 0
-TellsFaults ps fault = (i : ℕ) (p : RingPart) → get_elem? ps i ≡ some p → p.failed ≡ true → fault ≡ true
+-- a write has failed exactly where one of the rings was told so
+pub record TellsFaults (ps : List RingPart) (fault : Bool) : Type 0 where
+  pub told : (i : ℕ) (p : RingPart) → get_elem? ps i ≡ some p → p.failed ≡ true → fault ≡ true
+  pub teller : fault ≡ true → SomeTold ps
 
 -- it has the parts of all rings
 abbrev pub IsWhole : View → Type 0

@@ -86,6 +86,14 @@ pub record KnowsFault (fault : Bool) (p : RingPart) : Type 0 where
   pub told : p.failed ≡ true → fault ≡ true
   pub taken : (t : Taken) → p.turn ≡ Some t → fault ≡ true → p.failed ≡ true
 
+-- one of the rings was told of a failed write
+abbrev pub SomeTold : List RingPart → Type 0
+SomeTold ps = (i : ℕ) × (p : RingPart) × (get_elem? ps i ≡ some p) × (p.failed ≡ true)
+
+-- a ring of one of the passes was
+abbrev pub WasTold : List View → Type 0
+WasTold vs = (j : ℕ) × (v : View) × (get_elem? vs j ≡ some v) × SomeTold v.parts
+
 module _ {S : Type 0} (stands : S → BookOrigin → Layout → CoreOpening → List Entry → Bool → Type 0) where
   -- while the turn is free, the book is at home and stands for the journal, and tells whether a write has failed
   abbrev pub IsHome : BookOrigin → Layout → State → Bool → Table (Option S) View → Type 0
@@ -112,6 +120,7 @@ module _ {S : Type 0} (stands : S → BookOrigin → Layout → CoreOpening → 
     pub each : (j : ℕ) (v : View) → get_elem? s.views j ≡ some v → Fits l core glue owner j v
     pub stored : (j : ℕ) (v : View) (i : ℕ) (p : RingPart) → get_elem? s.views j ≡ some v → get_elem? v.parts i ≡ some p → IsOut l core s.words p
     pub faults : (j : ℕ) (v : View) (i : ℕ) (p : RingPart) → get_elem? s.views j ≡ some v → get_elem? v.parts i ≡ some p → KnowsFault fault p
+    pub teller : fault ≡ true → WasTold s.views
 
   -- the table before it is open: its words are those that it was made with, and the slot has nothing until it is taken
   pub record Draft (k : Key) (s : Table (Option S) View) : Type 0 where

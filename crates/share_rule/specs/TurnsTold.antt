@@ -14,7 +14,8 @@ use Rattle.share_rule.specs.Turns.{after_take, after_miss, after_give}
 use Rattle.share_rule.specs.Told.{Knows}
 
 -- where the word was as guessed the turn was free and is the ring's, with the book, which stands for the journal that the
--- ring then has; a write that it was told of has failed. Elsewhere nothing changed
+-- ring then has; a write that it was told of has failed, and a lone ring is told of no failed write but its own. Elsewhere
+-- nothing changed
 pub record Took {B : Type 0} (stands : B → BookOrigin → Layout → CoreOpening → List Entry → Bool → Type 0) (free new : ℕ) (m m' : Me (Option B) View) : Type 0 where
   pub journal : List Entry
   pub failed : Bool
@@ -23,6 +24,7 @@ pub record Took {B : Type 0} (stands : B → BookOrigin → Layout → CoreOpeni
   pub view : m'.0 ≡ after_take free new journal failed m.0
   pub stood : stands book m.0.origin m.0.layout m.0.opening journal failed
   pub still : (only m.0).failed ≡ true → failed ≡ true
+  pub alone : m.0.opening.rings ≡ 1 → failed ≡ true → (only m.0).failed ≡ true
   pub seen : Seen (after_take free new journal failed m.0)
 
 -- either

@@ -154,22 +154,24 @@ module _ {S : Type 0} {d : Ghosts S} (written flushed target : S → Maybe (List
       pub line_turn : (t' : Turn S d) (x : Line) (number : ℕ) → lines_after (book v.opening.formula J) e ≡ x ∷ [] → t'.noted.items ≡ t.noted.items ++ n ∷ [] → t'.refused ≡ t.refused
           → (b : Book S d) → b.log.lines ≡ t.book.log.lines → b.entries ≡ t.book.entries → b.ended ≡ t.book.ended → b.log.kept.lines ≡ t.book.log.kept.lines → (c : Book S d) → HasPut written flushed target faults b c x number
           → t'.book.log ≡ c.log → t'.book.entries ≡ c.entries → t'.book.ended ≡ c.ended → t'.book.holes ≡ (room_after (room v.layout v.opening J) e).holes
-          → suc (last_after t.book.log.lines.last x) ≡ (book_after (book v.opening.formula J) e).next → ends x ≡ list_any is_empty (added (e ∷ [])) → IsTurn written flushed target faults v t'
+          → suc (last_after t.book.log.lines.last x) ≡ (book_after (book v.opening.formula J) e).next → ends x ≡ list_any is_empty (added (e ∷ [])) → IsTurn written flushed target faults v t' × (t'.book.log.lines.spent ≡ false)
       line_turn t' x number line noted_is refused_is b b_lines b_entries b_ended b_kept c put log_are entries_are ended_are holes_are last end =
           let state = put.put.state in
           let lines_are : t'.book.log.lines ≡ c.log.lines = ap (λ k. k.lines) log_are in
           let kept_are : t'.book.log.kept.lines ≡ with_line t.book.log.kept.lines x = ap (λ k. k.kept.lines) log_are ∙ put.kept ∙ ap (λ k. with_line k x) b_kept in
           let whole : t'.book.log.lines.spent ≡ false = ap (λ l. l.spent) lines_are ∙ ap (λ (l : LineState). l.spent) state ∙ ap (λ l. l.spent) b_lines ∙ could.1 in
           let was : HasText O J (told_by written flushed target faults b.log.lines) = subst (λ l. HasText O J (told_by written flushed target faults l)) (sym b_lines) (h.stands.log.sink.whole could.1) in
-          let bytes = has_text_next O J (told_by written flushed target faults b.log.lines) (told_by written flushed target faults c.log.lines) x was e line number put.put in
-          note_turn t' noted_is refused_is whole holes_are (entries_are ∙ put.entries ∙ ap (λ (k : ℕ). k + 1) b_entries)
-          (ap (λ l. suc l.last) lines_are ∙ ap (λ (l : LineState). suc l.last) state ∙ ap (λ l. suc (last_after l.last x)) b_lines ∙ last)
-          (ended_are ∙ put.ended ∙ (λ i. b_ended i || end i))
-          (ap is_some kept_are ∙ some_with t.book.log.kept.lines x)
-          (λ ls q. kept_grown t.book.log.kept.lines t'.book.log.kept.lines (lines v.opening.formula J) x kept_are (h.stands.log.kept could.1) ls q ∙ ap (λ (xs : List Line). lines v.opening.formula J ++ xs) (sym line))
-          (subst (λ l. HasText O (J ++ e ∷ []) (told_by written flushed target faults l)) (sym lines_are) bytes)
-          (ap (λ l. target l.sink) lines_are ∙ ap (λ (l : LineState). l.target) state ∙ ap (λ l. target l.sink) b_lines)
-          (ap (λ l. flushed l.sink) lines_are ∙ ap (λ (l : LineState). l.flushed) state ∙ ap (λ l. flushed l.sink) b_lines)
+          let bytes = has_text_next O J (told_by written flushed target faults b.log.lines) (told_by written flushed target faults c.log.lines) x was e line number put.put in (
+            note_turn t' noted_is refused_is whole holes_are (entries_are ∙ put.entries ∙ ap (λ (k : ℕ). k + 1) b_entries)
+                (ap (λ l. suc l.last) lines_are ∙ ap (λ (l : LineState). suc l.last) state ∙ ap (λ l. suc (last_after l.last x)) b_lines ∙ last)
+                (ended_are ∙ put.ended ∙ (λ i. b_ended i || end i))
+                (ap is_some kept_are ∙ some_with t.book.log.kept.lines x)
+                (λ ls q. kept_grown t.book.log.kept.lines t'.book.log.kept.lines (lines v.opening.formula J) x kept_are (h.stands.log.kept could.1) ls q ∙ ap (λ (xs : List Line). lines v.opening.formula J ++ xs) (sym line))
+                (subst (λ l. HasText O (J ++ e ∷ []) (told_by written flushed target faults l)) (sym lines_are) bytes)
+                (ap (λ l. target l.sink) lines_are ∙ ap (λ (l : LineState). l.target) state ∙ ap (λ l. target l.sink) b_lines)
+                (ap (λ l. flushed l.sink) lines_are ∙ ap (λ (l : LineState). l.flushed) state ∙ ap (λ l. flushed l.sink) b_lines),
+            whole,
+          )
 
       more_refused : (x : Maybe Refusal) (now : Bool) → (t.book.log.lines.spent ≡ true → now ≡ true) → IfSome x (λ z. IsRefused v.opening J t.book.log.lines.spent z) → IfSome x (λ z. IsRefused v.opening J now z)
       more_refused None now more q = q

@@ -32,13 +32,14 @@ free_still v w m h =
 
 module _ {S : Type 0} {d : Ghosts S} (written flushed target : S → Option (List ℕ)) (faults : S → ℕ) where
   pub has_book : (v w : View) (b : Book S d) (J : List Entry) (fault : Bool) (free new : ℕ) → w ≡ after_take free new J fault v → new ≡ free + (only v).core.ring + 1 → StandsFor account_of (IsLogOf written flushed target faults) b v.origin v.layout v.opening J fault
-      → ((only v).failed ≡ true → fault ≡ true) → HasBook written flushed target faults v w b
-  has_book v w b J fault free new e new_is h still = record {
+      → ((only v).failed ≡ true → fault ≡ true) → (v.opening.rings ≡ 1 → fault ≡ true → (only v).failed ≡ true) → HasBook written flushed target faults v w b
+  has_book v w b J fault free new e new_is h still alone = record {
     journal = J;
     free = free;
     view = e ∙ (λ i. after_take free (new_is i) J (sym h.faulty i) v);
     stands = subst (StandsFor account_of (IsLogOf written flushed target faults) b v.origin v.layout v.opening J) (sym h.faulty) h;
     still = λ q. h.faulty ∙ still q;
+    alone = λ one q. alone one (sym h.faulty ∙ q);
   }
 
   -- nothing is written yet

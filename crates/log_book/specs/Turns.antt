@@ -110,12 +110,13 @@ module _ {S : Type 0} {d : Ghosts S} (written flushed target : S → Option (Lis
     pub refused : WasRefused v t.noted.items t.refused t.book.log.lines.spent
     pub stands : Stands t.book v.origin v.layout v.opening (sheet v t).journal t.book.log.lines.spent
 
-  -- with one more note
+  -- with one more note, and no failed write
   pub record Grown (v : View) (old new : Turn S d) (n : Note) : Type 0 where
     pub noted : new.noted.items ≡ old.noted.items ++ n ∷ []
     pub refused : new.refused ≡ old.refused
     pub turn : IsTurn v new
     pub going : CouldWrite v old
+    pub whole : new.book.log.lines.spent ≡ false
 
   -- with none
   pub record Stopped (v : View) (old new : Turn S d) (e : TurnStop) : Type 0 where
@@ -132,13 +133,15 @@ module _ {S : Type 0} {d : Ghosts S} (written flushed target : S → Option (Lis
     pub turn : IsTurn v new
     pub alike : e ≢ ProofFault → AreAlike old.book new.book
 
-  -- the pass's ring has taken the turn, and the book with it; where it was told of a failed write, one has failed
+  -- the pass's ring has taken the turn, and the book with it; where it was told of a failed write, one has failed, and where
+  -- there is no other ring one has failed only where it was told so
   pub record HasBook (v w : View) (b : Book S d) : Type 0 where
     pub journal : List Entry
     pub free : ℕ
     pub view : w ≡ after_take free (free + (only v).core.ring + 1) journal b.log.lines.spent v
     pub stands : Stands b v.origin v.layout v.opening journal b.log.lines.spent
     pub still : (only v).failed ≡ true → b.log.lines.spent ≡ true
+    pub alone : v.opening.rings ≡ 1 → b.log.lines.spent ≡ true → (only v).failed ≡ true
 
   -- the pass's ring has taken the turn, in which nothing is written yet
   pub record HasTaken (v w : View) (t : Turn S d) : Type 0 where

@@ -39,14 +39,16 @@ returns-in-Ok-write-clause-added g c =
     let copied : c.in-Ok-from_slice.noted ≡ lits = c.in-Ok-from_slice.ensures in
     let noted_is = c.push_reserved.ensures.items ∙ (λ i. c.make_room.ensures.noted.0 i ++ Clause c.args.kind (copied i) c.args.glue a ∷ []) in
     let last = h.stands.log.last in
+    let stood = line_turn g.S.Sink.written g.S.Sink.flushed g.S.Sink.target g.S.Sink.faults v t c.requires.seen h note could (k.0, k.1, k.2, k.3, fit) _ refl _ (AddLine c.in-Ok.copy) _ (λ i. AddLine (sym c.in-Ok.ensures i) ∷ []) noted_is c.make_room.ensures.noted.1
+    _ same.lines same.entries same.ended same.kept c.write.new.self c.in-Ok-write.ensures refl refl refl
+    (c.in-Ok-write.ensures.holes ∙ c.in-Ok-take.ensures.left ∙ (λ i. without_fit (need_is i) (holes_are i)) ∙ sym (ap (λ (q : Room). q.holes) (long_entry m (next_number v.opening (sheet v t).journal) lits (only v).core.ring c.args.kind long ∙ ap (with_clause (next_number v.opening (sheet v t).journal) (length lits) m) fit)))
+    (omega arith) (ap is_empty c.in-Ok.ensures ∙ (not_empty lits long).0 ∙ sym (not_empty lits long).1) in
     record {
       noted = noted_is;
       refused = c.make_room.ensures.noted.1;
-      turn = line_turn g.S.Sink.written g.S.Sink.flushed g.S.Sink.target g.S.Sink.faults v t c.requires.seen h note could (k.0, k.1, k.2, k.3, fit) _ refl _ (AddLine c.in-Ok.copy) _ (λ i. AddLine (sym c.in-Ok.ensures i) ∷ []) noted_is c.make_room.ensures.noted.1
-          _ same.lines same.entries same.ended same.kept c.write.new.self c.in-Ok-write.ensures refl refl refl
-          (c.in-Ok-write.ensures.holes ∙ c.in-Ok-take.ensures.left ∙ (λ i. without_fit (need_is i) (holes_are i)) ∙ sym (ap (λ (q : Room). q.holes) (long_entry m (next_number v.opening (sheet v t).journal) lits (only v).core.ring c.args.kind long ∙ ap (with_clause (next_number v.opening (sheet v t).journal) (length lits) m) fit)))
-          (omega arith) (ap is_empty c.in-Ok.ensures ∙ (not_empty lits long).0 ∙ sym (not_empty lits long).1);
+      turn = stood.0;
       going = could;
+      whole = stood.1;
     }
 
 pub returns-in-Err-write-clause-stopped : goal.returns-in-Err-write-clause-stopped

@@ -68,12 +68,14 @@ returns-in-Ok-write-clause-added g c =
     let line : unwrap_or ((book v.opening.formula (sheet v t).journal).clause n) [] ≡ (waiting v t a).lits = ap (λ (q : Option (List Literal)). unwrap_or q []) w.clause in
     let given : c.give.new.self ≡ with_range a (words_for (length (waiting v t a).lits)) m.holes = c.in-Ok-give.ensures.given ∙ (λ i. with_range a (n_is i) (holes_are i)) in
     let noted_is = c.push_reserved.ensures.items ∙ ap (λ (ns : List Note). ns ++ note ∷ []) c.make_room.ensures.noted.0 in
+    let stood = line_turn g.S.Sink.written g.S.Sink.flushed g.S.Sink.target g.S.Sink.faults v t c.requires.seen h note could c.requires.note _ refl _ (DelLine c.in-Ok.copy) _ (λ i. DelLine ((line ∙ sym made) i) ∷ []) noted_is c.make_room.ensures.noted.1
+    _ same.lines same.entries same.ended same.kept c.write.new.self c.in-Ok-write.ensures refl refl refl (c.in-Ok-write.ensures.holes ∙ given ∙ sym (ap (λ (q : Option Hole). (without_words n m q).holes) w.words)) h.stands.log.last refl in
     record {
       noted = noted_is;
       refused = c.make_room.ensures.noted.1;
-      turn = line_turn g.S.Sink.written g.S.Sink.flushed g.S.Sink.target g.S.Sink.faults v t c.requires.seen h note could c.requires.note _ refl _ (DelLine c.in-Ok.copy) _ (λ i. DelLine ((line ∙ sym made) i) ∷ []) noted_is c.make_room.ensures.noted.1
-          _ same.lines same.entries same.ended same.kept c.write.new.self c.in-Ok-write.ensures refl refl refl (c.in-Ok-write.ensures.holes ∙ given ∙ sym (ap (λ (q : Option Hole). (without_words n m q).holes) w.words)) h.stands.log.last refl;
+      turn = stood.0;
       going = could;
+      whole = stood.1;
     }
 
 pub returns-clause-stopped : goal.returns-clause-stopped

@@ -19,12 +19,14 @@ returns-in-Ok-clause-added g c =
     let put = subst (λ (ls : List Literal). HasPut g.S.Sink.written g.S.Sink.flushed g.S.Sink.target g.S.Sink.faults c.make_room.new.self.book c.write.new.self (AddLine ls) c.in-Ok.field-0) (c.from_vec.ensures ∙ c.new.ensures.items) c.in-Ok.ensures in
     let noted_is = c.push_reserved.ensures.items ∙ ap (λ (ns : List Note). ns ++ note ∷ []) c.make_room.ensures.noted.0 in
     let last = h.stands.log.last in
+    let stood = line_turn g.S.Sink.written g.S.Sink.flushed g.S.Sink.target g.S.Sink.faults v t c.requires.seen h note could c.requires.note _ refl _ (AddLine []) _ refl noted_is c.make_room.ensures.noted.1
+    c.make_room.new.self.book same.lines same.entries same.ended same.kept c.write.new.self put refl refl refl (put.holes ∙ same.holes ∙ h.stands.holes could.1) (omega arith) refl in
     record {
       noted = noted_is;
       refused = c.make_room.ensures.noted.1;
-      turn = line_turn g.S.Sink.written g.S.Sink.flushed g.S.Sink.target g.S.Sink.faults v t c.requires.seen h note could c.requires.note _ refl _ (AddLine []) _ refl noted_is c.make_room.ensures.noted.1
-          c.make_room.new.self.book same.lines same.entries same.ended same.kept c.write.new.self put refl refl refl (put.holes ∙ same.holes ∙ h.stands.holes could.1) (omega arith) refl;
+      turn = stood.0;
       going = could;
+      whole = stood.1;
     }
 
 pub returns-clause-stopped : goal.returns-clause-stopped

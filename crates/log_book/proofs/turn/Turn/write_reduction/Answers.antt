@@ -34,6 +34,7 @@ returns-clause-added g c =
           (subst (λ l. HasText (begun F (began v.origin F)) (J ++ ReduceEntry (only v).core.ring ∷ []) (told_by g.S.Sink.written g.S.Sink.flushed g.S.Sink.target g.S.Sink.faults l.lines)) (sym x.0) (text_still F (began v.origin F) J (ReduceEntry (only v).core.ring) _ refl (h.stands.log.sink.whole could.1)))
           (ap (λ l. g.S.Sink.target l.lines.sink) x.0) (ap (λ l. g.S.Sink.flushed l.lines.sink) x.0);
       going = could;
+      whole = ap (λ l. l.lines.spent) x.0 ∙ could.1;
     }
   where
     or_none : (b : Bool) → b ≡ (b || false)

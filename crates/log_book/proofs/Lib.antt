@@ -1,4 +1,5 @@
 pub mod Standings
 pub mod Waits
 pub mod Taking
+pub mod Ending
 pub mod Filling

@@ -1,3 +1,4 @@
 pub mod Kept
 pub mod Books
+pub mod Ended
 pub mod Turns

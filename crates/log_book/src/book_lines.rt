@@ -11,6 +11,7 @@ ghost use Rattle.rup_model.specs.declared.journal.Entry.{Entry};
 ghost use Rattle.share_rule.specs.declared.Layout.{Layout};
 ghost use Rattle.share_rule.specs.Books.{HasLog};
 ghost use Rattle.log_book.specs.Books.{ends, begun, told_of, told_new, account_of, origin_of, IsNew, IsFilled, IsFrom, IsCutOff, IsCutLog, IsLogOf, AreAlike, HasPut, HasFailed};
+ghost use Rattle.log_book.specs.Ended.{HasEnded};
 ghost use Rattle.log_book.specs.Kept.{IsReady};
 
 use crate::book::Book;
@@ -127,6 +128,7 @@ impl<S: Sink> Book<S> {
         ensures cause { self.log.lines.spent ≡ false → HasCause (S.faults self.log.lines.sink) (S.faults result.1) result.0 }
         ensures flushed { (S.flushed result.1 ≡ S.written result.1) ⊎ ((S.flushed result.1 ≡ S.flushed self.log.lines.sink) × Rose (S.faults self.log.lines.sink) (S.faults result.1)) }
         ensures later { S.faults self.log.lines.sink ≤ S.faults result.1 }
+        ensures ended { HasEnded S.written S.flushed S.faults self result.1 }
         ensures target { S.target result.1 ≡ S.target self.log.lines.sink }
     {
         let Book { log, .. } = self;

@@ -1,7 +1,7 @@
 -- Once all rings ran over an open table and the table was closed, the answer holds over one journal, whose lines the book has.
 use Rattle.io_edge.specs.declared.edge.Sink.{Ghosts}
 use Rattle.std.proofs.Common.{◌≡◌, ◌∙◌, ◌^◌, ◌<◌, ◌≤◌, ◌==◌, ℕ, suc, Bool, true, List, [], ◌∷◌, replicate, map, ne_eqb, Ok, refl, sym, ap, subst, arith, inl, inr}
-use Rattle.std.specs.Prelude.{◌⊎◌, All, Option}
+use Rattle.std.specs.Prelude.{◌⊎◌, All, Option, Some, is_some}
 use mathlib.Core.Option.{some}
 use mathlib.Core.Logic.{dite}
 use native.Mathlib.Decide.{ℕ_discrete}
@@ -10,11 +10,13 @@ use Rattle.io_edge.specs.Causes.{Rose}
 use Rattle.atomic_table.specs.declared.shared.Seat.{Seat}
 use Rattle.sat_words.specs.Literal.{IsOn}
 use Rattle.sat_words.specs.FormulaData.{FormulaData}
+use Rattle.sat_words.specs.declared.shared.TheConstants.{STOP_SAT, STOP_REFUTED, STOP_ROOM, STOP_PROOF, STOP_MEMORY}
 use Rattle.rup_model.specs.declared.journal.TheConstants.{RULER_RING}
 use Rattle.rup_model.specs.declared.journal.Entry.{Entry}
 use Rattle.rup_model.specs.Basics.{one_if}
 use Rattle.share_core.specs.declared.part.CoreOpening.{CoreOpening}
 use Rattle.share_core.specs.declared.part.Part.{Part}
+use Rattle.share_core.proofs.Counting.{none_some, some_same}
 use Rattle.share_rule.specs.declared.Layout.{Layout}
 use Rattle.share_rule.specs.declared.Shared.{Shared}
 use Rattle.share_rule.specs.declared.view.BookOrigin.{BookOrigin}
@@ -31,10 +33,12 @@ use Rattle.ring_run.specs.declared.job.Counts.{Counts}
 use Rattle.ruler_simp.specs.declared.ruling.Outcome.TheVariants.{Simplified as LeftOver}
 use Rattle.ruler_simp.specs.declared.ruling.Simplified.{Simplified}
 use Rattle.portfolio_run.specs.declared.answer.Answer.{Answer}
+use Rattle.portfolio_run.specs.declared.answer.Answer.TheVariants.{Sat, Unsat, Unknown, NoHole, ProofFault, Memory}
 use Rattle.portfolio_run.specs.declared.plan.Plan.{Plan}
 use Rattle.portfolio_run.specs.Held.{no_counts}
 use Rattle.portfolio_run.specs.Reached.{Records, WasRuled, HasReached, IsGathered, HaveRested}
 use Rattle.portfolio_run.specs.Searched.{HasRunTo, HasStarved, HasSearched, AllSpent, WasWon}
+use Rattle.portfolio_run.specs.Solved.{kind_of}
 use Rattle.portfolio_run.proofs.Deciding.{IsDecided, starved, decided_spent, decided_won}
 use Rattle.portfolio_run.proofs.Gathered.{GoesOn, began_with, entries, goes_on, records}
 
@@ -45,6 +49,15 @@ part_at r (q ∷ ps) h = dite (ℕ_discrete (ring_of q) r)
     (λ e. (0, q, refl, e))
     (λ ne. let z : one_if (ring_of q == r) ≡ 0 = ap one_if (ne_eqb (ring_of q) r ne) in let t = part_at r ps (omega arith) in (suc t.0, t.1, t.2, t.3))
 
+-- a fault of the proof alone has its kind
+fault_kind : (answer : Answer) → kind_of answer ≡ Some STOP_PROOF → answer ≡ ProofFault
+fault_kind (Sat model) e = absurd (let k = some_same STOP_SAT STOP_PROOF e in omega arith)
+fault_kind Unsat e = absurd (let k = some_same STOP_REFUTED STOP_PROOF e in omega arith)
+fault_kind Unknown e = absurd (none_some STOP_PROOF e)
+fault_kind (NoHole lack) e = absurd (let k = some_same STOP_ROOM STOP_PROOF e in omega arith)
+fault_kind ProofFault e = refl
+fault_kind Memory e = absurd (let k = some_same STOP_MEMORY STOP_PROOF e in omega arith)
+
 -- in both cases the passes are gathered
 pub gathered_of : {B : Type 0} (t : Shared B) (v : View) (home : List ℕ) (plan : Plan) (left : Simplified) (p : Seat (Option B) View) (before tally : List Counts) (answer : Answer) → HasSearched t v home plan left.stack p before tally answer → IsGathered t v p
 gathered_of t v home plan left p before tally answer (inl h) = h.run.gathered
@@ -53,7 +66,7 @@ gathered_of t v home plan left p before tally answer (inr h) = h.rested.gathered
 module _ {S : Type 0} {d : Ghosts S} (written flushed target : S → Option (List ℕ)) (faults : S → ℕ) (sink : S) (plan : Plan) (F : FormulaData) (old : Book S d) (left : Simplified) (l : Layout) (origin : BookOrigin)
     (few : F.vars ≤ 2 ^ 30) (on : All (All (IsOn F.vars)) F.clauses) (some_conflicts : 1 ≤ plan.conflicts) (some_ring : 1 ≤ plan.threads) (few_rings : plan.threads ≤ 16)
     (was : WasRuled written flushed target faults sink plan F old (Ok (LeftOver left))) (rings_are : l.rings ≡ plan.threads) (vars_are : l.vars ≡ F.vars)
-    (faults_are : origin.faults ≡ faults sink) (target_is : origin.target ≡ target sink)
+    (faults_are : origin.faults ≡ faults sink) (target_is : origin.target ≡ target sink) (keeps_are : origin.keeps ≡ plan.keep_lines)
     (t : Shared (Book S d)) (home : List ℕ) (p : Seat (Option (Book S d)) View) (tally : List Counts) (answer : Answer)
     (b : Book S d) (s : Seen p.me.0) (fault : Bool) (stands : StandsFor account_of (IsLogOf written flushed target faults) b p.me.0.origin p.me.0.layout p.me.0.opening s.core.journal fault) (tells : TellsFaults p.me.0.parts fault) where
   abbrev v : View
@@ -104,9 +117,28 @@ module _ {S : Type 0} {d : Ghosts S} (written flushed target : S → Option (Lis
     pub sink_failed : b.log.lines.spent ≡ true → Rose (faults sink) (faults b.log.lines.sink)
     sink_failed spent = subst (λ (n : ℕ). Rose n (faults b.log.lines.sink)) (ap (λ (x : BookOrigin). x.faults) gathered.same.origin ∙ faults_are) (stands.log.sink.cut spent).rose
 
-    -- both
+    -- lines are kept where that was asked for
+    asked : is_some b.log.kept.lines ≡ plan.keep_lines
+    asked = stands.log.keeps ∙ ap (λ (o : BookOrigin). o.keeps) gathered.same.origin ∙ keeps_are
+
+    -- all of it
     pub has_reached : HasReached written flushed target faults sink plan F answer tally b
-    has_reached = let h = by_search searched in record { journal = s.core.journal; records = book_records; reached = record { stands = h.stands; ruled = h.ruled.ruled; held = h.held; holds = h.holds; through = λ _. h.ruled; rose = λ e. sink_failed (h.rose e) } }
+    has_reached =
+        let h = by_search searched in
+        record {
+          journal = s.core.journal;
+          records = book_records;
+          reached = record {
+            stands = h.stands;
+            ruled = h.ruled.ruled;
+            held = h.held;
+            stop = h.stop;
+            holds = h.holds;
+            through = λ _. h.ruled;
+            faults_fit = record { rose = λ e. sink_failed (h.rose (fault_kind answer e)); calm = λ _. inr h.ruled };
+          };
+          asked = λ _. asked;
+        }
 
   -- over a table whose first pass knew no more than what it was opened with, where nothing was counted before
   pub concluded : (u : View) (before : List Counts) → u ≡ v → before ≡ replicate plan.threads no_counts → HasSearched t u home plan left.stack p before tally answer → HasReached written flushed target faults sink plan F answer tally b

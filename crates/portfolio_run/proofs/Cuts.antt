@@ -18,7 +18,7 @@ use Rattle.drat_text.specs.Text.{CanBeSpelled, text, line_text}
 use Rattle.drat_text.specs.Front.{IsCutText}
 use Rattle.drat_text.proofs.Fronts.{cut_text}
 use Rattle.drat_text.proofs.JournalLines.{text_last}
-use Rattle.log_book.specs.Kept.{HoldsText}
+use Rattle.log_book.specs.Kept.{HoldsText, IsFrontTold}
 use Rattle.portfolio_run.specs.Journaled.{IsCutShort}
 
 abbrev IsSpelled : Line → Type 0
@@ -109,3 +109,9 @@ cut_whole F J all written accepted spelled holds f =
     (append_known all (line_text any_line)) written
     (subst (HoldsText (append_known all (line_text any_line))) (sym (text_last L any_line)) (longer all (text L) (line_text any_line) holds))
     (front_of_more written all (line_text any_line) f)
+
+-- a front of the bytes of a text is one of the text
+pub front_told : (w all : Option (List ℕ)) (t : List ℕ) → HoldsText all t → IsFront w all → IsFrontTold w t
+front_told None all t holds f = tt
+front_told (Some bytes) None t holds f = absurd (let e = f.whole in let no : ⊥ = cc in no)
+front_told (Some bytes) (Some xs) t holds f = subst (λ (ys : List ℕ). IsFront (Some bytes) (Some ys)) holds f

@@ -1,10 +1,12 @@
 -- The answer of the end that counts holds over the journal of all rings.
-use Rattle.std.proofs.Common.{◌≡◌, ◌∙◌, ◌<◌, ℕ, Bool, true, false, List, [], ◌++◌, map, length, replicate, get_or, refl, sym, ap, subst, arith, inl, inr}
-use Rattle.std.specs.Prelude.{Some}
+use Rattle.std.proofs.Common.{◌≡◌, ◌∙◌, ◌<◌, ℕ, Bool, true, false, List, [], ◌++◌, map, length, replicate, get_or, refl, sym, ap, subst, arith, inl, inr, eq-eqb}
+use Rattle.std.specs.Prelude.{Some, None, Option, if◌then◌else◌}
+use Rattle.std.specs.Option.{option_map}
 use Rattle.std.proofs.lemmas.List.{get_or-map, length-map}
 use Rattle.std.specs.List.{list_any}
 use Rattle.sat_words.specs.Clause.{is_empty}
 use Rattle.sat_words.specs.FormulaData.{FormulaData}
+use Rattle.sat_words.specs.declared.shared.TheConstants.{STOP_SAT, STOP_MEMORY}
 use Rattle.rup_model.specs.declared.journal.Entry.{Entry}
 use Rattle.rup_model.specs.Journal.{added, ended, learned}
 use Rattle.rup_model.specs.Opening.{program_opening}
@@ -12,7 +14,9 @@ use Rattle.rup_model.specs.Spent.{ruler_part}
 use Rattle.share_core.specs.declared.part.CoreOpening.{CoreOpening}
 use Rattle.share_core.specs.declared.part.Placed.{Placed}
 use Rattle.share_core.specs.State.{opening_of}
-use Rattle.share_core.proofs.Counting.{none_some}
+use Rattle.share_core.specs.declared.event.Stop.{Stop}
+use Rattle.share_core.proofs.Leaving.{left_sound}
+use Rattle.share_core.proofs.Counting.{none_some, some_same}
 use Rattle.share_rule.specs.declared.Layout.{Layout}
 use Rattle.share_rule.specs.declared.view.BookOrigin.{BookOrigin}
 use Rattle.share_rule.specs.declared.view.View.{View}
@@ -20,7 +24,7 @@ use Rattle.share_rule.specs.FirstWords.{starts_at}
 use Rattle.share_rule.specs.Layout.{first_cell}
 use Rattle.share_rule.specs.Passes.{TellsFaults}
 use Rattle.share_rule.specs.Seen.{Seen}
-use Rattle.share_rule.specs.Views.{first_view, start_glues}
+use Rattle.share_rule.specs.Views.{first_view, start_glues, own_stop}
 use Rattle.ring_port.specs.PortState.{PortState}
 use Rattle.ring_run.specs.declared.job.Counts.{Counts}
 use Rattle.ring_run.specs.declared.job.End.{End}
@@ -30,12 +34,13 @@ use Rattle.ruler_simp.specs.declared.ruling.Simplified.{Simplified}
 use Rattle.portfolio_run.specs.declared.answer.Answer.{Answer}
 use Rattle.portfolio_run.specs.declared.answer.Answer.TheVariants.{Unknown, ProofFault, Memory}
 use Rattle.portfolio_run.specs.declared.plan.Plan.{Plan}
-use Rattle.portfolio_run.specs.Held.{IsProgramOpening, IsTallied, RanOnce, IsHeld, no_counts}
+use Rattle.portfolio_run.specs.Ends.{set_of}
+use Rattle.portfolio_run.specs.Held.{IsProgramOpening, IsTallied, RanOnce, IsHeld, HasStop, no_counts}
 use Rattle.portfolio_run.specs.Journaled.{IsJournal, IsUnrefuted}
 use Rattle.portfolio_run.specs.Reached.{RanAt}
 use Rattle.portfolio_run.specs.Ruled.{IsRuledThrough}
 use Rattle.portfolio_run.specs.Searched.{answer_of, AllSpent, WasWon}
-use Rattle.portfolio_run.specs.Solved.{Holds, IsUnsettled}
+use Rattle.portfolio_run.specs.Solved.{Holds, IsUnsettled, kind_of}
 use Rattle.portfolio_run.proofs.Gathered.{GoesOn, began_with}
 use Rattle.portfolio_run.proofs.Interleaving.{own, none_of}
 use Rattle.portfolio_run.proofs.Mending.{alike, model, placed_starts}
@@ -49,6 +54,7 @@ pub record IsDecided (plan : Plan) (F : FormulaData) (answer : Answer) (tally : 
   pub stands : IsJournal plan.threads F.clauses J
   pub ruled : IsRuledThrough F plan.rounds J
   pub held : IsHeld plan.threads plan.conflicts F.clauses J tally
+  pub stop : HasStop held (kind_of answer)
   pub holds : Holds plan F J answer
   pub rose : answer ≡ ProofFault → Failed
 
@@ -94,6 +100,7 @@ module _ (plan : Plan) (F : FormulaData) (left : Simplified) (l : Layout) (origi
         stands = journal_stands F J0 K threads o t;
         ruled = g.through;
         held = inl (record { rulers = rings_is F J0 K threads o t ∙ none_of plan.threads K g.of_rings own_none; none = inr none });
+        stop = (λ e. absurd (let k = some_same STOP_MEMORY STOP_SAT e in omega arith), λ e. none_some STOP_MEMORY (sym e));
         holds = unsettled F J0 K threads o t plan.conflicts 0 some_ring
             (let h : length (learned 0 (own 0 K)) ≡ 0 = ap (λ (I : List Entry). length (learned 0 I)) none_there in let k = g.some in omega (arith, h, k))
             (ap (λ (I : List Entry). list_any is_empty (added I)) none_there);
@@ -164,15 +171,29 @@ module _ (plan : Plan) (F : FormulaData) (left : Simplified) (l : Layout) (origi
       tallied = tallied_at;
     }
 
-    decided : (Failed : Type 0) (answer : Answer) → Holds plan F J answer → (answer ≡ ProofFault → Failed) → IsDecided plan F answer tally Failed s.core.journal
-    decided Failed answer holds rose =
+    decided : (Failed : Type 0) (answer : Answer) → option_map (λ (x : Stop). x.kind) s.core.stop ≡ kind_of answer → Holds plan F J answer → (answer ≡ ProofFault → Failed) → IsDecided plan F answer tally Failed s.core.journal
+    unfolding ran_once
+    decided Failed answer stop holds rose =
         subst (IsDecided plan F answer tally Failed) (sym g.journal_is)
-        (record { stands = journal_stands F J0 K plan.threads (starts_from v) t; ruled = g.through; held = inr ran_once; holds = holds; rose = rose })
+        (record { stands = journal_stands F J0 K plan.threads (starts_from v) t; ruled = g.through; held = inr ran_once; stop = stop; holds = holds; rose = rose })
+
+    -- where each ring is spent, none has set a stop
+    set_none : ((r : ℕ) → r < plan.threads → end_at r ≡ end.Spent) → (r : ℕ) → r < plan.threads → own_stop r s.core.stop ≡ None
+    set_none spent r lt =
+        let h = ran_at r lt in
+        ap (λ (q : ℕ). own_stop q s.core.stop) (sym h.ring_is) ∙ sym (s.parts r h.part h.there).set ∙ h.ran.set ∙ ap (set_of r) (spent r lt)
+
+    unstopped : ((r : ℕ) → r < plan.threads → end_at r ≡ end.Spent) → (x : Option Stop) → s.core.stop ≡ x → x ≡ None
+    unstopped spent None is = refl
+    unstopped spent (Some y) is =
+        let lt : y.ring < plan.threads = subst (λ (n : ℕ). y.ring < n) (ap (λ (q : CoreOpening). q.rings) g.opening_is ∙ g.rings_are) ((left_sound s.core.opening s.core s.left).stops.kinds y is).2 in
+        absurd (none_some y (sym (set_none spent y.ring lt) ∙ ap (own_stop y.ring) is ∙ ap (λ (t : Bool). if t then Some y else None) (eq-eqb y.ring y.ring refl)))
 
     -- no stop stands
     pub decided_spent : (Failed : Type 0) (answer : Answer) → AllSpent ends answer → IsDecided plan F answer tally Failed s.core.journal
     decided_spent Failed answer h =
         decided Failed answer
+        (ap (option_map (λ (x : Stop). x.kind)) (unstopped (λ r lt. h.each r none_ended (among r lt)) s.core.stop refl) ∙ ap kind_of (sym h.is))
         (subst (Holds plan F J) (sym h.is) (spent_all F J0 K plan.threads (starts_from v) t plan.conflicts one))
         (λ e. (let clash : Unknown ≡ ProofFault = sym h.is ∙ e in absurd (cc clash)))
       where
@@ -184,6 +205,16 @@ module _ (plan : Plan) (F : FormulaData) (left : Simplified) (l : Layout) (origi
                   ∙ spent_is v w home plan s r (end_at r) (counts_at r) (ran_at r lt) plan.threads g.rings_are lt K start (g.wrote r lt) is,
               unrefuted_at r lt intact.going,
             )
+
+    -- the stop that an end sets is of its answer's kind
+    answers_kind : (x : End) → kind_of (answer_of left.stack x) ≡ stop_kind x
+    answers_kind (end.Sat a) = refl
+    answers_kind end.Refuted = refl
+    answers_kind end.Spent = refl
+    answers_kind (end.Stopped x) = refl
+    answers_kind (end.NoHole lack) = refl
+    answers_kind end.ProofFault = refl
+    answers_kind end.Memory = refl
 
     -- what the end of a ring whose stop stands says
     module _ (r : ℕ) (lt : r < plan.threads) where
@@ -222,5 +253,6 @@ module _ (plan : Plan) (F : FormulaData) (left : Simplified) (l : Layout) (origi
         let lt : h.ring < plan.threads = let below = h.won.below in omega (arith, below, many) in
         let is : answer ≡ answer_of left.stack (end_at h.ring) = h.is none_ended in
         decided Failed answer
+        (ap (option_map (λ (x : Stop). x.kind)) (s.stops.stands (record { kind = h.won.kind; ring = h.ring }) h.won.stop) ∙ sym (h.won.decided none_ended) ∙ sym (answers_kind (end_at h.ring)) ∙ ap kind_of (sym is))
         (subst (Holds plan F J) (sym is) (holds_by h.ring lt h.won.kind (end_at h.ring) refl (cause_at h.ring lt) (h.won.decided none_ended)))
         (λ e. fails (rose_by h.ring lt fault tells (end_at h.ring) (cause_at h.ring lt) (sym is ∙ e)))

@@ -1,7 +1,7 @@
 -- An answer once its proof is finished.
 use Rattle.io_edge.specs.declared.edge.Sink.{Ghosts}
 use Rattle.std.proofs.Common.{◌≡◌, ◌∙◌, ◌^◌, ◌≤◌, ℕ, Bool, true, false, List, [], ◌∷◌, ◌++◌, Some, None, refl, sym, ap, subst, inl, inr, arith, append-nil, true≢false}
-use Rattle.std.specs.Prelude.{All, IfSome, ◌⊎◌, Result, Ok, Err, OnOk, OnErr}
+use Rattle.std.specs.Prelude.{All, IfSome, is_some, Result, Ok, Err, OnOk, OnErr}
 use Rattle.std.specs.declared.option.Option.{Option}
 use Rattle.std.specs.Io.KnownBytes.{append_known}
 use Rattle.std.proofs.lemmas.Bool.{cases_Bool}
@@ -20,15 +20,16 @@ use Rattle.drat_text.specs.SinkData.{told_by}
 use Rattle.drat_text.proofs.JournalLines.{text_last}
 use Rattle.log_book.specs.declared.book.Book.{Book}
 use Rattle.log_book.specs.Books.{no_byte}
-use Rattle.log_book.specs.Kept.{HoldsText}
+use Rattle.log_book.specs.Ended.{HasEnded}
+use Rattle.log_book.specs.Kept.{HoldsText, IsFrontTold}
 use Rattle.ring_run.specs.declared.job.Counts.{Counts}
 use Rattle.portfolio_run.specs.declared.answer.Answer.{Answer}
 use Rattle.portfolio_run.specs.declared.answer.Answer.TheVariants.{Sat, Unsat, Unknown, NoHole, ProofFault, Memory}
 use Rattle.portfolio_run.specs.declared.plan.Plan.{Plan}
 use Rattle.portfolio_run.specs.Journaled.{IsCutShort}
 use Rattle.portfolio_run.specs.Reached.{HasReached}
-use Rattle.portfolio_run.specs.Solved.{is_verdict, unfinished, Holds, IsSure, IsSolved, IsClosed}
-use Rattle.portfolio_run.proofs.Cuts.{cut_short, cut_whole, front_of_front, front_of_same}
+use Rattle.portfolio_run.specs.Solved.{is_verdict, unfinished, IsSure, IsFinished, IsSolved}
+use Rattle.portfolio_run.proofs.Cuts.{cut_short, cut_whole, front_of_front, front_of_same, front_told}
 use Rattle.portfolio_run.proofs.Spelling.{cons_All, spell_all}
 
 -- where there was no byte, the text is all there is
@@ -36,21 +37,11 @@ holds_since : (told : Bool) (t : List ℕ) → HoldsText (append_known (no_byte 
 holds_since true t = refl
 holds_since false t = tt
 
-pub on_ok : {T E : Type 0} {P : Type 0} (r : Result T E) → P → OnOk r P
-on_ok (Ok x) p = p
-on_ok (Err e) p = tt
+from_ok : {T E P : Type 0} (r : Result T E) (x : T) → r ≡ Ok x → OnOk r P → P
+from_ok {T} {E} {P} r x is h = let Q : Result T E → Type 0 = λ y. OnOk y P in subst Q is h
 
-pub on_err : {T E : Type 0} {P : Type 0} (r : Result T E) → P → OnErr r P
-on_err (Ok x) p = tt
-on_err (Err e) p = p
-
-pub ok_no_err : {T E : Type 0} (P : Type 0) (r : Result T E) (x : T) → r ≡ Ok x → OnErr r P
-ok_no_err P (Ok y) x is = tt
-ok_no_err P (Err e) x is = absurd (let no : ⊥ = cc in no)
-
-pub err_no_ok : {T E : Type 0} (P : Type 0) (r : Result T E) (e : E) → r ≡ Err e → OnOk r P
-err_no_ok P (Ok y) e is = absurd (let no : ⊥ = cc in no)
-err_no_ok P (Err d) e is = tt
+from_err : {T E P : Type 0} (r : Result T E) (x : E) → r ≡ Err x → OnErr r P → P
+from_err {T} {E} {P} r x is h = let Q : Result T E → Type 0 = λ y. OnErr y P in subst Q is h
 
 if_kept : (kept : Option (List Line)) (all : List Line) → ((ls : List Line) → kept ≡ Some ls → ls ≡ all) → IfSome kept (λ L. L ≡ all)
 if_kept None all h = tt
@@ -63,15 +54,6 @@ no_verdict Unknown = refl
 no_verdict (NoHole lack) = refl
 no_verdict ProofFault = refl
 no_verdict Memory = refl
-
--- what is answered then holds
-unfinished_holds : (plan : Plan) (formula : FormulaData) (J : List Entry) (answer : Answer) → Holds plan formula J answer → Holds plan formula J (unfinished answer)
-unfinished_holds plan formula J (Sat model) h = tt
-unfinished_holds plan formula J Unsat h = tt
-unfinished_holds plan formula J Unknown h = tt
-unfinished_holds plan formula J (NoHole lack) h = h
-unfinished_holds plan formula J ProofFault h = tt
-unfinished_holds plan formula J Memory h = h
 
 module _ {S : Type 0} {d : Ghosts S} (written flushed target : S → Option (List ℕ)) (faults : S → ℕ) (sink : S) (plan : Plan) (formula : FormulaData) (answer : Answer) (tally : List Counts) (b : Book S d)
     (h : HasReached written flushed target faults sink plan formula answer tally b) where
@@ -110,67 +92,96 @@ module _ {S : Type 0} {d : Ghosts S} (written flushed target : S → Option (Lis
   ]
 
   -- a sink that failed now, or before, has failed since
-  pub risen : (now : ℕ) → faults b.log.lines.sink ≤ now → (b.log.lines.spent ≡ false → Rose (faults b.log.lines.sink) now) → Rose (faults sink) now
+  risen : (now : ℕ) → faults b.log.lines.sink ≤ now → (b.log.lines.spent ≡ false → Rose (faults b.log.lines.sink) now) → Rose (faults sink) now
   risen now later failed = elim (cases_Bool b.log.lines.spent) as (λ _. Rose (faults sink) now) [
     | inl q ↦ (let r = rose q in omega arith)
     | inr q ↦ subst (λ (n : ℕ). Rose n now) (still q) (failed q)
   ]
 
-  -- the sink has taken all
-  pub solved_whole : (now : S) (kept : Option (List Line)) → b.log.lines.spent ≡ false → written now ≡ out.written → faults now ≡ faults b.log.lines.sink → kept ≡ b.log.kept.lines
-      → IsSolved plan formula answer tally (faults sink) (faults now) (written now) kept
-  solved_whole now kept q bytes quiet same = record {
-    journal = J;
-    stands = h.reached.stands;
-    ruled = h.reached.ruled;
-    held = h.reached.held;
-    concludes = record {
-      holds = h.reached.holds;
-      quiet = λ _. quiet ∙ still q;
-      ruled = h.reached.through;
-      rose = λ e. subst (λ (n : ℕ). Rose (faults sink) n) (sym quiet) (h.reached.rose e);
-    };
-    whole = λ _. subst (λ (w : Option (List ℕ)). HoldsText w (text (lines F J))) (sym bytes) (whole q);
-    short = short (written now) (subst (λ (w : Option (List ℕ)). IsFront w out.written) (sym bytes) (front_of_same out.written));
-    keeps = λ _. if_kept kept (lines F J) (λ ls e. h.records.kept q ls (sym same ∙ e));
-  }
-
-  -- it has failed
-  pub solved_short : (now : S) (kept : Option (List Line)) (told : Answer) → told ≡ unfinished answer → IsFront (written now) out.written → Rose (faults sink) (faults now) → IsSolved plan formula told tally (faults sink) (faults now) (written now) kept
-  solved_short now kept told is front failed =
-      let none : is_verdict told ≡ true → ⊥ = λ v. true≢false (sym v ∙ ap is_verdict is ∙ no_verdict answer) in
-      record {
-        journal = J;
-        stands = h.reached.stands;
-        ruled = h.reached.ruled;
-        held = h.reached.held;
-        concludes = record {
-          holds = subst (Holds plan formula J) (sym is) (unfinished_holds plan formula J answer h.reached.holds);
-          quiet = λ v. absurd (none v);
-          ruled = λ v. absurd (none v);
-          rose = λ _. failed;
-        };
-        whole = λ sure. absurd (unsure told none failed sure);
-        short = short (written now) front;
-        keeps = λ sure. absurd (unsure told none failed sure);
-      }
-    where
-      unsure : (a : Answer) → (is_verdict a ≡ true → ⊥) → Rose (faults sink) (faults now) → IsSure (faults sink) (faults now) a → ⊥
-      unsure a none r (inl v) = none v
-      unsure a none r (inr calm) = calm r
-
   pub target_stays : (now : S) → target now ≡ target b.log.lines.sink → target now ≡ target sink
   target_stays now same = same ∙ h.records.log.target_is ∙ h.records.target_is
 
-  -- either
-  pub solved_by : {T E : Type 0} (r : Result T E) (told : Answer) (now : S) (kept : Option (List Line)) → kept ≡ b.log.kept.lines → OnOk r (told ≡ answer) → OnErr r (told ≡ unfinished answer)
-      → OnOk r ((b.log.lines.spent ≡ false) × (written now ≡ out.written) × (flushed now ≡ written now)) → OnErr r (IsFront (written now) out.written) → (b.log.lines.spent ≡ false → HasCause (faults b.log.lines.sink) (faults now) r)
-      → faults b.log.lines.sink ≤ faults now → IsSolved plan formula told tally (faults sink) (faults now) (written now) kept
-  solved_by (Ok x) told now kept same is none whole front cause later =
-      subst (λ (a : Answer). IsSolved plan formula a tally (faults sink) (faults now) (written now) kept) (sym is) (solved_whole now kept whole.0 whole.1 (cause whole.0).quiet same)
-  solved_by (Err e) told now kept same none is whole front cause later = solved_short now kept told is front (risen (faults now) later (λ q. (cause q).failed))
+  module _ (now : S) (e : HasEnded written flushed faults b now) (bytes : IsFront (written now) out.written) where
+    poured_whole : (Rose (faults sink) e.poured → ⊥) → HoldsText (written now) (text (lines F J))
+    poured_whole calm = elim (cases_Bool b.log.lines.spent) as (λ _. HoldsText (written now) (text (lines F J))) [
+      | inl q ↦ absurd (calm (subst (λ (n : ℕ). Rose (faults sink) n) (sym (e.broken q)) (rose q)))
+      | inr q ↦ elim (e.whole q) [
+        | inl all ↦ subst (λ (w : Option (List ℕ)). HoldsText w (text (lines F J))) (sym all.1) (whole q)
+        | inr failed ↦ absurd (calm (subst (λ (n : ℕ). Rose n e.poured) (still q) failed))
+      ]
+    ]
 
-  pub closed_by : {T E : Type 0} (r : Result T E) (now : S) → (b.log.lines.spent ≡ false → HasCause (faults b.log.lines.sink) (faults now) r) → faults b.log.lines.sink ≤ faults now
-      → (flushed now ≡ written now) ⊎ ((flushed now ≡ flushed b.log.lines.sink) × Rose (faults b.log.lines.sink) (faults now)) → IsClosed (faults sink) (faults now) (flushed now) (written now)
-  closed_by r now cause later (inl e) = inl e
-  closed_by r now cause later (inr h) = inr (risen (faults now) later (λ _. h.1))
+    front : (Rose (faults sink) (faults b.log.lines.sink) → ⊥) → IsFrontTold (written now) (text (lines F J))
+    front calm = elim (cases_Bool b.log.lines.spent) as (λ _. IsFrontTold (written now) (text (lines F J))) [
+      | inl q ↦ absurd (calm (rose q))
+      | inr q ↦ front_told (written now) out.written (text (lines F J)) (whole q) bytes
+    ]
+
+    finished : (told : Answer) → (is_verdict told ≡ true → HoldsText (written now) (text (lines F J))) → IsFinished F J told (faults sink) (faults b.log.lines.sink) (faults now) (flushed now) (written now)
+    finished told sure = record {
+      poured = e.poured;
+      grown = (e.grown, e.later);
+      closed = e.closed;
+      whole = λ s. by s;
+      front = front;
+      short = short (written now) bytes;
+    }
+      where
+        by : IsSure (faults sink) e.poured told → HoldsText (written now) (text (lines F J))
+        by (inl verdict) = sure verdict
+        by (inr calm) = poured_whole calm
+
+    -- the sink has taken all
+    solved_whole : (kept : Option (List Line)) → b.log.lines.spent ≡ false → written now ≡ out.written → faults now ≡ faults b.log.lines.sink → kept ≡ b.log.kept.lines
+        → IsSolved plan formula answer tally (faults sink) (faults now) (flushed now) (written now) kept
+    solved_whole kept q all quiet same =
+        let asked : is_some kept ≡ plan.keep_lines = ap is_some same ∙ h.asked q in
+        record {
+          journal = J;
+          found = answer;
+          searched = faults b.log.lines.sink;
+          reached = h.reached;
+          told = record { ends = inl refl; quiet = λ _. quiet ∙ still q };
+          finished = finished answer (λ _. subst (λ (w : Option (List ℕ)). HoldsText w (text (lines F J))) (sym all) (whole q));
+          lines_are = record {
+            are = if_kept kept (lines F J) (λ ls is. h.records.kept q ls (sym same ∙ is));
+            asked_for = λ some. sym asked ∙ some;
+            quiet = λ _. quiet ∙ still q;
+            there = λ wanted other sure. asked ∙ wanted;
+          };
+        }
+
+    -- it has failed
+    solved_short : (told : Answer) → told ≡ unfinished answer → Rose (faults sink) (faults now) → IsSolved plan formula told tally (faults sink) (faults now) (flushed now) (written now) None
+    solved_short told is failed =
+        let none : is_verdict told ≡ true → ⊥ = λ v. true≢false (sym v ∙ ap is_verdict is ∙ no_verdict answer) in
+        record {
+          journal = J;
+          found = answer;
+          searched = faults b.log.lines.sink;
+          reached = h.reached;
+          told = record { ends = inr (is, failed); quiet = λ v. absurd (none v) };
+          finished = finished told (λ v. absurd (none v));
+          lines_are = record {
+            are = tt;
+            asked_for = λ some. absurd (true≢false (sym some));
+            quiet = λ some. absurd (true≢false (sym some));
+            there = λ wanted other sure. absurd (unsure told none failed sure);
+          };
+        }
+      where
+        unsure : (a : Answer) → (is_verdict a ≡ true → ⊥) → Rose (faults sink) (faults now) → IsSure (faults sink) (faults now) a → ⊥
+        unsure a none r (inl v) = none v
+        unsure a none r (inr calm) = calm r
+
+  pub solved_ok : {T E : Type 0} (now : S) (r : Result T E) (x : T) (kept : Option (List Line)) → HasEnded written flushed faults b now → r ≡ Ok x → kept ≡ b.log.kept.lines
+      → OnOk r ((b.log.lines.spent ≡ false) × (written now ≡ out.written) × (flushed now ≡ written now)) → (b.log.lines.spent ≡ false → HasCause (faults b.log.lines.sink) (faults now) r)
+      → IsSolved plan formula answer tally (faults sink) (faults now) (flushed now) (written now) kept
+  solved_ok now r x kept e is same whole cause =
+      let w = from_ok r x is whole in
+      solved_whole now e (subst (λ (k : Option (List ℕ)). IsFront k out.written) (sym w.1) (front_of_same out.written)) kept w.0 w.1 (from_ok r x is (cause w.0).quiet) same
+
+  pub solved_err : {T E : Type 0} (now : S) (r : Result T E) (x : E) (told : Answer) → HasEnded written flushed faults b now → r ≡ Err x → told ≡ unfinished answer
+      → OnErr r (IsFront (written now) out.written) → (b.log.lines.spent ≡ false → HasCause (faults b.log.lines.sink) (faults now) r) → faults b.log.lines.sink ≤ faults now
+      → IsSolved plan formula told tally (faults sink) (faults now) (flushed now) (written now) None
+  solved_err now r x told e is told_is bytes cause later = solved_short now e (from_err r x is bytes) told told_is (risen (faults now) later (λ q. from_err r x is (cause q).failed))

@@ -1,19 +1,18 @@
 -- What is known once the ruler has come to its end, and no ring has written anything.
 use Rattle.io_edge.specs.declared.edge.Sink.{Ghosts}
 use Rattle.std.proofs.Common.{◌≡◌, ◌≢◌, ◌∙◌, ◌<◌, ◌≤◌, ◌^◌, ◌+◌, ◌||◌, ℕ, Bool, true, false, List, [], ◌++◌, length, Ok, Err, Some, None, refl, sym, ap, subst, inl, inr, arith, true≢false}
-use Rattle.std.specs.Prelude.{All, Result, replicate, slice_index_or, ◌⊎◌}
+use Rattle.std.specs.Prelude.{All, Result, replicate, slice_index_or, ◌⊎◌, is_some}
 use Rattle.std.specs.declared.option.Option.{Option}
 use Rattle.std.proofs.lemmas.Bool.{cases_Bool}
 use Rattle.std.proofs.lemmas.List.Folds.{list_any-append}
 use Rattle.std.specs.Io.KnownBytes.{append_known}
-use Rattle.io_edge.specs.Bytes.{WasFlushed}
-use Rattle.io_edge.specs.Causes.{Rose, HasCause}
+use Rattle.io_edge.specs.Causes.{Rose}
 use Rattle.io_edge.specs.Paths.{IsEmptyWhereTold}
 use Rattle.sat_words.specs.Literal.{Literal, IsOn}
 use Rattle.sat_words.specs.Clause.{is_empty}
 use Rattle.sat_words.specs.FormulaData.{FormulaData}
 use Rattle.sat_words.specs.declared.line.Line.{Line}
-use Rattle.sat_words.specs.declared.shared.TheConstants.{MAX_ENTRIES}
+use Rattle.sat_words.specs.declared.shared.TheConstants.{MAX_ENTRIES, STOP_SAT, STOP_REFUTED, STOP_ROOM, STOP_PROOF, STOP_MEMORY}
 use Rattle.clause_cell.specs.declared.holes.HoleStop.{HoleStop}
 use Rattle.clause_cell.specs.declared.holes.HoleStop.TheVariants as hole_stop
 use Rattle.rup_model.specs.Log.{OnVariables}
@@ -35,12 +34,13 @@ use Rattle.ruler_simp.specs.declared.ruling.Simplified.{Simplified}
 use Rattle.ruler_simp.specs.Ruled.{IsAnswer, Ruled, run_of, origin_of as work_origin}
 use Rattle.ruler_simp.specs.Rounds.{SimplifiedTo}
 use Rattle.ruler_simp.proofs.Telling.{none_made}
-use Rattle.share_core.proofs.Counting.{some_same}
+use Rattle.share_core.proofs.Counting.{some_same, none_some}
 use Rattle.share_rule.specs.declared.Layout.{Layout}
 use Rattle.share_rule.specs.Books.{HasLog}
 use Rattle.share_rule.specs.FirstWords.{MayBegin, IsMakeStop}
 use Rattle.share_rule.specs.Layout.{InVars}
 use Rattle.log_book.specs.declared.book.Book.{Book}
+use Rattle.log_book.specs.Ended.{IsClosed}
 use Rattle.log_book.specs.Kept.{HoldsText}
 use Rattle.log_book.specs.Books.{begun, told_new, told_of, account_of, origin_of, IsLogOf, IsFilled, IsFrom, IsCutOff, IsCutLog}
 use Rattle.ring_run.specs.declared.job.Counts.{Counts}
@@ -49,10 +49,10 @@ use Rattle.portfolio_run.specs.declared.answer.Answer.TheVariants.{Unsat, NoHole
 use Rattle.portfolio_run.specs.declared.plan.Plan.{Plan}
 use Rattle.portfolio_run.specs.Held.{IsHeld, no_counts}
 use Rattle.portfolio_run.specs.Journaled.{IsJournal, IsUnrefuted}
-use Rattle.portfolio_run.specs.Reached.{Records, WasRuled, IsReached, HasReached, stopped_answer, unmade_answer}
+use Rattle.portfolio_run.specs.Reached.{Records, WasRuled, HasReached, stopped_answer, unmade_answer}
 use Rattle.portfolio_run.specs.Ruled.{IsRuled, IsRuledThrough}
-use Rattle.portfolio_run.specs.Solved.{is_verdict, Holds, IsUnsettled, IsSolved, IsClosed}
-use Rattle.portfolio_run.proofs.Cuts.{cut_whole, front_of_same}
+use Rattle.portfolio_run.specs.Solved.{is_verdict, kind_of, Holds, IsUnsettled, IsReached, IsSolved}
+use Rattle.portfolio_run.proofs.Cuts.{cut_whole, front_of_same, front_told}
 use Rattle.portfolio_run.proofs.Rulers.{AreRulers, all_rulers, rulers_learned, rulers_lines, rulers_of_no_ring, rulers_plain}
 use Rattle.portfolio_run.proofs.Spelling.{formula_on, spelled_from}
 
@@ -107,7 +107,7 @@ module _ (plan : Plan) (formula : FormulaData) (old now : LineState) (result : R
     alone = λ _. (all_rulers J rulers).1;
   }
 
-  pub held : IsHeld plan.threads plan.conflicts F J tally
+  abbrev held : IsHeld plan.threads plan.conflicts F J tally
   held = inl (record { rulers = (all_rulers J rulers).1; none = none })
 
   pub unsettled : IsUnrefuted J → IsUnsettled plan.threads plan.conflicts J
@@ -133,9 +133,21 @@ module _ (plan : Plan) (formula : FormulaData) (old now : LineState) (result : R
         spelled = spelled;
       }
 
-  pub is_reached : (answer : Answer) → Holds plan formula J answer → (is_verdict answer ≡ true → IsRuledThrough formula plan.rounds J) → (answer ≡ ProofFault → Rose old.faults now.faults)
-      → IsReached plan formula answer tally old.faults now.faults J
-  is_reached answer holds through rose = record { stands = journal_stands; ruled = ruled; held = held; holds = holds; through = through; rose = rose }
+  -- no ring ran, and the ruler came to this kind of stop
+  is_reached : (answer : Answer) (kind : ℕ) → kind_of answer ≡ Some kind → kind ≢ STOP_SAT → Holds plan formula J answer → (is_verdict answer ≡ true → IsRuledThrough formula plan.rounds J) → (kind ≡ STOP_PROOF → Rose old.faults now.faults)
+      → (kind ≢ STOP_PROOF → now.faults ≡ old.faults) → IsReached plan formula answer tally old.faults now.faults J
+  is_reached answer kind is other holds through rose still = record {
+    stands = journal_stands;
+    ruled = ruled;
+    held = held;
+    stop = (λ e. other (some_same kind STOP_SAT (sym is ∙ e)), λ e. none_some kind (sym e ∙ is));
+    holds = holds;
+    through = through;
+    faults_fit = record {
+      rose = λ e. rose (some_same kind STOP_PROOF (sym is ∙ e));
+      calm = λ ne. inl (still (λ e. ne (is ∙ ap Some e)));
+    };
+  }
 
   -- the formula was refuted
 
@@ -148,17 +160,18 @@ module _ (plan : Plan) (formula : FormulaData) (old now : LineState) (result : R
 
   refuted_by : result ≡ Ok NoModel → IsAnswer formula J old now (Ok NoModel) → IsReached plan formula Unsat tally old.faults now.faults J
   refuted_by is h =
-      is_reached Unsat (record { refuted = h.0; no_model = λ m t. refutes_none F (lines F J) h.0 (on_variables (lines F J) spelled) (m, t) }) (λ _. ruled_through is)
-      (λ e. absurd (let no : ⊥ = cc in no))
+      is_reached Unsat STOP_REFUTED refl (λ e. absurd (omega arith)) (record { refuted = h.0; no_model = λ m t. refutes_none F (lines F J) h.0 (on_variables (lines F J) spelled) (m, t) }) (λ _. ruled_through is)
+      (λ e. absurd (omega arith)) (λ _. h.1.quiet)
 
   pub refuted : result ≡ Ok NoModel → IsReached plan formula Unsat tally old.faults now.faults J
   refuted is = refuted_by is (subst (IsAnswer formula J old now) is was.answer)
 
   -- it was stopped
   stopped_by : (why : LineStop) → IsAnswer formula J old now (Err why) → IsReached plan formula (stopped_answer why) tally old.faults now.faults J
-  stopped_by line_stop.ProofFault h = is_reached ProofFault tt (λ e. absurd (true≢false (sym e))) (λ _. h.0)
-  stopped_by line_stop.Full h = is_reached (NoHole (record { need = MAX_ENTRIES + 1; largest = MAX_ENTRIES })) (omega arith, unsettled h.1) (λ e. absurd (true≢false (sym e))) (λ e. absurd (let no : ⊥ = cc in no))
-  stopped_by line_stop.Memory h = is_reached Memory (unsettled h.1) (λ e. absurd (true≢false (sym e))) (λ e. absurd (let no : ⊥ = cc in no))
+  stopped_by line_stop.ProofFault h = is_reached ProofFault STOP_PROOF refl (λ e. absurd (omega arith)) tt (λ e. absurd (true≢false (sym e))) (λ _. h.0) (λ ne. absurd (ne refl))
+  stopped_by line_stop.Full h =
+      is_reached (NoHole (record { need = MAX_ENTRIES + 1; largest = MAX_ENTRIES })) STOP_ROOM refl (λ e. absurd (omega arith)) (omega arith, unsettled h.1) (λ e. absurd (true≢false (sym e))) (λ e. absurd (omega arith)) (λ _. h.0.1)
+  stopped_by line_stop.Memory h = is_reached Memory STOP_MEMORY refl (λ e. absurd (omega arith)) (unsettled h.1) (λ e. absurd (true≢false (sym e))) (λ e. absurd (omega arith)) (λ _. h.0)
 
   pub stopped : (why : LineStop) → result ≡ Err why → IsReached plan formula (stopped_answer why) tally old.faults now.faults J
   stopped why is = stopped_by why (subst (IsAnswer formula J old now) is was.answer)
@@ -166,8 +179,10 @@ module _ (plan : Plan) (formula : FormulaData) (old now : LineState) (result : R
   -- something is left, over which no table could be made
   unmade_by : (l : Layout) (left : Simplified) → IsAnswer formula J old now (Ok (LeftOver left)) → (why : HoleStop) → IsMakeStop l left.start.items why → IsReached plan formula (unmade_answer why) tally old.faults now.faults J
   unmade_by l left h (hole_stop.NoHole need most) s =
-      is_reached (NoHole (record { need = need; largest = most })) (no_hole l left.start.items need most s, unsettled h.0.opens.rulers_part.going) (λ e. absurd (true≢false (sym e))) (λ e. absurd (let no : ⊥ = cc in no))
-  unmade_by l left h hole_stop.Memory s = is_reached Memory (unsettled h.0.opens.rulers_part.going) (λ e. absurd (true≢false (sym e))) (λ e. absurd (let no : ⊥ = cc in no))
+      is_reached (NoHole (record { need = need; largest = most })) STOP_ROOM refl (λ e. absurd (omega arith)) (no_hole l left.start.items need most s, unsettled h.0.opens.rulers_part.going) (λ e. absurd (true≢false (sym e)))
+      (λ e. absurd (omega arith)) (λ _. h.1.quiet)
+  unmade_by l left h hole_stop.Memory s =
+      is_reached Memory STOP_MEMORY refl (λ e. absurd (omega arith)) (unsettled h.0.opens.rulers_part.going) (λ e. absurd (true≢false (sym e))) (λ e. absurd (omega arith)) (λ _. h.1.quiet)
 
   pub unmade : (l : Layout) (left : Simplified) → result ≡ Ok (LeftOver left) → (why : HoleStop) → IsMakeStop l left.start.items why → IsReached plan formula (unmade_answer why) tally old.faults now.faults J
   unmade l left is why s = unmade_by l left (subst (IsAnswer formula J old now) is was.answer) why s
@@ -226,11 +241,15 @@ module _ {S : Type 0} {d : Ghosts S} (written flushed target : S → Option (Lis
       | inr q ↦ records_whole law q
     ]
 
+    -- lines are kept where that was asked for
+    asked : LogLaw b → b.log.lines.spent ≡ false → is_some b.log.kept.lines ≡ plan.keep_lines
+    asked law q = (law F' rulers_journal table_layout sink plan.keep_lines was.empty (filled_book q)).1.keeps
+
     pub refuted_book : LogLaw b → CutLaw b → result ≡ Ok NoModel → HasReached written flushed target faults sink plan formula Unsat tally b
-    refuted_book law cut is = record { journal = rulers_journal; records = records law cut; reached = refuted plan formula before told result tally few on rings some (inr none) refl refl refl was.ruled is }
+    refuted_book law cut is = record { journal = rulers_journal; records = records law cut; reached = refuted plan formula before told result tally few on rings some (inr none) refl refl refl was.ruled is; asked = asked law }
 
     pub stopped_book : LogLaw b → CutLaw b → (why : LineStop) → result ≡ Err why → HasReached written flushed target faults sink plan formula (stopped_answer why) tally b
-    stopped_book law cut why is = record { journal = rulers_journal; records = records law cut; reached = stopped plan formula before told result tally few on rings some (inr none) refl refl refl was.ruled why is }
+    stopped_book law cut why is = record { journal = rulers_journal; records = records law cut; reached = stopped plan formula before told result tally few on rings some (inr none) refl refl refl was.ruled why is; asked = asked law }
 
     -- something is left
     module _ (left : Simplified) (is : result ≡ Ok (LeftOver left)) where
@@ -246,6 +265,7 @@ module _ {S : Type 0} {d : Ghosts S} (written flushed target : S → Option (Lis
         journal = rulers_journal;
         records = records law cut;
         reached = unmade plan formula before told result tally few on rings some (inr none) refl refl refl was.ruled table_layout left is why s;
+        asked = asked law;
       }
 
       -- a table may be made
@@ -271,30 +291,32 @@ module _ {S : Type 0} {d : Ghosts S} (written flushed target : S → Option (Lis
           → HasLog account_of (IsLogOf written flushed target faults) b (origin_of written flushed target faults b) table_layout F' rulers_journal × IsFrom target faults sink plan.keep_lines (origin_of written flushed target faults b)
       has_log law = law F' rulers_journal table_layout sink plan.keep_lines was.empty (filled_book left_unspent)
 
--- memory ran out before a line was put
-pub starved : (plan : Plan) (formula : FormulaData) (tally : List Counts) (before faults : ℕ) (written : Option (List ℕ)) → formula.vars ≤ 2 ^ 30 → All (All (IsOn formula.vars)) formula.clauses → 1 ≤ plan.threads → 1 ≤ plan.conflicts
-    → (tally ≡ []) ⊎ (tally ≡ replicate plan.threads no_counts) → IsEmptyWhereTold written → IsSolved plan formula Memory tally before faults written None
-starved plan formula tally before faults written few on rings some none empty =
+-- memory ran out before a line was put, and the sink was flushed
+pub starved : (plan : Plan) (formula : FormulaData) (tally : List Counts) (before faults : ℕ) (flushed written : Option (List ℕ)) → formula.vars ≤ 2 ^ 30 → All (All (IsOn formula.vars)) formula.clauses → 1 ≤ plan.threads → 1 ≤ plan.conflicts
+    → (tally ≡ []) ⊎ (tally ≡ replicate plan.threads no_counts) → IsEmptyWhereTold written → before ≤ faults → IsClosed before faults flushed written → IsSolved plan formula Memory tally before faults flushed written None
+starved plan formula tally before faults flushed written few on rings some none empty later closed =
     let old : LineState = record { entries = 0; last = length formula.clauses; spent = false; faults = before; written = written; target = None; flushed = None } in
     let was : Ruled formula plan.rounds old old (Err line_stop.Memory) = none_made formula plan.rounds old refl refl refl on old refl in
     let h : IsReached plan formula Memory tally before before was.journal = stopped plan formula old old (Err line_stop.Memory) tally few on rings some none refl refl refl was line_stop.Memory refl in
-    let holds : HoldsText written (text (lines formula.clauses was.journal)) = told_text written (text (lines formula.clauses was.journal)) empty ((has_lines plan formula old old (Err line_stop.Memory) tally few on rings some none refl refl refl was).whole refl).bytes in
+    let L = lines formula.clauses was.journal in
+    let holds : HoldsText written (text L) = told_text written (text L) empty ((has_lines plan formula old old (Err line_stop.Memory) tally few on rings some none refl refl refl was).whole refl).bytes in
     record {
       journal = was.journal;
-      stands = h.stands;
-      ruled = h.ruled;
-      held = h.held;
-      concludes = record { holds = h.holds; quiet = λ e. absurd (true≢false (sym e)); ruled = λ e. absurd (true≢false (sym e)); rose = λ e. absurd (let no : ⊥ = cc in no) };
-      whole = λ _. holds;
-      short = cut_whole formula.clauses was.journal written written h.stands.accepted h.stands.spelled holds (front_of_same written);
-      keeps = λ _. tt;
+      found = Memory;
+      searched = before;
+      reached = h;
+      told = record { ends = inl refl; quiet = λ e. absurd (true≢false (sym e)) };
+      finished = record {
+        poured = before;
+        grown = (omega arith, later);
+        closed = closed;
+        whole = λ _. holds;
+        front = λ _. front_told written written (text L) holds (front_of_same written);
+        short = cut_whole formula.clauses was.journal written written h.stands.accepted h.stands.spelled holds (front_of_same written);
+      };
+      lines_are = record { are = tt; asked_for = λ e. absurd (true≢false (sym e)); quiet = λ e. absurd (true≢false (sym e)); there = λ asked other sure. absurd (other refl) };
     }
   where
     told_text : (bytes : Option (List ℕ)) (all : List ℕ) → IsEmptyWhereTold bytes → bytes ≡ append_known bytes all → HoldsText bytes all
     told_text None all none e = tt
     told_text (Some bytes) all none e = some_same bytes (bytes ++ all) e ∙ ap (λ (bs : List ℕ). bs ++ all) none
-
--- a flush closes a sink
-pub flushed_closes : {T E : Type 0} (before faults : ℕ) (written old new : Option (List ℕ)) (r : Result T E) → HasCause before faults r → WasFlushed written old new r → IsClosed before faults new written
-flushed_closes was faults written old new (Ok x) cause flush = inl flush
-flushed_closes was faults written old new (Err e) cause flush = inr cause.failed

@@ -1,7 +1,7 @@
 -- The table over what the ruler left, and what the search over it settles.
 use Rattle.io_edge.specs.declared.edge.Sink.{Ghosts}
 use Rattle.std.proofs.Common.{◌≡◌, ◌∙◌, ◌^◌, ◌≤◌, ◌<◌, ℕ, Bool, List, [], length, replicate, Ok, Err, refl, sym, ap, subst, inl, inr, arith}
-use Rattle.std.specs.Prelude.{All, Result, IfOk, IfErr, is_some}
+use Rattle.std.specs.Prelude.{All, Result, IfOk, IfErr}
 use Rattle.std.specs.declared.option.Option.{Option}
 use Rattle.std.specs.Global.{Vec}
 use Rattle.std.proofs.lemmas.List.{length-map}
@@ -35,11 +35,11 @@ use Rattle.portfolio_run.specs.declared.answer.Answer.{Answer}
 use Rattle.portfolio_run.specs.declared.plan.Plan.{Plan}
 use Rattle.portfolio_run.specs.Held.{no_counts}
 use Rattle.portfolio_run.specs.Noted.{WroteSo}
-use Rattle.portfolio_run.specs.Reached.{WasRuled, HasReached, IsGathered, run_to, unmade_answer}
+use Rattle.portfolio_run.specs.Reached.{WasRuled, HasReached, run_to, unmade_answer}
 use Rattle.portfolio_run.specs.Searched.{HasSearched}
 use Rattle.portfolio_run.specs.Seats.{HasRightsFrom}
 use Rattle.portfolio_run.specs.Tables.{IsOpened, HasSettled}
-use Rattle.portfolio_run.proofs.Concluded.{gathered_of, concluded}
+use Rattle.portfolio_run.proofs.Concluded.{concluded}
 use Rattle.portfolio_run.proofs.Ruling.{LogLaw, CutLaw, has_log, unmade_book}
 
 module _ {S : Type 0} {d : Ghosts S} (written flushed target : S → Option (List ℕ)) (faults : S → ℕ) (sink : S) (plan : Plan) (F : FormulaData) (b : Book S d) (left : Simplified)
@@ -93,11 +93,6 @@ module _ {S : Type 0} {d : Ghosts S} (written flushed target : S → Option (Lis
         subst (λ (x : Book S d). HasReached written flushed target faults sink plan F (unmade_answer e.why) tally x) (sym back)
         (unmade_book written flushed target faults sink plan F b (Ok (LeftOver left)) tally few on rings some is was left refl law cut e.why stop)
 
-  pub unmade_kept : (r : Result Opened Refused) → IfErr r (λ e. e.book ≡ b) → IfErr r (λ e. is_some e.book.log.kept.lines ≡ plan.keep_lines)
-  unmade_kept (Ok m) back = tt
-  unmade_kept (Err e) back =
-      ap (λ (x : Book S d). is_some x.log.kept.lines) back ∙ (has_log written flushed target faults sink plan F b (Ok (LeftOver left)) none few on rings some refl was left refl law).1.keeps
-
 -- Before the search, and behind it
 
 -- the first pass of a table has the rights to all grants
@@ -120,19 +115,10 @@ all_counted t v home plan stack p before tally answer as_many (inr h) = ap (λ (
 module _ {S : Type 0} {d : Ghosts S} (written flushed target : S → Option (List ℕ)) (faults : S → ℕ) (sink : S) (plan : Plan) (F : FormulaData) (few : F.vars ≤ 2 ^ 30) (on : All (All (IsOn F.vars)) F.clauses)
     (rings : 1 ≤ plan.threads) (few_rings : plan.threads ≤ 16) (some : 1 ≤ plan.conflicts) (t : Shared (Book S d)) (p : Seat (Option (Book S d)) View) (tally : List Counts) (answer : Answer)
     (h : HasSettled written flushed target faults sink plan F t p tally answer) where
-  -- the passes are gathered
-  pub settled_gathered : IsGathered t h.first.me.0 p
-  settled_gathered = gathered_of t h.first.me.0 h.home plan h.left p (replicate plan.threads no_counts) tally answer h.searched
-
   module _ (b : Book S d) (s : Seen p.me.0) (fault : Bool) (stands : StandsFor account_of (IsLogOf written flushed target faults) b p.me.0.origin p.me.0.layout p.me.0.opening s.core.journal fault) (tells : TellsFaults p.me.0.parts fault) where
     -- the answer holds over the journal to which the book has come
     pub settled_reached : HasReached written flushed target faults sink plan F answer tally b
     settled_reached =
         concluded written flushed target faults sink plan F h.opened.book h.left t.layout h.opened.origin few on some rings few_rings h.opened.was
-        (ap (λ (l : Layout). l.rings) h.opened.layout_is) (ap (λ (l : Layout). l.vars) h.opened.layout_is) h.opened.faults_are h.opened.target_is
+        (ap (λ (l : Layout). l.rings) h.opened.layout_is) (ap (λ (l : Layout). l.vars) h.opened.layout_is) h.opened.faults_are h.opened.target_is h.opened.keeps_are
         t h.home p tally answer b s fault stands tells h.first.me.0 (replicate plan.threads no_counts) (ap (λ (x : View × List (ℕ × Option (Book S d))). x.0) h.opened.me) refl h.searched
-
-    -- lines were kept where they were to be
-    pub settled_kept : is_some b.log.kept.lines ≡ plan.keep_lines
-    settled_kept =
-        stands.log.keeps ∙ ap (λ (o : BookOrigin). o.keeps) settled_gathered.same.origin ∙ ap (λ (x : View × List (ℕ × Option (Book S d))). x.0.origin.keeps) h.opened.me ∙ h.opened.keeps_are

@@ -1,7 +1,10 @@
 -- The steps of the rings, what they leave of the journal, and what the rings counted.
-use Rattle.std.specs.Prelude.{◌≡◌, ◌⊎◌, ℕ, ◌≤◌, ◌<◌, ◌*◌, ◌-◌, List, [], filter, length, replicate, slice_index_or, count_by}
+use Rattle.std.specs.Prelude.{◌≡◌, ◌≢◌, ◌⊎◌, ℕ, ◌≤◌, ◌<◌, ◌*◌, ◌-◌, List, [], filter, length, replicate, slice_index_or, count_by, Option, Some, None}
+use Rattle.std.specs.Option.{option_map}
+use mathlib.Core.Logic.{inl, inr}
 use Rattle.sat_words.specs.Literal.{Literal}
 use Rattle.sat_words.specs.Clause.{has}
+use Rattle.sat_words.specs.declared.shared.TheConstants.{STOP_SAT}
 use Rattle.rup_model.specs.declared.journal.Entry.{Entry}
 use Rattle.rup_model.specs.Journal.{learned}
 use Rattle.rup_model.specs.Opening.{Opening, program_opening}
@@ -56,3 +59,9 @@ pub record NoneRan (rings : ℕ) (journal : List Entry) (tally : List Counts) : 
 -- either
 abbrev pub IsHeld : ℕ → ℕ → List (List Literal) → List Entry → List Counts → Type 0
 IsHeld rings limit clauses journal tally = NoneRan rings journal tally ⊎ RanOnce rings limit clauses journal tally
+
+-- the stop to which the steps of the rings come is of this kind, or there is none; where no ring ran, none has found a model and none
+-- is spent
+abbrev pub HasStop : {rings limit : ℕ} {clauses : List (List Literal)} {journal : List Entry} {tally : List Counts} → IsHeld rings limit clauses journal tally → Option ℕ → Type 0
+HasStop (inl none) kind = (kind ≢ Some STOP_SAT) × (kind ≢ None)
+HasStop (inr ran) kind = option_map (λ stop. stop.kind) ran.core.stop ≡ kind

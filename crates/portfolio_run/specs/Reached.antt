@@ -1,10 +1,9 @@
 -- What is known before the proof is finished: of the book, of the answer, of the ruler and of the rings.
 use Rattle.io_edge.specs.declared.edge.Sink.{Ghosts}
-use Rattle.std.specs.Prelude.{◌≡◌, ◌≤◌, ◌<◌, ◌^◌, ◌+◌, ℕ, true, false, List, [], length, slice_index_or, Option, Some, Result}
+use Rattle.std.specs.Prelude.{◌≡◌, ◌≤◌, ◌<◌, ◌^◌, ◌+◌, ℕ, false, List, [], length, slice_index_or, Option, Some, is_some, Result}
 use mathlib.Core.Option.{some}
 use lib.ListN.{get_elem?}
 use Rattle.atomic_table.specs.declared.shared.Seat.{Seat}
-use Rattle.io_edge.specs.Causes.{Rose}
 use Rattle.io_edge.specs.Paths.{IsEmptyWhereTold}
 use Rattle.sat_words.specs.Literal.{Literal}
 use Rattle.sat_words.specs.FormulaData.{FormulaData}
@@ -33,13 +32,10 @@ use Rattle.portfolio_run.specs.declared.answer.Answer.{Answer}
 use Rattle.portfolio_run.specs.declared.answer.Answer.TheVariants.{NoHole, ProofFault, Memory}
 use Rattle.portfolio_run.specs.declared.plan.Plan.{Plan}
 use Rattle.portfolio_run.specs.Ends.{AreEndsOf}
-use Rattle.portfolio_run.specs.Held.{IsHeld}
-use Rattle.portfolio_run.specs.Journaled.{IsJournal}
 use Rattle.portfolio_run.specs.Noted.{RulersRun}
-use Rattle.portfolio_run.specs.Ruled.{IsRuled, IsRuledThrough}
 use Rattle.portfolio_run.specs.Runs.{RanAs}
 use Rattle.portfolio_run.specs.Seats.{IsAtRest, IsSameTable}
-use Rattle.portfolio_run.specs.Solved.{is_verdict, Holds}
+use Rattle.portfolio_run.specs.Solved.{IsReached}
 
 -- The book
 
@@ -77,20 +73,13 @@ abbrev pub unmade_answer : HoleStop → Answer
 unmade_answer (hole_stop.NoHole need largest) = NoHole (record { need = need; largest = largest })
 unmade_answer hole_stop.Memory = Memory
 
--- an answer over this journal, before its proof is finished; the proof's sink had failed so often before, and has these faults now
-pub record IsReached (plan : Plan) (formula : FormulaData) (answer : Answer) (tally : List Counts) (before faults : ℕ) (journal : List Entry) : Type 0 where
-  pub stands : IsJournal plan.threads formula.clauses journal
-  pub ruled : IsRuled formula plan.rounds journal
-  pub held : IsHeld plan.threads plan.conflicts formula.clauses journal tally
-  pub holds : Holds plan formula journal answer
-  pub through : is_verdict answer ≡ true → IsRuledThrough formula plan.rounds journal
-  pub rose : answer ≡ ProofFault → Rose before faults
-
--- an answer over the journal to which the book has come since it had this sink
+-- an answer over the journal to which the book has come since it had this sink; unless a line failed, lines are kept where that was
+-- asked for
 pub record HasReached {S : Type 0} {d : Ghosts S} (written flushed target : S → Option (List ℕ)) (faults : S → ℕ) (sink : S) (plan : Plan) (formula : FormulaData) (answer : Answer) (tally : List Counts) (b : Book S d) : Type 0 where
   pub journal : List Entry
   pub records : Records written flushed target faults sink formula.clauses journal b
   pub reached : IsReached plan formula answer tally (faults sink) (faults b.log.lines.sink) journal
+  pub asked : b.log.lines.spent ≡ false → is_some b.log.kept.lines ≡ plan.keep_lines
 
 -- The rings
 

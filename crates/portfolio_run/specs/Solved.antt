@@ -1,22 +1,24 @@
--- What an answer says: it holds of one journal, which the proof's writer has been given.
-use Rattle.std.specs.Prelude.{◌≡◌, ◌==◌, ◌<◌, ◌⊎◌, ⊤, ℕ, Bool, true, false, List, length, filter, IfSome}
+-- What an answer says: it holds of one journal, which the proof's sink has been given.
+use Rattle.std.specs.Prelude.{◌≡◌, ◌≢◌, ◌==◌, ◌<◌, ◌≤◌, ◌⊎◌, ⊤, ℕ, Bool, true, false, List, length, filter, Some, None, IsSome, IfSome}
 use Rattle.std.specs.declared.option.Option.{Option}
 use Rattle.io_edge.specs.Causes.{Rose}
 use Rattle.sat_words.specs.Literal.{Literal}
 use Rattle.sat_words.specs.Truth.{formula_true}
 use Rattle.sat_words.specs.FormulaData.{FormulaData}
 use Rattle.sat_words.specs.declared.line.Line.{Line}
+use Rattle.sat_words.specs.declared.shared.TheConstants.{STOP_SAT, STOP_REFUTED, STOP_ROOM, STOP_PROOF, STOP_MEMORY}
 use Rattle.rup_model.specs.declared.journal.Entry.{Entry}
 use Rattle.rup_model.specs.Log.{Refutes}
 use Rattle.rup_model.specs.Journal.{ring_of, lines, learned}
 use Rattle.rup_model.specs.Spent.{SpentAll, ruler_part}
 use Rattle.drat_text.specs.Text.{text}
-use Rattle.log_book.specs.Kept.{HoldsText}
+use Rattle.log_book.specs.Ended.{IsClosed}
+use Rattle.log_book.specs.Kept.{HoldsText, IsFrontTold}
 use Rattle.ring_run.specs.declared.job.Counts.{Counts}
 use Rattle.portfolio_run.specs.declared.answer.Answer.{Answer}
 use Rattle.portfolio_run.specs.declared.answer.Answer.TheVariants.{Sat, Unsat, Unknown, NoHole, ProofFault, Memory}
 use Rattle.portfolio_run.specs.declared.plan.Plan.{Plan}
-use Rattle.portfolio_run.specs.Held.{IsHeld}
+use Rattle.portfolio_run.specs.Held.{IsHeld, HasStop}
 use Rattle.portfolio_run.specs.Journaled.{IsJournal, IsUnrefuted, IsCutShort}
 use Rattle.portfolio_run.specs.Ruled.{IsRuled, IsRuledThrough}
 
@@ -66,31 +68,69 @@ Holds plan formula journal (NoHole lack) = (lack.largest < lack.need) × IsUnset
 Holds plan formula journal ProofFault = ⊤
 Holds plan formula journal Memory = IsUnsettled plan.threads plan.conflicts journal
 
--- the answer holds; a verdict comes where the sink has not failed since so many faults and the simplifiers came to their end, and
--- a fault where it has
-pub record Concludes (plan : Plan) (formula : FormulaData) (journal : List Entry) (before faults : ℕ) (answer : Answer) : Type 0 where
-  pub holds : Holds plan formula journal answer
-  pub quiet : is_verdict answer ≡ true → faults ≡ before
-  pub ruled : is_verdict answer ≡ true → IsRuledThrough formula plan.rounds journal
-  pub rose : answer ≡ ProofFault → Rose before faults
+-- the kind of the stop with which the rings come to this answer, and with none where each is spent
+abbrev pub kind_of : Answer → Option ℕ
+kind_of (Sat model) = Some STOP_SAT
+kind_of Unsat = Some STOP_REFUTED
+kind_of Unknown = None
+kind_of (NoHole lack) = Some STOP_ROOM
+kind_of ProofFault = Some STOP_PROOF
+kind_of Memory = Some STOP_MEMORY
 
--- the sink's bytes are known whole: at a verdict, and where no call of it failed
-abbrev pub IsSure : (before faults : ℕ) → Answer → Type 0
-IsSure before faults answer = (is_verdict answer ≡ true) ⊎ (Rose before faults → ⊥)
+-- where a search that comes to this kind of stop has met a fault of the proof, the sink has failed by then; at each other kind no
+-- line had failed, unless rings ran beside each other behind a ruler that was done
+pub record FaultsFit (plan : Plan) (formula : FormulaData) (journal : List Entry) (before searched : ℕ) (kind : Option ℕ) : Type 0 where
+  pub rose : kind ≡ Some STOP_PROOF → Rose before searched
+  pub calm : kind ≢ Some STOP_PROOF → (searched ≡ before) ⊎ IsRuledThrough formula plan.rounds journal
 
--- so a call answers whose sink had failed so often before, and has these faults and bytes now: there is one journal, which begins
--- with what the ruler wrote in the plan's rounds; the rings' steps leave it; the sink has its lines, or where it failed a front of
--- them and of one line more; lines that were kept are the journal's, unless the sink failed
-pub record IsSolved (plan : Plan) (formula : FormulaData) (answer : Answer) (tally : List Counts) (before faults : ℕ) (written : Option (List ℕ)) (kept : Option (List Line)) : Type 0 where
-  pub journal : List Entry
+-- a search has come to this answer, which holds, over this journal: it begins with what the ruler wrote in the plan's rounds, and the
+-- rings' steps leave it, with the stop of this answer; a verdict comes only where the simplifiers came to their end. The sink of the
+-- proof had failed so often before the search, and so often by then.
+pub record IsReached (plan : Plan) (formula : FormulaData) (answer : Answer) (tally : List Counts) (before searched : ℕ) (journal : List Entry) : Type 0 where
   pub stands : IsJournal plan.threads formula.clauses journal
   pub ruled : IsRuled formula plan.rounds journal
   pub held : IsHeld plan.threads plan.conflicts formula.clauses journal tally
-  pub concludes : Concludes plan formula journal before faults answer
-  pub whole : IsSure before faults answer → HoldsText written (text (lines formula.clauses journal))
-  pub short : IsCutShort formula.clauses journal written
-  pub keeps : IsSure before faults answer → IfSome kept (λ L. L ≡ lines formula.clauses journal)
+  pub stop : HasStop held (kind_of answer)
+  pub holds : Holds plan formula journal answer
+  pub through : is_verdict answer ≡ true → IsRuledThrough formula plan.rounds journal
+  pub faults_fit : FaultsFit plan formula journal before searched (kind_of answer)
 
--- the sink's last call was a flush, which made sure of all its bytes, or some call failed
-abbrev pub IsClosed : (before faults : ℕ) → (flushed written : Option (List ℕ)) → Type 0
-IsClosed before faults flushed written = (flushed ≡ written) ⊎ Rose before faults
+-- the answer that is told is that of the search, or in the place of a verdict, where the sink has failed, a fault of the proof; a
+-- verdict is told only where it has not
+pub record IsTold (found answer : Answer) (before faults : ℕ) : Type 0 where
+  pub ends : (answer ≡ found) ⊎ ((answer ≡ unfinished found) × Rose before faults)
+  pub quiet : is_verdict answer ≡ true → faults ≡ before
+
+-- no call of the sink failed before the last flush: so at a verdict, and where the count of faults says so
+abbrev pub IsSure : (before poured : ℕ) → Answer → Type 0
+IsSure before poured answer = (is_verdict answer ≡ true) ⊎ (Rose before poured → ⊥)
+
+-- what the sink has of the proof, when it had failed so often before, by the search's end and now: what was left of the lines was
+-- written and the sink then flushed, when it had failed `poured` times. It has the text of the journal's lines; where a line had
+-- failed a front of that, or of it and one line more.
+pub record IsFinished (clauses : List (List Literal)) (journal : List Entry) (answer : Answer) (before searched faults : ℕ) (flushed written : Option (List ℕ)) : Type 0 where
+  pub poured : ℕ
+  pub grown : (searched ≤ poured) × (poured ≤ faults)
+  pub closed : IsClosed poured faults flushed written
+  pub whole : IsSure before poured answer → HoldsText written (text (lines clauses journal))
+  pub front : (Rose before searched → ⊥) → IsFrontTold written (text (lines clauses journal))
+  pub short : IsCutShort clauses journal written
+
+-- lines come back where they were to be kept and no call of the sink failed, unless memory ran out, and at no other time; they are
+-- the journal's
+pub record AreKept (asked : Bool) (clauses : List (List Literal)) (journal : List Entry) (answer : Answer) (before faults : ℕ) (kept : Option (List Line)) : Type 0 where
+  pub are : IfSome kept (λ L. L ≡ lines clauses journal)
+  pub asked_for : IsSome kept → asked ≡ true
+  pub quiet : IsSome kept → faults ≡ before
+  pub there : asked ≡ true → answer ≢ Memory → IsSure before faults answer → IsSome kept
+
+-- so a call answers whose sink had failed so often before, and has these faults and bytes now: a search came to an answer over one
+-- journal, when the sink had failed `searched` times; then the proof was finished, and the answer told
+pub record IsSolved (plan : Plan) (formula : FormulaData) (answer : Answer) (tally : List Counts) (before faults : ℕ) (flushed written : Option (List ℕ)) (kept : Option (List Line)) : Type 0 where
+  pub journal : List Entry
+  pub found : Answer
+  pub searched : ℕ
+  pub reached : IsReached plan formula found tally before searched journal
+  pub told : IsTold found answer before faults
+  pub finished : IsFinished formula.clauses journal answer before searched faults flushed written
+  pub lines_are : AreKept plan.keep_lines formula.clauses journal answer before faults kept

@@ -1,8 +1,8 @@
 // The proof finished behind an answer.
-ghost use Rattle.std.specs.Prelude.{◌≡◌, is_some};
+ghost use Rattle.std.specs.Prelude.{◌≡◌};
 ghost use Rattle.std.specs.Option.{option_map};
 ghost use Rattle.portfolio_run.specs.Reached.{HasReached};
-ghost use Rattle.portfolio_run.specs.Solved.{IsSolved, IsClosed, unfinished};
+ghost use Rattle.portfolio_run.specs.Solved.{IsSolved, unfinished};
 
 use crate::answer::{Answer, Solved};
 use crate::plan::Plan;
@@ -26,7 +26,7 @@ fn without_proof(answer: Answer) -> Answer
 }
 
 /// Writes what is left of the lines, flushes the sink, and gives it back. A verdict holds only where the sink has taken all
-/// lines; what else was answered stays.
+/// lines; what else was answered stays. Lines that were kept come back where the sink has taken them.
 pub(crate) fn finish<S: Sink>(
     book: Book<S>,
     answer: Answer,
@@ -36,21 +36,23 @@ pub(crate) fn finish<S: Sink>(
 ) -> Solved<S>
     ghost sink: { S }
     requires reached { HasReached S.written S.flushed S.target S.faults sink _plan.now _formula.now answer tally.items book }
-    ensures solved { IsSolved _plan.now _formula.now result.answer result.tally.items (S.faults sink) (S.faults result.sink) (S.written result.sink) (option_map (λ v. v.items) result.lines) }
-    ensures kept { is_some result.lines ≡ is_some book.log.kept.lines }
-    ensures closed { IsClosed (S.faults sink) (S.faults result.sink) (S.flushed result.sink) (S.written result.sink) }
+    ensures solved { IsSolved _plan.now _formula.now result.answer result.tally.items (S.faults sink) (S.faults result.sink) (S.flushed result.sink) (S.written result.sink) (option_map (λ v. v.items) result.lines) }
     ensures target { S.target result.sink ≡ S.target sink }
     ensures tally { result.tally.items ≡ tally.items }
 {
     let (finished, sink, lines) = book.finish();
-    let answer = match finished {
-        Ok(()) => answer,
-        Err(Failed) => without_proof(answer),
-    };
-    Solved {
-        answer,
-        sink,
-        lines,
-        tally,
+    match finished {
+        Ok(()) => Solved {
+            answer,
+            sink,
+            lines,
+            tally,
+        },
+        Err(Failed) => Solved {
+            answer: without_proof(answer),
+            sink,
+            lines: None,
+            tally,
+        },
     }
 }

@@ -8,7 +8,7 @@ ghost use Rattle.portfolio_run.specs.Held.{no_counts};
 ghost use Rattle.portfolio_run.specs.Reached.{WasRuled, run_to, stopped_answer, unmade_answer};
 ghost use Rattle.portfolio_run.specs.Noted.{RulersRun, WroteSo};
 ghost use Rattle.rup_model.specs.declared.journal.Entry.{Entry};
-ghost use Rattle.portfolio_run.specs.Solved.{IsSolved, IsClosed, is_verdict};
+ghost use Rattle.portfolio_run.specs.Solved.{IsSolved};
 ghost use Rattle.portfolio_run.specs.declared.answer.Answer.TheVariants as answer;
 
 use crate::answer::{Answer, Solved};
@@ -75,8 +75,7 @@ fn starved<S: Sink>(sink: S, tally: Vec<Counts>, _formula: &Formula, _plan: &Pla
     requires on { All (All (IsOn _formula.now.vars)) _formula.now.clauses }
     requires empty { IsEmptyWhereTold (S.written sink) }
     requires none { (tally.items ≡ []) ⊎ (tally.items ≡ replicate _plan.now.threads no_counts) }
-    ensures solved { IsSolved _plan.now _formula.now result.answer result.tally.items (S.faults sink) (S.faults result.sink) (S.written result.sink) (option_map (λ v. v.items) result.lines) }
-    ensures closed { IsClosed (S.faults sink) (S.faults result.sink) (S.flushed result.sink) (S.written result.sink) }
+    ensures solved { IsSolved _plan.now _formula.now result.answer result.tally.items (S.faults sink) (S.faults result.sink) (S.flushed result.sink) (S.written result.sink) (option_map (λ v. v.items) result.lines) }
     ensures target { S.target result.sink ≡ S.target sink }
     ensures memory { result.answer ≡ answer.Memory }
 {
@@ -111,9 +110,7 @@ fn solve_noted<S: Sink + Send, G: Gate + Sync, H: Threads + Wait + Sync>(
     requires empty { IsEmptyWhereTold (S.written known.0) }
     requires wrote { WroteSo (run_to S.written S.flushed S.target S.faults known.0 plan.now formula.now book (Ok (LeftOver left))) known.1 }
     requires none { tally.items ≡ replicate plan.now.threads no_counts }
-    ensures solved { IsSolved plan.now formula.now result.answer result.tally.items (S.faults known.0) (S.faults result.sink) (S.written result.sink) (option_map (λ v. v.items) result.lines) }
-    ensures kept { is_verdict result.answer ≡ true → is_some result.lines ≡ plan.now.keep_lines }
-    ensures closed { IsClosed (S.faults known.0) (S.faults result.sink) (S.flushed result.sink) (S.written result.sink) }
+    ensures solved { IsSolved plan.now formula.now result.answer result.tally.items (S.faults known.0) (S.faults result.sink) (S.flushed result.sink) (S.written result.sink) (option_map (λ v. v.items) result.lines) }
     ensures target { S.target result.sink ≡ S.target known.0 }
     ensures counted { length result.tally.items ≡ plan.now.threads }
 {
@@ -159,9 +156,7 @@ fn solve_left<S: Sink + Send, G: Gate + Sync, H: Threads + Wait + Sync>(
     requires ruled { WasRuled S.written S.flushed S.target S.faults known.0 plan.now formula.now book (Ok (LeftOver left)) }
     requires run { known.1 ≡ run_to S.written S.flushed S.target S.faults known.0 plan.now formula.now book (Ok (LeftOver left)) }
     requires none { tally.items ≡ replicate plan.now.threads no_counts }
-    ensures solved { IsSolved plan.now formula.now result.answer result.tally.items (S.faults known.0) (S.faults result.sink) (S.written result.sink) (option_map (λ v. v.items) result.lines) }
-    ensures kept { is_verdict result.answer ≡ true → is_some result.lines ≡ plan.now.keep_lines }
-    ensures closed { IsClosed (S.faults known.0) (S.faults result.sink) (S.flushed result.sink) (S.written result.sink) }
+    ensures solved { IsSolved plan.now formula.now result.answer result.tally.items (S.faults known.0) (S.faults result.sink) (S.flushed result.sink) (S.written result.sink) (option_map (λ v. v.items) result.lines) }
     ensures target { S.target result.sink ≡ S.target known.0 }
     ensures counted { length result.tally.items ≡ plan.now.threads }
 {
@@ -188,9 +183,7 @@ fn solve_counted<S: Sink + Send, G: Gate + Sync, H: Threads + Wait + Sync>(
     requires on { All (All (IsOn formula.now.vars)) formula.now.clauses }
     requires empty { IsEmptyWhereTold (S.written given) }
     requires none { tally.items ≡ replicate plan.now.threads no_counts }
-    ensures solved { IsSolved plan.now formula.now result.answer result.tally.items (S.faults given) (S.faults result.sink) (S.written result.sink) (option_map (λ v. v.items) result.lines) }
-    ensures kept { is_verdict result.answer ≡ true → is_some result.lines ≡ plan.now.keep_lines }
-    ensures closed { IsClosed (S.faults given) (S.faults result.sink) (S.flushed result.sink) (S.written result.sink) }
+    ensures solved { IsSolved plan.now formula.now result.answer result.tally.items (S.faults given) (S.faults result.sink) (S.flushed result.sink) (S.written result.sink) (option_map (λ v. v.items) result.lines) }
     ensures target { S.target result.sink ≡ S.target given }
     ensures counted { result.answer ≢ answer.Memory → length result.tally.items ≡ plan.now.threads }
 {
@@ -229,9 +222,7 @@ pub fn solve<S: Sink + Send, G: Gate + Sync, H: Threads + Wait + Sync>(
     requires few { formula.now.vars ≤ 2 ^ 30 }
     requires on { All (All (IsOn formula.now.vars)) formula.now.clauses }
     requires empty { IsEmptyWhereTold (S.written sink) }
-    ensures solved { IsSolved plan.now formula.now result.answer result.tally.items (S.faults sink) (S.faults result.sink) (S.written result.sink) (option_map (λ v. v.items) result.lines) }
-    ensures kept { is_verdict result.answer ≡ true → is_some result.lines ≡ plan.now.keep_lines }
-    ensures closed { IsClosed (S.faults sink) (S.faults result.sink) (S.flushed result.sink) (S.written result.sink) }
+    ensures solved { IsSolved plan.now formula.now result.answer result.tally.items (S.faults sink) (S.faults result.sink) (S.flushed result.sink) (S.written result.sink) (option_map (λ v. v.items) result.lines) }
     ensures target { S.target result.sink ≡ S.target sink }
     ensures counted { result.answer ≢ answer.Memory → length result.tally.items ≡ plan.now.threads }
 {

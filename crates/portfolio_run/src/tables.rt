@@ -9,7 +9,7 @@ ghost use Rattle.ruler_simp.specs.declared.ruling.Outcome.TheVariants.{Simplifie
 ghost use Rattle.portfolio_run.specs.Held.{no_counts};
 ghost use Rattle.portfolio_run.specs.Noted.{WroteSo};
 ghost use Rattle.portfolio_run.specs.Reached.{HasReached, run_to, unmade_answer};
-ghost use Rattle.portfolio_run.specs.Solved.{IsSolved, IsClosed, is_verdict};
+ghost use Rattle.portfolio_run.specs.Solved.{IsSolved};
 ghost use Rattle.portfolio_run.specs.Tables.{IsOpened, HasSettled};
 
 use crate::answer::{Answer, Solved};
@@ -43,7 +43,6 @@ pub(crate) fn open_table<S: Sink>(
     requires empty { IsEmptyWhereTold (S.written known.0) }
     requires wrote { WroteSo (run_to S.written S.flushed S.target S.faults known.0 plan.now formula.now book (Ok (LeftOver left.now))) known.1 }
     ensures opened { IfOk result (λ m. IsOpened S.written S.flushed S.target S.faults known.0 plan.now formula.now left.now m.0 m.1 m.2.items) }
-    ensures kept { IfErr result (λ e. is_some e.book.log.kept.lines ≡ plan.now.keep_lines) }
     ensures unmade { IfErr result (λ e. (tally : List CountsData) → tally ≡ replicate plan.now.threads no_counts → HasReached S.written S.flushed S.target S.faults known.0 plan.now formula.now (unmade_answer e.why) tally e.book) }
 {
     book.has_its_log();
@@ -77,9 +76,7 @@ pub(crate) fn close_table<S: Sink>(
     requires few { formula.now.vars ≤ 2 ^ 30 }
     requires on { All (All (IsOn formula.now.vars)) formula.now.clauses }
     requires settled { HasSettled S.written S.flushed S.target S.faults sink plan.now formula.now table first tally.items answer }
-    ensures solved { IsSolved plan.now formula.now result.answer result.tally.items (S.faults sink) (S.faults result.sink) (S.written result.sink) (option_map (λ v. v.items) result.lines) }
-    ensures kept { is_some result.lines ≡ plan.now.keep_lines }
-    ensures closed { IsClosed (S.faults sink) (S.faults result.sink) (S.flushed result.sink) (S.written result.sink) }
+    ensures solved { IsSolved plan.now formula.now result.answer result.tally.items (S.faults sink) (S.faults result.sink) (S.flushed result.sink) (S.written result.sink) (option_map (λ v. v.items) result.lines) }
     ensures target { S.target result.sink ≡ S.target sink }
     ensures tally { result.tally.items ≡ tally.items }
 {

@@ -46,6 +46,3 @@ returns-in-Ok-clause-counted g c =
     ap (λ (ds : List Counts). length ds) c.close_table.ensures.tally
     ∙ all_counted c.in-Ok.table c.in-Ok.first.me.0 _ c.args.plan.now _ c.search-answer.new.first c.args.tally.items c.search-answer.new.tally.items c.search-answer.result (many ∙ sym rings) c.search-answer.ensures
     ∙ rings
-
-pub returns-in-Err-clause-kept : goal.returns-in-Err-clause-kept
-returns-in-Err-clause-kept g c = λ verdict. c.finish.ensures.kept ∙ c.in-Err.ensures.kept

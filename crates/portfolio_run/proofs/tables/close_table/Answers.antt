@@ -1,5 +1,4 @@
-use Rattle.std.proofs.Common.{◌∙◌}
-use Rattle.portfolio_run.proofs.Tabling.{settled_reached, settled_kept}
+use Rattle.portfolio_run.proofs.Tabling.{settled_reached}
 use Rattle.portfolio_run.proofs.tables.close_table.Goals as goal
 
 pub finish-requires : goal.finish-requires
@@ -10,11 +9,3 @@ finish-requires g c κs within =
       settled_reached g.S.Sink.written g.S.Sink.flushed g.S.Sink.target g.S.Sink.faults g.sink c.args.plan.now c.args.formula.now q.1.1.0 q.1.1.1.0 q.0.0 q.0.1 q.1.0 c.args.table c.args.first c.args.tally.items c.args.answer q.1.1.1.1
           c.close-book.result e.0 e.1 e.2 e.3,
     )
-
-pub returns-clause-kept : goal.returns-clause-kept
-returns-clause-kept g c =
-    let q = c.requires.1 in
-    let e = c.close-book.ensures in
-    c.finish.ensures.kept
-    ∙ settled_kept g.S.Sink.written g.S.Sink.flushed g.S.Sink.target g.S.Sink.faults g.sink c.args.plan.now c.args.formula.now q.1.1.0 q.1.1.1.0 q.0.0 q.0.1 q.1.0 c.args.table c.args.first c.args.tally.items c.args.answer q.1.1.1.1
-    c.close-book.result e.0 e.1 e.2 e.3

@@ -8,7 +8,7 @@ use Rattle.log_book.specs.Books.{account_of, origin_of, IsLogOf}
 use Rattle.portfolio_run.specs.Reached.{WasRuled}
 use Rattle.portfolio_run.proofs.Lives.{within_book}
 use Rattle.portfolio_run.proofs.Ruling.{left_unspent, may_begin, has_log}
-use Rattle.portfolio_run.proofs.Tabling.{opened, unmade, unmade_kept}
+use Rattle.portfolio_run.proofs.Tabling.{opened, unmade}
 use Rattle.portfolio_run.proofs.tables.open_table.Goals as goal
 
 pub make-requires : goal.make-requires
@@ -59,12 +59,3 @@ returns-clause-unmade g c =
     unmade w f t fa g.known.0 c.args.plan.now c.args.formula.now c.args.book c.args.left.now q.1.1.1.0 q.1.1.1.1.0 q.0.0 q.1.0 q.1.1.1.1.1.0 g.known.1 q.1.1.1.1.1.1 c.has_its_log.ensures.whole
     (record { rings = c.args.plan.now.threads; vars = c.vars.result; words = c.args.plan.now.words }) (λ i. record { rings = c.args.plan.now.threads; vars = c.vars.ensures i; words = c.args.plan.now.words })
     c.as_slice.result.now c.as_slice.ensures.value c.has_its_log.ensures.cut c.make.result c.make.ensures.stopped c.make.ensures.back
-
-pub returns-clause-kept : goal.returns-clause-kept
-returns-clause-kept g c =
-    let w = g.S.Sink.written in
-    let f = g.S.Sink.flushed in
-    let t = g.S.Sink.target in
-    let fa = g.S.Sink.faults in
-    let q = c.requires.1 in
-    unmade_kept w f t fa g.known.0 c.args.plan.now c.args.formula.now c.args.book c.args.left.now q.1.1.1.0 q.1.1.1.1.0 q.0.0 q.1.0 q.1.1.1.1.1.0 g.known.1 q.1.1.1.1.1.1 c.has_its_log.ensures.whole c.make.result c.make.ensures.back

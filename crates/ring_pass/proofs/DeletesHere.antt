@@ -1,6 +1,6 @@
 -- Deletions of the clauses that wait.
 use Rattle.std.proofs.Common.{◌≡◌, ℕ, zero, suc, ◌+◌, ◌<◌, ◌≤◌, ◌==◌, Bool, true, false, if◌then◌else◌, List, [], ◌∷◌, ◌++◌, map, length, get_or, take, drop, refl, sym, ap, subst, ◌∙◌, arith, Option, None, eq-eqb, length-append, append_assoc, append-nil}
-use Rattle.std.proofs.lemmas.Bool.{or_left}
+use Rattle.std.proofs.lemmas.Bool.{true≢false, or_left}
 use Rattle.std.proofs.lemmas.List.{map-append, length-map}
 use Rattle.std.specs.List.{All}
 use Rattle.sat_words.specs.Literal.{Literal}
@@ -37,7 +37,7 @@ use Rattle.ring_pass.specs.RingState.{Own, holding_of, port_with, port_of, home_
 use Rattle.ring_pass.specs.Writes.{entries_of, sheet_with, Wrote}
 use Rattle.ring_pass.proofs.PollsHere.{port_step}
 use Rattle.ring_pass.proofs.Stays.{only_is, one_is, units_keep}
-use Rattle.ring_pass.proofs.TurnsHere.{mine_last, not_ended, refused_here, room_refused, units_refused, ring_turns, end_refused, fault_refused}
+use Rattle.ring_pass.proofs.TurnsHere.{mine_last, not_ended, refused_here, room_refused, units_refused, ring_turns, end_refused, fault_refused, fault_alone}
 
 -- Lists
 
@@ -103,6 +103,7 @@ deleted_none v one free = record {
   going = λ lt. absurd (omega arith);
   ended_is = λ e. e;
   failed_is = λ e. e;
+  failed_was = λ e. e;
 }
 
 -- what waits next
@@ -156,6 +157,7 @@ deleted_more v w u k ws x d a lt e h =
       going = λ some. by k refl d.going (not_ended w h.journal h.knows h.going) (ap (λ (q : RingPart). q.ended) now) d.ended_is;
       ended_is = λ t. or_left (only w).ended (ended w.opening.formula (h.journal ++ Del (only w).core.ring (clause_in x.cell.address (only w).core.waiting).number ∷ [])) (ap (λ (q : RingPart). q.ended) now ∙ d.ended_is t);
       failed_is = λ t. h.gave.still (ap (λ (q : RingPart). q.failed) now ∙ d.failed_is t);
+      failed_was = λ t. absurd (true≢false (sym t ∙ h.whole));
     }
   where
     by : (m : ℕ) → m ≡ k → (0 < k → (only v).ended ≡ false) → (only w).ended ≡ false → (only w).ended ≡ d.part.ended → ((only v).ended ≡ true → d.part.ended ≡ true) → (only v).ended ≡ false
@@ -199,6 +201,7 @@ own_deleted v o p home core end fail own = record {
 
 pub ring_deleted : {B : Type 0} {t : Shared B} {p : Seat (Option B) View} {n : ℕ} {st : List Cref} {o : Own} (q : Seat (Option B) View) (k : ℕ) → IsRingPass t p n st o → IsPassOf t q → q.id ≡ p.id → q.me.1 ≡ [] → Deleted p.me.0 q.me.0 k → IsRingPass t q n st (record o { home = home_of q })
 ring_deleted {B} {t} {p} {n} {st} {o} q k r pass id slots d = ring_turns q d.part (record o { home = home_of q }) r pass id slots d.opening d.parts (ap (λ (c : Part). c.ring) d.core) d.turn refl (own_deleted p.me.0 o d.part (home_of q) d.core d.ended_is d.failed_is r.own)
+    (λ lone e. r.alone_is lone (d.failed_was e))
 
 -- fewer wait, in as much room
 pub room_deleted : (v w : View) (k : ℕ) (last : Option Cref) (ws ws' : List Waiting) (room room' : ℕ) → Deleted v w k → ws' ≡ drop k ws → room' ≡ room → HasRoom (only v) v.opening.rings last ws room → HasRoom (only w) w.opening.rings last ws' room'
@@ -242,15 +245,16 @@ tidied_some {v} {u} {many} {k} {e} o s kept over stop home view own d all kp b t
       refused = refused_here d.middle u o e home (own_middle v d.middle o k d.first own) d.refused hm;
     })
 
-pub ring_some : {B : Type 0} {t : Shared B} {p : Seat (Option B) View} {n : ℕ} {st : List Cref} {o : Own} (q : Seat (Option B) View) (many k : ℕ) (e : TurnStop) (kept : Option PortStop) (over : Bool) → IsRingPass t p n st o → IsPassOf t q → q.id ≡ p.id → q.me.1 ≡ [] → DeletedSome p.me.0 q.me.0 many k e → kept ≡ refused_after e o.refused → over ≡ ended_after e o.ended
+pub ring_some : {B : Type 0} {t : Shared B} {p : Seat (Option B) View} {n : ℕ} {st : List Cref} {o : Own} (q : Seat (Option B) View) (many k : ℕ) (e : TurnStop) (kept : Option PortStop) (over : Bool) → IsRingPass t p n st o → is_usable o.refused ≡ true → IsPassOf t q → q.id ≡ p.id → q.me.1 ≡ [] → DeletedSome p.me.0 q.me.0 many k e → kept ≡ refused_after e o.refused → over ≡ ended_after e o.ended
     → IsRingPass t q n st (record o { refused = kept; ended = over; home = home_of q })
-ring_some {B} {t} {p} {n} {st} {o} q many k e kept over r pass id slots d a b =
+ring_some {B} {t} {p} {n} {st} {o} q many k e kept over r usable pass id slots d a b =
     let m : View = d.middle in
     let w = d.refused in
     let own = own_middle p.me.0 m o k d.first r.own in
     let ring : (only m).core.ring ≡ (only p.me.0).core.ring = ap (λ (x : RingPart). x.core.ring) (only_is m d.first.part d.first.parts) ∙ ap (λ (c : Part). c.ring) d.first.core in
     ring_turns q (give_part m.opening (sheet_with w.journal (only m)) w.refused w.failed (only m)) (record o { refused = kept; ended = over; home = home_of q }) r pass id slots (w.gave.opening ∙ d.first.opening) w.gave.parts ring refl refl
     (record { passed = own.passed; distinct = own.distinct; told = own.told; taken = own.taken; ended_is = λ x. end_refused m o w.journal e own w.why (sym b ∙ x); faulty_is = λ x. fault_refused m q.me.0 o e own w (ap is_usable (sym a) ∙ x) })
+    (λ lone f. ap is_usable a ∙ fault_alone m q.me.0 o e usable (λ f'. r.alone_is lone (d.first.failed_was (ap (λ (x : RingPart). x.failed) (sym (only_is m d.first.part d.first.parts)) ∙ f'))) w (ap (λ (x : CoreOpening). x.rings) d.first.opening ∙ lone) f)
 
 pub room_some : (v u : View) (many k : ℕ) (e : TurnStop) (last : Option Cref) (ws ws' : List Waiting) (room room' : ℕ) → DeletedSome v u many k e → ws' ≡ drop k ws → room' ≡ room → HasRoom (only v) v.opening.rings last ws room → HasRoom (only u) u.opening.rings last ws' room'
 room_some v u many k e last ws ws' room room' d is same m = room_refused d.middle u e last ws' room' d.refused (room_deleted v d.middle k last ws ws' room room' d.first is same m)

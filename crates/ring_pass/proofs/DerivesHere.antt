@@ -5,6 +5,7 @@ use Rattle.std.specs.List.{list_any}
 use Rattle.std.specs.Option.{option_map}
 use mathlib.Core.Logic.{dite}
 use native.Mathlib.Decide.{ℕ_discrete}
+use Rattle.std.proofs.lemmas.Bool.{true≢false}
 use Rattle.sat_words.specs.Literal.{Literal, IsOn}
 use Rattle.sat_words.specs.Clause.{has, includes}
 use Rattle.sat_words.specs.declared.shared.Cref.{Cref}
@@ -173,6 +174,7 @@ ring_adds {B} {t} {p} {n} {st} {o} q kind lits glue a last r pass id slots f =
       ended_is = λ e. f.ended_is (r.own.ended_is e);
       faulty_is = λ e. f.failed_is (r.own.faulty_is e);
     })
+    (λ _ e. absurd (true≢false (sym e ∙ f.whole)))
 
 pub room_adds : (v w : View) (kind : Kind) (lits : List Literal) (glue a : ℕ) (last : Option Cref) (ws : List Waiting) (room : ℕ) → Added v w kind lits glue a → HasRoom (only v) v.opening.rings last ws room → HasRoom (only w) w.opening.rings last ws room
 room_adds v w kind lits glue a last ws room f m =

@@ -1,7 +1,7 @@
 -- What follows from what the port may use, and the end of the log.
 use Rattle.std.proofs.Common.{◌≡◌, ℕ, Bool, true, not, List, [], ◌∷◌, ◌++◌, map, length, refl, sym, ap, subst, ◌∙◌, ⊎_elim, arith, Option, length-append}
 use Rattle.std.specs.List.{list_any}
-use Rattle.std.proofs.lemmas.Bool.{or_right}
+use Rattle.std.proofs.lemmas.Bool.{true≢false, or_right}
 use Rattle.std.proofs.lemmas.List.Folds.{list_any-append}
 use Rattle.sat_words.specs.Literal.{Literal}
 use Rattle.sat_words.specs.Clause.{has, is_empty}
@@ -95,6 +95,7 @@ ring_ended {B} {t} {p} {n} {st} {o} q r pass id slots h =
       ended_is = λ e. or_right (only p.me.0).ended (ended p.me.0.opening.formula (h.journal ++ empty_entry p.me.0 h.journal ∷ [])) (over p.me.0 h.journal);
       faulty_is = λ e. h.gave.still (r.own.faulty_is e);
     })
+    (λ _ e. absurd (true≢false (sym e ∙ h.whole)))
 
 pub room_ended : (v u : View) (last : Option Cref) (ws : List Waiting) (room : ℕ) → Wrote v u Empty → HasRoom (only v) v.opening.rings last ws room → HasRoom (only u) u.opening.rings last ws room
 room_ended v u last ws room h m =

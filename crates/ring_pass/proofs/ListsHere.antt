@@ -183,8 +183,8 @@ abbrev pub quiet_part : View → Option Refusal → Bool → RingPart
 quiet_part v x failed = give_part v.opening (sheet_of v) x failed (only v)
 
 pub listed_all : (v w m n u : View) (J : List Entry) (was : Bool) (lit : Literal) (seen seen' arrived arrived' : List Literal) (ms : List Note) (x : Option Refusal) (failed : Bool) → HasTurn v w J was → SawRest w m seen arrived arrived' → Seen m → ListedOne m n seen' lit → u ≡ after_give ms x failed n → ms ≡ []
-    → ((only v).failed ≡ true → failed ≡ true) → Listed v u arrived arrived' lit
-listed_all v w m n u J was lit seen seen' arrived arrived' ms x failed h rest s one is none still =
+    → ((only v).failed ≡ true → failed ≡ true) → (v.opening.rings ≡ 1 → failed ≡ true → (only v).failed ≡ true) → Listed v u arrived arrived' lit
+listed_all v w m n u J was lit seen seen' arrived arrived' ms x failed h rest s one is none still alone =
     let saw = rest.saw in
     let at_w : only w ≡ take_part J was (only v) = only_is w (take_part J was (only v)) h.parts in
     let at_m : only m ≡ saw.part = only_is m saw.part saw.parts in
@@ -207,6 +207,7 @@ listed_all v w m n u J was lit seen seen' arrived arrived' ms x failed h rest s 
       turn = refl;
       ended_is = λ e. or_left (only n).ended (ended n.opening.formula (sheet_of n).journal) (ap (λ (p : RingPart). p.ended) at_n ∙ one.ended ∙ ap (λ (p : RingPart). p.ended) at_m ∙ saw.ended ∙ ap (λ (p : RingPart). p.ended) at_w ∙ e);
       failed_is = still;
+      alone = alone;
       sees = λ k. sees k ∙ ap (λ (ls : List Literal). has ls k || same lit k) seen_m;
       apart = λ k e. back_else (only v).core.seen saw.news k (subst (λ (ls : List Literal). distinct_lits ls ≡ true) seen_m (seen_distinct m s (one_is m saw.part saw.parts))) e;
       arrived_is = saw.arrived_is;

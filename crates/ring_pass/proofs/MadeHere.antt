@@ -164,6 +164,7 @@ module _ (v u : View) (kind : Kind) (lits : List Literal) (glue a number : ℕ) 
       going = not_ended v h.wrote.journal h.wrote.knows h.wrote.going;
       ended_is = λ e. or_left (only v).ended (ended v.opening.formula (h.wrote.journal ++ entry_of v.opening (only v).core.ring h.wrote.journal (only v).core (Clause kind lits glue a) ∷ [])) e;
       failed_is = h.wrote.gave.still;
+      whole = h.wrote.whole;
       not_held = free;
       not_waiting = waits;
       held_apart = All_from_In (λ (k : ClauseAt). k.number ≢ number) (only v).core.held (λ k i.

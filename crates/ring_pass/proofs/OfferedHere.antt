@@ -209,7 +209,7 @@ pub ring_offers : {B : Type 0} {t : Shared B} {p : Seat (Option B) View} {n : �
     → IsRingPass t q n st (record o { last = None; home = home_of q })
 ring_offers {B} {t} {p} {n} {st} {o} q class a tos r pass same f =
     ring_changes q (only q.me.0) (record o { last = None; home = home_of q }) r pass same f.opening f.one (ap (λ (y : RingPart). y.core.ring) f.part.part) (ap (λ (y : RingPart). y.turn) f.part.part) refl
-    (own_offers p.me.0 q.me.0 o (home_of q) class a tos f r.own)
+    (own_offers p.me.0 q.me.0 o (home_of q) class a tos f r.own) (λ lone e. r.alone_is lone (ap (λ (y : RingPart). y.failed) (sym f.part.part) ∙ e))
 
 pub room_offers : (v w : View) (class a : ℕ) (tos : List ℕ) (ws : List Waiting) (room : ℕ) (s : Spares) → PutFor v w class a tos → (only v).core.shared + length tos ≤ 15 * length (only v).core.wrote → CanTakeBack (only w) ws room s 0 → HasRoom (only w) w.opening.rings None ws room
 room_offers v w class a tos ws room s f few back =

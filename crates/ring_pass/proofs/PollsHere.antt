@@ -163,7 +163,7 @@ pub ring_polls : {B : Type 0} {t : Shared B} {p : Seat (Option B) View} {n : ℕ
     → q.me.0 ≡ after_get from class h g p.me.0 → IsFound h.address x → ts ≡ taken_after x o.taken → IsRingPass t q n st (record o { polled = k; taken = ts; home = home_of q })
 ring_polls {B} {t} {p} {n} {st} {o} q from class h g x k ts r pass same is f e =
     ring_changes q (after_part h g x (only p.me.0)) (record o { polled = k; taken = ts; home = home_of q }) r pass same (ap (λ (u : View). u.opening) is) (got_parts p.me.0 q.me.0 from class h g x r.one is f)
-    (by_ring x) (by_turn x) refl (own_after h g x (only p.me.0) o k ts (home_of q) f r.own e)
+    (by_ring x) (by_turn x) refl (own_after h g x (only p.me.0) o k ts (home_of q) f r.own e) (λ lone failed. r.alone_is lone (sym (by_failed x) ∙ failed))
   where
     by_ring : (y : Option Cref) → (after_part h g y (only p.me.0)).core.ring ≡ (only p.me.0).core.ring
     by_ring None = refl
@@ -172,6 +172,10 @@ ring_polls {B} {t} {p} {n} {st} {o} q from class h g x k ts r pass same is f e =
     by_turn : (y : Option Cref) → (after_part h g y (only p.me.0)).turn ≡ (only p.me.0).turn
     by_turn None = refl
     by_turn (Some c) = refl
+
+    by_failed : (y : Option Cref) → (after_part h g y (only p.me.0)).failed ≡ (only p.me.0).failed
+    by_failed None = refl
+    by_failed (Some c) = refl
 
 pub room_polls : (v w : View) (from class : ℕ) (h : ClauseAt) (g : ℕ) (x : Option Cref) (last : Option Cref) (ws : List Waiting) (room : ℕ) → v.parts ≡ only v ∷ [] → w ≡ after_get from class h g v → IsFound h.address x
     → HasRoom (only v) v.opening.rings last ws room → HasRoom (only w) w.opening.rings last ws room

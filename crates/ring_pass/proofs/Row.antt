@@ -1,5 +1,5 @@
 -- What the rings of the tests know.
-use Rattle.std.proofs.Common.{◌≡◌, ◌≢◌, ◌∙◌, ℕ, ◌+◌, ◌<◌, ◌||◌, Bool, true, false, true≢false, List, [], ◌∷◌, map, length, All, Contains, refl, sym, ap, subst, arith, Some, IsSome, Option}
+use Rattle.std.proofs.Common.{◌≡◌, ◌≢◌, ◌∙◌, ℕ, ◌||◌, Bool, true, false, true≢false, List, [], ◌∷◌, map, All, Contains, refl, sym, ap, subst, arith, Some, IsSome, Option}
 use Rattle.std.specs.Prelude.{slice_get}
 use Rattle.std.specs.Option.{unwrap_or}
 use Rattle.std.proofs.lemmas.Bool.{or_right}
@@ -20,7 +20,7 @@ use Rattle.share_rule.specs.Passes.{NoTurns}
 use Rattle.share_rule.specs.Views.{start_glues}
 use Rattle.sample_table.specs.Samples.{IsFirst, IsGathered}
 use Rattle.ring_port.specs.PortState.{Holding, PortState, HoldsStart, held_at, lits_at, lits_in, known}
-use Rattle.ring_port.specs.Port.{start_lits, is_usable}
+use Rattle.ring_port.specs.Port.{is_usable}
 use Rattle.ring_port.specs.Deleting.{DroppedOnce, TidiedUpTo}
 use Rattle.ring_port.proofs.Holdings.{held_is_known, lits_of_holding}
 use Rattle.ring_port.proofs.PlainLemmas.{dropped_others, same_lookup}

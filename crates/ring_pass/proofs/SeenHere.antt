@@ -340,7 +340,7 @@ gives_none v w o n home one is all hm h =
 
 -- a kept unit is given
 pub ring_given : {B : Type 0} {t : Shared B} {p : Seat (Option B) View} {n : ℕ} {st : List Cref} {o : Own} → IsRingPass t p n st o → o.passed < length o.arrived → IsRingPass t p n st (record o { passed = o.passed + 1 })
-ring_given {B} {t} {p} {n} {st} {o} r lt = record { pass = r.pass; slots = r.slots; one = r.one; ring = r.ring; free = r.free; home = r.home; start = r.start; own = own_given (only p.me.0) o lt r.own }
+ring_given {B} {t} {p} {n} {st} {o} r lt = record { pass = r.pass; slots = r.slots; one = r.one; ring = r.ring; free = r.free; home = r.home; start = r.start; own = own_given (only p.me.0) o lt r.own; alone_is = r.alone_is }
 
 pub port_given : {B : Type 0} {t : Shared B} {p : Seat (Option B) View} {n : ℕ} {st : List Cref} {o : Own} (s : PortState) (x : Literal) → IsRingPass t p n st o → port_of p.me.0 o ≡ s → o.passed < length o.arrived → x ≡ get_or o.arrived o.passed x → TookUnit s (port_of p.me.0 (record o { passed = o.passed + 1 })) x
 port_given {B} {t} {p} {n} {st} {o} s x r view lt e = subst (λ (y : PortState). TookUnit y (port_of p.me.0 (record o { passed = o.passed + 1 })) x) view (gives_kept p.me.0 r.pass.3 o x r.one r.own lt e)
@@ -350,7 +350,7 @@ pub ring_sees : {B : Type 0} {t : Shared B} {p : Seat (Option B) View} {n : ℕ}
     → passed ≤ length o.arrived + 1 → IsRingPass t q n st (record o { arrived = more; passed = passed; home = home_of q })
 ring_sees {B} {t} {p} {n} {st} {o} q x seen seen' more passed r pass same saw le =
     ring_changes q (saw_part x saw.listed (only p.me.0)) (record o { arrived = more; passed = passed; home = home_of q }) r pass same (ap (λ (u : View). u.opening) saw.view) (saw_parts p.me.0 q.me.0 x saw.listed r.one saw.view) refl refl refl
-    (subst (λ (ls : List Literal). IsOwn (saw_part x saw.listed (only p.me.0)) (record o { arrived = ls; passed = passed; home = home_of q })) (sym saw.arrived_is) (own_new p.me.0 q.me.0 pass.3 o x saw.listed passed (home_of q) r.one saw.view le r.own))
+    (subst (λ (ls : List Literal). IsOwn (saw_part x saw.listed (only p.me.0)) (record o { arrived = ls; passed = passed; home = home_of q })) (sym saw.arrived_is) (own_new p.me.0 q.me.0 pass.3 o x saw.listed passed (home_of q) r.one saw.view le r.own)) r.alone_is
 
 pub port_sees : {B : Type 0} {t : Shared B} {p : Seat (Option B) View} {n : ℕ} {st : List Cref} {o : Own} (q : Seat (Option B) View) (s : PortState) (x : Literal) (seen seen' more : List Literal) → IsRingPass t p n st o → IsPassOf t q → port_of p.me.0 o ≡ s → SawOne p.me.0 q.me.0 seen seen' o.arrived more x → o.passed ≡ length o.arrived
     → TookUnit s (port_of q.me.0 (record o { arrived = more; passed = o.passed + 1; home = home_of q })) x
@@ -379,7 +379,7 @@ all_parts v w n one is = one_changed (count_part n) v w one (ap (λ (u : View). 
 pub ring_sees_all : {B : Type 0} {t : Shared B} {p : Seat (Option B) View} {n : ℕ} {st : List Cref} {o : Own} (q : Seat (Option B) View) (count : ℕ) (seen seen' more : List Literal) → IsRingPass t p n st o → IsPassOf t q → IsSamePass p q → SawAll p.me.0 q.me.0 count seen seen' o.arrived more → IsRingPass t q n st (record o { arrived = more; home = home_of q })
 ring_sees_all {B} {t} {p} {n} {st} {o} q count seen seen' more r pass same saw =
     ring_changes q (count_part count (only p.me.0)) (record o { arrived = more; home = home_of q }) r pass same (ap (λ (u : View). u.opening) saw.view) (all_parts p.me.0 q.me.0 count r.one saw.view) refl refl refl
-    (subst (λ (ls : List Literal). IsOwn (count_part count (only p.me.0)) (record o { arrived = ls; home = home_of q })) (sym saw.arrived_is) (record { passed = r.own.passed; distinct = r.own.distinct; told = r.own.told; taken = r.own.taken; ended_is = r.own.ended_is; faulty_is = r.own.faulty_is }))
+    (subst (λ (ls : List Literal). IsOwn (count_part count (only p.me.0)) (record o { arrived = ls; home = home_of q })) (sym saw.arrived_is) (record { passed = r.own.passed; distinct = r.own.distinct; told = r.own.told; taken = r.own.taken; ended_is = r.own.ended_is; faulty_is = r.own.faulty_is })) r.alone_is
 
 pub port_sees_all : {B : Type 0} {t : Shared B} {p : Seat (Option B) View} {n : ℕ} {st : List Cref} {o : Own} (q : Seat (Option B) View) (s : PortState) (count : ℕ) (seen seen' more : List Literal) → IsRingPass t p n st o → IsPassOf t q → port_of p.me.0 o ≡ s → SawAll p.me.0 q.me.0 count seen seen' o.arrived more → o.passed ≡ length o.arrived
     → TookNone s (port_of q.me.0 (record o { arrived = more; home = home_of q }))

@@ -1,5 +1,5 @@
 -- What stays of a ring with its pass, step by step.
-use Rattle.std.proofs.Common.{◌≡◌, ℕ, ◌+◌, ◌*◌, ◌<◌, ◌≤◌, true, List, [], ◌∷◌, length, refl, sym, ap, subst, ◌∙◌, Option, None, IsSome, IfSome}
+use Rattle.std.proofs.Common.{◌≡◌, ℕ, ◌+◌, ◌*◌, ◌<◌, ◌≤◌, true, List, [], ◌∷◌, length, false, refl, sym, ap, subst, ◌∙◌, Option, None, IsSome, IfSome}
 use Rattle.std.specs.Prelude.{slice_index_or, All, IsSomeAnd}
 use Rattle.sat_words.specs.Literal.{Literal}
 use Rattle.sat_words.specs.Clause.{has}
@@ -19,6 +19,7 @@ use Rattle.share_rule.specs.Steps.{after_load, on_first}
 use Rattle.share_rule.specs.Views.{only, no_part, clause_in, clause_of, glue_in, IsHolding}
 use Rattle.drat_text.specs.LineState.{LineState}
 use Rattle.ring_port.specs.Log.{KeepsLog, HasLines}
+use Rattle.ring_port.specs.Port.{is_usable}
 use Rattle.ring_port.specs.PortState.{PortState, IsPort, held_at, lits_at, head_of}
 use Rattle.ring_pass.specs.declared.waiting.Waiting.{Waiting}
 use Rattle.ring_pass.specs.Looks.{OnlyLooked}
@@ -65,6 +66,7 @@ ring_stays {B} {t} {p} {n} {st} {o} q r pass same looked =
       home = refl;
       start = r.start ∙ ap (λ (x : CoreOpening). addresses x.starts) (sym looked.opening);
       own = subst (λ (x : RingPart). IsOwn x (record o { home = home_of q })) e (renamed (only p.me.0) o (home_of q) r.own);
+      alone_is = λ lone f. r.alone_is (ap (λ (x : CoreOpening). x.rings) (sym looked.opening) ∙ lone) (ap (λ (x : RingPart). x.failed) e ∙ f);
     }
 
 -- and shows the same port
@@ -119,8 +121,8 @@ one_changed f v w one is = is ∙ ap (on_first f) one
 
 -- the pass is the ring's, with this part
 pub ring_changes : {B : Type 0} {t : Shared B} {p : Seat (Option B) View} {n : ℕ} {st : List Cref} {o : Own} (q : Seat (Option B) View) (x : RingPart) (o' : Own) → IsRingPass t p n st o → IsPassOf t q → IsSamePass p q
-    → q.me.0.opening ≡ p.me.0.opening → q.me.0.parts ≡ x ∷ [] → x.core.ring ≡ (only p.me.0).core.ring → x.turn ≡ (only p.me.0).turn → o'.home ≡ home_of q → IsOwn x o' → IsRingPass t q n st o'
-ring_changes {B} {t} {p} {n} {st} {o} q x o' r pass same opening is ring turn home own =
+    → q.me.0.opening ≡ p.me.0.opening → q.me.0.parts ≡ x ∷ [] → x.core.ring ≡ (only p.me.0).core.ring → x.turn ≡ (only p.me.0).turn → o'.home ≡ home_of q → IsOwn x o' → (p.me.0.opening.rings ≡ 1 → x.failed ≡ true → is_usable o'.refused ≡ false) → IsRingPass t q n st o'
+ring_changes {B} {t} {p} {n} {st} {o} q x o' r pass same opening is ring turn home own alone =
     let e : x ≡ only q.me.0 = sym (only_is q.me.0 x is) in
     record {
       pass = pass;
@@ -131,6 +133,7 @@ ring_changes {B} {t} {p} {n} {st} {o} q x o' r pass same opening is ring turn ho
       home = home;
       start = r.start ∙ ap (λ (y : CoreOpening). addresses y.starts) (sym opening);
       own = subst (λ (y : RingPart). IsOwn y o') e own;
+      alone_is = λ lone f. alone (ap (λ (y : CoreOpening). y.rings) (sym opening) ∙ lone) (ap (λ (y : RingPart). y.failed) e ∙ f);
     }
 
 -- where its part of the core stays, so does what is kept beside

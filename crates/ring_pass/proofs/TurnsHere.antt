@@ -80,6 +80,11 @@ failed_taken {S} {d} {written} {flushed} {target} {faults} {v} {w} {t} {t'} J h 
     let told : (only w).failed ≡ t.book.log.lines.spent = ap (λ (p : RingPart). p.failed) (only_is w (take_part J t.book.log.lines.spent (only v)) has.parts) in
     turn.refused.1 (told ∙ h.taken.book.still before)
 
+-- and a lone ring finds the book broken only where it was told so
+pub alone_taken : {S : Type 0} {d : Ghosts S} {written flushed target : S → Option (List ℕ)} {faults : S → ℕ} {v w : View} {t : Turn S d} → WasTaken written flushed target faults v w t → v.opening.rings ≡ 1 → t.book.log.lines.spent ≡ true → (only v).failed ≡ true
+alone_taken {S} {d} {written} {flushed} {target} {faults} {v} {w} {t} h lone e =
+    ap (λ (ps : List RingPart). (slice_index_or ps 0 no_part).failed) (sym h.missed.parts) ∙ h.taken.book.alone (ap (λ (o : CoreOpening). o.rings) h.missed.opening ∙ lone) e
+
 -- its sheet then
 pub sheet_taken : (v w : View) (J : List Entry) (failed : Bool) (ns : List Note) → HasTurn v w J failed → written_of w ns ≡ sheet_after v.opening (only v).core.ring (sheet_with J (only v)) ns
 sheet_taken v w J failed ns h i =
@@ -112,8 +117,8 @@ turn_given v w u J was ns ms x failed h is same still = record {
 
 -- the pass is the ring's again, with this part
 pub ring_turns : {B : Type 0} {t : Shared B} {p : Seat (Option B) View} {n : ℕ} {st : List Cref} {o : Own} (q : Seat (Option B) View) (x : RingPart) (o' : Own) → IsRingPass t p n st o → IsPassOf t q → q.id ≡ p.id → q.me.1 ≡ []
-    → q.me.0.opening ≡ p.me.0.opening → q.me.0.parts ≡ x ∷ [] → x.core.ring ≡ (only p.me.0).core.ring → x.turn ≡ None → o'.home ≡ home_of q → IsOwn x o' → IsRingPass t q n st o'
-ring_turns {B} {t} {p} {n} {st} {o} q x o' r pass id slots opening is ring turn home own = ring_changes q x o' r pass (id, slots ∙ sym r.slots) opening is ring (turn ∙ sym r.free) home own
+    → q.me.0.opening ≡ p.me.0.opening → q.me.0.parts ≡ x ∷ [] → x.core.ring ≡ (only p.me.0).core.ring → x.turn ≡ None → o'.home ≡ home_of q → IsOwn x o' → (p.me.0.opening.rings ≡ 1 → x.failed ≡ true → is_usable o'.refused ≡ false) → IsRingPass t q n st o'
+ring_turns {B} {t} {p} {n} {st} {o} q x o' r pass id slots opening is ring turn home own alone = ring_changes q x o' r pass (id, slots ∙ sym r.slots) opening is ring (turn ∙ sym r.free) home own alone
 
 -- its room is as it was, where nothing else waits and it wrote no less
 pub room_turns : (v u : View) (x : RingPart) (last : Option Cref) (ws : List Waiting) (room : ℕ) → u.opening ≡ v.opening → u.parts ≡ x ∷ [] → x.core.waiting ≡ (only v).core.waiting → x.core.shared ≡ (only v).core.shared → length (only v).core.wrote ≤ length x.core.wrote
@@ -225,11 +230,20 @@ fault_refused v u o (NoHole need most) own w k = absurd (true≢false k)
 fault_refused v u o Memory own w k = w.gave.still (own.faulty_is k)
 fault_refused v u o ProofFault own w k = w.faulty refl
 
-pub ring_refused : {B : Type 0} {t : Shared B} {p : Seat (Option B) View} {n : ℕ} {st : List Cref} {o : Own} (q : Seat (Option B) View) (e : TurnStop) (kept : Option PortStop) (over : Bool) → IsRingPass t p n st o → IsPassOf t q → q.id ≡ p.id → q.me.1 ≡ [] → WroteNone p.me.0 q.me.0 e → kept ≡ refused_after e o.refused → over ≡ ended_after e o.ended
+-- a lone ring that is told of a failed write by then was refused for a fault
+pub fault_alone : (v u : View) (o : Own) (e : TurnStop) → is_usable o.refused ≡ true → ((only v).failed ≡ true → is_usable o.refused ≡ false) → (w : WroteNone v u e) → v.opening.rings ≡ 1 → w.failed ≡ true → is_usable (refused_after e o.refused) ≡ false
+fault_alone v u o Ended usable was w lone f = absurd (true≢false (sym usable ∙ was (w.alone lone f refl)))
+fault_alone v u o Broken usable was w lone f = refl
+fault_alone v u o (NoHole need most) usable was w lone f = absurd (true≢false (sym usable ∙ was (w.alone lone f refl)))
+fault_alone v u o Memory usable was w lone f = was (w.alone lone f refl)
+fault_alone v u o ProofFault usable was w lone f = refl
+
+pub ring_refused : {B : Type 0} {t : Shared B} {p : Seat (Option B) View} {n : ℕ} {st : List Cref} {o : Own} (q : Seat (Option B) View) (e : TurnStop) (kept : Option PortStop) (over : Bool) → IsRingPass t p n st o → is_usable o.refused ≡ true → IsPassOf t q → q.id ≡ p.id → q.me.1 ≡ [] → WroteNone p.me.0 q.me.0 e → kept ≡ refused_after e o.refused → over ≡ ended_after e o.ended
     → IsRingPass t q n st (record o { refused = kept; ended = over; home = home_of q })
-ring_refused {B} {t} {p} {n} {st} {o} q e kept over r pass id slots h a b =
+ring_refused {B} {t} {p} {n} {st} {o} q e kept over r usable pass id slots h a b =
     ring_turns q (give_part p.me.0.opening (sheet_with h.journal (only p.me.0)) h.refused h.failed (only p.me.0)) (record o { refused = kept; ended = over; home = home_of q }) r pass id slots h.gave.opening h.gave.parts refl refl refl
     (record { passed = r.own.passed; distinct = r.own.distinct; told = r.own.told; taken = r.own.taken; ended_is = λ k. end_refused p.me.0 o h.journal e r.own h.why (sym b ∙ k); faulty_is = λ k. fault_refused p.me.0 q.me.0 o e r.own h (ap is_usable (sym a) ∙ k) })
+    (λ lone f. ap is_usable a ∙ fault_alone p.me.0 q.me.0 o e usable (r.alone_is lone) h lone f)
 
 pub room_refused : (v u : View) (e : TurnStop) (last : Option Cref) (ws : List Waiting) (room : ℕ) → WroteNone v u e → HasRoom (only v) v.opening.rings last ws room → HasRoom (only u) u.opening.rings last ws room
 room_refused v u e last ws room h m = room_turns v u (give_part v.opening (sheet_with h.journal (only v)) h.refused h.failed (only v)) last ws room h.gave.opening h.gave.parts refl refl (omega arith) m
@@ -263,6 +277,7 @@ wrote_one {S} {d} {written} {flushed} {target} {faults} {v} {w} {t} {t'} u n one
       knows = journal_known v w J t.book.log.lines.spent has s;
       gave = turn_given v w u J t.book.log.lines.spent (n ∷ []) t'.noted.items t'.refused t'.book.log.lines.spent has is noted (failed_taken J h has g.turn);
       going = (λ i. ended (sym has.opening i).formula (sym (journal_taken v w t J t.book.log.lines.spent has h.taken.noted) i)) ∙ g.going.0.going;
+      whole = g.whole;
     }
 
 -- a fault is noted where a write has failed
@@ -287,6 +302,7 @@ wrote_none {S} {d} {written} {flushed} {target} {faults} {v} {w} {t} {t'} u e on
       gave = turn_given v w u J t.book.log.lines.spent [] t'.noted.items t'.refused t'.book.log.lines.spent has is (r.noted ∙ h.taken.noted) (failed_taken J h has r.turn);
       why = why;
       faulty = fault_told w.opening (written_of w t'.noted.items).journal t.refused e r.refused r.turn.refused.0;
+      alone = λ lone f quiet. alone_taken h lone (ap (λ k. k.spent) (sym (r.alike (λ q. true≢false (sym (ap (λ (y : TurnStop). is_fault (port_stop y)) q) ∙ quiet))).lines) ∙ f);
     }
 
 -- a reduction may be noted where the ring has learned enough
@@ -351,6 +367,7 @@ ring_reduced {B} {t} {p} {n} {st} {o} q ts r pass id slots h none =
       ended_is = λ e. or_left (only p.me.0).ended (ended p.me.0.opening.formula (h.journal ++ ReduceEntry (only p.me.0).core.ring ∷ [])) (r.own.ended_is e);
       faulty_is = λ e. h.gave.still (r.own.faulty_is e);
     })
+    (λ _ e. absurd (true≢false (sym e ∙ h.whole)))
 
 pub room_reduced : (v u : View) (last : Option Cref) (ws : List Waiting) (room : ℕ) → Wrote v u Reduce → HasRoom (only v) v.opening.rings last ws room → HasRoom (only u) u.opening.rings last ws room
 room_reduced v u last ws room h m =

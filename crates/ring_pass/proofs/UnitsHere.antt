@@ -1,7 +1,7 @@
 -- The unit that the port writes.
 use Rattle.std.proofs.Common.{◌≡◌, ℕ, zero, suc, ◌<◌, ◌≤◌, Bool, true, false, not, ◌&&◌, ◌||◌, List, [], ◌∷◌, ◌++◌, length, get_or, take, drop, refl, sym, ap, subst, ◌∙◌, inl, inr, arith, Option, None, length-append}
 use Rattle.std.specs.List.{All, list_any}
-use Rattle.std.proofs.lemmas.Bool.{false≢true, or_left, or_right}
+use Rattle.std.proofs.lemmas.Bool.{false≢true, true≢false, or_left, or_right}
 use Rattle.std.proofs.lemmas.List.Folds.{list_any-append}
 use Rattle.sat_words.specs.Literal.{Literal, same}
 use Rattle.sat_words.specs.Clause.{has, distinct_lits, same_set}
@@ -16,6 +16,7 @@ use Rattle.rup_model.proofs.Additions.{added-append}
 use Rattle.rup_model.proofs.Lists.{In, has_In, In_has}
 use Rattle.rup_model.proofs.ProgramOpening.{All_from_In}
 use Rattle.atomic_table.specs.declared.shared.Seat.{Seat}
+use Rattle.share_core.specs.declared.part.CoreOpening.{CoreOpening}
 use Rattle.share_core.specs.declared.part.Part.{Part}
 use Rattle.share_core.specs.declared.stored.ClauseAt.{ClauseAt}
 use Rattle.share_core.specs.State.{times_at}
@@ -208,6 +209,7 @@ ring_unit {B} {t} {p} {n} {st} {o} {w} {kind} {lit} {arrived'} {last} q cell r p
       ended_is = λ e. l.ended_is (ap (λ (x : RingPart). x.ended) is ∙ or_left (only p.me.0).ended (ended p.me.0.opening.formula (h.journal ++ unit_entry p.me.0 h.journal kind lit ∷ [])) (r.own.ended_is e));
       faulty_is = λ e. l.failed_is (ap (λ (x : RingPart). x.failed) is ∙ h.gave.still (r.own.faulty_is e));
     })
+    (λ lone e. absurd (true≢false (sym (l.alone (ap (λ (x : CoreOpening). x.rings) h.gave.opening ∙ lone) e) ∙ ap (λ (x : RingPart). x.failed) is ∙ h.whole)))
 
 pub room_unit : {v w u : View} {kind : Kind} {lit : Literal} {arrived arrived' : List Literal} (last : Option Cref) (ws : List Waiting) (room : ℕ) → Wrote v w (UnitNote kind lit) → Listed w u arrived arrived' lit → HasRoom (only v) v.opening.rings last ws room → HasRoom (only u) u.opening.rings last ws room
 room_unit {v} {w} {u} {kind} {lit} {arrived} {arrived'} last ws room h l m =

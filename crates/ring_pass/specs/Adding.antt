@@ -18,7 +18,8 @@ clause_with address number lits = record { address = address; number = number; l
 abbrev pub placed_line : (place ring number : ℕ) → List Literal → Kind → Placed
 placed_line place ring number lits kind = record { place = place; entry = Add (record { ring = ring; number = number; lits = lits; kind = kind }) }
 
--- the ring holds a clause that it added, at an address where nothing stood that it knows, under a number of its own
+-- the ring holds a clause that it added, at an address where nothing stood that it knows, under a number of its own; no write
+-- has failed
 pub record Added (v w : View) (kind : Kind) (lits : List Literal) (glue a : ℕ) : Type 0 where
   pub number : ℕ
   pub place : ℕ
@@ -38,6 +39,7 @@ pub record Added (v w : View) (kind : Kind) (lits : List Literal) (glue a : ℕ)
   pub going : (only v).ended ≡ false
   pub ended_is : (only v).ended ≡ true → part.ended ≡ true
   pub failed_is : (only v).failed ≡ true → part.failed ≡ true
+  pub whole : part.failed ≡ false
   pub not_held : times_at a (only v).core.held ≡ 0
   pub not_waiting : times_at a (only v).core.waiting ≡ 0
   pub held_apart : All (λ k. k.number ≢ number) (only v).core.held

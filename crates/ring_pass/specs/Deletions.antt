@@ -13,7 +13,7 @@ use Rattle.ring_pass.specs.Writes.{entries_of, WroteNone}
 abbrev pub deletions_of : ℕ → List ClauseAt → List Entry
 deletions_of r hs = map (λ h. Del r h.number) hs
 
--- the first k of the clauses that waited are deleted
+-- the first k of the clauses that waited are deleted, and the ring is told of no new failed write
 pub record Deleted (v w : View) (k : ℕ) : Type 0 where
   pub part : RingPart
   pub parts : w.parts ≡ part ∷ []
@@ -29,6 +29,7 @@ pub record Deleted (v w : View) (k : ℕ) : Type 0 where
   pub going : 0 < k → (only v).ended ≡ false
   pub ended_is : (only v).ended ≡ true → part.ended ≡ true
   pub failed_is : (only v).failed ≡ true → part.failed ≡ true
+  pub failed_was : part.failed ≡ true → (only v).failed ≡ true
 
 -- the deletion of the next one was refused
 pub record DeletedSome (v w : View) (many : ℕ) (k : ℕ) (e : TurnStop) : Type 0 where

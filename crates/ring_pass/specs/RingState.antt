@@ -160,7 +160,8 @@ pub record CanOffer (p : RingPart) (rings : ℕ) (last : Option Cref) (s : Spare
   pub gave : AreShort s.longest p.gave
   pub next : IfSome last (λ c. (0 < times_at c.address p.core.held) × (length (clause_in c.address p.core.held).lits ≤ s.longest))
 
--- the pass has this ring alone, which has not the turn; these are the addresses of the start clauses
+-- the pass has this ring alone, which has not the turn; these are the addresses of the start clauses; a lone ring that was
+-- told of a failed write was refused for a fault
 pub record IsRingPass {B : Type 0} (t : Shared B) (p : Seat (Option B) View) (n : ℕ) (starts : List Cref) (o : Own) : Type 0 where
   pub pass : IsPassOf t p
   pub slots : p.me.1 ≡ []
@@ -170,6 +171,7 @@ pub record IsRingPass {B : Type 0} (t : Shared B) (p : Seat (Option B) View) (n 
   pub home : o.home ≡ home_of p
   pub start : starts ≡ addresses p.me.0.opening.starts
   pub own : IsOwn (only p.me.0) o
+  pub alone_is : p.me.0.opening.rings ≡ 1 → (only p.me.0).failed ≡ true → is_usable o.refused ≡ false
 
 -- How it begins
 

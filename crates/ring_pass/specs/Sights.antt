@@ -56,7 +56,7 @@ pub record SawRest (v w : View) (seen' arrived arrived' : List Literal) : Type 0
 abbrev pub wrote_unit : RingPart → Literal → Bool
 wrote_unit p lit = list_any (same_set (lit ∷ [])) (added (entries_of p))
 
--- a unit that the ring wrote is listed, and all others that were are seen and kept
+-- a unit that the ring wrote is listed, and all others that were are seen and kept; a lone ring is told of no new failed write
 pub record Listed (v w : View) (arrived arrived' : List Literal) (lit : Literal) : Type 0 where
   pub news : List Literal
   pub part : RingPart
@@ -70,6 +70,7 @@ pub record Listed (v w : View) (arrived arrived' : List Literal) (lit : Literal)
   pub turn : part.turn ≡ None
   pub ended_is : (only v).ended ≡ true → part.ended ≡ true
   pub failed_is : (only v).failed ≡ true → part.failed ≡ true
+  pub alone : v.opening.rings ≡ 1 → part.failed ≡ true → (only v).failed ≡ true
   pub sees : (k : Literal) → has part.core.seen k ≡ (has ((only v).core.seen ++ news) k || same lit k)
   pub apart : (k : Literal) → has news k ≡ true → has (only v).core.seen k ≡ false
   pub arrived_is : arrived' ≡ arrived ++ news

@@ -37,7 +37,7 @@ pub record GaveTurn (v w : View) (J : List Entry) (ns : List Note) (x : Option R
   pub stop : w.stop ≡ v.stop
   pub still : (only v).failed ≡ true → failed ≡ true
 
--- it wrote this one note
+-- it wrote this one note, and no write has failed
 pub record Wrote (v w : View) (n : Note) : Type 0 where
   pub journal : List Entry
   pub refused : Option Refusal
@@ -45,6 +45,7 @@ pub record Wrote (v w : View) (n : Note) : Type 0 where
   pub knows : KnowsJournal v journal
   pub gave : GaveTurn v w journal (n ∷ []) refused failed
   pub going : ended v.opening.formula journal ≡ false
+  pub whole : failed ≡ false
 
 -- why it wrote none
 abbrev pub IsWhy : CoreOpening → List Entry → TurnStop → Type 0
@@ -54,7 +55,8 @@ IsWhy o J (NoHole need most) = (ended o.formula J ≡ false) × (most < need)
 IsWhy o J Memory = ended o.formula J ≡ false
 IsWhy o J ProofFault = ended o.formula J ≡ false
 
--- it wrote none; where the refusal is a fault a write of the log has failed
+-- it wrote none; where the refusal is a fault a write of the log has failed, and where it is none a lone ring is told of no
+-- new failed write
 pub record WroteNone (v w : View) (e : TurnStop) : Type 0 where
   pub journal : List Entry
   pub refused : Option Refusal
@@ -63,3 +65,4 @@ pub record WroteNone (v w : View) (e : TurnStop) : Type 0 where
   pub gave : GaveTurn v w journal [] refused failed
   pub why : IsWhy v.opening journal e
   pub faulty : is_fault (port_stop e) ≡ true → failed ≡ true
+  pub alone : v.opening.rings ≡ 1 → failed ≡ true → is_fault (port_stop e) ≡ false → (only v).failed ≡ true

@@ -137,7 +137,8 @@ impl<'a, S: Sink, G: Gate, H> RingPass<'a, S, G, H> {
         self.start
     }
 
-    /// The pass, at the end. What is known of the port is known of the pass, which is of the same table as the other one.
+    /// The pass, at the end. What is known of the port is known of the pass, which is of the same table as the other one. A
+    /// lone ring was told of a failed write exactly where the port was refused for a fault.
     pub fn into_pass(self, table: &Shared<Book<S>>, _other: &Pass<Book<S>>) -> Pass<Book<S>>
         requires other { IsPassOf table.now _other.now }
         requires home { self.home ≡ home_of _other.now }
@@ -146,6 +147,7 @@ impl<'a, S: Sink, G: Gate, H> RingPass<'a, S, G, H> {
         ensures state { (o : Own) × (port_of result.me.0 o ≡ self.entry) }
         ensures ended { self.entry.ended ≡ true → (only result.me.0).ended ≡ true }
         ensures faulty { is_usable self.entry.refused ≡ false → (only result.me.0).failed ≡ true }
+        ensures alone { result.me.0.opening.rings ≡ 1 → (only result.me.0).failed ≡ true → is_usable self.entry.refused ≡ false }
     {
         let RingPass { pass, .. } = self;
         pass

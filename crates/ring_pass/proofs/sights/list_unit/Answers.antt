@@ -3,7 +3,7 @@ use Rattle.share_rule.specs.Turns.{take_part}
 use Rattle.share_rule.specs.Views.{only}
 use Rattle.ring_pass.proofs.ListsHere.{may_list, turn_still, listed_all, units_listed, turn_seen}
 use Rattle.ring_pass.proofs.Stays.{one_is}
-use Rattle.ring_pass.proofs.TurnsHere.{turn_taken, failed_taken}
+use Rattle.ring_pass.proofs.TurnsHere.{turn_taken, failed_taken, alone_taken}
 use Rattle.ring_pass.proofs.sights.list_unit.Goals as goal
 
 pub see_all-requires-clause-pass : goal.see_all-requires-clause-pass
@@ -47,7 +47,7 @@ returns-clause-listed g c =
     let e = c.take_turn-turn.ensures in
     let has = turn_taken c.requires.ring.0.0 e.turn in
     listed_all c.args.pass.now.me.0 c.take_turn-turn.new.pass.me.0 c.see_all.new.pass.me.0 c.list_new.new.pass.me.0 c.give_turn.new.pass.me.0 e.turn.taken.book.journal _ c.args.lit c.see_all.new.seen.items c.list_new.new.seen.items c.args.arrived.now.items c.see_all.new.arrived.items _ _ _ has
-    c.see_all.ensures.saw c.see_all.ensures.pass.0.3 c.list_new.ensures.listed c.give_turn.ensures.turn e.turn.taken.noted (failed_taken e.turn.taken.book.journal e.turn has e.turn.taken.turn)
+    c.see_all.ensures.saw c.see_all.ensures.pass.0.3 c.list_new.ensures.listed c.give_turn.ensures.turn e.turn.taken.noted (failed_taken e.turn.taken.book.journal e.turn has e.turn.taken.turn) (alone_taken e.turn)
 
 pub returns-clause-units : goal.returns-clause-units
 returns-clause-units g c =

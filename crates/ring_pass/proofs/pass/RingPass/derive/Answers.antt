@@ -1,5 +1,7 @@
-use Rattle.std.proofs.Common.{refl, vec_capacity}
+use Rattle.std.proofs.Common.{◌∙◌, ap, refl, vec_capacity}
 use Rattle.rup_model.specs.declared.journal.Kind.TheVariants.{Derive}
+use Rattle.ring_port.specs.Port.{is_usable}
+use Rattle.ring_port.specs.PortState.{PortState}
 use Rattle.ring_pass.specs.RingState.{home_of}
 use Rattle.ring_pass.proofs.DerivesHere.{may_derive_here, long_here, on_here, added_as, added_keeps, refused_keeps, ring_adds, room_adds, units_adds, offer_adds}
 use Rattle.ring_pass.proofs.EndsHere.{follows_here}
@@ -45,7 +47,7 @@ pub invariant_of-self-in-Err : goal.invariant_of-self-in-Err
 invariant_of-self-in-Err g c =
     let e = c.add_clause-added.ensures in
     let w = c.in-Err.ensures.refused in (
-      ring_refused c.add_clause-added.new.pass c.in-Err.stop _ c.refuse.new.ended c.self.invariant.0 e.pass.0 e.pass.1 e.pass.2 w c.refuse.ensures.kept c.refuse.ensures.ended,
+      ring_refused c.add_clause-added.new.pass c.in-Err.stop _ c.refuse.new.ended c.self.invariant.0 (ap (λ (s : PortState). is_usable s.refused) c.self.view_is ∙ c.requires.usable) e.pass.0 e.pass.1 e.pass.2 w c.refuse.ensures.kept c.refuse.ensures.ended,
       room_refused c.self.inside.pass.me.0 c.add_clause-added.new.pass.me.0 c.in-Err.stop c.self.inside.last c.self.inside.waiting.items (vec_capacity c.self.inside.waiting) w c.self.invariant.1,
       units_refused c.self.inside.pass.me.0 c.add_clause-added.new.pass.me.0 c.in-Err.stop c.self.inside.seen.items (vec_capacity c.self.inside.seen) (vec_capacity c.self.inside.arrived) w c.self.invariant.2,
       offer_refused c.self.inside.pass.me.0 c.add_clause-added.new.pass.me.0 c.in-Err.stop c.self.inside.last c.self.inside.spares w c.self.invariant.3,

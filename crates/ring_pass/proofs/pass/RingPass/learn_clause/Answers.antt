@@ -1,7 +1,9 @@
-use Rattle.std.proofs.Common.{refl, ap, arith, length, Some, vec_capacity}
+use Rattle.std.proofs.Common.{◌∙◌, refl, ap, arith, length, Some, vec_capacity}
 use Rattle.rup_model.specs.declared.journal.Kind.TheVariants.{Learn}
 use Rattle.share_rule.specs.declared.Layout.{Layout}
 use Rattle.share_rule.specs.declared.view.View.{View}
+use Rattle.ring_port.specs.Port.{is_usable}
+use Rattle.ring_port.specs.PortState.{PortState}
 use Rattle.ring_pass.specs.RingState.{home_of}
 use Rattle.ring_pass.proofs.DerivesHere.{long_here, on_here, added_as, added_keeps, refused_keeps, ring_adds, units_adds}
 use Rattle.ring_pass.proofs.DropsHere.{on_ok, room_grows}
@@ -71,7 +73,7 @@ invariant_of-self-in-Err g c =
     let made = on_ok c.make_spares.result _ c.is_err-2.result c.is_err-2.ensures.value c.if-is_err-2.false c.make_spares.ensures.made in
     let enough = made.1 in
     let f = c.in-Err.ensures.refused in (
-      ring_refused c.add_clause-added.new.pass c.in-Err.stop _ c.refuse.new.ended c.self.invariant.0 e.pass.0 e.pass.1 e.pass.2 f c.refuse.ensures.kept c.refuse.ensures.ended,
+      ring_refused c.add_clause-added.new.pass c.in-Err.stop _ c.refuse.new.ended c.self.invariant.0 (ap (λ (s : PortState). is_usable s.refused) c.self.view_is ∙ c.requires.usable) e.pass.0 e.pass.1 e.pass.2 f c.refuse.ensures.kept c.refuse.ensures.ended,
       room_refused v w c.in-Err.stop c.self.inside.last c.reserve.new.self.items (vec_capacity c.reserve.new.self) f
           (room_grows _ v.opening.rings c.self.inside.last c.self.inside.waiting.items c.reserve.new.self.items (vec_capacity c.self.inside.waiting) (vec_capacity c.reserve.new.self) c.self.invariant.1 c.reserve.ensures.items c.reserve.ensures.capacity),
       units_refused v w c.in-Err.stop c.self.inside.seen.items (vec_capacity c.self.inside.seen) (vec_capacity c.self.inside.arrived) f c.self.invariant.2,

@@ -1,7 +1,9 @@
-use Rattle.std.proofs.Common.{◌∙◌, [], ◌∷◌, None, subst, vec_capacity, arith}
+use Rattle.std.proofs.Common.{◌∙◌, ap, [], ◌∷◌, None, subst, vec_capacity, arith}
 use Rattle.std.specs.Prelude.{OnOk, IfErr}
 use Rattle.rup_model.specs.declared.journal.Kind.TheVariants.{Learn}
 use Rattle.share_rule.specs.declared.note.Note.TheVariants.{Unit as UnitNote}
+use Rattle.ring_port.specs.Port.{is_usable}
+use Rattle.ring_port.specs.PortState.{PortState}
 use Rattle.ring_pass.specs.Writes.{Wrote, WroteNone}
 use Rattle.ring_pass.specs.RingState.{home_of}
 use Rattle.ring_pass.proofs.EndsHere.{follows_here}
@@ -75,7 +77,7 @@ pub invariant_of-self-in-Err : goal.invariant_of-self-in-Err
 invariant_of-self-in-Err g c =
     let e = c.write_unit-written.ensures in
     let w = subst (λ r. IfErr r (WroteNone c.self.inside.pass.me.0 c.write_unit-written.new.pass.me.0)) c.in-Err.is e.refused in (
-      ring_refused c.write_unit-written.new.pass c.in-Err.stop _ c.refuse.new.ended c.self.invariant.0 e.pass.0 e.pass.1 e.pass.2 w c.refuse.ensures.kept c.refuse.ensures.ended,
+      ring_refused c.write_unit-written.new.pass c.in-Err.stop _ c.refuse.new.ended c.self.invariant.0 (ap (λ (s : PortState). is_usable s.refused) c.self.view_is ∙ c.requires.usable) e.pass.0 e.pass.1 e.pass.2 w c.refuse.ensures.kept c.refuse.ensures.ended,
       room_refused c.self.inside.pass.me.0 c.write_unit-written.new.pass.me.0 c.in-Err.stop c.self.inside.last c.self.inside.waiting.items (vec_capacity c.self.inside.waiting) w c.self.invariant.1,
       units_refused c.self.inside.pass.me.0 c.write_unit-written.new.pass.me.0 c.in-Err.stop c.self.inside.seen.items (vec_capacity c.self.inside.seen) (vec_capacity c.self.inside.arrived) w c.self.invariant.2,
       offer_refused c.self.inside.pass.me.0 c.write_unit-written.new.pass.me.0 c.in-Err.stop c.self.inside.last c.self.inside.spares w c.self.invariant.3,

@@ -1,4 +1,6 @@
-use Rattle.std.proofs.Common.{◌∙◌, length, refl, sym, vec_capacity}
+use Rattle.std.proofs.Common.{◌∙◌, ap, length, refl, sym, vec_capacity}
+use Rattle.ring_port.specs.Port.{is_usable}
+use Rattle.ring_port.specs.PortState.{PortState}
 use Rattle.ring_pass.specs.RingState.{home_of}
 use Rattle.ring_pass.proofs.OfferTurns.{offer_deleted, offer_some}
 use Rattle.ring_pass.proofs.Stays.{ring_port, name_stays}
@@ -28,7 +30,7 @@ pub invariant_of-self-in-Err : goal.invariant_of-self-in-Err
 invariant_of-self-in-Err g c =
     let e = c.delete_all-deleted.ensures in
     let d = c.in-Err.ensures.refused in (
-      ring_some c.delete_all-deleted.new.pass (length c.self.inside.waiting.items) c.in-Err.count c.in-Err.stop c.refuse.new.refused c.refuse.new.ended c.self.invariant.0 e.pass.0 e.pass.1 e.pass.2 d c.refuse.ensures.kept c.refuse.ensures.ended,
+      ring_some c.delete_all-deleted.new.pass (length c.self.inside.waiting.items) c.in-Err.count c.in-Err.stop c.refuse.new.refused c.refuse.new.ended c.self.invariant.0 (ap (λ (s : PortState). is_usable s.refused) c.self.view_is ∙ c.requires.usable) e.pass.0 e.pass.1 e.pass.2 d c.refuse.ensures.kept c.refuse.ensures.ended,
       room_some c.self.inside.pass.me.0 c.delete_all-deleted.new.pass.me.0 (length c.self.inside.waiting.items) c.in-Err.count c.in-Err.stop c.self.inside.last c.self.inside.waiting.items c.drop.new.self.0.items (vec_capacity c.self.inside.waiting) (vec_capacity c.drop.new.self.0) d
           (c.drop.ensures.items ∙ c.drain.ensures.kept) (c.drop.ensures.capacity ∙ c.drain.ensures.capacity) c.self.invariant.1,
       units_some c.self.inside.pass.me.0 c.delete_all-deleted.new.pass.me.0 (length c.self.inside.waiting.items) c.in-Err.count c.in-Err.stop c.self.inside.seen.items (vec_capacity c.self.inside.seen) (vec_capacity c.self.inside.arrived) d c.self.invariant.2,

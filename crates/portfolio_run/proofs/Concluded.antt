@@ -1,7 +1,7 @@
 -- Once all rings ran over an open table and the table was closed, the answer holds over one journal, whose lines the book has.
 use Rattle.io_edge.specs.declared.edge.Sink.{Ghosts}
-use Rattle.std.proofs.Common.{◌≡◌, ◌∙◌, ◌^◌, ◌<◌, ◌≤◌, ◌==◌, ℕ, suc, Bool, true, List, [], ◌∷◌, replicate, map, ne_eqb, Ok, refl, sym, ap, subst, arith, inl, inr}
-use Rattle.std.specs.Prelude.{◌⊎◌, All, Option, Some, is_some}
+use Rattle.std.proofs.Common.{◌≡◌, ◌∙◌, ◌^◌, ◌<◌, ◌≤◌, ◌==◌, ℕ, zero, suc, Bool, true, false, true≢false, List, [], ◌∷◌, replicate, map, ne_eqb, Ok, refl, sym, ap, subst, arith, inl, inr}
+use Rattle.std.specs.Prelude.{◌⊎◌, ◌≢◌, All, Option, Some, is_some}
 use mathlib.Core.Option.{some}
 use mathlib.Core.Logic.{dite}
 use native.Mathlib.Decide.{ℕ_discrete}
@@ -40,6 +40,7 @@ use Rattle.portfolio_run.specs.Reached.{Records, WasRuled, HasReached, IsGathere
 use Rattle.portfolio_run.specs.Searched.{HasRunTo, HasStarved, HasSearched, AllSpent, WasWon}
 use Rattle.portfolio_run.specs.Solved.{kind_of}
 use Rattle.portfolio_run.proofs.Deciding.{IsDecided, starved, decided_spent, decided_won}
+use Rattle.portfolio_run.proofs.Making.{not_true}
 use Rattle.portfolio_run.proofs.Gathered.{GoesOn, began_with, entries, goes_on, records}
 
 -- the place of a ring's part
@@ -57,6 +58,11 @@ fault_kind Unknown e = absurd (none_some STOP_PROOF e)
 fault_kind (NoHole lack) e = absurd (let k = some_same STOP_ROOM STOP_PROOF e in omega arith)
 fault_kind ProofFault e = refl
 fault_kind Memory e = absurd (let k = some_same STOP_MEMORY STOP_PROOF e in omega arith)
+
+two_or_more : (n : ℕ) → 1 ≤ n → n ≢ 1 → 2 ≤ n
+two_or_more zero le other = absurd (omega arith)
+two_or_more (suc zero) le other = absurd (other refl)
+two_or_more (suc (suc n)) le other = omega arith
 
 -- in both cases the passes are gathered
 pub gathered_of : {B : Type 0} (t : Shared B) (v : View) (home : List ℕ) (plan : Plan) (left : Simplified) (p : Seat (Option B) View) (before tally : List Counts) (answer : Answer) → HasSearched t v home plan left.stack p before tally answer → IsGathered t v p
@@ -93,29 +99,44 @@ module _ {S : Type 0} {d : Ghosts S} (written flushed target : S → Option (Lis
     idle_at h r lt =
         let rings_there : p.me.0.opening.rings ≡ plan.threads = ap (λ (o : CoreOpening). o.rings) gathered.same.opening ∙ rings_are in
         let there = part_at r p.me.0.parts (h.gathered.whole r (subst (λ (n : ℕ). r < n) (sym rings_there) lt)) in
-        ap (λ (q : Part). q.wrote) (sym ((s.parts there.0 there.1 there.2).part ∙ ap s.core.part there.3)) ∙ h.idle there.0 there.1 there.2
+        ap (λ (q : Part). q.wrote) (sym ((s.parts there.0 there.1 there.2).part ∙ ap s.core.part there.3)) ∙ (h.idle there.0 there.1 there.2).0
 
     -- where the answer is a fault of the proof, the book's lines are cut short
     abbrev Failed : Type 0
     Failed = b.log.lines.spent ≡ true
 
-    by_starved : HasStarved t v p (replicate plan.threads no_counts) tally answer → IsDecided plan F answer tally Failed s.core.journal
+    abbrev Calm : Type 0
+    Calm = fault ≡ false
+
+    -- the table is for the plan's rings
+    threads_there : t.layout.rings ≡ plan.threads
+    threads_there = ap (λ (x : Layout). x.rings) (sym gathered.pass.0.2 ∙ gathered.same.layout) ∙ rings_are
+
+    -- a lone ring that did not run was told of no failed write
+    calm_idle : HaveRested t v p → plan.threads ≡ 1 → fault ≡ false
+    calm_idle h one = not_true fault (λ is. let q = tells.teller is in true≢false (sym q.3 ∙ (h.idle q.0 q.1 q.2).1 (threads_there ∙ one)))
+
+    by_starved : HasStarved t v p (replicate plan.threads no_counts) tally answer → IsDecided plan F answer tally Failed Calm s.core.journal
     by_starved h =
-        subst (λ (x : Answer). IsDecided plan F x tally Failed s.core.journal) (sym h.is)
-        (starved plan F left l origin was.ruled.journal K p.me.0 s g Failed tally h.tally_is (idle_at h.rested))
+        subst (λ (x : Answer). IsDecided plan F x tally Failed Calm s.core.journal) (sym h.is)
+        (starved plan F left l origin was.ruled.journal K p.me.0 s g Failed Calm (calm_idle h.rested) tally h.tally_is (idle_at h.rested))
 
-    by_ends : (h : HasRunTo t v home plan left.stack p tally answer) → AllSpent h.ends answer ⊎ WasWon p.me.0 left.stack h.ends answer → IsDecided plan F answer tally Failed s.core.journal
-    by_ends h (inl spent) = decided_spent plan F left l origin was.ruled.journal K p.me.0 s g home h.ends (h.run.many ∙ rings_are) h.run.ran tally h.tally_is Failed answer spent
+    by_ends : (h : HasRunTo t v home plan left.stack p tally answer) → AllSpent h.ends answer ⊎ WasWon p.me.0 left.stack h.ends answer → IsDecided plan F answer tally Failed Calm s.core.journal
+    by_ends h (inl spent) = decided_spent plan F left l origin was.ruled.journal K p.me.0 s g home h.ends (h.run.many ∙ rings_are) h.run.ran tally h.tally_is Failed fault tells (h.run.gathered.many ∙ rings_are) answer spent
     by_ends h (inr won) =
-        decided_won plan F left l origin was.ruled.journal K p.me.0 s g home h.ends (h.run.many ∙ rings_are) h.run.ran tally h.tally_is Failed fault (λ e. stands.faulty ∙ e) tells answer won
+        decided_won plan F left l origin was.ruled.journal K p.me.0 s g home h.ends (h.run.many ∙ rings_are) h.run.ran tally h.tally_is Failed fault (λ e. stands.faulty ∙ e) tells (h.run.gathered.many ∙ rings_are) answer won
 
-    by_search : HasSearched t v home plan left.stack p (replicate plan.threads no_counts) tally answer → IsDecided plan F answer tally Failed s.core.journal
+    by_search : HasSearched t v home plan left.stack p (replicate plan.threads no_counts) tally answer → IsDecided plan F answer tally Failed Calm s.core.journal
     by_search (inl h) = by_ends h h.decided
     by_search (inr h) = by_starved h
 
     -- the sink has failed since where the lines are cut short
     pub sink_failed : b.log.lines.spent ≡ true → Rose (faults sink) (faults b.log.lines.sink)
     sink_failed spent = subst (λ (n : ℕ). Rose n (faults b.log.lines.sink)) (ap (λ (x : BookOrigin). x.faults) gathered.same.origin ∙ faults_are) (stands.log.sink.cut spent).rose
+
+    -- and has not where the book is whole
+    sink_still : fault ≡ false → faults b.log.lines.sink ≡ faults sink
+    sink_still whole = (book_records.log.whole (stands.faulty ∙ whole)).quiet ∙ book_records.faults_are
 
     -- lines are kept where that was asked for
     asked : is_some b.log.kept.lines ≡ plan.keep_lines
@@ -135,7 +156,10 @@ module _ {S : Type 0} {d : Ghosts S} (written flushed target : S → Option (Lis
             stop = h.stop;
             holds = h.holds;
             through = λ _. h.ruled;
-            faults_fit = record { rose = λ e. sink_failed (h.rose (fault_kind answer e)); calm = λ _. inr h.ruled };
+            faults_fit = record {
+              rose = λ e. sink_failed (h.rose (fault_kind answer e));
+              calm = λ ne. dite (ℕ_discrete plan.threads 1) (λ one. inl (sink_still (h.calm one ne))) (λ more. inr (two_or_more plan.threads some_ring more, h.ruled));
+            };
           };
           asked = λ _. asked;
         }

@@ -1,12 +1,12 @@
 -- The answer of the end that counts holds over the journal of all rings.
 use Rattle.std.proofs.Common.{◌≡◌, ◌∙◌, ◌<◌, ℕ, Bool, true, false, List, [], ◌++◌, map, length, replicate, get_or, refl, sym, ap, subst, arith, inl, inr, eq-eqb}
-use Rattle.std.specs.Prelude.{Some, None, Option, if◌then◌else◌}
+use Rattle.std.specs.Prelude.{◌≢◌, Some, None, Option, if◌then◌else◌}
 use Rattle.std.specs.Option.{option_map}
 use Rattle.std.proofs.lemmas.List.{get_or-map, length-map}
 use Rattle.std.specs.List.{list_any}
 use Rattle.sat_words.specs.Clause.{is_empty}
 use Rattle.sat_words.specs.FormulaData.{FormulaData}
-use Rattle.sat_words.specs.declared.shared.TheConstants.{STOP_SAT, STOP_MEMORY}
+use Rattle.sat_words.specs.declared.shared.TheConstants.{STOP_SAT, STOP_PROOF, STOP_MEMORY}
 use Rattle.rup_model.specs.declared.journal.Entry.{Entry}
 use Rattle.rup_model.specs.Journal.{added, ended, learned}
 use Rattle.rup_model.specs.Opening.{program_opening}
@@ -25,6 +25,7 @@ use Rattle.share_rule.specs.Layout.{first_cell}
 use Rattle.share_rule.specs.Passes.{TellsFaults}
 use Rattle.share_rule.specs.Seen.{Seen}
 use Rattle.share_rule.specs.Views.{first_view, start_glues, own_stop}
+use Rattle.ring_port.specs.Port.{is_usable}
 use Rattle.ring_port.specs.PortState.{PortState}
 use Rattle.ring_run.specs.declared.job.Counts.{Counts}
 use Rattle.ring_run.specs.declared.job.End.{End}
@@ -46,17 +47,19 @@ use Rattle.portfolio_run.proofs.Interleaving.{own, none_of}
 use Rattle.portfolio_run.proofs.Mending.{alike, model, placed_starts}
 use Rattle.portfolio_run.proofs.Placing.{placed_own}
 use Rattle.portfolio_run.proofs.RingsJournal.{HasWritten, AreTogether, ruler_is, rings_is, journal_stands, learned_there, spent_all, unsettled, refutation}
-use Rattle.portfolio_run.proofs.RingsRun.{starts_from, port, has_written, learned_many, tallied, ended_is, cause, faulty, spent_is, fewer, unrefuted}
+use Rattle.portfolio_run.proofs.RingsRun.{starts_from, port, has_written, learned_many, tallied, ended_is, cause, faulty, spent_is, fewer, unrefuted, calm}
 use Rattle.portfolio_run.proofs.Behind.{IsAlike}
 
--- the answer holds over this journal, whose first part the ruler wrote, and what this says is so where it is a fault of the proof
-pub record IsDecided (plan : Plan) (F : FormulaData) (answer : Answer) (tally : List Counts) (Failed : Type 0) (J : List Entry) : Type 0 where
+-- the answer holds over this journal, whose first part the ruler wrote; the first of these says what is so where it is a fault of the
+-- proof, the second what is so of a lone ring at each other answer
+pub record IsDecided (plan : Plan) (F : FormulaData) (answer : Answer) (tally : List Counts) (Failed Calm : Type 0) (J : List Entry) : Type 0 where
   pub stands : IsJournal plan.threads F.clauses J
   pub ruled : IsRuledThrough F plan.rounds J
   pub held : IsHeld plan.threads plan.conflicts F.clauses J tally
   pub stop : HasStop held (kind_of answer)
   pub holds : Holds plan F J answer
   pub rose : answer ≡ ProofFault → Failed
+  pub calm : plan.threads ≡ 1 → kind_of answer ≢ Some STOP_PROOF → Calm
 
 module _ (plan : Plan) (F : FormulaData) (left : Simplified) (l : Layout) (origin : BookOrigin) (J0 K : List Entry) (w : View) (s : Seen w) (g : GoesOn plan F left l J0 K w s) where
   abbrev J : List Entry
@@ -88,15 +91,15 @@ module _ (plan : Plan) (F : FormulaData) (left : Simplified) (l : Layout) (origi
   nothing_written : (r : ℕ) → own r K ≡ [] → HasWritten F.vars (starts_from v) r (own r K)
   nothing_written r none = subst (HasWritten F.vars (starts_from v) r) (sym none) (record { wrote = λ k d lt. absurd (omega arith); each_new = tt; spaced = tt })
 
-  pub starved : (Failed : Type 0) (tally : List Counts) → tally ≡ replicate plan.threads no_counts → ((r : ℕ) → r < plan.threads → (s.core.part r).wrote ≡ []) → IsDecided plan F Memory tally Failed s.core.journal
-  starved Failed tally none idle =
+  pub starved : (Failed Calm : Type 0) → (plan.threads ≡ 1 → Calm) → (tally : List Counts) → tally ≡ replicate plan.threads no_counts → ((r : ℕ) → r < plan.threads → (s.core.part r).wrote ≡ []) → IsDecided plan F Memory tally Failed Calm s.core.journal
+  starved Failed Calm calm tally none idle =
       let own_none : (r : ℕ) → r < plan.threads → own r K ≡ [] = λ r lt. sym (placed_own r (length s.core.opening.journal) K) ∙ ap (map (λ (p : Placed). p.entry)) (sym (g.wrote r lt) ∙ idle r lt) in
       let t : AreTogether F J0 K plan.threads (starts_from v) = together (λ r lt. nothing_written r (own_none r lt)) in
       let o = starts_from v in
       let threads = plan.threads in
       let some_ring : 0 < plan.threads = let h = g.some_ring in omega (arith, h) in
       let none_there : own 0 K ≡ [] = own_none 0 some_ring in
-      subst (IsDecided plan F Memory tally Failed) (sym g.journal_is) (record {
+      subst (IsDecided plan F Memory tally Failed Calm) (sym g.journal_is) (record {
         stands = journal_stands F J0 K threads o t;
         ruled = g.through;
         held = inl (record { rulers = rings_is F J0 K threads o t ∙ none_of plan.threads K g.of_rings own_none; none = inr none });
@@ -105,6 +108,7 @@ module _ (plan : Plan) (F : FormulaData) (left : Simplified) (l : Layout) (origi
             (let h : length (learned 0 (own 0 K)) ≡ 0 = ap (λ (I : List Entry). length (learned 0 I)) none_there in let k = g.some in omega (arith, h, k))
             (ap (λ (I : List Entry). list_any is_empty (added I)) none_there);
         rose = λ e. cc e;
+        calm = λ one ne. calm one;
       })
 
   -- All rings ran
@@ -171,11 +175,15 @@ module _ (plan : Plan) (F : FormulaData) (left : Simplified) (l : Layout) (origi
       tallied = tallied_at;
     }
 
-    decided : (Failed : Type 0) (answer : Answer) → option_map (λ (x : Stop). x.kind) s.core.stop ≡ kind_of answer → Holds plan F J answer → (answer ≡ ProofFault → Failed) → IsDecided plan F answer tally Failed s.core.journal
+    decided : (Failed Calm : Type 0) (answer : Answer) → option_map (λ (x : Stop). x.kind) s.core.stop ≡ kind_of answer → Holds plan F J answer → (answer ≡ ProofFault → Failed) → (plan.threads ≡ 1 → kind_of answer ≢ Some STOP_PROOF → Calm) → IsDecided plan F answer tally Failed Calm s.core.journal
     unfolding ran_once
-    decided Failed answer stop holds rose =
-        subst (IsDecided plan F answer tally Failed) (sym g.journal_is)
-        (record { stands = journal_stands F J0 K plan.threads (starts_from v) t; ruled = g.through; held = inr ran_once; stop = stop; holds = holds; rose = rose })
+    decided Failed Calm answer stop holds rose calm =
+        subst (IsDecided plan F answer tally Failed Calm) (sym g.journal_is)
+        (record { stands = journal_stands F J0 K plan.threads (starts_from v) t; ruled = g.through; held = inr ran_once; stop = stop; holds = holds; rose = rose; calm = calm })
+
+    -- where the ring is alone and its port can be used, no write has failed
+    calm_at : (r : ℕ) (lt : r < plan.threads) → plan.threads ≡ 1 → length w.parts ≡ plan.threads → (fault : Bool) → TellsFaults w.parts fault → is_usable (port_at r lt).refused ≡ true → fault ≡ false
+    calm_at r lt threads long = calm v w home plan s r (end_at r) (counts_at r) (ran_at r lt) plan.threads g.rings_are lt K start (g.wrote r lt) threads (long ∙ threads)
 
     -- where each ring is spent, none has set a stop
     set_none : ((r : ℕ) → r < plan.threads → end_at r ≡ end.Spent) → (r : ℕ) → r < plan.threads → own_stop r s.core.stop ≡ None
@@ -190,12 +198,13 @@ module _ (plan : Plan) (F : FormulaData) (left : Simplified) (l : Layout) (origi
         absurd (none_some y (sym (set_none spent y.ring lt) ∙ ap (own_stop y.ring) is ∙ ap (λ (t : Bool). if t then Some y else None) (eq-eqb y.ring y.ring refl)))
 
     -- no stop stands
-    pub decided_spent : (Failed : Type 0) (answer : Answer) → AllSpent ends answer → IsDecided plan F answer tally Failed s.core.journal
-    decided_spent Failed answer h =
-        decided Failed answer
+    pub decided_spent : (Failed : Type 0) (fault : Bool) → TellsFaults w.parts fault → length w.parts ≡ plan.threads → (answer : Answer) → AllSpent ends answer → IsDecided plan F answer tally Failed (fault ≡ false) s.core.journal
+    decided_spent Failed fault tells long answer h =
+        decided Failed (fault ≡ false) answer
         (ap (option_map (λ (x : Stop). x.kind)) (unstopped (λ r lt. h.each r none_ended (among r lt)) s.core.stop refl) ∙ ap kind_of (sym h.is))
         (subst (Holds plan F J) (sym h.is) (spent_all F J0 K plan.threads (starts_from v) t plan.conflicts one))
         (λ e. (let clash : Unknown ≡ ProofFault = sym h.is ∙ e in absurd (cc clash)))
+        (λ threads ne. calm_at 0 (omega (arith, threads)) threads long fault tells (subst (Cause (port_at 0 (omega (arith, threads)))) (h.each 0 none_ended (among 0 (omega (arith, threads)))) (cause_at 0 (omega (arith, threads)))).usable)
       where
         one : (r : ℕ) → r < plan.threads → (length (learned r (own r K)) ≡ plan.conflicts) × IsUnrefuted (own r K)
         one r lt =
@@ -247,12 +256,24 @@ module _ (plan : Plan) (F : FormulaData) (left : Simplified) (l : Layout) (origi
       rose_by fault tells end.ProofFault c e = faulty v w home plan s r (end_at r) (counts_at r) (ran_at r lt) plan.threads g.rings_are lt K start (g.wrote r lt) fault tells c.0
       rose_by fault tells end.Memory c e = absurd (cc e)
 
+      -- at each end that sets a stop but a fault of the proof the port can be used
+      usable_by : (kind : ℕ) (x : End) → Cause (port_at r lt) x → stop_kind x ≡ Some kind → (kind ≡ STOP_PROOF → ⊥) → is_usable (port_at r lt).refused ≡ true
+      usable_by kind (end.Sat a) c won ne = c.1
+      usable_by kind end.Refuted c won ne = c.1
+      usable_by kind end.Spent c won ne = absurd (none_some kind won)
+      usable_by kind (end.Stopped x) c won ne = absurd (none_some kind won)
+      usable_by kind (end.NoHole lack) c won ne = ap is_usable c.0
+      usable_by kind end.ProofFault c won ne = absurd (ne (sym (some_same STOP_PROOF kind won)))
+      usable_by kind end.Memory c won ne = c.0
+
     -- the stop that stands is a ring's, whose end counts
-    pub decided_won : (Failed : Type 0) (fault : Bool) → (fault ≡ true → Failed) → TellsFaults w.parts fault → (answer : Answer) → WasWon w left.stack ends answer → IsDecided plan F answer tally Failed s.core.journal
-    decided_won Failed fault fails tells answer h =
+    pub decided_won : (Failed : Type 0) (fault : Bool) → (fault ≡ true → Failed) → TellsFaults w.parts fault → length w.parts ≡ plan.threads → (answer : Answer) → WasWon w left.stack ends answer → IsDecided plan F answer tally Failed (fault ≡ false) s.core.journal
+    decided_won Failed fault fails tells long answer h =
         let lt : h.ring < plan.threads = let below = h.won.below in omega (arith, below, many) in
         let is : answer ≡ answer_of left.stack (end_at h.ring) = h.is none_ended in
-        decided Failed answer
+        let kind_is : kind_of answer ≡ Some h.won.kind = ap kind_of is ∙ answers_kind (end_at h.ring) ∙ h.won.decided none_ended in
+        decided Failed (fault ≡ false) answer
         (ap (option_map (λ (x : Stop). x.kind)) (s.stops.stands (record { kind = h.won.kind; ring = h.ring }) h.won.stop) ∙ sym (h.won.decided none_ended) ∙ sym (answers_kind (end_at h.ring)) ∙ ap kind_of (sym is))
         (subst (Holds plan F J) (sym is) (holds_by h.ring lt h.won.kind (end_at h.ring) refl (cause_at h.ring lt) (h.won.decided none_ended)))
         (λ e. fails (rose_by h.ring lt fault tells (end_at h.ring) (cause_at h.ring lt) (sym is ∙ e)))
+        (λ threads ne. calm_at h.ring lt threads long fault tells (usable_by h.ring lt h.won.kind (end_at h.ring) (cause_at h.ring lt) (h.won.decided none_ended) (λ e. ne (kind_is ∙ ap Some e))))

@@ -45,8 +45,8 @@ abbrev pub IsSeated : ℕ → RingPart → Type 0
 IsSeated i x = (x.core.ring ≡ i) × (x.turn ≡ None)
 
 -- and which has written nothing
-abbrev pub IsResting : ℕ → RingPart → Type 0
-IsResting i x = IsSeated i x × IsIdle x
+abbrev pub IsResting : ℕ → ℕ → RingPart → Type 0
+IsResting rings i x = IsSeated i x × IsIdle rings x
 
 at_place : {A : Type 0} (P : ℕ → A → Type 0) (k : ℕ) (xs : List A) → EachFrom P k xs → (i : ℕ) (x : A) → get_elem? xs i ≡ some x → P (k + i) x
 at_place P k [] h i x e = absurd (some-ne-none x (sym e))
@@ -68,21 +68,22 @@ gathered t v p rest same many each = record {
   pass = rest;
   same = same;
   whole = λ r lt. let rings = ap (λ (o : CoreOpening). o.rings) same.opening in each_there 0 p.me.0.parts each r (omega arith) (omega arith);
+  many = many;
   free = no_turns 0 p.me.0.parts each;
 }
 
-resting : {B : Type 0} (t : Shared B) (v : View) (p : Seat (Option B) View) → IsAtRest t p → IsSameTable v p.me.0 → length p.me.0.parts ≡ v.opening.rings → EachFrom IsResting 0 p.me.0.parts → HaveRested t v p
+resting : {B : Type 0} (t : Shared B) (v : View) (p : Seat (Option B) View) → IsAtRest t p → IsSameTable v p.me.0 → length p.me.0.parts ≡ v.opening.rings → EachFrom (IsResting t.layout.rings) 0 p.me.0.parts → HaveRested t v p
 resting t v p rest same many each = record {
-  gathered = gathered t v p rest same many (each_by IsResting IsSeated 0 p.me.0.parts (λ n x h. h.0) each);
-  idle = λ i x e. (at_place IsResting 0 p.me.0.parts each i x e).1;
+  gathered = gathered t v p rest same many (each_by (IsResting t.layout.rings) IsSeated 0 p.me.0.parts (λ n x h. h.0) each);
+  idle = λ i x e. (at_place (IsResting t.layout.rings) 0 p.me.0.parts each i x e).1;
 }
 
-new_rests : (o : CoreOpening) (i : ℕ) (x : RingPart) → x ≡ new_part o i → IsResting i x
-new_rests o i x is = ((ap (λ (y : RingPart). y.core.ring) is, ap (λ (y : RingPart). y.turn) is), ap (λ (y : RingPart). y.core.wrote) is)
+new_rests : (rings : ℕ) (o : CoreOpening) (i : ℕ) (x : RingPart) → x ≡ new_part o i → IsResting rings i x
+new_rests rings o i x is = ((ap (λ (y : RingPart). y.core.ring) is, ap (λ (y : RingPart). y.turn) is), (ap (λ (y : RingPart). y.core.wrote) is, λ one. ap (λ (y : RingPart). y.failed) is))
 
 -- all rings were granted, and taken in at once
 pub all_granted : {B : Type 0} (t : Shared B) (v : View) (p : Seat (Option B) View) (rings : ℕ) → HasFirst t v p rings → rings ≡ v.opening.rings → HaveRested t v p
-all_granted t v p rings at all = resting t v p at.pass at.same (at.many ∙ all) (each_by (λ (i : ℕ) (x : RingPart). x ≡ new_part v.opening i) IsResting 0 p.me.0.parts (new_rests v.opening) at.parts)
+all_granted t v p rings at all = resting t v p at.pass at.same (at.many ∙ all) (each_by (λ (i : ℕ) (x : RingPart). x ≡ new_part v.opening i) (IsResting t.layout.rings) 0 p.me.0.parts (new_rests t.layout.rings v.opening) at.parts)
 
 -- Passes of one ring
 
@@ -109,7 +110,7 @@ all_idle {B} t v p ps rest same parts many idle =
     let each = each_of (HasIdle t) ps idle in
     let one : (n : ℕ) (q : Seat (Option B) View) → HasIdle t n q → q.me.0.parts ≡ only q.me.0 ∷ [] = λ n q h. h.has.one in
     resting t v p rest same (ap length parts ∙ parts_many (HasIdle t) one 0 ps each ∙ many)
-    (subst (EachFrom IsResting 0) (sym parts) (parts_each (HasIdle t) one IsResting (λ n q h. ((h.has.ring_is, h.has.free), h.idle)) 0 ps each))
+    (subst (EachFrom (IsResting t.layout.rings) 0) (sym parts) (parts_each (HasIdle t) one (IsResting t.layout.rings) (λ n q h. ((h.has.ring_is, h.has.free), (h.idle, h.calm))) 0 ps each))
 
 -- each of them is at rest
 pub all_rest : {B : Type 0} (t : Shared B) (ps : List (Seat (Option B) View)) → ((i : ℕ) (d : Seat (Option B) View) → i < length ps → HasRing t i (get_or ps i d)) → All (IsAtRest t) ps
@@ -181,6 +182,7 @@ ran_same u v home name plan ring seen part end counts lay open_is named r = reco
   ran = subst (λ (l : Layout). F l u.opening home) (sym lay) (subst (λ (o : CoreOpening). F v.layout o home) (sym open_is) (subst (λ (h : List ℕ). F v.layout v.opening h) (sym named) r.ran));
   ended_is = r.ended_is;
   faulty_is = r.faulty_is;
+  alone_is = λ one. r.alone_is (sym (ap (λ (o : CoreOpening). o.rings) open_is) ∙ one);
   set = r.set;
 }
   where
@@ -189,7 +191,7 @@ ran_same u v home name plan ring seen part end counts lay open_is named r = reco
 
 pub run_same : {B : Type 0} (t : Shared B) (u v : View) (home name : List ℕ) (plan : Plan) (p : Seat (Option B) View) (ends : List (End × Counts)) → IsSameTable u v → name ≡ home → HaveRun t v name plan p ends → HaveRun t u home plan p ends
 run_same t u v home name plan p ends same named h = record {
-  gathered = record { pass = h.gathered.pass; same = same_both u v p.me.0 same h.gathered.same; whole = h.gathered.whole; free = h.gathered.free };
+  gathered = record { pass = h.gathered.pass; same = same_both u v p.me.0 same h.gathered.same; whole = h.gathered.whole; many = h.gathered.many ∙ ap (λ (o : CoreOpening). o.rings) same.opening; free = h.gathered.free };
   many = h.many ∙ ap (λ (o : CoreOpening). o.rings) same.opening;
   ended = h.ended;
   ran = λ i d lt.
@@ -204,6 +206,7 @@ run_looked t v home plan p q ends rest same parts ends_are h = record {
     pass = rest;
     same = same_both v p.me.0 q.me.0 h.gathered.same same;
     whole = λ r lt. subst (λ (xs : List RingPart). 0 < times_in r (map ring_of xs)) (sym parts) (h.gathered.whole r (let rings = ap (λ (o : CoreOpening). o.rings) same.opening in omega arith));
+    many = ap length parts ∙ h.gathered.many;
     free = subst NoTurns (sym parts) h.gathered.free;
   };
   many = h.many;

@@ -1,13 +1,17 @@
 -- Ports that are made, and passes that are left.
-use Rattle.std.proofs.Common.{◌≡◌, ℕ, ◌+◌, ◌<◌, List, [], ◌∷◌, ◌++◌, length, length-append, map, refl, sym, ap, subst, ◌∙◌, arith, None, Option, get_or}
+use Rattle.std.proofs.Common.{◌≡◌, ℕ, ◌+◌, ◌<◌, Bool, true, false, inl, inr, List, [], ◌∷◌, ◌++◌, length, length-append, map, refl, sym, ap, subst, ◌∙◌, arith, None, Option, get_or}
+use Rattle.std.proofs.lemmas.Bool.{cases_Bool}
 use Rattle.atomic_table.specs.declared.shared.Seat.{Seat}
+use Rattle.share_core.specs.declared.part.CoreOpening.{CoreOpening}
 use Rattle.share_core.specs.declared.part.Placed.{Placed as PlacedEntry}
+use Rattle.share_rule.specs.declared.Layout.{Layout}
 use Rattle.share_rule.specs.declared.Shared.{Shared}
 use Rattle.share_rule.specs.declared.view.View.{View}
 use Rattle.share_rule.specs.declared.view.RingPart.{RingPart}
 use Rattle.share_rule.specs.Passes.{IsPassOf}
 use Rattle.share_rule.specs.Views.{no_part}
 use Rattle.std.specs.Prelude.{slice_index_or, All}
+use Rattle.ring_port.specs.Port.{is_usable}
 use Rattle.ring_port.specs.PortState.{PortState}
 use Rattle.ring_pass.specs.RingState.{begun_as, home_of}
 use Rattle.portfolio_run.specs.declared.jobs.RingJob.{RingJob}
@@ -42,6 +46,13 @@ made_of u v home home' plan ring one same unstopped named m = record {
   job = m.job ∙ (λ i. job_at (record v { layout = same.layout i; opening = same.opening i }) plan ring);
 }
 
+-- a pass knows how many rings its table has
+pub rings_there : {B : Type 0} (t : Shared B) (p : Seat (Option B) View) → IsPassOf t p → p.me.0.opening.rings ≡ t.layout.rings
+rings_there t p pass = ap (λ (o : CoreOpening). o.rings) pass.3.opening ∙ sym pass.3.standing.rings ∙ ap (λ (l : Layout). l.rings) pass.2
+
+pub not_true : (b : Bool) → (b ≡ true → ⊥) → b ≡ false
+not_true b h = elim (cases_Bool b) as (λ _. b ≡ false) [ inl q ↦ absurd (h q) | inr q ↦ q ]
+
 -- a pass that is begun has its ring, which has written nothing
 pub has_idle : {B : Type 0} (t : Shared B) (v : View) (ring : ℕ) (p : Seat (Option B) View) → IsBegun t v ring p → HasIdle t ring p
 has_idle t v ring p b =
@@ -54,6 +65,7 @@ has_idle t v ring p b =
         free = ap (λ (x : RingPart). x.turn) is;
       };
       idle = ap (λ (x : RingPart). x.core.wrote) is;
+      calm = λ one. ap (λ (x : RingPart). x.failed) is;
     }
 
 -- a port that shows no entry has none
@@ -119,7 +131,7 @@ pub ready_all : (v : View) (home : List ℕ) (plan : Plan) (made : List (RingJob
 ready_all v home plan made at = λ i d lt. index_of (λ (n : ℕ) (r : RingJob PortState). IsReady r.port r.job) made (each_by (IsPlaced v home plan) (λ (n : ℕ) (r : RingJob PortState). IsReady r.port r.job) 0 made (λ n x p. p.ready) at) i d lt
 
 pub at_all : (v : View) (home : List ℕ) (plan : Plan) (made : List (RingJob PortState)) → EachFrom (IsPlaced v home plan) 0 made → (i : ℕ) (d : RingJob PortState) → i < length made → IsAt home i (get_or made i d).port
-at_all v home plan made at = index_of (λ (n : ℕ) (r : RingJob PortState). IsAt home n r.port) made (each_by (IsPlaced v home plan) (λ (n : ℕ) (r : RingJob PortState). IsAt home n r.port) 0 made (λ n x p. record { home_is = ap (λ (s : PortState). s.home) p.made.port; ring_is = ap (λ (s : PortState). s.ring) p.made.port; idle = ap (λ (s : PortState). s.mine) p.made.port }) at)
+at_all v home plan made at = index_of (λ (n : ℕ) (r : RingJob PortState). IsAt home n r.port) made (each_by (IsPlaced v home plan) (λ (n : ℕ) (r : RingJob PortState). IsAt home n r.port) 0 made (λ n x p. record { home_is = ap (λ (s : PortState). s.home) p.made.port; ring_is = ap (λ (s : PortState). s.ring) p.made.port; idle = ap (λ (s : PortState). s.mine) p.made.port; usable = ap (λ (s : PortState). is_usable s.refused) p.made.port }) at)
 
 -- those that are given back, and those that were not met
 pub rings_all : {B : Type 0} (t : Shared B) (v : View) (n : ℕ) (all all' rest : List (Seat (Option B) View)) → length all ≡ n → all' ≡ all ++ rest → ((i : ℕ) (d : Seat (Option B) View) → i < length all → HasIdle t i (get_or all i d)) → EachFrom (IsBegun t v) n rest → (i : ℕ) (d : Seat (Option B) View) → i < length all' → HasIdle t i (get_or all' i d)

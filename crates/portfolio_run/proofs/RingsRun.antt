@@ -1,8 +1,10 @@
 -- What a ring's run says of its part in the core that the table shows when it is closed.
-use Rattle.std.proofs.Common.{◌≡◌, ◌∙◌, ◌+◌, ◌-◌, ◌*◌, ◌^◌, ◌<◌, ◌≤◌, ℕ, zero, suc, Bool, true, false, List, [], map, filter, length, count_by, refl, sym, ap, subst, arith}
+use Rattle.std.proofs.Common.{◌≡◌, ◌∙◌, ◌+◌, ◌-◌, ◌*◌, ◌^◌, ◌<◌, ◌≤◌, ℕ, zero, suc, Bool, true, false, true≢false, List, [], ◌∷◌, map, filter, length, count_by, refl, sym, ap, subst, arith}
 use Rattle.std.specs.Prelude.{All}
 use Rattle.std.proofs.Math.Nat.{min-eq_left}
 use mathlib.Core.Logic.{dite}
+use mathlib.Core.Option.{some, some-injective, some-ne-none}
+use lib.ListN.{get_elem?}
 use native.Mathlib.Decide.{ℕ_discrete}
 use Rattle.std.specs.List.{list_any}
 use Rattle.sat_words.specs.Literal.{Literal}
@@ -18,6 +20,7 @@ use Rattle.share_core.specs.Left.{shares}
 use Rattle.share_core.specs.Sound.{placed}
 use Rattle.share_core.proofs.Leaving.{left_sound}
 use Rattle.share_core.proofs.Others.{run_shared}
+use Rattle.share_rule.specs.declared.view.RingPart.{RingPart}
 use Rattle.share_rule.specs.declared.view.View.{View}
 use Rattle.share_rule.specs.Passes.{TellsFaults}
 use Rattle.share_rule.specs.Views.{start_glues}
@@ -37,6 +40,7 @@ use Rattle.portfolio_run.specs.Held.{IsTallied}
 use Rattle.portfolio_run.specs.Journaled.{IsUnrefuted}
 use Rattle.portfolio_run.specs.Reached.{RanAt}
 use Rattle.portfolio_run.proofs.Interleaving.{own}
+use Rattle.portfolio_run.proofs.Making.{not_true}
 use Rattle.portfolio_run.proofs.Placing.{placed_own}
 use Rattle.portfolio_run.proofs.RingsJournal.{HasWritten}
 
@@ -65,6 +69,13 @@ less_or (suc a) (suc b) le apart = let h = less_or a b (omega arith) (λ e. apar
 
 none_before : (n : ℕ) → 0 + n ≡ n
 none_before n = omega arith
+
+-- the only place of one part
+index_one : (ps : List RingPart) (i : ℕ) (p : RingPart) → length ps ≡ 1 → get_elem? ps i ≡ some p → i ≡ 0
+index_one [] i p one there = absurd (some-ne-none p (sym there))
+index_one (q ∷ []) zero p one there = refl
+index_one (q ∷ []) (suc i) p one there = absurd (some-ne-none p (sym there))
+index_one (q ∷ (x ∷ ps)) i p one there = absurd (omega arith)
 
 -- The ring
 
@@ -139,7 +150,15 @@ module _ (v w : View) (home : List ℕ) (plan : Plan) (s : Seen w) (r : ℕ) (en
 
   -- a write has failed where the port can't be used
   pub faulty : (fault : Bool) → TellsFaults w.parts fault → is_usable port.refused ≡ false → fault ≡ true
-  faulty fault tells u = tells r h.part h.there (h.ran.faulty_is u)
+  faulty fault tells u = tells.told r h.part h.there (h.ran.faulty_is u)
+
+  -- where the ring is alone and its port can be used, no write has failed
+  pub calm : rings ≡ 1 → length w.parts ≡ 1 → (fault : Bool) → TellsFaults w.parts fault → is_usable port.refused ≡ true → fault ≡ false
+  calm one long fault tells usable = not_true fault (λ is.
+      let t = tells.teller is in
+      let here : t.0 ≡ r = index_one w.parts t.0 t.1 long t.2 ∙ (let q : 0 ≡ r = omega arith in q) in
+      let same : t.1 ≡ h.part = some-injective t.1 h.part (sym t.2 ∙ ap (λ (i : ℕ). get_elem? w.parts i) here ∙ h.there) in
+      true≢false (sym usable ∙ h.ran.alone_is (rings_are ∙ one) (ap (λ (p : RingPart). p.failed) (sym same) ∙ t.3)))
 
   pub spent_is : end ≡ Spent → counts.learned ≡ plan.conflicts
   spent_is e = h.ran.ran.spent.0 e

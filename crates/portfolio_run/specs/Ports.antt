@@ -1,7 +1,8 @@
 -- Ports of rings, as they begin, with their jobs.
-use Rattle.std.specs.Prelude.{◌≡◌, ℕ, ◌<◌, List, [], length, slice_index_or, None}
+use Rattle.std.specs.Prelude.{◌≡◌, ℕ, ◌<◌, true, List, [], length, slice_index_or, None}
 use Rattle.share_rule.specs.declared.view.View.{View}
 use Rattle.share_rule.specs.FirstWords.{addresses}
+use Rattle.ring_port.specs.Port.{is_usable}
 use Rattle.ring_port.specs.PortState.{PortState}
 use Rattle.ring_pass.specs.RingState.{begun_as}
 use Rattle.ring_run.specs.declared.job.Job.{Job}
@@ -25,8 +26,9 @@ pub record IsMade (v : View) (home : List ℕ) (plan : Plan) (ring : ℕ) (made 
 abbrev pub AreMade : View → List ℕ → Plan → List (RingJob PortState) → Type 0
 AreMade v home plan made = (i : ℕ) (d : RingJob PortState) → i < length made → IsMade v home plan i (slice_index_or made i d)
 
--- the port is the ring's, over what has this name, and has written nothing
+-- the port is the ring's, over what has this name, has written nothing and was refused for no fault
 pub record IsAt (home : List ℕ) (ring : ℕ) (s : PortState) : Type 0 where
   pub home_is : s.home ≡ home
   pub ring_is : s.ring ≡ ring
   pub idle : s.mine ≡ []
+  pub usable : is_usable s.refused ≡ true

@@ -88,6 +88,7 @@ pub record IsGathered {B : Type 0} (t : Shared B) (v : View) (p : Seat (Option B
   pub pass : IsAtRest t p
   pub same : IsSameTable v p.me.0
   pub whole : IsWhole p.me.0
+  pub many : length p.me.0.parts ≡ v.opening.rings
   pub free : NoTurns p.me.0.parts
 
 -- the ring ran, and its part stands at its place
@@ -105,11 +106,11 @@ pub record HaveRun {B : Type 0} (t : Shared B) (v : View) (home : List ℕ) (pla
   pub ended : AreEndsOf p.me.0 ends
   pub ran : (i : ℕ) (d : End × Counts) → i < length ends → RanAt v home plan p.me.0 i (slice_index_or ends i d).0 (slice_index_or ends i d).1
 
--- the ring has written nothing
-abbrev pub IsIdle : RingPart → Type 0
-IsIdle p = p.core.wrote ≡ []
+-- the ring has written nothing, and a lone one was told of no failed write
+abbrev pub IsIdle : ℕ → RingPart → Type 0
+IsIdle rings p = (p.core.wrote ≡ []) × (rings ≡ 1 → p.failed ≡ false)
 
 -- no ring ran: all have their grants, and none has written anything
 pub record HaveRested {B : Type 0} (t : Shared B) (v : View) (p : Seat (Option B) View) : Type 0 where
   pub gathered : IsGathered t v p
-  pub idle : (i : ℕ) (part : RingPart) → get_elem? p.me.0.parts i ≡ some part → IsIdle part
+  pub idle : (i : ℕ) (part : RingPart) → get_elem? p.me.0.parts i ≡ some part → IsIdle t.layout.rings part

@@ -26,6 +26,7 @@ pub record Shows {B : Type 0} (t : Shared B) (s : PortState) (end : Option (End 
   pub state : port_of p.me.0 own ≡ s
   pub ended_is : s.ended ≡ true → (only p.me.0).ended ≡ true
   pub faulty_is : is_usable s.refused ≡ false → (only p.me.0).failed ≡ true
+  pub alone_is : p.me.0.opening.rings ≡ 1 → (only p.me.0).failed ≡ true → is_usable s.refused ≡ false
   pub end_is : end ≡ Some e
 
 -- the ring ran over the table that was opened so, and came to this end; its part is what its port shows, with what the port
@@ -35,6 +36,7 @@ pub record RanAs (v : View) (home : List ℕ) (plan : Plan) (ring : ℕ) (seen :
   pub ran : RanTo (begun_at v home ring) (job_at v plan ring) (port_with (record v { stop = seen }) part own) end counts
   pub ended_is : own.ended ≡ true → part.ended ≡ true
   pub faulty_is : is_usable own.refused ≡ false → part.failed ≡ true
+  pub alone_is : v.opening.rings ≡ 1 → part.failed ≡ true → is_usable own.refused ≡ false
   pub set : part.set ≡ set_of ring end
 
 -- the pass has the ring alone, which ran so

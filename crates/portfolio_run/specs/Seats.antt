@@ -1,5 +1,5 @@
 -- Passes of rings, before they run and behind them.
-use Rattle.std.specs.Prelude.{◌≡◌, ℕ, ◌<◌, ◌≤◌, List, [], ◌∷◌, ◌++◌, length, slice_index_or, Option, None}
+use Rattle.std.specs.Prelude.{◌≡◌, ℕ, ◌<◌, ◌≤◌, false, List, [], ◌∷◌, ◌++◌, length, slice_index_or, Option, None}
 use Rattle.atomic_table.specs.declared.shared.Seat.{Seat}
 use Rattle.share_rule.specs.declared.Shared.{Shared}
 use Rattle.share_rule.specs.declared.view.RingPart.{RingPart}
@@ -54,10 +54,11 @@ pub record HasRing {B : Type 0} (t : Shared B) (ring : ℕ) (p : Seat (Option B)
   pub ring_is : (only p.me.0).core.ring ≡ ring
   pub free : (only p.me.0).turn ≡ None
 
--- and which has written nothing
+-- and which has written nothing, and alone was told of no failed write
 pub record HasIdle {B : Type 0} (t : Shared B) (ring : ℕ) (p : Seat (Option B) View) : Type 0 where
   pub has : HasRing t ring p
   pub idle : (only p.me.0).core.wrote ≡ []
+  pub calm : t.layout.rings ≡ 1 → (only p.me.0).failed ≡ false
 
 -- each of them has the ring of its place
 abbrev pub AreIdle : {B : Type 0} → Shared B → List (Seat (Option B) View) → Type 0

@@ -78,10 +78,10 @@ kind_of ProofFault = Some STOP_PROOF
 kind_of Memory = Some STOP_MEMORY
 
 -- where a search that comes to this kind of stop has met a fault of the proof, the sink has failed by then; at each other kind no
--- line had failed, unless rings ran beside each other behind a ruler that was done
+-- line had failed, unless two rings or more ran beside each other behind a ruler that was done
 pub record FaultsFit (plan : Plan) (formula : FormulaData) (journal : List Entry) (before searched : ℕ) (kind : Option ℕ) : Type 0 where
   pub rose : kind ≡ Some STOP_PROOF → Rose before searched
-  pub calm : kind ≢ Some STOP_PROOF → (searched ≡ before) ⊎ IsRuledThrough formula plan.rounds journal
+  pub calm : kind ≢ Some STOP_PROOF → (searched ≡ before) ⊎ ((2 ≤ plan.threads) × IsRuledThrough formula plan.rounds journal)
 
 -- a search has come to this answer, which holds, over this journal: it begins with what the ruler wrote in the plan's rounds, and the
 -- rings' steps leave it, with the stop of this answer; a verdict comes only where the simplifiers came to their end. The sink of the

@@ -1,10 +1,11 @@
 // The ports of the rings, made over their passes.
-ghost use Rattle.std.specs.Prelude.{◌≡◌, ◌≤◌, ◌<◌, ℕ, slice_index_or, ◌+◌, ◌++◌, [], ◌∷◌, All, length, IfOk, IfErr, None, vec_capacity};
+ghost use Rattle.std.specs.Prelude.{◌≡◌, ◌≤◌, ◌<◌, ℕ, true, slice_index_or, ◌+◌, ◌++◌, [], ◌∷◌, All, length, IfOk, IfErr, None, vec_capacity};
 ghost use Rattle.share_rule.specs.FirstWords.{addresses};
 ghost use Rattle.share_rule.specs.Passes.{IsPassOf};
 ghost use Rattle.share_rule.specs.Steps.{new_part};
 ghost use Rattle.ring_pass.specs.RingState.{home_of};
 ghost use Rattle.portfolio_run.specs.Jobs.{IsReady};
+ghost use Rattle.ring_port.specs.Port.{is_usable};
 ghost use Rattle.ring_port.specs.PortState.{PortState};
 ghost use Rattle.portfolio_run.specs.Ports.{IsAt, IsMade, AreMade};
 ghost use Rattle.portfolio_run.specs.Seats.{AreBegun, IsAtRest, HasIdle, AreIdle};
@@ -90,6 +91,7 @@ fn pass_of<S: Sink, G: Gate, H>(
     requires first { IsPassOf table.now first.now }
     requires home { made.port.home ≡ home_of first.now }
     requires idle { made.port.mine ≡ [] }
+    requires usable { is_usable made.port.refused ≡ true }
     ensures { HasIdle table.now made.entry.port.ring result }
 {
     made.port.into_pass(table, first)

@@ -11,5 +11,6 @@ returns g c =
       state = e.state.1;
       ended_is = e.ended;
       faulty_is = e.faulty;
+      alone_is = e.alone;
       end_is = c.unwrap.ensures;
     }

@@ -32,6 +32,12 @@ pass_of-requires-clause-idle g c =
     let h = subst (EachFrom P (length c.loop-one.into.items)) c.in-Some.ensures.steps.0 c.loop-one.invariant.1 in
     h.0.idle
 
+pub pass_of-requires-clause-usable : goal.pass_of-requires-clause-usable
+pass_of-requires-clause-usable g c =
+    let P : ℕ → RingJob PortState → Type 0 = λ ring one. IsAt (home_of c.args.first.now) ring one.port in
+    let h = subst (EachFrom P (length c.loop-one.into.items)) c.in-Some.ensures.steps.0 c.loop-one.invariant.1 in
+    h.0.usable
+
 pub loop-one-preserved : goal.loop-one-preserved
 loop-one-preserved g c =
     let at = c.loop-one.invariant in

@@ -1,7 +1,7 @@
-use Rattle.std.proofs.Common.{◌∙◌, ap}
+use Rattle.std.proofs.Common.{◌∙◌, ap, sym, true≢false}
 use Rattle.ring_port.specs.PortState.{PortState}
 use Rattle.share_rule.specs.Views.{only}
-use Rattle.portfolio_run.proofs.Making.{none_written}
+use Rattle.portfolio_run.proofs.Making.{none_written, rings_there, not_true}
 use Rattle.portfolio_run.proofs.ports.pass_of.Goals as goal
 
 pub returns : goal.returns
@@ -15,4 +15,5 @@ returns g c =
         free = e.ring.1;
       };
       idle = none_written (only c.into_pass.result.me.0).core.wrote (ap (λ (s : PortState). s.mine) e.state.1 ∙ c.requires.idle);
+      calm = λ one. not_true (only c.into_pass.result.me.0).failed (λ f. true≢false (sym c.requires.usable ∙ e.alone (rings_there c.args.table.now c.into_pass.result e.pass.0 ∙ one) f));
     }

@@ -36,6 +36,8 @@ pub use pass::RingPass;
 #[cfg(test)]
 mod tests;
 #[cfg(test)]
+mod tests_gates;
+#[cfg(test)]
 mod tests_rings;
 #[cfg(test)]
 mod tests_rows;

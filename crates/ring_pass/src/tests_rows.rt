@@ -6,10 +6,34 @@ ghost use Rattle.ring_pass.specs.Samples.{pair, later, spare, IsAt, IsPlayer, Is
 
 use ring_port::Port;
 use sat_words::{Cref, Head, Lit};
-use std::test::Fail;
+
+/// What a ring of the tests has missed.
+#[derive(Clone, Copy, Debug)]
+pub(crate) enum Miss {
+    /// It learned no clause.
+    NotLearned,
+    /// It offered a clause to no ring, or to several.
+    NotOffered,
+    /// It wrote no deletion.
+    NotDeleted,
+    /// It wrote no unit.
+    NotWritten,
+    /// It found nothing where a clause was put.
+    Nothing,
+    /// It found a clause that nobody put.
+    NotPut,
+    /// It found another clause than was put.
+    AnotherClause,
+    /// A clause has not two literals.
+    NotTwo,
+    /// Two clauses have one address.
+    SameAddress,
+    /// Memory ran out.
+    Memory,
+}
 
 /// Learns `1 2`: where it is held.
-pub(crate) fn learn_pair<P: Port>(port: &mut P) -> Result<Cref, Fail>
+pub(crate) fn learn_pair<P: Port>(port: &mut P) -> Result<Cref, Miss>
     requires { IsBegun (P.state port.old) }
     ensures idle { OnOk result (IsIdle (P.state port.new)) }
     ensures there { IfOk result (λ c. IsAt (P.state port.new) c.address pair) }
@@ -19,12 +43,12 @@ pub(crate) fn learn_pair<P: Port>(port: &mut P) -> Result<Cref, Fail>
     let lits = [Lit::new(1, false), Lit::new(2, false)];
     match port.learn(&lits, 1) {
         Ok(Some(c)) => Ok(c),
-        _ => Err("no clause".into()),
+        _ => Err(Miss::NotLearned),
     }
 }
 
 /// Learns `2 -3`: where it is held.
-pub(crate) fn learn_later<P: Port>(port: &mut P) -> Result<Cref, Fail>
+pub(crate) fn learn_later<P: Port>(port: &mut P) -> Result<Cref, Miss>
     requires { IsIdle (P.state port.old) }
     ensures done { OnOk result (IsDone (P.state port.new)) }
     ensures there { IfOk result (λ c. IsAt (P.state port.new) c.address later) }
@@ -34,7 +58,7 @@ pub(crate) fn learn_later<P: Port>(port: &mut P) -> Result<Cref, Fail>
     let lits = [Lit::new(2, false), Lit::new(3, true)];
     match port.learn(&lits, 1) {
         Ok(Some(c)) => Ok(c),
-        _ => Err("no clause".into()),
+        _ => Err(Miss::NotLearned),
     }
 }
 
@@ -63,7 +87,7 @@ pub(crate) fn offer_later<P: Port>(port: &mut P, c: Cref) -> u64
 }
 
 /// Gives the pair up.
-pub(crate) fn give_pair_up<P: Port>(port: &mut P, c: Cref) -> Result<(), Fail>
+pub(crate) fn give_pair_up<P: Port>(port: &mut P, c: Cref) -> Result<(), Miss>
     requires idle { IsIdle (P.state port.old) }
     requires there { IsAt (P.state port.old) c.address pair }
     ensures idle { OnOk result (IsIdle (P.state port.new)) }
@@ -71,12 +95,12 @@ pub(crate) fn give_pair_up<P: Port>(port: &mut P, c: Cref) -> Result<(), Fail>
 {
     match port.drop_clause(c) {
         Ok(()) => Ok(()),
-        Err(_) => Err("no memory".into()),
+        Err(_) => Err(Miss::Memory),
     }
 }
 
 /// Gives the later clause up.
-pub(crate) fn give_later_up<P: Port>(port: &mut P, c: Cref) -> Result<(), Fail>
+pub(crate) fn give_later_up<P: Port>(port: &mut P, c: Cref) -> Result<(), Miss>
     requires done { IsDone (P.state port.old) }
     requires there { IsAt (P.state port.old) c.address later }
     ensures done { OnOk result (IsDone (P.state port.new)) }
@@ -84,12 +108,12 @@ pub(crate) fn give_later_up<P: Port>(port: &mut P, c: Cref) -> Result<(), Fail>
 {
     match port.drop_clause(c) {
         Ok(()) => Ok(()),
-        Err(_) => Err("no memory".into()),
+        Err(_) => Err(Miss::Memory),
     }
 }
 
 /// Gives `2 3` up, and deletes what waits.
-pub(crate) fn give_spare_up<P: Port>(port: &mut P, c: Cref) -> Result<(), Fail>
+pub(crate) fn give_spare_up<P: Port>(port: &mut P, c: Cref) -> Result<(), Miss>
     requires player { IsPlayer (P.state port.old) }
     requires there { IsAt (P.state port.old) c.address spare }
     requires apart { IsNotTaken (P.state port.old) c.address }
@@ -97,45 +121,45 @@ pub(crate) fn give_spare_up<P: Port>(port: &mut P, c: Cref) -> Result<(), Fail>
     ensures same { OnOk result (Stays (P.state port.old) (P.state port.new)) }
 {
     let Ok(()) = port.drop_clause(c) else {
-        return Err("no memory".into());
+        return Err(Miss::Memory);
     };
     match port.tidy() {
         Ok(()) => Ok(()),
-        Err(_) => Err("no deletion".into()),
+        Err(_) => Err(Miss::NotDeleted),
     }
 }
 
 /// Writes the unit 2.
-pub(crate) fn write_two<P: Port>(port: &mut P) -> Result<(), Fail>
+pub(crate) fn write_two<P: Port>(port: &mut P) -> Result<(), Miss>
     requires { IsPlayer (P.state port.old) }
     ensures { OnOk result (Stays (P.state port.old) (P.state port.new)) }
 {
     match port.unit(Lit::new(2, false)) {
         Ok(()) => Ok(()),
-        Err(_) => Err("no unit".into()),
+        Err(_) => Err(Miss::NotWritten),
     }
 }
 
 /// Looks for a clause of two literals that ring 0 has put.
-pub(crate) fn hear<P: Port>(port: &mut P) -> Result<Option<Cref>, Fail>
+pub(crate) fn hear<P: Port>(port: &mut P) -> Result<Option<Cref>, Miss>
     requires { IsListener (P.state port.old) (P.state port.old).taken }
     ensures none { IfOk result (λ found. MatchOption found (IsListener (P.state port.new) (P.state port.old).taken) (λ c. IsListener (P.state port.new) ((P.state port.old).taken ++ c.address ∷ []) × IsSome (held_at (P.state port.new) c.address))) }
     ensures same { OnOk result (Keeps (P.state port.old) (P.state port.new)) }
 {
     match port.poll(0, 0) {
         Ok(found) => Ok(found),
-        Err(_) => Err("no memory".into()),
+        Err(_) => Err(Miss::Memory),
     }
 }
 
 /// The head of a clause, and its literals, which are two.
-pub(crate) fn read_pair<P: Port>(port: &mut P, c: Cref) -> Result<(Head, Lit, Lit), Fail>
+pub(crate) fn read_pair<P: Port>(port: &mut P, c: Cref) -> Result<(Head, Lit, Lit), Miss>
     requires { IsSome (held_at (P.state port.old) c.address) }
     ensures { P.state port.new ≡ P.state port.old }
 {
     let head = port.head(c);
     if head.size != 2 {
-        return Err("not two literals".into());
+        return Err(Miss::NotTwo);
     }
     let first = port.read_lit(c, 0);
     let second = port.read_lit(c, 1);
@@ -144,7 +168,7 @@ pub(crate) fn read_pair<P: Port>(port: &mut P, c: Cref) -> Result<(Head, Lit, Li
 
 /// Ring 0 learns the pair, offers it and gives it up, and then does so with the later clause: where it is held, and to how
 /// many rings each was offered.
-pub(crate) fn offer_both<P: Port>(port: &mut P) -> Result<(Cref, u64, u64), Fail>
+pub(crate) fn offer_both<P: Port>(port: &mut P) -> Result<(Cref, u64, u64), Miss>
     requires { IsBegun (P.state port.old) }
     ensures done { OnOk result (IsDone (P.state port.new)) }
     ensures there { IfOk result (λ x. IsAt (P.state port.new) x.0.address later) }
@@ -159,17 +183,17 @@ pub(crate) fn offer_both<P: Port>(port: &mut P) -> Result<(Cref, u64, u64), Fail
 }
 
 /// Looks for a clause where one has to be, and then where none may be: its address, its head and its literals.
-pub(crate) fn hear_once<P: Port>(port: &mut P) -> Result<(Cref, Head, Lit, Lit), Fail>
+pub(crate) fn hear_once<P: Port>(port: &mut P) -> Result<(Cref, Head, Lit, Lit), Miss>
     requires { IsListener (P.state port.old) [] }
     ensures listener { IfOk result (λ x. IsListener (P.state port.new) (x.0.address ∷ [])) }
     ensures same { OnOk result (Keeps (P.state port.old) (P.state port.new)) }
 {
     let Some(found) = hear(port)? else {
-        return Err("nothing was put".into());
+        return Err(Miss::Nothing);
     };
     let (head, first, second) = read_pair(port, found)?;
     let None = hear(port)? else {
-        return Err("a clause that nobody put".into());
+        return Err(Miss::NotPut);
     };
     Ok((found, head, first, second))
 }
@@ -189,7 +213,7 @@ pub(crate) struct Heard {
 
 /// Ring 0 offers two clauses, of which ring 1 takes the second, and then gives that one up. Before and after that ring 1 finds
 /// nothing.
-pub(crate) fn hand_over<P: Port, Q: Port>(zero: &mut P, one: &mut Q) -> Result<Heard, Fail>
+pub(crate) fn hand_over<P: Port, Q: Port>(zero: &mut P, one: &mut Q) -> Result<Heard, Miss>
     requires zero { IsBegun (P.state zero.old) }
     requires one { IsListener (Q.state one.old) [] }
     ensures zero { OnOk result (IsDone (P.state zero.new)) }
@@ -198,7 +222,7 @@ pub(crate) fn hand_over<P: Port, Q: Port>(zero: &mut P, one: &mut Q) -> Result<H
     ensures one_same { OnOk result (Keeps (Q.state one.old) (Q.state one.new)) }
 {
     let None = hear(one)? else {
-        return Err("a clause that nobody put".into());
+        return Err(Miss::NotPut);
     };
     let (later, first_time, second_time) = offer_both(zero)?;
     let (found, head, first, second) = hear_once(one)?;
@@ -217,7 +241,7 @@ pub(crate) fn give_up_and_tell<P: Port, Q: Port>(
     one: &mut Q,
     cell: Cref,
     found: Cref,
-) -> Result<(Option<Lit>, Option<Lit>), Fail>
+) -> Result<(Option<Lit>, Option<Lit>), Miss>
     requires zero { IsDone (P.state zero.old) }
     requires one { IsListener (Q.state one.old) (found.address ∷ []) }
     requires zero_holds { IsAt (P.state zero.old) cell.address spare }
@@ -226,7 +250,7 @@ pub(crate) fn give_up_and_tell<P: Port, Q: Port>(
     ensures one { OnOk result (Stays (Q.state one.old) (Q.state one.new)) }
 {
     if found.address == cell.address {
-        return Err("one address for two clauses".into());
+        return Err(Miss::SameAddress);
     }
     give_spare_up(zero, cell)?;
     give_spare_up(one, cell)?;

@@ -20,6 +20,8 @@ mod report;
 #[cfg(test)]
 mod tests;
 #[cfg(test)]
+mod tests_call;
+#[cfg(test)]
 mod tests_rings;
 mod top;
 mod words;

@@ -1,7 +1,7 @@
 // Whole calls over objects in memory.
-use crate::{Remarks, Tally, Verdict, answer_text_to, gimsatul};
+use crate::tests_call::{TestGate, call};
+use crate::{Remarks, Tally, Verdict, answer_text_to};
 use io_edge::{MemFile, MemFiles, MemOutput, MemSink, MemSource};
-use ring_port::OpenGate;
 use sat_words::Assignment;
 use std::alloc::Global;
 use std::process::Abort;
@@ -249,8 +249,14 @@ fn check_row<H: Threads + Wait + Abort + AllocGlobal + Sync>(
     let mut input = MemSource::in_pieces(row.input, piece, row.input_fails);
     let mut out = MemSink::new(alloc, ROOM, row.out_fails)?;
     let mut err = MemSink::new(alloc, ROOM, row.err_fails)?;
-    let report = gimsatul(
-        rt, alloc, &words, &mut files, &mut input, &mut out, &mut err, &OpenGate,
+    let report = call(
+        rt,
+        &words,
+        &mut files,
+        &mut input,
+        &mut out,
+        &mut err,
+        &TestGate::open(),
     );
     assert_eq!(rt; report.status, row.status);
     assert_eq!(rt; report.file.is_some(), row.opened);
@@ -911,8 +917,14 @@ fn a_formula_that_is_made(rt: HostRuntime) -> Result<(), Fail> {
         let mut input = MemSource::in_pieces(NOTHING, 65536, FIRST);
         let mut out = MemSink::new(alloc, ROOM, NEVER)?;
         let mut err = MemSink::new(alloc, ROOM, NEVER)?;
-        let report = gimsatul(
-            &rt, alloc, &words, &mut files, &mut input, &mut out, &mut err, &OpenGate,
+        let report = call(
+            &rt,
+            &words,
+            &mut files,
+            &mut input,
+            &mut out,
+            &mut err,
+            &TestGate::open(),
         );
         assert_eq!(rt; report.status, 10);
         assert!(rt;

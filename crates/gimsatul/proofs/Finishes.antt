@@ -1,6 +1,7 @@
 -- How a run over a source ends, from what its parts say.
-use Rattle.std.proofs.Common.{◌≡◌, ◌≢◌, ◌∙◌, ℕ, List, [], Bool, true, refl, sym, ap, subst, inl, inr, arith, Some, None, Ok, Err}
-use Rattle.std.specs.Prelude.{Result}
+use Rattle.std.proofs.Common.{◌≡◌, ◌≢◌, ◌∙◌, ℕ, List, [], Bool, true, false, refl, sym, ap, subst, inl, inr, arith, Some, None, Ok, Err}
+use Rattle.std.specs.Prelude.{◌⊎◌, ◌≤◌, Result, IfSome, is_some}
+use Rattle.std.proofs.lemmas.Bool.{true≢false}
 use Rattle.std.specs.declared.option.Option.{Option}
 use Rattle.io_edge.specs.Bytes.{WasFlushed}
 use Rattle.io_edge.specs.Causes.{HasCause, Rose}
@@ -8,13 +9,16 @@ use Rattle.io_edge.specs.Paths.{IsEmptyWhereTold}
 use Rattle.sat_words.specs.FormulaData.{FormulaData}
 use Rattle.sat_words.specs.declared.line.Line.{Line}
 use Rattle.sat_words.specs.declared.shared.NoRoom.{NoRoom}
+use Rattle.sat_words.specs.declared.shared.TheConstants.{STOP_ROOM, STOP_PROOF}
+use Rattle.rup_model.specs.Log.{Accepted}
 use Rattle.rup_model.specs.declared.journal.Entry.{Entry}
 use Rattle.ring_run.specs.declared.job.Counts.{Counts}
 use Rattle.portfolio_run.specs.declared.answer.Answer.{Answer}
 use Rattle.portfolio_run.specs.declared.answer.Answer.TheVariants.{Sat, Unsat, NoHole}
 use Rattle.portfolio_run.specs.declared.answer.Answer.TheVariants as answer
 use Rattle.portfolio_run.specs.declared.plan.Plan.{Plan as SearchPlan}
-use Rattle.portfolio_run.specs.Solved.{Concludes, IsSolved, IsClosed, is_verdict}
+use Rattle.portfolio_run.specs.Ruled.{IsRuledThrough}
+use Rattle.portfolio_run.specs.Solved.{Holds, FaultsFit, IsTold, IsFinished, IsSolved, is_verdict, kind_of, unfinished}
 use Rattle.gimsatul.specs.declared.plan.Plan.{Plan}
 use Rattle.gimsatul.specs.declared.report.Tally.{Tally}
 use Rattle.gimsatul.specs.declared.report.End.{End}
@@ -29,15 +33,16 @@ use Rattle.gimsatul.specs.Ends.{end_of, end_of_read}
 use Rattle.gimsatul.specs.Run.{Run, Count, Writer, Output, RoseIn, IsStill}
 use Rattle.gimsatul.specs.Journaled.{HoldsLog}
 use Rattle.gimsatul.specs.Finished.{Finishes}
-use Rattle.gimsatul.specs.Decided.{Decides}
+use Rattle.gimsatul.specs.Decided.{Decides, verdict_kind}
 use Rattle.gimsatul.specs.Concluded.{IsVerdictOf}
 use Rattle.gimsatul.specs.Occurring.{IsOccurring}
 use Rattle.gimsatul.specs.Tallied.{no_tally, no_lack, zero_tally, rings_tally, counted, noted, AreLearned}
 use Rattle.gimsatul.specs.Input.{WasGiven}
-use Rattle.gimsatul.specs.Outcome.{Outcome, IsRun, IsUnread, IsStarted, IsAnswered, printed_of}
+use Rattle.gimsatul.specs.Outcome.{Outcome, IsRun, IsUnread, IsStarted, IsVerdictKind, IsAnswered, printed_of}
 use Rattle.gimsatul.proofs.Journals.{empty_log}
-use Rattle.gimsatul.proofs.Models.{cleared}
-use Rattle.gimsatul.proofs.Tallies.{each_counted, long_each, sizes, held_each, are_learned, counted_is}
+use Rattle.gimsatul.proofs.Checks.{kept_accepted}
+use Rattle.gimsatul.proofs.Models.{cleared, has_both, both}
+use Rattle.gimsatul.proofs.Tallies.{each_counted, long_each, sizes, held_each, stop_each, are_learned, counted_is}
 
 -- a formula for a run that reads none
 abbrev pub no_formula : FormulaData
@@ -53,89 +58,175 @@ unread plan text source out f0 f1 w0 w1 fl0 fl1 result quiet empty same cause fl
 
 -- ---- the answer of the rings
 
--- a verdict that an answer comes to holds, and its proof is whole
-pub decided : (plan : SearchPlan) (F : FormulaData) (J : List Entry) (before faults : ℕ) (a : Answer) (occurring : List Bool) (found : Result Verdict End) (verdict : Verdict)
-    → IsOccurring F.clauses F.vars occurring → IsVerdictOf occurring a found → found ≡ Ok verdict → Concludes plan F J before faults a
-    → (is_verdict a ≡ true) × Decides plan F J verdict
-decided plan F J before faults (Sat model) occurring found verdict occurs is ok c =
-    let same : Satisfiable is.model ≡ verdict = let e : Ok (Satisfiable is.model) ≡ found = sym is.is in cc in
-    (refl, subst (Decides plan F J) same (record { holds = cleared F occurring model is.model c.holds occurs is.both; ruled = c.ruled refl }))
-decided plan F J before faults Unsat occurring found verdict occurs is ok c =
+-- an answer that is a verdict holds, in a run in which the simplifiers came to their end
+found_verdict : (plan : SearchPlan) (F : FormulaData) (J : List Entry) (found : Answer) (occurring : List Bool) → IsOccurring F.clauses F.vars occurring → is_verdict found ≡ true → Holds plan F J found → IsRuledThrough F plan.rounds J
+    → IsVerdictKind (kind_of found) plan F J
+found_verdict plan F J (Sat model) occurring occurs is holds ruled =
+    record { decided = record { verdict = Satisfiable (both occurring model); decides = record { holds = cleared F occurring model (both occurring model) holds occurs (has_both occurring model); ruled = ruled } }; kind_is = refl }
+found_verdict plan F J Unsat occurring occurs is holds ruled = record { decided = record { verdict = Unsatisfiable; decides = record { holds = holds; ruled = ruled } }; kind_is = refl }
+found_verdict plan F J answer.Unknown occurring occurs is holds ruled = record { decided = record { verdict = Unknown; decides = record { holds = holds; ruled = ruled } }; kind_is = refl }
+found_verdict plan F J (NoHole lack) occurring occurs is holds ruled = absurd (let no : ⊥ = cc in no)
+found_verdict plan F J answer.ProofFault occurring occurs is holds ruled = absurd (let no : ⊥ = cc in no)
+found_verdict plan F J answer.Memory occurring occurs is holds ruled = absurd (let no : ⊥ = cc in no)
+
+-- an answer that is told and is no fault of the proof is that of the search
+told_found : (found a : Answer) (before faults : ℕ) → IsTold found a before faults → a ≢ answer.ProofFault → a ≡ found
+told_found found a before faults t other = elim t.ends [
+  | inl same ↦ same
+  | inr h ↦ by found h.0
+]
+  where
+    by : (x : Answer) → a ≡ unfinished x → a ≡ x
+    by (Sat model) e = absurd (other e)
+    by Unsat e = absurd (other e)
+    by answer.Unknown e = absurd (other e)
+    by (NoHole lack) e = e
+    by answer.ProofFault e = e
+    by answer.Memory e = e
+
+-- a verdict that an answer comes to holds, and is of its kind
+decided : (plan : SearchPlan) (F : FormulaData) (J : List Entry) (a : Answer) (occurring : List Bool) (result : Result Verdict End) (verdict : Verdict)
+    → IsOccurring F.clauses F.vars occurring → IsVerdictOf occurring a result → result ≡ Ok verdict → Holds plan F J a → (is_verdict a ≡ true → IsRuledThrough F plan.rounds J)
+    → (kind_of a ≡ verdict_kind verdict) × Decides plan F J verdict
+decided plan F J (Sat model) occurring result verdict occurs is ok holds ruled =
+    let same : Satisfiable is.model ≡ verdict = let e : Ok (Satisfiable is.model) ≡ result = sym is.is in cc in
+    (ap verdict_kind same, subst (Decides plan F J) same (record { holds = cleared F occurring model is.model holds occurs is.both; ruled = ruled refl }))
+decided plan F J Unsat occurring result verdict occurs is ok holds ruled =
     let same : Unsatisfiable ≡ verdict = cc in
-    (refl, subst (Decides plan F J) same (record { holds = c.holds; ruled = c.ruled refl }))
-decided plan F J before faults answer.Unknown occurring found verdict occurs is ok c =
+    (ap verdict_kind same, subst (Decides plan F J) same (record { holds = holds; ruled = ruled refl }))
+decided plan F J answer.Unknown occurring result verdict occurs is ok holds ruled =
     let same : Unknown ≡ verdict = cc in
-    (refl, subst (Decides plan F J) same (record { holds = c.holds; ruled = c.ruled refl }))
-decided plan F J before faults (NoHole lack) occurring found verdict occurs is ok c = absurd (let no : ⊥ = cc in no)
-decided plan F J before faults answer.ProofFault occurring found verdict occurs is ok c = absurd (let no : ⊥ = cc in no)
-decided plan F J before faults answer.Memory occurring found verdict occurs is ok c = absurd (let no : ⊥ = cc in no)
+    (ap verdict_kind same, subst (Decides plan F J) same (record { holds = holds; ruled = ruled refl }))
+decided plan F J (NoHole lack) occurring result verdict occurs is ok holds ruled = absurd (let no : ⊥ = cc in no)
+decided plan F J answer.ProofFault occurring result verdict occurs is ok holds ruled = absurd (let no : ⊥ = cc in no)
+decided plan F J answer.Memory occurring result verdict occurs is ok holds ruled = absurd (let no : ⊥ = cc in no)
+
+-- an answer with a verdict is one
+verdict_is : (a : Answer) (occurring : List Bool) (result : Result Verdict End) (verdict : Verdict) → IsVerdictOf occurring a result → result ≡ Ok verdict → is_verdict a ≡ true
+verdict_is (Sat model) occurring result verdict is ok = refl
+verdict_is Unsat occurring result verdict is ok = refl
+verdict_is answer.Unknown occurring result verdict is ok = refl
+verdict_is (NoHole lack) occurring result verdict is ok = absurd (let no : ⊥ = cc in no)
+verdict_is answer.ProofFault occurring result verdict is ok = absurd (let no : ⊥ = cc in no)
+verdict_is answer.Memory occurring result verdict is ok = absurd (let no : ⊥ = cc in no)
+
+-- a verdict is no fault of the proof
+sound_verdict : (a : Answer) → is_verdict a ≡ true → a ≢ answer.ProofFault
+sound_verdict a is e = true≢false (sym is ∙ ap is_verdict e)
 
 -- what the proof's writer holds behind an answer
-pub log_of : (plan : SearchPlan) (F : FormulaData) (a : Answer) (counts : List Counts) (faults : ℕ) (written flushed : Option (List ℕ)) (kept : Option (List Line))
-    → (s : IsSolved plan F a counts 0 faults written kept) → IsClosed 0 faults flushed written
-    → HoldsLog F.clauses s.journal (record { faults = faults; written = written; flushed = flushed })
-log_of plan F a counts faults written flushed kept s closed = record {
-  closed = closed;
-  whole = λ none. s.whole (inr (λ (rose : Rose 0 faults). absurd (omega (arith, none, rose))));
-  short = λ some. s.short;
+log_of : (F : FormulaData) (J : List Entry) (a : Answer) (searched faults : ℕ) (flushed written : Option (List ℕ)) → IsFinished F.clauses J a 0 searched faults flushed written
+    → HoldsLog F.clauses J searched (record { faults = faults; written = written; flushed = flushed })
+log_of F J a searched faults flushed written f = record {
+  poured = f.poured;
+  grown = f.grown;
+  closed = f.closed;
+  whole = λ none. f.whole (inr (λ (rose : Rose 0 f.poured). absurd (omega (arith, none, rose))));
+  short = λ some. f.short;
+  front = λ none. f.front (λ (rose : Rose 0 searched). absurd (omega (arith, none, rose)));
 }
 
 -- the rings were to start
-pub started : (plan : Plan) (text : Option (List ℕ)) (source : Count) (out : Output) (F : FormulaData) (a : Answer) (counts : List Counts) (tally : Tally) (faults : ℕ) (written flushed : Option (List ℕ)) (kept : Option (List Line))
-    → (s : IsSolved plan.search F a counts 0 faults written kept) → IsClosed 0 faults flushed written → WasGiven plan.make text F → IsStill source
+started : (plan : Plan) (text : Option (List ℕ)) (source : Count) (out : Output) (F : FormulaData) (a : Answer) (counts : List Counts) (tally : Tally) (faults : ℕ) (flushed written : Option (List ℕ)) (kept : Option (List Line))
+    → (s : IsSolved plan.search F a counts 0 faults flushed written kept) → WasGiven plan.make text F → IsStill source
     → tally ≡ rings_tally (each_counted plan.search.threads counts) no_lack
-    → IsStarted no_lack F s.journal tally (record { plan = plan; text = text; source = source; proof = Some (record { faults = faults; written = written; flushed = flushed }); out = out })
-started plan text source out F a counts tally faults written flushed kept s closed given still is =
+    → IsStarted (kind_of s.found) no_lack F s.journal tally (record { plan = plan; text = text; source = source; proof = Some (record { faults = faults; written = written; flushed = flushed }); out = out })
+started plan text source out F a counts tally faults flushed written kept s given still is =
     let rings : ℕ = plan.search.threads in
     let limit : ℕ = plan.search.conflicts in
-    let held = held_each rings limit F.clauses s.journal counts s.held in
-    let long = long_each rings counts (sizes rings limit F.clauses s.journal counts s.held) in
+    let held = held_each rings limit F.clauses s.journal counts s.reached.held in
+    let long = long_each rings counts (sizes rings limit F.clauses s.journal counts s.reached.held) in
     record {
       given = given;
       source = still;
-      journal_stands = s.stands;
-      ruled = s.ruled;
-      log = log_of plan.search F a counts faults written flushed kept s closed;
+      journal_stands = s.reached.stands;
+      ruled = s.reached.ruled;
       counts = each_counted rings counts;
       held = held;
+      stop = stop_each rings limit F.clauses s.journal counts s.reached.held (kind_of s.found) s.reached.stop;
+      searched = s.searched;
+      faults_fit = s.reached.faults_fit;
+      log = log_of F s.journal a s.searched faults flushed written s.finished;
       tally_is = is;
       learned = subst (λ (t : Tally). AreLearned rings limit s.journal t.learned) (sym is) (are_learned rings limit F.clauses s.journal (each_counted rings counts) held long);
     }
 
 -- with what there was no room for
-with_lack : (lack : NoRoom) (F : FormulaData) (J : List Entry) (tally : Tally) (run : Run) → IsStarted no_lack F J tally run → IsStarted lack F J (noted (Room lack) tally) run
-with_lack lack F J tally run s = record {
+with_lack : (kind : Option ℕ) (lack : NoRoom) (F : FormulaData) (J : List Entry) (tally : Tally) (run : Run) → IsStarted kind no_lack F J tally run → IsStarted kind lack F J (noted (Room lack) tally) run
+with_lack kind lack F J tally run s = record {
   given = s.given;
   source = s.source;
   journal_stands = s.journal_stands;
   ruled = s.ruled;
-  log = s.log;
   counts = s.counts;
   held = s.held;
+  stop = s.stop;
+  searched = s.searched;
+  faults_fit = s.faults_fit;
+  log = s.log;
   tally_is = ap (noted (Room lack)) s.tally_is;
   learned = s.learned;
 }
 
+-- a fault of the proof that is told is that of the search, or comes behind a verdict
+fault_found : (plan : SearchPlan) (F : FormulaData) (J : List Entry) (found : Answer) (occurring : List Bool) (faults : ℕ) → IsOccurring F.clauses F.vars occurring → IsTold found answer.ProofFault 0 faults → Holds plan F J found
+    → (is_verdict found ≡ true → IsRuledThrough F plan.rounds J) → (kind_of found ≡ Some STOP_PROOF) ⊎ IsVerdictKind (kind_of found) plan F J
+fault_found plan F J (Sat model) occurring faults occurs t holds ruled = inr (found_verdict plan F J (Sat model) occurring occurs refl holds (ruled refl))
+fault_found plan F J Unsat occurring faults occurs t holds ruled = inr (found_verdict plan F J Unsat occurring occurs refl holds (ruled refl))
+fault_found plan F J answer.Unknown occurring faults occurs t holds ruled = inr (found_verdict plan F J answer.Unknown occurring occurs refl holds (ruled refl))
+fault_found plan F J (NoHole lack) occurring faults occurs t holds ruled = elim t.ends [
+  | inl e ↦ absurd (let no : ⊥ = cc in no)
+  | inr h ↦ absurd (let e = h.0 in let no : ⊥ = cc in no)
+]
+fault_found plan F J answer.ProofFault occurring faults occurs t holds ruled = inl refl
+fault_found plan F J answer.Memory occurring faults occurs t holds ruled = elim t.ends [
+  | inl e ↦ absurd (let no : ⊥ = cc in no)
+  | inr h ↦ absurd (let e = h.0 in let no : ⊥ = cc in no)
+]
+
+-- and the sink has failed
+fault_rose : (plan : SearchPlan) (F : FormulaData) (J : List Entry) (found : Answer) (searched faults : ℕ) → IsTold found answer.ProofFault 0 faults → FaultsFit plan F J 0 searched (kind_of found) → searched ≤ faults → Rose 0 faults
+fault_rose plan F J found searched faults t fit later = elim t.ends [
+  | inl e ↦ (let rose : Rose 0 searched = fit.rose (ap kind_of (sym e)) in omega (arith, rose, later))
+  | inr h ↦ h.1
+]
+
 -- the rings came to no verdict
-pub stopped : (end : End) (plan : Plan) (text : Option (List ℕ)) (source : Count) (out : Output) (F : FormulaData) (J : List Entry) (a : Answer) (occurring : List Bool) (found : Result Verdict End) (before tally : Tally) (writer : Writer)
-    → IsVerdictOf occurring a found → found ≡ Err end → Concludes plan.search F J 0 writer.faults a → tally ≡ noted end before → IsStill out.faults
-    → IsStarted no_lack F J before (record { plan = plan; text = text; source = source; proof = Some writer; out = out })
-    → Outcome end F J tally (record { plan = plan; text = text; source = source; proof = Some writer; out = out })
-stopped end plan text source out F J a occurring found before tally writer is err c counts still s = by a is c
+stopped : (end : End) (plan : Plan) (text : Option (List ℕ)) (source : Count) (out : Output) (F : FormulaData) (a : Answer) (counts : List Counts) (faults : ℕ) (flushed written : Option (List ℕ)) (kept : Option (List Line))
+    (occurring : List Bool) (result : Result Verdict End) (before tally : Tally) → IsOccurring F.clauses F.vars occurring
+    → IsVerdictOf occurring a result → result ≡ Err end → (s : IsSolved plan.search F a counts 0 faults flushed written kept) → tally ≡ noted end before → IsStill out.faults
+    → IsStarted (kind_of s.found) no_lack F s.journal before (record { plan = plan; text = text; source = source; proof = Some (record { faults = faults; written = written; flushed = flushed }); out = out })
+    → Outcome end F s.journal tally (record { plan = plan; text = text; source = source; proof = Some (record { faults = faults; written = written; flushed = flushed }); out = out })
+stopped end plan text source out F a counts faults flushed written kept occurring result before tally occurs is err s noted_is still began = by a is s.told
   where
     run : Run
-    run = record { plan = plan; text = text; source = source; proof = Some writer; out = out }
+    run = record { plan = plan; text = text; source = source; proof = Some (record { faults = faults; written = written; flushed = flushed }); out = out }
 
-    as_end : (e : End) → e ≡ end → Outcome e F J (noted e before) run → Outcome end F J tally run
-    as_end e same o = subst (λ (t : Tally). Outcome end F J t run) (sym counts) (subst (λ (x : End). Outcome x F J (noted x before) run) same o)
+    as_end : (e : End) → e ≡ end → Outcome e F s.journal (noted e before) run → Outcome end F s.journal tally run
+    as_end e same o = subst (λ (t : Tally). Outcome end F s.journal t run) (sym noted_is) (subst (λ (x : End). Outcome x F s.journal (noted x before) run) same o)
 
-    by : (b : Answer) → IsVerdictOf occurring b found → Concludes plan.search F J 0 writer.faults b → Outcome end F J tally run
-    by (Sat model) i d = absurd (let e = i.is in let no : ⊥ = cc in no)
-    by Unsat i d = absurd (let no : ⊥ = cc in no)
-    by answer.Unknown i d = absurd (let no : ⊥ = cc in no)
-    by (NoHole lack) i d = as_end (Room lack) (let e : Room lack ≡ end = cc in e) (record { started = with_lack lack F J before run s; short = d.holds.0; unsettled = d.holds.1 })
-    by answer.ProofFault i d = as_end ProofFault (let e : ProofFault ≡ end = cc in e) (record { started = s; rose = d.rose refl })
-    by answer.Memory i d = as_end Memory (let e : Memory ≡ end = cc in e) (inr (inl (record { started = s; unsettled = d.holds; out = still })))
+    at_kind : (b : Answer) → b ≡ s.found → IsStarted (kind_of b) no_lack F s.journal before run × Holds plan.search F s.journal b
+    at_kind b same = subst (λ (x : Answer). IsStarted (kind_of x) no_lack F s.journal before run × Holds plan.search F s.journal x) (sym same) (began, s.reached.holds)
+
+    later : s.searched ≤ faults
+    later = let g = s.finished.grown in omega (arith, g)
+
+    by : (b : Answer) → IsVerdictOf occurring b result → IsTold s.found b 0 faults → Outcome end F s.journal tally run
+    by (Sat model) i t = absurd (let e = i.is in let no : ⊥ = cc in no)
+    by Unsat i t = absurd (let no : ⊥ = cc in no)
+    by answer.Unknown i t = absurd (let no : ⊥ = cc in no)
+    by (NoHole lack) i t =
+        let k = at_kind (NoHole lack) (told_found s.found (NoHole lack) 0 faults t (λ e. cc e)) in
+        as_end (Room lack) (let e : Room lack ≡ end = cc in e) (record { started = with_lack (Some STOP_ROOM) lack F s.journal before run k.0; short = k.1.0; unsettled = k.1.1 })
+    by answer.ProofFault i t = as_end ProofFault (let e : ProofFault ≡ end = cc in e) (record {
+      kind = kind_of s.found;
+      started = began;
+      failed = fault_found plan.search F s.journal s.found occurring faults occurs t s.reached.holds s.reached.through;
+      rose = fault_rose plan.search F s.journal s.found s.searched faults t s.reached.faults_fit later;
+    })
+    by answer.Memory i t =
+        let k = at_kind answer.Memory (told_found s.found answer.Memory 0 faults t (λ e. cc e)) in
+        as_end Memory (let e : Memory ≡ end = cc in e) (inr (inl (record { started = k.0; unsettled = k.1; out = still })))
 
 -- ---- the verdict printed
 
@@ -145,9 +236,9 @@ answered_end Unsatisfiable F J tally run a = a
 answered_end Unknown F J tally run a = a
 
 -- a verdict was reached, and the proof didn't fail
-pub finished : (verdict : Verdict) (told : End) (plan : Plan) (F : FormulaData) (J : List Entry) (tally : Tally) (text : Option (List ℕ)) (source : Count) (out : Output) (writer : Writer)
+finished : (verdict : Verdict) (told : End) (plan : Plan) (F : FormulaData) (J : List Entry) (tally : Tally) (text : Option (List ℕ)) (source : Count) (out : Output) (writer : Writer)
     → writer.faults ≡ 0 → Decides plan.search F J verdict → Finishes (printed_of plan F verdict) plan.search.keep_lines verdict told out
-    → IsStarted no_lack F J tally (record { plan = plan; text = text; source = source; proof = Some writer; out = out })
+    → IsStarted (verdict_kind verdict) no_lack F J tally (record { plan = plan; text = text; source = source; proof = Some writer; out = out })
     → Outcome told F J tally (record { plan = plan; text = text; source = source; proof = Some writer; out = out })
 finished verdict told plan F J tally text source out writer none decided (inl h) s =
     let run : Run = record { plan = plan; text = text; source = source; proof = Some writer; out = out } in
@@ -165,44 +256,64 @@ finished verdict told plan F J tally text source out writer none decided (inr (i
 -- ---- the whole search
 
 -- the tally behind an answer
-told : (plan : SearchPlan) (F : FormulaData) (a : Answer) (counts : List Counts) (faults : ℕ) (written : Option (List ℕ)) (kept : Option (List Line)) (before after : Tally)
-    → IsSolved plan F a counts 0 faults written kept → before ≡ zero_tally plan.threads → after ≡ counted counts before → after ≡ rings_tally (each_counted plan.threads counts) no_lack
-told plan F a counts faults written kept before after s zeros is = is ∙ ap (counted counts) zeros ∙ counted_is plan.threads counts (sizes plan.threads plan.conflicts F.clauses s.journal counts s.held)
+told : (plan : SearchPlan) (F : FormulaData) (a : Answer) (counts : List Counts) (faults : ℕ) (flushed written : Option (List ℕ)) (kept : Option (List Line)) (before after : Tally)
+    → IsSolved plan F a counts 0 faults flushed written kept → before ≡ zero_tally plan.threads → after ≡ counted counts before → after ≡ rings_tally (each_counted plan.threads counts) no_lack
+told plan F a counts faults flushed written kept before after s zeros is = is ∙ ap (counted counts) zeros ∙ counted_is plan.threads counts (sizes plan.threads plan.conflicts F.clauses s.journal counts s.reached.held)
 
 -- a verdict was reached
-pub verdict_run : (plan : Plan) (text : Option (List ℕ)) (source : Count) (out : Output) (F : FormulaData) (a : Answer) (counts : List Counts) (f0 faults : ℕ) (written flushed : Option (List ℕ)) (kept : Option (List Line)) (before tally : Tally) (occurring : List Bool) (found : Result Verdict End) (verdict : Verdict) (end : End)
-    → f0 ≡ 0 → IsSolved plan.search F a counts f0 faults written kept → IsClosed f0 faults flushed written
+pub verdict_run : (plan : Plan) (text : Option (List ℕ)) (source : Count) (out : Output) (F : FormulaData) (a : Answer) (counts : List Counts) (f0 faults : ℕ) (flushed written : Option (List ℕ)) (kept : Option (List Line)) (before tally : Tally) (occurring : List Bool) (result : Result Verdict End) (verdict : Verdict) (end : End)
+    → f0 ≡ 0 → IsSolved plan.search F a counts f0 faults flushed written kept
     → before ≡ zero_tally plan.search.threads → tally ≡ counted counts before
-    → IsOccurring F.clauses F.vars occurring → IsVerdictOf occurring a found → found ≡ Ok verdict → Finishes (printed_of plan F verdict) plan.search.keep_lines verdict end out
+    → IsOccurring F.clauses F.vars occurring → IsVerdictOf occurring a result → result ≡ Ok verdict → Finishes (printed_of plan F verdict) plan.search.keep_lines verdict end out
     → WasGiven plan.make text F → IsStill source
     → IsRun end tally (record { plan = plan; text = text; source = source; proof = Some (record { faults = faults; written = written; flushed = flushed }); out = out })
-verdict_run plan text source out F a counts f0 faults written flushed kept before tally occurring found verdict end none solved closed zeros is occurs of_answer ok finishes given still =
-    let s : IsSolved plan.search F a counts 0 faults written kept = subst (λ (n : ℕ). IsSolved plan.search F a counts n faults written kept) none solved in
-    let shut : IsClosed 0 faults flushed written = subst (λ (n : ℕ). IsClosed n faults flushed written) none closed in
-    let holds = decided plan.search F s.journal 0 faults a occurring found verdict occurs of_answer ok s.concludes in
+verdict_run plan text source out F a counts f0 faults flushed written kept before tally occurring result verdict end none solved zeros is occurs of_answer ok finishes given still =
+    let run : Run = record { plan = plan; text = text; source = source; proof = Some (record { faults = faults; written = written; flushed = flushed }); out = out } in
+    let s : IsSolved plan.search F a counts 0 faults flushed written kept = subst (λ (n : ℕ). IsSolved plan.search F a counts n faults flushed written kept) none solved in
+    let v : is_verdict a ≡ true = verdict_is a occurring result verdict of_answer ok in
+    let same : a ≡ s.found = told_found s.found a 0 faults s.told (sound_verdict a v) in
+    let holds : Holds plan.search F s.journal a = subst (Holds plan.search F s.journal) (sym same) s.reached.holds in
+    let h = decided plan.search F s.journal a occurring result verdict occurs of_answer ok holds (λ e. s.reached.through (sym (ap is_verdict same) ∙ e)) in
+    let began = started plan text source out F a counts tally faults flushed written kept s given still (told plan.search F a counts faults flushed written kept before tally s zeros is) in
     record {
       formula = F;
       journal = s.journal;
-      outcome = finished verdict end plan F s.journal tally text source out (record { faults = faults; written = written; flushed = flushed }) (s.concludes.quiet holds.0) holds.1 finishes
-          (started plan text source out F a counts tally faults written flushed kept s shut given still (told plan.search F a counts faults written kept before tally s zeros is));
+      outcome = finished verdict end plan F s.journal tally text source out (record { faults = faults; written = written; flushed = flushed }) (s.told.quiet v) h.1 finishes
+          (subst (λ (k : Option ℕ). IsStarted k no_lack F s.journal tally run) (sym (ap kind_of same) ∙ h.0) began);
     }
 
 -- none was
-pub stopped_run : (plan : Plan) (text : Option (List ℕ)) (source : Count) (out : Output) (F : FormulaData) (a : Answer) (counts : List Counts) (f0 faults : ℕ) (written flushed : Option (List ℕ)) (kept : Option (List Line)) (before between tally : Tally) (occurring : List Bool) (found : Result Verdict End) (end : End)
-    → f0 ≡ 0 → IsSolved plan.search F a counts f0 faults written kept → IsClosed f0 faults flushed written
+pub stopped_run : (plan : Plan) (text : Option (List ℕ)) (source : Count) (out : Output) (F : FormulaData) (a : Answer) (counts : List Counts) (f0 faults : ℕ) (flushed written : Option (List ℕ)) (kept : Option (List Line)) (before between tally : Tally) (occurring : List Bool) (result : Result Verdict End) (end : End)
+    → f0 ≡ 0 → IsSolved plan.search F a counts f0 faults flushed written kept
     → before ≡ zero_tally plan.search.threads → between ≡ counted counts before → tally ≡ noted end between
-    → IsVerdictOf occurring a found → found ≡ Err end → IsStill out.faults
+    → IsOccurring F.clauses F.vars occurring → IsVerdictOf occurring a result → result ≡ Err end → IsStill out.faults
     → WasGiven plan.make text F → IsStill source
     → IsRun end tally (record { plan = plan; text = text; source = source; proof = Some (record { faults = faults; written = written; flushed = flushed }); out = out })
-stopped_run plan text source out F a counts f0 faults written flushed kept before between tally occurring found end none solved closed zeros is noted_is of_answer err same given still =
-    let s : IsSolved plan.search F a counts 0 faults written kept = subst (λ (n : ℕ). IsSolved plan.search F a counts n faults written kept) none solved in
-    let shut : IsClosed 0 faults flushed written = subst (λ (n : ℕ). IsClosed n faults flushed written) none closed in
+stopped_run plan text source out F a counts f0 faults flushed written kept before between tally occurring result end none solved zeros is noted_is occurs of_answer err same given still =
+    let s : IsSolved plan.search F a counts 0 faults flushed written kept = subst (λ (n : ℕ). IsSolved plan.search F a counts n faults flushed written kept) none solved in
     record {
       formula = F;
       journal = s.journal;
-      outcome = stopped end plan text source out F s.journal a occurring found between tally (record { faults = faults; written = written; flushed = flushed }) of_answer err s.concludes noted_is same
-          (started plan text source out F a counts between faults written flushed kept s shut given still (told plan.search F a counts faults written kept before between s zeros is));
+      outcome = stopped end plan text source out F a counts faults flushed written kept occurring result between tally occurs of_answer err s noted_is same
+          (started plan text source out F a counts between faults flushed written kept s given still (told plan.search F a counts faults flushed written kept before between s zeros is));
     }
+
+-- the lines that are kept at a verdict are those of the log
+pub kept_lines : (plan : SearchPlan) (F : FormulaData) (a : Answer) (counts : List Counts) (before faults : ℕ) (flushed written : Option (List ℕ)) (kept : Option (List Line)) (occurring : List Bool) (result : Result Verdict End) (verdict : Verdict)
+    → IsVerdictOf occurring a result → result ≡ Ok verdict → IsSolved plan F a counts before faults flushed written kept → (is_some kept ≡ plan.keep_lines) × IfSome kept (Accepted F.clauses)
+kept_lines plan F a counts before faults flushed written kept occurring result verdict of_answer ok s =
+    (same_asked plan.keep_lines refl, kept_accepted F.clauses s.journal kept s.lines_are.are s.reached.stands.accepted)
+  where
+    v : is_verdict a ≡ true
+    v = verdict_is a occurring result verdict of_answer ok
+
+    same_asked : (asked : Bool) → plan.keep_lines ≡ asked → is_some kept ≡ asked
+    same_asked true e = s.lines_are.there e (λ m. true≢false (sym v ∙ ap is_verdict m)) (inl v)
+    same_asked false e = by (is_some kept) refl
+      where
+        by : (x : Bool) → is_some kept ≡ x → x ≡ false
+        by true some = absurd (true≢false (sym (s.lines_are.asked_for some) ∙ e))
+        by false some = refl
 
 -- ---- nothing read
 

@@ -171,3 +171,35 @@ cleared formula occurring a m model o w = record {
   };
   idle = λ v none. w.value v ∙ ap (λ (b : Bool). b && value_of a v) (o.value v ∙ none);
 }
+
+-- the values of one assignment where another is true, all others false
+pub both : List Bool → List Bool → List Bool
+both [] from = []
+both (x ∷ xs) [] = false ∷ both xs []
+both (x ∷ xs) (y ∷ ys) = (x && y) ∷ both xs ys
+
+both_long : (o from : List Bool) → length (both o from) ≡ length o
+unfolding both
+both_long [] from = refl
+both_long (x ∷ xs) [] = ap suc (both_long xs [])
+both_long (x ∷ xs) (y ∷ ys) = ap suc (both_long xs ys)
+
+and_false : (x : Bool) → (x && false) ≡ false
+and_false true = refl
+and_false false = refl
+
+both_at : (o from : List Bool) (v : ℕ) → value_of (both o from) (suc v) ≡ (value_of o (suc v) && value_of from (suc v))
+unfolding both
+both_at [] from v = refl
+both_at (x ∷ xs) [] zero = sym (and_false x)
+both_at (x ∷ xs) [] (suc v) = both_at xs [] v
+both_at (x ∷ xs) (y ∷ ys) zero = refl
+both_at (x ∷ xs) (y ∷ ys) (suc v) = both_at xs ys v
+
+-- there are such
+pub has_both : (occurring from : List Bool) → IsBoth occurring from (both occurring from)
+has_both occurring from = record { long = both_long occurring from; value = λ v. at v }
+  where
+    at : (v : ℕ) → value_of (both occurring from) v ≡ (value_of occurring v && value_of from v)
+    at zero = refl
+    at (suc v) = both_at occurring from v

@@ -1,6 +1,6 @@
 -- What the rings counted, and the lists of the tally.
 use Rattle.std.proofs.Common.{◌≡◌, ◌∙◌, ◌⊎◌, ◌≤◌, ◌<◌, ◌+◌, ◌==◌, ◌&&◌, ℕ, zero, suc, Bool, true, false, cond, List, [], ◌∷◌, ◌++◌, length, map, take, drop, replicate, refl, sym, ap, subst, inl, inr, arith}
-use Rattle.std.specs.Prelude.{slice_index_or, slice_set}
+use Rattle.std.specs.Prelude.{slice_index_or, slice_set, Option}
 use Rattle.std.specs.List.{filter}
 use Rattle.std.proofs.Math.Seq.{drop-length}
 use Rattle.std.proofs.lemmas.Bool.{true≢false}
@@ -15,7 +15,7 @@ use Rattle.rup_model.specs.Opening.{is_rulers}
 use Rattle.rup_model.specs.Spent.{ruler_part, rings_part, SpentAll}
 use Rattle.rup_model.proofs.Parts.{rulers_kind}
 use Rattle.ring_run.specs.declared.job.Counts.{Counts}
-use Rattle.portfolio_run.specs.Held.{IsHeld, RanOnce, no_counts}
+use Rattle.portfolio_run.specs.Held.{IsHeld, HasStop, IsTallied, no_counts}
 use Rattle.gimsatul.specs.Tallied.{no_lack, zero_tally, rings_tally, over, counted, AreLearned}
 
 -- ---- a journal that the ruler alone wrote
@@ -77,7 +77,25 @@ held_each rings limit F J counts (inl h) = inl (record {
     | inr e ↦ ap (each_counted rings) e ∙ none_each rings
   ]);
 })
-held_each rings limit F J counts (inr h) = inr (subst (λ (cs : List Counts). RanOnce rings limit F J cs) (sym (full_each rings counts h.many)) h)
+held_each rings limit F J counts (inr h) =
+    let same : each_counted rings counts ≡ counts = full_each rings counts h.many in
+    inr (record {
+      opening = h.opening;
+      rings_are = h.rings_are;
+      formula_is = h.formula_is;
+      program = h.program;
+      core = h.core;
+      left = h.left;
+      leaves = h.leaves;
+      many = ap length same ∙ h.many;
+      tallied = λ ring d lt. subst (λ (cs : List Counts). IsTallied rings limit ring h.left.events J (slice_index_or cs ring d)) (sym same) (h.tallied ring d lt);
+    })
+
+-- with the same stop
+pub stop_each : (rings limit : ℕ) (F : List (List Literal)) (J : List Entry) (counts : List Counts) (held : IsHeld rings limit F J counts) (kind : Option ℕ) → HasStop held kind → HasStop (held_each rings limit F J counts held) kind
+unfolding held_each
+stop_each rings limit F J counts (inl h) kind stop = stop
+stop_each rings limit F J counts (inr h) kind stop = stop
 
 -- ---- the lists of the tally
 

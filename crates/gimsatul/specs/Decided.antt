@@ -1,9 +1,11 @@
 -- What a verdict says of the clauses and of the journal.
-use Rattle.std.specs.Prelude.{◌≡◌, ℕ, List, Bool, false, ◌==◌}
+use Rattle.std.specs.Prelude.{◌≡◌, ℕ, List, Bool, false, ◌==◌, Some, None}
+use Rattle.std.specs.declared.option.Option.{Option}
 use Rattle.std.specs.List.{list_any}
 use Rattle.sat_words.specs.Literal.{Literal}
 use Rattle.sat_words.specs.Truth.{value_of}
 use Rattle.sat_words.specs.FormulaData.{FormulaData}
+use Rattle.sat_words.specs.declared.shared.TheConstants.{STOP_SAT, STOP_REFUTED}
 use Rattle.rup_model.specs.declared.journal.Entry.{Entry}
 use Rattle.rup_model.specs.Spent.{SpentAll}
 use Rattle.portfolio_run.specs.declared.plan.Plan.{Plan}
@@ -36,6 +38,12 @@ Holds plan formula journal Unknown = SpentAll formula.clauses journal plan.threa
 pub record Decides (plan : Plan) (formula : FormulaData) (journal : List Entry) (verdict : Verdict) : Type 0 where
   pub holds : Holds plan formula journal verdict
   pub ruled : IsRuledThrough formula plan.rounds journal
+
+-- the kind of the stop with which the rings come to the verdict, and with none where each is spent
+abbrev pub verdict_kind : Verdict → Option ℕ
+verdict_kind (Satisfiable model) = Some STOP_SAT
+verdict_kind Unsatisfiable = Some STOP_REFUTED
+verdict_kind Unknown = None
 
 -- some verdict holds
 pub record IsDecided (plan : Plan) (formula : FormulaData) (journal : List Entry) : Type 0 where

@@ -5,12 +5,14 @@ use Rattle.io_edge.specs.Causes.{Rose}
 use Rattle.io_edge.specs.Paths.{IsEmptyWhereTold}
 use Rattle.sat_words.specs.FormulaData.{FormulaData}
 use Rattle.sat_words.specs.declared.shared.NoRoom.{NoRoom}
+use Rattle.sat_words.specs.declared.shared.TheConstants.{STOP_ROOM, STOP_PROOF, STOP_MEMORY}
 use Rattle.rup_model.specs.declared.journal.Entry.{Entry}
 use Rattle.ring_run.specs.declared.job.Counts.{Counts}
-use Rattle.portfolio_run.specs.Held.{IsHeld}
+use Rattle.portfolio_run.specs.declared.plan.Plan.{Plan as SearchPlan}
+use Rattle.portfolio_run.specs.Held.{IsHeld, HasStop}
 use Rattle.portfolio_run.specs.Journaled.{IsJournal}
 use Rattle.portfolio_run.specs.Ruled.{IsRuled}
-use Rattle.portfolio_run.specs.Solved.{IsUnsettled}
+use Rattle.portfolio_run.specs.Solved.{IsUnsettled, FaultsFit}
 use Rattle.dimacs_read.specs.Codes.{number_of}
 use Rattle.dimacs_read.specs.declared.stop.Code.{Code}
 use Rattle.gimsatul.specs.declared.report.Tally.{Tally}
@@ -24,16 +26,16 @@ use Rattle.gimsatul.specs.Input.{WasGiven, WasBad}
 use Rattle.gimsatul.specs.Answer.{answer_text, remarks_of}
 use Rattle.gimsatul.specs.Run.{Count, Writer, Output, Run, Call, run_of, HasFile, RoseIn, IsStill, Prints, PrintsPart}
 use Rattle.gimsatul.specs.Journaled.{HoldsLog}
-use Rattle.gimsatul.specs.Decided.{Decides, IsDecided}
+use Rattle.gimsatul.specs.Decided.{Decides, IsDecided, verdict_kind}
 use Rattle.gimsatul.specs.Tallied.{no_tally, bad_tally, rings_tally, no_lack, AreLearned}
 
--- the proof's writer is there and holds the journal, and its last call was a flush
-abbrev pub HasLog : FormulaData → List Entry → Run → Type 0
-HasLog formula journal run = IsSomeAnd run.proof (HoldsLog formula.clauses journal)
+-- the proof's writer is there and holds the journal; it had failed so often when the search was over, and its last call was a flush
+abbrev pub HasLog : FormulaData → List Entry → ℕ → Run → Type 0
+HasLog formula journal searched run = IsSomeAnd run.proof (HoldsLog formula.clauses journal searched)
 
 -- no formula was read: the proof's writer is there, with no byte, and was only flushed
 pub record IsUnread (formula : FormulaData) (journal : List Entry) (run : Run) : Type 0 where
-  pub log : HasLog formula journal run
+  pub log : HasLog formula journal 0 run
   pub nothing : journal ≡ []
   pub empty : IfSome run.proof (λ writer. IsEmptyWhereTold writer.written)
 
@@ -53,16 +55,20 @@ pub record IsBroken (formula : FormulaData) (journal : List Entry) (tally : Tall
 
 -- the formula was made, or read without a fault, and as many rings as the words ask for were to start. A journal of so many rings
 -- stands, begins with what the ruler wrote in the rounds that the words allow, and is what the rings' steps leave, none of which
--- learned more lemmas than the words allow. The proof's writer holds the journal. The tally has what each ring counted, and what
--- was needed and what there was where there was no room.
-pub record IsStarted (lack : NoRoom) (formula : FormulaData) (journal : List Entry) (tally : Tally) (run : Run) : Type 0 where
+-- learned more lemmas than the words allow; the steps come to a stop of this kind, or to none, and where it is a fault of the proof,
+-- and else perhaps beside other rings, the writer had failed by then. The writer holds the journal. The tally has what each ring
+-- counted, and what was needed and what there was where there was no room.
+pub record IsStarted (kind : Option ℕ) (lack : NoRoom) (formula : FormulaData) (journal : List Entry) (tally : Tally) (run : Run) : Type 0 where
   pub given : WasGiven run.plan.make run.text formula
   pub source : IsStill run.source
   pub journal_stands : IsJournal run.plan.search.threads formula.clauses journal
   pub ruled : IsRuled formula run.plan.search.rounds journal
-  pub log : HasLog formula journal run
   pub counts : List Counts
   pub held : IsHeld run.plan.search.threads run.plan.search.conflicts formula.clauses journal counts
+  pub stop : HasStop held kind
+  pub searched : ℕ
+  pub faults_fit : FaultsFit run.plan.search formula journal 0 searched kind
+  pub log : HasLog formula journal searched run
   pub tally_is : tally ≡ rings_tally counts lack
   pub learned : AreLearned run.plan.search.threads run.plan.search.conflicts journal tally.learned
 
@@ -78,36 +84,44 @@ printed_of plan formula verdict = answer_text formula.vars (remarks_of (is_some 
 
 -- the verdict holds, and its text is printed, and nothing else
 pub record IsAnswered (verdict : Verdict) (formula : FormulaData) (journal : List Entry) (tally : Tally) (run : Run) : Type 0 where
-  pub started : IsStarted no_lack formula journal tally run
+  pub started : IsStarted (verdict_kind verdict) no_lack formula journal tally run
   pub decided : Decides run.plan.search formula journal verdict
   pub printed : Prints run.out (printed_of run.plan formula verdict)
   pub quiet : IsQuiet run
 
 -- the output failed in printing a verdict that holds; the proof didn't fail before
 pub record IsCutOff (formula : FormulaData) (journal : List Entry) (tally : Tally) (run : Run) : Type 0 where
-  pub started : IsStarted no_lack formula journal tally run
   pub verdict : Verdict
+  pub started : IsStarted (verdict_kind verdict) no_lack formula journal tally run
   pub decided : Decides run.plan.search formula journal verdict
   pub proof : IsSomeAnd run.proof (λ writer. writer.faults ≡ 0)
   pub printed : PrintsPart run.out (printed_of run.plan formula verdict)
   pub rose : RoseIn run.out.faults
 
--- the proof failed: a line of it, or the flush behind a verdict
+-- the search came to a verdict of this kind, which holds
+pub record IsVerdictKind (kind : Option ℕ) (plan : SearchPlan) (formula : FormulaData) (journal : List Entry) : Type 0 where
+  pub decided : IsDecided plan formula journal
+  pub kind_is : kind ≡ verdict_kind decided.verdict
+
+-- the proof failed: a line of it, for which the search stopped; or, behind a verdict that holds, a line of another ring, what was left
+-- to write, or the flush
 pub record IsUnproved (formula : FormulaData) (journal : List Entry) (tally : Tally) (run : Run) : Type 0 where
-  pub started : IsStarted no_lack formula journal tally run
+  pub kind : Option ℕ
+  pub started : IsStarted kind no_lack formula journal tally run
+  pub failed : (kind ≡ Some STOP_PROOF) ⊎ IsVerdictKind kind run.plan.search formula journal
   pub rose : IsSomeAnd run.proof (λ writer. Rose 0 writer.faults)
 
--- there was too little room: for a clause, or for one line more of the log. A ring has fewer lemmas than it may learn, and neither
--- it nor the ruler has added the empty clause. The tally has what was needed and what there was.
+-- there was too little room, for which the search stopped: for a clause, or for one line more of the log. A ring has fewer lemmas
+-- than it may learn, and neither it nor the ruler has added the empty clause. The tally has what was needed and what there was.
 pub record IsCrowded (lack : NoRoom) (formula : FormulaData) (journal : List Entry) (tally : Tally) (run : Run) : Type 0 where
-  pub started : IsStarted lack formula journal tally run
+  pub started : IsStarted (Some STOP_ROOM) lack formula journal tally run
   pub short : lack.largest < lack.need
   pub unsettled : IsUnsettled run.plan.search.threads run.plan.search.conflicts journal
 
 -- memory ran out in the search, before a verdict: a ring has fewer lemmas than it may learn, and neither it nor the ruler has added
 -- the empty clause; the output is as it was
 pub record IsStarved (formula : FormulaData) (journal : List Entry) (tally : Tally) (run : Run) : Type 0 where
-  pub started : IsStarted no_lack formula journal tally run
+  pub started : IsStarted (Some STOP_MEMORY) no_lack formula journal tally run
   pub unsettled : IsUnsettled run.plan.search.threads run.plan.search.conflicts journal
   pub out : IsStill run.out.faults
 
@@ -115,8 +129,8 @@ pub record IsStarved (formula : FormulaData) (journal : List Entry) (tally : Tal
 -- failed
 pub record IsUnchecked (formula : FormulaData) (journal : List Entry) (tally : Tally) (run : Run) : Type 0 where
   pub asked : run.plan.search.keep_lines ≡ true
-  pub started : IsStarted no_lack formula journal tally run
   pub decided : IsDecided run.plan.search formula journal
+  pub started : IsStarted (verdict_kind decided.verdict) no_lack formula journal tally run
   pub quiet : IsQuiet run
 
 abbrev pub Outcome : End → FormulaData → List Entry → Tally → Run → Type 0

@@ -86,11 +86,12 @@ pub record RanOut (formula : FormulaData) (journal : List Entry) (tally : Tally)
   pub made : IsIdle journal tally call ⊎ (MadeAll call × (IsBroken formula journal tally (run_of call) ⊎ IsStarved formula journal tally (run_of call) ⊎ IsUnchecked formula journal tally (run_of call)))
 
 -- one journal of as many rings as the words ask for stands, of the formula that was read or made, or empty. The proof, where there
--- is one, holds it and was flushed last.
+-- is one, holds it and was flushed last; it had failed so often when the search was over.
 pub record HasJournal (formula : FormulaData) (journal : List Entry) (call : Call) : Type 0 where
   pub stands : IsJournal (search_in call).threads formula.clauses journal
   pub of_input : (journal ≡ []) ⊎ WasGiven (make_number (command_of call.words)) (text_of call) formula
-  pub log : IfSome call.proof (HoldsLog formula.clauses journal)
+  pub searched : ℕ
+  pub log : IfSome call.proof (HoldsLog formula.clauses journal searched)
 
 -- the ruler alone wrote the journal, or a list of enabled steps of the rings from the ruler's end on leaves it: so no clause was
 -- deleted that a ring, a place of an exchange or an open grant still had. The tally has what each ring counted, its lemmas, those

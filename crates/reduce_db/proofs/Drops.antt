@@ -1,10 +1,13 @@
 -- What dropping one lemma after the other leaves.
-use Rattle.std.proofs.Common.{map, ◌≡◌, ◌≢◌, ◌∙◌, ◌||◌, ◌==◌, ℕ, zero, suc, ◌<◌, ◌+◌, Bool, true, false, not, cond, List, [], ◌∷◌, ◌++◌, length, take, get_or, All, Contains, Option, Some, sym, refl, ap, subst, inl, inr, arith}
+use Rattle.std.proofs.Common.{◌≡◌, ◌≢◌, ◌∙◌, ◌||◌, ◌==◌, ℕ, zero, suc, ◌<◌, ◌+◌, Bool, true, false, not, cond, List, [], ◌∷◌, ◌++◌, length, take, get_or, All, Contains, Option, Some, sym, refl, ap, subst, inl, inr, arith}
 use Rattle.std.specs.List.{filter}
 use Rattle.std.specs.Option.{option_map, option_map_or}
 use Rattle.std.proofs.lemmas.Bool.{true≢false}
 use Rattle.std.proofs.lemmas.Bool.Decides.{nat_tests}
+use Rattle.std.specs.List.Sorted.{IsPermutation}
 use Rattle.std.proofs.lemmas.List.{take_more}
+use Rattle.std.proofs.lemmas.List.Elements.{All-tail, filter_agree}
+use Rattle.std.proofs.lemmas.List.Sorted.{list_any-IsPermutation}
 use Rattle.sat_words.specs.Literal.{Literal}
 use Rattle.sat_words.specs.Clause.{has}
 use Rattle.sat_words.specs.declared.shared.Cref.{Cref}
@@ -12,19 +15,20 @@ use Rattle.rup_model.proofs.Lists.{In, In_map, map_In, In_append_left, In_append
 use Rattle.ring_port.specs.PortState.{Holding, PortState, held_at, lits_at, lits_in, clause_at}
 use Rattle.ring_port.specs.Deleting.{DroppedOnce}
 use Rattle.ring_port.proofs.LogSteps.{In_All}
+use Rattle.ring_port.proofs.Holdings.{All_In}
 use Rattle.ring_port.proofs.PlainLemmas.{dropped_others}
 use Rattle.ring_trail.specs.declared.step.Step.{Step}
 use Rattle.ring_trail.specs.TrailData.{TrailData, no_step, reason_at}
 use Rattle.ring_trail.specs.Reasoned.{IsSeen}
 use Rattle.ring_trail.specs.Closed.{IsClosed}
-use Rattle.watch_prop.specs.WatchData.{WatchData, Lits, attached, without, clauses_of}
+use Rattle.watch_prop.specs.WatchData.{WatchData, attached, without, is_among, without_all, clauses_of}
 use Rattle.watch_prop.specs.Watched.{Watched}
 use Rattle.watch_prop.specs.Propagation.{HasReasons}
 use Rattle.watch_prop.proofs.TrailLaws.{Watched-port, Reasons-more}
-use Rattle.watch_prop.proofs.DetachingLaws.{without-others, Reasons-without, Closed-at}
+use Rattle.watch_prop.proofs.DetachingLaws.{Reasons-without}
 use Rattle.reduce_db.specs.Lemmas.{AreDistinct}
 use Rattle.reduce_db.specs.Choice.{is_reason}
-use Rattle.reduce_db.specs.Dropping.{DroppedEach, DroppedAll, StaysReady, is_among, without_all}
+use Rattle.reduce_db.specs.Dropping.{DroppedEach, DroppedAll, StaysReady}
 
 -- A list that has one more
 
@@ -91,21 +95,12 @@ held_yet old s xs i apart lt h = h.others (get_or xs i record { address = 0 }).a
 eq_sym : (a b : ℕ) → (a == b) ≡ (b == a)
 eq_sym a b = grind (arith, nat_tests)
 
-or_false : (b : Bool) → (b || false) ≡ b
-or_false true = refl
-or_false false = refl
+at_it : (x y : ℕ) → x ≡ y → (x == y) ≡ true
+at_it x y q = grind (arith, nat_tests)
 
 not_or : (a b : Bool) → not (a || b) ≡ cond (not a) (not b) false
 not_or true b = refl
 not_or false b = refl
-
-among_more : (ds : List Cref) (c : Cref) (a : ℕ) → is_among (ds ++ c ∷ []) a ≡ (is_among ds a || (c.address == a))
-among_more [] c a = or_false (c.address == a)
-among_more (d ∷ ds) c a = ap (λ (b : Bool). (d.address == a) || b) (among_more ds c a) ∙ or_assoc (d.address == a) (is_among ds a) (c.address == a)
-  where
-    or_assoc : (x y z : Bool) → (x || (y || z)) ≡ ((x || y) || z)
-    or_assoc true y z = refl
-    or_assoc false y z = refl
 
 filter_twice : (p q : Cref → Bool) (cs : List Cref) → filter q (filter p cs) ≡ filter (λ c. cond (p c) (q c) false) cs
 filter_twice p q [] = refl
@@ -115,22 +110,37 @@ filter_twice p q (c ∷ cs) = by (p c) refl (filter_twice p q cs)
     by true e h = rw e (ap (λ (ys : List Cref). cond (q c) (c ∷ ys) ys) h)
     by false e h = rw e h
 
-without_more : (cs ds : List Cref) (c : Cref) → without (without_all cs ds) c.address ≡ without_all cs (ds ++ c ∷ [])
-without_more cs ds c =
-    filter_twice (λ (x : Cref). not (is_among ds x.address)) (λ (x : Cref). not (x.address == c.address)) cs
-    ∙ Rattle.std.proofs.lemmas.List.Elements.filter_agree (λ (x : Cref). cond (not (is_among ds x.address)) (not (x.address == c.address)) false) (λ (x : Cref). not (is_among (ds ++ c ∷ []) x.address))
-    (λ x. ap (λ (b : Bool). cond (not (is_among ds x.address)) (not b) false) (eq_sym x.address c.address) ∙ sym (not_or (is_among ds x.address) (c.address == x.address)) ∙ ap not (sym (among_more ds c x.address)))
+-- one of those that go first
+without_first : (cs ds : List Cref) (c : Cref) → without_all (without cs c.address) ds ≡ without_all cs (c ∷ ds)
+without_first cs ds c =
+    filter_twice (λ (x : Cref). not (x.address == c.address)) (λ (x : Cref). not (is_among ds x.address)) cs
+    ∙ filter_agree (λ (x : Cref). cond (not (x.address == c.address)) (not (is_among ds x.address)) false) (λ (x : Cref). not (is_among (c ∷ ds) x.address))
+    (λ x. ap (λ (b : Bool). cond (not b) (not (is_among ds x.address)) false) (eq_sym x.address c.address) ∙ sym (not_or (c.address == x.address) (is_among ds x.address)))
     cs
-
-pub without_next : (cs xs : List Cref) (i : ℕ) → i < length xs → without (without_all cs (take i xs)) (get_or xs i record { address = 0 }).address ≡ without_all cs (take (i + 1) xs)
-without_next cs xs i lt = without_more cs (take i xs) (get_or xs i record { address = 0 }) ∙ ap (without_all cs) (sym (take_more xs i record { address = 0 } lt))
 
 without_none : (cs : List Cref) → cs ≡ without_all cs []
 without_none [] = refl
 without_none (c ∷ cs) = ap (λ (ys : List Cref). c ∷ ys) (without_none cs)
 
-pub without_first : (cs : List Cref) → cs ≡ without_all cs []
-without_first = without_none
+-- the order of those that go is nothing to those that stay
+pub without_again : (cs ds es : List Cref) → IsPermutation ds es → without_all cs es ≡ without_all cs ds
+without_again cs ds es p =
+    filter_agree (λ (x : Cref). not (is_among es x.address)) (λ (x : Cref). not (is_among ds x.address))
+    (λ x. ap not (sym (list_any-IsPermutation (λ (c : Cref). c.address == x.address) ds es p))) cs
+
+-- what stays was there, and is at no address of those that go
+stayed : (cs ds : List Cref) (c : Cref) → In c (without_all cs ds) → In c cs × (is_among ds c.address ≡ false)
+stayed [] ds c h = absurd h
+stayed (x ∷ cs) ds c h = by (is_among ds x.address) refl h (stayed cs ds c)
+  where
+    by : (b : Bool) → is_among ds x.address ≡ b → In c (cond (not b) (x ∷ without_all cs ds) (without_all cs ds)) → (In c (without_all cs ds) → In c cs × (is_among ds c.address ≡ false)) → In c (x ∷ cs) × (is_among ds c.address ≡ false)
+    by true e k f = let r = f k in (inr r.0, r.1)
+    by false e (inl q) f = (inl q, subst (λ (y : Cref). is_among ds y.address ≡ false) q e)
+    by false e (inr k) f = let r = f k in (inr r.0, r.1)
+
+no_other : (ds : List Cref) (a : ℕ) → is_among ds a ≡ false → (d : Cref) → Contains ds d → d.address ≢ a
+no_other ds a e d m is =
+    absurd (true≢false (sym (at_it d.address a is) ∙ none_In (λ (c : Cref). c.address == a) ds d e (Contains_In ds d m)))
 
 not_among : (ds : List Cref) (a : ℕ) → ((d : Cref) → In d ds → d.address ≢ a) → is_among ds a ≡ false
 not_among [] a f = refl
@@ -163,60 +173,42 @@ lits_same s r a e = ap lits_in e
 clause_same : (s r : PortState) (a : ℕ) → held_at r a ≡ held_at s a → clause_at r a ≡ clause_at s a
 clause_same s r a e = ap (λ (o : Option Holding). option_map (λ (h : Holding). h.lits) o) e
 
-closed_lits : (w : WatchData) (lits more : Lits) (steps : List Step) (k : ℕ) → ((c : Cref) → Contains (attached w) c → more c.address ≡ lits c.address) → IsClosed (clauses_of w lits) steps k → IsClosed (clauses_of w more) steps k
-closed_lits w lits more steps k same h c there =
-    let m = map_In (λ (d : Cref). more d.address) (attached w) c (Contains_In (clauses_of w more) c there) in
-    let e : lits m.0.address ≡ c = sym (same m.0 (In_Contains (attached w) m.0 m.1)) ∙ m.2 in
-    h c (In_Contains (clauses_of w lits) c (subst (λ (d : List Literal). In d (clauses_of w lits)) e (In_map (λ (d : Cref). lits d.address) (attached w) m.0 m.1)))
-
 no_reason : (steps : List Step) (seen : List Literal) (a : ℕ) → is_reason steps a ≡ false → (p : ℕ) (c : Cref) → p < length steps → reason_at steps p ≡ Some c → c.address ≡ a → IsSeen seen steps p
 no_reason steps seen a e p c lt reason is =
     let f : option_map_or (λ (d : Cref). d.address == a) (get_or steps p no_step).reason false ≡ false = none_In (λ (s : Step). option_map_or (λ (d : Cref). d.address == a) s.reason false) steps (get_or steps p no_step) e (In_get_or steps p no_step lt) in
     let g : (c.address == a) ≡ false = subst (λ (o : Option Cref). option_map_or (λ (d : Cref). d.address == a) o false ≡ false) reason f in
     absurd (true≢false (sym (at_it c.address a is) ∙ g))
-  where
-    at_it : (x y : ℕ) → x ≡ y → (x == y) ≡ true
-    at_it x y q = grind (arith, nat_tests)
 
-pub ready_same : (s : PortState) (w : WatchData) (t : TrailData) → StaysReady s s w w t
-ready_same s w t = record { vars = refl; watched = λ h. h; reasons = λ h. h; closed = λ k h. h; quiet = λ h. h }
+reasons_left : (cs ds : List Cref) (s : PortState) (steps : List Step) → All (λ (c : Cref). is_reason steps c.address ≡ false) ds → HasReasons cs s steps → HasReasons (without_all cs ds) s steps
+reasons_left cs [] s steps free h = subst (λ (xs : List Cref). HasReasons xs s steps) (without_none cs) h
+reasons_left cs (d ∷ ds) s steps free h =
+    subst (λ (xs : List Cref). HasReasons xs s steps) (without_first cs ds d)
+    (reasons_left (without cs d.address) ds s steps (All-tail (λ (c : Cref). is_reason steps c.address ≡ false) d ds free)
+    (Reasons-without cs s steps d.address (no_reason steps s.seen d.address (All_In (λ (c : Cref). is_reason steps c.address ≡ false) (d ∷ ds) d free (inl refl))) h))
 
-pub ready_again : (s q r : PortState) (v w x : WatchData) (t : TrailData) → StaysReady s q v w t → StaysReady q r w x t → StaysReady s r v x t
-ready_again s q r v w x t a b = record {
-  vars = b.vars ∙ a.vars;
-  watched = λ h. b.watched (a.watched h);
-  reasons = λ h. b.reasons (a.reasons h);
-  closed = λ k h. b.closed k (a.closed k h);
-  quiet = λ h. b.quiet (a.quiet h);
-}
-
--- the same is attached in another form
-pub ready_compacted : (s : PortState) (w x : WatchData) (t : TrailData) → x.vars ≡ w.vars → attached x ≡ attached w → (Watched w (lits_at s) t → Watched x (lits_at s) t) → StaysReady s s w x t
-ready_compacted s w x t vars e good =
-    let closed : (k : ℕ) → IsClosed (clauses_of w (lits_at s)) t.steps k → IsClosed (clauses_of x (lits_at s)) t.steps k
-    = λ k h. subst (λ (cs : List Cref). IsClosed (map (λ (c : Cref). lits_at s c.address) cs) t.steps k) (sym e) h in
-    record {
-      vars = vars;
-      watched = good;
-      reasons = λ h. subst (λ (cs : List Cref). HasReasons cs s t.steps) (sym e) h;
-      closed = closed;
-      quiet = λ h. record { done = h.done; closed = λ k. closed k (h.closed k) };
-    }
-
-pub ready_dropped : (s r : PortState) (w x : WatchData) (t : TrailData) (a : ℕ) → DroppedOnce s r a → is_reason t.steps a ≡ false → x.vars ≡ w.vars → attached x ≡ without (attached w) a → Watched x (lits_at s) t → StaysReady s r w x t
-ready_dropped s r w x t a k free vars e good = record {
+-- the clauses that are left are held as they were, and no reason is gone
+pub ready_dropped : (s r : PortState) (w x : WatchData) (t : TrailData) (ds : List Cref) → DroppedAll s r ds → All (λ (c : Cref). is_reason t.steps c.address ≡ false) ds → x.vars ≡ w.vars → attached x ≡ without_all (attached w) ds
+    → (Watched w (lits_at s) t → Watched x (lits_at s) t) → StaysReady s r w x t
+ready_dropped s r w x t ds k free vars e good = record {
   vars = vars;
-  watched = λ h. Watched-port x (lits_at s) (lits_at r) t same good;
-  reasons = λ h. Reasons-more (without (attached w) a) (attached x) s r t.steps
-      (λ c m. (subst (λ (cs : List Cref). Contains cs c) (sym e) m, clause_same s r c.address (dropped_others s r a c.address k ((without-others (attached w) a c).0 m).1)))
-      (λ l q. subst (λ (z : PortState). has z.seen l ≡ true) (sym (fields_after s r a k)) q)
-      (Reasons-without (attached w) s t.steps a (no_reason t.steps s.seen a free) h);
+  watched = λ h. Watched-port x (lits_at s) (lits_at r) t (λ c m. lits_same s r c.address (as_held c m)) (good h);
+  reasons = λ h. Reasons-more (without_all (attached w) ds) (attached x) s r t.steps
+      (λ c m. (subst (λ (cs : List Cref). Contains cs c) (sym e) m, clause_same s r c.address (as_held c (subst (λ (cs : List Cref). Contains cs c) (sym e) m))))
+      (λ l q. subst (λ (z : PortState). has z.seen l ≡ true) (sym k.state) q)
+      (reasons_left (attached w) ds s t.steps free h);
   closed = closed;
   quiet = λ h. record { done = h.done; closed = λ n. closed n (h.closed n) };
 }
   where
-    same : (c : Cref) → Contains (attached x) c → lits_at r c.address ≡ lits_at s c.address
-    same c m = lits_same s r c.address (dropped_others s r a c.address k ((without-others (attached w) a c).0 (subst (λ (cs : List Cref). Contains cs c) e m)).1)
+    left : (c : Cref) → Contains (attached x) c → In c (attached w) × (is_among ds c.address ≡ false)
+    left c m = stayed (attached w) ds c (subst (λ (cs : List Cref). In c cs) e (Contains_In (attached x) c m))
+
+    as_held : (c : Cref) → Contains (attached x) c → held_at r c.address ≡ held_at s c.address
+    as_held c m = k.others c.address (λ d there. no_other ds c.address (left c m).1 d there)
 
     closed : (n : ℕ) → IsClosed (clauses_of w (lits_at s)) t.steps n → IsClosed (clauses_of x (lits_at r)) t.steps n
-    closed n h = closed_lits x (lits_at s) (lits_at r) t.steps n same (Closed-at w x (lits_at s) t.steps a n e h)
+    closed n h c there =
+        let m = map_In (λ (d : Cref). lits_at r d.address) (attached x) c (Contains_In (clauses_of x (lits_at r)) c there) in
+        let at = In_Contains (attached x) m.0 m.1 in
+        let is : lits_at s m.0.address ≡ c = sym (lits_same s r m.0.address (as_held m.0 at)) ∙ m.2 in
+        h c (In_Contains (clauses_of w (lits_at s)) c (subst (λ (d : List Literal). In d (clauses_of w (lits_at s))) is (In_map (λ (d : Cref). lits_at s d.address) (attached w) m.0 (left m.0 at).0)))

@@ -10,9 +10,10 @@ use Rattle.ring_port.specs.Deleting.{IsNotTaken}
 use Rattle.ring_port.proofs.Holdings.{All_In}
 use Rattle.ring_port.proofs.LogSteps.{In_All}
 use Rattle.ring_trail.specs.declared.step.Step.{Step}
+use Rattle.watch_prop.specs.WatchData.{without_all}
 use Rattle.reduce_db.specs.Lemmas.{AreDistinct, AreLemmas}
 use Rattle.reduce_db.specs.Choice.{is_reason, IsChoice}
-use Rattle.reduce_db.specs.Dropping.{DroppedAll, without_all}
+use Rattle.reduce_db.specs.Dropping.{DroppedAll}
 use Rattle.reduce_db.proofs.Choosing.{passes_filter}
 use Rattle.reduce_db.proofs.Drops.{stays_attached}
 

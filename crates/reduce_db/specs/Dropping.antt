@@ -1,6 +1,5 @@
 -- What is left once some clauses are dropped, one after the other.
-use Rattle.std.specs.Prelude.{◌≡◌, ◌≢◌, ℕ, ◌==◌, not, Bool, List, [], ◌∷◌, filter, Contains}
-use Rattle.std.specs.List.{list_any}
+use Rattle.std.specs.Prelude.{◌≡◌, ◌≢◌, ℕ, List, [], ◌∷◌, Contains}
 use Rattle.sat_words.specs.declared.shared.Cref.{Cref}
 use Rattle.ring_port.specs.PortState.{PortState, held_at, lits_at}
 use Rattle.ring_port.specs.Deleting.{DroppedOnce}
@@ -14,14 +13,6 @@ use Rattle.watch_prop.specs.Propagation.{HasReasons, IsQuiet}
 abbrev pub DroppedEach : PortState → PortState → List Cref → Type 0
 DroppedEach old new [] = new ≡ old
 DroppedEach old new (c ∷ cs) = (middle : PortState) × DroppedOnce old middle c.address × DroppedEach middle new cs
-
--- one of the clauses is at the address
-abbrev pub is_among : List Cref → ℕ → Bool
-is_among cs a = list_any (λ (c : Cref). c.address == a) cs
-
--- the clauses without those at the addresses of some others, in their order
-abbrev pub without_all : List Cref → List Cref → List Cref
-without_all cs ds = filter (λ (c : Cref). not (is_among ds c.address)) cs
 
 -- these clauses were dropped: nothing but what is held, what waits and what can be offered has changed, and each other clause is
 -- held as it was

@@ -5,9 +5,9 @@ use Rattle.ring_port.specs.declared.stops.PortStop.{PortStop}
 use Rattle.ring_port.specs.declared.stops.PortStop.TheVariants.{Memory}
 use Rattle.ring_port.specs.PortState.{PortState}
 use Rattle.ring_trail.specs.declared.step.Step.{Step}
-use Rattle.watch_prop.specs.WatchData.{WatchData, attached}
+use Rattle.watch_prop.specs.WatchData.{WatchData, attached, without_all}
 use Rattle.reduce_db.specs.Choice.{IsChoice}
-use Rattle.reduce_db.specs.Dropping.{DroppedAll, without_all}
+use Rattle.reduce_db.specs.Dropping.{DroppedAll}
 
 -- some of the lemmas were chosen; they were dropped, and are attached no longer; the others are left
 pub record WasReduced (old new : PortState) (v w : WatchData) (steps : List Step) (lemmas left : List Cref) : Type 0 where

@@ -1,30 +1,32 @@
-// Dropping lemmas: each is detached, and then held once less. At the end the lists of watches are closed up.
-ghost use Rattle.std.specs.Prelude.{◌≡◌, false, All, IsSome, OnOk, IfErr};
+// Dropping lemmas: all are detached at once, and then each is held once less. The lists of watches are closed up in between.
+ghost use Rattle.std.specs.Prelude.{◌≡◌, false, All, IsSome, OnOk, IfOk, IfErr};
+ghost use Rattle.std.specs.List.Sorted.{IsNonDecreasingBy, IsPermutation};
 ghost use Rattle.sat_words.specs.declared.shared.Cref.{Cref};
 ghost use Rattle.ring_port.specs.PortState.{IsPort, held_at, lits_at};
 ghost use Rattle.ring_port.specs.Log.{KeepsLog};
 ghost use Rattle.ring_port.specs.Deleting.{IsNotTaken};
-ghost use Rattle.watch_prop.specs.WatchData.{attached};
+ghost use Rattle.watch_prop.specs.WatchData.{attached, without_all};
 ghost use Rattle.watch_prop.specs.Watched.{Watched};
 ghost use Rattle.reduce_db.specs.Lemmas.{AreDistinct};
 ghost use Rattle.reduce_db.specs.Choice.{is_reason};
-ghost use Rattle.reduce_db.specs.Dropping.{DroppedAll, StaysReady, without_all};
+ghost use Rattle.reduce_db.specs.Dropping.{DroppedAll, StaysReady};
 ghost use Rattle.reduce_db.specs.Reduction.{WasCutShort};
 
 use ring_port::{Port, PortStop};
 use ring_trail::Trail;
 use sat_words::Cref;
+use std::alloc::{AllocError, Global};
 use watch_prop::Watches;
 
 /// Drops each of these lemmas, in their order. Where memory runs out, those before are dropped.
 pub(crate) fn drop_each<P: Port>(
+    alloc: Global,
     port: &mut P,
     watches: &mut Watches,
     trail: &Trail,
     lemmas: &[Cref],
 ) -> Result<(), PortStop>
     requires watched { Watched watches.old (lits_at (P.state port.old)) trail.now }
-    requires vars { (P.state port.old).vars ≡ watches.old.vars }
     requires distinct { AreDistinct lemmas.now }
     requires held { All (λ (c : Cref). IsSome (held_at (P.state port.old) c.address)) lemmas.now }
     requires apart { All (λ (c : Cref). IsNotTaken (P.state port.old) c.address) lemmas.now }
@@ -37,10 +39,24 @@ pub(crate) fn drop_each<P: Port>(
     ensures port { IsPort (P.state port.new) }
 {
     let _vars = port.vars();
+    let Ok(gone) = by_address(alloc, lemmas) else {
+        return Err(PortStop::Memory);
+    };
+    watches.detach_all(gone.as_slice());
+    watches.compact();
     for c in lemmas {
-        watches.detach(port, *c);
         port.drop_clause(*c)?;
     }
-    watches.compact();
     Ok(())
+}
+
+/// These clauses in the order of their addresses.
+fn by_address(alloc: Global, clauses: &[Cref]) -> Result<Vec<Cref>, AllocError>
+    ensures order { IfOk result (λ sorted. IsNonDecreasingBy (λ (c : Cref). c.address) sorted.items) }
+    ensures same { IfOk result (λ sorted. IsPermutation clauses.now sorted.items) }
+{
+    let mut sorted = Vec::new(alloc);
+    sorted.extend_from_slice(clauses)?;
+    sorted.sort_unstable_by_key(|c| c.address);
+    Ok(sorted)
 }

@@ -42,7 +42,7 @@ pub fn reduce<P: Port>(
     let Ok(choice) = choose(alloc, port, trail, lemmas.as_slice()) else {
         return Err(PortStop::Memory);
     };
-    drop_each(port, watches, trail, choice.dropped.as_slice())?;
+    drop_each(alloc, port, watches, trail, choice.dropped.as_slice())?;
     *lemmas = choice.kept;
     Ok(())
 }

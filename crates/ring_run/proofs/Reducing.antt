@@ -27,11 +27,11 @@ use Rattle.ring_port.proofs.LogSteps.{In_All}
 use Rattle.ring_port.specs.declared.stops.PortStop.{PortStop}
 use Rattle.ring_trail.specs.declared.step.Step.{Step}
 use Rattle.ring_trail.specs.TrailData.{TrailData}
-use Rattle.watch_prop.specs.WatchData.{WatchData, Lits, attached}
+use Rattle.watch_prop.specs.WatchData.{WatchData, Lits, attached, is_among, without_all}
 use Rattle.watch_prop.specs.Watched.{Watched}
 use Rattle.watch_prop.proofs.TrailLaws.{Reasons-more, Reasons-held}
 use Rattle.reduce_db.specs.Lemmas.{AreDistinct, AreLemmas}
-use Rattle.reduce_db.specs.Dropping.{DroppedEach, DroppedAll, StaysReady, is_among, without_all}
+use Rattle.reduce_db.specs.Dropping.{DroppedEach, DroppedAll, StaysReady}
 use Rattle.reduce_db.specs.Choice.{IsChoice}
 use Rattle.reduce_db.specs.Moment.{lemmas_before}
 use Rattle.reduce_db.specs.Reduction.{WasReduced, WasCutShort}

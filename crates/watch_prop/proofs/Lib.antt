@@ -9,6 +9,7 @@ pub mod Entries
 pub mod Ranks
 pub mod Settling
 pub mod Detaching
+pub mod Among
 pub mod TrailLaws
 pub mod DetachingLaws
 pub mod Sample

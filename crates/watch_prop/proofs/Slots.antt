@@ -8,7 +8,7 @@ use Rattle.std.proofs.lemmas.List.{length-set, get_or-set_same, get_or-set_other
 use Rattle.std.proofs.lemmas.List.Elements.{filter_map-append}
 use Rattle.sat_words.specs.declared.shared.Cref.{Cref}
 use Rattle.watch_prop.specs.declared.watch.Watch.{Watch}
-use Rattle.watch_prop.specs.WatchData.{clause_in, without}
+use Rattle.watch_prop.specs.WatchData.{clause_in, without, is_among, without_all}
 use Rattle.watch_prop.specs.Watched.{At}
 use Rattle.watch_prop.proofs.ListsLemmas.{cases_eq}
 
@@ -127,6 +127,25 @@ without-none (None ∷ ws) a none = without-none ws a (λ i s at. none (suc i) s
 without-none (Some x ∷ ws) a none =
     without-other x.clause (clauses ws) a (none 0 x (omega arith, refl))
     ∙ ap (λ (cs : List Cref). x.clause ∷ cs) (without-none ws a (λ i s at. none (suc i) s (let q = at.0 in omega arith, at.1)))
+
+-- where no watch is of one of the clauses, there is nothing to leave out
+pub without_all-none : (ws : List (Option Watch)) (gone : List Cref) → ((i : ℕ) (s : Watch) → At ws i (Some s) → is_among gone s.clause.address ≡ false) → without_all (clauses ws) gone ≡ clauses ws
+without_all-none [] gone none = refl
+without_all-none (None ∷ ws) gone none = without_all-none ws gone (λ i s at. none (suc i) s (let q = at.0 in omega arith, at.1))
+without_all-none (Some x ∷ ws) gone none =
+    ap (λ (b : Bool). cond (not b) (x.clause ∷ without_all (clauses ws) gone) (without_all (clauses ws) gone)) (none 0 x (omega arith, refl))
+    ∙ ap (λ (cs : List Cref). x.clause ∷ cs) (without_all-none ws gone (λ i s at. none (suc i) s (let q = at.0 in omega arith, at.1)))
+
+-- one of the clauses may be left out first
+pub without_all-again : (cs gone : List Cref) (a : ℕ) → is_among gone a ≡ true → without_all (without cs a) gone ≡ without_all cs gone
+without_all-again [] gone a there = refl
+without_all-again (c ∷ cs) gone a there =
+    elim (cases_eq c.address a) as (λ _. without_all (without (c ∷ cs) a) gone ≡ without_all (c ∷ cs) gone) [
+      | inl e ↦ ap (λ (ds : List Cref). without_all ds gone) (without-there c cs a e) ∙ without_all-again cs gone a there
+          ∙ sym (ap (λ (b : Bool). cond (not b) (c ∷ without_all cs gone) (without_all cs gone)) (ap (is_among gone) e ∙ there))
+      | inr ne ↦ ap (λ (ds : List Cref). without_all ds gone) (without-other c cs a ne)
+          ∙ ap (λ (ds : List Cref). cond (not (is_among gone c.address)) (c ∷ ds) ds) (without_all-again cs gone a there)
+    ]
 
 -- free slots have no clause
 pub clauses-kept : (ws : List (Option Watch)) (test : Option Watch → Bool) → ((s : Watch) → test (Some s) ≡ true) → clauses (filter test ws) ≡ clauses ws

@@ -1,6 +1,6 @@
 -- Clauses with the two literals that watch them, and for each literal a list of its watchers: the slots of its watches, each with a blocker.
-use Rattle.std.specs.Prelude.{ℕ, not, ◌==◌, List, [], map, Option}
-use Rattle.std.specs.List.{slice_index_or, filter, filter_map}
+use Rattle.std.specs.Prelude.{ℕ, Bool, not, ◌==◌, List, [], map, Option}
+use Rattle.std.specs.List.{slice_index_or, filter, filter_map, list_any}
 use Rattle.std.specs.Option.{option_map}
 use Rattle.sat_words.specs.Literal.{Literal, code_of}
 use Rattle.sat_words.specs.declared.shared.Cref.{Cref}
@@ -27,6 +27,14 @@ attached w = filter_map clause_in w.slots
 -- the clauses without those at this address
 abbrev pub without : List Cref → ℕ → List Cref
 without cs a = filter (λ (c : Cref). not (c.address == a)) cs
+
+-- one of the clauses is at the address
+abbrev pub is_among : List Cref → ℕ → Bool
+is_among cs a = list_any (λ (c : Cref). c.address == a) cs
+
+-- the clauses without those at the addresses of some others, in their order
+abbrev pub without_all : List Cref → List Cref → List Cref
+without_all cs ds = filter (λ (c : Cref). not (is_among ds c.address)) cs
 
 -- the list of a literal
 abbrev pub watchers_at : List (List Watcher) → Literal → List Watcher

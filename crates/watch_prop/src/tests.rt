@@ -133,6 +133,40 @@ fn attached_again(rt: HostRuntime) -> Result<(), Fail> {
     Ok(())
 }
 
+// Without the first and the third clause, 1 and 4 give 5 by the second, and nothing of 2.
+#[test]
+fn two_detached_at_once(rt: HostRuntime) -> Result<(), Fail> {
+    let mut watches = Watches::new(rt.alloc(), 5)?;
+    let mut trail = Trail::new(rt.alloc(), 5)?;
+    watches.attach(
+        &mut SamplePort { stage: 0, loads: 0 },
+        &trail,
+        Cref { address: 1 },
+    )?;
+    watches.attach(
+        &mut SamplePort { stage: 0, loads: 0 },
+        &trail,
+        Cref { address: 2 },
+    )?;
+    watches.attach(
+        &mut SamplePort { stage: 0, loads: 0 },
+        &trail,
+        Cref { address: 3 },
+    )?;
+    watches.detach_all(&[Cref { address: 1 }, Cref { address: 3 }]);
+    assert_eq!(rt; trail.value(1), None);
+    assert!(rt;
+        propagate_unit(&mut watches, &mut trail, Lit::new(1, false))?.0 == Propagated::Quiet
+    );
+    assert_eq!(rt; trail.value(4), None);
+    assert!(rt;
+        propagate_unit(&mut watches, &mut trail, Lit::new(4, false))?.0 == Propagated::Quiet
+    );
+    assert_eq!(rt; trail.value(2), None);
+    assert_eq!(rt; trail.value(5), Some(true));
+    Ok(())
+}
+
 /// Attaches the third clause and detaches it, so many times, over a trail without steps.
 fn come_and_go(watches: &mut Watches, trail: &Trail, count: u32) -> Result<(), AllocError>
     requires watched { Watched watches.old (lits_at sample_state) trail.now }

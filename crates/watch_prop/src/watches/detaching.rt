@@ -1,14 +1,15 @@
-//! Detaching a clause: its slots become free. The watchers of free slots stay in the lists, and drop out when they are met. It
-//! may leave no watch of the clause, and takes none away from another.
-ghost use Rattle.std.specs.Prelude.{◌≡◌, ◌≢◌, ◌≤◌, ◌<◌, IsSome, length, slice_index, ℕ, Some, true, take};
+//! Detaching clauses: their slots become free. The watchers of free slots stay in the lists, and drop out when they are met.
+//! It may leave no watch of these clauses, and takes none away from another.
+ghost use Rattle.std.specs.Prelude.{◌≡◌, ◌≢◌, ◌≤◌, ◌<◌, IsSome, length, slice_index, ℕ, Some, true, false, take};
+ghost use Rattle.std.specs.List.Sorted.{IsNonDecreasingBy};
 ghost use Rattle.sat_words.specs.Literal.{Literal};
 ghost use Rattle.sat_words.specs.Clause.{has};
 ghost use Rattle.ring_port.specs.PortState.{held_at, lits_at};
 ghost use Rattle.ring_trail.specs.TrailData.{TrailData};
 ghost use Rattle.watch_prop.specs.declared.watch.Watch.{Watch};
-ghost use Rattle.watch_prop.specs.WatchData.{attached, list_at, without};
+ghost use Rattle.watch_prop.specs.WatchData.{Lits, attached, list_at, without, is_among, without_all};
 ghost use Rattle.watch_prop.specs.Watched.{At, Watched};
-ghost use Rattle.watch_prop.specs.Detaching.{Freed, IsGoneFrom};
+ghost use Rattle.watch_prop.specs.Detaching.{Freed, FreedAll, IsGoneFrom};
 
 use crate::watches::Watches;
 use ring_port::Port;
@@ -29,6 +30,38 @@ impl Watches {
     {
         self.free_waiting(c);
         self.free_listed(port, c);
+    }
+
+    /// Detaches all of these clauses, which are in the order of their addresses: none of them is watched any more, however often
+    /// it was attached. One that isn't attached leaves what is attached as it was.
+    ///
+    /// Each slot is looked at once, and neither lists nor literals. It takes no memory.
+    pub fn detach_all(&mut self, gone: &[Cref])
+        requires { IsNonDecreasingBy (λ (c : Cref). c.address) gone.now }
+        ensures attached { attached self.new ≡ without_all (attached self.old) gone.now }
+        ensures vars { self.new.vars ≡ self.old.vars }
+        ensures watched { (lits : Lits) (t : TrailData) → Watched self.old lits t → Watched self.new lits t }
+    {
+        for index in 0..self.slots.len() {
+            self.free_among(index, gone);
+        }
+    }
+
+    /// Frees the slot at an index where it is of one of these clauses.
+    fn free_among(&mut self, index: usize, gone: &[Cref])
+        requires order { IsNonDecreasingBy (λ (c : Cref). c.address) gone.now }
+        requires there { index < length self.old.slots }
+        ensures freed { FreedAll self.old self.new gone.now }
+        ensures gone { (s : Watch) → At self.new.slots index (Some s) → is_among gone.now s.clause.address ≡ false }
+    {
+        match self.slots[index] {
+            None => {}
+            Some(watch) => {
+                if is_among(gone, watch.clause) {
+                    self.free(index, watch.clause);
+                }
+            }
+        }
     }
 
     /// Frees the slots of a clause that wait.
@@ -90,4 +123,13 @@ impl Watches {
             }
         }
     }
+}
+
+/// Whether one of these clauses, which are in the order of their addresses, is at the address of this one.
+fn is_among(gone: &[Cref], c: Cref) -> bool
+    requires { IsNonDecreasingBy (λ (c : Cref). c.address) gone.now }
+    ensures { result ≡ is_among gone.now c.address }
+{
+    gone.binary_search_by_key(&c.address, |other| other.address)
+        .is_ok()
 }

@@ -9,10 +9,10 @@ use Rattle.ring_port.specs.Deleting.{IsNotTaken}
 use Rattle.ring_port.proofs.Holdings.{All_In}
 use Rattle.ring_port.proofs.LogSteps.{In_All}
 use Rattle.ring_trail.specs.declared.step.Step.{Step}
-use Rattle.watch_prop.specs.WatchData.{WatchData, attached}
+use Rattle.watch_prop.specs.WatchData.{WatchData, attached, without_all}
 use Rattle.reduce_db.specs.Lemmas.{AreDistinct}
 use Rattle.reduce_db.specs.Choice.{IsChoice}
-use Rattle.reduce_db.specs.Dropping.{DroppedAll, without_all}
+use Rattle.reduce_db.specs.Dropping.{DroppedAll}
 use Rattle.reduce_db.specs.Reduction.{Reduced, WasCutShort}
 use Rattle.reduce_db.proofs.Left.{dropped_distinct, dropped_each, lemmas_left}
 use Rattle.reduce_db.proofs.reducing.reduce.Goals as goal

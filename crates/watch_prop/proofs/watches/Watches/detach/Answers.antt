@@ -1,6 +1,6 @@
 use Rattle.ring_port.specs.PortState.{lits_at}
 use Rattle.watch_prop.specs.Detaching.{Freed}
-use Rattle.watch_prop.proofs.Detaching.{Freed-trans, Watched-freed, none_left, detached}
+use Rattle.watch_prop.proofs.Detaching.{Freed-trans, Watched-thinned, none_left, detached}
 use Rattle.watch_prop.proofs.watches.Watches.detach.Given.{Over}
 use Rattle.watch_prop.proofs.watches.Watches.detach.Goals as goal
 
@@ -13,4 +13,4 @@ returns-clause-attached g c t k =
     (none_left c.args.self.now c.free_waiting.new.self c.free_listed.new.self (lits_at (g.P.Port.state c.args.port.now)) t c.args.c.address k c.free_waiting.ensures.freed c.free_waiting.ensures.gone c.free_listed.ensures.freed c.free_listed.ensures.gone)
 
 pub returns-clause-watched : goal.returns-clause-watched
-returns-clause-watched g c t k = Watched-freed c.args.self.now c.free_listed.new.self (lits_at (g.P.Port.state c.args.port.now)) t c.args.c.address (freed g c) k
+returns-clause-watched g c t k = Watched-thinned c.args.self.now c.free_listed.new.self (lits_at (g.P.Port.state c.args.port.now)) t (freed g c).thinned k

@@ -18,7 +18,7 @@ free_at-requires g c =
     let w = c.args.self.now in
     let lits = lits_at s c.args.c.address in
     let at = value (g.P.Port.state c.loop-i.port) s c.args.c.address c.loop-i.i c.read_lit-lit.result c.loop-i.invariant.same c.read_lit-lit.ensures.value in
-    record { in_range = on_vars w.vars c.loop-i.self.vars lits c.read_lit-lit.result c.loop-i.invariant.freed.vars (held_attachable s c.args.c.address w.vars c.vars-vars.ensures.port c.requires.held c.requires.vars) (has_at lits c.loop-i.i c.read_lit-lit.result at) }
+    record { in_range = on_vars w.vars c.loop-i.self.vars lits c.read_lit-lit.result c.loop-i.invariant.freed.thinned.vars (held_attachable s c.args.c.address w.vars c.vars-vars.ensures.port c.requires.held c.requires.vars) (has_at lits c.loop-i.i c.read_lit-lit.result at) }
 
 pub loop-i-preserved : goal.loop-i-preserved
 loop-i-preserved g c =

@@ -9,6 +9,6 @@ loop-index-preserved c = record {
   freed = Freed-trans c.args.self.now c.loop-index.self c.free.new.self c.args.c.address c.loop-index.invariant.freed c.free.ensures.freed;
   gone = λ i s past lt at. elim (cases_eq i c.loop-index.index) as (λ _. s.clause.address ≢ c.args.c.address) [
     | inl e ↦ c.free.ensures.gone s (subst (λ (n : ℕ). At c.free.new.self.slots n (Some s)) e at)
-    | inr ne ↦ c.loop-index.invariant.gone i s past (omega arith) (c.free.ensures.freed.only i s at)
+    | inr ne ↦ c.loop-index.invariant.gone i s past (omega arith) (c.free.ensures.freed.thinned.only i s at)
   ];
 }

@@ -7,6 +7,7 @@ use crate::{Addresses, Job};
 use drat_text::LineOut;
 use ring_port::{PlainPort, Starts};
 use sample_formula::Problem;
+use sample_port::{Crowd, Poll};
 use std::alloc::Global;
 use std::test::Fail;
 
@@ -25,6 +26,7 @@ pub(crate) fn begin<L: LineOut + Drop>(
     ensures job { IfOk result (λ begun. IsJobOf begun.0.state begun.1 × (begun.1.conflicts ≡ conflicts)) }
     ensures untouched { IfOk result (λ begun. IsUntouched begun.0.state) }
     ensures port { IfOk result (λ begun. IsPort begun.0.state) }
+    ensures held { IfOk result (λ begun. begun.0.state.held ≡ begun.0.state.start) }
 {
     let Problem {
         formula,
@@ -47,6 +49,34 @@ pub(crate) fn begin<L: LineOut + Drop>(
         start,
         conflicts,
         seed,
+    };
+    Ok((port, job))
+}
+
+/// The port of the second of three rings over a port in memory, and its job: another ring has the last clause, and hands it over
+/// at the first such poll.
+pub(crate) fn join_crowd<L: LineOut + Drop>(
+    alloc: Global,
+    inner: PlainPort<L>,
+    alone: Job,
+    gift: Option<Poll>,
+    quiet: u64,
+    memory: bool,
+) -> Result<(Crowd<L>, Job), Fail>
+    requires job { IsJobOf inner.state alone }
+    requires untouched { IsUntouched inner.state }
+    requires port { IsPort inner.state }
+    requires held { inner.state.held ≡ inner.state.start }
+    ensures job { IfOk result (λ joined. IsJobOf joined.0 joined.1) }
+    ensures untouched { IfOk result (λ joined. IsUntouched joined.0) }
+    ensures port { IfOk result (λ joined. IsPort joined.0) }
+{
+    let (port, start) = Crowd::over(alloc, inner, gift, quiet, memory)?;
+    let job = Job {
+        ring: 1,
+        rings: 3,
+        start: Addresses::from_vec(start),
+        ..alone
     };
     Ok((port, job))
 }

@@ -1,6 +1,6 @@
-//! The second of three rings: another ring's stop appears, and each line is refused.
-ghost use Rattle.std.specs.Prelude.{◌≡◌, None};
-ghost use Rattle.ring_port.specs.PortState.{IsPort, HoldsStart};
+//! The second of three rings: another ring's stop appears, a clause is handed over, and each line is refused.
+ghost use Rattle.std.specs.Prelude.{◌≡◌, None, map, IfOk};
+ghost use Rattle.ring_port.specs.PortState.{Holding, IsPort, HoldsStart};
 ghost use Rattle.sample_port.specs.Crowd.{crowd_of};
 
 use drat_text::LineOut;
@@ -8,6 +8,7 @@ use ring_port::{PlainPort, Port, PortStop, Set};
 use sat_words::{Cref, Head, Lit, NoRoom, STOP_SAT, Stop};
 use std::alloc::Global;
 use std::marker::Model;
+use std::test::Fail;
 
 /// A look for a clause of another ring.
 #[derive(Clone, Copy, PartialEq, Eq, Debug)]
@@ -18,11 +19,17 @@ pub struct Poll {
     pub class: u8,
 }
 
-/// The port of the second of three rings, over what a port in memory holds. Another ring's stop appears after so many looks,
-/// and no line can be written.
+/// The port of the second of three rings, over what a port in memory holds. The last clause of that is another ring's, which
+/// may hand it over. Another ring's stop appears after so many looks, and no line can be written.
 #[derive(Drop)]
 pub struct Crowd<L: LineOut> {
     inner: PlainPort<L>,
+    /// Where the other ring's clause is.
+    last: Cref,
+    /// At which poll it is handed over.
+    gift: Option<Poll>,
+    /// The clause, once it was taken.
+    taken: Option<Cref>,
     stop: Option<Stop>,
     looks: u64,
     refused: Option<PortStop>,
@@ -39,13 +46,13 @@ pub struct Crowd<L: LineOut> {
 
 impl<L: LineOut> Model for Crowd<L> {
     ghost use Rattle.ring_port.specs.PortState.{PortState, IsPort};
-    ghost use Rattle.sample_port.specs.Crowd.{crowd_of};
+    ghost use Rattle.sample_port.specs.Crowd.{crowd_of, IsLast};
 
     ghost Value = { PortState };
 
-    ghost view = { λ p. crowd_of p.inner.state p.stop p.looks p.refused p.polled };
+    ghost view = { λ p. crowd_of p.inner.state p.taken p.stop p.looks p.refused p.polled };
 
-    ghost invariant = { λ p. IsPort (crowd_of p.inner.state p.stop p.looks p.refused p.polled) };
+    ghost invariant = { λ p. IsPort (crowd_of p.inner.state p.taken p.stop p.looks p.refused p.polled) × IsLast p.inner.state p.last.address × IsPort p.inner.state };
 }
 
 /// The stop of the third ring.
@@ -59,25 +66,6 @@ pub fn third_stop() -> Stop
 }
 
 impl<L: LineOut> Crowd<L> {
-    /// Over this port. So many looks find no stop; lines lack memory, or room.
-    pub fn over(alloc: Global, inner: PlainPort<L>, quiet: u64, memory: bool) -> Crowd<L>
-        requires { IsPort inner.state }
-        ensures port { result ≡ crowd_of inner.state None 0 None 0 }
-        ensures holds { HoldsStart inner.state → HoldsStart result }
-    {
-        Crowd {
-            inner,
-            stop: None,
-            looks: 0,
-            refused: None,
-            quiet,
-            memory,
-            glue: None,
-            polled: 0,
-            polls: Vec::new(alloc),
-        }
-    }
-
     /// The glue that the last lemma came with.
     pub fn glue(&self) -> Option<u32> {
         self.glue
@@ -99,6 +87,43 @@ impl<L: LineOut> Crowd<L> {
 }
 
 impl<L: LineOut + Drop> Crowd<L> {
+    /// Over this port, whose last clause another ring has: with the addresses of the others, which the ring starts with. The
+    /// clause is handed over at the first such poll, or never. So many looks find no stop; lines lack memory, or room.
+    pub fn over(
+        alloc: Global,
+        inner: PlainPort<L>,
+        gift: Option<Poll>,
+        quiet: u64,
+        memory: bool,
+    ) -> Result<(Crowd<L>, Vec<Cref>), Fail>
+        requires port { IsPort inner.state }
+        requires held { inner.state.held ≡ inner.state.start }
+        requires holds { HoldsStart inner.state }
+        ensures port { IfOk result (λ made. made.0 ≡ crowd_of inner.state None None 0 None 0) }
+        ensures holds { IfOk result (λ made. HoldsStart made.0) }
+        ensures start { IfOk result (λ made. made.1.items ≡ map (λ (h : Holding). record { address = h.address }) made.0.start) }
+    {
+        let mut start = inner.start(alloc)?;
+        let Some(last) = start.pop() else {
+            return Err("no clause for the other ring".into());
+        };
+        let crowd = Crowd {
+            inner,
+            last,
+            gift,
+            taken: None,
+            stop: None,
+            looks: 0,
+            refused: None,
+            quiet,
+            memory,
+            glue: None,
+            polled: 0,
+            polls: Vec::new(alloc),
+        };
+        Ok((crowd, start))
+    }
+
     /// Which ring was polled and for which class, in order.
     pub fn into_polls(self) -> Vec<Poll> {
         self.polls
@@ -170,13 +195,23 @@ impl<L: LineOut> Port for Crowd<L> {
         unreachable!()
     }
 
-    /// Nothing is there.
+    /// Nothing is there but the clause of the other ring.
     fn poll(&mut self, from: u32, class: u8) -> Result<Option<Cref>, PortStop> {
-        if self.polls.push(Poll { from, class }).is_err() {
+        let poll = Poll { from, class };
+        if self.polls.push(poll).is_err() {
             return Err(PortStop::Memory);
         }
         self.polled = self.polled.saturating_add(1);
-        Ok(None)
+        if self.gift != Some(poll) {
+            return Ok(None);
+        }
+        match self.taken {
+            Some(_) => Ok(None),
+            None => {
+                self.taken = Some(self.last);
+                Ok(Some(self.last))
+            }
+        }
     }
 
     fn next_unit(&mut self) -> Option<Lit> {

@@ -4,3 +4,4 @@ pub mod Choice
 pub mod Ranking
 pub mod Dropping
 pub mod Reduction
+pub mod Row

@@ -10,3 +10,4 @@ pub mod PlainSteps
 pub mod Units
 pub mod Beginnings
 pub mod Refuted
+pub mod Examples

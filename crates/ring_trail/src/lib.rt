@@ -17,3 +17,6 @@ pub use laws::{
 };
 pub use step::Step;
 pub use trail::Trail;
+
+#[cfg(test)]
+mod tests;

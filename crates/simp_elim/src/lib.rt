@@ -10,3 +10,6 @@ mod passes;
 mod resolution;
 
 pub use passes::run;
+
+#[cfg(test)]
+mod tests;

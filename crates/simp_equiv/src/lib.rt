@@ -13,3 +13,6 @@ mod table;
 mod targets;
 
 pub use passes::run;
+
+#[cfg(test)]
+mod tests;

@@ -9,3 +9,6 @@ mod relation;
 mod signature;
 
 pub use passes::run;
+
+#[cfg(test)]
+mod tests;

@@ -8,3 +8,6 @@ mod propagate;
 mod start;
 
 pub use passes::run;
+
+#[cfg(test)]
+mod tests;

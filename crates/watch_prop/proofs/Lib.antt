@@ -12,6 +12,7 @@ pub mod Detaching
 pub mod Among
 pub mod TrailLaws
 pub mod DetachingLaws
+pub mod Sample
 pub mod TrailRounds
 pub mod Decisions
 pub mod Agreeing

@@ -1,5 +1,0 @@
-pub mod PortCalls
-pub mod AnalysisTrails
-pub mod EmptyTrails
-pub mod ReductionRow
-pub mod VivificationRow

@@ -1,2 +1,0 @@
-pub mod ReductionRow
-pub mod VivificationRow

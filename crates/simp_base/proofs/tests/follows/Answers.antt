@@ -1,0 +1,18 @@
+use Rattle.std.proofs.Common.{◌≡◌, ◌∙◌, ℕ, Bool, true, sym, subst, List, [], ◌∷◌, inl, inr, Contains, Result, Ok, Err, IfOk}
+use Rattle.sat_words.specs.Literal.{Literal}
+use Rattle.rup_model.specs.Rup.{rup}
+use Rattle.rup_model.proofs.Lists.{In, In_append_left, In_map, Contains_In}
+use Rattle.rup_model.proofs.Growth.{rup_more}
+use Rattle.simp_base.specs.WorkState.{WorkState, known, lists, unit_clauses}
+use Rattle.simp_base.proofs.tests.follows.Goals as goal
+
+among_known : (w : WorkState) (n : ℕ) (c : List Literal) → Contains w.clauses (n, c) → (x : List Literal) → In x (c ∷ []) → In x (known w)
+among_known w n c i x (inl e) = subst (λ d. In d (known w)) e (In_append_left (lists w.clauses) (unit_clauses w.units) c (In_map (λ (y : ℕ × List Literal). y.1) w.clauses (n, c) (Contains_In w.clauses (n, c) i)))
+among_known w n c i x (inr h) = absurd h
+
+from_one : {E : Type 0} (w : WorkState) (n : ℕ) (c lits : List Literal) (r : Result Bool E) → Contains w.clauses (n, c) → IfOk r (λ yes. yes ≡ rup (c ∷ []) lits) → IfOk r (λ yes. yes ≡ true → rup (known w) lits ≡ true)
+from_one w n c lits (Ok answer) i e = λ t. rup_more (c ∷ []) (known w) lits (among_known w n c i) (sym e ∙ t)
+from_one w n c lits (Err x) i e = e
+
+pub returns : goal.returns
+returns g c = from_one c.args.work.now c.args.number c.in-Some.clause.now c.args.lits.now c.is_rup.result c.in-Some.ensures.some (subst (λ (d : List Literal). IfOk c.is_rup.result (λ yes. yes ≡ rup (d ∷ []) c.args.lits.now)) (c.in_ok-from_slice.ensures ∙ c.lits.ensures.value) c.is_rup.ensures)

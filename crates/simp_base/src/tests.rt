@@ -1,0 +1,97 @@
+ghost use Rattle.std.specs.Prelude.{◌≡◌, true, IfOk};
+ghost use Rattle.rup_model.specs.Rup.{rup};
+ghost use Rattle.simp_base.specs.WorkState.{known};
+
+use crate::{LineStop, Work, is_tautology, takes_part};
+use drat_text::{CountedLines, LineOut, SinkLines};
+use io_edge::MemSink;
+use rup_model::is_rup;
+use sat_words::{Clause, Formula, Lit, Lits};
+use std::alloc::{AllocError, Global};
+use std::test::Fail;
+
+/// Whether the clause of these literals follows from the one with this number alone.
+fn follows<L: LineOut>(
+    alloc: Global,
+    work: &Work<L>,
+    number: u64,
+    lits: &[Lit],
+) -> Result<bool, AllocError>
+    ensures { IfOk result (λ yes. yes ≡ true → rup (known work.now) lits.now ≡ true) }
+{
+    let Some(clause) = work.clause(number) else {
+        return Ok(false);
+    };
+    let only = [Lits::from_slice(alloc, clause.lits())?];
+    is_rup(alloc, &only, lits)
+}
+
+#[test]
+fn each_call_goes_well(rt: HostRuntime) -> Result<(), Fail> {
+    let alloc = rt.alloc();
+    let one = Lit::new(1, false);
+    let two = Lit::new(2, false);
+    let mut formula = Formula::new(alloc, 2);
+    formula.push(Clause::from_lits(alloc, &[one])?)?;
+    let Ok(lines) = SinkLines::new(alloc, 1, MemSink::new(alloc, 64, &[])?) else {
+        return Err("no memory".into());
+    };
+    let Ok(work) = Work::new(alloc, &formula, lines) else {
+        return Err("no memory".into());
+    };
+    let mut work = work;
+    assert!(rt; work.numbers_with(one).is_ok());
+    assert!(rt; work.occurrences(one) == [1].as_slice());
+    assert_eq!(rt; work.last_number(), 1);
+    assert_eq!(rt; work.line_count(), 0);
+    assert!(rt; work.has_unit(1));
+    assert!(rt; !work.has_unit(2));
+    assert!(rt;
+        work.push_fix(two, Clause::from_lits(alloc, &[two, one])?)
+            .is_ok()
+    );
+    assert!(rt; follows(alloc, &work, 1, &[one, two])?);
+    assert!(rt; work.add_rup(&[one, two]) == Ok(2));
+    assert!(rt; follows(alloc, &work, 1, &[one])?);
+    assert!(rt; work.unit(one).is_ok());
+    assert_eq!(rt; work.line_count(), 1);
+    let parts = work.into_parts();
+    assert_eq!(rt; parts.clauses.len(), 2);
+    assert!(rt; parts.units.as_slice() == [one].as_slice());
+    let (end, sink) = parts.output.finish();
+    assert!(rt; end.is_ok());
+    assert!(rt; sink.bytes() == b"1 2 0\n".as_slice());
+    Ok(())
+}
+
+#[test]
+fn a_deletion_and_a_fault(rt: HostRuntime) -> Result<(), Fail> {
+    let alloc = rt.alloc();
+    let one = Lit::new(1, false);
+    let two = Lit::new(2, false);
+    let mut formula = Formula::new(alloc, 2);
+    formula.push(Clause::from_lits(alloc, &[one, two])?)?;
+    for (failing, answer, left) in [(0, Ok(()), 0), (1, Err(LineStop::ProofFault), 1)] {
+        let lines = CountedLines::new(1, failing);
+        let Ok(work) = Work::new(alloc, &formula, lines) else {
+            return Err("no memory".into());
+        };
+        let mut work = work;
+        assert!(rt; work.delete(1) == answer);
+        assert_eq!(rt; work.into_parts().clauses.len(), left);
+    }
+    Ok(())
+}
+
+#[test]
+fn tautologies(rt: HostRuntime) -> Result<(), Fail> {
+    let alloc = rt.alloc();
+    let one = Lit::new(1, false);
+    let two = Lit::new(2, false);
+    assert!(rt; is_tautology(&Clause::from_lits(alloc, &[two, one, two.not()])?));
+    assert!(rt; !is_tautology(&Clause::from_lits(alloc, &[one.not(), two])?));
+    assert!(rt; takes_part(&Clause::from_lits(alloc, &[one.not(), two])?));
+    assert!(rt; !takes_part(&Clause::from_lits(alloc, &[two, one, one.not()])?));
+    assert!(rt; !takes_part(&Clause::from_lits(alloc, &[one])?));
+    Ok(())
+}

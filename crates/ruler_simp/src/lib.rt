@@ -8,14 +8,3 @@ mod starts;
 
 pub use passes::Pass;
 pub use ruling::{Outcome, Simplified, simplify};
-
-#[cfg(test)]
-mod tests;
-#[cfg(test)]
-mod trials;
-#[cfg(test)]
-mod trials_draws;
-#[cfg(test)]
-mod trials_models;
-#[cfg(test)]
-mod trials_plain;

@@ -21,6 +21,3 @@ pub use laws::{
 pub use part::takes_part;
 pub use tautology::is_tautology;
 pub use work::{Parts, Run, Work};
-
-#[cfg(test)]
-mod tests;

@@ -10,6 +10,3 @@ mod passes;
 mod resolution;
 
 pub use passes::run;
-
-#[cfg(test)]
-mod tests;

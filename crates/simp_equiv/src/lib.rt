@@ -13,6 +13,3 @@ mod table;
 mod targets;
 
 pub use passes::run;
-
-#[cfg(test)]
-mod tests;

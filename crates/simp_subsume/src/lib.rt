@@ -9,6 +9,3 @@ mod relation;
 mod signature;
 
 pub use passes::run;
-
-#[cfg(test)]
-mod tests;

@@ -8,6 +8,3 @@ mod propagate;
 mod start;
 
 pub use passes::run;
-
-#[cfg(test)]
-mod tests;

@@ -1,11 +1,11 @@
 ghost use Rattle.std.specs.Prelude.{◌≡◌, ◌≤◌, true, All};
 ghost use Rattle.sat_words.specs.Literal.{IsOn};
 
-use crate::run;
 use drat_text::{CountedLines, LineStop, SinkLines};
 use io_edge::MemSink;
 use sat_words::{Clause, Formula, Lit};
 use simp_base::{Run, Work};
+use simp_equiv::run;
 use std::alloc::Global;
 use std::process::Abort;
 use std::test::Fail;
@@ -23,39 +23,32 @@ struct Row {
 
 const ROWS: &[Row] = &[
     Row {
-        clauses: &[1, 0, -1, 2, 0],
+        clauses: &[1, -2, 0, -1, 2, 0, 1, 2, 3, 0],
         answer: Run::Done,
-        text: "2 0\nd -1 2 0\n",
-        units: &[1, 2],
-        left: 2,
+        text: "1 3 0\nd 1 -2 0\nd -1 2 0\nd 1 2 3 0\n",
+        units: &[],
+        left: 1,
     },
     Row {
-        clauses: &[1, 0, -1, 2, 3, 0],
-        answer: Run::Done,
-        text: "2 3 0\nd -1 2 3 0\n",
-        units: &[1],
-        left: 2,
+        clauses: &[1, 2, 0, 1, -2, 0, -1, 2, 0, -1, -2, 0],
+        answer: Run::Refuted,
+        text: "-1 0\n0\n",
+        units: &[-1],
+        left: 6,
     },
     Row {
-        clauses: &[1, 0, 1, -1, 2, 0, 2, 3, 0, 2, 3, 0],
+        clauses: &[3, 0, 2, 3, 0, -2, -3, 0, 1, -1, 2, 0],
         answer: Run::Done,
         text: "",
-        units: &[1],
+        units: &[],
         left: 4,
     },
     Row {
-        clauses: &[1, 0, -1, 0],
-        answer: Run::Refuted,
-        text: "0\n",
-        units: &[1],
-        left: 3,
-    },
-    Row {
-        clauses: &[2, 3, 0, 0],
-        answer: Run::Refuted,
-        text: "0\n",
-        units: &[],
-        left: 3,
+        clauses: &[1, 2, 0, -1, -2, 0, -1, 2, 0],
+        answer: Run::Done,
+        text: "-1 0\nd 1 2 0\nd -1 -2 0\nd -1 2 0\n",
+        units: &[-1],
+        left: 1,
     },
 ];
 
@@ -112,7 +105,7 @@ fn check_row(rt: &impl Abort, alloc: Global, row: &Row) -> Result<(), Fail> {
     assert!(rt; is_on(&formula));
     let sink = MemSink::new(alloc, 64, &[])?;
     let Ok(lines) = SinkLines::new(alloc, formula.clauses().len() as u64, sink) else {
-        return Err("no memory".into());
+        return Err("no memory for the lines".into());
     };
     let Ok(work) = Work::new(alloc, &formula, lines) else {
         return Err("no memory".into());
@@ -140,7 +133,7 @@ fn what_is_written_and_left(rt: HostRuntime) -> Result<(), Fail> {
 #[test]
 fn a_line_that_fails(rt: HostRuntime) -> Result<(), Fail> {
     let alloc = rt.alloc();
-    let formula = formula_of(alloc, &[1, 0, -1, 2, 0])?;
+    let formula = formula_of(alloc, &[1, -2, 0, -1, 2, 0, 1, 2, 3, 0])?;
     assert!(rt; is_on(&formula));
     let lines = CountedLines::new(formula.clauses().len() as u64, 1);
     let Ok(work) = Work::new(alloc, &formula, lines) else {
@@ -148,6 +141,6 @@ fn a_line_that_fails(rt: HostRuntime) -> Result<(), Fail> {
     };
     let mut work = work;
     assert!(rt; run(&mut work) == Err(LineStop::ProofFault));
-    assert_eq!(rt; work.into_parts().clauses.len(), 2);
+    assert_eq!(rt; work.into_parts().clauses.len(), 3);
     Ok(())
 }

@@ -2,9 +2,9 @@ ghost use Rattle.std.specs.Prelude.{◌≡◌, ◌≤◌, true, All};
 ghost use Rattle.sat_words.specs.Literal.{IsOn};
 ghost use Rattle.ruler_simp.specs.Ruled.{AreOn};
 
-use crate::{Outcome, Simplified, simplify};
 use drat_text::{CountedLines, LineStop, SinkLines};
 use io_edge::MemSink;
+use ruler_simp::{Outcome, Simplified, simplify};
 use sat_words::{Assignment, Clause, Formula, Lit};
 use std::alloc::{AllocError, Global};
 use std::process::Abort;

@@ -2,11 +2,11 @@ ghost use Rattle.std.specs.Prelude.{◌≡◌, true, IfOk};
 ghost use Rattle.rup_model.specs.Rup.{rup};
 ghost use Rattle.simp_base.specs.WorkState.{known};
 
-use crate::{LineStop, Work, is_tautology, takes_part};
 use drat_text::{CountedLines, LineOut, SinkLines};
 use io_edge::MemSink;
 use rup_model::is_rup;
 use sat_words::{Clause, Formula, Lit, Lits};
+use simp_base::{LineStop, Work, is_tautology, takes_part};
 use std::alloc::{AllocError, Global};
 use std::test::Fail;
 

@@ -1,20 +1,21 @@
 ghost use Rattle.std.specs.Prelude.{◌≡◌, ◌≤◌, true, All};
 ghost use Rattle.sat_words.specs.Literal.{IsOn};
 
-use crate::run;
 use drat_text::{CountedLines, LineStop, SinkLines};
 use io_edge::MemSink;
 use sat_words::{Clause, Formula, Lit};
 use simp_base::{Run, Work};
+use simp_units::run;
 use std::alloc::Global;
 use std::process::Abort;
 use std::test::Fail;
 
-/// Clauses on three variables, each with a 0 behind it, and what is wanted: the lines, the units and how many clauses are
-/// left.
+/// Clauses on three variables, each with a 0 behind it, and what is wanted: the answer, the lines, the units and how many
+/// clauses are left.
 #[derive(Clone, Copy)]
 struct Row {
     clauses: &'static [i32],
+    answer: Run,
     text: &'static str,
     units: &'static [i32],
     left: usize,
@@ -22,27 +23,38 @@ struct Row {
 
 const ROWS: &[Row] = &[
     Row {
-        clauses: &[1, 2, 0, 1, 2, 3, 0],
-        text: "d 1 2 3 0\n",
-        units: &[],
-        left: 1,
-    },
-    Row {
-        clauses: &[1, 2, 0, -1, 2, 3, 0],
-        text: "2 3 0\nd -1 2 3 0\n",
-        units: &[],
+        clauses: &[1, 0, -1, 2, 0],
+        answer: Run::Done,
+        text: "2 0\nd -1 2 0\n",
+        units: &[1, 2],
         left: 2,
     },
     Row {
-        clauses: &[1, 2, 0, 1, 2, 0, 1, -1, 2, 0, 3, 0, 2, 3, 0],
-        text: "d 1 2 0\n",
-        units: &[],
+        clauses: &[1, 0, -1, 2, 3, 0],
+        answer: Run::Done,
+        text: "2 3 0\nd -1 2 3 0\n",
+        units: &[1],
+        left: 2,
+    },
+    Row {
+        clauses: &[1, 0, 1, -1, 2, 0, 2, 3, 0, 2, 3, 0],
+        answer: Run::Done,
+        text: "",
+        units: &[1],
         left: 4,
     },
     Row {
-        clauses: &[1, 2, 3, 0, -1, 2, 3, 0, -2, 3, 0],
-        text: "2 3 0\nd -1 2 3 0\n1 3 0\nd 1 2 3 0\n3 0\nd 2 3 0\n",
-        units: &[3],
+        clauses: &[1, 0, -1, 0],
+        answer: Run::Refuted,
+        text: "0\n",
+        units: &[1],
+        left: 3,
+    },
+    Row {
+        clauses: &[2, 3, 0, 0],
+        answer: Run::Refuted,
+        text: "0\n",
+        units: &[],
         left: 3,
     },
 ];
@@ -100,13 +112,13 @@ fn check_row(rt: &impl Abort, alloc: Global, row: &Row) -> Result<(), Fail> {
     assert!(rt; is_on(&formula));
     let sink = MemSink::new(alloc, 64, &[])?;
     let Ok(lines) = SinkLines::new(alloc, formula.clauses().len() as u64, sink) else {
-        return Err("no memory for the lines".into());
+        return Err("no memory".into());
     };
     let Ok(work) = Work::new(alloc, &formula, lines) else {
         return Err("no memory".into());
     };
     let mut work = work;
-    assert!(rt; run(&mut work) == Ok(Run::Done), "{text}");
+    assert!(rt; run(&mut work) == Ok(row.answer), "{text}");
     let parts = work.into_parts();
     let units = literals(alloc, row.units)?;
     let (end, sink) = parts.output.finish();
@@ -128,7 +140,7 @@ fn what_is_written_and_left(rt: HostRuntime) -> Result<(), Fail> {
 #[test]
 fn a_line_that_fails(rt: HostRuntime) -> Result<(), Fail> {
     let alloc = rt.alloc();
-    let formula = formula_of(alloc, &[1, 2, 3, 0, 1, 2, 0])?;
+    let formula = formula_of(alloc, &[1, 0, -1, 2, 0])?;
     assert!(rt; is_on(&formula));
     let lines = CountedLines::new(formula.clauses().len() as u64, 1);
     let Ok(work) = Work::new(alloc, &formula, lines) else {

@@ -1,21 +1,21 @@
 ghost use Rattle.std.specs.Prelude.{◌≡◌, ◌≤◌, true, All};
 ghost use Rattle.sat_words.specs.Literal.{IsOn};
+ghost use Rattle.simp_base.specs.WorkState.{IsWork};
 
-use crate::run;
 use drat_text::{CountedLines, LineStop, SinkLines};
 use io_edge::MemSink;
-use sat_words::{Clause, Formula, Lit};
+use sat_words::{Assignment, Clause, Formula, Lit};
 use simp_base::{Run, Work};
-use std::alloc::Global;
+use simp_elim::run;
+use std::alloc::{AllocError, Global};
 use std::process::Abort;
 use std::test::Fail;
 
-/// Clauses on three variables, each with a 0 behind it, and what is wanted: the answer, the lines, the units and how many
-/// clauses are left.
+/// Clauses on four variables, each with a 0 behind it, and what is wanted: the lines, the units and how many clauses are
+/// left.
 #[derive(Clone, Copy)]
 struct Row {
     clauses: &'static [i32],
-    answer: Run,
     text: &'static str,
     units: &'static [i32],
     left: usize,
@@ -23,32 +23,22 @@ struct Row {
 
 const ROWS: &[Row] = &[
     Row {
-        clauses: &[1, -2, 0, -1, 2, 0, 1, 2, 3, 0],
-        answer: Run::Done,
-        text: "1 3 0\nd 1 -2 0\nd -1 2 0\nd 1 2 3 0\n",
+        clauses: &[1, 3, 0, 2, -3, 0],
+        text: "d 1 3 0\nd 2 -3 0\n",
         units: &[],
-        left: 1,
+        left: 0,
     },
     Row {
-        clauses: &[1, 2, 0, 1, -2, 0, -1, 2, 0, -1, -2, 0],
-        answer: Run::Refuted,
-        text: "-1 0\n0\n",
-        units: &[-1],
-        left: 6,
-    },
-    Row {
-        clauses: &[3, 0, 2, 3, 0, -2, -3, 0, 1, -1, 2, 0],
-        answer: Run::Done,
-        text: "",
+        clauses: &[1, 2, 0, 1, 4, 0, -1, 3, 0],
+        text: "2 3 0\n3 4 0\nd 1 2 0\nd 1 4 0\nd -1 3 0\nd 2 3 0\nd 3 4 0\n",
         units: &[],
-        left: 4,
+        left: 0,
     },
     Row {
-        clauses: &[1, 2, 0, -1, -2, 0, -1, 2, 0],
-        answer: Run::Done,
-        text: "-1 0\nd 1 2 0\nd -1 -2 0\nd -1 2 0\n",
-        units: &[-1],
-        left: 1,
+        clauses: &[1, 2, 0, -1, 2, 0, 3, 0, 3, 4, 0, 4, -4, 0],
+        text: "2 0\nd 1 2 0\nd -1 2 0\nd 3 4 0\n",
+        units: &[2],
+        left: 3,
     },
 ];
 
@@ -70,7 +60,7 @@ fn is_on(formula: &Formula) -> bool
 
 fn literal(number: i32) -> Result<Lit, Fail> {
     let var = number.unsigned_abs();
-    if 1 <= var && var <= 3 {
+    if 1 <= var && var <= 4 {
         Ok(Lit::new(var, number < 0))
     } else {
         Err("no variable".into())
@@ -86,7 +76,7 @@ fn literals(alloc: Global, numbers: &[i32]) -> Result<Vec<Lit>, Fail> {
 }
 
 fn formula_of(alloc: Global, numbers: &[i32]) -> Result<Formula, Fail> {
-    let mut formula = Formula::new(alloc, 3);
+    let mut formula = Formula::new(alloc, 4);
     let mut lits = Vec::new(alloc);
     for number in numbers {
         if *number == 0 {
@@ -111,7 +101,7 @@ fn check_row(rt: &impl Abort, alloc: Global, row: &Row) -> Result<(), Fail> {
         return Err("no memory".into());
     };
     let mut work = work;
-    assert!(rt; run(&mut work) == Ok(row.answer), "{text}");
+    assert!(rt; run(&mut work) == Ok(Run::Done), "{text}");
     let parts = work.into_parts();
     let units = literals(alloc, row.units)?;
     let (end, sink) = parts.output.finish();
@@ -133,7 +123,7 @@ fn what_is_written_and_left(rt: HostRuntime) -> Result<(), Fail> {
 #[test]
 fn a_line_that_fails(rt: HostRuntime) -> Result<(), Fail> {
     let alloc = rt.alloc();
-    let formula = formula_of(alloc, &[1, -2, 0, -1, 2, 0, 1, 2, 3, 0])?;
+    let formula = formula_of(alloc, &[1, 3, 0, 2, -3, 0])?;
     assert!(rt; is_on(&formula));
     let lines = CountedLines::new(formula.clauses().len() as u64, 1);
     let Ok(work) = Work::new(alloc, &formula, lines) else {
@@ -141,6 +131,34 @@ fn a_line_that_fails(rt: HostRuntime) -> Result<(), Fail> {
     };
     let mut work = work;
     assert!(rt; run(&mut work) == Err(LineStop::ProofFault));
-    assert_eq!(rt; work.into_parts().clauses.len(), 3);
+    assert_eq!(rt; work.into_parts().clauses.len(), 2);
+    Ok(())
+}
+
+/// The assignment that is false everywhere, mended by the stack.
+fn mended(alloc: Global, work: Work<CountedLines>) -> Result<Assignment, AllocError>
+    requires { IsWork work }
+{
+    let mut model = Assignment::new(alloc, work.vars())?;
+    let parts = work.into_parts();
+    parts.stack.extend(&mut model);
+    Ok(model)
+}
+
+#[test]
+fn a_model_comes_back(rt: HostRuntime) -> Result<(), Fail> {
+    let alloc = rt.alloc();
+    let formula = formula_of(alloc, &[1, 2, 0, 1, 4, 0, -1, 3, 0])?;
+    assert!(rt; is_on(&formula));
+    let lines = CountedLines::new(formula.clauses().len() as u64, 0);
+    let Ok(work) = Work::new(alloc, &formula, lines) else {
+        return Err("no memory".into());
+    };
+    let mut work = work;
+    assert!(rt; run(&mut work) == Ok(Run::Done));
+    let model = mended(alloc, work)?;
+    for (var, value) in [(1, true), (2, false), (3, true), (4, false)] {
+        assert_eq!(rt; model.value(var), value);
+    }
     Ok(())
 }

@@ -1,24 +1,23 @@
-//! Tests of the ruler and its simplifiers, and of the work that they change. There is nothing else here, so that each of their
-//! bodies is proved once.
+//! Tests of the simplifiers and of the work that they change, with what makes small formulas and works for them.
 #![tactic(auto)]
 
+mod following;
+mod formulas;
+mod works;
+
+pub use following::follows;
+pub use formulas::{formula_of, is_on, literal, literals};
+pub use works::{counted_lines, counted_work, text_lines, text_work};
+
 #[cfg(test)]
-mod tests_base;
+mod base;
 #[cfg(test)]
-mod tests_elim;
+mod elimination;
 #[cfg(test)]
-mod tests_equiv;
+mod equivalence;
 #[cfg(test)]
-mod tests_ruler;
+mod rows;
 #[cfg(test)]
-mod tests_subsume;
+mod subsumption;
 #[cfg(test)]
-mod tests_units;
-#[cfg(test)]
-mod trials;
-#[cfg(test)]
-mod trials_draws;
-#[cfg(test)]
-mod trials_models;
-#[cfg(test)]
-mod trials_plain;
+mod units;

@@ -2,7 +2,7 @@ ghost use Rattle.std.specs.Prelude.{◌≤◌};
 
 // What the simplifiers' definitions say, run the slow way.
 
-use crate::trials_draws::VARS;
+use crate::VARS;
 use sat_words::{Clause, Lit};
 use simp_base::Run;
 use std::alloc::{AllocError, Global};

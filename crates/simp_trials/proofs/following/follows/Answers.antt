@@ -4,7 +4,7 @@ use Rattle.rup_model.specs.Rup.{rup}
 use Rattle.rup_model.proofs.Lists.{In, In_append_left, In_map, Contains_In}
 use Rattle.rup_model.proofs.Growth.{rup_more}
 use Rattle.simp_base.specs.WorkState.{WorkState, known, lists, unit_clauses}
-use Rattle.simp_trials.proofs.tests_base.follows.Goals as goal
+use Rattle.simp_trials.proofs.following.follows.Goals as goal
 
 among_known : (w : WorkState) (n : ℕ) (c : List Literal) → Contains w.clauses (n, c) → (x : List Literal) → In x (c ∷ []) → In x (known w)
 among_known w n c i x (inl e) = subst (λ d. In d (known w)) e (In_append_left (lists w.clauses) (unit_clauses w.units) c (In_map (λ (y : ℕ × List Literal). y.1) w.clauses (n, c) (Contains_In w.clauses (n, c) i)))

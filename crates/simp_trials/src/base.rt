@@ -1,30 +1,9 @@
-ghost use Rattle.std.specs.Prelude.{◌≡◌, true, IfOk};
-ghost use Rattle.rup_model.specs.Rup.{rup};
-ghost use Rattle.simp_base.specs.WorkState.{known};
-
-use drat_text::{CountedLines, LineOut, SinkLines};
+use crate::follows;
+use drat_text::{CountedLines, SinkLines};
 use io_edge::MemSink;
-use rup_model::is_rup;
-use sat_words::{Clause, Formula, Lit, Lits};
+use sat_words::{Clause, Formula, Lit};
 use simp_base::{LineStop, Work, is_tautology, takes_part};
-use std::alloc::{AllocError, Global};
 use std::test::Fail;
-
-/// Whether the clause of these literals follows from the one with this number alone.
-fn follows<L: LineOut>(
-    alloc: Global,
-    work: &Work<L>,
-    number: u64,
-    lits: &[Lit],
-) -> Result<bool, AllocError>
-    ensures { IfOk result (λ yes. yes ≡ true → rup (known work.now) lits.now ≡ true) }
-{
-    let Some(clause) = work.clause(number) else {
-        return Ok(false);
-    };
-    let only = [Lits::from_slice(alloc, clause.lits())?];
-    is_rup(alloc, &only, lits)
-}
 
 #[test]
 fn each_call_goes_well(rt: HostRuntime) -> Result<(), Fail> {

@@ -1,17 +1,16 @@
+//! Assignments to all variables, tried one after another.
 ghost use Rattle.std.specs.Prelude.{◌≡◌, ◌≤◌, All, IfOk, length};
 
-// Assignments to all variables, tried one after another.
-
-use crate::trials_draws::VARS;
+use crate::draws::VARS;
 use model_stack::Stack;
 use sat_words::{Assignment, Clause, Formula, Lit};
 use std::alloc::{AllocError, Global};
 
 /// How many assignments there are.
-pub(crate) const ASSIGNMENTS: u32 = 1 << VARS;
+pub const ASSIGNMENTS: u32 = 1 << VARS;
 
 /// The assignment with this number: its bits are the values.
-pub(crate) fn assignment_of(alloc: Global, number: u32) -> Result<Assignment, AllocError>
+pub fn assignment_of(alloc: Global, number: u32) -> Result<Assignment, AllocError>
     ensures { IfOk result (λ a. length a ≡ 6) }
 {
     let mut values = Assignment::new(alloc, VARS)?;
@@ -22,14 +21,14 @@ pub(crate) fn assignment_of(alloc: Global, number: u32) -> Result<Assignment, Al
 }
 
 /// Whether it makes each clause and each unit true.
-pub(crate) fn is_model_of(values: &Assignment, clauses: &[(u64, Clause)], units: &[Lit]) -> bool {
+pub fn is_model_of(values: &Assignment, clauses: &[(u64, Clause)], units: &[Lit]) -> bool {
     clauses.iter().all(|cell| values.clause_true(&cell.1))
         && units.iter().all(|unit| values.truth_of_lit(*unit))
 }
 
 /// Whether each model of what is left becomes one of the formula over the stack, and something is left of a formula that
 /// has a model.
-pub(crate) fn models_lift(
+pub fn models_lift(
     alloc: Global,
     formula: &Formula,
     clauses: &[(u64, Clause)],
@@ -55,7 +54,7 @@ pub(crate) fn models_lift(
 }
 
 /// Whether no assignment makes each clause true.
-pub(crate) fn has_no_model(alloc: Global, formula: &Formula) -> Result<bool, AllocError> {
+pub fn has_no_model(alloc: Global, formula: &Formula) -> Result<bool, AllocError> {
     for number in 0..ASSIGNMENTS {
         if assignment_of(alloc, number)?.formula_true(formula) {
             return Ok(false);

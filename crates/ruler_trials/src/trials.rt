@@ -1,16 +1,15 @@
-ghost use Rattle.std.specs.Prelude.{◌≡◌, ◌≤◌, true, false, All, IfOk};
-ghost use Rattle.sat_words.specs.Literal.{IsOn};
+ghost use Rattle.std.specs.Prelude.{◌≡◌, ◌≤◌, false, All, IfOk};
 ghost use Rattle.simp_base.specs.WorkState.{IsWork};
 
 // Trials: each simplifier over many formulas. What it came to is what its definition, run the slow way, comes to; a formula that it
 // refutes has no model, and the models of what is left become models of the formula.
 
-use crate::trials_draws::draw_formula;
-use crate::trials_models::{has_no_model, models_lift};
-use crate::trials_plain::{are_units_taken, is_eliminated, is_reduced, is_substituted};
+use crate::plain::{are_units_taken, is_eliminated, is_reduced, is_substituted};
+use crate::{draw_formula, has_no_model, models_lift};
 use drat_text::CountedLines;
-use sat_words::{Clause, Formula};
+use sat_words::Formula;
 use simp_base::{Parts, Run, Work};
+use simp_trials::{counted_work, is_on};
 use std::alloc::Global;
 use std::process::Abort;
 use std::test::Fail;
@@ -18,31 +17,11 @@ use std::test::Fail;
 /// How many formulas each one is tried on.
 const TRIALS: u64 = 300;
 
-fn is_clause_on(vars: u32, clause: &Clause) -> bool
-    ensures { result ≡ true → All (IsOn vars) clause.now }
-{
-    clause.lits().iter().all(|lit| lit.var() <= vars)
-}
-
-fn is_on(formula: &Formula) -> bool
-    ensures { result ≡ true → All (All (IsOn formula.now.vars)) formula.now.clauses }
-{
-    let vars = formula.vars();
-    formula
-        .clauses()
-        .iter()
-        .all(|clause| is_clause_on(vars, clause))
-}
-
 fn work_on(rt: &impl Abort, alloc: Global, formula: &Formula) -> Result<Work<CountedLines>, Fail>
     ensures { IfOk result (λ w. (w.vars ≡ formula.now.vars) × (w.output.spent ≡ false) × (w.ended ≡ false) × IsWork w) }
 {
     assert!(rt; is_on(formula));
-    let lines = CountedLines::new(formula.clauses().len() as u64, 0);
-    match Work::new(alloc, formula, lines) {
-        Ok(work) => Ok(work),
-        Err(_) => Err("no memory".into()),
-    }
+    counted_work(alloc, formula, 0)
 }
 
 /// What is left has models just where the formula has, and they become models of it.

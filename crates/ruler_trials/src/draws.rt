@@ -1,7 +1,6 @@
+//! Small random formulas.
 ghost use Rattle.std.specs.Prelude.{◌≡◌, IfOk};
 ghost use Rattle.sat_words.specs.Literal.{IsOn};
-
-// Small random formulas.
 
 use rand_core::utils::NextWord;
 use rand_pcg::Lcg64Xsh32;
@@ -9,7 +8,7 @@ use sat_words::{Clause, Formula, Lit};
 use std::alloc::{AllocError, Global};
 
 /// The variables of each formula are 1 to this one.
-pub(crate) const VARS: u32 = 6;
+pub const VARS: u32 = 6;
 
 /// A literal of these variables.
 fn draw_lit(words: &mut Lcg64Xsh32) -> Lit
@@ -32,7 +31,7 @@ fn draw_clause(alloc: Global, words: &mut Lcg64Xsh32) -> Result<Clause, AllocErr
 }
 
 /// A formula of four clauses to nineteen, by its number.
-pub(crate) fn draw_formula(alloc: Global, number: u64) -> Result<Formula, AllocError>
+pub fn draw_formula(alloc: Global, number: u64) -> Result<Formula, AllocError>
     ensures { IfOk result (λ formula. formula.vars ≡ 6) }
 {
     let mut words = Lcg64Xsh32::new(number, 0);

@@ -1,16 +1,18 @@
-ghost use Rattle.std.specs.Prelude.{◌≡◌, ◌≤◌, true, All};
-ghost use Rattle.sat_words.specs.Literal.{IsOn};
 ghost use Rattle.ruler_simp.specs.Ruled.{AreOn};
 
-use drat_text::{CountedLines, LineStop, SinkLines};
-use io_edge::MemSink;
+use crate::{model_of, numbers_of};
+use drat_text::LineStop;
 use ruler_simp::{Outcome, Simplified, simplify};
-use sat_words::{Assignment, Clause, Formula, Lit};
-use std::alloc::{AllocError, Global};
+use sat_words::Formula;
+use simp_trials::{counted_lines, formula_of, is_on, literals, text_lines};
+use std::alloc::Global;
 use std::process::Abort;
 use std::test::Fail;
 
-/// Clauses on seven variables, each with a 0 behind it, and a number of rounds; the lines that are wanted, and what is left:
+/// The variables of each row are 1 to this one.
+const VARS: u32 = 7;
+
+/// Clauses on these variables, each with a 0 behind it, and a number of rounds; the lines that are wanted, and what is left:
 /// the numbers of the start clauses and the units, or nothing where the formula is refuted.
 #[derive(Clone, Copy)]
 struct Row {
@@ -99,74 +101,6 @@ const TWICE: &[i32] = &[
     0, 2, 5, -7, 0, 1, -2, 0, -2, 3, 6, 0,
 ];
 
-fn is_clause_on(vars: u32, clause: &Clause) -> bool
-    ensures { result ≡ true → All (IsOn vars) clause.now }
-{
-    clause.lits().iter().all(|lit| lit.var() <= vars)
-}
-
-fn is_on(formula: &Formula) -> bool
-    ensures { result ≡ true → All (All (IsOn formula.now.vars)) formula.now.clauses }
-{
-    let vars = formula.vars();
-    formula
-        .clauses()
-        .iter()
-        .all(|clause| is_clause_on(vars, clause))
-}
-
-fn literal(number: i32) -> Result<Lit, Fail> {
-    let var = number.unsigned_abs();
-    if 1 <= var && var <= 7 {
-        Ok(Lit::new(var, number < 0))
-    } else {
-        Err("no variable".into())
-    }
-}
-
-fn literals(alloc: Global, numbers: &[i32]) -> Result<Vec<Lit>, Fail> {
-    let mut lits = Vec::new(alloc);
-    for number in numbers {
-        lits.push(literal(*number)?)?;
-    }
-    Ok(lits)
-}
-
-fn formula_of(alloc: Global, numbers: &[i32]) -> Result<Formula, Fail> {
-    let mut formula = Formula::new(alloc, 7);
-    let mut lits = Vec::new(alloc);
-    for number in numbers {
-        if *number == 0 {
-            formula.push(Clause::from_lits(alloc, lits.as_slice())?)?;
-            lits.clear();
-        } else {
-            lits.push(literal(*number)?)?;
-        }
-    }
-    Ok(formula)
-}
-
-/// The numbers of the start clauses.
-fn numbers_of(alloc: Global, left: &Simplified) -> Result<Vec<u64>, AllocError> {
-    let mut numbers = Vec::new(alloc);
-    for cell in &left.start {
-        numbers.push(cell.0)?;
-    }
-    Ok(numbers)
-}
-
-/// The units and nothing else are true, and then the stack mends.
-fn model_of(alloc: Global, vars: u32, left: &Simplified) -> Result<Assignment, AllocError>
-    requires { AreOn vars left.now }
-{
-    let mut model = Assignment::new(alloc, vars)?;
-    for unit in &left.units {
-        model.set(unit.var(), !unit.is_neg());
-    }
-    left.stack.extend(&mut model);
-    Ok(model)
-}
-
 fn check_left(
     rt: &impl Abort,
     alloc: Global,
@@ -180,7 +114,7 @@ fn check_left(
     let Some((starts, units)) = row.left else {
         return Err("refuted, but answered otherwise".into());
     };
-    let units = literals(alloc, units)?;
+    let units = literals(alloc, VARS, units)?;
     let numbers = numbers_of(alloc, left)?;
     assert!(rt; numbers.as_slice() == starts, "{text}");
     assert!(rt; left.units.as_slice() == units.as_slice(), "{text}");
@@ -193,12 +127,9 @@ fn check_left(
 
 fn check_row(rt: &impl Abort, alloc: Global, row: &Row) -> Result<(), Fail> {
     let text = row.text;
-    let formula = formula_of(alloc, row.clauses)?;
+    let formula = formula_of(alloc, VARS, row.clauses)?;
     assert!(rt; is_on(&formula));
-    let sink = MemSink::new(alloc, 128, &[])?;
-    let Ok(lines) = SinkLines::new(alloc, formula.clauses().len() as u64, sink) else {
-        return Err("no memory".into());
-    };
+    let lines = text_lines(alloc, &formula, 128)?;
     let (answer, lines) = simplify(alloc, &formula, row.rounds, lines);
     let (end, sink) = lines.finish();
     assert!(rt; end.is_ok(), "{text}");
@@ -224,10 +155,10 @@ fn what_is_written_and_left(rt: HostRuntime) -> Result<(), Fail> {
 #[test]
 fn a_second_round_goes_on(rt: HostRuntime) -> Result<(), Fail> {
     let alloc = rt.alloc();
-    let formula = formula_of(alloc, TWICE)?;
+    let formula = formula_of(alloc, VARS, TWICE)?;
     assert!(rt; is_on(&formula));
     for (rounds, starts) in [(1, 1), (2, 0), (u32::MAX, 0)] {
-        let lines = CountedLines::new(formula.clauses().len() as u64, 0);
+        let lines = counted_lines(&formula, 0);
         match simplify(alloc, &formula, rounds, lines).0 {
             Ok(Outcome::Simplified(left)) => assert_eq!(rt; left.start.len(), starts),
             Ok(Outcome::Refuted) => return Err("refuted".into()),
@@ -240,10 +171,10 @@ fn a_second_round_goes_on(rt: HostRuntime) -> Result<(), Fail> {
 #[test]
 fn a_line_that_fails(rt: HostRuntime) -> Result<(), Fail> {
     let alloc = rt.alloc();
-    let formula = formula_of(alloc, &[1, 0, -1, 2, 0])?;
+    let formula = formula_of(alloc, VARS, &[1, 0, -1, 2, 0])?;
     assert!(rt; is_on(&formula));
     for failing in 1..=2 {
-        let lines = CountedLines::new(formula.clauses().len() as u64, failing);
+        let lines = counted_lines(&formula, failing);
         match simplify(alloc, &formula, 3, lines).0 {
             Err(stop) => assert!(rt; stop == LineStop::ProofFault),
             Ok(_) => return Err("no fault".into()),

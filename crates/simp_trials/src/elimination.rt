@@ -1,0 +1,81 @@
+ghost use Rattle.simp_base.specs.WorkState.{IsWork};
+
+use crate::rows::{Row, check_left, counted, written};
+use drat_text::{CountedLines, LineStop};
+use sat_words::Assignment;
+use simp_base::{Run, Work};
+use simp_elim::run;
+use std::alloc::{AllocError, Global};
+use std::process::Abort;
+use std::test::Fail;
+
+/// The variables of each row are 1 to this one.
+const VARS: u32 = 4;
+
+const ROWS: &[Row] = &[
+    Row {
+        clauses: &[1, 3, 0, 2, -3, 0],
+        answer: Run::Done,
+        text: "d 1 3 0\nd 2 -3 0\n",
+        units: &[],
+        left: 0,
+    },
+    Row {
+        clauses: &[1, 2, 0, 1, 4, 0, -1, 3, 0],
+        answer: Run::Done,
+        text: "2 3 0\n3 4 0\nd 1 2 0\nd 1 4 0\nd -1 3 0\nd 2 3 0\nd 3 4 0\n",
+        units: &[],
+        left: 0,
+    },
+    Row {
+        clauses: &[1, 2, 0, -1, 2, 0, 3, 0, 3, 4, 0, 4, -4, 0],
+        answer: Run::Done,
+        text: "2 0\nd 1 2 0\nd -1 2 0\nd 3 4 0\n",
+        units: &[2],
+        left: 3,
+    },
+];
+
+fn check_row(rt: &impl Abort, alloc: Global, row: &Row) -> Result<(), Fail> {
+    let mut work = written(rt, alloc, VARS, row.clauses)?;
+    let answer = run(&mut work);
+    check_left(rt, alloc, VARS, row, answer, work)
+}
+
+#[test]
+fn what_is_written_and_left(rt: HostRuntime) -> Result<(), Fail> {
+    for row in ROWS {
+        check_row(&rt, rt.alloc(), row)?;
+    }
+    Ok(())
+}
+
+#[test]
+fn a_line_that_fails(rt: HostRuntime) -> Result<(), Fail> {
+    let mut work = counted(&rt, rt.alloc(), VARS, &[1, 3, 0, 2, -3, 0], 1)?;
+    assert!(rt; run(&mut work) == Err(LineStop::ProofFault));
+    assert_eq!(rt; work.into_parts().clauses.len(), 2);
+    Ok(())
+}
+
+/// The assignment that is false everywhere, mended by the stack.
+fn mended(alloc: Global, work: Work<CountedLines>) -> Result<Assignment, AllocError>
+    requires { IsWork work }
+{
+    let mut model = Assignment::new(alloc, work.vars())?;
+    let parts = work.into_parts();
+    parts.stack.extend(&mut model);
+    Ok(model)
+}
+
+#[test]
+fn a_model_comes_back(rt: HostRuntime) -> Result<(), Fail> {
+    let alloc = rt.alloc();
+    let mut work = counted(&rt, alloc, VARS, &[1, 2, 0, 1, 4, 0, -1, 3, 0], 0)?;
+    assert!(rt; run(&mut work) == Ok(Run::Done));
+    let model = mended(alloc, work)?;
+    for (var, value) in [(1, true), (2, false), (3, true), (4, false)] {
+        assert_eq!(rt; model.value(var), value);
+    }
+    Ok(())
+}

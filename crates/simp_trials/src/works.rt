@@ -1,0 +1,63 @@
+//! Works on a formula, whose lines are counted or kept as text.
+ghost use Rattle.std.specs.Prelude.{◌≡◌, false, All, IfOk, length};
+ghost use Rattle.sat_words.specs.Literal.{IsOn};
+ghost use Rattle.simp_base.specs.WorkState.{IsWork};
+
+use drat_text::{CountedLines, SinkLines};
+use io_edge::MemSink;
+use sat_words::Formula;
+use simp_base::Work;
+use std::alloc::Global;
+use std::test::Fail;
+
+/// Lines for the formula that are counted; that with the number `failing` fails, from 1, and none for 0.
+pub fn counted_lines(formula: &Formula, failing: u64) -> CountedLines
+    ensures { (result.spent ≡ false) × (result.entries ≡ 0) × (result.last ≡ length formula.now.clauses) }
+{
+    CountedLines::new(formula.clauses().len() as u64, failing)
+}
+
+/// Lines for the formula that are kept as text, in so many bytes.
+pub fn text_lines(
+    alloc: Global,
+    formula: &Formula,
+    room: usize,
+) -> Result<SinkLines<MemSink<'static>>, Fail>
+    ensures { IfOk result (λ lines. (lines.spent ≡ false) × (lines.entries ≡ 0) × (lines.last ≡ length formula.now.clauses)) }
+{
+    let sink = MemSink::new(alloc, room, &[])?;
+    match SinkLines::new(alloc, formula.clauses().len() as u64, sink) {
+        Ok(lines) => Ok(lines),
+        Err(_) => Err("no memory for the lines".into()),
+    }
+}
+
+/// A work on the formula, over lines that are counted.
+pub fn counted_work(
+    alloc: Global,
+    formula: &Formula,
+    failing: u64,
+) -> Result<Work<CountedLines>, Fail>
+    requires { All (All (IsOn formula.now.vars)) formula.now.clauses }
+    ensures { IfOk result (λ work. (work.vars ≡ formula.now.vars) × (work.output.spent ≡ false) × (work.ended ≡ false) × IsWork work) }
+{
+    match Work::new(alloc, formula, counted_lines(formula, failing)) {
+        Ok(work) => Ok(work),
+        Err(_) => Err("no memory".into()),
+    }
+}
+
+/// A work on the formula, over lines that are kept as text.
+pub fn text_work(
+    alloc: Global,
+    formula: &Formula,
+    room: usize,
+) -> Result<Work<SinkLines<MemSink<'static>>>, Fail>
+    requires { All (All (IsOn formula.now.vars)) formula.now.clauses }
+    ensures { IfOk result (λ work. (work.vars ≡ formula.now.vars) × (work.output.spent ≡ false) × (work.ended ≡ false) × IsWork work) }
+{
+    match Work::new(alloc, formula, text_lines(alloc, formula, room)?) {
+        Ok(work) => Ok(work),
+        Err(_) => Err("no memory".into()),
+    }
+}

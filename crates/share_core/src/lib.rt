@@ -37,16 +37,3 @@ pub use ring_laws::{
 };
 pub use running::{Core, Step};
 pub use stored::{Cell, ClauseAt, PutNote};
-
-#[cfg(test)]
-mod tests;
-#[cfg(test)]
-mod tests_guards;
-#[cfg(test)]
-mod tests_opening;
-#[cfg(test)]
-mod tests_reduce;
-#[cfg(test)]
-mod tests_rows;
-#[cfg(test)]
-mod tests_walk;

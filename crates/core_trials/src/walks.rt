@@ -1,10 +1,10 @@
 // Walks over pseudo-random events. After each the counts are compared with a plain recount of who holds.
 ghost use Rattle.std.specs.Prelude.{◌<◌};
 
-use crate::tests_opening::{FOUR, THREE, open};
-use crate::{Core, Event, Step};
+use crate::openings::{FOUR, THREE, open};
 use rup_model::Kind;
 use sat_words::{Lit, Lits};
+use share_core::{Core, Event, Step};
 use std::alloc::Global;
 use std::process::Abort;
 use std::test::Fail;

@@ -1,9 +1,9 @@
 // A ring reduces once it has learned 2000 clauses, not before.
-use crate::tests::{read, walk};
-use crate::tests_opening::{FOUR, open};
-use crate::{Core, Event, Step};
+use crate::openings::{FOUR, open};
+use crate::tables::{read, walk};
 use rup_model::Kind;
 use sat_words::Lit;
+use share_core::{Core, Event, Step};
 use std::alloc::Global;
 use std::test::Fail;
 

@@ -4,12 +4,12 @@
 //     0 learn 50 : 1 2 = refused # no turn
 // ring 0 is to learn the clause of 1 and 2, with a cell at 50. Literals are as in a file, and a comment stands behind '#'.
 // Behind the line "leaves" stands what is seen of the core then, as `state` writes it.
-use crate::tests_guards::{CELLS, CLAUSES, EXCHANGE, NO_RINGS, TURNS, UNITS};
-use crate::tests_opening::{EMPTY, FOUR, GIVEN, THREE, open};
-use crate::tests_rows::{ENDED_BEFORE, EQUAL_LEMMAS, OPENING_UNITS, PUT_TWICE};
-use crate::{Core, Event, Step};
+use crate::guards::{CELLS, CLAUSES, EXCHANGE, NO_RINGS, TURNS, UNITS};
+use crate::openings::{EMPTY, FOUR, GIVEN, THREE, open};
+use crate::rows::{ENDED_BEFORE, EQUAL_LEMMAS, OPENING_UNITS, PUT_TWICE};
 use rup_model::Kind;
 use sat_words::{Line, Lit, Lits};
+use share_core::{Core, Event, Step};
 use std::alloc::Global;
 use std::fmt::Write;
 use std::process::Abort;

@@ -1,0 +1,21 @@
+//! Tests of the core of the rings: tables of events and walks over them, with what opens a core.
+#![tactic(auto)]
+
+mod literals;
+mod opener;
+
+pub use literals::{are_distinct, is_long, is_told};
+pub use opener::{all_fit, all_told, core_over, opens, stand_apart, start_clauses, start_fits};
+
+#[cfg(test)]
+mod guards;
+#[cfg(test)]
+mod openings;
+#[cfg(test)]
+mod reductions;
+#[cfg(test)]
+mod rows;
+#[cfg(test)]
+mod tables;
+#[cfg(test)]
+mod walks;

@@ -8,4 +8,3 @@ pub mod Removing
 pub mod Refuting
 pub mod Parts
 pub mod Freshness
-pub mod Sample

@@ -16,6 +16,3 @@ pub use analysis::{Analysis, Conclusion};
 pub use laws::{
     a_lemma_forces_its_first_literal, conflicts_are_at_the_present_level, contains_no_closed,
 };
-
-#[cfg(test)]
-mod tests;

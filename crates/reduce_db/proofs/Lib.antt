@@ -6,5 +6,4 @@ pub mod Parting
 pub mod Choosing
 pub mod Drops
 pub mod Left
-pub mod Row
 pub mod Changes

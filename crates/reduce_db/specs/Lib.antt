@@ -4,4 +4,3 @@ pub mod Choice
 pub mod Ranking
 pub mod Dropping
 pub mod Reduction
-pub mod Row

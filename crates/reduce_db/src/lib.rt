@@ -12,6 +12,3 @@ mod reducing;
 pub use laws::lemmas_come_and_go;
 pub use moment::due;
 pub use reducing::reduce;
-
-#[cfg(test)]
-mod tests;

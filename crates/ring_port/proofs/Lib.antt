@@ -10,4 +10,3 @@ pub mod PlainSteps
 pub mod Units
 pub mod Beginnings
 pub mod Refuted
-pub mod Examples

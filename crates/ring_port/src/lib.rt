@@ -25,6 +25,3 @@ pub use plain_port::PlainPort;
 pub use port::Port;
 pub use starts::Starts;
 pub use stops::{PortStop, Set};
-
-#[cfg(test)]
-mod tests;

@@ -17,6 +17,3 @@ pub use laws::{
 };
 pub use step::Step;
 pub use trail::Trail;
-
-#[cfg(test)]
-mod tests;

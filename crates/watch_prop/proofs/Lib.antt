@@ -12,7 +12,6 @@ pub mod Detaching
 pub mod Among
 pub mod TrailLaws
 pub mod DetachingLaws
-pub mod Sample
 pub mod TrailRounds
 pub mod Decisions
 pub mod Agreeing

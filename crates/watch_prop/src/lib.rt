@@ -29,6 +29,3 @@ pub use rounds::{
     trails_are_closed_or_unfinished,
 };
 pub use watches::Watches;
-
-#[cfg(test)]
-mod tests;

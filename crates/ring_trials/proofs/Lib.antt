@@ -1,0 +1,5 @@
+pub mod PortCalls
+pub mod AnalysisTrails
+pub mod EmptyTrails
+pub mod ReductionRow
+pub mod VivificationRow

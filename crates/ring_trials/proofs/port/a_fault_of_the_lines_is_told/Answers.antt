@@ -1,0 +1,13 @@
+use Rattle.std.proofs.Common.{ap}
+use Rattle.ring_port.specs.PlainPort.{starts_of}
+use Rattle.ring_trials.proofs.PortCalls.{opens_unit, given_seen, seen_follows, seen_on}
+use Rattle.ring_trials.proofs.port.a_fault_of_the_lines_is_told.Goals as goal
+
+pub new-requires-clause-opening : goal.new-requires-clause-opening
+new-requires-clause-opening g c = opens_unit _ _ c.new-one.result _ (ap starts_of c.new-starts.ensures) c.in_ok-units.ensures.items (ap (λ p. p.entries) c.new-lines.ensures) (ap (λ p. p.last) c.new-lines.ensures)
+
+pub unit-requires-clause-rup : goal.unit-requires-clause-rup
+unit-requires-clause-rup g c = seen_follows _ _ (given_seen _ _ _ c.in-Some.ensures.took)
+
+pub unit-requires-clause-on : goal.unit-requires-clause-on
+unit-requires-clause-on g c = seen_on _ _ c.in-Some.ensures.port (given_seen _ _ _ c.in-Some.ensures.took)

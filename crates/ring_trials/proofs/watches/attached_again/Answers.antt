@@ -1,0 +1,43 @@
+use Rattle.std.proofs.Common.{ap, refl}
+use Rattle.ring_port.specs.PortState.{lits_at}
+use Rattle.ring_trail.specs.TrailData.{TrailData}
+use Rattle.sample_port.specs.Sample.{sample_state}
+use Rattle.sample_port.proofs.Sample.{held_first, held_second, held_third}
+use Rattle.watch_prop.specs.WatchData.{attached}
+use Rattle.ring_trials.proofs.EmptyTrails.{fresh, reasons_with, reasons_of_none}
+use Rattle.ring_trials.proofs.watches.attached_again.Goals as goal
+
+pub attach-requires-clause-held : goal.attach-requires-clause-held
+attach-requires-clause-held g c = rw (held_first 0) refl
+
+pub attach-requires-2-clause-held : goal.attach-requires-2-clause-held
+attach-requires-2-clause-held g c = rw (held_second 0) refl
+
+pub attach-requires-3-clause-held : goal.attach-requires-3-clause-held
+attach-requires-3-clause-held g c = rw (held_third 0) refl
+
+pub detach-requires-clause-held : goal.detach-requires-clause-held
+detach-requires-clause-held g c = rw (held_first 0) refl
+
+pub detach-requires-2-clause-held : goal.detach-requires-2-clause-held
+detach-requires-2-clause-held g c = rw (held_second 0) refl
+
+pub attach-requires-4-clause-held : goal.attach-requires-4-clause-held
+attach-requires-4-clause-held g c = rw (held_first 0) refl
+
+pub propagate_unit-requires-clause-watched : goal.propagate_unit-requires-clause-watched
+propagate_unit-requires-clause-watched g c =
+    let t = c.in_ok-trail.trail in
+    let e = (c.in_ok-trail.ensures {u = tt}).empty in
+    (c.detach-2.ensures.watched t (c.detach.ensures.watched t
+    (c.attach-3.ensures.watched t (c.attach-2.ensures.watched t (c.attach.ensures.watched t ((c.in_ok-watches.ensures {u = tt}).watched (lits_at sample_state) t (ap (λ (u : TrailData). u.vars) e) (fresh t e)))))))
+
+pub propagate_unit-requires-clause-reasons : goal.propagate_unit-requires-clause-reasons
+propagate_unit-requires-clause-reasons g c = reasons_of_none (attached c.detach-2.new.self) c.in_ok-trail.trail.steps (ap (λ (u : TrailData). u.steps) (c.in_ok-trail.ensures {u = tt}).empty)
+
+pub propagate-requires-clause-watched : goal.propagate-requires-clause-watched
+propagate-requires-clause-watched g c = c.attach-4.ensures.watched c.propagate_unit-2.new.trail c.propagate_unit-2.ensures.watched
+
+pub propagate-requires-clause-reasons : goal.propagate-requires-clause-reasons
+propagate-requires-clause-reasons g c =
+    reasons_with c.propagate_unit-2.new.watches c.attach-4.new.self (record { address = 1 }) c.propagate_unit-2.new.trail.steps (c.in_ok-attach-4.ensures {u = tt}).attached c.propagate_unit-2.ensures.reasons

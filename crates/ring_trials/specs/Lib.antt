@@ -1,0 +1,2 @@
+pub mod ReductionRow
+pub mod VivificationRow

@@ -1,0 +1,38 @@
+-- The row of the tests of reduction: one start clause, and lemmas that are copies of it.
+use Rattle.std.specs.Prelude.{◌≡◌, ℕ, Bool, true, false, List, [], ◌∷◌, Some}
+use Rattle.sat_words.specs.Literal.{Literal}
+use Rattle.sat_words.specs.declared.shared.Cref.{Cref}
+use Rattle.ring_port.specs.PortState.{Holding, PortState, IsPort, held_at, lits_at}
+use Rattle.ring_port.specs.Port.{is_usable}
+use Rattle.ring_trail.specs.TrailData.{TrailData}
+use Rattle.watch_prop.specs.WatchData.{WatchData, attached}
+use Rattle.watch_prop.specs.Watched.{Watched}
+use Rattle.reduce_db.specs.Lemmas.{AreLemmas}
+
+-- the literal of a variable, negated or not
+abbrev pub lit : ℕ → Bool → Literal
+lit v n = record { var = v; neg = n }
+
+abbrev pub source : List Literal
+source = lit 1 false ∷ lit 2 false ∷ lit 3 false ∷ []
+
+abbrev pub row_starts : List (ℕ × List Literal)
+row_starts = (1, source) ∷ []
+
+abbrev pub source_held : Holding
+source_held = record { address = 0; number = 1; glue = 0; lits = source }
+
+-- the start clause is held at the address 0, nothing was taken, and nothing stands against a line
+pub record IsRow (s : PortState) : Type 0 where
+  pub vars : s.vars ≡ 3
+  pub source : held_at s 0 ≡ Some source_held
+  pub usable : is_usable s.refused ≡ true
+  pub taken : s.taken ≡ []
+  pub port : IsPort s
+
+-- and the lemmas are attached
+pub record HasLemmas (s : PortState) (w : WatchData) (t : TrailData) (lemmas : List Cref) : Type 0 where
+  pub row : IsRow s
+  pub vars : w.vars ≡ 3
+  pub watched : Watched w (lits_at s) t
+  pub are : AreLemmas s (attached w) lemmas

@@ -1,0 +1,30 @@
+-- The row of the tests of vivification: two start clauses, and what is held of them.
+use Rattle.std.specs.Prelude.{◌≡◌, ℕ, Bool, true, false, List, [], ◌∷◌, Some}
+use Rattle.sat_words.specs.Literal.{Literal}
+use Rattle.ring_port.specs.PortState.{Holding, PortState, held_at}
+use Rattle.ring_port.specs.Port.{is_usable}
+
+-- the literal of a variable, negated or not
+abbrev pub lit : ℕ → Bool → Literal
+lit v n = record { var = v; neg = n }
+
+abbrev pub first : List Literal
+first = lit 1 false ∷ lit 3 true ∷ []
+
+abbrev pub second : List Literal
+second = lit 1 false ∷ lit 2 false ∷ lit 3 false ∷ []
+
+abbrev pub row_starts : List (ℕ × List Literal)
+row_starts = (1, first) ∷ (2, second) ∷ []
+
+-- a start clause at its address
+abbrev pub start_at : ℕ → ℕ → List Literal → Holding
+start_at a n c = record { address = a; number = n; glue = 0; lits = c }
+
+-- both are held, at the addresses 0 and 1, and nothing stands against a line
+pub record IsRow (s : PortState) : Type 0 where
+  pub vars : s.vars ≡ 3
+  pub first : held_at s 0 ≡ Some (start_at 0 1 first)
+  pub second : held_at s 1 ≡ Some (start_at 1 2 second)
+  pub usable : is_usable s.refused ≡ true
+  pub taken : s.taken ≡ []

@@ -1,5 +1,2 @@
-pub mod PortCalls
-pub mod AnalysisTrails
-pub mod EmptyTrails
 pub mod ReductionRow
 pub mod VivificationRow

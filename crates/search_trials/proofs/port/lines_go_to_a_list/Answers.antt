@@ -1,7 +1,7 @@
 use Rattle.std.proofs.Common.{ap, refl}
 use Rattle.ring_port.specs.PlainPort.{starts_of}
-use Rattle.ring_trials.proofs.PortCalls.{opens_unit, given_seen, seen_follows, seen_on}
-use Rattle.ring_trials.proofs.port.lines_go_to_a_list.Goals as goal
+use Rattle.search_trials.proofs.PortCalls.{opens_unit, given_seen, seen_follows, seen_on}
+use Rattle.search_trials.proofs.port.lines_go_to_a_list.Goals as goal
 
 pub new-requires-2-clause-opening : goal.new-requires-2-clause-opening
 new-requires-2-clause-opening g c = opens_unit _ _ c.new-one.result _ (ap starts_of c.new-starts.ensures) c.in_ok-units.ensures.items c.new.ensures.len refl

@@ -1,7 +1,7 @@
 use Rattle.std.proofs.Common.{ap}
 use Rattle.ring_port.specs.PlainPort.{starts_of}
-use Rattle.ring_trials.proofs.PortCalls.{opens_unit, given_seen, seen_follows, seen_on}
-use Rattle.ring_trials.proofs.port.a_fault_of_the_lines_is_told.Goals as goal
+use Rattle.search_trials.proofs.PortCalls.{opens_unit, given_seen, seen_follows, seen_on}
+use Rattle.search_trials.proofs.port.a_fault_of_the_lines_is_told.Goals as goal
 
 pub new-requires-clause-opening : goal.new-requires-clause-opening
 new-requires-clause-opening g c = opens_unit _ _ c.new-one.result _ (ap starts_of c.new-starts.ensures) c.in_ok-units.ensures.items (ap (λ p. p.entries) c.new-lines.ensures) (ap (λ p. p.last) c.new-lines.ensures)

@@ -7,7 +7,7 @@ use Rattle.watch_prop.specs.Watched.{Watched}
 use Rattle.watch_prop.specs.Propagation.{attached_at, HasReasons}
 use Rattle.sample_port.specs.Sample.{sample_state}
 use Rattle.watch_prop.proofs.TrailLaws.{Watched-assign}
-use Rattle.ring_trials.proofs.watches.propagate_unit.Goals as goal
+use Rattle.search_trials.proofs.watches.propagate_unit.Goals as goal
 
 pub propagate-requires-clause-watched : goal.propagate-requires-clause-watched
 propagate-requires-clause-watched c =

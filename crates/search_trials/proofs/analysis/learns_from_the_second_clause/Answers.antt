@@ -1,7 +1,7 @@
 use Rattle.std.proofs.Common.{refl, true}
 use Rattle.sample_port.proofs.Sample.{held_second}
-use Rattle.ring_trials.proofs.AnalysisTrails.{steps_are, second_false, reasoned_third}
-use Rattle.ring_trials.proofs.analysis.learns_from_the_second_clause.Goals as goal
+use Rattle.search_trials.proofs.AnalysisTrails.{steps_are, second_false, reasoned_third}
+use Rattle.search_trials.proofs.analysis.learns_from_the_second_clause.Goals as goal
 
 pub analyze-conclusion-requires-clause-held : goal.analyze-conclusion-requires-clause-held
 analyze-conclusion-requires-clause-held g c = rw (held_second 0) refl

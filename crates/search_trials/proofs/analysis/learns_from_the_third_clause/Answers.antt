@@ -1,7 +1,7 @@
 use Rattle.std.proofs.Common.{refl, false}
 use Rattle.sample_port.proofs.Sample.{held_third}
-use Rattle.ring_trials.proofs.AnalysisTrails.{steps_are, third_false, reasoned_second}
-use Rattle.ring_trials.proofs.analysis.learns_from_the_third_clause.Goals as goal
+use Rattle.search_trials.proofs.AnalysisTrails.{steps_are, third_false, reasoned_second}
+use Rattle.search_trials.proofs.analysis.learns_from_the_third_clause.Goals as goal
 
 pub analyze-conclusion-requires-clause-held : goal.analyze-conclusion-requires-clause-held
 analyze-conclusion-requires-clause-held g c = rw (held_third 0) refl

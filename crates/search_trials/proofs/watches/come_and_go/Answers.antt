@@ -1,6 +1,6 @@
 use Rattle.std.proofs.Common.{refl}
 use Rattle.sample_port.proofs.Sample.{held_third}
-use Rattle.ring_trials.proofs.watches.come_and_go.Goals as goal
+use Rattle.search_trials.proofs.watches.come_and_go.Goals as goal
 
 pub attach-requires-clause-held : goal.attach-requires-clause-held
 attach-requires-clause-held c = rw (held_third 0) refl

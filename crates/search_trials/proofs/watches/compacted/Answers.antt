@@ -4,8 +4,8 @@ use Rattle.ring_trail.specs.TrailData.{TrailData}
 use Rattle.sample_port.specs.Sample.{sample_state}
 use Rattle.sample_port.proofs.Sample.{held_first, held_second}
 use Rattle.watch_prop.specs.WatchData.{attached}
-use Rattle.ring_trials.proofs.EmptyTrails.{fresh, reasons_of_none}
-use Rattle.ring_trials.proofs.watches.compacted.Goals as goal
+use Rattle.search_trials.proofs.EmptyTrails.{fresh, reasons_of_none}
+use Rattle.search_trials.proofs.watches.compacted.Goals as goal
 
 pub attach-requires-clause-held : goal.attach-requires-clause-held
 attach-requires-clause-held g c = rw (held_first 0) refl

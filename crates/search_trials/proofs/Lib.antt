@@ -1,0 +1,3 @@
+pub mod PortCalls
+pub mod AnalysisTrails
+pub mod EmptyTrails

@@ -1,3 +1,4 @@
 pub mod PortCalls
 pub mod AnalysisTrails
 pub mod EmptyTrails
+pub mod SampledLemmas

@@ -1,20 +1,8 @@
-ghost use Rattle.std.specs.Prelude.{◌≡◌, ◌<◌, ◌^◌, length};
-
+use crate::deciding::decide_next;
 use ring_decide::Decider;
 use ring_trail::Trail;
 use sat_words::Lit;
 use std::test::Fail;
-
-/// Decides what comes next.
-fn decide_next(decider: &mut Decider, trail: &mut Trail) -> Option<Lit>
-    requires vars { trail.old.vars ≡ length decider.old.active }
-    ensures vars { trail.new.vars ≡ length decider.new.active }
-    ensures len { length decider.new.active ≡ length decider.old.active }
-{
-    let next = decider.next(trail)?;
-    trail.decide(next);
-    Some(next)
-}
 
 // The first six words of the reference generator (seed 42, stream 54) end in the bits 1, 1, 0, 1, 1, 0. The variable that
 // came last into the queue is decided first, and one that is not active never.

@@ -4,10 +4,13 @@
 
 #[cfg(test)]
 mod analysis;
+pub mod deciding;
 #[cfg(test)]
 mod decisions;
+pub mod list_lines;
 #[cfg(test)]
 mod port;
+pub mod sampled;
 #[cfg(test)]
 mod trail;
 #[cfg(test)]

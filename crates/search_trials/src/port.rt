@@ -1,53 +1,9 @@
-ghost use Rattle.std.specs.Prelude.{◌≡◌, IfOk};
-
-use drat_text::{CountedLines, LineOut, LineStop, SinkLines};
+use crate::list_lines::ListLines;
+use drat_text::{CountedLines, SinkLines};
 use io_edge::MemSink;
 use ring_port::{PlainPort, Port, PortStop, Set, Starts};
-use sat_words::{Line, Lit, Lits, MAX_ENTRIES, STOP_SAT, Stop};
-use std::alloc::{AllocError, Global};
+use sat_words::{Line, Lit, Lits, STOP_SAT, Stop};
 use std::test::Fail;
-
-/// The lines of a log in memory, behind those that a formula's clauses have the numbers of.
-#[derive(Drop)]
-struct ListLines {
-    alloc: Global,
-    lines: Vec<Line>,
-    last: u64,
-}
-
-fn copy_of(alloc: Global, line: &Line) -> Result<Line, AllocError>
-    ensures { IfOk result (λ copy. copy ≡ line.now) }
-{
-    match line {
-        Line::Add(lits) => Ok(Line::Add(Lits::from_slice(alloc, lits.as_slice())?)),
-        Line::Del(lits) => Ok(Line::Del(Lits::from_slice(alloc, lits.as_slice())?)),
-    }
-}
-
-impl LineOut for ListLines {
-    ghost use Rattle.std.specs.Prelude.{None, false, vec_len};
-
-    ghost told = { λ l. record { entries = vec_len l.lines; last = l.last; spent = false; faults = 0; written = None; target = None; flushed = None } };
-
-    fn put(&mut self, line: &Line) -> Result<u64, LineStop> {
-        if self.lines.len() as u64 >= MAX_ENTRIES || self.last == u64::MAX {
-            return Err(LineStop::Memory);
-        }
-        let Ok(copy) = copy_of(self.alloc, line) else {
-            return Err(LineStop::Memory);
-        };
-        if self.lines.push(copy).is_err() {
-            return Err(LineStop::Memory);
-        }
-        match line {
-            Line::Add(_) => {
-                self.last += 1;
-                Ok(self.last)
-            }
-            Line::Del(_) => Ok(0),
-        }
-    }
-}
 
 #[test]
 fn a_unit_is_given_and_written(rt: HostRuntime) -> Result<(), Fail> {

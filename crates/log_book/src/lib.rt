@@ -22,8 +22,3 @@ pub use log_lines::LogLines;
 pub use stop::TurnStop;
 pub use turn::Turn;
 pub use turns::{give_turn, take_turn};
-
-#[cfg(test)]
-mod tests;
-#[cfg(test)]
-mod tests_speed;

@@ -1,17 +1,15 @@
 -- Where slots lie, and that what came out of one is held.
-use Rattle.std.proofs.Common.{◌≡◌, ◌≢◌, ℕ, ◌+◌, ◌*◌, ◌<◌, ◌≤◌, ◌==◌, List, [], ◌∷◌, refl, sym, ap, ◌∙◌, subst, arith, eq-eqb, ne_eqb, Option, Some, None}
+use Rattle.std.proofs.Common.{◌≡◌, ◌≢◌, ℕ, ◌+◌, ◌*◌, ◌<◌, ◌==◌, List, [], ◌∷◌, refl, sym, ap, ◌∙◌, subst, arith, eq-eqb, Option, Some, None}
 use Rattle.std.specs.Prelude.{slice_index_or, IfSome}
-use mathlib.Core.Logic.{dite}
-use native.Mathlib.Decide.{ℕ_discrete}
 use lib.ListN.{get_elem?}
 use Rattle.sat_words.specs.declared.shared.Cref.{Cref}
 use Rattle.rup_model.specs.Basics.{one_if}
 use Rattle.share_core.specs.declared.part.CoreOpening.{CoreOpening}
 use Rattle.share_core.specs.declared.stored.ClauseAt.{ClauseAt}
 use Rattle.share_core.specs.declared.stored.PutNote.{PutNote}
-use Rattle.share_core.specs.State.{times_at, without_at, with_cell, slot_of}
+use Rattle.share_core.specs.State.{times_at, without_at, slot_of}
 use Rattle.share_core.proofs.Counting.{slot_below}
-use Rattle.share_core.proofs.ClauseLists.{at_some, at_some_zero, at_without}
+use Rattle.share_core.proofs.ClauseLists.{at_some}
 use Rattle.share_rule.specs.declared.Layout.{Layout}
 use Rattle.share_rule.specs.declared.view.RingPart.{RingPart}
 use Rattle.share_rule.specs.declared.view.View.{View}
@@ -41,7 +39,7 @@ slot_lies v s one l from to class word lay ft to_lt few is =
     (same, omega arith)
 
 -- what came out is held
-held_there : (f : RingPart → RingPart) (v w : View) (a : ℕ) → v.parts ≡ only v ∷ [] → w.parts ≡ on_first f v.parts → 0 < times_at a (f (only v)).core.held → IsHolding a w
+pub held_there : (f : RingPart → RingPart) (v w : View) (a : ℕ) → v.parts ≡ only v ∷ [] → w.parts ≡ on_first f v.parts → 0 < times_at a (f (only v)).core.held → IsHolding a w
 held_there f v w a one is some =
     let e : w.parts ≡ f (only v) ∷ [] = is ∙ ap (on_first f) one in
     let o : only w ≡ f (only v) = ap (λ (ps : List RingPart). slice_index_or ps 0 no_part) e in
@@ -59,18 +57,6 @@ get_holds from class h g v w one is some =
     let t = at_some h h.address (only v).core.held some in
     let z : one_if (h.address == h.address) ≡ 1 = ap one_if (eq-eqb h.address h.address refl) in
     held_there (took_part h g) v w h.address one (ap (λ (u : View). u.parts) is) (omega arith)
-
--- and so is what was held of other cells
-pub put_keeps : (to class a : ℕ) (h : ClauseAt) (g : ℕ) (v w : View) → v.parts ≡ only v ∷ [] → w ≡ after_put to class a h g v → 0 < times_at a (only v).core.held → (b : ℕ) → b ≢ a → 0 < times_at b (only v).core.held → 0 < times_at b (only w).core.held
-put_keeps to class a h g v w one is has b ne there =
-    let n : PutNote = record { to = to; class = class; address = a } in
-    let xs : List ClauseAt = without_at a (only v).core.held in
-    let t = at_without a b (only v).core.held has in
-    let z : one_if (a == b) ≡ 0 = ap one_if (ne_eqb a b (λ e. ne (sym e))) in
-    let more : times_at b xs ≤ times_at b (with_cell h xs) = dite (ℕ_discrete b 0)
-    (λ e. let k = at_some_zero h xs in subst (λ (m : ℕ). times_at m xs ≤ times_at m (with_cell h xs)) (sym e) (omega arith))
-    (λ some. let k = at_some h b xs some in omega arith) in
-    (held_there (gave_part n h g) v w b one (ap (λ (u : View). u.parts) is) (omega arith)).1
 
 -- for whatever is told to have been found
 pub found_held : (a : ℕ) (o : Option Cref) (v : View) → IsFound a o → (a ≢ 0 → IsHolding a v) → IfSome o (λ c. IsHolding c.address v)

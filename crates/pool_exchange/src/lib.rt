@@ -9,6 +9,3 @@ mod slots;
 
 pub use ring_port::class_of;
 pub use slots::{get, put};
-
-#[cfg(test)]
-mod tests;

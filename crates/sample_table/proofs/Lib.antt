@@ -1,2 +1,2 @@
+pub mod Gathering
 mod Trying
-pub mod Trading

@@ -1,5 +1,4 @@
-//! Small tables with rings at them, over which the crates that step on a table are tested; the program has none. The tests
-//! of `ref_count` stand here.
+//! Small tables with rings at them, over which the crates that step on a table are tested; the program has none.
 #![tactic(auto)]
 
 mod book;
@@ -9,8 +8,3 @@ mod rings;
 pub use book::SampleBook;
 pub use making::{open, open_with, refusal};
 pub use rings::{Ring, begin, gather, give_up, start_cell};
-
-#[cfg(test)]
-mod tests;
-#[cfg(test)]
-mod tests_rings;

@@ -9,6 +9,3 @@ mod stops;
 
 pub use answer::Set;
 pub use stops::{look, set};
-
-#[cfg(test)]
-mod tests;

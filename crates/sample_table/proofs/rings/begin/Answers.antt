@@ -1,7 +1,7 @@
 use Rattle.std.proofs.Common.{◌∙◌, ◌<◌, sym, ap, subst, arith}
 use Rattle.share_rule.specs.declared.view.View.{View}
 use Rattle.share_rule.specs.Views.{times_in}
-use Rattle.sample_table.proofs.Trading.{other_right}
+use Rattle.sample_table.proofs.Gathering.{other_right}
 use Rattle.sample_table.proofs.rings.begin.Goals as goal
 
 pub returns-clause-first : goal.returns-clause-first

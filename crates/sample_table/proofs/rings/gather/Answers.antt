@@ -1,4 +1,4 @@
-use Rattle.sample_table.proofs.Trading.{gathered_more}
+use Rattle.sample_table.proofs.Gathering.{gathered_more}
 use Rattle.sample_table.proofs.rings.gather.Goals as goal
 
 pub returns : goal.returns

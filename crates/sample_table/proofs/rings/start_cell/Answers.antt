@@ -1,7 +1,7 @@
 use Rattle.std.proofs.Common.{◌<◌, List, length, get_or, sym, subst}
 use Rattle.sat_words.specs.declared.shared.Cref.{Cref}
 use Rattle.share_core.specs.State.{times_at}
-use Rattle.sample_table.proofs.Trading.{start_there}
+use Rattle.sample_table.proofs.Gathering.{start_there}
 use Rattle.sample_table.proofs.rings.start_cell.Goals as goal
 
 pub returns : goal.returns

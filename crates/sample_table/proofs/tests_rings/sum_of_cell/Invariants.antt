@@ -1,6 +1,0 @@
-use Rattle.std.proofs.Common.{◌≡◌}
-use Rattle.share_rule.specs.Passes.{IsPassOf}
-use Rattle.sample_table.proofs.tests_rings.sum_of_cell.Given as goal
-
-abbrev pub invariant-loop-place : goal.invariant-loop-place
-invariant-loop-place g l = IsPassOf l.table l.ring.pass × (l.ring.pass.me.0.parts ≡ l.fn.ring.pass.me.0.parts) × (l.ring.cell ≡ l.fn.ring.cell)

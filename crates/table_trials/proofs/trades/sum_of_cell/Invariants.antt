@@ -1,0 +1,6 @@
+use Rattle.std.proofs.Common.{◌≡◌}
+use Rattle.share_rule.specs.Passes.{IsPassOf}
+use Rattle.table_trials.proofs.trades.sum_of_cell.Given as goal
+
+abbrev pub invariant-loop-place : goal.invariant-loop-place
+invariant-loop-place g l = IsPassOf l.table l.ring.pass × (l.ring.pass.me.0.parts ≡ l.fn.ring.pass.me.0.parts) × (l.ring.cell ≡ l.fn.ring.cell)

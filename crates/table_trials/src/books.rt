@@ -1,0 +1,29 @@
+//! Books that take lines one by one.
+ghost use Rattle.std.specs.Prelude.{◌≡◌, false, IfOk, OnOk};
+ghost use Rattle.io_edge.specs.Paths.{IsEmptyWhereTold};
+
+use drat_text::{LineOut, LineStop};
+use io_edge::Sink;
+use log_book::Book;
+use sat_words::Line;
+use std::alloc::Global;
+use std::test::Fail;
+
+/// A book for a formula of one clause, in a sink to which nothing was written.
+pub fn new_book<S: Sink + Drop>(alloc: Global, sink: S, keep_lines: bool) -> Result<Book<S>, Fail>
+    requires { IsEmptyWhereTold (S.written sink) }
+    ensures unspent { IfOk result (λ b. b.log.lines.spent ≡ false) }
+{
+    match Book::new(alloc, 1, sink, keep_lines) {
+        Ok(book) => Ok(book),
+        Err(_) => Err(Fail::from("no memory")),
+    }
+}
+
+/// Puts a line into a book whose sink has not failed.
+pub fn put_one<S: Sink>(book: &mut Book<S>, line: &Line) -> Result<u64, LineStop>
+    requires unspent { book.old.log.lines.spent ≡ false }
+    ensures unspent { OnOk result (book.new.log.lines.spent ≡ false) }
+{
+    book.put(line)
+}

@@ -1,0 +1,125 @@
+// Books over sinks in memory, each call of which fails in turn.
+ghost use Rattle.std.specs.Prelude.{◌≡◌, false, IfOk};
+
+use crate::books::{new_book, put_one};
+use drat_text::LineStop;
+use io_edge::{Failed, MemSink, Sink};
+use log_book::Book;
+use sat_words::{Line, Lit, Lits};
+use std::alloc::{AllocGlobal, Global};
+use std::process::Abort;
+use std::test::Fail;
+
+/// A book for a formula of one clause, over a sink in memory.
+fn book<'a>(alloc: Global, fails: &'a [u64], keep: bool) -> Result<Book<MemSink<'a>>, Fail>
+    ensures unspent { IfOk result (λ b. b.log.lines.spent ≡ false) }
+{
+    new_book(alloc, MemSink::new(alloc, 1 << 17, fails)?, keep)
+}
+
+/// Puts the line so many times, as long as the numbers from 2 on are answered. Tells how often it was put, and what stopped
+/// it.
+fn put_often<S: Sink>(book: &mut Book<S>, line: &Line, times: u32) -> (u32, Option<LineStop>)
+    requires unspent { book.old.log.lines.spent ≡ false }
+{
+    for done in 0..times {
+        match put_one(book, line) {
+            Ok(number) => {
+                if number != done as u64 + 2 {
+                    return (done, None);
+                }
+            }
+            Err(stop) => return (done, Some(stop)),
+        }
+    }
+    (times, None)
+}
+
+/// What becomes of a book over a sink where these of its calls fail: how often a line of six bytes is put, what stopped it,
+/// the last number, how the book ends, how many bytes the sink then has, and how many lines were kept.
+type Ending = (
+    u32,
+    Option<LineStop>,
+    u64,
+    Result<(), Failed>,
+    usize,
+    Option<usize>,
+);
+
+fn ending(
+    rt: &(impl Abort + AllocGlobal),
+    fails: &[u64],
+    times: u32,
+    keep: bool,
+) -> Result<Ending, Fail> {
+    let alloc = rt.alloc();
+    let line = Line::Add(Lits::from_slice(alloc, &[Lit::new(1, false), Lit::new(2, false)])?);
+    let mut book = book(alloc, fails, keep)?;
+    let (done, stop) = put_often(&mut book, &line, times);
+    let last = book.last();
+    book.has_its_log();
+    let (end, sink, lines) = book.finish();
+    let kept = lines.map(|lines| lines.len());
+    Ok((done, stop, last, end, sink.bytes().len(), kept))
+}
+
+#[test]
+fn a_block_is_written_whenever_it_is_full(rt: HostRuntime) -> Result<(), Fail> {
+    // A block of 65,536 bytes is full within the 10,923rd line. The calls of the sink are two writes and a flush.
+    let fault = Some(LineStop::ProofFault);
+    let failed = Err(Failed);
+    let table: [(&[u64], u32, Ending); 7] = [
+        (&[], 10_922, (10_922, None, 10_923, Ok(()), 65_532, None)),
+        (&[], 10_923, (10_923, None, 10_924, Ok(()), 65_538, None)),
+        (&[1], 10_922, (10_922, None, 10_923, failed, 0, None)),
+        (&[1], 10_923, (10_922, fault, 10_923, failed, 0, None)),
+        (&[2], 10_922, (10_922, None, 10_923, failed, 65_532, None)),
+        (&[2], 10_923, (10_923, None, 10_924, failed, 65_536, None)),
+        (&[3], 10_923, (10_923, None, 10_924, failed, 65_538, None)),
+    ];
+    for (fails, times, wanted) in table {
+        let found = ending(&rt, fails, times, false)?;
+        assert!(rt; found == wanted, "{times}");
+    }
+    Ok(())
+}
+
+#[test]
+fn lines_are_kept_where_they_are_asked_for(rt: HostRuntime) -> Result<(), Fail> {
+    let found = ending(&rt, &[], 7, true)?;
+    assert!(rt; found == (7, None, 8, Ok(()), 42, Some(7)));
+    let found = ending(&rt, &[1], 10_930, true)?;
+    let fault = Some(LineStop::ProofFault);
+    assert!(rt; found == (10_922, fault, 10_923, Err(Failed), 0, Some(10_923)));
+    Ok(())
+}
+
+#[test]
+fn a_deletion_has_no_number(rt: HostRuntime) -> Result<(), Fail> {
+    let alloc = rt.alloc();
+    let three = Line::Add(Lits::from_slice(alloc, &[Lit::new(3, false)])?);
+    let gone = Line::Del(Lits::from_slice(alloc, &[Lit::new(3, false)])?);
+    let mut book = book(alloc, &[], true)?;
+    assert_eq!(rt; book.last(), 1);
+    assert_eq!(rt; put_one(&mut book, &three)?, 2);
+    assert_eq!(rt; put_one(&mut book, &gone)?, 0);
+    assert_eq!(rt; book.last(), 2);
+    assert_eq!(rt; put_one(&mut book, &three)?, 3);
+    assert_eq!(rt; book.last(), 3);
+    let (end, sink, lines) = book.finish();
+    assert_eq!(rt; end, Ok(()));
+    assert!(rt; sink.bytes() == b"3 0\nd 3 0\n3 0\n".as_slice());
+    let Some(lines) = lines else {
+        return Err(Fail::from("no lines"));
+    };
+    assert!(rt;
+        lines.as_slice()
+            == [
+                three,
+                gone,
+                Line::Add(Lits::from_slice(alloc, &[Lit::new(3, false)])?)
+            ]
+            .as_slice()
+    );
+    Ok(())
+}

@@ -1,0 +1,185 @@
+// Tables for small formulas: the worked row, cells read back, and rings on threads.
+ghost use Rattle.std.specs.Prelude.{◌≤◌, ◌<◌, ◌^◌};
+
+use crate::trades::{
+    begin_all, count_of, gather_all, give_up_all, read_back, sum_of_reads, trade, trade_all,
+};
+use clause_cell::HoleStop;
+use sample_formula::Problem;
+use sample_table::{begin, gather, give_up, open, refusal, start_cell};
+use sat_words::Lit;
+use share_rule::close;
+use std::alloc::Global;
+use std::process::Abort;
+use std::test::Fail;
+use std::thread::Threads;
+
+/// Three clauses, of which 2 follows.
+fn three(alloc: Global) -> Result<Problem, Fail> {
+    let one = Lit::new(1, false);
+    let two = Lit::new(2, false);
+    let three = Lit::new(3, false);
+    let problem = Problem::new(alloc, 3);
+    let problem = problem.with(alloc, &[one, two, three])?;
+    let problem = problem.with(alloc, &[one, two, three.not()])?;
+    problem.with(alloc, &[one.not(), two])
+}
+
+#[test]
+fn the_last_of_two_rings_is_told(rt: HostRuntime) -> Result<(), Fail> {
+    let problem = three(rt.alloc())?;
+    let (table, mut first, cells) = open(rt.alloc(), &problem, 2, 64)?;
+    let mut addresses = cells.iter().map(|cell| cell.address);
+    assert_eq!(rt; addresses.next(), Some(27));
+    assert_eq!(rt; addresses.next(), Some(32));
+    assert_eq!(rt; addresses.next(), Some(37));
+    assert_eq!(rt; addresses.next(), None);
+    let cell = start_cell(&first, cells.as_slice(), 0)?;
+    let mut one = begin(&table, &mut first, 0, cell);
+    let mut two = begin(&table, &mut first, 1, cell);
+    give_up(&table, &mut one);
+    give_up(&table, &mut two);
+    assert_eq!(rt; (one.lasts, two.lasts), (0, 1));
+    gather(&table, &mut first, two);
+    gather(&table, &mut first, one);
+    let book = close(table, first);
+    assert_eq!(rt; book.holes.largest(), 50);
+    assert_eq!(rt; book.entries, 0);
+    Ok(())
+}
+
+/// Rings on threads that each take one more count of a start cell and give one up, so often, and then give up the one that
+/// they began with: how often a ring was told that it was the last.
+fn race(
+    rt: &(impl Abort + AllocGlobal + Threads + Sync),
+    rings: u32,
+    place: usize,
+    turns: u64,
+) -> Result<u64, Fail>
+    requires some { 1 ≤ rings }
+    requires few { rings ≤ 16 }
+    requires turns { turns < 2 ^ 56 }
+{
+    let problem = three(rt.alloc())?;
+    let (table, mut first, cells) = open(rt.alloc(), &problem, rings, 64)?;
+    let cell = start_cell(&first, cells.as_slice(), place)?;
+    let mut rings = begin_all(rt.alloc(), &table, &mut first, cell, rings)?;
+    let count = rings.len() as u64;
+    assert_eq!(rt; count_of(&table, cell), Some(count));
+    trade_all(rt, &table, rings.as_mut_slice(), turns);
+    assert_eq!(rt; count_of(&table, cell), Some(count));
+    give_up_all(rt, &table, rings.as_mut_slice(), turns);
+    assert_eq!(rt; count_of(&table, cell), Some(0));
+    let lasts = gather_all(&table, &mut first, rings);
+    assert_eq!(rt; close(table, first).holes.largest(), 50);
+    Ok(lasts)
+}
+
+/// How often each ring takes one more count and gives one up.
+const TURNS: u64 = 100_000;
+
+#[test]
+fn four_rings_trade_one_cell(rt: HostRuntime) -> Result<(), Fail> {
+    assert_eq!(rt; race(&rt, 4, 2, TURNS)?, 1);
+    Ok(())
+}
+
+#[test]
+fn two_rings_on_threads_give_a_cell_up(rt: HostRuntime) -> Result<(), Fail> {
+    assert_eq!(rt; race(&rt, 2, 0, 0)?, 1);
+    Ok(())
+}
+
+/// Literals on the variables from 1 on, every third negated.
+fn literals(alloc: Global, size: u32) -> Result<Vec<Lit>, Fail>
+    requires { size < 100 }
+{
+    let mut lits = Vec::new(alloc);
+    for var in 1..size + 1 {
+        lits.push(Lit::new(var, var % 3 == 0))?;
+    }
+    Ok(lits)
+}
+
+#[test]
+fn cells_are_read_back(rt: HostRuntime) -> Result<(), Fail> {
+    for size in 2..41 {
+        let lits = literals(rt.alloc(), size)?;
+        let problem = Problem::new(rt.alloc(), 40);
+        let problem = problem.with(rt.alloc(), lits.as_slice())?;
+        let (table, mut first, cells) = open(rt.alloc(), &problem, 1, 64)?;
+        let cell = start_cell(&first, cells.as_slice(), 0)?;
+        let mut ring = begin(&table, &mut first, 0, cell);
+        let (head, read) = read_back(rt.alloc(), &table, &mut ring)?;
+        assert_eq!(rt; (head.size, head.glue, head.number), (size, 0, 1));
+        assert!(rt; read.as_slice() == lits.as_slice(), "of {size}");
+    }
+    Ok(())
+}
+
+// The next two and the trades are what bench/cells measures: literals read from a cell, and as many from a vector.
+
+/// How often the literals are read.
+const READS: u32 = 2_500_000;
+
+/// The sum of the codes of forty literals, so often.
+const SUM: u64 = 1653 * 2_500_000;
+
+#[test]
+fn one_cell_is_read(rt: HostRuntime) -> Result<(), Fail> {
+    let lits = literals(rt.alloc(), 40)?;
+    let problem = Problem::new(rt.alloc(), 40);
+    let problem = problem.with(rt.alloc(), lits.as_slice())?;
+    let (table, mut first, cells) = open(rt.alloc(), &problem, 1, 64)?;
+    let cell = start_cell(&first, cells.as_slice(), 0)?;
+    let mut ring = begin(&table, &mut first, 0, cell);
+    assert_eq!(rt; sum_of_reads(&table, &mut ring, READS), SUM);
+    Ok(())
+}
+
+fn sum_of_codes(lits: &[Lit], start: u64) -> u64 {
+    let mut sum = start;
+    for lit in lits {
+        sum = sum.wrapping_add(lit.code() as u64);
+    }
+    sum
+}
+
+#[test]
+fn one_vector_is_read(rt: HostRuntime) -> Result<(), Fail> {
+    let lits = literals(rt.alloc(), 40)?;
+    let mut sum = 0;
+    for _ in 0..READS {
+        sum = sum_of_codes(lits.as_slice(), sum);
+    }
+    assert_eq!(rt; sum, SUM);
+    Ok(())
+}
+
+#[test]
+fn one_ring_trades_one_cell(rt: HostRuntime) -> Result<(), Fail> {
+    let problem = three(rt.alloc())?;
+    let (table, mut first, cells) = open(rt.alloc(), &problem, 1, 64)?;
+    let cell = start_cell(&first, cells.as_slice(), 2)?;
+    let mut ring = begin(&table, &mut first, 0, cell);
+    trade(&table, &mut ring, 4 * TURNS);
+    assert_eq!(rt; count_of(&table, cell), Some(1));
+    assert_eq!(rt; ring.lasts, 0);
+    Ok(())
+}
+
+/// A table is refused where the second clause finds no hole.
+#[test]
+fn no_table_without_room(rt: HostRuntime) -> Result<(), Fail> {
+    let problem = three(rt.alloc())?;
+    let (why, last) = refusal(rt.alloc(), &problem, 2, 9)?;
+    assert_eq!(rt;
+        why,
+        HoleStop::NoHole {
+            need: 5,
+            largest: 4
+        }
+    );
+    assert_eq!(rt; last, 3);
+    Ok(())
+}

@@ -1,0 +1,41 @@
+// Two rings, two cells and one slot.
+use crate::slots::{get_first, give_back, put_first};
+use pool_exchange::class_of;
+use ref_count::Dropped;
+use sample_formula::Problem;
+use sample_table::{begin, give_up, open, start_cell};
+use sat_words::Lit;
+use std::test::Fail;
+
+#[test]
+fn what_a_put_brings_back_is_given_up(rt: HostRuntime) -> Result<(), Fail> {
+    let x = Lit::new(1, false);
+    let y = Lit::new(2, false);
+    let problem = Problem::new(rt.alloc(), 2);
+    let problem = problem.with(rt.alloc(), &[x, y])?;
+    let problem = problem.with(rt.alloc(), &[x, y.not()])?;
+    let (table, mut first, cells) = open(rt.alloc(), &problem, 2, 16)?;
+    let old = start_cell(&first, cells.as_slice(), 0)?;
+    let new = start_cell(&first, cells.as_slice(), 1)?;
+    if old.address == new.address {
+        return Err(Fail::from("one cell"));
+    }
+    let mut zero = begin(&table, &mut first, 0, old);
+    let mut one = begin(&table, &mut first, 1, old);
+    give_up(&table, &mut one);
+    let none = put_first(&table, &mut zero, 1, old);
+    let back = put_first(&table, &mut zero, 1, new);
+    assert_eq!(rt; (none, back), (None, Some(old)));
+    assert_eq!(rt; give_back(&table, &mut zero, back), Some(Dropped::Last));
+    assert_eq!(rt; get_first(&table, &mut one, 0), Some(new));
+    assert_eq!(rt; get_first(&table, &mut one, 0), None);
+    Ok(())
+}
+
+#[test]
+fn classes_of_clauses(rt: HostRuntime) {
+    assert_eq!(rt; class_of(2, 1), Some(0));
+    assert_eq!(rt; class_of(3, 2), Some(2));
+    assert_eq!(rt; class_of(9, 6), Some(3));
+    assert_eq!(rt; class_of(9, 7), None);
+}

@@ -1,0 +1,163 @@
+//! What rings do with one cell, one after another and beside each other.
+ghost use Rattle.std.specs.Prelude.{◌≡◌, ◌≤◌, ◌<◌, ◌+◌, ◌^◌, All, IfOk, OnOk, length, ℕ, slice_index_or, []};
+ghost use Rattle.share_core.specs.State.{times_at};
+ghost use Rattle.share_rule.specs.Passes.{IsPassOf};
+ghost use Rattle.share_rule.specs.Views.{IsHolding, clause_of};
+ghost use Rattle.sample_table.specs.Samples.{IsFirst, IsRing, IsHolder, IsGathered};
+ghost use Rattle.sample_table.specs.declared.rings.Ring.{Ring};
+
+use ref_count::{Dropped, drop_count, read_head, read_lit, share};
+use sample_table::{Ring, begin, gather, give_up};
+use sat_words::{Cref, Head, Lit};
+use share_rule::{Ledger, Pass, Shared};
+use std::alloc::Global;
+use std::test::Fail;
+use std::thread;
+use std::thread::Threads;
+
+/// Takes one more count and gives one up.
+fn trade_once<B: Ledger>(table: &Shared<B>, ring: &mut Ring<B>, _times: u64)
+    requires holder { IsHolder table.now ring.old.pass ring.old.ring ring.old.cell.address _times }
+    requires few { _times < 2 ^ 56 }
+    ensures holder { IsHolder table.now ring.new.pass ring.new.ring ring.new.cell.address (_times + 1) }
+    ensures same { (ring.new.ring ≡ ring.old.ring) × (ring.new.cell ≡ ring.old.cell) }
+{
+    share(table, &mut ring.pass, ring.cell);
+    match drop_count(table, &mut ring.pass, ring.cell) {
+        Dropped::Left => {}
+        Dropped::Last => ring.lasts = ring.lasts.saturating_add(1),
+    }
+}
+
+/// Trades so often.
+pub fn trade<B: Ledger>(table: &Shared<B>, ring: &mut Ring<B>, times: u64)
+    requires holder { IsHolder table.now ring.old.pass ring.old.ring ring.old.cell.address 0 }
+    requires few { times < 2 ^ 56 }
+    ensures holder { IsHolder table.now ring.new.pass ring.new.ring ring.new.cell.address times }
+    ensures same { (ring.new.ring ≡ ring.old.ring) × (ring.new.cell ≡ ring.old.cell) }
+{
+    for done in 0..times {
+        trade_once(table, ring, done);
+    }
+}
+
+/// All rings, each with a pass of its own.
+pub fn begin_all<B: Ledger>(
+    alloc: Global,
+    table: &Shared<B>,
+    first: &mut Pass<B>,
+    cell: Cref,
+    rings: u32,
+) -> Result<Vec<Ring<B>>, Fail>
+    requires first { IsFirst table.now first.old 0 × (first.old.me.0.opening.rings ≡ rings) }
+    requires cell { 0 < times_at cell.address first.old.me.0.opening.starts }
+    ensures first { OnOk result (IsPassOf table.now first.new × (first.new.me.1 ≡ []) × (first.new.me.0.opening ≡ first.old.me.0.opening) × (first.new.me.0.parts ≡ first.old.me.0.parts)) }
+    ensures len { IfOk result (λ v. length v.items ≡ rings) }
+    ensures each { IfOk result (λ v. All (λ r. IsHolder table.now r.pass r.ring r.cell.address 0) v.items) }
+    ensures numbers { IfOk result (λ v. (i : ℕ) (d : Ring B) → i < rings → (slice_index_or v.items i d).ring ≡ i) }
+{
+    let mut all = Vec::new(alloc);
+    for ring in 0..rings {
+        all.push(begin(table, first, ring, cell))?;
+    }
+    Ok(all)
+}
+
+/// All rings trade so often, each in a thread of its own where threads can be made.
+pub fn trade_all<B: Ledger + Send, R: Threads + Sync>(
+    rt: &R,
+    table: &Shared<B>,
+    rings: &mut [Ring<B>],
+    times: u64,
+)
+    requires each { All (λ r. IsHolder table.now r.pass r.ring r.cell.address 0) rings.old }
+    requires few { times < 2 ^ 56 }
+    ensures each { All (λ r. IsHolder table.now r.pass r.ring r.cell.address times) rings.new }
+    ensures numbers { (i : ℕ) (d : Ring B) → i < length rings.old → (slice_index_or rings.new i d).ring ≡ (slice_index_or rings.old i d).ring }
+{
+    thread::for_each_mut(rt, rings, 4, &|_, ring| trade(table, ring, times));
+}
+
+/// All rings give their count up.
+pub fn give_up_all<B: Ledger + Send, R: Threads + Sync>(
+    rt: &R,
+    table: &Shared<B>,
+    rings: &mut [Ring<B>],
+    _times: u64,
+)
+    requires { All (λ r. IsHolder table.now r.pass r.ring r.cell.address _times) rings.old }
+    ensures each { All (λ r. IsRing table.now r.pass r.ring) rings.new }
+    ensures numbers { (i : ℕ) (d : Ring B) → i < length rings.old → (slice_index_or rings.new i d).ring ≡ (slice_index_or rings.old i d).ring }
+{
+    thread::for_each_mut(rt, rings, 4, &|_, ring| give_up(table, ring));
+}
+
+/// Takes all rings' passes in, the last first, and tells how often one was told that it gave a last count up.
+pub fn gather_all<B: Ledger>(table: &Shared<B>, first: &mut Pass<B>, rings: Vec<Ring<B>>) -> u64
+    requires first { IsGathered table.now first.old (length rings.items) }
+    requires each { All (λ r. IsRing table.now r.pass r.ring) rings.items }
+    requires numbers { (i : ℕ) (d : Ring B) → i < length rings.items → (slice_index_or rings.items i d).ring ≡ i }
+    ensures { IsGathered table.now first.new 0 }
+{
+    let mut rings = rings;
+    let mut lasts: u64 = 0;
+    while let Some(ring) = rings.pop() {
+        lasts = lasts.saturating_add(ring.lasts);
+        gather(table, first, ring);
+    }
+    lasts
+}
+
+/// How often a cell is counted.
+pub fn count_of<B: Ledger>(table: &Shared<B>, cell: Cref) -> Option<u64> {
+    let place = cell.address as usize;
+    if place < table.table.word_count() {
+        Some(table.table.shared.peek(place))
+    } else {
+        None
+    }
+}
+
+/// The head and the literals of the ring's cell.
+pub fn read_back<B: Ledger>(
+    alloc: Global,
+    table: &Shared<B>,
+    ring: &mut Ring<B>,
+) -> Result<(Head, Vec<Lit>), Fail>
+    requires { (n : ℕ) × IsHolder table.now ring.old.pass ring.old.ring ring.old.cell.address n }
+{
+    let head = read_head(table, &mut ring.pass, ring.cell);
+    let mut lits = Vec::new(alloc);
+    for place in 0..head.size {
+        lits.push(read_lit(table, &mut ring.pass, ring.cell, place))?;
+    }
+    Ok((head, lits))
+}
+
+/// The codes of the literals of the ring's cell, in one sum.
+fn sum_of_cell<B: Ledger>(table: &Shared<B>, ring: &mut Ring<B>, size: u32, start: u64) -> u64
+    requires pass { IsPassOf table.now ring.old.pass }
+    requires held { IsHolding ring.old.cell.address ring.old.pass.me.0 }
+    requires size { size ≤ length (clause_of ring.old.cell.address ring.old.pass.me.0).lits }
+    ensures pass { IsPassOf table.now ring.new.pass }
+    ensures same { (ring.new.pass.me.0.parts ≡ ring.old.pass.me.0.parts) × (ring.new.cell ≡ ring.old.cell) }
+{
+    let mut sum = start;
+    for place in 0..size {
+        let lit = read_lit(table, &mut ring.pass, ring.cell, place);
+        sum = sum.wrapping_add(lit.code() as u64);
+    }
+    sum
+}
+
+/// The same so often, in one sum.
+pub fn sum_of_reads<B: Ledger>(table: &Shared<B>, ring: &mut Ring<B>, times: u32) -> u64
+    requires { (n : ℕ) × IsHolder table.now ring.old.pass ring.old.ring ring.old.cell.address n }
+{
+    let head = read_head(table, &mut ring.pass, ring.cell);
+    let mut sum: u64 = 0;
+    for _ in 0..times {
+        sum = sum_of_cell(table, ring, head.size, sum);
+    }
+    sum
+}

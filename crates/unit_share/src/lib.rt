@@ -5,10 +5,3 @@
 mod units;
 
 pub use units::{next_unit, publish};
-
-#[cfg(test)]
-mod tests;
-#[cfg(test)]
-mod tests_learning;
-#[cfg(test)]
-mod tests_turns;

@@ -1,8 +1,8 @@
 use Rattle.std.proofs.Common.{◌≡◌, ◌<◌, ℕ, All, length, slice_index_or}
 use Rattle.sample_table.specs.Samples.{IsFirst}
-use Rattle.unit_share.specs.Samples.{IsWriter, plus}
-use Rattle.unit_share.specs.declared.tests_turns.Writer.{Writer}
-use Rattle.unit_share.proofs.tests_turns.begin_writers.Given as goal
+use Rattle.unit_trials.specs.Samples.{IsWriter, plus}
+use Rattle.unit_trials.specs.declared.writers.Writer.{Writer}
+use Rattle.unit_trials.proofs.writers.begin_writers.Given as goal
 
 abbrev pub invariant-loop-ring : goal.invariant-loop-ring
 invariant-loop-ring g l = IsFirst l.table l.first l.ring × (l.first.me.0.opening ≡ l.fn.first.me.0.opening) × (l.first.me.0.parts ≡ l.fn.first.me.0.parts) × (length l.all.items ≡ l.ring)

@@ -1,4 +1,4 @@
-// Rings that take the turn of a book in turn.
+//! Rings that take the turn of one book again and again, and write a unit each time.
 ghost use Rattle.std.specs.Prelude.{◌≡◌, ◌≤◌, ◌<◌, All, IfOk, OnOk, length, ℕ, slice_index_or, false, []};
 ghost use Rattle.io_edge.specs.Paths.{IsEmptyWhereTold};
 ghost use Rattle.share_rule.specs.declared.Layout.{Layout};
@@ -8,8 +8,8 @@ ghost use Rattle.share_core.specs.State.{times_at};
 ghost use Rattle.share_rule.specs.FirstWords.{starts_at};
 ghost use Rattle.share_rule.specs.Passes.{IsPassOf};
 ghost use Rattle.sample_table.specs.Samples.{IsFirst, IsGathered};
-ghost use Rattle.unit_share.specs.Samples.{IsWriter, plus, three};
-ghost use Rattle.unit_share.specs.declared.tests_turns.Writer.{Writer};
+ghost use Rattle.unit_trials.specs.Samples.{IsWriter, plus, three};
+ghost use Rattle.unit_trials.specs.declared.writers.Writer.{Writer};
 
 use io_edge::Sink;
 use log_book::{Book, give_turn, take_turn};
@@ -25,7 +25,7 @@ use std::thread;
 use std::thread::Threads;
 
 /// Three clauses, of which 2 follows.
-pub(crate) fn make_three(alloc: Global) -> Result<Problem, Fail>
+pub fn make_three(alloc: Global) -> Result<Problem, Fail>
     ensures start { IfOk result (λ p. p.start.items ≡ three) }
     ensures vars { IfOk result (λ p. p.formula.vars ≡ 3) }
     ensures units { IfOk result (λ p. p.units.items ≡ []) }
@@ -40,7 +40,7 @@ pub(crate) fn make_three(alloc: Global) -> Result<Problem, Fail>
 }
 
 /// A book for a formula, in which no line stands.
-pub(crate) fn new_book<S: Sink + Drop>(
+pub fn new_book<S: Sink + Drop>(
     alloc: Global,
     formula: &Formula,
     sink: S,
@@ -90,15 +90,15 @@ fn write_unit<H: Wait, S: Sink>(
 
 /// A ring that writes one unit again and again, and what it was told.
 #[derive(Drop)]
-pub(crate) struct Writer<S: Sink> {
+pub struct Writer<S: Sink> {
     /// The ring.
-    pub(crate) ring: Ring<Book<S>>,
+    pub ring: Ring<Book<S>>,
     /// How often a line stood under a number greater than the last one.
-    pub(crate) written: u64,
+    pub written: u64,
     /// The last number.
-    pub(crate) last: u64,
+    pub last: u64,
     /// The numbers in one sum.
-    pub(crate) sum: u64,
+    pub sum: u64,
 }
 
 /// Writes the unit 2 so often.
@@ -126,7 +126,7 @@ fn write_often<H: Wait, S: Sink>(
 }
 
 /// All rings, each with a pass of its own.
-pub(crate) fn begin_writers<S: Sink>(
+pub fn begin_writers<S: Sink>(
     alloc: Global,
     table: &Shared<Book<S>>,
     first: &mut Pass<Book<S>>,
@@ -157,7 +157,7 @@ pub(crate) fn begin_writers<S: Sink>(
 }
 
 /// All rings write so often, each in a thread of its own where threads can be made.
-pub(crate) fn write_all<S: Sink + Send, R: Threads + Wait + Sync>(
+pub fn write_all<S: Sink + Send, R: Threads + Wait + Sync>(
     rt: &R,
     alloc: Global,
     table: &Shared<Book<S>>,
@@ -177,7 +177,7 @@ pub(crate) fn write_all<S: Sink + Send, R: Threads + Wait + Sync>(
 }
 
 /// Takes all rings' passes in, the last first: how often they wrote, the last of all numbers, and the numbers in one sum.
-pub(crate) fn gather_writers<S: Sink>(
+pub fn gather_writers<S: Sink>(
     table: &Shared<Book<S>>,
     first: &mut Pass<Book<S>>,
     writers: Vec<Writer<S>>,

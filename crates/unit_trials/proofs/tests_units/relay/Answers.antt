@@ -2,10 +2,10 @@ use Rattle.std.proofs.Common.{◌≡◌, ◌∙◌, ◌++◌, ◌<◌, ℕ, List
 use Rattle.io_edge.specs.declared.memory_sink.MemSink.{MemSink}
 use Rattle.io_edge.specs.contracts.memory_sink.MemSinkSink.TheImpl.{ghosts}
 use Rattle.sample_table.specs.Samples.{IsGathered}
-use Rattle.sample_table.proofs.Trading.{written_back}
-use Rattle.unit_share.specs.Samples.{IsWriter, plus}
-use Rattle.unit_share.specs.declared.tests_turns.Writer.{Writer}
-use Rattle.unit_share.proofs.tests.relay.Goals as goal
+use Rattle.sample_table.proofs.Gathering.{written_back}
+use Rattle.unit_trials.specs.Samples.{IsWriter, plus}
+use Rattle.unit_trials.specs.declared.writers.Writer.{Writer}
+use Rattle.unit_trials.proofs.tests_units.relay.Goals as goal
 
 pub write_all-requires-after_bounds : goal.write_all-requires-after_bounds
 write_all-requires-after_bounds g c κs within = subst (All (λ (w : Writer MemSink ghosts). IsWriter c.in_ok-table.table w.ring.pass w.ring.ring (plus 2))) (sym c.as_mut_slice.ensures.value) c.in_ok-writers.ensures.each

@@ -2,7 +2,7 @@ use Rattle.std.proofs.Common.{◌∙◌, ap}
 use Rattle.share_core.specs.declared.part.CoreOpening.{CoreOpening}
 use Rattle.share_rule.specs.FirstWords.{starts_at}
 use Rattle.share_rule.specs.Layout.{first_cell}
-use Rattle.unit_share.proofs.tests.two_rings_hand_over.Goals as goal
+use Rattle.unit_trials.proofs.tests_units.two_rings_hand_over.Goals as goal
 
 pub begin_over_three-one-requires-clause-starts : goal.begin_over_three-one-requires-clause-starts
 begin_over_three-one-requires-clause-starts g c = (

@@ -7,8 +7,8 @@ use Rattle.share_rule.specs.declared.view.View.{View}
 use Rattle.share_rule.specs.Views.{only, no_part, clause_in, clause_of}
 use Rattle.share_rule.specs.Steps.{after_drop}
 use Rattle.share_rule.specs.Turns.{written_of}
-use Rattle.unit_share.proofs.Burying.{taken_core, one_waits, dropped_waits, held_there}
-use Rattle.unit_share.proofs.tests_learning.give_up_and_bury.Goals as goal
+use Rattle.unit_trials.proofs.Burying.{taken_core, one_waits, dropped_waits, held_there}
+use Rattle.unit_trials.proofs.learners.give_up_and_bury.Goals as goal
 
 pub bury-requires-clause-note : goal.bury-requires-clause-note
 bury-requires-clause-note g c =

@@ -1,8 +1,8 @@
 use Rattle.std.proofs.Common.{◌∷◌, [], sym, subst}
 use Rattle.share_rule.specs.declared.Layout.{Layout}
 use Rattle.share_rule.specs.Layout.{InVars}
-use Rattle.unit_share.proofs.Listing.{may_list}
-use Rattle.unit_share.proofs.tests_learning.list_first.Goals as goal
+use Rattle.unit_trials.proofs.Listing.{may_list}
+use Rattle.unit_trials.proofs.learners.list_first.Goals as goal
 
 pub publish-requires-clause-unit : goal.publish-requires-clause-unit
 publish-requires-clause-unit g c =

@@ -25,7 +25,7 @@ use Rattle.share_rule.specs.declared.view.RingPart.{RingPart}
 use Rattle.share_rule.specs.declared.view.View.{View}
 use Rattle.share_rule.specs.FirstWords.{starts_at}
 use Rattle.share_rule.specs.Views.{only, no_part}
-use Rattle.unit_share.specs.Samples.{IsBeginner, IsLearner, IsPairHolder, plus, three, pair, pair_part}
+use Rattle.unit_trials.specs.Samples.{IsBeginner, IsLearner, IsPairHolder, plus, three, pair, pair_part}
 
 -- an opening that has the three clauses
 abbrev small : CoreOpening → ℕ → CoreOpening

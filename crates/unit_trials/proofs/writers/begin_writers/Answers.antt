@@ -1,11 +1,11 @@
 use Rattle.std.proofs.Common.{◌≡◌, ◌∙◌, ◌++◌, ◌∷◌, [], ℕ, List, All, length, length-append, get_or, sym, ap, subst, arith}
 use Rattle.share_core.proofs.ClauseLists.{all_last}
 use Rattle.share_core.specs.declared.part.CoreOpening.{CoreOpening}
-use Rattle.sample_table.proofs.Trading.{numbers_more}
-use Rattle.unit_share.specs.Samples.{IsWriter, plus}
-use Rattle.unit_share.specs.declared.tests_turns.Writer.{Writer}
-use Rattle.unit_share.proofs.Writing.{new_writer}
-use Rattle.unit_share.proofs.tests_turns.begin_writers.Goals as goal
+use Rattle.sample_table.proofs.Gathering.{numbers_more}
+use Rattle.unit_trials.specs.Samples.{IsWriter, plus}
+use Rattle.unit_trials.specs.declared.writers.Writer.{Writer}
+use Rattle.unit_trials.proofs.Writing.{new_writer}
+use Rattle.unit_trials.proofs.writers.begin_writers.Goals as goal
 
 pub loop-ring-preserved : goal.loop-ring-preserved
 loop-ring-preserved g c =

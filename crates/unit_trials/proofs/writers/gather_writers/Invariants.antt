@@ -1,8 +1,8 @@
 use Rattle.std.proofs.Common.{◌≡◌, ◌<◌, ℕ, All, length, slice_index_or}
 use Rattle.sample_table.specs.Samples.{IsGathered}
-use Rattle.unit_share.specs.Samples.{IsWriter, plus}
-use Rattle.unit_share.specs.declared.tests_turns.Writer.{Writer}
-use Rattle.unit_share.proofs.tests_turns.gather_writers.Given as goal
+use Rattle.unit_trials.specs.Samples.{IsWriter, plus}
+use Rattle.unit_trials.specs.declared.writers.Writer.{Writer}
+use Rattle.unit_trials.proofs.writers.gather_writers.Given as goal
 
 abbrev pub invariant-loop-writer : goal.invariant-loop-writer
 invariant-loop-writer g l = IsGathered l.table l.first (length l.writers.items)

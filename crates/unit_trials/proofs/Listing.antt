@@ -18,7 +18,7 @@ use Rattle.share_rule.specs.Turns.{IsWriting, take_part}
 use Rattle.share_rule.specs.Units.{MayPublish, count_part, after_count}
 use Rattle.log_book.specs.declared.turn.Turn.{Turn}
 use Rattle.log_book.specs.Turns.{WasTaken}
-use Rattle.unit_share.proofs.Telling.{told_own}
+use Rattle.unit_trials.proofs.Telling.{told_own}
 
 pub may_list : {S : Type 0} {d : Ghosts S} (written flushed target : S → Option (List ℕ)) (faults : S → ℕ) (v w z : View) (t : Turn S d) (lit : Literal) → v.parts ≡ only v ∷ [] → WasTaken written flushed target faults v w t → z ≡ after_count 0 w → Seen z
     → list_any (same_set (lit ∷ [])) (added (map (λ (x : Placed). x.entry) (only v).core.wrote)) ≡ true → (only v).core.seen ≡ [] → InVars z.layout (lit ∷ []) → MayPublish lit z × (0 ≡ length (only z).core.seen)

@@ -1,4 +1,4 @@
-// Rings that learn, and put what they learned into a cell.
+//! Rings that learn, put what they learned into a cell, delete it, and list a unit.
 ghost use Rattle.std.specs.Prelude.{◌≡◌, ◌≤◌, ◌<◌, ◌+◌, ℕ, ◌∷◌, [], true, map, IfSome};
 ghost use Rattle.std.specs.List.{list_any};
 ghost use Rattle.sat_words.specs.Clause.{same_set};
@@ -14,9 +14,8 @@ ghost use Rattle.rup_model.specs.declared.journal.Entry.TheVariants.{Add};
 ghost use Rattle.rup_model.specs.Opening.{IsLong};
 ghost use Rattle.share_core.specs.Events.{made_part, opened_part};
 ghost use Rattle.share_rule.specs.Views.{only};
-ghost use Rattle.unit_share.specs.Samples.{IsBeginner, IsLearner, IsBuilder, IsPairHolder, three};
+ghost use Rattle.unit_trials.specs.Samples.{IsBeginner, IsLearner, IsBuilder, IsPairHolder, three};
 
-use crate::units::{next_unit, publish};
 use clause_cell::{head_word, lit_word};
 use io_edge::Sink;
 use log_book::{Book, give_turn, take_turn};
@@ -27,12 +26,11 @@ use sat_words::{Cref, Lit};
 use share_rule::{Pass, Shared};
 use std::alloc::Global;
 use std::sync::Wait;
-use std::sync::atomic::{AtomicU64, Ordering};
-use std::thread::{Threads, join};
+use unit_share::{next_unit, publish};
 
 /// Takes the turn, learns the clause, and gives the turn back: its cell and its number.
 #[tactic(auto, using(crate::proofs::Learning::may_learn_taken))]
-pub(crate) fn learn<H: Wait, S: Sink>(
+pub fn learn<H: Wait, S: Sink>(
     rt: &H,
     alloc: Global,
     table: &Shared<Book<S>>,
@@ -62,7 +60,7 @@ pub(crate) fn learn<H: Wait, S: Sink>(
 }
 
 /// Stores the words of the cell of two literals that the ring builds, and opens it.
-pub(crate) fn build<S: Sink>(
+pub fn build<S: Sink>(
     table: &Shared<Book<S>>,
     ring: &mut Ring<Book<S>>,
     cell: Cref,
@@ -102,7 +100,7 @@ fn read_pair<S: Sink>(
 }
 
 /// Gives the last count of a cell of two literals up, takes the turn, deletes its clause, and gives the turn back.
-pub(crate) fn give_up_and_bury<H: Wait, S: Sink>(
+pub fn give_up_and_bury<H: Wait, S: Sink>(
     rt: &H,
     alloc: Global,
     table: &Shared<Book<S>>,
@@ -137,7 +135,7 @@ pub(crate) fn give_up_and_bury<H: Wait, S: Sink>(
 
 /// Takes the turn, learns the unit, and gives the turn back: its number.
 #[tactic(auto, using(crate::proofs::Learning::may_learn_taken))]
-pub(crate) fn learn_unit<H: Wait, S: Sink>(
+pub fn learn_unit<H: Wait, S: Sink>(
     rt: &H,
     alloc: Global,
     table: &Shared<Book<S>>,
@@ -163,7 +161,7 @@ pub(crate) fn learn_unit<H: Wait, S: Sink>(
 }
 
 /// Takes the turn, lists the unit where no unit is listed, and gives the turn back.
-pub(crate) fn list_first<H: Wait, S: Sink>(
+pub fn list_first<H: Wait, S: Sink>(
     rt: &H,
     alloc: Global,
     table: &Shared<Book<S>>,
@@ -193,7 +191,7 @@ pub(crate) fn list_first<H: Wait, S: Sink>(
 
 /// Learns the clause of 1 and 2, and puts it into a cell, which the ring then holds.
 #[tactic(auto, using(crate::proofs::Playing::may_learn_pair, crate::proofs::Playing::long_pair))]
-pub(crate) fn learn_pair<H: Wait, S: Sink>(
+pub fn learn_pair<H: Wait, S: Sink>(
     rt: &H,
     alloc: Global,
     table: &Shared<Book<S>>,
@@ -212,145 +210,8 @@ pub(crate) fn learn_pair<H: Wait, S: Sink>(
     Some(cell)
 }
 
-/// Waits until the hand is at this step. It is past all steps where the other ring gave the row up.
-fn wait_for<H: Wait>(rt: &H, hand: &AtomicU64, step: u64) -> bool {
-    for _ in rt.forever() {
-        let now = hand.load(Ordering::SeqCst);
-        if now >= step {
-            return now == step;
-        }
-    }
-    unreachable!()
-}
-
-/// Learns a clause, gives its copy up and deletes it, and in the end reads two listed units. Tells how many steps were done,
-/// and what was read.
-#[tactic(auto, using(crate::proofs::Playing::holds_pair))]
-fn play_zero<H: Wait, S: Sink>(
-    rt: &H,
-    alloc: Global,
-    table: &Shared<Book<S>>,
-    ring: &mut Ring<Book<S>>,
-    hand: &AtomicU64,
-) -> (u32, Option<Lit>, Option<Lit>)
-    requires { IsBeginner table.now ring.old.pass ring.old.ring }
-    ensures ring { IsAlone table.now ring.new.pass ring.new.ring }
-    ensures same { ring.new.ring ≡ ring.old.ring }
-{
-    let Some(cell) = learn_pair(rt, alloc, table, ring) else {
-        return (0, None, None);
-    };
-    hand.store(1, Ordering::SeqCst);
-    if !wait_for(rt, hand, 2) {
-        return (1, None, None);
-    }
-    if !give_up_and_bury(rt, alloc, table, ring, cell) {
-        return (2, None, None);
-    }
-    hand.store(3, Ordering::SeqCst);
-    if !wait_for(rt, hand, 4) {
-        return (3, None, None);
-    }
-    let Some(lit) = next_unit(table, &mut ring.pass, 0) else {
-        return (4, None, None);
-    };
-    let none = next_unit(table, &mut ring.pass, 1);
-    (4, Some(lit), none)
-}
-
-/// Learns the same clause, later the unit 2, and lists it in its next turn. Tells how many steps were done.
-#[tactic(auto, using(crate::proofs::Playing::may_learn_unit, crate::proofs::Playing::holds_pair, crate::proofs::Playing::unit_told, crate::proofs::Playing::two_on))]
-fn play_one<H: Wait, S: Sink>(
-    rt: &H,
-    alloc: Global,
-    table: &Shared<Book<S>>,
-    ring: &mut Ring<Book<S>>,
-    hand: &AtomicU64,
-) -> u32
-    requires { IsBeginner table.now ring.old.pass ring.old.ring }
-    ensures ring { IsAlone table.now ring.new.pass ring.new.ring }
-    ensures same { ring.new.ring ≡ ring.old.ring }
-{
-    let two = Lit::new(2, false);
-    if !wait_for(rt, hand, 1) {
-        return 0;
-    }
-    let Some(_) = learn_pair(rt, alloc, table, ring) else {
-        return 1;
-    };
-    hand.store(2, Ordering::SeqCst);
-    if !wait_for(rt, hand, 3) {
-        return 2;
-    }
-    let Some(_) = learn_unit(rt, alloc, table, ring, two) else {
-        return 3;
-    };
-    if !list_first(rt, alloc, table, ring, two) {
-        return 4;
-    }
-    5
-}
-
-/// A ring that took part in the row, how many of its steps were done, and what it read of the listed units.
-pub(crate) type Played<S> = (Ring<Book<S>>, u32, Option<Lit>, Option<Lit>);
-
-fn run_zero<H: Wait, S: Sink>(
-    rt: &H,
-    alloc: Global,
-    table: &Shared<Book<S>>,
-    ring: Ring<Book<S>>,
-    hand: &AtomicU64,
-) -> Played<S>
-    requires { IsBeginner table.now ring.pass ring.ring }
-    ensures ring { IsAlone table.now result.0.pass ring.ring × (result.0.ring ≡ ring.ring) }
-{
-    let mut ring = ring;
-    let (steps, lit, none) = play_zero(rt, alloc, table, &mut ring, hand);
-    if steps < 4 {
-        hand.store(9, Ordering::SeqCst);
-    }
-    (ring, steps, lit, none)
-}
-
-fn run_one<H: Wait, S: Sink>(
-    rt: &H,
-    alloc: Global,
-    table: &Shared<Book<S>>,
-    ring: Ring<Book<S>>,
-    hand: &AtomicU64,
-) -> Played<S>
-    requires { IsBeginner table.now ring.pass ring.ring }
-    ensures ring { IsAlone table.now result.0.pass ring.ring × (result.0.ring ≡ ring.ring) }
-{
-    let mut ring = ring;
-    let steps = play_one(rt, alloc, table, &mut ring, hand);
-    hand.store(if steps < 5 { 9 } else { 4 }, Ordering::SeqCst);
-    (ring, steps, None, None)
-}
-
-/// Both rings of the row, each in a thread of its own where threads can be made. They hand over to each other.
-pub(crate) fn play<S: Sink + Send, R: Threads + Wait + Sync>(
-    rt: &R,
-    alloc: Global,
-    table: &Shared<Book<S>>,
-    zero: Ring<Book<S>>,
-    one: Ring<Book<S>>,
-) -> (Played<S>, Played<S>)
-    requires zero { IsBeginner table.now zero.pass zero.ring }
-    requires one { IsBeginner table.now one.pass one.ring }
-    ensures zero { IsAlone table.now result.0.0.pass zero.ring × (result.0.0.ring ≡ zero.ring) }
-    ensures one { IsAlone table.now result.1.0.pass one.ring × (result.1.0.ring ≡ one.ring) }
-{
-    let hand = AtomicU64::new(0);
-    join(
-        rt,
-        || run_zero(rt, alloc, table, zero, &hand),
-        || run_one(rt, alloc, table, one, &hand),
-    )
-}
-
 /// A ring of a table over the three clauses.
-pub(crate) fn begin_over_three<S: Sink>(
+pub fn begin_over_three<S: Sink>(
     table: &Shared<Book<S>>,
     first: &mut Pass<Book<S>>,
     ring: u32,

@@ -1,8 +1,9 @@
 // Rings on threads that take the turn of one book.
 ghost use Rattle.std.specs.Prelude.{◌≤◌, ◌<◌, ◌^◌};
 
-use crate::tests_learning::{begin_over_three, play};
-use crate::tests_turns::{begin_writers, gather_writers, make_three, new_book, write_all};
+use crate::learners::begin_over_three;
+use crate::tests_row::play;
+use crate::writers::{begin_writers, gather_writers, make_three, new_book, write_all};
 use io_edge::MemSink;
 use sample_table::{gather, open_with, start_cell};
 use sat_words::Lit;

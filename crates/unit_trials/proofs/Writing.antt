@@ -15,7 +15,7 @@ use Rattle.share_rule.specs.FirstWords.{starts_at}
 use Rattle.share_rule.specs.Steps.{new_part}
 use Rattle.share_rule.specs.Views.{only, no_part}
 use Rattle.sample_table.specs.Samples.{IsRing}
-use Rattle.unit_share.specs.Samples.{IsWriter, plus, three}
+use Rattle.unit_trials.specs.Samples.{IsWriter, plus, three}
 
 -- 2 follows from the three clauses
 two_follows : (a : ℕ) → rup (map (λ (k : ℕ × List Literal). k.1) (map (λ (h : ClauseAt). (h.number, h.lits)) (starts_at a three) ++ [])) (plus 2 ∷ []) ≡ true

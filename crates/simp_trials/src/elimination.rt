@@ -1,9 +1,10 @@
-ghost use Rattle.simp_base.specs.WorkState.{IsWork};
+ghost use Rattle.std.specs.Prelude.{◌≤◌, All};
 
 use crate::rows::{Row, check_left, counted, written};
-use drat_text::{CountedLines, LineStop};
+use drat_text::LineStop;
+use model_stack::Stack;
 use sat_words::Assignment;
-use simp_base::{Run, Work};
+use simp_base::Run;
 use simp_elim::run;
 use std::alloc::{AllocError, Global};
 use std::process::Abort;
@@ -59,12 +60,11 @@ fn a_line_that_fails(rt: HostRuntime) -> Result<(), Fail> {
 }
 
 /// The assignment that is false everywhere, mended by the stack.
-fn mended(alloc: Global, work: Work<CountedLines>) -> Result<Assignment, AllocError>
-    requires { IsWork work }
+fn mended(alloc: Global, vars: u32, stack: &Stack) -> Result<Assignment, AllocError>
+    requires { All (λ fix. fix.lit.var ≤ vars) stack.now }
 {
-    let mut model = Assignment::new(alloc, work.vars())?;
-    let parts = work.into_parts();
-    parts.stack.extend(&mut model);
+    let mut model = Assignment::new(alloc, vars)?;
+    stack.extend(&mut model);
     Ok(model)
 }
 
@@ -73,7 +73,8 @@ fn a_model_comes_back(rt: HostRuntime) -> Result<(), Fail> {
     let alloc = rt.alloc();
     let mut work = counted(&rt, alloc, VARS, &[1, 2, 0, 1, 4, 0, -1, 3, 0], 0)?;
     assert!(rt; run(&mut work) == Ok(Run::Done));
-    let model = mended(alloc, work)?;
+    let left = work.into_parts();
+    let model = mended(alloc, VARS, &left.stack)?;
     for (var, value) in [(1, true), (2, false), (3, true), (4, false)] {
         assert_eq!(rt; model.value(var), value);
     }

@@ -29,7 +29,7 @@ pub(crate) fn counted(
     failing: u64,
 ) -> Result<Work<CountedLines>, Fail>
     requires { vars ≤ 2 ^ 30 }
-    ensures { IfOk result (λ work. (work.output.spent ≡ false) × (work.ended ≡ false) × IsWork work) }
+    ensures { IfOk result (λ work. (work.vars ≡ vars) × (work.output.spent ≡ false) × (work.ended ≡ false) × IsWork work) }
 {
     let formula = formula_of(alloc, vars, clauses)?;
     assert!(rt; is_on(&formula));

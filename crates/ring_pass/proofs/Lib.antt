@@ -18,7 +18,6 @@ mod OffersSeen
 mod OtherRings
 mod PollsHere
 mod RingPorts
-mod Row
 mod SeenHere
 mod Stays
 mod StopsHere

@@ -6,7 +6,6 @@ pub mod Looks
 pub mod Offering
 pub mod Refusals
 pub mod RingState
-pub mod Samples
 pub mod Sights
 pub mod Stops
 pub mod Writes

@@ -32,12 +32,3 @@ mod turns;
 mod waiting;
 
 pub use pass::RingPass;
-
-#[cfg(test)]
-mod tests;
-#[cfg(test)]
-mod tests_gates;
-#[cfg(test)]
-mod tests_rings;
-#[cfg(test)]
-mod tests_rows;

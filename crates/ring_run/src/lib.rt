@@ -23,14 +23,3 @@ mod vivification;
 
 pub use job::{Addresses, Counts, End, Job};
 pub use run::run_ring;
-
-#[cfg(test)]
-mod tests;
-#[cfg(test)]
-mod tests_begin;
-#[cfg(test)]
-mod tests_port;
-#[cfg(test)]
-mod tests_row;
-#[cfg(test)]
-mod tests_vivify;

@@ -1,2 +1,3 @@
 pub mod ReductionRow
+pub mod Steps
 pub mod VivificationRow

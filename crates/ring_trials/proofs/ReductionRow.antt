@@ -98,7 +98,8 @@ row_added s m lits glue kind d row k keeps port = record {
   port = port;
 }
 
-attached_held : (s : PortState) (w : WatchData) (t : TrailData) (c : Cref) → Watched w (lits_at s) t → Contains (attached w) c → IsSome (held_at s c.address)
+-- what is attached is held
+pub attached_held : (s : PortState) (w : WatchData) (t : TrailData) (c : Cref) → Watched w (lits_at s) t → Contains (attached w) c → IsSome (held_at s c.address)
 attached_held s w t c watched h =
     let m = watch_of w c h in
     subst (λ (x : Cref). IsSome (held_at s x.address)) m.3 (attachable_held w.vars s m.1.clause.address (watched.clauses m.0 m.1 m.2))

@@ -1,2 +1,3 @@
 pub mod ReductionRow
+pub mod Stepping
 pub mod VivificationRow

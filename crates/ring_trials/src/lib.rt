@@ -1,7 +1,20 @@
-//! Tests of reduction and vivification. They stand above these crates, so that each of these is proved once.
+//! Tests of whole rings and of a ring's steps, of reduction and of vivification. They stand above these crates, so that each
+//! of these is proved once.
 #![tactic(auto)]
 
+pub mod beginning;
+#[cfg(test)]
+mod crowd_runs;
+#[cfg(test)]
+mod long_runs;
+pub mod reducing;
 #[cfg(test)]
 mod reduction;
 #[cfg(test)]
+mod runs;
+pub mod stepping;
+#[cfg(test)]
+mod steps;
+#[cfg(test)]
 mod vivification;
+pub mod vivifying;

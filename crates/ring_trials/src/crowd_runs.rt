@@ -1,0 +1,141 @@
+// A ring over a port of three rings, where another ring's stop appears or its clause comes, and each line is refused.
+use crate::beginning::{begin, join_crowd};
+use crate::runs::{counted, two_clauses};
+use drat_text::CountedLines;
+use ring_run::{Counts, End, run_ring};
+use sample_port::{Poll, third_stop};
+use sat_words::{Assignment, Lit, NoRoom, STOP_MEMORY, STOP_ROOM, Stop};
+use std::alloc::Global;
+use std::test::Fail;
+
+/// By this seed the first words of the reference generator of ring 1 end in the bits 0: all are decided false.
+const SEED: u64 = 2;
+
+/// What a run over the port came to.
+#[derive(Drop)]
+struct Ran {
+    end: End,
+    counts: Counts,
+    stop: Option<Stop>,
+    looks: u64,
+    glue: Option<u32>,
+    polls: Vec<Poll>,
+}
+
+/// Runs the second of three rings on two clauses that oppose each other after two decisions. Another ring has the clause `2 3`,
+/// and hands it over at the first such poll.
+fn run_on_two(alloc: Global, gift: Option<Poll>, quiet: u64, memory: bool) -> Result<Ran, Fail> {
+    let problem = two_clauses(alloc)?;
+    let problem = problem.with(alloc, &[Lit::new(2, false), Lit::new(3, false)])?;
+    let lines = CountedLines::new(problem.formula.clauses().len() as u64, 0);
+    let (inner, alone) = begin(alloc, problem, 2, SEED, lines)?;
+    let (mut port, job) = join_crowd(alloc, inner, alone, gift, quiet, memory)?;
+    let (end, counts) = run_ring(alloc, &mut port, &job);
+    Ok(Ran {
+        end,
+        counts,
+        stop: port.known_stop(),
+        looks: port.looks(),
+        glue: port.glue(),
+        polls: port.into_polls(),
+    })
+}
+
+// The stop appears at the second look: one decision was made, and the ring set no stop.
+#[test]
+fn another_ring_stops_it(rt: HostRuntime) -> Result<(), Fail> {
+    let ran = run_on_two(rt.alloc(), None, 1, false)?;
+    let End::Stopped(stop) = ran.end else {
+        return Err(Fail::from("not stopped"));
+    };
+    assert!(rt; stop == third_stop());
+    assert_eq!(rt; ran.stop, Some(third_stop()));
+    assert_eq!(rt; ran.looks, 1);
+    assert_eq!(rt; ran.counts, counted(0, 0));
+    assert_eq!(rt; ran.glue, None);
+    Ok(())
+}
+
+// Two looks find no stop, and two decisions are made. The lemma `2 3` has one level beside that of its first literal.
+#[test]
+fn tells_that_there_is_no_room(rt: HostRuntime) -> Result<(), Fail> {
+    let ran = run_on_two(rt.alloc(), None, 9, false)?;
+    let End::NoHole(lack) = ran.end else {
+        return Err(Fail::from("there was room"));
+    };
+    assert_eq!(rt;
+        lack,
+        NoRoom {
+            need: 9,
+            largest: 7
+        }
+    );
+    assert_eq!(rt;
+        ran.stop,
+        Some(Stop {
+            kind: STOP_ROOM,
+            ring: 1
+        })
+    );
+    assert_eq!(rt; ran.looks, 2);
+    assert_eq!(rt; ran.counts, counted(0, 0));
+    assert_eq!(rt; ran.glue, Some(1));
+    Ok(())
+}
+
+#[test]
+fn tells_that_memory_ran_out(rt: HostRuntime) -> Result<(), Fail> {
+    let ran = run_on_two(rt.alloc(), None, 9, true)?;
+    assert!(rt; matches!(ran.end, End::Memory));
+    assert_eq!(rt;
+        ran.stop,
+        Some(Stop {
+            kind: STOP_MEMORY,
+            ring: 1
+        })
+    );
+    assert_eq!(rt; ran.counts, counted(0, 0));
+    Ok(())
+}
+
+// It polled the four classes of the first ring and then those of the third, once, before it decided anything.
+#[test]
+fn polls_each_other_ring_at_its_start(rt: HostRuntime) -> Result<(), Fail> {
+    let ran = run_on_two(rt.alloc(), None, 0, false)?;
+    assert!(rt; matches!(ran.end, End::Stopped(_)));
+    assert_eq!(rt; ran.counts, counted(0, 0));
+    assert_eq!(rt; ran.polls.len(), 8);
+    for i in 0..4 {
+        let class = i as u8;
+        assert_eq!(rt; ran.polls[i], Poll { from: 0, class });
+        assert_eq!(rt; ran.polls[4 + i], Poll { from: 2, class });
+    }
+    Ok(())
+}
+
+/// What comes of it where a ring hands its clause over: the model, the glue of a lemma, and how often it polled.
+fn run_handed(alloc: Global, from: u32) -> Result<(Assignment, Option<u32>, usize), Fail> {
+    let gift = Poll { from, class: 0 };
+    let Ran {
+        end,
+        glue,
+        polls,
+        ..
+    } = run_on_two(alloc, Some(gift), 9, false)?;
+    let End::Sat(model) = end else {
+        return Err(Fail::from("no model"));
+    };
+    Ok((model, glue, polls.len()))
+}
+
+// Where 3 is decided false the clause of another ring makes 2 true, so that no conflict comes, whose lemma would be refused.
+#[test]
+fn searches_over_what_it_was_handed(rt: HostRuntime) -> Result<(), Fail> {
+    for from in [0, 2] {
+        let (model, glue, polls) = run_handed(rt.alloc(), from)?;
+        assert_eq!(rt; model.truth_of_lit(Lit::new(2, false)), true);
+        assert_eq!(rt; model.truth_of_lit(Lit::new(3, false)), false);
+        assert_eq!(rt; (glue, polls), (None, 8));
+    }
+    Ok(())
+}

@@ -1,3 +1,3 @@
 pub mod ReductionRow
-pub mod Steps
+pub mod SteppingLemmas
 pub mod VivificationRow

@@ -1,7 +1,7 @@
 use Rattle.std.proofs.Common.{sym, subst, All, IsSome, List}
 use Rattle.sat_words.specs.declared.shared.Cref.{Cref}
 use Rattle.ring_port.specs.PortState.{held_at}
-use Rattle.ring_trials.proofs.Steps.{starts_held}
+use Rattle.ring_trials.proofs.SteppingLemmas.{starts_held}
 use Rattle.ring_trials.proofs.beginning.open_counted.Goals as goal
 
 pub returns : goal.returns

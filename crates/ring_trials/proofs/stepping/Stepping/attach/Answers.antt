@@ -7,7 +7,7 @@ use Rattle.ring_trail.specs.TrailData.{TrailData}
 use Rattle.watch_prop.specs.WatchData.{attached}
 use Rattle.watch_prop.specs.Watched.{Watched}
 use Rattle.ring_trials.specs.Stepping.{IsStepping}
-use Rattle.ring_trials.proofs.Steps.{attached_stepping}
+use Rattle.ring_trials.proofs.SteppingLemmas.{attached_stepping}
 use Rattle.ring_trials.proofs.stepping.Stepping.attach.Goals as goal
 
 pub loop-clause-preserved : goal.loop-clause-preserved

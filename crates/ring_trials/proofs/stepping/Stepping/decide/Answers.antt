@@ -1,4 +1,4 @@
-use Rattle.ring_trials.proofs.Steps.{decided_stepping}
+use Rattle.ring_trials.proofs.SteppingLemmas.{decided_stepping}
 use Rattle.ring_trials.proofs.stepping.Stepping.decide.Goals as goal
 
 pub propagate-requires : goal.propagate-requires

@@ -1,5 +1,5 @@
 use Rattle.std.proofs.Common.{◌∙◌}
-use Rattle.ring_trials.proofs.Steps.{begun}
+use Rattle.ring_trials.proofs.SteppingLemmas.{begun}
 use Rattle.ring_trials.proofs.stepping.Stepping.new.Goals as goal
 
 pub returns-clause-stepping : goal.returns-clause-stepping

@@ -1,4 +1,4 @@
-use Rattle.ring_trials.proofs.Steps.{grown_stepping}
+use Rattle.ring_trials.proofs.SteppingLemmas.{grown_stepping}
 use Rattle.ring_trials.proofs.stepping.Stepping.propagate.Goals as goal
 
 pub returns-clause-stepping : goal.returns-clause-stepping

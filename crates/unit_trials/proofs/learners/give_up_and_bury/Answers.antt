@@ -1,4 +1,4 @@
-use Rattle.std.proofs.Common.{◌≡◌, ◌∙◌, ℕ, ◌<◌, List, [], ◌∷◌, sym, ap, subst}
+use Rattle.std.proofs.Common.{◌≡◌, ◌∙◌, ℕ, ◌<◌, List, sym, ap, subst}
 use Rattle.std.specs.Prelude.{slice_index_or}
 use Rattle.share_core.specs.declared.stored.ClauseAt.{ClauseAt}
 use Rattle.share_core.specs.State.{times_at}
@@ -6,7 +6,6 @@ use Rattle.share_rule.specs.declared.view.RingPart.{RingPart}
 use Rattle.share_rule.specs.declared.view.View.{View}
 use Rattle.share_rule.specs.Views.{only, no_part, clause_in, clause_of}
 use Rattle.share_rule.specs.Steps.{after_drop}
-use Rattle.share_rule.specs.Turns.{written_of}
 use Rattle.unit_trials.proofs.Burying.{taken_core, one_waits, dropped_waits, held_there}
 use Rattle.unit_trials.proofs.learners.give_up_and_bury.Goals as goal
 

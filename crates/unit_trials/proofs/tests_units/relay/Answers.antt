@@ -1,4 +1,4 @@
-use Rattle.std.proofs.Common.{◌≡◌, ◌∙◌, ◌++◌, ◌<◌, ℕ, List, All, length, take, drop, get_or, sym, ap, subst}
+use Rattle.std.proofs.Common.{◌≡◌, ◌∙◌, ◌<◌, ℕ, List, All, length, get_or, sym, ap, subst}
 use Rattle.io_edge.specs.declared.memory_sink.MemSink.{MemSink}
 use Rattle.io_edge.specs.contracts.memory_sink.MemSinkSink.TheImpl.{ghosts}
 use Rattle.sample_table.specs.Samples.{IsGathered}

@@ -1,26 +1,15 @@
 -- What a put leaves of what is held.
-use Rattle.std.proofs.Common.{◌≡◌, ◌≢◌, ℕ, ◌+◌, ◌*◌, ◌<◌, ◌≤◌, ◌==◌, List, [], ◌∷◌, refl, sym, ap, ◌∙◌, subst, arith, eq-eqb, ne_eqb, Option, Some, None}
-use Rattle.std.specs.Prelude.{slice_index_or, IfSome}
+use Rattle.std.proofs.Common.{◌≡◌, ◌≢◌, ℕ, ◌<◌, ◌≤◌, ◌==◌, List, [], ◌∷◌, sym, ap, subst, arith, ne_eqb}
 use mathlib.Core.Logic.{dite}
 use native.Mathlib.Decide.{ℕ_discrete}
-use lib.ListN.{get_elem?}
-use Rattle.sat_words.specs.declared.shared.Cref.{Cref}
 use Rattle.rup_model.specs.Basics.{one_if}
-use Rattle.share_core.specs.declared.part.CoreOpening.{CoreOpening}
 use Rattle.share_core.specs.declared.stored.ClauseAt.{ClauseAt}
 use Rattle.share_core.specs.declared.stored.PutNote.{PutNote}
-use Rattle.share_core.specs.State.{times_at, without_at, with_cell, slot_of}
-use Rattle.share_core.proofs.Counting.{slot_below}
+use Rattle.share_core.specs.State.{times_at, without_at, with_cell}
 use Rattle.share_core.proofs.ClauseLists.{at_some, at_some_zero, at_without}
-use Rattle.share_rule.specs.declared.Layout.{Layout}
-use Rattle.share_rule.specs.declared.view.RingPart.{RingPart}
 use Rattle.share_rule.specs.declared.view.View.{View}
-use Rattle.share_rule.specs.Layout.{slot_at, table_words}
-use Rattle.share_rule.specs.Views.{only, no_part, IsHolding}
-use Rattle.share_rule.specs.Steps.{on_first}
-use Rattle.share_rule.specs.Exchanges.{slot_word, gave_part, took_part, after_put, after_get}
-use Rattle.share_rule.specs.Seen.{Seen}
-use Rattle.pool_exchange.specs.Found.{IsFound}
+use Rattle.share_rule.specs.Views.{only}
+use Rattle.share_rule.specs.Exchanges.{gave_part, after_put}
 use Rattle.pool_exchange.proofs.Places.{held_there}
 
 -- what a ring held of other cells it holds behind a put

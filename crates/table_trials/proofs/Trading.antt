@@ -1,25 +1,16 @@
 -- What a ring holds after it shares and drops.
-use Rattle.std.proofs.Common.{◌≡◌, ℕ, zero, suc, ◌+◌, ◌<◌, ◌==◌, List, [], ◌∷◌, ◌++◌, map, length, get_or, take, drop, append-nil, refl, sym, ap, ◌∙◌, subst, arith, eq-eqb, ne_eqb, cond, Option, None}
+use Rattle.std.proofs.Common.{◌≡◌, ℕ, ◌+◌, ◌<◌, ◌==◌, List, [], ◌∷◌, ◌++◌, sym, ap, ◌∙◌, subst, arith, eq-eqb, ne_eqb, cond}
 use Rattle.std.specs.Prelude.{slice_index_or}
-use Rattle.std.proofs.lemmas.List.{drop_all, take_all, get_or_append_left, get_or-append-add}
 use mathlib.Core.Logic.{dite}
 use native.Mathlib.Decide.{ℕ_discrete}
-use Rattle.atomic_table.specs.declared.shared.Seat.{Seat}
-use Rattle.sat_words.specs.declared.shared.Cref.{Cref}
-use Rattle.share_core.specs.declared.part.CoreOpening.{CoreOpening}
-use Rattle.share_rule.specs.declared.Shared.{Shared}
-use Rattle.share_rule.specs.FirstWords.{addresses}
-use Rattle.share_rule.specs.Passes.{IsPassOf, IsSamePass, NoTurns}
-use Rattle.share_rule.specs.Shown.{ring_of}
-use Rattle.sample_table.specs.Samples.{IsRing, IsGathered}
 use Rattle.rup_model.specs.Basics.{one_if}
 use Rattle.share_core.specs.declared.stored.ClauseAt.{ClauseAt}
 use Rattle.share_core.specs.State.{times_at, without_at}
 use Rattle.share_rule.specs.declared.view.RingPart.{RingPart}
 use Rattle.share_rule.specs.declared.view.View.{View}
-use Rattle.share_rule.specs.Views.{only, no_part, times_in, without_in}
-use Rattle.share_rule.specs.Steps.{on_first, share_part, drop_part, after_share, after_drop, after_load, joined}
-use Rattle.share_rule.proofs.Lists.{first_at, times_without}
+use Rattle.share_rule.specs.Views.{only, no_part}
+use Rattle.share_rule.specs.Steps.{on_first, share_part, drop_part, after_share, after_drop}
+use Rattle.share_rule.proofs.Lists.{first_at}
 
 only_changed : (f : RingPart → RingPart) (v u : View) → v.parts ≡ only v ∷ [] → u.parts ≡ on_first f v.parts → (u.parts ≡ only u ∷ []) × (only u ≡ f (only v))
 only_changed f v u one is =

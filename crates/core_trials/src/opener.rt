@@ -6,7 +6,7 @@ ghost use Rattle.rup_model.specs.Journal.{formula_clause, is_told};
 ghost use Rattle.share_core.specs.declared.stored.ClauseAt.{ClauseAt};
 ghost use Rattle.share_core.specs.State.{opened};
 ghost use Rattle.share_core.specs.Machine.{state_of, start_at, core_opening};
-ghost use Rattle.share_core.specs.Openings.{start_fits, stand_apart, opens};
+ghost use Rattle.core_trials.specs.Fitting.{start_fits, stand_apart, opens};
 
 use crate::literals::{are_distinct, is_long, is_told};
 use sat_words::{Clause, Formula, Lit, Lits};

@@ -17,13 +17,13 @@ use Rattle.log_book.specs.Books.{account_of, IsLogOf}
 use Rattle.log_book.specs.Turns.{IsTurn, HasBook, HasTaken, HasMissed}
 
 pub missed : (v w : View) (free new found : ℕ) → w ≡ after_miss free new found v → HasMissed v w
-missed v w free new found e = record { origin = ap (λ (u : View). u.origin) e; parts = ap (λ (u : View). u.parts) e; rights = ap (λ (u : View). u.rights) e; stop = ap (λ (u : View). u.stop) e; layout = ap (λ (u : View). u.layout) e; opening = ap (λ (u : View). u.opening) e }
+missed v w free new found e = record { origin = ap (λ (u : View). u.origin) e; parts = ap (λ (u : View). u.parts) e; rights = ap (λ (u : View). u.rights) e; stop = ap (λ (u : View). u.stop) e; looks = ap (λ (u : View). u.looks) e; layout = ap (λ (u : View). u.layout) e; opening = ap (λ (u : View). u.opening) e }
 
 pub missed_none : (v : View) → HasMissed v v
-missed_none v = record { origin = refl; parts = refl; rights = refl; stop = refl; layout = refl; opening = refl }
+missed_none v = record { origin = refl; parts = refl; rights = refl; stop = refl; looks = refl; layout = refl; opening = refl }
 
 pub missed_both : (u v w : View) → HasMissed u v → HasMissed v w → HasMissed u w
-missed_both u v w a b = record { origin = b.origin ∙ a.origin; parts = b.parts ∙ a.parts; rights = b.rights ∙ a.rights; stop = b.stop ∙ a.stop; layout = b.layout ∙ a.layout; opening = b.opening ∙ a.opening }
+missed_both u v w a b = record { origin = b.origin ∙ a.origin; parts = b.parts ∙ a.parts; rights = b.rights ∙ a.rights; stop = b.stop ∙ a.stop; looks = b.looks ∙ a.looks; layout = b.layout ∙ a.layout; opening = b.opening ∙ a.opening }
 
 pub free_still : (v w : View) → HasMissed v w → IsFree v → (only w ≡ only v) × IsFree w
 free_still v w m h =

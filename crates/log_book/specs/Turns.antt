@@ -90,6 +90,7 @@ pub record HasMissed (v w : View) : Type 0 where
   pub parts : w.parts ≡ v.parts
   pub rights : w.rights ≡ v.rights
   pub stop : w.stop ≡ v.stop
+  pub looks : w.looks ≡ v.looks
   pub layout : w.layout ≡ v.layout
   pub opening : w.opening ≡ v.opening
   pub origin : w.origin ≡ v.origin

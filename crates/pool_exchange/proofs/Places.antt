@@ -56,7 +56,7 @@ pub get_holds : (from class : ℕ) (h : ClauseAt) (g : ℕ) (v w : View) → v.p
 get_holds from class h g v w one is some =
     let t = at_some h h.address (only v).core.held some in
     let z : one_if (h.address == h.address) ≡ 1 = ap one_if (eq-eqb h.address h.address refl) in
-    held_there (took_part h g) v w h.address one (ap (λ (u : View). u.parts) is) (omega arith)
+    held_there (took_part from class h g) v w h.address one (ap (λ (u : View). u.parts) is) (omega arith)
 
 -- for whatever is told to have been found
 pub found_held : (a : ℕ) (o : Option Cref) (v : View) → IsFound a o → (a ≢ 0 → IsHolding a v) → IfSome o (λ c. IsHolding c.address v)

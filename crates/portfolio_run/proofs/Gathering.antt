@@ -158,7 +158,7 @@ have_run {B} t v home plan p ps ends s rest same parts stop many long run = reco
         there = there i below;
         ring_is = r.has.ring_is;
         set = r.ran.set;
-        unstopped = λ none. unstopped (port_with (record v { stop = q.me.0.stop }) (only q.me.0) r.ran.own) (get_or ends i d).0 r.ran.ran.ends (ap (λ (x : Option Stop). option_map stop_as x) (stop_none s ps (sym stop ∙ none) i p below));
+        unstopped = λ none. unstopped (port_with (record v { stop = q.me.0.stop; looks = r.ran.looks }) (only q.me.0) r.ran.own) (get_or ends i d).0 r.ran.ran.ends (ap (λ (x : Option Stop). option_map stop_as x) (stop_none s ps (sym stop ∙ none) i p below));
       };
   ran = λ i d lt.
       let below : i < length ps = omega arith in
@@ -179,6 +179,7 @@ have_run {B} t v home plan p ps ends s rest same parts stop many long run = reco
 ran_same : (u v : View) (home name : List ℕ) (plan : Plan) (ring : ℕ) (seen : Option Stop) (part : RingPart) (end : End) (counts : Counts) → u.layout ≡ v.layout → u.opening ≡ v.opening → home ≡ name → RanAs v name plan ring seen part end counts → RanAs u home plan ring seen part end counts
 ran_same u v home name plan ring seen part end counts lay open_is named r = record {
   own = r.own;
+  looks = r.looks;
   ran = subst (λ (l : Layout). F l u.opening home) (sym lay) (subst (λ (o : CoreOpening). F v.layout o home) (sym open_is) (subst (λ (h : List ℕ). F v.layout v.opening h) (sym named) r.ran));
   ended_is = r.ended_is;
   faulty_is = r.faulty_is;
@@ -187,7 +188,7 @@ ran_same u v home name plan ring seen part end counts lay open_is named r = reco
 }
   where
     F : Layout → CoreOpening → List ℕ → Type 0
-    F l o h = RanTo (begun_at (record u { layout = l; opening = o }) h ring) (job_at (record u { layout = l; opening = o }) plan ring) (port_with (record u { stop = seen; layout = l; opening = o }) part r.own) end counts
+    F l o h = RanTo (begun_at (record u { layout = l; opening = o }) h ring) (job_at (record u { layout = l; opening = o }) plan ring) (port_with (record u { stop = seen; looks = r.looks; layout = l; opening = o }) part r.own) end counts
 
 pub run_same : {B : Type 0} (t : Shared B) (u v : View) (home name : List ℕ) (plan : Plan) (p : Seat (Option B) View) (ends : List (End × Counts)) → IsSameTable u v → name ≡ home → HaveRun t v name plan p ends → HaveRun t u home plan p ends
 run_same t u v home name plan p ends same named h = record {
@@ -231,7 +232,7 @@ mended_end s Memory stack h fits = tt
 pub mended_ends : {B : Type 0} (t : Shared B) (v : View) (home : List ℕ) (plan : Plan) (p : Seat (Option B) View) (ends : List (End × Counts)) (stack : List Fix) → v.layout ≡ t.layout → All (λ (fix : Fix). fix.lit.var ≤ t.layout.vars) stack → HaveRun t v home plan p ends → All (λ (e : End × Counts). IsMended stack e.0) ends
 mended_ends t v home plan p ends stack lay fits h = λ i d lt.
     let r = h.ran i d lt in
-    mended_end (port_with (record v { stop = r.seen }) r.part r.ran.own) (get_or ends i d).0 stack r.ran.ran.ends (subst (λ (l : Layout). All (λ (fix : Fix). fix.lit.var ≤ l.vars) stack) (sym lay) fits)
+    mended_end (port_with (record v { stop = r.seen; looks = r.ran.looks }) r.part r.ran.own) (get_or ends i d).0 stack r.ran.ran.ends (subst (λ (l : Layout). All (λ (fix : Fix). fix.lit.var ≤ l.vars) stack) (sym lay) fits)
 
 -- Answers
 

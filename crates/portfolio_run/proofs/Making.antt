@@ -42,7 +42,7 @@ home_same t p q a b =
 -- what is made over the pass is made over the table
 pub made_of : (u v : View) (home home' : List ℕ) (plan : Plan) (ring : ℕ) (one : RingJob PortState) → IsSameTable v u → u.stop ≡ None → home' ≡ home → IsMade u home' plan ring one → IsMade v home plan ring one
 made_of u v home home' plan ring one same unstopped named m = record {
-  port = m.port ∙ (λ i. begun_as (record v { stop = None; layout = same.layout i; opening = same.opening i }) ring (named i));
+  port = m.port ∙ (λ i. begun_as (record v { stop = None; looks = 0; layout = same.layout i; opening = same.opening i }) ring (named i));
   job = m.job ∙ (λ i. job_at (record v { layout = same.layout i; opening = same.opening i }) plan ring);
 }
 

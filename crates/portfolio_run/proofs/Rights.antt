@@ -116,6 +116,7 @@ begun_same t u v ring p same b = record {
   ring_is = b.ring_is ∙ ap (λ (o : CoreOpening). new_part o ring ∷ []) same.opening;
   same = same_both u v p.me.0 same b.same;
   unstopped = b.unstopped;
+  unlooked = b.unlooked;
 }
 
 pub all_begun : {B : Type 0} (t : Shared B) (u v : View) (ps : List (Seat (Option B) View)) → IsSameTable u v → AreBegun t u ps → AreBegun t v ps

@@ -87,7 +87,7 @@ module _ (v w : View) (home : List ℕ) (plan : Plan) (s : Seen w) (r : ℕ) (en
     (rings : ℕ) (rings_are : v.opening.rings ≡ rings) (below : r < rings) (K : List Entry) (start : ℕ) (wrote : (s.core.part r).wrote ≡ placed r start K) where
   -- the port behind the run
   abbrev pub port : PortState
-  port = port_with (record v { stop = h.seen }) h.part h.ran.own
+  port = port_with (record v { stop = h.seen; looks = h.ran.looks }) h.part h.ran.own
 
   is_part : IsPart s.core s.glue h.part
   is_part = s.parts r h.part h.there

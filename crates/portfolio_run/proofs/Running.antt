@@ -76,7 +76,7 @@ end_is_set v s one o e h = set_by v s one o (stop_kind e) h.won (not_own v o e h
 
 -- The port, over what the table was opened with
 
-same_port : (v w : View) (part : RingPart) (own : Own) (s : PortState) → w.layout ≡ v.layout → port_with w part own ≡ s → s.start ≡ map (holding_of (start_glues v.opening.starts)) v.opening.starts → s.opening ≡ v.opening.units → s.rings ≡ v.opening.rings → s ≡ port_with (record v { stop = w.stop }) part own
+same_port : (v w : View) (part : RingPart) (own : Own) (s : PortState) → w.layout ≡ v.layout → port_with w part own ≡ s → s.start ≡ map (holding_of (start_glues v.opening.starts)) v.opening.starts → s.opening ≡ v.opening.units → s.rings ≡ v.opening.rings → s ≡ port_with (record v { stop = w.stop; looks = w.looks }) part own
 same_port v w part own s lay is start opening rings =
     let st : map (holding_of (start_glues w.opening.starts)) w.opening.starts ≡ map (holding_of (start_glues v.opening.starts)) v.opening.starts = ap (λ (x : PortState). x.start) is ∙ start in
     let op : w.opening.units ≡ v.opening.units = ap (λ (x : PortState). x.opening) is ∙ opening in
@@ -99,6 +99,7 @@ run_of {B} t first p plan ring s end e pass run shows =
       has = record { pass = shows.pass; one = shows.one; ring_is = ring_is; free = shows.free };
       ran = record {
         own = own;
+        looks = w.looks;
         ran = subst (λ (x : PortState). RanTo old job x e.0 e.1) same ran;
         ended_is = λ q. shows.ended_is (sym (ap (λ (x : PortState). x.ended) shows.state) ∙ q);
         faulty_is = λ q. shows.faulty_is (sym (ap (λ (x : PortState). is_usable x.refused) shows.state) ∙ q);

@@ -1,11 +1,11 @@
 -- Runs of rings, each as the contract of a run says.
-use Rattle.std.specs.Prelude.{◌≡◌, ◌≤◌, ◌+◌, ◌↔◌, All, Option, Some, None}
+use Rattle.std.specs.Prelude.{◌≡◌, ◌≤◌, ◌+◌, ◌↔◌, [], All, Option, Some, None}
 use Rattle.ring_port.specs.PortState.{PortState, IsPort, HoldsStart}
 use Rattle.ring_run.specs.declared.job.Counts.{Counts}
 use Rattle.ring_run.specs.declared.job.End.{End}
 use Rattle.ring_run.specs.declared.job.End.TheVariants.{Spent}
 use Rattle.ring_run.specs.declared.job.Job.{Job}
-use Rattle.ring_run.specs.Ended.{IsJobOf, IsUntouched, Stays, IsOwn, IsCounted, HasRestarted, HasPolled, AreNew, AreNewLines, AreSpaced, AreTimely, HoldsGlued, HasLooked, last_looks, Ends}
+use Rattle.ring_run.specs.Ended.{IsJobOf, IsUntouched, Stays, IsOwn, IsCounted, HasRestarted, HasPolled, ImportsBy, IsTidy, ReducesBy, AreNew, AreNewLines, AreSpaced, AreTimely, HoldsGlued, HasLooked, last_looks, Ends}
 
 -- the job is this port's, which has done nothing yet
 pub record IsReady (s : PortState) (job : Job) : Type 0 where
@@ -27,6 +27,9 @@ pub record RanTo (old : PortState) (job : Job) (new : PortState) (end : End) (co
   pub counted : IsCounted new counts
   pub restarted : HasRestarted old.ring job.conflicts counts
   pub polled : HasPolled new counts.restarts end
+  pub imported : ImportsBy old new counts.restarts end
+  pub tidied : old.waiting ≡ [] → IsTidy new end
+  pub in_time : ReducesBy new counts end
   pub within : counts.learned ≤ job.conflicts
   pub spent : (end ≡ Spent) ↔ (counts.learned ≡ job.conflicts)
   pub ends : Ends new end

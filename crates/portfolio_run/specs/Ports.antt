@@ -9,9 +9,9 @@ use Rattle.ring_run.specs.declared.job.Job.{Job}
 use Rattle.portfolio_run.specs.declared.jobs.RingJob.{RingJob}
 use Rattle.portfolio_run.specs.declared.plan.Plan.{Plan}
 
--- the ring's port over a table that was opened so and has this name: it has its grant, has done nothing, and knows no stop
+-- the ring's port over a table that was opened so and has this name: it has its grant, has done nothing, and has not looked for a stop
 abbrev pub begun_at : View → List ℕ → ℕ → PortState
-begun_at v home ring = begun_as (record v { stop = None }) ring home
+begun_at v home ring = begun_as (record v { stop = None; looks = 0 }) ring home
 
 -- what the ring is told
 abbrev pub job_at : View → Plan → ℕ → Job

@@ -30,10 +30,11 @@ pub record Shows {B : Type 0} (t : Shared B) (s : PortState) (end : Option (End 
   pub end_is : end ≡ Some e
 
 -- the ring ran over the table that was opened so, and came to this end; its part is what its port shows, with what the port
--- kept beside it and the stop that its pass has seen
+-- kept beside it, the stop that its pass has seen and how often that had looked for one
 pub record RanAs (v : View) (home : List ℕ) (plan : Plan) (ring : ℕ) (seen : Option Stop) (part : RingPart) (end : End) (counts : Counts) : Type 0 where
   pub own : Own
-  pub ran : RanTo (begun_at v home ring) (job_at v plan ring) (port_with (record v { stop = seen }) part own) end counts
+  pub looks : ℕ
+  pub ran : RanTo (begun_at v home ring) (job_at v plan ring) (port_with (record v { stop = seen; looks = looks }) part own) end counts
   pub ended_is : own.ended ≡ true → part.ended ≡ true
   pub faulty_is : is_usable own.refused ≡ false → part.failed ≡ true
   pub alone_is : v.opening.rings ≡ 1 → part.failed ≡ true → is_usable own.refused ≡ false

@@ -32,6 +32,7 @@ pub record IsBegun {B : Type 0} (t : Shared B) (v : View) (ring : ℕ) (p : Seat
   pub ring_is : p.me.0.parts ≡ new_part v.opening ring ∷ []
   pub same : IsSameTable v p.me.0
   pub unstopped : p.me.0.stop ≡ None
+  pub unlooked : p.me.0.looks ≡ 0
 
 -- each of them has the ring of its place
 abbrev pub AreBegun : {B : Type 0} → Shared B → View → List (Seat (Option B) View) → Type 0

@@ -53,7 +53,7 @@ fn make_port<'a, S: Sink, G: Gate, H>(
     ring: u32,
     pass: Pass<Book<S>>,
 ) -> Result<RingJob<RingPass<'a, S, G, H>>, AllocFailed<Pass<Book<S>>>>
-    requires pass { IsAtRest table.now pass × (pass.me.0.stop ≡ None) }
+    requires pass { IsAtRest table.now pass × (pass.me.0.stop ≡ None) × (pass.me.0.looks ≡ 0) }
     requires granted { pass.me.0.parts ≡ new_part pass.me.0.opening ring ∷ [] }
     requires start { start.now ≡ addresses pass.me.0.opening.starts }
     requires some { 1 ≤ plan.now.conflicts }

@@ -98,14 +98,14 @@ next_more p h longest (Some c) next =
     let some = next.0 in
     (omega arith, subst (λ (k : ClauseAt). length k.lits ≤ longest) (sym (first_front c.address p.core.held (h ∷ []) next.0)) next.1)
 
-offer_after : (h : ClauseAt) (g : ℕ) (x : Option Cref) (p : RingPart) (rings : ℕ) (last : Option Cref) (s : Spares) → CanOffer p rings last s → CanOffer (after_part h g x p) rings last s
-offer_after h g None p rings last s r = r
-offer_after h g (Some c) p rings last s r = record { buffers = r.buffers; enough = r.enough; gave = r.gave; next = next_more p h s.longest last r.next }
+offer_after : (from class : ℕ) (h : ClauseAt) (g : ℕ) (x : Option Cref) (p : RingPart) (rings : ℕ) (last : Option Cref) (s : Spares) → CanOffer p rings last s → CanOffer (after_part from class h g x p) rings last s
+offer_after from class h g None p rings last s r = record { buffers = r.buffers; enough = r.enough; gave = r.gave; next = r.next }
+offer_after from class h g (Some c) p rings last s r = record { buffers = r.buffers; enough = r.enough; gave = r.gave; next = next_more p h s.longest last r.next }
 
 pub offer_polls : (v w : View) (from class : ℕ) (h : ClauseAt) (g : ℕ) (x : Option Cref) (last : Option Cref) (s : Spares) → v.parts ≡ only v ∷ [] → w ≡ after_get from class h g v → IsFound h.address x → CanOffer (only v) v.opening.rings last s → CanOffer (only w) w.opening.rings last s
 offer_polls v w from class h g x last s one is f r =
     subst (λ (o : CoreOpening). CanOffer (only w) o.rings last s) (sym (ap (λ (u : View). u.opening) is))
-    (subst (λ (y : RingPart). CanOffer y v.opening.rings last s) (sym (only_is w (after_part h g x (only v)) (got_parts v w from class h g x one is f))) (offer_after h g x (only v) v.opening.rings last s r))
+    (subst (λ (y : RingPart). CanOffer y v.opening.rings last s) (sym (only_is w (after_part from class h g x (only v)) (got_parts v w from class h g x one is f))) (offer_after from class h g x (only v) v.opening.rings last s r))
 
 -- Steps that leave what is held and given
 

@@ -14,7 +14,7 @@ use Rattle.ring_pass.specs.Cells.{Stored}
 use Rattle.ring_pass.proofs.Stays.{only_is, one_is, one_changed}
 
 pub stored_none : (v : View) → v.parts ≡ only v ∷ [] → Stored v v
-stored_none v one = record { parts = one; layout = refl; opening = refl; stop = refl }
+stored_none v one = record { parts = one; layout = refl; opening = refl; stop = refl; looks = refl }
 
 pub stored_is : (v w : View) → Stored v w → only w ≡ record (only v) { stored = (only w).stored }
 stored_is v w s = only_is w (record (only v) { stored = (only w).stored }) s.parts
@@ -36,6 +36,7 @@ module _ (u v w : View) (place word : ℕ) (s : Stored u v) (is : w ≡ after_st
     layout = ap (λ (y : View). y.layout) is ∙ s.layout;
     opening = ap (λ (y : View). y.opening) is ∙ s.opening;
     stop = ap (λ (y : View). y.stop) is ∙ s.stop;
+    looks = ap (λ (y : View). y.looks) is ∙ s.looks;
   }
 
 -- what the ring builds stays

@@ -94,9 +94,12 @@ deleted_none v one free = record {
   layout = refl;
   opening = refl;
   stop = refl;
+  looks = refl;
   core = refl;
   glues = refl;
   gave = refl;
+  polls = refl;
+  caught_up = refl;
   turn = free;
   waiting = refl;
   wrote = sym (append-nil (entries_of (only v)));
@@ -145,9 +148,12 @@ deleted_more v w u k ws x d a lt e h =
       layout = h.gave.layout ∙ d.layout;
       opening = h.gave.opening ∙ d.opening;
       stop = h.gave.stop ∙ d.stop;
+      looks = h.gave.looks ∙ d.looks;
       core = λ i. record (same i) { waiting = without_at x.cell.address (only w).core.waiting; wrote = (only w).core.wrote ++ record { place = length h.journal; entry = Del (only w).core.ring (clause_in x.cell.address (only w).core.waiting).number } ∷ [] };
       glues = ap (λ (q : RingPart). q.glues) now ∙ d.glues;
       gave = ap (λ (q : RingPart). q.gave) now ∙ d.gave;
+      polls = ap (λ (q : RingPart). q.polls) now ∙ d.polls;
+      caught_up = ap (λ (q : RingPart). q.caught_up) now ∙ d.caught_up;
       turn = refl;
       waiting = ap (without_at x.cell.address) waits ∙ f.2 ∙ ap (λ (m : ℕ). drop m hs) step;
       wrote = mine_last (only w).core.wrote (record { place = length h.journal; entry = Del (only w).core.ring (clause_in x.cell.address (only w).core.waiting).number })
@@ -173,8 +179,8 @@ deleted_more v w u k ws x d a lt e h =
 pub tidied_here : (v w : View) (o : Own) (k : ℕ) (home : List ℕ) → IsOwn (only v) o → Deleted v w k → home ≡ o.home → TidiedUpTo (port_of v o) (port_of w (record o { home = home })) k
 tidied_here v w o k home own d hm = record {
   going = λ some. cases o.ended own.ended_is (d.going some);
-  state = port_step v w d.part (record o { home = home }) d.parts d.layout d.opening d.stop
-      ∙ (λ i. port_with v (record d.part { core = d.core i; glues = d.glues i }) (record o { home = hm i }))
+  state = port_step v w d.part (record o { home = home }) d.parts d.layout d.opening d.stop d.looks
+      ∙ (λ i. port_with v (record d.part { core = d.core i; glues = d.glues i; polls = d.polls i; caught_up = d.caught_up i }) (record o { home = hm i }))
       ∙ (λ i. record (port_of v o) { waiting = waiting i; mine = mine i });
 }
   where

@@ -124,8 +124,8 @@ module _ (v w : View) (o : Own) (home : List ℕ) (lits : List Literal) (glue : 
     long = long;
     free = record { not_held = nothing_here v o c.address f.not_held; not_waiting = none_waits (only v).glues (only v).core.waiting c.address f.not_waiting };
     there = (held_here w (record o { last = last; home = home }) c.address (there_here w (record o { last = last; home = home }) c.address there)).1 ∙ ap (λ (h : Holding). Some h) holding;
-    state = port_step v w f.part (record o { last = last; home = home }) f.parts f.layout f.opening f.stop
-        ∙ (λ i. port_with v (record f.part { core = f.core i; glues = f.glues i }) (record o { last = last; home = hm i }))
+    state = port_step v w f.part (record o { last = last; home = home }) f.parts f.layout f.opening f.stop f.looks
+        ∙ (λ i. port_with v (record f.part { core = f.core i; glues = f.glues i; polls = f.polls i; caught_up = f.caught_up i }) (record o { last = last; home = hm i }))
         ∙ (λ i. record (port_of v o) {
           held = new_held i;
           last = lm i;

@@ -121,7 +121,7 @@ port_drops {B} {t} {p} {n} {st} {o} q s a m last ended r pass view is has lone =
     let parts : w.parts ≡ drop_part a m part ∷ [] = one_changed (drop_part a m) v w r.one (ap (λ (u : View). u.parts) is) in
     let o' : Own = record o { last = last; home = home_of q } in
     let there : held_at (port_of v o) a ≡ Some (holding_of part.glues h) = (held_here v o a (there_here v o a has)).1 in
-    let state : port_of w o' ≡ port_with v (drop_part a m part) (record o { last = unless_cell o.last a }) = port_step v w (drop_part a m part) o' parts (ap (λ (u : View). u.layout) is) (ap (λ (u : View). u.opening) is) (ap (λ (u : View). u.stop) is) ∙ (λ i. port_with v (drop_part a m part) (record o { last = ended i; home = name_stays q r pass i })) in
+    let state : port_of w o' ≡ port_with v (drop_part a m part) (record o { last = unless_cell o.last a }) = port_step v w (drop_part a m part) o' parts (ap (λ (u : View). u.layout) is) (ap (λ (u : View). u.opening) is) (ap (λ (u : View). u.stop) is) (ap (λ (u : View). u.looks) is) ∙ (λ i. port_with v (drop_part a m part) (record o { last = ended i; home = name_stays q r pass i })) in
     let held : (port_with v (drop_part a m part) o).held ≡ without_one (port_of v o).held a = ap (λ (b : ℕ). map (holding_of part.glues) (without_at b part.core.held)) f.1 ∙ map_without part.glues part.core.held a in
     let more : m ≡ 1 → (port_of w o').waiting ≡ (port_of v o).waiting ++ holding_of part.glues h ∷ [] = λ e.
     ap (λ (y : PortState). y.waiting) state ∙ ap (λ (y : RingPart). map (holding_of part.glues) y.core.waiting) (last_part a m part e) ∙ map_last part.glues part.core.waiting h in

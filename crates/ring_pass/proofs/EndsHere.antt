@@ -81,7 +81,7 @@ pub ended_as : {v u : View} (o : Own) (s : PortState) (home : List ℕ) → port
 ended_as {v} {u} o s home view own h hm = subst (λ (y : PortState). EndedLog y (port_of u (record o { ended = true; home = home }))) view (record {
   number = next_number v.opening h.journal;
   going = port_going v o h.journal own h.knows h.going;
-  state = port_step v u (ended_part v h.journal h.refused h.failed) (record o { ended = true; home = home }) h.gave.parts h.gave.layout h.gave.opening h.gave.stop
+  state = port_step v u (ended_part v h.journal h.refused h.failed) (record o { ended = true; home = home }) h.gave.parts h.gave.layout h.gave.opening h.gave.stop h.gave.looks
       ∙ (λ i. record (port_of v o) { mine = mine_last (only v).core.wrote (record { place = length h.journal; entry = empty_entry v h.journal }) i; ended = true; home = hm i });
 })
 

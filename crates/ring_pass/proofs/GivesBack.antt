@@ -24,6 +24,7 @@ gave_of v r w a n one looked is = record {
   layout = ap (λ (u : View). u.layout) is ∙ looked.layout;
   opening = ap (λ (u : View). u.opening) is ∙ looked.opening;
   stop = ap (λ (u : View). u.stop) is ∙ looked.stop;
+  looks = ap (λ (u : View). u.looks) is ∙ looked.looks;
 }
 
 -- Buffers

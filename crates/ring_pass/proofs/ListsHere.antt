@@ -1,6 +1,6 @@
 -- A unit is listed.
 use Rattle.io_edge.specs.declared.edge.Sink.{Ghosts}
-use Rattle.std.proofs.Common.{◌≡◌, ℕ, ◌+◌, ◌*◌, ◌<◌, ◌==◌, Bool, true, false, ◌||◌, if◌then◌else◌, List, [], ◌∷◌, ◌++◌, map, length, refl, sym, ap, subst, ◌∙◌, inl, inr, arith, Some, None, Option}
+use Rattle.std.proofs.Common.{◌≡◌, ℕ, ◌+◌, ◌*◌, ◌<◌, ◌≤◌, ◌==◌, Bool, true, false, ◌||◌, if◌then◌else◌, List, [], ◌∷◌, ◌++◌, map, length, refl, sym, ap, subst, ◌∙◌, inl, inr, arith, Some, None, Option}
 use Rattle.std.specs.Prelude.{IfSome}
 use Rattle.std.specs.List.{All, list_any}
 use Rattle.std.specs.Option.{is_some}
@@ -57,9 +57,12 @@ listed_before {lit} {v} {seen} found m is f e = record {
   opening = refl;
   origin = refl;
   stop = refl;
+  looks = refl;
   core = refl;
   glues = refl;
   gave = refl;
+  polls = refl;
+  caught_up = refl;
   turn = refl;
   ended = refl;
   failed = refl;
@@ -87,9 +90,12 @@ listed_now {lit} {v} {w} {seen} {seen'} one is all more = record {
   opening = ap (λ (u : View). u.opening) is;
   origin = ap (λ (u : View). u.origin) is;
   stop = ap (λ (u : View). u.stop) is;
+  looks = ap (λ (u : View). u.looks) is;
   core = refl;
   glues = refl;
   gave = refl;
+  polls = refl;
+  caught_up = refl;
   turn = refl;
   ended = refl;
   failed = refl;
@@ -201,9 +207,12 @@ listed_all v w m n u J was lit seen seen' arrived arrived' ms x failed h rest s 
       layout = ap (λ (y : View). y.layout) is ∙ one.layout ∙ saw.layout ∙ h.layout;
       opening = ap (λ (y : View). y.opening) is ∙ one.opening ∙ saw.opening ∙ h.opening;
       stop = ap (λ (y : View). y.stop) is ∙ one.stop ∙ saw.stop ∙ h.stop;
+      looks = ap (λ (y : View). y.looks) is ∙ one.looks ∙ saw.looks ∙ h.looks;
       core = core_n ∙ (λ i. record (core_m i) { seen = (only n).core.seen });
       glues = ap (λ (p : RingPart). p.glues) at_n ∙ one.glues ∙ ap (λ (p : RingPart). p.glues) at_m ∙ saw.glues ∙ ap (λ (p : RingPart). p.glues) at_w;
       gave = ap (λ (p : RingPart). p.gave) at_n ∙ one.gave ∙ ap (λ (p : RingPart). p.gave) at_m ∙ saw.gave ∙ ap (λ (p : RingPart). p.gave) at_w;
+      polls = ap (λ (p : RingPart). p.polls) at_n ∙ one.polls ∙ ap (λ (p : RingPart). p.polls) at_m ∙ saw.polls ∙ ap (λ (p : RingPart). p.polls) at_w;
+      caught_up = subst (λ (y : ℕ × ℕ). y.0 ≤ y.1) (λ i. (ap (λ (p : RingPart). p.caught_up) at_w i, sym (ap (λ (p : RingPart). p.caught_up) at_n ∙ one.caught_up ∙ ap (λ (p : RingPart). p.caught_up) at_m) i)) saw.caught_up;
       turn = refl;
       ended_is = λ e. or_left (only n).ended (ended n.opening.formula (sheet_of n).journal) (ap (λ (p : RingPart). p.ended) at_n ∙ one.ended ∙ ap (λ (p : RingPart). p.ended) at_m ∙ saw.ended ∙ ap (λ (p : RingPart). p.ended) at_w ∙ e);
       failed_is = still;

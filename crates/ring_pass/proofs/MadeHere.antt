@@ -153,6 +153,7 @@ module _ (v u : View) (kind : Kind) (lits : List Literal) (glue a number : ℕ) 
       layout = ap (λ (y : View). y.layout) opens ∙ st.layout ∙ h.wrote.gave.layout;
       opening = ap (λ (y : View). y.opening) opens ∙ st.opening ∙ h.wrote.gave.opening;
       stop = ap (λ (y : View). y.stop) opens ∙ st.stop ∙ h.wrote.gave.stop;
+      looks = ap (λ (y : View). y.looks) opens ∙ st.looks ∙ h.wrote.gave.looks;
       core = λ i. record (only v).core {
         held = (only v).core.held ++ making_same i ∷ [];
         making = last.core.making;
@@ -160,6 +161,8 @@ module _ (v u : View) (kind : Kind) (lits : List Literal) (glue a number : ℕ) 
       };
       glues = λ i. record { number = sym h.number_is i; glue = glue } ∷ (only v).glues;
       gave = refl;
+      polls = refl;
+      caught_up = refl;
       turn = refl;
       going = not_ended v h.wrote.journal h.wrote.knows h.wrote.going;
       ended_is = λ e. or_left (only v).ended (ended v.opening.formula (h.wrote.journal ++ entry_of v.opening (only v).core.ring h.wrote.journal (only v).core (Clause kind lits glue a) ∷ [])) e;

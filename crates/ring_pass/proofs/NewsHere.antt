@@ -1,5 +1,5 @@
 -- What arrives on the way.
-use Rattle.std.proofs.Common.{◌≡◌, ℕ, ◌-◌, ◌*◌, ◌<◌, true, List, [], ◌∷◌, ◌++◌, length, refl, sym, ap, subst, ◌∙◌, arith, length-append, append_assoc, append-nil}
+use Rattle.std.proofs.Common.{◌≡◌, ℕ, ◌-◌, ◌*◌, ◌<◌, ◌≤◌, true, List, [], ◌∷◌, ◌++◌, length, refl, sym, ap, subst, ◌∙◌, arith, length-append, append_assoc, append-nil}
 use Rattle.std.specs.List.{All}
 use Rattle.std.specs.Option.{is_some}
 use Rattle.sat_words.specs.Literal.{Literal}
@@ -25,9 +25,12 @@ news_none v seen arrived a b one units d told = record {
   opening = refl;
   origin = refl;
   stop = refl;
+  looks = refl;
   core = λ i. record (only v).core { seen = sym (append-nil (only v).core.seen) i };
   glues = refl;
   gave = refl;
+  polls = refl;
+  caught_up = omega arith;
   turn = refl;
   ended = refl;
   failed = refl;
@@ -51,6 +54,7 @@ news_more v w u seen seen' arrived arrived' arrived'' x h s saw =
     let ss : List Literal = (only w).core.seen in
     let ss_is : ss ≡ (only v).core.seen ++ h.news = ap (λ (p : RingPart). p.core.seen) now ∙ ap (λ (c : Part). c.seen) h.core in
     let core : (only w).core ≡ record (only v).core { seen = (only v).core.seen ++ h.news } = ap (λ (p : RingPart). p.core) now ∙ h.core in
+    let then_is : only u ≡ saw_part x saw.listed (only w) = only_is u (saw_part x saw.listed (only w)) (saw_parts w u x saw.listed one saw.view) in
     record {
       news = h.news ++ x ∷ [];
       part = saw_part x saw.listed (only w);
@@ -59,9 +63,12 @@ news_more v w u seen seen' arrived arrived' arrived'' x h s saw =
       opening = ap (λ (y : View). y.opening) saw.view ∙ h.opening;
       origin = ap (λ (y : View). y.origin) saw.view ∙ h.origin;
       stop = ap (λ (y : View). y.stop) saw.view ∙ h.stop;
+      looks = ap (λ (y : View). y.looks) saw.view ∙ h.looks;
       core = (λ i. record (core i) { seen = (core i).seen ++ x ∷ [] }) ∙ (λ i. record (only v).core { seen = append_assoc (only v).core.seen h.news (x ∷ []) i });
       glues = ap (λ (p : RingPart). p.glues) now ∙ h.glues;
       gave = ap (λ (p : RingPart). p.gave) now ∙ h.gave;
+      polls = ap (λ (p : RingPart). p.polls) now ∙ h.polls;
+      caught_up = subst (λ (k : ℕ). (only v).caught_up ≤ k) (ap (λ (p : RingPart). p.caught_up) (sym now) ∙ sym saw.caught_up ∙ ap (λ (p : RingPart). p.caught_up) then_is) h.caught_up;
       turn = ap (λ (p : RingPart). p.turn) now ∙ h.turn;
       ended = ap (λ (p : RingPart). p.ended) now ∙ h.ended;
       failed = ap (λ (p : RingPart). p.failed) now ∙ h.failed;
@@ -79,6 +86,7 @@ news_all v w u seen seen' arrived arrived' arrived'' h saw =
     let parts = all_parts w u (length seen) one saw.view in
     let x : RingPart = count_part (length seen) (only w) in
     let then_is : only u ≡ x = only_is u x parts in
+    let more : (only v).caught_up ≤ (only u).caught_up = let was = h.caught_up in let same = ap (λ (p : RingPart). p.caught_up) now in let again = saw.caught_up in omega arith in
     record {
       saw = record {
         news = h.news;
@@ -88,9 +96,12 @@ news_all v w u seen seen' arrived arrived' arrived'' h saw =
         opening = ap (λ (y : View). y.opening) saw.view ∙ h.opening;
         origin = ap (λ (y : View). y.origin) saw.view ∙ h.origin;
         stop = ap (λ (y : View). y.stop) saw.view ∙ h.stop;
+        looks = ap (λ (y : View). y.looks) saw.view ∙ h.looks;
         core = ap (λ (p : RingPart). p.core) now ∙ h.core;
         glues = ap (λ (p : RingPart). p.glues) now ∙ h.glues;
         gave = ap (λ (p : RingPart). p.gave) now ∙ h.gave;
+        polls = ap (λ (p : RingPart). p.polls) now ∙ h.polls;
+        caught_up = subst (λ (k : ℕ). (only v).caught_up ≤ k) (ap (λ (p : RingPart). p.caught_up) then_is) more;
         turn = ap (λ (p : RingPart). p.turn) now ∙ h.turn;
         ended = ap (λ (p : RingPart). p.ended) now ∙ h.ended;
         failed = ap (λ (p : RingPart). p.failed) now ∙ h.failed;

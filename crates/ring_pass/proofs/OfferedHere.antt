@@ -95,7 +95,7 @@ module _ (v w : View) (o : Own) (home : List ℕ) (class a : ℕ) (tos : List �
     few = (let few = f.part.few in let long = map_long (only w).glues f.part.back in let e = ap length is in omega arith);
     same = same_at;
     often = λ b. times_here (only w).glues (only w).core.held b ∙ f.part.held.times b ∙ sym (times_here (only v).glues (only v).core.held b);
-    state = (λ i. port_with (record v { layout = f.layout i; opening = f.opening i; stop = f.stop i }) (f.part.part i) (record o { last = None; home = hm i }))
+    state = (λ i. port_with (record v { layout = f.layout i; opening = f.opening i; stop = f.stop i; looks = f.looks i }) (f.part.part i) (record o { last = None; home = hm i }))
         ∙ (λ i. record (port_of v o) {
           held = map (holding_of (only w).glues) (only w).core.held;
           shared = (only v).core.shared + length (is i);

@@ -72,6 +72,9 @@ module _ (v u w : View) (sv : Seen v) (sw : Seen w) (to class a found : ℕ) (x 
   pub put_stop : w.stop ≡ v.stop
   put_stop = ap (λ (y : View). y.stop) puts ∙ ap (λ (y : View). y.stop) shares
 
+  pub put_looks : w.looks ≡ v.looks
+  put_looks = ap (λ (y : View). y.looks) puts ∙ ap (λ (y : View). y.looks) shares
+
   pub put_waiting : (only w).core.waiting ≡ (only v).core.waiting
   put_waiting = ap (λ (y : RingPart). y.core.waiting) put_is
 
@@ -95,6 +98,7 @@ module _ (v u w : View) (sv : Seen v) (sw : Seen w) (to class a found : ℕ) (x 
     layout = put_layout;
     opening = put_opening;
     stop = put_stop;
+    looks = put_looks;
   }
 
   -- a clause did, and its count was given up
@@ -108,6 +112,7 @@ module _ (v u w : View) (sv : Seen v) (sw : Seen w) (to class a found : ℕ) (x 
         layout = gave.layout ∙ put_layout;
         opening = gave.opening ∙ put_opening;
         stop = gave.stop ∙ put_stop;
+        looks = gave.looks ∙ put_looks;
       }
 
   -- what came back is no longer than what the ring gave
@@ -122,7 +127,7 @@ module _ (v u w : View) (sv : Seen v) (sw : Seen w) (to class a found : ℕ) (x 
 -- Puts one after the other
 
 pub for_none : (v : View) (class a : ℕ) → v.parts ≡ only v ∷ [] → PutFor v v class a []
-for_none v class a one = record { one = one; part = put_nothing (only v) class a; layout = refl; opening = refl; stop = refl }
+for_none v class a one = record { one = one; part = put_nothing (only v) class a; layout = refl; opening = refl; stop = refl; looks = refl }
 
 pub for_both : (u v w : View) (class a : ℕ) (xs ys : List ℕ) → 0 < times_at a (only u).core.held → PutFor u v class a xs → PutFor v w class a ys → PutFor u w class a (xs ++ ys)
 for_both u v w class a xs ys lt f g = record {
@@ -131,6 +136,7 @@ for_both u v w class a xs ys lt f g = record {
   layout = g.layout ∙ f.layout;
   opening = g.opening ∙ f.opening;
   stop = g.stop ∙ f.stop;
+  looks = g.looks ∙ f.looks;
 }
 
 -- what is held stays held, with its clause

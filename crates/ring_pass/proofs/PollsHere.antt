@@ -16,18 +16,19 @@ use Rattle.share_core.proofs.Leaving.{left_sound}
 use Rattle.share_rule.specs.declared.Shared.{Shared}
 use Rattle.share_rule.specs.Passes.{IsPassOf, IsSamePass}
 use Rattle.share_rule.specs.declared.view.GlueAt.{GlueAt}
+use Rattle.share_rule.specs.declared.view.Poll.{Poll}
 use Rattle.share_rule.specs.declared.view.RingPart.{RingPart}
 use Rattle.share_rule.specs.declared.view.View.{View}
 use Rattle.share_rule.specs.Views.{only, glue_in}
 use Rattle.share_rule.specs.Seen.{Seen}
 use Rattle.share_rule.specs.Exchanges.{KeepsGlues, took_part, after_get}
 use Rattle.pool_exchange.specs.Found.{IsFound}
-use Rattle.ring_port.specs.PortState.{Holding, PortState, IsKept, held_at, one_more}
+use Rattle.ring_port.specs.PortState.{Holding, PortState, Slot, IsKept, held_at, one_more}
 use Rattle.ring_port.specs.Port.{KeepsHeld}
 use Rattle.ring_port.specs.Exchange.{Polled}
 use Rattle.ring_port.proofs.Holdings.{found_in_front}
 use Rattle.ring_pass.specs.declared.waiting.Waiting.{Waiting}
-use Rattle.ring_pass.specs.RingState.{Own, port_with, port_of, home_of, holding_of, IsOwn, IsRingPass, HasRoom, HasUnits}
+use Rattle.ring_pass.specs.RingState.{Own, port_with, port_of, home_of, holding_of, slot_of, IsOwn, IsRingPass, HasRoom, HasUnits}
 use Rattle.ring_pass.proofs.RingPorts.{copy_of, kept_of, waiting_copy, waits_free}
 use Rattle.ring_pass.proofs.Stays.{only_is, one_is, one_changed, ring_changes, name_stays, units_keep}
 
@@ -58,37 +59,45 @@ map_crefs : (cs : List Cref) (x : Cref) → map (λ (y : Cref). y.address) (cs +
 map_crefs [] x = refl
 map_crefs (y ∷ cs) x = ap (λ (ks : List ℕ). y.address ∷ ks) (map_crefs cs x)
 
+map_slots : (ps : List Poll) (x : Poll) → map slot_of (ps ++ x ∷ []) ≡ map slot_of ps ++ slot_of x ∷ []
+map_slots [] x = refl
+map_slots (y ∷ ps) x = ap (λ (ks : List Slot). slot_of y ∷ ks) (map_slots ps x)
+
 -- Parts
 
+-- the slot is noted
+abbrev noted_part : (from class : ℕ) → RingPart → RingPart
+noted_part from class p = record p { polls = p.polls ++ record { from = from; class = class } ∷ [] }
+
 -- where nothing came out
-none_part : (h : ClauseAt) (g : ℕ) (p : RingPart) → h.address ≡ 0 → took_part h g p ≡ p
-none_part h g p zero_at = let at : (h.address == 0) ≡ true = eq-eqb h.address 0 zero_at in λ i. record p {
+none_part : (from class : ℕ) (h : ClauseAt) (g : ℕ) (p : RingPart) → h.address ≡ 0 → took_part from class h g p ≡ noted_part from class p
+none_part from class h g p zero_at = let at : (h.address == 0) ≡ true = eq-eqb h.address 0 zero_at in λ i. record (noted_part from class p) {
   core = record p.core { held = if at i then p.core.held else p.core.held ++ h ∷ [] };
   glues = if at i then p.glues else record { number = h.number; glue = g } ∷ p.glues;
 }
 
 -- where a clause did
-abbrev with_one : ClauseAt → ℕ → RingPart → RingPart
-with_one h g p = record p { core = record p.core { held = p.core.held ++ h ∷ [] }; glues = record { number = h.number; glue = g } ∷ p.glues }
+abbrev with_one : (from class : ℕ) → ClauseAt → ℕ → RingPart → RingPart
+with_one from class h g p = record (noted_part from class p) { core = record p.core { held = p.core.held ++ h ∷ [] }; glues = record { number = h.number; glue = g } ∷ p.glues }
 
-some_part : (h : ClauseAt) (g : ℕ) (p : RingPart) → h.address ≢ 0 → took_part h g p ≡ with_one h g p
-some_part h g p some_at = let at : (h.address == 0) ≡ false = ne_eqb h.address 0 some_at in λ i. record p {
+some_part : (from class : ℕ) (h : ClauseAt) (g : ℕ) (p : RingPart) → h.address ≢ 0 → took_part from class h g p ≡ with_one from class h g p
+some_part from class h g p some_at = let at : (h.address == 0) ≡ false = ne_eqb h.address 0 some_at in λ i. record (noted_part from class p) {
   core = record p.core { held = if at i then p.core.held else p.core.held ++ h ∷ [] };
   glues = if at i then p.glues else record { number = h.number; glue = g } ∷ p.glues;
 }
 
 -- what came out, and the part of the ring
-abbrev pub after_part : ClauseAt → ℕ → Option Cref → RingPart → RingPart
-after_part h g None p = p
-after_part h g (Some c) p = with_one h g p
+abbrev pub after_part : (from class : ℕ) → ClauseAt → ℕ → Option Cref → RingPart → RingPart
+after_part from class h g None p = noted_part from class p
+after_part from class h g (Some c) p = with_one from class h g p
 
-pub part_after : (h : ClauseAt) (g : ℕ) (r : Option Cref) (p : RingPart) → IsFound h.address r → took_part h g p ≡ after_part h g r p
-part_after h g None p f = none_part h g p f
-part_after h g (Some c) p f = some_part h g p f.0
+pub part_after : (from class : ℕ) (h : ClauseAt) (g : ℕ) (r : Option Cref) (p : RingPart) → IsFound h.address r → took_part from class h g p ≡ after_part from class h g r p
+part_after from class h g None p f = none_part from class h g p f
+part_after from class h g (Some c) p f = some_part from class h g p f.0
 
 -- the port, by its parts
-pub port_step : (v w : View) (x : RingPart) (o : Own) → w.parts ≡ x ∷ [] → w.layout ≡ v.layout → w.opening ≡ v.opening → w.stop ≡ v.stop → port_of w o ≡ port_with v x o
-port_step v w x o e l op st i = port_with (record v { layout = l i; opening = op i; stop = st i }) (only_is w x e i) o
+pub port_step : (v w : View) (x : RingPart) (o : Own) → w.parts ≡ x ∷ [] → w.layout ≡ v.layout → w.opening ≡ v.opening → w.stop ≡ v.stop → w.looks ≡ v.looks → port_of w o ≡ port_with v x o
+port_step v w x o e l op st lk i = port_with (record v { layout = l i; opening = op i; stop = st i; looks = lk i }) (only_is w x e i) o
 
 -- What is kept
 
@@ -97,9 +106,9 @@ abbrev pub taken_after : Option Cref → List Cref → List Cref
 taken_after None cs = cs
 taken_after (Some c) cs = cs ++ c ∷ []
 
-own_with : (h : ClauseAt) (g : ℕ) (r : Option Cref) (p : RingPart) (o : Own) (k : ℕ) (home : List ℕ) → IsFound h.address r → IsOwn p o → IsOwn (after_part h g r p) (record o { polled = k; taken = taken_after r o.taken; home = home })
-own_with h g None p o k home f own = record { passed = own.passed; distinct = own.distinct; told = own.told; taken = own.taken; ended_is = own.ended_is; faulty_is = own.faulty_is }
-own_with h g (Some c) p o k home f own =
+own_with : (from class : ℕ) (h : ClauseAt) (g : ℕ) (r : Option Cref) (p : RingPart) (o : Own) (k : ℕ) (home : List ℕ) → IsFound h.address r → IsOwn p o → IsOwn (after_part from class h g r p) (record o { polled = k; taken = taken_after r o.taken; home = home })
+own_with from class h g None p o k home f own = record { passed = own.passed; distinct = own.distinct; told = own.told; taken = own.taken; ended_is = own.ended_is; faulty_is = own.faulty_is }
+own_with from class h g (Some c) p o k home f own =
     let more : (a : ℕ) → times_at a (p.core.held ++ h ∷ []) ≡ times_at a p.core.held + times_at a (h ∷ []) = λ a. at_both a p.core.held (h ∷ []) in
     record {
       passed = own.passed;
@@ -112,24 +121,26 @@ own_with h g (Some c) p o k home f own =
       faulty_is = own.faulty_is;
     }
 
-pub own_after : (h : ClauseAt) (g : ℕ) (r : Option Cref) (p : RingPart) (o : Own) (k : ℕ) (ts : List Cref) (home : List ℕ) → IsFound h.address r → IsOwn p o → ts ≡ taken_after r o.taken → IsOwn (after_part h g r p) (record o { polled = k; taken = ts; home = home })
-own_after h g r p o k ts home f own e = subst (λ (cs : List Cref). IsOwn (after_part h g r p) (record o { polled = k; taken = cs; home = home })) (sym e) (own_with h g r p o k home f own)
+pub own_after : (from class : ℕ) (h : ClauseAt) (g : ℕ) (r : Option Cref) (p : RingPart) (o : Own) (k : ℕ) (ts : List Cref) (home : List ℕ) → IsFound h.address r → IsOwn p o → ts ≡ taken_after r o.taken → IsOwn (after_part from class h g r p) (record o { polled = k; taken = ts; home = home })
+own_after from class h g r p o k ts home f own e = subst (λ (cs : List Cref). IsOwn (after_part from class h g r p) (record o { polled = k; taken = cs; home = home })) (sym e) (own_with from class h g r p o k home f own)
 
-pub room_after : (h : ClauseAt) (g : ℕ) (r : Option Cref) (p : RingPart) (rings : ℕ) (last : Option Cref) (ws : List Waiting) (room : ℕ) → HasRoom p rings last ws room → HasRoom (after_part h g r p) rings last ws room
-room_after h g None p rings last ws room m = m
-room_after h g (Some c) p rings last ws room m = record { waits = m.waits; places = m.places; few = m.few }
+pub room_after : (from class : ℕ) (h : ClauseAt) (g : ℕ) (r : Option Cref) (p : RingPart) (rings : ℕ) (last : Option Cref) (ws : List Waiting) (room : ℕ) → HasRoom p rings last ws room → HasRoom (after_part from class h g r p) rings last ws room
+room_after from class h g None p rings last ws room m = record { waits = m.waits; places = m.places; few = m.few }
+room_after from class h g (Some c) p rings last ws room m = record { waits = m.waits; places = m.places; few = m.few }
 
 -- The port
 
-pub polled_here : (v w : View) (s : Seen w) (o : Own) (k : ℕ) (ts : List Cref) (home : List ℕ) (h : ClauseAt) (g : ℕ) (r : Option Cref) → v.parts ≡ only v ∷ [] → w.parts ≡ after_part h g r (only v) ∷ [] → w.layout ≡ v.layout → w.opening ≡ v.opening → w.stop ≡ v.stop
-    → IsFound h.address r → KeepsGlues h g (only v) → k ≡ one_more o.polled → ts ≡ taken_after r o.taken → home ≡ o.home → Polled (port_of v o) (port_of w (record o { polled = k; taken = ts; home = home })) (Ok r)
-polled_here v w s o k ts home h g None one is lay op st f keeps more taken hm =
-    port_step v w (only v) (record o { polled = k; taken = ts; home = home }) is lay op st ∙ (λ i. port_with v (only v) (record o { polled = more i; taken = taken i; home = hm i }))
-polled_here v w s o k ts home h g (Some c) one is lay op st f keeps more taken hm =
+pub polled_here : (v w : View) (s : Seen w) (o : Own) (k : ℕ) (ts : List Cref) (home : List ℕ) (from class : ℕ) (h : ClauseAt) (g : ℕ) (r : Option Cref) → v.parts ≡ only v ∷ [] → w.parts ≡ after_part from class h g r (only v) ∷ [] → w.layout ≡ v.layout → w.opening ≡ v.opening → w.stop ≡ v.stop → w.looks ≡ v.looks
+    → IsFound h.address r → KeepsGlues h g (only v) → k ≡ one_more o.polled → ts ≡ taken_after r o.taken → home ≡ o.home → Polled (port_of v o) (port_of w (record o { polled = k; taken = ts; home = home })) from class (Ok r)
+polled_here v w s o k ts home from class h g None one is lay op st lk f keeps more taken hm =
+    port_step v w (noted_part from class (only v)) (record o { polled = k; taken = ts; home = home }) is lay op st lk
+    ∙ (λ i. port_with v (noted_part from class (only v)) (record o { polled = more i; taken = taken i; home = hm i }))
+    ∙ (λ i. record (port_of v o) { polled = one_more o.polled; polls = map_slots (only v).polls (record { from = from; class = class }) i })
+polled_here v w s o k ts home from class h g (Some c) one is lay op st lk f keeps more taken hm =
     let p : RingPart = only v in
     let gs : List GlueAt = record { number = h.number; glue = g } ∷ p.glues in
-    let now : w.parts ≡ only w ∷ [] = one_is w (with_one h g p) is in
-    let part : only w ≡ with_one h g p = only_is w (with_one h g p) is in
+    let now : w.parts ≡ only w ∷ [] = one_is w (with_one from class h g p) is in
+    let part : only w ≡ with_one from class h g p = only_is w (with_one from class h g p) is in
     let there : In h (only w).core.held = subst (λ (q : RingPart). In h q.core.held) (sym part) (In_append_right p.core.held (h ∷ []) h (inl refl)) in
     let held_glues : All (λ x. glue_in x.number gs ≡ glue_in x.number p.glues) p.core.held = subst (λ (b : Bool). All (λ x. glue_in x.number (if b then p.glues else gs) ≡ glue_in x.number p.glues) p.core.held) (ne_eqb h.address 0 f.0) keeps in
     let waiting_glues : All (λ x. glue_in x.number gs ≡ glue_in x.number p.glues) p.core.waiting = All_from_In (λ (x : ClauseAt). glue_in x.number gs ≡ glue_in x.number p.glues) p.core.waiting
@@ -138,42 +149,43 @@ polled_here v w s o k ts home h g (Some c) one is lay op st f keeps more taken h
       clause = holding_of gs h;
       address = sym f.1;
       kept = subst (λ (n : ℕ). IsKept n (holding_of gs h)) (λ i. (lay i).vars) (kept_of w s now gs h (copy_of w s now h there));
-      state = port_step v w (with_one h g p) (record o { polled = k; taken = ts; home = home }) is lay op st
-          ∙ (λ i. port_with v (with_one h g p) (record o { polled = more i; taken = taken i; home = hm i }))
+      state = port_step v w (with_one from class h g p) (record o { polled = k; taken = ts; home = home }) is lay op st lk
+          ∙ (λ i. port_with v (with_one from class h g p) (record o { polled = more i; taken = taken i; home = hm i }))
           ∙ (λ i. record (port_of v o) {
             held = (map_last gs p.core.held h ∙ (λ j. map_same p.glues gs p.core.held held_glues j ++ holding_of gs h ∷ [])) i;
             waiting = map_same p.glues gs p.core.waiting waiting_glues i;
             polled = one_more o.polled;
+            polls = map_slots p.polls (record { from = from; class = class }) i;
             taken = map_crefs o.taken c i;
           });
     }
 
 -- what was held stays held
-pub polled_keeps : (s t : PortState) (r : Option Cref) → Polled s t (Ok r) → KeepsHeld s t
+pub polled_keeps : (s t : PortState) (from class : ℕ) (r : Option Cref) → Polled s t from class (Ok r) → KeepsHeld s t
 unfolding held_at
-polled_keeps s t None is a h = ap (λ (x : PortState). held_at x a) is
-polled_keeps s t (Some c) is a h = ap (λ (x : PortState). held_at x a) is.state ∙ found_in_front (λ k. k.address == a) s.held (is.clause ∷ []) h
+polled_keeps s t from class None is a h = ap (λ (x : PortState). held_at x a) is
+polled_keeps s t from class (Some c) is a h = ap (λ (x : PortState). held_at x a) is.state ∙ found_in_front (λ k. k.address == a) s.held (is.clause ∷ []) h
 
 -- For a ring with its pass
 
-pub got_parts : (v w : View) (from class : ℕ) (h : ClauseAt) (g : ℕ) (r : Option Cref) → v.parts ≡ only v ∷ [] → w ≡ after_get from class h g v → IsFound h.address r → w.parts ≡ after_part h g r (only v) ∷ []
-got_parts v w from class h g r one is f = one_changed (took_part h g) v w one (ap (λ (u : View). u.parts) is) ∙ (λ i. part_after h g r (only v) f i ∷ [])
+pub got_parts : (v w : View) (from class : ℕ) (h : ClauseAt) (g : ℕ) (r : Option Cref) → v.parts ≡ only v ∷ [] → w ≡ after_get from class h g v → IsFound h.address r → w.parts ≡ after_part from class h g r (only v) ∷ []
+got_parts v w from class h g r one is f = one_changed (took_part from class h g) v w one (ap (λ (u : View). u.parts) is) ∙ (λ i. part_after from class h g r (only v) f i ∷ [])
 
 pub ring_polls : {B : Type 0} {t : Shared B} {p : Seat (Option B) View} {n : ℕ} {st : List Cref} {o : Own} (q : Seat (Option B) View) (from class : ℕ) (h : ClauseAt) (g : ℕ) (x : Option Cref) (k : ℕ) (ts : List Cref) → IsRingPass t p n st o → IsPassOf t q → IsSamePass p q
     → q.me.0 ≡ after_get from class h g p.me.0 → IsFound h.address x → ts ≡ taken_after x o.taken → IsRingPass t q n st (record o { polled = k; taken = ts; home = home_of q })
 ring_polls {B} {t} {p} {n} {st} {o} q from class h g x k ts r pass same is f e =
-    ring_changes q (after_part h g x (only p.me.0)) (record o { polled = k; taken = ts; home = home_of q }) r pass same (ap (λ (u : View). u.opening) is) (got_parts p.me.0 q.me.0 from class h g x r.one is f)
-    (by_ring x) (by_turn x) refl (own_after h g x (only p.me.0) o k ts (home_of q) f r.own e) (λ lone failed. r.alone_is lone (sym (by_failed x) ∙ failed))
+    ring_changes q (after_part from class h g x (only p.me.0)) (record o { polled = k; taken = ts; home = home_of q }) r pass same (ap (λ (u : View). u.opening) is) (got_parts p.me.0 q.me.0 from class h g x r.one is f)
+    (by_ring x) (by_turn x) refl (own_after from class h g x (only p.me.0) o k ts (home_of q) f r.own e) (λ lone failed. r.alone_is lone (sym (by_failed x) ∙ failed))
   where
-    by_ring : (y : Option Cref) → (after_part h g y (only p.me.0)).core.ring ≡ (only p.me.0).core.ring
+    by_ring : (y : Option Cref) → (after_part from class h g y (only p.me.0)).core.ring ≡ (only p.me.0).core.ring
     by_ring None = refl
     by_ring (Some c) = refl
 
-    by_turn : (y : Option Cref) → (after_part h g y (only p.me.0)).turn ≡ (only p.me.0).turn
+    by_turn : (y : Option Cref) → (after_part from class h g y (only p.me.0)).turn ≡ (only p.me.0).turn
     by_turn None = refl
     by_turn (Some c) = refl
 
-    by_failed : (y : Option Cref) → (after_part h g y (only p.me.0)).failed ≡ (only p.me.0).failed
+    by_failed : (y : Option Cref) → (after_part from class h g y (only p.me.0)).failed ≡ (only p.me.0).failed
     by_failed None = refl
     by_failed (Some c) = refl
 
@@ -181,18 +193,18 @@ pub room_polls : (v w : View) (from class : ℕ) (h : ClauseAt) (g : ℕ) (x : O
     → HasRoom (only v) v.opening.rings last ws room → HasRoom (only w) w.opening.rings last ws room
 room_polls v w from class h g x last ws room one is f m =
     subst (λ (o : CoreOpening). HasRoom (only w) o.rings last ws room) (sym (ap (λ (u : View). u.opening) is))
-    (subst (λ (y : RingPart). HasRoom y v.opening.rings last ws room) (sym (only_is w (after_part h g x (only v)) (got_parts v w from class h g x one is f))) (room_after h g x (only v) v.opening.rings last ws room m))
+    (subst (λ (y : RingPart). HasRoom y v.opening.rings last ws room) (sym (only_is w (after_part from class h g x (only v)) (got_parts v w from class h g x one is f))) (room_after from class h g x (only v) v.opening.rings last ws room m))
 
 pub units_polls : (v w : View) (from class : ℕ) (h : ClauseAt) (g : ℕ) (x : Option Cref) (seen : List Literal) (a b : ℕ) → v.parts ≡ only v ∷ [] → w ≡ after_get from class h g v → IsFound h.address x → HasUnits (only v) v.layout.vars seen a b → HasUnits (only w) w.layout.vars seen a b
 units_polls v w from class h g x seen a b one is f u =
-    units_keep v w seen a b (ap (λ (p : RingPart). p.core.seen) (only_is w (after_part h g x (only v)) (got_parts v w from class h g x one is f)) ∙ by x) (ap (λ (y : View). y.layout) is) u
+    units_keep v w seen a b (ap (λ (p : RingPart). p.core.seen) (only_is w (after_part from class h g x (only v)) (got_parts v w from class h g x one is f)) ∙ by x) (ap (λ (y : View). y.layout) is) u
   where
-    by : (y : Option Cref) → (after_part h g y (only v)).core.seen ≡ (only v).core.seen
+    by : (y : Option Cref) → (after_part from class h g y (only v)).core.seen ≡ (only v).core.seen
     by None = refl
     by (Some c) = refl
 
 pub port_polls : {B : Type 0} {t : Shared B} {p : Seat (Option B) View} {n : ℕ} {st : List Cref} {o : Own} (q : Seat (Option B) View) (s : PortState) (from class : ℕ) (h : ClauseAt) (g : ℕ) (x : Option Cref) (k : ℕ) (ts : List Cref) → IsRingPass t p n st o → IsPassOf t q → port_of p.me.0 o ≡ s
-    → q.me.0 ≡ after_get from class h g p.me.0 → IsFound h.address x → KeepsGlues h g (only p.me.0) → k ≡ one_more o.polled → ts ≡ taken_after x o.taken → Polled s (port_of q.me.0 (record o { polled = k; taken = ts; home = home_of q })) (Ok x)
+    → q.me.0 ≡ after_get from class h g p.me.0 → IsFound h.address x → KeepsGlues h g (only p.me.0) → k ≡ one_more o.polled → ts ≡ taken_after x o.taken → Polled s (port_of q.me.0 (record o { polled = k; taken = ts; home = home_of q })) from class (Ok x)
 port_polls {B} {t} {p} {n} {st} {o} q s from class h g x k ts r pass view is f keeps more e =
-    subst (λ (y : PortState). Polled y (port_of q.me.0 (record o { polled = k; taken = ts; home = home_of q })) (Ok x)) view
-    (polled_here p.me.0 q.me.0 pass.3 o k ts (home_of q) h g x r.one (got_parts p.me.0 q.me.0 from class h g x r.one is f) (ap (λ (u : View). u.layout) is) (ap (λ (u : View). u.opening) is) (ap (λ (u : View). u.stop) is) f keeps more e (name_stays q r pass))
+    subst (λ (y : PortState). Polled y (port_of q.me.0 (record o { polled = k; taken = ts; home = home_of q })) from class (Ok x)) view
+    (polled_here p.me.0 q.me.0 pass.3 o k ts (home_of q) from class h g x r.one (got_parts p.me.0 q.me.0 from class h g x r.one is f) (ap (λ (u : View). u.layout) is) (ap (λ (u : View). u.opening) is) (ap (λ (u : View). u.stop) is) (ap (λ (u : View). u.looks) is) f keeps more e (name_stays q r pass))

@@ -1,8 +1,12 @@
 -- Units that are seen, and units that are given.
-use Rattle.std.proofs.Common.{◌≡◌, ◌⊎◌, ℕ, zero, suc, ◌+◌, ◌*◌, ◌<◌, ◌≤◌, Bool, true, false, not, ◌&&◌, ◌||◌, if◌then◌else◌, List, [], ◌∷◌, ◌++◌, length, get_or, take, drop, refl, sym, ap, subst, ◌∙◌, inl, inr, ⊎_elim, arith, None, Option, length-append, append-nil}
+use Rattle.std.proofs.Common.{◌≡◌, ◌⊎◌, ℕ, zero, suc, ◌+◌, ◌-◌, ◌*◌, ◌<◌, ◌≤◌, Bool, true, false, not, ◌&&◌, ◌||◌, if◌then◌else◌, List, [], ◌∷◌, ◌++◌, length, get_or, take, drop, refl, sym, ap, subst, ◌∙◌, inl, inr, ⊎_elim, arith, None, Option, length-append, append-nil, eq-eqb, ne_eqb}
+use Rattle.std.specs.Prelude.{min, ◌^◌, MatchOption}
 use Rattle.std.specs.List.{All, filter}
 use Rattle.std.proofs.lemmas.Bool.{false≢true, true≢false, and_parts}
 use Rattle.std.proofs.lemmas.List.Folds.{list_any-append}
+use Rattle.std.proofs.Math.Nat.{min-le_left, min-le_right, min-eq_left, min-eq_right}
+use mathlib.Core.Logic.{dite}
+use native.Mathlib.Decide.{ℕ_discrete}
 use Rattle.sat_words.specs.Literal.{Literal, same}
 use Rattle.sat_words.specs.Clause.{has, distinct_lits}
 use Rattle.sat_words.proofs.Members.{same-true, same-refl}
@@ -60,6 +64,20 @@ or_right false b e = e
 or_either : (a b : Bool) → (a || b) ≡ true → (a ≡ true) ⊎ (b ≡ true)
 or_either true b e = inl refl
 or_either false b e = inr e
+
+-- Counts that end at a last one
+
+-- one more, and then no further than the last, is one more than what went no further
+pub more_counted : (most n : ℕ) → min (n + 1) most ≡ min (min n most + 1) most
+more_counted most n = dite (ℕ_discrete (n - most) 0)
+    (λ e. ap (λ (k : ℕ). min (k + 1) most) (sym (min-eq_left {n = n} {m = most} (omega arith))))
+    (λ ne. min-eq_right {n = most} {m = n + 1} (omega arith) ∙ sym (ap (λ (k : ℕ). min (k + 1) most) (min-eq_right {n = most} {m = n} (omega arith)) ∙ min-eq_right {n = most} {m = most + 1} (omega arith)))
+
+-- no less stays no less
+pub less_counted : (most n m : ℕ) → n ≤ m → min n most ≤ min m most
+less_counted most n m le = dite (ℕ_discrete (m - most) 0)
+    (λ e. let is = min-eq_left {n = m} {m = most} (omega arith) in let below = min-le_left n most in omega arith)
+    (λ ne. let is = min-eq_right {n = most} {m = m} (omega arith) in let below = min-le_right n most in omega arith)
 
 -- Lists without repeats
 
@@ -234,6 +252,38 @@ saw_part x n p = see_part x (count_part n p)
 pub saw_parts : (v w : View) (x : Literal) (n : ℕ) → v.parts ≡ only v ∷ [] → w ≡ after_see x (after_count n v) → w.parts ≡ saw_part x n (only v) ∷ []
 saw_parts v w x n one is = ap (λ (u : View). u.parts) is ∙ ap (λ (ps : List RingPart). on_first (see_part x) (on_first (count_part n) ps)) one
 
+-- where more are listed than were seen the ring has not caught up once more
+pub saw_short : (v w : View) (x : Literal) (n k : ℕ) → v.parts ≡ only v ∷ [] → w ≡ after_see x (after_count n v) → k < n → k ≡ length (only v).core.seen → (only w).caught_up ≡ (only v).caught_up
+saw_short v w x n k one is lt e =
+    ap (λ (q : RingPart). q.caught_up) (only_is w (saw_part x n (only v)) (saw_parts v w x n one is))
+    ∙ (λ i. if ne_eqb n (length (only v).core.seen) (λ f. absurd (omega arith)) i then (only v).caught_up + 1 else (only v).caught_up)
+
+-- and where as many are it has
+pub saw_level : (v w : View) (n : ℕ) → v.parts ≡ only v ∷ [] → w ≡ after_count n v → n ≡ length (only v).core.seen → (only w).caught_up ≡ (only v).caught_up + 1
+saw_level v w n one is e =
+    ap (λ (q : RingPart). q.caught_up) (only_is w (count_part n (only v)) (one_changed (count_part n) v w one (ap (λ (u : View). u.parts) is)))
+    ∙ (λ i. if eq-eqb n (length (only v).core.seen) e i then (only v).caught_up + 1 else (only v).caught_up)
+
+-- one more, or none, as the look for the next one found it
+pub saw_one : {v w : View} {seen seen' arrived arrived' : List Literal} {x : Literal} (k : ℕ) → v.parts ≡ only v ∷ [] → seen ≡ (only v).core.seen → k ≡ length seen → (n : ℕ) × (k < n) × (w ≡ after_see x (after_count n v)) → seen' ≡ seen ++ x ∷ [] → arrived' ≡ arrived ++ x ∷ [] → SawOne v w seen seen' arrived arrived' x
+saw_one {v} {w} {seen} {seen'} {arrived} {arrived'} {x} k one all e h more later = record {
+  listed = h.0;
+  view = h.2;
+  caught_up = saw_short v w x h.0 k one h.2 h.1 (e ∙ ap length all);
+  seen_is = more;
+  arrived_is = later;
+}
+
+pub saw_all : (v w : View) (seen arrived : List Literal) (k : ℕ) (r : Option Literal) → r ≡ None → v.parts ≡ only v ∷ [] → seen ≡ (only v).core.seen → k ≡ length seen → (w ≡ after_count k v) × ((later : List Literal) × ((only v).core.seen ≡ v.opening.units ++ later))
+    → MatchOption r (SawAll v w (length seen) seen seen arrived arrived) (SawOne v w seen seen arrived arrived)
+saw_all v w seen arrived k r none one all e h = subst (λ (o : Option Literal). MatchOption o (SawAll v w (length seen) seen seen arrived arrived) (SawOne v w seen seen arrived arrived)) (sym none) (record {
+  view = h.0 ∙ ap (λ (n : ℕ). after_count n v) e;
+  caught_up = saw_level v w k one h.0 (e ∙ ap length all);
+  opening = h.1;
+  seen_is = refl;
+  arrived_is = refl;
+})
+
 -- it was not seen before
 pub saw_fresh : (v w : View) (x : Literal) (n : ℕ) → v.parts ≡ only v ∷ [] → w ≡ after_see x (after_count n v) → Seen w → has (only v).core.seen x ≡ false
 saw_fresh v w x n one is s =
@@ -278,24 +328,25 @@ gives_kept v s o x one own lt e =
     let there : In x seen = has_In seen x (all_in (λ (l : Literal). has seen l ≡ true) o.arrived x (next_In o.passed o.arrived x lt e) own.told) in
     let d : distinct_lits (x ∷ ks) ≡ true = subst (λ (ls : List Literal). distinct_lits ls ≡ true) next (rest_distinct o.passed o.arrived own.distinct) in
     let few = few_arrived v s one o.arrived own.distinct own.told in
+    let one_less : length o.arrived - (o.passed + 1) ≡ length o.arrived - o.passed - 1 = omega arith in
     record {
       fresh = ap (λ (ls : List Literal). has (without_kept ls seen) x) next ∙ kept_fresh (x ∷ ks) seen x (inl refl);
       sees = subst (λ (ls : List Literal). Sees (without_kept ls seen) (without_kept ks seen) x) (sym next) (kept_given x ks seen (not_true (has ks x) (and_parts (not (has ks x)) (distinct_lits ks) d).0) there);
       fewer = omega arith;
-      state = λ i. record (port_of v (record o { passed = o.passed + 1 })) { given = take_next o.passed o.arrived x lt e i };
+      state = λ i. record (port_of v (record o { passed = o.passed + 1 })) { given = take_next o.passed o.arrived x lt e i; kept = one_less i };
     }
 
 pub own_given : (p : RingPart) (o : Own) → o.passed < length o.arrived → IsOwn p o → IsOwn p (record o { passed = o.passed + 1 })
 own_given p o lt own = record { passed = omega arith; distinct = own.distinct; told = own.told; taken = own.taken; ended_is = own.ended_is; faulty_is = own.faulty_is }
 
 -- a unit that was just seen is given
-pub gives_new : (v w : View) (s : Seen w) (o : Own) (x : Literal) (n : ℕ) (home : List ℕ) → v.parts ≡ only v ∷ [] → w ≡ after_see x (after_count n v) → IsOwn (only v) o → o.passed ≡ length o.arrived → home ≡ o.home
+pub gives_new : (v w : View) (s : Seen w) (o : Own) (x : Literal) (n : ℕ) (home : List ℕ) → v.parts ≡ only v ∷ [] → w ≡ after_see x (after_count n v) → IsOwn (only v) o → o.passed ≡ length o.arrived → home ≡ o.home → (only w).caught_up ≡ (only v).caught_up
     → TookUnit (port_of v o) (port_of w (record o { arrived = o.arrived ++ x ∷ []; passed = o.passed + 1; home = home })) x
-gives_new v w s o x n home one is own all hm =
+gives_new v w s o x n home one is own all hm caught =
     let p : RingPart = only v in
     let seen : List Literal = p.core.seen in
     let o' : Own = record o { arrived = o.arrived ++ x ∷ []; passed = o.passed + 1; home = home } in
-    let q : port_of w o' ≡ port_with v (saw_part x n p) o' = port_step v w (saw_part x n p) o' (saw_parts v w x n one is) (ap (λ (u : View). u.layout) is) (ap (λ (u : View). u.opening) is) (ap (λ (u : View). u.stop) is) in
+    let q : port_of w o' ≡ port_with v (saw_part x n p) o' = port_step v w (saw_part x n p) o' (saw_parts v w x n one is) (ap (λ (u : View). u.layout) is) (ap (λ (u : View). u.opening) is) (ap (λ (u : View). u.stop) is) (ap (λ (u : View). u.looks) is) in
     let long = length-append o.arrived (x ∷ []) in
     let end : o.passed + 1 ≡ length (o.arrived ++ x ∷ []) = omega arith in
     let before : without_kept (kept o) seen ≡ seen = without_none (kept o) seen (ap (drop o.passed) (sym (append-nil o.arrived)) ∙ drop_all o.arrived [] o.passed all) in
@@ -306,11 +357,12 @@ gives_new v w s o x n home one is own all hm =
     let now : (port_of w o').seen ≡ seen ++ x ∷ [] = ap (λ (y : PortState). y.seen) q ∙ after in
     let place = arrived_place v w x n o.arrived one is s own.distinct own.told in
     let coming = ap (λ (y : PortState). y.coming) q in
+    let none : length (o.arrived ++ x ∷ []) - (o.passed + 1) ≡ length o.arrived - o.passed - 1 = omega arith in
     record {
       fresh = ap (λ (ls : List Literal). has ls x) before ∙ saw_fresh v w x n one is s;
       sees = subst (λ (z : List Literal × List Literal). Sees z.0 z.1 x) (λ i. (sym before i, sym now i)) (new_sees seen x);
       fewer = omega arith;
-      state = λ i. record (q i) { seen = (port_of w o').seen; given = (ap (λ (y : PortState). y.given) q ∙ given) i; coming = (port_of w o').coming; home = (ap (λ (y : PortState). y.home) q ∙ hm) i };
+      state = λ i. record (q i) { seen = (port_of w o').seen; given = (ap (λ (y : PortState). y.given) q ∙ given) i; coming = (port_of w o').coming; kept = none i; caught_up = min (caught i) (2 ^ 64 - 1); home = (ap (λ (y : PortState). y.home) q ∙ hm) i };
     }
 
 pub own_new : (v w : View) (s : Seen w) (o : Own) (x : Literal) (n passed : ℕ) (home : List ℕ) → v.parts ≡ only v ∷ [] → w ≡ after_see x (after_count n v) → passed ≤ length o.arrived + 1 → IsOwn (only v) o → IsOwn (saw_part x n (only v)) (record o { arrived = o.arrived ++ x ∷ []; passed = passed; home = home })
@@ -326,14 +378,19 @@ own_new v w s o x n passed home one is le own =
     }
 
 -- none is left
-pub gives_none : (v w : View) (o : Own) (n : ℕ) (home : List ℕ) → v.parts ≡ only v ∷ [] → w ≡ after_count n v → o.passed ≡ length o.arrived → home ≡ o.home → (later : List Literal) × ((only v).core.seen ≡ v.opening.units ++ later)
+pub gives_none : (v w : View) (o : Own) (n : ℕ) (home : List ℕ) → v.parts ≡ only v ∷ [] → w ≡ after_count n v → o.passed ≡ length o.arrived → home ≡ o.home → (later : List Literal) × ((only v).core.seen ≡ v.opening.units ++ later) → (only w).caught_up ≡ (only v).caught_up + 1
     → TookNone (port_of v o) (port_of w (record o { home = home }))
-gives_none v w o n home one is all hm h =
+gives_none v w o n home one is all hm h caught =
     let before : without_kept (kept o) (only v).core.seen ≡ (only v).core.seen = without_none (kept o) (only v).core.seen (ap (drop o.passed) (sym (append-nil o.arrived)) ∙ drop_all o.arrived [] o.passed all) in
+    let shown : port_of w (record o { home = home }) ≡ port_with v (count_part n (only v)) (record o { home = home }) = port_step v w (count_part n (only v)) (record o { home = home }) (one_changed (count_part n) v w one (ap (λ (u : View). u.parts) is)) (ap (λ (u : View). u.layout) is)
+    (ap (λ (u : View). u.opening) is) (ap (λ (u : View). u.stop) is) (ap (λ (u : View). u.looks) is) in
     record {
       all = λ l e. ap (λ (ls : List Literal). has ls l) (before ∙ h.1) ∙ In_has (v.opening.units ++ h.0) l (In_append_left v.opening.units h.0 l (has_In v.opening.units l e));
-      state = port_step v w (count_part n (only v)) (record o { home = home }) (one_changed (count_part n) v w one (ap (λ (u : View). u.parts) is)) (ap (λ (u : View). u.layout) is) (ap (λ (u : View). u.opening) is) (ap (λ (u : View). u.stop) is)
-          ∙ (λ i. port_with v (only v) (record o { home = hm i }));
+      none_kept = omega arith;
+      state = λ i. record (shown i) {
+        caught_up = (ap (λ (k : ℕ). min k (2 ^ 64 - 1)) caught ∙ more_counted (2 ^ 64 - 1) (only v).caught_up) i;
+        home = (ap (λ (y : PortState). y.home) shown ∙ hm) i;
+      };
     }
 
 -- For a ring with its pass
@@ -356,7 +413,7 @@ pub port_sees : {B : Type 0} {t : Shared B} {p : Seat (Option B) View} {n : ℕ}
     → TookUnit s (port_of q.me.0 (record o { arrived = more; passed = o.passed + 1; home = home_of q })) x
 port_sees {B} {t} {p} {n} {st} {o} q s x seen seen' more r pass view saw all =
     subst (λ (y : PortState × List Literal). TookUnit y.0 (port_of q.me.0 (record o { arrived = y.1; passed = o.passed + 1; home = home_of q })) x) (λ i. (view i, sym saw.arrived_is i))
-    (gives_new p.me.0 q.me.0 pass.3 o x saw.listed (home_of q) r.one saw.view r.own all (name_stays q r pass))
+    (gives_new p.me.0 q.me.0 pass.3 o x saw.listed (home_of q) r.one saw.view r.own all (name_stays q r pass) saw.caught_up)
 
 pub room_sees : (v w : View) (x : Literal) (seen seen' arrived more : List Literal) (last : Option Cref) (ws : List Waiting) (room : ℕ) → v.parts ≡ only v ∷ [] → SawOne v w seen seen' arrived more x → HasRoom (only v) v.opening.rings last ws room → HasRoom (only w) w.opening.rings last ws room
 room_sees v w x seen seen' arrived more last ws room one saw m = room_turns v w (saw_part x saw.listed (only v)) last ws room (ap (λ (u : View). u.opening) saw.view) (saw_parts v w x saw.listed one saw.view) refl refl (omega arith) m
@@ -384,7 +441,7 @@ ring_sees_all {B} {t} {p} {n} {st} {o} q count seen seen' more r pass same saw =
 pub port_sees_all : {B : Type 0} {t : Shared B} {p : Seat (Option B) View} {n : ℕ} {st : List Cref} {o : Own} (q : Seat (Option B) View) (s : PortState) (count : ℕ) (seen seen' more : List Literal) → IsRingPass t p n st o → IsPassOf t q → port_of p.me.0 o ≡ s → SawAll p.me.0 q.me.0 count seen seen' o.arrived more → o.passed ≡ length o.arrived
     → TookNone s (port_of q.me.0 (record o { arrived = more; home = home_of q }))
 port_sees_all {B} {t} {p} {n} {st} {o} q s count seen seen' more r pass view saw all =
-    subst (λ (y : PortState × List Literal). TookNone y.0 (port_of q.me.0 (record o { arrived = y.1; home = home_of q }))) (λ i. (view i, sym saw.arrived_is i)) (gives_none p.me.0 q.me.0 o count (home_of q) r.one saw.view all (name_stays q r pass) saw.opening)
+    subst (λ (y : PortState × List Literal). TookNone y.0 (port_of q.me.0 (record o { arrived = y.1; home = home_of q }))) (λ i. (view i, sym saw.arrived_is i)) (gives_none p.me.0 q.me.0 o count (home_of q) r.one saw.view all (name_stays q r pass) saw.opening saw.caught_up)
 
 pub room_sees_all : (v w : View) (count : ℕ) (seen seen' arrived more : List Literal) (last : Option Cref) (ws : List Waiting) (room : ℕ) → v.parts ≡ only v ∷ [] → SawAll v w count seen seen' arrived more → HasRoom (only v) v.opening.rings last ws room → HasRoom (only w) w.opening.rings last ws room
 room_sees_all v w count seen seen' arrived more last ws room one saw m = room_turns v w (count_part count (only v)) last ws room (ap (λ (u : View). u.opening) saw.view) (all_parts v w count one saw.view) refl refl (omega arith) m

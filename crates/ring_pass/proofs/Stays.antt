@@ -35,10 +35,10 @@ pub clause_same : (v w : View) (a : ℕ) → OnlyLooked v w → clause_of a w �
 clause_same v w a h = ap (λ (p : RingPart). clause_in a p.core.held) (only_same v w h)
 
 pub loaded : (v w : View) (word found : ℕ) → w ≡ after_load word found v → OnlyLooked v w
-loaded v w word found is = record { parts = ap (λ (u : View). u.parts) is; layout = ap (λ (u : View). u.layout) is; opening = ap (λ (u : View). u.opening) is; stop = ap (λ (u : View). u.stop) is }
+loaded v w word found is = record { parts = ap (λ (u : View). u.parts) is; layout = ap (λ (u : View). u.layout) is; opening = ap (λ (u : View). u.opening) is; stop = ap (λ (u : View). u.stop) is; looks = ap (λ (u : View). u.looks) is }
 
 pub looked_both : (u v w : View) → OnlyLooked u v → OnlyLooked v w → OnlyLooked u w
-looked_both u v w g h = record { parts = h.parts ∙ g.parts; layout = h.layout ∙ g.layout; opening = h.opening ∙ g.opening; stop = h.stop ∙ g.stop }
+looked_both u v w g h = record { parts = h.parts ∙ g.parts; layout = h.layout ∙ g.layout; opening = h.opening ∙ g.opening; stop = h.stop ∙ g.stop; looks = h.looks ∙ g.looks }
 
 pub loaded_twice : (a b : ℕ) (v w : View) → (found other : ℕ) × (w ≡ after_load b other (after_load a found v)) → OnlyLooked v w
 loaded_twice a b v w t = looked_both v (after_load a t.0 v) w (loaded v (after_load a t.0 v) a t.0 refl) (loaded (after_load a t.0 v) w b t.1 t.2)
@@ -73,7 +73,7 @@ ring_stays {B} {t} {p} {n} {st} {o} q r pass same looked =
 pub port_stays : {B : Type 0} {t : Shared B} {p : Seat (Option B) View} {n : ℕ} {st : List Cref} {o : Own} (q : Seat (Option B) View) → IsRingPass t p n st o → IsPassOf t q → OnlyLooked p.me.0 q.me.0 → port_of q.me.0 (record o { home = home_of q }) ≡ port_of p.me.0 o
 port_stays {B} {t} {p} {n} {st} {o} q r pass looked =
     let home : home_of q ≡ o.home = home_same t p q r.pass pass ∙ sym r.home in
-    λ i. port_with (record p.me.0 { layout = looked.layout i; opening = looked.opening i; stop = looked.stop i }) (only_same p.me.0 q.me.0 looked i) (record o { home = home i })
+    λ i. port_with (record p.me.0 { layout = looked.layout i; opening = looked.opening i; stop = looked.stop i; looks = looked.looks i }) (only_same p.me.0 q.me.0 looked i) (record o { home = home i })
 
 pub room_stays : (v w : View) (last : Option Cref) (ws : List Waiting) (room : ℕ) → OnlyLooked v w → HasRoom (only v) v.opening.rings last ws room → HasRoom (only w) w.opening.rings last ws room
 room_stays v w last ws room h r = subst (λ (p : RingPart). HasRoom p w.opening.rings last ws room) (sym (only_same v w h)) (subst (λ (o : CoreOpening). HasRoom (only v) o.rings last ws room) (sym h.opening) r)
@@ -137,8 +137,8 @@ ring_changes {B} {t} {p} {n} {st} {o} q x o' r pass same opening is ring turn ho
     }
 
 -- where its part of the core stays, so does what is kept beside
-pub own_stays : (p x : RingPart) (o : Own) (looks : ℕ) (home : List ℕ) → x.core ≡ p.core → x.ended ≡ p.ended → x.failed ≡ p.failed → IsOwn p o → IsOwn x (record o { looks = looks; home = home })
-own_stays p x o looks home e end fail own = record {
+pub own_stays : (p x : RingPart) (o : Own) (home : List ℕ) → x.core ≡ p.core → x.ended ≡ p.ended → x.failed ≡ p.failed → IsOwn p o → IsOwn x (record o { home = home })
+own_stays p x o home e end fail own = record {
   passed = own.passed;
   distinct = own.distinct;
   told = subst (λ (k : Part). All (λ l. has k.seen l ≡ true) o.arrived) (sym e) own.told;
@@ -163,9 +163,9 @@ no_output s t e = λ o st. absurd (subst (λ (q : Option LineState). IsSomeAnd q
 
 -- Steps that leave its part of the core
 
-pub port_steps : {B : Type 0} {t : Shared B} {p : Seat (Option B) View} {n : ℕ} {st : List Cref} {o : Own} (q : Seat (Option B) View) (x : RingPart) (looks : ℕ) → IsRingPass t p n st o → IsPassOf t q → q.me.0.parts ≡ x ∷ [] → x.core ≡ (only p.me.0).core → x.ended ≡ (only p.me.0).ended → x.failed ≡ (only p.me.0).failed → IsPort (port_of q.me.0 (record o { looks = looks; home = home_of q }))
-port_steps {B} {t} {p} {n} {st} {o} q x looks r pass is e end fail =
-    is_port q.me.0 pass.3 (one_is q.me.0 x is) (record o { looks = looks; home = home_of q }) (subst (λ (y : RingPart). IsOwn y (record o { looks = looks; home = home_of q })) (sym (only_is q.me.0 x is)) (own_stays (only p.me.0) x o looks (home_of q) e end fail r.own))
+pub port_steps : {B : Type 0} {t : Shared B} {p : Seat (Option B) View} {n : ℕ} {st : List Cref} {o : Own} (q : Seat (Option B) View) (x : RingPart) → IsRingPass t p n st o → IsPassOf t q → q.me.0.parts ≡ x ∷ [] → x.core ≡ (only p.me.0).core → x.ended ≡ (only p.me.0).ended → x.failed ≡ (only p.me.0).failed → IsPort (port_of q.me.0 (record o { home = home_of q }))
+port_steps {B} {t} {p} {n} {st} {o} q x r pass is e end fail =
+    is_port q.me.0 pass.3 (one_is q.me.0 x is) (record o { home = home_of q }) (subst (λ (y : RingPart). IsOwn y (record o { home = home_of q })) (sym (only_is q.me.0 x is)) (own_stays (only p.me.0) x o (home_of q) e end fail r.own))
 
 -- what was taken, in another vector
 pub port_retaken : {B : Type 0} {t : Shared B} {p : Seat (Option B) View} {n : ℕ} {st : List Cref} {o : Own} (ts : List Cref) → IsRingPass t p n st o → ts ≡ o.taken → IsPort (port_of p.me.0 (record o { taken = ts }))

@@ -1,6 +1,6 @@
 -- What the port says of the stop.
-use Rattle.std.proofs.Common.{◌≡◌, ◌≢◌, ℕ, ◌+◌, ◌*◌, List, [], ◌∷◌, refl, sym, ap, subst, ◌∙◌, Option, Some, None, ne_eqb, if◌then◌else◌}
-use Rattle.std.specs.Prelude.{MatchOption}
+use Rattle.std.proofs.Common.{◌≡◌, ◌≢◌, ℕ, ◌+◌, ◌-◌, ◌*◌, List, [], ◌∷◌, refl, sym, ap, subst, ◌∙◌, Option, Some, None, eq-eqb, ne_eqb, if◌then◌else◌}
+use Rattle.std.specs.Prelude.{min, ◌^◌, MatchOption}
 use Rattle.std.specs.Option.{option_map}
 use mathlib.Core.Logic.{dite}
 use native.Mathlib.Decide.{ℕ_discrete}
@@ -19,13 +19,15 @@ use Rattle.share_rule.specs.Exchanges.{MayFind, stop_of, stop_in, set_part, afte
 use Rattle.stop_word.specs.Stops.{core_stop, IsSet, stop_after}
 use Rattle.stop_word.specs.declared.answer.Set.{Set as Answer}
 use Rattle.stop_word.specs.declared.answer.Set.TheVariants.{Won as AnswerWon, Lost as AnswerLost}
-use Rattle.ring_port.specs.PortState.{PortState, one_more}
+use Rattle.ring_port.specs.PortState.{PortState}
 use Rattle.ring_port.specs.Port.{Stands, Looked, SetStop}
 use Rattle.ring_port.specs.declared.stops.Set.{Set}
 use Rattle.ring_port.specs.declared.stops.Set.TheVariants.{Won, Lost}
 use Rattle.ring_pass.specs.RingState.{Own, port_with, port_of, home_of, stop_as, IsRingPass}
 use Rattle.ring_pass.specs.Stops.{port_set}
 use Rattle.ring_pass.proofs.Stays.{only_is, one_changed, name_stays}
+use Rattle.ring_pass.proofs.SeenHere.{more_counted}
+use Rattle.share_core.proofs.Counting.{none_some}
 
 stands_here : (v : View) (o : Own) (x : Stop) → v.parts ≡ only v ∷ [] → MayFind v (Some (core_stop x)) → Stands (port_of v o) x
 stands_here v o x one may = by v.stop may
@@ -34,18 +36,32 @@ stands_here v o x one may = by v.stop may
     by None h = h 0 (only v) (ap (λ (ps : List RingPart). get_elem? ps 0) one)
     by (Some t) h = ap stop_as h
 
+-- a word that spells no stop is 0
+none_found : (n : ℕ) → stop_of n ≡ None → n ≡ 0
+none_found n e = dite (ℕ_discrete n 0) (λ z. z) (λ nz. absurd (none_some (stop_in n) (sym e ∙ (λ i. if ne_eqb n 0 nz i then None else Some (stop_in n)))))
+
+-- a look that finds a stop is not counted
+some_found : (v : View) (n : ℕ) (x : CoreStop) → stop_of n ≡ Some x → (after_look n v).looks ≡ v.looks
+some_found v n x e = dite (ℕ_discrete n 0)
+    (λ z. absurd (none_some x (sym (λ i. if eq-eqb n 0 z i then None else Some (stop_in n)) ∙ e)))
+    (λ nz i. if ne_eqb n 0 nz i then v.looks + 1 else v.looks)
+
 -- the port after a look that found none
-pub look_none : (v w : View) (o : Own) (n k : ℕ) (home : List ℕ) → w ≡ after_look n v → MayFind v (stop_of n) → w.stop ≡ None → home ≡ o.home → k ≡ one_more o.looks → Looked (port_of v o) (port_of w (record o { looks = k; home = home })) None
-look_none v w o n k home is may none hm more =
+look_none : (v w : View) (o : Own) (n : ℕ) (home : List ℕ) → w ≡ after_look n v → MayFind v (stop_of n) → w.stop ≡ None → home ≡ o.home → Looked (port_of v o) (port_of w (record o { home = home })) None
+look_none v w o n home is may none hm =
     let e : stop_of n ≡ None = ap (λ (u : View). u.stop) (sym is) ∙ none in
     let was : v.stop ≡ None = subst (MayFind v) e may in
-    (ap (option_map stop_as) was, (λ i. port_of (is i) (record o { looks = more i; home = hm i })) ∙ (λ i. port_of (record v { stop = (e ∙ sym was) i }) (record o { looks = one_more o.looks })))
+    let more : (after_look n v).looks ≡ v.looks + 1 = (λ i. if eq-eqb n 0 (none_found n e) i then v.looks + 1 else v.looks) in (
+      ap (option_map stop_as) was,
+      (λ i. port_of (is i) (record o { home = hm i }))
+          ∙ (λ i. record (port_of v o) { stop = option_map stop_as ((e ∙ sym was) i); looks = (ap (λ (k : ℕ). min k (2 ^ 64 - 1)) more ∙ more_counted (2 ^ 64 - 1) v.looks) i }),
+    )
 
 -- and after one that found a stop
-pub look_some : (v w : View) (o : Own) (n : ℕ) (home : List ℕ) (x : Stop) → v.parts ≡ only v ∷ [] → w ≡ after_look n v → MayFind v (stop_of n) → w.stop ≡ Some (core_stop x) → home ≡ o.home → Looked (port_of v o) (port_of w (record o { home = home })) (Some x)
+look_some : (v w : View) (o : Own) (n : ℕ) (home : List ℕ) (x : Stop) → v.parts ≡ only v ∷ [] → w ≡ after_look n v → MayFind v (stop_of n) → w.stop ≡ Some (core_stop x) → home ≡ o.home → Looked (port_of v o) (port_of w (record o { home = home })) (Some x)
 look_some v w o n home x one is may found hm =
     let e : stop_of n ≡ Some (core_stop x) = ap (λ (u : View). u.stop) (sym is) ∙ found in
-    (stands_here v o x one (subst (MayFind v) e may), (λ i. port_of (is i) (record o { home = hm i })) ∙ (λ i. record (port_of v o) { stop = option_map stop_as (e i) }))
+    (stands_here v o x one (subst (MayFind v) e may), (λ i. port_of (is i) (record o { home = hm i })) ∙ (λ i. record (port_of v o) { stop = option_map stop_as (e i); looks = min (some_found v n (core_stop x) e i) (2 ^ 64 - 1) }))
 
 -- after a try that set it
 pub set_won : (v w : View) (o : Own) (kind ring n : ℕ) (home : List ℕ) → v.parts ≡ only v ∷ [] → ring ≡ (only v).core.ring → w ≡ after_set (kind + 8 * ring) n v → n ≡ 0 → MayFind v (stop_of n) → w.stop ≡ Some (record { kind = kind; ring = ring }) → home ≡ o.home
@@ -56,7 +72,7 @@ set_won v w o kind ring n home one mine is zero may set hm =
     let was : v.stop ≡ None = subst (λ (m : ℕ). MayFind v (stop_of m)) zero may in
     let part : only w ≡ set_part (stop_in code) (only v) = only_is w (set_part (stop_in code) (only v)) (one_changed (set_part (stop_in code)) v w one (ap (λ (u : View). u.parts) won)) in (
       ap (option_map stop_as) was,
-      (λ i. port_with (record v { layout = (won i).layout; opening = (won i).opening; stop = (set ∙ (λ j. Some (record { kind = kind; ring = mine j }))) i }) (part i) (record o { home = hm i })),
+      (λ i. port_with (record v { layout = (won i).layout; opening = (won i).opening; looks = (won i).looks; stop = (set ∙ (λ j. Some (record { kind = kind; ring = mine j }))) i }) (part i) (record o { home = hm i })),
     )
 
 -- and after one that did not
@@ -69,15 +85,20 @@ set_lost v w o kind code n home x one is there may set hm =
 
 -- For a ring with its pass
 
-pub ring_looks : {B : Type 0} {t : Shared B} {p : Seat (Option B) View} {n : ℕ} {st : List Cref} {o : Own} (q : Seat (Option B) View) (s : PortState) (found : ℕ) (x : Stop) → IsRingPass t p n st o → IsPassOf t q → port_of p.me.0 o ≡ s
+ring_looks : {B : Type 0} {t : Shared B} {p : Seat (Option B) View} {n : ℕ} {st : List Cref} {o : Own} (q : Seat (Option B) View) (s : PortState) (found : ℕ) (x : Stop) → IsRingPass t p n st o → IsPassOf t q → port_of p.me.0 o ≡ s
     → q.me.0 ≡ after_look found p.me.0 → MayFind p.me.0 (stop_of found) → q.me.0.stop ≡ Some (core_stop x) → Looked s (port_of q.me.0 (record o { home = home_of q })) (Some x)
 ring_looks {B} {t} {p} {n} {st} {o} q s found x r pass view is may sees =
     subst (λ (y : PortState). Looked y (port_of q.me.0 (record o { home = home_of q })) (Some x)) view (look_some p.me.0 q.me.0 o found (home_of q) x r.one is may sees (name_stays q r pass))
 
-pub ring_misses : {B : Type 0} {t : Shared B} {p : Seat (Option B) View} {n : ℕ} {st : List Cref} {o : Own} (q : Seat (Option B) View) (s : PortState) (found k : ℕ) → IsRingPass t p n st o → IsPassOf t q → port_of p.me.0 o ≡ s
-    → q.me.0 ≡ after_look found p.me.0 → MayFind p.me.0 (stop_of found) → q.me.0.stop ≡ None → k ≡ one_more o.looks → Looked s (port_of q.me.0 (record o { looks = k; home = home_of q })) None
-ring_misses {B} {t} {p} {n} {st} {o} q s found k r pass view is may sees more =
-    subst (λ (y : PortState). Looked y (port_of q.me.0 (record o { looks = k; home = home_of q })) None) view (look_none p.me.0 q.me.0 o found k (home_of q) is may sees (name_stays q r pass) more)
+ring_misses : {B : Type 0} {t : Shared B} {p : Seat (Option B) View} {n : ℕ} {st : List Cref} {o : Own} (q : Seat (Option B) View) (s : PortState) (found : ℕ) → IsRingPass t p n st o → IsPassOf t q → port_of p.me.0 o ≡ s
+    → q.me.0 ≡ after_look found p.me.0 → MayFind p.me.0 (stop_of found) → q.me.0.stop ≡ None → Looked s (port_of q.me.0 (record o { home = home_of q })) None
+ring_misses {B} {t} {p} {n} {st} {o} q s found r pass view is may sees =
+    subst (λ (y : PortState). Looked y (port_of q.me.0 (record o { home = home_of q })) None) view (look_none p.me.0 q.me.0 o found (home_of q) is may sees (name_stays q r pass))
+
+pub ring_looked : {B : Type 0} {t : Shared B} {p : Seat (Option B) View} {n : ℕ} {st : List Cref} {o : Own} (q : Seat (Option B) View) (s : PortState) (found : ℕ) (r : Option Stop) → IsRingPass t p n st o → IsPassOf t q → port_of p.me.0 o ≡ s
+    → q.me.0 ≡ after_look found p.me.0 → MayFind p.me.0 (stop_of found) → q.me.0.stop ≡ option_map core_stop r → Looked s (port_of q.me.0 (record o { home = home_of q })) r
+ring_looked q s found None r pass view is may sees = ring_misses q s found r pass view is may sees
+ring_looked q s found (Some x) r pass view is may sees = ring_looks q s found x r pass view is may sees
 
 ring_sets : {B : Type 0} {t : Shared B} {p : Seat (Option B) View} {n : ℕ} {st : List Cref} {o : Own} (q : Seat (Option B) View) (s : PortState) (kind found : ℕ) (a : Answer) → IsRingPass t p n st o → IsPassOf t q → port_of p.me.0 o ≡ s
     → q.me.0 ≡ after_set (kind + 8 * n) found p.me.0 → MayFind p.me.0 (stop_of found) → IsSet found a → q.me.0.stop ≡ Some (core_stop (stop_after (record { kind = kind; ring = n }) a)) → SetStop s (port_of q.me.0 (record o { home = home_of q })) kind (port_set a)

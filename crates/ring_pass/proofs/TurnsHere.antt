@@ -60,6 +60,7 @@ pub record HasTurn (v w : View) (J : List Entry) (failed : Bool) : Type 0 where
   pub layout : w.layout ≡ v.layout
   pub opening : w.opening ≡ v.opening
   pub stop : w.stop ≡ v.stop
+  pub looks : w.looks ≡ v.looks
 
 pub turn_taken : {S : Type 0} {d : Ghosts S} {written flushed target : S → Option (List ℕ)} {faults : S → ℕ} {v w : View} {t : Turn S d} → v.parts ≡ only v ∷ [] → (h : WasTaken written flushed target faults v w t) → HasTurn v w h.taken.book.journal t.book.log.lines.spent
 turn_taken {S} {d} {written} {flushed} {target} {faults} {v} {w} {t} one h =
@@ -70,6 +71,7 @@ turn_taken {S} {d} {written} {flushed} {target} {faults} {v} {w} {t} one h =
       layout = ap (λ (u : View). u.layout) b.view ∙ h.missed.layout;
       opening = ap (λ (u : View). u.opening) b.view ∙ h.missed.opening;
       stop = ap (λ (u : View). u.stop) b.view ∙ h.missed.stop;
+      looks = ap (λ (u : View). u.looks) b.view ∙ h.missed.looks;
     }
 
 -- it knows of a failed write what the book tells with it
@@ -112,6 +114,7 @@ turn_given v w u J was ns ms x failed h is same still = record {
   layout = ap (λ (y : View). y.layout) is ∙ h.layout;
   opening = ap (λ (y : View). y.opening) is ∙ h.opening;
   stop = ap (λ (y : View). y.stop) is ∙ h.stop;
+  looks = ap (λ (y : View). y.looks) is ∙ h.looks;
   still = still;
 }
 
@@ -186,7 +189,7 @@ port_going v o J own k going = by o.ended own.ended_is
 
 pub refused_here : (v u : View) (o : Own) (e : TurnStop) (home : List ℕ) → IsOwn (only v) o → WroteNone v u e → home ≡ o.home
     → Refused (port_of v o) (port_of u (record o { refused = refused_after e o.refused; ended = ended_after e o.ended; home = home })) (port_stop e)
-refused_here v u o e home own w hm = record { reason = by_reason e w.why; state = port_step v u new o' w.gave.parts w.gave.layout w.gave.opening w.gave.stop ∙ by_state e }
+refused_here v u o e home own w hm = record { reason = by_reason e w.why; state = port_step v u new o' w.gave.parts w.gave.layout w.gave.opening w.gave.stop w.gave.looks ∙ by_state e }
   where
     new : RingPart
     new = give_part v.opening (sheet_with w.journal (only v)) w.refused w.failed (only v)
@@ -349,7 +352,7 @@ reduced_part v J x failed = give_part v.opening (sheet_after v.opening (only v).
 pub reduced_here : (v u : View) (o : Own) (ts : List Cref) (home : List ℕ) → IsOwn (only v) o → (h : Wrote v u Reduce) → ts ≡ [] → home ≡ o.home → NotedReduce (port_of v o) (port_of u (record o { taken = ts; home = home }))
 reduced_here v u o ts home own h none hm = record {
   going = port_going v o h.journal own h.knows h.going;
-  state = port_step v u (reduced_part v h.journal h.refused h.failed) (record o { taken = ts; home = home }) h.gave.parts h.gave.layout h.gave.opening h.gave.stop
+  state = port_step v u (reduced_part v h.journal h.refused h.failed) (record o { taken = ts; home = home }) h.gave.parts h.gave.layout h.gave.opening h.gave.stop h.gave.looks
       ∙ (λ i. record (port_of v o) { mine = mine_last (only v).core.wrote (record { place = length h.journal; entry = ReduceEntry (only v).core.ring }) i; taken = map (λ (c : Cref). c.address) (none i); home = hm i });
 }
 

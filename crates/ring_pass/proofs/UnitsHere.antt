@@ -1,6 +1,7 @@
 -- The unit that the port writes.
-use Rattle.std.proofs.Common.{◌≡◌, ℕ, zero, suc, ◌<◌, ◌≤◌, Bool, true, false, not, ◌&&◌, ◌||◌, List, [], ◌∷◌, ◌++◌, length, get_or, take, drop, refl, sym, ap, subst, ◌∙◌, inl, inr, arith, Option, None, length-append}
+use Rattle.std.proofs.Common.{◌≡◌, ℕ, zero, suc, ◌-◌, ◌<◌, ◌≤◌, Bool, true, false, not, ◌&&◌, ◌||◌, List, [], ◌∷◌, ◌++◌, length, get_or, take, drop, refl, sym, ap, subst, ◌∙◌, inl, inr, arith, Option, None, length-append}
 use Rattle.std.specs.List.{All, list_any}
+use Rattle.std.specs.Prelude.{min, ◌^◌}
 use Rattle.std.proofs.lemmas.Bool.{false≢true, true≢false, or_left, or_right}
 use Rattle.std.proofs.lemmas.List.Folds.{list_any-append}
 use Rattle.sat_words.specs.Literal.{Literal, same}
@@ -41,7 +42,7 @@ use Rattle.ring_pass.proofs.CanOffers.{offer_turns}
 use Rattle.ring_pass.specs.Sights.{Listed, LeftOut, wrote_unit}
 use Rattle.ring_pass.specs.Writes.{entries_of, sheet_with, Wrote}
 use Rattle.ring_pass.proofs.PollsHere.{port_step}
-use Rattle.ring_pass.proofs.SeenHere.{filter_passes, rest_distinct}
+use Rattle.ring_pass.proofs.SeenHere.{less_counted, filter_passes, rest_distinct}
 use Rattle.ring_pass.proofs.Stays.{only_is, one_is}
 use Rattle.ring_pass.proofs.TurnsHere.{mine_last, port_going, ring_turns, room_turns, units_turns}
 use Rattle.ring_pass.proofs.Units.{filter_In, In_filter, head_else}
@@ -158,7 +159,8 @@ unit_put {v} {w} {u} {kind} {lit} {arrived'} {last} o home cell own h l out hm =
   going = port_going v o h.journal own h.knows h.going;
   sees = subst (λ (ls : List Literal). Sees (without_kept (kept o) seen) (without_kept (drop o.passed last) ls) lit) (sym now)
       (sees_written seen l.part.core.seen o.arrived l.news arrived' last o.passed lit (λ k. l.sees k ∙ ap (λ (ls : List Literal). has (ls ++ l.news) k || same lit k) before) (λ k e. ap (λ (ls : List Literal). has ls k) (sym before) ∙ l.apart k e) own.passed l.arrived_is out);
-  state = q ∙ (λ i. record (port_with v line o') { seen = without_kept (drop o.passed last) (sym now i); given = given i; mine = mine_last (only v).core.wrote (record { place = length h.journal; entry = unit_entry v h.journal kind lit }) i; home = hm i });
+  looked = less_counted (2 ^ 64 - 1) (only v).caught_up (only u).caught_up more;
+  state = q ∙ (λ i. record (port_with v line o') { seen = without_kept (drop o.passed last) (sym now i); given = given i; caught_up = min (sym caught i) (2 ^ 64 - 1); mine = mine_last (only v).core.wrote (record { place = length h.journal; entry = unit_entry v h.journal kind lit }) i; home = hm i });
 }
   where
     seen : List Literal
@@ -182,9 +184,15 @@ unit_put {v} {w} {u} {kind} {lit} {arrived'} {last} o home cell own h l out hm =
     given : take o.passed last ≡ take o.passed o.arrived
     given = out.front ∙ ap (take o.passed) l.arrived_is ∙ take_front o.passed o.arrived l.news own.passed
 
-    q : port_of u o' ≡ record (port_with v line o') { seen = without_kept (drop o.passed last) l.part.core.seen }
-    q = port_step v u l.part o' l.parts (l.layout ∙ h.gave.layout) (l.opening ∙ h.gave.opening) (l.stop ∙ h.gave.stop)
-        ∙ (λ i. port_with v (record l.part { core = core i; glues = (l.glues ∙ ap (λ (p : RingPart). p.glues) (line_is h)) i }) o')
+    caught : (only u).caught_up ≡ l.part.caught_up
+    caught = ap (λ (p : RingPart). p.caught_up) (only_is u l.part l.parts)
+
+    more : (only v).caught_up ≤ (only u).caught_up
+    more = subst (λ (y : ℕ × ℕ). y.0 ≤ y.1) (λ i. (ap (λ (p : RingPart). p.caught_up) (line_is h) i, sym caught i)) l.caught_up
+
+    q : port_of u o' ≡ record (port_with v line o') { seen = without_kept (drop o.passed last) l.part.core.seen; caught_up = min l.part.caught_up (2 ^ 64 - 1) }
+    q = port_step v u l.part o' l.parts (l.layout ∙ h.gave.layout) (l.opening ∙ h.gave.opening) (l.stop ∙ h.gave.stop) (l.looks ∙ h.gave.looks)
+        ∙ (λ i. port_with v (record l.part { core = core i; glues = (l.glues ∙ ap (λ (p : RingPart). p.glues) (line_is h)) i; polls = (l.polls ∙ ap (λ (p : RingPart). p.polls) (line_is h)) i }) o')
 
 -- as a call tells it
 pub unit_as : {v w u : View} {lit : Literal} {arrived' last : List Literal} (o : Own) (s : PortState) (home : List ℕ) → port_of v o ≡ s → IsOwn (only v) o → Wrote v w (UnitNote UnitLine lit) → Listed w u o.arrived arrived' lit → LeftOut o.passed lit arrived' last → home ≡ o.home

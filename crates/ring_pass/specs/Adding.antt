@@ -28,6 +28,7 @@ pub record Added (v w : View) (kind : Kind) (lits : List Literal) (glue a : ℕ)
   pub layout : w.layout ≡ v.layout
   pub opening : w.opening ≡ v.opening
   pub stop : w.stop ≡ v.stop
+  pub looks : w.looks ≡ v.looks
   pub core : part.core ≡ record (only v).core {
     held = (only v).core.held ++ clause_with a number lits ∷ [];
     making = part.core.making;
@@ -35,6 +36,8 @@ pub record Added (v w : View) (kind : Kind) (lits : List Literal) (glue a : ℕ)
   }
   pub glues : part.glues ≡ record { number = number; glue = glue } ∷ (only v).glues
   pub gave : part.gave ≡ (only v).gave
+  pub polls : part.polls ≡ (only v).polls
+  pub caught_up : part.caught_up ≡ (only v).caught_up
   pub turn : part.turn ≡ None
   pub going : (only v).ended ≡ false
   pub ended_is : (only v).ended ≡ true → part.ended ≡ true

@@ -14,6 +14,7 @@ pub record Stored (v w : View) : Type 0 where
   pub layout : w.layout ≡ v.layout
   pub opening : w.opening ≡ v.opening
   pub stop : w.stop ≡ v.stop
+  pub looks : w.looks ≡ v.looks
 
 -- the ring wrote the line of a clause with this number
 pub record WroteClause (v w : View) (kind : Kind) (lits : List Literal) (glue a number : ℕ) : Type 0 where

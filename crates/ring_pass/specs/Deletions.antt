@@ -20,9 +20,12 @@ pub record Deleted (v w : View) (k : ℕ) : Type 0 where
   pub layout : w.layout ≡ v.layout
   pub opening : w.opening ≡ v.opening
   pub stop : w.stop ≡ v.stop
+  pub looks : w.looks ≡ v.looks
   pub core : part.core ≡ record (only v).core { waiting = part.core.waiting; wrote = part.core.wrote }
   pub glues : part.glues ≡ (only v).glues
   pub gave : part.gave ≡ (only v).gave
+  pub polls : part.polls ≡ (only v).polls
+  pub caught_up : part.caught_up ≡ (only v).caught_up
   pub turn : part.turn ≡ None
   pub waiting : part.core.waiting ≡ drop k (only v).core.waiting
   pub wrote : entries_of part ≡ entries_of (only v) ++ deletions_of (only v).core.ring (take k (only v).core.waiting)

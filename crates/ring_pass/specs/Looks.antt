@@ -8,3 +8,4 @@ pub record OnlyLooked (old new : View) : Type 0 where
   pub layout : new.layout ≡ old.layout
   pub opening : new.opening ≡ old.opening
   pub stop : new.stop ≡ old.stop
+  pub looks : new.looks ≡ old.looks

@@ -58,6 +58,7 @@ pub record PutFor (v w : View) (class a : ℕ) (tos : List ℕ) : Type 0 where
   pub layout : w.layout ≡ v.layout
   pub opening : w.opening ≡ v.opening
   pub stop : w.stop ≡ v.stop
+  pub looks : w.looks ≡ v.looks
 
 -- a count was given up
 pub record GaveBack (v w : View) (a found : ℕ) : Type 0 where
@@ -65,3 +66,4 @@ pub record GaveBack (v w : View) (a found : ℕ) : Type 0 where
   pub layout : w.layout ≡ v.layout
   pub opening : w.opening ≡ v.opening
   pub stop : w.stop ≡ v.stop
+  pub looks : w.looks ≡ v.looks

@@ -1,5 +1,5 @@
 -- A ring with its pass, as a port.
-use Rattle.std.specs.Prelude.{◌≡◌, Bool, ℕ, ◌+◌, ◌-◌, ◌*◌, ◌<◌, ◌≤◌, true, false, not, ⊤, List, [], ◌∷◌, map, length, take, drop, filter, All, Option, Some, None, IfSome, vec_capacity}
+use Rattle.std.specs.Prelude.{◌≡◌, Bool, ℕ, ◌+◌, ◌-◌, ◌*◌, ◌<◌, ◌≤◌, true, false, not, ⊤, List, [], ◌∷◌, map, length, take, drop, filter, min, ◌^◌, All, Option, Some, None, IfSome, vec_capacity}
 use Rattle.std.specs.Option.{option_map}
 use Rattle.std.specs.Global.{Vec}
 use Rattle.sat_words.specs.Literal.{Literal}
@@ -14,6 +14,7 @@ use Rattle.share_core.specs.declared.stored.PutNote.{PutNote}
 use Rattle.share_core.specs.State.{times_at}
 use Rattle.share_rule.specs.declared.Shared.{Shared}
 use Rattle.share_rule.specs.declared.view.GlueAt.{GlueAt}
+use Rattle.share_rule.specs.declared.view.Poll.{Poll}
 use Rattle.share_rule.specs.declared.view.RingPart.{RingPart}
 use Rattle.share_rule.specs.declared.view.View.{View}
 use Rattle.share_rule.specs.FirstWords.{addresses}
@@ -21,7 +22,7 @@ use Rattle.share_rule.specs.Passes.{IsPassOf}
 use Rattle.share_rule.specs.Views.{only, clause_in, glue_in, start_glues}
 use Rattle.ring_port.specs.declared.stops.PortStop.{PortStop}
 use Rattle.ring_port.specs.Port.{is_usable}
-use Rattle.ring_port.specs.PortState.{Holding, Offer, PortState}
+use Rattle.ring_port.specs.PortState.{Holding, Offer, Slot, PortState}
 use Rattle.ring_pass.specs.declared.spares.Spares.{Spares}
 use Rattle.ring_pass.specs.declared.waiting.Waiting.{Waiting}
 
@@ -36,8 +37,6 @@ pub record Own : Type 0 where
   pub last : Option Cref
   -- how often it looked for a clause of another ring
   pub polled : ℕ
-  -- how often it looked for a stop and found none
-  pub looks : ℕ
   -- the last answer that refused, but for want of memory
   pub refused : Option PortStop
   -- what it has taken from other rings since its last Reduce entry
@@ -60,6 +59,10 @@ holding_of gs h = record { address = h.address; number = h.number; glue = glue_i
 abbrev pub offer_of : PutNote → Offer
 offer_of n = record { ring = n.to; class = n.class; address = n.address }
 
+-- a poll as the port knows it
+abbrev pub slot_of : Poll → Slot
+slot_of q = record { ring = q.from; class = q.class }
+
 abbrev pub stop_as : CoreStop → Stop
 stop_as s = record { kind = s.kind; ring = s.ring }
 
@@ -75,11 +78,14 @@ port_with v p o = record {
   seen = without_kept (kept o) p.core.seen;
   given = take o.passed o.arrived;
   coming = 2 * v.layout.vars - o.passed;
+  kept = length o.arrived - o.passed;
+  caught_up = min p.caught_up (2 ^ 64 - 1);
   start = map (holding_of (start_glues v.opening.starts)) v.opening.starts;
   opening = v.opening.units;
   mine = map (λ (e : Placed). e.entry) p.core.wrote;
   shared = p.core.shared;
   polled = o.polled;
+  polls = map slot_of p.polls;
   puts = map offer_of p.core.puts;
   taken = map (λ (c : Cref). c.address) o.taken;
   vars = v.layout.vars;
@@ -87,7 +93,7 @@ port_with v p o = record {
   rings = v.opening.rings;
   last = option_map (λ (c : Cref). c.address) o.last;
   stop = option_map stop_as v.stop;
-  looks = o.looks;
+  looks = min v.looks (2 ^ 64 - 1);
   refused = o.refused;
   ended = o.ended;
   output = None;
@@ -183,11 +189,14 @@ begun_as v r home = record {
   seen = [];
   given = [];
   coming = 2 * v.layout.vars;
+  kept = 0;
+  caught_up = 0;
   start = map (holding_of (start_glues v.opening.starts)) v.opening.starts;
   opening = v.opening.units;
   mine = [];
   shared = 0;
   polled = 0;
+  polls = [];
   puts = [];
   taken = [];
   vars = v.layout.vars;
@@ -195,7 +204,7 @@ begun_as v r home = record {
   rings = v.opening.rings;
   last = None;
   stop = option_map stop_as v.stop;
-  looks = 0;
+  looks = min v.looks (2 ^ 64 - 1);
   refused = None;
   ended = false;
   output = None;

@@ -1,5 +1,5 @@
 -- What looking for the next listed unit does.
-use Rattle.std.specs.Prelude.{◌≡◌, ◌≤◌, ℕ, Bool, true, false, not, ◌&&◌, ◌||◌, List, [], ◌∷◌, ◌++◌, length, take, drop, All, None, is_some}
+use Rattle.std.specs.Prelude.{◌≡◌, ◌+◌, ◌≤◌, ℕ, Bool, true, false, not, ◌&&◌, ◌||◌, List, [], ◌∷◌, ◌++◌, length, take, drop, All, None, is_some}
 use Rattle.std.specs.List.{list_any}
 use Rattle.sat_words.specs.Literal.{Literal, same}
 use Rattle.sat_words.specs.Clause.{has, distinct_lits, same_set}
@@ -12,16 +12,18 @@ use Rattle.share_rule.specs.Turns.{IsWriting, journal_in}
 use Rattle.share_rule.specs.Views.{only}
 use Rattle.ring_pass.specs.Writes.{entries_of}
 
--- one more is seen, and is kept behind those that arrived
+-- more are listed than were seen; one more is seen, and is kept behind those that arrived
 pub record SawOne (v w : View) (seen seen' arrived arrived' : List Literal) (lit : Literal) : Type 0 where
   pub listed : ℕ
   pub view : w ≡ after_see lit (after_count listed v)
+  pub caught_up : (only w).caught_up ≡ (only v).caught_up
   pub seen_is : seen' ≡ seen ++ lit ∷ []
   pub arrived_is : arrived' ≡ arrived ++ lit ∷ []
 
--- all listed units are seen, among them those that were listed from the start
+-- as many are listed as were seen, among them those that were listed from the start
 pub record SawAll (v w : View) (count : ℕ) (seen seen' arrived arrived' : List Literal) : Type 0 where
   pub view : w ≡ after_count count v
+  pub caught_up : (only w).caught_up ≡ (only v).caught_up + 1
   pub opening : (later : List Literal) × ((only v).core.seen ≡ v.opening.units ++ later)
   pub seen_is : seen' ≡ seen
   pub arrived_is : arrived' ≡ arrived
@@ -35,9 +37,12 @@ pub record SawNews (v w : View) (seen' arrived arrived' : List Literal) : Type 0
   pub opening : w.opening ≡ v.opening
   pub origin : w.origin ≡ v.origin
   pub stop : w.stop ≡ v.stop
+  pub looks : w.looks ≡ v.looks
   pub core : part.core ≡ record (only v).core { seen = (only v).core.seen ++ news }
   pub glues : part.glues ≡ (only v).glues
   pub gave : part.gave ≡ (only v).gave
+  pub polls : part.polls ≡ (only v).polls
+  pub caught_up : (only v).caught_up ≤ part.caught_up
   pub turn : part.turn ≡ (only v).turn
   pub ended : part.ended ≡ (only v).ended
   pub failed : part.failed ≡ (only v).failed
@@ -64,9 +69,12 @@ pub record Listed (v w : View) (arrived arrived' : List Literal) (lit : Literal)
   pub layout : w.layout ≡ v.layout
   pub opening : w.opening ≡ v.opening
   pub stop : w.stop ≡ v.stop
+  pub looks : w.looks ≡ v.looks
   pub core : part.core ≡ record (only v).core { seen = part.core.seen }
   pub glues : part.glues ≡ (only v).glues
   pub gave : part.gave ≡ (only v).gave
+  pub polls : part.polls ≡ (only v).polls
+  pub caught_up : (only v).caught_up ≤ part.caught_up
   pub turn : part.turn ≡ None
   pub ended_is : (only v).ended ≡ true → part.ended ≡ true
   pub failed_is : (only v).failed ≡ true → part.failed ≡ true
@@ -100,9 +108,12 @@ pub record ListedOne (v w : View) (seen' : List Literal) (lit : Literal) : Type 
   pub opening : w.opening ≡ v.opening
   pub origin : w.origin ≡ v.origin
   pub stop : w.stop ≡ v.stop
+  pub looks : w.looks ≡ v.looks
   pub core : part.core ≡ record (only v).core { seen = part.core.seen }
   pub glues : part.glues ≡ (only v).glues
   pub gave : part.gave ≡ (only v).gave
+  pub polls : part.polls ≡ (only v).polls
+  pub caught_up : part.caught_up ≡ (only v).caught_up
   pub turn : part.turn ≡ (only v).turn
   pub ended : part.ended ≡ (only v).ended
   pub failed : part.failed ≡ (only v).failed

@@ -35,6 +35,7 @@ pub record GaveTurn (v w : View) (J : List Entry) (ns : List Note) (x : Option R
   pub layout : w.layout ≡ v.layout
   pub opening : w.opening ≡ v.opening
   pub stop : w.stop ≡ v.stop
+  pub looks : w.looks ≡ v.looks
   pub still : (only v).failed ≡ true → failed ≡ true
 
 -- it wrote this one note, and no write has failed

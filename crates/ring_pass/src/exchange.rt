@@ -11,13 +11,13 @@ use ring_port::{Gate, PortStop};
 use sat_words::Cref;
 
 impl<'a, S: Sink, G: Gate, H> RingPass<'a, S, G, H> {
-    /// Takes the clause of a class that another ring has put for this one, which is held from then on; none where nothing is
-    /// there. It is refused for want of memory alone, before it looks.
+    /// Takes the clause of a class that another ring has put for this one, which is held from then on. None exactly where the
+    /// slot of that ring for this class was empty. It is refused for want of memory alone, before it looks.
     pub fn poll(&mut self, from: u32, class: u8) -> Result<Option<Cref>, PortStop>
         requires other { from ≢ self.old.ring }
         requires ring { from < self.old.rings }
         requires class { class ≤ 3 }
-        ensures polled { Polled self.old self.new result }
+        ensures polled { Polled self.old self.new from class result }
         ensures kept { KeepsHeld self.old self.new }
         ensures log { KeepsLog self.old self.new }
         ensures port { IsPort self.new }

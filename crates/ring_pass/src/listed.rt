@@ -17,6 +17,7 @@ use std::sync::Wait;
 
 impl<'a, S: Sink, G: Gate, H> RingPass<'a, S, G, H> {
     /// The next unit that this ring has not been given: one that was seen before and kept, or else the next that is listed.
+    /// None exactly where none is kept and as many units are listed, by the count that was read, as the ring has seen.
     pub fn next_unit(&mut self) -> Option<Lit>
         ensures took { Took self.old self.new result }
         ensures log { KeepsLog self.old self.new }

@@ -35,7 +35,6 @@ pub struct RingPass<'a, S: Sink, G: Gate, H> {
     pub(crate) last: Option<Cref>,
     pub(crate) learned: u64,
     pub(crate) polled: u64,
-    pub(crate) looks: u64,
     pub(crate) refused: Option<PortStop>,
     pub(crate) taken: Vec<Cref>,
     pub(crate) ended: bool,
@@ -54,7 +53,6 @@ impl<'a, S: Sink, G: Gate, H> Model for RingPass<'a, S, G, H> {
       passed = p.passed;
       last = p.last;
       polled = p.polled;
-      looks = p.looks;
       refused = p.refused;
       taken = p.taken.items;
       ended = p.ended;
@@ -66,7 +64,6 @@ impl<'a, S: Sink, G: Gate, H> Model for RingPass<'a, S, G, H> {
       passed = p.passed;
       last = p.last;
       polled = p.polled;
-      looks = p.looks;
       refused = p.refused;
       taken = p.taken.items;
       ended = p.ended;
@@ -123,7 +120,6 @@ impl<'a, S: Sink, G: Gate, H> RingPass<'a, S, G, H> {
             last: None,
             learned: 0,
             polled: 0,
-            looks: 0,
             refused: None,
             taken: Vec::new(alloc),
             ended: false,

@@ -22,19 +22,13 @@ fn port_answer(answer: stop_word::Set) -> Set
 }
 
 impl<'a, S: Sink, G: Gate, H> RingPass<'a, S, G, H> {
-    /// The stop that stands, if any.
+    /// The stop that stands, if any. None comes of a look at the table's word that found none, and is counted.
     pub fn stopped(&mut self) -> Option<Stop>
         ensures looked { Looked self.old self.new result }
         ensures log { KeepsLog self.old self.new }
         ensures port { IsPort self.new }
     {
-        match stop_word::look(self.table, &mut self.pass) {
-            None => {
-                self.looks = self.looks.saturating_add(1);
-                None
-            }
-            Some(stop) => Some(stop),
-        }
+        stop_word::look(self.table, &mut self.pass)
     }
 
     /// Sets this ring's stop, one of the kinds from `STOP_SAT` to `STOP_MEMORY`, where none stands.

@@ -94,7 +94,7 @@ known_none (Some xs) = ap Some (append-nil xs)
 
 -- what a port has when it is made
 abbrev pub begun_data : ℕ → List (ℕ × List Literal) → ℕ → List Literal → ℕ → LogData → PlainData
-begun_data vars ss n units room g = record { vars = vars; all = placed_from 0 ss; held = placed_from 0 ss; waiting = []; begun = n; opening = units; passed = 0; given = []; given_room = room; written = []; log = g; last = None; stop = None; looks = 0 }
+begun_data vars ss n units room g = record { vars = vars; all = placed_from 0 ss; held = placed_from 0 ss; waiting = []; begun = n; opening = units; passed = 0; given = []; given_room = room; written = []; log = g; last = None; stop = None; looks = 0; caught_up = 0 }
 
 module _ (F : List (List Literal)) (vars : ℕ) (ss : List (ℕ × List Literal)) (units : List Literal) (out : LineState) where
   kept_start : (J : List Entry) → OpensOver F (starts_of ss) units out J → All (λ s. All (IsOn vars) s.1) ss → All (IsKept vars) (placed_from 0 ss)
@@ -130,9 +130,9 @@ module _ (F : List (List Literal)) (vars : ℕ) (ss : List (ℕ × List Literal)
   -- the state of a port that has this
   pub begun_is : (C H : List Holding) (Q : List Cref) (n : ℕ) (V W : List Literal) (room : ℕ) (g : LogData) → C ≡ placed_from 0 ss → H ≡ placed_from 0 ss → Q ≡ [] → n ≡ length C → V ≡ [] → W ≡ []
       → g.output ≡ out → g.mine ≡ [] → g.ended ≡ false → g.refused ≡ None
-      → state_of (record { vars = vars; all = C; held = H; waiting = Q; begun = n; opening = units; passed = 0; given = V; given_room = room; written = W; log = g; last = None; stop = None; looks = 0 }) ≡ begun_with vars ss units out
+      → state_of (record { vars = vars; all = C; held = H; waiting = Q; begun = n; opening = units; passed = 0; given = V; given_room = room; written = W; log = g; last = None; stop = None; looks = 0; caught_up = 0 }) ≡ begun_with vars ss units out
   begun_is C H Q n V W room g all held none same given written output mine going quiet =
-      (λ i. state_of (record { vars = vars; all = all i; held = held i; waiting = none i; begun = n; opening = units; passed = 0; given = given i; given_room = room; written = written i; log = g; last = None; stop = None; looks = 0 }))
+      (λ i. state_of (record { vars = vars; all = all i; held = held i; waiting = none i; begun = n; opening = units; passed = 0; given = given i; given_room = room; written = written i; log = g; last = None; stop = None; looks = 0; caught_up = 0 }))
       ∙ begun_state n room g (same ∙ ap (λ (hs : List Holding). length hs) all) output mine going quiet
 
   pub begun_stands : (J : List Entry) → OpensOver F (starts_of ss) units out J → list_any is_empty F ≡ false → out.spent ≡ false

@@ -113,6 +113,10 @@ plain_log p h g last = record { all = h.all; indexed = h.indexed; placed = h.pla
 pub plain_looked : (p : PlainData) → IsPlain p → (k : ℕ) → IsPlain (record p { looks = k })
 plain_looked p h k = record { all = h.all; indexed = h.indexed; placed = h.placed; apart = h.apart; waiting = h.waiting; dropped = h.dropped; once = h.once; begun = h.begun; opening = h.opening; distinct = h.distinct; passed = h.passed; given = h.given; given_room = h.given_room; written = h.written; stop = h.stop }
 
+-- nor is how often no unit was left
+pub plain_caught : (p : PlainData) → IsPlain p → (k : ℕ) → IsPlain (record p { caught_up = k })
+plain_caught p h k = record { all = h.all; indexed = h.indexed; placed = h.placed; apart = h.apart; waiting = h.waiting; dropped = h.dropped; once = h.once; begun = h.begun; opening = h.opening; distinct = h.distinct; passed = h.passed; given = h.given; given_room = h.given_room; written = h.written; stop = h.stop }
+
 -- a stop of its own is set
 pub plain_stopped : (p : PlainData) → IsPlain p → (kind : ℕ) → STOP_SAT ≤ kind → kind ≤ STOP_MEMORY → IsPlain (record p { stop = Some (record { kind = kind; ring = 0 }) })
 plain_stopped p h kind low high = record { all = h.all; indexed = h.indexed; placed = h.placed; apart = h.apart; waiting = h.waiting; dropped = h.dropped; once = h.once; begun = h.begun; opening = h.opening; distinct = h.distinct; passed = h.passed; given = h.given; given_room = h.given_room; written = h.written; stop = record { low = low; high = high; own = refl } }

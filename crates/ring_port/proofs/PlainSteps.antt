@@ -155,6 +155,33 @@ last_keeps p la o h =
       };
     }
 
+-- a look that found no unit left
+pub caught_keeps : (p : PlainData) (k : ℕ) → KeepsLog (state_of p) (state_of (record p { caught_up = k }))
+caught_keeps p k o h =
+    let was = output_of o (state_of p) p.log.output h refl in
+    record {
+      opens = h.opens;
+      given = h.given;
+      sound = h.sound;
+      of_ring = h.of_ring;
+      on = h.on;
+      ended = h.ended;
+      held = h.held;
+      waiting = h.waiting;
+      numbers = h.numbers;
+      seen = h.seen;
+      output = record {
+        entries = was.entries;
+        last = was.last;
+        usable = was.usable;
+        caused = caused_same (state_of p) (state_of (record p { caught_up = k })) p.log.output p.log.refused refl was.caused;
+        whole = was.whole;
+        short = was.short;
+        target = was.target;
+        flushed = was.flushed;
+      };
+    }
+
 -- a look at the stop, and a stop that is set
 pub looked_keeps : (p : PlainData) (st : Option Stop) (k : ℕ) → KeepsLog (state_of p) (state_of (record p { stop = st; looks = k }))
 looked_keeps p st k o h =

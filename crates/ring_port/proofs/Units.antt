@@ -15,6 +15,7 @@ use Rattle.sat_words.proofs.Members.{same-true, same-refl}
 use Rattle.rup_model.proofs.Lists.{In, In_append, In_append_left, In_append_right, In_Contains, In_get_or, has_In, In_has}
 use Rattle.rup_model.proofs.Covers.{both_true}
 use Rattle.ring_port.specs.Port.{Sees, TookUnit, TookNone}
+use Rattle.ring_port.specs.PortState.{one_more as one_more_count}
 use Rattle.ring_port.specs.PlainPort.{PlainData, state_of, IsPlain}
 
 -- an element that passes ends the front of those that do not
@@ -160,11 +161,6 @@ took_unit p h k r l some is = record {
   state = refl;
 }
 
--- it is one of the opening
-pub took_listed : (p : PlainData) (k : ℕ) (l : Literal) → position (λ j. not (has p.written j)) (drop p.passed p.opening) ≡ Some k → l ≡ get_or p.opening (p.passed + k) l → has p.opening l ≡ true
-took_listed p k l some is =
-    In_has p.opening l (subst (In l) (take-append-drop (p.passed + k + 1) p.opening) (In_append_left (take (p.passed + k + 1) p.opening) (drop (p.passed + k + 1) p.opening) l (given_in p.passed k p.opening p.written l some is)))
-
 -- those that were given are among the first of the opening
 front_grows : (n m : ℕ) (opening : List Literal) (l : Literal) → has (take n opening) l ≡ true → has (take (n + m) opening) l ≡ true
 front_grows n m opening l h =
@@ -177,5 +173,5 @@ took_front p h k l some is =
     (λ i d lt. subst (λ n. has (take n p.opening) (get_or p.given i d) ≡ true) (omega arith) (front_grows p.passed (k + 1) p.opening (get_or p.given i d) (h.given i d lt)))
     (one_All (λ j. has (take (p.passed + k + 1) p.opening) j ≡ true) l (In_has (take (p.passed + k + 1) p.opening) l (given_in p.passed k p.opening p.written l some is)))
 
-pub took_none : (p : PlainData) → position (λ j. not (has p.written j)) (drop p.passed p.opening) ≡ None → TookNone (state_of p) (state_of p)
-took_none p none = record { all = none_left p.passed p.opening p.written none; state = refl }
+pub took_none : (p : PlainData) → position (λ j. not (has p.written j)) (drop p.passed p.opening) ≡ None → (k : ℕ) → k ≡ one_more_count p.caught_up → TookNone (state_of p) (state_of (record p { caught_up = k }))
+took_none p none k more = record { all = none_left p.passed p.opening p.written none; none_kept = refl; state = λ i. record (state_of p) { caught_up = more i } }

@@ -59,19 +59,19 @@ OfferedAs old new (Some class) address = Offered old new class address
 
 -- Polls
 
--- it was looked once more
-abbrev pub looked_again : PortState → PortState
-looked_again s = record s { polled = one_more s.polled }
+-- it was looked once more, into the slot of the other ring for this class
+abbrev pub looked_into : (ring class : ℕ) → PortState → PortState
+looked_into ring class s = record s { polled = one_more s.polled; polls = s.polls ++ record { ring = ring; class = class } ∷ [] }
 
 -- a clause of the other ring is held from now on
-pub record TookClause (old new : PortState) (c : Cref) : Type 0 where
+pub record TookClause (old new : PortState) (ring class : ℕ) (c : Cref) : Type 0 where
   pub clause : Holding
   pub address : clause.address ≡ c.address
   pub kept : IsKept old.vars clause
-  pub state : new ≡ record (looked_again old) { held = old.held ++ clause ∷ []; taken = old.taken ++ c.address ∷ [] }
+  pub state : new ≡ record (looked_into ring class old) { held = old.held ++ clause ∷ []; taken = old.taken ++ c.address ∷ [] }
 
 -- what `poll` did
-abbrev pub Polled : PortState → PortState → Result (Option Cref) PortStop → Type 0
-Polled old new (Ok None) = new ≡ looked_again old
-Polled old new (Ok (Some c)) = TookClause old new c
-Polled old new (Err stop) = (stop ≡ Memory) × (new ≡ old)
+abbrev pub Polled : PortState → PortState → (ring class : ℕ) → Result (Option Cref) PortStop → Type 0
+Polled old new ring class (Ok None) = new ≡ looked_into ring class old
+Polled old new ring class (Ok (Some c)) = TookClause old new ring class c
+Polled old new ring class (Err stop) = (stop ≡ Memory) × (new ≡ old)

@@ -22,7 +22,7 @@ use Rattle.ring_port.specs.Store.{StoreData}
 -- all clauses that were ever kept, each at its place; those that are held; the addresses of those that wait, in order; how many
 -- of the first are start clauses; the units of the opening, and how many of
 -- them were given, or written before it came to them; the units given, and for how many more there is room; the units
--- written; the log; the clause learned last; the stop, and how often none was found
+-- written; the log; the clause learned last; the stop, and how often none was found; how often no unit was left
 pub record PlainData : Type 0 where
   pub vars : ℕ
   pub all : List Holding
@@ -38,6 +38,7 @@ pub record PlainData : Type 0 where
   pub last : Option Cref
   pub stop : Option Stop
   pub looks : ℕ
+  pub caught_up : ℕ
 
 -- the clauses at these addresses
 abbrev pub kept_at : List Holding → List Cref → List Holding
@@ -51,11 +52,14 @@ state_of p = record {
   seen = take p.passed p.opening ++ p.written;
   given = p.given;
   coming = length p.opening - p.passed;
+  kept = 0;
+  caught_up = p.caught_up;
   start = take p.begun p.all;
   opening = p.opening;
   mine = p.log.mine;
   shared = 0;
   polled = 0;
+  polls = [];
   puts = [];
   taken = [];
   vars = p.vars;
@@ -131,11 +135,14 @@ begun_with vars starts units output = record {
   seen = [];
   given = [];
   coming = length units;
+  kept = 0;
+  caught_up = 0;
   start = placed_from 0 starts;
   opening = units;
   mine = [];
   shared = 0;
   polled = 0;
+  polls = [];
   puts = [];
   taken = [];
   vars = vars;

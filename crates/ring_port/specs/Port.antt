@@ -1,5 +1,5 @@
 -- What each call of a port does, from the state before it to the state after it.
-use Rattle.std.specs.Prelude.{◌≡◌, ◌≢◌, ℕ, ◌<◌, ◌≤◌, ◌==◌, ◌||◌, Bool, true, false, List, [], ◌∷◌, ◌++◌, map, length, All, Option, Some, None, IsSome, Result, Ok, Err, MatchOption, not, ⊤}
+use Rattle.std.specs.Prelude.{◌≡◌, ◌≢◌, ℕ, ◌<◌, ◌≤◌, ◌-◌, ◌==◌, ◌||◌, Bool, true, false, List, [], ◌∷◌, ◌++◌, map, length, All, Option, Some, None, IsSome, Result, Ok, Err, MatchOption, not, ⊤}
 use Rattle.std.specs.List.{list_any}
 use Rattle.sat_words.specs.Literal.{Literal, same}
 use Rattle.sat_words.specs.Clause.{has, includes, distinct_lits, has_opposites}
@@ -118,13 +118,17 @@ pub record AddedClause (old new : PortState) (lits : List Literal) (glue : ℕ) 
 abbrev pub LearnedClause : PortState → PortState → List Literal → ℕ → Cref → Type 0
 LearnedClause old new lits glue c = AddedClause old new lits glue Learn c
 
--- the line of a unit was added, and the unit is seen; a clause that was learned before it may still be offered, or not
+-- the line of a unit was added, and the unit is seen; a clause that was learned before it may still be offered, or not; units that
+-- others listed meanwhile may be kept
 pub record WroteUnit (old new : PortState) (l : Literal) (kind : Kind) (last : Option ℕ) : Type 0 where
   pub number : ℕ
   pub going : old.ended ≡ false
   pub sees : Sees old.seen new.seen l
+  pub looked : old.caught_up ≤ new.caught_up
   pub state : new ≡ record old {
     seen = new.seen;
+    kept = new.kept;
+    caught_up = new.caught_up;
     mine = old.mine ++ entry_of old number (l ∷ []) kind ∷ [];
     last = last;
     output = new.output;
@@ -188,17 +192,18 @@ EmptyWritten old new (Err stop) = Refused old new stop
 
 -- Units and stops
 
--- the unit was not seen before and is now, and one fewer may come
+-- the unit was not seen before and is now, and one fewer may come; where some were kept it is one of them
 pub record TookUnit (old new : PortState) (l : Literal) : Type 0 where
   pub fresh : has old.seen l ≡ false
   pub sees : Sees old.seen new.seen l
   pub fewer : new.coming < old.coming
-  pub state : new ≡ record old { seen = new.seen; given = old.given ++ l ∷ []; coming = new.coming }
+  pub state : new ≡ record old { seen = new.seen; given = old.given ++ l ∷ []; coming = new.coming; kept = old.kept - 1 }
 
--- none is left: every unit of the opening is seen
+-- none is left: none was kept, a look found that no other is listed, and every unit of the opening is seen
 pub record TookNone (old new : PortState) : Type 0 where
   pub all : (l : Literal) → has old.opening l ≡ true → has old.seen l ≡ true
-  pub state : new ≡ old
+  pub none_kept : old.kept ≡ 0
+  pub state : new ≡ record old { caught_up = one_more old.caught_up }
 
 -- what `next_unit` did
 abbrev pub Took : PortState → PortState → Option Literal → Type 0

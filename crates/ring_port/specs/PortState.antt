@@ -25,6 +25,11 @@ pub record Offer : Type 0 where
   pub class : ℕ
   pub address : ℕ
 
+-- where another ring may have put a clause for this one: the other ring, and the class
+pub record Slot : Type 0 where
+  pub ring : ℕ
+  pub class : ℕ
+
 pub record PortState : Type 0 where
   -- the clauses held, each as often as it is held
   pub held : List Holding
@@ -36,6 +41,10 @@ pub record PortState : Type 0 where
   pub given : List Literal
   -- how many units `next_unit` may yet give
   pub coming : ℕ
+  -- how many units came with others before they were asked for, and are yet to be given
+  pub kept : ℕ
+  -- how often `next_unit` looked whether more units are listed than it had given or kept, and found that there are none
+  pub caught_up : ℕ
   -- the start clauses at their addresses, with glue 0
   pub start : List Holding
   -- the units that are listed from the start
@@ -44,8 +53,10 @@ pub record PortState : Type 0 where
   pub mine : List Entry
   -- how often the ring has shared a clause
   pub shared : ℕ
-  -- how often it has looked for a clause of another ring
+  -- how often it has looked for a clause of another ring, up to the last count of 64 bits
   pub polled : ℕ
+  -- where it looked each time, in order
+  pub polls : List Slot
   -- what it has put for other rings, in order
   pub puts : List Offer
   -- the addresses that it has taken from other rings since its last Reduce entry

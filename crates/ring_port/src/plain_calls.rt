@@ -183,7 +183,10 @@ impl<L: LineOut> Port for PlainPort<L> {
         ensures port { IsPort self.new.state }
         ensures loads { self.new.loads ≡ self.old.loads }
     {
-        let skipped = first_new_from(&self.opening, self.passed, &self.written)?;
+        let Some(skipped) = first_new_from(&self.opening, self.passed, &self.written) else {
+            self.caught_up = self.caught_up.saturating_add(1);
+            return None;
+        };
         let place = self.passed + skipped;
         let unit = self.opening[place];
         self.passed = place + 1;

@@ -32,6 +32,7 @@ pub struct PlainPort<L: LineOut> {
     pub(crate) last: Option<Cref>,
     pub(crate) stop: Option<Stop>,
     pub(crate) looks: u64,
+    pub(crate) caught_up: u64,
     pub(crate) loads: u64,
 }
 
@@ -58,6 +59,7 @@ impl<L: LineOut> Model for PlainPort<L> {
         last = p.last;
         stop = p.stop;
         looks = p.looks;
+        caught_up = p.caught_up;
       });
     } };
 
@@ -76,6 +78,7 @@ impl<L: LineOut> Model for PlainPort<L> {
       last = p.last;
       stop = p.stop;
       looks = p.looks;
+      caught_up = p.caught_up;
     }) };
 }
 
@@ -132,6 +135,7 @@ impl<L: LineOut> PlainPort<L> {
             last: None,
             stop: None,
             looks: 0,
+            caught_up: 0,
             loads: 0,
         })
     }

@@ -123,17 +123,18 @@ pub trait Port {
         ensures port { IsPort (state self.new) };
 
     /// Takes the clause of a class that another ring has put for this one, which is held from then on; none where nothing is
-    /// there. It is refused for want of memory alone.
+    /// there. Either way it looked into that slot once. It is refused for want of memory alone.
     fn poll(&mut self, from: u32, class: u8) -> Result<Option<Cref>, PortStop>
         requires other { from ≢ (state self.old).ring }
         requires ring { from < (state self.old).rings }
         requires class { class ≤ 3 }
-        ensures polled { Polled (state self.old) (state self.new) result }
+        ensures polled { Polled (state self.old) (state self.new) from class result }
         ensures kept { KeepsHeld (state self.old) (state self.new) }
         ensures log { KeepsLog (state self.old) (state self.new) }
         ensures port { IsPort (state self.new) };
 
-    /// The next unit that this ring has not been given: one of those listed from the start, or of another ring.
+    /// The next unit that this ring has not been given: one of those listed from the start, or of another ring. Those that were
+    /// kept come first. None comes behind a look that found no other listed.
     fn next_unit(&mut self) -> Option<Lit>
         ensures took { Took (state self.old) (state self.new) result }
         ensures log { KeepsLog (state self.old) (state self.new) }

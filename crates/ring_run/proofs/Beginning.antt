@@ -1,5 +1,5 @@
 -- How a run begins, and what it leaves.
-use Rattle.std.proofs.Common.{◌≡◌, ◌∙◌, ◌≤◌, ◌-◌, ◌%◌, ◌==◌, Bool, true, false, ℕ, List, [], length, map, sym, subst, ap, arith, inl, Some, IsSome, refl, Contains, get_or, eq-eqb, slice_index_or}
+use Rattle.std.proofs.Common.{◌≡◌, ◌∙◌, ◌≤◌, ◌+◌, ◌-◌, ◌%◌, ◌==◌, Bool, true, false, ℕ, List, [], length, map, sym, subst, ap, arith, inl, Some, IsSome, refl, Contains, get_or, eq-eqb, slice_index_or}
 use Rattle.std.specs.Prelude.{All}
 use Rattle.std.specs.List.{list_any}
 use Rattle.std.specs.declared.option.Option.{Option}
@@ -13,7 +13,7 @@ use Rattle.rup_model.specs.declared.journal.Entry.{Entry}
 use Rattle.rup_model.specs.Basics.{EachAfter}
 use Rattle.rup_model.specs.Journal.{added, learned, recent}
 use Rattle.rup_model.specs.Opening.{adds_unit, IsNew}
-use Rattle.rup_model.proofs.Lists.{Contains_In, In_Contains, In_map, map_In, In_get_or, has_In}
+use Rattle.rup_model.proofs.Lists.{In, Contains_In, In_Contains, In_map, map_In, In_get_or, has_In}
 use Rattle.ring_port.specs.PortState.{PortState, Holding, HoldsStart, IsKept, IsOn, IsPort, held_at, lits_at, lits_in}
 use Rattle.ring_port.proofs.Holdings.{All_In}
 use Rattle.ring_trail.specs.TrailData.{TrailData, IsTrail}
@@ -23,7 +23,7 @@ use Rattle.ring_decide.specs.DeciderData.{DeciderData}
 use Rattle.restart_plan.specs.Plan.{Restarting, IsRestarting, IsExact, AreMost, AreMostBefore, begun as nothing_came}
 use Rattle.restart_plan.proofs.Restarting.{exact-none, exact-most}
 use Rattle.ring_run.specs.Ended.{IsTimely, IsJobOf, IsUntouched, IsOwn, IsNewLine, HasRestarted, opening_of, reductions}
-use Rattle.ring_run.specs.Strategy.{Decides, IsPaced, AreMarked}
+use Rattle.ring_run.specs.Strategy.{Decides, IsPaced, AreMarked, OccurMarked, OccursIn}
 use Rattle.ring_run.specs.declared.job.Counts.{Counts}
 use Rattle.ring_run.specs.Searching.{IsHeldBy, AreTold, Runs, GoesOn}
 use Rattle.ring_run.specs.Course.{HasLemmas, MayImport, AreOrdered}
@@ -120,8 +120,8 @@ begun s job ring asked p port trail shape clauses watched none =
 
 -- a decider whose active variables are those of the job's clauses
 pub decides_begin : (s : PortState) (job : Job) (d : DeciderData) (marks : List Bool) → IsJobOf s job → HoldsStart s → IsPort s → d.active ≡ marks → length marks ≡ job.vars
-    → ((c : Cref) → Contains job.start c → AreMarked marks (lits_at s c.address)) → Decides s d
-decides_begin s job d marks asked held port is long marked = record {
+    → ((c : Cref) → Contains job.start c → AreMarked marks (lits_at s c.address)) → OccurMarked marks (map (λ (c : Cref). lits_at s c.address) job.start) → Decides s d
+decides_begin s job d marks asked held port is long marked only = record {
   vars = ap length is ∙ long ∙ asked.vars;
   active = λ h l there has_it.
       (let inside = Contains_In s.start h there in
@@ -135,7 +135,22 @@ decides_begin s job d marks asked held port is long marked = record {
         high = omega (arith, on.high, ap length is, long, asked.vars);
         active = subst (λ (bs : List Bool). slice_index_or bs (l.var - 1) false ≡ true) (sym is) mark;
       });
+  only = λ v a.
+      subst (OccursIn (map (λ (h : Holding). h.lits) s.start)) (let e : v - 1 + 1 ≡ v = omega (arith, a.low) in e)
+      (started (v - 1) (only (v - 1) (subst (λ (bs : List Bool). slice_index_or bs (v - 1) false ≡ true) is a.active)));
 }
+  where
+    started : (i : ℕ) → OccursIn (map (λ (c : Cref). lits_at s c.address) job.start) (i + 1) → OccursIn (map (λ (h : Holding). h.lits) s.start) (i + 1)
+    started i o =
+        let at = map_In (λ (c : Cref). lits_at s c.address) job.start o.clause (Contains_In (map (λ (c : Cref). lits_at s c.address) job.start) o.clause o.member) in
+        let from = map_In (λ (h : Holding). record { address = h.address }) s.start at.0 (subst (In at.0) asked.start at.1) in
+        let there : held_at s from.0.address ≡ Some from.0 = All_In (λ (x : Holding). held_at s x.address ≡ Some x) s.start from.0 held from.1 in
+        let lits : from.0.lits ≡ o.clause = sym (ap lits_in there) ∙ ap (λ (c : Cref). lits_at s c.address) from.2 ∙ at.2 in
+        record {
+          clause = o.clause;
+          member = In_Contains (map (λ (h : Holding). h.lits) s.start) o.clause (subst (λ (c : List Literal). In c (map (λ (h : Holding). h.lits) s.start)) lits (In_map (λ (h : Holding). h.lits) s.start from.0 from.1));
+          occurs = o.occurs;
+        }
 
 -- no restart was made, and none is due
 pub paced_begin : (odd : Bool) (limit : ℕ) → 1 ≤ limit → IsPaced (nothing_came odd) 0 limit

@@ -1,5 +1,5 @@
 -- A decision, and where none is left.
-use Rattle.std.proofs.Common.{◌≡◌, ◌∙◌, ℕ, ◌+◌, ◌<◌, ◌≤◌, ◌-◌, slice_index_or, Bool, true, false, not, List, [], ◌∷◌, length, sym, subst, ap, refl, arith, inl, inr, ◌⊎◌, Some, None, IsSome, Contains, get_or}
+use Rattle.std.proofs.Common.{◌≡◌, ◌∙◌, ℕ, ◌+◌, ◌<◌, ◌≤◌, ◌-◌, slice_index_or, Bool, true, false, not, List, [], ◌∷◌, length, map, sym, subst, ap, refl, arith, inl, inr, ◌⊎◌, Some, None, IsSome, Contains, get_or}
 use Rattle.std.specs.declared.option.Option.{Option}
 use Rattle.std.proofs.lemmas.Bool.{or_left, or_right, or_cases, false≢true}
 use Rattle.sat_words.specs.Literal.{Literal, same, opposite}
@@ -19,7 +19,7 @@ use Rattle.watch_prop.specs.Propagation.{IsQuiet, attached_at}
 use Rattle.watch_prop.proofs.TrailLaws.{Watched-decide}
 use Rattle.ring_decide.specs.DeciderData.{DeciderData, AllValued}
 use Rattle.ring_run.specs.Ended.{IsModelOf, Stays}
-use Rattle.ring_run.specs.Strategy.{Decides}
+use Rattle.ring_run.specs.Strategy.{Decides, OccursIn}
 use Rattle.ring_run.specs.Searching.{GoesOn, AreFirst}
 use Rattle.ring_run.specs.Ending.{EndsBy}
 use Rattle.ring_run.specs.Course.{Searches, InSearch}
@@ -132,6 +132,9 @@ decides_by s u d e p start vars active = record {
   active = λ h l there has_it.
       (let a = p.active h l (subst (λ (hs : List Holding). Contains hs h) start there) has_it in
       record { low = a.low; high = subst (λ (bs : List Bool). l.var ≤ length bs) (sym active) a.high; active = subst (λ (bs : List Bool). slice_index_or bs (l.var - 1) false ≡ true) (sym active) a.active });
+  only = λ v a.
+      subst (λ (hs : List Holding). OccursIn (map (λ (h : Holding). h.lits) hs) v) (sym start)
+      (p.only v (record { low = a.low; high = subst (λ (bs : List Bool). v ≤ length bs) active a.high; active = subst (λ (bs : List Bool). slice_index_or bs (v - 1) false ≡ true) active a.active }));
 }
 
 pub decides_same : (s u : PortState) (d e : DeciderData) → Decides s d → Stays s u → e.active ≡ d.active → Decides u e

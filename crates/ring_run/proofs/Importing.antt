@@ -19,9 +19,9 @@ use Rattle.rup_model.specs.Basics.{EachAfter}
 use Rattle.rup_model.specs.Journal.{additions, added, learned, recent}
 use Rattle.rup_model.specs.Opening.{adds_unit}
 use Rattle.rup_model.proofs.Lists.{In, Contains_In, In_Contains, In_append, In_append_left, In_append_right, In_has, has_In, map_In}
-use Rattle.ring_port.specs.PortState.{PortState, Holding, IsPort, held_at, lits_at, one_more}
+use Rattle.ring_port.specs.PortState.{PortState, Holding, Slot, IsPort, held_at, lits_at, one_more}
 use Rattle.ring_port.specs.Port.{TookUnit, KeepsHeld}
-use Rattle.ring_port.specs.Exchange.{TookClause, looked_again}
+use Rattle.ring_port.specs.Exchange.{TookClause, looked_into}
 use Rattle.ring_port.specs.Log.{KeepsLog}
 use Rattle.ring_port.proofs.Holdings.{All_In}
 use Rattle.ring_trail.specs.TrailData.{TrailData}
@@ -172,8 +172,8 @@ pub record Polls (s u : PortState) (given : List Cref) : Type 0 where
   pub kept : KeepsHeld s u
   pub holds : (h : Holding) → Contains u.held h → Contains s.held h ⊎ Contains (map (λ (c : Cref). c.address) given) h.address
 
-pub polled_none : (s u : PortState) → u ≡ looked_again s → Polls s u []
-polled_none s u is = subst (λ (x : PortState). Polls s x []) (sym is) (record {
+pub polled_none : (s u : PortState) (ring class : ℕ) → u ≡ looked_into ring class s → Polls s u []
+polled_none s u ring class is = subst (λ (x : PortState). Polls s x []) (sym is) (record {
   start = refl;
   opening = refl;
   vars = refl;
@@ -187,12 +187,12 @@ polled_none s u is = subst (λ (x : PortState). Polls s x []) (sym is) (record {
   mine = refl;
   stop = refl;
   refused = refl;
-  kept = λ a h. held_same s (looked_again s) a refl;
+  kept = λ a h. held_same s (looked_into ring class s) a refl;
   holds = λ h there. inl there;
 })
 
-pub polled_some : (s u : PortState) (c : Cref) → TookClause s u c → KeepsHeld s u → Polls s u (c ∷ [])
-polled_some s u c w kept = record {
+pub polled_some : (s u : PortState) (ring class : ℕ) (c : Cref) → TookClause s u ring class c → KeepsHeld s u → Polls s u (c ∷ [])
+polled_some s u ring class c w kept = record {
   start = ap (λ (x : PortState). x.start) w.state;
   opening = ap (λ (x : PortState). x.opening) w.state;
   vars = ap (λ (x : PortState). x.vars) w.state;
@@ -308,8 +308,8 @@ module _ (s u : PortState) (given : List Cref) (d : Polls s u given) (one : leng
       }
 
 -- what a poll took is held
-pub taken_held : (s u : PortState) (c : Cref) → TookClause s u c → IsPort u → IsHeldBy u c
-taken_held s u c w port =
+pub taken_held : (s u : PortState) (ring class : ℕ) (c : Cref) → TookClause s u ring class c → IsPort u → IsHeldBy u c
+taken_held s u ring class c w port =
     All_In (λ a. IsSome (held_at u a)) u.taken c.address port.taken
     (subst (In c.address) (sym (ap (λ (x : PortState). x.taken) w.state)) (In_append_right s.taken (c.address ∷ []) c.address (inl refl)))
 
@@ -317,14 +317,14 @@ taken_held s u c w port =
 pub only_none : (s : PortState) → OnlyPolled s s
 only_none s = record { kept = λ a h. refl; state = refl }
 
-only_eta : (s : PortState) (held : List Holding) (taken : List ℕ) (polled : ℕ) → KeepsHeld s (record s { held = held; taken = taken; polled = polled }) → OnlyPolled s (record s { held = held; taken = taken; polled = polled })
-only_eta s held taken polled kept = record { kept = kept; state = refl }
+only_eta : (s : PortState) (held : List Holding) (taken : List ℕ) (polled : ℕ) (polls : List Slot) → KeepsHeld s (record s { held = held; taken = taken; polled = polled; polls = polls }) → OnlyPolled s (record s { held = held; taken = taken; polled = polled; polls = polls })
+only_eta s held taken polled polls kept = record { kept = kept; state = refl }
 
-pub only_looked : (s u : PortState) → u ≡ looked_again s → OnlyPolled s u
-only_looked s u is = subst (OnlyPolled s) (sym is) (only_eta s s.held s.taken (one_more s.polled) (λ a h. held_same s (looked_again s) a refl))
+pub only_looked : (s u : PortState) (ring class : ℕ) → u ≡ looked_into ring class s → OnlyPolled s u
+only_looked s u ring class is = subst (OnlyPolled s) (sym is) (only_eta s s.held s.taken (one_more s.polled) (s.polls ++ record { ring = ring; class = class } ∷ []) (λ a h. held_same s (looked_into ring class s) a refl))
 
-pub only_took : (s u : PortState) (c : Cref) → TookClause s u c → KeepsHeld s u → OnlyPolled s u
-only_took s u c w kept = subst (OnlyPolled s) (sym w.state) (only_eta s (s.held ++ w.clause ∷ []) (s.taken ++ c.address ∷ []) (one_more s.polled) (subst (KeepsHeld s) w.state kept))
+pub only_took : (s u : PortState) (ring class : ℕ) (c : Cref) → TookClause s u ring class c → KeepsHeld s u → OnlyPolled s u
+only_took s u ring class c w kept = subst (OnlyPolled s) (sym w.state) (only_eta s (s.held ++ w.clause ∷ []) (s.taken ++ c.address ∷ []) (one_more s.polled) (s.polls ++ record { ring = ring; class = class } ∷ []) (subst (KeepsHeld s) w.state kept))
 
 pub only_same : (s u : PortState) → u ≡ s → OnlyPolled s u
 only_same s u is = subst (OnlyPolled s) (sym is) (only_none s)
@@ -333,5 +333,5 @@ pub only_then : (s u w : PortState) → OnlyPolled s u → OnlyPolled u w → On
 only_then s u w p q =
     record {
       kept = λ a h. q.kept a (subst (λ (o : Option Holding). IsSome o) (sym (p.kept a h)) h) ∙ p.kept a h;
-      state = q.state ∙ ap (λ (x : PortState). record x { held = w.held; taken = w.taken; polled = w.polled }) p.state;
+      state = q.state ∙ ap (λ (x : PortState). record x { held = w.held; taken = w.taken; polled = w.polled; polls = w.polls }) p.state;
     }

@@ -269,16 +269,16 @@ unit_at_zero s u t lits back glue a w =
 -- a search that has left its conflict
 pub left_search : (s u : PortState) (old new : Ring) (lits : List Literal) (back glue : ℕ) (address : Option Cref) → InSearch s old → IsAsserting s old.trail lits back
     → Learned s u lits glue (Ok address) → KeepsHeld s u → IsPort u → HasLeft u old new lits back address → InSearch u new
-left_search s u old new lits back glue address p a w kept port (inl at) = in_search_after s u old new lits back glue address p a w kept port at
-left_search s u old new lits back glue (Some c) p a w kept port (inr at) = restarted_search s u old new lits back glue c p a w kept port at.1
-left_search s u old new lits back glue None p a w kept port (inr at) = absurd (omega (arith, at.0, unit_at_zero s u old.trail lits back glue a w))
+left_search s u old new lits back glue address p a w kept port (inl at) = in_search_after s u old new lits back glue address p a w kept port at.1
+left_search s u old new lits back glue (Some c) p a w kept port (inr at) = restarted_search s u old new lits back glue c p a w kept port at.2
+left_search s u old new lits back glue None p a w kept port (inr at) = absurd (omega (arith, at.1, unit_at_zero s u old.trail lits back glue a w))
 
 pub left_level : (u : PortState) (old new : Ring) (lits : List Literal) (back : ℕ) (address : Option Cref) → HasLeft u old new lits back address → new.trail.level ≤ back
 left_level u old new lits back address (inl at) =
-    let level = ap (λ (t : TrailData). t.level) at.trail in
-    let is = ap (λ (t : TrailData). t.level) at.went.is in
+    let level = ap (λ (t : TrailData). t.level) at.1.trail in
+    let is = ap (λ (t : TrailData). t.level) at.1.went.is in
     omega (arith, level, is)
-left_level u old new lits back address (inr at) = let is = ap (λ (t : TrailData). t.level) at.1.went.is in omega (arith, is)
+left_level u old new lits back address (inr at) = let is = ap (λ (t : TrailData). t.level) at.2.went.is in omega (arith, is)
 
 pub goes_on_by : (s u : PortState) (old new : Ring) (limit : ℕ) → InSearch u new → new.learned < limit → ((start : PortState) → GoesOn start s old.learned → GoesOn start u new.learned)
     → GoesOnBy s old u new limit

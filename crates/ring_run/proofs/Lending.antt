@@ -1,7 +1,8 @@
 -- A ring that has offered a lemma.
-use Rattle.std.proofs.Common.{◌≡◌, ◌∙◌, ℕ, ◌+◌, ◌≤◌, ◌==◌, Bool, true, false, cond, List, [], ◌∷◌, sym, subst, ap, arith, inl, inr, Some, None, Ok, Contains, IsSome, refl, eq-eqb}
+use Rattle.std.proofs.Common.{◌≡◌, ◌∙◌, ℕ, ◌+◌, ◌≤◌, ◌==◌, Bool, true, false, cond, List, [], ◌∷◌, ◌++◌, sym, subst, ap, arith, inl, inr, Some, None, Ok, Contains, IsSome, refl, eq-eqb}
 use Rattle.std.specs.Prelude.{IfSome}
 use Rattle.std.specs.List.{list_any, find}
+use Rattle.std.specs.Option.{option_to_list}
 use Rattle.std.specs.declared.option.Option.{Option}
 use Rattle.std.proofs.lemmas.Bool.{false≢true, eqb-true}
 use Rattle.sat_words.specs.Literal.{Literal}
@@ -10,7 +11,7 @@ use Rattle.sat_words.specs.declared.shared.Cref.{Cref}
 use Rattle.rup_model.specs.declared.journal.Entry.{Entry}
 use Rattle.rup_model.specs.Journal.{added, learned}
 use Rattle.rup_model.proofs.Lists.{In, Contains_In, In_Contains}
-use Rattle.ring_port.specs.PortState.{PortState, Holding, IsPort, held_at}
+use Rattle.ring_port.specs.PortState.{PortState, Holding, IsPort, held_at, lits_at, lits_in}
 use Rattle.ring_port.specs.Port.{Learned}
 use Rattle.ring_port.specs.Log.{KeepsLog}
 use Rattle.ring_port.specs.Exchange.{class_at}
@@ -22,9 +23,11 @@ use Rattle.watch_prop.specs.WatchData.{WatchData, Lits, attached}
 use Rattle.watch_prop.specs.Watched.{Watched}
 use Rattle.watch_prop.specs.Propagation.{IsClosedBelow}
 use Rattle.watch_prop.proofs.TrailLaws.{Reasons-more}
+use Rattle.ring_decide.specs.DeciderData.{DeciderData}
+use Rattle.ring_run.specs.Strategy.{saved_above}
 use Rattle.ring_run.specs.Ended.{Stays, HasOffered}
 use Rattle.ring_run.specs.Searching.{GoesOn, OnlySaw, OffersNothing, HasLent, HasLentBy, HoldsByGlue, IsGlueOf}
-use Rattle.ring_run.specs.Course.{Searches, InSearch, HasLeft, AreSameOffers, IsOffering}
+use Rattle.ring_run.specs.Course.{Searches, InSearch, WentBack, Lists, HasLeft, AreSameOffers, IsOffering}
 use Rattle.ring_run.specs.declared.ring.Ring.{Ring}
 use Rattle.ring_run.proofs.Remembering.{HoldsAlike, lits_alike, clause_alike, remembered_same}
 use Rattle.ring_run.proofs.Standing.{reasoned_alike}
@@ -111,29 +114,92 @@ lent_search s u ring p lent log port = lent_searches s u ring.trail ring.watches
 
 -- a conflict was left in the one state as in the other, since the same clauses are held
 pub left_before : (s u : PortState) (old new : Ring) (lits : List Literal) (back : ℕ) (address : Option Cref) → HoldsAlike s u → HasLeft u old new lits back address → HasLeft s old new lits back address
-left_before s u old new lits back address held (inl at) = inl (record {
-  middle = at.middle;
-  went = at.went;
-  first = at.first;
-  rest = at.rest;
-  parts = at.parts;
-  trail = at.trail;
-  shape = at.shape;
-  clauses = at.clauses;
-  listed = at.listed;
-  written = at.written;
-  watched = subst (λ (f : Lits). (t : TrailData) → Watched old.watches f t → Watched new.watches f t) (lits_alike s u held) at.watched;
-})
-left_before s u old new lits back address held (inr at) = inr (
+left_before s u old new lits back address held (inl at) = inl (
   at.0,
   record {
+    middle = at.1.middle;
     went = at.1.went;
+    first = at.1.first;
+    rest = at.1.rest;
+    parts = at.1.parts;
+    trail = at.1.trail;
+    shape = at.1.shape;
+    phases = at.1.phases;
     clauses = at.1.clauses;
     listed = at.1.listed;
     written = at.1.written;
     watched = subst (λ (f : Lits). (t : TrailData) → Watched old.watches f t → Watched new.watches f t) (lits_alike s u held) at.1.watched;
   },
 )
+left_before s u old new lits back address held (inr at) = inr (
+  at.0,
+  at.1,
+  record {
+    went = at.2.went;
+    phases = at.2.phases;
+    clauses = at.2.clauses;
+    listed = at.2.listed;
+    written = at.2.written;
+    watched = subst (λ (f : Lits). (t : TrailData) → Watched old.watches f t → Watched new.watches f t) (lits_alike s u held) at.2.watched;
+  },
+)
+
+-- two rings that a conflict leaves alike
+pub record AreAlike (mid old : Ring) : Type 0 where
+  pub pending : mid.pending ≡ old.pending
+  pub trail : mid.trail ≡ old.trail
+  pub watches : mid.watches ≡ old.watches
+  pub lemmas : mid.lemmas.items ≡ old.lemmas.items
+  pub reductions : mid.reductions ≡ old.reductions
+  pub reduced_at : mid.reduced_at ≡ old.reduced_at
+  pub written : mid.written ≡ old.written
+  pub decider : mid.decider ≡ old.decider
+
+lists_alike : (mid old new : Ring) (address : Option Cref) → AreAlike mid old → Lists mid new address → Lists old new address
+lists_alike mid old new address p at = record {
+  lemmas = at.lemmas ∙ ap (λ (cs : List Cref). cs ++ option_to_list address) p.lemmas;
+  reductions = at.reductions ∙ p.reductions;
+  reduced_at = at.reduced_at ∙ p.reduced_at;
+}
+
+saved_alike : (mid old : Ring) (k : ℕ) → AreAlike mid old → saved_above mid.decider mid.trail.steps k ≡ saved_above old.decider old.trail.steps k
+saved_alike mid old k p = ap (λ (d : DeciderData). saved_above d mid.trail.steps k) p.decider ∙ ap (λ (t : TrailData). saved_above old.decider t.steps k) p.trail
+
+pub left_alike : (s : PortState) (mid old new : Ring) (lits : List Literal) (back : ℕ) (address : Option Cref) → AreAlike mid old → HasLeft s mid new lits back address → HasLeft s old new lits back address
+left_alike s mid old new lits back address p (inl at) = inl (
+  λ due. at.0 (p.pending ∙ due),
+  record {
+    middle = at.1.middle;
+    went = subst (λ (t : TrailData). WentBack t at.1.middle back) p.trail at.1.went;
+    first = at.1.first;
+    rest = at.1.rest;
+    parts = at.1.parts;
+    trail = at.1.trail;
+    shape = at.1.shape;
+    phases = at.1.phases ∙ saved_alike mid old back p;
+    clauses = at.1.clauses ∙ ap (λ (w : WatchData). attached w ++ option_to_list address) p.watches;
+    listed = lists_alike mid old new address p at.1.listed;
+    written = at.1.written ∙ p.written;
+    watched = λ t w. at.1.watched t (subst (λ (x : WatchData). Watched x (lits_at s) t) (sym p.watches) w);
+  },
+)
+left_alike s mid old new lits back address p (inr at) = inr (
+  sym p.pending ∙ at.0,
+  at.1,
+  record {
+    went = subst (λ (t : TrailData). WentBack t new.trail 0) p.trail at.2.went;
+    phases = at.2.phases ∙ saved_alike mid old 0 p;
+    clauses = at.2.clauses ∙ ap (λ (w : WatchData). attached w ++ option_to_list address) p.watches;
+    listed = lists_alike mid old new address p at.2.listed;
+    written = at.2.written ∙ p.written;
+    watched = λ t w. at.2.watched t (subst (λ (x : WatchData). Watched x (lits_at s) t) (sym p.watches) w);
+  },
+)
+
+-- the lemma stands where it is held
+pub stored_at : (s u v : PortState) (lits : List Literal) (glue : ℕ) (address : Option Cref) → Learned s u lits glue (Ok address) → HoldsAlike u v → IfSome address (λ c. lits_at v c.address ≡ lits)
+stored_at s u v lits glue (Some c) w alike = ap lits_in (alike c.address) ∙ ap lits_in w.there
+stored_at s u v lits glue None w alike = tt
 
 pub lent_glue : (s u v w : PortState) (steps : List Step) → HoldsByGlue s u steps → OnlyLent u v → IsPort v → w.held ≡ v.held → HoldsByGlue s w steps
 lent_glue s u v w steps p lent port held h there = p h (lent_contains u v lent.same port h (subst (λ (hs : List Holding). Contains hs h) held there))
@@ -169,7 +235,7 @@ offering_learned s u v old new steps glue lits address p w counts lent learned =
 }
 
 pub saw_nothing : (s u : PortState) → OnlySaw s u → OffersNothing s u
-saw_nothing s u p = nothing_same s u p.shared p.polled p.stays.ring p.stays.rings p.mine
+saw_nothing s u p = nothing_same s u p.shared p.polled p.polls p.caught_up p.stays.ring p.stays.rings p.mine
 
 -- a lemma that has an address is held
 pub lent_held : (s u v : PortState) (lits : List Literal) (glue : ℕ) (address : Option Cref) → Learned s u lits glue (Ok address) → OnlyLent u v → IfSome address (λ c. IsSome (held_at v c.address))

@@ -11,9 +11,12 @@ pub mod Turning
 pub mod Tidying
 pub mod Importing
 pub mod Polling
+pub mod Rounds
+pub mod InTime
 pub mod Beginning
 pub mod Telling
 pub mod Marked
+pub mod Phases
 pub mod Pacing
 pub mod Offering
 pub mod Lending

@@ -127,5 +127,5 @@ listed_learned s u w old new lits glue None clauses k start lately lists now cou
 
 -- where the conflict was left
 pub left_lists : (s : PortState) (old new : Ring) (lits : List Literal) (back : ℕ) (address : Option Cref) → HasLeft s old new lits back address → Lists old new address × (attached new.watches ≡ attached old.watches ++ option_to_list address)
-left_lists s old new lits back address (inl at) = (at.listed, at.clauses)
-left_lists s old new lits back address (inr at) = (at.1.listed, at.1.clauses)
+left_lists s old new lits back address (inl at) = (at.1.listed, at.1.clauses)
+left_lists s old new lits back address (inr at) = (at.2.listed, at.2.clauses)

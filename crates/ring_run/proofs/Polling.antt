@@ -78,21 +78,23 @@ imported_most s u k ring rings before after =
 -- nothing was polled by this ring of these rings
 pub record SamePolls (s u : PortState) : Type 0 where
   pub polled : u.polled ≡ s.polled
+  pub polls : u.polls ≡ s.polls
+  pub caught_up : min s.caught_up (2 ^ 64 - 1) ≤ u.caught_up
   pub ring : u.ring ≡ s.ring
   pub rings : u.rings ≡ s.rings
 
 pub same_nothing : (s u : PortState) → OffersNothing s u → SamePolls s u
-same_nothing s u p = record { polled = p.polled; ring = p.ring; rings = p.rings }
+same_nothing s u p = record { polled = p.polled; polls = p.polls; caught_up = p.caught_up; ring = p.ring; rings = p.rings }
 
 pub same_then : (s u w : PortState) → SamePolls s u → SamePolls u w → SamePolls s w
-same_then s u w p q = record { polled = q.polled ∙ p.polled; ring = q.ring ∙ p.ring; rings = q.rings ∙ p.rings }
+same_then s u w p q = record { polled = q.polled ∙ p.polled; polls = q.polls ∙ p.polls; caught_up = omega (arith, p.caught_up, q.caught_up); ring = q.ring ∙ p.ring; rings = q.rings ∙ p.rings }
 
 pub same_learned : (s u : PortState) (lits : List Literal) (glue : ℕ) (address : Option Cref) → Learned s u lits glue (Ok address) → SamePolls s u
-same_learned s u lits glue (Some c) w = record { polled = ap (λ (x : PortState). x.polled) w.state; ring = ap (λ (x : PortState). x.ring) w.state; rings = ap (λ (x : PortState). x.rings) w.state }
-same_learned s u lits glue None w = record { polled = ap (λ (x : PortState). x.polled) w.wrote.state; ring = ap (λ (x : PortState). x.ring) w.wrote.state; rings = ap (λ (x : PortState). x.rings) w.wrote.state }
+same_learned s u lits glue (Some c) w = record { polled = ap (λ (x : PortState). x.polled) w.state; polls = ap (λ (x : PortState). x.polls) w.state; caught_up = (let same = ap (λ (x : PortState). x.caught_up) w.state in omega (arith, same)); ring = ap (λ (x : PortState). x.ring) w.state; rings = ap (λ (x : PortState). x.rings) w.state }
+same_learned s u lits glue None w = record { polled = ap (λ (x : PortState). x.polled) w.wrote.state; polls = ap (λ (x : PortState). x.polls) w.wrote.state; caught_up = omega (arith, w.wrote.looked); ring = ap (λ (x : PortState). x.ring) w.wrote.state; rings = ap (λ (x : PortState). x.rings) w.wrote.state }
 
 pub same_lent : (s u : PortState) → OnlyLent s u → SamePolls s u
-same_lent s u p = record { polled = ap (λ (x : PortState). x.polled) p.state; ring = ap (λ (x : PortState). x.ring) p.state; rings = ap (λ (x : PortState). x.rings) p.state }
+same_lent s u p = record { polled = ap (λ (x : PortState). x.polled) p.state; polls = ap (λ (x : PortState). x.polls) p.state; caught_up = (let same = ap (λ (x : PortState). x.caught_up) p.state in omega (arith, same)); ring = ap (λ (x : PortState). x.ring) p.state; rings = ap (λ (x : PortState). x.rings) p.state }
 
 -- the counts are those of a port that has not polled since
 pub polls_as : (s u : PortState) (k : ℕ) → SamePolls s u → s.polled ≡ polls_of s k → u.polled ≡ polls_of u k

@@ -220,6 +220,8 @@ pub record Same (s u : PortState) : Type 0 where
   pub waiting : u.waiting ≡ s.waiting
   pub shared : u.shared ≡ s.shared
   pub polled : u.polled ≡ s.polled
+  pub polls : u.polls ≡ s.polls
+  pub caught_up : u.caught_up ≡ s.caught_up
   pub puts : u.puts ≡ s.puts
   pub taken : u.taken ≡ s.taken
   pub home : u.home ≡ s.home
@@ -239,6 +241,8 @@ but_noted s refused ended output = record {
   waiting = refl;
   shared = refl;
   polled = refl;
+  polls = refl;
+  caught_up = refl;
   puts = refl;
   taken = refl;
   home = refl;
@@ -528,9 +532,9 @@ wrote_unit s u l w log = record {
   more = λ k h. w.sees k ∙ or_left (has s.seen k) (same l k) h;
 }
 
--- a look that found no stop
-pub looked_wrote : (s u : PortState) (k : ℕ) → u ≡ record s { looks = k } → KeepsLog s u → OnlyWrote s u
-looked_wrote s u k is log = record {
+-- a look that found no stop, or no other unit
+pub counted_wrote : (s u : PortState) (k n : ℕ) → u ≡ record s { looks = k; caught_up = n } → KeepsLog s u → OnlyWrote s u
+counted_wrote s u k n is log = record {
   recent = recent_still s u (ap (λ (x : PortState). x.ring) is) (ap (λ (x : PortState). x.mine) is);
   reduced = reductions_still s u (ap (λ (x : PortState). x.ring) is) (ap (λ (x : PortState). x.mine) is);
   grown = grown_none s u (ap (λ (x : PortState). x.mine) is);
@@ -553,9 +557,12 @@ looked_wrote s u k is log = record {
   more = λ l h. ap (λ (ls : List Literal). has ls l) (ap (λ (x : PortState). x.seen) is) ∙ h;
 }
 
-pub looked_goes_on : (start s u : PortState) (n k : ℕ) → GoesOn start s n → u ≡ record s { looks = k } → KeepsLog s u → IsPort u → GoesOn start u n
-looked_goes_on start s u n k p is log port =
-    let w = looked_wrote s u k is log in
+pub looked_wrote : (s u : PortState) (k : ℕ) → u ≡ record s { looks = k } → KeepsLog s u → OnlyWrote s u
+looked_wrote s u k is log = counted_wrote s u k s.caught_up is log
+
+pub counted_goes_on : (start s u : PortState) (n k m : ℕ) → GoesOn start s n → u ≡ record s { looks = k; caught_up = m } → KeepsLog s u → IsPort u → GoesOn start u n
+counted_goes_on start s u n k m p is log port =
+    let w = counted_wrote s u k m is log in
     let mine : u.mine ≡ s.mine = ap (λ (x : PortState). x.mine) is in
     record {
       runs = runs_same start s u n p.runs w.stays w.held mine (lines_moved s u s.mine w.stays (ap (λ (x : PortState). x.given) is) mine p.runs.new_lines) port;
@@ -564,6 +571,9 @@ looked_goes_on start s u n k p is log port =
       refused = w.refused ∙ p.refused;
       held = starts_kept s u w.stays.start (λ a h. held_same s u a w.held) p.held;
     }
+
+pub looked_goes_on : (start s u : PortState) (n k : ℕ) → GoesOn start s n → u ≡ record s { looks = k } → KeepsLog s u → IsPort u → GoesOn start u n
+looked_goes_on start s u n k p is log port = counted_goes_on start s u n k s.caught_up p is log port
 
 -- a stop that was seen or set
 pub runs_stopped : (start s u : PortState) (n : ℕ) (stop : Option Stop) → Runs start s n → u ≡ record s { stop = stop } → KeepsLog s u → IsPort u → Runs start u n

@@ -145,6 +145,8 @@ module _ (s u : PortState) (w : NotedReduce s u) where
   noted_nothing = record {
     shared = ap (λ (x : PortState). x.shared) w.state;
     polled = ap (λ (x : PortState). x.polled) w.state;
+    polls = ap (λ (x : PortState). x.polls) w.state;
+    caught_up = (let same = ap (λ (x : PortState). x.caught_up) w.state in omega (arith, same));
     ring = ap (λ (x : PortState). x.ring) w.state;
     rings = ap (λ (x : PortState). x.rings) w.state;
     lemmas = ap (λ (x : PortState). learned x.ring x.mine) w.state
@@ -283,6 +285,8 @@ pub dropped_nothing : (s u : PortState) (dropped : List Cref) → DroppedAll s u
 dropped_nothing s u dropped gone = record {
   shared = ap (λ (x : PortState). x.shared) gone.state;
   polled = ap (λ (x : PortState). x.polled) gone.state;
+  polls = ap (λ (x : PortState). x.polls) gone.state;
+  caught_up = (let same = ap (λ (x : PortState). x.caught_up) gone.state in omega (arith, same));
   ring = ap (λ (x : PortState). x.ring) gone.state;
   rings = ap (λ (x : PortState). x.rings) gone.state;
   lemmas = ap (λ (x : PortState). learned x.ring x.mine) gone.state;

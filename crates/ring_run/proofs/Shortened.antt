@@ -1,5 +1,5 @@
 -- What vivification of a clause leaves of a run.
-use Rattle.std.proofs.Common.{◌≡◌, ◌≢◌, ◌∙◌, ℕ, ◌-◌, ◌≤◌, min, false, List, [], ◌∷◌, ◌++◌, length, sym, subst, ap, arith, inl, inr, ◌⊎◌, refl, Contains, IsSome, Some}
+use Rattle.std.proofs.Common.{◌≡◌, ◌≢◌, ◌∙◌, ℕ, ◌-◌, ◌^◌, ◌≤◌, min, false, List, [], ◌∷◌, ◌++◌, length, sym, subst, ap, arith, inl, inr, ◌⊎◌, refl, Contains, IsSome, Some}
 use Rattle.std.specs.Prelude.{All}
 use Rattle.std.specs.declared.option.Option.{Option}
 use Rattle.std.proofs.lemmas.Bool.{false≢true}
@@ -44,6 +44,8 @@ pub record Behind (s u : PortState) (e : Entry) : Type 0 where
   pub rings : u.rings ≡ s.rings
   pub shared : u.shared ≡ s.shared
   pub polled : u.polled ≡ s.polled
+  pub polls : u.polls ≡ s.polls
+  pub caught_up : min s.caught_up (2 ^ 64 - 1) ≤ u.caught_up
   pub taken : u.taken ≡ s.taken
   pub home : u.home ≡ s.home
   pub given : u.given ≡ s.given
@@ -60,6 +62,8 @@ added_behind s m lits glue d w = record {
   rings = ap (λ (x : PortState). x.rings) w.state;
   shared = ap (λ (x : PortState). x.shared) w.state;
   polled = ap (λ (x : PortState). x.polled) w.state;
+  polls = ap (λ (x : PortState). x.polls) w.state;
+  caught_up = (let same = ap (λ (x : PortState). x.caught_up) w.state in omega (arith, same));
   taken = ap (λ (x : PortState). x.taken) w.state;
   home = ap (λ (x : PortState). x.home) w.state;
   given = ap (λ (x : PortState). x.given) w.state;
@@ -77,6 +81,8 @@ unit_behind s m l last w = record {
   rings = ap (λ (x : PortState). x.rings) w.state;
   shared = ap (λ (x : PortState). x.shared) w.state;
   polled = ap (λ (x : PortState). x.polled) w.state;
+  polls = ap (λ (x : PortState). x.polls) w.state;
+  caught_up = omega (arith, w.looked);
   taken = ap (λ (x : PortState). x.taken) w.state;
   home = ap (λ (x : PortState). x.home) w.state;
   given = ap (λ (x : PortState). x.given) w.state;
@@ -94,6 +100,8 @@ dropped_behind s m u e a b w = record {
   rings = ap (λ (x : PortState). x.rings) w.state ∙ b.rings;
   shared = ap (λ (x : PortState). x.shared) w.state ∙ b.shared;
   polled = ap (λ (x : PortState). x.polled) w.state ∙ b.polled;
+  polls = ap (λ (x : PortState). x.polls) w.state ∙ b.polls;
+  caught_up = (let same = ap (λ (x : PortState). x.caught_up) w.state in omega (arith, same, b.caught_up));
   taken = ap (λ (x : PortState). x.taken) w.state ∙ b.taken;
   home = ap (λ (x : PortState). x.home) w.state ∙ b.home;
   given = ap (λ (x : PortState). x.given) w.state ∙ b.given;
@@ -111,6 +119,8 @@ same_behind s m u e b q = record {
   rings = q.rings ∙ b.rings;
   shared = q.shared ∙ b.shared;
   polled = q.polled ∙ b.polled;
+  polls = q.polls ∙ b.polls;
+  caught_up = omega (arith, b.caught_up, q.caught_up);
   taken = q.taken ∙ b.taken;
   home = q.home ∙ b.home;
   given = q.given ∙ b.given;
@@ -135,6 +145,8 @@ behind_nothing : (s u : PortState) (x : Addition) → Behind s u (Rattle.rup_mod
 behind_nothing s u x b other = record {
   shared = b.shared;
   polled = b.polled;
+  polls = b.polls;
+  caught_up = b.caught_up;
   ring = b.ring;
   rings = b.rings;
   lemmas = ap (λ (r : ℕ). learned r u.mine) b.ring ∙ ap (learned s.ring) b.mine ∙ learned-append s.ring s.mine (Rattle.rup_model.specs.declared.journal.Entry.TheVariants.Add x ∷ [])
@@ -283,6 +295,8 @@ module _ (s u : PortState) (v : WatchData) (steps : List Step) (c : Cref) (port 
               subst (λ (x : PortState). OffersNothing x u) is (record {
                 shared = same.shared;
                 polled = same.polled;
+                polls = same.polls;
+                caught_up = omega (arith, same.caught_up);
                 ring = same.ring;
                 rings = same.rings;
                 lemmas = ap (λ (q : ℕ). learned q u.mine) same.ring ∙ ap (learned m.ring) same.mine;

@@ -12,7 +12,7 @@ use Rattle.sat_words.specs.declared.shared.Cref.{Cref}
 use Rattle.sat_words.proofs.Members.{same-true, same-refl}
 use Rattle.rup_model.specs.Rup.{rup}
 use Rattle.ring_port.specs.PortState.{PortState, IsPort, known}
-use Rattle.ring_port.specs.Port.{TookUnit, WroteUnit, Sees}
+use Rattle.ring_port.specs.Port.{TookUnit, TookNone, WroteUnit, Sees}
 use Rattle.rup_model.specs.declared.journal.Kind.{Kind}
 use Rattle.rup_model.specs.declared.journal.Kind.TheVariants.{UnitLine}
 use Rattle.ring_port.specs.Log.{KeepsLog}
@@ -28,7 +28,7 @@ use Rattle.ring_trail.proofs.Causes.{IsReasoned-seen, IsReasoned-held}
 use Rattle.watch_prop.specs.Propagation.{attached_at, HasReasons}
 use Rattle.watch_prop.proofs.TrailLaws.{Reasons-more}
 use Rattle.ring_port.specs.PortState.{clause_at}
-use Rattle.ring_run.specs.Searching.{OnlySaw, Stands}
+use Rattle.ring_run.specs.Searching.{OnlySaw, OpeningSeen, Stands}
 use Rattle.ring_run.proofs.LevelZero.{false_at_zero}
 use Rattle.ring_run.proofs.Remembering.{HoldsAlike, held_same, clause_alike, clause_at_same}
 
@@ -110,6 +110,9 @@ saw_more s u w l p took log =
       };
       shared = ap (λ (x : PortState). x.shared) took.state ∙ p.shared;
       polled = ap (λ (x : PortState). x.polled) took.state ∙ p.polled;
+      polls = ap (λ (x : PortState). x.polls) took.state ∙ p.polls;
+      caught_up = (let same = ap (λ (x : PortState). x.caught_up) took.state in omega (arith, same, p.caught_up));
+      waiting = ap (λ (x : PortState). x.waiting) took.state ∙ p.waiting;
       taken = ap (λ (x : PortState). x.taken) took.state ∙ p.taken;
       held = ap (λ (x : PortState). x.held) took.state ∙ p.held;
       mine = ap (λ (x : PortState). x.mine) took.state ∙ p.mine;
@@ -118,6 +121,48 @@ saw_more s u w l p took log =
       looks = ap (λ (x : PortState). x.looks) took.state ∙ p.looks;
       more = λ k h. sees_old u.seen w.seen l k took.sees (p.more k h);
     }
+
+-- a look that found no other unit
+pub saw_none : (s u w : PortState) → OnlySaw s u → TookNone u w → KeepsLog u w → OnlySaw s w
+saw_none s u w p took log = record {
+  stays = record {
+    start = ap (λ (x : PortState). x.start) took.state ∙ p.stays.start;
+    opening = ap (λ (x : PortState). x.opening) took.state ∙ p.stays.opening;
+    vars = ap (λ (x : PortState). x.vars) took.state ∙ p.stays.vars;
+    ring = ap (λ (x : PortState). x.ring) took.state ∙ p.stays.ring;
+    rings = ap (λ (x : PortState). x.rings) took.state ∙ p.stays.rings;
+    polled = omega (arith, ap (λ (x : PortState). x.polled) took.state, p.stays.polled);
+    home = ap (λ (x : PortState). x.home) took.state ∙ p.stays.home;
+    log = λ o h. log o (p.stays.log o h);
+  };
+  shared = ap (λ (x : PortState). x.shared) took.state ∙ p.shared;
+  polled = ap (λ (x : PortState). x.polled) took.state ∙ p.polled;
+  polls = ap (λ (x : PortState). x.polls) took.state ∙ p.polls;
+  caught_up = (let same = ap (λ (x : PortState). x.caught_up) took.state in omega (arith, same, p.caught_up));
+  waiting = ap (λ (x : PortState). x.waiting) took.state ∙ p.waiting;
+  taken = ap (λ (x : PortState). x.taken) took.state ∙ p.taken;
+  held = ap (λ (x : PortState). x.held) took.state ∙ p.held;
+  mine = ap (λ (x : PortState). x.mine) took.state ∙ p.mine;
+  stop = ap (λ (x : PortState). x.stop) took.state ∙ p.stop;
+  refused = ap (λ (x : PortState). x.refused) took.state ∙ p.refused;
+  looks = ap (λ (x : PortState). x.looks) took.state ∙ p.looks;
+  more = λ k h. ap (λ (ls : List Literal). has ls k) (ap (λ (x : PortState). x.seen) took.state) ∙ p.more k h;
+}
+
+pub stands_none : (u w : PortState) (t : TrailData) → Stands u t → TookNone u w → Stands w t
+stands_none u w t p took = record {
+  vars = p.vars ∙ sym (ap (λ (x : PortState). x.vars) took.state);
+  reasoned = reasoned_more u w t.steps (ap (λ (x : PortState). x.held) took.state) (λ l h. ap (λ (ls : List Literal). has ls l) (ap (λ (x : PortState). x.seen) took.state) ∙ h) p.reasoned;
+  seen = λ l h. p.seen l (ap (λ (ls : List Literal). has ls l) (sym (ap (λ (x : PortState). x.seen) took.state)) ∙ h);
+}
+
+pub opening_none : (u w : PortState) → TookNone u w → OpeningSeen w
+opening_none u w took l h =
+    ap (λ (ls : List Literal). has ls l) (ap (λ (x : PortState). x.seen) took.state) ∙ took.all l (ap (λ (ls : List Literal). has ls l) (sym (ap (λ (x : PortState). x.opening) took.state)) ∙ h)
+
+pub reasons_none : (cs : List Cref) (u w : PortState) (steps : List Step) → TookNone u w → HasReasons cs u steps → HasReasons cs w steps
+reasons_none cs u w steps took r =
+    Reasons-more cs cs u w steps (λ c there. (there, clause_at_same u w (ap (λ (x : PortState). x.held) took.state) c.address)) (λ l h. ap (λ (ls : List Literal). has ls l) (ap (λ (x : PortState). x.seen) took.state) ∙ h) r
 
 -- what is seen is the literal, or was seen before
 pub seen_case : (u w : PortState) (l k : Literal) → TookUnit u w l → has w.seen k ≡ true → (has u.seen k ≡ true) ⊎ (l ≡ k)

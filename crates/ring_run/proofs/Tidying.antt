@@ -71,6 +71,8 @@ record Deleted (s u : PortState) (hs : List Holding) : Type 0 where
   pub rings : u.rings ≡ s.rings
   pub shared : u.shared ≡ s.shared
   pub polled : u.polled ≡ s.polled
+  pub polls : u.polls ≡ s.polls
+  pub caught_up : u.caught_up ≡ s.caught_up
   pub taken : u.taken ≡ s.taken
   pub home : u.home ≡ s.home
   pub given : u.given ≡ s.given
@@ -88,6 +90,8 @@ deleted_eta s waiting hs output = record {
   rings = refl;
   shared = refl;
   polled = refl;
+  polls = refl;
+  caught_up = refl;
   taken = refl;
   home = refl;
   given = refl;
@@ -109,6 +113,8 @@ deleted_then s m u hs p q = record {
   rings = q.rings ∙ p.rings;
   shared = q.shared ∙ p.shared;
   polled = q.polled ∙ p.polled;
+  polls = q.polls ∙ p.polls;
+  caught_up = q.caught_up ∙ p.caught_up;
   taken = q.taken ∙ p.taken;
   home = q.home ∙ p.home;
   given = q.given ∙ p.given;
@@ -193,7 +199,7 @@ module _ (s u : PortState) (hs : List Holding) (d : Deleted s u hs) (log : Keeps
   }
 
   deleted_nothing : OffersNothing s u
-  deleted_nothing = record { shared = d.shared; polled = d.polled; ring = d.ring; rings = d.rings; lemmas = deleted_learned }
+  deleted_nothing = record { shared = d.shared; polled = d.polled; polls = d.polls; caught_up = omega (arith, d.caught_up); ring = d.ring; rings = d.rings; lemmas = deleted_learned }
 
 -- What a call that tidies leaves
 

@@ -1,5 +1,5 @@
 -- What a ring has while it searches, and what each step of the search comes to.
-use Rattle.std.specs.Prelude.{◌≡◌, ◌≢◌, ◌⊎◌, ℕ, ◌+◌, ◌<◌, ◌≤◌, true, false, if◌then◌else◌, List, [], ◌∷◌, ◌++◌, map, take, length, All, Contains, Option, ⊤}
+use Rattle.std.specs.Prelude.{◌≡◌, ◌≢◌, ◌⊎◌, ℕ, ◌+◌, ◌*◌, ◌<◌, ◌≤◌, true, false, if◌then◌else◌, List, [], ◌∷◌, ◌++◌, map, take, length, All, Contains, Option, ⊤, IfSome}
 use Rattle.std.specs.Option.{option_to_list, option_map_or}
 use Rattle.sat_words.specs.Literal.{Literal}
 use Rattle.sat_words.specs.declared.shared.Cref.{Cref}
@@ -7,14 +7,21 @@ use Rattle.rup_model.specs.declared.journal.Addition.{Addition}
 use Rattle.rup_model.specs.Journal.{additions, recent}
 use Rattle.ring_port.specs.PortState.{PortState, Holding, held_at, lits_at}
 use Rattle.reduce_db.specs.Lemmas.{AreDistinct}
-use Rattle.ring_trail.specs.TrailData.{TrailData, IsTrail, HasNoPlace, cut_back, assigned}
+use Rattle.ring_trail.specs.TrailData.{TrailData, IsTrail, HasNoPlace, cut_back, assigned, decided}
+use Rattle.ring_decide.specs.DeciderData.{IsDecided}
+use Rattle.restart_plan.specs.Plan.{noted, asked, is_due}
 use Rattle.watch_prop.specs.WatchData.{WatchData, attached}
 use Rattle.watch_prop.specs.Watched.{Watched}
 use Rattle.watch_prop.specs.Propagation.{HasReasons, IsClosedBelow}
 use Rattle.vivify.specs.Outcome.{glue_at}
-use Rattle.ring_run.specs.Ended.{HasLooked, HasOffered, HasPolled, polls_of, last_looks, reductions}
-use Rattle.ring_run.specs.Searching.{HasClauses, Stands, OpeningSeen, AreTold, GoesOn}
+use Rattle.restart_plan.specs.Luby.{luby_sum}
+use Rattle.restart_plan.specs.Plan.{Restarting, luby_unit}
+use Rattle.ring_run.specs.Ended.{HasLooked, HasOffered, HasPolled, polls_of, HasImported, ImportsBy, IsTidy, IsInTime, last_looks, reductions}
+use Rattle.ring_run.specs.Searching.{HasClauses, Stands, OpeningSeen, AreTold, GoesOn, IsAsserting, IsGlueOf}
+use Rattle.ring_run.specs.Strategy.{saved_above}
 use Rattle.ring_run.specs.Ending.{EndsBy}
+use Rattle.ring_run.specs.declared.job.End.{End}
+use Rattle.ring_run.specs.declared.job.End.TheVariants.{Sat, Spent}
 use Rattle.ring_run.specs.declared.ring.Ring.{Ring}
 use Rattle.ring_run.specs.declared.course.Course.{Course}
 use Rattle.ring_run.specs.declared.course.Course.TheVariants.{On, Over}
@@ -70,7 +77,8 @@ pub record Lists (old new : Ring) (address : Option Cref) : Type 0 where
   pub reductions : new.reductions ≡ old.reductions
   pub reduced_at : new.reduced_at ≡ old.reduced_at
 
--- the trail went back, the clause was attached where it has an address, and the first literal was made true
+-- the trail went back, the values lost were saved, the clause was attached where it has an address, and the first literal was
+-- made true
 pub record Asserted (s : PortState) (old new : Ring) (lits : List Literal) (back : ℕ) (address : Option Cref) : Type 0 where
   pub middle : TrailData
   pub went : WentBack old.trail middle back
@@ -79,22 +87,54 @@ pub record Asserted (s : PortState) (old new : Ring) (lits : List Literal) (back
   pub parts : lits ≡ first ∷ rest
   pub trail : new.trail ≡ assigned middle first address
   pub shape : IsTrail new.trail
+  pub phases : new.decider ≡ saved_above old.decider old.trail.steps back
   pub clauses : attached new.watches ≡ attached old.watches ++ option_to_list address
   pub listed : Lists old new address
   pub written : new.written ≡ old.written
   pub watched : (t : TrailData) → Watched old.watches (lits_at s) t → Watched new.watches (lits_at s) t
 
--- the trail went back to level 0, and the clause was attached where it has an address
+-- the trail went back to level 0, the values lost were saved, and the clause was attached where it has an address
 pub record Restarted (s : PortState) (old new : Ring) (address : Option Cref) : Type 0 where
   pub went : WentBack old.trail new.trail 0
+  pub phases : new.decider ≡ saved_above old.decider old.trail.steps 0
   pub clauses : attached new.watches ≡ attached old.watches ++ option_to_list address
   pub listed : Lists old new address
   pub written : new.written ≡ old.written
   pub watched : (t : TrailData) → Watched old.watches (lits_at s) t → Watched new.watches (lits_at s) t
 
--- the conflict is left: at the lemma's level, where it forces its first literal; or by a restart, at level 0 below it
+-- the conflict is left: by a restart where that is due, at level 0 below the lemma's level; else at the lemma's level, where it
+-- forces its first literal
 abbrev pub HasLeft : PortState → Ring → Ring → List Literal → ℕ → Option Cref → Type 0
-HasLeft s old new lits back address = Asserted s old new lits back address ⊎ ((0 < back) × Restarted s old new address)
+HasLeft s old new lits back address =
+    ((old.pending ≡ true → back ≡ 0) × Asserted s old new lits back address) ⊎ ((old.pending ≡ true) × (0 < back) × Restarted s old new address)
+
+-- a lemma was learned, and its conflict left
+pub record HasLearned (s u : PortState) (old new : Ring) (lits : List Literal) : Type 0 where
+  -- the level that it asks for
+  pub back : ℕ
+  -- how many levels its literals but the first have
+  pub glue : ℕ
+  -- where it is held, if it has two literals or more
+  pub address : Option Cref
+  -- it follows, is new, and at that level forces its first literal
+  pub asserting : IsAsserting s old.trail lits back
+  -- the glue is the lemma's on the trail of the conflict
+  pub counted : IsGlueOf old.trail.steps lits glue
+  -- the clause held at the address is the lemma
+  pub stored : IfSome address (λ c. lits_at u c.address ≡ lits)
+  -- the glue was noted for the restarts, and it was asked whether one is due
+  pub restarts : new.restarts ≡ asked (noted old.restarts glue)
+  -- an import is yet to be exactly where one was due
+  pub pending : new.pending ≡ is_due (noted old.restarts glue)
+  -- where one was due the trail is at level 0, else at the lemma's level with its first literal true
+  pub left : HasLeft u (record old { pending = new.pending }) new lits back address
+
+-- a literal was decided that the decider chose, and nothing was saved
+pub record HasDecided (old new : Ring) : Type 0 where
+  pub lit : Literal
+  pub chosen : IsDecided old.decider old.trail.steps lit
+  pub trail : new.trail ≡ decided old.trail lit
+  pub phases : new.decider ≡ old.decider
 
 -- nothing more was learned, and nothing lost
 pub record HasKept (old new : Ring) : Type 0 where
@@ -202,6 +242,47 @@ HasPolledBy s ring (Over end) = HasPolled s ring.restarts.made end
 -- where it was so before
 abbrev pub KeepsPolling : PortState → Ring → PortState → Ring → Course → Type 0
 KeepsPolling old before new ring course = IsPolling old before → HasPolledBy new ring course
+
+-- since the start the ring has imported as often as it was to, but for an import that is yet to be
+abbrev pub IsImporting : (start s : PortState) → Ring → Type 0
+IsImporting start s ring = HasImported start s (imports_of ring)
+
+-- so it is still, or at the end
+abbrev pub HasImportedBy : (start s : PortState) → Ring → Course → Type 0
+HasImportedBy start s ring On = IsImporting start s ring
+HasImportedBy start s ring (Over end) = ImportsBy start s ring.restarts.made end
+
+-- where it was so before
+abbrev pub KeepsImporting : PortState → Ring → PortState → Ring → Course → Type 0
+KeepsImporting old before new ring course = (start : PortState) → IsPolling old before → IsImporting start old before → HasImportedBy start new ring course
+
+-- no clause waits for its deletion, where the search goes on or found a model
+abbrev pub HasTidied : PortState → Course → Type 0
+HasTidied s On = s.waiting ≡ []
+HasTidied s (Over end) = IsTidy s end
+
+-- where none waited before
+abbrev pub KeepsTidy : PortState → PortState → Course → Type 0
+KeepsTidy old new course = old.waiting ≡ [] → HasTidied new course
+
+-- where the search found a model, or the ring is spent, the lemmas were reduced in time at the last restart
+abbrev pub IsInTimeAt : PortState → Restarting → End → Type 0
+IsInTimeAt s r (Sat a) = IsInTime s r.since
+IsInTimeAt s r Spent = IsInTime s r.since
+IsInTimeAt s r _ = ⊤
+
+-- they were, where no import is yet to be; or at the end
+abbrev pub IsInTimeBy : PortState → Ring → Course → Type 0
+IsInTimeBy s ring On = ring.pending ≡ false → IsInTime s ring.restarts.since
+IsInTimeBy s ring (Over end) = IsInTimeAt s ring.restarts end
+
+-- where they were before
+abbrev pub KeepsInTime : PortState → Ring → PortState → Ring → Course → Type 0
+KeepsInTime old before new ring course = IsPolling old before → (before.pending ≡ false → IsInTime old before.restarts.since) → IsInTimeBy new ring course
+
+-- by Luby's sequence the ring restarted behind just so many lemmas, and learned the others since then
+abbrev pub SumsUp : Restarting → Type 0
+SumsUp r = r.odd ≡ true → luby_unit * luby_sum r.made + r.since ≡ r.count
 
 -- where what is counted as offered was true, it still is
 abbrev pub KeepsOffering : PortState → Ring → PortState → Ring → Type 0

@@ -1,6 +1,6 @@
 -- What a run of a ring says: what it asks of its port, what it wrote, and what each end says.
-use Rattle.std.specs.Prelude.{◌≡◌, ◌≢◌, ◌≤◌, ◌<◌, ◌⊎◌, ℕ, ◌+◌, ◌-◌, ◌*◌, ◌%◌, ◌^◌, ◌==◌, min, Bool, true, false, List, [], ◌∷◌, ◌++◌, map, filter, length, All, Contains, Option, Some, None, IfSome, nat_le, ◌&&◌, ⊤}
-use Rattle.std.specs.List.{list_any}
+use Rattle.std.specs.Prelude.{◌≡◌, ◌≢◌, ◌≤◌, ◌<◌, ◌⊎◌, ℕ, zero, suc, ◌+◌, ◌-◌, ◌*◌, ◌%◌, ◌^◌, ◌==◌, min, Bool, true, false, List, [], ◌∷◌, ◌++◌, map, filter, length, All, Contains, Option, Some, None, IfSome, nat_le, ◌&&◌, ⊤}
+use Rattle.std.specs.List.{list_any, flat_map}
 use Rattle.sat_words.specs.Literal.{Literal}
 use Rattle.sat_words.specs.Clause.{has, is_empty}
 use Rattle.sat_words.specs.Truth.{lit_true, clause_true}
@@ -13,13 +13,14 @@ use Rattle.rup_model.specs.Basics.{EachAfter}
 use Rattle.rup_model.specs.Journal.{addition, added, learned, recent, IsSpaced}
 use Rattle.rup_model.specs.Opening.{Opening, IsNew, adds_unit}
 use Rattle.rup_model.specs.Rounds.{Rounds}
-use Rattle.ring_port.specs.PortState.{PortState, Holding, IsOn, HoldsStart}
+use Rattle.ring_port.specs.PortState.{PortState, Holding, Slot, IsOn, HoldsStart}
 use Rattle.ring_port.specs.Port.{is_usable, start_lits}
 use Rattle.ring_port.specs.Exchange.{other_rings}
 use Rattle.ring_port.specs.Log.{KeepsLog, start_of}
 use Rattle.ring_port.specs.declared.stops.PortStop.TheVariants.{NoHole as NoHoleAnswer}
 use Rattle.reduce_db.specs.Moment.{lemmas_before}
-use Rattle.restart_plan.specs.Plan.{AreMost, AreMostBefore}
+use Rattle.restart_plan.specs.Luby.{luby_sum}
+use Rattle.restart_plan.specs.Plan.{AreMost, AreMostBefore, luby_unit}
 use Rattle.ring_run.specs.declared.job.Job.{Job}
 use Rattle.ring_run.specs.declared.job.Counts.{Counts}
 use Rattle.ring_run.specs.declared.job.End.{End}
@@ -198,6 +199,44 @@ HasPolled s restarts (Sat a) = s.polled ≡ polls_of s (1 + restarts)
 HasPolled s restarts Spent = s.polled ≡ polls_of s (1 + restarts)
 HasPolled s restarts _ = s.polled ≤ polls_of s (1 + restarts)
 
+-- where a ring looks for clauses of another ring, in order: classes 0, 1, 2 and 3
+abbrev pub slots_of : ℕ → List Slot
+slots_of r = map (λ c. record { ring = r; class = c }) (0 ∷ 1 ∷ 2 ∷ 3 ∷ [])
+
+-- where it looks at an import, in order: the slots of each other ring
+abbrev pub import_slots : PortState → List Slot
+import_slots s = flat_map slots_of (other_rings s)
+
+-- these slots so often, one time behind the other
+unfoldable pub rounds : ℕ → List Slot → List Slot
+rounds zero slots = []
+rounds (suc n) slots = rounds n slots ++ slots
+
+-- the ring looked into these slots, in order, or into some of them from the first on
+pub record LookedAlong (old new : PortState) (slots : List Slot) : Type 0 where
+  pub looked : List Slot
+  pub left : List Slot
+  pub polls : new.polls ≡ old.polls ++ looked
+  pub parts : looked ++ left ≡ slots
+
+-- since the start the ring has imported so often: each time it looked into each slot of each other ring, in order; and at least so
+-- often a look for units found no other listed, which is counted up to the last count of 64 bits
+pub record HasImported (start s : PortState) (imports : ℕ) : Type 0 where
+  pub polls : s.polls ≡ start.polls ++ rounds imports (import_slots s)
+  pub caught_up : min (start.caught_up + imports) (2 ^ 64 - 1) ≤ s.caught_up
+
+-- where the ring found a model, or is spent, it has imported once at its start and once at each restart; else the last of these
+-- may be missing, or not whole
+abbrev pub ImportsBy : (start s : PortState) (restarts : ℕ) → End → Type 0
+ImportsBy start s restarts (Sat a) = HasImported start s (1 + restarts)
+ImportsBy start s restarts Spent = HasImported start s (1 + restarts)
+ImportsBy start s restarts _ = LookedAlong start s (rounds (1 + restarts) (import_slots s))
+
+-- where the ring found a model no clause waits for its deletion
+abbrev pub IsTidy : PortState → End → Type 0
+IsTidy s (Sat a) = s.waiting ≡ []
+IsTidy s _ = ⊤
+
 -- as many clauses were learned as are counted, and as many were offered
 pub record IsCounted (s : PortState) (counts : Counts) : Type 0 where
   pub learned_is : counts.learned ≡ length (learned s.ring s.mine)
@@ -209,6 +248,21 @@ pub record HasRestarted (ring limit : ℕ) (counts : Counts) : Type 0 where
   pub few : 50 * counts.restarts ≤ counts.learned
   pub most : ring % 2 ≡ 1 → counts.learned < limit → AreMost counts.restarts counts.learned
   pub spent : ring % 2 ≡ 1 → counts.learned ≡ limit → AreMostBefore counts.restarts counts.learned
+
+-- since its last Reduce entry the ring has learned fewer lemmas, without the last n, than its next reduction comes after
+abbrev pub IsInTime : PortState → ℕ → Type 0
+IsInTime s n = length (recent s.ring s.mine) < lemmas_before (reductions s.ring s.mine + 1) + n
+
+-- a ring of odd number restarted last behind so many lemmas as Luby's sequence says; of these it had learned fewer since its last
+-- Reduce entry than its next reduction comes after
+abbrev pub IsReducedInTime : PortState → Counts → Type 0
+IsReducedInTime s counts = s.ring % 2 ≡ 1 → IsInTime s (counts.learned - luby_unit * luby_sum counts.restarts)
+
+-- where the ring found a model, or is spent, it had reduced its lemmas in time when it restarted last
+abbrev pub ReducesBy : PortState → Counts → End → Type 0
+ReducesBy s counts (Sat a) = IsReducedInTime s counts
+ReducesBy s counts Spent = IsReducedInTime s counts
+ReducesBy s counts _ = ⊤
 
 -- the ring's own stop of this kind stands
 abbrev pub HasWon : PortState → ℕ → Type 0

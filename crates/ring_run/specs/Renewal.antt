@@ -1,5 +1,5 @@
 -- What a ring does behind a restart, before it imports.
-use Rattle.std.specs.Prelude.{◌≡◌, ℕ, ◌+◌, ◌-◌, ◌<◌, ◌≤◌, ◌⊎◌, true, List, [], ◌∷◌, ◌++◌, take, drop, length, Contains, None, IsSome, ◌≢◌, ⊤}
+use Rattle.std.specs.Prelude.{◌≡◌, ℕ, ◌+◌, ◌-◌, ◌<◌, ◌≤◌, ◌⊎◌, true, false, List, [], ◌∷◌, ◌++◌, take, drop, length, Contains, None, IsSome, ◌≢◌, ⊤}
 use Rattle.sat_words.specs.Literal.{Literal}
 use Rattle.sat_words.specs.Clause.{has}
 use Rattle.sat_words.specs.declared.shared.Cref.{Cref}
@@ -203,3 +203,14 @@ pub record IsIdle (old new : PortState) (before after : Ring) : Type 0 where
 pub record HasRenewed (old : PortState) (before after : Ring) : Type 0 where
   pub due : IsDue before → (middle : PortState) × (ring : Ring) × HasShrunk old middle before ring × (after.reductions ≡ ring.reductions) × (after.lemmas ≡ ring.lemmas)
   pub early : before.learned - before.reduced_at < lemmas_before (before.reductions + 1) → (after.reductions ≡ before.reductions) × (after.lemmas ≡ before.lemmas)
+
+-- behind propagation and lines of units the ring renewed, so that no import is yet to be
+pub record Renews (old : PortState) (before after : Ring) : Type 0 where
+  pub middle : PortState
+  pub ring : Ring
+  pub lines : OnlyWrote old middle
+  pub grown : HasGrown before.trail ring.trail
+  pub same_clauses : attached ring.watches ≡ attached before.watches
+  pub same_ring : ring ≡ record before { trail = ring.trail; watches = ring.watches; written = ring.written }
+  pub renewed : HasRenewed middle ring after
+  pub settled : after.pending ≡ false

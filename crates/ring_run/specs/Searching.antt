@@ -59,10 +59,12 @@ pub record HasClauses (s : PortState) (cs : List Cref) : Type 0 where
 
 -- What calls change
 
--- nothing was learned, offered or looked for
+-- nothing was learned or offered, no clause of another ring was looked for, and no look for units is forgotten
 pub record OffersNothing (old new : PortState) : Type 0 where
   pub shared : new.shared ≡ old.shared
   pub polled : new.polled ≡ old.polled
+  pub polls : new.polls ≡ old.polls
+  pub caught_up : min old.caught_up (2 ^ 64 - 1) ≤ new.caught_up
   pub ring : new.ring ≡ old.ring
   pub rings : new.rings ≡ old.rings
   pub lemmas : learned new.ring new.mine ≡ learned old.ring old.mine
@@ -83,6 +85,9 @@ pub record OnlySaw (old new : PortState) : Type 0 where
   pub stays : Stays old new
   pub shared : new.shared ≡ old.shared
   pub polled : new.polled ≡ old.polled
+  pub polls : new.polls ≡ old.polls
+  pub caught_up : min old.caught_up (2 ^ 64 - 1) ≤ new.caught_up
+  pub waiting : new.waiting ≡ old.waiting
   pub taken : new.taken ≡ old.taken
   pub held : new.held ≡ old.held
   pub mine : new.mine ≡ old.mine
@@ -91,10 +96,10 @@ pub record OnlySaw (old new : PortState) : Type 0 where
   pub looks : new.looks ≡ old.looks
   pub more : (l : Literal) → has old.seen l ≡ true → has new.seen l ≡ true
 
--- no call has changed more than what is held and taken, and how often the ring has polled; what was held still is
+-- no call has changed more than what is held and taken, and where and how often the ring has polled; what was held still is
 pub record OnlyPolled (old new : PortState) : Type 0 where
   pub kept : KeepsHeld old new
-  pub state : new ≡ record old { held = new.held; taken = new.taken; polled = new.polled }
+  pub state : new ≡ record old { held = new.held; taken = new.taken; polled = new.polled; polls = new.polls }
 
 -- the ring's entries are those from before, and perhaps more behind them
 abbrev pub HasGrownLog : PortState → PortState → Type 0

@@ -9,7 +9,8 @@ ghost use Rattle.ring_run.specs.Ended.{Stays};
 ghost use Rattle.ring_run.specs.Strategy.{Decides};
 ghost use Rattle.ring_run.specs.Searching.{OffersNothing, AreFirst, KeepsOn, OnlyWrote};
 ghost use Rattle.ring_run.specs.Ending.{EndsAt, end_refused};
-ghost use Rattle.ring_run.specs.Course.{AreSameOffers, InSearch, HasLemmas, KeepsLemmas, Leads, IsFurther, KeepsLooking, TakesALook, KeepsOffering, KeepsPolling, IsPolling, HasPolledBy};
+ghost use Rattle.ring_run.specs.Renewal.{Renews};
+ghost use Rattle.ring_run.specs.Course.{AreSameOffers, InSearch, HasLemmas, KeepsLemmas, Leads, IsFurther, KeepsLooking, TakesALook, KeepsOffering, KeepsPolling, IsPolling, HasPolledBy, KeepsImporting, KeepsTidy, KeepsInTime, HasDecided};
 
 use crate::course::{Course, end_refused};
 use crate::job::End;
@@ -46,6 +47,7 @@ fn decide<P: Port>(alloc: Global, port: &mut P, ring: &mut Ring, limit: u64) -> 
     requires settled { ring.old.pending ≡ false }
     ensures leads { Leads (P.state port.old) ring.old (P.state port.new) ring.new limit result }
     ensures learned { ring.new.learned ≡ ring.old.learned }
+    ensures decided { result ≡ Course.On → HasDecided ring.old ring.new }
     ensures longer { result ≡ Course.On → length ring.old.trail.steps < length ring.new.trail.steps }
     ensures pending { ring.new.pending ≡ ring.old.pending }
     ensures polls { KeepsPolling (P.state port.old) ring.old (P.state port.new) ring.new result }
@@ -75,6 +77,7 @@ pub(crate) fn write_pending<P: Port>(port: &mut P, ring: &mut Ring) -> Result<()
     ensures search { OnOk result (InSearch (P.state port.new) ring.new) }
     ensures held { (P.state port.new).held ≡ (P.state port.old).held }
     ensures looks { (P.state port.new).looks ≡ (P.state port.old).looks }
+    ensures waiting { (P.state port.new).waiting ≡ (P.state port.old).waiting }
     ensures first { OnOk result (AreFirst ring.new.trail ring.new.written) }
     ensures whole { OnOk result (ring.old.trail.level ≡ 0 → ring.new.written ≡ length ring.new.trail.steps) }
     ensures pending { ring.new.pending ≡ ring.old.pending }
@@ -120,9 +123,14 @@ pub(crate) fn decide_next<P: Port>(
     ensures leads { Leads (P.state port.old) ring.old (P.state port.new) ring.new limit result }
     ensures learned { ring.new.learned ≡ ring.old.learned }
     ensures further { result ≡ Course.On → IsFurther ring.old ring.new }
+    ensures decided { result ≡ Course.On → ring.old.pending ≡ false → HasDecided ring.old ring.new }
     ensures restarts { ring.new.restarts ≡ ring.old.restarts }
     ensures offering { KeepsOffering (P.state port.old) ring.old (P.state port.new) ring.new }
     ensures polls { HasPolledBy (P.state port.new) ring.new result }
+    ensures imports { KeepsImporting (P.state port.old) ring.old (P.state port.new) ring.new result }
+    ensures tidied { KeepsTidy (P.state port.old) (P.state port.new) result }
+    ensures renewed { result ≡ Course.On → ring.old.pending ≡ true → Renews (P.state port.old) ring.old ring.new }
+    ensures in_time { KeepsInTime (P.state port.old) ring.old (P.state port.new) ring.new result }
     ensures listed { result ≡ Course.On → HasLemmas (P.state port.new) ring.new }
     ensures active { ring.new.decider.active ≡ ring.old.decider.active }
     ensures looks { KeepsLooking (P.state port.old) ring.old (P.state port.new) ring.new result }

@@ -1,10 +1,11 @@
 // What a ring takes from the others at level 0: their units, and the clauses that they have put for it.
-ghost use Rattle.std.specs.Prelude.{◌≡◌, ◌≢◌, ◌<◌, ◌≤◌, ◌+◌, ◌*◌, ◌-◌, ◌^◌, ℕ, min, true, false, length, OnOk};
+ghost use Rattle.std.specs.Prelude.{◌≡◌, ◌≢◌, ◌<◌, ◌≤◌, ◌+◌, ◌++◌, ◌∷◌, [], ◌*◌, ◌-◌, ◌^◌, ℕ, min, true, false, length, OnOk};
 ghost use Rattle.ring_port.specs.PortState.{IsPort, one_more};
 ghost use Rattle.ring_port.specs.Exchange.{other_rings};
 ghost use Rattle.watch_prop.specs.WatchData.{attached};
+ghost use Rattle.ring_run.specs.Ended.{slots_of, import_slots, LookedAlong, IsInTime};
 ghost use Rattle.ring_run.specs.Searching.{AreMoreClauses, KeepsOn, OnlyPolled};
-ghost use Rattle.ring_run.specs.Course.{InSearch, KeepsLemmas, MayImport, Leads, KeepsLooking, KeepsOffering, IsPolling, HasPolledBy};
+ghost use Rattle.ring_run.specs.Course.{InSearch, KeepsLemmas, MayImport, Leads, KeepsLooking, KeepsOffering, IsPolling, HasPolledBy, KeepsImporting, KeepsTidy, IsInTimeBy};
 
 use crate::course::{Course, refute};
 use crate::job::End;
@@ -33,6 +34,8 @@ fn take_class<P: Port>(
     ensures search { OnOk result (InSearch (P.state port.new) ring.new) }
     ensures polled { OnOk result ((P.state port.new).polled ≡ one_more (P.state port.old).polled) }
     ensures few { (P.state port.new).polled ≤ one_more (P.state port.old).polled }
+    ensures looked { OnOk result ((P.state port.new).polls ≡ (P.state port.old).polls ++ record { ring = from; class = class } ∷ []) }
+    ensures along { LookedAlong (P.state port.old) (P.state port.new) (record { ring = from; class = class } ∷ []) }
     ensures only { OnlyPolled (P.state port.old) (P.state port.new) }
     ensures same { ring.new ≡ record ring.old { watches = ring.new.watches } }
     ensures more { OnOk result (AreMoreClauses (attached ring.old.watches) (attached ring.new.watches)) }
@@ -59,6 +62,8 @@ fn take_from<P: Port>(port: &mut P, ring: &mut Ring, from: u32) -> Result<(), Al
     ensures search { OnOk result (InSearch (P.state port.new) ring.new) }
     ensures polled { OnOk result ((P.state port.new).polled ≡ min ((P.state port.old).polled + 4) (2 ^ 64 - 1)) }
     ensures few { (P.state port.new).polled ≤ min ((P.state port.old).polled + 4) (2 ^ 64 - 1) }
+    ensures looked { OnOk result ((P.state port.new).polls ≡ (P.state port.old).polls ++ slots_of from) }
+    ensures along { LookedAlong (P.state port.old) (P.state port.new) (slots_of from) }
     ensures only { OnlyPolled (P.state port.old) (P.state port.new) }
     ensures same { ring.new ≡ record ring.old { watches = ring.new.watches } }
     ensures more { OnOk result (AreMoreClauses (attached ring.old.watches) (attached ring.new.watches)) }
@@ -83,6 +88,8 @@ fn take_clauses<P: Port>(port: &mut P, ring: &mut Ring) -> Result<(), AllocError
     ensures search { OnOk result (InSearch (P.state port.new) ring.new) }
     ensures polled { OnOk result ((P.state port.new).polled ≡ min ((P.state port.old).polled + 4 * length (other_rings (P.state port.old))) (2 ^ 64 - 1)) }
     ensures few { (P.state port.new).polled ≤ min ((P.state port.old).polled + 4 * length (other_rings (P.state port.old))) (2 ^ 64 - 1) }
+    ensures looked { OnOk result ((P.state port.new).polls ≡ (P.state port.old).polls ++ import_slots (P.state port.old)) }
+    ensures along { LookedAlong (P.state port.old) (P.state port.new) (import_slots (P.state port.old)) }
     ensures only { OnlyPolled (P.state port.old) (P.state port.new) }
     ensures same { ring.new ≡ record ring.old { watches = ring.new.watches } }
     ensures more { OnOk result (AreMoreClauses (attached ring.old.watches) (attached ring.new.watches)) }
@@ -109,6 +116,9 @@ pub(crate) fn import<P: Port>(port: &mut P, ring: &mut Ring) -> Course
     ensures settled { result ≡ Course.On → ring.new.pending ≡ false }
     ensures steps { result ≡ Course.On → length ring.old.trail.steps ≤ length ring.new.trail.steps }
     ensures polls { HasPolledBy (P.state port.new) ring.new result }
+    ensures imports { KeepsImporting (P.state port.old) ring.old (P.state port.new) ring.new result }
+    ensures tidied { KeepsTidy (P.state port.old) (P.state port.new) result }
+    ensures in_time { IsInTime (P.state port.old) ring.old.restarts.since → IsInTimeBy (P.state port.new) ring.new result }
     ensures offering { KeepsOffering (P.state port.old) ring.old (P.state port.new) ring.new }
     ensures looks { KeepsLooking (P.state port.old) ring.old (P.state port.new) ring.new result }
     ensures learned { ring.new.learned ≡ ring.old.learned }

@@ -10,7 +10,7 @@ ghost use Rattle.watch_prop.specs.Propagation.{IsConflict};
 ghost use Rattle.ring_run.specs.Strategy.{Decides, IsPaced};
 ghost use Rattle.ring_run.specs.Searching.{OffersNothing, HasLent, IsAsserting, IsGlueOf, HoldsByGlue, OnlyWrote, KeepsOn};
 ghost use Rattle.ring_run.specs.Ending.{EndsAt, end_refused};
-ghost use Rattle.ring_run.specs.Course.{AreSameOffers, IsOffering, InSearch, HasLemmas, Leads, CanAssert, Asserted, Restarted, HasLeft, KeepsLooking, KeepsPolling};
+ghost use Rattle.ring_run.specs.Course.{AreSameOffers, IsOffering, InSearch, HasLemmas, Leads, CanAssert, Asserted, Restarted, HasLeft, KeepsLooking, KeepsPolling, KeepsImporting, HasTidied, KeepsInTime, SumsUp, HasLearned};
 
 use crate::course::{Course, end_refused, refute};
 use crate::job::End;
@@ -189,12 +189,17 @@ fn learn_lemma<P: Port>(
     requires glue { IsGlueOf ring.old.trail.steps lits.now glue }
     ensures leads { Leads (P.state port.old) ring.old (P.state port.new) ring.new limit result }
     ensures more { result ≡ Course.On → ring.new.learned ≡ ring.old.learned + 1 }
-    ensures tidied { result ≡ Course.On → (P.state port.new).waiting ≡ [] }
+    ensures learns { result ≡ Course.On → HasLearned (P.state port.old) (P.state port.new) ring.old ring.new lits.now }
+    ensures tidied { HasTidied (P.state port.new) result }
     ensures listed { result ≡ Course.On → HasLemmas (P.state port.new) ring.new }
     ensures stored { HoldsByGlue (P.state port.old) (P.state port.new) ring.old.trail.steps }
     ensures looks { KeepsLooking (P.state port.old) ring.old (P.state port.new) ring.new result }
     ensures paced { IsPaced ring.new.restarts ring.new.learned limit }
     ensures polls { KeepsPolling (P.state port.old) ring.old (P.state port.new) ring.new result }
+    ensures imports { KeepsImporting (P.state port.old) ring.old (P.state port.new) ring.new result }
+    ensures above { result ≡ Course.On → 0 < ring.old.trail.level }
+    ensures in_time { KeepsInTime (P.state port.old) ring.old (P.state port.new) ring.new result }
+    ensures sums { SumsUp ring.new.restarts }
     ensures offering { IsOffering (P.state port.new) ring.new }
     ensures odd { ring.new.restarts.odd ≡ ring.old.restarts.odd }
     ensures active { ring.new.decider.active ≡ ring.old.decider.active }
@@ -239,12 +244,17 @@ pub(crate) fn learn_from<P: Port>(
     requires conflict { IsConflict ring.old.watches (lits_at (P.state port.old)) ring.old.trail conflict }
     ensures leads { Leads (P.state port.old) ring.old (P.state port.new) ring.new limit result }
     ensures more { result ≡ Course.On → ring.new.learned ≡ ring.old.learned + 1 }
-    ensures tidied { result ≡ Course.On → (P.state port.new).waiting ≡ [] }
+    ensures learns { result ≡ Course.On → HasLearned (P.state port.old) (P.state port.new) ring.old ring.new analysis.new.lits }
+    ensures tidied { HasTidied (P.state port.new) result }
     ensures listed { result ≡ Course.On → HasLemmas (P.state port.new) ring.new }
     ensures stored { HoldsByGlue (P.state port.old) (P.state port.new) ring.old.trail.steps }
     ensures looks { KeepsLooking (P.state port.old) ring.old (P.state port.new) ring.new result }
     ensures paced { IsPaced ring.new.restarts ring.new.learned limit }
     ensures polls { KeepsPolling (P.state port.old) ring.old (P.state port.new) ring.new result }
+    ensures imports { KeepsImporting (P.state port.old) ring.old (P.state port.new) ring.new result }
+    ensures above { result ≡ Course.On → 0 < ring.old.trail.level }
+    ensures in_time { KeepsInTime (P.state port.old) ring.old (P.state port.new) ring.new result }
+    ensures sums { SumsUp ring.new.restarts }
     ensures offering { IsOffering (P.state port.new) ring.new }
     ensures odd { ring.new.restarts.odd ≡ ring.old.restarts.odd }
     ensures active { ring.new.decider.active ≡ ring.old.decider.active }

@@ -1,12 +1,13 @@
 // Where a restart was made: the ring gives up lemmas where that is due, makes others shorter, and then imports.
-ghost use Rattle.std.specs.Prelude.{◌≡◌, ◌<◌, ◌≤◌, ◌+◌, ◌-◌, ◌^◌, ℕ, true, false, length, OnOk, IfErr};
+ghost use Rattle.std.specs.Prelude.{◌≡◌, ◌<◌, ◌≤◌, ◌+◌, ◌-◌, ◌^◌, ℕ, [], true, false, length, OnOk, IfErr};
 ghost use Rattle.reduce_db.specs.Moment.{lemmas_before};
 ghost use Rattle.ring_port.specs.PortState.{IsPort, lits_at};
 ghost use Rattle.watch_prop.specs.Propagation.{IsQuiet};
+ghost use Rattle.ring_run.specs.Ended.{IsInTime};
 ghost use Rattle.ring_run.specs.Searching.{OffersNothing, OpeningSeen, KeepsOn};
 ghost use Rattle.ring_run.specs.Renewal.{IsDue, HasReduced, HasShrunk, IsIdle, HasRenewed, IsResting, HaltsAt};
 ghost use Rattle.ring_run.specs.Ending.{EndsAt, end_refused};
-ghost use Rattle.ring_run.specs.Course.{HasLemmas, MayImport, Leads, KeepsLooking, KeepsOffering, IsPolling, HasPolledBy};
+ghost use Rattle.ring_run.specs.Course.{HasLemmas, MayImport, Leads, KeepsLooking, KeepsOffering, IsPolling, HasPolledBy, KeepsImporting, KeepsTidy, IsInTimeBy};
 
 use crate::course::{Course, end_refused};
 use crate::imports::import;
@@ -68,6 +69,8 @@ fn shrink_lemmas<P: Port>(alloc: Global, port: &mut P, ring: &mut Ring) -> Resul
     ensures keeps { OnOk result (KeepsOn (P.state port.old) (P.state port.new)) }
     ensures import { OnOk result (MayImport (P.state port.new) ring.new.trail ring.new.watches ring.new.written) }
     ensures listed { OnOk result (HasLemmas (P.state port.new) ring.new) }
+    ensures tidied { OnOk result ((P.state port.new).waiting ≡ []) }
+    ensures in_time { OnOk result (IsInTime (P.state port.new) 0) }
     ensures steps { OnOk result (length ring.old.trail.steps ≤ length ring.new.trail.steps) }
     ensures same { ring.new ≡ record ring.old { trail = ring.new.trail; watches = ring.new.watches; written = ring.new.written; lemmas = ring.new.lemmas; reductions = ring.new.reductions; reduced_at = ring.new.reduced_at } }
     ensures looks { (P.state port.new).looks ≡ (P.state port.old).looks }
@@ -102,6 +105,8 @@ fn shrink_due<P: Port>(alloc: Global, port: &mut P, ring: &mut Ring) -> Result<(
     ensures keeps { OnOk result (KeepsOn (P.state port.old) (P.state port.new)) }
     ensures import { OnOk result (MayImport (P.state port.new) ring.new.trail ring.new.watches ring.new.written) }
     ensures listed { OnOk result (HasLemmas (P.state port.new) ring.new) }
+    ensures tidied { (P.state port.old).waiting ≡ [] → OnOk result ((P.state port.new).waiting ≡ []) }
+    ensures in_time { OnOk result (IsInTime (P.state port.new) 0) }
     ensures steps { OnOk result (length ring.old.trail.steps ≤ length ring.new.trail.steps) }
     ensures same { ring.new ≡ record ring.old { trail = ring.new.trail; watches = ring.new.watches; written = ring.new.written; lemmas = ring.new.lemmas; reductions = ring.new.reductions; reduced_at = ring.new.reduced_at } }
     ensures looks { (P.state port.new).looks ≡ (P.state port.old).looks }
@@ -129,6 +134,9 @@ pub(crate) fn renew<P: Port>(alloc: Global, port: &mut P, ring: &mut Ring) -> Co
     ensures renewed { result ≡ Course.On → HasRenewed (P.state port.old) ring.old ring.new }
     ensures steps { result ≡ Course.On → length ring.old.trail.steps ≤ length ring.new.trail.steps }
     ensures polls { HasPolledBy (P.state port.new) ring.new result }
+    ensures imports { KeepsImporting (P.state port.old) ring.old (P.state port.new) ring.new result }
+    ensures tidied { KeepsTidy (P.state port.old) (P.state port.new) result }
+    ensures in_time { IsInTimeBy (P.state port.new) ring.new result }
     ensures offering { KeepsOffering (P.state port.old) ring.old (P.state port.new) ring.new }
     ensures looks { KeepsLooking (P.state port.old) ring.old (P.state port.new) ring.new result }
     ensures listed { result ≡ Course.On → HasLemmas (P.state port.new) ring.new }

@@ -2,6 +2,7 @@
 ghost use Rattle.std.specs.Prelude.{◌≡◌, ◌≤◌, length};
 ghost use Rattle.ring_trail.specs.TrailData.{IsTrail};
 ghost use Rattle.ring_run.specs.Course.{WentBack};
+ghost use Rattle.ring_run.specs.Strategy.{saved_above};
 
 use crate::variables::{Bump, save_phases};
 use restart_plan::Restarts;
@@ -58,6 +59,7 @@ pub(crate) fn go_back(ring: &mut Ring, level: u32)
     requires trail { IsTrail ring.old.trail }
     requires vars { length ring.old.decider.active ≡ ring.old.trail.vars }
     ensures went { level ≤ ring.old.trail.level → WentBack ring.old.trail ring.new.trail level }
+    ensures phases { ring.new.decider ≡ saved_above ring.old.decider ring.old.trail.steps level }
     ensures active { ring.new.decider.active ≡ ring.old.decider.active }
     ensures same { ring.new ≡ record ring.old { trail = ring.new.trail; decider = ring.new.decider } }
 {

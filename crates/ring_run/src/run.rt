@@ -1,14 +1,15 @@
 // A run of a ring, from its job to its end.
 ghost use Rattle.std.specs.Prelude.{◌≡◌, ◌≤◌, ◌<◌, ◌+◌, ◌++◌, ◌^◌, ◌%◌, ◌==◌, ◌↔◌, ℕ, All, IfOk, OnOk, [], true};
-ghost use Rattle.ring_port.specs.PortState.{IsPort, HoldsStart, lits_at};
+ghost use Rattle.ring_port.specs.PortState.{PortState, IsPort, HoldsStart, lits_at};
 ghost use Rattle.ring_trail.specs.TrailData.{TrailData, IsTrail};
 ghost use Rattle.watch_prop.specs.WatchData.{attached};
 ghost use Rattle.watch_prop.specs.Watched.{Watched, IsFresh};
-ghost use Rattle.ring_run.specs.Ended.{IsJobOf, IsUntouched, Stays, IsOwn, IsCounted, HasOffered, HasRestarted, HasPolled, AreNew, AreNewLines, AreSpaced, AreTimely, HoldsGlued, HasLooked, last_looks, stop_kind, Cause, Ends};
+ghost use Rattle.ring_run.specs.Ended.{IsJobOf, IsUntouched, Stays, IsOwn, IsCounted, HasOffered, HasRestarted, HasPolled, ImportsBy, IsTidy, ReducesBy, AreNew, AreNewLines, AreSpaced, AreTimely, HoldsGlued, HasLooked, last_looks, stop_kind, Cause, Ends};
 ghost use Rattle.ring_run.specs.Searching.{IsHeldBy, OffersNothing};
 ghost use Rattle.ring_decide.specs.Phases.{first_phases};
 ghost use Rattle.restart_plan.specs.Plan.{IsRestarting, begun};
 ghost use Rattle.ring_run.specs.Strategy.{Decides};
+ghost use Rattle.ring_run.specs.declared.job.Counts.{Counts};
 ghost use Rattle.ring_run.specs.Ending.{ComesTo, IsUnset, KeepsRuns};
 
 use crate::job::{Counts, End, Job};
@@ -46,12 +47,16 @@ const NOTHING: Counts = Counts {
 ///
 /// The ring takes what other rings have for it at its start and at each restart, at level 0: first their units, then each
 /// clause that lies ready, by ring and class, which is attached at once. So it polls each class of each other ring once at its
-/// start and once at each restart.
+/// start and once at each restart, ring by ring and class by class, and has looked for units at least as often until no other was
+/// listed.
 ///
 /// At a restart, before it imports, the ring reduces its lemmas where that is due: the Reduce entry is written, and the last half
 /// of those that may be dropped is. Then each lemma of glue one or two that is left is vivified, in the order of their numbers,
 /// unless it is true at level 0: a shorter clause takes its place in the log, or a unit, which is made true with what follows from
-/// it. The deletion lines come at once. The start clauses and what other rings gave stay held as they are.
+/// it. The deletion lines come at once. The start clauses and what other rings gave stay held as they are. So where a ring of odd
+/// number finds a model, or is spent, it had reduced its lemmas in time when it restarted last.
+///
+/// The deletion lines of what an offer brought back come behind the lemma: where none waited at the start, none does at a model.
 ///
 /// Every end but `Spent` and `Stopped` has set this ring's stop, and was the first to set one: a ring that comes second
 /// answers `Stopped` with the stop that stands. A call of the port that was refused for want of memory, room or a write
@@ -73,6 +78,9 @@ pub fn run_ring<P: Port>(alloc: Global, port: &mut P, job: &Job) -> (End, Counts
     ensures counts { IsCounted (P.state port.new) result.1 }
     ensures restarted { HasRestarted (P.state port.old).ring job.now.conflicts result.1 }
     ensures polled { HasPolled (P.state port.new) result.1.restarts result.0 }
+    ensures imported { ImportsBy (P.state port.old) (P.state port.new) result.1.restarts result.0 }
+    ensures tidied { (P.state port.old).waiting ≡ [] → IsTidy (P.state port.new) result.0 }
+    ensures in_time { ReducesBy (P.state port.new) result.1 result.0 }
     ensures within { result.1.learned ≤ job.now.conflicts }
     ensures spent { (result.0 ≡ End.Spent) ↔ (result.1.learned ≡ job.now.conflicts) }
     ensures ends { Ends (P.state port.new) result.0 }
@@ -92,6 +100,9 @@ fn run_job<P: Port>(alloc: Global, port: &mut P, job: &Job) -> (End, Counts)
     ensures offers { HasOffered (P.state port.new) result.1.exported result.1.offered }
     ensures restarted { HasRestarted (P.state port.old).ring job.now.conflicts result.1 }
     ensures polled { HasPolled (P.state port.new) result.1.restarts result.0 }
+    ensures imported { ImportsBy (P.state port.old) (P.state port.new) result.1.restarts result.0 }
+    ensures tidied { (P.state port.old).waiting ≡ [] → IsTidy (P.state port.new) result.0 }
+    ensures in_time { ReducesBy (P.state port.new) result.1 result.0 }
     ensures port { IsPort (P.state port.new) }
 {
     let Ok(mut ring) = make_ring(alloc, port, job) else {
@@ -213,6 +224,9 @@ fn claim<P: Port>(port: &mut P, end: End) -> End
     ensures nothing { OffersNothing (P.state port.old) (P.state port.new) }
     ensures looked { last_looks result ≤ last_looks end }
     ensures polled { (made : ℕ) → HasPolled (P.state port.old) made end → HasPolled (P.state port.new) made result }
+    ensures imported { (start : PortState) (made : ℕ) → ImportsBy start (P.state port.old) made end → ImportsBy start (P.state port.new) made result }
+    ensures tidied { IsTidy (P.state port.old) end → IsTidy (P.state port.new) result }
+    ensures in_time { (counts : Counts) → ReducesBy (P.state port.old) counts end → ReducesBy (P.state port.new) counts result }
     ensures port { IsPort (P.state port.new) }
 {
     let Some(kind) = stop_kind(&end) else {

@@ -1,11 +1,12 @@
 // The search: it propagates, and then learns or decides, until an end.
-ghost use Rattle.std.specs.Prelude.{◌≡◌, ◌<◌, ◌+◌, ℕ, true};
-ghost use Rattle.ring_port.specs.PortState.{IsPort};
-ghost use Rattle.ring_run.specs.Ended.{HasLooked, HasPolled, last_looks};
+ghost use Rattle.std.specs.Prelude.{◌≡◌, ◌<◌, ◌+◌, ℕ, [], true};
+ghost use Rattle.ring_port.specs.PortState.{PortState, IsPort};
+ghost use Rattle.ring_run.specs.Ended.{HasLooked, HasPolled, ImportsBy, IsTidy, IsInTime, last_looks};
 ghost use Rattle.ring_run.specs.Strategy.{Decides, IsPaced};
 ghost use Rattle.ring_run.specs.Searching.{GoesOn};
 ghost use Rattle.ring_run.specs.Ending.{ComesTo};
-ghost use Rattle.ring_run.specs.Course.{IsOffering, InSearch, HasLemmas, MayImport, Leads, IsFurther, IsLooking, KeepsLooking, IsPolling, HasPolledBy};
+ghost use Rattle.ring_run.specs.Renewal.{Renews};
+ghost use Rattle.ring_run.specs.Course.{IsOffering, InSearch, HasLemmas, MayImport, Leads, IsFurther, IsLooking, KeepsLooking, IsPolling, HasPolledBy, IsImporting, KeepsImporting, KeepsTidy, IsInTimeAt, KeepsInTime, SumsUp};
 
 use crate::course::Course;
 use crate::decision::decide_next;
@@ -40,6 +41,11 @@ fn turn<P: Port>(
     ensures paced { IsPaced ring.new.restarts ring.new.learned limit }
     ensures offering { IsOffering (P.state port.new) ring.new }
     ensures polls { HasPolledBy (P.state port.new) ring.new result }
+    ensures imports { KeepsImporting (P.state port.old) ring.old (P.state port.new) ring.new result }
+    ensures tidied { KeepsTidy (P.state port.old) (P.state port.new) result }
+    ensures renewed { result ≡ Course.On → ring.old.pending ≡ true → Renews (P.state port.old) ring.old ring.new }
+    ensures in_time { KeepsInTime (P.state port.old) ring.old (P.state port.new) ring.new result }
+    ensures sums { SumsUp ring.new.restarts }
     ensures listed { result ≡ Course.On → HasLemmas (P.state port.new) ring.new }
     ensures odd { ring.new.restarts.odd ≡ ring.old.restarts.odd }
     ensures active { ring.new.decider.active ≡ ring.old.decider.active }
@@ -80,6 +86,10 @@ pub(crate) fn search<P: Port>(
     ensures paced { IsPaced ring.new.restarts ring.new.learned limit }
     ensures offering { IsOffering (P.state port.new) ring.new }
     ensures polled { HasPolled (P.state port.new) ring.new.restarts.made result }
+    ensures imported { (start : PortState) → IsImporting start (P.state port.old) ring.old → ImportsBy start (P.state port.new) ring.new.restarts.made result }
+    ensures tidied { (P.state port.old).waiting ≡ [] → IsTidy (P.state port.new) result }
+    ensures in_time { IsInTime (P.state port.old) ring.old.restarts.since → IsInTimeAt (P.state port.new) ring.new.restarts result }
+    ensures sums { SumsUp ring.new.restarts }
     ensures odd { ring.new.restarts.odd ≡ ring.old.restarts.odd }
     ensures port { IsPort (P.state port.new) }
 {

@@ -1,6 +1,6 @@
 // Units: those that come from outside, and those that propagation makes true for good.
 ghost use Rattle.std.specs.Prelude.{◌≡◌, ◌≤◌, ◌<◌, ◌+◌, ℕ, List, None, OnOk, IfErr, length};
-ghost use Rattle.ring_port.specs.PortState.{IsPort};
+ghost use Rattle.ring_port.specs.PortState.{IsPort, one_more};
 ghost use Rattle.ring_trail.specs.TrailData.{HasGrown, IsTrail, reason_at};
 ghost use Rattle.sat_words.specs.declared.shared.Cref.{Cref};
 ghost use Rattle.watch_prop.specs.WatchData.{WatchData, Lits};
@@ -31,6 +31,7 @@ pub(crate) fn take_units<P: Port>(port: &mut P, trail: &mut Trail) -> Units
     ensures saw { OnlySaw (P.state port.old) (P.state port.new) }
     ensures grown { HasGrown trail.old trail.new }
     ensures taken { AreTaken (P.state port.new) trail.new result }
+    ensures caught_up { result ≡ Units.True → (P.state port.new).caught_up ≡ one_more (P.state port.old).caught_up }
     ensures keeps { KeepsOn (P.state port.old) (P.state port.new) }
     ensures reasons { (cs : List Cref) → HasReasons cs (P.state port.old) trail.old.steps → HasReasons cs (P.state port.new) trail.new.steps }
     ensures bare { (p : ℕ) → length trail.old.steps ≤ p → p < length trail.new.steps → reason_at trail.new.steps p ≡ None }
@@ -67,6 +68,7 @@ fn write_unit<P: Port>(port: &mut P, trail: &Trail, place: u32) -> Result<(), Po
     ensures wrote { OnOk result (OnlyWrote (P.state port.old) (P.state port.new)) }
     ensures held { (P.state port.new).held ≡ (P.state port.old).held }
     ensures looks { (P.state port.new).looks ≡ (P.state port.old).looks }
+    ensures waiting { (P.state port.new).waiting ≡ (P.state port.old).waiting }
     ensures nothing { OffersNothing (P.state port.old) (P.state port.new) }
     ensures port { IsPort (P.state port.new) }
 {
@@ -97,6 +99,7 @@ pub(crate) fn write_units<P: Port>(
     ensures wrote { OnOk result (OnlyWrote (P.state port.old) (P.state port.new)) }
     ensures held { (P.state port.new).held ≡ (P.state port.old).held }
     ensures looks { (P.state port.new).looks ≡ (P.state port.old).looks }
+    ensures waiting { (P.state port.new).waiting ≡ (P.state port.old).waiting }
     ensures nothing { OffersNothing (P.state port.old) (P.state port.new) }
     ensures port { IsPort (P.state port.new) }
 {

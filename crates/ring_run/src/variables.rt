@@ -1,14 +1,14 @@
 // Which variables the ring decides, and what it notes of them on the way: those of the start clauses are active, those that
 // lose their values keep them as their phases, and those that a conflict met move to the end of the queue (sorted by when
 // they were bumped before, as in CaDiCaL).
-ghost use Rattle.std.specs.Prelude.{◌≡◌, All, IfOk, OnOk, IsSome, Contains, length};
+ghost use Rattle.std.specs.Prelude.{◌≡◌, All, IfOk, OnOk, IsSome, Contains, length, map};
 ghost use Rattle.sat_words.specs.declared.shared.Cref.{Cref};
 ghost use Rattle.ring_port.specs.PortState.{IsPort, held_at, lits_at};
 ghost use Rattle.ring_trail.specs.TrailData.{IsTrail};
 ghost use Rattle.analyze.specs.AnalysisData.{IsVariable};
 ghost use Rattle.ring_run.specs.declared.variables.Bump.{Bump};
 ghost use Rattle.ring_run.specs.Searching.{IsHeldBy};
-ghost use Rattle.ring_run.specs.Strategy.{AreMore, AreMarked};
+ghost use Rattle.ring_run.specs.Strategy.{AreMore, AreMarked, AreMarkedBy, OccurMarked, saved_above};
 
 use ring_decide::Decider;
 use ring_port::Port;
@@ -25,6 +25,7 @@ fn mark_clause<P: Port>(port: &mut P, clause: Cref, marks: &mut Vec<bool>)
     ensures len { length marks.new.items ≡ length marks.old.items }
     ensures more { AreMore marks.old.items marks.new.items }
     ensures all { AreMarked marks.new.items (lits_at (P.state port.old) clause.address) }
+    ensures only { AreMarkedBy marks.old.items marks.new.items (lits_at (P.state port.old) clause.address) }
 {
     let size = port.head(clause).size;
     for i in 0..size {
@@ -46,6 +47,7 @@ pub(crate) fn active_of<P: Port>(
     ensures same { P.state port.new ≡ P.state port.old }
     ensures len { IfOk result (λ marks. length marks.items ≡ vars) }
     ensures all { IfOk result (λ marks. (c : Cref) → Contains clauses.now c → AreMarked marks.items (lits_at (P.state port.old) c.address)) }
+    ensures only { IfOk result (λ marks. OccurMarked marks.items (map (λ (c : Cref). lits_at (P.state port.old) c.address) clauses.now)) }
 {
     let mut marks = Vec::new(alloc);
     marks.resize(vars as usize, false)?;
@@ -59,6 +61,7 @@ pub(crate) fn active_of<P: Port>(
 pub(crate) fn save_phases(trail: &Trail, decider: &mut Decider, level: u32)
     requires trail { IsTrail trail.now }
     requires vars { length decider.old.active ≡ trail.now.vars }
+    ensures saved { decider.new ≡ saved_above decider.old trail.now.steps level }
     ensures active { decider.new.active ≡ decider.old.active }
 {
     if trail.present() <= level {

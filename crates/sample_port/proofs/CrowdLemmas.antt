@@ -3,7 +3,7 @@ use Rattle.std.proofs.Common.{◌≡◌, ◌∙◌, ℕ, ◌+◌, ◌-◌, ◌<�
 use Rattle.std.specs.List.{find}
 use Rattle.std.specs.declared.option.Option.{Option}
 use Rattle.std.proofs.Math.Seq.{take-length}
-use Rattle.std.proofs.lemmas.List.{take_more, take-append-drop, get_or-map, length-map, take-map}
+use Rattle.std.proofs.lemmas.List.{take_more, take-append-drop, get_or-map, length-map, take-map, map-append}
 use Rattle.std.proofs.lemmas.List.Elements.{All-take, All-cons, All-nil}
 use Rattle.std.proofs.lemmas.Bool.{eq-eqb}
 use Rattle.sat_words.specs.declared.shared.Cref.{Cref}
@@ -15,7 +15,8 @@ use Rattle.ring_port.specs.Port.{KeepsHeld}
 use Rattle.ring_port.specs.Exchange.{TookClause}
 use Rattle.ring_port.proofs.Holdings.{All_In}
 use Rattle.ring_port.proofs.PlainLemmas.{kept_pushed}
-use Rattle.sample_port.specs.Crowd.{crowd_of, front, IsLast}
+use Rattle.sample_port.specs.Crowd.{Asked, asked, crowd_of, front, IsLast, slot_of}
+use Rattle.sample_port.specs.declared.crowd.Poll.{Poll}
 
 pub held_same : (s u : PortState) (a : ℕ) → u.held ≡ s.held → held_at u a ≡ held_at s a
 unfolding held_at
@@ -69,12 +70,12 @@ unfolding held_at
 held_found s h among = among_found s.held h among
 
 -- what it holds is what the port in memory holds there
-pub crowd_held : (s : PortState) (l : ℕ) (taken : Option Cref) (stop : Option Stop) (looks : ℕ) (refused : Option PortStop) (polled a : ℕ) → IsLast s l
+pub crowd_held : (s : PortState) (l : ℕ) (taken : Option Cref) (stop : Option Stop) (looks : ℕ) (refused : Option PortStop) (polled : Asked) (a : ℕ) → IsLast s l
     → IsSome (held_at (crowd_of s taken stop looks refused polled) a) → held_at (crowd_of s taken stop looks refused polled) a ≡ held_at s a
 crowd_held s l None stop looks refused polled a last some = sym (kept_pushed (crowd_of s None stop looks refused polled) s last.clause last.there a some)
 crowd_held s l (Some c) stop looks refused polled a last some = held_same s (crowd_of s (Some c) stop looks refused polled) a refl
 
-pub held_here : (s : PortState) (l : ℕ) (taken : Option Cref) (stop : Option Stop) (looks : ℕ) (refused : Option PortStop) (polled a : ℕ) (u : PortState) → crowd_of s taken stop looks refused polled ≡ u → IsLast s l
+pub held_here : (s : PortState) (l : ℕ) (taken : Option Cref) (stop : Option Stop) (looks : ℕ) (refused : Option PortStop) (polled : Asked) (a : ℕ) (u : PortState) → crowd_of s taken stop looks refused polled ≡ u → IsLast s l
     → IsSome (held_at u a) → held_at u a ≡ held_at s a
 held_here s l taken stop looks refused polled a u e last some =
     let back : IsSome (held_at (crowd_of s taken stop looks refused polled) a) = subst (λ (v : PortState). IsSome (held_at v a)) (sym e) some in
@@ -82,14 +83,14 @@ held_here s l taken stop looks refused polled a u e last some =
 
 -- How it begins
 
-pub crowd_holds : (s : PortState) (l : ℕ) → IsLast s l → s.held ≡ s.start → HoldsStart s → HoldsStart (crowd_of s None None 0 None 0)
+pub crowd_holds : (s : PortState) (l : ℕ) → IsLast s l → s.held ≡ s.start → HoldsStart s → HoldsStart (crowd_of s None None 0 None (asked 0 [] 0))
 crowd_holds s l last held_is h k d lt =
     let x = get_or (front s.start) k d in
     let there : held_at s x.address ≡ Some x = All-take (λ (y : Holding). held_at s y.address ≡ Some y) (length s.start - 1) s.start h k d lt in
     let among : In x (front s.held) = subst (λ (hs : List Holding). In x (front hs)) (sym held_is) (In_get_or (front s.start) k d lt) in
-    sym (kept_pushed (crowd_of s None None 0 None 0) s last.clause last.there x.address (held_found (crowd_of s None None 0 None 0) x among)) ∙ there
+    sym (kept_pushed (crowd_of s None None 0 None (asked 0 [] 0)) s last.clause last.there x.address (held_found (crowd_of s None None 0 None (asked 0 [] 0)) x among)) ∙ there
 
-pub crowd_begins : (s : PortState) → IsPort s → IsPort (crowd_of s None None 0 None 0)
+pub crowd_begins : (s : PortState) → IsPort s → IsPort (crowd_of s None None 0 None (asked 0 [] 0))
 crowd_begins s p = record {
   held = All-take (IsKept s.vars) (length s.held - 1) s.held p.held;
   one = λ h k x y e. p.one h k (In_Contains s.held h (in_front s.held h (Contains_In (front s.held) h x))) (In_Contains s.held k (in_front s.held k (Contains_In (front s.held) k y))) e;
@@ -107,7 +108,7 @@ crowd_begins s p = record {
 
 -- What stays where nothing is taken
 
-pub crowd_goes_on : (s : PortState) (taken : Option Cref) (stop other : Option Stop) (looks more : ℕ) (refused told : Option PortStop) (polled polled_more : ℕ) → IsPort (crowd_of s taken stop looks refused polled) → IfSome other (IsStop 3)
+pub crowd_goes_on : (s : PortState) (taken : Option Cref) (stop other : Option Stop) (looks more : ℕ) (refused told : Option PortStop) (polled polled_more : Asked) → IsPort (crowd_of s taken stop looks refused polled) → IfSome other (IsStop 3)
     → IsPort (crowd_of s taken other more told polled_more)
 crowd_goes_on s taken stop other looks more refused told polled polled_more p is_stop = record {
   held = p.held;
@@ -124,21 +125,31 @@ crowd_goes_on s taken stop other looks more refused told polled polled_more p is
   ring = p.ring;
 }
 
+-- Polls
+
+-- one poll more
+abbrev pub asked_again : ℕ → ℕ → Asked → Asked
+asked_again from class q = record { polled = one_more q.polled; polls = q.polls ++ record { ring = from; class = class } ∷ []; caught_up = q.caught_up }
+
+pub asked_more : (n k m : ℕ) (ps qs : List Poll) (from class : ℕ) → m ≡ one_more n → qs ≡ ps ++ record { from = from; class = class } ∷ [] → asked m qs k ≡ asked_again from class (asked n ps k)
+asked_more n k m ps qs from class more is =
+    (λ i. asked (more i) (is i) k) ∙ (λ i. record { polled = one_more n; polls = map-append slot_of ps (record { from = from; class = class } ∷ []) i; caught_up = k })
+
 -- How the last clause is taken
 
 among_last : (s : PortState) (l : ℕ) (last : IsLast s l) → In last.clause s.held
 among_last s l last = subst (λ (hs : List Holding). In last.clause hs) (sym last.there) (In_append_right (front s.held) (last.clause ∷ []) last.clause (inl refl))
 
-module _ (s : PortState) (c : Cref) (last : IsLast s c.address) (port : IsPort s) (stop : Option Stop) (looks : ℕ) (refused : Option PortStop) (polled : ℕ) where
-  pub took : (n : ℕ) → n ≡ one_more polled → TookClause (crowd_of s None stop looks refused polled) (crowd_of s (Some c) stop looks refused n) c
-  took n e = record {
+module _ (s : PortState) (c : Cref) (last : IsLast s c.address) (port : IsPort s) (stop : Option Stop) (looks : ℕ) (refused : Option PortStop) (polled : Asked) where
+  pub took : (from class : ℕ) (n : Asked) → n ≡ asked_again from class polled → TookClause (crowd_of s None stop looks refused polled) (crowd_of s (Some c) stop looks refused n) from class c
+  took from class n e = record {
     clause = last.clause;
     address = last.address;
     kept = All_In (IsKept s.vars) s.held last.clause port.held (among_last s c.address last);
     state = λ i. record (crowd_of s (Some c) stop looks refused (e i)) { held = last.there i };
   }
 
-  pub port_taken : (n : ℕ) → IsPort (crowd_of s None stop looks refused polled) → IsPort (crowd_of s (Some c) stop looks refused n)
+  pub port_taken : (n : Asked) → IsPort (crowd_of s None stop looks refused polled) → IsPort (crowd_of s (Some c) stop looks refused n)
   port_taken n old = record {
     held = port.held;
     one = port.one;
@@ -156,5 +167,5 @@ module _ (s : PortState) (c : Cref) (last : IsLast s c.address) (port : IsPort s
     ring = old.ring;
   }
 
-  pub keeps_held : (n : ℕ) → KeepsHeld (crowd_of s None stop looks refused polled) (crowd_of s (Some c) stop looks refused n)
+  pub keeps_held : (n : Asked) → KeepsHeld (crowd_of s None stop looks refused polled) (crowd_of s (Some c) stop looks refused n)
   keeps_held n = kept_pushed (crowd_of s None stop looks refused polled) (crowd_of s (Some c) stop looks refused n) last.clause last.there

@@ -1,9 +1,10 @@
 -- The port of the tests: the second of three rings, over what a port in memory holds.
-use Rattle.std.specs.Prelude.{◌≡◌, ℕ, ◌-◌, [], ◌∷◌, ◌++◌, false, List, length, take, Option, Some, None}
+use Rattle.std.specs.Prelude.{◌≡◌, ℕ, ◌-◌, [], ◌∷◌, ◌++◌, false, List, map, length, take, Option, Some, None}
 use Rattle.sat_words.specs.declared.shared.Cref.{Cref}
 use Rattle.sat_words.specs.declared.shared.Stop.{Stop}
 use Rattle.ring_port.specs.declared.stops.PortStop.{PortStop}
-use Rattle.ring_port.specs.PortState.{Holding, PortState}
+use Rattle.ring_port.specs.PortState.{Holding, PortState, Slot}
+use Rattle.sample_port.specs.declared.crowd.Poll.{Poll}
 
 -- all but the last
 abbrev pub front : List Holding → List Holding
@@ -19,20 +20,35 @@ abbrev pub taken_of : Option Cref → List ℕ
 taken_of None = []
 taken_of (Some c) = c.address ∷ []
 
+-- how often it was polled and for which slots, and how often no unit was left
+pub record Asked : Type 0 where
+  pub polled : ℕ
+  pub polls : List Slot
+  pub caught_up : ℕ
+
+abbrev pub slot_of : Poll → Slot
+slot_of p = record { ring = p.from; class = p.class }
+
+abbrev pub asked : ℕ → List Poll → ℕ → Asked
+asked polled ps caught_up = record { polled = polled; polls = map slot_of ps; caught_up = caught_up }
+
 -- it starts with all clauses of the port in memory but the last, has no units and writes nothing; the other rings have nothing
 -- for it but this last one
-abbrev pub crowd_of : PortState → Option Cref → Option Stop → ℕ → Option PortStop → ℕ → PortState
-crowd_of s taken stop looks refused polled = record {
+abbrev pub crowd_of : PortState → Option Cref → Option Stop → ℕ → Option PortStop → Asked → PortState
+crowd_of s taken stop looks refused q = record {
   held = held_of s.held taken;
   waiting = [];
   seen = [];
   given = [];
   coming = 0;
+  kept = 0;
+  caught_up = q.caught_up;
   start = front s.start;
   opening = [];
   mine = [];
   shared = 0;
-  polled = polled;
+  polled = q.polled;
+  polls = q.polls;
   puts = [];
   taken = taken_of taken;
   vars = s.vars;

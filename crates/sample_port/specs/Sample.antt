@@ -1,5 +1,5 @@
 -- The state of the small port: three clauses that are held at the addresses 1 to 3, two units that were seen, and another ring's stop.
-use Rattle.std.specs.Prelude.{ℕ, Bool, true, false, [], ◌∷◌, Some, None, ◌==◌, List, map, if◌then◌else◌}
+use Rattle.std.specs.Prelude.{ℕ, ◌-◌, ◌^◌, Bool, true, false, [], ◌∷◌, Some, None, ◌==◌, List, map, if◌then◌else◌}
 use Rattle.std.specs.List.{range_with_len}
 use Rattle.sat_words.specs.Literal.{Literal}
 use Rattle.rup_model.specs.declared.journal.TheConstants.{LEARNED_PER_REDUCTION}
@@ -21,6 +21,7 @@ second = record { address = 2; number = 2; glue = 0; lits = lit 4 true ∷ lit 1
 abbrev pub third : Holding
 third = record { address = 3; number = 3; glue = 0; lits = lit 4 true ∷ lit 2 true ∷ lit 5 true ∷ [] }
 
+-- the count of looks that found no unit left stands at its last value
 abbrev pub sample_state : PortState
 sample_state = record {
   held = first ∷ second ∷ third ∷ [];
@@ -28,11 +29,14 @@ sample_state = record {
   seen = lit 1 false ∷ lit 4 false ∷ [];
   given = [];
   coming = 0;
+  kept = 0;
+  caught_up = 2 ^ 64 - 1;
   start = [];
   opening = [];
   mine = [];
   shared = 0;
   polled = 0;
+  polls = [];
   puts = [];
   taken = [];
   vars = 5;

@@ -1,7 +1,7 @@
 //! The second of three rings: another ring's stop appears, a clause is handed over, and each line is refused.
-ghost use Rattle.std.specs.Prelude.{◌≡◌, None, map, IfOk};
+ghost use Rattle.std.specs.Prelude.{◌≡◌, [], None, map, IfOk};
 ghost use Rattle.ring_port.specs.PortState.{Holding, IsPort, HoldsStart};
-ghost use Rattle.sample_port.specs.Crowd.{crowd_of};
+ghost use Rattle.sample_port.specs.Crowd.{asked, crowd_of};
 
 use drat_text::LineOut;
 use ring_port::{PlainPort, Port, PortStop, Set};
@@ -40,19 +40,21 @@ pub struct Crowd<L: LineOut> {
     /// The glue that the last lemma came with.
     glue: Option<u32>,
     polled: u64,
+    /// How often it was asked for a unit.
+    caught_up: u64,
     /// Which ring was polled and for which class, in order.
     polls: Vec<Poll>,
 }
 
 impl<L: LineOut> Model for Crowd<L> {
     ghost use Rattle.ring_port.specs.PortState.{PortState, IsPort};
-    ghost use Rattle.sample_port.specs.Crowd.{crowd_of, IsLast};
+    ghost use Rattle.sample_port.specs.Crowd.{asked, crowd_of, IsLast};
 
     ghost Value = { PortState };
 
-    ghost view = { λ p. crowd_of p.inner.state p.taken p.stop p.looks p.refused p.polled };
+    ghost view = { λ p. crowd_of p.inner.state p.taken p.stop p.looks p.refused (asked p.polled p.polls.items p.caught_up) };
 
-    ghost invariant = { λ p. IsPort (crowd_of p.inner.state p.taken p.stop p.looks p.refused p.polled) × IsLast p.inner.state p.last.address × IsPort p.inner.state };
+    ghost invariant = { λ p. IsPort (crowd_of p.inner.state p.taken p.stop p.looks p.refused (asked p.polled p.polls.items p.caught_up)) × IsLast p.inner.state p.last.address × IsPort p.inner.state };
 }
 
 /// The stop of the third ring.
@@ -99,7 +101,7 @@ impl<L: LineOut + Drop> Crowd<L> {
         requires port { IsPort inner.state }
         requires held { inner.state.held ≡ inner.state.start }
         requires holds { HoldsStart inner.state }
-        ensures port { IfOk result (λ made. made.0 ≡ crowd_of inner.state None None 0 None 0) }
+        ensures port { IfOk result (λ made. made.0 ≡ crowd_of inner.state None None 0 None (asked 0 [] 0)) }
         ensures holds { IfOk result (λ made. HoldsStart made.0) }
         ensures start { IfOk result (λ made. made.1.items ≡ map (λ (h : Holding). record { address = h.address }) made.0.start) }
     {
@@ -119,6 +121,7 @@ impl<L: LineOut + Drop> Crowd<L> {
             memory,
             glue: None,
             polled: 0,
+            caught_up: 0,
             polls: Vec::new(alloc),
         };
         Ok((crowd, start))
@@ -215,7 +218,7 @@ impl<L: LineOut> Port for Crowd<L> {
     }
 
     fn next_unit(&mut self) -> Option<Lit> {
-        self.glue = None;
+        self.caught_up = self.caught_up.saturating_add(1);
         None
     }
 

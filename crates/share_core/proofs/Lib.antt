@@ -27,4 +27,3 @@ pub mod Shown
 pub mod Lookups
 pub mod Stepping
 pub mod Beginning
-pub mod Openings

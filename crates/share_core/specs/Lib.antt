@@ -7,5 +7,4 @@ pub mod Sound
 pub mod Readable
 pub mod Machine
 pub mod Guards
-pub mod Openings
 pub mod Steps

@@ -160,7 +160,7 @@ fn start_clause(
     })
 }
 
-pub(crate) fn start_clauses(
+fn start_clauses(
     alloc: Global,
     clauses: &[Clause],
     start: &[(u64, u64)],

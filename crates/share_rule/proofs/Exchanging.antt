@@ -213,13 +213,13 @@ module _ {S : Type 0} (stands : S → BookOrigin → Layout → CoreOpening → 
         g,
         found,
         keeps_glues h.glue x p part.glues,
-        moved stands l s h d h.glue id v (after_get from class x g v) (took_part x g p) (set s.words (slot_word v from r class) 0) s.homes at
+        moved stands l s h d h.glue id v (after_get from class x g v) (took_part from class x g p) (set s.words (slot_word v from r class) 0) s.homes at
             (left_one c.opening c (Get r from class) h.left (part.ring, lt, other.2, few))
             (record { rings = h.places.rings; small = h.places.small; words = h.places.words; vars = h.places.vars; starts = h.places.starts; entries = h.places.entries; units = h.places.units; few = h.places.few; first = h.places.first })
             (subst (λ (y : ℕ). Words l d h.glue (set s.words y 0)) (sym word) (slot_words l c h.glue s.words i 0 r q' st in_slots h.words))
             (exchange_frame c r i 0 q' h.glue (λ _ _ _ _ _ _ _. refl))
-            (λ _. refl) h.home other.0 refl (ap (on_first (took_part x g)) other.0) refl refl refl refl refl
-            (stops_same c.stop v (after_get from class x g v) (took_part x g p) other.0 (ap (on_first (took_part x g)) other.0) refl refl f.stops)
+            (λ _. refl) h.home other.0 refl (ap (on_first (took_part from class x g)) other.0) refl refl refl refl refl
+            (stops_same c.stop v (after_get from class x g v) (took_part from class x g p) other.0 (ap (on_first (took_part from class x g)) other.0) refl refl f.stops)
             (record {
               ring = part.ring;
               part = (λ j. got_part x (part.part j)) ∙ sym (put_here c.part r q');
@@ -234,7 +234,7 @@ module _ {S : Type 0} (stands : S → BookOrigin → Layout → CoreOpening → 
               given = exchanged_given c r i 0 q' r p.gave part.given (λ _ _ _ _ _ nz. absurd (nz refl));
             })
             (λ y _ z. subst (λ (u : ℕ). IsOut l d (set s.words u 0) y) (sym word) (low_out l c d s.words (slot_at l i) 0 y st low (λ _. refl) refl refl (λ k' lt' e. omega arith) z))
-            (subst (λ (u : ℕ). IsOut l d (set s.words u 0) (took_part x g p)) (sym word) (low_out l c d s.words (slot_at l i) 0 (took_part x g p) st low (λ _. refl) refl refl (λ k' lt' e. omega arith) (h.stored id v 0 p at (ap (λ ps. get_elem? ps 0) other.0)))),
+            (subst (λ (u : ℕ). IsOut l d (set s.words u 0) (took_part from class x g p)) (sym word) (low_out l c d s.words (slot_at l i) 0 (took_part from class x g p) st low (λ _. refl) refl refl (λ k' lt' e. omega arith) (h.stored id v 0 p at (ap (λ ps. get_elem? ps 0) other.0)))),
       )
 
   pub gets : (slots id : ℕ) (me : Me (Option S) View) (from class : ℕ) → is_ready me.0.stage ≡ true → IsOther from me.0 → (only me.0).core.ring < me.0.opening.rings → class < 4

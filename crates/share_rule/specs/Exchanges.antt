@@ -1,5 +1,5 @@
 -- What puts, gets and stops make of views.
-use Rattle.std.specs.Prelude.{◌≡◌, ◌≢◌, ℕ, ◌<◌, ◌/◌, ◌%◌, ◌==◌, All, List, [], ◌∷◌, ◌++◌, Option, Some, None, MatchOption, if◌then◌else◌}
+use Rattle.std.specs.Prelude.{◌≡◌, ◌≢◌, ℕ, ◌+◌, ◌<◌, ◌/◌, ◌%◌, ◌==◌, All, List, [], ◌∷◌, ◌++◌, Option, Some, None, MatchOption, if◌then◌else◌}
 use mathlib.Core.Option.{some}
 use lib.ListN.{get_elem?}
 use Rattle.share_core.specs.declared.stored.ClauseAt.{ClauseAt}
@@ -43,9 +43,9 @@ KeepsGlues h g p = All (λ k. glue_in k.number (with_glue h g p.glues) ≡ glue_
 abbrev pub gave_part : PutNote → ClauseAt → ℕ → RingPart → RingPart
 gave_part n h g p = record p { core = put_part n h p.core; glues = with_glue h g p.glues; gave = p.gave ++ clause_in n.address p.core.held ∷ [] }
 
--- it holds what came out
-abbrev pub took_part : ClauseAt → ℕ → RingPart → RingPart
-took_part h g p = record p { core = got_part h p.core; glues = with_glue h g p.glues }
+-- it holds what came out, and notes the slot
+abbrev pub took_part : ℕ → ℕ → ClauseAt → ℕ → RingPart → RingPart
+took_part from class h g p = record p { core = got_part h p.core; glues = with_glue h g p.glues; polls = p.polls ++ record { from = from; class = class } ∷ [] }
 
 -- a count is swapped into the ring's slot for another
 abbrev pub after_put : ℕ → ℕ → ℕ → ClauseAt → ℕ → View → View
@@ -53,7 +53,7 @@ after_put to class a h g v = stepped (slot_word v (only v).core.ring to class) (
 
 -- a count is swapped out of another ring's slot for this one
 abbrev pub after_get : ℕ → ℕ → ClauseAt → ℕ → View → View
-after_get from class h g v = stepped (slot_word v from (only v).core.ring class) (Swap 0) h.address (changed (took_part h g) v)
+after_get from class h g v = stepped (slot_word v from (only v).core.ring class) (Swap 0) h.address (changed (took_part from class h g) v)
 
 -- The stop
 
@@ -74,9 +74,9 @@ MayFind v (Some s) = MatchOption v.stop ((i : ℕ) (p : RingPart) → get_elem? 
 abbrev pub set_part : Stop → RingPart → RingPart
 set_part s p = record p { set = Some s }
 
--- the stop word is read
+-- the stop word is read; a look that finds no stop is counted
 abbrev pub after_look : ℕ → View → View
-after_look n v = record (stepped 1 Load n v) { stop = stop_of n }
+after_look n v = record (stepped 1 Load n v) { stop = stop_of n; looks = if n == 0 then v.looks + 1 else v.looks }
 
 -- the ring's stop is set, where none stood
 abbrev pub after_win : ℕ → View → View

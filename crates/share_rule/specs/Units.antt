@@ -1,5 +1,5 @@
 -- Listed units.
-use Rattle.std.specs.Prelude.{◌≡◌, ◌+◌, ℕ, true, false, [], ◌∷◌, length, Some, None, is_some}
+use Rattle.std.specs.Prelude.{◌≡◌, ◌+◌, ◌==◌, ℕ, true, false, [], ◌∷◌, if◌then◌else◌, length, Some, None, is_some}
 use Rattle.sat_words.specs.Literal.{Literal, code_of}
 use Rattle.sat_words.specs.Clause.{has}
 use Rattle.rup_model.specs.Journal.{is_told}
@@ -34,9 +34,9 @@ unit_part n p = record p { unit = Some n }
 abbrev pub list_part : Literal → RingPart → RingPart
 list_part lit p = record p { core = seen_part lit p.core; listed = p.listed + 1; unit = None }
 
--- so many are listed: all of them while the ring has the turn
+-- so many are listed: all of them while the ring has the turn; whether it has seen as many is noted
 abbrev pub count_part : ℕ → RingPart → RingPart
-count_part n p = record p { listed = n; whole = is_some p.turn }
+count_part n p = record p { listed = n; whole = is_some p.turn; caught_up = if n == length p.core.seen then p.caught_up + 1 else p.caught_up }
 
 -- the ring has seen one more
 abbrev pub see_part : Literal → RingPart → RingPart

@@ -84,7 +84,7 @@ no_origin = record { tells = false; target = None; flushed = None; faults = 0; k
 
 -- before the table is open
 abbrev pub closed_view : Layout → View
-closed_view l = record { stage = Draft; layout = l; opening = no_opening; origin = no_origin; steps = 0; last = None; stop = None; rights = []; parts = [] }
+closed_view l = record { stage = Draft; layout = l; opening = no_opening; origin = no_origin; steps = 0; last = None; stop = None; looks = 0; rights = []; parts = [] }
 
 -- with the slot in hand
 abbrev pub taken_view : Layout → View
@@ -92,7 +92,7 @@ taken_view l = record (closed_view l) { steps = 1 }
 
 -- with these rights, and no ring yet
 abbrev pub view : Layout → CoreOpening → BookOrigin → List ℕ → View
-view l o w rights = record { stage = Open; layout = l; opening = o; origin = w; steps = 0; last = None; stop = None; rights = rights; parts = [] }
+view l o w rights = record { stage = Open; layout = l; opening = o; origin = w; steps = 0; last = None; stop = None; looks = 0; rights = rights; parts = [] }
 
 -- the first pass's
 abbrev pub first_view : Layout → CoreOpening → BookOrigin → View
@@ -104,7 +104,7 @@ spent_view = record (closed_view (record { rings = 0; vars = 0; words = 0 })) { 
 
 -- no ring's
 abbrev pub no_part : RingPart
-no_part = record { core = blank 0; glues = []; stored = []; turn = None; listed = 0; whole = false; unit = None; refused = None; failed = false; set = None; ended = false; gave = [] }
+no_part = record { core = blank 0; glues = []; stored = []; turn = None; listed = 0; whole = false; unit = None; refused = None; failed = false; set = None; ended = false; gave = []; polls = []; caught_up = 0 }
 
 -- the part of the pass's one ring
 abbrev pub only : View → RingPart

@@ -54,7 +54,7 @@ pub use unit_laws::{
 };
 pub use unit_plays::{CountsUnits, ListsUnit, SeesUnit, StoresUnit, Unit};
 pub use view::{
-    BookOrigin, GlueAt, LastStep, Op, Refusal, RingPart, Stage, StoredWord, Taken, View,
+    BookOrigin, GlueAt, LastStep, Op, Poll, Refusal, RingPart, Stage, StoredWord, Taken, View,
 };
 
 /// How many rings, variables and words for cells a table has.

@@ -71,6 +71,14 @@ pub enum Refusal {
     },
 }
 
+/// A look into the slot of a class that another ring has for this one.
+pub struct Poll {
+    /// The other ring.
+    pub from: u32,
+    /// The class.
+    pub class: u8,
+}
+
 /// What one ring has.
 pub struct RingPart {
     /// Its part of the core.
@@ -97,6 +105,10 @@ pub struct RingPart {
     pub ended: bool,
     /// The clauses that it put into slots.
     pub gave: LinkedList<ClauseAt>,
+    /// The slots of other rings that it swapped out, in order, whether or not a clause lay there.
+    pub polls: LinkedList<Poll>,
+    /// How often it read how many units are listed, where it had seen as many.
+    pub caught_up: u64,
 }
 
 /// What a book was when the table was made: what its sink told, and whether it keeps its lines.
@@ -139,6 +151,8 @@ pub struct View {
     pub last: Option<LastStep>,
     /// The stop that it has seen.
     pub stop: Option<Stop>,
+    /// How often it looked for a stop and found none.
+    pub looks: u64,
     /// The rings whose grants it may yet take.
     pub rights: LinkedList<u32>,
     /// The parts of its rings.

@@ -1,8 +1,8 @@
 use Rattle.std.proofs.Common.{◌≡◌, List, map, sym, ap, ◌∙◌}
 use Rattle.sat_words.specs.Literal.{Literal}
 use Rattle.share_core.specs.Machine.{start_at}
-use Rattle.share_core.specs.Openings.{opens}
-use Rattle.share_core.proofs.Openings.{opening_from}
+use Rattle.core_trials.specs.Fitting.{opens}
+use Rattle.core_trials.proofs.Fitting.{opening_from}
 use Rattle.core_trials.proofs.opener.core_over.Goals as goal
 
 pub new-requires : goal.new-requires

@@ -36,7 +36,7 @@ make_port-requires-clause-pass g c =
     let first = c.args.first.now in
     let none : length c.loop-pass.rest.items ≡ 0 = sym c.loop-pass.rest.ok.0 ∙ eqb-true _ _ (sym c.is_empty.ensures ∙ c.if-is_empty.true) in
     let b = placed_next c.args.table.now first.me.0 (home_of first) c.args.plan.now c.loop-pass.ring c.loop-pass.made.items c.loop-pass.rest.items (into_iter_items c.loop-pass.pass-iterator) (into_iter_items c.next.new.self) c.in-Some.pass at.0 c.in-Some.ensures.steps.0 none at.5 in
-    (b.pass, b.unstopped)
+    (b.pass, b.unstopped, b.unlooked)
 
 pub make_port-requires-clause-granted : goal.make_port-requires-clause-granted
 make_port-requires-clause-granted g c =

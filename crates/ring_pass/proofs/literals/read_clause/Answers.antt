@@ -12,7 +12,7 @@ pub loop-i-init : goal.loop-i-init
 loop-i-init g c = record {
   pass = c.requires.pass;
   same = (refl, refl);
-  looked = record { parts = refl; layout = refl; opening = refl; stop = refl };
+  looked = record { parts = refl; layout = refl; opening = refl; stop = refl; looks = refl };
   lits = c.requires.empty;
   capacity = refl;
 }

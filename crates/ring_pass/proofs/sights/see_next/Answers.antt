@@ -1,5 +1,5 @@
 use Rattle.std.proofs.Common.{length, ap, arith}
-use Rattle.ring_pass.proofs.SeenHere.{saw_place, arrived_place}
+use Rattle.ring_pass.proofs.SeenHere.{saw_one, saw_all, saw_place, arrived_place}
 use Rattle.ring_pass.proofs.sights.see_next.Goals as goal
 
 pub push_reserved-requires : goal.push_reserved-requires
@@ -16,3 +16,13 @@ push_reserved-requires-2 g c =
     let room = c.requires.units.arrived_room_is in
     let place = arrived_place c.args.pass.now.me.0 c.next_unit.new.pass.me.0 c.in_ok-lit.lit n.0 c.args.arrived.now.items c.requires.pass.1 n.2 c.next_unit.ensures.pass.0.3 c.requires.arrived.0 c.requires.arrived.1 in
     omega arith
+
+pub returns-in_err-lit-clause-saw : goal.returns-in_err-lit-clause-saw
+returns-in_err-lit-clause-saw g c =
+    let len = c.len.ensures in
+    saw_all c.args.pass.now.me.0 c.next_unit.new.pass.me.0 c.args.seen.now.items c.args.arrived.now.items c.len.result c.from_residual.result c.from_residual.ensures c.requires.pass.1 c.requires.units.all (omega arith) c.in_err-lit.ensures.unit
+
+pub returns-clause-saw : goal.returns-clause-saw
+returns-clause-saw g c =
+    let len = c.len.ensures in
+    saw_one c.len.result c.requires.pass.1 c.requires.units.all (omega arith) c.in_ok-lit.ensures.unit c.push_reserved.ensures.items c.push_reserved-2.ensures.items

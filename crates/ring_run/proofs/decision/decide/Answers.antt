@@ -15,7 +15,7 @@ returns-in-Some-clause-leads g c =
     let after : Ring = record c.args.ring.now { trail = c.decide.new.self; decider = c.next.new.self } in
     goes_on_by s s c.args.ring.now after c.args.limit
     (subst (λ (t : TrailData). Searches s t c.args.ring.now.watches c.args.ring.now.written) (sym c.decide.ensures.step)
-    (decided_search s c.args.ring.now.trail c.args.ring.now.watches c.args.ring.now.written c.in-Some.lit c.requires.search c.requires.quiet c.requires.first (subst IsTrail c.decide.ensures.step c.decide.ensures.trail)))
+    (decided_search s c.args.ring.now.trail c.args.ring.now.watches c.args.ring.now.written _ c.requires.search c.requires.quiet c.requires.first (subst IsTrail c.decide.ensures.step c.decide.ensures.trail)))
     c.requires.below (λ start p. p)
 
 pub returns-in-Ok-clause-leads : goal.returns-in-Ok-clause-leads
@@ -33,3 +33,6 @@ returns-in-Ok-clause-polls g c = λ p. polled_whole (g.P.Port.state c.args.port.
 
 pub returns-in-Err-clause-polls : goal.returns-in-Err-clause-polls
 returns-in-Err-clause-polls g c = λ p. polled_over (g.P.Port.state c.args.port.now) c.args.ring.now p.polled
+
+pub returns-in-Some-clause-decided : goal.returns-in-Some-clause-decided
+returns-in-Some-clause-decided g c = λ on. record { lit = c.in-Some.lit; chosen = c.in-Some.ensures.some; trail = c.decide.ensures.step; phases = c.next.ensures.same }

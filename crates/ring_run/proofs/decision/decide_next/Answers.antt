@@ -1,11 +1,13 @@
-use Rattle.std.proofs.Common.{◌≡◌, ◌∙◌, ap, subst, sym, arith, inl, inr, refl, length}
+use Rattle.std.proofs.Common.{◌≡◌, false, ◌∙◌, ap, subst, sym, arith, inl, inr, refl, length}
 use Rattle.ring_port.specs.PortState.{PortState, one_more}
-use Rattle.ring_trail.specs.TrailData.{TrailData}
-use Rattle.ring_decide.specs.DeciderData.{DeciderData}
+use Rattle.ring_trail.specs.TrailData.{TrailData, decided}
+use Rattle.std.proofs.lemmas.Bool.{false≢true}
+use Rattle.ring_decide.specs.DeciderData.{DeciderData, IsDecided}
 use Rattle.ring_run.specs.Ended.{HasPolled}
 use Rattle.ring_run.specs.Searching.{GoesOn, OffersNothing}
 use Rattle.ring_run.specs.Ending.{ComesTo}
 use Rattle.ring_run.specs.Course.{imports_of, IsOffering}
+use Rattle.ring_run.specs.declared.ring.Ring.{Ring}
 use Rattle.ring_run.proofs.Deciding.{decides_by}
 use Rattle.ring_run.proofs.Lending.{offering_stays}
 use Rattle.ring_run.proofs.Listing.{listed_same}
@@ -16,6 +18,18 @@ use Rattle.ring_run.proofs.Tidying.{refused_halted}
 use Rattle.ring_run.proofs.Turning.{quiet_same, looked_search, compose}
 use Rattle.ring_run.proofs.decision.decide_next.Goals as goal
 use Rattle.ring_run.proofs.Numbering.{kept_looked}
+use Rattle.ring_run.proofs.Rounds.{imports_halted, imports_over, imports_same, importing_same, imported_settled}
+use Rattle.ring_run.specs.Ended.{ImportsBy}
+use Rattle.ring_run.specs.Course.{HasImportedBy}
+use Rattle.ring_run.proofs.InTime.{in_time_halted, in_time_any, in_time_more, in_time_wrote}
+use Rattle.ring_run.specs.Course.{IsInTimeAt, IsInTimeBy}
+use Rattle.ring_run.specs.Searching.{OnlyWrote}
+use Rattle.ring_run.proofs.Progress.{wrote_by, looked_wrote}
+use Rattle.watch_prop.proofs.Growing.{HasGrown-refl}
+use Rattle.watch_prop.specs.WatchData.{attached}
+use Rattle.ring_trail.specs.TrailData.{HasGrown}
+use Rattle.restart_plan.specs.Plan.{Restarting}
+use Rattle.std.proofs.lemmas.Bool.{false≢true}
 
 pub write_pending-requires : goal.write_pending-requires
 write_pending-requires g c = record {
@@ -204,3 +218,101 @@ pub renew-requires-clause-quiet : goal.renew-requires-clause-quiet
 renew-requires-clause-quiet g c =
     quiet_same (g.P.Port.state c.args.port.now) (g.P.Port.state c.write_pending.new.port) c.args.ring.now.trail c.write_pending.new.ring.trail c.args.ring.now.watches c.write_pending.new.ring.watches
     (c.write_pending.ensures.held ∙ ap (λ (x : PortState). x.held) c.in_default.ensures.looked.1) c.write_pending.ensures.trail c.write_pending.ensures.watches c.requires.quiet
+
+pub returns-in-Some-clause-imports : goal.returns-in-Some-clause-imports
+returns-in-Some-clause-imports g c = λ start p h.
+    let s = g.P.Port.state c.args.port.now in
+    let m = g.P.Port.state c.stopped.new.self in
+    imports_over start m c.args.ring.now (imports_same start s m (imports_of c.args.ring.now) (nothing_looked s m c.stopped.result c.stopped.ensures.looked) h)
+
+pub returns-in-Err-clause-imports : goal.returns-in-Err-clause-imports
+returns-in-Err-clause-imports g c = λ start p h.
+    let s = g.P.Port.state c.args.port.now in
+    let m = g.P.Port.state c.stopped.new.self in
+    let w = g.P.Port.state c.write_pending.new.port in
+    let old = c.args.ring.now in
+    let ring = c.write_pending.new.ring in
+    let nothing : OffersNothing s w = nothing_then s m w (nothing_looked s m c.stopped.result c.stopped.ensures.looked) c.write_pending.ensures.nothing in
+    subst (ImportsBy start w ring.restarts.made) (sym c.end_refused.ensures)
+    (imports_halted start w ring.restarts.made _ (refused_halted c.in-Err.stop) (imports_over start w ring (importing_same start s w old ring nothing c.write_pending.ensures.restarts c.write_pending.ensures.pending h)))
+
+pub returns-then-ring-clause-imports : goal.returns-then-ring-clause-imports
+returns-then-ring-clause-imports g c = λ start p h.
+    let s = g.P.Port.state c.args.port.now in
+    let m = g.P.Port.state c.stopped.new.self in
+    let w = g.P.Port.state c.write_pending.new.port in
+    let old = c.args.ring.now in
+    let ring = c.write_pending.new.ring in
+    let nothing : OffersNothing s w = nothing_then s m w (nothing_looked s m c.stopped.result c.stopped.ensures.looked) c.write_pending.ensures.nothing in
+    c.renew.ensures.imports start (polling_same s w old ring nothing c.write_pending.ensures.offers.place c.write_pending.ensures.restarts c.write_pending.ensures.pending (ap (λ (t : TrailData). t.level) c.write_pending.ensures.trail) p)
+    (importing_same start s w old ring nothing c.write_pending.ensures.restarts c.write_pending.ensures.pending h)
+
+pub returns-clause-imports : goal.returns-clause-imports
+returns-clause-imports g c = λ start p h.
+    let s = g.P.Port.state c.args.port.now in
+    let m = g.P.Port.state c.stopped.new.self in
+    let w = g.P.Port.state c.write_pending.new.port in
+    let old = c.args.ring.now in
+    let ring = c.write_pending.new.ring in
+    let nothing : OffersNothing s w = nothing_then s m w (nothing_looked s m c.stopped.result c.stopped.ensures.looked) c.write_pending.ensures.nothing in
+    let after = c.decide.new.ring in
+    subst (λ (x : PortState). HasImportedBy start x after c.decide.result) (sym c.decide.ensures.same)
+    (imported_settled start w after c.decide.result (c.decide.ensures.pending ∙ c.if-ring.false)
+    (importing_same start s w old after nothing (c.decide.ensures.restarts ∙ c.write_pending.ensures.restarts) (c.decide.ensures.pending ∙ c.write_pending.ensures.pending) h))
+
+pub returns-then-ring-clause-renewed : goal.returns-then-ring-clause-renewed
+returns-then-ring-clause-renewed g c = λ on pending.
+    let s = g.P.Port.state c.args.port.now in
+    let m = g.P.Port.state c.stopped.new.self in
+    let w = g.P.Port.state c.write_pending.new.port in
+    let lines : OnlyWrote s w = wrote_by s m w (looked_wrote s m (one_more s.looks) c.in_default.ensures.looked.1 c.stopped.ensures.log) c.in-Ok.ensures.wrote in
+    record {
+      middle = w;
+      ring = c.write_pending.new.ring;
+      lines = lines;
+      grown = subst (HasGrown c.args.ring.now.trail) (sym c.write_pending.ensures.trail) (HasGrown-refl c.args.ring.now.trail);
+      same_clauses = ap attached c.write_pending.ensures.watches;
+      same_ring = c.write_pending.ensures.same ∙ ap (λ (r : Ring). record c.args.ring.now { trail = r.trail; watches = r.watches; written = c.write_pending.new.ring.written }) (sym c.write_pending.ensures.same);
+      renewed = c.renew.ensures.renewed on;
+      settled = c.renew.ensures.settled on;
+    }
+
+pub returns-clause-renewed : goal.returns-clause-renewed
+returns-clause-renewed g c = λ on pending. absurd (false≢true (sym c.if-ring.false ∙ c.write_pending.ensures.pending ∙ pending))
+
+pub returns-in-Err-clause-in_time : goal.returns-in-Err-clause-in_time
+returns-in-Err-clause-in_time g c = λ p h.
+    let w = g.P.Port.state c.write_pending.new.port in
+    let ring = c.write_pending.new.ring in
+    subst (IsInTimeAt w ring.restarts) (sym c.end_refused.ensures) (in_time_halted w ring.restarts _ (refused_halted c.in-Err.stop))
+
+pub returns-then-ring-clause-in_time : goal.returns-then-ring-clause-in_time
+returns-then-ring-clause-in_time g c = λ p h. c.renew.ensures.in_time
+
+pub returns-clause-in_time : goal.returns-clause-in_time
+returns-clause-in_time g c = λ p h.
+    let s = g.P.Port.state c.args.port.now in
+    let m = g.P.Port.state c.stopped.new.self in
+    let w = g.P.Port.state c.write_pending.new.port in
+    let lines : OnlyWrote s w = wrote_by s m w (looked_wrote s m (one_more s.looks) c.in_default.ensures.looked.1 c.stopped.ensures.log) c.in-Ok.ensures.wrote in
+    let old = c.args.ring.now in
+    let after = c.decide.new.ring in
+    let settled : old.pending ≡ false = sym c.write_pending.ensures.pending ∙ c.if-ring.false in
+    let since = ap (λ (r : Restarting). r.since) (c.decide.ensures.restarts ∙ c.write_pending.ensures.restarts) in
+    subst (λ (x : PortState). IsInTimeBy x after c.decide.result) (sym c.decide.ensures.same)
+    (in_time_any w after c.decide.result (in_time_more w old.restarts.since after.restarts.since (sym since) (in_time_wrote s w old.restarts.since lines (h settled))))
+
+pub returns-clause-decided : goal.returns-clause-decided
+returns-clause-decided g c = λ on settled.
+    (let trail = c.write_pending.ensures.trail in
+    let decider = c.write_pending.ensures.decider in
+    let p = c.decide.ensures.decided on in
+    record {
+      lit = p.lit;
+      chosen = subst (λ (d : DeciderData). IsDecided d c.args.ring.now.trail.steps p.lit) decider (subst (λ (t : TrailData). IsDecided c.write_pending.new.ring.decider t.steps p.lit) trail p.chosen);
+      trail = p.trail ∙ ap (λ (t : TrailData). decided t p.lit) trail;
+      phases = p.phases ∙ decider;
+    })
+
+pub returns-then-ring-clause-decided : goal.returns-then-ring-clause-decided
+returns-then-ring-clause-decided g c = λ on settled. absurd (false≢true (sym settled ∙ sym c.write_pending.ensures.pending ∙ c.if-ring.true))

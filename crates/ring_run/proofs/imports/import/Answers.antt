@@ -1,8 +1,8 @@
-use Rattle.std.proofs.Common.{◌≡◌, ◌∙◌, ◌≤◌, ◌+◌, ℕ, ap, sym, subst, arith, refl, Bool, false, IsSome, Contains}
+use Rattle.std.proofs.Common.{◌≡◌, ◌∙◌, ◌++◌, List, ◌≤◌, ◌+◌, ℕ, ap, sym, subst, arith, refl, Bool, false, IsSome, Contains}
 use Rattle.std.specs.Prelude.{if◌then◌else◌}
 use Rattle.std.proofs.lemmas.Bool.{false≢true}
-use Rattle.ring_port.specs.PortState.{PortState, Holding, held_at}
-use Rattle.ring_run.specs.Ended.{polls_of}
+use Rattle.ring_port.specs.PortState.{PortState, Slot, Holding, held_at}
+use Rattle.ring_run.specs.Ended.{polls_of, LookedAlong, rounds, import_slots}
 use Rattle.ring_run.specs.Searching.{OffersNothing, GoesOn, IsHeldBy}
 use Rattle.rup_model.specs.Journal.{learned}
 use Rattle.ring_run.specs.Course.{imports_of}
@@ -21,6 +21,8 @@ use Rattle.ring_port.proofs.Holdings.{All_In}
 use Rattle.rup_model.proofs.Lists.{Contains_In}
 use Rattle.watch_prop.specs.WatchData.{attached}
 use Rattle.std.specs.declared.option.Option.{Option}
+use Rattle.ring_run.proofs.Rounds.{imports_halted, imports_over, imports_same, imports_count, imports_part, imports_more, slots_same}
+use Rattle.ring_run.proofs.InTime.{in_time_halted, in_time_same, in_time_more}
 
 pub returns-in-Opposed-clause-leads : goal.returns-in-Opposed-clause-leads
 returns-in-Opposed-clause-leads g c = λ limit below start p.
@@ -156,3 +158,57 @@ returns-clause-listed g c = λ on p.
       grown = grown_none s u (ap (λ (x : PortState). x.mine) only ∙ saw.mine);
       noted = reductions_still s u (ap (λ (x : PortState). x.ring) only ∙ saw.stays.ring) (ap (λ (x : PortState). x.mine) only ∙ saw.mine);
     }) p
+
+pub returns-in-Opposed-clause-imports : goal.returns-in-Opposed-clause-imports
+returns-in-Opposed-clause-imports g c = λ start p h.
+    let s = g.P.Port.state c.args.port.now in
+    let m = g.P.Port.state c.take_units.new.port in
+    let u = g.P.Port.state c.refute.new.port in
+    let ring = c.args.ring.now in
+    let nothing : OffersNothing s u = nothing_then s m u (saw_nothing s m c.take_units.ensures.saw) c.refute.ensures.nothing in
+    imports_halted start u ring.restarts.made c.refute.result c.refute.ensures.halted (imports_over start u ring (imports_same start s u (imports_of ring) nothing h))
+
+pub returns-in-Err-clause-imports : goal.returns-in-Err-clause-imports
+returns-in-Err-clause-imports g c = λ start p h.
+    let s = g.P.Port.state c.args.port.now in
+    let m = g.P.Port.state c.take_units.new.port in
+    let u = g.P.Port.state c.take_clauses.new.port in
+    let ring = c.args.ring.now in
+    let after = c.take_clauses.new.ring in
+    let made : ℕ = ring.restarts.made in
+    let only = c.take_clauses.ensures.only.state in
+    let none : imports_of ring ≡ made = ap (λ (b : Bool). if b then made else made + 1) c.requires.pending in
+    let before = imports_count start m (imports_of ring) made none (imports_same start s m (imports_of ring) (saw_nothing s m c.take_units.ensures.saw) h) in
+    let same : after.restarts.made ≡ made = ap (λ (r : Ring). r.restarts.made) c.take_clauses.ensures.same in
+    subst (λ (k : ℕ). LookedAlong start u (rounds k (import_slots u))) (let e : made + 1 ≡ 1 + after.restarts.made = omega (arith, same) in e)
+    (imports_part start m u made (ap (λ (x : PortState). x.ring) only) (ap (λ (x : PortState). x.rings) only) before c.take_clauses.ensures.along)
+
+pub returns-clause-imports : goal.returns-clause-imports
+returns-clause-imports g c = λ start p h.
+    let s = g.P.Port.state c.args.port.now in
+    let m = g.P.Port.state c.take_units.new.port in
+    let u = g.P.Port.state c.take_clauses.new.port in
+    let ring = c.args.ring.now in
+    let after = c.take_clauses.new.ring in
+    let made : ℕ = ring.restarts.made in
+    let only = c.take_clauses.ensures.only.state in
+    let saw = c.take_units.ensures.saw in
+    let none : imports_of ring ≡ made = ap (λ (b : Bool). if b then made else made + 1) c.requires.pending in
+    let same : after.restarts.made ≡ made = ap (λ (r : Ring). r.restarts.made) c.take_clauses.ensures.same in
+    let looked : u.polls ≡ s.polls ++ import_slots s =
+    c.in-Ok.ensures.looked ∙ ap (λ (xs : List Slot). xs ++ import_slots m) saw.polls ∙ ap (λ (xs : List Slot). s.polls ++ xs) (slots_same s m saw.stays.ring saw.stays.rings) in
+    imports_count start u (made + 1) (after.restarts.made + 1) (omega (arith, same))
+    (imports_more start s u made (ap (λ (x : PortState). x.ring) only ∙ saw.stays.ring) (ap (λ (x : PortState). x.rings) only ∙ saw.stays.rings) (imports_count start s (imports_of ring) made none h) looked
+    (ap (λ (x : PortState). x.caught_up) only ∙ c.take_units.ensures.caught_up c.in-True.is))
+
+pub returns-in-Opposed-clause-in_time : goal.returns-in-Opposed-clause-in_time
+returns-in-Opposed-clause-in_time g c = λ h. in_time_halted (g.P.Port.state c.refute.new.port) c.args.ring.now.restarts c.refute.result c.refute.ensures.halted
+
+pub returns-clause-in_time : goal.returns-clause-in_time
+returns-clause-in_time g c = λ h settled.
+    let s = g.P.Port.state c.args.port.now in
+    let u = g.P.Port.state c.take_clauses.new.port in
+    let only = c.take_clauses.ensures.only.state in
+    let saw = c.take_units.ensures.saw in
+    in_time_same s u c.take_clauses.new.ring.restarts.since (ap (λ (x : PortState). x.ring) only ∙ saw.stays.ring) (ap (λ (x : PortState). x.mine) only ∙ saw.mine)
+    (in_time_more s c.args.ring.now.restarts.since c.take_clauses.new.ring.restarts.since (ap (λ (r : Ring). r.restarts.since) (sym c.take_clauses.ensures.same)) h)

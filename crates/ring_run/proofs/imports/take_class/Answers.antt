@@ -3,7 +3,7 @@ use Rattle.std.specs.declared.option.Option.{Option}
 use Rattle.std.proofs.lemmas.List.Elements.{All-cons, All-nil}
 use Rattle.sat_words.specs.declared.shared.Cref.{Cref}
 use Rattle.ring_port.specs.PortState.{PortState}
-use Rattle.ring_port.specs.Exchange.{TookClause, Polled, looked_again}
+use Rattle.ring_port.specs.Exchange.{TookClause, Polled, looked_into}
 use Rattle.watch_prop.specs.WatchData.{attached}
 use Rattle.rup_model.proofs.Lists.{Contains_In, In_Contains, In_append_left}
 use Rattle.ring_run.specs.Searching.{IsHeldBy, KeepsOn}
@@ -16,37 +16,37 @@ returns-in_default-taken-clause-search g c =
     let s = g.P.Port.state c.args.port.now in
     let u = g.P.Port.state c.poll.new.self in
     let ring = c.args.ring.now in
-    let is : u ≡ looked_again s = subst (λ (o : Option Cref). Polled s u (Ok o)) c.in_default-taken.is c.in-Ok.ensures.polled in
-    polls_search s u [] (polled_none s u is) (omega arith) ring.trail ring.watches ring.watches ring.written c.requires.search c.requires.level c.poll.ensures.port
+    let is : u ≡ looked_into c.args.from c.args.class s = subst (λ (o : Option Cref). Polled s u c.args.from c.args.class (Ok o)) c.in_default-taken.is c.in-Ok.ensures.polled in
+    polls_search s u [] (polled_none s u c.args.from c.args.class is) (omega arith) ring.trail ring.watches ring.watches ring.written c.requires.search c.requires.level c.poll.ensures.port
     (sym (append-nil (attached ring.watches))) (All-nil (IsHeldBy u)) (λ v w. w)
 
 pub returns-in_default-taken-clause-keeps : goal.returns-in_default-taken-clause-keeps
 returns-in_default-taken-clause-keeps g c =
     let s = g.P.Port.state c.args.port.now in
     let u = g.P.Port.state c.poll.new.self in
-    let is : u ≡ looked_again s = subst (λ (o : Option Cref). Polled s u (Ok o)) c.in_default-taken.is c.in-Ok.ensures.polled in
-    polls_keep s u [] (polled_none s u is) (omega arith) c.poll.ensures.log c.poll.ensures.port
+    let is : u ≡ looked_into c.args.from c.args.class s = subst (λ (o : Option Cref). Polled s u c.args.from c.args.class (Ok o)) c.in_default-taken.is c.in-Ok.ensures.polled in
+    polls_keep s u [] (polled_none s u c.args.from c.args.class is) (omega arith) c.poll.ensures.log c.poll.ensures.port
 
 pub attach-requires-clause-held : goal.attach-requires-clause-held
 attach-requires-clause-held g c =
     let s = g.P.Port.state c.args.port.now in
     let u = g.P.Port.state c.poll.new.self in
-    let took : TookClause s u c.in-Some.clause = subst (λ (o : Option Cref). Polled s u (Ok o)) c.in-Some.is c.in-Ok.ensures.polled in
-    taken_held s u c.in-Some.clause took c.poll.ensures.port
+    let took : TookClause s u c.args.from c.args.class c.in-Some.clause = subst (λ (o : Option Cref). Polled s u c.args.from c.args.class (Ok o)) c.in-Some.is c.in-Ok.ensures.polled in
+    taken_held s u c.args.from c.args.class c.in-Some.clause took c.poll.ensures.port
 
 pub returns-in_err-attach-clause-keeps : goal.returns-in_err-attach-clause-keeps
 returns-in_err-attach-clause-keeps g c =
     let s = g.P.Port.state c.args.port.now in
     let u = g.P.Port.state c.poll.new.self in
-    let took : TookClause s u c.in-Some.clause = subst (λ (o : Option Cref). Polled s u (Ok o)) c.in-Some.is c.in-Ok.ensures.polled in
-    subst (KeepsOn s) (sym c.attach.ensures.same) (polls_keep s u (c.in-Some.clause ∷ []) (polled_some s u c.in-Some.clause took c.poll.ensures.kept) (omega arith) c.poll.ensures.log c.poll.ensures.port)
+    let took : TookClause s u c.args.from c.args.class c.in-Some.clause = subst (λ (o : Option Cref). Polled s u c.args.from c.args.class (Ok o)) c.in-Some.is c.in-Ok.ensures.polled in
+    subst (KeepsOn s) (sym c.attach.ensures.same) (polls_keep s u (c.in-Some.clause ∷ []) (polled_some s u c.args.from c.args.class c.in-Some.clause took c.poll.ensures.kept) (omega arith) c.poll.ensures.log c.poll.ensures.port)
 
 pub returns-clause-keeps : goal.returns-clause-keeps
 returns-clause-keeps g c =
     let s = g.P.Port.state c.args.port.now in
     let u = g.P.Port.state c.poll.new.self in
-    let took : TookClause s u c.in-Some.clause = subst (λ (o : Option Cref). Polled s u (Ok o)) c.in-Some.is c.in-Ok.ensures.polled in
-    subst (KeepsOn s) (sym c.attach.ensures.same) (polls_keep s u (c.in-Some.clause ∷ []) (polled_some s u c.in-Some.clause took c.poll.ensures.kept) (omega arith) c.poll.ensures.log c.poll.ensures.port)
+    let took : TookClause s u c.args.from c.args.class c.in-Some.clause = subst (λ (o : Option Cref). Polled s u c.args.from c.args.class (Ok o)) c.in-Some.is c.in-Ok.ensures.polled in
+    subst (KeepsOn s) (sym c.attach.ensures.same) (polls_keep s u (c.in-Some.clause ∷ []) (polled_some s u c.args.from c.args.class c.in-Some.clause took c.poll.ensures.kept) (omega arith) c.poll.ensures.log c.poll.ensures.port)
 
 pub returns-clause-search : goal.returns-clause-search
 returns-clause-search g c =
@@ -54,10 +54,10 @@ returns-clause-search g c =
     let u = g.P.Port.state c.poll.new.self in
     let ring = c.args.ring.now in
     let clause = c.in-Some.clause in
-    let took : TookClause s u clause = subst (λ (o : Option Cref). Polled s u (Ok o)) c.in-Some.is c.in-Ok.ensures.polled in
+    let took : TookClause s u c.args.from c.args.class clause = subst (λ (o : Option Cref). Polled s u c.args.from c.args.class (Ok o)) c.in-Some.is c.in-Ok.ensures.polled in
     subst (λ (x : PortState). Searches x ring.trail c.attach.new.self ring.written) (sym c.attach.ensures.same)
-    (polls_search s u (clause ∷ []) (polled_some s u clause took c.poll.ensures.kept) (omega arith) ring.trail ring.watches c.attach.new.self ring.written c.requires.search c.requires.level c.poll.ensures.port
-    c.in_ok-attach.ensures.attached (All-cons (IsHeldBy u) clause [] (taken_held s u clause took c.poll.ensures.port) (All-nil (IsHeldBy u))) c.attach.ensures.watched)
+    (polls_search s u (clause ∷ []) (polled_some s u c.args.from c.args.class clause took c.poll.ensures.kept) (omega arith) ring.trail ring.watches c.attach.new.self ring.written c.requires.search c.requires.level c.poll.ensures.port
+    c.in_ok-attach.ensures.attached (All-cons (IsHeldBy u) clause [] (taken_held s u c.args.from c.args.class clause took c.poll.ensures.port) (All-nil (IsHeldBy u))) c.attach.ensures.watched)
 
 pub returns-clause-more : goal.returns-clause-more
 returns-clause-more g c = λ d there.

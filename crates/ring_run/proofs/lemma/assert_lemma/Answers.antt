@@ -31,6 +31,7 @@ returns-clause-asserted g c =
       parts = a.parts;
       trail = c.assign.ensures.step ∙ ap (λ (l : Literal). assigned c.go_back.new.ring.trail l c.args.address) first;
       shape = c.assign.ensures.trail;
+      phases = c.go_back.ensures.phases;
       clauses = c.in_ok-attach_lemma.ensures.attached ∙ ap (λ (w : WatchData). attached w ++ option_to_list c.args.address) same;
       listed = record {
         lemmas = c.in_ok-attach_lemma.ensures.listed ∙ ap (λ (r : Ring). r.lemmas.items ++ option_to_list c.args.address) c.go_back.ensures.same;

@@ -1,15 +1,19 @@
 use Rattle.std.proofs.Common.{◌≤◌, ◌+◌, subst, sym, refl, List}
 use Rattle.sat_words.specs.Literal.{Literal}
 use Rattle.ring_port.specs.PortState.{PortState}
-use Rattle.ring_run.specs.Searching.{IsAsserting, GoesOn, OffersNothing}
-use Rattle.ring_run.proofs.Lending.{offering_stays}
+use Rattle.ring_run.specs.Searching.{IsAsserting, GoesOn, HoldsByGlue, OffersNothing}
+use Rattle.ring_run.proofs.Lending.{offering_stays, left_alike}
 use Rattle.ring_run.specs.declared.ring.Ring.{Ring}
 use Rattle.ring_run.specs.Ended.{polls_of}
-use Rattle.ring_run.specs.Course.{HasLemmas, IsPolling, imports_of}
+use Rattle.ring_run.specs.Course.{HasLemmas, HasLearned, IsPolling, imports_of}
 use Rattle.ring_run.proofs.Polling.{polls_same, polled_over, polled_halted}
 use Rattle.ring_run.proofs.Asserting.{lemma_asserts}
 use Rattle.ring_run.proofs.Turning.{compose}
 use Rattle.ring_run.proofs.lemma.learn_from.Goals as goal
+use Rattle.ring_run.proofs.Rounds.{imports_halted, imports_over, imports_same}
+use Rattle.ring_run.specs.Ended.{HasImported, LookedAlong, rounds, import_slots}
+use Rattle.ring_run.proofs.InTime.{in_time_halted, sums_exact}
+use Rattle.ring_run.specs.Ended.{IsInTime}
 
 pub learn_lemma-requires-clause-lemma : goal.learn_lemma-requires-clause-lemma
 learn_lemma-requires-clause-lemma g c =
@@ -60,3 +64,61 @@ learn_lemma-requires-clause-listed g c =
     let p = c.requires.listed in
     let between : Ring = record c.args.ring.now { decider = c.bump_met.new.decider; bumps = c.bump_met.new.bumps } in
     subst (λ (x : PortState). HasLemmas x between) (sym c.analyze.ensures.same) (record { ordered = p.ordered; glued = p.glued; noted = p.noted; distinct = p.distinct; member = p.member; apart = p.apart; count = p.count; few = p.few })
+
+pub returns-then-is_err-clause-imports : goal.returns-then-is_err-clause-imports
+returns-then-is_err-clause-imports g c = λ start p h.
+    subst (λ (x : PortState). LookedAlong start x (rounds (1 + c.args.ring.now.restarts.made) (import_slots x))) (sym c.analyze.ensures.same) (imports_over start (g.P.Port.state c.args.port.now) c.args.ring.now h)
+
+pub returns-in-Empty-clause-imports : goal.returns-in-Empty-clause-imports
+returns-in-Empty-clause-imports g c = λ start p h.
+    let s = g.P.Port.state c.args.port.now in
+    let u = g.P.Port.state c.refute.new.port in
+    let ring = c.args.ring.now in
+    let nothing : OffersNothing s u = subst (λ (x : PortState). OffersNothing x u) c.analyze.ensures.same c.refute.ensures.nothing in
+    imports_halted start u ring.restarts.made c.refute.result c.refute.ensures.halted (imports_over start u ring (imports_same start s u (imports_of ring) nothing h))
+
+pub returns-else-is_err-clause-imports : goal.returns-else-is_err-clause-imports
+returns-else-is_err-clause-imports g c = λ start p h.
+    let between : Ring = record c.args.ring.now { decider = c.bump_met.new.decider; bumps = c.bump_met.new.bumps } in
+    c.learn_lemma.ensures.imports start (subst (λ (x : PortState). IsPolling x between) (sym c.analyze.ensures.same) (record { place = p.place; polled = p.polled; low = p.low }))
+    (subst (λ (x : PortState). HasImported start x (imports_of between)) (sym c.analyze.ensures.same) h)
+
+pub returns-else-is_err-clause-stored : goal.returns-else-is_err-clause-stored
+returns-else-is_err-clause-stored g c =
+    subst (λ (x : PortState). HoldsByGlue x (g.P.Port.state c.learn_lemma.new.port) c.args.ring.now.trail.steps) c.analyze.ensures.same c.learn_lemma.ensures.stored
+
+pub returns-in-Empty-clause-in_time : goal.returns-in-Empty-clause-in_time
+returns-in-Empty-clause-in_time g c = λ p h. in_time_halted (g.P.Port.state c.refute.new.port) c.args.ring.now.restarts c.refute.result c.refute.ensures.halted
+
+pub returns-else-is_err-clause-in_time : goal.returns-else-is_err-clause-in_time
+returns-else-is_err-clause-in_time g c = λ p h.
+    let between : Ring = record c.args.ring.now { decider = c.bump_met.new.decider; bumps = c.bump_met.new.bumps } in
+    c.learn_lemma.ensures.in_time (subst (λ (x : PortState). IsPolling x between) (sym c.analyze.ensures.same) (record { place = p.place; polled = p.polled; low = p.low }))
+    (λ settled. subst (λ (x : PortState). IsInTime x between.restarts.since) (sym c.analyze.ensures.same) (h settled))
+
+pub returns-then-is_err-clause-sums : goal.returns-then-is_err-clause-sums
+returns-then-is_err-clause-sums g c = sums_exact c.args.ring.now.restarts c.args.ring.now.learned c.args.limit c.requires.paced c.requires.below
+
+pub returns-in-Empty-clause-sums : goal.returns-in-Empty-clause-sums
+returns-in-Empty-clause-sums g c = sums_exact c.args.ring.now.restarts c.args.ring.now.learned c.args.limit c.requires.paced c.requires.below
+
+pub returns-else-is_err-clause-learns : goal.returns-else-is_err-clause-learns
+returns-else-is_err-clause-learns g c = λ on.
+    (let u = g.P.Port.state c.learn_lemma.new.port in
+    let old = c.args.ring.now in
+    let between : Ring = record old { decider = c.bump_met.new.decider; bumps = c.bump_met.new.bumps } in
+    let new = c.learn_lemma.new.ring in
+    let p = subst (λ (ls : List Literal). HasLearned (g.P.Port.state c.analyze.new.port) u between new ls) c.lits.ensures (c.learn_lemma.ensures.learns on) in
+    subst (λ (x : PortState). HasLearned x u old new c.analyze.new.self.lits) c.analyze.ensures.same (record {
+      back = p.back;
+      glue = p.glue;
+      address = p.address;
+      asserting = p.asserting;
+      counted = p.counted;
+      stored = p.stored;
+      restarts = p.restarts;
+      pending = p.pending;
+      left = left_alike u (record between { pending = new.pending }) (record old { pending = new.pending }) new c.analyze.new.self.lits p.back p.address
+          (record { pending = refl; trail = refl; watches = refl; lemmas = refl; reductions = refl; reduced_at = refl; written = refl; decider = c.bump_met.ensures.same })
+          p.left;
+    }))

@@ -1,4 +1,4 @@
-use Rattle.std.proofs.Common.{◌≡◌, ◌≤◌, ◌+◌, ◌∙◌, ◌++◌, ℕ, ap, subst, sym, refl, arith}
+use Rattle.std.proofs.Common.{◌≡◌, false, ◌≤◌, ◌+◌, ◌∙◌, ◌++◌, ℕ, ap, subst, sym, refl, arith}
 use Rattle.std.specs.Prelude.{if◌then◌else◌}
 use Rattle.restart_plan.specs.Plan.{Restarting, asked, is_due}
 use Rattle.ring_run.specs.Ended.{HasPolled, polls_of}
@@ -10,14 +10,14 @@ use Rattle.ring_run.specs.declared.job.End.{End}
 use Rattle.ring_run.specs.declared.job.End.TheVariants.{Memory}
 use Rattle.ring_run.specs.Searching.{GoesOn, HoldsByGlue, IsAsserting}
 use Rattle.ring_run.proofs.Offering.{only_lent, nothing_refused}
-use Rattle.ring_run.proofs.Lending.{lent_held, lent_goes_on, lent_search, left_before, lent_glue, offering_stays, offering_learned}
+use Rattle.ring_run.proofs.Lending.{lent_held, lent_goes_on, lent_search, left_before, left_alike, stored_at, lent_glue, offering_stays, offering_learned}
 use Rattle.ring_run.proofs.Tidying.{tidied_search, held_stays, refused_last, refused_halted}
 use Rattle.ring_run.specs.Ended.{last_looks}
 use Rattle.ring_run.specs.Ending.{ComesTo, end_refused}
 use Rattle.std.specs.Option.{option_to_list}
 use Rattle.watch_prop.specs.WatchData.{attached}
 use Rattle.ring_run.proofs.Listing.{left_lists, listed_learned}
-use Rattle.ring_run.specs.Course.{GoesOnBy, InSearch, HasLemmas, CanAssert, IsOffering, IsPolling, imports_of}
+use Rattle.ring_run.specs.Course.{GoesOnBy, InSearch, HasLemmas, HasLearned, CanAssert, IsOffering, IsPolling, imports_of}
 use Rattle.ring_run.specs.declared.ring.Ring.{Ring}
 use Rattle.ring_run.proofs.Asserting.{can_assert, back_below}
 use Rattle.ring_run.proofs.Learning.{learned_any, goes_on_by, left_search, left_level}
@@ -25,6 +25,14 @@ use Rattle.ring_run.proofs.Remembering.{held_same}
 use Rattle.ring_run.proofs.Progress.{out_of_memory, refused_ends, spent, learned_looks, learned_by_glue, recent_still, glue_bounds}
 use Rattle.ring_run.proofs.lemma.learn_lemma.Goals as goal
 use Rattle.ring_run.proofs.Numbering.{grown_none, grown_then, reductions_still}
+use Rattle.ring_run.proofs.Rounds.{imports_halted, imports_over, imports_same, imports_as, imports_count, imports_whole, imports_along}
+use Rattle.ring_run.specs.Ended.{HasImported, ImportsBy, LookedAlong, rounds, import_slots}
+use Rattle.ring_run.proofs.InTime.{in_time_halted, in_time_same, in_time_more, in_time_wrote, in_time_learned, asked_since, sums_exact, sums_noted}
+use Rattle.ring_run.specs.Course.{IsInTimeAt, SumsUp}
+use Rattle.ring_run.specs.Ended.{IsInTime}
+use Rattle.restart_plan.specs.Plan.{noted}
+use Rattle.restart_plan.proofs.Restarting.{exact-more}
+use Rattle.ring_run.proofs.Pacing.{asked_odd}
 
 pub returns-then-ring-limit-clause-leads : goal.returns-then-ring-limit-clause-leads
 returns-then-ring-limit-clause-leads g c = λ start p.
@@ -168,7 +176,7 @@ returns-then-ring-limit-clause-paced g c =
     let noted_is = ap (λ (r : Ring). r.restarts) c.offer_lemma.ensures.same ∙ c.note.ensures in
     subst (λ (n : ℕ). IsPaced c.offer_lemma.new.ring.restarts n c.args.limit) (sym count)
     (subst (λ (r : Restarting). IsPaced r (c.args.ring.now.learned + 1) c.args.limit) (sym noted_is)
-    (paced_last c.args.ring.now.restarts c.args.ring.now.learned c.args.glue c.args.limit c.requires.paced c.requires.below (sym count ∙ c.if-ring-limit.true)))
+    (paced_last c.args.ring.now.restarts c.args.ring.now.learned _ c.args.limit c.requires.paced c.requires.below (sym count ∙ c.if-ring-limit.true)))
 
 pub returns-in-Ok-leave_conflict-clause-paced : goal.returns-in-Ok-leave_conflict-clause-paced
 returns-in-Ok-leave_conflict-clause-paced g c =
@@ -176,7 +184,7 @@ returns-in-Ok-leave_conflict-clause-paced g c =
     let noted_is = ap (λ (r : Ring). r.restarts) c.offer_lemma.ensures.same ∙ c.note.ensures in
     subst (λ (n : ℕ). IsPaced c.leave_conflict.new.ring.restarts n c.args.limit) (sym (c.leave_conflict.ensures.learned ∙ count))
     (subst (λ (r : Restarting). IsPaced r (c.args.ring.now.learned + 1) c.args.limit) (sym (c.leave_conflict.ensures.restarts ∙ c.due-ring.ensures.asked ∙ ap asked noted_is))
-    (paced_more c.args.ring.now.restarts c.args.ring.now.learned c.args.glue c.args.limit c.requires.paced c.requires.below (λ e. c.if-ring-limit.false (count ∙ e))))
+    (paced_more c.args.ring.now.restarts c.args.ring.now.learned _ c.args.limit c.requires.paced c.requires.below (λ e. c.if-ring-limit.false (count ∙ e))))
 
 pub returns-in-Err-leave_conflict-clause-paced : goal.returns-in-Err-leave_conflict-clause-paced
 returns-in-Err-leave_conflict-clause-paced g c =
@@ -184,7 +192,7 @@ returns-in-Err-leave_conflict-clause-paced g c =
     let noted_is = ap (λ (r : Ring). r.restarts) c.offer_lemma.ensures.same ∙ c.note.ensures in
     subst (λ (n : ℕ). IsPaced c.leave_conflict.new.ring.restarts n c.args.limit) (sym (c.leave_conflict.ensures.learned ∙ count))
     (subst (λ (r : Restarting). IsPaced r (c.args.ring.now.learned + 1) c.args.limit) (sym (c.leave_conflict.ensures.restarts ∙ c.due-ring.ensures.asked ∙ ap asked noted_is))
-    (paced_more c.args.ring.now.restarts c.args.ring.now.learned c.args.glue c.args.limit c.requires.paced c.requires.below (λ e. c.if-ring-limit.false (count ∙ e))))
+    (paced_more c.args.ring.now.restarts c.args.ring.now.learned _ c.args.limit c.requires.paced c.requires.below (λ e. c.if-ring-limit.false (count ∙ e))))
 
 pub returns-then-ring-limit-clause-offering : goal.returns-then-ring-limit-clause-offering
 returns-then-ring-limit-clause-offering g c =
@@ -278,7 +286,7 @@ returns-in-Err-tidy_up-clause-paced g c =
     let noted_is = ap (λ (r : Ring). r.restarts) c.offer_lemma.ensures.same ∙ c.note.ensures in
     subst (λ (n : ℕ). IsPaced c.due-ring.new.self n c.args.limit) (sym count)
     (subst (λ (r : Restarting). IsPaced r (c.args.ring.now.learned + 1) c.args.limit) (sym (c.due-ring.ensures.asked ∙ ap asked noted_is))
-    (paced_more c.args.ring.now.restarts c.args.ring.now.learned c.args.glue c.args.limit c.requires.paced c.requires.below (λ e. c.if-ring-limit.false (count ∙ e))))
+    (paced_more c.args.ring.now.restarts c.args.ring.now.learned _ c.args.limit c.requires.paced c.requires.below (λ e. c.if-ring-limit.false (count ∙ e))))
 
 pub returns-in-Err-tidy_up-clause-offering : goal.returns-in-Err-tidy_up-clause-offering
 returns-in-Err-tidy_up-clause-offering g c =
@@ -409,3 +417,198 @@ returns-in-Ok-leave_conflict-clause-listed g c = λ on.
     (grown_then u v w (grown_none u v (ap (λ (x : PortState). x.mine) lent.state)) wrote.grown)
     (wrote.reduced ∙ reductions_still u v (ap (λ (x : PortState). x.ring) lent.state) (ap (λ (x : PortState). x.mine) lent.state))
     (λ long. (glue_bounds old.trail.steps c.args.lits.now c.args.glue c.requires.glue long).0) c.requires.listed))
+
+pub returns-in-Err-clause-imports : goal.returns-in-Err-clause-imports
+returns-in-Err-clause-imports g c = λ start p h.
+    let s = g.P.Port.state c.args.port.now in
+    let u = g.P.Port.state c.learn.new.self in
+    let ring = c.args.ring.now in
+    subst (ImportsBy start u ring.restarts.made) (sym c.end_refused.ensures)
+    (imports_halted start u ring.restarts.made (end_refused c.in-Err.stop) (refused_halted c.in-Err.stop)
+    (imports_over start u ring (imports_same start s u (imports_of ring) (nothing_refused s u c.in-Err.stop c.in-Err.ensures.learned) h)))
+
+pub returns-then-ring-limit-clause-imports : goal.returns-then-ring-limit-clause-imports
+returns-then-ring-limit-clause-imports g c = λ start p h.
+    let s = g.P.Port.state c.args.port.now in
+    let u = g.P.Port.state c.learn.new.self in
+    let v = g.P.Port.state c.offer_lemma.new.port in
+    let ring = c.args.ring.now in
+    let middle = c.offer_lemma.new.ring in
+    let lent = only_lent u v c.in-Ok.address ring.exported ring.offered middle.exported middle.offered c.offer_lemma.ensures.lent in
+    let still : SamePolls s v = same_then s u v (same_learned s u c.args.lits.now c.args.glue c.in-Ok.address c.in-Ok.ensures.learned) (same_lent u v lent) in
+    let below = back_below s ring.trail c.args.lits.now c.args.back c.requires.lemma c.requires.search.trail in
+    let whole = imports_as start s v (1 + ring.restarts.made) still (imports_whole start s ring (settled_above s ring p (omega (arith, below))) h) in
+    let made : middle.restarts.made ≡ ring.restarts.made = ap (λ (r : Ring). r.restarts.made) c.offer_lemma.ensures.same ∙ ap (λ (r : Restarting). r.made) c.note.ensures in
+    imports_count start v (1 + ring.restarts.made) (1 + middle.restarts.made) (omega (arith, made)) whole
+
+pub returns-in-Err-tidy_up-clause-imports : goal.returns-in-Err-tidy_up-clause-imports
+returns-in-Err-tidy_up-clause-imports g c = λ start p h.
+    let s = g.P.Port.state c.args.port.now in
+    let u = g.P.Port.state c.learn.new.self in
+    let v = g.P.Port.state c.offer_lemma.new.port in
+    let ring = c.args.ring.now in
+    let middle = c.offer_lemma.new.ring in
+    let lent = only_lent u v c.in-Ok.address ring.exported ring.offered middle.exported middle.offered c.offer_lemma.ensures.lent in
+    let still : SamePolls s v = same_then s u v (same_learned s u c.args.lits.now c.args.glue c.in-Ok.address c.in-Ok.ensures.learned) (same_lent u v lent) in
+    let below = back_below s ring.trail c.args.lits.now c.args.back c.requires.lemma c.requires.search.trail in
+    let whole = imports_as start s v (1 + ring.restarts.made) still (imports_whole start s ring (settled_above s ring p (omega (arith, below))) h) in
+    let made : middle.restarts.made ≡ ring.restarts.made = ap (λ (r : Ring). r.restarts.made) c.offer_lemma.ensures.same ∙ ap (λ (r : Restarting). r.made) c.note.ensures in
+    let w = g.P.Port.state c.tidy_up.new.port in
+    let after = imports_same start v w (1 + ring.restarts.made) c.tidy_up.ensures.nothing whole in
+    let grown : middle.restarts.made ≤ c.due-ring.new.self.made = subst (λ (r : Restarting). middle.restarts.made ≤ r.made) (sym c.due-ring.ensures.asked) (asked_more middle.restarts) in
+    subst (ImportsBy start w c.due-ring.new.self.made) (sym c.end_refused-in-Err-tidy_up.ensures)
+    (imports_halted start w c.due-ring.new.self.made (end_refused c.in-Err-tidy_up.stop) (refused_halted c.in-Err-tidy_up.stop)
+    (imports_along start w (1 + ring.restarts.made) (1 + c.due-ring.new.self.made) (omega (arith, grown, made)) after))
+
+pub returns-in-Err-leave_conflict-clause-imports : goal.returns-in-Err-leave_conflict-clause-imports
+returns-in-Err-leave_conflict-clause-imports g c = λ start p h.
+    let s = g.P.Port.state c.args.port.now in
+    let u = g.P.Port.state c.learn.new.self in
+    let v = g.P.Port.state c.offer_lemma.new.port in
+    let ring = c.args.ring.now in
+    let middle = c.offer_lemma.new.ring in
+    let lent = only_lent u v c.in-Ok.address ring.exported ring.offered middle.exported middle.offered c.offer_lemma.ensures.lent in
+    let still : SamePolls s v = same_then s u v (same_learned s u c.args.lits.now c.args.glue c.in-Ok.address c.in-Ok.ensures.learned) (same_lent u v lent) in
+    let below = back_below s ring.trail c.args.lits.now c.args.back c.requires.lemma c.requires.search.trail in
+    let whole = imports_as start s v (1 + ring.restarts.made) still (imports_whole start s ring (settled_above s ring p (omega (arith, below))) h) in
+    let made : middle.restarts.made ≡ ring.restarts.made = ap (λ (r : Ring). r.restarts.made) c.offer_lemma.ensures.same ∙ ap (λ (r : Restarting). r.made) c.note.ensures in
+    let w = g.P.Port.state c.tidy_up.new.port in
+    let after = imports_same start v w (1 + ring.restarts.made) c.tidy_up.ensures.nothing whole in
+    let grown : middle.restarts.made ≤ c.due-ring.new.self.made = subst (λ (r : Restarting). middle.restarts.made ≤ r.made) (sym c.due-ring.ensures.asked) (asked_more middle.restarts) in
+    let same = ap (λ (r : Restarting). r.made) c.leave_conflict.ensures.restarts in
+    subst (λ (x : PortState). LookedAlong start x (rounds (1 + c.leave_conflict.new.ring.restarts.made) (import_slots x))) (sym c.leave_conflict.ensures.same)
+    (imports_along start w (1 + ring.restarts.made) (1 + c.leave_conflict.new.ring.restarts.made) (omega (arith, grown, made, same)) after)
+
+pub returns-in-Ok-leave_conflict-clause-imports : goal.returns-in-Ok-leave_conflict-clause-imports
+returns-in-Ok-leave_conflict-clause-imports g c = λ start p h.
+    let s = g.P.Port.state c.args.port.now in
+    let u = g.P.Port.state c.learn.new.self in
+    let v = g.P.Port.state c.offer_lemma.new.port in
+    let ring = c.args.ring.now in
+    let middle = c.offer_lemma.new.ring in
+    let lent = only_lent u v c.in-Ok.address ring.exported ring.offered middle.exported middle.offered c.offer_lemma.ensures.lent in
+    let still : SamePolls s v = same_then s u v (same_learned s u c.args.lits.now c.args.glue c.in-Ok.address c.in-Ok.ensures.learned) (same_lent u v lent) in
+    let below = back_below s ring.trail c.args.lits.now c.args.back c.requires.lemma c.requires.search.trail in
+    let whole = imports_as start s v (1 + ring.restarts.made) still (imports_whole start s ring (settled_above s ring p (omega (arith, below))) h) in
+    let made : middle.restarts.made ≡ ring.restarts.made = ap (λ (r : Ring). r.restarts.made) c.offer_lemma.ensures.same ∙ ap (λ (r : Restarting). r.made) c.note.ensures in
+    let w = g.P.Port.state c.tidy_up.new.port in
+    let after = imports_same start v w (1 + ring.restarts.made) c.tidy_up.ensures.nothing whole in
+    let left = c.leave_conflict.new.ring in
+    let restarts : left.restarts ≡ asked middle.restarts = c.leave_conflict.ensures.restarts ∙ c.due-ring.ensures.asked in
+    let pending : left.pending ≡ is_due middle.restarts = c.leave_conflict.ensures.pending ∙ c.due-ring.ensures.due in
+    let imports : imports_of left ≡ middle.restarts.made + 1 =
+    ap (λ (r : Restarting). if left.pending then r.made else r.made + 1) restarts ∙ asked_imports middle.restarts left.pending pending in
+    subst (λ (x : PortState). HasImported start x (imports_of left)) (sym c.leave_conflict.ensures.same)
+    (imports_count start w (1 + ring.restarts.made) (imports_of left) (omega (arith, imports, made)) after)
+
+pub returns-in-Err-clause-in_time : goal.returns-in-Err-clause-in_time
+returns-in-Err-clause-in_time g c = λ p h.
+    let u = g.P.Port.state c.learn.new.self in
+    let r = c.args.ring.now.restarts in
+    subst (IsInTimeAt u r) (sym c.end_refused.ensures) (in_time_halted u r (end_refused c.in-Err.stop) (refused_halted c.in-Err.stop))
+
+pub returns-then-ring-limit-clause-in_time : goal.returns-then-ring-limit-clause-in_time
+returns-then-ring-limit-clause-in_time g c = λ p h.
+    let s = g.P.Port.state c.args.port.now in
+    let u = g.P.Port.state c.learn.new.self in
+    let v = g.P.Port.state c.offer_lemma.new.port in
+    let ring = c.args.ring.now in
+    let middle = c.offer_lemma.new.ring in
+    let lent = only_lent u v c.in-Ok.address ring.exported ring.offered middle.exported middle.offered c.offer_lemma.ensures.lent in
+    let below = back_below s ring.trail c.args.lits.now c.args.back c.requires.lemma c.requires.search.trail in
+    let settled : ring.pending ≡ false = settled_above s ring p (omega (arith, below)) in
+    let since : middle.restarts.since ≡ ring.restarts.since + 1 = ap (λ (r : Ring). r.restarts.since) c.offer_lemma.ensures.same ∙ ap (λ (r : Restarting). r.since) c.note.ensures in
+    let after : IsInTime v middle.restarts.since =
+    in_time_more v (ring.restarts.since + 1) middle.restarts.since (sym since) (in_time_same u v (ring.restarts.since + 1) (ap (λ (x : PortState). x.ring) lent.state) (ap (λ (x : PortState). x.mine) lent.state)
+    (in_time_learned s u c.args.lits.now c.args.glue c.in-Ok.address ring.restarts.since c.in-Ok.ensures.learned (h settled))) in
+    after
+
+pub returns-in-Err-tidy_up-clause-in_time : goal.returns-in-Err-tidy_up-clause-in_time
+returns-in-Err-tidy_up-clause-in_time g c = λ p h.
+    let w = g.P.Port.state c.tidy_up.new.port in
+    subst (IsInTimeAt w c.due-ring.new.self) (sym c.end_refused-in-Err-tidy_up.ensures) (in_time_halted w c.due-ring.new.self (end_refused c.in-Err-tidy_up.stop) (refused_halted c.in-Err-tidy_up.stop))
+
+pub returns-in-Ok-leave_conflict-clause-in_time : goal.returns-in-Ok-leave_conflict-clause-in_time
+returns-in-Ok-leave_conflict-clause-in_time g c = λ p h left_settled.
+    let s = g.P.Port.state c.args.port.now in
+    let u = g.P.Port.state c.learn.new.self in
+    let v = g.P.Port.state c.offer_lemma.new.port in
+    let ring = c.args.ring.now in
+    let middle = c.offer_lemma.new.ring in
+    let lent = only_lent u v c.in-Ok.address ring.exported ring.offered middle.exported middle.offered c.offer_lemma.ensures.lent in
+    let below = back_below s ring.trail c.args.lits.now c.args.back c.requires.lemma c.requires.search.trail in
+    let settled : ring.pending ≡ false = settled_above s ring p (omega (arith, below)) in
+    let since : middle.restarts.since ≡ ring.restarts.since + 1 = ap (λ (r : Ring). r.restarts.since) c.offer_lemma.ensures.same ∙ ap (λ (r : Restarting). r.since) c.note.ensures in
+    let after : IsInTime v middle.restarts.since =
+    in_time_more v (ring.restarts.since + 1) middle.restarts.since (sym since) (in_time_same u v (ring.restarts.since + 1) (ap (λ (x : PortState). x.ring) lent.state) (ap (λ (x : PortState). x.mine) lent.state)
+    (in_time_learned s u c.args.lits.now c.args.glue c.in-Ok.address ring.restarts.since c.in-Ok.ensures.learned (h settled))) in
+    let w = g.P.Port.state c.tidy_up.new.port in
+    let left = c.leave_conflict.new.ring in
+    let restarts : left.restarts ≡ asked middle.restarts = c.leave_conflict.ensures.restarts ∙ c.due-ring.ensures.asked in
+    let pending : left.pending ≡ is_due middle.restarts = c.leave_conflict.ensures.pending ∙ c.due-ring.ensures.due in
+    let same : left.restarts.since ≡ middle.restarts.since = ap (λ (r : Restarting). r.since) restarts ∙ asked_since middle.restarts (sym pending ∙ left_settled) in
+    subst (λ (x : PortState). IsInTime x left.restarts.since) (sym c.leave_conflict.ensures.same)
+    (in_time_wrote v w left.restarts.since c.in-Ok-tidy_up.ensures.wrote (in_time_more v middle.restarts.since left.restarts.since (sym same) after))
+
+pub returns-in-Ok-leave_conflict-clause-above : goal.returns-in-Ok-leave_conflict-clause-above
+returns-in-Ok-leave_conflict-clause-above g c = λ on.
+    (let below = back_below (g.P.Port.state c.args.port.now) c.args.ring.now.trail c.args.lits.now c.args.back c.requires.lemma c.requires.search.trail in omega (arith, below))
+
+pub returns-in-Err-clause-sums : goal.returns-in-Err-clause-sums
+returns-in-Err-clause-sums g c = sums_exact c.args.ring.now.restarts c.args.ring.now.learned c.args.limit c.requires.paced c.requires.below
+
+pub returns-then-ring-limit-clause-sums : goal.returns-then-ring-limit-clause-sums
+returns-then-ring-limit-clause-sums g c =
+    let noted_is = ap (λ (r : Ring). r.restarts) c.offer_lemma.ensures.same ∙ c.note.ensures in
+    subst SumsUp (sym noted_is) (sums_noted c.args.ring.now.restarts c.args.glue c.args.ring.now.learned c.args.limit c.requires.paced c.requires.below)
+
+pub returns-in-Err-tidy_up-clause-sums : goal.returns-in-Err-tidy_up-clause-sums
+returns-in-Err-tidy_up-clause-sums g c =
+    let noted_is = ap (λ (r : Ring). r.restarts) c.offer_lemma.ensures.same ∙ c.note.ensures in
+    subst SumsUp (sym (c.due-ring.ensures.asked ∙ ap asked noted_is)) (λ odd. (exact-more c.args.ring.now.restarts c.args.glue (c.requires.paced.exact (sym (asked_odd (noted c.args.ring.now.restarts c.args.glue)) ∙ odd) c.requires.below)).all)
+
+pub returns-in-Ok-leave_conflict-clause-sums : goal.returns-in-Ok-leave_conflict-clause-sums
+returns-in-Ok-leave_conflict-clause-sums g c =
+    let noted_is = ap (λ (r : Ring). r.restarts) c.offer_lemma.ensures.same ∙ c.note.ensures in
+    subst SumsUp (sym (c.leave_conflict.ensures.restarts ∙ c.due-ring.ensures.asked ∙ ap asked noted_is)) (λ odd. (exact-more c.args.ring.now.restarts c.args.glue (c.requires.paced.exact (sym (asked_odd (noted c.args.ring.now.restarts c.args.glue)) ∙ odd) c.requires.below)).all)
+
+pub returns-in-Err-leave_conflict-clause-sums : goal.returns-in-Err-leave_conflict-clause-sums
+returns-in-Err-leave_conflict-clause-sums g c =
+    let noted_is = ap (λ (r : Ring). r.restarts) c.offer_lemma.ensures.same ∙ c.note.ensures in
+    subst SumsUp (sym (c.leave_conflict.ensures.restarts ∙ c.due-ring.ensures.asked ∙ ap asked noted_is)) (λ odd. (exact-more c.args.ring.now.restarts c.args.glue (c.requires.paced.exact (sym (asked_odd (noted c.args.ring.now.restarts c.args.glue)) ∙ odd) c.requires.below)).all)
+
+pub returns-in-Ok-leave_conflict-clause-learns : goal.returns-in-Ok-leave_conflict-clause-learns
+returns-in-Ok-leave_conflict-clause-learns g c = λ on.
+    (let s = g.P.Port.state c.args.port.now in
+    let u = g.P.Port.state c.learn.new.self in
+    let v = g.P.Port.state c.offer_lemma.new.port in
+    let w = g.P.Port.state c.tidy_up.new.port in
+    let old = c.args.ring.now in
+    let middle = c.offer_lemma.new.ring in
+    let between : Ring = record middle { restarts = c.due-ring.new.self; pending = c.due-ring.result } in
+    let new = c.leave_conflict.new.ring in
+    let same = c.offer_lemma.ensures.same in
+    let noted_is = ap (λ (r : Ring). r.restarts) same ∙ c.note.ensures in
+    let lent = only_lent u v c.in-Ok.address old.exported old.offered middle.exported middle.offered c.offer_lemma.ensures.lent in
+    subst (λ (x : PortState). HasLearned s x old new c.args.lits.now) (sym c.leave_conflict.ensures.same) (record {
+      back = c.args.back;
+      glue = c.args.glue;
+      address = c.in-Ok.address;
+      asserting = c.requires.lemma;
+      counted = c.requires.glue;
+      stored = stored_at s u w c.args.lits.now c.args.glue c.in-Ok.address c.in-Ok.ensures.learned (λ a. held_same v w a c.tidy_up.ensures.held ∙ lent.same a);
+      restarts = c.leave_conflict.ensures.restarts ∙ c.due-ring.ensures.asked ∙ ap asked noted_is;
+      pending = c.leave_conflict.ensures.pending ∙ c.due-ring.ensures.due ∙ ap is_due noted_is;
+      left = left_alike w between (record old { pending = new.pending }) new c.args.lits.now c.args.back c.in-Ok.address
+          (record {
+            pending = sym c.leave_conflict.ensures.pending;
+            trail = ap (λ (r : Ring). r.trail) same;
+            watches = ap (λ (r : Ring). r.watches) same;
+            lemmas = ap (λ (r : Ring). r.lemmas.items) same;
+            reductions = ap (λ (r : Ring). r.reductions) same;
+            reduced_at = ap (λ (r : Ring). r.reduced_at) same;
+            written = ap (λ (r : Ring). r.written) same;
+            decider = ap (λ (r : Ring). r.decider) same;
+          })
+          c.in-Ok-leave_conflict.ensures.left;
+    }))

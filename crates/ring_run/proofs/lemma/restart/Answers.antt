@@ -12,6 +12,7 @@ returns-clause-restarted g c =
     let same : c.go_back.new.ring.watches ≡ c.args.ring.now.watches = ap (λ (r : Ring). r.watches) c.go_back.ensures.same in
     record {
       went = c.go_back.ensures.went (omega arith);
+      phases = c.go_back.ensures.phases;
       clauses = c.in_ok-attach_lemma.ensures.attached ∙ ap (λ (w : WatchData). attached w ++ option_to_list c.args.address) same;
       listed = record {
         lemmas = c.in_ok-attach_lemma.ensures.listed ∙ ap (λ (r : Ring). r.lemmas.items ++ option_to_list c.args.address) c.go_back.ensures.same;

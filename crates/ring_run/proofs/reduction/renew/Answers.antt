@@ -9,6 +9,9 @@ use Rattle.ring_run.proofs.Polling.{polls_same, polled_over, polled_halted, poll
 use Rattle.ring_run.proofs.Shrinking.{looks_halted, looks_kept}
 use Rattle.ring_run.proofs.Turning.{compose}
 use Rattle.ring_run.proofs.reduction.renew.Goals as goal
+use Rattle.ring_run.proofs.Rounds.{imports_halted, imports_over, imports_same, importing_same}
+use Rattle.ring_run.specs.Ended.{ImportsBy}
+use Rattle.ring_run.proofs.InTime.{in_time_halted}
 
 pub returns-in-Err-clause-leads : goal.returns-in-Err-clause-leads
 returns-in-Err-clause-leads g c = λ limit below start p.
@@ -79,3 +82,32 @@ returns-clause-looks g c = λ base before.
 
 pub returns-clause-steps : goal.returns-clause-steps
 returns-clause-steps g c = λ on. omega (arith, c.in-Ok.ensures.steps, c.import.ensures.steps on)
+
+pub returns-in-Err-clause-imports : goal.returns-in-Err-clause-imports
+returns-in-Err-clause-imports g c = λ start p h.
+    let s = g.P.Port.state c.args.port.now in
+    let u = g.P.Port.state c.shrink_due.new.port in
+    let ring = c.args.ring.now in
+    let made = ap (λ (r : Ring). r.restarts.made) c.shrink_due.ensures.same in
+    subst (λ (n : ℕ). ImportsBy start u n c.in-Err.end) (sym made)
+    (imports_halted start u ring.restarts.made _ c.in-Err.ensures.over.halted (imports_over start u ring (imports_same start s u (imports_of ring) c.shrink_due.ensures.nothing h)))
+
+pub returns-clause-imports : goal.returns-clause-imports
+returns-clause-imports g c = λ start p h.
+    let s = g.P.Port.state c.args.port.now in
+    let u = g.P.Port.state c.shrink_due.new.port in
+    let old = c.args.ring.now in
+    let ring = c.shrink_due.new.ring in
+    let same = c.shrink_due.ensures.same in
+    let level = c.in-Ok.ensures.import.level in
+    let before = c.requires.import.level in
+    let nothing = c.shrink_due.ensures.nothing in
+    let restarts = ap (λ (r : Ring). r.restarts) same in
+    let pending = ap (λ (r : Ring). r.pending) same in
+    c.import.ensures.imports start (polling_same s u old ring nothing (ap (λ (r : Ring). r.place) same) restarts pending (level ∙ sym before) p) (importing_same start s u old ring nothing restarts pending h)
+
+pub returns-in-Err-clause-in_time : goal.returns-in-Err-clause-in_time
+returns-in-Err-clause-in_time g c = in_time_halted (g.P.Port.state c.shrink_due.new.port) c.shrink_due.new.ring.restarts c.in-Err.end c.in-Err.ensures.over.halted
+
+pub returns-clause-in_time : goal.returns-clause-in_time
+returns-clause-in_time g c = c.import.ensures.in_time (let h = c.in-Ok.ensures.in_time in omega (arith, h))

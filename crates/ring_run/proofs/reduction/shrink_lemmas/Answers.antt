@@ -1,5 +1,6 @@
-use Rattle.std.proofs.Common.{ap, refl, arith, length, Ok}
+use Rattle.std.proofs.Common.{List, ap, refl, arith, length, Ok}
 use Rattle.ring_run.specs.declared.ring.Ring.{Ring}
+use Rattle.sat_words.specs.Literal.{Literal}
 use Rattle.ring_run.proofs.Listing.{listed_same}
 use Rattle.ring_run.proofs.Offering.{nothing_then}
 use Rattle.ring_run.proofs.Reducing.{wrote_import}
@@ -7,6 +8,7 @@ use Rattle.ring_run.proofs.Resting.{resting_import}
 use Rattle.ring_run.proofs.Shrinking.{refused_halts, halts_then}
 use Rattle.ring_run.proofs.reduction.shrink_lemmas.Goals as goal
 use Rattle.ring_run.proofs.Numbering.{kept_wrote}
+use Rattle.ring_run.proofs.InTime.{in_time_wrote}
 
 pub returns-in-Err-clause-over : goal.returns-in-Err-clause-over
 returns-in-Err-clause-over g c =
@@ -78,3 +80,10 @@ returns-in-Err-tidy_up-clause-nothing g c =
     let m = g.P.Port.state c.reduce_lemmas.new.port in
     let v = g.P.Port.state c.vivify_lemmas.new.port in
     nothing_then s m (g.P.Port.state c.tidy_up.new.port) c.reduce_lemmas.ensures.nothing (nothing_then m v (g.P.Port.state c.tidy_up.new.port) c.vivify_lemmas.ensures.nothing c.tidy_up.ensures.nothing)
+
+pub returns-in-Ok-tidy_up-clause-in_time : goal.returns-in-Ok-tidy_up-clause-in_time
+returns-in-Ok-tidy_up-clause-in_time g c =
+    let m = g.P.Port.state c.vivify_lemmas.new.port in
+    let u = g.P.Port.state c.tidy_up.new.port in
+    let none = ap (λ (cs : List (List Literal)). length cs) c.in-Ok-vivify_lemmas.ensures.resting.lately in
+    in_time_wrote m u 0 c.in-Ok-tidy_up.ensures.wrote (omega (arith, none))

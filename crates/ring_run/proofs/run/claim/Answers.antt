@@ -1,9 +1,12 @@
 use Rattle.std.specs.Prelude.{Some}
-use Rattle.std.proofs.Common.{inl, inr, refl}
+use Rattle.std.proofs.Common.{ap, inl, inr, refl}
+use Rattle.ring_port.specs.PortState.{PortState}
 use Rattle.ring_run.proofs.Polling.{polled_stopped}
 use Rattle.ring_run.proofs.Offering.{nothing_set}
 use Rattle.ring_run.proofs.Progress.{runs_stopped}
 use Rattle.ring_run.proofs.run.claim.Goals as goal
+use Rattle.ring_run.proofs.Rounds.{imports_stopped, tidy_stopped}
+use Rattle.ring_run.proofs.InTime.{reduced_stopped}
 
 pub returns-in-Won-clause-runs : goal.returns-in-Won-clause-runs
 returns-in-Won-clause-runs g c = λ start n p.
@@ -28,3 +31,18 @@ returns-in-Won-clause-polled g c = λ made p.
 pub returns-in-Lost-clause-polled : goal.returns-in-Lost-clause-polled
 returns-in-Lost-clause-polled g c = λ made p.
     polled_stopped (g.P.Port.state c.args.port.now) (g.P.Port.state c.stop.new.self) made c.args.end _ (nothing_set (g.P.Port.state c.args.port.now) (g.P.Port.state c.stop.new.self) c.in-Some.kind c.stop.result c.stop.ensures.set) (inr (c.in-Lost.stop, refl)) p
+
+pub returns-in-Won-clause-imported : goal.returns-in-Won-clause-imported
+returns-in-Won-clause-imported g c = λ start made p.
+    imports_stopped start (g.P.Port.state c.args.port.now) (g.P.Port.state c.stop.new.self) made c.args.end c.args.end (nothing_set (g.P.Port.state c.args.port.now) (g.P.Port.state c.stop.new.self) c.in-Some.kind c.stop.result c.stop.ensures.set) (inl refl) p
+
+pub returns-in-Lost-clause-imported : goal.returns-in-Lost-clause-imported
+returns-in-Lost-clause-imported g c = λ start made p.
+    imports_stopped start (g.P.Port.state c.args.port.now) (g.P.Port.state c.stop.new.self) made c.args.end _ (nothing_set (g.P.Port.state c.args.port.now) (g.P.Port.state c.stop.new.self) c.in-Some.kind c.stop.result c.stop.ensures.set) (inr (c.in-Lost.stop, refl)) p
+
+pub returns-in-Won-clause-tidied : goal.returns-in-Won-clause-tidied
+returns-in-Won-clause-tidied g c = λ p. tidy_stopped (g.P.Port.state c.args.port.now) (g.P.Port.state c.stop.new.self) c.args.end (ap (λ (x : PortState). x.waiting) c.in-Won.ensures.set.1) p
+
+pub returns-in-Won-clause-in_time : goal.returns-in-Won-clause-in_time
+returns-in-Won-clause-in_time g c = λ counts p.
+    reduced_stopped (g.P.Port.state c.args.port.now) (g.P.Port.state c.stop.new.self) counts c.args.end (ap (λ (x : PortState). x.ring) c.in-Won.ensures.set.1) (ap (λ (x : PortState). x.mine) c.in-Won.ensures.set.1) p

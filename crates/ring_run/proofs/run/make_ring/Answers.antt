@@ -1,9 +1,9 @@
-use Rattle.std.proofs.Common.{◌∙◌, sym, subst, List, Contains}
+use Rattle.std.proofs.Common.{◌∙◌, sym, subst, map, List, Contains}
 use Rattle.std.specs.Prelude.{All}
 use Rattle.sat_words.specs.declared.shared.Cref.{Cref}
 use Rattle.ring_port.specs.PortState.{PortState, lits_at}
 use Rattle.ring_run.specs.Searching.{IsHeldBy}
-use Rattle.ring_run.specs.Strategy.{AreMarked}
+use Rattle.ring_run.specs.Strategy.{AreMarked, OccurMarked}
 use Rattle.ring_run.proofs.Beginning.{starts_held, decides_begin}
 use Rattle.ring_run.proofs.run.make_ring.Goals as goal
 
@@ -29,3 +29,5 @@ returns-clause-decider g c =
     (c.in_ok-decider.ensures.active ∙ c.as_slice-3.ensures.value) c.in_ok-active.ensures.len
     (λ d there. subst (λ (x : PortState). AreMarked marks (lits_at x d.address)) c.attach_all.ensures.same
     (c.in_ok-active.ensures.all d (subst (λ (cs : List Cref). Contains cs d) (sym c.as_slice-2.ensures) there)))
+    (subst (λ (x : PortState). OccurMarked marks (map (λ (d : Cref). lits_at x d.address) c.args.job.now.start)) c.attach_all.ensures.same
+    (subst (λ (cs : List Cref). OccurMarked marks (map (λ (d : Cref). lits_at (g.P.Port.state c.attach_all.new.port) d.address) cs)) c.as_slice-2.ensures c.in_ok-active.ensures.only))

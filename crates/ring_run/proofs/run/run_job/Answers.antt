@@ -1,4 +1,4 @@
-use Rattle.std.proofs.Common.{◌∙◌, ◌+◌, ◌==◌, ◌%◌, ℕ, ap, sym, subst, arith}
+use Rattle.std.proofs.Common.{◌≡◌, eq-eqb, Bool, ◌∙◌, ◌+◌, ◌==◌, ◌%◌, ℕ, ap, sym, subst, arith}
 use Rattle.restart_plan.specs.Plan.{Restarting, begun as begun_restarts}
 use Rattle.ring_run.proofs.Offering.{offers_begin}
 use Rattle.ring_run.specs.Ended.{HasOffered, HasPolled, HasLooked, last_looks}
@@ -13,6 +13,12 @@ use Rattle.ring_run.specs.declared.job.End.TheVariants.{Memory}
 use Rattle.ring_run.proofs.Beginning.{listed_begin, goes_begin, begun, paced_begin, restarted_by, restarted_none}
 use Rattle.ring_run.proofs.Progress.{out_of_memory}
 use Rattle.ring_run.proofs.run.run_job.Goals as goal
+use Rattle.ring_run.proofs.Rounds.{imports_none, imports_count, imports_none_yet}
+use Rattle.ring_run.specs.Ended.{ImportsBy}
+use Rattle.ring_run.specs.Course.{imports_of}
+use Rattle.std.specs.Prelude.{if◌then◌else◌}
+use Rattle.ring_run.proofs.InTime.{reduced_by, in_time_begin}
+use Rattle.ring_run.specs.Ended.{IsInTime}
 
 pub search-end-requires-clause-import : goal.search-end-requires-clause-import
 search-end-requires-clause-import g c =
@@ -127,3 +133,36 @@ search-end-requires-clause-listed g c =
     let listed = c.in-Ok.ensures.listed in
     subst (λ (x : PortState). HasLemmas x c.in-Ok.ring) (sym c.in-Ok.ensures.same)
     (listed_begin s c.in-Ok.ring c.requires.untouched.mine c.in-Ok.ensures.learned listed.0 listed.1 listed.2)
+
+pub returns-clause-imported : goal.returns-clause-imported
+returns-clause-imported g c =
+    let s = g.P.Port.state c.args.port.now in
+    let m = g.P.Port.state c.make_ring.new.port in
+    let ring = c.in-Ok.ring in
+    let made : ring.restarts.made ≡ 0 = ap (λ (r : Restarting). r.made) c.in-Ok.ensures.restarts in
+    let imports : imports_of ring ≡ 0 = ap (λ (b : Bool). if b then ring.restarts.made else ring.restarts.made + 1) c.in-Ok.ensures.pending ∙ made in
+    subst (λ (n : ℕ). ImportsBy s (g.P.Port.state c.search-end.new.port) n c.search-end.result) (sym c.counts_of.ensures.restarts)
+    (c.search-end.ensures.imported s (imports_count s m 0 (imports_of ring) (sym imports) (imports_none s m c.make_ring.ensures.same)))
+
+pub returns-in_default-clause-imported : goal.returns-in_default-clause-imported
+returns-in_default-clause-imported g c = imports_none_yet (g.P.Port.state c.args.port.now) (g.P.Port.state c.make_ring.new.port) c.make_ring.ensures.same
+
+pub returns-in_default-new-clause-imported : goal.returns-in_default-new-clause-imported
+returns-in_default-new-clause-imported g c = imports_none_yet (g.P.Port.state c.args.port.now) (g.P.Port.state c.make_ring.new.port) c.make_ring.ensures.same
+
+pub returns-clause-tidied : goal.returns-clause-tidied
+returns-clause-tidied g c = λ none. c.search-end.ensures.tidied (ap (λ (x : PortState). x.waiting) c.make_ring.ensures.same ∙ none)
+
+pub returns-clause-in_time : goal.returns-clause-in_time
+returns-clause-in_time g c =
+    let s = g.P.Port.state c.args.port.now in
+    let m = g.P.Port.state c.make_ring.new.port in
+    let u = g.P.Port.state c.search-end.new.port in
+    let r = c.search-end.new.ring.restarts in
+    let ring : u.ring ≡ m.ring = c.search-end.ensures.ends.runs.stays.ring in
+    let first : m.ring ≡ s.ring = ap (λ (x : PortState). x.ring) c.make_ring.ensures.same in
+    let odd : r.odd ≡ (c.args.job.now.ring % 2 == 1) = c.search-end.ensures.odd ∙ ap (λ (x : Restarting). x.odd) c.in-Ok.ensures.restarts in
+    reduced_by u r c.counts_of.result c.search-end.result
+    (λ is. odd ∙ eq-eqb (c.args.job.now.ring % 2) 1 (ap (λ (n : ℕ). n % 2) (c.requires.job.ring ∙ sym first ∙ sym ring) ∙ is))
+    c.search-end.ensures.sums (c.search-end.ensures.paced.count ∙ sym c.counts_of.ensures.learned) c.counts_of.ensures.restarts
+    (c.search-end.ensures.in_time (subst (λ (x : PortState). IsInTime x c.in-Ok.ring.restarts.since) (sym c.make_ring.ensures.same) (in_time_begin s c.in-Ok.ring.restarts.since c.requires.untouched.mine)))

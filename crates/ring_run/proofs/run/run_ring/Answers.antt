@@ -35,3 +35,12 @@ returns-clause-spaced g c = timely_spaced [] (g.P.Port.state c.claim.new.port).m
 
 pub returns-clause-timely : goal.returns-clause-timely
 returns-clause-timely g c = (c.claim.ensures.runs (g.P.Port.state c.args.port.now) c.run_job-end.result.1.learned c.run_job-end.ensures.ends.runs).timely
+
+pub returns-clause-imported : goal.returns-clause-imported
+returns-clause-imported g c = c.claim.ensures.imported (g.P.Port.state c.args.port.now) c.run_job-end.result.1.restarts c.run_job-end.ensures.imported
+
+pub returns-clause-tidied : goal.returns-clause-tidied
+returns-clause-tidied g c = λ none. c.claim.ensures.tidied (c.run_job-end.ensures.tidied none)
+
+pub returns-clause-in_time : goal.returns-clause-in_time
+returns-clause-in_time g c = c.claim.ensures.in_time c.run_job-end.result.1 c.run_job-end.ensures.in_time

@@ -5,6 +5,8 @@ use Rattle.ring_run.specs.Strategy.{IsPaced}
 use Rattle.ring_run.proofs.Deciding.{decides_moved}
 use Rattle.ring_run.proofs.Turning.{less_to_do}
 use Rattle.ring_run.proofs.search.search.Goals as goal
+use Rattle.ring_run.proofs.InTime.{sums_exact}
+use Rattle.ring_run.specs.Course.{SumsUp}
 
 pub returns-in-Over-clause-ends : goal.returns-in-Over-clause-ends
 returns-in-Over-clause-ends g c = c.in-Over.ensures.leads c.args.limit c.requires.below (g.P.Port.state c.args.port.now) c.requires.goes
@@ -29,6 +31,9 @@ loop-end-init g c =
       decides = decides_moved s s u c.args.ring.now.decider c.import.new.ring.decider c.requires.decides c.requires.goes.runs.stays goes.runs.stays (ap (λ (d : DeciderData). d.active) c.import.ensures.decider);
       offering = c.import.ensures.offering c.requires.offering;
       polling = c.in_default.ensures.polls;
+      imports = λ start h. c.in_default.ensures.imports start c.requires.polling h;
+      tidied = λ none. c.in_default.ensures.tidied none;
+      in_time = λ h settled. c.in_default.ensures.in_time h settled;
       listed = c.in_default.ensures.listed refl c.requires.listed;
       paced = subst (λ (r : Restarting). IsPaced r c.import.new.ring.learned c.args.limit) (sym c.import.ensures.restarts)
           (subst (λ n. IsPaced c.args.ring.now.restarts n c.args.limit) (sym c.import.ensures.learned) c.requires.paced);
@@ -63,7 +68,28 @@ loop-end-preserved g c =
       paced = c.turn.ensures.paced;
       offering = c.turn.ensures.offering;
       polling = c.in_default-turn.ensures.polls;
+      imports = λ start h. c.in_default-turn.ensures.imports start c.loop-end.invariant.polling (c.loop-end.invariant.imports start h);
+      tidied = λ none. c.in_default-turn.ensures.tidied (c.loop-end.invariant.tidied none);
+      in_time = λ h settled. c.in_default-turn.ensures.in_time c.loop-end.invariant.polling (c.loop-end.invariant.in_time h) settled;
       listed = c.in_default-turn.ensures.listed refl;
       odd = c.turn.ensures.odd ∙ c.loop-end.invariant.odd;
       vars = c.turn.ensures.vars ∙ c.loop-end.invariant.vars ∙ c.loop-end.invariant.search.stands.vars ∙ c.loop-end.invariant.goes.runs.stays.vars ∙ sym goes.runs.stays.vars ∙ sym found.search.stands.vars;
     }
+
+pub returns-in-Over-clause-imported : goal.returns-in-Over-clause-imported
+returns-in-Over-clause-imported g c = λ start h. c.in-Over.ensures.imports start c.requires.polling h
+
+pub returns-in-Over-turn-clause-imported : goal.returns-in-Over-turn-clause-imported
+returns-in-Over-turn-clause-imported g c = λ start h. c.in-Over-turn.ensures.imports start c.loop-end.invariant.polling (c.loop-end.invariant.imports start h)
+
+pub returns-in-Over-turn-clause-tidied : goal.returns-in-Over-turn-clause-tidied
+returns-in-Over-turn-clause-tidied g c = λ none. c.in-Over-turn.ensures.tidied (c.loop-end.invariant.tidied none)
+
+pub returns-in-Over-clause-in_time : goal.returns-in-Over-clause-in_time
+returns-in-Over-clause-in_time g c = λ h. c.in-Over.ensures.in_time h
+
+pub returns-in-Over-clause-sums : goal.returns-in-Over-clause-sums
+returns-in-Over-clause-sums g c = subst SumsUp (sym c.import.ensures.restarts) (sums_exact c.args.ring.now.restarts c.args.ring.now.learned c.args.limit c.requires.paced c.requires.below)
+
+pub returns-in-Over-turn-clause-in_time : goal.returns-in-Over-turn-clause-in_time
+returns-in-Over-turn-clause-in_time g c = λ h. c.in-Over-turn.ensures.in_time c.loop-end.invariant.polling (c.loop-end.invariant.in_time h)

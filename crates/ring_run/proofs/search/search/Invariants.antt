@@ -1,7 +1,9 @@
-use Rattle.std.proofs.Common.{◌≡◌, ℕ, ◌<◌, length}
+use Rattle.std.proofs.Common.{◌≡◌, false, ℕ, ◌<◌, [], length}
+use Rattle.ring_run.specs.Ended.{IsInTime}
 use Rattle.ring_run.specs.Searching.{GoesOn}
 use Rattle.ring_run.specs.Strategy.{Decides, IsPaced}
-use Rattle.ring_run.specs.Course.{HasLemmas, IsOffering, IsPolling, InSearch, IsLooking}
+use Rattle.ring_run.specs.Course.{HasLemmas, IsOffering, IsPolling, IsImporting, InSearch, IsLooking}
+use Rattle.ring_port.specs.PortState.{PortState}
 use Rattle.ring_run.proofs.Turning.{left_to_do}
 use Rattle.ring_run.proofs.search.search.Given as goal
 
@@ -14,6 +16,9 @@ invariant-loop-end g l = record {
   decides : Decides (g.P.Port.state l.port) l.ring.decider;
   offering : IsOffering (g.P.Port.state l.port) l.ring;
   polling : IsPolling (g.P.Port.state l.port) l.ring;
+  imports : (start : PortState) → IsImporting start (g.P.Port.state l.fn.port) l.fn.ring → IsImporting start (g.P.Port.state l.port) l.ring;
+  tidied : (g.P.Port.state l.fn.port).waiting ≡ [] → (g.P.Port.state l.port).waiting ≡ [];
+  in_time : IsInTime (g.P.Port.state l.fn.port) l.fn.ring.restarts.since → l.ring.pending ≡ false → IsInTime (g.P.Port.state l.port) l.ring.restarts.since;
   listed : HasLemmas (g.P.Port.state l.port) l.ring;
   paced : IsPaced l.ring.restarts l.ring.learned l.limit;
   odd : l.ring.restarts.odd ≡ l.fn.ring.restarts.odd;

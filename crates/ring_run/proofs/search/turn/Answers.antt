@@ -2,7 +2,7 @@ use Rattle.std.proofs.Common.{◌∙◌, ◌≤◌, ◌+◌, List, length, subst
 use Rattle.sat_words.specs.declared.shared.Cref.{Cref}
 use Rattle.ring_trail.specs.declared.step.Step.{Step}
 use Rattle.ring_run.specs.Ended.{polls_of}
-use Rattle.ring_run.specs.Course.{HasLemmas, IsOffering, IsPolling}
+use Rattle.ring_run.specs.Course.{HasLemmas, IsOffering, IsPolling, imports_of}
 use Rattle.ring_run.proofs.Polling.{polled_over}
 use Rattle.ring_port.specs.PortState.{PortState}
 use Rattle.ring_run.specs.Searching.{GoesOn}
@@ -11,6 +11,13 @@ use Rattle.ring_run.proofs.Turning.{grown_search, compose, further_grown}
 use Rattle.ring_run.proofs.Listing.{listed_same}
 use Rattle.ring_run.proofs.search.turn.Goals as goal
 use Rattle.ring_run.proofs.Numbering.{kept_none}
+use Rattle.ring_run.proofs.Rounds.{imports_over}
+use Rattle.ring_run.specs.Ended.{HasImported, LookedAlong, rounds, import_slots}
+use Rattle.ring_run.proofs.InTime.{sums_exact}
+use Rattle.ring_run.specs.Ended.{IsInTime}
+use Rattle.ring_run.specs.Course.{SumsUp}
+use Rattle.ring_run.specs.Searching.{OnlyWrote}
+use Rattle.watch_prop.proofs.Growing.{HasGrown-trans}
 
 pub learn_from-requires-clause-search : goal.learn_from-requires-clause-search
 learn_from-requires-clause-search g c =
@@ -82,3 +89,64 @@ decide_next-requires-clause-listed g c =
     let between : Ring = record c.args.ring.now { trail = c.propagate.new.trail; watches = c.propagate.new.self } in
     subst (λ (x : PortState). HasLemmas x between) (sym c.propagate.ensures.same)
     (listed_same s s c.args.ring.now between refl refl refl (λ d there. subst (λ (cs : List Cref). Contains cs d) (sym c.propagate.ensures.attached) there) refl refl refl (kept_none s c.args.ring.now.lemmas.items) c.requires.listed)
+
+pub returns-in_default-clause-imports : goal.returns-in_default-clause-imports
+returns-in_default-clause-imports g c = λ start p h.
+    subst (λ (x : PortState). LookedAlong start x (rounds (1 + c.args.ring.now.restarts.made) (import_slots x))) (sym c.propagate.ensures.same) (imports_over start (g.P.Port.state c.args.port.now) c.args.ring.now h)
+
+pub returns-in-Conflict-clause-imports : goal.returns-in-Conflict-clause-imports
+returns-in-Conflict-clause-imports g c = λ start p h.
+    let between : Ring = record c.args.ring.now { trail = c.propagate.new.trail; watches = c.propagate.new.self } in
+    c.learn_from.ensures.imports start
+    (subst (λ (x : PortState). IsPolling x between) (sym c.propagate.ensures.same) (record { place = p.place; polled = p.polled; low = λ e. c.propagate.ensures.grown.level ∙ p.low e }))
+    (subst (λ (x : PortState). HasImported start x (imports_of between)) (sym c.propagate.ensures.same) h)
+
+pub returns-in-Quiet-clause-imports : goal.returns-in-Quiet-clause-imports
+returns-in-Quiet-clause-imports g c = λ start p h.
+    let between : Ring = record c.args.ring.now { trail = c.propagate.new.trail; watches = c.propagate.new.self } in
+    c.decide_next.ensures.imports start
+    (subst (λ (x : PortState). IsPolling x between) (sym c.propagate.ensures.same) (record { place = p.place; polled = p.polled; low = λ e. c.propagate.ensures.grown.level ∙ p.low e }))
+    (subst (λ (x : PortState). HasImported start x (imports_of between)) (sym c.propagate.ensures.same) h)
+
+pub returns-in_default-clause-sums : goal.returns-in_default-clause-sums
+returns-in_default-clause-sums g c = sums_exact c.args.ring.now.restarts c.args.ring.now.learned c.args.limit c.requires.paced c.requires.below
+
+pub returns-in-Quiet-clause-sums : goal.returns-in-Quiet-clause-sums
+returns-in-Quiet-clause-sums g c = subst SumsUp (sym c.decide_next.ensures.restarts) (sums_exact c.args.ring.now.restarts c.args.ring.now.learned c.args.limit c.requires.paced c.requires.below)
+
+pub returns-in-Conflict-clause-renewed : goal.returns-in-Conflict-clause-renewed
+returns-in-Conflict-clause-renewed g c = λ on pending.
+    (let above = c.learn_from.ensures.above on in
+    let level = c.propagate.ensures.grown.level in
+    let low = c.requires.polling.low pending in
+    absurd (omega (arith, above, level, low)))
+
+pub returns-in-Quiet-clause-renewed : goal.returns-in-Quiet-clause-renewed
+returns-in-Quiet-clause-renewed g c = λ on pending.
+    (let s = g.P.Port.state c.args.port.now in
+    let ring = c.args.ring.now in
+    let r = c.decide_next.ensures.renewed on pending in
+    record {
+      middle = r.middle;
+      ring = r.ring;
+      lines = subst (λ (x : PortState). OnlyWrote x r.middle) c.propagate.ensures.same r.lines;
+      grown = HasGrown-trans ring.trail c.propagate.new.trail r.ring.trail c.propagate.ensures.grown r.grown;
+      same_clauses = r.same_clauses ∙ c.propagate.ensures.attached;
+      same_ring = r.same_ring;
+      renewed = r.renewed;
+      settled = r.settled;
+    })
+
+pub returns-in-Conflict-clause-in_time : goal.returns-in-Conflict-clause-in_time
+returns-in-Conflict-clause-in_time g c = λ p h.
+    let between : Ring = record c.args.ring.now { trail = c.propagate.new.trail; watches = c.propagate.new.self } in
+    c.learn_from.ensures.in_time
+    (subst (λ (x : PortState). IsPolling x between) (sym c.propagate.ensures.same) (record { place = p.place; polled = p.polled; low = λ e. c.propagate.ensures.grown.level ∙ p.low e }))
+    (λ settled. subst (λ (x : PortState). IsInTime x between.restarts.since) (sym c.propagate.ensures.same) (h settled))
+
+pub returns-in-Quiet-clause-in_time : goal.returns-in-Quiet-clause-in_time
+returns-in-Quiet-clause-in_time g c = λ p h.
+    let between : Ring = record c.args.ring.now { trail = c.propagate.new.trail; watches = c.propagate.new.self } in
+    c.decide_next.ensures.in_time
+    (subst (λ (x : PortState). IsPolling x between) (sym c.propagate.ensures.same) (record { place = p.place; polled = p.polled; low = λ e. c.propagate.ensures.grown.level ∙ p.low e }))
+    (λ settled. subst (λ (x : PortState). IsInTime x between.restarts.since) (sym c.propagate.ensures.same) (h settled))

@@ -1,13 +1,15 @@
-use Rattle.std.proofs.Common.{◌≡◌, ◌∙◌, ℕ, ◌<◌, ◌≤◌, subst, sym, None, length}
+use Rattle.std.proofs.Common.{◌≡◌, ◌∙◌, ap, ℕ, ◌<◌, ◌≤◌, subst, sym, None, length}
 use Rattle.std.specs.Prelude.{MatchBool}
 use Rattle.ring_trail.specs.TrailData.{HasGrown, IsTrueOn, IsFalseOn, reason_at}
-use Rattle.ring_run.specs.Searching.{Stands, GoesOn}
+use Rattle.ring_run.specs.Searching.{Stands}
 use Rattle.watch_prop.specs.Propagation.{HasReasons}
-use Rattle.ring_run.proofs.Standing.{took_on, within_zero, saw_more, stands_seen, stands_taken, opposed, grown_by, reasons_seen, reasons_taken}
+use Rattle.ring_run.proofs.Standing.{saw_none, stands_none, opening_none, reasons_none, took_on, within_zero, saw_more, stands_seen, stands_taken, opposed, grown_by, reasons_seen, reasons_taken}
 use Rattle.ring_run.proofs.Importing.{unit_taken, still_added}
 use Rattle.watch_prop.specs.Watched.{Watched}
 use Rattle.watch_prop.proofs.TrailLaws.{Watched-assign}
 use Rattle.ring_run.proofs.Telling.{bare_more}
+use Rattle.ring_run.proofs.Progress.{counted_goes_on}
+use Rattle.ring_port.specs.PortState.{PortState, one_more}
 use Rattle.ring_run.proofs.units.take_units.Goals as goal
 
 pub truth-requires : goal.truth-requires
@@ -19,6 +21,7 @@ loop-lit-preserved-in-Some-true g c =
     let level : c.loop-lit.trail.level ≡ 0 = c.loop-lit.invariant.grown.level ∙ c.requires.level in
     record {
       saw = saw_more (g.P.Port.state c.args.port.now) (g.P.Port.state c.loop-lit.port) (g.P.Port.state c.next_unit.new.self) c.in-Some.lit c.loop-lit.invariant.saw c.in-Some.ensures.took c.next_unit.ensures.log;
+      caught_up = ap (λ (x : PortState). x.caught_up) c.in-Some.ensures.took.state ∙ c.loop-lit.invariant.caught_up;
       grown = c.loop-lit.invariant.grown;
       stands = stands_seen (g.P.Port.state c.loop-lit.port) (g.P.Port.state c.next_unit.new.self) c.loop-lit.trail c.in-Some.lit c.loop-lit.invariant.stands c.in-Some.ensures.took
           (within_zero c.loop-lit.trail c.in-Some.lit c.loop-lit.invariant.trail level here);
@@ -47,6 +50,7 @@ loop-lit-preserved g c =
     let w = g.P.Port.state c.next_unit.new.self in
     record {
       saw = saw_more (g.P.Port.state c.args.port.now) s w c.in-Some.lit c.loop-lit.invariant.saw c.in-Some.ensures.took c.next_unit.ensures.log;
+      caught_up = ap (λ (x : PortState). x.caught_up) c.in-Some.ensures.took.state ∙ c.loop-lit.invariant.caught_up;
       grown = subst (HasGrown c.args.trail.now) (sym c.assign.ensures.step) (grown_by c.args.trail.now c.loop-lit.trail c.in-Some.lit None c.loop-lit.invariant.grown);
       stands = subst (Stands w) (sym c.assign.ensures.step)
           (stands_taken s w c.loop-lit.trail c.in-Some.lit c.loop-lit.invariant.stands c.in-Some.ensures.took (c.loop-lit.invariant.grown.level ∙ c.requires.level));
@@ -70,4 +74,20 @@ returns-in-Some-false-clause-reasons g c = λ cs r.
     reasons_seen cs (g.P.Port.state c.loop-lit.port) (g.P.Port.state c.next_unit.new.self) c.loop-lit.trail.steps c.in-Some.lit c.in-Some.ensures.took (c.loop-lit.invariant.reasons cs r)
 
 pub returns-clause-keeps : goal.returns-clause-keeps
-returns-clause-keeps g c = λ start n p. subst (λ s. GoesOn start s n) (sym c.in_default.ensures.took.state) (c.loop-lit.invariant.keeps start n p)
+returns-clause-keeps g c = λ start n p.
+    (let s = g.P.Port.state c.loop-lit.port in
+    counted_goes_on start s (g.P.Port.state c.next_unit.new.self) n s.looks (one_more s.caught_up) (c.loop-lit.invariant.keeps start n p) c.in_default.ensures.took.state c.next_unit.ensures.log c.next_unit.ensures.port)
+
+pub returns-clause-saw : goal.returns-clause-saw
+returns-clause-saw g c =
+    saw_none (g.P.Port.state c.args.port.now) (g.P.Port.state c.loop-lit.port) (g.P.Port.state c.next_unit.new.self) c.loop-lit.invariant.saw c.in_default.ensures.took c.next_unit.ensures.log
+
+pub returns-clause-taken : goal.returns-clause-taken
+returns-clause-taken g c =
+    let s = g.P.Port.state c.loop-lit.port in
+    let w = g.P.Port.state c.next_unit.new.self in
+    (stands_none s w c.loop-lit.trail c.loop-lit.invariant.stands c.in_default.ensures.took, opening_none s w c.in_default.ensures.took)
+
+pub returns-clause-reasons : goal.returns-clause-reasons
+returns-clause-reasons g c = λ cs r.
+    reasons_none cs (g.P.Port.state c.loop-lit.port) (g.P.Port.state c.next_unit.new.self) c.loop-lit.trail.steps c.in_default.ensures.took (c.loop-lit.invariant.reasons cs r)

@@ -11,6 +11,7 @@ use Rattle.ring_run.proofs.units.take_units.Given as goal
 abbrev pub invariant-loop-lit : goal.invariant-loop-lit
 invariant-loop-lit g l = record {
   saw : OnlySaw (g.P.Port.state l.fn.port) (g.P.Port.state l.port);
+  caught_up : (g.P.Port.state l.port).caught_up ≡ (g.P.Port.state l.fn.port).caught_up;
   keeps : KeepsOn (g.P.Port.state l.fn.port) (g.P.Port.state l.port);
   added : AddedSeen (g.P.Port.state l.port);
   grown : HasGrown l.fn.trail l.trail;

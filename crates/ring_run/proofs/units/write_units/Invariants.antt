@@ -11,6 +11,7 @@ invariant-loop-place g l = record {
   told : AreTold (g.P.Port.state l.port) l.trail l.place;
   units : UnitsSeen (g.P.Port.state l.port);
   looks : (g.P.Port.state l.port).looks ≡ (g.P.Port.state l.fn.port).looks;
+  waiting : (g.P.Port.state l.port).waiting ≡ (g.P.Port.state l.fn.port).waiting;
   wrote : OnlyWrote (g.P.Port.state l.fn.port) (g.P.Port.state l.port);
   nothing : OffersNothing (g.P.Port.state l.fn.port) (g.P.Port.state l.port);
   port : IsPort (g.P.Port.state l.port);

@@ -1,10 +1,12 @@
-use Rattle.std.proofs.Common.{◌∙◌, ◌-◌, ℕ, subst, sym, ap, arith, inl, inr, slice_index_or}
+use Rattle.std.proofs.Common.{◌∙◌, ◌-◌, ℕ, subst, sym, ap, arith, map, inl, inr, slice_index_or}
 use Rattle.std.proofs.lemmas.List.{get_or_default}
 use Rattle.sat_words.specs.declared.shared.Cref.{Cref}
 use Rattle.ring_port.specs.PortState.{PortState, IsPort, lits_at}
 use Rattle.watch_prop.proofs.ListsLemmas.{cases_eq}
+use Rattle.rup_model.proofs.Lists.{In_Contains, In_map, In_get_or}
 use Rattle.ring_run.specs.Searching.{IsHeldBy}
-use Rattle.ring_run.specs.Strategy.{AreMarked}
+use Rattle.ring_run.specs.Strategy.{AreMarked, AreMarkedBy}
+use Rattle.ring_run.proofs.Marked.{occur_more}
 use Rattle.ring_run.proofs.variables.active_of.Goals as goal
 
 pub mark_clause-requires-clause-port : goal.mark_clause-requires-clause-port
@@ -28,6 +30,9 @@ loop-clause-preserved g c =
     record {
       same = c.mark_clause.ensures.same ∙ i.same;
       len = c.mark_clause.ensures.len ∙ i.len;
+      only = occur_more c.loop-clause.marks.items c.mark_clause.new.marks.items (map (λ (x : Cref). lits_at s x.address) all) (lits_at s at.address) i.only
+          (In_Contains (map (λ (x : Cref). lits_at s x.address) all) (lits_at s at.address) (In_map (λ (x : Cref). lits_at s x.address) all at (In_get_or all c.loop-clause.clause-index (record { address = 0 }) c.loop-clause-test.true)))
+          (subst (λ (x : PortState). AreMarkedBy c.loop-clause.marks.items c.mark_clause.new.marks.items (lits_at x at.address)) i.same c.mark_clause.ensures.only);
       first = λ p d lt inside.
           elim (cases_eq p c.loop-clause.clause-index) as (λ _. AreMarked c.mark_clause.new.marks.items (lits_at s (slice_index_or all p d).address)) [
             | inl is ↦ subst (λ (x : Cref). AreMarked c.mark_clause.new.marks.items (lits_at s x.address))

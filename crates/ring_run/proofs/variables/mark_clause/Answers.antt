@@ -5,8 +5,8 @@ use Rattle.sat_words.specs.Literal.{Literal, IsOn}
 use Rattle.ring_port.specs.PortState.{PortState, lits_at}
 use Rattle.ring_port.proofs.Holdings.{held_is_kept}
 use Rattle.watch_prop.proofs.ListsLemmas.{cases_eq}
-use Rattle.watch_prop.proofs.Ranks.{at_has, same_there}
-use Rattle.ring_run.proofs.Marked.{all_at, more_set, set_there}
+use Rattle.watch_prop.proofs.Ranks.{at_has, has_at, same_there}
+use Rattle.ring_run.proofs.Marked.{all_at, more_set, set_there, marked_set}
 use Rattle.ring_run.proofs.variables.mark_clause.Goals as goal
 
 pub index_mut-requires : goal.index_mut-requires
@@ -28,6 +28,7 @@ loop-i-preserved g c =
       size = c.loop-i.invariant.size;
       len = length-set c.loop-i.marks.items (c.var.result - 1) true ∙ c.loop-i.invariant.len;
       more = λ j h. more_set c.loop-i.marks.items (c.var.result - 1) inside j (c.loop-i.invariant.more j h);
+      only = marked_set c.args.marks.now.items c.loop-i.marks.items lits c.read_lit-lit.result (c.var.result - 1) c.loop-i.invariant.only (has_at lits c.loop-i.i c.read_lit-lit.result at) (omega (arith, on.low, c.var.ensures.value));
       first = λ p k lt e.
           elim (cases_eq p c.loop-i.i) as (λ _. slice_index_or (slice_set c.loop-i.marks.items (c.var.result - 1) true) (k.var - 1) false ≡ true) [
             | inr ne ↦ more_set c.loop-i.marks.items (c.var.result - 1) inside (k.var - 1) (c.loop-i.invariant.first p k (omega arith) e)

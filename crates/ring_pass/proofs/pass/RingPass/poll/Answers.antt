@@ -27,7 +27,7 @@ returns-in-None-clause-polled g c =
     port_polls c.get-found.new.pass c.args.self.now c.args.from c.args.class p.0 p.1 None c.saturating_add-self-inside.result c.reserve.new.self.items c.self.invariant.0 e.pass.0 c.self.view_is p.2 (subst (λ (r : Option Cref). IsFound p.0.address r) c.in-None.is p.3) p.4 c.saturating_add-self-inside.ensures c.reserve.ensures.items
 
 pub returns-in-None-clause-kept : goal.returns-in-None-clause-kept
-returns-in-None-clause-kept g c = polled_keeps c.args.self.now _ None (returns-in-None-clause-polled g c)
+returns-in-None-clause-kept g c = polled_keeps c.args.self.now _ c.args.from c.args.class None (returns-in-None-clause-polled g c)
 
 pub returns-in-None-clause-port : goal.returns-in-None-clause-port
 returns-in-None-clause-port g c = ring_port (invariant_of-self-in-None g c).0
@@ -51,7 +51,7 @@ returns-in-Some-clause-polled g c =
     (c.push_reserved.ensures.items ∙ ap (λ (cs : List Cref). cs ++ c.in-Some.c ∷ []) c.reserve.ensures.items)
 
 pub returns-in-Some-clause-kept : goal.returns-in-Some-clause-kept
-returns-in-Some-clause-kept g c = polled_keeps c.args.self.now _ (Some c.in-Some.c) (returns-in-Some-clause-polled g c)
+returns-in-Some-clause-kept g c = polled_keeps c.args.self.now _ c.args.from c.args.class (Some c.in-Some.c) (returns-in-Some-clause-polled g c)
 
 pub returns-in-Some-clause-port : goal.returns-in-Some-clause-port
 returns-in-Some-clause-port g c = ring_port (invariant_of-self-in-Some g c).0

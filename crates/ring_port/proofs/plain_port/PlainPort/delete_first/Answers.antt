@@ -24,7 +24,7 @@ returns-in_err-delete-clause-port g c = plain_port _ (plain_log _ c.self.invaria
 pub returns-in_err-delete-clause-log : goal.returns-in_err-delete-clause-log
 returns-in_err-delete-clause-log g c =
     let i = c.self.inside in
-    let p : PlainData = record { vars = i.vars; all = i.store.all; held = i.store.held; waiting = i.waiting.items; begun = i.begun; opening = i.opening.items; passed = i.passed; given = i.given.items; given_room = vec_capacity i.given - vec_len i.given; written = i.written.items; log = i.log; last = i.last; stop = i.stop; looks = i.looks } in
+    let p : PlainData = record { vars = i.vars; all = i.store.all; held = i.store.held; waiting = i.waiting.items; begun = i.begun; opening = i.opening.items; passed = i.passed; given = i.given.items; given_room = vec_capacity i.given - vec_len i.given; written = i.written.items; log = i.log; last = i.last; stop = i.stop; looks = i.looks; caught_up = i.caught_up } in
     let some : 1 ≤ length (state_of p).waiting = subst (λ s. 1 ≤ length s.waiting) (sym (state_is c.self.view_is)) c.requires.some in
     let usable : is_usable i.log.refused ≡ true = subst (λ s. is_usable s.refused ≡ true) (sym (state_is c.self.view_is)) c.requires.usable in
     let f = at_first p c.self.invariant c.index-c.result.now some c.index-c.ensures in
@@ -37,7 +37,7 @@ returns-in_err-delete-clause-log g c =
 pub invariant_of-self-2 : goal.invariant_of-self-2
 invariant_of-self-2 g c =
     let i = c.self.inside in
-    let p : PlainData = record { vars = i.vars; all = i.store.all; held = i.store.held; waiting = i.waiting.items; begun = i.begun; opening = i.opening.items; passed = i.passed; given = i.given.items; given_room = vec_capacity i.given - vec_len i.given; written = i.written.items; log = i.log; last = i.last; stop = i.stop; looks = i.looks } in
+    let p : PlainData = record { vars = i.vars; all = i.store.all; held = i.store.held; waiting = i.waiting.items; begun = i.begun; opening = i.opening.items; passed = i.passed; given = i.given.items; given_room = vec_capacity i.given - vec_len i.given; written = i.written.items; log = i.log; last = i.last; stop = i.stop; looks = i.looks; caught_up = i.caught_up } in
     let some : 1 ≤ length (state_of p).waiting = subst (λ s. 1 ≤ length s.waiting) (sym (state_is c.self.view_is)) c.requires.some in
     let f = at_first p c.self.invariant c.index-c.result.now some c.index-c.ensures in
     subst (λ cs. IsPlain (record p { waiting = cs; log = c.delete.new.self })) (sym c.pop_front.ensures.rest)
@@ -49,7 +49,7 @@ returns-clause-port g c = plain_port _ (invariant_of-self-2 g c)
 pub returns-clause-tidied : goal.returns-clause-tidied
 returns-clause-tidied g c =
     let i = c.self.inside in
-    let p : PlainData = record { vars = i.vars; all = i.store.all; held = i.store.held; waiting = i.waiting.items; begun = i.begun; opening = i.opening.items; passed = i.passed; given = i.given.items; given_room = vec_capacity i.given - vec_len i.given; written = i.written.items; log = i.log; last = i.last; stop = i.stop; looks = i.looks } in
+    let p : PlainData = record { vars = i.vars; all = i.store.all; held = i.store.held; waiting = i.waiting.items; begun = i.begun; opening = i.opening.items; passed = i.passed; given = i.given.items; given_room = vec_capacity i.given - vec_len i.given; written = i.written.items; log = i.log; last = i.last; stop = i.stop; looks = i.looks; caught_up = i.caught_up } in
     let some : 1 ≤ length (state_of p).waiting = subst (λ s. 1 ≤ length s.waiting) (sym (state_is c.self.view_is)) c.requires.some in
     let usable : is_usable i.log.refused ≡ true = subst (λ s. is_usable s.refused ≡ true) (sym (state_is c.self.view_is)) c.requires.usable in
     let f = at_first p c.self.invariant c.index-c.result.now some c.index-c.ensures in
@@ -65,7 +65,7 @@ returns-clause-tidied g c =
 pub returns-clause-log : goal.returns-clause-log
 returns-clause-log g c =
     let i = c.self.inside in
-    let p : PlainData = record { vars = i.vars; all = i.store.all; held = i.store.held; waiting = i.waiting.items; begun = i.begun; opening = i.opening.items; passed = i.passed; given = i.given.items; given_room = vec_capacity i.given - vec_len i.given; written = i.written.items; log = i.log; last = i.last; stop = i.stop; looks = i.looks } in
+    let p : PlainData = record { vars = i.vars; all = i.store.all; held = i.store.held; waiting = i.waiting.items; begun = i.begun; opening = i.opening.items; passed = i.passed; given = i.given.items; given_room = vec_capacity i.given - vec_len i.given; written = i.written.items; log = i.log; last = i.last; stop = i.stop; looks = i.looks; caught_up = i.caught_up } in
     let some : 1 ≤ length (state_of p).waiting = subst (λ s. 1 ≤ length s.waiting) (sym (state_is c.self.view_is)) c.requires.some in
     let usable : is_usable i.log.refused ≡ true = subst (λ s. is_usable s.refused ≡ true) (sym (state_is c.self.view_is)) c.requires.usable in
     let f = at_first p c.self.invariant c.index-c.result.now some c.index-c.ensures in

@@ -15,7 +15,7 @@ invariant_of-result g c =
     let plain = begun_plain found.clauses c.args.vars c.args.starts c.args.units.items (g.L.LineOut.told c.args.output) c.len-begun.result (vec_capacity c.in-Ok.given - vec_len c.in-Ok.given) c.new-2.result found.journal found.over c.requires.starts_on c.requires.units_on
     (c.len-begun.ensures ∙ ap (λ (hs : List Holding). length hs) held) (let exact = c.in-Ok.ensures.exact in let none = c.in-Ok.ensures.len in let n = c.len.ensures in omega arith) in
     subst (λ (p : PlainData). IsPlain p)
-    (λ i. record { vars = c.args.vars; all = sym held i; held = sym live i; waiting = sym c.new-waiting.ensures.items i; begun = c.len-begun.result; opening = c.args.units.items; passed = 0; given = sym c.in-Ok.ensures.items i; given_room = vec_capacity c.in-Ok.given - vec_len c.in-Ok.given; written = sym c.new.ensures.items i; log = c.new-2.result; last = None; stop = None; looks = 0 })
+    (λ i. record { vars = c.args.vars; all = sym held i; held = sym live i; waiting = sym c.new-waiting.ensures.items i; begun = c.len-begun.result; opening = c.args.units.items; passed = 0; given = sym c.in-Ok.ensures.items i; given_room = vec_capacity c.in-Ok.given - vec_len c.in-Ok.given; written = sym c.new.ensures.items i; log = c.new-2.result; last = None; stop = None; looks = 0; caught_up = 0 })
     plain
 
 pub returns-clause-made : goal.returns-clause-made

@@ -14,7 +14,7 @@ use Rattle.ring_port.proofs.plain_port.PlainPort.put_clause.Goals as goal
 pub invariant_of-self-2 : goal.invariant_of-self-2
 invariant_of-self-2 g c =
     let i = c.self.inside in
-    let p : PlainData = record { vars = i.vars; all = i.store.all; held = i.store.held; waiting = i.waiting.items; begun = i.begun; opening = i.opening.items; passed = i.passed; given = i.given.items; given_room = vec_capacity i.given - vec_len i.given; written = i.written.items; log = i.log; last = i.last; stop = i.stop; looks = i.looks } in
+    let p : PlainData = record { vars = i.vars; all = i.store.all; held = i.store.held; waiting = i.waiting.items; begun = i.begun; opening = i.opening.items; passed = i.passed; given = i.given.items; given_room = vec_capacity i.given - vec_len i.given; written = i.written.items; log = i.log; last = i.last; stop = i.stop; looks = i.looks; caught_up = i.caught_up } in
     let x : Holding = holding_of c.push-c.result c.in_ok-number.number c.args.glue c.args.lits.now in
     let address : c.push-c.result.address ≡ length i.store.all = c.push-c.ensures.address ∙ ap (λ hs. length hs) c.make_room.ensures.all in
     let grown : c.push-c.new.self.all ≡ i.store.all ++ x ∷ [] =
@@ -36,7 +36,7 @@ returns-clause-port g c = plain_port _ (invariant_of-self-2 g c)
 pub returns-clause-put : goal.returns-clause-put
 returns-clause-put g c =
     let i = c.self.inside in
-    let p : PlainData = record { vars = i.vars; all = i.store.all; held = i.store.held; waiting = i.waiting.items; begun = i.begun; opening = i.opening.items; passed = i.passed; given = i.given.items; given_room = vec_capacity i.given - vec_len i.given; written = i.written.items; log = i.log; last = i.last; stop = i.stop; looks = i.looks } in
+    let p : PlainData = record { vars = i.vars; all = i.store.all; held = i.store.held; waiting = i.waiting.items; begun = i.begun; opening = i.opening.items; passed = i.passed; given = i.given.items; given_room = vec_capacity i.given - vec_len i.given; written = i.written.items; log = i.log; last = i.last; stop = i.stop; looks = i.looks; caught_up = i.caught_up } in
     let x : Holding = holding_of c.push-c.result c.in_ok-number.number c.args.glue c.args.lits.now in
     let address : c.push-c.result.address ≡ length i.store.all = c.push-c.ensures.address ∙ ap (λ hs. length hs) c.make_room.ensures.all in
     let grown : c.push-c.new.self.all ≡ i.store.all ++ x ∷ [] =
@@ -57,7 +57,7 @@ returns-clause-put g c =
 pub returns-clause-kept : goal.returns-clause-kept
 returns-clause-kept g c =
     let i = c.self.inside in
-    let p : PlainData = record { vars = i.vars; all = i.store.all; held = i.store.held; waiting = i.waiting.items; begun = i.begun; opening = i.opening.items; passed = i.passed; given = i.given.items; given_room = vec_capacity i.given - vec_len i.given; written = i.written.items; log = i.log; last = i.last; stop = i.stop; looks = i.looks } in
+    let p : PlainData = record { vars = i.vars; all = i.store.all; held = i.store.held; waiting = i.waiting.items; begun = i.begun; opening = i.opening.items; passed = i.passed; given = i.given.items; given_room = vec_capacity i.given - vec_len i.given; written = i.written.items; log = i.log; last = i.last; stop = i.stop; looks = i.looks; caught_up = i.caught_up } in
     let x : Holding = holding_of c.push-c.result c.in_ok-number.number c.args.glue c.args.lits.now in
     let address : c.push-c.result.address ≡ length i.store.all = c.push-c.ensures.address ∙ ap (λ hs. length hs) c.make_room.ensures.all in
     let grown : c.push-c.new.self.all ≡ i.store.all ++ x ∷ [] =
@@ -74,7 +74,7 @@ returns-clause-kept g c =
 pub returns-clause-log : goal.returns-clause-log
 returns-clause-log g c =
     let i = c.self.inside in
-    let p : PlainData = record { vars = i.vars; all = i.store.all; held = i.store.held; waiting = i.waiting.items; begun = i.begun; opening = i.opening.items; passed = i.passed; given = i.given.items; given_room = vec_capacity i.given - vec_len i.given; written = i.written.items; log = i.log; last = i.last; stop = i.stop; looks = i.looks } in
+    let p : PlainData = record { vars = i.vars; all = i.store.all; held = i.store.held; waiting = i.waiting.items; begun = i.begun; opening = i.opening.items; passed = i.passed; given = i.given.items; given_room = vec_capacity i.given - vec_len i.given; written = i.written.items; log = i.log; last = i.last; stop = i.stop; looks = i.looks; caught_up = i.caught_up } in
     let x : Holding = holding_of c.push-c.result c.in_ok-number.number c.args.glue c.args.lits.now in
     let address : c.push-c.result.address ≡ length i.store.all = c.push-c.ensures.address ∙ ap (λ hs. length hs) c.make_room.ensures.all in
     let grown : c.push-c.new.self.all ≡ i.store.all ++ x ∷ [] =
@@ -98,21 +98,21 @@ returns-clause-log g c =
 pub returns-in_err-number-clause-port : goal.returns-in_err-number-clause-port
 returns-in_err-number-clause-port g c =
     let i = c.self.inside in
-    let p : PlainData = record { vars = i.vars; all = i.store.all; held = i.store.held; waiting = i.waiting.items; begun = i.begun; opening = i.opening.items; passed = i.passed; given = i.given.items; given_room = vec_capacity i.given - vec_len i.given; written = i.written.items; log = i.log; last = i.last; stop = i.stop; looks = i.looks } in
+    let p : PlainData = record { vars = i.vars; all = i.store.all; held = i.store.held; waiting = i.waiting.items; begun = i.begun; opening = i.opening.items; passed = i.passed; given = i.given.items; given_room = vec_capacity i.given - vec_len i.given; written = i.written.items; log = i.log; last = i.last; stop = i.stop; looks = i.looks; caught_up = i.caught_up } in
     subst (λ (w : List Holding × List Holding). IsPort (state_of (record p { all = w.0; held = w.1; log = c.add.new.self }))) (λ i. (sym c.make_room.ensures.all i, sym c.make_room.ensures.held i))
     (plain_port _ (plain_log p c.self.invariant c.add.new.self i.last))
 
 pub returns-in_err-number-clause-kept : goal.returns-in_err-number-clause-kept
 returns-in_err-number-clause-kept g c =
     let i = c.self.inside in
-    let p : PlainData = record { vars = i.vars; all = i.store.all; held = i.store.held; waiting = i.waiting.items; begun = i.begun; opening = i.opening.items; passed = i.passed; given = i.given.items; given_room = vec_capacity i.given - vec_len i.given; written = i.written.items; log = i.log; last = i.last; stop = i.stop; looks = i.looks } in
+    let p : PlainData = record { vars = i.vars; all = i.store.all; held = i.store.held; waiting = i.waiting.items; begun = i.begun; opening = i.opening.items; passed = i.passed; given = i.given.items; given_room = vec_capacity i.given - vec_len i.given; written = i.written.items; log = i.log; last = i.last; stop = i.stop; looks = i.looks; caught_up = i.caught_up } in
     subst (λ s. KeepsHeld s (state_of (record p { all = c.make_room.new.self.all; held = c.make_room.new.self.held; log = c.add.new.self }))) (state_is c.self.view_is)
     (λ a some. same_lookup (state_of p) (state_of (record p { all = c.make_room.new.self.all; held = c.make_room.new.self.held; log = c.add.new.self })) a c.make_room.ensures.held)
 
 pub returns-in_err-number-clause-log : goal.returns-in_err-number-clause-log
 returns-in_err-number-clause-log g c =
     let i = c.self.inside in
-    let p : PlainData = record { vars = i.vars; all = i.store.all; held = i.store.held; waiting = i.waiting.items; begun = i.begun; opening = i.opening.items; passed = i.passed; given = i.given.items; given_room = vec_capacity i.given - vec_len i.given; written = i.written.items; log = i.log; last = i.last; stop = i.stop; looks = i.looks } in
+    let p : PlainData = record { vars = i.vars; all = i.store.all; held = i.store.held; waiting = i.waiting.items; begun = i.begun; opening = i.opening.items; passed = i.passed; given = i.given.items; given_room = vec_capacity i.given - vec_len i.given; written = i.written.items; log = i.log; last = i.last; stop = i.stop; looks = i.looks; caught_up = i.caught_up } in
     let usable : is_usable i.log.refused ≡ true = subst (λ s. is_usable s.refused ≡ true) (sym (state_is c.self.view_is)) c.requires.usable in
     let clause = subst (λ s. IsClause s.vars c.args.lits.now) (sym (state_is c.self.view_is)) c.requires.clause in
     let follows : rup (known (state_of p)) c.args.lits.now ≡ true = subst (λ s. rup (known s) c.args.lits.now ≡ true) (sym (state_is c.self.view_is)) c.requires.rup in
@@ -126,20 +126,20 @@ returns-in_err-number-clause-log g c =
 pub returns-in_err-make_room-clause-port : goal.returns-in_err-make_room-clause-port
 returns-in_err-make_room-clause-port g c =
     let i = c.self.inside in
-    let p : PlainData = record { vars = i.vars; all = i.store.all; held = i.store.held; waiting = i.waiting.items; begun = i.begun; opening = i.opening.items; passed = i.passed; given = i.given.items; given_room = vec_capacity i.given - vec_len i.given; written = i.written.items; log = i.log; last = i.last; stop = i.stop; looks = i.looks } in
+    let p : PlainData = record { vars = i.vars; all = i.store.all; held = i.store.held; waiting = i.waiting.items; begun = i.begun; opening = i.opening.items; passed = i.passed; given = i.given.items; given_room = vec_capacity i.given - vec_len i.given; written = i.written.items; log = i.log; last = i.last; stop = i.stop; looks = i.looks; caught_up = i.caught_up } in
     subst (λ (w : List Holding × List Holding). IsPort (state_of (record p { all = w.0; held = w.1 }))) (λ i. (sym c.make_room.ensures.all i, sym c.make_room.ensures.held i))
     (plain_port _ c.self.invariant)
 
 pub returns-in_err-make_room-2-clause-port : goal.returns-in_err-make_room-2-clause-port
 returns-in_err-make_room-2-clause-port g c =
     let i = c.self.inside in
-    let p : PlainData = record { vars = i.vars; all = i.store.all; held = i.store.held; waiting = i.waiting.items; begun = i.begun; opening = i.opening.items; passed = i.passed; given = i.given.items; given_room = vec_capacity i.given - vec_len i.given; written = i.written.items; log = i.log; last = i.last; stop = i.stop; looks = i.looks } in
+    let p : PlainData = record { vars = i.vars; all = i.store.all; held = i.store.held; waiting = i.waiting.items; begun = i.begun; opening = i.opening.items; passed = i.passed; given = i.given.items; given_room = vec_capacity i.given - vec_len i.given; written = i.written.items; log = i.log; last = i.last; stop = i.stop; looks = i.looks; caught_up = i.caught_up } in
     subst (λ (w : List Holding × List Holding). IsPort (state_of (record p { all = w.0; held = w.1; log = c.make_room-2.new.self }))) (λ i. (sym c.make_room.ensures.all i, sym c.make_room.ensures.held i))
     (plain_port _ (plain_log p c.self.invariant c.make_room-2.new.self i.last))
 
 pub returns-in_default-clause-port : goal.returns-in_default-clause-port
 returns-in_default-clause-port g c =
     let i = c.self.inside in
-    let p : PlainData = record { vars = i.vars; all = i.store.all; held = i.store.held; waiting = i.waiting.items; begun = i.begun; opening = i.opening.items; passed = i.passed; given = i.given.items; given_room = vec_capacity i.given - vec_len i.given; written = i.written.items; log = i.log; last = i.last; stop = i.stop; looks = i.looks } in
+    let p : PlainData = record { vars = i.vars; all = i.store.all; held = i.store.held; waiting = i.waiting.items; begun = i.begun; opening = i.opening.items; passed = i.passed; given = i.given.items; given_room = vec_capacity i.given - vec_len i.given; written = i.written.items; log = i.log; last = i.last; stop = i.stop; looks = i.looks; caught_up = i.caught_up } in
     subst (λ (w : List Holding × List Holding). IsPort (state_of (record p { all = w.0; held = w.1; log = c.make_room-2.new.self }))) (λ i. (sym c.make_room.ensures.all i, sym c.make_room.ensures.held i))
     (plain_port _ (plain_log p c.self.invariant c.make_room-2.new.self i.last))

@@ -1,5 +1,7 @@
-use Rattle.std.proofs.Common.{◌<◌, arith}
-use Rattle.sample_port.specs.Crowd.{IsLast}
+use Rattle.std.proofs.Common.{◌<◌, List, None, arith, sym, subst}
+use Rattle.ring_port.specs.PortState.{IsPort, HoldsStart}
+use Rattle.sample_port.specs.declared.crowd.Poll.{Poll}
+use Rattle.sample_port.specs.Crowd.{IsLast, asked, crowd_of}
 use Rattle.sample_port.proofs.CrowdLemmas.{address_of, none, is_last, crowd_begins, crowd_holds, start_front}
 use Rattle.sample_port.proofs.crowd.Crowd.over.Goals as goal
 
@@ -10,10 +12,15 @@ last_start g c =
     is_last c.args.inner.state c.in-Some.last v.items v.len v.ok.0 c.requires.held c.in_ok-start.ensures some (c.in-Some.ensures.value (address_of none) some)
 
 pub invariant_of-crowd : goal.invariant_of-crowd
-invariant_of-crowd g c = (crowd_begins c.args.inner.state c.requires.port, last_start g c, c.requires.port)
+invariant_of-crowd g c = (
+  subst (λ (ps : List Poll). IsPort (crowd_of c.args.inner.state None None 0 None (asked 0 ps 0))) (sym c.new.ensures.items) (crowd_begins c.args.inner.state c.requires.port),
+  last_start g c,
+  c.requires.port,
+)
 
 pub returns-clause-holds : goal.returns-clause-holds
-returns-clause-holds g c = crowd_holds c.args.inner.state c.in-Some.last.address (last_start g c) c.requires.held c.requires.holds
+returns-clause-holds g c =
+    subst (λ (ps : List Poll). HoldsStart (crowd_of c.args.inner.state None None 0 None (asked 0 ps 0))) (sym c.new.ensures.items) (crowd_holds c.args.inner.state c.in-Some.last.address (last_start g c) c.requires.held c.requires.holds)
 
 pub returns-clause-start : goal.returns-clause-start
 returns-clause-start g c =

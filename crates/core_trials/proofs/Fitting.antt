@@ -16,7 +16,7 @@ use Rattle.rup_model.proofs.ProgramOpening.{All_from_In}
 use Rattle.share_core.specs.declared.stored.ClauseAt.{ClauseAt}
 use Rattle.share_core.specs.State.{times_at, IsCoreOpening}
 use Rattle.share_core.specs.Machine.{start_at, core_opening}
-use Rattle.share_core.specs.Openings.{start_fits, stand_apart, opens}
+use Rattle.core_trials.specs.Fitting.{start_fits, stand_apart, opens}
 use Rattle.share_core.proofs.Deciding.{long_from}
 
 not_true : (b : Bool) → not b ≡ true → b ≡ false

@@ -30,6 +30,7 @@ use Rattle.ring_run.specs.Course.{HasLemmas, MayImport, AreOrdered}
 use Rattle.ring_run.specs.declared.job.Job.{Job}
 use Rattle.ring_run.specs.declared.ring.Ring.{Ring}
 use Rattle.ring_run.proofs.Numbering.{ordered_none}
+use Rattle.ring_run.proofs.Lately.{lately_none}
 
 pub runs_begin : (s : PortState) → IsUntouched s → IsPort s → Runs s s 0
 runs_begin s p port = record {
@@ -41,6 +42,7 @@ runs_begin s p port = record {
   new_lines = subst (EachAfter (IsNewLine s.opening s.given s.ring) []) (sym p.mine) tt;
   timely = subst (EachAfter IsTimely []) (sym p.mine) tt;
   glued = record { others = []; few = omega arith; each = λ h there. inl there };
+  lately = lately_none s (ap (λ (J : List Entry). recent s.ring J) p.mine);
   port = port;
 }
 

@@ -33,6 +33,7 @@ use Rattle.ring_run.specs.Ended.{IsTimely, Stays, IsOwn, IsOfKind, IsUntold, IsN
 use Rattle.ring_run.specs.Searching.{HasClauses, KeepsOn, IsHeldBy, AddedSeen, OnlyPolled}
 use Rattle.ring_run.specs.Course.{Searches}
 use Rattle.ring_run.proofs.Remembering.{held_same, LitsStay, lits_kept, remembered_as}
+use Rattle.ring_run.proofs.Lately.{sees_same, lately_same}
 use Rattle.ring_run.proofs.Progress.{stays_by, news_moved, lines_moved, runs_same, starts_kept}
 use Rattle.ring_run.proofs.Learning.{held_more}
 use Rattle.ring_run.proofs.Telling.{never, told_same}
@@ -139,7 +140,7 @@ module _ (s w : PortState) (k : Literal) (took : TookUnit s w k) (seen : AddedSe
       let held : w.held ≡ s.held = ap (λ (x : PortState). x.held) took.state in
       let mine : w.mine ≡ s.mine = ap (λ (x : PortState). x.mine) took.state in
       record {
-        runs = runs_same start s w n p.runs stays held mine
+        runs = runs_same start s w n p.runs stays held (λ l h. took.sees l ∙ or_left (has s.seen l) (same k l) h) mine
             (took_lines start.vars (subst (λ (r : ℕ). All (IsOwn r start.vars) s.mine) (sym p.runs.stays.ring) p.runs.wrote) p.runs.new_lines) port;
         going = ap (λ (J : List Entry). list_any is_empty (added J)) mine ∙ p.going;
         stop = ap (λ (x : PortState). x.stop) took.state ∙ p.stop;
@@ -259,6 +260,7 @@ module _ (s u : PortState) (given : List Cref) (d : Polls s u given) (one : leng
           new_lines = lines_moved s u s.mine stays d.units d.mine p.runs.new_lines;
           timely = subst (EachAfter IsTimely []) (sym d.mine) p.runs.timely;
           glued = polls_glued start p.runs.glued;
+          lately = lately_same s u d.ring d.mine d.kept (sees_same s u d.seen) p.runs.lately;
           port = port;
         };
         going = ap (λ (J : List Entry). list_any is_empty (added J)) d.mine ∙ p.going;

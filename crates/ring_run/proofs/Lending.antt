@@ -30,6 +30,7 @@ use Rattle.ring_run.specs.Searching.{GoesOn, OnlySaw, OffersNothing, HasLent, Ha
 use Rattle.ring_run.specs.Course.{Searches, InSearch, WentBack, Lists, HasLeft, AreSameOffers, IsOffering}
 use Rattle.ring_run.specs.declared.ring.Ring.{Ring}
 use Rattle.ring_run.proofs.Remembering.{HoldsAlike, lits_alike, clause_alike, remembered_same}
+use Rattle.ring_run.proofs.Lately.{sees_same}
 use Rattle.ring_run.proofs.Standing.{reasoned_alike}
 use Rattle.ring_run.proofs.Progress.{runs_alike, lines_moved, starts_kept, glue_bounds}
 use Rattle.ring_run.proofs.Telling.{told_same}
@@ -79,7 +80,7 @@ lent_goes_on start s u n p lent log port =
     let stays = lent_stays s u lent log in
     let mine : u.mine ≡ s.mine = ap (λ (x : PortState). x.mine) lent.state in
     record {
-      runs = runs_alike start s u n p.runs stays (λ a h. lent.same a) (λ h there. inl (lent_contains s u lent.same port h there)) mine
+      runs = runs_alike start s u n p.runs stays (λ a h. lent.same a) (λ h there. inl (lent_contains s u lent.same port h there)) (sees_same s u (ap (λ (x : PortState). x.seen) lent.state)) mine
           (lines_moved s u s.mine stays (ap (λ (x : PortState). x.given) lent.state) mine p.runs.new_lines) port;
       going = ap (λ (J : List Entry). list_any is_empty (added J)) mine ∙ p.going;
       stop = ap (λ (x : PortState). x.stop) lent.state ∙ p.stop;

@@ -1,6 +1,7 @@
 pub mod LevelZero
 pub mod Remembering
 pub mod Numbering
+pub mod Lately
 pub mod Standing
 pub mod Progress
 pub mod News
@@ -8,10 +9,12 @@ pub mod Asserting
 pub mod Learning
 pub mod Deciding
 pub mod Turning
+pub mod Acting
 pub mod Tidying
 pub mod Importing
 pub mod Polling
 pub mod Rounds
+pub mod Slots
 pub mod InTime
 pub mod Beginning
 pub mod Telling
@@ -20,6 +23,7 @@ pub mod Phases
 pub mod Pacing
 pub mod Offering
 pub mod Lending
+pub mod Outcomes
 pub mod Listing
 pub mod Reducing
 pub mod Shortened

@@ -3,11 +3,13 @@ use Rattle.std.proofs.Common.{◌≡◌, ◌∙◌, ℕ, ◌+◌, ◌-◌, ◌^�
 use Rattle.std.specs.Prelude.{All, ◌&&◌, ◌≢◌, MatchOption, IfSome, IfErr, Result, Ok, Err}
 use Rattle.std.specs.List.{list_any}
 use Rattle.std.specs.declared.option.Option.{Option}
+use Rattle.std.specs.Option.{option_map}
 use Rattle.std.proofs.lemmas.List.{length-map}
 use Rattle.std.proofs.lemmas.List.Elements.{All-append, All-cons, All-nil}
-use Rattle.std.proofs.lemmas.Bool.{or_left, false≢true}
+use Rattle.std.proofs.lemmas.Bool.{or_left, or_right, false≢true}
 use Rattle.sat_words.specs.Literal.{Literal, same}
 use Rattle.sat_words.specs.Clause.{has, is_empty}
+use Rattle.sat_words.proofs.Members.{same-refl}
 use Rattle.sat_words.specs.declared.shared.Cref.{Cref}
 use Rattle.sat_words.specs.declared.shared.Stop.{Stop}
 use Rattle.rup_model.specs.declared.journal.Kind.{Kind}
@@ -32,13 +34,14 @@ use Rattle.ring_port.specs.Port.{holding_of, Learned, WroteUnit, UnitWritten, Le
 use Rattle.ring_port.specs.Log.{KeepsLog, start_of}
 use Rattle.ring_port.specs.declared.stops.PortStop.{PortStop}
 use Rattle.ring_port.specs.declared.stops.PortStop.TheVariants.{Ended, Broken, ProofFault, NoHole, Memory}
-use Rattle.ring_run.specs.Ended.{IsTimely, Stays, IsOwn, AreNew, IsUntold, IsNewLine, AreNewLines, IsGlued, HoldsGlued, Cause, stop_kind, opening_of}
+use Rattle.ring_run.specs.Ended.{IsTimely, Stays, IsOwn, AreNew, IsUntold, IsNewLine, AreNewLines, IsGlued, HoldsGlued, IsHeldOrSeen, HoldsRecent, Cause, stop_kind, opening_of}
 use Rattle.ring_run.specs.Searching.{Runs, GoesOn, OnlyWrote, IsNewTo, UnitsSeen, IsGlueOf, HoldsByGlue}
 use Rattle.ring_run.specs.Ending.{CountsTo, IsUnset, ComesTo, EndsAt, end_refused}
 use Rattle.ring_run.specs.declared.job.End.{End}
 use Rattle.ring_run.specs.declared.job.End.TheVariants as ring_end
 use Rattle.ring_run.proofs.Numbering.{grown_none, grown_then, reductions_still, reductions_other}
 use Rattle.ring_run.proofs.Remembering.{held_same, lits_same, unit_remembered, remembered_same}
+use Rattle.ring_run.proofs.Lately.{SeesMore, sees_same, lately_as, lately_same, lately_more}
 
 pub stays_by : (s u w : PortState) → Stays s u → Stays u w → Stays s w
 stays_by s u w p q = record {
@@ -91,8 +94,8 @@ starts_kept s u same kept held = subst (All (λ h. held_at u h.address ≡ Some 
 
 -- a run goes on by an entry of its ring
 pub runs_entry : (start s u : PortState) (n m : ℕ) (e : Entry) → Runs start s n → Stays s u → HoldsStart u → u.mine ≡ s.mine ++ e ∷ [] → IsOwn start.ring start.vars e
-    → m ≡ n + length (learned s.ring (e ∷ [])) → IsNew (opening_of s) s.mine e → u.given ≡ s.given → IsNewLine s.opening s.given s.ring s.mine e → IsTimely s.mine e → AddsGlued s u → IsPort u → Runs start u m
-runs_entry start s u n m e p stays held is own count fresh given line timely glued port = record {
+    → m ≡ n + length (learned s.ring (e ∷ [])) → IsNew (opening_of s) s.mine e → u.given ≡ s.given → IsNewLine s.opening s.given s.ring s.mine e → IsTimely s.mine e → AddsGlued s u → HoldsRecent u → IsPort u → Runs start u m
+runs_entry start s u n m e p stays held is own count fresh given line timely glued lately port = record {
   stays = stays_by start s u p.stays stays;
   held = held;
   wrote = subst (All (IsOwn start.ring start.vars)) (sym is)
@@ -107,18 +110,19 @@ runs_entry start s u n m e p stays held is own count fresh given line timely glu
   new_lines = lines_moved s u (s.mine ++ e ∷ []) stays given is (each_last (IsNewLine s.opening s.given s.ring) [] s.mine e p.new_lines line);
   timely = subst (EachAfter IsTimely []) (sym is) (each_last IsTimely [] s.mine e p.timely timely);
   glued = glued_by start s u p.glued stays.polled glued;
+  lately = lately;
   port = port;
 }
 
 -- where what was held still is
 pub runs_adds : (start s u : PortState) (n m : ℕ) (e : Entry) → Runs start s n → Stays s u → KeepsHeld s u → u.mine ≡ s.mine ++ e ∷ [] → IsOwn start.ring start.vars e
-    → m ≡ n + length (learned s.ring (e ∷ [])) → IsNew (opening_of s) s.mine e → u.given ≡ s.given → IsNewLine s.opening s.given s.ring s.mine e → IsTimely s.mine e → AddsGlued s u → IsPort u → Runs start u m
-runs_adds start s u n m e p stays kept is own count fresh given line timely glued port =
-    runs_entry start s u n m e p stays (starts_kept s u stays.start kept p.held) is own count fresh given line timely glued port
+    → m ≡ n + length (learned s.ring (e ∷ [])) → IsNew (opening_of s) s.mine e → u.given ≡ s.given → IsNewLine s.opening s.given s.ring s.mine e → IsTimely s.mine e → AddsGlued s u → HoldsRecent u → IsPort u → Runs start u m
+runs_adds start s u n m e p stays kept is own count fresh given line timely glued lately port =
+    runs_entry start s u n m e p stays (starts_kept s u stays.start kept p.held) is own count fresh given line timely glued lately port
 
 -- and by a call that writes nothing
-pub runs_alike : (start s u : PortState) (n : ℕ) → Runs start s n → Stays s u → KeepsHeld s u → AddsGlued s u → u.mine ≡ s.mine → AreNewLines u → IsPort u → Runs start u n
-runs_alike start s u n p stays kept adds is lines port = record {
+pub runs_alike : (start s u : PortState) (n : ℕ) → Runs start s n → Stays s u → KeepsHeld s u → AddsGlued s u → SeesMore s u → u.mine ≡ s.mine → AreNewLines u → IsPort u → Runs start u n
+runs_alike start s u n p stays kept adds more is lines port = record {
   stays = stays_by start s u p.stays stays;
   held = starts_kept s u stays.start kept p.held;
   wrote = subst (All (IsOwn start.ring start.vars)) (sym is) p.wrote;
@@ -127,11 +131,12 @@ runs_alike start s u n p stays kept adds is lines port = record {
   new_lines = lines;
   timely = subst (EachAfter IsTimely []) (sym is) p.timely;
   glued = glued_by start s u p.glued stays.polled adds;
+  lately = lately_same s u stays.ring is kept more p.lately;
   port = port;
 }
 
-pub runs_same : (start s u : PortState) (n : ℕ) → Runs start s n → Stays s u → u.held ≡ s.held → u.mine ≡ s.mine → AreNewLines u → IsPort u → Runs start u n
-runs_same start s u n p stays held is lines port = runs_alike start s u n p stays (λ a h. held_same s u a held) (glued_same s u held) is lines port
+pub runs_same : (start s u : PortState) (n : ℕ) → Runs start s n → Stays s u → u.held ≡ s.held → SeesMore s u → u.mine ≡ s.mine → AreNewLines u → IsPort u → Runs start u n
+runs_same start s u n p stays held more is lines port = runs_alike start s u n p stays (λ a h. held_same s u a held) (glued_same s u held) more is lines port
 
 pub going_more : (s u : PortState) (e : Entry) → u.mine ≡ s.mine ++ e ∷ [] → list_any is_empty (added s.mine) ≡ false → list_any is_empty (added (e ∷ [])) ≡ false
     → list_any is_empty (added u.mine) ≡ false
@@ -143,6 +148,28 @@ going_more s u e is old new =
     any_append [] ys p q = q
     any_append ([] ∷ xs) ys p q = cc
     any_append ((l ∷ c) ∷ xs) ys p q = any_append xs ys p q
+
+-- What was learned lately
+
+pub recent_still : (s u : PortState) → u.ring ≡ s.ring → u.mine ≡ s.mine → recent u.ring u.mine ≡ recent s.ring s.mine
+recent_still s u ring mine = ap (λ (r : ℕ). recent r u.mine) ring ∙ ap (recent s.ring) mine
+
+recent_added : (r : ℕ) (J : List Entry) (x : Addition) → recent r (J ++ Add x ∷ []) ≡ recent r J ++ learned r (Add x ∷ [])
+recent_added r J x = fold_last (recent_after r) [] J (Add x)
+
+pub none_learned : (r : ℕ) (x : Addition) → is_learn x.kind ≡ false → learned r (Add x ∷ []) ≡ []
+none_learned r x e = ap (λ (b : Bool). map (λ (y : Addition). y.lits) (cond b (x ∷ []) [])) (both (nat_eq x.ring r) (is_learn x.kind) e)
+  where
+    both : (a b : Bool) → b ≡ false → (a && b) ≡ false
+    both true b e = e
+    both false b e = refl
+
+-- an entry of another kind
+pub recent_other : (s u : PortState) (number : ℕ) (lits : List Literal) (kind : Kind) → is_learn kind ≡ false → u.ring ≡ s.ring → u.mine ≡ s.mine ++ entry_of s number lits kind ∷ [] → recent u.ring u.mine ≡ recent s.ring s.mine
+recent_other s u number lits kind other ring mine =
+    let x : Addition = record { ring = s.ring; number = number; lits = lits; kind = kind } in
+    ap (λ (r : ℕ). recent r u.mine) ring ∙ ap (recent s.ring) mine ∙ recent_added s.ring s.mine x
+    ∙ ap (λ (cs : List (List Literal)). recent s.ring s.mine ++ cs) (none_learned s.ring x other) ∙ append-nil (recent s.ring s.mine)
 
 -- a unit's line
 stays_unit : (s u : PortState) (l : Literal) (kind : Kind) (last : Option ℕ) → WroteUnit s u l kind last → KeepsLog s u → Stays s u
@@ -200,7 +227,8 @@ unit_goes_on start s u n l p on units unseen w log port =
     record {
       runs = runs_adds start s u n n e p.runs stays (λ a h. held_same s u a held) is
           (p.runs.stays.ring, subst (λ (v : ℕ). All (IsOn v) (l ∷ [])) p.runs.stays.vars (All-cons (IsOn s.vars) l [] on (All-nil (IsOn s.vars))), refl)
-          (no_lemma s.ring w.number l) (λ learns. absurd (false≢true learns)) (ap (λ (x : PortState). x.given) w.state) (new_line s l w.number units p.runs.port unseen) tt (glued_same s u held) port;
+          (no_lemma s.ring w.number l) (λ learns. absurd (false≢true learns)) (ap (λ (x : PortState). x.given) w.state) (new_line s l w.number units p.runs.port unseen) tt (glued_same s u held)
+          (lately_as s u (recent_other s u w.number (l ∷ []) UnitLine refl (ap (λ (x : PortState). x.ring) w.state) is) (λ a h. held_same s u a held) (λ k h. w.sees k ∙ or_left (has s.seen k) (same l k) h) p.runs.lately) port;
       going = going_more s u e is p.going refl;
       stop = ap (λ (x : PortState). x.stop) w.state ∙ p.stop;
       refused = ap (λ (x : PortState). x.refused) w.state ∙ p.refused;
@@ -226,6 +254,7 @@ pub record Same (s u : PortState) : Type 0 where
   pub taken : u.taken ≡ s.taken
   pub home : u.home ≡ s.home
   pub given : u.given ≡ s.given
+  pub seen : u.seen ≡ s.seen
   pub looks : u.looks ≡ s.looks
   pub mine : u.mine ≡ s.mine
   pub stop : u.stop ≡ s.stop
@@ -247,6 +276,7 @@ but_noted s refused ended output = record {
   taken = refl;
   home = refl;
   given = refl;
+  seen = refl;
   looks = refl;
   mine = refl;
   stop = refl;
@@ -316,7 +346,7 @@ pub refused_ends : (start s u : PortState) (n limit : ℕ) (stop : PortStop) →
 refused_ends start s u n limit stop below p r log port =
     let same : Same s u = subst (Same s) (sym r.state) (same_refused s u.output stop) in
     record {
-      runs = runs_same start s u n p.runs (stays_same s u same log) same.held same.mine (lines_moved s u s.mine (stays_same s u same log) same.given same.mine p.runs.new_lines) port;
+      runs = runs_same start s u n p.runs (stays_same s u same log) same.held (sees_same s u same.seen) same.mine (lines_moved s u s.mine (stays_same s u same log) same.given same.mine p.runs.new_lines) port;
       cause = subst (λ (x : PortState). Cause x (end_refused stop)) (sym r.state) (refused_cause s u.output stop r.reason (usable_none s p.refused) p.going);
       unset = unset u (end_refused stop) (same.stop ∙ p.stop);
       counts = refused_counts n limit stop below;
@@ -408,13 +438,14 @@ learned_by_glue s u steps lits glue None w counts h there = inl (subst (λ (hs :
 
 -- the entry of a lemma goes on with one more
 learned_goes_on : (start s u : PortState) (n number : ℕ) (lits : List Literal) → GoesOn start s n → Stays s u → IsClause s.vars lits → IsNewTo s lits → 1 ≤ length lits
-    → u.mine ≡ s.mine ++ entry_of s number lits Learn ∷ [] → u.given ≡ s.given → AddsGlued s u → u.stop ≡ s.stop → u.refused ≡ s.refused → KeepsHeld s u → IsPort u → GoesOn start u (n + 1)
-learned_goes_on start s u n number lits p stays clause fresh some is given glued stop refused kept port =
+    → u.mine ≡ s.mine ++ entry_of s number lits Learn ∷ [] → u.given ≡ s.given → AddsGlued s u → SeesMore s u → IsHeldOrSeen u lits → u.stop ≡ s.stop → u.refused ≡ s.refused → KeepsHeld s u → IsPort u → GoesOn start u (n + 1)
+learned_goes_on start s u n number lits p stays clause fresh some is given glued more own stop refused kept port =
     let e : Entry = entry_of s number lits Learn in
+    let x : Addition = record { ring = s.ring; number = number; lits = lits; kind = Learn } in
     record {
       runs = runs_adds start s u n (n + 1) e p.runs stays kept is
           (p.runs.stays.ring, subst (λ (v : ℕ). All (IsOn v) lits) p.runs.stays.vars clause.on, some)
-          (omega (arith, one_learned s.ring (record { ring = s.ring; number = number; lits = lits; kind = Learn }) refl refl)) (λ learns. fresh.unlisted) given (λ is_line. absurd (false≢true is_line)) tt glued port;
+          (omega (arith, one_learned s.ring (record { ring = s.ring; number = number; lits = lits; kind = Learn }) refl refl)) (λ learns. fresh.unlisted) given (λ is_line. absurd (false≢true is_line)) tt glued (lately_more s u x stays.ring is kept more own p.runs.lately) port;
       going = going_more s u e is p.going (some_literal lits some);
       stop = stop ∙ p.stop;
       refused = refused ∙ p.refused;
@@ -425,7 +456,8 @@ pub clause_goes_on : (start s u : PortState) (n glue : ℕ) (steps : List Step) 
     → GoesOn start u (n + 1)
 clause_goes_on start s u n glue steps lits c p clause fresh counts w kept log port =
     learned_goes_on start s u n w.number lits p (stays_learned s u lits glue c w log) clause fresh (omega (arith, w.long))
-    (ap (λ (x : PortState). x.mine) w.state) (ap (λ (x : PortState). x.given) w.state) (clause_glued s u steps lits glue c w counts) (ap (λ (x : PortState). x.stop) w.state) (ap (λ (x : PortState). x.refused) w.state) kept port
+    (ap (λ (x : PortState). x.mine) w.state) (ap (λ (x : PortState). x.given) w.state) (clause_glued s u steps lits glue c w counts) (sees_same s u (ap (λ (x : PortState). x.seen) w.state))
+    (inl (record { address = c.address; there = ap (option_map (λ (h : Holding). h.lits)) w.there })) (ap (λ (x : PortState). x.stop) w.state) (ap (λ (x : PortState). x.refused) w.state) kept port
 
 pub unit_learned_goes_on : (start s u : PortState) (n : ℕ) (lits : List Literal) → GoesOn start s n → IsClause s.vars lits → IsNewTo s lits → LearnedUnit s u lits → KeepsHeld s u → KeepsLog s u → IsPort u
     → GoesOn start u (n + 1)
@@ -433,7 +465,9 @@ unit_learned_goes_on start s u n lits p clause fresh w kept log port =
     let wrote = w.wrote in
     learned_goes_on start s u n wrote.number lits p (stays_unit s u w.lit Learn None wrote log) clause fresh (omega (arith, ap length w.unit))
     (ap (λ (x : PortState). x.mine) wrote.state ∙ ap (λ (c : List Literal). s.mine ++ entry_of s wrote.number c Learn ∷ []) (sym w.unit))
-    (ap (λ (x : PortState). x.given) wrote.state) (glued_same s u (ap (λ (x : PortState). x.held) wrote.state)) (ap (λ (x : PortState). x.stop) wrote.state) (ap (λ (x : PortState). x.refused) wrote.state) kept port
+    (ap (λ (x : PortState). x.given) wrote.state) (glued_same s u (ap (λ (x : PortState). x.held) wrote.state))
+    (λ k h. wrote.sees k ∙ or_left (has s.seen k) (same w.lit k) h) (inr (record { lit = w.lit; unit = w.unit; seen = wrote.sees w.lit ∙ or_right (has s.seen w.lit) (same w.lit w.lit) (same-refl w.lit) }))
+    (ap (λ (x : PortState). x.stop) wrote.state) (ap (λ (x : PortState). x.refused) wrote.state) kept port
 
 -- the empty clause
 pub empty_refutes : (start s u : PortState) (n limit : ℕ) → n < limit → GoesOn start s n → EndedLog s u → KeepsLog s u → IsPort u → ComesTo start u n limit ring_end.Refuted
@@ -453,33 +487,14 @@ empty_refutes start s u n limit below p w log port =
       runs = runs_adds start s u n n e p.runs stays (λ a h. held_same s u a (ap (λ (x : PortState). x.held) w.state)) (ap (λ (x : PortState). x.mine) w.state)
           (p.runs.stays.ring, All-nil (IsOn start.vars), inl refl)
           (omega (arith, not_learned s.ring (record { ring = s.ring; number = w.number; lits = []; kind = Derive }) refl)) (λ learns. absurd (false≢true learns))
-          (ap (λ (x : PortState). x.given) w.state) (λ is_line. absurd (false≢true is_line)) (λ two. absurd (omega (arith, two))) (glued_same s u (ap (λ (x : PortState). x.held) w.state)) port;
+          (ap (λ (x : PortState). x.given) w.state) (λ is_line. absurd (false≢true is_line)) (λ two. absurd (omega (arith, two))) (glued_same s u (ap (λ (x : PortState). x.held) w.state))
+          (lately_as s u (recent_other s u w.number [] Derive refl (ap (λ (x : PortState). x.ring) w.state) (ap (λ (x : PortState). x.mine) w.state)) (λ a h. held_same s u a (ap (λ (x : PortState). x.held) w.state)) (sees_same s u (ap (λ (x : PortState). x.seen) w.state)) p.runs.lately) port;
       cause = (ap (λ (x : PortState). x.ended) w.state, usable_none u (ap (λ (x : PortState). x.refused) w.state ∙ p.refused));
       unset = ap (λ (x : PortState). x.stop) w.state ∙ p.stop;
       counts = below;
     }
 
--- What was learned lately
-
-pub recent_still : (s u : PortState) → u.ring ≡ s.ring → u.mine ≡ s.mine → recent u.ring u.mine ≡ recent s.ring s.mine
-recent_still s u ring mine = ap (λ (r : ℕ). recent r u.mine) ring ∙ ap (recent s.ring) mine
-
-recent_added : (r : ℕ) (J : List Entry) (x : Addition) → recent r (J ++ Add x ∷ []) ≡ recent r J ++ learned r (Add x ∷ [])
-recent_added r J x = fold_last (recent_after r) [] J (Add x)
-
-pub none_learned : (r : ℕ) (x : Addition) → is_learn x.kind ≡ false → learned r (Add x ∷ []) ≡ []
-none_learned r x e = ap (λ (b : Bool). map (λ (y : Addition). y.lits) (cond b (x ∷ []) [])) (both (nat_eq x.ring r) (is_learn x.kind) e)
-  where
-    both : (a b : Bool) → b ≡ false → (a && b) ≡ false
-    both true b e = e
-    both false b e = refl
-
--- an entry of another kind
-pub recent_other : (s u : PortState) (number : ℕ) (lits : List Literal) (kind : Kind) → is_learn kind ≡ false → u.ring ≡ s.ring → u.mine ≡ s.mine ++ entry_of s number lits kind ∷ [] → recent u.ring u.mine ≡ recent s.ring s.mine
-recent_other s u number lits kind other ring mine =
-    let x : Addition = record { ring = s.ring; number = number; lits = lits; kind = kind } in
-    ap (λ (r : ℕ). recent r u.mine) ring ∙ ap (recent s.ring) mine ∙ recent_added s.ring s.mine x
-    ∙ ap (λ (cs : List (List Literal)). recent s.ring s.mine ++ cs) (none_learned s.ring x other) ∙ append-nil (recent s.ring s.mine)
+-- What was learned lately, and lines
 
 -- a lemma
 pub recent_lemma : (s u : PortState) (number : ℕ) (lits : List Literal) → u.ring ≡ s.ring → u.mine ≡ s.mine ++ entry_of s number lits Learn ∷ [] → length (recent u.ring u.mine) ≡ length (recent s.ring s.mine) + 1
@@ -565,7 +580,7 @@ counted_goes_on start s u n k m p is log port =
     let w = counted_wrote s u k m is log in
     let mine : u.mine ≡ s.mine = ap (λ (x : PortState). x.mine) is in
     record {
-      runs = runs_same start s u n p.runs w.stays w.held mine (lines_moved s u s.mine w.stays (ap (λ (x : PortState). x.given) is) mine p.runs.new_lines) port;
+      runs = runs_same start s u n p.runs w.stays w.held w.more mine (lines_moved s u s.mine w.stays (ap (λ (x : PortState). x.given) is) mine p.runs.new_lines) port;
       going = ap (λ (J : List Entry). list_any is_empty (added J)) mine ∙ p.going;
       stop = w.stop ∙ p.stop;
       refused = w.refused ∙ p.refused;
@@ -588,7 +603,7 @@ runs_stopped start s u n stop p is log port =
       home = ap (λ (x : PortState). x.home) is;
       log = log;
     } in
-    runs_same start s u n p stays (ap (λ (x : PortState). x.held) is) (ap (λ (x : PortState). x.mine) is) (lines_moved s u s.mine stays (ap (λ (x : PortState). x.given) is) (ap (λ (x : PortState). x.mine) is) p.new_lines) port
+    runs_same start s u n p stays (ap (λ (x : PortState). x.held) is) (sees_same s u (ap (λ (x : PortState). x.seen) is)) (ap (λ (x : PortState). x.mine) is) (lines_moved s u s.mine stays (ap (λ (x : PortState). x.given) is) (ap (λ (x : PortState). x.mine) is) p.new_lines) port
 
 pub stop_seen : (start s u : PortState) (n limit : ℕ) (x : Stop) → n < limit → GoesOn start s n → Looked s u (Some x) → KeepsLog s u → IsPort u → ComesTo start u n limit (ring_end.Stopped x)
 stop_seen start s u n limit x below p looked log port =

@@ -43,6 +43,7 @@ use Rattle.ring_run.specs.Ending.{ComesTo, end_refused}
 use Rattle.ring_run.specs.Course.{HasLemmas, MayImport, AreOrdered}
 use Rattle.ring_run.specs.declared.ring.Ring.{Ring}
 use Rattle.ring_run.proofs.Remembering.{held_same, lits_same, clause_at_same}
+use Rattle.ring_run.proofs.Lately.{lately_none}
 use Rattle.ring_run.proofs.Standing.{reasoned_more}
 use Rattle.ring_run.proofs.Progress.{runs_adds, going_more, stays_by, starts_kept, news_moved, lines_moved, glued_by, glued_same, out_of_memory}
 use Rattle.ring_run.proofs.Telling.{told_same}
@@ -93,21 +94,21 @@ module _ (s u : PortState) (w : NotedReduce s u) where
     log = log;
   }
 
+  pub noted_lately : recent u.ring u.mine ≡ []
+  noted_lately = ap (λ (x : PortState). recent x.ring x.mine) w.state ∙ fold_last (recent_after s.ring) [] s.mine (Reduce s.ring) ∙ forgets s.ring (recent s.ring s.mine)
+
   pub noted_goes_on : (start : PortState) (n : ℕ) → GoesOn start s n → IsTimely s.mine (Reduce s.ring) → KeepsLog s u → IsPort u → GoesOn start u n
   noted_goes_on start n p may log port =
       let stays = noted_stays log in
       let none : length (learned s.ring (Reduce s.ring ∷ [])) ≡ 0 = refl in
       record {
         runs = runs_adds start s u n n (Reduce s.ring) p.runs stays (λ a h. held_same s u a noted_held) noted_mine p.runs.stays.ring (omega (arith, none)) tt
-            (ap (λ (x : PortState). x.given) w.state) tt may (glued_same s u noted_held) port;
+            (ap (λ (x : PortState). x.given) w.state) tt may (glued_same s u noted_held) (lately_none u noted_lately) port;
         going = going_more s u (Reduce s.ring) noted_mine p.going refl;
         stop = ap (λ (x : PortState). x.stop) w.state ∙ p.stop;
         refused = ap (λ (x : PortState). x.refused) w.state ∙ p.refused;
         held = starts_kept s u noted_start (λ a h. held_same s u a noted_held) p.held;
       }
-
-  pub noted_lately : recent u.ring u.mine ≡ []
-  noted_lately = ap (λ (x : PortState). recent x.ring x.mine) w.state ∙ fold_last (recent_after s.ring) [] s.mine (Reduce s.ring) ∙ forgets s.ring (recent s.ring s.mine)
 
   -- nothing learned or taken need be attached
   pub noted_clauses : (cs : List Cref) → HasClauses s cs → IsPort u → HasClauses u cs
@@ -214,8 +215,8 @@ module _ (s u : PortState) (dropped lemmas : List Cref) (gone : DroppedAll s u d
     log = log;
   }
 
-  pub dropped_goes_on : (start : PortState) (n : ℕ) → GoesOn start s n → KeepsLog s u → IsPort u → GoesOn start u n
-  dropped_goes_on start n p log port =
+  pub dropped_goes_on : recent s.ring s.mine ≡ [] → (start : PortState) (n : ℕ) → GoesOn start s n → KeepsLog s u → IsPort u → GoesOn start u n
+  dropped_goes_on none start n p log port =
       let stays = dropped_stays log in
       let mine : u.mine ≡ s.mine = ap (λ (x : PortState). x.mine) gone.state in
       record {
@@ -228,6 +229,7 @@ module _ (s u : PortState) (dropped lemmas : List Cref) (gone : DroppedAll s u d
           new_lines = lines_moved s u s.mine stays (ap (λ (x : PortState). x.given) gone.state) mine p.runs.new_lines;
           timely = subst (EachAfter IsTimely []) (sym mine) p.runs.timely;
           glued = glued_by start s u p.runs.glued stays.polled (λ h there. inl (In_Contains s.held h (held_less s u dropped gone.each h (Contains_In u.held h there))));
+          lately = lately_none u (ap (λ (x : PortState). recent x.ring x.mine) gone.state ∙ none);
           port = port;
         };
         going = ap (λ (J : List Entry). list_any is_empty (added J)) mine ∙ p.going;
@@ -319,14 +321,14 @@ module _ (s m u : PortState) (ring : Ring) (noted : NotedReduce s m) (listed : H
   pub cut_short_over : (stop : PortStop) → WasCutShort m u lemmas stop → KeepsLog m u → IsPort u → (start : PortState) (n limit : ℕ) → n < limit → GoesOn start m n → ComesTo start u n limit (end_refused stop)
   cut_short_over stop w log port start n limit below p =
       subst (λ (x : PortStop). ComesTo start u n limit (end_refused x)) (sym w.memory)
-      (out_of_memory start u n limit below (dropped_goes_on m u w.dropped lemmas w.port w.among apart_then start n p log port))
+      (out_of_memory start u n limit below (dropped_goes_on m u w.dropped lemmas w.port w.among apart_then (noted_lately s m noted) start n p log port))
 
   module _ (v w : WatchData) (steps : List Step) (left : List Cref) (done : WasReduced m u v w steps lemmas left) where
     among : All (Contains lemmas) done.dropped
     among = dropped_among m steps lemmas left done.dropped done.choice
 
     pub reduced_goes_on : (start : PortState) (n : ℕ) → GoesOn start m n → KeepsLog m u → IsPort u → GoesOn start u n
-    reduced_goes_on start n p log port = dropped_goes_on m u done.dropped lemmas done.port among apart_then start n p log port
+    reduced_goes_on start n p log port = dropped_goes_on m u done.dropped lemmas done.port among apart_then (noted_lately s m noted) start n p log port
 
     lately : recent u.ring u.mine ≡ []
     lately = ap (λ (x : PortState). recent x.ring x.mine) done.port.state ∙ noted_lately s m noted

@@ -73,7 +73,7 @@ learned_is r x d h = by ((x.ring == r) && is_learn x.kind) h
     by false none = absurd none
 
 -- one entry more
-recent_cases : (r : ℕ) (J : List Entry) (x : Addition) (d : List Literal) → In d (recent r (J ++ Add x ∷ [])) → In d (recent r J) ⊎ (x.lits ≡ d)
+pub recent_cases : (r : ℕ) (J : List Entry) (x : Addition) (d : List Literal) → In d (recent r (J ++ Add x ∷ [])) → In d (recent r J) ⊎ (x.lits ≡ d)
 recent_cases r J x d h =
     let more : recent r (J ++ Add x ∷ []) ≡ recent r J ++ learned r (Add x ∷ []) = fold_last (recent_after r) [] J (Add x) in
     elim (In_append (recent r J) (learned r (Add x ∷ [])) d (subst (In d) more h)) as (λ _. In d (recent r J) ⊎ (x.lits ≡ d)) [

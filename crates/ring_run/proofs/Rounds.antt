@@ -81,8 +81,8 @@ classes_front ring n le = front_as (classes_below ring n) (classes_below ring (n
 pub class_front : (ring n : ℕ) → n < 4 → IsFront (classes_below ring n ++ slot ring n ∷ []) (slots_of ring)
 class_front ring n lt = subst (λ (xs : List Slot). IsFront xs (slots_of ring)) (class_more ring n) (classes_front ring (n + 1) (omega (arith, lt)))
 
-pub classes_all : (s u : PortState) (ring n : ℕ) → n ≡ 4 → u.polls ≡ s.polls ++ classes_below ring n → u.polls ≡ s.polls ++ slots_of ring
-classes_all s u ring n is looked = looked ∙ ap (λ (k : ℕ). s.polls ++ classes_below ring k) is
+pub classes_all : (ring n : ℕ) → n ≡ 4 → classes_below ring n ≡ slots_of ring
+classes_all ring n is = ap (classes_below ring) is
 
 -- Ring by ring
 

@@ -28,7 +28,8 @@ use Rattle.vivify.proofs.Shortening.{part_clause}
 use Rattle.ring_run.specs.Ended.{Stays, IsGlued, Cause, reductions}
 use Rattle.ring_run.specs.Searching.{GoesOn, KeepsOn, Runs, UnitsSeen, OffersNothing}
 use Rattle.ring_run.specs.Ending.{EndsAt, end_refused}
-use Rattle.ring_run.proofs.Progress.{Same, AddsGlued, same_refused, runs_entry, new_line, not_learned, none_learned, some_literal, going_more, refused_cause, refused_counts, refused_ends, unset, usable_none}
+use Rattle.ring_run.proofs.Progress.{Same, AddsGlued, same_refused, runs_entry, new_line, not_learned, none_learned, recent_other, some_literal, going_more, refused_cause, refused_counts, refused_ends, unset, usable_none}
+use Rattle.ring_run.proofs.Lately.{lately_none}
 use Rattle.ring_run.proofs.Reducing.{less_one}
 use Rattle.rup_model.proofs.Additions.{learned-append}
 use Rattle.std.proofs.Common.{append-nil}
@@ -190,15 +191,15 @@ derived_runs start s u n number lits p b log held clause long time glued port =
     let x : Addition = record { ring = s.ring; number = number; lits = lits; kind = Derive } in
     runs_entry start s u n n (entry_of s number lits Derive) p.runs (behind_stays s u (entry_of s number lits Derive) b log) held b.mine
     (p.runs.stays.ring, subst (λ (v : ℕ). All (IsOn v) lits) p.runs.stays.vars clause.on, inr long)
-    (omega (arith, not_learned s.ring x refl)) (λ learns. absurd (false≢true learns)) b.given (λ is_line. absurd (false≢true is_line)) (λ two. time) glued port
+    (omega (arith, not_learned s.ring x refl)) (λ learns. absurd (false≢true learns)) b.given (λ is_line. absurd (false≢true is_line)) (λ two. time) glued (lately_none u (recent_other s u number lits Derive refl b.ring b.mine ∙ time.1)) port
 
 -- the line of a unit was written
-unit_runs : (start s u : PortState) (n number : ℕ) (l : Literal) → GoesOn start s n → Behind s u (entry_of s number (l ∷ []) UnitLine) → KeepsLog s u → HoldsStart u → IsOn s.vars l → UnitsSeen s → has s.seen l ≡ false → AddsGlued s u → IsPort u → Runs start u n
-unit_runs start s u n number l p b log held on units unseen glued port =
+unit_runs : (start s u : PortState) (n number : ℕ) (l : Literal) → GoesOn start s n → Behind s u (entry_of s number (l ∷ []) UnitLine) → KeepsLog s u → HoldsStart u → IsOn s.vars l → UnitsSeen s → has s.seen l ≡ false → recent s.ring s.mine ≡ [] → AddsGlued s u → IsPort u → Runs start u n
+unit_runs start s u n number l p b log held on units unseen none glued port =
     let x : Addition = record { ring = s.ring; number = number; lits = l ∷ []; kind = UnitLine } in
     runs_entry start s u n n (entry_of s number (l ∷ []) UnitLine) p.runs (behind_stays s u (entry_of s number (l ∷ []) UnitLine) b log) held b.mine
     (p.runs.stays.ring, subst (λ (v : ℕ). All (IsOn v) (l ∷ [])) p.runs.stays.vars (All-cons (IsOn s.vars) l [] on (All-nil (IsOn s.vars))), refl)
-    (omega (arith, not_learned s.ring x refl)) (λ learns. absurd (false≢true learns)) b.given (new_line s l number units p.runs.port unseen) tt glued port
+    (omega (arith, not_learned s.ring x refl)) (λ learns. absurd (false≢true learns)) b.given (new_line s l number units p.runs.port unseen) tt glued (lately_none u (recent_other s u number (l ∷ []) UnitLine refl b.ring b.mine ∙ none)) port
 
 module _ (s u : PortState) (v : WatchData) (steps : List Step) (c : Cref) (port : IsPort s) (held : IsSome (held_at s c.address)) (some : 1 ≤ glue_at s c.address)
     (time : (1 ≤ reductions s.ring s.mine) × (recent s.ring s.mine ≡ []))
@@ -238,7 +239,7 @@ module _ (s u : PortState) (v : WatchData) (steps : List Step) (c : Cref) (port 
       let b = became_behind w l z in
       let starts = starts_left s u c others apart b.start p.held in
       record {
-        runs = unit_runs start s u n z.wrote.number l p b log starts (unit_on l z.left) units unseen
+        runs = unit_runs start s u n z.wrote.number l p b log starts (unit_on l z.left) units unseen time.1
             (λ h there. unit_glued z.middle l z.wrote h (dropped_less z.middle u c.address z.dropped h there)) port_then;
         going = going_more s u e b.mine p.going refl;
         stop = b.stop ∙ p.stop;
@@ -277,7 +278,7 @@ module _ (s u : PortState) (v : WatchData) (steps : List Step) (c : Cref) (port 
             let e : Entry = entry_of s w.number (l ∷ []) UnitLine in
             let b = same_behind s m u e first same in
             record {
-              runs = unit_runs start s u n w.number l p b log (starts_left s u c others apart b.start p.held) (unit_on l k.1) units (unseen l k.1)
+              runs = unit_runs start s u n w.number l p b log (starts_left s u c others apart b.start p.held) (unit_on l k.1) units (unseen l k.1) time.1
                   (λ h there. unit_glued m l w h (subst (λ (hs : List Holding). Contains hs h) same.held there)) port_then;
               cause = subst (λ (x : PortState). Cause x (end_refused stop)) (sym r.state) (refused_cause m u.output stop r.reason (usable_none m (ap (λ (x : PortState). x.refused) w.state ∙ p.refused))
                   (going_more s m e first.mine p.going refl));

@@ -30,6 +30,7 @@ use Rattle.ring_run.specs.Course.{InSearch}
 use Rattle.ring_run.specs.declared.ring.Ring.{Ring}
 use Rattle.ring_run.proofs.Numbering.{reductions_deleted}
 use Rattle.ring_run.proofs.Remembering.{held_same, lits_same, remembered_as}
+use Rattle.ring_run.proofs.Lately.{sees_same, lately_as}
 use Rattle.ring_run.proofs.Standing.{reasoned_more}
 use Rattle.ring_run.proofs.Telling.{told_same}
 use Rattle.ring_run.proofs.Turning.{wrote_search}
@@ -76,6 +77,7 @@ record Deleted (s u : PortState) (hs : List Holding) : Type 0 where
   pub taken : u.taken ≡ s.taken
   pub home : u.home ≡ s.home
   pub given : u.given ≡ s.given
+  pub seen : u.seen ≡ s.seen
   pub looks : u.looks ≡ s.looks
   pub stop : u.stop ≡ s.stop
   pub held : u.held ≡ s.held
@@ -95,6 +97,7 @@ deleted_eta s waiting hs output = record {
   taken = refl;
   home = refl;
   given = refl;
+  seen = refl;
   looks = refl;
   stop = refl;
   held = refl;
@@ -118,6 +121,7 @@ deleted_then s m u hs p q = record {
   taken = q.taken ∙ p.taken;
   home = q.home ∙ p.home;
   given = q.given ∙ p.given;
+  seen = q.seen ∙ p.seen;
   looks = q.looks ∙ p.looks;
   stop = q.stop ∙ p.stop;
   held = q.held ∙ p.held;
@@ -152,6 +156,9 @@ module _ (s u : PortState) (hs : List Holding) (d : Deleted s u hs) (log : Keeps
   deleted_added : added u.mine ≡ added s.mine
   deleted_added = ap added d.mine ∙ ap (λ (xs : List Addition). map (λ (x : Addition). x.lits) xs) (same_additions s.ring s.mine hs)
 
+  deleted_recent : recent u.ring u.mine ≡ recent s.ring s.mine
+  deleted_recent = ap (λ (r : ℕ). recent r u.mine) d.ring ∙ ap (recent s.ring) d.mine ∙ same_recent s.ring s.ring s.mine hs
+
   deleted_runs : (start : PortState) (n : ℕ) → Runs start s n → IsPort u → Runs start u n
   deleted_runs start n p port = record {
     stays = stays_by start s u p.stays deleted_stays;
@@ -165,28 +172,28 @@ module _ (s u : PortState) (hs : List Holding) (d : Deleted s u hs) (log : Keeps
         (each_both (IsNewLine s.opening s.given s.ring) [] s.mine (deletions s.ring hs) p.new_lines (each_deletion (IsNewLine s.opening s.given s.ring) (λ before r k. tt) s.mine s.ring hs));
     timely = subst (EachAfter IsTimely []) (sym d.mine) (each_both IsTimely [] s.mine (deletions s.ring hs) p.timely (each_deletion IsTimely (λ before r k. tt) s.mine s.ring hs));
     glued = glued_by start s u p.glued deleted_stays.polled (glued_same s u d.held);
+    lately = lately_as s u deleted_recent (λ a h. held_same s u a d.held) (sees_same s u d.seen) p.lately;
     port = port;
   }
 
-  deleted_remembered : u.seen ≡ s.seen → (cs : List Cref) → Remembers s cs → Remembers u cs
-  deleted_remembered seen cs p = remembered_as s u cs cs
-      (ap (λ (r : ℕ). recent r u.mine) d.ring ∙ ap (recent s.ring) d.mine ∙ same_recent s.ring s.ring s.mine hs)
+  deleted_remembered : (cs : List Cref) → Remembers s cs → Remembers u cs
+  deleted_remembered cs p = remembered_as s u cs cs deleted_recent
       (λ l. ap (λ (r : ℕ). adds_unit r u.mine l) d.ring ∙ ap (λ (J : List Entry). adds_unit s.ring J l) d.mine
       ∙ ap (λ (xs : List Addition). list_any (same_set (l ∷ [])) (map (λ (x : Addition). x.lits) (filter (λ (x : Addition). x.ring == s.ring) xs))) (same_additions s.ring s.mine hs))
-      (λ c there. ap (λ (f : Lits). f c.address) (lits_same s u d.held)) (λ c there. there) (λ l h. ap (λ (ls : List Literal). has ls l) seen ∙ h) p
+      (λ c there. ap (λ (f : Lits). f c.address) (lits_same s u d.held)) (λ c there. there) (sees_same s u d.seen) p
 
-  deleted_wrote : u.seen ≡ s.seen → u.refused ≡ s.refused → OnlyWrote s u
-  deleted_wrote seen refused = record {
+  deleted_wrote : u.refused ≡ s.refused → OnlyWrote s u
+  deleted_wrote refused = record {
     reduced = ap (λ (r : ℕ). reductions r u.mine) d.ring ∙ ap (reductions s.ring) d.mine ∙ reductions_deleted s.ring s.ring s.mine hs;
     grown = (deletions s.ring hs, d.mine);
-    recent = ap (λ (r : ℕ). recent r u.mine) d.ring ∙ ap (recent s.ring) d.mine ∙ same_recent s.ring s.ring s.mine hs;
+    recent = deleted_recent;
     stays = deleted_stays;
     taken = d.taken;
     held = d.held;
-    own = λ cs p. deleted_remembered seen cs p;
+    own = λ cs p. deleted_remembered cs p;
     stop = d.stop;
     refused = refused;
-    more = λ l h. ap (λ (ls : List Literal). has ls l) seen ∙ h;
+    more = sees_same s u d.seen;
   }
 
   deleted_goes_on : (start : PortState) (n : ℕ) → u.refused ≡ s.refused → GoesOn start s n → IsPort u → GoesOn start u n
@@ -216,7 +223,7 @@ pub tidied_seen : (s u : PortState) (r : Result (Unit {0}) PortStop) → Tidied 
 tidied_seen s u (Ok done) w = ap (λ (x : PortState). x.seen) w.state
 tidied_seen s u (Err stop) w = tt
 
-none_left : (hs : List Holding) → drop (length hs) hs ≡ []
+pub none_left : (hs : List Holding) → drop (length hs) hs ≡ []
 none_left [] = refl
 none_left (h ∷ hs) = none_left hs
 
@@ -224,10 +231,14 @@ pub tidied_waiting : (s u : PortState) (r : Result (Unit {0}) PortStop) → Tidi
 tidied_waiting s u (Ok done) w = ap (λ (x : PortState). x.waiting) w.state ∙ none_left s.waiting
 tidied_waiting s u (Err stop) w = tt
 
+pub tidied_lines : (s u : PortState) (r : Result (Unit {0}) PortStop) → Tidied s u r → OnOk r (TidiedUpTo s u (length s.waiting))
+tidied_lines s u (Ok done) w = w
+tidied_lines s u (Err stop) w = tt
+
 pub tidied_wrote : (s u : PortState) (r : Result (Unit {0}) PortStop) → Tidied s u r → KeepsLog s u → OnOk r (OnlyWrote s u)
 tidied_wrote s u (Ok done) w log =
     let t = tidied s u (Ok done) w in
-    deleted_wrote s u t.0 t.1 log (ap (λ (x : PortState). x.seen) w.state) (ap (λ (x : PortState). x.refused) w.state)
+    deleted_wrote s u t.0 t.1 log (ap (λ (x : PortState). x.refused) w.state)
 tidied_wrote s u (Err stop) w log = tt
 
 pub tidied_keeps : (s u : PortState) (r : Result (Unit {0}) PortStop) → Tidied s u r → KeepsLog s u → IsPort u → OnOk r (KeepsOn s u)

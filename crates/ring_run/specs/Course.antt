@@ -1,11 +1,13 @@
 -- What a ring has while it searches, and what each step of the search comes to.
-use Rattle.std.specs.Prelude.{◌≡◌, ◌≢◌, ◌⊎◌, ℕ, ◌+◌, ◌*◌, ◌<◌, ◌≤◌, true, false, if◌then◌else◌, List, [], ◌∷◌, ◌++◌, map, take, length, All, Contains, Option, ⊤, IfSome}
+use Rattle.std.specs.Prelude.{◌≡◌, ◌≢◌, ◌⊎◌, ℕ, ◌+◌, ◌*◌, ◌<◌, ◌≤◌, true, false, if◌then◌else◌, List, [], ◌∷◌, ◌++◌, map, take, length, All, Contains, Option, Ok, ⊤, IfSome}
 use Rattle.std.specs.Option.{option_to_list, option_map_or}
 use Rattle.sat_words.specs.Literal.{Literal}
 use Rattle.sat_words.specs.declared.shared.Cref.{Cref}
 use Rattle.rup_model.specs.declared.journal.Addition.{Addition}
 use Rattle.rup_model.specs.Journal.{additions, recent}
-use Rattle.ring_port.specs.PortState.{PortState, Holding, held_at, lits_at}
+use Rattle.ring_port.specs.PortState.{PortState, Holding, held_at, lits_at, one_more}
+use Rattle.ring_port.specs.Port.{Learned}
+use Rattle.ring_port.specs.Deleting.{TidiedUpTo}
 use Rattle.reduce_db.specs.Lemmas.{AreDistinct}
 use Rattle.ring_trail.specs.TrailData.{TrailData, IsTrail, HasNoPlace, cut_back, assigned, decided}
 use Rattle.ring_decide.specs.DeciderData.{IsDecided}
@@ -17,7 +19,7 @@ use Rattle.vivify.specs.Outcome.{glue_at}
 use Rattle.restart_plan.specs.Luby.{luby_sum}
 use Rattle.restart_plan.specs.Plan.{Restarting, luby_unit}
 use Rattle.ring_run.specs.Ended.{HasLooked, HasOffered, HasPolled, polls_of, HasImported, ImportsBy, IsTidy, IsInTime, last_looks, reductions}
-use Rattle.ring_run.specs.Searching.{HasClauses, Stands, OpeningSeen, AreTold, GoesOn, IsAsserting, IsGlueOf}
+use Rattle.ring_run.specs.Searching.{HasClauses, Stands, OpeningSeen, AreTold, GoesOn, IsAsserting, IsGlueOf, OffersNothing, OnlyWrote, HasLent}
 use Rattle.ring_run.specs.Strategy.{saved_above}
 use Rattle.ring_run.specs.Ending.{EndsBy}
 use Rattle.ring_run.specs.declared.job.End.{End}
@@ -108,7 +110,21 @@ abbrev pub HasLeft : PortState → Ring → Ring → List Literal → ℕ → Op
 HasLeft s old new lits back address =
     ((old.pending ≡ true → back ≡ 0) × Asserted s old new lits back address) ⊎ ((old.pending ≡ true) × (0 < back) × Restarted s old new address)
 
--- a lemma was learned, and its conflict left
+-- the lemma was learned with this glue, and then offered to each other ring where it has a class, which is counted
+pub record WasShared (old new : PortState) (before after : Ring) (lits : List Literal) (glue : ℕ) (address : Option Cref) : Type 0 where
+  pub middle : PortState
+  pub learned : Learned old middle lits glue (Ok address)
+  pub lent : HasLent middle new address before.exported before.offered after.exported after.offered
+
+-- the last lemma that the ring may learn was learned, offered where it has a class, and its glue noted; nothing else was done
+pub record HasSpent (s u : PortState) (old new : Ring) (lits : List Literal) : Type 0 where
+  pub glue : ℕ
+  pub address : Option Cref
+  pub counted : IsGlueOf old.trail.steps lits glue
+  pub shared : WasShared s u old new lits glue address
+  pub restarts : new.restarts ≡ noted old.restarts glue
+
+-- a lemma was learned, offered, and its conflict left
 pub record HasLearned (s u : PortState) (old new : Ring) (lits : List Literal) : Type 0 where
   -- the level that it asks for
   pub back : ℕ
@@ -122,6 +138,10 @@ pub record HasLearned (s u : PortState) (old new : Ring) (lits : List Literal) :
   pub counted : IsGlueOf old.trail.steps lits glue
   -- the clause held at the address is the lemma
   pub stored : IfSome address (λ c. lits_at u c.address ≡ lits)
+  -- it was offered where it has a class, and then the clauses that waited were deleted
+  pub between : PortState
+  pub shared : WasShared s between old new lits glue address
+  pub tidied : TidiedUpTo between u (length between.waiting)
   -- the glue was noted for the restarts, and it was asked whether one is due
   pub restarts : new.restarts ≡ asked (noted old.restarts glue)
   -- an import is yet to be exactly where one was due
@@ -129,12 +149,26 @@ pub record HasLearned (s u : PortState) (old new : Ring) (lits : List Literal) :
   -- where one was due the trail is at level 0, else at the lemma's level with its first literal true
   pub left : HasLeft u (record old { pending = new.pending }) new lits back address
 
--- a literal was decided that the decider chose, and nothing was saved
+-- what learning came to where the search goes on, or the ring is spent
+abbrev pub LearnsTo : PortState → PortState → Ring → Ring → List Literal → Course → Type 0
+LearnsTo s u old new lits On = HasLearned s u old new lits
+LearnsTo s u old new lits (Over Spent) = HasSpent s u old new lits
+LearnsTo s u old new lits (Over end) = ⊤
+
+-- a literal was decided that the decider chose; but for what is counted as told nothing else of the ring changed
 pub record HasDecided (old new : Ring) : Type 0 where
   pub lit : Literal
   pub chosen : IsDecided old.decider old.trail.steps lit
   pub trail : new.trail ≡ decided old.trail lit
-  pub phases : new.decider ≡ old.decider
+  pub same : new ≡ record old { trail = new.trail; written = new.written }
+
+-- behind one look that found no stop, units may have been told and nothing else was done at the port; and a literal was decided
+pub record DecidedNext (s u : PortState) (old new : Ring) : Type 0 where
+  pub lines : OnlyWrote s u
+  pub nothing : OffersNothing s u
+  pub waiting : u.waiting ≡ s.waiting
+  pub looked : u.looks ≡ one_more s.looks
+  pub decided : HasDecided old new
 
 -- nothing more was learned, and nothing lost
 pub record HasKept (old new : Ring) : Type 0 where

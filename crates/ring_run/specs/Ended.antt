@@ -13,7 +13,7 @@ use Rattle.rup_model.specs.Basics.{EachAfter}
 use Rattle.rup_model.specs.Journal.{addition, added, learned, recent, IsSpaced}
 use Rattle.rup_model.specs.Opening.{Opening, IsNew, adds_unit}
 use Rattle.rup_model.specs.Rounds.{Rounds}
-use Rattle.ring_port.specs.PortState.{PortState, Holding, Slot, IsOn, HoldsStart}
+use Rattle.ring_port.specs.PortState.{PortState, Holding, Slot, IsOn, HoldsStart, clause_at}
 use Rattle.ring_port.specs.Port.{is_usable, start_lits}
 use Rattle.ring_port.specs.Exchange.{other_rings}
 use Rattle.ring_port.specs.Log.{KeepsLog, start_of}
@@ -136,6 +136,25 @@ IsNewLine listed given ring before e = IfSome (addition e) (λ x. is_unit_line x
 abbrev pub AreNewLines : PortState → Type 0
 AreNewLines s = EachAfter (IsNewLine s.opening s.given s.ring) [] s.mine
 
+-- the unit is seen
+pub record IsSeenUnit (s : PortState) (c : List Literal) : Type 0 where
+  pub lit : Literal
+  pub unit : c ≡ lit ∷ []
+  pub seen : has s.seen lit ≡ true
+
+-- the clause is held at some address
+pub record IsHeldClause (s : PortState) (c : List Literal) : Type 0 where
+  pub address : ℕ
+  pub there : clause_at s address ≡ Some c
+
+-- the clause is held, or is a unit that is seen
+abbrev pub IsHeldOrSeen : PortState → List Literal → Type 0
+IsHeldOrSeen s c = IsHeldClause s c ⊎ IsSeenUnit s c
+
+-- each clause that the ring learned since its last Reduce entry is held, or is a unit that is seen
+abbrev pub HoldsRecent : PortState → Type 0
+HoldsRecent s = (c : List Literal) → Contains (recent s.ring s.mine) c → IsHeldOrSeen s c
+
 -- the clauses that the ring searches over: those that it started with, those that it learned since it last reduced, and the
 -- units seen
 abbrev pub searched : PortState → List (List Literal)
@@ -150,8 +169,7 @@ pub record IsGlued (h : Holding) : Type 0 where
   pub some : 1 ≤ h.glue
   pub few : h.glue < length h.lits
 
--- what is held was held before, has such a glue, or is at an address that another ring gave: of these there are no more than
--- polls
+-- what is held was held before, has such a glue, or is at one of some other addresses, of which there are no more than polls
 pub record HoldsGlued (old new : PortState) : Type 0 where
   pub others : List ℕ
   pub few : min (length others) (2 ^ 64 - 1) ≤ new.polled
@@ -174,8 +192,8 @@ is_short c = nat_le 2 (length c) && nat_le (length c) 7
 abbrev pub is_long : List Literal → Bool
 is_long c = nat_le 2 (length c)
 
--- so many lemmas were offered, each once for every other ring: all of two to seven literals, and none of one; the offers are
--- counted up to the last value of 64 bits
+-- clauses were shared once for every other ring and each lemma counted as offered: these are at least as many as the lemmas of two
+-- to seven literals, and at most as many as those of two or more; the offers are counted up to the last value of 64 bits
 pub record HasOffered (s : PortState) (exported offered : ℕ) : Type 0 where
   pub shared : s.shared ≡ length (other_rings s) * exported
   pub all : length (filter is_short (learned s.ring s.mine)) ≤ exported
@@ -225,8 +243,8 @@ pub record HasImported (start s : PortState) (imports : ℕ) : Type 0 where
   pub polls : s.polls ≡ start.polls ++ rounds imports (import_slots s)
   pub caught_up : min (start.caught_up + imports) (2 ^ 64 - 1) ≤ s.caught_up
 
--- where the ring found a model, or is spent, it has imported once at its start and once at each restart; else the last of these
--- may be missing, or not whole
+-- where the ring found a model, or is spent, it has imported once at its start and once at each restart; else it looked into the
+-- slots of so many imports, in order, up to one of them
 abbrev pub ImportsBy : (start s : PortState) (restarts : ℕ) → End → Type 0
 ImportsBy start s restarts (Sat a) = HasImported start s (1 + restarts)
 ImportsBy start s restarts Spent = HasImported start s (1 + restarts)

@@ -4,3 +4,4 @@ pub mod Ending
 pub mod Strategy
 pub mod Course
 pub mod Renewal
+pub mod Turn

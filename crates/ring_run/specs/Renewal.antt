@@ -1,12 +1,13 @@
--- What a ring does behind a restart, before it imports.
-use Rattle.std.specs.Prelude.{◌≡◌, ℕ, ◌+◌, ◌-◌, ◌<◌, ◌≤◌, ◌⊎◌, true, false, List, [], ◌∷◌, ◌++◌, take, drop, length, Contains, None, IsSome, ◌≢◌, ⊤}
+-- What a ring does behind a restart: it reduces its lemmas, makes some shorter, and imports.
+use Rattle.std.specs.Prelude.{◌≡◌, ℕ, ◌+◌, ◌-◌, ◌<◌, ◌≤◌, ◌⊎◌, true, false, List, [], ◌∷◌, ◌++◌, map, take, drop, length, Contains, None, IsSome, ◌≢◌, ⊤}
 use Rattle.sat_words.specs.Literal.{Literal}
 use Rattle.sat_words.specs.Clause.{has}
 use Rattle.sat_words.specs.declared.shared.Cref.{Cref}
 use Rattle.rup_model.specs.Journal.{recent}
-use Rattle.ring_port.specs.PortState.{PortState, Holding, held_at, lits_at}
+use Rattle.ring_port.specs.PortState.{PortState, Holding, Slot, held_at, lits_at, one_more}
+use Rattle.ring_port.specs.Deleting.{TidiedUpTo}
 use Rattle.ring_port.specs.Reducing.{NotedReduce}
-use Rattle.ring_trail.specs.TrailData.{TrailData, IsTrail, HasGrown, HasNoPlace, IsTrueOn, assigned}
+use Rattle.ring_trail.specs.TrailData.{TrailData, IsTrail, HasGrown, HasNoPlace, IsTrueOn, assigned, reason_at}
 use Rattle.watch_prop.specs.WatchData.{WatchData, attached}
 use Rattle.watch_prop.specs.Propagation.{IsQuiet}
 use Rattle.reduce_db.specs.Moment.{lemmas_before}
@@ -14,8 +15,8 @@ use Rattle.reduce_db.specs.Reduction.{WasReduced}
 use Rattle.vivify.specs.Outcome.{glue_at, IsVivified}
 use Rattle.vivify.specs.declared.shorten.Vivified.{Vivified}
 use Rattle.vivify.specs.declared.shorten.Vivified.TheVariants.{Kept, Shorter, Unit, Empty}
-use Rattle.ring_run.specs.Ended.{IsHalted, last_looks, reductions}
-use Rattle.ring_run.specs.Searching.{OnlyWrote, HasGrownLog, AreTold}
+use Rattle.ring_run.specs.Ended.{IsHalted, import_slots, last_looks, reductions}
+use Rattle.ring_run.specs.Searching.{OffersNothing, OnlySaw, OnlyPolled, OnlyWrote, HasGrownLog, AreTold}
 use Rattle.ring_run.specs.Ending.{EndsAt}
 use Rattle.ring_run.specs.Course.{InSearch, numbers, number_at, AreOrdered}
 use Rattle.ring_run.specs.declared.vivification.Left.{Left}
@@ -181,7 +182,7 @@ IsLeft s u w c Nothing = ⊤
 
 -- Both
 
--- the lemmas were reduced, those left had their turns in order of number, and the deletion lines were written behind it
+-- the lemmas were reduced, those left had their turns in order of number, and then all clauses that waited were deleted
 pub record HasShrunk (old new : PortState) (before after : Ring) : Type 0 where
   pub dropped : PortState
   pub between : Ring
@@ -191,26 +192,51 @@ pub record HasShrunk (old new : PortState) (before after : Ring) : Type 0 where
   pub ordered : AreOrdered dropped between.lemmas.items
   pub vivified : TookAll (point dropped between) (point vivified_port after) between.lemmas.items after.lemmas.items
   pub counted : after.reductions ≡ between.reductions
-  pub lines : OnlyWrote vivified_port new
-  pub none_waits : new.waiting ≡ []
+  pub lines : TidiedUpTo vivified_port new (length vivified_port.waiting)
 
 -- nothing was done
 pub record IsIdle (old new : PortState) (before after : Ring) : Type 0 where
   pub port : new ≡ old
   pub ring : after ≡ before
 
--- behind a restart the lemmas were reduced and vivified where that was due, and else kept, before the ring imported
-pub record HasRenewed (old : PortState) (before after : Ring) : Type 0 where
-  pub due : IsDue before → (middle : PortState) × (ring : Ring) × HasShrunk old middle before ring × (after.reductions ≡ ring.reductions) × (after.lemmas ≡ ring.lemmas)
-  pub early : before.learned - before.reduced_at < lemmas_before (before.reductions + 1) → (after.reductions ≡ before.reductions) × (after.lemmas ≡ before.lemmas)
+-- Imports
 
--- behind propagation and lines of units the ring renewed, so that no import is yet to be
-pub record Renews (old : PortState) (before after : Ring) : Type 0 where
+-- the ring looked into these slots, in order; each clause that came from them, one at most from each, is held, noted as taken and
+-- attached once, in the order in which they came
+pub record TookSlots (old new : PortState) (before after : Ring) (slots : List Slot) : Type 0 where
+  pub polls : new.polls ≡ old.polls ++ slots
+  pub came : List Holding
+  pub few : length came ≤ length slots
+  pub held : new.held ≡ old.held ++ came
+  pub taken : new.taken ≡ old.taken ++ map (λ (h : Holding). h.address) came
+  pub clauses : attached after.watches ≡ attached before.watches ++ map (λ (h : Holding). record { address = h.address }) came
+
+-- an import at level 0: first units came, each of which is true without a reason, until a look found no other listed; then the slots of
+-- each other ring were looked into, in order
+pub record TookImport (old new : PortState) (before after : Ring) : Type 0 where
+  pub middle : PortState
+  pub units : OnlySaw old middle
+  pub caught_up : middle.caught_up ≡ one_more old.caught_up
+  pub polled : OnlyPolled middle new
+  pub slots : TookSlots middle new before after (import_slots middle)
+  pub grown : HasGrown before.trail after.trail
+  pub bare : (p : ℕ) → length before.trail.steps ≤ p → p < length after.trail.steps → reason_at after.trail.steps p ≡ None
+  pub level : after.trail.level ≡ 0
+  pub same : after ≡ record before { trail = after.trail; watches = after.watches; pending = false }
+
+-- behind a restart the lemmas were reduced and vivified where that was due, and nothing was done where it was not; then the ring
+-- imported
+pub record HasRenewed (old new : PortState) (before after : Ring) : Type 0 where
+  pub due : IsDue before → (middle : PortState) × (ring : Ring) × HasShrunk old middle before ring × TookImport middle new ring after
+  pub early : before.learned - before.reduced_at < lemmas_before (before.reductions + 1) → TookImport old new before after
+
+-- behind one look that found no stop, units may have been told and nothing else was done at the port; and the ring renewed
+pub record Renews (old new : PortState) (before after : Ring) : Type 0 where
   pub middle : PortState
   pub ring : Ring
   pub lines : OnlyWrote old middle
-  pub grown : HasGrown before.trail ring.trail
-  pub same_clauses : attached ring.watches ≡ attached before.watches
-  pub same_ring : ring ≡ record before { trail = ring.trail; watches = ring.watches; written = ring.written }
-  pub renewed : HasRenewed middle ring after
-  pub settled : after.pending ≡ false
+  pub nothing : OffersNothing old middle
+  pub waiting : middle.waiting ≡ old.waiting
+  pub looked : new.looks ≡ one_more old.looks
+  pub same_ring : ring ≡ record before { written = ring.written }
+  pub renewed : HasRenewed middle new ring after

@@ -16,7 +16,7 @@ use Rattle.ring_trail.specs.TrailData.{TrailData, IsFalseOn, lit_at, level_at, r
 use Rattle.ring_trail.specs.Reasoned.{IsReasoned}
 use Rattle.ring_trail.specs.Closed.{TrueWithin, IsClosedClause}
 use Rattle.analyze.specs.Levels.{level_of_lit, count_of_levels}
-use Rattle.ring_run.specs.Ended.{Stays, IsOwn, AreNew, AreNewLines, AreTimely, reductions, HoldsGlued, opening_of}
+use Rattle.ring_run.specs.Ended.{Stays, IsOwn, AreNew, AreNewLines, AreTimely, reductions, HoldsGlued, HoldsRecent, IsSeenUnit, opening_of}
 use Rattle.ring_run.specs.declared.units.Units.{Units}
 use Rattle.ring_run.specs.declared.units.Units.TheVariants.{Opposed, True}
 
@@ -25,12 +25,6 @@ use Rattle.ring_run.specs.declared.units.Units.TheVariants.{Opposed, True}
 -- a clause is held at the address
 abbrev pub IsHeldBy : PortState → Cref → Type 0
 IsHeldBy s c = IsSome (held_at s c.address)
-
--- the unit is seen
-pub record IsSeenUnit (s : PortState) (c : List Literal) : Type 0 where
-  pub lit : Literal
-  pub unit : c ≡ lit ∷ []
-  pub seen : has s.seen lit ≡ true
 
 -- the clause stands at one of the addresses, or is a unit that is seen
 abbrev pub IsAmong : PortState → List Cref → List Literal → Type 0
@@ -105,7 +99,7 @@ pub record OnlyPolled (old new : PortState) : Type 0 where
 abbrev pub HasGrownLog : PortState → PortState → Type 0
 HasGrownLog old new = (more : List Entry) × (new.mine ≡ old.mine ++ more)
 
--- lines of units were written, which are seen now; nothing was learned
+-- lines may have been written and units seen; nothing was learned, taken, dropped or noted as a reduction
 pub record OnlyWrote (old new : PortState) : Type 0 where
   pub recent : recent new.ring new.mine ≡ recent old.ring old.mine
   pub reduced : reductions new.ring new.mine ≡ reductions old.ring old.mine
@@ -159,7 +153,8 @@ abbrev pub AreTaken : PortState → TrailData → Units → Type 0
 AreTaken s t True = Stands s t × OpeningSeen s
 AreTaken s t Opposed = rup (known s) [] ≡ true
 
--- a run that began in one state and stands in another, with as many lemmas as are counted; each start clause is held
+-- a run that began in one state and stands in another, with as many lemmas as are counted; each start clause is held, and each lemma
+-- since the last Reduce entry is held or seen
 pub record Runs (start s : PortState) (count : ℕ) : Type 0 where
   pub stays : Stays start s
   pub held : HoldsStart s
@@ -169,6 +164,7 @@ pub record Runs (start s : PortState) (count : ℕ) : Type 0 where
   pub new_lines : AreNewLines s
   pub timely : AreTimely s
   pub glued : HoldsGlued start s
+  pub lately : HoldsRecent s
   pub port : IsPort s
 
 -- nothing has ended it yet

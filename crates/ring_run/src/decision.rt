@@ -9,7 +9,7 @@ ghost use Rattle.ring_run.specs.Ended.{Stays};
 ghost use Rattle.ring_run.specs.Strategy.{Decides};
 ghost use Rattle.ring_run.specs.Searching.{OffersNothing, AreFirst, KeepsOn, OnlyWrote};
 ghost use Rattle.ring_run.specs.Ending.{EndsAt, end_refused};
-ghost use Rattle.ring_run.specs.Renewal.{Renews};
+ghost use Rattle.ring_run.specs.Turn.{ActedAtQuiet};
 ghost use Rattle.ring_run.specs.Course.{AreSameOffers, InSearch, HasLemmas, KeepsLemmas, Leads, IsFurther, KeepsLooking, TakesALook, KeepsOffering, KeepsPolling, IsPolling, HasPolledBy, KeepsImporting, KeepsTidy, KeepsInTime, HasDecided};
 
 use crate::course::{Course, end_refused};
@@ -46,6 +46,7 @@ fn decide<P: Port>(alloc: Global, port: &mut P, ring: &mut Ring, limit: u64) -> 
     requires first { AreFirst ring.old.trail ring.old.written }
     requires settled { ring.old.pending ≡ false }
     ensures leads { Leads (P.state port.old) ring.old (P.state port.new) ring.new limit result }
+    ensures unspent { result ≡ Course.Over End.Spent → ⊥ }
     ensures learned { ring.new.learned ≡ ring.old.learned }
     ensures decided { result ≡ Course.On → HasDecided ring.old ring.new }
     ensures longer { result ≡ Course.On → length ring.old.trail.steps < length ring.new.trail.steps }
@@ -121,15 +122,15 @@ pub(crate) fn decide_next<P: Port>(
     requires polling { IsPolling (P.state port.old) ring.old }
     requires listed { HasLemmas (P.state port.old) ring.old }
     ensures leads { Leads (P.state port.old) ring.old (P.state port.new) ring.new limit result }
+    ensures unspent { result ≡ Course.Over End.Spent → ⊥ }
     ensures learned { ring.new.learned ≡ ring.old.learned }
     ensures further { result ≡ Course.On → IsFurther ring.old ring.new }
-    ensures decided { result ≡ Course.On → ring.old.pending ≡ false → HasDecided ring.old ring.new }
+    ensures acted { result ≡ Course.On → ActedAtQuiet (P.state port.old) (P.state port.new) ring.old ring.new }
     ensures restarts { ring.new.restarts ≡ ring.old.restarts }
     ensures offering { KeepsOffering (P.state port.old) ring.old (P.state port.new) ring.new }
     ensures polls { HasPolledBy (P.state port.new) ring.new result }
     ensures imports { KeepsImporting (P.state port.old) ring.old (P.state port.new) ring.new result }
     ensures tidied { KeepsTidy (P.state port.old) (P.state port.new) result }
-    ensures renewed { result ≡ Course.On → ring.old.pending ≡ true → Renews (P.state port.old) ring.old ring.new }
     ensures in_time { KeepsInTime (P.state port.old) ring.old (P.state port.new) ring.new result }
     ensures listed { result ≡ Course.On → HasLemmas (P.state port.new) ring.new }
     ensures active { ring.new.decider.active ≡ ring.old.decider.active }

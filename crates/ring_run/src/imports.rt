@@ -2,9 +2,9 @@
 ghost use Rattle.std.specs.Prelude.{◌≡◌, ◌≢◌, ◌<◌, ◌≤◌, ◌+◌, ◌++◌, ◌∷◌, [], ◌*◌, ◌-◌, ◌^◌, ℕ, min, true, false, length, OnOk};
 ghost use Rattle.ring_port.specs.PortState.{IsPort, one_more};
 ghost use Rattle.ring_port.specs.Exchange.{other_rings};
-ghost use Rattle.watch_prop.specs.WatchData.{attached};
 ghost use Rattle.ring_run.specs.Ended.{slots_of, import_slots, LookedAlong, IsInTime};
-ghost use Rattle.ring_run.specs.Searching.{AreMoreClauses, KeepsOn, OnlyPolled};
+ghost use Rattle.ring_run.specs.Searching.{KeepsOn, OnlyPolled};
+ghost use Rattle.ring_run.specs.Renewal.{TookSlots, TookImport};
 ghost use Rattle.ring_run.specs.Course.{InSearch, KeepsLemmas, MayImport, Leads, KeepsLooking, KeepsOffering, IsPolling, HasPolledBy, KeepsImporting, KeepsTidy, IsInTimeBy};
 
 use crate::course::{Course, refute};
@@ -34,11 +34,10 @@ fn take_class<P: Port>(
     ensures search { OnOk result (InSearch (P.state port.new) ring.new) }
     ensures polled { OnOk result ((P.state port.new).polled ≡ one_more (P.state port.old).polled) }
     ensures few { (P.state port.new).polled ≤ one_more (P.state port.old).polled }
-    ensures looked { OnOk result ((P.state port.new).polls ≡ (P.state port.old).polls ++ record { ring = from; class = class } ∷ []) }
+    ensures took { OnOk result (TookSlots (P.state port.old) (P.state port.new) ring.old ring.new (record { ring = from; class = class } ∷ [])) }
     ensures along { LookedAlong (P.state port.old) (P.state port.new) (record { ring = from; class = class } ∷ []) }
     ensures only { OnlyPolled (P.state port.old) (P.state port.new) }
     ensures same { ring.new ≡ record ring.old { watches = ring.new.watches } }
-    ensures more { OnOk result (AreMoreClauses (attached ring.old.watches) (attached ring.new.watches)) }
     ensures port { IsPort (P.state port.new) }
 {
     let Ok(taken) = port.poll(from, class) else {
@@ -62,11 +61,10 @@ fn take_from<P: Port>(port: &mut P, ring: &mut Ring, from: u32) -> Result<(), Al
     ensures search { OnOk result (InSearch (P.state port.new) ring.new) }
     ensures polled { OnOk result ((P.state port.new).polled ≡ min ((P.state port.old).polled + 4) (2 ^ 64 - 1)) }
     ensures few { (P.state port.new).polled ≤ min ((P.state port.old).polled + 4) (2 ^ 64 - 1) }
-    ensures looked { OnOk result ((P.state port.new).polls ≡ (P.state port.old).polls ++ slots_of from) }
+    ensures took { OnOk result (TookSlots (P.state port.old) (P.state port.new) ring.old ring.new (slots_of from)) }
     ensures along { LookedAlong (P.state port.old) (P.state port.new) (slots_of from) }
     ensures only { OnlyPolled (P.state port.old) (P.state port.new) }
     ensures same { ring.new ≡ record ring.old { watches = ring.new.watches } }
-    ensures more { OnOk result (AreMoreClauses (attached ring.old.watches) (attached ring.new.watches)) }
     ensures port { IsPort (P.state port.new) }
 {
     for class in 0..CLASSES {
@@ -88,11 +86,10 @@ fn take_clauses<P: Port>(port: &mut P, ring: &mut Ring) -> Result<(), AllocError
     ensures search { OnOk result (InSearch (P.state port.new) ring.new) }
     ensures polled { OnOk result ((P.state port.new).polled ≡ min ((P.state port.old).polled + 4 * length (other_rings (P.state port.old))) (2 ^ 64 - 1)) }
     ensures few { (P.state port.new).polled ≤ min ((P.state port.old).polled + 4 * length (other_rings (P.state port.old))) (2 ^ 64 - 1) }
-    ensures looked { OnOk result ((P.state port.new).polls ≡ (P.state port.old).polls ++ import_slots (P.state port.old)) }
+    ensures took { OnOk result (TookSlots (P.state port.old) (P.state port.new) ring.old ring.new (import_slots (P.state port.old))) }
     ensures along { LookedAlong (P.state port.old) (P.state port.new) (import_slots (P.state port.old)) }
     ensures only { OnlyPolled (P.state port.old) (P.state port.new) }
     ensures same { ring.new ≡ record ring.old { watches = ring.new.watches } }
-    ensures more { OnOk result (AreMoreClauses (attached ring.old.watches) (attached ring.new.watches)) }
     ensures port { IsPort (P.state port.new) }
 {
     for from in 0..ring.place.rings {
@@ -113,6 +110,8 @@ pub(crate) fn import<P: Port>(port: &mut P, ring: &mut Ring) -> Course
     requires polling { IsPolling (P.state port.old) ring.old }
     requires pending { ring.old.pending ≡ true }
     ensures leads { (limit : ℕ) → ring.old.learned < limit → Leads (P.state port.old) ring.old (P.state port.new) ring.new limit result }
+    ensures unspent { result ≡ Course.Over End.Spent → ⊥ }
+    ensures took { result ≡ Course.On → TookImport (P.state port.old) (P.state port.new) ring.old ring.new }
     ensures settled { result ≡ Course.On → ring.new.pending ≡ false }
     ensures steps { result ≡ Course.On → length ring.old.trail.steps ≤ length ring.new.trail.steps }
     ensures polls { HasPolledBy (P.state port.new) ring.new result }
@@ -121,10 +120,9 @@ pub(crate) fn import<P: Port>(port: &mut P, ring: &mut Ring) -> Course
     ensures in_time { IsInTime (P.state port.old) ring.old.restarts.since → IsInTimeBy (P.state port.new) ring.new result }
     ensures offering { KeepsOffering (P.state port.old) ring.old (P.state port.new) ring.new }
     ensures looks { KeepsLooking (P.state port.old) ring.old (P.state port.new) ring.new result }
+    ensures unlooked { (P.state port.new).looks ≡ (P.state port.old).looks }
     ensures learned { ring.new.learned ≡ ring.old.learned }
     ensures restarts { ring.new.restarts ≡ ring.old.restarts }
-    ensures reductions { ring.new.reductions ≡ ring.old.reductions }
-    ensures lemmas { ring.new.lemmas ≡ ring.old.lemmas }
     ensures listed { result ≡ Course.On → KeepsLemmas (P.state port.old) ring.old (P.state port.new) ring.new }
     ensures decider { ring.new.decider ≡ ring.old.decider }
     ensures port { IsPort (P.state port.new) }

@@ -3,6 +3,7 @@ ghost use Rattle.std.specs.Prelude.{◌≡◌, ◌<◌, ◌+◌, ◌++◌, ◌-�
 ghost use Rattle.std.specs.Option.{option_to_list};
 ghost use Rattle.ring_port.specs.PortState.{IsPort, held_at, lits_at};
 ghost use Rattle.ring_port.specs.Log.{KeepsLog};
+ghost use Rattle.ring_port.specs.Deleting.{TidiedUpTo};
 ghost use Rattle.ring_trail.specs.TrailData.{TrailData, IsTrail};
 ghost use Rattle.watch_prop.specs.WatchData.{attached};
 ghost use Rattle.watch_prop.specs.Watched.{Watched};
@@ -10,7 +11,7 @@ ghost use Rattle.watch_prop.specs.Propagation.{IsConflict};
 ghost use Rattle.ring_run.specs.Strategy.{Decides, IsPaced};
 ghost use Rattle.ring_run.specs.Searching.{OffersNothing, HasLent, IsAsserting, IsGlueOf, HoldsByGlue, OnlyWrote, KeepsOn};
 ghost use Rattle.ring_run.specs.Ending.{EndsAt, end_refused};
-ghost use Rattle.ring_run.specs.Course.{AreSameOffers, IsOffering, InSearch, HasLemmas, Leads, CanAssert, Asserted, Restarted, HasLeft, KeepsLooking, KeepsPolling, KeepsImporting, HasTidied, KeepsInTime, SumsUp, HasLearned};
+ghost use Rattle.ring_run.specs.Course.{AreSameOffers, IsOffering, InSearch, HasLemmas, Leads, CanAssert, Asserted, Restarted, HasLeft, KeepsLooking, KeepsPolling, KeepsImporting, HasTidied, KeepsInTime, SumsUp, LearnsTo};
 
 use crate::course::{Course, end_refused, refute};
 use crate::job::End;
@@ -162,6 +163,7 @@ pub(crate) fn tidy_up<P: Port>(port: &mut P) -> Result<(), PortStop>
     ensures wrote { OnOk result (OnlyWrote (P.state port.old) (P.state port.new)) }
     ensures seen { OnOk result ((P.state port.new).seen ≡ (P.state port.old).seen) }
     ensures tidied { OnOk result ((P.state port.new).waiting ≡ []) }
+    ensures lines { OnOk result (TidiedUpTo (P.state port.old) (P.state port.new) (length (P.state port.old).waiting)) }
     ensures held { (P.state port.new).held ≡ (P.state port.old).held }
     ensures looks { (P.state port.new).looks ≡ (P.state port.old).looks }
     ensures nothing { OffersNothing (P.state port.old) (P.state port.new) }
@@ -189,7 +191,7 @@ fn learn_lemma<P: Port>(
     requires glue { IsGlueOf ring.old.trail.steps lits.now glue }
     ensures leads { Leads (P.state port.old) ring.old (P.state port.new) ring.new limit result }
     ensures more { result ≡ Course.On → ring.new.learned ≡ ring.old.learned + 1 }
-    ensures learns { result ≡ Course.On → HasLearned (P.state port.old) (P.state port.new) ring.old ring.new lits.now }
+    ensures learns { LearnsTo (P.state port.old) (P.state port.new) ring.old ring.new lits.now result }
     ensures tidied { HasTidied (P.state port.new) result }
     ensures listed { result ≡ Course.On → HasLemmas (P.state port.new) ring.new }
     ensures stored { HoldsByGlue (P.state port.old) (P.state port.new) ring.old.trail.steps }
@@ -244,7 +246,7 @@ pub(crate) fn learn_from<P: Port>(
     requires conflict { IsConflict ring.old.watches (lits_at (P.state port.old)) ring.old.trail conflict }
     ensures leads { Leads (P.state port.old) ring.old (P.state port.new) ring.new limit result }
     ensures more { result ≡ Course.On → ring.new.learned ≡ ring.old.learned + 1 }
-    ensures learns { result ≡ Course.On → HasLearned (P.state port.old) (P.state port.new) ring.old ring.new analysis.new.lits }
+    ensures learns { LearnsTo (P.state port.old) (P.state port.new) ring.old ring.new analysis.new.lits result }
     ensures tidied { HasTidied (P.state port.new) result }
     ensures listed { result ≡ Course.On → HasLemmas (P.state port.new) ring.new }
     ensures stored { HoldsByGlue (P.state port.old) (P.state port.new) ring.old.trail.steps }

@@ -130,8 +130,10 @@ pub(crate) fn renew<P: Port>(alloc: Global, port: &mut P, ring: &mut Ring) -> Co
     requires few { ring.old.reductions < 2 ^ 64 - 1 }
     requires pending { ring.old.pending ≡ true }
     ensures leads { (limit : ℕ) → ring.old.learned < limit → Leads (P.state port.old) ring.old (P.state port.new) ring.new limit result }
+    ensures unspent { result ≡ Course.Over End.Spent → ⊥ }
     ensures settled { result ≡ Course.On → ring.new.pending ≡ false }
-    ensures renewed { result ≡ Course.On → HasRenewed (P.state port.old) ring.old ring.new }
+    ensures renewed { result ≡ Course.On → HasRenewed (P.state port.old) (P.state port.new) ring.old ring.new }
+    ensures unlooked { (P.state port.new).looks ≡ (P.state port.old).looks }
     ensures steps { result ≡ Course.On → length ring.old.trail.steps ≤ length ring.new.trail.steps }
     ensures polls { HasPolledBy (P.state port.new) ring.new result }
     ensures imports { KeepsImporting (P.state port.old) ring.old (P.state port.new) ring.new result }

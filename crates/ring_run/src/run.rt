@@ -4,7 +4,7 @@ ghost use Rattle.ring_port.specs.PortState.{PortState, IsPort, HoldsStart, lits_
 ghost use Rattle.ring_trail.specs.TrailData.{TrailData, IsTrail};
 ghost use Rattle.watch_prop.specs.WatchData.{attached};
 ghost use Rattle.watch_prop.specs.Watched.{Watched, IsFresh};
-ghost use Rattle.ring_run.specs.Ended.{IsJobOf, IsUntouched, Stays, IsOwn, IsCounted, HasOffered, HasRestarted, HasPolled, ImportsBy, IsTidy, ReducesBy, AreNew, AreNewLines, AreSpaced, AreTimely, HoldsGlued, HasLooked, last_looks, stop_kind, Cause, Ends};
+ghost use Rattle.ring_run.specs.Ended.{IsJobOf, IsUntouched, Stays, IsOwn, IsCounted, HasOffered, HasRestarted, HasPolled, ImportsBy, IsTidy, ReducesBy, AreNew, AreNewLines, AreSpaced, AreTimely, HoldsGlued, HoldsRecent, HasLooked, last_looks, stop_kind, Cause, Ends};
 ghost use Rattle.ring_run.specs.Searching.{IsHeldBy, OffersNothing};
 ghost use Rattle.ring_decide.specs.Phases.{first_phases};
 ghost use Rattle.restart_plan.specs.Plan.{IsRestarting, begun};
@@ -74,6 +74,7 @@ pub fn run_ring<P: Port>(alloc: Global, port: &mut P, job: &Job) -> (End, Counts
     ensures spaced { AreSpaced (P.state port.new) }
     ensures timely { AreTimely (P.state port.new) }
     ensures glued { HoldsGlued (P.state port.old) (P.state port.new) }
+    ensures lately { HoldsRecent (P.state port.new) }
     ensures looked { HasLooked ((P.state port.old).looks + result.1.learned + last_looks result.0) (P.state port.new) }
     ensures counts { IsCounted (P.state port.new) result.1 }
     ensures restarted { HasRestarted (P.state port.old).ring job.now.conflicts result.1 }

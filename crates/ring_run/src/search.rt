@@ -5,7 +5,7 @@ ghost use Rattle.ring_run.specs.Ended.{HasLooked, HasPolled, ImportsBy, IsTidy, 
 ghost use Rattle.ring_run.specs.Strategy.{Decides, IsPaced};
 ghost use Rattle.ring_run.specs.Searching.{GoesOn};
 ghost use Rattle.ring_run.specs.Ending.{ComesTo};
-ghost use Rattle.ring_run.specs.Renewal.{Renews};
+ghost use Rattle.ring_run.specs.Turn.{TakesTurn};
 ghost use Rattle.ring_run.specs.Course.{IsOffering, InSearch, HasLemmas, MayImport, Leads, IsFurther, IsLooking, KeepsLooking, IsPolling, HasPolledBy, IsImporting, KeepsImporting, KeepsTidy, IsInTimeAt, KeepsInTime, SumsUp};
 
 use crate::course::Course;
@@ -43,7 +43,7 @@ fn turn<P: Port>(
     ensures polls { HasPolledBy (P.state port.new) ring.new result }
     ensures imports { KeepsImporting (P.state port.old) ring.old (P.state port.new) ring.new result }
     ensures tidied { KeepsTidy (P.state port.old) (P.state port.new) result }
-    ensures renewed { result ≡ Course.On → ring.old.pending ≡ true → Renews (P.state port.old) ring.old ring.new }
+    ensures took { TakesTurn (P.state port.old) (P.state port.new) ring.old ring.new result }
     ensures in_time { KeepsInTime (P.state port.old) ring.old (P.state port.new) ring.new result }
     ensures sums { SumsUp ring.new.restarts }
     ensures listed { result ≡ Course.On → HasLemmas (P.state port.new) ring.new }

@@ -1,9 +1,10 @@
+use Rattle.ring_decide.specs.DeciderData.{DeciderData}
 use Rattle.ring_run.specs.declared.ring.Ring.{Ring}
 use Rattle.ring_run.proofs.Deciding.{decided_search, model_found}
 use Rattle.ring_run.proofs.Progress.{out_of_memory}
 use Rattle.ring_run.proofs.Learning.{goes_on_by}
 use Rattle.ring_run.proofs.decision.decide.Goals as goal
-use Rattle.std.proofs.Common.{◌∙◌, subst, sym}
+use Rattle.std.proofs.Common.{◌∙◌, ap, subst, sym}
 use Rattle.std.proofs.lemmas.Bool.{false≢true}
 use Rattle.ring_run.proofs.Polling.{polled_whole, polled_over}
 use Rattle.ring_trail.specs.TrailData.{TrailData, IsTrail}
@@ -35,4 +36,4 @@ pub returns-in-Err-clause-polls : goal.returns-in-Err-clause-polls
 returns-in-Err-clause-polls g c = λ p. polled_over (g.P.Port.state c.args.port.now) c.args.ring.now p.polled
 
 pub returns-in-Some-clause-decided : goal.returns-in-Some-clause-decided
-returns-in-Some-clause-decided g c = λ on. record { lit = c.in-Some.lit; chosen = c.in-Some.ensures.some; trail = c.decide.ensures.step; phases = c.next.ensures.same }
+returns-in-Some-clause-decided g c = λ on. record { lit = c.in-Some.lit; chosen = c.in-Some.ensures.some; trail = c.decide.ensures.step; same = ap (λ (d : DeciderData). record c.args.ring.now { trail = c.decide.new.self; decider = d }) c.next.ensures.same }

@@ -16,6 +16,11 @@ use Rattle.ring_run.proofs.Polling.{polls_same, polled_over, polled_halted, poll
 use Rattle.ring_run.proofs.Progress.{stop_seen, looked_goes_on, recent_still}
 use Rattle.ring_run.proofs.Tidying.{refused_halted}
 use Rattle.ring_run.proofs.Turning.{quiet_same, looked_search, compose}
+use Rattle.ring_run.specs.Turn.{ActedAtQuiet}
+use Rattle.ring_run.specs.declared.job.End.{End}
+use Rattle.ring_run.specs.declared.course.Course.TheVariants.{Over}
+use Rattle.ring_run.specs.Ending.{end_refused}
+use Rattle.ring_run.proofs.Acting.{halted_unspent}
 use Rattle.ring_run.proofs.decision.decide_next.Goals as goal
 use Rattle.ring_run.proofs.Numbering.{kept_looked}
 use Rattle.ring_run.proofs.Rounds.{imports_halted, imports_over, imports_same, importing_same, imported_settled}
@@ -25,9 +30,6 @@ use Rattle.ring_run.proofs.InTime.{in_time_halted, in_time_any, in_time_more, in
 use Rattle.ring_run.specs.Course.{IsInTimeAt, IsInTimeBy}
 use Rattle.ring_run.specs.Searching.{OnlyWrote}
 use Rattle.ring_run.proofs.Progress.{wrote_by, looked_wrote}
-use Rattle.watch_prop.proofs.Growing.{HasGrown-refl}
-use Rattle.watch_prop.specs.WatchData.{attached}
-use Rattle.ring_trail.specs.TrailData.{HasGrown}
 use Rattle.restart_plan.specs.Plan.{Restarting}
 use Rattle.std.proofs.lemmas.Bool.{false≢true}
 
@@ -260,25 +262,47 @@ returns-clause-imports g c = λ start p h.
     (imported_settled start w after c.decide.result (c.decide.ensures.pending ∙ c.if-ring.false)
     (importing_same start s w old after nothing (c.decide.ensures.restarts ∙ c.write_pending.ensures.restarts) (c.decide.ensures.pending ∙ c.write_pending.ensures.pending) h))
 
-pub returns-then-ring-clause-renewed : goal.returns-then-ring-clause-renewed
-returns-then-ring-clause-renewed g c = λ on pending.
-    let s = g.P.Port.state c.args.port.now in
+pub returns-then-ring-clause-acted : goal.returns-then-ring-clause-acted
+returns-then-ring-clause-acted g c = λ on.
+    (let s = g.P.Port.state c.args.port.now in
     let m = g.P.Port.state c.stopped.new.self in
     let w = g.P.Port.state c.write_pending.new.port in
-    let lines : OnlyWrote s w = wrote_by s m w (looked_wrote s m (one_more s.looks) c.in_default.ensures.looked.1 c.stopped.ensures.log) c.in-Ok.ensures.wrote in
-    record {
+    let is = c.in_default.ensures.looked.1 in
+    inl (sym c.write_pending.ensures.pending ∙ c.if-ring.true, record {
       middle = w;
       ring = c.write_pending.new.ring;
-      lines = lines;
-      grown = subst (HasGrown c.args.ring.now.trail) (sym c.write_pending.ensures.trail) (HasGrown-refl c.args.ring.now.trail);
-      same_clauses = ap attached c.write_pending.ensures.watches;
-      same_ring = c.write_pending.ensures.same ∙ ap (λ (r : Ring). record c.args.ring.now { trail = r.trail; watches = r.watches; written = c.write_pending.new.ring.written }) (sym c.write_pending.ensures.same);
+      lines = wrote_by s m w (looked_wrote s m (one_more s.looks) is c.stopped.ensures.log) c.in-Ok.ensures.wrote;
+      nothing = nothing_then s m w (nothing_looked s m c.stopped.result c.stopped.ensures.looked) c.write_pending.ensures.nothing;
+      waiting = c.write_pending.ensures.waiting ∙ ap (λ (x : PortState). x.waiting) is;
+      looked = c.renew.ensures.unlooked ∙ c.write_pending.ensures.looks ∙ ap (λ (x : PortState). x.looks) is;
+      same_ring = c.write_pending.ensures.same;
       renewed = c.renew.ensures.renewed on;
-      settled = c.renew.ensures.settled on;
-    }
+    }))
 
-pub returns-clause-renewed : goal.returns-clause-renewed
-returns-clause-renewed g c = λ on pending. absurd (false≢true (sym c.if-ring.false ∙ c.write_pending.ensures.pending ∙ pending))
+pub returns-clause-acted : goal.returns-clause-acted
+returns-clause-acted g c = λ on.
+    (let s = g.P.Port.state c.args.port.now in
+    let m = g.P.Port.state c.stopped.new.self in
+    let w = g.P.Port.state c.write_pending.new.port in
+    let is = c.in_default.ensures.looked.1 in
+    let old = c.args.ring.now in
+    let ring = c.write_pending.new.ring in
+    let new = c.decide.new.ring in
+    let p = c.decide.ensures.decided on in
+    let told = c.write_pending.ensures.same in
+    subst (λ (x : PortState). ActedAtQuiet s x old new) (sym c.decide.ensures.same)
+    (inr (sym c.write_pending.ensures.pending ∙ c.if-ring.false, record {
+      lines = wrote_by s m w (looked_wrote s m (one_more s.looks) is c.stopped.ensures.log) c.in-Ok.ensures.wrote;
+      nothing = nothing_then s m w (nothing_looked s m c.stopped.result c.stopped.ensures.looked) c.write_pending.ensures.nothing;
+      waiting = c.write_pending.ensures.waiting ∙ ap (λ (x : PortState). x.waiting) is;
+      looked = c.write_pending.ensures.looks ∙ ap (λ (x : PortState). x.looks) is;
+      decided = record {
+        lit = p.lit;
+        chosen = subst (λ (r : Ring). IsDecided r.decider r.trail.steps p.lit) told p.chosen;
+        trail = p.trail ∙ ap (λ (r : Ring). decided r.trail p.lit) told;
+        same = p.same ∙ ap (λ (r : Ring). record r { trail = new.trail; written = new.written }) told;
+      };
+    })))
 
 pub returns-in-Err-clause-in_time : goal.returns-in-Err-clause-in_time
 returns-in-Err-clause-in_time g c = λ p h.
@@ -302,17 +326,5 @@ returns-clause-in_time g c = λ p h.
     subst (λ (x : PortState). IsInTimeBy x after c.decide.result) (sym c.decide.ensures.same)
     (in_time_any w after c.decide.result (in_time_more w old.restarts.since after.restarts.since (sym since) (in_time_wrote s w old.restarts.since lines (h settled))))
 
-pub returns-clause-decided : goal.returns-clause-decided
-returns-clause-decided g c = λ on settled.
-    (let trail = c.write_pending.ensures.trail in
-    let decider = c.write_pending.ensures.decider in
-    let p = c.decide.ensures.decided on in
-    record {
-      lit = p.lit;
-      chosen = subst (λ (d : DeciderData). IsDecided d c.args.ring.now.trail.steps p.lit) decider (subst (λ (t : TrailData). IsDecided c.write_pending.new.ring.decider t.steps p.lit) trail p.chosen);
-      trail = p.trail ∙ ap (λ (t : TrailData). decided t p.lit) trail;
-      phases = p.phases ∙ decider;
-    })
-
-pub returns-then-ring-clause-decided : goal.returns-then-ring-clause-decided
-returns-then-ring-clause-decided g c = λ on settled. absurd (false≢true (sym settled ∙ sym c.write_pending.ensures.pending ∙ c.if-ring.true))
+pub returns-in-Err-clause-unspent : goal.returns-in-Err-clause-unspent
+returns-in-Err-clause-unspent g c = λ e. halted_unspent (end_refused c.in-Err.stop) (refused_halted c.in-Err.stop) (ap (λ (end : End). Over end) (sym c.end_refused.ensures) ∙ e)

@@ -1,4 +1,4 @@
-use Rattle.std.proofs.Common.{◌≡◌, ◌∙◌, ◌++◌, List, ◌≤◌, ◌+◌, ℕ, ap, sym, subst, arith, refl, Bool, false, IsSome, Contains}
+use Rattle.std.proofs.Common.{◌≡◌, ◌∙◌, ◌++◌, List, ◌≤◌, ◌<◌, ◌+◌, ℕ, ap, sym, subst, arith, refl, length, None, Bool, false, IsSome, Contains}
 use Rattle.std.specs.Prelude.{if◌then◌else◌}
 use Rattle.std.proofs.lemmas.Bool.{false≢true}
 use Rattle.ring_port.specs.PortState.{PortState, Slot, Holding, held_at}
@@ -14,12 +14,15 @@ use Rattle.ring_run.proofs.Turning.{saw_search}
 use Rattle.ring_run.proofs.Learning.{goes_on_by}
 use Rattle.ring_run.proofs.Progress.{out_of_memory, recent_still}
 use Rattle.ring_run.proofs.Polling.{imported, imported_most, polls_same, polled_over, polled_halted, place_moved}
+use Rattle.ring_run.proofs.Acting.{halted_unspent}
+use Rattle.ring_run.proofs.Slots.{slots_more}
 use Rattle.ring_run.proofs.imports.import.Goals as goal
 use Rattle.ring_run.proofs.Numbering.{grown_none, reductions_still}
 use Rattle.ring_run.proofs.Remembering.{held_same}
 use Rattle.ring_port.proofs.Holdings.{All_In}
 use Rattle.rup_model.proofs.Lists.{Contains_In}
 use Rattle.watch_prop.specs.WatchData.{attached}
+use Rattle.ring_trail.specs.TrailData.{TrailData, HasGrown, reason_at}
 use Rattle.std.specs.declared.option.Option.{Option}
 use Rattle.ring_run.proofs.Rounds.{imports_halted, imports_over, imports_same, imports_count, imports_part, imports_more, slots_same}
 use Rattle.ring_run.proofs.InTime.{in_time_halted, in_time_same, in_time_more}
@@ -148,7 +151,7 @@ returns-clause-listed g c = λ on p.
     let ring = c.args.ring.now in
     listed_same s u c.args.ring.now (record after { pending = false }) (ap (λ (x : PortState). x.start) only ∙ saw.stays.start)
     (recent_still m u (ap (λ (x : PortState). x.ring) only) (ap (λ (x : PortState). x.mine) only) ∙ recent_still s m saw.stays.ring saw.mine)
-    (ap (λ (r : Ring). r.lemmas.items) same) c.in-Ok.ensures.more (ap (λ (r : Ring). r.learned) same) (ap (λ (r : Ring). r.reductions) same) (ap (λ (r : Ring). r.reduced_at) same)
+    (ap (λ (r : Ring). r.lemmas.items) same) (slots_more m u (record ring { trail = c.take_units.new.trail }) after (import_slots m) c.in-Ok.ensures.took) (ap (λ (r : Ring). r.learned) same) (ap (λ (r : Ring). r.reductions) same) (ap (λ (r : Ring). r.reduced_at) same)
     (record {
       held = λ d there. (
           let before : IsSome (held_at s d.address) = All_In (IsHeldBy s) (attached ring.watches) d c.requires.import.clauses.held
@@ -196,7 +199,7 @@ returns-clause-imports g c = λ start p h.
     let none : imports_of ring ≡ made = ap (λ (b : Bool). if b then made else made + 1) c.requires.pending in
     let same : after.restarts.made ≡ made = ap (λ (r : Ring). r.restarts.made) c.take_clauses.ensures.same in
     let looked : u.polls ≡ s.polls ++ import_slots s =
-    c.in-Ok.ensures.looked ∙ ap (λ (xs : List Slot). xs ++ import_slots m) saw.polls ∙ ap (λ (xs : List Slot). s.polls ++ xs) (slots_same s m saw.stays.ring saw.stays.rings) in
+    c.in-Ok.ensures.took.polls ∙ ap (λ (xs : List Slot). xs ++ import_slots m) saw.polls ∙ ap (λ (xs : List Slot). s.polls ++ xs) (slots_same s m saw.stays.ring saw.stays.rings) in
     imports_count start u (made + 1) (after.restarts.made + 1) (omega (arith, same))
     (imports_more start s u made (ap (λ (x : PortState). x.ring) only ∙ saw.stays.ring) (ap (λ (x : PortState). x.rings) only ∙ saw.stays.rings) (imports_count start s (imports_of ring) made none h) looked
     (ap (λ (x : PortState). x.caught_up) only ∙ c.take_units.ensures.caught_up c.in-True.is))
@@ -212,3 +215,35 @@ returns-clause-in_time g c = λ h settled.
     let saw = c.take_units.ensures.saw in
     in_time_same s u c.take_clauses.new.ring.restarts.since (ap (λ (x : PortState). x.ring) only ∙ saw.stays.ring) (ap (λ (x : PortState). x.mine) only ∙ saw.mine)
     (in_time_more s c.args.ring.now.restarts.since c.take_clauses.new.ring.restarts.since (ap (λ (r : Ring). r.restarts.since) (sym c.take_clauses.ensures.same)) h)
+
+pub returns-clause-took : goal.returns-clause-took
+returns-clause-took g c = λ on.
+    (let ring = c.args.ring.now in
+    let after = c.take_clauses.new.ring in
+    let units = c.in-True.ensures in
+    let same = c.take_clauses.ensures.same in
+    let trail : after.trail ≡ c.take_units.new.trail = ap (λ (r : Ring). r.trail) same in
+    let slots = c.in-Ok.ensures.took in
+    record {
+      middle = g.P.Port.state c.take_units.new.port;
+      units = units.saw;
+      caught_up = c.take_units.ensures.caught_up c.in-True.is;
+      polled = c.take_clauses.ensures.only;
+      slots = record { polls = slots.polls; came = slots.came; few = slots.few; held = slots.held; taken = slots.taken; clauses = slots.clauses };
+      grown = subst (HasGrown ring.trail) (sym trail) units.grown;
+      bare = subst (λ (t : TrailData). (p : ℕ) → length ring.trail.steps ≤ p → p < length t.steps → reason_at t.steps p ≡ None) (sym trail) units.bare;
+      level = ap (λ (t : TrailData). t.level) trail ∙ units.grown.level ∙ c.requires.import.level;
+      same = ap (λ (r : Ring). record r { pending = false }) same ∙ ap (λ (t : TrailData). record ring { trail = t; watches = after.watches; pending = false }) (sym trail);
+    })
+
+pub returns-in-Opposed-clause-unlooked : goal.returns-in-Opposed-clause-unlooked
+returns-in-Opposed-clause-unlooked g c = c.refute.ensures.looks ∙ c.take_units.ensures.saw.looks
+
+pub returns-in-Err-clause-unlooked : goal.returns-in-Err-clause-unlooked
+returns-in-Err-clause-unlooked g c = ap (λ (x : PortState). x.looks) c.take_clauses.ensures.only.state ∙ c.take_units.ensures.saw.looks
+
+pub returns-clause-unlooked : goal.returns-clause-unlooked
+returns-clause-unlooked g c = ap (λ (x : PortState). x.looks) c.take_clauses.ensures.only.state ∙ c.take_units.ensures.saw.looks
+
+pub returns-in-Opposed-clause-unspent : goal.returns-in-Opposed-clause-unspent
+returns-in-Opposed-clause-unspent g c = halted_unspent c.refute.result c.refute.ensures.halted

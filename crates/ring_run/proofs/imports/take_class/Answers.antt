@@ -1,14 +1,17 @@
-use Rattle.std.proofs.Common.{◌≡◌, [], ◌∷◌, ◌++◌, List, Contains, Ok, arith, append-nil, sym, subst}
+use Rattle.std.proofs.Common.{◌≡◌, [], ◌∷◌, Ok, arith, append-nil, refl, sym, subst}
 use Rattle.std.specs.declared.option.Option.{Option}
 use Rattle.std.proofs.lemmas.List.Elements.{All-cons, All-nil}
 use Rattle.sat_words.specs.declared.shared.Cref.{Cref}
 use Rattle.ring_port.specs.PortState.{PortState}
 use Rattle.ring_port.specs.Exchange.{TookClause, Polled, looked_into}
 use Rattle.watch_prop.specs.WatchData.{attached}
-use Rattle.rup_model.proofs.Lists.{Contains_In, In_Contains, In_append_left}
 use Rattle.ring_run.specs.Searching.{IsHeldBy, KeepsOn}
 use Rattle.ring_run.specs.Course.{Searches}
 use Rattle.ring_run.proofs.Importing.{polled_none, polled_some, polls_keep, polls_search, taken_held}
+use Rattle.ring_run.specs.Renewal.{TookSlots}
+use Rattle.ring_run.specs.declared.ring.Ring.{Ring}
+use Rattle.ring_run.proofs.Rounds.{slot}
+use Rattle.ring_run.proofs.Slots.{slots_none, slots_one}
 use Rattle.ring_run.proofs.imports.take_class.Goals as goal
 
 pub returns-in_default-taken-clause-search : goal.returns-in_default-taken-clause-search
@@ -59,8 +62,17 @@ returns-clause-search g c =
     (polls_search s u (clause ∷ []) (polled_some s u c.args.from c.args.class clause took c.poll.ensures.kept) (omega arith) ring.trail ring.watches c.attach.new.self ring.written c.requires.search c.requires.level c.poll.ensures.port
     c.in_ok-attach.ensures.attached (All-cons (IsHeldBy u) clause [] (taken_held s u c.args.from c.args.class clause took c.poll.ensures.port) (All-nil (IsHeldBy u))) c.attach.ensures.watched)
 
-pub returns-clause-more : goal.returns-clause-more
-returns-clause-more g c = λ d there.
-    let cs = attached c.args.ring.now.watches in
-    subst (λ (ds : List Cref). Contains ds d) (sym c.in_ok-attach.ensures.attached)
-    (In_Contains (cs ++ c.in-Some.clause ∷ []) d (In_append_left cs (c.in-Some.clause ∷ []) d (Contains_In cs d there)))
+pub returns-in_default-taken-clause-took : goal.returns-in_default-taken-clause-took
+returns-in_default-taken-clause-took g c =
+    let s = g.P.Port.state c.args.port.now in
+    let u = g.P.Port.state c.poll.new.self in
+    slots_none s u c.args.ring.now c.args.ring.now c.args.from c.args.class (subst (λ (o : Option Cref). Polled s u c.args.from c.args.class (Ok o)) c.in_default-taken.is c.in-Ok.ensures.polled) refl
+
+pub returns-clause-took : goal.returns-clause-took
+returns-clause-took g c =
+    let s = g.P.Port.state c.args.port.now in
+    let u = g.P.Port.state c.poll.new.self in
+    let old = c.args.ring.now in
+    let new : Ring = record old { watches = c.attach.new.self } in
+    let took : TookClause s u c.args.from c.args.class c.in-Some.clause = subst (λ (o : Option Cref). Polled s u c.args.from c.args.class (Ok o)) c.in-Some.is c.in-Ok.ensures.polled in
+    subst (λ (x : PortState). TookSlots s x old new (slot c.args.from c.args.class ∷ [])) (sym c.attach.ensures.same) (slots_one s u old new c.args.from c.args.class c.in-Some.clause took c.in_ok-attach.ensures.attached)

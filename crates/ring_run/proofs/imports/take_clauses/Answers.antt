@@ -1,13 +1,13 @@
-use Rattle.std.proofs.Common.{ℕ, ◌≡◌, ◌≢◌, List, ◌++◌, ◌∙◌, ◌≤◌, ◌+◌, length, arith, ap, sym}
+use Rattle.std.proofs.Common.{◌≡◌, ◌≢◌, ◌∙◌, ◌≤◌, ◌+◌, length, arith, ap, sym}
 use Rattle.ring_port.specs.Exchange.{other_rings}
 use Rattle.ring_run.specs.declared.ring.Place.{Place}
 use Rattle.ring_run.specs.declared.ring.Ring.{Ring}
 use Rattle.ring_run.proofs.Importing.{only_then}
 use Rattle.ring_run.proofs.Polling.{others_below, below_other, below_own, below_rings}
 use Rattle.ring_run.proofs.imports.take_clauses.Goals as goal
-use Rattle.ring_run.proofs.Rounds.{looked_then, along_then, along_front, round_below, round_other, round_own, round_front, ring_front}
+use Rattle.ring_run.proofs.Slots.{slots_then, slots_as}
+use Rattle.ring_run.proofs.Rounds.{along_then, along_front, round_below, round_other, round_own, round_front, ring_front}
 use Rattle.ring_run.specs.Ended.{slots_of, import_slots}
-use Rattle.ring_port.specs.PortState.{Slot}
 
 pub returns-in-Err-clause-keeps : goal.returns-in-Err-clause-keeps
 returns-in-Err-clause-keeps g c = λ start n p. c.take_from.ensures.keeps start n (c.loop-from.invariant.keeps start n p)
@@ -34,10 +34,9 @@ loop-from-preserved g c =
       keeps = λ start n p. taken.keeps start n (i.keeps start n p);
       search = taken.search;
       polled = omega (arith, taken.polled, i.polled, next);
-      looked = looked_then s (g.P.Port.state c.loop-from.port) (g.P.Port.state c.take_from.new.port) (round_below s.ring c.loop-from.from) (slots_of c.loop-from.from) (round_below s.ring (c.loop-from.from + 1)) i.looked taken.looked
-          (round_other s.ring c.loop-from.from other);
+      took = slots_then s (g.P.Port.state c.loop-from.port) (g.P.Port.state c.take_from.new.port) c.args.ring.now c.loop-from.ring c.take_from.new.ring (round_below s.ring c.loop-from.from) (slots_of c.loop-from.from)
+          (round_below s.ring (c.loop-from.from + 1)) i.took taken.took (round_other s.ring c.loop-from.from other);
       only = only_then s (g.P.Port.state c.loop-from.port) (g.P.Port.state c.take_from.new.port) i.only taken.only;
-      more = λ d there. taken.more d (i.more d there);
       same = taken.same ∙ ap (λ (r : Ring). record r { watches = c.take_from.new.ring.watches }) i.same;
       port = taken.port;
     }
@@ -48,7 +47,7 @@ loop-from-preserved-then-from-ring g c =
     let i = c.loop-from.invariant in
     let own : c.loop-from.ring.place.ring ≡ s.ring = ap (λ (r : Ring). r.place.ring) i.same ∙ ap (λ (p : Place). p.ring) c.requires.place in
     let next = below_own s.ring c.loop-from.from (c.if-from-ring.true ∙ own) in
-    record { keeps = i.keeps; search = i.search; polled = omega (arith, i.polled, next); looked = i.looked ∙ ap (λ (xs : List Slot). s.polls ++ xs) (sym (round_own s.ring c.loop-from.from (c.if-from-ring.true ∙ own))); only = i.only; more = i.more; same = i.same; port = i.port }
+    record { keeps = i.keeps; search = i.search; polled = omega (arith, i.polled, next); took = slots_as s (g.P.Port.state c.loop-from.port) c.args.ring.now c.loop-from.ring (round_below s.ring c.loop-from.from) (round_below s.ring (c.loop-from.from + 1)) (sym (round_own s.ring c.loop-from.from (c.if-from-ring.true ∙ own))) i.took; only = i.only; same = i.same; port = i.port }
 
 pub returns-in-Err-clause-along : goal.returns-in-Err-clause-along
 returns-in-Err-clause-along g c =
@@ -57,18 +56,19 @@ returns-in-Err-clause-along g c =
     let from = c.loop-from.from in
     let own : c.loop-from.ring.place.ring ≡ s.ring = ap (λ (r : Ring). r.place.ring) i.same ∙ ap (λ (p : Place). p.ring) c.requires.place in
     let many : c.args.ring.now.place.rings ≡ s.rings = ap (λ (p : Place). p.rings) c.requires.place in
-    along_then s (g.P.Port.state c.loop-from.port) (g.P.Port.state c.take_from.new.port) (round_below s.ring from) (slots_of from) (import_slots s) i.looked c.take_from.ensures.along
+    along_then s (g.P.Port.state c.loop-from.port) (g.P.Port.state c.take_from.new.port) (round_below s.ring from) (slots_of from) (import_slots s) i.took.polls c.take_from.ensures.along
     (ring_front s.ring from s.rings (λ e. c.if-from-ring.false (e ∙ sym own)) (omega (arith, c.loop-from-test.true, many)))
 
-pub returns-clause-looked : goal.returns-clause-looked
-returns-clause-looked g c =
+pub returns-clause-took : goal.returns-clause-took
+returns-clause-took g c =
     let s = g.P.Port.state c.args.port.now in
     let many : c.args.ring.now.place.rings ≡ s.rings = ap (λ (p : Place). p.rings) c.requires.place in
-    c.loop-from.invariant.looked ∙ ap (λ (n : ℕ). s.polls ++ round_below s.ring n) (let e : c.loop-from.from ≡ s.rings = omega (arith, c.loop-from-test.false, c.loop-from.auto.from-end, many) in e)
+    let e : c.loop-from.from ≡ s.rings = omega (arith, c.loop-from-test.false, c.loop-from.auto.from-end, many) in
+    slots_as s (g.P.Port.state c.loop-from.port) c.args.ring.now c.loop-from.ring (round_below s.ring c.loop-from.from) (import_slots s) (ap (round_below s.ring) e) c.loop-from.invariant.took
 
 pub returns-clause-along : goal.returns-clause-along
 returns-clause-along g c =
     let s = g.P.Port.state c.args.port.now in
     let many : c.args.ring.now.place.rings ≡ s.rings = ap (λ (p : Place). p.rings) c.requires.place in
-    along_front s (g.P.Port.state c.loop-from.port) (round_below s.ring c.loop-from.from) (import_slots s) c.loop-from.invariant.looked
+    along_front s (g.P.Port.state c.loop-from.port) (round_below s.ring c.loop-from.from) (import_slots s) c.loop-from.invariant.took.polls
     (round_front s.ring c.loop-from.from s.rings (omega (arith, c.loop-from.auto.from-end, many)))

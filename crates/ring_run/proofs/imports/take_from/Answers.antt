@@ -2,7 +2,8 @@ use Rattle.std.proofs.Common.{◌∙◌, ◌+◌, ◌∷◌, [], arith, ap}
 use Rattle.ring_run.specs.declared.ring.Ring.{Ring}
 use Rattle.ring_run.proofs.Importing.{only_then}
 use Rattle.ring_run.proofs.imports.take_from.Goals as goal
-use Rattle.ring_run.proofs.Rounds.{looked_then, along_then, along_front, slot, classes_below, class_more, class_front, classes_front, classes_all}
+use Rattle.ring_run.proofs.Slots.{slots_then, slots_as}
+use Rattle.ring_run.proofs.Rounds.{along_then, along_front, slot, classes_below, class_more, class_front, classes_front, classes_all}
 use Rattle.ring_run.specs.Ended.{slots_of}
 
 pub returns-in-Err-clause-keeps : goal.returns-in-Err-clause-keeps
@@ -16,10 +17,9 @@ loop-class-preserved g c =
       keeps = λ start n p. taken.keeps start n (i.keeps start n p);
       search = taken.search;
       polled = omega (arith, taken.polled, i.polled);
-      looked = looked_then (g.P.Port.state c.args.port.now) (g.P.Port.state c.loop-class.port) (g.P.Port.state c.take_class.new.port) (classes_below c.args.from c.loop-class.class) (slot c.args.from c.loop-class.class ∷ [])
-          (classes_below c.args.from (c.loop-class.class + 1)) i.looked taken.looked (class_more c.args.from c.loop-class.class);
+      took = slots_then (g.P.Port.state c.args.port.now) (g.P.Port.state c.loop-class.port) (g.P.Port.state c.take_class.new.port) c.args.ring.now c.loop-class.ring c.take_class.new.ring (classes_below c.args.from c.loop-class.class)
+          (slot c.args.from c.loop-class.class ∷ []) (classes_below c.args.from (c.loop-class.class + 1)) i.took taken.took (class_more c.args.from c.loop-class.class);
       only = only_then (g.P.Port.state c.args.port.now) (g.P.Port.state c.loop-class.port) (g.P.Port.state c.take_class.new.port) i.only taken.only;
-      more = λ d there. taken.more d (i.more d there);
       same = taken.same ∙ ap (λ (r : Ring). record r { watches = c.take_class.new.ring.watches }) i.same;
       port = taken.port;
     }
@@ -28,14 +28,15 @@ pub returns-in-Err-clause-along : goal.returns-in-Err-clause-along
 returns-in-Err-clause-along g c =
     let from = c.args.from in
     let class = c.loop-class.class in
-    along_then (g.P.Port.state c.args.port.now) (g.P.Port.state c.loop-class.port) (g.P.Port.state c.take_class.new.port) (classes_below from class) (slot from class ∷ []) (slots_of from) c.loop-class.invariant.looked c.take_class.ensures.along
+    along_then (g.P.Port.state c.args.port.now) (g.P.Port.state c.loop-class.port) (g.P.Port.state c.take_class.new.port) (classes_below from class) (slot from class ∷ []) (slots_of from) c.loop-class.invariant.took.polls c.take_class.ensures.along
     (class_front from class (omega (arith, c.loop-class-test.true)))
 
-pub returns-clause-looked : goal.returns-clause-looked
-returns-clause-looked g c =
-    classes_all (g.P.Port.state c.args.port.now) (g.P.Port.state c.loop-class.port) c.args.from c.loop-class.class (omega (arith, c.loop-class-test.false, c.loop-class.auto.class-end)) c.loop-class.invariant.looked
+pub returns-clause-took : goal.returns-clause-took
+returns-clause-took g c =
+    slots_as (g.P.Port.state c.args.port.now) (g.P.Port.state c.loop-class.port) c.args.ring.now c.loop-class.ring (classes_below c.args.from c.loop-class.class) (slots_of c.args.from)
+    (classes_all c.args.from c.loop-class.class (omega (arith, c.loop-class-test.false, c.loop-class.auto.class-end))) c.loop-class.invariant.took
 
 pub returns-clause-along : goal.returns-clause-along
 returns-clause-along g c =
-    along_front (g.P.Port.state c.args.port.now) (g.P.Port.state c.loop-class.port) (classes_below c.args.from c.loop-class.class) (slots_of c.args.from) c.loop-class.invariant.looked
+    along_front (g.P.Port.state c.args.port.now) (g.P.Port.state c.loop-class.port) (classes_below c.args.from c.loop-class.class) (slots_of c.args.from) c.loop-class.invariant.took.polls
     (classes_front c.args.from c.loop-class.class (omega (arith, c.loop-class.auto.class-end)))

@@ -1,8 +1,8 @@
-use Rattle.std.proofs.Common.{◌≡◌, ◌++◌, ◌+◌, ◌-◌, ◌^◌, min}
+use Rattle.std.proofs.Common.{◌≡◌, ◌+◌, ◌-◌, ◌^◌, min}
 use Rattle.ring_port.specs.PortState.{IsPort}
-use Rattle.watch_prop.specs.WatchData.{attached}
-use Rattle.ring_run.specs.Searching.{AreMoreClauses, KeepsOn, OnlyPolled}
+use Rattle.ring_run.specs.Searching.{KeepsOn, OnlyPolled}
 use Rattle.ring_run.specs.Course.{InSearch}
+use Rattle.ring_run.specs.Renewal.{TookSlots}
 use Rattle.ring_run.proofs.Rounds.{classes_below}
 use Rattle.ring_run.proofs.imports.take_from.Given as goal
 
@@ -11,9 +11,8 @@ invariant-loop-class g l = record {
   keeps : KeepsOn (g.P.Port.state l.fn.port) (g.P.Port.state l.port);
   search : InSearch (g.P.Port.state l.port) l.ring;
   polled : (g.P.Port.state l.port).polled ≡ min ((g.P.Port.state l.fn.port).polled + l.class) (2 ^ 64 - 1);
-  looked : (g.P.Port.state l.port).polls ≡ (g.P.Port.state l.fn.port).polls ++ classes_below l.from l.class;
+  took : TookSlots (g.P.Port.state l.fn.port) (g.P.Port.state l.port) l.fn.ring l.ring (classes_below l.from l.class);
   only : OnlyPolled (g.P.Port.state l.fn.port) (g.P.Port.state l.port);
-  more : AreMoreClauses (attached l.fn.ring.watches) (attached l.ring.watches);
   same : l.ring ≡ record l.fn.ring { watches = l.ring.watches };
   port : IsPort (g.P.Port.state l.port);
 }

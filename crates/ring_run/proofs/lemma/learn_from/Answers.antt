@@ -2,10 +2,11 @@ use Rattle.std.proofs.Common.{◌≤◌, ◌+◌, subst, sym, refl, List}
 use Rattle.sat_words.specs.Literal.{Literal}
 use Rattle.ring_port.specs.PortState.{PortState}
 use Rattle.ring_run.specs.Searching.{IsAsserting, GoesOn, HoldsByGlue, OffersNothing}
-use Rattle.ring_run.proofs.Lending.{offering_stays, left_alike}
+use Rattle.ring_run.proofs.Lending.{offering_stays}
+use Rattle.ring_run.proofs.Outcomes.{learns_halted, learns_bumped}
 use Rattle.ring_run.specs.declared.ring.Ring.{Ring}
 use Rattle.ring_run.specs.Ended.{polls_of}
-use Rattle.ring_run.specs.Course.{HasLemmas, HasLearned, IsPolling, imports_of}
+use Rattle.ring_run.specs.Course.{HasLemmas, LearnsTo, IsPolling, imports_of}
 use Rattle.ring_run.proofs.Polling.{polls_same, polled_over, polled_halted}
 use Rattle.ring_run.proofs.Asserting.{lemma_asserts}
 use Rattle.ring_run.proofs.Turning.{compose}
@@ -102,23 +103,19 @@ returns-then-is_err-clause-sums g c = sums_exact c.args.ring.now.restarts c.args
 pub returns-in-Empty-clause-sums : goal.returns-in-Empty-clause-sums
 returns-in-Empty-clause-sums g c = sums_exact c.args.ring.now.restarts c.args.ring.now.learned c.args.limit c.requires.paced c.requires.below
 
+pub returns-in-Empty-clause-learns : goal.returns-in-Empty-clause-learns
+returns-in-Empty-clause-learns g c =
+    learns_halted (g.P.Port.state c.args.port.now) (g.P.Port.state c.refute.new.port) c.args.ring.now c.args.ring.now c.analyze.new.self.lits c.refute.result c.refute.ensures.halted
+
 pub returns-else-is_err-clause-learns : goal.returns-else-is_err-clause-learns
-returns-else-is_err-clause-learns g c = λ on.
-    (let u = g.P.Port.state c.learn_lemma.new.port in
+returns-else-is_err-clause-learns g c =
+    let u = g.P.Port.state c.learn_lemma.new.port in
     let old = c.args.ring.now in
     let between : Ring = record old { decider = c.bump_met.new.decider; bumps = c.bump_met.new.bumps } in
     let new = c.learn_lemma.new.ring in
-    let p = subst (λ (ls : List Literal). HasLearned (g.P.Port.state c.analyze.new.port) u between new ls) c.lits.ensures (c.learn_lemma.ensures.learns on) in
-    subst (λ (x : PortState). HasLearned x u old new c.analyze.new.self.lits) c.analyze.ensures.same (record {
-      back = p.back;
-      glue = p.glue;
-      address = p.address;
-      asserting = p.asserting;
-      counted = p.counted;
-      stored = p.stored;
-      restarts = p.restarts;
-      pending = p.pending;
-      left = left_alike u (record between { pending = new.pending }) (record old { pending = new.pending }) new c.analyze.new.self.lits p.back p.address
-          (record { pending = refl; trail = refl; watches = refl; lemmas = refl; reductions = refl; reduced_at = refl; written = refl; decider = c.bump_met.ensures.same })
-          p.left;
-    }))
+    let course = c.learn_lemma.result in
+    let p = subst (λ (ls : List Literal). LearnsTo (g.P.Port.state c.analyze.new.port) u between new ls course) c.lits.ensures c.learn_lemma.ensures.learns in
+    subst (λ (x : PortState). LearnsTo x u old new c.analyze.new.self.lits course) c.analyze.ensures.same
+    (learns_bumped (g.P.Port.state c.analyze.new.port) u between old new c.analyze.new.self.lits course
+    (record { trail = refl; watches = refl; lemmas = refl; reductions = refl; reduced_at = refl; written = refl; decider = c.bump_met.ensures.same; restarts = refl; exported = refl; offered = refl })
+    p)

@@ -8,7 +8,7 @@ use Rattle.ring_run.proofs.Pacing.{paced_last, paced_more}
 use Rattle.ring_port.specs.PortState.{PortState}
 use Rattle.ring_run.specs.declared.job.End.{End}
 use Rattle.ring_run.specs.declared.job.End.TheVariants.{Memory}
-use Rattle.ring_run.specs.Searching.{GoesOn, HoldsByGlue, IsAsserting}
+use Rattle.ring_run.specs.Searching.{GoesOn, HoldsByGlue, HasLent, IsAsserting}
 use Rattle.ring_run.proofs.Offering.{only_lent, nothing_refused}
 use Rattle.ring_run.proofs.Lending.{lent_held, lent_goes_on, lent_search, left_before, left_alike, stored_at, lent_glue, offering_stays, offering_learned}
 use Rattle.ring_run.proofs.Tidying.{tidied_search, held_stays, refused_last, refused_halted}
@@ -16,8 +16,10 @@ use Rattle.ring_run.specs.Ended.{last_looks}
 use Rattle.ring_run.specs.Ending.{ComesTo, end_refused}
 use Rattle.std.specs.Option.{option_to_list}
 use Rattle.watch_prop.specs.WatchData.{attached}
+use Rattle.ring_run.specs.declared.course.Course.TheVariants.{Over}
+use Rattle.ring_run.proofs.Outcomes.{learns_halted}
 use Rattle.ring_run.proofs.Listing.{left_lists, listed_learned}
-use Rattle.ring_run.specs.Course.{GoesOnBy, InSearch, HasLemmas, HasLearned, CanAssert, IsOffering, IsPolling, imports_of}
+use Rattle.ring_run.specs.Course.{GoesOnBy, InSearch, HasLemmas, HasLearned, LearnsTo, CanAssert, IsOffering, IsPolling, imports_of}
 use Rattle.ring_run.specs.declared.ring.Ring.{Ring}
 use Rattle.ring_run.proofs.Asserting.{can_assert, back_below}
 use Rattle.ring_run.proofs.Learning.{learned_any, goes_on_by, left_search, left_level}
@@ -577,9 +579,33 @@ returns-in-Err-leave_conflict-clause-sums g c =
     let noted_is = ap (λ (r : Ring). r.restarts) c.offer_lemma.ensures.same ∙ c.note.ensures in
     subst SumsUp (sym (c.leave_conflict.ensures.restarts ∙ c.due-ring.ensures.asked ∙ ap asked noted_is)) (λ odd. (exact-more c.args.ring.now.restarts c.args.glue (c.requires.paced.exact (sym (asked_odd (noted c.args.ring.now.restarts c.args.glue)) ∙ odd) c.requires.below)).all)
 
+pub returns-in-Err-clause-learns : goal.returns-in-Err-clause-learns
+returns-in-Err-clause-learns g c =
+    let s = g.P.Port.state c.args.port.now in
+    let u = g.P.Port.state c.learn.new.self in
+    let ring = c.args.ring.now in
+    subst (λ (end : End). LearnsTo s u ring ring c.args.lits.now (Over end)) (sym c.end_refused.ensures) (learns_halted s u ring ring c.args.lits.now (end_refused c.in-Err.stop) (refused_halted c.in-Err.stop))
+
+pub returns-then-ring-limit-clause-learns : goal.returns-then-ring-limit-clause-learns
+returns-then-ring-limit-clause-learns g c = record {
+  glue = c.args.glue;
+  address = c.in-Ok.address;
+  counted = c.requires.glue;
+  shared = record { middle = g.P.Port.state c.learn.new.self; learned = c.in-Ok.ensures.learned; lent = c.offer_lemma.ensures.lent };
+  restarts = ap (λ (r : Ring). r.restarts) c.offer_lemma.ensures.same ∙ c.note.ensures;
+}
+
+pub returns-in-Err-tidy_up-clause-learns : goal.returns-in-Err-tidy_up-clause-learns
+returns-in-Err-tidy_up-clause-learns g c =
+    let s = g.P.Port.state c.args.port.now in
+    let w = g.P.Port.state c.tidy_up.new.port in
+    let old = c.args.ring.now in
+    let new : Ring = record c.offer_lemma.new.ring { restarts = c.due-ring.new.self; pending = c.due-ring.result } in
+    subst (λ (end : End). LearnsTo s w old new c.args.lits.now (Over end)) (sym c.end_refused-in-Err-tidy_up.ensures) (learns_halted s w old new c.args.lits.now (end_refused c.in-Err-tidy_up.stop) (refused_halted c.in-Err-tidy_up.stop))
+
 pub returns-in-Ok-leave_conflict-clause-learns : goal.returns-in-Ok-leave_conflict-clause-learns
-returns-in-Ok-leave_conflict-clause-learns g c = λ on.
-    (let s = g.P.Port.state c.args.port.now in
+returns-in-Ok-leave_conflict-clause-learns g c =
+    let s = g.P.Port.state c.args.port.now in
     let u = g.P.Port.state c.learn.new.self in
     let v = g.P.Port.state c.offer_lemma.new.port in
     let w = g.P.Port.state c.tidy_up.new.port in
@@ -596,6 +622,14 @@ returns-in-Ok-leave_conflict-clause-learns g c = λ on.
       address = c.in-Ok.address;
       asserting = c.requires.lemma;
       counted = c.requires.glue;
+      between = v;
+      shared = record {
+        middle = u;
+        learned = c.in-Ok.ensures.learned;
+        lent = subst (λ (e : ℕ). HasLent u v c.in-Ok.address old.exported old.offered e new.offered) (sym c.leave_conflict.ensures.offers.exported)
+            (subst (λ (o : ℕ). HasLent u v c.in-Ok.address old.exported old.offered middle.exported o) (sym c.leave_conflict.ensures.offers.offered) c.offer_lemma.ensures.lent);
+      };
+      tidied = c.in-Ok-tidy_up.ensures.lines;
       stored = stored_at s u w c.args.lits.now c.args.glue c.in-Ok.address c.in-Ok.ensures.learned (λ a. held_same v w a c.tidy_up.ensures.held ∙ lent.same a);
       restarts = c.leave_conflict.ensures.restarts ∙ c.due-ring.ensures.asked ∙ ap asked noted_is;
       pending = c.leave_conflict.ensures.pending ∙ c.due-ring.ensures.due ∙ ap is_due noted_is;
@@ -611,4 +645,4 @@ returns-in-Ok-leave_conflict-clause-learns g c = λ on.
             decider = ap (λ (r : Ring). r.decider) same;
           })
           c.in-Ok-leave_conflict.ensures.left;
-    }))
+    })

@@ -1,4 +1,4 @@
-use Rattle.ring_run.proofs.Tidying.{tidied_keeps, tidied_over, tidied_wrote, tidied_seen, tidied_waiting, tidied_held, tidied_looks, tidied_nothing}
+use Rattle.ring_run.proofs.Tidying.{tidied_keeps, tidied_over, tidied_wrote, tidied_seen, tidied_waiting, tidied_held, tidied_looks, tidied_nothing, tidied_lines}
 use Rattle.ring_run.proofs.lemma.tidy_up.Goals as goal
 
 pub returns-clause-ok : goal.returns-clause-ok
@@ -24,3 +24,6 @@ returns-clause-looks g c = tidied_looks (g.P.Port.state c.args.port.now) (g.P.Po
 
 pub returns-clause-nothing : goal.returns-clause-nothing
 returns-clause-nothing g c = tidied_nothing (g.P.Port.state c.args.port.now) (g.P.Port.state c.tidy.new.self) c.tidy.result c.tidy.ensures.tidied c.tidy.ensures.log
+
+pub returns-clause-lines : goal.returns-clause-lines
+returns-clause-lines g c = tidied_lines (g.P.Port.state c.args.port.now) (g.P.Port.state c.tidy.new.self) c.tidy.result c.tidy.ensures.tidied

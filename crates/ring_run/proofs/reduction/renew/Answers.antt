@@ -8,6 +8,9 @@ use Rattle.ring_run.proofs.Lending.{offering_kept}
 use Rattle.ring_run.proofs.Polling.{polls_same, polled_over, polled_halted, polling_same}
 use Rattle.ring_run.proofs.Shrinking.{looks_halted, looks_kept}
 use Rattle.ring_run.proofs.Turning.{compose}
+use Rattle.ring_port.specs.PortState.{PortState}
+use Rattle.ring_run.specs.Renewal.{TookImport}
+use Rattle.ring_run.proofs.Acting.{halted_unspent}
 use Rattle.ring_run.proofs.reduction.renew.Goals as goal
 use Rattle.ring_run.proofs.Rounds.{imports_halted, imports_over, imports_same, importing_same}
 use Rattle.ring_run.specs.Ended.{ImportsBy}
@@ -51,10 +54,20 @@ import-requires-clause-polling g c =
     polling_same s u c.args.ring.now c.shrink_due.new.ring c.shrink_due.ensures.nothing (ap (λ (r : Ring). r.place) same) (ap (λ (r : Ring). r.restarts) same) (ap (λ (r : Ring). r.pending) same) (level ∙ sym before) c.requires.polling
 
 pub returns-clause-renewed : goal.returns-clause-renewed
-returns-clause-renewed g c = λ _. record {
-  due = λ due. (g.P.Port.state c.shrink_due.new.port, c.shrink_due.new.ring, c.in-Ok.ensures.due due, c.import.ensures.reductions, c.import.ensures.lemmas);
-  early = λ early. (c.import.ensures.reductions ∙ ap (λ (r : Ring). r.reductions) (c.in-Ok.ensures.early early).ring, c.import.ensures.lemmas ∙ ap (λ (r : Ring). r.lemmas) (c.in-Ok.ensures.early early).ring);
+returns-clause-renewed g c = λ on. record {
+  due = λ due. (g.P.Port.state c.shrink_due.new.port, c.shrink_due.new.ring, c.in-Ok.ensures.due due, c.import.ensures.took on);
+  early = λ early.
+      (let idle = c.in-Ok.ensures.early early in
+      let u = g.P.Port.state c.import.new.port in
+      subst (λ (x : PortState). TookImport x u c.args.ring.now c.import.new.ring) idle.port
+      (subst (λ (r : Ring). TookImport (g.P.Port.state c.shrink_due.new.port) u r c.import.new.ring) idle.ring (c.import.ensures.took on)));
 }
+
+pub returns-in-Err-clause-unlooked : goal.returns-in-Err-clause-unlooked
+returns-in-Err-clause-unlooked g c = c.shrink_due.ensures.looks
+
+pub returns-clause-unlooked : goal.returns-clause-unlooked
+returns-clause-unlooked g c = c.import.ensures.unlooked ∙ c.shrink_due.ensures.looks
 
 pub returns-clause-leads : goal.returns-clause-leads
 returns-clause-leads g c = λ limit below.
@@ -111,3 +124,6 @@ returns-in-Err-clause-in_time g c = in_time_halted (g.P.Port.state c.shrink_due.
 
 pub returns-clause-in_time : goal.returns-clause-in_time
 returns-clause-in_time g c = c.import.ensures.in_time (let h = c.in-Ok.ensures.in_time in omega (arith, h))
+
+pub returns-in-Err-clause-unspent : goal.returns-in-Err-clause-unspent
+returns-in-Err-clause-unspent g c = halted_unspent c.in-Err.end c.in-Err.ensures.over.halted

@@ -32,8 +32,7 @@ returns-in-Ok-tidy_up-clause-shrunk g c = record {
   ordered = c.in-Ok.ensures.listed.ordered;
   vivified = c.in-Ok-vivify_lemmas.ensures.took;
   counted = ap (λ (r : Ring). r.reductions) c.vivify_lemmas.ensures.same;
-  lines = c.in-Ok-tidy_up.ensures.wrote;
-  none_waits = c.in-Ok-tidy_up.ensures.tidied;
+  lines = c.in-Ok-tidy_up.ensures.lines;
 }
 
 pub returns-in-Ok-tidy_up-clause-keeps : goal.returns-in-Ok-tidy_up-clause-keeps

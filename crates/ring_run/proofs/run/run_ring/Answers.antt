@@ -44,3 +44,6 @@ returns-clause-tidied g c = λ none. c.claim.ensures.tidied (c.run_job-end.ensur
 
 pub returns-clause-in_time : goal.returns-clause-in_time
 returns-clause-in_time g c = c.claim.ensures.in_time c.run_job-end.result.1 c.run_job-end.ensures.in_time
+
+pub returns-clause-lately : goal.returns-clause-lately
+returns-clause-lately g c = (c.claim.ensures.runs (g.P.Port.state c.args.port.now) c.run_job-end.result.1.learned c.run_job-end.ensures.ends.runs).lately

@@ -4,7 +4,8 @@ use Rattle.ring_trail.specs.declared.step.Step.{Step}
 use Rattle.ring_run.specs.Ended.{polls_of}
 use Rattle.ring_run.specs.Course.{HasLemmas, IsOffering, IsPolling, imports_of}
 use Rattle.ring_run.proofs.Polling.{polled_over}
-use Rattle.ring_port.specs.PortState.{PortState}
+use Rattle.ring_port.specs.PortState.{PortState, lits_at}
+use Rattle.watch_prop.specs.Propagation.{IsPropagated}
 use Rattle.ring_run.specs.Searching.{GoesOn}
 use Rattle.ring_run.specs.declared.ring.Ring.{Ring}
 use Rattle.ring_run.proofs.Turning.{grown_search, compose, further_grown}
@@ -16,8 +17,9 @@ use Rattle.ring_run.specs.Ended.{HasImported, LookedAlong, rounds, import_slots}
 use Rattle.ring_run.proofs.InTime.{sums_exact}
 use Rattle.ring_run.specs.Ended.{IsInTime}
 use Rattle.ring_run.specs.Course.{SumsUp}
-use Rattle.ring_run.specs.Searching.{OnlyWrote}
-use Rattle.watch_prop.proofs.Growing.{HasGrown-trans}
+use Rattle.ring_run.specs.Course.{LearnsTo}
+use Rattle.ring_run.specs.Turn.{ActedAtQuiet}
+use Rattle.ring_run.proofs.Acting.{conflict_turn, quiet_turn}
 
 pub learn_from-requires-clause-search : goal.learn_from-requires-clause-search
 learn_from-requires-clause-search g c =
@@ -114,28 +116,27 @@ returns-in_default-clause-sums g c = sums_exact c.args.ring.now.restarts c.args.
 pub returns-in-Quiet-clause-sums : goal.returns-in-Quiet-clause-sums
 returns-in-Quiet-clause-sums g c = subst SumsUp (sym c.decide_next.ensures.restarts) (sums_exact c.args.ring.now.restarts c.args.ring.now.learned c.args.limit c.requires.paced c.requires.below)
 
-pub returns-in-Conflict-clause-renewed : goal.returns-in-Conflict-clause-renewed
-returns-in-Conflict-clause-renewed g c = λ on pending.
-    (let above = c.learn_from.ensures.above on in
-    let level = c.propagate.ensures.grown.level in
-    let low = c.requires.polling.low pending in
-    absurd (omega (arith, above, level, low)))
+pub returns-in-Conflict-clause-took : goal.returns-in-Conflict-clause-took
+returns-in-Conflict-clause-took g c =
+    let s = g.P.Port.state c.args.port.now in
+    let old = c.args.ring.now in
+    let between : Ring = record old { trail = c.propagate.new.trail; watches = c.propagate.new.self } in
+    conflict_turn s (g.P.Port.state c.learn_from.new.port) old between c.learn_from.new.ring c.in-Conflict.conflict c.learn_from.new.analysis.lits c.learn_from.result
+    (record { same = refl; grown = c.propagate.ensures.grown; clauses = c.propagate.ensures.attached })
+    (subst (IsPropagated c.propagate.new.self (lits_at s) c.propagate.new.trail) c.in-Conflict.is c.in-Ok.ensures.propagated)
+    (subst (λ (x : PortState). LearnsTo x (g.P.Port.state c.learn_from.new.port) between c.learn_from.new.ring c.learn_from.new.analysis.lits c.learn_from.result) c.propagate.ensures.same c.learn_from.ensures.learns)
 
-pub returns-in-Quiet-clause-renewed : goal.returns-in-Quiet-clause-renewed
-returns-in-Quiet-clause-renewed g c = λ on pending.
-    (let s = g.P.Port.state c.args.port.now in
-    let ring = c.args.ring.now in
-    let r = c.decide_next.ensures.renewed on pending in
-    record {
-      middle = r.middle;
-      ring = r.ring;
-      lines = subst (λ (x : PortState). OnlyWrote x r.middle) c.propagate.ensures.same r.lines;
-      grown = HasGrown-trans ring.trail c.propagate.new.trail r.ring.trail c.propagate.ensures.grown r.grown;
-      same_clauses = r.same_clauses ∙ c.propagate.ensures.attached;
-      same_ring = r.same_ring;
-      renewed = r.renewed;
-      settled = r.settled;
-    })
+pub returns-in-Quiet-clause-took : goal.returns-in-Quiet-clause-took
+returns-in-Quiet-clause-took g c =
+    let s = g.P.Port.state c.args.port.now in
+    let old = c.args.ring.now in
+    let between : Ring = record old { trail = c.propagate.new.trail; watches = c.propagate.new.self } in
+    let u = g.P.Port.state c.decide_next.new.port in
+    quiet_turn s u old between c.decide_next.new.ring c.decide_next.result
+    (record { same = refl; grown = c.propagate.ensures.grown; clauses = c.propagate.ensures.attached })
+    (subst (IsPropagated c.propagate.new.self (lits_at s) c.propagate.new.trail) c.in-Quiet.is c.in-Ok.ensures.propagated)
+    (λ on. subst (λ (x : PortState). ActedAtQuiet x u between c.decide_next.new.ring) c.propagate.ensures.same (c.decide_next.ensures.acted on))
+    c.decide_next.ensures.unspent
 
 pub returns-in-Conflict-clause-in_time : goal.returns-in-Conflict-clause-in_time
 returns-in-Conflict-clause-in_time g c = λ p h.

@@ -1,0 +1,74 @@
+-- What comes from slots, one after another.
+use Rattle.std.proofs.Common.{◌≡◌, ◌∙◌, ℕ, ◌≤◌, List, [], ◌∷◌, ◌++◌, Contains, length, map, sym, subst, ap, arith, refl, append-nil, append_assoc, length-append}
+use Rattle.std.proofs.lemmas.List.{map-append}
+use Rattle.sat_words.specs.declared.shared.Cref.{Cref}
+use Rattle.rup_model.proofs.Lists.{Contains_In, In_Contains, In_append_left}
+use Rattle.watch_prop.specs.WatchData.{attached}
+use Rattle.ring_port.specs.PortState.{PortState, Slot, Holding}
+use Rattle.ring_port.specs.Exchange.{TookClause, looked_into}
+use Rattle.ring_run.specs.Renewal.{TookSlots}
+use Rattle.ring_run.specs.declared.ring.Ring.{Ring}
+use Rattle.ring_run.proofs.Rounds.{slot}
+
+abbrev addresses_of : List Holding → List ℕ
+addresses_of hs = map (λ (h : Holding). h.address) hs
+
+abbrev crefs_of : List Holding → List Cref
+crefs_of hs = map (λ (h : Holding). record { address = h.address }) hs
+
+pub slots_begin : (s : PortState) (ring : Ring) → TookSlots s s ring ring []
+slots_begin s ring = record {
+  polls = sym (append-nil s.polls);
+  came = [];
+  few = omega arith;
+  held = sym (append-nil s.held);
+  taken = sym (append-nil s.taken);
+  clauses = sym (append-nil (attached ring.watches));
+}
+
+-- a slot in which nothing was
+pub slots_none : (s u : PortState) (old new : Ring) (from class : ℕ) → u ≡ looked_into from class s → attached new.watches ≡ attached old.watches → TookSlots s u old new (slot from class ∷ [])
+slots_none s u old new from class is same = record {
+  polls = ap (λ (x : PortState). x.polls) is;
+  came = [];
+  few = omega arith;
+  held = ap (λ (x : PortState). x.held) is ∙ sym (append-nil s.held);
+  taken = ap (λ (x : PortState). x.taken) is ∙ sym (append-nil s.taken);
+  clauses = same ∙ sym (append-nil (attached old.watches));
+}
+
+-- and one in which a clause was, that is attached
+pub slots_one : (s u : PortState) (old new : Ring) (from class : ℕ) (c : Cref) → TookClause s u from class c → attached new.watches ≡ attached old.watches ++ c ∷ [] → TookSlots s u old new (slot from class ∷ [])
+slots_one s u old new from class c took more = record {
+  polls = ap (λ (x : PortState). x.polls) took.state;
+  came = took.clause ∷ [];
+  few = omega arith;
+  held = ap (λ (x : PortState). x.held) took.state;
+  taken = ap (λ (x : PortState). x.taken) took.state ∙ ap (λ (a : ℕ). s.taken ++ a ∷ []) (sym took.address);
+  clauses = more ∙ ap (λ (a : ℕ). attached old.watches ++ record { address = a } ∷ []) (sym took.address);
+}
+
+joined : {A : Type 0} (old middle new xs ys : List A) → middle ≡ old ++ xs → new ≡ middle ++ ys → new ≡ old ++ (xs ++ ys)
+joined old middle new xs ys first then = then ∙ ap (λ ws. ws ++ ys) first ∙ append_assoc old xs ys
+
+-- more slots behind these
+pub slots_then : (s m u : PortState) (old between new : Ring) (xs ys slots : List Slot) → TookSlots s m old between xs → TookSlots m u between new ys → slots ≡ xs ++ ys → TookSlots s u old new slots
+slots_then s m u old between new xs ys slots p q is = subst (TookSlots s u old new) (sym is) (record {
+  polls = joined s.polls m.polls u.polls xs ys p.polls q.polls;
+  came = p.came ++ q.came;
+  few = (let came = length-append p.came q.came in let all = length-append xs ys in omega (arith, p.few, q.few, came, all));
+  held = joined s.held m.held u.held p.came q.came p.held q.held;
+  taken = joined s.taken m.taken u.taken (addresses_of p.came) (addresses_of q.came) p.taken q.taken
+      ∙ ap (λ (ns : List ℕ). s.taken ++ ns) (sym (map-append (λ (h : Holding). h.address) p.came q.came));
+  clauses = joined (attached old.watches) (attached between.watches) (attached new.watches) (crefs_of p.came) (crefs_of q.came) p.clauses q.clauses
+      ∙ ap (λ (cs : List Cref). attached old.watches ++ cs) (sym (map-append (λ (h : Holding). record { address = h.address }) p.came q.came));
+})
+
+pub slots_as : (s u : PortState) (old new : Ring) (xs slots : List Slot) → xs ≡ slots → TookSlots s u old new xs → TookSlots s u old new slots
+slots_as s u old new xs slots is p = subst (TookSlots s u old new) is p
+
+-- what was attached still is
+pub slots_more : (s u : PortState) (old new : Ring) (slots : List Slot) → TookSlots s u old new slots → (d : Cref) → Contains (attached old.watches) d → Contains (attached new.watches) d
+slots_more s u old new slots p d there =
+    subst (λ (cs : List Cref). Contains cs d) (sym p.clauses)
+    (In_Contains (attached old.watches ++ crefs_of p.came) d (In_append_left (attached old.watches) (crefs_of p.came) d (Contains_In (attached old.watches) d there)))

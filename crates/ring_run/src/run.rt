@@ -53,15 +53,15 @@ const NOTHING: Counts = Counts {
 /// At a restart, before it imports, the ring reduces its lemmas where that is due: the Reduce entry is written, and the last half
 /// of those that may be dropped is. Then each lemma of glue one or two that is left is vivified, in the order of their numbers,
 /// unless it is true at level 0: a shorter clause takes its place in the log, or a unit, which is made true with what follows from
-/// it. The deletion lines come at once. The start clauses and what other rings gave stay held as they are. So where a ring of odd
-/// number finds a model, or is spent, it had reduced its lemmas in time when it restarted last.
+/// it. The deletion lines come at once. The start clauses stay held as they are. So where a ring of odd number finds a model, or is
+/// spent, it had reduced its lemmas in time when it restarted last; and at each end each lemma that was learned since the last
+/// Reduce entry is held, or is a unit that is seen.
 ///
 /// The deletion lines of what an offer brought back come behind the lemma: where none waited at the start, none does at a model.
 ///
 /// Every end but `Spent` and `Stopped` has set this ring's stop, and was the first to set one: a ring that comes second
 /// answers `Stopped` with the stop that stands. A call of the port that was refused for want of memory, room or a write
-/// ends the run; what was held and written before it stays. After `Memory` the ring has no answer, and its stop tells the
-/// other rings so.
+/// ends the run. After `Memory` the ring has no answer, and its stop tells the other rings so.
 pub fn run_ring<P: Port>(alloc: Global, port: &mut P, job: &Job) -> (End, Counts)
     requires job { IsJobOf (P.state port.old) job.now }
     requires untouched { IsUntouched (P.state port.old) }

@@ -268,16 +268,19 @@ returns-then-ring-clause-acted g c = λ on.
     let m = g.P.Port.state c.stopped.new.self in
     let w = g.P.Port.state c.write_pending.new.port in
     let is = c.in_default.ensures.looked.1 in
-    inl (sym c.write_pending.ensures.pending ∙ c.if-ring.true, record {
-      middle = w;
-      ring = c.write_pending.new.ring;
-      lines = wrote_by s m w (looked_wrote s m (one_more s.looks) is c.stopped.ensures.log) c.in-Ok.ensures.wrote;
-      nothing = nothing_then s m w (nothing_looked s m c.stopped.result c.stopped.ensures.looked) c.write_pending.ensures.nothing;
-      waiting = c.write_pending.ensures.waiting ∙ ap (λ (x : PortState). x.waiting) is;
-      looked = c.renew.ensures.unlooked ∙ c.write_pending.ensures.looks ∙ ap (λ (x : PortState). x.looks) is;
-      same_ring = c.write_pending.ensures.same;
-      renewed = c.renew.ensures.renewed on;
-    }))
+    inl (
+      sym c.write_pending.ensures.pending ∙ c.if-ring.true,
+      record {
+        middle = w;
+        ring = c.write_pending.new.ring;
+        lines = wrote_by s m w (looked_wrote s m (one_more s.looks) is c.stopped.ensures.log) c.in-Ok.ensures.wrote;
+        nothing = nothing_then s m w (nothing_looked s m c.stopped.result c.stopped.ensures.looked) c.write_pending.ensures.nothing;
+        waiting = c.write_pending.ensures.waiting ∙ ap (λ (x : PortState). x.waiting) is;
+        looked = c.renew.ensures.unlooked ∙ c.write_pending.ensures.looks ∙ ap (λ (x : PortState). x.looks) is;
+        same_ring = c.write_pending.ensures.same;
+        renewed = c.renew.ensures.renewed on;
+      },
+    ))
 
 pub returns-clause-acted : goal.returns-clause-acted
 returns-clause-acted g c = λ on.
@@ -291,18 +294,21 @@ returns-clause-acted g c = λ on.
     let p = c.decide.ensures.decided on in
     let told = c.write_pending.ensures.same in
     subst (λ (x : PortState). ActedAtQuiet s x old new) (sym c.decide.ensures.same)
-    (inr (sym c.write_pending.ensures.pending ∙ c.if-ring.false, record {
-      lines = wrote_by s m w (looked_wrote s m (one_more s.looks) is c.stopped.ensures.log) c.in-Ok.ensures.wrote;
-      nothing = nothing_then s m w (nothing_looked s m c.stopped.result c.stopped.ensures.looked) c.write_pending.ensures.nothing;
-      waiting = c.write_pending.ensures.waiting ∙ ap (λ (x : PortState). x.waiting) is;
-      looked = c.write_pending.ensures.looks ∙ ap (λ (x : PortState). x.looks) is;
-      decided = record {
-        lit = p.lit;
-        chosen = subst (λ (r : Ring). IsDecided r.decider r.trail.steps p.lit) told p.chosen;
-        trail = p.trail ∙ ap (λ (r : Ring). decided r.trail p.lit) told;
-        same = p.same ∙ ap (λ (r : Ring). record r { trail = new.trail; written = new.written }) told;
-      };
-    })))
+    (inr (
+      sym c.write_pending.ensures.pending ∙ c.if-ring.false,
+      record {
+        lines = wrote_by s m w (looked_wrote s m (one_more s.looks) is c.stopped.ensures.log) c.in-Ok.ensures.wrote;
+        nothing = nothing_then s m w (nothing_looked s m c.stopped.result c.stopped.ensures.looked) c.write_pending.ensures.nothing;
+        waiting = c.write_pending.ensures.waiting ∙ ap (λ (x : PortState). x.waiting) is;
+        looked = c.write_pending.ensures.looks ∙ ap (λ (x : PortState). x.looks) is;
+        decided = record {
+          lit = p.lit;
+          chosen = subst (λ (r : Ring). IsDecided r.decider r.trail.steps p.lit) told p.chosen;
+          trail = p.trail ∙ ap (λ (r : Ring). decided r.trail p.lit) told;
+          same = p.same ∙ ap (λ (r : Ring). record r { trail = new.trail; written = new.written }) told;
+        };
+      },
+    )))
 
 pub returns-in-Err-clause-in_time : goal.returns-in-Err-clause-in_time
 returns-in-Err-clause-in_time g c = λ p h.

@@ -18,6 +18,7 @@ pub mod Slots
 pub mod InTime
 pub mod Beginning
 pub mod Telling
+pub mod Told
 pub mod Marked
 pub mod Phases
 pub mod Pacing

@@ -3,14 +3,15 @@ use Rattle.std.proofs.Common.{◌≡◌, ◌∙◌, ℕ, List, subst, ap, refl}
 use Rattle.std.specs.declared.option.Option.{Option}
 use Rattle.sat_words.specs.Literal.{Literal}
 use Rattle.sat_words.specs.declared.shared.Cref.{Cref}
-use Rattle.ring_port.specs.PortState.{PortState}
+use Rattle.ring_port.specs.PortState.{PortState, lits_at}
 use Rattle.ring_trail.specs.TrailData.{TrailData}
 use Rattle.ring_decide.specs.DeciderData.{DeciderData}
 use Rattle.restart_plan.specs.Plan.{Restarting, noted, asked, is_due}
 use Rattle.watch_prop.specs.WatchData.{WatchData}
-use Rattle.ring_run.specs.Ended.{IsHalted}
+use Rattle.analyze.specs.Lemma.{IsLemma}
+use Rattle.ring_run.specs.Ending.{IsRefusal}
 use Rattle.ring_run.specs.Searching.{HasLent, IsAsserting, IsGlueOf}
-use Rattle.ring_run.specs.Course.{WasShared, LearnsTo}
+use Rattle.ring_run.specs.Course.{WasShared, LearnsTo, LearnedFrom, LearnsFrom}
 use Rattle.ring_run.specs.declared.job.End.{End}
 use Rattle.ring_run.specs.declared.job.End.TheVariants.{Sat, Refuted, Spent, Stopped, NoHole, ProofFault, Memory}
 use Rattle.ring_run.specs.declared.ring.Ring.{Ring}
@@ -18,15 +19,24 @@ use Rattle.ring_run.specs.declared.course.Course.{Course}
 use Rattle.ring_run.specs.declared.course.Course.TheVariants.{On, Over}
 use Rattle.ring_run.proofs.Lending.{left_alike}
 
--- an end at which nothing is said of the lemma
-pub learns_halted : (s u : PortState) (old new : Ring) (lits : List Literal) (end : End) → IsHalted end → LearnsTo s u old new lits (Over end)
-learns_halted s u old new lits (Sat a) h = tt
-learns_halted s u old new lits Refuted h = tt
-learns_halted s u old new lits Spent h = absurd h
-learns_halted s u old new lits (Stopped x) h = tt
-learns_halted s u old new lits (NoHole lack) h = tt
-learns_halted s u old new lits ProofFault h = tt
-learns_halted s u old new lits Memory h = tt
+-- of a refusal nothing is said
+pub learns_refusal : (s u : PortState) (old new : Ring) (lits : List Literal) (back glue : ℕ) (end : End) → IsRefusal end → LearnsTo s u old new lits back glue (Over end)
+learns_refusal s u old new lits back glue (Sat a) h = h
+learns_refusal s u old new lits back glue Refuted h = tt
+learns_refusal s u old new lits back glue Spent h = absurd h
+learns_refusal s u old new lits back glue (Stopped x) h = h
+learns_refusal s u old new lits back glue (NoHole lack) h = tt
+learns_refusal s u old new lits back glue ProofFault h = tt
+learns_refusal s u old new lits back glue Memory h = tt
+
+pub from_refusal : (s u : PortState) (old new : Ring) (c : Cref) (lits : List Literal) (end : End) → IsRefusal end → LearnsFrom s u old new c lits (Over end)
+from_refusal s u old new c lits (Sat a) h = h
+from_refusal s u old new c lits Refuted h = tt
+from_refusal s u old new c lits Spent h = absurd h
+from_refusal s u old new c lits (Stopped x) h = h
+from_refusal s u old new c lits (NoHole lack) h = tt
+from_refusal s u old new c lits ProofFault h = tt
+from_refusal s u old new c lits Memory h = tt
 
 -- two rings that have the same, but for the room of the variables that a conflict met
 pub record AreSameButBumps (between old : Ring) : Type 0 where
@@ -50,33 +60,40 @@ shared_alike s u between old new lits glue address b p = record {
 }
 
 -- what came of a conflict whose variables were bumped
-pub learns_bumped : (s u : PortState) (between old new : Ring) (lits : List Literal) (course : Course) → AreSameButBumps between old → LearnsTo s u between new lits course → LearnsTo s u old new lits course
-learns_bumped s u between old new lits On b p = record {
-  back = p.back;
-  glue = p.glue;
+learns_bumped : (s u : PortState) (between old new : Ring) (lits : List Literal) (back glue : ℕ) (course : Course) → AreSameButBumps between old → LearnsTo s u between new lits back glue course → LearnsTo s u old new lits back glue course
+learns_bumped s u between old new lits back glue On b p = record {
   address = p.address;
-  asserting = subst (λ (t : TrailData). IsAsserting s t lits p.back) b.trail p.asserting;
-  counted = subst (λ (t : TrailData). IsGlueOf t.steps lits p.glue) b.trail p.counted;
   stored = p.stored;
   between = p.between;
-  shared = shared_alike s p.between between old new lits p.glue p.address b p.shared;
+  shared = shared_alike s p.between between old new lits glue p.address b p.shared;
   tidied = p.tidied;
-  restarts = p.restarts ∙ ap (λ (r : Restarting). asked (noted r p.glue)) b.restarts;
-  pending = p.pending ∙ ap (λ (r : Restarting). is_due (noted r p.glue)) b.restarts;
-  left = left_alike u (record between { pending = new.pending }) (record old { pending = new.pending }) new lits p.back p.address
+  restarts = p.restarts ∙ ap (λ (r : Restarting). asked (noted r glue)) b.restarts;
+  pending = p.pending ∙ ap (λ (r : Restarting). is_due (noted r glue)) b.restarts;
+  left = left_alike u (record between { pending = new.pending }) (record old { pending = new.pending }) new lits back p.address
       (record { pending = refl; trail = b.trail; watches = b.watches; lemmas = b.lemmas; reductions = b.reductions; reduced_at = b.reduced_at; written = b.written; decider = b.decider })
       p.left;
 }
-learns_bumped s u between old new lits (Over (Sat a)) b p = tt
-learns_bumped s u between old new lits (Over Refuted) b p = tt
-learns_bumped s u between old new lits (Over Spent) b p = record {
-  glue = p.glue;
+learns_bumped s u between old new lits back glue (Over (Sat a)) b p = p
+learns_bumped s u between old new lits back glue (Over Refuted) b p = tt
+learns_bumped s u between old new lits back glue (Over Spent) b p = record {
   address = p.address;
-  counted = subst (λ (t : TrailData). IsGlueOf t.steps lits p.glue) b.trail p.counted;
-  shared = shared_alike s u between old new lits p.glue p.address b p.shared;
-  restarts = p.restarts ∙ ap (λ (r : Restarting). noted r p.glue) b.restarts;
+  shared = shared_alike s u between old new lits glue p.address b p.shared;
+  restarts = p.restarts ∙ ap (λ (r : Restarting). noted r glue) b.restarts;
 }
-learns_bumped s u between old new lits (Over (Stopped x)) b p = tt
-learns_bumped s u between old new lits (Over (NoHole lack)) b p = tt
-learns_bumped s u between old new lits (Over ProofFault) b p = tt
-learns_bumped s u between old new lits (Over Memory) b p = tt
+learns_bumped s u between old new lits back glue (Over (Stopped x)) b p = p
+learns_bumped s u between old new lits back glue (Over (NoHole lack)) b p = tt
+learns_bumped s u between old new lits back glue (Over ProofFault) b p = tt
+learns_bumped s u between old new lits back glue (Over Memory) b p = tt
+
+pub learned_from : (s u : PortState) (between old new : Ring) (c : Cref) (lits : List Literal) (back glue : ℕ) (course : Course) → AreSameButBumps between old → IsLemma s old.trail (lits_at s c.address) lits back glue → IsAsserting s old.trail lits back
+    → IsGlueOf old.trail.steps lits glue → LearnsTo s u between new lits back glue course → LearnsFrom s u old new c lits course
+learned_from s u between old new c lits back glue On b lemma asserting counted p =
+    record { back = back; glue = glue; lemma = lemma; asserting = asserting; counted = counted; learned = learns_bumped s u between old new lits back glue On b p }
+learned_from s u between old new c lits back glue (Over (Sat a)) b lemma asserting counted p = p
+learned_from s u between old new c lits back glue (Over Refuted) b lemma asserting counted p = tt
+learned_from s u between old new c lits back glue (Over Spent) b lemma asserting counted p =
+    record { back = back; glue = glue; lemma = lemma; asserting = asserting; counted = counted; learned = learns_bumped s u between old new lits back glue (Over Spent) b p }
+learned_from s u between old new c lits back glue (Over (Stopped x)) b lemma asserting counted p = p
+learned_from s u between old new c lits back glue (Over (NoHole lack)) b lemma asserting counted p = tt
+learned_from s u between old new c lits back glue (Over ProofFault) b lemma asserting counted p = tt
+learned_from s u between old new c lits back glue (Over Memory) b lemma asserting counted p = tt

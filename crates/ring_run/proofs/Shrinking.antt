@@ -23,7 +23,7 @@ use Rattle.ring_run.specs.declared.ring.Ring.{Ring}
 use Rattle.std.specs.Prelude.{Result, Ok, Err, IfOk, OnOk}
 use Rattle.ring_run.proofs.Reducing.{noted_lately, noted_none}
 use Rattle.ring_run.proofs.Remembering.{lits_same}
-use Rattle.ring_run.proofs.Tidying.{refused_halted, refused_last}
+use Rattle.ring_run.proofs.Tidying.{refused_halted, refused_last, refused_refusal}
 use Rattle.ring_run.proofs.Numbering.{reductions_reduced}
 
 module _ (s m u : PortState) (noted : NotedReduce s m) (v w : WatchData) (steps : List Step) (lemmas left : List Cref) (done : WasReduced m u v w steps lemmas left) where
@@ -50,11 +50,11 @@ module _ (s m u : PortState) (noted : NotedReduce s m) (v w : WatchData) (steps 
 
 -- a refusal is such an end
 pub refused_halts : (s u : PortState) (stop : PortStop) (end : End) → end ≡ end_refused stop → EndsAt s u (end_refused stop) → HaltsAt s u end
-refused_halts s u stop end is ends = subst (HaltsAt s u) (sym is) (record { ends = ends; halted = refused_halted stop; none = refused_last stop })
+refused_halts s u stop end is ends = subst (HaltsAt s u) (sym is) (record { ends = ends; halted = refused_halted stop; refusal = refused_refusal stop; none = refused_last stop })
 
 -- and so is one behind calls that leave each run as it was
 pub halts_then : (s m u : PortState) (end : End) → KeepsOn s m → HaltsAt m u end → HaltsAt s u end
-halts_then s m u end keeps h = record { ends = λ n limit below start p. h.ends n limit below start (keeps start n p); halted = h.halted; none = h.none }
+halts_then s m u end keeps h = record { ends = λ n limit below start p. h.ends n limit below start (keeps start n p); halted = h.halted; refusal = h.refusal; none = h.none }
 
 -- looks stay counted
 pub looks_kept : (s u : PortState) (old new : Ring) (base : ℕ) → u.looks ≡ s.looks → new.learned ≡ old.learned → new.trail.level ≡ old.trail.level → IsLooking base s old → IsLooking base u new
@@ -71,3 +71,10 @@ ok_of (Err e) f p = tt
 pub if_ok_then : {A E : Type 0} {P Q : A → Type 0} (r : Result A E) → IfOk r P → ((a : A) → P a → Q a) → IfOk r Q
 if_ok_then (Ok a) p f = f a p
 if_ok_then (Err e) p f = tt
+
+-- what reducing and vivifying leave of a ring
+pub shrunk_same : (old between new : Ring) → new.reductions ≡ between.reductions → new.reduced_at ≡ between.reduced_at
+    → (record old { trail = new.trail; watches = new.watches; written = new.written; lemmas = new.lemmas; reductions = between.reductions; reduced_at = between.reduced_at }) ≡ (record old { trail = new.trail; watches = new.watches; written = new.written; lemmas = new.lemmas; reductions = new.reductions; reduced_at = new.reduced_at })
+shrunk_same old between new reductions reduced_at =
+    ap (λ (n : ℕ). record old { trail = new.trail; watches = new.watches; written = new.written; lemmas = new.lemmas; reductions = n; reduced_at = between.reduced_at }) (sym reductions)
+    ∙ ap (λ (n : ℕ). record old { trail = new.trail; watches = new.watches; written = new.written; lemmas = new.lemmas; reductions = new.reductions; reduced_at = n }) (sym reduced_at)

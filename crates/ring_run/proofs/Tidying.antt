@@ -25,7 +25,7 @@ use Rattle.ring_port.specs.declared.stops.PortStop.TheVariants.{Ended, Broken, P
 use Rattle.watch_prop.specs.WatchData.{Lits}
 use Rattle.ring_run.specs.Ended.{reductions, IsTimely, Stays, IsOwn, IsNewLine, Cause, IsHalted, last_looks, opening_of}
 use Rattle.ring_run.specs.Searching.{Runs, GoesOn, KeepsOn, OnlyWrote, OffersNothing, Remembers}
-use Rattle.ring_run.specs.Ending.{EndsAt, end_refused}
+use Rattle.ring_run.specs.Ending.{EndsAt, end_refused, IsRefusal}
 use Rattle.ring_run.specs.Course.{InSearch}
 use Rattle.ring_run.specs.declared.ring.Ring.{Ring}
 use Rattle.ring_run.proofs.Numbering.{reductions_deleted}
@@ -283,6 +283,13 @@ refused_halted Broken = tt
 refused_halted ProofFault = tt
 refused_halted (NoHole lack) = tt
 refused_halted Memory = tt
+
+pub refused_refusal : (stop : PortStop) → IsRefusal (end_refused stop)
+refused_refusal Ended = tt
+refused_refusal Broken = tt
+refused_refusal ProofFault = tt
+refused_refusal (NoHole lack) = tt
+refused_refusal Memory = tt
 
 -- a refusal takes no look more
 pub refused_last : (stop : PortStop) → last_looks (end_refused stop) ≡ 0

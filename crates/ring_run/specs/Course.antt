@@ -1,11 +1,11 @@
 -- What a ring has while it searches, and what each step of the search comes to.
-use Rattle.std.specs.Prelude.{◌≡◌, ◌≢◌, ◌⊎◌, ℕ, ◌+◌, ◌*◌, ◌<◌, ◌≤◌, true, false, if◌then◌else◌, List, [], ◌∷◌, ◌++◌, map, take, length, All, Contains, Option, Ok, ⊤, IfSome}
+use Rattle.std.specs.Prelude.{◌≡◌, ◌≢◌, ◌⊎◌, ℕ, ◌+◌, ◌*◌, ◌<◌, ◌≤◌, true, false, if◌then◌else◌, List, [], ◌∷◌, ◌++◌, map, take, length, All, Contains, Option, Some, Ok, ⊤, IfSome}
 use Rattle.std.specs.Option.{option_to_list, option_map_or}
 use Rattle.sat_words.specs.Literal.{Literal}
 use Rattle.sat_words.specs.declared.shared.Cref.{Cref}
 use Rattle.rup_model.specs.declared.journal.Addition.{Addition}
 use Rattle.rup_model.specs.Journal.{additions, recent}
-use Rattle.ring_port.specs.PortState.{PortState, Holding, held_at, lits_at, one_more}
+use Rattle.ring_port.specs.PortState.{PortState, Holding, held_at, lits_at}
 use Rattle.ring_port.specs.Port.{Learned}
 use Rattle.ring_port.specs.Deleting.{TidiedUpTo}
 use Rattle.reduce_db.specs.Lemmas.{AreDistinct}
@@ -15,15 +15,16 @@ use Rattle.restart_plan.specs.Plan.{noted, asked, is_due}
 use Rattle.watch_prop.specs.WatchData.{WatchData, attached}
 use Rattle.watch_prop.specs.Watched.{Watched}
 use Rattle.watch_prop.specs.Propagation.{HasReasons, IsClosedBelow}
+use Rattle.analyze.specs.Lemma.{IsLemma}
 use Rattle.vivify.specs.Outcome.{glue_at}
 use Rattle.restart_plan.specs.Luby.{luby_sum}
 use Rattle.restart_plan.specs.Plan.{Restarting, luby_unit}
 use Rattle.ring_run.specs.Ended.{HasLooked, HasOffered, HasPolled, polls_of, HasImported, ImportsBy, IsTidy, IsInTime, last_looks, reductions}
-use Rattle.ring_run.specs.Searching.{HasClauses, Stands, OpeningSeen, AreTold, GoesOn, IsAsserting, IsGlueOf, OffersNothing, OnlyWrote, HasLent}
+use Rattle.ring_run.specs.Searching.{HasClauses, Stands, OpeningSeen, AreTold, GoesOn, IsAsserting, IsGlueOf, HasLent, HasTold}
 use Rattle.ring_run.specs.Strategy.{saved_above}
-use Rattle.ring_run.specs.Ending.{EndsBy}
+use Rattle.ring_run.specs.Ending.{EndsBy, IsRefusal}
 use Rattle.ring_run.specs.declared.job.End.{End}
-use Rattle.ring_run.specs.declared.job.End.TheVariants.{Sat, Spent}
+use Rattle.ring_run.specs.declared.job.End.TheVariants.{Sat, Spent, Stopped}
 use Rattle.ring_run.specs.declared.ring.Ring.{Ring}
 use Rattle.ring_run.specs.declared.course.Course.{Course}
 use Rattle.ring_run.specs.declared.course.Course.TheVariants.{On, Over}
@@ -116,26 +117,16 @@ pub record WasShared (old new : PortState) (before after : Ring) (lits : List Li
   pub learned : Learned old middle lits glue (Ok address)
   pub lent : HasLent middle new address before.exported before.offered after.exported after.offered
 
--- the last lemma that the ring may learn was learned, offered where it has a class, and its glue noted; nothing else was done
-pub record HasSpent (s u : PortState) (old new : Ring) (lits : List Literal) : Type 0 where
-  pub glue : ℕ
+-- the lemma was learned, offered where it has a class, and its glue noted; nothing else was done at the port
+pub record HasSpent (s u : PortState) (old new : Ring) (lits : List Literal) (glue : ℕ) : Type 0 where
   pub address : Option Cref
-  pub counted : IsGlueOf old.trail.steps lits glue
   pub shared : WasShared s u old new lits glue address
   pub restarts : new.restarts ≡ noted old.restarts glue
 
--- a lemma was learned, offered, and its conflict left
-pub record HasLearned (s u : PortState) (old new : Ring) (lits : List Literal) : Type 0 where
-  -- the level that it asks for
-  pub back : ℕ
-  -- how many levels its literals but the first have
-  pub glue : ℕ
+-- a lemma was learned that asks for this level and has this glue, and its conflict left
+pub record HasLearned (s u : PortState) (old new : Ring) (lits : List Literal) (back glue : ℕ) : Type 0 where
   -- where it is held, if it has two literals or more
   pub address : Option Cref
-  -- it follows, is new, and at that level forces its first literal
-  pub asserting : IsAsserting s old.trail lits back
-  -- the glue is the lemma's on the trail of the conflict
-  pub counted : IsGlueOf old.trail.steps lits glue
   -- the clause held at the address is the lemma
   pub stored : IfSome address (λ c. lits_at u c.address ≡ lits)
   -- it was offered where it has a class, and then the clauses that waited were deleted
@@ -149,28 +140,58 @@ pub record HasLearned (s u : PortState) (old new : Ring) (lits : List Literal) :
   -- where one was due the trail is at level 0, else at the lemma's level with its first literal true
   pub left : HasLeft u (record old { pending = new.pending }) new lits back address
 
--- what learning came to where the search goes on, or the ring is spent
-abbrev pub LearnsTo : PortState → PortState → Ring → Ring → List Literal → Course → Type 0
-LearnsTo s u old new lits On = HasLearned s u old new lits
-LearnsTo s u old new lits (Over Spent) = HasSpent s u old new lits
-LearnsTo s u old new lits (Over end) = ⊤
+-- what learning a lemma came to: it is no model and no stop of another
+abbrev pub LearnsTo : PortState → PortState → Ring → Ring → List Literal → (back glue : ℕ) → Course → Type 0
+LearnsTo s u old new lits back glue On = HasLearned s u old new lits back glue
+LearnsTo s u old new lits back glue (Over Spent) = HasSpent s u old new lits glue
+LearnsTo s u old new lits back glue (Over (Sat a)) = ⊥
+LearnsTo s u old new lits back glue (Over (Stopped x)) = ⊥
+LearnsTo s u old new lits back glue (Over end) = ⊤
 
--- a literal was decided that the decider chose; but for what is counted as told nothing else of the ring changed
+-- the lemma of the conflict with this clause was learned: it is new, and its glue is how many levels its literals but the first have
+pub record LearnedFrom (s u : PortState) (old new : Ring) (conflict : Cref) (lits : List Literal) (course : Course) : Type 0 where
+  pub back : ℕ
+  pub glue : ℕ
+  pub lemma : IsLemma s old.trail (lits_at s conflict.address) lits back glue
+  pub asserting : IsAsserting s old.trail lits back
+  pub counted : IsGlueOf old.trail.steps lits glue
+  pub learned : LearnsTo s u old new lits back glue course
+
+-- what came of a conflict, where the search goes on or the ring is spent; it is no model and no stop of another
+abbrev pub LearnsFrom : PortState → PortState → Ring → Ring → Cref → List Literal → Course → Type 0
+LearnsFrom s u old new conflict lits On = LearnedFrom s u old new conflict lits On
+LearnsFrom s u old new conflict lits (Over Spent) = LearnedFrom s u old new conflict lits (Over Spent)
+LearnsFrom s u old new conflict lits (Over (Sat a)) = ⊥
+LearnsFrom s u old new conflict lits (Over (Stopped x)) = ⊥
+LearnsFrom s u old new conflict lits (Over end) = ⊤
+
+-- a literal was decided that the decider may choose; but for what is counted as told nothing else of the ring changed
 pub record HasDecided (old new : Ring) : Type 0 where
   pub lit : Literal
   pub chosen : IsDecided old.decider old.trail.steps lit
   pub trail : new.trail ≡ decided old.trail lit
   pub same : new ≡ record old { trail = new.trail; written = new.written }
 
--- behind one look that found no stop, units may have been told and nothing else was done at the port; and a literal was decided
+-- behind a look and the lines of units a literal was decided
 pub record DecidedNext (s u : PortState) (old new : Ring) : Type 0 where
-  pub lines : OnlyWrote s u
-  pub nothing : OffersNothing s u
-  pub waiting : u.waiting ≡ s.waiting
-  pub looked : u.looks ≡ one_more s.looks
+  pub told : HasTold s u
   pub decided : HasDecided old new
 
--- nothing more was learned, and nothing lost
+-- what a step comes to that doesn't learn: behind a look and the lines of units a model may be found, or the look found a stop and
+-- nothing was done
+abbrev pub EndsQuietly : PortState → PortState → Course → Type 0
+EndsQuietly s u On = ⊤
+EndsQuietly s u (Over Spent) = ⊥
+EndsQuietly s u (Over (Sat a)) = HasTold s u
+EndsQuietly s u (Over (Stopped x)) = u ≡ record s { stop = Some x }
+EndsQuietly s u (Over end) = ⊤
+
+-- the search goes on, or a call was refused or the clauses refuted
+abbrev pub IsOnOrRefused : Course → Type 0
+IsOnOrRefused On = ⊤
+IsOnOrRefused (Over end) = IsRefusal end
+
+-- nothing more was learned, and the trail is no shorter
 pub record HasKept (old new : Ring) : Type 0 where
   pub learned : new.learned ≡ old.learned
   pub steps : length old.trail.steps ≤ length new.trail.steps

@@ -1,12 +1,13 @@
 -- How a run comes to its end.
-use Rattle.std.specs.Prelude.{◌≡◌, ℕ, ◌<◌, None, IfSome}
+use Rattle.std.specs.Prelude.{◌≡◌, ℕ, ◌<◌, None, Result, IfSome, ⊤}
 use Rattle.ring_port.specs.PortState.{PortState}
+use Rattle.ring_port.specs.Port.{EmptyWritten}
 use Rattle.ring_port.specs.declared.stops.PortStop.{PortStop}
 use Rattle.ring_port.specs.declared.stops.PortStop.TheVariants as answer
 use Rattle.ring_run.specs.Ended.{Cause, stop_kind}
 use Rattle.ring_run.specs.Searching.{Runs, GoesOn}
 use Rattle.ring_run.specs.declared.job.End.{End}
-use Rattle.ring_run.specs.declared.job.End.TheVariants.{Refuted, Spent, NoHole, ProofFault, Memory}
+use Rattle.ring_run.specs.declared.job.End.TheVariants.{Sat, Refuted, Spent, Stopped, NoHole, ProofFault, Memory}
 
 -- the end of a ring whose port has refused a call
 abbrev pub end_refused : PortStop → End
@@ -15,6 +16,16 @@ end_refused answer.Broken = ProofFault
 end_refused answer.ProofFault = ProofFault
 end_refused (answer.NoHole lack) = NoHole lack
 end_refused answer.Memory = Memory
+
+-- the ring has found no model, is not spent, and ends for no stop of another
+abbrev pub IsRefusal : End → Type 0
+IsRefusal (Sat a) = ⊥
+IsRefusal Refuted = ⊤
+IsRefusal Spent = ⊥
+IsRefusal (Stopped x) = ⊥
+IsRefusal (NoHole lack) = ⊤
+IsRefusal ProofFault = ⊤
+IsRefusal Memory = ⊤
 
 -- as many lemmas were learned as may be where the ring is spent, else fewer
 abbrev pub CountsTo : (count limit : ℕ) → End → Type 0
@@ -39,6 +50,10 @@ EndsBy old before new count limit end = (start : PortState) → GoesOn start old
 -- the same of a step that learns nothing
 abbrev pub EndsAt : PortState → PortState → End → Type 0
 EndsAt old new end = (count limit : ℕ) → count < limit → EndsBy old count new count limit end
+
+-- the call that writes the empty clause was made, and nothing else
+abbrev pub WroteEmpty : PortState → PortState → Type 0
+WroteEmpty old new = (answered : Result (Unit {0}) PortStop) × EmptyWritten old new answered
 
 -- every run goes on as it was
 abbrev pub KeepsRuns : PortState → PortState → Type 0

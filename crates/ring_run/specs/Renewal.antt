@@ -16,8 +16,8 @@ use Rattle.vivify.specs.Outcome.{glue_at, IsVivified}
 use Rattle.vivify.specs.declared.shorten.Vivified.{Vivified}
 use Rattle.vivify.specs.declared.shorten.Vivified.TheVariants.{Kept, Shorter, Unit, Empty}
 use Rattle.ring_run.specs.Ended.{IsHalted, import_slots, last_looks, reductions}
-use Rattle.ring_run.specs.Searching.{OffersNothing, OnlySaw, OnlyPolled, OnlyWrote, HasGrownLog, AreTold}
-use Rattle.ring_run.specs.Ending.{EndsAt}
+use Rattle.ring_run.specs.Searching.{OnlySaw, OnlyPolled, OnlyWrote, ToldUnits, HasTold, HasGrownLog, AreTold}
+use Rattle.ring_run.specs.Ending.{EndsAt, IsRefusal}
 use Rattle.ring_run.specs.Course.{InSearch, numbers, number_at, AreOrdered}
 use Rattle.ring_run.specs.declared.vivification.Left.{Left}
 use Rattle.ring_run.specs.declared.vivification.Left.TheVariants.{Same, Other, Nothing}
@@ -58,6 +58,7 @@ pub record IsNamed (p : Point) (c : Cref) : Type 0 where
 pub record HasFollowed (p q : Point) (l : Literal) : Type 0 where
   pub grown : HasGrown (assigned p.trail l None) q.trail
   pub lines : OnlyWrote p.port q.port
+  pub units : ToldUnits p.port q.port
   pub told : AreTold q.port q.trail (length q.trail.steps)
   pub same_clauses : attached q.watches ≡ attached p.watches
   pub quiet : IsQuiet q.watches (lits_at q.port) q.trail
@@ -147,10 +148,11 @@ LeftBehind s ring (Shorter d) = IsResting s ring
 LeftBehind s ring (Unit l) = AwaitsUnit s ring l
 LeftBehind s ring Empty = ⊥
 
--- it comes to an end that is no model, and takes no look
+-- it comes to such an end as a refusal, and takes no look
 pub record HaltsAt (old new : PortState) (end : End) : Type 0 where
   pub ends : EndsAt old new end
   pub halted : IsHalted end
+  pub refusal : IsRefusal end
   pub none : last_looks end ≡ 0
 
 -- the lemma is attached, at no start clause's address, and its glue is one at least
@@ -191,6 +193,7 @@ pub record HasShrunk (old new : PortState) (before after : Ring) : Type 0 where
   pub vivified_port : PortState
   pub ordered : AreOrdered dropped between.lemmas.items
   pub vivified : TookAll (point dropped between) (point vivified_port after) between.lemmas.items after.lemmas.items
+  pub same : after ≡ record before { trail = after.trail; watches = after.watches; written = after.written; lemmas = after.lemmas; reductions = after.reductions; reduced_at = after.reduced_at }
   pub counted : after.reductions ≡ between.reductions
   pub lines : TidiedUpTo vivified_port new (length vivified_port.waiting)
 
@@ -201,8 +204,8 @@ pub record IsIdle (old new : PortState) (before after : Ring) : Type 0 where
 
 -- Imports
 
--- the ring looked into these slots, in order; each clause that came from them, one at most from each, is held, noted as taken and
--- attached once, in the order in which they came
+-- the ring looked into these slots, in order; each clause that came, of which there are no more than slots, is held, noted as taken
+-- and attached once, in the order in which they came
 pub record TookSlots (old new : PortState) (before after : Ring) (slots : List Slot) : Type 0 where
   pub polls : new.polls ≡ old.polls ++ slots
   pub came : List Holding
@@ -211,8 +214,8 @@ pub record TookSlots (old new : PortState) (before after : Ring) (slots : List S
   pub taken : new.taken ≡ old.taken ++ map (λ (h : Holding). h.address) came
   pub clauses : attached after.watches ≡ attached before.watches ++ map (λ (h : Holding). record { address = h.address }) came
 
--- an import at level 0: first units came, each of which is true without a reason, until a look found no other listed; then the slots of
--- each other ring were looked into, in order
+-- an import at level 0: units came and one look found no other listed, and the slots of each other ring were looked into, in order;
+-- what became true has no reason
 pub record TookImport (old new : PortState) (before after : Ring) : Type 0 where
   pub middle : PortState
   pub units : OnlySaw old middle
@@ -230,13 +233,11 @@ pub record HasRenewed (old new : PortState) (before after : Ring) : Type 0 where
   pub due : IsDue before → (middle : PortState) × (ring : Ring) × HasShrunk old middle before ring × TookImport middle new ring after
   pub early : before.learned - before.reduced_at < lemmas_before (before.reductions + 1) → TookImport old new before after
 
--- behind one look that found no stop, units may have been told and nothing else was done at the port; and the ring renewed
+-- behind a look and the lines of units the ring renewed, and took no look more
 pub record Renews (old new : PortState) (before after : Ring) : Type 0 where
   pub middle : PortState
   pub ring : Ring
-  pub lines : OnlyWrote old middle
-  pub nothing : OffersNothing old middle
-  pub waiting : middle.waiting ≡ old.waiting
-  pub looked : new.looks ≡ one_more old.looks
+  pub told : HasTold old middle
+  pub unlooked : new.looks ≡ middle.looks
   pub same_ring : ring ≡ record before { written = ring.written }
   pub renewed : HasRenewed middle new ring after

@@ -5,11 +5,13 @@ use Rattle.sat_words.specs.Literal.{Literal}
 use Rattle.sat_words.specs.Clause.{has, is_empty}
 use Rattle.sat_words.specs.declared.shared.Cref.{Cref}
 use Rattle.rup_model.specs.declared.journal.Entry.{Entry}
+use Rattle.rup_model.specs.declared.journal.Entry.TheVariants.{Add, Del, Reduce}
+use Rattle.rup_model.specs.declared.journal.Kind.TheVariants.{UnitLine}
 use Rattle.rup_model.specs.Journal.{added, learned, recent}
 use Rattle.rup_model.specs.Opening.{adds_unit, is_new}
 use Rattle.rup_model.specs.Rup.{rup}
 use Rattle.ring_port.specs.Port.{IsClause, IsFreshClause, KeepsHeld}
-use Rattle.ring_port.specs.PortState.{PortState, Holding, HoldsStart, IsPort, held_at, lits_at, known, clause_at}
+use Rattle.ring_port.specs.PortState.{PortState, Holding, HoldsStart, IsPort, held_at, lits_at, known, clause_at, one_more}
 use Rattle.ring_port.specs.Exchange.{Offered, class_at, other_rings}
 use Rattle.ring_trail.specs.declared.step.Step.{Step}
 use Rattle.ring_trail.specs.TrailData.{TrailData, IsFalseOn, lit_at, level_at, reason_at}
@@ -74,7 +76,7 @@ abbrev pub HasLent : PortState → PortState → Option Cref → (exported offer
 HasLent old new None exported offered more told = (new ≡ old) × (more ≡ exported) × (told ≡ offered)
 HasLent old new (Some c) exported offered more told = HasLentBy old new (class_at old c.address) c.address exported offered more told
 
--- no call has changed more than what is seen and what may yet be seen
+-- of what is listed here no call has changed more than what is seen
 pub record OnlySaw (old new : PortState) : Type 0 where
   pub stays : Stays old new
   pub shared : new.shared ≡ old.shared
@@ -112,6 +114,23 @@ pub record OnlyWrote (old new : PortState) : Type 0 where
   pub refused : new.refused ≡ old.refused
   pub more : (l : Literal) → has old.seen l ≡ true → has new.seen l ≡ true
 
+-- an entry of this ring that writes the line of a unit
+abbrev pub IsLineOfUnit : ℕ → Entry → Type 0
+IsLineOfUnit r (Add x) = (x.ring ≡ r) × (x.kind ≡ UnitLine) × (length x.lits ≡ 1)
+IsLineOfUnit r (Del q n) = ⊥
+IsLineOfUnit r (Reduce q) = ⊥
+
+-- lines of units were written, which are seen then, and nothing else was done; units that others listed meanwhile may be kept
+pub record ToldUnits (old new : PortState) : Type 0 where
+  pub entries : List Entry
+  pub units : All (IsLineOfUnit old.ring) entries
+  pub mine : new.mine ≡ old.mine ++ entries
+  pub state : new ≡ record old { seen = new.seen; kept = new.kept; caught_up = new.caught_up; mine = new.mine; output = new.output }
+
+-- one look found no stop, and behind it lines of units may have been written
+abbrev pub HasTold : PortState → PortState → Type 0
+HasTold old new = ToldUnits (record old { looks = one_more old.looks }) new
+
 -- each unit seen is true without a decision
 abbrev pub SeenTrue : PortState → List Step → Type 0
 SeenTrue s steps = (l : Literal) → has s.seen l ≡ true → TrueWithin steps 0 l
@@ -148,7 +167,7 @@ pub record Stands (s : PortState) (t : TrailData) : Type 0 where
   pub reasoned : IsReasoned (clause_at s) s.seen t.steps
   pub seen : SeenTrue s t.steps
 
--- all units have come and are true; or one of them is false, and the empty clause follows
+-- what is seen is true, the units of the opening among it; or the empty clause follows
 abbrev pub AreTaken : PortState → TrailData → Units → Type 0
 AreTaken s t True = Stands s t × OpeningSeen s
 AreTaken s t Opposed = rup (known s) [] ≡ true

@@ -1,14 +1,22 @@
--- What a ring does in a turn: it propagates, and then learns, renews or decides.
-use Rattle.std.specs.Prelude.{◌≡◌, ◌⊎◌, true, false, List, ⊤}
+-- What a ring does in a turn: it propagates, and then learns, renews or decides; and turn by turn in a search.
+use Rattle.std.specs.Prelude.{◌≡◌, ◌⊎◌, ◌%◌, ◌==◌, true, false, List, [], ◌∷◌, Some, ⊤}
 use Rattle.sat_words.specs.Literal.{Literal}
 use Rattle.sat_words.specs.declared.shared.Cref.{Cref}
 use Rattle.ring_port.specs.PortState.{PortState, lits_at}
 use Rattle.ring_trail.specs.TrailData.{HasGrown}
 use Rattle.watch_prop.specs.WatchData.{attached}
-use Rattle.watch_prop.specs.Propagation.{IsQuiet, IsConflict}
-use Rattle.ring_run.specs.Course.{DecidedNext, LearnsTo}
-use Rattle.ring_run.specs.Renewal.{Renews}
-use Rattle.ring_run.specs.declared.job.End.TheVariants.{Spent}
+use Rattle.watch_prop.specs.Propagation.{IsQuiet, IsConflict, HasReasons}
+use Rattle.ring_decide.specs.Phases.{first_phases}
+use Rattle.restart_plan.specs.Plan.{begun}
+use Rattle.ring_run.specs.Strategy.{Decides}
+use Rattle.ring_run.specs.Searching.{HasTold}
+use Rattle.ring_run.specs.Ending.{IsRefusal}
+use Rattle.ring_run.specs.Course.{DecidedNext, LearnsFrom}
+use Rattle.ring_run.specs.Renewal.{Renews, TookImport}
+use Rattle.ring_run.specs.declared.job.Job.{Job}
+use Rattle.ring_run.specs.declared.job.Counts.{Counts}
+use Rattle.ring_run.specs.declared.job.End.{End}
+use Rattle.ring_run.specs.declared.job.End.TheVariants.{Sat, Spent, Stopped, Memory}
 use Rattle.ring_run.specs.declared.ring.Ring.{Ring}
 use Rattle.ring_run.specs.declared.course.Course.{Course}
 use Rattle.ring_run.specs.declared.course.Course.TheVariants.{On, Over}
@@ -17,37 +25,86 @@ use Rattle.ring_run.specs.declared.course.Course.TheVariants.{On, Over}
 abbrev pub ActedAtQuiet : PortState → PortState → Ring → Ring → Type 0
 ActedAtQuiet s u old new = ((old.pending ≡ true) × Renews s u old new) ⊎ ((old.pending ≡ false) × DecidedNext s u old new)
 
--- a clause is false on the trail, and learning from it came to this
-pub record LearnedFrom (s u : PortState) (old new : Ring) (course : Course) : Type 0 where
+-- a clause is false on the trail, and so much came of the conflict
+pub record MetConflict (s u : PortState) (old new : Ring) (course : Course) : Type 0 where
   pub conflict : Cref
   pub false_there : IsConflict old.watches (lits_at s) old.trail conflict
   pub lits : List Literal
-  pub learned : LearnsTo s u old new lits course
+  pub learned : LearnsFrom s u old new conflict lits course
 
--- a step behind propagation: from a conflict the ring learned; where there is none it acted
+-- a step behind propagation: from a conflict the ring learned; where there is none it renewed or decided
 abbrev pub Acted : PortState → PortState → Ring → Ring → Type 0
-Acted s u old new = LearnedFrom s u old new On ⊎ (IsQuiet old.watches (lits_at s) old.trail × ActedAtQuiet s u old new)
+Acted s u old new = MetConflict s u old new On ⊎ (IsQuiet old.watches (lits_at s) old.trail × ActedAtQuiet s u old new)
 
--- propagation changes the trail and the watches alone; the trail grows, and as many clauses are attached
-pub record HasPropagated (old new : Ring) : Type 0 where
+-- propagation changes the trail and the watches alone: the same clauses are attached, and the trail grows by literals that one of them
+-- forces
+pub record HasPropagated (s : PortState) (old new : Ring) : Type 0 where
   pub same : new ≡ record old { trail = new.trail; watches = new.watches }
   pub grown : HasGrown old.trail new.trail
   pub clauses : attached new.watches ≡ attached old.watches
+  pub reasons : HasReasons (attached old.watches) s new.trail.steps
 
--- a turn behind which the search goes on: the ring propagated, and then learned or acted
+-- a turn behind which the search goes on
 pub record TookTurn (s u : PortState) (old new : Ring) : Type 0 where
   pub middle : Ring
-  pub propagated : HasPropagated old middle
+  pub propagated : HasPropagated s old middle
   pub acted : Acted s u middle new
 
--- a turn in which the ring learned the last lemma that it may
+-- a turn whose lemma is the last one
 pub record SpentTurn (s u : PortState) (old new : Ring) : Type 0 where
   pub middle : Ring
-  pub propagated : HasPropagated old middle
-  pub learned : LearnedFrom s u middle new (Over Spent)
+  pub propagated : HasPropagated s old middle
+  pub learned : MetConflict s u middle new (Over Spent)
 
--- what a turn comes to, where the search goes on or the ring is spent
+-- what a turn comes to; at a model there was a look and lines of units, and a stop of another was seen before anything was done
 abbrev pub TakesTurn : PortState → PortState → Ring → Ring → Course → Type 0
 TakesTurn s u old new On = TookTurn s u old new
 TakesTurn s u old new (Over Spent) = SpentTurn s u old new
+TakesTurn s u old new (Over (Sat a)) = HasTold s u
+TakesTurn s u old new (Over (Stopped x)) = u ≡ record s { stop = Some x }
 TakesTurn s u old new (Over end) = ⊤
+
+-- Searches
+
+-- turns that lead from one state and ring to others, one behind the other; those reached on the way stand in the list, the last first
+abbrev pub TookTurns : PortState → Ring → List (PortState × Ring) → PortState → Ring → Type 0
+TookTurns s old [] u new = (u ≡ s) × (new ≡ old)
+TookTurns s old (last ∷ earlier) u new = TookTurns s old earlier last.0 last.1 × TookTurn last.0 u last.1 new
+
+-- an import, and then turns
+pub record CameTo (s u : PortState) (old new : Ring) : Type 0 where
+  pub imported_port : PortState
+  pub imported : Ring
+  pub first : TookImport s imported_port old imported
+  pub states : List (PortState × Ring)
+  pub turns : TookTurns imported_port imported states u new
+
+-- a search imports, and then takes turns until one comes to its end; a refusal may end it in the import
+abbrev pub Searched : PortState → PortState → Ring → Ring → End → Type 0
+Searched s u old new end = IsRefusal end ⊎ ((m : PortState) × (middle : Ring) × CameTo s m old middle × TakesTurn m u middle new (Over end))
+
+-- Runs
+
+-- the ring that a job begins with: nothing has a value, the start clauses are attached, the first phases come of the seed and the
+-- ring's number, nothing was learned, listed, told or offered, and the import at the start is yet to be
+pub record IsFirstRing (s : PortState) (job : Job) (ring : Ring) : Type 0 where
+  pub trail : ring.trail ≡ record { vars = job.vars; level = 0; steps = []; done = 0 }
+  pub clauses : attached ring.watches ≡ job.start
+  pub decider : Decides s ring.decider
+  pub phases : ring.decider.phase ≡ first_phases job.seed job.ring job.vars
+  pub restarts : ring.restarts ≡ begun (job.ring % 2 == 1)
+  pub learned : ring.learned ≡ 0
+  pub lemmas : ring.lemmas.items ≡ []
+  pub reductions : ring.reductions ≡ 0
+  pub reduced_at : ring.reduced_at ≡ 0
+  pub written : ring.written ≡ 0
+  pub exported : ring.exported ≡ 0
+  pub offered : ring.offered ≡ 0
+  pub place : ring.place ≡ record { ring = job.ring; rings = job.rings }
+  pub pending : ring.pending ≡ true
+
+-- a run of a job is a search that begins with such a ring, and counts what that has counted at last; where there was no memory for a
+-- ring nothing was done
+abbrev pub RanJob : PortState → PortState → Job → End → Counts → Type 0
+RanJob s u job end counts =
+    ((u ≡ s) × (end ≡ Memory)) ⊎ ((first : Ring) × (last : Ring) × IsFirstRing s job first × Searched s u first last end × (counts.learned ≡ last.learned) × (counts.exported ≡ last.exported) × (counts.offered ≡ last.offered) × (counts.restarts ≡ last.restarts.made))

@@ -4,7 +4,7 @@ ghost use Rattle.rup_model.specs.Rup.{rup};
 ghost use Rattle.ring_port.specs.PortState.{IsPort, known};
 ghost use Rattle.ring_run.specs.Ended.{IsHalted, last_looks};
 ghost use Rattle.ring_run.specs.Searching.{OffersNothing};
-ghost use Rattle.ring_run.specs.Ending.{EndsAt, end_refused};
+ghost use Rattle.ring_run.specs.Ending.{EndsAt, IsRefusal, WroteEmpty, end_refused};
 
 use crate::job::End;
 use ring_port::{Port, PortStop};
@@ -40,6 +40,8 @@ pub(crate) fn refute<P: Port>(port: &mut P) -> End
     ensures nothing { OffersNothing (P.state port.old) (P.state port.new) }
     ensures none { last_looks result ≡ 0 }
     ensures halted { IsHalted result }
+    ensures refusal { IsRefusal result }
+    ensures empty { WroteEmpty (P.state port.old) (P.state port.new) }
     ensures port { IsPort (P.state port.new) }
 {
     match port.empty() {

@@ -2,15 +2,15 @@
 ghost use Rattle.std.specs.Prelude.{◌≡◌, ◌<◌, true, false, length, Some, IfOk, OnOk, IfErr};
 ghost use Rattle.sat_words.specs.Literal.{Literal};
 ghost use Rattle.sat_words.specs.Truth.{lit_true};
-ghost use Rattle.ring_port.specs.PortState.{IsPort, lits_at};
+ghost use Rattle.ring_port.specs.PortState.{PortState, IsPort, lits_at};
 ghost use Rattle.ring_trail.specs.TrailData.{IsTrail, IsTrueOn};
 ghost use Rattle.watch_prop.specs.Propagation.{IsQuiet};
 ghost use Rattle.ring_run.specs.Ended.{Stays};
 ghost use Rattle.ring_run.specs.Strategy.{Decides};
-ghost use Rattle.ring_run.specs.Searching.{OffersNothing, AreFirst, KeepsOn, OnlyWrote};
+ghost use Rattle.ring_run.specs.Searching.{OffersNothing, AreFirst, KeepsOn, OnlyWrote, ToldUnits, HasTold};
 ghost use Rattle.ring_run.specs.Ending.{EndsAt, end_refused};
 ghost use Rattle.ring_run.specs.Turn.{ActedAtQuiet};
-ghost use Rattle.ring_run.specs.Course.{AreSameOffers, InSearch, HasLemmas, KeepsLemmas, Leads, IsFurther, KeepsLooking, TakesALook, KeepsOffering, KeepsPolling, IsPolling, HasPolledBy, KeepsImporting, KeepsTidy, KeepsInTime, HasDecided};
+ghost use Rattle.ring_run.specs.Course.{AreSameOffers, InSearch, HasLemmas, KeepsLemmas, Leads, IsFurther, KeepsLooking, TakesALook, KeepsOffering, KeepsPolling, IsPolling, HasPolledBy, KeepsImporting, KeepsTidy, KeepsInTime, HasDecided, EndsQuietly};
 
 use crate::course::{Course, end_refused};
 use crate::job::End;
@@ -46,7 +46,7 @@ fn decide<P: Port>(alloc: Global, port: &mut P, ring: &mut Ring, limit: u64) -> 
     requires first { AreFirst ring.old.trail ring.old.written }
     requires settled { ring.old.pending ≡ false }
     ensures leads { Leads (P.state port.old) ring.old (P.state port.new) ring.new limit result }
-    ensures unspent { result ≡ Course.Over End.Spent → ⊥ }
+    ensures ended { (s : PortState) → HasTold s (P.state port.old) → EndsQuietly s (P.state port.new) result }
     ensures learned { ring.new.learned ≡ ring.old.learned }
     ensures decided { result ≡ Course.On → HasDecided ring.old ring.new }
     ensures longer { result ≡ Course.On → length ring.old.trail.steps < length ring.new.trail.steps }
@@ -85,6 +85,7 @@ pub(crate) fn write_pending<P: Port>(port: &mut P, ring: &mut Ring) -> Result<()
     ensures trail { ring.new.trail ≡ ring.old.trail }
     ensures stays { OnOk result (Stays (P.state port.old) (P.state port.new)) }
     ensures wrote { OnOk result (OnlyWrote (P.state port.old) (P.state port.new)) }
+    ensures lines { OnOk result (ToldUnits (P.state port.old) (P.state port.new)) }
     ensures watches { ring.new.watches ≡ ring.old.watches }
     ensures same { ring.new ≡ record ring.old { written = ring.new.written } }
     ensures listed { OnOk result (KeepsLemmas (P.state port.old) ring.old (P.state port.new) ring.new) }
@@ -122,7 +123,7 @@ pub(crate) fn decide_next<P: Port>(
     requires polling { IsPolling (P.state port.old) ring.old }
     requires listed { HasLemmas (P.state port.old) ring.old }
     ensures leads { Leads (P.state port.old) ring.old (P.state port.new) ring.new limit result }
-    ensures unspent { result ≡ Course.Over End.Spent → ⊥ }
+    ensures ended { EndsQuietly (P.state port.old) (P.state port.new) result }
     ensures learned { ring.new.learned ≡ ring.old.learned }
     ensures further { result ≡ Course.On → IsFurther ring.old ring.new }
     ensures acted { result ≡ Course.On → ActedAtQuiet (P.state port.old) (P.state port.new) ring.old ring.new }

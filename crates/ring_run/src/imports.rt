@@ -5,7 +5,7 @@ ghost use Rattle.ring_port.specs.Exchange.{other_rings};
 ghost use Rattle.ring_run.specs.Ended.{slots_of, import_slots, LookedAlong, IsInTime};
 ghost use Rattle.ring_run.specs.Searching.{KeepsOn, OnlyPolled};
 ghost use Rattle.ring_run.specs.Renewal.{TookSlots, TookImport};
-ghost use Rattle.ring_run.specs.Course.{InSearch, KeepsLemmas, MayImport, Leads, KeepsLooking, KeepsOffering, IsPolling, HasPolledBy, KeepsImporting, KeepsTidy, IsInTimeBy};
+ghost use Rattle.ring_run.specs.Course.{InSearch, KeepsLemmas, MayImport, Leads, KeepsLooking, KeepsOffering, IsPolling, HasPolledBy, KeepsImporting, KeepsTidy, IsInTimeBy, IsOnOrRefused};
 
 use crate::course::{Course, refute};
 use crate::job::End;
@@ -110,7 +110,7 @@ pub(crate) fn import<P: Port>(port: &mut P, ring: &mut Ring) -> Course
     requires polling { IsPolling (P.state port.old) ring.old }
     requires pending { ring.old.pending ≡ true }
     ensures leads { (limit : ℕ) → ring.old.learned < limit → Leads (P.state port.old) ring.old (P.state port.new) ring.new limit result }
-    ensures unspent { result ≡ Course.Over End.Spent → ⊥ }
+    ensures refused { IsOnOrRefused result }
     ensures took { result ≡ Course.On → TookImport (P.state port.old) (P.state port.new) ring.old ring.new }
     ensures settled { result ≡ Course.On → ring.new.pending ≡ false }
     ensures steps { result ≡ Course.On → length ring.old.trail.steps ≤ length ring.new.trail.steps }

@@ -11,7 +11,7 @@ ghost use Rattle.watch_prop.specs.Propagation.{IsConflict};
 ghost use Rattle.ring_run.specs.Strategy.{Decides, IsPaced};
 ghost use Rattle.ring_run.specs.Searching.{OffersNothing, HasLent, IsAsserting, IsGlueOf, HoldsByGlue, OnlyWrote, KeepsOn};
 ghost use Rattle.ring_run.specs.Ending.{EndsAt, end_refused};
-ghost use Rattle.ring_run.specs.Course.{AreSameOffers, IsOffering, InSearch, HasLemmas, Leads, CanAssert, Asserted, Restarted, HasLeft, KeepsLooking, KeepsPolling, KeepsImporting, HasTidied, KeepsInTime, SumsUp, LearnsTo};
+ghost use Rattle.ring_run.specs.Course.{AreSameOffers, IsOffering, InSearch, HasLemmas, Leads, CanAssert, Asserted, Restarted, HasLeft, KeepsLooking, KeepsPolling, KeepsImporting, HasTidied, KeepsInTime, SumsUp, LearnsTo, LearnsFrom};
 
 use crate::course::{Course, end_refused, refute};
 use crate::job::End;
@@ -191,7 +191,7 @@ fn learn_lemma<P: Port>(
     requires glue { IsGlueOf ring.old.trail.steps lits.now glue }
     ensures leads { Leads (P.state port.old) ring.old (P.state port.new) ring.new limit result }
     ensures more { result ≡ Course.On → ring.new.learned ≡ ring.old.learned + 1 }
-    ensures learns { LearnsTo (P.state port.old) (P.state port.new) ring.old ring.new lits.now result }
+    ensures learns { LearnsTo (P.state port.old) (P.state port.new) ring.old ring.new lits.now back glue result }
     ensures tidied { HasTidied (P.state port.new) result }
     ensures listed { result ≡ Course.On → HasLemmas (P.state port.new) ring.new }
     ensures stored { HoldsByGlue (P.state port.old) (P.state port.new) ring.old.trail.steps }
@@ -246,7 +246,7 @@ pub(crate) fn learn_from<P: Port>(
     requires conflict { IsConflict ring.old.watches (lits_at (P.state port.old)) ring.old.trail conflict }
     ensures leads { Leads (P.state port.old) ring.old (P.state port.new) ring.new limit result }
     ensures more { result ≡ Course.On → ring.new.learned ≡ ring.old.learned + 1 }
-    ensures learns { LearnsTo (P.state port.old) (P.state port.new) ring.old ring.new analysis.new.lits result }
+    ensures learns { LearnsFrom (P.state port.old) (P.state port.new) ring.old ring.new conflict analysis.new.lits result }
     ensures tidied { HasTidied (P.state port.new) result }
     ensures listed { result ≡ Course.On → HasLemmas (P.state port.new) ring.new }
     ensures stored { HoldsByGlue (P.state port.old) (P.state port.new) ring.old.trail.steps }

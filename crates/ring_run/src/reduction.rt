@@ -7,7 +7,7 @@ ghost use Rattle.ring_run.specs.Ended.{IsInTime};
 ghost use Rattle.ring_run.specs.Searching.{OffersNothing, OpeningSeen, KeepsOn};
 ghost use Rattle.ring_run.specs.Renewal.{IsDue, HasReduced, HasShrunk, IsIdle, HasRenewed, IsResting, HaltsAt};
 ghost use Rattle.ring_run.specs.Ending.{EndsAt, end_refused};
-ghost use Rattle.ring_run.specs.Course.{HasLemmas, MayImport, Leads, KeepsLooking, KeepsOffering, IsPolling, HasPolledBy, KeepsImporting, KeepsTidy, IsInTimeBy};
+ghost use Rattle.ring_run.specs.Course.{HasLemmas, MayImport, Leads, KeepsLooking, KeepsOffering, IsPolling, HasPolledBy, KeepsImporting, KeepsTidy, IsInTimeBy, IsOnOrRefused};
 
 use crate::course::{Course, end_refused};
 use crate::imports::import;
@@ -130,7 +130,7 @@ pub(crate) fn renew<P: Port>(alloc: Global, port: &mut P, ring: &mut Ring) -> Co
     requires few { ring.old.reductions < 2 ^ 64 - 1 }
     requires pending { ring.old.pending ≡ true }
     ensures leads { (limit : ℕ) → ring.old.learned < limit → Leads (P.state port.old) ring.old (P.state port.new) ring.new limit result }
-    ensures unspent { result ≡ Course.Over End.Spent → ⊥ }
+    ensures refused { IsOnOrRefused result }
     ensures settled { result ≡ Course.On → ring.new.pending ≡ false }
     ensures renewed { result ≡ Course.On → HasRenewed (P.state port.old) (P.state port.new) ring.old ring.new }
     ensures unlooked { (P.state port.new).looks ≡ (P.state port.old).looks }

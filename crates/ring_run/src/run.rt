@@ -1,5 +1,5 @@
 // A run of a ring, from its job to its end.
-ghost use Rattle.std.specs.Prelude.{◌≡◌, ◌≤◌, ◌<◌, ◌+◌, ◌++◌, ◌^◌, ◌%◌, ◌==◌, ◌↔◌, ℕ, All, IfOk, OnOk, [], true};
+ghost use Rattle.std.specs.Prelude.{◌≡◌, ◌≤◌, ◌<◌, ◌+◌, ◌++◌, ◌^◌, ◌%◌, ◌==◌, ◌↔◌, ◌⊎◌, ℕ, All, IfOk, OnOk, [], true};
 ghost use Rattle.ring_port.specs.PortState.{PortState, IsPort, HoldsStart, lits_at};
 ghost use Rattle.ring_trail.specs.TrailData.{TrailData, IsTrail};
 ghost use Rattle.watch_prop.specs.WatchData.{attached};
@@ -11,6 +11,8 @@ ghost use Rattle.restart_plan.specs.Plan.{IsRestarting, begun};
 ghost use Rattle.ring_run.specs.Strategy.{Decides};
 ghost use Rattle.ring_run.specs.declared.job.Counts.{Counts};
 ghost use Rattle.ring_run.specs.Ending.{ComesTo, IsUnset, KeepsRuns};
+ghost use Rattle.ring_run.specs.Turn.{RanJob};
+ghost use Rattle.sat_words.specs.declared.shared.Stop.{Stop};
 
 use crate::job::{Counts, End, Job};
 use crate::ring::{Place, Ring};
@@ -98,6 +100,7 @@ fn run_job<P: Port>(alloc: Global, port: &mut P, job: &Job) -> (End, Counts)
     requires port { IsPort (P.state port.old) }
     ensures ends { ComesTo (P.state port.old) (P.state port.new) result.1.learned job.now.conflicts result.0 }
     ensures looked { HasLooked ((P.state port.old).looks + result.1.learned + last_looks result.0) (P.state port.new) }
+    ensures ran { RanJob (P.state port.old) (P.state port.new) job.now result.0 result.1 }
     ensures offers { HasOffered (P.state port.new) result.1.exported result.1.offered }
     ensures restarted { HasRestarted (P.state port.old).ring job.now.conflicts result.1 }
     ensures polled { HasPolled (P.state port.new) result.1.restarts result.0 }
@@ -224,6 +227,8 @@ fn claim<P: Port>(port: &mut P, end: End) -> End
     ensures looks { (P.state port.new).looks ≡ (P.state port.old).looks }
     ensures nothing { OffersNothing (P.state port.old) (P.state port.new) }
     ensures looked { last_looks result ≤ last_looks end }
+    ensures only { P.state port.new ≡ record (P.state port.old) { stop = (P.state port.new).stop } }
+    ensures answer { (result ≡ end) ⊎ ((x : Stop) × (result ≡ End.Stopped x)) }
     ensures polled { (made : ℕ) → HasPolled (P.state port.old) made end → HasPolled (P.state port.new) made result }
     ensures imported { (start : PortState) (made : ℕ) → ImportsBy start (P.state port.old) made end → ImportsBy start (P.state port.new) made result }
     ensures tidied { IsTidy (P.state port.old) end → IsTidy (P.state port.new) result }

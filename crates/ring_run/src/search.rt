@@ -5,7 +5,7 @@ ghost use Rattle.ring_run.specs.Ended.{HasLooked, HasPolled, ImportsBy, IsTidy, 
 ghost use Rattle.ring_run.specs.Strategy.{Decides, IsPaced};
 ghost use Rattle.ring_run.specs.Searching.{GoesOn};
 ghost use Rattle.ring_run.specs.Ending.{ComesTo};
-ghost use Rattle.ring_run.specs.Turn.{TakesTurn};
+ghost use Rattle.ring_run.specs.Turn.{TakesTurn, Searched};
 ghost use Rattle.ring_run.specs.Course.{IsOffering, InSearch, HasLemmas, MayImport, Leads, IsFurther, IsLooking, KeepsLooking, IsPolling, HasPolledBy, IsImporting, KeepsImporting, KeepsTidy, IsInTimeAt, KeepsInTime, SumsUp};
 
 use crate::course::Course;
@@ -89,6 +89,7 @@ pub(crate) fn search<P: Port>(
     ensures imported { (start : PortState) → IsImporting start (P.state port.old) ring.old → ImportsBy start (P.state port.new) ring.new.restarts.made result }
     ensures tidied { (P.state port.old).waiting ≡ [] → IsTidy (P.state port.new) result }
     ensures in_time { IsInTime (P.state port.old) ring.old.restarts.since → IsInTimeAt (P.state port.new) ring.new.restarts result }
+    ensures searched { Searched (P.state port.old) (P.state port.new) ring.old ring.new result }
     ensures sums { SumsUp ring.new.restarts }
     ensures odd { ring.new.restarts.odd ≡ ring.old.restarts.odd }
     ensures port { IsPort (P.state port.new) }

@@ -6,7 +6,7 @@ ghost use Rattle.sat_words.specs.declared.shared.Cref.{Cref};
 ghost use Rattle.watch_prop.specs.WatchData.{WatchData, Lits};
 ghost use Rattle.watch_prop.specs.Watched.{Watched};
 ghost use Rattle.watch_prop.specs.Propagation.{HasReasons};
-ghost use Rattle.ring_run.specs.Searching.{AddedSeen, OffersNothing, OnlySaw, Stands, AreTaken, AreTold, UnitsSeen, OnlyWrote, KeepsOn};
+ghost use Rattle.ring_run.specs.Searching.{AddedSeen, OffersNothing, OnlySaw, Stands, AreTaken, AreTold, UnitsSeen, OnlyWrote, ToldUnits, KeepsOn};
 ghost use Rattle.ring_run.specs.Ending.{EndsAt, end_refused};
 
 use ring_port::{Port, PortStop};
@@ -66,6 +66,7 @@ fn write_unit<P: Port>(port: &mut P, trail: &Trail, place: u32) -> Result<(), Po
     ensures told { OnOk result (AreTold (P.state port.new) trail.now (place + 1)) }
     ensures units { OnOk result (UnitsSeen (P.state port.new)) }
     ensures wrote { OnOk result (OnlyWrote (P.state port.old) (P.state port.new)) }
+    ensures lines { OnOk result (ToldUnits (P.state port.old) (P.state port.new)) }
     ensures held { (P.state port.new).held ≡ (P.state port.old).held }
     ensures looks { (P.state port.new).looks ≡ (P.state port.old).looks }
     ensures waiting { (P.state port.new).waiting ≡ (P.state port.old).waiting }
@@ -97,6 +98,7 @@ pub(crate) fn write_units<P: Port>(
     ensures told { OnOk result (AreTold (P.state port.new) trail.now (length trail.now.steps)) }
     ensures units { OnOk result (UnitsSeen (P.state port.new)) }
     ensures wrote { OnOk result (OnlyWrote (P.state port.old) (P.state port.new)) }
+    ensures lines { OnOk result (ToldUnits (P.state port.old) (P.state port.new)) }
     ensures held { (P.state port.new).held ≡ (P.state port.old).held }
     ensures looks { (P.state port.new).looks ≡ (P.state port.old).looks }
     ensures waiting { (P.state port.new).waiting ≡ (P.state port.old).waiting }

@@ -1,7 +1,7 @@
 use Rattle.std.proofs.Common.{subst, sym}
 use Rattle.ring_run.specs.Ended.{IsHalted}
-use Rattle.ring_run.specs.Ending.{ComesTo}
-use Rattle.ring_run.proofs.Tidying.{refused_halted}
+use Rattle.ring_run.specs.Ending.{ComesTo, IsRefusal}
+use Rattle.ring_run.proofs.Tidying.{refused_halted, refused_refusal}
 use Rattle.ring_run.specs.declared.job.End.{End}
 use Rattle.ring_run.proofs.Offering.{nothing_empty}
 use Rattle.ring_run.proofs.Progress.{empty_refutes, refused_ends}
@@ -24,3 +24,12 @@ returns-in-Err-clause-nothing g c = nothing_empty (g.P.Port.state c.args.port.no
 
 pub returns-in-Err-clause-halted : goal.returns-in-Err-clause-halted
 returns-in-Err-clause-halted g c = subst IsHalted (sym c.end_refused.ensures) (refused_halted c.in-Err.stop)
+
+pub returns-in-Err-clause-refusal : goal.returns-in-Err-clause-refusal
+returns-in-Err-clause-refusal g c = subst IsRefusal (sym c.end_refused.ensures) (refused_refusal c.in-Err.stop)
+
+pub returns-in-Ok-clause-empty : goal.returns-in-Ok-clause-empty
+returns-in-Ok-clause-empty g c = (c.empty.result, c.empty.ensures.written)
+
+pub returns-in-Err-clause-empty : goal.returns-in-Err-clause-empty
+returns-in-Err-clause-empty g c = (c.empty.result, c.empty.ensures.written)

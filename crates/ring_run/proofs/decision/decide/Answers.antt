@@ -37,3 +37,6 @@ returns-in-Err-clause-polls g c = λ p. polled_over (g.P.Port.state c.args.port.
 
 pub returns-in-Some-clause-decided : goal.returns-in-Some-clause-decided
 returns-in-Some-clause-decided g c = λ on. record { lit = c.in-Some.lit; chosen = c.in-Some.ensures.some; trail = c.decide.ensures.step; same = ap (λ (d : DeciderData). record c.args.ring.now { trail = c.decide.new.self; decider = d }) c.next.ensures.same }
+
+pub returns-in-Ok-clause-ended : goal.returns-in-Ok-clause-ended
+returns-in-Ok-clause-ended g c = λ s told. told

@@ -20,7 +20,10 @@ use Rattle.ring_run.specs.Turn.{ActedAtQuiet}
 use Rattle.ring_run.specs.declared.job.End.{End}
 use Rattle.ring_run.specs.declared.course.Course.TheVariants.{Over}
 use Rattle.ring_run.specs.Ending.{end_refused}
-use Rattle.ring_run.proofs.Acting.{halted_unspent}
+use Rattle.ring_run.specs.Course.{EndsQuietly}
+use Rattle.ring_run.specs.Searching.{ToldUnits}
+use Rattle.ring_run.proofs.Acting.{quietly_refused, quietly_on}
+use Rattle.ring_run.proofs.Tidying.{refused_refusal}
 use Rattle.ring_run.proofs.decision.decide_next.Goals as goal
 use Rattle.ring_run.proofs.Numbering.{kept_looked}
 use Rattle.ring_run.proofs.Rounds.{imports_halted, imports_over, imports_same, importing_same, imported_settled}
@@ -265,18 +268,14 @@ returns-clause-imports g c = λ start p h.
 pub returns-then-ring-clause-acted : goal.returns-then-ring-clause-acted
 returns-then-ring-clause-acted g c = λ on.
     (let s = g.P.Port.state c.args.port.now in
-    let m = g.P.Port.state c.stopped.new.self in
     let w = g.P.Port.state c.write_pending.new.port in
-    let is = c.in_default.ensures.looked.1 in
     inl (
       sym c.write_pending.ensures.pending ∙ c.if-ring.true,
       record {
         middle = w;
         ring = c.write_pending.new.ring;
-        lines = wrote_by s m w (looked_wrote s m (one_more s.looks) is c.stopped.ensures.log) c.in-Ok.ensures.wrote;
-        nothing = nothing_then s m w (nothing_looked s m c.stopped.result c.stopped.ensures.looked) c.write_pending.ensures.nothing;
-        waiting = c.write_pending.ensures.waiting ∙ ap (λ (x : PortState). x.waiting) is;
-        looked = c.renew.ensures.unlooked ∙ c.write_pending.ensures.looks ∙ ap (λ (x : PortState). x.looks) is;
+        told = subst (λ (x : PortState). ToldUnits x w) c.in_default.ensures.looked.1 c.in-Ok.ensures.lines;
+        unlooked = c.renew.ensures.unlooked;
         same_ring = c.write_pending.ensures.same;
         renewed = c.renew.ensures.renewed on;
       },
@@ -285,11 +284,8 @@ returns-then-ring-clause-acted g c = λ on.
 pub returns-clause-acted : goal.returns-clause-acted
 returns-clause-acted g c = λ on.
     (let s = g.P.Port.state c.args.port.now in
-    let m = g.P.Port.state c.stopped.new.self in
     let w = g.P.Port.state c.write_pending.new.port in
-    let is = c.in_default.ensures.looked.1 in
     let old = c.args.ring.now in
-    let ring = c.write_pending.new.ring in
     let new = c.decide.new.ring in
     let p = c.decide.ensures.decided on in
     let told = c.write_pending.ensures.same in
@@ -297,10 +293,7 @@ returns-clause-acted g c = λ on.
     (inr (
       sym c.write_pending.ensures.pending ∙ c.if-ring.false,
       record {
-        lines = wrote_by s m w (looked_wrote s m (one_more s.looks) is c.stopped.ensures.log) c.in-Ok.ensures.wrote;
-        nothing = nothing_then s m w (nothing_looked s m c.stopped.result c.stopped.ensures.looked) c.write_pending.ensures.nothing;
-        waiting = c.write_pending.ensures.waiting ∙ ap (λ (x : PortState). x.waiting) is;
-        looked = c.write_pending.ensures.looks ∙ ap (λ (x : PortState). x.looks) is;
+        told = subst (λ (x : PortState). ToldUnits x w) c.in_default.ensures.looked.1 c.in-Ok.ensures.lines;
         decided = record {
           lit = p.lit;
           chosen = subst (λ (r : Ring). IsDecided r.decider r.trail.steps p.lit) told p.chosen;
@@ -332,5 +325,18 @@ returns-clause-in_time g c = λ p h.
     subst (λ (x : PortState). IsInTimeBy x after c.decide.result) (sym c.decide.ensures.same)
     (in_time_any w after c.decide.result (in_time_more w old.restarts.since after.restarts.since (sym since) (in_time_wrote s w old.restarts.since lines (h settled))))
 
-pub returns-in-Err-clause-unspent : goal.returns-in-Err-clause-unspent
-returns-in-Err-clause-unspent g c = λ e. halted_unspent (end_refused c.in-Err.stop) (refused_halted c.in-Err.stop) (ap (λ (end : End). Over end) (sym c.end_refused.ensures) ∙ e)
+pub returns-in-Some-clause-ended : goal.returns-in-Some-clause-ended
+returns-in-Some-clause-ended g c = c.in-Some.ensures.looked.1
+
+pub returns-in-Err-clause-ended : goal.returns-in-Err-clause-ended
+returns-in-Err-clause-ended g c =
+    let s = g.P.Port.state c.args.port.now in
+    let w = g.P.Port.state c.write_pending.new.port in
+    subst (λ (end : End). EndsQuietly s w (Over end)) (sym c.end_refused.ensures) (quietly_refused s w (end_refused c.in-Err.stop) (refused_refusal c.in-Err.stop))
+
+pub returns-then-ring-clause-ended : goal.returns-then-ring-clause-ended
+returns-then-ring-clause-ended g c = quietly_on (g.P.Port.state c.args.port.now) (g.P.Port.state c.renew.new.port) c.renew.result c.renew.ensures.refused
+
+pub returns-clause-ended : goal.returns-clause-ended
+returns-clause-ended g c =
+    c.decide.ensures.ended (g.P.Port.state c.args.port.now) (subst (λ (x : PortState). ToldUnits x (g.P.Port.state c.write_pending.new.port)) c.in_default.ensures.looked.1 c.in-Ok.ensures.lines)

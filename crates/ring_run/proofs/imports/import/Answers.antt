@@ -14,7 +14,6 @@ use Rattle.ring_run.proofs.Turning.{saw_search}
 use Rattle.ring_run.proofs.Learning.{goes_on_by}
 use Rattle.ring_run.proofs.Progress.{out_of_memory, recent_still}
 use Rattle.ring_run.proofs.Polling.{imported, imported_most, polls_same, polled_over, polled_halted, place_moved}
-use Rattle.ring_run.proofs.Acting.{halted_unspent}
 use Rattle.ring_run.proofs.Slots.{slots_more}
 use Rattle.ring_run.proofs.imports.import.Goals as goal
 use Rattle.ring_run.proofs.Numbering.{grown_none, reductions_still}
@@ -245,5 +244,5 @@ returns-in-Err-clause-unlooked g c = ap (λ (x : PortState). x.looks) c.take_cla
 pub returns-clause-unlooked : goal.returns-clause-unlooked
 returns-clause-unlooked g c = ap (λ (x : PortState). x.looks) c.take_clauses.ensures.only.state ∙ c.take_units.ensures.saw.looks
 
-pub returns-in-Opposed-clause-unspent : goal.returns-in-Opposed-clause-unspent
-returns-in-Opposed-clause-unspent g c = halted_unspent c.refute.result c.refute.ensures.halted
+pub returns-in-Opposed-clause-refused : goal.returns-in-Opposed-clause-refused
+returns-in-Opposed-clause-refused g c = c.refute.ensures.refusal

@@ -1,9 +1,10 @@
-use Rattle.std.proofs.Common.{◌≤◌, ◌+◌, subst, sym, refl, List}
+use Rattle.std.proofs.Common.{◌≤◌, ◌+◌, ◌∙◌, ap, drop, subst, sym, refl, List}
+use Rattle.analyze.specs.Levels.{count_of_levels}
 use Rattle.sat_words.specs.Literal.{Literal}
 use Rattle.ring_port.specs.PortState.{PortState}
 use Rattle.ring_run.specs.Searching.{IsAsserting, GoesOn, HoldsByGlue, OffersNothing}
 use Rattle.ring_run.proofs.Lending.{offering_stays}
-use Rattle.ring_run.proofs.Outcomes.{learns_halted, learns_bumped}
+use Rattle.ring_run.proofs.Outcomes.{from_refusal, learned_from}
 use Rattle.ring_run.specs.declared.ring.Ring.{Ring}
 use Rattle.ring_run.specs.Ended.{polls_of}
 use Rattle.ring_run.specs.Course.{HasLemmas, LearnsTo, IsPolling, imports_of}
@@ -105,17 +106,23 @@ returns-in-Empty-clause-sums g c = sums_exact c.args.ring.now.restarts c.args.ri
 
 pub returns-in-Empty-clause-learns : goal.returns-in-Empty-clause-learns
 returns-in-Empty-clause-learns g c =
-    learns_halted (g.P.Port.state c.args.port.now) (g.P.Port.state c.refute.new.port) c.args.ring.now c.args.ring.now c.analyze.new.self.lits c.refute.result c.refute.ensures.halted
+    from_refusal (g.P.Port.state c.args.port.now) (g.P.Port.state c.refute.new.port) c.args.ring.now c.args.ring.now c.args.conflict c.analyze.new.self.lits c.refute.result c.refute.ensures.refusal
 
 pub returns-else-is_err-clause-learns : goal.returns-else-is_err-clause-learns
 returns-else-is_err-clause-learns g c =
+    let s = g.P.Port.state c.args.port.now in
     let u = g.P.Port.state c.learn_lemma.new.port in
     let old = c.args.ring.now in
     let between : Ring = record old { decider = c.bump_met.new.decider; bumps = c.bump_met.new.bumps } in
     let new = c.learn_lemma.new.ring in
     let course = c.learn_lemma.result in
-    let p = subst (λ (ls : List Literal). LearnsTo (g.P.Port.state c.analyze.new.port) u between new ls course) c.lits.ensures c.learn_lemma.ensures.learns in
-    subst (λ (x : PortState). LearnsTo x u old new c.analyze.new.self.lits course) c.analyze.ensures.same
-    (learns_bumped (g.P.Port.state c.analyze.new.port) u between old new c.analyze.new.self.lits course
+    let back = c.in-Lemma.back in
+    let glue = c.in-Lemma.glue in
+    let lits = c.analyze.new.self.lits in
+    let found = c.in-Lemma.ensures.found in
+    let asserting : IsAsserting s old.trail lits back = lemma_asserts s old.trail old.watches c.args.conflict lits back glue old.written c.requires.search c.requires.conflict found.0 found.1 in
+    let p = subst (λ (ls : List Literal). LearnsTo (g.P.Port.state c.analyze.new.port) u between new ls back glue course) c.lits.ensures c.learn_lemma.ensures.learns in
+    learned_from s u between old new c.args.conflict lits back glue course
     (record { trail = refl; watches = refl; lemmas = refl; reductions = refl; reduced_at = refl; written = refl; decider = c.bump_met.ensures.same; restarts = refl; exported = refl; offered = refl })
-    p)
+    found.1 asserting (found.1.glue_is ∙ ap (λ (ls : List Literal). count_of_levels old.trail.steps (drop 1 ls)) (sym found.1.parts))
+    (subst (λ (x : PortState). LearnsTo x u between new lits back glue course) c.analyze.ensures.same p)

@@ -11,13 +11,13 @@ use Rattle.ring_run.specs.declared.job.End.TheVariants.{Memory}
 use Rattle.ring_run.specs.Searching.{GoesOn, HoldsByGlue, HasLent, IsAsserting}
 use Rattle.ring_run.proofs.Offering.{only_lent, nothing_refused}
 use Rattle.ring_run.proofs.Lending.{lent_held, lent_goes_on, lent_search, left_before, left_alike, stored_at, lent_glue, offering_stays, offering_learned}
-use Rattle.ring_run.proofs.Tidying.{tidied_search, held_stays, refused_last, refused_halted}
+use Rattle.ring_run.proofs.Tidying.{tidied_search, held_stays, refused_last, refused_halted, refused_refusal}
 use Rattle.ring_run.specs.Ended.{last_looks}
 use Rattle.ring_run.specs.Ending.{ComesTo, end_refused}
 use Rattle.std.specs.Option.{option_to_list}
 use Rattle.watch_prop.specs.WatchData.{attached}
 use Rattle.ring_run.specs.declared.course.Course.TheVariants.{Over}
-use Rattle.ring_run.proofs.Outcomes.{learns_halted}
+use Rattle.ring_run.proofs.Outcomes.{learns_refusal}
 use Rattle.ring_run.proofs.Listing.{left_lists, listed_learned}
 use Rattle.ring_run.specs.Course.{GoesOnBy, InSearch, HasLemmas, HasLearned, LearnsTo, CanAssert, IsOffering, IsPolling, imports_of}
 use Rattle.ring_run.specs.declared.ring.Ring.{Ring}
@@ -584,13 +584,11 @@ returns-in-Err-clause-learns g c =
     let s = g.P.Port.state c.args.port.now in
     let u = g.P.Port.state c.learn.new.self in
     let ring = c.args.ring.now in
-    subst (λ (end : End). LearnsTo s u ring ring c.args.lits.now (Over end)) (sym c.end_refused.ensures) (learns_halted s u ring ring c.args.lits.now (end_refused c.in-Err.stop) (refused_halted c.in-Err.stop))
+    subst (λ (end : End). LearnsTo s u ring ring c.args.lits.now c.args.back c.args.glue (Over end)) (sym c.end_refused.ensures) (learns_refusal s u ring ring c.args.lits.now c.args.back c.args.glue (end_refused c.in-Err.stop) (refused_refusal c.in-Err.stop))
 
 pub returns-then-ring-limit-clause-learns : goal.returns-then-ring-limit-clause-learns
 returns-then-ring-limit-clause-learns g c = record {
-  glue = c.args.glue;
   address = c.in-Ok.address;
-  counted = c.requires.glue;
   shared = record { middle = g.P.Port.state c.learn.new.self; learned = c.in-Ok.ensures.learned; lent = c.offer_lemma.ensures.lent };
   restarts = ap (λ (r : Ring). r.restarts) c.offer_lemma.ensures.same ∙ c.note.ensures;
 }
@@ -601,7 +599,7 @@ returns-in-Err-tidy_up-clause-learns g c =
     let w = g.P.Port.state c.tidy_up.new.port in
     let old = c.args.ring.now in
     let new : Ring = record c.offer_lemma.new.ring { restarts = c.due-ring.new.self; pending = c.due-ring.result } in
-    subst (λ (end : End). LearnsTo s w old new c.args.lits.now (Over end)) (sym c.end_refused-in-Err-tidy_up.ensures) (learns_halted s w old new c.args.lits.now (end_refused c.in-Err-tidy_up.stop) (refused_halted c.in-Err-tidy_up.stop))
+    subst (λ (end : End). LearnsTo s w old new c.args.lits.now c.args.back c.args.glue (Over end)) (sym c.end_refused-in-Err-tidy_up.ensures) (learns_refusal s w old new c.args.lits.now c.args.back c.args.glue (end_refused c.in-Err-tidy_up.stop) (refused_refusal c.in-Err-tidy_up.stop))
 
 pub returns-in-Ok-leave_conflict-clause-learns : goal.returns-in-Ok-leave_conflict-clause-learns
 returns-in-Ok-leave_conflict-clause-learns g c =
@@ -616,12 +614,8 @@ returns-in-Ok-leave_conflict-clause-learns g c =
     let same = c.offer_lemma.ensures.same in
     let noted_is = ap (λ (r : Ring). r.restarts) same ∙ c.note.ensures in
     let lent = only_lent u v c.in-Ok.address old.exported old.offered middle.exported middle.offered c.offer_lemma.ensures.lent in
-    subst (λ (x : PortState). HasLearned s x old new c.args.lits.now) (sym c.leave_conflict.ensures.same) (record {
-      back = c.args.back;
-      glue = c.args.glue;
+    subst (λ (x : PortState). HasLearned s x old new c.args.lits.now c.args.back c.args.glue) (sym c.leave_conflict.ensures.same) (record {
       address = c.in-Ok.address;
-      asserting = c.requires.lemma;
-      counted = c.requires.glue;
       between = v;
       shared = record {
         middle = u;

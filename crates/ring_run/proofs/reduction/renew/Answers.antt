@@ -10,7 +10,6 @@ use Rattle.ring_run.proofs.Shrinking.{looks_halted, looks_kept}
 use Rattle.ring_run.proofs.Turning.{compose}
 use Rattle.ring_port.specs.PortState.{PortState}
 use Rattle.ring_run.specs.Renewal.{TookImport}
-use Rattle.ring_run.proofs.Acting.{halted_unspent}
 use Rattle.ring_run.proofs.reduction.renew.Goals as goal
 use Rattle.ring_run.proofs.Rounds.{imports_halted, imports_over, imports_same, importing_same}
 use Rattle.ring_run.specs.Ended.{ImportsBy}
@@ -125,5 +124,5 @@ returns-in-Err-clause-in_time g c = in_time_halted (g.P.Port.state c.shrink_due.
 pub returns-clause-in_time : goal.returns-clause-in_time
 returns-clause-in_time g c = c.import.ensures.in_time (let h = c.in-Ok.ensures.in_time in omega (arith, h))
 
-pub returns-in-Err-clause-unspent : goal.returns-in-Err-clause-unspent
-returns-in-Err-clause-unspent g c = halted_unspent c.in-Err.end c.in-Err.ensures.over.halted
+pub returns-in-Err-clause-refused : goal.returns-in-Err-clause-refused
+returns-in-Err-clause-refused g c = c.in-Err.ensures.over.refusal

@@ -4,9 +4,15 @@ use Rattle.ring_port.specs.PortState.{PortState}
 use Rattle.ring_run.proofs.Polling.{polled_stopped}
 use Rattle.ring_run.proofs.Offering.{nothing_set}
 use Rattle.ring_run.proofs.Progress.{runs_stopped}
+use Rattle.std.proofs.Common.{◌≡◌, ◌∙◌, sym}
+use Rattle.std.specs.declared.option.Option.{Option}
+use Rattle.sat_words.specs.declared.shared.Stop.{Stop}
 use Rattle.ring_run.proofs.run.claim.Goals as goal
 use Rattle.ring_run.proofs.Rounds.{imports_stopped, tidy_stopped}
 use Rattle.ring_run.proofs.InTime.{reduced_stopped}
+
+stop_only : (s u : PortState) (stop : Option Stop) → u ≡ record s { stop = stop } → u ≡ record s { stop = u.stop }
+stop_only s u stop is = is ∙ ap (λ (x : PortState). record s { stop = x.stop }) (sym is)
 
 pub returns-in-Won-clause-runs : goal.returns-in-Won-clause-runs
 returns-in-Won-clause-runs g c = λ start n p.
@@ -46,3 +52,18 @@ returns-in-Won-clause-tidied g c = λ p. tidy_stopped (g.P.Port.state c.args.por
 pub returns-in-Won-clause-in_time : goal.returns-in-Won-clause-in_time
 returns-in-Won-clause-in_time g c = λ counts p.
     reduced_stopped (g.P.Port.state c.args.port.now) (g.P.Port.state c.stop.new.self) counts c.args.end (ap (λ (x : PortState). x.ring) c.in-Won.ensures.set.1) (ap (λ (x : PortState). x.mine) c.in-Won.ensures.set.1) p
+
+pub returns-in-Won-clause-only : goal.returns-in-Won-clause-only
+returns-in-Won-clause-only g c = stop_only (g.P.Port.state c.args.port.now) (g.P.Port.state c.stop.new.self) _ c.in-Won.ensures.set.1
+
+pub returns-in-Lost-clause-only : goal.returns-in-Lost-clause-only
+returns-in-Lost-clause-only g c = stop_only (g.P.Port.state c.args.port.now) (g.P.Port.state c.stop.new.self) _ c.in-Lost.ensures.set.1
+
+pub returns-in-Won-clause-answer : goal.returns-in-Won-clause-answer
+returns-in-Won-clause-answer g c = inl refl
+
+pub returns-in-Lost-clause-answer : goal.returns-in-Lost-clause-answer
+returns-in-Lost-clause-answer g c = inr (c.in-Lost.stop, refl)
+
+pub returns-in_default-clause-answer : goal.returns-in_default-clause-answer
+returns-in_default-clause-answer g c = inl refl

@@ -1,4 +1,4 @@
-use Rattle.std.proofs.Common.{◌≡◌, eq-eqb, Bool, ◌∙◌, ◌+◌, ◌==◌, ◌%◌, ℕ, ap, sym, subst, arith}
+use Rattle.std.proofs.Common.{◌≡◌, eq-eqb, Bool, ◌∙◌, ◌+◌, ◌==◌, ◌%◌, ℕ, ap, sym, subst, arith, inl, inr, refl}
 use Rattle.restart_plan.specs.Plan.{Restarting, begun as begun_restarts}
 use Rattle.ring_run.proofs.Offering.{offers_begin}
 use Rattle.ring_run.specs.Ended.{HasOffered, HasPolled, HasLooked, last_looks}
@@ -12,6 +12,7 @@ use Rattle.ring_run.specs.Course.{HasLemmas, MayImport, IsOffering, IsPolling}
 use Rattle.ring_run.specs.declared.job.End.TheVariants.{Memory}
 use Rattle.ring_run.proofs.Beginning.{listed_begin, goes_begin, begun, paced_begin, restarted_by, restarted_none}
 use Rattle.ring_run.proofs.Progress.{out_of_memory}
+use Rattle.ring_run.specs.Turn.{Searched}
 use Rattle.ring_run.proofs.run.run_job.Goals as goal
 use Rattle.ring_run.proofs.Rounds.{imports_none, imports_count, imports_none_yet}
 use Rattle.ring_run.specs.Ended.{ImportsBy}
@@ -166,3 +167,41 @@ returns-clause-in_time g c =
     (λ is. odd ∙ eq-eqb (c.args.job.now.ring % 2) 1 (ap (λ (n : ℕ). n % 2) (c.requires.job.ring ∙ sym first ∙ sym ring) ∙ is))
     c.search-end.ensures.sums (c.search-end.ensures.paced.count ∙ sym c.counts_of.ensures.learned) c.counts_of.ensures.restarts
     (c.search-end.ensures.in_time (subst (λ (x : PortState). IsInTime x c.in-Ok.ring.restarts.since) (sym c.make_ring.ensures.same) (in_time_begin s c.in-Ok.ring.restarts.since c.requires.untouched.mine)))
+
+pub returns-in_default-clause-ran : goal.returns-in_default-clause-ran
+returns-in_default-clause-ran g c = inl (c.make_ring.ensures.same, refl)
+
+pub returns-in_default-new-clause-ran : goal.returns-in_default-new-clause-ran
+returns-in_default-new-clause-ran g c = inl (c.make_ring.ensures.same, refl)
+
+pub returns-clause-ran : goal.returns-clause-ran
+returns-clause-ran g c =
+    let made = c.in-Ok.ensures in
+    let u = g.P.Port.state c.search-end.new.port in
+    let first = c.in-Ok.ring in
+    let last = c.search-end.new.ring in
+    inr (
+      first,
+      last,
+      record {
+        trail = made.trail;
+        clauses = made.attached;
+        decider = made.decider;
+        phases = made.phases;
+        restarts = made.restarts;
+        learned = made.learned;
+        lemmas = made.listed.0;
+        reductions = made.listed.1;
+        reduced_at = made.listed.2;
+        written = made.written;
+        exported = made.none.0;
+        offered = made.none.1;
+        place = made.place;
+        pending = made.pending;
+      },
+      subst (λ (x : PortState). Searched x u first last c.search-end.result) made.same c.search-end.ensures.searched,
+      c.counts_of.ensures.learned,
+      c.counts_of.ensures.exported,
+      c.counts_of.ensures.offered,
+      c.counts_of.ensures.restarts,
+    )

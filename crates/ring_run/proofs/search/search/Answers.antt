@@ -1,4 +1,5 @@
-use Rattle.std.proofs.Common.{◌∙◌, ap, sym, subst, refl}
+use Rattle.std.proofs.Common.{◌∙◌, [], ap, sym, subst, refl, inl, inr}
+use Rattle.ring_run.proofs.Acting.{came_further}
 use Rattle.ring_decide.specs.DeciderData.{DeciderData}
 use Rattle.restart_plan.specs.Plan.{Restarting}
 use Rattle.ring_run.specs.Strategy.{IsPaced}
@@ -35,6 +36,7 @@ loop-end-init g c =
       tidied = λ none. c.in_default.ensures.tidied none;
       in_time = λ h settled. c.in_default.ensures.in_time h settled;
       listed = c.in_default.ensures.listed refl c.requires.listed;
+      came = record { imported_port = u; imported = c.import.new.ring; first = c.in_default.ensures.took refl; states = []; turns = (refl, refl) };
       paced = subst (λ (r : Restarting). IsPaced r c.import.new.ring.learned c.args.limit) (sym c.import.ensures.restarts)
           (subst (λ n. IsPaced c.args.ring.now.restarts n c.args.limit) (sym c.import.ensures.learned) c.requires.paced);
       odd = ap (λ (r : Restarting). r.odd) c.import.ensures.restarts;
@@ -72,6 +74,7 @@ loop-end-preserved g c =
       tidied = λ none. c.in_default-turn.ensures.tidied (c.loop-end.invariant.tidied none);
       in_time = λ h settled. c.in_default-turn.ensures.in_time c.loop-end.invariant.polling (c.loop-end.invariant.in_time h) settled;
       listed = c.in_default-turn.ensures.listed refl;
+      came = came_further (g.P.Port.state c.args.port.now) (g.P.Port.state c.loop-end.port) (g.P.Port.state c.turn.new.port) c.args.ring.now c.loop-end.ring c.turn.new.ring c.loop-end.invariant.came c.in_default-turn.ensures.took;
       odd = c.turn.ensures.odd ∙ c.loop-end.invariant.odd;
       vars = c.turn.ensures.vars ∙ c.loop-end.invariant.vars ∙ c.loop-end.invariant.search.stands.vars ∙ c.loop-end.invariant.goes.runs.stays.vars ∙ sym goes.runs.stays.vars ∙ sym found.search.stands.vars;
     }
@@ -93,3 +96,9 @@ returns-in-Over-clause-sums g c = subst SumsUp (sym c.import.ensures.restarts) (
 
 pub returns-in-Over-turn-clause-in_time : goal.returns-in-Over-turn-clause-in_time
 returns-in-Over-turn-clause-in_time g c = λ h. c.in-Over-turn.ensures.in_time c.loop-end.invariant.polling (c.loop-end.invariant.in_time h)
+
+pub returns-in-Over-clause-searched : goal.returns-in-Over-clause-searched
+returns-in-Over-clause-searched g c = inl c.in-Over.ensures.refused
+
+pub returns-in-Over-turn-clause-searched : goal.returns-in-Over-turn-clause-searched
+returns-in-Over-turn-clause-searched g c = inr (g.P.Port.state c.loop-end.port, c.loop-end.ring, c.loop-end.invariant.came, c.in-Over-turn.ensures.took)

@@ -4,6 +4,7 @@ use Rattle.ring_run.specs.Searching.{GoesOn}
 use Rattle.ring_run.specs.Strategy.{Decides, IsPaced}
 use Rattle.ring_run.specs.Course.{HasLemmas, IsOffering, IsPolling, IsImporting, InSearch, IsLooking}
 use Rattle.ring_port.specs.PortState.{PortState}
+use Rattle.ring_run.specs.Turn.{CameTo}
 use Rattle.ring_run.proofs.Turning.{left_to_do}
 use Rattle.ring_run.proofs.search.search.Given as goal
 
@@ -20,6 +21,7 @@ invariant-loop-end g l = record {
   tidied : (g.P.Port.state l.fn.port).waiting ≡ [] → (g.P.Port.state l.port).waiting ≡ [];
   in_time : IsInTime (g.P.Port.state l.fn.port) l.fn.ring.restarts.since → l.ring.pending ≡ false → IsInTime (g.P.Port.state l.port) l.ring.restarts.since;
   listed : HasLemmas (g.P.Port.state l.port) l.ring;
+  came : CameTo (g.P.Port.state l.fn.port) (g.P.Port.state l.port) l.fn.ring l.ring;
   paced : IsPaced l.ring.restarts l.ring.learned l.limit;
   odd : l.ring.restarts.odd ≡ l.fn.ring.restarts.odd;
   vars : l.analysis.vars ≡ l.ring.trail.vars;

@@ -17,7 +17,7 @@ use Rattle.ring_run.specs.Ended.{HasImported, LookedAlong, rounds, import_slots}
 use Rattle.ring_run.proofs.InTime.{sums_exact}
 use Rattle.ring_run.specs.Ended.{IsInTime}
 use Rattle.ring_run.specs.Course.{SumsUp}
-use Rattle.ring_run.specs.Course.{LearnsTo}
+use Rattle.ring_run.specs.Course.{LearnsFrom, EndsQuietly}
 use Rattle.ring_run.specs.Turn.{ActedAtQuiet}
 use Rattle.ring_run.proofs.Acting.{conflict_turn, quiet_turn}
 
@@ -122,9 +122,9 @@ returns-in-Conflict-clause-took g c =
     let old = c.args.ring.now in
     let between : Ring = record old { trail = c.propagate.new.trail; watches = c.propagate.new.self } in
     conflict_turn s (g.P.Port.state c.learn_from.new.port) old between c.learn_from.new.ring c.in-Conflict.conflict c.learn_from.new.analysis.lits c.learn_from.result
-    (record { same = refl; grown = c.propagate.ensures.grown; clauses = c.propagate.ensures.attached })
+    (record { same = refl; grown = c.propagate.ensures.grown; clauses = c.propagate.ensures.attached; reasons = c.propagate.ensures.reasons })
     (subst (IsPropagated c.propagate.new.self (lits_at s) c.propagate.new.trail) c.in-Conflict.is c.in-Ok.ensures.propagated)
-    (subst (λ (x : PortState). LearnsTo x (g.P.Port.state c.learn_from.new.port) between c.learn_from.new.ring c.learn_from.new.analysis.lits c.learn_from.result) c.propagate.ensures.same c.learn_from.ensures.learns)
+    (subst (λ (x : PortState). LearnsFrom x (g.P.Port.state c.learn_from.new.port) between c.learn_from.new.ring c.in-Conflict.conflict c.learn_from.new.analysis.lits c.learn_from.result) c.propagate.ensures.same c.learn_from.ensures.learns)
 
 pub returns-in-Quiet-clause-took : goal.returns-in-Quiet-clause-took
 returns-in-Quiet-clause-took g c =
@@ -133,10 +133,10 @@ returns-in-Quiet-clause-took g c =
     let between : Ring = record old { trail = c.propagate.new.trail; watches = c.propagate.new.self } in
     let u = g.P.Port.state c.decide_next.new.port in
     quiet_turn s u old between c.decide_next.new.ring c.decide_next.result
-    (record { same = refl; grown = c.propagate.ensures.grown; clauses = c.propagate.ensures.attached })
+    (record { same = refl; grown = c.propagate.ensures.grown; clauses = c.propagate.ensures.attached; reasons = c.propagate.ensures.reasons })
     (subst (IsPropagated c.propagate.new.self (lits_at s) c.propagate.new.trail) c.in-Quiet.is c.in-Ok.ensures.propagated)
     (λ on. subst (λ (x : PortState). ActedAtQuiet x u between c.decide_next.new.ring) c.propagate.ensures.same (c.decide_next.ensures.acted on))
-    c.decide_next.ensures.unspent
+    (subst (λ (x : PortState). EndsQuietly x u c.decide_next.result) c.propagate.ensures.same c.decide_next.ensures.ended)
 
 pub returns-in-Conflict-clause-in_time : goal.returns-in-Conflict-clause-in_time
 returns-in-Conflict-clause-in_time g c = λ p h.

@@ -21,6 +21,7 @@ use Rattle.ring_run.proofs.Offering.{nothing_none, nothing_unit}
 use Rattle.ring_run.proofs.Remembering.{added_seen}
 use Rattle.ring_run.proofs.Telling.{told_skipped, told_written}
 use Rattle.ring_run.proofs.Standing.{stands_written, place_on}
+use Rattle.ring_run.proofs.Told.{units_none, units_by}
 use Rattle.ring_run.proofs.units.write_unit.Goals as goal
 
 keeps_on : (s u : PortState) (l : Literal) (r : Result (Unit {0}) PortStop) → IsOn s.vars l → UnitsSeen s → has s.seen l ≡ false → UnitWritten s u l r → KeepsLog s u → IsPort u → OnOk r (KeepsOn s u)
@@ -103,3 +104,9 @@ returns-then-is_none-clause-nothing g c = nothing_none (g.P.Port.state c.args.po
 
 pub returns-clause-nothing : goal.returns-clause-nothing
 returns-clause-nothing g c = nothing_unit (g.P.Port.state c.args.port.now) (g.P.Port.state c.unit.new.self) c.lit_at.result c.unit.result c.unit.ensures.written
+
+pub returns-then-is_none-clause-lines : goal.returns-then-is_none-clause-lines
+returns-then-is_none-clause-lines g c = units_none (g.P.Port.state c.args.port.now)
+
+pub returns-clause-lines : goal.returns-clause-lines
+returns-clause-lines g c = units_by (g.P.Port.state c.args.port.now) (g.P.Port.state c.unit.new.self) c.lit_at.result c.unit.result c.unit.ensures.written

@@ -1,6 +1,7 @@
 use Rattle.std.proofs.Common.{◌∙◌, refl}
 use Rattle.ring_run.proofs.Offering.{nothing_none, nothing_then}
 use Rattle.ring_run.proofs.Progress.{wrote_none, wrote_by}
+use Rattle.ring_run.proofs.Told.{units_none, units_then}
 use Rattle.ring_run.proofs.units.write_units.Goals as goal
 
 pub loop-place-init : goal.loop-place-init
@@ -13,6 +14,7 @@ loop-place-init g c = record {
   looks = refl;
   waiting = refl;
   wrote = wrote_none (g.P.Port.state c.args.port.now);
+  lines = units_none (g.P.Port.state c.args.port.now);
   nothing = nothing_none (g.P.Port.state c.args.port.now);
   port = c.requires.port;
 }
@@ -33,6 +35,7 @@ loop-place-preserved g c = record {
   looks = c.in-Ok.ensures.looks ∙ c.loop-place.invariant.looks;
   waiting = c.in-Ok.ensures.waiting ∙ c.loop-place.invariant.waiting;
   wrote = wrote_by (g.P.Port.state c.args.port.now) (g.P.Port.state c.loop-place.port) (g.P.Port.state c.write_unit.new.port) c.loop-place.invariant.wrote c.in-Ok.ensures.wrote;
+  lines = units_then (g.P.Port.state c.args.port.now) (g.P.Port.state c.loop-place.port) (g.P.Port.state c.write_unit.new.port) c.loop-place.invariant.lines c.in-Ok.ensures.lines;
   nothing = nothing_then (g.P.Port.state c.args.port.now) (g.P.Port.state c.loop-place.port) (g.P.Port.state c.write_unit.new.port) c.loop-place.invariant.nothing c.in-Ok.ensures.nothing;
   port = c.in-Ok.ensures.port;
 }

@@ -1,6 +1,6 @@
 use Rattle.std.proofs.Common.{◌≡◌}
 use Rattle.ring_port.specs.PortState.{IsPort}
-use Rattle.ring_run.specs.Searching.{OffersNothing, Stands, AreTold, UnitsSeen, OnlyWrote, KeepsOn}
+use Rattle.ring_run.specs.Searching.{OffersNothing, Stands, AreTold, UnitsSeen, OnlyWrote, ToldUnits, KeepsOn}
 use Rattle.ring_run.proofs.units.write_units.Given as goal
 
 abbrev pub invariant-loop-place : goal.invariant-loop-place
@@ -13,6 +13,7 @@ invariant-loop-place g l = record {
   looks : (g.P.Port.state l.port).looks ≡ (g.P.Port.state l.fn.port).looks;
   waiting : (g.P.Port.state l.port).waiting ≡ (g.P.Port.state l.fn.port).waiting;
   wrote : OnlyWrote (g.P.Port.state l.fn.port) (g.P.Port.state l.port);
+  lines : ToldUnits (g.P.Port.state l.fn.port) (g.P.Port.state l.port);
   nothing : OffersNothing (g.P.Port.state l.fn.port) (g.P.Port.state l.port);
   port : IsPort (g.P.Port.state l.port);
 }

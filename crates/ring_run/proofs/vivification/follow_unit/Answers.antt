@@ -5,7 +5,7 @@ use Rattle.ring_trail.specs.TrailData.{TrailData, IsTrail, HasGrown, assigned}
 use Rattle.watch_prop.specs.WatchData.{WatchData, attached}
 use Rattle.watch_prop.specs.Watched.{Watched}
 use Rattle.watch_prop.specs.Propagation.{HasReasons, IsClosedBelow, IsPropagated, IsConflict, IsQuiet}
-use Rattle.ring_run.specs.Searching.{GoesOn, OnlyWrote, AreTold}
+use Rattle.ring_run.specs.Searching.{GoesOn, OnlyWrote, ToldUnits, AreTold}
 use Rattle.ring_run.specs.Ending.{EndsAt, end_refused}
 use Rattle.ring_run.specs.Course.{Searches}
 use Rattle.ring_run.proofs.Resting.{conflict_refutes}
@@ -53,7 +53,7 @@ refute-requires-clause-usable g c =
 
 pub returns-in-Conflict-clause-over : goal.returns-in-Conflict-clause-over
 returns-in-Conflict-clause-over g c =
-    record { ends = subst (λ (x : PortState). EndsAt x (g.P.Port.state c.refute.new.port) c.refute.result) c.propagate.ensures.same c.refute.ensures.ends; halted = c.refute.ensures.halted; none = c.refute.ensures.none }
+    record { ends = subst (λ (x : PortState). EndsAt x (g.P.Port.state c.refute.new.port) c.refute.result) c.propagate.ensures.same c.refute.ensures.ends; halted = c.refute.ensures.halted; refusal = c.refute.ensures.refusal; none = c.refute.ensures.none }
 
 pub write_pending-requires : goal.write_pending-requires
 write_pending-requires g c =
@@ -101,6 +101,7 @@ returns-in-Ok-write_pending-clause-followed g c =
     record {
       grown = subst (λ (x : TrailData). HasGrown (assigned c.args.ring.now.trail c.args.lit None) x) (sym c.write_pending.ensures.trail) grown;
       lines = subst (λ (x : PortState). OnlyWrote x u) c.propagate.ensures.same k.wrote;
+      units = subst (λ (x : PortState). ToldUnits x u) c.propagate.ensures.same k.lines;
       told = subst (AreTold u c.write_pending.new.ring.trail) rests.whole k.search.told;
       same_clauses = ap (λ (x : WatchData). attached x) c.write_pending.ensures.watches ∙ c.propagate.ensures.attached;
       quiet = rests.quiet;

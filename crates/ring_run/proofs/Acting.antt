@@ -1,5 +1,5 @@
 -- What a turn comes to, and turns one behind the other.
-use Rattle.std.proofs.Common.{◌≡◌, List, [], ◌∷◌, inl, inr, refl, sym, subst}
+use Rattle.std.proofs.Common.{◌≡◌, List, ◌∷◌, inl, inr, refl, subst}
 use Rattle.sat_words.specs.Literal.{Literal}
 use Rattle.sat_words.specs.declared.shared.Cref.{Cref}
 use Rattle.ring_port.specs.PortState.{PortState, lits_at}

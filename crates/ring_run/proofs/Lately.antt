@@ -1,5 +1,5 @@
 -- What a ring learned since it last reduced is held, or is a unit that is seen.
-use Rattle.std.proofs.Common.{◌≡◌, ◌∙◌, ℕ, ◌⊎◌, inl, inr, true, List, [], ◌∷◌, ◌++◌, Contains, Some, None, IsSome, refl, sym, subst, ap}
+use Rattle.std.proofs.Common.{◌≡◌, ◌∙◌, ℕ, inl, inr, true, List, [], ◌∷◌, ◌++◌, Contains, Some, None, IsSome, refl, subst, ap}
 use Rattle.std.specs.declared.option.Option.{Option}
 use Rattle.std.specs.Option.{option_map}
 use Rattle.sat_words.specs.Literal.{Literal}
@@ -11,7 +11,7 @@ use Rattle.rup_model.specs.Journal.{recent}
 use Rattle.rup_model.proofs.Lists.{Contains_In, In_Contains}
 use Rattle.ring_port.specs.PortState.{PortState, Holding, held_at}
 use Rattle.ring_port.specs.Port.{KeepsHeld}
-use Rattle.ring_run.specs.Ended.{IsHeldClause, IsHeldOrSeen, HoldsRecent}
+use Rattle.ring_run.specs.Ended.{IsHeldOrSeen, HoldsRecent}
 use Rattle.ring_run.proofs.Remembering.{recent_cases}
 
 -- no unit is forgotten

@@ -4,14 +4,11 @@ use Rattle.std.specs.declared.option.Option.{Option}
 use Rattle.sat_words.specs.Literal.{Literal}
 use Rattle.sat_words.specs.declared.shared.Cref.{Cref}
 use Rattle.ring_port.specs.PortState.{PortState, lits_at}
-use Rattle.ring_trail.specs.TrailData.{TrailData}
-use Rattle.ring_decide.specs.DeciderData.{DeciderData}
 use Rattle.restart_plan.specs.Plan.{Restarting, noted, asked, is_due}
-use Rattle.watch_prop.specs.WatchData.{WatchData}
 use Rattle.analyze.specs.Lemma.{IsLemma}
 use Rattle.ring_run.specs.Ending.{IsRefusal}
 use Rattle.ring_run.specs.Searching.{HasLent, IsAsserting, IsGlueOf}
-use Rattle.ring_run.specs.Course.{WasShared, LearnsTo, LearnedFrom, LearnsFrom}
+use Rattle.ring_run.specs.Course.{WasShared, LearnsTo, LearnsFrom}
 use Rattle.ring_run.specs.declared.job.End.{End}
 use Rattle.ring_run.specs.declared.job.End.TheVariants.{Sat, Refuted, Spent, Stopped, NoHole, ProofFault, Memory}
 use Rattle.ring_run.specs.declared.ring.Ring.{Ring}

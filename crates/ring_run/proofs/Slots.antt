@@ -1,5 +1,5 @@
 -- What comes from slots, one after another.
-use Rattle.std.proofs.Common.{◌≡◌, ◌∙◌, ℕ, ◌≤◌, List, [], ◌∷◌, ◌++◌, Contains, length, map, sym, subst, ap, arith, refl, append-nil, append_assoc, length-append}
+use Rattle.std.proofs.Common.{◌≡◌, ◌∙◌, ℕ, List, [], ◌∷◌, ◌++◌, Contains, map, sym, subst, ap, arith, append-nil, append_assoc, length-append}
 use Rattle.std.proofs.lemmas.List.{map-append}
 use Rattle.sat_words.specs.declared.shared.Cref.{Cref}
 use Rattle.rup_model.proofs.Lists.{Contains_In, In_Contains, In_append_left}

@@ -1,7 +1,6 @@
 use Rattle.std.proofs.Common.{◌≡◌, false, ◌∙◌, ap, subst, sym, arith, inl, inr, refl, length}
 use Rattle.ring_port.specs.PortState.{PortState, one_more}
 use Rattle.ring_trail.specs.TrailData.{TrailData, decided}
-use Rattle.std.proofs.lemmas.Bool.{false≢true}
 use Rattle.ring_decide.specs.DeciderData.{DeciderData, IsDecided}
 use Rattle.ring_run.specs.Ended.{HasPolled}
 use Rattle.ring_run.specs.Searching.{GoesOn, OffersNothing}
@@ -34,7 +33,6 @@ use Rattle.ring_run.specs.Course.{IsInTimeAt, IsInTimeBy}
 use Rattle.ring_run.specs.Searching.{OnlyWrote}
 use Rattle.ring_run.proofs.Progress.{wrote_by, looked_wrote}
 use Rattle.restart_plan.specs.Plan.{Restarting}
-use Rattle.std.proofs.lemmas.Bool.{false≢true}
 
 pub write_pending-requires : goal.write_pending-requires
 write_pending-requires g c = record {

@@ -1,6 +1,6 @@
 -- How a port in memory begins.
 use Rattle.std.proofs.Common.{◌≡◌, ◌≢◌, inl, inr, ℕ, zero, suc, ◌+◌, ◌-◌, ◌<◌, ◌≤◌, ◌||◌, false, not, List, [], ◌∷◌, ◌++◌, length, map, get_or, sym, refl, ap, subst, ◌∙◌, arith, Some, None, append_assoc, append-nil, cond, ◌==◌, eq-eqb, ne_eqb}
-use Rattle.std.specs.List.{list_any, All, AllByRecursion, IsDistinct, find}
+use Rattle.std.specs.List.{list_any, All, AllByRecursion, IsDistinct, find, range_with_len}
 use Rattle.std.specs.Prelude.{nat_eq}
 use Rattle.std.specs.declared.option.Option.{Option}
 use Rattle.std.specs.Io.KnownBytes.{append_known}
@@ -209,3 +209,14 @@ all_held_more old new h s start held waiting end =
       none_waits = waiting ∙ h.none_waits;
       end = end ∙ ap (λ n. n + words_for (length s.1)) h.end ∙ sym (words_of-push (pairs_of old.start) s) ∙ ap words_of (sym pairs);
     }
+
+-- one number more
+range_next : (a n : ℕ) → range_with_len a n ++ (a + n) ∷ [] ≡ range_with_len a (suc n)
+range_next a zero = ap (λ (m : ℕ). m ∷ []) (omega arith)
+range_next a (suc n) = ap (λ (ns : List ℕ). a ∷ ns) (ap (λ (m : ℕ). range_with_len (a + 1) n ++ m ∷ []) (let e : a + suc n ≡ (a + 1) + n = omega arith in e) ∙ range_next (a + 1) n)
+
+pub range_more : (n : ℕ) → range_with_len 0 n ++ n ∷ [] ≡ range_with_len 0 (n + 1)
+range_more n =
+    let here : n ≡ 0 + n = omega arith in
+    let next : suc n ≡ n + 1 = omega arith in
+    ap (λ (m : ℕ). range_with_len 0 n ++ m ∷ []) here ∙ range_next 0 n ∙ ap (range_with_len 0) next

@@ -1,6 +1,6 @@
 -- Lists of clauses at addresses, of which one is dropped.
 use Rattle.std.proofs.Common.{◌≡◌, ◌≢◌, ℕ, zero, suc, ◌==◌, Bool, true, false, cond, List, [], ◌∷◌, ◌++◌, sym, refl, ap, subst, ◌∙◌, inl, inr, arith, Some, None, ne_eqb}
-use Rattle.std.specs.List.{All, find}
+use Rattle.std.specs.List.{All, find, slice_get}
 use Rattle.std.specs.Prelude.{is_some}
 use Rattle.std.specs.Option.{unwrap_or}
 use Rattle.std.proofs.lemmas.Bool.{eqb-true, eqb-false, true≢false, false≢true}
@@ -10,6 +10,12 @@ use Rattle.ring_port.specs.PortState.{Holding, AreApart}
 use Rattle.ring_port.specs.Deleting.{without_one}
 use Rattle.ring_port.proofs.Holdings.{All_In}
 use Rattle.ring_port.proofs.LogSteps.{In_All, one_All}
+
+-- an element at a place
+pub some_In : {X : Type 0} (xs : List X) (i : ℕ) (x : X) → slice_get xs i ≡ Some x → In x xs
+some_In [] i x e = absurd (false≢true (ap is_some e))
+some_In (y ∷ xs) zero x e = inl (ap (λ o. unwrap_or o x) e)
+some_In (y ∷ xs) (suc i) x e = inr (some_In xs i x e)
 
 -- Clauses at different addresses
 

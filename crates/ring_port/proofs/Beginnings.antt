@@ -1,15 +1,14 @@
 -- How a port in memory begins.
-use Rattle.std.proofs.Common.{◌≡◌, ◌≢◌, inl, inr, ℕ, zero, suc, ◌+◌, ◌-◌, ◌<◌, ◌≤◌, ◌||◌, false, not, List, [], ◌∷◌, ◌++◌, length, map, take, get_or, sym, refl, ap, subst, ◌∙◌, arith, Some, None, append_assoc, append-nil, cond, ◌==◌, eq-eqb, ne_eqb}
-use Rattle.std.specs.List.{list_any, All, AllByRecursion, IsDistinct, find, slice_get, range_with_len}
+use Rattle.std.proofs.Common.{◌≡◌, ◌≢◌, inl, inr, ℕ, zero, suc, ◌+◌, ◌-◌, ◌<◌, ◌≤◌, ◌||◌, false, not, List, [], ◌∷◌, ◌++◌, length, map, get_or, sym, refl, ap, subst, ◌∙◌, arith, Some, None, append_assoc, append-nil, cond, ◌==◌, eq-eqb, ne_eqb}
+use Rattle.std.specs.List.{list_any, All, AllByRecursion, IsDistinct, find, range_with_len}
 use Rattle.std.specs.Prelude.{nat_eq}
 use Rattle.std.specs.declared.option.Option.{Option}
 use Rattle.std.specs.Io.KnownBytes.{append_known}
 use Rattle.std.proofs.lemmas.Bool.{or_parts, false≢true, eqb-false}
-use Rattle.std.proofs.lemmas.List.{take_all}
 use Rattle.std.proofs.lemmas.List.Folds.{list_any-append}
 use Rattle.sat_words.specs.Literal.{Literal}
 use Rattle.sat_words.specs.Clause.{is_empty}
-use Rattle.sat_words.specs.declared.shared.Cref.{Cref}
+use Rattle.clause_cell.specs.Packing.{words_for}
 use Rattle.rup_model.specs.Basics.{EachAfter}
 use Rattle.rup_model.specs.declared.journal.Entry.{Entry}
 use Rattle.rup_model.specs.Journal.{book, lines, added, LogSound}
@@ -17,58 +16,55 @@ use Rattle.rup_model.specs.Opening.{Start, IsOpening, IsStart}
 use Rattle.rup_model.proofs.Additions.{added-append}
 use Rattle.drat_text.specs.LineState.{LineState}
 use Rattle.ring_port.specs.PortState.{Holding, AreApart, IsKept, IsOn, HoldsStart, held_at}
-use Rattle.ring_port.proofs.StoreLemmas.{slice_get_is}
 use Rattle.rup_model.proofs.Lists.{In, Contains_In}
 use Rattle.std.proofs.lemmas.Map.Keys.{IsDistinct-head, IsDistinct-tail}
 use Rattle.ring_port.specs.Log.{Origin, Keeps, StandsOver, start_of}
 use Rattle.ring_port.specs.OwnLog.{LogData}
-use Rattle.ring_port.specs.PlainPort.{PlainData, state_of, IsPlain, OpensOver, starts_of, pairs_of, placed_from, begun_with}
+use Rattle.ring_port.specs.PlainPort.{PlainData, state_of, IsPlain, OpensOver, starts_of, pairs_of, placed_from, words_of, AreAllHeld, begun_with}
+use Rattle.ring_port.specs.Store.{StoreData}
 
 -- Lists of start clauses
 
-pub length-placed_from : (a : ℕ) (ss : List (ℕ × List Literal)) → length (placed_from a ss) ≡ length ss
-length-placed_from a [] = refl
-length-placed_from a (s ∷ ss) = ap suc (length-placed_from (suc a) ss)
-
-pub placed_from-push : (a : ℕ) (ss : List (ℕ × List Literal)) (s : ℕ × List Literal) → placed_from a (ss ++ s ∷ []) ≡ placed_from a ss ++ record { address = a + length ss; number = s.0; glue = 0; lits = s.1 } ∷ []
+pub placed_from-push : (a : ℕ) (ss : List (ℕ × List Literal)) (s : ℕ × List Literal) → placed_from a (ss ++ s ∷ []) ≡ placed_from a ss ++ record { address = a + words_of ss; number = s.0; glue = 0; lits = s.1 } ∷ []
 placed_from-push a [] s = ap (λ b. record { address = b; number = s.0; glue = 0; lits = s.1 } ∷ []) (omega arith)
 placed_from-push a (t ∷ ss) s =
     ap (λ hs. record { address = a; number = t.0; glue = 0; lits = t.1 } ∷ hs)
-    (placed_from-push (suc a) ss s ∙ ap (λ b. placed_from (suc a) ss ++ record { address = b; number = s.0; glue = 0; lits = s.1 } ∷ []) (omega arith))
+    (placed_from-push (a + words_for (length t.1)) ss s ∙ ap (λ b. placed_from (a + words_for (length t.1)) ss ++ record { address = b; number = s.0; glue = 0; lits = s.1 } ∷ []) (omega arith))
 
-indexed_from : (a : ℕ) (ss : List (ℕ × List Literal)) (k : ℕ) (d : Holding) → k < length (placed_from a ss) → (get_or (placed_from a ss) k d).address ≡ a + k
-indexed_from a [] k d lt = absurd (omega arith)
-indexed_from a (s ∷ ss) zero d lt = omega arith
-indexed_from a (s ∷ ss) (suc k) d lt = let e = indexed_from (suc a) ss k d (omega arith) in omega arith
+pub words_of-push : (ss : List (ℕ × List Literal)) (s : ℕ × List Literal) → words_of (ss ++ s ∷ []) ≡ words_of ss + words_for (length s.1)
+words_of-push [] s = omega arith
+words_of-push (t ∷ ss) s = let e = words_of-push ss s in omega arith
 
 later_from : (a b : ℕ) (ss : List (ℕ × List Literal)) → a < b → All (λ h. h.address ≢ a) (placed_from b ss)
-later_from a b ss less k d lt e = let at = indexed_from b ss k d lt in omega arith
+later_from a b [] less k d lt = absurd (omega arith)
+later_from a b (s ∷ ss) less zero d lt = λ e. absurd (omega arith)
+later_from a b (s ∷ ss) less (suc k) d lt = later_from a (b + words_for (length s.1)) ss (omega arith) k d (omega arith)
 
 apart_from : (a : ℕ) (ss : List (ℕ × List Literal)) → AreApart (placed_from a ss)
 apart_from a [] = tt
-apart_from a (s ∷ ss) = (later_from a (suc a) ss (omega arith), apart_from (suc a) ss)
+apart_from a (s ∷ ss) = (later_from a (a + words_for (length s.1)) ss (omega arith), apart_from (a + words_for (length s.1)) ss)
 
 -- start clauses with different numbers
 never_here : (b : ℕ) (ts : List (ℕ × List Literal)) (n : ℕ) → AllByRecursion (λ y. nat_eq n y ≡ false) (map (λ t. t.number) (starts_of ts)) → (x : Holding) → In x (placed_from b ts) → x.number ≡ n → ⊥
 never_here b [] n all x m e = m
 never_here b (t ∷ ts) n all x (inl e) f = eqb-false n t.0 all.0 (sym f ∙ sym (ap (λ y. y.number) e))
-never_here b (t ∷ ts) n all x (inr m) f = never_here (suc b) ts n all.1 x m f
+never_here b (t ∷ ts) n all x (inr m) f = never_here (b + words_for (length t.1)) ts n all.1 x m f
 
 numbers_from : (a : ℕ) (ss : List (ℕ × List Literal)) → IsDistinct nat_eq (map (λ s. s.number) (starts_of ss)) → (h k : Holding) → In h (placed_from a ss) → In k (placed_from a ss) → h.number ≡ k.number → h ≡ k
 numbers_from a [] distinct h k mh mk same = absurd mh
 numbers_from a (s ∷ ss) distinct h k (inl e) (inl f) same = sym e ∙ f
-numbers_from a (s ∷ ss) distinct h k (inl e) (inr m) same = absurd (never_here (suc a) ss s.0 (IsDistinct-head nat_eq s.0 (map (λ t. t.number) (starts_of ss)) distinct) k m (sym same ∙ sym (ap (λ x. x.number) e)))
-numbers_from a (s ∷ ss) distinct h k (inr m) (inl e) same = absurd (never_here (suc a) ss s.0 (IsDistinct-head nat_eq s.0 (map (λ t. t.number) (starts_of ss)) distinct) h m (same ∙ sym (ap (λ x. x.number) e)))
-numbers_from a (s ∷ ss) distinct h k (inr m) (inr n) same = numbers_from (suc a) ss (IsDistinct-tail nat_eq s.0 (map (λ t. t.number) (starts_of ss)) distinct) h k m n same
+numbers_from a (s ∷ ss) distinct h k (inl e) (inr m) same = absurd (never_here (a + words_for (length s.1)) ss s.0 (IsDistinct-head nat_eq s.0 (map (λ t. t.number) (starts_of ss)) distinct) k m (sym same ∙ sym (ap (λ x. x.number) e)))
+numbers_from a (s ∷ ss) distinct h k (inr m) (inl e) same = absurd (never_here (a + words_for (length s.1)) ss s.0 (IsDistinct-head nat_eq s.0 (map (λ t. t.number) (starts_of ss)) distinct) h m (same ∙ sym (ap (λ x. x.number) e)))
+numbers_from a (s ∷ ss) distinct h k (inr m) (inr n) same = numbers_from (a + words_for (length s.1)) ss (IsDistinct-tail nat_eq s.0 (map (λ t. t.number) (starts_of ss)) distinct) h k m n same
 
 starts_placed : (a : ℕ) (ss : List (ℕ × List Literal)) → map start_of (placed_from a ss) ≡ starts_of ss
 starts_placed a [] = refl
-starts_placed a (s ∷ ss) = ap (λ ts. record { number = s.0; lits = s.1 } ∷ ts) (starts_placed (suc a) ss)
+starts_placed a (s ∷ ss) = ap (λ ts. record { number = s.0; lits = s.1 } ∷ ts) (starts_placed (a + words_for (length s.1)) ss)
 
 -- the clauses that are held tell the pairs
 pub pairs_placed : (a : ℕ) (ss : List (ℕ × List Literal)) → pairs_of (placed_from a ss) ≡ ss
 pairs_placed a [] = refl
-pairs_placed a (s ∷ ss) = ap (λ ts. s ∷ ts) (pairs_placed (suc a) ss)
+pairs_placed a (s ∷ ss) = ap (λ ts. s ∷ ts) (pairs_placed (a + words_for (length s.1)) ss)
 
 -- a fact of each start clause, at its place
 placed_All : (P : Start → Type 0) (Q : ℕ × List Literal → Type 0) (R : Holding → Type 0) (a : ℕ) (ss : List (ℕ × List Literal))
@@ -77,7 +73,7 @@ placed_All : (P : Start → Type 0) (Q : ℕ × List Literal → Type 0) (R : Ho
 placed_All P Q R a [] f p q k d lt = absurd (omega arith)
 placed_All P Q R a (s ∷ ss) f p q zero d lt = f a s (p 0 (record { number = s.0; lits = s.1 }) (omega arith)) (q 0 s (omega arith))
 placed_All P Q R a (s ∷ ss) f p q (suc k) d lt =
-    placed_All P Q R (suc a) ss f (λ i x less. p (suc i) x (omega arith)) (λ i x less. q (suc i) x (omega arith)) k d (omega arith)
+    placed_All P Q R (a + words_for (length s.1)) ss f (λ i x less. p (suc i) x (omega arith)) (λ i x less. q (suc i) x (omega arith)) k d (omega arith)
 
 -- Journals
 
@@ -93,24 +89,22 @@ known_none None = refl
 known_none (Some xs) = ap Some (append-nil xs)
 
 -- what a port has when it is made
-abbrev pub begun_data : ℕ → List (ℕ × List Literal) → ℕ → List Literal → ℕ → LogData → PlainData
-begun_data vars ss n units room g = record { vars = vars; all = placed_from 0 ss; held = placed_from 0 ss; waiting = []; begun = n; opening = units; passed = 0; given = []; given_room = room; written = []; log = g; last = None; stop = None; looks = 0; caught_up = 0 }
+abbrev pub begun_data : ℕ → List (ℕ × List Literal) → List Literal → ℕ → LogData → PlainData
+begun_data vars ss units room g = record { vars = vars; start = placed_from 0 ss; held = placed_from 0 ss; waiting = []; opening = units; passed = 0; given = []; given_room = room; written = []; log = g; last = None; stop = None; looks = 0; caught_up = 0 }
 
 module _ (F : List (List Literal)) (vars : ℕ) (ss : List (ℕ × List Literal)) (units : List Literal) (out : LineState) where
   kept_start : (J : List Entry) → OpensOver F (starts_of ss) units out J → All (λ s. All (IsOn vars) s.1) ss → All (IsKept vars) (placed_from 0 ss)
   kept_start J h on = placed_All (IsStart (book F J)) (λ s. All (IsOn vars) s.1) (IsKept vars) 0 ss (λ b s is ons. record { shape = is.shape; on = ons }) h.opens.starts on
 
-  pub begun_plain : (n room : ℕ) (g : LogData) (J : List Entry) → OpensOver F (starts_of ss) units out J → All (λ s. All (IsOn vars) s.1) ss → All (IsOn vars) units
-      → n ≡ length (placed_from 0 ss) → length units ≤ room → IsPlain (begun_data vars ss n units room g)
-  begun_plain n room g J h on units_on same enough = record {
-    all = kept_start J h on;
-    indexed = λ k d lt. (indexed_from 0 ss k d lt ∙ omega arith);
-    placed = λ k d lt. (ap (slice_get (placed_from 0 ss)) (indexed_from 0 ss k d lt ∙ omega arith) ∙ slice_get_is (placed_from 0 ss) k d lt);
-    apart = apart_from 0 ss;
+  pub begun_plain : (room : ℕ) (g : LogData) (J : List Entry) → OpensOver F (starts_of ss) units out J → All (λ s. All (IsOn vars) s.1) ss → All (IsOn vars) units
+      → length units ≤ room → IsPlain (begun_data vars ss units room g)
+  begun_plain room g J h on units_on enough = record {
+    held = kept_start J h on;
     waiting = λ k d lt. absurd (omega arith);
+    start = kept_start J h on;
+    apart = apart_from 0 ss;
     dropped = λ k d lt. absurd (omega arith);
     once = tt;
-    begun = omega arith;
     opening = units_on;
     distinct = h.opens.distinct;
     passed = omega arith;
@@ -120,20 +114,19 @@ module _ (F : List (List Literal)) (vars : ℕ) (ss : List (ℕ × List Literal)
     stop = tt;
   }
 
-  pub begun_state : (n room : ℕ) (g : LogData) → n ≡ length (placed_from 0 ss) → g.output ≡ out → g.mine ≡ [] → g.ended ≡ false → g.refused ≡ None
-      → state_of (begun_data vars ss n units room g) ≡ begun_with vars ss units out
-  begun_state n room g same output mine going quiet =
-      let whole : take n (placed_from 0 ss) ≡ placed_from 0 ss = take_all n (placed_from 0 ss) (omega arith) in
+  pub begun_state : (room : ℕ) (g : LogData) → g.output ≡ out → g.mine ≡ [] → g.ended ≡ false → g.refused ≡ None
+      → state_of (begun_data vars ss units room g) ≡ begun_with vars ss units out
+  begun_state room g output mine going quiet =
       let all : length units - 0 ≡ length units = omega arith in
-      λ i. record (begun_with vars ss units out) { coming = all i; start = whole i; output = Some (output i); mine = mine i; ended = going i; refused = quiet i }
+      λ i. record (begun_with vars ss units out) { coming = all i; output = Some (output i); mine = mine i; ended = going i; refused = quiet i }
 
   -- the state of a port that has this
-  pub begun_is : (C H : List Holding) (Q : List Cref) (n : ℕ) (V W : List Literal) (room : ℕ) (g : LogData) → C ≡ placed_from 0 ss → H ≡ placed_from 0 ss → Q ≡ [] → n ≡ length C → V ≡ [] → W ≡ []
+  pub begun_is : (S H Q : List Holding) (V W : List Literal) (room : ℕ) (g : LogData) → S ≡ placed_from 0 ss → H ≡ placed_from 0 ss → Q ≡ [] → V ≡ [] → W ≡ []
       → g.output ≡ out → g.mine ≡ [] → g.ended ≡ false → g.refused ≡ None
-      → state_of (record { vars = vars; all = C; held = H; waiting = Q; begun = n; opening = units; passed = 0; given = V; given_room = room; written = W; log = g; last = None; stop = None; looks = 0; caught_up = 0 }) ≡ begun_with vars ss units out
-  begun_is C H Q n V W room g all held none same given written output mine going quiet =
-      (λ i. state_of (record { vars = vars; all = all i; held = held i; waiting = none i; begun = n; opening = units; passed = 0; given = given i; given_room = room; written = written i; log = g; last = None; stop = None; looks = 0; caught_up = 0 }))
-      ∙ begun_state n room g (same ∙ ap (λ (hs : List Holding). length hs) all) output mine going quiet
+      → state_of (record { vars = vars; start = S; held = H; waiting = Q; opening = units; passed = 0; given = V; given_room = room; written = W; log = g; last = None; stop = None; looks = 0; caught_up = 0 }) ≡ begun_with vars ss units out
+  begun_is S H Q V W room g start held none given written output mine going quiet =
+      (λ i. state_of (record { vars = vars; start = start i; held = held i; waiting = none i; opening = units; passed = 0; given = given i; given_room = room; written = written i; log = g; last = None; stop = None; looks = 0; caught_up = 0 }))
+      ∙ begun_state room g output mine going quiet
 
   pub begun_stands : (J : List Entry) → OpensOver F (starts_of ss) units out J → list_any is_empty F ≡ false → out.spent ≡ false
       → StandsOver (record { formula = F; journal = J; output = out }) (begun_with vars ss units out)
@@ -170,37 +163,52 @@ module _ (F : List (List Literal)) (vars : ℕ) (ss : List (ℕ × List Literal)
       among x (inl m) = Contains_In (placed_from 0 ss) x m
       among x (inr m) = absurd (let lt = m.1 in omega arith)
 
--- each start clause is held at its address
-found_from : (a : ℕ) (ss : List (ℕ × List Literal)) (k : ℕ) (d : Holding) → k < length (placed_from a ss) → find (λ h. h.address == (a + k)) (placed_from a ss) ≡ Some (get_or (placed_from a ss) k d)
-found_from a [] k d lt = absurd (omega arith)
-found_from a (s ∷ ss) zero d lt = ap (λ b. cond b (Some (record { address = a; number = s.0; glue = 0; lits = s.1 })) (find (λ h. h.address == (a + 0)) (placed_from (suc a) ss))) (eq-eqb a (a + 0) (omega arith))
-found_from a (s ∷ ss) (suc k) d lt =
-    ap (λ b. cond b (Some (record { address = a; number = s.0; glue = 0; lits = s.1 })) (find (λ h. h.address == (a + suc k)) (placed_from (suc a) ss))) (ne_eqb a (a + suc k) (λ e. absurd (omega arith)))
-    ∙ ap (λ n. find (λ h. h.address == n) (placed_from (suc a) ss)) (omega arith)
-    ∙ found_from (suc a) ss k d (omega arith)
+-- each clause is found at its address, where no two have one
+found_apart : (hs : List Holding) → AreApart hs → (k : ℕ) (d : Holding) → k < length hs → find (λ h. h.address == (get_or hs k d).address) hs ≡ Some (get_or hs k d)
+found_apart [] apart k d lt = absurd (omega arith)
+found_apart (h ∷ hs) apart zero d lt = ap (λ b. cond b (Some h) (find (λ x. x.address == h.address) hs)) (eq-eqb h.address h.address refl)
+found_apart (h ∷ hs) apart (suc k) d lt =
+    ap (λ b. cond b (Some h) (find (λ x. x.address == (get_or hs k d).address) hs)) (ne_eqb h.address (get_or hs k d).address (λ e. apart.0 k d (omega arith) (sym e)))
+    ∙ found_apart hs apart.1 k d (omega arith)
 
+-- each start clause is held at its address
 pub begun_holds : (vars : ℕ) (ss : List (ℕ × List Literal)) (units : List Literal) (out : LineState) → HoldsStart (begun_with vars ss units out)
 unfolding held_at
-begun_holds vars ss units out k d lt = ap (λ n. find (λ h. h.address == n) (placed_from 0 ss)) (indexed_from 0 ss k d lt) ∙ found_from 0 ss k d lt
+begun_holds vars ss units out k d lt = found_apart (placed_from 0 ss) (apart_from 0 ss) k d lt
 
 -- one start clause more
-pub kept_one : (ss : List (ℕ × List Literal)) (s : ℕ × List Literal) (hs : List Holding) (lits : List Literal) → hs ≡ placed_from 0 ss → lits ≡ s.1
-    → hs ++ record { address = length hs; number = s.0; glue = 0; lits = lits } ∷ [] ≡ placed_from 0 (ss ++ s ∷ [])
-kept_one ss s hs lits held same =
-    ap (λ xs. xs ++ record { address = length xs; number = s.0; glue = 0; lits = lits } ∷ []) held
-    ∙ ap (λ c. placed_from 0 ss ++ record { address = length (placed_from 0 ss); number = s.0; glue = 0; lits = c } ∷ []) same
-    ∙ ap (λ a. placed_from 0 ss ++ record { address = a; number = s.0; glue = 0; lits = s.1 } ∷ []) (let n = length-placed_from 0 ss in omega arith)
-    ∙ sym (placed_from-push 0 ss s)
+pub kept_one : (ss : List (ℕ × List Literal)) (s : ℕ × List Literal) (hs new : List Holding) (end : ℕ) → hs ≡ placed_from 0 ss → end ≡ words_of ss
+    → new ≡ hs ++ record { address = end; number = s.0; glue = 0; lits = s.1 } ∷ [] → new ≡ placed_from 0 (ss ++ s ∷ [])
+kept_one ss s hs new end held last is =
+    let place : end ≡ 0 + words_of ss = omega arith in
+    is ∙ (λ i. held i ++ record { address = place i; number = s.0; glue = 0; lits = s.1 } ∷ []) ∙ sym (placed_from-push 0 ss s)
 
--- the addresses of clauses that stand at those of their places
-abbrev pub at_address : ℕ → Cref
-at_address a = record { address = a }
+-- a store that has the same clauses and words
+pub all_held_same : (old new : StoreData) → AreAllHeld old → new.start ≡ old.start → new.held ≡ old.held → new.waiting ≡ old.waiting → new.end ≡ old.end → AreAllHeld new
+all_held_same old new h start held waiting end = record {
+  placed = start ∙ h.placed ∙ ap (λ hs. placed_from 0 (pairs_of hs)) (sym start);
+  held = held ∙ h.held ∙ sym start;
+  none_waits = waiting ∙ h.none_waits;
+  end = end ∙ h.end ∙ ap (λ hs. words_of (pairs_of hs)) (sym start);
+}
 
-pub indexed_addresses : (a n : ℕ) (hs : List Holding) → ((k : ℕ) (d : Holding) → k < length hs → (get_or hs k d).address ≡ a + k) → n ≤ length hs → map at_address (range_with_len a n) ≡ map (λ h. at_address h.address) (take n hs)
-indexed_addresses a zero hs at le = refl
-indexed_addresses a (suc n) [] at le = absurd (omega arith)
-indexed_addresses a (suc n) (h ∷ hs) at le =
-    (λ i. at_address (let first : a ≡ h.address = omega (arith, at 0 h (omega arith)) in first i) ∷ (indexed_addresses (a + 1) n hs (λ k d lt. (let e = at (suc k) d (omega arith) in omega arith)) (omega arith)) i)
+-- a store that has one more behind all others
+pub start_more : (old new : StoreData) → AreAllHeld old → (s : ℕ × List Literal) → new.start ≡ old.start ++ record { address = old.end; number = s.0; glue = 0; lits = s.1 } ∷ [] → new.start ≡ placed_from 0 (pairs_of old.start ++ s ∷ [])
+start_more old new h s start = kept_one (pairs_of old.start) s old.start new.start old.end h.placed h.end start
+
+pub pairs_more : (old new : StoreData) → AreAllHeld old → (s : ℕ × List Literal) → new.start ≡ old.start ++ record { address = old.end; number = s.0; glue = 0; lits = s.1 } ∷ [] → pairs_of new.start ≡ pairs_of old.start ++ s ∷ []
+pairs_more old new h s start = ap pairs_of (start_more old new h s start) ∙ pairs_placed 0 (pairs_of old.start ++ s ∷ [])
+
+pub all_held_more : (old new : StoreData) → AreAllHeld old → (s : ℕ × List Literal) → new.start ≡ old.start ++ record { address = old.end; number = s.0; glue = 0; lits = s.1 } ∷ []
+    → new.held ≡ old.held ++ record { address = old.end; number = s.0; glue = 0; lits = s.1 } ∷ [] → new.waiting ≡ old.waiting → new.end ≡ old.end + words_for (length s.1) → AreAllHeld new
+all_held_more old new h s start held waiting end =
+    let pairs = pairs_more old new h s start in
+    record {
+      placed = start_more old new h s start ∙ ap (placed_from 0) (sym pairs);
+      held = held ∙ ap (λ hs. hs ++ record { address = old.end; number = s.0; glue = 0; lits = s.1 } ∷ []) h.held ∙ sym start;
+      none_waits = waiting ∙ h.none_waits;
+      end = end ∙ ap (λ n. n + words_for (length s.1)) h.end ∙ sym (words_of-push (pairs_of old.start) s) ∙ ap words_of (sym pairs);
+    }
 
 -- one number more
 range_next : (a n : ℕ) → range_with_len a n ++ (a + n) ∷ [] ≡ range_with_len a (suc n)

@@ -1,40 +1,21 @@
--- Lists of clauses at addresses: those that are dropped, and those that wait.
-use Rattle.std.proofs.Common.{◌≡◌, ◌≢◌, ℕ, zero, suc, ◌<◌, ◌==◌, Bool, true, false, cond, List, [], ◌∷◌, ◌++◌, length, get_or, sym, refl, ap, subst, ◌∙◌, inl, inr, arith, Some, None, ne_eqb}
-use Rattle.std.specs.List.{All, find, slice_get, filter_map}
-use Rattle.std.specs.Prelude.{is_some, is_ok, is_err, if◌then◌else◌, Result, Ok, Err}
+-- Lists of clauses at addresses, of which one is dropped.
+use Rattle.std.proofs.Common.{◌≡◌, ◌≢◌, ℕ, zero, suc, ◌==◌, Bool, true, false, cond, List, [], ◌∷◌, ◌++◌, sym, refl, ap, subst, ◌∙◌, inl, inr, arith, Some, None, ne_eqb}
+use Rattle.std.specs.List.{All, find, slice_get}
+use Rattle.std.specs.Prelude.{is_some}
 use Rattle.std.specs.Option.{unwrap_or}
-use Rattle.std.specs.declared.option.Option.{Option}
 use Rattle.std.proofs.lemmas.Bool.{eqb-true, eqb-false, true≢false, false≢true}
-use Rattle.std.proofs.lemmas.List.Elements.{All-append, filter_map-append}
+use Rattle.std.proofs.lemmas.List.Elements.{All-append}
 use Rattle.rup_model.proofs.Lists.{In}
-use Rattle.sat_words.specs.declared.shared.Cref.{Cref}
 use Rattle.ring_port.specs.PortState.{Holding, AreApart}
 use Rattle.ring_port.specs.Deleting.{without_one}
-use Rattle.ring_port.specs.PlainPort.{kept_at}
 use Rattle.ring_port.proofs.Holdings.{All_In}
-use Rattle.ring_port.proofs.StoreLemmas.{slice_get_is}
 use Rattle.ring_port.proofs.LogSteps.{In_All, one_All}
 
--- Elements at places
-
-pub some_inside : {X : Type 0} (xs : List X) (i : ℕ) (x : X) → slice_get xs i ≡ Some x → i < length xs
-some_inside [] i x e = absurd (false≢true (ap is_some e))
-some_inside (y ∷ xs) zero x e = omega arith
-some_inside (y ∷ xs) (suc i) x e = let lt = some_inside xs i x e in omega arith
-
+-- an element at a place
 pub some_In : {X : Type 0} (xs : List X) (i : ℕ) (x : X) → slice_get xs i ≡ Some x → In x xs
 some_In [] i x e = absurd (false≢true (ap is_some e))
 some_In (y ∷ xs) zero x e = inl (ap (λ o. unwrap_or o x) e)
 some_In (y ∷ xs) (suc i) x e = inr (some_In xs i x e)
-
-pub get_in_front : {X : Type 0} (xs ys : List X) (i : ℕ) → i < length xs → slice_get (xs ++ ys) i ≡ slice_get xs i
-get_in_front [] ys i lt = absurd (omega arith)
-get_in_front (x ∷ xs) ys zero lt = refl
-get_in_front (x ∷ xs) ys (suc i) lt = get_in_front xs ys i (omega arith)
-
-pub get_behind : {X : Type 0} (xs : List X) (x : X) → slice_get (xs ++ x ∷ []) (length xs) ≡ Some x
-get_behind [] x = refl
-get_behind (y ∷ xs) x = get_behind xs x
 
 -- Clauses at different addresses
 
@@ -124,53 +105,3 @@ find_other (h ∷ hs) a b ne = by (h.address == a) (h.address == b) refl refl (f
     by true false p q r = rw (p, q) refl
     by false true p q r = rw (p, q) refl
     by false false p q r = rw (p, q) r
-
--- Clauses that wait
-
-none : Holding
-none = record { address = 0; number = 0; glue = 0; lits = [] }
-
-pub kept_pushed_at : (all : List Holding) (cs : List Cref) (c : Cref) (h : Holding) → slice_get all c.address ≡ Some h → kept_at all (cs ++ c ∷ []) ≡ kept_at all cs ++ h ∷ []
-kept_pushed_at all cs c h e = filter_map-append (λ (x : Cref). slice_get all x.address) cs (c ∷ []) ∙ ap (λ hs. kept_at all cs ++ hs) (one (slice_get all c.address) e)
-  where
-    one : (o : Option Holding) → o ≡ Some h → filter_map (λ (x : Cref). slice_get all x.address) (c ∷ []) ≡ h ∷ []
-    one o is = rw e refl
-
-pub kept_first : (all : List Holding) (c : Cref) (cs : List Cref) (h : Holding) → slice_get all c.address ≡ Some h → kept_at all (c ∷ cs) ≡ h ∷ kept_at all cs
-kept_first all c cs h e = rw e refl
-
-pub kept_grown : (all : List Holding) (x : Holding) (cs : List Cref) → All (λ c. c.address < length all) cs → kept_at (all ++ x ∷ []) cs ≡ kept_at all cs
-kept_grown all x [] inside = refl
-kept_grown all x (c ∷ cs) inside = rw (get_in_front all (x ∷ []) c.address (inside 0 c (omega arith)), kept_grown all x cs (λ k d lt. inside (suc k) d (omega arith))) refl
-
-pub length_kept : (all : List Holding) (cs : List Cref) → All (λ c. c.address < length all) cs → length (kept_at all cs) ≡ length cs
-length_kept all [] inside = refl
-length_kept all (c ∷ cs) inside = by (slice_get all c.address) refl (length_kept all cs (λ k d lt. inside (suc k) d (omega arith)))
-  where
-    here : slice_get all c.address ≡ Some (get_or all c.address none)
-    here = slice_get_is all c.address none (inside 0 c (omega arith))
-
-    by : (o : Option Holding) → slice_get all c.address ≡ o → length (kept_at all cs) ≡ length cs → length (kept_at all (c ∷ cs)) ≡ length (c ∷ cs)
-    by None e rest = absurd (true≢false (ap is_some (sym here ∙ e)))
-    by (Some h) e rest = rw e (ap suc rest)
-
-pub All_kept : (P : Holding → Type 0) (all : List Holding) (cs : List Cref) → All P all → All P (kept_at all cs)
-All_kept P all [] each = λ k d lt. absurd (omega arith)
-All_kept P all (c ∷ cs) each = by (slice_get all c.address) refl (All_kept P all cs each)
-  where
-    by : (o : Option Holding) → slice_get all c.address ≡ o → All P (kept_at all cs) → All P (kept_at all (c ∷ cs))
-    by None e rest = rw e rest
-    by (Some h) e rest = rw e (λ k d lt. step k d lt)
-      where
-        step : All P (h ∷ kept_at all cs)
-        step zero d lt = All_In P all h each (some_In all c.address h e)
-        step (suc k) d lt = rest k d (omega arith)
-
--- what a queue has after a push that went well, or didn't
-pub pushed_ok : {A E : Type 0} (r : Result A E) (xs ys zs : List Cref) → zs ≡ (if is_ok r then xs else ys) → is_err r ≡ false → zs ≡ xs
-pushed_ok (Ok a) xs ys zs e well = e
-pushed_ok (Err x) xs ys zs e well = absurd (true≢false well)
-
-pub pushed_err : {A E : Type 0} (r : Result A E) (xs ys zs : List Cref) → zs ≡ (if is_ok r then xs else ys) → is_err r ≡ true → zs ≡ ys
-pushed_err (Ok a) xs ys zs e badly = absurd (false≢true badly)
-pushed_err (Err x) xs ys zs e badly = e

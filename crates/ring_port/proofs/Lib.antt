@@ -1,7 +1,8 @@
 pub mod Holdings
-pub mod StoreLemmas
 pub mod LogSteps
 pub mod Dropping
+pub mod Spares
+pub mod Stretches
 pub mod Reductions
 pub mod Deletions
 pub mod Tidying

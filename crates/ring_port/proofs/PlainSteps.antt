@@ -1,6 +1,6 @@
 -- What the calls of a port in memory keep of the one journal behind it.
-use Rattle.std.proofs.Common.{◌≡◌, ◌≢◌, ℕ, ◌+◌, ◌-◌, ◌≤◌, ◌==◌, inl, inr, ⊎_elim, drop, true, false, not, List, [], ◌∷◌, ◌++◌, length, take, sym, refl, ap, subst, ◌∙◌, arith, Some, None, Result, Ok, Err, IsSome, append_assoc, append-nil, length-append}
-use Rattle.std.specs.List.{All, Contains, find, slice_get, list_any}
+use Rattle.std.proofs.Common.{◌≡◌, ◌≢◌, ℕ, ◌+◌, ◌-◌, ◌≤◌, inl, inr, ⊎_elim, drop, true, false, not, List, [], ◌∷◌, ◌++◌, length, take, sym, refl, ap, subst, ◌∙◌, arith, Some, None, Result, Ok, Err, IsSome, append_assoc, append-nil, length-append}
+use Rattle.std.specs.List.{All, Contains, find}
 use Rattle.rup_model.proofs.Lists.{In, In_append, In_Contains, Contains_In}
 use Rattle.std.specs.Option.{option_map}
 use Rattle.std.specs.declared.option.Option.{Option}
@@ -23,12 +23,12 @@ use Rattle.ring_port.specs.PortState.{Holding, PortState, AreApart, IsKept, IsOn
 use Rattle.ring_port.specs.Port.{is_usable, holding_of, last_after, AddedClause}
 use Rattle.ring_port.specs.Log.{Origin, Keeps, StandsOver, KeepsLog, journal_of}
 use Rattle.ring_port.specs.OwnLog.{LogData, AddedEntry, DeletedEntry, NotPut, WasReduced, own_entry}
-use Rattle.ring_port.specs.PlainPort.{PlainData, kept_at, state_of, IsPlain}
+use Rattle.ring_port.specs.PlainPort.{PlainData, state_of, IsPlain}
 use Rattle.ring_port.specs.Exchange.{OfferedAs}
 use Rattle.ring_port.specs.Deleting.{without_one, unless_at, deletions, DroppedOnce, TidiedUpTo}
 use Rattle.ring_port.proofs.Holdings.{All_In}
-use Rattle.ring_port.proofs.Dropping.{is_at, find_In, some_In, never_at, gone, without_in, All_without, kept_pushed_at, kept_first, kept_grown}
-use Rattle.ring_port.proofs.PlainLemmas.{pushed_data, dropped_data, start_stays, free_behind, waits_nowhere, found_pushed, same_lookup}
+use Rattle.ring_port.proofs.Dropping.{is_at, find_In, never_at, gone, without_in, All_without}
+use Rattle.ring_port.proofs.PlainLemmas.{pushed_data, dropped_data, free_of, waits_nowhere, found_pushed, same_lookup}
 use Rattle.ring_port.proofs.LogSteps.{one_All, output_of, held_next, added_here, all_told_next, told_here, ended_next, ended_stays, number_is, stands_after, stands_failed, stands_with, numbers_next, accepted_next, caused_same}
 use Rattle.ring_port.proofs.Deletions.{accepted_deletion, stands_deleted, stands_dropped}
 use Rattle.ring_port.proofs.Reductions.{stands_reduced}
@@ -66,14 +66,13 @@ clause_keeps p r g lits kind number glue address last plain usable long on follo
     let next = number_is o s h refl lits kind number follows added.going on p.log.output g.output refl (unspent_of o p h usable) added.put in
     let held = All-append (λ c. (book o.formula (o.journal ++ (p.log.mine ++ own_entry number lits kind ∷ []))).clause c.number ≡ Some c.lits) p.held (x ∷ []) (held_next o s h refl lits kind number)
     (one_All (λ c. (book o.formula (o.journal ++ (p.log.mine ++ own_entry number lits kind ∷ []))).clause c.number ≡ Some c.lits) x (added_here o s h refl lits kind number next)) in
-    let pushed : LogData → PortState = λ k. record (state_of (record p { held = p.held ++ x ∷ []; log = k; last = last })) { waiting = kept_at p.all p.waiting; start = take (p.begun) p.all } in
-    subst (StandsOver o) (λ i. record (pushed g) { waiting = sym (kept_grown p.all x p.waiting plain.waiting) i; start = sym (start_stays (p.begun) p.all x plain.begun) i })
-    (subst (λ k. StandsOver o (pushed k)) (sym added.state)
+    let pushed : LogData → PortState = λ k. state_of (record p { held = p.held ++ x ∷ []; log = k; last = last }) in
+    subst (λ k. StandsOver o (pushed k)) (sym added.state)
     (stands_after o s h refl lits kind number follows added.going on p.log.output g.output refl (unspent_of o p h usable) added.put
     (p.held ++ x ∷ []) (take p.passed p.opening ++ p.written) (option_map (λ c. c.address) last) p.log.ended
     held (all_told_next o s h refl lits kind number (take p.passed p.opening ++ p.written) h.seen)
     (h.ended ∙ sym (ended_stays o s h refl lits kind number (some_literal lits long)))
-    (numbers_next o s h refl lits kind number x next (pushed (record p.log { output = g.output; mine = p.log.mine ++ own_entry number lits kind ∷ []; room = g.room })) refl refl)))
+    (numbers_next o s h refl lits kind number x next (pushed (record p.log { output = g.output; mine = p.log.mine ++ own_entry number lits kind ∷ []; room = g.room })) refl refl))
 
 -- the empty clause
 pub empty_keeps : (p : PlainData) (r : ℕ) (g : LogData) (kind : Kind) (number : ℕ)
@@ -196,87 +195,81 @@ offer_did p (Some class) a some = record {
   few = omega arith;
   same = λ b. same_lookup (state_of p) (state_of (record p { last = None })) b refl;
   often = λ b. refl;
-  state = λ i. record (state_of (record p { last = None })) { waiting = sym (append-nil (kept_at p.all p.waiting)) i };
+  state = λ i. record (state_of (record p { last = None })) { waiting = sym (append-nil (p.waiting)) i };
 }
 
 -- what a longer clause did to the port
-pub clause_put : (p : PlainData) → IsPlain p → (r : ℕ) (g : LogData) (lits : List Literal) (kind : Kind) (number glue : ℕ) (c : Cref) (last : Option Cref) → c.address ≡ length p.all
+pub clause_put : (p : PlainData) → (r : ℕ) (g : LogData) (lits : List Literal) (kind : Kind) (number glue : ℕ) (c : Cref) (last : Option Cref)
+    → All (λ h. h.address ≢ c.address) p.held → All (λ h. h.address ≢ c.address) p.waiting
     → 2 ≤ length lits → option_map (λ x. x.address) last ≡ last_after kind (option_map (λ x. x.address) p.last) c.address → AddedEntry (record p.log { room = r }) g lits kind number
     → AddedClause (state_of p) (state_of (pushed_data p (holding_of c number glue lits) g last)) lits glue kind c
-clause_put p plain r g lits kind number glue c last at long is added =
+clause_put p r g lits kind number glue c last not_held not_waiting long is added =
     let x : Holding = holding_of c number glue lits in
     let grown : LogData = record p.log { room = g.room; output = g.output; mine = p.log.mine ++ own_entry number lits kind ∷ [] } in
-    let none : held_at (state_of p) c.address ≡ None = ap (held_at (state_of p)) at ∙ free_behind p plain in
+    let none : held_at (state_of p) c.address ≡ None = free_of (state_of p) c.address not_held in
     record {
       number = number;
       going = added.going;
       long = long;
-      free = record { not_held = none; not_waiting = ap (λ a. list_any (λ k. k.address == a) (kept_at p.all p.waiting)) at ∙ waits_nowhere p plain };
+      free = record { not_held = none; not_waiting = waits_nowhere p.waiting c.address not_waiting };
       there = found_pushed (state_of p) (state_of (pushed_data p x g last)) x refl none;
       state = ap (λ k. state_of (pushed_data p x k last)) added.state
-          ∙ (λ i. record (state_of (pushed_data p x grown last)) { waiting = kept_grown p.all x p.waiting plain.waiting i; start = start_stays (p.begun) p.all x plain.begun i; last = is i });
+          ∙ (λ i. record (state_of (pushed_data p x grown last)) { last = is i });
     }
 
 -- a clause is dropped, and waits
-module _ (p : PlainData) (plain : IsPlain p) (c : Cref) (x : Holding) (there : slice_get p.all c.address ≡ Some x) (held : find (is_at c.address) p.held ≡ Some x) where
-  more_waits : kept_at p.all (p.waiting ++ c ∷ []) ≡ kept_at p.all p.waiting ++ x ∷ []
-  more_waits = kept_pushed_at p.all p.waiting c x there
-
-  drop_waits : KeepsLog (state_of p) (state_of (dropped_data p c))
+module _ (p : PlainData) (plain : IsPlain p) (a : ℕ) (x : Holding) (held : find (is_at a) p.held ≡ Some x) where
+  drop_waits : KeepsLog (state_of p) (state_of (dropped_data p a x))
   drop_waits o h =
-      let among : In x p.held = find_In (is_at c.address) p.held x held in
+      let among : In x p.held = find_In (is_at a) p.held x held in
       let P : Holding → Type 0 = λ k. (book o.formula (journal_of o (state_of p))).clause k.number ≡ Some k.lits in
-      subst (λ ws. StandsOver o (record (state_of p) { held = without_one p.held c.address; waiting = ws })) (sym more_waits)
-      (stands_dropped o (state_of p) h (without_one p.held c.address) (kept_at p.all p.waiting ++ x ∷ []) keeps
-      (All_without P p.held c.address h.held)
-      (All-append P (kept_at p.all p.waiting) (x ∷ []) h.waiting (one_All P x (All_In P p.held x h.held among))))
+      stands_dropped o (state_of p) h (without_one p.held a) (p.waiting ++ x ∷ []) keeps
+      (All_without P p.held a h.held)
+      (All-append P p.waiting (x ∷ []) h.waiting (one_All P x (All_In P p.held x h.held among)))
     where
-      keeps : (y : Holding) → Keeps (record (state_of p) { held = without_one p.held c.address; waiting = kept_at p.all p.waiting ++ x ∷ [] }) y → Keeps (state_of p) y
-      keeps y (inl m) = inl (In_Contains p.held y (without_in p.held c.address y (Contains_In (without_one p.held c.address) y m)))
-      keeps y (inr m) = ⊎_elim (λ k. inr (In_Contains (kept_at p.all p.waiting) y k)) (λ k. last k) (In_append (kept_at p.all p.waiting) (x ∷ []) y (Contains_In (kept_at p.all p.waiting ++ x ∷ []) y m))
+      keeps : (y : Holding) → Keeps (record (state_of p) { held = without_one p.held a; waiting = p.waiting ++ x ∷ [] }) y → Keeps (state_of p) y
+      keeps y (inl m) = inl (In_Contains p.held y (without_in p.held a y (Contains_In (without_one p.held a) y m)))
+      keeps y (inr m) = ⊎_elim (λ k. inr (In_Contains p.waiting y k)) (λ k. last k) (In_append p.waiting (x ∷ []) y (Contains_In (p.waiting ++ x ∷ []) y m))
         where
           last : In y (x ∷ []) → Keeps (state_of p) y
-          last (inl e) = inl (subst (Contains p.held) e (In_Contains p.held x (find_In (is_at c.address) p.held x held)))
+          last (inl e) = inl (subst (Contains p.held) e (In_Contains p.held x (find_In (is_at a) p.held x held)))
           last (inr k) = absurd k
 
-  pub drop_keeps : (last : Option Cref) → KeepsLog (state_of p) (state_of (record (dropped_data p c) { last = last }))
-  drop_keeps last o h = last_keeps (dropped_data p c) last o (drop_waits o h)
+  pub drop_keeps : (last : Option Cref) → KeepsLog (state_of p) (state_of (record (dropped_data p a x) { last = last }))
+  drop_keeps last o h = last_keeps (dropped_data p a x) last o (drop_waits o h)
 
-  pub drop_did : (last : Option Cref) → option_map (λ k. k.address) last ≡ unless_at (option_map (λ k. k.address) p.last) c.address
-      → DroppedOnce (state_of p) (state_of (record (dropped_data p c) { last = last })) c.address
+  pub drop_did : (last : Option Cref) → option_map (λ k. k.address) last ≡ unless_at (option_map (λ k. k.address) p.last) a
+      → DroppedOnce (state_of p) (state_of (record (dropped_data p a x) { last = last })) a
   unfolding held_at
   drop_did last is = record {
     clause = x;
     there = held;
-    waits = inr (more_waits, gone p.held c.address plain.apart);
-    alone = λ one none. more_waits;
-    state = λ i. record (state_of (dropped_data p c)) { last = is i };
+    waits = inr (refl, gone p.held a plain.apart);
+    alone = λ one none. refl;
+    state = λ i. record (state_of (dropped_data p a x)) { last = is i };
   }
 
 -- the first clause that waits is deleted
-module _ (p : PlainData) (plain : IsPlain p) (c : Cref) (cs : List Cref) (first : p.waiting ≡ c ∷ cs) (x : Holding) (there : slice_get p.all c.address ≡ Some x) (r : ℕ) (g : LogData) (usable : is_usable p.log.refused ≡ true) where
-  waits_first : kept_at p.all p.waiting ≡ x ∷ kept_at p.all cs
-  waits_first = ap (kept_at p.all) first ∙ kept_first p.all c cs x there
-
+module _ (p : PlainData) (plain : IsPlain p) (x : Holding) (xs : List Holding) (first : p.waiting ≡ x ∷ xs) (r : ℕ) (g : LogData) (usable : is_usable p.log.refused ≡ true) where
   kept_x : IsKept p.vars x
-  kept_x = All_In (IsKept p.vars) p.all x plain.all (some_In p.all c.address x there)
+  kept_x = (subst (All (IsKept p.vars)) first plain.waiting) 0 x (omega arith)
 
   not_held : All (λ k. k ≢ x) p.held
-  not_held k d lt e = never_at p.held x.address ((subst (All (λ y. find (is_at y.address) p.held ≡ None)) waits_first plain.dropped) 0 x (omega arith)) k d lt (ap (λ y. y.address) e)
+  not_held k d lt e = never_at p.held x.address ((subst (All (λ y. find (is_at y.address) p.held ≡ None)) first plain.dropped) 0 x (omega arith)) k d lt (ap (λ y. y.address) e)
 
-  waits_once : All (λ k. k ≢ x) (kept_at p.all cs)
-  waits_once k d lt e = (subst AreApart waits_first plain.once).0 k d lt (ap (λ y. y.address) e)
+  waits_once : All (λ k. k ≢ x) xs
+  waits_once k d lt e = (subst AreApart first plain.once).0 k d lt (ap (λ y. y.address) e)
 
-  pub deletion_keeps : DeletedEntry (record p.log { room = r }) g x.lits x.number → KeepsLog (state_of p) (state_of (record p { waiting = cs; log = g }))
+  pub deletion_keeps : DeletedEntry (record p.log { room = r }) g x.lits x.number → KeepsLog (state_of p) (state_of (record p { waiting = xs; log = g }))
   deletion_keeps did o h =
-      subst (λ k. StandsOver o (state_of (record p { waiting = cs; log = k }))) (sym did.state)
-      (stands_deleted o (state_of p) h x (kept_at p.all cs) waits_first kept_x.shape did.going not_held waits_once p.log.output g.output refl (unspent_of o p h usable) did.given did.put)
+      subst (λ k. StandsOver o (state_of (record p { waiting = xs; log = k }))) (sym did.state)
+      (stands_deleted o (state_of p) h x xs first kept_x.shape did.going not_held waits_once p.log.output g.output refl (unspent_of o p h usable) did.given did.put)
 
-  pub deletion_did : DeletedEntry (record p.log { room = r }) g x.lits x.number → TidiedUpTo (state_of p) (state_of (record p { waiting = cs; log = g })) 1
+  pub deletion_did : DeletedEntry (record p.log { room = r }) g x.lits x.number → TidiedUpTo (state_of p) (state_of (record p { waiting = xs; log = g })) 1
   deletion_did did = record {
     going = λ some. did.going;
-    state = ap (λ k. state_of (record p { waiting = cs; log = k })) did.state
-        ∙ (λ i. record (state_of p) { waiting = drop 1 (sym waits_first i); mine = p.log.mine ++ deletions 0 (take 1 (sym waits_first i)); output = Some g.output });
+    state = ap (λ k. state_of (record p { waiting = xs; log = k })) did.state
+        ∙ (λ i. record (state_of p) { waiting = drop 1 (sym first i); mine = p.log.mine ++ deletions 0 (take 1 (sym first i)); output = Some g.output });
   }
 
   pub deletion_refused : (stop : PortStop) → NotPut (record p.log { room = r }) g (DelLine x.lits) stop → KeepsLog (state_of p) (state_of (record p { log = g }))
@@ -287,7 +280,7 @@ module _ (p : PlainData) (plain : IsPlain p) (c : Cref) (cs : List Cref) (first 
   deletion_refused Broken why o h = absurd why
   deletion_refused ProofFault why o h =
       subst (λ k. StandsOver o (state_of (record p { log = k }))) (sym why.state)
-      (stands_failed o (state_of p) h (DelLine x.lits) (accepted_deletion o (state_of p) h x (kept_at p.all cs) waits_first kept_x.shape why.going) kept_x.on p.log.output g.output refl (unspent_of o p h usable) why.put)
+      (stands_failed o (state_of p) h (DelLine x.lits) (accepted_deletion o (state_of p) h x xs first kept_x.shape why.going) kept_x.on p.log.output g.output refl (unspent_of o p h usable) why.put)
   deletion_refused (NoHole lack) why o h =
       subst (λ k. StandsOver o (state_of (record p { log = k }))) (sym why.state)
       (stands_with o (state_of p) h p.log.output refl (take p.passed p.opening ++ p.written) p.given (length p.opening - p.passed) p.stop p.looks (Some (NoHole lack)) p.log.ended

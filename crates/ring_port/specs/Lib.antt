@@ -4,6 +4,7 @@ pub mod Deleting
 pub mod Reducing
 pub mod Exchange
 pub mod Log
+pub mod Spare
 pub mod Store
 pub mod OwnLog
 pub mod PlainPort

@@ -1,6 +1,5 @@
 -- What a port in memory has, and what is kept of it.
-use Rattle.std.specs.Prelude.{◌≡◌, ℕ, ◌+◌, ◌-◌, ◌<◌, ◌≤◌, ◌==◌, true, false, suc, List, [], ◌∷◌, ◌++◌, map, length, take, find, All, Option, Some, None, IfSome, Result, Ok, Err, ⊤}
-use Rattle.std.specs.List.{slice_index_or, slice_get, filter_map}
+use Rattle.std.specs.Prelude.{◌≡◌, ℕ, ◌+◌, ◌-◌, ◌<◌, ◌≤◌, ◌==◌, true, false, List, [], ◌∷◌, ◌++◌, map, length, take, find, All, Option, Some, None, IfSome, Result, Ok, Err, ⊤}
 use Rattle.std.specs.Option.{option_map}
 use Rattle.sat_words.specs.Literal.{Literal}
 use Rattle.sat_words.specs.Clause.{has, distinct_lits}
@@ -17,18 +16,17 @@ use Rattle.ring_port.specs.declared.stops.PortStop.{PortStop}
 use Rattle.ring_port.specs.declared.stops.PortStop.TheVariants.{Ended, Broken, ProofFault, NoHole, Memory}
 use Rattle.ring_port.specs.PortState.{Holding, PortState, AreApart, IsKept, IsOn}
 use Rattle.ring_port.specs.OwnLog.{LogData}
+use Rattle.clause_cell.specs.Packing.{words_for}
 use Rattle.ring_port.specs.Store.{StoreData}
 
--- all clauses that were ever kept, each at its place; those that are held; the addresses of those that wait, in order; how many
--- of the first are start clauses; the units of the opening, and how many of
+-- the start clauses; those that are held; those that wait, in order; the units of the opening, and how many of
 -- them were given, or written before it came to them; the units given, and for how many more there is room; the units
 -- written; the log; the clause learned last; the stop, and how often none was found; how often no unit was left
 pub record PlainData : Type 0 where
   pub vars : ℕ
-  pub all : List Holding
+  pub start : List Holding
   pub held : List Holding
-  pub waiting : List Cref
-  pub begun : ℕ
+  pub waiting : List Holding
   pub opening : List Literal
   pub passed : ℕ
   pub given : List Literal
@@ -40,21 +38,17 @@ pub record PlainData : Type 0 where
   pub looks : ℕ
   pub caught_up : ℕ
 
--- the clauses at these addresses
-abbrev pub kept_at : List Holding → List Cref → List Holding
-kept_at all cs = filter_map (λ c. slice_get all c.address) cs
-
 -- the port of ring 0, of 1 ring
 abbrev pub state_of : PlainData → PortState
 state_of p = record {
   held = p.held;
-  waiting = kept_at p.all p.waiting;
+  waiting = p.waiting;
   seen = take p.passed p.opening ++ p.written;
   given = p.given;
   coming = length p.opening - p.passed;
   kept = 0;
   caught_up = p.caught_up;
-  start = take p.begun p.all;
+  start = p.start;
   opening = p.opening;
   mine = p.log.mine;
   shared = 0;
@@ -74,26 +68,20 @@ state_of p = record {
   home = [];
 }
 
--- each clause stands at the address of its place
-abbrev pub IsIndexed : List Holding → Type 0
-IsIndexed hs = (k : ℕ) (d : Holding) → k < length hs → (slice_index_or hs k d).address ≡ k
-
 -- of one of the five kinds, by ring 0
 pub record IsOwnStop (x : Stop) : Type 0 where
   pub low : STOP_SAT ≤ x.kind
   pub high : x.kind ≤ STOP_MEMORY
   pub own : x.ring ≡ 0
 
--- what is kept of the port: a clause that is held, or waits, is the one at its place, and once only
+-- what is kept of the port: no address has two of the clauses that are held and that wait
 pub record IsPlain (p : PlainData) : Type 0 where
-  pub all : All (IsKept p.vars) p.all
-  pub indexed : IsIndexed p.all
-  pub placed : All (λ h. slice_get p.all h.address ≡ Some h) p.held
+  pub held : All (IsKept p.vars) p.held
+  pub waiting : All (IsKept p.vars) p.waiting
+  pub start : All (IsKept p.vars) p.start
   pub apart : AreApart p.held
-  pub waiting : All (λ c. c.address < length p.all) p.waiting
-  pub dropped : All (λ h. find (λ k. k.address == h.address) p.held ≡ None) (kept_at p.all p.waiting)
-  pub once : AreApart (kept_at p.all p.waiting)
-  pub begun : p.begun ≤ length p.all
+  pub dropped : All (λ h. find (λ k. k.address == h.address) p.held ≡ None) p.waiting
+  pub once : AreApart p.waiting
   pub opening : All (IsOn p.vars) p.opening
   pub distinct : distinct_lits p.opening ≡ true
   pub passed : p.passed ≤ length p.opening
@@ -117,15 +105,22 @@ starts_of ss = map (λ s. record { number = s.0; lits = s.1 }) ss
 abbrev pub pairs_of : List Holding → List (ℕ × List Literal)
 pairs_of hs = map (λ (h : Holding). (h.number, h.lits)) hs
 
--- the start clauses at the addresses from a on
+-- the start clauses, one behind the other from word a on
 abbrev pub placed_from : ℕ → List (ℕ × List Literal) → List Holding
 placed_from a [] = []
-placed_from a (s ∷ ss) = record { address = a; number = s.0; glue = 0; lits = s.1 } ∷ placed_from (suc a) ss
+placed_from a (s ∷ ss) = record { address = a; number = s.0; glue = 0; lits = s.1 } ∷ placed_from (a + words_for (length s.1)) ss
 
--- the clauses of a store stand at the addresses from 0 on with glue 0, and none was dropped
+-- how many words they take
+abbrev pub words_of : List (ℕ × List Literal) → ℕ
+words_of [] = 0
+words_of (s ∷ ss) = words_for (length s.1) + words_of ss
+
+-- the clauses of a store are start clauses with glue 0, one behind the other in all of its words, and none was dropped
 pub record AreAllHeld (store : StoreData) : Type 0 where
-  pub placed : store.all ≡ placed_from 0 (pairs_of store.all)
-  pub held : store.held ≡ store.all
+  pub placed : store.start ≡ placed_from 0 (pairs_of store.start)
+  pub held : store.held ≡ store.start
+  pub none_waits : store.waiting ≡ []
+  pub end : store.end ≡ words_of (pairs_of store.start)
 
 -- the port holds the start clauses, and nothing has happened yet
 abbrev pub begun_with : ℕ → List (ℕ × List Literal) → List Literal → LineState → PortState

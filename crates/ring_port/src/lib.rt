@@ -1,7 +1,6 @@
 //! What a ring sees of the outside: the clauses that it holds, the log, the units and the stop that rings share.
 #![tactic(auto)]
 
-mod cell;
 mod class;
 mod gate;
 mod laws;
@@ -11,9 +10,11 @@ mod plain_calls;
 mod plain_lines;
 mod plain_port;
 mod port;
+mod spare;
 mod starts;
 mod stops;
 mod store;
+mod words;
 
 pub use class::class_of;
 pub use gate::{Gate, OpenGate, Point};

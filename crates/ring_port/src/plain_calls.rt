@@ -123,10 +123,7 @@ impl<L: LineOut> Port for PlainPort<L> {
         ensures port { IsPort self.new.state }
         ensures loads { self.new.loads ≡ self.old.loads }
     {
-        if self.waiting.push_back(c).is_err() {
-            return Err(PortStop::Memory);
-        }
-        self.store.release(c);
+        self.store.drop_clause(c)?;
         let last = unless_at(self.last, c);
         self.last = last;
         Ok(())

@@ -12,7 +12,6 @@ use crate::stops::PortStop;
 use drat_text::LineOut;
 use rup_model::Kind;
 use sat_words::{Cref, Lit, Lits};
-use std::collections::VecDeque;
 
 /// The clause learned last, once one was added.
 fn last_after(kind: Kind, last: Option<Cref>, c: Cref) -> Option<Cref>
@@ -32,13 +31,6 @@ pub(crate) fn unless_at(last: Option<Cref>, c: Cref) -> Option<Cref>
         Some(lemma) if lemma.address != c.address => Some(lemma),
         _ => None,
     }
-}
-
-/// How many addresses the queue has.
-fn queue_len(queue: &VecDeque<Cref>) -> usize
-    ensures { result ≡ length queue.now.items }
-{
-    queue.len()
 }
 
 impl<L: LineOut> PlainPort<L> {
@@ -76,10 +68,10 @@ impl<L: LineOut> PlainPort<L> {
         ensures many { result ≡ length self.now.state.waiting }
         ensures port { IsPort self.now.state }
     {
-        queue_len(&self.waiting)
+        self.store.waits()
     }
 
-    /// Writes the line that deletes the first clause that waits.
+    /// Writes the line that deletes the first clause that waits, and frees its words.
     pub(crate) fn delete_first(&mut self) -> Result<(), PortStop>
         requires usable { is_usable self.old.state.refused ≡ true }
         requires some { 1 ≤ length self.old.state.waiting }
@@ -89,14 +81,14 @@ impl<L: LineOut> PlainPort<L> {
         ensures port { IsPort self.new.state }
         ensures loads { self.new.loads ≡ self.old.loads }
     {
-        let c = self.waiting[0];
+        self.store.settle()?;
         self.log.make_room()?;
-        let Ok(lits) = Lits::from_slice(self.alloc, self.store.lits(c)) else {
+        let Ok(lits) = self.store.first_lits(self.alloc) else {
             return Err(PortStop::Memory);
         };
-        let number = self.store.head(c).number;
-        self.log.delete(lits, number)?;
-        self.waiting.pop_front();
+        let number = self.store.first_head().number;
+        self.log.delete(Lits::from_vec(lits), number)?;
+        self.store.delete_first();
         Ok(())
     }
 

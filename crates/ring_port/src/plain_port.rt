@@ -1,7 +1,7 @@
-ghost use Rattle.std.specs.Prelude.{◌≡◌, false, All, Some, None, IfOk, IfErr, map, List, ℕ};
+ghost use Rattle.std.specs.Prelude.{◌≡◌, false, All, Some, None, IfOk, IfErr, map, List};
 ghost use Rattle.sat_words.specs.Literal.{Literal};
 ghost use Rattle.sat_words.specs.Clause.{is_empty};
-ghost use Rattle.std.specs.List.{list_any, range_with_len};
+ghost use Rattle.std.specs.List.{list_any};
 ghost use Rattle.rup_model.specs.declared.journal.Entry.{Entry};
 ghost use Rattle.ring_port.specs.PortState.{Holding, IsPort, IsOn, HoldsStart};
 ghost use Rattle.ring_port.specs.Log.{StandsOver};
@@ -13,7 +13,6 @@ use crate::store::Store;
 use drat_text::LineOut;
 use sat_words::{Cref, Lit, Stop};
 use std::alloc::{AllocError, AllocFailed, Global};
-use std::collections::VecDeque;
 use std::marker::Model;
 
 /// The port of one ring in memory, which writes alone.
@@ -22,8 +21,6 @@ pub struct PlainPort<L: LineOut> {
     pub(crate) alloc: Global,
     pub(crate) vars: u32,
     pub(crate) store: Store,
-    pub(crate) waiting: VecDeque<Cref>,
-    pub(crate) begun: usize,
     pub(crate) opening: Vec<Lit>,
     pub(crate) passed: usize,
     pub(crate) given: Vec<Lit>,
@@ -46,10 +43,9 @@ impl<L: LineOut> Model for PlainPort<L> {
       loads = p.loads;
       state = state_of (record {
         vars = p.vars;
-        all = p.store.all;
+        start = p.store.start;
         held = p.store.held;
-        waiting = p.waiting.items;
-        begun = p.begun;
+        waiting = p.store.waiting;
         opening = p.opening.items;
         passed = p.passed;
         given = p.given.items;
@@ -65,10 +61,9 @@ impl<L: LineOut> Model for PlainPort<L> {
 
     ghost invariant = { λ p. IsPlain (record {
       vars = p.vars;
-      all = p.store.all;
+      start = p.store.start;
       held = p.store.held;
-      waiting = p.waiting.items;
-      begun = p.begun;
+      waiting = p.store.waiting;
       opening = p.opening.items;
       passed = p.passed;
       given = p.given.items;
@@ -82,20 +77,9 @@ impl<L: LineOut> Model for PlainPort<L> {
     }) };
 }
 
-/// The addresses from 0 on below this one.
-fn addresses_below(alloc: Global, end: u64) -> Result<Vec<Cref>, AllocError>
-    ensures { IfOk result (λ refs. refs.items ≡ map (λ (a : ℕ). record { address = a }) (range_with_len 0 end)) }
-{
-    let mut refs = Vec::new(alloc);
-    for address in 0..end {
-        refs.push(Cref { address })?;
-    }
-    Ok(refs)
-}
-
 impl<L: LineOut> PlainPort<L> {
-    /// The port of ring 0, of one ring, that holds the start clauses, each under its number, with glue 0 and at the
-    /// address of its place. Each has two literals or more and is alive in the log; the units are listed, and have no
+    /// The port of ring 0, of one ring, that holds the start clauses, each under its number, with glue 0, one
+    /// behind the other. Each has two literals or more and is alive in the log; the units are listed, and have no
     /// line of the ring's. The log is continued where the line output stands. Refused for memory it gives that back.
     pub fn new(
         alloc: Global,
@@ -119,14 +103,10 @@ impl<L: LineOut> PlainPort<L> {
             return Err(AllocFailed { value: output });
         };
         let Starts { store } = starts;
-        let begun = store.len();
-        let waiting = VecDeque::new(alloc);
         Ok(PlainPort {
             alloc,
             vars,
             store,
-            waiting,
-            begun,
             opening: units,
             passed: 0,
             given,
@@ -144,7 +124,7 @@ impl<L: LineOut> PlainPort<L> {
     pub fn start(&self, alloc: Global) -> Result<Vec<Cref>, AllocError>
         ensures { IfOk result (λ refs. refs.items ≡ map (λ (h : Holding). record { address = h.address }) self.now.state.start) }
     {
-        addresses_below(alloc, self.begun as u64)
+        self.store.start(alloc)
     }
 
     /// How often the head or a literal of a clause was read, up to the last count of 64 bits.

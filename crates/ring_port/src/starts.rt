@@ -20,7 +20,7 @@ impl Model for Starts {
 
     ghost Value = { List (ℕ × List Literal) };
 
-    ghost view = { λ p. pairs_of p.store.all };
+    ghost view = { λ p. pairs_of p.store.start };
 
     ghost invariant = { λ p. AreAllHeld p.store };
 }
@@ -50,10 +50,10 @@ impl Starts {
     pub fn push(&mut self, number: u64, lits: &[Lit]) -> Result<(), AllocError>
         ensures { OnOk result (self.new ≡ self.old ++ (number, lits.now) ∷ []) }
     {
-        if self.store.make_room(lits).is_err() {
+        if self.store.make_room(lits).is_err() || self.store.make_start_room().is_err() {
             return Err(AllocError);
         }
-        self.store.push(lits, number, 0);
+        self.store.push_start(number, lits);
         Ok(())
     }
 }

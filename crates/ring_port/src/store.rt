@@ -1,154 +1,257 @@
-// The clauses of a port in memory. Their literals stand one after another in one vector.
-ghost use Rattle.std.specs.Prelude.{◌≡◌, ◌<◌, ◌≤◌, ◌+◌, ◌^◌, ◌∷◌, ◌++◌, ◌==◌, [], Some, OnOk, IfErr, IfSome, IsSome, find, length, take, drop, slice_get, vec_len, vec_capacity};
-ghost use Rattle.ring_port.specs.PortState.{head_of, lits_in};
+// The clauses of a port in memory, in one vector of words: each lies in one stretch, its head before its literals.
+ghost use Rattle.std.specs.Prelude.{◌≡◌, ◌≢◌, ◌<◌, ◌≤◌, ◌+◌, ◌^◌, ◌∷◌, ◌++◌, ◌==◌, [], true, None, Some, IfOk, OnOk, OnErr, IfErr, IfSome, IsSome, All, find, length, drop, map, slice_get, position};
+ghost use Rattle.ring_port.specs.PortState.{Holding, AreApart, head_of, lits_in};
+ghost use Rattle.ring_port.specs.Store.{word_at, without_ref};
 ghost use Rattle.ring_port.specs.Deleting.{without_one};
+ghost use Rattle.clause_cell.specs.Packing.{words_for};
 
-use crate::cell::Cell;
+use crate::spare::Spare;
 use crate::stops::PortStop;
+use crate::words::{claim, grow, head_at, lit_at, lits_at, write_clause};
+use clause_cell::words_for;
 use sat_words::{Cref, Head, Lit};
-use std::alloc::Global;
+use std::alloc::{AllocError, Global};
+use std::collections::VecDeque;
 use std::marker::Model;
 
-/// Clauses with their numbers and glues; the address of each is its place, from 0.
+/// Clauses with their numbers and glues; the address of each is that of its first word. The words of one whose deletion
+/// stands are used again, but for those of start clauses.
 #[derive(Drop)]
 pub(crate) struct Store {
-    cells: Vec<Cell>,
-    lits: Vec<Lit>,
+    words: Vec<u64>,
+    spare: Spare,
+    start: Vec<Cref>,
+    /// The start clauses stand before this word.
+    front: u64,
+    held: Vec<Cref>,
+    waiting: VecDeque<Cref>,
+    /// The stretch that was freed last. It is given back before the next line, since that may want memory.
+    freed: Option<Cref>,
 }
 
 impl Model for Store {
-    ghost use Rattle.std.specs.Prelude.{◌-◌, All, vec_len, vec_capacity};
-    ghost use Rattle.ring_port.specs.Store.{StoreData, holdings, live, IsPlaced};
+    ghost use Rattle.std.specs.Prelude.{◌-◌, is_none, length, vec_len, vec_capacity};
+    ghost use Rattle.ring_port.specs.Store.{StoreData, clauses_in, IsStore};
 
     ghost Value = { StoreData };
 
     ghost view = { λ p. record {
-      all = holdings p.lits.items 0 p.cells.items;
-      held = live p.lits.items 0 p.cells.items;
-      room = vec_capacity p.cells - vec_len p.cells;
-      lit_room = vec_capacity p.lits - vec_len p.lits;
+      start = clauses_in p.words.items p.start.items;
+      held = clauses_in p.words.items p.held.items;
+      waiting = clauses_in p.words.items p.waiting.items;
+      end = length p.words.items;
+      start_room = vec_capacity p.start - vec_len p.start;
+      room = vec_capacity p.held - vec_len p.held;
+      word_room = vec_capacity p.words - vec_len p.words;
+      settled = is_none p.freed;
     } };
 
-    ghost invariant = { λ p. All (IsPlaced p.lits.items) p.cells.items };
+    ghost invariant = { λ p. IsStore p.words.items p.spare p.start.items p.held.items p.waiting.items p.front p.freed };
 }
 
-/// Puts the literals behind the others, for which there is room.
-fn append(all: &mut Vec<Lit>, lits: &[Lit])
-    requires { vec_len all.old + length lits.now ≤ vec_capacity all.old }
-    ensures { all.new.items ≡ all.old.items ++ lits.now }
+/// The place of an address.
+fn place_of(refs: &[Cref], address: u64) -> Option<usize>
+    ensures { result ≡ position (λ c. c.address == address) refs.now }
 {
-    for lit in lits {
-        all.push_reserved(*lit);
+    refs.iter().position(|c| c.address == address)
+}
+
+/// Takes an address out.
+fn take_out(refs: &mut Vec<Cref>, address: u64)
+    ensures { refs.new.items ≡ without_ref refs.old.items address }
+{
+    if let Some(place) = place_of(refs.as_slice(), address) {
+        refs.remove(place);
     }
-}
-
-/// As many literals from a place on.
-fn stretch(all: &[Lit], first: usize, size: usize) -> &[Lit]
-    requires { first + size ≤ length all.now }
-    ensures { result.now ≡ take size (drop first all.now) }
-{
-    &all[first..first + size]
 }
 
 impl Store {
     /// No clause.
     pub(crate) fn new(alloc: Global) -> Self
-        ensures all { result.all ≡ [] }
+        ensures start { result.start ≡ [] }
         ensures held { result.held ≡ [] }
+        ensures waiting { result.waiting ≡ [] }
+        ensures end { result.end ≡ 0 }
     {
         Store {
-            cells: Vec::new(alloc),
-            lits: Vec::new(alloc),
+            words: Vec::new(alloc),
+            spare: Spare::new(alloc),
+            start: Vec::new(alloc),
+            front: 0,
+            held: Vec::new(alloc),
+            waiting: VecDeque::new(alloc),
+            freed: None,
         }
+    }
+
+    /// Gives the stretch that was freed last to those that are free.
+    pub(crate) fn settle(&mut self) -> Result<(), PortStop>
+        ensures same { self.new ≡ record self.old { settled = self.new.settled } }
+        ensures settled { OnOk result (self.new.settled ≡ true) }
+        ensures memory { IfErr result (λ stop. stop ≡ PortStop.Memory) }
+    {
+        let Some(c) = self.freed else {
+            return Ok(());
+        };
+        let size = head_at(&self.words, c.address as usize).size;
+        self.spare.give(c.address, words_for(size))?;
+        self.freed = None;
+        Ok(())
     }
 
     /// Takes room for one more clause with these literals. For 2^32 literals there is none.
     pub(crate) fn make_room(&mut self, lits: &[Lit]) -> Result<(), PortStop>
-        ensures all { self.new.all ≡ self.old.all }
+        ensures start { self.new.start ≡ self.old.start }
         ensures held { self.new.held ≡ self.old.held }
+        ensures waiting { self.new.waiting ≡ self.old.waiting }
+        ensures end { self.new.end ≡ self.old.end }
         ensures room { OnOk result (1 ≤ self.new.room) }
-        ensures lit_room { OnOk result (length lits.now ≤ self.new.lit_room) }
+        ensures word_room { OnOk result (words_for (length lits.now) ≤ self.new.word_room) }
         ensures few { OnOk result (length lits.now < 2 ^ 32) }
         ensures memory { IfErr result (λ stop. stop ≡ PortStop.Memory) }
     {
         if lits.len() > u32::MAX as usize {
             return Err(PortStop::Memory);
         }
-        if self.cells.reserve(1).is_err() || self.lits.reserve(lits.len()).is_err() {
+        self.settle()?;
+        let need = words_for(lits.len() as u32);
+        if self.held.reserve(1).is_err() || self.words.reserve(need as usize).is_err() {
             return Err(PortStop::Memory);
         }
         Ok(())
     }
 
-    /// Keeps the clause, for which room was made, at the address behind the others.
-    pub(crate) fn push(&mut self, lits: &[Lit], number: u64, glue: u32) -> Cref
-        requires room { 1 ≤ self.old.room }
-        requires lit_room { length lits.now ≤ self.old.lit_room }
-        requires few { length lits.now < 2 ^ 32 }
-        ensures all { self.new.all ≡ self.old.all ++ record { address = length self.old.all; number = number; glue = glue; lits = lits.now } ∷ [] }
-        ensures held { self.new.held ≡ self.old.held ++ record { address = length self.old.all; number = number; glue = glue; lits = lits.now } ∷ [] }
-        ensures address { result.address ≡ length self.old.all }
+    /// Takes room for one more start clause.
+    pub(crate) fn make_start_room(&mut self) -> Result<(), PortStop>
+        ensures same { self.new ≡ record self.old { start_room = self.new.start_room } }
+        ensures room { OnOk result (1 ≤ self.new.start_room) }
     {
-        let address = self.cells.len() as u64;
-        let first = self.lits.len();
-        append(&mut self.lits, lits);
-        self.cells.push_reserved(Cell {
-            number,
-            first,
-            size: lits.len() as u32,
-            glue,
-            held: true,
-        });
-        Cref { address }
+        if self.start.reserve(1).is_err() {
+            return Err(PortStop::Memory);
+        }
+        Ok(())
     }
 
-    /// How many clauses were ever kept.
-    pub(crate) fn len(&self) -> usize
-        ensures { result ≡ length self.now.all }
+    /// Keeps a start clause, for which room was made, behind all others.
+    pub(crate) fn push_start(&mut self, number: u64, lits: &[Lit])
+        requires start_room { 1 ≤ self.old.start_room }
+        requires room { 1 ≤ self.old.room }
+        requires word_room { words_for (length lits.now) ≤ self.old.word_room }
+        requires few { length lits.now < 2 ^ 32 }
+        ensures start { self.new.start ≡ self.old.start ++ record { address = self.old.end; number = number; glue = 0; lits = lits.now } ∷ [] }
+        ensures held { self.new.held ≡ self.old.held ++ record { address = self.old.end; number = number; glue = 0; lits = lits.now } ∷ [] }
+        ensures waiting { self.new.waiting ≡ self.old.waiting }
+        ensures end { self.new.end ≡ self.old.end + words_for (length lits.now) }
     {
-        self.cells.len()
+        let first = self.words.len();
+        grow(&mut self.words, words_for(lits.len() as u32));
+        write_clause(&mut self.words, first, number, 0, lits);
+        self.front = self.words.len() as u64;
+        let c = Cref {
+            address: first as u64,
+        };
+        self.start.push_reserved(c);
+        self.held.push_reserved(c);
+    }
+
+    /// Keeps the clause, for which room was made, in words that are free, or else behind all others.
+    pub(crate) fn push(&mut self, lits: &[Lit], number: u64, glue: u32) -> Cref
+        requires room { 1 ≤ self.old.room }
+        requires word_room { words_for (length lits.now) ≤ self.old.word_room }
+        requires few { length lits.now < 2 ^ 32 }
+        ensures start { self.new.start ≡ self.old.start }
+        ensures held { self.new.held ≡ self.old.held ++ record { address = result.address; number = number; glue = glue; lits = lits.now } ∷ [] }
+        ensures waiting { self.new.waiting ≡ self.old.waiting }
+        ensures not_held { All (λ h. h.address ≢ result.address) self.old.held }
+        ensures not_waiting { All (λ h. h.address ≢ result.address) self.old.waiting }
+    {
+        let need = words_for(lits.len() as u32);
+        let first = claim(&mut self.words, &mut self.spare, need);
+        write_clause(&mut self.words, first, number, glue, lits);
+        let c = Cref {
+            address: first as u64,
+        };
+        self.held.push_reserved(c);
+        c
     }
 
     /// What stands before the literals.
     pub(crate) fn head(&self, c: Cref) -> Head
-        requires { c.address < length self.now.all }
-        ensures { IfSome (slice_get self.now.all c.address) (λ h. result ≡ head_of h) }
+        requires { IsSome (find (λ h. h.address == c.address) self.now.held) }
+        ensures { IfSome (find (λ h. h.address == c.address) self.now.held) (λ h. result ≡ head_of h) }
     {
-        let cell = self.cells[c.address as usize];
-        Head {
-            size: cell.size,
-            glue: cell.glue,
-            number: cell.number,
-        }
+        head_at(&self.words, c.address as usize)
     }
 
     /// The literal at a place.
     pub(crate) fn lit(&self, c: Cref, i: u32) -> Lit
-        requires kept { c.address < length self.now.all }
-        requires inside { i < length (lits_in (slice_get self.now.all c.address)) }
-        ensures { slice_get (lits_in (slice_get self.now.all c.address)) i ≡ Some result }
+        requires held { IsSome (find (λ h. h.address == c.address) self.now.held) }
+        requires inside { i < length (lits_in (find (λ h. h.address == c.address) self.now.held)) }
+        ensures { slice_get (lits_in (find (λ h. h.address == c.address) self.now.held)) i ≡ Some result }
     {
-        let cell = self.cells[c.address as usize];
-        self.lits[cell.first + i as usize]
+        lit_at(&self.words, c.address as usize, i)
     }
 
-    /// The literals of a clause.
-    pub(crate) fn lits(&self, c: Cref) -> &[Lit]
-        requires { c.address < length self.now.all }
-        ensures { result.now ≡ lits_in (slice_get self.now.all c.address) }
-    {
-        let cell = self.cells[c.address as usize];
-        stretch(&self.lits, cell.first, cell.size as usize)
-    }
-
-    /// Holds the clause no longer. Its literals can still be read.
-    pub(crate) fn release(&mut self, c: Cref)
+    /// Holds the clause no longer: it waits for its deletion, and its literals can still be read.
+    pub(crate) fn drop_clause(&mut self, c: Cref) -> Result<(), PortStop>
         requires { IsSome (find (λ h. h.address == c.address) self.old.held) }
-        ensures all { self.new.all ≡ self.old.all }
-        ensures held { self.new.held ≡ without_one self.old.held c.address }
-        ensures room { self.new.room ≡ self.old.room }
-        ensures lit_room { self.new.lit_room ≡ self.old.lit_room }
+        ensures start { self.new.start ≡ self.old.start }
+        ensures held { OnOk result (self.new.held ≡ without_one self.old.held c.address) }
+        ensures waiting { OnOk result (IfSome (find (λ h. h.address == c.address) self.old.held) (λ h. self.new.waiting ≡ self.old.waiting ++ h ∷ [])) }
+        ensures back { OnErr result (self.new ≡ self.old) }
+        ensures memory { IfErr result (λ stop. stop ≡ PortStop.Memory) }
     {
-        self.cells[c.address as usize].held = false;
+        if self.waiting.push_back(c).is_err() {
+            return Err(PortStop::Memory);
+        }
+        take_out(&mut self.held, c.address);
+        Ok(())
+    }
+
+    /// How many clauses wait for their deletion.
+    pub(crate) fn waits(&self) -> usize
+        ensures { result ≡ length self.now.waiting }
+    {
+        self.waiting.len()
+    }
+
+    /// What stands before the literals of the first clause that waits.
+    pub(crate) fn first_head(&self) -> Head
+        requires { 1 ≤ length self.now.waiting }
+        ensures { IfSome (slice_get self.now.waiting 0) (λ h. result ≡ head_of h) }
+    {
+        head_at(&self.words, self.waiting[0].address as usize)
+    }
+
+    /// Copies of its literals.
+    pub(crate) fn first_lits(&self, alloc: Global) -> Result<Vec<Lit>, AllocError>
+        requires { 1 ≤ length self.now.waiting }
+        ensures { IfOk result (λ lits. IfSome (slice_get self.now.waiting 0) (λ h. lits.items ≡ h.lits)) }
+    {
+        lits_at(alloc, &self.words, self.waiting[0].address as usize)
+    }
+
+    /// Forgets the first clause that waits, and frees its words, unless it is a start clause.
+    pub(crate) fn delete_first(&mut self)
+        requires some { 1 ≤ length self.old.waiting }
+        requires settled { self.old.settled ≡ true }
+        requires dropped { All (λ h. find (λ k. k.address == h.address) self.old.held ≡ None) self.old.waiting }
+        requires once { AreApart self.old.waiting }
+        ensures start { self.new.start ≡ self.old.start }
+        ensures held { self.new.held ≡ self.old.held }
+        ensures waiting { self.new.waiting ≡ drop 1 self.old.waiting }
+    {
+        let c = self.waiting[0];
+        self.waiting.pop_front();
+        if self.front <= c.address {
+            self.freed = Some(c);
+        }
+    }
+
+    /// The addresses of the start clauses, in their order.
+    pub(crate) fn start(&self, alloc: Global) -> Result<Vec<Cref>, AllocError>
+        ensures { IfOk result (λ refs. refs.items ≡ map (λ (h : Holding). record { address = h.address }) self.now.start) }
+    {
+        Vec::from_slice(alloc, &self.start)
     }
 }

@@ -1,7 +1,9 @@
 -- The row of the tests of reduction.
-use Rattle.std.proofs.Common.{◌≡◌, ◌∙◌, ℕ, ◌≤◌, Bool, true, false, List, [], ◌∷◌, ◌++◌, map, All, IsSome, Contains, sym, refl, ap, subst, arith, nat_eq}
-use Rattle.std.specs.List.{IsDistinct}
-use Rattle.std.proofs.lemmas.Bool.{or_right}
+use Rattle.std.proofs.Common.{◌≡◌, ◌≢◌, ◌∙◌, ◌==◌, ℕ, ◌≤◌, Bool, true, false, List, [], ◌∷◌, ◌++◌, map, None, All, IsSome, Contains, sym, refl, ap, subst, arith, nat_eq}
+use Rattle.std.specs.Prelude.{is_some}
+use Rattle.std.specs.declared.option.Option.{Option}
+use Rattle.std.specs.List.{IsDistinct, list_any}
+use Rattle.std.proofs.lemmas.Bool.{or_right, false≢true}
 use Rattle.std.proofs.lemmas.List.Elements.{All-nil, All-from_recursion}
 use Rattle.sat_words.specs.Literal.{Literal, opposite}
 use Rattle.sat_words.specs.Clause.{has_opposites}
@@ -13,8 +15,10 @@ use Rattle.rup_model.proofs.Derivation.{conflicts_from_derivation}
 use Rattle.drat_text.specs.LineState.{LineState}
 use Rattle.sat_words.specs.declared.shared.Cref.{Cref}
 use Rattle.rup_model.specs.declared.journal.Kind.{Kind}
-use Rattle.ring_port.specs.PortState.{PortState, IsPort, IsOn, held_at, lits_at, lits_in, known}
+use Rattle.ring_port.specs.PortState.{PortState, Holding, IsPort, IsOn, held_at, lits_at, lits_in, known}
 use Rattle.ring_port.specs.Port.{IsClause, AddedClause, KeepsHeld, is_usable}
+use Rattle.ring_port.specs.Deleting.{DroppedOnce, TidiedUpTo, IsNotTaken}
+use Rattle.ring_port.proofs.PlainLemmas.{same_lookup, dropped_others}
 use Rattle.ring_trail.specs.declared.step.Step.{Step}
 use Rattle.ring_trail.specs.TrailData.{TrailData}
 use Rattle.watch_prop.specs.WatchData.{WatchData, attached}
@@ -24,7 +28,7 @@ use Rattle.watch_prop.proofs.Entries.{attachable_held}
 use Rattle.watch_prop.proofs.TrailLaws.{Watched-port}
 use Rattle.ring_port.specs.PlainPort.{starts_of, begun_with, CanOpen}
 use Rattle.ring_port.proofs.Holdings.{held_is_known, lits_of_holding}
-use Rattle.ring_trials.specs.ReductionRow.{lit, source, row_starts, source_held, IsRow, HasLemmas}
+use Rattle.ring_trials.specs.ReductionRow.{lit, source, row_starts, source_held, IsRow, HasLemmas, OneMore, OneLess}
 use Rattle.reduce_db.specs.Lemmas.{AreLemmas}
 use Rattle.reduce_db.specs.Reduction.{WasReduced}
 use Rattle.reduce_db.proofs.Changes.{no_lemmas, lemma_joins}
@@ -127,3 +131,43 @@ usable_left s r v w steps lemmas left k e = subst (λ (x : PortState). is_usable
 
 pub opens_from : (ss : List Start) (us : List Literal) (out : LineState) → ss ≡ starts_of row_starts → us ≡ [] → out.entries ≡ 0 → out.last ≡ 1 → CanOpen ss us out
 opens_from ss us out e f entries last = subst (λ (ts : List Start). CanOpen ts us out) (sym e) (subst (λ (ls : List Literal). CanOpen (starts_of row_starts) ls out) (sym f) (opens out entries last))
+
+-- a copy more, and one less
+
+pub one_more : (s m : PortState) (lits : List Literal) (glue : ℕ) (kind : Kind) (d : Cref) → IsRow s → AddedClause s m lits glue kind d → KeepsHeld s m → IsPort m → OneMore s m d
+one_more s m lits glue kind d row k keeps port = record {
+  row = row_added s m lits glue kind d row k keeps port;
+  held = subst (λ (o : Option Holding). IsSome o) (sym k.there) refl;
+  fresh = k.free.not_held;
+  kept = keeps;
+}
+
+pub one_less : (s m q : PortState) (a n : ℕ) → IsRow s → a ≢ 0 → DroppedOnce s m a → TidiedUpTo m q n → IsPort q → OneLess s q a
+one_less s m q a n row ne d t port =
+    let other : (b : ℕ) → b ≢ a → held_at q b ≡ held_at s b = λ b far. same_lookup m q b (ap (λ (x : PortState). x.held) t.state) ∙ dropped_others s m a b d far in
+    record {
+      row = record {
+        vars = ap (λ (x : PortState). x.vars) t.state ∙ ap (λ (x : PortState). x.vars) d.state ∙ row.vars;
+        source = other 0 (λ e. ne (sym e)) ∙ row.source;
+        usable = ap (λ (x : PortState). is_usable x.refused) t.state ∙ ap (λ (x : PortState). is_usable x.refused) d.state ∙ row.usable;
+        taken = ap (λ (x : PortState). x.taken) t.state ∙ ap (λ (x : PortState). x.taken) d.state ∙ row.taken;
+        port = port;
+      };
+      others = other;
+    }
+
+pub dropped_usable : (s m : PortState) (a : ℕ) → IsRow s → DroppedOnce s m a → is_usable m.refused ≡ true
+dropped_usable s m a row d = ap (λ (x : PortState). is_usable x.refused) d.state ∙ row.usable
+
+pub not_taken : (s : PortState) (a : ℕ) → IsRow s → IsNotTaken s a
+not_taken s a row = ap (λ (xs : List ℕ). list_any (λ b. b == a) xs) row.taken
+
+-- a clause that is held is not where none is
+pub elsewhere : (s : PortState) (a b : ℕ) → IsSome (held_at s a) → held_at s b ≡ None → a ≢ b
+elsewhere s a b some none e = false≢true (sym (subst (λ (n : ℕ). is_some (held_at s n) ≡ false) (sym e) (ap is_some none)) ∙ some)
+
+pub held_on : (s m : PortState) (a : ℕ) → KeepsHeld s m → IsSome (held_at s a) → IsSome (held_at m a)
+held_on s m a keeps some = subst (λ (o : Option Holding). IsSome o) (sym (keeps a some)) some
+
+pub held_beside : (s m : PortState) (a b : ℕ) → OneLess s m b → a ≢ b → IsSome (held_at s a) → IsSome (held_at m a)
+held_beside s m a b less ne some = subst (λ (o : Option Holding). IsSome o) (sym (less.others a ne)) some

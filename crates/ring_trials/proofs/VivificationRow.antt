@@ -69,13 +69,13 @@ begins s ss us out e f g = subst IsRow (sym (g ∙ ap (λ (xs : List (ℕ × Lis
 pub first_is : (s : PortState) → IsRow s → lits_at s 0 ≡ first
 first_is s k = lits_of_holding s 0 (start_at 0 1 first) k.first
 
-pub second_is : (s : PortState) → IsRow s → lits_at s 1 ≡ second
-second_is s k = lits_of_holding s 1 (start_at 1 2 second) k.second
+pub second_is : (s : PortState) → IsRow s → lits_at s 4 ≡ second
+second_is s k = lits_of_holding s 4 (start_at 4 2 second) k.second
 
 pub first_held : (s : PortState) → IsRow s → IsSome (held_at s 0)
 first_held s k = rw k.first refl
 
-pub second_held : (s : PortState) → IsRow s → IsSome (held_at s 1)
+pub second_held : (s : PortState) → IsRow s → IsSome (held_at s 4)
 second_held s k = rw k.second refl
 
 pub second_clause : (n : ℕ) (c : List Literal) → n ≡ 3 → c ≡ second → IsClause n c
@@ -86,14 +86,14 @@ pub copy_follows : (s : PortState) (c : List Literal) → c ≡ second → IsRow
 unfolding rup
 copy_follows s c e k =
     subst (λ (d : List Literal). rup (known s) d ≡ true) (sym e)
-    (or_right (has_opposites second) _ (conflicts_from_derivation (known s) (map opposite second) [] second tt (subst (λ (d : List Literal). Contains (known s) d) (second_is s k) (held_is_known s 1 (second_held s k))) refl))
+    (or_right (has_opposites second) _ (conflicts_from_derivation (known s) (map opposite second) [] second tt (subst (λ (d : List Literal). Contains (known s) d) (second_is s k) (held_is_known s 4 (second_held s k))) refl))
 
 pub lits_are : (a b c : Literal) → a ≡ lit 1 false → b ≡ lit 2 false → c ≡ lit 3 false → a ∷ b ∷ c ∷ [] ≡ second
 lits_are a b c e f g = ap (λ (x : Literal). x ∷ b ∷ c ∷ []) e ∙ ap (λ (x : Literal). lit 1 false ∷ x ∷ c ∷ []) f ∙ ap (λ (x : Literal). lit 1 false ∷ lit 2 false ∷ x ∷ []) g
 
 pub copy_is_part : (s : PortState) (c : List Literal) → c ≡ second → IsRow s → IsPartOfHeld s c
 copy_is_part s c e k = record {
-  address = 1;
+  address = 4;
   held = second_held s k;
   part = subst (λ (d : List Literal). includes d c ≡ true) (sym (second_is s k)) (subst (λ (d : List Literal). includes second d ≡ true) (sym e) refl);
 }

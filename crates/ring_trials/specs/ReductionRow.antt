@@ -1,9 +1,9 @@
 -- The row of the tests of reduction: one start clause, and lemmas that are copies of it.
-use Rattle.std.specs.Prelude.{◌≡◌, ℕ, Bool, true, false, List, [], ◌∷◌, Some}
+use Rattle.std.specs.Prelude.{◌≡◌, ◌≢◌, ℕ, Bool, true, false, List, [], ◌∷◌, Some, None, IsSome}
 use Rattle.sat_words.specs.Literal.{Literal}
 use Rattle.sat_words.specs.declared.shared.Cref.{Cref}
 use Rattle.ring_port.specs.PortState.{Holding, PortState, IsPort, held_at, lits_at}
-use Rattle.ring_port.specs.Port.{is_usable}
+use Rattle.ring_port.specs.Port.{is_usable, KeepsHeld}
 use Rattle.ring_trail.specs.TrailData.{TrailData}
 use Rattle.watch_prop.specs.WatchData.{WatchData, attached}
 use Rattle.watch_prop.specs.Watched.{Watched}
@@ -36,3 +36,15 @@ pub record HasLemmas (s : PortState) (w : WatchData) (t : TrailData) (lemmas : L
   pub vars : w.vars ≡ 3
   pub watched : Watched w (lits_at s) t
   pub are : AreLemmas s (attached w) lemmas
+
+-- a copy more is held where none was, and what was held still is
+pub record OneMore (old new : PortState) (c : Cref) : Type 0 where
+  pub row : IsRow new
+  pub held : IsSome (held_at new c.address)
+  pub fresh : held_at old c.address ≡ None
+  pub kept : KeepsHeld old new
+
+-- of the clause at this address one copy fewer is held, and the others are held as before
+pub record OneLess (old new : PortState) (a : ℕ) : Type 0 where
+  pub row : IsRow new
+  pub others : (b : ℕ) → b ≢ a → held_at new b ≡ held_at old b

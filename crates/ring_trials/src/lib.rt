@@ -11,6 +11,9 @@ pub mod reducing;
 #[cfg(test)]
 mod reduction;
 #[cfg(test)]
+mod reuse;
+pub mod reusing;
+#[cfg(test)]
 mod runs;
 pub mod stepping;
 #[cfg(test)]

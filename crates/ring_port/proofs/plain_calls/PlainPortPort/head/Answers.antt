@@ -1,18 +1,16 @@
-use Rattle.std.proofs.Common.{◌≡◌, sym, ap, subst, ◌∙◌, IsSome, IfSome}
-use Rattle.std.specs.List.{slice_get}
+use Rattle.std.proofs.Common.{◌≡◌, subst, sym, IsSome, IfSome}
 use Rattle.std.specs.declared.option.Option.{Option}
 use Rattle.ring_port.specs.PortState.{Holding, head_of, held_at}
-use Rattle.ring_port.proofs.PlainLemmas.{state_is, plain_port, at_place, size_of}
+use Rattle.ring_port.proofs.PlainLemmas.{state_is, plain_port, at_address, looked_up, size_of}
 use Rattle.ring_port.proofs.plain_calls.PlainPortPort.head.Goals as goal
 
 pub head-requires : goal.head-requires
-head-requires g c = (at_place _ c.self.invariant c.args.c.address (subst (λ s. IsSome (held_at s c.args.c.address)) (sym (state_is c.self.view_is)) c.requires)).0
+head-requires g c = at_address _ c.args.c.address (subst (λ s. IsSome (held_at s c.args.c.address)) (sym (state_is c.self.view_is)) c.requires)
 
 pub returns-clause-value : goal.returns-clause-value
 returns-clause-value g c =
-    let place = at_place _ c.self.invariant c.args.c.address (subst (λ s. IsSome (held_at s c.args.c.address)) (sym (state_is c.self.view_is)) c.requires) in
-    let here : held_at c.args.self.now.state c.args.c.address ≡ slice_get c.self.inside.store.all c.args.c.address = ap (λ s. held_at s c.args.c.address) (sym (state_is c.self.view_is)) ∙ place.1 in
-    subst (λ (q : Option Holding). IfSome q (λ h. c.head.result ≡ head_of h)) (sym here) c.head.ensures
+    subst (λ s. IfSome (held_at s c.args.c.address) (λ h. c.head.result ≡ head_of h)) (state_is c.self.view_is)
+    (subst (λ (q : Option Holding). IfSome q (λ h. c.head.result ≡ head_of h)) (sym (looked_up _ c.args.c.address)) c.head.ensures)
 
 pub returns-clause-size : goal.returns-clause-size
 returns-clause-size g c =

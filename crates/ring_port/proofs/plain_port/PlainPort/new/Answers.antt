@@ -1,6 +1,6 @@
-use Rattle.std.proofs.Common.{◌≡◌, ◌∙◌, ◌-◌, List, ap, arith, sym, subst, None, length, vec_len}
+use Rattle.std.proofs.Common.{◌≡◌, ◌∙◌, ◌-◌, ap, arith, sym, subst, None, vec_len}
 use Rattle.std.specs.Vec.{vec_capacity}
-use Rattle.ring_port.specs.PortState.{Holding, HoldsStart}
+use Rattle.ring_port.specs.PortState.{HoldsStart}
 use Rattle.ring_port.specs.Log.{StandsOver}
 use Rattle.ring_port.specs.PlainPort.{PlainData, IsPlain, placed_from}
 use Rattle.ring_port.proofs.PlainLemmas.{plain_port}
@@ -9,21 +9,21 @@ use Rattle.ring_port.proofs.plain_port.PlainPort.new.Goals as goal
 
 pub invariant_of-result : goal.invariant_of-result
 invariant_of-result g c =
-    let held : c.starts.inside.store.all ≡ placed_from 0 c.args.starts = c.starts.invariant.placed ∙ ap (placed_from 0) c.starts.view_is in
-    let live : c.starts.inside.store.held ≡ placed_from 0 c.args.starts = c.starts.invariant.held ∙ held in
+    let start : c.starts.inside.store.start ≡ placed_from 0 c.args.starts = c.starts.invariant.placed ∙ ap (placed_from 0) c.starts.view_is in
+    let held : c.starts.inside.store.held ≡ placed_from 0 c.args.starts = c.starts.invariant.held ∙ start in
     let found = c.requires.opening in
-    let plain = begun_plain found.clauses c.args.vars c.args.starts c.args.units.items (g.L.LineOut.told c.args.output) c.len-begun.result (vec_capacity c.in-Ok.given - vec_len c.in-Ok.given) c.new-2.result found.journal found.over c.requires.starts_on c.requires.units_on
-    (c.len-begun.ensures ∙ ap (λ (hs : List Holding). length hs) held) (let exact = c.in-Ok.ensures.exact in let none = c.in-Ok.ensures.len in let n = c.len.ensures in omega arith) in
+    let plain = begun_plain found.clauses c.args.vars c.args.starts c.args.units.items (g.L.LineOut.told c.args.output) (vec_capacity c.in-Ok.given - vec_len c.in-Ok.given) c.new-2.result found.journal found.over c.requires.starts_on c.requires.units_on
+    (let exact = c.in-Ok.ensures.exact in let none = c.in-Ok.ensures.len in let n = c.len.ensures in omega arith) in
     subst (λ (p : PlainData). IsPlain p)
-    (λ i. record { vars = c.args.vars; all = sym held i; held = sym live i; waiting = sym c.new-waiting.ensures.items i; begun = c.len-begun.result; opening = c.args.units.items; passed = 0; given = sym c.in-Ok.ensures.items i; given_room = vec_capacity c.in-Ok.given - vec_len c.in-Ok.given; written = sym c.new.ensures.items i; log = c.new-2.result; last = None; stop = None; looks = 0; caught_up = 0 })
+    (λ i. record { vars = c.args.vars; start = sym start i; held = sym held i; waiting = sym c.starts.invariant.none_waits i; opening = c.args.units.items; passed = 0; given = sym c.in-Ok.ensures.items i; given_room = vec_capacity c.in-Ok.given - vec_len c.in-Ok.given; written = sym c.new.ensures.items i; log = c.new-2.result; last = None; stop = None; looks = 0; caught_up = 0 })
     plain
 
 pub returns-clause-made : goal.returns-clause-made
 returns-clause-made g c =
-    let held : c.starts.inside.store.all ≡ placed_from 0 c.args.starts = c.starts.invariant.placed ∙ ap (placed_from 0) c.starts.view_is in
-    let live : c.starts.inside.store.held ≡ placed_from 0 c.args.starts = c.starts.invariant.held ∙ held in
-    begun_is c.requires.opening.clauses c.args.vars c.args.starts c.args.units.items (g.L.LineOut.told c.args.output) c.starts.inside.store.all c.starts.inside.store.held c.new-waiting.result.items c.len-begun.result c.in-Ok.given.items c.new.result.items (vec_capacity c.in-Ok.given - vec_len c.in-Ok.given) c.new-2.result
-    held live c.new-waiting.ensures.items c.len-begun.ensures c.in-Ok.ensures.items c.new.ensures.items c.new-2.ensures.output c.new-2.ensures.mine c.new-2.ensures.ended c.new-2.ensures.refused
+    let start : c.starts.inside.store.start ≡ placed_from 0 c.args.starts = c.starts.invariant.placed ∙ ap (placed_from 0) c.starts.view_is in
+    let held : c.starts.inside.store.held ≡ placed_from 0 c.args.starts = c.starts.invariant.held ∙ start in
+    begun_is c.requires.opening.clauses c.args.vars c.args.starts c.args.units.items (g.L.LineOut.told c.args.output) c.starts.inside.store.start c.starts.inside.store.held c.starts.inside.store.waiting c.in-Ok.given.items c.new.result.items (vec_capacity c.in-Ok.given - vec_len c.in-Ok.given) c.new-2.result
+    start held c.starts.invariant.none_waits c.in-Ok.ensures.items c.new.ensures.items c.new-2.ensures.output c.new-2.ensures.mine c.new-2.ensures.ended c.new-2.ensures.refused
 
 pub returns-clause-stands : goal.returns-clause-stands
 returns-clause-stands g c = λ F J opens going.

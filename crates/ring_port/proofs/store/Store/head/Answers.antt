@@ -1,22 +1,27 @@
-use Rattle.std.proofs.Common.{◌≡◌, length, sym, ap, subst, arith, IfSome}
+use Rattle.std.proofs.Common.{◌≡◌, ◌==◌, ◌∙◌, ◌+◌, ◌/◌, ◌^◌, ℕ, List, sym, ap, subst, arith, Some, IsSome, IfSome, length}
+use Rattle.std.specs.List.{find}
 use Rattle.std.specs.declared.option.Option.{Option}
 use Rattle.sat_words.specs.declared.shared.Head.{Head}
 use Rattle.ring_port.specs.PortState.{Holding, head_of}
-use Rattle.ring_port.specs.Store.{holdings, holding_in}
-use Rattle.ring_port.proofs.StoreLemmas.{length-holdings, length-placed, is_at}
+use Rattle.ring_port.specs.Store.{StoreData, clause_in, size_at, word_at}
+use Rattle.ring_port.proofs.Stretches.{among_held, used_held, head_is}
 use Rattle.ring_port.proofs.store.Store.head.Goals as goal
 
-pub index-cell-requires : goal.index-cell-requires
-index-cell-requires c =
-    let m : length (holdings c.self.inside.lits.items 0 c.self.inside.cells.items) ≡ length c.args.self.now.all = ap (λ s. length s.all) c.self.view_is in
-    let n = length-holdings c.self.inside.lits.items 0 c.self.inside.cells.items in
-    let r = c.requires in
+pub head_at-requires : goal.head_at-requires
+head_at-requires c =
+    let i = c.self.inside in
+    let k = among_held i.words.items i.held.items c.args.c.address (subst (λ (s : StoreData). IsSome (find (λ h. h.address == c.args.c.address) s.held)) (sym c.self.view_is) c.requires) in
+    let fits = (c.self.invariant.stands k.it (used_held i.start.items i.held.items i.waiting.items k.it k.among)).fits in
+    let at = k.at in
+    let same : length c.deref.result.now ≡ length i.words.items = ap (λ (ws : List ℕ). length ws) c.deref.ensures.value in
     omega arith
 
 pub returns : goal.returns
 returns c =
-    let lits = c.self.inside.lits.items in
-    let x = c.index-cell.result.now in
-    let at = is_at lits c.self.inside.cells.items c.args.self.now.all c.args.c.address x c.self.invariant (ap (λ s. s.all) c.self.view_is) c.requires c.index-cell.ensures in
-    let head : record { size = x.size; glue = x.glue; number = x.number } ≡ head_of (holding_in lits c.args.c.address x) = ap (λ n. record { size = n; glue = x.glue; number = x.number }) (sym (length-placed lits x at.placed)) in
-    subst (λ (o : Option Holding). IfSome o (λ h. ◌≡◌ {A = Head} (record { size = x.size; glue = x.glue; number = x.number }) (head_of h))) (sym at.here) head
+    let i = c.self.inside in
+    let a : ℕ = c.args.c.address in
+    let k = among_held i.words.items i.held.items a (subst (λ (s : StoreData). IsSome (find (λ h. h.address == a) s.held)) (sym c.self.view_is) c.requires) in
+    let there : find (λ h. h.address == a) c.args.self.now.held ≡ Some (clause_in i.words.items a) = ap (λ (s : StoreData). find (λ h. h.address == a) s.held) (sym c.self.view_is) ∙ k.is in
+    let is : c.head_at.result ≡ head_of (clause_in i.words.items a) =
+    c.head_at.ensures ∙ ap (λ (ws : List ℕ). record { size = size_at ws a; glue = word_at ws (a + 2) / 2 ^ 32; number = word_at ws (a + 1) }) c.deref.ensures.value ∙ head_is i.words.items a in
+    subst (λ (o : Option Holding). IfSome o (λ h. ◌≡◌ {A = Head} c.head_at.result (head_of h))) (sym there) is

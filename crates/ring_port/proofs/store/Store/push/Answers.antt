@@ -1,30 +1,77 @@
-use Rattle.std.proofs.Common.{◌≡◌, ◌++◌, ◌∷◌, [], length, ap, ◌∙◌, arith}
-use Rattle.ring_port.specs.Store.{holdings, live}
-use Rattle.ring_port.proofs.StoreLemmas.{length-holdings, holding_pushed, live_pushed}
+use Rattle.std.proofs.Common.{◌≢◌, ◌∙◌, ◌++◌, ◌∷◌, [], ℕ, List, sym, ap, subst, refl, length}
+use Rattle.std.specs.List.{All}
+use Rattle.sat_words.specs.declared.shared.Cref.{Cref}
+use Rattle.clause_cell.specs.Packing.{words_for}
+use Rattle.ring_port.specs.Store.{StoreData, IsStore, IsClaim, clauses_in}
+use Rattle.ring_port.proofs.Stretches.{pushed_store, lists_same, list_pushed, not_there, used_pushed, used_start, used_held, used_waiting}
 use Rattle.ring_port.proofs.store.Store.push.Goals as goal
 
-pub returns-clause-all : goal.returns-clause-all
-returns-clause-all c =
-    let lits = c.self.inside.lits.items in
-    let cells = c.self.inside.cells.items in
-    ap (λ xs. holdings xs 0 c.push_reserved.new.self.items) c.append.ensures
-    ∙ ap (λ xs. holdings (lits ++ c.args.lits.now) 0 xs) c.push_reserved.ensures.items
-    ∙ holding_pushed lits cells c.args.lits.now c.args.number c.args.glue c.len-first.result (let l = c.len-first.ensures in omega arith) c.self.invariant
-    ∙ ap (λ hs. hs ++ record { address = length hs; number = c.args.number; glue = c.args.glue; lits = c.args.lits.now } ∷ []) (ap (λ s. s.all) c.self.view_is)
+pub invariant_of-self : goal.invariant_of-self
+invariant_of-self c =
+    let i = c.self.inside in
+    let ws : List ℕ = i.words.items in
+    let us : List ℕ = c.claim-first.new.words.items in
+    let vs : List ℕ = c.write_clause.new.words.items in
+    let x : Cref = record { address = c.claim-first.result } in
+    let claim : IsClaim ws us i.spare c.claim-first.new.spare c.claim-first.result (words_for (length c.args.lits.now)) = subst (λ (n : ℕ). IsClaim ws us i.spare c.claim-first.new.spare c.claim-first.result n) c.words_for-need.ensures c.claim-first.ensures in
+    subst (λ (cs : List Cref). IsStore vs c.claim-first.new.spare i.start.items cs i.waiting.items i.front i.freed) (sym c.push_reserved.ensures.items)
+    (pushed_store ws us vs i.spare c.claim-first.new.spare c.claim-first.result c.args.number c.args.glue c.args.lits.now claim c.write_clause.ensures
+    i.start.items i.held.items i.waiting.items i.front i.freed c.self.invariant x refl i.start.items (i.held.items ++ x ∷ []) i.front c.self.invariant.front
+    (λ y u. used_pushed i.start.items i.held.items i.waiting.items x y u))
+
+pub returns-clause-start : goal.returns-clause-start
+returns-clause-start c =
+    let i = c.self.inside in
+    let ws : List ℕ = i.words.items in
+    let us : List ℕ = c.claim-first.new.words.items in
+    let vs : List ℕ = c.write_clause.new.words.items in
+    let claim : IsClaim ws us i.spare c.claim-first.new.spare c.claim-first.result (words_for (length c.args.lits.now)) = subst (λ (n : ℕ). IsClaim ws us i.spare c.claim-first.new.spare c.claim-first.result n) c.words_for-need.ensures c.claim-first.ensures in
+    lists_same ws us vs i.spare c.claim-first.new.spare c.claim-first.result c.args.number c.args.glue c.args.lits.now claim c.write_clause.ensures i.start.items
+    (λ y m. c.self.invariant.stands y (used_start i.start.items i.held.items i.waiting.items y m))
+    ∙ ap (λ (s : StoreData). s.start) c.self.view_is
+
+pub returns-clause-waiting : goal.returns-clause-waiting
+returns-clause-waiting c =
+    let i = c.self.inside in
+    let ws : List ℕ = i.words.items in
+    let us : List ℕ = c.claim-first.new.words.items in
+    let vs : List ℕ = c.write_clause.new.words.items in
+    let claim : IsClaim ws us i.spare c.claim-first.new.spare c.claim-first.result (words_for (length c.args.lits.now)) = subst (λ (n : ℕ). IsClaim ws us i.spare c.claim-first.new.spare c.claim-first.result n) c.words_for-need.ensures c.claim-first.ensures in
+    lists_same ws us vs i.spare c.claim-first.new.spare c.claim-first.result c.args.number c.args.glue c.args.lits.now claim c.write_clause.ensures i.waiting.items
+    (λ y m. c.self.invariant.stands y (used_waiting i.start.items i.held.items i.waiting.items y m))
+    ∙ ap (λ (s : StoreData). s.waiting) c.self.view_is
 
 pub returns-clause-held : goal.returns-clause-held
 returns-clause-held c =
-    let lits = c.self.inside.lits.items in
-    let cells = c.self.inside.cells.items in
-    let m : length (holdings lits 0 cells) ≡ length c.args.self.now.all = ap (λ s. length s.all) c.self.view_is in
-    ap (λ xs. live xs 0 c.push_reserved.new.self.items) c.append.ensures
-    ∙ ap (λ xs. live (lits ++ c.args.lits.now) 0 xs) c.push_reserved.ensures.items
-    ∙ live_pushed lits cells c.args.lits.now c.args.number c.args.glue c.len-first.result (let l = c.len-first.ensures in omega arith) c.self.invariant
-    ∙ (λ i. (c.self.view_is i).held ++ record { address = m i; number = c.args.number; glue = c.args.glue; lits = c.args.lits.now } ∷ [])
+    let i = c.self.inside in
+    let ws : List ℕ = i.words.items in
+    let us : List ℕ = c.claim-first.new.words.items in
+    let vs : List ℕ = c.write_clause.new.words.items in
+    let x : Cref = record { address = c.claim-first.result } in
+    let claim : IsClaim ws us i.spare c.claim-first.new.spare c.claim-first.result (words_for (length c.args.lits.now)) = subst (λ (n : ℕ). IsClaim ws us i.spare c.claim-first.new.spare c.claim-first.result n) c.words_for-need.ensures c.claim-first.ensures in
+    ap (λ (cs : List Cref). clauses_in vs cs) c.push_reserved.ensures.items
+    ∙ list_pushed ws us vs i.spare c.claim-first.new.spare c.claim-first.result c.args.number c.args.glue c.args.lits.now claim c.write_clause.ensures i.held.items x refl
+    (λ y m. c.self.invariant.stands y (used_held i.start.items i.held.items i.waiting.items y m))
+    ∙ ap (λ (s : StoreData). s.held ++ record { address = c.claim-first.result; number = c.args.number; glue = c.args.glue; lits = c.args.lits.now } ∷ []) c.self.view_is
 
-pub returns-clause-address : goal.returns-clause-address
-returns-clause-address c =
-    let m : length (holdings c.self.inside.lits.items 0 c.self.inside.cells.items) ≡ length c.args.self.now.all = ap (λ s. length s.all) c.self.view_is in
-    let n = length-holdings c.self.inside.lits.items 0 c.self.inside.cells.items in
-    let l = c.len-address.ensures in
-    omega arith
+pub returns-clause-not_held : goal.returns-clause-not_held
+returns-clause-not_held c =
+    let i = c.self.inside in
+    let ws : List ℕ = i.words.items in
+    let us : List ℕ = c.claim-first.new.words.items in
+    let vs : List ℕ = c.write_clause.new.words.items in
+    let claim : IsClaim ws us i.spare c.claim-first.new.spare c.claim-first.result (words_for (length c.args.lits.now)) = subst (λ (n : ℕ). IsClaim ws us i.spare c.claim-first.new.spare c.claim-first.result n) c.words_for-need.ensures c.claim-first.ensures in
+    subst (λ (s : StoreData). All (λ h. h.address ≢ c.claim-first.result) s.held) c.self.view_is
+    (not_there ws us vs i.spare c.claim-first.new.spare c.claim-first.result c.args.number c.args.glue c.args.lits.now claim c.write_clause.ensures i.held.items c.claim-first.result refl
+    (λ y m. c.self.invariant.stands y (used_held i.start.items i.held.items i.waiting.items y m)))
+
+pub returns-clause-not_waiting : goal.returns-clause-not_waiting
+returns-clause-not_waiting c =
+    let i = c.self.inside in
+    let ws : List ℕ = i.words.items in
+    let us : List ℕ = c.claim-first.new.words.items in
+    let vs : List ℕ = c.write_clause.new.words.items in
+    let claim : IsClaim ws us i.spare c.claim-first.new.spare c.claim-first.result (words_for (length c.args.lits.now)) = subst (λ (n : ℕ). IsClaim ws us i.spare c.claim-first.new.spare c.claim-first.result n) c.words_for-need.ensures c.claim-first.ensures in
+    subst (λ (s : StoreData). All (λ h. h.address ≢ c.claim-first.result) s.waiting) c.self.view_is
+    (not_there ws us vs i.spare c.claim-first.new.spare c.claim-first.result c.args.number c.args.glue c.args.lits.now claim c.write_clause.ensures i.waiting.items c.claim-first.result refl
+    (λ y m. c.self.invariant.stands y (used_waiting i.start.items i.held.items i.waiting.items y m)))

@@ -1,9 +1,0 @@
-use Rattle.std.proofs.Common.{◌≡◌, ◌++◌, take}
-use Rattle.std.specs.Vec.{vec_capacity}
-use Rattle.ring_port.proofs.store.append.Given as goal
-
-abbrev pub invariant-loop-lit : goal.invariant-loop-lit
-invariant-loop-lit l = record {
-  items : l.all.items ≡ l.fn.all.items ++ take l.lit-index l.lits;
-  room : vec_capacity l.all ≡ vec_capacity l.fn.all;
-}

@@ -1,5 +1,5 @@
 //! Small random formulas.
-ghost use Rattle.std.specs.Prelude.{◌≡◌, IfOk};
+ghost use Rattle.std.specs.Prelude.{◌≡◌, ◌≤◌, IfOk, length};
 ghost use Rattle.sat_words.specs.Literal.{IsOn};
 
 use rand_core::utils::NextWord;
@@ -32,12 +32,13 @@ fn draw_clause(alloc: Global, words: &mut Lcg64Xsh32) -> Result<Clause, AllocErr
 
 /// A formula of four clauses to nineteen, by its number.
 pub fn draw_formula(alloc: Global, number: u64) -> Result<Formula, AllocError>
-    ensures { IfOk result (λ formula. formula.vars ≡ 6) }
+    ensures vars { IfOk result (λ formula. formula.vars ≡ 6) }
+    ensures size { IfOk result (λ formula. (4 ≤ length formula.clauses) × (length formula.clauses ≤ 19)) }
 {
     let mut words = Lcg64Xsh32::new(number, 0);
     let mut formula = Formula::new(alloc, VARS);
     let count = 4 + words.next_word() % 16;
-    for _ in 0..count {
+    for _index in 0..count {
         formula.push(draw_clause(alloc, &mut words)?)?;
     }
     Ok(formula)

@@ -1,6 +1,5 @@
-ghost use Rattle.std.specs.Prelude.{◌≤◌};
-
 // What the simplifiers' definitions say, run the slow way.
+ghost use Rattle.std.specs.Prelude.{◌≤◌};
 
 use crate::VARS;
 use sat_words::{Clause, Lit};

@@ -1,3 +1,4 @@
+// `ruler_simp` on small formulas: the lines that it writes and what it leaves of each, by its rounds, and a line that fails.
 ghost use Rattle.ruler_simp.specs.Ruled.{AreOn};
 
 use crate::{model_of, numbers_of};

@@ -1,3 +1,4 @@
+// `simp_base`, the calls of a work: each once, a deletion whose line stands or fails, and which clauses are tautologies.
 use crate::follows;
 use drat_text::{CountedLines, SinkLines};
 use io_edge::MemSink;

@@ -1,13 +1,12 @@
+// `simp_elim`: what is written and left of rows, a line that fails, and a model that is mended.
 ghost use Rattle.std.specs.Prelude.{◌≤◌, All};
 
-use crate::rows::{Row, check_left, counted, written};
-use drat_text::LineStop;
+use crate::rows::{Row, check_fault, check_rows, counted};
+use crate::{Simplifier, run};
 use model_stack::Stack;
 use sat_words::Assignment;
 use simp_base::Run;
-use simp_elim::run;
 use std::alloc::{AllocError, Global};
-use std::process::Abort;
 use std::test::Fail;
 
 /// The variables of each row are 1 to this one.
@@ -37,26 +36,15 @@ const ROWS: &[Row] = &[
     },
 ];
 
-fn check_row(rt: &impl Abort, alloc: Global, row: &Row) -> Result<(), Fail> {
-    let mut work = written(rt, alloc, VARS, row.clauses)?;
-    let answer = run(&mut work);
-    check_left(rt, alloc, VARS, row, answer, work)
-}
-
 #[test]
 fn what_is_written_and_left(rt: HostRuntime) -> Result<(), Fail> {
-    for row in ROWS {
-        check_row(&rt, rt.alloc(), row)?;
-    }
-    Ok(())
+    check_rows(&rt, rt.alloc(), Simplifier::Elimination, VARS, ROWS)
 }
 
 #[test]
 fn a_line_that_fails(rt: HostRuntime) -> Result<(), Fail> {
-    let mut work = counted(&rt, rt.alloc(), VARS, &[1, 3, 0, 2, -3, 0], 1)?;
-    assert!(rt; run(&mut work) == Err(LineStop::ProofFault));
-    assert_eq!(rt; work.into_parts().clauses.len(), 2);
-    Ok(())
+    let clauses = [1, 3, 0, 2, -3, 0];
+    check_fault(&rt, rt.alloc(), Simplifier::Elimination, VARS, &clauses, 2)
 }
 
 /// The assignment that is false everywhere, mended by the stack.
@@ -72,7 +60,7 @@ fn mended(alloc: Global, vars: u32, stack: &Stack) -> Result<Assignment, AllocEr
 fn a_model_comes_back(rt: HostRuntime) -> Result<(), Fail> {
     let alloc = rt.alloc();
     let mut work = counted(&rt, alloc, VARS, &[1, 2, 0, 1, 4, 0, -1, 3, 0], 0)?;
-    assert!(rt; run(&mut work) == Ok(Run::Done));
+    assert!(rt; run(Simplifier::Elimination, &mut work) == Ok(Run::Done));
     let left = work.into_parts();
     let model = mended(alloc, VARS, &left.stack)?;
     for (var, value) in [(1, true), (2, false), (3, true), (4, false)] {

@@ -1,6 +1,7 @@
 //! What follows from one clause of a work.
-ghost use Rattle.std.specs.Prelude.{◌≡◌, true, IfOk};
+ghost use Rattle.std.specs.Prelude.{◌≡◌, ◌∷◌, [], List, true, Contains, IfOk};
 ghost use Rattle.rup_model.specs.Rup.{rup};
+ghost use Rattle.sat_words.specs.Literal.{Literal};
 ghost use Rattle.simp_base.specs.WorkState.{known};
 
 use drat_text::LineOut;
@@ -16,11 +17,15 @@ pub fn follows<L: LineOut>(
     number: u64,
     lits: &[Lit],
 ) -> Result<bool, AllocError>
-    ensures { IfOk result (λ yes. yes ≡ true → rup (known work.now) lits.now ≡ true) }
+    ensures follows { IfOk result (λ yes. yes ≡ true → rup (known work.now) lits.now ≡ true) }
+    ensures alone { IfOk result (λ yes. (c : List Literal) → Contains work.now.clauses (number, c) → yes ≡ rup (c ∷ []) lits.now) }
+    ensures none { IfOk result (λ yes. yes ≡ true → (c : List Literal) × Contains work.now.clauses (number, c)) }
 {
-    let Some(clause) = work.clause(number) else {
-        return Ok(false);
-    };
-    let only = [Lits::from_slice(alloc, clause.lits())?];
-    is_rup(alloc, &only, lits)
+    match work.clause(number) {
+        Some(clause) => {
+            let only = [Lits::from_slice(alloc, clause.lits())?];
+            is_rup(alloc, &only, lits)
+        }
+        None => Ok(false),
+    }
 }

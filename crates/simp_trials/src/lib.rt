@@ -3,10 +3,12 @@
 
 mod following;
 mod formulas;
+mod simplifiers;
 mod works;
 
 pub use following::follows;
 pub use formulas::{formula_of, is_on, literal, literals};
+pub use simplifiers::{Simplifier, run};
 pub use works::{counted_lines, counted_work, text_lines, text_work};
 
 #[cfg(test)]

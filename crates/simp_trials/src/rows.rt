@@ -1,8 +1,8 @@
-// What a simplifier is run on, and what is wanted of it.
+// Rows of tests: what a simplifier is run on, and what is wanted of it.
 ghost use Rattle.std.specs.Prelude.{◌≡◌, ◌≤◌, ◌^◌, false, IfOk};
 ghost use Rattle.simp_base.specs.WorkState.{IsWork};
 
-use crate::{counted_work, formula_of, is_on, literals, text_work};
+use crate::{Simplifier, counted_work, formula_of, is_on, literals, run, text_work};
 use drat_text::{CountedLines, LineStop, SinkLines};
 use io_edge::MemSink;
 use simp_base::{Run, Work};
@@ -37,7 +37,7 @@ pub(crate) fn counted(
 }
 
 /// A work on clauses over these variables, whose lines are kept as text.
-pub(crate) fn written(
+fn written(
     rt: &impl Abort,
     alloc: Global,
     vars: u32,
@@ -52,7 +52,7 @@ pub(crate) fn written(
 }
 
 /// The answer, and what is left, are those of the row, over these variables.
-pub(crate) fn check_left(
+fn check_left(
     rt: &impl Abort,
     alloc: Global,
     vars: u32,
@@ -71,5 +71,52 @@ pub(crate) fn check_left(
     assert!(rt; sink.bytes() == text.as_bytes(), "{text}");
     assert!(rt; parts.units.as_slice() == units.as_slice(), "{text}");
     assert_eq!(rt; parts.clauses.len(), row.left, "{text}");
+    Ok(())
+}
+
+fn check_row(
+    rt: &impl Abort,
+    alloc: Global,
+    simplifier: Simplifier,
+    vars: u32,
+    row: &Row,
+) -> Result<(), Fail>
+    requires { vars ≤ 2 ^ 30 }
+{
+    let mut work = written(rt, alloc, vars, row.clauses)?;
+    let answer = run(simplifier, &mut work);
+    check_left(rt, alloc, vars, row, answer, work)
+}
+
+/// Runs the simplifier on each row, over these variables, and compares what it answers, writes and leaves.
+pub(crate) fn check_rows(
+    rt: &impl Abort,
+    alloc: Global,
+    simplifier: Simplifier,
+    vars: u32,
+    rows: &[Row],
+) -> Result<(), Fail>
+    requires { vars ≤ 2 ^ 30 }
+{
+    for row in rows {
+        check_row(rt, alloc, simplifier, vars, row)?;
+    }
+    Ok(())
+}
+
+/// The first line of these clauses fails: the simplifier says so, and so many clauses are left.
+pub(crate) fn check_fault(
+    rt: &impl Abort,
+    alloc: Global,
+    simplifier: Simplifier,
+    vars: u32,
+    clauses: &[i32],
+    left: usize,
+) -> Result<(), Fail>
+    requires { vars ≤ 2 ^ 30 }
+{
+    let mut work = counted(rt, alloc, vars, clauses, 1)?;
+    assert!(rt; run(simplifier, &mut work) == Err(LineStop::ProofFault));
+    assert_eq!(rt; work.into_parts().clauses.len(), left);
     Ok(())
 }

@@ -1,9 +1,7 @@
-use crate::rows::{Row, check_left, counted, written};
-use drat_text::LineStop;
+// `simp_subsume`: what is written and left of rows, and a line that fails.
+use crate::Simplifier;
+use crate::rows::{Row, check_fault, check_rows};
 use simp_base::Run;
-use simp_subsume::run;
-use std::alloc::Global;
-use std::process::Abort;
 use std::test::Fail;
 
 /// The variables of each row are 1 to this one.
@@ -40,24 +38,13 @@ const ROWS: &[Row] = &[
     },
 ];
 
-fn check_row(rt: &impl Abort, alloc: Global, row: &Row) -> Result<(), Fail> {
-    let mut work = written(rt, alloc, VARS, row.clauses)?;
-    let answer = run(&mut work);
-    check_left(rt, alloc, VARS, row, answer, work)
-}
-
 #[test]
 fn what_is_written_and_left(rt: HostRuntime) -> Result<(), Fail> {
-    for row in ROWS {
-        check_row(&rt, rt.alloc(), row)?;
-    }
-    Ok(())
+    check_rows(&rt, rt.alloc(), Simplifier::Subsumption, VARS, ROWS)
 }
 
 #[test]
 fn a_line_that_fails(rt: HostRuntime) -> Result<(), Fail> {
-    let mut work = counted(&rt, rt.alloc(), VARS, &[1, 2, 3, 0, 1, 2, 0], 1)?;
-    assert!(rt; run(&mut work) == Err(LineStop::ProofFault));
-    assert_eq!(rt; work.into_parts().clauses.len(), 2);
-    Ok(())
+    let clauses = [1, 2, 3, 0, 1, 2, 0];
+    check_fault(&rt, rt.alloc(), Simplifier::Subsumption, VARS, &clauses, 2)
 }

@@ -1,7 +1,9 @@
 //! Works on a formula, whose lines are counted or kept as text.
-ghost use Rattle.std.specs.Prelude.{◌≡◌, false, All, IfOk, length};
+ghost use Rattle.std.specs.Prelude.{◌≡◌, false, [], All, IfOk, length};
+ghost use Rattle.drat_text.specs.CountedData.{begun_counting};
+ghost use Rattle.io_edge.specs.Memory.{new_sink};
 ghost use Rattle.sat_words.specs.Literal.{IsOn};
-ghost use Rattle.simp_base.specs.WorkState.{IsWork};
+ghost use Rattle.simp_base.specs.WorkState.{IsWork, begun};
 
 use drat_text::{CountedLines, SinkLines};
 use io_edge::MemSink;
@@ -12,7 +14,7 @@ use std::test::Fail;
 
 /// Lines for the formula that are counted; that with the number `failing` fails, from 1, and none for 0.
 pub fn counted_lines(formula: &Formula, failing: u64) -> CountedLines
-    ensures { (result.spent ≡ false) × (result.entries ≡ 0) × (result.last ≡ length formula.now.clauses) }
+    ensures { result ≡ begun_counting (length formula.now.clauses) }
 {
     CountedLines::new(formula.clauses().len() as u64, failing)
 }
@@ -23,7 +25,7 @@ pub fn text_lines(
     formula: &Formula,
     room: usize,
 ) -> Result<SinkLines<MemSink<'static>>, Fail>
-    ensures { IfOk result (λ lines. (lines.spent ≡ false) × (lines.entries ≡ 0) × (lines.last ≡ length formula.now.clauses)) }
+    ensures { IfOk result (λ lines. lines ≡ record { entries = 0; last = length formula.now.clauses; spent = false; waiting = []; sink = new_sink room [] }) }
 {
     let sink = MemSink::new(alloc, room, &[])?;
     match SinkLines::new(alloc, formula.clauses().len() as u64, sink) {
@@ -39,7 +41,8 @@ pub fn counted_work(
     failing: u64,
 ) -> Result<Work<CountedLines>, Fail>
     requires { All (All (IsOn formula.now.vars)) formula.now.clauses }
-    ensures { IfOk result (λ work. (work.vars ≡ formula.now.vars) × (work.output.spent ≡ false) × (work.ended ≡ false) × IsWork work) }
+    ensures made { IfOk result (λ work. work ≡ begun formula.now work.output) }
+    ensures ready { IfOk result (λ work. (work.vars ≡ formula.now.vars) × (work.output.spent ≡ false) × (work.ended ≡ false) × IsWork work) }
 {
     match Work::new(alloc, formula, counted_lines(formula, failing)) {
         Ok(work) => Ok(work),
@@ -54,7 +57,8 @@ pub fn text_work(
     room: usize,
 ) -> Result<Work<SinkLines<MemSink<'static>>>, Fail>
     requires { All (All (IsOn formula.now.vars)) formula.now.clauses }
-    ensures { IfOk result (λ work. (work.vars ≡ formula.now.vars) × (work.output.spent ≡ false) × (work.ended ≡ false) × IsWork work) }
+    ensures made { IfOk result (λ work. work ≡ begun formula.now work.output) }
+    ensures ready { IfOk result (λ work. (work.vars ≡ formula.now.vars) × (work.output.spent ≡ false) × (work.ended ≡ false) × IsWork work) }
 {
     match Work::new(alloc, formula, text_lines(alloc, formula, room)?) {
         Ok(work) => Ok(work),

@@ -1,7 +1,7 @@
 // The clauses of a port in memory, in one vector of words: each lies in one stretch, its head before its literals.
 ghost use Rattle.std.specs.Prelude.{◌≡◌, ◌≢◌, ◌<◌, ◌≤◌, ◌+◌, ◌^◌, ◌∷◌, ◌++◌, ◌==◌, [], true, None, Some, IfOk, OnOk, OnErr, IfErr, IfSome, IsSome, All, find, length, drop, map, slice_get, position};
 ghost use Rattle.ring_port.specs.PortState.{Holding, AreApart, head_of, lits_in};
-ghost use Rattle.ring_port.specs.Store.{word_at, without_ref};
+ghost use Rattle.ring_port.specs.Store.{without_ref};
 ghost use Rattle.ring_port.specs.Deleting.{without_one};
 ghost use Rattle.clause_cell.specs.Packing.{words_for};
 

@@ -12,7 +12,8 @@ pub mod reducing;
 mod reduction;
 #[cfg(test)]
 mod reuse;
-pub mod reusing;
+#[cfg(test)]
+mod reusing;
 #[cfg(test)]
 mod runs;
 pub mod stepping;

@@ -1,4 +1,4 @@
-//! Copies of one start clause, of which one is given up before others come.
+// Copies of one start clause, of which one is given up before others come.
 ghost use Rattle.std.specs.Prelude.{◌≡◌, ◌≢◌, All, IfOk, IsSome, OnOk};
 ghost use Rattle.sat_words.specs.declared.shared.Cref.{Cref};
 ghost use Rattle.ring_port.specs.PortState.{held_at};
@@ -10,7 +10,7 @@ use std::alloc::{AllocError, Global};
 use std::test::Fail;
 
 /// A copy of the start clause of this glue.
-pub fn copy_one<P: Port>(port: &mut P, glue: u32) -> Result<Cref, Fail>
+pub(crate) fn copy_one<P: Port>(port: &mut P, glue: u32) -> Result<Cref, Fail>
     requires { IsRow (P.state port.old) }
     ensures { IfOk result (λ c. OneMore (P.state port.old) (P.state port.new) c) }
 {
@@ -22,7 +22,7 @@ pub fn copy_one<P: Port>(port: &mut P, glue: u32) -> Result<Cref, Fail>
 }
 
 /// Gives a copy up, and deletes it.
-pub fn give_up<P: Port>(port: &mut P, c: Cref) -> Result<(), Fail>
+pub(crate) fn give_up<P: Port>(port: &mut P, c: Cref) -> Result<(), Fail>
     requires row { IsRow (P.state port.old) }
     requires held { IsSome (held_at (P.state port.old) c.address) }
     requires no_start { c.address ≢ 0 }
@@ -38,7 +38,7 @@ pub fn give_up<P: Port>(port: &mut P, c: Cref) -> Result<(), Fail>
 }
 
 /// The glue of a clause that is held, and whether its literals are those of the start clause.
-pub fn read_copy<P: Port>(port: &mut P, c: Cref) -> (u32, bool)
+pub(crate) fn read_copy<P: Port>(port: &mut P, c: Cref) -> (u32, bool)
     requires { IsSome (held_at (P.state port.old) c.address) }
     ensures { P.state port.new ≡ P.state port.old }
 {
@@ -52,7 +52,7 @@ pub fn read_copy<P: Port>(port: &mut P, c: Cref) -> (u32, bool)
 }
 
 /// Where clauses that are held stand, and what is read of them.
-pub fn read_copies<P: Port>(
+pub(crate) fn read_copies<P: Port>(
     alloc: Global,
     port: &mut P,
     copies: &[Cref],
@@ -68,7 +68,10 @@ pub fn read_copies<P: Port>(
 }
 
 /// Of three copies the second is given up, and two more come.
-pub fn reuse_words<P: Port>(alloc: Global, port: &mut P) -> Result<Vec<(u64, u32, bool)>, Fail>
+pub(crate) fn reuse_words<P: Port>(
+    alloc: Global,
+    port: &mut P,
+) -> Result<Vec<(u64, u32, bool)>, Fail>
     requires { IsRow (P.state port.old) }
 {
     let first = copy_one(port, 3)?;

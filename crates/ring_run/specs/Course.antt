@@ -74,7 +74,7 @@ pub record CanAssert (t : TrailData) (lits : List Literal) (back : ℕ) : Type 0
   pub on : first.var ≤ t.vars
   pub free : (v : TrailData) → WentBack t v back → HasNoPlace v.steps first.var
 
--- the clause joins the lemmas where it has an address
+-- the clause joins the lemmas where it has an address, and no reduction is counted
 pub record Lists (old new : Ring) (address : Option Cref) : Type 0 where
   pub lemmas : new.lemmas.items ≡ old.lemmas.items ++ option_to_list address
   pub reductions : new.reductions ≡ old.reductions
@@ -215,7 +215,7 @@ pub record IsOffering (s : PortState) (ring : Ring) : Type 0 where
   pub counts : HasOffered s ring.exported ring.offered
   pub few : ring.exported ≤ ring.learned
 
--- one look that found no stop came before each decision that stands, and before each that a lemma took back
+-- since the base at least as many looks found no stop as lemmas were learned and decisions stand, up to the last count
 abbrev pub IsLooking : ℕ → PortState → Ring → Type 0
 IsLooking base s ring = HasLooked (base + ring.learned + ring.trail.level) s
 
@@ -250,7 +250,7 @@ IsInOrder [] (x ∷ xs) = ⊥
 IsInOrder (y ∷ ys) [] = ⊤
 IsInOrder (y ∷ ys) (x ∷ xs) = ((x ≡ y) × IsInOrder ys xs) ⊎ IsInOrder ys (x ∷ xs)
 
--- the numbers of the clauses that the ring added, in the order of their lines: each is greater than those before it
+-- the numbers of the clauses that the ring added, in the order of their lines
 abbrev pub numbers : PortState → List ℕ
 numbers s = map (λ (x : Addition). x.number) (additions s.mine)
 
@@ -258,12 +258,12 @@ numbers s = map (λ (x : Addition). x.number) (additions s.mine)
 abbrev pub number_at : PortState → ℕ → ℕ
 number_at s a = option_map_or (λ (h : Holding). h.number) (held_at s a) 0
 
--- the clauses stand in the order in which the ring added them, which is that of their numbers
+-- the clauses stand in the order in which the ring added them
 abbrev pub AreOrdered : PortState → List Cref → Type 0
 AreOrdered s cs = IsInOrder (numbers s) (map (λ (c : Cref). number_at s c.address) cs)
 
 -- no two lemmas are at the same address, each is attached, and none is at the address of a start clause; they stand in the
--- order of their numbers, and the glue of each is one at least; the lemmas learned since the ring last reduced them are
+-- order of their lines, and the glue of each is one at least; the lemmas learned since the ring last reduced them are
 -- counted, and so are the reductions
 pub record HasLemmas (s : PortState) (ring : Ring) : Type 0 where
   pub ordered : AreOrdered s ring.lemmas.items
@@ -283,7 +283,7 @@ KeepsLemmas old before new ring = HasLemmas old before → HasLemmas new ring
 abbrev pub imports_of : Ring → ℕ
 imports_of ring = if ring.pending then ring.restarts.made else ring.restarts.made + 1
 
--- at each import the ring has polled each other ring; one is yet to be at level 0 only
+-- the ring has polled as often as its imports take; one is yet to be at level 0 only
 pub record IsPolling (s : PortState) (ring : Ring) : Type 0 where
   pub place : ring.place ≡ record { ring = s.ring; rings = s.rings }
   pub polled : s.polled ≡ polls_of s (imports_of ring)

@@ -37,7 +37,7 @@ pub record IsJobOf (s : PortState) (job : Job) : Type 0 where
   pub start : job.start ≡ map (λ (h : Holding). record { address = h.address }) s.start
   pub some : 1 ≤ job.conflicts
 
--- the ring holds each start clause, and has done nothing yet
+-- the ring holds each start clause; nothing is seen, added, taken, shared or polled yet, no stop is known, and nothing was refused
 pub record IsUntouched (s : PortState) : Type 0 where
   pub held : HoldsStart s
   pub seen : s.seen ≡ []
@@ -105,7 +105,8 @@ IsDerivedInTime before r Learn c = ⊤
 IsDerivedInTime before r Derive c = 2 ≤ length c → (1 ≤ reductions r before) × (recent r before ≡ [])
 IsDerivedInTime before r UnitLine c = ⊤
 
--- the ring learned as many clauses before its i-th Reduce entry, since the one before, as reduction i comes after
+-- before its i-th Reduce entry the ring learned at least as many clauses since the one before as reduction i comes after; what it
+-- derives comes in time
 abbrev pub IsTimely : List Entry → Entry → Type 0
 IsTimely before (Add x) = IsDerivedInTime before x.ring x.kind x.lits
 IsTimely before (Del r n) = ⊤
@@ -164,7 +165,7 @@ searched s = start_lits s ++ (recent s.ring s.mine ++ map (λ l. l ∷ []) s.see
 abbrev pub IsTold : PortState → Type 0
 IsTold s = (l : Literal) → Rounds (searched s) [] l ≡ true → has s.seen l ≡ true
 
--- the glue counts levels: one at least, and fewer than the clause has literals
+-- the glue is one at least, and less than the clause has literals
 pub record IsGlued (h : Holding) : Type 0 where
   pub some : 1 ≤ h.glue
   pub few : h.glue < length h.lits
@@ -184,7 +185,7 @@ last_looks _ = 0
 abbrev pub HasLooked : ℕ → PortState → Type 0
 HasLooked n s = min n (2 ^ 64 - 1) ≤ s.looks
 
--- a clause of two to seven literals: it has a class whatever its glue, which is less than its size
+-- a clause of two to seven literals: it has a class where its glue is one at least and less than its size
 abbrev pub is_short : List Literal → Bool
 is_short c = nat_le 2 (length c) && nat_le (length c) 7
 
@@ -210,8 +211,8 @@ IsHalted (Sat a) = ⊥
 IsHalted Spent = ⊥
 IsHalted _ = ⊤
 
--- where the ring found a model, or is spent, it has polled each class of each other ring once at its start and once at each
--- restart; else at most so often
+-- where the ring found a model, or is spent, it has polled as often as one import more than it restarted takes; else at most so
+-- often
 abbrev pub HasPolled : PortState → (restarts : ℕ) → End → Type 0
 HasPolled s restarts (Sat a) = s.polled ≡ polls_of s (1 + restarts)
 HasPolled s restarts Spent = s.polled ≡ polls_of s (1 + restarts)
@@ -243,7 +244,7 @@ pub record HasImported (start s : PortState) (imports : ℕ) : Type 0 where
   pub polls : s.polls ≡ start.polls ++ rounds imports (import_slots s)
   pub caught_up : min (start.caught_up + imports) (2 ^ 64 - 1) ≤ s.caught_up
 
--- where the ring found a model, or is spent, it has imported once at its start and once at each restart; else it looked into the
+-- where the ring found a model, or is spent, it has imported once more than it restarted; else it looked into the
 -- slots of so many imports, in order, up to one of them
 abbrev pub ImportsBy : (start s : PortState) (restarts : ℕ) → End → Type 0
 ImportsBy start s restarts (Sat a) = HasImported start s (1 + restarts)
@@ -260,7 +261,7 @@ pub record IsCounted (s : PortState) (counts : Counts) : Type 0 where
   pub learned_is : counts.learned ≡ length (learned s.ring s.mine)
   pub offers : HasOffered s counts.exported counts.offered
 
--- each restart came after 50 lemmas or more since the one before; by a ring of odd number just as many were made as Luby's
+-- there are 50 lemmas or more for each restart; by a ring of odd number just as many were made as Luby's
 -- sequence allows for the lemmas, of which the last is followed by none where the ring is spent
 pub record HasRestarted (ring limit : ℕ) (counts : Counts) : Type 0 where
   pub few : 50 * counts.restarts ≤ counts.learned
@@ -314,7 +315,7 @@ stop_kind (NoHole lack) = Some STOP_ROOM
 stop_kind ProofFault = Some STOP_PROOF
 stop_kind Memory = Some STOP_MEMORY
 
--- the cause of each end; at a model all that is true for good is seen; no line has failed but at `ProofFault`, and perhaps at
+-- the cause of each end; at a model all that unit propagation gives from nothing is seen; no line has failed but at `ProofFault`, and perhaps at
 -- `Stopped`; the ring added the empty clause at none but `Refuted`, and perhaps `Stopped`
 abbrev pub Cause : PortState → End → Type 0
 Cause s (Sat a) = IsModelOf s a × (is_usable s.refused ≡ true) × IsTold s × IsGoing s

@@ -54,7 +54,8 @@ pub record IsNamed (p : Point) (c : Cref) : Type 0 where
   pub few : glue_at p.port c.address ≤ 2
   pub none_true : (l : Literal) → has (lits_at p.port c.address) l ≡ true → IsTrueOn p.trail.steps l → ⊥
 
--- the unit was made true, and what follows from it by propagation; each literal is told, and nothing is left to propagate
+-- the unit was made true, and the trail grew from there at its level; each literal is told, by lines of units alone, and nothing is
+-- left to propagate
 pub record HasFollowed (p q : Point) (l : Literal) : Type 0 where
   pub grown : HasGrown (assigned p.trail l None) q.trail
   pub lines : OnlyWrote p.port q.port
@@ -148,7 +149,7 @@ LeftBehind s ring (Shorter d) = IsResting s ring
 LeftBehind s ring (Unit l) = AwaitsUnit s ring l
 LeftBehind s ring Empty = ⊥
 
--- it comes to such an end as a refusal, and takes no look
+-- it comes to an end that is no model, no limit of lemmas and no stop of another, and takes no look
 pub record HaltsAt (old new : PortState) (end : End) : Type 0 where
   pub ends : EndsAt old new end
   pub halted : IsHalted end
@@ -184,7 +185,7 @@ IsLeft s u w c Nothing = ⊤
 
 -- Both
 
--- the lemmas were reduced, those left had their turns in order of number, and then all clauses that waited were deleted
+-- the lemmas were reduced, those left had their turns in the order of their lines, and then all clauses that waited were deleted
 pub record HasShrunk (old new : PortState) (before after : Ring) : Type 0 where
   pub dropped : PortState
   pub between : Ring

@@ -41,8 +41,8 @@ pub record Remembers (s : PortState) (cs : List Cref) : Type 0 where
   pub lemmas : (c : List Literal) → Contains (recent s.ring s.mine) c → IsAmong s cs c
   pub units : (l : Literal) → adds_unit s.ring s.mine l ≡ true → has s.seen l ≡ true
 
--- the clauses attached are held, and each start clause, what the ring learned and what it took from other rings are among
--- them; nothing has been refused, and no stop is known
+-- the clauses attached are held, and each start clause, and what the ring learned and took from other rings since its last Reduce
+-- entry, is among them or a unit that is seen; nothing has been refused, and no stop is known
 pub record HasClauses (s : PortState) (cs : List Cref) : Type 0 where
   pub held : All (IsHeldBy s) cs
   pub starts : (h : Holding) → Contains s.start h → Contains cs (record { address = h.address })
@@ -172,8 +172,8 @@ abbrev pub AreTaken : PortState → TrailData → Units → Type 0
 AreTaken s t True = Stands s t × OpeningSeen s
 AreTaken s t Opposed = rup (known s) [] ≡ true
 
--- a run that began in one state and stands in another, with as many lemmas as are counted; each start clause is held, and each lemma
--- since the last Reduce entry is held or seen
+-- a run that began in one state and stands in another, with as many lemmas as are counted: its entries are of their kinds, new and in
+-- time, and each start clause is held, and each lemma since the last Reduce entry held or seen
 pub record Runs (start s : PortState) (count : ℕ) : Type 0 where
   pub stays : Stays start s
   pub held : HoldsStart s

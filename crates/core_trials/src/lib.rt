@@ -8,6 +8,8 @@ pub use literals::{are_distinct, is_long, is_told};
 pub use opener::{all_fit, all_told, core_over, opens, stand_apart, start_clauses, start_fits};
 
 #[cfg(test)]
+mod events;
+#[cfg(test)]
 mod guards;
 #[cfg(test)]
 mod openings;
@@ -15,6 +17,8 @@ mod openings;
 mod reductions;
 #[cfg(test)]
 mod rows;
+#[cfg(test)]
+mod seen;
 #[cfg(test)]
 mod tables;
 #[cfg(test)]

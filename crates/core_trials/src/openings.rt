@@ -1,6 +1,6 @@
 // Openings over small formulas, as text.
 use crate::core_over;
-use crate::tables::{lit, lits, words};
+use crate::events::{lit, lits, words};
 use sat_words::{Clause, Formula, Lit};
 use share_core::Core;
 use std::alloc::Global;

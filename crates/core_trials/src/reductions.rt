@@ -1,6 +1,7 @@
 // A ring reduces once it has learned 2000 clauses, not before.
+use crate::events::read;
 use crate::openings::{FOUR, open};
-use crate::tables::{read, walk};
+use crate::tables::walk;
 use rup_model::Kind;
 use sat_words::Lit;
 use share_core::{Core, Event, Step};

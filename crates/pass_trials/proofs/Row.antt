@@ -1,5 +1,5 @@
 -- What the rings of the tests know.
-use Rattle.std.proofs.Common.{◌≡◌, ◌≢◌, ◌∙◌, ℕ, ◌||◌, Bool, true, false, true≢false, List, [], ◌∷◌, map, All, Contains, refl, sym, ap, subst, arith, Some, IsSome, Option}
+use Rattle.std.proofs.Common.{◌≡◌, ◌≢◌, ◌∙◌, ℕ, ◌||◌, Bool, true, false, true≢false, List, [], ◌∷◌, map, All, Contains, length, refl, sym, ap, subst, arith, Some, IsSome, Option}
 use Rattle.std.specs.Prelude.{slice_get}
 use Rattle.std.specs.Option.{unwrap_or}
 use Rattle.std.proofs.lemmas.Bool.{or_right}
@@ -22,6 +22,7 @@ use Rattle.sample_table.specs.Samples.{IsFirst, IsGathered}
 use Rattle.ring_port.specs.PortState.{Holding, PortState, HoldsStart, held_at, lits_at, lits_in, known}
 use Rattle.ring_port.specs.Port.{is_usable}
 use Rattle.ring_port.specs.Deleting.{DroppedOnce, TidiedUpTo}
+use Rattle.ring_port.specs.Exchange.{looked_into}
 use Rattle.ring_port.proofs.Holdings.{held_is_known, lits_of_holding}
 use Rattle.ring_port.proofs.PlainLemmas.{dropped_others, same_lookup}
 use Rattle.ring_pass.specs.RingState.{holding_of, begun_as}
@@ -53,6 +54,18 @@ two_follows s c h e =
 
 pub two_lits : (a b c d : Literal) → a ≡ c → b ≡ d → a ∷ b ∷ [] ≡ c ∷ d ∷ []
 two_lits a b c d e f = λ i. e i ∷ f i ∷ []
+
+-- a list of two is what is read at its two places
+pub two_read : (xs : List Literal) (a b : Literal) → length xs ≡ 2 → slice_get xs 0 ≡ Some a → slice_get xs 1 ≡ Some b → xs ≡ a ∷ b ∷ []
+two_read [] a b n e f = absurd (omega (arith, n))
+two_read (x ∷ []) a b n e f = absurd (omega (arith, n))
+two_read (x ∷ y ∷ []) a b n e f = two_lits x y a b (ap (λ (o : Option Literal). unwrap_or o a) e) (ap (λ (o : Option Literal). unwrap_or o b) f)
+two_read (x ∷ y ∷ z ∷ zs) a b n e f = absurd (omega (arith, n))
+
+-- a look leaves the clauses that are held
+pub lits_stay : (s : PortState) (a : ℕ) → lits_at (looked_into 0 0 s) a ≡ lits_at s a
+unfolding held_at
+lits_stay s a = refl
 
 -- What stays where a clause is given up
 

@@ -1,8 +1,11 @@
 //! What the rings do, a call or two at a time.
-ghost use Rattle.std.specs.Prelude.{◌≡◌, ◌++◌, ◌∷◌, [], Some, IfOk, OnOk, IsSome, MatchOption};
-ghost use Rattle.ring_port.specs.PortState.{held_at};
-ghost use Rattle.ring_port.specs.Deleting.{IsNotTaken};
-ghost use Rattle.pass_trials.specs.Samples.{pair, later, spare, IsAt, IsPlayer, IsBegun, IsIdle, IsDone, IsListener, Stays, Keeps};
+ghost use Rattle.std.specs.Prelude.{◌≡◌, ◌++◌, ◌∷◌, [], Some, IfOk, IfSome, OnOk, IsSome, MatchOption, length};
+ghost use Rattle.rup_model.specs.declared.journal.Kind.TheVariants.{UnitLine};
+ghost use Rattle.ring_port.specs.PortState.{held_at, head_of, lits_at};
+ghost use Rattle.ring_port.specs.Port.{LearnedClause, WroteUnit};
+ghost use Rattle.ring_port.specs.Deleting.{IsNotTaken, DroppedOnce};
+ghost use Rattle.ring_port.specs.Exchange.{other_rings, Polled};
+ghost use Rattle.pass_trials.specs.Samples.{plus, pair, later, spare, IsAt, IsPlayer, IsBegun, IsIdle, IsDone, IsListener, Stays, Keeps};
 
 use ring_port::Port;
 use sat_words::{Cref, Head, Lit};
@@ -36,6 +39,7 @@ pub enum Miss {
 pub fn learn_pair<P: Port>(port: &mut P) -> Result<Cref, Miss>
     requires { IsBegun (P.state port.old) }
     ensures idle { OnOk result (IsIdle (P.state port.new)) }
+    ensures learned { IfOk result (LearnedClause (P.state port.old) (P.state port.new) pair 1) }
     ensures there { IfOk result (λ c. IsAt (P.state port.new) c.address pair) }
     ensures last { IfOk result (λ c. (P.state port.new).last ≡ Some c.address) }
     ensures same { OnOk result (Keeps (P.state port.old) (P.state port.new)) }
@@ -51,6 +55,7 @@ pub fn learn_pair<P: Port>(port: &mut P) -> Result<Cref, Miss>
 pub fn learn_later<P: Port>(port: &mut P) -> Result<Cref, Miss>
     requires { IsIdle (P.state port.old) }
     ensures done { OnOk result (IsDone (P.state port.new)) }
+    ensures learned { IfOk result (LearnedClause (P.state port.old) (P.state port.new) later 1) }
     ensures there { IfOk result (λ c. IsAt (P.state port.new) c.address later) }
     ensures last { IfOk result (λ c. (P.state port.new).last ≡ Some c.address) }
     ensures same { OnOk result (Keeps (P.state port.old) (P.state port.new)) }
@@ -67,6 +72,7 @@ pub fn offer_pair<P: Port>(port: &mut P, c: Cref) -> u64
     requires idle { IsIdle (P.state port.old) }
     requires there { IsAt (P.state port.old) c.address pair }
     requires last { (P.state port.old).last ≡ Some c.address }
+    ensures many { result ≡ length (other_rings (P.state port.old)) }
     ensures idle { IsIdle (P.state port.new) }
     ensures there { IsAt (P.state port.new) c.address pair }
     ensures same { Keeps (P.state port.old) (P.state port.new) }
@@ -79,6 +85,7 @@ pub fn offer_later<P: Port>(port: &mut P, c: Cref) -> u64
     requires done { IsDone (P.state port.old) }
     requires there { IsAt (P.state port.old) c.address later }
     requires last { (P.state port.old).last ≡ Some c.address }
+    ensures many { result ≡ length (other_rings (P.state port.old)) }
     ensures done { IsDone (P.state port.new) }
     ensures there { IsAt (P.state port.new) c.address later }
     ensures same { Keeps (P.state port.old) (P.state port.new) }
@@ -90,6 +97,7 @@ pub fn offer_later<P: Port>(port: &mut P, c: Cref) -> u64
 pub fn give_pair_up<P: Port>(port: &mut P, c: Cref) -> Result<(), Miss>
     requires idle { IsIdle (P.state port.old) }
     requires there { IsAt (P.state port.old) c.address pair }
+    ensures dropped { OnOk result (DroppedOnce (P.state port.old) (P.state port.new) c.address) }
     ensures idle { OnOk result (IsIdle (P.state port.new)) }
     ensures same { OnOk result (Keeps (P.state port.old) (P.state port.new)) }
 {
@@ -103,6 +111,7 @@ pub fn give_pair_up<P: Port>(port: &mut P, c: Cref) -> Result<(), Miss>
 pub fn give_later_up<P: Port>(port: &mut P, c: Cref) -> Result<(), Miss>
     requires done { IsDone (P.state port.old) }
     requires there { IsAt (P.state port.old) c.address later }
+    ensures dropped { OnOk result (DroppedOnce (P.state port.old) (P.state port.new) c.address) }
     ensures done { OnOk result (IsDone (P.state port.new)) }
     ensures same { OnOk result (Keeps (P.state port.old) (P.state port.new)) }
 {
@@ -132,7 +141,8 @@ pub fn give_spare_up<P: Port>(port: &mut P, c: Cref) -> Result<(), Miss>
 /// Writes the unit 2.
 pub fn write_two<P: Port>(port: &mut P) -> Result<(), Miss>
     requires { IsPlayer (P.state port.old) }
-    ensures { OnOk result (Stays (P.state port.old) (P.state port.new)) }
+    ensures written { OnOk result (WroteUnit (P.state port.old) (P.state port.new) (plus 2) UnitLine (P.state port.old).last) }
+    ensures same { OnOk result (Stays (P.state port.old) (P.state port.new)) }
 {
     match port.unit(Lit::new(2, false)) {
         Ok(()) => Ok(()),
@@ -143,6 +153,7 @@ pub fn write_two<P: Port>(port: &mut P) -> Result<(), Miss>
 /// Looks for a clause of two literals that ring 0 has put.
 pub fn hear<P: Port>(port: &mut P) -> Result<Option<Cref>, Miss>
     requires { IsListener (P.state port.old) (P.state port.old).taken }
+    ensures polled { IfOk result (λ found. Polled (P.state port.old) (P.state port.new) 0 0 (Ok found)) }
     ensures none { IfOk result (λ found. MatchOption found (IsListener (P.state port.new) (P.state port.old).taken) (λ c. IsListener (P.state port.new) ((P.state port.old).taken ++ c.address ∷ []) × IsSome (held_at (P.state port.new) c.address))) }
     ensures same { OnOk result (Keeps (P.state port.old) (P.state port.new)) }
 {
@@ -155,7 +166,9 @@ pub fn hear<P: Port>(port: &mut P) -> Result<Option<Cref>, Miss>
 /// The head of a clause, and its literals, which are two.
 pub fn read_pair<P: Port>(port: &mut P, c: Cref) -> Result<(Head, Lit, Lit), Miss>
     requires { IsSome (held_at (P.state port.old) c.address) }
-    ensures { P.state port.new ≡ P.state port.old }
+    ensures head { IfOk result (λ read. IfSome (held_at (P.state port.old) c.address) (λ h. read.0 ≡ head_of h)) }
+    ensures lits { IfOk result (λ read. lits_at (P.state port.old) c.address ≡ read.1 ∷ read.2 ∷ []) }
+    ensures same { P.state port.new ≡ P.state port.old }
 {
     let head = port.head(c);
     if head.size != 2 {
@@ -186,6 +199,7 @@ pub fn offer_both<P: Port>(port: &mut P) -> Result<(Cref, u64, u64), Miss>
 pub fn hear_once<P: Port>(port: &mut P) -> Result<(Cref, Head, Lit, Lit), Miss>
     requires { IsListener (P.state port.old) [] }
     ensures listener { IfOk result (λ x. IsListener (P.state port.new) (x.0.address ∷ [])) }
+    ensures lits { IfOk result (λ x. lits_at (P.state port.new) x.0.address ≡ x.2 ∷ x.3 ∷ []) }
     ensures same { OnOk result (Keeps (P.state port.old) (P.state port.new)) }
 {
     let Some(found) = hear(port)? else {

@@ -1,4 +1,4 @@
-// Two rings on threads, of which a gate holds one until the other lets it go.
+// `ring_pass` on threads: of two rings a gate holds one until the other lets it go.
 ghost use Rattle.std.specs.Prelude.{◌≡◌, [], Some, IfOk, OnOk};
 ghost use Rattle.pass_trials.specs.Samples.{pair, IsAt, IsBegun, IsIdle, IsListener, Stays};
 

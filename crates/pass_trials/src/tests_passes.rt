@@ -1,4 +1,4 @@
-// Two rings over one table.
+// `ring_pass` by hand: two rings over one table, one call after another.
 use crate::ports::{begin_port, fourth, open_four, take_in};
 use crate::rows::{give_up_and_tell, hand_over};
 use io_edge::MemSink;

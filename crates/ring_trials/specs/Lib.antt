@@ -1,3 +1,4 @@
+pub mod Glues
 pub mod ReductionRow
 pub mod Stepping
 pub mod VivificationRow

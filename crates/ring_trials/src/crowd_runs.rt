@@ -1,4 +1,4 @@
-// A ring over a port of three rings, where another ring's stop appears or its clause comes, and each line is refused.
+// `ring_run` over a port of three rings, where another ring's stop appears or its clause comes, and each line is refused.
 use crate::beginning::{begin, join_crowd};
 use crate::runs::{counted, two_clauses};
 use drat_text::CountedLines;

@@ -1,4 +1,4 @@
-// A run that is long enough to reduce its lemmas and to make others shorter.
+// `ring_run` for so long that it reduces its lemmas and makes others shorter.
 ghost use Rattle.std.specs.Prelude.{◌<◌};
 
 use crate::runs::run_in;

@@ -1,8 +1,9 @@
 //! Lemmas of a ring that are copies of one start clause, and their reduction.
-ghost use Rattle.std.specs.Prelude.{◌≡◌, true, All, IfOk, IsSome, OnOk};
+ghost use Rattle.std.specs.Prelude.{◌≡◌, true, All, IfOk, IsSome, OnOk, map};
 ghost use Rattle.sat_words.specs.declared.shared.Cref.{Cref};
 ghost use Rattle.ring_port.specs.PortState.{held_at};
 ghost use Rattle.ring_port.specs.Port.{is_usable};
+ghost use Rattle.ring_trials.specs.Glues.{glue_at};
 ghost use Rattle.ring_trials.specs.ReductionRow.{row_starts, IsRow, HasLemmas};
 
 use reduce_db::reduce;
@@ -69,7 +70,8 @@ pub fn glues_of<P: Port>(
     lemmas: &[Cref],
 ) -> Result<Vec<u32>, AllocError>
     requires { All (λ (c : Cref). IsSome (held_at (P.state port.old) c.address)) lemmas.now }
-    ensures { P.state port.new ≡ P.state port.old }
+    ensures glues { IfOk result (λ glues. glues.items ≡ map (glue_at (P.state port.old)) lemmas.now) }
+    ensures same { P.state port.new ≡ P.state port.old }
 {
     let mut glues = Vec::new(alloc);
     for c in lemmas {

@@ -1,4 +1,4 @@
-// Five lemmas over the port in memory, and when a reduction is due.
+// `reduce_db`: five lemmas over the port in memory, and when a reduction is due.
 use crate::reducing::{one_start, reduce_five};
 use drat_text::SinkLines;
 use io_edge::MemSink;

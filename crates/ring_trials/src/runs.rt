@@ -1,4 +1,4 @@
-// A ring over the port in memory, on small formulas.
+// `ring_run` over the port in memory, on small formulas.
 ghost use Rattle.std.specs.Prelude.{◌≡◌, ◌≤◌, false, length};
 
 use crate::beginning::begin;

@@ -1,7 +1,8 @@
 //! A search step by step: watches and a trail over any port.
-ghost use Rattle.std.specs.Prelude.{◌≡◌, ◌≤◌, ◌^◌, ◌++◌, [], All, IfOk, IsSome, OnOk};
+ghost use Rattle.std.specs.Prelude.{◌≡◌, ◌≤◌, ◌<◌, ◌^◌, ◌++◌, [], None, All, IfOk, IsSome, OnOk};
 ghost use Rattle.sat_words.specs.declared.shared.Cref.{Cref};
 ghost use Rattle.ring_port.specs.PortState.{held_at, lits_at};
+ghost use Rattle.ring_trail.specs.TrailData.{value_of};
 ghost use Rattle.analyze.specs.Lemma.{IsConclusion};
 ghost use Rattle.watch_prop.specs.WatchData.{attached};
 ghost use Rattle.watch_prop.specs.Propagation.{IsConflict, IsPropagated, IsQuiet};
@@ -107,7 +108,10 @@ impl Stepping {
     }
 
     /// The variable's value; none where it is no variable of the trail's.
-    pub fn value(&self, var: u32) -> Option<bool> {
+    pub fn value(&self, var: u32) -> Option<bool>
+        ensures known { var ≤ self.now.trail.vars → result ≡ value_of self.now.trail.steps var }
+        ensures none { self.now.trail.vars < var → result ≡ None }
+    {
         if var > self.trail.vars() {
             return None;
         }

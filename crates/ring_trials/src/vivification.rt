@@ -1,4 +1,4 @@
-// A clause made shorter over the port in memory.
+// `vivify`: a clause made shorter over the port in memory.
 use crate::vivifying::{two_starts, vivify_copy};
 use drat_text::SinkLines;
 use io_edge::MemSink;

@@ -1,10 +1,9 @@
 -- What calls keep of watches and a trail at level 0 over the small port.
-use Rattle.std.proofs.Common.{◌≡◌, ◌∙◌, ℕ, true, List, [], ◌∷◌, ◌++◌, IsSome, None, sym, refl, ap, subst, arith}
+use Rattle.std.proofs.Common.{◌≡◌, ◌∙◌, true, List, [], ◌∷◌, ◌++◌, IsSome, None, sym, refl, ap, subst}
 use Rattle.sat_words.specs.Literal.{Literal}
 use Rattle.sat_words.specs.Clause.{has}
 use Rattle.sat_words.specs.declared.shared.Cref.{Cref}
 use Rattle.ring_port.specs.PortState.{held_at, lits_at}
-use Rattle.ring_trail.specs.declared.step.Step.{Step}
 use Rattle.ring_trail.specs.TrailData.{TrailData, IsTrail, HasGrown, assigned}
 use Rattle.ring_trail.proofs.Causes.{IsReasoned-seen}
 use Rattle.sample_port.specs.Sample.{sample_state}

@@ -1,3 +1,4 @@
+// `analyze`: the lemma of a conflict over the small port, by each of the two clauses that oppose each other.
 use analyze::{Analysis, Conclusion};
 use ring_trail::Trail;
 use sample_port::SamplePort;

@@ -1,3 +1,4 @@
+// `ring_decide`: decisions, one after another, and such as follow on variables that were bumped.
 use crate::deciding::decide_next;
 use ring_decide::Decider;
 use ring_trail::Trail;

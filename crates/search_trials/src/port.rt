@@ -1,3 +1,4 @@
+// `ring_port`, the port in memory: a unit that is given and written, its stop, and lines that fail or go to a list.
 use crate::list_lines::ListLines;
 use drat_text::{CountedLines, SinkLines};
 use io_edge::MemSink;

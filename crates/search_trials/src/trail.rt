@@ -1,3 +1,4 @@
+// `ring_trail`: what a trail answers while literals become true and are taken back.
 use ring_trail::Trail;
 use sat_words::{Cref, Lit};
 use std::test::Fail;

@@ -1,3 +1,4 @@
+// `watch_prop`: units that are propagated over the small port, with clauses that come and go.
 use crate::sampled::{SampleClause, Sampled};
 use sat_words::Lit;
 use std::test::Fail;

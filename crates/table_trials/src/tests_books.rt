@@ -1,4 +1,4 @@
-// Books over sinks in memory, each call of which fails in turn.
+// `log_book`: books over sinks in memory, each call of which fails in turn.
 ghost use Rattle.std.specs.Prelude.{◌≡◌, false, IfOk};
 
 use crate::books::{new_book, put_one};

@@ -1,4 +1,4 @@
-// Tables for small formulas: the worked row, cells read back, and rings on threads.
+// `ref_count` and `sample_table`: tables for small formulas, the worked row, cells read back, and rings on threads.
 ghost use Rattle.std.specs.Prelude.{◌≤◌, ◌<◌, ◌^◌};
 
 use crate::trades::{

@@ -1,4 +1,4 @@
-// Two rings, two cells and one slot.
+// `pool_exchange`: two rings, two cells and one slot, and the classes of clauses.
 use crate::slots::{get_first, give_back, put_first};
 use pool_exchange::class_of;
 use ref_count::Dropped;

@@ -1,4 +1,4 @@
-// What bench/turn measures: lines that are put, and as many bytes that are written plainly.
+// `log_book`, as bench/turn measures it: lines that are put, and as many bytes that are written plainly.
 use crate::books::{new_book, put_one};
 use io_edge::{Failed, Sink};
 use sat_words::{Line, Lit, Lits};

@@ -1,4 +1,4 @@
-// Two rings and one stop.
+// `stop_word`: two rings and one stop, one after the other and on threads.
 use crate::stops::stop_with;
 use sample_formula::Problem;
 use sample_table::{begin, open, start_cell};
@@ -38,12 +38,12 @@ fn one_of_two_rings_on_threads_wins(rt: HostRuntime) -> Result<(), Fail> {
     let problem = problem.with(rt.alloc(), &[Lit::new(1, false), Lit::new(2, false)])?;
     let (table, mut first, cells) = open(rt.alloc(), &problem, 2, 16)?;
     let cell = start_cell(&first, cells.as_slice(), 0)?;
-    let zero = begin(&table, &mut first, 0, cell);
-    let one = begin(&table, &mut first, 1, cell);
+    let mut zero = begin(&table, &mut first, 0, cell);
+    let mut one = begin(&table, &mut first, 1, cell);
     let (zero, one) = join(
         &rt,
-        || stop_with(&table, zero, STOP_MEMORY),
-        || stop_with(&table, one, STOP_SAT),
+        || stop_with(&table, &mut zero, STOP_MEMORY),
+        || stop_with(&table, &mut one, STOP_SAT),
     );
     let memory = Stop {
         kind: STOP_MEMORY,

@@ -1,10 +1,11 @@
 //! What rings do with one cell, one after another and beside each other.
-ghost use Rattle.std.specs.Prelude.{◌≡◌, ◌≤◌, ◌<◌, ◌+◌, ◌^◌, All, IfOk, OnOk, length, ℕ, slice_index_or, []};
+ghost use Rattle.std.specs.Prelude.{◌≡◌, ◌≤◌, ◌<◌, ◌↔◌, ◌+◌, ◌-◌, ◌*◌, ◌%◌, ◌^◌, All, IfOk, OnOk, IsSome, length, min, sum_by, ℕ, slice_index_or, []};
 ghost use Rattle.share_core.specs.State.{times_at};
 ghost use Rattle.share_rule.specs.Passes.{IsPassOf};
 ghost use Rattle.share_rule.specs.Views.{IsHolding, clause_of};
 ghost use Rattle.sample_table.specs.Samples.{IsFirst, IsRing, IsHolder, IsGathered};
 ghost use Rattle.sample_table.specs.declared.rings.Ring.{Ring};
+ghost use Rattle.table_trials.specs.Reads.{head_of, code_sum};
 
 use ref_count::{Dropped, drop_count, read_head, read_lit, share};
 use sample_table::{Ring, begin, gather, give_up};
@@ -92,24 +93,38 @@ pub fn give_up_all<B: Ledger + Send, R: Threads + Sync>(
     thread::for_each_mut(rt, rings, 4, &|_, ring| give_up(table, ring));
 }
 
+/// How often rings were told that they gave a last count up.
+fn lasts_of<B: Ledger>(rings: &[Ring<B>]) -> u64
+    ensures { result ≡ min (sum_by (λ r. r.lasts) rings.now) (2 ^ 64 - 1) }
+{
+    let mut lasts: u64 = 0;
+    for ring in rings {
+        lasts = lasts.saturating_add(ring.lasts);
+    }
+    lasts
+}
+
 /// Takes all rings' passes in, the last first, and tells how often one was told that it gave a last count up.
 pub fn gather_all<B: Ledger>(table: &Shared<B>, first: &mut Pass<B>, rings: Vec<Ring<B>>) -> u64
     requires first { IsGathered table.now first.old (length rings.items) }
     requires each { All (λ r. IsRing table.now r.pass r.ring) rings.items }
     requires numbers { (i : ℕ) (d : Ring B) → i < length rings.items → (slice_index_or rings.items i d).ring ≡ i }
-    ensures { IsGathered table.now first.new 0 }
+    ensures first { IsGathered table.now first.new 0 }
+    ensures lasts { result ≡ min (sum_by (λ r. r.lasts) rings.items) (2 ^ 64 - 1) }
 {
+    let lasts = lasts_of(rings.as_slice());
     let mut rings = rings;
-    let mut lasts: u64 = 0;
     while let Some(ring) = rings.pop() {
-        lasts = lasts.saturating_add(ring.lasts);
         gather(table, first, ring);
     }
     lasts
 }
 
-/// How often a cell is counted.
-pub fn count_of<B: Ledger>(table: &Shared<B>, cell: Cref) -> Option<u64> {
+/// How often a cell is counted, by the word at its address; none where the table has no such word. The word is read without a
+/// pass, so that no clause knows it.
+pub fn count_of<B: Ledger>(table: &Shared<B>, cell: Cref) -> Option<u64>
+    ensures { IsSome result ↔ (cell.address < table.now.table.shared.table_id.words) }
+{
     let place = cell.address as usize;
     if place < table.table.word_count() {
         Some(table.table.shared.peek(place))
@@ -125,6 +140,10 @@ pub fn read_back<B: Ledger>(
     ring: &mut Ring<B>,
 ) -> Result<(Head, Vec<Lit>), Fail>
     requires { (n : ℕ) × IsHolder table.now ring.old.pass ring.old.ring ring.old.cell.address n }
+    ensures head { IfOk result (λ read. read.0 ≡ head_of ring.old.cell.address ring.old.pass.me.0) }
+    ensures lits { IfOk result (λ read. read.1.items ≡ (clause_of ring.old.cell.address ring.old.pass.me.0).lits) }
+    ensures pass { IsPassOf table.now ring.new.pass }
+    ensures same { (ring.new.pass.me.0.parts ≡ ring.old.pass.me.0.parts) × (ring.new.cell ≡ ring.old.cell) }
 {
     let head = read_head(table, &mut ring.pass, ring.cell);
     let mut lits = Vec::new(alloc);
@@ -134,11 +153,12 @@ pub fn read_back<B: Ledger>(
     Ok((head, lits))
 }
 
-/// The codes of the literals of the ring's cell, in one sum.
+/// The codes of the literals of the ring's cell, added to a sum, which wraps.
 fn sum_of_cell<B: Ledger>(table: &Shared<B>, ring: &mut Ring<B>, size: u32, start: u64) -> u64
     requires pass { IsPassOf table.now ring.old.pass }
     requires held { IsHolding ring.old.cell.address ring.old.pass.me.0 }
-    requires size { size ≤ length (clause_of ring.old.cell.address ring.old.pass.me.0).lits }
+    requires size { size ≡ length (clause_of ring.old.cell.address ring.old.pass.me.0).lits }
+    ensures sum { result ≡ (start + code_sum (clause_of ring.old.cell.address ring.old.pass.me.0).lits) % 2 ^ 64 }
     ensures pass { IsPassOf table.now ring.new.pass }
     ensures same { (ring.new.pass.me.0.parts ≡ ring.old.pass.me.0.parts) × (ring.new.cell ≡ ring.old.cell) }
 {
@@ -153,10 +173,13 @@ fn sum_of_cell<B: Ledger>(table: &Shared<B>, ring: &mut Ring<B>, size: u32, star
 /// The same so often, in one sum.
 pub fn sum_of_reads<B: Ledger>(table: &Shared<B>, ring: &mut Ring<B>, times: u32) -> u64
     requires { (n : ℕ) × IsHolder table.now ring.old.pass ring.old.ring ring.old.cell.address n }
+    ensures sum { result ≡ (times * code_sum (clause_of ring.old.cell.address ring.old.pass.me.0).lits) % 2 ^ 64 }
+    ensures pass { IsPassOf table.now ring.new.pass }
+    ensures same { (ring.new.pass.me.0.parts ≡ ring.old.pass.me.0.parts) × (ring.new.cell ≡ ring.old.cell) }
 {
     let head = read_head(table, &mut ring.pass, ring.cell);
     let mut sum: u64 = 0;
-    for _ in 0..times {
+    for _done in 0..times {
         sum = sum_of_cell(table, ring, head.size, sum);
     }
     sum

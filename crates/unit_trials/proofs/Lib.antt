@@ -2,5 +2,6 @@ mod Burying
 pub mod Learning
 mod Listing
 pub mod Playing
+mod Summing
 mod Telling
 mod Writing

@@ -1,4 +1,4 @@
-// Two rings that hand over to each other.
+// The row of `unit_share`: two rings that hand over to each other, step by step.
 ghost use Rattle.std.specs.Prelude.{◌≡◌};
 ghost use Rattle.sample_table.specs.Samples.{IsRing as IsAlone};
 ghost use Rattle.unit_trials.specs.Samples.{IsBeginner};

@@ -1,4 +1,4 @@
-// Rings on threads that take the turn of one book.
+// `unit_share` and the turn below it: rings on threads that take the turn of one book, and the row of two rings.
 ghost use Rattle.std.specs.Prelude.{◌≤◌, ◌<◌, ◌^◌};
 
 use crate::learners::begin_over_three;

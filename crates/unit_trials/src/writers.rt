@@ -1,5 +1,5 @@
 //! Rings that take the turn of one book again and again, and write a unit each time.
-ghost use Rattle.std.specs.Prelude.{◌≡◌, ◌≤◌, ◌<◌, All, IfOk, OnOk, length, ℕ, slice_index_or, false, []};
+ghost use Rattle.std.specs.Prelude.{◌≡◌, ◌≤◌, ◌<◌, ◌-◌, ◌^◌, All, IfOk, OnOk, fold, length, max, min, sum_by, ℕ, slice_index_or, false, []};
 ghost use Rattle.io_edge.specs.Paths.{IsEmptyWhereTold};
 ghost use Rattle.share_rule.specs.declared.Layout.{Layout};
 ghost use Rattle.share_rule.specs.Books.{HasLog};
@@ -176,6 +176,23 @@ pub fn write_all<S: Sink + Send, R: Threads + Wait + Sync>(
     );
 }
 
+/// What writers were told: how often they wrote, the last of all numbers, and the numbers in one sum.
+fn told_by<S: Sink>(writers: &[Writer<S>]) -> (u64, u64, u64)
+    ensures written { result.0 ≡ min (sum_by (λ w. w.written) writers.now) (2 ^ 64 - 1) }
+    ensures last { result.1 ≡ fold (λ n w. max n w.last) 0 writers.now }
+    ensures sum { result.2 ≡ min (sum_by (λ w. w.sum) writers.now) (2 ^ 64 - 1) }
+{
+    let mut written: u64 = 0;
+    let mut last: u64 = 0;
+    let mut sum: u64 = 0;
+    for writer in writers {
+        written = written.saturating_add(writer.written);
+        last = last.max(writer.last);
+        sum = sum.saturating_add(writer.sum);
+    }
+    (written, last, sum)
+}
+
 /// Takes all rings' passes in, the last first: how often they wrote, the last of all numbers, and the numbers in one sum.
 pub fn gather_writers<S: Sink>(
     table: &Shared<Book<S>>,
@@ -185,23 +202,21 @@ pub fn gather_writers<S: Sink>(
     requires first { IsGathered table.now first.old (length writers.items) }
     requires each { All (λ w. IsWriter table.now w.ring.pass w.ring.ring (plus 2)) writers.items }
     requires numbers { (i : ℕ) (d : Writer S _) → i < length writers.items → (slice_index_or writers.items i d).ring.ring ≡ i }
-    ensures { IsGathered table.now first.new 0 }
+    ensures first { IsGathered table.now first.new 0 }
+    ensures written { result.0 ≡ min (sum_by (λ w. w.written) writers.items) (2 ^ 64 - 1) }
+    ensures last { result.1 ≡ fold (λ n w. max n w.last) 0 writers.items }
+    ensures sum { result.2 ≡ min (sum_by (λ w. w.sum) writers.items) (2 ^ 64 - 1) }
 {
+    let told = told_by(writers.as_slice());
     let mut writers = writers;
-    let mut written: u64 = 0;
-    let mut last: u64 = 0;
-    let mut sum: u64 = 0;
     while let Some(writer) = writers.pop() {
         let Writer {
             ring,
-            written: some,
-            last: newest,
-            sum: more,
+            written: _,
+            last: _,
+            sum: _,
         } = writer;
-        written = written.saturating_add(some);
-        last = last.max(newest);
-        sum = sum.saturating_add(more);
         gather(table, first, ring);
     }
-    (written, last, sum)
+    told
 }

@@ -1,4 +1,4 @@
-use Rattle.std.proofs.Common.{◌<◌, arith}
+use Rattle.std.proofs.Common.{arith}
 use Rattle.search_trials.proofs.SampledLemmas.{grown_sampled}
 use Rattle.search_trials.proofs.sampled.Sampled.propagate.Goals as goal
 

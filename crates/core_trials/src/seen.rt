@@ -1,0 +1,116 @@
+// What is seen of a core, as text: its cells, its slots, the lines of its log, its units, whose turn it is, and its stop.
+use sat_words::Line;
+use share_core::Core;
+use std::alloc::Global;
+use std::fmt::Write;
+use std::test::Fail;
+
+/// One more than any row has, so that what is said of a ring that is not there is seen too.
+const RINGS: u32 = 4;
+
+/// What is seen of the cell at the address: nothing where there is none.
+fn write_cell(text: &mut String, core: &Core, address: u64) -> Result<(), Fail> {
+    let count = core.count(address);
+    let number = core.number(address);
+    if number != 0 || count != 0 {
+        write!(text, "{address} : clause {number}, count {count}")?;
+    }
+    for ring in 0..RINGS {
+        let times = core.held(ring, address);
+        if times != 0 {
+            write!(text, ", held {times} by {ring}")?;
+        }
+        if core.waits(ring, address) {
+            write!(text, ", waits at {ring}")?;
+        }
+    }
+    if number != 0 {
+        writeln!(text)?;
+    }
+    Ok(())
+}
+
+/// The slots that are not empty; there is none of class 4.
+fn write_slots(text: &mut String, core: &Core, from: u32) -> Result<(), Fail> {
+    for place in 0..5 * RINGS {
+        let to = place / 5;
+        let class = (place % 5) as u8;
+        let address = core.slot(from, to, class);
+        if address != 0 {
+            writeln!(text, "slot of {from} for {to} class {class} : {address}")?;
+        }
+    }
+    Ok(())
+}
+
+/// The literals, and behind them the 0 that ends a line of the log.
+fn write_line(text: &mut String, line: &Line) -> Result<(), Fail> {
+    let (start, lits) = match line {
+        Line::Add(lits) => ("line ", lits),
+        Line::Del(lits) => ("line d ", lits),
+    };
+    text.push_str(start)?;
+    for lit in lits.as_slice() {
+        write!(text, "{lit} ")?;
+    }
+    text.push_str("0\n")?;
+    Ok(())
+}
+
+/// The listed units, and how many of them each ring has seen.
+fn write_units(text: &mut String, core: &Core) -> Result<(), Fail> {
+    text.push_str("units")?;
+    for lit in core.units() {
+        write!(text, " {lit}")?;
+    }
+    text.push_str(", seen")?;
+    for ring in 0..RINGS {
+        let seen = core.seen(ring);
+        write!(text, " {seen}")?;
+    }
+    text.push_str("\n")?;
+    Ok(())
+}
+
+/// Whose turn it is, and the stop.
+fn write_end(text: &mut String, core: &Core) -> Result<(), Fail> {
+    if let Some(ring) = core.turn() {
+        writeln!(text, "turn of {ring}")?;
+    }
+    if let Some(stop) = core.stop() {
+        writeln!(text, "stop {} by {}", stop.kind, stop.ring)?;
+    }
+    Ok(())
+}
+
+fn write_cells(text: &mut String, core: &Core) -> Result<(), Fail> {
+    for fifth in 0..20 {
+        write_cell(text, core, 5 * fifth)?;
+    }
+    Ok(())
+}
+
+fn write_pools(text: &mut String, core: &Core) -> Result<(), Fail> {
+    for from in 0..RINGS {
+        write_slots(text, core, from)?;
+    }
+    Ok(())
+}
+
+fn write_log(text: &mut String, core: &Core) -> Result<(), Fail> {
+    for line in core.lines() {
+        write_line(text, line)?;
+    }
+    Ok(())
+}
+
+/// All that is seen of a core, with the cells and slots that tables name.
+pub(crate) fn state(alloc: Global, core: &Core) -> Result<String, Fail> {
+    let mut text = String::new(alloc);
+    write_cells(&mut text, core)?;
+    write_pools(&mut text, core)?;
+    write_log(&mut text, core)?;
+    write_units(&mut text, core)?;
+    write_end(&mut text, core)?;
+    Ok(text)
+}

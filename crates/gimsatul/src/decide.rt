@@ -88,6 +88,7 @@ fn check_log(alloc: Global, formula: &Formula, lines: &[Line]) -> Result<bool, A
 {
     match check(alloc, formula, lines)? {
         LogVerdict::Accepted { empty } => Ok(empty),
+        // `accepted`: the check refuses only a log that the definition does not accept
         LogVerdict::Refused { .. } => unreachable!(),
     }
 }

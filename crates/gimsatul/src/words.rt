@@ -167,6 +167,7 @@ fn threads_in(matches: &ArgMatches<'_>) -> u32
 {
     match matches.get_one::<u64>("threads") {
         Some(number) => number as u32,
+        // `HasThreads`: where the word is left out its default stands
         None => unreachable!(),
     }
 }
@@ -179,6 +180,7 @@ fn words_in(matches: &ArgMatches<'_>) -> u64
 {
     match matches.get_one::<u64>("words") {
         Some(number) => number,
+        // `HasWords`: where the word is left out its default stands
         None => unreachable!(),
     }
 }
@@ -191,6 +193,7 @@ fn conflicts_in(matches: &ArgMatches<'_>) -> u64
 {
     match matches.get_one::<u64>("conflicts") {
         Some(number) => number,
+        // `HasLimit`: where the word is left out its default stands
         None => unreachable!(),
     }
 }
@@ -202,6 +205,7 @@ fn seed_in(matches: &ArgMatches<'_>) -> u64
 {
     match matches.get_one::<u64>("seed") {
         Some(number) => number,
+        // `HasSeed`: where the word is left out its default stands
         None => unreachable!(),
     }
 }

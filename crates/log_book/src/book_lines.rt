@@ -105,7 +105,9 @@ impl<S: Sink> Book<S> {
                 Ok(number)
             }
             Err(LineStop::ProofFault) => Err(Failed),
+            // `room`: fewer lines stand
             Err(LineStop::Full) => unreachable!(),
+            // `ready`: what the line needs was taken before
             Err(LineStop::Memory) => unreachable!(),
         }
     }

@@ -78,6 +78,7 @@ pub fn take_turn<H: Wait, S: Sink>(
             table.table.shared.park(rt, 0, (seen & 0xffff_ffff) as u32);
         }
     }
+    // a loop over `forever` has no end
     unreachable!()
 }
 
@@ -99,6 +100,7 @@ fn give_as<N: Notes, S: Sink>(
     let entries = book.entries;
     match words.exchange(pass, 0, Some(book)) {
         None => {}
+        // `turn`: while the pass has the turn the slot is empty
         Some(_) => unreachable!(),
     }
     words.store::<Gives<N>>(pass, 0, 256 * entries);

@@ -185,6 +185,7 @@ impl<S: Sink> Turn<S> {
             Err(HoleStop::NoHole { need, largest }) => {
                 return Err(TurnStop::NoHole { need, largest });
             }
+            // `none` of `Holes::take`: it refuses only where no hole is long enough
             Err(HoleStop::Memory) => unreachable!(),
         };
         match self.book.write(&line) {

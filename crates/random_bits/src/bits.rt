@@ -1,3 +1,5 @@
+// One bit of each word of a generator, in order. First phases and made formulas are to be the same on each run, so no word may
+// be left out or taken twice.
 ghost use Rattle.std.specs.Prelude.{◌≡◌, IfOk, OnOk, length};
 ghost use Rattle.random_bits.specs.Bits.{bits_from, rest_from};
 

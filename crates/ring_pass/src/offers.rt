@@ -165,6 +165,7 @@ impl<'a, S: Sink, G: Gate, H> RingPass<'a, S, G, H> {
     {
         let head = read_head(self.table, &mut self.pass, c);
         let Some(class) = class_of(head.size, head.glue) else {
+            // `class`: the clause has one
             unreachable!()
         };
         let offering = Offering {

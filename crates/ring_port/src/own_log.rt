@@ -59,6 +59,7 @@ fn entry_of(line: Line, number: u64, kind: Kind) -> Entry
             lits,
             kind,
         }),
+        // `IsAddition`: the line adds a clause
         Line::Del(_) => unreachable!(),
     }
 }

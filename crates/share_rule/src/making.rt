@@ -45,6 +45,7 @@ fn open_table<O: OpenedWith, B: Ledger>(
     words.load::<Begins>(pass, 0);
     match words.exchange(pass, 0, Some(book)) {
         None => {}
+        // `pass`: no book is in the slot of a table whose turn was never free
         Some(_) => unreachable!(),
     }
     words.store::<Begun<O>>(pass, 0, 256 * entries);

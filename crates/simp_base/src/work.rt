@@ -274,6 +274,7 @@ impl<L: LineOut> Work<L> {
         ensures memory { IfErr result (λ stop. stop ≡ LineStop.Memory) }
     {
         let Some(clause) = self.clauses.get(number) else {
+            // `alive`: a clause has this number
             unreachable!()
         };
         match Lits::from_slice(self.alloc, clause.lits()) {

@@ -18,6 +18,7 @@ fn push_entry<L: LineOut>(work: &mut Work<L>, lit: Lit, number: u64) -> Result<(
     ensures work { IsWork work.new }
 {
     let Some(clause) = work.clause(number) else {
+        // `alive`: the clause with this number holds the literal
         unreachable!()
     };
     let Ok(copy) = Clause::from_lits(work.alloc(), clause.lits()) else {

@@ -97,6 +97,7 @@ fn add_resolvents<L: LineOut>(
     let _clauses = work.clauses();
     for other in others {
         let Some(second) = work.clause(*other) else {
+            // `others`: each number is that of a clause that is alive
             unreachable!()
         };
         if !add_resolvent(work.alloc(), made, on, first, second.lits(), most)? {
@@ -125,6 +126,7 @@ pub(crate) fn resolvents<L: LineOut>(
     let mut made = Vec::new(work.alloc());
     for first in firsts {
         let Some(clause) = work.clause(*first) else {
+            // `firsts`: each number is that of a clause that is alive
             unreachable!()
         };
         if !add_resolvents(work, &mut made, on, clause.lits(), seconds, most)? {

@@ -23,6 +23,7 @@ fn wait_for<H: Wait>(rt: &H, hand: &AtomicU64, step: u64) -> bool {
             return now == step;
         }
     }
+    // a loop over `forever` has no end
     unreachable!()
 }
 

@@ -1,58 +1,31 @@
 //! `gimsatul [--threads N] [--conflicts N] [--words N] [--seed N] [--proof PATH] [--no-simplify] [--check] [--make N] [FILE]`
 //! reads a formula in DIMACS CNF from the file, or from standard input where none is given, or makes one, decides it by rings on
 //! threads of their own, prints the answer, and writes a DRAT proof to the path.
-//! `gimsatul` is the whole of it, over any files and streams; `main` gives it the real ones.
+//! `gimsatul` of `top_call` is the whole of it, over any files and streams; `main` gives it the real ones.
 #![tactic(auto)]
 
-ghost use Rattle.std.specs.Prelude.{◌≡◌, ◌↔◌};
-ghost use Rattle.std.specs.declared.io.ErrorKind.{ErrorKind};
-ghost use Rattle.gimsatul.specs.Ends.{IsWordsEnd};
-
-mod answer;
-mod conclude;
-mod decide;
-mod laws;
-mod message;
-mod occurring;
-mod plan;
-mod remarks;
-mod report;
 #[cfg(test)]
 mod tests;
 #[cfg(test)]
+mod tests_answer;
+#[cfg(test)]
 mod tests_call;
 #[cfg(test)]
+mod tests_message;
+#[cfg(test)]
 mod tests_rings;
-mod top;
-mod words;
 
-pub use answer::answer_text_to;
 use io_edge::{StdFiles, StdSink, StdSource};
-pub use laws::the_plain_form_is_read;
-use message::put_message;
-pub use remarks::{Remarks, Summary};
-pub use report::{End, Numbers, Report, Tally, Verdict};
 use ring_port::OpenGate;
+use std::env;
 use std::process::ExitCode;
-use std::{env, io};
-pub use top::gimsatul;
-
-/// The end of a call that is not made: the arguments cannot be told as text, or memory ran out.
-fn end_of_kind(kind: io::ErrorKind) -> End
-    ensures memory { (result ≡ End.Memory) ↔ (kind ≡ ErrorKind.OutOfMemory) }
-    ensures ends { IsWordsEnd result }
-{
-    match kind {
-        io::ErrorKind::OutOfMemory => End::Memory,
-        _ => End::Usage,
-    }
-}
+use top_call::{End, gimsatul, put_message};
 
 /// The arguments without the program's name.
 fn words_of(rt: &HostRuntime) -> Result<Vec<String>, End> {
     let args = match env::args(rt) {
         Ok(args) => args,
-        Err(error) => return Err(end_of_kind(error.kind())),
+        Err(error) => return Err(End::of_arguments(error.kind())),
     };
     let mut words = Vec::new(rt.alloc());
     for word in args.skip(1) {

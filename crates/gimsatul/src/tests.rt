@@ -1,6 +1,5 @@
 // Whole calls over objects in memory.
 use crate::tests_call::{TestGate, call};
-use crate::{Remarks, Tally, Verdict, answer_text_to};
 use io_edge::{MemFile, MemFiles, MemOutput, MemSink, MemSource};
 use sat_words::Assignment;
 use std::alloc::Global;
@@ -8,6 +7,7 @@ use std::process::Abort;
 use std::sync::Wait;
 use std::test::Fail;
 use std::thread::Threads;
+use top_call::{Remarks, Tally, Verdict, answer_text_to};
 
 const ROOM: usize = 8192;
 

@@ -1,11 +1,11 @@
 // The one call that the tests make, over objects in memory and one type of gate: what it runs is made and proved once for them.
-use crate::{Report, gimsatul};
 use crossbeam_utils::Backoff;
 use io_edge::{MemFiles, MemSink, MemSource};
 use ring_port::{Gate, Point};
 use std::sync::Wait;
 use std::sync::atomic::{AtomicU64, Ordering};
 use std::thread::Threads;
+use top_call::{Report, gimsatul};
 
 /// How many looks a gate makes at what it waits for before it lets go.
 const TURNS: u32 = 10_000_000;

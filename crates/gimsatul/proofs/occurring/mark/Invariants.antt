@@ -1,6 +1,0 @@
-use Rattle.std.proofs.Common.{take}
-use Rattle.gimsatul.specs.Occurring.{Marks}
-use Rattle.gimsatul.proofs.occurring.mark.Given as goal
-
-abbrev pub invariant-loop-lit : goal.invariant-loop-lit
-invariant-loop-lit l = Marks (take l.lit-index l.clause) l.fn.occurring l.occurring

@@ -1,6 +1,0 @@
-use Rattle.std.proofs.Common.{◌≡◌, take}
-use Rattle.gimsatul.specs.Tallied.{counted}
-use Rattle.gimsatul.proofs.report.Tally.count.Given as goal
-
-abbrev pub invariant-loop-ring : goal.invariant-loop-ring
-invariant-loop-ring l = l.self ≡ counted (take l.ring l.fn.counts) l.fn.self

@@ -1,0 +1,116 @@
+-- Words that are lawful, and calls with such words.
+use Rattle.std.proofs.Common.{◌≡◌, ◌⊎◌, ℕ, true, false, List, [], Some, None, refl, ap, sym, subst, inl, inr, ◌∙◌}
+use Rattle.std.specs.Prelude.{IfSome, IsSome, is_some, option_map}
+use Rattle.std.specs.declared.option.Option.{Option}
+use Rattle.io_edge.specs.Causes.{Rose}
+use Rattle.io_edge.specs.Paths.{PathMap, IsThere}
+use Rattle.top_call.specs.declared.report.Tally.{Tally}
+use Rattle.top_call.specs.declared.report.End.{End}
+use Rattle.top_call.specs.Words.{Command, command_of, proof_path, file_path}
+use Rattle.sat_words.specs.FormulaData.{FormulaData}
+use Rattle.rup_model.specs.declared.journal.Entry.{Entry}
+use Rattle.top_call.specs.Run.{Run, Call, HasFile, IsStill, IsOpened, source_of, text_of, text_in, text_left}
+use Rattle.top_call.specs.declared.plan.Plan.{Plan}
+use Rattle.top_call.specs.Planned.{plan_of}
+use Rattle.top_call.specs.Outcome.{Outcome, CallOutcome, IsCall, IsRun, IsWhole}
+use Rattle.top_call.specs.Tallied.{no_tally}
+use Rattle.top_call.specs.Ends.{IsWordsEnd, status_of, leaves_input_at, leaves_files_at}
+use Rattle.top_call.specs.declared.report.End.TheVariants.{Satisfiable, Unsatisfiable, Unknown, Usage, BadInput, CannotOpen, CannotCreate, ReadFault, WriteFault, ProofFault, Room, Memory}
+use Rattle.top_call.proofs.Finishes.{no_formula}
+
+-- a path that was given is the command's
+pub asked_proof : (found : Option Command) (command : Command) → found ≡ Some command → IsSome command.proof → IsSome (proof_path found)
+asked_proof found command is some = subst (λ (x : Option Command). IsSome (proof_path x)) (sym is) some
+
+pub asked_file : (found : Option Command) (command : Command) → found ≡ Some command → IsSome command.file → IsSome (file_path found)
+asked_file found command is some = subst (λ (x : Option Command). IsSome (file_path x)) (sym is) some
+
+module _ {R : Type 0} (left : R → Option (List ℕ)) (faults : R → ℕ) (contents : Option PathMap) where
+  -- an input is opened exactly where a path is given
+  pub opened_there : (path : Option (List ℕ)) (file : Option R) → IsOpened left faults contents path file → is_some file ≡ is_some path
+  opened_there None file is = ap (λ (f : Option R). is_some f) is
+  opened_there (Some path) None is = absurd is
+  opened_there (Some path) (Some reader) is = refl
+
+-- the path of a command that the words ask for
+pub same_file : (found : Option Command) (command : Command) → found ≡ Some command → is_some (file_path found) ≡ is_some command.file
+same_file found command is = ap (λ (x : Option Command). is_some (file_path x)) is
+
+-- what shows as some number is there
+pub same_there : {R : Type 0} (faults : R → ℕ) (file : Option R) → is_some (option_map faults file) ≡ is_some file
+same_there faults None = refl
+same_there faults (Some reader) = refl
+
+-- an input that was opened for a command is the call's
+pub has_file : {R : Type 0} (left : R → Option (List ℕ)) (faults : R → ℕ) (contents : Option PathMap) (found : Option Command) (command : Command) (file : Option R)
+    → found ≡ Some command → IsOpened left faults contents command.file file → is_some (option_map faults file) ≡ is_some (file_path found)
+has_file left faults contents found command file is opened = same_there faults file ∙ opened_there left faults contents command.file file opened ∙ sym (same_file found command is)
+
+-- and its path is there, where the files are told
+pub file_there : (contents : Option PathMap) (found : Option Command) (command : Command) → found ≡ Some command → IfSome command.file (IsThere contents) → IfSome (file_path found) (IsThere contents)
+file_there contents found command is there = subst (λ (x : Option Command). IfSome (file_path x) (IsThere contents)) (sym is) there
+
+-- the words asked for nothing
+pub words_stopped : (end : End) (tally : Tally) (call : Call) → IsWordsEnd end → (end ≡ Usage → command_of call.words ≡ None) → tally ≡ no_tally → call.file ≡ None → call.proof ≡ None → IsStill call.files → IsStill call.input → IsStill call.out.faults
+    → CallOutcome end no_formula [] tally call
+words_stopped end tally call (inl is) usage counts file proof files input out =
+    subst (λ (e : End). CallOutcome e no_formula [] tally call) (sym is)
+    (usage is, record { barren = record { no_proof = proof; nothing = refl; counts = counts; input = input; out = out }; no_file = file })
+words_stopped end tally call (inr is) usage counts file proof files input out =
+    subst (λ (e : End). CallOutcome e no_formula [] tally call) (sym is)
+    (inl (files, record { barren = record { no_proof = proof; nothing = refl; counts = counts; input = input; out = out }; no_file = file }))
+
+-- a count that rose behind a call that left it
+pub rose_behind : (before between after : ℕ) → between ≡ before → Rose between after → Rose before after
+rose_behind before between after same rose = subst (λ (n : ℕ). Rose n after) same rose
+
+-- what holds of a run over what was opened holds of its call
+module _ {R : Type 0} (left : R → Option (List ℕ)) (faults : R → ℕ) (contents : Option PathMap) (input : Option (List ℕ)) where
+  pub text_same : (path : Option (List ℕ)) (file : Option R) → IsOpened left faults contents path file → text_left left file input ≡ text_in contents input path
+  text_same None file is = ap (λ (f : Option R). text_left left f input) is
+  text_same (Some path) None is = absurd is
+  text_same (Some path) (Some reader) is = is.0
+
+pub input_cases : {R X : Type 0} (faults : R → ℕ) (file given : Option R) → is_some file ≡ is_some given → (is_some given ≡ true → X) → (option_map faults file ≡ None) ⊎ X
+input_cases faults None given same still = inl refl
+input_cases faults (Some reader) given same still = inr (still (sym same))
+
+whole_call : (end : End) (F : FormulaData) (J : List Entry) (tally : Tally) (call : Call) → IsWhole end F J tally call → CallOutcome end F J tally call
+whole_call (Satisfiable model) F J tally call w = w
+whole_call Unsatisfiable F J tally call w = w
+whole_call Unknown F J tally call w = w
+whole_call Usage F J tally call w = absurd w.outcome
+whole_call (BadInput code line) F J tally call w = w
+whole_call CannotOpen F J tally call w = absurd w.outcome
+whole_call CannotCreate F J tally call w = absurd w.outcome
+whole_call ReadFault F J tally call w = w
+whole_call WriteFault F J tally call w = w
+whole_call ProofFault F J tally call w = w
+whole_call (Room lack) F J tally call w = w
+whole_call Memory F J tally call w = inr w
+
+pub is_call : (end : End) (tally : Tally) (plan : Plan) (text : Option (List ℕ)) (call : Call) → IsRun end tally (record { plan = plan; text = text; source = source_of call; proof = call.proof; out = call.out })
+    → plan ≡ plan_of (command_of call.words) → text ≡ text_of call → IsSome (command_of call.words) → HasFile call → IsStill call.files → (call.file ≡ None) ⊎ IsStill call.input → IsCall end tally call
+is_call end tally plan text call r p t lawful file files input =
+    let run : Plan → Option (List ℕ) → Run = λ x y. record { plan = x; text = y; source = source_of call; proof = call.proof; out = call.out } in
+    let outcome = subst (λ (x : Plan). Outcome end r.formula r.journal tally (run x (text_of call))) p (subst (λ (y : Option (List ℕ)). Outcome end r.formula r.journal tally (run plan y)) t r.outcome) in
+    record {
+      formula = r.formula;
+      journal = r.journal;
+      outcome = whole_call end r.formula r.journal tally call (record { lawful = lawful; file = file; outcome = outcome; files = files; input = input });
+    }
+
+-- a run ends in none of the refusals before it
+pub run_ends : (end : End) (tally : Tally) (run : Run) → IsRun end tally run → (leaves_input_at (status_of end) ≡ false) × (leaves_files_at (status_of end) true ≡ false)
+run_ends (Satisfiable model) tally run r = (refl, refl)
+run_ends Unsatisfiable tally run r = (refl, refl)
+run_ends Unknown tally run r = (refl, refl)
+run_ends Usage tally run r = absurd r.outcome
+run_ends (BadInput code line) tally run r = (refl, refl)
+run_ends CannotOpen tally run r = absurd r.outcome
+run_ends CannotCreate tally run r = absurd r.outcome
+run_ends ReadFault tally run r = (refl, refl)
+run_ends WriteFault tally run r = (refl, refl)
+run_ends ProofFault tally run r = (refl, refl)
+run_ends (Room lack) tally run r = (refl, refl)
+run_ends Memory tally run r = (refl, refl)

@@ -1,0 +1,20 @@
+use Rattle.std.proofs.Common.{ℕ, [], refl, subst, sym}
+use Rattle.std.specs.declared.option.Option.{Option}
+use Rattle.top_call.specs.Input.{WasGiven}
+use Rattle.top_call.proofs.Finishes.{no_formula, unread, unread_end}
+use Rattle.top_call.proofs.decide.decide_over.Goals as goal
+
+pub returns-in-Err-clause-outcome : goal.returns-in-Err-clause-outcome
+returns-in-Err-clause-outcome g c =
+    let flush = c.flush in
+    let none = unread c.args.plan.now _ _ _ _ _ _ _ _ _ flush.result c.requires.quiet c.requires.empty flush.ensures.bytes flush.ensures.cause flush.ensures.flushed in
+    record {
+      formula = no_formula;
+      journal = [];
+      outcome = unread_end c.in-Err.stop c.read_end-end.result c.args.tally.now _ _ _ c.read_end-end.ensures c.requires.unmade c.in-Err.ensures.answer (λ other. c.in-Err.ensures.quiet (λ e. other (cc e))) (λ e. c.in-Err.ensures.fault (cc e)) c.requires.uncounted c.note.ensures refl none;
+    }
+
+pub returns-clause-outcome : goal.returns-clause-outcome
+returns-clause-outcome g c =
+    let text = g.S.Source.left c.args.source.now in
+    c.decide_formula.ensures.outcome text _ (subst (λ (m : Option ℕ). WasGiven m text c.in-Ok.formula) (sym c.requires.unmade) c.in-Ok.ensures.answer) (c.in-Ok.ensures.quiet (λ e. cc e))

@@ -1,0 +1,12 @@
+use Rattle.std.proofs.Common.{◌≡◌, ◌∙◌, sym, codes}
+use Rattle.clap.specs.Words.{first_of, rows_of, found_of}
+use Rattle.std.specs.Prelude.{option_copied}
+use Rattle.clap.proofs.WalkLemmas.{first_value-rows}
+use Rattle.top_call.proofs.words.command_in.Goals as goal
+
+pub returns-clause-asks : goal.returns-clause-asks
+returns-clause-asks c =
+    let rows = rows_of (found_of c.args.matches.now) in
+    let proof : first_of (codes "proof") rows ≡ option_copied c.get_str.result = sym (first_value-rows (found_of c.args.matches.now) (codes "proof")) ∙ sym c.get_str.ensures in
+    let file : first_of (codes "file") rows ≡ option_copied c.get_str-2.result = sym (first_value-rows (found_of c.args.matches.now) (codes "file")) ∙ sym c.get_str-2.ensures in
+    λ i. record { threads = sym c.threads_in.ensures.number i; conflicts = sym c.conflicts_in.ensures.number i; words = sym c.words_in.ensures.number i; seed = sym c.seed_in.ensures i; no_simplify = sym c.no_simplify_in.ensures i; proof = proof i; check = sym c.check_in.ensures i; make = sym c.make_in.ensures i; file = file i }

@@ -1,0 +1,51 @@
+-- What a verdict says of the clauses and of the journal.
+use Rattle.std.specs.Prelude.{◌≡◌, ℕ, List, Bool, false, ◌==◌, Some, None}
+use Rattle.std.specs.declared.option.Option.{Option}
+use Rattle.std.specs.List.{list_any}
+use Rattle.sat_words.specs.Literal.{Literal}
+use Rattle.sat_words.specs.Truth.{value_of}
+use Rattle.sat_words.specs.FormulaData.{FormulaData}
+use Rattle.sat_words.specs.declared.shared.TheConstants.{STOP_SAT, STOP_REFUTED}
+use Rattle.rup_model.specs.declared.journal.Entry.{Entry}
+use Rattle.rup_model.specs.Spent.{SpentAll}
+use Rattle.portfolio_run.specs.declared.plan.Plan.{Plan}
+use Rattle.portfolio_run.specs.Ruled.{IsRuledThrough}
+use Rattle.portfolio_run.specs.Solved.{IsModel, IsRefutation}
+use Rattle.top_call.specs.declared.report.Verdict.{Verdict}
+use Rattle.top_call.specs.declared.report.Verdict.TheVariants.{Satisfiable, Unsatisfiable, Unknown}
+
+-- the test whether the variable occurs in the clause
+abbrev pub mentions : List Literal → ℕ → Bool
+mentions clause var = list_any (λ l. l.var == var) clause
+
+-- the test whether the variable occurs in a clause of the list
+abbrev pub occurs : List (List Literal) → ℕ → Bool
+occurs clauses var = list_any (λ clause. mentions clause var) clauses
+
+-- a value for each variable, which make each clause true; a variable that occurs in no clause is false
+pub record IsClearedModel (formula : FormulaData) (model : List Bool) : Type 0 where
+  pub is_model : IsModel formula model
+  pub idle : (var : ℕ) → occurs formula.clauses var ≡ false → value_of model var ≡ false
+
+-- the verdict holds of the formula and the journal: a model; a refutation; each ring has learned its limit of lemmas, each of
+-- them new
+abbrev pub Holds : Plan → FormulaData → List Entry → Verdict → Type 0
+Holds plan formula journal (Satisfiable model) = IsClearedModel formula model
+Holds plan formula journal Unsatisfiable = IsRefutation formula.clauses journal
+Holds plan formula journal Unknown = SpentAll formula.clauses journal plan.threads plan.conflicts
+
+-- the verdict holds of a run so planned, in which the simplifiers came to their end
+pub record Decides (plan : Plan) (formula : FormulaData) (journal : List Entry) (verdict : Verdict) : Type 0 where
+  pub holds : Holds plan formula journal verdict
+  pub ruled : IsRuledThrough formula plan.rounds journal
+
+-- the kind of the stop with which the rings come to the verdict, and with none where each is spent
+abbrev pub verdict_kind : Verdict → Option ℕ
+verdict_kind (Satisfiable model) = Some STOP_SAT
+verdict_kind Unsatisfiable = Some STOP_REFUTED
+verdict_kind Unknown = None
+
+-- some verdict holds
+pub record IsDecided (plan : Plan) (formula : FormulaData) (journal : List Entry) : Type 0 where
+  pub verdict : Verdict
+  pub decides : Decides plan formula journal verdict

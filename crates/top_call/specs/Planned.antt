@@ -1,0 +1,38 @@
+-- How a formula is decided, by the words.
+use Rattle.std.specs.Prelude.{ℕ, ◌≤◌, ◌^◌, Bool, false, if◌then◌else◌, Some, None}
+use Rattle.std.specs.declared.option.Option.{Option}
+use Rattle.portfolio_run.specs.declared.plan.Plan.{Plan as SearchPlan}
+use Rattle.top_call.specs.declared.plan.Plan.{Plan}
+use Rattle.top_call.specs.declared.plan.TheConstants.{ROUNDS}
+use Rattle.top_call.specs.Words.{Command}
+
+-- how many rounds the ruler may take
+abbrev pub rounds_of : Bool → ℕ
+rounds_of no_simplify = if no_simplify then 0 else ROUNDS
+
+-- how the ruler and the rings are to search
+abbrev pub search_of : Command → SearchPlan
+search_of command = record {
+  threads = command.threads;
+  conflicts = command.conflicts;
+  words = command.words;
+  seed = command.seed;
+  rounds = rounds_of command.no_simplify;
+  keep_lines = command.check;
+}
+
+-- the search of no command
+abbrev pub no_search : SearchPlan
+no_search = record { threads = 0; conflicts = 0; words = 0; seed = 0; rounds = 0; keep_lines = false }
+
+-- what the words ask for
+abbrev pub plan_of : Option Command → Plan
+plan_of None = record { search = no_search; make = None }
+plan_of (Some command) = record { search = search_of command; make = command.make }
+
+-- what is asked of a search can be done: 1 to 16 rings, each of which may learn a lemma, over no more words than can be numbered
+pub record IsInRange (plan : SearchPlan) : Type 0 where
+  pub some_rings : 1 ≤ plan.threads
+  pub few_rings : plan.threads ≤ 16
+  pub some_lemmas : 1 ≤ plan.conflicts
+  pub few_words : plan.words ≤ 2 ^ 31

@@ -1,0 +1,42 @@
+// The line on standard error.
+use crate::report::End;
+use dimacs_read::Code;
+use io_edge::{Sink, WriteStop, write_all_of};
+use itoa::Buffer;
+use sat_words::NoRoom;
+
+/// Writes the line that names a bad place.
+fn put_bad_place<E: Sink>(err: &mut E, code: Code, line: u64) -> Result<(), WriteStop> {
+    let mut digits = Buffer::new();
+    write_all_of(err, b"gimsatul: input line ")?;
+    write_all_of(err, digits.format(line).as_bytes())?;
+    write_all_of(err, b": ")?;
+    write_all_of(err, code.name().as_bytes())?;
+    write_all_of(err, b"\n")
+}
+
+/// Writes the line that says how much room was needed, and how much there is.
+fn put_no_room<E: Sink>(err: &mut E, lack: NoRoom) -> Result<(), WriteStop> {
+    let mut digits = Buffer::new();
+    write_all_of(err, b"gimsatul: no room: need ")?;
+    write_all_of(err, digits.format(lack.need).as_bytes())?;
+    write_all_of(err, b", largest hole ")?;
+    write_all_of(err, digits.format(lack.largest).as_bytes())?;
+    write_all_of(err, b"\n")
+}
+
+/// Writes why there is no answer: nothing where there is one.
+pub fn put_message<E: Sink>(err: &mut E, end: &End) -> Result<(), WriteStop> {
+    match end {
+        End::Satisfiable(_) | End::Unsatisfiable | End::Unknown => Ok(()),
+        End::Usage => write_all_of(err, b"gimsatul: bad command line\n"),
+        End::BadInput { code, line } => put_bad_place(err, *code, *line),
+        End::CannotOpen => write_all_of(err, b"gimsatul: cannot open input\n"),
+        End::CannotCreate => write_all_of(err, b"gimsatul: cannot create proof\n"),
+        End::ReadFault => write_all_of(err, b"gimsatul: read fault\n"),
+        End::WriteFault => write_all_of(err, b"gimsatul: write fault\n"),
+        End::ProofFault => write_all_of(err, b"gimsatul: proof fault\n"),
+        End::Room(lack) => put_no_room(err, *lack),
+        End::Memory => write_all_of(err, b"gimsatul: out of memory\n"),
+    }
+}

@@ -1,0 +1,22 @@
+// How a formula is decided.
+ghost use Rattle.std.specs.Prelude.{◌≡◌};
+ghost use Rattle.top_call.specs.Planned.{rounds_of};
+
+/// How many rounds of simplifiers a formula may get.
+pub const ROUNDS: u32 = 3;
+
+/// How a formula is decided.
+#[derive(Clone, Copy)]
+pub struct Plan {
+    /// How the ruler and the rings search. The lines of the log are kept where they are to be checked.
+    pub search: portfolio_run::Plan,
+    /// The number of the formula, where it is made and not read.
+    pub make: Option<u64>,
+}
+
+/// How many rounds of simplifiers a formula may get.
+pub fn rounds_of(no_simplify: bool) -> u32
+    ensures { result ≡ rounds_of no_simplify }
+{
+    if no_simplify { 0 } else { ROUNDS }
+}

@@ -1,0 +1,306 @@
+// The words of the command line.
+ghost use Rattle.std.specs.Prelude.{◌≡◌, ◌≤◌, ◌^◌, ◌↔◌, false, map, string_bytes, IfOk, IfErr, IsErrOf, Some, None};
+ghost use Rattle.clap.specs.Words.{app_of, found_of, rows_of, rule_of};
+ghost use Rattle.clap.specs.declared.error.kind.ErrorKind.TheVariants.{OutOfMemory};
+ghost use Rattle.top_call.specs.Ends.{IsWordsEnd};
+ghost use Rattle.top_call.specs.Planned.{IsInRange, search_of};
+ghost use Rattle.top_call.specs.Words.{HasThreads, HasLimit, HasWords, HasSeed, HasMade, asked_by, command_in, command_of, unless_both, solver_app, conflicts_rule, threads_rule, words_rule, seed_rule, proof_rule, no_simplify_rule, check_rule, make_rule, file_rule};
+
+use crate::report::End;
+use clap::builder::ValueParser;
+use clap::error::ErrorKind;
+use clap::{Arg, ArgAction, ArgMatches};
+use std::alloc::{AllocError, Global};
+
+/// The most rings.
+const MOST_THREADS: u64 = 16;
+
+/// The fewest words for clauses.
+const LEAST_WORDS: u64 = 64;
+
+/// The most words for clauses.
+const MOST_WORDS: u64 = 1 << 31;
+
+/// The most lemmas that a ring may be allowed to learn.
+const MOST_CONFLICTS: u64 = 1_000_000_000_000;
+
+/// The greatest seed.
+const MOST_SEED: u64 = (1 << 63) - 1;
+
+/// The greatest number of a formula that can be made.
+const MOST_MADE: u64 = (1 << 63) - 1;
+
+/// What the words ask for.
+#[derive(Clone, Copy)]
+pub struct Command<'a> {
+    /// How many rings search.
+    pub threads: u32,
+    /// How many lemmas each ring may learn.
+    pub conflicts: u64,
+    /// How many words of 64 bits there are for clauses.
+    pub words: u64,
+    /// What the rings' first phases are made of.
+    pub seed: u64,
+    /// Whether nothing is simplified but units.
+    pub no_simplify: bool,
+    /// Where the proof goes, if it is wanted.
+    pub proof: Option<&'a str>,
+    /// Whether the log is checked.
+    pub check: bool,
+    /// The number of the formula that is made in place of an input, if one is.
+    pub make: Option<u64>,
+    /// Where the input comes from, if not from standard input.
+    pub file: Option<&'a str>,
+}
+
+fn conflicts_arg<'a>(alloc: Global) -> Arg<'a>
+    ensures rule { rule_of result ≡ conflicts_rule }
+    ensures local { result.global ≡ false }
+{
+    Arg::new(alloc, "conflicts")
+        .long("conflicts")
+        .action(ArgAction::Set)
+        .value_parser(ValueParser::unsigned(1, MOST_CONFLICTS))
+        .default_value("1000000000")
+}
+
+fn threads_arg<'a>(alloc: Global) -> Arg<'a>
+    ensures rule { rule_of result ≡ threads_rule }
+    ensures local { result.global ≡ false }
+{
+    Arg::new(alloc, "threads")
+        .long("threads")
+        .action(ArgAction::Set)
+        .value_parser(ValueParser::unsigned(1, MOST_THREADS))
+        .default_value("4")
+}
+
+fn words_arg<'a>(alloc: Global) -> Arg<'a>
+    ensures rule { rule_of result ≡ words_rule }
+    ensures local { result.global ≡ false }
+{
+    Arg::new(alloc, "words")
+        .long("words")
+        .action(ArgAction::Set)
+        .value_parser(ValueParser::unsigned(LEAST_WORDS, MOST_WORDS))
+        .default_value("16777216")
+}
+
+fn seed_arg<'a>(alloc: Global) -> Arg<'a>
+    ensures rule { rule_of result ≡ seed_rule }
+    ensures local { result.global ≡ false }
+{
+    Arg::new(alloc, "seed")
+        .long("seed")
+        .action(ArgAction::Set)
+        .value_parser(ValueParser::unsigned(0, MOST_SEED))
+        .default_value("0")
+}
+
+fn proof_arg<'a>(alloc: Global) -> Arg<'a>
+    ensures rule { rule_of result ≡ proof_rule }
+    ensures local { result.global ≡ false }
+{
+    Arg::new(alloc, "proof").long("proof")
+}
+
+fn no_simplify_arg<'a>(alloc: Global) -> Arg<'a>
+    ensures rule { rule_of result ≡ no_simplify_rule }
+    ensures local { result.global ≡ false }
+{
+    Arg::new(alloc, "no-simplify")
+        .long("no-simplify")
+        .action(ArgAction::SetTrue)
+}
+
+fn check_arg<'a>(alloc: Global) -> Arg<'a>
+    ensures rule { rule_of result ≡ check_rule }
+    ensures local { result.global ≡ false }
+{
+    Arg::new(alloc, "check")
+        .long("check")
+        .action(ArgAction::SetTrue)
+}
+
+fn make_arg<'a>(alloc: Global) -> Arg<'a>
+    ensures rule { rule_of result ≡ make_rule }
+    ensures local { result.global ≡ false }
+{
+    Arg::new(alloc, "make")
+        .long("make")
+        .action(ArgAction::Set)
+        .value_parser(ValueParser::unsigned(0, MOST_MADE))
+}
+
+fn file_arg<'a>(alloc: Global) -> Arg<'a>
+    ensures rule { rule_of result ≡ file_rule }
+    ensures local { result.global ≡ false }
+{
+    Arg::new(alloc, "file")
+}
+
+/// The command of the program, with no flag for help and none for the version.
+fn solver<'a>(alloc: Global) -> Result<clap::Command<'a>, AllocError>
+    ensures { IfOk result (λ command. app_of command ≡ solver_app) }
+{
+    let bare = clap::Command::new(alloc, "gimsatul")
+        .no_binary_name(true)
+        .disable_help_flag(true)
+        .disable_version_flag(true);
+    bare.arg(conflicts_arg(alloc))?
+        .arg(threads_arg(alloc))?
+        .arg(words_arg(alloc))?
+        .arg(seed_arg(alloc))?
+        .arg(proof_arg(alloc))?
+        .arg(no_simplify_arg(alloc))?
+        .arg(check_arg(alloc))?
+        .arg(make_arg(alloc))?
+        .arg(file_arg(alloc))
+}
+
+/// How many rings search.
+fn threads_in(matches: &ArgMatches<'_>) -> u32
+    requires { HasThreads matches.now }
+    ensures number { result ≡ (command_in (rows_of (found_of matches.now))).threads }
+    ensures some { 1 ≤ result }
+    ensures few { result ≤ 16 }
+{
+    match matches.get_one::<u64>("threads") {
+        Some(number) => number as u32,
+        // `HasThreads`: where the word is left out its default stands
+        None => unreachable!(),
+    }
+}
+
+/// How many words there are for clauses.
+fn words_in(matches: &ArgMatches<'_>) -> u64
+    requires { HasWords matches.now }
+    ensures number { result ≡ (command_in (rows_of (found_of matches.now))).words }
+    ensures few { result ≤ 2 ^ 31 }
+{
+    match matches.get_one::<u64>("words") {
+        Some(number) => number,
+        // `HasWords`: where the word is left out its default stands
+        None => unreachable!(),
+    }
+}
+
+/// How many lemmas each ring may learn.
+fn conflicts_in(matches: &ArgMatches<'_>) -> u64
+    requires { HasLimit matches.now }
+    ensures number { result ≡ (command_in (rows_of (found_of matches.now))).conflicts }
+    ensures some { 1 ≤ result }
+{
+    match matches.get_one::<u64>("conflicts") {
+        Some(number) => number,
+        // `HasLimit`: where the word is left out its default stands
+        None => unreachable!(),
+    }
+}
+
+/// What the first phases are made of.
+fn seed_in(matches: &ArgMatches<'_>) -> u64
+    requires { HasSeed matches.now }
+    ensures { result ≡ (command_in (rows_of (found_of matches.now))).seed }
+{
+    match matches.get_one::<u64>("seed") {
+        Some(number) => number,
+        // `HasSeed`: where the word is left out its default stands
+        None => unreachable!(),
+    }
+}
+
+/// Whether nothing is simplified but units.
+fn no_simplify_in(matches: &ArgMatches<'_>) -> bool
+    ensures { result ≡ (command_in (rows_of (found_of matches.now))).no_simplify }
+{
+    match matches.get_str("no-simplify") {
+        Some(value) => value == "true",
+        None => false,
+    }
+}
+
+/// Whether the log is checked.
+fn check_in(matches: &ArgMatches<'_>) -> bool
+    ensures { result ≡ (command_in (rows_of (found_of matches.now))).check }
+{
+    match matches.get_str("check") {
+        Some(value) => value == "true",
+        None => false,
+    }
+}
+
+/// The number of the formula that is made, if one is.
+fn make_in(matches: &ArgMatches<'_>) -> Option<u64>
+    requires { HasMade matches.now }
+    ensures { result ≡ (command_in (rows_of (found_of matches.now))).make }
+{
+    match matches.get_one::<u64>("make") {
+        Some(number) => Some(number),
+        None => None,
+    }
+}
+
+/// What the matches ask for.
+fn command_in<'a>(matches: &ArgMatches<'a>) -> Command<'a>
+    requires threads { HasThreads matches.now }
+    requires limit { HasLimit matches.now }
+    requires words { HasWords matches.now }
+    requires seed { HasSeed matches.now }
+    requires made { HasMade matches.now }
+    ensures asks { command_in (rows_of (found_of matches.now)) ≡ asked_by result }
+    ensures ranges { IsInRange (search_of (asked_by result)) }
+{
+    Command {
+        threads: threads_in(matches),
+        conflicts: conflicts_in(matches),
+        words: words_in(matches),
+        seed: seed_in(matches),
+        no_simplify: no_simplify_in(matches),
+        proof: matches.get_str("proof"),
+        check: check_in(matches),
+        make: make_in(matches),
+        file: matches.get_str("file"),
+    }
+}
+
+fn end_of_kind(kind: ErrorKind) -> End
+    ensures memory { (result ≡ End.Memory) ↔ (kind ≡ OutOfMemory) }
+    ensures ends { IsWordsEnd result }
+{
+    match kind {
+        ErrorKind::OutOfMemory => End::Memory,
+        _ => End::Usage,
+    }
+}
+
+/// A formula is made or read from a file, and not both.
+fn unless_both(command: Command<'_>) -> Result<Command<'_>, End>
+    ensures asks { IfOk result (λ taken. unless_both (asked_by command.entry) ≡ Some (asked_by taken)) }
+    ensures ranges { IsInRange (search_of (asked_by command.entry)) → IfOk result (λ taken. IsInRange (search_of (asked_by taken))) }
+    ensures usage { IfErr result (λ end. unless_both (asked_by command.entry) ≡ None) }
+    ensures ends { IfErr result (λ end. end ≡ End.Usage) }
+{
+    if command.make.is_some() && command.file.is_some() {
+        return Err(End::Usage);
+    }
+    Ok(command)
+}
+
+/// Reads the words, without the program's name. They are refused exactly where `clap` refuses them, and where `--make`
+/// stands with FILE.
+pub fn parse<'a>(alloc: Global, words: &'a [String]) -> Result<Command<'a>, End>
+    ensures asks { IfOk result (λ command. command_of (map string_bytes words.entry.now) ≡ Some (asked_by command)) }
+    ensures ranges { IfOk result (λ command. IsInRange (search_of (asked_by command))) }
+    ensures usage { IsErrOf result End.Usage → command_of (map string_bytes words.entry.now) ≡ None }
+    ensures ends { IfErr result IsWordsEnd }
+{
+    let command = match solver(alloc) {
+        Ok(command) => command,
+        Err(_) => return Err(End::Memory),
+    };
+    match command.try_get_matches_from(words) {
+        Ok(matches) => unless_both(command_in(&matches)),
+        Err(error) => Err(end_of_kind(error.kind())),
+    }
+}

@@ -26,6 +26,9 @@ pub mod Offering
 pub mod Lending
 pub mod Outcomes
 pub mod Listing
+pub mod Sharing
+pub mod Finishing
+pub mod Behind
 pub mod Reducing
 pub mod Shortened
 pub mod Resting

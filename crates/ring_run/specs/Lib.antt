@@ -3,5 +3,6 @@ pub mod Searching
 pub mod Ending
 pub mod Strategy
 pub mod Course
+pub mod Learning
 pub mod Renewal
 pub mod Turn

@@ -1,7 +1,9 @@
 // Learning from a conflict: the lemma is learned and offered, and the trail goes back.
-ghost use Rattle.std.specs.Prelude.{◌≡◌, ◌<◌, ◌+◌, ◌++◌, ◌-◌, ◌^◌, [], true, length, None, Some, IfSome, IsSome, IfErr, OnOk};
+ghost use Rattle.std.specs.Prelude.{◌≡◌, ◌<◌, ◌≤◌, ◌+◌, ◌++◌, ◌-◌, ◌^◌, [], true, length, None, Some, IfSome, IsSome, IfOk, IfErr, OnOk};
 ghost use Rattle.std.specs.Option.{option_to_list};
-ghost use Rattle.ring_port.specs.PortState.{IsPort, held_at, lits_at};
+ghost use Rattle.rup_model.specs.Rup.{rup};
+ghost use Rattle.ring_port.specs.PortState.{IsPort, held_at, known, lits_at};
+ghost use Rattle.ring_port.specs.Port.{IsClause, IsFreshClause, Refused, is_usable};
 ghost use Rattle.ring_port.specs.Log.{KeepsLog};
 ghost use Rattle.ring_port.specs.Deleting.{TidiedUpTo};
 ghost use Rattle.ring_trail.specs.TrailData.{TrailData, IsTrail};
@@ -9,9 +11,10 @@ ghost use Rattle.watch_prop.specs.WatchData.{attached};
 ghost use Rattle.watch_prop.specs.Watched.{Watched};
 ghost use Rattle.watch_prop.specs.Propagation.{IsConflict};
 ghost use Rattle.ring_run.specs.Strategy.{Decides, IsPaced};
-ghost use Rattle.ring_run.specs.Searching.{OffersNothing, HasLent, IsAsserting, IsGlueOf, HoldsByGlue, OnlyWrote, KeepsOn};
+ghost use Rattle.ring_run.specs.Searching.{OffersNothing, HasLent, IsAsserting, HoldsByGlue, OnlyWrote, KeepsOn};
 ghost use Rattle.ring_run.specs.Ending.{EndsAt, end_refused};
-ghost use Rattle.ring_run.specs.Course.{AreSameOffers, IsOffering, InSearch, HasLemmas, Leads, CanAssert, Asserted, Restarted, HasLeft, KeepsLooking, KeepsPolling, KeepsImporting, HasTidied, KeepsInTime, SumsUp, LearnsTo, LearnsFrom};
+ghost use Rattle.ring_run.specs.Course.{AreSameOffers, IsOffering, InSearch, HasLemmas, Leads, CanAssert, Asserted, Restarted, HasLeft, KeepsLooking, KeepsPolling, KeepsImporting, HasTidied, KeepsInTime, SumsUp, LearnsFrom};
+ghost use Rattle.ring_run.specs.Learning.{HasShared, HasFinished, ComesOf};
 
 use crate::course::{Course, end_refused, refute};
 use crate::job::End;
@@ -172,6 +175,61 @@ pub(crate) fn tidy_up<P: Port>(port: &mut P) -> Result<(), PortStop>
     port.tidy()
 }
 
+/// Learns a lemma, counts it, notes its glue for the restarts, and offers it to the other rings.
+fn share_lemma<P: Port>(
+    port: &mut P,
+    ring: &mut Ring,
+    lits: &[Lit],
+    glue: u32,
+) -> Result<Option<Cref>, PortStop>
+    requires usable { is_usable (P.state port.old).refused ≡ true }
+    requires some { 1 ≤ length lits.now }
+    requires clause { IsClause (P.state port.old).vars lits.now }
+    requires rup { rup (known (P.state port.old)) lits.now ≡ true }
+    requires fresh { IsFreshClause (P.state port.old) lits.now }
+    requires below { ring.old.learned < 2 ^ 64 - 1 }
+    requires noted { ring.old.restarts.count ≡ ring.old.learned }
+    requires few { ring.old.exported ≤ ring.old.learned }
+    ensures shared { IfOk result (λ address. HasShared (P.state port.old) (P.state port.new) ring.old ring.new lits.now glue address) }
+    ensures refused { IfErr result (λ stop. Refused (P.state port.old) (P.state port.new) stop × (ring.new ≡ ring.old)) }
+    ensures log { KeepsLog (P.state port.old) (P.state port.new) }
+    ensures port { IsPort (P.state port.new) }
+{
+    let address = port.learn(lits, glue)?;
+    ring.learned += 1;
+    ring.restarts.note(glue);
+    offer_lemma(port, ring, address);
+    Ok(address)
+}
+
+/// Asks whether a restart is due, deletes what waits, and leaves the conflict.
+fn finish_conflict<P: Port>(
+    port: &mut P,
+    ring: &mut Ring,
+    lits: &[Lit],
+    back: u32,
+    address: Option<Cref>,
+) -> Course
+    requires refused { (P.state port.old).refused ≡ None }
+    requires port { IsPort (P.state port.old) }
+    requires held { IfSome address (λ c. IsSome (held_at (P.state port.old) c.address)) }
+    requires vars { (P.state port.old).vars ≡ ring.old.watches.vars }
+    requires decides { length ring.old.decider.active ≡ ring.old.trail.vars }
+    requires can { CanAssert ring.old.trail lits.now back }
+    ensures finished { HasFinished (P.state port.old) (P.state port.new) ring.old ring.new lits.now back address result }
+    ensures port { IsPort (P.state port.new) }
+{
+    ring.pending = ring.restarts.due();
+    match tidy_up(port) {
+        Ok(()) => {}
+        Err(stop) => return Course::Over(end_refused(stop)),
+    }
+    match leave_conflict(port, ring, lits, back, address) {
+        Ok(()) => Course::On,
+        Err(_) => Course::Over(End::Memory),
+    }
+}
+
 /// Learns a lemma, and goes back to where it forces its first literal, or to level 0. Nothing waits for its deletion then.
 fn learn_lemma<P: Port>(
     port: &mut P,
@@ -186,46 +244,18 @@ fn learn_lemma<P: Port>(
     requires decides { Decides (P.state port.old) ring.old.decider }
     requires paced { IsPaced ring.old.restarts ring.old.learned limit }
     requires offering { IsOffering (P.state port.old) ring.old }
-    requires listed { HasLemmas (P.state port.old) ring.old }
     requires lemma { IsAsserting (P.state port.old) ring.old.trail lits.now back }
-    requires glue { IsGlueOf ring.old.trail.steps lits.now glue }
-    ensures leads { Leads (P.state port.old) ring.old (P.state port.new) ring.new limit result }
-    ensures more { result ≡ Course.On → ring.new.learned ≡ ring.old.learned + 1 }
-    ensures learns { LearnsTo (P.state port.old) (P.state port.new) ring.old ring.new lits.now back glue result }
-    ensures tidied { HasTidied (P.state port.new) result }
-    ensures listed { result ≡ Course.On → HasLemmas (P.state port.new) ring.new }
-    ensures stored { HoldsByGlue (P.state port.old) (P.state port.new) ring.old.trail.steps }
-    ensures looks { KeepsLooking (P.state port.old) ring.old (P.state port.new) ring.new result }
-    ensures paced { IsPaced ring.new.restarts ring.new.learned limit }
-    ensures polls { KeepsPolling (P.state port.old) ring.old (P.state port.new) ring.new result }
-    ensures imports { KeepsImporting (P.state port.old) ring.old (P.state port.new) ring.new result }
-    ensures above { result ≡ Course.On → 0 < ring.old.trail.level }
-    ensures in_time { KeepsInTime (P.state port.old) ring.old (P.state port.new) ring.new result }
-    ensures sums { SumsUp ring.new.restarts }
-    ensures offering { IsOffering (P.state port.new) ring.new }
-    ensures odd { ring.new.restarts.odd ≡ ring.old.restarts.odd }
-    ensures active { ring.new.decider.active ≡ ring.old.decider.active }
+    ensures comes { ComesOf (P.state port.old) (P.state port.new) ring.old ring.new lits.now back glue limit result }
     ensures port { IsPort (P.state port.new) }
 {
-    let address = match port.learn(lits, glue) {
+    let address = match share_lemma(port, ring, lits, glue) {
         Ok(address) => address,
         Err(stop) => return Course::Over(end_refused(stop)),
     };
-    ring.learned += 1;
-    ring.restarts.note(glue);
-    offer_lemma(port, ring, address);
     if ring.learned == limit {
         return Course::Over(End::Spent);
     }
-    ring.pending = ring.restarts.due();
-    match tidy_up(port) {
-        Ok(()) => {}
-        Err(stop) => return Course::Over(end_refused(stop)),
-    }
-    match leave_conflict(port, ring, lits, back, address) {
-        Ok(()) => Course::On,
-        Err(_) => Course::Over(End::Memory),
-    }
+    finish_conflict(port, ring, lits, back, address)
 }
 
 /// Learns from a conflict.

@@ -1,21 +1,18 @@
-use Rattle.std.proofs.Common.{◌≤◌, ◌+◌, ◌∙◌, ap, drop, subst, sym, refl, List}
-use Rattle.analyze.specs.Levels.{count_of_levels}
+use Rattle.std.proofs.Common.{◌≡◌, ap, sym, subst, refl, List}
 use Rattle.sat_words.specs.Literal.{Literal}
 use Rattle.ring_port.specs.PortState.{PortState}
-use Rattle.ring_run.specs.Searching.{IsAsserting, GoesOn, HoldsByGlue, OffersNothing}
-use Rattle.ring_run.proofs.Lending.{offering_stays}
-use Rattle.ring_run.proofs.Outcomes.{from_refusal, learned_from}
+use Rattle.ring_decide.specs.DeciderData.{DeciderData}
+use Rattle.ring_run.specs.Searching.{IsAsserting, OffersNothing}
+use Rattle.ring_run.specs.Ending.{EndsAt}
+use Rattle.ring_run.specs.Learning.{ComesOf}
+use Rattle.ring_run.specs.declared.job.End.TheVariants.{Memory}
 use Rattle.ring_run.specs.declared.ring.Ring.{Ring}
-use Rattle.ring_run.specs.Ended.{polls_of}
-use Rattle.ring_run.specs.Course.{HasLemmas, LearnsTo, IsPolling, imports_of}
-use Rattle.ring_run.proofs.Polling.{polls_same, polled_over, polled_halted}
+use Rattle.ring_run.specs.declared.course.Course.TheVariants as course
 use Rattle.ring_run.proofs.Asserting.{lemma_asserts}
-use Rattle.ring_run.proofs.Turning.{compose}
+use Rattle.ring_run.proofs.Behind.{BehindLemma, behind_end, behind_lemma, behind_memory, can_found}
+use Rattle.ring_run.proofs.lemma.learn_from.Given.{Over}
+use Rattle.ring_run.proofs.lemma.learn_from.Goals.{After-refute, After-bump_met, After-learn_lemma}
 use Rattle.ring_run.proofs.lemma.learn_from.Goals as goal
-use Rattle.ring_run.proofs.Rounds.{imports_halted, imports_over, imports_same}
-use Rattle.ring_run.specs.Ended.{HasImported, LookedAlong, rounds, import_slots}
-use Rattle.ring_run.proofs.InTime.{in_time_halted, sums_exact}
-use Rattle.ring_run.specs.Ended.{IsInTime}
 
 pub learn_lemma-requires-clause-lemma : goal.learn_lemma-requires-clause-lemma
 learn_lemma-requires-clause-lemma g c =
@@ -26,103 +23,186 @@ learn_lemma-requires-clause-lemma g c =
     subst (λ (ls : List Literal). IsAsserting (g.P.Port.state c.analyze.new.port) c.args.ring.now.trail ls c.in-Lemma.back) (sym c.lits.ensures)
     (subst (λ (x : PortState). IsAsserting x c.args.ring.now.trail c.analyze.new.self.lits c.in-Lemma.back) (sym c.analyze.ensures.same) asserting)
 
-pub returns-else-is_err-clause-leads : goal.returns-else-is_err-clause-leads
-returns-else-is_err-clause-leads g c =
-    let between : Ring = record c.args.ring.now { decider = c.bump_met.new.decider; bumps = c.bump_met.new.bumps } in
-    compose c.learn_lemma.result (g.P.Port.state c.args.port.now) (g.P.Port.state c.analyze.new.port) (g.P.Port.state c.learn_lemma.new.port) c.args.ring.now between c.learn_lemma.new.ring c.args.limit
-    (λ start p. subst (λ (x : PortState). GoesOn start x c.args.ring.now.learned) (sym c.analyze.ensures.same) p)
-    c.learn_lemma.ensures.leads
-
-pub returns-in-Empty-clause-leads : goal.returns-in-Empty-clause-leads
-returns-in-Empty-clause-leads g c = λ start p.
-    c.refute.ensures.ends c.args.ring.now.learned c.args.limit c.requires.below start
-    (subst (λ (x : PortState). GoesOn start x c.args.ring.now.learned) (sym c.analyze.ensures.same) p)
-
-pub returns-in-Empty-clause-offering : goal.returns-in-Empty-clause-offering
-returns-in-Empty-clause-offering g c =
+-- what the empty clause leaves
+refuted : (g : Over) (c : After-refute g) → BehindLemma (g.P.Port.state c.args.port.now) (g.P.Port.state c.refute.new.port) c.args.ring.now c.args.ring.now c.args.conflict c.analyze.new.self.lits c.args.limit (course.Over c.refute.result)
+refuted g c =
     let s = g.P.Port.state c.args.port.now in
     let u = g.P.Port.state c.refute.new.port in
-    offering_stays s u c.args.ring.now c.args.ring.now (subst (λ (x : PortState). OffersNothing x u) c.analyze.ensures.same c.refute.ensures.nothing) (record { exported = refl; offered = refl; place = refl }) refl c.requires.offering
+    let old = c.args.ring.now in
+    let same = c.analyze.ensures.same in
+    behind_end s u old old c.args.conflict c.analyze.new.self.lits c.args.limit c.refute.result
+    (record { learned = refl; restarts = refl; active = refl; offers = record { exported = refl; offered = refl; place = refl } })
+    (subst (λ (x : PortState). EndsAt x u c.refute.result) same c.refute.ensures.ends) c.refute.ensures.refusal
+    (subst (λ (x : PortState). OffersNothing x u) same c.refute.ensures.nothing)
+    (subst (λ (x : PortState). u.held ≡ x.held) same c.refute.ensures.held) (subst (λ (x : PortState). u.looks ≡ x.looks) same c.refute.ensures.looks)
+    c.requires.below c.requires.paced c.requires.offering
 
-pub returns-in-Empty-clause-polls : goal.returns-in-Empty-clause-polls
-returns-in-Empty-clause-polls g c = λ p.
-    let s = g.P.Port.state c.args.port.now in
-    let u = g.P.Port.state c.refute.new.port in
-    let ring = c.args.ring.now in
-    let nothing : OffersNothing s u = subst (λ (x : PortState). OffersNothing x u) c.analyze.ensures.same c.refute.ensures.nothing in
-    polled_halted u ring.restarts.made c.refute.result c.refute.ensures.halted (polled_over u ring (polls_same s u (imports_of ring) nothing p.polled))
+-- what is left where there is no room for the variables met
+crowded : (g : Over) (c : After-bump_met g) → BehindLemma (g.P.Port.state c.args.port.now) (g.P.Port.state c.analyze.new.port) c.args.ring.now (record c.args.ring.now { decider = c.bump_met.new.decider; bumps = c.bump_met.new.bumps }) c.args.conflict c.analyze.new.self.lits c.args.limit (course.Over Memory)
+crowded g c =
+    let old = c.args.ring.now in
+    behind_memory (g.P.Port.state c.args.port.now) (g.P.Port.state c.analyze.new.port) old (record old { decider = c.bump_met.new.decider; bumps = c.bump_met.new.bumps }) c.args.conflict c.analyze.new.self.lits c.args.limit c.analyze.ensures.same
+    (record { learned = refl; restarts = refl; active = ap (λ (d : DeciderData). d.active) c.bump_met.ensures.same; offers = record { exported = refl; offered = refl; place = refl } })
+    c.requires.below c.requires.paced c.requires.offering
 
-pub returns-then-is_err-clause-polls : goal.returns-then-is_err-clause-polls
-returns-then-is_err-clause-polls g c = λ p.
-    subst (λ (x : PortState). x.polled ≤ polls_of x (1 + c.args.ring.now.restarts.made)) (sym c.analyze.ensures.same) (polled_over (g.P.Port.state c.args.port.now) c.args.ring.now p.polled)
-
-pub returns-else-is_err-clause-polls : goal.returns-else-is_err-clause-polls
-returns-else-is_err-clause-polls g c = λ p.
-    let between : Ring = record c.args.ring.now { decider = c.bump_met.new.decider; bumps = c.bump_met.new.bumps } in
-    c.learn_lemma.ensures.polls (subst (λ (x : PortState). IsPolling x between) (sym c.analyze.ensures.same) (record { place = p.place; polled = p.polled; low = p.low }))
-
-pub learn_lemma-requires-clause-listed : goal.learn_lemma-requires-clause-listed
-learn_lemma-requires-clause-listed g c =
-    let p = c.requires.listed in
-    let between : Ring = record c.args.ring.now { decider = c.bump_met.new.decider; bumps = c.bump_met.new.bumps } in
-    subst (λ (x : PortState). HasLemmas x between) (sym c.analyze.ensures.same) (record { ordered = p.ordered; glued = p.glued; noted = p.noted; distinct = p.distinct; member = p.member; apart = p.apart; count = p.count; few = p.few })
-
-pub returns-then-is_err-clause-imports : goal.returns-then-is_err-clause-imports
-returns-then-is_err-clause-imports g c = λ start p h.
-    subst (λ (x : PortState). LookedAlong start x (rounds (1 + c.args.ring.now.restarts.made) (import_slots x))) (sym c.analyze.ensures.same) (imports_over start (g.P.Port.state c.args.port.now) c.args.ring.now h)
-
-pub returns-in-Empty-clause-imports : goal.returns-in-Empty-clause-imports
-returns-in-Empty-clause-imports g c = λ start p h.
-    let s = g.P.Port.state c.args.port.now in
-    let u = g.P.Port.state c.refute.new.port in
-    let ring = c.args.ring.now in
-    let nothing : OffersNothing s u = subst (λ (x : PortState). OffersNothing x u) c.analyze.ensures.same c.refute.ensures.nothing in
-    imports_halted start u ring.restarts.made c.refute.result c.refute.ensures.halted (imports_over start u ring (imports_same start s u (imports_of ring) nothing h))
-
-pub returns-else-is_err-clause-imports : goal.returns-else-is_err-clause-imports
-returns-else-is_err-clause-imports g c = λ start p h.
-    let between : Ring = record c.args.ring.now { decider = c.bump_met.new.decider; bumps = c.bump_met.new.bumps } in
-    c.learn_lemma.ensures.imports start (subst (λ (x : PortState). IsPolling x between) (sym c.analyze.ensures.same) (record { place = p.place; polled = p.polled; low = p.low }))
-    (subst (λ (x : PortState). HasImported start x (imports_of between)) (sym c.analyze.ensures.same) h)
-
-pub returns-else-is_err-clause-stored : goal.returns-else-is_err-clause-stored
-returns-else-is_err-clause-stored g c =
-    subst (λ (x : PortState). HoldsByGlue x (g.P.Port.state c.learn_lemma.new.port) c.args.ring.now.trail.steps) c.analyze.ensures.same c.learn_lemma.ensures.stored
-
-pub returns-in-Empty-clause-in_time : goal.returns-in-Empty-clause-in_time
-returns-in-Empty-clause-in_time g c = λ p h. in_time_halted (g.P.Port.state c.refute.new.port) c.args.ring.now.restarts c.refute.result c.refute.ensures.halted
-
-pub returns-else-is_err-clause-in_time : goal.returns-else-is_err-clause-in_time
-returns-else-is_err-clause-in_time g c = λ p h.
-    let between : Ring = record c.args.ring.now { decider = c.bump_met.new.decider; bumps = c.bump_met.new.bumps } in
-    c.learn_lemma.ensures.in_time (subst (λ (x : PortState). IsPolling x between) (sym c.analyze.ensures.same) (record { place = p.place; polled = p.polled; low = p.low }))
-    (λ settled. subst (λ (x : PortState). IsInTime x between.restarts.since) (sym c.analyze.ensures.same) (h settled))
-
-pub returns-then-is_err-clause-sums : goal.returns-then-is_err-clause-sums
-returns-then-is_err-clause-sums g c = sums_exact c.args.ring.now.restarts c.args.ring.now.learned c.args.limit c.requires.paced c.requires.below
-
-pub returns-in-Empty-clause-sums : goal.returns-in-Empty-clause-sums
-returns-in-Empty-clause-sums g c = sums_exact c.args.ring.now.restarts c.args.ring.now.learned c.args.limit c.requires.paced c.requires.below
-
-pub returns-in-Empty-clause-learns : goal.returns-in-Empty-clause-learns
-returns-in-Empty-clause-learns g c =
-    from_refusal (g.P.Port.state c.args.port.now) (g.P.Port.state c.refute.new.port) c.args.ring.now c.args.ring.now c.args.conflict c.analyze.new.self.lits c.refute.result c.refute.ensures.refusal
-
-pub returns-else-is_err-clause-learns : goal.returns-else-is_err-clause-learns
-returns-else-is_err-clause-learns g c =
+-- what learning the lemma leaves
+behind : (g : Over) (c : After-learn_lemma g) → BehindLemma (g.P.Port.state c.args.port.now) (g.P.Port.state c.learn_lemma.new.port) c.args.ring.now c.learn_lemma.new.ring c.args.conflict c.analyze.new.self.lits c.args.limit c.learn_lemma.result
+behind g c =
     let s = g.P.Port.state c.args.port.now in
     let u = g.P.Port.state c.learn_lemma.new.port in
     let old = c.args.ring.now in
-    let between : Ring = record old { decider = c.bump_met.new.decider; bumps = c.bump_met.new.bumps } in
+    let x : Ring = record old { decider = c.bump_met.new.decider; bumps = c.bump_met.new.bumps } in
     let new = c.learn_lemma.new.ring in
-    let course = c.learn_lemma.result in
+    let lits = c.analyze.new.self.lits in
     let back = c.in-Lemma.back in
     let glue = c.in-Lemma.glue in
-    let lits = c.analyze.new.self.lits in
-    let found = c.in-Lemma.ensures.found in
-    let asserting : IsAsserting s old.trail lits back = lemma_asserts s old.trail old.watches c.args.conflict lits back glue old.written c.requires.search c.requires.conflict found.0 found.1 in
-    let p = subst (λ (ls : List Literal). LearnsTo (g.P.Port.state c.analyze.new.port) u between new ls back glue course) c.lits.ensures c.learn_lemma.ensures.learns in
-    learned_from s u between old new c.args.conflict lits back glue course
-    (record { trail = refl; watches = refl; lemmas = refl; reductions = refl; reduced_at = refl; written = refl; decider = c.bump_met.ensures.same; restarts = refl; exported = refl; offered = refl })
-    found.1 asserting (found.1.glue_is ∙ ap (λ (ls : List Literal). count_of_levels old.trail.steps (drop 1 ls)) (sym found.1.parts))
-    (subst (λ (x : PortState). LearnsTo x u between new lits back glue course) c.analyze.ensures.same p)
+    let limit = c.args.limit in
+    let course = c.learn_lemma.result in
+    let came = subst (λ (ls : List Literal). ComesOf (g.P.Port.state c.analyze.new.port) u x new ls back glue limit course) c.lits.ensures c.learn_lemma.ensures.comes in
+    behind_lemma s u old x new c.args.conflict lits back glue limit course c.bump_met.ensures.same
+    (can_found s old c.args.conflict lits back glue limit c.requires.search c.requires.below c.requires.paced c.requires.offering c.requires.listed c.requires.conflict c.in-Lemma.ensures.found)
+    c.in-Lemma.ensures.found.1 (subst (λ (y : PortState). ComesOf y u x new lits back glue limit course) c.analyze.ensures.same came) c.learn_lemma.ensures.port
+
+pub returns-in-Empty-clause-leads : goal.returns-in-Empty-clause-leads
+returns-in-Empty-clause-leads g c = (refuted g (goal.at.returns-in-Empty-clause-leads g c).After-refute).leads
+
+pub returns-in-Empty-clause-more : goal.returns-in-Empty-clause-more
+returns-in-Empty-clause-more g c = (refuted g (goal.at.returns-in-Empty-clause-more g c).After-refute).more
+
+pub returns-in-Empty-clause-learns : goal.returns-in-Empty-clause-learns
+returns-in-Empty-clause-learns g c = (refuted g (goal.at.returns-in-Empty-clause-learns g c).After-refute).learns
+
+pub returns-in-Empty-clause-tidied : goal.returns-in-Empty-clause-tidied
+returns-in-Empty-clause-tidied g c = (refuted g (goal.at.returns-in-Empty-clause-tidied g c).After-refute).tidied
+
+pub returns-in-Empty-clause-listed : goal.returns-in-Empty-clause-listed
+returns-in-Empty-clause-listed g c = (refuted g (goal.at.returns-in-Empty-clause-listed g c).After-refute).listed
+
+pub returns-in-Empty-clause-stored : goal.returns-in-Empty-clause-stored
+returns-in-Empty-clause-stored g c = (refuted g (goal.at.returns-in-Empty-clause-stored g c).After-refute).stored
+
+pub returns-in-Empty-clause-looks : goal.returns-in-Empty-clause-looks
+returns-in-Empty-clause-looks g c = (refuted g (goal.at.returns-in-Empty-clause-looks g c).After-refute).looks
+
+pub returns-in-Empty-clause-paced : goal.returns-in-Empty-clause-paced
+returns-in-Empty-clause-paced g c = (refuted g (goal.at.returns-in-Empty-clause-paced g c).After-refute).paced
+
+pub returns-in-Empty-clause-polls : goal.returns-in-Empty-clause-polls
+returns-in-Empty-clause-polls g c = (refuted g (goal.at.returns-in-Empty-clause-polls g c).After-refute).polls
+
+pub returns-in-Empty-clause-imports : goal.returns-in-Empty-clause-imports
+returns-in-Empty-clause-imports g c = (refuted g (goal.at.returns-in-Empty-clause-imports g c).After-refute).imports
+
+pub returns-in-Empty-clause-above : goal.returns-in-Empty-clause-above
+returns-in-Empty-clause-above g c = (refuted g (goal.at.returns-in-Empty-clause-above g c).After-refute).above
+
+pub returns-in-Empty-clause-in_time : goal.returns-in-Empty-clause-in_time
+returns-in-Empty-clause-in_time g c = (refuted g (goal.at.returns-in-Empty-clause-in_time g c).After-refute).in_time
+
+pub returns-in-Empty-clause-sums : goal.returns-in-Empty-clause-sums
+returns-in-Empty-clause-sums g c = (refuted g (goal.at.returns-in-Empty-clause-sums g c).After-refute).sums
+
+pub returns-in-Empty-clause-offering : goal.returns-in-Empty-clause-offering
+returns-in-Empty-clause-offering g c = (refuted g (goal.at.returns-in-Empty-clause-offering g c).After-refute).offering
+
+pub returns-in-Empty-clause-odd : goal.returns-in-Empty-clause-odd
+returns-in-Empty-clause-odd g c = (refuted g (goal.at.returns-in-Empty-clause-odd g c).After-refute).odd
+
+pub returns-in-Empty-clause-active : goal.returns-in-Empty-clause-active
+returns-in-Empty-clause-active g c = (refuted g (goal.at.returns-in-Empty-clause-active g c).After-refute).active
+
+pub returns-then-is_err-clause-leads : goal.returns-then-is_err-clause-leads
+returns-then-is_err-clause-leads g c = (crowded g (goal.at.returns-then-is_err-clause-leads g c).After-bump_met).leads
+
+pub returns-then-is_err-clause-more : goal.returns-then-is_err-clause-more
+returns-then-is_err-clause-more g c = (crowded g (goal.at.returns-then-is_err-clause-more g c).After-bump_met).more
+
+pub returns-then-is_err-clause-learns : goal.returns-then-is_err-clause-learns
+returns-then-is_err-clause-learns g c = (crowded g (goal.at.returns-then-is_err-clause-learns g c).After-bump_met).learns
+
+pub returns-then-is_err-clause-tidied : goal.returns-then-is_err-clause-tidied
+returns-then-is_err-clause-tidied g c = (crowded g (goal.at.returns-then-is_err-clause-tidied g c).After-bump_met).tidied
+
+pub returns-then-is_err-clause-listed : goal.returns-then-is_err-clause-listed
+returns-then-is_err-clause-listed g c = (crowded g (goal.at.returns-then-is_err-clause-listed g c).After-bump_met).listed
+
+pub returns-then-is_err-clause-stored : goal.returns-then-is_err-clause-stored
+returns-then-is_err-clause-stored g c = (crowded g (goal.at.returns-then-is_err-clause-stored g c).After-bump_met).stored
+
+pub returns-then-is_err-clause-looks : goal.returns-then-is_err-clause-looks
+returns-then-is_err-clause-looks g c = (crowded g (goal.at.returns-then-is_err-clause-looks g c).After-bump_met).looks
+
+pub returns-then-is_err-clause-paced : goal.returns-then-is_err-clause-paced
+returns-then-is_err-clause-paced g c = (crowded g (goal.at.returns-then-is_err-clause-paced g c).After-bump_met).paced
+
+pub returns-then-is_err-clause-polls : goal.returns-then-is_err-clause-polls
+returns-then-is_err-clause-polls g c = (crowded g (goal.at.returns-then-is_err-clause-polls g c).After-bump_met).polls
+
+pub returns-then-is_err-clause-imports : goal.returns-then-is_err-clause-imports
+returns-then-is_err-clause-imports g c = (crowded g (goal.at.returns-then-is_err-clause-imports g c).After-bump_met).imports
+
+pub returns-then-is_err-clause-above : goal.returns-then-is_err-clause-above
+returns-then-is_err-clause-above g c = (crowded g (goal.at.returns-then-is_err-clause-above g c).After-bump_met).above
+
+pub returns-then-is_err-clause-in_time : goal.returns-then-is_err-clause-in_time
+returns-then-is_err-clause-in_time g c = (crowded g (goal.at.returns-then-is_err-clause-in_time g c).After-bump_met).in_time
+
+pub returns-then-is_err-clause-sums : goal.returns-then-is_err-clause-sums
+returns-then-is_err-clause-sums g c = (crowded g (goal.at.returns-then-is_err-clause-sums g c).After-bump_met).sums
+
+pub returns-then-is_err-clause-offering : goal.returns-then-is_err-clause-offering
+returns-then-is_err-clause-offering g c = (crowded g (goal.at.returns-then-is_err-clause-offering g c).After-bump_met).offering
+
+pub returns-then-is_err-clause-odd : goal.returns-then-is_err-clause-odd
+returns-then-is_err-clause-odd g c = (crowded g (goal.at.returns-then-is_err-clause-odd g c).After-bump_met).odd
+
+pub returns-then-is_err-clause-active : goal.returns-then-is_err-clause-active
+returns-then-is_err-clause-active g c = (crowded g (goal.at.returns-then-is_err-clause-active g c).After-bump_met).active
+
+pub returns-else-is_err-clause-leads : goal.returns-else-is_err-clause-leads
+returns-else-is_err-clause-leads g c = (behind g (goal.at.returns-else-is_err-clause-leads g c).After-learn_lemma).leads
+
+pub returns-else-is_err-clause-more : goal.returns-else-is_err-clause-more
+returns-else-is_err-clause-more g c = (behind g (goal.at.returns-else-is_err-clause-more g c).After-learn_lemma).more
+
+pub returns-else-is_err-clause-learns : goal.returns-else-is_err-clause-learns
+returns-else-is_err-clause-learns g c = (behind g (goal.at.returns-else-is_err-clause-learns g c).After-learn_lemma).learns
+
+pub returns-else-is_err-clause-tidied : goal.returns-else-is_err-clause-tidied
+returns-else-is_err-clause-tidied g c = (behind g (goal.at.returns-else-is_err-clause-tidied g c).After-learn_lemma).tidied
+
+pub returns-else-is_err-clause-listed : goal.returns-else-is_err-clause-listed
+returns-else-is_err-clause-listed g c = (behind g (goal.at.returns-else-is_err-clause-listed g c).After-learn_lemma).listed
+
+pub returns-else-is_err-clause-stored : goal.returns-else-is_err-clause-stored
+returns-else-is_err-clause-stored g c = (behind g (goal.at.returns-else-is_err-clause-stored g c).After-learn_lemma).stored
+
+pub returns-else-is_err-clause-looks : goal.returns-else-is_err-clause-looks
+returns-else-is_err-clause-looks g c = (behind g (goal.at.returns-else-is_err-clause-looks g c).After-learn_lemma).looks
+
+pub returns-else-is_err-clause-paced : goal.returns-else-is_err-clause-paced
+returns-else-is_err-clause-paced g c = (behind g (goal.at.returns-else-is_err-clause-paced g c).After-learn_lemma).paced
+
+pub returns-else-is_err-clause-polls : goal.returns-else-is_err-clause-polls
+returns-else-is_err-clause-polls g c = (behind g (goal.at.returns-else-is_err-clause-polls g c).After-learn_lemma).polls
+
+pub returns-else-is_err-clause-imports : goal.returns-else-is_err-clause-imports
+returns-else-is_err-clause-imports g c = (behind g (goal.at.returns-else-is_err-clause-imports g c).After-learn_lemma).imports
+
+pub returns-else-is_err-clause-above : goal.returns-else-is_err-clause-above
+returns-else-is_err-clause-above g c = (behind g (goal.at.returns-else-is_err-clause-above g c).After-learn_lemma).above
+
+pub returns-else-is_err-clause-in_time : goal.returns-else-is_err-clause-in_time
+returns-else-is_err-clause-in_time g c = (behind g (goal.at.returns-else-is_err-clause-in_time g c).After-learn_lemma).in_time
+
+pub returns-else-is_err-clause-sums : goal.returns-else-is_err-clause-sums
+returns-else-is_err-clause-sums g c = (behind g (goal.at.returns-else-is_err-clause-sums g c).After-learn_lemma).sums
+
+pub returns-else-is_err-clause-offering : goal.returns-else-is_err-clause-offering
+returns-else-is_err-clause-offering g c = (behind g (goal.at.returns-else-is_err-clause-offering g c).After-learn_lemma).offering
+
+pub returns-else-is_err-clause-odd : goal.returns-else-is_err-clause-odd
+returns-else-is_err-clause-odd g c = (behind g (goal.at.returns-else-is_err-clause-odd g c).After-learn_lemma).odd
+
+pub returns-else-is_err-clause-active : goal.returns-else-is_err-clause-active
+returns-else-is_err-clause-active g c = (behind g (goal.at.returns-else-is_err-clause-active g c).After-learn_lemma).active

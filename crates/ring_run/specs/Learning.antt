@@ -1,0 +1,88 @@
+-- What a call that learns a lemma leaves of a port and a ring, whatever it comes to.
+use Rattle.std.specs.Prelude.{◌≡◌, ◌≢◌, ◌⊎◌, ℕ, ◌+◌, List, [], length, Option}
+use Rattle.sat_words.specs.Literal.{Literal}
+use Rattle.sat_words.specs.declared.shared.Cref.{Cref}
+use Rattle.ring_port.specs.PortState.{PortState, IsPort}
+use Rattle.ring_port.specs.Port.{Refused, KeepsHeld}
+use Rattle.ring_port.specs.Log.{KeepsLog}
+use Rattle.ring_port.specs.Deleting.{TidiedUpTo}
+use Rattle.ring_port.specs.declared.stops.PortStop.{PortStop}
+use Rattle.restart_plan.specs.Plan.{noted, asked, is_due}
+use Rattle.ring_run.specs.Searching.{KeepsOn, OffersNothing, OnlyWrote}
+use Rattle.ring_run.specs.Ending.{EndsAt, IsRefusal, end_refused}
+use Rattle.ring_run.specs.Course.{WasShared, HasLeft, AreSameOffers}
+use Rattle.ring_run.specs.declared.job.End.TheVariants.{Spent}
+use Rattle.ring_run.specs.declared.ring.Ring.{Ring}
+use Rattle.ring_run.specs.declared.course.Course.{Course}
+use Rattle.ring_run.specs.declared.course.Course.TheVariants.{On, Over}
+
+-- a lemma was learned, counted and its glue noted for the restarts, and it was offered where it has a class; the rest of the ring is
+-- as it was
+pub record HasShared (s u : PortState) (old new : Ring) (lits : List Literal) (glue : ℕ) (address : Option Cref) : Type 0 where
+  pub shared : WasShared s u old new lits glue address
+  pub kept : KeepsHeld s shared.middle
+  pub log : KeepsLog s shared.middle
+  pub port : IsPort shared.middle
+  pub log_after : KeepsLog shared.middle u
+  pub port_after : IsPort u
+  pub ring : new ≡ record old { learned = old.learned + 1; restarts = noted old.restarts glue; exported = new.exported; offered = new.offered }
+
+-- it was asked whether a restart is due, and an import is yet to be where one is; since then nothing was learned or offered, and what
+-- is held is as it was
+pub record HasAsked (s u : PortState) (old new : Ring) : Type 0 where
+  pub learned : new.learned ≡ old.learned
+  pub restarts : new.restarts ≡ asked old.restarts
+  pub pending : new.pending ≡ is_due old.restarts
+  pub offers : AreSameOffers old new
+  pub active : new.decider.active ≡ old.decider.active
+  pub nothing : OffersNothing s u
+  pub held : u.held ≡ s.held
+  pub looks : u.looks ≡ s.looks
+
+-- what waited was deleted, and the conflict left
+pub record HasLeftTidy (s u : PortState) (old new : Ring) (lits : List Literal) (back : ℕ) (address : Option Cref) : Type 0 where
+  pub keeps : KeepsOn s u
+  pub wrote : OnlyWrote s u
+  pub seen : u.seen ≡ s.seen
+  pub waiting : u.waiting ≡ []
+  pub tidied : TidiedUpTo s u (length s.waiting)
+  pub left : HasLeft u (record old { pending = new.pending }) new lits back address
+
+-- so it was where the search goes on; else a call was refused, or there was no memory
+abbrev pub LeavesBy : PortState → PortState → Ring → Ring → List Literal → (back : ℕ) → Option Cref → Course → Type 0
+LeavesBy s u old new lits back address On = HasLeftTidy s u old new lits back address
+LeavesBy s u old new lits back address (Over end) = EndsAt s u end × IsRefusal end
+
+-- what comes behind a lemma that isn't the last
+pub record HasFinished (s u : PortState) (old new : Ring) (lits : List Literal) (back : ℕ) (address : Option Cref) (course : Course) : Type 0 where
+  pub asked_for : HasAsked s u old new
+  pub leaves : LeavesBy s u old new lits back address course
+
+-- the port refused the lemma, and nothing was done
+pub record WasRefused (s u : PortState) (old new : Ring) (course : Course) : Type 0 where
+  pub stop : PortStop
+  pub refused : Refused s u stop
+  pub log : KeepsLog s u
+  pub port : IsPort u
+  pub ring : new ≡ old
+  pub over : course ≡ Over (end_refused stop)
+
+-- the lemma reached the limit, and nothing was done behind it
+pub record WasLast (s u : PortState) (old new : Ring) (lits : List Literal) (glue limit : ℕ) (course : Course) : Type 0 where
+  pub address : Option Cref
+  pub shared : HasShared s u old new lits glue address
+  pub last : new.learned ≡ limit
+  pub over : course ≡ Over Spent
+
+-- the lemma is below the limit, and so much came behind it
+pub record WasFollowed (s u : PortState) (old new : Ring) (lits : List Literal) (back glue limit : ℕ) (course : Course) : Type 0 where
+  pub between : PortState
+  pub middle : Ring
+  pub address : Option Cref
+  pub shared : HasShared s between old middle lits glue address
+  pub more : middle.learned ≢ limit
+  pub finished : HasFinished between u middle new lits back address course
+
+-- what the call that learns a lemma comes to: one of these
+abbrev pub ComesOf : PortState → PortState → Ring → Ring → List Literal → (back glue limit : ℕ) → Course → Type 0
+ComesOf s u old new lits back glue limit course = WasRefused s u old new course ⊎ (WasLast s u old new lits glue limit course ⊎ WasFollowed s u old new lits back glue limit course)

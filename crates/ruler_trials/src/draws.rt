@@ -1,5 +1,5 @@
 //! Small random formulas.
-ghost use Rattle.std.specs.Prelude.{◌≡◌, IfOk, OnOk, length};
+ghost use Rattle.std.specs.Prelude.{◌≡◌, IfOk, OnOk};
 ghost use Rattle.sat_words.specs.Literal.{IsOn};
 ghost use Rattle.random_bits.specs.Bits.{rest_of};
 ghost use Rattle.ruler_trials.specs.Draws.{size_of, lit_of, next_clause, behind_clause, drawn};

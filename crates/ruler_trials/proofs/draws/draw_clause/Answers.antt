@@ -3,7 +3,7 @@ use Rattle.std.proofs.Common.{◌≡◌, ◌∙◌, ℕ, ◌+◌, ◌++◌, List
 use Rattle.random_bits.specs.Bits.{word_of, rest_of}
 use Rattle.sat_words.specs.Literal.{Literal}
 use Rattle.sat_words.specs.Clause.{clause_of}
-use Rattle.ruler_trials.specs.Draws.{size_of, lits_from, behind_lits, next_clause, behind_clause}
+use Rattle.ruler_trials.specs.Draws.{size_of, lits_from, behind_lits}
 use Rattle.ruler_trials.proofs.Drawing.{lits_zero, lits_next, behind_next}
 use Rattle.ruler_trials.proofs.draws.draw_clause.Goals as goal
 

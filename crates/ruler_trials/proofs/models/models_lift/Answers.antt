@@ -1,4 +1,4 @@
-use Rattle.std.proofs.Common.{◌≡◌, ◌∙◌, ℕ, Bool, true, false, List, ◌&&◌, sym, ap, subst, refl, arith}
+use Rattle.std.proofs.Common.{◌≡◌, ◌∙◌, ℕ, Bool, List, ◌&&◌, sym, ap, arith}
 use Rattle.std.specs.Bool.{beq}
 use Rattle.sat_words.specs.Truth.{formula_true}
 use Rattle.ruler_trials.specs.Models.{assignment, is_model, is_lifted, each_below, some_below}

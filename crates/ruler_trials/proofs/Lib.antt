@@ -1,1 +1,3 @@
+mod Below
+mod Drawing
 mod Numbered

@@ -1,10 +1,10 @@
 //! Assignments to all variables, tried one after another.
-ghost use Rattle.std.specs.Prelude.{◌≡◌, ◌≤◌, ◌<◌, ℕ, List, true, false, not, ◌||◌, All, IfOk, length};
+ghost use Rattle.std.specs.Prelude.{◌≡◌, ◌≤◌, ◌<◌, ℕ, List, true, false, All, IfOk, length};
 ghost use Rattle.model_stack.specs.Extend.{extend};
 ghost use Rattle.std.specs.List.{list_all};
 ghost use Rattle.sat_words.specs.Literal.{Literal};
 ghost use Rattle.sat_words.specs.Truth.{lit_true, clause_true, formula_true};
-ghost use Rattle.ruler_trials.specs.Models.{assignment, is_model};
+ghost use Rattle.ruler_trials.specs.Models.{assignment, is_model, is_lifted, models_lift};
 
 use crate::draws::VARS;
 use model_stack::Stack;
@@ -65,13 +65,13 @@ fn is_lifted(
     values: Assignment,
 ) -> bool
     requires { All (λ fix. fix.lit.var ≤ length values) stack.now }
-    ensures { result ≡ (not (is_model values clauses.now units.now) || formula_true (extend stack.now values) formula.now.clauses) }
+    ensures { result ≡ is_lifted formula.now.clauses clauses.now units.now stack.now values }
 {
     !is_model_of(&values, clauses, units) || is_mended(formula, stack, values)
 }
 
-/// Whether each model of what is left becomes one of the formula over the stack, and something is left of a formula that
-/// has a model.
+/// Whether each model of what is left becomes one of the formula over the stack, and what is left has a model just where the
+/// formula has one.
 pub fn models_lift(
     alloc: Global,
     formula: &Formula,
@@ -80,14 +80,15 @@ pub fn models_lift(
     stack: &Stack,
 ) -> Result<bool, AllocError>
     requires { All (λ fix. fix.lit.var ≤ 6) stack.now }
-    ensures { IfOk result (λ yes. yes ≡ true → (n : ℕ) → n < 64 → is_model (assignment n) clauses.now units.now ≡ true → formula_true (extend stack.now (assignment n)) formula.now.clauses ≡ true) }
+    ensures exact { IfOk result (λ yes. yes ≡ models_lift formula.now.clauses clauses.now units.now stack.now) }
+    ensures lifted { IfOk result (λ yes. yes ≡ true → (n : ℕ) → n < 64 → is_model (assignment n) clauses.now units.now ≡ true → formula_true (extend stack.now (assignment n)) formula.now.clauses ≡ true) }
 {
     let mut before = false;
     let mut after = false;
     for number in 0..ASSIGNMENTS {
         let values = assignment_of(alloc, number)?;
-        before = before || values.formula_true(formula);
-        after = after || is_model_of(&values, clauses, units);
+        before |= values.formula_true(formula);
+        after |= is_model_of(&values, clauses, units);
         if !is_lifted(formula, clauses, units, stack, values) {
             return Ok(false);
         }

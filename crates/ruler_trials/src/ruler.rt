@@ -1,13 +1,15 @@
 // `ruler_simp` on small formulas: the lines that it writes and what it leaves of each, by its rounds, and a line that fails.
+ghost use Rattle.std.specs.Prelude.{All};
 ghost use Rattle.ruler_simp.specs.Ruled.{AreOn};
+ghost use Rattle.sat_words.specs.Literal.{IsOn};
 
 use crate::{model_of, numbers_of};
-use drat_text::LineStop;
+use drat_text::{LineStop, SinkLines};
+use io_edge::MemSink;
 use ruler_simp::{Outcome, Simplified, simplify};
 use sat_words::Formula;
 use simp_trials::{counted_lines, formula_of, is_on, literals, text_lines};
 use std::alloc::Global;
-use std::process::Abort;
 use std::test::Fail;
 
 /// The variables of each row are 1 to this one.
@@ -102,84 +104,92 @@ const TWICE: &[i32] = &[
     0, 2, 5, -7, 0, 1, -2, 0, -2, 3, 6, 0,
 ];
 
-fn check_left(
-    rt: &impl Abort,
-    alloc: Global,
-    row: &Row,
-    formula: &Formula,
-    left: &Simplified,
-) -> Result<(), Fail>
+/// Whether what is left is as in the row, and has a model of the formula where it has no clause.
+fn is_left(alloc: Global, row: &Row, formula: &Formula, left: &Simplified) -> Result<bool, Fail>
     requires { AreOn formula.now.vars left.now }
 {
-    let text = row.text;
     let Some((starts, units)) = row.left else {
-        return Err("refuted, but answered otherwise".into());
+        return Ok(false);
     };
     let units = literals(alloc, VARS, units)?;
     let numbers = numbers_of(alloc, left)?;
-    assert!(rt; numbers.as_slice() == starts, "{text}");
-    assert!(rt; left.units.as_slice() == units.as_slice(), "{text}");
-    if starts.is_empty() {
-        let model = model_of(alloc, formula.vars(), left)?;
-        assert!(rt; model.formula_true(formula), "{text}");
+    if numbers.as_slice() != starts || left.units.as_slice() != units.as_slice() {
+        return Ok(false);
     }
-    Ok(())
+    if !starts.is_empty() {
+        return Ok(true);
+    }
+    let model = model_of(alloc, formula.vars(), left)?;
+    Ok(model.formula_true(formula))
 }
 
-fn check_row(rt: &impl Abort, alloc: Global, row: &Row) -> Result<(), Fail> {
-    let text = row.text;
+/// Whether these are the lines.
+fn is_written(lines: SinkLines<MemSink<'static>>, text: &str) -> bool {
+    let (end, sink) = lines.finish();
+    end.is_ok() && sink.bytes() == text.as_bytes()
+}
+
+/// Whether the ruler writes and leaves what the row says.
+fn is_as_told(alloc: Global, row: &Row) -> Result<bool, Fail> {
     let formula = formula_of(alloc, VARS, row.clauses)?;
-    assert!(rt; is_on(&formula));
+    if !is_on(&formula) {
+        return Ok(false);
+    }
     let lines = text_lines(alloc, &formula, 128)?;
     let (answer, lines) = simplify(alloc, &formula, row.rounds, lines);
-    let (end, sink) = lines.finish();
-    assert!(rt; end.is_ok(), "{text}");
-    assert!(rt; sink.bytes() == text.as_bytes(), "{text}");
+    if !is_written(lines, row.text) {
+        return Ok(false);
+    }
     match answer {
-        Ok(Outcome::Simplified(left)) => check_left(rt, alloc, row, &formula, &left),
-        Ok(Outcome::Refuted) => {
-            assert!(rt; row.left.is_none(), "{text}");
-            Ok(())
-        }
-        Err(_) => Err("an error".into()),
+        Ok(Outcome::Simplified(left)) => is_left(alloc, row, &formula, &left),
+        Ok(Outcome::Refuted) => Ok(row.left.is_none()),
+        Err(_) => Ok(false),
     }
 }
 
 #[test]
 fn what_is_written_and_left(rt: HostRuntime) -> Result<(), Fail> {
     for row in ROWS {
-        check_row(&rt, rt.alloc(), row)?;
+        let text = row.text;
+        assert!(rt; is_as_told(rt.alloc(), row)?, "{text}");
     }
     Ok(())
 }
 
+/// How many start clauses are left of the formula in these rounds, over a line output whose line with this number fails; the stop
+/// where one does, and nothing where the formula is refuted.
+fn starts_left(
+    alloc: Global,
+    formula: &Formula,
+    rounds: u32,
+    failing: u64,
+) -> Result<Option<usize>, LineStop>
+    requires { All (All (IsOn formula.now.vars)) formula.now.clauses }
+{
+    match simplify(alloc, formula, rounds, counted_lines(formula, failing)).0 {
+        Ok(Outcome::Simplified(left)) => Ok(Some(left.start.len())),
+        Ok(Outcome::Refuted) => Ok(None),
+        Err(stop) => Err(stop),
+    }
+}
+
 #[test]
 fn a_second_round_goes_on(rt: HostRuntime) -> Result<(), Fail> {
-    let alloc = rt.alloc();
-    let formula = formula_of(alloc, VARS, TWICE)?;
+    let formula = formula_of(rt.alloc(), VARS, TWICE)?;
     assert!(rt; is_on(&formula));
     for (rounds, starts) in [(1, 1), (2, 0), (u32::MAX, 0)] {
-        let lines = counted_lines(&formula, 0);
-        match simplify(alloc, &formula, rounds, lines).0 {
-            Ok(Outcome::Simplified(left)) => assert_eq!(rt; left.start.len(), starts),
-            Ok(Outcome::Refuted) => return Err("refuted".into()),
-            Err(_) => return Err("an error".into()),
-        }
+        assert!(rt; starts_left(rt.alloc(), &formula, rounds, 0) == Ok(Some(starts)));
     }
     Ok(())
 }
 
 #[test]
 fn a_line_that_fails(rt: HostRuntime) -> Result<(), Fail> {
-    let alloc = rt.alloc();
-    let formula = formula_of(alloc, VARS, &[1, 0, -1, 2, 0])?;
+    let formula = formula_of(rt.alloc(), VARS, &[1, 0, -1, 2, 0])?;
     assert!(rt; is_on(&formula));
     for failing in 1..=2 {
-        let lines = counted_lines(&formula, failing);
-        match simplify(alloc, &formula, 3, lines).0 {
-            Err(stop) => assert!(rt; stop == LineStop::ProofFault),
-            Ok(_) => return Err("no fault".into()),
-        }
+        let stopped = starts_left(rt.alloc(), &formula, 3, failing);
+        assert!(rt; stopped == Err(LineStop::ProofFault));
     }
     Ok(())
 }

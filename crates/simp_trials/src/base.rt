@@ -1,46 +1,84 @@
 // `simp_base`, the calls of a work: each once, a deletion whose line stands or fails, and which clauses are tautologies.
-use crate::follows;
+ghost use Rattle.std.specs.Prelude.{◌≡◌, ◌∷◌, [], true, false, All, IfOk};
+ghost use Rattle.sat_words.specs.Literal.{IsOn};
+ghost use Rattle.sat_words.specs.Clause.{has_opposites};
+
+use crate::{follows, formula_of, is_on, literals, text_work};
 use drat_text::{CountedLines, SinkLines};
 use io_edge::MemSink;
 use sat_words::{Clause, Formula, Lit};
 use simp_base::{LineStop, Work, is_tautology, takes_part};
+use std::alloc::Global;
 use std::test::Fail;
+
+/// A work whose lines are kept as text.
+type Written = Work<SinkLines<MemSink<'static>>>;
+
+/// What a work on one clause, that of this literal on variable 1, answers before it changes.
+fn answers_at_first(work: &Written, one: Lit) -> bool
+    requires on { IsOn work.now.vars one }
+    requires vars { work.now.vars ≡ 2 }
+{
+    work.numbers_with(one).is_ok()
+        && work.occurrences(one) == [1].as_slice()
+        && work.last_number() == 1
+        && work.line_count() == 0
+        && work.has_unit(1)
+        && !work.has_unit(2)
+}
+
+/// Puts an entry onto the stack, and adds a clause that follows from the first one.
+fn adds_clause(alloc: Global, work: &mut Written, one: Lit, two: Lit) -> Result<bool, Fail>
+    requires unspent { work.old.output.spent ≡ false }
+    requires going { work.old.ended ≡ false }
+    requires on { All (IsOn work.old.vars) (one ∷ two ∷ []) }
+    requires apart { has_opposites (one ∷ two ∷ []) ≡ false }
+    ensures { IfOk result (λ yes. yes ≡ true → (work.new.output.spent ≡ false) × (work.new.ended ≡ false) × (work.new.vars ≡ work.old.vars)) }
+{
+    let fix = Clause::from_lits(alloc, &[two, one])?;
+    if work.push_fix(two, fix).is_err() {
+        return Ok(false);
+    }
+    if !follows(alloc, work, 1, &[one, two])? {
+        return Ok(false);
+    }
+    Ok(work.add_rup(&[one, two]) == Ok(2))
+}
+
+/// Lists a unit that follows from the first clause.
+fn lists_unit(alloc: Global, work: &mut Written, one: Lit) -> Result<bool, Fail>
+    requires unspent { work.old.output.spent ≡ false }
+    requires going { work.old.ended ≡ false }
+    requires on { IsOn work.old.vars one }
+{
+    if !follows(alloc, work, 1, &[one])? {
+        return Ok(false);
+    }
+    Ok(work.unit(one).is_ok() && work.line_count() == 1)
+}
+
+/// What these calls leave.
+fn leaves_one_line(work: Written, one: Lit) -> bool {
+    let parts = work.into_parts();
+    let (end, sink) = parts.output.finish();
+    end.is_ok()
+        && parts.clauses.len() == 2
+        && parts.units.as_slice() == [one].as_slice()
+        && sink.bytes() == b"1 2 0\n".as_slice()
+}
 
 #[test]
 fn each_call_goes_well(rt: HostRuntime) -> Result<(), Fail> {
     let alloc = rt.alloc();
     let one = Lit::new(1, false);
     let two = Lit::new(2, false);
-    let mut formula = Formula::new(alloc, 2);
-    formula.push(Clause::from_lits(alloc, &[one])?)?;
-    let Ok(lines) = SinkLines::new(alloc, 1, MemSink::new(alloc, 64, &[])?) else {
-        return Err("no memory".into());
-    };
-    let Ok(work) = Work::new(alloc, &formula, lines) else {
-        return Err("no memory".into());
-    };
-    let mut work = work;
-    assert!(rt; work.numbers_with(one).is_ok());
-    assert!(rt; work.occurrences(one) == [1].as_slice());
-    assert_eq!(rt; work.last_number(), 1);
-    assert_eq!(rt; work.line_count(), 0);
-    assert!(rt; work.has_unit(1));
-    assert!(rt; !work.has_unit(2));
-    assert!(rt;
-        work.push_fix(two, Clause::from_lits(alloc, &[two, one])?)
-            .is_ok()
-    );
-    assert!(rt; follows(alloc, &work, 1, &[one, two])?);
-    assert!(rt; work.add_rup(&[one, two]) == Ok(2));
-    assert!(rt; follows(alloc, &work, 1, &[one])?);
-    assert!(rt; work.unit(one).is_ok());
-    assert_eq!(rt; work.line_count(), 1);
-    let parts = work.into_parts();
-    assert_eq!(rt; parts.clauses.len(), 2);
-    assert!(rt; parts.units.as_slice() == [one].as_slice());
-    let (end, sink) = parts.output.finish();
-    assert!(rt; end.is_ok());
-    assert!(rt; sink.bytes() == b"1 2 0\n".as_slice());
+    let formula = formula_of(alloc, 2, &[1, 0])?;
+    assert!(rt; is_on(&formula));
+    let mut work = text_work(alloc, &formula, 64)?;
+    assert!(rt; answers_at_first(&work, one));
+    assert!(rt; adds_clause(alloc, &mut work, one, two)?);
+    assert!(rt; lists_unit(alloc, &mut work, one)?);
+    assert!(rt; leaves_one_line(work, one));
     Ok(())
 }
 
@@ -63,15 +101,21 @@ fn a_deletion_and_a_fault(rt: HostRuntime) -> Result<(), Fail> {
     Ok(())
 }
 
+/// Clauses, and whether each is a tautology, and takes part in what is simplified.
+const CLAUSES: &[(&[i32], bool, bool)] = &[
+    (&[2, 1, -2], true, false),
+    (&[-1, 2], false, true),
+    (&[2, 1, -1], true, false),
+    (&[1], false, false),
+];
+
 #[test]
 fn tautologies(rt: HostRuntime) -> Result<(), Fail> {
-    let alloc = rt.alloc();
-    let one = Lit::new(1, false);
-    let two = Lit::new(2, false);
-    assert!(rt; is_tautology(&Clause::from_lits(alloc, &[two, one, two.not()])?));
-    assert!(rt; !is_tautology(&Clause::from_lits(alloc, &[one.not(), two])?));
-    assert!(rt; takes_part(&Clause::from_lits(alloc, &[one.not(), two])?));
-    assert!(rt; !takes_part(&Clause::from_lits(alloc, &[two, one, one.not()])?));
-    assert!(rt; !takes_part(&Clause::from_lits(alloc, &[one])?));
+    for (numbers, tautology, part) in CLAUSES {
+        let lits = literals(rt.alloc(), 2, numbers)?;
+        let clause = Clause::from_lits(rt.alloc(), lits.as_slice())?;
+        assert!(rt; is_tautology(&clause) == *tautology);
+        assert!(rt; takes_part(&clause) == *part);
+    }
     Ok(())
 }

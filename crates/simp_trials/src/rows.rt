@@ -1,14 +1,22 @@
-// Rows of tests: what a simplifier is run on, and what is wanted of it.
-ghost use Rattle.std.specs.Prelude.{◌≡◌, ◌≤◌, ◌^◌, false, IfOk};
-ghost use Rattle.simp_base.specs.WorkState.{IsWork};
+// Rows of tests: what a simplifier is run on, and what is wanted of it: what is written and left, a line that fails, and a model
+// that is mended.
+ghost use Rattle.std.specs.Prelude.{◌≡◌, ◌≤◌, false, All};
 
-use crate::{Simplifier, counted_work, formula_of, is_on, literals, run, text_work};
-use drat_text::{CountedLines, LineStop, SinkLines};
+use crate::{
+    Simplifier, counted_work, elimination, equivalence, formula_of, is_on, literals, run,
+    subsumption, text_work, units,
+};
+use drat_text::{LineOut, LineStop, SinkLines};
 use io_edge::MemSink;
-use simp_base::{Run, Work};
-use std::alloc::Global;
+use model_stack::Stack;
+use sat_words::Assignment;
+use simp_base::{Parts, Run, Work};
+use std::alloc::{AllocError, Global};
 use std::process::Abort;
 use std::test::Fail;
+
+/// The variables of each row are 1 to this one.
+const VARS: u32 = 4;
 
 /// Clauses, each with a 0 behind it, and what is wanted: the answer, the lines, the units and how many clauses are left.
 #[derive(Clone, Copy)]
@@ -20,103 +28,128 @@ pub(crate) struct Row {
     pub(crate) left: usize,
 }
 
-/// A work on clauses over these variables; the line with this number fails.
-pub(crate) fn counted(
-    rt: &impl Abort,
-    alloc: Global,
-    vars: u32,
-    clauses: &[i32],
-    failing: u64,
-) -> Result<Work<CountedLines>, Fail>
-    requires { vars ≤ 2 ^ 30 }
-    ensures { IfOk result (λ work. (work.vars ≡ vars) × (work.output.spent ≡ false) × (work.ended ≡ false) × IsWork work) }
-{
-    let formula = formula_of(alloc, vars, clauses)?;
-    assert!(rt; is_on(&formula));
-    counted_work(alloc, &formula, failing)
-}
+/// The rows of each simplifier.
+const ROWS: &[(Simplifier, &[Row])] = &[
+    (Simplifier::Units, units::ROWS),
+    (Simplifier::Subsumption, subsumption::ROWS),
+    (Simplifier::Equivalence, equivalence::ROWS),
+    (Simplifier::Elimination, elimination::ROWS),
+];
 
-/// A work on clauses over these variables, whose lines are kept as text.
-fn written(
-    rt: &impl Abort,
-    alloc: Global,
-    vars: u32,
-    clauses: &[i32],
-) -> Result<Work<SinkLines<MemSink<'static>>>, Fail>
-    requires { vars ≤ 2 ^ 30 }
-    ensures { IfOk result (λ work. (work.output.spent ≡ false) × (work.ended ≡ false)) }
-{
-    let formula = formula_of(alloc, vars, clauses)?;
-    assert!(rt; is_on(&formula));
-    text_work(alloc, &formula, 64)
-}
+/// For each simplifier clauses of which the first line fails, and how many of them are left then.
+const FAULTS: &[(Simplifier, &[i32], usize)] = &[
+    (Simplifier::Units, &[1, 0, -1, 2, 0], 2),
+    (Simplifier::Subsumption, &[1, 2, 3, 0, 1, 2, 0], 2),
+    (
+        Simplifier::Equivalence,
+        &[1, -2, 0, -1, 2, 0, 1, 2, 3, 0],
+        3,
+    ),
+    (Simplifier::Elimination, &[1, 3, 0, 2, -3, 0], 2),
+];
 
-/// The answer, and what is left, are those of the row, over these variables.
-fn check_left(
-    rt: &impl Abort,
+/// Whether what is written and left is as in the row.
+fn is_left(
     alloc: Global,
-    vars: u32,
     row: &Row,
-    answer: Result<Run, LineStop>,
-    work: Work<SinkLines<MemSink<'static>>>,
-) -> Result<(), Fail>
-    requires { vars ≤ 2 ^ 30 }
-{
-    let text = row.text;
-    assert!(rt; answer == Ok(row.answer), "{text}");
-    let parts = work.into_parts();
-    let units = literals(alloc, vars, row.units)?;
-    let (end, sink) = parts.output.finish();
-    assert!(rt; end.is_ok(), "{text}");
-    assert!(rt; sink.bytes() == text.as_bytes(), "{text}");
-    assert!(rt; parts.units.as_slice() == units.as_slice(), "{text}");
-    assert_eq!(rt; parts.clauses.len(), row.left, "{text}");
-    Ok(())
+    left: Parts<SinkLines<MemSink<'static>>>,
+) -> Result<bool, Fail> {
+    let units = literals(alloc, VARS, row.units)?;
+    let (end, sink) = left.output.finish();
+    Ok(
+        end.is_ok()
+            && sink.bytes() == row.text.as_bytes()
+            && left.units.as_slice() == units.as_slice()
+            && left.clauses.len() == row.left,
+    )
 }
 
-fn check_row(
-    rt: &impl Abort,
-    alloc: Global,
-    simplifier: Simplifier,
-    vars: u32,
-    row: &Row,
-) -> Result<(), Fail>
-    requires { vars ≤ 2 ^ 30 }
+/// Runs the simplifier on the work, and takes the work apart.
+fn run_out<L: LineOut>(simplifier: Simplifier, work: Work<L>) -> (Result<Run, LineStop>, Parts<L>)
+    requires unspent { work.output.spent ≡ false }
+    requires going { work.ended ≡ false }
 {
-    let mut work = written(rt, alloc, vars, row.clauses)?;
+    let mut work = work;
     let answer = run(simplifier, &mut work);
-    check_left(rt, alloc, vars, row, answer, work)
+    (answer, work.into_parts())
 }
 
-/// Runs the simplifier on each row, over these variables, and compares what it answers, writes and leaves.
-pub(crate) fn check_rows(
+/// Runs the simplifier on the row: whether it answers, writes and leaves what is wanted.
+fn is_as_told(alloc: Global, simplifier: Simplifier, row: &Row) -> Result<bool, Fail> {
+    let formula = formula_of(alloc, VARS, row.clauses)?;
+    if !is_on(&formula) {
+        return Ok(false);
+    }
+    let work = text_work(alloc, &formula, 64)?;
+    let (answer, left) = run_out(simplifier, work);
+    Ok(answer == Ok(row.answer) && is_left(alloc, row, left)?)
+}
+
+/// Whether the simplifier, where the first line of these clauses fails, says so and leaves so many clauses.
+fn is_stopped(
+    alloc: Global,
+    simplifier: Simplifier,
+    clauses: &[i32],
+    left: usize,
+) -> Result<bool, Fail> {
+    let formula = formula_of(alloc, VARS, clauses)?;
+    if !is_on(&formula) {
+        return Ok(false);
+    }
+    let work = counted_work(alloc, &formula, 1)?;
+    let (answer, parts) = run_out(simplifier, work);
+    Ok(answer == Err(LineStop::ProofFault) && parts.clauses.len() == left)
+}
+
+fn check_rows(
     rt: &impl Abort,
     alloc: Global,
     simplifier: Simplifier,
-    vars: u32,
     rows: &[Row],
-) -> Result<(), Fail>
-    requires { vars ≤ 2 ^ 30 }
-{
+) -> Result<(), Fail> {
     for row in rows {
-        check_row(rt, alloc, simplifier, vars, row)?;
+        let text = row.text;
+        assert!(rt; is_as_told(alloc, simplifier, row)?, "{text}");
     }
     Ok(())
 }
 
-/// The first line of these clauses fails: the simplifier says so, and so many clauses are left.
-pub(crate) fn check_fault(
-    rt: &impl Abort,
-    alloc: Global,
-    simplifier: Simplifier,
-    vars: u32,
-    clauses: &[i32],
-    left: usize,
-) -> Result<(), Fail>
-    requires { vars ≤ 2 ^ 30 }
+#[test]
+fn what_is_written_and_left(rt: HostRuntime) -> Result<(), Fail> {
+    for (simplifier, rows) in ROWS {
+        check_rows(&rt, rt.alloc(), *simplifier, rows)?;
+    }
+    Ok(())
+}
+
+#[test]
+fn a_line_that_fails(rt: HostRuntime) -> Result<(), Fail> {
+    for (simplifier, clauses, left) in FAULTS {
+        assert!(rt; is_stopped(rt.alloc(), *simplifier, clauses, *left)?);
+    }
+    Ok(())
+}
+
+/// The assignment that is false everywhere, mended by the stack.
+fn mended(alloc: Global, stack: &Stack) -> Result<Assignment, AllocError>
+    requires { All (λ fix. fix.lit.var ≤ 4) stack.now }
 {
-    let mut work = counted(rt, alloc, vars, clauses, 1)?;
-    assert!(rt; run(simplifier, &mut work) == Err(LineStop::ProofFault));
-    assert_eq!(rt; work.into_parts().clauses.len(), left);
+    let mut model = Assignment::new(alloc, VARS)?;
+    stack.extend(&mut model);
+    Ok(model)
+}
+
+#[test]
+fn a_model_comes_back(rt: HostRuntime) -> Result<(), Fail> {
+    let alloc = rt.alloc();
+    let formula = formula_of(alloc, VARS, &[1, 2, 0, 1, 4, 0, -1, 3, 0])?;
+    assert!(rt; is_on(&formula));
+    let mut work = counted_work(alloc, &formula, 0)?;
+    assert!(rt; run(Simplifier::Elimination, &mut work) == Ok(Run::Done));
+    let left = work.into_parts();
+    let model = mended(alloc, &left.stack)?;
+    for (var, value) in [(1, true), (2, false), (3, true), (4, false)] {
+        assert!(rt; model.value(var) == value);
+    }
     Ok(())
 }

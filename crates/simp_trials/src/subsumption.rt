@@ -1,13 +1,8 @@
-// `simp_subsume`: what is written and left of rows, and a line that fails.
-use crate::Simplifier;
-use crate::rows::{Row, check_fault, check_rows};
+// Rows of `simp_subsume`.
+use crate::rows::Row;
 use simp_base::Run;
-use std::test::Fail;
 
-/// The variables of each row are 1 to this one.
-const VARS: u32 = 3;
-
-const ROWS: &[Row] = &[
+pub(crate) const ROWS: &[Row] = &[
     Row {
         clauses: &[1, 2, 0, 1, 2, 3, 0],
         answer: Run::Done,
@@ -37,14 +32,3 @@ const ROWS: &[Row] = &[
         left: 3,
     },
 ];
-
-#[test]
-fn what_is_written_and_left(rt: HostRuntime) -> Result<(), Fail> {
-    check_rows(&rt, rt.alloc(), Simplifier::Subsumption, VARS, ROWS)
-}
-
-#[test]
-fn a_line_that_fails(rt: HostRuntime) -> Result<(), Fail> {
-    let clauses = [1, 2, 3, 0, 1, 2, 0];
-    check_fault(&rt, rt.alloc(), Simplifier::Subsumption, VARS, &clauses, 2)
-}

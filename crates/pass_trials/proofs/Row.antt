@@ -1,6 +1,7 @@
 -- What the rings of the tests know.
-use Rattle.std.proofs.Common.{◌≡◌, ◌≢◌, ◌∙◌, ℕ, ◌||◌, Bool, true, false, true≢false, List, [], ◌∷◌, map, All, Contains, length, refl, sym, ap, subst, arith, Some, IsSome, Option}
+use Rattle.std.proofs.Common.{◌≡◌, ◌≢◌, ◌∙◌, ◌==◌, ℕ, ◌||◌, Bool, not, filter, true, false, true≢false, List, [], ◌∷◌, map, All, Contains, length, refl, sym, ap, subst, arith, Some, IsSome, Option}
 use Rattle.std.specs.Prelude.{slice_get}
+use Rattle.std.specs.List.{range_with_len}
 use Rattle.std.specs.Option.{unwrap_or}
 use Rattle.std.proofs.lemmas.Bool.{or_right}
 use Rattle.sat_words.specs.Literal.{Literal, opposite}
@@ -22,7 +23,7 @@ use Rattle.sample_table.specs.Samples.{IsFirst, IsGathered}
 use Rattle.ring_port.specs.PortState.{Holding, PortState, HoldsStart, held_at, lits_at, lits_in, known}
 use Rattle.ring_port.specs.Port.{is_usable}
 use Rattle.ring_port.specs.Deleting.{DroppedOnce, TidiedUpTo}
-use Rattle.ring_port.specs.Exchange.{looked_into}
+use Rattle.ring_port.specs.Exchange.{looked_into, other_rings}
 use Rattle.ring_port.proofs.Holdings.{held_is_known, lits_of_holding}
 use Rattle.ring_port.proofs.PlainLemmas.{dropped_others, same_lookup}
 use Rattle.ring_pass.specs.RingState.{holding_of, begun_as}
@@ -66,6 +67,16 @@ two_read (x ∷ y ∷ z ∷ zs) a b n e f = absurd (omega (arith, n))
 pub lits_stay : (s : PortState) (a : ℕ) → lits_at (looked_into 0 0 s) a ≡ lits_at s a
 unfolding held_at
 lits_stay s a = refl
+
+-- and their heads
+pub heads_stay : (s : PortState) (a : ℕ) → held_at (looked_into 0 0 s) a ≡ held_at s a
+unfolding held_at
+heads_stay s a = refl
+
+-- a ring has the same others as long as it plays
+pub others_stay : (s t : PortState) → IsPlayer s → IsPlayer t → t.ring ≡ s.ring → length (other_rings t) ≡ length (other_rings s)
+others_stay s t h k ring =
+    ap (λ (n : ℕ). length (filter (λ (r : ℕ). not (r == n)) (range_with_len 0 t.rings))) ring ∙ ap (λ (n : ℕ). length (filter (λ (r : ℕ). not (r == s.ring)) (range_with_len 0 n))) (k.rings ∙ sym h.rings)
 
 -- What stays where a clause is given up
 

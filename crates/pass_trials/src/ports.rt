@@ -1,12 +1,13 @@
 //! Rings over a small table, as ports, and back.
-ghost use Rattle.std.specs.Prelude.{◌≡◌, ◌<◌, ◌+◌, ◌∷◌, [], false, IfOk, OnOk, slice_get, Some};
+ghost use Rattle.std.specs.Prelude.{◌≡◌, ◌<◌, ◌+◌, ◌∷◌, [], false, true, length, IfOk, OnOk, slice_get, Some};
 ghost use Rattle.io_edge.specs.Paths.{IsEmptyWhereTold};
-ghost use Rattle.log_book.specs.Books.{account_of, origin_of, IsLogOf};
+ghost use Rattle.log_book.specs.Books.{account_of, origin_of, IsLogOf, IsNew};
 ghost use Rattle.share_rule.specs.declared.Layout.{Layout};
 ghost use Rattle.share_rule.specs.Books.{HasLog};
+ghost use Rattle.share_rule.specs.FirstWords.{begun_with};
 ghost use Rattle.share_rule.specs.Steps.{new_part};
 ghost use Rattle.sample_table.specs.Samples.{IsFirst, IsRing, IsGathered};
-ghost use Rattle.pass_trials.specs.Samples.{four, spare, IsAt, IsBegun, BeginsWithFour, IsHome};
+ghost use Rattle.pass_trials.specs.Samples.{first, second, third, four, spare, IsAt, IsBegun, BeginsWithFour, IsHome};
 
 use io_edge::Sink;
 use log_book::Book;
@@ -24,6 +25,7 @@ use std::test::Fail;
 pub fn make_four(alloc: Global) -> Result<Problem, Fail>
     ensures start { IfOk result (λ p. p.start.items ≡ four) }
     ensures vars { IfOk result (λ p. p.formula.vars ≡ 3) }
+    ensures clauses { IfOk result (λ p. p.formula.clauses ≡ first ∷ second ∷ third ∷ spare ∷ []) }
     ensures units { IfOk result (λ p. p.units.items ≡ []) }
 {
     let one = Lit::new(1, false);
@@ -40,6 +42,7 @@ pub fn make_four(alloc: Global) -> Result<Problem, Fail>
 pub fn new_book<S: Sink + Drop>(alloc: Global, formula: &Formula, sink: S) -> Result<Book<S>, Fail>
     requires { IsEmptyWhereTold (S.written sink) }
     ensures log { IfOk result (λ b. (l : Layout) → HasLog account_of (IsLogOf S.written S.flushed S.target S.faults) b (origin_of S.written S.flushed S.target S.faults b) l formula.now.clauses []) }
+    ensures made { IfOk result (λ b. IsNew (length formula.now.clauses) sink true b) }
     ensures whole { IfOk result (λ b. b.log.lines.spent ≡ false) }
 {
     let clauses = formula.clauses().len() as u64;
@@ -63,6 +66,8 @@ pub fn open_four<S: Sink + Drop>(alloc: Global, sink: S) -> Result<Opened<S>, Fa
     requires { IsEmptyWhereTold (S.written sink) }
     ensures first { IfOk result (λ m. IsFirst m.0 m.1 0) }
     ensures parts { IfOk result (λ m. m.1.me.0.parts ≡ []) }
+    ensures layout { IfOk result (λ m. m.0.layout ≡ record { rings = 2; vars = 3; words = 64 }) }
+    ensures opening { IfOk result (λ m. m.1.me.0.opening ≡ begun_with (first ∷ second ∷ third ∷ spare ∷ []) m.0.layout [] four []) }
     ensures four { IfOk result (λ m. BeginsWithFour m.0 m.1.me.0.opening m.2.items) }
 {
     let problem = make_four(alloc)?;

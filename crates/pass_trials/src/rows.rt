@@ -4,8 +4,9 @@ ghost use Rattle.rup_model.specs.declared.journal.Kind.TheVariants.{UnitLine};
 ghost use Rattle.ring_port.specs.PortState.{held_at, head_of, lits_at};
 ghost use Rattle.ring_port.specs.Port.{LearnedClause, WroteUnit};
 ghost use Rattle.ring_port.specs.Deleting.{IsNotTaken, DroppedOnce};
-ghost use Rattle.ring_port.specs.Exchange.{other_rings, Polled};
+ghost use Rattle.ring_port.specs.Exchange.{class_at, other_rings, OfferedAs, Polled};
 ghost use Rattle.pass_trials.specs.Samples.{plus, pair, later, spare, IsAt, IsPlayer, IsBegun, IsIdle, IsDone, IsListener, Stays, Keeps};
+ghost use Rattle.pass_trials.specs.Given.{GaveUp, GaveAndWrote, GaveAndTook};
 
 use ring_port::Port;
 use sat_words::{Cref, Head, Lit};
@@ -73,6 +74,7 @@ pub fn offer_pair<P: Port>(port: &mut P, c: Cref) -> u64
     requires there { IsAt (P.state port.old) c.address pair }
     requires last { (P.state port.old).last ≡ Some c.address }
     ensures many { result ≡ length (other_rings (P.state port.old)) }
+    ensures offered { OfferedAs (P.state port.old) (P.state port.new) (class_at (P.state port.old) c.address) c.address }
     ensures idle { IsIdle (P.state port.new) }
     ensures there { IsAt (P.state port.new) c.address pair }
     ensures same { Keeps (P.state port.old) (P.state port.new) }
@@ -86,6 +88,7 @@ pub fn offer_later<P: Port>(port: &mut P, c: Cref) -> u64
     requires there { IsAt (P.state port.old) c.address later }
     requires last { (P.state port.old).last ≡ Some c.address }
     ensures many { result ≡ length (other_rings (P.state port.old)) }
+    ensures offered { OfferedAs (P.state port.old) (P.state port.new) (class_at (P.state port.old) c.address) c.address }
     ensures done { IsDone (P.state port.new) }
     ensures there { IsAt (P.state port.new) c.address later }
     ensures same { Keeps (P.state port.old) (P.state port.new) }
@@ -126,6 +129,7 @@ pub fn give_spare_up<P: Port>(port: &mut P, c: Cref) -> Result<(), Miss>
     requires player { IsPlayer (P.state port.old) }
     requires there { IsAt (P.state port.old) c.address spare }
     requires apart { IsNotTaken (P.state port.old) c.address }
+    ensures gave { OnOk result (GaveUp (P.state port.old) (P.state port.new) c.address) }
     ensures player { OnOk result (IsPlayer (P.state port.new)) }
     ensures same { OnOk result (Stays (P.state port.old) (P.state port.new)) }
 {
@@ -185,6 +189,7 @@ pub fn offer_both<P: Port>(port: &mut P) -> Result<(Cref, u64, u64), Miss>
     requires { IsBegun (P.state port.old) }
     ensures done { OnOk result (IsDone (P.state port.new)) }
     ensures there { IfOk result (λ x. IsAt (P.state port.new) x.0.address later) }
+    ensures many { IfOk result (λ x. (x.1 ≡ length (other_rings (P.state port.old))) × (x.2 ≡ length (other_rings (P.state port.old)))) }
     ensures same { OnOk result (Keeps (P.state port.old) (P.state port.new)) }
 {
     let pair = learn_pair(port)?;
@@ -199,6 +204,7 @@ pub fn offer_both<P: Port>(port: &mut P) -> Result<(Cref, u64, u64), Miss>
 pub fn hear_once<P: Port>(port: &mut P) -> Result<(Cref, Head, Lit, Lit), Miss>
     requires { IsListener (P.state port.old) [] }
     ensures listener { IfOk result (λ x. IsListener (P.state port.new) (x.0.address ∷ [])) }
+    ensures head { IfOk result (λ x. IfSome (held_at (P.state port.new) x.0.address) (λ h. x.1 ≡ head_of h)) }
     ensures lits { IfOk result (λ x. lits_at (P.state port.new) x.0.address ≡ x.2 ∷ x.3 ∷ []) }
     ensures same { OnOk result (Keeps (P.state port.old) (P.state port.new)) }
 {
@@ -232,6 +238,9 @@ pub fn hand_over<P: Port, Q: Port>(zero: &mut P, one: &mut Q) -> Result<Heard, M
     requires one { IsListener (Q.state one.old) [] }
     ensures zero { OnOk result (IsDone (P.state zero.new)) }
     ensures one { IfOk result (λ x. IsListener (Q.state one.new) (x.found.address ∷ [])) }
+    ensures offered { IfOk result (λ x. (x.offered.0 ≡ length (other_rings (P.state zero.old))) × (x.offered.1 ≡ length (other_rings (P.state zero.old)))) }
+    ensures head { IfOk result (λ x. IfSome (held_at (Q.state one.new) x.found.address) (λ h. x.head ≡ head_of h)) }
+    ensures lits { IfOk result (λ x. lits_at (Q.state one.new) x.found.address ≡ x.lits.0 ∷ x.lits.1 ∷ []) }
     ensures zero_same { OnOk result (Keeps (P.state zero.old) (P.state zero.new)) }
     ensures one_same { OnOk result (Keeps (Q.state one.old) (Q.state one.new)) }
 {
@@ -260,6 +269,8 @@ pub fn give_up_and_tell<P: Port, Q: Port>(
     requires one { IsListener (Q.state one.old) (found.address ∷ []) }
     requires zero_holds { IsAt (P.state zero.old) cell.address spare }
     requires one_holds { IsAt (Q.state one.old) cell.address spare }
+    ensures wrote { OnOk result (GaveAndWrote (P.state zero.old) (P.state zero.new) cell.address) }
+    ensures told { IfOk result (λ units. GaveAndTook (Q.state one.old) (Q.state one.new) cell.address units.0 units.1) }
     ensures zero { OnOk result (Stays (P.state zero.old) (P.state zero.new)) }
     ensures one { OnOk result (Stays (Q.state one.old) (Q.state one.new)) }
 {

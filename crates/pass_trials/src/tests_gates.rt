@@ -193,10 +193,13 @@ fn hold(
     let one = one?;
     take_in(&table, &mut first, one, 1);
     take_in(&table, &mut first, zero, 0);
-    assert_eq!(rt; gate.held.load(Ordering::SeqCst), 1);
-    assert_eq!(rt; gate.missed.load(Ordering::SeqCst), 0);
+    let counts = [
+        gate.held.load(Ordering::SeqCst),
+        gate.missed.load(Ordering::SeqCst),
+    ];
+    assert!(rt; counts == [1, 0]);
     let (end, sink, _) = close(table, first).finish();
-    assert_eq!(rt; end, Ok(()));
+    assert!(rt; end == Ok(()));
     assert!(rt; sink.bytes() == lines);
     Ok(())
 }

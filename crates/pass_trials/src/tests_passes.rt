@@ -3,7 +3,7 @@ use crate::ports::{begin_port, fourth, open_four, take_in};
 use crate::rows::{give_up_and_tell, hand_over};
 use io_edge::MemSink;
 use ring_port::{Gate, Point};
-use sat_words::Lit;
+use sat_words::{Head, Lit};
 use share_rule::close;
 use std::process::Abort;
 use std::sync::atomic::{AtomicU64, Ordering};
@@ -48,19 +48,24 @@ fn two_rings_share_and_tell(rt: HostRuntime) -> Result<(), Fail> {
     let (unit, none) = give_up_and_tell(&mut zero, &mut one, spare, heard.found)?;
     take_in(&table, &mut first, one, 1);
     take_in(&table, &mut first, zero, 0);
-    assert_eq!(rt; heard.offered, (1, 1));
-    assert_eq!(rt;
-        (heard.head.size, heard.head.glue, heard.head.number),
-        (2, 1, 6)
-    );
-    assert_eq!(rt; heard.lits, (Lit::new(2, false), Lit::new(3, true)));
-    assert_eq!(rt; (unit, none), (Some(Lit::new(2, false)), None));
-    assert_eq!(rt; gate.learned.load(Ordering::SeqCst), 2);
-    assert_eq!(rt; gate.put.load(Ordering::SeqCst), 2);
-    assert_eq!(rt; gate.dropped.load(Ordering::SeqCst), 2);
+    let head = Head {
+        size: 2,
+        glue: 1,
+        number: 6,
+    };
+    let counts = [
+        gate.learned.load(Ordering::SeqCst),
+        gate.put.load(Ordering::SeqCst),
+        gate.dropped.load(Ordering::SeqCst),
+    ];
+    assert!(rt; heard.offered == (1, 1));
+    assert!(rt; heard.head == head);
+    assert!(rt; heard.lits == (Lit::new(2, false), Lit::new(3, true)));
+    assert!(rt; [unit, none] == [Some(Lit::new(2, false)), None]);
+    assert!(rt; counts == [2, 2, 2]);
     let (end, sink, lines) = close(table, first).finish();
-    assert_eq!(rt; end, Ok(()));
+    assert!(rt; end == Ok(()));
     assert!(rt; sink.bytes() == b"1 2 0\n2 -3 0\nd 1 2 0\nd 2 3 0\n2 0\n".as_slice());
-    assert_eq!(rt; lines.map(|lines| lines.len()), Some(5));
+    assert!(rt; lines.map(|lines| lines.len()) == Some(5));
     Ok(())
 }

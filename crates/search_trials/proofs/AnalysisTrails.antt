@@ -1,23 +1,14 @@
 -- The trails of the tests of analysis, over the small port.
-use Rattle.std.proofs.Common.{◌≡◌, ◌∙◌, ℕ, zero, suc, ◌<◌, Bool, true, false, List, [], ◌∷◌, Some, None, sym, refl, ap, inl, inr, ◌⊎◌, arith}
+use Rattle.std.proofs.Common.{◌≡◌, ◌∙◌, ℕ, zero, suc, ◌<◌, Bool, true, false, [], Some, sym, refl, ap, inl, inr, ◌⊎◌, arith}
 use Rattle.std.specs.Option.{option_map}
 use Rattle.sat_words.specs.Literal.{Literal, opposite}
 use Rattle.rup_model.proofs.Lists.{In, has_In}
 use Rattle.ring_port.specs.PortState.{Holding, held_at, clause_at}
-use Rattle.ring_trail.specs.declared.step.Step.{Step}
 use Rattle.ring_trail.specs.TrailData.{TrailData, FalseBefore, IsFalseClause, lit_at, level_at, decided, assigned}
 use Rattle.ring_trail.specs.Reasoned.{WasUnit, IsForced, IsSeen, IsDecision, IsReasoned}
 use Rattle.sample_port.specs.Sample.{lit, first, second, third, sample_state}
+use Rattle.search_trials.specs.Sampled.{sample_steps}
 use Rattle.sample_port.proofs.Sample.{held_first, held_second, held_third}
-
--- the trail, where the variable 5 gets its value from the clause at an address
-abbrev pub sample_steps : Bool → ℕ → List Step
-sample_steps n a =
-    record { lit = lit 1 false; level = 1; reason = None }
-    ∷ record { lit = lit 2 false; level = 1; reason = Some (record { address = 1 }) }
-    ∷ record { lit = lit 4 false; level = 2; reason = None }
-    ∷ record { lit = lit 5 n; level = 2; reason = Some (record { address = a }) }
-    ∷ []
 
 pub steps_are : (n : Bool) (a : ℕ) (t0 t1 t2 t3 t4 : TrailData) → t0 ≡ record { vars = 5; level = 0; steps = []; done = 0 } → t1 ≡ decided t0 (lit 1 false) → t2 ≡ assigned t1 (lit 2 false) (Some (record { address = 1 }))
     → t3 ≡ decided t2 (lit 4 false) → t4 ≡ assigned t3 (lit 5 n) (Some (record { address = a })) → t4.steps ≡ sample_steps n a

@@ -1,5 +1,7 @@
 -- What calls keep of watches and a trail at level 0 over the small port.
-use Rattle.std.proofs.Common.{◌≡◌, ◌∙◌, true, List, [], ◌∷◌, ◌++◌, IsSome, None, sym, refl, ap, subst}
+use Rattle.std.proofs.Common.{◌≡◌, ◌∙◌, ◌+◌, ◌==◌, ℕ, zero, suc, not, true, List, [], ◌∷◌, ◌++◌, IsSome, None, sym, refl, ap, subst, add-one, inl, inr}
+use Rattle.std.proofs.lemmas.List.{append-nil}
+use Rattle.std.proofs.lemmas.List.Elements.{filter-append}
 use Rattle.sat_words.specs.Literal.{Literal}
 use Rattle.sat_words.specs.Clause.{has}
 use Rattle.sat_words.specs.declared.shared.Cref.{Cref}
@@ -8,13 +10,15 @@ use Rattle.ring_trail.specs.TrailData.{TrailData, IsTrail, HasGrown, assigned}
 use Rattle.ring_trail.proofs.Causes.{IsReasoned-seen}
 use Rattle.sample_port.specs.Sample.{sample_state}
 use Rattle.sample_port.proofs.Sample.{held_first, held_second, held_third}
-use Rattle.watch_prop.specs.WatchData.{WatchData, Lits, attached}
+use Rattle.watch_prop.specs.WatchData.{WatchData, Lits, attached, without}
 use Rattle.watch_prop.specs.Watched.{Watched, IsFresh}
 use Rattle.watch_prop.specs.Propagation.{attached_at, HasReasons}
+use Rattle.watch_prop.proofs.ListsLemmas.{cases_eq}
+use Rattle.watch_prop.proofs.Slots.{without-there, without-other}
 use Rattle.watch_prop.proofs.TrailLaws.{Watched-assign}
 use Rattle.search_trials.specs.declared.sampled.SampleClause.{SampleClause}
 use Rattle.search_trials.specs.declared.sampled.SampleClause.TheVariants.{First, Second, Third}
-use Rattle.search_trials.specs.Sampled.{place_of, cref_of, IsSampled}
+use Rattle.search_trials.specs.Sampled.{place_of, cref_of, left_by, IsSampled}
 use Rattle.search_trials.proofs.EmptyTrails.{empty_trail, fresh, reasons_with, reasons_of_none}
 
 held_there : (c : SampleClause) → IsSome (held_at sample_state (place_of c))
@@ -63,3 +67,22 @@ grown_sampled w x t u p vars same grown reasons watched = record {
   watched = watched;
   reasons = subst (λ (cs : List Cref). HasReasons cs sample_state u.steps) (sym same) reasons;
 }
+
+-- a clause that comes and goes
+
+without_again : (cs : List Cref) (a : ℕ) → without (without cs a) a ≡ without cs a
+without_again [] a = refl
+without_again (x ∷ cs) a =
+    elim (cases_eq x.address a) as (λ _. without (without (x ∷ cs) a) a ≡ without (x ∷ cs) a) [
+      | inl e ↦ let there = without-there x cs a e in ap (λ (ys : List Cref). without ys a) there ∙ without_again cs a ∙ sym there
+      | inr n ↦ let other = without-other x cs a n in
+          ap (λ (ys : List Cref). without ys a) other ∙ without-other x (without cs a) a n ∙ ap (λ (ys : List Cref). x ∷ ys) (without_again cs a) ∙ sym other
+    ]
+
+left_again : (n : ℕ) (cs : List Cref) → without (left_by n cs) 3 ≡ left_by (suc n) cs
+left_again zero cs = refl
+left_again (suc n) cs = without_again cs 3
+
+pub come_and_gone : (n : ℕ) (cs : List Cref) → without (left_by n cs ++ cref_of Third ∷ []) 3 ≡ left_by (n + 1) cs
+come_and_gone n cs =
+    rw (add-one n) (filter-append (λ (c : Cref). not (c.address == 3)) (left_by n cs) (cref_of Third ∷ []) ∙ append-nil (without (left_by n cs) 3) ∙ left_again n cs)

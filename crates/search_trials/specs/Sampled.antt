@@ -1,14 +1,24 @@
 -- Watches and a trail at level 0 over the small port.
-use Rattle.std.specs.Prelude.{◌≡◌, ℕ}
+use Rattle.std.specs.Prelude.{◌≡◌, ℕ, zero, suc, Bool, false, List, [], ◌∷◌, Some, None}
 use Rattle.sat_words.specs.declared.shared.Cref.{Cref}
 use Rattle.ring_port.specs.PortState.{lits_at}
+use Rattle.ring_trail.specs.declared.step.Step.{Step}
 use Rattle.ring_trail.specs.TrailData.{TrailData}
-use Rattle.sample_port.specs.Sample.{sample_state}
-use Rattle.watch_prop.specs.WatchData.{WatchData, attached}
+use Rattle.sample_port.specs.Sample.{lit, sample_state}
+use Rattle.watch_prop.specs.WatchData.{WatchData, attached, without}
 use Rattle.watch_prop.specs.Watched.{Watched}
 use Rattle.watch_prop.specs.Propagation.{HasReasons}
 use Rattle.search_trials.specs.declared.sampled.SampleClause.{SampleClause}
 use Rattle.search_trials.specs.declared.sampled.SampleClause.TheVariants.{First, Second, Third}
+
+-- the steps to a conflict over the small port, where the variable 5 gets this value from the clause at an address
+abbrev pub sample_steps : Bool → ℕ → List Step
+sample_steps n a =
+    record { lit = lit 1 false; level = 1; reason = None }
+    ∷ record { lit = lit 2 false; level = 1; reason = Some (record { address = 1 }) }
+    ∷ record { lit = lit 4 false; level = 2; reason = None }
+    ∷ record { lit = lit 5 n; level = 2; reason = Some (record { address = a }) }
+    ∷ []
 
 -- where the small port holds a clause
 abbrev pub place_of : SampleClause → ℕ
@@ -19,6 +29,11 @@ place_of Third = 3
 -- its address
 abbrev pub cref_of : SampleClause → Cref
 cref_of clause = record { address = place_of clause }
+
+-- the clauses that stay where the third one comes and goes so often: it is not among them, unless it never came
+abbrev pub left_by : ℕ → List Cref → List Cref
+left_by zero cs = cs
+left_by (suc n) cs = without cs 3
 
 -- the clauses attached are watched, and each literal is true at level 0, by one of them or by a unit that was seen
 pub record IsSampled (w : WatchData) (t : TrailData) : Type 0 where

@@ -1,58 +1,66 @@
 // `ring_decide`: decisions, one after another, and such as follow on variables that were bumped.
+ghost use Rattle.std.specs.Prelude.{◌≡◌, length};
+
 use crate::deciding::decide_next;
 use ring_decide::Decider;
 use ring_trail::Trail;
 use sat_words::Lit;
+use std::alloc::{AllocError, Global};
 use std::test::Fail;
+
+/// So many decisions, one after another.
+fn decisions(
+    alloc: Global,
+    decider: &mut Decider,
+    trail: &mut Trail,
+    count: u32,
+) -> Result<Vec<Option<Lit>>, AllocError>
+    requires { trail.old.vars ≡ length decider.old.active }
+    ensures vars { trail.new.vars ≡ length decider.new.active }
+    ensures len { length decider.new.active ≡ length decider.old.active }
+{
+    let mut decided = Vec::new(alloc);
+    for _done in 0..count {
+        decided.push(decide_next(decider, trail))?;
+    }
+    Ok(decided)
+}
 
 // The first six words of the reference generator (seed 42, stream 54) end in the bits 1, 1, 0, 1, 1, 0. The variable that
 // came last into the queue is decided first, and one that is not active never.
 #[test]
 fn first_phases_are_the_generators(rt: HostRuntime) -> Result<(), Fail> {
-    let mut decider = Decider::new(rt.alloc(), &[true, true, true, false, true, true], 42, 54)?;
-    let mut trail = Trail::new(rt.alloc(), 6)?;
-    assert_eq!(rt;
-        decide_next(&mut decider, &mut trail),
-        Some(Lit::new(6, true))
-    );
-    assert_eq!(rt;
-        decide_next(&mut decider, &mut trail),
-        Some(Lit::new(5, false))
-    );
-    assert_eq!(rt;
-        decide_next(&mut decider, &mut trail),
-        Some(Lit::new(3, true))
-    );
-    assert_eq!(rt;
-        decide_next(&mut decider, &mut trail),
-        Some(Lit::new(2, false))
-    );
-    assert_eq!(rt;
-        decide_next(&mut decider, &mut trail),
-        Some(Lit::new(1, false))
-    );
-    assert_eq!(rt; decide_next(&mut decider, &mut trail), None);
+    let alloc = rt.alloc();
+    let mut decider = Decider::new(alloc, &[true, true, true, false, true, true], 42, 54)?;
+    let mut trail = Trail::new(alloc, 6)?;
+    let decided = decisions(alloc, &mut decider, &mut trail, 6)?;
+    let wanted = [
+        Some(Lit::new(6, true)),
+        Some(Lit::new(5, false)),
+        Some(Lit::new(3, true)),
+        Some(Lit::new(2, false)),
+        Some(Lit::new(1, false)),
+        None,
+    ];
+    assert!(rt; decided.as_slice() == wanted.as_slice());
     Ok(())
 }
 
 // What is bumped comes next, with the phase that was saved; what lost its value is found again.
 #[test]
 fn bumped_variables_come_first(rt: HostRuntime) -> Result<(), Fail> {
-    let mut decider = Decider::new(rt.alloc(), &[true, true, true], 42, 54)?;
-    let mut trail = Trail::new(rt.alloc(), 3)?;
+    let alloc = rt.alloc();
+    let not_two = Lit::new(2, true);
+    let mut decider = Decider::new(alloc, &[true, true, true], 42, 54)?;
+    let mut trail = Trail::new(alloc, 3)?;
     decider.bump(1);
     decider.bump(2);
-    decider.save(Lit::new(2, true));
-    assert_eq!(rt;
-        decide_next(&mut decider, &mut trail),
-        Some(Lit::new(2, true))
-    );
-    assert_eq!(rt;
-        decide_next(&mut decider, &mut trail),
-        Some(Lit::new(1, false))
-    );
+    decider.save(not_two);
+    let decided = decisions(alloc, &mut decider, &mut trail, 2)?;
+    let wanted = [Some(not_two), Some(Lit::new(1, false))];
+    assert!(rt; decided.as_slice() == wanted.as_slice());
     trail.back_to(0);
-    decider.save(Lit::new(2, true));
-    assert_eq!(rt; decider.next(&trail), Some(Lit::new(2, true)));
+    decider.save(not_two);
+    assert!(rt; decider.next(&trail) == Some(not_two));
     Ok(())
 }

@@ -26,9 +26,11 @@ fn copy_of(alloc: Global, line: &Line) -> Result<Line, AllocError>
 }
 
 impl LineOut for ListLines {
-    ghost use Rattle.std.specs.Prelude.{None, false, vec_len};
+    ghost use Rattle.std.specs.Prelude.{None, Some, false, vec_len};
+    ghost use Rattle.drat_text.specs.Text.{text};
 
-    ghost told = { λ l. record { entries = vec_len l.lines; last = l.last; spent = false; faults = 0; written = None; target = None; flushed = None } };
+    // It tells the text of the lines.
+    ghost told = { λ l. record { entries = vec_len l.lines; last = l.last; spent = false; faults = 0; written = Some (text l.lines.items); target = None; flushed = None } };
 
     fn put(&mut self, line: &Line) -> Result<u64, LineStop> {
         if self.lines.len() as u64 >= MAX_ENTRIES || self.last == u64::MAX {

@@ -2,11 +2,11 @@
 ghost use Rattle.std.specs.Prelude.{◌≡◌, ◌≤◌, ◌++◌, ◌∷◌, [], None, true, map, IfOk, OnOk};
 ghost use Rattle.sat_words.specs.Clause.{has};
 ghost use Rattle.ring_port.specs.PortState.{lits_at};
-ghost use Rattle.ring_trail.specs.TrailData.{value_of};
+ghost use Rattle.ring_trail.specs.TrailData.{HasGrown, assigned, value_of};
 ghost use Rattle.watch_prop.specs.WatchData.{attached, without, without_all};
 ghost use Rattle.watch_prop.specs.Propagation.{IsPropagated};
 ghost use Rattle.sample_port.specs.Sample.{sample_state};
-ghost use Rattle.search_trials.specs.Sampled.{IsSampled, cref_of};
+ghost use Rattle.search_trials.specs.Sampled.{IsSampled, cref_of, left_by};
 
 use ring_trail::Trail;
 use sample_port::SamplePort;
@@ -113,9 +113,10 @@ impl Sampled {
         requires sampled { IsSampled self.old.watches self.old.trail }
         requires bare { self.old.trail.steps ≡ [] }
         ensures sampled { IsSampled self.new.watches self.new.trail }
+        ensures attached { OnOk result (attached self.new.watches ≡ left_by count (attached self.old.watches)) }
         ensures trail { self.new.trail ≡ self.old.trail }
     {
-        for _ in 0..count {
+        for _done in 0..count {
             self.attach(SampleClause::Third)?;
             self.detach(SampleClause::Third);
         }
@@ -127,6 +128,7 @@ impl Sampled {
         requires { IsSampled self.old.watches self.old.trail }
         ensures sampled { IsSampled self.new.watches self.new.trail }
         ensures attached { attached self.new.watches ≡ attached self.old.watches }
+        ensures grown { HasGrown self.old.trail self.new.trail }
         ensures propagated { IfOk result (λ told. IsPropagated self.new.watches (lits_at sample_state) self.new.trail told.0) }
     {
         let mut port = SamplePort { stage: 0, loads: 0 };
@@ -142,6 +144,7 @@ impl Sampled {
         requires free { value_of self.old.trail.steps lit.var ≡ None }
         ensures sampled { IsSampled self.new.watches self.new.trail }
         ensures attached { attached self.new.watches ≡ attached self.old.watches }
+        ensures grown { HasGrown (assigned self.old.trail lit None) self.new.trail }
         ensures propagated { IfOk result (λ told. IsPropagated self.new.watches (lits_at sample_state) self.new.trail told.0) }
     {
         let _lawful = self.trail.present();

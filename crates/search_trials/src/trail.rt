@@ -8,24 +8,23 @@ use std::test::Fail;
 fn values_levels_and_reasons(rt: HostRuntime) -> Result<(), Fail> {
     let mut trail = Trail::new(rt.alloc(), 5)?;
     let reason = Cref { address: 7 };
+    let not_two = Lit::new(2, true);
+    let not_four = Lit::new(4, true);
     trail.decide(Lit::new(1, false));
-    trail.assign(Lit::new(2, true), Some(reason));
-    trail.decide(Lit::new(4, false));
-    assert_eq!(rt; trail.present(), 2);
-    assert_eq!(rt; trail.len(), 3);
-    assert_eq!(rt; trail.value(1), Some(true));
-    assert_eq!(rt; trail.value(2), Some(false));
-    assert_eq!(rt; trail.value(3), None);
-    assert_eq!(rt; trail.truth(Lit::new(2, true)), Some(true));
-    assert_eq!(rt; trail.truth(Lit::new(4, true)), Some(false));
-    assert!(rt; trail.is_true(Lit::new(2, true)));
-    assert!(rt; trail.is_false(Lit::new(4, true)));
-    assert_eq!(rt; trail.level(2), Some(1));
-    assert_eq!(rt; trail.level(5), None);
-    assert_eq!(rt; trail.reason(2), Some(reason));
-    assert_eq!(rt; trail.reason(1), None);
-    assert_eq!(rt; trail.place(4), Some(2));
-    assert_eq!(rt; trail.start(2), 2);
+    trail.assign(not_two, Some(reason));
+    trail.decide(not_four.not());
+    let sizes = [trail.present(), trail.len(), trail.start(2)];
+    let values = [trail.value(1), trail.value(2), trail.value(3)];
+    let truths = [trail.truth(not_two), trail.truth(not_four)];
+    let tests = [trail.is_true(not_two), trail.is_false(not_four)];
+    let places = [trail.level(2), trail.level(5), trail.place(4)];
+    let reasons = [trail.reason(2), trail.reason(1)];
+    assert!(rt; sizes == [2, 3, 2]);
+    assert!(rt; values == [Some(true), Some(false), None]);
+    assert!(rt; truths == [Some(true), Some(false)]);
+    assert!(rt; tests == [true, true]);
+    assert!(rt; places == [Some(1), None, Some(2)]);
+    assert!(rt; reasons == [Some(reason), None]);
     Ok(())
 }
 
@@ -34,20 +33,21 @@ fn values_levels_and_reasons(rt: HostRuntime) -> Result<(), Fail> {
 #[test]
 fn goes_back(rt: HostRuntime) -> Result<(), Fail> {
     let mut trail = Trail::new(rt.alloc(), 5)?;
-    trail.decide(Lit::new(1, false));
+    let one = Lit::new(1, false);
+    trail.decide(one);
     trail.assign(Lit::new(2, true), None);
     trail.decide(Lit::new(4, false));
-    assert_eq!(rt; trail.next(), Some(Lit::new(1, false)));
+    let first = trail.next();
     trail.pass();
     trail.pass();
     trail.pass();
-    assert_eq!(rt; trail.next(), None);
+    let last = trail.next();
     trail.back_to(1);
-    assert_eq!(rt; trail.present(), 1);
-    assert_eq!(rt; trail.len(), 2);
-    assert_eq!(rt; trail.propagated(), 2);
-    assert_eq!(rt; trail.value(4), None);
-    assert_eq!(rt; trail.value(2), Some(false));
-    assert_eq!(rt; trail.is_empty(), false);
+    let sizes = [trail.present(), trail.len(), trail.propagated()];
+    let values = [trail.value(4), trail.value(2)];
+    assert!(rt; [first, last] == [Some(one), None]);
+    assert!(rt; sizes == [1, 2, 2]);
+    assert!(rt; values == [None, Some(false)]);
+    assert!(rt; !trail.is_empty());
     Ok(())
 }

@@ -1,5 +1,5 @@
 -- What a ring holds after it shares and drops.
-use Rattle.std.proofs.Common.{◌≡◌, ℕ, ◌+◌, ◌<◌, ◌==◌, List, [], ◌∷◌, ◌++◌, sym, ap, ◌∙◌, subst, arith, eq-eqb, ne_eqb, cond}
+use Rattle.std.proofs.Common.{◌≡◌, ◌≢◌, ℕ, ◌+◌, ◌-◌, ◌^◌, ◌<◌, ◌==◌, Bool, List, [], ◌∷◌, ◌++◌, min, refl, sym, ap, ◌∙◌, subst, arith, eq-eqb, ne_eqb, cond}
 use Rattle.std.specs.Prelude.{slice_index_or}
 use mathlib.Core.Logic.{dite}
 use native.Mathlib.Decide.{ℕ_discrete}
@@ -11,6 +11,7 @@ use Rattle.share_rule.specs.declared.view.View.{View}
 use Rattle.share_rule.specs.Views.{only, no_part}
 use Rattle.share_rule.specs.Steps.{on_first, share_part, drop_part, after_share, after_drop}
 use Rattle.share_rule.proofs.Lists.{first_at}
+use Rattle.table_trials.specs.Counts.{lasts_after}
 
 only_changed : (f : RingPart → RingPart) (v u : View) → v.parts ≡ only v ∷ [] → u.parts ≡ on_first f v.parts → (u.parts ≡ only u ∷ []) × (only u ≡ f (only v))
 only_changed f v u one is =
@@ -51,3 +52,10 @@ dropped_stays v w a n one holds is =
     let t = times_less a (only v).core.held holds in
     let h : times_at a (only w).core.held ≡ times_at a (without_at a (only v).core.held) = ap (λ (p : RingPart). times_at a p.core.held) c.1 ∙ ap (λ (b : ℕ). times_at a (without_at b (only v).core.held)) f.1 in
     (record { one = c.0; times = omega arith; ring = ap (λ (p : RingPart). p.core.ring) c.1; turn = ap (λ (p : RingPart). p.turn) c.1 }, ap (λ (p : RingPart). p.core.shared) c.1)
+
+-- whether it was the last is counted
+pub lasts_left : (found n : ℕ) → found ≢ 1 → n ≡ lasts_after found n
+lasts_left found n ne = subst (λ (b : Bool). n ≡ cond b (min (n + 1) (2 ^ 64 - 1)) n) (sym (ne_eqb found 1 ne)) refl
+
+pub lasts_last : (found n m : ℕ) → found ≡ 1 → m ≡ min (n + 1) (2 ^ 64 - 1) → m ≡ lasts_after found n
+lasts_last found n m e is = subst (λ (b : Bool). m ≡ cond b (min (n + 1) (2 ^ 64 - 1)) n) (sym (eq-eqb found 1 e)) is

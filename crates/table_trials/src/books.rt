@@ -1,6 +1,8 @@
 //! Books that take lines one by one.
 ghost use Rattle.std.specs.Prelude.{◌≡◌, false, IfOk, OnOk};
+ghost use Rattle.drat_text.specs.LineOut.{WasPut};
 ghost use Rattle.io_edge.specs.Paths.{IsEmptyWhereTold};
+ghost use Rattle.log_book.specs.Books.{IsNew, told_of};
 
 use drat_text::{LineOut, LineStop};
 use io_edge::Sink;
@@ -12,6 +14,7 @@ use std::test::Fail;
 /// A book for a formula of one clause, in a sink to which nothing was written.
 pub fn new_book<S: Sink + Drop>(alloc: Global, sink: S, keep_lines: bool) -> Result<Book<S>, Fail>
     requires { IsEmptyWhereTold (S.written sink) }
+    ensures made { IfOk result (λ b. IsNew 1 sink keep_lines b) }
     ensures unspent { IfOk result (λ b. b.log.lines.spent ≡ false) }
 {
     match Book::new(alloc, 1, sink, keep_lines) {
@@ -23,6 +26,7 @@ pub fn new_book<S: Sink + Drop>(alloc: Global, sink: S, keep_lines: bool) -> Res
 /// Puts a line into a book whose sink has not failed.
 pub fn put_one<S: Sink>(book: &mut Book<S>, line: &Line) -> Result<u64, LineStop>
     requires unspent { book.old.log.lines.spent ≡ false }
+    ensures put { WasPut (told_of S.written S.flushed S.target S.faults book.old) (told_of S.written S.flushed S.target S.faults book.new) line.now result }
     ensures unspent { OnOk result (book.new.log.lines.spent ≡ false) }
 {
     book.put(line)

@@ -1,13 +1,12 @@
 // `log_book`: books over sinks in memory, each call of which fails in turn.
-ghost use Rattle.std.specs.Prelude.{◌≡◌, false, IfOk};
+ghost use Rattle.std.specs.Prelude.{◌≡◌, false, IfOk, OnOk};
 
 use crate::books::{new_book, put_one};
 use drat_text::LineStop;
 use io_edge::{Failed, MemSink, Sink};
 use log_book::Book;
 use sat_words::{Line, Lit, Lits};
-use std::alloc::{AllocGlobal, Global};
-use std::process::Abort;
+use std::alloc::Global;
 use std::test::Fail;
 
 /// A book for a formula of one clause, over a sink in memory.
@@ -46,13 +45,7 @@ type Ending = (
     Option<usize>,
 );
 
-fn ending(
-    rt: &(impl Abort + AllocGlobal),
-    fails: &[u64],
-    times: u32,
-    keep: bool,
-) -> Result<Ending, Fail> {
-    let alloc = rt.alloc();
+fn ending(alloc: Global, fails: &[u64], times: u32, keep: bool) -> Result<Ending, Fail> {
     let line = Line::Add(Lits::from_slice(alloc, &[Lit::new(1, false), Lit::new(2, false)])?);
     let mut book = book(alloc, fails, keep)?;
     let (done, stop) = put_often(&mut book, &line, times);
@@ -63,35 +56,48 @@ fn ending(
     Ok((done, stop, last, end, sink.bytes().len(), kept))
 }
 
+const FAULT: Option<LineStop> = Some(LineStop::ProofFault);
+
+const FAILED: Result<(), Failed> = Err(Failed);
+
+/// Which calls of the sink fail, how often the line is put, and what becomes of the book. A block of 65,536 bytes is full within
+/// the 10,923rd line. The calls of the sink are two writes and a flush.
+static ENDINGS: [(&[u64], u32, Ending); 7] = [
+    (&[], 10_922, (10_922, None, 10_923, Ok(()), 65_532, None)),
+    (&[], 10_923, (10_923, None, 10_924, Ok(()), 65_538, None)),
+    (&[1], 10_922, (10_922, None, 10_923, FAILED, 0, None)),
+    (&[1], 10_923, (10_922, FAULT, 10_923, FAILED, 0, None)),
+    (&[2], 10_922, (10_922, None, 10_923, FAILED, 65_532, None)),
+    (&[2], 10_923, (10_923, None, 10_924, FAILED, 65_536, None)),
+    (&[3], 10_923, (10_923, None, 10_924, FAILED, 65_538, None)),
+];
+
 #[test]
 fn a_block_is_written_whenever_it_is_full(rt: HostRuntime) -> Result<(), Fail> {
-    // A block of 65,536 bytes is full within the 10,923rd line. The calls of the sink are two writes and a flush.
-    let fault = Some(LineStop::ProofFault);
-    let failed = Err(Failed);
-    let table: [(&[u64], u32, Ending); 7] = [
-        (&[], 10_922, (10_922, None, 10_923, Ok(()), 65_532, None)),
-        (&[], 10_923, (10_923, None, 10_924, Ok(()), 65_538, None)),
-        (&[1], 10_922, (10_922, None, 10_923, failed, 0, None)),
-        (&[1], 10_923, (10_922, fault, 10_923, failed, 0, None)),
-        (&[2], 10_922, (10_922, None, 10_923, failed, 65_532, None)),
-        (&[2], 10_923, (10_923, None, 10_924, failed, 65_536, None)),
-        (&[3], 10_923, (10_923, None, 10_924, failed, 65_538, None)),
-    ];
-    for (fails, times, wanted) in table {
-        let found = ending(&rt, fails, times, false)?;
-        assert!(rt; found == wanted, "{times}");
+    for (fails, times, wanted) in &ENDINGS {
+        let found = ending(rt.alloc(), fails, *times, false)?;
+        assert!(rt; found == *wanted, "{times}");
     }
     Ok(())
 }
 
 #[test]
 fn lines_are_kept_where_they_are_asked_for(rt: HostRuntime) -> Result<(), Fail> {
-    let found = ending(&rt, &[], 7, true)?;
-    assert!(rt; found == (7, None, 8, Ok(()), 42, Some(7)));
-    let found = ending(&rt, &[1], 10_930, true)?;
-    let fault = Some(LineStop::ProofFault);
-    assert!(rt; found == (10_922, fault, 10_923, Err(Failed), 0, Some(10_923)));
+    let few = ending(rt.alloc(), &[], 7, true)?;
+    let many = ending(rt.alloc(), &[1], 10_930, true)?;
+    assert!(rt; few == (7, None, 8, Ok(()), 42, Some(7)));
+    assert!(rt; many == (10_922, FAULT, 10_923, FAILED, 0, Some(10_923)));
     Ok(())
+}
+
+/// The last number before a line is put, the number that it is given, and the last one then.
+fn put_and_last<S: Sink>(book: &mut Book<S>, line: &Line) -> Result<(u64, u64, u64), LineStop>
+    requires { book.old.log.lines.spent ≡ false }
+    ensures { OnOk result (book.new.log.lines.spent ≡ false) }
+{
+    let before = book.last();
+    let number = put_one(book, line)?;
+    Ok((before, number, book.last()))
 }
 
 #[test]
@@ -100,14 +106,12 @@ fn a_deletion_has_no_number(rt: HostRuntime) -> Result<(), Fail> {
     let three = Line::Add(Lits::from_slice(alloc, &[Lit::new(3, false)])?);
     let gone = Line::Del(Lits::from_slice(alloc, &[Lit::new(3, false)])?);
     let mut book = book(alloc, &[], true)?;
-    assert_eq!(rt; book.last(), 1);
-    assert_eq!(rt; put_one(&mut book, &three)?, 2);
-    assert_eq!(rt; put_one(&mut book, &gone)?, 0);
-    assert_eq!(rt; book.last(), 2);
-    assert_eq!(rt; put_one(&mut book, &three)?, 3);
-    assert_eq!(rt; book.last(), 3);
+    let lasts = put_and_last(&mut book, &three)?;
+    let gone_lasts = put_and_last(&mut book, &gone)?;
+    let more_lasts = put_and_last(&mut book, &three)?;
+    assert!(rt; [lasts, gone_lasts, more_lasts] == [(1, 2, 2), (2, 0, 2), (2, 3, 3)]);
     let (end, sink, lines) = book.finish();
-    assert_eq!(rt; end, Ok(()));
+    assert!(rt; end == Ok(()));
     assert!(rt; sink.bytes() == b"3 0\nd 3 0\n3 0\n".as_slice());
     let Some(lines) = lines else {
         return Err(Fail::from("no lines"));

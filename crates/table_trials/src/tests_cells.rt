@@ -1,14 +1,15 @@
 // `ref_count` and `sample_table`: tables for small formulas, the worked row, cells read back, and rings on threads.
-ghost use Rattle.std.specs.Prelude.{◌≤◌, ◌<◌, ◌^◌};
+ghost use Rattle.std.specs.Prelude.{◌≤◌, ◌<◌, ◌^◌, IfOk};
+ghost use Rattle.sample_table.specs.Samples.{IsHolder};
 
 use crate::trades::{
     begin_all, count_of, gather_all, give_up_all, read_back, sum_of_reads, trade, trade_all,
 };
 use clause_cell::HoleStop;
 use sample_formula::Problem;
-use sample_table::{begin, gather, give_up, open, refusal, start_cell};
-use sat_words::Lit;
-use share_rule::close;
+use sample_table::{Ring, SampleBook, begin, gather, give_up, open, refusal, start_cell};
+use sat_words::{Cref, Head, Lit};
+use share_rule::{Shared, close};
 use std::alloc::Global;
 use std::process::Abort;
 use std::test::Fail;
@@ -29,22 +30,22 @@ fn three(alloc: Global) -> Result<Problem, Fail> {
 fn the_last_of_two_rings_is_told(rt: HostRuntime) -> Result<(), Fail> {
     let problem = three(rt.alloc())?;
     let (table, mut first, cells) = open(rt.alloc(), &problem, 2, 64)?;
-    let mut addresses = cells.iter().map(|cell| cell.address);
-    assert_eq!(rt; addresses.next(), Some(27));
-    assert_eq!(rt; addresses.next(), Some(32));
-    assert_eq!(rt; addresses.next(), Some(37));
-    assert_eq!(rt; addresses.next(), None);
+    let places = [
+        Cref { address: 27 },
+        Cref { address: 32 },
+        Cref { address: 37 },
+    ];
+    assert!(rt; cells.as_slice() == places.as_slice());
     let cell = start_cell(&first, cells.as_slice(), 0)?;
     let mut one = begin(&table, &mut first, 0, cell);
     let mut two = begin(&table, &mut first, 1, cell);
     give_up(&table, &mut one);
     give_up(&table, &mut two);
-    assert_eq!(rt; (one.lasts, two.lasts), (0, 1));
+    assert!(rt; [one.lasts, two.lasts] == [0, 1]);
     gather(&table, &mut first, two);
     gather(&table, &mut first, one);
     let book = close(table, first);
-    assert_eq!(rt; book.holes.largest(), 50);
-    assert_eq!(rt; book.entries, 0);
+    assert!(rt; [book.holes.largest(), book.entries] == [50, 0]);
     Ok(())
 }
 
@@ -65,13 +66,14 @@ fn race(
     let cell = start_cell(&first, cells.as_slice(), place)?;
     let mut rings = begin_all(rt.alloc(), &table, &mut first, cell, rings)?;
     let count = rings.len() as u64;
-    assert_eq!(rt; count_of(&table, cell), Some(count));
+    let begun = count_of(&table, cell);
     trade_all(rt, &table, rings.as_mut_slice(), turns);
-    assert_eq!(rt; count_of(&table, cell), Some(count));
+    let traded = count_of(&table, cell);
     give_up_all(rt, &table, rings.as_mut_slice(), turns);
-    assert_eq!(rt; count_of(&table, cell), Some(0));
+    let left = count_of(&table, cell);
+    assert!(rt; [begun, traded, left] == [Some(count), Some(count), Some(0)]);
     let lasts = gather_all(&table, &mut first, rings);
-    assert_eq!(rt; close(table, first).holes.largest(), 50);
+    assert!(rt; close(table, first).holes.largest() == 50);
     Ok(lasts)
 }
 
@@ -80,13 +82,13 @@ const TURNS: u64 = 100_000;
 
 #[test]
 fn four_rings_trade_one_cell(rt: HostRuntime) -> Result<(), Fail> {
-    assert_eq!(rt; race(&rt, 4, 2, TURNS)?, 1);
+    assert!(rt; race(&rt, 4, 2, TURNS)? == 1);
     Ok(())
 }
 
 #[test]
 fn two_rings_on_threads_give_a_cell_up(rt: HostRuntime) -> Result<(), Fail> {
-    assert_eq!(rt; race(&rt, 2, 0, 0)?, 1);
+    assert!(rt; race(&rt, 2, 0, 0)? == 1);
     Ok(())
 }
 
@@ -101,18 +103,43 @@ fn literals(alloc: Global, size: u32) -> Result<Vec<Lit>, Fail>
     Ok(lits)
 }
 
+/// A ring alone that has begun with the cell at a place.
+fn begin_alone(
+    alloc: Global,
+    problem: &Problem,
+    place: usize,
+) -> Result<(Shared<SampleBook>, Ring<SampleBook>), Fail>
+    ensures { IfOk result (λ x. IsHolder x.0 x.1.pass x.1.ring x.1.cell.address 0) }
+{
+    let (table, mut first, cells) = open(alloc, problem, 1, 64)?;
+    let cell = start_cell(&first, cells.as_slice(), place)?;
+    let ring = begin(&table, &mut first, 0, cell);
+    Ok((table, ring))
+}
+
+/// The same over the one clause of these literals.
+fn begin_with(alloc: Global, lits: &[Lit]) -> Result<(Shared<SampleBook>, Ring<SampleBook>), Fail>
+    ensures { IfOk result (λ x. IsHolder x.0 x.1.pass x.1.ring x.1.cell.address 0) }
+{
+    let problem = Problem::new(alloc, 40).with(alloc, lits)?;
+    begin_alone(alloc, &problem, 0)
+}
+
 #[test]
 fn cells_are_read_back(rt: HostRuntime) -> Result<(), Fail> {
     for size in 2..41 {
         let lits = literals(rt.alloc(), size)?;
-        let problem = Problem::new(rt.alloc(), 40);
-        let problem = problem.with(rt.alloc(), lits.as_slice())?;
-        let (table, mut first, cells) = open(rt.alloc(), &problem, 1, 64)?;
-        let cell = start_cell(&first, cells.as_slice(), 0)?;
-        let mut ring = begin(&table, &mut first, 0, cell);
+        let (table, mut ring) = begin_with(rt.alloc(), lits.as_slice())?;
         let (head, read) = read_back(rt.alloc(), &table, &mut ring)?;
-        assert_eq!(rt; (head.size, head.glue, head.number), (size, 0, 1));
-        assert!(rt; read.as_slice() == lits.as_slice(), "of {size}");
+        let wanted = Head {
+            size,
+            glue: 0,
+            number: 1,
+        };
+        assert!(rt;
+            head == wanted && read.as_slice() == lits.as_slice(),
+            "of {size}"
+        );
     }
     Ok(())
 }
@@ -128,12 +155,8 @@ const SUM: u64 = 1653 * 2_500_000;
 #[test]
 fn one_cell_is_read(rt: HostRuntime) -> Result<(), Fail> {
     let lits = literals(rt.alloc(), 40)?;
-    let problem = Problem::new(rt.alloc(), 40);
-    let problem = problem.with(rt.alloc(), lits.as_slice())?;
-    let (table, mut first, cells) = open(rt.alloc(), &problem, 1, 64)?;
-    let cell = start_cell(&first, cells.as_slice(), 0)?;
-    let mut ring = begin(&table, &mut first, 0, cell);
-    assert_eq!(rt; sum_of_reads(&table, &mut ring, READS), SUM);
+    let (table, mut ring) = begin_with(rt.alloc(), lits.as_slice())?;
+    assert!(rt; sum_of_reads(&table, &mut ring, READS) == SUM);
     Ok(())
 }
 
@@ -152,19 +175,16 @@ fn one_vector_is_read(rt: HostRuntime) -> Result<(), Fail> {
     for _ in 0..READS {
         sum = sum_of_codes(lits.as_slice(), sum);
     }
-    assert_eq!(rt; sum, SUM);
+    assert!(rt; sum == SUM);
     Ok(())
 }
 
 #[test]
 fn one_ring_trades_one_cell(rt: HostRuntime) -> Result<(), Fail> {
-    let problem = three(rt.alloc())?;
-    let (table, mut first, cells) = open(rt.alloc(), &problem, 1, 64)?;
-    let cell = start_cell(&first, cells.as_slice(), 2)?;
-    let mut ring = begin(&table, &mut first, 0, cell);
+    let (table, mut ring) = begin_alone(rt.alloc(), &three(rt.alloc())?, 2)?;
     trade(&table, &mut ring, 4 * TURNS);
-    assert_eq!(rt; count_of(&table, cell), Some(1));
-    assert_eq!(rt; ring.lasts, 0);
+    assert!(rt; count_of(&table, ring.cell) == Some(1));
+    assert!(rt; ring.lasts == 0);
     Ok(())
 }
 
@@ -173,13 +193,11 @@ fn one_ring_trades_one_cell(rt: HostRuntime) -> Result<(), Fail> {
 fn no_table_without_room(rt: HostRuntime) -> Result<(), Fail> {
     let problem = three(rt.alloc())?;
     let (why, last) = refusal(rt.alloc(), &problem, 2, 9)?;
-    assert_eq!(rt;
-        why,
-        HoleStop::NoHole {
-            need: 5,
-            largest: 4
-        }
-    );
-    assert_eq!(rt; last, 3);
+    let no_hole = HoleStop::NoHole {
+        need: 5,
+        largest: 4,
+    };
+    assert!(rt; why == no_hole);
+    assert!(rt; last == 3);
     Ok(())
 }

@@ -6,9 +6,10 @@ ghost use Rattle.share_rule.specs.Views.{IsHolding, clause_of};
 ghost use Rattle.sample_table.specs.Samples.{IsFirst, IsRing, IsHolder, IsGathered};
 ghost use Rattle.sample_table.specs.declared.rings.Ring.{Ring};
 ghost use Rattle.table_trials.specs.Reads.{head_of, code_sum};
+ghost use Rattle.table_trials.specs.Counts.{GaveUp};
 
 use ref_count::{Dropped, drop_count, read_head, read_lit, share};
-use sample_table::{Ring, begin, gather, give_up};
+use sample_table::{Ring, begin, gather};
 use sat_words::{Cref, Head, Lit};
 use share_rule::{Ledger, Pass, Shared};
 use std::alloc::Global;
@@ -16,18 +17,29 @@ use std::test::Fail;
 use std::thread;
 use std::thread::Threads;
 
+/// Gives the count up, and counts where it was the last.
+fn give_one_up<B: Ledger>(table: &Shared<B>, ring: &mut Ring<B>)
+    requires { (n : ℕ) × IsHolder table.now ring.old.pass ring.old.ring ring.old.cell.address n }
+    ensures ring { IsRing table.now ring.new.pass ring.new.ring }
+    ensures gave { GaveUp ring.old ring.new }
+    ensures lasts { (ring.old.lasts ≤ ring.new.lasts) × (ring.new.lasts ≤ ring.old.lasts + 1) }
+{
+    match drop_count(table, &mut ring.pass, ring.cell) {
+        Dropped::Left => {}
+        Dropped::Last => ring.lasts = ring.lasts.saturating_add(1),
+    }
+}
+
 /// Takes one more count and gives one up.
 fn trade_once<B: Ledger>(table: &Shared<B>, ring: &mut Ring<B>, _times: u64)
     requires holder { IsHolder table.now ring.old.pass ring.old.ring ring.old.cell.address _times }
     requires few { _times < 2 ^ 56 }
     ensures holder { IsHolder table.now ring.new.pass ring.new.ring ring.new.cell.address (_times + 1) }
     ensures same { (ring.new.ring ≡ ring.old.ring) × (ring.new.cell ≡ ring.old.cell) }
+    ensures lasts { (ring.old.lasts ≤ ring.new.lasts) × (ring.new.lasts ≤ ring.old.lasts + 1) }
 {
     share(table, &mut ring.pass, ring.cell);
-    match drop_count(table, &mut ring.pass, ring.cell) {
-        Dropped::Left => {}
-        Dropped::Last => ring.lasts = ring.lasts.saturating_add(1),
-    }
+    give_one_up(table, ring);
 }
 
 /// Trades so often.
@@ -36,6 +48,7 @@ pub fn trade<B: Ledger>(table: &Shared<B>, ring: &mut Ring<B>, times: u64)
     requires few { times < 2 ^ 56 }
     ensures holder { IsHolder table.now ring.new.pass ring.new.ring ring.new.cell.address times }
     ensures same { (ring.new.ring ≡ ring.old.ring) × (ring.new.cell ≡ ring.old.cell) }
+    ensures lasts { (ring.old.lasts ≤ ring.new.lasts) × (ring.new.lasts ≤ ring.old.lasts + times) }
 {
     for done in 0..times {
         trade_once(table, ring, done);
@@ -55,6 +68,7 @@ pub fn begin_all<B: Ledger>(
     ensures first { OnOk result (IsPassOf table.now first.new × (first.new.me.1 ≡ []) × (first.new.me.0.opening ≡ first.old.me.0.opening) × (first.new.me.0.parts ≡ first.old.me.0.parts)) }
     ensures len { IfOk result (λ v. length v.items ≡ rings) }
     ensures each { IfOk result (λ v. All (λ r. IsHolder table.now r.pass r.ring r.cell.address 0) v.items) }
+    ensures cells { IfOk result (λ v. All (λ r. r.cell ≡ cell) v.items) }
     ensures numbers { IfOk result (λ v. (i : ℕ) (d : Ring B) → i < rings → (slice_index_or v.items i d).ring ≡ i) }
 {
     let mut all = Vec::new(alloc);
@@ -88,9 +102,10 @@ pub fn give_up_all<B: Ledger + Send, R: Threads + Sync>(
 )
     requires { All (λ r. IsHolder table.now r.pass r.ring r.cell.address _times) rings.old }
     ensures each { All (λ r. IsRing table.now r.pass r.ring) rings.new }
+    ensures gave { (i : ℕ) (d : Ring B) → i < length rings.old → GaveUp (slice_index_or rings.old i d) (slice_index_or rings.new i d) }
     ensures numbers { (i : ℕ) (d : Ring B) → i < length rings.old → (slice_index_or rings.new i d).ring ≡ (slice_index_or rings.old i d).ring }
 {
-    thread::for_each_mut(rt, rings, 4, &|_, ring| give_up(table, ring));
+    thread::for_each_mut(rt, rings, 4, &|_, ring| give_one_up(table, ring));
 }
 
 /// How often rings were told that they gave a last count up.

@@ -21,4 +21,5 @@ loop-ring-preserved g c =
       omega arith,
       subst (All (λ (x : Ring g.row.B.Denot). IsHolder c.args.table.now x.pass x.ring x.cell.address 0)) (sym items) (all_last (λ (x : Ring g.row.B.Denot). IsHolder c.args.table.now x.pass x.ring x.cell.address 0) l.all.items r i.4 (subst (λ (y : ℕ × ℕ). IsHolder c.args.table.now r.pass y.0 y.1 0) (λ k. (sym b.ring.1 k, (sym b.ring.2 k).address)) b.ring.0)),
       (λ k d lt. ap (λ (xs : List (Ring g.row.B.Denot)). (get_or xs k d).ring) items ∙ numbers_more (λ (x : Ring g.row.B.Denot). x.ring) l.all.items r l.ring i.3 i.5 b.ring.1 k d lt),
+      subst (All (λ (x : Ring g.row.B.Denot). x.cell ≡ c.args.cell)) (sym items) (all_last (λ (x : Ring g.row.B.Denot). x.cell ≡ c.args.cell) l.all.items r i.6 b.ring.2),
     )

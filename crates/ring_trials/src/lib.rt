@@ -7,6 +7,8 @@ pub mod beginning;
 mod crowd_runs;
 #[cfg(test)]
 mod long_runs;
+#[cfg(test)]
+mod memory;
 pub mod reducing;
 #[cfg(test)]
 mod reduction;

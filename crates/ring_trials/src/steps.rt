@@ -26,7 +26,7 @@ struct Walked {
 
 /// 1 forces 2, and where 1 and 4 are true the last two clauses oppose each other. A clause has
 /// its literals in the order of their variables, however they are given.
-fn row_clauses(alloc: Global) -> Result<Problem, Fail> {
+pub(crate) fn row_clauses(alloc: Global) -> Result<Problem, Fail> {
     let one = Lit::new(1, true);
     let four = Lit::new(4, true);
     let two = Lit::new(2, false);

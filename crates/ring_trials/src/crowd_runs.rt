@@ -110,7 +110,7 @@ fn searches_over_what_it_was_handed(rt: HostRuntime) -> Result<(), Fail> {
     for from in [0, 2] {
         let gift = Poll { from, class: 0 };
         let ran = run_on_two(rt.alloc(), Some(gift), 9, false)?;
-        let End::Sat(model) = ran.end else {
+        let End::Sat(model) = &ran.end else {
             return Err(Fail::from("no model"));
         };
         assert!(rt; model.truth_of_lit(Lit::new(2, false)));

@@ -1,4 +1,4 @@
-use Rattle.std.proofs.Common.{◌≡◌, ◌∙◌, ◌≤◌, ◌^◌, sym, ap, subst, ℕ}
+use Rattle.std.proofs.Common.{◌∙◌, ◌≤◌, ◌^◌, sym, ap, subst, ℕ}
 use Rattle.ring_port.specs.PortState.{PortState}
 use Rattle.ring_trials.proofs.beginning.begin.Goals as goal
 

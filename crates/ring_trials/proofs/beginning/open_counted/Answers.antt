@@ -1,4 +1,4 @@
-use Rattle.std.proofs.Common.{sym, subst, All, IsSome, List}
+use Rattle.std.proofs.Common.{sym, subst, All, IsSome}
 use Rattle.sat_words.specs.declared.shared.Cref.{Cref}
 use Rattle.ring_port.specs.PortState.{held_at}
 use Rattle.ring_trials.proofs.SteppingLemmas.{starts_held}

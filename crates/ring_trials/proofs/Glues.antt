@@ -1,5 +1,5 @@
 -- What is read of lemmas.
-use Rattle.std.proofs.Common.{◌≡◌, ℕ, IsSome, ap}
+use Rattle.std.proofs.Common.{◌≡◌, IsSome, ap}
 use Rattle.std.specs.Option.{option_map_or}
 use Rattle.std.specs.Prelude.{Option, Some, None, IfSome}
 use Rattle.std.proofs.lemmas.Bool.{false≢true}

@@ -1,8 +1,10 @@
 -- The row of the tests of reduction.
-use Rattle.std.proofs.Common.{◌≡◌, ◌≢◌, ◌∙◌, ◌==◌, ℕ, ◌≤◌, Bool, true, false, List, [], ◌∷◌, ◌++◌, map, None, All, IsSome, Contains, sym, refl, ap, subst, arith, nat_eq}
+use Rattle.std.proofs.Common.{◌≡◌, ◌≢◌, ◌∙◌, ◌==◌, ℕ, suc, ◌≤◌, Bool, true, false, List, [], ◌∷◌, ◌++◌, map, None, All, IsSome, Contains, sym, refl, ap, subst, arith, nat_eq}
 use Rattle.std.specs.Prelude.{is_some}
 use Rattle.std.specs.declared.option.Option.{Option}
 use Rattle.std.specs.List.{IsDistinct, list_any}
+use Rattle.std.specs.Option.{option_map_or}
+use Rattle.std.proofs.lemmas.List.{map-append}
 use Rattle.std.proofs.lemmas.Bool.{or_right, false≢true}
 use Rattle.std.proofs.lemmas.List.Elements.{All-nil, All-from_recursion}
 use Rattle.sat_words.specs.Literal.{Literal, opposite}
@@ -15,6 +17,8 @@ use Rattle.rup_model.proofs.Derivation.{conflicts_from_derivation}
 use Rattle.drat_text.specs.LineState.{LineState}
 use Rattle.sat_words.specs.declared.shared.Cref.{Cref}
 use Rattle.rup_model.specs.declared.journal.Kind.{Kind}
+use Rattle.rup_model.specs.declared.journal.Kind.TheVariants.{Derive}
+use Rattle.ring_trials.specs.Glues.{glue_at}
 use Rattle.ring_port.specs.PortState.{PortState, Holding, IsPort, IsOn, held_at, lits_at, lits_in, known}
 use Rattle.ring_port.specs.Port.{IsClause, AddedClause, KeepsHeld, is_usable}
 use Rattle.ring_port.specs.Deleting.{DroppedOnce, TidiedUpTo, IsNotTaken}
@@ -28,7 +32,7 @@ use Rattle.watch_prop.proofs.Entries.{attachable_held}
 use Rattle.watch_prop.proofs.TrailLaws.{Watched-port}
 use Rattle.ring_port.specs.PlainPort.{starts_of, begun_with, CanOpen}
 use Rattle.ring_port.proofs.Holdings.{held_is_known, lits_of_holding}
-use Rattle.ring_trials.specs.ReductionRow.{lit, source, row_starts, source_held, IsRow, HasLemmas, OneMore, OneLess}
+use Rattle.ring_trials.specs.ReductionRow.{lit, source, row_starts, source_held, IsRow, HasLemmas, AddedLemma, OneMore, OneLess}
 use Rattle.reduce_db.specs.Lemmas.{AreLemmas}
 use Rattle.reduce_db.specs.Reduction.{WasReduced}
 use Rattle.reduce_db.proofs.Changes.{no_lemmas, lemma_joins}
@@ -118,6 +122,30 @@ lemma_added s m q w x t lemmas more lits glue kind d h k keeps port same grown v
       watched = watched t (Watched-port w (lits_at s) (lits_at m) t (λ c there. ap lits_in (keeps c.address (attached_held s w t c h.watched there))) h.watched);
       are = subst (λ (cs : List Cref). AreLemmas m cs (lemmas ++ d ∷ [])) (sym grown) (lemma_joins s m (attached w) lemmas lits glue kind d h.row.port k keeps h.are);
     })
+
+pub added_lemma : (s m q : PortState) (w x : WatchData) (lemmas more : List Cref) (lits : List Literal) (glue : ℕ) (d : Cref) → lits ≡ source → AddedClause s m lits glue Derive d → q ≡ m
+    → attached x ≡ attached w ++ d ∷ [] → more ≡ lemmas ++ d ∷ [] → AddedLemma s q w x lemmas more glue
+added_lemma s m q w x lemmas more lits glue d e k same grown is = record {
+  copy = d;
+  derived = subst (λ (z : PortState). AddedClause s z source glue Derive d) (sym same) (subst (λ (ls : List Literal). AddedClause s m ls glue Derive d) e k);
+  attached_now = grown;
+  lemmas_are = is;
+}
+
+-- its glue stands behind those of the others
+glues_kept : (s m : PortState) (cs : List Cref) → KeepsHeld s m → All (λ (c : Cref). IsSome (held_at s c.address)) cs → map (glue_at m) cs ≡ map (glue_at s) cs
+glues_kept s m [] keeps held = refl
+glues_kept s m (c ∷ cs) keeps held =
+    let here : glue_at m c ≡ glue_at s c = ap (λ (o : Option Holding). option_map_or (λ (h : Holding). h.glue) o 0) (keeps c.address (held 0 c (omega arith))) in
+    let rest = glues_kept s m cs keeps (λ k d lt. held (suc k) d (omega arith)) in
+    (λ i. here i ∷ rest i)
+
+pub glue_pushed : (s m : PortState) (w x : WatchData) (lemmas more : List Cref) (glue : ℕ) → AddedLemma s m w x lemmas more glue → KeepsHeld s m → All (λ (c : Cref). IsSome (held_at s c.address)) lemmas
+    → map (glue_at m) more ≡ map (glue_at s) lemmas ++ glue ∷ []
+glue_pushed s m w x lemmas more glue a keeps held =
+    let there : glue_at m a.copy ≡ glue = ap (λ (o : Option Holding). option_map_or (λ (h : Holding). h.glue) o 0) a.derived.there in
+    ap (map (glue_at m)) a.lemmas_are ∙ map-append (glue_at m) lemmas (a.copy ∷ []) ∙ ap (λ (ns : List ℕ). ns ++ glue_at m a.copy ∷ []) (glues_kept s m lemmas keeps held)
+    ∙ ap (λ (n : ℕ). map (glue_at s) lemmas ++ n ∷ []) there
 
 -- and none at first
 pub no_lemma : (s : PortState) (w : WatchData) (t : TrailData) → IsRow s → w.vars ≡ 3 → attached w ≡ [] → Watched w (lits_at s) t → HasLemmas s w t []

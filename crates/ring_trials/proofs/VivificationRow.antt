@@ -12,14 +12,19 @@ use Rattle.rup_model.specs.Opening.{is_rulers, IsStart, Start}
 use Rattle.rup_model.proofs.Derivation.{conflicts_from_derivation}
 use Rattle.drat_text.specs.LineState.{LineState}
 use Rattle.ring_port.specs.PortState.{PortState, IsOn, held_at, lits_at, known}
-use Rattle.ring_port.specs.Port.{IsClause, IsPartOfHeld}
+use Rattle.ring_port.specs.Port.{AddedClause, IsClause, IsPartOfHeld}
 use Rattle.sat_words.specs.declared.shared.Cref.{Cref}
+use Rattle.rup_model.specs.declared.journal.Kind.TheVariants.{Derive}
+use Rattle.ring_trail.specs.declared.step.Step.{Step}
 use Rattle.ring_trail.specs.TrailData.{TrailData}
+use Rattle.vivify.specs.declared.shorten.Vivified.{Vivified}
+use Rattle.vivify.specs.Outcome.{IsVivified}
+use Rattle.watch_prop.specs.WatchData.{WatchData, attached}
 use Rattle.watch_prop.specs.Watched.{IsFresh}
 use Rattle.rup_model.proofs.Lists.{In_append_right, In_Contains}
 use Rattle.ring_port.specs.PlainPort.{starts_of, begun_with, CanOpen}
 use Rattle.ring_port.proofs.Holdings.{held_is_known, lits_of_holding}
-use Rattle.ring_trials.specs.VivificationRow.{lit, first, second, row_starts, start_at, IsRow}
+use Rattle.ring_trials.specs.VivificationRow.{lit, first, second, row_starts, start_at, IsRow, VivifiedCopy}
 
 on : (v : ℕ) (b : Bool) → 1 ≤ v → v ≤ 3 → IsOn 3 (lit v b)
 on v b low high = record { low = low; high = high }
@@ -106,3 +111,16 @@ last_in cs c = In_Contains (cs ++ c ∷ []) c (In_append_right cs (c ∷ []) c (
 
 pub opens_from : (ss : List Start) (us : List Literal) (out : LineState) → ss ≡ starts_of row_starts → us ≡ [] → out.entries ≡ 0 → out.last ≡ 2 → CanOpen ss us out
 opens_from ss us out e f entries last = subst (λ (ts : List Start). CanOpen ts us out) (sym e) (subst (λ (ls : List Literal). CanOpen (starts_of row_starts) ls out) (sym f) (opens out entries last))
+
+-- the copy is vivified
+pub vivified_copy : (s m p q : PortState) (v w : WatchData) (steps : List Step) (lits : List Literal) (copy : Cref) (left : Vivified) → lits ≡ second → AddedClause s m lits 2 Derive copy → p ≡ m
+    → attached v ≡ record { address = 0 } ∷ copy ∷ [] → steps ≡ [] → IsVivified p q v w steps copy left → VivifiedCopy s q left
+vivified_copy s m p q v w steps lits copy left e k same two bare is = record {
+  middle = p;
+  copy = copy;
+  v = v;
+  w = w;
+  derived = subst (λ (z : PortState). AddedClause s z second 2 Derive copy) (sym same) (subst (λ (ls : List Literal). AddedClause s m ls 2 Derive copy) e k);
+  attached_two = two;
+  vivified = subst (λ (ts : List Step). IsVivified p q v w ts copy left) bare is;
+}

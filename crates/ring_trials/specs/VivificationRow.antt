@@ -1,8 +1,13 @@
 -- The row of the tests of vivification: two start clauses, and what is held of them.
 use Rattle.std.specs.Prelude.{◌≡◌, ℕ, Bool, true, false, List, [], ◌∷◌, Some}
 use Rattle.sat_words.specs.Literal.{Literal}
+use Rattle.sat_words.specs.declared.shared.Cref.{Cref}
+use Rattle.rup_model.specs.declared.journal.Kind.TheVariants.{Derive}
 use Rattle.ring_port.specs.PortState.{Holding, PortState, held_at}
-use Rattle.ring_port.specs.Port.{is_usable}
+use Rattle.ring_port.specs.Port.{is_usable, AddedClause}
+use Rattle.vivify.specs.declared.shorten.Vivified.{Vivified}
+use Rattle.vivify.specs.Outcome.{IsVivified}
+use Rattle.watch_prop.specs.WatchData.{WatchData, attached}
 
 -- the literal of a variable, negated or not
 abbrev pub lit : ℕ → Bool → Literal
@@ -28,3 +33,13 @@ pub record IsRow (s : PortState) : Type 0 where
   pub second : held_at s 4 ≡ Some (start_at 4 2 second)
   pub usable : is_usable s.refused ≡ true
   pub taken : s.taken ≡ []
+
+-- a copy of the second clause was derived with glue 2, attached behind the first one, and vivified where nothing is true
+pub record VivifiedCopy (old new : PortState) (left : Vivified) : Type 0 where
+  pub middle : PortState
+  pub copy : Cref
+  pub v : WatchData
+  pub w : WatchData
+  pub derived : AddedClause old middle second 2 Derive copy
+  pub attached_two : attached v ≡ record { address = 0 } ∷ copy ∷ []
+  pub vivified : IsVivified middle new v w [] copy left

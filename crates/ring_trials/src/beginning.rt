@@ -1,8 +1,10 @@
 //! How a search of a problem begins: the port in memory over it, a ring that searches there alone, and one among three.
-ghost use Rattle.std.specs.Prelude.{◌≡◌, ◌≤◌, ◌^◌, false, length, All, IfOk, IsSome};
+ghost use Rattle.std.specs.Prelude.{◌≡◌, ◌≤◌, ◌^◌, [], None, false, length, map, All, IfOk, IsSome};
 ghost use Rattle.sat_words.specs.declared.shared.Cref.{Cref};
-ghost use Rattle.ring_port.specs.PortState.{IsPort, HoldsStart, held_at};
+ghost use Rattle.drat_text.specs.CountedData.{begun_counting};
+ghost use Rattle.ring_port.specs.PortState.{Holding, IsPort, HoldsStart, held_at};
 ghost use Rattle.ring_port.specs.PlainPort.{begun_with};
+ghost use Rattle.sample_port.specs.Crowd.{asked, crowd_of};
 ghost use Rattle.ring_run.specs.Ended.{IsJobOf, IsUntouched};
 
 use drat_text::{CountedLines, LineOut};
@@ -49,7 +51,9 @@ pub fn open_counted(
     alloc: Global,
     problem: Problem,
 ) -> Result<(PlainPort<CountedLines>, Vec<Cref>), Fail>
-    ensures { IfOk result (λ opened. All (λ (c : Cref). IsSome (held_at opened.0.state c.address)) opened.1.items) }
+    ensures made { IfOk result (λ opened. opened.0.state ≡ begun_with problem.formula.vars problem.start.items problem.units.items (begun_counting (length problem.formula.clauses))) }
+    ensures start { IfOk result (λ opened. opened.1.items ≡ map (λ (h : Holding). record { address = h.address }) opened.0.state.start) }
+    ensures held { IfOk result (λ opened. All (λ (c : Cref). IsSome (held_at opened.0.state c.address)) opened.1.items) }
 {
     let lines = CountedLines::new(problem.formula.clauses().len() as u64, 0);
     let port = open_problem(alloc, problem, lines)?;
@@ -69,7 +73,9 @@ pub fn begin<L: LineOut + Drop>(
     requires none { (L.told lines).entries ≡ 0 }
     requires last { (L.told lines).last ≡ length problem.formula.clauses }
     requires unspent { (L.told lines).spent ≡ false }
-    ensures job { IfOk result (λ begun. IsJobOf begun.0.state begun.1 × (begun.1.conflicts ≡ conflicts)) }
+    ensures made { IfOk result (λ begun. begun.0.state ≡ begun_with problem.formula.vars problem.start.items problem.units.items (L.told lines)) }
+    ensures job { IfOk result (λ begun. IsJobOf begun.0.state begun.1) }
+    ensures asked { IfOk result (λ begun. (begun.1.conflicts ≡ conflicts) × (begun.1.seed ≡ seed)) }
     ensures untouched { IfOk result (λ begun. IsUntouched begun.0.state) }
     ensures port { IfOk result (λ begun. IsPort begun.0.state) }
     ensures held { IfOk result (λ begun. begun.0.state.held ≡ begun.0.state.start) }
@@ -102,7 +108,9 @@ pub fn join_crowd<L: LineOut + Drop>(
     requires untouched { IsUntouched inner.state }
     requires port { IsPort inner.state }
     requires held { inner.state.held ≡ inner.state.start }
+    ensures made { IfOk result (λ joined. joined.0 ≡ crowd_of inner.state None None 0 None (asked 0 [] 0)) }
     ensures job { IfOk result (λ joined. IsJobOf joined.0 joined.1) }
+    ensures same { IfOk result (λ joined. (joined.1.conflicts ≡ alone.conflicts) × (joined.1.seed ≡ alone.seed)) }
     ensures untouched { IfOk result (λ joined. IsUntouched joined.0) }
     ensures port { IfOk result (λ joined. IsPort joined.0) }
 {

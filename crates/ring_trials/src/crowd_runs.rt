@@ -1,15 +1,20 @@
 // `ring_run` over a port of three rings, where another ring's stop appears or its clause comes, and each line is refused.
 use crate::beginning::{begin, join_crowd};
-use crate::runs::{counted, two_clauses};
+use crate::runs::{Kind, counted, kind_of, two_clauses};
 use drat_text::CountedLines;
 use ring_run::{Counts, End, run_ring};
 use sample_port::{Poll, third_stop};
-use sat_words::{Assignment, Lit, NoRoom, STOP_MEMORY, STOP_ROOM, Stop};
+use sat_words::{Lit, STOP_MEMORY, STOP_ROOM, Stop};
 use std::alloc::Global;
 use std::test::Fail;
 
 /// By this seed the first words of the reference generator of ring 1 end in the bits 0: all are decided false.
 const SEED: u64 = 2;
+
+/// The stop of the second of three rings.
+fn own_stop(kind: u8) -> Stop {
+    Stop { kind, ring: 1 }
+}
 
 /// What a run over the port came to.
 #[derive(Drop)]
@@ -48,11 +53,9 @@ fn another_ring_stops_it(rt: HostRuntime) -> Result<(), Fail> {
     let End::Stopped(stop) = ran.end else {
         return Err(Fail::from("not stopped"));
     };
-    assert!(rt; stop == third_stop());
-    assert_eq!(rt; ran.stop, Some(third_stop()));
-    assert_eq!(rt; ran.looks, 1);
-    assert_eq!(rt; ran.counts, counted(0, 0));
-    assert_eq!(rt; ran.glue, None);
+    assert!(rt; [Some(stop), ran.stop] == [Some(third_stop()), Some(third_stop())]);
+    assert!(rt; (ran.looks, ran.glue) == (1, None));
+    assert!(rt; ran.counts == counted(0, 0));
     Ok(())
 }
 
@@ -63,79 +66,56 @@ fn tells_that_there_is_no_room(rt: HostRuntime) -> Result<(), Fail> {
     let End::NoHole(lack) = ran.end else {
         return Err(Fail::from("there was room"));
     };
-    assert_eq!(rt;
-        lack,
-        NoRoom {
-            need: 9,
-            largest: 7
-        }
-    );
-    assert_eq!(rt;
-        ran.stop,
-        Some(Stop {
-            kind: STOP_ROOM,
-            ring: 1
-        })
-    );
-    assert_eq!(rt; ran.looks, 2);
-    assert_eq!(rt; ran.counts, counted(0, 0));
-    assert_eq!(rt; ran.glue, Some(1));
+    assert!(rt; (lack.need, lack.largest) == (9, 7));
+    assert!(rt; ran.stop == Some(own_stop(STOP_ROOM)));
+    assert!(rt; (ran.looks, ran.glue) == (2, Some(1)));
+    assert!(rt; ran.counts == counted(0, 0));
     Ok(())
 }
 
 #[test]
 fn tells_that_memory_ran_out(rt: HostRuntime) -> Result<(), Fail> {
     let ran = run_on_two(rt.alloc(), None, 9, true)?;
-    assert!(rt; matches!(ran.end, End::Memory));
-    assert_eq!(rt;
-        ran.stop,
-        Some(Stop {
-            kind: STOP_MEMORY,
-            ring: 1
-        })
-    );
-    assert_eq!(rt; ran.counts, counted(0, 0));
+    assert!(rt; kind_of(&ran.end) == Kind::Memory);
+    assert!(rt; ran.stop == Some(own_stop(STOP_MEMORY)));
+    assert!(rt; ran.counts == counted(0, 0));
     Ok(())
 }
 
-// It polled the four classes of the first ring and then those of the third, once, before it decided anything.
+/// The polls of the four classes of the first ring, and then of those of the third.
+static EACH_SLOT: [Poll; 8] = [
+    Poll { from: 0, class: 0 },
+    Poll { from: 0, class: 1 },
+    Poll { from: 0, class: 2 },
+    Poll { from: 0, class: 3 },
+    Poll { from: 2, class: 0 },
+    Poll { from: 2, class: 1 },
+    Poll { from: 2, class: 2 },
+    Poll { from: 2, class: 3 },
+];
+
+// It polled each slot once, before it decided anything.
 #[test]
 fn polls_each_other_ring_at_its_start(rt: HostRuntime) -> Result<(), Fail> {
     let ran = run_on_two(rt.alloc(), None, 0, false)?;
-    assert!(rt; matches!(ran.end, End::Stopped(_)));
-    assert_eq!(rt; ran.counts, counted(0, 0));
-    assert_eq!(rt; ran.polls.len(), 8);
-    for i in 0..4 {
-        let class = i as u8;
-        assert_eq!(rt; ran.polls[i], Poll { from: 0, class });
-        assert_eq!(rt; ran.polls[4 + i], Poll { from: 2, class });
-    }
+    assert!(rt; kind_of(&ran.end) == Kind::Stopped);
+    assert!(rt; ran.counts == counted(0, 0));
+    assert!(rt; ran.polls.as_slice() == EACH_SLOT.as_slice());
     Ok(())
-}
-
-/// What comes of it where a ring hands its clause over: the model, the glue of a lemma, and how often it polled.
-fn run_handed(alloc: Global, from: u32) -> Result<(Assignment, Option<u32>, usize), Fail> {
-    let gift = Poll { from, class: 0 };
-    let Ran {
-        end,
-        glue,
-        polls,
-        ..
-    } = run_on_two(alloc, Some(gift), 9, false)?;
-    let End::Sat(model) = end else {
-        return Err(Fail::from("no model"));
-    };
-    Ok((model, glue, polls.len()))
 }
 
 // Where 3 is decided false the clause of another ring makes 2 true, so that no conflict comes, whose lemma would be refused.
 #[test]
 fn searches_over_what_it_was_handed(rt: HostRuntime) -> Result<(), Fail> {
     for from in [0, 2] {
-        let (model, glue, polls) = run_handed(rt.alloc(), from)?;
-        assert_eq!(rt; model.truth_of_lit(Lit::new(2, false)), true);
-        assert_eq!(rt; model.truth_of_lit(Lit::new(3, false)), false);
-        assert_eq!(rt; (glue, polls), (None, 8));
+        let gift = Poll { from, class: 0 };
+        let ran = run_on_two(rt.alloc(), Some(gift), 9, false)?;
+        let End::Sat(model) = &ran.end else {
+            return Err(Fail::from("no model"));
+        };
+        assert!(rt; model.truth_of_lit(Lit::new(2, false)));
+        assert!(rt; model.truth_of_lit(Lit::new(3, true)));
+        assert!(rt; (ran.glue, ran.polls.len()) == (None, 8));
     }
     Ok(())
 }

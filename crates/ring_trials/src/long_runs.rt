@@ -1,8 +1,7 @@
 // `ring_run` for so long that it reduces its lemmas and makes others shorter.
 ghost use Rattle.std.specs.Prelude.{◌<◌};
 
-use crate::runs::run_in;
-use ring_run::End;
+use crate::runs::{Kind, kind_of, run_in};
 use sample_formula::Problem;
 use sat_words::Lit;
 use std::alloc::Global;
@@ -74,7 +73,7 @@ fn long_lines(text: &[u8]) -> u64 {
 fn makes_lemmas_shorter(rt: HostRuntime) -> Result<(), Fail> {
     let alloc = rt.alloc();
     let (end, counts, sink) = run_in(alloc, chosen_clauses(alloc)?, 4000, ROOM)?;
-    assert!(rt; matches!(end, End::Spent));
+    assert!(rt; kind_of(&end) == Kind::Spent);
     assert!(rt; long_lines(sink.bytes()) > counts.learned);
     Ok(())
 }

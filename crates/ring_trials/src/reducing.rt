@@ -1,10 +1,10 @@
 //! Lemmas of a ring that are copies of one start clause, and their reduction.
-ghost use Rattle.std.specs.Prelude.{◌≡◌, true, All, IfOk, IsSome, OnOk, map};
+ghost use Rattle.std.specs.Prelude.{◌≡◌, ◌++◌, true, All, IfOk, IsSome, OnOk, map};
 ghost use Rattle.sat_words.specs.declared.shared.Cref.{Cref};
 ghost use Rattle.ring_port.specs.PortState.{held_at};
-ghost use Rattle.ring_port.specs.Port.{is_usable};
+ghost use Rattle.ring_port.specs.Port.{is_usable, KeepsHeld};
 ghost use Rattle.ring_trials.specs.Glues.{glue_at};
-ghost use Rattle.ring_trials.specs.ReductionRow.{row_starts, IsRow, HasLemmas};
+ghost use Rattle.ring_trials.specs.ReductionRow.{row_starts, IsRow, HasLemmas, AddedLemma, ReducedFive};
 
 use reduce_db::reduce;
 use ring_port::{Port, Starts};
@@ -35,7 +35,9 @@ pub fn add_lemma<P: Port>(
     glue: u32,
 ) -> Result<(), Fail>
     requires { HasLemmas (P.state port.old) watches.old trail.now lemmas.old.items }
-    ensures { OnOk result (HasLemmas (P.state port.new) watches.new trail.now lemmas.new.items) }
+    ensures lemmas { OnOk result (HasLemmas (P.state port.new) watches.new trail.now lemmas.new.items) }
+    ensures added { OnOk result (AddedLemma (P.state port.old) (P.state port.new) watches.old watches.new lemmas.old.items lemmas.new.items glue) }
+    ensures kept { OnOk result (KeepsHeld (P.state port.old) (P.state port.new)) }
 {
     let lits = [Lit::new(1, false), Lit::new(2, false), Lit::new(3, false)];
     let Ok(copy) = port.derive(&lits, glue) else {
@@ -55,7 +57,8 @@ pub fn add_lemmas<P: Port>(
     glues: &[u32],
 ) -> Result<(), Fail>
     requires { HasLemmas (P.state port.old) watches.old trail.now lemmas.old.items }
-    ensures { OnOk result (HasLemmas (P.state port.new) watches.new trail.now lemmas.new.items) }
+    ensures lemmas { OnOk result (HasLemmas (P.state port.new) watches.new trail.now lemmas.new.items) }
+    ensures glues { OnOk result (map (glue_at (P.state port.new)) lemmas.new.items ≡ map (glue_at (P.state port.old)) lemmas.old.items ++ glues.now) }
 {
     for glue in glues {
         add_lemma(port, watches, trail, lemmas, *glue)?;
@@ -83,7 +86,8 @@ pub fn glues_of<P: Port>(
 /// The glues of the lemmas that are left of five.
 pub fn reduce_five<P: Port>(alloc: Global, port: &mut P) -> Result<Vec<u32>, Fail>
     requires { IsRow (P.state port.old) }
-    ensures { OnOk result (is_usable (P.state port.new).refused ≡ true) }
+    ensures usable { OnOk result (is_usable (P.state port.new).refused ≡ true) }
+    ensures reduced { IfOk result (λ glues. ReducedFive (P.state port.new) glues.items) }
 {
     let mut watches = Watches::new(alloc, 3)?;
     let trail = Trail::new(alloc, 3)?;

@@ -1,28 +1,19 @@
 // The words of a clause that is deleted are used again, and every other clause reads as before.
-use crate::reducing::one_start;
+use crate::reduction::open_row;
 use crate::reusing::reuse_words;
-use drat_text::SinkLines;
-use io_edge::MemSink;
-use ring_port::PlainPort;
 use std::test::Fail;
 
 // The start clause has the words 0 to 4, and each copy as many; the fourth copy has those of the second.
 #[test]
 fn freed_words_are_used_again(rt: HostRuntime) -> Result<(), Fail> {
     let alloc = rt.alloc();
-    let Ok(lines) = SinkLines::new(alloc, 1, MemSink::new(alloc, 128, &[])?) else {
-        return Err("no memory".into());
-    };
-    let starts = one_start(alloc)?;
-    let Ok(mut port) = PlainPort::new(alloc, 3, starts, Vec::new(alloc), lines) else {
-        return Err("no memory".into());
-    };
+    let mut port = open_row(alloc)?;
     let read = reuse_words(alloc, &mut port)?;
     assert!(rt;
         read.as_slice() == [(5, 3, true), (15, 5, true), (10, 6, true), (20, 7, true)].as_slice()
     );
     let (end, sink) = port.into_lines().finish();
-    assert_eq!(rt; end, Ok(()));
+    assert!(rt; end == Ok(()));
     assert!(rt;
         sink.bytes() == b"1 2 3 0\n1 2 3 0\n1 2 3 0\nd 1 2 3 0\n1 2 3 0\n1 2 3 0\n".as_slice()
     );

@@ -93,24 +93,6 @@ pub(crate) fn run_in(
     }
 }
 
-/// The same in a small room.
-fn run_on(
-    alloc: Global,
-    problem: Problem,
-    conflicts: u64,
-) -> Result<(End, Counts, MemSink<'static>), Fail>
-    requires { 1 ≤ conflicts }
-{
-    run_in(alloc, problem, conflicts, ROOM)
-}
-
-/// Runs a ring on the four clauses.
-fn run_on_four(alloc: Global, conflicts: u64) -> Result<(End, Counts, MemSink<'static>), Fail>
-    requires { 1 ≤ conflicts }
-{
-    run_on(alloc, four_clauses(alloc)?, conflicts)
-}
-
 /// The counts of a ring alone, which offers to nobody.
 pub(crate) fn counted(learned: u64, exported: u64) -> Counts {
     Counts {
@@ -121,22 +103,89 @@ pub(crate) fn counted(learned: u64, exported: u64) -> Counts {
     }
 }
 
+/// How a run ended, without what it found.
+#[derive(Clone, Copy, PartialEq, Eq)]
+pub(crate) enum Kind {
+    Sat,
+    Refuted,
+    Spent,
+    Stopped,
+    NoHole,
+    ProofFault,
+    Memory,
+}
+
+pub(crate) fn kind_of(end: &End) -> Kind {
+    match end {
+        End::Sat(_) => Kind::Sat,
+        End::Refuted => Kind::Refuted,
+        End::Spent => Kind::Spent,
+        End::Stopped(_) => Kind::Stopped,
+        End::NoHole(_) => Kind::NoHole,
+        End::ProofFault => Kind::ProofFault,
+        End::Memory => Kind::Memory,
+    }
+}
+
+/// What a run is to come to.
+#[derive(Clone, Copy)]
+struct Wanted<'a> {
+    kind: Kind,
+    counts: Counts,
+    /// Its proof.
+    text: &'a [u8],
+    /// Literals that its model makes true, one of each variable that counts.
+    lits: &'a [Lit],
+    /// How many variables its model has.
+    vars: usize,
+}
+
+/// Whether the end has a model on so many variables that makes the literals true, or none where none is wanted.
+fn has_model(end: &End, lits: &[Lit], vars: usize) -> bool {
+    let End::Sat(model) = end else {
+        return vars == 0;
+    };
+    for lit in lits {
+        if !model.truth_of_lit(*lit) {
+            return false;
+        }
+    }
+    model.len() == vars
+}
+
+/// Whether a run on a problem comes to this.
+fn comes_to(alloc: Global, problem: Problem, conflicts: u64, wanted: &Wanted) -> Result<bool, Fail>
+    requires { 1 ≤ conflicts }
+{
+    let (end, counts, sink) = run_in(alloc, problem, conflicts, ROOM)?;
+    let ended = kind_of(&end) == wanted.kind && has_model(&end, wanted.lits, wanted.vars);
+    Ok(ended && counts == wanted.counts && sink.bytes() == wanted.text)
+}
+
 // 2 false makes 1 and its negation true: the lemma is 2. With it the second and the last clause oppose each other.
 #[test]
 fn refutes_four_clauses(rt: HostRuntime) -> Result<(), Fail> {
-    let (end, counts, sink) = run_on_four(rt.alloc(), 2)?;
-    assert!(rt; matches!(end, End::Refuted));
-    assert_eq!(rt; counts, counted(1, 0));
-    assert!(rt; sink.bytes() == b"2 0\n0\n".as_slice());
+    let wanted = Wanted {
+        kind: Kind::Refuted,
+        counts: counted(1, 0),
+        text: b"2 0\n0\n",
+        lits: &[],
+        vars: 0,
+    };
+    assert!(rt; comes_to(rt.alloc(), four_clauses(rt.alloc())?, 2, &wanted)?);
     Ok(())
 }
 
 #[test]
 fn stops_at_its_limit(rt: HostRuntime) -> Result<(), Fail> {
-    let (end, counts, sink) = run_on_four(rt.alloc(), 1)?;
-    assert!(rt; matches!(end, End::Spent));
-    assert_eq!(rt; counts, counted(1, 0));
-    assert!(rt; sink.bytes() == b"2 0\n".as_slice());
+    let wanted = Wanted {
+        kind: Kind::Spent,
+        counts: counted(1, 0),
+        text: b"2 0\n",
+        lits: &[],
+        vars: 0,
+    };
+    assert!(rt; comes_to(rt.alloc(), four_clauses(rt.alloc())?, 1, &wanted)?);
     Ok(())
 }
 
@@ -146,50 +195,54 @@ fn tells_that_its_proof_failed(rt: HostRuntime) -> Result<(), Fail> {
     let problem = four_clauses(alloc)?;
     let lines = CountedLines::new(problem.formula.clauses().len() as u64, 1);
     let (end, counts, _) = run_over(alloc, problem, 2, lines)?;
-    assert!(rt; matches!(end, End::ProofFault));
-    assert_eq!(rt; counts, counted(0, 0));
+    assert!(rt; kind_of(&end) == Kind::ProofFault);
+    assert!(rt; counts == counted(0, 0));
     Ok(())
 }
 
 // The literals that the unit makes true get lines, and it gets none.
 #[test]
 fn finds_a_model(rt: HostRuntime) -> Result<(), Fail> {
-    let alloc = rt.alloc();
-    let (end, counts, sink) = run_on(alloc, three_clauses(alloc)?, 1)?;
-    let End::Sat(model) = end else {
-        return Err(Fail::from("no model"));
+    let lits = [
+        Lit::new(1, false),
+        Lit::new(2, true),
+        Lit::new(3, false),
+        Lit::new(4, true),
+    ];
+    let wanted = Wanted {
+        kind: Kind::Sat,
+        counts: counted(0, 0),
+        text: b"1 0\n3 0\n",
+        lits: &lits,
+        vars: 4,
     };
-    assert_eq!(rt; model.len(), 4);
-    for (var, value) in [(1, true), (2, false), (3, true), (4, false)] {
-        assert_eq!(rt; model.truth_of_lit(Lit::new(var, false)), value);
-    }
-    assert_eq!(rt; counts, counted(0, 0));
-    assert!(rt; sink.bytes() == b"1 0\n3 0\n".as_slice());
+    assert!(rt; comes_to(rt.alloc(), three_clauses(rt.alloc())?, 1, &wanted)?);
     Ok(())
 }
 
 // 3 and 2 are decided false, and oppose the clauses: the lemma makes 2 true where 3 is false, and 1 is decided, as it was before the conflict.
 #[test]
 fn learns_a_clause(rt: HostRuntime) -> Result<(), Fail> {
-    let alloc = rt.alloc();
-    let (end, counts, sink) = run_on(alloc, two_clauses(alloc)?, 2)?;
-    let End::Sat(model) = end else {
-        return Err(Fail::from("no model"));
+    let wanted = Wanted {
+        kind: Kind::Sat,
+        counts: counted(1, 1),
+        text: b"2 3 0\n",
+        lits: &[Lit::new(2, false), Lit::new(3, true)],
+        vars: 3,
     };
-    for (var, value) in [(2, true), (3, false)] {
-        assert_eq!(rt; model.truth_of_lit(Lit::new(var, false)), value);
-    }
-    assert_eq!(rt; counts, counted(1, 1));
-    assert!(rt; sink.bytes() == b"2 3 0\n".as_slice());
+    assert!(rt; comes_to(rt.alloc(), two_clauses(rt.alloc())?, 2, &wanted)?);
     Ok(())
 }
 
 #[test]
 fn refutes_opposed_units(rt: HostRuntime) -> Result<(), Fail> {
-    let alloc = rt.alloc();
-    let (end, counts, sink) = run_on(alloc, two_units(alloc)?, 1)?;
-    assert!(rt; matches!(end, End::Refuted));
-    assert_eq!(rt; counts, counted(0, 0));
-    assert!(rt; sink.bytes() == b"0\n".as_slice());
+    let wanted = Wanted {
+        kind: Kind::Refuted,
+        counts: counted(0, 0),
+        text: b"0\n",
+        lits: &[],
+        vars: 0,
+    };
+    assert!(rt; comes_to(rt.alloc(), two_units(rt.alloc())?, 1, &wanted)?);
     Ok(())
 }

@@ -2,11 +2,11 @@
 ghost use Rattle.std.specs.Prelude.{◌≡◌, ◌≤◌, ◌<◌, ◌^◌, ◌++◌, [], None, All, IfOk, IsSome, OnOk};
 ghost use Rattle.sat_words.specs.declared.shared.Cref.{Cref};
 ghost use Rattle.ring_port.specs.PortState.{held_at, lits_at};
-ghost use Rattle.ring_trail.specs.TrailData.{value_of};
+ghost use Rattle.ring_trail.specs.TrailData.{HasGrown, decided, value_of};
 ghost use Rattle.analyze.specs.Lemma.{IsConclusion};
 ghost use Rattle.watch_prop.specs.WatchData.{attached};
 ghost use Rattle.watch_prop.specs.Propagation.{IsConflict, IsPropagated, IsQuiet};
-ghost use Rattle.ring_trials.specs.Stepping.{IsStepping};
+ghost use Rattle.ring_trials.specs.Stepping.{IsStepping, empty_trail};
 
 use analyze::{Analysis, Conclusion};
 use ring_port::Port;
@@ -32,6 +32,7 @@ impl Stepping {
         ensures vars { IfOk result (λ s. s.watches.vars ≡ (P.state port.now).vars) }
         ensures attached { IfOk result (λ s. attached s.watches ≡ []) }
         ensures bare { IfOk result (λ s. s.trail.steps ≡ []) }
+        ensures empty { IfOk result (λ s. s.trail ≡ empty_trail (P.state port.now).vars) }
     {
         let vars = port.vars();
         if vars > 1 << 30 {
@@ -51,6 +52,7 @@ impl Stepping {
         ensures same { P.state port.new ≡ P.state port.old }
         ensures stepping { OnOk result (IsStepping (P.state port.old) self.new.watches self.new.trail) }
         ensures attached { OnOk result (attached self.new.watches ≡ attached self.old.watches ++ clauses.now) }
+        ensures trail { OnOk result (self.new.trail ≡ self.old.trail) }
     {
         for clause in clauses {
             self.watches.attach(port, &self.trail, *clause)?;
@@ -64,6 +66,7 @@ impl Stepping {
         ensures same { P.state port.new ≡ P.state port.old }
         ensures stepping { OnOk result (IsStepping (P.state port.old) self.new.watches self.new.trail) }
         ensures attached { OnOk result (attached self.new.watches ≡ attached self.old.watches) }
+        ensures grown { OnOk result (HasGrown self.old.trail self.new.trail) }
         ensures propagated { IfOk result (IsPropagated self.new.watches (lits_at (P.state port.old)) self.new.trail) }
     {
         let outcome = self.watches.propagate(port, &mut self.trail)?;
@@ -78,6 +81,7 @@ impl Stepping {
         ensures same { P.state port.new ≡ P.state port.old }
         ensures stepping { OnOk result (IsStepping (P.state port.old) self.new.watches self.new.trail) }
         ensures attached { OnOk result (attached self.new.watches ≡ attached self.old.watches) }
+        ensures grown { OnOk result (HasGrown (decided self.old.trail lit) self.new.trail) }
         ensures propagated { IfOk result (IsPropagated self.new.watches (lits_at (P.state port.old)) self.new.trail) }
     {
         if lit.var() > self.trail.vars() {
@@ -125,6 +129,7 @@ pub fn quiet_start<P: Port>(alloc: Global, port: &mut P, clauses: &[Cref]) -> Re
     ensures same { P.state port.new ≡ P.state port.old }
     ensures stepping { IfOk result (λ s. IsStepping (P.state port.old) s.watches s.trail) }
     ensures attached { IfOk result (λ s. attached s.watches ≡ clauses.now) }
+    ensures grown { IfOk result (λ s. HasGrown (empty_trail (P.state port.old).vars) s.trail) }
     ensures quiet { IfOk result (λ s. IsQuiet s.watches (lits_at (P.state port.old)) s.trail) }
 {
     let mut stepping = Stepping::new(alloc, port)?;

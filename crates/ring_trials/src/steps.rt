@@ -65,12 +65,10 @@ fn learns_a_minimised_lemma(rt: HostRuntime) -> Result<(), Fail> {
     let alloc = rt.alloc();
     let (mut port, clauses) = open_counted(alloc, row_clauses(alloc)?)?;
     let walked = walk(alloc, &mut port, clauses.as_slice())?;
-    assert_eq!(rt; walked.two, Some(true));
-    assert_eq!(rt; walked.conclusion, Conclusion::Lemma { back: 1, glue: 1 });
-    let lits = walked.analysis.lits();
-    assert_eq!(rt; lits.len(), 2);
-    assert_eq!(rt; lits[0], Lit::new(4, true));
-    assert_eq!(rt; lits[1], Lit::new(1, true));
+    let lits = [Lit::new(4, true), Lit::new(1, true)];
+    assert!(rt; walked.two == Some(true));
+    assert!(rt; walked.conclusion == Conclusion::Lemma { back: 1, glue: 1 });
+    assert!(rt; walked.analysis.lits() == lits.as_slice());
     Ok(())
 }
 
@@ -116,11 +114,10 @@ fn climb(alloc: Global, problem: Problem) -> Result<Climbed, Fail> {
 // that is true, which stands beside its watch. So no clause is read.
 #[test]
 fn propagates_without_a_load(rt: HostRuntime) -> Result<(), Fail> {
-    let climbed = climb(rt.alloc(), ladder_clauses(rt.alloc())?)?;
-    assert_eq!(rt; climbed.stepping.value(2), Some(true));
-    assert_eq!(rt; climbed.stepping.value(3), Some(true));
-    assert_eq!(rt; climbed.stepping.value(4), Some(true));
-    assert_eq!(rt; climbed.stepping.value(6), None);
-    assert_eq!(rt; climbed.loads, 0);
+    let Climbed { loads, stepping } = climb(rt.alloc(), ladder_clauses(rt.alloc())?)?;
+    let forced = [stepping.value(2), stepping.value(3), stepping.value(4)];
+    assert!(rt; forced == [Some(true), Some(true), Some(true)]);
+    assert!(rt; stepping.value(6).is_none());
+    assert!(rt; loads == 0);
     Ok(())
 }

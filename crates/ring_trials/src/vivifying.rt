@@ -1,7 +1,7 @@
 //! A copy of a start clause that is vivified.
 ghost use Rattle.std.specs.Prelude.{◌≡◌, true, IfOk, OnOk};
 ghost use Rattle.ring_port.specs.Port.{is_usable};
-ghost use Rattle.ring_trials.specs.VivificationRow.{row_starts, IsRow};
+ghost use Rattle.ring_trials.specs.VivificationRow.{row_starts, IsRow, VivifiedCopy};
 
 use ring_port::{Port, Starts};
 use ring_trail::Trail;
@@ -26,7 +26,8 @@ pub fn two_starts(alloc: Global) -> Result<Starts, AllocError>
 /// Vivifies a copy of the second clause, of glue 2, where it and the first one are attached.
 pub fn vivify_copy<P: Port>(alloc: Global, port: &mut P) -> Result<Vivified, Fail>
     requires { IsRow (P.state port.old) }
-    ensures { OnOk result (is_usable (P.state port.new).refused ≡ true) }
+    ensures usable { OnOk result (is_usable (P.state port.new).refused ≡ true) }
+    ensures vivified { IfOk result (VivifiedCopy (P.state port.old) (P.state port.new)) }
 {
     let lits = [Lit::new(1, false), Lit::new(2, false), Lit::new(3, false)];
     let Ok(copy) = port.derive(&lits, 2) else {

@@ -1,21 +1,19 @@
-use Rattle.std.proofs.Common.{◌≡◌, ◌∙◌, ◌≤◌, ◌^◌, sym, ap, subst, ℕ, refl}
+use Rattle.std.proofs.Common.{◌∙◌, ◌≤◌, ◌^◌, sym, ap, subst, ℕ}
 use Rattle.ring_port.specs.PortState.{PortState}
 use Rattle.ring_trials.proofs.beginning.begin.Goals as goal
 
 pub returns-clause-job : goal.returns-clause-job
 returns-clause-job g c =
     let made = c.in_ok-port.ensures.made in
-    let vars = c.vars-vars.ensures ∙ sym (ap (λ (s : PortState). s.vars) made) in (
-      record {
-        small = subst (λ (n : ℕ). n ≤ 2 ^ 30) (sym vars) c.in_ok-port.ensures.small;
-        ring = sym (ap (λ (s : PortState). s.ring) made);
-        rings = sym (ap (λ (s : PortState). s.rings) made);
-        vars = vars;
-        start = c.from_vec-start.ensures ∙ c.in_ok-start.ensures;
-        some = c.requires.some;
-      },
-      refl,
-    )
+    let vars = c.vars-vars.ensures ∙ sym (ap (λ (s : PortState). s.vars) made) in
+    record {
+      small = subst (λ (n : ℕ). n ≤ 2 ^ 30) (sym vars) c.in_ok-port.ensures.small;
+      ring = sym (ap (λ (s : PortState). s.ring) made);
+      rings = sym (ap (λ (s : PortState). s.rings) made);
+      vars = vars;
+      start = c.from_vec-start.ensures ∙ c.in_ok-start.ensures;
+      some = c.requires.some;
+    }
 
 pub returns-clause-untouched : goal.returns-clause-untouched
 returns-clause-untouched g c =

@@ -1,4 +1,4 @@
-use Rattle.std.proofs.Common.{◌≡◌, ◌∙◌, ◌≤◌, ◌^◌, ℕ, List, [], All, refl, sym, ap, subst, arith}
+use Rattle.std.proofs.Common.{◌∙◌, ◌≤◌, ◌^◌, ℕ, List, [], All, sym, ap, subst, arith}
 use Rattle.sat_words.specs.Literal.{Literal, IsOn}
 use Rattle.ring_port.specs.PortState.{PortState}
 use Rattle.ring_port.specs.PlainPort.{CanOpen, starts_of, begun_with}

@@ -1,4 +1,4 @@
-use Rattle.std.proofs.Common.{◌≡◌, ◌<◌, IsSome, length, sym, subst, arith}
+use Rattle.std.proofs.Common.{◌<◌, IsSome, length, sym, subst, arith}
 use Rattle.ring_port.specs.PortState.{PortState, held_at, lits_at}
 use Rattle.ring_trials.proofs.reusing.read_copy.Goals as goal
 

@@ -1,10 +1,10 @@
-use Rattle.std.proofs.Common.{◌∙◌, List, Contains, sym, ap, subst}
+use Rattle.std.proofs.Common.{◌≡◌, ◌∙◌, ◌++◌, ◌∷◌, [], List, Contains, sym, ap, subst, rules}
 use Rattle.sat_words.specs.declared.shared.Cref.{Cref}
 use Rattle.ring_port.specs.PortState.{PortState, lits_at}
 use Rattle.ring_trail.specs.TrailData.{TrailData}
 use Rattle.watch_prop.specs.WatchData.{attached}
 use Rattle.watch_prop.specs.Watched.{Watched}
-use Rattle.ring_trials.proofs.VivificationRow.{copy_follows, copy_is_part, lits_are, fresh_trail, last_in}
+use Rattle.ring_trials.proofs.VivificationRow.{copy_follows, copy_is_part, lits_are, fresh_trail, last_in, vivified_copy}
 use Rattle.ring_trials.proofs.vivifying.vivify_copy.Goals as goal
 
 pub derive-requires-clause-rup : goal.derive-requires-clause-rup
@@ -23,3 +23,12 @@ propagate-requires-clause-watched g c =
 
 pub vivify-requires-clause-member : goal.vivify-requires-clause-member
 vivify-requires-clause-member g c = subst (λ (cs : List Cref). Contains cs c.in-Ok.copy) (sym (c.propagate.ensures.attached ∙ c.in_ok-attach-2.ensures.attached)) (last_in (attached c.attach.new.self) c.in-Ok.copy)
+
+pub returns-in-Ok-vivify-clause-vivified : goal.returns-in-Ok-vivify-clause-vivified
+returns-in-Ok-vivify-clause-vivified g c =
+    let bare : c.propagate.new.trail.steps ≡ [] = c.is_empty.ensures.0 (search rules) in
+    vivified_copy (g.P.Port.state c.args.port.now) (g.P.Port.state c.derive.new.self) (g.P.Port.state c.propagate.new.port) (g.P.Port.state c.vivify.new.port) c.propagate.new.self c.vivify.new.watches c.propagate.new.trail.steps _ c.in-Ok.copy c.in-Ok-vivify.left
+    (lits_are c.new.result c.new-2.result c.new-3.result c.new.ensures c.new-2.ensures c.new-3.ensures) c.in-Ok.ensures.derived
+    (c.propagate.ensures.same ∙ c.attach-2.ensures.same ∙ c.attach.ensures.same)
+    (c.propagate.ensures.attached ∙ c.in_ok-attach-2.ensures.attached ∙ ap (λ (cs : List Cref). cs ++ c.in-Ok.copy ∷ []) (c.in_ok-attach.ensures.attached ∙ ap (λ (cs : List Cref). cs ++ record { address = 0 } ∷ []) c.in_ok-watches.ensures.none))
+    bare c.in-Ok-vivify.ensures.vivified

@@ -1,4 +1,3 @@
-use Rattle.std.proofs.Common.{◌∙◌}
 use Rattle.ring_trials.proofs.SteppingLemmas.{begun}
 use Rattle.ring_trials.proofs.stepping.Stepping.new.Goals as goal
 

@@ -1,4 +1,6 @@
 mod Burying
+mod Counting
+mod Giving
 pub mod Learning
 mod Listing
 pub mod Playing

@@ -1,5 +1,5 @@
 //! Rings that learn, put what they learned into a cell, delete it, and list a unit.
-ghost use Rattle.std.specs.Prelude.{◌≡◌, ◌≤◌, ◌<◌, ◌+◌, ℕ, ◌∷◌, [], true, map, IfSome};
+ghost use Rattle.std.specs.Prelude.{◌≡◌, ◌≢◌, ◌≤◌, ◌<◌, ◌+◌, ℕ, ◌∷◌, [], true, map, IfSome, IfNone, MatchBool, MatchOption, length};
 ghost use Rattle.std.specs.List.{list_any};
 ghost use Rattle.sat_words.specs.Clause.{same_set};
 ghost use Rattle.rup_model.specs.Journal.{added};
@@ -14,6 +14,7 @@ ghost use Rattle.rup_model.specs.declared.journal.Entry.TheVariants.{Add};
 ghost use Rattle.rup_model.specs.Opening.{IsLong};
 ghost use Rattle.share_core.specs.Events.{made_part, opened_part};
 ghost use Rattle.share_rule.specs.Views.{only};
+ghost use Rattle.unit_trials.specs.Doings.{WroteNone, Buried, NotBuried, ListedOne, ReadOne};
 ghost use Rattle.unit_trials.specs.Samples.{IsBeginner, IsLearner, IsBuilder, IsPairHolder, three};
 
 use clause_cell::{head_word, lit_word};
@@ -43,6 +44,7 @@ pub fn learn<H: Wait, S: Sink>(
     ensures ring { IsAlone table.now ring.new.pass ring.new.ring }
     ensures builder { IfSome result (λ x. IsBuilder table.now ring.new.pass ring.new.ring x.0.address x.1 lits.now) }
     ensures part { IfSome result (λ x. (i : ℕ) × ((only ring.new.pass.me.0).core ≡ made_part (record { address = x.0.address; number = x.1; lits = lits.now }) i (Add (record { ring = ring.old.ring; number = x.1; lits = lits.now; kind = Learn })) (only ring.old.pass.me.0).core)) }
+    ensures none { IfNone result (WroteNone ring.old.pass.me.0 ring.new.pass.me.0) }
     ensures same { (ring.new.ring ≡ ring.old.ring) × (ring.new.pass.me.0.opening ≡ ring.old.pass.me.0.opening) }
 {
     let mut turn = take_turn(rt, alloc, table, &mut ring.pass, ring.ring);
@@ -87,7 +89,7 @@ fn read_pair<S: Sink>(
     requires ring { IsAlone table.now ring.old.pass ring.old.ring }
     requires held { 0 < times_at cell.address (only ring.old.pass.me.0).core.held }
     ensures ring { IsAlone table.now ring.new.pass ring.new.ring }
-    ensures lits { IfSome result (λ x. x ≡ (clause_of cell.address ring.old.pass.me.0).lits) }
+    ensures lits { MatchOption result (length (clause_of cell.address ring.old.pass.me.0).lits ≢ 2) (λ x. x ≡ (clause_of cell.address ring.old.pass.me.0).lits) }
     ensures same { (ring.new.ring ≡ ring.old.ring) × (ring.new.pass.me.0.parts ≡ ring.old.pass.me.0.parts) }
 {
     let head = read_head(table, &mut ring.pass, cell);
@@ -99,7 +101,8 @@ fn read_pair<S: Sink>(
     Some([first, second])
 }
 
-/// Gives the last count of a cell of two literals up, takes the turn, deletes its clause, and gives the turn back.
+/// Gives the last count of a cell of two literals up, takes the turn, deletes its clause, and gives the turn back. False where
+/// the clause is longer or shorter, others hold the cell, or the deletion is refused.
 pub fn give_up_and_bury<H: Wait, S: Sink>(
     rt: &H,
     alloc: Global,
@@ -111,6 +114,7 @@ pub fn give_up_and_bury<H: Wait, S: Sink>(
     requires held { 0 < times_at cell.address (only ring.old.pass.me.0).core.held }
     requires none { (only ring.old.pass.me.0).core.waiting ≡ [] }
     ensures ring { IsAlone table.now ring.new.pass ring.new.ring }
+    ensures deleted { MatchBool result (Buried cell.address ring.old.pass.me.0 ring.new.pass.me.0) (NotBuried cell.address ring.old.pass.me.0 ring.new.pass.me.0) }
     ensures same { (ring.new.ring ≡ ring.old.ring) × ((only ring.new.pass.me.0).core.seen ≡ (only ring.old.pass.me.0).core.seen) }
 {
     let Some(lits) = read_pair(table, ring, cell) else {
@@ -145,6 +149,7 @@ pub fn learn_unit<H: Wait, S: Sink>(
     requires { IsLearner table.now ring.old.pass ring.old.ring (lit ∷ []) }
     ensures ring { IsAlone table.now ring.new.pass ring.new.ring }
     ensures part { IfSome result (λ n. (i : ℕ) × ((only ring.new.pass.me.0).core ≡ wrote_part i (Add (record { ring = ring.old.ring; number = n; lits = lit ∷ []; kind = Learn })) (only ring.old.pass.me.0).core)) }
+    ensures none { IfNone result (WroteNone ring.old.pass.me.0 ring.new.pass.me.0) }
     ensures same { (ring.new.ring ≡ ring.old.ring) × (ring.new.pass.me.0.opening ≡ ring.old.pass.me.0.opening) }
 {
     let mut turn = take_turn(rt, alloc, table, &mut ring.pass, ring.ring);
@@ -160,7 +165,7 @@ pub fn learn_unit<H: Wait, S: Sink>(
     }
 }
 
-/// Takes the turn, lists the unit where no unit is listed, and gives the turn back.
+/// Takes the turn, lists the unit where no unit is listed, and gives the turn back. False where one is listed, which it reads.
 pub fn list_first<H: Wait, S: Sink>(
     rt: &H,
     alloc: Global,
@@ -173,6 +178,7 @@ pub fn list_first<H: Wait, S: Sink>(
     requires none { (only ring.old.pass.me.0).core.seen ≡ [] }
     requires on { InVars table.now.layout (lit ∷ []) }
     ensures ring { IsAlone table.now ring.new.pass ring.new.ring }
+    ensures listed { MatchBool result (ListedOne lit ring.old.pass.me.0 ring.new.pass.me.0) (ReadOne ring.old.pass.me.0 ring.new.pass.me.0) }
     ensures same { ring.new.ring ≡ ring.old.ring }
 {
     let turn = take_turn(rt, alloc, table, &mut ring.pass, ring.ring);

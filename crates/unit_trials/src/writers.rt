@@ -1,10 +1,14 @@
 //! Rings that take the turn of one book again and again, and write a unit each time.
-ghost use Rattle.std.specs.Prelude.{◌≡◌, ◌≤◌, ◌<◌, ◌-◌, ◌^◌, All, IfOk, OnOk, fold, length, max, min, sum_by, ℕ, slice_index_or, false, []};
+ghost use Rattle.std.specs.Prelude.{◌≡◌, ◌≤◌, ◌<◌, ◌+◌, ◌-◌, ◌^◌, All, IfOk, OnOk, fold, length, max, min, sum_by, ℕ, slice_index_or, false, [], MatchOption, nat_lt};
+ghost use Rattle.rup_model.specs.Basics.{one_if};
 ghost use Rattle.io_edge.specs.Paths.{IsEmptyWhereTold};
 ghost use Rattle.share_rule.specs.declared.Layout.{Layout};
 ghost use Rattle.share_rule.specs.Books.{HasLog};
 ghost use Rattle.log_book.specs.Books.{account_of, origin_of, IsLogOf};
+ghost use Rattle.share_core.specs.Events.{wrote_part};
 ghost use Rattle.share_core.specs.State.{times_at};
+ghost use Rattle.share_rule.specs.Views.{only};
+ghost use Rattle.unit_trials.specs.Doings.{GaveTurn, HasWritten, unit_line};
 ghost use Rattle.share_rule.specs.FirstWords.{starts_at};
 ghost use Rattle.share_rule.specs.Passes.{IsPassOf};
 ghost use Rattle.sample_table.specs.Samples.{IsFirst, IsGathered};
@@ -73,6 +77,8 @@ fn write_unit<H: Wait, S: Sink>(
 ) -> Option<u64>
     requires { IsWriter table.now ring.old.pass ring.old.ring lit }
     ensures writer { IsWriter table.now ring.new.pass ring.new.ring lit }
+    ensures part { MatchOption result ((only ring.new.pass.me.0).core ≡ (only ring.old.pass.me.0).core) (λ n. (i : ℕ) × ((only ring.new.pass.me.0).core ≡ wrote_part i (unit_line ring.old.ring lit n) (only ring.old.pass.me.0).core)) }
+    ensures gave { GaveTurn ring.new.pass.me.0 }
     ensures same { ring.new.ring ≡ ring.old.ring }
 {
     let mut turn = take_turn(rt, alloc, table, &mut ring.pass, ring.ring);
@@ -101,6 +107,21 @@ pub struct Writer<S: Sink> {
     pub sum: u64,
 }
 
+/// Notes the number of a line.
+fn note<S: Sink>(writer: &mut Writer<S>, number: u64)
+    ensures written { writer.new.written ≡ min (writer.old.written + one_if (nat_lt writer.old.last number)) (2 ^ 64 - 1) }
+    ensures last { writer.new.last ≡ number }
+    ensures sum { writer.new.sum ≡ min (writer.old.sum + number) (2 ^ 64 - 1) }
+    ensures same { writer.new.ring ≡ writer.old.ring }
+{
+    let written = writer.written;
+    if number > writer.last {
+        writer.written = written.saturating_add(1);
+    }
+    writer.last = number;
+    writer.sum = writer.sum.saturating_add(number);
+}
+
 /// Writes the unit 2 so often.
 fn write_often<H: Wait, S: Sink>(
     rt: &H,
@@ -111,16 +132,13 @@ fn write_often<H: Wait, S: Sink>(
 )
     requires { IsWriter table.now writer.old.ring.pass writer.old.ring.ring (plus 2) }
     ensures writer { IsWriter table.now writer.new.ring.pass writer.new.ring.ring (plus 2) }
+    ensures told { HasWritten (plus 2) times writer.old writer.new }
     ensures same { writer.new.ring.ring ≡ writer.old.ring.ring }
 {
     for _ in 0..times {
         let given = write_unit(rt, alloc, table, &mut writer.ring, Lit::new(2, false));
         if let Some(number) = given {
-            if number > writer.last {
-                writer.written = writer.written.saturating_add(1);
-            }
-            writer.last = number;
-            writer.sum = writer.sum.saturating_add(number);
+            note(writer, number);
         }
     }
 }
@@ -166,6 +184,7 @@ pub fn write_all<S: Sink + Send, R: Threads + Wait + Sync>(
 )
     requires { All (λ w. IsWriter table.now w.ring.pass w.ring.ring (plus 2)) writers.old }
     ensures each { All (λ w. IsWriter table.now w.ring.pass w.ring.ring (plus 2)) writers.new }
+    ensures told { (i : ℕ) (d : Writer S _) → i < length writers.old → HasWritten (plus 2) times (slice_index_or writers.old i d) (slice_index_or writers.new i d) }
     ensures numbers { (i : ℕ) (d : Writer S _) → i < length writers.old → (slice_index_or writers.new i d).ring.ring ≡ (slice_index_or writers.old i d).ring.ring }
 {
     thread::for_each_mut(

@@ -4,6 +4,9 @@
 //! `gimsatul` of `top_call` is the whole of it, over any files and streams; `main` gives it the real ones.
 #![tactic(auto)]
 
+ghost use Rattle.std.specs.Prelude.{IfErr};
+ghost use Rattle.top_call.specs.Ends.{IsWordsEnd};
+
 #[cfg(test)]
 mod tests;
 #[cfg(test)]
@@ -21,8 +24,10 @@ use std::env;
 use std::process::ExitCode;
 use top_call::{End, gimsatul, put_message};
 
-/// The arguments without the program's name.
-fn words_of(rt: &HostRuntime) -> Result<Vec<String>, End> {
+/// The arguments without the program's name; where they cannot be told, the call ends as where words are refused, or memory ran out.
+fn words_of(rt: &HostRuntime) -> Result<Vec<String>, End>
+    ensures { IfErr result IsWordsEnd }
+{
     let args = match env::args(rt) {
         Ok(args) => args,
         Err(error) => return Err(End::of_arguments(error.kind())),

@@ -1,7 +1,7 @@
 -- The places whose scans wait for an earlier place.
 use Rattle.std.proofs.Common.{◌≡◌, ℕ, suc, ◌+◌, ◌-◌, ◌*◌, ◌<◌, ◌≤◌, ◌⊎◌, Bool, false, List, [], ◌∷◌, ◌++◌, length, arith}
 use Rattle.std.proofs.Math.Nat.{suc-mul}
-use Rattle.ring_trail.specs.declared.step.Step.{Step}
+use Rattle.ring_trail.specs.declared.step.TrailStep.{TrailStep}
 use Rattle.ring_trail.specs.TrailData.{level_at}
 use Rattle.ring_trail.specs.Reasoned.{Held}
 use Rattle.analyze.specs.Marks.{marked}
@@ -11,7 +11,7 @@ use Rattle.analyze.specs.declared.minimise.Verdict.TheVariants.{Unknown}
 use Rattle.analyze.specs.declared.minimise.Frame.{Frame}
 
 -- the root, or a place without a mark: it has no verdict, and the first literals of its reason are settled
-pub record IsFrame (held : Held) (steps : List Step) (ms : List Bool) (vs : List Verdict) (root : ℕ) (f : Frame) : Type 0 where
+pub record IsFrame (held : Held) (steps : List TrailStep) (ms : List Bool) (vs : List Verdict) (root : ℕ) (f : Frame) : Type 0 where
   pub above : 0 < level_at steps f.place
   pub own : (f.place ≡ root) ⊎ (marked ms f.place ≡ false)
   pub unknown : verdict_at vs f.place ≡ Unknown

@@ -6,7 +6,7 @@ use Rattle.sat_words.specs.Literal.{Literal, opposite, same}
 use Rattle.sat_words.specs.Clause.{has}
 use Rattle.sat_words.proofs.Members.{same-true}
 use Rattle.ring_port.specs.PortState.{PortState}
-use Rattle.ring_trail.specs.declared.step.Step.{Step}
+use Rattle.ring_trail.specs.declared.step.TrailStep.{TrailStep}
 use Rattle.ring_trail.specs.TrailData.{TrailData, IsTrail, FalseBefore, IsFalseClause, lit_at, level_at, var_at, value_of, cut_back}
 use Rattle.ring_trail.specs.Reasoned.{ForcesAt}
 use Rattle.ring_trail.specs.Closed.{TrueWithin, IsClosedClause, IsClosed}
@@ -55,9 +55,9 @@ module _ (s : PortState) (t : TrailData) (conflict lits : List Literal) (back gl
 
   -- going back leaves the first literal without a value
   pub first_open : value_of (cut_back t back).steps i.first.var ≡ None
-  first_open = ap (option_map (λ (x : Step). not x.lit.neg)) (step_of-no_place (cut_back t back).steps i.first.var (λ p lt e.
+  first_open = ap (option_map (λ (x : TrailStep). not x.lit.neg)) (step_of-no_place (cut_back t back).steps i.first.var (λ p lt e.
       let o = back-only t back p shape lt in
-      let var : var_at t.steps p ≡ i.first.var = sym (ap (λ (x : Step). x.lit.var) o.2) ∙ e in
+      let var : var_at t.steps p ≡ i.first.var = sym (ap (λ (x : TrailStep). x.lit.var) o.2) ∙ e in
       let level = level_of_lit-at t i.first p shape (record { in_range = o.0; var = var }) in
       let a = i.asserting in
       let b = back_lower in
@@ -76,7 +76,7 @@ module _ (s : PortState) (t : TrailData) (conflict lits : List Literal) (back gl
           let g = clause_level-above t.steps i.rest l r in
           let b = i.back_is in
           let k = back-kept t back f.place shape f.before (omega arith) in
-          record { place = f.place; before = k.0; false_there = ap (λ (x : Step). x.lit) k.1 ∙ f.false_there })
+          record { place = f.place; before = k.0; false_there = ap (λ (x : TrailStep). x.lit) k.1 ∙ f.false_there })
     ];
   }
 

@@ -11,7 +11,7 @@ use Rattle.std.proofs.lemmas.Map.Steps.{length-le_from_distinct_below}
 use Rattle.sat_words.specs.Literal.{Literal, opposite}
 use Rattle.sat_words.specs.Clause.{has}
 use Rattle.sat_words.specs.declared.shared.Cref.{Cref}
-use Rattle.ring_trail.specs.declared.step.Step.{Step}
+use Rattle.ring_trail.specs.declared.step.TrailStep.{TrailStep}
 use Rattle.ring_trail.specs.TrailData.{TrailData, IsTrail, lit_at, level_at, reason_at}
 use Rattle.ring_trail.specs.Reasoned.{Held, IsForced, IsSeen, IsDecision, IsReasoned}
 use Rattle.analyze.specs.MarksData.{MarksData, all_blank, with_mark}
@@ -26,7 +26,7 @@ use Rattle.analyze.proofs.Frames.{IsFrame}
 use Rattle.analyze.proofs.Marking.{member_push, or_false, has-append}
 
 -- the place's reason is one clause
-pub one_reason : (held : Held) (steps : List Step) (p : ℕ) (a : Cref) (c d : List Literal) → IsReasonOf held steps p c → reason_at steps p ≡ Some a → held a.address ≡ Some d → c ≡ d
+pub one_reason : (held : Held) (steps : List TrailStep) (p : ℕ) (a : Cref) (c d : List Literal) → IsReasonOf held steps p c → reason_at steps p ≡ Some a → held a.address ≡ Some d → c ≡ d
 one_reason held steps p a c d r e h =
     let both : Some r.reason ≡ Some a = sym r.reason_is ∙ e in
     let at : r.reason ≡ a = cc in
@@ -34,7 +34,7 @@ one_reason held steps p a c d r e h =
     cc
 
 -- a place above level 0 that has a reason was forced by it
-pub forced_above : (held : Held) (seen : List Literal) (steps : List Step) (p : ℕ) (a : Cref) → IsReasoned held seen steps → p < length steps → 1 ≤ level_at steps p → reason_at steps p ≡ Some a → IsForced held steps p
+pub forced_above : (held : Held) (seen : List Literal) (steps : List TrailStep) (p : ℕ) (a : Cref) → IsReasoned held seen steps → p < length steps → 1 ≤ level_at steps p → reason_at steps p ≡ Some a → IsForced held steps p
 forced_above held seen steps p a r lt above e = by (r.caused p lt)
   where
     by : IsForced held steps p ⊎ (IsSeen seen steps p ⊎ IsDecision steps p) → IsForced held steps p
@@ -43,14 +43,14 @@ forced_above held seen steps p a r lt above e = by (r.caused p lt)
     by (inr (inr d)) = absurd (let none = d.none in let both : None ≡ Some a = sym none ∙ e in cc)
 
 -- what makes one of its literals false makes the clause false
-pub MakesFalse-one : (steps : List Step) (c : List Literal) (k : Literal) (q : ℕ) → has c k ≡ true → MakesFalse steps (k ∷ []) q → MakesFalse steps c q
+pub MakesFalse-one : (steps : List TrailStep) (c : List Literal) (k : Literal) (q : ℕ) → has c k ≡ true → MakesFalse steps (k ∷ []) q → MakesFalse steps c q
 MakesFalse-one steps c k q h f = record {
   in_range = f.in_range;
   above = f.above;
   has_opposite = subst (λ (x : Literal). has c x ≡ true) (sym (has-one k (opposite (lit_at steps q)) f.has_opposite)) h;
 }
 
-pub IsBlockedBy-one : (steps : List Step) (ms : List Bool) (vs : List Verdict) (p : ℕ) (c : List Literal) (k : Literal) → has c k ≡ true → IsBlockedBy steps ms vs p (k ∷ []) → IsBlockedBy steps ms vs p c
+pub IsBlockedBy-one : (steps : List TrailStep) (ms : List Bool) (vs : List Verdict) (p : ℕ) (c : List Literal) (k : Literal) → has c k ≡ true → IsBlockedBy steps ms vs p (k ∷ []) → IsBlockedBy steps ms vs p c
 IsBlockedBy-one steps ms vs p c k h b = record {
   place = b.place;
   before = b.before;
@@ -60,7 +60,7 @@ IsBlockedBy-one steps ms vs p c k h b = record {
 }
 
 -- one more literal is settled
-pub AllSettled-more : (steps : List Step) (ms : List Bool) (vs : List Verdict) (p : ℕ) (c : List Literal) (i : ℕ) (d : Literal) → i < length c
+pub AllSettled-more : (steps : List TrailStep) (ms : List Bool) (vs : List Verdict) (p : ℕ) (c : List Literal) (i : ℕ) (d : Literal) → i < length c
     → AllSettled steps ms vs p (take i c) → AllSettled steps ms vs p (get_or c i d ∷ []) → AllSettled steps ms vs p (take (i + 1) c)
 AllSettled-more steps ms vs p c i d h x y q lt f =
     let o : has (take i c ++ get_or c i d ∷ []) (opposite (lit_at steps q)) ≡ true = ap (λ (w : List Literal). has w (opposite (lit_at steps q))) (sym (take_more c i d h)) ∙ f.has_opposite in
@@ -69,18 +69,18 @@ AllSettled-more steps ms vs p c i d h x y q lt f =
       | inr new ↦ y q lt (record { in_range = f.in_range; above = f.above; has_opposite = new })
     ]
 
-pub IsScanned-more : (held : Held) (steps : List Step) (ms : List Bool) (vs : List Verdict) (p : ℕ) (a : Cref) (c : List Literal) (i : ℕ) (k : Literal) → reason_at steps p ≡ Some a → held a.address ≡ Some c → i < length c
+pub IsScanned-more : (held : Held) (steps : List TrailStep) (ms : List Bool) (vs : List Verdict) (p : ℕ) (a : Cref) (c : List Literal) (i : ℕ) (k : Literal) → reason_at steps p ≡ Some a → held a.address ≡ Some c → i < length c
     → get_or c i k ≡ k → IsScanned held steps ms vs p i → AllSettled steps ms vs p (k ∷ []) → IsScanned held steps ms vs p (i + 1)
 IsScanned-more held steps ms vs p a c i k e h lt is x y d r =
     let same = one_reason held steps p a d c r e h in
     subst (λ (w : List Literal). AllSettled steps ms vs p (take (i + 1) w)) (sym same)
     (AllSettled-more steps ms vs p c i k lt (x c (subst (λ (w : List Literal). IsReasonOf held steps p w) same r)) (subst (λ (w : Literal). AllSettled steps ms vs p (w ∷ [])) (sym is) y))
 
-pub IsScanned-none : (held : Held) (steps : List Step) (ms : List Bool) (vs : List Verdict) (p : ℕ) → IsScanned held steps ms vs p 0
+pub IsScanned-none : (held : Held) (steps : List TrailStep) (ms : List Bool) (vs : List Verdict) (p : ℕ) → IsScanned held steps ms vs p 0
 IsScanned-none held steps ms vs p c r q lt f = absurd (false≢true f.has_opposite)
 
 -- the whole reason is settled
-pub IsCleared-scanned : (held : Held) (steps : List Step) (ms : List Bool) (vs : List Verdict) (p : ℕ) (a : Cref) (c : List Literal) (i : ℕ) → reason_at steps p ≡ Some a → held a.address ≡ Some c → length c ≤ i
+pub IsCleared-scanned : (held : Held) (steps : List TrailStep) (ms : List Bool) (vs : List Verdict) (p : ℕ) (a : Cref) (c : List Literal) (i : ℕ) → reason_at steps p ≡ Some a → held a.address ≡ Some c → length c ≤ i
     → IsScanned held steps ms vs p i → IsCleared held steps ms vs p
 IsCleared-scanned held steps ms vs p a c i e h le x =
     let r : IsReasonOf held steps p c = record { reason = a; reason_is = e; held_is = h } in
@@ -95,7 +95,7 @@ module _ (ms : List Bool) (vs ws : List Verdict) (g : Grows vs ws) where
   IsSettled-grown q (inl y) = inl y
   IsSettled-grown q (inr e) = inr (g q (ap is_found e) ∙ e)
 
-  pub IsBlockedBy-grown : (steps : List Step) (p : ℕ) (c : List Literal) → IsBlockedBy steps ms vs p c → IsBlockedBy steps ms ws p c
+  pub IsBlockedBy-grown : (steps : List TrailStep) (p : ℕ) (c : List Literal) → IsBlockedBy steps ms vs p c → IsBlockedBy steps ms ws p c
   IsBlockedBy-grown steps p c b = record {
     place = b.place;
     before = b.before;
@@ -104,7 +104,7 @@ module _ (ms : List Bool) (vs ws : List Verdict) (g : Grows vs ws) where
     needed = g b.place (ap is_found b.needed) ∙ b.needed;
   }
 
-  module _ (held : Held) (steps : List Step) (p : ℕ) where
+  module _ (held : Held) (steps : List TrailStep) (p : ℕ) where
     pub IsScanned-grown : (n : ℕ) → IsScanned held steps ms vs p n → IsScanned held steps ms ws p n
     IsScanned-grown n x c r q lt f = IsSettled-grown q (x c r q lt f)
 
@@ -116,7 +116,7 @@ module _ (ms : List Bool) (vs ws : List Verdict) (g : Grows vs ws) where
     IsBlocked-grown (inr b) = inr (b.0, b.1, IsBlockedBy-grown steps p b.0 b.2)
 
 -- a verdict that follows is one
-pub found_Follows : (held : Held) (steps : List Step) (ms : List Bool) (vs : List Verdict) (p : ℕ) (v : Verdict) → Follows held steps ms vs p v → is_found v ≡ true
+pub found_Follows : (held : Held) (steps : List TrailStep) (ms : List Bool) (vs : List Verdict) (p : ℕ) (v : Verdict) → Follows held steps ms vs p v → is_found v ≡ true
 found_Follows held steps ms vs p Unknown f = absurd f
 found_Follows held steps ms vs p Removable f = refl
 found_Follows held steps ms vs p Needed f = refl

@@ -12,7 +12,7 @@ use Rattle.std.proofs.lemmas.Bool.{or_cases, or_left, or_right, false≢true, ca
 use Rattle.sat_words.specs.Literal.{Literal, same}
 use Rattle.sat_words.specs.Clause.{has}
 use Rattle.sat_words.proofs.Members.{same-true, same-refl}
-use Rattle.ring_trail.specs.declared.step.Step.{Step}
+use Rattle.ring_trail.specs.declared.step.TrailStep.{TrailStep}
 use Rattle.ring_trail.specs.TrailData.{TrailData, IsTrail, IsPlaceOf, FalseBefore, IsFalseClause, level_at}
 use Rattle.ring_trail.proofs.Shape.{step_at_place}
 use Rattle.analyze.specs.MarksData.{MarksData, all_blank, with_mark}
@@ -23,18 +23,18 @@ use Rattle.analyze.proofs.Walking.{open_counted, none_open_yet, makes_false}
 
 -- the level of a literal is that of its variable's place
 pub level_of_lit-at : (t : TrailData) (l : Literal) (p : ℕ) → IsTrail t → IsPlaceOf t.steps l.var p → level_of_lit t.steps l ≡ level_at t.steps p
-level_of_lit-at t l p shape i = ap (λ (o : Option Step). unwrap_or (option_map (λ (s : Step). s.level) o) 0) (step_at_place t l.var p shape i)
+level_of_lit-at t l p shape i = ap (λ (o : Option TrailStep). unwrap_or (option_map (λ (s : TrailStep). s.level) o) 0) (step_at_place t l.var p shape i)
 
 pub greatest-push : (ns : List ℕ) (n : ℕ) → greatest (ns ++ n ∷ []) ≡ max (greatest ns) n
 greatest-push [] n = omega arith
 greatest-push (k ∷ ns) n = let r = greatest-push ns n in omega arith
 
-pub clause_level-more : (steps : List Step) (c : List Literal) (i : ℕ) (d : Literal) → i < length c → clause_level steps (take (i + 1) c) ≡ max (clause_level steps (take i c)) (level_of_lit steps (get_or c i d))
+pub clause_level-more : (steps : List TrailStep) (c : List Literal) (i : ℕ) (d : Literal) → i < length c → clause_level steps (take (i + 1) c) ≡ max (clause_level steps (take i c)) (level_of_lit steps (get_or c i d))
 clause_level-more steps c i d h =
     ap (clause_level steps) (take_more c i d h) ∙ ap greatest (map-append (level_of_lit steps) (take i c) (get_or c i d ∷ []))
     ∙ greatest-push (levels_of steps (take i c)) (level_of_lit steps (get_or c i d))
 
-pub clause_level-above : (steps : List Step) (c : List Literal) (k : Literal) → has c k ≡ true → level_of_lit steps k ≤ clause_level steps c
+pub clause_level-above : (steps : List TrailStep) (c : List Literal) (k : Literal) → has c k ≡ true → level_of_lit steps k ≤ clause_level steps c
 clause_level-above steps [] k h = absurd (false≢true h)
 clause_level-above steps (l ∷ c) k h =
     elim (or_cases (same k l) (has c k) h) as (λ _. level_of_lit steps k ≤ clause_level steps (l ∷ c)) [
@@ -42,7 +42,7 @@ clause_level-above steps (l ∷ c) k h =
       | inr r ↦ (let s = clause_level-above steps c k r in omega arith)
     ]
 
-clause_level-attained : (steps : List Step) (c : List Literal) → 1 ≤ clause_level steps c → (k : Literal) × (has c k ≡ true) × (level_of_lit steps k ≡ clause_level steps c)
+clause_level-attained : (steps : List TrailStep) (c : List Literal) → 1 ≤ clause_level steps c → (k : Literal) × (has c k ≡ true) × (level_of_lit steps k ≡ clause_level steps c)
 clause_level-attained steps [] h = absurd (omega arith)
 clause_level-attained steps (l ∷ c) h =
     elim (cases_lt (level_of_lit steps l) (clause_level steps c)) as (λ _. (k : Literal) × (has (l ∷ c) k ≡ true) × (level_of_lit steps k ≡ clause_level steps (l ∷ c))) [
@@ -52,7 +52,7 @@ clause_level-attained steps (l ∷ c) h =
       | inr ge ↦ (l, or_left (same l l) (has c l) (same-refl l), omega arith)
     ]
 
-pub false_place : (steps : List Step) (n : ℕ) (k : Literal) (f : FalseBefore steps n k) → n ≤ length steps → IsPlaceOf steps k.var f.place
+pub false_place : (steps : List TrailStep) (n : ℕ) (k : Literal) (f : FalseBefore steps n k) → n ≤ length steps → IsPlaceOf steps k.var f.place
 false_place steps n k f le = record { in_range = (let b = f.before in omega arith); var = ap (λ (l : Literal). l.var) f.false_there }
 
 -- the literals of the conflict can be marked
@@ -142,14 +142,14 @@ pub false_var_in_range : (t : TrailData) (k : Literal) → IsTrail t → FalseBe
 false_var_in_range t k shape f = (let h = shape.high f.place f.before in let e = ap (λ (l : Literal). l.var) f.false_there in omega arith)
 
 -- a bound of each literal's level bounds the clause's
-pub levels_within : (steps : List Step) (c : List Literal) (n : ℕ) → ((l : Literal) → has c l ≡ true → level_of_lit steps l ≤ n) → greatest (levels_of steps c) ≤ n
+pub levels_within : (steps : List TrailStep) (c : List Literal) (n : ℕ) → ((l : Literal) → has c l ≡ true → level_of_lit steps l ≤ n) → greatest (levels_of steps c) ≤ n
 levels_within steps [] n h = omega arith
 levels_within steps (l ∷ c) n h =
     let a = h l (or_left (same l l) (has c l) (same-refl l)) in
     let r = levels_within steps c n (λ k y. h k (or_right (same k l) (has c k) y)) in
     omega arith
 
-pub levels_lower : (steps : List Step) (c : List Literal) (n : ℕ) → 0 < n → ((l : Literal) → has c l ≡ true → level_of_lit steps l < n) → greatest (levels_of steps c) < n
+pub levels_lower : (steps : List TrailStep) (c : List Literal) (n : ℕ) → 0 < n → ((l : Literal) → has c l ≡ true → level_of_lit steps l < n) → greatest (levels_of steps c) < n
 levels_lower steps [] n pos h = omega arith
 levels_lower steps (l ∷ c) n pos h =
     let a = h l (or_left (same l l) (has c l) (same-refl l)) in

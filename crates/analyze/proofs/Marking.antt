@@ -12,7 +12,7 @@ use Rattle.std.proofs.lemmas.Map.Steps.{length-le_from_distinct_below}
 use Rattle.sat_words.specs.Literal.{Literal, opposite, same}
 use Rattle.sat_words.specs.Clause.{has}
 use Rattle.sat_words.proofs.Members.{opposite-opposite}
-use Rattle.ring_trail.specs.declared.step.Step.{Step}
+use Rattle.ring_trail.specs.declared.step.TrailStep.{TrailStep}
 use Rattle.ring_trail.specs.TrailData.{TrailData, IsTrail, IsPlaceOf, FalseBefore, lit_at, level_at}
 use Rattle.analyze.specs.MarksData.{MarksData, all_blank, with_mark}
 use Rattle.analyze.specs.Walk.{MakesFalse}
@@ -20,7 +20,7 @@ use Rattle.analyze.specs.Marks.{marked, is_open, open_below, IsMarking, CanMark,
 use Rattle.analyze.proofs.Chains.{has-head, has-one}
 
 -- places that are open alike are counted alike
-pub open_below-alike : (steps : List Step) (m : ℕ) (ms more : List Bool) (n : ℕ) → ((p : ℕ) → p < n → is_open steps m more p ≡ is_open steps m ms p) → open_below steps m more n ≡ open_below steps m ms n
+pub open_below-alike : (steps : List TrailStep) (m : ℕ) (ms more : List Bool) (n : ℕ) → ((p : ℕ) → p < n → is_open steps m more p ≡ is_open steps m ms p) → open_below steps m more n ≡ open_below steps m ms n
 unfolding open_below
 open_below-alike steps m ms more zero f = refl
 open_below-alike steps m ms more (suc n) f =
@@ -35,7 +35,7 @@ pub marked-other : (ms : List Bool) (q p : ℕ) (b : Bool) → (p ≡ q → ⊥)
 marked-other ms q p b ne = get_or-set_other ms q p b false ne
 
 -- a new mark is counted where it is of the level
-pub open_below-set : (steps : List Step) (m : ℕ) (ms : List Bool) (q n : ℕ) → q < n → q < length ms → marked ms q ≡ false
+pub open_below-set : (steps : List TrailStep) (m : ℕ) (ms : List Bool) (q n : ℕ) → q < n → q < length ms → marked ms q ≡ false
     → open_below steps m (set ms q true) n ≡ open_below steps m ms n + cond (nat_eq (level_at steps q) m) 1 0
 unfolding open_below
 open_below-set steps m ms q zero h lt off = absurd (omega arith)
@@ -184,7 +184,7 @@ pub has-append : (c d : List Literal) (l : Literal) → has (c ++ d) l ≡ (has 
 has-append c d l = list_any-append (same l) c d
 
 -- one more literal of a clause
-pub HasMarked-push : (steps : List Step) (m : ℕ) (a b d : List Bool) (bound : ℕ) (c : List Literal) (l : Literal) (n k : ℕ)
+pub HasMarked-push : (steps : List TrailStep) (m : ℕ) (a b d : List Bool) (bound : ℕ) (c : List Literal) (l : Literal) (n k : ℕ)
     → HasMarked steps m a b bound c n → HasMarked steps m b d bound (l ∷ []) k → HasMarked steps m a d bound (c ++ l ∷ []) (n + k)
 HasMarked-push steps m a b d bound c l n k x y = record {
   kept = λ p h. y.kept p (x.kept p h);
@@ -202,13 +202,13 @@ HasMarked-push steps m a b d bound c l n k x y = record {
   count = (let e = x.count in let g = y.count in omega arith);
 }
 
-pub HasMarked-more : (steps : List Step) (m : ℕ) (a b d : List Bool) (bound : ℕ) (c : List Literal) (i n k : ℕ) (e : Literal) → i < length c
+pub HasMarked-more : (steps : List TrailStep) (m : ℕ) (a b d : List Bool) (bound : ℕ) (c : List Literal) (i n k : ℕ) (e : Literal) → i < length c
     → HasMarked steps m a b bound (take i c) n → HasMarked steps m b d bound (get_or c i e ∷ []) k → HasMarked steps m a d bound (take (i + 1) c) (n + k)
 HasMarked-more steps m a b d bound c i n k e h x y =
     subst (λ (xs : List Literal). HasMarked steps m a d bound xs (n + k)) (sym (take_more c i e h))
     (HasMarked-push steps m a b d bound (take i c) (get_or c i e) n k x y)
 
-pub HasMarked-none : (steps : List Step) (m : ℕ) (ms : List Bool) (bound : ℕ) (c : List Literal) → HasMarked steps m ms ms bound (take 0 c) 0
+pub HasMarked-none : (steps : List TrailStep) (m : ℕ) (ms : List Bool) (bound : ℕ) (c : List Literal) → HasMarked steps m ms ms bound (take 0 c) 0
 HasMarked-none steps m ms bound c = record {
   kept = λ p y. y;
   only = λ p y. inl y;

@@ -16,7 +16,7 @@ use Rattle.rup_model.proofs.Lists.{In, In_get_or, In_map, map_In, In_has, has_In
 use Rattle.rup_model.proofs.Counting.{In_member, member_In}
 use Rattle.ring_port.specs.PortState.{PortState, IsOn, known}
 use Rattle.ring_port.specs.Port.{IsClause}
-use Rattle.ring_trail.specs.declared.step.Step.{Step}
+use Rattle.ring_trail.specs.declared.step.TrailStep.{TrailStep}
 use Rattle.ring_trail.specs.TrailData.{TrailData, IsTrail, IsFalseClause, lit_at, level_at, var_at}
 use Rattle.ring_trail.specs.Reasoned.{IsReasoned}
 use Rattle.ring_port.proofs.Holdings.{All_In}
@@ -63,7 +63,7 @@ member_drop [] (suc n) p y = y
 member_drop (x ∷ xs) (suc n) p y = or_right (nat_eq p x) _ (member_drop xs n p y)
 
 -- with one more place that has a verdict if it is of a lower level, those listed so far have one
-pub found_more : (steps : List Step) (m i : ℕ) (ps : List ℕ) (vs ws : List Verdict) → i < length ps
+pub found_more : (steps : List TrailStep) (m i : ℕ) (ps : List ℕ) (vs ws : List Verdict) → i < length ps
     → ((p : ℕ) → is_member nat_eq (take i ps) p ≡ true → level_at steps p < m → is_known vs p ≡ true)
     → ((p : ℕ) → is_known vs p ≡ true → is_known ws p ≡ true) → (level_at steps (get_or ps i 0) < m → is_known ws (get_or ps i 0) ≡ true)
     → (p : ℕ) → is_member nat_eq (take (i + 1) ps) p ≡ true → level_at steps p < m → is_known ws p ≡ true

@@ -6,7 +6,7 @@ use Rattle.sat_words.specs.Clause.{has}
 use Rattle.rup_model.specs.Rup.{rup}
 use Rattle.ring_port.specs.PortState.{PortState, known}
 use Rattle.ring_port.proofs.Holdings.{seen_is_known}
-use Rattle.ring_trail.specs.declared.step.Step.{Step}
+use Rattle.ring_trail.specs.declared.step.TrailStep.{TrailStep}
 use Rattle.ring_trail.specs.TrailData.{TrailData, IsTrail, FalseBefore, IsFalseClause, lit_at, level_at}
 use Rattle.ring_trail.specs.Reasoned.{IsForced, IsSeen, IsDecision, IsReasoned}
 use Rattle.analyze.specs.Levels.{clause_level}
@@ -20,7 +20,7 @@ use Rattle.analyze.proofs.Judging.{one_reason, forced_above}
 use Rattle.analyze.proofs.LevelLemmas.{level_of_lit-at, clause_level-above, false_place}
 
 -- a place that has its cause among earlier places and what is given, if it is in R
-pub record IsUp (G : List (List Literal)) (steps : List Step) (A : List Literal) (R : ℕ → Bool) (p : ℕ) : Type 0 where
+pub record IsUp (G : List (List Literal)) (steps : List TrailStep) (A : List Literal) (R : ℕ → Bool) (p : ℕ) : Type 0 where
   pub clause : List Literal
   pub known : Contains G clause
   pub has_lit : has clause (lit_at steps p) ≡ true
@@ -28,7 +28,7 @@ pub record IsUp (G : List (List Literal)) (steps : List Step) (A : List Literal)
       ⊎ ((q : ℕ) × (q < p) × (lit_at steps q ≡ opposite k) × ((R q ≡ true) ⊎ (has A (lit_at steps q) ≡ true)))
 
 -- up the trail the places of R are derived one after another
-module _ (G : List (List Literal)) (steps : List Step) (A : List Literal) (R : ℕ → Bool)
+module _ (G : List (List Literal)) (steps : List TrailStep) (A : List Literal) (R : ℕ → Bool)
     (up : (p : ℕ) → p < length steps → R p ≡ true → IsUp G steps A R p)
     (base : (B : List Literal) → ((l : Literal) → has A l ≡ true → has B l ≡ true) → ((p : ℕ) → p < length steps → R p ≡ true → has B (lit_at steps p) ≡ true) → Refuted G B) where
   climb : (d j : ℕ) → j + d ≡ length steps → (B : List Literal) → ((l : Literal) → has A l ≡ true → has B l ≡ true)

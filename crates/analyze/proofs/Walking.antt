@@ -5,7 +5,7 @@ use Rattle.sat_words.specs.Literal.{Literal, opposite}
 use Rattle.sat_words.specs.Clause.{has}
 use Rattle.sat_words.proofs.Members.{opposite-opposite}
 use Rattle.sat_words.specs.declared.shared.Cref.{Cref}
-use Rattle.ring_trail.specs.declared.step.Step.{Step}
+use Rattle.ring_trail.specs.declared.step.TrailStep.{TrailStep}
 use Rattle.ring_trail.specs.TrailData.{TrailData, IsTrail, FalseBefore, lit_at, level_at, reason_at}
 use Rattle.ring_trail.specs.Reasoned.{Held, WasUnit, IsForced, IsSeen, IsDecision, IsReasoned}
 use Rattle.analyze.specs.MarksData.{MarksData}
@@ -13,7 +13,7 @@ use Rattle.analyze.specs.Walk.{MakesFalse, LeadsTo, IsWalkSet, IsReached}
 use Rattle.analyze.specs.Marks.{marked, is_open, open_below, IsMarking, CanMarkAll, HasMarked, IsWalked}
 
 -- a walk set stays one where fewer places lead on
-IsWalkSet-more : (held : Held) (steps : List Step) (m : ℕ) (c : List Literal) (i j : ℕ) (R : ℕ → Bool) → j ≤ i → IsWalkSet held steps m c j R → IsWalkSet held steps m c i R
+IsWalkSet-more : (held : Held) (steps : List TrailStep) (m : ℕ) (c : List Literal) (i j : ℕ) (R : ℕ → Bool) → j ≤ i → IsWalkSet held steps m c j R → IsWalkSet held steps m c i R
 IsWalkSet-more held steps m c i j R le w = record {
   starts = w.starts;
   goes_on = λ q p y l. w.goes_on q p y (record {
@@ -30,11 +30,11 @@ IsWalkSet-more held steps m c i j R le w = record {
 }
 
 -- what is reached stays so further down
-pub IsReached-on : (held : Held) (steps : List Step) (m : ℕ) (c : List Literal) (i j p : ℕ) → j ≤ i → IsReached held steps m c i p → IsReached held steps m c j p
+pub IsReached-on : (held : Held) (steps : List TrailStep) (m : ℕ) (c : List Literal) (i j p : ℕ) → j ≤ i → IsReached held steps m c i p → IsReached held steps m c j p
 IsReached-on held steps m c i j p le r R w = r R (IsWalkSet-more held steps m c i j R le w)
 
 -- a clause that forces a place or is false there: the literal that makes one of it false
-pub makes_false : (steps : List Step) (c : List Literal) (k : Literal) (p : ℕ) → p < length steps → 0 < level_at steps p → lit_at steps p ≡ opposite k → has c k ≡ true → MakesFalse steps c p
+pub makes_false : (steps : List TrailStep) (c : List Literal) (k : Literal) (p : ℕ) → p < length steps → 0 < level_at steps p → lit_at steps p ≡ opposite k → has c k ≡ true → MakesFalse steps c p
 makes_false steps c k p lt above e h = record {
   in_range = lt;
   above = above;
@@ -42,7 +42,7 @@ makes_false steps c k p lt above e h = record {
 }
 
 -- counting the open places
-pub none_open : (steps : List Step) (m : ℕ) (ms : List Bool) (n p : ℕ) → open_below steps m ms n ≡ 0 → p < n → is_open steps m ms p ≡ false
+pub none_open : (steps : List TrailStep) (m : ℕ) (ms : List Bool) (n p : ℕ) → open_below steps m ms n ≡ 0 → p < n → is_open steps m ms p ≡ false
 unfolding open_below
 none_open steps m ms zero p e h = absurd (omega arith)
 none_open steps m ms (suc n) p e h =
@@ -55,7 +55,7 @@ none_open steps m ms (suc n) p e h =
     by true q z = absurd (omega arith)
     by false q z = q
 
-pub some_open : (steps : List Step) (m : ℕ) (ms : List Bool) (n : ℕ) → 1 ≤ open_below steps m ms n → (q : ℕ) × (q < n) × (is_open steps m ms q ≡ true)
+pub some_open : (steps : List TrailStep) (m : ℕ) (ms : List Bool) (n : ℕ) → 1 ≤ open_below steps m ms n → (q : ℕ) × (q < n) × (is_open steps m ms q ≡ true)
 unfolding open_below
 some_open steps m ms zero h = absurd (omega arith)
 some_open steps m ms (suc n) h =
@@ -67,7 +67,7 @@ some_open steps m ms (suc n) h =
           (r.0, omega arith, r.2))
     ]
 
-pub open_below-le : (steps : List Step) (m : ℕ) (ms : List Bool) (n : ℕ) → open_below steps m ms n ≤ n
+pub open_below-le : (steps : List TrailStep) (m : ℕ) (ms : List Bool) (n : ℕ) → open_below steps m ms n ≤ n
 unfolding open_below
 open_below-le steps m ms zero = omega arith
 open_below-le steps m ms (suc n) =
@@ -79,17 +79,17 @@ open_below-le steps m ms (suc n) =
     by true = omega arith
     by false = omega arith
 
-open_below-more : (steps : List Step) (m : ℕ) (ms : List Bool) (u : ℕ) → marked ms u ≡ true → level_at steps u ≡ m → open_below steps m ms (suc u) ≡ open_below steps m ms u + 1
+open_below-more : (steps : List TrailStep) (m : ℕ) (ms : List Bool) (u : ℕ) → marked ms u ≡ true → level_at steps u ≡ m → open_below steps m ms (suc u) ≡ open_below steps m ms u + 1
 unfolding open_below
 open_below-more steps m ms u y e =
     let z = ap {B = ℕ} (λ (b : Bool). cond b 1 0) (and_from (marked ms u) (nat_eq (level_at steps u) m) y (eq-eqb _ _ e)) in
     omega (arith, z)
 
-open_below-skip : (steps : List Step) (m : ℕ) (ms : List Bool) (u : ℕ) → is_open steps m ms u ≡ false → open_below steps m ms (suc u) ≡ open_below steps m ms u
+open_below-skip : (steps : List TrailStep) (m : ℕ) (ms : List Bool) (u : ℕ) → is_open steps m ms u ≡ false → open_below steps m ms (suc u) ≡ open_below steps m ms u
 unfolding open_below
 open_below-skip steps m ms u f = let z = ap {B = ℕ} (λ (b : Bool). cond b 1 0) f in omega (arith, z)
 
-pub open_counted : (steps : List Step) (m : ℕ) (ms : List Bool) (n p : ℕ) → p < n → is_open steps m ms p ≡ true → 1 ≤ open_below steps m ms n
+pub open_counted : (steps : List TrailStep) (m : ℕ) (ms : List Bool) (n p : ℕ) → p < n → is_open steps m ms p ≡ true → 1 ≤ open_below steps m ms n
 unfolding open_below
 open_counted steps m ms zero p h y = absurd (omega arith)
 open_counted steps m ms (suc n) p h y =
@@ -98,7 +98,7 @@ open_counted steps m ms (suc n) p h y =
       | inr ne ↦ (let r = open_counted steps m ms n p (omega arith) y in omega (arith, r))
     ]
 
-pub none_open_yet : (steps : List Step) (m : ℕ) (ms : List Bool) (i : ℕ) → ((p : ℕ) → marked ms p ≡ false) → open_below steps m ms i ≡ 0
+pub none_open_yet : (steps : List TrailStep) (m : ℕ) (ms : List Bool) (i : ℕ) → ((p : ℕ) → marked ms p ≡ false) → open_below steps m ms i ≡ 0
 unfolding open_below
 none_open_yet steps m ms zero off = refl
 none_open_yet steps m ms (suc i) off =
@@ -106,11 +106,11 @@ none_open_yet steps m ms (suc i) off =
     omega (arith, none_open_yet steps m ms i off, z)
 
 -- at each place of the level from i on that the walk reached, it reached another one before
-abbrev pub IsBefore : Held → List Step → ℕ → List Literal → ℕ → Type 0
+abbrev pub IsBefore : Held → List TrailStep → ℕ → List Literal → ℕ → Type 0
 IsBefore held steps m c v = (p : ℕ) × (p < v) × (level_at steps p ≡ m) × IsReached held steps m c (suc v) p
 
 -- where the walk stands: `open_places` places below i are open, and the marks are what it reached
-pub record Walking (held : Held) (steps : List Step) (vars m : ℕ) (c : List Literal) (ms : MarksData Bool) (open_places i : ℕ) : Type 0 where
+pub record Walking (held : Held) (steps : List TrailStep) (vars m : ℕ) (c : List Literal) (ms : MarksData Bool) (open_places i : ℕ) : Type 0 where
   pub in_range : i ≤ length steps
   pub marking : IsMarking steps vars m ms
   pub count : open_places ≡ open_below steps m ms.values i
@@ -119,7 +119,7 @@ pub record Walking (held : Held) (steps : List Step) (vars m : ℕ) (c : List Li
   pub closed : IsWalkSet held steps m c i (marked ms.values)
   pub first : (v : ℕ) → i ≤ v → v < length steps → level_at steps v ≡ m → IsReached held steps m c (suc v) v → IsBefore held steps m c v
 
-module _ (held : Held) (steps : List Step) (vars m : ℕ) (c : List Literal) (ms : MarksData Bool) (n i : ℕ) (w : Walking held steps vars m c ms n i) where
+module _ (held : Held) (steps : List TrailStep) (vars m : ℕ) (c : List Literal) (ms : MarksData Bool) (n i : ℕ) (w : Walking held steps vars m c ms n i) where
   pub Walking-positive : 1 ≤ i
   Walking-positive = let a = w.count in let b = w.some in omega (arith, open_below-le steps m ms.values i)
 
@@ -269,7 +269,7 @@ module _ (held : Held) (steps : List Step) (vars m : ℕ) (c : List Literal) (ms
             }))
 
 -- the walk begins at the conflict's places
-pub Walking-start : (held : Held) (steps : List Step) (vars m : ℕ) (c : List Literal) (ms : List Bool) (more : MarksData Bool) (n : ℕ)
+pub Walking-start : (held : Held) (steps : List TrailStep) (vars m : ℕ) (c : List Literal) (ms : List Bool) (more : MarksData Bool) (n : ℕ)
     → ((p : ℕ) → marked ms p ≡ false) → HasMarked steps m ms more.values (length steps) c n → IsMarking steps vars m more → 1 ≤ n → Walking held steps vars m c more n (length steps)
 Walking-start held steps vars m c ms more n off marks marking some = record {
   in_range = omega arith;
@@ -300,12 +300,12 @@ CanMark-reason t u m d shape lt l f k h = record {
     by (inr q) = inr q
 
 -- the reason of a forced place, as it was read
-pub record HasReason (held : Held) (steps : List Step) (u : ℕ) (a : Cref) : Type 0 where
+pub record HasReason (held : Held) (steps : List TrailStep) (u : ℕ) (a : Cref) : Type 0 where
   pub lits : List Literal
   pub held_is : held a.address ≡ Some lits
   pub unit : WasUnit steps u lits
 
-pub forced_by : (held : Held) (steps : List Step) (u : ℕ) (a : Cref) → IsForced held steps u → reason_at steps u ≡ Some a → HasReason held steps u a
+pub forced_by : (held : Held) (steps : List TrailStep) (u : ℕ) (a : Cref) → IsForced held steps u → reason_at steps u ≡ Some a → HasReason held steps u a
 forced_by held steps u a f e =
     let both : Some f.reason ≡ Some a = sym f.reason_is ∙ e in
     let same : f.reason ≡ a = cc in

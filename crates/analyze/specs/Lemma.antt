@@ -5,7 +5,7 @@ use Rattle.sat_words.specs.Clause.{has}
 use Rattle.rup_model.specs.Rup.{rup}
 use Rattle.ring_port.specs.PortState.{PortState, known}
 use Rattle.ring_port.specs.Port.{IsClause}
-use Rattle.ring_trail.specs.declared.step.Step.{Step}
+use Rattle.ring_trail.specs.declared.step.TrailStep.{TrailStep}
 use Rattle.ring_trail.specs.TrailData.{TrailData, FalseBefore, lit_at}
 use Rattle.analyze.specs.Levels.{greatest, level_of_lit, levels_of, clause_level, count_of_levels}
 use Rattle.ring_port.specs.PortState.{clause_at}
@@ -15,11 +15,11 @@ use Rattle.analyze.specs.declared.analysis.Conclusion.{Conclusion}
 use Rattle.analyze.specs.declared.analysis.Conclusion.TheVariants.{Empty, Lemma}
 
 -- the negation of the literal at a place
-abbrev pub negated_at : List Step → ℕ → Literal
+abbrev pub negated_at : List TrailStep → ℕ → Literal
 negated_at steps p = opposite (lit_at steps p)
 
 -- the minimised clause of the walk: the negation of the point's literal, and in whatever order those of what it left and isn't removable
-pub record IsMinimisedClause (s : PortState) (steps : List Step) (conflict : List Literal) (first : Literal) (rest : List Literal) : Type 0 where
+pub record IsMinimisedClause (s : PortState) (steps : List TrailStep) (conflict : List Literal) (first : Literal) (rest : List Literal) : Type 0 where
   pub place : ℕ
   pub point : IsFirstPoint (clause_at s) steps (clause_level steps conflict) conflict place
   pub first_is : first ≡ negated_at steps place
@@ -27,7 +27,7 @@ pub record IsMinimisedClause (s : PortState) (steps : List Step) (conflict : Lis
   pub only : (k : Literal) → has rest k ≡ true → (p : ℕ) × IsNeeded (clause_at s) steps (clause_level steps conflict) conflict place p × (k ≡ negated_at steps p)
 
 -- the literal is false, and above level 0
-pub record IsFalseAbove (steps : List Step) (k : Literal) : Type 0 where
+pub record IsFalseAbove (steps : List TrailStep) (k : Literal) : Type 0 where
   pub false_now : FalseBefore steps (length steps) k
   pub above : 0 < level_of_lit steps k
 

@@ -4,18 +4,18 @@ use Rattle.std.specs.Prelude.{◌≡◌, ℕ, suc, ◌<◌, ◌≤◌, Bool, tru
 use Rattle.sat_words.specs.Literal.{Literal, opposite}
 use Rattle.sat_words.specs.Clause.{has}
 use Rattle.sat_words.specs.declared.shared.Cref.{Cref}
-use Rattle.ring_trail.specs.declared.step.Step.{Step}
+use Rattle.ring_trail.specs.declared.step.TrailStep.{TrailStep}
 use Rattle.ring_trail.specs.TrailData.{lit_at, level_at, reason_at}
 use Rattle.ring_trail.specs.Reasoned.{Held}
 
 -- the literal at this place is above level 0 and makes one of the clause false
-pub record MakesFalse (steps : List Step) (c : List Literal) (p : ℕ) : Type 0 where
+pub record MakesFalse (steps : List TrailStep) (c : List Literal) (p : ℕ) : Type 0 where
   pub in_range : p < length steps
   pub above : 0 < level_at steps p
   pub has_opposite : has c (opposite (lit_at steps p)) ≡ true
 
 -- one of a place's reason that stands before it, where the place is of level m and not before i
-pub record LeadsTo (held : Held) (steps : List Step) (m i q p : ℕ) : Type 0 where
+pub record LeadsTo (held : Held) (steps : List TrailStep) (m i q p : ℕ) : Type 0 where
   pub in_range : q < length steps
   pub from_here : i ≤ q
   pub level : level_at steps q ≡ m
@@ -27,17 +27,17 @@ pub record LeadsTo (held : Held) (steps : List Step) (m i q p : ℕ) : Type 0 wh
   pub falsifies : MakesFalse steps lits p
 
 -- the set has the places that make the conflict false, and with each place those that it leads to
-pub record IsWalkSet (held : Held) (steps : List Step) (m : ℕ) (conflict : List Literal) (i : ℕ) (R : ℕ → Bool) : Type 0 where
+pub record IsWalkSet (held : Held) (steps : List TrailStep) (m : ℕ) (conflict : List Literal) (i : ℕ) (R : ℕ → Bool) : Type 0 where
   pub starts : (p : ℕ) → MakesFalse steps conflict p → R p ≡ true
   pub goes_on : (q p : ℕ) → R q ≡ true → LeadsTo held steps m i q p → R p ≡ true
 
 -- the walk from the conflict down to place i marks the place: it is in the least such set
-abbrev pub IsReached : Held → List Step → ℕ → List Literal → ℕ → ℕ → Type 0
+abbrev pub IsReached : Held → List TrailStep → ℕ → List Literal → ℕ → ℕ → Type 0
 IsReached held steps m conflict i p = (R : ℕ → Bool) → IsWalkSet held steps m conflict i R → R p ≡ true
 
 -- the first unique implication point: walking down to it, it is the only place of the conflict's level that is marked and not
 -- walked past; and at each marked place of the level behind it there is another one before that
-pub record IsFirstPoint (held : Held) (steps : List Step) (m : ℕ) (conflict : List Literal) (u : ℕ) : Type 0 where
+pub record IsFirstPoint (held : Held) (steps : List TrailStep) (m : ℕ) (conflict : List Literal) (u : ℕ) : Type 0 where
   pub in_range : u < length steps
   pub level : level_at steps u ≡ m
   pub reached : IsReached held steps m conflict (suc u) u
@@ -46,7 +46,7 @@ pub record IsFirstPoint (held : Held) (steps : List Step) (m : ℕ) (conflict : 
       → (p : ℕ) × (p < v) × (level_at steps p ≡ m) × IsReached held steps m conflict (suc v) p
 
 -- a place that the walk leaves in the clause beside the point: it is marked, and of a lower level
-pub record IsLeft (held : Held) (steps : List Step) (m : ℕ) (conflict : List Literal) (u p : ℕ) : Type 0 where
+pub record IsLeft (held : Held) (steps : List TrailStep) (m : ℕ) (conflict : List Literal) (u p : ℕ) : Type 0 where
   pub in_range : p < length steps
   pub above : 0 < level_at steps p
   pub lower : level_at steps p < m

@@ -6,16 +6,16 @@ use Rattle.dimacs_read.specs.Grammar.{Outcome, End, Token, signed, is_blank, is_
 use Rattle.dimacs_read.specs.Body.{IsLawful, IsBadToken, FailsAt, Follows}
 use Rattle.dimacs_read.specs.Reader.{meaning, Takes, Halts, Closes, FailsHere, Replies, Answers, FoundLate, Known, Unknown, FoundBy, Behind}
 use Rattle.dimacs_read.specs.declared.reader.Reader.{Reader}
-use Rattle.dimacs_read.specs.declared.spot.Spot.TheVariants.{Number}
+use Rattle.dimacs_read.specs.declared.spot.State.TheVariants.{Number}
 use Rattle.dimacs_read.specs.declared.stop.Code.{Code}
 use Rattle.dimacs_read.specs.declared.stop.Code.TheVariants.{Limit}
-use Rattle.dimacs_read.specs.declared.stop.Stop.{Stop}
-use Rattle.dimacs_read.specs.declared.stop.Stop.TheVariants.{Bad, Done, Memory}
+use Rattle.dimacs_read.specs.declared.stop.Halt.{Halt}
+use Rattle.dimacs_read.specs.declared.stop.Halt.TheVariants.{Bad, Done, Memory}
 use Rattle.dimacs_read.specs.declared.stop.ReadStop.{ReadStop}
 use Rattle.dimacs_read.specs.declared.stop.ReadStop.TheVariants.{Bad as BadInput, ReadFault, Memory as NoMemory}
 use Rattle.dimacs_read.proofs.Undecided.{undecided}
 
-pub number_fails : (r : Reader) (neg : Bool) (n : ℕ) (stop : Stop) → r.spot ≡ Number neg n → IsBadToken r.body (Token (signed neg (Some n))) stop → FailsHere r stop
+pub number_fails : (r : Reader) (neg : Bool) (n : ℕ) (stop : Halt) → r.spot ≡ Number neg n → IsBadToken r.body (Token (signed neg (Some n))) stop → FailsHere r stop
 number_fails r neg n (Bad code) is bad = rw is (bad (r.newlines + 1) (record { line = r.newlines + 1; item = End } ∷ []))
 number_fails r neg n Done is bad = absurd bad
 number_fails r neg n Memory is bad = tt
@@ -33,7 +33,7 @@ late_undecided r s byte is takes = Unknown (λ other all. undecided s.spot s.new
 late_known : (r : Reader) (byte : ℕ) (found : Outcome) → (is_blank byte || is_newline byte) ≡ true → ((more : List ℕ) → meaning r (byte ∷ more) ≡ found) → FoundLate r byte found
 late_known r byte found is all = Known (λ more. rw is (all more))
 
-pub late_stopped : (r s : Reader) (byte : ℕ) (stop : Stop) (result : Result FormulaData ReadStop) → (is_blank byte || is_newline byte) ≡ true
+pub late_stopped : (r s : Reader) (byte : ℕ) (stop : Halt) (result : Result FormulaData ReadStop) → (is_blank byte || is_newline byte) ≡ true
     → Halts r (byte ∷ []) stop s → Replies stop s result → Answers result (FoundLate r byte)
 late_stopped r s byte (Bad code) result is halts replies =
     subst (λ (a : Result FormulaData ReadStop). Answers a (FoundLate r byte)) (sym replies) (late_known r byte (Err (record { code = code; line = s.newlines + 1 })) is halts)
@@ -42,12 +42,12 @@ late_stopped r s byte Done result is halts replies =
 late_stopped r s byte Memory result is halts replies =
     subst (λ (a : Result FormulaData ReadStop). Answers a (FoundLate r byte)) (sym replies) tt
 
-pub all_closes : {T : Type 0} (result : Result T Stop) (r s : Reader) (neg : Bool) (n : ℕ) → r.spot ≡ Number neg n → OnOk result (IsLawful s.body)
+pub all_closes : {T : Type 0} (result : Result T Halt) (r s : Reader) (neg : Bool) (n : ℕ) → r.spot ≡ Number neg n → OnOk result (IsLawful s.body)
     → OnOk result (Follows r.body (Token (signed neg (Some n))) s.body) → OnOk result (Closes r s)
 all_closes (Ok x) r s neg n is lawful follows = number_closes r s neg n is lawful follows
 all_closes (Err stop) r s neg n is lawful follows = tt
 
-pub all_fails : {T : Type 0} (result : Result T Stop) (r : Reader) (neg : Bool) (n : ℕ) → r.spot ≡ Number neg n
+pub all_fails : {T : Type 0} (result : Result T Halt) (r : Reader) (neg : Bool) (n : ℕ) → r.spot ≡ Number neg n
     → IfErr result (IsBadToken r.body (Token (signed neg (Some n)))) → IfErr result (λ stop. FailsHere r stop)
 all_fails (Ok x) r neg n is bad = tt
 all_fails (Err stop) r neg n is bad = number_fails r neg n stop is bad

@@ -12,9 +12,9 @@ use Rattle.dimacs_read.specs.Body.{judged, IsBadToken, IsLawful}
 use Rattle.dimacs_read.specs.State.{rest, newlines_by, Leads, Stops}
 use Rattle.dimacs_read.specs.declared.body.Body.{Body}
 use Rattle.dimacs_read.specs.declared.stop.Code.TheVariants.{TooManyClauses, LiteralRange}
-use Rattle.dimacs_read.specs.declared.stop.Stop.{Stop}
-use Rattle.dimacs_read.specs.declared.stop.Stop.TheVariants.{Bad, Done, Memory}
-use Rattle.dimacs_read.specs.declared.spot.Spot.TheVariants.{Number}
+use Rattle.dimacs_read.specs.declared.stop.Halt.{Halt}
+use Rattle.dimacs_read.specs.declared.stop.Halt.TheVariants.{Bad, Done, Memory}
+use Rattle.dimacs_read.specs.declared.spot.State.TheVariants.{Number}
 use Rattle.dimacs_read.proofs.Saturation.{Close, Same, Large, close_values}
 
 -- a literal above the variables is bad, whatever it is
@@ -63,12 +63,12 @@ number_digit b neg n m byte digit lawful passes value is = λ before text.
     (digits_by (list_all is_digit bytes) b neg m (10 * n + (byte - 48)) (before + 1) bytes
     (token_places (before + 1) (later_tokens (front is_newline text)) ++ places (before + 1) (later is_newline text)) lawful refl sum)
 
-pub number_newline : (b c : Body) (neg : Bool) (n byte : ℕ) (stop : Stop) → byte ≡ 10 → IsBadToken b (Token (signed neg (Some n))) stop → Stops (Number neg n) b byte stop c
+pub number_newline : (b c : Body) (neg : Bool) (n byte : ℕ) (stop : Halt) → byte ≡ 10 → IsBadToken b (Token (signed neg (Some n))) stop → Stops (Number neg n) b byte stop c
 number_newline b c neg n byte (Bad code) is bad = λ before text. rw is (bad (before + 1) _)
 number_newline b c neg n byte Done is bad = absurd bad
 number_newline b c neg n byte Memory is bad = tt
 
-pub number_blank : (b c : Body) (neg : Bool) (n byte : ℕ) (stop : Stop) → Passes byte false true false → IsBadToken b (Token (signed neg (Some n))) stop → Stops (Number neg n) b byte stop c
+pub number_blank : (b c : Body) (neg : Bool) (n byte : ℕ) (stop : Halt) → Passes byte false true false → IsBadToken b (Token (signed neg (Some n))) stop → Stops (Number neg n) b byte stop c
 number_blank b c neg n byte (Bad code) passes bad = λ before text. rw (passes.newline_is, passes.blank_is) (bad (before + 1) _)
 number_blank b c neg n byte Done passes bad = absurd bad
 number_blank b c neg n byte Memory passes bad = tt

@@ -13,8 +13,8 @@ use Rattle.dimacs_read.specs.Body.{IsLawful}
 use Rattle.dimacs_read.specs.Reader.{meaning, newlines, Takes, Halts, Replies, Answers, IsDetermined, FoundLate, Known, Unknown, FoundBy, Before, Behind}
 use Rattle.dimacs_read.specs.declared.reader.Reader.{Reader}
 use Rattle.dimacs_read.specs.declared.stop.Code.TheVariants.{Limit}
-use Rattle.dimacs_read.specs.declared.stop.Stop.{Stop}
-use Rattle.dimacs_read.specs.declared.stop.Stop.TheVariants.{Bad, Done, Memory}
+use Rattle.dimacs_read.specs.declared.stop.Halt.{Halt}
+use Rattle.dimacs_read.specs.declared.stop.Halt.TheVariants.{Bad, Done, Memory}
 use Rattle.dimacs_read.specs.declared.stop.ReadStop.{ReadStop}
 use Rattle.dimacs_read.specs.declared.stop.ReadStop.TheVariants.{Bad as BadInput, ReadFault, Memory as NoMemory}
 use Rattle.dimacs_read.proofs.Undecided.{undecided}
@@ -181,7 +181,7 @@ determined_told left mid rest r count piece front others found has hands split f
         ∙ ap (λ (t : List ℕ). has.taken ++ t) (append_assoc front others m) ∙ sym (append_assoc has.taken front (others ++ m))
 
 -- the reader was stopped in the piece
-pub stopped : (left mid rest : Option (List ℕ)) (r s : Reader) (count : ℕ) (piece : List ℕ) (stop : Stop) (result : Result FormulaData ReadStop) → HasTaken left mid r count
+pub stopped : (left mid rest : Option (List ℕ)) (r s : Reader) (count : ℕ) (piece : List ℕ) (stop : Halt) (result : Result FormulaData ReadStop) → HasTaken left mid r count
     → Hands mid rest piece → count + length piece ≤ 2 ^ 33 → Halts r piece stop s → Replies stop s result → IsAnswer left rest result
 stopped left mid rest r s count piece (Bad code) result has hands few halts replies =
     subst (λ (a : Result FormulaData ReadStop). IsAnswer left rest a) (sym replies)

@@ -9,10 +9,10 @@ use Rattle.dimacs_read.specs.Grammar.{Outcome, Place, Token, End, unless, judge,
 use Rattle.dimacs_read.specs.Body.{judged}
 use Rattle.dimacs_read.specs.State.{rest}
 use Rattle.dimacs_read.specs.declared.body.Body.{Body}
-use Rattle.dimacs_read.specs.declared.spot.HeaderSpot.{HeaderSpot}
-use Rattle.dimacs_read.specs.declared.spot.HeaderSpot.TheVariants.{P, AfterP, C, Cn, Cnf, AfterCnf, Vars, AfterVars, Clauses, AfterClauses}
-use Rattle.dimacs_read.specs.declared.spot.Spot.{Spot}
-use Rattle.dimacs_read.specs.declared.spot.Spot.TheVariants.{Preamble, PreambleComment, Header, Line, Comment, Gap, Minus, Number}
+use Rattle.dimacs_read.specs.declared.spot.HeaderState.{HeaderState}
+use Rattle.dimacs_read.specs.declared.spot.HeaderState.TheVariants.{P, AfterP, C, Cn, Cnf, AfterCnf, Vars, AfterVars, Clauses, AfterClauses}
+use Rattle.dimacs_read.specs.declared.spot.State.{State}
+use Rattle.dimacs_read.specs.declared.spot.State.TheVariants.{Preamble, PreambleComment, Header, Line, Comment, Gap, Minus, Number}
 use Rattle.dimacs_read.specs.declared.stop.Code.{Code}
 use Rattle.dimacs_read.specs.declared.stop.Code.TheVariants.{BadHeader, BadToken, LiteralRange, TooManyClauses, TooFewClauses, OpenClause, Limit}
 
@@ -110,7 +110,7 @@ opened_by false false line formula = refl
 sized : (m n line : ℕ) → bad_header (opening line (Some (record { vars = m; clauses = n })) []) ≡ false
 sized m n line = sized_by (nat_le (2 ^ 28) m || nat_le (2 ^ 28) n) line _ (opened_by true (nat_lt 0 n) line (record { vars = m; clauses = [] }))
 
-header_undecided : (spot : HeaderSpot) (before : ℕ) (b : Body) (found : Outcome) → ((more : List ℕ) → rest (Header spot) before b more ≡ found) → ⊥
+header_undecided : (spot : HeaderState) (before : ℕ) (b : Body) (found : Outcome) → ((more : List ℕ) → rest (Header spot) before b more ≡ found) → ⊥
 unfolding bad_header is_header_code
 header_undecided P before b found all = apart bad_header (rest (Header P) before b []) (rest (Header P) before b (codes " cnf 0 0")) found refl refl (all []) (all (codes " cnf 0 0"))
 header_undecided AfterP before b found all = apart bad_header (rest (Header AfterP) before b []) (rest (Header AfterP) before b (codes "cnf 0 0")) found refl refl (all []) (all (codes "cnf 0 0"))
@@ -127,7 +127,7 @@ end_of : (before : ℕ) (b : Body) → bad_token (judged b (record { line = befo
 end_of before b = ending b.formula.vars b.clauses b.formula.clauses b.begun.items before
 
 -- no outcome is determined, however much was read
-pub undecided : (spot : Spot) (before : ℕ) (b : Body) (found : Outcome) → ((more : List ℕ) → rest spot before b more ≡ found) → ⊥
+pub undecided : (spot : State) (before : ℕ) (b : Body) (found : Outcome) → ((more : List ℕ) → rest spot before b more ≡ found) → ⊥
 unfolding bad_header is_header_code bad_token is_token_code
 undecided Preamble before b found all = apart bad_header (rest Preamble before b (codes "p")) (rest Preamble before b []) found refl refl (all (codes "p")) (all [])
 undecided PreambleComment before b found all = apart bad_header (rest PreambleComment before b (codes "\np")) (rest PreambleComment before b []) found refl refl (all (codes "\np")) (all [])

@@ -4,8 +4,8 @@ use Rattle.dimacs_read.specs.Grammar.{Outcome, Item, Place, judge}
 use Rattle.sat_words.specs.Literal.{IsOn}
 use Rattle.dimacs_read.specs.declared.body.Body.{Body}
 use Rattle.dimacs_read.specs.declared.stop.Code.{Code}
-use Rattle.dimacs_read.specs.declared.stop.Stop.{Stop}
-use Rattle.dimacs_read.specs.declared.stop.Stop.TheVariants.{Bad, Done, Memory}
+use Rattle.dimacs_read.specs.declared.stop.Halt.{Halt}
+use Rattle.dimacs_read.specs.declared.stop.Halt.TheVariants.{Bad, Done, Memory}
 
 -- the first bad place of these, behind what was read
 abbrev pub judged : Body → List Place → Outcome
@@ -24,13 +24,13 @@ abbrev pub EndsAt : Body → Item → Type 0
 EndsAt b item = (line : ℕ) → judged b (record { line = line; item = item } ∷ []) ≡ Ok b.formula
 
 -- what the stop says of the item
-abbrev pub IsFaultOf : Body → Item → Stop → Type 0
+abbrev pub IsFaultOf : Body → Item → Halt → Type 0
 IsFaultOf b item (Bad code) = FailsAt b item code
 IsFaultOf b item Done = EndsAt b item
 IsFaultOf b item Memory = Unit {0}
 
 -- why the item of a token stops the reader
-abbrev pub IsBadToken : Body → Item → Stop → Type 0
+abbrev pub IsBadToken : Body → Item → Halt → Type 0
 IsBadToken b item (Bad code) = FailsAt b item code
 IsBadToken b item Done = ⊥
 IsBadToken b item Memory = Unit {0}

@@ -3,8 +3,8 @@ use Rattle.std.specs.Prelude.{◌≡◌, ℕ, List, [], ◌∷◌, ◌++◌, fil
 use Rattle.std.specs.declared.option.Option.{Option}
 use Rattle.std.specs.List.{list_all}
 use Rattle.dimacs_read.specs.Grammar.{Sizes, front, later, is_blank, is_digit, has_bytes, tokens, value_from, number, both, sizes, opening}
-use Rattle.dimacs_read.specs.declared.spot.HeaderSpot.{HeaderSpot}
-use Rattle.dimacs_read.specs.declared.spot.HeaderSpot.TheVariants.{P, AfterP, C, Cn, Cnf, AfterCnf, Vars, AfterVars, Clauses, AfterClauses}
+use Rattle.dimacs_read.specs.declared.spot.HeaderState.{HeaderState}
+use Rattle.dimacs_read.specs.declared.spot.HeaderState.TheVariants.{P, AfterP, C, Cn, Cnf, AfterCnf, Vars, AfterVars, Clauses, AfterClauses}
 
 -- the number that digits spell behind others of this value
 abbrev pub digits_from : ℕ → List ℕ → Option ℕ
@@ -25,7 +25,7 @@ behind_clauses vars clauses [] = both vars clauses
 behind_clauses vars clauses (token ∷ more) = None
 
 -- the sizes, by what is left of the header line
-abbrev pub sizes_at : HeaderSpot → List ℕ → Option Sizes
+abbrev pub sizes_at : HeaderState → List ℕ → Option Sizes
 sizes_at P line = sizes (tokens (codes "p" ++ line))
 sizes_at AfterP line = sizes (tokens (codes "p " ++ line))
 sizes_at C line = sizes (tokens (codes "p c" ++ line))
@@ -42,7 +42,7 @@ abbrev pub Alike : Option Sizes → Option Sizes → Type 0
 Alike a b = (line : ℕ) (more : List (List ℕ)) → opening line a more ≡ opening line b more
 
 -- what the byte leads to in a header line; none where no line goes on so
-abbrev pub HeaderLeads : HeaderSpot → ℕ → Option HeaderSpot → Type 0
+abbrev pub HeaderLeads : HeaderState → ℕ → Option HeaderState → Type 0
 HeaderLeads spot byte found = MatchOption found
     ((line : List ℕ) → sizes_at spot (byte ∷ line) ≡ None)
     (λ next. (line : List ℕ) → Alike (sizes_at next line) (sizes_at spot (byte ∷ line)))

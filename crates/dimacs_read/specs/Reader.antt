@@ -7,8 +7,8 @@ use Rattle.dimacs_read.specs.Body.{IsLawful, judged}
 use Rattle.dimacs_read.specs.State.{rest}
 use Rattle.dimacs_read.specs.declared.reader.Reader.{Reader}
 use Rattle.dimacs_read.specs.declared.stop.Code.TheVariants.{Limit}
-use Rattle.dimacs_read.specs.declared.stop.Stop.{Stop}
-use Rattle.dimacs_read.specs.declared.stop.Stop.TheVariants.{Bad, Done, Memory}
+use Rattle.dimacs_read.specs.declared.stop.Halt.{Halt}
+use Rattle.dimacs_read.specs.declared.stop.Halt.TheVariants.{Bad, Done, Memory}
 use Rattle.dimacs_read.specs.declared.stop.ReadStop.{ReadStop}
 use Rattle.dimacs_read.specs.declared.stop.ReadStop.TheVariants.{Bad as BadInput, ReadFault, Memory as NoMemory}
 
@@ -27,7 +27,7 @@ pub record Takes (r : Reader) (bytes : List ℕ) (s : Reader) : Type 0 where
   pub newlines : s.newlines ≡ r.newlines + newlines bytes
 
 -- why the reader takes no more of the bytes, whatever follows them
-abbrev pub Halts : Reader → List ℕ → Stop → Reader → Type 0
+abbrev pub Halts : Reader → List ℕ → Halt → Reader → Type 0
 Halts r bytes (Bad code) s = (more : List ℕ) → meaning r (bytes ++ more) ≡ Err (record { code = code; line = s.newlines + 1 })
 Halts r bytes Done s = ((more : List ℕ) → meaning r (bytes ++ more) ≡ Ok s.body.formula) × IsLawful s.body
 Halts r bytes Memory s = Unit {0}
@@ -54,13 +54,13 @@ pub record Closes (r s : Reader) : Type 0 where
   pub lawful : IsLawful s.body
 
 -- why the text is none that ends here
-abbrev pub FailsHere : Reader → Stop → Type 0
+abbrev pub FailsHere : Reader → Halt → Type 0
 FailsHere r (Bad code) = meaning r [] ≡ Err (record { code = code; line = r.newlines + 1 })
 FailsHere r Done = ⊥
 FailsHere r Memory = Unit {0}
 
 -- what a stop is to the caller
-abbrev pub Replies : Stop → Reader → Result FormulaData ReadStop → Type 0
+abbrev pub Replies : Halt → Reader → Result FormulaData ReadStop → Type 0
 Replies (Bad code) r result = result ≡ Err (BadInput code (r.newlines + 1))
 Replies Done r result = result ≡ Ok r.body.formula
 Replies Memory r result = result ≡ Err NoMemory

@@ -5,12 +5,12 @@ use Rattle.sat_words.specs.Literal.{Literal}
 use Rattle.dimacs_read.specs.Grammar.{Outcome, Token, Place, front, later, is_newline, is_blank, lines, tokens, number, signed, token_places, places, opening, preamble}
 use Rattle.dimacs_read.specs.declared.stop.Code.{Code}
 use Rattle.dimacs_read.specs.Body.{judged, IsLawful}
-use Rattle.dimacs_read.specs.declared.stop.Stop.{Stop}
-use Rattle.dimacs_read.specs.declared.stop.Stop.TheVariants.{Bad, Done, Memory}
+use Rattle.dimacs_read.specs.declared.stop.Halt.{Halt}
+use Rattle.dimacs_read.specs.declared.stop.Halt.TheVariants.{Bad, Done, Memory}
 use Rattle.dimacs_read.specs.declared.body.Body.{Body}
 use Rattle.dimacs_read.specs.Header.{sizes_at, digits_from, later_tokens}
-use Rattle.dimacs_read.specs.declared.spot.Spot.{Spot}
-use Rattle.dimacs_read.specs.declared.spot.Spot.TheVariants.{Preamble, PreambleComment, Header, Line, Comment, Gap, Minus, Number}
+use Rattle.dimacs_read.specs.declared.spot.State.{State}
+use Rattle.dimacs_read.specs.declared.spot.State.TheVariants.{Preamble, PreambleComment, Header, Line, Comment, Gap, Minus, Number}
 
 -- the places of what is left of a line, by what its first token is, and of the lines behind it
 abbrev pub token_first : ℕ → Option Literal → List ℕ → List Place
@@ -19,7 +19,7 @@ token_first before token text =
     ∷ (token_places (before + 1) (later_tokens (front is_newline text)) ++ places (before + 1) (later is_newline text))
 
 -- what the rest of the text makes of it, behind so many newlines
-abbrev pub rest : Spot → ℕ → Body → List ℕ → Outcome
+abbrev pub rest : State → ℕ → Body → List ℕ → Outcome
 rest Preamble before b text = preamble before (lines text)
 rest PreambleComment before b text = preamble (before + 1) (later is_newline text)
 rest (Header spot) before b text = opening (before + 1) (sizes_at spot (front is_newline text)) (later is_newline text)
@@ -34,15 +34,15 @@ abbrev pub newlines_by : ℕ → ℕ → ℕ
 newlines_by before byte = if byte == 10 then before + 1 else before
 
 -- the byte leads from one spot to the next
-abbrev pub Leads : Spot → Body → ℕ → Spot → Body → Type 0
+abbrev pub Leads : State → Body → ℕ → State → Body → Type 0
 Leads spot b byte next c = (before : ℕ) (text : List ℕ) → rest next (newlines_by before byte) c text ≡ rest spot before b (byte ∷ text)
 
 -- the byte decides it
-abbrev pub Decides : Spot → Body → ℕ → Code → Type 0
+abbrev pub Decides : State → Body → ℕ → Code → Type 0
 Decides spot b byte code = (before : ℕ) (text : List ℕ) → rest spot before b (byte ∷ text) ≡ Err (record { code = code; line = before + 1 })
 
 -- why no byte behind this one is taken: it is a bad place, or it ends the formula
-abbrev pub Stops : Spot → Body → ℕ → Stop → Body → Type 0
+abbrev pub Stops : State → Body → ℕ → Halt → Body → Type 0
 Stops spot b byte (Bad code) c = Decides spot b byte code
 Stops spot b byte Done c = ((before : ℕ) (text : List ℕ) → rest spot before b (byte ∷ text) ≡ Ok c.formula) × IsLawful c
 Stops spot b byte Memory c = Unit {0}

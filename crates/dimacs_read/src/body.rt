@@ -5,7 +5,7 @@ ghost use Rattle.dimacs_read.specs.declared.stop.Code.TheVariants.{TooFewClauses
 ghost use Rattle.dimacs_read.specs.Body.{Follows, IsBadToken, IsFaultOf, EndsAt, FailsAt, IsLawful, NothingRead};
 
 use crate::header::Header;
-use crate::stop::{Code, Stop};
+use crate::stop::{Code, Halt};
 use sat_words::{Clause, Formula, Lit};
 use std::alloc::Global;
 
@@ -34,7 +34,7 @@ impl Body {
     }
 
     /// Takes the token of an integer. Whether its value is told up to `u64::MAX`.
-    pub fn take_integer(&mut self, alloc: Global, neg: bool, value: u64) -> Result<(), Stop>
+    pub fn take_integer(&mut self, alloc: Global, neg: bool, value: u64) -> Result<(), Halt>
         requires { IsLawful self.old }
         ensures lawful { OnOk result (IsLawful self.new) }
         ensures vars { self.new.formula.vars ≡ self.old.formula.vars }
@@ -42,13 +42,13 @@ impl Body {
         ensures bad { IfErr result (IsBadToken self.old (Token (signed neg (Some value)))) }
     {
         if neg && value == 0 {
-            return Err(Stop::Bad(Code::BadToken));
+            return Err(Halt::Bad(Code::BadToken));
         }
         if self.begun.is_empty() && self.formula.clauses().len() >= self.clauses as usize {
-            return Err(Stop::Bad(Code::TooManyClauses));
+            return Err(Halt::Bad(Code::TooManyClauses));
         }
         if value > u64::from(self.formula.vars()) {
-            return Err(Stop::Bad(Code::LiteralRange));
+            return Err(Halt::Bad(Code::LiteralRange));
         }
         if value == 0 {
             self.formula.push(Clause::from_lits(alloc, &self.begun)?)?;
@@ -56,22 +56,22 @@ impl Body {
             return Ok(());
         }
         if self.begun.len() >= LITERALS {
-            return Err(Stop::Bad(Code::Limit));
+            return Err(Halt::Bad(Code::Limit));
         }
         self.begun.push(Lit::new(value as u32, neg))?;
         Ok(())
     }
 
     /// What a `%` at the front of a line is: the end of the formula, or a bad place.
-    pub fn stop_at_mark(&self) -> Stop
+    pub fn stop_at_mark(&self) -> Halt
         ensures { IsFaultOf self.now Mark result }
     {
         if !self.begun.is_empty() {
-            return Stop::Bad(Code::BadToken);
+            return Halt::Bad(Code::BadToken);
         }
         match self.check_count() {
-            Ok(()) => Stop::Done,
-            Err(code) => Stop::Bad(code),
+            Ok(()) => Halt::Done,
+            Err(code) => Halt::Bad(code),
         }
     }
 

@@ -5,7 +5,7 @@ ghost use Rattle.dimacs_read.specs.Bytes.{IsKind};
 
 /// What a byte is to the format.
 #[derive(Clone, Copy)]
-pub(crate) enum Kind {
+pub(crate) enum ByteKind {
     Newline,
     Blank,
     /// A digit, by its value.
@@ -14,14 +14,14 @@ pub(crate) enum Kind {
 }
 
 /// What the byte is.
-pub(crate) fn kind_of(byte: u8) -> Kind
+pub(crate) fn kind_of(byte: u8) -> ByteKind
     ensures { IsKind byte result }
 {
     match byte {
-        b'\n' => Kind::Newline,
-        b'\t' | b'\r' | b' ' => Kind::Blank,
-        b'0'..=b'9' => Kind::Digit(u64::from(byte - b'0')),
-        _ => Kind::Other,
+        b'\n' => ByteKind::Newline,
+        b'\t' | b'\r' | b' ' => ByteKind::Blank,
+        b'0'..=b'9' => ByteKind::Digit(u64::from(byte - b'0')),
+        _ => ByteKind::Other,
     }
 }
 

@@ -8,9 +8,9 @@ ghost use Rattle.dimacs_read.specs.Reader.{meaning, Takes, Halts, Closes, FailsH
 use crate::body::Body;
 use crate::bytes::{is_separator, kind_of};
 use crate::header::header_of;
-use crate::spot::Spot;
-use crate::spots::next_spot;
-use crate::stop::{Code, ReadStop, Stop};
+use crate::spot::State;
+use crate::spots::next_state;
+use crate::stop::{Code, Halt, ReadStop};
 use sat_words::Formula;
 use std::alloc::Global;
 
@@ -19,7 +19,7 @@ use std::alloc::Global;
 pub(crate) struct Reader {
     /// How many newlines were taken.
     pub newlines: u64,
-    pub spot: Spot,
+    pub spot: State,
     pub body: Body,
 }
 
@@ -32,7 +32,7 @@ impl Reader {
     {
         Reader {
             newlines: 0,
-            spot: Spot::Preamble,
+            spot: State::Preamble,
             body: Body {
                 clauses: 0,
                 formula: Formula::new(alloc, 0),
@@ -42,7 +42,7 @@ impl Reader {
     }
 
     /// Takes the next byte.
-    fn take_byte(&mut self, alloc: Global, byte: u8) -> Result<(), Stop>
+    fn take_byte(&mut self, alloc: Global, byte: u8) -> Result<(), Halt>
         requires lawful { IsLawful self.old.body }
         requires room { self.old.newlines + 1 < 2 ^ 64 }
         ensures ok { OnOk result (Takes self.old (byte ∷ []) self.new) }
@@ -50,7 +50,7 @@ impl Reader {
         ensures few { self.new.newlines ≤ self.old.newlines + 1 }
     {
         let kind = kind_of(byte);
-        let spot = next_spot(alloc, self.spot, &mut self.body, byte, kind)?;
+        let spot = next_state(alloc, self.spot, &mut self.body, byte, kind)?;
         self.spot = spot;
         if byte == b'\n' {
             self.newlines += 1;
@@ -59,7 +59,7 @@ impl Reader {
     }
 
     /// Takes the bytes, one after another, up to one that stops it.
-    pub fn take_bytes(&mut self, alloc: Global, bytes: &[u8]) -> Result<(), Stop>
+    pub fn take_bytes(&mut self, alloc: Global, bytes: &[u8]) -> Result<(), Halt>
         requires lawful { IsLawful self.old.body }
         requires room { self.old.newlines + length bytes.now < 2 ^ 64 }
         ensures ok { OnOk result (Takes self.old bytes.now self.new) }
@@ -73,44 +73,44 @@ impl Reader {
     }
 
     /// The answer where no more bytes are taken.
-    pub fn answer(self, stop: Stop) -> Result<Formula, ReadStop>
+    pub fn answer(self, stop: Halt) -> Result<Formula, ReadStop>
         requires room { self.newlines + 1 < 2 ^ 64 }
         ensures { Replies stop self result }
     {
         match stop {
-            Stop::Bad(code) => Err(ReadStop::Bad {
+            Halt::Bad(code) => Err(ReadStop::Bad {
                 code,
                 line: self.newlines + 1,
             }),
-            Stop::Done => Ok(self.body.formula),
-            Stop::Memory => Err(ReadStop::Memory),
+            Halt::Done => Ok(self.body.formula),
+            Halt::Memory => Err(ReadStop::Memory),
         }
     }
 
     /// Takes the end of the input as the end of the last token, or of the header line.
-    fn close_token(&mut self, alloc: Global) -> Result<(), Stop>
+    fn close_token(&mut self, alloc: Global) -> Result<(), Halt>
         requires { IsLawful self.old.body }
         ensures ok { OnOk result (Closes self.old self.new) }
         ensures newlines { self.new.newlines ≡ self.old.newlines }
         ensures fails { IfErr result (λ stop. FailsHere self.old stop) }
     {
         match self.spot {
-            Spot::Preamble | Spot::PreambleComment => Err(Stop::Bad(Code::NoHeader)),
-            Spot::Header(spot) => match header_of(spot) {
+            State::Preamble | State::PreambleComment => Err(Halt::Bad(Code::NoHeader)),
+            State::Header(spot) => match header_of(spot) {
                 Ok(header) => {
                     self.body = Body::new(alloc, header);
                     Ok(())
                 }
-                Err(code) => Err(Stop::Bad(code)),
+                Err(code) => Err(Halt::Bad(code)),
             },
-            Spot::Line | Spot::Comment | Spot::Gap => Ok(()),
-            Spot::Minus => Err(Stop::Bad(Code::BadToken)),
-            Spot::Number(neg, value) => self.body.take_integer(alloc, neg, value),
+            State::Line | State::Comment | State::Gap => Ok(()),
+            State::Minus => Err(Halt::Bad(Code::BadToken)),
+            State::Number(neg, value) => self.body.take_integer(alloc, neg, value),
         }
     }
 
     /// Takes the end of the input.
-    fn close(&mut self, alloc: Global) -> Result<(), Stop>
+    fn close(&mut self, alloc: Global) -> Result<(), Halt>
         requires { IsLawful self.old.body }
         ensures ok { OnOk result ((meaning self.old [] ≡ Ok self.new.body.formula) × IsLawful self.new.body) }
         ensures newlines { self.new.newlines ≡ self.old.newlines }
@@ -119,7 +119,7 @@ impl Reader {
         self.close_token(alloc)?;
         match self.body.check_end() {
             Ok(()) => Ok(()),
-            Err(code) => Err(Stop::Bad(code)),
+            Err(code) => Err(Halt::Bad(code)),
         }
     }
 

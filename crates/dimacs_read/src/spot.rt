@@ -2,7 +2,7 @@
 
 /// Where a reader stands in the header line.
 #[derive(Clone, Copy)]
-pub(crate) enum HeaderSpot {
+pub(crate) enum HeaderState {
     P,
     AfterP,
     C,
@@ -19,12 +19,12 @@ pub(crate) enum HeaderSpot {
 
 /// Where a reader stands in a text.
 #[derive(Clone, Copy)]
-pub(crate) enum Spot {
+pub(crate) enum State {
     /// Before the header, with no more than blanks before on the line.
     Preamble,
     /// In a comment before the header.
     PreambleComment,
-    Header(HeaderSpot),
+    Header(HeaderState),
     /// Behind the header, with no more than blanks before on the line.
     Line,
     /// In a comment behind the header.

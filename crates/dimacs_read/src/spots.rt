@@ -4,36 +4,36 @@ ghost use Rattle.dimacs_read.specs.Bytes.{IsKind};
 ghost use Rattle.dimacs_read.specs.Body.{IsLawful};
 ghost use Rattle.dimacs_read.specs.State.{Leads, Stops};
 ghost use Rattle.dimacs_read.specs.declared.body.Body.{Body as BodyState};
-ghost use Rattle.dimacs_read.specs.declared.spot.Spot.TheVariants.{Preamble, Header, Line, Gap, Minus, Number};
+ghost use Rattle.dimacs_read.specs.declared.spot.State.TheVariants.{Preamble, Header, Line, Gap, Minus, Number};
 
 use crate::body::Body;
-use crate::bytes::{Kind, with_digit};
+use crate::bytes::{ByteKind, with_digit};
 use crate::header;
-use crate::spot::{HeaderSpot, Spot};
-use crate::stop::{Code, Stop};
+use crate::spot::{HeaderState, State};
+use crate::stop::{Code, Halt};
 use std::alloc::Global;
 
 /// What a byte leads to before the header.
-fn behind_preamble(byte: u8, kind: Kind) -> Result<Spot, Stop>
+fn in_preamble(byte: u8, kind: ByteKind) -> Result<State, Halt>
     requires { IsKind byte kind }
     ensures { (b : BodyState) → MatchResult result (λ next. Leads Preamble b byte next b) (λ stop. Stops Preamble b byte stop b) }
 {
     match (kind, byte) {
-        (Kind::Newline | Kind::Blank, _) => Ok(Spot::Preamble),
-        (Kind::Other, b'c') => Ok(Spot::PreambleComment),
-        (Kind::Other, b'p') => Ok(Spot::Header(HeaderSpot::P)),
-        _ => Err(Stop::Bad(Code::NoHeader)),
+        (ByteKind::Newline | ByteKind::Blank, _) => Ok(State::Preamble),
+        (ByteKind::Other, b'c') => Ok(State::PreambleComment),
+        (ByteKind::Other, b'p') => Ok(State::Header(HeaderState::P)),
+        _ => Err(Halt::Bad(Code::NoHeader)),
     }
 }
 
 /// What a byte leads to in the header line. The newline opens the formula.
-fn behind_header(
+fn in_header(
     alloc: Global,
-    spot: HeaderSpot,
+    spot: HeaderState,
     body: &mut Body,
     byte: u8,
-    kind: Kind,
-) -> Result<Spot, Stop>
+    kind: ByteKind,
+) -> Result<State, Halt>
     requires kind { IsKind byte kind }
     requires lawful { IsLawful body.old }
     ensures lawful { OnOk result (IsLawful body.new) }
@@ -43,71 +43,71 @@ fn behind_header(
     if byte == b'\n' {
         let header = match header::header_of(spot) {
             Ok(header) => header,
-            Err(code) => return Err(Stop::Bad(code)),
+            Err(code) => return Err(Halt::Bad(code)),
         };
         *body = Body::new(alloc, header);
-        return Ok(Spot::Line);
+        return Ok(State::Line);
     }
-    match header::next_spot(spot, byte, kind) {
-        Some(next) => Ok(Spot::Header(next)),
-        None => Err(Stop::Bad(Code::BadHeader)),
+    match header::next_state(spot, byte, kind) {
+        Some(next) => Ok(State::Header(next)),
+        None => Err(Halt::Bad(Code::BadHeader)),
     }
 }
 
 /// What a byte leads to behind a token and a blank.
-fn behind_gap(byte: u8, kind: Kind) -> Result<Spot, Stop>
+fn after_blank(byte: u8, kind: ByteKind) -> Result<State, Halt>
     requires { IsKind byte kind }
     ensures { (b : BodyState) → MatchResult result (λ next. Leads Gap b byte next b) (λ stop. Stops Gap b byte stop b) }
 {
     match (kind, byte) {
-        (Kind::Newline, _) => Ok(Spot::Line),
-        (Kind::Blank, _) => Ok(Spot::Gap),
-        (Kind::Digit(digit), _) => Ok(Spot::Number(false, digit)),
-        (Kind::Other, b'-') => Ok(Spot::Minus),
-        _ => Err(Stop::Bad(Code::BadToken)),
+        (ByteKind::Newline, _) => Ok(State::Line),
+        (ByteKind::Blank, _) => Ok(State::Gap),
+        (ByteKind::Digit(digit), _) => Ok(State::Number(false, digit)),
+        (ByteKind::Other, b'-') => Ok(State::Minus),
+        _ => Err(Halt::Bad(Code::BadToken)),
     }
 }
 
 /// What a byte leads to at the front of a line behind the header.
-fn behind_newline(body: &Body, byte: u8, kind: Kind) -> Result<Spot, Stop>
+fn after_newline(body: &Body, byte: u8, kind: ByteKind) -> Result<State, Halt>
     requires kind { IsKind byte kind }
     requires lawful { IsLawful body.now }
     ensures leads { IfOk result (λ next. Leads Line body.now byte next body.now) }
     ensures stops { IfErr result (λ stop. Stops Line body.now byte stop body.now) }
 {
     if byte == b'c' {
-        return Ok(Spot::Comment);
+        return Ok(State::Comment);
     }
     if byte == b'%' {
         return Err(body.stop_at_mark());
     }
     match kind {
-        Kind::Newline | Kind::Blank => Ok(Spot::Line),
-        Kind::Digit(_) => behind_gap(byte, kind),
-        Kind::Other => behind_gap(byte, kind),
+        ByteKind::Newline | ByteKind::Blank => Ok(State::Line),
+        ByteKind::Digit(_) => after_blank(byte, kind),
+        ByteKind::Other => after_blank(byte, kind),
     }
 }
 
 /// What a byte leads to behind a minus sign.
-fn behind_minus(byte: u8, kind: Kind) -> Result<Spot, Stop>
+fn after_minus(byte: u8, kind: ByteKind) -> Result<State, Halt>
     requires { IsKind byte kind }
     ensures { (b : BodyState) → MatchResult result (λ next. Leads Minus b byte next b) (λ stop. Stops Minus b byte stop b) }
 {
     match kind {
-        Kind::Digit(digit) => Ok(Spot::Number(true, digit)),
-        _ => Err(Stop::Bad(Code::BadToken)),
+        ByteKind::Digit(digit) => Ok(State::Number(true, digit)),
+        _ => Err(Halt::Bad(Code::BadToken)),
     }
 }
 
 /// What a byte leads to in the digits of a token.
-fn behind_number(
+fn in_number(
     alloc: Global,
     body: &mut Body,
     neg: bool,
     value: u64,
     byte: u8,
-    kind: Kind,
-) -> Result<Spot, Stop>
+    kind: ByteKind,
+) -> Result<State, Halt>
     requires kind { IsKind byte kind }
     requires lawful { IsLawful body.old }
     ensures lawful { OnOk result (IsLawful body.new) }
@@ -115,34 +115,34 @@ fn behind_number(
     ensures stops { IfErr result (λ stop. Stops (Number neg value) body.old byte stop body.new) }
 {
     match kind {
-        Kind::Newline => {
+        ByteKind::Newline => {
             body.take_integer(alloc, neg, value)?;
-            Ok(Spot::Line)
+            Ok(State::Line)
         }
-        Kind::Blank => {
+        ByteKind::Blank => {
             body.take_integer(alloc, neg, value)?;
-            Ok(Spot::Gap)
+            Ok(State::Gap)
         }
-        Kind::Digit(digit) => Ok(Spot::Number(neg, with_digit(value, digit))),
-        Kind::Other => Err(Stop::Bad(Code::BadToken)),
+        ByteKind::Digit(digit) => Ok(State::Number(neg, with_digit(value, digit))),
+        ByteKind::Other => Err(Halt::Bad(Code::BadToken)),
     }
 }
 
 /// What a byte leads to in a comment, from where its line's end leads.
-fn behind_comment(comment: Spot, line: Spot, byte: u8) -> Spot
+fn in_comment(comment: State, line: State, byte: u8) -> State
     ensures { result ≡ (if byte == 10 then line else comment) }
 {
     if byte == b'\n' { line } else { comment }
 }
 
 /// What a byte leads to.
-pub(crate) fn next_spot(
+pub(crate) fn next_state(
     alloc: Global,
-    spot: Spot,
+    spot: State,
     body: &mut Body,
     byte: u8,
-    kind: Kind,
-) -> Result<Spot, Stop>
+    kind: ByteKind,
+) -> Result<State, Halt>
     requires kind { IsKind byte kind }
     requires lawful { IsLawful body.old }
     ensures lawful { OnOk result (IsLawful body.new) }
@@ -150,13 +150,13 @@ pub(crate) fn next_spot(
     ensures stops { IfErr result (λ stop. Stops spot body.old byte stop body.new) }
 {
     match spot {
-        Spot::Preamble => behind_preamble(byte, kind),
-        Spot::PreambleComment => Ok(behind_comment(spot, Spot::Preamble, byte)),
-        Spot::Header(part) => behind_header(alloc, part, body, byte, kind),
-        Spot::Line => behind_newline(body, byte, kind),
-        Spot::Comment => Ok(behind_comment(spot, Spot::Line, byte)),
-        Spot::Gap => behind_gap(byte, kind),
-        Spot::Minus => behind_minus(byte, kind),
-        Spot::Number(neg, value) => behind_number(alloc, body, neg, value, byte, kind),
+        State::Preamble => in_preamble(byte, kind),
+        State::PreambleComment => Ok(in_comment(spot, State::Preamble, byte)),
+        State::Header(part) => in_header(alloc, part, body, byte, kind),
+        State::Line => after_newline(body, byte, kind),
+        State::Comment => Ok(in_comment(spot, State::Line, byte)),
+        State::Gap => after_blank(byte, kind),
+        State::Minus => after_minus(byte, kind),
+        State::Number(neg, value) => in_number(alloc, body, neg, value, byte, kind),
     }
 }

@@ -91,29 +91,29 @@ pub enum ReadStop {
 
 /// Why a reader takes no further byte.
 #[derive(Clone, Copy)]
-pub(crate) enum Stop {
+pub(crate) enum Halt {
     Bad(Code),
     /// The formula has ended.
     Done,
     Memory,
 }
 
-impl From<AllocError> for Stop {
-    ghost use Rattle.dimacs_read.specs.declared.stop.Stop.TheVariants.{Memory};
+impl From<AllocError> for Halt {
+    ghost use Rattle.dimacs_read.specs.declared.stop.Halt.TheVariants.{Memory};
 
     ghost from_gives = { λ _ stop. stop ≡ Memory };
 
     fn from(_: AllocError) -> Self {
-        Stop::Memory
+        Halt::Memory
     }
 }
 
-impl<T: Drop> From<AllocFailed<T>> for Stop {
-    ghost use Rattle.dimacs_read.specs.declared.stop.Stop.TheVariants.{Memory};
+impl<T: Drop> From<AllocFailed<T>> for Halt {
+    ghost use Rattle.dimacs_read.specs.declared.stop.Halt.TheVariants.{Memory};
 
     ghost from_gives = { λ _ stop. stop ≡ Memory };
 
     fn from(_: AllocFailed<T>) -> Self {
-        Stop::Memory
+        Halt::Memory
     }
 }

@@ -25,7 +25,7 @@ pub enum ReadLinesStop {
 }
 
 /// What follows the front, where the bytes begin with it.
-fn behind<'a>(bytes: &'a [u8], front: &[u8]) -> Option<&'a [u8]>
+fn strip_prefix<'a>(bytes: &'a [u8], front: &[u8]) -> Option<&'a [u8]>
     ensures found { IfSome result (λ rest. bytes.now ≡ front.now ++ rest.now) }
     ensures all { (more : List ℕ) → bytes.now ≡ front.now ++ more → IsSome result }
 {
@@ -87,7 +87,7 @@ fn candidate(bytes: &[u8]) -> Option<Lit>
     ensures on { IfSome result (IsOn (2 ^ 30)) }
     ensures all { (l : Literal) (more : List ℕ) → IsOn (2 ^ 30) l → bytes.now ≡ lit_text l ++ 32 ∷ more → result ≡ Some l }
 {
-    match behind(bytes, b"-") {
+    match strip_prefix(bytes, b"-") {
         Some(digits) => literal_at(true, digits),
         None => literal_at(false, bytes),
     }
@@ -104,10 +104,10 @@ fn read_lit(bytes: &[u8]) -> Option<(Lit, &[u8])>
     };
     // A number has one spelling.
     let mut digits = Buffer::new();
-    let Some(rest) = behind(bytes, digits.format(number_of(lit)).as_bytes()) else {
+    let Some(rest) = strip_prefix(bytes, digits.format(number_of(lit)).as_bytes()) else {
         return None;
     };
-    match behind(rest, b" ") {
+    match strip_prefix(rest, b" ") {
         Some(after) => Some((lit, after)),
         None => None,
     }
@@ -125,7 +125,7 @@ fn read_lits(alloc: Global, bytes: &[u8]) -> Result<Option<(Lits, &[u8])>, Alloc
         lits.push(lit)?;
         rest = after;
     }
-    match behind(rest, b"0\n") {
+    match strip_prefix(rest, b"0\n") {
         Some(after) => Ok(Some((Lits::from_vec(lits), after))),
         None => Ok(None),
     }
@@ -137,7 +137,7 @@ fn read_line(alloc: Global, bytes: &[u8]) -> Result<Option<(Line, &[u8])>, Alloc
     ensures on { IfOk result (λ o. IfSome o (λ r. All (IsOn (2 ^ 30)) (lits_of r.0))) }
     ensures all { IfOk result (λ o. BeginsWithLine bytes.now → IsSome o) }
 {
-    match behind(bytes, b"d ") {
+    match strip_prefix(bytes, b"d ") {
         Some(rest) => match read_lits(alloc, rest)? {
             Some((lits, after)) => Ok(Some((Line::Del(lits), after))),
             None => Ok(None),

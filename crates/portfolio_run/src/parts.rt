@@ -36,7 +36,7 @@ fn open_ring<S: Sink, G: Gate, H>(
 
 /// Takes all rings apart: their passes, and their ends with what they counted, both in order. All that is known of a port is
 /// then known of what its pass has of the ring. `first` is another pass of the table, and names it.
-fn take_apart<S: Sink, G: Gate, H>(
+fn split_rings<S: Sink, G: Gate, H>(
     table: &Shared<Book<S>>,
     first: &Pass<Book<S>>,
     _plan: &Plan,
@@ -60,7 +60,7 @@ fn take_apart<S: Sink, G: Gate, H>(
 
 /// Takes all rings in, once they have run: their passes into the first one, and their ends with what they counted in order.
 /// `back` has room for the passes.
-pub(crate) fn take_in<S: Sink, G: Gate, H>(
+pub(crate) fn join_rings<S: Sink, G: Gate, H>(
     table: &Shared<Book<S>>,
     first: &mut Pass<Book<S>>,
     plan: &Plan,
@@ -76,7 +76,7 @@ pub(crate) fn take_in<S: Sink, G: Gate, H>(
     ensures { AllHaveRun table.now first.old.me.0 (home_of first.old) plan.now first.new ends.new.items }
 {
     let mut back = back;
-    take_apart(table, first, plan, rings, &mut back, ends);
+    split_rings(table, first, plan, rings, &mut back, ends);
     gather(table, first, back);
 }
 

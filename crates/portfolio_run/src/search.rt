@@ -10,7 +10,7 @@ ghost use Rattle.portfolio_run.specs.Seats.{HasRightsFrom, IsAtRest};
 use crate::answer::Answer;
 use crate::decision::decide;
 use crate::jobs::{RingJob, run_all};
-use crate::parts::{note_counts, take_in};
+use crate::parts::{join_rings, note_counts};
 use crate::plan::Plan;
 use crate::ports::make_ports;
 use crate::seats::{gather, grant_all, hand_out};
@@ -73,7 +73,7 @@ fn run_rings<S: Sink + Send, G: Gate + Sync, H: Threads + Wait + Sync>(
     let mut rings = rings;
     run_all(rt, alloc, rings.as_mut_slice());
     let mut ends = ends;
-    take_in(table, first, plan, rings, back, &mut ends);
+    join_rings(table, first, plan, rings, back, &mut ends);
     note_counts(ends.as_slice(), tally);
     decide(table, first, stack, ends)
 }

@@ -17,7 +17,7 @@ use Rattle.ring_port.specs.Deleting.{DroppedOnce}
 use Rattle.ring_port.proofs.LogSteps.{In_All}
 use Rattle.ring_port.proofs.Holdings.{All_In}
 use Rattle.ring_port.proofs.PlainLemmas.{dropped_others}
-use Rattle.ring_trail.specs.declared.step.Step.{Step}
+use Rattle.ring_trail.specs.declared.step.TrailStep.{TrailStep}
 use Rattle.ring_trail.specs.TrailData.{TrailData, no_step, reason_at}
 use Rattle.ring_trail.specs.Reasoned.{IsSeen}
 use Rattle.ring_trail.specs.Closed.{IsClosed}
@@ -173,13 +173,13 @@ lits_same s r a e = ap lits_in e
 clause_same : (s r : PortState) (a : ℕ) → held_at r a ≡ held_at s a → clause_at r a ≡ clause_at s a
 clause_same s r a e = ap (λ (o : Option Holding). option_map (λ (h : Holding). h.lits) o) e
 
-no_reason : (steps : List Step) (seen : List Literal) (a : ℕ) → is_reason steps a ≡ false → (p : ℕ) (c : Cref) → p < length steps → reason_at steps p ≡ Some c → c.address ≡ a → IsSeen seen steps p
+no_reason : (steps : List TrailStep) (seen : List Literal) (a : ℕ) → is_reason steps a ≡ false → (p : ℕ) (c : Cref) → p < length steps → reason_at steps p ≡ Some c → c.address ≡ a → IsSeen seen steps p
 no_reason steps seen a e p c lt reason is =
-    let f : option_map_or (λ (d : Cref). d.address == a) (get_or steps p no_step).reason false ≡ false = none_In (λ (s : Step). option_map_or (λ (d : Cref). d.address == a) s.reason false) steps (get_or steps p no_step) e (In_get_or steps p no_step lt) in
+    let f : option_map_or (λ (d : Cref). d.address == a) (get_or steps p no_step).reason false ≡ false = none_In (λ (s : TrailStep). option_map_or (λ (d : Cref). d.address == a) s.reason false) steps (get_or steps p no_step) e (In_get_or steps p no_step lt) in
     let g : (c.address == a) ≡ false = subst (λ (o : Option Cref). option_map_or (λ (d : Cref). d.address == a) o false ≡ false) reason f in
     absurd (true≢false (sym (at_it c.address a is) ∙ g))
 
-reasons_left : (cs ds : List Cref) (s : PortState) (steps : List Step) → All (λ (c : Cref). is_reason steps c.address ≡ false) ds → HasReasons cs s steps → HasReasons (without_all cs ds) s steps
+reasons_left : (cs ds : List Cref) (s : PortState) (steps : List TrailStep) → All (λ (c : Cref). is_reason steps c.address ≡ false) ds → HasReasons cs s steps → HasReasons (without_all cs ds) s steps
 reasons_left cs [] s steps free h = subst (λ (xs : List Cref). HasReasons xs s steps) (without_none cs) h
 reasons_left cs (d ∷ ds) s steps free h =
     subst (λ (xs : List Cref). HasReasons xs s steps) (without_first cs ds d)

@@ -9,7 +9,7 @@ use Rattle.std.proofs.lemmas.List.{take_more}
 use Rattle.std.proofs.lemmas.List.Elements.{filter_map-append}
 use Rattle.std.proofs.lemmas.List.Sorted.{sorted_far, length_permutation}
 use Rattle.reduce_db.specs.declared.candidate.Candidate.{Candidate}
-use Rattle.reduce_db.specs.Ranking.{ranks_before, goes, AreSpread, IsHalf, only_some}
+use Rattle.reduce_db.specs.Ranking.{ranks_before, is_dropped, AreSpread, IsHalf, only_some}
 use Rattle.reduce_db.proofs.Ranks.{ranks_in_order, alike}
 use Rattle.reduce_db.proofs.Counting.{passes_alike, from_place, two_pass, none_pass, filter_yes, filter_no}
 
@@ -47,19 +47,19 @@ not_false b e = ap not e
 
 -- in order, those from a place on are the ones that aren't before the one there
 pub from_first : (cs xs : List Candidate) (k : ℕ) (t : Candidate) → AreSpread cs → IsPermutation cs xs → IsSortedBy ranks_before xs → k < length xs → t ≡ get_or xs k t
-    → length (filter (λ c. goes (Some t) (Some c)) cs) ≡ length xs - k
+    → length (filter (λ c. is_dropped (Some t) (Some c)) cs) ≡ length xs - k
 from_first cs xs k t spread moved up lt is =
-    sym (passes_alike (λ c. goes (Some t) (Some c)) cs xs moved)
-    ∙ from_place (λ c. goes (Some t) (Some c)) xs k before after
+    sym (passes_alike (λ c. is_dropped (Some t) (Some c)) cs xs moved)
+    ∙ from_place (λ c. is_dropped (Some t) (Some c)) xs k before after
   where
     there : (d : Candidate) → get_or xs k d ≡ t
     there d = Rattle.std.proofs.lemmas.List.get_or_default xs k d t lt ∙ sym is
 
-    after : (j : ℕ) (d : Candidate) → k ≤ j → j < length xs → goes (Some t) (Some (get_or xs j d)) ≡ true
+    after : (j : ℕ) (d : Candidate) → k ≤ j → j < length xs → is_dropped (Some t) (Some (get_or xs j d)) ≡ true
     after j d le in' = not_false (ranks_before (get_or xs j d) t) (subst (λ (x : Candidate). ranks_before (get_or xs j d) x ≡ false) (there d) (sorted_far ranks_before ranks_in_order xs up k j d le in'))
 
-    before : (j : ℕ) (d : Candidate) → j < k → j < length xs → goes (Some t) (Some (get_or xs j d)) ≡ false
-    before j d low in' = elim (cases_Bool (ranks_before (get_or xs j d) t)) as (λ _. goes (Some t) (Some (get_or xs j d)) ≡ false) [
+    before : (j : ℕ) (d : Candidate) → j < k → j < length xs → is_dropped (Some t) (Some (get_or xs j d)) ≡ false
+    before j d low in' = elim (cases_Bool (ranks_before (get_or xs j d) t)) as (λ _. is_dropped (Some t) (Some (get_or xs j d)) ≡ false) [
       | inl is' ↦ not_true (ranks_before (get_or xs j d) t) is'
       | inr isnt ↦ absurd (
           let back = subst (λ (x : Candidate). ranks_before x (get_or xs j d) ≡ false) (there d) (sorted_far ranks_before ranks_in_order xs up j k d (omega arith) lt) in

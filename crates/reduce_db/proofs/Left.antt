@@ -9,7 +9,7 @@ use Rattle.ring_port.specs.PortState.{PortState, held_at}
 use Rattle.ring_port.specs.Deleting.{IsNotTaken}
 use Rattle.ring_port.proofs.Holdings.{All_In}
 use Rattle.ring_port.proofs.LogSteps.{In_All}
-use Rattle.ring_trail.specs.declared.step.Step.{Step}
+use Rattle.ring_trail.specs.declared.step.TrailStep.{TrailStep}
 use Rattle.watch_prop.specs.WatchData.{without_all}
 use Rattle.reduce_db.specs.Lemmas.{AreDistinct, AreLemmas}
 use Rattle.reduce_db.specs.Choice.{is_reason, IsChoice}
@@ -34,7 +34,7 @@ no_reason_of false b true e = absurd (true≢false (sym e))
 same_cref : (c d : Cref) → c.address ≡ d.address → c ≡ d
 same_cref c d e = λ i. record { address = e i }
 
-module _ (s : PortState) (steps : List Step) (lemmas kept dropped : List Cref) (choice : IsChoice s steps lemmas kept dropped) where
+module _ (s : PortState) (steps : List TrailStep) (lemmas kept dropped : List Cref) (choice : IsChoice s steps lemmas kept dropped) where
   pub dropped_distinct : AreDistinct lemmas → AreDistinct dropped
   dropped_distinct a = subst AreDistinct (sym choice.dropped_is) (filter_distinct choice.drops lemmas a)
 
@@ -48,8 +48,8 @@ module _ (s : PortState) (steps : List Step) (lemmas kept dropped : List Cref) (
   kept_apart : (c d : Cref) → Contains kept c → Contains dropped d → d.address ≢ c.address
   kept_apart c d k m e =
       let stays : not (choice.drops c) ≡ true = passes_filter (λ x. not (choice.drops x)) lemmas c (subst (λ (ys : List Cref). Contains ys c) choice.kept_is k) in
-      let goes : choice.drops d ≡ true = passes_filter choice.drops lemmas d (subst (λ (ys : List Cref). Contains ys d) choice.dropped_is m) in
-      true≢false (sym stays ∙ ap not (ap choice.drops (sym (same_cref d c e)) ∙ goes))
+      let is_dropped : choice.drops d ≡ true = passes_filter choice.drops lemmas d (subst (λ (ys : List Cref). Contains ys d) choice.dropped_is m) in
+      true≢false (sym stays ∙ ap not (ap choice.drops (sym (same_cref d c e)) ∙ is_dropped))
 
   was_lemma : (P : Cref → Type 0) → All P lemmas → All P kept
   was_lemma P h = subst (All P) (sym choice.kept_is) (All-filter (λ x. not (choice.drops x)) P lemmas h)

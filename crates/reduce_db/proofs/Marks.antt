@@ -12,20 +12,20 @@ use Rattle.std.proofs.lemmas.List.Sorted.{searched, list_any-IsPermutation}
 use Rattle.std.proofs.lemmas.Bool.{cases_lt}
 use Rattle.std.proofs.lemmas.Bool.Decides.{nat_tests}
 use Rattle.sat_words.specs.declared.shared.Cref.{Cref}
-use Rattle.ring_trail.specs.declared.step.Step.{Step}
+use Rattle.ring_trail.specs.declared.step.TrailStep.{TrailStep}
 use Rattle.ring_trail.specs.TrailData.{no_step, reason_at}
 use Rattle.reduce_db.specs.Choice.{is_reason}
 use Rattle.reduce_db.specs.Ranking.{AreReasons}
 
 -- the address of a step's reason
-abbrev pub mark : Step → Option ℕ
+abbrev pub mark : TrailStep → Option ℕ
 mark s = option_map (λ (c : Cref). c.address) s.reason
 
 -- the addresses of the reasons, in the order of the steps
-abbrev pub marks : List Step → List ℕ
+abbrev pub marks : List TrailStep → List ℕ
 marks steps = filter_map mark steps
 
-pub marks_all : (steps : List Step) (a : ℕ) → list_any (λ x. x == a) (marks steps) ≡ is_reason steps a
+pub marks_all : (steps : List TrailStep) (a : ℕ) → list_any (λ x. x == a) (marks steps) ≡ is_reason steps a
 marks_all [] a = refl
 marks_all (s ∷ steps) a = by s.reason refl (marks_all steps a)
   where
@@ -33,12 +33,12 @@ marks_all (s ∷ steps) a = by s.reason refl (marks_all steps a)
     by None e h = rw e h
     by (Some c) e h = rw e (ap (λ (b : Bool). (c.address == a) || b) h)
 
-pub marks_none : (steps : List Step) (i : ℕ) → i < length steps → reason_at steps i ≡ None → marks (take (i + 1) steps) ≡ marks (take i steps)
+pub marks_none : (steps : List TrailStep) (i : ℕ) → i < length steps → reason_at steps i ≡ None → marks (take (i + 1) steps) ≡ marks (take i steps)
 marks_none steps i lt e =
     ap marks (take_more steps i no_step lt) ∙ filter_map-append mark (take i steps) (get_or steps i no_step ∷ [])
     ∙ (rw e (Rattle.std.proofs.Common.append-nil (marks (take i steps))))
 
-pub marks_some : (steps : List Step) (i : ℕ) (c : Cref) → i < length steps → reason_at steps i ≡ Some c → marks (take (i + 1) steps) ≡ marks (take i steps) ++ c.address ∷ []
+pub marks_some : (steps : List TrailStep) (i : ℕ) (c : Cref) → i < length steps → reason_at steps i ≡ Some c → marks (take (i + 1) steps) ≡ marks (take i steps) ++ c.address ∷ []
 marks_some steps i c lt e =
     ap marks (take_more steps i no_step lt) ∙ filter_map-append mark (take i steps) (get_or steps i no_step ∷ [])
     ∙ (rw e refl)
@@ -65,7 +65,7 @@ found_is xs x (Err i) h = sym (list_any_none (λ y. y == x) xs (λ k d lt.
 pub search_tells : (xs : List ℕ) (x : ℕ) (r : Result ℕ ℕ) → IsNonDecreasing xs → IsBinarySearchResult (λ y. nat_cmp y x) xs r → is_ok r ≡ list_any (λ y. y == x) xs
 search_tells xs x r rising h = found_is xs x r (searched xs x r h (λ i j le lt. rising i j 0 le lt))
 
-pub reasons_are : (steps : List Step) (sorted : List ℕ) → IsPermutation (marks steps) sorted → IsNonDecreasing sorted → AreReasons steps sorted
+pub reasons_are : (steps : List TrailStep) (sorted : List ℕ) → IsPermutation (marks steps) sorted → IsNonDecreasing sorted → AreReasons steps sorted
 reasons_are steps sorted p rising = record {
   rising = rising;
   all = λ a. sym (list_any-IsPermutation (λ x. x == a) (marks steps) sorted p) ∙ marks_all steps a;

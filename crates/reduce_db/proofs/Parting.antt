@@ -4,7 +4,7 @@ use Rattle.std.specs.List.{filter}
 use Rattle.std.proofs.lemmas.List.Elements.{filter_more}
 use Rattle.sat_words.specs.declared.shared.Cref.{Cref}
 use Rattle.reduce_db.specs.declared.candidate.Candidate.{Candidate}
-use Rattle.reduce_db.specs.Ranking.{goes}
+use Rattle.reduce_db.specs.Ranking.{is_dropped}
 
 abbrev pub no_cref : Cref
 no_cref = record { address = 0 }
@@ -21,6 +21,6 @@ map_at f (x ∷ xs) zero d e lt = refl
 map_at f (x ∷ xs) (suc i) d e lt = map_at f xs i d e (omega arith)
 
 -- the answer for the lemma at a place
-pub goes_at : (f : Cref → Option Candidate) (lemmas : List Cref) (candidates : List (Option Candidate)) (first : Option Candidate) (i : ℕ) (b r : Bool) → candidates ≡ map f lemmas → i < length lemmas → r ≡ goes first (get_or candidates i None) → r ≡ b → goes first (f (get_or lemmas i no_cref)) ≡ b
+pub goes_at : (f : Cref → Option Candidate) (lemmas : List Cref) (candidates : List (Option Candidate)) (first : Option Candidate) (i : ℕ) (b r : Bool) → candidates ≡ map f lemmas → i < length lemmas → r ≡ is_dropped first (get_or candidates i None) → r ≡ b → is_dropped first (f (get_or lemmas i no_cref)) ≡ b
 goes_at f lemmas candidates first i b r e lt is q =
-    ap (goes first) (sym (map_at f lemmas i no_cref None lt) ∙ ap (λ (cs : List (Option Candidate)). get_or cs i None) (sym e)) ∙ sym is ∙ q
+    ap (is_dropped first) (sym (map_at f lemmas i no_cref None lt) ∙ ap (λ (cs : List (Option Candidate)). get_or cs i None) (sym e)) ∙ sym is ∙ q

@@ -5,7 +5,7 @@ use Rattle.std.specs.Option.{option_map_or}
 use Rattle.sat_words.specs.declared.shared.Cref.{Cref}
 use Rattle.sat_words.specs.declared.shared.Head.{Head}
 use Rattle.ring_port.specs.PortState.{PortState, held_at, head_of}
-use Rattle.ring_trail.specs.declared.step.Step.{Step}
+use Rattle.ring_trail.specs.declared.step.TrailStep.{TrailStep}
 
 -- the size, the glue and the number of the clause at an address
 abbrev pub head_at : PortState → ℕ → Head
@@ -16,16 +16,16 @@ abbrev pub comes_before : Head → Head → Bool
 comes_before x y = nat_lt x.glue y.glue || ((x.glue == y.glue) && (nat_lt x.size y.size || ((x.size == y.size) && nat_lt x.number y.number)))
 
 -- the clause at the address is the reason of a literal
-abbrev pub is_reason : List Step → ℕ → Bool
-is_reason steps a = list_any (λ (s : Step). option_map_or (λ (c : Cref). c.address == a) s.reason false) steps
+abbrev pub is_reason : List TrailStep → ℕ → Bool
+is_reason steps a = list_any (λ (s : TrailStep). option_map_or (λ (c : Cref). c.address == a) s.reason false) steps
 
 -- a lemma may be dropped: it has more than two literals and a glue above 2, and is no reason
-abbrev pub is_droppable : PortState → List Step → Cref → Bool
+abbrev pub is_droppable : PortState → List TrailStep → Cref → Bool
 is_droppable s steps c = nat_lt 2 (head_at s c.address).size && (nat_lt 2 (head_at s c.address).glue && not (is_reason steps c.address))
 
 -- some of the lemmas are dropped, and the others are kept, in their order: of those that may be dropped the half, rounded down,
 -- and no lemma that is dropped comes before one that may be and is kept
-pub record IsChoice (s : PortState) (steps : List Step) (lemmas kept dropped : List Cref) : Type 0 where
+pub record IsChoice (s : PortState) (steps : List TrailStep) (lemmas kept dropped : List Cref) : Type 0 where
   pub drops : Cref → Bool
   pub kept_is : kept ≡ filter (λ c. not (drops c)) lemmas
   pub dropped_is : dropped ≡ filter drops lemmas

@@ -6,7 +6,7 @@ use Rattle.std.specs.Ordering.{is_lt, ordering_then, nat_cmp}
 use Rattle.sat_words.specs.declared.shared.Cref.{Cref}
 use Rattle.sat_words.specs.declared.shared.Head.{Head}
 use Rattle.ring_port.specs.PortState.{PortState}
-use Rattle.ring_trail.specs.declared.step.Step.{Step}
+use Rattle.ring_trail.specs.declared.step.TrailStep.{TrailStep}
 use Rattle.reduce_db.specs.Choice.{head_at, is_reason, is_droppable}
 use Rattle.reduce_db.specs.declared.candidate.Candidate.{Candidate}
 
@@ -19,7 +19,7 @@ abbrev pub candidate_with : Head → ℕ → Candidate
 candidate_with h a = record { glue = h.glue; size = h.size; number = h.number; address = a }
 
 -- the lemma as a candidate, where it may be dropped
-abbrev pub candidate_of : PortState → List Step → Cref → Option Candidate
+abbrev pub candidate_of : PortState → List TrailStep → Cref → Option Candidate
 candidate_of s steps c = if is_droppable s steps c then Some (candidate_with (head_at s c.address) c.address) else None
 
 -- those that are candidates
@@ -32,16 +32,16 @@ AreSpread [] = ⊤
 AreSpread (x ∷ xs) = All (λ (y : Candidate). y.address ≢ x.address) xs × AreSpread xs
 
 -- a candidate is dropped where it isn't before the first that is; where there is no first none is
-abbrev pub goes : Option Candidate → Option Candidate → Bool
-goes None c = false
-goes (Some first) None = false
-goes (Some first) (Some c) = not (ranks_before c first)
+abbrev pub is_dropped : Option Candidate → Option Candidate → Bool
+is_dropped None c = false
+is_dropped (Some first) None = false
+is_dropped (Some first) (Some c) = not (ranks_before c first)
 
 -- from the first on it is half of the candidates, rounded down
 abbrev pub IsHalf : List Candidate → Option Candidate → Type 0
-IsHalf cs first = length (filter (λ c. goes first (Some c)) cs) ≡ length cs / 2
+IsHalf cs first = length (filter (λ c. is_dropped first (Some c)) cs) ≡ length cs / 2
 
 -- the addresses in order, each a reason's, and each reason's among them
-pub record AreReasons (steps : List Step) (addresses : List ℕ) : Type 0 where
+pub record AreReasons (steps : List TrailStep) (addresses : List ℕ) : Type 0 where
   pub rising : IsNonDecreasing addresses
   pub all : (a : ℕ) → list_any (λ x. x == a) addresses ≡ is_reason steps a

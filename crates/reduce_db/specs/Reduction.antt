@@ -4,13 +4,13 @@ use Rattle.sat_words.specs.declared.shared.Cref.{Cref}
 use Rattle.ring_port.specs.declared.stops.PortStop.{PortStop}
 use Rattle.ring_port.specs.declared.stops.PortStop.TheVariants.{Memory}
 use Rattle.ring_port.specs.PortState.{PortState}
-use Rattle.ring_trail.specs.declared.step.Step.{Step}
+use Rattle.ring_trail.specs.declared.step.TrailStep.{TrailStep}
 use Rattle.watch_prop.specs.WatchData.{WatchData, attached, without_all}
 use Rattle.reduce_db.specs.Choice.{IsChoice}
 use Rattle.reduce_db.specs.Dropping.{DroppedAll}
 
 -- some of the lemmas were chosen; they were dropped, and are attached no longer; the others are left
-pub record WasReduced (old new : PortState) (v w : WatchData) (steps : List Step) (lemmas left : List Cref) : Type 0 where
+pub record WasReduced (old new : PortState) (v w : WatchData) (steps : List TrailStep) (lemmas left : List Cref) : Type 0 where
   pub dropped : List Cref
   pub choice : IsChoice old steps lemmas left dropped
   pub port : DroppedAll old new dropped
@@ -24,6 +24,6 @@ pub record WasCutShort (old new : PortState) (lemmas : List Cref) (stop : PortSt
   pub port : DroppedAll old new dropped
 
 -- what `reduce` did
-abbrev pub Reduced : PortState → PortState → WatchData → WatchData → List Step → List Cref → List Cref → Result (Unit {0}) PortStop → Type 0
+abbrev pub Reduced : PortState → PortState → WatchData → WatchData → List TrailStep → List Cref → List Cref → Result (Unit {0}) PortStop → Type 0
 Reduced old new v w steps lemmas left (Ok done) = WasReduced old new v w steps lemmas left
 Reduced old new v w steps lemmas left (Err stop) = WasCutShort old new lemmas stop

@@ -2,7 +2,7 @@
 ghost use Rattle.std.specs.Prelude.{◌≡◌, ◌-◌, ◌/◌, IfOk, length, map, slice_get, All, IsSome, List};
 ghost use Rattle.sat_words.specs.declared.shared.Cref.{Cref};
 ghost use Rattle.ring_port.specs.PortState.{held_at};
-ghost use Rattle.ring_trail.specs.declared.step.Step.{Step};
+ghost use Rattle.ring_trail.specs.declared.step.TrailStep.{TrailStep};
 ghost use Rattle.reduce_db.specs.Ranking.{AreReasons, AreSpread, IsHalf, candidate_of, only_some, ranks_before};
 
 use crate::reasons::has_reason;
@@ -31,9 +31,9 @@ impl Candidate {
 /// The lemma as a candidate, where it may be dropped. The reasons' addresses are in order.
 fn candidate_of<P: Port>(port: &mut P, reasons: &[u64], c: Cref) -> Option<Candidate>
     requires held { IsSome (held_at (P.state port.old) c.address) }
-    requires reasons { (steps : List Step) × AreReasons steps reasons.now }
+    requires reasons { (steps : List TrailStep) × AreReasons steps reasons.now }
     ensures same { P.state port.new ≡ P.state port.old }
-    ensures candidate { (steps : List Step) → AreReasons steps reasons.now → result ≡ candidate_of (P.state port.old) steps c }
+    ensures candidate { (steps : List TrailStep) → AreReasons steps reasons.now → result ≡ candidate_of (P.state port.old) steps c }
 {
     let head = port.head(c);
     if head.size <= 2 || head.glue <= 2 || has_reason(reasons, c.address) {
@@ -55,9 +55,9 @@ pub(crate) fn candidates_of<P: Port>(
     lemmas: &[Cref],
 ) -> Result<Vec<Option<Candidate>>, AllocError>
     requires held { All (λ (c : Cref). IsSome (held_at (P.state port.old) c.address)) lemmas.now }
-    requires reasons { (steps : List Step) × AreReasons steps reasons.now }
+    requires reasons { (steps : List TrailStep) × AreReasons steps reasons.now }
     ensures same { P.state port.new ≡ P.state port.old }
-    ensures candidates { IfOk result (λ found. (steps : List Step) → AreReasons steps reasons.now → found.items ≡ map (candidate_of (P.state port.old) steps) lemmas.now) }
+    ensures candidates { IfOk result (λ found. (steps : List TrailStep) → AreReasons steps reasons.now → found.items ≡ map (candidate_of (P.state port.old) steps) lemmas.now) }
 {
     let mut candidates = Vec::new(alloc);
     for c in lemmas {

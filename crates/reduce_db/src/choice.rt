@@ -5,7 +5,7 @@ ghost use Rattle.ring_port.specs.PortState.{held_at};
 ghost use Rattle.reduce_db.specs.declared.candidate.Candidate.{Candidate};
 ghost use Rattle.reduce_db.specs.Lemmas.{AreDistinct};
 ghost use Rattle.reduce_db.specs.Choice.{IsChoice};
-ghost use Rattle.reduce_db.specs.Ranking.{goes};
+ghost use Rattle.reduce_db.specs.Ranking.{is_dropped};
 
 use crate::candidate::{Candidate, candidates_of, first_to_go};
 use crate::reasons::reasons_of;
@@ -36,25 +36,25 @@ pub(crate) fn choose<P: Port>(
     let reasons = reasons_of(alloc, trail)?;
     let candidates = candidates_of(alloc, port, reasons.as_slice(), lemmas)?;
     let first = first_to_go(alloc, candidates.as_slice())?;
-    let choice = part(alloc, lemmas, candidates.as_slice(), first)?;
+    let choice = split_off(alloc, lemmas, candidates.as_slice(), first)?;
     Ok(choice)
 }
 
 /// Parts the lemmas: those whose candidate isn't before the first that is dropped are dropped.
-fn part(
+fn split_off(
     alloc: Global,
     lemmas: &[Cref],
     candidates: &[Option<Candidate>],
     first: Option<Candidate>,
 ) -> Result<Choice, AllocError>
     requires { length candidates.now ≡ length lemmas.now }
-    ensures kept { IfOk result (λ choice. (f : Cref → Option Candidate) → candidates.now ≡ map f lemmas.now → choice.kept.items ≡ filter (λ c. not (goes first (f c))) lemmas.now) }
-    ensures dropped { IfOk result (λ choice. (f : Cref → Option Candidate) → candidates.now ≡ map f lemmas.now → choice.dropped.items ≡ filter (λ c. goes first (f c)) lemmas.now) }
+    ensures kept { IfOk result (λ choice. (f : Cref → Option Candidate) → candidates.now ≡ map f lemmas.now → choice.kept.items ≡ filter (λ c. not (is_dropped first (f c))) lemmas.now) }
+    ensures dropped { IfOk result (λ choice. (f : Cref → Option Candidate) → candidates.now ≡ map f lemmas.now → choice.dropped.items ≡ filter (λ c. is_dropped first (f c)) lemmas.now) }
 {
     let mut kept = Vec::new(alloc);
     let mut dropped = Vec::new(alloc);
     for (i, lemma) in lemmas.iter().enumerate() {
-        if goes(&first, &candidates[i]) {
+        if is_dropped(&first, &candidates[i]) {
             dropped.push(*lemma)?;
         } else {
             kept.push(*lemma)?;
@@ -64,8 +64,8 @@ fn part(
 }
 
 /// Whether a candidate is dropped, where the first that is stands so in order.
-fn goes(first: &Option<Candidate>, candidate: &Option<Candidate>) -> bool
-    ensures { result ≡ goes first.now candidate.now }
+fn is_dropped(first: &Option<Candidate>, candidate: &Option<Candidate>) -> bool
+    ensures { result ≡ is_dropped first.now candidate.now }
 {
     match (first, candidate) {
         (Some(first), Some(candidate)) => !candidate.ranks_before(first),

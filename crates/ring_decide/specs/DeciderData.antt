@@ -2,7 +2,7 @@
 use Rattle.std.specs.Prelude.{◌≡◌, ℕ, ◌-◌, ◌≤◌, Bool, true, false, not, List, length, None, IsSome}
 use Rattle.std.specs.List.{slice_index_or}
 use Rattle.sat_words.specs.Literal.{Literal}
-use Rattle.ring_trail.specs.declared.step.Step.{Step}
+use Rattle.ring_trail.specs.declared.step.TrailStep.{TrailStep}
 use Rattle.ring_trail.specs.TrailData.{value_of}
 
 pub record DeciderData : Type 0 where
@@ -20,11 +20,11 @@ abbrev pub phase_of : DeciderData → ℕ → Bool
 phase_of d v = slice_index_or d.phase (v - 1) false
 
 -- the literal of an active variable without a value, by its phase
-pub record IsDecided (d : DeciderData) (steps : List Step) (l : Literal) : Type 0 where
+pub record IsDecided (d : DeciderData) (steps : List TrailStep) (l : Literal) : Type 0 where
   pub active : IsActive d l.var
   pub free : value_of steps l.var ≡ None
   pub sign : l.neg ≡ not (phase_of d l.var)
 
 -- every active variable has a value
-abbrev pub AllValued : DeciderData → List Step → Type 0
+abbrev pub AllValued : DeciderData → List TrailStep → Type 0
 AllValued d steps = (v : ℕ) → IsActive d v → IsSome (value_of steps v)

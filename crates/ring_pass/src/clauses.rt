@@ -19,7 +19,7 @@ use std::sync::Wait;
 
 /// A clause whose line stands.
 #[derive(Clone, Copy, Drop)]
-pub(crate) struct Line {
+pub(crate) struct Stored {
     /// The cell that it is to have.
     pub(crate) cell: Cref,
     /// Its number.
@@ -36,7 +36,7 @@ pub(crate) fn write_clause<H: Wait, S: Sink>(
     kind: Kind,
     lits: &[Lit],
     glue: u32,
-) -> Result<Line, TurnStop>
+) -> Result<Stored, TurnStop>
     requires pass { IsPassOf table.now pass.old × (pass.old.me.1 ≡ []) }
     requires ring { IsFree pass.old.me.0 × (ring ≡ (only pass.old.me.0).core.ring) }
     requires may { MayAddClause pass.old.me.0.opening (entries_of (only pass.old.me.0)) (only pass.old.me.0).core (only pass.old.me.0).core.ring kind lits.now }
@@ -52,7 +52,7 @@ pub(crate) fn write_clause<H: Wait, S: Sink>(
     let number = turn.book.last();
     give_turn(table, pass, turn);
     match added {
-        Ok(cell) => Ok(Line { cell, number }),
+        Ok(cell) => Ok(Stored { cell, number }),
         Err(stop) => Err(stop),
     }
 }

@@ -161,9 +161,9 @@ grown_claim ws vs hs need inside long same = record {
 
 -- a clause that stands has no word among those that were claimed
 pub beside_claim : (ws vs : List ℕ) (hs ks : List Hole) (a need d : ℕ) → 0 < need → IsClaim ws vs hs ks a need → Stands ws hs d → (d + words_at ws d ≤ a) ⊎ (a + need ≤ d)
-beside_claim ws vs hs ks a need d some claim s =
+beside_claim ws vs hs ks a need d some take_words s =
     let fits = s.fits in
-    let clash : (w : ℕ) → a ≤ w → w < a + need → d ≤ w → w < d + words_at ws d → ⊥ = λ w lo hi from to. true≢false (sym (claim.were_free w lo hi (omega arith)) ∙ s.busy w from to) in
+    let clash : (w : ℕ) → a ≤ w → w < a + need → d ≤ w → w < d + words_at ws d → ⊥ = λ w lo hi from to. true≢false (sym (take_words.were_free w lo hi (omega arith)) ∙ s.busy w from to) in
     ⊎_elim
     (λ (less : a < d + words_at ws d).
     ⊎_elim
@@ -178,24 +178,24 @@ beside_claim ws vs hs ks a need d some claim s =
     (cases_lt a (d + words_at ws d))
 
 -- a clause is put into them
-module _ (ws us vs : List ℕ) (hs ks : List Hole) (a number glue : ℕ) (lits : List Literal) (claim : IsClaim ws us hs ks a (words_for (length lits))) (put : IsWritten us vs a number glue lits) where
+module _ (ws us vs : List ℕ) (hs ks : List Hole) (a number glue : ℕ) (lits : List Literal) (take_words : IsClaim ws us hs ks a (words_for (length lits))) (put : IsWritten us vs a number glue lits) where
   pub other_same : (d : ℕ) → Stands ws hs d → IsSame ws vs d
   other_same d s = same_clause ws vs d (λ w lo hi.
       (let fits = s.fits in
-      put.others w (⊎_elim (λ (before : d + words_at ws d ≤ a). inl (omega arith)) (λ (behind : a + words_for (length lits) ≤ d). inr (omega arith)) (beside_claim ws us hs ks a (words_for (length lits)) d (omega arith) claim s))
-      ∙ claim.same w (omega arith)))
+      put.others w (⊎_elim (λ (before : d + words_at ws d ≤ a). inl (omega arith)) (λ (behind : a + words_for (length lits) ≤ d). inr (omega arith)) (beside_claim ws us hs ks a (words_for (length lits)) d (omega arith) take_words s))
+      ∙ take_words.same w (omega arith)))
 
   pub other_stands : (d : ℕ) → Stands ws hs d → Stands vs ks d
-  other_stands d s = still_stands ws vs hs ks d (other_same d s) (let n = put.long in let m = claim.longer in omega arith) s
-      (λ w lo hi. false_unless (is_free ks w) (λ free. true≢false (sym (claim.others w free) ∙ s.busy w lo hi)))
+  other_stands d s = still_stands ws vs hs ks d (other_same d s) (let n = put.long in let m = take_words.longer in omega arith) s
+      (λ w lo hi. false_unless (is_free ks w) (λ free. true≢false (sym (take_words.others w free) ∙ s.busy w lo hi)))
 
   pub new_stands : Stands vs ks a
   new_stands =
       let size = put.size in
       let n : words_at vs a ≡ words_for (length lits) = ap words_for put.size in
       record {
-        fits = (let f = claim.fits in let l = put.long in omega arith);
-        busy = λ w lo hi. claim.taken w lo (omega arith);
+        fits = (let f = take_words.fits in let l = put.long in omega arith);
+        busy = λ w lo hi. take_words.taken w lo (omega arith);
         on = subst (λ (h : Holding). All (IsOn (2 ^ 30)) h.lits) (sym put.clause) put.on;
       }
 
@@ -204,7 +204,7 @@ module _ (ws us vs : List ℕ) (hs ks : List Hole) (a number glue : ℕ) (lits :
   other_apart d s =
       let e : words_at vs d ≡ words_at ws d = ap words_for (other_same d s).size in
       let n : words_at vs a ≡ words_for (length lits) = ap words_for put.size in
-      ⊎_elim (λ (before : d + words_at ws d ≤ a). inl (omega arith)) (λ (behind : a + words_for (length lits) ≤ d). inr (omega arith)) (beside_claim ws us hs ks a (words_for (length lits)) d (omega arith) claim s)
+      ⊎_elim (λ (before : d + words_at ws d ≤ a). inl (omega arith)) (λ (behind : a + words_for (length lits) ≤ d). inr (omega arith)) (beside_claim ws us hs ks a (words_for (length lits)) d (omega arith) take_words s)
 
   swapped : (x y : ℕ) → HaveNoWordInCommon vs x y → HaveNoWordInCommon vs y x
   swapped x y (inl p) = inr p
@@ -221,7 +221,7 @@ module _ (ws us vs : List ℕ) (hs ks : List Hole) (a number glue : ℕ) (lits :
   pushed_store start held waiting front freed h c at start' held' front' before used = record {
     stands = λ x u. stands_one x (used x u);
     apart = λ x y u v. apart_one x y (used x u) (used y v);
-    inside = λ w free. (let lt = h.inside w (claim.others w free) in let n = put.long in let m = claim.longer in omega arith);
+    inside = λ w free. (let lt = h.inside w (take_words.others w free) in let n = put.long in let m = take_words.longer in omega arith);
     front = before;
     freed = freed_one freed h.freed;
   }
@@ -273,7 +273,7 @@ module _ (ws us vs : List ℕ) (hs ks : List Hole) (a number glue : ℕ) (lits :
       other x t e =
           let same : t.0.address ≡ a = ap (λ (h : Holding). h.address) t.2 ∙ e ∙ at in
           ⊎_elim (λ (p : t.0.address + words_at ws t.0.address ≤ a). absurd (omega arith)) (λ (p : a + words_for (length lits) ≤ t.0.address). absurd (omega arith))
-          (beside_claim ws us hs ks a (words_for (length lits)) t.0.address (omega arith) claim (s t.0 t.1))
+          (beside_claim ws us hs ks a (words_for (length lits)) t.0.address (omega arith) take_words (s t.0 t.1))
 
 -- Lists of addresses
 

@@ -81,7 +81,7 @@ impl<L: LineOut> PlainPort<L> {
         ensures port { IsPort self.new.state }
         ensures loads { self.new.loads ≡ self.old.loads }
     {
-        self.store.settle()?;
+        self.store.free_last()?;
         self.log.make_room()?;
         let Ok(lits) = self.store.first_lits(self.alloc) else {
             return Err(PortStop::Memory);

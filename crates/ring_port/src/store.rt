@@ -7,7 +7,7 @@ ghost use Rattle.clause_cell.specs.Packing.{words_for};
 
 use crate::spare::Spare;
 use crate::stops::PortStop;
-use crate::words::{claim, grow, head_at, lit_at, lits_at, write_clause};
+use crate::words::{grow, head_at, lit_at, lits_at, take_words, write_clause};
 use clause_cell::words_for;
 use sat_words::{Cref, Head, Lit};
 use std::alloc::{AllocError, Global};
@@ -85,7 +85,7 @@ impl Store {
     }
 
     /// Gives the stretch that was freed last to those that are free.
-    pub(crate) fn settle(&mut self) -> Result<(), PortStop>
+    pub(crate) fn free_last(&mut self) -> Result<(), PortStop>
         ensures same { self.new ≡ record self.old { settled = self.new.settled } }
         ensures settled { OnOk result (self.new.settled ≡ true) }
         ensures memory { IfErr result (λ stop. stop ≡ PortStop.Memory) }
@@ -113,7 +113,7 @@ impl Store {
         if lits.len() > u32::MAX as usize {
             return Err(PortStop::Memory);
         }
-        self.settle()?;
+        self.free_last()?;
         let need = words_for(lits.len() as u32);
         if self.held.reserve(1).is_err() || self.words.reserve(need as usize).is_err() {
             return Err(PortStop::Memory);
@@ -166,7 +166,7 @@ impl Store {
         ensures not_waiting { All (λ h. h.address ≢ result.address) self.old.waiting }
     {
         let need = words_for(lits.len() as u32);
-        let first = claim(&mut self.words, &mut self.spare, need);
+        let first = take_words(&mut self.words, &mut self.spare, need);
         write_clause(&mut self.words, first, number, glue, lits);
         let c = Cref {
             address: first as u64,

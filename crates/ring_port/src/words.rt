@@ -50,7 +50,7 @@ pub(crate) fn lits_at(alloc: Global, words: &[u64], first: usize) -> Result<Vec<
 }
 
 /// Takes so many words: of those that are free, or else behind all others, where there is room for them.
-pub(crate) fn claim(words: &mut Vec<u64>, spare: &mut Spare, need: u64) -> usize
+pub(crate) fn take_words(words: &mut Vec<u64>, spare: &mut Spare, need: u64) -> usize
     requires some { 0 < need }
     requires room { vec_len words.old + need ≤ vec_capacity words.old }
     requires inside { (w : ℕ) → is_free spare.old w ≡ true → w < length words.old.items }

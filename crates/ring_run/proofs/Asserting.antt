@@ -10,7 +10,7 @@ use Rattle.sat_words.specs.declared.shared.Cref.{Cref}
 use Rattle.sat_words.proofs.Members.{same-true, same-refl}
 use Rattle.rup_model.proofs.Lists.{Contains_In}
 use Rattle.ring_port.specs.PortState.{PortState, lits_at}
-use Rattle.ring_trail.specs.declared.step.Step.{Step}
+use Rattle.ring_trail.specs.declared.step.TrailStep.{TrailStep}
 use Rattle.ring_trail.specs.TrailData.{TrailData, IsTrail, IsPlaceOf, HasNoPlace, IsFalseOn, FalseBefore, no_step, step_at, level_at, cut_back}
 use Rattle.ring_trail.specs.Reasoned.{ForcesAt}
 use Rattle.ring_trail.specs.Closed.{TrueWithin, IsClosedClause}
@@ -22,12 +22,12 @@ use Rattle.analyze.proofs.Freshness.{contains_none, present_conflict}
 use Rattle.watch_prop.specs.WatchData.{WatchData, attached, clauses_of}
 use Rattle.watch_prop.specs.Propagation.{IsConflict}
 use Rattle.ring_run.specs.Searching.{Stands, IsAsserting}
-use Rattle.ring_run.specs.Course.{Searches, WentBack, CanAssert}
+use Rattle.ring_run.specs.Next.{Searches, WentBack, CanAssert}
 use Rattle.ring_run.proofs.Remembering.{stands_there}
 use Rattle.ring_run.proofs.News.{new_to}
 
 -- the greatest of the levels
-level_of_member : (steps : List Step) (c : List Literal) (k : Literal) → has c k ≡ true → level_of_lit steps k ≤ greatest (levels_of steps c)
+level_of_member : (steps : List TrailStep) (c : List Literal) (k : Literal) → has c k ≡ true → level_of_lit steps k ≤ greatest (levels_of steps c)
 level_of_member steps [] k h = absurd (false≢true h)
 level_of_member steps (l ∷ c) k h =
     elim (or_cases (same k l) (has c k) h) as (λ _. level_of_lit steps k ≤ greatest (levels_of steps (l ∷ c))) [
@@ -35,7 +35,7 @@ level_of_member steps (l ∷ c) k h =
       | inr m ↦ (let rest = level_of_member steps c k m in omega arith)
     ]
 
-greatest_below : (steps : List Step) (c : List Literal) (n : ℕ) → 0 < n → ((k : Literal) → has c k ≡ true → level_of_lit steps k < n) → greatest (levels_of steps c) < n
+greatest_below : (steps : List TrailStep) (c : List Literal) (n : ℕ) → 0 < n → ((k : Literal) → has c k ≡ true → level_of_lit steps k < n) → greatest (levels_of steps c) < n
 greatest_below steps [] n h below = h
 greatest_below steps (l ∷ c) n h below =
     let first = below l (or_left (same l l) (has c l) (same-refl l)) in
@@ -43,7 +43,7 @@ greatest_below steps (l ∷ c) n h below =
     omega arith
 
 -- a literal of the greatest level, where that isn't 0
-attained : (steps : List Step) (c : List Literal) → 0 < greatest (levels_of steps c) → (k : Literal) × (has c k ≡ true) × (level_of_lit steps k ≡ greatest (levels_of steps c))
+attained : (steps : List TrailStep) (c : List Literal) → 0 < greatest (levels_of steps c) → (k : Literal) × (has c k ≡ true) × (level_of_lit steps k ≡ greatest (levels_of steps c))
 attained steps [] h = absurd (omega arith)
 attained steps (l ∷ c) h =
     elim (cases_lt (level_of_lit steps l) (greatest (levels_of steps c))) as (λ _. (k : Literal) × (has (l ∷ c) k ≡ true) × (level_of_lit steps k ≡ greatest (levels_of steps (l ∷ c)))) [
@@ -57,7 +57,7 @@ attained steps (l ∷ c) h =
 level_at_place : (t : TrailData) (k : Literal) (f : FalseBefore t.steps (length t.steps) k) → IsTrail t → level_of_lit t.steps k ≡ level_at t.steps f.place
 level_at_place t k f shape =
     let at : IsPlaceOf t.steps k.var f.place = record { in_range = f.before; var = ap (λ (l : Literal). l.var) f.false_there } in
-    ap (λ (o : Option Step). unwrap_or (option_map (λ (x : Step). x.level) o) 0) (step_at_place t k.var f.place shape at)
+    ap (λ (o : Option TrailStep). unwrap_or (option_map (λ (x : TrailStep). x.level) o) 0) (step_at_place t k.var f.place shape at)
 
 -- a literal that is false at a level of at most k has such a level
 false_within : (t : TrailData) (l : Literal) (k : ℕ) → IsTrail t → TrueWithin t.steps k (opposite l) → level_of_lit t.steps l ≤ k
@@ -157,12 +157,12 @@ false_back t v back k shape is f le =
 first_free : (t v : TrailData) (back : ℕ) (l : Literal) → IsTrail t → IsTrail v → v.level ≡ back → v.steps ≡ take (length v.steps) t.steps → length v.steps ≤ length t.steps
     → IsFalseOn t.steps l → back < level_of_lit t.steps l → HasNoPlace v.steps l.var
 first_free t v back l shape shape2 level is short f ahead = λ p h var.
-    let same_step : step_at v.steps p ≡ step_at t.steps p = ap (λ (ss : List Step). step_at ss p) is ∙ get_or-take (length v.steps) t.steps p no_step h in
+    let same_step : step_at v.steps p ≡ step_at t.steps p = ap (λ (ss : List TrailStep). step_at ss p) is ∙ get_or-take (length v.steps) t.steps p no_step h in
     let here = shape2.within p h in
     let there = level_at_place t l f shape in
-    let one : p ≡ f.place = shape.distinct p f.place (omega arith) f.before (ap (λ (x : Step). x.lit.var) (sym same_step) ∙ var ∙ sym (ap (λ (k : Literal). k.var) f.false_there)) in
+    let one : p ≡ f.place = shape.distinct p f.place (omega arith) f.before (ap (λ (x : TrailStep). x.lit.var) (sym same_step) ∙ var ∙ sym (ap (λ (k : Literal). k.var) f.false_there)) in
     let deep : level_at t.steps p ≡ level_at t.steps f.place = ap (level_at t.steps) one in
-    let low : level_at t.steps p ≡ level_at v.steps p = ap (λ (x : Step). x.level) (sym same_step) in
+    let low : level_at t.steps p ≡ level_at v.steps p = ap (λ (x : TrailStep). x.level) (sym same_step) in
     absurd (omega arith)
 
 -- the lemma forces its first literal there

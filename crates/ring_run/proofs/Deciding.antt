@@ -8,7 +8,7 @@ use Rattle.sat_words.specs.Truth.{lit_true, clause_true}
 use Rattle.sat_words.proofs.Members.{same-true}
 use Rattle.rup_model.proofs.Lists.{In_Contains, In_get_or, In_has}
 use Rattle.ring_port.specs.PortState.{PortState, Holding, lits_at, lits_in, clause_at}
-use Rattle.ring_trail.specs.declared.step.Step.{Step}
+use Rattle.ring_trail.specs.declared.step.TrailStep.{TrailStep}
 use Rattle.ring_trail.specs.TrailData.{TrailData, IsTrail, IsTrueOn, lit_at, value_of, decided}
 use Rattle.ring_trail.specs.Closed.{TrueWithin, IsClosedClause}
 use Rattle.ring_trail.proofs.Shape.{same_lit}
@@ -22,7 +22,7 @@ use Rattle.ring_run.specs.Ended.{IsModelOf, Stays}
 use Rattle.ring_run.specs.Strategy.{Decides, OccursIn}
 use Rattle.ring_run.specs.Searching.{GoesOn, AreFirst}
 use Rattle.ring_run.specs.Ending.{EndsBy}
-use Rattle.ring_run.specs.Course.{Searches, InSearch}
+use Rattle.ring_run.specs.Next.{Searches, InSearch}
 use Rattle.ring_run.specs.declared.ring.Ring.{Ring}
 use Rattle.ring_run.specs.declared.job.End.TheVariants.{Sat}
 use Rattle.ring_run.proofs.Remembering.{stands_there}
@@ -32,7 +32,7 @@ use Rattle.ring_run.proofs.Telling.{told_step, told_model}
 
 pub decided_search : (s : PortState) (t : TrailData) (w : WatchData) (n : ℕ) (l : Literal) → Searches s t w n → IsQuiet w (lits_at s) t → AreFirst t n → IsTrail (decided t l) → Searches s (decided t l) w n
 decided_search s t w n l p q first shape =
-    let x : Step = record { lit = l; level = t.level + 1; reason = None } in
+    let x : TrailStep = record { lit = l; level = t.level + 1; reason = None } in
     record {
       clauses = p.clauses;
       opening = p.opening;
@@ -60,7 +60,7 @@ true_clause a (k ∷ c) l h e =
 abbrev pub HasValues : TrailData → List Literal → Type 0
 HasValues t c = (l : Literal) → has c l ≡ true → IsSome (value_of t.steps l.var)
 
-true_within : (steps : List Step) (k : ℕ) (l : Literal) → TrueWithin steps k l → IsTrueOn steps l
+true_within : (steps : List TrailStep) (k : ℕ) (l : Literal) → TrueWithin steps k l → IsTrueOn steps l
 true_within steps k l w = record { place = w.place; before = w.in_range; true_there = w.true_there }
 
 -- the literal of a variable is the one or the other
@@ -84,7 +84,7 @@ closed_true t a c shape full all (inr p) = by (value_of t.steps p.one.var) refl 
     by (Some b) is h =
         let s = value_some t.steps p.one.var b is in
         let at = some_at t.steps p.one.var s.0 s.1 in
-        let var : (lit_at t.steps at.0).var ≡ p.one.var = ap (λ (x : Step). x.lit.var) at.2 ∙ at.3 in
+        let var : (lit_at t.steps at.0).var ≡ p.one.var = ap (λ (x : TrailStep). x.lit.var) at.2 ∙ at.3 in
         elim (one_of_two (lit_at t.steps at.0) p.one var) as (λ _. clause_true a c ≡ true) [
           | inl e ↦ true_clause a c p.one p.has_one (all p.one (record { place = at.0; before = at.1; true_there = e }))
           | inr e ↦ absurd (p.one_open (record { place = at.0; in_range = at.1; true_there = e; level = shape.within at.0 at.1 }))

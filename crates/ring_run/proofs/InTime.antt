@@ -14,13 +14,13 @@ use Rattle.restart_plan.specs.Plan.{Restarting, luby_unit, noted, asked, restart
 use Rattle.ring_run.specs.Ended.{IsInTime, IsReducedInTime, ReducesBy, IsHalted, reductions}
 use Rattle.ring_run.specs.Searching.{OnlyWrote}
 use Rattle.ring_run.specs.Strategy.{IsPaced}
-use Rattle.ring_run.specs.Course.{IsInTimeAt, IsInTimeBy, SumsUp}
+use Rattle.ring_run.specs.Next.{IsInTimeAt, IsInTimeBy, SumsUp}
 use Rattle.ring_run.specs.declared.ring.Ring.{Ring}
 use Rattle.ring_run.specs.declared.job.Counts.{Counts}
 use Rattle.ring_run.specs.declared.job.End.{End}
 use Rattle.ring_run.specs.declared.job.End.TheVariants.{Sat, Refuted, Spent, Stopped, NoHole, ProofFault, Memory}
-use Rattle.ring_run.specs.declared.course.Course.{Course}
-use Rattle.ring_run.specs.declared.course.Course.TheVariants.{On, Over}
+use Rattle.ring_run.specs.declared.course.Next.{Next}
+use Rattle.ring_run.specs.declared.course.Next.TheVariants.{Go, Finish}
 use Rattle.ring_run.proofs.Progress.{recent_lemma, recent_still}
 use Rattle.ring_run.proofs.Numbering.{reductions_still, reductions_other}
 
@@ -81,9 +81,9 @@ in_time_end s r (NoHole lack) h = tt
 in_time_end s r ProofFault h = tt
 in_time_end s r Memory h = tt
 
-pub in_time_any : (s : PortState) (ring : Ring) (course : Course) → IsInTime s ring.restarts.since → IsInTimeBy s ring course
-in_time_any s ring On h = λ settled. h
-in_time_any s ring (Over end) h = in_time_end s ring.restarts end h
+pub in_time_any : (s : PortState) (ring : Ring) (course : Next) → IsInTime s ring.restarts.since → IsInTimeBy s ring course
+in_time_any s ring Go h = λ settled. h
+in_time_any s ring (Finish end) h = in_time_end s ring.restarts end h
 
 -- what Luby's sequence says
 pub sums_exact : (r : Restarting) (learned limit : ℕ) → IsPaced r learned limit → learned < limit → SumsUp r

@@ -12,7 +12,7 @@ use Rattle.rup_model.proofs.Lists.{In, Contains_In, In_Contains, In_append, In_a
 use Rattle.ring_port.specs.PortState.{PortState, Holding, IsPort, held_at, lits_at, lits_in}
 use Rattle.ring_port.specs.Port.{Learned, KeepsHeld, IsClause}
 use Rattle.ring_port.specs.Log.{KeepsLog}
-use Rattle.ring_trail.specs.declared.step.Step.{Step}
+use Rattle.ring_trail.specs.declared.step.TrailStep.{TrailStep}
 use Rattle.ring_trail.specs.TrailData.{TrailData, IsTrail, HasNoPlace, cut_back, assigned}
 use Rattle.ring_trail.specs.Closed.{TrueWithin, IsClosedClause, IsClosed}
 use Rattle.ring_trail.proofs.Causes.{IsReasoned-back, IsReasoned-forced, IsReasoned-seen, IsClosed-back, IsClosed-grown}
@@ -22,7 +22,7 @@ use Rattle.watch_prop.specs.Propagation.{HasReasons, attached_at}
 use Rattle.watch_prop.proofs.TrailLaws.{Watched-assign, Watched-back, Watched-port, Reasons-more, Reasons-held}
 use Rattle.watch_prop.proofs.Reasons.{attached_some}
 use Rattle.ring_run.specs.Searching.{IsHeldBy, HasClauses, Stands, GoesOn, IsAsserting, IsGlueOf, SeenTrue, OpeningSeen, AreTold}
-use Rattle.ring_run.specs.Course.{Searches, InSearch, GoesOnBy, Asserted, Restarted, HasLeft}
+use Rattle.ring_run.specs.Next.{Searches, InSearch, GoesOnBy, Asserted, Restarted, HasLeft}
 use Rattle.ring_run.specs.declared.ring.Ring.{Ring}
 use Rattle.ring_run.proofs.Remembering.{LitsStay, lits_kept, unit_remembered, clause_remembered}
 use Rattle.ring_run.proofs.Standing.{sees_old, sees_new, seen_of, within_more, within_last}
@@ -62,7 +62,7 @@ learned_clause s u t v cs lits back glue c a p opening stands shape is w kept po
     let seen = ap (λ (y : PortState). y.seen) w.state in
     let held : IsSome (held_at u c.address) = subst (λ (o : Option Holding). IsSome o) (sym w.there) refl in
     let there : Contains (cs ++ c ∷ []) c = In_Contains (cs ++ c ∷ []) c (In_append_right cs (c ∷ []) c (inl refl)) in
-    let x : Step = record { lit = a.first; level = v.level; reason = Some c } in
+    let x : TrailStep = record { lit = a.first; level = v.level; reason = Some c } in
     record {
       clauses = record {
         held = All-append (IsHeldBy u) cs (c ∷ []) (held_more s u cs kept p.held) (All-cons (IsHeldBy u) c [] held (All-nil (IsHeldBy u)));
@@ -97,7 +97,7 @@ learned_unit s u t v cs lits back glue a p opening is w kept port =
     let rest : a.rest ≡ [] = cc in
     let level : v.level ≡ 0 = ap (λ (y : TrailData). y.level) is ∙ a.of_unit rest in
     let more = λ (l : Literal) (h : has s.seen l ≡ true). sees_old s.seen u.seen w.lit l wrote.sees h in
-    let x : Step = record { lit = a.first; level = v.level; reason = None } in
+    let x : TrailStep = record { lit = a.first; level = v.level; reason = None } in
     record {
       clauses = subst (HasClauses u) (sym none) (record {
         held = held_more s u cs kept p.held;

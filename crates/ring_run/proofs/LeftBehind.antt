@@ -13,7 +13,7 @@ use Rattle.ring_port.specs.Port.{Sees, holding_of}
 use Rattle.ring_port.specs.Log.{KeepsLog}
 use Rattle.ring_port.specs.declared.stops.PortStop.{PortStop}
 use Rattle.ring_port.proofs.PlainLemmas.{dropped_others}
-use Rattle.ring_trail.specs.declared.step.Step.{Step}
+use Rattle.ring_trail.specs.declared.step.TrailStep.{TrailStep}
 use Rattle.ring_trail.specs.TrailData.{TrailData, IsTrail, IsTrueOn, IsFalseOn, HasGrown, assigned}
 use Rattle.watch_prop.specs.WatchData.{WatchData, attached, without}
 use Rattle.watch_prop.specs.Watched.{Watched}
@@ -25,7 +25,7 @@ use Rattle.vivify.specs.declared.shorten.Vivified.TheVariants.{Kept, Shorter, Un
 use Rattle.vivify.proofs.Parts.{left_part}
 use Rattle.ring_run.specs.Searching.{KeepsOn, OffersNothing, HasClauses}
 use Rattle.ring_run.specs.Ending.{EndsAt, end_refused}
-use Rattle.ring_run.specs.Course.{Searches, numbers}
+use Rattle.ring_run.specs.Next.{Searches, numbers}
 use Rattle.ring_run.specs.Renewal.{Point, point, IsNamed, WentOn, IsResting, LeftBehind, MayVivify, KeepsOthers, IsLeft}
 use Rattle.ring_run.specs.declared.ring.Ring.{Ring}
 use Rattle.ring_run.proofs.Offering.{nothing_none}
@@ -33,8 +33,8 @@ use Rattle.ring_run.proofs.Progress.{recent_other}
 use Rattle.ring_run.proofs.Remembering.{added_seen, held_same}
 use Rattle.ring_run.proofs.Resting.{held_member, seen_units, unseen_open, no_place, others_stay, left_member, clauses_left, derived_units, search_left, search_unit}
 use Rattle.ring_run.proofs.Shortened.{shorter_behind, shorter_keeps, became_behind, became_keeps, unit_on, left_clause, cut_ends, cut_nothing, shorter_nothing, became_nothing}
-use Rattle.ring_run.specs.declared.vivification.Left.{Left}
-use Rattle.ring_run.specs.declared.vivification.Left.TheVariants.{Same}
+use Rattle.ring_run.specs.declared.vivification.AfterVivify.{AfterVivify}
+use Rattle.ring_run.specs.declared.vivification.AfterVivify.TheVariants.{Unchanged}
 use Rattle.ring_run.specs.Ended.{reductions}
 use Rattle.ring_run.proofs.Numbering.{grown_none, grown_then, reductions_other, glue_kept, numbers_added}
 use Rattle.rup_model.specs.declared.journal.Addition.{Addition}
@@ -157,7 +157,7 @@ module _ (s m : PortState) (ring mid : Ring) (c : Cref) (p : IsResting s ring) (
     left_behind Empty z open_unit = absurd z
 
   -- the others stay
-  pub left_others : (u : PortState) (new : Ring) (left : Vivified) (o : Left) → IsVivified s m ring.watches mid.watches ring.trail.steps c left → WentOn (point m mid) (point u new) left o → KeepsOthers s u ring.watches new.watches c
+  pub left_others : (u : PortState) (new : Ring) (left : Vivified) (o : AfterVivify) → IsVivified s m ring.watches mid.watches ring.trail.steps c left → WentOn (point m mid) (point u new) left o → KeepsOthers s u ring.watches new.watches c
   left_others u new Kept o z w =
       let now : attached new.watches ≡ without (attached ring.watches) c.address ++ c ∷ [] = ap (λ (x : Point). attached x.watches) w.0 ∙ z.attached_now in
       let is : u ≡ s = ap (λ (x : Point). x.port) w.0 ∙ z.state in
@@ -191,7 +191,7 @@ module _ (s m : PortState) (ring mid : Ring) (c : Cref) (p : IsResting s ring) (
   left_others u new Empty o z w = absurd z
 
   -- and so is what is left of the lemma
-  pub what_is_left : (u : PortState) (new : Ring) (left : Vivified) (o : Left) → IsVivified s m ring.watches mid.watches ring.trail.steps c left → WentOn (point m mid) (point u new) left o → IsLeft s u new.watches c o
+  pub what_is_left : (u : PortState) (new : Ring) (left : Vivified) (o : AfterVivify) → IsVivified s m ring.watches mid.watches ring.trail.steps c left → WentOn (point m mid) (point u new) left o → IsLeft s u new.watches c o
   what_is_left u new Kept o z w =
       let now : attached new.watches ≡ without (attached ring.watches) c.address ++ c ∷ [] = ap (λ (x : Point). attached x.watches) w.0 ∙ z.attached_now in
       subst (IsLeft s u new.watches c) (sym w.1)
@@ -218,22 +218,22 @@ module _ (s m : PortState) (ring mid : Ring) (c : Cref) (p : IsResting s ring) (
 pub idle_others : (s : PortState) (w : WatchData) (c : Cref) → KeepsOthers s s w w c
 idle_others s w c = record { others = λ d there apart. there; held = λ a ne some. refl; grown = grown_none s s refl; noted = refl }
 
-pub idle_left : (s : PortState) (w : WatchData) (c : Cref) → Contains (attached w) c → IsLeft s s w c Same
+pub idle_left : (s : PortState) (w : WatchData) (c : Cref) → Contains (attached w) c → IsLeft s s w c Unchanged
 idle_left s w c member = (member, refl)
 
 -- the trail is as long as before, or longer
-pub went_longer : (m u : PortState) (mid new : Ring) (left : Vivified) (o : Left) → WentOn (point m mid) (point u new) left o → length mid.trail.steps ≤ length new.trail.steps
+pub went_longer : (m u : PortState) (mid new : Ring) (left : Vivified) (o : AfterVivify) → WentOn (point m mid) (point u new) left o → length mid.trail.steps ≤ length new.trail.steps
 went_longer m u mid new Kept o w = let same = ap (λ (x : Point). length x.trail.steps) w.0 in omega (arith, same)
 went_longer m u mid new (Shorter d) o w = let same = ap (λ (x : Point). length x.trail.steps) w.0 in omega (arith, same)
 went_longer m u mid new (Unit l) o w =
     let grown = w.0.grown in
-    let long = ap (λ (ss : List Step). length ss) grown.steps ∙ Rattle.std.proofs.Common.length-append (assigned mid.trail l None).steps grown.more in
+    let long = ap (λ (ss : List TrailStep). length ss) grown.steps ∙ Rattle.std.proofs.Common.length-append (assigned mid.trail l None).steps grown.more in
     let one = Rattle.std.proofs.Common.length-append mid.trail.steps (record { lit = l; level = mid.trail.level; reason = None } ∷ []) in
     omega (arith, long, one)
 went_longer m u mid new Empty o w = absurd w
 
 -- nor do the start clauses change
-pub went_start : (m u : PortState) (mid new : Ring) (left : Vivified) (o : Left) → WentOn (point m mid) (point u new) left o → u.start ≡ m.start
+pub went_start : (m u : PortState) (mid new : Ring) (left : Vivified) (o : AfterVivify) → WentOn (point m mid) (point u new) left o → u.start ≡ m.start
 went_start m u mid new Kept o w = ap (λ (x : Point). x.port.start) w.0
 went_start m u mid new (Shorter d) o w = ap (λ (x : Point). x.port.start) w.0
 went_start m u mid new (Unit l) o w = w.0.lines.stays.start

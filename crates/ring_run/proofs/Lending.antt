@@ -17,7 +17,7 @@ use Rattle.ring_port.specs.Log.{KeepsLog}
 use Rattle.ring_port.specs.Exchange.{class_at}
 use Rattle.ring_port.proofs.Holdings.{found}
 use Rattle.ring_port.proofs.Dropping.{find_In}
-use Rattle.ring_trail.specs.declared.step.Step.{Step}
+use Rattle.ring_trail.specs.declared.step.TrailStep.{TrailStep}
 use Rattle.ring_trail.specs.TrailData.{TrailData}
 use Rattle.watch_prop.specs.WatchData.{WatchData, Lits, attached}
 use Rattle.watch_prop.specs.Watched.{Watched}
@@ -27,7 +27,7 @@ use Rattle.ring_decide.specs.DeciderData.{DeciderData}
 use Rattle.ring_run.specs.Strategy.{saved_above}
 use Rattle.ring_run.specs.Ended.{Stays, HasOffered}
 use Rattle.ring_run.specs.Searching.{GoesOn, OnlySaw, OffersNothing, HasLent, HasLentBy, HoldsByGlue, IsGlueOf}
-use Rattle.ring_run.specs.Course.{Searches, InSearch, WentBack, Lists, HasLeft, AreSameOffers, IsOffering}
+use Rattle.ring_run.specs.Next.{Searches, InSearch, WentBack, Lists, HasLeft, AreSameOffers, IsOffering}
 use Rattle.ring_run.specs.declared.ring.Ring.{Ring}
 use Rattle.ring_run.proofs.Remembering.{HoldsAlike, lits_alike, clause_alike, remembered_same}
 use Rattle.ring_run.proofs.Lately.{sees_same}
@@ -147,7 +147,7 @@ left_before s u old new lits back address held (inr at) = inr (
 
 -- two rings that a conflict leaves alike
 pub record AreAlike (mid old : Ring) : Type 0 where
-  pub pending : mid.pending ≡ old.pending
+  pub import_due : mid.import_due ≡ old.import_due
   pub trail : mid.trail ≡ old.trail
   pub watches : mid.watches ≡ old.watches
   pub lemmas : mid.lemmas.items ≡ old.lemmas.items
@@ -168,7 +168,7 @@ saved_alike mid old k p = ap (λ (d : DeciderData). saved_above d mid.trail.step
 
 pub left_alike : (s : PortState) (mid old new : Ring) (lits : List Literal) (back : ℕ) (address : Option Cref) → AreAlike mid old → HasLeft s mid new lits back address → HasLeft s old new lits back address
 left_alike s mid old new lits back address p (inl at) = inl (
-  λ due. at.0 (p.pending ∙ due),
+  λ due. at.0 (p.import_due ∙ due),
   record {
     middle = at.1.middle;
     went = subst (λ (t : TrailData). WentBack t at.1.middle back) p.trail at.1.went;
@@ -185,7 +185,7 @@ left_alike s mid old new lits back address p (inl at) = inl (
   },
 )
 left_alike s mid old new lits back address p (inr at) = inr (
-  sym p.pending ∙ at.0,
+  sym p.import_due ∙ at.0,
   at.1,
   record {
     went = subst (λ (t : TrailData). WentBack t new.trail 0) p.trail at.2.went;
@@ -202,7 +202,7 @@ pub stored_at : (s u v : PortState) (lits : List Literal) (glue : ℕ) (address 
 stored_at s u v lits glue (Some c) w alike = ap lits_in (alike c.address) ∙ ap lits_in w.there
 stored_at s u v lits glue None w alike = tt
 
-pub lent_glue : (s u v w : PortState) (steps : List Step) → HoldsByGlue s u steps → OnlyLent u v → IsPort v → w.held ≡ v.held → HoldsByGlue s w steps
+pub lent_glue : (s u v w : PortState) (steps : List TrailStep) → HoldsByGlue s u steps → OnlyLent u v → IsPort v → w.held ≡ v.held → HoldsByGlue s w steps
 lent_glue s u v w steps p lent port held h there = p h (lent_contains u v lent.same port h (subst (λ (hs : List Holding). Contains hs h) held there))
 
 -- what is counted stays true where nothing is learned or offered
@@ -228,7 +228,7 @@ lent_few u v None e o more told lent = omega (arith, lent.1)
 lent_few u v (Some c) e o more told lent = lent_few_by u v (class_at u c.address) c.address e o more told lent
 
 -- behind a lemma
-pub offering_learned : (s u v : PortState) (old new : Ring) (steps : List Step) (glue : ℕ) (lits : List Literal) (address : Option Cref) → IsOffering s old → Learned s u lits glue (Ok address) → IsGlueOf steps lits glue
+pub offering_learned : (s u v : PortState) (old new : Ring) (steps : List TrailStep) (glue : ℕ) (lits : List Literal) (address : Option Cref) → IsOffering s old → Learned s u lits glue (Ok address) → IsGlueOf steps lits glue
     → HasLent u v address old.exported old.offered new.exported new.offered → new.learned ≡ old.learned + 1 → IsOffering v new
 offering_learned s u v old new steps glue lits address p w counts lent learned = record {
   counts = offers_learned s u v old.exported old.offered new.exported new.offered glue lits address p.counts w (glue_bounds steps lits glue counts) lent;

@@ -14,7 +14,7 @@ use Rattle.rup_model.specs.Rup.{rup, conflicts}
 use Rattle.rup_model.specs.Derivation.{Derives, with_derived}
 use Rattle.ring_port.specs.PortState.{PortState, Holding, held_at, lits_at, known, clause_at}
 use Rattle.ring_port.proofs.Holdings.{held_is_known, seen_is_known}
-use Rattle.ring_trail.specs.declared.step.Step.{Step}
+use Rattle.ring_trail.specs.declared.step.TrailStep.{TrailStep}
 use Rattle.ring_trail.specs.TrailData.{FalseBefore, lit_at, level_at}
 use Rattle.ring_trail.specs.Reasoned.{IsReasoned}
 
@@ -34,16 +34,16 @@ derived_has A [] k h = h
 derived_has A (x ∷ ls) k h = derived_has (x ∷ A) ls k (or_right (same k x) (has A k) h)
 
 -- the literals of the first steps
-abbrev pub front : List Step → ℕ → List Literal
+abbrev pub front : List TrailStep → ℕ → List Literal
 front steps n = map (λ s. s.lit) (take n steps)
 
-front_has : (steps : List Step) (n p : ℕ) → p < n → p < length steps → has (front steps n) (lit_at steps p) ≡ true
+front_has : (steps : List TrailStep) (n p : ℕ) → p < n → p < length steps → has (front steps n) (lit_at steps p) ≡ true
 front_has [] n p h k = absurd (omega arith)
 front_has (s ∷ ss) zero p h k = absurd (omega arith)
 front_has (s ∷ ss) (suc n) zero h k = or_left (same s.lit s.lit) (has (front ss n) s.lit) (same-refl s.lit)
 front_has (s ∷ ss) (suc n) (suc p) h k = or_right (same (lit_at ss p) s.lit) (has (front ss n) (lit_at ss p)) (front_has ss n p (omega arith) (omega arith))
 
-front_suc : (steps : List Step) (n : ℕ) → n < length steps → front steps (suc n) ≡ front steps n ++ lit_at steps n ∷ []
+front_suc : (steps : List TrailStep) (n : ℕ) → n < length steps → front steps (suc n) ≡ front steps n ++ lit_at steps n ∷ []
 front_suc [] n h = absurd (omega arith)
 front_suc (s ∷ ss) zero h = refl
 front_suc (s ∷ ss) (suc n) h = ap (λ (ls : List Literal). s.lit ∷ ls) (front_suc ss n (omega arith))
@@ -56,7 +56,7 @@ with_front A (x ∷ ls) k h =
       | inr m ↦ with_front (x ∷ A) ls k m
     ]
 
-false_before : (steps : List Step) (A : List Literal) (n : ℕ) (k : Literal) → n ≤ length steps → FalseBefore steps n k → has (with_derived A (front steps n)) (opposite k) ≡ true
+false_before : (steps : List TrailStep) (A : List Literal) (n : ℕ) (k : Literal) → n ≤ length steps → FalseBefore steps n k → has (with_derived A (front steps n)) (opposite k) ≡ true
 false_before steps A n k h f =
     with_front A (front steps n) (opposite k)
     (subst (λ (l : Literal). has (front steps n) l ≡ true) f.false_there (front_has steps n f.place f.before (omega (arith, f.before))))
@@ -75,13 +75,13 @@ lits_known s a c e =
     subst (λ (d : List Literal). Contains (known s) d) both.1 (held_is_known s a both.0)
 
 -- each of the first steps is forced by a clause that is known, as long as they are at level 0
-record Cause (s : PortState) (steps : List Step) (n : ℕ) : Type 0 where
+record Cause (s : PortState) (steps : List TrailStep) (n : ℕ) : Type 0 where
   pub clause : List Literal
   pub among : Contains (known s) clause
   pub has_lit : has clause (lit_at steps n) ≡ true
   pub others : (k : Literal) → has clause k ≡ true → (k ≡ lit_at steps n) ⊎ FalseBefore steps n k
 
-cause : (s : PortState) (steps : List Step) (n : ℕ) → IsReasoned (clause_at s) s.seen steps → n < length steps → level_at steps n ≡ 0 → Cause s steps n
+cause : (s : PortState) (steps : List TrailStep) (n : ℕ) → IsReasoned (clause_at s) s.seen steps → n < length steps → level_at steps n ≡ 0 → Cause s steps n
 cause s steps n reasoned h zero_level =
     elim (reasoned.caused n h) as (λ _. Cause s steps n) [
       | inl f ↦ record { clause = f.lits; among = lits_known s f.reason.address f.lits f.held_is; has_lit = f.unit.has_lit; others = f.unit.others }
@@ -102,7 +102,7 @@ cause s steps n reasoned h zero_level =
         ]
 
 -- the first steps, one after another, as long as they are at level 0
-chain : (s : PortState) (steps : List Step) (A : List Literal) (n : ℕ) → IsReasoned (clause_at s) s.seen steps → n ≤ length steps
+chain : (s : PortState) (steps : List TrailStep) (A : List Literal) (n : ℕ) → IsReasoned (clause_at s) s.seen steps → n ≤ length steps
     → ((p : ℕ) → p < n → level_at steps p ≡ 0) → Derives (known s) A (front steps n)
 chain s steps A zero reasoned h low = tt
 chain s steps A (suc n) reasoned h low =
@@ -121,7 +121,7 @@ chain s steps A (suc n) reasoned h low =
     ))
 
 -- a clause that may be used and is false without a decision refutes what is held and seen
-pub false_at_zero : (s : PortState) (steps : List Step) (n : ℕ) (c : List Literal) → IsReasoned (clause_at s) s.seen steps → n ≤ length steps
+pub false_at_zero : (s : PortState) (steps : List TrailStep) (n : ℕ) (c : List Literal) → IsReasoned (clause_at s) s.seen steps → n ≤ length steps
     → ((p : ℕ) → p < n → level_at steps p ≡ 0) → Contains (known s) c → ((k : Literal) → has c k ≡ true → FalseBefore steps n k) → rup (known s) [] ≡ true
 unfolding rup
 false_at_zero s steps n c reasoned h low among bad =
@@ -129,7 +129,7 @@ false_at_zero s steps n c reasoned h low among bad =
     (In_all (λ k. has (with_derived [] (front steps n)) (opposite k)) c (λ k there. false_before steps [] n k h (bad k (In_has c k there))))
 
 -- a literal that is true without a decision follows
-pub true_at_zero : (s : PortState) (steps : List Step) (n : ℕ) → IsReasoned (clause_at s) s.seen steps → n < length steps
+pub true_at_zero : (s : PortState) (steps : List TrailStep) (n : ℕ) → IsReasoned (clause_at s) s.seen steps → n < length steps
     → ((p : ℕ) → p ≤ n → level_at steps p ≡ 0) → rup (known s) (lit_at steps n ∷ []) ≡ true
 unfolding rup
 true_at_zero s steps n reasoned h low =

@@ -25,7 +25,7 @@ use Rattle.ring_port.specs.declared.stops.Set.{Set}
 use Rattle.ring_port.specs.declared.stops.Set.TheVariants.{Won, Lost}
 use Rattle.ring_run.specs.Ended.{HasOffered, is_short, is_long}
 use Rattle.ring_run.specs.Searching.{OffersNothing, HasLent, HasLentBy}
-use Rattle.ring_run.proofs.Progress.{Same, same_refused}
+use Rattle.ring_run.proofs.Progress.{Unchanged, same_refused}
 
 pub nothing_same : (s u : PortState) → u.shared ≡ s.shared → u.polled ≡ s.polled → u.polls ≡ s.polls → min s.caught_up (2 ^ 64 - 1) ≤ u.caught_up → u.ring ≡ s.ring → u.rings ≡ s.rings → u.mine ≡ s.mine → OffersNothing s u
 nothing_same s u shared polled polls caught_up ring rings mine = record {
@@ -46,7 +46,7 @@ nothing_then s u w p q = record { shared = q.shared ∙ p.shared; polled = q.pol
 
 pub nothing_refused : (s u : PortState) (stop : PortStop) → Refused s u stop → OffersNothing s u
 nothing_refused s u stop r =
-    let same : Same s u = subst (Same s) (sym r.state) (same_refused s u.output stop) in
+    let same : Unchanged s u = subst (Unchanged s) (sym r.state) (same_refused s u.output stop) in
     nothing_same s u same.shared same.polled same.polls (omega (arith, same.caught_up)) same.ring same.rings same.mine
 
 -- an entry of another kind is none that was learned

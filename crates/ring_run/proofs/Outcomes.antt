@@ -8,16 +8,16 @@ use Rattle.restart_plan.specs.Plan.{Restarting, noted, asked, is_due}
 use Rattle.analyze.specs.Lemma.{IsLemma}
 use Rattle.ring_run.specs.Ending.{IsRefusal}
 use Rattle.ring_run.specs.Searching.{HasLent, IsAsserting, IsGlueOf}
-use Rattle.ring_run.specs.Course.{WasShared, LearnsTo, LearnsFrom}
+use Rattle.ring_run.specs.Next.{WasShared, LearnsTo, LearnsFrom}
 use Rattle.ring_run.specs.declared.job.End.{End}
 use Rattle.ring_run.specs.declared.job.End.TheVariants.{Sat, Refuted, Spent, Stopped, NoHole, ProofFault, Memory}
 use Rattle.ring_run.specs.declared.ring.Ring.{Ring}
-use Rattle.ring_run.specs.declared.course.Course.{Course}
-use Rattle.ring_run.specs.declared.course.Course.TheVariants.{On, Over}
+use Rattle.ring_run.specs.declared.course.Next.{Next}
+use Rattle.ring_run.specs.declared.course.Next.TheVariants.{Go, Finish}
 use Rattle.ring_run.proofs.Lending.{left_alike}
 
 -- of a refusal nothing is said
-pub learns_refusal : (s u : PortState) (old new : Ring) (lits : List Literal) (back glue : ℕ) (end : End) → IsRefusal end → LearnsTo s u old new lits back glue (Over end)
+pub learns_refusal : (s u : PortState) (old new : Ring) (lits : List Literal) (back glue : ℕ) (end : End) → IsRefusal end → LearnsTo s u old new lits back glue (Finish end)
 learns_refusal s u old new lits back glue (Sat a) h = h
 learns_refusal s u old new lits back glue Refuted h = tt
 learns_refusal s u old new lits back glue Spent h = absurd h
@@ -26,7 +26,7 @@ learns_refusal s u old new lits back glue (NoHole lack) h = tt
 learns_refusal s u old new lits back glue ProofFault h = tt
 learns_refusal s u old new lits back glue Memory h = tt
 
-pub from_refusal : (s u : PortState) (old new : Ring) (c : Cref) (lits : List Literal) (end : End) → IsRefusal end → LearnsFrom s u old new c lits (Over end)
+pub from_refusal : (s u : PortState) (old new : Ring) (c : Cref) (lits : List Literal) (end : End) → IsRefusal end → LearnsFrom s u old new c lits (Finish end)
 from_refusal s u old new c lits (Sat a) h = h
 from_refusal s u old new c lits Refuted h = tt
 from_refusal s u old new c lits Spent h = absurd h
@@ -57,40 +57,40 @@ shared_alike s u between old new lits glue address b p = record {
 }
 
 -- what came of a conflict whose variables were bumped
-learns_bumped : (s u : PortState) (between old new : Ring) (lits : List Literal) (back glue : ℕ) (course : Course) → AreSameButBumps between old → LearnsTo s u between new lits back glue course → LearnsTo s u old new lits back glue course
-learns_bumped s u between old new lits back glue On b p = record {
+learns_bumped : (s u : PortState) (between old new : Ring) (lits : List Literal) (back glue : ℕ) (course : Next) → AreSameButBumps between old → LearnsTo s u between new lits back glue course → LearnsTo s u old new lits back glue course
+learns_bumped s u between old new lits back glue Go b p = record {
   address = p.address;
   stored = p.stored;
   between = p.between;
   shared = shared_alike s p.between between old new lits glue p.address b p.shared;
   tidied = p.tidied;
   restarts = p.restarts ∙ ap (λ (r : Restarting). asked (noted r glue)) b.restarts;
-  pending = p.pending ∙ ap (λ (r : Restarting). is_due (noted r glue)) b.restarts;
-  left = left_alike u (record between { pending = new.pending }) (record old { pending = new.pending }) new lits back p.address
-      (record { pending = refl; trail = b.trail; watches = b.watches; lemmas = b.lemmas; reductions = b.reductions; reduced_at = b.reduced_at; written = b.written; decider = b.decider })
+  import_due = p.import_due ∙ ap (λ (r : Restarting). is_due (noted r glue)) b.restarts;
+  left = left_alike u (record between { import_due = new.import_due }) (record old { import_due = new.import_due }) new lits back p.address
+      (record { import_due = refl; trail = b.trail; watches = b.watches; lemmas = b.lemmas; reductions = b.reductions; reduced_at = b.reduced_at; written = b.written; decider = b.decider })
       p.left;
 }
-learns_bumped s u between old new lits back glue (Over (Sat a)) b p = p
-learns_bumped s u between old new lits back glue (Over Refuted) b p = tt
-learns_bumped s u between old new lits back glue (Over Spent) b p = record {
+learns_bumped s u between old new lits back glue (Finish (Sat a)) b p = p
+learns_bumped s u between old new lits back glue (Finish Refuted) b p = tt
+learns_bumped s u between old new lits back glue (Finish Spent) b p = record {
   address = p.address;
   shared = shared_alike s u between old new lits glue p.address b p.shared;
   restarts = p.restarts ∙ ap (λ (r : Restarting). noted r glue) b.restarts;
 }
-learns_bumped s u between old new lits back glue (Over (Stopped x)) b p = p
-learns_bumped s u between old new lits back glue (Over (NoHole lack)) b p = tt
-learns_bumped s u between old new lits back glue (Over ProofFault) b p = tt
-learns_bumped s u between old new lits back glue (Over Memory) b p = tt
+learns_bumped s u between old new lits back glue (Finish (Stopped x)) b p = p
+learns_bumped s u between old new lits back glue (Finish (NoHole lack)) b p = tt
+learns_bumped s u between old new lits back glue (Finish ProofFault) b p = tt
+learns_bumped s u between old new lits back glue (Finish Memory) b p = tt
 
-pub learned_from : (s u : PortState) (between old new : Ring) (c : Cref) (lits : List Literal) (back glue : ℕ) (course : Course) → AreSameButBumps between old → IsLemma s old.trail (lits_at s c.address) lits back glue → IsAsserting s old.trail lits back
+pub learned_from : (s u : PortState) (between old new : Ring) (c : Cref) (lits : List Literal) (back glue : ℕ) (course : Next) → AreSameButBumps between old → IsLemma s old.trail (lits_at s c.address) lits back glue → IsAsserting s old.trail lits back
     → IsGlueOf old.trail.steps lits glue → LearnsTo s u between new lits back glue course → LearnsFrom s u old new c lits course
-learned_from s u between old new c lits back glue On b lemma asserting counted p =
-    record { back = back; glue = glue; lemma = lemma; asserting = asserting; counted = counted; learned = learns_bumped s u between old new lits back glue On b p }
-learned_from s u between old new c lits back glue (Over (Sat a)) b lemma asserting counted p = p
-learned_from s u between old new c lits back glue (Over Refuted) b lemma asserting counted p = tt
-learned_from s u between old new c lits back glue (Over Spent) b lemma asserting counted p =
-    record { back = back; glue = glue; lemma = lemma; asserting = asserting; counted = counted; learned = learns_bumped s u between old new lits back glue (Over Spent) b p }
-learned_from s u between old new c lits back glue (Over (Stopped x)) b lemma asserting counted p = p
-learned_from s u between old new c lits back glue (Over (NoHole lack)) b lemma asserting counted p = tt
-learned_from s u between old new c lits back glue (Over ProofFault) b lemma asserting counted p = tt
-learned_from s u between old new c lits back glue (Over Memory) b lemma asserting counted p = tt
+learned_from s u between old new c lits back glue Go b lemma asserting counted p =
+    record { back = back; glue = glue; lemma = lemma; asserting = asserting; counted = counted; learned = learns_bumped s u between old new lits back glue Go b p }
+learned_from s u between old new c lits back glue (Finish (Sat a)) b lemma asserting counted p = p
+learned_from s u between old new c lits back glue (Finish Refuted) b lemma asserting counted p = tt
+learned_from s u between old new c lits back glue (Finish Spent) b lemma asserting counted p =
+    record { back = back; glue = glue; lemma = lemma; asserting = asserting; counted = counted; learned = learns_bumped s u between old new lits back glue (Finish Spent) b p }
+learned_from s u between old new c lits back glue (Finish (Stopped x)) b lemma asserting counted p = p
+learned_from s u between old new c lits back glue (Finish (NoHole lack)) b lemma asserting counted p = tt
+learned_from s u between old new c lits back glue (Finish ProofFault) b lemma asserting counted p = tt
+learned_from s u between old new c lits back glue (Finish Memory) b lemma asserting counted p = tt

@@ -9,7 +9,7 @@ use Rattle.ring_port.specs.Exchange.{other_rings}
 use Rattle.ring_port.proofs.Beginnings.{range_more}
 use Rattle.ring_run.specs.Ended.{polls_of, HasPolled, IsHalted}
 use Rattle.ring_run.specs.Searching.{OffersNothing}
-use Rattle.ring_run.specs.Course.{IsPolling, imports_of}
+use Rattle.ring_run.specs.Next.{IsPolling, imports_of}
 use Rattle.ring_run.specs.declared.ring.Ring.{Ring}
 use Rattle.ring_run.specs.declared.ring.Place.{Place}
 use Rattle.ring_run.specs.declared.job.End.{End}
@@ -116,10 +116,10 @@ imports_bound made false = omega arith
 
 -- at each end no more than was to be polled
 pub polled_over : (s : PortState) (ring : Ring) → s.polled ≡ polls_of s (imports_of ring) → s.polled ≤ polls_of s (1 + ring.restarts.made)
-polled_over s ring is = at_most_polls s (imports_of ring) (1 + ring.restarts.made) (let b = imports_bound ring.restarts.made ring.pending in omega (arith, b)) is
+polled_over s ring is = at_most_polls s (imports_of ring) (1 + ring.restarts.made) (let b = imports_bound ring.restarts.made ring.import_due in omega (arith, b)) is
 
 -- and as much where no import is yet to be
-pub polled_whole : (s : PortState) (ring : Ring) → ring.pending ≡ false → s.polled ≡ polls_of s (imports_of ring) → s.polled ≡ polls_of s (1 + ring.restarts.made)
+pub polled_whole : (s : PortState) (ring : Ring) → ring.import_due ≡ false → s.polled ≡ polls_of s (imports_of ring) → s.polled ≡ polls_of s (1 + ring.restarts.made)
 polled_whole s ring settled is =
     is ∙ ap (λ (b : Bool). polls_of s (if b then ring.restarts.made else ring.restarts.made + 1)) settled ∙ ap (polls_of s) (let e : ring.restarts.made + 1 ≡ 1 + ring.restarts.made = omega arith in e)
 
@@ -136,15 +136,15 @@ polled_halted s made Memory h le = le
 pub polled_none_yet : (s : PortState) → s.polled ≡ 0 → s.polled ≤ polls_of s 1
 polled_none_yet s is = omega (arith, is)
 
-pub polling_begin : (s : PortState) (ring : Ring) → s.polled ≡ 0 → ring.place ≡ record { ring = s.ring; rings = s.rings } → ring.pending ≡ true → ring.restarts.made ≡ 0 → ring.trail.level ≡ 0 → IsPolling s ring
-polling_begin s ring none place pending made level = record {
+pub polling_begin : (s : PortState) (ring : Ring) → s.polled ≡ 0 → ring.place ≡ record { ring = s.ring; rings = s.rings } → ring.import_due ≡ true → ring.restarts.made ≡ 0 → ring.trail.level ≡ 0 → IsPolling s ring
+polling_begin s ring none place import_due made level = record {
   place = place;
   polled = none ∙ sym (ap (polls_of s) imports ∙ polls_zero);
   low = λ e. level;
 }
   where
     imports : imports_of ring ≡ 0
-    imports = ap (λ (b : Bool). if b then ring.restarts.made else ring.restarts.made + 1) pending ∙ made
+    imports = ap (λ (b : Bool). if b then ring.restarts.made else ring.restarts.made + 1) import_due ∙ made
 
     polls_zero : polls_of s 0 ≡ 0
     polls_zero = (let none : length (other_rings s) * 0 ≡ 0 = omega arith in omega (arith, none))
@@ -182,25 +182,25 @@ polled_stopped s u made end result nothing (inr (x, is)) p = subst (HasPolled u 
     by Memory q = q
 
 -- above level 0 no import is yet to be
-pub settled_above : (s : PortState) (ring : Ring) → IsPolling s ring → 0 < ring.trail.level → ring.pending ≡ false
-settled_above s ring p above = by ring.pending p.low
+pub settled_above : (s : PortState) (ring : Ring) → IsPolling s ring → 0 < ring.trail.level → ring.import_due ≡ false
+settled_above s ring p above = by ring.import_due p.low
   where
     by : (b : Bool) → (b ≡ true → ring.trail.level ≡ 0) → b ≡ false
     by true low = absurd (let e = low refl in omega (arith, e, above))
     by false low = refl
 
 -- a ring that has not polled since
-pub polling_same : (s u : PortState) (old new : Ring) → OffersNothing s u → new.place ≡ old.place → new.restarts ≡ old.restarts → new.pending ≡ old.pending → new.trail.level ≡ old.trail.level → IsPolling s old → IsPolling u new
-polling_same s u old new nothing place restarts pending level p = record {
+pub polling_same : (s u : PortState) (old new : Ring) → OffersNothing s u → new.place ≡ old.place → new.restarts ≡ old.restarts → new.import_due ≡ old.import_due → new.trail.level ≡ old.trail.level → IsPolling s old → IsPolling u new
+polling_same s u old new nothing place restarts import_due level p = record {
   place = place ∙ place_moved old.place s u nothing.ring nothing.rings p.place;
   polled = subst (λ (k : ℕ). u.polled ≡ polls_of u k) (sym imports) (polls_same s u (imports_of old) nothing p.polled);
-  low = λ e. level ∙ p.low (sym pending ∙ e);
+  low = λ e. level ∙ p.low (sym import_due ∙ e);
 }
   where
     imports : imports_of new ≡ imports_of old
     imports =
-        ap (λ (b : Bool). if b then new.restarts.made else new.restarts.made + 1) pending
-        ∙ ap (λ (r : Restarting). if old.pending then r.made else r.made + 1) restarts
+        ap (λ (b : Bool). if b then new.restarts.made else new.restarts.made + 1) import_due
+        ∙ ap (λ (r : Restarting). if old.import_due then r.made else r.made + 1) restarts
 
 -- behind a lemma, where it was asked whether a restart is due
 pub asked_imports : (r : Restarting) (b : Bool) → b ≡ is_due r → (if b then (asked r).made else (asked r).made + 1) ≡ r.made + 1

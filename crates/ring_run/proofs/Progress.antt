@@ -25,7 +25,7 @@ use Rattle.rup_model.proofs.Lists.{In_append, Contains_In, In_Contains, has_In}
 use Rattle.std.specs.Set.{distinct_count, unique_keys, is_member}
 use Rattle.std.proofs.lemmas.Map.Made.{distinct_count-le}
 use Rattle.ring_port.proofs.Holdings.{All_In}
-use Rattle.ring_trail.specs.declared.step.Step.{Step}
+use Rattle.ring_trail.specs.declared.step.TrailStep.{TrailStep}
 use Rattle.analyze.specs.Levels.{level_of_lit, count_of_levels}
 use Rattle.rup_model.proofs.Sequences.{each_last, fold_last}
 use Rattle.rup_model.proofs.Additions.{added-append, learned-append}
@@ -239,7 +239,7 @@ unit_goes_on start s u n l p on units unseen w log port =
     no_lemma r number l = omega (arith, not_learned s.ring (record { ring = s.ring; number = number; lits = l ∷ []; kind = UnitLine }) refl)
 
 -- a refusal changes nothing but what it notes
-pub record Same (s u : PortState) : Type 0 where
+pub record Unchanged (s u : PortState) : Type 0 where
   pub start : u.start ≡ s.start
   pub opening : u.opening ≡ s.opening
   pub vars : u.vars ≡ s.vars
@@ -260,7 +260,7 @@ pub record Same (s u : PortState) : Type 0 where
   pub stop : u.stop ≡ s.stop
   pub held : u.held ≡ s.held
 
-but_noted : (s : PortState) (refused : Option PortStop) (ended : Bool) (output : Option LineState) → Same s (record s { refused = refused; ended = ended; output = output })
+but_noted : (s : PortState) (refused : Option PortStop) (ended : Bool) (output : Option LineState) → Unchanged s (record s { refused = refused; ended = ended; output = output })
 but_noted s refused ended output = record {
   start = refl;
   opening = refl;
@@ -283,7 +283,7 @@ but_noted s refused ended output = record {
   held = refl;
 }
 
-pub same_refused : (s : PortState) (output : Option LineState) (stop : PortStop) → Same s (after_refusal s output stop)
+pub same_refused : (s : PortState) (output : Option LineState) (stop : PortStop) → Unchanged s (after_refusal s output stop)
 same_refused s output Ended = but_noted s (Some Ended) true s.output
 same_refused s output Broken = but_noted s (Some Broken) s.ended s.output
 same_refused s output ProofFault = but_noted s (Some ProofFault) s.ended output
@@ -317,7 +317,7 @@ unset s end none = by (stop_kind end)
 pub usable_none : (s : PortState) → s.refused ≡ None → is_usable s.refused ≡ true
 usable_none s e = ap is_usable e
 
-stays_same : (s u : PortState) → Same s u → KeepsLog s u → Stays s u
+stays_same : (s u : PortState) → Unchanged s u → KeepsLog s u → Stays s u
 stays_same s u p log = record {
   start = p.start;
   opening = p.opening;
@@ -344,7 +344,7 @@ spent start s n limit is p = record {
 
 pub refused_ends : (start s u : PortState) (n limit : ℕ) (stop : PortStop) → n < limit → GoesOn start s n → Refused s u stop → KeepsLog s u → IsPort u → ComesTo start u n limit (end_refused stop)
 refused_ends start s u n limit stop below p r log port =
-    let same : Same s u = subst (Same s) (sym r.state) (same_refused s u.output stop) in
+    let same : Unchanged s u = subst (Unchanged s) (sym r.state) (same_refused s u.output stop) in
     record {
       runs = runs_same start s u n p.runs (stays_same s u same log) same.held (sees_same s u same.seen) same.mine (lines_moved s u s.mine (stays_same s u same log) same.given same.mine p.runs.new_lines) port;
       cause = subst (λ (x : PortState). Cause x (end_refused stop)) (sym r.state) (refused_cause s u.output stop r.reason (usable_none s p.refused) p.going);
@@ -358,14 +358,14 @@ unit_over s u l (Err stop) w log port = λ n limit below start p. refused_ends s
 
 -- and leaves how often no stop was found
 pub refused_looks : (s u : PortState) (stop : PortStop) → Refused s u stop → u.looks ≡ s.looks
-refused_looks s u stop r = (subst (Same s) (sym r.state) (same_refused s u.output stop)).looks
+refused_looks s u stop r = (subst (Unchanged s) (sym r.state) (same_refused s u.output stop)).looks
 
 pub unit_looks : (s u : PortState) (l : Literal) (r : Result (Unit {0}) PortStop) → UnitWritten s u l r → u.looks ≡ s.looks
 unit_looks s u l (Ok done) w = ap (λ (x : PortState). x.looks) w.state
 unit_looks s u l (Err stop) w = refused_looks s u stop w
 
 pub refused_held : (s u : PortState) (stop : PortStop) → Refused s u stop → u.held ≡ s.held
-refused_held s u stop r = (subst (Same s) (sym r.state) (same_refused s u.output stop)).held
+refused_held s u stop r = (subst (Unchanged s) (sym r.state) (same_refused s u.output stop)).held
 
 -- a clause that was learned
 stays_learned : (s u : PortState) (lits : List Literal) (glue : ℕ) (c : Cref) → LearnedClause s u lits glue c → KeepsLog s u → Stays s u
@@ -395,7 +395,7 @@ some_counted (n ∷ m ∷ ns) h = by (is_member nat_eq (m ∷ ns) n) (some_count
     by false le = omega arith
 
 -- the glue of a lemma of two literals or more
-pub glue_bounds : (steps : List Step) (lits : List Literal) (glue : ℕ) → IsGlueOf steps lits glue → 2 ≤ length lits → (1 ≤ glue) × (glue < length lits)
+pub glue_bounds : (steps : List TrailStep) (lits : List Literal) (glue : ℕ) → IsGlueOf steps lits glue → 2 ≤ length lits → (1 ≤ glue) × (glue < length lits)
 glue_bounds steps [] glue is long = absurd (omega arith)
 glue_bounds steps (k ∷ []) glue is long = absurd (omega arith)
 glue_bounds steps (k ∷ l ∷ lits) glue is long =
@@ -415,7 +415,7 @@ held_learned s u lits glue c w h there =
       | inr new ↦ inr (elim new as (λ _. (h.glue ≡ glue) × (h.lits ≡ lits)) [ inl e ↦ (ap (λ (k : Holding). k.glue) (sym e), ap (λ (k : Holding). k.lits) (sym e)) | inr none ↦ absurd none ])
     ]
 
-clause_glued : (s u : PortState) (steps : List Step) (lits : List Literal) (glue : ℕ) (c : Cref) → LearnedClause s u lits glue c → IsGlueOf steps lits glue → AddsGlued s u
+clause_glued : (s u : PortState) (steps : List TrailStep) (lits : List Literal) (glue : ℕ) (c : Cref) → LearnedClause s u lits glue c → IsGlueOf steps lits glue → AddsGlued s u
 clause_glued s u steps lits glue c w counts h there =
     let both = glue_bounds steps lits glue counts w.long in
     elim (held_learned s u lits glue c w h there) as (λ _. Contains s.held h ⊎ IsGlued h) [
@@ -428,7 +428,7 @@ pub learned_looks : (s u : PortState) (lits : List Literal) (glue : ℕ) (addres
 learned_looks s u lits glue (Some c) w = ap (λ (x : PortState). x.looks) w.state
 learned_looks s u lits glue None w = ap (λ (x : PortState). x.looks) w.wrote.state
 
-pub learned_by_glue : (s u : PortState) (steps : List Step) (lits : List Literal) (glue : ℕ) (address : Option Cref) → Learned s u lits glue (Ok address) → IsGlueOf steps lits glue → HoldsByGlue s u steps
+pub learned_by_glue : (s u : PortState) (steps : List TrailStep) (lits : List Literal) (glue : ℕ) (address : Option Cref) → Learned s u lits glue (Ok address) → IsGlueOf steps lits glue → HoldsByGlue s u steps
 learned_by_glue s u steps lits glue (Some c) w counts h there =
     elim (held_learned s u lits glue c w h there) as (λ _. Contains s.held h ⊎ IsGlueOf steps h.lits h.glue) [
       | inl old ↦ inl old
@@ -452,7 +452,7 @@ learned_goes_on start s u n number lits p stays clause fresh some is given glued
       held = starts_kept s u stays.start kept p.held;
     }
 
-pub clause_goes_on : (start s u : PortState) (n glue : ℕ) (steps : List Step) (lits : List Literal) (c : Cref) → GoesOn start s n → IsClause s.vars lits → IsNewTo s lits → IsGlueOf steps lits glue → LearnedClause s u lits glue c → KeepsHeld s u → KeepsLog s u → IsPort u
+pub clause_goes_on : (start s u : PortState) (n glue : ℕ) (steps : List TrailStep) (lits : List Literal) (c : Cref) → GoesOn start s n → IsClause s.vars lits → IsNewTo s lits → IsGlueOf steps lits glue → LearnedClause s u lits glue c → KeepsHeld s u → KeepsLog s u → IsPort u
     → GoesOn start u (n + 1)
 clause_goes_on start s u n glue steps lits c p clause fresh counts w kept log port =
     learned_goes_on start s u n w.number lits p (stays_learned s u lits glue c w log) clause fresh (omega (arith, w.long))

@@ -25,7 +25,7 @@ use Rattle.ring_port.specs.Reducing.{MayReduce, NotedReduce}
 use Rattle.ring_port.proofs.Holdings.{All_In}
 use Rattle.ring_port.proofs.LogSteps.{In_All}
 use Rattle.ring_port.specs.declared.stops.PortStop.{PortStop}
-use Rattle.ring_trail.specs.declared.step.Step.{Step}
+use Rattle.ring_trail.specs.declared.step.TrailStep.{TrailStep}
 use Rattle.ring_trail.specs.TrailData.{TrailData}
 use Rattle.watch_prop.specs.WatchData.{WatchData, Lits, attached, is_among, without_all}
 use Rattle.watch_prop.specs.Watched.{Watched}
@@ -40,7 +40,7 @@ use Rattle.reduce_db.proofs.Drops.{stays_attached}
 use Rattle.ring_run.specs.Ended.{IsTimely, Stays, IsOwn, reductions}
 use Rattle.ring_run.specs.Searching.{IsHeldBy, HasClauses, GoesOn, OffersNothing, OnlyWrote}
 use Rattle.ring_run.specs.Ending.{ComesTo, end_refused}
-use Rattle.ring_run.specs.Course.{HasLemmas, MayImport, AreOrdered}
+use Rattle.ring_run.specs.Next.{HasLemmas, MayImport, AreOrdered}
 use Rattle.ring_run.specs.declared.ring.Ring.{Ring}
 use Rattle.ring_run.proofs.Remembering.{held_same, lits_same, clause_at_same}
 use Rattle.ring_run.proofs.Lately.{lately_none}
@@ -304,11 +304,11 @@ timely_reduce s ring p due = omega (arith, p.count, p.noted, due)
 
 -- What a call that reduces leaves, behind the Reduce entry
 
-kept_among : (s : PortState) (steps : List Step) (lemmas kept dropped : List Cref) → IsChoice s steps lemmas kept dropped → (c : Cref) → Contains kept c → Contains lemmas c
+kept_among : (s : PortState) (steps : List TrailStep) (lemmas kept dropped : List Cref) → IsChoice s steps lemmas kept dropped → (c : Cref) → Contains kept c → Contains lemmas c
 kept_among s steps lemmas kept dropped choice c m =
     In_Contains lemmas c (filter_In (λ x. not (choice.drops x)) lemmas c (Contains_In (filter (λ x. not (choice.drops x)) lemmas) c (subst (λ (xs : List Cref). Contains xs c) choice.kept_is m)))
 
-dropped_among : (s : PortState) (steps : List Step) (lemmas kept dropped : List Cref) → IsChoice s steps lemmas kept dropped → All (Contains lemmas) dropped
+dropped_among : (s : PortState) (steps : List TrailStep) (lemmas kept dropped : List Cref) → IsChoice s steps lemmas kept dropped → All (Contains lemmas) dropped
 dropped_among s steps lemmas kept dropped choice = subst (All (Contains lemmas)) (sym choice.dropped_is) (All-filter choice.drops (Contains lemmas) lemmas (In_All (Contains lemmas) lemmas (λ c m. In_Contains lemmas c m)))
 
 module _ (s m u : PortState) (ring : Ring) (noted : NotedReduce s m) (listed : HasLemmas s ring) where
@@ -323,7 +323,7 @@ module _ (s m u : PortState) (ring : Ring) (noted : NotedReduce s m) (listed : H
       subst (λ (x : PortStop). ComesTo start u n limit (end_refused x)) (sym w.memory)
       (out_of_memory start u n limit below (dropped_goes_on m u w.dropped lemmas w.port w.among apart_then (noted_lately s m noted) start n p log port))
 
-  module _ (v w : WatchData) (steps : List Step) (left : List Cref) (done : WasReduced m u v w steps lemmas left) where
+  module _ (v w : WatchData) (steps : List TrailStep) (left : List Cref) (done : WasReduced m u v w steps lemmas left) where
     among : All (Contains lemmas) done.dropped
     among = dropped_among m steps lemmas left done.dropped done.choice
 
@@ -372,7 +372,7 @@ module _ (s m u : PortState) (ring : Ring) (noted : NotedReduce s m) (listed : H
 pub cut_short_nothing : (m u : PortState) (ring : Ring) (stop : PortStop) → WasCutShort m u ring.lemmas.items stop → OffersNothing m u
 cut_short_nothing m u ring stop w = dropped_nothing m u w.dropped w.port
 
-pub reduced_nothing : (m u : PortState) (ring : Ring) (v w : WatchData) (steps : List Step) (left : List Cref) → WasReduced m u v w steps ring.lemmas.items left → OffersNothing m u
+pub reduced_nothing : (m u : PortState) (ring : Ring) (v w : WatchData) (steps : List TrailStep) (left : List Cref) → WasReduced m u v w steps ring.lemmas.items left → OffersNothing m u
 reduced_nothing m u ring v w steps left done = dropped_nothing m u done.dropped done.port
 
 -- What is known of a call's answer

@@ -19,7 +19,7 @@ use Rattle.ring_port.specs.PortState.{PortState, Holding, IsPort, held_at, lits_
 use Rattle.ring_port.specs.Port.{Sees, entry_of}
 use Rattle.ring_port.proofs.Holdings.{All_In, held_is_known}
 use Rattle.ring_port.proofs.LogSteps.{In_All}
-use Rattle.ring_trail.specs.declared.step.Step.{Step}
+use Rattle.ring_trail.specs.declared.step.TrailStep.{TrailStep}
 use Rattle.ring_trail.specs.TrailData.{TrailData, IsTrail, HasNoPlace, IsTrueOn, IsFalseOn, lit_at, assigned}
 use Rattle.ring_trail.specs.Closed.{TrueWithin}
 use Rattle.ring_trail.proofs.Causes.{IsReasoned-seen}
@@ -30,7 +30,7 @@ use Rattle.watch_prop.proofs.TrailLaws.{Watched-assign, Reasons-held}
 use Rattle.watch_prop.proofs.DetachingLaws.{without-others}
 use Rattle.vivify.specs.Walking.{IsNoReason}
 use Rattle.ring_run.specs.Searching.{IsHeldBy, HasClauses, OpeningSeen, UnitsSeen}
-use Rattle.ring_run.specs.Course.{Searches, MayImport}
+use Rattle.ring_run.specs.Next.{Searches, MayImport}
 use Rattle.ring_run.specs.Renewal.{IsResting}
 use Rattle.ring_run.specs.declared.ring.Ring.{Ring}
 use Rattle.ring_run.proofs.LevelZero.{false_at_zero}
@@ -82,7 +82,7 @@ one_of_two k l var = by k.neg l.neg refl refl
     by false true e f = inr (made k (opposite l) var (e ∙ sym (ap not f)))
 
 -- a literal that is neither true nor false has no value
-pub no_place : (steps : List Step) (l : Literal) → (IsTrueOn steps l → ⊥) → (IsFalseOn steps l → ⊥) → HasNoPlace steps l.var
+pub no_place : (steps : List TrailStep) (l : Literal) → (IsTrueOn steps l → ⊥) → (IsFalseOn steps l → ⊥) → HasNoPlace steps l.var
 no_place steps l not_true not_false q lt var =
     elim (one_of_two (lit_at steps q) l var) as (λ _. ⊥) [
       | inl e ↦ not_true (record { place = q; before = lt; true_there = e })
@@ -177,7 +177,7 @@ module _ (s u : PortState) (t : TrailData) (v w : WatchData) (n : ℕ) (p : Sear
   -- behind a unit, once it is true
   pub search_unit : (l : Literal) → Sees s.seen u.seen l → HasNoPlace t.steps l.var → IsTrail (assigned t l None) → Searches u (assigned t l None) w n
   search_unit l sees free shape =
-      let x : Step = record { lit = l; level = t.level; reason = None } in
+      let x : TrailStep = record { lit = l; level = t.level; reason = None } in
       let more : HasReasons (attached w) u (assigned t l None).steps = IsReasoned-seen (attached_at (attached w) u) u.seen t l None reasons level (sees_new s.seen u.seen l sees) in
       record {
         clauses = clauses;
@@ -250,9 +250,9 @@ twice l = ap (λ (n : Bool). signed l.var n) (twice_not l.neg)
     signed : ℕ → Bool → Literal
     signed v n = record { var = v; neg = n }
 
-pub opposite_false : (steps : List Step) (l : Literal) → IsFalseOn steps (opposite l) → IsTrueOn steps l
+pub opposite_false : (steps : List TrailStep) (l : Literal) → IsFalseOn steps (opposite l) → IsTrueOn steps l
 opposite_false steps l f = record { place = f.place; before = f.before; true_there = f.false_there ∙ twice l }
 
-pub true_is_not : (steps : List Step) (l k : Literal) (b : Bool) → k ≡ opposite l → (IsFalseOn steps k → b ≡ true) → b ≡ false → IsTrueOn steps l → ⊥
+pub true_is_not : (steps : List TrailStep) (l k : Literal) (b : Bool) → k ≡ opposite l → (IsFalseOn steps k → b ≡ true) → b ≡ false → IsTrueOn steps l → ⊥
 true_is_not steps l k b is told none w =
     false≢true (sym none ∙ told (subst (IsFalseOn steps) (sym is) (record { place = w.place; before = w.before; false_there = w.true_there ∙ sym (twice l) })))

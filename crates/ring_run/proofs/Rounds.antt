@@ -10,9 +10,9 @@ use Rattle.ring_port.specs.PortState.{PortState, Slot, one_more}
 use Rattle.ring_port.proofs.Beginnings.{range_more}
 use Rattle.ring_run.specs.Ended.{slots_of, import_slots, rounds, LookedAlong, HasImported, ImportsBy, IsTidy, IsHalted}
 use Rattle.ring_run.specs.Searching.{OffersNothing}
-use Rattle.ring_run.specs.Course.{imports_of, HasImportedBy, HasTidied}
-use Rattle.ring_run.specs.declared.course.Course.{Course}
-use Rattle.ring_run.specs.declared.course.Course.TheVariants.{On, Over}
+use Rattle.ring_run.specs.Next.{imports_of, HasImportedBy, HasTidied}
+use Rattle.ring_run.specs.declared.course.Next.{Next}
+use Rattle.ring_run.specs.declared.course.Next.TheVariants.{Go, Finish}
 use Rattle.restart_plan.specs.Plan.{Restarting}
 use Rattle.ring_run.specs.declared.ring.Ring.{Ring}
 use Rattle.ring_run.specs.declared.job.End.{End}
@@ -193,10 +193,10 @@ imports_halted start s made Memory h p = p
 
 -- no more than was to be imported
 pub imports_over : (start s : PortState) (ring : Ring) → HasImported start s (imports_of ring) → LookedAlong start s (rounds (1 + ring.restarts.made) (import_slots s))
-imports_over start s ring h = imports_along start s (imports_of ring) (1 + ring.restarts.made) (let b = imports_bound ring.restarts.made ring.pending in omega (arith, b)) h
+imports_over start s ring h = imports_along start s (imports_of ring) (1 + ring.restarts.made) (let b = imports_bound ring.restarts.made ring.import_due in omega (arith, b)) h
 
 -- and as much where no import is yet to be
-pub imports_whole : (start s : PortState) (ring : Ring) → ring.pending ≡ false → HasImported start s (imports_of ring) → HasImported start s (1 + ring.restarts.made)
+pub imports_whole : (start s : PortState) (ring : Ring) → ring.import_due ≡ false → HasImported start s (imports_of ring) → HasImported start s (1 + ring.restarts.made)
 imports_whole start s ring settled h =
     imports_count start s (imports_of ring) (1 + ring.restarts.made) (ap (λ (b : Bool). if b then ring.restarts.made else ring.restarts.made + 1) settled ∙ (let e : ring.restarts.made + 1 ≡ 1 + ring.restarts.made = omega arith in e)) h
 
@@ -217,18 +217,18 @@ imports_end start s made end h = by end
     by Memory = along
 
 -- a ring that counts as many restarts, and has as much to import
-pub importing_same : (start s u : PortState) (old new : Ring) → OffersNothing s u → new.restarts ≡ old.restarts → new.pending ≡ old.pending → HasImported start s (imports_of old) → HasImported start u (imports_of new)
-importing_same start s u old new nothing restarts pending h = imports_count start u (imports_of old) (imports_of new) (sym is) (imports_same start s u (imports_of old) nothing h)
+pub importing_same : (start s u : PortState) (old new : Ring) → OffersNothing s u → new.restarts ≡ old.restarts → new.import_due ≡ old.import_due → HasImported start s (imports_of old) → HasImported start u (imports_of new)
+importing_same start s u old new nothing restarts import_due h = imports_count start u (imports_of old) (imports_of new) (sym is) (imports_same start s u (imports_of old) nothing h)
   where
     is : imports_of new ≡ imports_of old
     is =
-        ap (λ (b : Bool). if b then new.restarts.made else new.restarts.made + 1) pending
-        ∙ ap (λ (r : Restarting). if old.pending then r.made else r.made + 1) restarts
+        ap (λ (b : Bool). if b then new.restarts.made else new.restarts.made + 1) import_due
+        ∙ ap (λ (r : Restarting). if old.import_due then r.made else r.made + 1) restarts
 
 -- where no import is yet to be, and the search goes on or ends
-pub imported_settled : (start s : PortState) (ring : Ring) (course : Course) → ring.pending ≡ false → HasImported start s (imports_of ring) → HasImportedBy start s ring course
-imported_settled start s ring On settled h = h
-imported_settled start s ring (Over end) settled h = imports_end start s ring.restarts.made end (imports_whole start s ring settled h)
+pub imported_settled : (start s : PortState) (ring : Ring) (course : Next) → ring.import_due ≡ false → HasImported start s (imports_of ring) → HasImportedBy start s ring course
+imported_settled start s ring Go settled h = h
+imported_settled start s ring (Finish end) settled h = imports_end start s ring.restarts.made end (imports_whole start s ring settled h)
 
 -- before the first import
 pub imports_none_yet : (s u : PortState) → u ≡ s → LookedAlong s u (rounds 1 (import_slots u))
@@ -297,6 +297,6 @@ tidy_stopped s u (NoHole lack) same p = tt
 tidy_stopped s u ProofFault same p = tt
 tidy_stopped s u Memory same p = tt
 
-pub tidied_any : (s : PortState) (course : Course) → s.waiting ≡ [] → HasTidied s course
-tidied_any s On none = none
-tidied_any s (Over end) none = tidy_end s end none
+pub tidied_any : (s : PortState) (course : Next) → s.waiting ≡ [] → HasTidied s course
+tidied_any s Go none = none
+tidied_any s (Finish end) none = tidy_end s end none

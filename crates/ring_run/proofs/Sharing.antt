@@ -6,16 +6,16 @@ use Rattle.sat_words.specs.Literal.{Literal}
 use Rattle.sat_words.specs.declared.shared.Cref.{Cref}
 use Rattle.ring_port.specs.PortState.{PortState, IsPort, held_at}
 use Rattle.ring_port.specs.Port.{Learned}
-use Rattle.ring_trail.specs.declared.step.Step.{Step}
+use Rattle.ring_trail.specs.declared.step.TrailStep.{TrailStep}
 use Rattle.ring_trail.specs.TrailData.{TrailData}
 use Rattle.restart_plan.specs.Plan.{Restarting, noted, asked, is_due}
 use Rattle.restart_plan.proofs.Restarting.{exact-more}
 use Rattle.ring_run.specs.Ended.{HasImported, IsInTime, polls_of}
 use Rattle.ring_run.specs.Strategy.{IsPaced}
 use Rattle.ring_run.specs.Searching.{GoesOn, Stands, HasLent, HoldsByGlue, IsAsserting, IsGlueOf}
-use Rattle.ring_run.specs.Course.{InSearch, HasLemmas, HasLeft, HasLearned, IsOffering, IsPolling, IsImporting, SumsUp, imports_of}
+use Rattle.ring_run.specs.Next.{InSearch, HasLemmas, HasLeft, HasLearned, IsOffering, IsPolling, IsImporting, SumsUp, imports_of}
 use Rattle.ring_run.specs.Learning.{HasShared, HasAsked, HasLeftTidy, WasFollowed}
-use Rattle.ring_run.specs.declared.course.Course.{Course}
+use Rattle.ring_run.specs.declared.course.Next.{Next}
 use Rattle.ring_run.specs.declared.ring.Ring.{Ring}
 use Rattle.ring_run.proofs.InTime.{in_time_same, in_time_more, in_time_wrote, in_time_learned, asked_since}
 use Rattle.ring_run.proofs.Learning.{learned_any, left_search, left_level}
@@ -71,10 +71,10 @@ module _ (s u : PortState) (old new : Ring) (lits : List Literal) (glue : ℕ) (
   shared_goes_on start t back p stands lemma counts =
       lent_goes_on start middle u (old.learned + 1) (learned_any start s middle old.learned glue t lits back address p stands lemma counts h.shared.learned h.kept h.log h.port) shared_lent h.log_after h.port_after
 
-  pub shared_stored : (w : PortState) (steps : List Step) → IsGlueOf steps lits glue → w.held ≡ u.held → HoldsByGlue s w steps
+  pub shared_stored : (w : PortState) (steps : List TrailStep) → IsGlueOf steps lits glue → w.held ≡ u.held → HoldsByGlue s w steps
   shared_stored w steps counts held = lent_glue s middle u w steps (learned_by_glue s middle steps lits glue address h.shared.learned counts) shared_lent h.port_after held
 
-  pub shared_offering : (steps : List Step) → IsGlueOf steps lits glue → IsOffering s old → IsOffering u new
+  pub shared_offering : (steps : List TrailStep) → IsGlueOf steps lits glue → IsOffering s old → IsOffering u new
   shared_offering steps counts p = offering_learned s middle u old new steps glue lits address p h.shared.learned counts h.shared.lent shared_count
 
   pub shared_in_time : IsInTime s old.restarts.since → IsInTime u (old.restarts.since + 1)
@@ -82,7 +82,7 @@ module _ (s u : PortState) (old new : Ring) (lits : List Literal) (glue : ℕ) (
       (in_time_learned s middle lits glue address old.restarts.since h.shared.learned p)
 
 -- where a conflict was left with an import yet to be, the trail is at level 0
-left_low : (u : PortState) (old new : Ring) (lits : List Literal) (back : ℕ) (address : Option Cref) → HasLeft u old new lits back address → old.pending ≡ true → new.trail.level ≡ 0
+left_low : (u : PortState) (old new : Ring) (lits : List Literal) (back : ℕ) (address : Option Cref) → HasLeft u old new lits back address → old.import_due ≡ true → new.trail.level ≡ 0
 left_low u old new lits back address (inl at) due =
     let level = left_level u old new lits back address (inl at) in
     let none = at.0 due in
@@ -90,7 +90,7 @@ left_low u old new lits back address (inl at) due =
 left_low u old new lits back address (inr at) due = ap (λ (t : TrailData). t.level) at.2.went.is
 
 -- behind a lemma that isn't the last it was asked whether a restart is due
-module _ (s u : PortState) (old new : Ring) (lits : List Literal) (back glue limit : ℕ) (course : Course) (p : WasFollowed s u old new lits back glue limit course) where
+module _ (s u : PortState) (old new : Ring) (lits : List Literal) (back glue limit : ℕ) (course : Next) (p : WasFollowed s u old new lits back glue limit course) where
   abbrev v : PortState
   v = p.between
 
@@ -115,8 +115,8 @@ module _ (s u : PortState) (old new : Ring) (lits : List Literal) (back glue lim
   pub asked_restarts : new.restarts ≡ asked (noted old.restarts glue)
   asked_restarts = a.restarts ∙ ap asked (shared_noted s v old mid lits glue address h)
 
-  pub asked_pending : new.pending ≡ is_due (noted old.restarts glue)
-  asked_pending = a.pending ∙ ap is_due (shared_noted s v old mid lits glue address h)
+  pub asked_pending : new.import_due ≡ is_due (noted old.restarts glue)
+  asked_pending = a.import_due ∙ ap is_due (shared_noted s v old mid lits glue address h)
 
   pub asked_looks : u.looks ≡ s.looks
   asked_looks = a.looks ∙ shared_looks s v old mid lits glue address h
@@ -137,20 +137,20 @@ module _ (s u : PortState) (old new : Ring) (lits : List Literal) (back glue lim
   asked_made = subst (λ (r : Restarting). old.restarts.made ≤ r.made) (sym asked_restarts) (asked_more (noted old.restarts glue))
 
   pub asked_count : imports_of new ≡ old.restarts.made + 1
-  asked_count = ap (λ (r : Restarting). if new.pending then r.made else r.made + 1) asked_restarts ∙ asked_imports (noted old.restarts glue) new.pending asked_pending
+  asked_count = ap (λ (r : Restarting). if new.import_due then r.made else r.made + 1) asked_restarts ∙ asked_imports (noted old.restarts glue) new.import_due asked_pending
 
-  pub asked_polled : old.pending ≡ false → IsPolling s old → u.polled ≡ polls_of u (1 + old.restarts.made)
+  pub asked_polled : old.import_due ≡ false → IsPolling s old → u.polled ≡ polls_of u (1 + old.restarts.made)
   asked_polled settled q = polls_as s u (1 + old.restarts.made) asked_same (polled_whole s old settled q.polled)
 
-  pub asked_imported : (start : PortState) → old.pending ≡ false → IsImporting start s old → HasImported start u (1 + old.restarts.made)
+  pub asked_imported : (start : PortState) → old.import_due ≡ false → IsImporting start s old → HasImported start u (1 + old.restarts.made)
   asked_imported start settled q = imports_as start s u (1 + old.restarts.made) asked_same (imports_whole start s old settled q)
 
   -- what waited was deleted, and the conflict left
   module _ (leaves : HasLeftTidy v u mid new lits back address) where
-    left_old : HasLeft u (record old { pending = new.pending }) new lits back address
-    left_old = left_alike u (record mid { pending = new.pending }) (record old { pending = new.pending }) new lits back address
+    left_old : HasLeft u (record old { import_due = new.import_due }) new lits back address
+    left_old = left_alike u (record mid { import_due = new.import_due }) (record old { import_due = new.import_due }) new lits back address
         (record {
-          pending = refl;
+          import_due = refl;
           trail = ap (λ (r : Ring). r.trail) h.ring;
           watches = ap (λ (r : Ring). r.watches) h.ring;
           lemmas = ap (λ (r : Ring). r.lemmas.items) h.ring;
@@ -165,14 +165,14 @@ module _ (s u : PortState) (old new : Ring) (lits : List Literal) (back glue lim
     alike a_place = held_same v u a_place a.held ∙ lent.same a_place
 
     pub asked_level : new.trail.level ≤ back
-    asked_level = left_level u (record old { pending = new.pending }) new lits back address left_old
+    asked_level = left_level u (record old { import_due = new.import_due }) new lits back address left_old
 
     pub asked_search : InSearch s old → IsAsserting s old.trail lits back → IsPort u → InSearch u new
     asked_search search lemma port =
         tidied_search v u new
         (lent_search h.shared.middle v new
-        (left_search s h.shared.middle (record old { pending = new.pending }) new lits back glue address search lemma h.shared.learned h.kept h.port
-        (left_before h.shared.middle u (record old { pending = new.pending }) new lits back address alike left_old))
+        (left_search s h.shared.middle (record old { import_due = new.import_due }) new lits back glue address search lemma h.shared.learned h.kept h.port
+        (left_before h.shared.middle u (record old { import_due = new.import_due }) new lits back address alike left_old))
         lent h.log_after h.port_after)
         leaves.wrote leaves.seen port
 
@@ -180,14 +180,14 @@ module _ (s u : PortState) (old new : Ring) (lits : List Literal) (back glue lim
     asked_goes_on start q stands lemma counts = subst (GoesOn start u) (sym asked_learned)
         (leaves.keeps start (old.learned + 1) (shared_goes_on s v old mid lits glue address h start old.trail back q stands lemma counts))
 
-    pub asked_polling : old.pending ≡ false → IsPolling s old → IsPolling u new
+    pub asked_polling : old.import_due ≡ false → IsPolling s old → IsPolling u new
     asked_polling settled q = record {
       place = a.offers.place ∙ ap (λ (r : Ring). r.place) h.ring ∙ place_moved old.place s u asked_same.ring asked_same.rings q.place;
       polled = subst (λ (k : ℕ). u.polled ≡ polls_of u k) (let e : 1 + old.restarts.made ≡ imports_of new = omega (arith, asked_count) in e) (asked_polled settled q);
-      low = left_low u (record old { pending = new.pending }) new lits back address left_old;
+      low = left_low u (record old { import_due = new.import_due }) new lits back address left_old;
     }
 
-    pub asked_in_time : IsInTime s old.restarts.since → new.pending ≡ false → IsInTime u new.restarts.since
+    pub asked_in_time : IsInTime s old.restarts.since → new.import_due ≡ false → IsInTime u new.restarts.since
     asked_in_time q settled =
         let since : new.restarts.since ≡ old.restarts.since + 1 = ap (λ (r : Restarting). r.since) asked_restarts ∙ asked_since (noted old.restarts glue) (sym asked_pending ∙ settled) in
         in_time_wrote v u new.restarts.since leaves.wrote (in_time_more v (old.restarts.since + 1) new.restarts.since (sym since) (shared_in_time s v old mid lits glue address h q))
@@ -198,7 +198,7 @@ module _ (s u : PortState) (old new : Ring) (lits : List Literal) (back glue lim
         let wrote = leaves.wrote in
         let ring = ap (λ (x : PortState). x.ring) lent.state in
         let mine = ap (λ (x : PortState). x.mine) lent.state in
-        let lists = left_lists u (record old { pending = new.pending }) new lits back address left_old in
+        let lists = left_lists u (record old { import_due = new.import_due }) new lits back address left_old in
         listed_learned s m u old new lits glue address search.clauses h.shared.learned
         (wrote.stays.start ∙ ap (λ (x : PortState). x.start) lent.state)
         (wrote.recent ∙ recent_still m v ring mine)
@@ -219,6 +219,6 @@ module _ (s u : PortState) (old new : Ring) (lits : List Literal) (back glue lim
       tidied = leaves.tidied;
       stored = stored_at s h.shared.middle u lits glue address h.shared.learned alike;
       restarts = asked_restarts;
-      pending = asked_pending;
+      import_due = asked_pending;
       left = left_old;
     }

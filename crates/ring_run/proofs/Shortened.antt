@@ -19,7 +19,7 @@ use Rattle.ring_port.specs.Deleting.{DroppedOnce}
 use Rattle.ring_port.specs.Log.{KeepsLog}
 use Rattle.ring_port.proofs.Holdings.{All_In}
 use Rattle.ring_port.proofs.LogSteps.{In_All}
-use Rattle.ring_trail.specs.declared.step.Step.{Step}
+use Rattle.ring_trail.specs.declared.step.TrailStep.{TrailStep}
 use Rattle.watch_prop.specs.WatchData.{WatchData, attached}
 use Rattle.vivify.specs.Walk.{others}
 use Rattle.vivify.specs.Outcome.{glue_at, left_at, WasShortened, BecameUnit, WroteLeft, WasCutShort}
@@ -28,7 +28,7 @@ use Rattle.vivify.proofs.Shortening.{part_clause}
 use Rattle.ring_run.specs.Ended.{Stays, IsGlued, Cause, reductions}
 use Rattle.ring_run.specs.Searching.{GoesOn, KeepsOn, Runs, UnitsSeen, OffersNothing}
 use Rattle.ring_run.specs.Ending.{EndsAt, end_refused}
-use Rattle.ring_run.proofs.Progress.{Same, AddsGlued, same_refused, runs_entry, new_line, not_learned, none_learned, recent_other, some_literal, going_more, refused_cause, refused_counts, refused_ends, unset, usable_none}
+use Rattle.ring_run.proofs.Progress.{Unchanged, AddsGlued, same_refused, runs_entry, new_line, not_learned, none_learned, recent_other, some_literal, going_more, refused_cause, refused_counts, refused_ends, unset, usable_none}
 use Rattle.ring_run.proofs.Lately.{lately_none}
 use Rattle.ring_run.proofs.Reducing.{less_one}
 use Rattle.rup_model.proofs.Additions.{learned-append}
@@ -111,7 +111,7 @@ dropped_behind s m u e a b w = record {
   mine = ap (λ (x : PortState). x.mine) w.state ∙ b.mine;
 }
 
-same_behind : (s m u : PortState) (e : Entry) → Behind s m e → Same m u → Behind s u e
+same_behind : (s m u : PortState) (e : Entry) → Behind s m e → Unchanged m u → Behind s u e
 same_behind s m u e b q = record {
   start = q.start ∙ b.start;
   opening = q.opening ∙ b.opening;
@@ -180,7 +180,7 @@ derived_glued s m lits old d w some h there =
 
 -- The run
 
-pub left_clause : (s : PortState) (v : WatchData) (steps : List Step) (c : Cref) → IsPort s → IsSome (held_at s c.address) → IsClause s.vars (left_at s (attached v) steps c.address)
+pub left_clause : (s : PortState) (v : WatchData) (steps : List TrailStep) (c : Cref) → IsPort s → IsSome (held_at s c.address) → IsClause s.vars (left_at s (attached v) steps c.address)
 left_clause s v steps c port held =
     let G = others s (attached v) c.address steps in
     part_clause s c.address (left_at s (attached v) steps c.address) port held (left_part G (lits_at s c.address)) (λ d. left_distinct G (lits_at s c.address) d)
@@ -201,7 +201,7 @@ unit_runs start s u n number l p b log held on units unseen none glued port =
     (p.runs.stays.ring, subst (λ (v : ℕ). All (IsOn v) (l ∷ [])) p.runs.stays.vars (All-cons (IsOn s.vars) l [] on (All-nil (IsOn s.vars))), refl)
     (omega (arith, not_learned s.ring x refl)) (λ learns. absurd (false≢true learns)) b.given (new_line s l number units p.runs.port unseen) tt glued (lately_none u (recent_other s u number (l ∷ []) UnitLine refl b.ring b.mine ∙ none)) port
 
-module _ (s u : PortState) (v : WatchData) (steps : List Step) (c : Cref) (port : IsPort s) (held : IsSome (held_at s c.address)) (some : 1 ≤ glue_at s c.address)
+module _ (s u : PortState) (v : WatchData) (steps : List TrailStep) (c : Cref) (port : IsPort s) (held : IsSome (held_at s c.address)) (some : 1 ≤ glue_at s c.address)
     (time : (1 ≤ reductions s.ring s.mine) × (recent s.ring s.mine ≡ []))
     (others : (a : ℕ) → a ≢ c.address → IsSome (held_at s a) → held_at u a ≡ held_at s a) (apart : (h : Holding) → Contains s.start h → c.address ≢ h.address) (log : KeepsLog s u) (port_then : IsPort u) where
   abbrev left : List Literal
@@ -249,8 +249,8 @@ module _ (s u : PortState) (v : WatchData) (steps : List Step) (c : Cref) (port 
 
   -- a call of the port was refused
   module _ (stop : PortStop) (units : UnitsSeen s) (unseen : (l : Literal) → left ≡ l ∷ [] → has s.seen l ≡ false) where
-    refused_same : (m : PortState) → Refused m u stop → Same m u
-    refused_same m r = subst (Same m) (sym r.state) (same_refused m u.output stop)
+    refused_same : (m : PortState) → Refused m u stop → Unchanged m u
+    refused_same m r = subst (Unchanged m) (sym r.state) (same_refused m u.output stop)
 
     pub cut_ends : WasCutShort s u v steps c stop → EndsAt s u (end_refused stop)
     cut_ends z = by z.middle z.before z.refused

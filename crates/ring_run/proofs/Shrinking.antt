@@ -7,7 +7,7 @@ use Rattle.rup_model.specs.Journal.{recent}
 use Rattle.ring_port.specs.declared.stops.PortStop.{PortStop}
 use Rattle.ring_port.specs.PortState.{PortState, lits_at}
 use Rattle.ring_port.specs.Reducing.{NotedReduce}
-use Rattle.ring_trail.specs.declared.step.Step.{Step}
+use Rattle.ring_trail.specs.declared.step.TrailStep.{TrailStep}
 use Rattle.ring_trail.specs.TrailData.{TrailData}
 use Rattle.watch_prop.specs.WatchData.{WatchData, Lits}
 use Rattle.watch_prop.specs.Propagation.{IsQuiet}
@@ -17,7 +17,7 @@ use Rattle.ring_run.specs.Ended.{HasLooked, last_looks, reductions}
 use Rattle.ring_run.specs.Searching.{OpeningSeen, KeepsOn}
 use Rattle.ring_run.specs.Ending.{EndsAt, end_refused}
 use Rattle.ring_run.specs.Renewal.{HaltsAt}
-use Rattle.ring_run.specs.Course.{IsLooking}
+use Rattle.ring_run.specs.Next.{IsLooking}
 use Rattle.ring_run.specs.declared.job.End.{End}
 use Rattle.ring_run.specs.declared.ring.Ring.{Ring}
 use Rattle.std.specs.Prelude.{Result, Ok, Err, IfOk, OnOk}
@@ -26,7 +26,7 @@ use Rattle.ring_run.proofs.Remembering.{lits_same}
 use Rattle.ring_run.proofs.Tidying.{refused_halted, refused_last, refused_refusal}
 use Rattle.ring_run.proofs.Numbering.{reductions_reduced}
 
-module _ (s m u : PortState) (noted : NotedReduce s m) (v w : WatchData) (steps : List Step) (lemmas left : List Cref) (done : WasReduced m u v w steps lemmas left) where
+module _ (s m u : PortState) (noted : NotedReduce s m) (v w : WatchData) (steps : List TrailStep) (lemmas left : List Cref) (done : WasReduced m u v w steps lemmas left) where
   pub reduced_lately : recent u.ring u.mine ≡ []
   reduced_lately = ap (λ (x : PortState). recent x.ring x.mine) done.port.state ∙ noted_lately s m noted
 

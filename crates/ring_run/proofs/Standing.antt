@@ -19,7 +19,7 @@ use Rattle.ring_port.specs.Log.{KeepsLog}
 use Rattle.ring_port.specs.PortState.{IsOn}
 use Rattle.ring_port.proofs.Holdings.{seen_is_known, All_In}
 use Rattle.rup_model.proofs.Lists.{has_In}
-use Rattle.ring_trail.specs.declared.step.Step.{Step}
+use Rattle.ring_trail.specs.declared.step.TrailStep.{TrailStep}
 use Rattle.ring_trail.specs.TrailData.{TrailData, IsTrail, IsTrueOn, IsFalseOn, FalseBefore, HasNoPlace, HasGrown, no_step, step_at, lit_at, value_of, assigned}
 use Rattle.ring_trail.specs.Reasoned.{IsReasoned}
 use Rattle.ring_trail.specs.Closed.{TrueWithin}
@@ -33,25 +33,25 @@ use Rattle.ring_run.proofs.LevelZero.{false_at_zero}
 use Rattle.ring_run.proofs.Remembering.{HoldsAlike, held_same, clause_alike, clause_at_same}
 
 -- a literal that is true stays so as the trail grows
-pub within_more : (steps more : List Step) (k : ℕ) (l : Literal) → TrueWithin steps k l → TrueWithin (steps ++ more) k l
+pub within_more : (steps more : List TrailStep) (k : ℕ) (l : Literal) → TrueWithin steps k l → TrueWithin (steps ++ more) k l
 within_more steps more k l w =
     let is : step_at (steps ++ more) w.place ≡ step_at steps w.place = get_or_append_left steps more no_step w.place w.in_range in
     record {
       place = w.place;
       in_range = omega (arith, length-append steps more, w.in_range);
-      true_there = ap (λ (s : Step). s.lit) is ∙ w.true_there;
-      level = omega (arith, ap (λ (s : Step). s.level) is, w.level);
+      true_there = ap (λ (s : TrailStep). s.lit) is ∙ w.true_there;
+      level = omega (arith, ap (λ (s : TrailStep). s.level) is, w.level);
     }
 
 -- the last literal is true at its level
-pub within_last : (steps : List Step) (x : Step) (k : ℕ) → x.level ≤ k → TrueWithin (steps ++ x ∷ []) k x.lit
+pub within_last : (steps : List TrailStep) (x : TrailStep) (k : ℕ) → x.level ≤ k → TrueWithin (steps ++ x ∷ []) k x.lit
 within_last steps x k h =
     let is : step_at (steps ++ x ∷ []) (length steps) ≡ x = get_or-append_seam steps x [] no_step in
     record {
       place = length steps;
       in_range = omega (arith, length-append steps (x ∷ []));
-      true_there = ap (λ (s : Step). s.lit) is;
-      level = omega (arith, ap (λ (s : Step). s.level) is, h);
+      true_there = ap (λ (s : TrailStep). s.lit) is;
+      level = omega (arith, ap (λ (s : TrailStep). s.level) is, h);
     }
 
 -- at level 0, what is true is so without a decision
@@ -63,29 +63,29 @@ within_zero t l shape zero_level w = record {
   level = omega (arith, shape.within w.place w.before);
 }
 
-pub no_value : (steps : List Step) (v : ℕ) → HasNoPlace steps v → value_of steps v ≡ None
-no_value steps v free = ap (option_map (λ (s : Step). not s.lit.neg)) (step_of-no_place steps v free)
+pub no_value : (steps : List TrailStep) (v : ℕ) → HasNoPlace steps v → value_of steps v ≡ None
+no_value steps v free = ap (option_map (λ (s : TrailStep). not s.lit.neg)) (step_of-no_place steps v free)
 
 -- one literal more at the present level
 pub grown_by : (t u : TrailData) (l : Literal) (r : Option Cref) → HasGrown t u → HasGrown t (assigned u l r)
 grown_by t u l r p =
-    let x : Step = record { lit = l; level = u.level; reason = r } in
+    let x : TrailStep = record { lit = l; level = u.level; reason = r } in
     record {
       vars = p.vars;
       level = p.level;
       more = p.more ++ x ∷ [];
-      steps = ap (λ (ss : List Step). ss ++ x ∷ []) p.steps ∙ append_assoc t.steps p.more (x ∷ []);
-      at_level = All-append (λ (s : Step). s.level ≡ t.level) p.more (x ∷ []) p.at_level (All-cons (λ (s : Step). s.level ≡ t.level) x [] p.level (All-nil (λ (s : Step). s.level ≡ t.level)));
+      steps = ap (λ (ss : List TrailStep). ss ++ x ∷ []) p.steps ∙ append_assoc t.steps p.more (x ∷ []);
+      at_level = All-append (λ (s : TrailStep). s.level ≡ t.level) p.more (x ∷ []) p.at_level (All-cons (λ (s : TrailStep). s.level ≡ t.level) x [] p.level (All-nil (λ (s : TrailStep). s.level ≡ t.level)));
     }
 
 -- the reasons stay where each clause is held where it was and more is seen
-pub reasoned_alike : (s u : PortState) (steps : List Step) → HoldsAlike s u → ((l : Literal) → has s.seen l ≡ true → has u.seen l ≡ true)
+pub reasoned_alike : (s u : PortState) (steps : List TrailStep) → HoldsAlike s u → ((l : Literal) → has s.seen l ≡ true → has u.seen l ≡ true)
     → IsReasoned (clause_at s) s.seen steps → IsReasoned (clause_at u) u.seen steps
 reasoned_alike s u steps e more r =
     IsReasoned-held (clause_at s) (clause_at u) s.seen u.seen steps r
     (λ p c d h is held. inl (clause_alike s u e c.address ∙ held)) more
 
-pub reasoned_more : (s u : PortState) (steps : List Step) → u.held ≡ s.held → ((l : Literal) → has s.seen l ≡ true → has u.seen l ≡ true)
+pub reasoned_more : (s u : PortState) (steps : List TrailStep) → u.held ≡ s.held → ((l : Literal) → has s.seen l ≡ true → has u.seen l ≡ true)
     → IsReasoned (clause_at s) s.seen steps → IsReasoned (clause_at u) u.seen steps
 reasoned_more s u steps e more r = reasoned_alike s u steps (λ a. held_same s u a e) more r
 
@@ -160,7 +160,7 @@ pub opening_none : (u w : PortState) → TookNone u w → OpeningSeen w
 opening_none u w took l h =
     ap (λ (ls : List Literal). has ls l) (ap (λ (x : PortState). x.seen) took.state) ∙ took.all l (ap (λ (ls : List Literal). has ls l) (sym (ap (λ (x : PortState). x.opening) took.state)) ∙ h)
 
-pub reasons_none : (cs : List Cref) (u w : PortState) (steps : List Step) → TookNone u w → HasReasons cs u steps → HasReasons cs w steps
+pub reasons_none : (cs : List Cref) (u w : PortState) (steps : List TrailStep) → TookNone u w → HasReasons cs u steps → HasReasons cs w steps
 reasons_none cs u w steps took r =
     Reasons-more cs cs u w steps (λ c there. (there, clause_at_same u w (ap (λ (x : PortState). x.held) took.state) c.address)) (λ l h. ap (λ (ls : List Literal). has ls l) (ap (λ (x : PortState). x.seen) took.state) ∙ h) r
 
@@ -187,7 +187,7 @@ stands_seen u w t l p took within =
 -- a unit that is made true at level 0
 pub stands_taken : (u w : PortState) (t : TrailData) (l : Literal) → Stands u t → TookUnit u w l → t.level ≡ 0 → Stands w (assigned t l None)
 stands_taken u w t l p took zero_level =
-    let x : Step = record { lit = l; level = t.level; reason = None } in
+    let x : TrailStep = record { lit = l; level = t.level; reason = None } in
     record {
       vars = p.vars ∙ sym (ap (λ (y : PortState). y.vars) took.state);
       reasoned = IsReasoned-seen (clause_at w) w.seen t l None
@@ -200,7 +200,7 @@ stands_taken u w t l p took zero_level =
     }
 
 -- the reasons stay after a unit has come
-pub reasons_seen : (cs : List Cref) (u w : PortState) (steps : List Step) (l : Literal) → TookUnit u w l → HasReasons cs u steps → HasReasons cs w steps
+pub reasons_seen : (cs : List Cref) (u w : PortState) (steps : List TrailStep) (l : Literal) → TookUnit u w l → HasReasons cs u steps → HasReasons cs w steps
 reasons_seen cs u w steps l took r =
     Reasons-more cs cs u w steps (λ c there. (there, clause_at_same u w (ap (λ (x : PortState). x.held) took.state) c.address)) (λ k h. sees_old u.seen w.seen l k took.sees h) r
 

@@ -17,7 +17,7 @@ use Rattle.rup_model.proofs.RoundsLemmas.{forces-parts}
 use Rattle.ring_port.specs.PortState.{PortState, Holding, held_at, lits_at, lits_in}
 use Rattle.ring_port.specs.Port.{Sees, start_lits}
 use Rattle.ring_port.proofs.Holdings.{All_In}
-use Rattle.ring_trail.specs.declared.step.Step.{Step}
+use Rattle.ring_trail.specs.declared.step.TrailStep.{TrailStep}
 use Rattle.ring_trail.specs.TrailData.{TrailData, IsTrail, HasGrown, HasNoPlace, IsFalseOn, no_step, step_at, lit_at, level_at, reason_at, assigned}
 use Rattle.ring_trail.specs.Closed.{TrueWithin, IsClosedClause}
 use Rattle.ring_trail.proofs.Causes.{back-kept}
@@ -25,7 +25,7 @@ use Rattle.watch_prop.specs.WatchData.{WatchData, attached}
 use Rattle.watch_prop.specs.Propagation.{IsQuiet}
 use Rattle.ring_run.specs.Ended.{searched, IsTold}
 use Rattle.ring_run.specs.Searching.{SeenTrue, Stands, AreFirst, AreTold, IsAmong}
-use Rattle.ring_run.specs.Course.{Searches, WentBack}
+use Rattle.ring_run.specs.Next.{Searches, WentBack}
 use Rattle.ring_run.proofs.Remembering.{stands_there}
 
 -- what is not so is false
@@ -39,11 +39,11 @@ apart_signs true e = true≢false e
 apart_signs false e = false≢true e
 
 -- what is true on the first steps stands at no place behind them
-unseen_behind : (s : PortState) (steps : List Step) (v : TrailData) (q : ℕ) → SeenTrue s steps → IsTrail v → length steps ≤ length v.steps → ((p : ℕ) → p < length steps → step_at v.steps p ≡ step_at steps p)
+unseen_behind : (s : PortState) (steps : List TrailStep) (v : TrailData) (q : ℕ) → SeenTrue s steps → IsTrail v → length steps ≤ length v.steps → ((p : ℕ) → p < length steps → step_at v.steps p ≡ step_at steps p)
     → length steps ≤ q → q < length v.steps → has s.seen (lit_at v.steps q) ≡ false
 unseen_behind s steps v q seen shape long same le lt = never (has s.seen (lit_at v.steps q)) (λ h.
     let w = seen (lit_at v.steps q) h in
-    let e : w.place ≡ q = shape.distinct w.place q (let i = w.in_range in omega arith) lt (ap (λ (x : Step). x.lit.var) (same w.place w.in_range) ∙ ap (λ (l : Literal). l.var) w.true_there) in
+    let e : w.place ≡ q = shape.distinct w.place q (let i = w.in_range in omega arith) lt (ap (λ (x : TrailStep). x.lit.var) (same w.place w.in_range) ∙ ap (λ (l : Literal). l.var) w.true_there) in
     let i = w.in_range in
     absurd (omega arith))
 
@@ -51,31 +51,31 @@ unseen_behind s steps v q seen shape long same le lt = never (has s.seen (lit_at
 pub told_grown : (s : PortState) (t v : TrailData) (n : ℕ) → AreTold s t n → Stands s t → IsTrail v → HasGrown t v → AreTold s v n
 told_grown s t v n p st shape grown = record {
   few = omega (arith, p.few, long);
-  low = λ q h. ap (λ (x : Step). x.level) (at q (omega (arith, h, p.few))) ∙ p.low q h;
-  first = λ q h. subst (λ (x : Step). has s.seen x.lit ≡ true) (sym (at q (omega (arith, h, p.few)))) (p.first q h);
+  low = λ q h. ap (λ (x : TrailStep). x.level) (at q (omega (arith, h, p.few))) ∙ p.low q h;
+  first = λ q h. subst (λ (x : TrailStep). has s.seen x.lit ≡ true) (sym (at q (omega (arith, h, p.few)))) (p.first q h);
   rest = λ q le lt some. elim (cases_lt q (length t.steps)) as (λ _. has s.seen (lit_at v.steps q) ≡ false) [
-    | inl old ↦ subst (λ (x : Step). has s.seen x.lit ≡ false) (sym (at q old)) (p.rest q le old (subst (λ (x : Step). IsSome x.reason) (at q old) some))
+    | inl old ↦ subst (λ (x : TrailStep). has s.seen x.lit ≡ false) (sym (at q old)) (p.rest q le old (subst (λ (x : TrailStep). IsSome x.reason) (at q old) some))
     | inr new ↦ unseen_behind s t.steps v q st.seen shape long at new lt
   ];
   all = λ up q lt zero_level. elim (cases_lt q (length t.steps)) as (λ _. q < n) [
-    | inl old ↦ p.all (omega (arith, up, grown.level)) q old (sym (ap (λ (x : Step). x.level) (at q old)) ∙ zero_level)
+    | inl old ↦ p.all (omega (arith, up, grown.level)) q old (sym (ap (λ (x : TrailStep). x.level) (at q old)) ∙ zero_level)
     | inr new ↦ (
         let i : q ≡ length t.steps + (q - length t.steps) = omega arith in
         let there : level_at grown.more (q - length t.steps) ≡ t.level = grown.at_level (q - length t.steps) no_step (omega (arith, lt, long_is)) in
         let here : level_at v.steps q ≡ level_at grown.more (q - length t.steps) =
-        ap (λ (ss : List Step). level_at ss q) grown.steps ∙ ap (λ (m : ℕ). level_at (t.steps ++ grown.more) m) i ∙ ap (λ (x : Step). x.level) (get_or-append-add t.steps grown.more (q - length t.steps) no_step) in
+        ap (λ (ss : List TrailStep). level_at ss q) grown.steps ∙ ap (λ (m : ℕ). level_at (t.steps ++ grown.more) m) i ∙ ap (λ (x : TrailStep). x.level) (get_or-append-add t.steps grown.more (q - length t.steps) no_step) in
         absurd (omega (arith, up, grown.level, there, here, zero_level)))
   ];
 }
   where
     long_is : length v.steps ≡ length t.steps + length grown.more
-    long_is = ap (λ (ss : List Step). length ss) grown.steps ∙ length-append t.steps grown.more
+    long_is = ap (λ (ss : List TrailStep). length ss) grown.steps ∙ length-append t.steps grown.more
 
     long : length t.steps ≤ length v.steps
     long = omega (arith, long_is)
 
     at : (q : ℕ) → q < length t.steps → step_at v.steps q ≡ step_at t.steps q
-    at q h = ap (λ (ss : List Step). step_at ss q) grown.steps ∙ get_or_append_left t.steps grown.more no_step q h
+    at q h = ap (λ (ss : List TrailStep). step_at ss q) grown.steps ∙ get_or_append_left t.steps grown.more no_step q h
 
 -- a literal that is false is not seen
 pub unseen_false : (s : PortState) (t : TrailData) (l : Literal) → Stands s t → IsTrail t → IsFalseOn t.steps l → has s.seen l ≡ false
@@ -86,45 +86,45 @@ unseen_false s t l st shape f = never (has s.seen l) (λ h.
     apart_signs l.neg (ap (λ (x : Literal). x.neg) both))
 
 -- one step more
-pub told_step : (s : PortState) (t v : TrailData) (x : Step) (n : ℕ) → v.steps ≡ t.steps ++ x ∷ [] → AreTold s t n → (IsSome x.reason → has s.seen x.lit ≡ false)
+pub told_step : (s : PortState) (t v : TrailData) (x : TrailStep) (n : ℕ) → v.steps ≡ t.steps ++ x ∷ [] → AreTold s t n → (IsSome x.reason → has s.seen x.lit ≡ false)
     → (0 < v.level → AreFirst t n) → (0 < v.level → 0 < x.level) → AreTold s v n
 told_step s t v x n is p unseen first up = record {
   few = omega (arith, p.few, long_is);
-  low = λ q h. ap (λ (y : Step). y.level) (at q (omega (arith, h, p.few))) ∙ p.low q h;
-  first = λ q h. subst (λ (y : Step). has s.seen y.lit ≡ true) (sym (at q (omega (arith, h, p.few)))) (p.first q h);
+  low = λ q h. ap (λ (y : TrailStep). y.level) (at q (omega (arith, h, p.few))) ∙ p.low q h;
+  first = λ q h. subst (λ (y : TrailStep). has s.seen y.lit ≡ true) (sym (at q (omega (arith, h, p.few)))) (p.first q h);
   rest = λ q le lt some. elim (cases_lt q (length t.steps)) as (λ _. has s.seen (lit_at v.steps q) ≡ false) [
-    | inl old ↦ subst (λ (y : Step). has s.seen y.lit ≡ false) (sym (at q old)) (p.rest q le old (subst (λ (y : Step). IsSome y.reason) (at q old) some))
-    | inr new ↦ subst (λ (y : Step). has s.seen y.lit ≡ false) (sym (last q lt new)) (unseen (subst (λ (y : Step). IsSome y.reason) (last q lt new) some))
+    | inl old ↦ subst (λ (y : TrailStep). has s.seen y.lit ≡ false) (sym (at q old)) (p.rest q le old (subst (λ (y : TrailStep). IsSome y.reason) (at q old) some))
+    | inr new ↦ subst (λ (y : TrailStep). has s.seen y.lit ≡ false) (sym (last q lt new)) (unseen (subst (λ (y : TrailStep). IsSome y.reason) (last q lt new) some))
   ];
   all = λ above q lt zero_level. elim (cases_lt q (length t.steps)) as (λ _. q < n) [
-    | inl old ↦ first above q old (sym (ap (λ (y : Step). y.level) (at q old)) ∙ zero_level)
-    | inr new ↦ (let e = ap (λ (y : Step). y.level) (last q lt new) in absurd (omega (arith, up above, e, zero_level)))
+    | inl old ↦ first above q old (sym (ap (λ (y : TrailStep). y.level) (at q old)) ∙ zero_level)
+    | inr new ↦ (let e = ap (λ (y : TrailStep). y.level) (last q lt new) in absurd (omega (arith, up above, e, zero_level)))
   ];
 }
   where
     long_is : length v.steps ≡ length t.steps + 1
-    long_is = ap (λ (ss : List Step). length ss) is ∙ length-append t.steps (x ∷ [])
+    long_is = ap (λ (ss : List TrailStep). length ss) is ∙ length-append t.steps (x ∷ [])
 
     at : (q : ℕ) → q < length t.steps → step_at v.steps q ≡ step_at t.steps q
-    at q h = ap (λ (ss : List Step). step_at ss q) is ∙ get_or_append_left t.steps (x ∷ []) no_step q h
+    at q h = ap (λ (ss : List TrailStep). step_at ss q) is ∙ get_or_append_left t.steps (x ∷ []) no_step q h
 
     last : (q : ℕ) → q < length v.steps → length t.steps ≤ q → step_at v.steps q ≡ x
     last q lt le =
         let e : q ≡ length t.steps = omega (arith, lt, le, long_is) in
-        ap (λ (ss : List Step). step_at ss q) is ∙ ap (λ (m : ℕ). step_at (t.steps ++ x ∷ []) m) e ∙ get_or-append_seam t.steps x [] no_step
+        ap (λ (ss : List TrailStep). step_at ss q) is ∙ ap (λ (m : ℕ). step_at (t.steps ++ x ∷ []) m) e ∙ get_or-append_seam t.steps x [] no_step
 
 -- the trail goes back
 pub told_back : (s : PortState) (t v : TrailData) (back n : ℕ) → AreTold s t n → IsTrail t → back ≤ t.level → WentBack t v back → AreTold s v n
 told_back s t v back n p shape within w = record {
   few = few n p.few p.low;
-  low = λ q h. ap (λ (x : Step). x.level) (at q (omega (arith, h, few n p.few p.low))) ∙ p.low q h;
-  first = λ q h. subst (λ (x : Step). has s.seen x.lit ≡ true) (sym (at q (omega (arith, h, few n p.few p.low)))) (p.first q h);
-  rest = λ q le lt some. subst (λ (x : Step). has s.seen x.lit ≡ false) (sym (at q lt)) (p.rest q le (omega (arith, lt, w.short)) (subst (λ (x : Step). IsSome x.reason) (at q lt) some));
-  all = λ up q lt zero_level. p.all (omega (arith, up, ap (λ (y : TrailData). y.level) w.is, within)) q (omega (arith, lt, w.short)) (sym (ap (λ (x : Step). x.level) (at q lt)) ∙ zero_level);
+  low = λ q h. ap (λ (x : TrailStep). x.level) (at q (omega (arith, h, few n p.few p.low))) ∙ p.low q h;
+  first = λ q h. subst (λ (x : TrailStep). has s.seen x.lit ≡ true) (sym (at q (omega (arith, h, few n p.few p.low)))) (p.first q h);
+  rest = λ q le lt some. subst (λ (x : TrailStep). has s.seen x.lit ≡ false) (sym (at q lt)) (p.rest q le (omega (arith, lt, w.short)) (subst (λ (x : TrailStep). IsSome x.reason) (at q lt) some));
+  all = λ up q lt zero_level. p.all (omega (arith, up, ap (λ (y : TrailData). y.level) w.is, within)) q (omega (arith, lt, w.short)) (sym (ap (λ (x : TrailStep). x.level) (at q lt)) ∙ zero_level);
 }
   where
     at : (q : ℕ) → q < length v.steps → step_at v.steps q ≡ step_at t.steps q
-    at q h = ap (λ (ss : List Step). step_at ss q) w.prefix ∙ get_or-take (length v.steps) t.steps q no_step h
+    at q h = ap (λ (ss : List TrailStep). step_at ss q) w.prefix ∙ get_or-take (length v.steps) t.steps q no_step h
 
     few : (m : ℕ) → m ≤ length t.steps → ((q : ℕ) → q < m → level_at t.steps q ≡ 0) → m ≤ length v.steps
     few zero le low = omega arith
@@ -160,27 +160,27 @@ pub told_saw : (s u : PortState) (t v : TrailData) (n : ℕ) → AreTold s t n �
 told_saw s u t v n p whole shape zero_level grown more bare = record {
   few = omega (arith, whole, long);
   low = λ q h. (let w = shape.within q (omega (arith, h, whole, long)) in omega (arith, w, zero_level));
-  first = λ q h. subst (λ (x : Step). has u.seen x.lit ≡ true) (sym (at q (omega (arith, h, whole)))) (more (lit_at t.steps q) (p.first q h));
+  first = λ q h. subst (λ (x : TrailStep). has u.seen x.lit ≡ true) (sym (at q (omega (arith, h, whole)))) (more (lit_at t.steps q) (p.first q h));
   rest = λ q le lt some. absurd (false≢true (subst (λ (r : Option Cref). IsSome r) (bare q (omega (arith, le, whole)) lt) some));
   all = λ up. absurd (omega (arith, up, zero_level));
 }
   where
     long : length t.steps ≤ length v.steps
-    long = (let sum = ap (λ (ss : List Step). length ss) grown.steps ∙ length-append t.steps grown.more in omega (arith, sum))
+    long = (let sum = ap (λ (ss : List TrailStep). length ss) grown.steps ∙ length-append t.steps grown.more in omega (arith, sum))
 
     at : (q : ℕ) → q < length t.steps → step_at v.steps q ≡ step_at t.steps q
-    at q h = ap (λ (ss : List Step). step_at ss q) grown.steps ∙ get_or_append_left t.steps grown.more no_step q h
+    at q h = ap (λ (ss : List TrailStep). step_at ss q) grown.steps ∙ get_or_append_left t.steps grown.more no_step q h
 
 -- a step without a reason leaves none with one behind the first ones
 pub bare_more : (n : ℕ) (t : TrailData) (l : Literal) → ((p : ℕ) → n ≤ p → p < length t.steps → reason_at t.steps p ≡ None) → (p : ℕ) → n ≤ p → p < length (assigned t l None).steps → reason_at (assigned t l None).steps p ≡ None
 bare_more n t l bare p behind lt =
-    let x : Step = record { lit = l; level = t.level; reason = None } in
+    let x : TrailStep = record { lit = l; level = t.level; reason = None } in
     let long = length-append t.steps (x ∷ []) in
     elim (cases_lt p (length t.steps)) as (λ _. reason_at (t.steps ++ x ∷ []) p ≡ None) [
-      | inl old ↦ ap (λ (y : Step). y.reason) (get_or_append_left t.steps (x ∷ []) no_step p old) ∙ bare p behind old
+      | inl old ↦ ap (λ (y : TrailStep). y.reason) (get_or_append_left t.steps (x ∷ []) no_step p old) ∙ bare p behind old
       | inr new ↦ (
           let e : p ≡ length t.steps = omega (arith, lt, new, long) in
-          ap (λ (m : ℕ). reason_at (t.steps ++ x ∷ []) m) e ∙ ap (λ (y : Step). y.reason) (get_or-append_seam t.steps x [] no_step))
+          ap (λ (m : ℕ). reason_at (t.steps ++ x ∷ []) m) e ∙ ap (λ (y : TrailStep). y.reason) (get_or-append_seam t.steps x [] no_step))
     ]
 
 -- one place more is told

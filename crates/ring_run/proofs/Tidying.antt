@@ -26,7 +26,7 @@ use Rattle.watch_prop.specs.WatchData.{Lits}
 use Rattle.ring_run.specs.Ended.{reductions, IsTimely, Stays, IsOwn, IsNewLine, Cause, IsHalted, last_looks, opening_of}
 use Rattle.ring_run.specs.Searching.{Runs, GoesOn, KeepsOn, OnlyWrote, OffersNothing, Remembers}
 use Rattle.ring_run.specs.Ending.{EndsAt, end_refused, IsRefusal}
-use Rattle.ring_run.specs.Course.{InSearch}
+use Rattle.ring_run.specs.Next.{InSearch}
 use Rattle.ring_run.specs.declared.ring.Ring.{Ring}
 use Rattle.ring_run.proofs.Numbering.{reductions_deleted}
 use Rattle.ring_run.proofs.Remembering.{held_same, lits_same, remembered_as}
@@ -34,7 +34,7 @@ use Rattle.ring_run.proofs.Lately.{sees_same, lately_as}
 use Rattle.ring_run.proofs.Standing.{reasoned_more}
 use Rattle.ring_run.proofs.Telling.{told_same}
 use Rattle.ring_run.proofs.Turning.{wrote_search}
-use Rattle.ring_run.proofs.Progress.{Same, same_refused, stays_by, news_moved, lines_moved, glued_same, glued_by, starts_kept, usable_none, refused_cause, refused_counts, unset}
+use Rattle.ring_run.proofs.Progress.{Unchanged, same_refused, stays_by, news_moved, lines_moved, glued_same, glued_by, starts_kept, usable_none, refused_cause, refused_counts, unset}
 
 -- Deletions in a journal
 
@@ -107,7 +107,7 @@ deleted_eta s waiting hs output = record {
 deleted_up_to : (s u : PortState) (k : ℕ) → TidiedUpTo s u k → Deleted s u (take k s.waiting)
 deleted_up_to s u k w = subst (λ (x : PortState). Deleted s x (take k s.waiting)) (sym w.state) (deleted_eta s (drop k s.waiting) (take k s.waiting) u.output)
 
-deleted_then : (s m u : PortState) (hs : List Holding) → Deleted s m hs → Same m u → Deleted s u hs
+deleted_then : (s m u : PortState) (hs : List Holding) → Deleted s m hs → Unchanged m u → Deleted s u hs
 deleted_then s m u hs p q = record {
   start = q.start ∙ p.start;
   opening = q.opening ∙ p.opening;
@@ -132,7 +132,7 @@ deleted_then s m u hs p q = record {
 tidied : (s u : PortState) (r : Result (Unit {0}) PortStop) → Tidied s u r → (hs : List Holding) × Deleted s u hs
 tidied s u (Ok done) w = (take (length s.waiting) s.waiting, deleted_up_to s u (length s.waiting) w)
 tidied s u (Err stop) w =
-    let same : Same w.middle u = subst (Same w.middle) (sym w.refused.state) (same_refused w.middle u.output stop) in
+    let same : Unchanged w.middle u = subst (Unchanged w.middle) (sym w.refused.state) (same_refused w.middle u.output stop) in
     (take w.many s.waiting, deleted_then s w.middle u (take w.many s.waiting) (deleted_up_to s w.middle w.many w.first) same)
 
 module _ (s u : PortState) (hs : List Holding) (d : Deleted s u hs) (log : KeepsLog s u) where

@@ -6,7 +6,7 @@ use Rattle.sat_words.specs.Literal.{Literal}
 use Rattle.sat_words.specs.Clause.{has}
 use Rattle.sat_words.specs.declared.shared.Cref.{Cref}
 use Rattle.ring_port.specs.PortState.{PortState, Holding, IsPort, lits_at}
-use Rattle.ring_trail.specs.declared.step.Step.{Step}
+use Rattle.ring_trail.specs.declared.step.TrailStep.{TrailStep}
 use Rattle.ring_trail.specs.TrailData.{TrailData, IsTrail, HasGrown, reason_at}
 use Rattle.ring_trail.specs.Closed.{TrueWithin, IsClosed}
 use Rattle.ring_trail.proofs.Causes.{IsClosed-more}
@@ -17,10 +17,10 @@ use Rattle.watch_prop.proofs.TrailLaws.{Reasons-more, Reasons-held}
 use Rattle.ring_run.specs.Ended.{Stays}
 use Rattle.ring_run.specs.Searching.{IsHeldBy, HasClauses, Remembers, Stands, AreTold, OnlySaw, OnlyWrote, OpeningSeen, GoesOn}
 use Rattle.ring_port.specs.Log.{KeepsLog}
-use Rattle.ring_run.specs.Course.{Searches, InSearch, MayImport, Leads, IsFurther}
+use Rattle.ring_run.specs.Next.{Searches, InSearch, MayImport, Leads, IsFurther}
 use Rattle.ring_run.specs.declared.ring.Ring.{Ring}
-use Rattle.ring_run.specs.declared.course.Course.{Course}
-use Rattle.ring_run.specs.declared.course.Course.TheVariants.{On, Over}
+use Rattle.ring_run.specs.declared.course.Next.{Next}
+use Rattle.ring_run.specs.declared.course.Next.TheVariants.{Go, Finish}
 use Rattle.ring_run.proofs.Remembering.{HoldsAlike, held_same, lits_same, clause_at_same, remembered_same}
 use Rattle.ring_run.proofs.Standing.{within_more, reasoned_more}
 use Rattle.ring_run.proofs.Progress.{starts_kept, looked_wrote}
@@ -104,12 +104,12 @@ grown_search s u t v w x n p is shape same grown reasons watched = subst (λ (y 
   stands = record {
     vars = grown.vars ∙ p.stands.vars;
     reasoned = Reasons-held (attached w) s v.steps reasons;
-    seen = λ l h. subst (λ (steps : List Step). TrueWithin steps 0 l) (sym grown.steps) (within_more t.steps grown.more 0 l (p.stands.seen l h));
+    seen = λ l h. subst (λ (steps : List TrailStep). TrueWithin steps 0 l) (sym grown.steps) (within_more t.steps grown.more 0 l (p.stands.seen l h));
   };
   trail = shape;
   watched = watched;
   closed = λ k below. subst (λ (cs : List Cref). IsClosed (map (λ (c : Cref). lits_at s c.address) cs) v.steps k) (sym same)
-      (subst (λ (steps : List Step). IsClosed (clauses_of w (lits_at s)) steps k) (sym grown.steps)
+      (subst (λ (steps : List TrailStep). IsClosed (clauses_of w (lits_at s)) steps k) (sym grown.steps)
       (IsClosed-more (clauses_of w (lits_at s)) t.steps grown.more k (λ q d h. (let e = grown.at_level q d h in omega (arith, grown.level, below)))
       (p.closed k (omega (arith, grown.level, below)))));
   reasons = subst (λ (cs : List Cref). HasReasons cs s v.steps) (sym same) reasons;
@@ -117,17 +117,17 @@ grown_search s u t v w x n p is shape same grown reasons watched = subst (λ (y 
 })
 
 -- one step after another
-pub compose : (course : Course) (s middle u : PortState) (old between new : Ring) (limit : ℕ) → ((start : PortState) → GoesOn start s old.learned → GoesOn start middle between.learned)
+pub compose : (course : Next) (s middle u : PortState) (old between new : Ring) (limit : ℕ) → ((start : PortState) → GoesOn start s old.learned → GoesOn start middle between.learned)
     → Leads middle between u new limit course → Leads s old u new limit course
-compose On s middle u old between new limit to p = record { search = p.search; below = p.below; goes = λ start q. p.goes start (to start q) }
-compose (Over end) s middle u old between new limit to p = λ start q. p start (to start q)
+compose Go s middle u old between new limit to p = record { search = p.search; below = p.below; goes = λ start q. p.goes start (to start q) }
+compose (Finish end) s middle u old between new limit to p = λ start q. p start (to start q)
 
 -- what an import that is yet to be counts for
 abbrev pub due_of : (vars : ℕ) → Bool → ℕ
-due_of vars pending = if pending then vars + 1 else 0
+due_of vars import_due = if import_due then vars + 1 else 0
 
 abbrev pub left_to_do : (limit learned vars : ℕ) → Bool → ℕ → ℕ
-left_to_do limit learned vars pending steps = (limit - learned) * (2 * (vars + 1)) + due_of vars pending + (vars - steps)
+left_to_do limit learned vars import_due steps = (limit - learned) * (2 * (vars + 1)) + due_of vars import_due + (vars - steps)
 
 due_bound : (vars : ℕ) (b : Bool) → due_of vars b ≤ vars + 1
 due_bound vars true = omega arith
@@ -156,22 +156,22 @@ less_left limit n m vars k j a b below short (inr ((is, some), inr (was, now))) 
     less_kept limit n m vars k j a b is (let before = ap (due_of vars) was in let after = ap (due_of vars) now in omega (arith, before, after))
 
 further_parts : (old new : Ring) → IsFurther old new
-    → (new.learned ≡ old.learned + 1) ⊎ (((new.learned ≡ old.learned) × (length old.trail.steps ≤ length new.trail.steps)) × (((new.pending ≡ old.pending) × (length old.trail.steps < length new.trail.steps)) ⊎ ((old.pending ≡ true) × (new.pending ≡ false))))
+    → (new.learned ≡ old.learned + 1) ⊎ (((new.learned ≡ old.learned) × (length old.trail.steps ≤ length new.trail.steps)) × (((new.import_due ≡ old.import_due) × (length old.trail.steps < length new.trail.steps)) ⊎ ((old.import_due ≡ true) × (new.import_due ≡ false))))
 further_parts old new (inl one) = inl one
 further_parts old new (inr (kept, more)) = inr ((kept.learned, kept.steps), more)
 
 pub less_to_do : (s u : PortState) (old new : Ring) (limit : ℕ) → InSearch s old → InSearch u new → u.vars ≡ s.vars → old.learned < limit → IsFurther old new
-    → left_to_do limit new.learned new.trail.vars new.pending (length new.trail.steps) < left_to_do limit old.learned old.trail.vars old.pending (length old.trail.steps)
+    → left_to_do limit new.learned new.trail.vars new.import_due (length new.trail.steps) < left_to_do limit old.learned old.trail.vars old.import_due (length old.trail.steps)
 less_to_do s u old new limit p q vars below further =
     let same : new.trail.vars ≡ old.trail.vars = q.stands.vars ∙ vars ∙ sym p.stands.vars in
     let high : length new.trail.steps ≤ old.trail.vars = omega (arith, q.trail.short, same) in
-    subst (λ (v : ℕ). left_to_do limit new.learned v new.pending (length new.trail.steps) < left_to_do limit old.learned old.trail.vars old.pending (length old.trail.steps)) (sym same)
-    (less_left limit old.learned new.learned old.trail.vars (length old.trail.steps) (length new.trail.steps) old.pending new.pending below p.trail.short (further_parts old new further) high)
+    subst (λ (v : ℕ). left_to_do limit new.learned v new.import_due (length new.trail.steps) < left_to_do limit old.learned old.trail.vars old.import_due (length old.trail.steps)) (sym same)
+    (less_left limit old.learned new.learned old.trail.vars (length old.trail.steps) (length new.trail.steps) old.import_due new.import_due below p.trail.short (further_parts old new further) high)
 
 -- a step behind propagation
-pub further_grown : (old between new : Ring) → between.learned ≡ old.learned → between.pending ≡ old.pending → length old.trail.steps ≤ length between.trail.steps → IsFurther between new → IsFurther old new
-further_grown old between new learned pending steps (inl one) = inl (omega (arith, one, learned))
-further_grown old between new learned pending steps (inr (kept, inl (same, longer))) =
-    inr (record { learned = kept.learned ∙ learned; steps = omega (arith, kept.steps, steps) }, inl (same ∙ pending, omega (arith, longer, steps)))
-further_grown old between new learned pending steps (inr (kept, inr (was, now))) =
-    inr (record { learned = kept.learned ∙ learned; steps = omega (arith, kept.steps, steps) }, inr (sym pending ∙ was, now))
+pub further_grown : (old between new : Ring) → between.learned ≡ old.learned → between.import_due ≡ old.import_due → length old.trail.steps ≤ length between.trail.steps → IsFurther between new → IsFurther old new
+further_grown old between new learned import_due steps (inl one) = inl (omega (arith, one, learned))
+further_grown old between new learned import_due steps (inr (kept, inl (same, longer))) =
+    inr (record { learned = kept.learned ∙ learned; steps = omega (arith, kept.steps, steps) }, inl (same ∙ import_due, omega (arith, longer, steps)))
+further_grown old between new learned import_due steps (inr (kept, inr (was, now))) =
+    inr (record { learned = kept.learned ∙ learned; steps = omega (arith, kept.steps, steps) }, inr (sym import_due ∙ was, now))

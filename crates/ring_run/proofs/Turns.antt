@@ -11,12 +11,12 @@ use Rattle.ring_port.proofs.Holdings.{All_In}
 use Rattle.ring_port.proofs.LogSteps.{In_All}
 use Rattle.watch_prop.specs.WatchData.{attached}
 use Rattle.reduce_db.specs.Lemmas.{AreDistinct}
-use Rattle.ring_run.specs.Course.{HasLemmas, AreOrdered}
+use Rattle.ring_run.specs.Next.{HasLemmas, AreOrdered}
 use Rattle.ring_run.specs.Renewal.{Point, TookLemma, TookEach, TookPlace, IsResting, KeepsOthers, TookAll, IsLeft, in_place, behind}
 use Rattle.ring_run.specs.declared.ring.Ring.{Ring}
 use Rattle.ring_run.proofs.Resting.{held_member}
-use Rattle.ring_run.specs.declared.vivification.Left.{Left}
-use Rattle.ring_run.specs.declared.vivification.Left.TheVariants.{Same, Other}
+use Rattle.ring_run.specs.declared.vivification.AfterVivify.{AfterVivify}
+use Rattle.ring_run.specs.declared.vivification.AfterVivify.TheVariants.{Unchanged, Replaced}
 use Rattle.ring_run.proofs.Numbering.{ordered_kept, ordered_without, ordered_joined, glue_kept}
 use Rattle.reduce_db.proofs.Changes.{distinct_push}
 use Rattle.vivify.specs.Outcome.{glue_at}
@@ -84,7 +84,7 @@ none_free (Some x) h e = absurd cc
 
 -- Turns
 
-took_more : (p q r : Point) (cs kept shorter : List Cref) (c : Cref) (o : Left) → TookEach p q cs kept shorter → TookLemma q r c o → TookEach p r (cs ++ c ∷ []) (kept ++ in_place c o) (shorter ++ behind o)
+took_more : (p q r : Point) (cs kept shorter : List Cref) (c : Cref) (o : AfterVivify) → TookEach p q cs kept shorter → TookLemma q r c o → TookEach p r (cs ++ c ∷ []) (kept ++ in_place c o) (shorter ++ behind o)
 took_more p q r [] kept shorter c o each took = (
   r,
   o,
@@ -246,7 +246,7 @@ module _ (s u : PortState) (old new : Ring) (c : Cref) (place : ℕ) (p : HasLem
   }
 
   -- where the lemma is left
-  pub same_listed : new.lemmas.items ≡ old.lemmas.items → IsLeft s u new.watches c Same → HasLemmas u new
+  pub same_listed : new.lemmas.items ≡ old.lemmas.items → IsLeft s u new.watches c Unchanged → HasLemmas u new
   same_listed items left =
       listed_by (front ++ c ∷ back) (items ∙ split) distinct_before each (ordered_kept s u (front ++ c ∷ back) held (k.grown) (subst (AreOrdered s) split p.ordered))
     where
@@ -281,7 +281,7 @@ module _ (s u : PortState) (old new : Ring) (c : Cref) (place : ℕ) (p : HasLem
   gone_listed items = listed_by (front ++ back) items (distinct_without front back c distinct_before) listed_before (ordered_kept s u (front ++ back) held_as (k.grown) ordered_before)
 
   -- where a shorter clause is
-  pub other_listed : (d : Cref) → new.lemmas.items ≡ (front ++ back) ++ d ∷ [] → IsLeft s u new.watches c (Other d) → ((h : Holding) → Contains s.start h → IsSome (held_at s h.address)) → HasLemmas u new
+  pub other_listed : (d : Cref) → new.lemmas.items ≡ (front ++ back) ++ d ∷ [] → IsLeft s u new.watches c (Replaced d) → ((h : Holding) → Contains s.start h → IsSome (held_at s h.address)) → HasLemmas u new
   other_listed d items left starts =
       listed_by ((front ++ back) ++ d ∷ []) items
       (distinct_push (front ++ back) d (distinct_without front back c distinct_before) (λ e m is. none_free (held_at s d.address) (subst (λ (a : ℕ). IsSome (held_at s a)) is (held_before e m)) left.free))
@@ -300,10 +300,10 @@ module _ (s u : PortState) (old new : Ring) (c : Cref) (place : ℕ) (p : HasLem
 
 -- the lemma kept its place, or lost it
 pub same_place : (p q : Point) (before after : List Cref) (c : Cref) (place : ℕ) → place < length before → drop place before ≡ c ∷ drop (place + 1) before → after ≡ before
-    → TookLemma p q c Same → TookPlace p q before after place (place + 1)
+    → TookLemma p q c Unchanged → TookPlace p q before after place (place + 1)
 same_place p q before after c place h there is took = record {
   lemma = c;
-  left = Same;
+  left = Unchanged;
   took = took;
   there = there;
   done = ap (λ (xs : List Cref). take (place + 1) xs) is ∙ ap (λ (n : ℕ). take n before) (sym (one_more_place place)) ∙ take_next place before (drop (place + 1) before) c there;
@@ -311,7 +311,7 @@ same_place p q before after c place h there is took = record {
   short = (let same = ap (λ (xs : List Cref). length xs) is in omega (arith, h, same));
 }
 
-pub other_place : (p q : Point) (before after : List Cref) (c : Cref) (o : Left) (place : ℕ) → place < length before → drop place before ≡ c ∷ drop (place + 1) before → in_place c o ≡ []
+pub other_place : (p q : Point) (before after : List Cref) (c : Cref) (o : AfterVivify) (place : ℕ) → place < length before → drop place before ≡ c ∷ drop (place + 1) before → in_place c o ≡ []
     → after ≡ (take place before ++ drop (place + 1) before) ++ behind o → TookLemma p q c o → TookPlace p q before after place place
 other_place p q before after c o place h there none list took =
     let is : after ≡ take place before ++ (drop (place + 1) before ++ behind o) = list ∙ append_assoc (take place before) (drop (place + 1) before) (behind o) in

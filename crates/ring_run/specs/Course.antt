@@ -26,8 +26,8 @@ use Rattle.ring_run.specs.Ending.{EndsBy, IsRefusal}
 use Rattle.ring_run.specs.declared.job.End.{End}
 use Rattle.ring_run.specs.declared.job.End.TheVariants.{Sat, Spent, Stopped}
 use Rattle.ring_run.specs.declared.ring.Ring.{Ring}
-use Rattle.ring_run.specs.declared.course.Course.{Course}
-use Rattle.ring_run.specs.declared.course.Course.TheVariants.{On, Over}
+use Rattle.ring_run.specs.declared.course.Next.{Next}
+use Rattle.ring_run.specs.declared.course.Next.TheVariants.{Go, Finish}
 
 -- a search at this port, with this trail and these watches: the clauses attached are watched, closed below the present
 -- level and the only reasons, all units of the opening are true, and the first n literals are told; above level 0 these are
@@ -53,9 +53,9 @@ pub record GoesOnBy (old : PortState) (before : Ring) (new : PortState) (ring : 
   pub goes : (start : PortState) → GoesOn start old before.learned → GoesOn start new ring.learned
 
 -- what a step does, from a port and a ring to those behind it: the search goes on, or comes to an end
-abbrev pub Leads : PortState → Ring → PortState → Ring → ℕ → Course → Type 0
-Leads old before new ring limit On = GoesOnBy old before new ring limit
-Leads old before new ring limit (Over end) = EndsBy old before.learned new ring.learned limit end
+abbrev pub Leads : PortState → Ring → PortState → Ring → ℕ → Next → Type 0
+Leads old before new ring limit Go = GoesOnBy old before new ring limit
+Leads old before new ring limit (Finish end) = EndsBy old before.learned new ring.learned limit end
 
 -- what going back leaves of the trail
 pub record WentBack (t v : TrailData) (back : ℕ) : Type 0 where
@@ -109,7 +109,7 @@ pub record Restarted (s : PortState) (old new : Ring) (address : Option Cref) : 
 -- forces its first literal
 abbrev pub HasLeft : PortState → Ring → Ring → List Literal → ℕ → Option Cref → Type 0
 HasLeft s old new lits back address =
-    ((old.pending ≡ true → back ≡ 0) × Asserted s old new lits back address) ⊎ ((old.pending ≡ true) × (0 < back) × Restarted s old new address)
+    ((old.import_due ≡ true → back ≡ 0) × Asserted s old new lits back address) ⊎ ((old.import_due ≡ true) × (0 < back) × Restarted s old new address)
 
 -- the lemma was learned with this glue, and then offered to each other ring where it has a class, which is counted
 pub record WasShared (old new : PortState) (before after : Ring) (lits : List Literal) (glue : ℕ) (address : Option Cref) : Type 0 where
@@ -136,20 +136,20 @@ pub record HasLearned (s u : PortState) (old new : Ring) (lits : List Literal) (
   -- the glue was noted for the restarts, and it was asked whether one is due
   pub restarts : new.restarts ≡ asked (noted old.restarts glue)
   -- an import is yet to be exactly where one was due
-  pub pending : new.pending ≡ is_due (noted old.restarts glue)
+  pub import_due : new.import_due ≡ is_due (noted old.restarts glue)
   -- where one was due the trail is at level 0, else at the lemma's level with its first literal true
-  pub left : HasLeft u (record old { pending = new.pending }) new lits back address
+  pub left : HasLeft u (record old { import_due = new.import_due }) new lits back address
 
 -- what learning a lemma came to: it is no model and no stop of another
-abbrev pub LearnsTo : PortState → PortState → Ring → Ring → List Literal → (back glue : ℕ) → Course → Type 0
-LearnsTo s u old new lits back glue On = HasLearned s u old new lits back glue
-LearnsTo s u old new lits back glue (Over Spent) = HasSpent s u old new lits glue
-LearnsTo s u old new lits back glue (Over (Sat a)) = ⊥
-LearnsTo s u old new lits back glue (Over (Stopped x)) = ⊥
-LearnsTo s u old new lits back glue (Over end) = ⊤
+abbrev pub LearnsTo : PortState → PortState → Ring → Ring → List Literal → (back glue : ℕ) → Next → Type 0
+LearnsTo s u old new lits back glue Go = HasLearned s u old new lits back glue
+LearnsTo s u old new lits back glue (Finish Spent) = HasSpent s u old new lits glue
+LearnsTo s u old new lits back glue (Finish (Sat a)) = ⊥
+LearnsTo s u old new lits back glue (Finish (Stopped x)) = ⊥
+LearnsTo s u old new lits back glue (Finish end) = ⊤
 
 -- the lemma of the conflict with this clause was learned: it is new, and its glue is how many levels its literals but the first have
-pub record LearnedFrom (s u : PortState) (old new : Ring) (conflict : Cref) (lits : List Literal) (course : Course) : Type 0 where
+pub record LearnedFrom (s u : PortState) (old new : Ring) (conflict : Cref) (lits : List Literal) (course : Next) : Type 0 where
   pub back : ℕ
   pub glue : ℕ
   pub lemma : IsLemma s old.trail (lits_at s conflict.address) lits back glue
@@ -158,12 +158,12 @@ pub record LearnedFrom (s u : PortState) (old new : Ring) (conflict : Cref) (lit
   pub learned : LearnsTo s u old new lits back glue course
 
 -- what came of a conflict, where the search goes on or the ring is spent; it is no model and no stop of another
-abbrev pub LearnsFrom : PortState → PortState → Ring → Ring → Cref → List Literal → Course → Type 0
-LearnsFrom s u old new conflict lits On = LearnedFrom s u old new conflict lits On
-LearnsFrom s u old new conflict lits (Over Spent) = LearnedFrom s u old new conflict lits (Over Spent)
-LearnsFrom s u old new conflict lits (Over (Sat a)) = ⊥
-LearnsFrom s u old new conflict lits (Over (Stopped x)) = ⊥
-LearnsFrom s u old new conflict lits (Over end) = ⊤
+abbrev pub LearnsFrom : PortState → PortState → Ring → Ring → Cref → List Literal → Next → Type 0
+LearnsFrom s u old new conflict lits Go = LearnedFrom s u old new conflict lits Go
+LearnsFrom s u old new conflict lits (Finish Spent) = LearnedFrom s u old new conflict lits (Finish Spent)
+LearnsFrom s u old new conflict lits (Finish (Sat a)) = ⊥
+LearnsFrom s u old new conflict lits (Finish (Stopped x)) = ⊥
+LearnsFrom s u old new conflict lits (Finish end) = ⊤
 
 -- a literal was decided that the decider may choose; but for what is counted as told nothing else of the ring changed
 pub record HasDecided (old new : Ring) : Type 0 where
@@ -179,17 +179,17 @@ pub record DecidedNext (s u : PortState) (old new : Ring) : Type 0 where
 
 -- what a step comes to that doesn't learn: behind a look and the lines of units a model may be found, or the look found a stop and
 -- nothing was done
-abbrev pub EndsQuietly : PortState → PortState → Course → Type 0
-EndsQuietly s u On = ⊤
-EndsQuietly s u (Over Spent) = ⊥
-EndsQuietly s u (Over (Sat a)) = HasTold s u
-EndsQuietly s u (Over (Stopped x)) = u ≡ record s { stop = Some x }
-EndsQuietly s u (Over end) = ⊤
+abbrev pub EndsQuietly : PortState → PortState → Next → Type 0
+EndsQuietly s u Go = ⊤
+EndsQuietly s u (Finish Spent) = ⊥
+EndsQuietly s u (Finish (Sat a)) = HasTold s u
+EndsQuietly s u (Finish (Stopped x)) = u ≡ record s { stop = Some x }
+EndsQuietly s u (Finish end) = ⊤
 
 -- the search goes on, or a call was refused or the clauses refuted
-abbrev pub IsOnOrRefused : Course → Type 0
-IsOnOrRefused On = ⊤
-IsOnOrRefused (Over end) = IsRefusal end
+abbrev pub IsOnOrRefused : Next → Type 0
+IsOnOrRefused Go = ⊤
+IsOnOrRefused (Finish end) = IsRefusal end
 
 -- nothing more was learned, and the trail is no shorter
 pub record HasKept (old new : Ring) : Type 0 where
@@ -198,7 +198,7 @@ pub record HasKept (old new : Ring) : Type 0 where
 
 -- with a longer trail, or no import that is yet to be
 abbrev pub HasMore : Ring → Ring → Type 0
-HasMore old new = ((new.pending ≡ old.pending) × (length old.trail.steps < length new.trail.steps)) ⊎ ((old.pending ≡ true) × (new.pending ≡ false))
+HasMore old new = ((new.import_due ≡ old.import_due) × (length old.trail.steps < length new.trail.steps)) ⊎ ((old.import_due ≡ true) × (new.import_due ≡ false))
 
 -- one lemma more, or a longer trail, or an import that was yet to be
 abbrev pub IsFurther : Ring → Ring → Type 0
@@ -220,16 +220,16 @@ abbrev pub IsLooking : ℕ → PortState → Ring → Type 0
 IsLooking base s ring = HasLooked (base + ring.learned + ring.trail.level) s
 
 -- so it is still, or at the end
-abbrev pub HasLookedBy : ℕ → PortState → Ring → Course → Type 0
-HasLookedBy base s ring On = IsLooking base s ring
-HasLookedBy base s ring (Over end) = HasLooked (base + ring.learned + last_looks end) s
+abbrev pub HasLookedBy : ℕ → PortState → Ring → Next → Type 0
+HasLookedBy base s ring Go = IsLooking base s ring
+HasLookedBy base s ring (Finish end) = HasLooked (base + ring.learned + last_looks end) s
 
 -- where looks came before the decisions, they still do, or did at the end
-abbrev pub KeepsLooking : PortState → Ring → PortState → Ring → Course → Type 0
+abbrev pub KeepsLooking : PortState → Ring → PortState → Ring → Next → Type 0
 KeepsLooking old before new ring course = (base : ℕ) → IsLooking base old before → HasLookedBy base new ring course
 
 -- where one look more was made before, a decision takes it
-abbrev pub TakesALook : PortState → Ring → Ring → Course → Type 0
+abbrev pub TakesALook : PortState → Ring → Ring → Next → Type 0
 TakesALook s before ring course = (base : ℕ) → HasLooked (base + before.learned + before.trail.level + 1) s → HasLookedBy base s ring course
 
 -- at level 0, where each literal is told: a search may import; the units of the opening may be yet to come
@@ -281,21 +281,21 @@ KeepsLemmas old before new ring = HasLemmas old before → HasLemmas new ring
 
 -- how often the ring has imported: at its start and at each restart, but for the last of these where that is yet to be
 abbrev pub imports_of : Ring → ℕ
-imports_of ring = if ring.pending then ring.restarts.made else ring.restarts.made + 1
+imports_of ring = if ring.import_due then ring.restarts.made else ring.restarts.made + 1
 
 -- the ring has polled as often as its imports take; one is yet to be at level 0 only
 pub record IsPolling (s : PortState) (ring : Ring) : Type 0 where
   pub place : ring.place ≡ record { ring = s.ring; rings = s.rings }
   pub polled : s.polled ≡ polls_of s (imports_of ring)
-  pub low : ring.pending ≡ true → ring.trail.level ≡ 0
+  pub low : ring.import_due ≡ true → ring.trail.level ≡ 0
 
 -- so it is still, or at the end
-abbrev pub HasPolledBy : PortState → Ring → Course → Type 0
-HasPolledBy s ring On = IsPolling s ring
-HasPolledBy s ring (Over end) = HasPolled s ring.restarts.made end
+abbrev pub HasPolledBy : PortState → Ring → Next → Type 0
+HasPolledBy s ring Go = IsPolling s ring
+HasPolledBy s ring (Finish end) = HasPolled s ring.restarts.made end
 
 -- where it was so before
-abbrev pub KeepsPolling : PortState → Ring → PortState → Ring → Course → Type 0
+abbrev pub KeepsPolling : PortState → Ring → PortState → Ring → Next → Type 0
 KeepsPolling old before new ring course = IsPolling old before → HasPolledBy new ring course
 
 -- since the start the ring has imported as often as it was to, but for an import that is yet to be
@@ -303,21 +303,21 @@ abbrev pub IsImporting : (start s : PortState) → Ring → Type 0
 IsImporting start s ring = HasImported start s (imports_of ring)
 
 -- so it is still, or at the end
-abbrev pub HasImportedBy : (start s : PortState) → Ring → Course → Type 0
-HasImportedBy start s ring On = IsImporting start s ring
-HasImportedBy start s ring (Over end) = ImportsBy start s ring.restarts.made end
+abbrev pub HasImportedBy : (start s : PortState) → Ring → Next → Type 0
+HasImportedBy start s ring Go = IsImporting start s ring
+HasImportedBy start s ring (Finish end) = ImportsBy start s ring.restarts.made end
 
 -- where it was so before
-abbrev pub KeepsImporting : PortState → Ring → PortState → Ring → Course → Type 0
+abbrev pub KeepsImporting : PortState → Ring → PortState → Ring → Next → Type 0
 KeepsImporting old before new ring course = (start : PortState) → IsPolling old before → IsImporting start old before → HasImportedBy start new ring course
 
 -- no clause waits for its deletion, where the search goes on or found a model
-abbrev pub HasTidied : PortState → Course → Type 0
-HasTidied s On = s.waiting ≡ []
-HasTidied s (Over end) = IsTidy s end
+abbrev pub HasTidied : PortState → Next → Type 0
+HasTidied s Go = s.waiting ≡ []
+HasTidied s (Finish end) = IsTidy s end
 
 -- where none waited before
-abbrev pub KeepsTidy : PortState → PortState → Course → Type 0
+abbrev pub KeepsTidy : PortState → PortState → Next → Type 0
 KeepsTidy old new course = old.waiting ≡ [] → HasTidied new course
 
 -- where the search found a model, or the ring is spent, the lemmas were reduced in time at the last restart
@@ -327,13 +327,13 @@ IsInTimeAt s r Spent = IsInTime s r.since
 IsInTimeAt s r _ = ⊤
 
 -- they were, where no import is yet to be; or at the end
-abbrev pub IsInTimeBy : PortState → Ring → Course → Type 0
-IsInTimeBy s ring On = ring.pending ≡ false → IsInTime s ring.restarts.since
-IsInTimeBy s ring (Over end) = IsInTimeAt s ring.restarts end
+abbrev pub IsInTimeBy : PortState → Ring → Next → Type 0
+IsInTimeBy s ring Go = ring.import_due ≡ false → IsInTime s ring.restarts.since
+IsInTimeBy s ring (Finish end) = IsInTimeAt s ring.restarts end
 
 -- where they were before
-abbrev pub KeepsInTime : PortState → Ring → PortState → Ring → Course → Type 0
-KeepsInTime old before new ring course = IsPolling old before → (before.pending ≡ false → IsInTime old before.restarts.since) → IsInTimeBy new ring course
+abbrev pub KeepsInTime : PortState → Ring → PortState → Ring → Next → Type 0
+KeepsInTime old before new ring course = IsPolling old before → (before.import_due ≡ false → IsInTime old before.restarts.since) → IsInTimeBy new ring course
 
 -- by Luby's sequence the ring restarted behind just so many lemmas, and learned the others since then
 abbrev pub SumsUp : Restarting → Type 0

@@ -10,11 +10,11 @@ use Rattle.ring_port.specs.declared.stops.PortStop.{PortStop}
 use Rattle.restart_plan.specs.Plan.{noted, asked, is_due}
 use Rattle.ring_run.specs.Searching.{KeepsOn, OffersNothing, OnlyWrote}
 use Rattle.ring_run.specs.Ending.{EndsAt, IsRefusal, end_refused}
-use Rattle.ring_run.specs.Course.{WasShared, HasLeft, AreSameOffers}
+use Rattle.ring_run.specs.Next.{WasShared, HasLeft, AreSameOffers}
 use Rattle.ring_run.specs.declared.job.End.TheVariants.{Spent}
 use Rattle.ring_run.specs.declared.ring.Ring.{Ring}
-use Rattle.ring_run.specs.declared.course.Course.{Course}
-use Rattle.ring_run.specs.declared.course.Course.TheVariants.{On, Over}
+use Rattle.ring_run.specs.declared.course.Next.{Next}
+use Rattle.ring_run.specs.declared.course.Next.TheVariants.{Go, Finish}
 
 -- a lemma was learned, counted and its glue noted for the restarts, and it was offered where it has a class; the rest of the ring is
 -- as it was
@@ -32,7 +32,7 @@ pub record HasShared (s u : PortState) (old new : Ring) (lits : List Literal) (g
 pub record HasAsked (s u : PortState) (old new : Ring) : Type 0 where
   pub learned : new.learned ≡ old.learned
   pub restarts : new.restarts ≡ asked old.restarts
-  pub pending : new.pending ≡ is_due old.restarts
+  pub import_due : new.import_due ≡ is_due old.restarts
   pub offers : AreSameOffers old new
   pub active : new.decider.active ≡ old.decider.active
   pub nothing : OffersNothing s u
@@ -46,36 +46,36 @@ pub record HasLeftTidy (s u : PortState) (old new : Ring) (lits : List Literal) 
   pub seen : u.seen ≡ s.seen
   pub waiting : u.waiting ≡ []
   pub tidied : TidiedUpTo s u (length s.waiting)
-  pub left : HasLeft u (record old { pending = new.pending }) new lits back address
+  pub left : HasLeft u (record old { import_due = new.import_due }) new lits back address
 
 -- so it was where the search goes on; else a call was refused, or there was no memory
-abbrev pub LeavesBy : PortState → PortState → Ring → Ring → List Literal → (back : ℕ) → Option Cref → Course → Type 0
-LeavesBy s u old new lits back address On = HasLeftTidy s u old new lits back address
-LeavesBy s u old new lits back address (Over end) = EndsAt s u end × IsRefusal end
+abbrev pub LeavesBy : PortState → PortState → Ring → Ring → List Literal → (back : ℕ) → Option Cref → Next → Type 0
+LeavesBy s u old new lits back address Go = HasLeftTidy s u old new lits back address
+LeavesBy s u old new lits back address (Finish end) = EndsAt s u end × IsRefusal end
 
 -- what comes behind a lemma that isn't the last
-pub record HasFinished (s u : PortState) (old new : Ring) (lits : List Literal) (back : ℕ) (address : Option Cref) (course : Course) : Type 0 where
+pub record HasFinished (s u : PortState) (old new : Ring) (lits : List Literal) (back : ℕ) (address : Option Cref) (course : Next) : Type 0 where
   pub asked_for : HasAsked s u old new
   pub leaves : LeavesBy s u old new lits back address course
 
 -- the port refused the lemma, and nothing was done
-pub record WasRefused (s u : PortState) (old new : Ring) (course : Course) : Type 0 where
+pub record WasRefused (s u : PortState) (old new : Ring) (course : Next) : Type 0 where
   pub stop : PortStop
   pub refused : Refused s u stop
   pub log : KeepsLog s u
   pub port : IsPort u
   pub ring : new ≡ old
-  pub over : course ≡ Over (end_refused stop)
+  pub over : course ≡ Finish (end_refused stop)
 
 -- the lemma reached the limit, and nothing was done behind it
-pub record WasLast (s u : PortState) (old new : Ring) (lits : List Literal) (glue limit : ℕ) (course : Course) : Type 0 where
+pub record WasLast (s u : PortState) (old new : Ring) (lits : List Literal) (glue limit : ℕ) (course : Next) : Type 0 where
   pub address : Option Cref
   pub shared : HasShared s u old new lits glue address
   pub last : new.learned ≡ limit
-  pub over : course ≡ Over Spent
+  pub over : course ≡ Finish Spent
 
 -- the lemma is below the limit, and so much came behind it
-pub record WasFollowed (s u : PortState) (old new : Ring) (lits : List Literal) (back glue limit : ℕ) (course : Course) : Type 0 where
+pub record WasFollowed (s u : PortState) (old new : Ring) (lits : List Literal) (back glue limit : ℕ) (course : Next) : Type 0 where
   pub between : PortState
   pub middle : Ring
   pub address : Option Cref
@@ -84,5 +84,5 @@ pub record WasFollowed (s u : PortState) (old new : Ring) (lits : List Literal) 
   pub finished : HasFinished between u middle new lits back address course
 
 -- what the call that learns a lemma comes to: one of these
-abbrev pub ComesOf : PortState → PortState → Ring → Ring → List Literal → (back glue limit : ℕ) → Course → Type 0
+abbrev pub ComesOf : PortState → PortState → Ring → Ring → List Literal → (back glue limit : ℕ) → Next → Type 0
 ComesOf s u old new lits back glue limit course = WasRefused s u old new course ⊎ (WasLast s u old new lits glue limit course ⊎ WasFollowed s u old new lits back glue limit course)

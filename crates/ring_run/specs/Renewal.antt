@@ -18,9 +18,9 @@ use Rattle.vivify.specs.declared.shorten.Vivified.TheVariants.{Kept, Shorter, Un
 use Rattle.ring_run.specs.Ended.{IsHalted, import_slots, last_looks, reductions}
 use Rattle.ring_run.specs.Searching.{OnlySaw, OnlyPolled, OnlyWrote, ToldUnits, HasTold, HasGrownLog, AreTold}
 use Rattle.ring_run.specs.Ending.{EndsAt, IsRefusal}
-use Rattle.ring_run.specs.Course.{InSearch, numbers, number_at, AreOrdered}
-use Rattle.ring_run.specs.declared.vivification.Left.{Left}
-use Rattle.ring_run.specs.declared.vivification.Left.TheVariants.{Same, Other, Nothing}
+use Rattle.ring_run.specs.Next.{InSearch, numbers, number_at, AreOrdered}
+use Rattle.ring_run.specs.declared.vivification.AfterVivify.{AfterVivify}
+use Rattle.ring_run.specs.declared.vivification.AfterVivify.TheVariants.{Unchanged, Replaced, Gone}
 use Rattle.ring_run.specs.declared.job.End.{End}
 use Rattle.ring_run.specs.declared.ring.Ring.{Ring}
 
@@ -65,14 +65,14 @@ pub record HasFollowed (p q : Point) (l : Literal) : Type 0 where
   pub quiet : IsQuiet q.watches (lits_at q.port) q.trail
 
 -- what is left of the lemma once it was vivified: itself, the shorter clause, or nothing behind a unit, which is followed
-abbrev pub WentOn : Point → Point → Vivified → Left → Type 0
-WentOn p q Kept left = (q ≡ p) × (left ≡ Same)
-WentOn p q (Shorter d) left = (q ≡ p) × (left ≡ Other d)
-WentOn p q (Unit l) left = HasFollowed p q l × (left ≡ Nothing)
+abbrev pub WentOn : Point → Point → Vivified → AfterVivify → Type 0
+WentOn p q Kept left = (q ≡ p) × (left ≡ Unchanged)
+WentOn p q (Shorter d) left = (q ≡ p) × (left ≡ Replaced d)
+WentOn p q (Unit l) left = HasFollowed p q l × (left ≡ Gone)
 WentOn p q Empty left = ⊥
 
 -- the lemma was vivified
-pub record WasVivified (p q : Point) (c : Cref) (left : Left) : Type 0 where
+pub record WasVivified (p q : Point) (c : Cref) (left : AfterVivify) : Type 0 where
   pub outcome : Vivified
   pub between : Point
   pub trail : between.trail ≡ p.trail
@@ -80,26 +80,26 @@ pub record WasVivified (p q : Point) (c : Cref) (left : Left) : Type 0 where
   pub after : WentOn between q outcome left
 
 -- a lemma's turn: it was vivified where it is one of those, and else nothing was done
-abbrev pub TookLemma : Point → Point → Cref → Left → Type 0
-TookLemma p q c left = (IsNamed p c × WasVivified p q c left) ⊎ ((IsNamed p c → ⊥) × (q ≡ p) × (left ≡ Same))
+abbrev pub TookLemma : Point → Point → Cref → AfterVivify → Type 0
+TookLemma p q c left = (IsNamed p c × WasVivified p q c left) ⊎ ((IsNamed p c → ⊥) × (q ≡ p) × (left ≡ Unchanged))
 
 -- the lemma, where it is left as it was
-abbrev pub in_place : Cref → Left → List Cref
-in_place c Same = c ∷ []
-in_place c (Other d) = []
-in_place c Nothing = []
+abbrev pub in_place : Cref → AfterVivify → List Cref
+in_place c Unchanged = c ∷ []
+in_place c (Replaced d) = []
+in_place c Gone = []
 
 -- the shorter clause that is left of a lemma, where there is one
-abbrev pub behind : Left → List Cref
-behind Same = []
-behind (Other d) = d ∷ []
-behind Nothing = []
+abbrev pub behind : AfterVivify → List Cref
+behind Unchanged = []
+behind (Replaced d) = d ∷ []
+behind Gone = []
 
 -- each lemma had its turn, one after the other; some are left as they were, and of others shorter clauses, in the same order
 abbrev pub TookEach : Point → Point → (lemmas kept shorter : List Cref) → Type 0
 TookEach p q [] kept shorter = (q ≡ p) × (kept ≡ []) × (shorter ≡ [])
 TookEach p q (c ∷ cs) kept shorter =
-    (between : Point) × (left : Left) × (rest : List Cref) × (later : List Cref) × TookLemma p between c left × TookEach between q cs rest later × (kept ≡ in_place c left ++ rest) × (shorter ≡ behind left ++ later)
+    (between : Point) × (left : AfterVivify) × (rest : List Cref) × (later : List Cref) × TookLemma p between c left × TookEach between q cs rest later × (kept ≡ in_place c left ++ rest) × (shorter ≡ behind left ++ later)
 
 -- each lemma that was listed had its turn, in the order of the list, and no other clause; the shorter clauses stand behind
 -- those that are left as they were
@@ -112,7 +112,7 @@ pub record TookAll (p q : Point) (before after : List Cref) : Type 0 where
 -- the lemma at this place had its turn, and the next one's is at the other place
 pub record TookPlace (p q : Point) (before after : List Cref) (place next : ℕ) : Type 0 where
   pub lemma : Cref
-  pub left : Left
+  pub left : AfterVivify
   pub took : TookLemma p q lemma left
   pub there : drop place before ≡ lemma ∷ drop (place + 1) before
   pub done : take next after ≡ take place before ++ in_place lemma left
@@ -178,10 +178,10 @@ pub record HasJoined (s u : PortState) (w : WatchData) (d : Cref) : Type 0 where
   pub last : numbers u ≡ numbers s ++ number_at u d.address ∷ []
 
 -- what is left of the lemma
-abbrev pub IsLeft : PortState → PortState → WatchData → Cref → Left → Type 0
-IsLeft s u w c Same = Contains (attached w) c × (held_at u c.address ≡ held_at s c.address)
-IsLeft s u w c (Other d) = HasJoined s u w d
-IsLeft s u w c Nothing = ⊤
+abbrev pub IsLeft : PortState → PortState → WatchData → Cref → AfterVivify → Type 0
+IsLeft s u w c Unchanged = Contains (attached w) c × (held_at u c.address ≡ held_at s c.address)
+IsLeft s u w c (Replaced d) = HasJoined s u w d
+IsLeft s u w c Gone = ⊤
 
 -- Both
 
@@ -226,7 +226,7 @@ pub record TookImport (old new : PortState) (before after : Ring) : Type 0 where
   pub grown : HasGrown before.trail after.trail
   pub bare : (p : ℕ) → length before.trail.steps ≤ p → p < length after.trail.steps → reason_at after.trail.steps p ≡ None
   pub level : after.trail.level ≡ 0
-  pub same : after ≡ record before { trail = after.trail; watches = after.watches; pending = false }
+  pub same : after ≡ record before { trail = after.trail; watches = after.watches; import_due = false }
 
 -- behind a restart the lemmas were reduced and vivified where that was due, and nothing was done where it was not; then the ring
 -- imported

@@ -13,7 +13,7 @@ use Rattle.rup_model.specs.Rup.{rup}
 use Rattle.ring_port.specs.Port.{IsClause, IsFreshClause, KeepsHeld}
 use Rattle.ring_port.specs.PortState.{PortState, Holding, HoldsStart, IsPort, held_at, lits_at, known, clause_at, one_more}
 use Rattle.ring_port.specs.Exchange.{Offered, class_at, other_rings}
-use Rattle.ring_trail.specs.declared.step.Step.{Step}
+use Rattle.ring_trail.specs.declared.step.TrailStep.{TrailStep}
 use Rattle.ring_trail.specs.TrailData.{TrailData, IsFalseOn, lit_at, level_at, reason_at}
 use Rattle.ring_trail.specs.Reasoned.{IsReasoned}
 use Rattle.ring_trail.specs.Closed.{TrueWithin, IsClosedClause}
@@ -132,7 +132,7 @@ abbrev pub HasTold : PortState → PortState → Type 0
 HasTold old new = ToldUnits (record old { looks = one_more old.looks }) new
 
 -- each unit seen is true without a decision
-abbrev pub SeenTrue : PortState → List Step → Type 0
+abbrev pub SeenTrue : PortState → List TrailStep → Type 0
 SeenTrue s steps = (l : Literal) → has s.seen l ≡ true → TrueWithin steps 0 l
 
 -- each unit of the opening is seen
@@ -204,11 +204,11 @@ pub record IsNewTo (s : PortState) (c : List Literal) : Type 0 where
   pub unlisted : is_new (opening_of s) s.mine s.ring c ≡ true
 
 -- the glue of a lemma is how many levels its literals but the first have
-abbrev pub IsGlueOf : List Step → List Literal → ℕ → Type 0
+abbrev pub IsGlueOf : List TrailStep → List Literal → ℕ → Type 0
 IsGlueOf steps lits glue = glue ≡ count_of_levels steps (drop 1 lits)
 
 -- what is held was held before, or has the glue that its literals have on this trail
-abbrev pub HoldsByGlue : PortState → PortState → List Step → Type 0
+abbrev pub HoldsByGlue : PortState → PortState → List TrailStep → Type 0
 HoldsByGlue old new steps = (h : Holding) → Contains new.held h → Contains old.held h ⊎ IsGlueOf steps h.lits h.glue
 
 -- a new clause that follows and, after going back, leaves its first literal the only one that isn't false; below that level

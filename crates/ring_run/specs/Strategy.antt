@@ -4,7 +4,7 @@ use Rattle.std.specs.List.{slice_index_or}
 use Rattle.sat_words.specs.Literal.{Literal}
 use Rattle.sat_words.specs.Clause.{has}
 use Rattle.ring_port.specs.PortState.{PortState, Holding}
-use Rattle.ring_trail.specs.declared.step.Step.{Step}
+use Rattle.ring_trail.specs.declared.step.TrailStep.{TrailStep}
 use Rattle.ring_decide.specs.DeciderData.{DeciderData, IsActive}
 use Rattle.restart_plan.specs.Plan.{Restarting, IsExact, AreMostBefore}
 
@@ -43,16 +43,16 @@ pub record Decides (s : PortState) (d : DeciderData) : Type 0 where
   pub only : (v : ℕ) → IsActive d v → OccursIn (map (λ (h : Holding). h.lits) s.start) v
 
 -- the phases after the values of the steps were saved, one after the other
-abbrev pub saved : List Bool → List Step → List Bool
+abbrev pub saved : List Bool → List TrailStep → List Bool
 saved phases [] = phases
 saved phases (s ∷ steps) = saved (slice_set phases (s.lit.var - 1) (not s.lit.neg)) steps
 
 -- the steps above a level, which are lost where the trail goes back to it
-abbrev pub steps_above : ℕ → List Step → List Step
+abbrev pub steps_above : ℕ → List TrailStep → List TrailStep
 steps_above k steps = filter (λ s. nat_lt k s.level) steps
 
 -- the decider after the values above a level were saved
-abbrev pub saved_above : DeciderData → List Step → ℕ → DeciderData
+abbrev pub saved_above : DeciderData → List TrailStep → ℕ → DeciderData
 saved_above d steps k = record d { phase = saved d.phase (steps_above k steps) }
 
 -- each lemma was noted; by a ring of odd number each but that which reaches the limit was followed by the question whether a

@@ -11,22 +11,22 @@ use Rattle.restart_plan.specs.Plan.{begun}
 use Rattle.ring_run.specs.Strategy.{Decides}
 use Rattle.ring_run.specs.Searching.{HasTold}
 use Rattle.ring_run.specs.Ending.{IsRefusal}
-use Rattle.ring_run.specs.Course.{DecidedNext, LearnsFrom}
+use Rattle.ring_run.specs.Next.{DecidedNext, LearnsFrom}
 use Rattle.ring_run.specs.Renewal.{Renews, TookImport}
 use Rattle.ring_run.specs.declared.job.Job.{Job}
 use Rattle.ring_run.specs.declared.job.Counts.{Counts}
 use Rattle.ring_run.specs.declared.job.End.{End}
 use Rattle.ring_run.specs.declared.job.End.TheVariants.{Sat, Spent, Stopped, Memory}
 use Rattle.ring_run.specs.declared.ring.Ring.{Ring}
-use Rattle.ring_run.specs.declared.course.Course.{Course}
-use Rattle.ring_run.specs.declared.course.Course.TheVariants.{On, Over}
+use Rattle.ring_run.specs.declared.course.Next.{Next}
+use Rattle.ring_run.specs.declared.course.Next.TheVariants.{Go, Finish}
 
 -- where all is propagated the ring renewed where an import was yet to be, and else decided
 abbrev pub ActedAtQuiet : PortState → PortState → Ring → Ring → Type 0
-ActedAtQuiet s u old new = ((old.pending ≡ true) × Renews s u old new) ⊎ ((old.pending ≡ false) × DecidedNext s u old new)
+ActedAtQuiet s u old new = ((old.import_due ≡ true) × Renews s u old new) ⊎ ((old.import_due ≡ false) × DecidedNext s u old new)
 
 -- a clause is false on the trail, and so much came of the conflict
-pub record MetConflict (s u : PortState) (old new : Ring) (course : Course) : Type 0 where
+pub record MetConflict (s u : PortState) (old new : Ring) (course : Next) : Type 0 where
   pub conflict : Cref
   pub false_there : IsConflict old.watches (lits_at s) old.trail conflict
   pub lits : List Literal
@@ -34,7 +34,7 @@ pub record MetConflict (s u : PortState) (old new : Ring) (course : Course) : Ty
 
 -- a step behind propagation: from a conflict the ring learned; where there is none it renewed or decided
 abbrev pub Acted : PortState → PortState → Ring → Ring → Type 0
-Acted s u old new = MetConflict s u old new On ⊎ (IsQuiet old.watches (lits_at s) old.trail × ActedAtQuiet s u old new)
+Acted s u old new = MetConflict s u old new Go ⊎ (IsQuiet old.watches (lits_at s) old.trail × ActedAtQuiet s u old new)
 
 -- propagation changes the trail and the watches alone: the same clauses are attached, and the trail grows by literals that one of them
 -- forces
@@ -54,15 +54,15 @@ pub record TookTurn (s u : PortState) (old new : Ring) : Type 0 where
 pub record SpentTurn (s u : PortState) (old new : Ring) : Type 0 where
   pub middle : Ring
   pub propagated : HasPropagated s old middle
-  pub learned : MetConflict s u middle new (Over Spent)
+  pub learned : MetConflict s u middle new (Finish Spent)
 
 -- what a turn comes to; at a model there was a look and lines of units, and a stop of another was seen before anything was done
-abbrev pub TakesTurn : PortState → PortState → Ring → Ring → Course → Type 0
-TakesTurn s u old new On = TookTurn s u old new
-TakesTurn s u old new (Over Spent) = SpentTurn s u old new
-TakesTurn s u old new (Over (Sat a)) = HasTold s u
-TakesTurn s u old new (Over (Stopped x)) = u ≡ record s { stop = Some x }
-TakesTurn s u old new (Over end) = ⊤
+abbrev pub TakesTurn : PortState → PortState → Ring → Ring → Next → Type 0
+TakesTurn s u old new Go = TookTurn s u old new
+TakesTurn s u old new (Finish Spent) = SpentTurn s u old new
+TakesTurn s u old new (Finish (Sat a)) = HasTold s u
+TakesTurn s u old new (Finish (Stopped x)) = u ≡ record s { stop = Some x }
+TakesTurn s u old new (Finish end) = ⊤
 
 -- Searches
 
@@ -81,7 +81,7 @@ pub record CameTo (s u : PortState) (old new : Ring) : Type 0 where
 
 -- a search imports, and then takes turns until one comes to its end; a refusal may end it in the import
 abbrev pub Searched : PortState → PortState → Ring → Ring → End → Type 0
-Searched s u old new end = IsRefusal end ⊎ ((m : PortState) × (middle : Ring) × CameTo s m old middle × TakesTurn m u middle new (Over end))
+Searched s u old new end = IsRefusal end ⊎ ((m : PortState) × (middle : Ring) × CameTo s m old middle × TakesTurn m u middle new (Finish end))
 
 -- Runs
 
@@ -101,7 +101,7 @@ pub record IsFirstRing (s : PortState) (job : Job) (ring : Ring) : Type 0 where
   pub exported : ring.exported ≡ 0
   pub offered : ring.offered ≡ 0
   pub place : ring.place ≡ record { ring = job.ring; rings = job.rings }
-  pub pending : ring.pending ≡ true
+  pub import_due : ring.import_due ≡ true
 
 -- a run of a job is a search that begins with such a ring, and counts what that has counted at last; where there was no memory for a
 -- ring nothing was done

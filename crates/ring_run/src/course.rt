@@ -11,11 +11,11 @@ use ring_port::{Port, PortStop};
 
 /// What a step of the search comes to.
 #[derive(Drop)]
-pub(crate) enum Course {
+pub(crate) enum Next {
     /// The search goes on.
-    On,
+    Go,
     /// The ring is at this end, and has not set its stop yet.
-    Over(End),
+    Finish(End),
 }
 
 /// The end of a ring whose port has refused a call.

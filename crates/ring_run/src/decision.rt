@@ -10,11 +10,11 @@ ghost use Rattle.ring_run.specs.Strategy.{Decides};
 ghost use Rattle.ring_run.specs.Searching.{OffersNothing, AreFirst, KeepsOn, OnlyWrote, ToldUnits, HasTold};
 ghost use Rattle.ring_run.specs.Ending.{EndsAt, end_refused};
 ghost use Rattle.ring_run.specs.Turn.{ActedAtQuiet};
-ghost use Rattle.ring_run.specs.Course.{AreSameOffers, InSearch, HasLemmas, KeepsLemmas, Leads, IsFurther, KeepsLooking, TakesALook, KeepsOffering, KeepsPolling, IsPolling, HasPolledBy, KeepsImporting, KeepsTidy, KeepsInTime, HasDecided, EndsQuietly};
+ghost use Rattle.ring_run.specs.Next.{AreSameOffers, InSearch, HasLemmas, KeepsLemmas, Leads, IsFurther, KeepsLooking, TakesALook, KeepsOffering, KeepsPolling, IsPolling, HasPolledBy, KeepsImporting, KeepsTidy, KeepsInTime, HasDecided, EndsQuietly};
 
-use crate::course::{Course, end_refused};
+use crate::course::{Next, end_refused};
 use crate::job::End;
-use crate::reduction::renew;
+use crate::reduction::reduce_vivify_import;
 use crate::ring::Ring;
 use crate::units::write_units;
 use ring_port::{Port, PortStop};
@@ -38,19 +38,19 @@ fn model_of(alloc: Global, trail: &Trail) -> Result<Assignment, AllocError>
 
 /// Decides a variable of the start clauses that has no value. Where there is none, each of these is true. A look that found no
 /// stop came before.
-fn decide<P: Port>(alloc: Global, port: &mut P, ring: &mut Ring, limit: u64) -> Course
+fn decide<P: Port>(alloc: Global, port: &mut P, ring: &mut Ring, limit: u64) -> Next
     requires search { InSearch (P.state port.old) ring.old }
     requires below { ring.old.learned < limit }
     requires decides { Decides (P.state port.old) ring.old.decider }
     requires quiet { IsQuiet ring.old.watches (lits_at (P.state port.old)) ring.old.trail }
     requires first { AreFirst ring.old.trail ring.old.written }
-    requires settled { ring.old.pending ≡ false }
+    requires settled { ring.old.import_due ≡ false }
     ensures leads { Leads (P.state port.old) ring.old (P.state port.new) ring.new limit result }
     ensures ended { (s : PortState) → HasTold s (P.state port.old) → EndsQuietly s (P.state port.new) result }
     ensures learned { ring.new.learned ≡ ring.old.learned }
-    ensures decided { result ≡ Course.On → HasDecided ring.old ring.new }
-    ensures longer { result ≡ Course.On → length ring.old.trail.steps < length ring.new.trail.steps }
-    ensures pending { ring.new.pending ≡ ring.old.pending }
+    ensures decided { result ≡ Next.Go → HasDecided ring.old ring.new }
+    ensures longer { result ≡ Next.Go → length ring.old.trail.steps < length ring.new.trail.steps }
+    ensures import_due { ring.new.import_due ≡ ring.old.import_due }
     ensures polls { KeepsPolling (P.state port.old) ring.old (P.state port.new) ring.new result }
     ensures looks { TakesALook (P.state port.old) ring.old ring.new result }
     ensures restarts { ring.new.restarts ≡ ring.old.restarts }
@@ -62,11 +62,11 @@ fn decide<P: Port>(alloc: Global, port: &mut P, ring: &mut Ring, limit: u64) -> 
 {
     if let Some(lit) = ring.decider.next(&ring.trail) {
         ring.trail.decide(lit);
-        return Course::On;
+        return Next::Go;
     }
     match model_of(alloc, &ring.trail) {
-        Ok(model) => Course::Over(End::Sat(model)),
-        Err(_) => Course::Over(End::Memory),
+        Ok(model) => Next::Finish(End::Sat(model)),
+        Err(_) => Next::Finish(End::Memory),
     }
 }
 
@@ -81,7 +81,7 @@ pub(crate) fn write_pending<P: Port>(port: &mut P, ring: &mut Ring) -> Result<()
     ensures waiting { (P.state port.new).waiting ≡ (P.state port.old).waiting }
     ensures first { OnOk result (AreFirst ring.new.trail ring.new.written) }
     ensures whole { OnOk result (ring.old.trail.level ≡ 0 → ring.new.written ≡ length ring.new.trail.steps) }
-    ensures pending { ring.new.pending ≡ ring.old.pending }
+    ensures import_due { ring.new.import_due ≡ ring.old.import_due }
     ensures trail { ring.new.trail ≡ ring.old.trail }
     ensures stays { OnOk result (Stays (P.state port.old) (P.state port.new)) }
     ensures wrote { OnOk result (OnlyWrote (P.state port.old) (P.state port.new)) }
@@ -96,7 +96,7 @@ pub(crate) fn write_pending<P: Port>(port: &mut P, ring: &mut Ring) -> Result<()
     ensures decider { ring.new.decider ≡ ring.old.decider }
     ensures port { IsPort (P.state port.new) }
 {
-    if ring.trail.present() != 0 {
+    if ring.trail.decision_level() != 0 {
         return Ok(());
     }
     match write_units(port, &ring.trail, ring.written) {
@@ -110,12 +110,7 @@ pub(crate) fn write_pending<P: Port>(port: &mut P, ring: &mut Ring) -> Result<()
 
 /// Where nothing is left to propagate: looks for a stop, writes what is true for good, and decides; behind a restart it
 /// reduces its lemmas where that is due, and imports.
-pub(crate) fn decide_next<P: Port>(
-    alloc: Global,
-    port: &mut P,
-    ring: &mut Ring,
-    limit: u64,
-) -> Course
+pub(crate) fn decide_next<P: Port>(alloc: Global, port: &mut P, ring: &mut Ring, limit: u64) -> Next
     requires search { InSearch (P.state port.old) ring.old }
     requires below { ring.old.learned < limit }
     requires decides { Decides (P.state port.old) ring.old.decider }
@@ -125,28 +120,28 @@ pub(crate) fn decide_next<P: Port>(
     ensures leads { Leads (P.state port.old) ring.old (P.state port.new) ring.new limit result }
     ensures ended { EndsQuietly (P.state port.old) (P.state port.new) result }
     ensures learned { ring.new.learned ≡ ring.old.learned }
-    ensures further { result ≡ Course.On → IsFurther ring.old ring.new }
-    ensures acted { result ≡ Course.On → ActedAtQuiet (P.state port.old) (P.state port.new) ring.old ring.new }
+    ensures further { result ≡ Next.Go → IsFurther ring.old ring.new }
+    ensures acted { result ≡ Next.Go → ActedAtQuiet (P.state port.old) (P.state port.new) ring.old ring.new }
     ensures restarts { ring.new.restarts ≡ ring.old.restarts }
     ensures offering { KeepsOffering (P.state port.old) ring.old (P.state port.new) ring.new }
     ensures polls { HasPolledBy (P.state port.new) ring.new result }
     ensures imports { KeepsImporting (P.state port.old) ring.old (P.state port.new) ring.new result }
     ensures tidied { KeepsTidy (P.state port.old) (P.state port.new) result }
     ensures in_time { KeepsInTime (P.state port.old) ring.old (P.state port.new) ring.new result }
-    ensures listed { result ≡ Course.On → HasLemmas (P.state port.new) ring.new }
+    ensures listed { result ≡ Next.Go → HasLemmas (P.state port.new) ring.new }
     ensures active { ring.new.decider.active ≡ ring.old.decider.active }
     ensures looks { KeepsLooking (P.state port.old) ring.old (P.state port.new) ring.new result }
     ensures port { IsPort (P.state port.new) }
 {
     if let Some(stop) = port.stopped() {
-        return Course::Over(End::Stopped(stop));
+        return Next::Finish(End::Stopped(stop));
     }
     match write_pending(port, ring) {
         Ok(()) => {}
-        Err(stop) => return Course::Over(end_refused(stop)),
+        Err(stop) => return Next::Finish(end_refused(stop)),
     }
-    if ring.pending {
-        return renew(alloc, port, ring);
+    if ring.import_due {
+        return reduce_vivify_import(alloc, port, ring);
     }
     decide(alloc, port, ring, limit)
 }

@@ -5,9 +5,9 @@ ghost use Rattle.ring_port.specs.Exchange.{other_rings};
 ghost use Rattle.ring_run.specs.Ended.{slots_of, import_slots, LookedAlong, IsInTime};
 ghost use Rattle.ring_run.specs.Searching.{KeepsOn, OnlyPolled};
 ghost use Rattle.ring_run.specs.Renewal.{TookSlots, TookImport};
-ghost use Rattle.ring_run.specs.Course.{InSearch, KeepsLemmas, MayImport, Leads, KeepsLooking, KeepsOffering, IsPolling, HasPolledBy, KeepsImporting, KeepsTidy, IsInTimeBy, IsOnOrRefused};
+ghost use Rattle.ring_run.specs.Next.{InSearch, KeepsLemmas, MayImport, Leads, KeepsLooking, KeepsOffering, IsPolling, HasPolledBy, KeepsImporting, KeepsTidy, IsInTimeBy, IsOnOrRefused};
 
-use crate::course::{Course, refute};
+use crate::course::{Next, refute};
 use crate::job::End;
 use crate::ring::Ring;
 use crate::units::{Units, take_units};
@@ -105,15 +105,15 @@ fn take_clauses<P: Port>(port: &mut P, ring: &mut Ring) -> Result<(), AllocError
 }
 
 /// Takes what the others have: units, and then clauses, which are attached. No import is yet to be then.
-pub(crate) fn import<P: Port>(port: &mut P, ring: &mut Ring) -> Course
+pub(crate) fn import<P: Port>(port: &mut P, ring: &mut Ring) -> Next
     requires import { MayImport (P.state port.old) ring.old.trail ring.old.watches ring.old.written }
     requires polling { IsPolling (P.state port.old) ring.old }
-    requires pending { ring.old.pending ≡ true }
+    requires import_due { ring.old.import_due ≡ true }
     ensures leads { (limit : ℕ) → ring.old.learned < limit → Leads (P.state port.old) ring.old (P.state port.new) ring.new limit result }
     ensures refused { IsOnOrRefused result }
-    ensures took { result ≡ Course.On → TookImport (P.state port.old) (P.state port.new) ring.old ring.new }
-    ensures settled { result ≡ Course.On → ring.new.pending ≡ false }
-    ensures steps { result ≡ Course.On → length ring.old.trail.steps ≤ length ring.new.trail.steps }
+    ensures took { result ≡ Next.Go → TookImport (P.state port.old) (P.state port.new) ring.old ring.new }
+    ensures settled { result ≡ Next.Go → ring.new.import_due ≡ false }
+    ensures steps { result ≡ Next.Go → length ring.old.trail.steps ≤ length ring.new.trail.steps }
     ensures polls { HasPolledBy (P.state port.new) ring.new result }
     ensures imports { KeepsImporting (P.state port.old) ring.old (P.state port.new) ring.new result }
     ensures tidied { KeepsTidy (P.state port.old) (P.state port.new) result }
@@ -123,18 +123,18 @@ pub(crate) fn import<P: Port>(port: &mut P, ring: &mut Ring) -> Course
     ensures unlooked { (P.state port.new).looks ≡ (P.state port.old).looks }
     ensures learned { ring.new.learned ≡ ring.old.learned }
     ensures restarts { ring.new.restarts ≡ ring.old.restarts }
-    ensures listed { result ≡ Course.On → KeepsLemmas (P.state port.old) ring.old (P.state port.new) ring.new }
+    ensures listed { result ≡ Next.Go → KeepsLemmas (P.state port.old) ring.old (P.state port.new) ring.new }
     ensures decider { ring.new.decider ≡ ring.old.decider }
     ensures port { IsPort (P.state port.new) }
 {
     match take_units(port, &mut ring.trail) {
-        Units::Opposed => return Course::Over(refute(port)),
+        Units::Opposed => return Next::Finish(refute(port)),
         Units::True => {}
     }
     match take_clauses(port, ring) {
         Ok(()) => {}
-        Err(_) => return Course::Over(End::Memory),
+        Err(_) => return Next::Finish(End::Memory),
     }
-    ring.pending = false;
-    Course::On
+    ring.import_due = false;
+    Next::Go
 }

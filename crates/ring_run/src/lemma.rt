@@ -13,10 +13,10 @@ ghost use Rattle.watch_prop.specs.Propagation.{IsConflict};
 ghost use Rattle.ring_run.specs.Strategy.{Decides, IsPaced};
 ghost use Rattle.ring_run.specs.Searching.{OffersNothing, HasLent, IsAsserting, HoldsByGlue, OnlyWrote, KeepsOn};
 ghost use Rattle.ring_run.specs.Ending.{EndsAt, end_refused};
-ghost use Rattle.ring_run.specs.Course.{AreSameOffers, IsOffering, InSearch, HasLemmas, Leads, CanAssert, Asserted, Restarted, HasLeft, KeepsLooking, KeepsPolling, KeepsImporting, HasTidied, KeepsInTime, SumsUp, LearnsFrom};
+ghost use Rattle.ring_run.specs.Next.{AreSameOffers, IsOffering, InSearch, HasLemmas, Leads, CanAssert, Asserted, Restarted, HasLeft, KeepsLooking, KeepsPolling, KeepsImporting, HasTidied, KeepsInTime, SumsUp, LearnsFrom};
 ghost use Rattle.ring_run.specs.Learning.{HasShared, HasFinished, ComesOf};
 
-use crate::course::{Course, end_refused, refute};
+use crate::course::{Next, end_refused, refute};
 use crate::job::End;
 use crate::ring::{Ring, go_back};
 use crate::variables::bump_met;
@@ -67,7 +67,7 @@ fn assert_lemma<P: Port>(
     ensures learned { ring.new.learned ≡ ring.old.learned }
     ensures restarts { ring.new.restarts ≡ ring.old.restarts }
     ensures active { ring.new.decider.active ≡ ring.old.decider.active }
-    ensures pending { ring.new.pending ≡ ring.old.pending }
+    ensures import_due { ring.new.import_due ≡ ring.old.import_due }
     ensures offers { AreSameOffers ring.old ring.new }
 {
     go_back(ring, back);
@@ -93,7 +93,7 @@ fn restart<P: Port>(port: &mut P, ring: &mut Ring, address: Option<Cref>) -> Res
     ensures learned { ring.new.learned ≡ ring.old.learned }
     ensures restarts { ring.new.restarts ≡ ring.old.restarts }
     ensures active { ring.new.decider.active ≡ ring.old.decider.active }
-    ensures pending { ring.new.pending ≡ ring.old.pending }
+    ensures import_due { ring.new.import_due ≡ ring.old.import_due }
     ensures offers { AreSameOffers ring.old ring.new }
 {
     go_back(ring, 0);
@@ -125,10 +125,10 @@ fn leave_conflict<P: Port>(
     ensures restarts { ring.new.restarts ≡ ring.old.restarts }
     ensures active { ring.new.decider.active ≡ ring.old.decider.active }
     ensures offers { AreSameOffers ring.old ring.new }
-    ensures pending { ring.new.pending ≡ ring.old.pending }
-    ensures low { OnOk result (ring.old.pending ≡ true → ring.new.trail.level ≡ 0) }
+    ensures import_due { ring.new.import_due ≡ ring.old.import_due }
+    ensures low { OnOk result (ring.old.import_due ≡ true → ring.new.trail.level ≡ 0) }
 {
-    if ring.pending && back != 0 {
+    if ring.import_due && back != 0 {
         return restart(port, ring, address);
     }
     assert_lemma(port, ring, lits, back, address)
@@ -209,7 +209,7 @@ fn finish_conflict<P: Port>(
     lits: &[Lit],
     back: u32,
     address: Option<Cref>,
-) -> Course
+) -> Next
     requires refused { (P.state port.old).refused ≡ None }
     requires port { IsPort (P.state port.old) }
     requires held { IfSome address (λ c. IsSome (held_at (P.state port.old) c.address)) }
@@ -219,14 +219,14 @@ fn finish_conflict<P: Port>(
     ensures finished { HasFinished (P.state port.old) (P.state port.new) ring.old ring.new lits.now back address result }
     ensures port { IsPort (P.state port.new) }
 {
-    ring.pending = ring.restarts.due();
+    ring.import_due = ring.restarts.due();
     match tidy_up(port) {
         Ok(()) => {}
-        Err(stop) => return Course::Over(end_refused(stop)),
+        Err(stop) => return Next::Finish(end_refused(stop)),
     }
     match leave_conflict(port, ring, lits, back, address) {
-        Ok(()) => Course::On,
-        Err(_) => Course::Over(End::Memory),
+        Ok(()) => Next::Go,
+        Err(_) => Next::Finish(End::Memory),
     }
 }
 
@@ -238,7 +238,7 @@ fn learn_lemma<P: Port>(
     back: u32,
     glue: u32,
     limit: u64,
-) -> Course
+) -> Next
     requires search { InSearch (P.state port.old) ring.old }
     requires below { ring.old.learned < limit }
     requires decides { Decides (P.state port.old) ring.old.decider }
@@ -250,10 +250,10 @@ fn learn_lemma<P: Port>(
 {
     let address = match share_lemma(port, ring, lits, glue) {
         Ok(address) => address,
-        Err(stop) => return Course::Over(end_refused(stop)),
+        Err(stop) => return Next::Finish(end_refused(stop)),
     };
     if ring.learned == limit {
-        return Course::Over(End::Spent);
+        return Next::Finish(End::Spent);
     }
     finish_conflict(port, ring, lits, back, address)
 }
@@ -265,7 +265,7 @@ pub(crate) fn learn_from<P: Port>(
     analysis: &mut Analysis,
     conflict: Cref,
     limit: u64,
-) -> Course
+) -> Next
     requires search { InSearch (P.state port.old) ring.old }
     requires below { ring.old.learned < limit }
     requires decides { Decides (P.state port.old) ring.old.decider }
@@ -275,16 +275,16 @@ pub(crate) fn learn_from<P: Port>(
     requires vars { analysis.old.vars ≡ ring.old.trail.vars }
     requires conflict { IsConflict ring.old.watches (lits_at (P.state port.old)) ring.old.trail conflict }
     ensures leads { Leads (P.state port.old) ring.old (P.state port.new) ring.new limit result }
-    ensures more { result ≡ Course.On → ring.new.learned ≡ ring.old.learned + 1 }
+    ensures more { result ≡ Next.Go → ring.new.learned ≡ ring.old.learned + 1 }
     ensures learns { LearnsFrom (P.state port.old) (P.state port.new) ring.old ring.new conflict analysis.new.lits result }
     ensures tidied { HasTidied (P.state port.new) result }
-    ensures listed { result ≡ Course.On → HasLemmas (P.state port.new) ring.new }
+    ensures listed { result ≡ Next.Go → HasLemmas (P.state port.new) ring.new }
     ensures stored { HoldsByGlue (P.state port.old) (P.state port.new) ring.old.trail.steps }
     ensures looks { KeepsLooking (P.state port.old) ring.old (P.state port.new) ring.new result }
     ensures paced { IsPaced ring.new.restarts ring.new.learned limit }
     ensures polls { KeepsPolling (P.state port.old) ring.old (P.state port.new) ring.new result }
     ensures imports { KeepsImporting (P.state port.old) ring.old (P.state port.new) ring.new result }
-    ensures above { result ≡ Course.On → 0 < ring.old.trail.level }
+    ensures above { result ≡ Next.Go → 0 < ring.old.trail.level }
     ensures in_time { KeepsInTime (P.state port.old) ring.old (P.state port.new) ring.new result }
     ensures sums { SumsUp ring.new.restarts }
     ensures offering { IsOffering (P.state port.new) ring.new }
@@ -294,11 +294,11 @@ pub(crate) fn learn_from<P: Port>(
     ensures port { IsPort (P.state port.new) }
 {
     match analysis.analyze(port, &ring.trail, conflict) {
-        Conclusion::Empty => Course::Over(refute(port)),
+        Conclusion::Empty => Next::Finish(refute(port)),
         Conclusion::Lemma { back, glue } => {
             let met = analysis.met();
             if bump_met(&mut ring.decider, met, &mut ring.bumps).is_err() {
-                return Course::Over(End::Memory);
+                return Next::Finish(End::Memory);
             }
             learn_lemma(port, ring, analysis.lits(), back, glue, limit)
         }

@@ -7,9 +7,9 @@ ghost use Rattle.ring_run.specs.Ended.{IsInTime};
 ghost use Rattle.ring_run.specs.Searching.{OffersNothing, OpeningSeen, KeepsOn};
 ghost use Rattle.ring_run.specs.Renewal.{IsDue, HasReduced, HasShrunk, IsIdle, HasRenewed, IsResting, HaltsAt};
 ghost use Rattle.ring_run.specs.Ending.{EndsAt, end_refused};
-ghost use Rattle.ring_run.specs.Course.{HasLemmas, MayImport, Leads, KeepsLooking, KeepsOffering, IsPolling, HasPolledBy, KeepsImporting, KeepsTidy, IsInTimeBy, IsOnOrRefused};
+ghost use Rattle.ring_run.specs.Next.{HasLemmas, MayImport, Leads, KeepsLooking, KeepsOffering, IsPolling, HasPolledBy, KeepsImporting, KeepsTidy, IsInTimeBy, IsOnOrRefused};
 
-use crate::course::{Course, end_refused};
+use crate::course::{Next, end_refused};
 use crate::imports::import;
 use crate::job::End;
 use crate::lemma::tidy_up;
@@ -121,27 +121,27 @@ fn shrink_due<P: Port>(alloc: Global, port: &mut P, ring: &mut Ring) -> Result<(
 }
 
 /// Reduces and vivifies the lemmas where that is due, and imports. No import is yet to be then.
-pub(crate) fn renew<P: Port>(alloc: Global, port: &mut P, ring: &mut Ring) -> Course
+pub(crate) fn reduce_vivify_import<P: Port>(alloc: Global, port: &mut P, ring: &mut Ring) -> Next
     requires import { MayImport (P.state port.old) ring.old.trail ring.old.watches ring.old.written }
     requires quiet { IsQuiet ring.old.watches (lits_at (P.state port.old)) ring.old.trail }
     requires opening { OpeningSeen (P.state port.old) }
     requires polling { IsPolling (P.state port.old) ring.old }
     requires listed { HasLemmas (P.state port.old) ring.old }
     requires few { ring.old.reductions < 2 ^ 64 - 1 }
-    requires pending { ring.old.pending ≡ true }
+    requires import_due { ring.old.import_due ≡ true }
     ensures leads { (limit : ℕ) → ring.old.learned < limit → Leads (P.state port.old) ring.old (P.state port.new) ring.new limit result }
     ensures refused { IsOnOrRefused result }
-    ensures settled { result ≡ Course.On → ring.new.pending ≡ false }
-    ensures renewed { result ≡ Course.On → HasRenewed (P.state port.old) (P.state port.new) ring.old ring.new }
+    ensures settled { result ≡ Next.Go → ring.new.import_due ≡ false }
+    ensures renewed { result ≡ Next.Go → HasRenewed (P.state port.old) (P.state port.new) ring.old ring.new }
     ensures unlooked { (P.state port.new).looks ≡ (P.state port.old).looks }
-    ensures steps { result ≡ Course.On → length ring.old.trail.steps ≤ length ring.new.trail.steps }
+    ensures steps { result ≡ Next.Go → length ring.old.trail.steps ≤ length ring.new.trail.steps }
     ensures polls { HasPolledBy (P.state port.new) ring.new result }
     ensures imports { KeepsImporting (P.state port.old) ring.old (P.state port.new) ring.new result }
     ensures tidied { KeepsTidy (P.state port.old) (P.state port.new) result }
     ensures in_time { IsInTimeBy (P.state port.new) ring.new result }
     ensures offering { KeepsOffering (P.state port.old) ring.old (P.state port.new) ring.new }
     ensures looks { KeepsLooking (P.state port.old) ring.old (P.state port.new) ring.new result }
-    ensures listed { result ≡ Course.On → HasLemmas (P.state port.new) ring.new }
+    ensures listed { result ≡ Next.Go → HasLemmas (P.state port.new) ring.new }
     ensures learned { ring.new.learned ≡ ring.old.learned }
     ensures restarts { ring.new.restarts ≡ ring.old.restarts }
     ensures decider { ring.new.decider ≡ ring.old.decider }
@@ -149,7 +149,7 @@ pub(crate) fn renew<P: Port>(alloc: Global, port: &mut P, ring: &mut Ring) -> Co
 {
     match shrink_due(alloc, port, ring) {
         Ok(()) => {}
-        Err(end) => return Course::Over(end),
+        Err(end) => return Next::Finish(end),
     }
     import(port, ring)
 }

@@ -1,7 +1,7 @@
 // What a ring has of its own.
 ghost use Rattle.std.specs.Prelude.{◌≡◌, ◌≤◌, length};
 ghost use Rattle.ring_trail.specs.TrailData.{IsTrail};
-ghost use Rattle.ring_run.specs.Course.{WentBack};
+ghost use Rattle.ring_run.specs.Next.{WentBack};
 ghost use Rattle.ring_run.specs.Strategy.{saved_above};
 
 use crate::variables::{Bump, save_phases};
@@ -45,7 +45,7 @@ pub(crate) struct Ring {
     /// When it restarts.
     pub restarts: Restarts,
     /// Whether an import is yet to be: that at the start, or that of the last restart.
-    pub pending: bool,
+    pub import_due: bool,
     /// Room for the variables that a conflict met.
     pub bumps: Vec<Bump>,
     /// How many lemmas were offered to the other rings.

@@ -92,7 +92,7 @@ pub fn run_ring<P: Port>(alloc: Global, port: &mut P, job: &Job) -> (End, Counts
     ensures port { IsPort (P.state port.new) }
 {
     let (end, counts) = run_job(alloc, port, job);
-    (claim(port, end), counts)
+    (set_stop(port, end), counts)
 }
 
 /// Makes a ring and searches. Answers the end, whose stop is not set yet, and what was counted.
@@ -174,7 +174,7 @@ pub(crate) fn make_ring<P: Port>(alloc: Global, port: &mut P, job: &Job) -> Resu
     ensures none { IfOk result (λ ring. (ring.exported ≡ 0) × (ring.offered ≡ 0)) }
     ensures restarts { IfOk result (λ ring. ring.restarts ≡ begun (job.now.ring % 2 == 1)) }
     ensures place { IfOk result (λ ring. ring.place ≡ record { ring = job.now.ring; rings = job.now.rings }) }
-    ensures pending { IfOk result (λ ring. ring.pending ≡ true) }
+    ensures import_due { IfOk result (λ ring. ring.import_due ≡ true) }
 {
     let trail = Trail::new(alloc, job.vars)?;
     let mut watches = Watches::new(alloc, job.vars)?;
@@ -197,7 +197,7 @@ pub(crate) fn make_ring<P: Port>(alloc: Global, port: &mut P, job: &Job) -> Resu
         written: 0,
         decider,
         restarts,
-        pending: true,
+        import_due: true,
         bumps,
         exported: 0,
         offered: 0,
@@ -219,7 +219,7 @@ fn stop_kind(end: &End) -> Option<u8>
 }
 
 /// Sets the stop of an end that sets one. Where another ring's stands, that is the end.
-fn claim<P: Port>(port: &mut P, end: End) -> End
+fn set_stop<P: Port>(port: &mut P, end: End) -> End
     requires cause { Cause (P.state port.old) end }
     requires unset { IsUnset (P.state port.old) end }
     requires port { IsPort (P.state port.old) }

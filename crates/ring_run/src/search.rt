@@ -6,9 +6,9 @@ ghost use Rattle.ring_run.specs.Strategy.{Decides, IsPaced};
 ghost use Rattle.ring_run.specs.Searching.{GoesOn};
 ghost use Rattle.ring_run.specs.Ending.{ComesTo};
 ghost use Rattle.ring_run.specs.Turn.{TakesTurn, Searched};
-ghost use Rattle.ring_run.specs.Course.{IsOffering, InSearch, HasLemmas, MayImport, Leads, IsFurther, IsLooking, KeepsLooking, IsPolling, HasPolledBy, IsImporting, KeepsImporting, KeepsTidy, IsInTimeAt, KeepsInTime, SumsUp};
+ghost use Rattle.ring_run.specs.Next.{IsOffering, InSearch, HasLemmas, MayImport, Leads, IsFurther, IsLooking, KeepsLooking, IsPolling, HasPolledBy, IsImporting, KeepsImporting, KeepsTidy, IsInTimeAt, KeepsInTime, SumsUp};
 
-use crate::course::Course;
+use crate::course::Next;
 use crate::decision::decide_next;
 use crate::imports::import;
 use crate::job::End;
@@ -20,13 +20,13 @@ use std::alloc::Global;
 use watch_prop::Propagated;
 
 /// Propagates, and then learns or decides.
-fn turn<P: Port>(
+fn search_step<P: Port>(
     alloc: Global,
     port: &mut P,
     ring: &mut Ring,
     analysis: &mut Analysis,
     limit: u64,
-) -> Course
+) -> Next
     requires search { InSearch (P.state port.old) ring.old }
     requires below { ring.old.learned < limit }
     requires decides { Decides (P.state port.old) ring.old.decider }
@@ -36,7 +36,7 @@ fn turn<P: Port>(
     requires listed { HasLemmas (P.state port.old) ring.old }
     requires vars { analysis.old.vars ≡ ring.old.trail.vars }
     ensures leads { Leads (P.state port.old) ring.old (P.state port.new) ring.new limit result }
-    ensures further { result ≡ Course.On → IsFurther ring.old ring.new }
+    ensures further { result ≡ Next.Go → IsFurther ring.old ring.new }
     ensures looks { KeepsLooking (P.state port.old) ring.old (P.state port.new) ring.new result }
     ensures paced { IsPaced ring.new.restarts ring.new.learned limit }
     ensures offering { IsOffering (P.state port.new) ring.new }
@@ -46,16 +46,16 @@ fn turn<P: Port>(
     ensures took { TakesTurn (P.state port.old) (P.state port.new) ring.old ring.new result }
     ensures in_time { KeepsInTime (P.state port.old) ring.old (P.state port.new) ring.new result }
     ensures sums { SumsUp ring.new.restarts }
-    ensures listed { result ≡ Course.On → HasLemmas (P.state port.new) ring.new }
+    ensures listed { result ≡ Next.Go → HasLemmas (P.state port.new) ring.new }
     ensures odd { ring.new.restarts.odd ≡ ring.old.restarts.odd }
     ensures active { ring.new.decider.active ≡ ring.old.decider.active }
     ensures vars { analysis.new.vars ≡ analysis.old.vars }
     ensures port { IsPort (P.state port.new) }
 {
     let Ok(propagated) = ring.watches.propagate(port, &mut ring.trail) else {
-        return Course::Over(End::Memory);
+        return Next::Finish(End::Memory);
     };
-    let _lawful = ring.trail.present();
+    let _lawful = ring.trail.decision_level();
     match propagated {
         Propagated::Conflict(conflict) => learn_from(port, ring, analysis, conflict, limit),
         Propagated::Quiet => decide_next(alloc, port, ring, limit),
@@ -72,7 +72,7 @@ pub(crate) fn search<P: Port>(
     limit: u64,
 ) -> End
     requires import { MayImport (P.state port.old) ring.old.trail ring.old.watches ring.old.written }
-    requires pending { ring.old.pending ≡ true }
+    requires import_due { ring.old.import_due ≡ true }
     requires goes { GoesOn (P.state port.old) (P.state port.old) ring.old.learned }
     requires below { ring.old.learned < limit }
     requires decides { Decides (P.state port.old) ring.old.decider }
@@ -94,11 +94,11 @@ pub(crate) fn search<P: Port>(
     ensures odd { ring.new.restarts.odd ≡ ring.old.restarts.odd }
     ensures port { IsPort (P.state port.new) }
 {
-    if let Course::Over(end) = import(port, ring) {
+    if let Next::Finish(end) = import(port, ring) {
         return end;
     }
     loop {
-        if let Course::Over(end) = turn(alloc, port, ring, analysis, limit) {
+        if let Next::Finish(end) = search_step(alloc, port, ring, analysis, limit) {
             return end;
         }
     }

@@ -64,7 +64,7 @@ pub(crate) fn save_phases(trail: &Trail, decider: &mut Decider, level: u32)
     ensures saved { decider.new ≡ saved_above decider.old trail.now.steps level }
     ensures active { decider.new.active ≡ decider.old.active }
 {
-    if trail.present() <= level {
+    if trail.decision_level() <= level {
         return;
     }
     for place in trail.start(level + 1)..trail.len() {

@@ -6,7 +6,7 @@ ghost use Rattle.ring_port.specs.PortState.{IsPort, held_at, lits_at};
 ghost use Rattle.ring_trail.specs.TrailData.{IsTrueOn};
 ghost use Rattle.ring_run.specs.Searching.{OffersNothing, KeepsOn};
 ghost use Rattle.ring_run.specs.Renewal.{point, IsNamed, HasFollowed, WentOn, TookLemma, TookAll, TookPlace, IsResting, AwaitsUnit, LeftBehind, HaltsAt, MayVivify, KeepsOthers, IsLeft};
-ghost use Rattle.ring_run.specs.Course.{HasLemmas};
+ghost use Rattle.ring_run.specs.Next.{HasLemmas};
 
 use crate::course::{end_refused, refute};
 use crate::decision::write_pending;
@@ -24,13 +24,13 @@ const GREATEST_GLUE: u32 = 2;
 
 /// What a lemma's turn leaves of it.
 #[derive(Clone, Copy)]
-pub(crate) enum Left {
+pub(crate) enum AfterVivify {
     /// The lemma itself.
-    Same,
+    Unchanged,
     /// A shorter clause.
-    Other(Cref),
+    Replaced(Cref),
     /// Nothing.
-    Nothing,
+    Gone,
 }
 
 /// Whether a literal of a clause is true.
@@ -84,7 +84,7 @@ fn follow_unit<P: Port>(port: &mut P, ring: &mut Ring, lit: Lit) -> Result<(), E
     let Ok(propagated) = ring.watches.propagate(port, &mut ring.trail) else {
         return Err(End::Memory);
     };
-    let _lawful = ring.trail.present();
+    let _lawful = ring.trail.decision_level();
     match propagated {
         Propagated::Conflict(_) => return Err(refute(port)),
         Propagated::Quiet => {}
@@ -96,7 +96,7 @@ fn follow_unit<P: Port>(port: &mut P, ring: &mut Ring, lit: Lit) -> Result<(), E
 }
 
 /// What is left of a lemma that was vivified. A unit is made true, with what follows from it.
-fn settle_left<P: Port>(port: &mut P, ring: &mut Ring, left: Vivified) -> Result<Left, End>
+fn settle_left<P: Port>(port: &mut P, ring: &mut Ring, left: Vivified) -> Result<AfterVivify, End>
     requires left { LeftBehind (P.state port.old) ring.old left }
     ensures over { IfErr result (HaltsAt (P.state port.old) (P.state port.new)) }
     ensures keeps { OnOk result (KeepsOn (P.state port.old) (P.state port.new)) }
@@ -109,17 +109,22 @@ fn settle_left<P: Port>(port: &mut P, ring: &mut Ring, left: Vivified) -> Result
 {
     let _vars = port.vars();
     match left {
-        Vivified::Kept | Vivified::Empty => Ok(Left::Same),
-        Vivified::Shorter(shorter) => Ok(Left::Other(shorter)),
+        Vivified::Kept | Vivified::Empty => Ok(AfterVivify::Unchanged),
+        Vivified::Shorter(shorter) => Ok(AfterVivify::Replaced(shorter)),
         Vivified::Unit(lit) => match follow_unit(port, ring, lit) {
-            Ok(()) => Ok(Left::Nothing),
+            Ok(()) => Ok(AfterVivify::Gone),
             Err(end) => Err(end),
         },
     }
 }
 
 /// Vivifies a lemma where it is one of those, and answers what is left of it.
-fn vivify_lemma<P: Port>(alloc: Global, port: &mut P, ring: &mut Ring, c: Cref) -> Result<Left, End>
+fn vivify_lemma<P: Port>(
+    alloc: Global,
+    port: &mut P,
+    ring: &mut Ring,
+    c: Cref,
+) -> Result<AfterVivify, End>
     requires resting { IsResting (P.state port.old) ring.old }
     requires lemma { MayVivify (P.state port.old) ring.old.watches c }
     ensures over { IfErr result (HaltsAt (P.state port.old) (P.state port.new)) }
@@ -137,7 +142,7 @@ fn vivify_lemma<P: Port>(alloc: Global, port: &mut P, ring: &mut Ring, c: Cref) 
 {
     let _vars = port.vars();
     if !is_named(port, ring, c) {
-        return Ok(Left::Same);
+        return Ok(AfterVivify::Unchanged);
     }
     match vivify(alloc, port, &mut ring.watches, &mut ring.trail, c) {
         Ok(left) => settle_left(port, ring, left),
@@ -169,13 +174,13 @@ fn vivify_at<P: Port>(
 {
     let lemma = ring.lemmas[place];
     match vivify_lemma(alloc, port, ring, lemma) {
-        Ok(Left::Same) => Ok(place + 1),
-        Ok(Left::Other(shorter)) => {
+        Ok(AfterVivify::Unchanged) => Ok(place + 1),
+        Ok(AfterVivify::Replaced(shorter)) => {
             ring.lemmas.remove(place);
             ring.lemmas.push_reserved(shorter);
             Ok(place)
         }
-        Ok(Left::Nothing) => {
+        Ok(AfterVivify::Gone) => {
             ring.lemmas.remove(place);
             Ok(place)
         }
@@ -204,7 +209,7 @@ pub(crate) fn vivify_lemmas<P: Port>(
 {
     let _vars = port.vars();
     let mut place = 0;
-    for _turn in 0..ring.lemmas.len() {
+    for _search_step in 0..ring.lemmas.len() {
         match vivify_at(alloc, port, ring, place) {
             Ok(next) => place = next,
             Err(end) => return Err(end),

@@ -5,7 +5,7 @@ use Rattle.std.proofs.Math.Bool.{beq}
 use Rattle.std.proofs.lemmas.List.{get_or_default}
 use Rattle.std.specs.Bool.{MatchBool}
 use Rattle.sat_words.specs.Literal.{Literal, opposite}
-use Rattle.ring_trail.specs.declared.step.Step.{Step}
+use Rattle.ring_trail.specs.declared.step.TrailStep.{TrailStep}
 use Rattle.ring_trail.specs.declared.trail.Trail.TheInside.{Inside}
 use Rattle.ring_trail.specs.TrailData.{TrailData, IsTrail, IsPlaceOf, HasNoPlace, IsTrueOn, IsFalseOn, no_step, step_at, lit_at, level_at, var_at, step_of}
 use Rattle.ring_trail.specs.Inside.{IsInside}
@@ -91,19 +91,19 @@ told_some t d v b i e le is =
     (let vars = ap (λ (x : TrailData). x.vars) e in
     let s = value_some t.steps.items v b (sym (i.kept.told v (omega (arith, i.range))) ∙ is) in
     let p = some_at t.steps.items v s.0 s.1 in
-    let var : var_at t.steps.items p.0 ≡ v = ap (λ (x : Step). x.lit.var) p.2 ∙ p.3 in
+    let var : var_at t.steps.items p.0 ≡ v = ap (λ (x : TrailStep). x.lit.var) p.2 ∙ p.3 in
     let here : get_or t.places.items v 0 ≡ p.0 = ap (λ (w : ℕ). get_or t.places.items w 0) (sym var) ∙ i.placed p.0 p.1 in
     subst (λ (q : ℕ). ToldAt (seen_as t) v b q) (sym here)
     (record {
       place = record { in_range = p.1; var = var };
-      value = ap (λ (x : Step). not x.lit.neg) p.2 ∙ s.2;
-      step = s.1 ∙ ap (λ (x : Step). Some x) (sym p.2);
+      value = ap (λ (x : TrailStep). not x.lit.neg) p.2 ∙ s.2;
+      step = s.1 ∙ ap (λ (x : TrailStep). Some x) (sym p.2);
     }))
 
 pub same_lit : (k l : Literal) → k.var ≡ l.var → k.neg ≡ l.neg → k ≡ l
 same_lit k l e f = λ i. record { var = e i; neg = f i }
 
-truth_by : (steps : List Step) (l : Literal) (p : ℕ) → IsPlaceOf steps l.var p → (n m : Bool) → (lit_at steps p).neg ≡ n → l.neg ≡ m → MatchBool (not (beq (not n) m)) (IsTrueOn steps l) (IsFalseOn steps l)
+truth_by : (steps : List TrailStep) (l : Literal) (p : ℕ) → IsPlaceOf steps l.var p → (n m : Bool) → (lit_at steps p).neg ≡ n → l.neg ≡ m → MatchBool (not (beq (not n) m)) (IsTrueOn steps l) (IsFalseOn steps l)
 truth_by steps l p i false false e f = record { place = p; before = i.in_range; true_there = same_lit (lit_at steps p) l i.var (e ∙ sym f) }
 truth_by steps l p i true true e f = record { place = p; before = i.in_range; true_there = same_lit (lit_at steps p) l i.var (e ∙ sym f) }
 truth_by steps l p i false true e f = record { place = p; before = i.in_range; false_there = same_lit (lit_at steps p) (opposite l) i.var (e ∙ sym (ap not f)) }
@@ -121,7 +121,7 @@ step_at_place d v p shape i =
     step_of-at d.steps v p (λ q h e. let z : q ≡ p = shape.distinct q p (let r = i.in_range in omega arith) i.in_range (e ∙ sym i.var) in omega arith) i.in_range i.var
 
 -- what was read there
-pub step_read : (t : Inside) (d : TrailData) (v p : ℕ) (s : Step) → seen_as t ≡ d → IsPlaceOf d.steps v p → s ≡ get_or t.steps.items p s → Some (step_at d.steps p) ≡ Some s
+pub step_read : (t : Inside) (d : TrailData) (v p : ℕ) (s : TrailStep) → seen_as t ≡ d → IsPlaceOf d.steps v p → s ≡ get_or t.steps.items p s → Some (step_at d.steps p) ≡ Some s
 step_read t d v p s e i is =
     let steps : t.steps.items ≡ d.steps = ap (λ (x : TrailData). x.steps) e in
-    ap (λ (x : Step). Some x) (get_or_default d.steps p no_step s i.in_range ∙ ap (λ (xs : List Step). get_or xs p s) (sym steps) ∙ sym is)
+    ap (λ (x : TrailStep). Some x) (get_or_default d.steps p no_step s i.in_range ∙ ap (λ (xs : List TrailStep). get_or xs p s) (sym steps) ∙ sym is)

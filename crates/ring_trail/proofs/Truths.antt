@@ -5,7 +5,7 @@ use Rattle.std.specs.Option.{option_map}
 use Rattle.std.proofs.lemmas.Bool.{false≢true}
 use Rattle.sat_words.specs.Literal.{Literal, opposite}
 use Rattle.sat_words.specs.Values.{is_value, is_true}
-use Rattle.ring_trail.specs.declared.step.Step.{Step}
+use Rattle.ring_trail.specs.declared.step.TrailStep.{TrailStep}
 use Rattle.ring_trail.specs.declared.trail.Trail.TheInside.{Inside}
 use Rattle.ring_trail.specs.TrailData.{TrailData, IsTrail, IsTrueOn, IsFalseOn, HasNoPlace, lit_at, step_at, value_of}
 use Rattle.ring_trail.specs.Inside.{IsInside}
@@ -25,7 +25,7 @@ is_the_value true = refl
 is_the_value false = refl
 
 -- a literal whose variable has the value that makes it true stands at some place
-stands : (steps : List Step) (l : Literal) → value_of steps l.var ≡ Some (not l.neg) → IsTrueOn steps l
+stands : (steps : List TrailStep) (l : Literal) → value_of steps l.var ≡ Some (not l.neg) → IsTrueOn steps l
 stands steps l e =
     let s = value_some steps l.var (not l.neg) e in
     let p = some_at steps l.var s.0 s.1 in
@@ -33,14 +33,14 @@ stands steps l e =
       place = p.0;
       before = p.1;
       true_there = same_lit (step_at steps p.0).lit l
-          (ap (λ (x : Step). x.lit.var) p.2 ∙ p.3)
-          (ap (λ (x : Step). x.lit.neg) p.2 ∙ sym (not-not s.0.lit.neg) ∙ ap not s.2 ∙ not-not l.neg);
+          (ap (λ (x : TrailStep). x.lit.var) p.2 ∙ p.3)
+          (ap (λ (x : TrailStep). x.lit.neg) p.2 ∙ sym (not-not s.0.lit.neg) ∙ ap not s.2 ∙ not-not l.neg);
     }
 
 -- and gives its variable that value
 has_value : (d : TrailData) (l : Literal) → IsTrail d → IsTrueOn d.steps l → value_of d.steps l.var ≡ Some (not l.neg)
 has_value d l shape i =
-    ap (option_map (λ (s : Step). not s.lit.neg)) (step_at_place d l.var i.place shape (record { in_range = i.before; var = ap (λ (k : Literal). k.var) i.true_there }))
+    ap (option_map (λ (s : TrailStep). not s.lit.neg)) (step_at_place d l.var i.place shape (record { in_range = i.before; var = ap (λ (k : Literal). k.var) i.true_there }))
     ∙ ap (λ (k : Literal). Some (not k.neg)) i.true_there
 
 told_true : (t : Inside) (l : Literal) → IsInside t → l.var ≤ t.vars → IsTrue (is_true t.values l) ↔ IsTrueOn t.steps.items l
@@ -63,7 +63,7 @@ false_on t d l i e le =
     )
 
 -- a literal that is neither true nor false has no place
-pub neither : (steps : List Step) (l : Literal) → (IsTrueOn steps l → ⊥) → (IsFalseOn steps l → ⊥) → HasNoPlace steps l.var
+pub neither : (steps : List TrailStep) (l : Literal) → (IsTrueOn steps l → ⊥) → (IsFalseOn steps l → ⊥) → HasNoPlace steps l.var
 neither steps l not_true not_false p lt e = by (lit_at steps p).neg l.neg refl refl
   where
     by : (n m : Bool) → (lit_at steps p).neg ≡ n → l.neg ≡ m → ⊥
@@ -72,5 +72,5 @@ neither steps l not_true not_false p lt e = by (lit_at steps p).neg l.neg refl r
     by true false f g = not_false (record { place = p; before = lt; false_there = same_lit (lit_at steps p) (opposite l) e (f ∙ sym (ap not g)) })
     by false true f g = not_false (record { place = p; before = lt; false_there = same_lit (lit_at steps p) (opposite l) e (f ∙ sym (ap not g)) })
 
-pub no_value : (steps : List Step) (v : ℕ) → HasNoPlace steps v → value_of steps v ≡ None
-no_value steps v none = ap (option_map (λ (s : Step). not s.lit.neg)) (step_of-no_place steps v none)
+pub no_value : (steps : List TrailStep) (v : ℕ) → HasNoPlace steps v → value_of steps v ≡ None
+no_value steps v none = ap (option_map (λ (s : TrailStep). not s.lit.neg)) (step_of-no_place steps v none)

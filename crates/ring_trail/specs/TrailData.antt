@@ -5,96 +5,96 @@ use Rattle.std.specs.Option.{option_map, option_and_then}
 use Rattle.sat_words.specs.Literal.{Literal, opposite}
 use Rattle.sat_words.specs.Clause.{has}
 use Rattle.sat_words.specs.declared.shared.Cref.{Cref}
-use Rattle.ring_trail.specs.declared.step.Step.{Step}
+use Rattle.ring_trail.specs.declared.step.TrailStep.{TrailStep}
 
 -- for the variables from 1 to `vars`: the present level, the steps, and how many of the first of them were propagated
 pub record TrailData : Type 0 where
   pub vars : ℕ
   pub level : ℕ
-  pub steps : List Step
+  pub steps : List TrailStep
   pub done : ℕ
 
-abbrev pub no_step : Step
+abbrev pub no_step : TrailStep
 no_step = record { lit = record { var = 0; neg = false }; level = 0; reason = None }
 
-abbrev pub step_at : List Step → ℕ → Step
+abbrev pub step_at : List TrailStep → ℕ → TrailStep
 step_at steps p = slice_index_or steps p no_step
 
 -- the literal at a place
-abbrev pub lit_at : List Step → ℕ → Literal
+abbrev pub lit_at : List TrailStep → ℕ → Literal
 lit_at steps p = (step_at steps p).lit
 
 -- the variable of the literal at a place
-abbrev pub var_at : List Step → ℕ → ℕ
+abbrev pub var_at : List TrailStep → ℕ → ℕ
 var_at steps p = (step_at steps p).lit.var
 
 -- the level of the literal at a place
-abbrev pub level_at : List Step → ℕ → ℕ
+abbrev pub level_at : List TrailStep → ℕ → ℕ
 level_at steps p = (step_at steps p).level
 
 -- the clause that forced the literal at a place
-abbrev pub reason_at : List Step → ℕ → Option Cref
+abbrev pub reason_at : List TrailStep → ℕ → Option Cref
 reason_at steps p = (step_at steps p).reason
 
 -- the variable's literal stands there
-pub record IsPlaceOf (steps : List Step) (v p : ℕ) : Type 0 where
+pub record IsPlaceOf (steps : List TrailStep) (v p : ℕ) : Type 0 where
   pub in_range : p < length steps
   pub var : var_at steps p ≡ v
 
 -- no literal of the variable is true
-abbrev pub HasNoPlace : List Step → ℕ → Type 0
+abbrev pub HasNoPlace : List TrailStep → ℕ → Type 0
 HasNoPlace steps v = (p : ℕ) → p < length steps → var_at steps p ≡ v → ⊥
 
 -- the step of a variable
-abbrev pub step_of : List Step → ℕ → Option Step
+abbrev pub step_of : List TrailStep → ℕ → Option TrailStep
 step_of steps v = find (λ s. nat_eq s.lit.var v) steps
 
 -- the value of a variable
-abbrev pub value_of : List Step → ℕ → Option Bool
+abbrev pub value_of : List TrailStep → ℕ → Option Bool
 value_of steps v = option_map (λ s. not s.lit.neg) (step_of steps v)
 
 -- the level of a variable
-abbrev pub level_of : List Step → ℕ → Option ℕ
+abbrev pub level_of : List TrailStep → ℕ → Option ℕ
 level_of steps v = option_map (λ s. s.level) (step_of steps v)
 
 -- the clause that forced a variable
-abbrev pub reason_of : List Step → ℕ → Option Cref
+abbrev pub reason_of : List TrailStep → ℕ → Option Cref
 reason_of steps v = option_and_then (λ s. s.reason) (step_of steps v)
 
 -- the literal is true, and became so before this place
-pub record TrueBefore (steps : List Step) (n : ℕ) (l : Literal) : Type 0 where
+pub record TrueBefore (steps : List TrailStep) (n : ℕ) (l : Literal) : Type 0 where
   pub place : ℕ
   pub before : place < n
   pub true_there : lit_at steps place ≡ l
 
 -- the literal is false, and became so before this place
-pub record FalseBefore (steps : List Step) (n : ℕ) (l : Literal) : Type 0 where
+pub record FalseBefore (steps : List TrailStep) (n : ℕ) (l : Literal) : Type 0 where
   pub place : ℕ
   pub before : place < n
   pub false_there : lit_at steps place ≡ opposite l
 
 -- the literal is true on the trail
-abbrev pub IsTrueOn : List Step → Literal → Type 0
+abbrev pub IsTrueOn : List TrailStep → Literal → Type 0
 IsTrueOn steps l = TrueBefore steps (length steps) l
 
 -- the literal is false on the trail
-abbrev pub IsFalseOn : List Step → Literal → Type 0
+abbrev pub IsFalseOn : List TrailStep → Literal → Type 0
 IsFalseOn steps l = FalseBefore steps (length steps) l
 
 -- each literal of the clause is false on the trail
-abbrev pub IsFalseClause : List Step → List Literal → Type 0
+abbrev pub IsFalseClause : List TrailStep → List Literal → Type 0
 IsFalseClause steps c = (l : Literal) → has c l ≡ true → IsFalseOn steps l
 
 -- the steps up to a level
-abbrev pub up_to : ℕ → List Step → List Step
+abbrev pub up_to : ℕ → List TrailStep → List TrailStep
 up_to k steps = filter (λ s. nat_le s.level k) steps
 
 -- where a level starts: behind the steps of lower levels
-abbrev pub start_of : List Step → ℕ → ℕ
+abbrev pub start_of : List TrailStep → ℕ → ℕ
 start_of steps k = length (filter (λ s. nat_lt s.level k) steps)
 
 -- the trail with one more step, whose level is the present one from then on
-abbrev pub grown : TrailData → Step → TrailData
+abbrev pub grown : TrailData → TrailStep → TrailData
 grown t s = record t { level = s.level; steps = t.steps ++ s ∷ [] }
 
 -- the trail with a literal at a level of its own
@@ -136,6 +136,6 @@ pub record IsNext (t : TrailData) (l : Literal) : Type 0 where
 pub record HasGrown (t u : TrailData) : Type 0 where
   pub vars : u.vars ≡ t.vars
   pub level : u.level ≡ t.level
-  pub more : List Step
+  pub more : List TrailStep
   pub steps : u.steps ≡ t.steps ++ more
-  pub at_level : All (λ (s : Step). s.level ≡ t.level) more
+  pub at_level : All (λ (s : TrailStep). s.level ≡ t.level) more

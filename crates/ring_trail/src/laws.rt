@@ -3,16 +3,16 @@ ghost use Rattle.std.specs.Prelude.{◌≡◌, ◌≤◌, ◌<◌, ℕ, Bool, Li
 ghost use Rattle.sat_words.specs.Literal.{Literal};
 ghost use Rattle.sat_words.specs.Clause.{has};
 ghost use Rattle.sat_words.specs.declared.shared.Cref.{Cref};
-ghost use Rattle.ring_trail.specs.declared.step.Step.{Step};
+ghost use Rattle.ring_trail.specs.declared.step.TrailStep.{TrailStep};
 ghost use Rattle.ring_trail.specs.TrailData.{TrailData, IsTrail, HasGrown, IsPlaceOf, HasNoPlace, step_at, lit_at, level_at, value_of, level_of, reason_of, step_of, decided, assigned, cut_back};
 ghost use Rattle.ring_trail.specs.Reasoned.{Held, IsReasoned, KeepsReasons, ForcesAt};
 ghost use Rattle.ring_trail.specs.Closed.{IsClosed};
 
 /// A variable has a value exactly where its literal stands at some place, and the step there is the variable's.
 pub fn places_are_values()
-    ensures none { (steps : List Step) (v : ℕ) → value_of steps v ≡ None → HasNoPlace steps v }
-    ensures free { (steps : List Step) (v : ℕ) → HasNoPlace steps v → step_of steps v ≡ None }
-    ensures some { (steps : List Step) (v : ℕ) (b : Bool) → value_of steps v ≡ Some b → (p : ℕ) × IsPlaceOf steps v p × (not (lit_at steps p).neg ≡ b) }
+    ensures none { (steps : List TrailStep) (v : ℕ) → value_of steps v ≡ None → HasNoPlace steps v }
+    ensures free { (steps : List TrailStep) (v : ℕ) → HasNoPlace steps v → step_of steps v ≡ None }
+    ensures some { (steps : List TrailStep) (v : ℕ) (b : Bool) → value_of steps v ≡ Some b → (p : ℕ) × IsPlaceOf steps v p × (not (lit_at steps p).neg ≡ b) }
     ensures step { (t : TrailData) (v p : ℕ) → IsTrail t → IsPlaceOf t.steps v p → step_of t.steps v ≡ Some (step_at t.steps p) }
 {}
 
@@ -49,7 +49,7 @@ pub fn going_back_keeps_places()
 /// What is held and seen may change: the reasons stay where each is held as before, or is that of a literal at level 0
 /// whose unit is seen.
 pub fn more_held_keeps_reasons()
-    ensures { (held more : Held) (seen told : List Literal) (steps : List Step) → IsReasoned held seen steps
+    ensures { (held more : Held) (seen told : List Literal) (steps : List TrailStep) → IsReasoned held seen steps
         → KeepsReasons held more told steps → ((l : Literal) → has seen l ≡ true → has told l ≡ true) → IsReasoned more told steps }
 {}
 

@@ -15,5 +15,5 @@ pub use laws::{
     going_back_keeps_places, going_back_keeps_reasons, growth_is_by_assignments,
     more_held_keeps_reasons, places_are_values,
 };
-pub use step::Step;
+pub use step::TrailStep;
 pub use trail::Trail;

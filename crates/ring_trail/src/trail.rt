@@ -5,7 +5,7 @@ ghost use Rattle.std.specs.Vec.{vec_capacity};
 ghost use Rattle.ring_trail.specs.TrailData.{TrailData, IsTrail, IsNext, IsPlaceOf, HasNoPlace, IsTrueOn, IsFalseOn, value_of, level_of, reason_of, lit_at, level_at, reason_at, start_of, decided, assigned, cut_back};
 ghost use Rattle.ring_trail.specs.Inside.{IsKept, ArePlaces};
 
-use crate::step::Step;
+use crate::step::TrailStep;
 use sat_words::{Cref, Lit, Values};
 use std::alloc::{AllocError, Global};
 use std::marker::Model;
@@ -16,7 +16,7 @@ use std::marker::Model;
 /// Level 0 holds what is true without a decision; each decision opens the next level. No call but `new` takes memory.
 #[derive(Drop)]
 pub struct Trail {
-    steps: Vec<Step>,
+    steps: Vec<TrailStep>,
     values: Values,
     places: Vec<u32>,
     starts: Vec<usize>,
@@ -66,7 +66,7 @@ impl Trail {
     }
 
     /// The present level: how many decisions stand.
-    pub fn present(&self) -> u32
+    pub fn decision_level(&self) -> u32
         ensures level { result ≡ self.now.level }
         ensures trail { IsTrail self.now }
     {
@@ -213,7 +213,7 @@ impl Trail {
     }
 
     /// The first literal that wasn't propagated is.
-    pub fn pass(&mut self)
+    pub fn advance_head(&mut self)
         requires { self.old.done < length self.old.steps }
         ensures done { self.new ≡ record self.old { done = self.old.done + 1 } }
         ensures trail { IsTrail self.new }
@@ -228,9 +228,9 @@ impl Trail {
         ensures step { self.new ≡ decided self.old lit }
         ensures trail { IsTrail self.new }
     {
-        let level = self.present() + 1;
+        let level = self.decision_level() + 1;
         let start = self.steps.len();
-        let step = Step {
+        let step = TrailStep {
             lit,
             level,
             reason: None,
@@ -246,8 +246,8 @@ impl Trail {
         ensures step { self.new ≡ assigned self.old lit reason }
         ensures trail { IsTrail self.new }
     {
-        let level = self.present();
-        let step = Step { lit, level, reason };
+        let level = self.decision_level();
+        let step = TrailStep { lit, level, reason };
         put(&mut self.steps, &mut self.values, &mut self.places, step);
     }
 
@@ -271,7 +271,7 @@ impl Trail {
 }
 
 /// Makes a literal true.
-fn put(steps: &mut Vec<Step>, values: &mut Values, places: &mut Vec<u32>, step: Step)
+fn put(steps: &mut Vec<TrailStep>, values: &mut Values, places: &mut Vec<u32>, step: TrailStep)
     requires kept { IsKept steps.old.items values.old }
     requires placed { ArePlaces steps.old.items places.old.items }
     requires sizes { length places.old.items ≡ length values.old }
@@ -294,7 +294,7 @@ fn put(steps: &mut Vec<Step>, values: &mut Values, places: &mut Vec<u32>, step: 
 }
 
 /// Takes the steps from a place on.
-fn undo(steps: &mut Vec<Step>, values: &mut Values, keep: usize)
+fn undo(steps: &mut Vec<TrailStep>, values: &mut Values, keep: usize)
     requires kept { IsKept steps.old.items values.old }
     requires low { keep ≤ length steps.old.items }
     ensures steps { steps.new.items ≡ take keep steps.old.items }

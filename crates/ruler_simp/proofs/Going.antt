@@ -9,8 +9,8 @@ use Rattle.simp_base.specs.declared.work.Run.{Run}
 use Rattle.simp_base.specs.declared.work.Run.TheVariants.{Done, Refuted}
 use Rattle.simp_base.proofs.LiftSteps.{lifted_along, lifted_self}
 use Rattle.simp_base.proofs.Stopping.{cause_after}
-use Rattle.ruler_simp.specs.declared.passes.Pass.{Pass}
-use Rattle.ruler_simp.specs.declared.passes.Pass.TheVariants.{Units, Subsumption, Equivalence, Elimination}
+use Rattle.ruler_simp.specs.declared.passes.Simplifier.{Simplifier}
+use Rattle.ruler_simp.specs.declared.passes.Simplifier.TheVariants.{Units, Subsumption, Equivalence, Elimination}
 use Rattle.ruler_simp.specs.Passes.{Ends}
 
 -- a simplifier may run
@@ -49,7 +49,7 @@ comes_along a b c (Ok Refuted) f h = record { ended = h.ended; unspent = h.unspe
 comes_along a b c (Err stop) f h = cause_after a b c stop f.quiet h
 
 -- one simplifier
-pub pass_comes : (pass : Pass) (old new : WorkState) (result : Result Run LineStop) → Ends pass old new result → Comes old new result
+pub pass_comes : (pass : Simplifier) (old new : WorkState) (result : Result Run LineStop) → Ends pass old new result → Comes old new result
 pass_comes Units old new (Ok Done) h = record { ready = record { going = h.going; unspent = h.unspent }; quiet = h.quiet; vars = h.vars; lifted = h.lifted }
 pass_comes Units old new (Ok Refuted) h = record { ended = h.ended.ended; unspent = h.ended.unspent; quiet = h.ended.quiet }
 pass_comes Units old new (Err stop) h = h

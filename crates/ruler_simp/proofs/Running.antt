@@ -8,8 +8,8 @@ use Rattle.simp_base.specs.Log.{Stands, Continues}
 use Rattle.simp_base.specs.declared.work.Run.{Run}
 use Rattle.simp_base.specs.declared.work.Run.TheVariants.{Done}
 use Rattle.simp_units.specs.Ends.{Cleaned}
-use Rattle.ruler_simp.specs.declared.passes.Pass.{Pass}
-use Rattle.ruler_simp.specs.declared.passes.Pass.TheVariants.{Units, Subsumption, Equivalence, Elimination}
+use Rattle.ruler_simp.specs.declared.passes.Simplifier.{Simplifier}
+use Rattle.ruler_simp.specs.declared.passes.Simplifier.TheVariants.{Units, Subsumption, Equivalence, Elimination}
 use Rattle.ruler_simp.specs.Passes.{Ends, RunTo, round_passes}
 use Rattle.ruler_simp.specs.Rounds.{RoundsTo, SimplifiedTo}
 use Rattle.ruler_simp.proofs.Going.{IsReady, GoesOn, Comes, goes_self, comes_along, pass_comes}
@@ -35,12 +35,12 @@ idle_comes a c result entries r h = subst (λ (w : WorkState). Comes a w result)
 
 -- In a row
 
-pub row_log : (passes : List Pass) (a c : WorkState) (result : End) (entries : List Entry) → RunTo passes a c result entries → Continues entries a c
+pub row_log : (passes : List Simplifier) (a c : WorkState) (result : End) (entries : List Entry) → RunTo passes a c result entries → Continues entries a c
 row_log [] a c result entries h = idle a c result entries h
 row_log (p ∷ ps) a c result entries (inl h) = h.0.log
 row_log (p ∷ ps) a c result entries (inr (b, fs, gs, h, rest, e)) = subst (λ (es : List Entry). Continues es a c) (sym e) (continues_along a b c fs gs h.log (row_log ps b c result gs rest))
 
-pub row_comes : (passes : List Pass) (a c : WorkState) (result : End) (entries : List Entry) → IsReady a → RunTo passes a c result entries → Comes a c result
+pub row_comes : (passes : List Simplifier) (a c : WorkState) (result : End) (entries : List Entry) → IsReady a → RunTo passes a c result entries → Comes a c result
 row_comes [] a c result entries r h = idle_comes a c result entries r h
 row_comes (p ∷ ps) a c result entries r (inl h) = pass_comes p a c result h.0.ends
 row_comes (p ∷ ps) a c result entries r (inr (b, fs, gs, h, rest, e)) =
@@ -48,12 +48,12 @@ row_comes (p ∷ ps) a c result entries r (inr (b, fs, gs, h, rest, e)) =
     comes_along a b c result f (row_comes ps b c result gs f.ready rest)
 
 -- the first of them
-pub row_first : (p : Pass) (ps : List Pass) (a c : WorkState) (entries : List Entry) → RunTo (p ∷ ps) a c (Ok Done) entries → (b : WorkState) × Ends p a b (Ok Done)
+pub row_first : (p : Simplifier) (ps : List Simplifier) (a c : WorkState) (entries : List Entry) → RunTo (p ∷ ps) a c (Ok Done) entries → (b : WorkState) × Ends p a b (Ok Done)
 row_first p ps a c entries (inl h) = absurd (h.1 refl)
 row_first p ps a c entries (inr (b, fs, gs, h, rest, e)) = (b, h.ends)
 
 -- the last of them
-pub row_last : (ps : List Pass) (p : Pass) (a c : WorkState) (entries : List Entry) → RunTo (ps ++ p ∷ []) a c (Ok Done) entries → (b : WorkState) × Ends p b c (Ok Done)
+pub row_last : (ps : List Simplifier) (p : Simplifier) (a c : WorkState) (entries : List Entry) → RunTo (ps ++ p ∷ []) a c (Ok Done) entries → (b : WorkState) × Ends p b c (Ok Done)
 row_last [] p a c entries (inl h) = absurd (h.1 refl)
 row_last [] p a c entries (inr (b, fs, gs, h, rest, e)) = (a, subst (λ (w : WorkState). Ends p a w (Ok Done)) (sym rest.1) h.ends)
 row_last (q ∷ ps) p a c entries (inl h) = absurd (h.1 refl)

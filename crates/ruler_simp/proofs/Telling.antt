@@ -30,7 +30,7 @@ use Rattle.simp_base.proofs.Lists.{All_In}
 use Rattle.ruler_simp.specs.declared.ruling.Simplified.{Simplified}
 use Rattle.ruler_simp.specs.declared.ruling.Outcome.{Outcome}
 use Rattle.ruler_simp.specs.declared.ruling.Outcome.TheVariants.{Simplified as LeftOver, Refuted as NoModel}
-use Rattle.ruler_simp.specs.declared.passes.Pass.TheVariants.{Units}
+use Rattle.ruler_simp.specs.declared.passes.Simplifier.TheVariants.{Units}
 use Rattle.ruler_simp.specs.Passes.{RunTo}
 use Rattle.ruler_simp.specs.Rounds.{SimplifiedTo, WasSimplified}
 use Rattle.ruler_simp.specs.Left.{start_of, left_clauses, IsLeft, IsTaken}

@@ -5,7 +5,7 @@ use Rattle.rup_model.specs.declared.journal.Entry.{Entry}
 use Rattle.simp_base.specs.WorkState.{WorkState, IsWork}
 use Rattle.simp_base.specs.Log.{KeepsLog}
 use Rattle.simp_base.specs.declared.work.Run.TheVariants.{Done}
-use Rattle.ruler_simp.specs.declared.passes.Pass.{Pass}
+use Rattle.ruler_simp.specs.declared.passes.Simplifier.{Simplifier}
 use Rattle.ruler_simp.specs.Passes.{Ends, RunTo, WereRun, round_passes}
 use Rattle.ruler_simp.specs.Rounds.{WroteNothing, RoundsTo, WereRounds}
 use Rattle.ruler_simp.proofs.Going.{IsReady, GoesOn, pass_comes}
@@ -14,17 +14,17 @@ use Rattle.ruler_simp.proofs.Running.{End, row_comes}
 -- In a row
 
 -- the rest is to run: whatever it comes to, all of them come to
-pub record Row (passes rest : List Pass) (start now : WorkState) : Type 0 where
+pub record Row (passes rest : List Simplifier) (start now : WorkState) : Type 0 where
   pub ready : IsReady now
   pub work : IsWork now
   pub before : List Entry
   pub leads : (new : WorkState) (result : End) (later : List Entry) → RunTo rest now new result later → RunTo passes start new result (before ++ later)
 
-pub row_start : (passes : List Pass) (w : WorkState) → IsReady w → IsWork w → Row passes passes w w
+pub row_start : (passes : List Simplifier) (w : WorkState) → IsReady w → IsWork w → Row passes passes w w
 row_start passes w ready kept = record { ready = ready; work = kept; before = []; leads = λ new result later h. h }
 
 -- one is done
-pub row_next : (passes : List Pass) (p : Pass) (rest : List Pass) (start now new : WorkState) → Row passes (p ∷ rest) start now → Ends p now new (Ok Done) → KeepsLog now new → IsWork new → Row passes rest start new
+pub row_next : (passes : List Simplifier) (p : Simplifier) (rest : List Simplifier) (start now new : WorkState) → Row passes (p ∷ rest) start now → Ends p now new (Ok Done) → KeepsLog now new → IsWork new → Row passes rest start new
 row_next passes p rest start now new r ends log kept = (
     let goes : GoesOn now new = pass_comes p now new (Ok Done) ends in
     record {
@@ -36,11 +36,11 @@ row_next passes p rest start now new r ends log kept = (
     })
 
 -- one is not
-pub row_stop : (passes : List Pass) (p : Pass) (rest : List Pass) (start now new : WorkState) (result : End) → Row passes (p ∷ rest) start now → Ends p now new result → KeepsLog now new → IsWork new → result ≢ Ok Done → WereRun passes start new result
+pub row_stop : (passes : List Simplifier) (p : Simplifier) (rest : List Simplifier) (start now new : WorkState) (result : End) → Row passes (p ∷ rest) start now → Ends p now new result → KeepsLog now new → IsWork new → result ≢ Ok Done → WereRun passes start new result
 row_stop passes p rest start now new result r ends log kept ne = (r.before ++ log.0, r.leads new result log.0 (inl (record { ends = ends; log = log.1; work = kept }, ne)))
 
 -- all are
-pub row_end : (passes : List Pass) (start now : WorkState) → Row passes [] start now → WereRun passes start now (Ok Done)
+pub row_end : (passes : List Simplifier) (start now : WorkState) → Row passes [] start now → WereRun passes start now (Ok Done)
 row_end passes start now r = (r.before ++ [], r.leads now (Ok Done) [] (refl, refl, refl))
 
 -- In rounds

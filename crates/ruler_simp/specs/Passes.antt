@@ -10,32 +10,32 @@ use Rattle.simp_units.specs.Ends.{Ends as UnitsEnds}
 use Rattle.simp_subsume.specs.Ends.{Ends as SubsumptionEnds}
 use Rattle.simp_equiv.specs.Ends.{Ends as EquivalenceEnds}
 use Rattle.simp_elim.specs.Ends.{Ends as EliminationEnds}
-use Rattle.ruler_simp.specs.declared.passes.Pass.{Pass}
-use Rattle.ruler_simp.specs.declared.passes.Pass.TheVariants.{Units, Subsumption, Equivalence, Elimination}
+use Rattle.ruler_simp.specs.declared.passes.Simplifier.{Simplifier}
+use Rattle.ruler_simp.specs.declared.passes.Simplifier.TheVariants.{Units, Subsumption, Equivalence, Elimination}
 
 -- how a run of the simplifier ends
-abbrev pub Ends : Pass → WorkState → WorkState → Result Run LineStop → Type 0
+abbrev pub Ends : Simplifier → WorkState → WorkState → Result Run LineStop → Type 0
 Ends Units old new result = UnitsEnds old new result
 Ends Subsumption old new result = SubsumptionEnds old new result
 Ends Equivalence old new result = EquivalenceEnds old new result
 Ends Elimination old new result = EliminationEnds old new result
 
 -- it ended so, and the journal has gained these entries
-pub record Ran (pass : Pass) (old new : WorkState) (result : Result Run LineStop) (entries : List Entry) : Type 0 where
+pub record Ran (pass : Simplifier) (old new : WorkState) (result : Result Run LineStop) (entries : List Entry) : Type 0 where
   pub ends : Ends pass old new result
   pub log : Continues entries old new
   pub work : IsWork new
 
 -- the simplifiers ran in this order, each over what the one before left; the first that is not done ends it
-abbrev pub RunTo : List Pass → WorkState → WorkState → Result Run LineStop → List Entry → Type 0
+abbrev pub RunTo : List Simplifier → WorkState → WorkState → Result Run LineStop → List Entry → Type 0
 RunTo [] old new result entries = (result ≡ Ok Done) × (new ≡ old) × (entries ≡ [])
 RunTo (pass ∷ rest) old new result entries = (Ran pass old new result entries × (result ≢ Ok Done))
     ⊎ ((mid : WorkState) × (first : List Entry) × (later : List Entry) × Ran pass old mid (Ok Done) first × RunTo rest mid new result later × (entries ≡ first ++ later))
 
 -- with some entries
-abbrev pub WereRun : List Pass → WorkState → WorkState → Result Run LineStop → Type 0
+abbrev pub WereRun : List Simplifier → WorkState → WorkState → Result Run LineStop → Type 0
 WereRun passes old new result = (entries : List Entry) × RunTo passes old new result entries
 
 -- those of a round, in their order
-abbrev pub round_passes : List Pass
+abbrev pub round_passes : List Simplifier
 round_passes = Units ∷ Subsumption ∷ Equivalence ∷ Elimination ∷ Units ∷ []

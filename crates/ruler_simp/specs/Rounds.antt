@@ -5,7 +5,7 @@ use Rattle.drat_text.specs.declared.stop.LineStop.{LineStop}
 use Rattle.simp_base.specs.WorkState.{WorkState}
 use Rattle.simp_base.specs.declared.work.Run.{Run}
 use Rattle.simp_base.specs.declared.work.Run.TheVariants.{Done}
-use Rattle.ruler_simp.specs.declared.passes.Pass.TheVariants.{Units}
+use Rattle.ruler_simp.specs.declared.passes.Simplifier.TheVariants.{Units}
 use Rattle.ruler_simp.specs.Passes.{RunTo, round_passes}
 
 -- no line was written

@@ -6,5 +6,5 @@ mod rounds;
 mod ruling;
 mod starts;
 
-pub use passes::Pass;
+pub use passes::Simplifier;
 pub use ruling::{Outcome, Simplified, simplify};

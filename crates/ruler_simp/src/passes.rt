@@ -9,7 +9,7 @@ use simp_base::{Run, Work};
 
 /// A simplifier that runs over the whole work.
 #[derive(Clone, Copy, PartialEq, Eq, Debug)]
-pub enum Pass {
+pub enum Simplifier {
     /// Units are propagated, and taken out of the clauses.
     Units,
     /// Clauses that contain others are deleted or made shorter.
@@ -20,7 +20,7 @@ pub enum Pass {
     Elimination,
 }
 
-impl Pass {
+impl Simplifier {
     /// Runs the simplifier until nothing is left for it to do. After an error the work serves only to give the line output
     /// back.
     pub(crate) fn run<L: LineOut>(self, work: &mut Work<L>) -> Result<Run, LineStop>
@@ -31,10 +31,10 @@ impl Pass {
         ensures work { IsWork work.new }
     {
         match self {
-            Pass::Units => simp_units::run(work),
-            Pass::Subsumption => simp_subsume::run(work),
-            Pass::Equivalence => simp_equiv::run(work),
-            Pass::Elimination => simp_elim::run(work),
+            Simplifier::Units => simp_units::run(work),
+            Simplifier::Subsumption => simp_subsume::run(work),
+            Simplifier::Equivalence => simp_equiv::run(work),
+            Simplifier::Elimination => simp_elim::run(work),
         }
     }
 }

@@ -8,12 +8,12 @@ ghost use Rattle.simp_base.specs.WorkState.{IsWork};
 ghost use Rattle.ruler_simp.specs.Passes.{WereRun, round_passes};
 ghost use Rattle.ruler_simp.specs.Rounds.{WereRounds, WasSimplified};
 
-use crate::passes::Pass;
+use crate::passes::Simplifier;
 use drat_text::{LineOut, LineStop};
 use simp_base::{Run, Work};
 
 /// Runs the simplifiers one after another, until one is not done.
-fn run_all<L: LineOut>(work: &mut Work<L>, passes: &[Pass]) -> Result<Run, LineStop>
+fn run_all<L: LineOut>(work: &mut Work<L>, passes: &[Simplifier]) -> Result<Run, LineStop>
     requires unspent { work.old.output.spent ≡ false }
     requires going { work.old.ended ≡ false }
     requires work { IsWork work.old }
@@ -41,11 +41,11 @@ fn run_round<L: LineOut>(work: &mut Work<L>) -> Result<Run, LineStop>
     run_all(
         work,
         &[
-            Pass::Units,
-            Pass::Subsumption,
-            Pass::Equivalence,
-            Pass::Elimination,
-            Pass::Units,
+            Simplifier::Units,
+            Simplifier::Subsumption,
+            Simplifier::Equivalence,
+            Simplifier::Elimination,
+            Simplifier::Units,
         ],
     )
 }
@@ -83,7 +83,7 @@ pub(crate) fn run<L: LineOut>(work: &mut Work<L>, rounds: u32) -> Result<Run, Li
     ensures work { IsWork work.new }
 {
     if rounds == 0 {
-        run_all(work, &[Pass::Units])
+        run_all(work, &[Simplifier::Units])
     } else {
         run_rounds(work, rounds)
     }

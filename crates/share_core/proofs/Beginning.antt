@@ -9,7 +9,7 @@ use Rattle.sat_words.specs.Clause.{InOrder, clause_of}
 use Rattle.sat_words.proofs.Insertion.{clause_of_in_order}
 use Rattle.rup_model.specs.Journal.{formula_clause}
 use Rattle.share_core.specs.declared.stored.ClauseAt.{ClauseAt}
-use Rattle.share_core.specs.declared.ring.Ring.{Ring}
+use Rattle.share_core.specs.declared.ring.RingState.{RingState}
 use Rattle.share_core.specs.State.{CoreOpening, IsCoreOpening, start_cell, opened}
 use Rattle.share_core.specs.Sound.{Sound}
 use Rattle.share_core.specs.Machine.{CoreData, state_of, Logged, Kept, cell_in, no_ring, part_of, start_stored}
@@ -72,7 +72,7 @@ new_data o = record {
 pub new_shown : (o : CoreOpening) (d : CoreData) → o.journal ≡ [] → d ≡ new_data o → state_of d ≡ opened o
 new_shown o d none is = ap state_of is ∙ states_same (state_of (new_data o)) (opened o)
     (let e = count_all o.rings no_ring in λ i. record { formula = o.formula; rings = e i; journal = sym none i; starts = o.starts; units = o.units })
-    (sym none) (cells_open o.rings o.starts) (λ r. ap (λ (x : Ring). x.granted) (same_all o.rings no_ring r)) (λ r. ap (part_of r []) (same_all o.rings no_ring r)) (λ k. same_all (4 * (o.rings * o.rings)) 0 k) refl refl refl
+    (sym none) (cells_open o.rings o.starts) (λ r. ap (λ (x : RingState). x.granted) (same_all o.rings no_ring r)) (λ r. ap (part_of r []) (same_all o.rings no_ring r)) (λ k. same_all (4 * (o.rings * o.rings)) 0 k) refl refl refl
 
 pub new_kept : (o : CoreOpening) (d : CoreData) → IsCoreOpening o → o.journal ≡ [] → d ≡ new_data o → Kept d
 new_kept o d op none is = record {

@@ -15,7 +15,7 @@ use Rattle.share_core.specs.declared.event.Event.TheVariants.{AddClause, OpenCel
 use Rattle.share_core.specs.declared.stored.ClauseAt.{ClauseAt}
 use Rattle.share_core.specs.declared.stored.PutNote.{PutNote}
 use Rattle.share_core.specs.declared.stored.StoredCell.{StoredCell}
-use Rattle.share_core.specs.declared.ring.Ring.{Ring}
+use Rattle.share_core.specs.declared.ring.RingState.{RingState}
 use Rattle.share_core.specs.State.{without_at, with_cell, CoreOpening, Part, State, count_at, number_at, clause_at, slot_of}
 use Rattle.share_core.specs.Events.{made_part, buried_part, opened_part, shared_part, dropped_part, put_part, got_part, recounted as recounts, exchanged, after}
 use Rattle.share_core.specs.Sound.{placed}
@@ -34,14 +34,14 @@ pub states_same : (c d : State) → c.opening ≡ d.opening → c.journal ≡ d.
 states_same c d o j f g p s u t q = λ i. record { opening = o i; journal = j i; cell = λ a. f a i; granted = λ r. g r i; part = λ r. p r i; slot = λ k. s k i; units = u i; turn = t i; stop = q i }
 
 -- the part of ring r alone
-pub ring_parts : (rings : List Ring) (r : ℕ) (x : Ring) (J : List Entry) (p : Part) → r < length rings → part_of r J x ≡ p
+pub ring_parts : (rings : List RingState) (r : ℕ) (x : RingState) (J : List Entry) (p : Part) → r < length rings → part_of r J x ≡ p
     → (i : ℕ) → part_of i J (ring_in (set rings r x) i) ≡ put (λ k. part_of k J (ring_in rings k)) r p i
 ring_parts rings r x J p lt is i = sym (at_put (λ k. part_of k J (ring_in rings k)) r p (λ (q : Part). q ≡ part_of i J (ring_in (set rings r x) i)) i
     (λ e. sym is ∙ ap (part_of r J) (sym (get_or-set_same rings r x no_ring lt)) ∙ (λ j. part_of (sym e j) J (ring_in (set rings r x) (sym e j))))
     (λ ne. ap (part_of i J) (sym (get_or-set_other rings r i x no_ring ne))))
 
 -- and one more entry of it
-pub ring_writes : (rings : List Ring) (r : ℕ) (x : Ring) (J : List Entry) (e : Entry) (p : Part) → r < length rings → ring_of e ≡ r → part_of r (J ++ e ∷ []) x ≡ p
+pub ring_writes : (rings : List RingState) (r : ℕ) (x : RingState) (J : List Entry) (e : Entry) (p : Part) → r < length rings → ring_of e ≡ r → part_of r (J ++ e ∷ []) x ≡ p
     → (i : ℕ) → part_of i (J ++ e ∷ []) (ring_in (set rings r x) i) ≡ put (λ k. part_of k J (ring_in rings k)) r p i
 ring_writes rings r x J e p lt own is i = sym (at_put (λ k. part_of k J (ring_in rings k)) r p (λ (q : Part). q ≡ part_of i (J ++ e ∷ []) (ring_in (set rings r x) i)) i
     (λ h. sym is ∙ ap (part_of r (J ++ e ∷ [])) (sym (get_or-set_same rings r x no_ring lt)) ∙ (λ j. part_of (sym h j) (J ++ e ∷ []) (ring_in (set rings r x) (sym h j))))
@@ -49,20 +49,20 @@ ring_writes rings r x J e p lt own is i = sym (at_put (λ k. part_of k J (ring_i
     (λ j. record { ring = i; held = y.held; making = y.making; waiting = y.waiting; seen = y.seen; shared = y.shared; wrote = sym w j; puts = y.puts })
     ∙ ap (part_of i (J ++ e ∷ [])) (sym (get_or-set_other rings r i x no_ring ne))))
 
-pub grants_same : (rings : List Ring) (r : ℕ) (x : Ring) → r < length rings → x.granted ≡ (ring_in rings r).granted → (i : ℕ) → (ring_in (set rings r x) i).granted ≡ (ring_in rings i).granted
+pub grants_same : (rings : List RingState) (r : ℕ) (x : RingState) → r < length rings → x.granted ≡ (ring_in rings r).granted → (i : ℕ) → (ring_in (set rings r x) i).granted ≡ (ring_in rings i).granted
 grants_same rings r x lt same i = dite (ℕ_discrete i r)
-    (λ e. ap (λ (k : ℕ). (ring_in (set rings r x) k).granted) e ∙ ap (λ (y : Ring). y.granted) (get_or-set_same rings r x no_ring lt) ∙ same ∙ ap (λ (k : ℕ). (ring_in rings k).granted) (sym e))
-    (λ ne. ap (λ (y : Ring). y.granted) (get_or-set_other rings r i x no_ring ne))
+    (λ e. ap (λ (k : ℕ). (ring_in (set rings r x) k).granted) e ∙ ap (λ (y : RingState). y.granted) (get_or-set_same rings r x no_ring lt) ∙ same ∙ ap (λ (k : ℕ). (ring_in rings k).granted) (sym e))
+    (λ ne. ap (λ (y : RingState). y.granted) (get_or-set_other rings r i x no_ring ne))
 
 pub slots_put : (slots : List ℕ) (s v : ℕ) → s < length slots → (k : ℕ) → get_or (set slots s v) k 0 ≡ put (λ i. get_or slots i 0) s v k
 slots_put slots s v lt k = sym (at_put (λ i. get_or slots i 0) s v (λ (q : ℕ). q ≡ get_or (set slots s v) k 0) k
     (λ e. sym (get_or-set_same slots s v 0 lt) ∙ ap (λ (i : ℕ). get_or (set slots s v) i 0) (sym e))
     (λ ne. sym (get_or-set_other slots s k v 0 ne)))
 
-opening_same : (d : CoreData) (r : ℕ) (x : Ring) → ◌≡◌ {A = CoreOpening} (record { formula = d.formula; rings = length (set d.rings r x); journal = []; starts = d.starts; units = d.first }) (state_of d).opening
+opening_same : (d : CoreData) (r : ℕ) (x : RingState) → ◌≡◌ {A = CoreOpening} (record { formula = d.formula; rings = length (set d.rings r x); journal = []; starts = d.starts; units = d.first }) (state_of d).opening
 opening_same d r x = let e = length-set d.rings r x in λ i. record { formula = d.formula; rings = e i; journal = []; starts = d.starts; units = d.first }
 
-module _ (d : CoreData) (r : ℕ) (x : Ring) (p : Part) (lt : r < length d.rings) (same : x.granted ≡ (ring_in d.rings r).granted) where
+module _ (d : CoreData) (r : ℕ) (x : RingState) (p : Part) (lt : r < length d.rings) (same : x.granted ≡ (ring_in d.rings r).granted) where
   pub recounted_shown : (a n : ℕ) → part_of r d.journal x ≡ p → state_of (record d { cells = recounted a n d.cells; rings = set d.rings r x }) ≡ recounts (state_of d) r a n p
   recounted_shown a n is = states_same (state_of (record d { cells = recounted a n d.cells; rings = set d.rings r x })) (recounts (state_of d) r a n p) (opening_same d r x) refl (cell_recounted a n d.cells) (grants_same d.rings r x lt same)
       (ring_parts d.rings r x d.journal p lt is) (λ k. refl) refl refl refl
@@ -83,7 +83,7 @@ module _ (d : CoreData) (r : ℕ) (x : Ring) (p : Part) (lt : r < length d.rings
         (opening_same d r x) refl (cell_less a d.cells) (grants_same d.rings r x lt same) (ring_writes d.rings r x d.journal e p lt own is) (λ k. refl) refl refl refl
 
 -- The events that change cells or slots, over the lists of a core
-module _ (d : CoreData) (r : ℕ) (m : Ring) (lt : r < length d.rings) (own : m ≡ get_or d.rings r m) where
+module _ (d : CoreData) (r : ℕ) (m : RingState) (lt : r < length d.rings) (own : m ≡ get_or d.rings r m) where
   mine : m ≡ ring_in d.rings r
   mine = own ∙ in_range d.rings r m no_ring lt
 

@@ -10,7 +10,7 @@ use Rattle.share_core.specs.declared.event.Stop.{Stop}
 use Rattle.share_core.specs.declared.stored.ClauseAt.{ClauseAt}
 use Rattle.share_core.specs.declared.stored.Cell.{Cell}
 use Rattle.share_core.specs.declared.stored.StoredCell.{StoredCell}
-use Rattle.share_core.specs.declared.ring.Ring.{Ring}
+use Rattle.share_core.specs.declared.ring.RingState.{RingState}
 use Rattle.share_core.specs.declared.progress.Origin.{Origin}
 use Rattle.share_core.specs.declared.progress.Progress.{Progress}
 use Rattle.share_core.specs.State.{CoreOpening, Part, State}
@@ -43,15 +43,15 @@ recounted a n (x ∷ xs) = if x.address == a then opened_cell n x ∷ xs else x 
 -- Rings
 
 -- a ring before its first step
-abbrev pub no_ring : Ring
+abbrev pub no_ring : RingState
 no_ring = record { granted = false; held = []; making = []; waiting = []; seen = []; shared = 0; puts = [] }
 
 -- the ring with this number
-abbrev pub ring_in : List Ring → ℕ → Ring
+abbrev pub ring_in : List RingState → ℕ → RingState
 ring_in rings r = slice_index_or rings r no_ring
 
 -- its part; what it wrote stands in the journal
-abbrev pub part_of : ℕ → List Entry → Ring → Part
+abbrev pub part_of : ℕ → List Entry → RingState → Part
 part_of r J x = record { ring = r; held = x.held; making = x.making; waiting = x.waiting; seen = x.seen; shared = x.shared; wrote = placed r 0 J; puts = x.puts }
 
 -- Cores
@@ -65,7 +65,7 @@ pub record CoreData : Type 0 where
   pub journal : List Entry
   pub lines : List Line
   pub cells : List StoredCell
-  pub rings : List Ring
+  pub rings : List RingState
   pub slots : List ℕ
   pub units : List Literal
   pub turn : Option ℕ

@@ -9,7 +9,7 @@ ghost use Rattle.share_core.specs.Machine.{has_at, ring_in, data_of};
 
 use crate::event::Stop;
 use crate::items::{Items, copies};
-use crate::ring::{Ring, has_at};
+use crate::ring::{RingState, has_at};
 use crate::stored::{ClauseAt, StoredCell};
 use rup_model::{Entry, is_rup};
 use sat_words::{Formula, Line, Lit, Lits};
@@ -29,7 +29,7 @@ pub(crate) struct Progress {
     pub(crate) journal: Items<Entry>,
     pub(crate) lines: Items<Line>,
     pub(crate) cells: Vec<StoredCell>,
-    pub(crate) rings: Vec<Ring>,
+    pub(crate) rings: Vec<RingState>,
     pub(crate) slots: Vec<u64>,
     pub(crate) units: Items<Lit>,
     pub(crate) turn: Option<u32>,
@@ -61,7 +61,7 @@ impl Progress {
     }
 
     /// The ring with this number.
-    pub(crate) fn ring(&self, ring: u32) -> &Ring
+    pub(crate) fn ring(&self, ring: u32) -> &RingState
         requires { ring < length self.now.rings.items }
         ensures { result.now ≡ ring_in self.now.rings.items ring }
     {

@@ -10,7 +10,7 @@ use std::alloc::{AllocError, Global};
 
 /// What one ring has.
 #[derive(Drop)]
-pub(crate) struct Ring {
+pub(crate) struct RingState {
     /// Whether its grant was taken.
     pub(crate) granted: bool,
     /// The cells that it holds, each as often as it does.
@@ -27,12 +27,12 @@ pub(crate) struct Ring {
     pub(crate) puts: Items<PutNote>,
 }
 
-impl Ring {
+impl RingState {
     /// A ring before its first step.
-    pub(crate) fn new(alloc: Global) -> Ring
+    pub(crate) fn new(alloc: Global) -> RingState
         ensures { result ≡ no_ring }
     {
-        Ring {
+        RingState {
             granted: false,
             held: Items::new(alloc),
             making: Items::new(alloc),
@@ -44,9 +44,9 @@ impl Ring {
     }
 }
 
-impl Copied for Ring {
-    fn copied(&self, alloc: Global) -> Result<Ring, AllocError> {
-        Ok(Ring {
+impl Copied for RingState {
+    fn copied(&self, alloc: Global) -> Result<RingState, AllocError> {
+        Ok(RingState {
             granted: self.granted,
             held: self.held.copied(alloc)?,
             making: self.making.copied(alloc)?,

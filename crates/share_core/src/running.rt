@@ -12,7 +12,7 @@ use crate::cells::{count_of, number_of};
 use crate::event::{Event, Stop};
 use crate::items::Items;
 use crate::progress::{Origin, Progress};
-use crate::ring::{Ring, has_at, times_of};
+use crate::ring::{RingState, has_at, times_of};
 use crate::stored::{Cell, ClauseAt, StoredCell};
 use sat_words::{Clause, Formula, Line, Lit, Lits};
 use std::alloc::{AllocError, Global};
@@ -196,12 +196,12 @@ fn start_cells(
     Ok(cells)
 }
 
-fn blank_rings(alloc: Global, rings: u32) -> Result<Vec<Ring>, AllocError>
+fn blank_rings(alloc: Global, rings: u32) -> Result<Vec<RingState>, AllocError>
     ensures { IfOk result (λ all. all.items ≡ replicate rings no_ring) }
 {
     let mut all = Vec::new(alloc);
     for _ in 0..rings {
-        all.push(Ring::new(alloc))?;
+        all.push(RingState::new(alloc))?;
     }
     Ok(all)
 }

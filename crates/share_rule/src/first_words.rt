@@ -132,7 +132,7 @@ fn place_starts(
 }
 
 /// All words, with the holes that the start clauses leave and their addresses.
-pub(crate) fn lay(
+pub(crate) fn lay_out(
     alloc: Global,
     layout: Layout,
     start: &[(u64, Clause)],

@@ -8,7 +8,7 @@ ghost use Rattle.share_rule.specs.FirstWords.{starts_at, addresses, begun_with, 
 ghost use Rattle.share_rule.specs.Openings.{Opens};
 ghost use Rattle.share_rule.specs.Passes.{IsPassOf};
 
-use crate::first_words::lay;
+use crate::first_words::lay_out;
 use crate::plays::{Begins, Begun, OpenedWith};
 use crate::rule::Key;
 use crate::{Layout, Ledger, Pass, Shared};
@@ -71,7 +71,7 @@ pub fn make<B: Ledger>(
     ensures stopped { IfErr result (λ e. IsMakeStop layout start.now e.why) }
     ensures back { IfErr result (λ e. e.book ≡ book) }
 {
-    let (words, holes, cells) = match lay(alloc, layout, start, units) {
+    let (words, holes, cells) = match lay_out(alloc, layout, start, units) {
         Ok(laid) => laid,
         Err(why) => return Err(MakeStop { why, book }),
     };

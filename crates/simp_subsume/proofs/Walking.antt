@@ -13,7 +13,7 @@ use Rattle.simp_base.proofs.Long.{is_below}
 use Rattle.simp_subsume.specs.Related.{IsUnrelated}
 use Rattle.simp_subsume.specs.Walked.{PassesOver, Finds, FindsNegated, FindsAnother, IsStep, found_as}
 use Rattle.simp_subsume.specs.Compared.{IsRelation}
-use Rattle.simp_subsume.specs.declared.relation.Walk.{Walk}
+use Rattle.simp_subsume.specs.declared.relation.Comparison.{Comparison}
 use Rattle.simp_subsume.proofs.Fronts.{In_drop, In_take, take_or_drop, take_all, front, one_more, still, here}
 use Rattle.simp_subsume.proofs.Relating.{refuted, opposed, in_subsumes, strengthens_from, unrelated_by_one, unrelated_by_two}
 
@@ -49,7 +49,7 @@ vars_from_codes x m lt = by x.neg m.neg lt
 
 -- How far the walk has come: the literals found are among those seen but for the one that was flipped, whose negation is,
 -- and what was seen is of lower variables than what is looked for
-pub record Walked (c seen : List Literal) (w : Walk) : Type 0 where
+pub record Walked (c seen : List Literal) (w : Comparison) : Type 0 where
   pub within : w.found ≤ length c
   pub found : (k : Literal) → In k (take w.found c) → In k seen ⊎ (w.flipped ≡ Some k)
   pub flipped : (k : Literal) → w.flipped ≡ Some k → In k c × In (opposite k) seen
@@ -63,7 +63,7 @@ walked_none c d = record {
   below = λ x m i j. absurd i;
 }
 
-module _ (c d : List Literal) (ordered_c : InOrder c) (ordered_d : InOrder d) (proper : has_opposites c ≡ false) (w : Walk) where
+module _ (c d : List Literal) (ordered_c : InOrder c) (ordered_d : InOrder d) (proper : has_opposites c ≡ false) (w : Comparison) where
   -- All were found
 
   pub all_relation : (j : ℕ) → Walked c (take j d) w → length c ≤ w.found → IsRelation c d (found_as w.flipped)
@@ -180,7 +180,7 @@ module _ (c d : List Literal) (ordered_c : InOrder c) (ordered_d : InOrder d) (p
           (λ (e : get_or d j lit ≡ x). (let q : lit.var ≡ x.var = ap (λ (y : Literal). y.var) (at ∙ e) in let s = strictly_later m k in omega arith))
           (one_more d j lit jl x i)
 
-      pub walked_over : (new : Walk) → PassesOver w wanted lit new → Walked c (take (j + 1) d) new
+      pub walked_over : (new : Comparison) → PassesOver w wanted lit new → Walked c (take (j + 1) d) new
       walked_over new h = subst (Walked c (take (j + 1) d)) (sym h.walk) (record {
         within = t.within;
         found = λ k i. ⊎_elim (λ (s : In k (take j d)). inl (still d j k s)) (λ (q : w.flipped ≡ Some k). inr q) (t.found k i);
@@ -191,7 +191,7 @@ module _ (c d : List Literal) (ordered_c : InOrder c) (ordered_d : InOrder d) (p
             (one_more d j lit jl x i);
       })
 
-      pub walked_found : (new : Walk) → Finds w wanted lit new → Walked c (take (j + 1) d) new
+      pub walked_found : (new : Comparison) → Finds w wanted lit new → Walked c (take (j + 1) d) new
       walked_found new h = subst (Walked c (take (j + 1) d)) (sym h.walk) (record {
         within = omega arith;
         found = λ k i. ⊎_elim
@@ -202,7 +202,7 @@ module _ (c d : List Literal) (ordered_c : InOrder c) (ordered_d : InOrder d) (p
         below = found_below (ap (λ (y : Literal). y.var) h.is);
       })
 
-      pub walked_negated : (new : Walk) → FindsNegated w wanted lit new → Walked c (take (j + 1) d) new
+      pub walked_negated : (new : Comparison) → FindsNegated w wanted lit new → Walked c (take (j + 1) d) new
       walked_negated new h = subst (Walked c (take (j + 1) d)) (sym h.walk) (record {
         within = omega arith;
         found = λ k i. ⊎_elim
@@ -216,7 +216,7 @@ module _ (c d : List Literal) (ordered_c : InOrder c) (ordered_d : InOrder d) (p
           clash : (k : Literal) → w.flipped ≡ Some k → ⊥
           clash k q = let f = h.first in cc
 
-      pub walked_more : (new : Walk) → IsStep w wanted lit (Some new) → Walked c (take (j + 1) d) new
+      pub walked_more : (new : Comparison) → IsStep w wanted lit (Some new) → Walked c (take (j + 1) d) new
       walked_more new (inl h) = walked_over new h
       walked_more new (inr (inl h)) = walked_found new h
       walked_more new (inr (inr h)) = walked_negated new h

@@ -22,7 +22,7 @@ pub(crate) enum Relation {
 
 /// How far the walk has come.
 #[derive(Clone, Copy)]
-pub(crate) struct Walk {
+pub(crate) struct Comparison {
     /// How many literals of the clause were found, or their negations.
     pub(crate) found: usize,
     /// The literal of the clause whose negation was found.
@@ -31,7 +31,7 @@ pub(crate) struct Walk {
 
 /// The walk after one more literal of the other clause; none where that is beyond the literal that is looked for, or is a
 /// second negation.
-fn step(walk: Walk, wanted: Lit, lit: Lit) -> Option<Walk>
+fn step(walk: Comparison, wanted: Lit, lit: Lit) -> Option<Comparison>
     requires { walk.found + 1 < 2 ^ 64 }
     ensures { IsStep walk wanted lit result }
 {
@@ -39,7 +39,7 @@ fn step(walk: Walk, wanted: Lit, lit: Lit) -> Option<Walk>
         return Some(walk);
     }
     if lit == wanted {
-        return Some(Walk {
+        return Some(Comparison {
             found: walk.found + 1,
             flipped: walk.flipped,
         });
@@ -49,7 +49,7 @@ fn step(walk: Walk, wanted: Lit, lit: Lit) -> Option<Walk>
     }
     match walk.flipped {
         Some(_) => None,
-        None => Some(Walk {
+        None => Some(Comparison {
             found: walk.found + 1,
             flipped: Some(wanted),
         }),
@@ -63,7 +63,7 @@ pub(crate) fn relation_of(clause: &[Lit], other: &[Lit]) -> Relation
     requires no_opposites { has_opposites clause.now ≡ false }
     ensures { IsRelation clause.now other.now result }
 {
-    let mut walk = Walk {
+    let mut walk = Comparison {
         found: 0,
         flipped: None,
     };
@@ -84,7 +84,7 @@ pub(crate) fn relation_of(clause: &[Lit], other: &[Lit]) -> Relation
 }
 
 /// How the clause stands to the other one where all its literals were found.
-fn all_found(walk: Walk) -> Relation
+fn all_found(walk: Comparison) -> Relation
     ensures { result ≡ all_found walk }
 {
     match walk.flipped {

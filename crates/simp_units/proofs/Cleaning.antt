@@ -31,8 +31,8 @@ use Rattle.simp_base.proofs.Removal.{same_number}
 use Rattle.simp_units.specs.Ends.{is_fixed, IsFree}
 use Rattle.simp_units.specs.Progress.{IsSet}
 use Rattle.simp_units.specs.Tidied.{left_of, IsUntouched, IsWhole, IsPart, IsLeft, IsLeftAt, Tidied, WasTidied}
-use Rattle.simp_units.specs.declared.clean.Left.{Left}
-use Rattle.simp_units.specs.declared.clean.Left.TheVariants.{Whole, Nothing, Part}
+use Rattle.simp_units.specs.declared.clean.Remainder.{Remainder}
+use Rattle.simp_units.specs.declared.clean.Remainder.TheVariants.{Whole, Nothing, Part}
 use Rattle.simp_units.proofs.Forcing.{shortened_follows}
 use Rattle.simp_base.proofs.Known.{first_or_rest, known_alive, unit_among, on_alive, nothing_logged}
 
@@ -253,7 +253,7 @@ whole_if_all a c same_length none k d lt =
     let i = In_get_or c k d lt in
     (none_In (is_true a) c (get_or c k d) none i, not_true (is_true a (opposite (get_or c k d))) (filter_all (λ l. not (is_true a (opposite l))) c same_length (get_or c k d) i))
 
-pub left_is : (w : WorkState) (a : List (Option Bool)) (number : ℕ) (c : List Literal) → IsWork w → Contains w.clauses (number, c) → (what : Left) → IsLeft a c what → IsLeftAt w a number what
+pub left_is : (w : WorkState) (a : List (Option Bool)) (number : ℕ) (c : List Literal) → IsWork w → Contains w.clauses (number, c) → (what : Remainder) → IsLeft a c what → IsLeftAt w a number what
 left_is w a number c kept alive Whole h = λ d i. subst (IsWhole a) (same_number w.clauses kept.numbers number c d alive i) h
 left_is w a number c kept alive Nothing h = (c, alive, h)
 left_is w a number c kept alive (Part rest) h = (c, alive, h)

@@ -20,8 +20,8 @@ use Rattle.simp_base.specs.Causes.{HasCause}
 use Rattle.simp_base.proofs.Stopping.{cause_after}
 use Rattle.simp_units.specs.Progress.{IsSet, IsUnitsClause, Progress, waits, IsKnown, Ready, Passed, Stuck, Spread, WasSpread, Falsified, WasPropagated}
 use Rattle.simp_units.specs.Progress.IsKnown.{settled, waiting, coming}
-use Rattle.simp_units.specs.declared.propagate.Ended.{Ended}
-use Rattle.simp_units.specs.declared.propagate.Ended.TheVariants.{Conflict, Quiet}
+use Rattle.simp_units.specs.declared.propagate.Propagation.{Propagation}
+use Rattle.simp_units.specs.declared.propagate.Propagation.TheVariants.{Conflict, Quiet}
 use Rattle.simp_units.proofs.Forcing.{settled_true}
 use Rattle.simp_base.proofs.Known.{nothing_logged}
 use Rattle.simp_units.proofs.Steps.{settled_came}
@@ -127,7 +127,7 @@ module _ (old mid : WorkState) (a b : List (Option Bool)) (numbers : List ℕ) (
     mid_ready : Ready old mid b 0 []
     mid_ready = passed.ready old 0 (omega arith) begun (λ n c h. coming (each n c h))
 
-    pub whole : (new : WorkState) (e : List (Option Bool)) (result : Result Ended LineStop) → WasSpread mid b new e result → WasPropagated old new e result
+    pub whole : (new : WorkState) (e : List (Option Bool)) (result : Result Propagation LineStop) → WasSpread mid b new e result → WasPropagated old new e result
     whole new e (Ok Quiet) h = (
         let goes = h.goes old (passed.goes old begun) in
         let ready = h.ready old (passed.goes old begun) mid_ready in

@@ -28,7 +28,7 @@ use Rattle.simp_base.specs.Causes.{HasCause}
 use Rattle.simp_base.proofs.Stopping.{cause_after}
 use Rattle.simp_units.specs.Progress.{IsSet, IsUnitsClause, Progress, waits, IsKnown, Ready, ForcedStep, IdleStep, Passed, Stuck, WasLookedAt}
 use Rattle.simp_units.specs.Progress.IsKnown.{settled, waiting, coming}
-use Rattle.simp_units.specs.declared.propagate.Ended.TheVariants.{Conflict, Quiet}
+use Rattle.simp_units.specs.declared.propagate.Propagation.TheVariants.{Conflict, Quiet}
 use Rattle.simp_units.proofs.Forcing.{keeps, itself, settled_kept, settled_by, falsified_follows}
 
 -- a clause that came for a unit is settled

@@ -35,7 +35,7 @@ pub record Cleaned (old new : WorkState) : Type 0 where
   pub quiet : new.output.faults ≡ old.output.faults
 
 -- the empty clause was added, and the output has failed at no line
-pub record Ended (old new : WorkState) : Type 0 where
+pub record Propagation (old new : WorkState) : Type 0 where
   pub ended : new.ended ≡ true
   pub unspent : new.output.spent ≡ false
   pub quiet : new.output.faults ≡ old.output.faults
@@ -43,7 +43,7 @@ pub record Ended (old new : WorkState) : Type 0 where
 -- they falsify a clause, and the empty clause was added
 pub record Conflicted (old new : WorkState) : Type 0 where
   pub falsified : conflicts (known old) [] ≡ true
-  pub ended : Ended old new
+  pub ended : Propagation old new
 
 -- how a run ends
 abbrev pub Ends : WorkState → WorkState → Result Run LineStop → Type 0
@@ -54,5 +54,5 @@ Ends old new (Err stop) = HasCause old new stop
 -- what comes where the empty clause is to be added
 abbrev pub EndsRefuted : WorkState → WorkState → Result Run LineStop → Type 0
 EndsRefuted old new (Ok Done) = ⊥
-EndsRefuted old new (Ok Refuted) = Ended old new
+EndsRefuted old new (Ok Refuted) = Propagation old new
 EndsRefuted old new (Err stop) = HasCause old new stop

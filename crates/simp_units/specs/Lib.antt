@@ -1,5 +1,5 @@
 pub mod Ends
 pub mod Begun
-pub mod Look
+pub mod Demand
 pub mod Progress
 pub mod Tidied

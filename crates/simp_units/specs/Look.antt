@@ -5,11 +5,11 @@ use Rattle.sat_words.specs.Values.{is_true}
 use Rattle.rup_model.specs.Rounds.{falsifies}
 use Rattle.rup_model.specs.Status.{IsSettled, IsUnit}
 use Rattle.simp_base.specs.WorkState.{WorkState}
-use Rattle.simp_units.specs.declared.look.Look.{Look}
-use Rattle.simp_units.specs.declared.look.Look.TheVariants.{Falsified, Forced, Settled}
+use Rattle.simp_units.specs.declared.look.Demand.{Demand}
+use Rattle.simp_units.specs.declared.look.Demand.TheVariants.{Falsified, Forced, Settled}
 
 -- what the clause asks for is this
-abbrev pub IsLook : List (Option Bool) → List Literal → Look → Type 0
+abbrev pub IsLook : List (Option Bool) → List Literal → Demand → Type 0
 IsLook a c Falsified = falsifies (is_true a) c ≡ true
 IsLook a c (Forced l) = IsUnit a c l
 IsLook a c Settled = IsSettled a c
@@ -31,7 +31,7 @@ abbrev pub IsSettledAt : WorkState → List (Option Bool) → ℕ → Type 0
 IsSettledAt w a number = (c : List Literal) → Contains w.clauses (number, c) → IsSettled a c
 
 -- what the clause with this number asks for is this
-abbrev pub IsLookAt : WorkState → List (Option Bool) → ℕ → Look → Type 0
+abbrev pub IsLookAt : WorkState → List (Option Bool) → ℕ → Demand → Type 0
 IsLookAt w a number Falsified = IsFalsifiedAt w a number
 IsLookAt w a number (Forced l) = IsForcedAt w a number l
 IsLookAt w a number Settled = IsSettledAt w a number

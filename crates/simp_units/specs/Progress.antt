@@ -13,9 +13,9 @@ use Rattle.simp_base.specs.WorkState.{WorkState, IsWork, known, is_alive_unit}
 use Rattle.simp_base.specs.Log.{KeepsLog}
 use Rattle.simp_base.specs.Calls.{IsListed}
 use Rattle.simp_base.specs.Causes.{HasCause}
-use Rattle.simp_units.specs.Look.{IsFalsifiedAt, IsForcedAt, IsSettledAt}
-use Rattle.simp_units.specs.declared.propagate.Ended.{Ended}
-use Rattle.simp_units.specs.declared.propagate.Ended.TheVariants.{Conflict, Quiet}
+use Rattle.simp_units.specs.Demand.{IsFalsifiedAt, IsForcedAt, IsSettledAt}
+use Rattle.simp_units.specs.declared.propagate.Propagation.{Propagation}
+use Rattle.simp_units.specs.declared.propagate.Propagation.TheVariants.{Conflict, Quiet}
 
 -- the true literals are the units, and the work can go on
 pub record IsSet (w : WorkState) (a : List (Option Bool)) : Type 0 where
@@ -77,7 +77,7 @@ pub record FalseStep (old : WorkState) (a : List (Option Bool)) (new : WorkState
   pub values : b ≡ a
 
 -- what looking at a clause does
-abbrev pub WasLookedAt : WorkState → List (Option Bool) → WorkState → List (Option Bool) → ℕ → Result Ended LineStop → Type 0
+abbrev pub WasLookedAt : WorkState → List (Option Bool) → WorkState → List (Option Bool) → ℕ → Result Propagation LineStop → Type 0
 WasLookedAt old a new b number (Ok Conflict) = FalseStep old a new b number
 WasLookedAt old a new b number (Ok Quiet) = IdleStep old a new b number ⊎ ForcedStep old a new b number
 WasLookedAt old a new b number (Err stop) = HasCause old new stop
@@ -102,7 +102,7 @@ pub record Stuck (old : WorkState) (a : List (Option Bool)) (new : WorkState) (b
   pub falsified : (start : WorkState) → Progress start old a → conflicts (known start) [] ≡ true
   pub log : KeepsLog old new
 
-abbrev pub WasVisited : WorkState → List (Option Bool) → WorkState → List (Option Bool) → List ℕ → Result Ended LineStop → Type 0
+abbrev pub WasVisited : WorkState → List (Option Bool) → WorkState → List (Option Bool) → List ℕ → Result Propagation LineStop → Type 0
 WasVisited old a new b numbers (Ok Quiet) = Passed old a new b numbers []
 WasVisited old a new b numbers (Ok Conflict) = Stuck old a new b
 WasVisited old a new b numbers (Err stop) = HasCause old new stop × KeepsLog old new
@@ -119,7 +119,7 @@ pub record Spread (old : WorkState) (a : List (Option Bool)) (new : WorkState) (
   pub ready : (start : WorkState) → Progress start old a → Ready start old a 0 [] → Ready start new b next []
   pub log : KeepsLog old new
 
-abbrev pub WasSpread : WorkState → List (Option Bool) → WorkState → List (Option Bool) → Result Ended LineStop → Type 0
+abbrev pub WasSpread : WorkState → List (Option Bool) → WorkState → List (Option Bool) → Result Propagation LineStop → Type 0
 WasSpread old a new b (Ok Quiet) = Spread old a new b (length new.units)
 WasSpread old a new b (Ok Conflict) = Stuck old a new b
 WasSpread old a new b (Err stop) = HasCause old new stop × KeepsLog old new
@@ -145,7 +145,7 @@ pub record Falsified (old new : WorkState) : Type 0 where
   pub empty : rup (known new) [] ≡ true
   pub log : KeepsLog old new
 
-abbrev pub WasPropagated : WorkState → WorkState → List (Option Bool) → Result Ended LineStop → Type 0
+abbrev pub WasPropagated : WorkState → WorkState → List (Option Bool) → Result Propagation LineStop → Type 0
 WasPropagated old new b (Ok Quiet) = Propagated old new b
 WasPropagated old new b (Ok Conflict) = Falsified old new
 WasPropagated old new b (Err stop) = HasCause old new stop × KeepsLog old new

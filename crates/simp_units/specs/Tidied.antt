@@ -12,8 +12,8 @@ use Rattle.simp_base.specs.Log.{KeepsLog}
 use Rattle.simp_base.specs.Causes.{HasCause}
 use Rattle.simp_units.specs.Ends.{IsFree}
 use Rattle.simp_units.specs.Progress.{IsSet}
-use Rattle.simp_units.specs.declared.clean.Left.{Left}
-use Rattle.simp_units.specs.declared.clean.Left.TheVariants.{Whole, Nothing, Part}
+use Rattle.simp_units.specs.declared.clean.Remainder.{Remainder}
+use Rattle.simp_units.specs.declared.clean.Remainder.TheVariants.{Whole, Nothing, Part}
 
 -- the literals that are not false
 abbrev pub left_of : List (Option Bool) → List Literal → List Literal
@@ -40,13 +40,13 @@ pub record IsPart (a : List (Option Bool)) (c part : List Literal) : Type 0 wher
   pub is : part ≡ left_of a c
 
 -- what is left of the clause is this
-abbrev pub IsLeft : List (Option Bool) → List Literal → Left → Type 0
+abbrev pub IsLeft : List (Option Bool) → List Literal → Remainder → Type 0
 IsLeft a c Whole = IsWhole a c
 IsLeft a c Nothing = IsTrueClause a c
 IsLeft a c (Part rest) = IsPart a c rest.items
 
 -- what is left of the clause with this number
-abbrev pub IsLeftAt : WorkState → List (Option Bool) → ℕ → Left → Type 0
+abbrev pub IsLeftAt : WorkState → List (Option Bool) → ℕ → Remainder → Type 0
 IsLeftAt w a number Whole = (c : List Literal) → Contains w.clauses (number, c) → IsWhole a c
 IsLeftAt w a number Nothing = (c : List Literal) × Contains w.clauses (number, c) × IsTrueClause a c
 IsLeftAt w a number (Part rest) = (c : List Literal) × Contains w.clauses (number, c) × IsPart a c rest.items

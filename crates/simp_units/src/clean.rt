@@ -16,7 +16,7 @@ use std::alloc::{AllocError, Global};
 
 /// What is to become of a clause.
 #[derive(Drop)]
-pub(crate) enum Left {
+pub(crate) enum Remainder {
     /// It stays as it is.
     Whole,
     /// A literal is true, so that it is deleted.
@@ -45,33 +45,33 @@ fn has_true(lits: &[Lit], values: &Values) -> bool
 }
 
 /// What is left of a clause under the values of the units.
-fn what_is_left(alloc: Global, clause: &Clause, values: &Values) -> Result<Left, AllocError>
+fn what_is_left(alloc: Global, clause: &Clause, values: &Values) -> Result<Remainder, AllocError>
     ensures { IfOk result (λ what. IsLeft values.now clause.now what) }
 {
     let lits = clause.lits();
     if lits.len() < 2 {
-        return Ok(Left::Whole);
+        return Ok(Remainder::Whole);
     }
     if is_tautology(clause) {
-        return Ok(Left::Whole);
+        return Ok(Remainder::Whole);
     }
     if has_true(lits, values) {
-        return Ok(Left::Nothing);
+        return Ok(Remainder::Nothing);
     }
     let rest = left_of(alloc, lits, values)?;
     if rest.len() == lits.len() {
-        return Ok(Left::Whole);
+        return Ok(Remainder::Whole);
     }
-    Ok(Left::Part(rest))
+    Ok(Remainder::Part(rest))
 }
 
 /// What is left of the clause with this number; all where it is not alive.
-fn left_at<L: LineOut>(work: &Work<L>, values: &Values, number: u64) -> Result<Left, LineStop>
+fn left_at<L: LineOut>(work: &Work<L>, values: &Values, number: u64) -> Result<Remainder, LineStop>
     ensures what { IfOk result (λ what. IsLeftAt work.now values.now number what) }
     ensures memory { IfErr result (λ stop. stop ≡ LineStop.Memory) }
 {
     let Some(clause) = work.clause(number) else {
-        return Ok(Left::Whole);
+        return Ok(Remainder::Whole);
     };
     match what_is_left(work.alloc(), clause, values) {
         Ok(what) => Ok(what),
@@ -87,9 +87,9 @@ fn tidy<L: LineOut>(work: &mut Work<L>, values: &Values, number: u64) -> Result<
     ensures work { IsWork work.new }
 {
     match left_at(work, values, number)? {
-        Left::Whole => Ok(()),
-        Left::Nothing => work.delete(number),
-        Left::Part(rest) => {
+        Remainder::Whole => Ok(()),
+        Remainder::Nothing => work.delete(number),
+        Remainder::Part(rest) => {
             work.add_rup(rest.as_slice())?;
             work.delete(number)
         }

@@ -3,7 +3,7 @@ ghost use Rattle.std.specs.Prelude.{◌≡◌, ◌||◌, not};
 ghost use Rattle.std.specs.List.{find, list_all};
 ghost use Rattle.sat_words.specs.Literal.{opposite, same};
 ghost use Rattle.sat_words.specs.Values.{is_true};
-ghost use Rattle.simp_units.specs.Look.{IsLook, IsLookAt};
+ghost use Rattle.simp_units.specs.Demand.{IsLook, IsLookAt};
 
 use drat_text::LineOut;
 use sat_words::{Lit, Values};
@@ -11,7 +11,7 @@ use simp_base::Work;
 
 /// What a clause asks for.
 #[derive(Clone, Copy)]
-pub(crate) enum Look {
+pub(crate) enum Demand {
     /// All its literals are false.
     Falsified,
     /// All its other literals are false, and this one has no value.
@@ -33,29 +33,29 @@ fn others_false(clause: &[Lit], lit: Lit, a: &Values) -> bool
     clause.iter().all(|k| lit == *k || a.is_false(*k))
 }
 
-fn ask(clause: &[Lit], a: &Values) -> Look
+fn demand_of(clause: &[Lit], a: &Values) -> Demand
     ensures { IsLook a.now clause.now result }
 {
     match first_open(clause, a) {
-        None => Look::Falsified,
+        None => Demand::Falsified,
         Some(lit) => {
             if a.is_true(lit) {
-                Look::Settled
+                Demand::Settled
             } else if others_false(clause, lit, a) {
-                Look::Forced(lit)
+                Demand::Forced(lit)
             } else {
-                Look::Settled
+                Demand::Settled
             }
         }
     }
 }
 
 /// What the clause with this number asks for; nothing where it is not alive.
-pub(crate) fn look_up<L: LineOut>(work: &Work<L>, values: &Values, number: u64) -> Look
+pub(crate) fn look_up<L: LineOut>(work: &Work<L>, values: &Values, number: u64) -> Demand
     ensures { IsLookAt work.now values.now number result }
 {
     match work.clause(number) {
-        Some(clause) => ask(clause.lits(), values),
-        None => Look::Settled,
+        Some(clause) => demand_of(clause.lits(), values),
+        None => Demand::Settled,
     }
 }

@@ -7,14 +7,14 @@ ghost use Rattle.simp_units.specs.Ends.{Ends, EndsRefuted};
 ghost use Rattle.simp_units.specs.Progress.{WasPropagated};
 
 use crate::clean::clean;
-use crate::propagate::{Ended, propagate};
+use crate::propagate::{Propagation, propagate};
 use crate::start::{load, numbers_of};
 use drat_text::{LineOut, LineStop};
 use sat_words::Values;
 use simp_base::{Run, Work};
 
 /// Propagates the units of the work, from values that are none.
-fn begin<L: LineOut>(work: &mut Work<L>, values: &mut Values) -> Result<Ended, LineStop>
+fn begin<L: LineOut>(work: &mut Work<L>, values: &mut Values) -> Result<Propagation, LineStop>
     requires unspent { work.old.output.spent ≡ false }
     requires going { work.old.ended ≡ false }
     requires work { IsWork work.old }
@@ -24,7 +24,7 @@ fn begin<L: LineOut>(work: &mut Work<L>, values: &mut Values) -> Result<Ended, L
 {
     let numbers = numbers_of(work.alloc(), work)?;
     if !load(work.units(), values) {
-        return Ok(Ended::Conflict);
+        return Ok(Propagation::Conflict);
     }
     propagate(work, values, numbers.as_slice())
 }
@@ -60,8 +60,8 @@ pub fn run<L: LineOut>(work: &mut Work<L>) -> Result<Run, LineStop>
         Err(_) => return Err(LineStop::Memory),
     };
     match begin(work, &mut values) {
-        Ok(Ended::Conflict) => refute(work),
-        Ok(Ended::Quiet) => {
+        Ok(Propagation::Conflict) => refute(work),
+        Ok(Propagation::Quiet) => {
             clean(work, &values)?;
             Ok(Run::Done)
         }

@@ -9,14 +9,14 @@ ghost use Rattle.simp_base.specs.WorkState.{IsWork};
 ghost use Rattle.simp_base.specs.Log.{KeepsLog};
 ghost use Rattle.simp_units.specs.Progress.{IsSet, Progress, WasLookedAt, WasVisited, WasSpread, WasPropagated};
 
-use crate::look::{Look, look_up};
+use crate::look::{Demand, look_up};
 use drat_text::{LineOut, LineStop};
 use sat_words::Values;
 use simp_base::Work;
 
 /// How propagation ended.
 #[derive(Clone, Copy)]
-pub(crate) enum Ended {
+pub(crate) enum Propagation {
     /// A clause is false.
     Conflict,
     /// Nothing more is forced.
@@ -28,19 +28,19 @@ fn look_at<L: LineOut>(
     work: &mut Work<L>,
     values: &mut Values,
     number: u64,
-) -> Result<Ended, LineStop>
+) -> Result<Propagation, LineStop>
     requires set { IsSet work.old values.old }
     ensures looked { WasLookedAt work.old values.old work.new values.new number result }
     ensures log { KeepsLog work.old work.new }
     ensures work { IsWork work.new }
 {
     match look_up(work, values, number) {
-        Look::Falsified => Ok(Ended::Conflict),
-        Look::Settled => Ok(Ended::Quiet),
-        Look::Forced(lit) => {
+        Demand::Falsified => Ok(Propagation::Conflict),
+        Demand::Settled => Ok(Propagation::Quiet),
+        Demand::Forced(lit) => {
             work.unit(lit)?;
             values.set(lit);
-            Ok(Ended::Quiet)
+            Ok(Propagation::Quiet)
         }
     }
 }
@@ -50,43 +50,43 @@ fn visit<L: LineOut>(
     work: &mut Work<L>,
     values: &mut Values,
     numbers: &[u64],
-) -> Result<Ended, LineStop>
+) -> Result<Propagation, LineStop>
     requires set { IsSet work.old values.old }
     ensures visited { WasVisited work.old values.old work.new values.new numbers.now result }
     ensures work { IsWork work.new }
 {
     for number in numbers {
         match look_at(work, values, *number) {
-            Ok(Ended::Quiet) => {}
-            Ok(Ended::Conflict) => return Ok(Ended::Conflict),
+            Ok(Propagation::Quiet) => {}
+            Ok(Propagation::Conflict) => return Ok(Propagation::Conflict),
             Err(stop) => return Err(stop),
         }
     }
-    Ok(Ended::Quiet)
+    Ok(Propagation::Quiet)
 }
 
 /// Looks at the clauses in which a unit is false, unit by unit.
-fn spread<L: LineOut>(work: &mut Work<L>, values: &mut Values) -> Result<Ended, LineStop>
+fn spread<L: LineOut>(work: &mut Work<L>, values: &mut Values) -> Result<Propagation, LineStop>
     requires set { IsSet work.old values.old }
     ensures spread { WasSpread work.old values.old work.new values.new result }
     ensures work { IsWork work.new }
 {
     for next in 0..usize::MAX {
         if next >= work.units().len() {
-            return Ok(Ended::Quiet);
+            return Ok(Propagation::Quiet);
         }
         let lit = work.units()[next];
         match work.numbers_with(lit.not()) {
             Err(stop) => return Err(stop),
             Ok(numbers) => match visit(work, values, numbers.as_slice()) {
-                Ok(Ended::Quiet) => {}
-                Ok(Ended::Conflict) => return Ok(Ended::Conflict),
+                Ok(Propagation::Quiet) => {}
+                Ok(Propagation::Conflict) => return Ok(Propagation::Conflict),
                 Err(stop) => return Err(stop),
             },
         }
     }
     let _count = work.units().len();
-    Ok(Ended::Quiet)
+    Ok(Propagation::Quiet)
 }
 
 /// Propagates the units of the work, from values that are these units. The numbers are those of all clauses.
@@ -94,7 +94,7 @@ pub(crate) fn propagate<L: LineOut>(
     work: &mut Work<L>,
     values: &mut Values,
     numbers: &[u64],
-) -> Result<Ended, LineStop>
+) -> Result<Propagation, LineStop>
     requires set { IsSet work.old values.old }
     requires begun { Progress work.old work.old values.old }
     requires each { (n : ℕ) (c : List Literal) → Contains work.old.clauses (n, c) → Contains numbers.now n }
@@ -102,8 +102,8 @@ pub(crate) fn propagate<L: LineOut>(
     ensures work { IsWork work.new }
 {
     match visit(work, values, numbers) {
-        Ok(Ended::Quiet) => spread(work, values),
-        Ok(Ended::Conflict) => Ok(Ended::Conflict),
+        Ok(Propagation::Quiet) => spread(work, values),
+        Ok(Propagation::Conflict) => Ok(Propagation::Conflict),
         Err(stop) => Err(stop),
     }
 }

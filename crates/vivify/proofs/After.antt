@@ -15,7 +15,7 @@ use Rattle.ring_port.specs.Port.{AddedClause, WroteUnit, Refused, KeepsHeld, aft
 use Rattle.ring_port.specs.Deleting.{DroppedOnce}
 use Rattle.ring_port.proofs.Holdings.{held_is_kept, lits_of_holding}
 use Rattle.ring_port.proofs.PlainLemmas.{dropped_others}
-use Rattle.ring_trail.specs.declared.step.Step.{Step}
+use Rattle.ring_trail.specs.declared.step.TrailStep.{TrailStep}
 use Rattle.ring_trail.specs.TrailData.{TrailData, IsTrail, IsFalseOn}
 use Rattle.ring_trail.specs.Closed.{IsClosed, IsClosedClause}
 use Rattle.watch_prop.specs.WatchData.{WatchData, Lits, attached, without, clauses_of}
@@ -37,7 +37,7 @@ pub record Good (s : PortState) (w : WatchData) (t : TrailData) : Type 0 where
   pub reasons : HasReasons (attached w) s t.steps
   pub quiet : IsQuiet w (lits_at s) t
 
-closed_lits : (w : WatchData) (lits more : Lits) (steps : List Step) (k : ℕ) → ((c : Cref) → Contains (attached w) c → more c.address ≡ lits c.address) → IsClosed (clauses_of w lits) steps k → IsClosed (clauses_of w more) steps k
+closed_lits : (w : WatchData) (lits more : Lits) (steps : List TrailStep) (k : ℕ) → ((c : Cref) → Contains (attached w) c → more c.address ≡ lits c.address) → IsClosed (clauses_of w lits) steps k → IsClosed (clauses_of w more) steps k
 closed_lits w lits more steps k alike h c there =
     let m = map_In (λ (d : Cref). more d.address) (attached w) c (Contains_In (clauses_of w more) c there) in
     let e : lits m.0.address ≡ c = sym (alike m.0 (In_Contains (attached w) m.0 m.1)) ∙ m.2 in

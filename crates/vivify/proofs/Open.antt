@@ -8,7 +8,7 @@ use Rattle.rup_model.specs.Rup.{conflicts}
 use Rattle.rup_model.proofs.Lists.{In, In_has, In_append, none_In}
 use Rattle.rup_model.proofs.Closed.{Rounds-least, round-Rounds}
 use Rattle.ring_port.specs.PortState.{PortState, lits_at}
-use Rattle.ring_trail.specs.declared.step.Step.{Step}
+use Rattle.ring_trail.specs.declared.step.TrailStep.{TrailStep}
 use Rattle.ring_trail.specs.TrailData.{TrailData, IsTrail, IsFalseOn}
 use Rattle.ring_trail.specs.Closed.{IsClosedClause}
 use Rattle.watch_prop.specs.WatchData.{WatchData, attached}
@@ -68,7 +68,7 @@ left_not_false s w t c l shape zero' reasons quiet there bad =
     true≢false (sym (subst (λ (A : List Literal). Rounds (ground s w t) A (opposite l) ≡ true) none made) ∙ fine)
 
 -- a clause of two literals or more that aren't false is closed
-pub open_is_closed : (L : List Literal) (steps : List Step) (k : ℕ) → 2 ≤ length L → distinct_lits L ≡ true → ((l : Literal) → In l L → IsFalseOn steps l → ⊥) → IsClosedClause L steps k
+pub open_is_closed : (L : List Literal) (steps : List TrailStep) (k : ℕ) → 2 ≤ length L → distinct_lits L ≡ true → ((l : Literal) → In l L → IsFalseOn steps l → ⊥) → IsClosedClause L steps k
 open_is_closed [] steps k long distinct fine = absurd (omega arith)
 open_is_closed (x ∷ []) steps k long distinct fine = absurd (omega arith)
 open_is_closed (x ∷ y ∷ L) steps k long distinct fine = inr record {

@@ -66,7 +66,7 @@ pub fn vivify<P: Port>(
     ensures log { KeepsLog (P.state port.old) (P.state port.new) }
     ensures port { IsPort (P.state port.new) }
 {
-    let _lawful = trail.present();
+    let _lawful = trail.decision_level();
     let head = port.head(c);
     let Ok(left) = literals_left(alloc, port, watches, trail, c) else {
         return Err(PortStop::Memory);

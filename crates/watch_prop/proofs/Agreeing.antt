@@ -9,7 +9,7 @@ use Rattle.rup_model.specs.Rounds.{Rounds}
 use Rattle.rup_model.specs.Rup.{conflicts}
 use Rattle.rup_model.proofs.Lists.{In, In_any, In_map, In_Contains, Contains_In}
 use Rattle.ring_port.specs.PortState.{Holding, PortState, held_at, lits_at, clause_at}
-use Rattle.ring_trail.specs.declared.step.Step.{Step}
+use Rattle.ring_trail.specs.declared.step.TrailStep.{TrailStep}
 use Rattle.ring_trail.specs.TrailData.{TrailData, IsTrail, IsTrueOn, IsFalseClause}
 use Rattle.ring_trail.specs.Reasoned.{Held, IsReasoned}
 use Rattle.ring_trail.specs.Closed.{IsClosed}
@@ -50,11 +50,11 @@ module _ (cs : List (List Literal)) (units : List Literal) (t : TrailData) where
   same_with l shape given closed d = closed_same t shape (with_units cs units) (decisions_of t.steps) l (closed_with t shape cs units closed given) (decisions_true t.steps) d
 
 -- over clauses that have what is held, and the units seen
-pub reasoned_in_rounds : (held : Held) (seen : List Literal) (cs : List (List Literal)) (steps : List Step) (l : Literal) → IsReasoned held seen steps → HeldAmong held cs
+pub reasoned_in_rounds : (held : Held) (seen : List Literal) (cs : List (List Literal)) (steps : List TrailStep) (l : Literal) → IsReasoned held seen steps → HeldAmong held cs
     → IsTrueOn steps l → (Rounds (with_units cs seen) (decisions_of steps) l ≡ true) ⊎ (conflicts (with_units cs seen) (decisions_of steps) ≡ true)
 reasoned_in_rounds held seen cs steps l r among = derived_in_rounds (with_units cs seen) (decisions_of steps) steps l (derived_seen held seen cs steps r among)
 
-pub reasoned_conflict : (held : Held) (seen : List Literal) (cs : List (List Literal)) (steps : List Step) (c : List Literal) → IsReasoned held seen steps → HeldAmong held cs
+pub reasoned_conflict : (held : Held) (seen : List Literal) (cs : List (List Literal)) (steps : List TrailStep) (c : List Literal) → IsReasoned held seen steps → HeldAmong held cs
     → Contains (with_units cs seen) c → IsFalseClause steps c → conflicts (with_units cs seen) (decisions_of steps) ≡ true
 reasoned_conflict held seen cs steps c r among = derived_conflict (with_units cs seen) (decisions_of steps) steps c (derived_seen held seen cs steps r among)
 

@@ -11,7 +11,7 @@ use Rattle.sat_words.specs.declared.shared.Cref.{Cref}
 use Rattle.rup_model.proofs.Lists.{In, has_In, In_has, In_map, map_In, In_get_or, In_append_left, In_append_right, In_Contains, Contains_In}
 use Rattle.ring_port.specs.PortState.{Holding, PortState, held_at, clause_at, known}
 use Rattle.ring_port.proofs.Holdings.{All_In, held_is_known, seen_is_known}
-use Rattle.ring_trail.specs.declared.step.Step.{Step}
+use Rattle.ring_trail.specs.declared.step.TrailStep.{TrailStep}
 use Rattle.ring_trail.specs.TrailData.{TrailData, IsTrail, HasGrown, no_step, step_at, lit_at, level_at, decided, cut_back}
 use Rattle.ring_trail.specs.Reasoned.{Held, IsForced, IsSeen, IsDecision, IsReasoned}
 use Rattle.ring_trail.proofs.Levels.{up_to-all}
@@ -51,34 +51,34 @@ is_false false f = refl
 
 -- What stands in the two lists
 
-among_true : (steps : List Step) (test : Step → Bool) → AllTrueOn steps (map (λ (s : Step). s.lit) (filter test steps))
+among_true : (steps : List TrailStep) (test : TrailStep → Bool) → AllTrueOn steps (map (λ (s : TrailStep). s.lit) (filter test steps))
 among_true steps test l h =
-    let m = map_In (λ (s : Step). s.lit) (filter test steps) l (has_In (map (λ (s : Step). s.lit) (filter test steps)) l h) in
+    let m = map_In (λ (s : TrailStep). s.lit) (filter test steps) l (has_In (map (λ (s : TrailStep). s.lit) (filter test steps)) l h) in
     let p = place_of steps m.0 (filter_In test steps m.0 m.1) in
-    record { place = p.0; before = p.1; true_there = ap (λ (s : Step). s.lit) p.2 ∙ m.2 }
+    record { place = p.0; before = p.1; true_there = ap (λ (s : TrailStep). s.lit) p.2 ∙ m.2 }
 
-pub decisions_true : (steps : List Step) → AllTrueOn steps (decisions_of steps)
+pub decisions_true : (steps : List TrailStep) → AllTrueOn steps (decisions_of steps)
 decisions_true steps = among_true steps (λ s. is_none s.reason && nat_lt 0 s.level)
 
-pub fixed_true : (steps : List Step) → AllTrueOn steps (fixed_of steps)
+pub fixed_true : (steps : List TrailStep) → AllTrueOn steps (fixed_of steps)
 fixed_true steps = among_true steps (λ s. nat_le s.level 0)
 
-among_has : (steps : List Step) (test : Step → Bool) (p : ℕ) → p < length steps → test (step_at steps p) ≡ true → has (map (λ (s : Step). s.lit) (filter test steps)) (lit_at steps p) ≡ true
+among_has : (steps : List TrailStep) (test : TrailStep → Bool) (p : ℕ) → p < length steps → test (step_at steps p) ≡ true → has (map (λ (s : TrailStep). s.lit) (filter test steps)) (lit_at steps p) ≡ true
 among_has steps test p lt e =
-    In_has (map (λ (s : Step). s.lit) (filter test steps)) (lit_at steps p)
-    (In_map (λ (s : Step). s.lit) (filter test steps) (step_at steps p) (In_filter test steps (step_at steps p) (In_get_or steps p no_step lt) e))
+    In_has (map (λ (s : TrailStep). s.lit) (filter test steps)) (lit_at steps p)
+    (In_map (λ (s : TrailStep). s.lit) (filter test steps) (step_at steps p) (In_filter test steps (step_at steps p) (In_get_or steps p no_step lt) e))
 
-decision_has : (steps : List Step) (p : ℕ) → p < length steps → IsDecision steps p → has (decisions_of steps) (lit_at steps p) ≡ true
+decision_has : (steps : List TrailStep) (p : ℕ) → p < length steps → IsDecision steps p → has (decisions_of steps) (lit_at steps p) ≡ true
 decision_has steps p lt d =
     among_has steps (λ s. is_none s.reason && nat_lt 0 s.level) p lt
     (and_from _ _ (ap (λ (o : Option Cref). is_none o) d.none) (lt-ltb _ _ d.above))
 
-fixed_has : (steps : List Step) (p : ℕ) → p < length steps → level_at steps p ≡ 0 → has (fixed_of steps) (lit_at steps p) ≡ true
+fixed_has : (steps : List TrailStep) (p : ℕ) → p < length steps → level_at steps p ≡ 0 → has (fixed_of steps) (lit_at steps p) ≡ true
 fixed_has steps p lt z = among_has steps (λ s. nat_le s.level 0) p lt (le-leb _ _ (omega arith))
 
 -- Trails that are derived
 
-pub reasoned_derived : (held : Held) (seen : List Literal) (G : List (List Literal)) (A : List Literal) (steps : List Step) → IsReasoned held seen steps
+pub reasoned_derived : (held : Held) (seen : List Literal) (G : List (List Literal)) (A : List Literal) (steps : List TrailStep) → IsReasoned held seen steps
     → HeldAmong held G
     → ((p : ℕ) → p < length steps → IsSeen seen steps p → (has A (lit_at steps p) ≡ true) ⊎ Contains G (lit_at steps p ∷ []))
     → ((l : Literal) → has (decisions_of steps) l ≡ true → has A l ≡ true) → IsDerived G A steps
@@ -106,7 +106,7 @@ clause_with cs units c h = In_Contains (with_units cs units) c (In_append_left c
 unit_with : (cs : List (List Literal)) (units : List Literal) (l : Literal) → has units l ≡ true → Contains (with_units cs units) (l ∷ [])
 unit_with cs units l h = In_Contains (with_units cs units) (l ∷ []) (In_append_right cs (map (λ l. l ∷ []) units) (l ∷ []) (In_map (λ l. l ∷ []) units l (has_In units l h)))
 
-pub derived_seen : (held : Held) (seen : List Literal) (cs : List (List Literal)) (steps : List Step) → IsReasoned held seen steps
+pub derived_seen : (held : Held) (seen : List Literal) (cs : List (List Literal)) (steps : List TrailStep) → IsReasoned held seen steps
     → HeldAmong held cs → IsDerived (with_units cs seen) (decisions_of steps) steps
 derived_seen held seen cs steps r of_held =
     reasoned_derived held seen (with_units cs seen) (decisions_of steps) steps r
@@ -114,7 +114,7 @@ derived_seen held seen cs steps r of_held =
     (λ p lt z. inr (unit_with cs seen (lit_at steps p) z.seen_is))
     (λ l h. h)
 
-pub derived_fixed : (held : Held) (seen : List Literal) (cs : List (List Literal)) (steps : List Step) → IsReasoned held seen steps
+pub derived_fixed : (held : Held) (seen : List Literal) (cs : List (List Literal)) (steps : List TrailStep) → IsReasoned held seen steps
     → HeldAmong held cs → IsDerived (with_units cs (fixed_of steps)) (decisions_of steps) steps
 derived_fixed held seen cs steps r of_held =
     reasoned_derived held seen (with_units cs (fixed_of steps)) (decisions_of steps) steps r
@@ -133,7 +133,7 @@ clause_known s a c e = by (held_at s a) refl e
         (held_is_known s a (subst (λ (o : Option Holding). IsSome o) (sym is) refl))
     by None is f = absurd (cc)
 
-pub derived_known : (s : PortState) (steps : List Step) → IsReasoned (clause_at s) s.seen steps → IsDerived (known s) (decisions_of steps) steps
+pub derived_known : (s : PortState) (steps : List TrailStep) → IsReasoned (clause_at s) s.seen steps → IsDerived (known s) (decisions_of steps) steps
 derived_known s steps r =
     reasoned_derived (clause_at s) s.seen (known s) (decisions_of steps) steps r
     (clause_known s)
@@ -144,32 +144,32 @@ derived_known s steps r =
 
 pub decisions_none : (t : TrailData) → IsTrail t → t.level ≡ 0 → decisions_of t.steps ≡ []
 decisions_none t shape z =
-    ap (map (λ (s : Step). s.lit))
+    ap (map (λ (s : TrailStep). s.lit))
     (filter_none (λ s. is_none s.reason && nat_lt 0 s.level) t.steps (λ s h. is_false _ (λ e.
     let p = place_of t.steps s h in
     let low : level_at t.steps p.0 ≤ t.level = shape.within p.0 p.1 in
-    let same : level_at t.steps p.0 ≡ s.level = ap (λ (x : Step). x.level) p.2 in
+    let same : level_at t.steps p.0 ≡ s.level = ap (λ (x : TrailStep). x.level) p.2 in
     let high = ltb-true _ _ (and_parts (is_none s.reason) (nat_lt 0 s.level) e).1 in
     omega arith)))
 
-among_append : (test : Step → Bool) (steps more : List Step) → map (λ (s : Step). s.lit) (filter test (steps ++ more)) ≡ map (λ (s : Step). s.lit) (filter test steps) ++ map (λ (s : Step). s.lit) (filter test more)
+among_append : (test : TrailStep → Bool) (steps more : List TrailStep) → map (λ (s : TrailStep). s.lit) (filter test (steps ++ more)) ≡ map (λ (s : TrailStep). s.lit) (filter test steps) ++ map (λ (s : TrailStep). s.lit) (filter test more)
 among_append test steps more =
-    ap (map (λ (s : Step). s.lit)) (filter-append test steps more) ∙ map-append (λ (s : Step). s.lit) (filter test steps) (filter test more)
+    ap (map (λ (s : TrailStep). s.lit)) (filter-append test steps more) ∙ map-append (λ (s : TrailStep). s.lit) (filter test steps) (filter test more)
 
 -- steps that fail the test add nothing
-among_same : (test : Step → Bool) (steps more : List Step) → ((s : Step) → In s more → test s ≡ false) → map (λ (s : Step). s.lit) (filter test (steps ++ more)) ≡ map (λ (s : Step). s.lit) (filter test steps)
+among_same : (test : TrailStep → Bool) (steps more : List TrailStep) → ((s : TrailStep) → In s more → test s ≡ false) → map (λ (s : TrailStep). s.lit) (filter test (steps ++ more)) ≡ map (λ (s : TrailStep). s.lit) (filter test steps)
 among_same test steps more f =
     among_append test steps more
-    ∙ ap (λ (xs : List Step). map (λ (s : Step). s.lit) (filter test steps) ++ map (λ (s : Step). s.lit) xs) (filter_none test more f)
-    ∙ append-nil (map (λ (s : Step). s.lit) (filter test steps))
+    ∙ ap (λ (xs : List TrailStep). map (λ (s : TrailStep). s.lit) (filter test steps) ++ map (λ (s : TrailStep). s.lit) xs) (filter_none test more f)
+    ∙ append-nil (map (λ (s : TrailStep). s.lit) (filter test steps))
 
 pub decisions_decided : (t : TrailData) (l : Literal) → decisions_of (decided t l).steps ≡ decisions_of t.steps ++ l ∷ []
 decisions_decided t l =
-    let x : Step = record { lit = l; level = t.level + 1; reason = None } in
-    let test : Step → Bool = λ s. is_none s.reason && nat_lt 0 s.level in
+    let x : TrailStep = record { lit = l; level = t.level + 1; reason = None } in
+    let test : TrailStep → Bool = λ s. is_none s.reason && nat_lt 0 s.level in
     let yes' : test x ≡ true = lt-ltb 0 (t.level + 1) (omega arith) in
     among_append test t.steps (x ∷ [])
-    ∙ ap (λ (b : Bool). decisions_of t.steps ++ map (λ (s : Step). s.lit) (cond b (x ∷ []) [])) yes'
+    ∙ ap (λ (b : Bool). decisions_of t.steps ++ map (λ (s : TrailStep). s.lit) (cond b (x ∷ []) [])) yes'
 
 pub fixed_decided : (t : TrailData) (l : Literal) → fixed_of (decided t l).steps ≡ fixed_of t.steps
 fixed_decided t l =
@@ -177,7 +177,7 @@ fixed_decided t l =
     (λ s h. is_false _ (λ e.
     let low = leb-true _ _ e in
     elim h as (λ _. ⊥) [
-      | inl q ↦ (let same : t.level + 1 ≡ s.level = ap (λ (x : Step). x.level) q in omega arith)
+      | inl q ↦ (let same : t.level + 1 ≡ s.level = ap (λ (x : TrailStep). x.level) q in omega arith)
       | inr none ↦ none
     ]))
 
@@ -186,7 +186,7 @@ fixed_grown t u pos g =
     ap fixed_of g.steps
     ∙ among_same (λ s. nat_le s.level 0) t.steps g.more (λ s h. is_false _ (λ e.
     let low = leb-true _ _ e in
-    let here : s.level ≡ t.level = All_In (λ (x : Step). x.level ≡ t.level) g.more s g.at_level h in
+    let here : s.level ≡ t.level = All_In (λ (x : TrailStep). x.level ≡ t.level) g.more s g.at_level h in
     omega arith))
 
 pub decisions_grown : (held : Held) (seen : List Literal) (t u : TrailData) → IsTrail t → HasGrown t u → IsReasoned held seen u.steps → decisions_of u.steps ≡ decisions_of t.steps
@@ -194,7 +194,7 @@ decisions_grown held seen t u shape g r =
     ap decisions_of g.steps
     ∙ among_same (λ s. is_none s.reason && nat_lt 0 s.level) t.steps g.more (λ s h. is_false _ (λ e. none s h e))
   where
-    none : (s : Step) → In s g.more → (is_none s.reason && nat_lt 0 s.level) ≡ true → ⊥
+    none : (s : TrailStep) → In s g.more → (is_none s.reason && nat_lt 0 s.level) ≡ true → ⊥
     none s h e = by (r.caused p lt)
       where
         parts : (is_none s.reason ≡ true) × (nat_lt 0 s.level ≡ true)
@@ -210,17 +210,17 @@ decisions_grown held seen t u shape g r =
         lt = let n : length u.steps ≡ length (t.steps ++ g.more) = ap length g.steps in let b = j.1 in omega (arith, n, b, length-append t.steps g.more)
 
         there : step_at u.steps p ≡ s
-        there = ap (λ (xs : List Step). step_at xs p) g.steps ∙ get_or-append-add t.steps g.more j.0 no_step ∙ j.2
+        there = ap (λ (xs : List TrailStep). step_at xs p) g.steps ∙ get_or-append-add t.steps g.more j.0 no_step ∙ j.2
 
         level_is : level_at u.steps p ≡ t.level
-        level_is = ap (λ (x : Step). x.level) there ∙ All_In (λ (x : Step). x.level ≡ t.level) g.more s g.at_level h
+        level_is = ap (λ (x : TrailStep). x.level) there ∙ All_In (λ (x : TrailStep). x.level ≡ t.level) g.more s g.at_level h
 
         above : 0 < level_at u.steps p
-        above = subst (λ (n : ℕ). 0 < n) (sym (ap (λ (x : Step). x.level) there)) (ltb-true _ _ parts.1)
+        above = subst (λ (n : ℕ). 0 < n) (sym (ap (λ (x : TrailStep). x.level) there)) (ltb-true _ _ parts.1)
 
         by : IsForced held u.steps p ⊎ (IsSeen seen u.steps p ⊎ IsDecision u.steps p) → ⊥
         by (inl f) =
-            let e : is_none s.reason ≡ false = ap (λ (x : Step). is_none x.reason) (sym there) ∙ ap (λ (o : Option Cref). is_none o) f.reason_is in
+            let e : is_none s.reason ≡ false = ap (λ (x : TrailStep). is_none x.reason) (sym there) ∙ ap (λ (o : Option Cref). is_none o) f.reason_is in
             true≢false (sym parts.0 ∙ e)
         by (inr (inl z)) = let a = z.level in let b = above in omega arith
         by (inr (inr d)) =
@@ -228,7 +228,7 @@ decisions_grown held seen t u shape g r =
             let here = level_is in
             let q = shape.opened (t.level - 1) (omega arith) in
             let b = q.1 in
-            let old : level_at u.steps q.0 ≡ level_at t.steps q.0 = ap (λ (xs : List Step). level_at xs q.0) g.steps ∙ ap (λ (x : Step). x.level) (get_or_append_left t.steps g.more no_step q.0 q.1) in
+            let old : level_at u.steps q.0 ≡ level_at t.steps q.0 = ap (λ (xs : List TrailStep). level_at xs q.0) g.steps ∙ ap (λ (x : TrailStep). x.level) (get_or_append_left t.steps g.more no_step q.0 q.1) in
             let is = q.2 in
             let less = d.first q.0 (omega arith) in
             omega arith
@@ -244,7 +244,7 @@ filter_twice {X} p q (x ∷ xs) f = by (q x) (p x) refl refl (filter_twice p q x
     by false false is e rest = rest
 
 pub fixed_back : (t : TrailData) (k : ℕ) → fixed_of (cut_back t k).steps ≡ fixed_of t.steps
-fixed_back t k = ap (map (λ (s : Step). s.lit)) (filter_twice (λ s. nat_le s.level 0) (λ s. nat_le s.level k) t.steps (λ s e. (let low = leb-true _ _ e in le-leb _ _ (omega arith))))
+fixed_back t k = ap (map (λ (s : TrailStep). s.lit)) (filter_twice (λ s. nat_le s.level 0) (λ s. nat_le s.level k) t.steps (λ s e. (let low = leb-true _ _ e in le-leb _ _ (omega arith))))
 
-pub fixed_all : (t : TrailData) → IsTrail t → t.level ≡ 0 → fixed_of t.steps ≡ map (λ (s : Step). s.lit) t.steps
-fixed_all t shape z = ap (map (λ (s : Step). s.lit)) (up_to-all 0 t.steps (λ p lt. (let low = shape.within p lt in omega arith)))
+pub fixed_all : (t : TrailData) → IsTrail t → t.level ≡ 0 → fixed_of t.steps ≡ map (λ (s : TrailStep). s.lit) t.steps
+fixed_all t shape z = ap (map (λ (s : TrailStep). s.lit)) (up_to-all 0 t.steps (λ p lt. (let low = shape.within p lt in omega arith)))

@@ -4,7 +4,7 @@ use Rattle.sat_words.specs.Literal.{Literal}
 use Rattle.sat_words.specs.declared.shared.Cref.{Cref}
 use Rattle.rup_model.proofs.Lists.{In, In_map, map_In, Contains_In, In_Contains}
 use Rattle.ring_port.specs.PortState.{PortState, clause_at}
-use Rattle.ring_trail.specs.declared.step.Step.{Step}
+use Rattle.ring_trail.specs.declared.step.TrailStep.{TrailStep}
 use Rattle.ring_trail.specs.TrailData.{TrailData, reason_at}
 use Rattle.ring_trail.specs.Reasoned.{IsSeen}
 use Rattle.ring_trail.specs.Closed.{IsClosed}
@@ -50,7 +50,7 @@ was_in cs a c h = let r = without_In cs a c (Contains_In (without cs a) c h) in 
 pub without-others : (cs : List Cref) (a : ℕ) (c : Cref) → Contains (without cs a) c ↔ (Contains cs c × (c.address ≢ a))
 without-others cs a c = (λ h. was_in cs a c h, λ h. left_in cs a c h.0 h.1)
 
-pub Reasons-without : (cs : List Cref) (s : PortState) (steps : List Step) (a : ℕ) → ((p : ℕ) (c : Cref) → p < length steps → reason_at steps p ≡ Some c → c.address ≡ a → IsSeen s.seen steps p) → HasReasons cs s steps → HasReasons (without cs a) s steps
+pub Reasons-without : (cs : List Cref) (s : PortState) (steps : List TrailStep) (a : ℕ) → ((p : ℕ) (c : Cref) → p < length steps → reason_at steps p ≡ Some c → c.address ≡ a → IsSeen s.seen steps p) → HasReasons cs s steps → HasReasons (without cs a) s steps
 Reasons-without cs s steps a seen h =
     IsReasoned-held (attached_at cs s) (attached_at (without cs a) s) s.seen s.seen steps h
     (λ p c d lt reason e. elim (cases_eq c.address a) as (λ _. (attached_at (without cs a) s c.address ≡ Some d) ⊎ IsSeen s.seen steps p) [
@@ -62,7 +62,7 @@ Reasons-without cs s steps a seen h =
     ])
     (λ l q. q)
 
-pub Closed-at : (w x : WatchData) (lits : Lits) (steps : List Step) (a k : ℕ) → attached x ≡ without (attached w) a → IsClosed (clauses_of w lits) steps k → IsClosed (clauses_of x lits) steps k
+pub Closed-at : (w x : WatchData) (lits : Lits) (steps : List TrailStep) (a k : ℕ) → attached x ≡ without (attached w) a → IsClosed (clauses_of w lits) steps k → IsClosed (clauses_of x lits) steps k
 Closed-at w x lits steps a k e closed c there =
     let f : Cref → List Literal = λ d. lits d.address in
     let m = map_In f (attached x) c (Contains_In (clauses_of x lits) c there) in

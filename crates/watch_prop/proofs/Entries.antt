@@ -9,7 +9,7 @@ use Rattle.ring_port.proofs.Holdings.{All_In, held_is_kept}
 use Rattle.ring_trail.specs.TrailData.{TrailData, IsTrail, IsTrueOn, IsFalseOn, HasNoPlace}
 use Rattle.watch_prop.specs.declared.watch.Watch.{Watch}
 use Rattle.watch_prop.specs.declared.watch.Watcher.{Watcher}
-use Rattle.watch_prop.specs.declared.watch.Entry.{Entry}
+use Rattle.watch_prop.specs.declared.watch.ListEntry.{ListEntry}
 use Rattle.watch_prop.specs.WatchData.{WatchData, Lits, attached}
 use Rattle.watch_prop.specs.Watched.{At, Watched, IsAttachable, IsPairOf, IsBlocking}
 use Rattle.watch_prop.specs.Propagation.{IsConflict}
@@ -18,10 +18,10 @@ use Rattle.watch_prop.proofs.Growing.{clause_in, TrueOn-within}
 use Rattle.watch_prop.proofs.Reasons.{long_held}
 use Rattle.watch_prop.proofs.Slots.{watch-same}
 
-pub entry_attachable : (w : WatchData) (h : Lits) (t : TrailData) (i : ℕ) (l : Literal) (e : Entry) → Watched w h t → IsEntry w i l e → IsAttachable w.vars (h e.clause.address)
+pub entry_attachable : (w : WatchData) (h : Lits) (t : TrailData) (i : ℕ) (l : Literal) (e : ListEntry) → Watched w h t → IsEntry w i l e → IsAttachable w.vars (h e.clause.address)
 entry_attachable w h t i l e k n = subst (λ (c : Cref). IsAttachable w.vars (h c.address)) n.clause (k.clauses i n.watch n.there)
 
-pub entry_pair : (w : WatchData) (h : Lits) (t : TrailData) (i : ℕ) (l : Literal) (e : Entry) → Watched w h t → IsEntry w i l e → (has (h e.clause.address) l ≡ true) × (has (h e.clause.address) e.other ≡ true)
+pub entry_pair : (w : WatchData) (h : Lits) (t : TrailData) (i : ℕ) (l : Literal) (e : ListEntry) → Watched w h t → IsEntry w i l e → (has (h e.clause.address) l ≡ true) × (has (h e.clause.address) e.other ≡ true)
 entry_pair w h t i l e k n =
     let p = k.pairs i n.watch n.there in
     let c = h n.watch.clause.address in
@@ -45,7 +45,7 @@ held_attachable s a vars port held e = let k = held_is_kept s a port held in sub
 pub attachable_held : (vars : ℕ) (s : PortState) (a : ℕ) → IsAttachable vars (lits_at s a) → IsSome (held_at s a)
 attachable_held vars s a ok = long_held s a (let z = ok.shape.long in omega arith)
 
-pub entry_conflict : (w : WatchData) (h : Lits) (t : TrailData) (i : ℕ) (l : Literal) (e : Entry) → IsEntry w i l e → IsFalseOn t.steps l → IsFalseOn t.steps e.other → AllFalseBut t.steps (h e.clause.address) l e.other → IsConflict w h t e.clause
+pub entry_conflict : (w : WatchData) (h : Lits) (t : TrailData) (i : ℕ) (l : Literal) (e : ListEntry) → IsEntry w i l e → IsFalseOn t.steps l → IsFalseOn t.steps e.other → AllFalseBut t.steps (h e.clause.address) l e.other → IsConflict w h t e.clause
 entry_conflict w h t i l e n f g all = record {
   member = subst (λ (c : Cref). Contains (attached w) c) n.clause (clause_in w i n.watch n.there);
   false_all = λ k there. elim (all k there) as (λ _. IsFalseOn t.steps k) [
@@ -54,7 +54,7 @@ entry_conflict w h t i l e n f g all = record {
   ];
 }
 
-pub entry_forces : (w : WatchData) (h : Lits) (t : TrailData) (i : ℕ) (l : Literal) (e : Entry) → Watched w h t → IsEntry w i l e → IsFalseOn t.steps l → HasNoPlace t.steps e.other.var → AllFalseBut t.steps (h e.clause.address) l e.other → IsForcing w h t i e.other e.clause
+pub entry_forces : (w : WatchData) (h : Lits) (t : TrailData) (i : ℕ) (l : Literal) (e : ListEntry) → Watched w h t → IsEntry w i l e → IsFalseOn t.steps l → HasNoPlace t.steps e.other.var → AllFalseBut t.steps (h e.clause.address) l e.other → IsForcing w h t i e.other e.clause
 entry_forces w h t i l e k n f free all = record {
   at = record { watch = n.watch; there = n.there; clause = n.clause };
   free = free;
@@ -67,7 +67,7 @@ entry_forces w h t i l e k n f free all = record {
   };
 }
 
-pub entry_satisfied : (w : WatchData) (h : Lits) (t : TrailData) (i : ℕ) (l : Literal) (e : Entry) → IsTrail t → Watched w h t → IsEntry w i l e → IsTrueOn t.steps e.other → IsSatisfied w h t i
+pub entry_satisfied : (w : WatchData) (h : Lits) (t : TrailData) (i : ℕ) (l : Literal) (e : ListEntry) → IsTrail t → Watched w h t → IsEntry w i l e → IsTrueOn t.steps e.other → IsSatisfied w h t i
 entry_satisfied w h t i l e trail k n f s at =
     let same : n.watch ≡ s = watch-same w.slots i n.watch s n.there at in
     record {
@@ -85,7 +85,7 @@ blocker_satisfied w h t i x trail b e f s at = record {
 }
 
 -- the two literals of an entry are a pair of its clause
-pub entry_two : (w : WatchData) (h : Lits) (t : TrailData) (i : ℕ) (l : Literal) (e : Entry) → Watched w h t → IsEntry w i l e → IsPairOf (h e.clause.address) l e.other e.binary
+pub entry_two : (w : WatchData) (h : Lits) (t : TrailData) (i : ℕ) (l : Literal) (e : ListEntry) → Watched w h t → IsEntry w i l e → IsPairOf (h e.clause.address) l e.other e.binary
 entry_two w h t i l e k n =
     let p = k.pairs i n.watch n.there in
     let c = h n.watch.clause.address in

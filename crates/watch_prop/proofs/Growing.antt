@@ -7,7 +7,7 @@ use Rattle.sat_words.specs.Literal.{Literal, opposite}
 use Rattle.sat_words.specs.declared.shared.Cref.{Cref}
 use Rattle.sat_words.proofs.Members.{opposite-opposite}
 use Rattle.rup_model.proofs.Lists.{In_map, map_In, Contains_In, In_Contains}
-use Rattle.ring_trail.specs.declared.step.Step.{Step}
+use Rattle.ring_trail.specs.declared.step.TrailStep.{TrailStep}
 use Rattle.ring_trail.specs.TrailData.{TrailData, HasGrown, IsTrail, IsTrueOn, IsFalseOn, no_step, step_at, lit_at, level_at}
 use Rattle.ring_trail.specs.Closed.{TrueWithin, HasTrue, IsClosedClause, IsClosed}
 use Rattle.watch_prop.specs.declared.watch.Watch.{Watch}
@@ -20,32 +20,32 @@ use Rattle.watch_prop.proofs.Slots.{slot_in, slot_of}
 
 -- Steps
 
-pub step_grown : (steps more : List Step) (p : ℕ) → p < length steps → step_at (steps ++ more) p ≡ step_at steps p
+pub step_grown : (steps more : List TrailStep) (p : ℕ) → p < length steps → step_at (steps ++ more) p ≡ step_at steps p
 step_grown steps more p h = get_or_append_left steps more no_step p h
 
-pub TrueWithin-grow : (steps more : List Step) (k : ℕ) (l : Literal) → TrueWithin steps k l → TrueWithin (steps ++ more) k l
+pub TrueWithin-grow : (steps more : List TrailStep) (k : ℕ) (l : Literal) → TrueWithin steps k l → TrueWithin (steps ++ more) k l
 TrueWithin-grow steps more k l h =
     let e = step_grown steps more h.place h.in_range in
     record {
       place = h.place;
       in_range = omega (arith, h.in_range, length-append steps more);
-      true_there = ap (λ (s : Step). s.lit) e ∙ h.true_there;
-      level = omega (arith, h.level, ap (λ (s : Step). s.level) e);
+      true_there = ap (λ (s : TrailStep). s.lit) e ∙ h.true_there;
+      level = omega (arith, h.level, ap (λ (s : TrailStep). s.level) e);
     }
 
-pub TrueWithin-higher : (steps : List Step) (k m : ℕ) (l : Literal) → k ≤ m → TrueWithin steps k l → TrueWithin steps m l
+pub TrueWithin-higher : (steps : List TrailStep) (k m : ℕ) (l : Literal) → k ≤ m → TrueWithin steps k l → TrueWithin steps m l
 TrueWithin-higher steps k m l le h = record { place = h.place; in_range = h.in_range; true_there = h.true_there; level = omega (arith, h.level) }
 
-pub HasTrue-grow : (steps more : List Step) (k : ℕ) (c : List Literal) → HasTrue steps k c → HasTrue (steps ++ more) k c
+pub HasTrue-grow : (steps more : List TrailStep) (k : ℕ) (c : List Literal) → HasTrue steps k c → HasTrue (steps ++ more) k c
 HasTrue-grow steps more k c h = record { lit = h.lit; has_lit = h.has_lit; within = TrueWithin-grow steps more k h.lit h.within }
 
-pub HasTrue-higher : (steps : List Step) (k m : ℕ) (c : List Literal) → k ≤ m → HasTrue steps k c → HasTrue steps m c
+pub HasTrue-higher : (steps : List TrailStep) (k m : ℕ) (c : List Literal) → k ≤ m → HasTrue steps k c → HasTrue steps m c
 HasTrue-higher steps k m c le h = record { lit = h.lit; has_lit = h.has_lit; within = TrueWithin-higher steps k m h.lit le h.within }
 
 pub FalseOn-grow : (t u : TrailData) (l : Literal) → HasGrown t u → IsFalseOn t.steps l → IsFalseOn u.steps l
 FalseOn-grow t u l g h =
     let e = step_grown t.steps g.more h.place h.before in
-    rw g.steps record { place = h.place; before = omega (arith, h.before, length-append t.steps g.more); false_there = ap (λ (s : Step). s.lit) e ∙ h.false_there }
+    rw g.steps record { place = h.place; before = omega (arith, h.before, length-append t.steps g.more); false_there = ap (λ (s : TrailStep). s.lit) e ∙ h.false_there }
 
 -- what is true on a trail is so at its level
 pub TrueOn-within : (t : TrailData) (l : Literal) → IsTrail t → IsTrueOn t.steps l → TrueWithin t.steps t.level l
@@ -53,15 +53,15 @@ TrueOn-within t l trail h = record { place = h.place; in_range = h.before; true_
 
 -- Guards
 
-pub IsGuarded-grow : (steps more : List Step) (n : ℕ) (c : List Literal) (l : Literal) → n ≤ length steps → IsGuarded steps n c l → IsGuarded (steps ++ more) n c l
+pub IsGuarded-grow : (steps more : List TrailStep) (n : ℕ) (c : List Literal) (l : Literal) → n ≤ length steps → IsGuarded steps n c l → IsGuarded (steps ++ more) n c l
 IsGuarded-grow steps more n c l le g p lt q =
     let e = step_grown steps more p (omega arith) in
-    subst (λ (s : Step). HasTrue (steps ++ more) s.level c) (sym e) (HasTrue-grow steps more (level_at steps p) c (g p lt (ap (λ (s : Step). s.lit) (sym e) ∙ q)))
+    subst (λ (s : TrailStep). HasTrue (steps ++ more) s.level c) (sym e) (HasTrue-grow steps more (level_at steps p) c (g p lt (ap (λ (s : TrailStep). s.lit) (sym e) ∙ q)))
 
-pub IsGuarded-open : (steps : List Step) (n : ℕ) (c : List Literal) (l : Literal) → n ≤ length steps → NotFalse steps l → IsGuarded steps n c l
+pub IsGuarded-open : (steps : List TrailStep) (n : ℕ) (c : List Literal) (l : Literal) → n ≤ length steps → NotFalse steps l → IsGuarded steps n c l
 IsGuarded-open steps n c l le open_lit p lt q = absurd (open_lit record { place = p; before = omega arith; false_there = q })
 
-pub IsSettled-grow : (lists : List (List Watcher)) (steps more : List Step) (n : ℕ) (c : List Literal) (i : ℕ) (s : Watch) → n ≤ length steps → IsSettled lists steps n c i s → IsSettled lists (steps ++ more) n c i s
+pub IsSettled-grow : (lists : List (List Watcher)) (steps more : List TrailStep) (n : ℕ) (c : List Literal) (i : ℕ) (s : Watch) → n ≤ length steps → IsSettled lists steps n c i s → IsSettled lists (steps ++ more) n c i s
 IsSettled-grow lists steps more n c i s le h = record {
   first_listed = h.first_listed;
   second_listed = h.second_listed;
@@ -78,11 +78,11 @@ Watched-grow w lits t u le k g d = record {
   settled = λ i s lt at. rw (g.steps, d) (IsSettled-grow w.lists t.steps g.more t.done (lits s.clause.address) i s le (k.settled i s lt at));
   blocking = k.blocking;
   fresh = λ p ge lt.
-      let lt' : p < length (t.steps ++ g.more) = subst (λ (xs : List Step). p < length xs) g.steps lt in
-      subst (λ (xs : List Step). level_at xs p ≡ u.level) (sym g.steps)
+      let lt' : p < length (t.steps ++ g.more) = subst (λ (xs : List TrailStep). p < length xs) g.steps lt in
+      subst (λ (xs : List TrailStep). level_at xs p ≡ u.level) (sym g.steps)
       (elim (cases_lt p (length t.steps)) as (λ _. level_at (t.steps ++ g.more) p ≡ u.level) [
-        | inl before ↦ ap (λ (s : Step). s.level) (step_grown t.steps g.more p before) ∙ k.fresh p (omega (arith, d)) before ∙ sym g.level
-        | inr past ↦ ap (λ (s : Step). s.level) (get_or-append_right t.steps g.more (length t.steps) p no_step refl past)
+        | inl before ↦ ap (λ (s : TrailStep). s.level) (step_grown t.steps g.more p before) ∙ k.fresh p (omega (arith, d)) before ∙ sym g.level
+        | inr past ↦ ap (λ (s : TrailStep). s.level) (get_or-append_right t.steps g.more (length t.steps) p no_step refl past)
             ∙ g.at_level (p - length t.steps) no_step (omega (arith, lt', length-append t.steps g.more)) ∙ sym g.level
       ]);
 }
@@ -106,7 +106,7 @@ watch_of w c there = slot_of w.slots c there
 -- Closed
 
 -- a literal is made true at a level of at most k, or by no step
-search : (steps : List Step) (k : ℕ) (l : Literal) (n : ℕ) → n ≤ length steps → TrueWithin steps k l ⊎ ((p : ℕ) → p < n → lit_at steps p ≡ l → k < level_at steps p)
+search : (steps : List TrailStep) (k : ℕ) (l : Literal) (n : ℕ) → n ≤ length steps → TrueWithin steps k l ⊎ ((p : ℕ) → p < n → lit_at steps p ≡ l → k < level_at steps p)
 search steps k l zero le = inr (λ p lt q. absurd (omega arith))
 search steps k l (suc n) le =
     elim (search steps k l n (omega arith)) as (λ _. TrueWithin steps k l ⊎ ((p : ℕ) → p < suc n → lit_at steps p ≡ l → k < level_at steps p)) [
@@ -126,7 +126,7 @@ search steps k l (suc n) le =
       ]
     ]
 
-pub cases_TrueWithin : (steps : List Step) (k : ℕ) (l : Literal) → TrueWithin steps k l ⊎ (TrueWithin steps k l → ⊥)
+pub cases_TrueWithin : (steps : List TrailStep) (k : ℕ) (l : Literal) → TrueWithin steps k l ⊎ (TrueWithin steps k l → ⊥)
 cases_TrueWithin steps k l = elim (search steps k l (length steps) (omega arith)) as (λ _. TrueWithin steps k l ⊎ (TrueWithin steps k l → ⊥)) [
   | inl t ↦ inl t
   | inr none ↦ inr (λ t. let q = none t.place t.in_range t.true_there in let r = t.level in omega arith)
@@ -166,22 +166,22 @@ HasGrown-trans t u v p q = record {
   vars = q.vars ∙ p.vars;
   level = q.level ∙ p.level;
   more = p.more ++ q.more;
-  steps = q.steps ∙ ap (λ (ss : List Step). ss ++ q.more) p.steps ∙ append_assoc t.steps p.more q.more;
-  at_level = All-append (λ (x : Step). x.level ≡ t.level) p.more q.more p.at_level (λ k d h. q.at_level k d h ∙ p.level);
+  steps = q.steps ∙ ap (λ (ss : List TrailStep). ss ++ q.more) p.steps ∙ append_assoc t.steps p.more q.more;
+  at_level = All-append (λ (x : TrailStep). x.level ≡ t.level) p.more q.more p.at_level (λ k d h. q.at_level k d h ∙ p.level);
 }
 
 -- a step at the present level
-pub HasGrown-step : (t u : TrailData) (s : Step) → u ≡ record t { level = s.level; steps = t.steps ++ s ∷ [] } → s.level ≡ t.level → HasGrown t u
+pub HasGrown-step : (t u : TrailData) (s : TrailStep) → u ≡ record t { level = s.level; steps = t.steps ++ s ∷ [] } → s.level ≡ t.level → HasGrown t u
 HasGrown-step t u s e l = record {
   vars = ap (λ (x : TrailData). x.vars) e;
   level = ap (λ (x : TrailData). x.level) e ∙ l;
   more = s ∷ [];
   steps = ap (λ (x : TrailData). x.steps) e;
-  at_level = All-cons (λ (x : Step). x.level ≡ t.level) s [] l (All-nil (λ (x : Step). x.level ≡ t.level));
+  at_level = All-cons (λ (x : TrailStep). x.level ≡ t.level) s [] l (All-nil (λ (x : TrailStep). x.level ≡ t.level));
 }
 
-pub HasGrown-pass : (t u : TrailData) (n : ℕ) → HasGrown t u → HasGrown t record u { done = n }
-HasGrown-pass t u n g = record { vars = g.vars; level = g.level; more = g.more; steps = g.steps; at_level = g.at_level }
+pub HasGrown-advance_head : (t u : TrailData) (n : ℕ) → HasGrown t u → HasGrown t record u { done = n }
+HasGrown-advance_head t u n g = record { vars = g.vars; level = g.level; more = g.more; steps = g.steps; at_level = g.at_level }
 
 pub HasGrown-longer : (t u : TrailData) → HasGrown t u → length t.steps ≤ length u.steps
-HasGrown-longer t u g = omega (arith, ap (λ (xs : List Step). length xs) g.steps, length-append t.steps g.more)
+HasGrown-longer t u g = omega (arith, ap (λ (xs : List TrailStep). length xs) g.steps, length-append t.steps g.more)

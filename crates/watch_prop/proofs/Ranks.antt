@@ -7,7 +7,7 @@ use Rattle.std.proofs.lemmas.Bool.Decides.{nat_tests}
 use Rattle.sat_words.specs.Literal.{Literal, opposite, same}
 use Rattle.sat_words.specs.Clause.{has, distinct_lits}
 use Rattle.sat_words.proofs.Members.{same-true, same-refl}
-use Rattle.ring_trail.specs.declared.step.Step.{Step}
+use Rattle.ring_trail.specs.declared.step.TrailStep.{TrailStep}
 use Rattle.ring_trail.specs.TrailData.{TrailData, HasGrown, IsTrail, IsFalseOn, IsFalseClause, lit_at, level_at, level_of}
 use Rattle.ring_trail.specs.Reasoned.{ForcesAt}
 use Rattle.ring_trail.specs.Closed.{TrueWithin, HasTrue, IsClosedClause}
@@ -78,7 +78,7 @@ rank_of_false t l r trail f e =
       place = f.place;
       in_range = f.before;
       false_there = f.false_there;
-      level = sym (e ∙ ap (λ (o : Option Step). unwrap_or (option_map (λ (s : Step). s.level) o) 0) step);
+      level = sym (e ∙ ap (λ (o : Option TrailStep). unwrap_or (option_map (λ (s : TrailStep). s.level) o) 0) step);
     })
 
 ranks_low : (t : TrailData) (l m : Literal) (r n : ℕ) → l ≡ m → IsRank t m r → r ≤ n → RanksLow t l n
@@ -241,8 +241,8 @@ best-guarded t u c b trail h g high made closed = (
   rw g.steps (IsGuarded-grow t.steps g.more t.done c b.first trail.done (IsGuarded-open t.steps t.done c b.first trail.done (rank-open t b.first b.high trail h.high_is high))),
   λ p lt q.
       let in_t : p < length t.steps = (let z = trail.done in omega arith) in
-      let same_step = ap (λ (xs : List Step). level_at xs p) g.steps ∙ ap (λ (s : Step). s.level) (step_grown t.steps g.more p in_t) in
-      let q' : lit_at t.steps p ≡ opposite b.second = ap (λ (s : Step). s.lit) (sym (step_grown t.steps g.more p in_t)) ∙ ap (λ (xs : List Step). lit_at xs p) (sym g.steps) ∙ q in
+      let same_step = ap (λ (xs : List TrailStep). level_at xs p) g.steps ∙ ap (λ (s : TrailStep). s.level) (step_grown t.steps g.more p in_t) in
+      let q' : lit_at t.steps p ≡ opposite b.second = ap (λ (s : TrailStep). s.lit) (sym (step_grown t.steps g.more p in_t)) ∙ ap (λ (xs : List TrailStep). lit_at xs p) (sym g.steps) ∙ q in
       let n = level_at t.steps p in
       let low : b.low ≡ n = rank-at t b.second b.low p trail h.low_is in_t q' in
       let within : n ≤ t.level = trail.within p in_t in

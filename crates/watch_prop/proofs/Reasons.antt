@@ -8,7 +8,7 @@ use Rattle.std.proofs.lemmas.Bool.Decides.{nat_tests}
 use Rattle.sat_words.specs.declared.shared.Cref.{Cref}
 use Rattle.rup_model.proofs.Lists.{any_In, Contains_In}
 use Rattle.ring_port.specs.PortState.{PortState, Holding, held_at, lits_at, clause_at}
-use Rattle.ring_trail.specs.declared.step.Step.{Step}
+use Rattle.ring_trail.specs.declared.step.TrailStep.{TrailStep}
 use Rattle.watch_prop.specs.Propagation.{attached_at, HasReasons}
 
 -- the literals of a clause that is held
@@ -37,8 +37,8 @@ attached_some cs s c there held =
     rw e (held_some s c.address held)
 
 -- over the clauses attached and the port as they were
-pub Reasons-over : (cs ds : List Cref) (s r : PortState) (steps : List Step) → ds ≡ cs → r ≡ s → HasReasons cs s steps → HasReasons ds r steps
+pub Reasons-over : (cs ds : List Cref) (s r : PortState) (steps : List TrailStep) → ds ≡ cs → r ≡ s → HasReasons cs s steps → HasReasons ds r steps
 Reasons-over cs ds s r steps e f h = subst (λ (xs : List Cref). HasReasons xs r steps) (sym e) (subst (λ (y : PortState). HasReasons cs y steps) (sym f) h)
 
-pub Reasons-back : (cs ds : List Cref) (s r : PortState) (steps : List Step) → ds ≡ cs → r ≡ s → HasReasons ds r steps → HasReasons cs s steps
+pub Reasons-back : (cs ds : List Cref) (s r : PortState) (steps : List TrailStep) → ds ≡ cs → r ≡ s → HasReasons ds r steps → HasReasons cs s steps
 Reasons-back cs ds s r steps e f h = subst (λ (xs : List Cref). HasReasons xs s steps) e (subst (λ (y : PortState). HasReasons ds y steps) f h)

@@ -5,7 +5,7 @@ use Rattle.std.proofs.lemmas.List.{length-set, length-append, get_or_append_left
 use Rattle.sat_words.specs.Literal.{Literal}
 use Rattle.sat_words.specs.Clause.{has}
 use Rattle.sat_words.specs.declared.shared.Cref.{Cref}
-use Rattle.ring_trail.specs.declared.step.Step.{Step}
+use Rattle.ring_trail.specs.declared.step.TrailStep.{TrailStep}
 use Rattle.ring_trail.specs.TrailData.{TrailData, HasGrown, IsTrail}
 use Rattle.ring_trail.specs.Closed.{TrueWithin, IsClosed}
 use Rattle.ring_trail.proofs.Causes.{IsClosed-more}
@@ -130,10 +130,10 @@ best-conflict w h t s i b at best le = record { member = clause_in w i s at; fal
 pub closed-grow : (w x : WatchData) (h : Lits) (t u : TrailData) → attached x ≡ attached w → HasGrown t u → IsClosedBelow w h t → IsClosedBelow x h u
 closed-grow w x h t u same g below k lt =
     let lt' : k < t.level = omega (arith, g.level) in
-    let above : All (λ (y : Step). k < y.level) g.more = λ i d h. (let z = g.at_level i d h in omega arith) in
+    let above : All (λ (y : TrailStep). k < y.level) g.more = λ i d h. (let z = g.at_level i d h in omega arith) in
     let grown : IsClosed (clauses_of w h) (t.steps ++ g.more) k = IsClosed-more (clauses_of w h) t.steps g.more k above (below k lt') in
     subst (λ (cs : List Cref). IsClosed (map (λ (c : Cref). h c.address) cs) u.steps k) (sym same)
-    (subst (λ (xs : List Step). IsClosed (clauses_of w h) xs k) (sym g.steps) grown)
+    (subst (λ (xs : List TrailStep). IsClosed (clauses_of w h) xs k) (sym g.steps) grown)
 
 -- a clause that waits comes to the end
 pub Watched-push : (w : WatchData) (h : Lits) (t : TrailData) (s : Watch) → Watched w h t → IsAttachable w.vars (h s.clause.address) → IsPair (h s.clause.address) s → Watched record w { slots = w.slots ++ Some s ∷ [] } h t

@@ -8,7 +8,7 @@ use Rattle.sat_words.specs.Clause.{has}
 use Rattle.sat_words.specs.declared.shared.Cref.{Cref}
 use Rattle.rup_model.proofs.Lists.{any_In, In_any, Contains_In, In_Contains}
 use Rattle.ring_port.specs.PortState.{PortState, clause_at}
-use Rattle.ring_trail.specs.declared.step.Step.{Step}
+use Rattle.ring_trail.specs.declared.step.TrailStep.{TrailStep}
 use Rattle.ring_trail.specs.TrailData.{TrailData, IsTrail, no_step, level_at, decided, assigned, cut_back}
 use Rattle.ring_trail.specs.Reasoned.{IsReasoned}
 use Rattle.ring_trail.specs.Closed.{TrueWithin, HasTrue}
@@ -26,7 +26,7 @@ Watched-assign w lits t l r trail k =
 
 pub Watched-decide : (w : WatchData) (lits : Lits) (t : TrailData) (l : Literal) → t.done ≡ length t.steps → Watched w lits t → Watched w lits (decided t l)
 Watched-decide w lits t l all k =
-    let s : Step = record { lit = l; level = t.level + 1; reason = None } in
+    let s : TrailStep = record { lit = l; level = t.level + 1; reason = None } in
     record {
       vars = k.vars;
       few = k.few;
@@ -34,7 +34,7 @@ Watched-decide w lits t l all k =
       pairs = k.pairs;
       settled = λ i x lt at. IsSettled-grow w.lists t.steps (s ∷ []) t.done (lits x.clause.address) i x (omega arith) (k.settled i x lt at);
       blocking = k.blocking;
-      fresh = λ p ge lt. ap (λ (x : Step). x.level) (get_or_push t.steps s no_step p (let n = length-append t.steps (s ∷ []) in omega arith));
+      fresh = λ p ge lt. ap (λ (x : TrailStep). x.level) (get_or_push t.steps s no_step p (let n = length-append t.steps (s ∷ []) in omega arith));
     }
 
 pub Watched-back : (w : WatchData) (lits : Lits) (t : TrailData) (k : ℕ) → IsTrail t → k ≤ t.level → Watched w lits t → Watched w lits (cut_back t k)
@@ -43,14 +43,14 @@ Watched-back w lits t k trail below v =
     let true_back : (j : ℕ) (l : Literal) → j ≤ k → TrueWithin t.steps j l → TrueWithin u.steps j l
     = λ j l le h.
     let b = back-kept t k h.place trail h.in_range (let z = h.level in omega arith) in
-    record { place = h.place; in_range = b.0; true_there = ap (λ (s : Step). s.lit) b.1 ∙ h.true_there; level = (let z = h.level in let e = ap (λ (s : Step). s.level) b.1 in omega arith) } in
+    record { place = h.place; in_range = b.0; true_there = ap (λ (s : TrailStep). s.lit) b.1 ∙ h.true_there; level = (let z = h.level in let e = ap (λ (s : TrailStep). s.level) b.1 in omega arith) } in
     let guard : (c : List Literal) (l : Literal) → IsGuarded t.steps t.done c l → IsGuarded u.steps u.done c l
     = λ c l g p lt q.
     let b = back-only t k p trail (omega arith) in
     let e = b.2 in
-    let h = g p (omega arith) (ap (λ (s : Step). s.lit) (sym e) ∙ q) in
+    let h = g p (omega arith) (ap (λ (s : TrailStep). s.lit) (sym e) ∙ q) in
     let le : level_at t.steps p ≤ k = b.1 in
-    subst (λ (s : Step). HasTrue u.steps s.level c) (sym e) record { lit = h.lit; has_lit = h.has_lit; within = true_back (level_at t.steps p) h.lit le h.within } in
+    subst (λ (s : TrailStep). HasTrue u.steps s.level c) (sym e) record { lit = h.lit; has_lit = h.has_lit; within = true_back (level_at t.steps p) h.lit le h.within } in
     record {
       vars = v.vars;
       few = v.few;
@@ -64,7 +64,7 @@ Watched-back w lits t k trail below v =
           let b = back-only t k p trail lt in
           let was = v.fresh p (omega arith) b.0 in
           let low : level_at t.steps p ≤ k = b.1 in
-          let e = ap (λ (s : Step). s.level) b.2 in
+          let e = ap (λ (s : TrailStep). s.level) b.2 in
           omega (arith, was, low, e);
     }
 
@@ -97,7 +97,7 @@ attached_at-in cs s c there =
     let yes : list_any (λ (x : Cref). x.address == c.address) cs ≡ true = any_In (λ (x : Cref). x.address == c.address) cs c (Contains_In cs c there) (same_number c.address) in
     rw yes refl
 
-pub Reasons-more : (cs ds : List Cref) (s r : PortState) (steps : List Step) → ((c : Cref) → Contains cs c → Contains ds c × (clause_at r c.address ≡ clause_at s c.address))
+pub Reasons-more : (cs ds : List Cref) (s r : PortState) (steps : List TrailStep) → ((c : Cref) → Contains cs c → Contains ds c × (clause_at r c.address ≡ clause_at s c.address))
     → ((l : Literal) → has s.seen l ≡ true → has r.seen l ≡ true) → HasReasons cs s steps → HasReasons ds r steps
 Reasons-more cs ds s r steps keeps seen h =
     IsReasoned-held (attached_at cs s) (attached_at ds r) s.seen r.seen steps h
@@ -108,6 +108,6 @@ Reasons-more cs ds s r steps keeps seen h =
     inl (subst (λ (a : ℕ). attached_at ds r a ≡ clause_at s a) m.2 at ∙ m.3))
     seen
 
-pub Reasons-held : (cs : List Cref) (s : PortState) (steps : List Step) → HasReasons cs s steps → IsReasoned (clause_at s) s.seen steps
+pub Reasons-held : (cs : List Cref) (s : PortState) (steps : List TrailStep) → HasReasons cs s steps → IsReasoned (clause_at s) s.seen steps
 Reasons-held cs s steps h =
     IsReasoned-held (attached_at cs s) (clause_at s) s.seen s.seen steps h (λ p c d lt reason e. inl (attached_is cs s c.address d e).3) (λ l q. q)

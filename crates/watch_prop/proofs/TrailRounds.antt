@@ -10,7 +10,7 @@ use Rattle.rup_model.specs.Rup.{conflicts}
 use Rattle.rup_model.proofs.Lists.{In, In_any, any_In, In_all, all_In, none_In, has_In, In_has, In_map, map_In, In_get_or, In_append, Contains_In, In_Contains}
 use Rattle.rup_model.proofs.RoundsLemmas.{Within, falsifies-Within, forces-parts}
 use Rattle.rup_model.proofs.Closed.{Rounds-step, Rounds-has, Rounds-least}
-use Rattle.ring_trail.specs.declared.step.Step.{Step}
+use Rattle.ring_trail.specs.declared.step.TrailStep.{TrailStep}
 use Rattle.ring_trail.specs.TrailData.{TrailData, IsTrail, IsTrueOn, IsFalseOn, IsFalseClause, HasNoPlace, no_step, step_at, lit_at}
 use Rattle.ring_trail.specs.Closed.{TrueWithin, IsClosedClause, IsClosed}
 use Rattle.ring_trail.proofs.Shape.{same_lit}
@@ -19,32 +19,32 @@ use Rattle.watch_prop.specs.Rounds.{with_units, AllTrueOn, IsImplied, IsDerived,
 -- The trail's literals as a test
 
 -- the test whether a literal is true on the trail
-on : List Step → Literal → Bool
-on steps l = has (map (λ (s : Step). s.lit) steps) l
+on : List TrailStep → Literal → Bool
+on steps l = has (map (λ (s : TrailStep). s.lit) steps) l
 
 -- a step of the list stands at some place
-pub place_of : (steps : List Step) (s : Step) → In s steps → (p : ℕ) × (p < length steps) × (step_at steps p ≡ s)
+pub place_of : (steps : List TrailStep) (s : TrailStep) → In s steps → (p : ℕ) × (p < length steps) × (step_at steps p ≡ s)
 place_of [] s h = absurd h
 place_of (x ∷ xs) s (inl e) = (0, omega arith, e)
 place_of (x ∷ xs) s (inr h) = let t = place_of xs s h in (suc t.0, omega (arith, t.1), t.2)
 
-true_on : (steps : List Step) (l : Literal) → on steps l ≡ true → IsTrueOn steps l
+true_on : (steps : List TrailStep) (l : Literal) → on steps l ≡ true → IsTrueOn steps l
 unfolding on
 true_on steps l h =
-    let m = map_In (λ (s : Step). s.lit) steps l (has_In (map (λ (s : Step). s.lit) steps) l h) in
+    let m = map_In (λ (s : TrailStep). s.lit) steps l (has_In (map (λ (s : TrailStep). s.lit) steps) l h) in
     let p = place_of steps m.0 m.1 in
-    record { place = p.0; before = p.1; true_there = ap (λ (s : Step). s.lit) p.2 ∙ m.2 }
+    record { place = p.0; before = p.1; true_there = ap (λ (s : TrailStep). s.lit) p.2 ∙ m.2 }
 
-on_true : (steps : List Step) (l : Literal) → IsTrueOn steps l → on steps l ≡ true
+on_true : (steps : List TrailStep) (l : Literal) → IsTrueOn steps l → on steps l ≡ true
 unfolding on
 on_true steps l h =
-    In_has (map (λ (s : Step). s.lit) steps) l
-    (subst (λ (x : Literal). In x (map (λ (s : Step). s.lit) steps)) h.true_there (In_map (λ (s : Step). s.lit) steps (step_at steps h.place) (In_get_or steps h.place no_step h.before)))
+    In_has (map (λ (s : TrailStep). s.lit) steps) l
+    (subst (λ (x : Literal). In x (map (λ (s : TrailStep). s.lit) steps)) h.true_there (In_map (λ (s : TrailStep). s.lit) steps (step_at steps h.place) (In_get_or steps h.place no_step h.before)))
 
-false_on : (steps : List Step) (l : Literal) → on steps (opposite l) ≡ true → IsFalseOn steps l
+false_on : (steps : List TrailStep) (l : Literal) → on steps (opposite l) ≡ true → IsFalseOn steps l
 false_on steps l h = let t = true_on steps (opposite l) h in record { place = t.place; before = t.before; false_there = t.true_there }
 
-on_false : (steps : List Step) (l : Literal) → IsFalseOn steps l → on steps (opposite l) ≡ true
+on_false : (steps : List TrailStep) (l : Literal) → IsFalseOn steps l → on steps (opposite l) ≡ true
 on_false steps l f = on_true steps (opposite l) (record { place = f.place; before = f.before; true_there = f.false_there })
 
 -- two literals of one variable are one, or opposites
@@ -57,7 +57,7 @@ sign x l e = by x.neg l.neg refl refl
     by true false f g = inr (same_lit x (opposite l) e (f ∙ sym (ap not g)))
     by false true f g = inr (same_lit x (opposite l) e (f ∙ sym (ap not g)))
 
-free_of : (steps : List Step) (l : Literal) → on steps l ≡ false → on steps (opposite l) ≡ false → HasNoPlace steps l.var
+free_of : (steps : List TrailStep) (l : Literal) → on steps l ≡ false → on steps (opposite l) ≡ false → HasNoPlace steps l.var
 free_of steps l h k p lt e =
     let here : on steps (lit_at steps p) ≡ true = on_true steps (lit_at steps p) (record { place = p; before = lt; true_there = refl }) in
     elim (sign (lit_at steps p) l e) as (λ _. ⊥) [
@@ -67,7 +67,7 @@ free_of steps l h k p lt e =
 
 -- What is derived
 
-derived_below : (G : List (List Literal)) (A : List Literal) (steps : List Step) → conflicts G A ≡ false → IsDerived G A steps
+derived_below : (G : List (List Literal)) (A : List Literal) (steps : List TrailStep) → conflicts G A ≡ false → IsDerived G A steps
     → (n p : ℕ) → p < n → p < length steps → Rounds G A (lit_at steps p) ≡ true
 derived_below G A steps quiet d zero p lt h = absurd (omega arith)
 derived_below G A steps quiet d (suc n) p lt h =
@@ -83,13 +83,13 @@ derived_below G A steps quiet d (suc n) p lt h =
           ]))
     ]
 
-derived_true : (G : List (List Literal)) (A : List Literal) (steps : List Step) (l : Literal) → conflicts G A ≡ false → IsDerived G A steps → IsTrueOn steps l → Rounds G A l ≡ true
+derived_true : (G : List (List Literal)) (A : List Literal) (steps : List TrailStep) (l : Literal) → conflicts G A ≡ false → IsDerived G A steps → IsTrueOn steps l → Rounds G A l ≡ true
 derived_true G A steps l quiet d h =
     let b = h.before in
     subst (λ (x : Literal). Rounds G A x ≡ true) h.true_there (derived_below G A steps quiet d (length steps) h.place h.before h.before)
 
 -- each literal of the trail is in the rounds, or they falsify a clause
-pub derived_in_rounds : (G : List (List Literal)) (A : List Literal) (steps : List Step) (l : Literal) → IsDerived G A steps → IsTrueOn steps l → (Rounds G A l ≡ true) ⊎ (conflicts G A ≡ true)
+pub derived_in_rounds : (G : List (List Literal)) (A : List Literal) (steps : List TrailStep) (l : Literal) → IsDerived G A steps → IsTrueOn steps l → (Rounds G A l ≡ true) ⊎ (conflicts G A ≡ true)
 derived_in_rounds G A steps l d h =
     elim (cases_Bool (conflicts G A)) as (λ _. (Rounds G A l ≡ true) ⊎ (conflicts G A ≡ true)) [
       | inl c ↦ inr c
@@ -97,7 +97,7 @@ derived_in_rounds G A steps l d h =
     ]
 
 -- a clause that is false on the trail shows a conflict of the rounds
-pub derived_conflict : (G : List (List Literal)) (A : List Literal) (steps : List Step) (c : List Literal) → IsDerived G A steps → Contains G c → IsFalseClause steps c → conflicts G A ≡ true
+pub derived_conflict : (G : List (List Literal)) (A : List Literal) (steps : List TrailStep) (c : List Literal) → IsDerived G A steps → Contains G c → IsFalseClause steps c → conflicts G A ≡ true
 unfolding conflicts
 derived_conflict G A steps c d inG bad =
     elim (cases_Bool (conflicts G A)) as (λ _. conflicts G A ≡ true) [
@@ -107,7 +107,7 @@ derived_conflict G A steps c d inG bad =
     ]
 
 -- more is given, and more clauses
-pub derived_more : (G H : List (List Literal)) (A B : List Literal) (steps : List Step) → ((c : List Literal) → Contains G c → Contains H c) → ((l : Literal) → has A l ≡ true → has B l ≡ true)
+pub derived_more : (G H : List (List Literal)) (A B : List Literal) (steps : List TrailStep) → ((c : List Literal) → Contains G c → Contains H c) → ((l : Literal) → has A l ≡ true → has B l ≡ true)
     → IsDerived G A steps → IsDerived H B steps
 derived_more G H A B steps clauses lits d p lt =
     elim (d p lt) as (λ _. (has B (lit_at steps p) ≡ true) ⊎ IsImplied H steps p) [
@@ -115,7 +115,7 @@ derived_more G H A B steps clauses lits d p lt =
       | inr i ↦ inr (record { clause = i.clause; member = clauses i.clause i.member; unit = i.unit })
     ]
 
-refuted_at : (G : List (List Literal)) (A : List Literal) (steps : List Step) (p : ℕ) → p < length steps → IsDerived G A steps
+refuted_at : (G : List (List Literal)) (A : List Literal) (steps : List TrailStep) (p : ℕ) → p < length steps → IsDerived G A steps
     → (has A (lit_at steps p) ≡ true) ⊎ (conflicts G (opposite (lit_at steps p) ∷ A) ≡ true)
 unfolding conflicts
 refuted_at G A steps p lt d =
@@ -141,7 +141,7 @@ refuted_at G A steps p lt d =
         ]))
 
 -- a literal of the trail is given, or its negation beside what is given shows a conflict
-pub derived_refuted : (G : List (List Literal)) (A : List Literal) (steps : List Step) (l : Literal) → IsDerived G A steps → IsTrueOn steps l → (has A l ≡ true) ⊎ (conflicts G (opposite l ∷ A) ≡ true)
+pub derived_refuted : (G : List (List Literal)) (A : List Literal) (steps : List TrailStep) (l : Literal) → IsDerived G A steps → IsTrueOn steps l → (has A l ≡ true) ⊎ (conflicts G (opposite l ∷ A) ≡ true)
 derived_refuted G A steps l d h =
     subst (λ (x : Literal). (has A x ≡ true) ⊎ (conflicts G (opposite x ∷ A) ≡ true)) h.true_there (refuted_at G A steps h.place h.before d)
 

@@ -4,12 +4,12 @@ use Rattle.std.proofs.lemmas.List.{length-set, length-append, get_or_push, take_
 use Rattle.sat_words.specs.Literal.{Literal, opposite}
 use Rattle.sat_words.specs.Clause.{has}
 use Rattle.sat_words.specs.declared.shared.Cref.{Cref}
-use Rattle.ring_trail.specs.declared.step.Step.{Step}
+use Rattle.ring_trail.specs.declared.step.TrailStep.{TrailStep}
 use Rattle.ring_trail.specs.TrailData.{TrailData, IsTrail, HasGrown, no_step, lit_at, level_at}
 use Rattle.ring_trail.specs.Closed.{HasTrue}
 use Rattle.watch_prop.specs.declared.watch.Watch.{Watch}
 use Rattle.watch_prop.specs.declared.watch.Watcher.{Watcher}
-use Rattle.watch_prop.specs.declared.watch.Entry.{Entry}
+use Rattle.watch_prop.specs.declared.watch.ListEntry.{ListEntry}
 use Rattle.watch_prop.specs.WatchData.{WatchData, Lits, list_at}
 use Rattle.watch_prop.specs.Watched.{At, Watched, IsGuarded, IsSettled, IsPair, IsAttachable, IsBlocking}
 use Rattle.watch_prop.specs.Lists.{Removed, Reblocked}
@@ -81,7 +81,7 @@ visiting-settled w h t l place lt v one = record {
 }
 
 -- the other watch, which is true, becomes the blocker
-pub visiting-blocked : (w : WatchData) (h : Lits) (t : TrailData) (l : Literal) (place : ℕ) (e : Entry) (lists : List (List Watcher)) (rooms : List ℕ) (size : ℕ) → IsTrail t → place < length (list_at w.lists l) → IsVisiting w h t l (place + 1)
+pub visiting-blocked : (w : WatchData) (h : Lits) (t : TrailData) (l : Literal) (place : ℕ) (e : ListEntry) (lists : List (List Watcher)) (rooms : List ℕ) (size : ℕ) → IsTrail t → place < length (list_at w.lists l) → IsVisiting w h t l (place + 1)
     → CanBlock w t l (get_or (list_at w.lists l) place 0) e → Reblocked w.lists lists l place e.other → IsVisiting record w { lists = lists; rooms = rooms; size = size } h t l place
 visiting-blocked w h t l place e lists rooms size trail lt v can r =
     let k = v.watched in
@@ -132,7 +132,7 @@ visiting-grow w h t u l place le g d v = record {
       ];
 }
 
-pub visiting-moved : (w x : WatchData) (h : Lits) (t : TrailData) (l m : Literal) (place : ℕ) (e : Entry) → t.done ≤ length t.steps → place < length (list_at w.lists l) → IsVisiting w h t l (place + 1)
+pub visiting-moved : (w x : WatchData) (h : Lits) (t : TrailData) (l m : Literal) (place : ℕ) (e : ListEntry) → t.done ≤ length t.steps → place < length (list_at w.lists l) → IsVisiting w h t l (place + 1)
     → CanMove w h t l (get_or (list_at w.lists l) place 0) e m → Replaced w x e l m place → IsVisiting x h t l place
 visiting-moved w x h t l m place e le lt v can r =
     let k = v.watched in
@@ -228,7 +228,7 @@ visiting-moved w x h t l m place e le lt v can r =
       ];
     }
 
-pub visiting-forced : (w : WatchData) (h : Lits) (t u : TrailData) (l k : Literal) (place : ℕ) (c : Cref) (s : Step) → t.done ≤ length t.steps → place < length (list_at w.lists l) → IsVisiting w h t l (place + 1)
+pub visiting-forced : (w : WatchData) (h : Lits) (t u : TrailData) (l k : Literal) (place : ℕ) (c : Cref) (s : TrailStep) → t.done ≤ length t.steps → place < length (list_at w.lists l) → IsVisiting w h t l (place + 1)
     → IsForcing w h t (get_or (list_at w.lists l) place 0) k c → s.lit ≡ k → s.level ≡ t.level → u.steps ≡ t.steps ++ s ∷ [] → HasGrown t u → u.done ≡ t.done → IsVisiting w h u l place
 visiting-forced w h t u l k place c s le lt v f made lev steps g d =
     let here = get_or_push t.steps s no_step (length t.steps) refl in
@@ -241,15 +241,15 @@ visiting-forced w h t u l k place c s le lt v f made lev steps g d =
       within = record {
         place = length t.steps;
         in_range = omega (arith, length-append t.steps (s ∷ []));
-        true_there = ap (λ (x : Step). x.lit) here ∙ made;
-        level = omega (arith, ap (λ (x : Step). x.level) here, g.level, lev);
+        true_there = ap (λ (x : TrailStep). x.lit) here ∙ made;
+        level = omega (arith, ap (λ (x : TrailStep). x.level) here, g.level, lev);
       };
     } in
     visiting-settled w h u l place lt (visiting-grow w h t u l (place + 1) le g d v) satisfied
 
 -- the step at `done` is passed, once no watch of the literal that it makes false is left
-pub Watched-pass : (w : WatchData) (h : Lits) (t : TrailData) (l : Literal) → t.done < length t.steps → lit_at t.steps t.done ≡ opposite l → IsVisiting w h t l 0 → Watched w h record t { done = t.done + 1 }
-Watched-pass w h t l open_yet made v =
+pub Watched-advance_head : (w : WatchData) (h : Lits) (t : TrailData) (l : Literal) → t.done < length t.steps → lit_at t.steps t.done ≡ opposite l → IsVisiting w h t l 0 → Watched w h record t { done = t.done + 1 }
+Watched-advance_head w h t l open_yet made v =
     let k = v.watched in
     let level : level_at t.steps t.done ≡ t.level = k.fresh t.done (omega arith) open_yet in
     let guard : (i : ℕ) (s : Watch) (m : Literal) → i < w.settled → At w.slots i (Some s) → ((s.first ≡ m) ⊎ (s.second ≡ m)) → IsGuarded t.steps t.done (h s.clause.address) m → IsGuarded t.steps (t.done + 1) (h s.clause.address) m

@@ -4,7 +4,7 @@ use Rattle.std.specs.List.{list_any}
 use Rattle.sat_words.specs.Literal.{Literal}
 use Rattle.sat_words.specs.declared.shared.Cref.{Cref}
 use Rattle.ring_port.specs.PortState.{PortState, clause_at}
-use Rattle.ring_trail.specs.declared.step.Step.{Step}
+use Rattle.ring_trail.specs.declared.step.TrailStep.{TrailStep}
 use Rattle.ring_trail.specs.TrailData.{TrailData, IsFalseClause}
 use Rattle.ring_trail.specs.Reasoned.{IsReasoned}
 use Rattle.ring_trail.specs.Closed.{IsClosed}
@@ -17,7 +17,7 @@ abbrev pub attached_at : List Cref → PortState → ℕ → Option (List Litera
 attached_at cs s a = if list_any (λ (c : Cref). c.address == a) cs then clause_at s a else None
 
 -- each literal that wasn't decided has a reason that is attached, held and was unit, or is at level 0 with its unit seen
-abbrev pub HasReasons : List Cref → PortState → List Step → Type 0
+abbrev pub HasReasons : List Cref → PortState → List TrailStep → Type 0
 HasReasons cs s steps = IsReasoned (attached_at cs s) s.seen steps
 
 -- each attached clause is closed at each level below the present one

@@ -3,15 +3,15 @@ use Rattle.std.specs.Prelude.{◌≡◌, ◌≢◌, ℕ, ◌<◌, ◌≤◌, ◌
 use Rattle.sat_words.specs.Literal.{Literal}
 use Rattle.sat_words.specs.Clause.{has}
 use Rattle.sat_words.specs.declared.shared.Cref.{Cref}
-use Rattle.ring_trail.specs.declared.step.Step.{Step}
+use Rattle.ring_trail.specs.declared.step.TrailStep.{TrailStep}
 use Rattle.ring_trail.specs.TrailData.{TrailData, IsTrueOn, IsFalseOn, HasNoPlace}
 use Rattle.ring_trail.specs.Reasoned.{ForcesAt}
 use Rattle.ring_trail.specs.Closed.{HasTrue}
 use Rattle.watch_prop.specs.declared.watch.Watch.{Watch}
 use Rattle.watch_prop.specs.declared.watch.Watcher.{Watcher}
-use Rattle.watch_prop.specs.declared.watch.Entry.{Entry}
-use Rattle.watch_prop.specs.declared.watch.Verdict.{Verdict}
-use Rattle.watch_prop.specs.declared.watch.Verdict.TheVariants.{Stale, Settled, Blocked, Moves, Forced, False}
+use Rattle.watch_prop.specs.declared.watch.ListEntry.{ListEntry}
+use Rattle.watch_prop.specs.declared.watch.ClauseState.{ClauseState}
+use Rattle.watch_prop.specs.declared.watch.ClauseState.TheVariants.{Stale, Settled, Blocked, Moves, Forced, False}
 use Rattle.watch_prop.specs.declared.watch.Visit.{Visit}
 use Rattle.watch_prop.specs.declared.watch.Visit.TheVariants.{Done, Falsified}
 use Rattle.watch_prop.specs.declared.propagated.Propagated.{Propagated}
@@ -22,18 +22,18 @@ use Rattle.watch_prop.specs.Propagation.{IsConflict}
 use Rattle.watch_prop.specs.Lists.{Added, Removed}
 
 -- the literal is not false
-abbrev pub NotFalse : List Step → Literal → Type 0
+abbrev pub NotFalse : List TrailStep → Literal → Type 0
 NotFalse steps l = IsFalseOn steps l → ⊥
 
 -- a literal of the clause beside these two that isn't false
-pub record IsOpenIn (steps : List Step) (c : List Literal) (l other k : Literal) : Type 0 where
+pub record IsOpenIn (steps : List TrailStep) (c : List Literal) (l other k : Literal) : Type 0 where
   pub inside : has c k ≡ true
   pub not_l : k ≢ l
   pub not_other : k ≢ other
   pub not_false : NotFalse steps k
 
 -- each literal of the clause beside these two is false
-abbrev pub AllFalseBut : List Step → List Literal → Literal → Literal → Type 0
+abbrev pub AllFalseBut : List TrailStep → List Literal → Literal → Literal → Type 0
 AllFalseBut steps c l other = (k : Literal) → has c k ≡ true → (k ≡ l) ⊎ ((k ≡ other) ⊎ IsFalseOn steps k)
 
 -- those watches of the literal that are not below this place in its list are satisfied
@@ -42,7 +42,7 @@ pub record IsVisiting (w : WatchData) (lits : Lits) (t : TrailData) (l : Literal
   pub left : (i : ℕ) (s : Watch) → i < w.settled → At w.slots i (Some s) → (s.first ≡ l) ⊎ (s.second ≡ l) → Contains (take place (list_at w.lists l)) i ⊎ HasTrue t.steps t.level (lits s.clause.address)
 
 -- the watch at the index, seen from one of its literals
-pub record IsEntry (w : WatchData) (index : ℕ) (l : Literal) (e : Entry) : Type 0 where
+pub record IsEntry (w : WatchData) (index : ℕ) (l : Literal) (e : ListEntry) : Type 0 where
   pub at_index : e.index ≡ index
   pub watch : Watch
   pub there : At w.slots index (Some watch)
@@ -55,7 +55,7 @@ abbrev pub IsStale : WatchData → ℕ → Literal → Type 0
 IsStale w index l = (s : Watch) → At w.slots index (Some s) → (s.first ≢ l) × (s.second ≢ l)
 
 -- a new literal watches, and its list has the watch
-pub record Replaced (old new : WatchData) (e : Entry) (l k : Literal) (place : ℕ) : Type 0 where
+pub record Replaced (old new : WatchData) (e : ListEntry) (l k : Literal) (place : ℕ) : Type 0 where
   pub vars : new.vars ≡ old.vars
   pub settled : new.settled ≡ old.settled
   pub slots : new.slots ≡ slice_set old.slots e.index (Some record { clause = e.clause; first = e.other; second = k; binary = e.binary })
@@ -64,7 +64,7 @@ pub record Replaced (old new : WatchData) (e : Entry) (l k : Literal) (place : �
   pub removed : Removed between new.lists l place
 
 -- the watch at the index may be moved to another literal of its clause
-pub record CanMove (w : WatchData) (lits : Lits) (t : TrailData) (l : Literal) (index : ℕ) (e : Entry) (k : Literal) : Type 0 where
+pub record CanMove (w : WatchData) (lits : Lits) (t : TrailData) (l : Literal) (index : ℕ) (e : ListEntry) (k : Literal) : Type 0 where
   pub entry : IsEntry w index l e
   pub is_open : IsOpenIn t.steps (lits e.clause.address) l e.other k
 
@@ -85,11 +85,11 @@ abbrev pub IsSatisfied : WatchData → Lits → TrailData → ℕ → Type 0
 IsSatisfied w lits t index = (s : Watch) → At w.slots index (Some s) → HasTrue t.steps t.level (lits s.clause.address)
 
 -- the other literal of the watch at the index is true
-pub record CanBlock (w : WatchData) (t : TrailData) (l : Literal) (index : ℕ) (e : Entry) : Type 0 where
+pub record CanBlock (w : WatchData) (t : TrailData) (l : Literal) (index : ℕ) (e : ListEntry) : Type 0 where
   pub entry : IsEntry w index l e
   pub is_true : IsTrueOn t.steps e.other
 
-abbrev pub IsVerdict : WatchData → Lits → TrailData → Literal → ℕ → Verdict → Type 0
+abbrev pub IsVerdict : WatchData → Lits → TrailData → Literal → ℕ → ClauseState → Type 0
 IsVerdict w lits t l index Stale = IsStale w index l
 IsVerdict w lits t l index Settled = IsSatisfied w lits t index
 IsVerdict w lits t l index (Blocked e) = CanBlock w t l index e

@@ -5,7 +5,7 @@ use Rattle.sat_words.specs.Literal.{Literal, opposite}
 use Rattle.sat_words.specs.Clause.{has}
 use Rattle.rup_model.specs.Opening.{IsLong}
 use Rattle.ring_port.specs.PortState.{IsOn}
-use Rattle.ring_trail.specs.declared.step.Step.{Step}
+use Rattle.ring_trail.specs.declared.step.TrailStep.{TrailStep}
 use Rattle.ring_trail.specs.TrailData.{TrailData, lit_at, level_at}
 use Rattle.ring_trail.specs.Closed.{HasTrue}
 use Rattle.watch_prop.specs.declared.watch.Watch.{Watch}
@@ -33,11 +33,11 @@ abbrev pub IsPair : List Literal → Watch → Type 0
 IsPair c s = IsPairOf c s.first s.second s.binary
 
 -- where one of the first n steps made the literal false, a literal of the clause is true at a level of at most that step's
-abbrev pub IsGuarded : List Step → ℕ → List Literal → Literal → Type 0
+abbrev pub IsGuarded : List TrailStep → ℕ → List Literal → Literal → Type 0
 IsGuarded steps n c l = (p : ℕ) → p < n → lit_at steps p ≡ opposite l → HasTrue steps (level_at steps p) c
 
 -- the watch at place i is listed at both its literals, and both are guarded
-pub record IsSettled (lists : List (List Watcher)) (steps : List Step) (n : ℕ) (c : List Literal) (i : ℕ) (s : Watch) : Type 0 where
+pub record IsSettled (lists : List (List Watcher)) (steps : List TrailStep) (n : ℕ) (c : List Literal) (i : ℕ) (s : Watch) : Type 0 where
   pub first_listed : Contains (list_at lists s.first) i
   pub second_listed : Contains (list_at lists s.second) i
   pub first_guarded : IsGuarded steps n c s.first

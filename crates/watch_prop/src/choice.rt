@@ -26,7 +26,7 @@ fn rank(trail: &Trail, lit: Lit) -> u32
     requires { lit.var ≤ trail.now.vars }
     ensures { IsRank trail.now lit result }
 {
-    let not_false = trail.present() + 1;
+    let not_false = trail.decision_level() + 1;
     if trail.is_false(lit) {
         trail.level(lit.var()).unwrap_or(0)
     } else {

@@ -7,7 +7,7 @@ ghost use Rattle.ring_trail.specs.TrailData.{IsFalseOn};
 ghost use Rattle.watch_prop.specs.Visiting.{NotFalse, IsOpenIn, AllFalseBut};
 ghost use Rattle.watch_prop.specs.Watched.{IsPairOf};
 
-use crate::watch::Entry;
+use crate::watch::ListEntry;
 use ring_port::Port;
 use ring_trail::Trail;
 use sat_words::{Cref, Lit};
@@ -49,7 +49,7 @@ fn scan<P: Port>(port: &mut P, trail: &Trail, clause: Cref, lit: Lit, other: Lit
 pub(crate) fn find_replacement<P: Port>(
     port: &mut P,
     trail: &Trail,
-    entry: &Entry,
+    entry: &ListEntry,
     lit: Lit,
 ) -> Option<Lit>
     requires held { IsSome (held_at (P.state port.old) entry.now.clause.address) }

@@ -4,7 +4,7 @@ ghost use Rattle.sat_words.specs.Literal.{Literal};
 ghost use Rattle.sat_words.specs.Clause.{has};
 ghost use Rattle.sat_words.specs.declared.shared.Cref.{Cref};
 ghost use Rattle.ring_port.specs.PortState.{PortState, held_at, lits_at, clause_at};
-ghost use Rattle.ring_trail.specs.declared.step.Step.{Step};
+ghost use Rattle.ring_trail.specs.declared.step.TrailStep.{TrailStep};
 ghost use Rattle.ring_trail.specs.TrailData.{TrailData, IsTrail, reason_at, decided, assigned, cut_back};
 ghost use Rattle.ring_trail.specs.Reasoned.{IsReasoned, IsSeen};
 ghost use Rattle.ring_trail.specs.Closed.{IsClosed};
@@ -35,13 +35,13 @@ pub fn attached_clauses_keep_watches()
 /// What is attached, held and seen may change: the reasons stay where each attached clause stays attached and held with its
 /// literals, and each unit seen stays so.
 pub fn attached_clauses_keep_reasons()
-    ensures { (cs ds : List Cref) (s r : PortState) (steps : List Step) → ((c : Cref) → Contains cs c → Contains ds c × (clause_at r c.address ≡ clause_at s c.address))
+    ensures { (cs ds : List Cref) (s r : PortState) (steps : List TrailStep) → ((c : Cref) → Contains cs c → Contains ds c × (clause_at r c.address ≡ clause_at s c.address))
         → ((l : Literal) → has s.seen l ≡ true → has r.seen l ≡ true) → HasReasons cs s steps → HasReasons ds r steps }
 {}
 
 /// Reasons that are attached are held.
 pub fn attached_reasons_are_held()
-    ensures { (cs : List Cref) (s : PortState) (steps : List Step) → HasReasons cs s steps → IsReasoned (clause_at s) s.seen steps }
+    ensures { (cs : List Cref) (s : PortState) (steps : List TrailStep) → HasReasons cs s steps → IsReasoned (clause_at s) s.seen steps }
 {}
 
 /// An attached clause that is held may be the reason of a literal that it forces.
@@ -56,12 +56,12 @@ pub fn detaching_leaves_the_others()
 
 /// Detaching a clause keeps the reasons where it is none of them, or one at level 0 whose unit is seen.
 pub fn detaching_keeps_reasons()
-    ensures { (cs : List Cref) (s : PortState) (steps : List Step) (a : ℕ) → ((p : ℕ) (c : Cref) → p < length steps → reason_at steps p ≡ Some c → c.address ≡ a → IsSeen s.seen steps p)
+    ensures { (cs : List Cref) (s : PortState) (steps : List TrailStep) (a : ℕ) → ((p : ℕ) (c : Cref) → p < length steps → reason_at steps p ≡ Some c → c.address ≡ a → IsSeen s.seen steps p)
         → HasReasons cs s steps → HasReasons (without cs a) s steps }
 {}
 
 /// Detaching a clause leaves the others closed, at each level and below the present one.
 pub fn detaching_keeps_closed()
-    ensures at { (w x : WatchData) (lits : Lits) (steps : List Step) (a k : ℕ) → attached x ≡ without (attached w) a → IsClosed (clauses_of w lits) steps k → IsClosed (clauses_of x lits) steps k }
+    ensures at { (w x : WatchData) (lits : Lits) (steps : List TrailStep) (a k : ℕ) → attached x ≡ without (attached w) a → IsClosed (clauses_of w lits) steps k → IsClosed (clauses_of x lits) steps k }
     ensures below { (w x : WatchData) (lits : Lits) (t : TrailData) (a : ℕ) → attached x ≡ without (attached w) a → IsClosedBelow w lits t → IsClosedBelow x lits t }
 {}

@@ -6,7 +6,7 @@ ghost use Rattle.sat_words.specs.declared.shared.Cref.{Cref};
 ghost use Rattle.rup_model.specs.Rounds.{Rounds};
 ghost use Rattle.rup_model.specs.Rup.{conflicts};
 ghost use Rattle.ring_port.specs.PortState.{PortState, lits_at, clause_at, known};
-ghost use Rattle.ring_trail.specs.declared.step.Step.{Step};
+ghost use Rattle.ring_trail.specs.declared.step.TrailStep.{TrailStep};
 ghost use Rattle.ring_trail.specs.TrailData.{TrailData, IsTrail, IsTrueOn, IsFalseClause, HasGrown, lit_at, decided, cut_back};
 ghost use Rattle.ring_trail.specs.Reasoned.{Held, IsSeen, IsReasoned};
 ghost use Rattle.ring_trail.specs.Closed.{IsClosed};
@@ -18,11 +18,11 @@ ghost use Rattle.watch_prop.specs.Rounds.{decisions_of, fixed_of, with_units, Al
 /// negation together.) They falsify one where a clause is false on the trail, and where a literal of the trail that wasn't
 /// given is negated.
 pub fn derived_literals_are_in_the_rounds()
-    ensures in_rounds { (G : List (List Literal)) (A : List Literal) (steps : List Step) (l : Literal) → IsDerived G A steps → IsTrueOn steps l
+    ensures in_rounds { (G : List (List Literal)) (A : List Literal) (steps : List TrailStep) (l : Literal) → IsDerived G A steps → IsTrueOn steps l
         → (Rounds G A l ≡ true) ⊎ (conflicts G A ≡ true) }
-    ensures conflict { (G : List (List Literal)) (A : List Literal) (steps : List Step) (c : List Literal) → IsDerived G A steps → Contains G c
+    ensures conflict { (G : List (List Literal)) (A : List Literal) (steps : List TrailStep) (c : List Literal) → IsDerived G A steps → Contains G c
         → IsFalseClause steps c → conflicts G A ≡ true }
-    ensures refuted { (G : List (List Literal)) (A : List Literal) (steps : List Step) (l : Literal) → IsDerived G A steps → IsTrueOn steps l
+    ensures refuted { (G : List (List Literal)) (A : List Literal) (steps : List TrailStep) (l : Literal) → IsDerived G A steps → IsTrueOn steps l
         → (has A l ≡ true) ⊎ (conflicts G (opposite l ∷ A) ≡ true) }
 {}
 
@@ -54,16 +54,16 @@ pub fn trails_are_closed_or_unfinished()
 /// A trail whose literals have their reasons is derived: from its decisions, where the units seen or the literals at level
 /// 0 are clauses. What is looked up among attached clauses is one of them, and more may be given.
 pub fn reasoned_trails_are_derived()
-    ensures given { (held : Held) (seen : List Literal) (G : List (List Literal)) (A : List Literal) (steps : List Step) → IsReasoned held seen steps → HeldAmong held G
+    ensures given { (held : Held) (seen : List Literal) (G : List (List Literal)) (A : List Literal) (steps : List TrailStep) → IsReasoned held seen steps → HeldAmong held G
         → ((p : ℕ) → p < length steps → IsSeen seen steps p → (has A (lit_at steps p) ≡ true) ⊎ Contains G (lit_at steps p ∷ []))
         → ((l : Literal) → has (decisions_of steps) l ≡ true → has A l ≡ true) → IsDerived G A steps }
-    ensures seen { (held : Held) (seen : List Literal) (cs : List (List Literal)) (steps : List Step) → IsReasoned held seen steps → HeldAmong held cs
+    ensures seen { (held : Held) (seen : List Literal) (cs : List (List Literal)) (steps : List TrailStep) → IsReasoned held seen steps → HeldAmong held cs
         → IsDerived (with_units cs seen) (decisions_of steps) steps }
-    ensures fixed { (held : Held) (seen : List Literal) (cs : List (List Literal)) (steps : List Step) → IsReasoned held seen steps → HeldAmong held cs
+    ensures fixed { (held : Held) (seen : List Literal) (cs : List (List Literal)) (steps : List TrailStep) → IsReasoned held seen steps → HeldAmong held cs
         → IsDerived (with_units cs (fixed_of steps)) (decisions_of steps) steps }
-    ensures known { (s : PortState) (steps : List Step) → IsReasoned (clause_at s) s.seen steps → IsDerived (known s) (decisions_of steps) steps }
+    ensures known { (s : PortState) (steps : List TrailStep) → IsReasoned (clause_at s) s.seen steps → IsDerived (known s) (decisions_of steps) steps }
     ensures attached { (cs : List Cref) (s : PortState) → HeldAmong (attached_at cs s) (map (λ (c : Cref). lits_at s c.address) cs) }
-    ensures more { (G H : List (List Literal)) (A B : List Literal) (steps : List Step) → ((c : List Literal) → Contains G c → Contains H c)
+    ensures more { (G H : List (List Literal)) (A B : List Literal) (steps : List TrailStep) → ((c : List Literal) → Contains G c → Contains H c)
         → ((l : Literal) → has A l ≡ true → has B l ≡ true) → IsDerived G A steps → IsDerived H B steps }
 {}
 
@@ -72,9 +72,9 @@ pub fn reasoned_trails_are_derived()
 /// at the present level and the units are true, its literals are exactly theirs and they falsify none. Rounds that falsify
 /// one show a clause that is false or unit.
 pub fn reasoned_trails_agree_with_rounds()
-    ensures in_rounds { (held : Held) (seen : List Literal) (cs : List (List Literal)) (steps : List Step) (l : Literal) → IsReasoned held seen steps → HeldAmong held cs
+    ensures in_rounds { (held : Held) (seen : List Literal) (cs : List (List Literal)) (steps : List TrailStep) (l : Literal) → IsReasoned held seen steps → HeldAmong held cs
         → IsTrueOn steps l → (Rounds (with_units cs seen) (decisions_of steps) l ≡ true) ⊎ (conflicts (with_units cs seen) (decisions_of steps) ≡ true) }
-    ensures conflict { (held : Held) (seen : List Literal) (cs : List (List Literal)) (steps : List Step) (c : List Literal) → IsReasoned held seen steps → HeldAmong held cs
+    ensures conflict { (held : Held) (seen : List Literal) (cs : List (List Literal)) (steps : List TrailStep) (c : List Literal) → IsReasoned held seen steps → HeldAmong held cs
         → Contains (with_units cs seen) c → IsFalseClause steps c → conflicts (with_units cs seen) (decisions_of steps) ≡ true }
     ensures same { (held : Held) (seen : List Literal) (cs : List (List Literal)) (t : TrailData) (l : Literal) → IsTrail t → IsReasoned held seen t.steps → HeldAmong held cs
         → IsClosed cs t.steps t.level → AllTrueOn t.steps seen → (Rounds (with_units cs seen) (decisions_of t.steps) l ≡ true) ↔ IsTrueOn t.steps l }
@@ -87,15 +87,15 @@ pub fn reasoned_trails_agree_with_rounds()
 /// Deciding adds one decision, and propagation none.
 pub fn decisions_are_those_made()
     ensures none { (t : TrailData) → IsTrail t → t.level ≡ 0 → decisions_of t.steps ≡ [] }
-    ensures all_true { (steps : List Step) → AllTrueOn steps (decisions_of steps) }
+    ensures all_true { (steps : List TrailStep) → AllTrueOn steps (decisions_of steps) }
     ensures decided { (t : TrailData) (l : Literal) → decisions_of (decided t l).steps ≡ decisions_of t.steps ++ l ∷ [] }
     ensures grown { (held : Held) (seen : List Literal) (t u : TrailData) → IsTrail t → HasGrown t u → IsReasoned held seen u.steps → decisions_of u.steps ≡ decisions_of t.steps }
 {}
 
 /// At level 0 every literal is one of that level. Above it nothing adds any, and going back takes none away.
 pub fn fixed_literals_stay()
-    ensures whole { (t : TrailData) → IsTrail t → t.level ≡ 0 → fixed_of t.steps ≡ map (λ (s : Step). s.lit) t.steps }
-    ensures all_true { (steps : List Step) → AllTrueOn steps (fixed_of steps) }
+    ensures whole { (t : TrailData) → IsTrail t → t.level ≡ 0 → fixed_of t.steps ≡ map (λ (s : TrailStep). s.lit) t.steps }
+    ensures all_true { (steps : List TrailStep) → AllTrueOn steps (fixed_of steps) }
     ensures decided { (t : TrailData) (l : Literal) → fixed_of (decided t l).steps ≡ fixed_of t.steps }
     ensures grown { (t u : TrailData) → 0 < t.level → HasGrown t u → fixed_of u.steps ≡ fixed_of t.steps }
     ensures back { (t : TrailData) (k : ℕ) → fixed_of (cut_back t k).steps ≡ fixed_of t.steps }

@@ -19,7 +19,7 @@ pub struct Watcher {
 
 /// A watch as one of its literals sees it: its slot, its clause, its other literal, and whether the clause has no others.
 #[derive(Clone, Copy)]
-pub(crate) struct Entry {
+pub(crate) struct ListEntry {
     pub(crate) index: u32,
     pub(crate) clause: Cref,
     pub(crate) other: Lit,
@@ -28,15 +28,15 @@ pub(crate) struct Entry {
 
 /// What a watcher in the list of a false literal asks for.
 #[derive(Clone, Copy)]
-pub(crate) enum Verdict {
+pub(crate) enum ClauseState {
     /// To be dropped: the literal doesn't watch this clause any more.
     Stale,
     /// Nothing: a literal of the clause is true.
     Settled,
     /// The other literal of this watch as its blocker, which is true.
-    Blocked(Entry),
+    Blocked(ListEntry),
     /// To be moved to this literal, which isn't false.
-    Moves(Entry, Lit),
+    Moves(ListEntry, Lit),
     /// That this literal becomes true, for this clause.
     Forced(Lit, Cref),
     /// A conflict: every literal of this clause is false.

@@ -12,7 +12,7 @@ ghost use Rattle.watch_prop.specs.Visiting.{IsEntry, IsStale};
 
 use crate::lists::Lists;
 use crate::propagated::Propagated;
-use crate::watch::{Entry, Watch, Watcher};
+use crate::watch::{ListEntry, Watch, Watcher};
 use ring_port::Port;
 use ring_trail::Trail;
 use sat_words::{Cref, Lit};
@@ -139,7 +139,7 @@ impl Watches {
         ensures propagated { IfOk result (IsPropagated self.new (lits_at (P.state port.old)) trail.new) }
     {
         self.tidy();
-        match self.settle(port, trail)? {
+        match self.watch_waiting(port, trail)? {
             Propagated::Conflict(clause) => Ok(Propagated::Conflict(clause)),
             Propagated::Quiet => Ok(self.run(port, trail)?),
         }
@@ -205,7 +205,7 @@ impl Watches {
     }
 
     /// The watch at an index, where the literal is one of its two.
-    fn entry(&self, index: u32, lit: Lit) -> Option<Entry>
+    fn entry(&self, index: u32, lit: Lit) -> Option<ListEntry>
         ensures found { IfSome result (IsEntry self.now index lit) }
         ensures stale { IfNone result (IsStale self.now index lit) }
     {
@@ -217,7 +217,7 @@ impl Watches {
             Some(watch) => watch,
         };
         if watch.first == lit {
-            return Some(Entry {
+            return Some(ListEntry {
                 index,
                 clause: watch.clause,
                 other: watch.second,
@@ -225,7 +225,7 @@ impl Watches {
             });
         }
         if watch.second == lit {
-            return Some(Entry {
+            return Some(ListEntry {
                 index,
                 clause: watch.clause,
                 other: watch.first,

@@ -25,7 +25,7 @@ use std::alloc::AllocError;
 
 impl Watches {
     /// Looks at all clauses that wait.
-    pub(crate) fn settle<P: Port>(
+    pub(crate) fn watch_waiting<P: Port>(
         &mut self,
         port: &mut P,
         trail: &mut Trail,
@@ -66,11 +66,11 @@ impl Watches {
             Some(watch) => watch,
         };
         let best = best_watches(port, trail, &watch);
-        let present = trail.present();
-        if best.high <= present {
+        let decision_level = trail.decision_level();
+        if best.high <= decision_level {
             return Ok(Visit::Falsified(watch.clause));
         }
-        if best.low > present {
+        if best.low > decision_level {
             self.list(&watch, best.first, best.second)?;
             return Ok(Visit::Done);
         }
@@ -118,7 +118,7 @@ fn make_true(trail: &mut Trail, lit: Lit, clause: Cref)
     ensures done { trail.new.done ≡ trail.old.done }
     ensures made { TrueWithin trail.new.steps trail.new.level lit }
 {
-    let _lawful = trail.present();
+    let _lawful = trail.decision_level();
     if !trail.is_true(lit) {
         trail.assign(lit, Some(clause));
     }

@@ -13,7 +13,7 @@ ghost use Rattle.watch_prop.specs.Visiting.{IsVisiting, IsEntry, IsVerdict, Repl
 
 use crate::clause_scan::find_replacement;
 use crate::propagated::Propagated;
-use crate::watch::{Entry, Verdict, Visit, Watch, Watcher};
+use crate::watch::{ClauseState, ListEntry, Visit, Watch, Watcher};
 use crate::watches::Watches;
 use ring_port::Port;
 use ring_trail::Trail;
@@ -37,7 +37,7 @@ impl Watches {
     {
         while let Some(lit) = trail.next() {
             match self.walk(port, trail, lit.not())? {
-                Propagated::Quiet => trail.pass(),
+                Propagated::Quiet => trail.advance_head(),
                 Propagated::Conflict(clause) => return Ok(Propagated::Conflict(clause)),
             }
         }
@@ -93,21 +93,21 @@ impl Watches {
         ensures done { trail.new.done ≡ trail.old.done }
         ensures visited { IfOk result (IsVisited self.new (lits_at (P.state port.old)) trail.new lit place) }
     {
-        let _level = trail.present();
+        let _level = trail.decision_level();
         match self.judge(port, trail, lit, place) {
-            Verdict::Stale => self.lists.take(lit, place),
-            Verdict::Settled => {}
-            Verdict::Blocked(entry) => self.lists.set_blocker(lit, place, entry.other),
-            Verdict::Moves(entry, new) => self.replace(entry, lit, new, place)?,
-            Verdict::Forced(other, clause) => trail.assign(other, Some(clause)),
-            Verdict::False(clause) => return Ok(Visit::Falsified(clause)),
+            ClauseState::Stale => self.lists.take(lit, place),
+            ClauseState::Settled => {}
+            ClauseState::Blocked(entry) => self.lists.set_blocker(lit, place, entry.other),
+            ClauseState::Moves(entry, new) => self.replace(entry, lit, new, place)?,
+            ClauseState::Forced(other, clause) => trail.assign(other, Some(clause)),
+            ClauseState::False(clause) => return Ok(Visit::Falsified(clause)),
         }
         Ok(Visit::Done)
     }
 
     /// What a watcher in the list of a false literal asks for. The clause is read only where neither the blocker nor the
     /// other literal is true, and where it has more than two literals.
-    fn judge<P: Port>(&self, port: &mut P, trail: &Trail, lit: Lit, place: usize) -> Verdict
+    fn judge<P: Port>(&self, port: &mut P, trail: &Trail, lit: Lit, place: usize) -> ClauseState
         requires watched { Watched self.now (lits_at (P.state port.old)) trail.now }
         requires in_range { lit.var ≤ self.now.vars }
         requires there { place < length (list_at self.now.lists lit) }
@@ -115,32 +115,38 @@ impl Watches {
         ensures same { P.state port.new ≡ P.state port.old }
         ensures verdict { IsVerdict self.now (lits_at (P.state port.old)) trail.now lit (slice_index (list_at self.now.lists lit) place) result }
     {
-        let _lawful = trail.present();
+        let _lawful = trail.decision_level();
         let watcher = self.watcher_at(lit, place);
         if trail.is_true(watcher.blocker) {
-            return Verdict::Settled;
+            return ClauseState::Settled;
         }
         let entry = match self.entry(watcher.slot, lit) {
-            None => return Verdict::Stale,
+            None => return ClauseState::Stale,
             Some(entry) => entry,
         };
         if trail.is_true(entry.other) {
-            return Verdict::Blocked(entry);
+            return ClauseState::Blocked(entry);
         }
         match find_replacement(port, trail, &entry, lit) {
-            Some(new) => Verdict::Moves(entry, new),
+            Some(new) => ClauseState::Moves(entry, new),
             None => {
                 if trail.is_false(entry.other) {
-                    Verdict::False(entry.clause)
+                    ClauseState::False(entry.clause)
                 } else {
-                    Verdict::Forced(entry.other, entry.clause)
+                    ClauseState::Forced(entry.other, entry.clause)
                 }
             }
         }
     }
 
     /// Lets a new literal watch in the place of one that became false.
-    fn replace(&mut self, entry: Entry, lit: Lit, new: Lit, place: usize) -> Result<(), AllocError>
+    fn replace(
+        &mut self,
+        entry: ListEntry,
+        lit: Lit,
+        new: Lit,
+        place: usize,
+    ) -> Result<(), AllocError>
         requires entry { IsEntry self.old (slice_index (list_at self.old.lists lit) place) lit entry }
         requires in_range { lit.var ≤ self.old.vars }
         requires new_in_range { new.var ≤ self.old.vars }

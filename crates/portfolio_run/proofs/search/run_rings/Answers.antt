@@ -8,15 +8,15 @@ use Rattle.portfolio_run.proofs.search.run_rings.Goals as goal
 pub decide-requires-clause-mended : goal.decide-requires-clause-mended
 decide-requires-clause-mended g c =
     let first = c.args.first.now in
-    mended_ends c.args.table.now first.me.0 (home_of first) c.args.plan.now c.take_in.new.first c.take_in.new.ends.items c.args.stack.now c.requires.first.0.0.2 c.requires.fits c.take_in.ensures
+    mended_ends c.args.table.now first.me.0 (home_of first) c.args.plan.now c.join_rings.new.first c.join_rings.new.ends.items c.args.stack.now c.requires.first.0.0.2 c.requires.fits c.join_rings.ensures
 
 pub returns : goal.returns
 returns g c =
     let first = c.args.first.now in
     let e = c.decide.ensures in
     record {
-      ends = c.take_in.new.ends.items;
-      run = run_looked c.args.table.now first.me.0 (home_of first) c.args.plan.now c.take_in.new.first c.decide.new.first c.take_in.new.ends.items e.first e.same.0 e.same.1 e.ends c.take_in.ensures;
+      ends = c.join_rings.new.ends.items;
+      run = run_looked c.args.table.now first.me.0 (home_of first) c.args.plan.now c.join_rings.new.first c.decide.new.first c.join_rings.new.ends.items e.first e.same.0 e.same.1 e.ends c.join_rings.ensures;
       tally_is = c.note_counts.ensures ∙ ap (λ (es : List (End × Counts)). map (λ (e : End × Counts). e.1) es) c.as_slice.ensures.value;
       decided = e.decided;
     }

@@ -2,7 +2,7 @@ use Rattle.std.proofs.Common.{◌≡◌, ◌∙◌, ℕ, ◌<◌, ◌+◌, ◌++
 use Rattle.std.proofs.lemmas.List.{take_all, map_more}
 use Rattle.sat_words.specs.declared.shared.Cref.{Cref}
 use Rattle.ring_port.specs.PortState.{PortState, held_at}
-use Rattle.ring_trail.specs.declared.step.Step.{Step}
+use Rattle.ring_trail.specs.declared.step.TrailStep.{TrailStep}
 use Rattle.reduce_db.specs.Ranking.{candidate_of}
 use Rattle.reduce_db.specs.declared.candidate.Candidate.{Candidate}
 use Rattle.reduce_db.proofs.candidate.candidates_of.Goals as goal
@@ -10,7 +10,7 @@ use Rattle.reduce_db.proofs.candidate.candidates_of.Goals as goal
 abbrev no_cref : Cref
 no_cref = record { address = 0 }
 
-found_more : (r s : PortState) (steps : List Step) (lemmas : List Cref) (i : ℕ) (xs ys : List (Option Candidate)) (x : Option Candidate) → r ≡ s → i < length lemmas → ys ≡ xs ++ x ∷ [] → x ≡ candidate_of r steps (get_or lemmas i record { address = 0 })
+found_more : (r s : PortState) (steps : List TrailStep) (lemmas : List Cref) (i : ℕ) (xs ys : List (Option Candidate)) (x : Option Candidate) → r ≡ s → i < length lemmas → ys ≡ xs ++ x ∷ [] → x ≡ candidate_of r steps (get_or lemmas i record { address = 0 })
     → xs ≡ map (candidate_of s steps) (take i lemmas) → ys ≡ map (candidate_of s steps) (take (i + 1) lemmas)
 found_more r s steps lemmas i xs ys x same lt grown is before =
     grown ∙ ap (λ (zs : List (Option Candidate)). zs ++ x ∷ []) before

@@ -13,8 +13,8 @@ first_to_go-requires g c =
     let is = c.as_slice-2.ensures.value ∙ c.in_ok-candidates.ensures.candidates steps are in
     subst (λ (cs : List (Option Candidate)). AreSpread (only_some cs)) (sym is) (spread_of s steps c.args.lemmas.now c.requires.distinct)
 
-pub part-requires : goal.part-requires
-part-requires g c =
+pub split_off-requires : goal.split_off-requires
+split_off-requires g c =
     let s = g.P.Port.state c.args.port.now in
     let steps = c.args.trail.now.steps in
     let are = subst (AreReasons steps) (sym c.as_slice.ensures.value) c.in_ok-reasons.ensures in

@@ -8,7 +8,7 @@ use Rattle.ring_port.specs.PortState.{PortState}
 use Rattle.ring_port.specs.Deleting.{IsNotTaken}
 use Rattle.ring_port.proofs.Holdings.{All_In}
 use Rattle.ring_port.proofs.LogSteps.{In_All}
-use Rattle.ring_trail.specs.declared.step.Step.{Step}
+use Rattle.ring_trail.specs.declared.step.TrailStep.{TrailStep}
 use Rattle.watch_prop.specs.WatchData.{WatchData, attached, without_all}
 use Rattle.reduce_db.specs.Lemmas.{AreDistinct}
 use Rattle.reduce_db.specs.Choice.{IsChoice}
@@ -18,7 +18,7 @@ use Rattle.reduce_db.proofs.Left.{dropped_distinct, dropped_each, lemmas_left}
 use Rattle.reduce_db.proofs.reducing.reduce.Goals as goal
 
 -- what was cut short among the dropped lemmas was so among all
-cut_short : (s old new : PortState) (v w : WatchData) (steps : List Step) (lemmas left kept dropped asked : List Cref) (r : Result (Unit {0}) PortStop) (stop stop' : PortStop) → IsChoice s steps lemmas kept dropped → asked ≡ dropped → r ≡ Err stop → stop ≡ stop'
+cut_short : (s old new : PortState) (v w : WatchData) (steps : List TrailStep) (lemmas left kept dropped asked : List Cref) (r : Result (Unit {0}) PortStop) (stop stop' : PortStop) → IsChoice s steps lemmas kept dropped → asked ≡ dropped → r ≡ Err stop → stop ≡ stop'
     → WasCutShort old new asked stop' → Reduced old new v w steps lemmas left r
 cut_short s old new v w steps lemmas left kept dropped asked r stop stop' choice e is same k =
     subst (Reduced old new v w steps lemmas left) (sym is)

@@ -5,7 +5,7 @@ use Rattle.ring_decide.specs.DeciderData.{DeciderData, IsDecided}
 use Rattle.ring_run.specs.Ended.{HasPolled}
 use Rattle.ring_run.specs.Searching.{GoesOn, OffersNothing}
 use Rattle.ring_run.specs.Ending.{ComesTo}
-use Rattle.ring_run.specs.Course.{imports_of, IsOffering}
+use Rattle.ring_run.specs.Next.{imports_of, IsOffering}
 use Rattle.ring_run.specs.declared.ring.Ring.{Ring}
 use Rattle.ring_run.proofs.Deciding.{decides_by}
 use Rattle.ring_run.proofs.Lending.{offering_stays}
@@ -17,9 +17,9 @@ use Rattle.ring_run.proofs.Tidying.{refused_halted}
 use Rattle.ring_run.proofs.Turning.{quiet_same, looked_search, compose}
 use Rattle.ring_run.specs.Turn.{ActedAtQuiet}
 use Rattle.ring_run.specs.declared.job.End.{End}
-use Rattle.ring_run.specs.declared.course.Course.TheVariants.{Over}
+use Rattle.ring_run.specs.declared.course.Next.TheVariants.{Finish}
 use Rattle.ring_run.specs.Ending.{end_refused}
-use Rattle.ring_run.specs.Course.{EndsQuietly}
+use Rattle.ring_run.specs.Next.{EndsQuietly}
 use Rattle.ring_run.specs.Searching.{ToldUnits}
 use Rattle.ring_run.proofs.Acting.{quietly_refused, quietly_on}
 use Rattle.ring_run.proofs.Tidying.{refused_refusal}
@@ -27,9 +27,9 @@ use Rattle.ring_run.proofs.decision.decide_next.Goals as goal
 use Rattle.ring_run.proofs.Numbering.{kept_looked}
 use Rattle.ring_run.proofs.Rounds.{imports_halted, imports_over, imports_same, importing_same, imported_settled}
 use Rattle.ring_run.specs.Ended.{ImportsBy}
-use Rattle.ring_run.specs.Course.{HasImportedBy}
+use Rattle.ring_run.specs.Next.{HasImportedBy}
 use Rattle.ring_run.proofs.InTime.{in_time_halted, in_time_any, in_time_more, in_time_wrote}
-use Rattle.ring_run.specs.Course.{IsInTimeAt, IsInTimeBy}
+use Rattle.ring_run.specs.Next.{IsInTimeAt, IsInTimeBy}
 use Rattle.ring_run.specs.Searching.{OnlyWrote}
 use Rattle.ring_run.proofs.Progress.{wrote_by, looked_wrote}
 use Rattle.restart_plan.specs.Plan.{Restarting}
@@ -81,17 +81,17 @@ returns-in-Err-clause-polls g c =
     let ring = c.write_pending.new.ring in
     let nothing : OffersNothing s w = nothing_then s m w (nothing_looked s m c.stopped.result c.stopped.ensures.looked) c.write_pending.ensures.nothing in
     subst (HasPolled w ring.restarts.made) (sym c.end_refused.ensures)
-    (polled_halted w ring.restarts.made _ (refused_halted c.in-Err.stop) (polled_over w ring (polling_same s w old ring nothing c.write_pending.ensures.offers.place c.write_pending.ensures.restarts c.write_pending.ensures.pending (ap (λ (t : TrailData). t.level) c.write_pending.ensures.trail) c.requires.polling).polled))
+    (polled_halted w ring.restarts.made _ (refused_halted c.in-Err.stop) (polled_over w ring (polling_same s w old ring nothing c.write_pending.ensures.offers.place c.write_pending.ensures.restarts c.write_pending.ensures.import_due (ap (λ (t : TrailData). t.level) c.write_pending.ensures.trail) c.requires.polling).polled))
 
-pub renew-requires-clause-import : goal.renew-requires-clause-import
-renew-requires-clause-import g c =
+pub reduce_vivify_import-requires-clause-import : goal.reduce_vivify_import-requires-clause-import
+reduce_vivify_import-requires-clause-import g c =
     let s = g.P.Port.state c.args.port.now in
     let m = g.P.Port.state c.stopped.new.self in
     let w = g.P.Port.state c.write_pending.new.port in
     let old = c.args.ring.now in
     let ring = c.write_pending.new.ring in
     let found = c.in-Ok.ensures.search in
-    let level : old.trail.level ≡ 0 = c.requires.polling.low (sym c.write_pending.ensures.pending ∙ c.if-ring.true) in
+    let level : old.trail.level ≡ 0 = c.requires.polling.low (sym c.write_pending.ensures.import_due ∙ c.if-ring.true) in
     record {
       clauses = found.clauses;
       stands = found.stands;
@@ -103,15 +103,15 @@ renew-requires-clause-import g c =
       whole = c.in-Ok.ensures.whole level;
     }
 
-pub renew-requires-clause-polling : goal.renew-requires-clause-polling
-renew-requires-clause-polling g c =
+pub reduce_vivify_import-requires-clause-polling : goal.reduce_vivify_import-requires-clause-polling
+reduce_vivify_import-requires-clause-polling g c =
     let s = g.P.Port.state c.args.port.now in
     let m = g.P.Port.state c.stopped.new.self in
     let w = g.P.Port.state c.write_pending.new.port in
     let old = c.args.ring.now in
     let ring = c.write_pending.new.ring in
     let nothing : OffersNothing s w = nothing_then s m w (nothing_looked s m c.stopped.result c.stopped.ensures.looked) c.write_pending.ensures.nothing in
-    polling_same s w old ring nothing c.write_pending.ensures.offers.place c.write_pending.ensures.restarts c.write_pending.ensures.pending (ap (λ (t : TrailData). t.level) c.write_pending.ensures.trail) c.requires.polling
+    polling_same s w old ring nothing c.write_pending.ensures.offers.place c.write_pending.ensures.restarts c.write_pending.ensures.import_due (ap (λ (t : TrailData). t.level) c.write_pending.ensures.trail) c.requires.polling
 
 pub returns-then-ring-clause-leads : goal.returns-then-ring-clause-leads
 returns-then-ring-clause-leads g c =
@@ -120,9 +120,9 @@ returns-then-ring-clause-leads g c =
     let w = g.P.Port.state c.write_pending.new.port in
     let old = c.args.ring.now in
     let ring = c.write_pending.new.ring in
-    compose c.renew.result s w (g.P.Port.state c.renew.new.port) old ring c.renew.new.ring c.args.limit
+    compose c.reduce_vivify_import.result s w (g.P.Port.state c.reduce_vivify_import.new.port) old ring c.reduce_vivify_import.new.ring c.args.limit
     (λ start p. subst (GoesOn start w) (sym c.write_pending.ensures.learned) (c.in-Ok.ensures.ok start old.learned (looked_goes_on start s m old.learned (one_more s.looks) p c.in_default.ensures.looked.1 c.stopped.ensures.log c.stopped.ensures.port)))
-    (c.renew.ensures.leads c.args.limit (omega (arith, c.requires.below, c.write_pending.ensures.learned)))
+    (c.reduce_vivify_import.ensures.leads c.args.limit (omega (arith, c.requires.below, c.write_pending.ensures.learned)))
 
 pub returns-then-ring-clause-offering : goal.returns-then-ring-clause-offering
 returns-then-ring-clause-offering g c = λ p.
@@ -132,14 +132,14 @@ returns-then-ring-clause-offering g c = λ p.
     let old = c.args.ring.now in
     let ring = c.write_pending.new.ring in
     let nothing : OffersNothing s w = nothing_then s m w (nothing_looked s m c.stopped.result c.stopped.ensures.looked) c.write_pending.ensures.nothing in
-    c.renew.ensures.offering (offering_stays s w old ring nothing c.write_pending.ensures.offers c.write_pending.ensures.learned p)
+    c.reduce_vivify_import.ensures.offering (offering_stays s w old ring nothing c.write_pending.ensures.offers c.write_pending.ensures.learned p)
 
 pub returns-then-ring-clause-further : goal.returns-then-ring-clause-further
 returns-then-ring-clause-further g c = λ on.
     (let trail = ap (λ (t : TrailData). length t.steps) c.write_pending.ensures.trail in
     inr (
-      record { learned = c.renew.ensures.learned ∙ c.write_pending.ensures.learned; steps = omega (arith, c.renew.ensures.steps on, trail) },
-      inr (sym c.write_pending.ensures.pending ∙ c.if-ring.true, c.renew.ensures.settled on),
+      record { learned = c.reduce_vivify_import.ensures.learned ∙ c.write_pending.ensures.learned; steps = omega (arith, c.reduce_vivify_import.ensures.steps on, trail) },
+      inr (sym c.write_pending.ensures.import_due ∙ c.if-ring.true, c.reduce_vivify_import.ensures.settled on),
     ))
 
 pub decide-requires-clause-quiet : goal.decide-requires-clause-quiet
@@ -175,7 +175,7 @@ returns-clause-polls g c =
     let old = c.args.ring.now in
     let ring = c.write_pending.new.ring in
     let nothing : OffersNothing s w = nothing_then s m w (nothing_looked s m c.stopped.result c.stopped.ensures.looked) c.write_pending.ensures.nothing in
-    c.decide.ensures.polls (polling_same s w old ring nothing c.write_pending.ensures.offers.place c.write_pending.ensures.restarts c.write_pending.ensures.pending (ap (λ (t : TrailData). t.level) c.write_pending.ensures.trail) c.requires.polling)
+    c.decide.ensures.polls (polling_same s w old ring nothing c.write_pending.ensures.offers.place c.write_pending.ensures.restarts c.write_pending.ensures.import_due (ap (λ (t : TrailData). t.level) c.write_pending.ensures.trail) c.requires.polling)
 
 pub returns-clause-offering : goal.returns-clause-offering
 returns-clause-offering g c = λ p.
@@ -194,11 +194,11 @@ returns-clause-further g c = λ on.
     (let trail = ap (λ (t : TrailData). length t.steps) c.write_pending.ensures.trail in
     inr (
       record { learned = c.decide.ensures.learned ∙ c.write_pending.ensures.learned; steps = omega (arith, c.decide.ensures.longer on, trail) },
-      inl (c.decide.ensures.pending ∙ c.write_pending.ensures.pending, omega (arith, c.decide.ensures.longer on, trail)),
+      inl (c.decide.ensures.import_due ∙ c.write_pending.ensures.import_due, omega (arith, c.decide.ensures.longer on, trail)),
     ))
 
-pub renew-requires-clause-listed : goal.renew-requires-clause-listed
-renew-requires-clause-listed g c =
+pub reduce_vivify_import-requires-clause-listed : goal.reduce_vivify_import-requires-clause-listed
+reduce_vivify_import-requires-clause-listed g c =
     let s = g.P.Port.state c.args.port.now in
     let m = g.P.Port.state c.stopped.new.self in
     let is = c.in_default.ensures.looked.1 in
@@ -212,13 +212,13 @@ returns-clause-listed g c = λ on.
     c.decide.ensures.listed
     (c.in-Ok.ensures.listed (listed_same s m c.args.ring.now c.args.ring.now (ap (λ (x : PortState). x.start) is) (recent_still s m (ap (λ (x : PortState). x.ring) is) (ap (λ (x : PortState). x.mine) is)) refl (λ d there. there) refl refl refl (kept_looked s m c.args.ring.now.lemmas.items _ is) c.requires.listed)))
 
-pub renew-requires-clause-few : goal.renew-requires-clause-few
-renew-requires-clause-few g c =
-    let p = renew-requires-clause-listed g c in
+pub reduce_vivify_import-requires-clause-few : goal.reduce_vivify_import-requires-clause-few
+reduce_vivify_import-requires-clause-few g c =
+    let p = reduce_vivify_import-requires-clause-listed g c in
     omega (arith, p.count, p.few, c.requires.below, c.write_pending.ensures.learned)
 
-pub renew-requires-clause-quiet : goal.renew-requires-clause-quiet
-renew-requires-clause-quiet g c =
+pub reduce_vivify_import-requires-clause-quiet : goal.reduce_vivify_import-requires-clause-quiet
+reduce_vivify_import-requires-clause-quiet g c =
     quiet_same (g.P.Port.state c.args.port.now) (g.P.Port.state c.write_pending.new.port) c.args.ring.now.trail c.write_pending.new.ring.trail c.args.ring.now.watches c.write_pending.new.ring.watches
     (c.write_pending.ensures.held ∙ ap (λ (x : PortState). x.held) c.in_default.ensures.looked.1) c.write_pending.ensures.trail c.write_pending.ensures.watches c.requires.quiet
 
@@ -237,7 +237,7 @@ returns-in-Err-clause-imports g c = λ start p h.
     let ring = c.write_pending.new.ring in
     let nothing : OffersNothing s w = nothing_then s m w (nothing_looked s m c.stopped.result c.stopped.ensures.looked) c.write_pending.ensures.nothing in
     subst (ImportsBy start w ring.restarts.made) (sym c.end_refused.ensures)
-    (imports_halted start w ring.restarts.made _ (refused_halted c.in-Err.stop) (imports_over start w ring (importing_same start s w old ring nothing c.write_pending.ensures.restarts c.write_pending.ensures.pending h)))
+    (imports_halted start w ring.restarts.made _ (refused_halted c.in-Err.stop) (imports_over start w ring (importing_same start s w old ring nothing c.write_pending.ensures.restarts c.write_pending.ensures.import_due h)))
 
 pub returns-then-ring-clause-imports : goal.returns-then-ring-clause-imports
 returns-then-ring-clause-imports g c = λ start p h.
@@ -247,8 +247,8 @@ returns-then-ring-clause-imports g c = λ start p h.
     let old = c.args.ring.now in
     let ring = c.write_pending.new.ring in
     let nothing : OffersNothing s w = nothing_then s m w (nothing_looked s m c.stopped.result c.stopped.ensures.looked) c.write_pending.ensures.nothing in
-    c.renew.ensures.imports start (polling_same s w old ring nothing c.write_pending.ensures.offers.place c.write_pending.ensures.restarts c.write_pending.ensures.pending (ap (λ (t : TrailData). t.level) c.write_pending.ensures.trail) p)
-    (importing_same start s w old ring nothing c.write_pending.ensures.restarts c.write_pending.ensures.pending h)
+    c.reduce_vivify_import.ensures.imports start (polling_same s w old ring nothing c.write_pending.ensures.offers.place c.write_pending.ensures.restarts c.write_pending.ensures.import_due (ap (λ (t : TrailData). t.level) c.write_pending.ensures.trail) p)
+    (importing_same start s w old ring nothing c.write_pending.ensures.restarts c.write_pending.ensures.import_due h)
 
 pub returns-clause-imports : goal.returns-clause-imports
 returns-clause-imports g c = λ start p h.
@@ -260,22 +260,22 @@ returns-clause-imports g c = λ start p h.
     let nothing : OffersNothing s w = nothing_then s m w (nothing_looked s m c.stopped.result c.stopped.ensures.looked) c.write_pending.ensures.nothing in
     let after = c.decide.new.ring in
     subst (λ (x : PortState). HasImportedBy start x after c.decide.result) (sym c.decide.ensures.same)
-    (imported_settled start w after c.decide.result (c.decide.ensures.pending ∙ c.if-ring.false)
-    (importing_same start s w old after nothing (c.decide.ensures.restarts ∙ c.write_pending.ensures.restarts) (c.decide.ensures.pending ∙ c.write_pending.ensures.pending) h))
+    (imported_settled start w after c.decide.result (c.decide.ensures.import_due ∙ c.if-ring.false)
+    (importing_same start s w old after nothing (c.decide.ensures.restarts ∙ c.write_pending.ensures.restarts) (c.decide.ensures.import_due ∙ c.write_pending.ensures.import_due) h))
 
 pub returns-then-ring-clause-acted : goal.returns-then-ring-clause-acted
 returns-then-ring-clause-acted g c = λ on.
     (let s = g.P.Port.state c.args.port.now in
     let w = g.P.Port.state c.write_pending.new.port in
     inl (
-      sym c.write_pending.ensures.pending ∙ c.if-ring.true,
+      sym c.write_pending.ensures.import_due ∙ c.if-ring.true,
       record {
         middle = w;
         ring = c.write_pending.new.ring;
         told = subst (λ (x : PortState). ToldUnits x w) c.in_default.ensures.looked.1 c.in-Ok.ensures.lines;
-        unlooked = c.renew.ensures.unlooked;
+        unlooked = c.reduce_vivify_import.ensures.unlooked;
         same_ring = c.write_pending.ensures.same;
-        renewed = c.renew.ensures.renewed on;
+        renewed = c.reduce_vivify_import.ensures.renewed on;
       },
     ))
 
@@ -289,7 +289,7 @@ returns-clause-acted g c = λ on.
     let told = c.write_pending.ensures.same in
     subst (λ (x : PortState). ActedAtQuiet s x old new) (sym c.decide.ensures.same)
     (inr (
-      sym c.write_pending.ensures.pending ∙ c.if-ring.false,
+      sym c.write_pending.ensures.import_due ∙ c.if-ring.false,
       record {
         told = subst (λ (x : PortState). ToldUnits x w) c.in_default.ensures.looked.1 c.in-Ok.ensures.lines;
         decided = record {
@@ -308,7 +308,7 @@ returns-in-Err-clause-in_time g c = λ p h.
     subst (IsInTimeAt w ring.restarts) (sym c.end_refused.ensures) (in_time_halted w ring.restarts _ (refused_halted c.in-Err.stop))
 
 pub returns-then-ring-clause-in_time : goal.returns-then-ring-clause-in_time
-returns-then-ring-clause-in_time g c = λ p h. c.renew.ensures.in_time
+returns-then-ring-clause-in_time g c = λ p h. c.reduce_vivify_import.ensures.in_time
 
 pub returns-clause-in_time : goal.returns-clause-in_time
 returns-clause-in_time g c = λ p h.
@@ -318,7 +318,7 @@ returns-clause-in_time g c = λ p h.
     let lines : OnlyWrote s w = wrote_by s m w (looked_wrote s m (one_more s.looks) c.in_default.ensures.looked.1 c.stopped.ensures.log) c.in-Ok.ensures.wrote in
     let old = c.args.ring.now in
     let after = c.decide.new.ring in
-    let settled : old.pending ≡ false = sym c.write_pending.ensures.pending ∙ c.if-ring.false in
+    let settled : old.import_due ≡ false = sym c.write_pending.ensures.import_due ∙ c.if-ring.false in
     let since = ap (λ (r : Restarting). r.since) (c.decide.ensures.restarts ∙ c.write_pending.ensures.restarts) in
     subst (λ (x : PortState). IsInTimeBy x after c.decide.result) (sym c.decide.ensures.same)
     (in_time_any w after c.decide.result (in_time_more w old.restarts.since after.restarts.since (sym since) (in_time_wrote s w old.restarts.since lines (h settled))))
@@ -330,10 +330,10 @@ pub returns-in-Err-clause-ended : goal.returns-in-Err-clause-ended
 returns-in-Err-clause-ended g c =
     let s = g.P.Port.state c.args.port.now in
     let w = g.P.Port.state c.write_pending.new.port in
-    subst (λ (end : End). EndsQuietly s w (Over end)) (sym c.end_refused.ensures) (quietly_refused s w (end_refused c.in-Err.stop) (refused_refusal c.in-Err.stop))
+    subst (λ (end : End). EndsQuietly s w (Finish end)) (sym c.end_refused.ensures) (quietly_refused s w (end_refused c.in-Err.stop) (refused_refusal c.in-Err.stop))
 
 pub returns-then-ring-clause-ended : goal.returns-then-ring-clause-ended
-returns-then-ring-clause-ended g c = quietly_on (g.P.Port.state c.args.port.now) (g.P.Port.state c.renew.new.port) c.renew.result c.renew.ensures.refused
+returns-then-ring-clause-ended g c = quietly_on (g.P.Port.state c.args.port.now) (g.P.Port.state c.reduce_vivify_import.new.port) c.reduce_vivify_import.result c.reduce_vivify_import.ensures.refused
 
 pub returns-clause-ended : goal.returns-clause-ended
 returns-clause-ended g c =

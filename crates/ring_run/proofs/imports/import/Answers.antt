@@ -5,7 +5,7 @@ use Rattle.ring_port.specs.PortState.{PortState, Slot, Holding, held_at}
 use Rattle.ring_run.specs.Ended.{polls_of, LookedAlong, rounds, import_slots}
 use Rattle.ring_run.specs.Searching.{OffersNothing, GoesOn, IsHeldBy}
 use Rattle.rup_model.specs.Journal.{learned}
-use Rattle.ring_run.specs.Course.{imports_of}
+use Rattle.ring_run.specs.Next.{imports_of}
 use Rattle.ring_run.specs.declared.ring.Ring.{Ring}
 use Rattle.ring_run.proofs.Offering.{nothing_then}
 use Rattle.ring_run.proofs.Lending.{saw_nothing, offering_stays, offering_kept}
@@ -66,7 +66,7 @@ returns-in-Err-clause-polls g c =
     let ring = c.args.ring.now in
     let after = c.take_clauses.new.ring in
     let made : ℕ = ring.restarts.made in
-    let none : imports_of ring ≡ made = ap (λ (b : Bool). if b then made else made + 1) c.requires.pending in
+    let none : imports_of ring ≡ made = ap (λ (b : Bool). if b then made else made + 1) c.requires.import_due in
     let before : m.polled ≡ polls_of m made = subst (λ (k : ℕ). m.polled ≡ polls_of m k) none (polls_same s m (imports_of ring) (saw_nothing s m c.take_units.ensures.saw) c.requires.polling.polled) in
     let same : after.restarts.made ≡ made = ap (λ (r : Ring). r.restarts.made) c.take_clauses.ensures.same in
     subst (λ (k : ℕ). u.polled ≤ polls_of u k) (let e : made + 1 ≡ 1 + after.restarts.made = omega (arith, same) in e)
@@ -93,7 +93,7 @@ returns-clause-leads g c = λ limit below.
     let ring = c.args.ring.now in
     let after = c.take_clauses.new.ring in
     let count : after.learned ≡ ring.learned = ap (λ (r : Ring). r.learned) c.take_clauses.ensures.same in
-    goes_on_by s u ring (record after { pending = false }) limit c.in-Ok.ensures.search (omega (arith, below, count))
+    goes_on_by s u ring (record after { import_due = false }) limit c.in-Ok.ensures.search (omega (arith, below, count))
     (λ start p. subst (GoesOn start u) (sym count) (c.take_clauses.ensures.keeps start ring.learned (c.take_units.ensures.keeps start ring.learned p)))
 
 pub returns-clause-polls : goal.returns-clause-polls
@@ -106,7 +106,7 @@ returns-clause-polls g c =
     let made : ℕ = ring.restarts.made in
     let only = c.take_clauses.ensures.only.state in
     let nothing = saw_nothing s m c.take_units.ensures.saw in
-    let none : imports_of ring ≡ made = ap (λ (b : Bool). if b then made else made + 1) c.requires.pending in
+    let none : imports_of ring ≡ made = ap (λ (b : Bool). if b then made else made + 1) c.requires.import_due in
     let before : m.polled ≡ polls_of m made = subst (λ (k : ℕ). m.polled ≡ polls_of m k) none (polls_same s m (imports_of ring) nothing c.requires.polling.polled) in
     let same : after.restarts.made ≡ made = ap (λ (r : Ring). r.restarts.made) c.take_clauses.ensures.same in
     record {
@@ -127,7 +127,7 @@ returns-clause-offering g c = λ p.
     let same = c.take_clauses.ensures.same in
     let only = c.take_clauses.ensures.only.state in
     let nothing = saw_nothing s m c.take_units.ensures.saw in
-    offering_kept s u ring (record after { pending = false }) (ap (λ (x : PortState). x.shared) only ∙ nothing.shared) (ap (λ (x : PortState). x.ring) only ∙ nothing.ring) (ap (λ (x : PortState). x.rings) only ∙ nothing.rings)
+    offering_kept s u ring (record after { import_due = false }) (ap (λ (x : PortState). x.shared) only ∙ nothing.shared) (ap (λ (x : PortState). x.ring) only ∙ nothing.ring) (ap (λ (x : PortState). x.rings) only ∙ nothing.rings)
     (ap (λ (x : PortState). learned x.ring x.mine) only ∙ nothing.lemmas) (ap (λ (r : Ring). r.exported) same) (ap (λ (r : Ring). r.offered) same) (ap (λ (r : Ring). r.learned) same) p
 
 pub take_clauses-requires-clause-search : goal.take_clauses-requires-clause-search
@@ -148,7 +148,7 @@ returns-clause-listed g c = λ on p.
     let only = c.take_clauses.ensures.only.state in
     let saw = c.take_units.ensures.saw in
     let ring = c.args.ring.now in
-    listed_same s u c.args.ring.now (record after { pending = false }) (ap (λ (x : PortState). x.start) only ∙ saw.stays.start)
+    listed_same s u c.args.ring.now (record after { import_due = false }) (ap (λ (x : PortState). x.start) only ∙ saw.stays.start)
     (recent_still m u (ap (λ (x : PortState). x.ring) only) (ap (λ (x : PortState). x.mine) only) ∙ recent_still s m saw.stays.ring saw.mine)
     (ap (λ (r : Ring). r.lemmas.items) same) (slots_more m u (record ring { trail = c.take_units.new.trail }) after (import_slots m) c.in-Ok.ensures.took) (ap (λ (r : Ring). r.learned) same) (ap (λ (r : Ring). r.reductions) same) (ap (λ (r : Ring). r.reduced_at) same)
     (record {
@@ -179,7 +179,7 @@ returns-in-Err-clause-imports g c = λ start p h.
     let after = c.take_clauses.new.ring in
     let made : ℕ = ring.restarts.made in
     let only = c.take_clauses.ensures.only.state in
-    let none : imports_of ring ≡ made = ap (λ (b : Bool). if b then made else made + 1) c.requires.pending in
+    let none : imports_of ring ≡ made = ap (λ (b : Bool). if b then made else made + 1) c.requires.import_due in
     let before = imports_count start m (imports_of ring) made none (imports_same start s m (imports_of ring) (saw_nothing s m c.take_units.ensures.saw) h) in
     let same : after.restarts.made ≡ made = ap (λ (r : Ring). r.restarts.made) c.take_clauses.ensures.same in
     subst (λ (k : ℕ). LookedAlong start u (rounds k (import_slots u))) (let e : made + 1 ≡ 1 + after.restarts.made = omega (arith, same) in e)
@@ -195,7 +195,7 @@ returns-clause-imports g c = λ start p h.
     let made : ℕ = ring.restarts.made in
     let only = c.take_clauses.ensures.only.state in
     let saw = c.take_units.ensures.saw in
-    let none : imports_of ring ≡ made = ap (λ (b : Bool). if b then made else made + 1) c.requires.pending in
+    let none : imports_of ring ≡ made = ap (λ (b : Bool). if b then made else made + 1) c.requires.import_due in
     let same : after.restarts.made ≡ made = ap (λ (r : Ring). r.restarts.made) c.take_clauses.ensures.same in
     let looked : u.polls ≡ s.polls ++ import_slots s =
     c.in-Ok.ensures.took.polls ∙ ap (λ (xs : List Slot). xs ++ import_slots m) saw.polls ∙ ap (λ (xs : List Slot). s.polls ++ xs) (slots_same s m saw.stays.ring saw.stays.rings) in
@@ -232,7 +232,7 @@ returns-clause-took g c = λ on.
       grown = subst (HasGrown ring.trail) (sym trail) units.grown;
       bare = subst (λ (t : TrailData). (p : ℕ) → length ring.trail.steps ≤ p → p < length t.steps → reason_at t.steps p ≡ None) (sym trail) units.bare;
       level = ap (λ (t : TrailData). t.level) trail ∙ units.grown.level ∙ c.requires.import.level;
-      same = ap (λ (r : Ring). record r { pending = false }) same ∙ ap (λ (t : TrailData). record ring { trail = t; watches = after.watches; pending = false }) (sym trail);
+      same = ap (λ (r : Ring). record r { import_due = false }) same ∙ ap (λ (t : TrailData). record ring { trail = t; watches = after.watches; import_due = false }) (sym trail);
     })
 
 pub returns-in-Opposed-clause-unlooked : goal.returns-in-Opposed-clause-unlooked

@@ -24,7 +24,7 @@ returns-in-Ok-leave_conflict-clause-finished g c =
     let new = c.leave_conflict.new.ring in
     let left = c.leave_conflict.ensures in
     finished_on s w (g.P.Port.state c.leave_conflict.new.port) old r due new c.args.lits.now c.args.back c.args.address left.same
-    (record { learned = left.learned; restarts = left.restarts; pending = left.pending; active = left.active; offers = left.offers })
+    (record { learned = left.learned; restarts = left.restarts; import_due = left.import_due; active = left.active; offers = left.offers })
     (asked_then s w old r due c.due-ring.ensures.asked c.due-ring.ensures.due c.tidy_up.ensures.nothing c.tidy_up.ensures.held c.tidy_up.ensures.looks)
     c.in-Ok.ensures.ok c.in-Ok.ensures.wrote c.in-Ok.ensures.seen c.in-Ok.ensures.tidied c.in-Ok.ensures.lines c.in-Ok-leave_conflict.ensures.left
 
@@ -38,6 +38,6 @@ returns-in-Err-leave_conflict-clause-finished g c =
     let new = c.leave_conflict.new.ring in
     let left = c.leave_conflict.ensures in
     finished_memory s w (g.P.Port.state c.leave_conflict.new.port) old r due new c.args.lits.now c.args.back c.args.address left.same
-    (record { learned = left.learned; restarts = left.restarts; pending = left.pending; active = left.active; offers = left.offers })
+    (record { learned = left.learned; restarts = left.restarts; import_due = left.import_due; active = left.active; offers = left.offers })
     (asked_then s w old r due c.due-ring.ensures.asked c.due-ring.ensures.due c.tidy_up.ensures.nothing c.tidy_up.ensures.held c.tidy_up.ensures.looks)
     c.in-Ok.ensures.ok

@@ -1,7 +1,7 @@
 use Rattle.std.proofs.Common.{◌≡◌, ◌∙◌, ap, inl, inr, length, refl, subst, sym}
-use Rattle.ring_run.specs.Course.{CanAssert}
+use Rattle.ring_run.specs.Next.{CanAssert}
 use Rattle.ring_run.specs.declared.ring.Ring.{Ring}
-use Rattle.ring_run.specs.declared.course.Course.TheVariants.{Over}
+use Rattle.ring_run.specs.declared.course.Next.TheVariants.{Finish}
 use Rattle.ring_run.proofs.Asserting.{can_assert}
 use Rattle.ring_run.proofs.Sharing.{shared_held, shared_refused, shared_vars}
 use Rattle.ring_run.proofs.lemma.learn_lemma.Goals as goal
@@ -35,7 +35,7 @@ returns-in-Err-clause-comes g c = inl (record {
   log = c.share_lemma.ensures.log;
   port = c.share_lemma.ensures.port;
   ring = c.in-Err.ensures.refused.1;
-  over = ap Over c.end_refused.ensures;
+  over = ap Finish c.end_refused.ensures;
 })
 
 pub returns-then-ring-limit-clause-comes : goal.returns-then-ring-limit-clause-comes

@@ -8,7 +8,7 @@ use Rattle.ring_trail.specs.TrailData.{TrailData}
 use Rattle.ring_port.specs.PortState.{PortState}
 use Rattle.ring_run.specs.Searching.{GoesOn}
 use Rattle.ring_run.specs.Ending.{ComesTo}
-use Rattle.ring_run.specs.Course.{HasLemmas, MayImport, IsOffering, IsPolling}
+use Rattle.ring_run.specs.Next.{HasLemmas, MayImport, IsOffering, IsPolling}
 use Rattle.ring_run.specs.declared.job.End.TheVariants.{Memory}
 use Rattle.ring_run.proofs.Beginning.{listed_begin, goes_begin, begun, paced_begin, restarted_by, restarted_none}
 use Rattle.ring_run.proofs.Progress.{out_of_memory}
@@ -16,7 +16,7 @@ use Rattle.ring_run.specs.Turn.{Searched}
 use Rattle.ring_run.proofs.run.run_job.Goals as goal
 use Rattle.ring_run.proofs.Rounds.{imports_none, imports_count, imports_none_yet}
 use Rattle.ring_run.specs.Ended.{ImportsBy}
-use Rattle.ring_run.specs.Course.{imports_of}
+use Rattle.ring_run.specs.Next.{imports_of}
 use Rattle.std.specs.Prelude.{if◌then◌else◌}
 use Rattle.ring_run.proofs.InTime.{reduced_by, in_time_begin}
 use Rattle.ring_run.specs.Ended.{IsInTime}
@@ -111,7 +111,7 @@ search-end-requires-clause-polling g c =
     let s = g.P.Port.state c.args.port.now in
     let made = c.in-Ok.ensures in
     subst (λ (x : PortState). IsPolling x c.in-Ok.ring) (sym made.same)
-    (polling_begin s c.in-Ok.ring c.requires.untouched.polled (made.place ∙ ap (λ (n : ℕ). place_at n c.args.job.now.rings) c.requires.job.ring ∙ ap (place_at s.ring) c.requires.job.rings) made.pending
+    (polling_begin s c.in-Ok.ring c.requires.untouched.polled (made.place ∙ ap (λ (n : ℕ). place_at n c.args.job.now.rings) c.requires.job.ring ∙ ap (place_at s.ring) c.requires.job.rings) made.import_due
     (ap (λ (r : Restarting). r.made) made.restarts) (ap (λ (t : TrailData). t.level) made.trail))
 
 pub returns-in_default-clause-polled : goal.returns-in_default-clause-polled
@@ -141,7 +141,7 @@ returns-clause-imported g c =
     let m = g.P.Port.state c.make_ring.new.port in
     let ring = c.in-Ok.ring in
     let made : ring.restarts.made ≡ 0 = ap (λ (r : Restarting). r.made) c.in-Ok.ensures.restarts in
-    let imports : imports_of ring ≡ 0 = ap (λ (b : Bool). if b then ring.restarts.made else ring.restarts.made + 1) c.in-Ok.ensures.pending ∙ made in
+    let imports : imports_of ring ≡ 0 = ap (λ (b : Bool). if b then ring.restarts.made else ring.restarts.made + 1) c.in-Ok.ensures.import_due ∙ made in
     subst (λ (n : ℕ). ImportsBy s (g.P.Port.state c.search-end.new.port) n c.search-end.result) (sym c.counts_of.ensures.restarts)
     (c.search-end.ensures.imported s (imports_count s m 0 (imports_of ring) (sym imports) (imports_none s m c.make_ring.ensures.same)))
 
@@ -197,7 +197,7 @@ returns-clause-ran g c =
         exported = made.none.0;
         offered = made.none.1;
         place = made.place;
-        pending = made.pending;
+        import_due = made.import_due;
       },
       subst (λ (x : PortState). Searched x u first last c.search-end.result) made.same c.search-end.ensures.searched,
       c.counts_of.ensures.learned,

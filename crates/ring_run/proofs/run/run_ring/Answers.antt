@@ -4,46 +4,46 @@ use Rattle.std.proofs.Common.{[]}
 use Rattle.ring_run.proofs.Numbering.{timely_spaced}
 
 pub returns-clause-stays : goal.returns-clause-stays
-returns-clause-stays g c = (c.claim.ensures.runs (g.P.Port.state c.args.port.now) c.run_job-end.result.1.learned c.run_job-end.ensures.ends.runs).stays
+returns-clause-stays g c = (c.set_stop.ensures.runs (g.P.Port.state c.args.port.now) c.run_job-end.result.1.learned c.run_job-end.ensures.ends.runs).stays
 
 pub returns-clause-held : goal.returns-clause-held
-returns-clause-held g c = (c.claim.ensures.runs (g.P.Port.state c.args.port.now) c.run_job-end.result.1.learned c.run_job-end.ensures.ends.runs).held
+returns-clause-held g c = (c.set_stop.ensures.runs (g.P.Port.state c.args.port.now) c.run_job-end.result.1.learned c.run_job-end.ensures.ends.runs).held
 
 pub returns-clause-wrote : goal.returns-clause-wrote
-returns-clause-wrote g c = (c.claim.ensures.runs (g.P.Port.state c.args.port.now) c.run_job-end.result.1.learned c.run_job-end.ensures.ends.runs).wrote
+returns-clause-wrote g c = (c.set_stop.ensures.runs (g.P.Port.state c.args.port.now) c.run_job-end.result.1.learned c.run_job-end.ensures.ends.runs).wrote
 
 pub returns-clause-new : goal.returns-clause-new
-returns-clause-new g c = (c.claim.ensures.runs (g.P.Port.state c.args.port.now) c.run_job-end.result.1.learned c.run_job-end.ensures.ends.runs).each_new
+returns-clause-new g c = (c.set_stop.ensures.runs (g.P.Port.state c.args.port.now) c.run_job-end.result.1.learned c.run_job-end.ensures.ends.runs).each_new
 
 pub returns-clause-new_lines : goal.returns-clause-new_lines
-returns-clause-new_lines g c = (c.claim.ensures.runs (g.P.Port.state c.args.port.now) c.run_job-end.result.1.learned c.run_job-end.ensures.ends.runs).new_lines
+returns-clause-new_lines g c = (c.set_stop.ensures.runs (g.P.Port.state c.args.port.now) c.run_job-end.result.1.learned c.run_job-end.ensures.ends.runs).new_lines
 
 pub returns-clause-glued : goal.returns-clause-glued
-returns-clause-glued g c = (c.claim.ensures.runs (g.P.Port.state c.args.port.now) c.run_job-end.result.1.learned c.run_job-end.ensures.ends.runs).glued
+returns-clause-glued g c = (c.set_stop.ensures.runs (g.P.Port.state c.args.port.now) c.run_job-end.result.1.learned c.run_job-end.ensures.ends.runs).glued
 
 pub returns-clause-counts : goal.returns-clause-counts
 returns-clause-counts g c = record {
-  learned_is = (c.claim.ensures.runs (g.P.Port.state c.args.port.now) c.run_job-end.result.1.learned c.run_job-end.ensures.ends.runs).counted;
-  offers = offers_stay (g.P.Port.state c.run_job-end.new.port) (g.P.Port.state c.claim.new.port) c.run_job-end.result.1.exported c.run_job-end.result.1.offered c.claim.ensures.nothing c.run_job-end.ensures.offers;
+  learned_is = (c.set_stop.ensures.runs (g.P.Port.state c.args.port.now) c.run_job-end.result.1.learned c.run_job-end.ensures.ends.runs).counted;
+  offers = offers_stay (g.P.Port.state c.run_job-end.new.port) (g.P.Port.state c.set_stop.new.port) c.run_job-end.result.1.exported c.run_job-end.result.1.offered c.set_stop.ensures.nothing c.run_job-end.ensures.offers;
 }
 
 pub returns-clause-polled : goal.returns-clause-polled
-returns-clause-polled g c = c.claim.ensures.polled c.run_job-end.result.1.restarts c.run_job-end.ensures.polled
+returns-clause-polled g c = c.set_stop.ensures.polled c.run_job-end.result.1.restarts c.run_job-end.ensures.polled
 
 pub returns-clause-spaced : goal.returns-clause-spaced
-returns-clause-spaced g c = timely_spaced [] (g.P.Port.state c.claim.new.port).mine (c.claim.ensures.runs (g.P.Port.state c.args.port.now) c.run_job-end.result.1.learned c.run_job-end.ensures.ends.runs).timely
+returns-clause-spaced g c = timely_spaced [] (g.P.Port.state c.set_stop.new.port).mine (c.set_stop.ensures.runs (g.P.Port.state c.args.port.now) c.run_job-end.result.1.learned c.run_job-end.ensures.ends.runs).timely
 
 pub returns-clause-timely : goal.returns-clause-timely
-returns-clause-timely g c = (c.claim.ensures.runs (g.P.Port.state c.args.port.now) c.run_job-end.result.1.learned c.run_job-end.ensures.ends.runs).timely
+returns-clause-timely g c = (c.set_stop.ensures.runs (g.P.Port.state c.args.port.now) c.run_job-end.result.1.learned c.run_job-end.ensures.ends.runs).timely
 
 pub returns-clause-imported : goal.returns-clause-imported
-returns-clause-imported g c = c.claim.ensures.imported (g.P.Port.state c.args.port.now) c.run_job-end.result.1.restarts c.run_job-end.ensures.imported
+returns-clause-imported g c = c.set_stop.ensures.imported (g.P.Port.state c.args.port.now) c.run_job-end.result.1.restarts c.run_job-end.ensures.imported
 
 pub returns-clause-tidied : goal.returns-clause-tidied
-returns-clause-tidied g c = λ none. c.claim.ensures.tidied (c.run_job-end.ensures.tidied none)
+returns-clause-tidied g c = λ none. c.set_stop.ensures.tidied (c.run_job-end.ensures.tidied none)
 
 pub returns-clause-in_time : goal.returns-clause-in_time
-returns-clause-in_time g c = c.claim.ensures.in_time c.run_job-end.result.1 c.run_job-end.ensures.in_time
+returns-clause-in_time g c = c.set_stop.ensures.in_time c.run_job-end.result.1 c.run_job-end.ensures.in_time
 
 pub returns-clause-lately : goal.returns-clause-lately
-returns-clause-lately g c = (c.claim.ensures.runs (g.P.Port.state c.args.port.now) c.run_job-end.result.1.learned c.run_job-end.ensures.ends.runs).lately
+returns-clause-lately g c = (c.set_stop.ensures.runs (g.P.Port.state c.args.port.now) c.run_job-end.result.1.learned c.run_job-end.ensures.ends.runs).lately

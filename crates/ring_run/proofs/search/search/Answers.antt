@@ -7,16 +7,16 @@ use Rattle.ring_run.proofs.Deciding.{decides_moved}
 use Rattle.ring_run.proofs.Turning.{less_to_do}
 use Rattle.ring_run.proofs.search.search.Goals as goal
 use Rattle.ring_run.proofs.InTime.{sums_exact}
-use Rattle.ring_run.specs.Course.{SumsUp}
+use Rattle.ring_run.specs.Next.{SumsUp}
 
-pub returns-in-Over-clause-ends : goal.returns-in-Over-clause-ends
-returns-in-Over-clause-ends g c = c.in-Over.ensures.leads c.args.limit c.requires.below (g.P.Port.state c.args.port.now) c.requires.goes
+pub returns-in-Finish-clause-ends : goal.returns-in-Finish-clause-ends
+returns-in-Finish-clause-ends g c = c.in-Finish.ensures.leads c.args.limit c.requires.below (g.P.Port.state c.args.port.now) c.requires.goes
 
-pub returns-in-Over-clause-looks : goal.returns-in-Over-clause-looks
-returns-in-Over-clause-looks g c = λ base before. c.in-Over.ensures.looks base before
+pub returns-in-Finish-clause-looks : goal.returns-in-Finish-clause-looks
+returns-in-Finish-clause-looks g c = λ base before. c.in-Finish.ensures.looks base before
 
-pub returns-in-Over-clause-offering : goal.returns-in-Over-clause-offering
-returns-in-Over-clause-offering g c = c.import.ensures.offering c.requires.offering
+pub returns-in-Finish-clause-offering : goal.returns-in-Finish-clause-offering
+returns-in-Finish-clause-offering g c = c.import.ensures.offering c.requires.offering
 
 pub loop-end-init : goal.loop-end-init
 loop-end-init g c =
@@ -43,62 +43,62 @@ loop-end-init g c =
       vars = c.requires.vars ∙ c.requires.import.stands.vars ∙ sym goes.runs.stays.vars ∙ sym found.search.stands.vars;
     }
 
-pub returns-in-Over-turn-clause-ends : goal.returns-in-Over-turn-clause-ends
-returns-in-Over-turn-clause-ends g c = c.in-Over-turn.ensures.leads (g.P.Port.state c.args.port.now) c.loop-end.invariant.goes
+pub returns-in-Finish-search_step-clause-ends : goal.returns-in-Finish-search_step-clause-ends
+returns-in-Finish-search_step-clause-ends g c = c.in-Finish-search_step.ensures.leads (g.P.Port.state c.args.port.now) c.loop-end.invariant.goes
 
-pub returns-in-Over-turn-clause-looks : goal.returns-in-Over-turn-clause-looks
-returns-in-Over-turn-clause-looks g c = λ base before. c.in-Over-turn.ensures.looks base (c.loop-end.invariant.looks base before)
+pub returns-in-Finish-search_step-clause-looks : goal.returns-in-Finish-search_step-clause-looks
+returns-in-Finish-search_step-clause-looks g c = λ base before. c.in-Finish-search_step.ensures.looks base (c.loop-end.invariant.looks base before)
 
 pub loop-end-smaller : goal.loop-end-smaller
 loop-end-smaller g c =
-    let found = c.in_default-turn.ensures.leads in
+    let found = c.in_default-search_step.ensures.leads in
     let goes = found.goes (g.P.Port.state c.args.port.now) c.loop-end.invariant.goes in
-    less_to_do (g.P.Port.state c.loop-end.port) (g.P.Port.state c.turn.new.port) c.loop-end.ring c.turn.new.ring c.args.limit c.loop-end.invariant.search found.search
-    (goes.runs.stays.vars ∙ sym c.loop-end.invariant.goes.runs.stays.vars) c.loop-end.invariant.below (c.in_default-turn.ensures.further refl)
+    less_to_do (g.P.Port.state c.loop-end.port) (g.P.Port.state c.search_step.new.port) c.loop-end.ring c.search_step.new.ring c.args.limit c.loop-end.invariant.search found.search
+    (goes.runs.stays.vars ∙ sym c.loop-end.invariant.goes.runs.stays.vars) c.loop-end.invariant.below (c.in_default-search_step.ensures.further refl)
 
 pub loop-end-preserved : goal.loop-end-preserved
 loop-end-preserved g c =
-    let found = c.in_default-turn.ensures.leads in
+    let found = c.in_default-search_step.ensures.leads in
     let goes = found.goes (g.P.Port.state c.args.port.now) c.loop-end.invariant.goes in
     record {
       search = found.search;
       goes = goes;
       below = found.below;
-      looks = λ base before. c.in_default-turn.ensures.looks base (c.loop-end.invariant.looks base before);
-      decides = decides_moved (g.P.Port.state c.args.port.now) (g.P.Port.state c.loop-end.port) (g.P.Port.state c.turn.new.port) c.loop-end.ring.decider c.turn.new.ring.decider c.loop-end.invariant.decides
-          c.loop-end.invariant.goes.runs.stays goes.runs.stays c.turn.ensures.active;
-      paced = c.turn.ensures.paced;
-      offering = c.turn.ensures.offering;
-      polling = c.in_default-turn.ensures.polls;
-      imports = λ start h. c.in_default-turn.ensures.imports start c.loop-end.invariant.polling (c.loop-end.invariant.imports start h);
-      tidied = λ none. c.in_default-turn.ensures.tidied (c.loop-end.invariant.tidied none);
-      in_time = λ h settled. c.in_default-turn.ensures.in_time c.loop-end.invariant.polling (c.loop-end.invariant.in_time h) settled;
-      listed = c.in_default-turn.ensures.listed refl;
-      came = came_further (g.P.Port.state c.args.port.now) (g.P.Port.state c.loop-end.port) (g.P.Port.state c.turn.new.port) c.args.ring.now c.loop-end.ring c.turn.new.ring c.loop-end.invariant.came c.in_default-turn.ensures.took;
-      odd = c.turn.ensures.odd ∙ c.loop-end.invariant.odd;
-      vars = c.turn.ensures.vars ∙ c.loop-end.invariant.vars ∙ c.loop-end.invariant.search.stands.vars ∙ c.loop-end.invariant.goes.runs.stays.vars ∙ sym goes.runs.stays.vars ∙ sym found.search.stands.vars;
+      looks = λ base before. c.in_default-search_step.ensures.looks base (c.loop-end.invariant.looks base before);
+      decides = decides_moved (g.P.Port.state c.args.port.now) (g.P.Port.state c.loop-end.port) (g.P.Port.state c.search_step.new.port) c.loop-end.ring.decider c.search_step.new.ring.decider c.loop-end.invariant.decides
+          c.loop-end.invariant.goes.runs.stays goes.runs.stays c.search_step.ensures.active;
+      paced = c.search_step.ensures.paced;
+      offering = c.search_step.ensures.offering;
+      polling = c.in_default-search_step.ensures.polls;
+      imports = λ start h. c.in_default-search_step.ensures.imports start c.loop-end.invariant.polling (c.loop-end.invariant.imports start h);
+      tidied = λ none. c.in_default-search_step.ensures.tidied (c.loop-end.invariant.tidied none);
+      in_time = λ h settled. c.in_default-search_step.ensures.in_time c.loop-end.invariant.polling (c.loop-end.invariant.in_time h) settled;
+      listed = c.in_default-search_step.ensures.listed refl;
+      came = came_further (g.P.Port.state c.args.port.now) (g.P.Port.state c.loop-end.port) (g.P.Port.state c.search_step.new.port) c.args.ring.now c.loop-end.ring c.search_step.new.ring c.loop-end.invariant.came c.in_default-search_step.ensures.took;
+      odd = c.search_step.ensures.odd ∙ c.loop-end.invariant.odd;
+      vars = c.search_step.ensures.vars ∙ c.loop-end.invariant.vars ∙ c.loop-end.invariant.search.stands.vars ∙ c.loop-end.invariant.goes.runs.stays.vars ∙ sym goes.runs.stays.vars ∙ sym found.search.stands.vars;
     }
 
-pub returns-in-Over-clause-imported : goal.returns-in-Over-clause-imported
-returns-in-Over-clause-imported g c = λ start h. c.in-Over.ensures.imports start c.requires.polling h
+pub returns-in-Finish-clause-imported : goal.returns-in-Finish-clause-imported
+returns-in-Finish-clause-imported g c = λ start h. c.in-Finish.ensures.imports start c.requires.polling h
 
-pub returns-in-Over-turn-clause-imported : goal.returns-in-Over-turn-clause-imported
-returns-in-Over-turn-clause-imported g c = λ start h. c.in-Over-turn.ensures.imports start c.loop-end.invariant.polling (c.loop-end.invariant.imports start h)
+pub returns-in-Finish-search_step-clause-imported : goal.returns-in-Finish-search_step-clause-imported
+returns-in-Finish-search_step-clause-imported g c = λ start h. c.in-Finish-search_step.ensures.imports start c.loop-end.invariant.polling (c.loop-end.invariant.imports start h)
 
-pub returns-in-Over-turn-clause-tidied : goal.returns-in-Over-turn-clause-tidied
-returns-in-Over-turn-clause-tidied g c = λ none. c.in-Over-turn.ensures.tidied (c.loop-end.invariant.tidied none)
+pub returns-in-Finish-search_step-clause-tidied : goal.returns-in-Finish-search_step-clause-tidied
+returns-in-Finish-search_step-clause-tidied g c = λ none. c.in-Finish-search_step.ensures.tidied (c.loop-end.invariant.tidied none)
 
-pub returns-in-Over-clause-in_time : goal.returns-in-Over-clause-in_time
-returns-in-Over-clause-in_time g c = λ h. c.in-Over.ensures.in_time h
+pub returns-in-Finish-clause-in_time : goal.returns-in-Finish-clause-in_time
+returns-in-Finish-clause-in_time g c = λ h. c.in-Finish.ensures.in_time h
 
-pub returns-in-Over-clause-sums : goal.returns-in-Over-clause-sums
-returns-in-Over-clause-sums g c = subst SumsUp (sym c.import.ensures.restarts) (sums_exact c.args.ring.now.restarts c.args.ring.now.learned c.args.limit c.requires.paced c.requires.below)
+pub returns-in-Finish-clause-sums : goal.returns-in-Finish-clause-sums
+returns-in-Finish-clause-sums g c = subst SumsUp (sym c.import.ensures.restarts) (sums_exact c.args.ring.now.restarts c.args.ring.now.learned c.args.limit c.requires.paced c.requires.below)
 
-pub returns-in-Over-turn-clause-in_time : goal.returns-in-Over-turn-clause-in_time
-returns-in-Over-turn-clause-in_time g c = λ h. c.in-Over-turn.ensures.in_time c.loop-end.invariant.polling (c.loop-end.invariant.in_time h)
+pub returns-in-Finish-search_step-clause-in_time : goal.returns-in-Finish-search_step-clause-in_time
+returns-in-Finish-search_step-clause-in_time g c = λ h. c.in-Finish-search_step.ensures.in_time c.loop-end.invariant.polling (c.loop-end.invariant.in_time h)
 
-pub returns-in-Over-clause-searched : goal.returns-in-Over-clause-searched
-returns-in-Over-clause-searched g c = inl c.in-Over.ensures.refused
+pub returns-in-Finish-clause-searched : goal.returns-in-Finish-clause-searched
+returns-in-Finish-clause-searched g c = inl c.in-Finish.ensures.refused
 
-pub returns-in-Over-turn-clause-searched : goal.returns-in-Over-turn-clause-searched
-returns-in-Over-turn-clause-searched g c = inr (g.P.Port.state c.loop-end.port, c.loop-end.ring, c.loop-end.invariant.came, c.in-Over-turn.ensures.took)
+pub returns-in-Finish-search_step-clause-searched : goal.returns-in-Finish-search_step-clause-searched
+returns-in-Finish-search_step-clause-searched g c = inr (g.P.Port.state c.loop-end.port, c.loop-end.ring, c.loop-end.invariant.came, c.in-Finish-search_step.ensures.took)

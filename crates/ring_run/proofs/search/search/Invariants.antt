@@ -2,7 +2,7 @@ use Rattle.std.proofs.Common.{◌≡◌, false, ℕ, ◌<◌, [], length}
 use Rattle.ring_run.specs.Ended.{IsInTime}
 use Rattle.ring_run.specs.Searching.{GoesOn}
 use Rattle.ring_run.specs.Strategy.{Decides, IsPaced}
-use Rattle.ring_run.specs.Course.{HasLemmas, IsOffering, IsPolling, IsImporting, InSearch, IsLooking}
+use Rattle.ring_run.specs.Next.{HasLemmas, IsOffering, IsPolling, IsImporting, InSearch, IsLooking}
 use Rattle.ring_port.specs.PortState.{PortState}
 use Rattle.ring_run.specs.Turn.{CameTo}
 use Rattle.ring_run.proofs.Turning.{left_to_do}
@@ -19,7 +19,7 @@ invariant-loop-end g l = record {
   polling : IsPolling (g.P.Port.state l.port) l.ring;
   imports : (start : PortState) → IsImporting start (g.P.Port.state l.fn.port) l.fn.ring → IsImporting start (g.P.Port.state l.port) l.ring;
   tidied : (g.P.Port.state l.fn.port).waiting ≡ [] → (g.P.Port.state l.port).waiting ≡ [];
-  in_time : IsInTime (g.P.Port.state l.fn.port) l.fn.ring.restarts.since → l.ring.pending ≡ false → IsInTime (g.P.Port.state l.port) l.ring.restarts.since;
+  in_time : IsInTime (g.P.Port.state l.fn.port) l.fn.ring.restarts.since → l.ring.import_due ≡ false → IsInTime (g.P.Port.state l.port) l.ring.restarts.since;
   listed : HasLemmas (g.P.Port.state l.port) l.ring;
   came : CameTo (g.P.Port.state l.fn.port) (g.P.Port.state l.port) l.fn.ring l.ring;
   paced : IsPaced l.ring.restarts l.ring.learned l.limit;
@@ -28,4 +28,4 @@ invariant-loop-end g l = record {
 }
 
 abbrev pub decreases-loop-end : goal.decreases-loop-end
-decreases-loop-end g l = left_to_do l.limit l.ring.learned l.ring.trail.vars l.ring.pending (length l.ring.trail.steps)
+decreases-loop-end g l = left_to_do l.limit l.ring.learned l.ring.trail.vars l.ring.import_due (length l.ring.trail.steps)

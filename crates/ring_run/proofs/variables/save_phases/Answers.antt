@@ -3,8 +3,8 @@ use Rattle.ring_run.proofs.variables.save_phases.Goals as goal
 use Rattle.std.proofs.Common.{◌∙◌, ℕ, drop, ap, sym, arith}
 use Rattle.ring_run.specs.Strategy.{saved}
 
-pub returns-then-present-level-clause-saved : goal.returns-then-present-level-clause-saved
-returns-then-present-level-clause-saved c = saved_none c.args.decider.now c.args.trail.now c.args.level c.requires.trail (omega (arith, c.if-present-level.true, c.present.ensures.level))
+pub returns-then-decision_level-level-clause-saved : goal.returns-then-decision_level-level-clause-saved
+returns-then-decision_level-level-clause-saved c = saved_none c.args.decider.now c.args.trail.now c.args.level c.requires.trail (omega (arith, c.if-decision_level-level.true, c.decision_level.ensures.level))
 
 pub returns-clause-saved : goal.returns-clause-saved
 returns-clause-saved c =

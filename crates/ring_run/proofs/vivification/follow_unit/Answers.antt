@@ -7,7 +7,7 @@ use Rattle.watch_prop.specs.Watched.{Watched}
 use Rattle.watch_prop.specs.Propagation.{HasReasons, IsClosedBelow, IsPropagated, IsConflict, IsQuiet}
 use Rattle.ring_run.specs.Searching.{GoesOn, OnlyWrote, ToldUnits, AreTold}
 use Rattle.ring_run.specs.Ending.{EndsAt, end_refused}
-use Rattle.ring_run.specs.Course.{Searches}
+use Rattle.ring_run.specs.Next.{Searches}
 use Rattle.ring_run.proofs.Resting.{conflict_refutes}
 use Rattle.ring_run.proofs.Shrinking.{refused_halts}
 use Rattle.ring_run.proofs.Standing.{no_value}
@@ -42,7 +42,7 @@ refute-requires-clause-rup g c =
     let w = c.propagate.new.self in
     let found = c.requires.awaits.search (subst IsTrail c.assign.ensures.step c.assign.ensures.trail) in
     let grown : HasGrown (assigned old.trail c.args.lit None) t = subst (λ (x : TrailData). HasGrown x t) c.assign.ensures.step c.propagate.ensures.grown in
-    let search : Searches m t w old.written = grown_search s m (assigned old.trail c.args.lit None) t old.watches w old.written found c.propagate.ensures.same c.present-lawful.ensures.trail c.propagate.ensures.attached grown c.propagate.ensures.reasons c.propagate.ensures.watched in
+    let search : Searches m t w old.written = grown_search s m (assigned old.trail c.args.lit None) t old.watches w old.written found c.propagate.ensures.same c.decision_level-lawful.ensures.trail c.propagate.ensures.attached grown c.propagate.ensures.reasons c.propagate.ensures.watched in
     let bad : IsConflict w (lits_at s) t c.in-Conflict.field-0 = subst (IsPropagated w (lits_at s) t) c.in-Conflict.is c.in-Ok.ensures.propagated in
     conflict_refutes m t w w old.written c.in-Conflict.field-0 search (grown.level ∙ c.requires.awaits.level) (subst (λ (x : PortState). IsConflict w (lits_at x) t c.in-Conflict.field-0) (sym c.propagate.ensures.same) bad) Rattle.std.proofs.Common.refl
 
@@ -64,7 +64,7 @@ write_pending-requires g c =
     let w = c.propagate.new.self in
     let found = c.requires.awaits.search (subst IsTrail c.assign.ensures.step c.assign.ensures.trail) in
     let grown : HasGrown (assigned old.trail c.args.lit None) t = subst (λ (x : TrailData). HasGrown x t) c.assign.ensures.step c.propagate.ensures.grown in
-    record { search = grown_search s m (assigned old.trail c.args.lit None) t old.watches w old.written found c.propagate.ensures.same c.present-lawful.ensures.trail c.propagate.ensures.attached grown c.propagate.ensures.reasons c.propagate.ensures.watched }
+    record { search = grown_search s m (assigned old.trail c.args.lit None) t old.watches w old.written found c.propagate.ensures.same c.decision_level-lawful.ensures.trail c.propagate.ensures.attached grown c.propagate.ensures.reasons c.propagate.ensures.watched }
 
 pub returns-in-Ok-write_pending-clause-keeps : goal.returns-in-Ok-write_pending-clause-keeps
 returns-in-Ok-write_pending-clause-keeps g c = λ start n p. c.in-Ok-write_pending.ensures.ok start n (subst (λ (x : PortState). GoesOn start x n) (sym c.propagate.ensures.same) p)

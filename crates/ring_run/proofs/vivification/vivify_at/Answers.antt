@@ -19,44 +19,44 @@ vivify_lemma-requires-clause-lemma g c =
       apart = λ h start. c.requires.listed.apart h c.index-lemma.result.now start there;
     }
 
-pub returns-in-Ok-Same-clause-listed : goal.returns-in-Ok-Same-clause-listed
-returns-in-Ok-Same-clause-listed g c =
+pub returns-in-Ok-Unchanged-clause-listed : goal.returns-in-Ok-Unchanged-clause-listed
+returns-in-Ok-Unchanged-clause-listed g c =
     let s = g.P.Port.state c.args.port.now in
     let u = g.P.Port.state c.vivify_lemma.new.port in
     let old = c.args.ring.now in
     let new = c.vivify_lemma.new.ring in
     let d = c.index-lemma.result.now in
     let same = c.vivify_lemma.ensures.same in
-    let k = c.in-Ok-Same.ensures in
+    let k = c.in-Ok-Unchanged.ensures in
     same_listed s u old new d c.args.place c.requires.listed c.requires.resting k.others (there_at c.args.place old.lemmas.items d c.requires.inside c.index-lemma.ensures)
     k.start k.resting.lately (ap (λ (r : Ring). r.learned) same) (ap (λ (r : Ring). r.reductions) same) (ap (λ (r : Ring). r.reduced_at) same)
-    (ap (λ (r : Ring). r.lemmas.items) same) (subst (IsLeft s u new.watches d) c.in-Ok-Same.field-0-is k.left)
+    (ap (λ (r : Ring). r.lemmas.items) same) (subst (IsLeft s u new.watches d) c.in-Ok-Unchanged.field-0-is k.left)
 
-pub returns-in-Ok-Other-clause-listed : goal.returns-in-Ok-Other-clause-listed
-returns-in-Ok-Other-clause-listed g c =
+pub returns-in-Ok-Replaced-clause-listed : goal.returns-in-Ok-Replaced-clause-listed
+returns-in-Ok-Replaced-clause-listed g c =
     let s = g.P.Port.state c.args.port.now in
     let u = g.P.Port.state c.vivify_lemma.new.port in
     let old = c.args.ring.now in
     let new = c.vivify_lemma.new.ring in
     let d = c.index-lemma.result.now in
     let same = c.vivify_lemma.ensures.same in
-    let k = c.in-Ok-Other.ensures in
+    let k = c.in-Ok-Replaced.ensures in
     other_listed s u old (record new { lemmas = c.push_reserved.new.self }) d c.args.place c.requires.listed c.requires.resting k.others (there_at c.args.place old.lemmas.items d c.requires.inside c.index-lemma.ensures)
     k.start k.resting.lately (ap (λ (r : Ring). r.learned) same) (ap (λ (r : Ring). r.reductions) same) (ap (λ (r : Ring). r.reduced_at) same)
-    c.in-Ok-Other.shorter
-    (c.push_reserved.ensures.items ∙ ap (λ (xs : List Cref). xs ++ c.in-Ok-Other.shorter ∷ [])
+    c.in-Ok-Replaced.shorter
+    (c.push_reserved.ensures.items ∙ ap (λ (xs : List Cref). xs ++ c.in-Ok-Replaced.shorter ∷ [])
     (taken_at c.args.place old.lemmas.items new.lemmas.items c.remove.new.self.items (ap (λ (r : Ring). r.lemmas.items) same) c.remove.ensures.items))
-    (subst (IsLeft s u new.watches d) c.in-Ok-Other.field-0-is k.left) (start_held s old c.requires.resting)
+    (subst (IsLeft s u new.watches d) c.in-Ok-Replaced.field-0-is k.left) (start_held s old c.requires.resting)
 
-pub returns-in-Ok-Nothing-clause-listed : goal.returns-in-Ok-Nothing-clause-listed
-returns-in-Ok-Nothing-clause-listed g c =
+pub returns-in-Ok-Gone-clause-listed : goal.returns-in-Ok-Gone-clause-listed
+returns-in-Ok-Gone-clause-listed g c =
     let s = g.P.Port.state c.args.port.now in
     let u = g.P.Port.state c.vivify_lemma.new.port in
     let old = c.args.ring.now in
     let new = c.vivify_lemma.new.ring in
     let d = c.index-lemma.result.now in
     let same = c.vivify_lemma.ensures.same in
-    let k = c.in-Ok-Nothing.ensures in
-    gone_listed s u old (record new { lemmas = c.remove-in-Ok-Nothing.new.self }) d c.args.place c.requires.listed c.requires.resting k.others (there_at c.args.place old.lemmas.items d c.requires.inside c.index-lemma.ensures)
+    let k = c.in-Ok-Gone.ensures in
+    gone_listed s u old (record new { lemmas = c.remove-in-Ok-Gone.new.self }) d c.args.place c.requires.listed c.requires.resting k.others (there_at c.args.place old.lemmas.items d c.requires.inside c.index-lemma.ensures)
     k.start k.resting.lately (ap (λ (r : Ring). r.learned) same) (ap (λ (r : Ring). r.reductions) same) (ap (λ (r : Ring). r.reduced_at) same)
-    (taken_at c.args.place old.lemmas.items new.lemmas.items c.remove-in-Ok-Nothing.new.self.items (ap (λ (r : Ring). r.lemmas.items) same) c.remove-in-Ok-Nothing.ensures.items)
+    (taken_at c.args.place old.lemmas.items new.lemmas.items c.remove-in-Ok-Gone.new.self.items (ap (λ (r : Ring). r.lemmas.items) same) c.remove-in-Ok-Gone.ensures.items)

@@ -6,8 +6,8 @@ use Rattle.ring_run.proofs.Turns.{none_turned, one_turned, next_inside, all_turn
 use Rattle.ring_run.proofs.Shrinking.{halts_then}
 use Rattle.ring_run.proofs.vivification.vivify_lemmas.Goals as goal
 
-pub loop-turn-init : goal.loop-turn-init
-loop-turn-init g c =
+pub loop-search_step-init : goal.loop-search_step-init
+loop-search_step-init g c =
     let s = g.P.Port.state c.args.port.now in
     record {
       keeps = λ start n p. p;
@@ -21,22 +21,22 @@ loop-turn-init g c =
       port = c.requires.resting.search.clauses.port;
     }
 
-pub loop-turn-preserved : goal.loop-turn-preserved
-loop-turn-preserved g c =
+pub loop-search_step-preserved : goal.loop-search_step-preserved
+loop-search_step-preserved g c =
     let s = g.P.Port.state c.args.port.now in
-    let m = g.P.Port.state c.loop-turn.port in
+    let m = g.P.Port.state c.loop-search_step.port in
     let u = g.P.Port.state c.vivify_at.new.port in
     let old = c.args.ring.now in
-    let mid = c.loop-turn.ring in
+    let mid = c.loop-search_step.ring in
     let new = c.vivify_at.new.ring in
-    let i = c.loop-turn.invariant in
+    let i = c.loop-search_step.invariant in
     let k = c.in-Ok.ensures in
     record {
       keeps = λ start n p. k.keeps start n (i.keeps start n p);
       resting = k.resting;
       listed = k.listed;
-      turned = one_turned (point s old) (point m mid) (point u new) old.lemmas.items mid.lemmas.items new.lemmas.items c.loop-turn._turn c.loop-turn.place c.in-Ok.next
-          (let q = c.loop-turn-test.true in let n = c.len-turn-end.ensures in let e = old.lemmas.ok.0 in omega (arith, q, n, e)) i.turned k.took;
+      turned = one_turned (point s old) (point m mid) (point u new) old.lemmas.items mid.lemmas.items new.lemmas.items c.loop-search_step._search_step c.loop-search_step.place c.in-Ok.next
+          (let q = c.loop-search_step-test.true in let n = c.len-search_step-end.ensures in let e = old.lemmas.ok.0 in omega (arith, q, n, e)) i.turned k.took;
       steps = omega (arith, i.steps, k.steps);
       same = k.same ∙ ap (λ (r : Ring). record r { trail = new.trail; watches = new.watches; written = new.written; lemmas = new.lemmas }) i.same;
       looks = k.looks ∙ i.looks;
@@ -47,15 +47,15 @@ loop-turn-preserved g c =
 pub vivify_at-requires-clause-inside : goal.vivify_at-requires-clause-inside
 vivify_at-requires-clause-inside g c =
     let old = c.args.ring.now in
-    let lt : c.loop-turn._turn < length old.lemmas.items = (let q = c.loop-turn-test.true in let n = c.len-turn-end.ensures in let e = old.lemmas.ok.0 in omega (arith, q, n, e)) in
-    next_inside (point (g.P.Port.state c.args.port.now) old) (point (g.P.Port.state c.loop-turn.port) c.loop-turn.ring) old.lemmas.items c.loop-turn.ring.lemmas.items c.loop-turn._turn c.loop-turn.place (record { address = 0 }) c.loop-turn.invariant.turned lt
+    let lt : c.loop-search_step._search_step < length old.lemmas.items = (let q = c.loop-search_step-test.true in let n = c.len-search_step-end.ensures in let e = old.lemmas.ok.0 in omega (arith, q, n, e)) in
+    next_inside (point (g.P.Port.state c.args.port.now) old) (point (g.P.Port.state c.loop-search_step.port) c.loop-search_step.ring) old.lemmas.items c.loop-search_step.ring.lemmas.items c.loop-search_step._search_step c.loop-search_step.place (record { address = 0 }) c.loop-search_step.invariant.turned lt
 
 pub returns-in-Err-clause-over : goal.returns-in-Err-clause-over
 returns-in-Err-clause-over g c =
-    halts_then (g.P.Port.state c.args.port.now) (g.P.Port.state c.loop-turn.port) (g.P.Port.state c.vivify_at.new.port) c.in-Err.end c.loop-turn.invariant.keeps c.in-Err.ensures.over
+    halts_then (g.P.Port.state c.args.port.now) (g.P.Port.state c.loop-search_step.port) (g.P.Port.state c.vivify_at.new.port) c.in-Err.end c.loop-search_step.invariant.keeps c.in-Err.ensures.over
 
 pub returns-clause-took : goal.returns-clause-took
 returns-clause-took g c =
     let old = c.args.ring.now in
-    let le : length old.lemmas.items ≤ c.loop-turn._turn = (let q = c.loop-turn-test.false in let n = c.len-turn-end.ensures in let e = old.lemmas.ok.0 in omega (arith, q, n, e)) in
-    all_turned (point (g.P.Port.state c.args.port.now) old) (point (g.P.Port.state c.loop-turn.port) c.loop-turn.ring) old.lemmas.items c.loop-turn.ring.lemmas.items c.loop-turn._turn c.loop-turn.place c.loop-turn.invariant.turned le
+    let le : length old.lemmas.items ≤ c.loop-search_step._search_step = (let q = c.loop-search_step-test.false in let n = c.len-search_step-end.ensures in let e = old.lemmas.ok.0 in omega (arith, q, n, e)) in
+    all_turned (point (g.P.Port.state c.args.port.now) old) (point (g.P.Port.state c.loop-search_step.port) c.loop-search_step.ring) old.lemmas.items c.loop-search_step.ring.lemmas.items c.loop-search_step._search_step c.loop-search_step.place c.loop-search_step.invariant.turned le

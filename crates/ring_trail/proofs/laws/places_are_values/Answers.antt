@@ -1,5 +1,5 @@
 use Rattle.std.proofs.Common.{◌≡◌, arith, sym, ap, ◌∙◌, not}
-use Rattle.ring_trail.specs.declared.step.Step.{Step}
+use Rattle.ring_trail.specs.declared.step.TrailStep.{TrailStep}
 use Rattle.ring_trail.proofs.Values.{none_at, value_none, value_some, some_at, step_of-at, step_of-no_place}
 use Rattle.ring_trail.proofs.laws.places_are_values.Goals as goal
 
@@ -13,7 +13,7 @@ pub returns-clause-some : goal.returns-clause-some
 returns-clause-some c = λ steps v b e.
     (let s = value_some steps v b e in
     let p = some_at steps v s.0 s.1 in
-    (p.0, record { in_range = p.1; var = ap (λ (x : Step). x.lit.var) p.2 ∙ p.3 }, ap (λ (x : Step). not x.lit.neg) p.2 ∙ s.2))
+    (p.0, record { in_range = p.1; var = ap (λ (x : TrailStep). x.lit.var) p.2 ∙ p.3 }, ap (λ (x : TrailStep). not x.lit.neg) p.2 ∙ s.2))
 
 pub returns-clause-step : goal.returns-clause-step
 returns-clause-step c = λ t v p shape i.

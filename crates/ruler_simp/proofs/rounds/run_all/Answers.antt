@@ -1,32 +1,32 @@
 use Rattle.std.proofs.Common.{◌≡◌, ◌∙◌, ◌<◌, ◌+◌, ℕ, List, ◌∷◌, length, get_or, drop, ap, sym, subst, add-one, Ok}
 use Rattle.std.proofs.Math.Seq.{drop-cons}
 use Rattle.std.proofs.lemmas.List.{drop_all}
-use Rattle.ruler_simp.specs.declared.passes.Pass.{Pass}
-use Rattle.ruler_simp.specs.declared.passes.Pass.TheVariants.{Units}
+use Rattle.ruler_simp.specs.declared.passes.Simplifier.{Simplifier}
+use Rattle.ruler_simp.specs.declared.passes.Simplifier.TheVariants.{Units}
 use Rattle.ruler_simp.specs.Passes.{Ends}
 use Rattle.ruler_simp.proofs.Turning.{Row, row_next, row_stop, row_end}
 use Rattle.ruler_simp.proofs.rounds.run_all.Goals as goal
 
-front : (passes : List Pass) (i : ℕ) → i < length passes → drop i passes ≡ get_or passes i Units ∷ drop (i + 1) passes
+front : (passes : List Simplifier) (i : ℕ) → i < length passes → drop i passes ≡ get_or passes i Units ∷ drop (i + 1) passes
 front passes i lt = drop-cons passes i Units lt ∙ ap (λ j. get_or passes i Units ∷ drop j passes) (sym (add-one i))
 
 pub loop-pass-preserved : goal.loop-pass-preserved
 loop-pass-preserved g c =
-    let passes = c.args.passes.now in let i = c.loop-pass.pass-index in let p : Pass = get_or passes i Units in
+    let passes = c.args.passes.now in let i = c.loop-pass.pass-index in let p : Simplifier = get_or passes i Units in
     let start = c.args.work.now in let now = c.loop-pass.work in let new = c.run.new.work in
     row_next passes p (drop (i + 1) passes) start now new (subst (λ rest. Row passes rest start now) (front passes i c.loop-pass-test.true) c.loop-pass.invariant)
     (subst (λ r. Ends p now new r) (c.in-Ok-Done.is ∙ ap Ok c.in-Ok-Done.field-0-is) c.run.ensures.ends) c.run.ensures.log c.run.ensures.work
 
 pub returns-in-Ok-Refuted-clause-ran : goal.returns-in-Ok-Refuted-clause-ran
 returns-in-Ok-Refuted-clause-ran g c =
-    let passes = c.args.passes.now in let i = c.loop-pass.pass-index in let p : Pass = get_or passes i Units in
+    let passes = c.args.passes.now in let i = c.loop-pass.pass-index in let p : Simplifier = get_or passes i Units in
     let start = c.args.work.now in let now = c.loop-pass.work in let new = c.run.new.work in
     row_stop passes p (drop (i + 1) passes) start now new _ (subst (λ rest. Row passes rest start now) (front passes i c.loop-pass-test.true) c.loop-pass.invariant)
     (subst (λ r. Ends p now new r) (c.in-Ok-Refuted.is ∙ ap Ok c.in-Ok-Refuted.field-0-is) c.run.ensures.ends) c.run.ensures.log c.run.ensures.work (λ e. let none : ⊥ = cc in none)
 
 pub returns-in-Err-clause-ran : goal.returns-in-Err-clause-ran
 returns-in-Err-clause-ran g c =
-    let passes = c.args.passes.now in let i = c.loop-pass.pass-index in let p : Pass = get_or passes i Units in
+    let passes = c.args.passes.now in let i = c.loop-pass.pass-index in let p : Simplifier = get_or passes i Units in
     let start = c.args.work.now in let now = c.loop-pass.work in let new = c.run.new.work in
     row_stop passes p (drop (i + 1) passes) start now new _ (subst (λ rest. Row passes rest start now) (front passes i c.loop-pass-test.true) c.loop-pass.invariant)
     (subst (λ r. Ends p now new r) c.in-Err.is c.run.ensures.ends) c.run.ensures.log c.run.ensures.work (λ e. let none : ⊥ = cc in none)
@@ -34,4 +34,4 @@ returns-in-Err-clause-ran g c =
 pub returns-clause-ran : goal.returns-clause-ran
 returns-clause-ran g c =
     let passes = c.args.passes.now in let start = c.args.work.now in let now = c.loop-pass.work in
-    row_end passes start now (subst (λ (rest : List Pass). Row passes rest start now) (drop_all c.loop-pass.pass-index passes c.loop-pass-test.false) c.loop-pass.invariant)
+    row_end passes start now (subst (λ (rest : List Simplifier). Row passes rest start now) (drop_all c.loop-pass.pass-index passes c.loop-pass-test.false) c.loop-pass.invariant)

@@ -15,11 +15,11 @@ use Rattle.share_rule.proofs.Filling.{first_length, begun_words}
 use Rattle.share_rule.proofs.Rooms.{few_words}
 use Rattle.share_rule.proofs.making.make.Goals as goal
 
-pub lay-requires-clause-short : goal.lay-requires-clause-short
-lay-requires-clause-short g c = let b = c.requires.1.0 in short_all c.args.layout b.few_vars (book c.args._formula.now.clauses g.journal) c.args.start.now b.opens.starts b.starts
+pub lay_out-requires-clause-short : goal.lay_out-requires-clause-short
+lay_out-requires-clause-short g c = let b = c.requires.1.0 in short_all c.args.layout b.few_vars (book c.args._formula.now.clauses g.journal) c.args.start.now b.opens.starts b.starts
 
-pub lay-requires-clause-units : goal.lay-requires-clause-units
-lay-requires-clause-units g c = let b = c.requires.1.0 in few_distinct c.args.layout.vars c.args.units.now b.opens.distinct b.units
+pub lay_out-requires-clause-units : goal.lay_out-requires-clause-units
+lay_out-requires-clause-units g c = let b = c.requires.1.0 in few_distinct c.args.layout.vars c.args.units.now b.opens.distinct b.units
 
 pub invariant_of-table : goal.invariant_of-table
 invariant_of-table g c =

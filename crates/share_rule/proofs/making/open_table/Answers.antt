@@ -21,8 +21,8 @@ store-requires g c =
     let p = c.requires.pass in
     let l = c.load.ensures in
     let x = c.exchange.ensures in
-    let lay : c.args.pass.now.me.0.layout ≡ table.table.shared.key.layout = ap (λ (m : Me (Option g.row.B.Denot) View). m.0.layout) p.1 ∙ sym table.keyed in
-    let view : c.load.new.seat.me.0 ≡ taken_view table.table.shared.key.layout = l.2.0 ∙ ap taken_view lay in
+    let lay_out : c.args.pass.now.me.0.layout ≡ table.table.shared.key.layout = ap (λ (m : Me (Option g.row.B.Denot) View). m.0.layout) p.1 ∙ sym table.keyed in
+    let view : c.load.new.seat.me.0 ≡ taken_view table.table.shared.key.layout = l.2.0 ∙ ap taken_view lay_out in
     let slots = ap rest l.2.1 ∙ ap (λ (m : Me (Option g.row.B.Denot) View). m.1) p.1 in (
       x.0 ∙ l.0 ∙ p.0,
       omega arith,

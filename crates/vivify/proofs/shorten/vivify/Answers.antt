@@ -19,7 +19,7 @@ use Rattle.vivify.specs.declared.shorten.Vivified.{Vivified}
 use Rattle.vivify.specs.declared.shorten.Vivified.TheVariants.{Kept, Shorter, Unit, Empty}
 use Rattle.ring_port.specs.declared.stops.PortStop.{PortStop}
 use Rattle.ring_port.specs.declared.stops.PortStop.TheVariants.{Memory}
-use Rattle.ring_trail.specs.declared.step.Step.{Step}
+use Rattle.ring_trail.specs.declared.step.TrailStep.{TrailStep}
 use Rattle.vivify.proofs.Parts.{left_part, left_distinct, left_whole, left_short}
 use Rattle.vivify.proofs.After.{good_walked, good_kept, good_unit, good_shorter, left_open, left_closed, first_in, others_refused, others_wrote, others_unit, others_shorter}
 use Rattle.vivify.proofs.Shortening.{is_attached, part_clause, wrote_held, head_glue, one_on, not_empty}
@@ -36,7 +36,7 @@ returns-in-empty-clause-vivified g c =
     let is : c.as_slice-lits.result.now ≡ left_of G d = c.as_slice-lits.ensures.value ∙ subst (λ (x : PortState). c.in-Ok.left.items ≡ left_at x (attached c.args.watches.now) c.args.trail.now.steps c.args.c.address) c.head-head.ensures.same c.in-Ok.ensures.left in
     let t = c.args.trail.now in
     let w = c.literals_left.new.watches in
-    not_empty s c.args.watches.now w t c.args.c c.as_slice-lits.result.now c.present-lawful.ensures.trail c.requires.level
+    not_empty s c.args.watches.now w t c.args.c c.as_slice-lits.result.now c.decision_level-lawful.ensures.trail c.requires.level
     (subst (λ (x : PortState). HasReasons (attached w) x t.steps) c.head-head.ensures.same (subst (λ (u : TrailData). HasReasons (attached w) (g.P.Port.state c.head-head.new.self) u.steps) c.in-Ok.ensures.trail c.in-Ok.ensures.reasons))
     (subst (λ (x : PortState). IsQuiet w (lits_at x) t) c.head-head.ensures.same (subst (λ (u : TrailData). IsQuiet w (lits_at (g.P.Port.state c.head-head.new.self)) u) c.in-Ok.ensures.trail c.in-Ok.ensures.quiet))
     c.requires.quiet c.requires.member c.in-Ok.ensures.attached is c.in-empty.len_below
@@ -187,7 +187,7 @@ returns-clause-watched g c =
     let good = good_walked s (g.P.Port.state c.head-head.new.self) w t c.literals_left.new.trail c.head-head.ensures.same c.in-Ok.ensures.trail c.in-Ok.ensures.watched c.in-Ok.ensures.reasons c.in-Ok.ensures.quiet in
     let is = c.as_slice-lits.ensures.value ∙ subst (λ (x : PortState). c.in-Ok.left.items ≡ left_at x (attached c.args.watches.now) t.steps c.args.c.address) c.head-head.ensures.same c.in-Ok.ensures.left in
     let L = c.as_slice-lits.result.now in
-    let closed = left_closed s c.args.watches.now w t c.args.c L c.present-lawful.ensures.trail c.requires.level good c.in-Ok.ensures.attached is (subst IsPort c.head-head.ensures.same c.head-head.ensures.port) c.requires.held c.in_default-lits.len_at_least in
+    let closed = left_closed s c.args.watches.now w t c.args.c L c.decision_level-lawful.ensures.trail c.requires.level good c.in-Ok.ensures.attached is (subst IsPort c.head-head.ensures.same c.head-head.ensures.port) c.requires.held c.in_default-lits.len_at_least in
     (good_shorter s (g.P.Port.state c.literals_left.new.port) (g.P.Port.state c.derive.new.self) (g.P.Port.state c.attach-in_default-lits.new.port) (g.P.Port.state c.drop_clause-in_default-lits.new.self) c.args.watches.now w c.attach-in_default-lits.new.self
     t c.literals_left.new.trail c.args.c c.in_ok-shorter-in_default-lits.shorter L c.shorter_glue-glue.result Derive same c.attach-in_default-lits.ensures.same c.in-Ok.ensures.trail good c.in-Ok.ensures.attached c.requires.held
     c.in_ok-shorter-in_default-lits.ensures.derived c.in_ok-shorter-in_default-lits.ensures.kept closed c.in-Ok-attach-2.ensures.attached c.attach-in_default-lits.ensures.watched c.in_ok-drop_clause-in_default-lits.ensures.dropped).watched
@@ -201,7 +201,7 @@ returns-clause-reasons g c =
     let good = good_walked s (g.P.Port.state c.head-head.new.self) w t c.literals_left.new.trail c.head-head.ensures.same c.in-Ok.ensures.trail c.in-Ok.ensures.watched c.in-Ok.ensures.reasons c.in-Ok.ensures.quiet in
     let is = c.as_slice-lits.ensures.value ∙ subst (λ (x : PortState). c.in-Ok.left.items ≡ left_at x (attached c.args.watches.now) t.steps c.args.c.address) c.head-head.ensures.same c.in-Ok.ensures.left in
     let L = c.as_slice-lits.result.now in
-    let closed = left_closed s c.args.watches.now w t c.args.c L c.present-lawful.ensures.trail c.requires.level good c.in-Ok.ensures.attached is (subst IsPort c.head-head.ensures.same c.head-head.ensures.port) c.requires.held c.in_default-lits.len_at_least in
+    let closed = left_closed s c.args.watches.now w t c.args.c L c.decision_level-lawful.ensures.trail c.requires.level good c.in-Ok.ensures.attached is (subst IsPort c.head-head.ensures.same c.head-head.ensures.port) c.requires.held c.in_default-lits.len_at_least in
     (good_shorter s (g.P.Port.state c.literals_left.new.port) (g.P.Port.state c.derive.new.self) (g.P.Port.state c.attach-in_default-lits.new.port) (g.P.Port.state c.drop_clause-in_default-lits.new.self) c.args.watches.now w c.attach-in_default-lits.new.self
     t c.literals_left.new.trail c.args.c c.in_ok-shorter-in_default-lits.shorter L c.shorter_glue-glue.result Derive same c.attach-in_default-lits.ensures.same c.in-Ok.ensures.trail good c.in-Ok.ensures.attached c.requires.held
     c.in_ok-shorter-in_default-lits.ensures.derived c.in_ok-shorter-in_default-lits.ensures.kept closed c.in-Ok-attach-2.ensures.attached c.attach-in_default-lits.ensures.watched c.in_ok-drop_clause-in_default-lits.ensures.dropped).reasons
@@ -215,7 +215,7 @@ returns-clause-quiet g c =
     let good = good_walked s (g.P.Port.state c.head-head.new.self) w t c.literals_left.new.trail c.head-head.ensures.same c.in-Ok.ensures.trail c.in-Ok.ensures.watched c.in-Ok.ensures.reasons c.in-Ok.ensures.quiet in
     let is = c.as_slice-lits.ensures.value ∙ subst (λ (x : PortState). c.in-Ok.left.items ≡ left_at x (attached c.args.watches.now) t.steps c.args.c.address) c.head-head.ensures.same c.in-Ok.ensures.left in
     let L = c.as_slice-lits.result.now in
-    let closed = left_closed s c.args.watches.now w t c.args.c L c.present-lawful.ensures.trail c.requires.level good c.in-Ok.ensures.attached is (subst IsPort c.head-head.ensures.same c.head-head.ensures.port) c.requires.held c.in_default-lits.len_at_least in
+    let closed = left_closed s c.args.watches.now w t c.args.c L c.decision_level-lawful.ensures.trail c.requires.level good c.in-Ok.ensures.attached is (subst IsPort c.head-head.ensures.same c.head-head.ensures.port) c.requires.held c.in_default-lits.len_at_least in
     (good_shorter s (g.P.Port.state c.literals_left.new.port) (g.P.Port.state c.derive.new.self) (g.P.Port.state c.attach-in_default-lits.new.port) (g.P.Port.state c.drop_clause-in_default-lits.new.self) c.args.watches.now w c.attach-in_default-lits.new.self
     t c.literals_left.new.trail c.args.c c.in_ok-shorter-in_default-lits.shorter L c.shorter_glue-glue.result Derive same c.attach-in_default-lits.ensures.same c.in-Ok.ensures.trail good c.in-Ok.ensures.attached c.requires.held
     c.in_ok-shorter-in_default-lits.ensures.derived c.in_ok-shorter-in_default-lits.ensures.kept closed c.in-Ok-attach-2.ensures.attached c.attach-in_default-lits.ensures.watched c.in_ok-drop_clause-in_default-lits.ensures.dropped).quiet
@@ -239,7 +239,7 @@ returns-in-len1-clause-open_unit g c = λ l e bad. (
     let same = c.literals_left.ensures.same ∙ c.head-head.ensures.same in
     let good = good_walked s (g.P.Port.state c.head-head.new.self) w t c.literals_left.new.trail c.head-head.ensures.same c.in-Ok.ensures.trail c.in-Ok.ensures.watched c.in-Ok.ensures.reasons c.in-Ok.ensures.quiet in
     let is = c.as_slice-lits.ensures.value ∙ subst (λ (x : PortState). c.in-Ok.left.items ≡ left_at x (attached c.args.watches.now) t.steps c.args.c.address) c.head-head.ensures.same c.in-Ok.ensures.left in
-    left_open s c.args.watches.now w t c.args.c c.as_slice-lits.result.now l c.present-lawful.ensures.trail c.requires.level good c.in-Ok.ensures.attached is
+    left_open s c.args.watches.now w t c.args.c c.as_slice-lits.result.now l c.decision_level-lawful.ensures.trail c.requires.level good c.in-Ok.ensures.attached is
     (subst (λ (x : Literal). In x c.as_slice-lits.result.now) (unit_same c.lit-item.result l (Ok (Unit c.lit-item.result)) refl e) (first_in c.as_slice-lits.result.now c.lit-item.result c.in-len1.len_at_least c.lit-item.is)) bad)
 
 pub returns-in-empty-clause-never_empty : goal.returns-in-empty-clause-never_empty
@@ -250,7 +250,7 @@ returns-in-empty-clause-never_empty g c = λ e. (
     let same = c.literals_left.ensures.same ∙ c.head-head.ensures.same in
     let good = good_walked s (g.P.Port.state c.head-head.new.self) w t c.literals_left.new.trail c.head-head.ensures.same c.in-Ok.ensures.trail c.in-Ok.ensures.watched c.in-Ok.ensures.reasons c.in-Ok.ensures.quiet in
     let is = c.as_slice-lits.ensures.value ∙ subst (λ (x : PortState). c.in-Ok.left.items ≡ left_at x (attached c.args.watches.now) t.steps c.args.c.address) c.head-head.ensures.same c.in-Ok.ensures.left in
-    not_empty s c.args.watches.now w t c.args.c c.as_slice-lits.result.now c.present-lawful.ensures.trail c.requires.level good.reasons good.quiet c.requires.quiet c.requires.member c.in-Ok.ensures.attached is c.in-empty.len_below)
+    not_empty s c.args.watches.now w t c.args.c c.as_slice-lits.result.now c.decision_level-lawful.ensures.trail c.requires.level good.reasons good.quiet c.requires.quiet c.requires.member c.in-Ok.ensures.attached is c.in-empty.len_below)
 
 pub returns-in_err-unit-in-len1-clause-others : goal.returns-in_err-unit-in-len1-clause-others
 returns-in_err-unit-in-len1-clause-others g c = λ a ne held. others_refused (g.P.Port.state c.args.port.now) (g.P.Port.state c.literals_left.new.port) (g.P.Port.state c.unit.new.self) a _ (c.literals_left.ensures.same ∙ c.head-head.ensures.same) c.in_err-unit-in-len1.ensures.written
@@ -271,7 +271,7 @@ returns-clause-others g c = λ a ne held.
     (c.literals_left.ensures.same ∙ c.head-head.ensures.same) c.in_ok-shorter-in_default-lits.ensures.kept c.attach-in_default-lits.ensures.same c.in_ok-drop_clause-in_default-lits.ensures.dropped ne held
 
 -- a refusal after the line of what is left
-cut_short : (old m n : PortState) (v : WatchData) (steps : List Step) (c : Cref) (r : Result Vivified PortStop) (stop stop' : PortStop) → WroteLeft old m v steps c → n ≡ m → r ≡ Err stop → stop ≡ stop' → stop' ≡ Memory → IfErr r (WasCutShort old n v steps c)
+cut_short : (old m n : PortState) (v : WatchData) (steps : List TrailStep) (c : Cref) (r : Result Vivified PortStop) (stop stop' : PortStop) → WroteLeft old m v steps c → n ≡ m → r ≡ Err stop → stop ≡ stop' → stop' ≡ Memory → IfErr r (WasCutShort old n v steps c)
 cut_short old m n v steps c r stop stop' wrote same e is memory =
     subst (λ (x : Result Vivified PortStop). IfErr x (WasCutShort old n v steps c)) (sym e)
     (subst (WasCutShort old n v steps c) (sym (is ∙ memory)) record { middle = m; before = inr wrote; refused = record { reason = tt; state = same } })

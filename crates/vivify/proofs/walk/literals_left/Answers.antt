@@ -17,7 +17,7 @@ walk_clause-requires-clause-walking g c =
     let s = g.P.Port.state c.args.port.now in
     let r = c.requires in
     subst (λ (x : PortState). IsWalking x c.detach.new.self c.args.trail.now c.args.trail.now []) (sym c.detach.ensures.same)
-    (detached s c.args.watches.now c.detach.new.self c.args.trail.now c.args.c.address c.present-lawful.ensures.trail r.level r.quiet r.reasons r.free (c.detach.ensures.attached c.args.trail.now r.watched) (c.detach.ensures.watched c.args.trail.now r.watched))
+    (detached s c.args.watches.now c.detach.new.self c.args.trail.now c.args.c.address c.decision_level-lawful.ensures.trail r.level r.quiet r.reasons r.free (c.detach.ensures.attached c.args.trail.now r.watched) (c.detach.ensures.watched c.args.trail.now r.watched))
 
 pub returns-in_err-walk_clause-clause-attached : goal.returns-in_err-walk_clause-clause-attached
 returns-in_err-walk_clause-clause-attached g c = c.in_err-walk_clause.ensures.attached ∙ c.detach.ensures.attached c.args.trail.now c.requires.watched
@@ -29,22 +29,22 @@ pub returns-clause-trail : goal.returns-clause-trail
 returns-clause-trail g c =
     let s = g.P.Port.state c.detach.new.port in
     let w = c.in_ok-walk_clause.ensures.walked in
-    (c.back_to.ensures.back (omega arith)) ∙ back_again s c.walk_clause.new.watches c.args.trail.now c.walk_clause.new.trail c.present-lawful.ensures.trail c.requires.level c.requires.quiet.done w.above
+    (c.back_to.ensures.back (omega arith)) ∙ back_again s c.walk_clause.new.watches c.args.trail.now c.walk_clause.new.trail c.decision_level-lawful.ensures.trail c.requires.level c.requires.quiet.done w.above
 
 pub returns-clause-watched : goal.returns-clause-watched
 returns-clause-watched g c =
     let s = g.P.Port.state c.detach.new.port in
     let w = c.in_ok-walk_clause.ensures.walked in
-    let e = (c.back_to.ensures.back (omega arith)) ∙ back_again s c.walk_clause.new.watches c.args.trail.now c.walk_clause.new.trail c.present-lawful.ensures.trail c.requires.level c.requires.quiet.done w.above in
+    let e = (c.back_to.ensures.back (omega arith)) ∙ back_again s c.walk_clause.new.watches c.args.trail.now c.walk_clause.new.trail c.decision_level-lawful.ensures.trail c.requires.level c.requires.quiet.done w.above in
     subst (λ (t : TrailData). Watched c.walk_clause.new.watches (lits_at (g.P.Port.state c.args.port.now)) t) (sym e)
     (subst (λ (x : PortState). Watched c.walk_clause.new.watches (lits_at x) c.args.trail.now) c.detach.ensures.same
-    (watched_back s c.walk_clause.new.watches c.args.trail.now c.walk_clause.new.trail c.present-lawful.ensures.trail c.requires.level c.requires.quiet.done w.above))
+    (watched_back s c.walk_clause.new.watches c.args.trail.now c.walk_clause.new.trail c.decision_level-lawful.ensures.trail c.requires.level c.requires.quiet.done w.above))
 
 pub returns-clause-quiet : goal.returns-clause-quiet
 returns-clause-quiet g c =
     let s = g.P.Port.state c.detach.new.port in
     let w = c.in_ok-walk_clause.ensures.walked in
-    let e = (c.back_to.ensures.back (omega arith)) ∙ back_again s c.walk_clause.new.watches c.args.trail.now c.walk_clause.new.trail c.present-lawful.ensures.trail c.requires.level c.requires.quiet.done w.above in
+    let e = (c.back_to.ensures.back (omega arith)) ∙ back_again s c.walk_clause.new.watches c.args.trail.now c.walk_clause.new.trail c.decision_level-lawful.ensures.trail c.requires.level c.requires.quiet.done w.above in
     let a = c.in_ok-walk_clause.ensures.attached ∙ c.detach.ensures.attached c.args.trail.now c.requires.watched in
     subst (λ (t : TrailData). IsQuiet c.walk_clause.new.watches (lits_at (g.P.Port.state c.args.port.now)) t) (sym e)
     record { done = c.requires.quiet.done; closed = λ k. Closed-at c.args.watches.now c.walk_clause.new.watches (lits_at (g.P.Port.state c.args.port.now)) c.args.trail.now.steps c.args.c.address k a (c.requires.quiet.closed k) }
@@ -53,7 +53,7 @@ pub returns-clause-reasons : goal.returns-clause-reasons
 returns-clause-reasons g c =
     let s = g.P.Port.state c.detach.new.port in
     let w = c.in_ok-walk_clause.ensures.walked in
-    let e = (c.back_to.ensures.back (omega arith)) ∙ back_again s c.walk_clause.new.watches c.args.trail.now c.walk_clause.new.trail c.present-lawful.ensures.trail c.requires.level c.requires.quiet.done w.above in
+    let e = (c.back_to.ensures.back (omega arith)) ∙ back_again s c.walk_clause.new.watches c.args.trail.now c.walk_clause.new.trail c.decision_level-lawful.ensures.trail c.requires.level c.requires.quiet.done w.above in
     let a = c.in_ok-walk_clause.ensures.attached ∙ c.detach.ensures.attached c.args.trail.now c.requires.watched in
     subst (λ (t : TrailData). HasReasons (attached c.walk_clause.new.watches) (g.P.Port.state c.args.port.now) t.steps) (sym e)
     (subst (λ (cs : List Cref). HasReasons cs (g.P.Port.state c.args.port.now) c.args.trail.now.steps) (sym a)

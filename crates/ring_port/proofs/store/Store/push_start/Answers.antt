@@ -14,14 +14,14 @@ invariant_of-self c =
     let a : ℕ = c.len-first.result in
     let x : Cref = record { address = a } in
     let end : length ws ≡ a = (let e = c.len-first.ensures in omega arith) in
-    let claim : IsClaim ws us i.spare i.spare a (words_for (length c.args.lits.now)) =
+    let take_words : IsClaim ws us i.spare i.spare a (words_for (length c.args.lits.now)) =
     subst (λ (w : ℕ × ℕ). IsClaim ws us i.spare i.spare w.0 w.1) (λ j. (end j, c.words_for.ensures j)) (grown_claim ws us i.spare c.words_for.result c.self.invariant.inside c.grow.ensures.longer c.grow.ensures.same) in
     let long : c.len.result ≡ length vs = (let e = c.len.ensures in omega arith) in
-    let longer = claim.longer in
-    let fits = claim.fits in
+    let longer = take_words.longer in
+    let fits = take_words.fits in
     let same = c.write_clause.ensures.long in
     subst (λ (w : List Cref × List Cref). IsStore vs i.spare w.0 w.1 i.waiting.items c.len.result i.freed) (λ j. (sym c.push_reserved.ensures.items j, sym c.push_reserved-2.ensures.items j))
-    (pushed_store ws us vs i.spare i.spare a c.args.number 0 c.args.lits.now claim c.write_clause.ensures
+    (pushed_store ws us vs i.spare i.spare a c.args.number 0 c.args.lits.now take_words c.write_clause.ensures
     i.start.items i.held.items i.waiting.items i.front i.freed c.self.invariant x refl (i.start.items ++ x ∷ []) (i.held.items ++ x ∷ []) c.len.result
     (started_front ws i.spare i.start.items i.held.items i.waiting.items i.front i.freed c.self.invariant x c.len.result (omega arith) (omega arith))
     (λ y u. used_started i.start.items i.held.items i.waiting.items x y u))
@@ -35,9 +35,9 @@ returns-clause-waiting c =
     let a : ℕ = c.len-first.result in
     let x : Cref = record { address = a } in
     let end : length ws ≡ a = (let e = c.len-first.ensures in omega arith) in
-    let claim : IsClaim ws us i.spare i.spare a (words_for (length c.args.lits.now)) =
+    let take_words : IsClaim ws us i.spare i.spare a (words_for (length c.args.lits.now)) =
     subst (λ (w : ℕ × ℕ). IsClaim ws us i.spare i.spare w.0 w.1) (λ j. (end j, c.words_for.ensures j)) (grown_claim ws us i.spare c.words_for.result c.self.invariant.inside c.grow.ensures.longer c.grow.ensures.same) in
-    lists_same ws us vs i.spare i.spare a c.args.number 0 c.args.lits.now claim c.write_clause.ensures i.waiting.items
+    lists_same ws us vs i.spare i.spare a c.args.number 0 c.args.lits.now take_words c.write_clause.ensures i.waiting.items
     (λ y m. c.self.invariant.stands y (used_waiting i.start.items i.held.items i.waiting.items y m))
     ∙ ap (λ (s : StoreData). s.waiting) c.self.view_is
 
@@ -50,11 +50,11 @@ returns-clause-start c =
     let a : ℕ = c.len-first.result in
     let x : Cref = record { address = a } in
     let end : length ws ≡ a = (let e = c.len-first.ensures in omega arith) in
-    let claim : IsClaim ws us i.spare i.spare a (words_for (length c.args.lits.now)) =
+    let take_words : IsClaim ws us i.spare i.spare a (words_for (length c.args.lits.now)) =
     subst (λ (w : ℕ × ℕ). IsClaim ws us i.spare i.spare w.0 w.1) (λ j. (end j, c.words_for.ensures j)) (grown_claim ws us i.spare c.words_for.result c.self.invariant.inside c.grow.ensures.longer c.grow.ensures.same) in
     let place : a ≡ c.args.self.now.end = sym end ∙ ap (λ (s : StoreData). s.end) c.self.view_is in
     ap (λ (cs : List Cref). clauses_in vs cs) c.push_reserved.ensures.items
-    ∙ list_pushed ws us vs i.spare i.spare a c.args.number 0 c.args.lits.now claim c.write_clause.ensures i.start.items x refl
+    ∙ list_pushed ws us vs i.spare i.spare a c.args.number 0 c.args.lits.now take_words c.write_clause.ensures i.start.items x refl
     (λ y m. c.self.invariant.stands y (used_start i.start.items i.held.items i.waiting.items y m))
     ∙ ap (λ (s : StoreData). s.start ++ record { address = a; number = c.args.number; glue = 0; lits = c.args.lits.now } ∷ []) c.self.view_is
     ∙ ap (λ (b : ℕ). c.args.self.now.start ++ record { address = b; number = c.args.number; glue = 0; lits = c.args.lits.now } ∷ []) place
@@ -68,11 +68,11 @@ returns-clause-held c =
     let a : ℕ = c.len-first.result in
     let x : Cref = record { address = a } in
     let end : length ws ≡ a = (let e = c.len-first.ensures in omega arith) in
-    let claim : IsClaim ws us i.spare i.spare a (words_for (length c.args.lits.now)) =
+    let take_words : IsClaim ws us i.spare i.spare a (words_for (length c.args.lits.now)) =
     subst (λ (w : ℕ × ℕ). IsClaim ws us i.spare i.spare w.0 w.1) (λ j. (end j, c.words_for.ensures j)) (grown_claim ws us i.spare c.words_for.result c.self.invariant.inside c.grow.ensures.longer c.grow.ensures.same) in
     let place : a ≡ c.args.self.now.end = sym end ∙ ap (λ (s : StoreData). s.end) c.self.view_is in
     ap (λ (cs : List Cref). clauses_in vs cs) c.push_reserved-2.ensures.items
-    ∙ list_pushed ws us vs i.spare i.spare a c.args.number 0 c.args.lits.now claim c.write_clause.ensures i.held.items x refl
+    ∙ list_pushed ws us vs i.spare i.spare a c.args.number 0 c.args.lits.now take_words c.write_clause.ensures i.held.items x refl
     (λ y m. c.self.invariant.stands y (used_held i.start.items i.held.items i.waiting.items y m))
     ∙ ap (λ (s : StoreData). s.held ++ record { address = a; number = c.args.number; glue = 0; lits = c.args.lits.now } ∷ []) c.self.view_is
     ∙ ap (λ (b : ℕ). c.args.self.now.held ++ record { address = b; number = c.args.number; glue = 0; lits = c.args.lits.now } ∷ []) place

@@ -1,6 +1,6 @@
 use Rattle.std.proofs.Common.{◌≡◌, ◌<◌, ◌+◌, ◌-◌, ℕ, List, ap, ◌∙◌, sym, subst, arith, length}
 use Rattle.std.proofs.lemmas.List.{get_or_default}
-use Rattle.ring_trail.specs.declared.step.Step.{Step}
+use Rattle.ring_trail.specs.declared.step.TrailStep.{TrailStep}
 use Rattle.ring_trail.specs.TrailData.{TrailData, start_of}
 use Rattle.ring_trail.specs.Inside.{Parts}
 use Rattle.ring_trail.proofs.Levels.{start_of-Parts, start_of-zero}
@@ -28,5 +28,5 @@ pub returns-clause-start : goal.returns-clause-start
 returns-clause-start c =
     let pos : c.args.level - 1 + 1 ≡ c.args.level = omega (arith, c.if-level-eq0.false) in
     sym (ap (λ (k : ℕ). start_of c.args.self.now.steps k) (sym pos)
-    ∙ ap (λ (s : List Step). start_of s (c.args.level - 1 + 1)) (sym (ap (λ (t : TrailData). t.steps) c.self.view_is))
+    ∙ ap (λ (s : List TrailStep). start_of s (c.args.level - 1 + 1)) (sym (ap (λ (t : TrailData). t.steps) c.self.view_is))
     ∙ start_of-Parts (c.args.level - 1) c.self.inside.steps.items c.index.result.now (parts_at c))

@@ -4,7 +4,7 @@ use Rattle.sat_words.specs.Literal.{Literal}
 use Rattle.rup_model.specs.declared.journal.Addition.{Addition}
 use Rattle.rup_model.specs.declared.journal.Entry.TheVariants.{Add}
 use Rattle.rup_model.specs.Journal.{lines}
-use Rattle.share_core.specs.declared.ring.Ring.{Ring}
+use Rattle.share_core.specs.declared.ring.RingState.{RingState}
 use Rattle.share_core.specs.declared.progress.Progress.{Progress}
 use Rattle.share_core.specs.Machine.{CoreData, data_of, state_of}
 use Rattle.share_core.proofs.Shown.{lines_added}
@@ -14,7 +14,7 @@ use Rattle.share_core.proofs.progress.Progress.add_clause.Goals as goal
 pub returns-clause-after : goal.returns-clause-after
 returns-clause-after c =
     let d : CoreData = data_of c.args.origin.now c.args.self.now in
-    let m : Ring = c.index_mut-own.result.now in
+    let m : RingState = c.index_mut-own.result.now in
     let after = c.in_ok-number.ensures.after in
     let own : m ≡ get_or d.rings c.args.ring m = c.index_mut-own.ensures.value ∙ ap (λ (p : Progress). get_or p.rings.items c.args.ring m) after in
     let cells : c.push.new.self.items ≡ d.cells ++ record { address = c.args.address; cell = record { lits = c.args.lits.now; number = c.in_ok-number.number; count = 0; maker = Some c.args.ring } } ∷ [] =

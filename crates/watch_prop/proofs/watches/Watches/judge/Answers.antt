@@ -36,7 +36,7 @@ find_replacement-requires-clause-pair g c =
 
 pub returns-then-is_true-clause-verdict : goal.returns-then-is_true-clause-verdict
 returns-then-is_true-clause-verdict g c =
-    blocker_satisfied c.args.self.now (lits_at (g.P.Port.state c.args.port.now)) c.args.trail.now _ c.watcher_at-watcher.result c.present-lawful.ensures.trail
+    blocker_satisfied c.args.self.now (lits_at (g.P.Port.state c.args.port.now)) c.args.trail.now _ c.watcher_at-watcher.result c.decision_level-lawful.ensures.trail
     (c.requires.watched.blocking c.args.lit c.watcher_at-watcher.result c.watcher_at-watcher.ensures.listed) c.watcher_at-watcher.ensures.slot (c.is_true.ensures.0 c.if-is_true.true)
 
 pub returns-then-is_false-clause-verdict : goal.returns-then-is_false-clause-verdict

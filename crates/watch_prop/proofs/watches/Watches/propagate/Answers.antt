@@ -23,24 +23,24 @@ came_to x y h u Quiet all len settled k end = record {
 }
 came_to x y h u (Conflict c) all len settled k end = end
 
-pub settle-requires-clause-watched : goal.settle-requires-clause-watched
-settle-requires-clause-watched g c = c.tidy.ensures.watched (lits_at (g.P.Port.state c.args.port.now)) c.args.trail.now c.requires.watched
+pub watch_waiting-requires-clause-watched : goal.watch_waiting-requires-clause-watched
+watch_waiting-requires-clause-watched g c = c.tidy.ensures.watched (lits_at (g.P.Port.state c.args.port.now)) c.args.trail.now c.requires.watched
 
 -- what settling and running keep
 both : (g : Over) (c : After-run g) → HasAdvanced (g.P.Port.state c.args.port.now) c.tidy.new.self c.run.new.self c.args.trail.now c.run.new.trail
-both g c = advanced_trans _ _ _ _ _ _ c.settle.ensures.same c.settle.ensures.kept _ _ c.run.ensures.kept
+both g c = advanced_trans _ _ _ _ _ _ c.watch_waiting.ensures.same c.watch_waiting.ensures.kept _ _ c.run.ensures.kept
 
 pub run-requires-clause-reasons : goal.run-requires-clause-reasons
-run-requires-clause-reasons g c = advanced_reasons _ _ _ _ _ _ c.settle.ensures.same c.settle.ensures.kept
+run-requires-clause-reasons g c = advanced_reasons _ _ _ _ _ _ c.watch_waiting.ensures.same c.watch_waiting.ensures.kept
 
 pub returns-in_ok-run-in-Quiet-clause-propagated : goal.returns-in_ok-run-in-Quiet-clause-propagated
 returns-in_ok-run-in-Quiet-clause-propagated g c =
     let lits = lits_at (g.P.Port.state c.args.port.now) in
-    let all : c.settle.new.self.settled ≡ length c.settle.new.self.slots
-    = subst (λ (o : Propagated). IsAllSettled c.settle.new.self lits c.settle.new.trail o) c.in-Quiet.is c.in_ok-clause.ensures.settled in
-    came_to c.settle.new.self c.run.new.self lits c.run.new.trail c.in_ok-run-in-Quiet.field-0 all c.run.ensures.len c.run.ensures.settled
-    (subst (λ (s : PortState). Watched c.run.new.self (lits_at s) c.run.new.trail) c.settle.ensures.same c.run.ensures.kept.watched)
-    (subst (λ (s : PortState). IsEnd c.run.new.self (lits_at s) c.run.new.trail c.in_ok-run-in-Quiet.field-0) c.settle.ensures.same c.in_ok-run-in-Quiet.ensures.ended)
+    let all : c.watch_waiting.new.self.settled ≡ length c.watch_waiting.new.self.slots
+    = subst (λ (o : Propagated). IsAllSettled c.watch_waiting.new.self lits c.watch_waiting.new.trail o) c.in-Quiet.is c.in_ok-clause.ensures.settled in
+    came_to c.watch_waiting.new.self c.run.new.self lits c.run.new.trail c.in_ok-run-in-Quiet.field-0 all c.run.ensures.len c.run.ensures.settled
+    (subst (λ (s : PortState). Watched c.run.new.self (lits_at s) c.run.new.trail) c.watch_waiting.ensures.same c.run.ensures.kept.watched)
+    (subst (λ (s : PortState). IsEnd c.run.new.self (lits_at s) c.run.new.trail c.in_ok-run-in-Quiet.field-0) c.watch_waiting.ensures.same c.in_ok-run-in-Quiet.ensures.ended)
 
 pub returns-in_err-run-in-Quiet-clause-grown : goal.returns-in_err-run-in-Quiet-clause-grown
 returns-in_err-run-in-Quiet-clause-grown g c = (both g (goal.at.returns-in_err-run-in-Quiet-clause-grown g c).After-run).grown

@@ -2,14 +2,14 @@ use Rattle.std.proofs.Common.{◌≡◌, ◌<◌, ◌+◌, ◌∙◌, ℕ, subst
 use Rattle.sat_words.specs.Literal.{Literal, opposite}
 use Rattle.sat_words.proofs.Members.{opposite-opposite}
 use Rattle.ring_port.specs.PortState.{PortState, lits_at}
-use Rattle.ring_trail.specs.declared.step.Step.{Step}
+use Rattle.ring_trail.specs.declared.step.TrailStep.{TrailStep}
 use Rattle.ring_trail.specs.TrailData.{TrailData, IsNext, lit_at}
 use Rattle.watch_prop.specs.declared.propagated.Propagated.{Propagated}
 use Rattle.watch_prop.specs.Advancing.{HasAdvanced}
 use Rattle.watch_prop.specs.Visiting.{IsWalked, IsVisiting}
-use Rattle.watch_prop.proofs.Growing.{HasGrown-pass, HasGrown-longer, step_grown}
+use Rattle.watch_prop.proofs.Growing.{HasGrown-advance_head, HasGrown-longer, step_grown}
 use Rattle.watch_prop.proofs.Advancing.{advanced_none, advanced_reasons, advanced_trans}
-use Rattle.watch_prop.proofs.Visits.{Watched-pass}
+use Rattle.watch_prop.proofs.Visits.{Watched-advance_head}
 use Rattle.watch_prop.proofs.watches.Watches.run.Given.{Over}
 use Rattle.watch_prop.proofs.watches.Watches.run.Goals.{After-walk}
 use Rattle.watch_prop.proofs.watches.Watches.run.Goals as goal
@@ -50,8 +50,8 @@ returns-in_err-walk-clause-kept g c = so_far g (goal.at.returns-in_err-walk-clau
 pub returns-in-Conflict-clause-kept : goal.returns-in-Conflict-clause-kept
 returns-in-Conflict-clause-kept g c = so_far g (goal.at.returns-in-Conflict-clause-kept g c).After-walk
 
-pub pass-requires : goal.pass-requires
-pass-requires g c =
+pub advance_head-requires : goal.advance_head-requires
+advance_head-requires g c =
     let next = c.in-Some.ensures.next in
     let n = HasGrown-longer c.loop-lit.trail c.walk.new.trail c.walk.ensures.kept.grown in
     omega (arith, next.open_yet, n, c.walk.ensures.done)
@@ -60,7 +60,7 @@ pub loop-lit-smaller : goal.loop-lit-smaller
 loop-lit-smaller g c =
     let next = c.in-Some.ensures.next in
     let s = c.next.ensures.trail.short in
-    let e = c.pass.ensures.done in
+    let e = c.advance_head.ensures.done in
     omega (arith, next.open_yet, s, c.walk.ensures.done, c.walk.ensures.kept.grown.vars, ap (λ (t : TrailData). t.done) e, ap (λ (t : TrailData). t.vars) e)
 
 pub loop-lit-preserved : goal.loop-lit-preserved
@@ -74,19 +74,19 @@ loop-lit-preserved g c =
     let n = HasGrown-longer t u grown in
     let open_yet : u.done < length u.steps = omega (arith, next.open_yet, n, c.walk.ensures.done) in
     let here : lit_at u.steps u.done ≡ opposite c.not.result
-    = ap (λ (k : ℕ). lit_at u.steps k) c.walk.ensures.done ∙ ap (λ (xs : List Step). lit_at xs t.done) grown.steps ∙ ap (λ (s : Step). s.lit) (step_grown t.steps grown.more t.done next.open_yet)
+    = ap (λ (k : ℕ). lit_at u.steps k) c.walk.ensures.done ∙ ap (λ (xs : List TrailStep). lit_at xs t.done) grown.steps ∙ ap (λ (s : TrailStep). s.lit) (step_grown t.steps grown.more t.done next.open_yet)
     ∙ false_next t c.in-Some.lit c.not.result next c.not.ensures in
     let walked = subst (λ (s : PortState). IsWalked c.walk.new.self (lits_at s) u c.not.result c.in_ok-walk.field-0) i.same c.in_ok-walk.ensures.walked in
     let visiting : IsVisiting c.walk.new.self lits u c.not.result 0 = subst (λ (o : Propagated). IsWalked c.walk.new.self lits u c.not.result o) c.in-Quiet.is walked in
     let now = so_far g (goal.at.loop-lit-preserved g c).After-walk in
     record {
       same = c.walk.ensures.same ∙ i.same;
-      kept = rw c.pass.ensures.done record {
+      kept = rw c.advance_head.ensures.done record {
         clauses = now.clauses;
         vars = now.vars;
-        grown = HasGrown-pass c.args.trail.now u (u.done + 1) now.grown;
+        grown = HasGrown-advance_head c.args.trail.now u (u.done + 1) now.grown;
         reasons = now.reasons;
-        watched = Watched-pass c.walk.new.self lits u c.not.result open_yet here visiting;
+        watched = Watched-advance_head c.walk.new.self lits u c.not.result open_yet here visiting;
       };
       settled = c.walk.ensures.settled ∙ i.settled;
       len = c.walk.ensures.len ∙ i.len;

@@ -25,10 +25,10 @@ skipped v w h t o e lt q is k =
 here : (g : Over) (c : After-best_watches-best g) → At c.args.self.now.slots c.args.self.now.settled (Some c.in-Some.watch)
 here g c = waiting record { vars = c.self.inside.vars; slots = c.self.inside.slots.items; lists = c.self.inside.lists.rows; rooms = c.self.inside.lists.rooms; size = c.self.inside.lists.size; settled = c.self.inside.settled } c.args.self.now c.index.result.now c.in-Some.watch c.self.view_is c.requires.there c.index.ensures c.in-Some.is
 
-pub returns-then-best-present-clause-settled : goal.returns-then-best-present-clause-settled
-returns-then-best-present-clause-settled g c =
-    let at = here g (goal.at.returns-then-best-present-clause-settled g c).After-best_watches-best in
-    best-conflict c.args.self.now (lits_at (g.P.Port.state c.args.port.now)) c.args.trail.now c.in-Some.watch c.args.self.now.settled c.best_watches-best.result at c.best_watches-best.ensures.best (let q = c.if-best-present.true in omega (arith, q, c.present-present.ensures.level))
+pub returns-then-best-decision_level-clause-settled : goal.returns-then-best-decision_level-clause-settled
+returns-then-best-decision_level-clause-settled g c =
+    let at = here g (goal.at.returns-then-best-decision_level-clause-settled g c).After-best_watches-best in
+    best-conflict c.args.self.now (lits_at (g.P.Port.state c.args.port.now)) c.args.trail.now c.in-Some.watch c.args.self.now.settled c.best_watches-best.result at c.best_watches-best.ensures.best (let q = c.if-best-decision_level.true in omega (arith, q, c.decision_level-decision_level.ensures.level))
 
 pub list-requires-clause-first : goal.list-requires-clause-first
 list-requires-clause-first g c =
@@ -62,7 +62,7 @@ make_true-requires-clause-in_range g c =
 
 pub make_true-requires-clause-not_false : goal.make_true-requires-clause-not_false
 make_true-requires-clause-not_false g c =
-    rank-open c.args.trail.now c.best_watches-best.result.first c.best_watches-best.result.high c.present-present.ensures.trail c.best_watches-best.ensures.best.high_is (let q = c.if-best-present.false in omega (arith, q, c.present-present.ensures.level))
+    rank-open c.args.trail.now c.best_watches-best.result.first c.best_watches-best.result.high c.decision_level-decision_level.ensures.trail c.best_watches-best.ensures.best.high_is (let q = c.if-best-decision_level.false in omega (arith, q, c.decision_level-decision_level.ensures.level))
 
 pub list-requires-clause-there : goal.list-requires-clause-there
 list-requires-clause-there g c =
@@ -79,8 +79,8 @@ returns-in-None-clause-kept g c =
     advanced_watches (g.P.Port.state c.args.port.now) c.args.self.now _ c.args.trail.now (ap attached c.self.view_is) (ap (λ (w : WatchData). w.vars) c.self.view_is) c.requires.reasons
     (skipped record { vars = c.self.inside.vars; slots = c.self.inside.slots.items; lists = c.self.inside.lists.rows; rooms = c.self.inside.lists.rooms; size = c.self.inside.lists.size; settled = c.self.inside.settled } c.args.self.now (lits_at (g.P.Port.state c.args.port.now)) c.args.trail.now c.index.result.now c.self.view_is c.requires.there c.index.ensures c.in-None.is c.requires.watched)
 
-pub returns-then-best-present-clause-kept : goal.returns-then-best-present-clause-kept
-returns-then-best-present-clause-kept g c = advanced_none (g.P.Port.state c.args.port.now) c.args.self.now c.args.trail.now c.requires.reasons c.requires.watched
+pub returns-then-best-decision_level-clause-kept : goal.returns-then-best-decision_level-clause-kept
+returns-then-best-decision_level-clause-kept g c = advanced_none (g.P.Port.state c.args.port.now) c.args.self.now c.args.trail.now c.requires.reasons c.requires.watched
 
 pub returns-in_err-list-clause-kept : goal.returns-in_err-list-clause-kept
 returns-in_err-list-clause-kept g c =
@@ -88,16 +88,16 @@ returns-in_err-list-clause-kept g c =
     advanced_watches (g.P.Port.state c.args.port.now) c.args.self.now c.list.new.self c.args.trail.now (ap (λ (ws : List (Option Watch)). filter_map slot_clause ws) more.slots) more.vars c.requires.reasons
     (Watched-more c.args.self.now c.list.new.self (lits_at (g.P.Port.state c.args.port.now)) c.args.trail.now c.in-Some.watch c.best_watches-best.result.second c.requires.watched (here g (goal.at.returns-in_err-list-clause-kept g c).After-best_watches-best) (among_has _ _ _ c.best_watches-best.ensures.best.second_in) more)
 
-pub returns-then-best-present-2-clause-kept : goal.returns-then-best-present-2-clause-kept
-returns-then-best-present-2-clause-kept g c =
-    let at = here g (goal.at.returns-then-best-present-2-clause-kept g c).After-best_watches-best in
+pub returns-then-best-decision_level-2-clause-kept : goal.returns-then-best-decision_level-2-clause-kept
+returns-then-best-decision_level-2-clause-kept g c =
+    let at = here g (goal.at.returns-then-best-decision_level-2-clause-kept g c).After-best_watches-best in
     let t = c.args.trail.now in
     advanced_watches (g.P.Port.state c.args.port.now) c.args.self.now c.list.new.self t
     (same_clauses c.args.self.now c.list.new.self c.in-Some.watch c.best_watches-best.result.first c.best_watches-best.result.second at c.in_ok-list.ensures.ok)
     c.in_ok-list.ensures.ok.vars c.requires.reasons
-    (Watched-listed c.args.self.now c.list.new.self (lits_at (g.P.Port.state c.args.port.now)) t t c.in-Some.watch c.best_watches-best.result c.requires.watched c.present-present.ensures.trail at c.best_watches-best.ensures.best
-    (let q = c.if-best-present.false in omega (arith, q, c.present-present.ensures.level)) (HasGrown-refl t) refl
-    (λ le. absurd (let q = c.if-best-present-2.true in omega (arith, q, c.present-present.ensures.level, le))) c.requires.below c.in_ok-list.ensures.ok)
+    (Watched-listed c.args.self.now c.list.new.self (lits_at (g.P.Port.state c.args.port.now)) t t c.in-Some.watch c.best_watches-best.result c.requires.watched c.decision_level-decision_level.ensures.trail at c.best_watches-best.ensures.best
+    (let q = c.if-best-decision_level.false in omega (arith, q, c.decision_level-decision_level.ensures.level)) (HasGrown-refl t) refl
+    (λ le. absurd (let q = c.if-best-decision_level-2.true in omega (arith, q, c.decision_level-decision_level.ensures.level, le))) c.requires.below c.in_ok-list.ensures.ok)
 
 -- the clause gives the literal that it forces its reason
 reasons_now : (g : Over) (c : After-make_true g) → HasReasons (attached c.args.self.now) (g.P.Port.state c.args.port.now) c.make_true.new.trail.steps
@@ -108,7 +108,7 @@ reasons_now g c =
     let d = lits_at s c.in-Some.watch.clause.address in
     c.make_true.ensures.reasons (attached w) s d
     (attached_some (attached w) s c.in-Some.watch.clause (clause_in w w.settled c.in-Some.watch a) (attachable_held w.vars s c.in-Some.watch.clause.address (c.requires.watched.clauses w.settled c.in-Some.watch a)))
-    (best-forces c.args.trail.now d c.best_watches-best.result c.best_watches-best.ensures.best (let q = c.if-best-present-2.false in omega (arith, q, c.present-present.ensures.level))) c.requires.reasons
+    (best-forces c.args.trail.now d c.best_watches-best.result c.best_watches-best.ensures.best (let q = c.if-best-decision_level-2.false in omega (arith, q, c.decision_level-decision_level.ensures.level))) c.requires.reasons
 
 pub returns-in_err-list-2-clause-kept : goal.returns-in_err-list-2-clause-kept
 returns-in_err-list-2-clause-kept g c =
@@ -120,7 +120,7 @@ returns-in_err-list-2-clause-kept g c =
       grown = c.make_true.ensures.grown;
       reasons = reasons_now g (goal.at.returns-in_err-list-2-clause-kept g c).After-make_true;
       watched = Watched-more c.args.self.now c.list-2.new.self lits c.make_true.new.trail c.in-Some.watch c.best_watches-best.result.second
-          (Watched-grow c.args.self.now lits c.args.trail.now c.make_true.new.trail c.present-present.ensures.trail.done c.requires.watched c.make_true.ensures.grown c.make_true.ensures.done)
+          (Watched-grow c.args.self.now lits c.args.trail.now c.make_true.new.trail c.decision_level-decision_level.ensures.trail.done c.requires.watched c.make_true.ensures.grown c.make_true.ensures.done)
           (here g (goal.at.returns-in_err-list-2-clause-kept g c).After-best_watches-best) (among_has _ _ _ c.best_watches-best.ensures.best.second_in) more;
     }
 
@@ -133,7 +133,7 @@ returns-clause-kept g c =
       vars = ok.vars;
       grown = c.make_true.ensures.grown;
       reasons = reasons_now g (goal.at.returns-clause-kept g c).After-make_true;
-      watched = Watched-listed c.args.self.now c.list-2.new.self (lits_at (g.P.Port.state c.args.port.now)) c.args.trail.now c.make_true.new.trail c.in-Some.watch c.best_watches-best.result c.requires.watched c.present-present.ensures.trail at c.best_watches-best.ensures.best
-          (let q = c.if-best-present.false in omega (arith, q, c.present-present.ensures.level)) c.make_true.ensures.grown c.make_true.ensures.done
+      watched = Watched-listed c.args.self.now c.list-2.new.self (lits_at (g.P.Port.state c.args.port.now)) c.args.trail.now c.make_true.new.trail c.in-Some.watch c.best_watches-best.result c.requires.watched c.decision_level-decision_level.ensures.trail at c.best_watches-best.ensures.best
+          (let q = c.if-best-decision_level.false in omega (arith, q, c.decision_level-decision_level.ensures.level)) c.make_true.ensures.grown c.make_true.ensures.done
           (λ le. c.make_true.ensures.made) c.requires.below ok;
     }

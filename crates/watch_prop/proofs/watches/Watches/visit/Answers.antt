@@ -3,13 +3,13 @@ use Rattle.std.specs.List.{filter_map}
 use Rattle.sat_words.specs.Literal.{Literal}
 use Rattle.sat_words.specs.declared.shared.Cref.{Cref}
 use Rattle.ring_port.specs.PortState.{lits_at}
-use Rattle.ring_trail.specs.declared.step.Step.{Step}
+use Rattle.ring_trail.specs.declared.step.TrailStep.{TrailStep}
 use Rattle.ring_trail.specs.TrailData.{TrailData, IsTrail}
 use Rattle.ring_trail.proofs.Truths.{no_value}
 use Rattle.ring_trail.proofs.Causes.{IsReasoned-forced}
 use Rattle.watch_prop.specs.declared.watch.Watch.{Watch}
 use Rattle.watch_prop.specs.declared.watch.Watcher.{Watcher}
-use Rattle.watch_prop.specs.declared.watch.Entry.{Entry}
+use Rattle.watch_prop.specs.declared.watch.ListEntry.{ListEntry}
 use Rattle.watch_prop.specs.WatchData.{WatchData, Lits, clause_in as slot_clause, attached, list_at}
 use Rattle.watch_prop.specs.Watched.{At, Watched, IsAttachable}
 use Rattle.watch_prop.specs.Lists.{Removed, Reblocked}
@@ -62,7 +62,7 @@ pub returns-in-Stale-clause-visited : goal.returns-in-Stale-clause-visited
 returns-in-Stale-clause-visited g c =
     stale_visiting c.args.self.now record { vars = c.self.inside.vars; slots = c.self.inside.slots.items; lists = c.self.inside.lists.rows; rooms = c.self.inside.lists.rooms; size = c.self.inside.lists.size; settled = c.self.inside.settled } (lits_at (g.P.Port.state c.args.port.now)) c.args.trail.now c.args.lit c.args.place c.take.new.self.rows c.take.new.self.rooms c.take.new.self.size c.self.view_is c.requires.there c.requires.visiting c.in-Stale.ensures.verdict c.take.ensures
 
-blocked_visiting : (w v : WatchData) (h : Lits) (t : TrailData) (l : Literal) (place : ℕ) (e : Entry) (lists : List (List Watcher)) (rooms : List ℕ) (size : ℕ) → v ≡ w → IsTrail t → place < length (list_at w.lists l) → IsVisiting w h t l (place + 1)
+blocked_visiting : (w v : WatchData) (h : Lits) (t : TrailData) (l : Literal) (place : ℕ) (e : ListEntry) (lists : List (List Watcher)) (rooms : List ℕ) (size : ℕ) → v ≡ w → IsTrail t → place < length (list_at w.lists l) → IsVisiting w h t l (place + 1)
     → CanBlock w t l (get_or (list_at w.lists l) place 0) e → Reblocked v.lists lists l place e.other → IsVisiting record v { lists = lists; rooms = rooms; size = size } h t l place × (place ≤ length (list_at lists l))
 blocked_visiting w v h t l place e lists rooms size q trail lt k can r =
     let lt' = subst (λ (x : WatchData). place < length (list_at x.lists l)) (sym q) lt in (
@@ -74,7 +74,7 @@ blocked_visiting w v h t l place e lists rooms size q trail lt k can r =
 
 blocked : (g : Over) (c : goal.After-set_blocker g) → IsVisiting record { vars = c.self.inside.vars; slots = c.self.inside.slots.items; lists = c.set_blocker.new.self.rows; rooms = c.set_blocker.new.self.rooms; size = c.set_blocker.new.self.size; settled = c.self.inside.settled } (lits_at (g.P.Port.state c.args.port.now)) c.args.trail.now c.args.lit c.args.place × (c.args.place ≤ length (list_at c.set_blocker.new.self.rows c.args.lit))
 blocked g c =
-    blocked_visiting c.args.self.now record { vars = c.self.inside.vars; slots = c.self.inside.slots.items; lists = c.self.inside.lists.rows; rooms = c.self.inside.lists.rooms; size = c.self.inside.lists.size; settled = c.self.inside.settled } (lits_at (g.P.Port.state c.args.port.now)) c.args.trail.now c.args.lit c.args.place c.in-Blocked.entry c.set_blocker.new.self.rows c.set_blocker.new.self.rooms c.set_blocker.new.self.size c.self.view_is c.present-level.ensures.trail c.requires.there c.requires.visiting c.in-Blocked.ensures.verdict c.set_blocker.ensures
+    blocked_visiting c.args.self.now record { vars = c.self.inside.vars; slots = c.self.inside.slots.items; lists = c.self.inside.lists.rows; rooms = c.self.inside.lists.rooms; size = c.self.inside.lists.size; settled = c.self.inside.settled } (lits_at (g.P.Port.state c.args.port.now)) c.args.trail.now c.args.lit c.args.place c.in-Blocked.entry c.set_blocker.new.self.rows c.set_blocker.new.self.rooms c.set_blocker.new.self.size c.self.view_is c.decision_level-level.ensures.trail c.requires.there c.requires.visiting c.in-Blocked.ensures.verdict c.set_blocker.ensures
 
 pub returns-in-Blocked-clause-visited : goal.returns-in-Blocked-clause-visited
 returns-in-Blocked-clause-visited g c = blocked g c
@@ -89,7 +89,7 @@ returns-in-Settled-clause-visited g c =
     (visiting-settled c.args.self.now (lits_at (g.P.Port.state c.args.port.now)) c.args.trail.now c.args.lit c.args.place c.requires.there c.requires.visiting c.in-Settled.ensures.verdict, (let q = c.requires.there in omega arith))
 
 -- a watch that changes its literals keeps its clause
-clauses_same : (w x : WatchData) (h : Lits) (t : TrailData) (l m : Literal) (index place : ℕ) (e : Entry) → CanMove w h t l index e m → Replaced w x e l m place → attached x ≡ attached w
+clauses_same : (w x : WatchData) (h : Lits) (t : TrailData) (l m : Literal) (index place : ℕ) (e : ListEntry) → CanMove w h t l index e m → Replaced w x e l m place → attached x ≡ attached w
 clauses_same w x h t l m index place e can r =
     let old_at : At w.slots e.index (Some can.entry.watch) = subst (λ (n : ℕ). At w.slots n (Some can.entry.watch)) (sym can.entry.at_index) can.entry.there in
     ap (λ (ws : List (Option Watch)). filter_map slot_clause ws) r.slots
@@ -98,7 +98,7 @@ clauses_same w x h t l m index place e can r =
 moved : (g : Over) (c : goal.In_ok-replace-in-Moves g) → IsVisiting c.replace.new.self (lits_at (g.P.Port.state c.args.port.now)) c.args.trail.now c.args.lit c.args.place
 moved g c =
     visiting-moved c.args.self.now c.replace.new.self (lits_at (g.P.Port.state c.args.port.now)) c.args.trail.now c.args.lit c.in-Moves.new c.args.place c.in-Moves.entry
-    c.present-level.ensures.trail.done c.requires.there c.requires.visiting c.in-Moves.ensures.verdict c.in_ok-replace-in-Moves.ensures.ok
+    c.decision_level-level.ensures.trail.done c.requires.there c.requires.visiting c.in-Moves.ensures.verdict c.in_ok-replace-in-Moves.ensures.ok
 
 pub returns-in_ok-replace-in-Moves-clause-visited : goal.returns-in_ok-replace-in-Moves-clause-visited
 returns-in_ok-replace-in-Moves-clause-visited g c =
@@ -110,9 +110,9 @@ returns-in_ok-replace-in-Moves-clause-visited g c =
 forced : (g : Over) (c : goal.After-assign g) → IsVisiting c.args.self.now (lits_at (g.P.Port.state c.args.port.now)) c.assign.new.self c.args.lit c.args.place
 forced g c =
     let t = c.args.trail.now in
-    let s : Step = record { lit = c.in-Forced.other; level = t.level; reason = Some c.in-Forced.clause } in
+    let s : TrailStep = record { lit = c.in-Forced.other; level = t.level; reason = Some c.in-Forced.clause } in
     let e = c.assign.ensures.step in
-    visiting-forced c.args.self.now (lits_at (g.P.Port.state c.args.port.now)) t c.assign.new.self c.args.lit c.in-Forced.other c.args.place c.in-Forced.clause s c.present-level.ensures.trail.done c.requires.there c.requires.visiting
+    visiting-forced c.args.self.now (lits_at (g.P.Port.state c.args.port.now)) t c.assign.new.self c.args.lit c.in-Forced.other c.args.place c.in-Forced.clause s c.decision_level-level.ensures.trail.done c.requires.there c.requires.visiting
     c.in-Forced.ensures.verdict refl refl (ap (λ (u : TrailData). u.steps) e) (HasGrown-step t c.assign.new.self s e refl) (ap (λ (u : TrailData). u.done) e)
 
 pub returns-in-Forced-clause-visited : goal.returns-in-Forced-clause-visited

@@ -1,7 +1,7 @@
 use Rattle.std.proofs.Common.{◌∙◌, Some, sym, ap, refl, subst, length, arith, ◌∷◌, []}
 use Rattle.std.proofs.lemmas.Bool.{false≢true}
 use Rattle.std.proofs.lemmas.List.{length-append, get_or_push}
-use Rattle.ring_trail.specs.declared.step.Step.{Step}
+use Rattle.ring_trail.specs.declared.step.TrailStep.{TrailStep}
 use Rattle.ring_trail.specs.TrailData.{TrailData, no_step}
 use Rattle.ring_trail.specs.Closed.{TrueWithin}
 use Rattle.ring_trail.proofs.Causes.{IsReasoned-forced}
@@ -22,7 +22,7 @@ returns-then-not-is_true-clause-reasons c cs s d held forces old =
 pub returns-then-not-is_true-clause-made : goal.returns-then-not-is_true-clause-made
 returns-then-not-is_true-clause-made c =
     let t = c.args.trail.now in
-    let s : Step = record { lit = c.args.lit; level = t.level; reason = Some c.args.clause } in
+    let s : TrailStep = record { lit = c.args.lit; level = t.level; reason = Some c.args.clause } in
     let here = get_or_push t.steps s no_step (length t.steps) refl in
     subst (λ (u : TrailData). TrueWithin u.steps u.level c.args.lit) (sym c.assign.ensures.step)
-    record { place = length t.steps; in_range = omega (arith, length-append t.steps (s ∷ [])); true_there = ap (λ (x : Step). x.lit) here; level = omega (arith, ap (λ (x : Step). x.level) here) }
+    record { place = length t.steps; in_range = omega (arith, length-append t.steps (s ∷ [])); true_there = ap (λ (x : TrailStep). x.lit) here; level = omega (arith, ap (λ (x : TrailStep). x.level) here) }

@@ -1,8 +1,0 @@
-use Rattle.std.proofs.Common.{sym, subst, All, IsSome}
-use Rattle.sat_words.specs.declared.shared.Cref.{Cref}
-use Rattle.ring_port.specs.PortState.{held_at}
-use Rattle.ring_trials.proofs.SteppingLemmas.{starts_held}
-use Rattle.ring_trials.proofs.beginning.open_counted.Goals as goal
-
-pub returns-clause-held : goal.returns-clause-held
-returns-clause-held c = subst (All (λ (x : Cref). IsSome (held_at c.in_ok-port.port.state x.address))) (sym c.in_ok-start.ensures) (starts_held c.in_ok-port.port.state c.in_ok-port.ensures.holds)

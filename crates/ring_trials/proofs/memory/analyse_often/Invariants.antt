@@ -1,8 +1,0 @@
-use Rattle.std.proofs.Common.{◌≡◌}
-use Rattle.ring_trials.proofs.memory.analyse_often.Given as goal
-
-abbrev pub invariant-loop : goal.invariant-loop
-invariant-loop g l = record {
-  same : g.P.Port.state l.port ≡ g.P.Port.state l.fn.port;
-  vars : l.analysis.vars ≡ l.fn.analysis.vars;
-}

@@ -1,9 +1,0 @@
-use Rattle.std.proofs.Common.{◌≡◌, length, drop, replicate, false}
-use Rattle.ruler_trials.specs.Models.{with_units}
-use Rattle.ruler_trials.proofs.left.model_of.Given as goal
-
-abbrev pub invariant-loop-unit : goal.invariant-loop-unit
-invariant-loop-unit l = record {
-  long : length l.model ≡ l.fn.vars;
-  set : with_units l.model (drop l.unit-index l.left.units.items) ≡ with_units (replicate l.fn.vars false) l.left.units.items;
-}

@@ -1,7 +1,0 @@
-use Rattle.std.proofs.Common.{◌≡◌, ◌<◌, ℕ, false}
-use Rattle.sat_words.specs.Truth.{formula_true}
-use Rattle.ruler_trials.specs.Models.{assignment}
-use Rattle.ruler_trials.proofs.models.has_no_model.Given as goal
-
-abbrev pub invariant-loop-number : goal.invariant-loop-number
-invariant-loop-number l = (n : ℕ) → n < l.number → formula_true (assignment n) l.formula.clauses ≡ false

@@ -1,5 +1,0 @@
-use Rattle.sample_port.proofs.Sample.{offered}
-use Rattle.sample_port.proofs.port.SamplePortPort.offer.Goals as goal
-
-pub returns-clause-offered : goal.returns-clause-offered
-returns-clause-offered c = offered c.args.self.now.stage c.args._c.address c.requires.last

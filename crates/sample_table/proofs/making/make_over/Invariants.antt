@@ -1,5 +1,0 @@
-use Rattle.std.proofs.Common.{[]}
-use Rattle.sample_table.proofs.making.make_over.Given as goal
-
-abbrev pub ghost-make : goal.ghost-make
-ghost-make g a = []

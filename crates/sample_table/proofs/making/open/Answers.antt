@@ -1,5 +1,0 @@
-use Rattle.sample_table.proofs.Trying.{no_line}
-use Rattle.sample_table.proofs.making.open.Goals as goal
-
-pub open_with-requires-clause-book : goal.open_with-requires-clause-book
-open_with-requires-clause-book c = no_line c.in_ok-book.book c.args.problem.now.formula.clauses c.in_ok-book.ensures

@@ -1,9 +1,0 @@
-use Rattle.std.proofs.Common.{◌≡◌, ◌++◌, [], drop}
-use Rattle.simp_trials.specs.Numbers.{clauses_from}
-use Rattle.simp_trials.proofs.formulas.formula_of.Given as goal
-
-abbrev pub invariant-loop-number : goal.invariant-loop-number
-invariant-loop-number l = record {
-  vars : l.formula.vars ≡ l.fn.vars;
-  clauses : l.formula.clauses ++ clauses_from l.lits.items (drop l.number-index l.numbers) ≡ clauses_from [] l.numbers;
-}

@@ -1,7 +1,0 @@
-use Rattle.table_trials.proofs.Keeping.{put_keeps}
-use Rattle.table_trials.proofs.slots.put_first.Goals as goal
-
-pub returns-clause-held : goal.returns-clause-held
-returns-clause-held g c =
-    let p = c.put.ensures.part in
-    put_keeps c.args.to 0 c.args.cell.address p.0 p.1 c.args.ring.now.pass.me.0 c.put.new.pass.me.0 c.requires.ring.one p.2 c.requires.held

@@ -1,0 +1,71 @@
+// `ring_pass` by hand: two rings over one table, one call after another.
+use crate::ports::{begin_port, fourth, join_ring, open_four};
+use crate::rows::{give_up_and_tell, hand_over};
+use io_edge::MemSink;
+use ring_port::{Gate, Point};
+use sat_words::{Head, Lit};
+use share_rule::close;
+use std::process::Abort;
+use std::sync::atomic::{AtomicU64, Ordering};
+use std::test::Fail;
+
+/// A gate that counts the rings that pass it.
+#[derive(Drop)]
+struct Counts {
+    learned: AtomicU64,
+    dropped: AtomicU64,
+    put: AtomicU64,
+}
+
+impl Gate for Counts {
+    fn at(&self, _ring: u32, point: Point, _learned: u64) {
+        let count = match point {
+            Point::Learned => &self.learned,
+            Point::Dropped => &self.dropped,
+            Point::Put => &self.put,
+        };
+        count.fetch_add(1, Ordering::SeqCst);
+    }
+}
+
+/// By hand on one thread: ring 0 learns a clause, offers it and gives it up, and offers a second one, with which the first comes
+/// back as the last that is held. Ring 1 takes the second, and ring 0 gives it up. Both give a start clause up, which ring 1 as
+/// the last deletes. Then ring 0 writes a unit, which ring 1 is given.
+#[test]
+fn two_rings_share_and_tell(rt: HostRuntime) -> Result<(), Fail> {
+    let alloc = rt.alloc();
+    let (table, mut first, cells) = open_four(alloc, MemSink::new(alloc, 64, &[])?)?;
+    let gate = Counts {
+        learned: AtomicU64::new(0),
+        dropped: AtomicU64::new(0),
+        put: AtomicU64::new(0),
+    };
+    let start = cells.as_slice();
+    let mut zero = begin_port(&rt, alloc, &table, &gate, &mut first, 0, start)?;
+    let mut one = begin_port(&rt, alloc, &table, &gate, &mut first, 1, start)?;
+    let heard = hand_over(&mut zero, &mut one)?;
+    let spare = fourth(start)?;
+    let (unit, none) = give_up_and_tell(&mut zero, &mut one, spare, heard.found)?;
+    join_ring(&table, &mut first, one, 1);
+    join_ring(&table, &mut first, zero, 0);
+    let head = Head {
+        size: 2,
+        glue: 1,
+        number: 6,
+    };
+    let counts = [
+        gate.learned.load(Ordering::SeqCst),
+        gate.put.load(Ordering::SeqCst),
+        gate.dropped.load(Ordering::SeqCst),
+    ];
+    assert!(rt; heard.offered == (1, 1));
+    assert!(rt; heard.head == head);
+    assert!(rt; heard.lits == (Lit::new(2, false), Lit::new(3, true)));
+    assert!(rt; [unit, none] == [Some(Lit::new(2, false)), None]);
+    assert!(rt; counts == [2, 2, 2]);
+    let (end, sink, lines) = close(table, first).finish();
+    assert!(rt; end == Ok(()));
+    assert!(rt; sink.bytes() == b"1 2 0\n2 -3 0\nd 1 2 0\nd 2 3 0\n2 0\n".as_slice());
+    assert!(rt; lines.map(|lines| lines.len()) == Some(5));
+    Ok(())
+}

@@ -1,0 +1,70 @@
+-- The port of the tests: the second of three rings, over what a port in memory holds.
+use Rattle.std.specs.Prelude.{◌≡◌, ℕ, ◌-◌, [], ◌∷◌, ◌++◌, false, List, map, length, take, Option, Some, None}
+use Rattle.sat_words.specs.declared.shared.Cref.{Cref}
+use Rattle.sat_words.specs.declared.shared.Stop.{Stop}
+use Rattle.ring_port.specs.declared.stops.PortStop.{PortStop}
+use Rattle.ring_port.specs.PortState.{Holding, PortState, Slot}
+use Rattle.test_ports.specs.declared.crowd.Poll.{Poll}
+
+-- all but the last
+abbrev pub front : List Holding → List Holding
+front hs = take (length hs - 1) hs
+
+-- what it holds: the last clause of the port in memory is another ring's until it is taken
+abbrev pub held_of : List Holding → Option Cref → List Holding
+held_of hs None = front hs
+held_of hs (Some c) = hs
+
+-- what it has taken
+abbrev pub taken_of : Option Cref → List ℕ
+taken_of None = []
+taken_of (Some c) = c.address ∷ []
+
+-- how often it was polled and for which slots, and how often no unit was left
+pub record Asked : Type 0 where
+  pub polled : ℕ
+  pub polls : List Slot
+  pub caught_up : ℕ
+
+abbrev pub slot_of : Poll → Slot
+slot_of p = record { ring = p.from; class = p.class }
+
+abbrev pub asked : ℕ → List Poll → ℕ → Asked
+asked polled ps caught_up = record { polled = polled; polls = map slot_of ps; caught_up = caught_up }
+
+-- it starts with all clauses of the port in memory but the last, has no units and writes nothing; the other rings have nothing
+-- for it but this last one
+abbrev pub crowd_of : PortState → Option Cref → Option Stop → ℕ → Option PortStop → Asked → PortState
+crowd_of s taken stop looks refused q = record {
+  held = held_of s.held taken;
+  waiting = [];
+  seen = [];
+  given = [];
+  coming = 0;
+  kept = 0;
+  caught_up = q.caught_up;
+  start = front s.start;
+  opening = [];
+  mine = [];
+  shared = 0;
+  polled = q.polled;
+  polls = q.polls;
+  puts = [];
+  taken = taken_of taken;
+  vars = s.vars;
+  ring = 1;
+  rings = 3;
+  last = None;
+  stop = stop;
+  looks = looks;
+  refused = refused;
+  ended = false;
+  output = None;
+  home = [];
+}
+
+-- this is the address of the last clause that the port in memory holds
+pub record IsLast (s : PortState) (a : ℕ) : Type 0 where
+  pub clause : Holding
+  pub there : s.held ≡ front s.held ++ clause ∷ []
+  pub address : clause.address ≡ a

@@ -1,0 +1,121 @@
+// `ring_run` over a port of three rings, where another ring's stop appears or its clause comes, and each line is refused.
+use crate::beginning::{begin, join_crowd};
+use crate::runs::{Kind, counted, kind_of, two_clauses};
+use drat_text::CountedLines;
+use ring_run::{Counts, End, run_ring};
+use sat_words::{Lit, STOP_MEMORY, STOP_ROOM, Stop};
+use std::alloc::Global;
+use std::test::Fail;
+use test_ports::{Poll, third_stop};
+
+/// By this seed the first words of the reference generator of ring 1 end in the bits 0: all are decided false.
+const SEED: u64 = 2;
+
+/// The stop of the second of three rings.
+fn own_stop(kind: u8) -> Stop {
+    Stop { kind, ring: 1 }
+}
+
+/// What a run over the port came to.
+#[derive(Drop)]
+struct Ran {
+    end: End,
+    counts: Counts,
+    stop: Option<Stop>,
+    looks: u64,
+    glue: Option<u32>,
+    polls: Vec<Poll>,
+}
+
+/// Runs the second of three rings on two clauses that oppose each other after two decisions. Another ring has the clause `2 3`,
+/// and hands it over at the first such poll.
+fn run_on_two(alloc: Global, gift: Option<Poll>, quiet: u64, memory: bool) -> Result<Ran, Fail> {
+    let problem = two_clauses(alloc)?;
+    let problem = problem.with(alloc, &[Lit::new(2, false), Lit::new(3, false)])?;
+    let lines = CountedLines::new(problem.formula.clauses().len() as u64, 0);
+    let (inner, alone) = begin(alloc, problem, 2, SEED, lines)?;
+    let (mut port, job) = join_crowd(alloc, inner, alone, gift, quiet, memory)?;
+    let (end, counts) = run_ring(alloc, &mut port, &job);
+    Ok(Ran {
+        end,
+        counts,
+        stop: port.known_stop(),
+        looks: port.looks(),
+        glue: port.glue(),
+        polls: port.into_polls(),
+    })
+}
+
+// The stop appears at the second look: one decision was made, and the ring set no stop.
+#[test]
+fn another_ring_stops_it(rt: HostRuntime) -> Result<(), Fail> {
+    let ran = run_on_two(rt.alloc(), None, 1, false)?;
+    let End::Stopped(stop) = ran.end else {
+        return Err(Fail::from("not stopped"));
+    };
+    assert!(rt; [Some(stop), ran.stop] == [Some(third_stop()), Some(third_stop())]);
+    assert!(rt; (ran.looks, ran.glue) == (1, None));
+    assert!(rt; ran.counts == counted(0, 0));
+    Ok(())
+}
+
+// Two looks find no stop, and two decisions are made. The lemma `2 3` has one level beside that of its first literal.
+#[test]
+fn tells_that_there_is_no_room(rt: HostRuntime) -> Result<(), Fail> {
+    let ran = run_on_two(rt.alloc(), None, 9, false)?;
+    let End::NoHole(lack) = ran.end else {
+        return Err(Fail::from("there was room"));
+    };
+    assert!(rt; (lack.need, lack.largest) == (9, 7));
+    assert!(rt; ran.stop == Some(own_stop(STOP_ROOM)));
+    assert!(rt; (ran.looks, ran.glue) == (2, Some(1)));
+    assert!(rt; ran.counts == counted(0, 0));
+    Ok(())
+}
+
+#[test]
+fn tells_that_memory_ran_out(rt: HostRuntime) -> Result<(), Fail> {
+    let ran = run_on_two(rt.alloc(), None, 9, true)?;
+    assert!(rt; kind_of(&ran.end) == Kind::Memory);
+    assert!(rt; ran.stop == Some(own_stop(STOP_MEMORY)));
+    assert!(rt; ran.counts == counted(0, 0));
+    Ok(())
+}
+
+/// The polls of the four classes of the first ring, and then of those of the third.
+static EACH_SLOT: [Poll; 8] = [
+    Poll { from: 0, class: 0 },
+    Poll { from: 0, class: 1 },
+    Poll { from: 0, class: 2 },
+    Poll { from: 0, class: 3 },
+    Poll { from: 2, class: 0 },
+    Poll { from: 2, class: 1 },
+    Poll { from: 2, class: 2 },
+    Poll { from: 2, class: 3 },
+];
+
+// It polled each slot once, before it decided anything.
+#[test]
+fn polls_each_other_ring_at_its_start(rt: HostRuntime) -> Result<(), Fail> {
+    let ran = run_on_two(rt.alloc(), None, 0, false)?;
+    assert!(rt; kind_of(&ran.end) == Kind::Stopped);
+    assert!(rt; ran.counts == counted(0, 0));
+    assert!(rt; ran.polls.as_slice() == EACH_SLOT.as_slice());
+    Ok(())
+}
+
+// Where 3 is decided false the clause of another ring makes 2 true, so that no conflict comes, whose lemma would be refused.
+#[test]
+fn searches_over_what_it_was_handed(rt: HostRuntime) -> Result<(), Fail> {
+    for from in [0, 2] {
+        let gift = Poll { from, class: 0 };
+        let ran = run_on_two(rt.alloc(), Some(gift), 9, false)?;
+        let End::Sat(model) = &ran.end else {
+            return Err(Fail::from("no model"));
+        };
+        assert!(rt; model.truth_of_lit(Lit::new(2, false)));
+        assert!(rt; model.truth_of_lit(Lit::new(3, true)));
+        assert!(rt; (ran.glue, ran.polls.len()) == (None, 8));
+    }
+    Ok(())
+}

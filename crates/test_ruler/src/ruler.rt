@@ -1,0 +1,195 @@
+// `ruler_simp` on small formulas: the lines that it writes and what it leaves of each, by its rounds, and a line that fails.
+ghost use Rattle.std.specs.Prelude.{All};
+ghost use Rattle.ruler_simp.specs.Ruled.{AreOn};
+ghost use Rattle.sat_words.specs.Literal.{IsOn};
+
+use crate::{model_of, numbers_of};
+use drat_text::{LineStop, SinkLines};
+use io_edge::MemSink;
+use ruler_simp::{Outcome, Simplified, simplify};
+use sat_words::Formula;
+use std::alloc::Global;
+use std::test::Fail;
+use test_simplifiers::{counted_lines, formula_of, is_on, literals, text_lines};
+
+/// The variables of each row are 1 to this one.
+const VARS: u32 = 7;
+
+/// Clauses on these variables, each with a 0 behind it, and a number of rounds; the lines that are wanted, and what is left:
+/// the numbers of the start clauses and the units, or nothing where the formula is refuted.
+#[derive(Clone, Copy)]
+struct Row {
+    clauses: &'static [i32],
+    rounds: u32,
+    text: &'static str,
+    left: Option<(&'static [u64], &'static [i32])>,
+}
+
+const ROWS: &[Row] = &[
+    // No clause.
+    Row {
+        clauses: &[],
+        rounds: 3,
+        text: "",
+        left: Some((&[], &[])),
+    },
+    // The empty clause.
+    Row {
+        clauses: &[1, 2, 0, 0],
+        rounds: 3,
+        text: "0\n",
+        left: None,
+    },
+    // Opposed units, with units alone.
+    Row {
+        clauses: &[1, 0, -1, 0],
+        rounds: 0,
+        text: "0\n",
+        left: None,
+    },
+    // A tautology stays, and is no start clause.
+    Row {
+        clauses: &[1, -1, 0],
+        rounds: 3,
+        text: "",
+        left: Some((&[], &[])),
+    },
+    // A variable that only a tautology holds.
+    Row {
+        clauses: &[1, -1, 2, 0, -2, -3, 0],
+        rounds: 3,
+        text: "d -2 -3 0\n",
+        left: Some((&[], &[])),
+    },
+    // A clause that is there twice.
+    Row {
+        clauses: &[1, 2, 0, 1, 2, 0],
+        rounds: 1,
+        text: "d 1 2 0\nd 1 2 0\n",
+        left: Some((&[], &[])),
+    },
+    // All clauses go, and a unit is found.
+    Row {
+        clauses: &[1, 2, 0, -1, 2, 0, -2, 3, 0, -3, -1, 0],
+        rounds: 3,
+        text: "2 0\nd -1 2 0\n2 -3 0\nd 1 2 0\nd -1 -3 0\nd -2 3 0\nd 2 -3 0\n",
+        left: Some((&[], &[2])),
+    },
+    // In no round the same clauses stay.
+    Row {
+        clauses: &[1, 2, 0, -1, 2, 0, -2, 3, 0, -3, -1, 0],
+        rounds: 0,
+        text: "",
+        left: Some((&[1, 2, 3, 4], &[])),
+    },
+    // In no round a unit is taken out of a clause; what is left has the last number.
+    Row {
+        clauses: &[1, 0, -1, 2, 3, 0, 3, -3, 2, 0, 2, 3, 0, 2, 3, 0],
+        rounds: 0,
+        text: "2 3 0\nd -1 2 3 0\n",
+        left: Some((&[4, 5, 6], &[1])),
+    },
+    // Equivalent literals, once a clause was made shorter.
+    Row {
+        clauses: &[1, -2, 0, -1, 2, 0, 1, 2, 3, 0],
+        rounds: 1,
+        text: "1 3 0\nd 1 2 3 0\nd 1 -2 0\nd -1 2 0\nd 1 3 0\n",
+        left: Some((&[], &[])),
+    },
+];
+
+/// Of these the first round leaves one, which the second one eliminates.
+const TWICE: &[i32] = &[
+    1, 4, 7, 0, 2, 3, 5, 0, -1, -5, 7, 0, -1, -5, -6, 0, 1, -2, -3, -5, 0, -1, -6, 7, 0, -2, -4, 5,
+    0, 2, 5, -7, 0, 1, -2, 0, -2, 3, 6, 0,
+];
+
+/// Whether what is left is as in the row, and has a model of the formula where it has no clause.
+fn is_left(alloc: Global, row: &Row, formula: &Formula, left: &Simplified) -> Result<bool, Fail>
+    requires { AreOn formula.now.vars left.now }
+{
+    let Some((starts, units)) = row.left else {
+        return Ok(false);
+    };
+    let units = literals(alloc, VARS, units)?;
+    let numbers = numbers_of(alloc, left)?;
+    if numbers.as_slice() != starts || left.units.as_slice() != units.as_slice() {
+        return Ok(false);
+    }
+    if !starts.is_empty() {
+        return Ok(true);
+    }
+    let model = model_of(alloc, formula.vars(), left)?;
+    Ok(model.formula_true(formula))
+}
+
+/// Whether these are the lines.
+fn is_written(lines: SinkLines<MemSink<'static>>, text: &str) -> bool {
+    let (end, sink) = lines.finish();
+    end.is_ok() && sink.bytes() == text.as_bytes()
+}
+
+/// Whether the ruler writes and leaves what the row says.
+fn is_as_told(alloc: Global, row: &Row) -> Result<bool, Fail> {
+    let formula = formula_of(alloc, VARS, row.clauses)?;
+    if !is_on(&formula) {
+        return Ok(false);
+    }
+    let lines = text_lines(alloc, &formula, 128)?;
+    let (answer, lines) = simplify(alloc, &formula, row.rounds, lines);
+    if !is_written(lines, row.text) {
+        return Ok(false);
+    }
+    match answer {
+        Ok(Outcome::Simplified(left)) => is_left(alloc, row, &formula, &left),
+        Ok(Outcome::Refuted) => Ok(row.left.is_none()),
+        Err(_) => Ok(false),
+    }
+}
+
+#[test]
+fn what_is_written_and_left(rt: HostRuntime) -> Result<(), Fail> {
+    for row in ROWS {
+        let text = row.text;
+        assert!(rt; is_as_told(rt.alloc(), row)?, "{text}");
+    }
+    Ok(())
+}
+
+/// How many start clauses are left of the formula in these rounds, over a line output whose line with this number fails; the stop
+/// where one does, and nothing where the formula is refuted.
+fn starts_left(
+    alloc: Global,
+    formula: &Formula,
+    rounds: u32,
+    failing: u64,
+) -> Result<Option<usize>, LineStop>
+    requires { All (All (IsOn formula.now.vars)) formula.now.clauses }
+{
+    match simplify(alloc, formula, rounds, counted_lines(formula, failing)).0 {
+        Ok(Outcome::Simplified(left)) => Ok(Some(left.start.len())),
+        Ok(Outcome::Refuted) => Ok(None),
+        Err(stop) => Err(stop),
+    }
+}
+
+#[test]
+fn a_second_round_goes_on(rt: HostRuntime) -> Result<(), Fail> {
+    let formula = formula_of(rt.alloc(), VARS, TWICE)?;
+    assert!(rt; is_on(&formula));
+    for (rounds, starts) in [(1, 1), (2, 0), (u32::MAX, 0)] {
+        assert!(rt; starts_left(rt.alloc(), &formula, rounds, 0) == Ok(Some(starts)));
+    }
+    Ok(())
+}
+
+#[test]
+fn a_line_that_fails(rt: HostRuntime) -> Result<(), Fail> {
+    let formula = formula_of(rt.alloc(), VARS, &[1, 0, -1, 2, 0])?;
+    assert!(rt; is_on(&formula));
+    for failing in 1..=2 {
+        let stopped = starts_left(rt.alloc(), &formula, 3, failing);
+        assert!(rt; stopped == Err(LineStop::ProofFault));
+    }
+    Ok(())
+}

@@ -1,0 +1,27 @@
+//! The tests of `ref_count`, `test_tables`, `stop_word`, `pool_exchange` and `log_book`, and what they do a call or two at
+//! a time: rings trade counts of one cell, put clauses into slots and set the stop, and a book takes lines. The program has
+//! none of it.
+#![tactic(auto)]
+
+mod books;
+mod slots;
+mod stops;
+mod trades;
+
+pub use books::{new_book, put_one};
+pub use slots::{get_first, give_back, put_first};
+pub use stops::stop_with;
+pub use trades::{
+    begin_all, count_of, gather_all, give_up_all, read_back, sum_of_reads, trade, trade_all,
+};
+
+#[cfg(test)]
+mod tests_books;
+#[cfg(test)]
+mod tests_cells;
+#[cfg(test)]
+mod tests_slots;
+#[cfg(test)]
+mod tests_speed;
+#[cfg(test)]
+mod tests_stops;

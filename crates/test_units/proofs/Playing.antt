@@ -1,0 +1,115 @@
+-- What the rings of the worked row know at each of its steps.
+use Rattle.std.proofs.Common.{◌≡◌, ◌∙◌, ℕ, zero, suc, ◌==◌, ◌≤◌, ◌<◌, Bool, true, false, List, [], ◌∷◌, ◌++◌, map, get_or, sym, ap, refl, subst, arith, eq-eqb, cond}
+use Rattle.std.specs.Prelude.{slice_index_or, not, ◌&&◌, Option}
+use Rattle.std.specs.List.{list_any}
+use Rattle.sat_words.specs.Literal.{Literal}
+use Rattle.sat_words.specs.Clause.{same_set, includes}
+use Rattle.atomic_table.specs.declared.shared.Seat.{Seat}
+use Rattle.rup_model.specs.Basics.{one_if}
+use Rattle.rup_model.specs.declared.journal.Addition.{Addition}
+use Rattle.rup_model.specs.declared.journal.Kind.TheVariants.{Learn}
+use Rattle.rup_model.specs.declared.journal.Entry.TheVariants.{Add}
+use Rattle.rup_model.specs.Journal.{fresh, added}
+use Rattle.rup_model.specs.Opening.{IsLong, start_clauses}
+use Rattle.rup_model.specs.Rounds.{Rounds, rounds}
+use Rattle.rup_model.specs.Rup.{rup, conflicts}
+use Rattle.share_core.specs.declared.part.CoreOpening.{CoreOpening}
+use Rattle.share_core.specs.declared.part.Part.{Part}
+use Rattle.share_core.specs.declared.part.Placed.{Placed}
+use Rattle.share_core.specs.declared.stored.ClauseAt.{ClauseAt}
+use Rattle.share_core.specs.State.{opening_of, times_at, blank}
+use Rattle.share_core.specs.Events.{granted_part, wrote_part}
+use Rattle.share_core.specs.Learning.{follows}
+use Rattle.share_rule.specs.declared.Shared.{Shared}
+use Rattle.share_rule.specs.declared.view.RingPart.{RingPart}
+use Rattle.share_rule.specs.declared.view.View.{View}
+use Rattle.share_rule.specs.FirstWords.{starts_at}
+use Rattle.share_rule.specs.Views.{only, no_part}
+use Rattle.test_units.specs.Samples.{IsBeginner, IsLearner, IsPairHolder, plus, three, pair, pair_part}
+
+-- an opening that has the three clauses
+abbrev small : CoreOpening → ℕ → CoreOpening
+small o from = record o { starts = starts_at from three }
+
+small_is : (o : CoreOpening) (from : ℕ) → o.starts ≡ starts_at from three → o ≡ small o from
+small_is o from e = λ i. record o { starts = e i }
+
+pair_follows : (o : CoreOpening) (from r : ℕ) → follows (granted_part (small o from) (blank r)) pair ≡ true
+unfolding rup conflicts Rounds rounds
+pair_follows o from r = refl
+
+pair_new : (o : CoreOpening) (from r : ℕ) → fresh (start_clauses (opening_of (small o from))) [] r pair ≡ true
+pair_new o from r = refl
+
+unit_follows : (o : CoreOpening) (from r a n i : ℕ) → follows (pair_part (small o from) r a n i) (plus 2 ∷ []) ≡ true
+unfolding rup conflicts Rounds rounds
+unit_follows o from r a n i = refl
+
+pub long_pair : IsLong pair
+long_pair = record { long = omega arith; distinct = refl; no_opposites = refl }
+
+pair_on : (vars : ℕ) → 2 ≤ vars → (i : ℕ) (k : Literal) → i < 2 → (1 ≤ (get_or pair i k).var) × ((get_or pair i k).var ≤ vars)
+pair_on vars few zero k lt = (omega arith, omega arith)
+pair_on vars few (suc zero) k lt = (omega arith, few)
+pair_on vars few (suc (suc i)) k lt = absurd (omega arith)
+
+unit_on : (vars : ℕ) → 2 ≤ vars → (i : ℕ) (k : Literal) → i < 1 → (1 ≤ (get_or (plus 2 ∷ []) i k).var) × ((get_or (plus 2 ∷ []) i k).var ≤ vars)
+unit_on vars few zero k lt = (omega arith, few)
+unit_on vars few (suc i) k lt = absurd (omega arith)
+
+core_begun : {B : Type 0} (t : Shared B) (p : Seat (Option B) View) (ring : ℕ) → IsBeginner t p ring → (only p.me.0).core ≡ granted_part p.me.0.opening (blank ring)
+core_begun t p ring h = ap (λ (ps : List RingPart). (slice_index_or ps 0 no_part).core) h.parts_are
+
+-- a ring that begins may learn the pair
+pub may_learn_pair : {B : Type 0} (t : Shared B) (p : Seat (Option B) View) (ring : ℕ) → IsBeginner t p ring → IsLearner t p ring pair × ((only p.me.0).core.making ≡ [])
+may_learn_pair t p ring h =
+    let o : CoreOpening = p.me.0.opening in
+    let core = core_begun t p ring h in
+    let is : o ≡ small o h.from = small_is o h.from h.starts_are in (
+      record {
+        is_ring = h.is_ring;
+        follows_is = ap (λ (q : Part). follows q pair) core ∙ ap (λ (w : CoreOpening). follows (granted_part w (blank ring)) pair) is ∙ pair_follows o h.from ring;
+        new_is = ap (λ (q : Part). fresh (start_clauses (opening_of o)) (map (λ (w : Placed). w.entry) q.wrote) ring pair) core ∙ ap (λ (w : CoreOpening). fresh (start_clauses (opening_of w)) [] ring pair) is ∙ pair_new o h.from ring;
+        on = pair_on t.layout.vars h.vars;
+      },
+      ap (λ (q : Part). q.making) core,
+    )
+
+-- the new clause is no part of the unit, whoever wrote it
+unit_new : (o : CoreOpening) (from r a n i : ℕ) → fresh (start_clauses (opening_of (small o from))) (map (λ (w : Placed). w.entry) (pair_part (small o from) r a n i).wrote) r (plus 2 ∷ []) ≡ true
+unit_new o from r a n i = by (r == r)
+  where
+    by : (b : Bool) → not (list_any (includes (plus 2 ∷ [])) (start_clauses (opening_of (small o from)) ++ ([] ++ map (λ (x : Addition). x.lits) (cond (b && true) (record { ring = r; number = n; lits = pair; kind = Learn } ∷ []) [])))) ≡ true
+    by true = refl
+    by false = refl
+
+-- a ring that holds the pair may learn the unit, and holds the pair's cell, and nothing waits
+pub may_learn_unit : {B : Type 0} (t : Shared B) (p : Seat (Option B) View) (ring a : ℕ) → IsPairHolder t p ring a → IsLearner t p ring (plus 2 ∷ [])
+may_learn_unit t p ring a h =
+    let o : CoreOpening = p.me.0.opening in
+    let is : o ≡ small o h.from = small_is o h.from h.starts_are in
+    record {
+      is_ring = h.is_ring;
+      follows_is = ap (λ (q : Part). follows q (plus 2 ∷ [])) h.core_is ∙ ap (λ (w : CoreOpening). follows (pair_part w ring a h.number h.place) (plus 2 ∷ [])) is ∙ unit_follows o h.from ring a h.number h.place;
+      new_is = ap (λ (q : Part). fresh (start_clauses (opening_of o)) (map (λ (w : Placed). w.entry) q.wrote) ring (plus 2 ∷ [])) h.core_is ∙ ap (λ (w : CoreOpening). fresh (start_clauses (opening_of w)) (map (λ (x : Placed). x.entry) (pair_part w ring a h.number h.place).wrote) ring (plus 2 ∷ [])) is ∙ unit_new o h.from ring a h.number h.place;
+      on = unit_on t.layout.vars h.vars;
+    }
+
+times_last : (hs : List ClauseAt) (h : ClauseAt) → 0 < times_at h.address (hs ++ h ∷ [])
+times_last [] h = let z : one_if (h.address == h.address) ≡ 1 = ap one_if (eq-eqb h.address h.address refl) in omega arith
+times_last (x ∷ hs) h = let k = times_last hs h in omega arith
+
+pub holds_pair : {B : Type 0} (t : Shared B) (p : Seat (Option B) View) (ring a : ℕ) → IsPairHolder t p ring a → (0 < times_at a (only p.me.0).core.held) × ((only p.me.0).core.waiting ≡ []) × ((only p.me.0).core.seen ≡ [])
+holds_pair t p ring a h = (
+  subst (λ (q : Part). 0 < times_at a q.held) (sym h.core_is) (times_last ([] ++ p.me.0.opening.starts) (record { address = a; number = h.number; lits = pair })),
+  ap (λ (q : Part). q.waiting) h.core_is,
+  ap (λ (q : Part). q.seen) h.core_is,
+)
+
+-- behind the unit's line it is told, and no unit is seen yet
+pub unit_told : (q : Part) (o : CoreOpening) (ring a n i m j : ℕ) → q ≡ wrote_part j (Add (record { ring = ring; number = m; lits = plus 2 ∷ []; kind = Learn })) (pair_part o ring a n i)
+    → (list_any (same_set (plus 2 ∷ [])) (added (map (λ (x : Placed). x.entry) q.wrote)) ≡ true) × (q.seen ≡ [])
+unit_told q o ring a n i m j e = (ap (λ (p : Part). list_any (same_set (plus 2 ∷ [])) (added (map (λ (x : Placed). x.entry) p.wrote))) e, ap (λ (p : Part). p.seen) e)
+
+pub two_on : (vars : ℕ) → 2 ≤ vars → (i : ℕ) (k : Literal) → i < 1 → (1 ≤ (get_or (plus 2 ∷ []) i k).var) × ((get_or (plus 2 ∷ []) i k).var ≤ vars)
+two_on = unit_on

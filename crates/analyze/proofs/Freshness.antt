@@ -26,7 +26,7 @@ module _ (s : PortState) (t : TrailData) (conflict lits : List Literal) (back gl
       let e : w.place ≡ f.place = shape.distinct w.place f.place w.in_range f.before (ap (λ (x : Literal). x.var) w.true_there ∙ sym (ap (λ (x : Literal). x.var) f.false_there)) in
       own_opposite l (sym w.true_there ∙ ap (lit_at t.steps) e ∙ f.false_there)
 
-  -- the literals but for the first are false below the conflict's level
+  -- the literals except for the first are false below the conflict's level
   false_below : (l : Literal) → has i.rest l ≡ true → has lits l ≡ true → TrueWithin t.steps (clause_level t.steps conflict - 1) (opposite l)
   false_below l r h =
       let f : FalseBefore t.steps (length t.steps) l = (i.all_false l h).false_now in

@@ -62,7 +62,7 @@ CanMark-conflict t m c shape bad e k h = record {
   within = λ p lt v. (let a = clause_level-above t.steps c k h in let l = level_of_lit-at t k p shape (record { in_range = lt; var = v }) in omega arith);
 }
 
--- where the conflict is above level 0, one of its literals is open
+-- if the conflict is above level 0, one of its literals is open
 pub some_marked : (t : TrailData) (m n : ℕ) (ms more : List Bool) (c : List Literal) → IsTrail t → IsFalseClause t.steps c → m ≡ clause_level t.steps c → 1 ≤ m
     → ((p : ℕ) → marked ms p ≡ false) → HasMarked t.steps m ms more (length t.steps) c n → 1 ≤ n
 some_marked t m n ms more c shape bad e pos off k =

@@ -34,7 +34,7 @@ marked-same ms q b h = get_or-set_same ms q b false h
 pub marked-other : (ms : List Bool) (q p : ℕ) (b : Bool) → (p ≡ q → ⊥) → marked (set ms q b) p ≡ marked ms p
 marked-other ms q p b ne = get_or-set_other ms q p b false ne
 
--- a new mark is counted where it is of the level
+-- a new mark is counted if it is of the level
 pub open_below-set : (steps : List TrailStep) (m : ℕ) (ms : List Bool) (q n : ℕ) → q < n → q < length ms → marked ms q ≡ false
     → open_below steps m (set ms q true) n ≡ open_below steps m ms n + cond (nat_eq (level_at steps q) m) 1 0
 unfolding open_below

@@ -44,7 +44,7 @@ all_apart : (x : ℕ) (ys : List ℕ) → ((y : ℕ) → In y ys → x ≡ y →
 all_apart x [] g = tt
 all_apart x (y ∷ ys) g = (false_from_ne_true _ (λ e. g y (inl refl) (eqb-true x y e)), all_apart x ys (λ z h. g z (inr h)))
 
--- an entry of a list of places that differ isn't among those behind it
+-- an entry of a list of places that differ isn't among those after it
 distinct_behind : (xs : List ℕ) (i : ℕ) → IsDistinct nat_eq xs → i < length xs → is_member nat_eq (drop (suc i) xs) (get_or xs i 0) ≡ true → ⊥
 distinct_behind [] i d h y = absurd (omega arith)
 distinct_behind (x ∷ xs) zero d h y = eqb-false x x (apart_In x xs x (IsDistinct-head nat_eq x xs d) (member_In xs x y)) refl

@@ -102,7 +102,7 @@ module _ (s : PortState) (t : TrailData) (m u : ℕ) (c : List Literal) (ms : Li
     (w : IsWalked (clause_at s) t.steps m c ms u) (within : (p : ℕ) → marked ms p ≡ true → level_at t.steps p ≤ m) (pos : 1 ≤ m)
     (rests : (p : ℕ) → removed p ≡ true → RestsOn (clause_at s) t.steps (λ q. (marked ms q ≡ true) ⊎ (removed q ≡ true)) p)
     (head : has A (lit_at t.steps u) ≡ true) (lower : (p : ℕ) → marked ms p ≡ true → level_at t.steps p < m → (removed p ≡ true) ⊎ (has A (lit_at t.steps p) ≡ true)) where
-  -- the places that are derived: at level 0, removed, or marked, of the level and behind the point
+  -- the places that are derived: at level 0, removed, or marked, of the level and after the point
   derived : ℕ → Bool
   derived p = nat_eq (level_at t.steps p) 0 || (removed p || (marked ms p && (nat_eq (level_at t.steps p) m && nat_lt u p)))
 
@@ -148,7 +148,7 @@ module _ (s : PortState) (t : TrailData) (m u : ℕ) (c : List Literal) (ms : Li
         ])
       ]
 
-  -- a forced place is derived where the others of its reason that are above level 0 are marked or removed
+  -- a forced place is derived if the others of its reason that are above level 0 are marked or removed
   forced_up : (p : ℕ) → p < length t.steps → (f : IsForced (clause_at s) t.steps p) → ((q : ℕ) → q < p → MakesFalse t.steps f.lits q → (marked ms q ≡ true) ⊎ (removed q ≡ true)) → IsUp (known s) t.steps A derived p
   forced_up p lt f go = record {
     clause = f.lits;

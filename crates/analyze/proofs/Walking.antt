@@ -12,7 +12,7 @@ use Rattle.analyze.specs.MarksData.{MarksData}
 use Rattle.analyze.specs.Walk.{MakesFalse, LeadsTo, IsWalkSet, IsReached}
 use Rattle.analyze.specs.Marks.{marked, is_open, open_below, IsMarking, CanMarkAll, HasMarked, IsWalked}
 
--- a walk set stays one where fewer places lead on
+-- a walk set stays one if fewer places lead on
 IsWalkSet-more : (held : Held) (steps : List TrailStep) (m : ℕ) (c : List Literal) (i j : ℕ) (R : ℕ → Bool) → j ≤ i → IsWalkSet held steps m c j R → IsWalkSet held steps m c i R
 IsWalkSet-more held steps m c i j R le w = record {
   starts = w.starts;

@@ -48,10 +48,10 @@ pub record IsLemma (s : PortState) (t : TrailData) (conflict lits : List Literal
   -- the level to go back to is the greatest of the others, and the glue is how many levels they have
   pub back_is : back ≡ greatest (levels_of t.steps rest)
   pub glue_is : glue ≡ count_of_levels t.steps rest
-  -- they are those of the walk but for the removable ones
+  -- they are those of the walk except for the removable ones
   pub minimised : IsMinimisedClause s t.steps conflict first rest
 
--- nothing at level 0, where the empty clause follows; else a lemma
+-- nothing at level 0, if the empty clause follows; else a lemma
 abbrev pub IsConclusion : PortState → TrailData → List Literal → List Literal → Conclusion → Type 0
 IsConclusion s t conflict lits Empty = (clause_level t.steps conflict ≡ 0) × (rup (known s) [] ≡ true)
 IsConclusion s t conflict lits (Lemma back glue) = (0 < clause_level t.steps conflict) × IsLemma s t conflict lits back glue

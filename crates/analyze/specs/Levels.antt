@@ -10,14 +10,14 @@ abbrev pub greatest : List ℕ → ℕ
 greatest [] = 0
 greatest (n ∷ ns) = max n (greatest ns)
 
--- the level at which the literal's variable got its value, 0 where it has none
+-- the level at which the literal's variable got its value, 0 if it has none
 abbrev pub level_of_lit : List TrailStep → Literal → ℕ
 level_of_lit steps l = unwrap_or (level_of steps l.var) 0
 
 abbrev pub levels_of : List TrailStep → List Literal → List ℕ
 levels_of steps c = map (level_of_lit steps) c
 
--- the greatest level of a clause's literals; where it is false, the level at which it became so
+-- the greatest level of a clause's literals; if it is false, the level at which it became so
 abbrev pub clause_level : List TrailStep → List Literal → ℕ
 clause_level steps c = greatest (levels_of steps c)
 

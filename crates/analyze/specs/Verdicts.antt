@@ -70,15 +70,15 @@ IsLook steps ms vs p k Settled = AllSettled steps ms vs p (k ∷ [])
 IsLook steps ms vs p k Blocked = IsBlockedBy steps ms vs p (k ∷ [])
 IsLook steps ms vs p k (Depends q) = IsOpenPlace steps ms vs p q
 
--- the first n literals of the place's reason, where it has one, are settled
+-- the first n literals of the place's reason, if it has one, are settled
 abbrev pub IsScanned : Held → List TrailStep → List Bool → List Verdict → ℕ → ℕ → Type 0
 IsScanned held steps ms vs p n = (c : List Literal) → IsReasonOf held steps p c → AllSettled steps ms vs p (take n c)
 
--- the place is removable where the earlier ones with the verdict are
+-- the place is removable if the earlier ones with the verdict are
 abbrev pub IsCleared : Held → List TrailStep → List Bool → List Verdict → ℕ → Type 0
 IsCleared held steps ms vs p = RestsOn held steps (IsSettled ms vs) p
 
--- the place is needed where the earlier ones with the verdict are
+-- the place is needed if the earlier ones with the verdict are
 abbrev pub IsBlocked : Held → List TrailStep → List Bool → List Verdict → ℕ → Type 0
 IsBlocked held steps ms vs p = (reason_at steps p ≡ None) ⊎ ((c : List Literal) × IsReasonOf held steps p c × IsBlockedBy steps ms vs p c)
 

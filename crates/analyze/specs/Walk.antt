@@ -14,7 +14,7 @@ pub record MakesFalse (steps : List TrailStep) (c : List Literal) (p : ℕ) : Ty
   pub above : 0 < level_at steps p
   pub has_opposite : has c (opposite (lit_at steps p)) ≡ true
 
--- one of a place's reason that stands before it, where the place is of level m and not before i
+-- one of a place's reason that stands before it, if the place is of level m and not before i
 pub record LeadsTo (held : Held) (steps : List TrailStep) (m i q p : ℕ) : Type 0 where
   pub in_range : q < length steps
   pub from_here : i ≤ q
@@ -36,7 +36,7 @@ abbrev pub IsReached : Held → List TrailStep → ℕ → List Literal → ℕ 
 IsReached held steps m conflict i p = (R : ℕ → Bool) → IsWalkSet held steps m conflict i R → R p ≡ true
 
 -- the first unique implication point: walking down to it, it is the only place of the conflict's level that is marked and not
--- walked past; and at each marked place of the level behind it there is another one before that
+-- walked past; and at each marked place of the level after it there is another one before that
 pub record IsFirstPoint (held : Held) (steps : List TrailStep) (m : ℕ) (conflict : List Literal) (u : ℕ) : Type 0 where
   pub in_range : u < length steps
   pub level : level_at steps u ≡ m

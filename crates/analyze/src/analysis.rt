@@ -1,5 +1,5 @@
 //! Conflict analysis as a ring asks for it: the walk, minimisation and the lemma, over buffers that are kept. Each call
-//! must leave no mark behind.
+//! must leave no mark after.
 ghost use Rattle.std.specs.Prelude.{◌≡◌, ◌≤◌, ◌^◌, [], All, IfOk, IsSome};
 ghost use Rattle.analyze.specs.AnalysisData.{IsVariable};
 ghost use Rattle.ring_port.specs.PortState.{held_at, lits_at};
@@ -25,7 +25,7 @@ pub enum Conclusion {
     Empty,
     /// A clause, whose literals are those of `Analysis::lits`.
     Lemma {
-        /// The greatest level of its literals but the asserting one, 0 where there are none: going back to it leaves that
+        /// The greatest level of its literals but the asserting one, 0 if there are none: going back to it leaves that
         /// one the only literal that isn't false.
         back: u32,
         /// How many levels its literals but the asserting one have: one less than the literal block distance of Audemard
@@ -59,7 +59,7 @@ impl Model for Analysis {
 }
 
 impl Analysis {
-    /// For trails over so many variables. It has no lemma yet.
+    /// For trails over this many variables. It has no lemma yet.
     pub fn new(alloc: Global, vars: u32) -> Result<Analysis, AllocError>
         requires { vars ≤ 2 ^ 30 }
         ensures { IfOk result (λ a. a ≡ record { vars = vars; lits = []; met = [] }) }
@@ -96,7 +96,7 @@ impl Analysis {
 
     /// Analyses a conflict, a clause that is false on the trail: the walk back to the first unique implication point
     /// (Marques-Silva and Sakallah 1999), from the clause's level, which is the greatest of its literals'. Of what it leaves
-    /// of lower levels, a literal goes where the others of its reason are at level 0, left too, or of the same kind
+    /// of lower levels, a literal goes if the others of its reason are at level 0, left too, or of the same kind
     /// (Sörensson and Biere 2009). After a lemma `lits` has its literals, and nothing after `Empty`.
     pub fn analyze<P: Port>(&mut self, port: &mut P, trail: &Trail, conflict: Cref) -> Conclusion
         requires vars { trail.now.vars ≡ self.old.vars }

@@ -16,7 +16,7 @@ pub fn contains_no_closed()
         → ((l : Literal) → has c l ≡ true → has lits l ≡ true) → ⊥ }
 {}
 
-/// Where the trail was closed at each level below the present one, a clause of those that is false is so at the present
+/// If the trail was closed at each level below the present one, a clause of those that is false is so at the present
 /// level.
 pub fn conflicts_are_at_the_present_level()
     ensures { (t : TrailData) (cs : List (List Literal)) (c : List Literal) → IsTrail t

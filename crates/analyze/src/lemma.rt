@@ -40,7 +40,7 @@ pub(crate) fn write_met(trail: &Trail, places: &[u32], met: &mut Vec<u32>)
     }
 }
 
-/// The level to backjump to: the greatest of the places' levels, 0 where there are none.
+/// The level to backjump to: the greatest of the places' levels, 0 if there are none.
 pub(crate) fn backjump_level(trail: &Trail, aside: &[u32]) -> u32
     requires { All (λ p. p < length trail.now.steps) aside.now }
     ensures { result ≡ greatest (map (level_at trail.now.steps) aside.now) }

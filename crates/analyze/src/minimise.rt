@@ -1,4 +1,4 @@
-//! Minimisation of the walk's clause (Sörensson and Biere 2009): a place of a lower level may go where the others of
+//! Minimisation of the walk's clause (Sörensson and Biere 2009): a place of a lower level may go if the others of
 //! its reason are at level 0, marked, or may go too. The scans of reasons go in depth, over a stack of their own in
 //! place of recursion. A verdict may rest only on marks and on verdicts of earlier places.
 ghost use Rattle.std.specs.Prelude.{◌≡◌, ◌≤◌, ◌<◌, ◌⊎◌, ℕ, true, Some, All, length};

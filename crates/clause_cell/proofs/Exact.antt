@@ -57,7 +57,7 @@ module _ (f g : ℕ) (h k : Hole) (hs ks : List Hole) (p : Parts f h hs) (q : Pa
       let free : is_free (k ∷ ks) w ≡ true = λ i. there i || is_free ks w in
       true≢false (sym free ∙ sym (same w) ∙ busy)
 
-  -- behind equal holes the same words are free
+  -- after equal holes the same words are free
   same_behind : h.first ≡ k.first → h.len ≡ k.len → (w : ℕ) → is_free hs w ≡ is_free ks w
   same_behind e n w = ⊎_elim
       (λ t. let le = t.1 in none_before (h.first + h.len + 1) hs w p.others (omega arith) ∙ sym (none_before (k.first + k.len + 1) ks w q.others (omega arith)))

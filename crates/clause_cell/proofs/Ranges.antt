@@ -185,7 +185,7 @@ clear_parts a n h hs e =
     let b = both (not (nat_lt h.first (a + n) && nat_lt a (h.first + h.len))) (is_clear a n hs) e in
     (grind (arith, leb_tells, b.0), b.1)
 
--- holes that begin behind a clear range's front begin behind its end
+-- holes that begin after a clear range's front begin after its end
 clear_from : (f a n : ℕ) (hs : List Hole) → a < f → 0 < n → is_apart f hs ≡ true → is_clear a n hs ≡ true → is_apart (a + n) hs ≡ true
 clear_from f a n [] lt some e clear = refl
 clear_from f a n (h ∷ hs) lt some e clear =
@@ -228,7 +228,7 @@ ahead_free a n (h ∷ hs) w =
     (λ t i. is_free (if t.0 i then range a (n + h.len) ∷ hs else range a n ∷ h ∷ hs) w)
     (eqb_tells (a + n) h.first)
 
--- how a range is given back beside a hole: behind it and apart, behind it and touching, or before it
+-- how a range is given back beside a hole: after it and apart, after it and touching, or before it
 abbrev pub Given : ℕ → ℕ → Hole → List Hole → Type 0
 Given a n h hs = ((h.first + h.len < a) × (with_range a n (h ∷ hs) ≡ h ∷ with_range a n hs))
     ⊎ (((h.first + h.len ≡ a) × (with_range a n (h ∷ hs) ≡ ahead h.first (h.len + n) hs))
@@ -376,7 +376,7 @@ missing need hs e =
     let le = not_below (position_or_len (λ (h : Hole). nat_le need h.len) hs) (length hs) e in
     none_at need (range 0 0) hs (λ k lt. fails_before_first (λ (h : Hole). nat_le need h.len) hs k (range 0 0) (omega arith))
 
--- where none is found, all are shorter
+-- if none is found, all are shorter
 pub none_largest : (need : ℕ) (hs : List Hole) → 0 < need → first_fit need hs ≡ None → largest hs < need
 none_largest need [] some e = some
 none_largest need (h ∷ hs) some e =

@@ -14,7 +14,7 @@ pair_of low high = low + high * 2 ^ 32
 abbrev pub half : ℕ → ℕ → ℕ
 half word place = if place % 2 == 0 then word % 2 ^ 32 else word / 2 ^ 32
 
--- the code of the literal at a place, 0 where there is none
+-- the code of the literal at a place, 0 if there is none
 abbrev pub code_at : List Literal → ℕ → ℕ
 code_at lits i = slice_index_or (map code_of lits) i 0
 
@@ -22,6 +22,6 @@ code_at lits i = slice_index_or (map code_of lits) i 0
 abbrev pub lit_word : List Literal → ℕ → ℕ
 lit_word lits j = pair_of (code_at lits (2 * j)) (code_at lits (2 * j + 1))
 
--- word i of a cell, behind the count: its number, its size and glue, its literals
+-- word i of a cell, after the count: its number, its size and glue, its literals
 abbrev pub cell_word : ℕ → ℕ → List Literal → ℕ → ℕ
 cell_word number glue lits i = if i == 1 then number else if i == 2 then pair_of (length lits) glue else lit_word lits (i - 3)

@@ -55,7 +55,7 @@ fn place_of(items: &[Hole], need: u64) -> Option<usize>
     items.iter().position(|h| h.len >= need)
 }
 
-/// How long the longest hole is, 0 where there is none.
+/// How long the longest hole is, 0 if there is none.
 #[tactic(auto, using(crate::proofs::Ranges::largest_next))]
 fn longest(items: &[Hole]) -> u64
     ensures { result ≡ largest items.now }
@@ -67,7 +67,7 @@ fn longest(items: &[Hole]) -> u64
     most
 }
 
-/// Whether the hole begins behind the words, or ends before them.
+/// Whether the hole begins after the words, or ends before them.
 fn is_beside(hole: Hole, first: u64, len: u64) -> bool
     requires { first + len ≤ 2 ^ 63 }
     ensures { result ≡ not (nat_lt hole.first (first + len) && nat_lt first (hole.first + hole.len)) }
@@ -129,7 +129,7 @@ enum Side {
     Neither,
 }
 
-/// What the range touches, where the holes before the place end before it.
+/// What the range touches, if the holes before the place end before it.
 fn side_of(items: &[Hole], i: usize, first: u64, len: u64) -> Side
     requires { (is_apart 0 items.now ≡ true) × (first + len ≤ 2 ^ 63) × (i ≤ length items.now) }
     ensures { IsSide items.now i first len result }
@@ -146,7 +146,7 @@ fn side_of(items: &[Hole], i: usize, first: u64, len: u64) -> Side
     Side::Neither
 }
 
-/// Makes one hole of those at the place and behind it, and of the words between them.
+/// Makes one hole of those at the place and after it, and of the words between them.
 fn join_both(items: &mut Vec<Hole>, i: usize, len: u64)
     requires { (is_apart 0 items.old.items ≡ true) × (i + 1 < length items.old.items) × (end_at items.old.items i + len ≡ (hole_at items.old.items (i + 1)).first) }
     ensures { items.new.items ≡ slice_set (remove items.old.items (i + 1)) i (range (hole_at items.old.items i).first ((hole_at items.old.items i).len + (len + (hole_at items.old.items (i + 1)).len))) }
@@ -242,7 +242,7 @@ fn cut(items: &mut Vec<Hole>, need: u64) -> Option<u64>
 }
 
 impl Holes {
-    /// One hole, where there are any words.
+    /// One hole, if there are any words.
     pub fn new(alloc: Global, first: u64, len: u64) -> Result<Holes, HoleStop>
         requires { first + len ≤ 2 ^ 63 }
         ensures made { IfOk result (λ h. h ≡ whole first len) }
@@ -255,7 +255,7 @@ impl Holes {
         Ok(Holes { items })
     }
 
-    /// Takes so many words from the front of the first hole that has them.
+    /// Takes this many words from the front of the first hole that has them.
     pub fn take(&mut self, need: u64) -> Result<u64, HoleStop>
         requires { 0 < need }
         ensures found { IfOk result (λ a. first_fit need self.old ≡ Some a) }
@@ -294,7 +294,7 @@ impl Holes {
         are_clear(self.items.as_slice(), first, len)
     }
 
-    /// How long the longest hole is, 0 where there is none.
+    /// How long the longest hole is, 0 if there is none.
     pub fn largest(&self) -> u64
         ensures { result ≡ largest self.now }
     {

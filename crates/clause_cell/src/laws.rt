@@ -33,7 +33,7 @@ pub fn holes_never_touch()
     ensures given { (hs : List Hole) (a n : ℕ) → is_apart 0 hs ≡ true → 0 < n → a + n ≤ 2 ^ 63 → is_clear a n hs ≡ true → is_apart 0 (with_range a n hs) ≡ true }
 {}
 
-/// No hole is long enough exactly where the longest is shorter than what is needed.
+/// No hole is long enough exactly if the longest is shorter than what is needed.
 pub fn none_fits_where_the_longest_is_shorter()
     ensures none { (hs : List Hole) (need : ℕ) → largest hs < need → first_fit need hs ≡ None }
     ensures shorter { (hs : List Hole) (need : ℕ) → 0 < need → first_fit need hs ≡ None → largest hs < need }

@@ -24,14 +24,14 @@ pub fn head_word(size: u32, glue: u32) -> u64
     packed(size, glue)
 }
 
-/// The word with the codes of two literals; the second is 0 where there is none.
+/// The word with the codes of two literals; the second is 0 if there is none.
 pub fn pair_word(first: u32, second: u32) -> u64
     ensures { result ≡ pair_of first second }
 {
     packed(first, second)
 }
 
-/// The code of the literal at a place, 0 where there is none.
+/// The code of the literal at a place, 0 if there is none.
 fn code_at(lits: &[Lit], place: usize) -> u32
     ensures { result ≡ code_at lits.now place }
 {
@@ -42,7 +42,7 @@ fn code_at(lits: &[Lit], place: usize) -> u32
     }
 }
 
-/// The word with the literals at twice the place and behind it.
+/// The word with the literals at twice the place and after it.
 pub fn lit_word(lits: &[Lit], place: usize) -> u64
     requires { place ≤ length lits.now }
     ensures { result ≡ lit_word lits.now place }

@@ -70,7 +70,7 @@ fn hole(alloc: Global, first: u64, len: u64) -> Result<Holes, Fail>
     }
 }
 
-/// Gives the words back, where none of them is free.
+/// Gives the words back, if none of them is free.
 fn give(holes: &mut Holes, first: u64, len: u64) -> Result<(), Fail> {
     if len == 0 || first > 1 << 32 || len > 1 << 32 || !holes.is_clear(first, len) {
         return Err(Fail::from("not taken"));
@@ -142,7 +142,7 @@ impl Map {
         })
     }
 
-    /// The first place from which on so many words are free.
+    /// The first place from which on this many words are free.
     fn first_fit(&self, need: u64) -> Option<u64> {
         for first in 0..WORDS {
             if first.saturating_add(need) <= WORDS
@@ -225,7 +225,7 @@ fn holes_are_those_of_a_map(rt: HostRuntime) -> Result<(), Fail> {
 /// How many holes.
 const HOLES: u64 = 100_000;
 
-/// Holes of two words, and behind them one of three.
+/// Holes of two words, and after them one of three.
 fn many_holes(alloc: Global) -> Result<Holes, Fail> {
     let mut holes = hole(alloc, 0, 0)?;
     for i in 0..HOLES {

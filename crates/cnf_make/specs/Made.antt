@@ -39,11 +39,11 @@ draw_of g = record {
   signs = word_of (rest_of (rest_of (rest_of g)));
 }
 
--- the generator behind them
+-- the generator after them
 abbrev pub behind_draw : Lcg → Lcg
 behind_draw g = rest_of (rest_of (rest_of (rest_of g)))
 
--- the variables, from 0: the first anywhere, the second at most 9999 behind it, the third at least 10000 behind it, all in
+-- the variables, from 0: the first anywhere, the second at most 9999 after it, the third at least 10000 after it, all in
 -- a circle
 abbrev pub first_var : Draw → ℕ
 first_var d = d.first % made_vars
@@ -54,7 +54,7 @@ second_var d = (first_var d + 1 + d.second % 9999) % made_vars
 abbrev pub third_var : Draw → ℕ
 third_var d = (first_var d + 10000 + d.third % 10000) % made_vars
 
--- the literal on a variable that is given from 0, negated where the last bit is 1
+-- the literal on a variable that is given from 0, negated if the last bit is 1
 abbrev pub drawn_lit : (var bits : ℕ) → Literal
 drawn_lit var bits = record { var = var + 1; neg = bits % 2 == 1 }
 
@@ -67,7 +67,7 @@ second_lit d = drawn_lit (second_var d) (d.signs / 2)
 abbrev pub third_lit : Draw → Literal
 third_lit d = drawn_lit (third_var d) (d.signs / 4)
 
--- a literal, negated where this holds
+-- a literal, negated if this holds
 abbrev pub turned_if : Bool → Literal → Literal
 turned_if b l = if b then opposite l else l
 
@@ -88,6 +88,6 @@ unfoldable pub clauses_from : List Bool → Lcg → ℕ → List (List Literal)
 clauses_from h g zero = []
 clauses_from h g (suc n) = clause_of (planted h (draw_of g)) ∷ clauses_from h (behind_draw g) n
 
--- the formula of a number: the words behind those of the hidden values make its clauses
+-- the formula of a number: the words after those of the hidden values make its clauses
 abbrev pub made : ℕ → FormulaData
 made number = record { vars = made_vars; clauses = clauses_from (hidden number) (rest_from (source number) made_vars) made_clauses }

@@ -57,7 +57,7 @@ fn draw_clause(generator: &mut Lcg64Xsh32, values: &Vec<bool>) -> [Lit; 3]
     )
 }
 
-/// The literal on the variable behind this one, negated where the last bit is 1.
+/// The literal on the variable after this one, negated if the last bit is 1.
 fn drawn_lit(var: u32, bits: u32) -> Lit
     requires { var < made_vars }
     ensures { result ≡ drawn_lit var bits }
@@ -65,7 +65,7 @@ fn drawn_lit(var: u32, bits: u32) -> Lit
     Lit::new(var + 1, bits % 2 == 1)
 }
 
-/// The three literals, with that at this place negated where all are false.
+/// The three literals, with that at this place negated if all are false.
 fn mended(values: &Vec<bool>, a: Lit, b: Lit, c: Lit, place: u32) -> [Lit; 3]
     requires first { a.var ≤ length values.now.items }
     requires second { b.var ≤ length values.now.items }
@@ -90,7 +90,7 @@ fn is_true(values: &Vec<bool>, lit: Lit) -> bool
     values[lit.var() as usize - 1] != lit.is_neg()
 }
 
-/// The literal, negated where `turned` holds.
+/// The literal, negated if `turned` holds.
 fn turned_if(turned: bool, lit: Lit) -> Lit
     ensures { result ≡ turned_if turned lit }
 {

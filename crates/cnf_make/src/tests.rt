@@ -2,7 +2,7 @@ use crate::{CLAUSES, VARS, make};
 use sat_words::{Clause, Lit};
 use std::test::Fail;
 
-/// The clause of three literals in the manner of DIMACS, where it is one.
+/// The clause of three literals in the manner of DIMACS, if it is one.
 fn is_clause(clause: &Clause, numbers: [(u32, bool); 3]) -> bool {
     let lits = clause.lits();
     lits.len() == 3

@@ -1,4 +1,4 @@
--- What is found at the end of a text, or at the byte behind the limit.
+-- What is found at the end of a text, or at the byte after the limit.
 use Rattle.std.proofs.Common.{◌≡◌, ◌∙◌, ℕ, ◌+◌, Bool, true, false, ◌||◌, List, [], ◌∷◌, sym, subst, refl}
 use Rattle.std.specs.Prelude.{Result, Ok, Err, Some, OnOk, IfErr}
 use Rattle.sat_words.specs.FormulaData.{FormulaData}

@@ -29,7 +29,7 @@ pushed vars clauses lits before on =
     All-push (All (IsOn vars)) clauses (clause_of lits) before
     (All-from_recursion (IsOn vars) (clause_of lits) (clause_on vars lits (recursion_from_All (IsOn vars) lits on)))
 
--- a formula with one more clause, behind which none is begun
+-- a formula with one more clause, after which none is begun
 pub pushed_body : (old new : FormulaData) (begun lits set rest : List Literal) → old.vars < 2 ^ 28 → All (All (IsOn old.vars)) old.clauses → All (IsOn old.vars) begun
     → lits ≡ begun → set ≡ clause_of lits → new ≡ record old { clauses = old.clauses ++ set ∷ [] } → rest ≡ []
     → (new.vars < 2 ^ 28) × (All (All (IsOn new.vars)) new.clauses) × (All (IsOn new.vars) rest)

@@ -32,7 +32,7 @@ next_stops (Err stop) spot at b byte is both = stops_at spot at b byte stop is (
 unequal : (m n : ℕ) → (m ≡ n → ⊥) → nat_eq m n ≡ false
 unequal m n h = grind (arith, nat_tests)
 
--- the first byte of a line that is no mark is a byte behind a blank
+-- the first byte of a line that is no mark is a byte after a blank
 pub line_is_gap : (byte : ℕ) (digit : Bool) (before : ℕ) (b : Body) (text : List ℕ) → Passes byte false false digit → (byte ≡ 99 → ⊥) → (byte ≡ 37 → ⊥)
     → rest Line before b (byte ∷ text) ≡ rest Gap before b (byte ∷ text)
 line_is_gap byte digit before b text passes comment mark = rw (passes.newline_is, passes.blank_is, unequal byte 99 comment, unequal byte 37 mark) refl

@@ -49,7 +49,7 @@ more_newlines (x ∷ a) b =
 pub room_for : (left rest : Option (List ℕ)) (r : Reader) (count : ℕ) → HasTaken left rest r count → r.newlines ≤ 2 ^ 33
 room_for left rest r count has = omega (arith, few_newlines has.taken, has.newlines_are, has.count_is, has.few)
 
--- a source that hands bytes over, where it tells its text
+-- a source that hands bytes over, if it says its text
 told : (left rest : Option (List ℕ)) (bytes : List ℕ) (Q : List ℕ → Type 0) → Hands left rest bytes → ((m : List ℕ) → rest ≡ Some m → Q (bytes ++ m)) → IfSome left Q
 told None rest bytes Q hands all = tt
 told (Some text) None bytes Q hands all = let no_text : Some text ≡ None = hands in absurd (cc)

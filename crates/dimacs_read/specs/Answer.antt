@@ -15,7 +15,7 @@ pub record IsOpen (left rest : Option (List ℕ)) : Type 0 where
   pub few : length taken ≤ 2 ^ 33
   pub undetermined : (found : Outcome) → Shows taken found → ⊥
 
--- the answer to a source with this text left, where it tells it, and what is left of it then
+-- the answer to a source with this text left, if it tells it, and what is left of it then
 abbrev pub IsAnswer : Option (List ℕ) → Option (List ℕ) → Result FormulaData ReadStop → Type 0
 IsAnswer left rest (Ok formula) = IfSome left (λ text. Reads text formula)
 IsAnswer left rest (Err (BadInput code line)) = IfSome left (λ text. Bad text code line)

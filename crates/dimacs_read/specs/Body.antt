@@ -7,7 +7,7 @@ use Rattle.dimacs_read.specs.declared.stop.Code.{Code}
 use Rattle.dimacs_read.specs.declared.stop.Halt.{Halt}
 use Rattle.dimacs_read.specs.declared.stop.Halt.TheVariants.{Bad, Done, Memory}
 
--- the first bad place of these, behind what was read
+-- the first bad place of these, after what was read
 abbrev pub judged : Body → List Place → Outcome
 judged b places = judge b.formula.vars b.clauses b.formula.clauses b.begun.items places
 
@@ -41,7 +41,7 @@ pub record IsLawful (b : Body) : Type 0 where
   pub on_variables : All (All (IsOn b.formula.vars)) b.formula.clauses
   pub begun_on_variables : All (IsOn b.formula.vars) b.begun.items
 
--- nothing was read behind the header
+-- nothing was read after the header
 pub record NothingRead (vars clauses : ℕ) (b : Body) : Type 0 where
   pub formula : b.formula ≡ record { vars = vars; clauses = [] }
   pub clauses_are : b.clauses ≡ clauses

@@ -13,7 +13,7 @@ abbrev pub front : {X : Type 0} → (X → Bool) → List X → List X
 front test [] = []
 front test (x ∷ xs) = if test x then [] else x ∷ front test xs
 
--- what stands between and behind the members that pass the test
+-- what stands between and after the members that pass the test
 abbrev pub later : {X : Type 0} → (X → Bool) → List X → List (List X)
 later test [] = []
 later test (x ∷ xs) = if test x then front test xs ∷ later test xs else later test xs
@@ -43,12 +43,12 @@ has_bytes (b ∷ bytes) = true
 abbrev pub tokens : List ℕ → List (List ℕ)
 tokens line = filter has_bytes (split is_blank line)
 
--- the first byte of a line that is no blank; where there is none, the newline
+-- the first byte of a line that is no blank; if there is none, the newline
 abbrev pub mark : List ℕ → ℕ
 mark [] = 10
 mark (b ∷ line) = if is_blank b then mark line else b
 
--- the value of digits in decimal, behind digits of this value
+-- the value of digits in decimal, after digits of this value
 abbrev pub value_from : ℕ → List ℕ → ℕ
 value_from n [] = n
 value_from n (b ∷ bytes) = value_from (10 * n + (b - 48)) bytes
@@ -67,7 +67,7 @@ abbrev pub integer : List ℕ → Option Literal
 integer [] = None
 integer (b ∷ token) = if b == 45 then signed true (number token) else signed false (number (b ∷ token))
 
--- where something stands that may be bad, by its line
+-- if something stands that may be bad, by its line
 pub data Item : Type 0 where
   -- a token, by what it stands for
   Token : Option Literal → Item
@@ -84,7 +84,7 @@ abbrev pub token_places : ℕ → List (List ℕ) → List Place
 token_places line [] = []
 token_places line (token ∷ more) = (record { line = line; item = Token (integer token) }) ∷ token_places line more
 
--- the places of the lines that follow so many others: comments have none, and nothing behind the % has
+-- the places of the lines that follow this many others: comments have none, and nothing after the % has
 abbrev pub places : ℕ → List (List ℕ) → List Place
 places before [] = record { line = before; item = End } ∷ []
 places before (line ∷ more) =
@@ -92,7 +92,7 @@ places before (line ∷ more) =
     else if mark line == 99 then places (before + 1) more
     else token_places (before + 1) (tokens line) ++ places (before + 1) more
 
--- why the place is bad, where `ended` clauses were ended before it and the next has `open` literals
+-- why the place is bad, if `ended` clauses were ended before it and the next has `open` literals
 abbrev pub fault : (vars clauses ended begun : ℕ) → Item → Option Code
 fault vars clauses ended begun (Token None) = Some BadToken
 fault vars clauses ended begun (Token (Some l)) =
@@ -105,12 +105,12 @@ fault vars clauses ended begun Mark =
 fault vars clauses ended begun End =
     if not (begun == 0) then Some OpenClause else if nat_lt ended clauses then Some TooFewClauses else None
 
--- the clauses ended, behind this place
+-- the clauses ended, after this place
 abbrev pub ended_by : List (List Literal) → List Literal → Item → List (List Literal)
 ended_by ended begun (Token (Some l)) = if l.var == 0 then ended ++ clause_of begun ∷ [] else ended
 ended_by ended begun _ = ended
 
--- the literals of the clause not yet ended, behind this place
+-- the literals of the clause not yet ended, after this place
 abbrev pub begun_by : List Literal → Item → List Literal
 begun_by begun (Token (Some l)) = if l.var == 0 then [] else begun ++ l ∷ []
 begun_by begun _ = begun
@@ -128,7 +128,7 @@ abbrev pub unless : Option Code → ℕ → Outcome → Outcome
 unless None line outcome = outcome
 unless (Some code) line outcome = Err (record { code = code; line = line })
 
--- the first bad place of these, behind some clauses and the literals of one that is open
+-- the first bad place of these, after some clauses and the literals of one that is open
 abbrev pub judge : (vars clauses : ℕ) → List (List Literal) → List Literal → List Place → Outcome
 judge vars clauses ended begun [] = Ok (record { vars = vars; clauses = ended })
 judge vars clauses ended begun (place ∷ more) =
@@ -150,14 +150,14 @@ sizes (p ∷ cnf ∷ vars ∷ clauses ∷ []) =
     if bytes_eq p (codes "p") && bytes_eq cnf (codes "cnf") then both (number vars) (number clauses) else None
 sizes _ = None
 
--- the text from the header line on, by what its header says and the lines behind it
+-- the text from the header line on, by what its header says and the lines after it
 abbrev pub opening : ℕ → Option Sizes → List (List ℕ) → Outcome
 opening line None more = Err (record { code = BadHeader; line = line })
 opening line (Some s) more =
     if nat_le (2 ^ 28) s.vars || nat_le (2 ^ 28) s.clauses then Err (record { code = Limit; line = line })
     else judge s.vars s.clauses [] [] (places line more)
 
--- the lines that follow so many others: blank lines and comments may stand before the header
+-- the lines that follow this many others: blank lines and comments may stand before the header
 abbrev pub preamble : ℕ → List (List ℕ) → Outcome
 preamble before [] = Err (record { code = NoHeader; line = before })
 preamble before (line ∷ more) =

@@ -6,20 +6,20 @@ use Rattle.dimacs_read.specs.Grammar.{Sizes, front, later, is_blank, is_digit, h
 use Rattle.dimacs_read.specs.declared.spot.HeaderState.{HeaderState}
 use Rattle.dimacs_read.specs.declared.spot.HeaderState.TheVariants.{P, AfterP, C, Cn, Cnf, AfterCnf, Vars, AfterVars, Clauses, AfterClauses}
 
--- the number that digits spell behind others of this value
+-- the number that digits spell after others of this value
 abbrev pub digits_from : ℕ → List ℕ → Option ℕ
 digits_from n bytes = if list_all is_digit bytes then Some (value_from n bytes) else None
 
--- the tokens behind the one that a line begins with
+-- the tokens after the one that a line begins with
 abbrev pub later_tokens : List ℕ → List (List ℕ)
 later_tokens line = filter has_bytes (later is_blank line)
 
--- the sizes, where the tokens behind the number of variables are one number
+-- the sizes, if the tokens after the number of variables are one number
 abbrev pub behind_vars : Option ℕ → List (List ℕ) → Option Sizes
 behind_vars vars (clauses ∷ []) = both vars (number clauses)
 behind_vars vars _ = None
 
--- the sizes, where no token is behind the number of clauses
+-- the sizes, if no token is behind the number of clauses
 abbrev pub behind_clauses : Option ℕ → Option ℕ → List (List ℕ) → Option Sizes
 behind_clauses vars clauses [] = both vars clauses
 behind_clauses vars clauses (token ∷ more) = None
@@ -41,7 +41,7 @@ sizes_at (AfterClauses n m) line = behind_clauses (Some n) (Some m) (tokens line
 abbrev pub Alike : Option Sizes → Option Sizes → Type 0
 Alike a b = (line : ℕ) (more : List (List ℕ)) → opening line a more ≡ opening line b more
 
--- what the byte leads to in a header line; none where no line goes on so
+-- what the byte leads to in a header line; none if no line goes on so
 abbrev pub HeaderLeads : HeaderState → ℕ → Option HeaderState → Type 0
 HeaderLeads spot byte found = MatchOption found
     ((line : List ℕ) → sizes_at spot (byte ∷ line) ≡ None)

@@ -43,7 +43,7 @@ Answers (Err NoMemory) Found = Unit {0}
 abbrev pub IsDetermined : Reader → List ℕ → Outcome → Type 0
 IsDetermined r bytes found = (more : List ℕ) → meaning r (bytes ++ more) ≡ found
 
--- what is found at the byte behind the limit
+-- what is found at the byte after the limit
 pub data FoundLate (r : Reader) (byte : ℕ) (found : Outcome) : Type 0 where
   Known : IsDetermined r (separator byte) found → FoundLate r byte found
   Unknown : ((other : Outcome) → IsDetermined r (separator byte) other → ⊥) → found ≡ Err (record { code = Limit; line = r.newlines + 1 }) → FoundLate r byte found

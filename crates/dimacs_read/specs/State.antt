@@ -12,13 +12,13 @@ use Rattle.dimacs_read.specs.Header.{sizes_at, digits_from, later_tokens}
 use Rattle.dimacs_read.specs.declared.spot.State.{State}
 use Rattle.dimacs_read.specs.declared.spot.State.TheVariants.{Preamble, PreambleComment, Header, Line, Comment, Gap, Minus, Number}
 
--- the places of what is left of a line, by what its first token is, and of the lines behind it
+-- the places of what is left of a line, by what its first token is, and of the lines after it
 abbrev pub token_first : ℕ → Option Literal → List ℕ → List Place
 token_first before token text =
     record { line = before + 1; item = Token token }
     ∷ (token_places (before + 1) (later_tokens (front is_newline text)) ++ places (before + 1) (later is_newline text))
 
--- what the rest of the text makes of it, behind so many newlines
+-- what the rest of the text makes of it, after this many newlines
 abbrev pub rest : State → ℕ → Body → List ℕ → Outcome
 rest Preamble before b text = preamble before (lines text)
 rest PreambleComment before b text = preamble (before + 1) (later is_newline text)
@@ -29,7 +29,7 @@ rest Gap before b text = judged b (token_places (before + 1) (tokens (front is_n
 rest Minus before b text = judged b (token_first before (signed true (number (front is_blank (front is_newline text)))) text)
 rest (Number neg n) before b text = judged b (token_first before (signed neg (digits_from n (front is_blank (front is_newline text)))) text)
 
--- the number of newlines behind this byte
+-- the number of newlines after this byte
 abbrev pub newlines_by : ℕ → ℕ → ℕ
 newlines_by before byte = if byte == 10 then before + 1 else before
 
@@ -41,7 +41,7 @@ Leads spot b byte next c = (before : ℕ) (text : List ℕ) → rest next (newli
 abbrev pub Decides : State → Body → ℕ → Code → Type 0
 Decides spot b byte code = (before : ℕ) (text : List ℕ) → rest spot before b (byte ∷ text) ≡ Err (record { code = code; line = before + 1 })
 
--- why no byte behind this one is taken: it is a bad place, or it ends the formula
+-- why no byte after this one is taken: it is a bad place, or it ends the formula
 abbrev pub Stops : State → Body → ℕ → Halt → Body → Type 0
 Stops spot b byte (Bad code) c = Decides spot b byte code
 Stops spot b byte Done c = ((before : ℕ) (text : List ℕ) → rest spot before b (byte ∷ text) ≡ Ok c.formula) × IsLawful c

@@ -22,7 +22,7 @@ pub(crate) struct Body {
 }
 
 impl Body {
-    /// No clause yet, of so many variables and clauses.
+    /// No clause yet, of this many variables and clauses.
     pub fn new(alloc: Global, header: Header) -> Body
         ensures { NothingRead header.vars header.clauses result }
     {
@@ -33,7 +33,7 @@ impl Body {
         }
     }
 
-    /// Takes the token of an integer. Whether its value is told up to `u64::MAX`.
+    /// Takes the token of an integer. Whether its value is known up to `u64::MAX`.
     pub fn take_integer(&mut self, alloc: Global, neg: bool, value: u64) -> Result<(), Halt>
         requires { IsLawful self.old }
         ensures lawful { OnOk result (IsLawful self.new) }

@@ -25,7 +25,7 @@ pub(crate) fn kind_of(byte: u8) -> ByteKind
     }
 }
 
-/// The value with one more digit behind it; `u64::MAX` also stands for more.
+/// The value with one more digit after it; `u64::MAX` also stands for more.
 pub(crate) fn with_digit(value: u64, digit: u64) -> u64
     requires { digit < 10 }
     ensures { result ≡ min (10 * value + digit) (2 ^ 64 - 1) }

@@ -11,7 +11,7 @@ use crate::stop::Code;
 /// Numbers of variables and of clauses are below it.
 const LIMIT: u64 = 1 << 28;
 
-/// What a blank leads to. None where the line is then no header, however it goes on.
+/// What a blank leads to. None if the line is then no header, however it goes on.
 fn behind_blank(spot: HeaderState, byte: u8) -> Option<HeaderState>
     requires { Passes byte false true false }
     ensures { HeaderLeads spot byte result }
@@ -29,7 +29,7 @@ fn behind_blank(spot: HeaderState, byte: u8) -> Option<HeaderState>
     }
 }
 
-/// What a digit leads to. None where the line is then no header, however it goes on.
+/// What a digit leads to. None if the line is then no header, however it goes on.
 fn behind_digit(spot: HeaderState, byte: u8, digit: u64) -> Option<HeaderState>
     requires passes { Passes byte false false true }
     requires value { digit ≡ byte - 48 }
@@ -47,7 +47,7 @@ fn behind_digit(spot: HeaderState, byte: u8, digit: u64) -> Option<HeaderState>
     }
 }
 
-/// What another byte leads to. None where the line is then no header, however it goes on.
+/// What another byte leads to. None if the line is then no header, however it goes on.
 fn behind_other(spot: HeaderState, byte: u8) -> Option<HeaderState>
     requires { Passes byte false false false }
     ensures { HeaderLeads spot byte result }
@@ -60,7 +60,7 @@ fn behind_other(spot: HeaderState, byte: u8) -> Option<HeaderState>
     }
 }
 
-/// What a byte that is no newline leads to. None where the line is then no header, however it goes on.
+/// What a byte that is no newline leads to. None if the line is then no header, however it goes on.
 pub(crate) fn next_state(spot: HeaderState, byte: u8, kind: ByteKind) -> Option<HeaderState>
     requires kind { IsKind byte kind }
     requires within { is_newline byte ≡ false }

@@ -24,7 +24,7 @@ const BUFFER: usize = 1 << 16;
 /// the source stands behind the last piece that was read.
 pub fn read<S: Source>(alloc: Global, source: &mut S) -> Result<Formula, ReadStop>
     ensures answer { IsAnswer (S.left source.old) (S.left source.new) result }
-    // Also where the source doesn't tell its text.
+    // Also if the source doesn't tell its text.
     ensures range { IfOk result IsInRange }
     ensures fault { result ≡ Err ReadFault → Rose (S.faults source.old) (S.faults source.new) }
     ensures later { S.faults source.old ≤ S.faults source.new }

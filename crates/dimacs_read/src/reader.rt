@@ -136,7 +136,7 @@ impl Reader {
         }
     }
 
-    /// The answer at the first byte behind the limit. Where it ends a token, that token comes first.
+    /// The answer at the first byte after the limit. Where it ends a token, that token comes first.
     fn finish_long(mut self, alloc: Global, byte: u8) -> Result<Formula, ReadStop>
         requires lawful { IsLawful self.body }
         requires room { self.newlines + 2 < 2 ^ 64 }

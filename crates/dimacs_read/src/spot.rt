@@ -12,7 +12,7 @@ pub(crate) enum HeaderState {
     /// In the number of variables; `u64::MAX` also stands for more.
     Vars(u64),
     AfterVars(u64),
-    /// In the number of clauses, behind that of variables.
+    /// In the number of clauses, after that of variables.
     Clauses(u64, u64),
     AfterClauses(u64, u64),
 }
@@ -27,7 +27,7 @@ pub(crate) enum State {
     Header(HeaderState),
     /// Behind the header, with no more than blanks before on the line.
     Line,
-    /// In a comment behind the header.
+    /// In a comment after the header.
     Comment,
     /// Behind a token, and a blank.
     Gap,

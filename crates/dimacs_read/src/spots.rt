@@ -54,7 +54,7 @@ fn in_header(
     }
 }
 
-/// What a byte leads to behind a token and a blank.
+/// What a byte leads to after a token and a blank.
 fn after_blank(byte: u8, kind: ByteKind) -> Result<State, Halt>
     requires { IsKind byte kind }
     ensures { (b : BodyState) → MatchResult result (λ next. Leads Gap b byte next b) (λ stop. Stops Gap b byte stop b) }
@@ -68,7 +68,7 @@ fn after_blank(byte: u8, kind: ByteKind) -> Result<State, Halt>
     }
 }
 
-/// What a byte leads to at the front of a line behind the header.
+/// What a byte leads to at the front of a line after the header.
 fn after_newline(body: &Body, byte: u8, kind: ByteKind) -> Result<State, Halt>
     requires kind { IsKind byte kind }
     requires lawful { IsLawful body.now }
@@ -88,7 +88,7 @@ fn after_newline(body: &Body, byte: u8, kind: ByteKind) -> Result<State, Halt>
     }
 }
 
-/// What a byte leads to behind a minus sign.
+/// What a byte leads to after a minus sign.
 fn after_minus(byte: u8, kind: ByteKind) -> Result<State, Halt>
     requires { IsKind byte kind }
     ensures { (b : BodyState) → MatchResult result (λ next. Leads Minus b byte next b) (λ stop. Stops Minus b byte stop b) }

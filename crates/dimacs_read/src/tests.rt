@@ -7,7 +7,7 @@ use sat_words::{Clause, Formula, Lit};
 use std::alloc::{AllocError, Global};
 use std::test::Fail;
 
-/// Reads the text from a source that gives at most so many bytes at a time.
+/// Reads the text from a source that gives at most this many bytes at a time.
 fn read_text(alloc: Global, text: &[u8], piece: usize) -> Result<Formula, ReadStop>
     requires { 0 < piece }
 {

@@ -1,4 +1,4 @@
--- One line more behind the first ones of a log.
+-- One line more after the first ones of a log.
 use Rattle.std.proofs.Common.{◌≡◌, ◌∙◌, ℕ, ◌+◌, ◌<◌, true, false, List, [], ◌∷◌, ◌++◌, length, take, drop, get_or, append_assoc, sym, ap, subst, arith}
 use Rattle.std.proofs.lemmas.List.{take_more, length-take-le, take-append-drop}
 use Rattle.sat_words.specs.Literal.{Literal}

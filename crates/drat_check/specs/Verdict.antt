@@ -21,7 +21,7 @@ pub record IsFirstBad (F : List (List Literal)) (L : List Line) (n : ℕ) : Type
 abbrev pub EndsEmpty : List Line → Type 0
 EndsEmpty L = (before : List Line) × (L ≡ before ++ Add [] ∷ [])
 
--- the verdict is right: the log is accepted, and refutes the formula exactly where it is said to; or it isn't, by the line
+-- the verdict is right: the log is accepted, and refutes the formula exactly if it is said to; or it isn't, by the line
 -- of this number
 abbrev pub IsVerdict : List (List Literal) → List Line → Verdict → Type 0
 IsVerdict F L (verdict.Accepted empty) = Accepted F L × (IsTrue empty ↔ Refutes F L)

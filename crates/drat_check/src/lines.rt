@@ -48,7 +48,7 @@ pub fn apply(alloc: Global, alive: &mut Vec<Lits>, line: &Line) -> Result<(), Al
     Ok(())
 }
 
-/// Takes the first clause with these literals away, where there is one.
+/// Takes the first clause with these literals away, if there is one.
 fn take_copy(alive: &mut Vec<Lits>, lits: &[Lit])
     ensures { alive.new.items ≡ without_copy lits.now alive.old.items }
 {

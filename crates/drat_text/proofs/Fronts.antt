@@ -5,7 +5,7 @@ use Rattle.sat_words.specs.declared.line.Line.{Line}
 use Rattle.drat_text.specs.Text.{line_text, text}
 use Rattle.drat_text.specs.Front.{IsCutText}
 
--- the front ends within the first part, or goes on behind it
+-- the front ends within the first part, or goes on after it
 abbrev Ends : List ℕ → List ℕ → List ℕ → List ℕ → Type 0
 Ends front rest a b = (front ≡ take (length front) a) ⊎ ((more : List ℕ) × (front ≡ a ++ more) × (more ++ rest ≡ b))
 

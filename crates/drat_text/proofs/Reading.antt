@@ -73,7 +73,7 @@ sign_is_no_digit (d ∷ ds) rest more (digit, p) some e =
     let within = digit_from_value d digit in
     omega arith
 
--- behind a minus sign stands the number of a negative literal
+-- after a minus sign stands the number of a negative literal
 pub signed_front : (l : Literal) (digits more : List ℕ) → IsOn (2 ^ 30) l → 45 ∷ digits ≡ lit_text l ++ 32 ∷ more
     → (l.neg ≡ true) × (digits ≡ decimal l.var ++ 32 ∷ more)
 signed_front l digits more on e = elim (cases_Bool l.neg) as (λ _. (l.neg ≡ true) × (digits ≡ decimal l.var ++ 32 ∷ more)) [
@@ -86,7 +86,7 @@ signed_front l digits more on e = elim (cases_Bool l.neg) as (λ _. (l.neg ≡ t
       absurd (sign_is_no_digit (decimal l.var) digits (32 ∷ more) numeral.0.1 numeral.0.0 whole))
 ]
 
--- where no literal stands behind some literals, and the bytes begin with the literals of a line, its end stands there
+-- if no literal stands behind some literals, and the bytes begin with the literals of a line, its end stands there
 pub line_end : (a c : List Literal) (rest more : List ℕ) → All (IsOn (2 ^ 30)) a → All (IsOn (2 ^ 30)) c
     → ((l : Literal) (m : List ℕ) → IsOn (2 ^ 30) l → rest ≡ lit_text l ++ 32 ∷ m → ⊥) → lits_text a ++ rest ≡ lits_text c ++ 48 ∷ 10 ∷ more → rest ≡ 48 ∷ 10 ∷ more
 line_end [] [] rest more p q none e = e

@@ -10,7 +10,7 @@ use Rattle.drat_text.proofs.Tokens.{IsToken, lit_text_is_token, token_ends, same
 abbrev pub IsSpelled : Line → Type 0
 IsSpelled x = All (IsOn (2 ^ 30)) (lits_of x)
 
--- what holds of all holds of those behind the first
+-- what holds of all holds of those after the first
 pub others : {X : Type 0} (P : X → Type 0) (x : X) (xs : List X) → All P (x ∷ xs) → All P xs
 others P x xs all = λ k d low. all (suc k) d (omega arith)
 

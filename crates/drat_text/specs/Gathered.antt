@@ -6,12 +6,12 @@ use Rattle.io_edge.specs.Bytes.{IsFront}
 use Rattle.io_edge.specs.Causes.{Rose}
 use Rattle.drat_text.specs.declared.blocks.TheConstants.{BLOCK}
 
--- a sink, and the bytes that are to be written behind those that it has
+-- a sink, and the bytes that are to be written after those that it has
 pub record Gathered (S : Type 0) : Type 0 where
   pub waiting : List ℕ
   pub sink : S
 
--- what the sink has, and behind it what waits
+-- what the sink has, and after it what waits
 abbrev pub bytes_in : {S : Type 0} → (S → Option (List ℕ)) → Gathered S → Option (List ℕ)
 bytes_in written g = append_known (written g.sink) g.waiting
 

@@ -11,7 +11,7 @@ use Rattle.io_edge.specs.Causes.{Rose}
 use Rattle.drat_text.specs.Text.{text, line_text}
 use Rattle.drat_text.specs.LineState.{LineState}
 
--- what the later entries came behind: the formula, the journal before them, and the line output as it then was
+-- what the later entries came after: the formula, the journal before them, and the line output as it then was
 pub record Origin : Type 0 where
   pub formula : List (List Literal)
   pub journal : List Entry
@@ -26,7 +26,7 @@ pub record HasText (o : Origin) (mine : List Entry) (out : LineState) : Type 0 w
   pub quiet : out.faults ≡ o.output.faults
   pub bytes : out.written ≡ append_known o.output.written (later_text o mine)
 
--- the output failed at a line that is accepted behind the others and is on the variables; what was written is a front of
+-- the output failed at a line that is accepted after the others and is on the variables; what was written is a front of
 -- the text of all of them
 pub record HasTextCut (o : Origin) (mine : List Entry) (vars : ℕ) (out : LineState) : Type 0 where
   pub line : Line

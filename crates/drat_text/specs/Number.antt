@@ -7,11 +7,11 @@ use Rattle.std.specs.declared.option.Option.{Option}
 abbrev pub variable : ℕ → Option ℕ
 variable value = if nat_lt 0 value && nat_le value (2 ^ 30) then Some value else None
 
--- the test whether the digits end here: at another byte, or where they come to more than a variable's number
+-- the test whether the digits end here: at another byte, or if they come to more than a variable's number
 abbrev pub ends_at : ℕ → ℕ → Bool
 ends_at value byte = not (is_ascii_digit byte) || nat_lt (2 ^ 30) value
 
--- the variable's number that the digits at the front write behind those of a value
+-- the variable's number that the digits at the front write after those of a value
 abbrev pub number_from : ℕ → List ℕ → Option ℕ
 number_from value [] = variable value
 number_from value (byte ∷ bytes) = if ends_at value byte then variable value else number_from (value * 10 + (byte - 48)) bytes

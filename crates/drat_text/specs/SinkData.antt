@@ -12,7 +12,7 @@ pub record SinkData (S : Type 0) : Type 0 where
   pub waiting : List ℕ
   pub sink : S
 
--- the lines as the sink tells them: by its bytes and those that wait behind them, those flushed, its path, and its faults
+-- the lines as the sink tells them: by its bytes and those that wait after them, those flushed, its path, and its faults
 abbrev pub told_by : {S : Type 0} → (S → Option (List ℕ)) → (S → Option (List ℕ)) → (S → Option (List ℕ)) → (S → ℕ) → SinkData S → LineState
 told_by written flushed target faults p = record {
   entries = p.entries;

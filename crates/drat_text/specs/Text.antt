@@ -10,7 +10,7 @@ use Rattle.rup_model.specs.Log.{lits_of}
 abbrev pub lits_text : List Literal → List ℕ
 lits_text lits = flat_map (λ lit. lit_text lit ++ codes " ") lits
 
--- the literals, after `d` where the clause is deleted, then `0` and a newline
+-- the literals, after `d` if the clause is deleted, then `0` and a newline
 abbrev pub line_text : Line → List ℕ
 line_text (Add lits) = lits_text lits ++ codes "0\n"
 line_text (Del lits) = codes "d " ++ lits_text lits ++ codes "0\n"

@@ -92,7 +92,7 @@ impl<S: Sink> Blocks<S> {
         }
     }
 
-    /// Puts the bytes behind those that wait. Where they come to a block it is written, and the rest waits.
+    /// Puts the bytes after those that wait. Where they come to a block it is written, and the rest waits.
     pub(crate) fn append(&mut self, bytes: &[u8]) -> Result<(), Failed>
         requires room { length self.old.waiting < BLOCK }
         requires short { length bytes.now ≤ BLOCK }

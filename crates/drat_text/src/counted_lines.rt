@@ -26,7 +26,7 @@ impl Model for CountedLines {
 }
 
 impl CountedLines {
-    /// Lines for a formula of so many clauses. The line of this number fails, where the first is 1; at 0 none does.
+    /// Lines for a formula of this many clauses. The line of this number fails, if the first is 1; at 0 none does.
     pub fn new(clauses: u64, failing: u64) -> Self
         requires { clauses ≤ 2 ^ 63 }
         ensures { result ≡ begun_counting clauses }

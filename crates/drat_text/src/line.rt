@@ -32,7 +32,7 @@ impl<S: Sink> Blocks<S> {
     }
 
     /// Puts the line, as textual DRAT: the format that the proof checker drat-trim reads. For the clause 1 or not 2 it is
-    /// `1 -2 0` where it is added, and `d 1 -2 0` where it is deleted.
+    /// `1 -2 0` if it is added, and `d 1 -2 0` if it is deleted.
     fn put_line(&mut self, line: &Line) -> Result<(), Failed>
         requires room { length self.old.waiting < BLOCK }
         ensures { MatchResult result (λ _. Gathers S.written S.flushed S.target S.faults self.old self.new (line_text line.now)) (λ _. Breaks S.written S.flushed S.target S.faults self.old self.new (line_text line.now)) }

@@ -1,4 +1,4 @@
-// Where the lines of a log go, one by one.
+// If the lines of a log go, one by one.
 ghost use Rattle.std.specs.Prelude.{◌≡◌, false};
 ghost use Rattle.drat_text.specs.LineState.{LineState};
 ghost use Rattle.drat_text.specs.LineOut.{WasPut};
@@ -8,13 +8,13 @@ use sat_words::Line;
 
 /// Takes the lines of a log, and gives each addition the next number.
 ///
-/// The numbers begin behind those of the formula's clauses. A text has one list of lines, so that where the text of the
-/// lines is told, the lines are.
+/// The numbers begin after those of the formula's clauses. A text has one list of lines, so that where the text of the
+/// lines is known, the lines are.
 pub trait LineOut {
     /// What contracts see of it.
     ghost told: { Self → LineState };
 
-    /// Puts the line behind the others. Answers the number of an addition, and 0 for a deletion.
+    /// Puts the line after the others. Answers the number of an addition, and 0 for a deletion.
     fn put(&mut self, line: &Line) -> Result<u64, LineStop>
         requires unspent { (told self.old).spent ≡ false }
         ensures put { WasPut (told self.old) (told self.new) line.now result };

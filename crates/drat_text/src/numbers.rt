@@ -26,7 +26,7 @@ impl Model for Numbers {
 }
 
 impl Numbers {
-    /// No line stands behind so many clauses.
+    /// No line stands behind this many clauses.
     pub(crate) fn after(clauses: u64) -> Numbers
         requires { clauses ≤ 2 ^ 63 }
         ensures { result ≡ record { entries = 0; last = clauses } }

@@ -40,7 +40,7 @@ impl Piece {
         }
     }
 
-    /// Whether so many bytes more have room.
+    /// Whether this many bytes more have room.
     pub fn has_room(&self, count: usize) -> bool
         ensures { IsTrue result ↔ (length self.now + count ≤ CAPACITY) }
     {

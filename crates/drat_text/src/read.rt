@@ -36,7 +36,7 @@ fn strip_prefix<'a>(bytes: &'a [u8], front: &[u8]) -> Option<&'a [u8]>
     }
 }
 
-/// The number, where a variable can have it.
+/// The number, if a variable can have it.
 fn variable(value: u64) -> Option<u32>
     ensures is { result ≡ variable value }
     ensures range { IfSome result (λ var. (1 ≤ var) × (var ≤ 2 ^ 30)) }
@@ -48,7 +48,7 @@ fn variable(value: u64) -> Option<u32>
     }
 }
 
-/// Whether the digits end at this byte, behind those of a value.
+/// Whether the digits end at this byte, after those of a value.
 fn ends_at(value: u64, byte: u8) -> bool
     ensures ends { result ≡ ends_at value byte }
     ensures digit { result ≡ false → (value ≤ MAX_VAR) × (48 ≤ byte) × (byte ≤ 57) }

@@ -44,7 +44,7 @@ impl<S> Model for SinkLines<S> {
 }
 
 impl<S: Sink> SinkLines<S> {
-    /// Lines for a formula of so many clauses, in a sink to which nothing was written. Refused for memory it gives the
+    /// Lines for a formula of this many clauses, in a sink to which nothing was written. Refused for memory it gives the
     /// sink back.
     pub fn new(alloc: Global, clauses: u64, sink: S) -> Result<Self, AllocFailed<S>>
         requires few { clauses ≤ 2 ^ 63 }
@@ -70,7 +70,7 @@ impl<S: Sink> SinkLines<S> {
     }
 
     /// Writes what waits, and gives the sink back. It does not flush. Where the sink has failed, now or at a line before,
-    /// that is told; after a line that failed nothing more is written.
+    /// that is known; after a line that failed nothing more is written.
     pub fn finish(self) -> (Result<(), Failed>, S)
         ensures whole { OnOk result.0 (S.written result.1 ≡ append_known (S.written self.sink) self.waiting) }
         ensures front { OnErr result.0 (IsFront (S.written result.1) (append_known (S.written self.sink) self.waiting)) }

@@ -44,7 +44,7 @@ fn lines_and_their_texts(rt: HostRuntime) -> Result<(), Fail> {
     Ok(())
 }
 
-/// Puts the line so many times, unless the sink fails before. Answers how often it was put.
+/// Puts the line this many times, unless the sink fails before. Answers how often it was put.
 fn put_often<S: Sink>(lines: &mut SinkLines<S>, line: &Line, times: u32) -> u32 {
     for done in 0..times {
         if lines.is_spent() || lines.put(line).is_err() {
@@ -55,7 +55,7 @@ fn put_often<S: Sink>(lines: &mut SinkLines<S>, line: &Line, times: u32) -> u32 
 }
 
 /// How often a line of six bytes is put, how many bytes the sink then has, and how many once the lines are finished,
-/// where these calls of the sink fail.
+/// if these calls of the sink fail.
 fn blocks(
     rt: &(impl Abort + AllocGlobal),
     fails: &[u64],

@@ -1,5 +1,5 @@
 //! `gimsatul [--threads N] [--conflicts N] [--words N] [--seed N] [--proof PATH] [--no-simplify] [--check] [--make N] [FILE]`
-//! reads a formula in DIMACS CNF from the file, or from standard input where none is given, or makes one, decides it by rings on
+//! reads a formula in DIMACS CNF from the file, or from standard input if none is given, or makes one, decides it by rings on
 //! threads of their own, prints the answer, and writes a DRAT proof to the path.
 //! `gimsatul` of `top_call` is the whole of it, over any files and streams; `main` gives it the real ones.
 #![tactic(auto)]
@@ -24,7 +24,7 @@ use std::env;
 use std::process::ExitCode;
 use top_call::{End, gimsatul, put_message};
 
-/// The arguments without the program's name; where they cannot be told, the call ends as where words are refused, or memory ran out.
+/// The arguments without the program's name; if they cannot be known, the call ends as if words are refused, or memory ran out.
 fn words_of(rt: &HostRuntime) -> Result<Vec<String>, End>
     ensures { IfErr result IsWordsEnd }
 {

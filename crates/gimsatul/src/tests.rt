@@ -35,16 +35,16 @@ struct Row {
     out: &'static [u8],
     err: &'static [u8],
     opened: bool,
-    /// None where no proof's writer may be there; its bytes are compared where `compares_proof` says so.
+    /// None if no proof's writer may be there; its bytes are compared if `compares_proof` says so.
     proof: Option<&'static [u8]>,
     compares_proof: bool,
     /// Whether the proof's last line is the empty clause, and no other line is.
     ends_log: bool,
     /// Whether all that the proof's writer took was flushed, else none of it.
     flushes_proof: bool,
-    /// What is left of standard input where each read gives one byte.
+    /// What is left of standard input if each read gives one byte.
     left: &'static [u8],
-    /// A number for each ring; the numbers are compared where `compares_learned` says so.
+    /// A number for each ring; the numbers are compared if `compares_learned` says so.
     learned: &'static [u64],
     compares_learned: bool,
     need: u64,
@@ -122,7 +122,7 @@ fn check_model(
     Ok(())
 }
 
-/// Each ring put each lemma that it offered where each other ring may get it, and offered none that it didn't learn.
+/// Each ring put each lemma that it offered if each other ring may get it, and offered none that it didn't learn.
 fn check_offers(rt: &impl Abort, tally: &Tally) {
     let learned = tally.learned.as_slice();
     let offered = tally.offered.as_slice();
@@ -217,7 +217,7 @@ pub(crate) fn words_of(alloc: Global, words: &[&str]) -> Result<Vec<String>, Fai
     Ok(strings)
 }
 
-/// The words of a row, before which few words for clauses are asked for where the row asks for no number of them, so that a call
+/// The words of a row, before which few words for clauses are asked for if the row asks for no number of them, so that a call
 /// takes little memory.
 fn words_of_row(alloc: Global, row: &Row) -> Result<Vec<String>, Fail> {
     let mut strings = Vec::new(alloc);
@@ -231,7 +231,7 @@ fn words_of_row(alloc: Global, row: &Row) -> Result<Vec<String>, Fail> {
     Ok(strings)
 }
 
-/// Makes the call with a standard input that gives at most so many bytes a read.
+/// Makes the call with a standard input that gives at most this many bytes a read.
 fn check_row<H: Threads + Wait + Abort + AllocGlobal + Sync>(
     rt: &H,
     row: Row,
@@ -746,7 +746,7 @@ fn faults_of_the_proof(rt: HostRuntime) -> Result<(), Fail> {
             flushes_proof: false,
             ..two_lines
         },
-        // The write fails, and the flush behind it does or doesn't.
+        // The write fails, and the flush after it does or doesn't.
         Row {
             input: b"p cnf 0 1\n0\n",
             ..unproved

@@ -6,7 +6,7 @@ use std::process::Abort;
 use std::test::Fail;
 use top_call::{Remarks, Summary, Verdict, answer_text_to};
 
-/// The model of so many variables in which the first ones are true, as many as `trues`.
+/// The model of this many variables in which the first ones are true, as many as `trues`.
 fn model(rt: &impl Abort, alloc: Global, vars: u32, trues: u32) -> Result<Verdict, AllocError> {
     let mut values = Assignment::new(alloc, vars)?;
     for var in 1..=trues {
@@ -137,7 +137,7 @@ fn a_large_model_in_pieces(rt: HostRuntime) -> Result<(), Fail> {
     let verdict = model(&rt, alloc, MANY, TRUES)?;
     let mut whole = MemSink::new(alloc, 1 << 14, &[])?;
     assert!(rt; answer_text_to(&mut whole, MANY, &PLAIN, &verdict).is_ok());
-    // A piece ends where another number, on a line of its own, and the end might have no room in 4096 bytes.
+    // A piece ends if another number, on a line of its own, and the end might have no room in 4096 bytes.
     for (failing, least, most) in [(1, 0, 0), (2, 4078, 4096), (3, 8156, 8192)] {
         let fails = [failing];
         let mut out = MemSink::new(alloc, 1 << 14, &fails)?;

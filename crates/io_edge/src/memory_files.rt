@@ -12,14 +12,14 @@ use std::alloc::{AllocError, Global};
 use std::marker::Model;
 use std::mem;
 
-/// A file of a store in memory. Where two have one path, the first counts.
+/// A file of a store in memory. If two have one path, the first counts.
 #[derive(Clone, Copy)]
 pub struct MemFile<'a> {
     /// Where it stands.
     pub path: &'a str,
     /// What a reader of it gives.
     pub bytes: &'a [u8],
-    /// The reads of each such reader that fail, where its first is 1.
+    /// The reads of each such reader that fail, if its first is 1.
     pub fails: &'a [u64],
 }
 

@@ -32,7 +32,7 @@ impl<'a> Schedule<'a> {
         }
     }
 
-    /// Counts a call, and fails where it is listed.
+    /// Counts a call, and fails if it is listed.
     pub(crate) fn next_call(&mut self) -> Result<(), Failed>
         ensures fails { is_err result ≡ fails_next self.old }
         ensures after { self.new ≡ after_call self.old (is_err result) }

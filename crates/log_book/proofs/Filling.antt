@@ -27,12 +27,12 @@ use Rattle.log_book.specs.Books.{no_byte, begun, account_of, IsNew, AreAlike, Is
 
 -- Bytes
 
--- bytes that are the text, where they are told, are those since there was none
+-- bytes that are the text, if they are known, are those since there was none
 since_none : (bytes : Option (List ℕ)) (more all : List ℕ) → HoldsText (append_known bytes more) all → append_known bytes more ≡ append_known (no_byte (is_some bytes)) all
 since_none None more all h = refl
 since_none (Some bytes) more all h = ap Some h
 
--- where there was none, bytes that grew by the text are the text
+-- if there was none, bytes that grew by the text are the text
 holds_grown : (now was : Option (List ℕ)) (all : List ℕ) → IsEmptyWhereTold was → now ≡ append_known was all → HoldsText now all
 holds_grown None was all none e = tt
 holds_grown (Some bytes) None all none e = absurd (none_some bytes (sym e))
@@ -102,13 +102,13 @@ front_of_front bytes text all f g = record {
   whole = g.whole ∙ ap (λ (t : Option (List ℕ)). append_known t g.rest) f.whole ∙ ap Some (append_assoc bytes f.rest g.rest);
 }
 
--- told bytes are a front of all that came where there was none
+-- told bytes are a front of all that came if there was none
 front_since : (asked : Bool) (was : Option (List ℕ)) (bytes all : List ℕ) → IsEmptyWhereTold was → IsFront (Some bytes) (append_known (told_bytes (no_line asked) was) all) → IsFront (Some bytes) (Some all)
 front_since true was bytes all none f = f
 front_since false None bytes all none f = absurd (none_some (bytes ++ f.rest) f.whole)
 front_since false (Some was) bytes all none f = subst (λ (w : List ℕ). IsFront (Some bytes) (Some (w ++ all))) none f
 
--- so are those behind lines that are kept
+-- so are those after lines that are kept
 front_in_step : (kept : Option (List Line)) (asked : Bool) (was bytes : Option (List ℕ)) (more all : List ℕ) (out : LineState) → out.written ≡ append_known bytes more → AreInStep kept out → IsEmptyWhereTold was
     → IsFront (told_bytes kept (append_known bytes more)) (append_known (told_bytes (no_line asked) was) all) → IsFront (append_known bytes more) (append_known (no_byte (is_some bytes)) all)
 front_in_step kept asked was None more all out is step none f = record { rest = []; whole = refl }
@@ -157,7 +157,7 @@ step_new true kept out e none = subst (λ (k : Option (List Line)). AreInStep k 
 step_new false kept out e none = subst (λ (k : Option (List Line)). AreInStep k out) (sym e) tt
 
 module _ {S : Type 0} {d : Ghosts S} (written flushed target : S → Option (List ℕ)) (faults : S → ℕ) where
-  -- room changes nothing of what is told
+  -- room changes nothing of what is known
   pub told_alike : (old new : Book S d) → AreAlike old new → told_of written flushed target faults new ≡ told_of written flushed target faults old
   told_alike old new a = λ i. record {
     entries = a.entries i;
@@ -169,7 +169,7 @@ module _ {S : Type 0} {d : Ghosts S} (written flushed target : S → Option (Lis
     flushed = kept_mark (a.kept i);
   }
 
-  -- the line stands in what is told
+  -- the line stands in what is known
   pub told_put : (old new : Book S d) (x : Line) (number : ℕ) → old.entries < MAX_ENTRIES → HasPut written flushed target faults old new x number → PutLine (told_of written flushed target faults old) (told_of written flushed target faults new) x number
   told_put old new x number room p =
       let state = p.put.state in
@@ -219,7 +219,7 @@ module _ {S : Type 0} {d : Ghosts S} (written flushed target : S → Option (Lis
         record { target_is = f.target; faults_are = f.text.quiet; keeps = keeps },
       )
 
-  -- the book failed behind the log that it tells
+  -- the book failed after the log that it tells
   pub cut_off : (b : Book S d) (sink : S) (asked : Bool) (F : List (List Literal)) (J : List Entry) (l : Layout) → AreInStep b.log.kept.lines (told_by written flushed target faults b.log.lines) → IsEmptyWhereTold (written sink)
       → IsCutOff (begun F (told_new written flushed target faults (length F) sink asked)) J l.vars (told_of written flushed target faults b) → IsCutLog written flushed target faults sink b l F J
   cut_off b sink asked F J l step none f = record {
@@ -242,7 +242,7 @@ module _ {S : Type 0} {d : Ghosts S} (written flushed target : S → Option (Lis
     };
   }
 
-  -- a new book tells that it is
+  -- a new book says that it is
   pub told_begun : (b : Book S d) (clauses : ℕ) (sink : S) (asked : Bool) → IsNew clauses sink asked b → told_of written flushed target faults b ≡ told_new written flushed target faults clauses sink asked
   told_begun b clauses sink asked n = λ i. record {
     entries = n.entries i;

@@ -77,7 +77,7 @@ module _ {S : Type 0} {d : Ghosts S} (written flushed target : S → Maybe (List
     pub is_ended : t.book.ended ≡ ended v.opening.formula J
     is_ended = h.stands.ended
 
-    -- where the book began
+    -- if the book began
     abbrev O : Origin
     O = begun v.opening.formula (began v.origin v.opening.formula)
 
@@ -85,7 +85,7 @@ module _ {S : Type 0} {d : Ghosts S} (written flushed target : S → Maybe (List
     pub few_sheet : length J ≤ MAX_ENTRIES
     few_sheet = few_written v.layout v.opening (only v).core.ring (sheet_of v) t.noted.items h.may (few_taken v s h.writing)
 
-    -- the state behind what was written
+    -- the state after what was written
     pub state_behind : Noted v.layout (only v).core.ring s.core s.glue t.noted.items (sheet v t)
     state_behind = written_core v s h.writing t.noted.items h.may
 

@@ -30,7 +30,7 @@ use Rattle.log_book.specs.Turns.{sheet, waiting, IsTurn, IsCause, IsAddCause}
 use Rattle.log_book.proofs.Standings.{state_behind}
 use lib.ListN.{get_elem?}
 
--- literals on the layout's variables are on so many variables
+-- literals on the layout's variables are on this many variables
 pub all_on : (l : Layout) (lits : List Literal) → InVars l lits → All (IsOn l.vars) lits
 all_on l lits h i k lt = let v = h i k lt in record { low = v.0; high = v.1 }
 

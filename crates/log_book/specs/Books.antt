@@ -24,7 +24,7 @@ abbrev pub ends : Line → Bool
 ends (Add lits) = is_empty lits
 ends (Del lits) = false
 
--- no byte, where bytes are told
+-- no byte, if bytes are known
 abbrev pub no_byte : Bool → Option (List ℕ)
 no_byte true = Some []
 no_byte false = None
@@ -51,7 +51,7 @@ pub record IsNew {S : Type 0} {d : Ghosts S} (clauses : ℕ) (sink : S) (asked :
   pub ended : b.ended ≡ false
   pub holes : b.holes ≡ []
 
--- it is the same, but for room
+-- it is the same, except for room
 pub record AreAlike {S : Type 0} {d : Ghosts S} (old new : Book S d) : Type 0 where
   pub lines : new.log.lines ≡ old.log.lines
   pub kept : new.log.kept.lines ≡ old.log.kept.lines
@@ -70,7 +70,7 @@ pub record IsFilled (o : Origin) (J : List Entry) (out : LineState) : Type 0 whe
   pub flushed : out.flushed ≡ o.output.flushed
   pub spelled : CanBeSpelled (lines o.formula J)
 
--- or it failed at a line behind those of the journal
+-- or it failed at a line after those of the journal
 pub record IsCutOff (o : Origin) (J : List Entry) (vars : ℕ) (out : LineState) : Type 0 where
   pub spent : out.spent ≡ true
   pub text : HasTextCut o J vars out
@@ -87,7 +87,7 @@ pub record IsFrom {S : Type 0} (target : S → Option (List ℕ)) (faults : S �
   pub keeps : w.keeps ≡ asked
 
 module _ {S : Type 0} {d : Ghosts S} (written flushed target : S → Option (List ℕ)) (faults : S → ℕ) where
-  -- the lines as they are told, with the entries that have none and by the lines that are kept
+  -- the lines as they are known, with the entries that have none and by the lines that are kept
   abbrev pub told_of : Book S d → LineState
   told_of b = record (with_kept b.log.kept.lines (told_by written flushed target faults b.log.lines)) { entries = b.entries }
 
@@ -111,7 +111,7 @@ module _ {S : Type 0} {d : Ghosts S} (written flushed target : S → Option (Lis
     pub ended : new.ended ≡ old.ended
     pub holes : new.holes ≡ old.holes
 
-  -- its sink has failed since this origin exactly where a line failed; what it has, and behind it what waits, is the text of
+  -- its sink has failed since this origin exactly if a line failed; what it has, and after it what waits, is the text of
   -- the journal's lines, and where one failed a front of it; it was not flushed, and is for the same path
   pub record IsLogOf (b : Book S d) (w : BookOrigin) (l : Layout) (F : List (List Literal)) (J : List Entry) : Type 0 where
     pub whole : b.log.lines.spent ≡ false → HasText (begun F (began w F)) J (told_by written flushed target faults b.log.lines)
@@ -119,7 +119,7 @@ module _ {S : Type 0} {d : Ghosts S} (written flushed target : S → Option (Lis
     pub target_is : target b.log.lines.sink ≡ w.target
     pub flushed_is : flushed b.log.lines.sink ≡ w.flushed
 
-  -- since it had this sink, in which nothing was written, the book failed at a line behind those of the journal
+  -- since it had this sink, in which nothing was written, the book failed at a line after those of the journal
   pub record IsCutLog (sink : S) (b : Book S d) (l : Layout) (F : List (List Literal)) (J : List Entry) : Type 0 where
     pub origin : BookOrigin
     pub target_is : origin.target ≡ target sink

@@ -1,4 +1,4 @@
--- Lines that are kept where they are asked for.
+-- Lines that are kept if they are asked for.
 use Rattle.std.specs.Prelude.{◌≡◌, ◌<◌, ◌^◌, ℕ, false, List, [], ◌++◌, ◌∷◌, ⊤, All, Some, None, IfSome, Result, Ok, Err}
 use Rattle.std.specs.declared.option.Option.{Option}
 use Rattle.std.specs.Option.{option_map}
@@ -33,28 +33,28 @@ kept_after (Err Memory) kept line = kept
 abbrev pub IsSpelled : Line → Type 0
 IsSpelled line = All (IsOn (2 ^ 30)) (lits_of line)
 
--- where lines are asked for, this one can be kept without memory
+-- if lines are asked for, this one can be kept without memory
 abbrev pub IsReady : KeptLines → Line → Type 0
 IsReady k line = IfSome k.lines (λ _. (0 < k.room) × (k.next ≡ Some line) × IsSpelled line)
 
--- Lines on their way to a sink, which are kept where that is asked for
+-- Lines on their way to a sink, which are kept if that is asked for
 
 -- those on their way, and those that are kept
 pub record LogData (S : Type 0) : Type 0 where
   pub lines : SinkData S
   pub kept : KeptLines
 
--- the bytes, where they are told, are the text
+-- the bytes, if they are known, are the text
 abbrev pub HoldsText : Option (List ℕ) → List ℕ → Type 0
 HoldsText None all = ⊤
 HoldsText (Some bytes) all = bytes ≡ all
 
--- the bytes, where they are told, are a front of the text
+-- the bytes, if they are known, are a front of the text
 abbrev pub IsFrontTold : Option (List ℕ) → List ℕ → Type 0
 IsFrontTold None all = ⊤
 IsFrontTold (Some bytes) all = IsFront (Some bytes) (Some all)
 
--- what a line output has is the text of these lines, or where it failed a front of it, the last of the lines being that which
+-- what a line output has is the text of these lines, or if it failed a front of it, the last of the lines being that which
 -- failed
 pub record IsInStep (lines : List Line) (out : LineState) : Type 0 where
   pub spelled : CanBeSpelled lines
@@ -66,12 +66,12 @@ abbrev pub AreInStep : Option (List Line) → LineState → Type 0
 AreInStep None out = ⊤
 AreInStep (Some lines) out = IsInStep lines out
 
--- the bytes, which kept lines tell by their text, else the sink where it does
+-- the bytes, which kept lines tell by their text, else the sink if it does
 abbrev pub told_bytes : Option (List Line) → Option (List ℕ) → Option (List ℕ)
 told_bytes None bytes = bytes
 told_bytes (Some lines) bytes = Some (text lines)
 
--- what a flush has made sure of is told where lines are kept: nothing. So what is told shows whether they are.
+-- what a flush has made sure of is told where lines are kept: nothing. So what is known shows whether they are.
 abbrev pub kept_mark : Option (List Line) → Option (List ℕ)
 kept_mark None = None
 kept_mark (Some lines) = Some []

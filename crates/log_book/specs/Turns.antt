@@ -30,7 +30,7 @@ use Rattle.log_book.specs.declared.stop.TurnStop.{TurnStop}
 use Rattle.log_book.specs.declared.stop.TurnStop.TheVariants.{Ended, Broken, NoHole, Memory, ProofFault}
 use Rattle.log_book.specs.declared.turn.Turn.{Turn}
 
--- the journal, and the ring's part, behind what was written
+-- the journal, and the ring's part, after what was written
 abbrev pub sheet : {S : Type 0} {d : Ghosts S} → View → Turn S d → Sheet
 sheet v t = written_of v t.noted.items
 
@@ -38,15 +38,15 @@ sheet v t = written_of v t.noted.items
 abbrev pub waiting : {S : Type 0} {d : Ghosts S} → View → Turn S d → ℕ → ClauseAt
 waiting v t a = clause_in a (sheet v t).part.waiting
 
--- the note may be written next, but for the causes of a refusal
+-- the note may be written next, except for the causes of a refusal
 abbrev pub MayNext : {S : Type 0} {d : Ghosts S} → View → Turn S d → Note → Type 0
 MayNext v t n = MayNote v.layout v.opening (only v).core.ring (sheet v t).journal (sheet v t).part n
 
--- a clause may be added next, but for the causes of a refusal
+-- a clause may be added next, except for the causes of a refusal
 abbrev pub MayAdd : {S : Type 0} {d : Ghosts S} → View → Turn S d → Kind → List Literal → Type 0
 MayAdd v t kind lits = MayAddClause v.opening (sheet v t).journal (sheet v t).part (only v).core.ring kind lits × IsLong lits × (follows (sheet v t).part lits ≡ true) × InVars v.layout lits
 
--- how a refusal is noted, where it is
+-- how a refusal is noted, if it is
 abbrev pub noted_as : TurnStop → Option Refusal → Option Refusal
 noted_as Ended old = Some refusal.Ended
 noted_as Broken old = Some refusal.Broken
@@ -73,7 +73,7 @@ IsAddCause faults v old new size Ended = IsCause faults v old new Ended
 IsAddCause faults v old new size Broken = IsCause faults v old new Broken
 IsAddCause faults v old new size (NoHole need most) = IsCause faults v old new (NoHole need most)
     ⊎ (IsGoing v.opening (sheet v old).journal × (old.book.log.lines.spent ≡ false) × (need ≡ words_for size) × (most ≡ largest (room v.layout v.opening (sheet v old).journal).holes) × (most < need))
--- where one is, memory runs out or the sink fails
+-- if one is, memory runs out or the sink fails
 IsAddCause faults v old new size Memory = IsCause faults v old new Memory × HasHole v old size
 IsAddCause faults v old new size ProofFault = IsCause faults v old new ProofFault × HasHole v old size
 
@@ -100,7 +100,7 @@ abbrev pub CouldWrite : {S : Type 0} {d : Ghosts S} → View → Turn S d → Ty
 CouldWrite v t = IsGoing v.opening (sheet v t).journal × (t.book.log.lines.spent ≡ false)
 
 module _ {S : Type 0} {d : Ghosts S} (written flushed target : S → Option (List ℕ)) (faults : S → ℕ) where
-  -- the book stands for the journal since its origin, and tells whether a write has failed
+  -- the book stands for the journal since its origin, and says whether a write has failed
   abbrev pub Stands : Book S d → BookOrigin → Layout → CoreOpening → List Entry → Bool → Type 0
   Stands = StandsFor account_of (IsLogOf written flushed target faults)
 
@@ -135,7 +135,7 @@ module _ {S : Type 0} {d : Ghosts S} (written flushed target : S → Option (Lis
     pub alike : e ≢ ProofFault → AreAlike old.book new.book
 
   -- the pass's ring has taken the turn, and the book with it; where it was told of a failed write, one has failed, and where
-  -- there is no other ring one has failed only where it was told so
+  -- there is no other ring one has failed only if it was known so
   pub record HasBook (v w : View) (b : Book S d) : Type 0 where
     pub journal : List Entry
     pub free : ℕ

@@ -7,7 +7,7 @@ use clause_cell::Holes;
 use io_edge::Sink;
 use share_rule::Ledger;
 
-/// The proof's sink and the numbers of the log's lines, with the lines where they are asked for, and the words that are free
+/// The proof's sink and the numbers of the log's lines, with the lines if they are asked for, and the words that are free
 /// for cells.
 #[derive(Drop)]
 pub struct Book<S: Sink> {

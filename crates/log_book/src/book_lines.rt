@@ -33,7 +33,7 @@ fn is_end(line: &Line) -> bool
 }
 
 impl<S: Sink> Book<S> {
-    /// A book for a formula of so many clauses, in a sink to which nothing was written. It has no line yet, and no word is
+    /// A book for a formula of this many clauses, in a sink to which nothing was written. It has no line yet, and no word is
     /// free. Refused for memory it gives the sink back.
     pub fn new(
         alloc: Global,
@@ -61,15 +61,15 @@ impl<S: Sink> Book<S> {
         }
     }
 
-    /// The last number that was given: that of the last addition, or where there is none that of the formula's last clause.
+    /// The last number that was given: that of the last addition, or if there is none that of the formula's last clause.
     pub fn last(&self) -> u64
         ensures { result ≡ self.now.log.lines.last }
     {
         self.log.last()
     }
 
-    /// A table can be made over a book that was filled through the bound of a line output, where it tells the text of a
-    /// journal's lines since it was new. Where the output failed at a line behind those, what its sink has is known too. The
+    /// A table can be made over a book that was filled through the bound of a line output, if it says the text of a
+    /// journal's lines since it was new. Where the output failed at a line after those, what its sink has is known too. The
     /// call computes nothing.
     pub fn has_its_log(&self)
         ensures whole { (F : List (List Literal)) (J : List Entry) (l : Layout) (sink : S) (asked : Bool) → IsEmptyWhereTold (S.written sink)
@@ -91,7 +91,7 @@ impl<S: Sink> Book<S> {
         self.log.prepare(line)
     }
 
-    /// Puts the line behind the others, and answers the number of an addition.
+    /// Puts the line after the others, and answers the number of an addition.
     pub(crate) fn write(&mut self, line: &Line) -> Result<u64, Failed>
         requires unspent { self.old.log.lines.spent ≡ false }
         requires room { self.old.entries < MAX_ENTRIES }
@@ -120,7 +120,7 @@ impl<S: Sink> Book<S> {
         self.entries += 1;
     }
 
-    /// Writes what waits, flushes, and gives the sink back, with the lines where they were asked for. It fails exactly where
+    /// Writes what waits, flushes, and gives the sink back, with the lines where they were asked for. It fails exactly if
     /// the sink fails now, or failed before; of a broken book it only flushes.
     pub fn finish(self) -> (Result<(), Failed>, S, Option<Vec<Line>>)
         ensures kept { option_map (λ v. v.items) result.2 ≡ self.log.kept.lines }

@@ -1,4 +1,4 @@
-// The lines, where they are asked for.
+// The lines, if they are asked for.
 ghost use Rattle.std.specs.Prelude.{◌≡◌, ◌<◌, ◌^◌, All, [], Some, None, IfOk, OnOk, if◌then◌else◌};
 ghost use Rattle.std.specs.Option.{option_map};
 ghost use Rattle.sat_words.specs.Literal.{IsOn};
@@ -8,7 +8,7 @@ use sat_words::{Line, Lit, Lits};
 use std::alloc::{AllocError, Global};
 use std::marker::Model;
 
-/// The lines where they are asked for, and a copy of the one that comes next. Elsewhere they take no memory.
+/// The lines if they are asked for, and a copy of the one that comes next. Elsewhere they take no memory.
 #[derive(Drop)]
 pub struct Kept {
     alloc: Global,
@@ -79,7 +79,7 @@ impl Kept {
         Ok(())
     }
 
-    /// Keeps the line behind the others.
+    /// Keeps the line after the others.
     pub(crate) fn keep(&mut self, _line: &Line)
         requires { IsReady self.old _line.now }
         ensures { self.new.lines ≡ with_line self.old.lines _line.now }

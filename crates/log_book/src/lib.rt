@@ -3,7 +3,7 @@
 //! home. Before the rings it takes lines as any line output does.
 //!
 //! The text streams: it gathers in a block that is written whenever it is full, so that a write may end inside a line,
-//! and the lines themselves are kept only where that is asked for.
+//! and the lines themselves are kept only if that is asked for.
 #![tactic(auto)]
 
 mod book;

@@ -1,4 +1,4 @@
-// The lines on their way to the sink, of which a list is kept where that is asked for.
+// The lines on their way to the sink, of which a list is kept if that is asked for.
 ghost use Rattle.std.specs.Prelude.{◌≡◌, ◌≢◌, ◌≤◌, ◌^◌, [], true, false, Some, None, Err, is_err, IfOk, IfErr, OnOk, OnErr, if◌then◌else◌};
 ghost use Rattle.std.specs.Option.{option_map};
 ghost use Rattle.std.specs.Io.KnownBytes.{append_known};
@@ -17,7 +17,7 @@ use sat_words::Line;
 use std::alloc::{AllocError, AllocFailed, Global};
 use std::marker::Model;
 
-/// The lines on their way to the sink, the last number given, and the lines where they are asked for.
+/// The lines on their way to the sink, the last number given, and the lines if they are asked for.
 #[derive(Drop)]
 pub struct LogLines<S: Sink> {
     lines: SinkLines<S>,
@@ -38,7 +38,7 @@ impl<S: Sink> Model for LogLines<S> {
 }
 
 impl<S: Sink> LogLines<S> {
-    /// No line yet, for a formula of so many clauses and in a sink to which nothing was written. Refused for memory it gives
+    /// No line yet, for a formula of this many clauses and in a sink to which nothing was written. Refused for memory it gives
     /// the sink back.
     pub(crate) fn new(
         alloc: Global,
@@ -91,7 +91,7 @@ impl<S: Sink> LogLines<S> {
         self.kept.prepare(line)
     }
 
-    /// Puts the line behind the others, and keeps it, also the line at which writing failed.
+    /// Puts the line after the others, and keeps it, also the line at which writing failed.
     pub(crate) fn put(&mut self, line: &Line) -> Result<u64, LineStop>
         requires unspent { self.old.lines.spent ≡ false }
         requires ready { IsReady self.old.kept line.now }

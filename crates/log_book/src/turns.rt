@@ -36,7 +36,7 @@ fn try_take<S: Sink>(
     words.exchange(pass, 0, None)
 }
 
-/// One try to take the turn, in which nothing is written yet. None where another has it, or had it meanwhile.
+/// One try to take the turn, in which nothing is written yet. None if another has it, or had it meanwhile.
 pub(crate) fn try_turn<S: Sink>(
     alloc: Global,
     table: &Shared<Book<S>>,

@@ -139,7 +139,7 @@ impl<S: Sink> Turn<S> {
         }
     }
 
-    /// Why a clause of so many words is refused where memory ran out: for want of a hole, where there is none.
+    /// Why a clause of this many words is refused if memory ran out: for want of a hole, if there is none.
     fn no_memory(&self, need: u64) -> TurnStop
         ensures { ((need ≤ largest self.now.book.holes) × (result ≡ Memory)) ⊎ ((largest self.now.book.holes < need) × (result ≡ NoHole need (largest self.now.book.holes))) }
     {
@@ -185,7 +185,7 @@ impl<S: Sink> Turn<S> {
             Err(HoleStop::NoHole { need, largest }) => {
                 return Err(TurnStop::NoHole { need, largest });
             }
-            // `none` of `Holes::take`: it refuses only where no hole is long enough
+            // `none` of `Holes::take`: it refuses only if no hole is long enough
             Err(HoleStop::Memory) => unreachable!(),
         };
         match self.book.write(&line) {

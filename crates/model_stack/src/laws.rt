@@ -4,7 +4,7 @@ ghost use Rattle.sat_words.specs.Literal.{Literal};
 ghost use Rattle.model_stack.specs.declared.stack.Fix.{Fix};
 ghost use Rattle.model_stack.specs.Extend.{extend, Lifts};
 
-/// Where models of G lift to F, and those of H to G, those of H lift to F by both stacks, the later one on top. Where
+/// If models of G lift to F, and those of H to G, those of H lift to F by both stacks, the later one on top. Where
 /// nothing is done, models lift by no entry.
 pub fn lifts_compose()
     ensures both { (F G H : List (List Literal)) (S T : List Fix) → Lifts F G S → Lifts G H T → Lifts F H (S ++ T) }

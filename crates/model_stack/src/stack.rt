@@ -1,7 +1,7 @@
 // The reconstruction stack and the walk over it.
 //
 // A simplifier that takes a clause away which did not follow from the others pushes the clause together with one of its
-// literals. A model of what is left is mended by a walk from the last entry to the first: where an entry's clause is
+// literals. A model of what is left is mended by a walk from the last entry to the first: if an entry's clause is
 // false, its literal is made true. That this gives a model of the clauses before is the simplifier's to show.
 ghost use Rattle.std.specs.Prelude.{◌≡◌, ◌≤◌, ◌++◌, ◌∷◌, [], true, OnOk, OnErr, length, All};
 ghost use Rattle.sat_words.specs.Clause.{has};
@@ -11,7 +11,7 @@ use sat_words::{Assignment, Clause, Lit};
 use std::alloc::{AllocError, Global};
 use std::marker::Model;
 
-/// An entry of the stack: where the clause is false, the literal is made true.
+/// An entry of the stack: if the clause is false, the literal is made true.
 #[derive(Drop)]
 pub struct Fix {
     /// A literal of the clause.
@@ -21,7 +21,7 @@ pub struct Fix {
 }
 
 impl Fix {
-    /// Makes the literal true where the clause is false.
+    /// Makes the literal true if the clause is false.
     fn mend(&self, a: &mut Assignment)
         requires { self.now.lit.var ≤ length a.old }
         ensures value { a.new ≡ mended a.old self.now }
@@ -58,7 +58,7 @@ impl Stack {
         }
     }
 
-    /// Puts an entry behind the others. After an error the stack is as it was.
+    /// Puts an entry after the others. After an error the stack is as it was.
     pub fn push(&mut self, lit: Lit, clause: Clause) -> Result<(), AllocError>
         requires { has clause lit ≡ true }
         ensures ok { OnOk result (self.new ≡ self.old ++ record { lit = lit; clause = clause } ∷ []) }
@@ -69,7 +69,7 @@ impl Stack {
     }
 
     /// Mends the assignment: from the last entry to the first, the literal of one whose clause is false is made true.
-    /// A variable past the assignment's end is false where it occurs in a clause. It takes no memory.
+    /// A variable past the assignment's end is false if it occurs in a clause. It takes no memory.
     pub fn extend(&self, a: &mut Assignment)
         requires { All (λ fix. fix.lit.var ≤ length a.old) self.now }
         ensures value { a.new ≡ extend self.now a.old }

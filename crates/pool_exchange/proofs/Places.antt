@@ -1,4 +1,4 @@
--- Where slots lie, and that what came out of one is held.
+-- If slots lie, and that what came out of one is held.
 use Rattle.std.proofs.Common.{◌≡◌, ◌≢◌, ℕ, ◌+◌, ◌*◌, ◌<◌, ◌==◌, List, [], ◌∷◌, refl, sym, ap, ◌∙◌, subst, arith, eq-eqb, Option, Some, None}
 use Rattle.std.specs.Prelude.{slice_index_or, IfSome}
 use lib.ListN.{get_elem?}
@@ -27,7 +27,7 @@ ring_fits v s one =
     let same = ap (λ (o : CoreOpening). o.rings) s.opening in
     (subst (λ (n : ℕ). (only v).core.ring < n) (sym same) p.ring, s.standing.rings ∙ sym same)
 
--- a slot is a word of the table, where its place is counted so
+-- a slot is a word of the table, if its place is counted so
 pub slot_lies : (v : View) (s : Seen v) → v.parts ≡ only v ∷ [] → (l : Layout) (from to class word : ℕ) → v.layout ≡ l → from < v.opening.rings → to < v.opening.rings → class < 4
     → word ≡ slot_at l (4 * (from * l.rings + to) + class) → (slot_word v from to class ≡ word) × (word < table_words l)
 slot_lies v s one l from to class word lay ft to_lt few is =

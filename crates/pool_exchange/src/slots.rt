@@ -33,7 +33,7 @@ fn cell_at(found: u64) -> Option<Cref>
     }
 }
 
-/// Swaps a count of a cell that the pass's ring holds into its slot for another ring. None comes exactly where the slot was
+/// Swaps a count of a cell that the pass's ring holds into its slot for another ring. None comes exactly if the slot was
 /// empty; what comes out, which the ring had put there, is the ring's from then on, and to be given up. The ring has not
 /// the turn, since what a turn writes rests on what is held.
 pub fn put<B: Ledger>(
@@ -60,7 +60,7 @@ pub fn put<B: Ledger>(
     cell_at(found)
 }
 
-/// Swaps what another ring's slot for the pass's ring has out. None comes exactly where the slot was empty; what comes out
+/// Swaps what another ring's slot for the pass's ring has out. None comes exactly if the slot was empty; what comes out
 /// is held by the pass's ring, with the count that lay in the slot.
 pub fn get<B: Ledger>(
     table: &Shared<B>,

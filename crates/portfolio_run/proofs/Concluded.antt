@@ -101,7 +101,7 @@ module _ {S : Type 0} {d : Ghosts S} (written flushed target : S → Option (Lis
         let there = part_at r p.me.0.parts (h.gathered.whole r (subst (λ (n : ℕ). r < n) (sym rings_there) lt)) in
         ap (λ (q : Part). q.wrote) (sym ((s.parts there.0 there.1 there.2).part ∙ ap s.core.part there.3)) ∙ (h.idle there.0 there.1 there.2).0
 
-    -- where the answer is a fault of the proof, the book's lines are cut short
+    -- if the answer is a fault of the proof, the book's lines are cut short
     abbrev Failed : Type 0
     Failed = b.log.lines.spent ≡ true
 
@@ -130,11 +130,11 @@ module _ {S : Type 0} {d : Ghosts S} (written flushed target : S → Option (Lis
     by_search (inl h) = by_ends h h.decided
     by_search (inr h) = by_starved h
 
-    -- the sink has failed since where the lines are cut short
+    -- the sink has failed since if the lines are cut short
     pub sink_failed : b.log.lines.spent ≡ true → Rose (faults sink) (faults b.log.lines.sink)
     sink_failed spent = subst (λ (n : ℕ). Rose n (faults b.log.lines.sink)) (ap (λ (x : BookOrigin). x.faults) gathered.same.origin ∙ faults_are) (stands.log.sink.cut spent).rose
 
-    -- and has not where the book is whole
+    -- and has not if the book is whole
     sink_still : fault ≡ false → faults b.log.lines.sink ≡ faults sink
     sink_still whole = (book_records.log.whole (stands.faulty ∙ whole)).quiet ∙ book_records.faults_are
 
@@ -164,7 +164,7 @@ module _ {S : Type 0} {d : Ghosts S} (written flushed target : S → Option (Lis
           asked = λ _. asked;
         }
 
-  -- over a table whose first pass knew no more than what it was opened with, where nothing was counted before
+  -- over a table whose first pass knew no more than what it was opened with, if nothing was counted before
   pub concluded : (u : View) (before : List Counts) → u ≡ v → before ≡ replicate plan.threads no_counts → HasSearched t u home plan left.stack p before tally answer → HasReached written flushed target faults sink plan F answer tally b
   concluded u before is none searched =
       has_reached (subst (λ (cs : List Counts). HasSearched t v home plan left.stack p cs tally answer) none (subst (λ (x : View). HasSearched t x home plan left.stack p before tally answer) is searched))

@@ -50,7 +50,7 @@ use Rattle.portfolio_run.proofs.RingsJournal.{HasWritten, AreTogether, ruler_is,
 use Rattle.portfolio_run.proofs.RingsRun.{starts_from, port, has_written, learned_many, tallied, ended_is, cause, faulty, spent_is, fewer, unrefuted, calm}
 use Rattle.portfolio_run.proofs.Behind.{IsAlike}
 
--- the answer holds over this journal, whose first part the ruler wrote; the first of these says what is so where it is a fault of the
+-- the answer holds over this journal, whose first part the ruler wrote; the first of these says what is so if it is a fault of the
 -- proof, the second what is so of a lone ring at each other answer
 pub record IsDecided (plan : Plan) (F : FormulaData) (answer : Answer) (tally : List Counts) (Failed Calm : Type 0) (J : List Entry) : Type 0 where
   pub stands : IsJournal plan.threads F.clauses J
@@ -181,11 +181,11 @@ module _ (plan : Plan) (F : FormulaData) (left : Simplified) (l : Layout) (origi
         subst (IsDecided plan F answer tally Failed Calm) (sym g.journal_is)
         (record { stands = journal_stands F J0 K plan.threads (starts_from v) t; ruled = g.through; held = inr ran_once; stop = stop; holds = holds; rose = rose; calm = calm })
 
-    -- where the ring is alone and its port can be used, no write has failed
+    -- if the ring is alone and its port can be used, no write has failed
     calm_at : (r : ℕ) (lt : r < plan.threads) → plan.threads ≡ 1 → length w.parts ≡ plan.threads → (fault : Bool) → TellsFaults w.parts fault → is_usable (port_at r lt).refused ≡ true → fault ≡ false
     calm_at r lt threads long = calm v w home plan s r (end_at r) (counts_at r) (ran_at r lt) plan.threads g.rings_are lt K start (g.wrote r lt) threads (long ∙ threads)
 
-    -- where each ring is spent, none has set a stop
+    -- if each ring is spent, none has set a stop
     set_none : ((r : ℕ) → r < plan.threads → end_at r ≡ end.Spent) → (r : ℕ) → r < plan.threads → own_stop r s.core.stop ≡ None
     set_none spent r lt =
         let h = ran_at r lt in

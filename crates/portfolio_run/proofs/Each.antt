@@ -29,7 +29,7 @@ pub each_both : {A : Type 0} (P : ℕ → A → Type 0) (k n : ℕ) (xs ys : Lis
 each_both P k n [] ys e h more = subst (λ (m : ℕ). EachFrom P m ys) (let q : n ≡ k = omega arith in q) more
 each_both P k n (x ∷ xs) ys e h more = (h.0, each_both P (k + 1) n xs ys (omega arith) h.1 more)
 
--- one more behind them
+-- one more after them
 pub each_last : {A : Type 0} (P : ℕ → A → Type 0) (k n : ℕ) (xs : List A) (x : A) → k + length xs ≡ n → EachFrom P k xs → P n x → EachFrom P k (xs ++ x ∷ [])
 each_last P k n xs x e h last = each_both P k n xs (x ∷ []) e h (last, tt)
 

@@ -32,7 +32,7 @@ use Rattle.portfolio_run.specs.Solved.{is_verdict, unfinished, IsSure, IsFinishe
 use Rattle.portfolio_run.proofs.Cuts.{cut_short, cut_whole, front_of_front, front_of_same, front_told}
 use Rattle.portfolio_run.proofs.Spelling.{cons_All, spell_all}
 
--- where there was no byte, the text is all there is
+-- if there was no byte, the text is all there is
 holds_since : (told : Bool) (t : List ℕ) → HoldsText (append_known (no_byte told) t) t
 holds_since true t = refl
 holds_since false t = tt

@@ -40,7 +40,7 @@ abbrev pub began_with : FormulaData → Layout → List Entry → Simplified →
 began_with F l J0 left = begun_with F.clauses l J0 left.start.items left.units.items
 
 -- a small plan and formula, which the ruler has simplified, writing the front of a journal; the core was opened with what is left
--- of it, and its journal goes on with the entries of the rings, each where its ring has it
+-- of it, and its journal goes on with the entries of the rings, each if its ring has it
 pub record GoesOn (plan : Plan) (F : FormulaData) (left : Simplified) (l : Layout) (J0 K : List Entry) (w : View) (s : Seen w) : Type 0 where
   pub few : F.vars ≤ 2 ^ 30
   pub on : All (All (IsOn F.vars)) F.clauses

@@ -126,7 +126,7 @@ stop_start : {B : Type 0} (s : Option Stop) (ps : List (Seat (Option B) View)) �
 stop_start s [] e = e
 stop_start s (p ∷ ps) e = (first_none s p.me.0.stop (stop_start (first_of s p.me.0.stop) ps e)).0
 
--- where none is known of all, none is known of each
+-- if none is known of all, none is known of each
 stop_none : {B : Type 0} (s : Option Stop) (ps : List (Seat (Option B) View)) → stop_among s ps ≡ None → (i : ℕ) (d : Seat (Option B) View) → i < length ps → (get_or ps i d).me.0.stop ≡ None
 stop_none s [] e i d lt = absurd (omega arith)
 stop_none s (p ∷ ps) e zero d lt = (first_none s p.me.0.stop (stop_start (first_of s p.me.0.stop) ps e)).1
@@ -200,7 +200,7 @@ run_same t u v home name plan p ends same named h = record {
       record { part = r.part; there = r.there; ring_is = r.ring_is; seen = r.seen; ran = ran_same u v home name plan i r.seen r.part (get_or ends i d).0 (get_or ends i d).1 (sym same.layout) (sym same.opening) (sym named) r.ran };
 }
 
--- where the pass has only looked at the stop since
+-- if the pass has only looked at the stop since
 pub run_looked : {B : Type 0} (t : Shared B) (v : View) (home : List ℕ) (plan : Plan) (p q : Seat (Option B) View) (ends : List (End × Counts)) → IsAtRest t q → IsSameTable p.me.0 q.me.0 → q.me.0.parts ≡ p.me.0.parts → AreEndsOf q.me.0 ends → HaveRun t v home plan p ends → HaveRun t v home plan q ends
 run_looked t v home plan p q ends rest same parts ends_are h = record {
   gathered = record {

@@ -1,4 +1,4 @@
--- Entries of several rings among each other: what looks at a ring's own entries alone holds of all where it holds of each ring's.
+-- Entries of several rings among each other: what looks at a ring's own entries alone holds of all if it holds of each ring's.
 use Rattle.std.proofs.Common.{◌≡◌, ◌≢◌, ◌∙◌, ◌==◌, ◌<◌, ◌≤◌, ◌&&◌, ◌||◌, ℕ, zero, suc, Bool, true, false, not, cond, List, [], ◌∷◌, ◌++◌, map, length, All, refl, sym, ap, subst, arith, append-nil, eq-eqb, ne_eqb}
 use Rattle.std.specs.List.{list_any, filter, fold}
 use Rattle.std.proofs.lemmas.List.Elements.{filter-append}

@@ -26,7 +26,7 @@ pub record IsPlaced (v : View) (home : List ℕ) (plan : Plan) (ring : ℕ) (one
   pub made : IsMade v home plan ring one
   pub ready : IsReady one.port one.job
 
--- the first rings have their ports; of those behind them the passes are left, some put aside and some not yet met
+-- the first rings have their ports; of those after them the passes are left, some put aside and some not yet met
 pub record Placed {B : Type 0} (t : Shared B) (v : View) (home : List ℕ) (plan : Plan) (made : List (RingJob PortState)) (rest more : List (Seat (Option B) View)) : Type 0 where
   pub ports : EachFrom (IsPlaced v home plan) 0 made
   pub aside : EachFrom (IsBegun t v) (length made) rest
@@ -87,7 +87,7 @@ placed_none t v home plan made rest more passes no_made no_rest is begun =
       behind = subst (λ (n : ℕ). EachFrom (IsBegun t v) n more) (let e : 0 ≡ length made + length rest = omega arith in e) (subst (EachFrom (IsBegun t v) 0) (sym is) (each_of (IsBegun t v) passes begun));
     }
 
--- the next pass, where none is put aside
+-- the next pass, if none is put aside
 pub placed_next : {B : Type 0} (t : Shared B) (v : View) (home : List ℕ) (plan : Plan) (ring : ℕ) (made : List (RingJob PortState)) (rest more more' : List (Seat (Option B) View)) (p : Seat (Option B) View) → Placed t v home plan made rest more → more ≡ p ∷ more' → length rest ≡ 0 → ring ≡ length made → IsBegun t v ring p
 placed_next t v home plan ring made rest more more' p at is none count = subst (λ (n : ℕ). IsBegun t v n p) (let e : length made + length rest ≡ ring = omega arith in e) (subst (EachFrom (IsBegun t v) (length made + length rest)) is at.behind).0
 

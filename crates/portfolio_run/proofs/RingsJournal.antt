@@ -1,4 +1,4 @@
--- The journal of a run: the ruler's entries, and behind them those of the rings among each other.
+-- The journal of a run: the ruler's entries, and after them those of the rings among each other.
 use Rattle.std.proofs.Common.{◌≡◌, ◌∙◌, ◌<◌, ◌≤◌, ◌^◌, ◌||◌, ℕ, Bool, true, false, List, [], ◌∷◌, ◌++◌, length, get_or, sym, ap, subst, arith, inl, inr}
 use Rattle.std.specs.Prelude.{All}
 use Rattle.std.specs.List.{list_any}

@@ -85,7 +85,7 @@ starts_from v = record { journal = []; starts = map start_of (map (holding_of (s
 
 module _ (v w : View) (home : List ℕ) (plan : Plan) (s : Seen w) (r : ℕ) (end : End) (counts : Counts) (h : RanAt v home plan w r end counts)
     (rings : ℕ) (rings_are : v.opening.rings ≡ rings) (below : r < rings) (K : List Entry) (start : ℕ) (wrote : (s.core.part r).wrote ≡ placed r start K) where
-  -- the port behind the run
+  -- the port after the run
   abbrev pub port : PortState
   port = port_with (record v { stop = h.seen; looks = h.ran.looks }) h.part h.ran.own
 
@@ -141,18 +141,18 @@ module _ (v w : View) (home : List ℕ) (plan : Plan) (s : Seen w) (r : ℕ) (en
         restarted = h.ran.ran.restarted;
       }
 
-  -- the log is ended where its port says so
+  -- the log is ended if its port says so
   pub ended_is : port.ended ≡ true → ended s.core.opening.formula s.core.journal ≡ true
   ended_is e = is_part.ended_is (h.ran.ended_is e)
 
   pub cause : Cause port end
   cause = h.ran.ran.ends.cause
 
-  -- a write has failed where the port can't be used
+  -- a write has failed if the port can't be used
   pub faulty : (fault : Bool) → TellsFaults w.parts fault → is_usable port.refused ≡ false → fault ≡ true
   faulty fault tells u = tells.told r h.part h.there (h.ran.faulty_is u)
 
-  -- where the ring is alone and its port can be used, no write has failed
+  -- if the ring is alone and its port can be used, no write has failed
   pub calm : rings ≡ 1 → length w.parts ≡ 1 → (fault : Bool) → TellsFaults w.parts fault → is_usable port.refused ≡ true → fault ≡ false
   calm one long fault tells usable = not_true fault (λ is.
       let t = tells.teller is in

@@ -1,4 +1,4 @@
--- The clauses that are alive behind entries have their literals on the variables, so that lines can be spelled.
+-- The clauses that are alive after entries have their literals on the variables, so that lines can be spelled.
 use Rattle.std.proofs.Common.{◌≡◌, ◌≤◌, ◌^◌, ℕ, zero, suc, ◌==◌, Bool, true, false, List, [], ◌∷◌, Some, None, refl, arith}
 use Rattle.std.specs.Prelude.{All, IfSome, if◌then◌else◌}
 use Rattle.std.specs.List.{slice_get}

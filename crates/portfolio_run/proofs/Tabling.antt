@@ -93,7 +93,7 @@ module _ {S : Type 0} {d : Ghosts S} (written flushed target : S → Option (Lis
         subst (λ (x : Book S d). HasReached written flushed target faults sink plan F (unmade_answer e.why) tally x) (sym back)
         (unmade_book written flushed target faults sink plan F b (Ok (LeftOver left)) tally few on rings some is was left refl law cut e.why stop)
 
--- Before the search, and behind it
+-- Before the search, and after it
 
 -- the first pass of a table has the rights to all grants
 pub first_rights : {B : Type 0} (t : Shared B) (p : Seat (Option B) View) (l : Layout) (o : CoreOpening) (w : BookOrigin) → IsPassOf t p → p.me ≡ (first_view l o w, []) → HasRightsFrom t p 0

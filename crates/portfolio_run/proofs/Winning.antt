@@ -47,7 +47,7 @@ module _ (v : View) (s : Seen v) where
   end_spent : (i : ℕ) (e : End) → IsEndAt v i e → v.stop ≡ None → e ≡ Spent
   end_spent i e h none = spent_of i e (sym h.set ∙ set_none i h.part h.there none h.part.set refl) (h.unstopped none)
 
-  -- what it has set is the stop, where that is its own
+  -- what it has set is the stop, if that is its own
   set_is : (i : ℕ) (e : End) (t : CoreStop) → IsEndAt v i e → v.stop ≡ Some t → set_of i e ≡ own_stop i (Some t)
   set_is i e t h stop = sym h.set ∙ (s.parts i h.part h.there).set ∙ (λ j. own_stop (h.ring_is j) (s.stops.stands t stop j))
 
@@ -77,7 +77,7 @@ module _ (v : View) (s : Seen v) where
         others = λ i d lt ne. end_lost i (get_or ends i d).0 (core_stop y) (each i d lt) seen (λ e. ne (sym e));
       })
 
--- the parts stay where the stop is only looked at, and a stop that was known is found
+-- the parts stay if the stop is only looked at, and a stop that was known is found
 pub ends_stay : (v w : View) (found : ℕ) (ends : List (End × Counts)) → w ≡ after_look found v → MayFind v (stop_of found) → AreEndsOf v ends → AreEndsOf w ends
 ends_stay v w found ends is may each = λ i d lt.
     let h = each i d lt in

@@ -20,7 +20,7 @@ abbrev pub IsStopped : End → Type 0
 IsStopped (Stopped x) = ⊤
 IsStopped _ = ⊥
 
--- at its place the pass has the ring's part, which has set the stop of this end; where the pass knows no stop, the ring was
+-- at its place the pass has the ring's part, which has set the stop of this end; if the pass knows no stop, the ring was
 -- not stopped
 pub record IsEndAt (v : View) (ring : ℕ) (end : End) : Type 0 where
   pub part : RingPart

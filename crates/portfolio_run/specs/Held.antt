@@ -60,7 +60,7 @@ pub record NoneRan (rings : ℕ) (journal : List Entry) (tally : List Counts) : 
 abbrev pub IsHeld : ℕ → ℕ → List (List Literal) → List Entry → List Counts → Type 0
 IsHeld rings limit clauses journal tally = NoneRan rings journal tally ⊎ RanOnce rings limit clauses journal tally
 
--- the stop to which the steps of the rings come is of this kind, or there is none; where no ring ran, none has found a model and none
+-- the stop to which the steps of the rings come is of this kind, or there is none; if no ring ran, none has found a model and none
 -- is spent
 abbrev pub HasStop : {rings limit : ℕ} {clauses : List (List Literal)} {journal : List Entry} {tally : List Counts} → IsHeld rings limit clauses journal tally → Option ℕ → Type 0
 HasStop (inl none) kind = (kind ≢ Some STOP_SAT) × (kind ≢ None)

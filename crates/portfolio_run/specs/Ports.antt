@@ -13,7 +13,7 @@ use Rattle.portfolio_run.specs.declared.plan.Plan.{Plan}
 abbrev pub begun_at : View → List ℕ → ℕ → PortState
 begun_at v home ring = begun_as (record v { stop = None; looks = 0 }) ring home
 
--- what the ring is told
+-- what the ring is known
 abbrev pub job_at : View → Plan → ℕ → Job
 job_at v plan ring = record { ring = ring; rings = v.opening.rings; vars = v.layout.vars; start = addresses v.opening.starts; conflicts = plan.conflicts; seed = plan.seed }
 

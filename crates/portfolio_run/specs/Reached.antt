@@ -41,7 +41,7 @@ use Rattle.portfolio_run.specs.Solved.{IsReached}
 
 module _ {S : Type 0} {d : Ghosts S} (written flushed target : S → Option (List ℕ)) (faults : S → ℕ) where
   -- since it had this sink, in which nothing was written, the book has come to the lines of this journal, or has failed at the
-  -- line behind them; lines that are kept are those
+  -- line after them; lines that are kept are those
   pub record Records (sink : S) (F : List (List Literal)) (J : List Entry) (b : Book S d) : Type 0 where
     pub origin : BookOrigin
     pub layout : Layout
@@ -56,7 +56,7 @@ module _ {S : Type 0} {d : Ghosts S} (written flushed target : S → Option (Lis
     pub empty : IsEmptyWhereTold (written sink)
     pub ruled : Ruled formula plan.rounds (told_new written flushed target faults (length formula.clauses) sink plan.keep_lines) (told_of written flushed target faults b) result
 
-  -- its run, as it is told
+  -- its run, as it is known
   abbrev pub run_to : S → Plan → FormulaData → Book S d → Result Outcome LineStop → RulersRun
   run_to sink plan formula b result = record { formula = formula; rounds = plan.rounds; before = told_new written flushed target faults (length formula.clauses) sink plan.keep_lines; now = told_of written flushed target faults b; result = result }
 
@@ -83,7 +83,7 @@ pub record HasReached {S : Type 0} {d : Ghosts S} (written flushed target : S �
 
 -- The rings
 
--- behind the rings' runs the table's first pass has all their parts, each at its ring's place, and no ring has the turn
+-- after the rings' runs the table's first pass has all their parts, each at its ring's place, and no ring has the turn
 pub record IsGathered {B : Type 0} (t : Shared B) (v : View) (p : Seat (Option B) View) : Type 0 where
   pub pass : IsAtRest t p
   pub same : IsSameTable v p.me.0

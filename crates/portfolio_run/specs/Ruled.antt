@@ -10,7 +10,7 @@ use Rattle.simp_base.specs.declared.work.Run.{Run}
 use Rattle.simp_base.specs.declared.work.Run.TheVariants.{Done}
 use Rattle.ruler_simp.specs.Rounds.{SimplifiedTo}
 
--- the simplifiers ran over the formula in so many rounds, their lines going to an output that had none, wrote the front of the
+-- the simplifiers ran over the formula in this many rounds, their lines going to an output that had none, wrote the front of the
 -- journal and came to this; no ring wrote anything unless they were done
 pub record IsRuled (formula : FormulaData) (rounds : ℕ) (journal : List Entry) : Type 0 where
   pub output : LineState

@@ -1,4 +1,4 @@
--- Passes of rings, before they run and behind them.
+-- Passes of rings, before they run and after them.
 use Rattle.std.specs.Prelude.{◌≡◌, ℕ, ◌<◌, ◌≤◌, false, List, [], ◌∷◌, ◌++◌, length, slice_index_or, Option, None}
 use Rattle.atomic_table.specs.declared.shared.Seat.{Seat}
 use Rattle.share_rule.specs.declared.Shared.{Shared}

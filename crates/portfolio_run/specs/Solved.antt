@@ -49,7 +49,7 @@ is_verdict (NoHole lack) = false
 is_verdict ProofFault = false
 is_verdict Memory = false
 
--- what is answered where the proof could not be finished: no verdict
+-- what is answered if the proof could not be finished: no verdict
 abbrev pub unfinished : Answer → Answer
 unfinished (Sat model) = ProofFault
 unfinished Unsat = ProofFault
@@ -68,7 +68,7 @@ Holds plan formula journal (NoHole lack) = (lack.largest < lack.need) × IsUnset
 Holds plan formula journal ProofFault = ⊤
 Holds plan formula journal Memory = IsUnsettled plan.threads plan.conflicts journal
 
--- the kind of the stop with which the rings come to this answer, and with none where each is spent
+-- the kind of the stop with which the rings come to this answer, and with none if each is spent
 abbrev pub kind_of : Answer → Option ℕ
 kind_of (Sat model) = Some STOP_SAT
 kind_of Unsat = Some STOP_REFUTED
@@ -78,14 +78,14 @@ kind_of ProofFault = Some STOP_PROOF
 kind_of Memory = Some STOP_MEMORY
 
 -- where a search that comes to this kind of stop has met a fault of the proof, the sink has failed by then; at each other kind no
--- line had failed, unless two rings or more ran beside each other behind a ruler that was done
+-- line had failed, unless two rings or more ran beside each other after a ruler that was done
 pub record FaultsFit (plan : Plan) (formula : FormulaData) (journal : List Entry) (before searched : ℕ) (kind : Option ℕ) : Type 0 where
   pub rose : kind ≡ Some STOP_PROOF → Rose before searched
   pub calm : kind ≢ Some STOP_PROOF → (searched ≡ before) ⊎ ((2 ≤ plan.threads) × IsRuledThrough formula plan.rounds journal)
 
 -- a search has come to this answer, which holds, over this journal: it begins with what the ruler wrote in the plan's rounds, and the
--- rings' steps leave it, with the stop of this answer; a verdict comes only where the simplifiers came to their end. The sink of the
--- proof had failed so often before the search, and so often by then.
+-- rings' steps leave it, with the stop of this answer; a verdict comes only if the simplifiers came to their end. The sink of the
+-- proof had failed this often before the search, and this often by then.
 pub record IsReached (plan : Plan) (formula : FormulaData) (answer : Answer) (tally : List Counts) (before searched : ℕ) (journal : List Entry) : Type 0 where
   pub stands : IsJournal plan.threads formula.clauses journal
   pub ruled : IsRuled formula plan.rounds journal
@@ -95,8 +95,8 @@ pub record IsReached (plan : Plan) (formula : FormulaData) (answer : Answer) (ta
   pub through : is_verdict answer ≡ true → IsRuledThrough formula plan.rounds journal
   pub faults_fit : FaultsFit plan formula journal before searched (kind_of answer)
 
--- the answer that is told is that of the search, or in the place of a verdict, where the sink has failed, a fault of the proof; a
--- verdict is told only where it has not
+-- the answer that is known is that of the search, or in the place of a verdict, where the sink has failed, a fault of the proof; a
+-- verdict is known only if it has not
 pub record IsTold (found answer : Answer) (before faults : ℕ) : Type 0 where
   pub ends : (answer ≡ found) ⊎ ((answer ≡ unfinished found) × Rose before faults)
   pub quiet : is_verdict answer ≡ true → faults ≡ before
@@ -105,8 +105,8 @@ pub record IsTold (found answer : Answer) (before faults : ℕ) : Type 0 where
 abbrev pub IsSure : (before poured : ℕ) → Answer → Type 0
 IsSure before poured answer = (is_verdict answer ≡ true) ⊎ (Rose before poured → ⊥)
 
--- what the sink has of the proof, when it had failed so often before, by the search's end and now: what was left of the lines was
--- written and the sink then flushed, when it had failed `poured` times. It has the text of the journal's lines; where a line had
+-- what the sink has of the proof, when it had failed this often before, by the search's end and now: what was left of the lines was
+-- written and the sink then flushed, when it had failed `poured` times. It has the text of the journal's lines; if a line had
 -- failed a front of that, or of it and one line more.
 pub record IsFinished (clauses : List (List Literal)) (journal : List Entry) (answer : Answer) (before searched faults : ℕ) (flushed written : Option (List ℕ)) : Type 0 where
   pub poured : ℕ
@@ -124,7 +124,7 @@ pub record AreKept (asked : Bool) (clauses : List (List Literal)) (journal : Lis
   pub quiet : IsSome kept → faults ≡ before
   pub there : asked ≡ true → answer ≢ Memory → IsSure before faults answer → IsSome kept
 
--- so a call answers whose sink had failed so often before, and has these faults and bytes now: a search came to an answer over one
+-- so a call answers whose sink had failed this often before, and has these faults and bytes now: a search came to an answer over one
 -- journal, when the sink had failed `searched` times; then the proof was finished, and the answer told
 pub record IsSolved (plan : Plan) (formula : FormulaData) (answer : Answer) (tally : List Counts) (before faults : ℕ) (flushed written : Option (List ℕ)) (kept : Option (List Line)) : Type 0 where
   pub journal : List Entry

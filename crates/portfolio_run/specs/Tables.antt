@@ -1,4 +1,4 @@
--- The table over what the ruler left, as it is opened, and behind the search.
+-- The table over what the ruler left, as it is opened, and after the search.
 use Rattle.io_edge.specs.declared.edge.Sink.{Ghosts}
 use Rattle.std.specs.Prelude.{◌≡◌, ℕ, List, [], replicate, Ok}
 use Rattle.std.specs.declared.option.Option.{Option}

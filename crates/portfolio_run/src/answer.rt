@@ -26,8 +26,8 @@ pub struct Solved<S> {
     pub answer: Answer,
     /// The proof's sink. Its last call was a flush.
     pub sink: S,
-    /// The lines of the log, where they were to be kept; none where the sink failed, and perhaps none where memory ran out.
+    /// The lines of the log, where they were to be kept; none if the sink failed, and perhaps none if memory ran out.
     pub lines: Option<Vec<Line>>,
-    /// What each ring counted, in the order of the rings: zeros where none ran, and nothing where memory ran out before.
+    /// What each ring counted, in the order of the rings: zeros if none ran, and nothing if memory ran out before.
     pub tally: Vec<Counts>,
 }

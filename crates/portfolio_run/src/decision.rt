@@ -22,7 +22,7 @@ fn ring_of(stop: Option<Stop>) -> Option<u32>
     }
 }
 
-/// The ring whose end counts, once all passes are gathered: that which set the stop. Where none did, every ring is spent.
+/// The ring whose end counts, once all passes are gathered: that which set the stop. If none did, every ring is spent.
 fn winner<B: Ledger>(table: &Shared<B>, first: &mut Pass<B>, _ends: &[(End, Counts)]) -> Option<u32>
     requires first { IsAtRest table.now first.old }
     requires many { length _ends.now ≡ first.old.me.0.opening.rings }

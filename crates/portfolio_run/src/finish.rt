@@ -1,4 +1,4 @@
-// The proof finished behind an answer.
+// The proof finished after an answer.
 ghost use Rattle.std.specs.Prelude.{◌≡◌};
 ghost use Rattle.std.specs.Option.{option_map};
 ghost use Rattle.portfolio_run.specs.Reached.{HasReached};
@@ -25,8 +25,8 @@ fn without_proof(answer: Answer) -> Answer
     }
 }
 
-/// Writes what is left of the lines, flushes the sink, and gives it back. A verdict holds only where the sink has taken all
-/// lines; what else was answered stays. Lines that were kept come back where the sink has taken them.
+/// Writes what is left of the lines, flushes the sink, and gives it back. A verdict holds only if the sink has taken all
+/// lines; what else was answered stays. Lines that were kept come back if the sink has taken them.
 pub(crate) fn finish<S: Sink>(
     book: Book<S>,
     answer: Answer,

@@ -28,7 +28,7 @@ fn run_one<P: Port>(alloc: Global, ring: &mut RingJob<P>)
     ring.end = Some(run_ring(alloc, &mut ring.port, &ring.job));
 }
 
-/// Runs all rings at once, each in a thread of its own where threads can be made; where none can they run one after another.
+/// Runs all rings at once, each in a thread of its own if threads can be made; if none can they run one after another.
 pub(crate) fn run_all<P: Port + Send, H: Threads + Sync>(
     rt: &H,
     alloc: Global,

@@ -21,7 +21,7 @@ use sat_words::Cref;
 use share_rule::{Pass, Shared};
 use std::alloc::{AllocError, AllocFailed, Global};
 
-/// What the ring is told.
+/// What the ring is known.
 fn job_of<S: Sink>(
     alloc: Global,
     table: &Shared<Book<S>>,
@@ -72,7 +72,7 @@ fn make_port<'a, S: Sink, G: Gate, H>(
     })
 }
 
-/// Adds the values behind those that are there.
+/// Adds the values after those that are there.
 fn add_all<T: Drop>(into: &mut Vec<T>, more: Vec<T>)
     requires room { length into.old.items + length more.items ≤ vec_capacity into.old }
     ensures added { into.new.items ≡ into.old.items ++ more.items }
@@ -97,7 +97,7 @@ fn pass_of<S: Sink, G: Gate, H>(
     made.port.into_pass(table, first)
 }
 
-/// Adds the passes of ports that have done nothing yet behind those that are there, in order.
+/// Adds the passes of ports that have done nothing yet after those that are there, in order.
 fn add_passes<S: Sink, G: Gate, H>(
     table: &Shared<Book<S>>,
     first: &Pass<Book<S>>,

@@ -26,7 +26,7 @@ use std::alloc::{AllocError, Global};
 use std::sync::Wait;
 use std::thread::Threads;
 
-/// Room for what is to be had behind the runs, taken before the rings have their grants.
+/// Room for what is to be had after the runs, taken before the rings have their grants.
 #[derive(Drop)]
 struct Space<B: Ledger> {
     /// For the passes that are handed out.
@@ -37,7 +37,7 @@ struct Space<B: Ledger> {
     ends: Vec<(End, Counts)>,
 }
 
-/// Room for so many rings.
+/// Room for this many rings.
 fn make_space<B: Ledger>(alloc: Global, rings: usize) -> Result<Space<B>, AllocError>
     ensures none { IfOk result (λ space. (space.passes.items ≡ []) × (space.back.items ≡ []) × (space.ends.items ≡ [])) }
     ensures room { IfOk result (λ space. (rings ≤ vec_capacity space.passes) × (rings ≤ vec_capacity space.back) × (rings ≤ vec_capacity space.ends)) }

@@ -1,4 +1,4 @@
-// The passes of the rings: handed out before the rings run, and gathered behind them.
+// The passes of the rings: handed out before the rings run, and gathered after them.
 ghost use Rattle.std.specs.Prelude.{◌≡◌, ◌≢◌, ℕ, ◌+◌, ◌++◌, ◌∷◌, ◌<◌, ◌≤◌, [], All, length, vec_capacity};
 ghost use Rattle.share_rule.specs.Passes.{IsPassOf, IsSamePass};
 ghost use Rattle.share_rule.specs.Steps.{after_load, new_part, without_right};
@@ -58,7 +58,7 @@ fn grant<B: Ledger>(table: &Shared<B>, first: &mut Pass<B>, ring: u32)
     join(table, first, pass);
 }
 
-/// Takes the grants of all rings, and all rings in, where there is no room for passes of their own. It takes no memory.
+/// Takes the grants of all rings, and all rings in, if there is no room for passes of their own. It takes no memory.
 pub(crate) fn grant_all<B: Ledger>(table: &Shared<B>, first: &mut Pass<B>, rings: u32)
     requires first { HasRightsFrom table.now first.old 0 }
     requires rings { rings ≡ first.old.me.0.opening.rings }

@@ -164,7 +164,7 @@ fn solve_left<S: Sink + Send, G: Gate + Sync, H: Threads + Wait + Sync>(
     solve_noted(rt, alloc, formula, plan, left, book, tally, gate, &journal)
 }
 
-/// Decides a formula with a sink, the one that is given, where no ring has counted anything yet.
+/// Decides a formula with a sink, the one that is given, if no ring has counted anything yet.
 fn solve_counted<S: Sink + Send, G: Gate + Sync, H: Threads + Wait + Sync>(
     rt: &H,
     alloc: Global,
@@ -204,9 +204,9 @@ fn solve_counted<S: Sink + Send, G: Gate + Sync, H: Threads + Wait + Sync>(
 }
 
 /// Decides a formula: simplifies it in the plan's rounds, and searches what is left for a model with the plan's rings, each on
-/// a thread of its own where threads can be made. All lines go to the sink, which comes back with each answer, flushed.
+/// a thread of its own if threads can be made. All lines go to the sink, which comes back with each answer, flushed.
 ///
-/// The first ring that finds a model, refutes the formula or is stopped for want of something decides; where none does, each
+/// The first ring that finds a model, refutes the formula or is stopped for want of something decides; if none does, each
 /// ring has learned its limit of lemmas.
 pub fn solve<S: Sink + Send, G: Gate + Sync, H: Threads + Wait + Sync>(
     rt: &H,

@@ -1,4 +1,4 @@
-// The table over what the ruler left: opened for the rings, and taken apart behind them.
+// The table over what the ruler left: opened for the rings, and taken apart after them.
 ghost use Rattle.std.specs.Prelude.{◌≡◌, ◌≤◌, ◌^◌, All, List, Ok, true, replicate, is_some, IfOk, IfErr};
 ghost use Rattle.std.specs.Option.{option_map};
 ghost use Rattle.io_edge.specs.Paths.{IsEmptyWhereTold};
@@ -61,7 +61,7 @@ pub(crate) fn open_table<S: Sink>(
     )
 }
 
-/// Takes the table apart behind the search, and finishes the proof.
+/// Takes the table apart after the search, and finishes the proof.
 pub(crate) fn close_table<S: Sink>(
     table: Shared<Book<S>>,
     first: Pass<Book<S>>,

@@ -7,7 +7,7 @@ use Rattle.rand_pcg.specs.Pcg.{pcg32, multiplier_64}
 abbrev pub word_of : Lcg → ℕ
 word_of g = (pcg32 g).0
 
--- the generator behind the next word
+-- the generator after the next word
 abbrev pub rest_of : Lcg → Lcg
 rest_of g = (pcg32 g).1
 
@@ -16,7 +16,7 @@ unfoldable pub bits_from : Lcg → ℕ → List Bool
 bits_from g zero = []
 bits_from g (suc n) = (word_of g % 2 == 1) ∷ bits_from (rest_of g) n
 
--- the generator behind the next n words
+-- the generator after the next n words
 unfoldable pub rest_from : Lcg → ℕ → Lcg
 rest_from g zero = g
 rest_from g (suc n) = rest_from (rest_of g) n

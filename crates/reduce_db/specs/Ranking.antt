@@ -18,7 +18,7 @@ ranks_before x y = is_lt (ordering_then (nat_cmp x.glue y.glue) (ordering_then (
 abbrev pub candidate_with : Head → ℕ → Candidate
 candidate_with h a = record { glue = h.glue; size = h.size; number = h.number; address = a }
 
--- the lemma as a candidate, where it may be dropped
+-- the lemma as a candidate, if it may be dropped
 abbrev pub candidate_of : PortState → List TrailStep → Cref → Option Candidate
 candidate_of s steps c = if is_droppable s steps c then Some (candidate_with (head_at s c.address) c.address) else None
 
@@ -31,7 +31,7 @@ abbrev pub AreSpread : List Candidate → Type 0
 AreSpread [] = ⊤
 AreSpread (x ∷ xs) = All (λ (y : Candidate). y.address ≢ x.address) xs × AreSpread xs
 
--- a candidate is dropped where it isn't before the first that is; where there is no first none is
+-- a candidate is dropped if it isn't before the first that is; if there is no first none is
 abbrev pub is_dropped : Option Candidate → Option Candidate → Bool
 is_dropped None c = false
 is_dropped (Some first) None = false

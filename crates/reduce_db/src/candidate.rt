@@ -28,7 +28,7 @@ impl Candidate {
     }
 }
 
-/// The lemma as a candidate, where it may be dropped. The reasons' addresses are in order.
+/// The lemma as a candidate, if it may be dropped. The reasons' addresses are in order.
 fn candidate_of<P: Port>(port: &mut P, reasons: &[u64], c: Cref) -> Option<Candidate>
     requires held { IsSome (held_at (P.state port.old) c.address) }
     requires reasons { (steps : List TrailStep) × AreReasons steps reasons.now }
@@ -67,7 +67,7 @@ pub(crate) fn candidates_of<P: Port>(
     Ok(candidates)
 }
 
-/// The first candidate in order that is dropped, where the last half of them are.
+/// The first candidate in order that is dropped, if the last half of them are.
 pub(crate) fn first_to_go(
     alloc: Global,
     candidates: &[Option<Candidate>],

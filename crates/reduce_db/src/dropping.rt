@@ -18,7 +18,7 @@ use sat_words::Cref;
 use std::alloc::{AllocError, Global};
 use watch_prop::Watches;
 
-/// Drops each of these lemmas, in their order. Where memory runs out, those before are dropped.
+/// Drops each of these lemmas, in their order. If memory runs out, those before are dropped.
 pub(crate) fn drop_each<P: Port>(
     alloc: Global,
     port: &mut P,

@@ -10,7 +10,7 @@ ghost use Rattle.watch_prop.specs.WatchData.{without};
 ghost use Rattle.reduce_db.specs.Lemmas.{AreDistinct, AreLemmas};
 
 /// There may be no lemmas; one that was added and attached joins the others; one that is detached is none any more; and else
-/// port and watches may change where each lemma stays attached and held and none is taken.
+/// port and watches may change if each lemma stays attached and held and none is taken.
 pub fn lemmas_come_and_go()
     ensures none { (s : PortState) (cs : List Cref) → AreLemmas s cs [] }
     ensures joins { (old new : PortState) (cs lemmas : List Cref) (lits : List Literal) (glue : ℕ) (kind : Kind) (c : Cref) → IsPort old → AddedClause old new lits glue kind c → KeepsHeld old new

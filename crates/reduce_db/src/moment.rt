@@ -7,7 +7,7 @@ const FIRST: u128 = 2000;
 /// How many more come before each further one than before the last.
 const MORE: u128 = 300;
 
-/// Whether the `i`-th reduction, from 1, is due where so many lemmas were learned since the last one, or since the ring
+/// Whether the `i`-th reduction, from 1, is due if this many lemmas were learned since the last one, or since the ring
 /// began.
 pub fn due(learned_since: u64, i: u64) -> bool
     requires { 1 ≤ i }

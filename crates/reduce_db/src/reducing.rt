@@ -20,7 +20,7 @@ use watch_prop::Watches;
 /// left in `lemmas`, in their order.
 ///
 /// Clauses of two literals, those of glue at most 2 and reasons stay, and all that isn't among the lemmas. The lemmas are
-/// attached. Deletion lines come at `tidy`. Where memory runs out some may have been dropped, and nothing is known of the
+/// attached. Deletion lines come at `tidy`. If memory runs out some may have been dropped, and nothing is known of the
 /// watches and of the lemmas.
 pub fn reduce<P: Port>(
     alloc: Global,

@@ -22,7 +22,7 @@ pub fn store_word<B: Ledger>(table: &Shared<B>, pass: &mut Pass<B>, cell: Cref, 
         .store::<Stores>(pass, (cell.address + i) as usize, word);
 }
 
-/// Opens a cell, whose words behind the count are all stored: the pass's ring holds it once, with count 1.
+/// Opens a cell, whose words after the count are all stored: the pass's ring holds it once, with count 1.
 pub fn open_cell<B: Ledger>(table: &Shared<B>, pass: &mut Pass<B>, cell: Cref)
     requires pass { IsPassOf table.now pass.old }
     requires building { IsBuilding cell.address pass.old.me.0 }

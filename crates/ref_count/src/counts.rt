@@ -51,8 +51,8 @@ pub fn share<B: Ledger>(table: &Shared<B>, pass: &mut Pass<B>, cell: Cref)
         .fetch_add::<Shares>(pass, cell.address as usize, 1);
 }
 
-/// Gives one count of a cell up. It was the last one exactly where the step found 1; the cell then waits at the pass's
-/// ring and at no other, and nobody holds it; where there is no other ring it is the last one exactly where the ring held the
+/// Gives one count of a cell up. It was the last one exactly if the step found 1; the cell then waits at the pass's
+/// ring and at no other, and nobody holds it; if there is no other ring it is the last one exactly if the ring held the
 /// cell once. The ring has not the turn, since what a turn writes rests on what is held.
 pub fn drop_count<B: Ledger>(table: &Shared<B>, pass: &mut Pass<B>, cell: Cref) -> Dropped
     requires pass { IsPassOf table.now pass.old }

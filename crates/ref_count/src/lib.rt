@@ -2,7 +2,7 @@
 //! atomic step, `read_head` two; none waits for anybody, and none takes memory.
 //!
 //! A cell's count is the number of its holders, after Gimsatul (Fleury and Biere 2022). Whoever gives the last count up
-//! is told so, and the cell waits at that ring alone until it is deleted.
+//! is known so, and the cell waits at that ring alone until it is deleted.
 #![tactic(auto)]
 
 mod builds;

@@ -1,4 +1,4 @@
--- When a ring restarts: after numbers of conflicts by Luby's sequence, or where the glue of late was greater than on the whole.
+-- When a ring restarts: after numbers of conflicts by Luby's sequence, or if the glue of late was greater than on the whole.
 use Rattle.std.specs.Prelude.{ℕ, ◌≡◌, ◌↔◌, ◌^◌, ◌+◌, ◌*◌, ◌-◌, ◌<◌, ◌≤◌, ◌==◌, Bool, true, ◌&&◌, nat_le, nat_lt, if◌then◌else◌, List, [], ◌∷◌, ◌++◌, length, drop}
 use Rattle.std.specs.List.{sum}
 use Rattle.restart_plan.specs.Luby.{luby, luby_sum}
@@ -49,7 +49,7 @@ is_due r = if r.odd then is_due_odd r else is_due_even r
 abbrev pub restarted : Restarting → Restarting
 restarted r = record r { made = r.made + 1; since = 0; window = [] }
 
--- the restart is made where it is due
+-- the restart is made if it is due
 abbrev pub asked : Restarting → Restarting
 asked r = if is_due r then restarted r else r
 
@@ -61,17 +61,17 @@ pub record IsRestarting (r : Restarting) : Type 0 where
   pub low : r.sum ≤ 2 ^ 32 * r.count
   pub fits : r.count < 2 ^ 64
 
--- by Luby's sequence, where each lemma was followed by the question: each restart came after just as many lemmas as the
+-- by Luby's sequence, if each lemma was followed by the question: each restart came after just as many lemmas as the
 -- sequence says, and the next is not due yet
 pub record IsExact (r : Restarting) : Type 0 where
   pub odd : r.odd ≡ true
   pub all : luby_unit * luby_sum r.made + r.since ≡ r.count
   pub open_yet : r.since < luby_unit * luby (r.made + 1)
 
--- so many restarts are the most that this many lemmas allow by Luby's sequence
+-- this many restarts are the most that this many lemmas allow by Luby's sequence
 abbrev pub AreMost : (made count : ℕ) → Type 0
 AreMost made count = (k : ℕ) → (luby_unit * luby_sum k ≤ count) ↔ (k ≤ made)
 
--- the same where the last of the lemmas was not followed by the question
+-- the same if the last of the lemmas was not followed by the question
 abbrev pub AreMostBefore : (made count : ℕ) → Type 0
 AreMostBefore made count = (k : ℕ) → (luby_unit * luby_sum k < count) ↔ (k ≤ made)

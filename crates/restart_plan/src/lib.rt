@@ -1,5 +1,5 @@
 //! When a ring goes back to the start of its search: rings of odd number by Luby's sequence (Luby, Sinclair and
-//! Zuckerman 1993), those of even number where the glue of late is greater than on the whole (Glucose).
+//! Zuckerman 1993), those of even number if the glue of late is greater than on the whole (Glucose).
 #![tactic(auto)]
 
 mod laws;

@@ -1,4 +1,4 @@
-// When a ring restarts. Rings of odd number do so by Luby's sequence, each step of it 64 lemmas long; the others where the
+// When a ring restarts. Rings of odd number do so by Luby's sequence, each step of it 64 lemmas long; the others if the
 // mean glue of the last 50 lemmas since the last restart is greater than 10/8 of the mean of all (the fast and the slow
 // average of Glucose: Audemard and Simon 2012). Means are compared as products of whole numbers, in 128 bits.
 ghost use Rattle.std.specs.Prelude.{◌≡◌, ◌≤◌, ◌<◌, ◌^◌, ◌%◌, ◌-◌, ◌*◌, ◌==◌, IfOk, length, slice_index};
@@ -65,7 +65,7 @@ impl Restarts {
         self.count += 1;
     }
 
-    /// Whether a restart is due. Where it is, it counts as made: nothing has come since then. It takes no memory.
+    /// Whether a restart is due. If it is, it counts as made: nothing has come since then. It takes no memory.
     pub fn due(&mut self) -> bool
         ensures due { result ≡ is_due self.old }
         ensures asked { self.new ≡ asked self.old }

@@ -3,7 +3,7 @@ ghost use Rattle.std.specs.Prelude.{◌≤◌, ◌+◌};
 use crate::{Restarts, luby};
 use std::test::Fail;
 
-/// How many lemmas of this glue come up to the next restart, which is due; 0 where none is due after `most` lemmas.
+/// How many lemmas of this glue come up to the next restart, which is due; 0 if none is due after `most` lemmas.
 fn lemmas_to_restart(restarts: &mut Restarts, glue: u32, most: u32) -> u32
     requires { restarts.old.count ≤ 1000000 }
     ensures { restarts.new.count ≤ restarts.old.count + most }

@@ -1,6 +1,6 @@
 // Which variable is decided: the active variables stand in a queue in the order in which they were bumped, and the one
 // bumped last of those without a value comes next (variable move to front, as in Siege, and with stamps as in CaDiCaL: Biere
-// and Fröhlich 2015). Nothing rests on the queue but which variable is found: where it runs dry, all variables are looked
+// and Fröhlich 2015). Nothing rests on the queue but which variable is found: if it runs dry, all variables are looked
 // through, so that none is left out whatever the links say.
 ghost use Rattle.std.specs.Prelude.{◌≡◌, ◌↔◌, ◌≤◌, ◌<◌, ◌^◌, ◌+◌, ◌-◌, ℕ, not, length, slice_set, IfOk, IfSome, None, IsNone};
 ghost use Rattle.ring_trail.specs.TrailData.{value_of};
@@ -19,7 +19,7 @@ use std::marker::Model;
 /// given when it is decided.
 ///
 /// `before` and `behind` link the variables of the queue, and 0 is none; `search` is where the look for a variable without
-/// a value begins: none behind it is without one, as long as the ring saves the literals that lose their values.
+/// a value begins: none after it is without one, as long as the ring saves the literals that lose their values.
 /// `stamps` says when a variable was bumped last: greater is later.
 #[derive(Drop)]
 pub struct Decider {
@@ -74,7 +74,7 @@ impl Decider {
         Ok(decider)
     }
 
-    /// The next literal to be decided; none where every active variable has a value.
+    /// The next literal to be decided; none if every active variable has a value.
     pub fn next(&mut self, trail: &Trail) -> Option<Lit>
         requires vars { trail.now.vars ≡ length self.old.active }
         ensures some { IfSome result (IsDecided self.old trail.now.steps) }

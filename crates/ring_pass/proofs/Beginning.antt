@@ -34,7 +34,7 @@ own_begun p o none zero_is empty going fine = record {
   faulty_is = λ e. absurd (true≢false (sym (ap is_usable fine) ∙ e));
 }
 
--- where the start clauses are all that is held, each is found at its address
+-- if the start clauses are all that is held, each is found at its address
 pub starts_held : (v : View) (o : Own) → IsPort (port_of v o) → (port_of v o).start ≡ (port_of v o).held → HoldsStart (port_of v o)
 starts_held v o port same =
     let s : PortState = port_of v o in

@@ -126,7 +126,7 @@ deleted_free v w k r d e =
     let now : only w ≡ d.part = only_is w d.part d.parts in
     ((one_is w d.part d.parts, ap (λ (q : RingPart). q.turn) now ∙ d.turn), e ∙ sym (ap (λ (q : RingPart). q.core.ring) now ∙ ap (λ (c : Part). c.ring) d.core))
 
--- the ring's part behind one deletion
+-- the ring's part after one deletion
 abbrev buried_one : View → List Entry → ℕ → Option Refusal → Bool → RingPart
 buried_one v J a x failed = give_part v.opening (sheet_after v.opening (only v).core.ring (sheet_with J (only v)) (Bury a ∷ [])) x failed (only v)
 

@@ -48,7 +48,7 @@ use Rattle.ring_pass.proofs.TurnsHere.{mine_last, ring_turns, room_turns, units_
 
 -- Lists
 
--- the last one, where no other is at its address
+-- the last one, if no other is at its address
 pub last_found : (a : ℕ) (hs : List ClauseAt) (h : ClauseAt) → h.address ≡ a → times_at a hs ≡ 0 → clause_in a (hs ++ h ∷ []) ≡ h
 last_found a [] h e z = λ i. if eq-eqb h.address a e i then h else clause_in a []
 last_found a (x ∷ hs) h e z = dite (ℕ_discrete x.address a)

@@ -41,7 +41,7 @@ making_copy v s one h i =
     let p = part_of v s one in
     all_in (IsCopy s.core.cell) (s.core.part (only v).core.ring).making h (subst (λ (q : Part). In h q.making) p.part i) ((left_sound s.core.opening s.core s.left).copies.making (only v).core.ring p.ring)
 
--- where a cell is built nothing is held, and nothing waits
+-- if a cell is built nothing is held, and nothing waits
 module _ (v : View) (s : Seen v) (one : v.parts ≡ only v ∷ []) (h : ClauseAt) (i : In h (only v).core.making) where
   sound : Sound s.core
   sound = left_sound s.core.opening s.core s.left

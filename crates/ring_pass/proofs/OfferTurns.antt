@@ -1,4 +1,4 @@
--- That the next offer takes no memory, behind turns of the log and sights of units.
+-- That the next offer takes no memory, after turns of the log and sights of units.
 use Rattle.std.proofs.Common.{◌≡◌, ℕ, List, [], ◌∷◌, refl, ap, Option}
 use Rattle.sat_words.specs.Literal.{Literal}
 use Rattle.sat_words.specs.declared.shared.Cref.{Cref}

@@ -63,7 +63,7 @@ module _ (a : ℕ) (hs : List ClauseAt) (lt : 0 < times_at a hs) where
       let t = in_at b left (omega arith) in
       (t.0, t.1, left_in t.0 t.1, t.2)
 
--- the same is held where a list has what a put leaves, and what is held is in it
+-- the same is held if a list has what a put leaves, and what is held is in it
 module _ (p q : RingPart) (a : ℕ) (lt : 0 < times_at a p.core.held) (hs : List ClauseAt) (one : OneEach p.core.held) (each : OneEach hs) (in_left : (k : ClauseAt) → In k (left a p.core.held lt) → In k hs)
     (among : (k : ClauseAt) → In k q.core.held → In k hs) (times : (b : ℕ) → times_at b q.core.held ≡ times_at b p.core.held) (glues : (k : ClauseAt) → In k p.core.held → glue_in k.number q.glues ≡ glue_in k.number p.glues) where
   same_clause : (b : ℕ) → 0 < times_at b p.core.held → clause_in b q.core.held ≡ clause_in b p.core.held

@@ -69,14 +69,14 @@ map_slots (y ∷ ps) x = ap (λ (ks : List Slot). slot_of y ∷ ks) (map_slots p
 abbrev noted_part : (from class : ℕ) → RingPart → RingPart
 noted_part from class p = record p { polls = p.polls ++ record { from = from; class = class } ∷ [] }
 
--- where nothing came out
+-- if nothing came out
 none_part : (from class : ℕ) (h : ClauseAt) (g : ℕ) (p : RingPart) → h.address ≡ 0 → took_part from class h g p ≡ noted_part from class p
 none_part from class h g p zero_at = let at : (h.address == 0) ≡ true = eq-eqb h.address 0 zero_at in λ i. record (noted_part from class p) {
   core = record p.core { held = if at i then p.core.held else p.core.held ++ h ∷ [] };
   glues = if at i then p.glues else record { number = h.number; glue = g } ∷ p.glues;
 }
 
--- where a clause did
+-- if a clause did
 abbrev with_one : (from class : ℕ) → ClauseAt → ℕ → RingPart → RingPart
 with_one from class h g p = record (noted_part from class p) { core = record p.core { held = p.core.held ++ h ∷ [] }; glues = record { number = h.number; glue = g } ∷ p.glues }
 

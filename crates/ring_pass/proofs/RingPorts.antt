@@ -57,7 +57,7 @@ found_at gs (x ∷ hs) a h = dite (ℕ_discrete x.address a)
     let q = t.0 in
     (omega arith, here ∙ t.1 ∙ (λ i. Some (holding_of gs (if sym (ne_eqb x.address a ne) i then x else clause_in a hs)))))
 
--- where an address is held, a clause is found there
+-- if an address is held, a clause is found there
 some_at : (gs : List GlueAt) (hs : List ClauseAt) (a : ℕ) → 0 < times_at a hs → IsSome (find (λ h. h.address == a) (map (holding_of gs) hs))
 some_at gs [] a h = absurd (omega arith)
 some_at gs (x ∷ hs) a h = dite (ℕ_discrete x.address a)
@@ -65,7 +65,7 @@ some_at gs (x ∷ hs) a h = dite (ℕ_discrete x.address a)
     (λ ne. let z : one_if (x.address == a) ≡ 0 = ap one_if (ne_eqb x.address a ne) in
     subst (λ (b : Bool). IsSome (if b then Some (holding_of gs x) else find (λ k. k.address == a) (map (holding_of gs) hs))) (sym (ne_eqb x.address a ne)) (some_at gs hs a (omega arith)))
 
--- and none where it is not
+-- and none if it is not
 none_at : (gs : List GlueAt) (hs : List ClauseAt) (a : ℕ) → times_at a hs ≡ 0 → find (λ h. h.address == a) (map (holding_of gs) hs) ≡ None
 none_at gs [] a h = refl
 none_at gs (x ∷ hs) a h = dite (ℕ_discrete x.address a)
@@ -217,7 +217,7 @@ module _ (v : View) (s : Seen v) (one : v.parts ≡ only v ∷ []) where
         ring = subst (λ (q : CoreOpening). (only v).core.ring < q.rings) (sym s.opening) part_of.ring;
       }
 
--- there is a ring at least, and the layout tells how many there are
+-- there is a ring at least, and the layout says how many there are
 pub rings_here : (v : View) (s : Seen v) → v.parts ≡ only v ∷ [] → (1 ≤ v.opening.rings) × (v.layout.rings ≡ v.opening.rings)
 rings_here v s one =
     let same = ap (λ (o : CoreOpening). o.rings) s.opening in

@@ -117,7 +117,7 @@ rest_distinct zero xs d = d
 rest_distinct (suc n) [] d = d
 rest_distinct (suc n) (x ∷ xs) d = rest_distinct n xs (and_parts (not (has xs x)) (distinct_lits xs) d).1
 
--- one more behind them
+-- one more after them
 pub more_distinct : (xs : List Literal) (x : Literal) → distinct_lits xs ≡ true → has xs x ≡ false → distinct_lits (xs ++ x ∷ []) ≡ true
 more_distinct [] x d none = refl
 more_distinct (y ∷ xs) x d none =
@@ -139,7 +139,7 @@ more_distinct (y ∷ xs) x d none =
 
 -- Kept units
 
--- where none is kept, all that is seen was given or written
+-- if none is kept, all that is seen was given or written
 pub without_none : (ks seen : List Literal) → ks ≡ [] → without_kept ks seen ≡ seen
 without_none ks seen e = ap (λ (xs : List Literal). without_kept xs seen) e ∙ all seen
   where
@@ -252,7 +252,7 @@ saw_part x n p = see_part x (count_part n p)
 pub saw_parts : (v w : View) (x : Literal) (n : ℕ) → v.parts ≡ only v ∷ [] → w ≡ after_see x (after_count n v) → w.parts ≡ saw_part x n (only v) ∷ []
 saw_parts v w x n one is = ap (λ (u : View). u.parts) is ∙ ap (λ (ps : List RingPart). on_first (see_part x) (on_first (count_part n) ps)) one
 
--- where more are listed than were seen the ring has not caught up once more
+-- if more are listed than were seen the ring has not caught up once more
 pub saw_short : (v w : View) (x : Literal) (n k : ℕ) → v.parts ≡ only v ∷ [] → w ≡ after_see x (after_count n v) → k < n → k ≡ length (only v).core.seen → (only w).caught_up ≡ (only v).caught_up
 saw_short v w x n k one is lt e =
     ap (λ (q : RingPart). q.caught_up) (only_is w (saw_part x n (only v)) (saw_parts v w x n one is))

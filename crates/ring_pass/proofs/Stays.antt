@@ -78,7 +78,7 @@ port_stays {B} {t} {p} {n} {st} {o} q r pass looked =
 pub room_stays : (v w : View) (last : Option Cref) (ws : List Waiting) (room : ℕ) → OnlyLooked v w → HasRoom (only v) v.opening.rings last ws room → HasRoom (only w) w.opening.rings last ws room
 room_stays v w last ws room h r = subst (λ (p : RingPart). HasRoom p w.opening.rings last ws room) (sym (only_same v w h)) (subst (λ (o : CoreOpening). HasRoom (only v) o.rings last ws room) (sym h.opening) r)
 
--- where the ring has seen nothing more
+-- if the ring has seen nothing more
 pub units_keep : (v w : View) (seen : List Literal) (a b : ℕ) → (only w).core.seen ≡ (only v).core.seen → w.layout ≡ v.layout → HasUnits (only v) v.layout.vars seen a b → HasUnits (only w) w.layout.vars seen a b
 units_keep v w seen a b e l h = record {
   all = h.all ∙ sym e;
@@ -136,7 +136,7 @@ ring_changes {B} {t} {p} {n} {st} {o} q x o' r pass same opening is ring turn ho
       alone_is = λ lone f. alone (ap (λ (y : CoreOpening). y.rings) (sym opening) ∙ lone) (ap (λ (y : RingPart). y.failed) e ∙ f);
     }
 
--- where its part of the core stays, so does what is kept beside
+-- if its part of the core stays, so does what is kept beside
 pub own_stays : (p x : RingPart) (o : Own) (home : List ℕ) → x.core ≡ p.core → x.ended ≡ p.ended → x.failed ≡ p.failed → IsOwn p o → IsOwn x (record o { home = home })
 own_stays p x o home e end fail own = record {
   passed = own.passed;

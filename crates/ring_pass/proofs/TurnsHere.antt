@@ -54,7 +54,7 @@ use Rattle.ring_pass.proofs.Stays.{only_is, one_is, ring_changes, units_keep}
 
 -- The turn is taken
 
--- the pass's ring has it, with this journal, behind tries that missed it
+-- the pass's ring has it, with this journal, after tries that missed it
 pub record HasTurn (v w : View) (J : List Entry) (failed : Bool) : Type 0 where
   pub parts : w.parts ≡ take_part J failed (only v) ∷ []
   pub layout : w.layout ≡ v.layout
@@ -82,7 +82,7 @@ failed_taken {S} {d} {written} {flushed} {target} {faults} {v} {w} {t} {t'} J h 
     let told : (only w).failed ≡ t.book.log.lines.spent = ap (λ (p : RingPart). p.failed) (only_is w (take_part J t.book.log.lines.spent (only v)) has.parts) in
     turn.refused.1 (told ∙ h.taken.book.still before)
 
--- and a lone ring finds the book broken only where it was told so
+-- and a lone ring finds the book broken only if it was known so
 pub alone_taken : {S : Type 0} {d : Ghosts S} {written flushed target : S → Option (List ℕ)} {faults : S → ℕ} {v w : View} {t : Turn S d} → WasTaken written flushed target faults v w t → v.opening.rings ≡ 1 → t.book.log.lines.spent ≡ true → (only v).failed ≡ true
 alone_taken {S} {d} {written} {flushed} {target} {faults} {v} {w} {t} h lone e =
     ap (λ (ps : List RingPart). (slice_index_or ps 0 no_part).failed) (sym h.missed.parts) ∙ h.taken.book.alone (ap (λ (o : CoreOpening). o.rings) h.missed.opening ∙ lone) e
@@ -123,7 +123,7 @@ pub ring_turns : {B : Type 0} {t : Shared B} {p : Seat (Option B) View} {n : ℕ
     → q.me.0.opening ≡ p.me.0.opening → q.me.0.parts ≡ x ∷ [] → x.core.ring ≡ (only p.me.0).core.ring → x.turn ≡ None → o'.home ≡ home_of q → IsOwn x o' → (p.me.0.opening.rings ≡ 1 → x.failed ≡ true → is_usable o'.refused ≡ false) → IsRingPass t q n st o'
 ring_turns {B} {t} {p} {n} {st} {o} q x o' r pass id slots opening is ring turn home own alone = ring_changes q x o' r pass (id, slots ∙ sym r.slots) opening is ring (turn ∙ sym r.free) home own alone
 
--- its room is as it was, where nothing else waits and it wrote no less
+-- its room is as it was, if nothing else waits and it wrote no less
 pub room_turns : (v u : View) (x : RingPart) (last : Option Cref) (ws : List Waiting) (room : ℕ) → u.opening ≡ v.opening → u.parts ≡ x ∷ [] → x.core.waiting ≡ (only v).core.waiting → x.core.shared ≡ (only v).core.shared → length (only v).core.wrote ≤ length x.core.wrote
     → HasRoom (only v) v.opening.rings last ws room → HasRoom (only u) u.opening.rings last ws room
 room_turns v u x last ws room opening is waiting shared more m =
@@ -138,7 +138,7 @@ units_turns v u x seen a b layout is e m = units_keep v u seen a b (ap (λ (y : 
 
 -- Refusals
 
--- where nothing was written before
+-- if nothing was written before
 journal_taken : {S : Type 0} {d : Ghosts S} (v w : View) (t : Turn S d) (J : List Entry) (failed : Bool) → HasTurn v w J failed → t.noted.items ≡ [] → (sheet w t).journal ≡ J
 journal_taken v w t J failed h none = ap (λ (ns : List Note). (written_of w ns).journal) none ∙ ap (λ (s : Sheet). s.journal) (sheet_taken v w J failed [] h)
 
@@ -185,7 +185,7 @@ port_going v o J own k going = by o.ended own.ended_is
     by true h = absurd (true≢false (sym (h refl) ∙ not_ended v J k going))
     by false h = refl
 
--- The port, where the turn wrote nothing
+-- The port, if the turn wrote nothing
 
 pub refused_here : (v u : View) (o : Own) (e : TurnStop) (home : List ℕ) → IsOwn (only v) o → WroteNone v u e → home ≡ o.home
     → Refused (port_of v o) (port_of u (record o { refused = refused_after e o.refused; ended = ended_after e o.ended; home = home })) (port_stop e)
@@ -308,11 +308,11 @@ wrote_none {S} {d} {written} {flushed} {target} {faults} {v} {w} {t} {t'} u e on
       alone = λ lone f quiet. alone_taken h lone (ap (λ k. k.spent) (sym (r.alike (λ q. true≢false (sym (ap (λ (y : TurnStop). is_fault (port_stop y)) q) ∙ quiet))).lines) ∙ f);
     }
 
--- a reduction may be noted where the ring has learned enough
+-- a reduction may be noted if the ring has learned enough
 pub may_reduce : (v : View) (J : List Entry) → KnowsJournal v J → LEARNED_PER_REDUCTION ≤ length (recent (only v).core.ring (entries_of (only v))) → LEARNED_PER_REDUCTION ≤ length (recent (only v).core.ring J)
 may_reduce v J k h = subst (λ (cs : List (List Literal)). LEARNED_PER_REDUCTION ≤ length cs) (sym k.recent_is) h
 
--- a unit may be added where it is fresh to the ring's own entries
+-- a unit may be added if it is fresh to the ring's own entries
 pub may_add_unit : (v : View) (J : List Entry) (kind : Kind) (lit : Literal) → KnowsJournal v J → MayAddUnit v.opening (entries_of (only v)) (only v).core (only v).core.ring kind (lit ∷ []) → MayAddUnit v.opening J (only v).core (only v).core.ring kind (lit ∷ [])
 may_add_unit v J Ruler lit k h = h
 may_add_unit v J Learn lit k h = (λ i. not (list_any (includes (lit ∷ [])) (start_clauses (opening_of v.opening) ++ k.recent_is i))) ∙ h

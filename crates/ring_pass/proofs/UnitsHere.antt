@@ -49,7 +49,7 @@ use Rattle.ring_pass.proofs.Units.{filter_In, In_filter, head_else}
 
 -- The line
 
--- the ring's part behind it
+-- the ring's part after it
 abbrev pub unit_line : View → List Entry → Kind → Literal → Option Refusal → Bool → RingPart
 unit_line v J kind lit x failed = give_part v.opening (sheet_after v.opening (only v).core.ring (sheet_with J (only v)) (UnitNote kind lit ∷ [])) x failed (only v)
 
@@ -314,7 +314,7 @@ one_more y ys zs k f e = by (same k y) e
     by true h = refl
     by false h = f h
 
--- behind another one
+-- after another one
 later_out : (n : ℕ) (x y : Literal) (ys zs : List Literal) → has ys y ≡ false → In x ys → LeftOut n x ys zs → LeftOut 0 x ys zs → LeftOut 0 x (y ∷ ys) (y ∷ zs)
 later_out n x y ys zs none i l m = record {
   front = refl;

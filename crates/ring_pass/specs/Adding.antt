@@ -18,7 +18,7 @@ clause_with address number lits = record { address = address; number = number; l
 abbrev pub placed_line : (place ring number : ℕ) → List Literal → Kind → Placed
 placed_line place ring number lits kind = record { place = place; entry = Add (record { ring = ring; number = number; lits = lits; kind = kind }) }
 
--- the ring holds a clause that it added, at an address where nothing stood that it knows, under a number of its own; no write
+-- the ring holds a clause that it added, at an address if nothing stood that it knows, under a number of its own; no write
 -- has failed
 pub record Added (v w : View) (kind : Kind) (lits : List Literal) (glue a : ℕ) : Type 0 where
   pub number : ℕ

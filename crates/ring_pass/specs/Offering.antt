@@ -12,7 +12,7 @@ use Rattle.ring_pass.specs.declared.spares.Spares.{Spares}
 use Rattle.ring_pass.specs.declared.waiting.Waiting.{Waiting}
 use Rattle.ring_pass.specs.RingState.{AreWaiting, IsBuffer, AreShort}
 
--- the rings below n but for this one, in order
+-- the rings below n except for this one, in order
 abbrev pub others : (ring n : ℕ) → List ℕ
 others ring n = filter (λ r. not (r == ring)) (range_with_len 0 n)
 

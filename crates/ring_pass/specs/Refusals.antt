@@ -1,4 +1,4 @@
--- How a refusal of the log's turn is told.
+-- How a refusal of the log's turn is known.
 use Rattle.std.specs.Prelude.{Bool, true, Option, Some}
 use Rattle.log_book.specs.declared.stop.TurnStop.{TurnStop}
 use Rattle.log_book.specs.declared.stop.TurnStop.TheVariants.{Ended, Broken, NoHole, Memory, ProofFault}
@@ -21,7 +21,7 @@ refused_after (NoHole need most) old = Some (port.NoHole (record { need = need; 
 refused_after Memory old = old
 refused_after ProofFault old = Some port.ProofFault
 
--- the log is ended where it says so
+-- the log is ended if it says so
 abbrev pub ended_after : TurnStop → Bool → Bool
 ended_after Ended old = true
 ended_after Broken old = old

@@ -29,7 +29,7 @@ use Rattle.ring_pass.specs.declared.waiting.Waiting.{Waiting}
 -- What the ring keeps beside its pass
 
 pub record Own : Type 0 where
-  -- the listed units that it has seen, in order, but for those that it wrote before they were given
+  -- the listed units that it has seen, in order, except for those that it wrote before they were given
   pub arrived : List Literal
   -- how many of them `next_unit` gave, the first ones
   pub passed : ℕ
@@ -37,7 +37,7 @@ pub record Own : Type 0 where
   pub last : Option Cref
   -- how often it looked for a clause of another ring
   pub polled : ℕ
-  -- the last answer that refused, but for want of memory
+  -- the last answer that refused, except for want of memory
   pub refused : Option PortStop
   -- what it has taken from other rings since its last Reduce entry
   pub taken : List Cref
@@ -70,7 +70,7 @@ stop_as s = record { kind = s.kind; ring = s.ring }
 abbrev pub without_kept : List Literal → List Literal → List Literal
 without_kept ks seen = filter (λ l. not (has ks l)) seen
 
--- the port, where the pass's ring has this part
+-- the port, if the pass's ring has this part
 abbrev pub port_with : View → RingPart → Own → PortState
 port_with v p o = record {
   held = map (holding_of p.glues) p.core.held;
@@ -109,7 +109,7 @@ home_of p = p.me.0.layout.rings ∷ p.me.0.layout.vars ∷ p.me.0.layout.words �
 
 -- What is kept of it
 
--- what is kept beside the pass is so: no unit arrived twice, each is seen, what was taken is held, the log is ended where the
+-- what is kept beside the pass is so: no unit arrived twice, each is seen, what was taken is held, the log is ended if the
 -- port says so, and where it was refused for a fault the ring was told that a write of the log has failed
 pub record IsOwn (p : RingPart) (o : Own) : Type 0 where
   pub passed : o.passed ≤ length o.arrived

@@ -12,7 +12,7 @@ use Rattle.share_rule.specs.Turns.{IsWriting, journal_in}
 use Rattle.share_rule.specs.Views.{only}
 use Rattle.ring_pass.specs.Writes.{entries_of}
 
--- more are listed than were seen; one more is seen, and is kept behind those that arrived
+-- more are listed than were seen; one more is seen, and is kept after those that arrived
 pub record SawOne (v w : View) (seen seen' arrived arrived' : List Literal) (lit : Literal) : Type 0 where
   pub listed : ℕ
   pub view : w ≡ after_see lit (after_count listed v)
@@ -28,7 +28,7 @@ pub record SawAll (v w : View) (count : ℕ) (seen seen' arrived arrived' : List
   pub seen_is : seen' ≡ seen
   pub arrived_is : arrived' ≡ arrived
 
--- some more are seen, and kept behind those that arrived
+-- some more are seen, and kept after those that arrived
 pub record SawNews (v w : View) (seen' arrived arrived' : List Literal) : Type 0 where
   pub news : List Literal
   pub part : RingPart
@@ -51,7 +51,7 @@ pub record SawNews (v w : View) (seen' arrived arrived' : List Literal) : Type 0
   pub distinct : distinct_lits arrived' ≡ true
   pub told : All (λ l. has part.core.seen l ≡ true) arrived'
 
--- all listed units are seen, of which the ring knows the number; it knows that it is all of them where it has the turn
+-- all listed units are seen, of which the ring knows the number; it knows that it is all of them if it has the turn
 pub record SawRest (v w : View) (seen' arrived arrived' : List Literal) : Type 0 where
   pub saw : SawNews v w seen' arrived arrived'
   pub whole : (only w).whole ≡ is_some (only v).turn

@@ -23,12 +23,12 @@ entries_of p = map (λ (e : Placed). e.entry) p.core.wrote
 abbrev pub sheet_with : List Entry → RingPart → Sheet
 sheet_with J p = record { journal = J; part = p.core; glues = p.glues }
 
--- the log is ended where the ring knows it to be; of what it learned lately its own entries tell
+-- the log is ended if the ring knows it to be; of what it learned lately its own entries tell
 pub record KnowsJournal (v : View) (J : List Entry) : Type 0 where
   pub ended_is : (only v).ended ≡ true → ended v.opening.formula J ≡ true
   pub recent_is : recent (only v).core.ring J ≡ recent (only v).core.ring (entries_of (only v))
 
--- the ring found this journal and wrote these notes; it waits for nobody any more; it is told whether a write of the log has
+-- the ring found this journal and wrote these notes; it waits for nobody any more; it is known whether a write of the log has
 -- failed, and that stays so
 pub record GaveTurn (v w : View) (J : List Entry) (ns : List Note) (x : Option Refusal) (failed : Bool) : Type 0 where
   pub parts : w.parts ≡ give_part v.opening (sheet_after v.opening (only v).core.ring (sheet_with J (only v)) ns) x failed (only v) ∷ []
@@ -56,7 +56,7 @@ IsWhy o J (NoHole need most) = (ended o.formula J ≡ false) × (most < need)
 IsWhy o J Memory = ended o.formula J ≡ false
 IsWhy o J ProofFault = ended o.formula J ≡ false
 
--- it wrote none; where the refusal is a fault a write of the log has failed, and where it is none a lone ring is told of no
+-- it wrote none; if the refusal is a fault a write of the log has failed, and where it is none a lone ring is told of no
 -- new failed write
 pub record WroteNone (v w : View) (e : TurnStop) : Type 0 where
   pub journal : List Entry

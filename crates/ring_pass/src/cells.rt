@@ -26,7 +26,7 @@ fn word_of(number: u64, glue: u32, lits: &[Lit], i: u64) -> u64
     lit_word(lits, (i - 3) as usize)
 }
 
-/// Stores all words of a cell that the ring builds, but for its count.
+/// Stores all words of a cell that the ring builds, except for its count.
 pub(crate) fn store_cell<B: Ledger>(
     table: &Shared<B>,
     pass: &mut Pass<B>,

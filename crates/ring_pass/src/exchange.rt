@@ -11,7 +11,7 @@ use ring_port::{Gate, PortStop};
 use sat_words::Cref;
 
 impl<'a, S: Sink, G: Gate, H> RingPass<'a, S, G, H> {
-    /// Takes the clause of a class that another ring has put for this one, which is held from then on. None exactly where the
+    /// Takes the clause of a class that another ring has put for this one, which is held from then on. None exactly if the
     /// slot of that ring for this class was empty. It is refused for want of memory alone, before it looks.
     pub fn poll(&mut self, from: u32, class: u8) -> Result<Option<Cref>, PortStop>
         requires other { from ≢ self.old.ring }

@@ -20,7 +20,7 @@ use sat_words::{Cref, Lit};
 use std::alloc::{AllocError, Global};
 use std::sync::Wait;
 
-/// So many empty buffers, each for so many literals.
+/// So many empty buffers, each for this many literals.
 fn empty_buffers(alloc: Global, count: usize, size: usize) -> Result<Vec<Vec<Lit>>, AllocError>
     ensures { IfOk result (λ bs. All (IsBuffer size) bs.items × (length bs.items ≡ count)) }
 {
@@ -33,7 +33,7 @@ fn empty_buffers(alloc: Global, count: usize, size: usize) -> Result<Vec<Vec<Lit
     Ok(buffers)
 }
 
-/// Makes sure of so many buffers, each for so many literals and for no fewer than before. Where memory runs out all stays as
+/// Makes sure of this many buffers, each for this many literals and for no fewer than before. Where memory runs out all stays as
 /// it was.
 fn make_spares(
     alloc: Global,

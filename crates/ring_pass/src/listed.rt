@@ -17,7 +17,7 @@ use std::sync::Wait;
 
 impl<'a, S: Sink, G: Gate, H> RingPass<'a, S, G, H> {
     /// The next unit that this ring has not been given: one that was seen before and kept, or else the next that is listed.
-    /// None exactly where none is kept and as many units are listed, by the count that was read, as the ring has seen.
+    /// None exactly if none is kept and as many units are listed, by the count that was read, as the ring has seen.
     pub fn next_unit(&mut self) -> Option<Lit>
         ensures took { Took self.old self.new result }
         ensures log { KeepsLog self.old self.new }
@@ -40,7 +40,7 @@ impl<'a, S: Sink, G: Gate, H> RingPass<'a, S, G, H> {
 }
 
 impl<'a, S: Sink, G: Gate, H: Wait> RingPass<'a, S, G, H> {
-    /// Writes the line of a literal that propagation made true for good, and tells the other rings. The line is written in one
+    /// Writes the line of a literal that propagation made true for good, and says the other rings. The line is written in one
     /// turn; in a second one all listed units are seen, and this one is listed unless another ring has done so.
     pub fn unit(&mut self, lit: Lit) -> Result<(), PortStop>
         requires usable { is_usable self.old.refused ≡ true }

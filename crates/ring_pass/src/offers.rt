@@ -24,7 +24,7 @@ use share_rule::{Ledger, Pass, Shared};
 /// What a ring offers, and whom it tells of it.
 #[derive(Drop)]
 struct Offering<'a, G> {
-    /// Who is told.
+    /// Who is known.
     gate: &'a G,
     /// The ring.
     ring: u32,
@@ -36,7 +36,7 @@ struct Offering<'a, G> {
     class: u8,
 }
 
-/// Gives up the count of a clause that came back. Where nobody holds it any more it waits, with its number and its literals,
+/// Gives up the count of a clause that came back. If nobody holds it any more it waits, with its number and its literals,
 /// which are read before.
 fn give_back<B: Ledger, G: Gate>(
     table: &Shared<B>,
@@ -152,7 +152,7 @@ fn put_for_all<B: Ledger, G: Gate>(
 }
 
 impl<'a, S: Sink, G: Gate, H> RingPass<'a, S, G, H> {
-    /// Puts the clause that was learned last where each other ring may get it, once for each, and answers for how many. A
+    /// Puts the clause that was learned last if each other ring may get it, once for each, and answers for how many. A
     /// clause that it takes the place of is held once less. What is offered stays held.
     pub fn offer(&mut self, c: Cref) -> u64
         requires held { IsSome (held_at self.old c.address) }

@@ -134,7 +134,7 @@ impl<'a, S: Sink, G: Gate, H> RingPass<'a, S, G, H> {
     }
 
     /// The pass, at the end. What is known of the port is known of the pass, which is of the same table as the other one. A
-    /// lone ring was told of a failed write exactly where the port was refused for a fault.
+    /// lone ring was told of a failed write exactly if the port was refused for a fault.
     pub fn into_pass(self, table: &Shared<Book<S>>, _other: &Pass<Book<S>>) -> Pass<Book<S>>
         requires other { IsPassOf table.now _other.now }
         requires home { self.home ≡ home_of _other.now }

@@ -6,7 +6,7 @@ use log_book::TurnStop;
 use ring_port::PortStop;
 use sat_words::NoRoom;
 
-/// Keeps a refusal of the turn, and that the log is ended where it says so, and gives it as the port tells it. Want of memory
+/// Keeps a refusal of the turn, and that the log is ended if it says so, and gives it as the port tells it. Want of memory
 /// leaves no trace.
 pub(crate) fn refuse(refused: &mut Option<PortStop>, ended: &mut bool, stop: TurnStop) -> PortStop
     ensures stop { result ≡ port_stop stop }

@@ -15,7 +15,7 @@ use share_rule::{Ledger, Pass, Shared};
 use std::alloc::Global;
 use std::sync::Wait;
 
-/// Sees the next listed unit, and keeps it behind those that arrived. None where all listed units are seen.
+/// Sees the next listed unit, and keeps it after those that arrived. None if all listed units are seen.
 pub(crate) fn see_next<B: Ledger>(
     table: &Shared<B>,
     pass: &mut Pass<B>,

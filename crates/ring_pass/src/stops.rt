@@ -31,7 +31,7 @@ impl<'a, S: Sink, G: Gate, H> RingPass<'a, S, G, H> {
         stop_word::look(self.table, &mut self.pass)
     }
 
-    /// Sets this ring's stop, one of the kinds from `STOP_SAT` to `STOP_MEMORY`, where none stands.
+    /// Sets this ring's stop, one of the kinds from `STOP_SAT` to `STOP_MEMORY`, if none stands.
     pub fn stop(&mut self, kind: u8) -> Set
         requires low { STOP_SAT ≤ kind }
         requires high { kind ≤ STOP_MEMORY }

@@ -163,7 +163,7 @@ module _ (F : List (List Literal)) (vars : ℕ) (ss : List (ℕ × List Literal)
       among x (inl m) = Contains_In (placed_from 0 ss) x m
       among x (inr m) = absurd (let lt = m.1 in omega arith)
 
--- each clause is found at its address, where no two have one
+-- each clause is found at its address, if no two have one
 found_apart : (hs : List Holding) → AreApart hs → (k : ℕ) (d : Holding) → k < length hs → find (λ h. h.address == (get_or hs k d).address) hs ≡ Some (get_or hs k d)
 found_apart [] apart k d lt = absurd (omega arith)
 found_apart (h ∷ hs) apart zero d lt = ap (λ b. cond b (Some h) (find (λ x. x.address == h.address) hs)) (eq-eqb h.address h.address refl)
@@ -192,7 +192,7 @@ all_held_same old new h start held waiting end = record {
   end = end ∙ h.end ∙ ap (λ hs. words_of (pairs_of hs)) (sym start);
 }
 
--- a store that has one more behind all others
+-- a store that has one more after all others
 pub start_more : (old new : StoreData) → AreAllHeld old → (s : ℕ × List Literal) → new.start ≡ old.start ++ record { address = old.end; number = s.0; glue = 0; lits = s.1 } ∷ [] → new.start ≡ placed_from 0 (pairs_of old.start ++ s ∷ [])
 start_more old new h s start = kept_one (pairs_of old.start) s old.start new.start old.end h.placed h.end start
 

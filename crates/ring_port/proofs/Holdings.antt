@@ -45,7 +45,7 @@ All_In P [] x all h = absurd h
 All_In P (y ∷ ys) x all (inl e) = subst P e (all 0 y (omega arith))
 All_In P (y ∷ ys) x all (inr h) = All_In P ys x (λ k d lt. all (suc k) d (omega arith)) h
 
--- the clause at an address where one is held
+-- the clause at an address if one is held
 pub holding : (s : PortState) (a : ℕ) → IsSome (held_at s a) → (h : Holding) × In h s.held × (h.address ≡ a) × (held_at s a ≡ Some h)
 unfolding held_at
 holding s a h = let t = found (λ k. k.address == a) s.held h in (t.it, t.among, eqb-true t.it.address a t.passes, t.is)

@@ -150,7 +150,7 @@ module _ (o : Origin) (s : PortState) (h : StandsOver o s) (ring : s.ring ≡ 0)
       by (inr x) (inl y) = absurd (let lt = kept_below b y in let e = ap (λ (k : Holding). k.number) x in omega arith)
       by (inr x) (inr y) = sym x ∙ y
 
-  -- what was told stays told
+  -- what was known stays told
   pub told_next : (l : Literal) → is_told F J l ≡ true → is_told F grown l ≡ true
   told_next l t = subst (λ (K : List Entry). is_told F K l ≡ true) (sym grown_is) (told_more F J (Add x ∷ []) l t)
 
@@ -165,7 +165,7 @@ module _ (o : Origin) (s : PortState) (h : StandsOver o s) (ring : s.ring ≡ 0)
   pub ended_stays : is_empty lits ≡ false → ended F grown ≡ ended F J
   ended_stays some = ended_next ∙ ap (λ b. ended F J || b) some ∙ or_none (ended F J)
 
-  -- the unit that is added is told
+  -- the unit that is added is known
   pub told_here : (l : Literal) → lits ≡ l ∷ [] → is_told F grown l ≡ true
   told_here l unit =
       ap (λ K. list_any (same_set (l ∷ [])) (F ++ added K)) grown_is

@@ -120,7 +120,7 @@ written_clause vs a number glue lits few on first second words =
     let all : lits_of vs a ≡ lits = ap (λ (n : ℕ). map (λ i. lit_at vs a i) (range_with_len 0 n)) size ∙ sym (fill_by_all (λ i. lit_at vs a i) lits (length lits) d refl each) in
     ((λ i. record { address = a; number = first i; glue = high i; lits = all i }), size)
 
--- words with a head, and literals behind it
+-- words with a head, and literals after it
 pub put_written : (ws vs : List ℕ) (a number glue head : ℕ) (lits : List Literal) → length lits < 2 ^ 32 → All (IsOn (2 ^ 30)) lits → a + words_for (length lits) ≤ length ws → head ≡ pair_of (length lits) glue
     → length vs ≡ length (set (set (set ws a 1) (a + 1) number) (a + 2) head) → ((j : ℕ) → j < (length lits + 1) / 2 → word_at vs (a + 3 + j) ≡ lit_word lits j)
     → ((w : ℕ) → (w < a + 3) ⊎ (a + 3 + (length lits + 1) / 2 ≤ w) → word_at vs w ≡ word_at (set (set (set ws a 1) (a + 1) number) (a + 2) head) w) → IsWritten ws vs a number glue lits
@@ -148,7 +148,7 @@ put_written ws vs a number glue head lits few on fits is long there others =
 
 -- Words that were claimed
 
--- the end of all words is a claim of words behind them
+-- the end of all words is a claim of words after them
 pub grown_claim : (ws vs : List ℕ) (hs : List Hole) (need : ℕ) → ((w : ℕ) → is_free hs w ≡ true → w < length ws) → length vs ≡ length ws + need → ((w : ℕ) → w < length ws → word_at vs w ≡ word_at ws w) → IsClaim ws vs hs hs (length ws) need
 grown_claim ws vs hs need inside long same = record {
   fits = omega arith;

@@ -40,7 +40,7 @@ position_none {X} p xs x none i = at (p x) refl
         let some : position p xs ≡ Some (prefix_len (λ y. not (p y)) xs) = ap (λ b. cond b (Some (prefix_len (λ y. not (p y)) xs)) None) (lt-ltb (prefix_len (λ y. not (p y)) xs) (length xs) less) in
         absurd (cc (sym none ∙ some))
 
--- where every unit left was written, all are seen
+-- if every unit left was written, all are seen
 pub none_left : (n : ℕ) (opening written : List Literal) → position (λ l. not (has written l)) (drop n opening) ≡ None
     → (l : Literal) → has opening l ≡ true → has (take n opening ++ written) l ≡ true
 none_left n opening written none l h =

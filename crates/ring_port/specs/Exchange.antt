@@ -1,4 +1,4 @@
--- What a port does where rings hand each other clauses.
+-- What a port does if rings hand each other clauses.
 use Rattle.std.specs.Prelude.{◌≡◌, ℕ, ◌+◌, ◌≤◌, ◌==◌, count_by, ◌&&◌, not, nat_le, List, [], ◌∷◌, ◌++◌, if◌then◌else◌, map, filter, length, Option, Some, None, Result, Ok, Err}
 use Rattle.std.specs.List.{range_with_len}
 use Rattle.std.specs.Option.{option_and_then}
@@ -9,7 +9,7 @@ use Rattle.ring_port.specs.PortState.{Holding, Offer, PortState, IsKept, held_at
 
 -- Classes
 
--- the class of a clause of this size and glue: 0 where it has two literals; where it has more, 1 for glue 1, 2 for glue 2 and 3 for
+-- the class of a clause of this size and glue: 0 if it has two literals; if it has more, 1 for glue 1, 2 for glue 2 and 3 for
 -- glue 3 to 6; all others have none
 abbrev pub class_of : (size glue : ℕ) → Option ℕ
 class_of size glue =
@@ -52,7 +52,7 @@ pub record Offered (old new : PortState) (class address : ℕ) : Type 0 where
     last = None;
   }
 
--- what `offer` did, where the clause has a class
+-- what `offer` did, if the clause has a class
 abbrev pub OfferedAs : PortState → PortState → Option ℕ → ℕ → Type 0
 OfferedAs old new None address = ⊥
 OfferedAs old new (Some class) address = Offered old new class address

@@ -105,7 +105,7 @@ starts_of ss = map (λ s. record { number = s.0; lits = s.1 }) ss
 abbrev pub pairs_of : List Holding → List (ℕ × List Literal)
 pairs_of hs = map (λ (h : Holding). (h.number, h.lits)) hs
 
--- the start clauses, one behind the other from word a on
+-- the start clauses, one after the other from word a on
 abbrev pub placed_from : ℕ → List (ℕ × List Literal) → List Holding
 placed_from a [] = []
 placed_from a (s ∷ ss) = record { address = a; number = s.0; glue = 0; lits = s.1 } ∷ placed_from (a + words_for (length s.1)) ss
@@ -115,7 +115,7 @@ abbrev pub words_of : List (ℕ × List Literal) → ℕ
 words_of [] = 0
 words_of (s ∷ ss) = words_for (length s.1) + words_of ss
 
--- the clauses of a store are start clauses with glue 0, one behind the other in all of its words, and none was dropped
+-- the clauses of a store are start clauses with glue 0, one after the other in all of its words, and none was dropped
 pub record AreAllHeld (store : StoreData) : Type 0 where
   pub placed : store.start ≡ placed_from 0 (pairs_of store.start)
   pub held : store.held ≡ store.start

@@ -59,7 +59,7 @@ after_refusal s output ProofFault = record s { refused = Some ProofFault; output
 after_refusal s output (NoHole lack) = record s { refused = Some (NoHole lack) }
 after_refusal s output Memory = s
 
--- a log that is ended is answered before anything else, but for want of memory; there is no hole where more is needed than
+-- a log that is ended is answered before anything else, except for want of memory; there is no hole if more is needed than
 -- the largest has
 abbrev pub HasReason : PortState → PortStop → Type 0
 HasReason s Ended = ⊤
@@ -192,7 +192,7 @@ EmptyWritten old new (Err stop) = Refused old new stop
 
 -- Units and stops
 
--- the unit was not seen before and is now, and one fewer may come; where some were kept it is one of them
+-- the unit was not seen before and is now, and one fewer may come; if some were kept it is one of them
 pub record TookUnit (old new : PortState) (l : Literal) : Type 0 where
   pub fresh : has old.seen l ≡ false
   pub sees : Sees old.seen new.seen l
@@ -210,7 +210,7 @@ abbrev pub Took : PortState → PortState → Option Literal → Type 0
 Took old new None = TookNone old new
 Took old new (Some l) = TookUnit old new l
 
--- the stop is the one seen before; where none was seen it is another ring's
+-- the stop is the one seen before; if none was seen it is another ring's
 abbrev pub Stands : PortState → Stop → Type 0
 Stands old x = MatchOption old.stop (x.ring ≢ old.ring) (λ y. x ≡ y)
 
@@ -219,7 +219,7 @@ abbrev pub Looked : PortState → PortState → Option Stop → Type 0
 Looked old new None = (old.stop ≡ None) × (new ≡ record old { looks = one_more old.looks })
 Looked old new (Some x) = Stands old x × (new ≡ record old { stop = Some x })
 
--- what `stop` did: the ring's stop stands where none stood; else what stands is told
+-- what `stop` did: the ring's stop stands where none stood; else what stands is known
 abbrev pub SetStop : PortState → PortState → ℕ → Set → Type 0
 SetStop old new kind Won = (old.stop ≡ None) × (new ≡ record old { stop = Some (record { kind = kind; ring = old.ring }) })
 SetStop old new kind (Lost x) = Stands old x × (new ≡ record old { stop = Some x })

@@ -12,20 +12,20 @@ use Rattle.rup_model.specs.Opening.{IsLong}
 use Rattle.drat_text.specs.LineState.{LineState}
 use Rattle.ring_port.specs.declared.stops.PortStop.{PortStop}
 
--- a clause where it is held: its address, its number in the log, its glue and its literals in their order
+-- a clause if it is held: its address, its number in the log, its glue and its literals in their order
 pub record Holding : Type 0 where
   pub address : ℕ
   pub number : ℕ
   pub glue : ℕ
   pub lits : List Literal
 
--- a clause that was put where another ring may get it: for which ring, in which class, and its address
+-- a clause that was put if another ring may get it: for which ring, in which class, and its address
 pub record Offer : Type 0 where
   pub ring : ℕ
   pub class : ℕ
   pub address : ℕ
 
--- where another ring may have put a clause for this one: the other ring, and the class
+-- if another ring may have put a clause for this one: the other ring, and the class
 pub record Slot : Type 0 where
   pub ring : ℕ
   pub class : ℕ
@@ -55,7 +55,7 @@ pub record PortState : Type 0 where
   pub shared : ℕ
   -- how often it has looked for a clause of another ring, up to the last count of 64 bits
   pub polled : ℕ
-  -- where it looked each time, in order
+  -- if it looked each time, in order
   pub polls : List Slot
   -- what it has put for other rings, in order
   pub puts : List Offer
@@ -73,13 +73,13 @@ pub record PortState : Type 0 where
   pub stop : Option Stop
   -- how often the ring has looked for a stop and found none
   pub looks : ℕ
-  -- the last answer that refused, but for want of memory
+  -- the last answer that refused, except for want of memory
   pub refused : Option PortStop
   -- the empty clause stands in the log
   pub ended : Bool
-  -- its line output, where the port has one of its own
+  -- its line output, if the port has one of its own
   pub output : Option LineState
-  -- the name of what the port stands on, where rings share something
+  -- the name of what the port stands on, if rings share something
   pub home : List ℕ
 
 -- Looking up
@@ -88,19 +88,19 @@ pub record PortState : Type 0 where
 unfoldable pub held_at : PortState → ℕ → Option Holding
 held_at s a = find (λ h. h.address == a) s.held
 
--- the literals of a clause, where there is one
+-- the literals of a clause, if there is one
 abbrev pub lits_in : Option Holding → List Literal
 lits_in h = option_map_or (λ k. k.lits) h []
 
--- the literals of the clause at an address; none where no clause is held there
+-- the literals of the clause at an address; none if no clause is held there
 abbrev pub lits_at : PortState → ℕ → List Literal
 lits_at s a = lits_in (held_at s a)
 
--- the literals of the clause at an address, where one is held there
+-- the literals of the clause at an address, if one is held there
 abbrev pub clause_at : PortState → ℕ → Option (List Literal)
 clause_at s a = option_map (λ h. h.lits) (held_at s a)
 
--- one more, where it is not the last count of 64 bits
+-- one more, if it is not the last count of 64 bits
 abbrev pub one_more : ℕ → ℕ
 one_more n = min (n + 1) (2 ^ 64 - 1)
 

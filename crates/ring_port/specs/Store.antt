@@ -10,7 +10,7 @@ use Rattle.ring_port.specs.PortState.{Holding}
 
 -- Reading words
 
--- the word at a place, 0 where there is none
+-- the word at a place, 0 if there is none
 abbrev pub word_at : List ℕ → ℕ → ℕ
 word_at ws w = slice_index_or ws w 0
 
@@ -88,7 +88,7 @@ abbrev pub without_ref : List Cref → ℕ → List Cref
 without_ref [] a = []
 without_ref (c ∷ cs) a = if nat_eq c.address a then cs else c ∷ without_ref cs a
 
--- so many words from a on were taken: they are there, of the words that there were those were free, and none of them is free any
+-- this many words from a on were taken: they are there, of the words that there were those were free, and none of them is free any
 -- more; other words that are free were free, and all words have what they had
 pub record IsClaim (ws vs : List ℕ) (hs ks : List Hole) (a need : ℕ) : Type 0 where
   pub fits : a + need ≤ length vs

@@ -2,7 +2,7 @@
 ghost use Rattle.std.specs.Prelude.{◌≡◌};
 ghost use Rattle.ring_port.specs.Exchange.{class_of};
 
-/// The class of a clause with so many literals and this glue, from 0, the best: 0 for two literals; for more 1 and 2 are
+/// The class of a clause with this many literals and this glue, from 0, the best: 0 for two literals; for more 1 and 2 are
 /// their glue, and 3 is a glue of 3 to 6. All others have none, and are not offered.
 pub fn class_of(size: u32, glue: u32) -> Option<u8>
     ensures { result ≡ class_of size glue }

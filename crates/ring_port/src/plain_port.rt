@@ -79,7 +79,7 @@ impl<L: LineOut> Model for PlainPort<L> {
 
 impl<L: LineOut> PlainPort<L> {
     /// The port of ring 0, of one ring, that holds the start clauses, each under its number, with glue 0, one
-    /// behind the other. Each has two literals or more and is alive in the log; the units are listed, and have no
+    /// after the other. Each has two literals or more and is alive in the log; the units are listed, and have no
     /// line of the ring's. The log is continued where the line output stands. Refused for memory it gives that back.
     pub fn new(
         alloc: Global,

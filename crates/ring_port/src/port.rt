@@ -22,7 +22,7 @@ pub trait Port {
     /// What contracts see of a port.
     ghost state: { Self → PortState };
 
-    /// The greatest variable. It tells what no call changes.
+    /// The greatest variable. It says what no call changes.
     fn vars(&self) -> u32
         ensures value { result ≡ (state self.now).vars }
         ensures port { IsPort (state self.now) };
@@ -70,7 +70,7 @@ pub trait Port {
         ensures log { KeepsLog (state self.old) (state self.new) }
         ensures port { IsPort (state self.new) };
 
-    /// Writes the line of a literal that propagation made true for good, and tells the other rings.
+    /// Writes the line of a literal that propagation made true for good, and says the other rings.
     fn unit(&mut self, lit: Lit) -> Result<(), PortStop>
         requires usable { is_usable (state self.old).refused ≡ true }
         requires on { IsOn (state self.old).vars lit }
@@ -111,7 +111,7 @@ pub trait Port {
         ensures log { KeepsLog (state self.old) (state self.new) }
         ensures port { IsPort (state self.new) };
 
-    /// Puts the clause that was learned last where each other ring may get it, once for each, and answers for how many. A
+    /// Puts the clause that was learned last if each other ring may get it, once for each, and answers for how many. A
     /// clause that it takes the place of is held once less. What is offered stays held.
     fn offer(&mut self, c: Cref) -> u64
         requires held { IsSome (held_at (state self.old) c.address) }
@@ -122,7 +122,7 @@ pub trait Port {
         ensures log { KeepsLog (state self.old) (state self.new) }
         ensures port { IsPort (state self.new) };
 
-    /// Takes the clause of a class that another ring has put for this one, which is held from then on; none where nothing is
+    /// Takes the clause of a class that another ring has put for this one, which is held from then on; none if nothing is
     /// there. Either way it looked into that slot once. It is refused for want of memory alone.
     fn poll(&mut self, from: u32, class: u8) -> Result<Option<Cref>, PortStop>
         requires other { from ≢ (state self.old).ring }
@@ -134,7 +134,7 @@ pub trait Port {
         ensures port { IsPort (state self.new) };
 
     /// The next unit that this ring has not been given: one of those listed from the start, or of another ring. Those that were
-    /// kept come first. None comes behind a look that found no other listed.
+    /// kept come first. None comes after a look that found no other listed.
     fn next_unit(&mut self) -> Option<Lit>
         ensures took { Took (state self.old) (state self.new) result }
         ensures log { KeepsLog (state self.old) (state self.new) }
@@ -146,7 +146,7 @@ pub trait Port {
         ensures log { KeepsLog (state self.old) (state self.new) }
         ensures port { IsPort (state self.new) };
 
-    /// Sets this ring's stop, one of the kinds from `STOP_SAT` to `STOP_MEMORY`, where none stands.
+    /// Sets this ring's stop, one of the kinds from `STOP_SAT` to `STOP_MEMORY`, if none stands.
     fn stop(&mut self, kind: u8) -> Set
         requires low { STOP_SAT ≤ kind }
         requires high { kind ≤ STOP_MEMORY }

@@ -36,7 +36,7 @@ impl Spare {
         Spare { alloc, holes: None }
     }
 
-    /// Takes so many words from the front of the first stretch that has them.
+    /// Takes this many words from the front of the first stretch that has them.
     pub(crate) fn take(&mut self, need: u64) -> Option<u64>
         requires { 0 < need }
         ensures taken { IfSome result (λ first. IsTaken self.old self.new first need) }

@@ -2,7 +2,7 @@ use sat_words::{NoRoom, Stop};
 
 /// Why a call of a port that writes into the log was refused.
 ///
-/// The port is as it was but for the note of the answer, except that after `ProofFault` and `Broken` it writes no more.
+/// The port is as it was except for the note of the answer, except that after `ProofFault` and `Broken` it writes no more.
 #[derive(Clone, Copy, PartialEq, Eq, Debug)]
 pub enum PortStop {
     /// The empty clause stands in the log.

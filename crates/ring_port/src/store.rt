@@ -15,7 +15,7 @@ use std::collections::VecDeque;
 use std::marker::Model;
 
 /// Clauses with their numbers and glues; the address of each is that of its first word. The words of one whose deletion
-/// stands are used again, but for those of start clauses.
+/// stands are used again, except for those of start clauses.
 #[derive(Drop)]
 pub(crate) struct Store {
     words: Vec<u64>,
@@ -132,7 +132,7 @@ impl Store {
         Ok(())
     }
 
-    /// Keeps a start clause, for which room was made, behind all others.
+    /// Keeps a start clause, for which room was made, after all others.
     pub(crate) fn push_start(&mut self, number: u64, lits: &[Lit])
         requires start_room { 1 ≤ self.old.start_room }
         requires room { 1 ≤ self.old.room }
@@ -154,7 +154,7 @@ impl Store {
         self.held.push_reserved(c);
     }
 
-    /// Keeps the clause, for which room was made, in words that are free, or else behind all others.
+    /// Keeps the clause, for which room was made, in words that are free, or else after all others.
     pub(crate) fn push(&mut self, lits: &[Lit], number: u64, glue: u32) -> Cref
         requires room { 1 ≤ self.old.room }
         requires word_room { words_for (length lits.now) ≤ self.old.word_room }

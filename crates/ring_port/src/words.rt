@@ -49,7 +49,7 @@ pub(crate) fn lits_at(alloc: Global, words: &[u64], first: usize) -> Result<Vec<
     Ok(lits)
 }
 
-/// Takes so many words: of those that are free, or else behind all others, where there is room for them.
+/// Takes this many words: of those that are free, or else after all others, if there is room for them.
 pub(crate) fn take_words(words: &mut Vec<u64>, spare: &mut Spare, need: u64) -> usize
     requires some { 0 < need }
     requires room { vec_len words.old + need ≤ vec_capacity words.old }
@@ -66,7 +66,7 @@ pub(crate) fn take_words(words: &mut Vec<u64>, spare: &mut Spare, need: u64) -> 
     }
 }
 
-/// Puts so many words behind the others, for which there is room.
+/// Puts this many words after the others, for which there is room.
 pub(crate) fn grow(words: &mut Vec<u64>, need: u64)
     requires { vec_len words.old + need ≤ vec_capacity words.old }
     ensures longer { length words.new.items ≡ length words.old.items + need }

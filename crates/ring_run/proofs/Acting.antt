@@ -1,4 +1,4 @@
--- What a turn comes to, and turns one behind the other.
+-- What a turn comes to, and turns one after the other.
 use Rattle.std.proofs.Common.{◌≡◌, List, ◌∷◌, inl, inr, refl, subst}
 use Rattle.sat_words.specs.Literal.{Literal}
 use Rattle.sat_words.specs.declared.shared.Cref.{Cref}

@@ -42,7 +42,7 @@ greatest_below steps (l ∷ c) n h below =
     let rest = greatest_below steps c n h (λ k m. below k (or_right (same k l) (has c k) m)) in
     omega arith
 
--- a literal of the greatest level, where that isn't 0
+-- a literal of the greatest level, if that isn't 0
 attained : (steps : List TrailStep) (c : List Literal) → 0 < greatest (levels_of steps c) → (k : Literal) × (has c k ≡ true) × (level_of_lit steps k ≡ greatest (levels_of steps c))
 attained steps [] h = absurd (omega arith)
 attained steps (l ∷ c) h =
@@ -53,7 +53,7 @@ attained steps (l ∷ c) h =
       | inr ge ↦ (l, or_left (same l l) (has c l) (same-refl l), omega arith)
     ]
 
--- where a literal is false, that place has its level
+-- if a literal is false, that place has its level
 level_at_place : (t : TrailData) (k : Literal) (f : FalseBefore t.steps (length t.steps) k) → IsTrail t → level_of_lit t.steps k ≡ level_at t.steps f.place
 level_at_place t k f shape =
     let at : IsPlaceOf t.steps k.var f.place = record { in_range = f.before; var = ap (λ (l : Literal). l.var) f.false_there } in

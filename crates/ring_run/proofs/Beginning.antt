@@ -162,7 +162,7 @@ paced_begin odd limit some = record {
   last = λ is e. absurd (omega arith);
 }
 
--- the ring's number is odd where its remainder by 2 is 1
+-- the ring's number is odd if its remainder by 2 is 1
 odd_of : (ring : ℕ) → ring % 2 ≡ 1 → (ring % 2 == 1) ≡ true
 odd_of ring e = eq-eqb (ring % 2) 1 e
 

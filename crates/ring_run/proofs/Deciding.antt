@@ -73,7 +73,7 @@ one_of_two k l e = by k.neg l.neg refl refl
     by false true p q = inr (same_lit k (opposite l) e (p ∙ sym (ap not q)))
     by false false p q = inl (same_lit k l e (p ∙ sym q))
 
--- a clause that is closed at the present level, where each of its variables has a value, is true
+-- a clause that is closed at the present level, if each of its variables has a value, is true
 closed_true : (t : TrailData) (a : List Bool) (c : List Literal) → IsTrail t → HasValues t c → ((l : Literal) → IsTrueOn t.steps l → lit_true a l ≡ true) → IsClosedClause c t.steps t.level
     → clause_true a c ≡ true
 closed_true t a c shape full all (inl p) = true_clause a c p.lit p.has_lit (all p.lit (true_within t.steps t.level p.lit p.within))

@@ -1,4 +1,4 @@
--- What comes behind a lemma that isn't the last.
+-- What comes after a lemma that isn't the last.
 use Rattle.std.proofs.Common.{◌≡◌, ◌∙◌, ℕ, Bool, List, [], sym, subst, refl, length}
 use Rattle.std.specs.declared.option.Option.{Option}
 use Rattle.sat_words.specs.Literal.{Literal}
@@ -23,7 +23,7 @@ use Rattle.ring_run.proofs.Tidying.{refused_refusal}
 abbrev pub asked_ring : Ring → Restarting → Bool → Ring
 asked_ring old r due = record old { restarts = r; import_due = due }
 
--- what a call that tidies leaves behind the question
+-- what a call that tidies leaves after the question
 pub asked_then : (s w : PortState) (old : Ring) (r : Restarting) (due : Bool) → r ≡ asked old.restarts → due ≡ is_due old.restarts → OffersNothing s w → w.held ≡ s.held → w.looks ≡ s.looks → HasAsked s w old (asked_ring old r due)
 asked_then s w old r due restarts import_due nothing held looks = record {
   learned = refl;

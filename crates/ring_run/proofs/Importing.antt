@@ -269,7 +269,7 @@ module _ (s u : PortState) (given : List Cref) (d : Polls s u given) (one : leng
         held = starts_kept s u d.start d.kept p.held;
       })
 
-  -- a search at level 0, where what was taken is attached
+  -- a search at level 0, if what was taken is attached
   pub polls_search : (t : TrailData) (w x : WatchData) (n : ℕ) → Searches s t w n → t.level ≡ 0 → IsPort u → attached x ≡ attached w ++ given → All (IsHeldBy u) given → ((v : TrailData) → Watched w (lits_at u) v → Watched x (lits_at u) v)
       → Searches u t x n
   polls_search t w x n p level port clauses held watched =

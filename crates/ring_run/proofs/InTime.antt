@@ -42,7 +42,7 @@ in_time_more s n m is h = omega (arith, h, is)
 pub in_time_begin : (s : PortState) (n : ℕ) → s.mine ≡ [] → IsInTime s n
 in_time_begin s n none = let lately = ap (λ (J : List Entry). length (recent s.ring J)) none in omega (arith, lately)
 
--- behind a lemma
+-- after a lemma
 pub in_time_learned : (s u : PortState) (lits : List Literal) (glue : ℕ) (address : Option Cref) (n : ℕ) → Learned s u lits glue (Ok address) → IsInTime s n → IsInTime u (n + 1)
 in_time_learned s u lits glue (Some c) n w h =
     let ring = ap (λ (x : PortState). x.ring) w.state in
@@ -92,7 +92,7 @@ sums_exact r learned limit p below odd = (p.exact odd below).all
 pub sums_noted : (r : Restarting) (glue learned limit : ℕ) → IsPaced r learned limit → learned < limit → SumsUp (noted r glue)
 sums_noted r glue learned limit p below odd = let all = (p.exact odd below).all in omega (arith, all)
 
--- so a run that counted so many lemmas and restarts had reduced its lemmas in time
+-- so a run that counted this many lemmas and restarts had reduced its lemmas in time
 pub reduced_counts : (s : PortState) (r : Restarting) (counts : Counts) → (s.ring % 2 ≡ 1 → r.odd ≡ true) → SumsUp r → r.count ≡ counts.learned → counts.restarts ≡ r.made → IsInTime s r.since → IsReducedInTime s counts
 reduced_counts s r counts odd sums learned made h is =
     let all = sums (odd is) in
@@ -108,7 +108,7 @@ reduced_by s r counts (NoHole lack) odd sums learned made h = tt
 reduced_by s r counts ProofFault odd sums learned made h = tt
 reduced_by s r counts Memory odd sums learned made h = tt
 
--- where the stop of an end is set
+-- if the stop of an end is set
 reduced_moved : (s u : PortState) (counts : Counts) → u.ring ≡ s.ring → u.mine ≡ s.mine → IsReducedInTime s counts → IsReducedInTime u counts
 reduced_moved s u counts ring mine p odd = in_time_same s u (counts.learned - luby_unit * luby_sum counts.restarts) ring mine (p (ap (λ (n : ℕ). n % 2) (sym ring) ∙ odd))
 

@@ -30,19 +30,19 @@ still_there s u kept more c (inl h) =
     inl (record { address = h.address; there = ap (option_map (λ (k : Holding). k.lits)) (kept h.address (some_there (held_at s h.address) c h.there)) ∙ h.there })
 still_there s u kept more c (inr h) = inr (record { lit = h.lit; unit = h.unit; seen = more h.lit h.seen })
 
--- where nothing was learned
+-- if nothing was learned
 pub lately_as : (s u : PortState) → recent u.ring u.mine ≡ recent s.ring s.mine → KeepsHeld s u → SeesMore s u → HoldsRecent s → HoldsRecent u
 lately_as s u same kept more p c there = still_there s u kept more c (p c (subst (λ (G : List (List Literal)). Contains G c) same there))
 
--- where nothing was written
+-- if nothing was written
 pub lately_same : (s u : PortState) → u.ring ≡ s.ring → u.mine ≡ s.mine → KeepsHeld s u → SeesMore s u → HoldsRecent s → HoldsRecent u
 lately_same s u ring mine kept more p = lately_as s u (ap (λ (r : ℕ). recent r u.mine) ring ∙ ap (recent s.ring) mine) kept more p
 
--- where nothing was learned since
+-- if nothing was learned since
 pub lately_none : (u : PortState) → recent u.ring u.mine ≡ [] → HoldsRecent u
 lately_none u none c there = absurd (Contains_In [] c (subst (λ (G : List (List Literal)). Contains G c) none there))
 
--- where a clause was added that is held, or a unit that is seen
+-- if a clause was added that is held, or a unit that is seen
 pub lately_more : (s u : PortState) (x : Addition) → u.ring ≡ s.ring → u.mine ≡ s.mine ++ Add x ∷ [] → KeepsHeld s u → SeesMore s u → IsHeldOrSeen u x.lits → HoldsRecent s → HoldsRecent u
 lately_more s u x ring mine kept more own p c there =
     elim (recent_cases s.ring s.mine x c (Contains_In (recent s.ring (s.mine ++ Add x ∷ [])) c

@@ -242,7 +242,7 @@ module _ (s u : PortState) (old new : Ring) (lits : List Literal) (back glue : â
   told0 : AreTold u new.trail old.written
   told0 = told_same s u new.trail old.written seen0 (told_back s old.trail new.trail 0 old.written p.told p.trail (omega arith) at.went)
 
-  -- a search that has restarted behind a lemma
+  -- a search that has restarted after a lemma
   restarted_search : InSearch u new
   restarted_search = record {
     clauses = subst (HasClauses u) (sym at.clauses) here0.clauses;

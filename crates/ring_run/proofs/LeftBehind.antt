@@ -91,7 +91,7 @@ module _ (s m : PortState) (ring mid : Ring) (c : Cref) (p : IsResting s ring) (
     reasons_then : HasReasons (attached mid.watches) m ring.trail.steps
     reasons_then = subst (λ (t : TrailData). HasReasons (attached mid.watches) m t.steps) trail reasons
 
-    -- a search behind a clause that stands yet
+    -- a search after a clause that stands yet
     rests_again : Searches m ring.trail mid.watches ring.written → reductions m.ring m.mine ≡ reductions s.ring s.mine → recent m.ring m.mine ≡ [] → m.taken ≡ [] → IsResting m mid
     rests_again search reduced lately none = record {
       reduced = omega (arith, reduced, p.reduced);

@@ -205,7 +205,7 @@ stored_at s u v lits glue None w alike = tt
 pub lent_glue : (s u v w : PortState) (steps : List TrailStep) → HoldsByGlue s u steps → OnlyLent u v → IsPort v → w.held ≡ v.held → HoldsByGlue s w steps
 lent_glue s u v w steps p lent port held h there = p h (lent_contains u v lent.same port h (subst (λ (hs : List Holding). Contains hs h) held there))
 
--- what is counted stays true where nothing is learned or offered
+-- what is counted stays true if nothing is learned or offered
 pub offering_kept : (s u : PortState) (old new : Ring) → u.shared ≡ s.shared → u.ring ≡ s.ring → u.rings ≡ s.rings → learned u.ring u.mine ≡ learned s.ring s.mine → new.exported ≡ old.exported → new.offered ≡ old.offered → new.learned ≡ old.learned
     → IsOffering s old → IsOffering u new
 offering_kept s u old new shared ring rings lemmas exported offered count p = record {
@@ -227,7 +227,7 @@ lent_few : (u v : PortState) (address : Option Cref) (e o more told : ℕ) → H
 lent_few u v None e o more told lent = omega (arith, lent.1)
 lent_few u v (Some c) e o more told lent = lent_few_by u v (class_at u c.address) c.address e o more told lent
 
--- behind a lemma
+-- after a lemma
 pub offering_learned : (s u v : PortState) (old new : Ring) (steps : List TrailStep) (glue : ℕ) (lits : List Literal) (address : Option Cref) → IsOffering s old → Learned s u lits glue (Ok address) → IsGlueOf steps lits glue
     → HasLent u v address old.exported old.offered new.exported new.offered → new.learned ≡ old.learned + 1 → IsOffering v new
 offering_learned s u v old new steps glue lits address p w counts lent learned = record {

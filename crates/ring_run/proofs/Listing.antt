@@ -72,7 +72,7 @@ module _ (s u : PortState) (cs lemmas : List Cref) (lits : List Literal) (glue :
     | inr (inr none) ↦ absurd none
   ]
 
--- a lemma was learned, and listed where it has an address
+-- a lemma was learned, and listed if it has an address
 pub listed_learned : (s u w : PortState) (old new : Ring) (lits : List Literal) (glue : ℕ) (address : Option Cref) → HasClauses s (attached old.watches) → Learned s u lits glue (Ok address)
     → w.start ≡ u.start → recent w.ring w.mine ≡ recent u.ring u.mine → Lists old new address → attached new.watches ≡ attached old.watches ++ option_to_list address → new.learned ≡ old.learned + 1
     → KeepsHeld s u → ((a : ℕ) → held_at w a ≡ held_at u a) → HasGrownLog u w → reductions w.ring w.mine ≡ reductions u.ring u.mine → (2 ≤ length lits → 1 ≤ glue) → HasLemmas s old → HasLemmas w new
@@ -125,7 +125,7 @@ listed_learned s u w old new lits glue None clauses k start lately lists now cou
       few = omega (arith, p.few, lists.reductions, lists.reduced_at);
     }
 
--- where the conflict was left
+-- if the conflict was left
 pub left_lists : (s : PortState) (old new : Ring) (lits : List Literal) (back : ℕ) (address : Option Cref) → HasLeft s old new lits back address → Lists old new address × (attached new.watches ≡ attached old.watches ++ option_to_list address)
 left_lists s old new lits back address (inl at) = (at.1.listed, at.1.clauses)
 left_lists s old new lits back address (inr at) = (at.2.listed, at.2.clauses)

@@ -12,7 +12,7 @@ use Rattle.ring_run.specs.Strategy.{AreMore, AreMarkedBy, OccurMarked, IsVariabl
 pub set_there : (marks : List Bool) (i j : ℕ) → i < length marks → j ≡ i → slice_index_or (slice_set marks i true) j false ≡ true
 set_there marks i j inside is = get_or-set_at marks i j true false is inside
 
--- what is marked stays so where one more is
+-- what is marked stays so if one more is
 pub more_set : (marks : List Bool) (i : ℕ) → i < length marks → AreMore marks (slice_set marks i true)
 more_set marks i inside j h =
     elim (cases_eq j i) as (λ _. slice_index_or (slice_set marks i true) j false ≡ true) [

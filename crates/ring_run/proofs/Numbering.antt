@@ -113,7 +113,7 @@ in_filter f p (c ∷ cs) ys h = by (p c) (λ ws k. in_filter f p cs ws k) h
 
 -- Clauses in the order of their lines
 
--- the clauses are held as they were, and entries came behind that note no reduction
+-- the clauses are held as they were, and entries came after that note no reduction
 pub record KeepsListed (s u : PortState) (cs : List Cref) : Type 0 where
   pub held : (c : Cref) → Contains cs c → held_at u c.address ≡ held_at s c.address
   pub grown : HasGrownLog s u
@@ -143,7 +143,7 @@ pub numbers_alike : (s u : PortState) (cs : List Cref) → ((c : Cref) → In c 
 numbers_alike s u [] f = refl
 numbers_alike s u (c ∷ cs) f = λ i. option_map_or (λ (h : Holding). h.number) (f c (inl refl) i) 0 ∷ numbers_alike s u cs (λ d m. f d (inr m)) i
 
--- behind more entries
+-- after more entries
 ordered_grown : (s u : PortState) (ns : List ℕ) → HasGrownLog s u → IsInOrder (numbers s) ns → IsInOrder (numbers u) ns
 ordered_grown s u ns k h = subst (λ (ys : List ℕ). IsInOrder ys ns) (sym (numbers_grown s u k)) (in_more (numbers s) (map (λ (x : Addition). x.number) (additions k.0)) ns h)
 
@@ -172,7 +172,7 @@ ordered_filter s p cs h = in_filter (λ c. number_at s c.address) p cs (numbers 
 pub ordered_none : (s : PortState) → AreOrdered s []
 ordered_none s = none_in (numbers s)
 
--- the numbers behind one addition more
+-- the numbers after one addition more
 pub numbers_added : (s u : PortState) (x : Addition) → u.mine ≡ s.mine ++ Add x ∷ [] → numbers u ≡ numbers s ++ x.number ∷ []
 numbers_added s u x mine = numbers_grown s u (Add x ∷ [], mine)
 

@@ -1,4 +1,4 @@
--- What a ring counts for its restarts, behind one lemma more.
+-- What a ring counts for its restarts, after one lemma more.
 use Rattle.std.proofs.Common.{◌≡◌, ◌∙◌, ℕ, ◌+◌, ◌<◌, ◌≢◌, Bool, true, false, cond, ap, sym, refl, arith}
 use Rattle.restart_plan.specs.Plan.{Restarting, noted, asked, restarted, is_due}
 use Rattle.restart_plan.proofs.Restarting.{exact-more, exact-before}

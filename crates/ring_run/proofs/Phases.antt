@@ -13,7 +13,7 @@ lt_true m n h = grind (arith, nat_tests)
 lt_false : (m n : ℕ) → n ≤ m → nat_lt m n ≡ false
 lt_false m n h = grind (arith, nat_tests)
 
--- the steps above a level, where a place parts them from the others
+-- the steps above a level, if a place parts them from the others
 above_drop : (k : ℕ) (steps : List TrailStep) (m : ℕ) → ((p : ℕ) → p < m → p < length steps → level_at steps p ≤ k) → ((p : ℕ) → m ≤ p → p < length steps → k < level_at steps p) → steps_above k steps ≡ drop m steps
 above_drop k [] zero low high = refl
 above_drop k [] (suc m) low high = refl

@@ -118,7 +118,7 @@ imports_bound made false = omega arith
 pub polled_over : (s : PortState) (ring : Ring) → s.polled ≡ polls_of s (imports_of ring) → s.polled ≤ polls_of s (1 + ring.restarts.made)
 polled_over s ring is = at_most_polls s (imports_of ring) (1 + ring.restarts.made) (let b = imports_bound ring.restarts.made ring.import_due in omega (arith, b)) is
 
--- and as much where no import is yet to be
+-- and as much if no import is yet to be
 pub polled_whole : (s : PortState) (ring : Ring) → ring.import_due ≡ false → s.polled ≡ polls_of s (imports_of ring) → s.polled ≡ polls_of s (1 + ring.restarts.made)
 polled_whole s ring settled is =
     is ∙ ap (λ (b : Bool). polls_of s (if b then ring.restarts.made else ring.restarts.made + 1)) settled ∙ ap (polls_of s) (let e : ring.restarts.made + 1 ≡ 1 + ring.restarts.made = omega arith in e)
@@ -149,7 +149,7 @@ polling_begin s ring none place import_due made level = record {
     polls_zero : polls_of s 0 ≡ 0
     polls_zero = (let none : length (other_rings s) * 0 ≡ 0 = omega arith in omega (arith, none))
 
--- where the stop of an end is set
+-- if the stop of an end is set
 pub polled_stopped : (s u : PortState) (made : ℕ) (end result : End) → OffersNothing s u → (result ≡ end) ⊎ ((x : Stop) × (result ≡ Stopped x)) → HasPolled s made end → HasPolled u made result
 polled_stopped s u made end result nothing (inl is) p = subst (HasPolled u made) (sym is) (by end p)
   where
@@ -202,7 +202,7 @@ polling_same s u old new nothing place restarts import_due level p = record {
         ap (λ (b : Bool). if b then new.restarts.made else new.restarts.made + 1) import_due
         ∙ ap (λ (r : Restarting). if old.import_due then r.made else r.made + 1) restarts
 
--- behind a lemma, where it was asked whether a restart is due
+-- after a lemma, where it was asked whether a restart is due
 pub asked_imports : (r : Restarting) (b : Bool) → b ≡ is_due r → (if b then (asked r).made else (asked r).made + 1) ≡ r.made + 1
 asked_imports r b is = ap (λ (x : Bool). if x then (asked r).made else (asked r).made + 1) is ∙ by (is_due r)
   where

@@ -114,7 +114,7 @@ runs_entry start s u n m e p stays held is own count fresh given line timely glu
   port = port;
 }
 
--- where what was held still is
+-- if what was held still is
 pub runs_adds : (start s u : PortState) (n m : ℕ) (e : Entry) → Runs start s n → Stays s u → KeepsHeld s u → u.mine ≡ s.mine ++ e ∷ [] → IsOwn start.ring start.vars e
     → m ≡ n + length (learned s.ring (e ∷ [])) → IsNew (opening_of s) s.mine e → u.given ≡ s.given → IsNewLine s.opening s.given s.ring s.mine e → IsTimely s.mine e → AddsGlued s u → HoldsRecent u → IsPort u → Runs start u m
 runs_adds start s u n m e p stays kept is own count fresh given line timely glued lately port =
@@ -305,7 +305,7 @@ refused_counts n limit ProofFault below = below
 refused_counts n limit (NoHole lack) below = below
 refused_counts n limit Memory below = below
 
--- where no stop is known, none was set
+-- if no stop is known, none was set
 pub unset : (s : PortState) (end : End) → s.stop ≡ None → IsUnset s end
 unset s end none = by (stop_kind end)
   where
@@ -313,7 +313,7 @@ unset s end none = by (stop_kind end)
     by None = tt
     by (Some kind) = none
 
--- where nothing has been refused the port may be used
+-- if nothing has been refused the port may be used
 pub usable_none : (s : PortState) → s.refused ≡ None → is_usable s.refused ≡ true
 usable_none s e = ap is_usable e
 

@@ -1,4 +1,4 @@
--- A reduction leaves a run and a search as they were, but for lemmas.
+-- A reduction leaves a run and a search as they were, except for lemmas.
 use Rattle.std.proofs.Common.{◌≡◌, ◌≢◌, ◌∙◌, ℕ, ◌+◌, ◌-◌, ◌<◌, ◌≤◌, ◌==◌, Bool, true, false, not, List, [], ◌∷◌, ◌++◌, length, map, sym, subst, ap, arith, inl, inr, refl, Contains, IsSome, Some, append-nil, eq-eqb, cond}
 use Rattle.std.specs.Prelude.{All, ◌&&◌, if◌then◌else◌, Result, Ok, Err, OnOk, IfErr}
 use Rattle.std.specs.List.{list_any, filter}
@@ -302,7 +302,7 @@ may_reduce s ring p due = omega (arith, p.count, due)
 pub timely_reduce : (s : PortState) (ring : Ring) → HasLemmas s ring → lemmas_before (ring.reductions + 1) ≤ ring.learned - ring.reduced_at → IsTimely s.mine (Reduce s.ring)
 timely_reduce s ring p due = omega (arith, p.count, p.noted, due)
 
--- What a call that reduces leaves, behind the Reduce entry
+-- What a call that reduces leaves, after the Reduce entry
 
 kept_among : (s : PortState) (steps : List TrailStep) (lemmas kept dropped : List Cref) → IsChoice s steps lemmas kept dropped → (c : Cref) → Contains kept c → Contains lemmas c
 kept_among s steps lemmas kept dropped choice c m =

@@ -44,7 +44,7 @@ use Rattle.ring_run.specs.Ended.{reductions}
 
 -- Before
 
--- a literal at level 0 is told, so no clause need be kept for it
+-- a literal at level 0 is known, so no clause need be kept for it
 pub no_reason : (s : PortState) (ring : Ring) (a : ℕ) → IsResting s ring → IsNoReason s ring.trail.steps a
 no_reason s ring a p q c lt reason is = record {
   level = (let w = p.search.trail.within q lt in omega (arith, w, p.level));
@@ -143,7 +143,7 @@ module _ (s u : PortState) (v w : WatchData) (c : Cref) (left : Option Cref) (li
       port = port;
     }
 
--- the units that the ring added are seen, behind a shorter clause and behind a unit
+-- the units that the ring added are seen, after a shorter clause and after a unit
 pub derived_units : (s u : PortState) (lits : List Literal) (number : ℕ) → Behind s u (entry_of s number lits Derive) → 2 ≤ length lits → distinct_lits lits ≡ true → u.seen ≡ s.seen
     → ((l : Literal) → adds_unit s.ring s.mine l ≡ true → has s.seen l ≡ true) → (l : Literal) → adds_unit u.ring u.mine l ≡ true → has u.seen l ≡ true
 derived_units s u lits number b long distinct seen units l h =
@@ -157,7 +157,7 @@ derived_units s u lits number b long distinct seen units l h =
 
 module _ (s u : PortState) (t : TrailData) (v w : WatchData) (n : ℕ) (p : Searches s t v n) (level : t.level ≡ 0) (clauses : HasClauses u (attached w)) (watched : Watched w (lits_at u) t) (reasons : HasReasons (attached w) u t.steps)
     (vars : u.vars ≡ s.vars) (opening : u.opening ≡ s.opening) where
-  -- behind a clause that is kept or made shorter
+  -- after a clause that is kept or made shorter
   pub search_left : u.seen ≡ s.seen → Searches u t w n
   search_left seen = record {
     clauses = clauses;
@@ -174,7 +174,7 @@ module _ (s u : PortState) (t : TrailData) (v w : WatchData) (n : ℕ) (p : Sear
     told = told_same s u t n seen p.told;
   }
 
-  -- behind a unit, once it is true
+  -- after a unit, once it is true
   pub search_unit : (l : Literal) → Sees s.seen u.seen l → HasNoPlace t.steps l.var → IsTrail (assigned t l None) → Searches u (assigned t l None) w n
   search_unit l sees free shape =
       let x : TrailStep = record { lit = l; level = t.level; reason = None } in
@@ -239,7 +239,7 @@ import_resting s ring p opening quiet reduced lately none = record {
   none_taken = none;
 }
 
--- a literal is true where its opposite is false
+-- a literal is true if its opposite is false
 twice_not : (b : Bool) → not (not b) ≡ b
 twice_not true = refl
 twice_not false = refl

@@ -1,4 +1,4 @@
--- Where a ring looks for clauses of other rings, from import to import.
+-- If a ring looks for clauses of other rings, from import to import.
 use Rattle.std.proofs.Common.{◌≡◌, ◌∙◌, ℕ, ◌+◌, ◌-◌, ◌≤◌, ◌<◌, ◌==◌, not, Bool, true, false, List, [], ◌∷◌, ◌++◌, map, filter, cond, sym, subst, ap, arith, refl, append-nil, append_assoc, eq-eqb, ne_eqb, inl, inr}
 use Rattle.std.specs.Prelude.{◌≢◌, ◌⊎◌, suc, zero, if◌then◌else◌}
 use Rattle.std.specs.List.{range_with_len, flat_map}
@@ -46,7 +46,7 @@ along_none s u slots is = record { looked = []; left = slots; polls = is ∙ sym
 pub along_all : (s u : PortState) (slots : List Slot) → u.polls ≡ s.polls ++ slots → LookedAlong s u slots
 along_all s u slots is = record { looked = slots; left = []; polls = is; parts = append-nil slots }
 
--- behind some slots, into others
+-- after some slots, into others
 pub along_then : (s m u : PortState) (done xs slots : List Slot) → m.polls ≡ s.polls ++ done → LookedAlong m u xs → IsFront (done ++ xs) slots → LookedAlong s u slots
 along_then s m u done xs slots is d front =
     along_front s u (done ++ d.looked) slots (d.polls ∙ ap (λ (ws : List Slot). ws ++ d.looked) is ∙ append_assoc s.polls done d.looked)
@@ -195,7 +195,7 @@ imports_halted start s made Memory h p = p
 pub imports_over : (start s : PortState) (ring : Ring) → HasImported start s (imports_of ring) → LookedAlong start s (rounds (1 + ring.restarts.made) (import_slots s))
 imports_over start s ring h = imports_along start s (imports_of ring) (1 + ring.restarts.made) (let b = imports_bound ring.restarts.made ring.import_due in omega (arith, b)) h
 
--- and as much where no import is yet to be
+-- and as much if no import is yet to be
 pub imports_whole : (start s : PortState) (ring : Ring) → ring.import_due ≡ false → HasImported start s (imports_of ring) → HasImported start s (1 + ring.restarts.made)
 imports_whole start s ring settled h =
     imports_count start s (imports_of ring) (1 + ring.restarts.made) (ap (λ (b : Bool). if b then ring.restarts.made else ring.restarts.made + 1) settled ∙ (let e : ring.restarts.made + 1 ≡ 1 + ring.restarts.made = omega arith in e)) h
@@ -225,7 +225,7 @@ importing_same start s u old new nothing restarts import_due h = imports_count s
         ap (λ (b : Bool). if b then new.restarts.made else new.restarts.made + 1) import_due
         ∙ ap (λ (r : Restarting). if old.import_due then r.made else r.made + 1) restarts
 
--- where no import is yet to be, and the search goes on or ends
+-- if no import is yet to be, and the search goes on or ends
 pub imported_settled : (start s : PortState) (ring : Ring) (course : Next) → ring.import_due ≡ false → HasImported start s (imports_of ring) → HasImportedBy start s ring course
 imported_settled start s ring Go settled h = h
 imported_settled start s ring (Finish end) settled h = imports_end start s ring.restarts.made end (imports_whole start s ring settled h)
@@ -234,7 +234,7 @@ imported_settled start s ring (Finish end) settled h = imports_end start s ring.
 pub imports_none_yet : (s u : PortState) → u ≡ s → LookedAlong s u (rounds 1 (import_slots u))
 imports_none_yet s u is = along_none s u (rounds 1 (import_slots u)) (ap (λ (x : PortState). x.polls) is)
 
--- where the stop of an end is set
+-- if the stop of an end is set
 along_stopped : (start s u : PortState) (n : ℕ) → OffersNothing s u → LookedAlong start s (rounds n (import_slots s)) → LookedAlong start u (rounds n (import_slots u))
 along_stopped start s u n p d = record {
   looked = d.looked;

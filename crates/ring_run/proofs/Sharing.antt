@@ -81,7 +81,7 @@ module _ (s u : PortState) (old new : Ring) (lits : List Literal) (glue : ℕ) (
   shared_in_time p = in_time_same middle u (old.restarts.since + 1) (ap (λ (x : PortState). x.ring) shared_lent.state) (ap (λ (x : PortState). x.mine) shared_lent.state)
       (in_time_learned s middle lits glue address old.restarts.since h.shared.learned p)
 
--- where a conflict was left with an import yet to be, the trail is at level 0
+-- if a conflict was left with an import yet to be, the trail is at level 0
 left_low : (u : PortState) (old new : Ring) (lits : List Literal) (back : ℕ) (address : Option Cref) → HasLeft u old new lits back address → old.import_due ≡ true → new.trail.level ≡ 0
 left_low u old new lits back address (inl at) due =
     let level = left_level u old new lits back address (inl at) in
@@ -89,7 +89,7 @@ left_low u old new lits back address (inl at) due =
     omega (arith, level, none)
 left_low u old new lits back address (inr at) due = ap (λ (t : TrailData). t.level) at.2.went.is
 
--- behind a lemma that isn't the last it was asked whether a restart is due
+-- after a lemma that isn't the last it was asked whether a restart is due
 module _ (s u : PortState) (old new : Ring) (lits : List Literal) (back glue limit : ℕ) (course : Next) (p : WasFollowed s u old new lits back glue limit course) where
   abbrev v : PortState
   v = p.between

@@ -52,7 +52,7 @@ module _ (s m u : PortState) (noted : NotedReduce s m) (v w : WatchData) (steps 
 pub refused_halts : (s u : PortState) (stop : PortStop) (end : End) → end ≡ end_refused stop → EndsAt s u (end_refused stop) → HaltsAt s u end
 refused_halts s u stop end is ends = subst (HaltsAt s u) (sym is) (record { ends = ends; halted = refused_halted stop; refusal = refused_refusal stop; none = refused_last stop })
 
--- and so is one behind calls that leave each run as it was
+-- and so is one after calls that leave each run as it was
 pub halts_then : (s m u : PortState) (end : End) → KeepsOn s m → HaltsAt m u end → HaltsAt s u end
 halts_then s m u end keeps h = record { ends = λ n limit below start p. h.ends n limit below start (keeps start n p); halted = h.halted; refusal = h.refusal; none = h.none }
 

@@ -51,7 +51,7 @@ slots_one s u old new from class c took more = record {
 joined : {A : Type 0} (old middle new xs ys : List A) → middle ≡ old ++ xs → new ≡ middle ++ ys → new ≡ old ++ (xs ++ ys)
 joined old middle new xs ys first then = then ∙ ap (λ ws. ws ++ ys) first ∙ append_assoc old xs ys
 
--- more slots behind these
+-- more slots after these
 pub slots_then : (s m u : PortState) (old between new : Ring) (xs ys slots : List Slot) → TookSlots s m old between xs → TookSlots m u between new ys → slots ≡ xs ++ ys → TookSlots s u old new slots
 slots_then s m u old between new xs ys slots p q is = subst (TookSlots s u old new) (sym is) (record {
   polls = joined s.polls m.polls u.polls xs ys p.polls q.polls;

@@ -78,7 +78,7 @@ grown_by t u l r p =
       at_level = All-append (λ (s : TrailStep). s.level ≡ t.level) p.more (x ∷ []) p.at_level (All-cons (λ (s : TrailStep). s.level ≡ t.level) x [] p.level (All-nil (λ (s : TrailStep). s.level ≡ t.level)));
     }
 
--- the reasons stay where each clause is held where it was and more is seen
+-- the reasons stay if each clause is held where it was and more is seen
 pub reasoned_alike : (s u : PortState) (steps : List TrailStep) → HoldsAlike s u → ((l : Literal) → has s.seen l ≡ true → has u.seen l ≡ true)
     → IsReasoned (clause_at s) s.seen steps → IsReasoned (clause_at u) u.seen steps
 reasoned_alike s u steps e more r =

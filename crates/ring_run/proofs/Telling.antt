@@ -1,4 +1,4 @@
--- Which literals at level 0 are told: as a trail grows and goes back, as lines of units are written, and at a model.
+-- Which literals at level 0 are known: as a trail grows and goes back, as lines of units are written, and at a model.
 use Rattle.std.proofs.Common.{◌≡◌, ◌∙◌, ℕ, zero, suc, ◌+◌, ◌-◌, ◌<◌, ◌≤◌, ◌||◌, Bool, true, false, not, List, [], ◌∷◌, ◌++◌, length, map, sym, subst, ap, refl, arith, inl, inr, Some, None, IsSome, Contains, length-append}
 use Rattle.std.specs.List.{list_any, list_all}
 use Rattle.std.specs.declared.option.Option.{Option}
@@ -38,7 +38,7 @@ apart_signs : (b : Bool) → b ≡ not b → ⊥
 apart_signs true e = true≢false e
 apart_signs false e = false≢true e
 
--- what is true on the first steps stands at no place behind them
+-- what is true on the first steps stands at no place after them
 unseen_behind : (s : PortState) (steps : List TrailStep) (v : TrailData) (q : ℕ) → SeenTrue s steps → IsTrail v → length steps ≤ length v.steps → ((p : ℕ) → p < length steps → step_at v.steps p ≡ step_at steps p)
     → length steps ≤ q → q < length v.steps → has s.seen (lit_at v.steps q) ≡ false
 unseen_behind s steps v q seen shape long same le lt = never (has s.seen (lit_at v.steps q)) (λ h.
@@ -154,7 +154,7 @@ told_unit s u t n l sees free p = record {
   all = p.all;
 }
 
--- at level 0, where all is told, units have come
+-- at level 0, if all is known, units have come
 pub told_saw : (s u : PortState) (t v : TrailData) (n : ℕ) → AreTold s t n → n ≡ length t.steps → IsTrail v → v.level ≡ 0 → HasGrown t v → ((l : Literal) → has s.seen l ≡ true → has u.seen l ≡ true)
     → ((p : ℕ) → length t.steps ≤ p → p < length v.steps → reason_at v.steps p ≡ None) → AreTold u v n
 told_saw s u t v n p whole shape zero_level grown more bare = record {
@@ -171,7 +171,7 @@ told_saw s u t v n p whole shape zero_level grown more bare = record {
     at : (q : ℕ) → q < length t.steps → step_at v.steps q ≡ step_at t.steps q
     at q h = ap (λ (ss : List TrailStep). step_at ss q) grown.steps ∙ get_or_append_left t.steps grown.more no_step q h
 
--- a step without a reason leaves none with one behind the first ones
+-- a step without a reason leaves none with one after the first ones
 pub bare_more : (n : ℕ) (t : TrailData) (l : Literal) → ((p : ℕ) → n ≤ p → p < length t.steps → reason_at t.steps p ≡ None) → (p : ℕ) → n ≤ p → p < length (assigned t l None).steps → reason_at (assigned t l None).steps p ≡ None
 bare_more n t l bare p behind lt =
     let x : TrailStep = record { lit = l; level = t.level; reason = None } in
@@ -183,7 +183,7 @@ bare_more n t l bare p behind lt =
           ap (λ (m : ℕ). reason_at (t.steps ++ x ∷ []) m) e ∙ ap (λ (y : TrailStep). y.reason) (get_or-append_seam t.steps x [] no_step))
     ]
 
--- one place more is told
+-- one place more is known
 told_next : (s u : PortState) (t : TrailData) (n : ℕ) → AreTold s t n → IsTrail t → t.level ≡ 0 → n < length t.steps → ((l : Literal) → has s.seen l ≡ true → has u.seen l ≡ true)
     → has u.seen (lit_at t.steps n) ≡ true → ((q : ℕ) → n < q → q < length t.steps → has s.seen (lit_at t.steps q) ≡ false → has u.seen (lit_at t.steps q) ≡ false) → AreTold u t (n + 1)
 told_next s u t n p shape zero_level lt more here other = record {

@@ -32,7 +32,7 @@ held_by_alike s u cs e all = λ k d h. subst (λ (o : Option Holding). IsSome o)
 pub held_by_same : (s u : PortState) (cs : List Cref) → u.held ≡ s.held → All (IsHeldBy s) cs → All (IsHeldBy u) cs
 held_by_same s u cs e all = held_by_alike s u cs (λ a. held_same s u a e) all
 
--- what stays of the clauses attached where each clause is held where it was
+-- what stays of the clauses attached if each clause is held where it was
 pub clauses_alike : (s u : PortState) (cs : List Cref) → HasClauses s cs → Stays s u → u.taken ≡ s.taken → HoldsAlike s u → u.stop ≡ s.stop → u.refused ≡ s.refused → Remembers u cs → IsPort u → HasClauses u cs
 clauses_alike s u cs p stays taken held stop refused own port = record {
   held = held_by_alike s u cs held p.held;
@@ -168,7 +168,7 @@ less_to_do s u old new limit p q vars below further =
     subst (λ (v : ℕ). left_to_do limit new.learned v new.import_due (length new.trail.steps) < left_to_do limit old.learned old.trail.vars old.import_due (length old.trail.steps)) (sym same)
     (less_left limit old.learned new.learned old.trail.vars (length old.trail.steps) (length new.trail.steps) old.import_due new.import_due below p.trail.short (further_parts old new further) high)
 
--- a step behind propagation
+-- a step after propagation
 pub further_grown : (old between new : Ring) → between.learned ≡ old.learned → between.import_due ≡ old.import_due → length old.trail.steps ≤ length between.trail.steps → IsFurther between new → IsFurther old new
 further_grown old between new learned import_due steps (inl one) = inl (omega (arith, one, learned))
 further_grown old between new learned import_due steps (inr (kept, inl (same, longer))) =

@@ -245,7 +245,7 @@ module _ (s u : PortState) (old new : Ring) (c : Cref) (place : ℕ) (p : HasLem
     few = omega (arith, p.few, reductions, at);
   }
 
-  -- where the lemma is left
+  -- if the lemma is left
   pub same_listed : new.lemmas.items ≡ old.lemmas.items → IsLeft s u new.watches c Unchanged → HasLemmas u new
   same_listed items left =
       listed_by (front ++ c ∷ back) (items ∙ split) distinct_before each (ordered_kept s u (front ++ c ∷ back) held (k.grown) (subst (AreOrdered s) split p.ordered))
@@ -276,11 +276,11 @@ module _ (s u : PortState) (old new : Ring) (c : Cref) (place : ℕ) (p : HasLem
         })
       ]
 
-  -- where nothing is left of it
+  -- if nothing is left of it
   pub gone_listed : new.lemmas.items ≡ front ++ back → HasLemmas u new
   gone_listed items = listed_by (front ++ back) items (distinct_without front back c distinct_before) listed_before (ordered_kept s u (front ++ back) held_as (k.grown) ordered_before)
 
-  -- where a shorter clause is
+  -- if a shorter clause is
   pub other_listed : (d : Cref) → new.lemmas.items ≡ (front ++ back) ++ d ∷ [] → IsLeft s u new.watches c (Replaced d) → ((h : Holding) → Contains s.start h → IsSome (held_at s h.address)) → HasLemmas u new
   other_listed d items left starts =
       listed_by ((front ++ back) ++ d ∷ []) items

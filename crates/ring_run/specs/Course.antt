@@ -30,7 +30,7 @@ use Rattle.ring_run.specs.declared.course.Next.{Next}
 use Rattle.ring_run.specs.declared.course.Next.TheVariants.{Go, Finish}
 
 -- a search at this port, with this trail and these watches: the clauses attached are watched, closed below the present
--- level and the only reasons, all units of the opening are true, and the first n literals are told; above level 0 these are
+-- level and the only reasons, all units of the opening are true, and the first n literals are known; above level 0 these are
 -- all that are true for good
 pub record Searches (s : PortState) (t : TrailData) (w : WatchData) (n : ℕ) : Type 0 where
   pub clauses : HasClauses s (attached w)
@@ -52,7 +52,7 @@ pub record GoesOnBy (old : PortState) (before : Ring) (new : PortState) (ring : 
   pub below : ring.learned < limit
   pub goes : (start : PortState) → GoesOn start old before.learned → GoesOn start new ring.learned
 
--- what a step does, from a port and a ring to those behind it: the search goes on, or comes to an end
+-- what a step does, from a port and a ring to those after it: the search goes on, or comes to an end
 abbrev pub Leads : PortState → Ring → PortState → Ring → ℕ → Next → Type 0
 Leads old before new ring limit Go = GoesOnBy old before new ring limit
 Leads old before new ring limit (Finish end) = EndsBy old before.learned new ring.learned limit end
@@ -74,13 +74,13 @@ pub record CanAssert (t : TrailData) (lits : List Literal) (back : ℕ) : Type 0
   pub on : first.var ≤ t.vars
   pub free : (v : TrailData) → WentBack t v back → HasNoPlace v.steps first.var
 
--- the clause joins the lemmas where it has an address, and no reduction is counted
+-- the clause joins the lemmas if it has an address, and no reduction is counted
 pub record Lists (old new : Ring) (address : Option Cref) : Type 0 where
   pub lemmas : new.lemmas.items ≡ old.lemmas.items ++ option_to_list address
   pub reductions : new.reductions ≡ old.reductions
   pub reduced_at : new.reduced_at ≡ old.reduced_at
 
--- the trail went back, the values lost were saved, the clause was attached where it has an address, and the first literal was
+-- the trail went back, the values lost were saved, the clause was attached if it has an address, and the first literal was
 -- made true
 pub record Asserted (s : PortState) (old new : Ring) (lits : List Literal) (back : ℕ) (address : Option Cref) : Type 0 where
   pub middle : TrailData
@@ -96,7 +96,7 @@ pub record Asserted (s : PortState) (old new : Ring) (lits : List Literal) (back
   pub written : new.written ≡ old.written
   pub watched : (t : TrailData) → Watched old.watches (lits_at s) t → Watched new.watches (lits_at s) t
 
--- the trail went back to level 0, the values lost were saved, and the clause was attached where it has an address
+-- the trail went back to level 0, the values lost were saved, and the clause was attached if it has an address
 pub record Restarted (s : PortState) (old new : Ring) (address : Option Cref) : Type 0 where
   pub went : WentBack old.trail new.trail 0
   pub phases : new.decider ≡ saved_above old.decider old.trail.steps 0
@@ -105,19 +105,19 @@ pub record Restarted (s : PortState) (old new : Ring) (address : Option Cref) : 
   pub written : new.written ≡ old.written
   pub watched : (t : TrailData) → Watched old.watches (lits_at s) t → Watched new.watches (lits_at s) t
 
--- the conflict is left: by a restart where that is due, at level 0 below the lemma's level; else at the lemma's level, where it
+-- the conflict is left: by a restart if that is due, at level 0 below the lemma's level; else at the lemma's level, if it
 -- forces its first literal
 abbrev pub HasLeft : PortState → Ring → Ring → List Literal → ℕ → Option Cref → Type 0
 HasLeft s old new lits back address =
     ((old.import_due ≡ true → back ≡ 0) × Asserted s old new lits back address) ⊎ ((old.import_due ≡ true) × (0 < back) × Restarted s old new address)
 
--- the lemma was learned with this glue, and then offered to each other ring where it has a class, which is counted
+-- the lemma was learned with this glue, and then offered to each other ring if it has a class, which is counted
 pub record WasShared (old new : PortState) (before after : Ring) (lits : List Literal) (glue : ℕ) (address : Option Cref) : Type 0 where
   pub middle : PortState
   pub learned : Learned old middle lits glue (Ok address)
   pub lent : HasLent middle new address before.exported before.offered after.exported after.offered
 
--- the lemma was learned, offered where it has a class, and its glue noted; nothing else was done at the port
+-- the lemma was learned, offered if it has a class, and its glue noted; nothing else was done at the port
 pub record HasSpent (s u : PortState) (old new : Ring) (lits : List Literal) (glue : ℕ) : Type 0 where
   pub address : Option Cref
   pub shared : WasShared s u old new lits glue address
@@ -125,17 +125,17 @@ pub record HasSpent (s u : PortState) (old new : Ring) (lits : List Literal) (gl
 
 -- a lemma was learned that asks for this level and has this glue, and its conflict left
 pub record HasLearned (s u : PortState) (old new : Ring) (lits : List Literal) (back glue : ℕ) : Type 0 where
-  -- where it is held, if it has two literals or more
+  -- if it is held, if it has two literals or more
   pub address : Option Cref
   -- the clause held at the address is the lemma
   pub stored : IfSome address (λ c. lits_at u c.address ≡ lits)
-  -- it was offered where it has a class, and then the clauses that waited were deleted
+  -- it was offered if it has a class, and then the clauses that waited were deleted
   pub between : PortState
   pub shared : WasShared s between old new lits glue address
   pub tidied : TidiedUpTo between u (length between.waiting)
   -- the glue was noted for the restarts, and it was asked whether one is due
   pub restarts : new.restarts ≡ asked (noted old.restarts glue)
-  -- an import is yet to be exactly where one was due
+  -- an import is yet to be exactly if one was due
   pub import_due : new.import_due ≡ is_due (noted old.restarts glue)
   -- where one was due the trail is at level 0, else at the lemma's level with its first literal true
   pub left : HasLeft u (record old { import_due = new.import_due }) new lits back address
@@ -165,19 +165,19 @@ LearnsFrom s u old new conflict lits (Finish (Sat a)) = ⊥
 LearnsFrom s u old new conflict lits (Finish (Stopped x)) = ⊥
 LearnsFrom s u old new conflict lits (Finish end) = ⊤
 
--- a literal was decided that the decider may choose; but for what is counted as told nothing else of the ring changed
+-- a literal was decided that the decider may choose; except for what is counted as told nothing else of the ring changed
 pub record HasDecided (old new : Ring) : Type 0 where
   pub lit : Literal
   pub chosen : IsDecided old.decider old.trail.steps lit
   pub trail : new.trail ≡ decided old.trail lit
   pub same : new ≡ record old { trail = new.trail; written = new.written }
 
--- behind a look and the lines of units a literal was decided
+-- after a look and the lines of units a literal was decided
 pub record DecidedNext (s u : PortState) (old new : Ring) : Type 0 where
   pub told : HasTold s u
   pub decided : HasDecided old new
 
--- what a step comes to that doesn't learn: behind a look and the lines of units a model may be found, or the look found a stop and
+-- what a step comes to that doesn't learn: after a look and the lines of units a model may be found, or the look found a stop and
 -- nothing was done
 abbrev pub EndsQuietly : PortState → PortState → Next → Type 0
 EndsQuietly s u Go = ⊤
@@ -224,15 +224,15 @@ abbrev pub HasLookedBy : ℕ → PortState → Ring → Next → Type 0
 HasLookedBy base s ring Go = IsLooking base s ring
 HasLookedBy base s ring (Finish end) = HasLooked (base + ring.learned + last_looks end) s
 
--- where looks came before the decisions, they still do, or did at the end
+-- if looks came before the decisions, they still do, or did at the end
 abbrev pub KeepsLooking : PortState → Ring → PortState → Ring → Next → Type 0
 KeepsLooking old before new ring course = (base : ℕ) → IsLooking base old before → HasLookedBy base new ring course
 
--- where one look more was made before, a decision takes it
+-- if one look more was made before, a decision takes it
 abbrev pub TakesALook : PortState → Ring → Ring → Next → Type 0
 TakesALook s before ring course = (base : ℕ) → HasLooked (base + before.learned + before.trail.level + 1) s → HasLookedBy base s ring course
 
--- at level 0, where each literal is told: a search may import; the units of the opening may be yet to come
+-- at level 0, if each literal is known: a search may import; the units of the opening may be yet to come
 pub record MayImport (s : PortState) (t : TrailData) (w : WatchData) (n : ℕ) : Type 0 where
   pub clauses : HasClauses s (attached w)
   pub stands : Stands s t
@@ -279,7 +279,7 @@ pub record HasLemmas (s : PortState) (ring : Ring) : Type 0 where
 abbrev pub KeepsLemmas : PortState → Ring → PortState → Ring → Type 0
 KeepsLemmas old before new ring = HasLemmas old before → HasLemmas new ring
 
--- how often the ring has imported: at its start and at each restart, but for the last of these where that is yet to be
+-- how often the ring has imported: at its start and at each restart, except for the last of these if that is yet to be
 abbrev pub imports_of : Ring → ℕ
 imports_of ring = if ring.import_due then ring.restarts.made else ring.restarts.made + 1
 
@@ -298,7 +298,7 @@ HasPolledBy s ring (Finish end) = HasPolled s ring.restarts.made end
 abbrev pub KeepsPolling : PortState → Ring → PortState → Ring → Next → Type 0
 KeepsPolling old before new ring course = IsPolling old before → HasPolledBy new ring course
 
--- since the start the ring has imported as often as it was to, but for an import that is yet to be
+-- since the start the ring has imported as often as it was to, except for an import that is yet to be
 abbrev pub IsImporting : (start s : PortState) → Ring → Type 0
 IsImporting start s ring = HasImported start s (imports_of ring)
 
@@ -316,17 +316,17 @@ abbrev pub HasTidied : PortState → Next → Type 0
 HasTidied s Go = s.waiting ≡ []
 HasTidied s (Finish end) = IsTidy s end
 
--- where none waited before
+-- if none waited before
 abbrev pub KeepsTidy : PortState → PortState → Next → Type 0
 KeepsTidy old new course = old.waiting ≡ [] → HasTidied new course
 
--- where the search found a model, or the ring is spent, the lemmas were reduced in time at the last restart
+-- if the search found a model, or the ring is spent, the lemmas were reduced in time at the last restart
 abbrev pub IsInTimeAt : PortState → Restarting → End → Type 0
 IsInTimeAt s r (Sat a) = IsInTime s r.since
 IsInTimeAt s r Spent = IsInTime s r.since
 IsInTimeAt s r _ = ⊤
 
--- they were, where no import is yet to be; or at the end
+-- they were, if no import is yet to be; or at the end
 abbrev pub IsInTimeBy : PortState → Ring → Next → Type 0
 IsInTimeBy s ring Go = ring.import_due ≡ false → IsInTime s ring.restarts.since
 IsInTimeBy s ring (Finish end) = IsInTimeAt s ring.restarts end
@@ -335,10 +335,10 @@ IsInTimeBy s ring (Finish end) = IsInTimeAt s ring.restarts end
 abbrev pub KeepsInTime : PortState → Ring → PortState → Ring → Next → Type 0
 KeepsInTime old before new ring course = IsPolling old before → (before.import_due ≡ false → IsInTime old before.restarts.since) → IsInTimeBy new ring course
 
--- by Luby's sequence the ring restarted behind just so many lemmas, and learned the others since then
+-- by Luby's sequence the ring restarted after just this many lemmas, and learned the others since then
 abbrev pub SumsUp : Restarting → Type 0
 SumsUp r = r.odd ≡ true → luby_unit * luby_sum r.made + r.since ≡ r.count
 
--- where what is counted as offered was true, it still is
+-- if what is counted as offered was true, it still is
 abbrev pub KeepsOffering : PortState → Ring → PortState → Ring → Type 0
 KeepsOffering old before new ring = IsOffering old before → IsOffering new ring

@@ -98,7 +98,7 @@ is_reduction r (Reduce q) = q == r
 abbrev pub reductions : ℕ → List Entry → ℕ
 reductions r J = length (filter (is_reduction r) J)
 
--- of two literals or more a clause is derived only behind a Reduce entry of the ring, and before it learns again
+-- of two literals or more a clause is derived only after a Reduce entry of the ring, and before it learns again
 abbrev pub IsDerivedInTime : List Entry → ℕ → Kind → List Literal → Type 0
 IsDerivedInTime before r Ruler c = ⊤
 IsDerivedInTime before r Learn c = ⊤
@@ -112,7 +112,7 @@ IsTimely before (Add x) = IsDerivedInTime before x.ring x.kind x.lits
 IsTimely before (Del r n) = ⊤
 IsTimely before (Reduce r) = lemmas_before (reductions r before + 1) ≤ length (recent r before)
 
--- each reduction of the ring comes behind so many lemmas, and clauses are made shorter only then
+-- each reduction of the ring comes after this many lemmas, and clauses are made shorter only then
 abbrev pub AreTimely : PortState → Type 0
 AreTimely s = EachAfter IsTimely [] s.mine
 
@@ -185,7 +185,7 @@ last_looks _ = 0
 abbrev pub HasLooked : ℕ → PortState → Type 0
 HasLooked n s = min n (2 ^ 64 - 1) ≤ s.looks
 
--- a clause of two to seven literals: it has a class where its glue is one at least and less than its size
+-- a clause of two to seven literals: it has a class if its glue is one at least and less than its size
 abbrev pub is_short : List Literal → Bool
 is_short c = nat_le 2 (length c) && nat_le (length c) 7
 
@@ -201,7 +201,7 @@ pub record HasOffered (s : PortState) (exported offered : ℕ) : Type 0 where
   pub few : exported ≤ length (filter is_long (learned s.ring s.mine))
   pub told : offered ≡ min s.shared (2 ^ 64 - 1)
 
--- so many polls, of four classes of each other ring so often, up to the last value of 64 bits
+-- this many polls, of four classes of each other ring this often, up to the last value of 64 bits
 abbrev pub polls_of : PortState → ℕ → ℕ
 polls_of s imports = min (4 * (length (other_rings s) * imports)) (2 ^ 64 - 1)
 
@@ -211,22 +211,22 @@ IsHalted (Sat a) = ⊥
 IsHalted Spent = ⊥
 IsHalted _ = ⊤
 
--- where the ring found a model, or is spent, it has polled as often as one import more than it restarted takes; else at most so
+-- if the ring found a model, or is spent, it has polled as often as one import more than it restarted takes; else at most so
 -- often
 abbrev pub HasPolled : PortState → (restarts : ℕ) → End → Type 0
 HasPolled s restarts (Sat a) = s.polled ≡ polls_of s (1 + restarts)
 HasPolled s restarts Spent = s.polled ≡ polls_of s (1 + restarts)
 HasPolled s restarts _ = s.polled ≤ polls_of s (1 + restarts)
 
--- where a ring looks for clauses of another ring, in order: classes 0, 1, 2 and 3
+-- if a ring looks for clauses of another ring, in order: classes 0, 1, 2 and 3
 abbrev pub slots_of : ℕ → List Slot
 slots_of r = map (λ c. record { ring = r; class = c }) (0 ∷ 1 ∷ 2 ∷ 3 ∷ [])
 
--- where it looks at an import, in order: the slots of each other ring
+-- if it looks at an import, in order: the slots of each other ring
 abbrev pub import_slots : PortState → List Slot
 import_slots s = flat_map slots_of (other_rings s)
 
--- these slots so often, one time behind the other
+-- these slots this often, one time after the other
 unfoldable pub rounds : ℕ → List Slot → List Slot
 rounds zero slots = []
 rounds (suc n) slots = rounds n slots ++ slots
@@ -238,20 +238,20 @@ pub record LookedAlong (old new : PortState) (slots : List Slot) : Type 0 where
   pub polls : new.polls ≡ old.polls ++ looked
   pub parts : looked ++ left ≡ slots
 
--- since the start the ring has imported so often: each time it looked into each slot of each other ring, in order; and at least so
+-- since the start the ring has imported this often: each time it looked into each slot of each other ring, in order; and at least so
 -- often a look for units found no other listed, which is counted up to the last count of 64 bits
 pub record HasImported (start s : PortState) (imports : ℕ) : Type 0 where
   pub polls : s.polls ≡ start.polls ++ rounds imports (import_slots s)
   pub caught_up : min (start.caught_up + imports) (2 ^ 64 - 1) ≤ s.caught_up
 
--- where the ring found a model, or is spent, it has imported once more than it restarted; else it looked into the
--- slots of so many imports, in order, up to one of them
+-- if the ring found a model, or is spent, it has imported once more than it restarted; else it looked into the
+-- slots of this many imports, in order, up to one of them
 abbrev pub ImportsBy : (start s : PortState) (restarts : ℕ) → End → Type 0
 ImportsBy start s restarts (Sat a) = HasImported start s (1 + restarts)
 ImportsBy start s restarts Spent = HasImported start s (1 + restarts)
 ImportsBy start s restarts _ = LookedAlong start s (rounds (1 + restarts) (import_slots s))
 
--- where the ring found a model no clause waits for its deletion
+-- if the ring found a model no clause waits for its deletion
 abbrev pub IsTidy : PortState → End → Type 0
 IsTidy s (Sat a) = s.waiting ≡ []
 IsTidy s _ = ⊤
@@ -262,7 +262,7 @@ pub record IsCounted (s : PortState) (counts : Counts) : Type 0 where
   pub offers : HasOffered s counts.exported counts.offered
 
 -- there are 50 lemmas or more for each restart; by a ring of odd number just as many were made as Luby's
--- sequence allows for the lemmas, of which the last is followed by none where the ring is spent
+-- sequence allows for the lemmas, of which the last is followed by none if the ring is spent
 pub record HasRestarted (ring limit : ℕ) (counts : Counts) : Type 0 where
   pub few : 50 * counts.restarts ≤ counts.learned
   pub most : ring % 2 ≡ 1 → counts.learned < limit → AreMost counts.restarts counts.learned
@@ -272,12 +272,12 @@ pub record HasRestarted (ring limit : ℕ) (counts : Counts) : Type 0 where
 abbrev pub IsInTime : PortState → ℕ → Type 0
 IsInTime s n = length (recent s.ring s.mine) < lemmas_before (reductions s.ring s.mine + 1) + n
 
--- a ring of odd number restarted last behind so many lemmas as Luby's sequence says; of these it had learned fewer since its last
+-- a ring of odd number restarted last after this many lemmas as Luby's sequence says; of these it had learned fewer since its last
 -- Reduce entry than its next reduction comes after
 abbrev pub IsReducedInTime : PortState → Counts → Type 0
 IsReducedInTime s counts = s.ring % 2 ≡ 1 → IsInTime s (counts.learned - luby_unit * luby_sum counts.restarts)
 
--- where the ring found a model, or is spent, it had reduced its lemmas in time when it restarted last
+-- if the ring found a model, or is spent, it had reduced its lemmas in time when it restarted last
 abbrev pub ReducesBy : PortState → Counts → End → Type 0
 ReducesBy s counts (Sat a) = IsReducedInTime s counts
 ReducesBy s counts Spent = IsReducedInTime s counts
@@ -305,7 +305,7 @@ pub record IsIntact (s : PortState) : Type 0 where
 abbrev pub IsGoing : PortState → Type 0
 IsGoing s = list_any is_empty (added s.mine) ≡ false
 
--- the kind of stop that an end sets: none where the ring is spent, or where another ring's stop was seen
+-- the kind of stop that an end sets: none if the ring is spent, or if another ring's stop was seen
 abbrev pub stop_kind : End → Option ℕ
 stop_kind (Sat a) = Some STOP_SAT
 stop_kind Refuted = Some STOP_REFUTED

@@ -27,7 +27,7 @@ IsRefusal (NoHole lack) = ⊤
 IsRefusal ProofFault = ⊤
 IsRefusal Memory = ⊤
 
--- as many lemmas were learned as may be where the ring is spent, else fewer
+-- as many lemmas were learned as may be if the ring is spent, else fewer
 abbrev pub CountsTo : (count limit : ℕ) → End → Type 0
 CountsTo count limit Spent = count ≡ limit
 CountsTo count limit _ = count < limit

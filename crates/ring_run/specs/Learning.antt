@@ -16,7 +16,7 @@ use Rattle.ring_run.specs.declared.ring.Ring.{Ring}
 use Rattle.ring_run.specs.declared.course.Next.{Next}
 use Rattle.ring_run.specs.declared.course.Next.TheVariants.{Go, Finish}
 
--- a lemma was learned, counted and its glue noted for the restarts, and it was offered where it has a class; the rest of the ring is
+-- a lemma was learned, counted and its glue noted for the restarts, and it was offered if it has a class; the rest of the ring is
 -- as it was
 pub record HasShared (s u : PortState) (old new : Ring) (lits : List Literal) (glue : ℕ) (address : Option Cref) : Type 0 where
   pub shared : WasShared s u old new lits glue address
@@ -27,7 +27,7 @@ pub record HasShared (s u : PortState) (old new : Ring) (lits : List Literal) (g
   pub port_after : IsPort u
   pub ring : new ≡ record old { learned = old.learned + 1; restarts = noted old.restarts glue; exported = new.exported; offered = new.offered }
 
--- it was asked whether a restart is due, and an import is yet to be where one is; since then nothing was learned or offered, and what
+-- it was asked whether a restart is due, and an import is yet to be if one is; since then nothing was learned or offered, and what
 -- is held is as it was
 pub record HasAsked (s u : PortState) (old new : Ring) : Type 0 where
   pub learned : new.learned ≡ old.learned
@@ -53,7 +53,7 @@ abbrev pub LeavesBy : PortState → PortState → Ring → Ring → List Literal
 LeavesBy s u old new lits back address Go = HasLeftTidy s u old new lits back address
 LeavesBy s u old new lits back address (Finish end) = EndsAt s u end × IsRefusal end
 
--- what comes behind a lemma that isn't the last
+-- what comes after a lemma that isn't the last
 pub record HasFinished (s u : PortState) (old new : Ring) (lits : List Literal) (back : ℕ) (address : Option Cref) (course : Next) : Type 0 where
   pub asked_for : HasAsked s u old new
   pub leaves : LeavesBy s u old new lits back address course
@@ -67,14 +67,14 @@ pub record WasRefused (s u : PortState) (old new : Ring) (course : Next) : Type 
   pub ring : new ≡ old
   pub over : course ≡ Finish (end_refused stop)
 
--- the lemma reached the limit, and nothing was done behind it
+-- the lemma reached the limit, and nothing was done after it
 pub record WasLast (s u : PortState) (old new : Ring) (lits : List Literal) (glue limit : ℕ) (course : Next) : Type 0 where
   pub address : Option Cref
   pub shared : HasShared s u old new lits glue address
   pub last : new.learned ≡ limit
   pub over : course ≡ Finish Spent
 
--- the lemma is below the limit, and so much came behind it
+-- the lemma is below the limit, and so much came after it
 pub record WasFollowed (s u : PortState) (old new : Ring) (lits : List Literal) (back glue limit : ℕ) (course : Next) : Type 0 where
   pub between : PortState
   pub middle : Ring

@@ -1,4 +1,4 @@
--- What a ring does behind a restart: it reduces its lemmas, makes some shorter, and imports.
+-- What a ring does after a restart: it reduces its lemmas, makes some shorter, and imports.
 use Rattle.std.specs.Prelude.{◌≡◌, ℕ, ◌+◌, ◌-◌, ◌<◌, ◌≤◌, ◌⊎◌, true, false, List, [], ◌∷◌, ◌++◌, map, take, drop, length, Contains, None, IsSome, ◌≢◌, ⊤}
 use Rattle.sat_words.specs.Literal.{Literal}
 use Rattle.sat_words.specs.Clause.{has}
@@ -49,12 +49,12 @@ pub record Point : Type 0 where
 abbrev pub point : PortState → Ring → Point
 point s ring = record { port = s; watches = ring.watches; trail = ring.trail }
 
--- a lemma is vivified where its glue is two at most, unless one of its literals is true
+-- a lemma is vivified if its glue is two at most, unless one of its literals is true
 pub record IsNamed (p : Point) (c : Cref) : Type 0 where
   pub few : glue_at p.port c.address ≤ 2
   pub none_true : (l : Literal) → has (lits_at p.port c.address) l ≡ true → IsTrueOn p.trail.steps l → ⊥
 
--- the unit was made true, and the trail grew from there at its level; each literal is told, by lines of units alone, and nothing is
+-- the unit was made true, and the trail grew from there at its level; each literal is known, by lines of units alone, and nothing is
 -- left to propagate
 pub record HasFollowed (p q : Point) (l : Literal) : Type 0 where
   pub grown : HasGrown (assigned p.trail l None) q.trail
@@ -64,7 +64,7 @@ pub record HasFollowed (p q : Point) (l : Literal) : Type 0 where
   pub same_clauses : attached q.watches ≡ attached p.watches
   pub quiet : IsQuiet q.watches (lits_at q.port) q.trail
 
--- what is left of the lemma once it was vivified: itself, the shorter clause, or nothing behind a unit, which is followed
+-- what is left of the lemma once it was vivified: itself, the shorter clause, or nothing after a unit, which is followed
 abbrev pub WentOn : Point → Point → Vivified → AfterVivify → Type 0
 WentOn p q Kept left = (q ≡ p) × (left ≡ Unchanged)
 WentOn p q (Shorter d) left = (q ≡ p) × (left ≡ Replaced d)
@@ -79,17 +79,17 @@ pub record WasVivified (p q : Point) (c : Cref) (left : AfterVivify) : Type 0 wh
   pub vivified : IsVivified p.port between.port p.watches between.watches p.trail.steps c outcome
   pub after : WentOn between q outcome left
 
--- a lemma's turn: it was vivified where it is one of those, and else nothing was done
+-- a lemma's turn: it was vivified if it is one of those, and else nothing was done
 abbrev pub TookLemma : Point → Point → Cref → AfterVivify → Type 0
 TookLemma p q c left = (IsNamed p c × WasVivified p q c left) ⊎ ((IsNamed p c → ⊥) × (q ≡ p) × (left ≡ Unchanged))
 
--- the lemma, where it is left as it was
+-- the lemma, if it is left as it was
 abbrev pub in_place : Cref → AfterVivify → List Cref
 in_place c Unchanged = c ∷ []
 in_place c (Replaced d) = []
 in_place c Gone = []
 
--- the shorter clause that is left of a lemma, where there is one
+-- the shorter clause that is left of a lemma, if there is one
 abbrev pub behind : AfterVivify → List Cref
 behind Unchanged = []
 behind (Replaced d) = d ∷ []
@@ -121,7 +121,7 @@ pub record TookPlace (p q : Point) (before after : List Cref) (place next : ℕ)
 
 -- What holds meanwhile
 
--- the ring rests at level 0: nothing is left to propagate, each literal is told, and nothing that was learned or taken has to
+-- the ring rests at level 0: nothing is left to propagate, each literal is known, and nothing that was learned or taken has to
 -- be kept, since it reduces its lemmas
 pub record IsResting (s : PortState) (ring : Ring) : Type 0 where
   pub reduced : 1 ≤ reductions s.ring s.mine
@@ -162,14 +162,14 @@ pub record MayVivify (s : PortState) (w : WatchData) (c : Cref) : Type 0 where
   pub glued : 1 ≤ glue_at s c.address
   pub apart : (h : Holding) → Contains s.start h → c.address ≢ h.address
 
--- the other clauses stay attached, and are held as they were; entries came behind, none of which notes a reduction
+-- the other clauses stay attached, and are held as they were; entries came after, none of which notes a reduction
 pub record KeepsOthers (s u : PortState) (v w : WatchData) (c : Cref) : Type 0 where
   pub others : (d : Cref) → Contains (attached v) d → d.address ≢ c.address → Contains (attached w) d
   pub held : (a : ℕ) → a ≢ c.address → IsSome (held_at s a) → held_at u a ≡ held_at s a
   pub grown : HasGrownLog s u
   pub noted : reductions u.ring u.mine ≡ reductions s.ring s.mine
 
--- the shorter clause is attached, at an address where no clause was held; its glue is one at least, and its line is the last
+-- the shorter clause is attached, at an address if no clause was held; its glue is one at least, and its line is the last
 -- that adds a clause
 pub record HasJoined (s u : PortState) (w : WatchData) (d : Cref) : Type 0 where
   pub member : Contains (attached w) d
@@ -228,13 +228,13 @@ pub record TookImport (old new : PortState) (before after : Ring) : Type 0 where
   pub level : after.trail.level ≡ 0
   pub same : after ≡ record before { trail = after.trail; watches = after.watches; import_due = false }
 
--- behind a restart the lemmas were reduced and vivified where that was due, and nothing was done where it was not; then the ring
+-- after a restart the lemmas were reduced and vivified where that was due, and nothing was done where it was not; then the ring
 -- imported
 pub record HasRenewed (old new : PortState) (before after : Ring) : Type 0 where
   pub due : IsDue before → (middle : PortState) × (ring : Ring) × HasShrunk old middle before ring × TookImport middle new ring after
   pub early : before.learned - before.reduced_at < lemmas_before (before.reductions + 1) → TookImport old new before after
 
--- behind a look and the lines of units the ring renewed, and took no look more
+-- after a look and the lines of units the ring renewed, and took no look more
 pub record Renews (old new : PortState) (before after : Ring) : Type 0 where
   pub middle : PortState
   pub ring : Ring

@@ -71,7 +71,7 @@ HasLentBy old new None address exported offered more told = (new ≡ old) × (mo
 HasLentBy old new (Some class) address exported offered more told =
     Offered old new class address × (more ≡ exported + 1) × (told ≡ min (offered + length (other_rings old)) (2 ^ 64 - 1))
 
--- the lemma at the address was offered, where it has a class; a unit has no address
+-- the lemma at the address was offered, if it has a class; a unit has no address
 abbrev pub HasLent : PortState → PortState → Option Cref → (exported offered more told : ℕ) → Type 0
 HasLent old new None exported offered more told = (new ≡ old) × (more ≡ exported) × (told ≡ offered)
 HasLent old new (Some c) exported offered more told = HasLentBy old new (class_at old c.address) c.address exported offered more told
@@ -97,7 +97,7 @@ pub record OnlyPolled (old new : PortState) : Type 0 where
   pub kept : KeepsHeld old new
   pub state : new ≡ record old { held = new.held; taken = new.taken; polled = new.polled; polls = new.polls }
 
--- the ring's entries are those from before, and perhaps more behind them
+-- the ring's entries are those from before, and perhaps more after them
 abbrev pub HasGrownLog : PortState → PortState → Type 0
 HasGrownLog old new = (more : List Entry) × (new.mine ≡ old.mine ++ more)
 
@@ -127,7 +127,7 @@ pub record ToldUnits (old new : PortState) : Type 0 where
   pub mine : new.mine ≡ old.mine ++ entries
   pub state : new ≡ record old { seen = new.seen; kept = new.kept; caught_up = new.caught_up; mine = new.mine; output = new.output }
 
--- one look found no stop, and behind it lines of units may have been written
+-- one look found no stop, and after it lines of units may have been written
 abbrev pub HasTold : PortState → PortState → Type 0
 HasTold old new = ToldUnits (record old { looks = one_more old.looks }) new
 
@@ -152,7 +152,7 @@ pub record UnitsSeen (s : PortState) : Type 0 where
 abbrev pub AreFirst : TrailData → ℕ → Type 0
 AreFirst t n = (p : ℕ) → p < length t.steps → level_at t.steps p ≡ 0 → p < n
 
--- the first n literals are at level 0 and seen; of those behind, none that has a reason is seen; above level 0 none of these
+-- the first n literals are at level 0 and seen; of those after, none that has a reason is seen; above level 0 none of these
 -- is at level 0
 pub record AreTold (s : PortState) (t : TrailData) (n : ℕ) : Type 0 where
   pub few : n ≤ length t.steps

@@ -21,7 +21,7 @@ use Rattle.ring_run.specs.declared.ring.Ring.{Ring}
 use Rattle.ring_run.specs.declared.course.Next.{Next}
 use Rattle.ring_run.specs.declared.course.Next.TheVariants.{Go, Finish}
 
--- where all is propagated the ring renewed where an import was yet to be, and else decided
+-- if all is propagated the ring renewed if an import was yet to be, and else decided
 abbrev pub ActedAtQuiet : PortState → PortState → Ring → Ring → Type 0
 ActedAtQuiet s u old new = ((old.import_due ≡ true) × Renews s u old new) ⊎ ((old.import_due ≡ false) × DecidedNext s u old new)
 
@@ -32,7 +32,7 @@ pub record MetConflict (s u : PortState) (old new : Ring) (course : Next) : Type
   pub lits : List Literal
   pub learned : LearnsFrom s u old new conflict lits course
 
--- a step behind propagation: from a conflict the ring learned; where there is none it renewed or decided
+-- a step after propagation: from a conflict the ring learned; if there is none it renewed or decided
 abbrev pub Acted : PortState → PortState → Ring → Ring → Type 0
 Acted s u old new = MetConflict s u old new Go ⊎ (IsQuiet old.watches (lits_at s) old.trail × ActedAtQuiet s u old new)
 
@@ -44,7 +44,7 @@ pub record HasPropagated (s : PortState) (old new : Ring) : Type 0 where
   pub clauses : attached new.watches ≡ attached old.watches
   pub reasons : HasReasons (attached old.watches) s new.trail.steps
 
--- a turn behind which the search goes on
+-- a turn after which the search goes on
 pub record TookTurn (s u : PortState) (old new : Ring) : Type 0 where
   pub middle : Ring
   pub propagated : HasPropagated s old middle
@@ -66,7 +66,7 @@ TakesTurn s u old new (Finish end) = ⊤
 
 -- Searches
 
--- turns that lead from one state and ring to others, one behind the other; those reached on the way stand in the list, the last first
+-- turns that lead from one state and ring to others, one after the other; those reached on the way stand in the list, the last first
 abbrev pub TookTurns : PortState → Ring → List (PortState × Ring) → PortState → Ring → Type 0
 TookTurns s old [] u new = (u ≡ s) × (new ≡ old)
 TookTurns s old (last ∷ earlier) u new = TookTurns s old earlier last.0 last.1 × TookTurn last.0 u last.1 new
@@ -103,7 +103,7 @@ pub record IsFirstRing (s : PortState) (job : Job) (ring : Ring) : Type 0 where
   pub place : ring.place ≡ record { ring = job.ring; rings = job.rings }
   pub import_due : ring.import_due ≡ true
 
--- a run of a job is a search that begins with such a ring, and counts what that has counted at last; where there was no memory for a
+-- a run of a job is a search that begins with such a ring, and counts what that has counted at last; if there was no memory for a
 -- ring nothing was done
 abbrev pub RanJob : PortState → PortState → Job → End → Counts → Type 0
 RanJob s u job end counts =

@@ -1,4 +1,4 @@
-// Where nothing is left to propagate: lines of units, a decision, or a model.
+// If nothing is left to propagate: lines of units, a decision, or a model.
 ghost use Rattle.std.specs.Prelude.{◌≡◌, ◌<◌, true, false, length, Some, IfOk, OnOk, IfErr};
 ghost use Rattle.sat_words.specs.Literal.{Literal};
 ghost use Rattle.sat_words.specs.Truth.{lit_true};
@@ -36,7 +36,7 @@ fn model_of(alloc: Global, trail: &Trail) -> Result<Assignment, AllocError>
     Ok(model)
 }
 
-/// Decides a variable of the start clauses that has no value. Where there is none, each of these is true. A look that found no
+/// Decides a variable of the start clauses that has no value. If there is none, each of these is true. A look that found no
 /// stop came before.
 fn decide<P: Port>(alloc: Global, port: &mut P, ring: &mut Ring, limit: u64) -> Next
     requires search { InSearch (P.state port.old) ring.old }
@@ -108,8 +108,8 @@ pub(crate) fn write_pending<P: Port>(port: &mut P, ring: &mut Ring) -> Result<()
     }
 }
 
-/// Where nothing is left to propagate: looks for a stop, writes what is true for good, and decides; behind a restart it
-/// reduces its lemmas where that is due, and imports.
+/// If nothing is left to propagate: looks for a stop, writes what is true for good, and decides; after a restart it
+/// reduces its lemmas if that is due, and imports.
 pub(crate) fn decide_next<P: Port>(alloc: Global, port: &mut P, ring: &mut Ring, limit: u64) -> Next
     requires search { InSearch (P.state port.old) ring.old }
     requires below { ring.old.learned < limit }

@@ -17,7 +17,7 @@ use std::alloc::AllocError;
 /// The classes of clauses that rings put for each other.
 const CLASSES: u8 = 4;
 
-/// Takes the clause of a class that another ring has put, where there is one, and attaches it.
+/// Takes the clause of a class that another ring has put, if there is one, and attaches it.
 fn take_class<P: Port>(
     port: &mut P,
     ring: &mut Ring,

@@ -44,7 +44,7 @@ pub struct Job {
     pub rings: u32,
     /// The greatest variable.
     pub vars: u32,
-    /// The clauses that the search starts with, where the port holds them.
+    /// The clauses that the search starts with, if the port holds them.
     pub start: Addresses,
     /// How many lemmas the ring may learn.
     pub conflicts: u64,

@@ -82,7 +82,7 @@ fn assert_lemma<P: Port>(
     Ok(())
 }
 
-/// Restarts: goes back to level 0, where the lemma asks for nothing, and attaches it.
+/// Restarts: goes back to level 0, if the lemma asks for nothing, and attaches it.
 fn restart<P: Port>(port: &mut P, ring: &mut Ring, address: Option<Cref>) -> Result<(), AllocError>
     requires held { IfSome address (λ c. IsSome (held_at (P.state port.old) c.address)) }
     requires vars { (P.state port.old).vars ≡ ring.old.watches.vars }
@@ -107,7 +107,7 @@ fn restart<P: Port>(port: &mut P, ring: &mut Ring, address: Option<Cref>) -> Res
     Ok(())
 }
 
-/// Goes back behind a lemma: to its level, or to level 0 where a restart is due.
+/// Goes back after a lemma: to its level, or to level 0 if a restart is due.
 fn leave_conflict<P: Port>(
     port: &mut P,
     ring: &mut Ring,

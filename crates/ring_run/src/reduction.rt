@@ -1,4 +1,4 @@
-// Where a restart was made: the ring gives up lemmas where that is due, makes others shorter, and then imports.
+// If a restart was made: the ring gives up lemmas if that is due, makes others shorter, and then imports.
 ghost use Rattle.std.specs.Prelude.{◌≡◌, ◌<◌, ◌≤◌, ◌+◌, ◌-◌, ◌^◌, ℕ, [], true, false, length, OnOk, IfErr};
 ghost use Rattle.reduce_db.specs.Moment.{lemmas_before};
 ghost use Rattle.ring_port.specs.PortState.{IsPort, lits_at};
@@ -19,7 +19,7 @@ use reduce_db::{due, reduce};
 use ring_port::{Port, PortStop};
 use std::alloc::Global;
 
-/// Drops half of the lemmas that may be dropped, behind the entry that tells it.
+/// Drops half of the lemmas that may be dropped, after the entry that tells it.
 fn reduce_lemmas<P: Port>(alloc: Global, port: &mut P, ring: &mut Ring) -> Result<(), PortStop>
     requires import { MayImport (P.state port.old) ring.old.trail ring.old.watches ring.old.written }
     requires quiet { IsQuiet ring.old.watches (lits_at (P.state port.old)) ring.old.trail }
@@ -91,7 +91,7 @@ fn shrink_lemmas<P: Port>(alloc: Global, port: &mut P, ring: &mut Ring) -> Resul
     }
 }
 
-/// Reduces and vivifies the lemmas where that is due. At level 0, where each literal has its line and nothing is left to
+/// Reduces and vivifies the lemmas if that is due. At level 0, if each literal has its line and nothing is left to
 /// propagate.
 fn shrink_due<P: Port>(alloc: Global, port: &mut P, ring: &mut Ring) -> Result<(), End>
     requires import { MayImport (P.state port.old) ring.old.trail ring.old.watches ring.old.written }
@@ -120,7 +120,7 @@ fn shrink_due<P: Port>(alloc: Global, port: &mut P, ring: &mut Ring) -> Result<(
     shrink_lemmas(alloc, port, ring)
 }
 
-/// Reduces and vivifies the lemmas where that is due, and imports. No import is yet to be then.
+/// Reduces and vivifies the lemmas if that is due, and imports. No import is yet to be then.
 pub(crate) fn reduce_vivify_import<P: Port>(alloc: Global, port: &mut P, ring: &mut Ring) -> Next
     requires import { MayImport (P.state port.old) ring.old.trail ring.old.watches ring.old.written }
     requires quiet { IsQuiet ring.old.watches (lits_at (P.state port.old)) ring.old.trail }

@@ -27,7 +27,7 @@ pub(crate) struct Ring {
     pub place: Place,
     /// What is true.
     pub trail: Trail,
-    /// The start clauses, and behind them the lemmas and what other rings gave, each watched by two of its literals.
+    /// The start clauses, and after them the lemmas and what other rings gave, each watched by two of its literals.
     pub watches: Watches,
     /// How many lemmas were learned.
     pub learned: u64,

@@ -40,30 +40,30 @@ const NOTHING: Counts = Counts {
 /// The port holds each start clause of the job, and has done nothing for this ring yet. Units of the opening get no line.
 /// A literal that propagation makes true without a decision gets the line of a unit before the next decision, one line.
 ///
-/// A look at the stop comes before each decision, and the ring goes on only where it found none. A lemma takes a decision
+/// A look at the stop comes before each decision, and the ring goes on only if it found none. A lemma takes a decision
 /// back, so that no more lemmas were learned than such looks were made; a model comes after one look more. The looks
 /// count up to the last value of 64 bits.
 ///
-/// A restart comes right behind a lemma: it goes back to level 0 and not to the lemma's level. A ring of odd number restarts by
-/// Luby's sequence (Luby, Sinclair and Zuckerman 1993), the others where the glue of late is greater than on the whole.
+/// A restart comes right after a lemma: it goes back to level 0 and not to the lemma's level. A ring of odd number restarts by
+/// Luby's sequence (Luby, Sinclair and Zuckerman 1993), the others if the glue of late is greater than on the whole.
 ///
 /// The ring takes what other rings have for it at its start and at each restart, at level 0: their units, and each clause that
 /// lies ready, by ring and class, which is attached at once. So it polls each class of each other ring once at its
 /// start and once at each restart, ring by ring and class by class, and has looked for units at least as often until no other was
 /// listed.
 ///
-/// At a restart, before it imports, the ring reduces its lemmas where that is due: the Reduce entry is written, and the worse half
+/// At a restart, before it imports, the ring reduces its lemmas if that is due: the Reduce entry is written, and the worse half
 /// of those that may be dropped goes. Then each lemma of glue one or two that is left is vivified, in the order of their numbers,
 /// unless it is true at level 0: a shorter clause takes its place in the log, or a unit, which is made true with what follows from
-/// it. The deletion lines come at once. The start clauses stay held as they are. So where a ring of odd number finds a model, or is
+/// it. The deletion lines come at once. The start clauses stay held as they are. So if a ring of odd number finds a model, or is
 /// spent, it had reduced its lemmas in time when it restarted last; and at each end each lemma that was learned since the last
 /// Reduce entry is held, or is a unit that is seen.
 ///
-/// The deletion lines of what an offer brought back come behind the lemma: where none waited at the start, none does at a model.
+/// The deletion lines of what an offer brought back come after the lemma: if none waited at the start, none does at a model.
 ///
 /// Every end but `Spent` and `Stopped` has set this ring's stop, and was the first to set one: a ring that comes second
 /// answers `Stopped` with the stop that stands. A call of the port that was refused for want of memory, room or a write
-/// ends the run. After `Memory` the ring has no answer, and its stop tells the other rings so.
+/// ends the run. After `Memory` the ring has no answer, and its stop says the other rings so.
 ///
 /// The clauses here are of what a run leaves and counts. What the ring does from turn to turn stands in the clauses of its inner calls.
 pub fn run_ring<P: Port>(alloc: Global, port: &mut P, job: &Job) -> (End, Counts)
@@ -218,7 +218,7 @@ fn stop_kind(end: &End) -> Option<u8>
     }
 }
 
-/// Sets the stop of an end that sets one. Where another ring's stands, that is the end.
+/// Sets the stop of an end that sets one. If another ring's stands, that is the end.
 fn set_stop<P: Port>(port: &mut P, end: End) -> End
     requires cause { Cause (P.state port.old) end }
     requires unset { IsUnset (P.state port.old) end }

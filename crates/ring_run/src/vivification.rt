@@ -1,4 +1,4 @@
-// Where lemmas were reduced: those of small glue that are left are made shorter where that can be done (Li and others 2017).
+// Where lemmas were reduced: those of small glue that are left are made shorter if that can be done (Li and others 2017).
 ghost use Rattle.std.specs.Prelude.{◌≡◌, ◌≤◌, ◌<◌, true, false, length, IfOk, IfErr, OnOk, IsSome};
 ghost use Rattle.sat_words.specs.Literal.{Literal};
 ghost use Rattle.sat_words.specs.Clause.{has};
@@ -118,7 +118,7 @@ fn settle_left<P: Port>(port: &mut P, ring: &mut Ring, left: Vivified) -> Result
     }
 }
 
-/// Vivifies a lemma where it is one of those, and answers what is left of it.
+/// Vivifies a lemma if it is one of those, and answers what is left of it.
 fn vivify_lemma<P: Port>(
     alloc: Global,
     port: &mut P,
@@ -150,7 +150,7 @@ fn vivify_lemma<P: Port>(
     }
 }
 
-/// Gives the lemma at this place its turn, and answers where the next one stands. A shorter clause goes behind all others,
+/// Gives the lemma at this place its turn, and answers where the next one stands. A shorter clause goes after all others,
 /// since its number is the greatest.
 fn vivify_at<P: Port>(
     alloc: Global,

@@ -1,4 +1,4 @@
--- Causes look back only, so they stay where the trail grows or is cut.
+-- Causes look back only, so they stay if the trail grows or is cut.
 use Rattle.std.proofs.Common.{◌≡◌, ◌∙◌, ℕ, zero, suc, ◌+◌, ◌<◌, ◌≤◌, true, List, [], ◌∷◌, ◌++◌, length, take, Option, None, Some, sym, refl, ap, subst, inl, inr, ◌⊎◌, arith, length-append, length-take, All, append_assoc, append-nil}
 use Rattle.std.proofs.lemmas.Bool.{cases_eq, cases_lt}
 use Rattle.std.proofs.lemmas.List.{get_or-take, get_or_append_left, get_or_push}

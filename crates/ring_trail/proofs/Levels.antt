@@ -79,7 +79,7 @@ lt_true m n h = grind (arith, nat_tests)
 lt_false : (m n : ℕ) → n ≤ m → nat_lt m n ≡ false
 lt_false m n h = grind (arith, nat_tests)
 
--- the steps up to a level, where a place parts them from the others
+-- the steps up to a level, if a place parts them from the others
 pub up_to-take : (k : ℕ) (steps : List TrailStep) (m : ℕ) → ((p : ℕ) → p < m → p < length steps → level_at steps p ≤ k) → ((p : ℕ) → m ≤ p → p < length steps → k < level_at steps p) → up_to k steps ≡ take m steps
 up_to-take k [] zero low high = refl
 up_to-take k [] (suc m) low high = refl

@@ -1,4 +1,4 @@
--- The tables by variable, where a step is put at the end or taken from there.
+-- The tables by variable, if a step is put at the end or taken from there.
 use Rattle.std.proofs.Common.{◌≡◌, ◌≢◌, ℕ, zero, suc, ◌<◌, ◌≤◌, ◌+◌, Bool, true, false, not, List, [], ◌∷◌, ◌++◌, length, get_or, take, Option, None, Some, nat_eq, sym, refl, ap, subst, ◌∙◌, inl, inr, arith, All}
 use Rattle.std.proofs.Math.ListN.{set}
 use Rattle.std.specs.List.{count_by}
@@ -108,7 +108,7 @@ distinct_at (s ∷ steps) zero (suc q) d lp lq e = absurd (none_at steps s.lit.v
 distinct_at (s ∷ steps) (suc p) zero d lp lq e = absurd (none_at steps s.lit.var d.0 p (omega arith) e)
 distinct_at (s ∷ steps) (suc p) (suc q) d lp lq e = ap suc (distinct_at steps p q d.1 (omega arith) (omega arith) e)
 
--- where no variable stands twice, the step at a variable's place is its step
+-- if no variable stands twice, the step at a variable's place is its step
 pub step_of-at : (steps : List TrailStep) (v p : ℕ) → ((q : ℕ) → q < p → var_at steps q ≢ v) → p < length steps → var_at steps p ≡ v → step_of steps v ≡ Some (step_at steps p)
 step_of-at [] v p before lt e = absurd (omega arith)
 step_of-at (s ∷ steps) v zero before lt e = step_of-cons_same s steps v (subst (λ n. nat_eq n v ≡ true) (sym e) (eq_refl v))

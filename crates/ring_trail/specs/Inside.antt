@@ -11,7 +11,7 @@ abbrev pub IsDistinct : List TrailStep → Type 0
 IsDistinct [] = ⊤
 IsDistinct (s ∷ steps) = (step_of steps s.lit.var ≡ None) × IsDistinct steps
 
--- the table of values tells the steps
+-- the table of values says the steps
 pub record IsKept (steps : List TrailStep) (values : List (Option Bool)) : Type 0 where
   pub first : (0 < length values) × (slice_index_or values 0 None ≡ None)
   pub told : (v : ℕ) → v < length values → slice_index_or values v None ≡ value_of steps v

@@ -7,7 +7,7 @@ use Rattle.sat_words.specs.declared.shared.Cref.{Cref}
 use Rattle.ring_trail.specs.declared.step.TrailStep.{TrailStep}
 use Rattle.ring_trail.specs.TrailData.{FalseBefore, lit_at, level_at, reason_at}
 
--- the literals of the clause at an address, where one is held there
+-- the literals of the clause at an address, if one is held there
 abbrev pub Held : Type 0
 Held = ℕ → Option (List Literal)
 

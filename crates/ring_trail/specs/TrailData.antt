@@ -89,7 +89,7 @@ IsFalseClause steps c = (l : Literal) → has c l ≡ true → IsFalseOn steps l
 abbrev pub up_to : ℕ → List TrailStep → List TrailStep
 up_to k steps = filter (λ s. nat_le s.level k) steps
 
--- where a level starts: behind the steps of lower levels
+-- where a level starts: after the steps of lower levels
 abbrev pub start_of : List TrailStep → ℕ → ℕ
 start_of steps k = length (filter (λ s. nat_lt s.level k) steps)
 

@@ -8,7 +8,7 @@ ghost use Rattle.ring_trail.specs.TrailData.{TrailData, IsTrail, HasGrown, IsPla
 ghost use Rattle.ring_trail.specs.Reasoned.{Held, IsReasoned, KeepsReasons, ForcesAt};
 ghost use Rattle.ring_trail.specs.Closed.{IsClosed};
 
-/// A variable has a value exactly where its literal stands at some place, and the step there is the variable's.
+/// A variable has a value exactly if its literal stands at some place, and the step there is the variable's.
 pub fn places_are_values()
     ensures none { (steps : List TrailStep) (v : ℕ) → value_of steps v ≡ None → HasNoPlace steps v }
     ensures free { (steps : List TrailStep) (v : ℕ) → HasNoPlace steps v → step_of steps v ≡ None }
@@ -46,7 +46,7 @@ pub fn going_back_keeps_places()
         → (p < length t.steps) × (level_at t.steps p ≤ k) × (step_at (cut_back t k).steps p ≡ step_at t.steps p) }
 {}
 
-/// What is held and seen may change: the reasons stay where each is held as before, or is that of a literal at level 0
+/// What is held and seen may change: the reasons stay if each is held as before, or is that of a literal at level 0
 /// whose unit is seen.
 pub fn more_held_keeps_reasons()
     ensures { (held more : Held) (seen told : List Literal) (steps : List TrailStep) → IsReasoned held seen steps

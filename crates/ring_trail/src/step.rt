@@ -6,7 +6,7 @@ use sat_words::{Cref, Lit};
 pub struct TrailStep {
     /// The literal that is true.
     pub lit: Lit,
-    /// How many decisions stand up to here, this one counted where it is one.
+    /// How many decisions stand up to here, this one counted if it is one.
     pub level: u32,
     /// The clause whose other literals were false before.
     pub reason: Option<Cref>,

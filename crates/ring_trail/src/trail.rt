@@ -96,7 +96,7 @@ impl Trail {
         self.done as u32
     }
 
-    /// The variable's value; none where it has none.
+    /// The variable's value; none if it has none.
     pub fn value(&self, var: u32) -> Option<bool>
         requires { var ≤ self.now.vars }
         ensures { result ≡ value_of self.now.steps var }
@@ -120,7 +120,7 @@ impl Trail {
         self.values.is_false(lit)
     }
 
-    /// Whether the literal is true or false; none where its variable has no value.
+    /// Whether the literal is true or false; none if its variable has no value.
     pub fn truth(&self, lit: Lit) -> Option<bool>
         requires { lit.var ≤ self.now.vars }
         ensures none { IsNone result ↔ (value_of self.now.steps lit.var ≡ None) }
@@ -141,7 +141,7 @@ impl Trail {
         Some(self.steps[place as usize].level)
     }
 
-    /// The clause that gave the variable its value; none where it has no value or its literal has no reason.
+    /// The clause that gave the variable its value; none if it has no value or its literal has no reason.
     pub fn reason(&self, var: u32) -> Option<Cref>
         requires { var ≤ self.now.vars }
         ensures { result ≡ reason_of self.now.steps var }

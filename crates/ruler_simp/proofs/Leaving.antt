@@ -107,7 +107,7 @@ numbered_In n [] c i = absurd i
 numbered_In n (d ∷ F) c (inl e) = inl (ap clause_of e)
 numbered_In n (d ∷ F) c (inr i) = inr (numbered_In (suc n) F c i)
 
--- where unit propagation falsifies no clause, none is empty
+-- if unit propagation falsifies no clause, none is empty
 pub none_empty : (F : FormulaData) (out : LineState) → conflicts (known (begun F out)) [] ≡ false → list_any is_empty F.clauses ≡ false
 unfolding conflicts
 none_empty F out quiet = elim (cases_Bool (list_any is_empty F.clauses)) as (λ _. list_any is_empty F.clauses ≡ false) [

@@ -1,4 +1,4 @@
--- Units that are told are listed, and they are those of the program's opening.
+-- Units that are known are listed, and they are those of the program's opening.
 use Rattle.std.proofs.Common.{◌≡◌, ◌∙◌, ℕ, Bool, true, false, cond, List, [], ◌∷◌, ◌++◌, Option, Some, None, refl, sym, ap, subst, inl, inr, Contains}
 use Rattle.std.specs.List.{filter_map, cons_option}
 use Rattle.std.specs.Set.{is_member, unique_keys}
@@ -73,11 +73,11 @@ module _ (F : List (List Literal)) (out : LineState) (J : List Entry) (w : WorkS
       let s = In_any (same_set (l ∷ [])) (F ++ added J) t in
       In_has (program_opening F J).units l (In_unique (filter_map only_literal (F ++ added J)) l (In_filter_map only_literal (F ++ added J) s.0 l s.1 (only_of l s.0 s.2)))
 
-  -- where no entry adds the empty clause, the journal is one that the ruler may leave
+  -- if no entry adds the empty clause, the journal is one that the ruler may leave
   pub rulers_part : w.ended ≡ false → IsRulersPart F J
   rulers_part going = record { rulers = st.rulers; going = sym st.ended ∙ going; fits = st.sound.fits; accepted = st.sound.accepted }
 
-  -- where the units whose clauses are alive are listed
+  -- if the units whose clauses are alive are listed
   pub units_are : w.ended ≡ false → ((l : Literal) → is_alive_unit w l ≡ true → has w.units l ≡ true) → (l : Literal) → has w.units l ≡ has (program_opening F J).units l
   units_are going alone l = both_true (has w.units l) (has (program_opening F J).units l)
       (λ h. opened_unit l (All_In (λ k. is_told F J k ≡ true) w.units l st.told (has_In w.units l h)))

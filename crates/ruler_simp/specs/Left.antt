@@ -28,7 +28,7 @@ pub record IsLeft (w : WorkState) (s : Simplified) : Type 0 where
   pub units : s.units.items ≡ w.units
   pub stack : s.stack ≡ w.stack
 
--- the answer is that of the run, and tells what is left where this is done
+-- the answer is that of the run, and says what is left if this is done
 abbrev pub IsTaken : Result Run LineStop → WorkState → Result Outcome LineStop → Type 0
 IsTaken (Ok RunDone) w (Ok (LeftOver s)) = IsLeft w s
 IsTaken (Ok RunDone) w (Ok NoModel) = ⊥

@@ -34,7 +34,7 @@ pub record AreOn (vars : ℕ) (s : Simplified) : Type 0 where
   pub units : All (IsOn vars) s.units.items
   pub stack : All (IsFixOn vars) s.stack
 
--- the formula has no empty clause; behind this journal the start clauses, in their order, and the units are those of the
+-- the formula has no empty clause; after this journal the start clauses, in their order, and the units are those of the
 -- program's opening; each model of them, mended by the stack, is one of the formula
 pub record IsSimplified (F : FormulaData) (journal : List Entry) (s : Simplified) : Type 0 where
   pub going : list_any is_empty F.clauses ≡ false
@@ -48,7 +48,7 @@ pub record IsSimplified (F : FormulaData) (journal : List Entry) (s : Simplified
 abbrev pub IsUnended : List Entry → Type 0
 IsUnended journal = list_any is_empty (added journal) ≡ false
 
--- what an answer tells of the formula, of the journal, and of the output before and after: where simplifying was stopped, no
+-- what an answer tells of the formula, of the journal, and of the output before and after: if simplifying was stopped, no
 -- verdict had been reached
 abbrev pub IsAnswer : FormulaData → List Entry → LineState → LineState → Result Outcome LineStop → Type 0
 IsAnswer F journal old new (Ok (LeftOver s)) = IsSimplified F journal s × IsSound old new

@@ -16,7 +16,7 @@ pub enum Simplifier {
     Subsumption,
     /// Equivalent literals are replaced by one of them.
     Equivalence,
-    /// Variables are eliminated where this makes no more clauses.
+    /// Variables are eliminated if this makes no more clauses.
     Elimination,
 }
 

@@ -50,7 +50,7 @@ fn run_round<L: LineOut>(work: &mut Work<L>) -> Result<Run, LineStop>
     )
 }
 
-/// Rounds, as many as these, or fewer where one writes no line.
+/// Rounds, as many as these, or fewer if one writes no line.
 fn run_rounds<L: LineOut>(work: &mut Work<L>, rounds: u32) -> Result<Run, LineStop>
     requires unspent { work.old.output.spent ≡ false }
     requires going { work.old.ended ≡ false }

@@ -15,7 +15,7 @@ use std::alloc::Global;
 /// What is left of a formula.
 #[derive(Drop)]
 pub struct Simplified {
-    /// The clauses of two literals or more that are alive, but for tautologies: each with its number in the log, in order of
+    /// The clauses of two literals or more that are alive, except for tautologies: each with its number in the log, in order of
     /// number.
     pub start: Vec<(u64, Clause)>,
     /// The units, each once, in the order in which they came.

@@ -8,7 +8,7 @@ ghost use Rattle.simp_base.specs.Parts.{takes_part};
 use sat_words::Clause;
 use simp_base::takes_part;
 
-/// Those of the clauses that have two literals or more and are no tautologies, in order of number. They stay where they
+/// Those of the clauses that have two literals or more and are no tautologies, in order of number. They stay if they
 /// are in memory, and no more is taken.
 pub(crate) fn starts_of(clauses: Vec<(u64, Clause)>) -> Vec<(u64, Clause)>
     ensures kept { IsPermutation (filter (λ (c : ℕ × List Literal). takes_part c.1) clauses.items) result.items }

@@ -19,7 +19,7 @@ use Rattle.rup_model.proofs.Copies.{copies_any}
 use Rattle.rup_model.proofs.Units.{two_more}
 use Rattle.rup_model.proofs.Numbers.{clause_copies, journal_matches, lines_last}
 
--- where the log is not ended, no entry adds the empty clause
+-- if the log is not ended, no entry adds the empty clause
 pub not_added : (F : List (List Literal)) (J : List Entry) → ended F J ≡ false → list_any is_empty (added J) ≡ false
 not_added F J going = (or_parts (list_any is_empty F) (list_any is_empty (added J)) (sym (list_any-append is_empty F (added J)) ∙ going)).1
 

@@ -10,7 +10,7 @@ use Rattle.rup_model.specs.Quiet.{IsQuiet}
 use Rattle.rup_model.proofs.Lists.{In, any_In, none_In, In_all, In_has, has_In, In_map}
 use Rattle.rup_model.proofs.Closed.{round-Rounds, Rounds-has}
 
--- where propagation meets no conflict, it ends at a quiet set
+-- if propagation meets no conflict, it ends at a quiet set
 pub Rounds-quiet : (G : List (List Literal)) (A : List Literal) → conflicts G A ≡ false → IsQuiet G (Rounds G A)
 unfolding conflicts
 Rounds-quiet G A quiet = record { open_yet = quiet; closed = λ l h. sym (λ i. round-Rounds G A i l) ∙ h }
@@ -32,7 +32,7 @@ module _ (G : List (List Literal)) (S : Literal → Bool) (q : IsQuiet G S) (d :
   pub quiet_open : ((k : Literal) → In k d → S (opposite k) ≡ true) → ⊥
   quiet_open all = true≢false (sym (In_all (λ k. S (opposite k)) d all) ∙ none_In (falsifies S) G d q.open_yet inG)
 
-  -- a literal is true where all others of its clause are false
+  -- a literal is true if all others of its clause are false
   pub quiet_closed : (l : Literal) → In l d → ((k : Literal) → In k d → (k ≡ l) ⊎ (S (opposite k) ≡ true)) → S l ≡ true
   quiet_closed l inD others =
       elim (cases_Bool (S (opposite l))) as (λ _. S l ≡ true) [

@@ -22,7 +22,7 @@ minus v = record { var = v; neg = true }
 abbrev adds : ℕ → ℕ → Kind → List Literal → Entry
 adds r n k c = Add (record { ring = r; number = n; lits = c; kind = k })
 
--- three clauses, all of which hold where 2 is true
+-- three clauses, all of which hold if 2 is true
 abbrev three : List (List Literal)
 three = (pos 1 ∷ pos 2 ∷ pos 3 ∷ []) ∷ (pos 1 ∷ pos 2 ∷ minus 3 ∷ []) ∷ (minus 1 ∷ pos 2 ∷ []) ∷ []
 

@@ -18,7 +18,7 @@ pub below_same : (n : ℕ) (F G : ℕ → ℕ) → ((i : ℕ) → i < n → G i 
 below_same zero F G same = refl
 below_same (suc n) F G same = let h : G n ≡ F n = same n (omega arith) in let r : below n G ≡ below n F = below_same n F G (λ i lt. same i (omega arith)) in omega arith
 
--- where one value changes
+-- if one value changes
 pub below_put : (n k : ℕ) (F G : ℕ → ℕ) → k < n → ((i : ℕ) → i ≢ k → G i ≡ F i) → below n G + F k ≡ below n F + G k
 below_put zero k F G lt same = absurd (omega arith)
 below_put (suc n) k F G lt same = dite (ℕ_discrete k n)

@@ -15,6 +15,6 @@ abbrev pub below : ℕ → (ℕ → ℕ) → ℕ
 below zero f = 0
 below (suc n) f = f n + below n f
 
--- 1 where the test holds, else 0
+-- 1 if the test holds, else 0
 abbrev pub one_if : Bool → ℕ
 one_if b = if b then 1 else 0

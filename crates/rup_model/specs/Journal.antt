@@ -79,7 +79,7 @@ book_after b e = without_number (with_addition b (addition e)) (deletion e)
 abbrev pub book : List (List Literal) → List Entry → Book
 book F J = fold book_after (formula_book F) J
 
--- 1 where there is a clause with the literals of c
+-- 1 if there is a clause with the literals of c
 abbrev pub copies_at : List Literal → Option (List Literal) → ℕ
 copies_at c None = 0
 copies_at c (Some d) = one_if (same_set c d)
@@ -98,11 +98,11 @@ line_of_addition x = AddLine x.lits
 abbrev pub line_of_deletion : Book → ℕ → Line
 line_of_deletion b n = DelLine (unwrap_or (b.clause n) [])
 
--- the line of an entry, where it has one
+-- the line of an entry, if it has one
 abbrev pub lines_after : Book → Entry → List Line
 lines_after b e = option_to_list (option_map line_of_addition (addition e)) ++ option_to_list (option_map (line_of_deletion b) (deletion e))
 
--- the lines of entries, where some clauses are alive
+-- the lines of entries, if some clauses are alive
 abbrev pub lines_from : Book → List Entry → List Line
 lines_from b [] = []
 lines_from b (e ∷ J) = lines_after b e ++ lines_from (book_after b e) J

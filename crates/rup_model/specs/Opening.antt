@@ -71,7 +71,7 @@ pub record IsOpening (F : List (List Literal)) (o : Opening) : Type 0 where
 
 -- The program's opening
 
--- the clause under this number, where it has two literals or more and no opposites
+-- the clause under this number, if it has two literals or more and no opposites
 abbrev pub start_at : Book → ℕ → Option Start
 start_at b n = option_and_then (λ c. if two_or_more c && not (has_opposites c) then Some (record { number = n; lits = c }) else None) (b.clause n)
 

@@ -62,7 +62,7 @@ pub fn the_program_opens()
     ensures { (F : List (List Literal)) (J0 : List Entry) → IsRulersPart F J0 → IsOpening F (program_opening F J0) }
 {}
 
-/// Where entries of the rings follow those of the ruler, the ruler's part ends where they begin.
+/// If entries of the rings follow those of the ruler, the ruler's part ends where they begin.
 pub fn the_ruler_comes_first()
     ensures front { (J K : List Entry) → All (λ e. is_rulers e ≡ true) J → All (λ e. ring_of e < RULER_RING) K → ruler_part (J ++ K) ≡ J }
     ensures rest { (J K : List Entry) → All (λ e. is_rulers e ≡ true) J → All (λ e. ring_of e < RULER_RING) K → rings_part (J ++ K) ≡ K }

@@ -11,7 +11,7 @@ pub fn a_line_keeps_satisfiable()
         → (a : List Bool) → formula_true a G ≡ true → (b : List Bool) × (formula_true b (alive_after G x) ≡ true) }
 {}
 
-/// Where a formula is true under some assignment, so is what an accepted log leaves alive.
+/// If a formula is true under some assignment, so is what an accepted log leaves alive.
 pub fn a_log_keeps_satisfiable()
     ensures { (F : List (List Literal)) (L : List Line) → Accepted F L → OnVariables L
         → (a : List Bool) → formula_true a F ≡ true → (b : List Bool) × (formula_true b (alive F L) ≡ true) }

@@ -1,4 +1,4 @@
--- A table of truth by code, where the two places of a variable are read and written.
+-- A table of truth by code, if the two places of a variable are read and written.
 use Rattle.std.proofs.Common.{◌≡◌, ◌≢◌, ◌∙◌, ℕ, zero, suc, ◌+◌, ◌*◌, ◌<◌, cond, Bool, true, false, not, List, [], ◌∷◌, length, get_or, replicate, Option, None, Some, refl, ap, subst, arith}
 use Rattle.std.proofs.Math.ListN.{set}
 use Rattle.std.proofs.lemmas.List.{set_comm}

@@ -13,7 +13,7 @@ use Rattle.sat_words.proofs.Canonical.{same_clause}
 
 -- Members
 
--- an `or` of three where the first two are one
+-- an `or` of three if the first two are one
 or_once : (x y : Bool) → (x || y) ≡ (x || (x || y))
 or_once true y = refl
 or_once false y = refl

@@ -1,4 +1,4 @@
--- Truth by a literal's code: two places for each variable, that of the variable and behind it that of its negation.
+-- Truth by a literal's code: two places for each variable, that of the variable and after it that of its negation.
 use Rattle.std.specs.Prelude.{◌≡◌, Bool, true, false, List, [], ◌∷◌, Option, None, Some, ⊤}
 use Rattle.sat_words.specs.declared.values.Truth.{Truth}
 use Rattle.sat_words.specs.declared.values.Truth.TheVariants.{Open, True, False}
@@ -29,7 +29,7 @@ values_of [] = []
 values_of (x ∷ []) = []
 values_of (x ∷ y ∷ by_code) = value_from x ∷ values_of by_code
 
--- each variable has both places, and its negation is true where it is false
+-- each variable has both places, and its negation is true if it is false
 abbrev pub IsPaired : List Truth → Type 0
 IsPaired [] = ⊤
 IsPaired (x ∷ []) = ⊥

@@ -5,7 +5,7 @@ ghost use Rattle.sat_words.specs.Literal.{Literal, code_of};
 ghost use Rattle.sat_words.specs.Clause.{has, same_set, clause_of, InOrder};
 ghost use Rattle.sat_words.specs.Truth.{clause_true};
 
-/// The clause of a list of literals has the literals of the list, is in order, and is the list itself where that is
+/// The clause of a list of literals has the literals of the list, is in order, and is the list itself if that is
 /// in order already. Lists with the same literals have one clause.
 pub fn a_clause_is_a_set()
     ensures members { (c : List Literal) (l : Literal) → has (clause_of c) l ≡ has c l }
@@ -20,7 +20,7 @@ pub fn truth_is_of_the_set()
     ensures { (a : List Bool) (c d : List Literal) → ((l : Literal) → has c l ≡ has d l) → clause_true a c ≡ clause_true a d }
 {}
 
-/// Two lists of literals are equal in the program exactly where they are one list.
+/// Two lists of literals are equal in the program exactly if they are one list.
 pub fn equal_lists_are_one()
     ensures { (c d : List Literal) → IsTrue (pointwise (on code_of ◌==◌) c d) ↔ (c ≡ d) }
 {}

@@ -74,7 +74,7 @@ impl Lits {
 /// A line of a proof in the DRAT format of the SAT Competition: a clause that is added, or one that is deleted.
 #[derive(Clone, PartialEq, Eq, Debug, Drop)]
 pub enum Line {
-    /// Adds a clause with these literals. Where unit propagation does not show that it follows, the first of them is
+    /// Adds a clause with these literals. If unit propagation does not show that it follows, the first of them is
     /// the one on which it may be a resolution asymmetric tautology.
     Add(Lits),
     /// Deletes one clause with these literals, in whatever order.

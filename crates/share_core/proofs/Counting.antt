@@ -183,7 +183,7 @@ module _ (o : CoreOpening) (c : State) (s : Counts o c) where
       let e = s.waits a in
       idle_cell (c.cell a) (omega arith)
 
--- Start cells stay where open cells that are counted keep their clauses
+-- Start cells stay if open cells that are counted keep their clauses
 
 pub starts_kept : (o : CoreOpening) (c d : State) → IsCoreOpening o → Counts o c → StartsOpen o c
     → ((i : ℕ) → d.granted i ≡ false → c.granted i ≡ false)

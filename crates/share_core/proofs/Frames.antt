@@ -1,4 +1,4 @@
--- What an event leaves sound where it does not touch it.
+-- What an event leaves sound if it does not touch it.
 use Rattle.std.proofs.Common.{◌≡◌, ◌≢◌, ◌⊎◌, ℕ, ◌+◌, ◌<◌, ◌≤◌, Bool, true, List, [], ◌∷◌, ◌++◌, length, map, All, Option, Some, None, refl, sym, ap, ◌∙◌, subst, inr, ⊎_elim, arith, append_assoc, length-append}
 use mathlib.Core.Path.{Path}
 use Rattle.sat_words.specs.Literal.{Literal}

@@ -95,7 +95,7 @@ rulers_spaced before (Add x) h = tt
 rulers_spaced before (Del r n) h = tt
 rulers_spaced before (Reduce r) h = absurd (true≢false (sym (and_parts (r == RULER_RING) false h).1))
 
--- where the empty clause is never added, nothing stands after it
+-- if the empty clause is never added, nothing stands after it
 never_empty : (before J : List Entry) → list_any is_empty (added (before ++ J)) ≡ false → EachAfter (λ b e. list_any is_empty (added b) ≡ false) before J
 never_empty before [] h = tt
 never_empty before (e ∷ J) h = (

@@ -13,7 +13,7 @@ use Rattle.share_core.specs.Sound.{put_after, last_put, SlotsSound}
 pub puts_same : (c : State) (r : ℕ) (p : Part) → p.puts ≡ (c.part r).puts → (i : ℕ) → (put c.part r p i).puts ≡ (c.part i).puts
 puts_same c r p same i = at_put c.part r p (λ (q : Part). q.puts ≡ (c.part i).puts) i (λ h. same ∙ ap (λ (k : ℕ). (c.part k).puts) (sym h)) (λ ne. refl)
 
--- slots stay where they and the puts do
+-- slots stay if they and the puts do
 pub slots_kept : (o : CoreOpening) (c d : State) → SlotsSound o c → Path (ℕ → ℕ) d.slot c.slot → ((i : ℕ) → (d.part i).puts ≡ (c.part i).puts) → SlotsSound o d
 slots_kept o c d old ds puts r to k rt tt' kt nz =
     let i : ℕ = slot_of o r to k in

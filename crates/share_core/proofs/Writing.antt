@@ -31,7 +31,7 @@ use Rattle.share_core.proofs.Own.{owned_more}
 use Rattle.share_core.proofs.Whole.{whole_more, whole_begun, few_added}
 use Rattle.share_core.proofs.Frames.{follows_alive, journal_more, fresh_more, stop_more, cells_same, part_moves, part_only, part_slots, copies_put, units_written}
 
--- What may be added is fresh where it is learned
+-- What may be added is fresh if it is learned
 
 may_fresh : (c : State) (r : ℕ) (kind : Kind) (lits : List Literal) → MayAddClause c.opening c.journal (c.part r) r kind lits → is_learn kind ≡ true → may_learn c.opening c.journal (c.part r) r lits ≡ true
 may_fresh c r Ruler lits may is = absurd may

@@ -60,7 +60,7 @@ IsEnabled c (Publish r lit) =
     IsRing c r × (c.turn ≡ Some r) × (is_told c.opening.formula c.journal lit ≡ true) × (length (c.part r).seen ≡ length c.units) × (has c.units lit ≡ false)
 -- the ring has not seen all units
 IsEnabled c (See r) = IsRing c r × (length (c.part r).seen < length c.units)
--- a kind from 1 to 5; a refutation only where the log is ended
+-- a kind from 1 to 5; a refutation only if the log is ended
 IsEnabled c (Stop r kind) = IsRing c r × (1 ≤ kind) × (kind ≤ 5) × (kind ≡ 2 → ended c.opening.formula c.journal ≡ true)
 
 -- each event of the list is enabled after those before it

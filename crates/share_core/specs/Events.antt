@@ -89,7 +89,7 @@ opened_part h p = record p { held = p.held ++ h ∷ []; making = without_at h.ad
 abbrev pub shared_part : ClauseAt → Part → Part
 shared_part h p = record p { held = p.held ++ h ∷ []; shared = p.shared + 1 }
 
--- it holds the cell once less; where the count that it found was 1, the cell waits
+-- it holds the cell once less; if the count that it found was 1, the cell waits
 abbrev pub dropped_part : ClauseAt → ℕ → Part → Part
 dropped_part h found p = record p { held = without_at h.address p.held; waiting = if found == 1 then p.waiting ++ h ∷ [] else p.waiting }
 

@@ -17,7 +17,7 @@ use Rattle.share_core.specs.State.{times_at, CoreOpening, opening_of, IsCoreOpen
 
 -- Counts
 
--- how often a ring reaches an address: as often as it holds it, and once where its grant is open and a start clause
+-- how often a ring reaches an address: as often as it holds it, and once if its grant is open and a start clause
 -- stands there
 abbrev pub reach : CoreOpening → Bool → List ClauseAt → ℕ → ℕ
 reach o granted held a = times_at a held + (if granted then 0 else times_at a o.starts)
@@ -31,7 +31,7 @@ abbrev pub idle_at : Option Cell → ℕ
 idle_at None = 0
 idle_at (Some x) = one_if (is_none x.maker && (x.count == 0))
 
--- a count is how often its address is reached, 0 where there is no cell; an open cell with count 0 waits once, and
+-- a count is how often its address is reached, 0 if there is no cell; an open cell with count 0 waits once, and
 -- nothing else does; a cell under construction has count 0, and stands in the list of the ring that builds it; no count
 -- is above the number of rings and of all shares
 pub record Counts (o : CoreOpening) (c : State) : Type 0 where
@@ -71,7 +71,7 @@ pub record CellsSound (b : Book) (cell : ℕ → Option Cell) : Type 0 where
   pub shape : (a : ℕ) (x : Cell) → cell a ≡ Some x → IsLong x.lits
   pub own : (a b : ℕ) (x y : Cell) → cell a ≡ Some x → cell b ≡ Some y → x.number ≡ y.number → a ≡ b
 
--- the number is that of a start clause, or of an addition behind the opening's journal
+-- the number is that of a start clause, or of an addition after the opening's journal
 abbrev pub IsShared : CoreOpening → ℕ → Type 0
 IsShared o n = Contains (map (λ s. s.number) o.starts) n ⊎ ((book o.formula o.journal).next ≤ n)
 
@@ -82,7 +82,7 @@ AllInCells o J cell = (n : ℕ) (c : List Literal) → IsShared o n → (book o.
 
 -- Slots
 
--- the address of a put, where it is the slot for this ring and class
+-- the address of a put, if it is the slot for this ring and class
 abbrev pub put_after : ℕ → ℕ → ℕ → PutNote → ℕ
 put_after to class a n = if (n.to == to) && (n.class == class) then n.address else a
 
@@ -101,7 +101,7 @@ abbrev pub placed : ℕ → ℕ → List Entry → List Placed
 placed r i [] = []
 placed r i (e ∷ J) = if ring_of e == r then record { place = i; entry = e } ∷ placed r (i + 1) J else placed r (i + 1) J
 
--- the log is sound and has room; behind the ruler's part all entries are of rings
+-- the log is sound and has room; after the ruler's part all entries are of rings
 pub record JournalSound (o : CoreOpening) (J : List Entry) : Type 0 where
   pub log : LogSound o.formula J
   pub room : length J ≤ MAX_ENTRIES
@@ -112,7 +112,7 @@ pub record FreshSound (starts : List (List Literal)) (J : List Entry) : Type 0 w
   pub fresh : EachAfter (IsFresh starts) [] J
   pub spaced : EachAfter IsSpaced [] J
 
--- behind the opening's journal, each ring's part has its entries
+-- after the opening's journal, each ring's part has its entries
 abbrev pub EntriesOwned : CoreOpening → List Entry → (ℕ → Part) → Type 0
 EntriesOwned o J part = (added : List Entry) × (J ≡ o.journal ++ added) × ((r : ℕ) → r < o.rings → (part r).wrote ≡ placed r (length o.journal) added)
 

@@ -26,7 +26,7 @@ abbrev pub without_at : ℕ → List ClauseAt → List ClauseAt
 without_at a [] = []
 without_at a (h ∷ hs) = if h.address == a then hs else h ∷ without_at a hs
 
--- the list with the cell behind it; at address 0 there is none
+-- the list with the cell after it; at address 0 there is none
 abbrev pub with_cell : ClauseAt → List ClauseAt → List ClauseAt
 with_cell h hs = if h.address == 0 then hs else hs ++ h ∷ []
 
@@ -86,7 +86,7 @@ opened o = record {
 
 -- Cells and slots, read
 
--- the count of the cell, 0 where there is none
+-- the count of the cell, 0 if there is none
 abbrev pub count_at : Option Cell → ℕ
 count_at None = 0
 count_at (Some x) = x.count

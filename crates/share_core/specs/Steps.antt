@@ -12,7 +12,7 @@ abbrev pub Steps : State → Event → Step → State → Type 0
 Steps c e Done d = IsEnabled c e × (d ≡ after c e)
 Steps c e Refused d = (IsEnabled c e → ⊥) × (d ≡ c)
 
--- Done where both are
+-- Done if both are
 abbrev pub and_then : Step → Step → Step
 and_then Done s = s
 and_then Refused s = Refused

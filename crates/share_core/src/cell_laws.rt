@@ -72,7 +72,7 @@ pub fn what_follows_is_valid()
         → rup (alive c.opening.formula (lines c.opening.formula c.journal)) lits ≡ true }
 {}
 
-/// Each start clause, and each addition of two literals or more behind the opening's journal, is the clause of a cell,
+/// Each start clause, and each addition of two literals or more after the opening's journal, is the clause of a cell,
 /// unless a deletion names it.
 pub fn cells_hold_the_clauses()
     ensures starts { (c : State) (s : ClauseAt) → Sound c → Contains c.opening.starts s → deleted c.journal s.number ≡ false → IsInCell c s.number s.lits }

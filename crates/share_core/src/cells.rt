@@ -25,7 +25,7 @@ pub(crate) fn is_free(cells: &[StoredCell], address: u64) -> bool
     }
 }
 
-/// The count of the cell, 0 where there is none.
+/// The count of the cell, 0 if there is none.
 pub(crate) fn count_of(cells: &[StoredCell], address: u64) -> u64
     ensures { result ≡ count_at (cell_in address cells.now) }
 {
@@ -35,7 +35,7 @@ pub(crate) fn count_of(cells: &[StoredCell], address: u64) -> u64
     }
 }
 
-/// The number of the cell's clause, 0 where there is none.
+/// The number of the cell's clause, 0 if there is none.
 pub(crate) fn number_of(cells: &[StoredCell], address: u64) -> u64
     ensures { result ≡ number_at (cell_in address cells.now) }
 {
@@ -45,7 +45,7 @@ pub(crate) fn number_of(cells: &[StoredCell], address: u64) -> u64
     }
 }
 
-/// A copy of the cell's literals, none where there is no cell.
+/// A copy of the cell's literals, none if there is no cell.
 pub(crate) fn lits_of(alloc: Global, cells: &[StoredCell], address: u64) -> Result<Lits, AllocError>
     ensures { IfOk result (λ lits. lits ≡ lits_at (cell_in address cells.now)) }
 {

@@ -337,7 +337,7 @@ impl Progress {
         own.seen.push(next)
     }
 
-    /// The stop is set, where none stands.
+    /// The stop is set, if none stands.
     pub(crate) fn set_stop(&mut self, origin: &Origin, ring: u32, kind: u8)
         requires kept { Kept (data_of origin.now self.old) }
         requires enabled { IsEnabled (state_of (data_of origin.now self.old)) (StopEvent ring kind) }

@@ -130,7 +130,7 @@ pub enum Event {
         /// Whose step it is.
         ring: u32,
     },
-    /// Tells all rings to stop, where none has said so before.
+    /// Tells all rings to stop, if none has said so before.
     Stop {
         /// Whose step it is.
         ring: u32,

@@ -108,7 +108,7 @@ impl Progress {
         follows(alloc, own.held.as_slice(), own.seen.as_slice(), lits)
     }
 
-    /// Whether the ring may write, and may add the clause but for what it knows.
+    /// Whether the ring may write, and may add the clause except for what it knows.
     fn may_build(&self, origin: &Origin, ring: u32, kind: Kind, lits: &[Lit], address: u64) -> bool
         ensures { let c = state_of (data_of origin.now self.now) in result ≡ (writes c ring && (may_add c ring kind lits.now && (is_long lits.now && (is_none (c.cell address) && not (address == 0))))) }
     {

@@ -46,7 +46,7 @@ impl<T: Copied + Drop> Items<T> {
         }
     }
 
-    /// Puts the item behind the others.
+    /// Puts the item after the others.
     pub(crate) fn push(&mut self, item: T) -> Result<(), AllocError>
         ensures { OnOk result (self.new ≡ self.old ++ item ∷ []) }
     {
@@ -54,7 +54,7 @@ impl<T: Copied + Drop> Items<T> {
         Ok(())
     }
 
-    /// Puts copies of the items behind the others, in order.
+    /// Puts copies of the items after the others, in order.
     pub(crate) fn extend(&mut self, alloc: Global, items: &[T]) -> Result<(), AllocError>
         ensures { OnOk result (self.new ≡ self.old ++ items.now) }
     {

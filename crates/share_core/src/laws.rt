@@ -33,7 +33,7 @@ pub fn journals_grow()
     ensures opening { (c : State) (es : List Event) → (fold after c es).opening ≡ c.opening }
 {}
 
-/// The journal begins with the opening's, behind which all entries are those of the rings.
+/// The journal begins with the opening's, after which all entries are those of the rings.
 pub fn entries_are_of_rings()
     ensures longer { (c : State) → Sound c → length c.opening.journal ≤ length c.journal }
     ensures rings { (c : State) → Sound c → (added : List Entry) × (c.journal ≡ c.opening.journal ++ added) × All (λ e. ring_of e < c.opening.rings) added }
@@ -49,7 +49,7 @@ pub fn sound_is_plain()
     ensures { (c : State) → Sound c → Plain c }
 {}
 
-/// What enabled events leave: the opening, where there is none; what one more or a list more makes of it. It is sound,
+/// What enabled events leave: the opening, if there is none; what one more or a list more makes of it. It is sound,
 /// and was opened with what the opening says.
 pub fn events_leave_states()
     ensures none { (o : CoreOpening) → IsCoreOpening o → Left o (opened o) }
@@ -59,7 +59,7 @@ pub fn events_leave_states()
     ensures opening { (o : CoreOpening) (c : State) → Left o c → c.opening ≡ o }
 {}
 
-/// A list of events is enabled exactly where its front is, and its rest in the state that the front leaves.
+/// A list of events is enabled exactly if its front is, and its rest in the state that the front leaves.
 pub fn enabled_lists_join()
     ensures front { (c : State) (es fs : List Event) → AllEnabled c (es ++ fs) → AllEnabled c es }
     ensures rest { (c : State) (es fs : List Event) → AllEnabled c (es ++ fs) → AllEnabled (fold after c es) fs }

@@ -97,7 +97,7 @@ pub(crate) fn remove_at(list: &mut Items<ClauseAt>, address: u64)
     }
 }
 
-/// Puts the cell behind the list; at address 0 there is none.
+/// Puts the cell after the list; at address 0 there is none.
 pub(crate) fn add_cell(list: &mut Items<ClauseAt>, cell: ClauseAt) -> Result<(), AllocError>
     ensures { OnOk result (list.new ≡ with_cell cell list.old) }
 {
@@ -107,7 +107,7 @@ pub(crate) fn add_cell(list: &mut Items<ClauseAt>, cell: ClauseAt) -> Result<(),
     list.push(cell)
 }
 
-/// Puts the cell behind the list, where the test holds.
+/// Puts the cell after the list, if the test holds.
 pub(crate) fn add_where(
     list: &mut Items<ClauseAt>,
     cell: ClauseAt,

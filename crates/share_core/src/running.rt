@@ -45,7 +45,7 @@ pub enum Step {
 }
 
 impl Progress {
-    /// What the event does, where it is enabled.
+    /// What the event does, if it is enabled.
     fn make(&mut self, alloc: Global, origin: &Origin, event: &Event) -> Result<(), AllocError>
         requires kept { Kept (data_of origin.now self.old) }
         requires enabled { IsEnabled (state_of (data_of origin.now self.old)) event.now }
@@ -95,7 +95,7 @@ impl Progress {
         }
     }
 
-    /// One event, where it is enabled.
+    /// One event, if it is enabled.
     fn step(&mut self, alloc: Global, origin: &Origin, event: &Event) -> Result<Step, AllocError>
         requires { Kept (data_of origin.now self.old) }
         ensures steps { IfOk result (λ s. Steps (state_of (data_of origin.now self.old)) event.now s (state_of (data_of origin.now self.new))) }
@@ -108,7 +108,7 @@ impl Progress {
         Ok(Step::Done)
     }
 
-    /// The events in order, each where it is enabled.
+    /// The events in order, each if it is enabled.
     fn run(&mut self, alloc: Global, origin: &Origin, events: &[Event]) -> Result<Step, AllocError>
         requires { Kept (data_of origin.now self.old) }
         ensures runs { IfOk result (λ s. Runs (state_of (data_of origin.now self.old)) events.now s (state_of (data_of origin.now self.new))) }
@@ -123,7 +123,7 @@ impl Progress {
     }
 }
 
-/// Done where both are.
+/// Done if both are.
 fn and_then(first: Step, second: Step) -> Step
     ensures { result ≡ and_then first second }
 {
@@ -133,7 +133,7 @@ fn and_then(first: Step, second: Step) -> Step
     }
 }
 
-/// The literals of the formula's clause with this number, none where there is no such clause.
+/// The literals of the formula's clause with this number, none if there is no such clause.
 fn lits_under(alloc: Global, clauses: &[Clause], number: u64) -> Result<Lits, AllocError>
     ensures { IfOk result (λ lits. lits ≡ unwrap_or (formula_clause clauses.now number) []) }
 {
@@ -257,14 +257,14 @@ impl Core {
         })
     }
 
-    /// How many hold the cell at the address; 0 where there is none.
+    /// How many hold the cell at the address; 0 if there is none.
     pub fn count(&self, address: u64) -> u64
         ensures { result ≡ count_at ((state_of self.now).cell address) }
     {
         count_of(self.progress.cells.as_slice(), address)
     }
 
-    /// The number of the clause in the cell at the address; 0 where there is none.
+    /// The number of the clause in the cell at the address; 0 if there is none.
     pub fn number(&self, address: u64) -> u64
         ensures { result ≡ number_at ((state_of self.now).cell address) }
     {
@@ -288,7 +288,7 @@ impl Core {
         self.progress.is_ring(ring) && has_at(&self.progress.ring(ring).waiting, address)
     }
 
-    /// The address in a ring's slot for another ring; 0 where it is empty, or there is none.
+    /// The address in a ring's slot for another ring; 0 if it is empty, or there is none.
     pub fn slot(&self, from: u32, to: u32, class: u8) -> u64
         ensures there { let c = state_of self.now in from < c.opening.rings → to < c.opening.rings → class < 4 → result ≡ c.slot (slot_of c.opening from to class) }
         ensures none { let c = state_of self.now in (c.opening.rings ≤ from) ⊎ (c.opening.rings ≤ to) ⊎ (4 ≤ class) → result ≡ 0 }
@@ -331,7 +331,7 @@ impl Core {
         self.progress.stop
     }
 
-    /// One event, where it is enabled. After an error nothing has changed.
+    /// One event, if it is enabled. After an error nothing has changed.
     pub fn step(&mut self, alloc: Global, event: &Event) -> Result<Step, AllocError>
         ensures ok { IfOk result (λ s. Steps (state_of self.old) event.now s (state_of self.new)) }
         ensures err { OnErr result (self.new ≡ self.old) }
@@ -342,7 +342,7 @@ impl Core {
         Ok(step)
     }
 
-    /// The events in order; those that are not enabled are passed over. The answer is Done exactly where each event was.
+    /// The events in order; those that are not enabled are passed over. The answer is Done exactly if each event was.
     /// After an error nothing has changed.
     pub fn run(&mut self, alloc: Global, events: &[Event]) -> Result<Step, AllocError>
         ensures ok { IfOk result (λ s. Runs (state_of self.old) events.now s (state_of self.new)) }

@@ -1,4 +1,4 @@
--- Start clauses lie one behind the other.
+-- Start clauses lie one after the other.
 use Rattle.std.proofs.Common.{◌≡◌, ◌≢◌, ℕ, zero, suc, ◌+◌, ◌-◌, ◌^◌, ◌<◌, ◌≤◌, ◌==◌, true, false, List, [], ◌∷◌, ◌++◌, map, length, fold, drop, All, refl, sym, ap, ◌∙◌, subst, ⊎_elim, inl, inr, arith, eq-eqb, ne_eqb, true≢false, append-nil, append_assoc, get_or, take, Some, None}
 use Rattle.std.specs.Prelude.{nat_le, nat_eq, if◌then◌else◌}
 use Rattle.std.specs.List.{IsDistinct, AllByRecursion}

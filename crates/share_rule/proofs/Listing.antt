@@ -299,7 +299,7 @@ seen_first v s one le =
     let first = s.places.first in
     shorter_front (only v).core.seen v.opening.units front.0 first.0 (sym front.1 ∙ first.1 ∙ ap (λ (o : CoreOpening). o.units ++ first.0) (sym s.opening)) le
 
--- a unit may be listed where its word is stored
+-- a unit may be listed if its word is stored
 pub still : (lit : Literal) (n : ℕ) (v : View) → MayPublish lit v → (only (after_unit n v) ≡ unit_part n (only v)) × MayPublish lit (after_unit n v)
 still lit n v may =
     let is : only (after_unit n v) ≡ unit_part n (only v) = ap (λ ps. slice_index_or ps 0 no_part) (only_changed (unit_part n) v may.writing.0) in

@@ -36,7 +36,7 @@ times_at_part [] i y e = absurd (some-ne-none y (sym e))
 times_at_part (x ∷ xs) zero y e = let same : ring_of x ≡ ring_of y = ap ring_of (some-injective x y e) in let o : one_if (ring_of x == ring_of y) ≡ 1 = ap one_if (eq-eqb (ring_of x) (ring_of y) same) in omega arith
 times_at_part (x ∷ xs) (suc i) y e = let k = times_at_part xs i y e in omega arith
 
--- both tests hold where their conjunction counts
+-- both tests hold if their conjunction counts
 pub both_true : (a b : Bool) → 0 < one_if (a && b) → (a ≡ true) × (b ≡ true)
 both_true true true h = (refl, refl)
 both_true true false h = absurd (omega arith)

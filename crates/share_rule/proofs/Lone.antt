@@ -1,4 +1,4 @@
--- Where there is one ring, a cell is counted as often as that ring holds it.
+-- If there is one ring, a cell is counted as often as that ring holds it.
 use Rattle.std.proofs.Common.{◌≡◌, ◌≢◌, ℕ, ◌+◌, ◌<◌, ◌==◌, true, if◌then◌else◌, List, [], ◌∷◌, fold, refl, sym, ap, ◌∙◌, subst, arith, ne_eqb}
 use Rattle.rup_model.specs.Basics.{one_if, below}
 use Rattle.rup_model.proofs.Sums.{below_none, at_put}

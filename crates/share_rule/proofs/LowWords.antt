@@ -16,14 +16,14 @@ use Rattle.share_rule.specs.Seen.{Stands}
 use Rattle.share_rule.specs.Shown.{Words, IsStored, IsOut, ring_of, stop_number}
 use Rattle.share_rule.proofs.Words.{spells_else, unit_kept}
 
--- what rings stored stays, where no cell changes
+-- what rings stored stays, if no cell changes
 low_stored : (l : Layout) (c d : State) (ws : List ℕ) (w n i : ℕ) (ss : List StoredWord) → Stands l c → w < first_cell l → ((a : ℕ) → d.cell a ≡ c.cell a) → IsStored c ws i ss → IsStored d (set ws w n) i ss
 low_stored l c d ws w n i ss st low same h = record {
   words = λ v m e. let b = h.inside v m e in let lo = b.4 in let at = (st.inside b.0 b.1 b.2).0 in get_or-set_other ws w v n 0 (λ q. omega arith) ∙ h.words v m e;
   inside = λ v m e. let b = h.inside v m e in (b.0, b.1, same b.0 ∙ b.2, b.3, b.4, b.5);
 }
 
--- and so does a unit that is not counted yet, where turn and units stay and the word is none of a unit's
+-- and so does a unit that is not counted yet, if turn and units stay and the word is none of a unit's
 pub low_out : (l : Layout) (c d : State) (ws : List ℕ) (w n : ℕ) (p : RingPart) → Stands l c → w < first_cell l → ((a : ℕ) → d.cell a ≡ c.cell a) → d.turn ≡ c.turn → d.units ≡ c.units → ((k : ℕ) → k < 2 * l.vars → unit_at l k ≢ w)
     → IsOut l c ws p → IsOut l d (set ws w n) p
 low_out l c d ws w n p st low same turn units far z = (low_stored l c d ws w n (ring_of p) p.stored st low same z.0, unit_kept l c d ws w n p turn units far z.1)

@@ -54,7 +54,7 @@ one_ring l c glue owner id v f is =
     let o = part_owner l c glue owner id v 0 (only v) f at in
     (f.parts 0 (only v) at, o.1, o.2)
 
--- the ring that was told is the pass's where the pass has all rings
+-- the ring that was known is the pass's if the pass has all rings
 pub told_own : {S : Type 0} (stands : S → BookOrigin → Layout → CoreOpening → List Entry → Bool → Type 0) (l : Layout) (s : Table (Option S) View) (h : Shows stands l s) (id : ℕ) (v : View) → get_elem? s.views id ≡ some v
     → ((r : ℕ) → r < h.core.opening.rings → h.owner r ≡ id) → WasTold s.views → SomeTold v.parts
 told_own stands l s h id v at own t =
@@ -85,7 +85,7 @@ turn_has c i t = by c.turn
 pub turn_is : (c : State) (i : ℕ) (t : Taken) → turn_of c i ≡ Some t → t.journal ≡ c.journal
 turn_is c i t e = sym (ap (λ (x : Taken). x.journal) (some_same (record { journal = c.journal }) t (sym (turn_some c i (turn_has c i t e)) ∙ e)))
 
--- the turn is the same where turn and journal are
+-- the turn is the same if turn and journal are
 pub turn_same : (c d : State) (i : ℕ) → d.journal ≡ c.journal → d.turn ≡ c.turn → turn_of d i ≡ turn_of c i
 turn_same c d i j t = λ k. if is_ring i (t k) then Some (record { journal = j k }) else None
 
@@ -102,7 +102,7 @@ refused_more o J was now more Broken e = more e
 refused_more o J was now more ProofFault e = more e
 refused_more o J was now more (NoHole need largest) lt = lt
 
--- what slots have is the same where slots and clauses are
+-- what slots have is the same if slots and clauses are
 pub given_same : (c d : State) (i : ℕ) (gave : List ClauseAt) → d.opening ≡ c.opening → ((k : ℕ) → d.slot k ≡ c.slot k) → ((a : ℕ) → clause_at d a ≡ clause_at c a) → HasGiven c i gave → HasGiven d i gave
 given_same c d i gave same slots clauses h = subst
     (λ (o : CoreOpening). (to class : ℕ) → to < o.rings → class < 4 → d.slot (slot_of o i to class) ≢ 0 → Contains gave (clause_at d (d.slot (slot_of o i to class)))) (sym same)
@@ -143,7 +143,7 @@ pub record Frame (r : ℕ) (c d : State) (glue glue' : ℕ → ℕ) : Type 0 whe
   pub given : (i : ℕ) (gave : List ClauseAt) → i ≢ r → i < c.opening.rings → HasGiven c i gave → HasGiven d i gave
   pub glue_kept : (n : ℕ) → n < (book c.opening.formula c.journal).next → glue' n ≡ glue n
 
--- where journal, turn, units, stop, slots and glues stay, and the clauses of cells
+-- if journal, turn, units, stop, slots and glues stay, and the clauses of cells
 pub record Stays (c d : State) : Type 0 where
   pub opening : d.opening ≡ c.opening
   pub journal : d.journal ≡ c.journal
@@ -259,7 +259,7 @@ module _ {S : Type 0} (stands : S → BookOrigin → Layout → CoreOpening → 
         refl,
       )
 
-  -- the same where the pass has that one ring, and the grants stay
+  -- the same if the pass has that one ring, and the grants stay
   pub moved_with : (s : Table (Option S) View) (h : Shows stands l s) (d : State) (glue' : ℕ → ℕ) (id : ℕ) (v w : View) (q : RingPart) (ws : List ℕ) (hs : List (maybe.Option (Option S))) → get_elem? s.views id ≡ some v
       → Left d.opening d → Places l d → Words l d glue' ws → Frame (ring_of (only v)) h.core d h.glue glue' → ((i : ℕ) → d.granted i ≡ h.core.granted i)
       → (fault : Bool) → IsHome stands h.origin l d fault (record { words = ws; homes = hs; views = set s.views id w }) → v.parts ≡ only v ∷ [] → w.rights ≡ v.rights → w.parts ≡ q ∷ [] → ring_of q ≡ ring_of (only v) → ground w ≡ ground v → w.opening ≡ v.opening → is_ready w.stage ≡ is_ready v.stage → in_draft w.stage ≡ in_draft v.stage → IsStopOf d.stop w.stop w.parts → IsPart d glue' q
@@ -293,7 +293,7 @@ module _ {S : Type 0} (stands : S → BookOrigin → Layout → CoreOpening → 
       only_knows zero y e = subst (KnowsFault fault) (some-injective q y (ap (λ ps. get_elem? ps 0) (sym wp) ∙ e)) knows
       only_knows (suc i) y e = absurd (some-ne-none y (sym e ∙ ap (λ ps. get_elem? ps (suc i)) wp))
 
-  -- the same where the ring neither takes the turn nor gives it back
+  -- the same if the ring neither takes the turn nor gives it back
   pub moved : (s : Table (Option S) View) (h : Shows stands l s) (d : State) (glue' : ℕ → ℕ) (id : ℕ) (v w : View) (q : RingPart) (ws : List ℕ) (hs : List (maybe.Option (Option S))) → get_elem? s.views id ≡ some v
       → Left d.opening d → Places l d → Words l d glue' ws → Frame (ring_of (only v)) h.core d h.glue glue' → ((i : ℕ) → d.granted i ≡ h.core.granted i)
       → IsHome stands h.origin l d h.fault (record { words = ws; homes = hs; views = set s.views id w }) → v.parts ≡ only v ∷ [] → w.rights ≡ v.rights → w.parts ≡ q ∷ [] → with_turn q ≡ with_turn (only v) → ground w ≡ ground v → w.opening ≡ v.opening → is_ready w.stage ≡ is_ready v.stage → in_draft w.stage ≡ in_draft v.stage → IsStopOf d.stop w.stop w.parts → IsPart d glue' q

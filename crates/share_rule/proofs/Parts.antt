@@ -81,7 +81,7 @@ module _ (c : State) (sound : Sound c) (r a : ℕ) (lt : r < c.opening.rings) (m
 -- Views
 
 module _ {S : Type 0} (stands : S → BookOrigin → Layout → CoreOpening → List Entry → Bool → Type 0) where
-  -- where a pass is open, the table is
+  -- if a pass is open, the table is
   pub is_open : (k : Key) (s : Table (Option S) View) (id : ℕ) (v : View) → Shown stands k s → get_elem? s.views id ≡ some v → is_ready v.stage ≡ true → Shows stands k.layout s
   is_open k s id v h at op = ⊎_elim
       (λ (d : Draft stands k s). absurd (closed d.view d.closed.1 id (ap (λ (vs : List View). get_elem? vs id) (sym d.views) ∙ at)))
@@ -91,7 +91,7 @@ module _ {S : Type 0} (stands : S → BookOrigin → Layout → CoreOpening → 
       closed u nr zero e = true≢false (sym op ∙ ap (λ (x : View). is_ready x.stage) (sym (some-injective u v e)) ∙ nr)
       closed u nr (suc i) e = some-ne-none v (sym e)
 
-  -- where a pass is not, neither is the table
+  -- if a pass is not, neither is the table
   pub is_draft : (k : Key) (s : Table (Option S) View) (id : ℕ) (v : View) → Shown stands k s → get_elem? s.views id ≡ some v → in_draft v.stage ≡ true → Draft stands k s
   is_draft k s id v h at dr = ⊎_elim
       (λ (d : Draft stands k s). d)

@@ -55,7 +55,7 @@ module _ {S : Type 0} (stands : S → BookOrigin → Layout → CoreOpening → 
       → Shows stands k.layout (record { words = ws; homes = s.homes; views = set s.views id w }) → Seen w
   told s ws id v w at ready next = seen_of stands k.layout (record { words = ws; homes = s.homes; views = set s.views id w }) id w next (set_here s.views id w (at_in s.views id v at)) ready
 
-  -- what a drop finds, where there is no other ring
+  -- what a drop finds, if there is no other ring
   alone_found : (s : Table (Option S) View) (h : Shows stands k.layout s) (id a : ℕ) (v : View) → get_elem? s.views id ≡ some v → is_ready v.stage ≡ true → IsHolding a v → v.opening.rings ≡ 1
       → slice_index s.words a ≡ times_at a (only v).core.held
   alone_found s h id a v at ready holding alone =

@@ -45,7 +45,7 @@ spelled (Some t) h =
     let r : n / 8 ≡ t.ring = omega arith in
     (λ i. if ne_eqb n 0 (λ e. omega arith) i then None else Some (stop_in n)) ∙ (λ i. Some (record { kind = k i; ring = r i }))
 
--- none was seen where none stands
+-- none was seen if none stands
 none_seen : (standing x : Option Stop) (ps : List RingPart) → standing ≡ None → IsStopOf standing x ps → x ≡ None
 none_seen standing None ps e f = refl
 none_seen standing (Some t) ps e f = absurd (none_some t (sym e ∙ f.stands t refl))
@@ -105,7 +105,7 @@ module _ {S : Type 0} (stands : S → BookOrigin → Layout → CoreOpening → 
       let next = look_next s h id v at ready in
       (w, keeps, tt, inr next.0, ((refl, refl, told stands k s (set s.words 1 n) id v w at ready next.0), may_find_it s h id v at))
 
-  -- where no stop stands, the ring's does
+  -- if no stop stands, the ring's does
   win_next : (s : Table (Option S) View) (h : Shows stands k.layout s) (id kind r : ℕ) (v : View) → get_elem? s.views id ≡ some v → is_ready v.stage ≡ true → IsRing r v → 1 ≤ kind → kind ≤ 5 → (kind ≡ 2 → (only v).ended ≡ true) → slice_index s.words 1 ≡ 0
       → (n : Shows stands k.layout (record { words = set s.words 1 (kind + 8 * r); homes = s.homes; views = set s.views id (after_win (kind + 8 * r) v) })) × (n.core ≡ after h.core (StopEvent r kind))
   win_next s h id kind r v at ready ring low high refuted zero_found =

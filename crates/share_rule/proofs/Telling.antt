@@ -42,14 +42,14 @@ told_back (p ∷ ps) qs t = told_more p (ps ++ qs) (told_back ps qs t)
 pub told_here : (vs : List View) (id : ℕ) (v w : View) → get_elem? vs id ≡ some v → SomeTold w.parts → WasTold (set vs id w)
 told_here vs id v w at t = (id, w, set_here vs id w (at_in vs id v at), t)
 
--- the ring that was told is the pass's, or another's
+-- the ring that was known is the pass's, or another's
 told_by_cases : (P : Type 0) (vs : List View) (id : ℕ) (v : View) → get_elem? vs id ≡ some v → (SomeTold v.parts → P)
     → ((j : ℕ) (u : View) → j ≢ id → get_elem? vs j ≡ some u → SomeTold u.parts → P) → WasTold vs → P
 told_by_cases P vs id v at here there t = dite (ℕ_discrete t.0 id)
     (λ e. here (subst (λ (u : View). SomeTold u.parts) (some-injective t.1 v (sym t.2 ∙ ap (get_elem? vs) e ∙ at)) t.3))
     (λ ne. there t.0 t.1 ne t.2 t.3)
 
--- a pass moves, and keeps what its rings were told
+-- a pass moves, and keeps what its rings were known
 pub still_told : (vs : List View) (id : ℕ) (v w : View) → get_elem? vs id ≡ some v → (SomeTold v.parts → SomeTold w.parts) → WasTold vs → WasTold (set vs id w)
 still_told vs id v w at keeps t = told_by_cases (WasTold (set vs id w)) vs id v at
     (λ here. told_here vs id v w at (keeps here))

@@ -68,7 +68,7 @@ turn_words l c d glue glue' ws n st w n_is stop units grants slots_are cells =
           subst (λ (g : ℕ). Spells (set ws 0 n) b y.number g y.lits) (sym q.1) (spells_else ws 0 n b y.number (glue y.number) y.lits (λ i some it z. omega arith) (w.cell_is b y q.0 o));
     }
 
--- what rings stored stays where the cells stay that they build
+-- what rings stored stays if the cells stay that they build
 pub turn_stored : (l : Layout) (c d : State) (ws : List ℕ) (n i : ℕ) (ss : List StoredWord) → Stands l c → ((a j : ℕ) (x : Cell) → c.cell a ≡ Some x → x.maker ≡ Some j → d.cell a ≡ Some x) → IsStored c ws i ss → IsStored d (set ws 0 n) i ss
 turn_stored l c d ws n i ss st built h = record {
   words = λ w m e. let b = h.inside w m e in let lo = b.4 in let at = (st.inside b.0 b.1 b.2).0 in get_or-set_other ws 0 w n 0 (λ q. omega arith) ∙ h.words w m e;

@@ -28,7 +28,7 @@ use Rattle.share_rule.specs.Views.{stored_at}
 use Rattle.share_rule.specs.Steps.{stored_else}
 use Rattle.std.proofs.lemmas.Bool.Decides.{eqb_tells}
 
--- a word that is none of a cell's behind its count
+-- a word that is none of a cell's after its count
 pub spells_else : (ws : List ℕ) (w v a number glue : ℕ) (lits : List Literal) → ((i : ℕ) → 0 < i → i < words_for (length lits) → w ≢ a + i) → Spells ws a number glue lits → Spells (set ws w v) a number glue lits
 spells_else ws w v a number glue lits far s = record {
   number_is = get_or-set_other ws w (a + 1) v 0 (λ e. far 1 (omega arith) (omega arith) (sym e)) ∙ s.number_is;
@@ -66,7 +66,7 @@ spelled_by ws a number glue lits h = record {
       ∙ ap (lit_word lits) z;
 }
 
--- the clause of a cell stays where its count changes
+-- the clause of a cell stays if its count changes
 pub clause_recounted : (c : State) (r a n : ℕ) (p : Part) (b : ℕ) → clause_at (recounted c r a n p) b ≡ clause_at c b
 clause_recounted c r a n p b = at_put c.cell a (with_count n (c.cell a)) (λ (q : Option Cell). record { address = b; number = number_at q; lits = lits_at q } ≡ clause_at c b) b
     (λ e. let k = same (c.cell a) in (λ i. record { address = b; number = (k.0 ∙ ap number_at (ap c.cell (sym e))) i; lits = (k.1 ∙ ap lits_at (ap c.cell (sym e))) i }))
@@ -144,7 +144,7 @@ module _ (l : Layout) (c : State) (st : Stands l c) (a n : ℕ) (x : Cell) (is :
     inside = λ w m e. let b = h.inside w m e in (b.0, b.1, put_else c.cell a (with_count n (c.cell a)) b.0 (λ z. other b.1 (ap c.cell (sym z) ∙ b.2) b.3) ∙ b.2, b.3, b.4, b.5);
   }
 
-  -- what is stored elsewhere stays where the cell is opened
+  -- what is stored elsewhere stays if the cell is opened
   pub open_stored : (ws : List ℕ) (i : ℕ) (ss : List StoredWord) → IsStored c ws i ss → IsStored (recounted c r a n p) (set ws a n) i (stored_else a (words_for (length x.lits)) ss)
   open_stored ws i ss h = record {
     words = λ w m e. let t = else_at a (words_for (length x.lits)) w m ss e in let b = h.inside w m t.0 in let lo = b.4 in

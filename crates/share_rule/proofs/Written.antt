@@ -1,4 +1,4 @@
--- What a turn leaves behind its notes.
+-- What a turn leaves after its notes.
 use Rattle.std.proofs.Common.{◌≡◌, ℕ, ◌<◌, ◌≤◌, List, [], ◌∷◌, ◌++◌, length, refl, sym, ap, ◌∙◌, subst, arith, length-append, Some}
 use lib.ListN.{get_elem?}
 use Rattle.rup_model.specs.declared.journal.Entry.{Entry}

@@ -11,7 +11,7 @@ use Rattle.share_rule.specs.declared.view.BookOrigin.{BookOrigin}
 use Rattle.share_rule.specs.Room.{room}
 
 -- how many entries stand, the last number given, whether the empty clause does, whether a write has failed, the free words,
--- and the lines where they are kept
+-- and the lines if they are kept
 pub record Account : Type 0 where
   pub entries : ℕ
   pub last : ℕ
@@ -29,7 +29,7 @@ module _ {B : Type 0} (account : B → Account) (written : B → BookOrigin → 
     pub kept : (account b).broken ≡ false → (ls : List Line) → (account b).kept ≡ Some ls → ls ≡ lines F J
     pub sink : written b w l F J
 
-  -- it tells whether the log is ended and whether a write has failed; unless one has, its holes are those that the journal
+  -- it says whether the log is ended and whether a write has failed; unless one has, its holes are those that the journal
   -- leaves
   pub record StandsFor (b : B) (w : BookOrigin) (l : Layout) (o : CoreOpening) (J : List Entry) (fault : Bool) : Type 0 where
     pub log : HasLog b w l o.formula J

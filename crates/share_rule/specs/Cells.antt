@@ -3,7 +3,7 @@ use Rattle.std.specs.Prelude.{◌≡◌, ℕ, ◌+◌, ◌/◌, ◌<◌, List, l
 use Rattle.sat_words.specs.Literal.{Literal}
 use Rattle.clause_cell.specs.Packing.{pair_of, lit_word}
 
--- the words behind the count at a spell a clause
+-- the words after the count at a spell a clause
 pub record Spells (ws : List ℕ) (a number glue : ℕ) (lits : List Literal) : Type 0 where
   pub number_is : slice_index ws (a + 1) ≡ number
   pub head_is : slice_index ws (a + 2) ≡ pair_of (length lits) glue

@@ -61,11 +61,11 @@ after_get from class h g v = stepped (slot_word v from (only v).core.ring class)
 abbrev pub stop_in : ℕ → Stop
 stop_in n = record { kind = n % 8; ring = n / 8 }
 
--- none where it is 0
+-- none if it is 0
 abbrev pub stop_of : ℕ → Option Stop
 stop_of n = if n == 0 then None else Some (stop_in n)
 
--- what a pass may find: the stop that it has seen; where it has seen none, no stop of a ring of its own
+-- what a pass may find: the stop that it has seen; if it has seen none, no stop of a ring of its own
 abbrev pub MayFind : View → Option Stop → Type 0
 MayFind v None = v.stop ≡ None
 MayFind v (Some s) = MatchOption v.stop ((i : ℕ) (p : RingPart) → get_elem? v.parts i ≡ some p → s.ring ≢ p.core.ring) (λ t. s ≡ t)
@@ -78,7 +78,7 @@ set_part s p = record p { set = Some s }
 abbrev pub after_look : ℕ → View → View
 after_look n v = record (stepped 1 Load n v) { stop = stop_of n; looks = if n == 0 then v.looks + 1 else v.looks }
 
--- the ring's stop is set, where none stood
+-- the ring's stop is set, if none stood
 abbrev pub after_win : ℕ → View → View
 after_win code v = record (stepped 1 (CompareExchange 0 code) 0 (changed (set_part (stop_in code)) v)) { stop = Some (stop_in code) }
 

@@ -24,7 +24,7 @@ abbrev pub total : List (ℕ × List Literal) → ℕ
 total [] = 0
 total (s ∷ ss) = words_for (length s.1) + total ss
 
--- the start clauses, each with its number, stand one behind the other from this word on
+-- the start clauses, each with its number, stand one after the other from this word on
 abbrev pub starts_at : ℕ → List (ℕ × List Literal) → List ClauseAt
 starts_at a [] = []
 starts_at a (s ∷ ss) = record { address = a; number = s.0; lits = s.1 } ∷ starts_at (a + words_for (length s.1)) ss
@@ -79,6 +79,6 @@ start_words count (s ∷ ss) = cell_words count s ++ start_words count ss
 abbrev pub low_words : Layout → List Literal → List ℕ
 low_words l us = (0 ∷ 0 ∷ length us ∷ []) ++ (replicate l.rings 1 ++ (map code_of us ++ replicate (2 * l.vars - length us + slots l) 0))
 
--- and what is free behind them
+-- and what is free after them
 abbrev pub first_words : Layout → List (ℕ × List Literal) → List Literal → List ℕ
 first_words l ss us = low_words l us ++ (start_words l.rings ss ++ replicate (l.words - total ss) 0)

@@ -18,7 +18,7 @@ IsPassOf t p = (p.table_id ≡ t.table.shared.table_id) × (is_ready p.me.0.stag
 abbrev pub IsSamePass : {B : Type 0} → Seat (Option B) View → Seat (Option B) View → Type 0
 IsSamePass old new = (new.id ≡ old.id) × (new.me.1 ≡ old.me.1)
 
--- a write has failed exactly where one of the rings was told so
+-- a write has failed exactly if one of the rings was known so
 pub record TellsFaults (ps : List RingPart) (fault : Bool) : Type 0 where
   pub told : (i : ℕ) (p : RingPart) → get_elem? ps i ≡ some p → p.failed ≡ true → fault ≡ true
   pub teller : fault ≡ true → SomeTold ps

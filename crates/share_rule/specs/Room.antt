@@ -26,7 +26,7 @@ abbrev pub with_clause : ℕ → ℕ → Room → Option ℕ → Room
 with_clause n size m None = m
 with_clause n size m (Some a) = record { holes = without_fit (words_for size) m.holes; words = put m.words n (Some (range a (words_for size))) }
 
--- where there is one
+-- if there is one
 abbrev pub placed : Room → ℕ → ℕ → Room
 placed m n size = with_clause n size m (first_fit (words_for size) m.holes)
 
@@ -35,7 +35,7 @@ abbrev pub without_words : ℕ → Room → Option Hole → Room
 without_words n m None = m
 without_words n m (Some r) = record { holes = with_range r.first r.len m.holes; words = put m.words n None }
 
--- where it has any
+-- if it has any
 abbrev pub freed : Room → ℕ → Room
 freed m n = without_words n m (m.words n)
 
@@ -65,7 +65,7 @@ start_room l ss = fold (λ m s. placed m s.number (length s.lits)) (record { hol
 abbrev pub room : Layout → CoreOpening → List Entry → Room
 room l o J = fold room_after (start_room l o.starts) (drop (length o.journal) J)
 
--- cells lie where their clauses do; their literals, those of the rings' additions and those of the listed units are on the
+-- cells lie if their clauses do; their literals, those of the rings' additions and those of the listed units are on the
 -- layout's variables, which are no more than a proof may name; the units that were listed from the start stand first, and
 -- there are no more than two a variable
 pub record Places (l : Layout) (c : State) : Type 0 where

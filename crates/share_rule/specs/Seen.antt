@@ -31,7 +31,7 @@ pub record Stands (l : Layout) (c : State) : Type 0 where
   pub units : InVars l c.units
   pub few : length c.units ≤ 2 * l.vars
 
--- what the ring took with the turn, where it has it
+-- what the ring took with the turn, if it has it
 abbrev pub turn_of : State → ℕ → Option Taken
 turn_of c r = if is_ring r c.turn then Some (record { journal = c.journal }) else None
 

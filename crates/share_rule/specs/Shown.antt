@@ -27,12 +27,12 @@ use Rattle.share_rule.specs.Room.{Places}
 
 -- Words
 
--- whose turn it is: 0 where it is free
+-- whose turn it is: 0 if it is free
 abbrev pub turn_number : Option ℕ → ℕ
 turn_number None = 0
 turn_number (Some r) = r + 1
 
--- the stop: 0 where none stands
+-- the stop: 0 if none stands
 abbrev pub stop_number : Option Stop → ℕ
 stop_number None = 0
 stop_number (Some s) = s.kind + 8 * s.ring
@@ -81,7 +81,7 @@ UnitOut l c ws p = (n : ℕ) → p.unit ≡ Some n → (c.turn ≡ Some (ring_of
 abbrev pub IsOut : Layout → State → List ℕ → RingPart → Type 0
 IsOut l c ws p = IsStored c ws (ring_of p) p.stored × UnitOut l c ws p
 
--- the ring was told of a failed write only where one has failed, and while it has the turn it was told of any
+-- the ring was told of a failed write only if one has failed, and while it has the turn it was told of any
 pub record KnowsFault (fault : Bool) (p : RingPart) : Type 0 where
   pub told : p.failed ≡ true → fault ≡ true
   pub taken : (t : Taken) → p.turn ≡ Some t → fault ≡ true → p.failed ≡ true
@@ -95,7 +95,7 @@ abbrev pub WasTold : List View → Type 0
 WasTold vs = (j : ℕ) × (v : View) × (get_elem? vs j ≡ some v) × SomeTold v.parts
 
 module _ {S : Type 0} (stands : S → BookOrigin → Layout → CoreOpening → List Entry → Bool → Type 0) where
-  -- while the turn is free, the book is at home and stands for the journal, and tells whether a write has failed
+  -- while the turn is free, the book is at home and stands for the journal, and says whether a write has failed
   abbrev pub IsHome : BookOrigin → Layout → State → Bool → Table (Option S) View → Type 0
   IsHome w l c fault s = c.turn ≡ None → (b : S) × (get_elem? s.homes 0 ≡ some (some (Some b))) × stands b w l c.opening c.journal fault
 

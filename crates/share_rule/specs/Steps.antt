@@ -41,7 +41,7 @@ new_part o r = record { core = granted_part o (blank r); glues = start_glues o.s
 abbrev pub share_part : ℕ → RingPart → RingPart
 share_part a p = record p { core = shared_part (clause_in a p.core.held) p.core }
 
--- once less; where the count that it found was 1, the cell waits
+-- once less; if the count that it found was 1, the cell waits
 abbrev pub drop_part : ℕ → ℕ → RingPart → RingPart
 drop_part a n p = record p { core = dropped_part (clause_in a p.core.held) n p.core }
 

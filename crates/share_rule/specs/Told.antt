@@ -23,7 +23,7 @@ module _ {S : Type 0} where
   abbrev pub shared : Step S → Me S View → ℕ → Me S View → Type 0
   shared st m n m' = Knows (after_share st.word n m.0) m m'
 
-  -- one less is; what was found tells whether it was the last; it is how often the ring held the cell, where there is no
+  -- one less is; what was found says whether it was the last; it is how often the ring held the cell, if there is no
   -- other ring
   abbrev pub dropped : Step S → Me S View → ℕ → Me S View → Type 0
   dropped st m n m' = Knows (after_drop st.word n m.0) m m' × (m.0.opening.rings ≡ 1 → n ≡ times_at st.word (only m.0).core.held)

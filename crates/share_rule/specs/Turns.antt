@@ -52,7 +52,7 @@ entry_of o r J p Empty = Add (record { ring = r; number = next_number o J; lits 
 entry_of o r J p Reduce = ReduceEntry r
 entry_of o r J p (Bury a) = Del r (clause_in a p.waiting).number
 
--- the ring's part of the core behind it
+-- the ring's part of the core after it
 abbrev pub noted_core : CoreOpening → ℕ → List Entry → Note → Part → Part
 noted_core o r J (Clause kind lits glue a) p = made_part (record { address = a; number = next_number o J; lits = lits }) (length J) (entry_of o r J p (Clause kind lits glue a)) (after_learn kind p)
 noted_core o r J (UnitNote kind lit) p = wrote_part (length J) (entry_of o r J p (UnitNote kind lit)) (after_learn kind p)
@@ -74,7 +74,7 @@ pub record Sheet : Type 0 where
   pub part : Part
   pub glues : List GlueAt
 
--- behind one note
+-- after one note
 abbrev pub noted : CoreOpening → ℕ → Sheet → Note → Sheet
 noted o r s n = record {
   journal = s.journal ++ entry_of o r s.journal s.part n ∷ [];
@@ -82,7 +82,7 @@ noted o r s n = record {
   glues = noted_glues (next_number o s.journal) n s.glues;
 }
 
--- behind all notes
+-- after all notes
 abbrev pub sheet_after : CoreOpening → ℕ → Sheet → List Note → Sheet
 sheet_after o r s ns = fold (noted o r) s ns
 
@@ -93,7 +93,7 @@ pub record IsGoing (o : CoreOpening) (J : List Entry) : Type 0 where
   pub going : ended o.formula J ≡ false
   pub room : length J < MAX_ENTRIES
 
--- the note may be written, by a ring with this part behind this journal
+-- the note may be written, by a ring with this part after this journal
 abbrev pub MayNote : Layout → CoreOpening → ℕ → List Entry → Part → Note → Type 0
 -- two literals or more on the layout's variables, which follow from what the ring knows, at the first place that is long
 -- enough
@@ -129,7 +129,7 @@ IsWriting v = (v.parts ≡ only v ∷ []) × ((t : Taken) × ((only v).turn ≡ 
 abbrev pub sheet_of : View → Sheet
 sheet_of v = record { journal = journal_in (only v).turn; part = (only v).core; glues = (only v).glues }
 
--- and what it leaves behind these notes
+-- and what it leaves after these notes
 abbrev pub written_of : View → List Note → Sheet
 written_of v ns = sheet_after v.opening (only v).core.ring (sheet_of v) ns
 
@@ -141,14 +141,14 @@ MayWrite v ns = AllNoted v.layout v.opening (only v).core.ring (sheet_of v) ns
 abbrev pub WasRefused : View → List Note → Option Refusal → Bool → Type 0
 WasRefused v ns x failed = IfSome x (λ y. IsRefused v.opening (written_of v ns).journal failed y) × ((only v).failed ≡ true → failed ≡ true)
 
--- the newer of two, where there is one
+-- the newer of two, if there is one
 abbrev pub newer : Option Refusal → Option Refusal → Option Refusal
 newer None y = y
 newer (Some x) y = Some x
 
 -- Steps
 
--- the ring has the turn, and what the book held with it; it is told whether a write has failed
+-- the ring has the turn, and what the book held with it; it is known whether a write has failed
 abbrev pub take_part : List Entry → Bool → RingPart → RingPart
 take_part J failed p = record p { turn = Some (record { journal = J }); whole = false; failed = failed }
 

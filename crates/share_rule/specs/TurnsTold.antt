@@ -13,7 +13,7 @@ use Rattle.share_rule.specs.Views.{only}
 use Rattle.share_rule.specs.Turns.{after_take, after_miss, after_give}
 use Rattle.share_rule.specs.Told.{Knows}
 
--- where the word was as guessed the turn was free and is the ring's, with the book, which stands for the journal that the
+-- if the word was as guessed the turn was free and is the ring's, with the book, which stands for the journal that the
 -- ring then has; a write that it was told of has failed, and a lone ring is told of no failed write but its own. Elsewhere
 -- nothing changed
 pub record Took {B : Type 0} (stands : B → BookOrigin → Layout → CoreOpening → List Entry → Bool → Type 0) (free new : ℕ) (m m' : Me (Option B) View) : Type 0 where

@@ -26,7 +26,7 @@ pub record MayPublish (lit : Literal) (v : View) : Type 0 where
 
 -- Parts
 
--- a word is stored behind the listed units
+-- a word is stored after the listed units
 abbrev pub unit_part : ℕ → RingPart → RingPart
 unit_part n p = record p { unit = Some n }
 
@@ -34,7 +34,7 @@ unit_part n p = record p { unit = Some n }
 abbrev pub list_part : Literal → RingPart → RingPart
 list_part lit p = record p { core = seen_part lit p.core; listed = p.listed + 1; unit = None }
 
--- so many are listed: all of them while the ring has the turn; whether it has seen as many is noted
+-- this many are listed: all of them while the ring has the turn; whether it has seen as many is noted
 abbrev pub count_part : ℕ → RingPart → RingPart
 count_part n p = record p { listed = n; whole = is_some p.turn; caught_up = if n == length p.core.seen then p.caught_up + 1 else p.caught_up }
 
@@ -44,7 +44,7 @@ see_part lit p = record p { core = seen_part lit p.core }
 
 -- Steps
 
--- the word behind those that the ring has seen
+-- the word after those that the ring has seen
 abbrev pub next_unit_at : View → ℕ
 next_unit_at v = unit_at v.layout (length (only v).core.seen)
 

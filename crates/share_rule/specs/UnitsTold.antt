@@ -9,7 +9,7 @@ use Rattle.share_rule.specs.Units.{after_count, after_see, after_unit, after_lis
 use Rattle.share_rule.specs.Told.{Knows}
 
 module _ {S : Type 0} where
-  -- the word behind the listed units is stored
+  -- the word after the listed units is stored
   abbrev pub stored_unit : Step S → Me S View → ℕ → Me S View → Type 0
   stored_unit st m n m' = Knows (after_unit st.first m.0) m m'
 

@@ -34,7 +34,7 @@ abbrev pub up_to : ℕ → List ℕ
 up_to zero = []
 up_to (suc n) = n ∷ up_to n
 
--- the glue of the clause with this number, 0 where the list has none
+-- the glue of the clause with this number, 0 if the list has none
 abbrev pub glue_in : ℕ → List GlueAt → ℕ
 glue_in n [] = 0
 glue_in n (g ∷ gs) = if g.number == n then g.glue else glue_in n gs
@@ -50,12 +50,12 @@ stored_at w (s ∷ ss) = if s.place == w then Some s.word else stored_at w ss
 
 -- Stops
 
--- the stop where it is the ring's
+-- the stop if it is the ring's
 abbrev pub own_stop : ℕ → Option Stop → Option Stop
 own_stop r None = None
 own_stop r (Some s) = if s.ring == r then Some s else None
 
--- the first where there is one
+-- the first if there is one
 abbrev pub first_of : Option Stop → Option Stop → Option Stop
 first_of None t = t
 first_of (Some s) t = Some s
@@ -110,7 +110,7 @@ no_part = record { core = blank 0; glues = []; stored = []; turn = None; listed 
 abbrev pub only : View → RingPart
 only v = slice_index_or v.parts 0 no_part
 
--- where there is none
+-- if there is none
 abbrev pub no_clause : ClauseAt
 no_clause = record { address = 0; number = 0; lits = [] }
 
@@ -145,12 +145,12 @@ making_of a v = clause_in a (only v).core.making
 abbrev pub IsBuilding : ℕ → View → Type 0
 IsBuilding a v = (v.parts ≡ only v ∷ []) × (0 < times_at a (only v).core.making)
 
--- all words behind its count are stored as the cell's
+-- all words after its count are stored as the cell's
 abbrev pub IsBuilt : ℕ → View → Type 0
 IsBuilt a v = (i : ℕ) → 0 < i → i < words_for (length (making_of a v).lits)
     → stored_at (a + i) (only v).stored ≡ Some (cell_word (making_of a v).number (glue_in (making_of a v).number (only v).glues) (making_of a v).lits i)
 
--- where the word is one of those behind the count of a cell that the pass's ring holds, this is it
+-- if the word is one of those after the count of a cell that the pass's ring holds, this is it
 pub record IsWord (v : View) (w n : ℕ) : Type 0 where
   pub number_is : (a : ℕ) → 0 < times_at a (only v).core.held → w ≡ a + 1 → n ≡ (clause_of a v).number
   pub head_is : (a : ℕ) → 0 < times_at a (only v).core.held → w ≡ a + 2 → n ≡ pair_of (length (clause_of a v).lits) (glue_in (clause_of a v).number (only v).glues)

@@ -7,7 +7,7 @@ ghost use Rattle.share_rule.specs.Seen.{Seen as IsSeen};
 use crate::{Ledger, Pass, Shared};
 
 /// Takes the table apart, once all passes have been joined into this one: some enabled events left a state with these
-/// parts, and the book that comes back has its journal. A write of it has failed exactly where one of the rings was told so.
+/// parts, and the book that comes back has its journal. A write of it has failed exactly if one of the rings was known so.
 pub fn close<B: Ledger>(table: Shared<B>, pass: Pass<B>) -> B
     requires pass { IsPassOf table pass × (pass.me.1 ≡ []) }
     requires whole { IsWhole pass.me.0 }

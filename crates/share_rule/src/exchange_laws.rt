@@ -33,7 +33,7 @@ pub fn a_get_is_its_event<B: Ledger>()
         × ((n : Shows (StandsFor B.account B.stands) k.layout (stepped s (slot_word v from (ring_of (only v)) class) 0 id [] (after_get from class x g v) keeps)) × (n.core ≡ after h.core (Get (ring_of (only v)) from class))) }
 {}
 
-/// Trying to set the stop is its event, also where one stands: then it has no effect.
+/// Trying to set the stop is its event, also if one stands: then it has no effect.
 pub fn a_stop_is_its_event<B: Ledger>()
     ensures { (k : Key) (s : Table (Option B) View) (h : Shows (StandsFor B.account B.stands) k.layout s) (id kind r : ℕ) (v : View) → get_elem? s.views id ≡ some v → is_ready v.stage ≡ true → IsRing r v → 1 ≤ kind → kind ≤ 5 → (kind ≡ 2 → (only v).ended ≡ true)
         → (n : Shows (StandsFor B.account B.stands) k.layout (stepped s 1 (either (slice_index s.words 1 == 0) (kind + 8 * r) (slice_index s.words 1)) id [] (after_set (kind + 8 * r) (slice_index s.words 1) v) keeps)) × (n.core ≡ after h.core (Stop r kind)) }

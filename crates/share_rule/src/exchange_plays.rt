@@ -1,4 +1,4 @@
-//! The kinds of step on slots of the pools and on the stop: what each tells the pass that takes it.
+//! The kinds of step on slots of the pools and on the stop: what each says the pass that takes it.
 use crate::View;
 use atomic_table::Play;
 
@@ -20,7 +20,7 @@ impl<S> Play<S, View> for Gets {
     ghost then = { did_get };
 }
 
-/// The compare_exchange that sets the stop where none stands.
+/// The compare_exchange that sets the stop if none stands.
 pub struct SetsStop;
 
 impl<S> Play<S, View> for SetsStop {

@@ -1,4 +1,4 @@
-//! What the definitions come to: where clauses lie, that each step is its event, and that what is shown is sound.
+//! What the definitions come to: if clauses lie, that each step is its event, and that what is shown is sound.
 ghost use Rattle.std.specs.Prelude.{◌≡◌, ◌≢◌, ◌⊎◌, ℕ, ◌+◌, ◌-◌, ◌%◌, ◌^◌, ◌<◌, ◌≤◌, true, false, List, [], ◌++◌, ◌∷◌, length, fold, slice_index, slice_set, Option, Some};
 ghost use mathlib.Core.Option.{some};
 ghost use lib.ListN.{get_elem?};
@@ -47,7 +47,7 @@ pub fn longer_journals_fold_on()
     ensures { (l : Layout) (o : CoreOpening) (J K : List Entry) → length o.journal ≤ length J → room l o (J ++ K) ≡ fold room_after (room l o J) K }
 {}
 
-/// Where cells lie as their clauses do, they don't overlap.
+/// If cells lie as their clauses do, they don't overlap.
 pub fn cells_lie_apart()
     ensures { (l : Layout) (c : State) → table_words l ≤ 2 ^ 63 → Sound c → Places l c → Stands l c }
 {}

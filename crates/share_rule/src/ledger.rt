@@ -16,7 +16,7 @@ pub trait Ledger {
     ghost use Rattle.share_rule.specs.declared.view.BookOrigin.{BookOrigin};
     ghost use Rattle.share_rule.specs.Books.{Account};
 
-    /// How many entries it has, the last number given, its state, the free words, and its lines where it keeps them.
+    /// How many entries it has, the last number given, its state, the free words, and its lines if it keeps them.
     ghost account: { Self → Account };
 
     /// What its sink tells, and whether it keeps its lines.
@@ -29,7 +29,7 @@ pub trait Ledger {
     fn entries(&self) -> u64
         ensures { result ≡ (account self.now).entries };
 
-    /// Takes the words that are free for cells. From here on it tells whether the log is ended, which it is not.
+    /// Takes the words that are free for cells. From here on it says whether the log is ended, which it is not.
     fn with_holes(self, holes: Holes) -> Self
         ensures account { account result ≡ record (account self) { ended = false; holes = holes } }
         ensures origin { origin result ≡ origin self }

@@ -2,7 +2,7 @@
 use rup_model::Kind;
 use sat_words::{Lit, Lits};
 
-/// One entry that a ring writes. Its number, where it has one, is the next of the log.
+/// One entry that a ring writes. Its number, if it has one, is the next of the log.
 #[derive(Drop)]
 pub enum Note {
     /// A clause of two literals or more, for a cell at this address.

@@ -1,4 +1,4 @@
-//! The kinds of step on cells, grants and seats: what each tells the pass that takes it.
+//! The kinds of step on cells, grants and seats: what each says the pass that takes it.
 use crate::View;
 use atomic_table::{Join, Play, Split};
 use std::marker::{Brand, PhantomData};

@@ -4,7 +4,7 @@ use crate::{Layout, Ledger};
 use atomic_table::{Seat, TableRule};
 use std::marker::PhantomData;
 
-/// What a table is told once, when it is made: its layout, and the words that it begins with.
+/// What a table is known once, when it is made: its layout, and the words that it begins with.
 #[derive(Drop)]
 pub struct Key {
     /// Where things lie in the words.

@@ -16,7 +16,7 @@ ghost use Rattle.share_rule.specs.Turns.{IsFree, IsWriting, MayWrite, WasRefused
 
 use crate::Ledger;
 
-/// Taking the turn is its event: the word that tells that nobody has it comes to tell that the ring has, and the book
+/// Taking the turn is its event: the word that says that nobody has it comes to tell that the ring has, and the book
 /// leaves the slot.
 pub fn a_turn_taken_is_its_event<B: Ledger>()
     ensures { (k : Key) (s : Table (Option B) View) (h : Shows (StandsFor B.account B.stands) k.layout s) (id free : ℕ) (v : View) → get_elem? s.views id ≡ some v → is_ready v.stage ≡ true → IsFree v → slice_index s.words 0 ≡ free → free % 256 ≡ 0

@@ -1,4 +1,4 @@
-//! The kinds of step on the turn, and what each tells the pass that takes it.
+//! The kinds of step on the turn, and what each says the pass that takes it.
 use crate::{Ledger, View};
 use atomic_table::Play;
 use std::marker::{Brand, PhantomData};

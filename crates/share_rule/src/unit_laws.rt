@@ -16,7 +16,7 @@ ghost use Rattle.share_rule.specs.Units.{MayPublish, next_unit_at, after_unit, a
 
 use crate::Ledger;
 
-/// Storing the word of a unit behind those listed is none.
+/// Storing the word of a unit after those listed is none.
 pub fn a_unit_stored_is_no_event<B: Ledger>()
     ensures { (k : Key) (s : Table (Option B) View) (h : Shows (StandsFor B.account B.stands) k.layout s) (id w : ℕ) (lit : Literal) (v : View) → get_elem? s.views id ≡ some v → is_ready v.stage ≡ true → MayPublish lit v
         → (n : Shows (StandsFor B.account B.stands) k.layout (stepped s (next_unit_at v) w id [] (after_unit w v) keeps)) × (n.core ≡ h.core) }

@@ -1,9 +1,9 @@
-//! The kinds of step on listed units, and what each tells the pass that takes it.
+//! The kinds of step on listed units, and what each says the pass that takes it.
 use crate::View;
 use atomic_table::Play;
 use std::marker::{Brand, PhantomData};
 
-/// The store of a unit's word behind the listed ones.
+/// The store of a unit's word after the listed ones.
 pub struct StoresUnit;
 
 impl<S> Play<S, View> for StoresUnit {

@@ -17,7 +17,7 @@ pub enum Op {
     FetchAdd(u64),
     /// The number is subtracted.
     FetchSub(u64),
-    /// Where the word is the first number, it becomes the second.
+    /// If the word is the first number, it becomes the second.
     CompareExchange(u64, u64),
 }
 
@@ -107,17 +107,17 @@ pub struct RingPart {
     pub gave: LinkedList<ClauseAt>,
     /// The slots of other rings that it swapped out, in order, whether or not a clause lay there.
     pub polls: LinkedList<Poll>,
-    /// How often it read how many units are listed, where it had seen as many.
+    /// How often it read how many units are listed, if it had seen as many.
     pub caught_up: u64,
 }
 
 /// What a book was when the table was made: what its sink told, and whether it keeps its lines.
 pub struct BookOrigin {
-    /// The sink tells its bytes; there was none then.
+    /// The sink says its bytes; there was none then.
     pub tells: bool,
-    /// The path that the sink is for, where it is told.
+    /// The path that the sink is for, if it is known.
     pub target: Option<LinkedList<u8>>,
-    /// The bytes that a flush had made sure of, where they are told.
+    /// The bytes that a flush had made sure of, if they are known.
     pub flushed: Option<LinkedList<u8>>,
     /// How often the sink had failed.
     pub faults: u64,

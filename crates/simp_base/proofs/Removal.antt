@@ -11,7 +11,7 @@ use Rattle.simp_base.specs.WorkState.{HaveOwnNumbers}
 use Rattle.sat_words.specs.Literal.{Literal}
 
 module _ {X : Type 0} (old new : List X) (i : ℕ) (r : Removed old new i) where
-  -- where an element of the new list stood
+  -- if an element of the new list stood
   pub stood : (k : ℕ) → k < length new → (j : ℕ) × (j < length old) × (j ≢ i) × ((d : X) → get_or new k d ≡ get_or old j d) × ((k ≡ i) ⊎ (j ≡ k)) × ((k ≡ i) → j ≡ length old - 1)
   stood k lt = let n = r.len in
       dite (ℕ_discrete k i)
@@ -19,7 +19,7 @@ module _ {X : Type 0} (old new : List X) (i : ℕ) (r : Removed old new i) where
       (length old - 1, le, ne, λ d. ap (λ q. get_or new q d) e ∙ r.here d (omega arith), inl e, λ _. refl)))
       (λ (ne : k ≢ i). (k, omega arith, ne, λ d. r.else k d ne (omega arith), inr refl, λ q. absurd (ne q)))
 
-  -- where an element of the old list stands
+  -- if an element of the old list stands
   pub stands : (j : ℕ) → j < length old → j ≢ i → (k : ℕ) × (k < length new) × ((d : X) → get_or new k d ≡ get_or old j d)
   stands j lt ne = let n = r.len in let w = r.within in
       dite (ℕ_discrete j (length old - 1))

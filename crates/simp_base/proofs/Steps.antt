@@ -357,7 +357,7 @@ alive_comes G L = comes_all (formula_book G) G L first
     first zero c is = absurd (cc)
     first (suc i) c is = formula_comes G i c is
 
--- a unit clause that is alive is told
+-- a unit clause that is alive is known
 alive_told : (o : Origin) (mine : List Entry) (w : WorkState) → Stands o mine w → (l : Literal) → is_alive_unit w l ≡ true → is_told o.formula (journal_of o mine) l ≡ true
 alive_told o mine w h l alive =
     let t = In_any (is_only l) (lists w.clauses) alive in
@@ -367,7 +367,7 @@ alive_told o mine w h l alive =
     let v = alive_comes o.formula (journal_of o mine) u.0.0 u.0.1 is in
     any_In (same_set (l ∷ [])) (o.formula ++ added (journal_of o mine)) v.0 v.1 (subst (λ q. same_set q v.0 ≡ true) one v.2)
 
--- one unit more, which is told
+-- one unit more, which is known
 stands_listed : (o : Origin) (mine : List Entry) (w : WorkState) → Stands o mine w → (l : Literal) → is_told o.formula (journal_of o mine) l ≡ true → Stands o mine (record w { units = w.units ++ l ∷ [] })
 stands_listed o mine w h l t = record {
   sound = h.sound;

@@ -1,4 +1,4 @@
--- Truth of literals and clauses where one variable changes.
+-- Truth of literals and clauses if one variable changes.
 use Rattle.std.proofs.Common.{◌≡◌, ◌≢◌, ℕ, ◌≤◌, zero, suc, Bool, true, false, not, List, [], ◌∷◌, cond, sym, refl, ap, ◌∙◌, inl, inr, ◌⊎◌, arith}
 use Rattle.std.proofs.lemmas.Bool.{cases_Bool}
 use Rattle.sat_words.specs.Literal.{Literal, opposite}

@@ -26,7 +26,7 @@ ruler_adds number lits = Add (record { ring = RULER_RING; number = number; lits 
 abbrev pub ruler_deletes : ℕ → Entry
 ruler_deletes number = Del RULER_RING number
 
--- the entry, where the call did what it was asked for
+-- the entry, if the call did what it was asked for
 abbrev pub on_ok : {T : Type 0} → Result T LineStop → List Entry → List Entry
 on_ok (Ok x) es = es
 on_ok (Err stop) es = []
@@ -38,7 +38,7 @@ pub record FaultyLine (old new : WorkState) (x : Line) : Type 0 where
   pub put : FailedLine old.output new.output x
   pub state : new ≡ record old { output = new.output }
 
--- why the line does not stand; the work is as it was, but for an output that failed
+-- why the line does not stand; the work is as it was, except for an output that failed
 abbrev pub NotPut : WorkState → WorkState → Line → LineStop → Type 0
 NotPut old new x ProofFault = FaultyLine old new x
 NotPut old new x Full = (old.output.entries ≡ MAX_ENTRIES) × (new ≡ old)

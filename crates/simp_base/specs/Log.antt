@@ -41,6 +41,6 @@ pub record Continues (entries : List Entry) (old new : WorkState) : Type 0 where
   pub vars : new.vars ≡ old.vars
   pub stands : (o : Origin) (mine : List Entry) → Stands o mine old → Stands o (mine ++ entries) new
 
--- whatever a work stands over, it still does behind some entries of its own, the same over each origin
+-- whatever a work stands over, it still does after some entries of its own, the same over each origin
 abbrev pub KeepsLog : WorkState → WorkState → Type 0
 KeepsLog old new = (entries : List Entry) × Continues entries old new

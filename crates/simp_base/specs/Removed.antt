@@ -2,7 +2,7 @@
 use Rattle.std.specs.Prelude.{◌≡◌, ◌≢◌, ℕ, ◌+◌, ◌-◌, ◌<◌, List, length}
 use Rattle.std.specs.List.{slice_index_or, sum_by}
 
--- the element at this place is gone, the last one stands there, and the others stand where they stood
+-- the element at this place is gone, the last one stands there, and the others stand if they stood
 pub record Removed {X : Type 0} (old new : List X) (i : ℕ) : Type 0 where
   pub within : i < length old
   pub len : length new + 1 ≡ length old

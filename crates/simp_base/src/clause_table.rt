@@ -1,7 +1,7 @@
 // The clauses alive, found by number and by literal.
 //
 // A table gives each number its place. The last clause takes the place of one that is removed, so that all is done in
-// constant time but for the notes of the literals. What the tables have of numbers that are not alive is not cleared: it
+// constant time except for the notes of the literals. What the tables have of numbers that are not alive is not cleared: it
 // is passed over where it is read.
 ghost use Rattle.std.specs.Prelude.{◌≡◌, ◌<◌, ◌≤◌, ◌+◌, ◌*◌, ◌^◌, ℕ, List, [], ◌∷◌, ◌++◌, ◌||◌, true, false, length, All, Contains, IfOk, IfSome, IfNone, OnOk, vec_len};
 ghost use Rattle.std.specs.List.{list_any, slice_index_or};
@@ -118,7 +118,7 @@ impl ClauseTable {
         self.alone[lit.code() as usize]
     }
 
-    /// The clause with this number, where it is alive.
+    /// The clause with this number, if it is alive.
     pub(crate) fn get(&self, number: u64) -> Option<&Clause>
         ensures some { IfSome result (λ clause. Contains self.now.clauses (number, clause.now)) }
         ensures none { IfNone result ((c : List Literal) → Contains self.now.clauses (number, c) → ⊥) }

@@ -12,12 +12,12 @@ ghost use Rattle.simp_base.specs.Calls.{Deleted};
 ghost use Rattle.simp_base.specs.Log.{KeepsLog, Stands, journal_of};
 ghost use Rattle.simp_base.specs.Lifted.{Lifted};
 
-/// Where models lift from each of two steps, they lift from both.
+/// If models lift from each of two steps, they lift from both.
 pub fn lifted_composes()
     ensures { (a b c : WorkState) → Lifted a b → Lifted b c → Lifted a c }
 {}
 
-/// Where nothing is done, models lift.
+/// If nothing is done, models lift.
 pub fn lifted_itself()
     ensures { (a : WorkState) → Lifted a a }
 {}
@@ -27,7 +27,7 @@ pub fn logs_compose()
     ensures { (a b c : WorkState) → KeepsLog a b → KeepsLog b c → KeepsLog a c }
 {}
 
-/// Where the empty clause was added, the log refutes the formula.
+/// If the empty clause was added, the log refutes the formula.
 pub fn ended_refutes()
     ensures { (o : Origin) (mine : List Entry) (w : WorkState) → Stands o mine w → w.ended ≡ true → Refutes o.formula (lines o.formula (journal_of o mine)) }
 {}

@@ -1,6 +1,6 @@
 // The clauses that are alive, the units, the reconstruction stack and the log.
 //
-// Each call that changes a work says which entries the journal has gained. Whatever journal stood behind the work before,
+// Each call that changes a work says which entries the journal has gained. Whatever journal stood after the work before,
 // with these entries it stands behind the work afterwards, each of its lines valid where it stands.
 ghost use Rattle.std.specs.Prelude.{◌≡◌, ◌<◌, ◌≤◌, ◌+◌, ◌^◌, ℕ, List, ◌++◌, [], ◌∷◌, true, false, OnOk, OnErr, IfOk, IfErr, IfSome, IfNone, All, Contains, length};
 ghost use Rattle.sat_words.specs.Literal.{Literal, IsOn};
@@ -151,7 +151,7 @@ impl<L: LineOut> Work<L> {
         self.alloc
     }
 
-    /// The clause with this number, where it is alive.
+    /// The clause with this number, if it is alive.
     pub fn clause(&self, number: u64) -> Option<&Clause>
         ensures some { IfSome result (λ clause. Contains self.now.clauses (number, clause.now)) }
         ensures none { IfNone result ((c : List Literal) → Contains self.now.clauses (number, c) → ⊥) }
@@ -190,7 +190,7 @@ impl<L: LineOut> Work<L> {
         self.clauses.next_number() - 1
     }
 
-    /// How many lines the log has. Where it is as it was, no line was put.
+    /// How many lines the log has. If it is as it was, no line was put.
     pub fn line_count(&self) -> u64
         ensures { result ≡ self.now.output.entries }
     {
@@ -300,7 +300,7 @@ impl<L: LineOut> Work<L> {
         }
     }
 
-    /// Lists a unit that follows by unit propagation, unless it is listed already. Its clause is added where it is not
+    /// Lists a unit that follows by unit propagation, unless it is listed already. Its clause is added if it is not
     /// alive.
     pub fn unit(&mut self, lit: Lit) -> Result<(), LineStop>
         requires unspent { self.old.output.spent ≡ false }
@@ -350,7 +350,7 @@ impl<L: LineOut> Work<L> {
         }
     }
 
-    /// Puts an entry onto the stack: a model is mended by making the literal true where the clause is false. It writes no
+    /// Puts an entry onto the stack: a model is mended by making the literal true if the clause is false. It writes no
     /// line.
     pub fn push_fix(&mut self, lit: Lit, clause: Clause) -> Result<(), LineStop>
         requires holds { has clause lit ≡ true }

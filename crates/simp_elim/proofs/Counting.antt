@@ -164,7 +164,7 @@ module _ (w : WorkState) (l : Literal) (kept : IsWork w) where
       length_map f [] = refl
       length_map f (y ∷ ys) = ap suc (length_map f ys)
 
--- what is alive under a number where the literal occurs
+-- what is alive under a number if the literal occurs
 pub found_at : (w : WorkState) (l : Literal) → IsWork w → (numbers : List ℕ) → OccursIn w l numbers → (n : ℕ) → Contains numbers n → (c : List Literal) → Contains w.clauses (n, c) → (occurs l c ≡ true) × InOrder c
 found_at w l kept numbers sound n h c i =
     let s = sound n h in

@@ -1,4 +1,4 @@
--- Where the resolvents and the other clauses are true, the stack makes the clauses before elimination true.
+-- If the resolvents and the other clauses are true, the stack makes the clauses before elimination true.
 use Rattle.std.proofs.Common.{◌≡◌, ◌≢◌, ◌≤◌, Bool, true, false, not, ◌||◌, List, [], ◌∷◌, ◌++◌, map, cond, sym, refl, ap, subst, ◌∙◌, inl, inr, ◌⊎◌}
 use Rattle.std.proofs.lemmas.Bool.{or_left, or_right, cases_Bool, not-true, and_parts, and_from, true≢false}
 use Rattle.sat_words.specs.Literal.{Literal, opposite, same}
@@ -91,7 +91,7 @@ resolved_apart x c d oc od l h =
       ))
     ]
 
--- where the first clause is false, a true resolvent makes the second true, whatever the variable's value
+-- if the first clause is false, a true resolvent makes the second true, whatever the variable's value
 pub resolved_true : (x : Literal) (c d : List Literal) (a b : List Bool) → occurs x c ≡ true → occurs (opposite x) d ≡ true → Agree x a b
     → clause_true a (resolved x c d) ≡ true → clause_true a c ≡ false → clause_true b d ≡ true
 resolved_true x c d a b oc od agree r f =

@@ -68,7 +68,7 @@ units_along a b c f g = record {
   alive = λ l h. g.alive l (f.alive l h);
 }
 
--- a variable has a unit by the units listed at the start where it has one by those listed now
+-- a variable has a unit by the units listed at the start if it has one by those listed now
 unit_alike : (start now : WorkState) → ListsUnits start now → (l : Literal) → is_unit_among now.units (lists now.clauses) l ≡ is_unit_among start.units (lists now.clauses) l
 unit_alike start now u l = same_bool _ _
     (λ h. elim (or_cases (has now.units l) (is_alive_unit now l) h) as (λ _. is_unit_among start.units (lists now.clauses) l ≡ true) [

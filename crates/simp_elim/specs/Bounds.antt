@@ -8,7 +8,7 @@ use Rattle.simp_elim.specs.Rule.{at_most}
 abbrev pub within : ℕ → List (List Literal) → Bool
 within most R = at_most (length R) most && list_all (λ c. at_most (length c) 100) R
 
--- the clauses came behind the others, unless they break the bounds
+-- the clauses came after the others, unless they break the bounds
 abbrev pub Extends : ℕ → List (List Literal) → List (List Literal) → List (List Literal) → Bool → Type 0
 Extends most old more new false = within most (old ++ more) ≡ false
 Extends most old more new true = (new ≡ old ++ more) × (within most new ≡ true)

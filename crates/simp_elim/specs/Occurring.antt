@@ -6,7 +6,7 @@ use Rattle.simp_base.specs.WorkState.{WorkState, lists}
 use Rattle.simp_elim.specs.Resolution.{occurs, occurrences}
 use Rattle.simp_elim.specs.Rule.{at_most}
 
--- the clause with this number; the empty list where there is none
+-- the clause with this number; the empty list if there is none
 abbrev pub clause_at : List (ℕ × List Literal) → ℕ → List Literal
 clause_at [] n = []
 clause_at (c ∷ cs) n = if c.0 == n then c.1 else clause_at cs n

@@ -66,7 +66,7 @@ eliminated l G = unmentioned l G ++ resolvents_on l G
 
 -- The stack
 
--- where the clause is false, the literal is made true
+-- if the clause is false, the literal is made true
 abbrev pub fix_of : Literal → List Literal → Fix
 fix_of l c = record { lit = l; clause = c }
 

@@ -46,7 +46,7 @@ eliminate U (suc n) G = eliminate_one U (eliminate U n G) (suc n)
 
 -- The stack
 
--- what it takes where the literal's variable is eliminated: the clauses with the literal, in any order
+-- what it takes if the literal's variable is eliminated: the clauses with the literal, in any order
 pub record AreFixesOf (l : Literal) (G : List (List Literal)) (fixes : List Fix) : Type 0 where
   pub clauses : List (List Literal)
   pub each : SameMultiset clauses (occurrences l G)

@@ -109,7 +109,7 @@ abbrev pub WasReplaced : WorkState → WorkState → Literal → List ℕ → Li
 WasReplaced old new l firsts made (Ok done) = Replaced old new l firsts made
 WasReplaced old new l firsts made (Err stop) = Stops old new stop
 
--- it was eliminated where it is to be, and nothing was done where it is not
+-- it was eliminated if it is to be, and nothing was done if it is not
 pub record Stepped (old new : WorkState) (v : ℕ) : Type 0 where
   pub on : GoesOn old new
   pub clauses : SameMultiset (lists new.clauses) (eliminate_one old.units (lists old.clauses) v)

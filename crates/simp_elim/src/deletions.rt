@@ -6,7 +6,7 @@ ghost use Rattle.simp_elim.specs.Stages.{AreLong, WasRemoved};
 use drat_text::{LineOut, LineStop};
 use simp_base::Work;
 
-/// Deletes the clause with this number, where it is alive.
+/// Deletes the clause with this number, if it is alive.
 fn remove_at<L: LineOut>(work: &mut Work<L>, number: u64) -> Result<(), LineStop>
     requires unspent { work.old.output.spent ≡ false }
     requires going { work.old.ended ≡ false }

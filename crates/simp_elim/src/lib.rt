@@ -1,4 +1,4 @@
-//! Bounded variable elimination: where it makes no more clauses than it removes, the clauses with a variable are replaced by
+//! Bounded variable elimination: if it makes no more clauses than it removes, the clauses with a variable are replaced by
 //! their resolvents on it.
 #![tactic(auto)]
 

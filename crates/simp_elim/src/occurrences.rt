@@ -13,7 +13,7 @@ use drat_text::{LineOut, LineStop};
 use sat_words::{Clause, Lit};
 use simp_base::{Work, is_tautology};
 
-/// A variable is eliminated only where neither of its literals occurs in more clauses.
+/// A variable is eliminated only if neither of its literals occurs in more clauses.
 const MOST_OCCURRENCES: usize = 16;
 
 /// Whether the clause holds the literal and is no tautology.
@@ -52,7 +52,7 @@ fn push(numbers: &mut Vec<u64>, number: u64) -> Result<(), LineStop>
     }
 }
 
-/// Puts the number where the literal occurs in its clause, once. Answers whether the numbers are still few.
+/// Puts the number if the literal occurs in its clause, once. Answers whether the numbers are still few.
 fn collect<L: LineOut>(
     work: &Work<L>,
     lit: Lit,
@@ -76,7 +76,7 @@ fn collect<L: LineOut>(
     Ok(true)
 }
 
-/// The numbers of the clauses in which the literal occurs, or nothing where they are too many.
+/// The numbers of the clauses in which the literal occurs, or nothing if they are too many.
 pub(crate) fn occurrences_of<L: LineOut>(
     work: &Work<L>,
     lit: Lit,

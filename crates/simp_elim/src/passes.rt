@@ -1,7 +1,7 @@
 // The run of a simplifier by variable elimination.
 //
-// The clauses with a variable may be replaced by all their resolvents on it: what is left has a model exactly where the
-// clauses had one. This is done where it makes no more clauses than it removes (N. Eén and A. Biere, "Effective
+// The clauses with a variable may be replaced by all their resolvents on it: what is left has a model exactly if the
+// clauses had one. This is done if it makes no more clauses than it removes (N. Eén and A. Biere, "Effective
 // Preprocessing in SAT through Variable and Clause Elimination", SAT 2005). The resolvents follow from the clauses, so that
 // they are added before these are deleted; the clauses with the variable itself go onto the reconstruction stack.
 ghost use Rattle.std.specs.Prelude.{◌≡◌, ◌≤◌, ◌^◌, ℕ, All, false};
@@ -45,7 +45,7 @@ fn replace<L: LineOut>(
     }
 }
 
-/// Eliminates the variable where the rule says so.
+/// Eliminates the variable if the rule says so.
 fn eliminate<L: LineOut>(work: &mut Work<L>, var: u32) -> Result<(), LineStop>
     requires unspent { work.old.output.spent ≡ false }
     requires going { work.old.ended ≡ false }
@@ -83,7 +83,7 @@ fn eliminate<L: LineOut>(work: &mut Work<L>, var: u32) -> Result<(), LineStop>
     }
 }
 
-/// The literal's variable, or this one where it is higher.
+/// The literal's variable, or this one if it is higher.
 fn higher(top: u32, lit: Lit) -> u32
     ensures above { top ≤ result }
     ensures on { IsOn result lit }
@@ -93,7 +93,7 @@ fn higher(top: u32, lit: Lit) -> u32
     if top < lit.var() { lit.var() } else { top }
 }
 
-/// The highest variable of the clause, or this one where it is higher.
+/// The highest variable of the clause, or this one if it is higher.
 fn highest_in(clause: &Clause, highest: u32) -> u32
     ensures above { highest ≤ result }
     ensures all { All (IsOn result) clause.now }
@@ -107,7 +107,7 @@ fn highest_in(clause: &Clause, highest: u32) -> u32
     top
 }
 
-/// The highest variable of the clauses alive; 0 where they have none.
+/// The highest variable of the clauses alive; 0 if they have none.
 fn highest_var<L: LineOut>(work: &Work<L>) -> u32
     ensures { IsHighest work.now result }
 {
@@ -118,7 +118,7 @@ fn highest_var<L: LineOut>(work: &Work<L>) -> u32
     highest
 }
 
-/// Eliminates variables, ascending, each looked at once: where neither of its literals occurs in more than 16 clauses,
+/// Eliminates variables, ascending, each looked at once: if neither of its literals occurs in more than 16 clauses,
 /// there are no more resolvents on it than clauses with it, and none of these has more than 100 literals. Tautologies are
 /// neither counted nor removed, and a variable that has a unit, or occurs in no clause, is passed over. A resolvent of one
 /// literal is listed as a unit beside being added.

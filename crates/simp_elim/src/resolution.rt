@@ -1,6 +1,6 @@
 // The resolvents of clauses on a literal, as long as they are few and short.
 //
-// Whether a resolvent is a tautology is told from its two clauses, before it is made.
+// Whether a resolvent is a tautology is known from its two clauses, before it is made.
 ghost use Rattle.std.specs.Prelude.{◌≡◌, ◌++◌, true, false, List, [], ◌∷◌, IfOk, OnOk, MatchOption, map};
 ghost use Rattle.std.specs.List.{list_any};
 ghost use Rattle.sat_words.specs.Literal.{Literal, opposite};
@@ -54,7 +54,7 @@ fn clash(on: Lit, first: &[Lit], second: &[Lit]) -> bool
     second.iter().any(|lit| clashes(on, first, *lit))
 }
 
-/// Puts that resolvent, where it is no tautology, unless there are then more than `most`, or it is too long. Answers whether
+/// Puts that resolvent, if it is no tautology, unless there are then more than `most`, or it is too long. Answers whether
 /// the bounds are kept.
 fn add_resolvent(
     alloc: Global,
@@ -108,7 +108,7 @@ fn add_resolvents<L: LineOut>(
 }
 
 /// The resolvents of the clauses with the first numbers and those with the second ones that are no tautologies, or nothing
-/// where there are more of them than `most`, or one is too long.
+/// if there are more of them than `most`, or one is too long.
 pub(crate) fn resolvents<L: LineOut>(
     work: &Work<L>,
     on: Lit,

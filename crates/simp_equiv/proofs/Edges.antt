@@ -11,7 +11,7 @@ use Rattle.simp_equiv.specs.Graphs.{targets, Edge}
 use Rattle.simp_equiv.proofs.Lists.{set_same}
 use Rattle.simp_equiv.specs.Arrows.{Arrow, arrows, arrows_of, Draws, MoreEdge}
 
--- a target put behind those of a node
+-- a target put after those of a node
 pub more_edge : (G H : List (List ℕ)) (x y : ℕ) → x < length G → H ≡ set G x (get_or G x [] ++ y ∷ []) → MoreEdge G H x y
 more_edge G H x y lt e = record {
   size = ap length e ∙ length-set G x (get_or G x [] ++ y ∷ []);

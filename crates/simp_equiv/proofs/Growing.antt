@@ -73,7 +73,7 @@ unit_known w l h = In_Contains (known w) (l ∷ []) (unit_among w l (has_In w.un
 pub in_known : (w : WorkState) (c : List Literal) → Contains (lists w.clauses) c → Contains (known w) c
 in_known w c h = In_Contains (known w) c (In_append_left (lists w.clauses) (unit_clauses w.units) c (Contains_In (lists w.clauses) c h))
 
--- where no clause and no unit is gone, all is known that was
+-- if no clause and no unit is gone, all is known that was
 pub known_grows : (old new : WorkState) → ((n : ℕ) (c : List Literal) → Contains old.clauses (n, c) → Contains new.clauses (n, c)) → ((l : Literal) → has old.units l ≡ true → has new.units l ≡ true)
     → (c : List Literal) → Contains (known old) c → Contains (known new) c
 known_grows old new stay units c h =

@@ -155,7 +155,7 @@ step_finish G old new f b rest low s was over less le_b le_f which e g h k =
     (as_step G old new (f ∷ b ∷ reverse rest) _ _ _ _ (finished G old.marks.items old.stack.items f b (reverse rest) old.closed low t over less le_b le_f which) e g
     (ap reverse h ∙ reverse_last rest (with_low b low)) k)
 
--- where no frame is left the low place is the frame's own
+-- if no frame is left the low place is the frame's own
 pub lowest : (G : List (List ℕ)) (s : Search) (f : Visit) → IsSearching G s (f ∷ []) → f.low < f.place → ⊥
 lowest G s f h lt = let e : f.place ≡ 0 = h.searching.governed.1 in omega arith
 

@@ -158,7 +158,7 @@ module _ (U : ℕ → Bool) (G : List (List Literal)) (vars : ℕ) (t : List ℕ
     | inr o ↦ o.1
   ]
 
-  -- where no variable's codes have one number, no literal is in one component with its negation
+  -- if no variable's codes have one number, no literal is in one component with its negation
   pub consistent_from : ((v : ℕ) → 1 ≤ v → v ≤ vars → slice_index t (2 * v) ≢ slice_index t (2 * v + 1)) → IsConsistent (Implies U G)
   consistent_from none l c = elim (own_or_on l (opposite l) c) as (λ _. ⊥) [
     | inl e ↦ differs l e

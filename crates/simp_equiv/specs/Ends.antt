@@ -52,13 +52,13 @@ Ends old new (Ok Done) = Substituted old new
 Ends old new (Ok Refuted) = Clashed old new
 Ends old new (Err stop) = HasCause old new stop
 
--- how it ends where the graph is consistent
+-- how it ends if the graph is consistent
 abbrev pub EndsDone : WorkState → WorkState → Result Run LineStop → Type 0
 EndsDone old new (Ok Done) = Substituted old new
 EndsDone old new (Ok Refuted) = ⊥
 EndsDone old new (Err stop) = HasCause old new stop
 
--- how it ends where the empty clause is to be added
+-- how it ends if the empty clause is to be added
 abbrev pub EndsRefuted : WorkState → WorkState → Result Run LineStop → Type 0
 EndsRefuted old new (Ok Done) = ⊥
 EndsRefuted old new (Ok Refuted) = Ended old new

@@ -4,7 +4,7 @@ use Rattle.sat_words.specs.Literal.{Literal, opposite}
 use Rattle.simp_base.specs.WorkState.{WorkState, lists, has_unit}
 use Rattle.simp_equiv.specs.Graphs.{Connected}
 
--- where k is true l must be: a clause of the two literals not-k and l is among the clauses, and neither variable has a unit
+-- if k is true l must be: a clause of the two literals not-k and l is among the clauses, and neither variable has a unit
 pub record Implies (fixed : ℕ → Bool) (G : List (List Literal)) (k l : Literal) : Type 0 where
   pub clause : List Literal
   pub alive : Contains G clause

@@ -20,7 +20,7 @@ is_replaced stand_in c = takes_part c && list_any (is_moved stand_in) c
 abbrev pub to_replace : (Literal → Literal) → List (ℕ × List Literal) → List ℕ
 to_replace stand_in cs = map (λ c. c.0) (filter (λ c. is_replaced stand_in c.1) cs)
 
--- what becomes of a clause: nothing where it is a tautology before or after, else its literals are replaced
+-- what becomes of a clause: nothing if it is a tautology before or after, else its literals are replaced
 pub data Becomes (stand_in : Literal → Literal) (c : List Literal) (H : List (List Literal)) : Type 0 where
   was_true : has_opposites c ≡ true → Becomes stand_in c H
   is_true : has_opposites (map stand_in c) ≡ true → Becomes stand_in c H
@@ -39,7 +39,7 @@ pub record Replacement : Type 0 where
   pub replaced : Literal
   pub by : Literal
 
--- the two entries of one replacement: the literal is true where the other one is, and false where that is false
+-- the two entries of one replacement: the literal is true if the other one is, and false if that is false
 abbrev pub replacement_entries : Replacement → List Fix
 replacement_entries p =
     record { lit = p.replaced; clause = clause_of (p.replaced ∷ opposite p.by ∷ []) }
@@ -56,7 +56,7 @@ positive v = record { var = v; neg = false }
 abbrev pub replacement_of : (Literal → Literal) → ℕ → Replacement
 replacement_of stand_in v = record { replaced = positive v; by = stand_in (positive v) }
 
--- where that is another variable
+-- if that is another variable
 abbrev pub replacement_at : (Literal → Literal) → ℕ → List Replacement
 replacement_at stand_in v = if (stand_in (positive v)).var == v then [] else replacement_of stand_in v ∷ []
 

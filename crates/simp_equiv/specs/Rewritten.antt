@@ -43,7 +43,7 @@ abbrev pub WasGrown : WorkState → WorkState → List Literal → Result ⊤ Li
 WasGrown old new lits (Ok done) = Grown old new lits
 WasGrown old new lits (Err stop) = HasCause old new stop × KeepsLog old new
 
--- what takes the place of the clause with this number: nothing, where it is not alive, or not to be replaced, or becomes
+-- what takes the place of the clause with this number: nothing, if it is not alive, or not to be replaced, or becomes
 -- a tautology
 abbrev pub IsReplacement : WorkState → (Literal → Literal) → ℕ → Option (List Literal) → Type 0
 IsReplacement w stand_in n None = (c : List Literal) → Contains w.clauses (n, c) → is_replaced stand_in c ≡ true → has_opposites (map stand_in c) ≡ true

@@ -10,7 +10,7 @@ use Rattle.simp_equiv.specs.Implications.{Implies, Implied, StandsFor, IsConsist
 abbrev pub stand_in : List ℕ → Literal → Literal
 stand_in t l = literal_of (slice_index_or t (code_of l) (code_of l))
 
--- the table tells what stands for each literal, by one code for each component; another one stands only for literals of
+-- the table says what stands for each literal, by one code for each component; another one stands only for literals of
 -- the variables from 1 to vars, and never above 2^30
 pub record IsTable (fixed : ℕ → Bool) (G : List (List Literal)) (vars : ℕ) (t : List ℕ) : Type 0 where
   pub size : length t ≡ 2 * vars + 2

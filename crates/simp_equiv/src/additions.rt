@@ -32,7 +32,7 @@ pub(crate) fn numbers_of<L: LineOut>(
     Ok(numbers)
 }
 
-/// What takes the place of the clause with this number: nothing where it is not to be replaced, or becomes a tautology.
+/// What takes the place of the clause with this number: nothing if it is not to be replaced, or becomes a tautology.
 fn replacement<L: LineOut>(
     work: &Work<L>,
     table: &[usize],

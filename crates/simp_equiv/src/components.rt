@@ -24,7 +24,7 @@ pub(crate) enum Mark {
 }
 
 impl Mark {
-    /// The number of the component, where it is closed.
+    /// The number of the component, if it is closed.
     fn number(self) -> usize
         ensures { result ≡ number_of self }
     {

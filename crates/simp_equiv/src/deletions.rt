@@ -19,7 +19,7 @@ fn is_replaced_at<L: LineOut>(work: &Work<L>, table: &[usize], number: u64) -> b
     }
 }
 
-/// Deletes the clause with this number, where it is to be replaced.
+/// Deletes the clause with this number, if it is to be replaced.
 fn remove_at<L: LineOut>(work: &mut Work<L>, table: &[usize], number: u64) -> Result<(), LineStop>
     requires unspent { work.old.output.spent ≡ false }
     requires going { work.old.ended ≡ false }

@@ -12,7 +12,7 @@ use drat_text::{LineOut, LineStop};
 use sat_words::{Clause, Lit};
 use simp_base::Work;
 
-/// Puts an entry for the literal: it is true where the other one is false.
+/// Puts an entry for the literal: it is true if the other one is false.
 fn push_entry<L: LineOut>(work: &mut Work<L>, lit: Lit, other: Lit) -> Result<(), LineStop>
     requires work { IsWork work.old }
     requires lit_on { IsOn work.old.vars lit }
@@ -38,7 +38,7 @@ fn push_both<L: LineOut>(work: &mut Work<L>, lit: Lit, by: Lit) -> Result<(), Li
     push_entry(work, lit.not(), by)
 }
 
-/// Puts the entries of the variable, where another one stands for it.
+/// Puts the entries of the variable, if another one stands for it.
 fn push_replacement<L: LineOut>(
     work: &mut Work<L>,
     table: &[usize],

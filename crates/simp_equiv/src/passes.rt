@@ -60,7 +60,7 @@ fn substitute<L: LineOut>(work: &mut Work<L>, table: &[usize]) -> Result<Run, Li
 /// graph, in all clauses of two literals or more but tautologies. Clauses with a variable that has a unit give no
 /// implication. What is left as a single literal is listed as a unit.
 ///
-/// Where a component has a literal and its negation, the empty clause is added and the log is ended. After an error the
+/// If a component has a literal and its negation, the empty clause is added and the log is ended. After an error the
 /// work serves only to give the line output back.
 pub fn run<L: LineOut>(work: &mut Work<L>) -> Result<Run, LineStop>
     requires unspent { work.old.output.spent ≡ false }

@@ -47,7 +47,7 @@ vars_from_codes x m lt = by x.neg m.neg lt
     by false true h = omega arith
     by false false h = omega arith
 
--- How far the walk has come: the literals found are among those seen but for the one that was flipped, whose negation is,
+-- How far the walk has come: the literals found are among those seen except for the one that was flipped, whose negation is,
 -- and what was seen is of lower variables than what is looked for
 pub record Walked (c seen : List Literal) (w : Comparison) : Type 0 where
   pub within : w.found ≤ length c

@@ -27,13 +27,13 @@ IsRelation c d (Flipped l) = strengthens c d l ≡ true
 abbrev pub without : Literal → List Literal → List Literal
 without l c = filter (λ k. not (same l k)) c
 
--- what becomes of a clause in which another one is: it goes where it takes part
+-- what becomes of a clause in which another one is: it goes if it takes part
 abbrev pub IsFateWithin : List Literal → Fate → Type 0
 IsFateWithin d Stays = takes_part d ≡ false
 IsFateWithin d Goes = takes_part d ≡ true
 IsFateWithin d (Shrinks rest) = ⊥
 
--- what becomes of a clause in which another one is but for a negated literal
+-- what becomes of a clause in which another one is except for a negated literal
 abbrev pub IsFateFlipped : List Literal → Literal → Fate → Type 0
 IsFateFlipped d l Stays = takes_part d ≡ false
 IsFateFlipped d l Goes = ⊥

@@ -7,7 +7,7 @@ use Rattle.simp_base.specs.WorkState.{WorkState}
 abbrev pub signature_of : List Literal → ℕ
 signature_of c = fold (λ w l. bit_or w (2 ^ (l.var % 64))) 0 c
 
--- the words are the signatures of the clauses alive, by number, but for the latest ones
+-- the words are the signatures of the clauses alive, by number, except for the latest ones
 pub record AreSignatures (w : WorkState) (words : List ℕ) : Type 0 where
   pub short : length words ≤ w.output.last + 1
   pub exact : (n : ℕ) (c : List Literal) → Contains w.clauses (n, c) → n < length words → slice_index words n ≡ signature_of c

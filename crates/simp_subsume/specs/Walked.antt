@@ -27,12 +27,12 @@ pub record FindsAnother (old : Comparison) (wanted lit : Literal) : Type 0 where
   pub one : Literal
   pub flipped : old.flipped ≡ Some one
 
--- what one more literal does to the walk: nothing comes where it is beyond the one that is looked for, or another negation
+-- what one more literal does to the walk: nothing comes if it is beyond the one that is looked for, or another negation
 abbrev pub IsStep : Comparison → Literal → Literal → Option Comparison → Type 0
 IsStep old wanted lit None = (wanted.var < lit.var) ⊎ FindsAnother old wanted lit
 IsStep old wanted lit (Some new) = PassesOver old wanted lit new ⊎ (Finds old wanted lit new ⊎ FindsNegated old wanted lit new)
 
--- how the clause stands to the other one where all its literals were found
+-- how the clause stands to the other one if all its literals were found
 abbrev pub found_as : Option Literal → Relation
 found_as None = Within
 found_as (Some l) = Flipped l

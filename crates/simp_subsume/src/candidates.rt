@@ -50,7 +50,7 @@ fn push(numbers: &mut Vec<u64>, number: u64) -> Result<(), LineStop>
     }
 }
 
-/// Puts those of the numbers behind the others whose clauses may have all variables of the signature.
+/// Puts those of the numbers after the others whose clauses may have all variables of the signature.
 fn append_alike(
     others: &mut Vec<u64>,
     numbers: &[u64],

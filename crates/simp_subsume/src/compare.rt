@@ -1,4 +1,4 @@
-// One clause compared with others: those that contain it are deleted, and those that contain it but for one negated literal
+// One clause compared with others: those that contain it are deleted, and those that contain it except for one negated literal
 // are made shorter.
 ghost use Rattle.std.specs.Prelude.{◌≡◌, true, false, IfOk, IfErr, All};
 ghost use Rattle.sat_words.specs.Literal.{IsOn};
@@ -20,7 +20,7 @@ pub(crate) enum Fate {
     Stays,
     /// It contains the clause at hand, so that it is deleted.
     Goes,
-    /// It contains the clause at hand but for one negated literal; these are its others.
+    /// It contains the clause at hand except for one negated literal; these are its others.
     Shrinks(Vec<Lit>),
 }
 
@@ -37,7 +37,7 @@ fn without(alloc: Global, lits: &[Lit], lit: Lit) -> Result<Vec<Lit>, AllocError
     Ok(rest)
 }
 
-/// What is to become of the other clause where the clause at hand is in it.
+/// What is to become of the other clause if the clause at hand is in it.
 fn fate_within(other: &Clause) -> Fate
     ensures { IsFateWithin other.now result }
 {
@@ -48,7 +48,7 @@ fn fate_within(other: &Clause) -> Fate
     }
 }
 
-/// What is to become of the other clause where the clause at hand is in it but for this literal, whose negation is.
+/// What is to become of the other clause if the clause at hand is in it except for this literal, whose negation is.
 fn fate_flipped(alloc: Global, other: &Clause, lit: Lit) -> Result<Fate, AllocError>
     ensures { IfOk result (λ fate. IsFateFlipped other.now lit fate) }
 {
@@ -72,7 +72,7 @@ fn fate_of(alloc: Global, clause: &[Lit], other: &Clause) -> Result<Fate, AllocE
     }
 }
 
-/// What is to become of the clause with the second number; nothing where it is not alive, or is the clause at hand itself.
+/// What is to become of the clause with the second number; nothing if it is not alive, or is the clause at hand itself.
 fn fate_at<L: LineOut>(
     work: &Work<L>,
     number: u64,
@@ -116,7 +116,7 @@ fn add_part<L: LineOut>(work: &mut Work<L>, lits: &[Lit]) -> Result<(), LineStop
     }
 }
 
-/// Compares the clause with the one of the second number, which is deleted or made shorter where it contains the clause.
+/// Compares the clause with the one of the second number, which is deleted or made shorter if it contains the clause.
 fn compare<L: LineOut>(
     work: &mut Work<L>,
     number: u64,

@@ -1,5 +1,5 @@
 //! Subsumption and self-subsuming resolution: clauses that contain another one are deleted, and clauses of which another
-//! one is contained but for one negated literal are made shorter by it.
+//! one is contained except for one negated literal are made shorter by it.
 #![tactic(auto)]
 
 mod candidates;

@@ -61,7 +61,7 @@ fn process<L: LineOut>(
     compare_with_all(work, number, clause.as_slice(), others.as_slice())
 }
 
-/// Deletes each clause that contains another one, and replaces each clause of which another one is contained but for one
+/// Deletes each clause that contains another one, and replaces each clause of which another one is contained except for one
 /// negated literal by what is left without that, until nothing of this is left to do. Tautologies and clauses of one literal
 /// are passed over. What is left as a single literal is listed as a unit.
 ///

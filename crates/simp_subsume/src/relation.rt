@@ -1,7 +1,7 @@
 // How one clause stands to another.
 //
 // Both are in order of variable, so that one walk through the other clause finds the literals of the clause one after
-// another. It ends where one is passed over.
+// another. It ends if one is passed over.
 ghost use Rattle.std.specs.Prelude.{◌≡◌, ◌<◌, ◌≤◌, ◌+◌, ◌^◌, false, length};
 ghost use Rattle.sat_words.specs.Clause.{has_opposites, InOrder};
 ghost use Rattle.simp_subsume.specs.Walked.{IsStep, all_found};
@@ -16,7 +16,7 @@ pub(crate) enum Relation {
     Apart,
     /// Each of its literals is in it.
     Within,
-    /// Each of its literals is in it, but for this one, whose negation is.
+    /// Each of its literals is in it, except for this one, whose negation is.
     Flipped(Lit),
 }
 
@@ -29,7 +29,7 @@ pub(crate) struct Comparison {
     pub(crate) flipped: Option<Lit>,
 }
 
-/// The walk after one more literal of the other clause; none where that is beyond the literal that is looked for, or is a
+/// The walk after one more literal of the other clause; none if that is beyond the literal that is looked for, or is a
 /// second negation.
 fn step(walk: Comparison, wanted: Lit, lit: Lit) -> Option<Comparison>
     requires { walk.found + 1 < 2 ^ 64 }
@@ -83,7 +83,7 @@ pub(crate) fn relation_of(clause: &[Lit], other: &[Lit]) -> Relation
     }
 }
 
-/// How the clause stands to the other one where all its literals were found.
+/// How the clause stands to the other one if all its literals were found.
 fn all_found(walk: Comparison) -> Relation
     ensures { result ≡ all_found walk }
 {

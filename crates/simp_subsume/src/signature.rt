@@ -1,4 +1,4 @@
-// Signatures: the variables of a clause as the bits of one word. Where a bit of one clause's signature is not in another's,
+// Signatures: the variables of a clause as the bits of one word. If a bit of one clause's signature is not in another's,
 // the other clause lacks a variable, and its literals need no look.
 ghost use Rattle.std.specs.Prelude.{◌≡◌, ◌^◌, ◌%◌, false, fold, IfOk, IfErr};
 ghost use Rattle.simp_base.specs.WorkState.{IsWork};

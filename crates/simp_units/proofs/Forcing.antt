@@ -123,7 +123,7 @@ module _ (G : List (List Literal)) (us : List Literal) (a : List (Option Bool)) 
         | inr t ↦ derived_right (opposite k ∷ []) us (opposite j) (same_units (opposite j) ∙ t)
       ])))
 
-  -- where the units falsify a clause, the empty clause follows
+  -- if the units falsify a clause, the empty clause follows
   pub falsified_follows : falsifies (is_true a) c ≡ true → rup G [] ≡ true
   unfolding rup
   falsified_follows bad =

@@ -81,7 +81,7 @@ module _ (old now new : WorkState) (a b e : List (Option Bool)) (next : ℕ) (be
       log = logs_along old now new before.log p.log;
     }
 
--- Where nothing waits, the units are those of the rounds
+-- If nothing waits, the units are those of the rounds
 
 none_waits : (us : List Literal) (c : List Literal) → waits us (length us) c ≡ false
 none_waits us c = ap (list_any (λ u. has c (opposite u))) (drop-all us)

@@ -21,7 +21,7 @@ use Rattle.simp_base.proofs.Known.{unit_among}
 Rounds-unit : (G : List (List Literal)) (l : Literal) → In (l ∷ []) G → conflicts G [] ≡ false → Rounds G [] l ≡ true
 Rounds-unit G l i quiet = Rounds-step G [] (λ _. false) (l ∷ []) l quiet (λ m h. absurd (false≢true h)) i (or_left _ _ (same-refl l)) (and_from _ _ (or_left _ _ (same-refl l)) refl)
 
--- where the values are the units, they were reached from none
+-- if the values are the units, they were reached from none
 pub progress_begun : (w : WorkState) (a : List (Option Bool)) → ((l : Literal) → has w.units l ≡ is_true a l) → Progress w w a
 progress_begun w a same_units = record {
   reaches = record {

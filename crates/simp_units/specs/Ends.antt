@@ -51,7 +51,7 @@ Ends old new (Ok Done) = Cleaned old new
 Ends old new (Ok Refuted) = Conflicted old new
 Ends old new (Err stop) = HasCause old new stop
 
--- what comes where the empty clause is to be added
+-- what comes if the empty clause is to be added
 abbrev pub EndsRefuted : WorkState → WorkState → Result Run LineStop → Type 0
 EndsRefuted old new (Ok Done) = ⊥
 EndsRefuted old new (Ok Refuted) = Propagation old new

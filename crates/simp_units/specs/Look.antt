@@ -26,7 +26,7 @@ pub record IsForcedAt (w : WorkState) (a : List (Option Bool)) (number : ℕ) (l
   pub alive : Contains w.clauses (number, clause)
   pub unit : IsUnit a clause l
 
--- the clause with this number, where it is alive, asks for nothing
+-- the clause with this number, if it is alive, asks for nothing
 abbrev pub IsSettledAt : WorkState → List (Option Bool) → ℕ → Type 0
 IsSettledAt w a number = (c : List Literal) → Contains w.clauses (number, c) → IsSettled a c
 

@@ -51,7 +51,7 @@ IsLeftAt w a number Whole = (c : List Literal) → Contains w.clauses (number, c
 IsLeftAt w a number Nothing = (c : List Literal) × Contains w.clauses (number, c) × IsTrueClause a c
 IsLeftAt w a number (Part rest) = (c : List Literal) × Contains w.clauses (number, c) × IsPart a c rest.items
 
--- from the work where propagation ended: models lift, the units are as they were, and each clause is settled, and has no
+-- from the work if propagation ended: models lift, the units are as they were, and each clause is settled, and has no
 -- variable of a unit or its number is among the rest
 pub record Tidied (old new : WorkState) (a : List (Option Bool)) (rest : List ℕ) : Type 0 where
   pub set : IsSet new a

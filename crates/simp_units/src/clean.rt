@@ -65,7 +65,7 @@ fn what_is_left(alloc: Global, clause: &Clause, values: &Values) -> Result<Remai
     Ok(Remainder::Part(rest))
 }
 
-/// What is left of the clause with this number; all where it is not alive.
+/// What is left of the clause with this number; all if it is not alive.
 fn left_at<L: LineOut>(work: &Work<L>, values: &Values, number: u64) -> Result<Remainder, LineStop>
     ensures what { IfOk result (λ what. IsLeftAt work.now values.now number what) }
     ensures memory { IfErr result (λ stop. stop ≡ LineStop.Memory) }
@@ -79,7 +79,7 @@ fn left_at<L: LineOut>(work: &Work<L>, values: &Values, number: u64) -> Result<R
     }
 }
 
-/// Deletes the clause with this number, or puts what is left of it in its place, where a unit's variable is in it.
+/// Deletes the clause with this number, or puts what is left of it in its place, if a unit's variable is in it.
 fn tidy<L: LineOut>(work: &mut Work<L>, values: &Values, number: u64) -> Result<(), LineStop>
     requires set { IsSet work.old values.now }
     requires settled { (n : ℕ) (c : List Literal) → Contains work.old.clauses (n, c) → IsSettled values.now c }

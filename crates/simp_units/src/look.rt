@@ -50,7 +50,7 @@ fn demand_of(clause: &[Lit], a: &Values) -> Demand
     }
 }
 
-/// What the clause with this number asks for; nothing where it is not alive.
+/// What the clause with this number asks for; nothing if it is not alive.
 pub(crate) fn look_up<L: LineOut>(work: &Work<L>, values: &Values, number: u64) -> Demand
     ensures { IsLookAt work.now values.now number result }
 {

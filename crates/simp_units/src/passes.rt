@@ -45,7 +45,7 @@ fn refute<L: LineOut>(work: &mut Work<L>) -> Result<Run, LineStop>
 /// Propagates the units of the work, until nothing more is forced; then deletes each clause with a true literal, and
 /// replaces each clause with a false one by what is left of it. Tautologies are passed over.
 ///
-/// Where a clause is falsified, the empty clause is added and the log is ended. After an error the work serves only to
+/// If a clause is falsified, the empty clause is added and the log is ended. After an error the work serves only to
 /// give the line output back.
 pub fn run<L: LineOut>(work: &mut Work<L>) -> Result<Run, LineStop>
     requires unspent { work.old.output.spent ≡ false }

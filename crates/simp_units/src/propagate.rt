@@ -1,7 +1,7 @@
 // Unit propagation over a work: each literal that is forced becomes a unit of the work.
 //
 // Every clause is looked at once. Then the list of units is the queue: for each unit in turn the clauses that hold its
-// negation are looked at, and what they force comes to the list's end. A clause needs a look only where one of its
+// negation are looked at, and what they force comes to the list's end. A clause needs a look only if one of its
 // literals has become false, so that no clause is forced or falsified once the queue is at its end.
 ghost use Rattle.std.specs.Prelude.{◌≡◌, ℕ, List, Contains};
 ghost use Rattle.sat_words.specs.Literal.{Literal};

@@ -14,7 +14,7 @@ core_stop s = record { kind = s.kind; ring = s.ring }
 abbrev pub Spells : ℕ → Stop → Type 0
 Spells word s = core_stop s ≡ stop_in word
 
--- the stop was set exactly where the word was 0; else the word spells the one that stands
+-- the stop was set exactly if the word was 0; else the word spells the one that stands
 abbrev pub IsSet : ℕ → Set → Type 0
 IsSet found Won = found ≡ 0
 IsSet found (Lost s) = (found ≢ 0) × Spells found s

@@ -39,8 +39,8 @@ pub fn look<B: Ledger>(table: &Shared<B>, pass: &mut Pass<B>) -> Option<Stop>
     }
 }
 
-/// Sets the ring's stop, in one try. It is lost exactly where a stop stands already, which then stays. A ring may say that
-/// the formula is refuted only where it knows that the log is ended.
+/// Sets the ring's stop, in one try. It is lost exactly if a stop stands already, which then stays. A ring may say that
+/// the formula is refuted only if it knows that the log is ended.
 pub fn set<B: Ledger>(table: &Shared<B>, pass: &mut Pass<B>, stop: Stop) -> Set
     requires pass { IsPassOf table.now pass.old }
     requires ring { IsRing stop.ring pass.old.me.0 }

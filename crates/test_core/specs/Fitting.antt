@@ -1,4 +1,4 @@
--- A test that start clauses and units of a formula make an opening, where the ruler wrote nothing.
+-- A test that start clauses and units of a formula make an opening, if the ruler wrote nothing.
 use Rattle.std.specs.Prelude.{ℕ, Bool, true, not, ◌&&◌, ◌||◌, ◌==◌, nat_le, List, [], ◌∷◌, length}
 use Rattle.std.specs.List.{list_any, list_all}
 use Rattle.sat_words.specs.Literal.{Literal}

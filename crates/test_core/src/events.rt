@@ -124,7 +124,7 @@ fn cell_event(ring: u32, word: &str, address: u64) -> Result<Event, Fail> {
     }
 }
 
-/// The event of a word and those behind it.
+/// The event of a word and those after it.
 fn event(
     alloc: Global,
     ring: u32,

@@ -68,7 +68,7 @@ pub fn opens(clauses: &[Clause], starts: &[ClauseAt], units: &[Lit], rings: u32)
         && are_distinct(units)
 }
 
-/// The literals of the formula's clause with this number, none where there is no such clause.
+/// The literals of the formula's clause with this number, none if there is no such clause.
 fn lits_under(alloc: Global, clauses: &[Clause], number: u64) -> Result<Lits, AllocError>
     ensures { IfOk result (λ lits. lits ≡ unwrap_or (formula_clause clauses.now number) []) }
 {
@@ -110,7 +110,7 @@ pub fn start_clauses(
     Ok(starts)
 }
 
-/// The core over the formula, where these open one.
+/// The core over the formula, if these open one.
 pub fn core_over(
     alloc: Global,
     formula: Formula,

@@ -98,7 +98,7 @@ line 5 0
 units 1 2 5, seen 3 1 0 0
 ";
 
-/// The empty clause is in the formula: nothing is written any more, and a refutation may be told at once.
+/// The empty clause is in the formula: nothing is written any more, and a refutation may be known at once.
 pub(crate) const ENDED_BEFORE: &str = "\
 1 stop 2 = done
 0 grant = done

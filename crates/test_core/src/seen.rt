@@ -8,7 +8,7 @@ use std::test::Fail;
 /// One more than any row has, so that what is said of a ring that is not there is seen too.
 const RINGS: u32 = 4;
 
-/// What is seen of the cell at the address: nothing where there is none.
+/// What is seen of the cell at the address: nothing if there is none.
 fn write_cell(text: &mut String, core: &Core, address: u64) -> Result<(), Fail> {
     let count = core.count(address);
     let number = core.number(address);
@@ -43,7 +43,7 @@ fn write_slots(text: &mut String, core: &Core, from: u32) -> Result<(), Fail> {
     Ok(())
 }
 
-/// The literals, and behind them the 0 that ends a line of the log.
+/// The literals, and after them the 0 that ends a line of the log.
 fn write_line(text: &mut String, line: &Line) -> Result<(), Fail> {
     let (start, lits) = match line {
         Line::Add(lits) => ("line ", lits),

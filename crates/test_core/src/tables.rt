@@ -1,6 +1,6 @@
 // Events in tables, with what becomes of each and what they leave: step by step, and all at once.
 //
-// A table is read in `events`, its openings stand in `openings`, and what is seen of the core behind it is written in `seen`.
+// A table is read in `events`, its openings stand in `openings`, and what is seen of the core after it is written in `seen`.
 use crate::events::{Row, read};
 use crate::guards::{CELLS, CLAUSES, EXCHANGE, NO_RINGS, TURNS, UNITS};
 use crate::openings::{EMPTY, FOUR, GIVEN, THREE, open};

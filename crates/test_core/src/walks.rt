@@ -185,7 +185,7 @@ fn check_counts(rt: &impl Abort, core: &Core, last: u64, open: u64) {
     }
 }
 
-/// Walks, and tells how many of the events were enabled.
+/// Walks, and says how many of the events were enabled.
 fn wander(
     rt: &(impl Abort + AllocGlobal),
     opening: &'static str,

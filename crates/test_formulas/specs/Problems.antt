@@ -1,4 +1,4 @@
--- What the search of a formula starts from, where no line of a proof stands yet.
+-- What the search of a formula starts from, if no line of a proof stands yet.
 use Rattle.std.specs.Prelude.{◌≡◌, ℕ, false, List, [], map, All}
 use Rattle.std.specs.List.{list_any}
 use Rattle.sat_words.specs.Literal.{Literal, IsOn}

@@ -71,7 +71,7 @@ impl Problem {
         }
     }
 
-    /// One clause more, refused where no search may start with it.
+    /// One clause more, refused if no search may start with it.
     pub fn with(self, alloc: Global, lits: &[Lit]) -> Result<Problem, Fail>
         ensures formula { IfOk result (λ p. p.formula ≡ record self.formula { clauses = self.formula.clauses ++ clause_of lits.now ∷ [] }) }
         ensures start { IfOk result (λ p. p.start.items ≡ self.start.items ++ (length self.formula.clauses + 1, clause_of lits.now) ∷ []) }
@@ -97,7 +97,7 @@ impl Problem {
         })
     }
 
-    /// One unit more, refused where it is there already.
+    /// One unit more, refused if it is there already.
     pub fn with_unit(self, alloc: Global, lit: Lit) -> Result<Problem, Fail>
         ensures formula { IfOk result (λ p. p.formula ≡ record self.formula { clauses = self.formula.clauses ++ (lit ∷ []) ∷ [] }) }
         ensures start { IfOk result (λ p. p.start.items ≡ self.start.items) }

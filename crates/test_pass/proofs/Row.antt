@@ -78,7 +78,7 @@ pub others_stay : (s t : PortState) → IsPlayer s → IsPlayer t → t.ring ≡
 others_stay s t h k ring =
     ap (λ (n : ℕ). length (filter (λ (r : ℕ). not (r == n)) (range_with_len 0 t.rings))) ring ∙ ap (λ (n : ℕ). length (filter (λ (r : ℕ). not (r == s.ring)) (range_with_len 0 n))) (k.rings ∙ sym h.rings)
 
--- What stays where a clause is given up
+-- What stays if a clause is given up
 
 -- clauses that a test tells apart are at different addresses
 at_left : (old new : PortState) (a b : ℕ) (c d : List Literal) (f : List Literal → Bool) → f c ≡ true → f d ≡ false → DroppedOnce old new a → IsAt old a d → IsAt old b c → IsAt new b c
@@ -154,7 +154,7 @@ starts a = map (holding_of (start_glues (starts_at a four))) (starts_at a four)
 at_start : (s : PortState) (h : Holding) → held_at s h.address ≡ Some h → IsAt s h.address h.lits
 at_start s h e = record { held = subst (λ (o : Option Holding). IsSome o) (sym e) refl; lits = lits_of_holding s h.address h e }
 
--- all start clauses are held where the opening has them
+-- all start clauses are held if the opening has them
 held_starts : (s : PortState) (a : ℕ) → s.start ≡ starts a → HoldsStart s → All (λ (h : Holding). held_at s h.address ≡ Some h) (starts a)
 held_starts s a e holds = subst (All (λ (h : Holding). held_at s h.address ≡ Some h)) e holds
 
@@ -204,7 +204,7 @@ opened t o cs F ss us rings vars words layout is cells two three_vars starts_are
   cells = cells;
 }
 
--- where both rings have begun, none is left to begin
+-- if both rings have begun, none is left to begin
 pub all_begun : {B : Type 0} (t : Shared B) (p : Seat (Option B) View) → IsFirst t p 2 → p.me.0.opening.rings ≡ 2 → p.me.0.parts ≡ [] → IsGathered t p 2
 all_begun t p h rings none_yet = record {
   pass = h.pass;

@@ -1,4 +1,4 @@
--- What the rings of the tests do where they give a clause up.
+-- What the rings of the tests do if they give a clause up.
 use Rattle.std.specs.Prelude.{ℕ, length, Option}
 use Rattle.sat_words.specs.Literal.{Literal}
 use Rattle.rup_model.specs.declared.journal.Kind.TheVariants.{UnitLine}

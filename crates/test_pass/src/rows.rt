@@ -22,7 +22,7 @@ pub enum Miss {
     NotDeleted,
     /// It wrote no unit.
     NotWritten,
-    /// It found nothing where a clause was put.
+    /// It found nothing if a clause was put.
     Nothing,
     /// It found a clause that nobody put.
     NotPut,
@@ -36,7 +36,7 @@ pub enum Miss {
     Memory,
 }
 
-/// Learns `1 2`: where it is held.
+/// Learns `1 2`: if it is held.
 pub fn learn_pair<P: Port>(port: &mut P) -> Result<Cref, Miss>
     requires { IsBegun (P.state port.old) }
     ensures idle { OnOk result (IsIdle (P.state port.new)) }
@@ -52,7 +52,7 @@ pub fn learn_pair<P: Port>(port: &mut P) -> Result<Cref, Miss>
     }
 }
 
-/// Learns `2 -3`: where it is held.
+/// Learns `2 -3`: if it is held.
 pub fn learn_later<P: Port>(port: &mut P) -> Result<Cref, Miss>
     requires { IsIdle (P.state port.old) }
     ensures done { OnOk result (IsDone (P.state port.new)) }
@@ -183,7 +183,7 @@ pub fn read_pair<P: Port>(port: &mut P, c: Cref) -> Result<(Head, Lit, Lit), Mis
     Ok((head, first, second))
 }
 
-/// Ring 0 learns the pair, offers it and gives it up, and then does so with the later clause: where it is held, and to how
+/// Ring 0 learns the pair, offers it and gives it up, and then does so with the later clause: if it is held, and to how
 /// many rings each was offered.
 pub fn offer_both<P: Port>(port: &mut P) -> Result<(Cref, u64, u64), Miss>
     requires { IsBegun (P.state port.old) }
@@ -200,7 +200,7 @@ pub fn offer_both<P: Port>(port: &mut P) -> Result<(Cref, u64, u64), Miss>
     Ok((later, offered, again))
 }
 
-/// Looks for a clause where one has to be, and then where none may be: its address, its head and its literals.
+/// Looks for a clause if one has to be, and then if none may be: its address, its head and its literals.
 pub fn hear_once<P: Port>(port: &mut P) -> Result<(Cref, Head, Lit, Lit), Miss>
     requires { IsListener (P.state port.old) [] }
     ensures listener { IfOk result (λ x. IsListener (P.state port.new) (x.0.address ∷ [])) }

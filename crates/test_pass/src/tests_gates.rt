@@ -19,7 +19,7 @@ use std::thread::{Threads, join};
 /// How many looks are made at what is waited for.
 const TURNS: u32 = 10_000_000;
 
-/// Looks until the count is no longer 0, and tells whether it was so in time.
+/// Looks until the count is no longer 0, and says whether it was so in time.
 fn comes(count: &AtomicU64) -> bool {
     let backoff = Backoff::new();
     for _ in 0..TURNS {
@@ -157,10 +157,10 @@ fn play_one<P: Port + Drop>(port: P, gate: &Holding) -> Result<P, Miss>
     Ok(port)
 }
 
-/// The ports of both rings behind their parts, or why there is none.
+/// The ports of both rings after their parts, or why there is none.
 type Played<P> = (Result<P, Miss>, Result<P, Miss>);
 
-/// Both rings, each in a thread of its own where threads can be made.
+/// Both rings, each in a thread of its own if threads can be made.
 fn play_both<P: Port + Drop + Send, R: Threads>(
     rt: &R,
     gate: &Holding,
@@ -204,7 +204,7 @@ fn hold(
     Ok(())
 }
 
-/// A ring that has given a clause up may write its deletion behind what another one writes meanwhile, whose copy stays.
+/// A ring that has given a clause up may write its deletion after what another one writes meanwhile, whose copy stays.
 #[test]
 fn held_before_a_deletion(rt: HostRuntime) -> Result<(), Fail> {
     hold(&rt, Point::Dropped, b"1 2 0\n1 2 0\n2 0\nd 1 2 0\n")

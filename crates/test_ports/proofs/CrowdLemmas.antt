@@ -38,7 +38,7 @@ address_of h = record { address = h.address }
 abbrev pub none : Holding
 none = record { address = 0; number = 0; glue = 0; lits = [] }
 
--- where the addresses of what is held are known, so is the last one
+-- if the addresses of what is held are known, so is the last one
 pub is_last : (s : PortState) (c : Cref) (rs : List Cref) (n : ℕ) → n ≡ length rs → s.held ≡ s.start → rs ≡ map address_of s.start → 0 < n → Some c ≡ Some (get_or rs (n - 1) (address_of none)) → IsLast s c.address
 is_last s c rs n n_is held_is rs_is some last =
     let rs_held : rs ≡ map address_of s.held = rs_is ∙ ap (map address_of) (sym held_is) in
@@ -106,7 +106,7 @@ crowd_begins s p = record {
   ring = omega arith;
 }
 
--- What stays where nothing is taken
+-- What stays if nothing is taken
 
 pub crowd_goes_on : (s : PortState) (taken : Option Cref) (stop other : Option Stop) (looks more : ℕ) (refused told : Option PortStop) (polled polled_more : Asked) → IsPort (crowd_of s taken stop looks refused polled) → IfSome other (IsStop 3)
     → IsPort (crowd_of s taken other more told polled_more)

@@ -20,7 +20,7 @@ pub struct Poll {
 }
 
 /// The port of the second of three rings, over what a port in memory holds. The last clause of that is another ring's, which
-/// may hand it over. Another ring's stop appears after so many looks, and no line can be written.
+/// may hand it over. Another ring's stop appears after this many looks, and no line can be written.
 #[derive(Drop)]
 pub struct Crowd<L: LineOut> {
     inner: PlainPort<L>,

@@ -190,7 +190,7 @@ dropped_usable s m a row d = ap (λ (x : PortState). is_usable x.refused) d.stat
 pub not_taken : (s : PortState) (a : ℕ) → IsRow s → IsNotTaken s a
 not_taken s a row = ap (λ (xs : List ℕ). list_any (λ b. b == a) xs) row.taken
 
--- a clause that is held is not where none is
+-- a clause that is held is not if none is
 pub elsewhere : (s : PortState) (a b : ℕ) → IsSome (held_at s a) → held_at s b ≡ None → a ≢ b
 elsewhere s a b some none e = false≢true (sym (subst (λ (n : ℕ). is_some (held_at s n) ≡ false) (sym e) (ap is_some none)) ∙ some)
 

@@ -41,7 +41,7 @@ begun s w t n e shape watched =
     bare_reasons : (s : PortState) (w : WatchData) (steps : List TrailStep) → steps ≡ [] → HasReasons (attached w) s steps
     bare_reasons s w steps is = subst (λ (xs : List TrailStep). HasReasons (attached w) s xs) (sym is) (record { caused = λ p h. absurd (omega arith) })
 
--- other clauses are attached where nothing is true
+-- other clauses are attached if nothing is true
 pub attached_stepping : (s : PortState) (w x : WatchData) (t : TrailData) → t.steps ≡ [] → IsTrail t → Watched x (lits_at s) t → IsStepping s x t
 attached_stepping s w x t steps shape watched = record {
   trail = shape;
@@ -65,7 +65,7 @@ grown_stepping s w x t u p shape same grown reasons watched = record {
   reasons = subst (λ (cs : List Cref). HasReasons cs s u.steps) (sym same) reasons;
 }
 
--- a decision where nothing is left to propagate
+-- a decision if nothing is left to propagate
 pub decided_stepping : (s : PortState) (w : WatchData) (t u : TrailData) (l : Literal) → IsStepping s w t → IsQuiet w (lits_at s) t → u ≡ decided t l → IsTrail u → IsStepping s w u
 decided_stepping s w t u l p q is shape =
     let x : TrailStep = record { lit = l; level = t.level + 1; reason = None } in

@@ -58,7 +58,7 @@ pub record ReducedFive (new : PortState) (glues : List ℕ) : Type 0 where
   pub reduced : WasReduced before new v w [] lemmas left
   pub glues_are : glues ≡ map (glue_at new) left
 
--- a copy more is held where none was, and what was held still is
+-- a copy more is held if none was, and what was held still is
 pub record OneMore (old new : PortState) (c : Cref) : Type 0 where
   pub row : IsRow new
   pub held : IsSome (held_at new c.address)

@@ -34,7 +34,7 @@ pub record IsRow (s : PortState) : Type 0 where
   pub usable : is_usable s.refused ≡ true
   pub taken : s.taken ≡ []
 
--- a copy of the second clause was derived with glue 2, attached behind the first one, and vivified where nothing is true
+-- a copy of the second clause was derived with glue 2, attached after the first one, and vivified if nothing is true
 pub record VivifiedCopy (old new : PortState) (left : Vivified) : Type 0 where
   pub middle : PortState
   pub copy : Cref

@@ -1,4 +1,4 @@
-// `ring_run` over a port of three rings, where another ring's stop appears or its clause comes, and each line is refused.
+// `ring_run` over a port of three rings, if another ring's stop appears or its clause comes, and each line is refused.
 use crate::beginning::{begin, join_crowd};
 use crate::runs::{Kind, counted, kind_of, two_clauses};
 use drat_text::CountedLines;
@@ -104,7 +104,7 @@ fn polls_each_other_ring_at_its_start(rt: HostRuntime) -> Result<(), Fail> {
     Ok(())
 }
 
-// Where 3 is decided false the clause of another ring makes 2 true, so that no conflict comes, whose lemma would be refused.
+// If 3 is decided false the clause of another ring makes 2 true, so that no conflict comes, whose lemma would be refused.
 #[test]
 fn searches_over_what_it_was_handed(rt: HostRuntime) -> Result<(), Fail> {
     for from in [0, 2] {

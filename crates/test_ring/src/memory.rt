@@ -1,4 +1,4 @@
-// Calls that take no memory, each of them so many times. Behind the same beginning the allocator is asked for as much however often they
+// Calls that take no memory, each of them this many times. Behind the same beginning the allocator is asked for as much however often they
 // come, which checks/memory counts.
 ghost use Rattle.std.specs.Prelude.{◌≡◌, ◌≤◌, ◌<◌, ◌+◌, ◌^◌, [], All, IsSome};
 ghost use Rattle.sat_words.specs.declared.shared.Cref.{Cref};
@@ -38,7 +38,7 @@ fn read_clauses<P: Port>(port: &mut P, clauses: &[Cref])
     }
 }
 
-/// Reads each of the clauses so often.
+/// Reads each of the clauses this often.
 fn read_often<P: Port>(port: &mut P, clauses: &[Cref], rounds: u32)
     requires { All (λ (c : Cref). IsSome (held_at (P.state port.old) c.address)) clauses.now }
     ensures { P.state port.new ≡ P.state port.old }
@@ -48,7 +48,7 @@ fn read_often<P: Port>(port: &mut P, clauses: &[Cref], rounds: u32)
     }
 }
 
-/// Asks for units and for the stop, and sets the ring's own, so often. Tells how often another call had set it.
+/// Asks for units and for the stop, and sets the ring's own, this often. Tells how often another call had set it.
 fn ask_often<P: Port>(port: &mut P, rounds: u32) -> u32 {
     let mut lost: u32 = 0;
     for _ in 0..rounds {
@@ -80,7 +80,7 @@ fn analyse_once<P: Port>(
     }
 }
 
-/// Analyses the conflict so often. Tells how often a lemma came of it.
+/// Analyses the conflict this often. Tells how often a lemma came of it.
 fn analyse_often<P: Port>(
     port: &mut P,
     stepping: &Stepping,
@@ -114,7 +114,7 @@ fn go_once(trail: &mut Trail) -> bool
     both
 }
 
-/// Goes so often. Tells how often both were true.
+/// Goes this often. Tells how often both were true.
 fn go_often(trail: &mut Trail, rounds: u32) -> u32
     requires { trail.old ≡ record { vars = 2; level = 0; steps = []; done = 0 } }
 {
@@ -127,7 +127,7 @@ fn go_often(trail: &mut Trail, rounds: u32) -> u32
     both
 }
 
-/// Notes lemmas of glue 2 and asks whether a restart is due, so often, and for numbers of Luby's sequence and the class of each lemma.
+/// Notes lemmas of glue 2 and asks whether a restart is due, this often, and for numbers of Luby's sequence and the class of each lemma.
 /// Tells how many had a class.
 fn plan_often(restarts: &mut Restarts, rounds: u32) -> u32
     requires { restarts.old.count ≡ 0 }
@@ -143,7 +143,7 @@ fn plan_often(restarts: &mut Restarts, rounds: u32) -> u32
     classed
 }
 
-/// Decides 1 and then 4, and analyses the conflict that comes so often. Tells how often a lemma came of it.
+/// Decides 1 and then 4, and analyses the conflict that comes this often. Tells how often a lemma came of it.
 fn conflict_often<P: Port>(
     alloc: Global,
     port: &mut P,

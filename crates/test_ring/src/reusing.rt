@@ -51,7 +51,7 @@ pub(crate) fn read_copy<P: Port>(port: &mut P, c: Cref) -> (u32, bool)
     (head.glue, same)
 }
 
-/// Where clauses that are held stand, and what is read of them.
+/// If clauses that are held stand, and what is read of them.
 pub(crate) fn read_copies<P: Port>(
     alloc: Global,
     port: &mut P,

@@ -38,7 +38,7 @@ fn three_clauses(alloc: Global) -> Result<Problem, Fail> {
     problem.with_unit(alloc, two.not())
 }
 
-/// Two clauses that oppose each other where 2 and 3 are false.
+/// Two clauses that oppose each other if 2 and 3 are false.
 pub(crate) fn two_clauses(alloc: Global) -> Result<Problem, Fail> {
     let one = Lit::new(1, false);
     let two = Lit::new(2, false);
@@ -140,7 +140,7 @@ struct Wanted<'a> {
     vars: usize,
 }
 
-/// Whether the end has a model on so many variables that makes the literals true, or none where none is wanted.
+/// Whether the end has a model on this many variables that makes the literals true, or none if none is wanted.
 fn has_model(end: &End, lits: &[Lit], vars: usize) -> bool {
     let End::Sat(model) = end else {
         return vars == 0;
@@ -220,7 +220,7 @@ fn finds_a_model(rt: HostRuntime) -> Result<(), Fail> {
     Ok(())
 }
 
-// 3 and 2 are decided false, and oppose the clauses: the lemma makes 2 true where 3 is false, and 1 is decided, as it was before the conflict.
+// 3 and 2 are decided false, and oppose the clauses: the lemma makes 2 true if 3 is false, and 1 is decided, as it was before the conflict.
 #[test]
 fn learns_a_clause(rt: HostRuntime) -> Result<(), Fail> {
     let wanted = Wanted {

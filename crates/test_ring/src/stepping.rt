@@ -43,7 +43,7 @@ impl Stepping {
         Ok(Stepping { watches, trail })
     }
 
-    /// Attaches clauses that are held, in their order, where nothing is true.
+    /// Attaches clauses that are held, in their order, if nothing is true.
     pub fn attach<P: Port>(&mut self, port: &mut P, clauses: &[Cref]) -> Result<(), AllocError>
         requires stepping { IsStepping (P.state port.old) self.old.watches self.old.trail }
         requires bare { self.old.trail.steps ≡ [] }
@@ -74,7 +74,7 @@ impl Stepping {
         Ok(outcome)
     }
 
-    /// Makes a literal true at a level of its own, where its variable has no value, and propagates.
+    /// Makes a literal true at a level of its own, if its variable has no value, and propagates.
     pub fn decide<P: Port>(&mut self, port: &mut P, lit: Lit) -> Result<Propagated, Fail>
         requires stepping { IsStepping (P.state port.old) self.old.watches self.old.trail }
         requires quiet { IsQuiet self.old.watches (lits_at (P.state port.old)) self.old.trail }
@@ -111,7 +111,7 @@ impl Stepping {
         Ok((conclusion, analysis))
     }
 
-    /// The variable's value; none where it is no variable of the trail's.
+    /// The variable's value; none if it is no variable of the trail's.
     pub fn value(&self, var: u32) -> Option<bool>
         ensures known { var ≤ self.now.trail.vars → result ≡ value_of self.now.trail.steps var }
         ensures none { self.now.trail.vars < var → result ≡ None }

@@ -16,7 +16,7 @@ use watch_prop::Propagated;
 /// What was seen on the way.
 #[derive(Drop)]
 struct Walked {
-    /// The value of 2 where 1 was decided.
+    /// The value of 2 if 1 was decided.
     two: Option<bool>,
     /// What the conflict taught.
     conclusion: Conclusion,
@@ -72,7 +72,7 @@ fn learns_a_minimised_lemma(rt: HostRuntime) -> Result<(), Fail> {
     Ok(())
 }
 
-/// Each of 1, 2 and 3 forces the next, and the last clause is true where 4 is.
+/// Each of 1, 2 and 3 forces the next, and the last clause is true if 4 is.
 fn ladder_clauses(alloc: Global) -> Result<Problem, Fail> {
     let two = Lit::new(2, false);
     let three = Lit::new(3, false);
@@ -84,10 +84,10 @@ fn ladder_clauses(alloc: Global) -> Result<Problem, Fail> {
     problem.with(alloc, &[four, Lit::new(5, true), Lit::new(6, false)])
 }
 
-/// What was seen where 1 and then 5 were decided.
+/// What was seen if 1 and then 5 were decided.
 #[derive(Drop)]
 struct Climbed {
-    /// How often a clause was read by then, but for what was read before.
+    /// How often a clause was read by then, except for what was read before.
     loads: u64,
     /// What is true.
     stepping: Stepping,

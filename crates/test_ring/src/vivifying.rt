@@ -23,7 +23,7 @@ pub fn two_starts(alloc: Global) -> Result<Starts, AllocError>
     Ok(starts)
 }
 
-/// Vivifies a copy of the second clause, of glue 2, where it and the first one are attached.
+/// Vivifies a copy of the second clause, of glue 2, if it and the first one are attached.
 pub fn vivify_copy<P: Port>(alloc: Global, port: &mut P) -> Result<Vivified, Fail>
     requires { IsRow (P.state port.old) }
     ensures usable { OnOk result (is_usable (P.state port.new).refused ≡ true) }

@@ -37,7 +37,7 @@ and_false : (b : Bool) → (b && false) ≡ false
 and_false true = refl
 and_false false = refl
 
--- where one number does not pass, not each does
+-- if one number does not pass, not each does
 pub each_broken : (m n : ℕ) (p : ℕ → Bool) → n < m → p n ≡ false → each_below m p ≡ false
 each_broken zero n p lt bad = absurd (omega arith)
 each_broken (suc m) n p lt bad =
@@ -45,7 +45,7 @@ each_broken (suc m) n p lt bad =
     (λ e. ap (λ (k : ℕ). each_below m p && p k) (sym e) ∙ ap (λ (b : Bool). each_below m p && b) bad ∙ and_false (each_below m p))
     (λ ne. ap (λ (b : Bool). b && p m) (each_broken m n p (omega arith) bad))
 
--- where each passes, this one does
+-- if each passes, this one does
 pub each_at : (m n : ℕ) (p : ℕ → Bool) → each_below m p ≡ true → n < m → p n ≡ true
 each_at zero n p all lt = absurd (omega arith)
 each_at (suc m) n p all lt =

@@ -19,16 +19,16 @@ unfoldable pub lits_from : Lcg → ℕ → List Literal
 lits_from g zero = []
 lits_from g (suc n) = lit_of g ∷ lits_from (rest_of (rest_of g)) n
 
--- the generator behind the next n literals
+-- the generator after the next n literals
 unfoldable pub behind_lits : Lcg → ℕ → Lcg
 behind_lits g zero = g
 behind_lits g (suc n) = behind_lits (rest_of (rest_of g)) n
 
--- the next clause: one word tells its size
+-- the next clause: one word says its size
 abbrev pub next_clause : Lcg → List Literal
 next_clause g = clause_of (lits_from (rest_of g) (size_of (word_of g)))
 
--- the generator behind it
+-- the generator after it
 abbrev pub behind_clause : Lcg → Lcg
 behind_clause g = behind_lits (rest_of g) (size_of (word_of g))
 
@@ -41,6 +41,6 @@ clauses_from g (suc n) = next_clause g ∷ clauses_from (behind_clause g) n
 abbrev pub source : ℕ → Lcg
 source number = generator_of number 0
 
--- the formula of a number, on six variables: the first word tells how many clauses it has, from four to nineteen
+-- the formula of a number, on six variables: the first word says how many clauses it has, from four to nineteen
 abbrev pub drawn : ℕ → FormulaData
 drawn number = record { vars = 6; clauses = clauses_from (rest_of (source number)) (4 + word_of (source number) % 16) }

@@ -7,7 +7,7 @@ use Rattle.model_stack.specs.Extend.{extend}
 use Rattle.sat_words.specs.Literal.{Literal}
 use Rattle.sat_words.specs.Truth.{lit_true, clause_true, formula_true}
 
--- so many bits of a number, the lowest first
+-- this many bits of a number, the lowest first
 abbrev pub bits_from : ℕ → ℕ → List Bool
 bits_from zero n = []
 bits_from (suc k) n = (n % 2 == 1) ∷ bits_from k (n / 2)
@@ -34,7 +34,7 @@ unfoldable pub some_below : ℕ → (ℕ → Bool) → Bool
 some_below zero p = false
 some_below (suc n) p = some_below n p || p n
 
--- each model of what is left becomes one of the formula over the stack, and what is left has a model just where the formula has one
+-- each model of what is left becomes one of the formula over the stack, and what is left has a model just if the formula has one
 abbrev pub models_lift : List (List Literal) → List (ℕ × List Literal) → List Literal → List Fix → Bool
 models_lift F cs units stack = each_below 64 (λ n. is_lifted F cs units stack (assignment n)) && beq (some_below 64 (λ n. formula_true (assignment n) F)) (some_below 64 (λ n. is_model (assignment n) cs units))
 

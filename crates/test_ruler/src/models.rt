@@ -56,7 +56,7 @@ fn is_mended(formula: &Formula, stack: &Stack, values: Assignment) -> bool
     values.formula_true(formula)
 }
 
-/// Whether the assignment, where it is a model of what is left, becomes one of the formula over the stack.
+/// Whether the assignment, if it is a model of what is left, becomes one of the formula over the stack.
 fn is_lifted(
     formula: &Formula,
     clauses: &[(u64, Clause)],
@@ -70,7 +70,7 @@ fn is_lifted(
     !is_model_of(&values, clauses, units) || is_mended(formula, stack, values)
 }
 
-/// Whether each model of what is left becomes one of the formula over the stack, and what is left has a model just where the
+/// Whether each model of what is left becomes one of the formula over the stack, and what is left has a model just if the
 /// formula has one.
 pub fn models_lift(
     alloc: Global,

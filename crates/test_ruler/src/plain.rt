@@ -6,7 +6,7 @@ use sat_words::{Clause, Lit};
 use simp_base::Run;
 use std::alloc::{AllocError, Global};
 
-/// What is left of a clause where some literals are true.
+/// What is left of a clause if some literals are true.
 #[derive(Clone, Copy)]
 enum Part {
     /// It is true, or has two literals or more that are neither true nor false.
@@ -54,7 +54,7 @@ fn give_units(clauses: &[Clause], given: &mut Vec<Lit>) -> Result<bool, AllocErr
     Ok(true)
 }
 
-/// The literals that unit propagation gives, none where it falsifies a clause.
+/// The literals that unit propagation gives, none if it falsifies a clause.
 fn units_of(alloc: Global, clauses: &[Clause]) -> Result<Option<Vec<Lit>>, AllocError> {
     let mut given = Vec::new(alloc);
     for _ in 0..=VARS {
@@ -157,7 +157,7 @@ fn implied_by(alloc: Global, pairs: &[(Lit, Lit)], lit: Lit) -> Result<Vec<Lit>,
 }
 
 /// The literal of the least variable that is equivalent to the one that implies the first of these, and whose negation implies
-/// the second; none where the literal implies its negation and is implied by it.
+/// the second; none if the literal implies its negation and is implied by it.
 fn least_equivalent(lit: Lit, implied: &[Lit], by_negation: &[Lit]) -> Option<Lit> {
     if implied.contains(&lit.not()) && by_negation.contains(&lit) {
         return None;
@@ -174,7 +174,7 @@ fn least_equivalent(lit: Lit, implied: &[Lit], by_negation: &[Lit]) -> Option<Li
     Some(lit)
 }
 
-/// What stands for the literal of each variable, none where a literal is equivalent to its negation.
+/// What stands for the literal of each variable, none if a literal is equivalent to its negation.
 fn stand_ins(alloc: Global, clauses: &[Clause]) -> Result<Option<Vec<Lit>>, AllocError> {
     let pairs = pairs_of(alloc, clauses)?;
     let mut found = Vec::new(alloc);
@@ -212,7 +212,7 @@ fn has_clause(clauses: &[(u64, Clause)], units: &[Lit], lits: &[Lit]) -> bool {
         || units.iter().any(|unit| is_same_set(&[*unit], lits))
 }
 
-/// Whether each clause is left with its literals replaced, but for tautologies.
+/// Whether each clause is left with its literals replaced, except for tautologies.
 fn have_become(
     alloc: Global,
     table: &[Lit],
@@ -264,7 +264,7 @@ fn copy_of(clause: &Clause, alloc: Global) -> Result<Clause, AllocError> {
     Clause::from_lits(alloc, clause.lits())
 }
 
-/// The clauses in which the literal is, but for tautologies.
+/// The clauses in which the literal is, except for tautologies.
 fn occurrences(alloc: Global, clauses: &[Clause], lit: Lit) -> Result<Vec<Clause>, AllocError> {
     let mut found = Vec::new(alloc);
     for clause in clauses {
@@ -275,7 +275,7 @@ fn occurrences(alloc: Global, clauses: &[Clause], lit: Lit) -> Result<Vec<Clause
     Ok(found)
 }
 
-/// The first clause but for the literal and the second but for its negation, in one.
+/// The first clause except for the literal and the second except for its negation, in one.
 fn resolvent(
     alloc: Global,
     first: &Clause,

@@ -15,8 +15,8 @@ use test_simplifiers::{counted_lines, formula_of, is_on, literals, text_lines};
 /// The variables of each row are 1 to this one.
 const VARS: u32 = 7;
 
-/// Clauses on these variables, each with a 0 behind it, and a number of rounds; the lines that are wanted, and what is left:
-/// the numbers of the start clauses and the units, or nothing where the formula is refuted.
+/// Clauses on these variables, each with a 0 after it, and a number of rounds; the lines that are wanted, and what is left:
+/// the numbers of the start clauses and the units, or nothing if the formula is refuted.
 #[derive(Clone, Copy)]
 struct Row {
     clauses: &'static [i32],
@@ -104,7 +104,7 @@ const TWICE: &[i32] = &[
     0, 2, 5, -7, 0, 1, -2, 0, -2, 3, 6, 0,
 ];
 
-/// Whether what is left is as in the row, and has a model of the formula where it has no clause.
+/// Whether what is left is as in the row, and has a model of the formula if it has no clause.
 fn is_left(alloc: Global, row: &Row, formula: &Formula, left: &Simplified) -> Result<bool, Fail>
     requires { AreOn formula.now.vars left.now }
 {
@@ -157,7 +157,7 @@ fn what_is_written_and_left(rt: HostRuntime) -> Result<(), Fail> {
 }
 
 /// How many start clauses are left of the formula in these rounds, over a line output whose line with this number fails; the stop
-/// where one does, and nothing where the formula is refuted.
+/// if one does, and nothing if the formula is refuted.
 fn starts_left(
     alloc: Global,
     formula: &Formula,

@@ -15,7 +15,7 @@ use test_simplifiers::{Simplifier, counted_work, is_on, run};
 /// How many formulas each one is tried on.
 const TRIALS: u64 = 300;
 
-/// What is left has models just where the formula has, and they become models of it; a formula that is refuted has none.
+/// What is left has models just if the formula has, and they become models of it; a formula that is refuted has none.
 fn keeps_models(
     alloc: Global,
     formula: &Formula,

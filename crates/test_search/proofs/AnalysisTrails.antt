@@ -22,7 +22,7 @@ steps_are n a t0 t1 t2 t3 t4 e0 e1 e2 e3 e4 =
 false_at : (n : Bool) (a m p : ℕ) (k l : Literal) → p < m → lit_at (sample_steps n a) p ≡ opposite k → k ≡ l → FalseBefore (sample_steps n a) m l
 false_at n a m p k l lt e s = record { place = p; before = lt; false_there = e ∙ ap opposite s }
 
--- where 5 is true the third clause is false, and where it is false the second one
+-- if 5 is true the third clause is false, and where it is false the second one
 pub third_false : IsFalseClause (sample_steps false 2) third.lits
 third_false l h = by (has_In third.lits l h)
   where

@@ -44,7 +44,7 @@ nothing_sampled w t vars e watched =
 pub more_sampled : (w x : WatchData) (t : TrailData) (c : Cref) → IsSampled w t → x.vars ≡ w.vars → attached x ≡ attached w ++ c ∷ [] → Watched x (lits_at sample_state) t → IsSampled x t
 more_sampled w x t c p vars more watched = record { clause_vars = vars ∙ p.clause_vars; vars = p.vars; level = p.level; watched = watched; reasons = reasons_with w x c t.steps more p.reasons }
 
--- others, where nothing is true
+-- others, if nothing is true
 pub other_sampled : (w x : WatchData) (t : TrailData) → IsSampled w t → t.steps ≡ [] → x.vars ≡ w.vars → Watched x (lits_at sample_state) t → IsSampled x t
 other_sampled w x t p bare vars watched = record { clause_vars = vars ∙ p.clause_vars; vars = p.vars; level = p.level; watched = watched; reasons = reasons_of_none (attached x) t.steps bare }
 

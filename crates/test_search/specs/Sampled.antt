@@ -11,7 +11,7 @@ use Rattle.watch_prop.specs.Propagation.{HasReasons}
 use Rattle.test_search.specs.declared.sampled.SampleClause.{SampleClause}
 use Rattle.test_search.specs.declared.sampled.SampleClause.TheVariants.{First, Second, Third}
 
--- the steps to a conflict over the small port, where the variable 5 gets this value from the clause at an address
+-- the steps to a conflict over the small port, if the variable 5 gets this value from the clause at an address
 abbrev pub sample_steps : Bool → ℕ → List Step
 sample_steps n a =
     record { lit = lit 1 false; level = 1; reason = None }
@@ -20,7 +20,7 @@ sample_steps n a =
     ∷ record { lit = lit 5 n; level = 2; reason = Some (record { address = a }) }
     ∷ []
 
--- where the small port holds a clause
+-- if the small port holds a clause
 abbrev pub place_of : SampleClause → ℕ
 place_of First = 1
 place_of Second = 2
@@ -30,7 +30,7 @@ place_of Third = 3
 abbrev pub cref_of : SampleClause → Cref
 cref_of clause = record { address = place_of clause }
 
--- the clauses that stay where the third one comes and goes so often: it is not among them, unless it never came
+-- the clauses that stay where the third one comes and goes this often: it is not among them, unless it never came
 abbrev pub left_by : ℕ → List Cref → List Cref
 left_by zero cs = cs
 left_by (suc n) cs = without cs 3

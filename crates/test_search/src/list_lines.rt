@@ -5,7 +5,7 @@ use drat_text::{LineOut, LineStop};
 use sat_words::{Line, Lits, MAX_ENTRIES};
 use std::alloc::{AllocError, Global};
 
-/// The lines of a log in memory, behind those that a formula's clauses have the numbers of.
+/// The lines of a log in memory, after those that a formula's clauses have the numbers of.
 #[derive(Drop)]
 pub struct ListLines {
     /// What the copies of lines take memory of.
@@ -29,7 +29,7 @@ impl LineOut for ListLines {
     ghost use Rattle.std.specs.Prelude.{None, Some, false, vec_len};
     ghost use Rattle.drat_text.specs.Text.{text};
 
-    // It tells the text of the lines.
+    // It says the text of the lines.
     ghost told = { λ l. record { entries = vec_len l.lines; last = l.last; spent = false; faults = 0; written = Some (text l.lines.items); target = None; flushed = None } };
 
     fn put(&mut self, line: &Line) -> Result<u64, LineStop> {

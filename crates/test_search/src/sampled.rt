@@ -84,7 +84,7 @@ impl Sampled {
         Ok(())
     }
 
-    /// Detaches a clause, where nothing is true.
+    /// Detaches a clause, if nothing is true.
     pub fn detach(&mut self, clause: SampleClause)
         requires sampled { IsSampled self.old.watches self.old.trail }
         requires bare { self.old.trail.steps ≡ [] }
@@ -96,7 +96,7 @@ impl Sampled {
         self.watches.detach(&mut port, address_of(clause));
     }
 
-    /// Detaches the first and the third clause at once, where nothing is true.
+    /// Detaches the first and the third clause at once, if nothing is true.
     pub fn detach_two(&mut self)
         requires sampled { IsSampled self.old.watches self.old.trail }
         requires bare { self.old.trail.steps ≡ [] }
@@ -108,7 +108,7 @@ impl Sampled {
             .detach_all(&[Cref { address: 1 }, Cref { address: 3 }]);
     }
 
-    /// Attaches the third clause and detaches it, so many times, where nothing is true.
+    /// Attaches the third clause and detaches it, this many times, if nothing is true.
     pub fn come_and_go(&mut self, count: u32) -> Result<(), AllocError>
         requires sampled { IsSampled self.old.watches self.old.trail }
         requires bare { self.old.trail.steps ≡ [] }

@@ -17,7 +17,7 @@ enum Step {
     Detach(SampleClause),
     /// Detaches the first and the third one at once.
     DetachTwo,
-    /// Attaches the third one and detaches it, so often.
+    /// Attaches the third one and detaches it, this often.
     ComeAndGo(u32),
     /// Makes the unit 1 true, and propagates.
     One,
@@ -34,7 +34,7 @@ fn told_of(propagated: (Propagated, u64)) -> Told {
     (propagated.0 == Propagated::Quiet, propagated.1)
 }
 
-/// Makes a unit that was seen true, where its variable has no value, and propagates.
+/// Makes a unit that was seen true, if its variable has no value, and propagates.
 fn set_unit(sampled: &mut Sampled, var: u32) -> Result<Told, Fail>
     requires sampled { IsSampled sampled.old.watches sampled.old.trail }
     requires seen { (var ≡ 1) ⊎ (var ≡ 4) }
@@ -46,7 +46,7 @@ fn set_unit(sampled: &mut Sampled, var: u32) -> Result<Told, Fail>
     Ok(told_of(sampled.propagate_unit(Lit::new(var, false))?))
 }
 
-/// Detaches, where nothing is true.
+/// Detaches, if nothing is true.
 fn detach(sampled: &mut Sampled, step: Step) -> Result<(), Fail>
     requires { IsSampled sampled.old.watches sampled.old.trail }
     ensures { IsSampled sampled.new.watches sampled.new.trail }
@@ -97,7 +97,7 @@ fn take_all(alloc: Global, steps: &[Step]) -> Result<(Sampled, Told), Fail>
     Ok((sampled, told))
 }
 
-/// Steps, and the values of 1 to 5 behind them; none where the last step finds a conflict.
+/// Steps, and the values of 1 to 5 after them; none if the last step finds a conflict.
 struct Row {
     steps: &'static [Step],
     values: &'static [Option<bool>],

@@ -26,7 +26,7 @@ pub fn is_on(formula: &Formula) -> bool
         .all(|clause| is_clause_on(vars, clause))
 }
 
-/// The literal of a number: of these variables, and negated where the number is below 0.
+/// The literal of a number: of these variables, and negated if the number is below 0.
 pub fn literal(vars: u32, number: i32) -> Result<Lit, Fail>
     requires { vars ≤ 2 ^ 30 }
     ensures ok { IsOk result ↔ ((1 ≤ unsigned_abs number) × (unsigned_abs number ≤ vars)) }
@@ -73,7 +73,7 @@ fn add_number(
     Ok(())
 }
 
-/// The formula of clauses, each with a 0 behind it.
+/// The formula of clauses, each with a 0 after it.
 pub fn formula_of(alloc: Global, vars: u32, numbers: &[i32]) -> Result<Formula, Fail>
     requires { vars ≤ 2 ^ 30 }
     ensures vars { IfOk result (λ formula. formula.vars ≡ vars) }

@@ -18,7 +18,7 @@ use std::test::Fail;
 /// The variables of each row are 1 to this one.
 const VARS: u32 = 4;
 
-/// Clauses, each with a 0 behind it, and what is wanted: the answer, the lines, the units and how many clauses are left.
+/// Clauses, each with a 0 after it, and what is wanted: the answer, the lines, the units and how many clauses are left.
 #[derive(Clone, Copy)]
 pub(crate) struct Row {
     pub(crate) clauses: &'static [i32],
@@ -85,7 +85,7 @@ fn is_as_told(alloc: Global, simplifier: Simplifier, row: &Row) -> Result<bool, 
     Ok(answer == Ok(row.answer) && is_left(alloc, row, left)?)
 }
 
-/// Whether the simplifier, where the first line of these clauses fails, says so and leaves so many clauses.
+/// Whether the simplifier, if the first line of these clauses fails, says so and leaves this many clauses.
 fn is_stopped(
     alloc: Global,
     simplifier: Simplifier,

@@ -19,7 +19,7 @@ pub fn counted_lines(formula: &Formula, failing: u64) -> CountedLines
     CountedLines::new(formula.clauses().len() as u64, failing)
 }
 
-/// Lines for the formula that are kept as text, in so many bytes.
+/// Lines for the formula that are kept as text, in this many bytes.
 pub fn text_lines(
     alloc: Global,
     formula: &Formula,

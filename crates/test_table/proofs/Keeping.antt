@@ -12,7 +12,7 @@ use Rattle.share_rule.specs.Views.{only}
 use Rattle.share_rule.specs.Exchanges.{gave_part, after_put}
 use Rattle.pool_exchange.proofs.Places.{held_there}
 
--- what a ring held of other cells it holds behind a put
+-- what a ring held of other cells it holds after a put
 pub put_keeps : (to class a : ℕ) (h : ClauseAt) (g : ℕ) (v w : View) → v.parts ≡ only v ∷ [] → w ≡ after_put to class a h g v → 0 < times_at a (only v).core.held → (b : ℕ) → b ≢ a → 0 < times_at b (only v).core.held → 0 < times_at b (only w).core.held
 put_keeps to class a h g v w one is has b ne there =
     let n : PutNote = record { to = to; class = class; address = a } in

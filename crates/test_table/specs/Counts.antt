@@ -3,7 +3,7 @@ use Rattle.std.specs.Prelude.{◌≡◌, ℕ, ◌+◌, ◌-◌, ◌^◌, ◌==�
 use Rattle.test_tables.specs.declared.rings.Ring.{Ring}
 use Rattle.share_rule.specs.Steps.{after_drop}
 
--- how often a ring gave a last count up, where it gave one up that found so many: up to the greatest number
+-- how often a ring gave a last count up, if it gave one up that found this many: up to the greatest number
 abbrev pub lasts_after : (found lasts : ℕ) → ℕ
 lasts_after found lasts = if found == 1 then min (lasts + 1) (2 ^ 64 - 1) else lasts
 

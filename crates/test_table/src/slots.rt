@@ -34,7 +34,7 @@ pub fn put_first<B: Ledger>(
     put(table, &mut ring.pass, ring.ring, to, 0, cell)
 }
 
-/// Gives up what came back. Whether it was the last count is told.
+/// Gives up what came back. Whether it was the last count is known.
 pub fn give_back<B: Ledger>(
     table: &Shared<B>,
     ring: &mut Ring<B>,

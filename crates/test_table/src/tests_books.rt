@@ -16,7 +16,7 @@ fn book<'a>(alloc: Global, fails: &'a [u64], keep: bool) -> Result<Book<MemSink<
     new_book(alloc, MemSink::new(alloc, 1 << 17, fails)?, keep)
 }
 
-/// Puts the line so many times, as long as the numbers from 2 on are answered. Tells how often it was put, and what stopped
+/// Puts the line this many times, as long as the numbers from 2 on are answered. Tells how often it was put, and what stopped
 /// it.
 fn put_often<S: Sink>(book: &mut Book<S>, line: &Line, times: u32) -> (u32, Option<LineStop>)
     requires unspent { book.old.log.lines.spent ≡ false }
@@ -34,7 +34,7 @@ fn put_often<S: Sink>(book: &mut Book<S>, line: &Line, times: u32) -> (u32, Opti
     (times, None)
 }
 
-/// What becomes of a book over a sink where these of its calls fail: how often a line of six bytes is put, what stopped it,
+/// What becomes of a book over a sink if these of its calls fail: how often a line of six bytes is put, what stopped it,
 /// the last number, how the book ends, how many bytes the sink then has, and how many lines were kept.
 type Ending = (
     u32,

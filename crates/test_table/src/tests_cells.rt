@@ -49,7 +49,7 @@ fn the_last_of_two_rings_is_told(rt: HostRuntime) -> Result<(), Fail> {
     Ok(())
 }
 
-/// Rings on threads that each take one more count of a start cell and give one up, so often, and then give up the one that
+/// Rings on threads that each take one more count of a start cell and give one up, this often, and then give up the one that
 /// they began with: how often a ring was told that it was the last.
 fn race(
     rt: &(impl Abort + AllocGlobal + Threads + Sync),
@@ -149,7 +149,7 @@ fn cells_are_read_back(rt: HostRuntime) -> Result<(), Fail> {
 /// How often the literals are read.
 const READS: u32 = 2_500_000;
 
-/// The sum of the codes of forty literals, so often.
+/// The sum of the codes of forty literals, this often.
 const SUM: u64 = 1653 * 2_500_000;
 
 #[test]
@@ -188,7 +188,7 @@ fn one_ring_trades_one_cell(rt: HostRuntime) -> Result<(), Fail> {
     Ok(())
 }
 
-/// A table is refused where the second clause finds no hole.
+/// A table is refused if the second clause finds no hole.
 #[test]
 fn no_table_without_room(rt: HostRuntime) -> Result<(), Fail> {
     let problem = three(rt.alloc())?;

@@ -14,7 +14,7 @@ struct Counter {
 impl Sink for Counter {
     ghost use Rattle.std.specs.Prelude.{None};
 
-    // It tells nothing.
+    // It says nothing.
     ghost written = { λ s. None };
 
     ghost flushed = { λ s. None };
@@ -51,7 +51,7 @@ fn long_line(alloc: Global) -> Result<Line, Fail> {
     Ok(Line::Add(Lits::from_vec(lits)))
 }
 
-/// Puts a line so often, and tells how many bytes came to the sink.
+/// Puts a line this often, and says how many bytes came to the sink.
 fn put_lines(alloc: Global, times: u32) -> Result<u64, Fail> {
     let line = long_line(alloc)?;
     let mut book = new_book(alloc, Counter { bytes: 0 }, false)?;
@@ -76,7 +76,7 @@ fn four_times_as_many_lines_are_put(rt: HostRuntime) -> Result<(), Fail> {
     Ok(())
 }
 
-/// Gathers bytes in a block so often, and tells how many came to the sink.
+/// Gathers bytes in a block this often, and says how many came to the sink.
 fn write_plainly(alloc: Global, text: &[u8], times: u32) -> Result<u64, Fail> {
     let mut sink = Counter { bytes: 0 };
     let mut block = Vec::with_capacity(alloc, 65_536)?;

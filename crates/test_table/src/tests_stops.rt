@@ -54,7 +54,7 @@ fn the_first_of_two_rings_wins(rt: HostRuntime) -> Result<(), Fail> {
     Ok(())
 }
 
-/// Both set theirs, each in a thread of its own where threads can be made.
+/// Both set theirs, each in a thread of its own if threads can be made.
 #[test]
 fn one_of_two_rings_on_threads_wins(rt: HostRuntime) -> Result<(), Fail> {
     let (table, mut zero, mut one) = begin_two(rt.alloc())?;

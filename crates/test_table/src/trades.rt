@@ -42,7 +42,7 @@ fn trade_once<B: Ledger>(table: &Shared<B>, ring: &mut Ring<B>, _times: u64)
     give_one_up(table, ring);
 }
 
-/// Trades so often.
+/// Trades this often.
 pub fn trade<B: Ledger>(table: &Shared<B>, ring: &mut Ring<B>, times: u64)
     requires holder { IsHolder table.now ring.old.pass ring.old.ring ring.old.cell.address 0 }
     requires few { times < 2 ^ 56 }
@@ -78,7 +78,7 @@ pub fn begin_all<B: Ledger>(
     Ok(all)
 }
 
-/// All rings trade so often, each in a thread of its own where threads can be made.
+/// All rings trade this often, each in a thread of its own if threads can be made.
 pub fn trade_all<B: Ledger + Send, R: Threads + Sync>(
     rt: &R,
     table: &Shared<B>,
@@ -119,7 +119,7 @@ fn lasts_of<B: Ledger>(rings: &[Ring<B>]) -> u64
     lasts
 }
 
-/// Takes all rings' passes in, the last first, and tells how often one was told that it gave a last count up.
+/// Takes all rings' passes in, the last first, and says how often one was told that it gave a last count up.
 pub fn gather_all<B: Ledger>(table: &Shared<B>, first: &mut Pass<B>, rings: Vec<Ring<B>>) -> u64
     requires first { IsGathered table.now first.old (length rings.items) }
     requires each { All (λ r. IsRing table.now r.pass r.ring) rings.items }
@@ -135,7 +135,7 @@ pub fn gather_all<B: Ledger>(table: &Shared<B>, first: &mut Pass<B>, rings: Vec<
     lasts
 }
 
-/// How often a cell is counted, by the word at its address; none where the table has no such word. The word is read without a
+/// How often a cell is counted, by the word at its address; none if the table has no such word. The word is read without a
 /// pass, so that no clause knows it.
 pub fn count_of<B: Ledger>(table: &Shared<B>, cell: Cref) -> Option<u64>
     ensures { IsSome result ↔ (cell.address < table.now.table.shared.table_id.words) }
@@ -185,7 +185,7 @@ fn sum_of_cell<B: Ledger>(table: &Shared<B>, ring: &mut Ring<B>, size: u32, star
     sum
 }
 
-/// The same so often, in one sum.
+/// The same this often, in one sum.
 pub fn sum_of_reads<B: Ledger>(table: &Shared<B>, ring: &mut Ring<B>, times: u32) -> u64
     requires { (n : ℕ) × IsHolder table.now ring.old.pass ring.old.ring ring.old.cell.address n }
     ensures sum { result ≡ (times * code_sum (clause_of ring.old.cell.address ring.old.pass.me.0).lits) % 2 ^ 64 }

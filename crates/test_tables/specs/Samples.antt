@@ -22,7 +22,7 @@ pub record IsRing {B : Type 0} (t : Shared B) (p : Seat (Option B) View) (ring :
   pub ring_is : (only p.me.0).core.ring ≡ ring
   pub free : (only p.me.0).turn ≡ None
 
--- it holds the cell, and has shared so often
+-- it holds the cell, and has shared this often
 pub record IsHolder {B : Type 0} (t : Shared B) (p : Seat (Option B) View) (ring cell shared : ℕ) : Type 0 where
   pub is_ring : IsRing t p ring
   pub holds : 0 < times_at cell (only p.me.0).core.held

@@ -20,7 +20,7 @@ use test_formulas::Problem;
 /// A table with its first pass and the addresses of the start cells, or why there is none.
 type Made<B> = Result<(Shared<B>, Pass<B>, Vec<Cref>), MakeStop<B>>;
 
-/// A table over a formula, behind which no line stands.
+/// A table over a formula, after which no line stands.
 fn make_over<B: Ledger>(
     alloc: Global,
     formula: &Formula,

@@ -30,7 +30,7 @@ one_waits a h e =
     let z : one_if (h.address == a) ≡ 1 = ap one_if (eq-eqb h.address a e) in
     (omega arith, ap (λ b. cond b h (clause_in a [])) (eq-eqb h.address a e))
 
--- what waits behind a last drop
+-- what waits after a last drop
 pub dropped_waits : (v w : View) (a : ℕ) → v.parts ≡ only v ∷ [] → (only v).core.waiting ≡ [] → w ≡ after_drop a 1 v → ((only w).core.waiting ≡ clause_of a v ∷ []) × (w.parts ≡ only w ∷ [])
 dropped_waits v w a one none is =
     let parts : w.parts ≡ drop_part a 1 (only v) ∷ [] = ap (λ (x : View). x.parts) is ∙ ap (on_first (drop_part a 1)) one in

@@ -1,4 +1,4 @@
--- What a writer was told, with one number more.
+-- What a writer was known, with one number more.
 use Rattle.io_edge.specs.declared.edge.Sink.{Ghosts}
 use Rattle.std.proofs.Common.{◌≡◌, ◌∙◌, ℕ, ◌+◌, ◌-◌, ◌^◌, List, [], ◌∷◌, ◌++◌, length-append, min, refl, sym, ap, arith}
 use Rattle.std.specs.Prelude.{nat_lt, sum}

@@ -106,7 +106,7 @@ holds_pair t p ring a h = (
   ap (λ (q : Part). q.seen) h.core_is,
 )
 
--- behind the unit's line it is told, and no unit is seen yet
+-- after the unit's line it is known, and no unit is seen yet
 pub unit_told : (q : Part) (o : CoreOpening) (ring a n i m j : ℕ) → q ≡ wrote_part j (Add (record { ring = ring; number = m; lits = plus 2 ∷ []; kind = Learn })) (pair_part o ring a n i)
     → (list_any (same_set (plus 2 ∷ [])) (added (map (λ (x : Placed). x.entry) q.wrote)) ≡ true) × (q.seen ≡ [])
 unit_told q o ring a n i m j e = (ap (λ (p : Part). list_any (same_set (plus 2 ∷ [])) (added (map (λ (x : Placed). x.entry) p.wrote))) e, ap (λ (p : Part). p.seen) e)

@@ -1,4 +1,4 @@
--- What writers were told, one writer after another.
+-- What writers were known, one writer after another.
 use Rattle.std.proofs.Common.{◌≡◌, ◌∙◌, ℕ, ◌+◌, ◌<◌, ◌++◌, ◌∷◌, [], List, fold, get_or, length, max, min, sum_by, take, sym, ap, arith}
 use Rattle.std.proofs.lemmas.List.{take_more}
 use Rattle.std.proofs.lemmas.List.Sums.{fold_more, sum_by_push}

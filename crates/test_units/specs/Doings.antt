@@ -1,4 +1,4 @@
--- What rings did in their turns, and what they were told.
+-- What rings did in their turns, and what they were known.
 use Rattle.io_edge.specs.declared.edge.Sink.{Ghosts}
 use Rattle.std.specs.Prelude.{◌≡◌, ◌≢◌, ◌⊎◌, ◌≤◌, ◌<◌, ◌+◌, ◌-◌, ◌^◌, ℕ, List, [], ◌∷◌, ◌++◌, length, map, min, sum, nat_lt, Some}
 use Rattle.sat_words.specs.Literal.{Literal}
@@ -68,12 +68,12 @@ abbrev pub rises : ℕ → List ℕ → ℕ
 rises m [] = 0
 rises m (n ∷ ns) = one_if (nat_lt m n) + rises n ns
 
--- the last number, or the one that is given where there is none
+-- the last number, or the one that is given if there is none
 abbrev pub last_from : ℕ → List ℕ → ℕ
 last_from m [] = m
 last_from m (n ∷ ns) = last_from n ns
 
--- the writer wrote the unit so often at most, in turns that it gave back, and was told the numbers of its lines
+-- the writer wrote the unit this often at most, in turns that it gave back, and was told the numbers of its lines
 pub record HasWritten {S : Type 0} {d : Ghosts S} (lit : Literal) (times : ℕ) (old new : Writer S d) : Type 0 where
   pub numbers : List ℕ
   pub most : length numbers ≤ times

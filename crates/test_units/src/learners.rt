@@ -80,7 +80,7 @@ pub fn build<S: Sink>(
     open_cell(table, &mut ring.pass, cell);
 }
 
-/// The two literals of a cell that the ring holds. None where the clause is longer or shorter.
+/// The two literals of a cell that the ring holds. None if the clause is longer or shorter.
 fn read_pair<S: Sink>(
     table: &Shared<Book<S>>,
     ring: &mut Ring<Book<S>>,
@@ -165,7 +165,7 @@ pub fn learn_unit<H: Wait, S: Sink>(
     }
 }
 
-/// Takes the turn, lists the unit where no unit is listed, and gives the turn back. False where one is listed, which it reads.
+/// Takes the turn, lists the unit if no unit is listed, and gives the turn back. False if one is listed, which it reads.
 pub fn list_first<H: Wait, S: Sink>(
     rt: &H,
     alloc: Global,

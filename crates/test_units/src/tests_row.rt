@@ -15,7 +15,7 @@ use std::thread::{Threads, join};
 use test_tables::Ring;
 use unit_share::next_unit;
 
-/// Waits until the hand is at this step. It is past all steps where the other ring gave the row up.
+/// Waits until the hand is at this step. It is past all steps if the other ring gave the row up.
 fn wait_for<H: Wait>(rt: &H, hand: &AtomicU64, step: u64) -> bool {
     for _ in rt.forever() {
         let now = hand.load(Ordering::SeqCst);
@@ -132,7 +132,7 @@ fn run_one<H: Wait, S: Sink>(
     (ring, steps, None, None)
 }
 
-/// Both rings of the row, each in a thread of its own where threads can be made. They hand over to each other.
+/// Both rings of the row, each in a thread of its own if threads can be made. They hand over to each other.
 pub(crate) fn play<S: Sink + Send, R: Threads + Wait + Sync>(
     rt: &R,
     alloc: Global,

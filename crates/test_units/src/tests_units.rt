@@ -14,8 +14,8 @@ use std::test::Fail;
 use std::thread::Threads;
 use test_tables::{gather, open_with, start_cell};
 
-/// Rings on threads that each take the turn so often and write the unit 2 in it. All lines stand, each under a number of its
-/// own, which each ring was told in order.
+/// Rings on threads that each take the turn this often and write the unit 2 in it. All lines stand, each under a number of its
+/// own, which each ring was known in order.
 fn relay(
     rt: &(impl Abort + AllocGlobal + Threads + Wait + Sync),
     rings: u32,

@@ -94,7 +94,7 @@ fn write_unit<H: Wait, S: Sink>(
     }
 }
 
-/// A ring that writes one unit again and again, and what it was told.
+/// A ring that writes one unit again and again, and what it was known.
 #[derive(Drop)]
 pub struct Writer<S: Sink> {
     /// The ring.
@@ -122,7 +122,7 @@ fn note<S: Sink>(writer: &mut Writer<S>, number: u64)
     writer.sum = writer.sum.saturating_add(number);
 }
 
-/// Writes the unit 2 so often.
+/// Writes the unit 2 this often.
 fn write_often<H: Wait, S: Sink>(
     rt: &H,
     alloc: Global,
@@ -174,7 +174,7 @@ pub fn begin_writers<S: Sink>(
     Ok(all)
 }
 
-/// All rings write so often, each in a thread of its own where threads can be made.
+/// All rings write this often, each in a thread of its own if threads can be made.
 pub fn write_all<S: Sink + Send, R: Threads + Wait + Sync>(
     rt: &R,
     alloc: Global,
@@ -195,7 +195,7 @@ pub fn write_all<S: Sink + Send, R: Threads + Wait + Sync>(
     );
 }
 
-/// What writers were told: how often they wrote, the last of all numbers, and the numbers in one sum.
+/// What writers were known: how often they wrote, the last of all numbers, and the numbers in one sum.
 fn told_by<S: Sink>(writers: &[Writer<S>]) -> (u64, u64, u64)
     ensures written { result.0 ≡ min (sum_by (λ w. w.written) writers.now) (2 ^ 64 - 1) }
     ensures last { result.1 ≡ fold (λ n w. max n w.last) 0 writers.now }

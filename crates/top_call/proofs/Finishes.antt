@@ -69,7 +69,7 @@ found_verdict plan F J (NoHole lack) occurring occurs is holds ruled = absurd (l
 found_verdict plan F J answer.ProofFault occurring occurs is holds ruled = absurd (let no : ⊥ = cc in no)
 found_verdict plan F J answer.Memory occurring occurs is holds ruled = absurd (let no : ⊥ = cc in no)
 
--- an answer that is told and is no fault of the proof is that of the search
+-- an answer that is known and is no fault of the proof is that of the search
 told_found : (found a : Answer) (before faults : ℕ) → IsTold found a before faults → a ≢ answer.ProofFault → a ≡ found
 told_found found a before faults t other = elim t.ends [
   | inl same ↦ same
@@ -114,7 +114,7 @@ verdict_is answer.Memory occurring result verdict is ok = absurd (let no : ⊥ =
 sound_verdict : (a : Answer) → is_verdict a ≡ true → a ≢ answer.ProofFault
 sound_verdict a is e = true≢false (sym is ∙ ap is_verdict e)
 
--- what the proof's writer holds behind an answer
+-- what the proof's writer holds after an answer
 log_of : (F : FormulaData) (J : List Entry) (a : Answer) (searched faults : ℕ) (flushed written : Option (List ℕ)) → IsFinished F.clauses J a 0 searched faults flushed written
     → HoldsLog F.clauses J searched (record { faults = faults; written = written; flushed = flushed })
 log_of F J a searched faults flushed written f = record {
@@ -168,7 +168,7 @@ with_lack kind lack F J tally run s = record {
   learned = s.learned;
 }
 
--- a fault of the proof that is told is that of the search, or comes behind a verdict
+-- a fault of the proof that is known is that of the search, or comes after a verdict
 fault_found : (plan : SearchPlan) (F : FormulaData) (J : List Entry) (found : Answer) (occurring : List Bool) (faults : ℕ) → IsOccurring F.clauses F.vars occurring → IsTold found answer.ProofFault 0 faults → Holds plan F J found
     → (is_verdict found ≡ true → IsRuledThrough F plan.rounds J) → (kind_of found ≡ Some STOP_PROOF) ⊎ IsVerdictKind (kind_of found) plan F J
 fault_found plan F J (Sat model) occurring faults occurs t holds ruled = inr (found_verdict plan F J (Sat model) occurring occurs refl holds (ruled refl))
@@ -255,7 +255,7 @@ finished verdict told plan F J tally text source out writer none decided (inr (i
 
 -- ---- the whole search
 
--- the tally behind an answer
+-- the tally after an answer
 told : (plan : SearchPlan) (F : FormulaData) (a : Answer) (counts : List Counts) (faults : ℕ) (flushed written : Option (List ℕ)) (kept : Option (List Line)) (before after : Tally)
     → IsSolved plan F a counts 0 faults flushed written kept → before ≡ zero_tally plan.threads → after ≡ counted counts before → after ≡ rings_tally (each_counted plan.threads counts) no_lack
 told plan F a counts faults flushed written kept before after s zeros is = is ∙ ap (counted counts) zeros ∙ counted_is plan.threads counts (sizes plan.threads plan.conflicts F.clauses s.journal counts s.reached.held)

@@ -26,7 +26,7 @@ pub asked_file : (found : Option Command) (command : Command) → found ≡ Some
 asked_file found command is some = subst (λ (x : Option Command). IsSome (file_path x)) (sym is) some
 
 module _ {R : Type 0} (left : R → Option (List ℕ)) (faults : R → ℕ) (contents : Option PathMap) where
-  -- an input is opened exactly where a path is given
+  -- an input is opened exactly if a path is given
   pub opened_there : (path : Option (List ℕ)) (file : Option R) → IsOpened left faults contents path file → is_some file ≡ is_some path
   opened_there None file is = ap (λ (f : Option R). is_some f) is
   opened_there (Some path) None is = absurd is
@@ -46,7 +46,7 @@ pub has_file : {R : Type 0} (left : R → Option (List ℕ)) (faults : R → ℕ
     → found ≡ Some command → IsOpened left faults contents command.file file → is_some (option_map faults file) ≡ is_some (file_path found)
 has_file left faults contents found command file is opened = same_there faults file ∙ opened_there left faults contents command.file file opened ∙ sym (same_file found command is)
 
--- and its path is there, where the files are told
+-- and its path is there, if the files are known
 pub file_there : (contents : Option PathMap) (found : Option Command) (command : Command) → found ≡ Some command → IfSome command.file (IsThere contents) → IfSome (file_path found) (IsThere contents)
 file_there contents found command is there = subst (λ (x : Option Command). IfSome (file_path x) (IsThere contents)) (sym is) there
 
@@ -60,7 +60,7 @@ words_stopped end tally call (inr is) usage counts file proof files input out =
     subst (λ (e : End). CallOutcome e no_formula [] tally call) (sym is)
     (inl (files, record { barren = record { no_proof = proof; nothing = refl; counts = counts; input = input; out = out }; no_file = file }))
 
--- a count that rose behind a call that left it
+-- a count that rose after a call that left it
 pub rose_behind : (before between after : ℕ) → between ≡ before → Rose between after → Rose before after
 rose_behind before between after same rose = subst (λ (n : ℕ). Rose n after) same rose
 

@@ -172,7 +172,7 @@ cleared formula occurring a m model o w = record {
   idle = λ v none. w.value v ∙ ap (λ (b : Bool). b && value_of a v) (o.value v ∙ none);
 }
 
--- the values of one assignment where another is true, all others false
+-- the values of one assignment if another is true, all others false
 pub both : List Bool → List Bool → List Bool
 both [] from = []
 both (x ∷ xs) [] = false ∷ both xs []

@@ -79,7 +79,7 @@ abbrev pub Apart : Type 0
 Apart = (text : List ℕ) (formula : FormulaData) (code : Code) (line : ℕ) → Reads text formula → Bad text code line → ⊥
 
 module _ (F : FormulaData) (J : List Entry) (tally : Tally) (call : Call) where
-  -- a verdict that was told
+  -- a verdict that was known
   answers : (v : Verdict) → IsStill call.files → (call.file ≡ None) ⊎ IsStill call.input → IsAnswered v F J tally (run_of call) → Answers v F J tally call
   answers v files input a = record { answered = a; files = files; input = input_still call.input call.file input a.started.source }
 
@@ -167,7 +167,7 @@ module _ (F : FormulaData) (J : List Entry) (tally : Tally) (call : Call) where
     made = inl h;
   }
 
-  -- or behind that
+  -- or after that
   ran_out_whole : IsWhole Memory F J tally call → (IsStill (source_of call) × IsBroken F J tally (run_of call)) ⊎ IsStarved F J tally (run_of call) ⊎ IsUnchecked F J tally (run_of call) → RanOut F J tally call
   ran_out_whole o (inl h) = record {
     files = o.files;

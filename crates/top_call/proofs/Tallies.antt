@@ -44,7 +44,7 @@ none_learned r (x ∷ J) e = learned_by r x J e (none_learned r J) (is_rulers x)
 
 -- ---- what each ring counted
 
--- what each ring counted, nothing where memory ran out before any could
+-- what each ring counted, nothing if memory ran out before any could
 abbrev pub each_counted : ℕ → List Counts → List Counts
 each_counted rings [] = replicate rings no_counts
 each_counted rings (c ∷ cs) = c ∷ cs
@@ -183,6 +183,6 @@ all_same (x ∷ xs) (suc n) limit long each =
     let rest : xs ≡ replicate n limit = all_same xs n limit (omega (arith, long)) (λ ring d lt. each (suc ring) d (omega arith)) in
     λ i. front i ∷ rest i
 
--- where each ring has learned its limit, the tally says so
+-- if each ring has learned its limit, the tally says so
 pub all_learned : (rings limit : ℕ) (F : List (List Literal)) (J : List Entry) (numbers : List ℕ) → AreLearned rings limit J numbers → SpentAll F J rings limit → numbers ≡ replicate rings limit
 all_learned rings limit F J numbers are spent = all_same numbers rings limit are.many (λ ring d lt. are.each ring d lt ∙ spent.spent.learns ring lt)

@@ -19,7 +19,7 @@ true_literal model var = record { var = var; neg = not (value_of model var) }
 abbrev pub value_words : ℕ → List Bool → List (List ℕ)
 value_words vars model = map (λ var. lit_text (true_literal model var)) (range_with_len 1 vars) ++ codes "0" ∷ []
 
--- each word after a space: on the line that has `used` bytes where it then has at most 78, else on a new one
+-- each word after a space: on the line that has `used` bytes if it then has at most 78, else on a new one
 abbrev pub wrapped : ℕ → List (List ℕ) → List ℕ
 wrapped used [] = codes "\n"
 wrapped used (word ∷ words) =
@@ -46,7 +46,7 @@ satisfied_by Unknown clauses = None
 abbrev pub summary_of : FormulaData → Verdict → Summary
 summary_of formula verdict = record { vars = formula.vars; clauses = length formula.clauses; satisfied = satisfied_by verdict formula.clauses }
 
--- what is told before the answer: of the formula, where it was made, and of the check, where one was asked for
+-- what is known before the answer: of the formula, where it was made, and of the check, where one was asked for
 abbrev pub remarks_of : (made checked : Bool) → FormulaData → Verdict → Remarks
 remarks_of made checked formula verdict = record { made = if made then Some (summary_of formula verdict) else None; checked = checked }
 
@@ -82,6 +82,6 @@ abbrev pub model_lines : ℕ → Option Summary → Verdict → List ℕ
 model_lines vars None (Satisfiable model) = value_lines vars model
 model_lines vars _ _ = []
 
--- the answer over a formula with so many variables
+-- the answer over a formula with this many variables
 abbrev pub answer_text : ℕ → Remarks → Verdict → List ℕ
 answer_text vars remarks verdict = head_lines remarks verdict ++ model_lines vars remarks.made verdict

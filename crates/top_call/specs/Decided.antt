@@ -39,7 +39,7 @@ pub record Decides (plan : Plan) (formula : FormulaData) (journal : List Entry) 
   pub holds : Holds plan formula journal verdict
   pub ruled : IsRuledThrough formula plan.rounds journal
 
--- the kind of the stop with which the rings come to the verdict, and with none where each is spent
+-- the kind of the stop with which the rings come to the verdict, and with none if each is spent
 abbrev pub verdict_kind : Verdict → Option ℕ
 verdict_kind (Satisfiable model) = Some STOP_SAT
 verdict_kind Unsatisfiable = Some STOP_REFUTED

@@ -1,5 +1,5 @@
--- How a verdict that was reached ends, behind its proof: as itself, in a fault of the output, or in want of memory in the check
--- of the log, where one is asked for.
+-- How a verdict that was reached ends, after its proof: as itself, in a fault of the output, or in want of memory in the check
+-- of the log, if one is asked for.
 use Rattle.std.specs.Prelude.{◌≡◌, ◌⊎◌, ℕ, List, Bool, true}
 use Rattle.top_call.specs.declared.report.Verdict.{Verdict}
 use Rattle.top_call.specs.declared.report.End.{End}
@@ -7,7 +7,7 @@ use Rattle.top_call.specs.declared.report.End.TheVariants as end
 use Rattle.top_call.specs.Ends.{end_of}
 use Rattle.top_call.specs.Run.{Output, RoseIn, IsStill, Prints, PrintsPart}
 
--- the verdict is told, and printed
+-- the verdict is known, and printed
 pub record Succeeds (text : List ℕ) (verdict : Verdict) (told : End) (output : Output) : Type 0 where
   pub is : told ≡ end_of verdict
   pub printed : Prints output text

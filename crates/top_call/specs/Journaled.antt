@@ -10,8 +10,8 @@ use Rattle.portfolio_run.specs.Journaled.{IsCutShort}
 use Rattle.top_call.specs.Run.{Writer}
 
 -- a writer that began with no fault had failed `searched` times when the search was over, and `poured` times before its last call:
--- a flush, which made sure of all that was written, or failed. It holds the text of the journal's lines, or where it failed before
--- the flush a front of that and of the text of one line more; where it had not failed in the search, a front of that alone.
+-- a flush, which made sure of all that was written, or failed. It holds the text of the journal's lines, or if it failed before
+-- the flush a front of that and of the text of one line more; if it had not failed in the search, a front of that alone.
 pub record HoldsLog (clauses : List (List Literal)) (journal : List Entry) (searched : ℕ) (writer : Writer) : Type 0 where
   pub poured : ℕ
   pub grown : (searched ≤ poured) × (poured ≤ writer.faults)

@@ -29,7 +29,7 @@ use Rattle.top_call.specs.Journaled.{HoldsLog}
 use Rattle.top_call.specs.Decided.{Decides, IsDecided, verdict_kind}
 use Rattle.top_call.specs.Tallied.{no_tally, bad_tally, rings_tally, no_lack, AreLearned}
 
--- the proof's writer is there and holds the journal; it had failed so often when the search was over, and its last call was a flush
+-- the proof's writer is there and holds the journal; it had failed this often when the search was over, and its last call was a flush
 abbrev pub HasLog : FormulaData → List Entry → ℕ → Run → Type 0
 HasLog formula journal searched run = IsSomeAnd run.proof (HoldsLog formula.clauses journal searched)
 
@@ -53,11 +53,11 @@ pub record IsBroken (formula : FormulaData) (journal : List Entry) (tally : Tall
   pub counts : tally ≡ no_tally
   pub out : IsStill run.out.faults
 
--- the formula was made, or read without a fault, and as many rings as the words ask for were to start. A journal of so many rings
+-- the formula was made, or read without a fault, and as many rings as the words ask for were to start. A journal of this many rings
 -- stands, begins with what the ruler wrote in the rounds that the words allow, and is what the rings' steps leave, none of which
 -- learned more lemmas than the words allow; the steps come to a stop of this kind, or to none, and where it is a fault of the proof,
 -- and else perhaps beside other rings, the writer had failed by then. The writer holds the journal. The tally has what each ring
--- counted, and what was needed and what there was where there was no room.
+-- counted, and what was needed and what there was if there was no room.
 pub record IsStarted (kind : Option ℕ) (lack : NoRoom) (formula : FormulaData) (journal : List Entry) (tally : Tally) (run : Run) : Type 0 where
   pub given : WasGiven run.plan.make run.text formula
   pub source : IsStill run.source
@@ -77,8 +77,8 @@ pub record IsQuiet (run : Run) : Type 0 where
   pub proof : IsSomeAnd run.proof (λ writer. writer.faults ≡ 0)
   pub out : IsStill run.out.faults
 
--- what is printed, by what the words ask for: where a formula is made it is told of, and the values of a model are not; where
--- the log is checked that is told
+-- what is printed, by what the words ask for: if a formula is made it is told of, and the values of a model are not; where
+-- the log is checked that is known
 abbrev pub printed_of : Plan → FormulaData → Verdict → List ℕ
 printed_of plan formula verdict = answer_text formula.vars (remarks_of (is_some plan.make) plan.search.keep_lines formula verdict) verdict
 
@@ -103,7 +103,7 @@ pub record IsVerdictKind (kind : Option ℕ) (plan : SearchPlan) (formula : Form
   pub decided : IsDecided plan formula journal
   pub kind_is : kind ≡ verdict_kind decided.verdict
 
--- the proof failed: a line of it, for which the search stopped; or, behind a verdict that holds, a line of another ring, what was left
+-- the proof failed: a line of it, for which the search stopped; or, after a verdict that holds, a line of another ring, what was left
 -- to write, or the flush
 pub record IsUnproved (formula : FormulaData) (journal : List Entry) (tally : Tally) (run : Run) : Type 0 where
   pub kind : Option ℕ
@@ -125,7 +125,7 @@ pub record IsStarved (formula : FormulaData) (journal : List Entry) (tally : Tal
   pub unsettled : IsUnsettled run.plan.search.threads run.plan.search.conflicts journal
   pub out : IsStill run.out.faults
 
--- memory ran out in the check of the log, which is asked for, behind a verdict that holds; no call of the proof or the output
+-- memory ran out in the check of the log, which is asked for, after a verdict that holds; no call of the proof or the output
 -- failed
 pub record IsUnchecked (formula : FormulaData) (journal : List Entry) (tally : Tally) (run : Run) : Type 0 where
   pub asked : run.plan.search.keep_lines ≡ true
@@ -171,7 +171,7 @@ pub record IsIdle (journal : List Entry) (tally : Tally) (call : Call) : Type 0 
   pub barren : IsBarren journal tally call
   pub no_file : call.file ≡ None
 
--- the words were lawful, and no file failed; the file was read where one is given, else standard input
+-- the words were lawful, and no file failed; the file was read if one is given, else standard input
 pub record IsWhole (end : End) (formula : FormulaData) (journal : List Entry) (tally : Tally) (call : Call) : Type 0 where
   pub lawful : IsSome (command_of call.words)
   pub file : HasFile call

@@ -1,4 +1,4 @@
--- What a caller sees of a call: words, counts of faults, and bytes where they are told.
+-- What a caller sees of a call: words, counts of faults, and bytes if they are known.
 use Rattle.std.specs.Prelude.{◌≡◌, ℕ, List, Some, None, is_some, IfSome, IsSomeAnd}
 use Rattle.std.specs.declared.option.Option.{Option}
 use Rattle.io_edge.specs.Bytes.{GrowsBy, GrowsByPart}
@@ -29,7 +29,7 @@ pub record Output : Type 0 where
 -- a run over a source, once the proof is created
 pub record Run : Type 0 where
   pub plan : Plan
-  -- what the source had left, where it tells
+  -- what the source had left, if it tells
   pub text : Option (List ℕ)
   pub source : Count
   pub proof : Option Writer
@@ -38,10 +38,10 @@ pub record Run : Type 0 where
 -- a call, from the words of the command line on
 pub record Call : Type 0 where
   pub words : List (List ℕ)
-  -- the files as the call begins, where the store tells them
+  -- the files as the call begins, if the store tells them
   pub contents : Option PathMap
   pub files : Count
-  -- what standard input has left as the call begins, where it tells
+  -- what standard input has left as the call begins, if it tells
   pub left : Option (List ℕ)
   pub input : Count
   -- the faults of the input that was opened, which began with none, as the call ends
@@ -49,7 +49,7 @@ pub record Call : Type 0 where
   pub proof : Option Writer
   pub out : Output
 
--- the text that is read: all of the file, or what standard input has left where no file is given
+-- the text that is read: all of the file, or what standard input has left if no file is given
 abbrev pub text_in : Option PathMap → Option (List ℕ) → Option (List ℕ) → Option (List ℕ)
 text_in contents left None = left
 text_in contents left (Some path) = told_at contents path
@@ -74,7 +74,7 @@ source_of call = source_in call.input call.file
 abbrev pub run_of : Call → Run
 run_of call = record { plan = plan_of (command_of call.words); text = text_of call; source = source_of call; proof = call.proof; out = call.out }
 
--- an input was opened, exactly where a file is given; where the files are told, it is there
+-- an input was opened, exactly if a file is given; if the files are known, it is there
 pub record HasFile (call : Call) : Type 0 where
   pub opened : is_some call.file ≡ is_some (file_path (command_of call.words))
   pub there : IfSome (file_path (command_of call.words)) (IsThere call.contents)
@@ -95,7 +95,7 @@ pub record Prints (out : Output) (text : List ℕ) : Type 0 where
 abbrev pub PrintsPart : Output → List ℕ → Type 0
 PrintsPart out text = GrowsByPart out.before out.after text
 
--- the path that a proof is for, where the store tells: none where none is given
+-- the path that a proof is for, if the store tells: none if none is given
 abbrev pub target_in : Option PathMap → Option (List ℕ) → Option (List ℕ)
 target_in contents None = None
 target_in contents (Some path) = told_target contents path
@@ -104,7 +104,7 @@ abbrev pub writer_of : {W : Type 0} → (W → ℕ) → (W → Option (List ℕ)
 writer_of faults written flushed None = None
 writer_of faults written flushed (Some writer) = Some (record { faults = faults writer; written = written writer; flushed = flushed writer })
 
--- the input was opened where a path is given for it: its reader has the path's bytes left, and no fault
+-- the input was opened if a path is given for it: its reader has the path's bytes left, and no fault
 abbrev pub IsOpened : {R : Type 0} → (R → Option (List ℕ)) → (R → ℕ) → Option PathMap → Option (List ℕ) → Option R → Type 0
 IsOpened left faults contents None file = file ≡ None
 IsOpened left faults contents (Some path) file = IsSomeAnd file (λ reader. (left reader ≡ told_at contents path) × (faults reader ≡ 0))

@@ -59,15 +59,15 @@ pub record IsUnopened (journal : List Entry) (tally : Tally) (call : Call) : Typ
   pub asked : IsSome (file_path (command_of call.words))
   pub idle : IsIdle journal tally call
 
--- a proof is wanted and could not be created; the input was opened before, where a file is given
+-- a proof is wanted and could not be created; the input was opened before, if a file is given
 pub record IsUncreated (journal : List Entry) (tally : Tally) (call : Call) : Type 0 where
   pub rose : RoseIn call.files
   pub asked : IsSome (proof_path (command_of call.words))
   pub file : HasFile call
   pub barren : IsBarren journal tally call
 
--- the words are lawful, and all that they ask for was made: the input was opened where a file is given, and the proof was
--- created; no file failed, and standard input did not where a file was read
+-- the words are lawful, and all that they ask for was made: the input was opened if a file is given, and the proof was
+-- created; no file failed, and standard input did not if a file was read
 pub record MadeAll (call : Call) : Type 0 where
   pub lawful : IsSome (command_of call.words)
   pub file : HasFile call
@@ -85,8 +85,8 @@ pub record RanOut (formula : FormulaData) (journal : List Entry) (tally : Tally)
   pub out : IsStill call.out.faults
   pub made : IsIdle journal tally call ⊎ (MadeAll call × (IsBroken formula journal tally (run_of call) ⊎ IsStarved formula journal tally (run_of call) ⊎ IsUnchecked formula journal tally (run_of call)))
 
--- one journal of as many rings as the words ask for stands, of the formula that was read or made, or empty. The proof, where there
--- is one, holds it and was flushed last; it had failed so often when the search was over.
+-- one journal of as many rings as the words ask for stands, of the formula that was read or made, or empty. The proof, if there
+-- is one, holds it and was flushed last; it had failed this often when the search was over.
 pub record HasJournal (formula : FormulaData) (journal : List Entry) (call : Call) : Type 0 where
   pub stands : IsJournal (search_in call).threads formula.clauses journal
   pub of_input : (journal ≡ []) ⊎ WasGiven (make_number (command_of call.words)) (text_of call) formula
@@ -101,7 +101,7 @@ pub record IsCounted (formula : FormulaData) (journal : List Entry) (tally : Tal
   pub held : IsHeld (search_in call).threads (search_in call).conflicts formula.clauses journal counts
   pub told : Tells counts tally
 
--- the text is told and spells a formula
+-- the text is known and spells a formula
 pub record IsReadable (call : Call) : Type 0 where
   pub text : List ℕ
   pub told : text_of call ≡ Some text

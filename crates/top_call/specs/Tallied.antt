@@ -13,11 +13,11 @@ use Rattle.top_call.specs.declared.report.Tally.{Tally}
 abbrev pub no_tally : Tally
 no_tally = record { learned = []; offered = []; exported = []; need = 0; largest = 0; code = 0; line = 0 }
 
--- where the input was refused, with the number of the code and the line
+-- if the input was refused, with the number of the code and the line
 abbrev pub bad_tally : ℕ → ℕ → Tally
 bad_tally code line = record no_tally { code = code; line = line }
 
--- once so many rings are to start, none of which has counted anything
+-- once this many rings are to start, none of which has counted anything
 abbrev pub zero_tally : ℕ → Tally
 zero_tally rings = record no_tally { learned = replicate rings 0; offered = replicate rings 0; exported = replicate rings 0 }
 
@@ -25,7 +25,7 @@ zero_tally rings = record no_tally { learned = replicate rings 0; offered = repl
 abbrev pub no_lack : NoRoom
 no_lack = record { need = 0; largest = 0 }
 
--- what the rings counted, in their order, with what was needed and what there was where there was no room
+-- what the rings counted, in their order, with what was needed and what there was if there was no room
 abbrev pub rings_tally : List Counts → NoRoom → Tally
 rings_tally counts lack = record {
   learned = map (λ c. c.learned) counts;
@@ -49,7 +49,7 @@ counted counts tally = record tally {
   exported = over (map (λ c. c.exported) counts) tally.exported;
 }
 
--- there is a number for each of so many rings
+-- there is a number for each of this many rings
 pub record HasRings (rings : ℕ) (tally : Tally) : Type 0 where
   pub learned : length tally.learned ≡ rings
   pub offered : length tally.offered ≡ rings

@@ -104,7 +104,7 @@ pub record Command : Type 0 where
   pub check : Bool
   -- the number of the formula that is made in place of an input, if one is
   pub make : Option ℕ
-  -- where the input comes from, if not from standard input
+  -- if the input comes from, if not from standard input
   pub file : Option (List ℕ)
 
 -- what the program's own command asks for
@@ -157,7 +157,7 @@ abbrev pub unless_refused : Kinds → Command → Option Command
 unless_refused [] command = unless_both command
 unless_refused (kind ∷ kinds) command = None
 
--- what the words ask for; none where `clap` refuses them for another cause than want of memory, or where `--make` stands
+-- what the words ask for; none if `clap` refuses them for another cause than want of memory, or if `--make` stands
 -- with FILE
 unfoldable pub command_of : List (List ℕ) → Option Command
 command_of words = unless_refused (fault_of solver_app words) (command_in (matches_of solver_app words))

@@ -1,4 +1,4 @@
-// Printing the answer, as the SAT Competition asks: the line `s ..`, and a model in lines that begin with `v`. What is told
+// Printing the answer, as the SAT Competition asks: the line `s ..`, and a model in lines that begin with `v`. What is known
 // beside it stands before, in lines that begin with `c`.
 ghost use Rattle.std.specs.Prelude.{◌≡◌, ◌+◌, ◌≤◌, ◌^◌, ◌++◌, ◌∷◌, [], List, ℕ, length, codes, OnOk, IfErr};
 ghost use Rattle.sat_words.specs.Literal.{lit_text};
@@ -27,7 +27,7 @@ const BREAK: usize = 3;
 /// The most bytes of the end: `0`, which may begin a line, and a newline.
 const END: usize = BREAK + 2;
 
-/// The most bytes of a number's line behind its name: twenty digits and a newline.
+/// The most bytes of a number's line after its name: twenty digits and a newline.
 const COUNT: usize = 21;
 
 /// The most bytes that are told of a formula that was made.
@@ -36,7 +36,7 @@ const SUMMARY: usize = 29 + 3 * COUNT;
 /// The most bytes before the values: also of the check and of the answer's line.
 const HEAD: usize = SUMMARY + 17 + 16;
 
-/// Prints the answer over a formula with so many variables, and doesn't flush. It takes no memory.
+/// Prints the answer over a formula with this many variables, and doesn't flush. It takes no memory.
 ///
 /// The text goes to the sink in pieces of at most 4096 bytes. At `WriteStop` the sink failed and has exactly the first
 /// `taken` bytes of the text, which are not all of it.
@@ -76,7 +76,7 @@ fn push_count(piece: &mut Piece, name: &[u8], count: u64)
     piece.push_bytes(b"\n");
 }
 
-/// Adds how many clauses the model makes true, where there is one.
+/// Adds how many clauses the model makes true, if there is one.
 fn push_satisfied(piece: &mut Piece, satisfied: Option<u64>)
     requires room { length piece.old + (12 + COUNT) ≤ CAPACITY }
     ensures text { piece.new ≡ piece.old ++ satisfied_line satisfied }
@@ -149,7 +149,7 @@ fn put_last<O: Sink>(out: &mut O, text: Piece) -> Result<(), WriteStop>
     Ok(())
 }
 
-/// Writes the lines before the values, the model's values and the `0` behind them.
+/// Writes the lines before the values, the model's values and the `0` after them.
 fn put_values<O: Sink>(
     out: &mut O,
     head: Piece,
@@ -180,7 +180,7 @@ fn put_values<O: Sink>(
     Ok(())
 }
 
-/// Adds the variable's true literal behind the `used` bytes of the line, and answers how many bytes its line has then.
+/// Adds the variable's true literal after the `used` bytes of the line, and answers how many bytes its line has then.
 fn push_value(piece: &mut Piece, used: usize, model: &Assignment, var: u32) -> usize
     requires low { 1 ≤ var }
     requires high { var ≤ 2 ^ 30 }
@@ -200,7 +200,7 @@ fn push_value(piece: &mut Piece, used: usize, model: &Assignment, var: u32) -> u
     push_number(piece, used, digits.format(value).as_bytes())
 }
 
-/// Adds the number behind the `used` bytes of the line, or on a new line where it would have too many. Answers how many
+/// Adds the number after the `used` bytes of the line, or on a new line if it would have too many. Answers how many
 /// bytes the number's line has then.
 fn push_number(piece: &mut Piece, used: usize, number: &[u8]) -> usize
     requires line { used ≤ WIDTH }

@@ -93,7 +93,7 @@ fn check_log(alloc: Global, formula: &Formula, lines: &[Line]) -> Result<bool, A
     }
 }
 
-/// Checks the log where its lines were kept, and answers whether they were.
+/// Checks the log if its lines were kept, and answers whether they were.
 fn check_kept(
     alloc: Global,
     formula: &Formula,
@@ -112,7 +112,7 @@ fn check_kept(
     }
 }
 
-/// Checks the log where its lines were kept, and prints the verdict. Only the check takes memory.
+/// Checks the log if its lines were kept, and prints the verdict. Only the check takes memory.
 fn finish<O: Sink>(
     alloc: Global,
     formula: &Formula,

@@ -25,7 +25,7 @@ fn put_no_room<E: Sink>(err: &mut E, lack: NoRoom) -> Result<(), WriteStop> {
     write_all_of(err, b"\n")
 }
 
-/// Writes why there is no answer: nothing where there is one.
+/// Writes why there is no answer: nothing if there is one.
 pub fn put_message<E: Sink>(err: &mut E, end: &End) -> Result<(), WriteStop> {
     match end {
         End::Satisfiable(_) | End::Unsatisfiable | End::Unknown => Ok(()),

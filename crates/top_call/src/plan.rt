@@ -8,9 +8,9 @@ pub const ROUNDS: u32 = 3;
 /// How a formula is decided.
 #[derive(Clone, Copy)]
 pub struct Plan {
-    /// How the ruler and the rings search. The lines of the log are kept where they are to be checked.
+    /// How the ruler and the rings search. The lines of the log are kept if they are to be checked.
     pub search: portfolio_run::Plan,
-    /// The number of the formula, where it is made and not read.
+    /// The number of the formula, if it is made and not read.
     pub make: Option<u64>,
 }
 

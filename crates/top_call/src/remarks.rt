@@ -1,4 +1,4 @@
-// What is told before the answer.
+// What is known before the answer.
 ghost use Rattle.std.specs.Prelude.{◌≡◌, ℕ, Bool, option_copied};
 ghost use Rattle.top_call.specs.Answer.{satisfied, summary_of, remarks_of};
 
@@ -10,11 +10,11 @@ use sat_words::{Assignment, Formula};
 pub struct Summary {
     pub vars: u32,
     pub clauses: u64,
-    /// How many of the clauses the model makes true, where there is one.
+    /// How many of the clauses the model makes true, if there is one.
     pub satisfied: Option<u64>,
 }
 
-/// What is told before the answer.
+/// What is known before the answer.
 #[derive(Clone, Copy)]
 pub struct Remarks {
     /// Where the formula was made. The values of a model are not printed then.

@@ -47,7 +47,7 @@ pub enum End {
 }
 
 impl End {
-    /// The end of a call that is not made since its arguments cannot be told as text: as where words are refused, or memory ran out.
+    /// The end of a call that is not made since its arguments cannot be known as text: as if words are refused, or memory ran out.
     pub fn of_arguments(kind: io::ErrorKind) -> End
         ensures memory { (result ≡ End.Memory) ↔ (kind ≡ ErrorKind.OutOfMemory) }
         ensures ends { IsWordsEnd result }
@@ -137,12 +137,12 @@ pub struct Tally {
     pub offered: Numbers,
     /// How many of its lemmas each ring offered.
     pub exported: Numbers,
-    /// How much was needed where there was no room: how many words for a clause, or of a line more than may stand the number of
+    /// How much was needed if there was no room: how many words for a clause, or of a line more than may stand the number of
     /// lines with it. Else 0.
     pub need: u64,
-    /// How much there is in one piece where there was no room: of words, or of lines how many may stand. Else 0.
+    /// How much there is in one piece if there was no room: of words, or of lines how many may stand. Else 0.
     pub largest: u64,
-    /// The number of the code of the input's first bad place, from 1, where the input was refused, else 0.
+    /// The number of the code of the input's first bad place, from 1, if the input was refused, else 0.
     pub code: u8,
     /// The line of that place, from 1, else 0.
     pub line: u64,
@@ -217,7 +217,7 @@ pub struct Report<R, W> {
     pub status: u8,
     /// A model of the clauses that were read, at status 10 alone.
     pub model: Option<Assignment>,
-    /// The input that was opened, where a file was given.
+    /// The input that was opened, if a file was given.
     pub file: Option<R>,
     /// The writer of the proof that was created; without `--proof`, one that leads nowhere.
     pub proof: Option<W>,

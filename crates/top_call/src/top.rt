@@ -30,7 +30,7 @@ struct Ended<R, W> {
     tally: Tally,
 }
 
-/// Opens the input where a path is given for it.
+/// Opens the input if a path is given for it.
 fn open<F: Files>(files: &mut F, path: Option<&str>) -> Result<Option<F::Reader>, Failed>
     ensures opened { IfOk result (λ file. IsOpened F.Reader.left F.Reader.faults (F.contents files.old) (option_copied path.entry) file) }
     ensures there { OnOk result (IfSome (option_copied path.entry) (IsThere (F.contents files.old))) }
@@ -47,7 +47,7 @@ fn open<F: Files>(files: &mut F, path: Option<&str>) -> Result<Option<F::Reader>
     }
 }
 
-/// Creates the proof where a path is given for it, else a writer that leads nowhere.
+/// Creates the proof if a path is given for it, else a writer that leads nowhere.
 fn create<F: Files>(files: &mut F, path: Option<&str>) -> Result<F::Writer, Failed>
     ensures written { IfOk result (λ writer. IsEmptyWhereTold (F.Writer.written writer)) }
     ensures fresh { IfOk result (λ writer. F.Writer.faults writer ≡ 0) }
@@ -62,7 +62,7 @@ fn create<F: Files>(files: &mut F, path: Option<&str>) -> Result<F::Writer, Fail
     }
 }
 
-/// Decides what the file has, or where there is none what standard input has.
+/// Decides what the file has, or if there is none what standard input has.
 fn decide_read<
     H: Threads + Wait + Sync,
     R: Source,
@@ -142,7 +142,7 @@ fn decide_read<
     }
 }
 
-/// Decides the formula that is made, or what the file has, or where there is none what standard input has.
+/// Decides the formula that is made, or what the file has, or if there is none what standard input has.
 fn decide<H: Threads + Wait + Sync, R: Source, I: Source, W: Sink + Send, O: Sink, G: Gate + Sync>(
     rt: &H,
     alloc: Global,
@@ -323,8 +323,8 @@ fn report_of<R, W>(ended: Ended<R, W>) -> Report<R, W>
 /// search on threads of their own, and pass the gate now and then; a call that waits for the log's turn keeps its promise if it
 /// returns.
 ///
-/// `words` are the arguments without the program's name. The input is FILE where it is given, and standard input is then
-/// left alone, as where the formula is made. A fault of `err` changes nothing. The first refusal that is met decides, and nothing after it is begun,
+/// `words` are the arguments without the program's name. The input is FILE if it is given, and standard input is then
+/// left alone, as if the formula is made. A fault of `err` changes nothing. The first refusal that is met decides, and nothing after it is begun,
 /// except that a proof that was created is always flushed as far as it goes.
 pub fn gimsatul<H: Threads + Wait + Sync, F: Files, I: Source, O: Sink, E: Sink, G: Gate + Sync>(
     rt: &H,
@@ -360,7 +360,7 @@ pub fn gimsatul<H: Threads + Wait + Sync, F: Files, I: Source, O: Sink, E: Sink,
     ensures contents { F.contents files.new ≡ F.contents files.old }
     ensures unopened { leaves_files_at result.status (is_some result.proof) ≡ true → files.new ≡ files.old }
 {
-    // A text that spells a formula has no bad place, so where the call must answer it does not refuse the input.
+    // A text that spells a formula has no bad place, so if the call must answer it does not refuse the input.
     read_or_bad();
     let ended = run(rt, alloc, words, files, input, out, gate);
     let _ = put_message(err, &ended.end);

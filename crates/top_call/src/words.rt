@@ -49,7 +49,7 @@ pub struct Command<'a> {
     pub check: bool,
     /// The number of the formula that is made in place of an input, if one is.
     pub make: Option<u64>,
-    /// Where the input comes from, if not from standard input.
+    /// If the input comes from, if not from standard input.
     pub file: Option<&'a str>,
 }
 
@@ -167,7 +167,7 @@ fn threads_in(matches: &ArgMatches<'_>) -> u32
 {
     match matches.get_one::<u64>("threads") {
         Some(number) => number as u32,
-        // `HasThreads`: where the word is left out its default stands
+        // `HasThreads`: if the word is left out its default stands
         None => unreachable!(),
     }
 }
@@ -180,7 +180,7 @@ fn words_in(matches: &ArgMatches<'_>) -> u64
 {
     match matches.get_one::<u64>("words") {
         Some(number) => number,
-        // `HasWords`: where the word is left out its default stands
+        // `HasWords`: if the word is left out its default stands
         None => unreachable!(),
     }
 }
@@ -193,7 +193,7 @@ fn conflicts_in(matches: &ArgMatches<'_>) -> u64
 {
     match matches.get_one::<u64>("conflicts") {
         Some(number) => number,
-        // `HasLimit`: where the word is left out its default stands
+        // `HasLimit`: if the word is left out its default stands
         None => unreachable!(),
     }
 }
@@ -205,7 +205,7 @@ fn seed_in(matches: &ArgMatches<'_>) -> u64
 {
     match matches.get_one::<u64>("seed") {
         Some(number) => number,
-        // `HasSeed`: where the word is left out its default stands
+        // `HasSeed`: if the word is left out its default stands
         None => unreachable!(),
     }
 }
@@ -287,7 +287,7 @@ fn unless_both(command: Command<'_>) -> Result<Command<'_>, End>
     Ok(command)
 }
 
-/// Reads the words, without the program's name. They are refused exactly where `clap` refuses them, and where `--make`
+/// Reads the words, without the program's name. They are refused exactly if `clap` refuses them, and where `--make`
 /// stands with FILE.
 pub fn parse<'a>(alloc: Global, words: &'a [String]) -> Result<Command<'a>, End>
     ensures asks { IfOk result (λ command. command_of (map string_bytes words.entry.now) ≡ Some (asked_by command)) }

@@ -9,7 +9,7 @@ use sat_words::Lit;
 use share_rule::{CountsUnits, Ledger, ListsUnit, Pass, SeesUnit, Shared, StoresUnit, Unit};
 use std::marker::Brand;
 
-/// The next listed unit that the pass's ring has not seen, of which it has seen so many. None exactly where the word that
+/// The next listed unit that the pass's ring has not seen, of which it has seen this many. None exactly if the word that
 /// counts the listed units is this number; then it has seen the units that were listed from the start, which come first.
 pub fn next_unit<B: Ledger>(table: &Shared<B>, pass: &mut Pass<B>, seen: u64) -> Option<Lit>
     requires pass { IsPassOf table.now pass.old }

@@ -35,7 +35,7 @@ pub enum Vivified {
 /// Leaves those literals of an attached clause out that aren't needed. At level 0, with nothing left to propagate, and so it
 /// is afterwards. A literal that is left alone may be true already; else the caller makes it true.
 ///
-/// Where a call of the port is refused, what those before it did stays, and nothing is known of the watches and the trail.
+/// If a call of the port is refused, what those before it did stays, and nothing is known of the watches and the trail.
 pub fn vivify<P: Port>(
     alloc: Global,
     port: &mut P,
@@ -98,7 +98,7 @@ pub fn vivify<P: Port>(
     }
 }
 
-/// The glue of a shorter clause: the old one, or one less than its size where that is smaller.
+/// The glue of a shorter clause: the old one, or one less than its size if that is smaller.
 fn shorter_glue(glue: u32, size: usize) -> u32
     requires { 1 ≤ size }
     ensures { result ≡ min glue (size - 1) }

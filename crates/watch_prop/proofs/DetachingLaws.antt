@@ -1,4 +1,4 @@
--- What is left where a clause is detached.
+-- What is left if a clause is detached.
 use Rattle.std.proofs.Common.{◌≡◌, ◌≢◌, ◌∙◌, ◌⊎◌, ◌↔◌, ℕ, ◌<◌, List, [], ◌∷◌, length, Some, sym, ap, subst, inl, inr, Contains}
 use Rattle.sat_words.specs.Literal.{Literal}
 use Rattle.sat_words.specs.declared.shared.Cref.{Cref}

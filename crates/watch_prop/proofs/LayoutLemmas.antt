@@ -28,7 +28,7 @@ row-is xs s ys le n same =
     let m = length-row xs s le in
     same_lists (row_of xs s) ys (omega (arith, m, n)) (λ k d lt. row-at xs s k d (omega (arith, m)) ∙ same k d (omega (arith, m)))
 
--- a row stays where its watchers do
+-- a row stays if its watchers do
 pub row-same : (xs ys : List Watcher) (s : Stretch) → s.start + s.len ≤ length xs → s.start + s.len ≤ length ys → ((k : ℕ) (d : Watcher) → s.start ≤ k → k < s.start + s.len → get_or ys k d ≡ get_or xs k d) → row_of ys s ≡ row_of xs s
 row-same xs ys s le le' same =
     row-is ys s (row_of xs s) le' (length-row xs s le) (λ k d lt. same (s.start + k) d (omega arith) (omega arith) ∙ sym (row-at xs s k d lt))
@@ -242,7 +242,7 @@ module _ (xs : List Watcher) (ss : List Stretch) (w : ListData) (is : data_of xs
       ap (λ (y : Watcher). y.slot) (e ∙ sym (row-at xs s place x lt) ∙ ap (λ (r : List Watcher). get_or r place x) here)
       ∙ sym (get_or-map (λ (y : Watcher). y.slot) row place x 0 (let n = row-len (code_of l) s laid at in omega (arith, n)))
 
--- Empty stretches one behind the other
+-- Empty stretches one after the other
 
 -- one more
 pub laid-out-more : (ss : List Stretch) (i end room : ℕ) → i < length ss → AreLaidOut ss i end → AreLaidOut (set ss i record { start = end; len = 0; room = room }) (i + 1) (end + room)

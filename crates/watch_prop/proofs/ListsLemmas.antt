@@ -160,7 +160,7 @@ Reblocked-set lists l p x lt inside e =
       ];
     }
 
--- what is listed stays listed, but for the entry that went
+-- what is listed stays listed, except for the entry that went
 pub Listed-removed : (old new : List (List Watcher)) (l : Literal) (p : ℕ) (m : Literal) (i : ℕ) → Removed old new l p → Contains (list_at old m) i → (m ≡ l → i ≢ get_or (list_at old l) p 0) → Contains (list_at new m) i
 Listed-removed old new l p m i r h ne =
     elim (cases_lit m l) as (λ _. Contains (list_at new m) i) [

@@ -234,7 +234,7 @@ rank-at t l r p trail (inr f) lt q =
     let e : f.place ≡ p = trail.distinct f.place p f.in_range lt (ap (λ (k : Literal). k.var) (f.false_there ∙ sym q)) in
     sym f.level ∙ ap (level_at t.steps) e
 
--- the best two watch their clause well, once the first is true where the second is false
+-- the best two watch their clause well, once the first is true if the second is false
 pub best-guarded : (t u : TrailData) (c : List Literal) (b : Best) → IsTrail t → IsBest t c (length c) b → HasGrown t u → t.level < b.high → (b.low ≤ t.level → TrueWithin u.steps u.level b.first)
     → ((k : ℕ) → k < t.level → IsClosedClause c t.steps k) → IsGuarded u.steps t.done c b.first × IsGuarded u.steps t.done c b.second
 best-guarded t u c b trail h g high made closed = (

@@ -110,7 +110,7 @@ without-there c cs a e = ap (λ (b : Bool). cond (not b) (c ∷ without cs a) (w
 pub without-other : (c : Cref) (cs : List Cref) (a : ℕ) → c.address ≢ a → without (c ∷ cs) a ≡ c ∷ without cs a
 without-other c cs a ne = ap (λ (b : Bool). cond (not b) (c ∷ without cs a) (without cs a)) (other_number c.address a ne)
 
--- the other clauses stay where one's slot is freed
+-- the other clauses stay if one's slot is freed
 pub without-freed : (ws : List (Option Watch)) (i : ℕ) (s : Watch) (a : ℕ) → At ws i (Some s) → s.clause.address ≡ a → without (clauses (set ws i None)) a ≡ without (clauses ws) a
 without-freed [] i s a at e = refl
 without-freed (None ∷ ws) zero s a at e = refl
@@ -120,7 +120,7 @@ without-freed (Some x ∷ ws) (suc i) s a at e =
     let r = without-freed ws i s a (let q = at.0 in omega arith, at.1) e in
     ap (λ (cs : List Cref). cond (not (x.clause.address == a)) (x.clause ∷ cs) cs) r
 
--- where no watch is of the address, there is nothing to leave out
+-- if no watch is of the address, there is nothing to leave out
 pub without-none : (ws : List (Option Watch)) (a : ℕ) → ((i : ℕ) (s : Watch) → At ws i (Some s) → s.clause.address ≢ a) → without (clauses ws) a ≡ clauses ws
 without-none [] a none = refl
 without-none (None ∷ ws) a none = without-none ws a (λ i s at. none (suc i) s (let q = at.0 in omega arith, at.1))
@@ -128,7 +128,7 @@ without-none (Some x ∷ ws) a none =
     without-other x.clause (clauses ws) a (none 0 x (omega arith, refl))
     ∙ ap (λ (cs : List Cref). x.clause ∷ cs) (without-none ws a (λ i s at. none (suc i) s (let q = at.0 in omega arith, at.1)))
 
--- where no watch is of one of the clauses, there is nothing to leave out
+-- if no watch is of one of the clauses, there is nothing to leave out
 pub without_all-none : (ws : List (Option Watch)) (gone : List Cref) → ((i : ℕ) (s : Watch) → At ws i (Some s) → is_among gone s.clause.address ≡ false) → without_all (clauses ws) gone ≡ clauses ws
 without_all-none [] gone none = refl
 without_all-none (None ∷ ws) gone none = without_all-none ws gone (λ i s at. none (suc i) s (let q = at.0 in omega arith, at.1))
@@ -179,7 +179,7 @@ few-kept (None ∷ ws) = let r = few-kept ws in omega (arith, r)
 pub kept-within : (ws xs : List (Option Watch)) (n : ℕ) → xs ≡ filter is_some ws → length ws ≤ n → length xs ≤ n
 kept-within ws xs n e le = omega (arith, le, few-kept ws, ap (λ (ys : List (Option Watch)). length ys) e)
 
--- so many slots are free
+-- this many slots are free
 abbrev pub HasFree : List (Option Watch) → ℕ → Type 0
 HasFree ws n = length (clauses ws) + n ≡ length ws
 

@@ -1,4 +1,4 @@
--- What each part of propagation keeps, also where memory runs out on the way.
+-- What each part of propagation keeps, also if memory runs out on the way.
 use Rattle.std.specs.Prelude.{◌≡◌}
 use Rattle.ring_port.specs.PortState.{PortState, lits_at}
 use Rattle.ring_trail.specs.TrailData.{TrailData, HasGrown}

@@ -25,7 +25,7 @@ pub record AreLaid (xs : List Watcher) (ss : List Stretch) : Type 0 where
 abbrev pub HasRoom : ListData → ℕ → Type 0
 HasRoom x code = length (slice_index_or x.rows code []) < slice_index_or x.rooms code 0
 
--- the first n stretches are empty, stand one behind the other and end here, which is the sum of their rooms
+-- the first n stretches are empty, stand one after the other and end here, which is the sum of their rooms
 pub record AreLaidOut (ss : List Stretch) (n end : ℕ) : Type 0 where
   pub empty : (i : ℕ) (s : Stretch) → i < n → At ss i s → s.len ≡ 0
   pub before : (i : ℕ) (s : Stretch) → i < n → At ss i s → s.start + s.room ≤ end

@@ -12,7 +12,7 @@ use Rattle.watch_prop.specs.declared.propagated.Propagated.{Propagated}
 use Rattle.watch_prop.specs.declared.propagated.Propagated.TheVariants.{Quiet, Conflict}
 use Rattle.watch_prop.specs.WatchData.{WatchData, Lits, attached, clauses_of}
 
--- the clause at an address, where one is attached and held there
+-- the clause at an address, if one is attached and held there
 abbrev pub attached_at : List Cref → PortState → ℕ → Option (List Literal)
 attached_at cs s a = if list_any (λ (c : Cref). c.address == a) cs then clause_at s a else None
 

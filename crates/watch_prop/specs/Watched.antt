@@ -21,7 +21,7 @@ pub record IsAttachable (vars : ℕ) (c : List Literal) : Type 0 where
   pub shape : IsLong c
   pub on : All (IsOn vars) c
 
--- two literals of the clause, which has no others where it is noted as binary
+-- two literals of the clause, which has no others if it is noted as binary
 pub record IsPairOf (c : List Literal) (k l : Literal) (binary : Bool) : Type 0 where
   pub first : has c k ≡ true
   pub second : has c l ≡ true
@@ -32,7 +32,7 @@ pub record IsPairOf (c : List Literal) (k l : Literal) (binary : Bool) : Type 0 
 abbrev pub IsPair : List Literal → Watch → Type 0
 IsPair c s = IsPairOf c s.first s.second s.binary
 
--- where one of the first n steps made the literal false, a literal of the clause is true at a level of at most that step's
+-- if one of the first n steps made the literal false, a literal of the clause is true at a level of at most that step's
 abbrev pub IsGuarded : List TrailStep → ℕ → List Literal → Literal → Type 0
 IsGuarded steps n c l = (p : ℕ) → p < n → lit_at steps p ≡ opposite l → HasTrue steps (level_at steps p) c
 

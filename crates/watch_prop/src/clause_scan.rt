@@ -1,5 +1,5 @@
 //! The search for a replacement watch: a literal of the clause, beside the two that watch it, that isn't false. It may
-//! pass over none, since where there is none the clause is unit or false. A clause of two literals has none, and isn't looked
+//! pass over none, since if there is none the clause is unit or false. A clause of two literals has none, and isn't looked
 //! at.
 ghost use Rattle.std.specs.Prelude.{◌≡◌, ◌≢◌, ◌≤◌, ◌⊎◌, All, IsSome, IfSome, IfNone, true, false};
 ghost use Rattle.ring_port.specs.PortState.{held_at, lits_at};

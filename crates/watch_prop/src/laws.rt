@@ -27,12 +27,12 @@ pub fn going_back_keeps_watches()
     ensures { (w : WatchData) (lits : Lits) (t : TrailData) (k : ℕ) → IsTrail t → k ≤ t.level → Watched w lits t → Watched w lits (cut_back t k) }
 {}
 
-/// What else is held may change: the watches stay where each attached clause has its literals.
+/// What else is held may change: the watches stay if each attached clause has its literals.
 pub fn attached_clauses_keep_watches()
     ensures { (w : WatchData) (lits more : Lits) (t : TrailData) → ((c : Cref) → Contains (attached w) c → more c.address ≡ lits c.address) → Watched w lits t → Watched w more t }
 {}
 
-/// What is attached, held and seen may change: the reasons stay where each attached clause stays attached and held with its
+/// What is attached, held and seen may change: the reasons stay if each attached clause stays attached and held with its
 /// literals, and each unit seen stays so.
 pub fn attached_clauses_keep_reasons()
     ensures { (cs ds : List Cref) (s r : PortState) (steps : List TrailStep) → ((c : Cref) → Contains cs c → Contains ds c × (clause_at r c.address ≡ clause_at s c.address))
@@ -54,7 +54,7 @@ pub fn detaching_leaves_the_others()
     ensures { (cs : List Cref) (a : ℕ) (c : Cref) → Contains (without cs a) c ↔ (Contains cs c × (c.address ≢ a)) }
 {}
 
-/// Detaching a clause keeps the reasons where it is none of them, or one at level 0 whose unit is seen.
+/// Detaching a clause keeps the reasons if it is none of them, or one at level 0 whose unit is seen.
 pub fn detaching_keeps_reasons()
     ensures { (cs : List Cref) (s : PortState) (steps : List TrailStep) (a : ℕ) → ((p : ℕ) (c : Cref) → p < length steps → reason_at steps p ≡ Some c → c.address ≡ a → IsSeen s.seen steps p)
         → HasReasons cs s steps → HasReasons (without cs a) s steps }

@@ -1,6 +1,6 @@
 //! The lists of watchers, one for each literal at its code, in one vector, as Kissat keeps its watches (Biere and others 2020).
-//! A list has a stretch of the vector with room for more; one without room moves to the end of the vector, where it gets twice
-//! the room. No change of one list may touch another, and no watcher may be left behind.
+//! A list has a stretch of the vector with room for more; one without room moves to the end of the vector, if it gets twice
+//! the room. No change of one list may touch another, and no watcher may be left after.
 ghost use Rattle.std.specs.Prelude.{◌≡◌, ◌<◌, ◌≤◌, ◌^◌, ◌++◌, ◌∷◌, ◌↔◌, [], IfOk, OnOk, OnErr, IsTrue, Contains, length, sum, slice_index, slice_index_or, slice_set};
 ghost use Rattle.sat_words.specs.Literal.{Literal, code_of};
 ghost use Rattle.watch_prop.specs.WatchData.{watchers_at, list_at};
@@ -81,7 +81,7 @@ impl Lists {
         self.watchers[self.stretches[lit.code() as usize].start + place]
     }
 
-    /// Puts a watcher at the end of the list of a literal. Where memory runs out, nothing changes.
+    /// Puts a watcher at the end of the list of a literal. If memory runs out, nothing changes.
     pub(crate) fn push(&mut self, lit: Lit, watcher: Watcher) -> Result<(), AllocError>
         requires { code_of lit < length self.old.rows }
         ensures ok { OnOk result (Added self.old.rows self.new.rows lit watcher) }
@@ -121,7 +121,7 @@ impl Lists {
         self.watchers[at] = Watcher { slot, blocker };
     }
 
-    /// Empties all lists and closes the vector up: the lists stand one behind the other, each with room for as many watchers
+    /// Empties all lists and closes the vector up: the lists stand one after the other, each with room for as many watchers
     /// as it had.
     pub(crate) fn close_up(&mut self)
         ensures len { length self.new.rows ≡ length self.old.rows }
@@ -166,7 +166,7 @@ impl Lists {
         self.move_to_end(code)
     }
 
-    /// Moves a list to the end of the vector, where it has twice the room.
+    /// Moves a list to the end of the vector, if it has twice the room.
     #[inline(never)]
     fn move_to_end(&mut self, code: usize) -> Result<(), AllocError>
         requires { code < length self.old.rows }

@@ -15,7 +15,7 @@ ghost use Rattle.watch_prop.specs.Propagation.{attached_at, HasReasons, IsConfli
 ghost use Rattle.watch_prop.specs.Rounds.{decisions_of, fixed_of, with_units, AllTrueOn, HeldAmong, IsDerived, IsUnfinished};
 
 /// Each literal of a derived trail is in the rounds, unless they falsify a clause. (One round may add a literal and its
-/// negation together.) They falsify one where a clause is false on the trail, and where a literal of the trail that wasn't
+/// negation together.) They falsify one if a clause is false on the trail, and where a literal of the trail that wasn't
 /// given is negated.
 pub fn derived_literals_are_in_the_rounds()
     ensures in_rounds { (G : List (List Literal)) (A : List Literal) (steps : List TrailStep) (l : Literal) → IsDerived G A steps → IsTrueOn steps l
@@ -26,7 +26,7 @@ pub fn derived_literals_are_in_the_rounds()
         → (has A l ≡ true) ⊎ (conflicts G (opposite l ∷ A) ≡ true) }
 {}
 
-/// Rounds from literals that are true on the trail add only such where the clauses are closed at its present level, and
+/// Rounds from literals that are true on the trail add only such if the clauses are closed at its present level, and
 /// falsify none. So a trail that is derived has exactly the literals of the rounds then.
 pub fn closed_trails_hold_the_rounds()
     ensures on_trail { (G : List (List Literal)) (A : List Literal) (t : TrailData) (l : Literal) → IsTrail t → IsClosed G t.steps t.level → AllTrueOn t.steps A
@@ -37,13 +37,13 @@ pub fn closed_trails_hold_the_rounds()
         → IsDerived G A t.steps → (Rounds G A l ≡ true) ↔ IsTrueOn t.steps l }
 {}
 
-/// Where rounds from literals that are true on the trail falsify a clause, one of the clauses is false or unit on the
+/// If rounds from literals that are true on the trail falsify a clause, one of the clauses is false or unit on the
 /// trail.
 pub fn conflicts_of_rounds_are_unfinished()
     ensures { (G : List (List Literal)) (A : List Literal) (t : TrailData) → IsTrail t → AllTrueOn t.steps A → conflicts G A ≡ true → IsUnfinished G t.steps }
 {}
 
-/// The clauses are closed at the present level exactly where none is false or unit. They stay so with units that are true.
+/// The clauses are closed at the present level exactly if none is false or unit. They stay so with units that are true.
 pub fn trails_are_closed_or_unfinished()
     ensures either { (G : List (List Literal)) (t : TrailData) → IsTrail t → IsClosed G t.steps t.level ⊎ IsUnfinished G t.steps }
     ensures apart { (G : List (List Literal)) (t : TrailData) → IsTrail t → IsClosed G t.steps t.level → IsUnfinished G t.steps → ⊥ }
@@ -51,7 +51,7 @@ pub fn trails_are_closed_or_unfinished()
         → IsClosed (with_units cs units) t.steps t.level }
 {}
 
-/// A trail whose literals have their reasons is derived: from its decisions, where the units seen or the literals at level
+/// A trail whose literals have their reasons is derived: from its decisions, if the units seen or the literals at level
 /// 0 are clauses. What is looked up among attached clauses is one of them, and more may be given.
 pub fn reasoned_trails_are_derived()
     ensures given { (held : Held) (seen : List Literal) (G : List (List Literal)) (A : List Literal) (steps : List TrailStep) → IsReasoned held seen steps → HeldAmong held G
@@ -68,7 +68,7 @@ pub fn reasoned_trails_are_derived()
 {}
 
 /// A trail whose literals have their reasons, against the rounds from its decisions over clauses and the units seen: its
-/// literals are in them, or they falsify a clause, as they do where one is false on the trail. Where the clauses are closed
+/// literals are in them, or they falsify a clause, as they do if one is false on the trail. Where the clauses are closed
 /// at the present level and the units are true, its literals are exactly theirs and they falsify none. Rounds that falsify
 /// one show a clause that is false or unit.
 pub fn reasoned_trails_agree_with_rounds()
@@ -101,7 +101,7 @@ pub fn fixed_literals_stay()
     ensures back { (t : TrailData) (k : ℕ) → fixed_of (cut_back t k).steps ≡ fixed_of t.steps }
 {}
 
-/// Where propagation over watches is quiet, the trail has exactly the literals of the rounds from its decisions over the
+/// If propagation over watches is quiet, the trail has exactly the literals of the rounds from its decisions over the
 /// attached clauses and the units seen, once all of these are true; and the rounds falsify no clause. Where it met a
 /// conflict they falsify one.
 pub fn propagation_from_units_agrees_with_rounds()

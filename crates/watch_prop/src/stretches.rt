@@ -1,4 +1,4 @@
-//! Stretches of a vector, one for each list. They may have no place in common; how long each was, or is to be, tells how much
+//! Stretches of a vector, one for each list. They may have no place in common; how long each was, or is to be, says how much
 //! room it gets when they are laid out anew.
 ghost use Rattle.std.specs.Prelude.{◌≡◌, ◌≤◌, length};
 ghost use Rattle.watch_prop.specs.Layout.{AreLaidOut};
@@ -14,7 +14,7 @@ pub(crate) struct Stretch {
     pub(crate) room: usize,
 }
 
-/// Lets empty stretches stand one behind the other in a vector of this size, each with as much room as it had watchers, and
+/// Lets empty stretches stand one after the other in a vector of this size, each with as much room as it had watchers, and
 /// tells where the last one ends.
 pub(crate) fn lay_out(stretches: &mut Vec<Stretch>, size: usize) -> usize
     ensures len { length stretches.new.items ≡ length stretches.old.items }

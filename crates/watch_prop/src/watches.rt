@@ -94,7 +94,7 @@ impl Watches {
     /// Attaches a clause that is held, whatever its literals are on the trail. One that is unit or false is looked at by the
     /// next `propagate`.
     ///
-    /// Of a clause of two literals the port isn't asked again. Where each of the 2^32 slots is taken, there is no memory.
+    /// Of a clause of two literals the port isn't asked again. If each of the 2^32 slots is taken, there is no memory.
     pub fn attach<P: Port>(
         &mut self,
         port: &mut P,
@@ -156,7 +156,7 @@ impl Watches {
         self.take_free_out();
     }
 
-    /// Takes the free slots out where they are many, and gives the lists room where they have none yet.
+    /// Takes the free slots out if they are many, and gives the lists room where they have none yet.
     fn tidy(&mut self)
         ensures attached { attached self.new ≡ attached self.old }
         ensures vars { self.new.vars ≡ self.old.vars }
@@ -167,7 +167,7 @@ impl Watches {
         self.make_ready();
     }
 
-    /// Gives the lists room for all clauses, where none was ever listed.
+    /// Gives the lists room for all clauses, if none was ever listed.
     fn make_ready(&mut self)
         ensures slots { self.new.slots ≡ self.old.slots }
         ensures vars { self.new.vars ≡ self.old.vars }
@@ -179,7 +179,7 @@ impl Watches {
         }
     }
 
-    /// Takes the free slots out where they outnumber the others and the lists. All clauses wait then.
+    /// Takes the free slots out if they outnumber the others and the lists. All clauses wait then.
     ///
     /// So the clauses and the lists that are gone through again are fewer than the clauses detached since the last time.
     fn thin_out(&mut self)
@@ -204,7 +204,7 @@ impl Watches {
         self.free_slots = 0;
     }
 
-    /// The watch at an index, where the literal is one of its two.
+    /// The watch at an index, if the literal is one of its two.
     fn entry(&self, index: u32, lit: Lit) -> Option<ListEntry>
         ensures found { IfSome result (IsEntry self.now index lit) }
         ensures stale { IfNone result (IsStale self.now index lit) }

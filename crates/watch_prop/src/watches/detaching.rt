@@ -47,7 +47,7 @@ impl Watches {
         }
     }
 
-    /// Frees the slot at an index where it is of one of these clauses.
+    /// Frees the slot at an index if it is of one of these clauses.
     fn free_among(&mut self, index: usize, gone: &[Cref])
         requires order { IsNonDecreasingBy (λ (c : Cref). c.address) gone.now }
         requires there { index < length self.old.slots }
@@ -104,7 +104,7 @@ impl Watches {
         }
     }
 
-    /// Frees the slot at an index where it is this clause's.
+    /// Frees the slot at an index if it is this clause's.
     fn free(&mut self, index: usize, c: Cref)
         ensures freed { Freed self.old self.new c.address }
         ensures lists { self.new.lists ≡ self.old.lists }

@@ -1,6 +1,6 @@
 //! Clauses that wait: each is listed at the two of its literals that are best to watch, those not false first and then
 //! those false at the highest levels, and it is found out on the way whether it is unit or false. A watch that a
-//! propagated step made false may be listed only where a literal of the clause is true at a level of at most that step's.
+//! propagated step made false may be listed only if a literal of the clause is true at a level of at most that step's.
 ghost use Rattle.std.specs.Prelude.{◌≡◌, ◌≤◌, ◌<◌, IfOk, OnOk, OnErr, length, List, Some};
 ghost use Rattle.sat_words.specs.Literal.{Literal};
 ghost use Rattle.sat_words.specs.declared.shared.Cref.{Cref};
@@ -46,7 +46,7 @@ impl Watches {
         Ok(Propagated::Quiet)
     }
 
-    /// Looks at the first slot that waits, and lists its clause where it isn't free.
+    /// Looks at the first slot that waits, and lists its clause if it isn't free.
     fn settle_one<P: Port>(&mut self, port: &mut P, trail: &mut Trail) -> Result<Visit, AllocError>
         requires watched { Watched self.old (lits_at (P.state port.old)) trail.old }
         requires there { self.old.settled < length self.old.slots }

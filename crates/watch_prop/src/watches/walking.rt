@@ -1,6 +1,6 @@
-//! Unit propagation by two watched literals (MiniSat, Eén and Sörensson 2003): where a literal becomes false, the list of
+//! Unit propagation by two watched literals (MiniSat, Eén and Sörensson 2003): if a literal becomes false, the list of
 //! its watches is walked; each entry finds its clause satisfied, a replacement watch, a literal that is forced, or a
-//! conflict. An entry may leave the list only where it is stale, or where another literal of the clause, which isn't false,
+//! conflict. An entry may leave the list only if it is stale, or if another literal of the clause, which isn't false,
 //! watches from then on.
 ghost use Rattle.std.specs.Prelude.{◌≡◌, ◌≢◌, ◌≤◌, ◌<◌, ◌+◌, IfOk, OnOk, OnErr, length, slice_index};
 ghost use Rattle.ring_port.specs.PortState.{lits_at};
@@ -105,7 +105,7 @@ impl Watches {
         Ok(Visit::Done)
     }
 
-    /// What a watcher in the list of a false literal asks for. The clause is read only where neither the blocker nor the
+    /// What a watcher in the list of a false literal asks for. The clause is read only if neither the blocker nor the
     /// other literal is true, and where it has more than two literals.
     fn judge<P: Port>(&self, port: &mut P, trail: &Trail, lit: Lit, place: usize) -> ClauseState
         requires watched { Watched self.now (lits_at (P.state port.old)) trail.now }

@@ -5,7 +5,7 @@ use Rattle.std.proofs.lemmas.Bool.{cases_eq, ne_eqb}
 use Rattle.std.proofs.lemmas.List.{get_or-set_same, get_or-set_other, get_or-replicate, length-replicate, drop_all, drop_more, ext_get_or}
 use Rattle.analyze.proofs.marks.make_blank.Goals as goal
 
--- a place that isn't listed behind the first i + 1 is the next one, or isn't listed behind the first i
+-- a place that isn't listed after the first i + 1 is the next one, or isn't listed after the first i
 not_ahead : (xs : List ℕ) (i p : ℕ) → i < length xs → (p ≡ get_or xs i 0 → ⊥) → is_member nat_eq (drop (i + 1) xs) p ≡ false → is_member nat_eq (drop i xs) p ≡ false
 not_ahead xs i p lt ne off = ap (λ (ys : List ℕ). is_member nat_eq ys p) (drop_more xs i 0 lt) ∙ ap (λ (b : Bool). b || is_member nat_eq (drop (i + 1) xs) p) (ne_eqb p (get_or xs i 0) ne) ∙ off
 

@@ -37,7 +37,7 @@ refuted g c =
     (subst (λ (x : PortState). u.held ≡ x.held) same c.refute.ensures.held) (subst (λ (x : PortState). u.looks ≡ x.looks) same c.refute.ensures.looks)
     c.requires.below c.requires.paced c.requires.offering
 
--- what is left where there is no room for the variables met
+-- what is left if there is no room for the variables met
 crowded : (g : Finish) (c : After-bump_met g) → BehindLemma (g.P.Port.state c.args.port.now) (g.P.Port.state c.analyze.new.port) c.args.ring.now (record c.args.ring.now { decider = c.bump_met.new.decider; bumps = c.bump_met.new.bumps }) c.args.conflict c.analyze.new.self.lits c.args.limit (course.Finish Memory)
 crowded g c =
     let old = c.args.ring.now in

@@ -43,7 +43,7 @@ no_reason : (o : Option Cref) → is_some o ≡ false → o ≡ None
 no_reason None e = refl
 no_reason (Some c) e = absurd (true≢false e)
 
--- what has a reason behind those that are told is not seen
+-- what has a reason after those that are known is not seen
 not_seen : (s : PortState) (t : TrailData) (n : ℕ) (l : Literal) → AreTold s t n → n < length t.steps → IsSome (reason_at t.steps n) → l ≡ lit_at t.steps n → has s.seen l ≡ false
 not_seen s t n l told lt some is = ap (has s.seen) is ∙ told.rest n (omega arith) lt some
 

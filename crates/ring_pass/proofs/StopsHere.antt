@@ -17,14 +17,11 @@ use Rattle.share_rule.specs.declared.view.View.{View}
 use Rattle.share_rule.specs.Views.{only}
 use Rattle.share_rule.specs.Exchanges.{MayFind, stop_of, stop_in, set_part, after_look, after_set, after_win, after_loss}
 use Rattle.stop_word.specs.Stops.{core_stop, IsSet, stop_after}
-use Rattle.stop_word.specs.declared.answer.Set.{Set as Answer}
-use Rattle.stop_word.specs.declared.answer.Set.TheVariants.{Won as AnswerWon, Lost as AnswerLost}
 use Rattle.ring_port.specs.PortState.{PortState}
 use Rattle.ring_port.specs.Port.{Stands, Looked, SetStop}
-use Rattle.ring_port.specs.declared.stops.Set.{Set}
-use Rattle.ring_port.specs.declared.stops.Set.TheVariants.{Won, Lost}
+use Rattle.sat_words.specs.declared.shared.Set.{Set}
+use Rattle.sat_words.specs.declared.shared.Set.TheVariants.{Won, Lost}
 use Rattle.ring_pass.specs.RingState.{Own, port_with, port_of, home_of, stop_as, IsRingPass}
-use Rattle.ring_pass.specs.Stops.{port_set}
 use Rattle.ring_pass.proofs.Stays.{only_is, one_changed, name_stays}
 use Rattle.ring_pass.proofs.SeenHere.{more_counted}
 use Rattle.share_core.proofs.Counting.{none_some}
@@ -100,11 +97,11 @@ pub ring_looked : {B : Type 0} {t : Shared B} {p : Seat (Option B) View} {n : �
 ring_looked q s found None r pass view is may sees = ring_misses q s found r pass view is may sees
 ring_looked q s found (Some x) r pass view is may sees = ring_looks q s found x r pass view is may sees
 
-ring_sets : {B : Type 0} {t : Shared B} {p : Seat (Option B) View} {n : ℕ} {st : List Cref} {o : Own} (q : Seat (Option B) View) (s : PortState) (kind found : ℕ) (a : Answer) → IsRingPass t p n st o → IsPassOf t q → port_of p.me.0 o ≡ s
-    → q.me.0 ≡ after_set (kind + 8 * n) found p.me.0 → MayFind p.me.0 (stop_of found) → IsSet found a → q.me.0.stop ≡ Some (core_stop (stop_after (record { kind = kind; ring = n }) a)) → SetStop s (port_of q.me.0 (record o { home = home_of q })) kind (port_set a)
-ring_sets {B} {t} {p} {n} {st} {o} q s kind found AnswerWon r pass view is may set sees =
+pub ring_sets : {B : Type 0} {t : Shared B} {p : Seat (Option B) View} {n : ℕ} {st : List Cref} {o : Own} (q : Seat (Option B) View) (s : PortState) (kind found : ℕ) (a : Set) → IsRingPass t p n st o → IsPassOf t q → port_of p.me.0 o ≡ s
+    → q.me.0 ≡ after_set (kind + 8 * n) found p.me.0 → MayFind p.me.0 (stop_of found) → IsSet found a → q.me.0.stop ≡ Some (core_stop (stop_after (record { kind = kind; ring = n }) a)) → SetStop s (port_of q.me.0 (record o { home = home_of q })) kind a
+ring_sets {B} {t} {p} {n} {st} {o} q s kind found Won r pass view is may set sees =
     subst (λ (y : PortState). SetStop y (port_of q.me.0 (record o { home = home_of q })) kind Won) view (set_won p.me.0 q.me.0 o kind n found (home_of q) r.one r.ring is set may sees (name_stays q r pass))
-ring_sets {B} {t} {p} {n} {st} {o} q s kind found (AnswerLost x) r pass view is may set sees =
+ring_sets {B} {t} {p} {n} {st} {o} q s kind found (Lost x) r pass view is may set sees =
     subst (λ (y : PortState). SetStop y (port_of q.me.0 (record o { home = home_of q })) kind (Lost x)) view (set_lost p.me.0 q.me.0 o kind (kind + 8 * n) found (home_of q) x r.one is set.0 may sees (name_stays q r pass))
 
 -- the part after a try to set the stop
@@ -112,8 +109,3 @@ pub set_parts : (v w : View) (code n : ℕ) → v.parts ≡ only v ∷ [] → w 
 set_parts v w code n one is = dite (ℕ_discrete n 0)
     (λ z. (set_part (stop_in code) (only v), one_changed (set_part (stop_in code)) v w one (ap (λ (u : View). u.parts) (is ∙ (λ i. after_set code (z i) v))), refl, refl, refl))
     (λ nz. (only v, ap (λ (u : View). u.parts) (is ∙ (λ i. if ne_eqb n 0 nz i then after_win code v else after_loss code n v)) ∙ one, refl, refl, refl))
-
-pub ring_answers : {B : Type 0} {t : Shared B} {p : Seat (Option B) View} {n : ℕ} {st : List Cref} {o : Own} (q : Seat (Option B) View) (s : PortState) (kind found : ℕ) (a : Answer) (b : Set) → b ≡ port_set a → IsRingPass t p n st o → IsPassOf t q → port_of p.me.0 o ≡ s
-    → q.me.0 ≡ after_set (kind + 8 * n) found p.me.0 → MayFind p.me.0 (stop_of found) → IsSet found a → q.me.0.stop ≡ Some (core_stop (stop_after (record { kind = kind; ring = n }) a)) → SetStop s (port_of q.me.0 (record o { home = home_of q })) kind b
-ring_answers {B} {t} {p} {n} {st} {o} q s kind found a b same r pass view is may set sees =
-    subst (λ (x : Set). SetStop s (port_of q.me.0 (record o { home = home_of q })) kind x) (sym same) (ring_sets q s kind found a r pass view is may set sees)

@@ -7,5 +7,4 @@ pub mod Offering
 pub mod Refusals
 pub mod RingState
 pub mod Sights
-pub mod Stops
 pub mod Writes

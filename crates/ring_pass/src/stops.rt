@@ -4,22 +4,11 @@ ghost use Rattle.sat_words.specs.declared.shared.TheConstants.{STOP_SAT, STOP_RE
 ghost use Rattle.ring_port.specs.PortState.{IsPort};
 ghost use Rattle.ring_port.specs.Log.{KeepsLog};
 ghost use Rattle.ring_port.specs.Port.{Looked, SetStop};
-ghost use Rattle.ring_pass.specs.Stops.{port_set};
 
 use crate::pass::RingPass;
 use io_edge::Sink;
-use ring_port::{Gate, Set};
-use sat_words::Stop;
-
-/// What a try to set the stop came to, as the port says it.
-fn port_answer(answer: stop_word::Set) -> Set
-    ensures { result ≡ port_set answer }
-{
-    match answer {
-        stop_word::Set::Won => Set::Won,
-        stop_word::Set::Lost(other) => Set::Lost(other),
-    }
-}
+use ring_port::Gate;
+use sat_words::{Set, Stop};
 
 impl<'a, S: Sink, G: Gate, H> RingPass<'a, S, G, H> {
     /// The stop that stands, if any. None comes of a look at the table's word that found none, and is counted.
@@ -44,6 +33,6 @@ impl<'a, S: Sink, G: Gate, H> RingPass<'a, S, G, H> {
             kind,
             ring: self.ring,
         };
-        port_answer(stop_word::set(self.table, &mut self.pass, stop))
+        stop_word::set(self.table, &mut self.pass, stop)
     }
 }

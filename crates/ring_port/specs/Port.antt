@@ -12,8 +12,8 @@ use Rattle.rup_model.specs.declared.journal.Entry.{Entry}
 use Rattle.rup_model.specs.declared.journal.Entry.TheVariants.{Add}
 use Rattle.ring_port.specs.declared.stops.PortStop.{PortStop}
 use Rattle.ring_port.specs.declared.stops.PortStop.TheVariants.{Ended, Broken, ProofFault, NoHole, Memory}
-use Rattle.ring_port.specs.declared.stops.Set.{Set}
-use Rattle.ring_port.specs.declared.stops.Set.TheVariants.{Won, Lost}
+use Rattle.sat_words.specs.declared.shared.Set.{Set}
+use Rattle.sat_words.specs.declared.shared.Set.TheVariants.{Won, Lost}
 use Rattle.drat_text.specs.LineState.{LineState}
 use Rattle.ring_port.specs.PortState.{Holding, PortState, IsOn, held_at, lits_at, one_more}
 

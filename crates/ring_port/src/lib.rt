@@ -24,5 +24,6 @@ pub use laws::{
 };
 pub use plain_port::PlainPort;
 pub use port::Port;
+pub use sat_words::Set;
 pub use starts::Starts;
-pub use stops::{PortStop, Set};
+pub use stops::PortStop;

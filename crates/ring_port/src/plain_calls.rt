@@ -14,10 +14,10 @@ use crate::opening_units::first_new_from;
 use crate::plain_lines::unless_at;
 use crate::plain_port::PlainPort;
 use crate::port::Port;
-use crate::stops::{PortStop, Set};
+use crate::stops::PortStop;
 use drat_text::LineOut;
 use rup_model::Kind;
-use sat_words::{Cref, Head, Lit, Lits, Stop};
+use sat_words::{Cref, Head, Lit, Lits, Set, Stop};
 
 impl<L: LineOut> Port for PlainPort<L> {
     ghost state = { λ p. p.state };

@@ -9,8 +9,8 @@ ghost use Rattle.ring_port.specs.Deleting.{IsNotTaken, Dropped, Tidied};
 ghost use Rattle.ring_port.specs.Reducing.{MayReduce, Noted};
 ghost use Rattle.ring_port.specs.Exchange.{class_at, other_rings, OfferedAs, Polled};
 
-use crate::stops::{PortStop, Set};
-use sat_words::{Cref, Head, Lit, Stop};
+use crate::stops::PortStop;
+use sat_words::{Cref, Head, Lit, Set, Stop};
 
 /// The whole outside of a ring: the clauses that it holds, the log that it writes, the units and the stop that it shares
 /// with other rings.

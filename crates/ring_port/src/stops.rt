@@ -1,4 +1,4 @@
-use sat_words::{NoRoom, Stop};
+use sat_words::NoRoom;
 
 /// Why a call of a port that writes into the log was refused.
 ///
@@ -15,13 +15,4 @@ pub enum PortStop {
     NoHole(NoRoom),
     /// Memory ran out.
     Memory,
-}
-
-/// Whether a ring's own stop stands from now on.
-#[derive(Clone, Copy, PartialEq, Eq, Debug)]
-pub enum Set {
-    /// It does; none stood before.
-    Won,
-    /// This one stands already.
-    Lost(Stop),
 }

@@ -21,8 +21,8 @@ use Rattle.ring_port.specs.PortState.{PortState, Holding, Offer, held_at}
 use Rattle.ring_port.specs.Port.{Learned, LearnedClause, UnitWritten, EmptyWritten, Refused, Looked, SetStop, entry_of}
 use Rattle.ring_port.specs.Exchange.{Offered, class_of, class_at, other_rings}
 use Rattle.ring_port.specs.declared.stops.PortStop.{PortStop}
-use Rattle.ring_port.specs.declared.stops.Set.{Set}
-use Rattle.ring_port.specs.declared.stops.Set.TheVariants.{Won, Lost}
+use Rattle.sat_words.specs.declared.shared.Set.{Set}
+use Rattle.sat_words.specs.declared.shared.Set.TheVariants.{Won, Lost}
 use Rattle.ring_run.specs.Ended.{HasOffered, is_short, is_long}
 use Rattle.ring_run.specs.Searching.{OffersNothing, HasLent, HasLentBy}
 use Rattle.ring_run.proofs.Progress.{Unchanged, same_refused}

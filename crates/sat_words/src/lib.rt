@@ -17,7 +17,7 @@ pub use line::{Line, Lits};
 pub use literal::Lit;
 pub use shared::{
     Cref, Head, MAX_ENTRIES, NoRoom, STOP_MEMORY, STOP_PROOF, STOP_REFUTED, STOP_ROOM, STOP_SAT,
-    Stop,
+    Set, Stop,
 };
 pub use values::Values;
 

@@ -45,6 +45,15 @@ pub struct Stop {
     pub ring: u32,
 }
 
+/// Whether a ring's own stop stands from now on.
+#[derive(Clone, Copy, PartialEq, Eq, Debug, Drop)]
+pub enum Set {
+    /// It does; none stood before.
+    Won,
+    /// This one stands already.
+    Lost(Stop),
+}
+
 /// There was too little room: for a clause in a table, counted in words, or for one more entry of a log, counted in entries.
 #[derive(Clone, Copy, PartialEq, Eq, Debug)]
 pub struct NoRoom {

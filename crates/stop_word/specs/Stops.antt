@@ -3,8 +3,8 @@ use Rattle.std.specs.Prelude.{◌≡◌, ◌≢◌, ℕ}
 use Rattle.sat_words.specs.declared.shared.Stop.{Stop}
 use Rattle.share_core.specs.declared.event.Stop.{Stop as CoreStop}
 use Rattle.share_rule.specs.Exchanges.{stop_in}
-use Rattle.stop_word.specs.declared.answer.Set.{Set}
-use Rattle.stop_word.specs.declared.answer.Set.TheVariants.{Won, Lost}
+use Rattle.sat_words.specs.declared.shared.Set.{Set}
+use Rattle.sat_words.specs.declared.shared.Set.TheVariants.{Won, Lost}
 
 -- the stop as the core has it
 abbrev pub core_stop : Stop → CoreStop

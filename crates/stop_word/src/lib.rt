@@ -4,8 +4,7 @@
 //! The word changes once at most, so that of all rings that try one alone wins.
 #![tactic(auto)]
 
-mod answer;
 mod stops;
 
-pub use answer::Set;
+pub use sat_words::Set;
 pub use stops::{look, set};

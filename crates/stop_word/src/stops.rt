@@ -6,8 +6,7 @@ ghost use Rattle.share_rule.specs.Views.{only};
 ghost use Rattle.share_rule.specs.Exchanges.{IsRing, MayFind, stop_of, after_look, after_set};
 ghost use Rattle.stop_word.specs.Stops.{core_stop, Spells, IsSet, stop_after};
 
-use crate::answer::Set;
-use sat_words::Stop;
+use sat_words::{Set, Stop};
 use share_rule::{Ledger, LooksAtStop, Pass, SetsStop, Shared};
 
 /// Where the stop stands in the table.

@@ -48,9 +48,11 @@ behind_draw g = rest_of (rest_of (rest_of (rest_of g)))
 abbrev pub first_var : Draw → ℕ
 first_var d = d.first % made_vars
 
+-- the second variable of a draw, from 0
 abbrev pub second_var : Draw → ℕ
 second_var d = (first_var d + 1 + d.second % 9999) % made_vars
 
+-- the third variable of a draw, from 0
 abbrev pub third_var : Draw → ℕ
 third_var d = (first_var d + 10000 + d.third % 10000) % made_vars
 
@@ -58,12 +60,15 @@ third_var d = (first_var d + 10000 + d.third % 10000) % made_vars
 abbrev pub drawn_lit : (var bits : ℕ) → Literal
 drawn_lit var bits = record { var = var + 1; neg = bits % 2 == 1 }
 
+-- the literal on the first variable, by the lowest bit of the fourth word
 abbrev pub first_lit : Draw → Literal
 first_lit d = drawn_lit (first_var d) d.signs
 
+-- the literal on the second variable, by the next bit
 abbrev pub second_lit : Draw → Literal
 second_lit d = drawn_lit (second_var d) (d.signs / 2)
 
+-- the literal on the third variable, by the bit after that
 abbrev pub third_lit : Draw → Literal
 third_lit d = drawn_lit (third_var d) (d.signs / 4)
 

@@ -22,6 +22,7 @@ later test (x ∷ xs) = if test x then front test xs ∷ later test xs else late
 abbrev pub split : {X : Type 0} → (X → Bool) → List X → List (List X)
 split test xs = front test xs ∷ later test xs
 
+-- the byte ends a line
 abbrev pub is_newline : ℕ → Bool
 is_newline b = b == 10
 
@@ -29,12 +30,15 @@ is_newline b = b == 10
 abbrev pub is_blank : ℕ → Bool
 is_blank b = b == 9 || b == 13 || b == 32
 
+-- the byte is a decimal digit
 abbrev pub is_digit : ℕ → Bool
 is_digit b = nat_le 48 b && nat_le b 57
 
+-- the lines of a text, without the newlines between them
 abbrev pub lines : List ℕ → List (List ℕ)
 lines text = split is_newline text
 
+-- the line is not empty
 abbrev pub has_bytes : List ℕ → Bool
 has_bytes [] = false
 has_bytes (b ∷ bytes) = true
@@ -76,10 +80,12 @@ pub data Item : Type 0 where
   -- the end of the input
   End : Item
 
+-- a place of the input: its line, from 1, and what stands there
 pub record Place : Type 0 where
   pub line : ℕ
   pub item : Item
 
+-- the tokens of lines, each at its line, from this line on
 abbrev pub token_places : ℕ → List (List ℕ) → List Place
 token_places line [] = []
 token_places line (token ∷ more) = (record { line = line; item = Token (integer token) }) ∷ token_places line more
@@ -124,6 +130,7 @@ pub record Fault : Type 0 where
 abbrev pub Outcome : Type 0
 Outcome = Result FormulaData Fault
 
+-- this code at this line, if there is one; else the outcome
 abbrev pub unless : Option Code → ℕ → Outcome → Outcome
 unless None line outcome = outcome
 unless (Some code) line outcome = Err (record { code = code; line = line })
@@ -140,6 +147,7 @@ pub record Sizes : Type 0 where
   pub vars : ℕ
   pub clauses : ℕ
 
+-- the two sizes of a header, if both are numbers
 abbrev pub both : Option ℕ → Option ℕ → Option Sizes
 both (Some vars) (Some clauses) = Some (record { vars = vars; clauses = clauses })
 both _ _ = None

@@ -3,6 +3,7 @@ use Rattle.std.specs.Prelude.{◌==◌, ℕ, Bool, List, if◌then◌else◌}
 use Rattle.std.specs.List.{list_any}
 use Rattle.io_edge.specs.Causes.{one_more}
 
+-- the calls made of an object in memory, and which of them are to fail
 pub record Calls : Type 0 where
   pub failing : List ℕ
   pub made : ℕ

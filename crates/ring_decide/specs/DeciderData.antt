@@ -5,6 +5,7 @@ use Rattle.sat_words.specs.Literal.{Literal}
 use Rattle.ring_trail.specs.declared.step.TrailStep.{TrailStep}
 use Rattle.ring_trail.specs.TrailData.{value_of}
 
+-- which variables are decided, and the phase of each variable, variable 1 first
 pub record DeciderData : Type 0 where
   pub active : List Bool
   pub phase : List Bool

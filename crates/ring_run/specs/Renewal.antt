@@ -46,6 +46,7 @@ pub record Point : Type 0 where
   pub watches : WatchData
   pub trail : TrailData
 
+-- a port and a ring at one moment
 abbrev pub point : PortState → Ring → Point
 point s ring = record { port = s; watches = ring.watches; trail = ring.trail }
 

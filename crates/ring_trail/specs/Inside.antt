@@ -31,6 +31,7 @@ pub record Parts (steps : List TrailStep) (k start : ℕ) : Type 0 where
   pub below : (p : ℕ) → p < start → level_at steps p ≤ k
   pub above : (p : ℕ) → start ≤ p → p < length steps → k < level_at steps p
 
+-- the tables of a trail agree with its steps, which every call keeps
 pub record IsInside (t : Inside) : Type 0 where
   pub kept : IsKept t.steps.items t.values
   pub placed : ArePlaces t.steps.items t.places.items

@@ -14,9 +14,11 @@ pub record TrailData : Type 0 where
   pub steps : List TrailStep
   pub done : ℕ
 
+-- the step at a place beyond the end
 abbrev pub no_step : TrailStep
 no_step = record { lit = record { var = 0; neg = false }; level = 0; reason = None }
 
+-- the step at a place
 abbrev pub step_at : List TrailStep → ℕ → TrailStep
 step_at steps p = slice_index_or steps p no_step
 

@@ -31,6 +31,7 @@ pub record Writes (c : State) (r : ℕ) : Type 0 where
 
 -- Guards
 
+-- the guard of each event
 abbrev pub IsEnabled : State → Event → Type 0
 -- the ring's grant is open
 IsEnabled c (Grant r) = IsRing c r × (c.granted r ≡ false)

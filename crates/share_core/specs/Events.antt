@@ -126,6 +126,7 @@ first_stop (Some t) s = Some t
 
 -- All events
 
+-- the effect of each event
 abbrev pub after : State → Event → State
 after c (Grant r) = record c { granted = put c.granted r true; part = put c.part r (granted_part c.opening (c.part r)) }
 after c (TakeTurn r) = record c { turn = Some r }

@@ -135,6 +135,7 @@ pub record StopSound (F : List (List Literal)) (J : List Entry) (rings : ℕ) (s
 
 -- All of it
 
+-- a sound state: counts, cells, log, units and freshness agree
 pub record Sound (c : State) : Type 0 where
   pub opens : IsCoreOpening c.opening
   pub counts : Counts c.opening c

@@ -55,6 +55,7 @@ pub record Added (old new : WorkState) (lits : List Literal) (number : ℕ) : Ty
   pub put : PutLine old.output new.output (AddLine lits) number
   pub state : new ≡ record old { clauses = old.clauses ++ (number, clause_of lits) ∷ []; ended = is_empty lits; output = new.output }
 
+-- what an addition did, by its answer
 abbrev pub WasAdded : WorkState → WorkState → List Literal → Result ℕ LineStop → Type 0
 WasAdded old new lits (Ok number) = Added old new lits number
 WasAdded old new lits (Err stop) = NotPut old new (AddLine lits) stop
@@ -68,11 +69,13 @@ pub record Deleted (old new : WorkState) (number : ℕ) : Type 0 where
   pub each : SameMultiset old.clauses ((number, clause) ∷ new.clauses)
   pub state : new ≡ record old { clauses = new.clauses; output = new.output }
 
+-- what stands after a deletion was refused: the clause is alive, and its line was not put
 pub record NotDeleted (old new : WorkState) (number : ℕ) (stop : LineStop) : Type 0 where
   pub clause : List Literal
   pub alive : Contains old.clauses (number, clause)
   pub left : NotPut old new (DelLine clause) stop
 
+-- what a deletion did, by its answer
 abbrev pub WasDeleted : WorkState → WorkState → ℕ → Result ⊤ LineStop → Type 0
 WasDeleted old new number (Ok done) = Deleted old new number
 WasDeleted old new number (Err stop) = NotDeleted old new number stop
@@ -89,6 +92,7 @@ IsListed true alive old new l = new ≡ old
 IsListed false true old new l = new ≡ record old { units = old.units ++ l ∷ [] }
 IsListed false false old new l = ListedLine old new l
 
+-- what listing a unit did, by its answer
 abbrev pub WasListed : WorkState → WorkState → Literal → Result ⊤ LineStop → Type 0
 WasListed old new l (Ok done) = IsListed (has old.units l) (is_alive_unit old l) old new l
 WasListed old new l (Err stop) = NotPut old new (AddLine (l ∷ [])) stop
@@ -98,5 +102,6 @@ abbrev pub entries_for : Bool → WorkState → Literal → List Entry
 entries_for true w l = []
 entries_for false w l = ruler_adds (w.output.last + 1) (l ∷ []) ∷ []
 
+-- the entries that listing a unit writes: none if its clause is alive
 abbrev pub unit_entries : WorkState → Literal → List Entry
 unit_entries w l = entries_for (has w.units l || is_alive_unit w l) w l

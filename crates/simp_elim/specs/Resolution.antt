@@ -9,6 +9,7 @@ use Rattle.model_stack.specs.declared.stack.Fix.{Fix}
 abbrev pub positive : ℕ → Literal
 positive v = record { var = v; neg = false }
 
+-- the negative literal of a variable
 abbrev pub negative : ℕ → Literal
 negative v = record { var = v; neg = true }
 

@@ -8,6 +8,7 @@ use Rattle.simp_base.specs.WorkState.{is_only}
 use Rattle.simp_base.specs.Multisets.{SameMultiset}
 use Rattle.simp_elim.specs.Resolution.{positive, negative, occurrences, mentions, resolvents_on, eliminated, fixes_of}
 
+-- the first number is at most the second
 abbrev pub at_most : ℕ → ℕ → Bool
 at_most m n = not (nat_lt n m)
 

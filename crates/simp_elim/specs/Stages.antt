@@ -50,6 +50,7 @@ pub record Grown (old new : WorkState) (made : List (List Literal)) : Type 0 whe
   pub came : (l : Literal) → has new.units l ≡ true → (has old.units l ≡ true) ⊎ (list_any (is_only l) made ≡ true)
   pub listed : (l : Literal) → list_any (is_only l) made ≡ true → has new.units l ≡ true
 
+-- what adding the resolvents did, by its answer
 abbrev pub WasGrown : WorkState → WorkState → List (List Literal) → Result ⊤ LineStop → Type 0
 WasGrown old new made (Ok done) = Grown old new made
 WasGrown old new made (Err stop) = Stops old new stop
@@ -80,6 +81,7 @@ pub record Removed (old new : WorkState) (numbers : List ℕ) : Type 0 where
   pub fewer : (n : ℕ) (c : List Literal) → Contains new.clauses (n, c) → Contains old.clauses (n, c)
   pub kept : (start : WorkState) (l : Literal) (rest : List ℕ) → Removing start old l (numbers ++ rest) → Removing start new l rest
 
+-- what deleting clauses did, by its answer
 abbrev pub WasRemoved : WorkState → WorkState → List ℕ → Result ⊤ LineStop → Type 0
 WasRemoved old new numbers (Ok done) = Removed old new numbers
 WasRemoved old new numbers (Err stop) = Stops old new stop
@@ -105,6 +107,7 @@ pub record Replaced (old new : WorkState) (l : Literal) (firsts : List ℕ) (mad
   pub fixes : lifted.fixes ≡ fixes_of l (map (clause_at old.clauses) firsts)
   pub units : ListsUnits old new
 
+-- what eliminating a variable did, by its answer
 abbrev pub WasReplaced : WorkState → WorkState → Literal → List ℕ → List (List Literal) → Result ⊤ LineStop → Type 0
 WasReplaced old new l firsts made (Ok done) = Replaced old new l firsts made
 WasReplaced old new l firsts made (Err stop) = Stops old new stop
@@ -117,12 +120,14 @@ pub record Stepped (old new : WorkState) (v : ℕ) : Type 0 where
   pub taken : IsTaken (goes old.units (lists old.clauses) v) v (lists old.clauses) lifted.fixes
   pub units : ListsUnits old new
 
+-- what trying a variable did, by its answer
 abbrev pub WasStepped : WorkState → WorkState → ℕ → Result ⊤ LineStop → Type 0
 WasStepped old new v (Ok done) = Stepped old new v
 WasStepped old new v (Err stop) = Stops old new stop
 
 -- All variables up to one
 
+-- the variables below n have been tried
 pub record Passed (start now : WorkState) (n : ℕ) : Type 0 where
   pub on : GoesOn start now
   pub clauses : SameMultiset (lists now.clauses) (eliminate start.units n (lists start.clauses))

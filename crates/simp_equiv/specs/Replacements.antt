@@ -45,6 +45,7 @@ replacement_entries p =
     record { lit = p.replaced; clause = clause_of (p.replaced ∷ opposite p.by ∷ []) }
     ∷ record { lit = opposite p.replaced; clause = clause_of (opposite p.replaced ∷ p.by ∷ []) } ∷ []
 
+-- the stack entries of these replacements, in order
 abbrev pub replaced_entries : List Replacement → List Fix
 replaced_entries ps = flat_map replacement_entries ps
 

@@ -39,6 +39,7 @@ pub record Grown (old new : WorkState) (lits : List Literal) : Type 0 where
   pub came : (n : ℕ) (c : List Literal) → Contains new.clauses (n, c) → Contains old.clauses (n, c) ⊎ ((l : Literal) → has c l ≡ has lits l)
   pub there : (d : List Literal) × Contains (known new) d × ((l : Literal) → has d l ≡ has lits l)
 
+-- what adding a rewritten clause did, by its answer
 abbrev pub WasGrown : WorkState → WorkState → List Literal → Result ⊤ LineStop → Type 0
 WasGrown old new lits (Ok done) = Grown old new lits
 WasGrown old new lits (Err stop) = HasCause old new stop × KeepsLog old new
@@ -68,6 +69,7 @@ abbrev pub WasAdded : WorkState → WorkState → (Literal → Literal) → ℕ 
 WasAdded old new stand_in n (Ok done) = (start : WorkState) (rest : List ℕ) → Adding start old stand_in (n ∷ rest) → Adding start new stand_in rest
 WasAdded old new stand_in n (Err stop) = HasCause old new stop × KeepsLog old new
 
+-- what adding all rewritten clauses did, by its answer
 abbrev pub WereAdded : WorkState → WorkState → (Literal → Literal) → List ℕ → Result ⊤ LineStop → Type 0
 WereAdded old new stand_in numbers (Ok done) = Adding old new stand_in []
 WereAdded old new stand_in numbers (Err stop) = HasCause old new stop × KeepsLog old new
@@ -86,10 +88,12 @@ pub record Removed (old new : WorkState) (stand_in : Literal → Literal) (n : �
   pub on : GoesOn old new
   pub kept : (start : WorkState) (rest : List ℕ) → Removing start old stand_in (n ∷ rest) → Removing start new stand_in rest
 
+-- what deleting a replaced clause did, by its answer
 abbrev pub WasRemoved : WorkState → WorkState → (Literal → Literal) → ℕ → Result ⊤ LineStop → Type 0
 WasRemoved old new stand_in n (Ok done) = Removed old new stand_in n
 WasRemoved old new stand_in n (Err stop) = HasCause old new stop × KeepsLog old new
 
+-- what deleting all replaced clauses did, by its answer
 abbrev pub WereRemoved : WorkState → WorkState → (Literal → Literal) → List ℕ → Result ⊤ LineStop → Type 0
 WereRemoved old new stand_in numbers (Ok done) = (start : WorkState) → Removing start old stand_in numbers → Removing start new stand_in []
 WereRemoved old new stand_in numbers (Err stop) = HasCause old new stop × KeepsLog old new

@@ -37,9 +37,11 @@ pub record Searching (G : List (List ℕ)) (m : ℕ → Mark) (at : ℕ → ℕ)
   pub downwards : (v c : ℕ) → m v ≡ Closed c → (y : ℕ) → Edge G v y → (d : ℕ) × (m y ≡ Closed d) × (d ≤ c)
   pub together : (v w c : ℕ) → m v ≡ Closed c → m w ≡ Closed c → Reaches (Edge G) v w
 
+-- the mark of a literal's code
 abbrev pub mark_in : List Mark → ℕ → Mark
 mark_in marks v = slice_index_or marks v New
 
+-- the entry of a stack at a place
 abbrev pub stack_in : List ℕ → ℕ → ℕ
 stack_in stack p = slice_index stack p
 
@@ -53,6 +55,7 @@ pub record ClosedTo (stack : List ℕ) (before after : List Mark) (closed place 
   pub from_place : (p : ℕ) → place ≤ p → p < length stack → mark_in after (stack_in stack p) ≡ Closed closed
   pub others : (v : ℕ) → ((p : ℕ) → place ≤ p → p < length stack → stack_in stack p ≢ v) → mark_in after v ≡ mark_in before v
 
+-- the literal was not visited
 abbrev pub is_new : Mark → Bool
 is_new New = true
 is_new (Open p) = false

@@ -100,6 +100,7 @@ pub record Grown (old new : WorkState) (lits : List Literal) : Type 0 where
       ⊎ ((l : Literal) × (has new.units l ≡ true) × (lits ≡ l ∷ []))
   pub log : KeepsLog old new
 
+-- what adding a shortened clause did, by its answer
 abbrev pub WasGrown : WorkState → WorkState → List Literal → Result ⊤ LineStop → Type 0
 WasGrown old new lits (Ok done) = Grown old new lits
 WasGrown old new lits (Err stop) = HasCause old new stop × KeepsLog old new
@@ -134,6 +135,7 @@ pub record IsLoaded (w : WorkState) (n : ℕ) (c : List Literal) : Type 0 where
   pub ordered : InOrder c
   pub part : takes_part c ≡ true
 
+-- what loading a clause into the buffer did
 abbrev pub WasLoaded : WorkState → ℕ → List Literal → Bool → Type 0
 WasLoaded w n c true = IsLoaded w n c
 WasLoaded w n c false = (d : List Literal) → Contains w.clauses (n, d) → takes_part d ≡ false
@@ -143,6 +145,7 @@ pub record Processed (old new : WorkState) (n : ℕ) : Type 0 where
   pub reduces : Reduces old new
   pub below : IsReducedBelow new n
 
+-- what comparing a clause with all others did, by its answer
 abbrev pub WasProcessed : WorkState → WorkState → ℕ → Result ⊤ LineStop → Type 0
 WasProcessed old new n (Ok done) = Processed old new (n + 1)
 WasProcessed old new n (Err stop) = HasCause old new stop × KeepsLog old new

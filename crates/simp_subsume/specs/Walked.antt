@@ -37,5 +37,6 @@ abbrev pub found_as : Option Literal → Relation
 found_as None = Within
 found_as (Some l) = Flipped l
 
+-- the relation, if all literals of the clause were found
 abbrev pub all_found : Comparison → Relation
 all_found w = found_as w.flipped

@@ -15,6 +15,7 @@ pub record Oppose (units : List Literal) : Type 0 where
   pub there : has units lit ≡ true
   pub negated : has units (opposite lit) ≡ true
 
+-- what making the values of the listed units did; false if two are opposite
 abbrev pub WasLoaded : List Literal → List (Option Bool) → List (Option Bool) → Bool → Type 0
 WasLoaded units old new true = AreTrue units old new
 WasLoaded units old new false = Oppose units

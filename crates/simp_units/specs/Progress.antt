@@ -102,6 +102,7 @@ pub record Stuck (old : WorkState) (a : List (Option Bool)) (new : WorkState) (b
   pub falsified : (start : WorkState) → Progress start old a → conflicts (known start) [] ≡ true
   pub log : KeepsLog old new
 
+-- what visiting clauses by their numbers did, by its answer
 abbrev pub WasVisited : WorkState → List (Option Bool) → WorkState → List (Option Bool) → List ℕ → Result Propagation LineStop → Type 0
 WasVisited old a new b numbers (Ok Quiet) = Passed old a new b numbers []
 WasVisited old a new b numbers (Ok Conflict) = Stuck old a new b
@@ -119,6 +120,7 @@ pub record Spread (old : WorkState) (a : List (Option Bool)) (new : WorkState) (
   pub ready : (start : WorkState) → Progress start old a → Ready start old a 0 [] → Ready start new b next []
   pub log : KeepsLog old new
 
+-- what one unit's visits did, by its answer
 abbrev pub WasSpread : WorkState → List (Option Bool) → WorkState → List (Option Bool) → Result Propagation LineStop → Type 0
 WasSpread old a new b (Ok Quiet) = Spread old a new b (length new.units)
 WasSpread old a new b (Ok Conflict) = Stuck old a new b
@@ -145,6 +147,7 @@ pub record Falsified (old new : WorkState) : Type 0 where
   pub empty : rup (known new) [] ≡ true
   pub log : KeepsLog old new
 
+-- what propagating all units did, by its answer
 abbrev pub WasPropagated : WorkState → WorkState → List (Option Bool) → Result Propagation LineStop → Type 0
 WasPropagated old new b (Ok Quiet) = Propagated old new b
 WasPropagated old new b (Ok Conflict) = Falsified old new

@@ -25,9 +25,11 @@ minus v = record { var = v; neg = true }
 abbrev pub first : List Literal
 first = plus 1 ∷ plus 2 ∷ plus 3 ∷ []
 
+-- the second clause of the samples
 abbrev pub second : List Literal
 second = plus 1 ∷ plus 2 ∷ minus 3 ∷ []
 
+-- the third clause of the samples
 abbrev pub third : List Literal
 third = minus 1 ∷ plus 2 ∷ []
 
@@ -35,6 +37,7 @@ third = minus 1 ∷ plus 2 ∷ []
 abbrev pub spare : List Literal
 spare = plus 2 ∷ plus 3 ∷ []
 
+-- the four clauses of the samples, each with its number
 abbrev pub four : List (ℕ × List Literal)
 four = (1, first) ∷ (2, second) ∷ (3, third) ∷ (4, spare) ∷ []
 

@@ -26,9 +26,11 @@ pub record Asked : Type 0 where
   pub polls : List Slot
   pub caught_up : ℕ
 
+-- the slot that a poll looks into
 abbrev pub slot_of : Poll → Slot
 slot_of p = record { ring = p.from; class = p.class }
 
+-- what is asked of the slots at this number of polls
 abbrev pub asked : ℕ → List Poll → ℕ → Asked
 asked polled ps caught_up = record { polled = polled; polls = map slot_of ps; caught_up = caught_up }
 

@@ -12,12 +12,15 @@ use Rattle.ring_port.specs.PortState.{Holding, Offer, PortState}
 abbrev pub lit : ℕ → Bool → Literal
 lit v n = record { var = v; neg = n }
 
+-- the first clause that the port holds
 abbrev pub first : Holding
 first = record { address = 1; number = 1; glue = 0; lits = lit 1 true ∷ lit 2 false ∷ [] }
 
+-- the second clause that the port holds
 abbrev pub second : Holding
 second = record { address = 2; number = 2; glue = 0; lits = lit 4 true ∷ lit 1 true ∷ lit 5 false ∷ [] }
 
+-- the third clause that the port holds
 abbrev pub third : Holding
 third = record { address = 3; number = 3; glue = 0; lits = lit 4 true ∷ lit 2 true ∷ lit 5 true ∷ [] }
 

@@ -16,12 +16,15 @@ use Rattle.test_ring.specs.Glues.{glue_at}
 abbrev pub lit : ℕ → Bool → Literal
 lit v n = record { var = v; neg = n }
 
+-- the clause that the lemmas are copies of
 abbrev pub source : List Literal
 source = lit 1 false ∷ lit 2 false ∷ lit 3 false ∷ []
 
+-- the start clauses, each with its number
 abbrev pub row_starts : List (ℕ × List Literal)
 row_starts = (1, source) ∷ []
 
+-- the clause as the port holds it
 abbrev pub source_held : Holding
 source_held = record { address = 0; number = 1; glue = 0; lits = source }
 

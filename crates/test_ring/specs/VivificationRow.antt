@@ -13,12 +13,15 @@ use Rattle.watch_prop.specs.WatchData.{WatchData, attached}
 abbrev pub lit : ℕ → Bool → Literal
 lit v n = record { var = v; neg = n }
 
+-- the first clause
 abbrev pub first : List Literal
 first = lit 1 false ∷ lit 3 true ∷ []
 
+-- the second clause, which is made shorter
 abbrev pub second : List Literal
 second = lit 1 false ∷ lit 2 false ∷ lit 3 false ∷ []
 
+-- the start clauses, each with its number
 abbrev pub row_starts : List (ℕ × List Literal)
 row_starts = (1, first) ∷ (2, second) ∷ []
 

@@ -21,9 +21,11 @@ pub record RanksLow (t : TrailData) (l : Literal) (n : ℕ) : Type 0 where
   pub is_rank : IsRank t l rank
   pub low : rank ≤ n
 
+-- the best two watches among two literals
 abbrev pub first_two : Literal → ℕ → Literal → ℕ → Best
 first_two k m l n = if nat_lt m n then record { first = l; second = k; high = n; low = m } else record { first = k; second = l; high = m; low = n }
 
+-- the best two watches after one more literal
 abbrev pub better_of : Best → Literal → ℕ → Best
 better_of b l r = if nat_lt b.high r then record { first = l; second = b.first; high = r; low = b.high } else (if nat_lt b.low r then record { first = b.first; second = l; high = b.high; low = r } else b)
 

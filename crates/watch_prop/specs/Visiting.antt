@@ -89,6 +89,7 @@ pub record CanBlock (w : WatchData) (t : TrailData) (l : Literal) (index : ℕ) 
   pub entry : IsEntry w index l e
   pub is_true : IsTrueOn t.steps e.other
 
+-- what the literals say of a clause
 abbrev pub IsVerdict : WatchData → Lits → TrailData → Literal → ℕ → ClauseState → Type 0
 IsVerdict w lits t l index Stale = IsStale w index l
 IsVerdict w lits t l index Settled = IsSatisfied w lits t index
@@ -97,10 +98,12 @@ IsVerdict w lits t l index (Moves e k) = CanMove w lits t l index e k
 IsVerdict w lits t l index (Forced k c) = IsForcing w lits t index k c
 IsVerdict w lits t l index (False c) = IsConflict w lits t c
 
+-- what a visit of an entry did
 abbrev pub IsVisited : WatchData → Lits → TrailData → Literal → ℕ → Visit → Type 0
 IsVisited w lits t l place Done = IsVisiting w lits t l place × (place ≤ length (list_at w.lists l))
 IsVisited w lits t l place (Falsified c) = IsConflict w lits t c
 
+-- what a walk down a list did
 abbrev pub IsWalked : WatchData → Lits → TrailData → Literal → Propagated → Type 0
 IsWalked w lits t l Quiet = IsVisiting w lits t l 0
 IsWalked w lits t l (Conflict c) = IsConflict w lits t c
@@ -130,10 +133,12 @@ pub record Listed (old new : WatchData) (s : Watch) (k l : Literal) : Type 0 whe
   pub added : Added old.lists between k record { slot = old.settled; blocker = l }
   pub added_too : Added between new.lists l record { slot = old.settled; blocker = k }
 
+-- what choosing the watches of one clause did
 abbrev pub IsSettledTo : WatchData → WatchData → Lits → TrailData → Visit → Type 0
 IsSettledTo old w lits t Done = w.settled ≡ old.settled + 1
 IsSettledTo old w lits t (Falsified c) = IsConflict w lits t c
 
+-- what choosing the watches of all waiting clauses did
 abbrev pub IsAllSettled : WatchData → Lits → TrailData → Propagated → Type 0
 IsAllSettled w lits t Quiet = w.settled ≡ length w.slots
 IsAllSettled w lits t (Conflict c) = IsConflict w lits t c

@@ -1,4 +1,5 @@
 // Lines that are counted and not spelled.
+// The program never runs this: it counts lines, for tests and measurements.
 ghost use Rattle.std.specs.Prelude.{◌≡◌, ◌≤◌, ◌^◌, false};
 ghost use Rattle.drat_text.specs.CountedData.{begun_counting};
 

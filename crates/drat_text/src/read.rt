@@ -1,4 +1,5 @@
 // Reading the text of a proof.
+// The program never runs this: it reads back, for tests, what was written.
 ghost use Rattle.std.specs.Prelude.{◌≡◌, ◌≤◌, ◌^◌, ◌++◌, ◌∷◌, List, ℕ, All, IsSome, IfSome, IfOk, IfErr, codes, Some, false};
 ghost use Rattle.std.specs.Fmt.{decimal};
 ghost use Rattle.sat_words.specs.Literal.{Literal, IsOn, lit_text};

@@ -1,4 +1,5 @@
 // A store of files in memory.
+// The program never runs this: it stands for real files and streams in tests, where contracts know every byte.
 ghost use Rattle.std.specs.Prelude.{◌≡◌, ◌||◌, [], None, Some, IfOk, OnOk, IfSome, is_err, is_none, if◌then◌else◌, remove, option_map, string_bytes, unwrap_or};
 ghost use Rattle.io_edge.specs.Calls.{fails_next, no_calls, after_call};
 ghost use Rattle.io_edge.specs.Causes.{HasCause};

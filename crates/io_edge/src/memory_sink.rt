@@ -1,4 +1,5 @@
 // A sink into memory that was taken before.
+// The program never runs this: it stands for real files and streams in tests, where contracts know every byte.
 ghost use Rattle.std.specs.Prelude.{◌≡◌, ◌<◌, ◌≤◌, ◌||◌, [], true, false, None, length, take, Some, IfOk, is_err, nat_lt, vec_capacity, string_bytes};
 ghost use Rattle.std.specs.Option.{option_map};
 ghost use Rattle.std.specs.Io.{WritesAtMost};

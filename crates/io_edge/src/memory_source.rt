@@ -1,4 +1,5 @@
 // A source over bytes in memory.
+// The program never runs this: it stands for real files and streams in tests, where contracts know every byte.
 ghost use Rattle.std.specs.Prelude.{◌≡◌, ◌<◌, min, length, Some, IfOk, is_err};
 ghost use Rattle.std.specs.Io.{ReadsAtMost};
 ghost use Rattle.io_edge.specs.Bytes.{WasRead};

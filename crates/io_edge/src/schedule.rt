@@ -1,4 +1,5 @@
 // The calls of one object in memory, and those of them that are to fail.
+// The program never runs this: it stands for real files and streams in tests, where contracts know every byte.
 ghost use Rattle.std.specs.Prelude.{◌≡◌, ◌≤◌, is_err};
 ghost use Rattle.io_edge.specs.Calls.{Calls, fails_next, no_calls, after_call};
 ghost use Rattle.io_edge.specs.Causes.{one_more};

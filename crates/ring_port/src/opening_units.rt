@@ -1,3 +1,4 @@
+// The port in memory, which the program never runs: tests search over it, with every byte known to contracts.
 ghost use Rattle.std.specs.Prelude.{◌≡◌, ◌≤◌, not, length, position, drop};
 ghost use Rattle.sat_words.specs.Clause.{has};
 

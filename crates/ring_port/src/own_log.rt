@@ -1,4 +1,5 @@
-// The log of a ring that writes alone: if its lines go, and its journal.
+// The log of a ring that writes alone: where its lines go, and its journal.
+// The port in memory, which the program never runs: tests search over it, with every byte known to contracts.
 ghost use Rattle.std.specs.Prelude.{◌≡◌, ◌<◌, ◌≤◌, [], false, true, None, Some, OnOk, IfErr};
 ghost use Rattle.rup_model.specs.Log.{lits_of};
 ghost use Rattle.ring_port.specs.OwnLog.{IsAddition, WasPut, WasAdded, WasDeleted, WasReduced, own_entry};

@@ -1,3 +1,4 @@
+// The port in memory, which the program never runs: tests search over it, with every byte known to contracts.
 ghost use Rattle.std.specs.Prelude.{◌≡◌, ◌<◌, ◌≤◌, ◌∷◌, ◌⊎◌, [], true, Some, None, IfErr, IfSome, IsSome, length, slice_get};
 ghost use Rattle.sat_words.specs.Clause.{has};
 ghost use Rattle.sat_words.specs.declared.shared.TheConstants.{STOP_SAT, STOP_MEMORY};

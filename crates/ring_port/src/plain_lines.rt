@@ -1,3 +1,4 @@
+// The port in memory, which the program never runs: tests search over it, with every byte known to contracts.
 ghost use Rattle.std.specs.Prelude.{◌≡◌, ◌≤◌, ◌∷◌, [], true, Some, length};
 ghost use Rattle.std.specs.Option.{option_map};
 ghost use Rattle.rup_model.specs.Rup.{rup};

@@ -1,4 +1,5 @@
 //! The words of a store that are free.
+//! The port in memory, which the program never runs: tests search over it, with every byte known to contracts.
 ghost use Rattle.std.specs.Prelude.{◌≡◌, ℕ, ◌<◌, ◌≤◌, ◌+◌, ◌^◌, ◌||◌, false, [], None, OnOk, OnErr, IfErr, IfSome};
 ghost use Rattle.clause_cell.specs.Free.{is_free, is_within};
 ghost use Rattle.ring_port.specs.Spare.{IsTaken};

@@ -1,4 +1,5 @@
 // What a port in memory starts with.
+// The port in memory, which the program never runs: tests search over it, with every byte known to contracts.
 ghost use Rattle.std.specs.Prelude.{◌≡◌, ◌++◌, ◌∷◌, [], IfOk, OnOk};
 
 use crate::store::Store;

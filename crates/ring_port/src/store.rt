@@ -1,4 +1,5 @@
 // The clauses of a port in memory, in one vector of words: each lies in one stretch, its head before its literals.
+// The port in memory, which the program never runs: tests search over it, with every byte known to contracts.
 ghost use Rattle.std.specs.Prelude.{◌≡◌, ◌≢◌, ◌<◌, ◌≤◌, ◌+◌, ◌^◌, ◌∷◌, ◌++◌, ◌==◌, [], true, None, Some, IfOk, OnOk, OnErr, IfErr, IfSome, IsSome, All, find, length, drop, map, slice_get, position};
 ghost use Rattle.ring_port.specs.PortState.{Holding, AreApart, head_of, lits_in};
 ghost use Rattle.ring_port.specs.Store.{without_ref};

@@ -1,4 +1,5 @@
 //! Clauses read and written in words.
+//! The port in memory, which the program never runs: tests search over it, with every byte known to contracts.
 ghost use Rattle.std.specs.Prelude.{◌≡◌, ◌⊎◌, ℕ, ◌<◌, ◌≤◌, ◌+◌, ◌/◌, ◌^◌, true, All, IfOk, length, vec_len, vec_capacity};
 ghost use Rattle.sat_words.specs.Literal.{IsOn};
 ghost use Rattle.clause_cell.specs.Packing.{words_for, lit_word};

@@ -1,4 +1,5 @@
 //! Cells by their addresses, in a list.
+//! The executable core, which the program never runs: it makes the definitions of specs/ run, for tests.
 ghost use Rattle.std.specs.Prelude.{◌≡◌, ◌==◌, IfOk, OnOk, position, None, ◌++◌, ◌∷◌, [], not};
 ghost use Rattle.std.specs.List.{filter};
 ghost use Rattle.std.specs.Option.{is_none};

@@ -1,4 +1,5 @@
 //! What each event does. The calls ask that it is enabled; after an error the progress is of no more use.
+//! The executable core, which the program never runs: it makes the definitions of specs/ run, for tests.
 ghost use Rattle.std.specs.Prelude.{◌≡◌, ◌<◌, ◌≤◌, ◌+◌, ◌*◌, ◌∷◌, [], ◌++◌, length, IfOk, OnOk, Some, slice_index_or};
 ghost use Rattle.sat_words.specs.declared.line.Line.TheVariants.{Add as AddLine, Del as DelLine};
 ghost use Rattle.rup_model.specs.declared.journal.Entry.TheVariants.{Add as AddEntry};

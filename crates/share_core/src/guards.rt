@@ -1,4 +1,5 @@
 //! Whether an event is enabled.
+//! The executable core, which the program never runs: it makes the definitions of specs/ run, for tests.
 ghost use Rattle.std.specs.Prelude.{◌≡◌, ◌<◌, ◌≤◌, ◌&&◌, ◌||◌, ◌==◌, ◌∷◌, [], nat_lt, nat_le, not, length, IfOk, OnOk};
 ghost use Rattle.std.specs.List.{list_any};
 ghost use Rattle.std.specs.Option.{is_none};

@@ -1,3 +1,4 @@
+// The executable core, which the program never runs: it makes the definitions of specs/ run, for tests.
 ghost use Rattle.std.specs.Prelude.{◌≡◌, ◌<◌, ◌++◌, ◌∷◌, [], length, IfOk, OnOk, map};
 ghost use Rattle.std.specs.List.{remove};
 

@@ -1,4 +1,5 @@
 //! What a journal says, by scans.
+//! The executable core, which the program never runs: it makes the definitions of specs/ run, for tests.
 ghost use Rattle.std.specs.Prelude.{◌≡◌, ◌≤◌, ◌<◌, ◌+◌, ◌&&◌, ◌==◌, ◌∷◌, [], length, List, IfOk};
 ghost use Rattle.std.specs.List.{list_any, list_all};
 ghost use Rattle.sat_words.specs.Literal.{Literal, same};

@@ -1,3 +1,4 @@
+// The executable core, which the program never runs: it makes the definitions of specs/ run, for tests.
 ghost use Rattle.std.specs.Prelude.{◌≡◌, ◌<◌, ◌&&◌, ◌==◌, ◌∷◌, [], ◌++◌, map, nat_lt, not, length, IfOk, fold};
 ghost use Rattle.std.specs.List.{list_any};
 ghost use Rattle.sat_words.specs.Literal.{Literal};

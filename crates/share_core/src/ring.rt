@@ -1,3 +1,4 @@
+// The executable core, which the program never runs: it makes the definitions of specs/ run, for tests.
 ghost use Rattle.std.specs.Prelude.{◌≡◌, ◌==◌, ◌++◌, ◌∷◌, [], OnOk, position, if◌then◌else◌};
 ghost use Rattle.rup_model.specs.Basics.{one_if};
 ghost use Rattle.share_core.specs.State.{times_at, without_at, with_cell};

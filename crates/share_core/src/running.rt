@@ -1,3 +1,4 @@
+// The executable core, which the program never runs: it makes the definitions of specs/ run, for tests.
 ghost use Rattle.std.specs.Prelude.{◌≡◌, ◌⊎◌, ◌<◌, ◌≤◌, ◌∷◌, [], ◌++◌, length, map, replicate, IfOk, OnErr, OnOk, List, ℕ};
 ghost use Rattle.std.specs.Option.{unwrap_or};
 ghost use Rattle.rup_model.specs.Journal.{formula_clause, lines};

@@ -1,26 +1,13 @@
 //! The slots between rings.
 ghost use Rattle.std.specs.Prelude.{◌≡◌, ◌≢◌, ℕ, ◌<◌, ◌≤◌, ◌+◌, ◌*◌, ◌^◌, Contains, IfSome, None};
 ghost use Rattle.share_core.specs.declared.stored.ClauseAt.{ClauseAt};
-ghost use Rattle.share_rule.specs.Layout.{slot_at};
 ghost use Rattle.share_rule.specs.Passes.{IsPassOf, IsSamePass};
 ghost use Rattle.share_rule.specs.Views.{only, IsHolding};
 ghost use Rattle.share_rule.specs.Exchanges.{IsRing, IsOther, KeepsGlues, after_put, after_get};
 ghost use Rattle.pool_exchange.specs.Found.{IsFound};
 
 use sat_words::Cref;
-use share_rule::{Gets, Layout, Ledger, Pass, Puts, Shared};
-
-/// The word of the slot of one ring for another.
-fn slot_index(layout: Layout, from: u32, to: u32, class: u8) -> usize
-    requires rings { (from < layout.rings) × (to < layout.rings) × (layout.rings ≤ 16) }
-    requires vars { layout.vars ≤ 2 ^ 30 }
-    requires class { class < 4 }
-    ensures { result ≡ slot_at layout (4 * (from * layout.rings + to) + class) }
-{
-    let rings = layout.rings as usize;
-    let slot = 4 * (from as usize * rings + to as usize) + class as usize;
-    3 + rings + 2 * layout.vars as usize + slot
-}
+use share_rule::{Gets, Ledger, Pass, Puts, Shared};
 
 /// The cell whose address a slot had.
 fn cell_at(found: u64) -> Option<Cref>
@@ -54,7 +41,7 @@ pub fn put<B: Ledger>(
     ensures part { (h : ClauseAt) × (g : ℕ) × (pass.new.me.0 ≡ after_put to class cell.address h g pass.old.me.0) × IsFound h.address result × KeepsGlues h g (only pass.old.me.0) × (h.address ≢ 0 → Contains (only pass.old.me.0).gave h) }
     ensures held { IfSome result (λ c. IsHolding c.address pass.new.me.0) }
 {
-    let slot = slot_index(table.layout, ring, to, class);
+    let slot = table.layout.slot(ring, to, class);
     let words = &table.table.shared;
     let found = words.swap::<Puts>(pass, slot, cell.address);
     cell_at(found)
@@ -77,7 +64,7 @@ pub fn get<B: Ledger>(
     ensures part { (h : ClauseAt) × (g : ℕ) × (pass.new.me.0 ≡ after_get from class h g pass.old.me.0) × IsFound h.address result × KeepsGlues h g (only pass.old.me.0) }
     ensures held { IfSome result (λ c. IsHolding c.address pass.new.me.0) }
 {
-    let slot = slot_index(table.layout, from, ring, class);
+    let slot = table.layout.slot(from, ring, class);
     let words = &table.table.shared;
     let found = words.swap::<Gets>(pass, slot, 0);
     cell_at(found)

@@ -31,10 +31,8 @@ pub fn take_grant<B: Ledger>(table: &Shared<B>, pass: &mut Pass<B>, ring: u32)
     ensures pass { IsPassOf table.now pass.new × IsSamePass pass.old pass.new }
     ensures part { pass.new.me.0 ≡ after_grant ring pass.old.me.0 }
 {
-    table
-        .table
-        .shared
-        .swap::<Grants>(pass, 3 + ring as usize, 0);
+    let grant = table.layout.grant(ring);
+    table.table.shared.swap::<Grants>(pass, grant, 0);
 }
 
 /// Takes one more count of a cell that the pass's ring holds. A ring may share 2^56 times.

@@ -14,15 +14,6 @@ use clause_cell::{HoleStop, Holes, head_word, lit_word, words_for};
 use sat_words::{Clause, Cref, Lit};
 use std::alloc::{AllocError, Global};
 
-/// The first word for cells.
-fn first_cell(layout: Layout) -> u64
-    requires { (layout.rings ≤ 16) × (layout.vars ≤ 2 ^ 30) }
-    ensures { result ≡ first_cell layout }
-{
-    let rings = layout.rings as u64;
-    3 + rings + 2 * layout.vars as u64 + 4 * (rings * rings)
-}
-
 /// Fills the words up to this place.
 fn fill(words: &mut Vec<u64>, end: usize, value: u64) -> Result<(), AllocError>
     requires { length words.old.items ≤ end }
@@ -46,7 +37,7 @@ fn low_words(alloc: Global, layout: Layout, units: &[Lit]) -> Result<Vec<u64>, A
     requires units { length units.now ≤ 2 * layout.vars }
     ensures { IfOk result (λ v. v.items ≡ low_words layout units.now) }
 {
-    let first = first_cell(layout);
+    let first = layout.first_cell();
     let mut words = Vec::with_capacity(alloc, (first + layout.words) as usize)?;
     words.push(0)?;
     words.push(0)?;
@@ -120,7 +111,7 @@ fn place_starts(
     ensures fits { OnOk result (total start.now ≤ layout.words) }
     ensures stopped { IfErr result (λ e. IsMakeStop layout start.now e) }
 {
-    let mut holes = Holes::new(alloc, first_cell(layout), layout.words)?;
+    let mut holes = Holes::new(alloc, layout.first_cell(), layout.words)?;
     let mut cells = Vec::new(alloc);
     for clause in start {
         match place_one(&mut holes, &mut cells, words, layout.rings, clause) {
@@ -152,7 +143,7 @@ pub(crate) fn lay_out(
         Err(_) => return Err(HoleStop::Memory),
     };
     let (holes, cells) = place_starts(alloc, layout, &mut words, start)?;
-    let end = (first_cell(layout) + layout.words) as usize;
+    let end = (layout.first_cell() + layout.words) as usize;
     match fill(&mut words, end, 0) {
         Ok(()) => Ok((words, holes, cells)),
         Err(_) => Err(HoleStop::Memory),

@@ -15,6 +15,7 @@ mod ledger;
 mod making;
 mod note;
 mod passes;
+mod places;
 mod plays;
 mod rule;
 mod turn_laws;

@@ -22,7 +22,8 @@ pub fn next_unit<B: Ledger>(table: &Shared<B>, pass: &mut Pass<B>, seen: u64) ->
     if listed == seen {
         return None;
     }
-    let code = words.load::<SeesUnit>(pass, 3 + table.layout.rings as usize + seen as usize);
+    let word = table.layout.unit(seen);
+    let code = words.load::<SeesUnit>(pass, word);
     Some(Lit::new((code / 2) as u32, code % 2 == 1))
 }
 
@@ -33,11 +34,8 @@ fn publish_as<U: Unit, B: Ledger>(table: &Shared<B>, pass: &mut Pass<B>, lit: Li
     ensures part { pass.new.me.0 ≡ after_list lit (after_unit (code_of lit) pass.old.me.0) }
 {
     let words = &table.table.shared;
-    words.store::<StoresUnit>(
-        pass,
-        3 + table.layout.rings as usize + seen as usize,
-        lit.code() as u64,
-    );
+    let word = table.layout.unit(seen);
+    words.store::<StoresUnit>(pass, word, lit.code() as u64);
     words.store::<ListsUnit<U>>(pass, 2, seen + 1);
 }
 

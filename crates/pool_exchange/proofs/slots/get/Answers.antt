@@ -14,8 +14,8 @@ use Rattle.pool_exchange.specs.Found.{IsFound}
 use Rattle.pool_exchange.proofs.Places.{ring_fits, slot_lies, get_holds, found_held}
 use Rattle.pool_exchange.proofs.slots.get.Goals as goal
 
-pub slot_index-slot-requires-clause-rings : goal.slot_index-slot-requires-clause-rings
-slot_index-slot-requires-clause-rings g c =
+pub slot-slot-requires-clause-rings : goal.slot-slot-requires-clause-rings
+slot-slot-requires-clause-rings g c =
     let v : View = c.args.pass.now.me.0 in
     let p = c.requires.pass in
     let t = ring_fits v p.3 c.requires.ring.0 in
@@ -35,8 +35,8 @@ swap-found-requires g c =
     let one = c.requires.ring.0 in
     let m = c.requires.ring.1 in
     let t = ring_fits v p.3 one in
-    let at = slot_lies v p.3 one l c.args.from (only v).core.ring c.args.class c.slot_index-slot.result p.2 c.requires.from.1 t.0 c.requires.class
-    (c.slot_index-slot.ensures ∙ (λ i. slot_at l (4 * (c.args.from * l.rings + m i) + c.args.class))) in
+    let at = slot_lies v p.3 one l c.args.from (only v).core.ring c.args.class c.slot-slot.result p.2 c.requires.from.1 t.0 c.requires.class
+    (c.slot-slot.ensures ∙ (λ i. slot_at l (4 * (c.args.from * l.rings + m i) + c.args.class))) in
     let sized = table.sized in (
       p.0,
       omega arith,
@@ -53,8 +53,8 @@ returns-clause-pass g c =
     let one = c.requires.ring.0 in
     let m = c.requires.ring.1 in
     let t = ring_fits v p.3 one in
-    let at = slot_lies v p.3 one l c.args.from (only v).core.ring c.args.class c.slot_index-slot.result p.2 c.requires.from.1 t.0 c.requires.class
-    (c.slot_index-slot.ensures ∙ (λ i. slot_at l (4 * (c.args.from * l.rings + m i) + c.args.class))) in
+    let at = slot_lies v p.3 one l c.args.from (only v).core.ring c.args.class c.slot-slot.result p.2 c.requires.from.1 t.0 c.requires.class
+    (c.slot-slot.ensures ∙ (λ i. slot_at l (4 * (c.args.from * l.rings + m i) + c.args.class))) in
     let told = e.2 c.args.from c.args.class c.requires.from.1 c.requires.class (sym at.0) in
     let k = told.2 in (
       (e.0 ∙ p.0, ap (λ (u : View). is_ready u.stage) k.1 ∙ p.1, ap (λ (u : View). u.layout) k.1 ∙ p.2, subst Seen (sym k.1) k.2),
@@ -70,8 +70,8 @@ returns-clause-part g c =
     let one = c.requires.ring.0 in
     let m = c.requires.ring.1 in
     let t = ring_fits v p.3 one in
-    let at = slot_lies v p.3 one l c.args.from (only v).core.ring c.args.class c.slot_index-slot.result p.2 c.requires.from.1 t.0 c.requires.class
-    (c.slot_index-slot.ensures ∙ (λ i. slot_at l (4 * (c.args.from * l.rings + m i) + c.args.class))) in
+    let at = slot_lies v p.3 one l c.args.from (only v).core.ring c.args.class c.slot-slot.result p.2 c.requires.from.1 t.0 c.requires.class
+    (c.slot-slot.ensures ∙ (λ i. slot_at l (4 * (c.args.from * l.rings + m i) + c.args.class))) in
     let told = e.2 c.args.from c.args.class c.requires.from.1 c.requires.class (sym at.0) in
     (told.0, told.1, told.2.1, subst (λ (n : ℕ). IsFound n c.cell_at.result) (sym told.3) c.cell_at.ensures, told.4)
 
@@ -84,8 +84,8 @@ returns-clause-held g c =
     let one = c.requires.ring.0 in
     let m = c.requires.ring.1 in
     let t = ring_fits v p.3 one in
-    let at = slot_lies v p.3 one l c.args.from (only v).core.ring c.args.class c.slot_index-slot.result p.2 c.requires.from.1 t.0 c.requires.class
-    (c.slot_index-slot.ensures ∙ (λ i. slot_at l (4 * (c.args.from * l.rings + m i) + c.args.class))) in
+    let at = slot_lies v p.3 one l c.args.from (only v).core.ring c.args.class c.slot-slot.result p.2 c.requires.from.1 t.0 c.requires.class
+    (c.slot-slot.ensures ∙ (λ i. slot_at l (4 * (c.args.from * l.rings + m i) + c.args.class))) in
     let told = e.2 c.args.from c.args.class c.requires.from.1 c.requires.class (sym at.0) in
     found_held told.0.address c.cell_at.result c.swap-found.new.seat.me.0 (subst (λ (n : ℕ). IsFound n c.cell_at.result) (sym told.3) c.cell_at.ensures)
     (get_holds c.args.from c.args.class told.0 told.1 v c.swap-found.new.seat.me.0 one told.2.1)

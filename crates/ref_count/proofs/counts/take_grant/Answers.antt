@@ -17,7 +17,7 @@ swap-requires g c =
     let same = ap (λ (o : CoreOpening). o.rings) seen.opening in
     let rings = seen.standing.rings in
     let size = ap table_words c.requires.pass.2 ∙ sym table.sized in
-    (c.requires.pass.0, omega arith, grants (StandsFor g.B.Ledger.account g.B.Ledger.stands) table.table.shared.key table.table.shared.table_id.slots pass.id pass.me c.args.ring c.requires.pass.1 c.requires.right)
+    (c.requires.pass.0, rw c.grant.ensures (omega arith), rw c.grant.ensures (grants (StandsFor g.B.Ledger.account g.B.Ledger.stands) table.table.shared.key table.table.shared.table_id.slots pass.id pass.me c.args.ring c.requires.pass.1 c.requires.right))
 
 pub returns-clause-pass : goal.returns-clause-pass
 returns-clause-pass g c =

@@ -1,0 +1,44 @@
+//! Where things lie in the words of a table.
+ghost use Rattle.std.specs.Prelude.{◌≡◌, ◌<◌, ◌≤◌, ◌+◌, ◌*◌, ◌^◌};
+ghost use Rattle.share_rule.specs.Layout.{grant_at, unit_at, slot_at, first_cell};
+
+use crate::Layout;
+
+impl Layout {
+    /// The word of a ring's grant.
+    pub fn grant(self, ring: u32) -> usize
+        ensures { result ≡ grant_at ring }
+    {
+        3 + ring as usize
+    }
+
+    /// The word of the listed unit at a place, from 0.
+    pub fn unit(self, place: u64) -> usize
+        requires rings { self.rings ≤ 16 }
+        requires place { place ≤ 2 ^ 31 }
+        ensures { result ≡ unit_at self place }
+    {
+        3 + self.rings as usize + place as usize
+    }
+
+    /// The word of the slot of one ring for another, for clauses of this class.
+    pub fn slot(self, from: u32, to: u32, class: u8) -> usize
+        requires rings { (from < self.rings) × (to < self.rings) × (self.rings ≤ 16) }
+        requires vars { self.vars ≤ 2 ^ 30 }
+        requires class { class < 4 }
+        ensures { result ≡ slot_at self (4 * (from * self.rings + to) + class) }
+    {
+        let rings = self.rings as usize;
+        let slot = 4 * (from as usize * rings + to as usize) + class as usize;
+        3 + rings + 2 * self.vars as usize + slot
+    }
+
+    /// The first word for cells.
+    pub fn first_cell(self) -> u64
+        requires { (self.rings ≤ 16) × (self.vars ≤ 2 ^ 30) }
+        ensures { result ≡ first_cell self }
+    {
+        let rings = self.rings as u64;
+        3 + rings + 2 * self.vars as u64 + 4 * (rings * rings)
+    }
+}

@@ -5,7 +5,7 @@ use Rattle.sat_words.specs.declared.shared.Cref.{Cref}
 use Rattle.ring_port.specs.PortState.{PortState, lits_at}
 use Rattle.watch_prop.specs.Propagation.{IsQuiet, IsConflict}
 use Rattle.ring_run.specs.Ending.{IsRefusal}
-use Rattle.ring_run.specs.Next.{LearnsFrom, EndsQuietly, IsOnOrRefused}
+use Rattle.ring_run.specs.Course.{LearnsFrom, EndsQuietly, IsOnOrRefused}
 use Rattle.ring_run.specs.Turn.{HasPropagated, ActedAtQuiet, TookTurn, TakesTurn, CameTo}
 use Rattle.ring_run.specs.declared.job.End.{End}
 use Rattle.ring_run.specs.declared.job.End.TheVariants.{Sat, Refuted, Spent, Stopped, NoHole, ProofFault, Memory}

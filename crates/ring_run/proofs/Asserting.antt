@@ -22,7 +22,7 @@ use Rattle.analyze.proofs.Freshness.{contains_none, present_conflict}
 use Rattle.watch_prop.specs.WatchData.{WatchData, attached, clauses_of}
 use Rattle.watch_prop.specs.Propagation.{IsConflict}
 use Rattle.ring_run.specs.Searching.{Stands, IsAsserting}
-use Rattle.ring_run.specs.Next.{Searches, WentBack, CanAssert}
+use Rattle.ring_run.specs.Course.{Searches, WentBack, CanAssert}
 use Rattle.ring_run.proofs.Remembering.{stands_there}
 use Rattle.ring_run.proofs.News.{new_to}
 

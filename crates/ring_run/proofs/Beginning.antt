@@ -26,7 +26,7 @@ use Rattle.ring_run.specs.Ended.{IsTimely, IsJobOf, IsUntouched, IsOwn, IsNewLin
 use Rattle.ring_run.specs.Strategy.{Decides, IsPaced, AreMarked, OccurMarked, OccursIn}
 use Rattle.ring_run.specs.declared.job.Counts.{Counts}
 use Rattle.ring_run.specs.Searching.{IsHeldBy, AreTold, Runs, GoesOn}
-use Rattle.ring_run.specs.Next.{HasLemmas, MayImport, AreOrdered}
+use Rattle.ring_run.specs.Course.{HasLemmas, MayImport, AreOrdered}
 use Rattle.ring_run.specs.declared.job.Job.{Job}
 use Rattle.ring_run.specs.declared.ring.Ring.{Ring}
 use Rattle.ring_run.proofs.Numbering.{ordered_none}

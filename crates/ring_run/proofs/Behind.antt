@@ -14,7 +14,7 @@ use Rattle.ring_run.specs.Ended.{IsHalted, LookedAlong, import_slots, last_looks
 use Rattle.ring_run.specs.Ending.{ComesTo, EndsAt, IsRefusal, end_refused}
 use Rattle.ring_run.specs.Strategy.{IsPaced}
 use Rattle.ring_run.specs.Searching.{GoesOn, HoldsByGlue, IsAsserting, IsGlueOf, OffersNothing}
-use Rattle.ring_run.specs.Next.{AreSameOffers, InSearch, HasLemmas, IsOffering, IsPolling, HasTidied, KeepsInTime, KeepsImporting, KeepsPolling, KeepsLooking, Leads, LearnsFrom, LearnsTo, SumsUp, imports_of}
+use Rattle.ring_run.specs.Course.{AreSameOffers, InSearch, HasLemmas, IsOffering, IsPolling, HasTidied, KeepsInTime, KeepsImporting, KeepsPolling, KeepsLooking, Leads, LearnsFrom, LearnsTo, SumsUp, imports_of}
 use Rattle.ring_run.specs.Learning.{ComesOf, WasFollowed}
 use Rattle.ring_run.specs.declared.job.End.{End}
 use Rattle.ring_run.specs.declared.job.End.TheVariants.{Sat, Refuted, Spent, Stopped, NoHole, ProofFault, Memory}

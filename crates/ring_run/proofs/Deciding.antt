@@ -22,7 +22,7 @@ use Rattle.ring_run.specs.Ended.{IsModelOf, Stays}
 use Rattle.ring_run.specs.Strategy.{Decides, OccursIn}
 use Rattle.ring_run.specs.Searching.{GoesOn, AreFirst}
 use Rattle.ring_run.specs.Ending.{EndsBy}
-use Rattle.ring_run.specs.Next.{Searches, InSearch}
+use Rattle.ring_run.specs.Course.{Searches, InSearch}
 use Rattle.ring_run.specs.declared.ring.Ring.{Ring}
 use Rattle.ring_run.specs.declared.job.End.TheVariants.{Sat}
 use Rattle.ring_run.proofs.Remembering.{stands_there}

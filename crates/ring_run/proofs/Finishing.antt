@@ -9,7 +9,7 @@ use Rattle.ring_port.specs.declared.stops.PortStop.{PortStop}
 use Rattle.restart_plan.specs.Plan.{Restarting, asked, is_due}
 use Rattle.ring_run.specs.Searching.{KeepsOn, OffersNothing, OnlyWrote}
 use Rattle.ring_run.specs.Ending.{EndsAt, IsRefusal, end_refused}
-use Rattle.ring_run.specs.Next.{HasLeft, AreSameOffers}
+use Rattle.ring_run.specs.Course.{HasLeft, AreSameOffers}
 use Rattle.ring_run.specs.Learning.{HasAsked, HasFinished, HasLeftTidy}
 use Rattle.ring_run.specs.declared.job.End.{End}
 use Rattle.ring_run.specs.declared.job.End.TheVariants.{Memory}

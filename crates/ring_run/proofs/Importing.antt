@@ -31,7 +31,7 @@ use Rattle.watch_prop.specs.Propagation.{HasReasons}
 use Rattle.watch_prop.proofs.TrailLaws.{Watched-port, Reasons-more, Reasons-held}
 use Rattle.ring_run.specs.Ended.{IsTimely, Stays, IsOwn, IsOfKind, IsUntold, IsNewLine, AreNewLines, IsGlued, HoldsGlued, is_unit_line}
 use Rattle.ring_run.specs.Searching.{HasClauses, KeepsOn, IsHeldBy, AddedSeen, OnlyPolled}
-use Rattle.ring_run.specs.Next.{Searches}
+use Rattle.ring_run.specs.Course.{Searches}
 use Rattle.ring_run.proofs.Remembering.{held_same, LitsStay, lits_kept, remembered_as}
 use Rattle.ring_run.proofs.Lately.{sees_same, lately_same}
 use Rattle.ring_run.proofs.Progress.{stays_by, news_moved, lines_moved, runs_same, starts_kept}

@@ -14,7 +14,7 @@ use Rattle.restart_plan.specs.Plan.{Restarting, luby_unit, noted, asked, restart
 use Rattle.ring_run.specs.Ended.{IsInTime, IsReducedInTime, ReducesBy, IsHalted, reductions}
 use Rattle.ring_run.specs.Searching.{OnlyWrote}
 use Rattle.ring_run.specs.Strategy.{IsPaced}
-use Rattle.ring_run.specs.Next.{IsInTimeAt, IsInTimeBy, SumsUp}
+use Rattle.ring_run.specs.Course.{IsInTimeAt, IsInTimeBy, SumsUp}
 use Rattle.ring_run.specs.declared.ring.Ring.{Ring}
 use Rattle.ring_run.specs.declared.job.Counts.{Counts}
 use Rattle.ring_run.specs.declared.job.End.{End}

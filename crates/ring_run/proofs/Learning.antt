@@ -22,7 +22,7 @@ use Rattle.watch_prop.specs.Propagation.{HasReasons, attached_at}
 use Rattle.watch_prop.proofs.TrailLaws.{Watched-assign, Watched-back, Watched-port, Reasons-more, Reasons-held}
 use Rattle.watch_prop.proofs.Reasons.{attached_some}
 use Rattle.ring_run.specs.Searching.{IsHeldBy, HasClauses, Stands, GoesOn, IsAsserting, IsGlueOf, SeenTrue, OpeningSeen, AreTold}
-use Rattle.ring_run.specs.Next.{Searches, InSearch, GoesOnBy, Asserted, Restarted, HasLeft}
+use Rattle.ring_run.specs.Course.{Searches, InSearch, GoesOnBy, Asserted, Restarted, HasLeft}
 use Rattle.ring_run.specs.declared.ring.Ring.{Ring}
 use Rattle.ring_run.proofs.Remembering.{LitsStay, lits_kept, unit_remembered, clause_remembered}
 use Rattle.ring_run.proofs.Standing.{sees_old, sees_new, seen_of, within_more, within_last}

@@ -25,7 +25,7 @@ use Rattle.vivify.specs.declared.shorten.Vivified.TheVariants.{Kept, Shorter, Un
 use Rattle.vivify.proofs.Parts.{left_part}
 use Rattle.ring_run.specs.Searching.{KeepsOn, OffersNothing, HasClauses}
 use Rattle.ring_run.specs.Ending.{EndsAt, end_refused}
-use Rattle.ring_run.specs.Next.{Searches, numbers}
+use Rattle.ring_run.specs.Course.{Searches, numbers}
 use Rattle.ring_run.specs.Renewal.{Point, point, IsNamed, WentOn, IsResting, LeftBehind, MayVivify, KeepsOthers, IsLeft}
 use Rattle.ring_run.specs.declared.ring.Ring.{Ring}
 use Rattle.ring_run.proofs.Offering.{nothing_none}

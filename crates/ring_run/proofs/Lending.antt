@@ -27,7 +27,7 @@ use Rattle.ring_decide.specs.DeciderData.{DeciderData}
 use Rattle.ring_run.specs.Strategy.{saved_above}
 use Rattle.ring_run.specs.Ended.{Stays, HasOffered}
 use Rattle.ring_run.specs.Searching.{GoesOn, OnlySaw, OffersNothing, HasLent, HasLentBy, HoldsByGlue, IsGlueOf}
-use Rattle.ring_run.specs.Next.{Searches, InSearch, WentBack, Lists, HasLeft, AreSameOffers, IsOffering}
+use Rattle.ring_run.specs.Course.{Searches, InSearch, WentBack, Lists, HasLeft, AreSameOffers, IsOffering}
 use Rattle.ring_run.specs.declared.ring.Ring.{Ring}
 use Rattle.ring_run.proofs.Remembering.{HoldsAlike, lits_alike, clause_alike, remembered_same}
 use Rattle.ring_run.proofs.Lately.{sees_same}

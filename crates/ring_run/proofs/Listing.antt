@@ -16,7 +16,7 @@ use Rattle.watch_prop.specs.WatchData.{attached}
 use Rattle.reduce_db.specs.Lemmas.{AreDistinct}
 use Rattle.reduce_db.proofs.Changes.{distinct_push}
 use Rattle.ring_run.specs.Searching.{AreMoreClauses, HasClauses, IsHeldBy, HasGrownLog}
-use Rattle.ring_run.specs.Next.{HasLemmas, HasLeft, Lists, AreOrdered, numbers, number_at}
+use Rattle.ring_run.specs.Course.{HasLemmas, HasLeft, Lists, AreOrdered, numbers, number_at}
 use Rattle.ring_run.specs.declared.ring.Ring.{Ring}
 use Rattle.ring_run.proofs.Progress.{recent_lemma}
 use Rattle.ring_run.specs.Ended.{reductions}

@@ -16,7 +16,7 @@ use Rattle.ring_port.specs.PortState.{PortState, Holding, held_at}
 use Rattle.ring_port.specs.Deleting.{deletions}
 use Rattle.ring_run.specs.Ended.{is_reduction, reductions, IsTimely}
 use Rattle.ring_run.specs.Searching.{OnlyWrote, HasGrownLog}
-use Rattle.ring_run.specs.Next.{IsInOrder, AreOrdered, numbers, number_at}
+use Rattle.ring_run.specs.Course.{IsInOrder, AreOrdered, numbers, number_at}
 use Rattle.ring_run.proofs.Remembering.{held_same}
 
 -- Reductions

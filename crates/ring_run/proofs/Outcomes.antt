@@ -8,7 +8,7 @@ use Rattle.restart_plan.specs.Plan.{Restarting, noted, asked, is_due}
 use Rattle.analyze.specs.Lemma.{IsLemma}
 use Rattle.ring_run.specs.Ending.{IsRefusal}
 use Rattle.ring_run.specs.Searching.{HasLent, IsAsserting, IsGlueOf}
-use Rattle.ring_run.specs.Next.{WasShared, LearnsTo, LearnsFrom}
+use Rattle.ring_run.specs.Course.{WasShared, LearnsTo, LearnsFrom}
 use Rattle.ring_run.specs.declared.job.End.{End}
 use Rattle.ring_run.specs.declared.job.End.TheVariants.{Sat, Refuted, Spent, Stopped, NoHole, ProofFault, Memory}
 use Rattle.ring_run.specs.declared.ring.Ring.{Ring}

@@ -9,7 +9,7 @@ use Rattle.ring_port.specs.Exchange.{other_rings}
 use Rattle.ring_port.proofs.Beginnings.{range_more}
 use Rattle.ring_run.specs.Ended.{polls_of, HasPolled, IsHalted}
 use Rattle.ring_run.specs.Searching.{OffersNothing}
-use Rattle.ring_run.specs.Next.{IsPolling, imports_of}
+use Rattle.ring_run.specs.Course.{IsPolling, imports_of}
 use Rattle.ring_run.specs.declared.ring.Ring.{Ring}
 use Rattle.ring_run.specs.declared.ring.Place.{Place}
 use Rattle.ring_run.specs.declared.job.End.{End}

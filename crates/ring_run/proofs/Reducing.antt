@@ -40,7 +40,7 @@ use Rattle.reduce_db.proofs.Drops.{stays_attached}
 use Rattle.ring_run.specs.Ended.{IsTimely, Stays, IsOwn, reductions}
 use Rattle.ring_run.specs.Searching.{IsHeldBy, HasClauses, GoesOn, OffersNothing, OnlyWrote}
 use Rattle.ring_run.specs.Ending.{ComesTo, end_refused}
-use Rattle.ring_run.specs.Next.{HasLemmas, MayImport, AreOrdered}
+use Rattle.ring_run.specs.Course.{HasLemmas, MayImport, AreOrdered}
 use Rattle.ring_run.specs.declared.ring.Ring.{Ring}
 use Rattle.ring_run.proofs.Remembering.{held_same, lits_same, clause_at_same}
 use Rattle.ring_run.proofs.Lately.{lately_none}

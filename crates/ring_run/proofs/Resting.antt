@@ -30,7 +30,7 @@ use Rattle.watch_prop.proofs.TrailLaws.{Watched-assign, Reasons-held}
 use Rattle.watch_prop.proofs.DetachingLaws.{without-others}
 use Rattle.vivify.specs.Walking.{IsNoReason}
 use Rattle.ring_run.specs.Searching.{IsHeldBy, HasClauses, OpeningSeen, UnitsSeen}
-use Rattle.ring_run.specs.Next.{Searches, MayImport}
+use Rattle.ring_run.specs.Course.{Searches, MayImport}
 use Rattle.ring_run.specs.Renewal.{IsResting}
 use Rattle.ring_run.specs.declared.ring.Ring.{Ring}
 use Rattle.ring_run.proofs.LevelZero.{false_at_zero}

@@ -10,7 +10,7 @@ use Rattle.ring_port.specs.PortState.{PortState, Slot, one_more}
 use Rattle.ring_port.proofs.Beginnings.{range_more}
 use Rattle.ring_run.specs.Ended.{slots_of, import_slots, rounds, LookedAlong, HasImported, ImportsBy, IsTidy, IsHalted}
 use Rattle.ring_run.specs.Searching.{OffersNothing}
-use Rattle.ring_run.specs.Next.{imports_of, HasImportedBy, HasTidied}
+use Rattle.ring_run.specs.Course.{imports_of, HasImportedBy, HasTidied}
 use Rattle.ring_run.specs.declared.course.Next.{Next}
 use Rattle.ring_run.specs.declared.course.Next.TheVariants.{Go, Finish}
 use Rattle.restart_plan.specs.Plan.{Restarting}

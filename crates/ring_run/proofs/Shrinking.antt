@@ -17,7 +17,7 @@ use Rattle.ring_run.specs.Ended.{HasLooked, last_looks, reductions}
 use Rattle.ring_run.specs.Searching.{OpeningSeen, KeepsOn}
 use Rattle.ring_run.specs.Ending.{EndsAt, end_refused}
 use Rattle.ring_run.specs.Renewal.{HaltsAt}
-use Rattle.ring_run.specs.Next.{IsLooking}
+use Rattle.ring_run.specs.Course.{IsLooking}
 use Rattle.ring_run.specs.declared.job.End.{End}
 use Rattle.ring_run.specs.declared.ring.Ring.{Ring}
 use Rattle.std.specs.Prelude.{Result, Ok, Err, IfOk, OnOk}

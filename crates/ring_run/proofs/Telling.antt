@@ -25,7 +25,7 @@ use Rattle.watch_prop.specs.WatchData.{WatchData, attached}
 use Rattle.watch_prop.specs.Propagation.{IsQuiet}
 use Rattle.ring_run.specs.Ended.{searched, IsTold}
 use Rattle.ring_run.specs.Searching.{SeenTrue, Stands, AreFirst, AreTold, IsAmong}
-use Rattle.ring_run.specs.Next.{Searches, WentBack}
+use Rattle.ring_run.specs.Course.{Searches, WentBack}
 use Rattle.ring_run.proofs.Remembering.{stands_there}
 
 -- what is not so is false

@@ -26,7 +26,7 @@ use Rattle.watch_prop.specs.WatchData.{Lits}
 use Rattle.ring_run.specs.Ended.{reductions, IsTimely, Stays, IsOwn, IsNewLine, Cause, IsHalted, last_looks, opening_of}
 use Rattle.ring_run.specs.Searching.{Runs, GoesOn, KeepsOn, OnlyWrote, OffersNothing, Remembers}
 use Rattle.ring_run.specs.Ending.{EndsAt, end_refused, IsRefusal}
-use Rattle.ring_run.specs.Next.{InSearch}
+use Rattle.ring_run.specs.Course.{InSearch}
 use Rattle.ring_run.specs.declared.ring.Ring.{Ring}
 use Rattle.ring_run.proofs.Numbering.{reductions_deleted}
 use Rattle.ring_run.proofs.Remembering.{held_same, lits_same, remembered_as}

@@ -17,7 +17,7 @@ use Rattle.watch_prop.proofs.TrailLaws.{Reasons-more, Reasons-held}
 use Rattle.ring_run.specs.Ended.{Stays}
 use Rattle.ring_run.specs.Searching.{IsHeldBy, HasClauses, Remembers, Stands, AreTold, OnlySaw, OnlyWrote, OpeningSeen, GoesOn}
 use Rattle.ring_port.specs.Log.{KeepsLog}
-use Rattle.ring_run.specs.Next.{Searches, InSearch, MayImport, Leads, IsFurther}
+use Rattle.ring_run.specs.Course.{Searches, InSearch, MayImport, Leads, IsFurther}
 use Rattle.ring_run.specs.declared.ring.Ring.{Ring}
 use Rattle.ring_run.specs.declared.course.Next.{Next}
 use Rattle.ring_run.specs.declared.course.Next.TheVariants.{Go, Finish}

@@ -11,7 +11,7 @@ use Rattle.ring_port.proofs.Holdings.{All_In}
 use Rattle.ring_port.proofs.LogSteps.{In_All}
 use Rattle.watch_prop.specs.WatchData.{attached}
 use Rattle.reduce_db.specs.Lemmas.{AreDistinct}
-use Rattle.ring_run.specs.Next.{HasLemmas, AreOrdered}
+use Rattle.ring_run.specs.Course.{HasLemmas, AreOrdered}
 use Rattle.ring_run.specs.Renewal.{Point, TookLemma, TookEach, TookPlace, IsResting, KeepsOthers, TookAll, IsLeft, in_place, behind}
 use Rattle.ring_run.specs.declared.ring.Ring.{Ring}
 use Rattle.ring_run.proofs.Resting.{held_member}

@@ -10,7 +10,7 @@ use Rattle.ring_port.specs.declared.stops.PortStop.{PortStop}
 use Rattle.restart_plan.specs.Plan.{noted, asked, is_due}
 use Rattle.ring_run.specs.Searching.{KeepsOn, OffersNothing, OnlyWrote}
 use Rattle.ring_run.specs.Ending.{EndsAt, IsRefusal, end_refused}
-use Rattle.ring_run.specs.Next.{WasShared, HasLeft, AreSameOffers}
+use Rattle.ring_run.specs.Course.{WasShared, HasLeft, AreSameOffers}
 use Rattle.ring_run.specs.declared.job.End.TheVariants.{Spent}
 use Rattle.ring_run.specs.declared.ring.Ring.{Ring}
 use Rattle.ring_run.specs.declared.course.Next.{Next}

@@ -18,7 +18,7 @@ use Rattle.vivify.specs.declared.shorten.Vivified.TheVariants.{Kept, Shorter, Un
 use Rattle.ring_run.specs.Ended.{IsHalted, import_slots, last_looks, reductions}
 use Rattle.ring_run.specs.Searching.{OnlySaw, OnlyPolled, OnlyWrote, ToldUnits, HasTold, HasGrownLog, AreTold}
 use Rattle.ring_run.specs.Ending.{EndsAt, IsRefusal}
-use Rattle.ring_run.specs.Next.{InSearch, numbers, number_at, AreOrdered}
+use Rattle.ring_run.specs.Course.{InSearch, numbers, number_at, AreOrdered}
 use Rattle.ring_run.specs.declared.vivification.AfterVivify.{AfterVivify}
 use Rattle.ring_run.specs.declared.vivification.AfterVivify.TheVariants.{Unchanged, Replaced, Gone}
 use Rattle.ring_run.specs.declared.job.End.{End}

@@ -11,7 +11,7 @@ use Rattle.restart_plan.specs.Plan.{begun}
 use Rattle.ring_run.specs.Strategy.{Decides}
 use Rattle.ring_run.specs.Searching.{HasTold}
 use Rattle.ring_run.specs.Ending.{IsRefusal}
-use Rattle.ring_run.specs.Next.{DecidedNext, LearnsFrom}
+use Rattle.ring_run.specs.Course.{DecidedNext, LearnsFrom}
 use Rattle.ring_run.specs.Renewal.{Renews, TookImport}
 use Rattle.ring_run.specs.declared.job.Job.{Job}
 use Rattle.ring_run.specs.declared.job.Counts.{Counts}

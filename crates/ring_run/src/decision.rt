@@ -10,7 +10,7 @@ ghost use Rattle.ring_run.specs.Strategy.{Decides};
 ghost use Rattle.ring_run.specs.Searching.{OffersNothing, AreFirst, KeepsOn, OnlyWrote, ToldUnits, HasTold};
 ghost use Rattle.ring_run.specs.Ending.{EndsAt, end_refused};
 ghost use Rattle.ring_run.specs.Turn.{ActedAtQuiet};
-ghost use Rattle.ring_run.specs.Next.{AreSameOffers, InSearch, HasLemmas, KeepsLemmas, Leads, IsFurther, KeepsLooking, TakesALook, KeepsOffering, KeepsPolling, IsPolling, HasPolledBy, KeepsImporting, KeepsTidy, KeepsInTime, HasDecided, EndsQuietly};
+ghost use Rattle.ring_run.specs.Course.{AreSameOffers, InSearch, HasLemmas, KeepsLemmas, Leads, IsFurther, KeepsLooking, TakesALook, KeepsOffering, KeepsPolling, IsPolling, HasPolledBy, KeepsImporting, KeepsTidy, KeepsInTime, HasDecided, EndsQuietly};
 
 use crate::course::{Next, end_refused};
 use crate::job::End;

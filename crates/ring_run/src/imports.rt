@@ -5,7 +5,7 @@ ghost use Rattle.ring_port.specs.Exchange.{other_rings};
 ghost use Rattle.ring_run.specs.Ended.{slots_of, import_slots, LookedAlong, IsInTime};
 ghost use Rattle.ring_run.specs.Searching.{KeepsOn, OnlyPolled};
 ghost use Rattle.ring_run.specs.Renewal.{TookSlots, TookImport};
-ghost use Rattle.ring_run.specs.Next.{InSearch, KeepsLemmas, MayImport, Leads, KeepsLooking, KeepsOffering, IsPolling, HasPolledBy, KeepsImporting, KeepsTidy, IsInTimeBy, IsOnOrRefused};
+ghost use Rattle.ring_run.specs.Course.{InSearch, KeepsLemmas, MayImport, Leads, KeepsLooking, KeepsOffering, IsPolling, HasPolledBy, KeepsImporting, KeepsTidy, IsInTimeBy, IsOnOrRefused};
 
 use crate::course::{Next, refute};
 use crate::job::End;

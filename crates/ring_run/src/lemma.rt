@@ -13,7 +13,7 @@ ghost use Rattle.watch_prop.specs.Propagation.{IsConflict};
 ghost use Rattle.ring_run.specs.Strategy.{Decides, IsPaced};
 ghost use Rattle.ring_run.specs.Searching.{OffersNothing, HasLent, IsAsserting, HoldsByGlue, OnlyWrote, KeepsOn};
 ghost use Rattle.ring_run.specs.Ending.{EndsAt, end_refused};
-ghost use Rattle.ring_run.specs.Next.{AreSameOffers, IsOffering, InSearch, HasLemmas, Leads, CanAssert, Asserted, Restarted, HasLeft, KeepsLooking, KeepsPolling, KeepsImporting, HasTidied, KeepsInTime, SumsUp, LearnsFrom};
+ghost use Rattle.ring_run.specs.Course.{AreSameOffers, IsOffering, InSearch, HasLemmas, Leads, CanAssert, Asserted, Restarted, HasLeft, KeepsLooking, KeepsPolling, KeepsImporting, HasTidied, KeepsInTime, SumsUp, LearnsFrom};
 ghost use Rattle.ring_run.specs.Learning.{HasShared, HasFinished, ComesOf};
 
 use crate::course::{Next, end_refused, refute};

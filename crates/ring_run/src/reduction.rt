@@ -7,7 +7,7 @@ ghost use Rattle.ring_run.specs.Ended.{IsInTime};
 ghost use Rattle.ring_run.specs.Searching.{OffersNothing, OpeningSeen, KeepsOn};
 ghost use Rattle.ring_run.specs.Renewal.{IsDue, HasReduced, HasShrunk, IsIdle, HasRenewed, IsResting, HaltsAt};
 ghost use Rattle.ring_run.specs.Ending.{EndsAt, end_refused};
-ghost use Rattle.ring_run.specs.Next.{HasLemmas, MayImport, Leads, KeepsLooking, KeepsOffering, IsPolling, HasPolledBy, KeepsImporting, KeepsTidy, IsInTimeBy, IsOnOrRefused};
+ghost use Rattle.ring_run.specs.Course.{HasLemmas, MayImport, Leads, KeepsLooking, KeepsOffering, IsPolling, HasPolledBy, KeepsImporting, KeepsTidy, IsInTimeBy, IsOnOrRefused};
 
 use crate::course::{Next, end_refused};
 use crate::imports::import;

@@ -1,7 +1,7 @@
 // What a ring has of its own.
 ghost use Rattle.std.specs.Prelude.{◌≡◌, ◌≤◌, length};
 ghost use Rattle.ring_trail.specs.TrailData.{IsTrail};
-ghost use Rattle.ring_run.specs.Next.{WentBack};
+ghost use Rattle.ring_run.specs.Course.{WentBack};
 ghost use Rattle.ring_run.specs.Strategy.{saved_above};
 
 use crate::variables::{Bump, save_phases};

@@ -6,7 +6,7 @@ ghost use Rattle.ring_port.specs.PortState.{IsPort, held_at, lits_at};
 ghost use Rattle.ring_trail.specs.TrailData.{IsTrueOn};
 ghost use Rattle.ring_run.specs.Searching.{OffersNothing, KeepsOn};
 ghost use Rattle.ring_run.specs.Renewal.{point, IsNamed, HasFollowed, WentOn, TookLemma, TookAll, TookPlace, IsResting, AwaitsUnit, LeftBehind, HaltsAt, MayVivify, KeepsOthers, IsLeft};
-ghost use Rattle.ring_run.specs.Next.{HasLemmas};
+ghost use Rattle.ring_run.specs.Course.{HasLemmas};
 
 use crate::course::{end_refused, refute};
 use crate::decision::write_pending;

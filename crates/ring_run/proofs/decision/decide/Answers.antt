@@ -8,7 +8,7 @@ use Rattle.std.proofs.Common.{◌∙◌, ap, subst, sym}
 use Rattle.std.proofs.lemmas.Bool.{false≢true}
 use Rattle.ring_run.proofs.Polling.{polled_whole, polled_over}
 use Rattle.ring_trail.specs.TrailData.{TrailData, IsTrail}
-use Rattle.ring_run.specs.Next.{Searches}
+use Rattle.ring_run.specs.Course.{Searches}
 
 pub returns-in-Some-clause-leads : goal.returns-in-Some-clause-leads
 returns-in-Some-clause-leads g c =

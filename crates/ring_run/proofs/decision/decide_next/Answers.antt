@@ -5,7 +5,7 @@ use Rattle.ring_decide.specs.DeciderData.{DeciderData, IsDecided}
 use Rattle.ring_run.specs.Ended.{HasPolled}
 use Rattle.ring_run.specs.Searching.{GoesOn, OffersNothing}
 use Rattle.ring_run.specs.Ending.{ComesTo}
-use Rattle.ring_run.specs.Next.{imports_of, IsOffering}
+use Rattle.ring_run.specs.Course.{imports_of, IsOffering}
 use Rattle.ring_run.specs.declared.ring.Ring.{Ring}
 use Rattle.ring_run.proofs.Deciding.{decides_by}
 use Rattle.ring_run.proofs.Lending.{offering_stays}
@@ -19,7 +19,7 @@ use Rattle.ring_run.specs.Turn.{ActedAtQuiet}
 use Rattle.ring_run.specs.declared.job.End.{End}
 use Rattle.ring_run.specs.declared.course.Next.TheVariants.{Finish}
 use Rattle.ring_run.specs.Ending.{end_refused}
-use Rattle.ring_run.specs.Next.{EndsQuietly}
+use Rattle.ring_run.specs.Course.{EndsQuietly}
 use Rattle.ring_run.specs.Searching.{ToldUnits}
 use Rattle.ring_run.proofs.Acting.{quietly_refused, quietly_on}
 use Rattle.ring_run.proofs.Tidying.{refused_refusal}
@@ -27,9 +27,9 @@ use Rattle.ring_run.proofs.decision.decide_next.Goals as goal
 use Rattle.ring_run.proofs.Numbering.{kept_looked}
 use Rattle.ring_run.proofs.Rounds.{imports_halted, imports_over, imports_same, importing_same, imported_settled}
 use Rattle.ring_run.specs.Ended.{ImportsBy}
-use Rattle.ring_run.specs.Next.{HasImportedBy}
+use Rattle.ring_run.specs.Course.{HasImportedBy}
 use Rattle.ring_run.proofs.InTime.{in_time_halted, in_time_any, in_time_more, in_time_wrote}
-use Rattle.ring_run.specs.Next.{IsInTimeAt, IsInTimeBy}
+use Rattle.ring_run.specs.Course.{IsInTimeAt, IsInTimeBy}
 use Rattle.ring_run.specs.Searching.{OnlyWrote}
 use Rattle.ring_run.proofs.Progress.{wrote_by, looked_wrote}
 use Rattle.restart_plan.specs.Plan.{Restarting}

@@ -5,7 +5,7 @@ use Rattle.ring_port.specs.PortState.{PortState, Slot, Holding, held_at}
 use Rattle.ring_run.specs.Ended.{polls_of, LookedAlong, rounds, import_slots}
 use Rattle.ring_run.specs.Searching.{OffersNothing, GoesOn, IsHeldBy}
 use Rattle.rup_model.specs.Journal.{learned}
-use Rattle.ring_run.specs.Next.{imports_of}
+use Rattle.ring_run.specs.Course.{imports_of}
 use Rattle.ring_run.specs.declared.ring.Ring.{Ring}
 use Rattle.ring_run.proofs.Offering.{nothing_then}
 use Rattle.ring_run.proofs.Lending.{saw_nothing, offering_stays, offering_kept}

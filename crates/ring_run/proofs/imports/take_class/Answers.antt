@@ -6,7 +6,7 @@ use Rattle.ring_port.specs.PortState.{PortState}
 use Rattle.ring_port.specs.Exchange.{TookClause, Polled, looked_into}
 use Rattle.watch_prop.specs.WatchData.{attached}
 use Rattle.ring_run.specs.Searching.{IsHeldBy, KeepsOn}
-use Rattle.ring_run.specs.Next.{Searches}
+use Rattle.ring_run.specs.Course.{Searches}
 use Rattle.ring_run.proofs.Importing.{polled_none, polled_some, polls_keep, polls_search, taken_held}
 use Rattle.ring_run.specs.Renewal.{TookSlots}
 use Rattle.ring_run.specs.declared.ring.Ring.{Ring}

@@ -1,7 +1,7 @@
 use Rattle.std.proofs.Common.{◌≡◌, ◌+◌, ◌-◌, ◌*◌, ◌^◌, min, length}
 use Rattle.ring_port.specs.PortState.{IsPort}
 use Rattle.ring_run.specs.Searching.{KeepsOn, OnlyPolled}
-use Rattle.ring_run.specs.Next.{InSearch}
+use Rattle.ring_run.specs.Course.{InSearch}
 use Rattle.ring_run.proofs.Polling.{others_below}
 use Rattle.ring_run.specs.Renewal.{TookSlots}
 use Rattle.ring_run.proofs.Rounds.{round_below}

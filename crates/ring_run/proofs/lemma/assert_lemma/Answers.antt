@@ -6,7 +6,7 @@ use Rattle.ring_trail.specs.TrailData.{value_of, assigned}
 use Rattle.watch_prop.specs.WatchData.{WatchData, attached}
 use Rattle.watch_prop.specs.Watched.{Watched}
 use Rattle.ring_run.specs.declared.ring.Ring.{Ring}
-use Rattle.ring_run.specs.Next.{WentBack}
+use Rattle.ring_run.specs.Course.{WentBack}
 use Rattle.ring_run.proofs.Standing.{no_value}
 use Rattle.ring_run.proofs.lemma.assert_lemma.Goals as goal
 

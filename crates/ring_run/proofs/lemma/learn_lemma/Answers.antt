@@ -1,5 +1,5 @@
 use Rattle.std.proofs.Common.{◌≡◌, ◌∙◌, ap, inl, inr, length, refl, subst, sym}
-use Rattle.ring_run.specs.Next.{CanAssert}
+use Rattle.ring_run.specs.Course.{CanAssert}
 use Rattle.ring_run.specs.declared.ring.Ring.{Ring}
 use Rattle.ring_run.specs.declared.course.Next.TheVariants.{Finish}
 use Rattle.ring_run.proofs.Asserting.{can_assert}

@@ -2,7 +2,7 @@ use Rattle.std.proofs.Common.{ap, sym, ◌∙◌, subst, ◌≡◌, ℕ, arith}
 use Rattle.ring_run.specs.Ended.{HasPolled}
 use Rattle.ring_run.specs.Ending.{ComesTo}
 use Rattle.ring_run.specs.Searching.{GoesOn}
-use Rattle.ring_run.specs.Next.{imports_of}
+use Rattle.ring_run.specs.Course.{imports_of}
 use Rattle.ring_run.specs.declared.ring.Ring.{Ring}
 use Rattle.ring_run.proofs.Lending.{offering_kept}
 use Rattle.ring_run.proofs.Polling.{polls_same, polled_over, polled_halted, polling_same}

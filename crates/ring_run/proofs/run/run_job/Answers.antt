@@ -8,7 +8,7 @@ use Rattle.ring_trail.specs.TrailData.{TrailData}
 use Rattle.ring_port.specs.PortState.{PortState}
 use Rattle.ring_run.specs.Searching.{GoesOn}
 use Rattle.ring_run.specs.Ending.{ComesTo}
-use Rattle.ring_run.specs.Next.{HasLemmas, MayImport, IsOffering, IsPolling}
+use Rattle.ring_run.specs.Course.{HasLemmas, MayImport, IsOffering, IsPolling}
 use Rattle.ring_run.specs.declared.job.End.TheVariants.{Memory}
 use Rattle.ring_run.proofs.Beginning.{listed_begin, goes_begin, begun, paced_begin, restarted_by, restarted_none}
 use Rattle.ring_run.proofs.Progress.{out_of_memory}
@@ -16,7 +16,7 @@ use Rattle.ring_run.specs.Turn.{Searched}
 use Rattle.ring_run.proofs.run.run_job.Goals as goal
 use Rattle.ring_run.proofs.Rounds.{imports_none, imports_count, imports_none_yet}
 use Rattle.ring_run.specs.Ended.{ImportsBy}
-use Rattle.ring_run.specs.Next.{imports_of}
+use Rattle.ring_run.specs.Course.{imports_of}
 use Rattle.std.specs.Prelude.{if◌then◌else◌}
 use Rattle.ring_run.proofs.InTime.{reduced_by, in_time_begin}
 use Rattle.ring_run.specs.Ended.{IsInTime}

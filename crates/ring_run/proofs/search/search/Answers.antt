@@ -7,7 +7,7 @@ use Rattle.ring_run.proofs.Deciding.{decides_moved}
 use Rattle.ring_run.proofs.Turning.{less_to_do}
 use Rattle.ring_run.proofs.search.search.Goals as goal
 use Rattle.ring_run.proofs.InTime.{sums_exact}
-use Rattle.ring_run.specs.Next.{SumsUp}
+use Rattle.ring_run.specs.Course.{SumsUp}
 
 pub returns-in-Finish-clause-ends : goal.returns-in-Finish-clause-ends
 returns-in-Finish-clause-ends g c = c.in-Finish.ensures.leads c.args.limit c.requires.below (g.P.Port.state c.args.port.now) c.requires.goes

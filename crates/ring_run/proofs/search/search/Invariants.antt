@@ -2,7 +2,7 @@ use Rattle.std.proofs.Common.{◌≡◌, false, ℕ, ◌<◌, [], length}
 use Rattle.ring_run.specs.Ended.{IsInTime}
 use Rattle.ring_run.specs.Searching.{GoesOn}
 use Rattle.ring_run.specs.Strategy.{Decides, IsPaced}
-use Rattle.ring_run.specs.Next.{HasLemmas, IsOffering, IsPolling, IsImporting, InSearch, IsLooking}
+use Rattle.ring_run.specs.Course.{HasLemmas, IsOffering, IsPolling, IsImporting, InSearch, IsLooking}
 use Rattle.ring_port.specs.PortState.{PortState}
 use Rattle.ring_run.specs.Turn.{CameTo}
 use Rattle.ring_run.proofs.Turning.{left_to_do}

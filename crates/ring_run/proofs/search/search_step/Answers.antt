@@ -2,7 +2,7 @@ use Rattle.std.proofs.Common.{◌∙◌, ◌≤◌, ◌+◌, List, length, subst
 use Rattle.sat_words.specs.declared.shared.Cref.{Cref}
 use Rattle.ring_trail.specs.declared.step.TrailStep.{TrailStep}
 use Rattle.ring_run.specs.Ended.{polls_of}
-use Rattle.ring_run.specs.Next.{HasLemmas, IsOffering, IsPolling, imports_of}
+use Rattle.ring_run.specs.Course.{HasLemmas, IsOffering, IsPolling, imports_of}
 use Rattle.ring_run.proofs.Polling.{polled_over}
 use Rattle.ring_port.specs.PortState.{PortState, lits_at}
 use Rattle.watch_prop.specs.Propagation.{IsPropagated}
@@ -16,8 +16,8 @@ use Rattle.ring_run.proofs.Rounds.{imports_over}
 use Rattle.ring_run.specs.Ended.{HasImported, LookedAlong, rounds, import_slots}
 use Rattle.ring_run.proofs.InTime.{sums_exact}
 use Rattle.ring_run.specs.Ended.{IsInTime}
-use Rattle.ring_run.specs.Next.{SumsUp}
-use Rattle.ring_run.specs.Next.{LearnsFrom, EndsQuietly}
+use Rattle.ring_run.specs.Course.{SumsUp}
+use Rattle.ring_run.specs.Course.{LearnsFrom, EndsQuietly}
 use Rattle.ring_run.specs.Turn.{ActedAtQuiet}
 use Rattle.ring_run.proofs.Acting.{conflict_turn, quiet_turn}
 

@@ -7,7 +7,7 @@ use Rattle.watch_prop.specs.Watched.{Watched}
 use Rattle.watch_prop.specs.Propagation.{HasReasons, IsClosedBelow, IsPropagated, IsConflict, IsQuiet}
 use Rattle.ring_run.specs.Searching.{GoesOn, OnlyWrote, ToldUnits, AreTold}
 use Rattle.ring_run.specs.Ending.{EndsAt, end_refused}
-use Rattle.ring_run.specs.Next.{Searches}
+use Rattle.ring_run.specs.Course.{Searches}
 use Rattle.ring_run.proofs.Resting.{conflict_refutes}
 use Rattle.ring_run.proofs.Shrinking.{refused_halts}
 use Rattle.ring_run.proofs.Standing.{no_value}

@@ -1,7 +1,7 @@
 use Rattle.std.proofs.Common.{◌≡◌, ◌≤◌, length}
 use Rattle.ring_port.specs.PortState.{IsPort}
 use Rattle.ring_run.specs.Searching.{OffersNothing, KeepsOn}
-use Rattle.ring_run.specs.Next.{HasLemmas}
+use Rattle.ring_run.specs.Course.{HasLemmas}
 use Rattle.ring_run.specs.Renewal.{point, IsResting}
 use Rattle.ring_run.proofs.Turns.{AreTurned}
 use Rattle.ring_run.proofs.vivification.vivify_lemmas.Given as goal

@@ -1,3 +1,7 @@
 pub mod Ranges
 pub mod Exact
 pub mod Packed
+pub mod Joins
+pub mod InBlocks
+pub mod OneBlock
+pub mod Steps

@@ -7,12 +7,12 @@ use Rattle.std.proofs.lemmas.List.Sums.{fails_before_first}
 use Rattle.std.proofs.lemmas.Bool.Decides.{leb_tells, eqb_tells}
 use Rattle.clause_cell.specs.declared.holes.Hole.{Hole}
 use Rattle.clause_cell.specs.Sides.{IsSide}
-use Rattle.clause_cell.specs.declared.holes.Side.TheVariants.{Both, Left, Right, Neither}
+use Rattle.clause_cell.specs.declared.sorted.Side.TheVariants.{Both, Left, Right, Neither}
 use Rattle.clause_cell.specs.Free.{is_within, is_free, is_apart, is_clear, range, rest_of, first_fit, without_fit, ahead, with_range, largest, hole_at, end_at, SkipTo}
 
 -- Tests
 
-both : (a b : Bool) → (a && b) ≡ true → (a ≡ true) × (b ≡ true)
+pub both : (a b : Bool) → (a && b) ≡ true → (a ≡ true) × (b ≡ true)
 both true true h = (refl, refl)
 both true false h = absurd (true≢false (sym h))
 both false b h = absurd (true≢false (sym h))
@@ -26,7 +26,7 @@ or_three : (x y z : Bool) → ((x || y) || z) ≡ (x || (y || z))
 or_three true y z = refl
 or_three false y z = refl
 
-le_of : (a b : ℕ) → nat_le a b ≡ true → a ≤ b
+pub le_of : (a b : ℕ) → nat_le a b ≡ true → a ≤ b
 le_of a b h = grind (arith, leb_tells, h)
 
 pub of_le : (a b : ℕ) → a ≤ b → nat_le a b ≡ true
@@ -42,7 +42,7 @@ some_same {X = X} x y e = ap (λ (o : Option X). got x o) e
     got d None = d
     got d (Some y) = y
 
-none_some : (a : ℕ) → None ≡ Some a → ⊥
+pub none_some : (a : ℕ) → None ≡ Some a → ⊥
 none_some a e = true≢false (ap (λ (o : Option ℕ). empty o) e)
   where
     empty : Option ℕ → Bool
@@ -283,19 +283,19 @@ ends_at from (h ∷ hs) (suc i) e lt = let p = parts from h hs e in let b = p.be
 
 module _ (a n : ℕ) where
   -- the holes before stay
-  skip : (h : Hole) (hs : List Hole) → h.first + h.len < a → with_range a n (h ∷ hs) ≡ h ∷ with_range a n hs
+  pub skip : (h : Hole) (hs : List Hole) → h.first + h.len < a → with_range a n (h ∷ hs) ≡ h ∷ with_range a n hs
   skip h hs lt = ⊎_elim (λ t. t.1) (λ u. ⊎_elim (λ t. let q = t.0 in absurd (omega arith)) (λ t. let q = t.0 in absurd (omega arith)) u) (given a n h hs)
 
-  touching : (h : Hole) (hs : List Hole) → h.first + h.len ≡ a → with_range a n (h ∷ hs) ≡ ahead h.first (h.len + n) hs
+  pub touching : (h : Hole) (hs : List Hole) → h.first + h.len ≡ a → with_range a n (h ∷ hs) ≡ ahead h.first (h.len + n) hs
   touching h hs e = ⊎_elim (λ t. let q = t.0 in absurd (omega arith)) (λ u. ⊎_elim (λ t. t.1) (λ t. let q = t.0 in absurd (omega arith)) u) (given a n h hs)
 
-  beyond : (h : Hole) (hs : List Hole) → a < h.first + h.len → with_range a n (h ∷ hs) ≡ ahead a n (h ∷ hs)
+  pub beyond : (h : Hole) (hs : List Hole) → a < h.first + h.len → with_range a n (h ∷ hs) ≡ ahead a n (h ∷ hs)
   beyond h hs lt = ⊎_elim (λ t. let q = t.0 in absurd (omega arith)) (λ u. ⊎_elim (λ t. let q = t.0 in absurd (omega arith)) (λ t. t.1) u) (given a n h hs)
 
-  meets : (x m : ℕ) (h : Hole) (hs : List Hole) → x + m ≡ h.first → ahead x m (h ∷ hs) ≡ range x (m + h.len) ∷ hs
+  pub meets : (x m : ℕ) (h : Hole) (hs : List Hole) → x + m ≡ h.first → ahead x m (h ∷ hs) ≡ range x (m + h.len) ∷ hs
   meets x m h hs e = ⊎_elim (λ t i. if t.0 i then range x (m + h.len) ∷ hs else range x m ∷ h ∷ hs) (λ t. absurd (t.1 e)) (eqb_tells (x + m) h.first)
 
-  misses : (x m : ℕ) (h : Hole) (hs : List Hole) → x + m ≢ h.first → ahead x m (h ∷ hs) ≡ range x m ∷ h ∷ hs
+  pub misses : (x m : ℕ) (h : Hole) (hs : List Hole) → x + m ≢ h.first → ahead x m (h ∷ hs) ≡ range x m ∷ h ∷ hs
   misses x m h hs ne = ⊎_elim (λ t. absurd (ne t.1)) (λ t i. if t.0 i then range x (m + h.len) ∷ hs else range x m ∷ h ∷ hs) (eqb_tells (x + m) h.first)
 
   -- it touches the hole at i, and not the next
@@ -329,7 +329,7 @@ module _ (a n : ℕ) where
 
 -- The hole that is found
 
-not_below : (m n : ℕ) → cond (ltb m n) (Some m) None ≡ None → n ≤ m
+pub not_below : (m n : ℕ) → cond (ltb m n) (Some m) None ≡ None → n ≤ m
 not_below m n h = by (ltb m n) refl h
   where
     by : (b : Bool) → ltb m n ≡ b → cond b (Some m) None ≡ None → n ≤ m

@@ -1,8 +1,8 @@
--- How a clause lies in words: the count of its holders, its number, its size with its glue, and then two literals a word.
+-- A clause in words: the count of its holders, its number, its size with its glue, and then two literals a word.
 use Rattle.std.specs.Prelude.{ℕ, ◌+◌, ◌-◌, ◌*◌, ◌/◌, ◌%◌, ◌^◌, ◌==◌, List, map, length, slice_index_or, if◌then◌else◌}
 use Rattle.sat_words.specs.Literal.{Literal, code_of}
 
--- how many words a clause of this size takes
+-- the number of words that a clause of this size takes
 abbrev pub words_for : ℕ → ℕ
 words_for n = 3 + (n + 1) / 2
 
@@ -18,7 +18,7 @@ half word place = if place % 2 == 0 then word % 2 ^ 32 else word / 2 ^ 32
 abbrev pub code_at : List Literal → ℕ → ℕ
 code_at lits i = slice_index_or (map code_of lits) i 0
 
--- the codes of two literals
+-- the word with the codes of the literals at twice the index and after it
 abbrev pub lit_word : List Literal → ℕ → ℕ
 lit_word lits j = pair_of (code_at lits (2 * j)) (code_at lits (2 * j + 1))
 

@@ -1,19 +1,19 @@
 //! Which words are free.
-ghost use Rattle.std.specs.Prelude.{◌≡◌, ◌<◌, ◌≤◌, ◌+◌, ◌^◌, ◌≢◌, true, false, IfOk, OnOk, IfErr, OnErr, Some, None, position, nat_le, nat_lt, not, ◌&&◌, length, slice_set};
-ghost use Rattle.clause_cell.specs.Free.{first_fit, without_fit, with_range, largest, is_apart, is_clear, end_at, hole_at, SkipTo, range, whole};
-ghost use Rattle.clause_cell.specs.Sides.{IsSide};
-ghost use Rattle.std.specs.List.{remove};
+ghost use Rattle.std.specs.Prelude.{◌≡◌, ◌<◌, ◌≤◌, ◌+◌, ◌^◌, true, false, IfOk, OnOk, IfErr, OnErr, Some, [], ◌∷◌, position, nat_le, length, ℕ, ◌≢◌};
+ghost use Rattle.clause_cell.specs.Free.{first_fit, without_fit, with_range, largest, is_clear, hole_at, range, whole};
+ghost use Rattle.clause_cell.specs.Blocks.{holes_of, block_at, end_of, NoneEmpty, AreBlocks, IsHome, halved};
 ghost use Rattle.clause_cell.specs.declared.holes.HoleStop.TheVariants.{NoHole, Memory};
 
+use crate::block::Block;
 use std::alloc::Global;
 use std::marker::Model;
 
-/// Words that are free, and none beside them is.
+/// A longest run of free words: the word before it and the word after it are not free.
 #[derive(Clone, Copy, Drop)]
 pub struct Hole {
     /// The first of them.
     pub first: u64,
-    /// How many they are.
+    /// The number of them.
     pub len: u64,
 }
 
@@ -22,79 +22,64 @@ pub struct Hole {
 pub enum HoleStop {
     /// No hole is long enough.
     NoHole {
-        /// How many words are needed.
+        /// The number of words that are needed.
         need: u64,
-        /// How long the longest hole is.
+        /// The length of the longest hole.
         largest: u64,
     },
     /// There is no memory for one more hole.
     Memory,
 }
 
-/// The free words: holes in the order of their places, of which no two touch.
+/// The free words: holes in the order of their places. No two of them touch. They are kept in blocks, so that neither a
+/// search nor an insertion goes through all of them.
 #[derive(Drop)]
 pub struct Holes {
-    items: Vec<Hole>,
+    blocks: Vec<Block>,
 }
 
 impl Model for Holes {
-    ghost use Rattle.std.specs.Prelude.{List, ◌≡◌, true};
+    ghost use Rattle.std.specs.Prelude.{List};
     ghost use Rattle.clause_cell.specs.declared.holes.Hole.{Hole};
-    ghost use Rattle.clause_cell.specs.Free.{is_apart};
+    ghost use Rattle.clause_cell.specs.Blocks.{holes_of, AreBlocks};
 
     ghost Value = { List Hole };
 
-    ghost view = { λ h. h.items.items };
+    ghost view = { λ h. holes_of h.blocks.items };
 
-    ghost invariant = { λ h. is_apart 0 h.items.items ≡ true };
+    ghost invariant = { λ h. AreBlocks h.blocks.items };
 }
 
-fn place_of(items: &[Hole], need: u64) -> Option<usize>
-    ensures { result ≡ position (λ h. nat_le need h.len) items.now }
+/// The first block with a hole that is long enough.
+fn block_with(blocks: &[Block], need: u64) -> Option<usize>
+    ensures { result ≡ position (λ b. nat_le need (largest b)) blocks.now }
 {
-    items.iter().position(|h| h.len >= need)
+    blocks.iter().position(|b| b.longest() >= need)
 }
 
-/// How long the longest hole is, 0 if there is none.
-#[tactic(auto, using(crate::proofs::Ranges::largest_next))]
-fn longest(items: &[Hole]) -> u64
-    ensures { result ≡ largest items.now }
+/// The length of the longest hole, 0 if there is none.
+#[tactic(auto, using(crate::proofs::InBlocks::largest_next))]
+fn longest_of(blocks: &[Block]) -> u64
+    ensures { result ≡ largest (holes_of blocks.now) }
 {
     let mut most: u64 = 0;
-    for h in items {
-        most = most.max(h.len);
+    for block in blocks {
+        most = most.max(block.longest());
     }
     most
 }
 
-/// Whether the hole begins after the words, or ends before them.
-fn is_beside(hole: Hole, first: u64, len: u64) -> bool
-    requires { first + len ≤ 2 ^ 63 }
-    ensures { result ≡ not (nat_lt hole.first (first + len) && nat_lt first (hole.first + hole.len)) }
-{
-    hole.first >= first + len || (hole.first <= first && hole.len <= first - hole.first)
-}
-
-/// Whether none of the words is free.
-fn are_clear(items: &[Hole], first: u64, len: u64) -> bool
-    requires { first + len ≤ 2 ^ 63 }
-    ensures { result ≡ is_clear first len items.now }
-{
-    items.iter().all(|h| is_beside(*h, first, len))
-}
-
-/// How many holes end before the place and do not touch it.
-fn before(items: &[Hole], first: u64) -> usize
-    requires { is_apart 0 items.now ≡ true }
-    ensures bound { result ≤ length items.now }
-    ensures front { SkipTo first items.now result }
-    ensures stop { result < length items.now → first ≤ end_at items.now result }
+/// The index of the block for words from the first on.
+fn home(blocks: &[Block], first: u64) -> usize
+    requires blocks { AreBlocks blocks.now }
+    requires some { 0 < length blocks.now }
+    ensures { IsHome first blocks.now result }
 {
     let mut low = 0;
-    let mut high = items.len();
+    let mut high = blocks.len() - 1;
     while low < high {
         let middle = low + (high - low) / 2;
-        if items[middle].first + items[middle].len < first {
+        if blocks[middle].end() < first {
             low = middle + 1;
         } else {
             high = middle;
@@ -103,142 +88,167 @@ fn before(items: &[Hole], first: u64) -> usize
     low
 }
 
-/// Whether there is a hole at the place that ends at the word.
-fn ends_at(items: &[Hole], i: usize, word: u64) -> bool
-    requires { is_apart 0 items.now ≡ true }
-    ensures yes { result ≡ true → (i < length items.now) × (end_at items.now i ≡ word) }
-    ensures no { result ≡ false → i < length items.now → end_at items.now i ≢ word }
+/// Whether there is a block at the index that begins before the word.
+fn begins_before(blocks: &[Block], i: usize, word: u64) -> bool
+    requires { NoneEmpty blocks.now }
+    ensures yes { result ≡ true → (i < length blocks.now) × ((hole_at (block_at blocks.now i) 0).first < word) }
+    ensures no { result ≡ false → i < length blocks.now → word ≤ (hole_at (block_at blocks.now i) 0).first }
 {
-    i < items.len() && items[i].first + items[i].len == word
+    i < blocks.len() && blocks[i].first().first < word
 }
 
-/// Whether there is a hole at the place that begins at the word.
-fn begins_at(items: &[Hole], i: usize, word: u64) -> bool
-    ensures yes { result ≡ true → (i < length items.now) × ((hole_at items.now i).first ≡ word) }
-    ensures no { result ≡ false → i < length items.now → (hole_at items.now i).first ≢ word }
+/// Whether there is a block at the index that begins at the word.
+fn begins_at(blocks: &[Block], i: usize, word: u64) -> bool
+    requires { NoneEmpty blocks.now }
+    ensures yes { result ≡ true → (i < length blocks.now) × ((hole_at (block_at blocks.now i) 0).first ≡ word) }
+    ensures no { result ≡ false → i < length blocks.now → (hole_at (block_at blocks.now i) 0).first ≢ word }
 {
-    i < items.len() && items[i].first == word
+    i < blocks.len() && blocks[i].first().first == word
 }
 
-/// What a range touches: the holes on both sides, one of them, or none.
-#[derive(Clone, Copy)]
-enum Side {
-    Both,
-    Left,
-    Right,
-    Neither,
-}
-
-/// What the range touches, if the holes before the place end before it.
-fn side_of(items: &[Hole], i: usize, first: u64, len: u64) -> Side
-    requires { (is_apart 0 items.now ≡ true) × (first + len ≤ 2 ^ 63) × (i ≤ length items.now) }
-    ensures { IsSide items.now i first len result }
+/// Whether none of the words is free.
+fn are_clear(blocks: &[Block], first: u64, len: u64) -> bool
+    requires blocks { AreBlocks blocks.now }
+    requires range { first + len ≤ 2 ^ 63 }
+    ensures { result ≡ is_clear first len (holes_of blocks.now) }
 {
-    if ends_at(items, i, first) {
-        if begins_at(items, i + 1, first + len) {
-            return Side::Both;
-        }
-        return Side::Left;
+    if blocks.is_empty() {
+        return true;
     }
-    if begins_at(items, i, first + len) {
-        return Side::Right;
+    let i = home(blocks, first);
+    blocks[i].is_clear(first, len) && !begins_before(blocks, i + 1, first + len)
+}
+
+/// Removes the block if it is empty.
+fn drop_empty(blocks: &mut Vec<Block>, i: usize)
+    requires inside { i < length blocks.old.items }
+    requires others { (k : ℕ) → k < length blocks.old.items → k ≢ i → 0 < length (block_at blocks.old.items k) }
+    ensures same { holes_of blocks.new.items ≡ holes_of blocks.old.items }
+    ensures filled { NoneEmpty blocks.new.items }
+{
+    if blocks[i].is_empty() {
+        blocks.remove(i);
     }
-    Side::Neither
 }
 
-/// Makes one hole of those at the place and after it, and of the words between them.
-fn join_both(items: &mut Vec<Hole>, i: usize, len: u64)
-    requires { (is_apart 0 items.old.items ≡ true) × (i + 1 < length items.old.items) × (end_at items.old.items i + len ≡ (hole_at items.old.items (i + 1)).first) }
-    ensures { items.new.items ≡ slice_set (remove items.old.items (i + 1)) i (range (hole_at items.old.items i).first ((hole_at items.old.items i).len + (len + (hole_at items.old.items (i + 1)).len))) }
+/// Takes the front of the first hole that is long enough, in the first block with such a hole.
+fn take_at(blocks: &mut Vec<Block>, i: usize, need: u64) -> u64
+    requires blocks { AreBlocks blocks.old.items }
+    requires need { 0 < need }
+    requires place { position (λ b. nat_le need (largest b)) blocks.old.items ≡ Some i }
+    ensures found { first_fit need (holes_of blocks.old.items) ≡ Some result }
+    ensures left { holes_of blocks.new.items ≡ without_fit need (holes_of blocks.old.items) }
+    ensures filled { NoneEmpty blocks.new.items }
 {
-    let next = items[i + 1];
-    let hole = items[i];
-    items.remove(i + 1);
-    items[i] = Hole {
-        first: hole.first,
-        len: hole.len + (len + next.len),
-    };
+    let first = blocks[i].take(need);
+    drop_empty(blocks, i);
+    first
 }
 
-/// Makes the hole at the place longer.
-fn join_left(items: &mut Vec<Hole>, i: usize, len: u64)
-    requires { (is_apart 0 items.old.items ≡ true) × (i < length items.old.items) × (end_at items.old.items i + len ≤ 2 ^ 63) }
-    ensures { items.new.items ≡ slice_set items.old.items i (range (hole_at items.old.items i).first ((hole_at items.old.items i).len + len)) }
-{
-    let hole = items[i];
-    items[i] = Hole {
-        first: hole.first,
-        len: hole.len + len,
-    };
-}
-
-/// Makes the hole at the place begin earlier.
-fn join_right(items: &mut Vec<Hole>, i: usize, first: u64, len: u64)
-    requires { (is_apart 0 items.old.items ≡ true) × (i < length items.old.items) × ((hole_at items.old.items i).first ≡ first + len) }
-    ensures { items.new.items ≡ slice_set items.old.items i (range first (len + (hole_at items.old.items i).len)) }
-{
-    let hole = items[i];
-    items[i] = Hole {
-        first,
-        len: len + hole.len,
-    };
-}
-
-/// Gives the range back, merged with the holes that it touches.
-fn put_back(items: &mut Vec<Hole>, first: u64, len: u64) -> Result<(), HoleStop>
-    requires apart { is_apart 0 items.old.items ≡ true }
-    requires range { (0 < len) × (first + len ≤ 2 ^ 63) }
-    requires clear { is_clear first len items.old.items ≡ true }
-    ensures given { OnOk result (items.new.items ≡ with_range first len items.old.items) }
-    ensures back { OnErr result (items.new.items ≡ items.old.items) }
+/// Splits the block in half.
+fn halve(blocks: &mut Vec<Block>, i: usize) -> Result<(), HoleStop>
+    requires { i < length blocks.old.items }
+    ensures halved { OnOk result (blocks.new.items ≡ halved blocks.old.items i) }
+    ensures back { OnErr result (blocks.new.items ≡ blocks.old.items) }
     ensures memory { IfErr result (λ e. e ≡ Memory) }
 {
-    let i = before(items.as_slice(), first);
-    match side_of(items.as_slice(), i, first, len) {
-        Side::Both => {
-            join_both(items, i, len);
-            Ok(())
-        }
-        Side::Left => {
-            join_left(items, i, len);
-            Ok(())
-        }
-        Side::Right => {
-            join_right(items, i, first, len);
-            Ok(())
-        }
-        Side::Neither => {
-            if items.insert(i, Hole { first, len }).is_err() {
-                return Err(HoleStop::Memory);
-            }
-            Ok(())
-        }
+    let upper = blocks[i].upper_half()?;
+    if blocks.insert(i + 1, upper).is_err() {
+        return Err(HoleStop::Memory);
     }
+    blocks[i].keep_lower_half();
+    Ok(())
 }
 
-/// Takes the front of the first hole that is long enough.
-fn cut(items: &mut Vec<Hole>, need: u64) -> Option<u64>
-    requires apart { is_apart 0 items.old.items ≡ true }
-    ensures found { result ≡ first_fit need items.old.items }
-    ensures left { items.new.items ≡ without_fit need items.old.items }
-    ensures apart { is_apart 0 items.new.items ≡ true }
-    ensures none { result ≡ None → items.new.items ≡ items.old.items }
+/// The index of the block for words from the first on, which has room for one more hole.
+fn home_with_room(blocks: &mut Vec<Block>, first: u64) -> Result<usize, HoleStop>
+    requires blocks { AreBlocks blocks.old.items }
+    requires some { 0 < length blocks.old.items }
+    ensures same { holes_of blocks.new.items ≡ holes_of blocks.old.items }
+    ensures filled { NoneEmpty blocks.new.items }
+    ensures home { IfOk result (λ i. IsHome first blocks.new.items i) }
+    ensures room { IfOk result (λ i. length (block_at blocks.new.items i) < 256) }
+    ensures memory { IfErr result (λ e. e ≡ Memory) }
 {
-    match place_of(items.as_slice(), need) {
-        Some(i) => {
-            let hole = items[i];
-            if hole.len == need {
-                items.remove(i);
-            } else {
-                items[i] = Hole {
-                    first: hole.first + need,
-                    len: hole.len - need,
-                };
-            }
-            Some(hole.first)
-        }
-        None => None,
+    let i = home(blocks.as_slice(), first);
+    if !blocks[i].is_full() {
+        return Ok(i);
     }
+    halve(blocks, i)?;
+    if blocks[i].end() < first {
+        return Ok(i + 1);
+    }
+    Ok(i)
+}
+
+/// Gives words back that touch the next block, and takes the first hole of that block to them.
+fn give_over(blocks: &mut Vec<Block>, i: usize, first: u64, len: u64) -> Result<(), HoleStop>
+    requires blocks { AreBlocks blocks.old.items }
+    requires range { 0 < len }
+    requires clear { is_clear first len (holes_of blocks.old.items) ≡ true }
+    requires home { IsHome first blocks.old.items i }
+    requires room { length (block_at blocks.old.items i) < 256 }
+    requires next { (i + 1 < length blocks.old.items) × ((hole_at (block_at blocks.old.items (i + 1)) 0).first ≡ first + len) }
+    ensures given { OnOk result (holes_of blocks.new.items ≡ with_range first len (holes_of blocks.old.items)) }
+    ensures back { OnErr result (holes_of blocks.new.items ≡ holes_of blocks.old.items) }
+    ensures filled { NoneEmpty blocks.new.items }
+    ensures memory { IfErr result (λ e. e ≡ Memory) }
+{
+    let next = blocks[i + 1].first();
+    blocks[i].give(first, len + next.len)?;
+    blocks[i + 1].remove_first();
+    drop_empty(blocks, i + 1);
+    Ok(())
+}
+
+/// Gives words back to the block at the index.
+fn give_at(blocks: &mut Vec<Block>, i: usize, first: u64, len: u64) -> Result<(), HoleStop>
+    requires blocks { AreBlocks blocks.old.items }
+    requires range { (0 < len) × (first + len ≤ 2 ^ 63) }
+    requires clear { is_clear first len (holes_of blocks.old.items) ≡ true }
+    requires home { IsHome first blocks.old.items i }
+    requires room { length (block_at blocks.old.items i) < 256 }
+    ensures given { OnOk result (holes_of blocks.new.items ≡ with_range first len (holes_of blocks.old.items)) }
+    ensures back { OnErr result (holes_of blocks.new.items ≡ holes_of blocks.old.items) }
+    ensures filled { NoneEmpty blocks.new.items }
+    ensures memory { IfErr result (λ e. e ≡ Memory) }
+{
+    if begins_at(blocks.as_slice(), i + 1, first + len) {
+        return give_over(blocks, i, first, len);
+    }
+    blocks[i].give(first, len)
+}
+
+/// Makes a block of the words.
+fn add_block(blocks: &mut Vec<Block>, first: u64, len: u64) -> Result<(), HoleStop>
+    requires none { length blocks.old.items ≡ 0 }
+    requires range { (0 < len) × (first + len ≤ 2 ^ 63) }
+    ensures given { OnOk result (blocks.new.items ≡ (range first len ∷ []) ∷ []) }
+    ensures back { OnErr result (blocks.new.items ≡ blocks.old.items) }
+    ensures memory { IfErr result (λ e. e ≡ Memory) }
+{
+    let block = Block::new(*blocks.allocator(), first, len)?;
+    if blocks.push(block).is_err() {
+        return Err(HoleStop::Memory);
+    }
+    Ok(())
+}
+
+/// Gives words back, merged with the holes that they touch.
+fn give_to(blocks: &mut Vec<Block>, first: u64, len: u64) -> Result<(), HoleStop>
+    requires blocks { AreBlocks blocks.old.items }
+    requires range { (0 < len) × (first + len ≤ 2 ^ 63) }
+    requires clear { is_clear first len (holes_of blocks.old.items) ≡ true }
+    ensures given { OnOk result (holes_of blocks.new.items ≡ with_range first len (holes_of blocks.old.items)) }
+    ensures back { OnErr result (holes_of blocks.new.items ≡ holes_of blocks.old.items) }
+    ensures filled { NoneEmpty blocks.new.items }
+    ensures memory { IfErr result (λ e. e ≡ Memory) }
+{
+    if blocks.is_empty() {
+        return add_block(blocks, first, len);
+    }
+    let i = home_with_room(blocks, first)?;
+    give_at(blocks, i, first, len)
 }
 
 impl Holes {
@@ -248,14 +258,14 @@ impl Holes {
         ensures made { IfOk result (λ h. h ≡ whole first len) }
         ensures memory { IfErr result (λ e. e ≡ Memory) }
     {
-        let mut items = Vec::new(alloc);
-        if len > 0 && items.push(Hole { first, len }).is_err() {
-            return Err(HoleStop::Memory);
+        let mut blocks = Vec::new(alloc);
+        if len > 0 {
+            add_block(&mut blocks, first, len)?;
         }
-        Ok(Holes { items })
+        Ok(Holes { blocks })
     }
 
-    /// Takes this many words from the front of the first hole that has them.
+    /// Takes this number of words from the front of the first hole that has them.
     pub fn take(&mut self, need: u64) -> Result<u64, HoleStop>
         requires { 0 < need }
         ensures found { IfOk result (λ a. first_fit need self.old ≡ Some a) }
@@ -263,13 +273,13 @@ impl Holes {
         ensures none { IfErr result (λ e. (e ≡ NoHole need (largest self.old)) × (largest self.old < need)) }
         ensures back { OnErr result (self.new ≡ self.old) }
     {
-        if let Some(first) = cut(&mut self.items, need) {
-            return Ok(first);
+        match block_with(self.blocks.as_slice(), need) {
+            Some(i) => Ok(take_at(&mut self.blocks, i, need)),
+            None => Err(HoleStop::NoHole {
+                need,
+                largest: longest_of(self.blocks.as_slice()),
+            }),
         }
-        Err(HoleStop::NoHole {
-            need,
-            largest: longest(self.items.as_slice()),
-        })
     }
 
     /// Gives words back.
@@ -280,10 +290,7 @@ impl Holes {
         ensures back { OnErr result (self.new ≡ self.old) }
         ensures memory { IfErr result (λ e. e ≡ Memory) }
     {
-        match put_back(&mut self.items, first, len) {
-            Ok(()) => Ok(()),
-            Err(stop) => Err(stop),
-        }
+        give_to(&mut self.blocks, first, len)
     }
 
     /// Whether none of the words is free.
@@ -291,13 +298,13 @@ impl Holes {
         requires { first + len ≤ 2 ^ 63 }
         ensures { result ≡ is_clear first len self.now }
     {
-        are_clear(self.items.as_slice(), first, len)
+        are_clear(self.blocks.as_slice(), first, len)
     }
 
-    /// How long the longest hole is, 0 if there is none.
+    /// The length of the longest hole, 0 if there is none.
     pub fn largest(&self) -> u64
         ensures { result ≡ largest self.now }
     {
-        longest(self.items.as_slice())
+        longest_of(self.blocks.as_slice())
     }
 }

@@ -1,10 +1,12 @@
-//! How clauses lie in words: how many words a clause takes, how its head and its literals are packed, and which words
+//! Clauses in words: the number of words that a clause takes, the packing of its head and its literals, and the words that
 //! are free.
 #![tactic(auto)]
 
+mod block;
 mod holes;
 mod laws;
 mod packing;
+mod sorted;
 
 pub use holes::{Hole, HoleStop, Holes};
 pub use laws::{

@@ -4,7 +4,7 @@ ghost use Rattle.clause_cell.specs.Packing.{words_for, pair_of, half, code_at, l
 
 use sat_words::Lit;
 
-/// How many words a clause of this size takes: its count, its number, its head, and two literals a word.
+/// The number of words that a clause of this size takes: its count, its number, its head, and two literals a word.
 pub fn words_for(size: u32) -> u64
     ensures { result ≡ words_for size }
 {
@@ -24,7 +24,7 @@ pub fn head_word(size: u32, glue: u32) -> u64
     packed(size, glue)
 }
 
-/// The word with the codes of two literals; the second is 0 if there is none.
+/// The word with the codes of two literals. The second is 0 if there is no second literal.
 pub fn pair_word(first: u32, second: u32) -> u64
     ensures { result ≡ pair_of first second }
 {

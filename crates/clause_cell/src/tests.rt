@@ -1,4 +1,4 @@
-// Cells written and read back, worked holes, and holes beside a plain bitmap.
+// Cells written and read back, worked holes, and holes compared with a plain bitmap.
 ghost use Rattle.std.specs.Prelude.{◌≡◌, ◌<◌, ◌≤◌, ◌+◌, ◌^◌};
 
 use crate::{HoleStop, Holes, glue_of, half, head_word, lit_word, pair_word, size_of, words_for};
@@ -7,7 +7,7 @@ use std::alloc::Global;
 use std::process::Abort;
 use std::test::Fail;
 
-/// Sizes of clauses, and how many words they take.
+/// Sizes of clauses, and the number of words that each takes.
 const SIZES: &[(u32, u64)] = &[(2, 4), (3, 5), (4, 5), (5, 6), (40, 23)];
 
 #[test]
@@ -60,7 +60,7 @@ fn literals_are_read_back(rt: HostRuntime) -> Result<(), Fail> {
     Ok(())
 }
 
-/// So many words from the place on, all free.
+/// This number of words from the place on, all free.
 fn hole(alloc: Global, first: u64, len: u64) -> Result<Holes, Fail>
     requires { first + len ≤ 2 ^ 63 }
 {
@@ -81,7 +81,7 @@ fn give(holes: &mut Holes, first: u64, len: u64) -> Result<(), Fail> {
     }
 }
 
-/// Ten words from 100 on, of which four are taken and given back.
+/// Four of ten words from 100 on are taken and given back.
 #[test]
 fn words_are_taken_and_given_back(rt: HostRuntime) -> Result<(), Fail> {
     let mut holes = hole(rt.alloc(), 100, 10)?;
@@ -98,7 +98,7 @@ fn words_are_taken_and_given_back(rt: HostRuntime) -> Result<(), Fail> {
     Ok(())
 }
 
-/// Knuth's linear congruential generator of MMIX, of which the high bits are taken.
+/// The high bits of Knuth's linear congruential generator of MMIX.
 #[derive(Drop)]
 struct Numbers {
     state: u64,
@@ -118,7 +118,7 @@ impl Numbers {
     }
 }
 
-/// How many words the map has.
+/// The number of words that the map has.
 const WORDS: u64 = 96;
 
 /// Which words are free, one by one, and the ranges that were taken.
@@ -142,7 +142,7 @@ impl Map {
         })
     }
 
-    /// The first place from which on this many words are free.
+    /// The first place from which on this number of words is free.
     fn first_fit(&self, need: u64) -> Option<u64> {
         for first in 0..WORDS {
             if first.saturating_add(need) <= WORDS
@@ -222,7 +222,7 @@ fn holes_are_those_of_a_map(rt: HostRuntime) -> Result<(), Fail> {
 
 // The next two are what bench/cells measures.
 
-/// How many holes.
+/// The number of holes.
 const HOLES: u64 = 100_000;
 
 /// Holes of two words, and after them one of three.

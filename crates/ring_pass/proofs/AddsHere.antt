@@ -79,6 +79,7 @@ wrote_clause {S} {d} {written} {flushed} {target} {faults} {v} {w} {t} {t'} u ki
         gave = turn_given v w u J t.book.log.lines.spent (n ∷ []) t'.noted.items t'.refused t'.book.log.lines.spent has is noted (failed_taken J h has g.turn);
         going = (λ i. ended (sym has.opening i).formula (sym before i)) ∙ g.going.0.going;
         whole = g.whole;
+        quiet = g.refused ∙ h.taken.refused;
       };
       number_is = omega arith;
     }

@@ -22,15 +22,18 @@ use Rattle.ring_port.specs.PortState.{Holding, PortState, IsPort, HoldsStart, he
 use Rattle.ring_port.proofs.Holdings.{holding}
 use Rattle.ring_pass.specs.RingState.{Own, port_of, home_of, holding_of, IsOwn}
 use Rattle.ring_pass.proofs.RingPorts.{there_here}
+use Rattle.ring_pass.specs.Refusals.{answer_noted}
+use Rattle.std.specs.Option.{option_map}
 
 -- nothing is kept yet
-pub own_begun : (p : RingPart) (o : Own) → o.arrived ≡ [] → o.passed ≡ 0 → o.taken ≡ [] → o.ended ≡ false → o.refused ≡ None → IsOwn p o
-own_begun p o none zero_is empty going fine = record {
+pub own_begun : (p : RingPart) (o : Own) → o.arrived ≡ [] → o.passed ≡ 0 → o.taken ≡ [] → o.ended ≡ false → o.refused ≡ None → p.refused ≡ None → IsOwn p o
+own_begun p o none zero_is empty going fine quiet = record {
   passed = let z = zero_is in omega arith;
   distinct = subst (λ (ls : List Literal). distinct_lits ls ≡ true) (sym none) refl;
   told = subst (λ (ls : List Literal). All (λ l. has p.core.seen l ≡ true) ls) (sym none) (λ k d lt. absurd (omega arith));
   taken = subst (λ (cs : List Cref). All (λ c. 0 < times_at c.address p.core.held) cs) (sym empty) (λ k d lt. absurd (omega arith));
   ended_is = λ e. absurd (true≢false (sym e ∙ going));
+  refused_is = fine ∙ ap (option_map answer_noted) (sym quiet);
   faulty_is = λ e. absurd (true≢false (sym (ap is_usable fine) ∙ e));
 }
 

@@ -23,7 +23,7 @@ use Rattle.share_rule.specs.declared.view.Refusal.{Refusal}
 use Rattle.share_rule.specs.declared.view.RingPart.{RingPart}
 use Rattle.share_rule.specs.declared.view.View.{View}
 use Rattle.share_rule.specs.Passes.{IsPassOf}
-use Rattle.share_rule.specs.Turns.{IsFree, sheet_after, give_part}
+use Rattle.share_rule.specs.Turns.{IsFree, sheet_after, give_part, newer}
 use Rattle.share_rule.specs.Views.{only, clause_in}
 use Rattle.log_book.specs.declared.stop.TurnStop.{TurnStop}
 use Rattle.ring_port.specs.declared.stops.PortStop.{PortStop}
@@ -32,12 +32,14 @@ use Rattle.ring_port.specs.Port.{is_usable}
 use Rattle.ring_port.specs.PortState.{PortState}
 use Rattle.ring_pass.specs.declared.waiting.Waiting.{Waiting}
 use Rattle.ring_pass.specs.Deletions.{deletions_of, Deleted, DeletedSome}
-use Rattle.ring_pass.specs.Refusals.{port_stop, refused_after, ended_after}
+use Rattle.ring_pass.specs.Refusals.{port_stop, refused_after, ended_after, answer_noted}
 use Rattle.ring_pass.specs.RingState.{Own, holding_of, port_with, port_of, home_of, IsOwn, IsWaiting, AreWaiting, IsRingPass, HasRoom, HasUnits}
 use Rattle.ring_pass.specs.Writes.{entries_of, sheet_with, Wrote}
 use Rattle.ring_pass.proofs.PollsHere.{port_step}
+use Rattle.ring_pass.proofs.RingPorts.{rings_here}
 use Rattle.ring_pass.proofs.Stays.{only_is, one_is, units_keep}
-use Rattle.ring_pass.proofs.TurnsHere.{mine_last, not_ended, refused_here, room_refused, units_refused, ring_turns, end_refused, fault_refused, fault_alone}
+use Rattle.ring_pass.proofs.TurnsHere.{mine_last, not_ended, refused_here, room_refused, units_refused, ring_turns, end_refused, fault_refused, fault_alone, answer_here}
+use Rattle.std.specs.Option.{option_map}
 
 -- Lists
 
@@ -101,6 +103,7 @@ deleted_none v one free = record {
   polls = refl;
   caught_up = refl;
   turn = free;
+  refused = refl;
   waiting = refl;
   wrote = sym (append-nil (entries_of (only v)));
   going = λ lt. absurd (omega arith);
@@ -155,6 +158,7 @@ deleted_more v w u k ws x d a lt e h =
       polls = ap (λ (q : RingPart). q.polls) now ∙ d.polls;
       caught_up = ap (λ (q : RingPart). q.caught_up) now ∙ d.caught_up;
       turn = refl;
+      refused = ap (λ (y : Option Refusal). newer y (only w).refused) h.quiet ∙ ap (λ (q : RingPart). q.refused) now ∙ d.refused;
       waiting = ap (without_at x.cell.address) waits ∙ f.2 ∙ ap (λ (m : ℕ). drop m hs) step;
       wrote = mine_last (only w).core.wrote (record { place = length h.journal; entry = Del (only w).core.ring (clause_in x.cell.address (only w).core.waiting).number })
           ∙ (λ i. (ap entries_of now ∙ d.wrote) i ++ Del (ring i) (number i) ∷ [])
@@ -195,18 +199,19 @@ tidied_here v w o k home own d hm = record {
     mine = d.wrote ∙ ap (λ (es : List Entry). entries_of (only v) ++ es) (dels_take (only v).glues (only v).core.ring k (only v).core.waiting)
 
 -- what is kept beside stays
-own_deleted : (v : View) (o : Own) (p : RingPart) (home : List ℕ) → p.core ≡ record (only v).core { waiting = p.core.waiting; wrote = p.core.wrote } → ((only v).ended ≡ true → p.ended ≡ true) → ((only v).failed ≡ true → p.failed ≡ true) → IsOwn (only v) o → IsOwn p (record o { home = home })
-own_deleted v o p home core end fail own = record {
+own_deleted : (v : View) (o : Own) (p : RingPart) (home : List ℕ) → p.core ≡ record (only v).core { waiting = p.core.waiting; wrote = p.core.wrote } → ((only v).ended ≡ true → p.ended ≡ true) → ((only v).failed ≡ true → p.failed ≡ true) → p.refused ≡ (only v).refused → IsOwn (only v) o → IsOwn p (record o { home = home })
+own_deleted v o p home core end fail refused own = record {
   passed = own.passed;
   distinct = own.distinct;
   told = subst (λ (ls : List Literal). All (λ l. has ls l ≡ true) o.arrived) (sym (ap (λ (c : Part). c.seen) core)) own.told;
   taken = subst (λ (hs : List ClauseAt). All (λ c. 0 < times_at c.address hs) o.taken) (sym (ap (λ (c : Part). c.held) core)) own.taken;
   ended_is = λ e. end (own.ended_is e);
+  refused_is = own.refused_is ∙ ap (option_map answer_noted) (sym refused);
   faulty_is = λ e. fail (own.faulty_is e);
 }
 
 pub ring_deleted : {B : Type 0} {t : Shared B} {p : Seat (Option B) View} {n : ℕ} {st : List Cref} {o : Own} (q : Seat (Option B) View) (k : ℕ) → IsRingPass t p n st o → IsPassOf t q → q.id ≡ p.id → q.me.1 ≡ [] → Deleted p.me.0 q.me.0 k → IsRingPass t q n st (record o { home = home_of q })
-ring_deleted {B} {t} {p} {n} {st} {o} q k r pass id slots d = ring_turns q d.part (record o { home = home_of q }) r pass id slots d.opening d.parts (ap (λ (c : Part). c.ring) d.core) d.turn refl (own_deleted p.me.0 o d.part (home_of q) d.core d.ended_is d.failed_is r.own)
+ring_deleted {B} {t} {p} {n} {st} {o} q k r pass id slots d = ring_turns q d.part (record o { home = home_of q }) r pass id slots d.opening d.parts (ap (λ (c : Part). c.ring) d.core) d.turn refl (own_deleted p.me.0 o d.part (home_of q) d.core d.ended_is d.failed_is d.refused r.own)
     (λ lone e. r.alone_is lone (d.failed_was e))
 
 -- fewer wait, in as much room
@@ -236,19 +241,24 @@ units_deleted v w k seen a b d m = units_keep v w seen a b (ap (λ (p : RingPart
 
 -- at the ring, before what was refused
 own_middle : (v m : View) (o : Own) (k : ℕ) → Deleted v m k → IsOwn (only v) o → IsOwn (only m) o
-own_middle v m o k d own = subst (λ (p : RingPart). IsOwn p o) (sym (only_is m d.part d.parts)) (own_deleted v o d.part o.home d.core d.ended_is d.failed_is own)
+own_middle v m o k d own = subst (λ (p : RingPart). IsOwn p o) (sym (only_is m d.part d.parts)) (own_deleted v o d.part o.home d.core d.ended_is d.failed_is d.refused own)
 
-pub tidied_some : {v u : View} {many k : ℕ} {e : TurnStop} (o : Own) (s : PortState) (kept : Option PortStop) (over : Bool) (stop : PortStop) (home : List ℕ) → port_of v o ≡ s → IsOwn (only v) o → DeletedSome v u many k e → many ≡ length (only v).core.waiting → kept ≡ refused_after e o.refused → over ≡ ended_after e o.ended → stop ≡ port_stop e → home ≡ o.home
-    → TidiedSome s (port_of u (record o { refused = kept; ended = over; home = home })) stop
-tidied_some {v} {u} {many} {k} {e} o s kept over stop home view own d all kp b t hm =
+pub tidied_some : {B : Type 0} {t : Shared B} {p : Seat (Option B) View} {n : ℕ} {st : List Cref} {u : View} {many k : ℕ} {e : TurnStop} (o : Own) (s : PortState) (kept : Option PortStop) (over : Bool) (stop : PortStop) (home : List ℕ) → port_of p.me.0 o ≡ s → IsRingPass t p n st o → is_usable s.refused ≡ true → DeletedSome p.me.0 u many k e
+    → many ≡ length (only p.me.0).core.waiting → kept ≡ refused_after e o.refused → over ≡ ended_after e o.ended → stop ≡ port_stop e → home ≡ o.home → TidiedSome s (port_of u (record o { refused = kept; ended = over; home = home })) stop
+tidied_some {B} {t} {p} {n} {st} {u} {many} {k} {e} o s kept over stop home view r usable d all kp b t' hm =
+    let v : View = p.me.0 in
+    let m : View = d.middle in
     let long = length-map (only v).core.waiting (holding_of (only v).glues) in
     let lt = d.some in
-    subst (λ (y : PortState × Option PortStop × Bool × PortStop). TidiedSome y.0 (port_of u (record o { refused = y.1; ended = y.2; home = home })) y.3) (λ i. (view i, sym kp i, sym b i, sym t i)) (record {
+    let rings : m.opening.rings ≡ v.opening.rings = ap (λ (x : CoreOpening). x.rings) d.first.opening in
+    let some : 1 ≤ m.opening.rings = (let one = (rings_here v r.pass.3 r.one).0 in omega arith) in
+    let was : m.opening.rings ≡ 1 → (only m).failed ≡ true → is_usable o.refused ≡ false = λ lone f. r.alone_is (sym rings ∙ lone) (d.first.failed_was (ap (λ (x : RingPart). x.failed) (sym (only_is m d.first.part d.first.parts)) ∙ f)) in
+    subst (λ (y : PortState × Option PortStop × Bool × PortStop). TidiedSome y.0 (port_of u (record o { refused = y.1; ended = y.2; home = home })) y.3) (λ i. (view i, sym kp i, sym b i, sym t' i)) (record {
       many = k;
       some = omega arith;
-      middle = port_of d.middle o;
-      first = tidied_here v d.middle o k o.home own d.first refl;
-      refused = refused_here d.middle u o e home (own_middle v d.middle o k d.first own) d.refused hm;
+      middle = port_of m o;
+      first = tidied_here v m o k o.home r.own d.first refl;
+      refused = refused_here m u o e home (own_middle v m o k d.first r.own) (ap (λ (y : PortState). is_usable y.refused) view ∙ usable) was some d.refused hm;
     })
 
 pub ring_some : {B : Type 0} {t : Shared B} {p : Seat (Option B) View} {n : ℕ} {st : List Cref} {o : Own} (q : Seat (Option B) View) (many k : ℕ) (e : TurnStop) (kept : Option PortStop) (over : Bool) → IsRingPass t p n st o → is_usable o.refused ≡ true → IsPassOf t q → q.id ≡ p.id → q.me.1 ≡ [] → DeletedSome p.me.0 q.me.0 many k e → kept ≡ refused_after e o.refused → over ≡ ended_after e o.ended
@@ -259,7 +269,7 @@ ring_some {B} {t} {p} {n} {st} {o} q many k e kept over r usable pass id slots d
     let own = own_middle p.me.0 m o k d.first r.own in
     let ring : (only m).core.ring ≡ (only p.me.0).core.ring = ap (λ (x : RingPart). x.core.ring) (only_is m d.first.part d.first.parts) ∙ ap (λ (c : Part). c.ring) d.first.core in
     ring_turns q (give_part m.opening (sheet_with w.journal (only m)) w.refused w.failed (only m)) (record o { refused = kept; ended = over; home = home_of q }) r pass id slots (w.gave.opening ∙ d.first.opening) w.gave.parts ring refl refl
-    (record { passed = own.passed; distinct = own.distinct; told = own.told; taken = own.taken; ended_is = λ x. end_refused m o w.journal e own w.why (sym b ∙ x); faulty_is = λ x. fault_refused m q.me.0 o e own w (ap is_usable (sym a) ∙ x) })
+    (record { passed = own.passed; distinct = own.distinct; told = own.told; taken = own.taken; ended_is = λ x. end_refused m o w.journal e own w.why (sym b ∙ x); refused_is = a ∙ answer_here m q.me.0 o e own w; faulty_is = λ x. fault_refused m q.me.0 o e own w (ap is_usable (sym a) ∙ x) })
     (λ lone f. ap is_usable a ∙ fault_alone m q.me.0 o e usable (λ f'. r.alone_is lone (d.first.failed_was (ap (λ (x : RingPart). x.failed) (sym (only_is m d.first.part d.first.parts)) ∙ f'))) w (ap (λ (x : CoreOpening). x.rings) d.first.opening ∙ lone) f)
 
 pub room_some : (v u : View) (many k : ℕ) (e : TurnStop) (last : Option Cref) (ws ws' : List Waiting) (room room' : ℕ) → DeletedSome v u many k e → ws' ≡ drop k ws → room' ≡ room → HasRoom (only v) v.opening.rings last ws room → HasRoom (only u) u.opening.rings last ws' room'

@@ -45,6 +45,7 @@ use Rattle.ring_pass.proofs.PollsHere.{port_step, map_last, map_same}
 use Rattle.ring_pass.proofs.RingPorts.{held_here, there_here, nothing_here, lits_here}
 use Rattle.ring_pass.proofs.Stays.{only_is}
 use Rattle.ring_pass.proofs.TurnsHere.{mine_last, ring_turns, room_turns, units_turns}
+use Rattle.ring_pass.specs.Refusals.{answer_noted}
 
 -- Lists
 
@@ -172,6 +173,7 @@ ring_adds {B} {t} {p} {n} {st} {o} q kind lits glue a last r pass id slots f =
       taken = subst (λ (hs : List ClauseAt). All (λ x. 0 < times_at x.address hs) o.taken) (sym (ap (λ (k : Part). k.held) f.core))
           (all_map (λ (x : Cref). 0 < times_at x.address (only p.me.0).core.held) (λ (x : Cref). 0 < times_at x.address ((only p.me.0).core.held ++ clause_with a f.number lits ∷ [])) o.taken (λ x i lt. let m = at_both x.address (only p.me.0).core.held (clause_with a f.number lits ∷ []) in omega arith) r.own.taken);
       ended_is = λ e. f.ended_is (r.own.ended_is e);
+      refused_is = r.own.refused_is ∙ ap (option_map answer_noted) (sym f.refused);
       faulty_is = λ e. f.failed_is (r.own.faulty_is e);
     })
     (λ _ e. absurd (true≢false (sym e ∙ f.whole)))

@@ -81,6 +81,7 @@ own_drops p o a n last home has apart own =
           let z : one_if (h.address == c.address) ≡ 0 = ap one_if (ne_eqb h.address c.address (λ e. ne (sym e ∙ f.1))) in
           omega arith);
       ended_is = own.ended_is;
+      refused_is = own.refused_is;
       faulty_is = own.faulty_is;
     }
 

@@ -24,7 +24,7 @@ use Rattle.share_rule.specs.declared.view.Refusal.{Refusal}
 use Rattle.share_rule.specs.declared.view.RingPart.{RingPart}
 use Rattle.share_rule.specs.declared.view.View.{View}
 use Rattle.share_rule.specs.Passes.{IsPassOf}
-use Rattle.share_rule.specs.Turns.{next_number, sheet_after, give_part}
+use Rattle.share_rule.specs.Turns.{next_number, sheet_after, give_part, newer}
 use Rattle.share_rule.specs.Views.{only}
 use Rattle.ring_port.specs.Port.{EndedLog}
 use Rattle.ring_port.specs.PortState.{Holding, PortState, known}
@@ -34,6 +34,8 @@ use Rattle.ring_pass.specs.Writes.{sheet_with, Wrote}
 use Rattle.ring_pass.proofs.PollsHere.{port_step}
 use Rattle.ring_pass.proofs.TurnsHere.{mine_last, port_going, ring_turns, room_turns, units_turns}
 use Rattle.ring_pass.proofs.Units.{filter_In}
+use Rattle.ring_pass.specs.Refusals.{answer_noted}
+use Rattle.std.specs.Option.{option_map}
 
 -- What the port may use
 
@@ -93,6 +95,7 @@ ring_ended {B} {t} {p} {n} {st} {o} q r pass id slots h =
       told = r.own.told;
       taken = r.own.taken;
       ended_is = λ e. or_right (only p.me.0).ended (ended p.me.0.opening.formula (h.journal ++ empty_entry p.me.0 h.journal ∷ [])) (over p.me.0 h.journal);
+      refused_is = r.own.refused_is ∙ ap (λ (x : Option Refusal). option_map answer_noted (newer x (only p.me.0).refused)) (sym h.quiet);
       faulty_is = λ e. h.gave.still (r.own.faulty_is e);
     })
     (λ _ e. absurd (true≢false (sym e ∙ h.whole)))

@@ -28,7 +28,7 @@ use Rattle.share_rule.specs.declared.view.View.{View}
 use Rattle.share_rule.specs.Layout.{InVars}
 use Rattle.share_rule.specs.Seen.{Seen, IsPart, IsRefused}
 use Rattle.share_rule.specs.Steps.{on_first}
-use Rattle.share_rule.specs.Turns.{MayWrite, journal_in, sheet_of, written_of, take_part, give_part, after_give}
+use Rattle.share_rule.specs.Turns.{MayWrite, journal_in, sheet_of, written_of, take_part, give_part, after_give, newer}
 use Rattle.share_rule.specs.Units.{MayPublish, unit_part, list_part, after_unit, after_list}
 use Rattle.share_rule.specs.Views.{only}
 use Rattle.share_rule.proofs.Listing.{publish_room}
@@ -64,6 +64,7 @@ listed_before {lit} {v} {seen} found m is f e = record {
   polls = refl;
   caught_up = refl;
   turn = refl;
+  refused = refl;
   ended = refl;
   failed = refl;
   seen_is = is;
@@ -97,6 +98,7 @@ listed_now {lit} {v} {w} {seen} {seen'} one is all more = record {
   polls = refl;
   caught_up = refl;
   turn = refl;
+  refused = refl;
   ended = refl;
   failed = refl;
   seen_is = more ∙ ap (λ (ls : List Literal). ls ++ lit ∷ []) all;
@@ -188,9 +190,9 @@ back_else (x ∷ xs) ys k d h = by (back_else xs ys k (rest_distinct 1 (x ∷ xs
 abbrev pub quiet_part : View → Option Refusal → Bool → RingPart
 quiet_part v x failed = give_part v.opening (sheet_of v) x failed (only v)
 
-pub listed_all : (v w m n u : View) (J : List Entry) (was : Bool) (lit : Literal) (seen seen' arrived arrived' : List Literal) (ms : List Note) (x : Option Refusal) (failed : Bool) → HasTurn v w J was → SawRest w m seen arrived arrived' → Seen m → ListedOne m n seen' lit → u ≡ after_give ms x failed n → ms ≡ []
+pub listed_all : (v w m n u : View) (J : List Entry) (was : Bool) (lit : Literal) (seen seen' arrived arrived' : List Literal) (ms : List Note) (x : Option Refusal) (failed : Bool) → HasTurn v w J was → SawRest w m seen arrived arrived' → Seen m → ListedOne m n seen' lit → u ≡ after_give ms x failed n → ms ≡ [] → x ≡ None
     → ((only v).failed ≡ true → failed ≡ true) → (v.opening.rings ≡ 1 → failed ≡ true → (only v).failed ≡ true) → Listed v u arrived arrived' lit
-listed_all v w m n u J was lit seen seen' arrived arrived' ms x failed h rest s one is none still alone =
+listed_all v w m n u J was lit seen seen' arrived arrived' ms x failed h rest s one is none quiet still alone =
     let saw = rest.saw in
     let at_w : only w ≡ take_part J was (only v) = only_is w (take_part J was (only v)) h.parts in
     let at_m : only m ≡ saw.part = only_is m saw.part saw.parts in
@@ -214,6 +216,7 @@ listed_all v w m n u J was lit seen seen' arrived arrived' ms x failed h rest s 
       polls = ap (λ (p : RingPart). p.polls) at_n ∙ one.polls ∙ ap (λ (p : RingPart). p.polls) at_m ∙ saw.polls ∙ ap (λ (p : RingPart). p.polls) at_w;
       caught_up = subst (λ (y : ℕ × ℕ). y.0 ≤ y.1) (λ i. (ap (λ (p : RingPart). p.caught_up) at_w i, sym (ap (λ (p : RingPart). p.caught_up) at_n ∙ one.caught_up ∙ ap (λ (p : RingPart). p.caught_up) at_m) i)) saw.caught_up;
       turn = refl;
+      refused = ap (λ (y : Option Refusal). newer y (only n).refused) quiet ∙ ap (λ (p : RingPart). p.refused) at_n ∙ one.refused ∙ ap (λ (p : RingPart). p.refused) at_m ∙ saw.refused ∙ ap (λ (p : RingPart). p.refused) at_w;
       ended_is = λ e. or_left (only n).ended (ended n.opening.formula (sheet_of n).journal) (ap (λ (p : RingPart). p.ended) at_n ∙ one.ended ∙ ap (λ (p : RingPart). p.ended) at_m ∙ saw.ended ∙ ap (λ (p : RingPart). p.ended) at_w ∙ e);
       failed_is = still;
       alone = alone;

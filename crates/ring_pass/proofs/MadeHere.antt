@@ -1,5 +1,5 @@
 -- The cell of a clause whose line stands, and its opening.
-use Rattle.std.proofs.Common.{◌≡◌, ◌≢◌, ℕ, ◌^◌, ◌<◌, if◌then◌else◌, List, [], ◌∷◌, ◌++◌, length, refl, sym, ap, subst, ◌∙◌, inl, inr, arith, Some, eq-eqb}
+use Rattle.std.proofs.Common.{◌≡◌, ◌≢◌, ℕ, ◌^◌, ◌<◌, if◌then◌else◌, List, [], ◌∷◌, ◌++◌, length, refl, sym, ap, subst, ◌∙◌, inl, inr, arith, Option, Some, eq-eqb}
 use Rattle.std.proofs.lemmas.Bool.{or_left}
 use Rattle.sat_words.specs.Literal.{Literal}
 use Rattle.rup_model.specs.declared.journal.Kind.{Kind}
@@ -23,7 +23,7 @@ use Rattle.share_rule.specs.declared.view.View.{View}
 use Rattle.share_rule.specs.Layout.{InVars}
 use Rattle.share_rule.specs.Seen.{Seen}
 use Rattle.share_rule.specs.Steps.{open_part, after_open}
-use Rattle.share_rule.specs.Turns.{next_number, entry_of, sheet_after, give_part}
+use Rattle.share_rule.specs.Turns.{next_number, entry_of, sheet_after, give_part, newer}
 use Rattle.share_rule.specs.Views.{only, making_of, clause_in, glue_in, IsBuilding}
 use Rattle.share_rule.proofs.Lists.{first_at}
 use Rattle.share_rule.proofs.Literals.{few_distinct}
@@ -34,6 +34,7 @@ use Rattle.ring_pass.proofs.CellsHere.{stored_is, stored_one}
 use Rattle.ring_pass.proofs.RingPorts.{copy_of, waiting_copy, one_of, part_of}
 use Rattle.ring_pass.proofs.Stays.{only_is, one_is, one_changed}
 use Rattle.ring_pass.proofs.TurnsHere.{not_ended}
+use Rattle.share_rule.specs.declared.view.Refusal.{Refusal}
 
 -- what a ring builds is a copy of a cell
 making_copy : (v : View) (s : Seen v) (one : v.parts ≡ only v ∷ []) (h : ClauseAt) → In h (only v).core.making → IsCopy s.core.cell h
@@ -164,6 +165,7 @@ module _ (v u : View) (kind : Kind) (lits : List Literal) (glue a number : ℕ) 
       polls = refl;
       caught_up = refl;
       turn = refl;
+      refused = ap (λ (x : Option Refusal). newer x (only v).refused) h.wrote.quiet;
       going = not_ended v h.wrote.journal h.wrote.knows h.wrote.going;
       ended_is = λ e. or_left (only v).ended (ended v.opening.formula (h.wrote.journal ++ entry_of v.opening (only v).core.ring h.wrote.journal (only v).core (Clause kind lits glue a) ∷ [])) e;
       failed_is = h.wrote.gave.still;

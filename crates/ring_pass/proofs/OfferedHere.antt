@@ -44,6 +44,7 @@ use Rattle.ring_pass.proofs.OtherRings.{others_fewer}
 use Rattle.ring_pass.proofs.PollsHere.{map_same}
 use Rattle.ring_pass.proofs.RingPorts.{part_of, rings_here, held_here, there_here, nothing_here}
 use Rattle.ring_pass.proofs.Stays.{ring_changes, name_stays}
+use Rattle.ring_pass.specs.Refusals.{answer_noted}
 
 -- Lists
 
@@ -117,6 +118,7 @@ module _ (v w : View) (o : Own) (home : List ℕ) (class a : ℕ) (tos : List �
             let lt = all_in (λ (x : Cref). 0 < times_at x.address (only v).core.held) o.taken c i own.taken in
             omega arith);
         ended_is = λ e. ap (λ (y : RingPart). y.ended) f.part.part ∙ own.ended_is e;
+        refused_is = own.refused_is ∙ ap (λ (y : RingPart). option_map answer_noted y.refused) (sym f.part.part);
         faulty_is = λ e. ap (λ (y : RingPart). y.failed) f.part.part ∙ own.faulty_is e;
       }
 

@@ -107,7 +107,7 @@ taken_after None cs = cs
 taken_after (Some c) cs = cs ++ c ∷ []
 
 own_with : (from class : ℕ) (h : ClauseAt) (g : ℕ) (r : Option Cref) (p : RingPart) (o : Own) (k : ℕ) (home : List ℕ) → IsFound h.address r → IsOwn p o → IsOwn (after_part from class h g r p) (record o { polled = k; taken = taken_after r o.taken; home = home })
-own_with from class h g None p o k home f own = record { passed = own.passed; distinct = own.distinct; told = own.told; taken = own.taken; ended_is = own.ended_is; faulty_is = own.faulty_is }
+own_with from class h g None p o k home f own = record { passed = own.passed; distinct = own.distinct; told = own.told; taken = own.taken; ended_is = own.ended_is; refused_is = own.refused_is; faulty_is = own.faulty_is }
 own_with from class h g (Some c) p o k home f own =
     let more : (a : ℕ) → times_at a (p.core.held ++ h ∷ []) ≡ times_at a p.core.held + times_at a (h ∷ []) = λ a. at_both a p.core.held (h ∷ []) in
     record {
@@ -118,6 +118,7 @@ own_with from class h g (Some c) p o k home f own =
           (all_map (λ (x : Cref). 0 < times_at x.address p.core.held) (λ (x : Cref). 0 < times_at x.address (p.core.held ++ h ∷ [])) o.taken (λ x i lt. let m = more x.address in omega arith) own.taken)
           (let m = more c.address in let here : one_if (h.address == c.address) ≡ 1 = ap one_if (eq-eqb h.address c.address (sym f.1)) in omega arith);
       ended_is = own.ended_is;
+      refused_is = own.refused_is;
       faulty_is = own.faulty_is;
     }
 

@@ -337,7 +337,7 @@ gives_kept v s o x one own lt e =
     }
 
 pub own_given : (p : RingPart) (o : Own) → o.passed < length o.arrived → IsOwn p o → IsOwn p (record o { passed = o.passed + 1 })
-own_given p o lt own = record { passed = omega arith; distinct = own.distinct; told = own.told; taken = own.taken; ended_is = own.ended_is; faulty_is = own.faulty_is }
+own_given p o lt own = record { passed = omega arith; distinct = own.distinct; told = own.told; taken = own.taken; ended_is = own.ended_is; refused_is = own.refused_is; faulty_is = own.faulty_is }
 
 -- a unit that was just seen is given
 pub gives_new : (v w : View) (s : Seen w) (o : Own) (x : Literal) (n : ℕ) (home : List ℕ) → v.parts ≡ only v ∷ [] → w ≡ after_see x (after_count n v) → IsOwn (only v) o → o.passed ≡ length o.arrived → home ≡ o.home → (only w).caught_up ≡ (only v).caught_up
@@ -374,6 +374,7 @@ own_new v w s o x n passed home one is le own =
       told = arrived_told (only v).core.seen o.arrived x own.told;
       taken = own.taken;
       ended_is = own.ended_is;
+      refused_is = own.refused_is;
       faulty_is = own.faulty_is;
     }
 
@@ -436,7 +437,7 @@ all_parts v w n one is = one_changed (count_part n) v w one (ap (λ (u : View). 
 pub ring_sees_all : {B : Type 0} {t : Shared B} {p : Seat (Option B) View} {n : ℕ} {st : List Cref} {o : Own} (q : Seat (Option B) View) (count : ℕ) (seen seen' more : List Literal) → IsRingPass t p n st o → IsPassOf t q → IsSamePass p q → SawAll p.me.0 q.me.0 count seen seen' o.arrived more → IsRingPass t q n st (record o { arrived = more; home = home_of q })
 ring_sees_all {B} {t} {p} {n} {st} {o} q count seen seen' more r pass same saw =
     ring_changes q (count_part count (only p.me.0)) (record o { arrived = more; home = home_of q }) r pass same (ap (λ (u : View). u.opening) saw.view) (all_parts p.me.0 q.me.0 count r.one saw.view) refl refl refl
-    (subst (λ (ls : List Literal). IsOwn (count_part count (only p.me.0)) (record o { arrived = ls; home = home_of q })) (sym saw.arrived_is) (record { passed = r.own.passed; distinct = r.own.distinct; told = r.own.told; taken = r.own.taken; ended_is = r.own.ended_is; faulty_is = r.own.faulty_is })) r.alone_is
+    (subst (λ (ls : List Literal). IsOwn (count_part count (only p.me.0)) (record o { arrived = ls; home = home_of q })) (sym saw.arrived_is) (record { passed = r.own.passed; distinct = r.own.distinct; told = r.own.told; taken = r.own.taken; ended_is = r.own.ended_is; refused_is = r.own.refused_is; faulty_is = r.own.faulty_is })) r.alone_is
 
 pub port_sees_all : {B : Type 0} {t : Shared B} {p : Seat (Option B) View} {n : ℕ} {st : List Cref} {o : Own} (q : Seat (Option B) View) (s : PortState) (count : ℕ) (seen seen' more : List Literal) → IsRingPass t p n st o → IsPassOf t q → port_of p.me.0 o ≡ s → SawAll p.me.0 q.me.0 count seen seen' o.arrived more → o.passed ≡ length o.arrived
     → TookNone s (port_of q.me.0 (record o { arrived = more; home = home_of q }))

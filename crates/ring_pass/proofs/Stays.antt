@@ -1,6 +1,7 @@
 -- What stays of a ring with its pass, step by step.
 use Rattle.std.proofs.Common.{◌≡◌, ℕ, ◌+◌, ◌*◌, ◌<◌, ◌≤◌, true, List, [], ◌∷◌, length, false, refl, sym, ap, subst, ◌∙◌, Option, None, IsSome, IfSome}
 use Rattle.std.specs.Prelude.{slice_index_or, All, IsSomeAnd}
+use Rattle.std.specs.Option.{option_map}
 use Rattle.sat_words.specs.Literal.{Literal}
 use Rattle.sat_words.specs.Clause.{has}
 use Rattle.sat_words.specs.declared.shared.Cref.{Cref}
@@ -23,6 +24,7 @@ use Rattle.ring_port.specs.Port.{is_usable}
 use Rattle.ring_port.specs.PortState.{PortState, IsPort, held_at, lits_at, head_of}
 use Rattle.ring_pass.specs.declared.waiting.Waiting.{Waiting}
 use Rattle.ring_pass.specs.Looks.{OnlyLooked}
+use Rattle.ring_pass.specs.Refusals.{answer_noted}
 use Rattle.ring_pass.specs.RingState.{Own, port_with, port_of, home_of, IsOwn, AreWaiting, IsRingPass, HasRoom, HasUnits, pending}
 use Rattle.ring_pass.proofs.RingPorts.{is_port, held_here, lits_here, head_here, home_same}
 
@@ -51,7 +53,7 @@ holding_same v w a k h = (one_same v w k h.0, subst (λ (p : RingPart). 0 < time
 
 -- under another name
 renamed : (p : RingPart) (o : Own) (home : List ℕ) → IsOwn p o → IsOwn p (record o { home = home })
-renamed p o home own = record { passed = own.passed; distinct = own.distinct; told = own.told; taken = own.taken; ended_is = own.ended_is; faulty_is = own.faulty_is }
+renamed p o home own = record { passed = own.passed; distinct = own.distinct; told = own.told; taken = own.taken; ended_is = own.ended_is; refused_is = own.refused_is; faulty_is = own.faulty_is }
 
 -- the pass is the ring's still
 pub ring_stays : {B : Type 0} {t : Shared B} {p : Seat (Option B) View} {n : ℕ} {st : List Cref} {o : Own} (q : Seat (Option B) View) → IsRingPass t p n st o → IsPassOf t q → IsSamePass p q → OnlyLooked p.me.0 q.me.0 → IsRingPass t q n st (record o { home = home_of q })
@@ -137,13 +139,14 @@ ring_changes {B} {t} {p} {n} {st} {o} q x o' r pass same opening is ring turn ho
     }
 
 -- if its part of the core stays, so does what is kept beside
-pub own_stays : (p x : RingPart) (o : Own) (home : List ℕ) → x.core ≡ p.core → x.ended ≡ p.ended → x.failed ≡ p.failed → IsOwn p o → IsOwn x (record o { home = home })
-own_stays p x o home e end fail own = record {
+pub own_stays : (p x : RingPart) (o : Own) (home : List ℕ) → x.core ≡ p.core → x.ended ≡ p.ended → x.failed ≡ p.failed → x.refused ≡ p.refused → IsOwn p o → IsOwn x (record o { home = home })
+own_stays p x o home e end fail refused own = record {
   passed = own.passed;
   distinct = own.distinct;
   told = subst (λ (k : Part). All (λ l. has k.seen l ≡ true) o.arrived) (sym e) own.told;
   taken = subst (λ (k : Part). All (λ c. 0 < times_at c.address k.held) o.taken) (sym e) own.taken;
   ended_is = λ q. end ∙ own.ended_is q;
+  refused_is = own.refused_is ∙ ap (option_map answer_noted) (sym refused);
   faulty_is = λ q. fail ∙ own.faulty_is q;
 }
 
@@ -163,9 +166,9 @@ no_output s t e = λ o st. absurd (subst (λ (q : Option LineState). IsSomeAnd q
 
 -- Steps that leave its part of the core
 
-pub port_steps : {B : Type 0} {t : Shared B} {p : Seat (Option B) View} {n : ℕ} {st : List Cref} {o : Own} (q : Seat (Option B) View) (x : RingPart) → IsRingPass t p n st o → IsPassOf t q → q.me.0.parts ≡ x ∷ [] → x.core ≡ (only p.me.0).core → x.ended ≡ (only p.me.0).ended → x.failed ≡ (only p.me.0).failed → IsPort (port_of q.me.0 (record o { home = home_of q }))
-port_steps {B} {t} {p} {n} {st} {o} q x r pass is e end fail =
-    is_port q.me.0 pass.3 (one_is q.me.0 x is) (record o { home = home_of q }) (subst (λ (y : RingPart). IsOwn y (record o { home = home_of q })) (sym (only_is q.me.0 x is)) (own_stays (only p.me.0) x o (home_of q) e end fail r.own))
+pub port_steps : {B : Type 0} {t : Shared B} {p : Seat (Option B) View} {n : ℕ} {st : List Cref} {o : Own} (q : Seat (Option B) View) (x : RingPart) → IsRingPass t p n st o → IsPassOf t q → q.me.0.parts ≡ x ∷ [] → x.core ≡ (only p.me.0).core → x.ended ≡ (only p.me.0).ended → x.failed ≡ (only p.me.0).failed → x.refused ≡ (only p.me.0).refused → IsPort (port_of q.me.0 (record o { home = home_of q }))
+port_steps {B} {t} {p} {n} {st} {o} q x r pass is e end fail refused =
+    is_port q.me.0 pass.3 (one_is q.me.0 x is) (record o { home = home_of q }) (subst (λ (y : RingPart). IsOwn y (record o { home = home_of q })) (sym (only_is q.me.0 x is)) (own_stays (only p.me.0) x o (home_of q) e end fail refused r.own))
 
 -- what was taken, in another vector
 pub port_retaken : {B : Type 0} {t : Shared B} {p : Seat (Option B) View} {n : ℕ} {st : List Cref} {o : Own} (ts : List Cref) → IsRingPass t p n st o → ts ≡ o.taken → IsPort (port_of p.me.0 (record o { taken = ts }))

@@ -105,7 +105,7 @@ ring_sets {B} {t} {p} {n} {st} {o} q s kind found (Lost x) r pass view is may se
     subst (λ (y : PortState). SetStop y (port_of q.me.0 (record o { home = home_of q })) kind (Lost x)) view (set_lost p.me.0 q.me.0 o kind (kind + 8 * n) found (home_of q) x r.one is set.0 may sees (name_stays q r pass))
 
 -- the part after a try to set the stop
-pub set_parts : (v w : View) (code n : ℕ) → v.parts ≡ only v ∷ [] → w ≡ after_set code n v → (x : RingPart) × (w.parts ≡ x ∷ []) × (x.core ≡ (only v).core) × (x.ended ≡ (only v).ended) × (x.failed ≡ (only v).failed)
+pub set_parts : (v w : View) (code n : ℕ) → v.parts ≡ only v ∷ [] → w ≡ after_set code n v → (x : RingPart) × (w.parts ≡ x ∷ []) × (x.core ≡ (only v).core) × (x.ended ≡ (only v).ended) × (x.failed ≡ (only v).failed) × (x.refused ≡ (only v).refused)
 set_parts v w code n one is = dite (ℕ_discrete n 0)
-    (λ z. (set_part (stop_in code) (only v), one_changed (set_part (stop_in code)) v w one (ap (λ (u : View). u.parts) (is ∙ (λ i. after_set code (z i) v))), refl, refl, refl))
-    (λ nz. (only v, ap (λ (u : View). u.parts) (is ∙ (λ i. if ne_eqb n 0 nz i then after_win code v else after_loss code n v)) ∙ one, refl, refl, refl))
+    (λ z. (set_part (stop_in code) (only v), one_changed (set_part (stop_in code)) v w one (ap (λ (u : View). u.parts) (is ∙ (λ i. after_set code (z i) v))), refl, refl, refl, refl))
+    (λ nz. (only v, ap (λ (u : View). u.parts) (is ∙ (λ i. if ne_eqb n 0 nz i then after_win code v else after_loss code n v)) ∙ one, refl, refl, refl, refl))

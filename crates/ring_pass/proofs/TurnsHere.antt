@@ -1,8 +1,11 @@
 -- What a turn of the log leaves of a ring with its pass.
 use Rattle.io_edge.specs.declared.edge.Sink.{Ghosts}
-use Rattle.std.proofs.Common.{◌≡◌, ℕ, ◌<◌, ◌≤◌, Bool, true, false, not, ◌||◌, List, [], ◌∷◌, ◌++◌, map, length, refl, sym, ap, subst, ◌∙◌, inl, inr, arith, Option, Some, None, length-append}
-use Rattle.std.specs.Prelude.{slice_index_or, Result, Ok, Err, OnOk, IfErr, IfSome}
+use mathlib.Core.Logic.{dite}
+use native.Mathlib.Decide.{ℕ_discrete}
+use Rattle.std.proofs.Common.{◌≡◌, ◌≢◌, ℕ, ◌<◌, ◌≤◌, Bool, true, false, not, ◌||◌, List, [], ◌∷◌, ◌++◌, map, length, refl, sym, ap, subst, ◌∙◌, inl, inr, arith, Option, Some, None, length-append}
+use Rattle.std.specs.Prelude.{slice_index_or, Result, Ok, Err, OnOk, IfErr}
 use Rattle.std.specs.List.{All, list_any}
+use Rattle.std.specs.Option.{option_map}
 use Rattle.std.proofs.lemmas.Bool.{true≢false, or_left, or_right}
 use Rattle.sat_words.specs.declared.shared.Cref.{Cref}
 use Rattle.sat_words.specs.Literal.{Literal}
@@ -30,14 +33,15 @@ use Rattle.share_rule.specs.declared.view.Refusal.{Refusal}
 use Rattle.share_rule.specs.declared.view.RingPart.{RingPart}
 use Rattle.share_rule.specs.declared.view.View.{View}
 use Rattle.share_rule.specs.Passes.{IsPassOf}
-use Rattle.share_rule.specs.Seen.{Seen, IsPart, IsRefused}
+use Rattle.share_rule.specs.Seen.{Seen, IsPart}
 use Rattle.share_rule.specs.Steps.{on_first}
-use Rattle.share_rule.specs.Turns.{Sheet, MayNote, journal_in, sheet_after, written_of, take_part, give_part, after_give}
+use Rattle.share_rule.specs.Turns.{Sheet, MayNote, journal_in, sheet_after, written_of, take_part, give_part, after_give, newer}
 use Rattle.share_rule.specs.Views.{only, no_part, clause_in}
 use Rattle.share_rule.proofs.Moves.{turn_is}
 use Rattle.log_book.specs.declared.stop.TurnStop.{TurnStop}
 use Rattle.log_book.specs.declared.stop.TurnStop.TheVariants.{Ended, Broken, NoHole, Memory, ProofFault}
 use Rattle.log_book.specs.declared.turn.Turn.{Turn}
+use Rattle.log_book.specs.Books.{AreAlike}
 use Rattle.log_book.specs.Turns.{WasTaken, IsTurn, Grown, Refused as TurnRefused, MayNext, IsCause, IsAddCause, noted_as, waiting, sheet}
 use Rattle.ring_port.specs.declared.stops.PortStop.{PortStop}
 use Rattle.ring_port.specs.declared.stops.PortStop.TheVariants as port
@@ -45,11 +49,11 @@ use Rattle.ring_port.specs.Port.{HasReason, after_refusal, Refused, is_fault, is
 use Rattle.ring_port.specs.PortState.{PortState}
 use Rattle.ring_port.specs.Reducing.{NotedReduce}
 use Rattle.ring_pass.specs.declared.waiting.Waiting.{Waiting}
-use Rattle.ring_pass.specs.Refusals.{port_stop, refused_after, ended_after}
-use Rattle.ring_pass.specs.Writes.{entries_of, sheet_with, KnowsJournal, GaveTurn, Wrote, IsWhy, WroteNone}
+use Rattle.ring_pass.specs.Refusals.{port_stop, refused_after, ended_after, answer_noted}
+use Rattle.ring_pass.specs.Writes.{entries_of, sheet_with, KnowsJournal, GaveTurn, Wrote, IsWhy, TellsFault, WroteNone}
 use Rattle.ring_pass.specs.RingState.{Own, port_with, port_of, home_of, IsOwn, IsRingPass, HasRoom, HasUnits, AreWaiting}
 use Rattle.ring_pass.proofs.PollsHere.{port_step}
-use Rattle.ring_pass.proofs.RingPorts.{part_of}
+use Rattle.ring_pass.proofs.RingPorts.{part_of, rings_here}
 use Rattle.ring_pass.proofs.Stays.{only_is, one_is, ring_changes, units_keep}
 
 -- The turn is taken
@@ -142,32 +146,41 @@ units_turns v u x seen a b layout is e m = units_keep v u seen a b (ap (λ (y : 
 journal_taken : {S : Type 0} {d : Ghosts S} (v w : View) (t : Turn S d) (J : List Entry) (failed : Bool) → HasTurn v w J failed → t.noted.items ≡ [] → (sheet w t).journal ≡ J
 journal_taken v w t J failed h none = ap (λ (ns : List Note). (written_of w ns).journal) none ∙ ap (λ (s : Sheet). s.journal) (sheet_taken v w J failed [] h)
 
-pub cause_why : {S : Type 0} {d : Ghosts S} (faults : S → ℕ) (v w : View) (t t' : Turn S d) (J : List Entry) (failed : Bool) (e : TurnStop) → HasTurn v w J failed → t.noted.items ≡ [] → IsCause faults w t t' e → IsWhy v.opening J e
-cause_why faults v w t t' J failed e h none c = by e c
+-- what is left of the book if the turn wrote none
+fault_same : {S : Type 0} {d : Ghosts S} (t t' : Turn S d) (e : TurnStop) → is_fault (port_stop e) ≡ false → (e ≢ ProofFault → AreAlike t.book t'.book) → t'.book.log.lines.spent ≡ t.book.log.lines.spent
+fault_same t t' e quiet alike = ap (λ k. k.spent) (alike (λ q. true≢false (sym (ap (λ (y : TurnStop). is_fault (port_stop y)) q) ∙ quiet))).lines
+
+broken_same : {S : Type 0} {d : Ghosts S} (t t' : Turn S d) → (Broken ≢ ProofFault → AreAlike t.book t'.book) → t'.book.log.lines.spent ≡ t.book.log.lines.spent
+broken_same t t' alike = ap (λ k. k.spent) (alike (λ q. cc q)).lines
+
+pub cause_why : {S : Type 0} {d : Ghosts S} (faults : S → ℕ) (v w : View) (t t' : Turn S d) (J : List Entry) (failed : Bool) (e : TurnStop) → HasTurn v w J failed → t.noted.items ≡ [] → (e ≢ ProofFault → AreAlike t.book t'.book) → IsCause faults w t t' e
+    → IsWhy v.opening J e × TellsFault e t.book.log.lines.spent t'.book.log.lines.spent
+cause_why faults v w t t' J failed e h none alike c = by e alike c
   where
     same : ended v.opening.formula J ≡ ended w.opening.formula (sheet w t).journal
     same i = ended (sym h.opening i).formula (sym (journal_taken v w t J failed h none) i)
 
-    by : (x : TurnStop) → IsCause faults w t t' x → IsWhy v.opening J x
-    by Ended k = same ∙ k
-    by Broken k = same ∙ k.0
-    by (NoHole need most) k = (same ∙ k.0, let a = k.3 in let b = k.4 in omega arith)
-    by Memory k = same ∙ k.0.going
-    by ProofFault k = same ∙ k.0.going
+    by : (x : TurnStop) → (x ≢ ProofFault → AreAlike t.book t'.book) → IsCause faults w t t' x → IsWhy v.opening J x × TellsFault x t.book.log.lines.spent t'.book.log.lines.spent
+    by Ended a k = (same ∙ k, fault_same t t' Ended refl a)
+    by Broken a k = (same ∙ k.0, (k.1, broken_same t t' a ∙ k.1))
+    by (NoHole need most) a k = ((same ∙ k.0, let x = k.3 in let y = k.4 in omega arith), (k.1, fault_same t t' (NoHole need most) refl a ∙ k.1))
+    by Memory a k = (same ∙ k.0.going, (k.1, fault_same t t' Memory refl a ∙ k.1))
+    by ProofFault a k = (same ∙ k.0.going, (k.1, k.2))
 
-pub add_cause_why : {S : Type 0} {d : Ghosts S} (faults : S → ℕ) (v w : View) (t t' : Turn S d) (J : List Entry) (failed : Bool) (size : ℕ) (e : TurnStop) → HasTurn v w J failed → t.noted.items ≡ [] → IsAddCause faults w t t' size e → IsWhy v.opening J e
-add_cause_why faults v w t t' J failed size e h none c = by e c
+pub add_cause_why : {S : Type 0} {d : Ghosts S} (faults : S → ℕ) (v w : View) (t t' : Turn S d) (J : List Entry) (failed : Bool) (size : ℕ) (e : TurnStop) → HasTurn v w J failed → t.noted.items ≡ [] → (e ≢ ProofFault → AreAlike t.book t'.book) → IsAddCause faults w t t' size e
+    → IsWhy v.opening J e × TellsFault e t.book.log.lines.spent t'.book.log.lines.spent
+add_cause_why faults v w t t' J failed size e h none alike c = by e alike c
   where
     same : ended v.opening.formula J ≡ ended w.opening.formula (sheet w t).journal
     same i = ended (sym h.opening i).formula (sym (journal_taken v w t J failed h none) i)
 
-    by : (x : TurnStop) → IsAddCause faults w t t' size x → IsWhy v.opening J x
-    by Ended k = same ∙ k
-    by Broken k = same ∙ k.0
-    by (NoHole need most) (inl k) = (same ∙ k.0, let a = k.3 in let b = k.4 in omega arith)
-    by (NoHole need most) (inr k) = (same ∙ k.0.going, k.4)
-    by Memory k = same ∙ k.0.0.going
-    by ProofFault k = same ∙ k.0.0.going
+    by : (x : TurnStop) → (x ≢ ProofFault → AreAlike t.book t'.book) → IsAddCause faults w t t' size x → IsWhy v.opening J x × TellsFault x t.book.log.lines.spent t'.book.log.lines.spent
+    by Ended a k = (same ∙ k, fault_same t t' Ended refl a)
+    by Broken a k = (same ∙ k.0, (k.1, broken_same t t' a ∙ k.1))
+    by (NoHole need most) a (inl k) = ((same ∙ k.0, let x = k.3 in let y = k.4 in omega arith), (k.1, fault_same t t' (NoHole need most) refl a ∙ k.1))
+    by (NoHole need most) a (inr k) = ((same ∙ k.0.going, k.4), (k.1, fault_same t t' (NoHole need most) refl a ∙ k.1))
+    by Memory a k = (same ∙ k.0.0.going, (k.0.1, fault_same t t' Memory refl a ∙ k.0.1))
+    by ProofFault a k = (same ∙ k.0.0.going, (k.0.1, k.0.2))
 
 -- the ring knows no more of the log's end than is so
 pub not_ended : (v : View) (J : List Entry) → KnowsJournal v J → ended v.opening.formula J ≡ false → (only v).ended ≡ false
@@ -187,9 +200,13 @@ port_going v o J own k going = by o.ended own.ended_is
 
 -- The port, if the turn wrote nothing
 
-pub refused_here : (v u : View) (o : Own) (e : TurnStop) (home : List ℕ) → IsOwn (only v) o → WroteNone v u e → home ≡ o.home
+-- if the ring finds the log broken, another one has broken it
+two_rings : (v u : View) (refused : Option PortStop) (w : WroteNone v u Broken) → is_usable refused ≡ true → (v.opening.rings ≡ 1 → (only v).failed ≡ true → is_usable refused ≡ false) → 1 ≤ v.opening.rings → 2 ≤ v.opening.rings
+two_rings v u refused w usable was some = dite (ℕ_discrete v.opening.rings 1) (λ lone. absurd (true≢false (sym usable ∙ was lone (w.alone lone w.fault.0)))) (λ more. omega arith)
+
+pub refused_here : (v u : View) (o : Own) (e : TurnStop) (home : List ℕ) → IsOwn (only v) o → is_usable o.refused ≡ true → (v.opening.rings ≡ 1 → (only v).failed ≡ true → is_usable o.refused ≡ false) → 1 ≤ v.opening.rings → WroteNone v u e → home ≡ o.home
     → Refused (port_of v o) (port_of u (record o { refused = refused_after e o.refused; ended = ended_after e o.ended; home = home })) (port_stop e)
-refused_here v u o e home own w hm = record { reason = by_reason e w.why; state = port_step v u new o' w.gave.parts w.gave.layout w.gave.opening w.gave.stop w.gave.looks ∙ by_state e }
+refused_here v u o e home own usable was some w hm = record { reason = by_reason e w; state = port_step v u new o' w.gave.parts w.gave.layout w.gave.opening w.gave.stop w.gave.looks ∙ by_state e }
   where
     new : RingPart
     new = give_part v.opening (sheet_with w.journal (only v)) w.refused w.failed (only v)
@@ -197,12 +214,12 @@ refused_here v u o e home own w hm = record { reason = by_reason e w.why; state 
     o' : Own
     o' = record o { refused = refused_after e o.refused; ended = ended_after e o.ended; home = home }
 
-    by_reason : (y : TurnStop) → IsWhy v.opening w.journal y → HasReason (port_of v o) (port_stop y)
+    by_reason : (y : TurnStop) → WroteNone v u y → HasReason (port_of v o) (port_stop y)
     by_reason Ended h = tt
-    by_reason Broken h = port_going v o w.journal own w.knows h
-    by_reason (NoHole need most) h = (port_going v o w.journal own w.knows h.0, h.1)
+    by_reason Broken h = (port_going v o h.journal own h.knows h.why, two_rings v u o.refused h usable was some)
+    by_reason (NoHole need most) h = (port_going v o h.journal own h.knows h.why.0, h.why.1)
     by_reason Memory h = tt
-    by_reason ProofFault h = port_going v o w.journal own w.knows h
+    by_reason ProofFault h = port_going v o h.journal own h.knows h.why
 
     by_state : (y : TurnStop) → port_with v new (record o { refused = refused_after y o.refused; ended = ended_after y o.ended; home = home }) ≡ after_refusal (port_of v o) None (port_stop y)
     by_state Ended i = record (port_of v o) { refused = Some port.Ended; ended = true; home = hm i }
@@ -212,10 +229,11 @@ refused_here v u o e home own w hm = record { reason = by_reason e w.why; state 
     by_state ProofFault i = record (port_of v o) { refused = Some port.ProofFault; home = hm i }
 
 -- as a call tells it
-pub refused_as : {v u : View} {e : TurnStop} (o : Own) (s : PortState) (kept : Option PortStop) (over : Bool) (stop : PortStop) (home : List ℕ) → port_of v o ≡ s → IsOwn (only v) o → WroteNone v u e → kept ≡ refused_after e o.refused → over ≡ ended_after e o.ended → stop ≡ port_stop e → home ≡ o.home
-    → Refused s (port_of u (record o { refused = kept; ended = over; home = home })) stop
-refused_as {v} {u} {e} o s kept over stop home view own w k b t hm =
-    subst (λ (y : PortState × Option PortStop × Bool × PortStop). Refused y.0 (port_of u (record o { refused = y.1; ended = y.2; home = home })) y.3) (λ i. (view i, sym k i, sym b i, sym t i)) (refused_here v u o e home own w hm)
+pub refused_as : {B : Type 0} {t : Shared B} {p : Seat (Option B) View} {n : ℕ} {st : List Cref} {u : View} {e : TurnStop} (o : Own) (s : PortState) (kept : Option PortStop) (over : Bool) (stop : PortStop) (home : List ℕ) → port_of p.me.0 o ≡ s → IsRingPass t p n st o → is_usable s.refused ≡ true → WroteNone p.me.0 u e
+    → kept ≡ refused_after e o.refused → over ≡ ended_after e o.ended → stop ≡ port_stop e → home ≡ o.home → Refused s (port_of u (record o { refused = kept; ended = over; home = home })) stop
+refused_as {B} {t} {p} {n} {st} {u} {e} o s kept over stop home view r usable w k b t' hm =
+    subst (λ (y : PortState × Option PortStop × Bool × PortStop). Refused y.0 (port_of u (record o { refused = y.1; ended = y.2; home = home })) y.3) (λ i. (view i, sym k i, sym b i, sym t' i))
+    (refused_here p.me.0 u o e home r.own (ap (λ (y : PortState). is_usable y.refused) view ∙ usable) r.alone_is (rings_here p.me.0 r.pass.3 r.one).0 w hm)
 
 -- the ring knows of the end what the port does
 pub end_refused : (v : View) (o : Own) (J : List Entry) (e : TurnStop) → IsOwn (only v) o → IsWhy v.opening J e → ended_after e o.ended ≡ true → ((only v).ended || ended v.opening.formula J) ≡ true
@@ -225,27 +243,53 @@ end_refused v o J (NoHole need most) own why k = or_left (only v).ended (ended v
 end_refused v o J Memory own why k = or_left (only v).ended (ended v.opening.formula J) (own.ended_is k)
 end_refused v o J ProofFault own why k = or_left (only v).ended (ended v.opening.formula J) (own.ended_is k)
 
--- and of a failed write
+-- the turn notes in the ring's part what the port answers
+newer_answer : (old : Option Refusal) (kept : Option PortStop) (e : TurnStop) → kept ≡ option_map answer_noted old → refused_after e kept ≡ option_map answer_noted (newer (noted_as e None) old)
+newer_answer old kept Ended h = refl
+newer_answer old kept Broken h = refl
+newer_answer old kept (NoHole need most) h = refl
+newer_answer old kept Memory h = h
+newer_answer old kept ProofFault h = refl
+
+pub answer_here : (v u : View) (o : Own) (e : TurnStop) → IsOwn (only v) o → (w : WroteNone v u e) → refused_after e o.refused ≡ option_map answer_noted (newer w.refused (only v).refused)
+answer_here v u o e own w = newer_answer (only v).refused o.refused e own.refused_is ∙ ap (λ (x : Option Refusal). option_map answer_noted (newer x (only v).refused)) (sym w.noted)
+
+-- and the ring knows of a failed write
+told_of : (e : TurnStop) (was failed : Bool) → TellsFault e was failed → is_fault (port_stop e) ≡ true → failed ≡ true
+told_of Ended was failed h k = absurd (true≢false (sym k))
+told_of Broken was failed h k = h.1
+told_of (NoHole need most) was failed h k = absurd (true≢false (sym k))
+told_of Memory was failed h k = absurd (true≢false (sym k))
+told_of ProofFault was failed h k = h.1
+
 pub fault_refused : (v u : View) (o : Own) (e : TurnStop) → IsOwn (only v) o → (w : WroteNone v u e) → is_usable (refused_after e o.refused) ≡ false → w.failed ≡ true
 fault_refused v u o Ended own w k = absurd (true≢false k)
-fault_refused v u o Broken own w k = w.faulty refl
+fault_refused v u o Broken own w k = told_of Broken w.was w.failed w.fault refl
 fault_refused v u o (NoHole need most) own w k = absurd (true≢false k)
 fault_refused v u o Memory own w k = w.gave.still (own.faulty_is k)
-fault_refused v u o ProofFault own w k = w.faulty refl
+fault_refused v u o ProofFault own w k = told_of ProofFault w.was w.failed w.fault refl
+
+-- a write that failed before the turn, or in it, where that was not the answer
+told_before : (e : TurnStop) (was failed : Bool) → TellsFault e was failed → is_fault (port_stop e) ≡ false → failed ≡ true → was ≡ true
+told_before Ended was failed h k f = sym h ∙ f
+told_before Broken was failed h k f = h.0
+told_before (NoHole need most) was failed h k f = absurd (true≢false (sym f ∙ h.1))
+told_before Memory was failed h k f = absurd (true≢false (sym f ∙ h.1))
+told_before ProofFault was failed h k f = absurd (true≢false k)
 
 -- a lone ring that is told of a failed write by then was refused for a fault
 pub fault_alone : (v u : View) (o : Own) (e : TurnStop) → is_usable o.refused ≡ true → ((only v).failed ≡ true → is_usable o.refused ≡ false) → (w : WroteNone v u e) → v.opening.rings ≡ 1 → w.failed ≡ true → is_usable (refused_after e o.refused) ≡ false
-fault_alone v u o Ended usable was w lone f = absurd (true≢false (sym usable ∙ was (w.alone lone f refl)))
+fault_alone v u o Ended usable was w lone f = absurd (true≢false (sym usable ∙ was (w.alone lone (told_before Ended w.was w.failed w.fault refl f))))
 fault_alone v u o Broken usable was w lone f = refl
-fault_alone v u o (NoHole need most) usable was w lone f = absurd (true≢false (sym usable ∙ was (w.alone lone f refl)))
-fault_alone v u o Memory usable was w lone f = was (w.alone lone f refl)
+fault_alone v u o (NoHole need most) usable was w lone f = absurd (true≢false (sym f ∙ w.fault.1))
+fault_alone v u o Memory usable was w lone f = absurd (true≢false (sym f ∙ w.fault.1))
 fault_alone v u o ProofFault usable was w lone f = refl
 
 pub ring_refused : {B : Type 0} {t : Shared B} {p : Seat (Option B) View} {n : ℕ} {st : List Cref} {o : Own} (q : Seat (Option B) View) (e : TurnStop) (kept : Option PortStop) (over : Bool) → IsRingPass t p n st o → is_usable o.refused ≡ true → IsPassOf t q → q.id ≡ p.id → q.me.1 ≡ [] → WroteNone p.me.0 q.me.0 e → kept ≡ refused_after e o.refused → over ≡ ended_after e o.ended
     → IsRingPass t q n st (record o { refused = kept; ended = over; home = home_of q })
 ring_refused {B} {t} {p} {n} {st} {o} q e kept over r usable pass id slots h a b =
     ring_turns q (give_part p.me.0.opening (sheet_with h.journal (only p.me.0)) h.refused h.failed (only p.me.0)) (record o { refused = kept; ended = over; home = home_of q }) r pass id slots h.gave.opening h.gave.parts refl refl refl
-    (record { passed = r.own.passed; distinct = r.own.distinct; told = r.own.told; taken = r.own.taken; ended_is = λ k. end_refused p.me.0 o h.journal e r.own h.why (sym b ∙ k); faulty_is = λ k. fault_refused p.me.0 q.me.0 o e r.own h (ap is_usable (sym a) ∙ k) })
+    (record { passed = r.own.passed; distinct = r.own.distinct; told = r.own.told; taken = r.own.taken; ended_is = λ k. end_refused p.me.0 o h.journal e r.own h.why (sym b ∙ k); refused_is = a ∙ answer_here p.me.0 q.me.0 o e r.own h; faulty_is = λ k. fault_refused p.me.0 q.me.0 o e r.own h (ap is_usable (sym a) ∙ k) })
     (λ lone f. ap is_usable a ∙ fault_alone p.me.0 q.me.0 o e usable (r.alone_is lone) h lone f)
 
 pub room_refused : (v u : View) (e : TurnStop) (last : Option Cref) (ws : List Waiting) (room : ℕ) → WroteNone v u e → HasRoom (only v) v.opening.rings last ws room → HasRoom (only u) u.opening.rings last ws room
@@ -281,31 +325,27 @@ wrote_one {S} {d} {written} {flushed} {target} {faults} {v} {w} {t} {t'} u n one
       gave = turn_given v w u J t.book.log.lines.spent (n ∷ []) t'.noted.items t'.refused t'.book.log.lines.spent has is noted (failed_taken J h has g.turn);
       going = (λ i. ended (sym has.opening i).formula (sym (journal_taken v w t J t.book.log.lines.spent has h.taken.noted) i)) ∙ g.going.0.going;
       whole = g.whole;
+      quiet = g.refused ∙ h.taken.refused;
     }
-
--- a fault is noted where a write has failed
-fault_told : (o : CoreOpening) (J : List Entry) (old : Option Refusal) {failed : Bool} {x : Option Refusal} (e : TurnStop) → x ≡ noted_as e old → IfSome x (IsRefused o J failed) → is_fault (port_stop e) ≡ true → failed ≡ true
-fault_told o J old {failed} {x} Ended is h k = absurd (true≢false (sym k))
-fault_told o J old {failed} {x} Broken is h k = subst (λ (y : Option Refusal). IfSome y (IsRefused o J failed)) is h
-fault_told o J old {failed} {x} (NoHole need most) is h k = absurd (true≢false (sym k))
-fault_told o J old {failed} {x} Memory is h k = absurd (true≢false (sym k))
-fault_told o J old {failed} {x} ProofFault is h k = subst (λ (y : Option Refusal). IfSome y (IsRefused o J failed)) is h
 
 -- a turn with none
 pub wrote_none : {S : Type 0} {d : Ghosts S} {written flushed target : S → Option (List ℕ)} {faults : S → ℕ} {v w : View} {t t' : Turn S d} (u : View) (e : TurnStop) → v.parts ≡ only v ∷ [] → (h : WasTaken written flushed target faults v w t) → Seen w → TurnRefused written flushed target faults w t t' e
-    → IsWhy v.opening h.taken.book.journal e → u ≡ after_give t'.noted.items t'.refused t'.book.log.lines.spent w → WroteNone v u e
+    → IsWhy v.opening h.taken.book.journal e × TellsFault e t.book.log.lines.spent t'.book.log.lines.spent → u ≡ after_give t'.noted.items t'.refused t'.book.log.lines.spent w → WroteNone v u e
 wrote_none {S} {d} {written} {flushed} {target} {faults} {v} {w} {t} {t'} u e one h s r why is =
     let has : HasTurn v w h.taken.book.journal t.book.log.lines.spent = turn_taken one h in
     let J : List Entry = h.taken.book.journal in
     record {
       journal = J;
       refused = t'.refused;
+      was = t.book.log.lines.spent;
       failed = t'.book.log.lines.spent;
       knows = journal_known v w J t.book.log.lines.spent has s;
       gave = turn_given v w u J t.book.log.lines.spent [] t'.noted.items t'.refused t'.book.log.lines.spent has is (r.noted ∙ h.taken.noted) (failed_taken J h has r.turn);
-      why = why;
-      faulty = fault_told w.opening (written_of w t'.noted.items).journal t.refused e r.refused r.turn.refused.0;
-      alone = λ lone f quiet. alone_taken h lone (ap (λ k. k.spent) (sym (r.alike (λ q. true≢false (sym (ap (λ (y : TurnStop). is_fault (port_stop y)) q) ∙ quiet))).lines) ∙ f);
+      why = why.0;
+      noted = r.refused ∙ ap (noted_as e) h.taken.refused;
+      fault = why.1;
+      before = λ f. h.taken.book.still (ap (λ (ps : List RingPart). (slice_index_or ps 0 no_part).failed) h.missed.parts ∙ f);
+      alone = λ lone f. alone_taken h lone f;
     }
 
 -- a reduction may be noted if the ring has learned enough
@@ -368,6 +408,7 @@ ring_reduced {B} {t} {p} {n} {st} {o} q ts r pass id slots h none =
       told = r.own.told;
       taken = subst (λ (cs : List Cref). All (λ c. 0 < times_at c.address (only p.me.0).core.held) cs) (sym none) (λ k d lt. absurd (omega arith));
       ended_is = λ e. or_left (only p.me.0).ended (ended p.me.0.opening.formula (h.journal ++ ReduceEntry (only p.me.0).core.ring ∷ [])) (r.own.ended_is e);
+      refused_is = r.own.refused_is ∙ ap (λ (x : Option Refusal). option_map answer_noted (newer x (only p.me.0).refused)) (sym h.quiet);
       faulty_is = λ e. h.gave.still (r.own.faulty_is e);
     })
     (λ _ e. absurd (true≢false (sym e ∙ h.whole)))

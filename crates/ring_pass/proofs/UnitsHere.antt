@@ -30,7 +30,7 @@ use Rattle.share_rule.specs.declared.view.RingPart.{RingPart}
 use Rattle.share_rule.specs.declared.view.View.{View}
 use Rattle.share_rule.specs.Layout.{InVars}
 use Rattle.share_rule.specs.Passes.{IsPassOf}
-use Rattle.share_rule.specs.Turns.{IsFree, next_number, sheet_after, give_part}
+use Rattle.share_rule.specs.Turns.{IsFree, next_number, sheet_after, give_part, newer}
 use Rattle.share_rule.specs.Views.{only}
 use Rattle.ring_port.specs.Port.{WroteUnit, Sees}
 use Rattle.ring_port.specs.PortState.{PortState, IsOn}
@@ -46,6 +46,7 @@ use Rattle.ring_pass.proofs.SeenHere.{less_counted, filter_passes, rest_distinct
 use Rattle.ring_pass.proofs.Stays.{only_is, one_is}
 use Rattle.ring_pass.proofs.TurnsHere.{mine_last, port_going, ring_turns, room_turns, units_turns}
 use Rattle.ring_pass.proofs.Units.{filter_In, In_filter, head_else}
+use Rattle.ring_pass.specs.Refusals.{answer_noted}
 
 -- The line
 
@@ -215,6 +216,7 @@ ring_unit {B} {t} {p} {n} {st} {o} {w} {kind} {lit} {arrived'} {last} q cell r p
       told = All_from_In (λ (x : Literal). has l.part.core.seen x ≡ true) last (λ x i. all_in (λ (y : Literal). has l.part.core.seen y ≡ true) arrived' x (has_In arrived' x (out.among x (In_has last x i))) l.told);
       taken = subst (λ (hs : List ClauseAt). All (λ c. 0 < times_at c.address hs) o.taken) (sym (ap (λ (c : Part). c.held) core ∙ ap (λ (x : RingPart). x.core.held) is)) r.own.taken;
       ended_is = λ e. l.ended_is (ap (λ (x : RingPart). x.ended) is ∙ or_left (only p.me.0).ended (ended p.me.0.opening.formula (h.journal ++ unit_entry p.me.0 h.journal kind lit ∷ [])) (r.own.ended_is e));
+      refused_is = r.own.refused_is ∙ ap (option_map answer_noted) (sym (l.refused ∙ ap (λ (x : RingPart). x.refused) is ∙ ap (λ (x : Option Refusal). newer x (only p.me.0).refused) h.quiet));
       faulty_is = λ e. l.failed_is (ap (λ (x : RingPart). x.failed) is ∙ h.gave.still (r.own.faulty_is e));
     })
     (λ lone e. absurd (true≢false (sym (l.alone (ap (λ (x : CoreOpening). x.rings) h.gave.opening ∙ lone) e) ∙ ap (λ (x : RingPart). x.failed) is ∙ h.whole)))

@@ -18,7 +18,7 @@ clause_with address number lits = record { address = address; number = number; l
 abbrev pub placed_line : (place ring number : ℕ) → List Literal → Kind → Placed
 placed_line place ring number lits kind = record { place = place; entry = Add (record { ring = ring; number = number; lits = lits; kind = kind }) }
 
--- the ring holds a clause that it added, at an address if nothing stood that it knows, under a number of its own; no write
+-- the ring holds a clause that it added, at an address at which nothing stood that it knows, under a number of its own; no write
 -- has failed
 pub record Added (v w : View) (kind : Kind) (lits : List Literal) (glue a : ℕ) : Type 0 where
   pub number : ℕ
@@ -39,6 +39,7 @@ pub record Added (v w : View) (kind : Kind) (lits : List Literal) (glue a : ℕ)
   pub polls : part.polls ≡ (only v).polls
   pub caught_up : part.caught_up ≡ (only v).caught_up
   pub turn : part.turn ≡ None
+  pub refused : part.refused ≡ (only v).refused
   pub going : (only v).ended ≡ false
   pub ended_is : (only v).ended ≡ true → part.ended ≡ true
   pub failed_is : (only v).failed ≡ true → part.failed ≡ true

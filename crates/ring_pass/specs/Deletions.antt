@@ -13,7 +13,7 @@ use Rattle.ring_pass.specs.Writes.{entries_of, WroteNone}
 abbrev pub deletions_of : ℕ → List ClauseAt → List Entry
 deletions_of r hs = map (λ h. Del r h.number) hs
 
--- the first k of the clauses that waited are deleted, and the ring is told of no new failed write
+-- the first k of the clauses that waited are deleted, and the ring has learned of no new failed write
 pub record Deleted (v w : View) (k : ℕ) : Type 0 where
   pub part : RingPart
   pub parts : w.parts ≡ part ∷ []
@@ -27,6 +27,7 @@ pub record Deleted (v w : View) (k : ℕ) : Type 0 where
   pub polls : part.polls ≡ (only v).polls
   pub caught_up : part.caught_up ≡ (only v).caught_up
   pub turn : part.turn ≡ None
+  pub refused : part.refused ≡ (only v).refused
   pub waiting : part.core.waiting ≡ drop k (only v).core.waiting
   pub wrote : entries_of part ≡ entries_of (only v) ++ deletions_of (only v).core.ring (take k (only v).core.waiting)
   pub going : 0 < k → (only v).ended ≡ false

@@ -24,10 +24,12 @@ use Rattle.ring_port.specs.declared.stops.PortStop.{PortStop}
 use Rattle.ring_port.specs.Port.{is_usable}
 use Rattle.ring_port.specs.PortState.{Holding, Offer, Slot, PortState}
 use Rattle.ring_pass.specs.declared.spares.Spares.{Spares}
+use Rattle.ring_pass.specs.Refusals.{last_refusal}
 use Rattle.ring_pass.specs.declared.waiting.Waiting.{Waiting}
 
 -- What the ring keeps beside its pass
 
+-- what a ring's port keeps in fields of its own
 pub record Own : Type 0 where
   -- the listed units that it has seen, in order, except for those that it wrote before they were given
   pub arrived : List Literal
@@ -56,6 +58,7 @@ kept o = drop o.passed o.arrived
 abbrev pub holding_of : List GlueAt → ClauseAt → Holding
 holding_of gs h = record { address = h.address; number = h.number; glue = glue_in h.number gs; lits = h.lits }
 
+-- an offer as the port knows it
 abbrev pub offer_of : PutNote → Offer
 offer_of n = record { ring = n.to; class = n.class; address = n.address }
 
@@ -63,6 +66,7 @@ offer_of n = record { ring = n.to; class = n.class; address = n.address }
 abbrev pub slot_of : Poll → Slot
 slot_of q = record { ring = q.from; class = q.class }
 
+-- a stop as the port knows it
 abbrev pub stop_as : CoreStop → Stop
 stop_as s = record { kind = s.kind; ring = s.ring }
 
@@ -100,6 +104,7 @@ port_with v p o = record {
   home = o.home;
 }
 
+-- the port over a pass that has one ring
 abbrev pub port_of : View → Own → PortState
 port_of v o = port_with v (only v) o
 
@@ -110,13 +115,15 @@ home_of p = p.me.0.layout.rings ∷ p.me.0.layout.vars ∷ p.me.0.layout.words �
 -- What is kept of it
 
 -- what is kept beside the pass is so: no unit arrived twice, each is seen, what was taken is held, the log is ended if the
--- port says so, and where it was refused for a fault the ring was told that a write of the log has failed
+-- port says so, the answer that refused last is what the log's turns refused the ring last, and if that is a fault the ring knows
+-- that a write of the log has failed
 pub record IsOwn (p : RingPart) (o : Own) : Type 0 where
   pub passed : o.passed ≤ length o.arrived
   pub distinct : distinct_lits o.arrived ≡ true
   pub told : All (λ l. has p.core.seen l ≡ true) o.arrived
   pub taken : All (λ c. 0 < times_at c.address p.core.held) o.taken
   pub ended_is : o.ended ≡ true → p.ended ≡ true
+  pub refused_is : o.refused ≡ last_refusal p
   pub faulty_is : is_usable o.refused ≡ false → p.failed ≡ true
 
 -- how many places the offer of what was learned last may take
@@ -166,8 +173,8 @@ pub record CanOffer (p : RingPart) (rings : ℕ) (last : Option Cref) (s : Spare
   pub gave : AreShort s.longest p.gave
   pub next : IfSome last (λ c. (0 < times_at c.address p.core.held) × (length (clause_in c.address p.core.held).lits ≤ s.longest))
 
--- the pass has this ring alone, which has not the turn; these are the addresses of the start clauses; a lone ring that was
--- told of a failed write was refused for a fault
+-- the pass has this ring alone, which has not the turn; these are the addresses of the start clauses; a lone ring that
+-- knows of a failed write was refused for a fault
 pub record IsRingPass {B : Type 0} (t : Shared B) (p : Seat (Option B) View) (n : ℕ) (starts : List Cref) (o : Own) : Type 0 where
   pub pass : IsPassOf t p
   pub slots : p.me.1 ≡ []

@@ -44,6 +44,7 @@ pub record SawNews (v w : View) (seen' arrived arrived' : List Literal) : Type 0
   pub polls : part.polls ≡ (only v).polls
   pub caught_up : (only v).caught_up ≤ part.caught_up
   pub turn : part.turn ≡ (only v).turn
+  pub refused : part.refused ≡ (only v).refused
   pub ended : part.ended ≡ (only v).ended
   pub failed : part.failed ≡ (only v).failed
   pub seen_is : seen' ≡ part.core.seen
@@ -61,7 +62,7 @@ pub record SawRest (v w : View) (seen' arrived arrived' : List Literal) : Type 0
 abbrev pub wrote_unit : RingPart → Literal → Bool
 wrote_unit p lit = list_any (same_set (lit ∷ [])) (added (entries_of p))
 
--- a unit that the ring wrote is listed, and all others that were are seen and kept; a lone ring is told of no new failed write
+-- a unit that the ring wrote is listed, and all others that were are seen and kept; a lone ring has learned of no new failed write
 pub record Listed (v w : View) (arrived arrived' : List Literal) (lit : Literal) : Type 0 where
   pub news : List Literal
   pub part : RingPart
@@ -76,6 +77,7 @@ pub record Listed (v w : View) (arrived arrived' : List Literal) (lit : Literal)
   pub polls : part.polls ≡ (only v).polls
   pub caught_up : (only v).caught_up ≤ part.caught_up
   pub turn : part.turn ≡ None
+  pub refused : part.refused ≡ (only v).refused
   pub ended_is : (only v).ended ≡ true → part.ended ≡ true
   pub failed_is : (only v).failed ≡ true → part.failed ≡ true
   pub alone : v.opening.rings ≡ 1 → part.failed ≡ true → (only v).failed ≡ true
@@ -115,6 +117,7 @@ pub record ListedOne (v w : View) (seen' : List Literal) (lit : Literal) : Type 
   pub polls : part.polls ≡ (only v).polls
   pub caught_up : part.caught_up ≡ (only v).caught_up
   pub turn : part.turn ≡ (only v).turn
+  pub refused : part.refused ≡ (only v).refused
   pub ended : part.ended ≡ (only v).ended
   pub failed : part.failed ≡ (only v).failed
   pub seen_is : seen' ≡ part.core.seen

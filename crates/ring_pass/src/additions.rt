@@ -41,12 +41,8 @@ pub(crate) fn add_clause<H: Wait, S: Sink>(
     ensures added { IfOk result (λ c. Added pass.old.me.0 pass.new.me.0 kind lits.now glue c.address) }
     ensures refused { IfErr result (WroteNone pass.old.me.0 pass.new.me.0) }
 {
-    match write_clause(rt, alloc, table, pass, ring, kind, lits, glue) {
-        Ok(line) => {
-            store_cell(table, pass, line.cell, line.number, glue, lits);
-            open_cell(table, pass, line.cell);
-            Ok(line.cell)
-        }
-        Err(stop) => Err(stop),
-    }
+    let line = write_clause(rt, alloc, table, pass, ring, kind, lits, glue)?;
+    store_cell(table, pass, line.cell, line.number, glue, lits);
+    open_cell(table, pass, line.cell);
+    Ok(line.cell)
 }

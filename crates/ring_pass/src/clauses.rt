@@ -49,7 +49,7 @@ pub(crate) fn write_clause<H: Wait, S: Sink>(
 {
     let mut turn = take_turn(rt, alloc, table, pass, ring);
     let added = turn.add(pass, alloc, kind, lits, glue);
-    let number = turn.book.last();
+    let number = turn.last();
     give_turn(table, pass, turn);
     match added {
         Ok(cell) => Ok(Stored { cell, number }),

@@ -21,7 +21,7 @@ use share_rule::{Pass, Shared};
 use std::alloc::Global;
 use std::sync::Wait;
 
-/// Deletes the clauses that wait, one in each turn. Refused it says how many are deleted.
+/// Deletes the clauses that wait, one in each turn. Refused it answers how many are deleted.
 fn delete_all<H: Wait, S: Sink>(
     rt: &H,
     alloc: Global,

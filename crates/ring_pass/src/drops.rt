@@ -24,7 +24,7 @@ fn unless_at(last: Option<Cref>, c: Cref) -> Option<Cref>
 }
 
 impl<'a, S: Sink, G: Gate, H> RingPass<'a, S, G, H> {
-    /// Holds the clause once less. Where nobody holds it any more it waits for its deletion: its number and its literals are
+    /// Holds the clause once less. If nobody holds it any more it waits for its deletion: its number and its literals are
     /// read before its count is given up, and room for them is taken first.
     pub fn drop_clause(&mut self, c: Cref) -> Result<(), PortStop>
         requires held { IsSome (held_at self.old c.address) }

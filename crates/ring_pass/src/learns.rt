@@ -33,7 +33,7 @@ fn empty_buffers(alloc: Global, count: usize, size: usize) -> Result<Vec<Vec<Lit
     Ok(buffers)
 }
 
-/// Makes sure of this many buffers, each for this many literals and for no fewer than before. Where memory runs out all stays as
+/// Makes sure of this many buffers, each for this many literals and for no fewer than before. If memory runs out all stays as
 /// it was.
 fn make_spares(
     alloc: Global,
@@ -152,14 +152,9 @@ impl<'a, S: Sink, G: Gate, H: Wait> RingPass<'a, S, G, H> {
         ensures port { IsPort self.new }
     {
         if lits.len() == 1 {
-            return match self.learn_unit(lits[0]) {
-                Ok(()) => Ok(None),
-                Err(stop) => Err(stop),
-            };
+            self.learn_unit(lits[0])?;
+            return Ok(None);
         }
-        match self.learn_clause(lits, glue) {
-            Ok(cell) => Ok(Some(cell)),
-            Err(stop) => Err(stop),
-        }
+        Ok(Some(self.learn_clause(lits, glue)?))
     }
 }

@@ -40,7 +40,7 @@ impl<'a, S: Sink, G: Gate, H> RingPass<'a, S, G, H> {
 }
 
 impl<'a, S: Sink, G: Gate, H: Wait> RingPass<'a, S, G, H> {
-    /// Writes the line of a literal that propagation made true for good, and says the other rings. The line is written in one
+    /// Writes the line of a literal that propagation made true for good, and lists it for the other rings. The line is written in one
     /// turn; in a second one all listed units are seen, and this one is listed unless another ring has done so.
     pub fn unit(&mut self, lit: Lit) -> Result<(), PortStop>
         requires usable { is_usable self.old.refused ≡ true }

@@ -21,10 +21,10 @@ use ring_port::{Gate, Point, class_of};
 use sat_words::Cref;
 use share_rule::{Ledger, Pass, Shared};
 
-/// What a ring offers, and whom it tells of it.
+/// What a ring offers, and the gate that it passes.
 #[derive(Drop)]
 struct Offering<'a, G> {
-    /// Who is known.
+    /// The gate.
     gate: &'a G,
     /// The ring.
     ring: u32,

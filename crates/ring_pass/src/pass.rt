@@ -5,6 +5,7 @@ ghost use Rattle.share_rule.specs.FirstWords.{addresses};
 ghost use Rattle.share_rule.specs.Passes.{IsPassOf};
 ghost use Rattle.share_rule.specs.Steps.{new_part};
 ghost use Rattle.share_rule.specs.Views.{only};
+ghost use Rattle.ring_pass.specs.Refusals.{last_refusal};
 ghost use Rattle.ring_pass.specs.RingState.{Own, port_of, home_of, begun_as};
 
 use crate::spares::Spares;
@@ -133,8 +134,12 @@ impl<'a, S: Sink, G: Gate, H> RingPass<'a, S, G, H> {
         self.start
     }
 
-    /// The pass, at the end. What is known of the port is known of the pass, which is of the same table as the other one. A
-    /// lone ring was told of a failed write exactly if the port was refused for a fault.
+    /// The pass, at the end. What is known of the port is known of the pass, which is of the same table as the other one.
+    ///
+    /// The answer that refused last is what the log's turns refused this ring last: a turn notes its refusals in the pass as it
+    /// is given back. So no refusal except for want of memory is of the port's own making, a turn that finds the log broken or
+    /// whose write fails is answered so, and the two are not exchanged, however many rings run. A lone ring was told of a
+    /// failed write exactly if the port was refused for a fault.
     pub fn into_pass(self, table: &Shared<Book<S>>, _other: &Pass<Book<S>>) -> Pass<Book<S>>
         requires other { IsPassOf table.now _other.now }
         requires home { self.home ≡ home_of _other.now }
@@ -142,6 +147,7 @@ impl<'a, S: Sink, G: Gate, H> RingPass<'a, S, G, H> {
         ensures ring { (result.me.0.parts ≡ only result.me.0 ∷ []) × ((only result.me.0).turn ≡ None) }
         ensures state { (o : Own) × (port_of result.me.0 o ≡ self.entry) }
         ensures ended { self.entry.ended ≡ true → (only result.me.0).ended ≡ true }
+        ensures refused { self.entry.refused ≡ last_refusal (only result.me.0) }
         ensures faulty { is_usable self.entry.refused ≡ false → (only result.me.0).failed ≡ true }
         ensures alone { result.me.0.opening.rings ≡ 1 → (only result.me.0).failed ≡ true → is_usable self.entry.refused ≡ false }
     {

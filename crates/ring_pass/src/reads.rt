@@ -8,7 +8,7 @@ use ring_port::Gate;
 use sat_words::{Cref, Head, Lit};
 
 impl<'a, S: Sink, G: Gate, H> RingPass<'a, S, G, H> {
-    /// The greatest variable. It says what no call changes.
+    /// The greatest variable, which no call changes.
     pub fn vars(&self) -> u32
         ensures value { result ≡ self.now.vars }
         ensures port { IsPort self.now }

@@ -6,14 +6,14 @@ use log_book::TurnStop;
 use ring_port::PortStop;
 use sat_words::NoRoom;
 
-/// Keeps a refusal of the turn, and that the log is ended if it says so, and gives it as the port tells it. Want of memory
+/// Keeps a refusal of the turn, and that the log is ended if it says so, and gives it as the port answers it. Want of memory
 /// leaves no trace.
 pub(crate) fn refuse(refused: &mut Option<PortStop>, ended: &mut bool, stop: TurnStop) -> PortStop
     ensures stop { result ≡ port_stop stop }
     ensures ended { ended.new ≡ ended_after stop ended.old }
     ensures kept { refused.new ≡ refused_after stop refused.old }
 {
-    let told = match stop {
+    let answer = match stop {
         TurnStop::Ended => {
             *ended = true;
             PortStop::Ended
@@ -23,6 +23,6 @@ pub(crate) fn refuse(refused: &mut Option<PortStop>, ended: &mut bool, stop: Tur
         TurnStop::Memory => return PortStop::Memory,
         TurnStop::ProofFault => PortStop::ProofFault,
     };
-    *refused = Some(told);
-    told
+    *refused = Some(answer);
+    answer
 }

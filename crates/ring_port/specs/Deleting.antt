@@ -1,4 +1,4 @@
--- What a port does if a ring gives clauses up: they are held once less, and those that nobody holds are deleted.
+-- What a port does when a ring gives clauses up: they are held once less, and those that nobody holds are deleted.
 use Rattle.std.specs.Prelude.{◌≡◌, ◌⊎◌, ℕ, ◌<◌, ◌==◌, false, List, [], ◌∷◌, ◌++◌, if◌then◌else◌, map, length, take, drop, Option, Some, None, Result, Ok, Err}
 use Rattle.std.specs.List.{list_any}
 use Rattle.rup_model.specs.declared.journal.Entry.{Entry}
@@ -24,7 +24,7 @@ abbrev pub unless_at : Option ℕ → ℕ → Option ℕ
 unless_at None a = None
 unless_at (Some b) a = if b == a then None else Some b
 
--- the clause is held once less, and can't be offered any more; where that was the last time that anybody held it, it waits to be
+-- the clause is held once less, and can't be offered any more; if that was the last time that anybody held it, it waits to be
 -- deleted, and so it does at once if there is no other ring
 pub record DroppedOnce (old new : PortState) (a : ℕ) : Type 0 where
   pub clause : Holding

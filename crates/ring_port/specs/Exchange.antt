@@ -1,4 +1,4 @@
--- What a port does if rings hand each other clauses.
+-- What a port does when rings hand each other clauses.
 use Rattle.std.specs.Prelude.{◌≡◌, ℕ, ◌+◌, ◌≤◌, ◌==◌, count_by, ◌&&◌, not, nat_le, List, [], ◌∷◌, ◌++◌, if◌then◌else◌, map, filter, length, Option, Some, None, Result, Ok, Err}
 use Rattle.std.specs.List.{range_with_len}
 use Rattle.std.specs.Option.{option_and_then}

@@ -90,7 +90,7 @@ pub record IsPlain (p : PlainData) : Type 0 where
   pub written : All (IsOn p.vars) p.written
   pub stop : IfSome p.stop IsOwnStop
 
--- what a port in memory tells: its state, and how often the head or a literal of a clause was read
+-- what is known of a port in memory: its state, and how often the head or a literal of a clause was read
 pub record PlainView : Type 0 where
   pub state : PortState
   pub loads : ℕ
@@ -170,7 +170,17 @@ pub record CanOpen (starts : List Start) (units : List Literal) (output : LineSt
 
 -- Answers
 
--- the fault count rose, where one more entry could stand
+-- how often the output has failed
+abbrev pub faults_of : PortState → Option ℕ
+faults_of s = option_map (λ (out : LineState). out.faults) s.output
+
+-- the output has failed since
+abbrev pub HasFailedSince : Option LineState → Option LineState → Type 0
+HasFailedSince (Some a) (Some b) = Rose a.faults b.faults
+HasFailedSince (Some a) None = ⊥
+HasFailedSince None b = ⊥
+
+-- the output has failed since, though one more entry could stand
 abbrev pub FaultRose : Option LineState → Option LineState → Type 0
 FaultRose (Some a) (Some b) = Rose a.faults b.faults × (a.entries < MAX_ENTRIES)
 FaultRose (Some a) None = ⊥
@@ -186,12 +196,22 @@ abbrev pub HasRoom : Option LineState → Type 0
 HasRoom None = ⊥
 HasRoom (Some a) = a.entries < MAX_ENTRIES
 
--- why a call that writes answers as it does: a line needs room for an entry; the log was ended; the output failed; there is
--- no room for an entry; memory ran out
+-- why a call that writes answers as it does: a line needs room for an entry and an output that does not fail; the log was ended;
+-- the output failed; there is no room for an entry; memory ran out
 abbrev pub HasCauseAlone : {T : Type 0} → PortState → PortState → Result T PortStop → Type 0
-HasCauseAlone old new (Ok x) = HasRoom old.output
+HasCauseAlone old new (Ok x) = HasRoom old.output × (faults_of new ≡ faults_of old)
 HasCauseAlone old new (Err Ended) = old.ended ≡ true
 HasCauseAlone old new (Err Broken) = ⊥
 HasCauseAlone old new (Err ProofFault) = FaultRose old.output new.output
 HasCauseAlone old new (Err (NoHole lack)) = HasNoRoom old.output × (lack.need ≡ MAX_ENTRIES + 1) × (lack.largest ≡ MAX_ENTRIES)
 HasCauseAlone old new (Err Memory) = ⊤
+
+-- why `tidy` answers as it does, which may have deleted some clauses by then: it deleted all; the log was ended; the output has
+-- failed since; there is no room for an entry; memory ran out. At all answers but a fault the output has failed as often as before
+abbrev pub HasTidyCause : PortState → PortState → Result (Unit {0}) PortStop → Type 0
+HasTidyCause old new (Ok done) = faults_of new ≡ faults_of old
+HasTidyCause old new (Err Ended) = (old.ended ≡ true) × (faults_of new ≡ faults_of old)
+HasTidyCause old new (Err Broken) = ⊥
+HasTidyCause old new (Err ProofFault) = HasFailedSince old.output new.output
+HasTidyCause old new (Err (NoHole lack)) = HasNoRoom new.output × (lack.need ≡ MAX_ENTRIES + 1) × (lack.largest ≡ MAX_ENTRIES) × (faults_of new ≡ faults_of old)
+HasTidyCause old new (Err Memory) = faults_of new ≡ faults_of old

@@ -50,7 +50,7 @@ pub record IsFreshClause (s : PortState) (c : List Literal) : Type 0 where
 
 -- Refusals
 
--- the port after an answer that refuses, and its output after a fault: the answer is noted, and that the log is ended where
+-- the port after an answer that refuses, and its output after a fault: the answer is noted, and that the log is ended if
 -- it says so; want of memory leaves no trace
 abbrev pub after_refusal : PortState → Option LineState → PortStop → PortState
 after_refusal s output Ended = record s { refused = Some Ended; ended = true }
@@ -59,11 +59,11 @@ after_refusal s output ProofFault = record s { refused = Some ProofFault; output
 after_refusal s output (NoHole lack) = record s { refused = Some (NoHole lack) }
 after_refusal s output Memory = s
 
--- a log that is ended is answered before anything else, except for want of memory; there is no hole if more is needed than
--- the largest has
+-- a log that is ended is answered before anything else, except for want of memory; another ring has broken the log, since a ring
+-- whose own write failed writes no more; there is no hole if more is needed than the largest has
 abbrev pub HasReason : PortState → PortStop → Type 0
 HasReason s Ended = ⊤
-HasReason s Broken = s.ended ≡ false
+HasReason s Broken = (s.ended ≡ false) × (2 ≤ s.rings)
 HasReason s ProofFault = s.ended ≡ false
 HasReason s (NoHole lack) = (s.ended ≡ false) × (lack.largest < lack.need)
 HasReason s Memory = ⊤
@@ -219,7 +219,7 @@ abbrev pub Looked : PortState → PortState → Option Stop → Type 0
 Looked old new None = (old.stop ≡ None) × (new ≡ record old { looks = one_more old.looks })
 Looked old new (Some x) = Stands old x × (new ≡ record old { stop = Some x })
 
--- what `stop` did: the ring's stop stands where none stood; else what stands is known
+-- what `stop` did: the ring's stop stands if none stood; else it answers the one that stands
 abbrev pub SetStop : PortState → PortState → ℕ → Set → Type 0
 SetStop old new kind Won = (old.stop ≡ None) × (new ≡ record old { stop = Some (record { kind = kind; ring = old.ring }) })
 SetStop old new kind (Lost x) = Stands old x × (new ≡ record old { stop = Some x })

@@ -12,7 +12,7 @@ use Rattle.rup_model.specs.Opening.{IsLong}
 use Rattle.drat_text.specs.LineState.{LineState}
 use Rattle.ring_port.specs.declared.stops.PortStop.{PortStop}
 
--- a clause if it is held: its address, its number in the log, its glue and its literals in their order
+-- a clause that is held: its address, its number in the log, its glue and its literals in their order
 pub record Holding : Type 0 where
   pub address : ℕ
   pub number : ℕ
@@ -30,6 +30,7 @@ pub record Slot : Type 0 where
   pub ring : ℕ
   pub class : ℕ
 
+-- what a ring knows of the outside, and what it did there
 pub record PortState : Type 0 where
   -- the clauses held, each as often as it is held
   pub held : List Holding
@@ -100,7 +101,7 @@ lits_at s a = lits_in (held_at s a)
 abbrev pub clause_at : PortState → ℕ → Option (List Literal)
 clause_at s a = option_map (λ h. h.lits) (held_at s a)
 
--- one more, if it is not the last count of 64 bits
+-- one more, unless it is the last count of 64 bits
 abbrev pub one_more : ℕ → ℕ
 one_more n = min (n + 1) (2 ^ 64 - 1)
 

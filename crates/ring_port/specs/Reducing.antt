@@ -1,4 +1,4 @@
--- What a port does if a ring gives up what it learned before.
+-- What a port does when a ring gives up what it learned before.
 use Rattle.std.specs.Prelude.{◌≡◌, ◌≤◌, false, [], ◌∷◌, ◌++◌, length, Result, Ok, Err}
 use Rattle.rup_model.specs.declared.journal.TheConstants.{LEARNED_PER_REDUCTION}
 use Rattle.rup_model.specs.declared.journal.Entry.TheVariants.{Reduce}

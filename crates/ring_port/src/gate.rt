@@ -1,6 +1,6 @@
 //! Places if a test may hold a ring.
 
-/// What a ring has just done if it calls its gate.
+/// What a ring has just done when it calls its gate.
 #[derive(Clone, Copy, PartialEq, Eq, Debug, Drop)]
 pub enum Point {
     /// It has learned a clause.
@@ -11,7 +11,7 @@ pub enum Point {
     Put,
 }
 
-/// What a ring passes now and then, outside of the log's turn. A gate may tell and hold up a ring; it changes nothing that
+/// What a ring passes now and then, outside of the log's turn. A gate may report and hold up a ring; it changes nothing that
 /// contracts see. Rings on several threads share one, so whoever runs them asks that it is `Sync`.
 pub trait Gate {
     /// The ring is at this point, and has learned this many clauses.

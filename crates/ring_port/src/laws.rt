@@ -30,7 +30,7 @@ pub fn held_clauses_are_long()
     ensures on { (s : PortState) (a : ℕ) → IsPort s → IsSome (held_at s a) → All (IsOn s.vars) (lits_at s a) }
 {}
 
-/// Each line of the journal behind a port that writes alone is valid where it stands; once the log is ended it refutes
+/// Each line of the journal of a port that writes alone is valid where it stands; once the log is ended it refutes
 /// the formula.
 pub fn a_log_is_accepted()
     ensures accepted { (o : Origin) (s : PortState) → StandsOver o s → Accepted o.formula (lines o.formula (journal_of o s)) }

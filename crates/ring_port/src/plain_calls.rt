@@ -9,7 +9,7 @@ ghost use Rattle.ring_port.specs.Port.{is_usable, IsClause, Learned, Derived, Ke
 ghost use Rattle.ring_port.specs.Reducing.{Noted};
 ghost use Rattle.ring_port.specs.Deleting.{Dropped, Tidied};
 ghost use Rattle.ring_port.specs.Exchange.{class_at, other_rings, OfferedAs};
-ghost use Rattle.ring_port.specs.PlainPort.{HasCauseAlone};
+ghost use Rattle.ring_port.specs.PlainPort.{HasCauseAlone, HasTidyCause};
 
 use crate::opening_units::first_new_from;
 use crate::plain_lines::unless_at;
@@ -132,6 +132,7 @@ impl<L: LineOut> Port for PlainPort<L> {
 
     fn tidy(&mut self) -> Result<(), PortStop>
         requires usable { is_usable self.old.state.refused ≡ true }
+        ensures cause { HasTidyCause self.old.state self.new.state result }
         ensures tidied { Tidied self.old.state self.new.state result }
         ensures log { KeepsLog self.old.state self.new.state }
         ensures port { IsPort self.new.state }

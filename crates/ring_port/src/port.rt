@@ -17,12 +17,12 @@ use sat_words::{Cref, Head, Lit, Set, Stop};
 ///
 /// The ring names a clause by its address, and reads it only while it holds it. What is written into the log has to
 /// follow by unit propagation (RUP) from the clauses held and the units seen. Of a port that writes alone each call keeps
-/// that one journal stands behind it (`log`), each line of which is valid where it stands.
+/// that it stands over one journal (`log`), each line of which is valid where it stands.
 pub trait Port {
     /// What contracts see of a port.
     ghost state: { Self → PortState };
 
-    /// The greatest variable. It says what no call changes.
+    /// The greatest variable, which no call changes.
     fn vars(&self) -> u32
         ensures value { result ≡ (state self.now).vars }
         ensures port { IsPort (state self.now) };
@@ -70,7 +70,7 @@ pub trait Port {
         ensures log { KeepsLog (state self.old) (state self.new) }
         ensures port { IsPort (state self.new) };
 
-    /// Writes the line of a literal that propagation made true for good, and says the other rings.
+    /// Writes the line of a literal that propagation made true for good, and lists it for the other rings.
     fn unit(&mut self, lit: Lit) -> Result<(), PortStop>
         requires usable { is_usable (state self.old).refused ≡ true }
         requires on { IsOn (state self.old).vars lit }
@@ -87,7 +87,7 @@ pub trait Port {
         ensures log { KeepsLog (state self.old) (state self.new) }
         ensures port { IsPort (state self.new) };
 
-    /// Holds the clause once less. Where nobody holds it any more it waits for its deletion. What is given up can't be offered.
+    /// Holds the clause once less. If nobody holds it any more it waits for its deletion. What is given up can't be offered.
     fn drop_clause(&mut self, c: Cref) -> Result<(), PortStop>
         requires held { IsSome (held_at (state self.old) c.address) }
         requires apart { IsNotTaken (state self.old) c.address }

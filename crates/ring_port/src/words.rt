@@ -50,7 +50,7 @@ pub(crate) fn lits_at(alloc: Global, words: &[u64], first: usize) -> Result<Vec<
     Ok(lits)
 }
 
-/// Takes this many words: of those that are free, or else after all others, if there is room for them.
+/// Takes this many words: of those that are free, or else after all others, for which there is room.
 pub(crate) fn take_words(words: &mut Vec<u64>, spare: &mut Spare, need: u64) -> usize
     requires some { 0 < need }
     requires room { vec_len words.old + need ≤ vec_capacity words.old }

@@ -50,7 +50,7 @@ pub fn learn<H: Wait, S: Sink>(
     let mut turn = take_turn(rt, alloc, table, &mut ring.pass, ring.ring);
     match turn.add(&ring.pass, alloc, Kind::Learn, lits, 1) {
         Ok(cell) => {
-            let number = turn.book.last();
+            let number = turn.last();
             give_turn(table, &mut ring.pass, turn);
             Some((cell, number))
         }

@@ -16,8 +16,9 @@ pub returns-in-Err-clause-refused : goal.returns-in-Err-clause-refused
 returns-in-Err-clause-refused g c =
     let e = c.take_turn-turn.ensures in
     let has = turn_taken c.requires.ring.0.0 e.turn in
-    wrote_none c.give_turn.new.pass.me.0 c.in-Err.stop c.requires.ring.0.0 e.turn e.pass.0.3 (err_is _ c.add-added.result c.in-Err.stop c.in-Err.is c.add-added.ensures.stopped)
-    (add_cause_why g.S.Sink.faults c.args.pass.now.me.0 _ c.take_turn-turn.result c.add-added.new.self e.turn.taken.book.journal _ (length c.args.lits.now) c.in-Err.stop has e.turn.taken.noted (err_is _ c.add-added.result c.in-Err.stop c.in-Err.is c.add-added.ensures.cause)) c.give_turn.ensures.turn
+    let k = err_is _ c.add-added.result c.in-Err.stop c.in-Err.is c.add-added.ensures.stopped in
+    wrote_none c.give_turn.new.pass.me.0 c.in-Err.stop c.requires.ring.0.0 e.turn e.pass.0.3 k
+    (add_cause_why g.S.Sink.faults c.args.pass.now.me.0 _ c.take_turn-turn.result c.add-added.new.self e.turn.taken.book.journal _ (length c.args.lits.now) c.in-Err.stop has e.turn.taken.noted k.alike (err_is _ c.add-added.result c.in-Err.stop c.in-Err.is c.add-added.ensures.cause)) c.give_turn.ensures.turn
 
 pub add-added-requires-clause-note : goal.add-added-requires-clause-note
 add-added-requires-clause-note g c =

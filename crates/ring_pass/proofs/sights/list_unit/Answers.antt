@@ -47,7 +47,7 @@ returns-clause-listed g c =
     let e = c.take_turn-turn.ensures in
     let has = turn_taken c.requires.ring.0.0 e.turn in
     listed_all c.args.pass.now.me.0 c.take_turn-turn.new.pass.me.0 c.see_all.new.pass.me.0 c.list_new.new.pass.me.0 c.give_turn.new.pass.me.0 e.turn.taken.book.journal _ c.args.lit c.see_all.new.seen.items c.list_new.new.seen.items c.args.arrived.now.items c.see_all.new.arrived.items _ _ _ has
-    c.see_all.ensures.saw c.see_all.ensures.pass.0.3 c.list_new.ensures.listed c.give_turn.ensures.turn e.turn.taken.noted (failed_taken e.turn.taken.book.journal e.turn has e.turn.taken.turn) (alone_taken e.turn)
+    c.see_all.ensures.saw c.see_all.ensures.pass.0.3 c.list_new.ensures.listed c.give_turn.ensures.turn e.turn.taken.noted e.turn.taken.refused (failed_taken e.turn.taken.book.journal e.turn has e.turn.taken.turn) (alone_taken e.turn)
 
 pub returns-clause-units : goal.returns-clause-units
 returns-clause-units g c =

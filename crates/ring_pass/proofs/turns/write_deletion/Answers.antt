@@ -25,4 +25,4 @@ pub returns-clause-refused : goal.returns-clause-refused
 returns-clause-refused g c =
     let e = c.take_turn-turn.ensures in
     let has = turn_taken c.requires.ring.0.0 e.turn in
-    err_map c.bury-buried.result (λ x k w. wrote_none c.give_turn.new.pass.me.0 x c.requires.ring.0.0 e.turn e.pass.0.3 k (cause_why g.S.Sink.faults c.args.pass.now.me.0 _ c.take_turn-turn.result c.bury-buried.new.self e.turn.taken.book.journal _ x has e.turn.taken.noted w) c.give_turn.ensures.turn) c.bury-buried.ensures.stopped c.bury-buried.ensures.cause
+    err_map c.bury-buried.result (λ x k w. wrote_none c.give_turn.new.pass.me.0 x c.requires.ring.0.0 e.turn e.pass.0.3 k (cause_why g.S.Sink.faults c.args.pass.now.me.0 _ c.take_turn-turn.result c.bury-buried.new.self e.turn.taken.book.journal _ x has e.turn.taken.noted k.alike w) c.give_turn.ensures.turn) c.bury-buried.ensures.stopped c.bury-buried.ensures.cause

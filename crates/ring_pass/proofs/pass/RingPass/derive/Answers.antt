@@ -56,7 +56,7 @@ invariant_of-self-in-Err g c =
 pub returns-in-Err-clause-derived : goal.returns-in-Err-clause-derived
 returns-in-Err-clause-derived g c =
     let e = c.add_clause-added.ensures in
-    refused_as _ c.args.self.now c.refuse.new.refused c.refuse.new.ended c.refuse.result (home_of c.add_clause-added.new.pass) c.self.view_is c.self.invariant.0.own c.in-Err.ensures.refused c.refuse.ensures.kept c.refuse.ensures.ended c.refuse.ensures.stop (name_stays c.add_clause-added.new.pass c.self.invariant.0 e.pass.0)
+    refused_as _ c.args.self.now c.refuse.new.refused c.refuse.new.ended c.refuse.result (home_of c.add_clause-added.new.pass) c.self.view_is c.self.invariant.0 c.requires.usable c.in-Err.ensures.refused c.refuse.ensures.kept c.refuse.ensures.ended c.refuse.ensures.stop (name_stays c.add_clause-added.new.pass c.self.invariant.0 e.pass.0)
 
 pub returns-in-Err-clause-kept : goal.returns-in-Err-clause-kept
 returns-in-Err-clause-kept g c = refused_keeps (returns-in-Err-clause-derived g c)

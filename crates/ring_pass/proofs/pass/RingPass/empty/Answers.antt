@@ -47,7 +47,7 @@ pub returns-in-Err-clause-written : goal.returns-in-Err-clause-written
 returns-in-Err-clause-written g c =
     let e = c.write_empty-written.ensures in
     let w = subst (λ r. IfErr r (WroteNone c.self.inside.pass.me.0 c.write_empty-written.new.pass.me.0)) c.in-Err.is e.refused in
-    refused_as _ c.args.self.now c.refuse.new.refused c.refuse.new.ended c.refuse.result (home_of c.write_empty-written.new.pass) c.self.view_is c.self.invariant.0.own w c.refuse.ensures.kept c.refuse.ensures.ended c.refuse.ensures.stop (name_stays c.write_empty-written.new.pass c.self.invariant.0 e.pass.0)
+    refused_as _ c.args.self.now c.refuse.new.refused c.refuse.new.ended c.refuse.result (home_of c.write_empty-written.new.pass) c.self.view_is c.self.invariant.0 c.requires.usable w c.refuse.ensures.kept c.refuse.ensures.ended c.refuse.ensures.stop (name_stays c.write_empty-written.new.pass c.self.invariant.0 e.pass.0)
 
 pub returns-in-Err-clause-port : goal.returns-in-Err-clause-port
 returns-in-Err-clause-port g c = ring_port (invariant_of-self-in-Err g c).0

@@ -12,4 +12,4 @@ pub returns-clause-port : goal.returns-clause-port
 returns-clause-port g c =
     let e = c.set.ensures in
     let x = set_parts c.self.inside.pass.me.0 c.set.new.pass.me.0 (c.args.kind + 8 * c.self.inside.ring) e.part.0 c.self.invariant.0.one e.part.1 in
-    port_steps c.set.new.pass x.0 c.self.invariant.0 e.pass.0 x.1 x.2 x.3 x.4
+    port_steps c.set.new.pass x.0 c.self.invariant.0 e.pass.0 x.1 x.2 x.3 x.4 x.5

@@ -40,7 +40,7 @@ invariant_of-self-in-Err g c =
 pub returns-in-Err-clause-tidied : goal.returns-in-Err-clause-tidied
 returns-in-Err-clause-tidied g c =
     let e = c.delete_all-deleted.ensures in
-    tidied_some _ c.args.self.now c.refuse.new.refused c.refuse.new.ended c.refuse.result (home_of c.delete_all-deleted.new.pass) c.self.view_is c.self.invariant.0.own c.in-Err.ensures.refused (are_length c.self.inside.waiting.items _ c.self.invariant.1.waits) c.refuse.ensures.kept c.refuse.ensures.ended c.refuse.ensures.stop
+    tidied_some _ c.args.self.now c.refuse.new.refused c.refuse.new.ended c.refuse.result (home_of c.delete_all-deleted.new.pass) c.self.view_is c.self.invariant.0 c.requires.usable c.in-Err.ensures.refused (are_length c.self.inside.waiting.items _ c.self.invariant.1.waits) c.refuse.ensures.kept c.refuse.ensures.ended c.refuse.ensures.stop
     (name_stays c.delete_all-deleted.new.pass c.self.invariant.0 e.pass.0)
 
 pub returns-in-Err-clause-port : goal.returns-in-Err-clause-port

@@ -5,16 +5,16 @@ use Rattle.ring_trail.specs.declared.step.TrailStep.{TrailStep}
 use Rattle.ring_trail.specs.TrailData.{level_at}
 use Rattle.ring_trail.specs.Reasoned.{Held}
 use Rattle.analyze.specs.Marks.{marked}
-use Rattle.analyze.specs.Verdicts.{verdict_at, IsScanned}
-use Rattle.analyze.specs.declared.minimise.Verdict.{Verdict}
-use Rattle.analyze.specs.declared.minimise.Verdict.TheVariants.{Unknown}
+use Rattle.analyze.specs.Minimising.{removability_at, IsScanned}
+use Rattle.analyze.specs.declared.minimise.Removability.{Removability}
+use Rattle.analyze.specs.declared.minimise.Removability.TheVariants.{Unknown}
 use Rattle.analyze.specs.declared.minimise.Frame.{Frame}
 
--- the root, or a place without a mark: it has no verdict, and the first literals of its reason are settled
-pub record IsFrame (held : Held) (steps : List TrailStep) (ms : List Bool) (vs : List Verdict) (root : ℕ) (f : Frame) : Type 0 where
+-- the root, or a place without a mark: it is not judged yet, and the first literals of its reason are settled
+pub record IsFrame (held : Held) (steps : List TrailStep) (ms : List Bool) (vs : List Removability) (root : ℕ) (f : Frame) : Type 0 where
   pub above : 0 < level_at steps f.place
   pub own : (f.place ≡ root) ⊎ (marked ms f.place ≡ false)
-  pub unknown : verdict_at vs f.place ≡ Unknown
+  pub unknown : removability_at vs f.place ≡ Unknown
   pub scanned : IsScanned held steps ms vs f.place f.next
 
 -- the frames have the property, and their places fall strictly, from below b down to above p
@@ -57,7 +57,7 @@ pub IsRooted-pop : (r : ℕ) (fs : List Frame) (f : Frame) (p : ℕ) → IsRoote
 IsRooted-pop r [] f p e = e
 IsRooted-pop r (g ∷ fs) f p e = e
 
--- what is left to do: it falls with the place while no verdict is found, and with each verdict wherever the place is then
+-- what is left to do: it falls with the place while none is judged, and with each that is judged, wherever the place is then
 abbrev pub left_to_do : ℕ → ℕ → ℕ → ℕ
 left_to_do vars found place = (vars - found) * suc vars + place
 

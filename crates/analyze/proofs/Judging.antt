@@ -1,4 +1,4 @@
--- Verdicts that follow, and what a new one changes.
+-- What follows of places, and what changes once one more is judged.
 use Rattle.std.proofs.Common.{◌≡◌, ◌∙◌, ℕ, zero, suc, ◌+◌, ◌<◌, ◌≤◌, Bool, true, false, ◌||◌, nat_eq, List, [], ◌∷◌, ◌++◌, length, length-append, get_or, take, replicate, Some, None, sym, refl, ap, subst, inl, inr, ◌⊎◌, arith}
 use Rattle.std.proofs.lemmas.List.{get_or-set_same, get_or-set_other, take_more, take_all, length-replicate}
 use Rattle.std.proofs.Math.ListN.{set, length-set}
@@ -17,9 +17,9 @@ use Rattle.ring_trail.specs.Reasoned.{Held, IsForced, IsSeen, IsDecision, IsReas
 use Rattle.analyze.specs.MarksData.{MarksData, all_blank, with_mark}
 use Rattle.analyze.specs.Walk.{MakesFalse}
 use Rattle.analyze.specs.Removable.{IsReasonOf}
-use Rattle.analyze.specs.Verdicts.{verdict_at, is_found, is_known, IsSettled, AllSettled, IsBlockedBy, IsScanned, IsCleared, IsBlocked, Follows, IsJudged}
-use Rattle.analyze.specs.declared.minimise.Verdict.{Verdict}
-use Rattle.analyze.specs.declared.minimise.Verdict.TheVariants.{Unknown, Removable, Needed}
+use Rattle.analyze.specs.Minimising.{removability_at, is_found, is_known, IsSettled, AllSettled, IsBlockedBy, IsScanned, IsCleared, IsBlocked, Follows, IsJudged}
+use Rattle.analyze.specs.declared.minimise.Removability.{Removability}
+use Rattle.analyze.specs.declared.minimise.Removability.TheVariants.{Unknown, Removable, Needed}
 use Rattle.analyze.specs.declared.minimise.Frame.{Frame}
 use Rattle.analyze.proofs.Chains.{has-one}
 use Rattle.analyze.proofs.Frames.{IsFrame}
@@ -50,7 +50,7 @@ MakesFalse-one steps c k q h f = record {
   has_opposite = subst (λ (x : Literal). has c x ≡ true) (sym (has-one k (opposite (lit_at steps q)) f.has_opposite)) h;
 }
 
-pub IsBlockedBy-one : (steps : List TrailStep) (ms : List Bool) (vs : List Verdict) (p : ℕ) (c : List Literal) (k : Literal) → has c k ≡ true → IsBlockedBy steps ms vs p (k ∷ []) → IsBlockedBy steps ms vs p c
+pub IsBlockedBy-one : (steps : List TrailStep) (ms : List Bool) (vs : List Removability) (p : ℕ) (c : List Literal) (k : Literal) → has c k ≡ true → IsBlockedBy steps ms vs p (k ∷ []) → IsBlockedBy steps ms vs p c
 IsBlockedBy-one steps ms vs p c k h b = record {
   place = b.place;
   before = b.before;
@@ -60,7 +60,7 @@ IsBlockedBy-one steps ms vs p c k h b = record {
 }
 
 -- one more literal is settled
-pub AllSettled-more : (steps : List TrailStep) (ms : List Bool) (vs : List Verdict) (p : ℕ) (c : List Literal) (i : ℕ) (d : Literal) → i < length c
+pub AllSettled-more : (steps : List TrailStep) (ms : List Bool) (vs : List Removability) (p : ℕ) (c : List Literal) (i : ℕ) (d : Literal) → i < length c
     → AllSettled steps ms vs p (take i c) → AllSettled steps ms vs p (get_or c i d ∷ []) → AllSettled steps ms vs p (take (i + 1) c)
 AllSettled-more steps ms vs p c i d h x y q lt f =
     let o : has (take i c ++ get_or c i d ∷ []) (opposite (lit_at steps q)) ≡ true = ap (λ (w : List Literal). has w (opposite (lit_at steps q))) (sym (take_more c i d h)) ∙ f.has_opposite in
@@ -69,28 +69,28 @@ AllSettled-more steps ms vs p c i d h x y q lt f =
       | inr new ↦ y q lt (record { in_range = f.in_range; above = f.above; has_opposite = new })
     ]
 
-pub IsScanned-more : (held : Held) (steps : List TrailStep) (ms : List Bool) (vs : List Verdict) (p : ℕ) (a : Cref) (c : List Literal) (i : ℕ) (k : Literal) → reason_at steps p ≡ Some a → held a.address ≡ Some c → i < length c
+pub IsScanned-more : (held : Held) (steps : List TrailStep) (ms : List Bool) (vs : List Removability) (p : ℕ) (a : Cref) (c : List Literal) (i : ℕ) (k : Literal) → reason_at steps p ≡ Some a → held a.address ≡ Some c → i < length c
     → get_or c i k ≡ k → IsScanned held steps ms vs p i → AllSettled steps ms vs p (k ∷ []) → IsScanned held steps ms vs p (i + 1)
 IsScanned-more held steps ms vs p a c i k e h lt is x y d r =
     let same = one_reason held steps p a d c r e h in
     subst (λ (w : List Literal). AllSettled steps ms vs p (take (i + 1) w)) (sym same)
     (AllSettled-more steps ms vs p c i k lt (x c (subst (λ (w : List Literal). IsReasonOf held steps p w) same r)) (subst (λ (w : Literal). AllSettled steps ms vs p (w ∷ [])) (sym is) y))
 
-pub IsScanned-none : (held : Held) (steps : List TrailStep) (ms : List Bool) (vs : List Verdict) (p : ℕ) → IsScanned held steps ms vs p 0
+pub IsScanned-none : (held : Held) (steps : List TrailStep) (ms : List Bool) (vs : List Removability) (p : ℕ) → IsScanned held steps ms vs p 0
 IsScanned-none held steps ms vs p c r q lt f = absurd (false≢true f.has_opposite)
 
 -- the whole reason is settled
-pub IsCleared-scanned : (held : Held) (steps : List TrailStep) (ms : List Bool) (vs : List Verdict) (p : ℕ) (a : Cref) (c : List Literal) (i : ℕ) → reason_at steps p ≡ Some a → held a.address ≡ Some c → length c ≤ i
+pub IsCleared-scanned : (held : Held) (steps : List TrailStep) (ms : List Bool) (vs : List Removability) (p : ℕ) (a : Cref) (c : List Literal) (i : ℕ) → reason_at steps p ≡ Some a → held a.address ≡ Some c → length c ≤ i
     → IsScanned held steps ms vs p i → IsCleared held steps ms vs p
 IsCleared-scanned held steps ms vs p a c i e h le x =
     let r : IsReasonOf held steps p c = record { reason = a; reason_is = e; held_is = h } in
     record { lits = c; reason = r; others = λ q lt f. x c r q lt (subst (λ (w : List Literal). MakesFalse steps w q) (sym (take_all i c le)) f) }
 
--- a verdict that was found stays
-abbrev pub Grows : List Verdict → List Verdict → Type 0
-Grows vs ws = (q : ℕ) → is_known vs q ≡ true → verdict_at ws q ≡ verdict_at vs q
+-- what was found stays
+abbrev pub Grows : List Removability → List Removability → Type 0
+Grows vs ws = (q : ℕ) → is_known vs q ≡ true → removability_at ws q ≡ removability_at vs q
 
-module _ (ms : List Bool) (vs ws : List Verdict) (g : Grows vs ws) where
+module _ (ms : List Bool) (vs ws : List Removability) (g : Grows vs ws) where
   pub IsSettled-grown : (q : ℕ) → IsSettled ms vs q → IsSettled ms ws q
   IsSettled-grown q (inl y) = inl y
   IsSettled-grown q (inr e) = inr (g q (ap is_found e) ∙ e)
@@ -115,25 +115,25 @@ module _ (ms : List Bool) (vs ws : List Verdict) (g : Grows vs ws) where
     IsBlocked-grown (inl none) = inl none
     IsBlocked-grown (inr b) = inr (b.0, b.1, IsBlockedBy-grown steps p b.0 b.2)
 
--- a verdict that follows is one
-pub found_Follows : (held : Held) (steps : List TrailStep) (ms : List Bool) (vs : List Verdict) (p : ℕ) (v : Verdict) → Follows held steps ms vs p v → is_found v ≡ true
+-- what follows is removable or needed
+pub found_Follows : (held : Held) (steps : List TrailStep) (ms : List Bool) (vs : List Removability) (p : ℕ) (v : Removability) → Follows held steps ms vs p v → is_found v ≡ true
 found_Follows held steps ms vs p Unknown f = absurd f
 found_Follows held steps ms vs p Removable f = refl
 found_Follows held steps ms vs p Needed f = refl
 
--- the verdict of a place that had none
-module _ (held : Held) (t : TrailData) (ms : List Bool) (vs : MarksData Verdict) (shape : IsTrail t) (k : IsJudged held t.steps t.vars ms vs)
-    (p : ℕ) (lt : p < length t.steps) (off : verdict_at vs.values p ≡ Unknown) (v : Verdict) where
+-- one more place is judged
+module _ (held : Held) (t : TrailData) (ms : List Bool) (vs : MarksData Removability) (shape : IsTrail t) (k : IsJudged held t.steps t.vars ms vs)
+    (p : ℕ) (lt : p < length t.steps) (off : removability_at vs.values p ≡ Unknown) (v : Removability) where
   not_known : is_known vs.values p ≡ false
   not_known = ap is_found off
 
   in_table : p < length vs.values
   in_table = let s = shape.short in let z = k.size in omega arith
 
-  here : verdict_at (set vs.values p v) p ≡ v
+  here : removability_at (set vs.values p v) p ≡ v
   here = get_or-set_same vs.values p v Unknown in_table
 
-  other : (q : ℕ) → (q ≡ p → ⊥) → verdict_at (set vs.values p v) q ≡ verdict_at vs.values q
+  other : (q : ℕ) → (q ≡ p → ⊥) → removability_at (set vs.values p v) q ≡ removability_at vs.values q
   other q ne = get_or-set_other vs.values p q v Unknown ne
 
   pub Grows-set : Grows vs.values (set vs.values p v)
@@ -161,7 +161,7 @@ module _ (held : Held) (t : TrailData) (ms : List Bool) (vs : MarksData Verdict)
       let s = shape.short in
       omega (arith, le, length-append vs.touched (p ∷ []))
 
-  -- another place has a verdict only if it had one
+  -- another place is judged only if it was
   pub known_before : (q : ℕ) → (q ≡ p → ⊥) → is_known (set vs.values p v) q ≡ true → is_known vs.values q ≡ true
   known_before q ne y = ap is_found (sym (other q ne)) ∙ y
 
@@ -187,12 +187,12 @@ module _ (held : Held) (t : TrailData) (ms : List Bool) (vs : MarksData Verdict)
       distinct = pushed;
       cleared = λ q y. elim (cases_eq q p) as (λ _. IsCleared held t.steps ms (set vs.values p v) q) [
         | inl e ↦ subst (λ (r : ℕ). IsCleared held t.steps ms (set vs.values p v) r) (sym e)
-            (IsCleared-grown ms vs.values (set vs.values p v) Grows-set held t.steps p (subst (λ (w : Verdict). Follows held t.steps ms vs.values p w) (sym here ∙ ap (verdict_at (set vs.values p v)) (sym e) ∙ y) f))
+            (IsCleared-grown ms vs.values (set vs.values p v) Grows-set held t.steps p (subst (λ (w : Removability). Follows held t.steps ms vs.values p w) (sym here ∙ ap (removability_at (set vs.values p v)) (sym e) ∙ y) f))
         | inr ne ↦ IsCleared-grown ms vs.values (set vs.values p v) Grows-set held t.steps q (k.cleared q (sym (other q ne) ∙ y))
       ];
       blocked = λ q y. elim (cases_eq q p) as (λ _. IsBlocked held t.steps ms (set vs.values p v) q) [
         | inl e ↦ subst (λ (r : ℕ). IsBlocked held t.steps ms (set vs.values p v) r) (sym e)
-            (IsBlocked-grown ms vs.values (set vs.values p v) Grows-set held t.steps p (subst (λ (w : Verdict). Follows held t.steps ms vs.values p w) (sym here ∙ ap (verdict_at (set vs.values p v)) (sym e) ∙ y) f))
+            (IsBlocked-grown ms vs.values (set vs.values p v) Grows-set held t.steps p (subst (λ (w : Removability). Follows held t.steps ms vs.values p w) (sym here ∙ ap (removability_at (set vs.values p v)) (sym e) ∙ y) f))
         | inr ne ↦ IsBlocked-grown ms vs.values (set vs.values p v) Grows-set held t.steps q (k.blocked q (sym (other q ne) ∙ y))
       ];
     }
@@ -201,8 +201,8 @@ none_twice : IsDistinct nat_eq []
 unfolding IsDistinct
 none_twice = tt
 
--- no place has a verdict
-unknown : (n p : ℕ) → verdict_at (replicate n Unknown) p ≡ Unknown
+-- no place is judged
+unknown : (n p : ℕ) → removability_at (replicate n Unknown) p ≡ Unknown
 unknown zero p = refl
 unknown (suc n) zero = refl
 unknown (suc n) (suc p) = unknown n p

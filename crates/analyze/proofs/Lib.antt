@@ -8,3 +8,4 @@ pub mod Removing
 pub mod Refuting
 pub mod Parts
 pub mod Freshness
+pub mod ReasonSide

@@ -26,8 +26,8 @@ use Rattle.ring_port.specs.PortState.{clause_at}
 use Rattle.analyze.specs.MarksData.{MarksData}
 use Rattle.analyze.specs.Marks.{marked, IsMarking, IsWalked}
 use Rattle.analyze.specs.Removable.{RestsOn, IsNeeded}
-use Rattle.analyze.specs.Verdicts.{verdict_at, is_removable, is_known, is_kept, IsSettled, IsJudged, kept_of}
-use Rattle.analyze.specs.declared.minimise.Verdict.{Verdict}
+use Rattle.analyze.specs.Minimising.{removability_at, is_removable, is_known, is_kept, IsSettled, IsJudged, kept_of}
+use Rattle.analyze.specs.declared.minimise.Removability.{Removability}
 use Rattle.analyze.specs.Lemma.{negated_at, IsMinimisedClause, IsFalseAbove, IsLemma}
 use Rattle.analyze.proofs.Chains.{has-map, rup-Refuted}
 use Rattle.analyze.proofs.Marking.{listed_in_range, touched_few, member_push}
@@ -35,12 +35,12 @@ use Rattle.analyze.proofs.LevelLemmas.{level_of_lit-at}
 use Rattle.analyze.proofs.Refuting.{Refuted-walk}
 use Rattle.analyze.proofs.Removing.{removable_is, removable_or_not, found_needed, removable_sound, needed_stays}
 
-apart_In : (x : ℕ) (ys : List ℕ) (y : ℕ) → AllByRecursion (λ z. nat_eq x z ≡ false) ys → In y ys → nat_eq x y ≡ false
+pub apart_In : (x : ℕ) (ys : List ℕ) (y : ℕ) → AllByRecursion (λ z. nat_eq x z ≡ false) ys → In y ys → nat_eq x y ≡ false
 apart_In x [] y a h = absurd h
 apart_In x (z ∷ ys) y a (inl e) = subst (λ (w : ℕ). nat_eq x w ≡ false) e a.0
 apart_In x (z ∷ ys) y a (inr h) = apart_In x ys y a.1 h
 
-all_apart : (x : ℕ) (ys : List ℕ) → ((y : ℕ) → In y ys → x ≡ y → ⊥) → AllByRecursion (λ z. nat_eq x z ≡ false) ys
+pub all_apart : (x : ℕ) (ys : List ℕ) → ((y : ℕ) → In y ys → x ≡ y → ⊥) → AllByRecursion (λ z. nat_eq x z ≡ false) ys
 all_apart x [] g = tt
 all_apart x (y ∷ ys) g = (false_from_ne_true _ (λ e. g y (inl refl) (eqb-true x y e)), all_apart x ys (λ z h. g z (inr h)))
 
@@ -62,8 +62,8 @@ member_drop xs zero p y = y
 member_drop [] (suc n) p y = y
 member_drop (x ∷ xs) (suc n) p y = or_right (nat_eq p x) _ (member_drop xs n p y)
 
--- with one more place that has a verdict if it is of a lower level, those listed so far have one
-pub found_more : (steps : List TrailStep) (m i : ℕ) (ps : List ℕ) (vs ws : List Verdict) → i < length ps
+-- with one more place that is judged if it is of a lower level, those listed so far are judged
+pub found_more : (steps : List TrailStep) (m i : ℕ) (ps : List ℕ) (vs ws : List Removability) → i < length ps
     → ((p : ℕ) → is_member nat_eq (take i ps) p ≡ true → level_at steps p < m → is_known vs p ≡ true)
     → ((p : ℕ) → is_known vs p ≡ true → is_known ws p ≡ true) → (level_at steps (get_or ps i 0) < m → is_known ws (get_or ps i 0) ≡ true)
     → (p : ℕ) → is_member nat_eq (take (i + 1) ps) p ≡ true → level_at steps p < m → is_known ws p ≡ true
@@ -132,75 +132,75 @@ no_opposites t ps shape h = false_from_ne_true _ (λ y.
     let e : p.0 ≡ q.0 = shape.distinct p.0 q.0 (h p.0 p.1) (h q.0 q.1) (ap (λ (k : Literal). k.var) p.2 ∙ sym (ap (λ (k : Literal). k.var) q.2)) in
     own_opposite l.0 (sym p.2 ∙ ap (negated_at t.steps) e ∙ q.2))
 
-module _ (s : PortState) (t : TrailData) (c : List Literal) (u : ℕ) (ms : MarksData Bool) (vs : MarksData Verdict)
+module _ (s : PortState) (t : TrailData) (c : List Literal) (u : ℕ) (ms : MarksData Bool) (vs : MarksData Removability)
     (shape : IsTrail t) (reasoned : IsReasoned (clause_at s) s.seen t.steps) (inG : Contains (known s) c) (bad : IsFalseClause t.steps c)
     (k : IsMarking t.steps t.vars (clause_level t.steps c) ms) (w : IsWalked (clause_at s) t.steps (clause_level t.steps c) c ms.values u) (pos : 1 ≤ clause_level t.steps c)
     (j : IsJudged (clause_at s) t.steps t.vars ms.values vs) (found : (p : ℕ) → marked ms.values p ≡ true → level_at t.steps p < clause_level t.steps c → is_known vs.values p ≡ true) where
-  -- what was put aside
-  aside : List ℕ
-  aside = kept_of t.steps (clause_level t.steps c) vs.values ms.touched
+  -- the places of the lemma, except the point
+  kept_places : List ℕ
+  kept_places = kept_of t.steps (clause_level t.steps c) vs.values ms.touched
 
-  aside_kept : (p : ℕ) → In p aside → (marked ms.values p ≡ true) × (level_at t.steps p < clause_level t.steps c) × (not (is_removable (verdict_at vs.values p)) ≡ true)
-  unfolding aside
-  aside_kept p h =
+  kept_places_are : (p : ℕ) → In p kept_places → (marked ms.values p ≡ true) × (level_at t.steps p < clause_level t.steps c) × (not (is_removable (removability_at vs.values p)) ≡ true)
+  unfolding kept_places
+  kept_places_are p h =
       let f = filter_In (is_kept t.steps (clause_level t.steps c) vs.values) ms.touched p h in
-      let b = and_parts (nat_lt (level_at t.steps p) (clause_level t.steps c)) (not (is_removable (verdict_at vs.values p))) f.1 in
+      let b = and_parts (nat_lt (level_at t.steps p) (clause_level t.steps c)) (not (is_removable (removability_at vs.values p))) f.1 in
       (sym (k.listed p) ∙ In_member ms.touched p f.0, ltb-true _ _ b.0, b.1)
 
-  aside_marked : (p : ℕ) → In p aside → (marked ms.values p ≡ true) × (level_at t.steps p < clause_level t.steps c)
-  aside_marked p h = let a = aside_kept p h in (a.0, a.1)
+  kept_places_marked : (p : ℕ) → In p kept_places → (marked ms.values p ≡ true) × (level_at t.steps p < clause_level t.steps c)
+  kept_places_marked p h = let a = kept_places_are p h in (a.0, a.1)
 
-  In_aside : (p : ℕ) → marked ms.values p ≡ true → level_at t.steps p < clause_level t.steps c → not (is_removable (verdict_at vs.values p)) ≡ true → In p aside
-  unfolding aside
-  In_aside p y low n =
+  In_kept_places : (p : ℕ) → marked ms.values p ≡ true → level_at t.steps p < clause_level t.steps c → not (is_removable (removability_at vs.values p)) ≡ true → In p kept_places
+  unfolding kept_places
+  In_kept_places p y low n =
       In_filter (is_kept t.steps (clause_level t.steps c) vs.values) ms.touched p (member_In ms.touched p (k.listed p ∙ y)) (and_from _ _ (lt-ltb _ _ low) n)
 
-  places_lt : (p : ℕ) → In p (u ∷ aside) → p < length t.steps
+  places_lt : (p : ℕ) → In p (u ∷ kept_places) → p < length t.steps
   places_lt p (inl e) = let h = w.point.in_range in omega arith
-  places_lt p (inr h) = k.in_range p (aside_marked p h).0
+  places_lt p (inr h) = k.in_range p (kept_places_marked p h).0
 
-  places_above : (p : ℕ) → In p (u ∷ aside) → 0 < level_at t.steps p
+  places_above : (p : ℕ) → In p (u ∷ kept_places) → 0 < level_at t.steps p
   places_above p (inl e) = subst (λ (q : ℕ). 0 < level_at t.steps q) e (let l = w.point.level in omega arith)
-  places_above p (inr h) = k.above p (aside_marked p h).0
+  places_above p (inr h) = k.above p (kept_places_marked p h).0
 
   level_here : (p : ℕ) → p < length t.steps → level_of_lit t.steps (negated_at t.steps p) ≡ level_at t.steps p
   level_here p h = level_of_lit-at t (negated_at t.steps p) p shape (record { in_range = h; var = refl })
 
-  aside_distinct : IsDistinct nat_eq aside
-  unfolding aside
-  aside_distinct = distinct_filter (is_kept t.steps (clause_level t.steps c) vs.values) ms.touched k.distinct
+  kept_places_distinct : IsDistinct nat_eq kept_places
+  unfolding kept_places
+  kept_places_distinct = distinct_filter (is_kept t.steps (clause_level t.steps c) vs.values) ms.touched k.distinct
 
-  places_distinct : IsDistinct nat_eq (u ∷ aside)
-  places_distinct = IsDistinct-cons nat_eq u aside (all_apart u aside (λ p h e. let l = (aside_marked p h).1 in let i = w.point.level in let z = ap (level_at t.steps) e in omega arith)) aside_distinct
+  places_distinct : IsDistinct nat_eq (u ∷ kept_places)
+  places_distinct = IsDistinct-cons nat_eq u kept_places (all_apart u kept_places (λ p h e. let l = (kept_places_marked p h).1 in let i = w.point.level in let z = ap (level_at t.steps) e in omega arith)) kept_places_distinct
 
   lemma_lits : List Literal
-  lemma_lits = map (negated_at t.steps) (u ∷ aside)
+  lemma_lits = map (negated_at t.steps) (u ∷ kept_places)
 
-  in_lemma : (p : ℕ) → In p (u ∷ aside) → has (map opposite lemma_lits) (lit_at t.steps p) ≡ true
+  in_lemma : (p : ℕ) → In p (u ∷ kept_places) → has (map opposite lemma_lits) (lit_at t.steps p) ≡ true
   unfolding lemma_lits
   in_lemma p h =
       subst (λ (x : Literal). has (map opposite lemma_lits) x ≡ true) (opposite-opposite (lit_at t.steps p))
-      (has-map opposite lemma_lits (negated_at t.steps p) (In_has lemma_lits (negated_at t.steps p) (In_map (negated_at t.steps) (u ∷ aside) p h)))
+      (has-map opposite lemma_lits (negated_at t.steps p) (In_has lemma_lits (negated_at t.steps p) (In_map (negated_at t.steps) (u ∷ kept_places) p h)))
 
   -- what was removed
   removed : ℕ → Bool
-  removed q = is_removable (verdict_at vs.values q)
+  removed q = is_removable (removability_at vs.values q)
 
   removed_rests : (p : ℕ) → removed p ≡ true → RestsOn (clause_at s) t.steps (λ q. (marked ms.values q ≡ true) ⊎ (removed q ≡ true)) p
   unfolding removed
   removed_rests p y =
-      let o : RestsOn (clause_at s) t.steps (IsSettled ms.values vs.values) p = j.cleared p (removable_is (verdict_at vs.values p) y) in
+      let o : RestsOn (clause_at s) t.steps (IsSettled ms.values vs.values) p = j.cleared p (removable_is (removability_at vs.values p) y) in
       record {
         lits = o.lits;
         reason = o.reason;
-        others = λ q b f. elim (o.others q b f) as (λ _. (marked ms.values q ≡ true) ⊎ (is_removable (verdict_at vs.values q) ≡ true)) [ inl m ↦ inl m | inr e ↦ inr (ap is_removable e) ];
+        others = λ q b f. elim (o.others q b f) as (λ _. (marked ms.values q ≡ true) ⊎ (is_removable (removability_at vs.values q) ≡ true)) [ inl m ↦ inl m | inr e ↦ inr (ap is_removable e) ];
       }
 
   lemma_lower : (p : ℕ) → marked ms.values p ≡ true → level_at t.steps p < clause_level t.steps c → (removed p ≡ true) ⊎ (has (map opposite lemma_lits) (lit_at t.steps p) ≡ true)
   unfolding removed
-  lemma_lower p y low = elim (removable_or_not (verdict_at vs.values p)) as (λ _. (is_removable (verdict_at vs.values p) ≡ true) ⊎ (has (map opposite lemma_lits) (lit_at t.steps p) ≡ true)) [
+  lemma_lower p y low = elim (removable_or_not (removability_at vs.values p)) as (λ _. (is_removable (removability_at vs.values p) ≡ true) ⊎ (has (map opposite lemma_lits) (lit_at t.steps p) ≡ true)) [
     | inl e ↦ inl e
-    | inr n ↦ inr (in_lemma p (inr (In_aside p y low n)))
+    | inr n ↦ inr (in_lemma p (inr (In_kept_places p y low n)))
   ]
 
   lemma_implied : rup (known s) lemma_lits ≡ true
@@ -212,70 +212,70 @@ module _ (s : PortState) (t : TrailData) (c : List Literal) (u : ℕ) (ms : Mark
   unfolding lemma_lits
   lemma_clause = record {
     on = λ i d lt. (
-        let p = map_In (negated_at t.steps) (u ∷ aside) (get_or lemma_lits i d) (In_get_or lemma_lits i d lt) in
+        let p = map_In (negated_at t.steps) (u ∷ kept_places) (get_or lemma_lits i d) (In_get_or lemma_lits i d lt) in
         subst (λ (l : Literal). IsOn t.vars l) p.2 (record { low = shape.low p.0 (places_lt p.0 p.1); high = shape.high p.0 (places_lt p.0 p.1) }));
-    distinct = distinct_negated t (u ∷ aside) shape places_distinct places_lt;
-    no_opposites = no_opposites t (u ∷ aside) shape places_lt;
+    distinct = distinct_negated t (u ∷ kept_places) shape places_distinct places_lt;
+    no_opposites = no_opposites t (u ∷ kept_places) shape places_lt;
   }
 
-  lemma_minimised : IsMinimisedClause s t.steps c (negated_at t.steps u) (map (negated_at t.steps) aside)
+  lemma_minimised : IsMinimisedClause s t.steps c (negated_at t.steps u) (map (negated_at t.steps) kept_places)
   lemma_minimised = record {
     place = u;
     point = w.point;
     first_is = refl;
-    all = λ p n. In_has (map (negated_at t.steps) aside) (negated_at t.steps p) (In_map (negated_at t.steps) aside p (needed_In p n));
+    all = λ p n. In_has (map (negated_at t.steps) kept_places) (negated_at t.steps p) (In_map (negated_at t.steps) kept_places p (needed_In p n));
     only = λ l h. (
-        let p = map_In (negated_at t.steps) aside l (has_In (map (negated_at t.steps) aside) l h) in
+        let p = map_In (negated_at t.steps) kept_places l (has_In (map (negated_at t.steps) kept_places) l h) in
         (p.0, In_needed p.0 p.1, sym p.2));
   }
     where
-      needed_In : (p : ℕ) → IsNeeded (clause_at s) t.steps (clause_level t.steps c) c u p → In p aside
+      needed_In : (p : ℕ) → IsNeeded (clause_at s) t.steps (clause_level t.steps c) c u p → In p kept_places
       needed_In p n =
           let y = w.complete p n.left.reached in
-          elim (removable_or_not (verdict_at vs.values p)) as (λ _. In p aside) [
-            | inl e ↦ absurd (n.not_removable (removable_sound (clause_at s) t ms.values vs (clause_level t.steps c) c u shape j w (suc p) p (omega arith) n.left.in_range n.left.lower (removable_is (verdict_at vs.values p) e)))
-            | inr stay ↦ In_aside p y n.left.lower stay
+          elim (removable_or_not (removability_at vs.values p)) as (λ _. In p kept_places) [
+            | inl e ↦ absurd (n.not_removable (removable_sound (clause_at s) t ms.values vs (clause_level t.steps c) c u shape j w (suc p) p (omega arith) n.left.in_range n.left.lower (removable_is (removability_at vs.values p) e)))
+            | inr stay ↦ In_kept_places p y n.left.lower stay
           ]
 
-      In_needed : (p : ℕ) → In p aside → IsNeeded (clause_at s) t.steps (clause_level t.steps c) c u p
+      In_needed : (p : ℕ) → In p kept_places → IsNeeded (clause_at s) t.steps (clause_level t.steps c) c u p
       In_needed p h =
-          let a = aside_kept p h in
+          let a = kept_places_are p h in
           record {
             left = record { in_range = k.in_range p a.0; above = k.above p a.0; lower = a.1; reached = w.sound p a.0 };
-            not_removable = needed_stays (clause_at s) t ms.values vs (clause_level t.steps c) c u shape j w p (found_needed (verdict_at vs.values p) (found p a.0 a.1) a.2);
+            not_removable = needed_stays (clause_at s) t ms.values vs (clause_level t.steps c) c u shape j w p (found_needed (removability_at vs.values p) (found p a.0 a.1) a.2);
           }
 
-  IsLemma-walked : (back glue : ℕ) → back ≡ greatest (map (level_at t.steps) aside) → glue ≡ distinct_count nat_eq (map (level_at t.steps) aside) → IsLemma s t c lemma_lits back glue
+  IsLemma-walked : (back glue : ℕ) → back ≡ greatest (map (level_at t.steps) kept_places) → glue ≡ distinct_count nat_eq (map (level_at t.steps) kept_places) → IsLemma s t c lemma_lits back glue
   unfolding lemma_lits
   IsLemma-walked back glue b g = record {
     first = negated_at t.steps u;
-    rest = map (negated_at t.steps) aside;
+    rest = map (negated_at t.steps) kept_places;
     parts = refl;
     implied = lemma_implied;
     clause = lemma_clause;
-    all_false = λ l h. literal_false l (map_In (negated_at t.steps) (u ∷ aside) l (has_In lemma_lits l h));
+    all_false = λ l h. literal_false l (map_In (negated_at t.steps) (u ∷ kept_places) l (has_In lemma_lits l h));
     asserting = level_here u w.point.in_range ∙ w.point.level;
-    below = λ l h. literal_low l (map_In (negated_at t.steps) aside l (has_In (map (negated_at t.steps) aside) l h));
-    back_is = b ∙ ap greatest (sym (levels_at t aside shape (λ p h. places_lt p (inr h))));
-    glue_is = g ∙ ap (distinct_count nat_eq) (sym (levels_at t aside shape (λ p h. places_lt p (inr h))));
+    below = λ l h. literal_low l (map_In (negated_at t.steps) kept_places l (has_In (map (negated_at t.steps) kept_places) l h));
+    back_is = b ∙ ap greatest (sym (levels_at t kept_places shape (λ p h. places_lt p (inr h))));
+    glue_is = g ∙ ap (distinct_count nat_eq) (sym (levels_at t kept_places shape (λ p h. places_lt p (inr h))));
     minimised = lemma_minimised;
   }
     where
-      literal_false : (l : Literal) → ((p : ℕ) × In p (u ∷ aside) × (negated_at t.steps p ≡ l)) → IsFalseAbove t.steps l
+      literal_false : (l : Literal) → ((p : ℕ) × In p (u ∷ kept_places) × (negated_at t.steps p ≡ l)) → IsFalseAbove t.steps l
       literal_false l p = record {
         false_now = record { place = p.0; before = places_lt p.0 p.1; false_there = sym (opposite-opposite (lit_at t.steps p.0)) ∙ ap opposite p.2 };
         above = (let e = ap (level_of_lit t.steps) p.2 in let a = places_above p.0 p.1 in let h = level_here p.0 (places_lt p.0 p.1) in omega arith);
       }
 
-      literal_low : (l : Literal) → ((p : ℕ) × In p aside × (negated_at t.steps p ≡ l)) → level_of_lit t.steps l < clause_level t.steps c
+      literal_low : (l : Literal) → ((p : ℕ) × In p kept_places × (negated_at t.steps p ≡ l)) → level_of_lit t.steps l < clause_level t.steps c
       literal_low l p =
           let e = ap (level_of_lit t.steps) p.2 in
-          let a = (aside_marked p.0 p.1).1 in
+          let a = (kept_places_marked p.0 p.1).1 in
           let h = level_here p.0 (places_lt p.0 (inr p.1)) in
           omega arith
 
--- what the walk marked and put aside makes the lemma
-pub IsLemma-from : (s : PortState) (t : TrailData) (m : ℕ) (c : List Literal) (u : ℕ) (ms : MarksData Bool) (vs : MarksData Verdict)
+-- what the walk marked and minimisation kept makes the lemma
+pub IsLemma-from : (s : PortState) (t : TrailData) (m : ℕ) (c : List Literal) (u : ℕ) (ms : MarksData Bool) (vs : MarksData Removability)
     → IsTrail t → IsReasoned (clause_at s) s.seen t.steps → Contains (known s) c → IsFalseClause t.steps c → m ≡ clause_level t.steps c → 1 ≤ m
     → IsMarking t.steps t.vars m ms → IsWalked (clause_at s) t.steps m c ms.values u
     → IsJudged (clause_at s) t.steps t.vars ms.values vs → ((p : ℕ) → marked ms.values p ≡ true → level_at t.steps p < m → is_known vs.values p ≡ true)
@@ -291,7 +291,7 @@ IsLemma-from s t m c u ms vs shape reasoned inG bad e pos k w j found back glue 
         → ((p : ℕ) → marked ms.values p ≡ true → level_at t.steps p < clause_level t.steps c → is_known vs.values p ≡ true)
         → back ≡ greatest (map (level_at t.steps) (kept_of t.steps (clause_level t.steps c) vs.values ms.touched)) → glue ≡ distinct_count nat_eq (map (level_at t.steps) (kept_of t.steps (clause_level t.steps c) vs.values ms.touched))
         → IsLemma s t c (negated_at t.steps u ∷ map (negated_at t.steps) (kept_of t.steps (clause_level t.steps c) vs.values ms.touched)) back glue
-    from p k w f b g = unfold lemma_lits in unfold aside in IsLemma-walked s t c u ms vs shape reasoned inG bad k w p j f back glue b g
+    from p k w f b g = unfold lemma_lits in unfold kept_places in IsLemma-walked s t c u ms vs shape reasoned inG bad k w p j f back glue b g
 
 module _ (t : TrailData) (m : ℕ) (ms : MarksData Bool) (shape : IsTrail t) (k : IsMarking t.steps t.vars m ms) where
   listed_lt : (p : ℕ) → In p ms.touched → p < length t.steps
@@ -303,8 +303,8 @@ module _ (t : TrailData) (m : ℕ) (ms : MarksData Bool) (shape : IsTrail t) (k 
   pub touched_short : length ms.touched ≤ length t.steps
   touched_short = touched_few t m ms shape k
 
-  module _ (vs : List Verdict) where
-    kept_listed : (p : ℕ) → In p (kept_of t.steps m vs ms.touched) → In p ms.touched
+  module _ (vs : List Removability) where
+    pub kept_listed : (p : ℕ) → In p (kept_of t.steps m vs ms.touched) → In p ms.touched
     kept_listed p h = (filter_In (is_kept t.steps m vs) ms.touched p h).0
 
     pub kept_in_range : All (λ p. p < length t.steps) (kept_of t.steps m vs ms.touched)

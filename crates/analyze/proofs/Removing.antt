@@ -1,4 +1,4 @@
--- The verdicts are those that the definitions ask for.
+-- What minimisation finds is what the definitions say.
 use Rattle.std.proofs.Common.{◌≡◌, ◌∙◌, ℕ, zero, suc, ◌<◌, Bool, true, false, not, List, length, Some, None, refl, sym, ap, subst, inl, inr, ◌⊎◌, arith}
 use Rattle.std.proofs.lemmas.Bool.{false≢true}
 use Rattle.sat_words.specs.Literal.{Literal}
@@ -8,37 +8,37 @@ use Rattle.analyze.specs.MarksData.{MarksData}
 use Rattle.analyze.specs.Walk.{MakesFalse, IsLeft}
 use Rattle.analyze.specs.Marks.{IsWalked}
 use Rattle.analyze.specs.Removable.{IsReasonOf, RestsOn, IsRemovableSet, IsRemovable}
-use Rattle.analyze.specs.Verdicts.{verdict_at, is_found, is_removable, IsSettled, IsBlockedBy, IsBlocked, IsJudged}
-use Rattle.analyze.specs.declared.minimise.Verdict.{Verdict}
-use Rattle.analyze.specs.declared.minimise.Verdict.TheVariants.{Unknown, Removable, Needed}
+use Rattle.analyze.specs.Minimising.{removability_at, is_found, is_removable, IsSettled, IsBlockedBy, IsBlocked, IsJudged}
+use Rattle.analyze.specs.declared.minimise.Removability.{Removability}
+use Rattle.analyze.specs.declared.minimise.Removability.TheVariants.{Unknown, Removable, Needed}
 use Rattle.analyze.proofs.Judging.{one_reason}
 
-pub removable_is : (v : Verdict) → is_removable v ≡ true → v ≡ Removable
+pub removable_is : (v : Removability) → is_removable v ≡ true → v ≡ Removable
 removable_is Unknown e = absurd (false≢true e)
 removable_is Removable e = refl
 removable_is Needed e = absurd (false≢true e)
 
-pub removable_or_not : (v : Verdict) → (is_removable v ≡ true) ⊎ (not (is_removable v) ≡ true)
+pub removable_or_not : (v : Removability) → (is_removable v ≡ true) ⊎ (not (is_removable v) ≡ true)
 removable_or_not Unknown = inr refl
 removable_or_not Removable = inl refl
 removable_or_not Needed = inr refl
 
-pub found_needed : (v : Verdict) → is_found v ≡ true → not (is_removable v) ≡ true → v ≡ Needed
+pub found_needed : (v : Removability) → is_found v ≡ true → not (is_removable v) ≡ true → v ≡ Needed
 found_needed Unknown f n = absurd (false≢true f)
 found_needed Removable f n = absurd (false≢true n)
 found_needed Needed f n = refl
 
--- the test of a verdict that isn't that the place is needed
-not_needed : Verdict → Bool
+-- the test whether it isn't found needed
+not_needed : Removability → Bool
 not_needed Unknown = true
 not_needed Removable = true
 not_needed Needed = false
 
 -- a place that isn't removable hasn't both a settled reason and one that blocks it
-module _ (held : Held) (t : TrailData) (ms : List Bool) (vs : MarksData Verdict) (m : ℕ) (c : List Literal) (u : ℕ)
+module _ (held : Held) (t : TrailData) (ms : List Bool) (vs : MarksData Removability) (m : ℕ) (c : List Literal) (u : ℕ)
     (shape : IsTrail t) (j : IsJudged held t.steps t.vars ms vs) (w : IsWalked held t.steps m c ms u) where
   -- what is found removable is in each set that has what rests on it
-  pub removable_sound : (n p : ℕ) → p < n → p < length t.steps → level_at t.steps p < m → verdict_at vs.values p ≡ Removable → IsRemovable held t.steps m c u p
+  pub removable_sound : (n p : ℕ) → p < n → p < length t.steps → level_at t.steps p < m → removability_at vs.values p ≡ Removable → IsRemovable held t.steps m c u p
   removable_sound zero p h lt low e R set = absurd (omega arith)
   removable_sound (suc n) p h lt low e R set =
       let o : RestsOn held t.steps (IsSettled ms vs.values) p = j.cleared p e in
@@ -56,9 +56,9 @@ module _ (held : Held) (t : TrailData) (ms : List Bool) (vs : MarksData Verdict)
 
   -- the places that aren't found needed are such a set
   unneeded : ℕ → Bool
-  unneeded q = not_needed (verdict_at vs.values q)
+  unneeded q = not_needed (removability_at vs.values q)
 
-  unneeded_Needed : (q : ℕ) → verdict_at vs.values q ≡ Needed → unneeded q ≡ true → ⊥
+  unneeded_Needed : (q : ℕ) → removability_at vs.values q ≡ Needed → unneeded q ≡ true → ⊥
   unfolding unneeded not_needed
   unneeded_Needed q e y = false≢true (sym (ap not_needed e) ∙ y)
 
@@ -75,13 +75,13 @@ module _ (held : Held) (t : TrailData) (ms : List Bool) (vs : MarksData Verdict)
 
   unneeded_set : IsRemovableSet held t.steps m c u unneeded
   unfolding unneeded not_needed
-  unneeded_set p r = by (verdict_at vs.values p) refl
+  unneeded_set p r = by (removability_at vs.values p) refl
     where
-      by : (v : Verdict) → verdict_at vs.values p ≡ v → unneeded p ≡ true
+      by : (v : Removability) → removability_at vs.values p ≡ v → unneeded p ≡ true
       by Unknown e = ap not_needed e
       by Removable e = ap not_needed e
       by Needed e = absurd (blocked_not p r (j.blocked p e))
 
   -- so what is found needed isn't removable
-  pub needed_stays : (p : ℕ) → verdict_at vs.values p ≡ Needed → IsRemovable held t.steps m c u p → ⊥
+  pub needed_stays : (p : ℕ) → removability_at vs.values p ≡ Needed → IsRemovable held t.steps m c u p → ⊥
   needed_stays p e r = unneeded_Needed p e (r unneeded unneeded_set)

@@ -2,27 +2,27 @@
 use Rattle.std.specs.Prelude.{◌≡◌, ◌≤◌, ◌+◌, ◌^◌, ℕ, false, List, vec_capacity}
 use Rattle.sat_words.specs.Literal.{Literal}
 use Rattle.analyze.specs.declared.analysis.Analysis.TheInside.{Inside}
-use Rattle.analyze.specs.declared.minimise.Verdict.TheVariants.{Unknown}
+use Rattle.analyze.specs.declared.minimise.Removability.TheVariants.{Unknown}
 use Rattle.analyze.specs.MarksData.{all_blank}
 
--- for how many variables, the literals found last, and the variables that the walk to them met
+-- for how many variables, the literals of the last lemma, and the variables to bump after the last conflict
 pub record AnalysisData : Type 0 where
   pub vars : ℕ
   pub lits : List Literal
-  pub met : List ℕ
+  pub analyzed : List ℕ
 
 -- one of the variables from 1 to the last
 pub record IsVariable (vars v : ℕ) : Type 0 where
   pub low : 1 ≤ v
   pub high : v ≤ vars
 
--- no mark and no verdict is left, and the buffers are large enough
+-- nothing is marked or judged between calls, and the buffers are large enough
 pub record IsReady (a : Inside) : Type 0 where
   pub small : a.vars ≤ 2 ^ 30
   pub marks : a.marks ≡ all_blank a.vars false
   pub levels : a.levels ≡ all_blank (a.vars + 1) false
-  pub verdicts : a.verdicts.table ≡ all_blank a.vars Unknown
-  pub aside_room : a.vars ≤ vec_capacity a.aside
-  pub waiting_room : a.vars ≤ vec_capacity a.verdicts.waiting
+  pub minimisation : a.minimisation.table ≡ all_blank a.vars Unknown
+  pub kept_places_room : a.vars ≤ vec_capacity a.kept_places
+  pub waiting_room : a.vars ≤ vec_capacity a.minimisation.waiting
   pub lits_room : a.vars + 1 ≤ vec_capacity a.lits
-  pub met_room : a.vars ≤ vec_capacity a.met
+  pub analyzed_room : a.vars ≤ vec_capacity a.analyzed

@@ -1,4 +1,4 @@
--- What a conflict teaches.
+-- What follows from a conflict.
 use Rattle.std.specs.Prelude.{◌≡◌, ℕ, ◌<◌, true, List, [], ◌∷◌, length}
 use Rattle.sat_words.specs.Literal.{Literal, opposite}
 use Rattle.sat_words.specs.Clause.{has}
@@ -18,7 +18,7 @@ use Rattle.analyze.specs.declared.analysis.Conclusion.TheVariants.{Empty, Lemma}
 abbrev pub negated_at : List TrailStep → ℕ → Literal
 negated_at steps p = opposite (lit_at steps p)
 
--- the minimised clause of the walk: the negation of the point's literal, and in whatever order those of what it left and isn't removable
+-- the minimised clause of the walk: the negation of the point's literal, and those of the needed places in any order
 pub record IsMinimisedClause (s : PortState) (steps : List TrailStep) (conflict : List Literal) (first : Literal) (rest : List Literal) : Type 0 where
   pub place : ℕ
   pub point : IsFirstPoint (clause_at s) steps (clause_level steps conflict) conflict place
@@ -45,13 +45,13 @@ pub record IsLemma (s : PortState) (t : TrailData) (conflict lits : List Literal
   -- the first alone is of the conflict's level
   pub asserting : level_of_lit t.steps first ≡ clause_level t.steps conflict
   pub below : (k : Literal) → has rest k ≡ true → level_of_lit t.steps k < clause_level t.steps conflict
-  -- the level to go back to is the greatest of the others, and the glue is how many levels they have
+  -- the level to backjump to is the greatest of the others' levels, and the glue is how many levels they have
   pub back_is : back ≡ greatest (levels_of t.steps rest)
   pub glue_is : glue ≡ count_of_levels t.steps rest
-  -- they are those of the walk except for the removable ones
+  -- they are those of the walk, except the removable ones
   pub minimised : IsMinimisedClause s t.steps conflict first rest
 
--- nothing at level 0, if the empty clause follows; else a lemma
+-- at level 0 the empty clause follows; above it there is a lemma
 abbrev pub IsConclusion : PortState → TrailData → List Literal → List Literal → Conclusion → Type 0
 IsConclusion s t conflict lits Empty = (clause_level t.steps conflict ≡ 0) × (rup (known s) [] ≡ true)
 IsConclusion s t conflict lits (Lemma back glue) = (0 < clause_level t.steps conflict) × IsLemma s t conflict lits back glue

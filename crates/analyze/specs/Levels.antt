@@ -14,10 +14,11 @@ greatest (n ∷ ns) = max n (greatest ns)
 abbrev pub level_of_lit : List TrailStep → Literal → ℕ
 level_of_lit steps l = unwrap_or (level_of steps l.var) 0
 
+-- the levels of a clause's literals
 abbrev pub levels_of : List TrailStep → List Literal → List ℕ
 levels_of steps c = map (level_of_lit steps) c
 
--- the greatest level of a clause's literals; if it is false, the level at which it became so
+-- the greatest level of a clause's literals; if the clause is false, the level at which it became so
 abbrev pub clause_level : List TrailStep → List Literal → ℕ
 clause_level steps c = greatest (levels_of steps c)
 

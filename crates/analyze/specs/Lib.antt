@@ -1,10 +1,11 @@
 pub mod Levels
 pub mod Walk
 pub mod Removable
-pub mod Verdicts
+pub mod Minimising
 pub mod Scanning
 pub mod MarksData
 pub mod MarksInside
 pub mod Marks
 pub mod Lemma
+pub mod ReasonSide
 pub mod AnalysisData

@@ -23,7 +23,7 @@ unfoldable pub open_below : List TrailStep → ℕ → List Bool → ℕ → ℕ
 open_below steps m marks zero = 0
 open_below steps m marks (suc n) = open_below steps m marks n + cond (is_open steps m marks n) 1 0
 
--- the marks stand on places above level 0 and of levels up to m, which are listed once each
+-- the marks are on places above level 0 and of levels up to m, and each marked place is listed once
 pub record IsMarking (steps : List TrailStep) (vars m : ℕ) (marks : MarksData Bool) : Type 0 where
   pub blank : marks.blank ≡ false
   pub size : length marks.values ≡ vars
@@ -38,10 +38,11 @@ pub record CanMark (steps : List TrailStep) (m bound : ℕ) (k : Literal) : Type
   pub false_or_own : ((bound < length steps) × (k ≡ lit_at steps bound)) ⊎ FalseBefore steps bound k
   pub within : (p : ℕ) → p < bound → var_at steps p ≡ k.var → level_at steps p ≤ m
 
+-- each literal of the clause is so
 abbrev pub CanMarkAll : List TrailStep → ℕ → ℕ → List Literal → Type 0
 CanMarkAll steps m bound c = (k : Literal) → has c k ≡ true → CanMark steps m bound k
 
--- the places below the bound that make the clause false are marked too, n of them of this level that weren't marked
+-- the places below the bound that make the clause false are marked too; n of them are newly marked and of this level
 pub record HasMarked (steps : List TrailStep) (m : ℕ) (old new : List Bool) (bound : ℕ) (c : List Literal) (n : ℕ) : Type 0 where
   pub kept : (p : ℕ) → marked old p ≡ true → marked new p ≡ true
   pub only : (p : ℕ) → marked new p ≡ true → (marked old p ≡ true) ⊎ ((p < bound) × MakesFalse steps c p)

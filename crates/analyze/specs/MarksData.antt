@@ -1,7 +1,7 @@
 -- A value for each place of a table, and the places that were marked.
 use Rattle.std.specs.Prelude.{ℕ, List, [], ◌∷◌, ◌++◌, replicate, slice_set}
 
--- what stands at a place that isn't marked, the values by place, and the places that are, in the order in which they were marked
+-- the value of a place that isn't marked, the values by place, and the marked places in the order in which they were marked
 pub record MarksData (T : Type 0) : Type 0 where
   pub blank : T
   pub values : List T

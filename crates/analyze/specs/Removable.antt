@@ -1,5 +1,5 @@
--- Which places of those that the walk left the lemma can do without. The asserting literal stands at a higher level than all of
--- these, so none of their reasons has it.
+-- Which of the places that the walk left are removable. The asserting literal is of a higher level than all of these, so none
+-- of their reasons has it.
 use Rattle.std.specs.Prelude.{◌≡◌, ℕ, ◌<◌, Bool, true, ◌⊎◌, List, Some}
 use Rattle.sat_words.specs.Literal.{Literal}
 use Rattle.sat_words.specs.declared.shared.Cref.{Cref}

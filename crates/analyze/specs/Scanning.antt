@@ -1,14 +1,15 @@
--- What the scan of a reason works over.
+-- What the scan of a reason asks for.
 use Rattle.std.specs.Prelude.{◌≡◌, ◌<◌, ◌≤◌, Bool, List, length}
 use Rattle.ring_port.specs.PortState.{PortState, clause_at}
 use Rattle.ring_trail.specs.TrailData.{TrailData, IsTrail, level_at}
 use Rattle.ring_trail.specs.Reasoned.{IsReasoned}
-use Rattle.analyze.specs.declared.minimise.Verdict.{Verdict}
+use Rattle.analyze.specs.declared.minimise.Removability.{Removability}
 use Rattle.analyze.specs.declared.minimise.Frame.{Frame}
-use Rattle.analyze.specs.Verdicts.{IsScanned}
+use Rattle.analyze.specs.Minimising.{IsScanned}
 
--- a trail with reasons, a mark and a verdict for each place, and a place above level 0 of whose reason the first literals are settled
-pub record CanScan (s : PortState) (t : TrailData) (ms : List Bool) (vs : List Verdict) (f : Frame) : Type 0 where
+-- the trail has reasons, the tables have an entry for each place, and the frame's place is above level 0, with the first literals of
+-- its reason settled
+pub record CanScan (s : PortState) (t : TrailData) (ms : List Bool) (vs : List Removability) (f : Frame) : Type 0 where
   pub shape : IsTrail t
   pub reasoned : IsReasoned (clause_at s) s.seen t.steps
   pub marks : length ms ≡ t.vars

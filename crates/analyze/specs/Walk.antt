@@ -1,5 +1,5 @@
--- The walk from a conflict back along the trail, in the implication graph: a literal that was forced leads to the other
--- literals of its reason, which became false before it. What is at level 0 is left out.
+-- The walk from a conflict back along the trail, in the implication graph. A forced literal leads to the other literals of its
+-- reason, which became false before it. Literals at level 0 are left out.
 use Rattle.std.specs.Prelude.{◌≡◌, ℕ, suc, ◌<◌, ◌≤◌, Bool, true, List, length, Some}
 use Rattle.sat_words.specs.Literal.{Literal, opposite}
 use Rattle.sat_words.specs.Clause.{has}
@@ -14,7 +14,7 @@ pub record MakesFalse (steps : List TrailStep) (c : List Literal) (p : ℕ) : Ty
   pub above : 0 < level_at steps p
   pub has_opposite : has c (opposite (lit_at steps p)) ≡ true
 
--- one of a place's reason that stands before it, if the place is of level m and not before i
+-- place p has another literal of the reason of place q, which is of level m and not before place i
 pub record LeadsTo (held : Held) (steps : List TrailStep) (m i q p : ℕ) : Type 0 where
   pub in_range : q < length steps
   pub from_here : i ≤ q
@@ -35,8 +35,8 @@ pub record IsWalkSet (held : Held) (steps : List TrailStep) (m : ℕ) (conflict 
 abbrev pub IsReached : Held → List TrailStep → ℕ → List Literal → ℕ → ℕ → Type 0
 IsReached held steps m conflict i p = (R : ℕ → Bool) → IsWalkSet held steps m conflict i R → R p ≡ true
 
--- the first unique implication point: walking down to it, it is the only place of the conflict's level that is marked and not
--- walked past; and at each marked place of the level after it there is another one before that
+-- the first unique implication point: once the walk is down at it, no earlier place of the conflict's level is marked; and at each
+-- marked place of that level after it, an earlier one is marked
 pub record IsFirstPoint (held : Held) (steps : List TrailStep) (m : ℕ) (conflict : List Literal) (u : ℕ) : Type 0 where
   pub in_range : u < length steps
   pub level : level_at steps u ≡ m
@@ -45,7 +45,7 @@ pub record IsFirstPoint (held : Held) (steps : List TrailStep) (m : ℕ) (confli
   pub first : (v : ℕ) → u < v → v < length steps → level_at steps v ≡ m → IsReached held steps m conflict (suc v) v
       → (p : ℕ) × (p < v) × (level_at steps p ≡ m) × IsReached held steps m conflict (suc v) p
 
--- a place that the walk leaves in the clause beside the point: it is marked, and of a lower level
+-- a place that the walk leaves in the clause beside the point: it is marked, and of a lower level than the conflict's
 pub record IsLeft (held : Held) (steps : List TrailStep) (m : ℕ) (conflict : List Literal) (u p : ℕ) : Type 0 where
   pub in_range : p < length steps
   pub above : 0 < level_at steps p

@@ -8,7 +8,7 @@ ghost use Rattle.ring_trail.specs.Closed.{IsClosed};
 ghost use Rattle.analyze.specs.Levels.{clause_level};
 ghost use Rattle.analyze.specs.Lemma.{IsLemma};
 
-/// A lemma contains no clause of those for which the trail was closed at each level below the conflict's.
+/// A lemma contains no clause for which the trail was closed at each level below the conflict's.
 pub fn contains_no_closed()
     ensures { (s : PortState) (t : TrailData) (conflict lits : List Literal) (back glue : ℕ) (cs : List (List Literal)) (c : List Literal)
         → IsTrail t → 0 < clause_level t.steps conflict → IsLemma s t conflict lits back glue
@@ -16,15 +16,15 @@ pub fn contains_no_closed()
         → ((l : Literal) → has c l ≡ true → has lits l ≡ true) → ⊥ }
 {}
 
-/// If the trail was closed at each level below the present one, a clause of those that is false is so at the present
-/// level.
+/// If the trail was closed for some clauses at each level below the present one, each of them that is false became so at the
+/// present level.
 pub fn conflicts_are_at_the_present_level()
     ensures { (t : TrailData) (cs : List (List Literal)) (c : List Literal) → IsTrail t
         → ((k : ℕ) → k < t.level → IsClosed cs t.steps k) → Contains cs c → IsFalseClause t.steps c → clause_level t.steps c ≡ t.level }
 {}
 
-/// Going back to the level that came with a lemma takes the value of its first literal away and leaves its others false:
-/// the lemma forces the first one then.
+/// The backjump to a lemma's level takes the value of its first literal away and leaves its others false. Then the lemma
+/// forces the first one.
 pub fn a_lemma_forces_its_first_literal()
     ensures lower { (s : PortState) (t : TrailData) (conflict lits : List Literal) (back glue : ℕ) → IsTrail t → 0 < clause_level t.steps conflict
         → IsLemma s t conflict lits back glue → back < clause_level t.steps conflict }

@@ -1,8 +1,16 @@
-//! What a conflict teaches: the minimised clause of its first unique implication point, the level to go back to and its
-//! glue.
+//! Conflict analysis: from a clause that is false on the trail to the lemma that a ring learns.
 //!
-//! `Walk` of specs/ says what the walk from the conflict marks and where it ends, `Removable` what of it can go again, and
-//! `Lemma` what is learned there.
+//! 1. The walk resolves the conflict with the reasons of its literals, the last assigned one first, until one literal of
+//!    the conflict's level is left (Marques-Silva and Sakallah 1999). It is the first unique implication point (Zhang,
+//!    Madigan, Moskewicz and Malik 2001).
+//! 2. Minimisation removes each other literal if the others of its reason are at level 0, in the clause or removable too
+//!    (Sörensson and Biere 2009).
+//! 3. The lemma has the point's literal first, a level to backjump to and a glue (Audemard and Simon 2009).
+//! 4. The variables to bump are those of the walk and of the reasons of the lemma's literals (Liang, Ganesh, Poupart and
+//!    Czarnecki 2016).
+//!
+//! Of specs/, `Walk` defines the walk and its end, `Removable` what minimisation removes, `Lemma` what is learned and
+//! `ReasonSide` what is bumped.
 #![tactic(auto)]
 
 mod analysis;
@@ -10,6 +18,7 @@ mod laws;
 mod lemma;
 mod marks;
 mod minimise;
+mod reason_side;
 mod walk;
 
 pub use analysis::{Analysis, Conclusion};

@@ -1,6 +1,5 @@
-//! A table by place that is made blank again in time of how many of its places were marked, as conflict analysis needs it:
-//! it marks few of all places, and does so for each conflict. Its list of marked places must name each place that isn't
-//! blank.
+//! A table by place that is made blank again in time of how many of its places were marked. Conflict analysis marks few of
+//! all places, and does so for each conflict. The list of marked places must name each place that isn't blank.
 ghost use Rattle.std.specs.Prelude.{◌≡◌, ◌<◌, ℕ, All, IfOk, false, nat_eq, length, replicate};
 ghost use Rattle.std.specs.List.{slice_index_or};
 ghost use Rattle.std.specs.Set.{is_member};
@@ -9,7 +8,7 @@ ghost use Rattle.analyze.specs.MarksData.{all_blank, with_mark};
 use std::alloc::{AllocError, Global};
 use std::marker::Model;
 
-/// A value for each place, and the places that were marked with one. No call but `new` takes memory.
+/// A value for each place, and the places that were marked with one. Only `new` takes memory.
 #[derive(Drop)]
 pub(crate) struct Marks<T> {
     blank: T,
@@ -86,7 +85,7 @@ impl<T: Copy> Marks<T> {
     }
 }
 
-/// Makes the listed places blank, the others being so.
+/// Makes the listed places blank. The others must be so already.
 fn make_blank<T: Copy>(values: &mut Vec<T>, touched: &[u32], blank: T)
     requires in_range { All (λ p. p < length values.old.items) touched.now }
     requires others { (p : ℕ) → is_member nat_eq touched.now p ≡ false → slice_index_or values.old.items p blank ≡ blank }

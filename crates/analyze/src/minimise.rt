@@ -1,6 +1,6 @@
-//! Minimisation of the walk's clause (Sörensson and Biere 2009): a place of a lower level may go if the others of
-//! its reason are at level 0, marked, or may go too. The scans of reasons go in depth, over a stack of their own in
-//! place of recursion. A verdict may rest only on marks and on verdicts of earlier places.
+//! Minimisation of the walk's clause (Sörensson and Biere 2009). A place of a lower level is removable if the others of its
+//! reason are at level 0, marked, or removable too. The reasons are scanned depth first, with a stack in place of
+//! recursion. What is found of a place may rest only on marks and on what was found of earlier places.
 ghost use Rattle.std.specs.Prelude.{◌≡◌, ◌≤◌, ◌<◌, ◌⊎◌, ℕ, true, Some, All, length};
 ghost use Rattle.std.specs.Vec.{vec_capacity};
 ghost use Rattle.ring_port.specs.PortState.{clause_at};
@@ -9,7 +9,7 @@ ghost use Rattle.ring_trail.specs.Reasoned.{IsReasoned};
 ghost use Rattle.analyze.specs.MarksData.{all_blank};
 ghost use Rattle.analyze.specs.Marks.{marked, IsMarking};
 ghost use Rattle.analyze.specs.Scanning.{CanScan};
-ghost use Rattle.analyze.specs.Verdicts.{CanLook, IsLook, IsScan, IsJudged, is_kept, is_known, kept_of, verdict_at};
+ghost use Rattle.analyze.specs.Minimising.{CanLook, IsLook, IsScan, IsJudged, is_kept, is_known, kept_of, removability_at};
 
 use crate::marks::Marks;
 use ring_port::Port;
@@ -18,12 +18,12 @@ use sat_words::{Cref, Lit};
 
 /// What minimisation has found of a place.
 #[derive(Clone, Copy, PartialEq, Eq)]
-pub(crate) enum Verdict {
+pub(crate) enum Removability {
     /// Nothing yet.
     Unknown,
     /// It has a reason, whose other literals are settled.
     Removable,
-    /// It has no reason, or one with another literal that isn't settled.
+    /// It has no reason, or its reason has another literal that isn't settled.
     Needed,
 }
 
@@ -34,35 +34,35 @@ pub(crate) struct Frame {
     pub(crate) next: u32,
 }
 
-/// The buffers of minimisation: the verdicts by place, and the scans that wait for the verdict of an earlier place.
+/// The buffers of minimisation: what was found of each place, and the scans that wait for an earlier place.
 #[derive(Drop)]
-pub(crate) struct Verdicts {
-    pub(crate) table: Marks<Verdict>,
+pub(crate) struct Minimisation {
+    pub(crate) table: Marks<Removability>,
     pub(crate) waiting: Vec<Frame>,
 }
 
 /// What a literal of a reason says of the place that the reason forced.
 #[derive(Clone, Copy)]
 enum Look {
-    /// It is that place's own, or is at level 0, left by the walk, or removable.
+    /// It is that place's own, at level 0, left by the walk, or removable.
     Settled,
     /// It is none of these, so the place is needed.
     Blocked,
-    /// This earlier place has its verdict to come.
+    /// This earlier place must be judged first.
     Depends(u32),
 }
 
 /// How far the scan of a place's reason came.
 #[derive(Clone, Copy)]
 enum Scan {
-    /// To a verdict.
-    Found(Verdict),
-    /// To the literal with the index `next`, and the verdict of its place, an earlier one, is to come.
+    /// To its end.
+    Found(Removability),
+    /// To the literal with the index `next`, whose place is an earlier one that must be judged first.
     Waits { place: u32, next: u32 },
 }
 
 /// What a literal of the reason of the place `bound` says of that place.
-fn look_at(trail: &Trail, lit: Lit, bound: u32, marks: &[bool], table: &[Verdict]) -> Look
+fn look_at(trail: &Trail, lit: Lit, bound: u32, marks: &[bool], table: &[Removability]) -> Look
     requires shape { IsTrail trail.now }
     requires can { CanLook trail.now.steps bound lit }
     requires marks { length marks.now ≡ trail.now.vars }
@@ -77,9 +77,9 @@ fn look_at(trail: &Trail, lit: Lit, bound: u32, marks: &[bool], table: &[Verdict
         return Look::Settled;
     }
     match table[place as usize] {
-        Verdict::Unknown => Look::Depends(place),
-        Verdict::Removable => Look::Settled,
-        Verdict::Needed => Look::Blocked,
+        Removability::Unknown => Look::Depends(place),
+        Removability::Removable => Look::Settled,
+        Removability::Needed => Look::Blocked,
     }
 }
 
@@ -90,7 +90,7 @@ fn scan_reason<P: Port>(
     reason: Cref,
     frame: Frame,
     marks: &[bool],
-    table: &[Verdict],
+    table: &[Removability],
 ) -> Scan
     requires can { CanScan (P.state port.old) trail.now marks.now table.now frame }
     requires reason { reason_at trail.now.steps frame.place ≡ Some reason }
@@ -102,11 +102,11 @@ fn scan_reason<P: Port>(
         let lit = port.read_lit(reason, i);
         match look_at(trail, lit, frame.place, marks, table) {
             Look::Settled => {}
-            Look::Blocked => return Scan::Found(Verdict::Needed),
+            Look::Blocked => return Scan::Found(Removability::Needed),
             Look::Depends(place) => return Scan::Waits { place, next: i },
         }
     }
-    Scan::Found(Verdict::Removable)
+    Scan::Found(Removability::Removable)
 }
 
 /// Scans on what forced the frame's place.
@@ -115,53 +115,59 @@ fn scan_place<P: Port>(
     trail: &Trail,
     frame: Frame,
     marks: &[bool],
-    table: &[Verdict],
+    table: &[Removability],
 ) -> Scan
     requires can { CanScan (P.state port.old) trail.now marks.now table.now frame }
     ensures same { P.state port.new ≡ P.state port.old }
     ensures scan { IsScan (clause_at (P.state port.old)) trail.now.steps marks.now table.now frame.place result }
 {
     match trail.reason_at(frame.place) {
-        None => Scan::Found(Verdict::Needed),
+        None => Scan::Found(Removability::Needed),
         Some(reason) => scan_reason(port, trail, reason, frame, marks, table),
     }
 }
 
-/// Finds the verdict of a place that has none yet, and those of the places without marks that it depends on. Each scan that
-/// waits does so for an earlier place, so the places of the waiting ones fall strictly.
-fn judge<P: Port>(port: &mut P, trail: &Trail, root: u32, marks: &[bool], verdicts: &mut Verdicts)
+/// Judges a place, and first the places without marks that it depends on. Each scan that waits does so for an earlier place,
+/// so the places of the waiting scans fall strictly.
+fn judge<P: Port>(
+    port: &mut P,
+    trail: &Trail,
+    root: u32,
+    marks: &[bool],
+    minimisation: &mut Minimisation,
+)
     requires shape { IsTrail trail.now }
     requires reasoned { IsReasoned (clause_at (P.state port.old)) (P.state port.old).seen trail.now.steps }
     requires marks { length marks.now ≡ trail.now.vars }
     requires in_range { root < length trail.now.steps }
     requires above { 1 ≤ level_at trail.now.steps root }
-    requires open { verdict_at verdicts.old.table.values root ≡ Verdict.Unknown }
-    requires judged { IsJudged (clause_at (P.state port.old)) trail.now.steps trail.now.vars marks.now verdicts.old.table }
-    requires waiting_room { trail.now.vars ≤ vec_capacity verdicts.old.waiting }
+    requires open { removability_at minimisation.old.table.values root ≡ Removability.Unknown }
+    requires judged { IsJudged (clause_at (P.state port.old)) trail.now.steps trail.now.vars marks.now minimisation.old.table }
+    requires waiting_room { trail.now.vars ≤ vec_capacity minimisation.old.waiting }
     ensures same { P.state port.new ≡ P.state port.old }
-    ensures judged { IsJudged (clause_at (P.state port.old)) trail.now.steps trail.now.vars marks.now verdicts.new.table }
-    ensures found { is_known verdicts.new.table.values root ≡ true }
-    ensures kept { (p : ℕ) → is_known verdicts.old.table.values p ≡ true → is_known verdicts.new.table.values p ≡ true }
-    ensures others { (p : ℕ) → marked marks.now p ≡ true → is_known verdicts.new.table.values p ≡ true → (p ≡ root) ⊎ (is_known verdicts.old.table.values p ≡ true) }
-    ensures waiting_room { vec_capacity verdicts.new.waiting ≡ vec_capacity verdicts.old.waiting }
+    ensures judged { IsJudged (clause_at (P.state port.old)) trail.now.steps trail.now.vars marks.now minimisation.new.table }
+    ensures found { is_known minimisation.new.table.values root ≡ true }
+    ensures kept { (p : ℕ) → is_known minimisation.old.table.values p ≡ true → is_known minimisation.new.table.values p ≡ true }
+    ensures others { (p : ℕ) → marked marks.now p ≡ true → is_known minimisation.new.table.values p ≡ true → (p ≡ root) ⊎ (is_known minimisation.old.table.values p ≡ true) }
+    ensures waiting_room { vec_capacity minimisation.new.waiting ≡ vec_capacity minimisation.old.waiting }
 {
-    verdicts.waiting.clear();
+    minimisation.waiting.clear();
     let mut frame = Frame {
         place: root,
         next: 0,
     };
     'frames: loop {
-        match scan_place(port, trail, frame, marks, verdicts.table.values()) {
+        match scan_place(port, trail, frame, marks, minimisation.table.values()) {
             Scan::Waits { place, next } => {
-                verdicts.waiting.push_reserved(Frame {
+                minimisation.waiting.push_reserved(Frame {
                     place: frame.place,
                     next,
                 });
                 frame = Frame { place, next: 0 };
             }
-            Scan::Found(verdict) => {
-                verdicts.table.mark(frame.place, verdict);
-                let Some(parent) = verdicts.waiting.pop() else {
+            Scan::Found(removability) => {
+                minimisation.table.mark(frame.place, removability);
+                let Some(parent) = minimisation.waiting.pop() else {
                     return;
                 };
                 frame = parent;
@@ -170,58 +176,58 @@ fn judge<P: Port>(port: &mut P, trail: &Trail, root: u32, marks: &[bool], verdic
     }
 }
 
-/// Finds the verdicts of the marked places of lower levels.
+/// Judges the marked places of lower levels.
 pub(crate) fn judge_all<P: Port>(
     port: &mut P,
     trail: &Trail,
     level: u32,
     marks: &Marks<bool>,
-    verdicts: &mut Verdicts,
+    minimisation: &mut Minimisation,
 )
     requires shape { IsTrail trail.now }
     requires reasoned { IsReasoned (clause_at (P.state port.old)) (P.state port.old).seen trail.now.steps }
     requires marking { IsMarking trail.now.steps trail.now.vars level marks.now }
-    requires blank { verdicts.old.table ≡ all_blank trail.now.vars Verdict.Unknown }
-    requires waiting_room { trail.now.vars ≤ vec_capacity verdicts.old.waiting }
+    requires blank { minimisation.old.table ≡ all_blank trail.now.vars Removability.Unknown }
+    requires waiting_room { trail.now.vars ≤ vec_capacity minimisation.old.waiting }
     ensures same { P.state port.new ≡ P.state port.old }
-    ensures judged { IsJudged (clause_at (P.state port.old)) trail.now.steps trail.now.vars marks.now.values verdicts.new.table }
-    ensures found { (p : ℕ) → marked marks.now.values p ≡ true → level_at trail.now.steps p < level → is_known verdicts.new.table.values p ≡ true }
-    ensures waiting_room { vec_capacity verdicts.new.waiting ≡ vec_capacity verdicts.old.waiting }
+    ensures judged { IsJudged (clause_at (P.state port.old)) trail.now.steps trail.now.vars marks.now.values minimisation.new.table }
+    ensures found { (p : ℕ) → marked marks.now.values p ≡ true → level_at trail.now.steps p < level → is_known minimisation.new.table.values p ≡ true }
+    ensures waiting_room { vec_capacity minimisation.new.waiting ≡ vec_capacity minimisation.old.waiting }
 {
     for place in marks.touched() {
         if trail.level_at(*place) < level {
-            judge(port, trail, *place, marks.values(), verdicts);
+            judge(port, trail, *place, marks.values(), minimisation);
         }
     }
 }
 
-/// Whether the place is of a lower level and can't be removed.
-fn is_kept(trail: &Trail, level: u32, table: &[Verdict], place: u32) -> bool
+/// Whether the place is of a lower level and isn't removable.
+fn is_kept(trail: &Trail, level: u32, table: &[Removability], place: u32) -> bool
     requires place { place < length trail.now.steps }
     requires size { length trail.now.steps ≤ length table.now }
     ensures { result ≡ is_kept trail.now.steps level table.now place }
 {
-    trail.level_at(place) < level && table[place as usize] != Verdict::Removable
+    trail.level_at(place) < level && table[place as usize] != Removability::Removable
 }
 
-/// Puts the places of lower levels that can't be removed aside, in their order.
-pub(crate) fn put_aside(
+/// Writes the places of lower levels that aren't removable, in their order.
+pub(crate) fn write_kept_places(
     trail: &Trail,
     level: u32,
     touched: &[u32],
-    table: &[Verdict],
-    aside: &mut Vec<u32>,
+    table: &[Removability],
+    kept_places: &mut Vec<u32>,
 )
     requires in_range { All (λ p. p < length trail.now.steps) touched.now }
     requires size { length trail.now.steps ≤ length table.now }
-    requires room { length touched.now ≤ vec_capacity aside.old }
-    ensures kept { aside.new.items ≡ kept_of trail.now.steps level table.now touched.now }
-    ensures room { vec_capacity aside.new ≡ vec_capacity aside.old }
+    requires room { length touched.now ≤ vec_capacity kept_places.old }
+    ensures kept { kept_places.new.items ≡ kept_of trail.now.steps level table.now touched.now }
+    ensures room { vec_capacity kept_places.new ≡ vec_capacity kept_places.old }
 {
-    aside.clear();
+    kept_places.clear();
     for place in touched {
         if is_kept(trail, level, table, *place) {
-            aside.push_reserved(*place);
+            kept_places.push_reserved(*place);
         }
     }
 }

@@ -1,6 +1,6 @@
-//! The walk back from a conflict to its first unique implication point (Marques-Silva and Sakallah 1999): down along
-//! the trail, each marked place of the conflict's level gives way to those of its reason, until one is left. It must
-//! mark exactly the places that the conflict leads to.
+//! The walk back from a conflict to its first unique implication point (Marques-Silva and Sakallah 1999). Down along the
+//! trail, each marked place of the conflict's level is resolved: those of its reason are marked, until one is left. The
+//! walk must mark exactly the places that the conflict leads to.
 ghost use Rattle.std.specs.Prelude.{◌≡◌, ◌≤◌, IsSome, false, ◌∷◌, [], length, if◌then◌else◌};
 ghost use Rattle.ring_port.specs.PortState.{held_at, lits_at, clause_at};
 ghost use Rattle.ring_trail.specs.TrailData.{IsTrail, IsFalseClause};
@@ -32,7 +32,7 @@ pub(crate) fn level_of_clause<P: Port>(port: &mut P, trail: &Trail, c: Cref) -> 
     most
 }
 
-/// Marks the literal's place where it is below `bound` and above level 0; whether it is newly marked and of this level.
+/// Marks the literal's place if it is below `bound` and above level 0. Answers whether it is newly marked and of this level.
 fn mark(trail: &Trail, lit: Lit, bound: u32, level: u32, marks: &mut Marks<bool>) -> bool
     requires shape { IsTrail trail.now }
     requires can { CanMark trail.now.steps level bound lit }
@@ -56,9 +56,9 @@ fn mark(trail: &Trail, lit: Lit, bound: u32, level: u32, marks: &mut Marks<bool>
     at == level
 }
 
-/// Marks the places of a clause's literals that are below `bound` and above level 0; how many of them are newly marked and
-/// of this level.
-fn mark_clause<P: Port>(
+/// Marks the places of a clause's literals that are below `bound` and above level 0. Answers how many of them are newly marked
+/// and of this level.
+pub(crate) fn mark_clause<P: Port>(
     port: &mut P,
     trail: &Trail,
     c: Cref,
@@ -86,8 +86,8 @@ fn mark_clause<P: Port>(
     count
 }
 
-/// The first place that every way from the level's decision to the conflict goes through. What the walk down to it marked is
-/// listed in `marks`.
+/// The first unique implication point: of the places that every path from the level's decision to the conflict goes through,
+/// the one nearest to the conflict. `marks` lists what the walk down to it marked.
 pub(crate) fn find_first_uip<P: Port>(
     port: &mut P,
     trail: &Trail,

@@ -35,7 +35,7 @@ from_refusal s u old new c lits (NoHole lack) h = tt
 from_refusal s u old new c lits ProofFault h = tt
 from_refusal s u old new c lits Memory h = tt
 
--- two rings that have the same, except for the room of the variables that a conflict met
+-- two rings that have the same, except the room of the variables analyzed in a conflict
 pub record AreSameButBumps (between old : Ring) : Type 0 where
   pub trail : between.trail ≡ old.trail
   pub watches : between.watches ≡ old.watches

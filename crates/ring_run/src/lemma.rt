@@ -19,7 +19,7 @@ ghost use Rattle.ring_run.specs.Learning.{HasShared, HasFinished, ComesOf};
 use crate::course::{Next, end_refused, refute};
 use crate::job::End;
 use crate::ring::{Ring, go_back};
-use crate::variables::bump_met;
+use crate::variables::bump_analyzed;
 use analyze::{Analysis, Conclusion};
 use ring_port::{Port, PortStop, class_of};
 use ring_trail::Trail;
@@ -296,8 +296,8 @@ pub(crate) fn learn_from<P: Port>(
     match analysis.analyze(port, &ring.trail, conflict) {
         Conclusion::Empty => Next::Finish(refute(port)),
         Conclusion::Lemma { back, glue } => {
-            let met = analysis.met();
-            if bump_met(&mut ring.decider, met, &mut ring.bumps).is_err() {
+            let analyzed = analysis.analyzed();
+            if bump_analyzed(&mut ring.decider, analyzed, &mut ring.bumps).is_err() {
                 return Next::Finish(End::Memory);
             }
             learn_lemma(port, ring, analysis.lits(), back, glue, limit)

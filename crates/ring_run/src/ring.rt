@@ -46,7 +46,7 @@ pub(crate) struct Ring {
     pub restarts: Restarts,
     /// Whether an import is yet to be: that at the start, or that of the last restart.
     pub import_due: bool,
-    /// Room for the variables that a conflict met.
+    /// Room for the variables analyzed in a conflict.
     pub bumps: Vec<Bump>,
     /// How many lemmas were offered to the other rings.
     pub exported: u64,

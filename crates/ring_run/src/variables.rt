@@ -1,5 +1,5 @@
 // Which variables the ring decides, and what it notes of them on the way: those of the start clauses are active, those that
-// lose their values keep them as their phases, and those that a conflict met move to the end of the queue (sorted by when
+// lose their values keep them as their phases, and those analyzed in a conflict move to the end of the queue (sorted by when
 // they were bumped before, as in CaDiCaL).
 ghost use Rattle.std.specs.Prelude.{◌≡◌, All, IfOk, OnOk, IsSome, Contains, length, map};
 ghost use Rattle.sat_words.specs.declared.shared.Cref.{Cref};
@@ -72,7 +72,7 @@ pub(crate) fn save_phases(trail: &Trail, decider: &mut Decider, level: u32)
     }
 }
 
-/// A variable that a conflict met, and when it was bumped before. In order the one bumped first comes first.
+/// A variable analyzed in a conflict, and when it was bumped before. In order the one bumped first comes first.
 #[derive(Clone, Copy, PartialEq, Eq, PartialOrd, Ord)]
 pub(crate) struct Bump {
     stamp: u64,
@@ -80,12 +80,12 @@ pub(crate) struct Bump {
 }
 
 /// Lists the variables with their stamps, in place of what was listed.
-fn list_bumps(decider: &Decider, met: &[u32], bumps: &mut Vec<Bump>) -> Result<(), AllocError>
-    requires on { All (IsVariable (length decider.now.active)) met.now }
+fn list_bumps(decider: &Decider, analyzed: &[u32], bumps: &mut Vec<Bump>) -> Result<(), AllocError>
+    requires on { All (IsVariable (length decider.now.active)) analyzed.now }
     ensures on { OnOk result (All (λ (b : Bump). IsVariable (length decider.now.active) b.var) bumps.new.items) }
 {
     bumps.clear();
-    for var in met {
+    for var in analyzed {
         bumps.push(Bump {
             stamp: decider.stamp(*var),
             var: *var,
@@ -104,17 +104,17 @@ fn bump_each(decider: &mut Decider, bumps: &[Bump])
     }
 }
 
-/// Moves the variables that a conflict met to the end of the queue, and leaves them in the order in which they stood there.
+/// Moves the variables analyzed in a conflict to the end of the queue, and leaves them in the order in which they stood there.
 /// The list keeps its room from call to call.
-pub(crate) fn bump_met(
+pub(crate) fn bump_analyzed(
     decider: &mut Decider,
-    met: &[u32],
+    analyzed: &[u32],
     bumps: &mut Vec<Bump>,
 ) -> Result<(), AllocError>
-    requires on { All (IsVariable (length decider.old.active)) met.now }
+    requires on { All (IsVariable (length decider.old.active)) analyzed.now }
     ensures same { decider.new ≡ decider.old }
 {
-    list_bumps(decider, met, bumps)?;
+    list_bumps(decider, analyzed, bumps)?;
     bumps.sort_unstable();
     bump_each(decider, bumps.as_slice());
     Ok(())

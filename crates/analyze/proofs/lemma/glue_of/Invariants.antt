@@ -4,4 +4,4 @@ use Rattle.analyze.proofs.LevelLemmas.{AreLevels}
 use Rattle.analyze.proofs.lemma.glue_of.Given as goal
 
 abbrev pub invariant-loop-place : goal.invariant-loop-place
-invariant-loop-place l = AreLevels (level_at l.trail.steps) (take l.place-index l.aside) (l.trail.vars + 1) l.found
+invariant-loop-place l = AreLevels (level_at l.trail.steps) (take l.place-index l.kept_places) (l.trail.vars + 1) l.found

@@ -5,7 +5,7 @@ use Rattle.analyze.proofs.lemma.write_lemma.Given as goal
 
 abbrev pub invariant-loop-place : goal.invariant-loop-place
 invariant-loop-place l = record {
-  lits : l.lits.items ≡ negated_at l.trail.steps l.point ∷ map (negated_at l.trail.steps) (take l.place-index l.aside);
+  lits : l.lits.items ≡ negated_at l.trail.steps l.point ∷ map (negated_at l.trail.steps) (take l.place-index l.kept_places);
   size : length l.lits.items ≡ l.place-index + 1;
   room : vec_capacity l.lits ≡ vec_capacity l.fn.lits;
 }

@@ -1,7 +1,7 @@
 use Rattle.std.proofs.Common.{◌≡◌, ◌∙◌, ◌⊎◌, sym, ap, inl, inr, true, arith, length, length-append}
 use Rattle.std.proofs.lemmas.Bool.{cases_eq, false≢true}
 use Rattle.analyze.specs.Marks.{marked}
-use Rattle.analyze.specs.Verdicts.{is_known}
+use Rattle.analyze.specs.Minimising.{is_known}
 use Rattle.analyze.proofs.Frames.{AreFalling-push, AreFalling-pop, AreFalling-few, AreFalling-above, AreFalling-map, IsRooted-push, IsRooted-pop, left_to_do-found}
 use Rattle.analyze.proofs.Judging.{IsScanned-none, IsFrame-set, IsJudged-set, room_judged, known_before, known_now}
 use Rattle.analyze.proofs.minimise.judge.Goals as goal
@@ -31,23 +31,23 @@ frames-preserved-in-Waits g c =
 pub mark-requires-clause-room : goal.mark-requires-clause-room
 mark-requires-clause-room g c =
     let i = c.frames.invariant in
-    let few = room_judged _ c.args.trail.now _ _ c.requires.shape i.judged c.frames.frame.place (AreFalling-above _ _ _ _ i.frames) i.here.unknown c.in-Found.verdict in
+    let few = room_judged _ c.args.trail.now _ _ c.requires.shape i.judged c.frames.frame.place (AreFalling-above _ _ _ _ i.frames) i.here.unknown c.in-Found.removability in
     omega (arith, few, i.judged.size)
 
 pub returns-in_default-clause-judged : goal.returns-in_default-clause-judged
 returns-in_default-clause-judged g c =
     let i = c.frames.invariant in
     rw c.mark.ensures
-    (IsJudged-set _ c.args.trail.now _ _ c.requires.shape i.judged c.frames.frame.place (AreFalling-above _ _ _ _ i.frames) i.here.unknown c.in-Found.verdict (rw (i.same, c.values.ensures) at c.in-Found.ensures.scan))
+    (IsJudged-set _ c.args.trail.now _ _ c.requires.shape i.judged c.frames.frame.place (AreFalling-above _ _ _ _ i.frames) i.here.unknown c.in-Found.removability (rw (i.same, c.values.ensures) at c.in-Found.ensures.scan))
 
 pub frames-smaller : goal.frames-smaller
 frames-smaller g c =
     let i = c.frames.invariant in
-    let few = room_judged _ c.args.trail.now _ _ c.requires.shape i.judged c.frames.frame.place (AreFalling-above _ _ _ _ i.frames) i.here.unknown c.in-Found.verdict in
+    let few = room_judged _ c.args.trail.now _ _ c.requires.shape i.judged c.frames.frame.place (AreFalling-above _ _ _ _ i.frames) i.here.unknown c.in-Found.removability in
     let popped = AreFalling-pop _ _ _ _ _ (rw c.in-Some.ensures.items at i.frames) in
     let parent = AreFalling-above _ _ _ _ popped.2 in
     rw (c.mark.ensures, length-append)
-    (left_to_do-found c.args.trail.now.vars (length c.frames.verdicts.table.touched) c.frames.frame.place c.in-Some.parent.place few (omega (arith, parent, c.requires.shape.short)))
+    (left_to_do-found c.args.trail.now.vars (length c.frames.minimisation.table.touched) c.frames.frame.place c.in-Some.parent.place few (omega (arith, parent, c.requires.shape.short)))
 
 pub frames-preserved : goal.frames-preserved
 frames-preserved g c =
@@ -57,18 +57,18 @@ frames-preserved g c =
     let popped = AreFalling-pop _ _ _ _ _ (rw c.in-Some.ensures.items at i.frames) in
     record {
       same = c.in-Found.ensures.same ∙ i.same;
-      judged = rw c.mark.ensures (IsJudged-set _ c.args.trail.now _ _ c.requires.shape i.judged c.frames.frame.place here i.here.unknown c.in-Found.verdict follows);
-      here = rw c.mark.ensures (IsFrame-set _ c.args.trail.now _ _ c.requires.shape i.judged c.frames.frame.place here i.here.unknown c.in-Found.verdict c.args.root c.in-Some.parent popped.1 popped.0);
+      judged = rw c.mark.ensures (IsJudged-set _ c.args.trail.now _ _ c.requires.shape i.judged c.frames.frame.place here i.here.unknown c.in-Found.removability follows);
+      here = rw c.mark.ensures (IsFrame-set _ c.args.trail.now _ _ c.requires.shape i.judged c.frames.frame.place here i.here.unknown c.in-Found.removability c.args.root c.in-Some.parent popped.1 popped.0);
       frames = rw c.mark.ensures (AreFalling-map _ _ _ _ _
-          (λ f b x. IsFrame-set _ c.args.trail.now _ _ c.requires.shape i.judged c.frames.frame.place here i.here.unknown c.in-Found.verdict c.args.root f (let over = popped.1 in omega arith) x) popped.2);
+          (λ f b x. IsFrame-set _ c.args.trail.now _ _ c.requires.shape i.judged c.frames.frame.place here i.here.unknown c.in-Found.removability c.args.root f (let over = popped.1 in omega arith) x) popped.2);
       rooted = IsRooted-pop _ _ c.in-Some.parent c.frames.frame.place (rw c.in-Some.ensures.items at i.rooted);
-      kept = λ p y. rw c.mark.ensures (known_now _ c.args.trail.now _ _ c.requires.shape i.judged c.frames.frame.place here i.here.unknown c.in-Found.verdict follows p (i.kept p y));
-      others = λ p m y. elim (cases_eq p c.frames.frame.place) as (λ _. (p ≡ c.args.root) ⊎ (is_known c.args.verdicts.now.table.values p ≡ true)) [
-        | inl e ↦ elim i.here.own as (λ _. (p ≡ c.args.root) ⊎ (is_known c.args.verdicts.now.table.values p ≡ true)) [
+      kept = λ p y. rw c.mark.ensures (known_now _ c.args.trail.now _ _ c.requires.shape i.judged c.frames.frame.place here i.here.unknown c.in-Found.removability follows p (i.kept p y));
+      others = λ p m y. elim (cases_eq p c.frames.frame.place) as (λ _. (p ≡ c.args.root) ⊎ (is_known c.args.minimisation.now.table.values p ≡ true)) [
+        | inl e ↦ elim i.here.own as (λ _. (p ≡ c.args.root) ⊎ (is_known c.args.minimisation.now.table.values p ≡ true)) [
           | inl root ↦ inl (e ∙ root)
           | inr off ↦ absurd (false≢true (sym off ∙ ap (marked c.args.marks.now) (sym e) ∙ m))
         ]
-        | inr ne ↦ i.others p m (known_before _ c.args.trail.now _ _ c.requires.shape i.judged c.frames.frame.place here i.here.unknown c.in-Found.verdict p ne (rw c.mark.ensures at y))
+        | inr ne ↦ i.others p m (known_before _ c.args.trail.now _ _ c.requires.shape i.judged c.frames.frame.place here i.here.unknown c.in-Found.removability p ne (rw c.mark.ensures at y))
       ];
       waiting_room = c.pop.ensures.capacity ∙ i.waiting_room;
     }

@@ -32,21 +32,21 @@ loop-place-preserved g c =
           let others = rw (w.values.ensures, c.touched-place-items.ensures) at w.judge.ensures.others in
           record {
             same = rw w.port-is (w.judge.ensures.same ∙ i.same);
-            judged = rw w.verdicts-is (rw (i.same, w.values.ensures) at w.judge.ensures.judged);
-            found = rw w.verdicts-is (found_more c.args.trail.now.steps c.args.level at ps _ _ lt i.found w.judge.ensures.kept (λ _. rw c.touched-place-items.ensures at w.judge.ensures.found));
-            ahead = rw w.verdicts-is (λ p y now.
+            judged = rw w.minimisation-is (rw (i.same, w.values.ensures) at w.judge.ensures.judged);
+            found = rw w.minimisation-is (found_more c.args.trail.now.steps c.args.level at ps _ _ lt i.found w.judge.ensures.kept (λ _. rw c.touched-place-items.ensures at w.judge.ensures.found));
+            ahead = rw w.minimisation-is (λ p y now.
                 elim (others p (sym (k.listed p) ∙ member_drop ps (at + 1) p y) now) as (λ _. ⊥) [
                   | inl e ↦ distinct_ahead ps at k.distinct lt (ap (is_member nat_eq (drop (at + 1) ps)) (sym e) ∙ y)
                   | inr old ↦ i.ahead p (member_ahead ps at p lt y) old
                 ]);
-            waiting_room = rw w.verdicts-is (w.judge.ensures.waiting_room ∙ i.waiting_room);
+            waiting_room = rw w.minimisation-is (w.judge.ensures.waiting_room ∙ i.waiting_room);
           })
       | else-level_at-level w ↦ record {
         same = rw w.port-is i.same;
-        judged = rw w.verdicts-is i.judged;
-        found = rw w.verdicts-is (found_more c.args.trail.now.steps c.args.level at ps _ _ lt i.found (λ p y. y)
+        judged = rw w.minimisation-is i.judged;
+        found = rw w.minimisation-is (found_more c.args.trail.now.steps c.args.level at ps _ _ lt i.found (λ p y. y)
             (λ low. absurd (let e = rw c.touched-place-items.ensures at c.level_at.ensures in let no = w.if-level_at-level.false in omega arith)));
-        ahead = rw w.verdicts-is (λ p y. i.ahead p (member_ahead ps at p lt y));
-        waiting_room = rw w.verdicts-is i.waiting_room;
+        ahead = rw w.minimisation-is (λ p y. i.ahead p (member_ahead ps at p lt y));
+        waiting_room = rw w.minimisation-is i.waiting_room;
       }
     ]

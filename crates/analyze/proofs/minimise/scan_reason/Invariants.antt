@@ -1,6 +1,6 @@
 use Rattle.std.proofs.Common.{◌≡◌, length}
 use Rattle.ring_port.specs.PortState.{lits_at, clause_at}
-use Rattle.analyze.specs.Verdicts.{IsScanned}
+use Rattle.analyze.specs.Minimising.{IsScanned}
 use Rattle.analyze.proofs.minimise.scan_reason.Given as goal
 
 abbrev pub invariant-loop-i : goal.invariant-loop-i

@@ -11,7 +11,7 @@ use Rattle.ring_run.specs.declared.course.Next.TheVariants as course
 use Rattle.ring_run.proofs.Asserting.{lemma_asserts}
 use Rattle.ring_run.proofs.Behind.{BehindLemma, behind_end, behind_lemma, behind_memory, can_found}
 use Rattle.ring_run.proofs.lemma.learn_from.Given.{Finish}
-use Rattle.ring_run.proofs.lemma.learn_from.Goals.{After-refute, After-bump_met, After-learn_lemma}
+use Rattle.ring_run.proofs.lemma.learn_from.Goals.{After-refute, After-bump_analyzed, After-learn_lemma}
 use Rattle.ring_run.proofs.lemma.learn_from.Goals as goal
 
 pub learn_lemma-requires-clause-lemma : goal.learn_lemma-requires-clause-lemma
@@ -37,12 +37,12 @@ refuted g c =
     (subst (λ (x : PortState). u.held ≡ x.held) same c.refute.ensures.held) (subst (λ (x : PortState). u.looks ≡ x.looks) same c.refute.ensures.looks)
     c.requires.below c.requires.paced c.requires.offering
 
--- what is left if there is no room for the variables met
-crowded : (g : Finish) (c : After-bump_met g) → BehindLemma (g.P.Port.state c.args.port.now) (g.P.Port.state c.analyze.new.port) c.args.ring.now (record c.args.ring.now { decider = c.bump_met.new.decider; bumps = c.bump_met.new.bumps }) c.args.conflict c.analyze.new.self.lits c.args.limit (course.Finish Memory)
+-- what is left if there is no room for the analyzed variables
+crowded : (g : Finish) (c : After-bump_analyzed g) → BehindLemma (g.P.Port.state c.args.port.now) (g.P.Port.state c.analyze.new.port) c.args.ring.now (record c.args.ring.now { decider = c.bump_analyzed.new.decider; bumps = c.bump_analyzed.new.bumps }) c.args.conflict c.analyze.new.self.lits c.args.limit (course.Finish Memory)
 crowded g c =
     let old = c.args.ring.now in
-    behind_memory (g.P.Port.state c.args.port.now) (g.P.Port.state c.analyze.new.port) old (record old { decider = c.bump_met.new.decider; bumps = c.bump_met.new.bumps }) c.args.conflict c.analyze.new.self.lits c.args.limit c.analyze.ensures.same
-    (record { learned = refl; restarts = refl; active = ap (λ (d : DeciderData). d.active) c.bump_met.ensures.same; offers = record { exported = refl; offered = refl; place = refl } })
+    behind_memory (g.P.Port.state c.args.port.now) (g.P.Port.state c.analyze.new.port) old (record old { decider = c.bump_analyzed.new.decider; bumps = c.bump_analyzed.new.bumps }) c.args.conflict c.analyze.new.self.lits c.args.limit c.analyze.ensures.same
+    (record { learned = refl; restarts = refl; active = ap (λ (d : DeciderData). d.active) c.bump_analyzed.ensures.same; offers = record { exported = refl; offered = refl; place = refl } })
     c.requires.below c.requires.paced c.requires.offering
 
 -- what learning the lemma leaves
@@ -51,7 +51,7 @@ behind g c =
     let s = g.P.Port.state c.args.port.now in
     let u = g.P.Port.state c.learn_lemma.new.port in
     let old = c.args.ring.now in
-    let x : Ring = record old { decider = c.bump_met.new.decider; bumps = c.bump_met.new.bumps } in
+    let x : Ring = record old { decider = c.bump_analyzed.new.decider; bumps = c.bump_analyzed.new.bumps } in
     let new = c.learn_lemma.new.ring in
     let lits = c.analyze.new.self.lits in
     let back = c.in-Lemma.back in
@@ -59,7 +59,7 @@ behind g c =
     let limit = c.args.limit in
     let course = c.learn_lemma.result in
     let came = subst (λ (ls : List Literal). ComesOf (g.P.Port.state c.analyze.new.port) u x new ls back glue limit course) c.lits.ensures c.learn_lemma.ensures.comes in
-    behind_lemma s u old x new c.args.conflict lits back glue limit course c.bump_met.ensures.same
+    behind_lemma s u old x new c.args.conflict lits back glue limit course c.bump_analyzed.ensures.same
     (can_found s old c.args.conflict lits back glue limit c.requires.search c.requires.below c.requires.paced c.requires.offering c.requires.listed c.requires.conflict c.in-Lemma.ensures.found)
     c.in-Lemma.ensures.found.1 (subst (λ (y : PortState). ComesOf y u x new lits back glue limit course) c.analyze.ensures.same came) c.learn_lemma.ensures.port
 
@@ -112,52 +112,52 @@ pub returns-in-Empty-clause-active : goal.returns-in-Empty-clause-active
 returns-in-Empty-clause-active g c = (refuted g (goal.at.returns-in-Empty-clause-active g c).After-refute).active
 
 pub returns-then-is_err-clause-leads : goal.returns-then-is_err-clause-leads
-returns-then-is_err-clause-leads g c = (crowded g (goal.at.returns-then-is_err-clause-leads g c).After-bump_met).leads
+returns-then-is_err-clause-leads g c = (crowded g (goal.at.returns-then-is_err-clause-leads g c).After-bump_analyzed).leads
 
 pub returns-then-is_err-clause-more : goal.returns-then-is_err-clause-more
-returns-then-is_err-clause-more g c = (crowded g (goal.at.returns-then-is_err-clause-more g c).After-bump_met).more
+returns-then-is_err-clause-more g c = (crowded g (goal.at.returns-then-is_err-clause-more g c).After-bump_analyzed).more
 
 pub returns-then-is_err-clause-learns : goal.returns-then-is_err-clause-learns
-returns-then-is_err-clause-learns g c = (crowded g (goal.at.returns-then-is_err-clause-learns g c).After-bump_met).learns
+returns-then-is_err-clause-learns g c = (crowded g (goal.at.returns-then-is_err-clause-learns g c).After-bump_analyzed).learns
 
 pub returns-then-is_err-clause-tidied : goal.returns-then-is_err-clause-tidied
-returns-then-is_err-clause-tidied g c = (crowded g (goal.at.returns-then-is_err-clause-tidied g c).After-bump_met).tidied
+returns-then-is_err-clause-tidied g c = (crowded g (goal.at.returns-then-is_err-clause-tidied g c).After-bump_analyzed).tidied
 
 pub returns-then-is_err-clause-listed : goal.returns-then-is_err-clause-listed
-returns-then-is_err-clause-listed g c = (crowded g (goal.at.returns-then-is_err-clause-listed g c).After-bump_met).listed
+returns-then-is_err-clause-listed g c = (crowded g (goal.at.returns-then-is_err-clause-listed g c).After-bump_analyzed).listed
 
 pub returns-then-is_err-clause-stored : goal.returns-then-is_err-clause-stored
-returns-then-is_err-clause-stored g c = (crowded g (goal.at.returns-then-is_err-clause-stored g c).After-bump_met).stored
+returns-then-is_err-clause-stored g c = (crowded g (goal.at.returns-then-is_err-clause-stored g c).After-bump_analyzed).stored
 
 pub returns-then-is_err-clause-looks : goal.returns-then-is_err-clause-looks
-returns-then-is_err-clause-looks g c = (crowded g (goal.at.returns-then-is_err-clause-looks g c).After-bump_met).looks
+returns-then-is_err-clause-looks g c = (crowded g (goal.at.returns-then-is_err-clause-looks g c).After-bump_analyzed).looks
 
 pub returns-then-is_err-clause-paced : goal.returns-then-is_err-clause-paced
-returns-then-is_err-clause-paced g c = (crowded g (goal.at.returns-then-is_err-clause-paced g c).After-bump_met).paced
+returns-then-is_err-clause-paced g c = (crowded g (goal.at.returns-then-is_err-clause-paced g c).After-bump_analyzed).paced
 
 pub returns-then-is_err-clause-polls : goal.returns-then-is_err-clause-polls
-returns-then-is_err-clause-polls g c = (crowded g (goal.at.returns-then-is_err-clause-polls g c).After-bump_met).polls
+returns-then-is_err-clause-polls g c = (crowded g (goal.at.returns-then-is_err-clause-polls g c).After-bump_analyzed).polls
 
 pub returns-then-is_err-clause-imports : goal.returns-then-is_err-clause-imports
-returns-then-is_err-clause-imports g c = (crowded g (goal.at.returns-then-is_err-clause-imports g c).After-bump_met).imports
+returns-then-is_err-clause-imports g c = (crowded g (goal.at.returns-then-is_err-clause-imports g c).After-bump_analyzed).imports
 
 pub returns-then-is_err-clause-above : goal.returns-then-is_err-clause-above
-returns-then-is_err-clause-above g c = (crowded g (goal.at.returns-then-is_err-clause-above g c).After-bump_met).above
+returns-then-is_err-clause-above g c = (crowded g (goal.at.returns-then-is_err-clause-above g c).After-bump_analyzed).above
 
 pub returns-then-is_err-clause-in_time : goal.returns-then-is_err-clause-in_time
-returns-then-is_err-clause-in_time g c = (crowded g (goal.at.returns-then-is_err-clause-in_time g c).After-bump_met).in_time
+returns-then-is_err-clause-in_time g c = (crowded g (goal.at.returns-then-is_err-clause-in_time g c).After-bump_analyzed).in_time
 
 pub returns-then-is_err-clause-sums : goal.returns-then-is_err-clause-sums
-returns-then-is_err-clause-sums g c = (crowded g (goal.at.returns-then-is_err-clause-sums g c).After-bump_met).sums
+returns-then-is_err-clause-sums g c = (crowded g (goal.at.returns-then-is_err-clause-sums g c).After-bump_analyzed).sums
 
 pub returns-then-is_err-clause-offering : goal.returns-then-is_err-clause-offering
-returns-then-is_err-clause-offering g c = (crowded g (goal.at.returns-then-is_err-clause-offering g c).After-bump_met).offering
+returns-then-is_err-clause-offering g c = (crowded g (goal.at.returns-then-is_err-clause-offering g c).After-bump_analyzed).offering
 
 pub returns-then-is_err-clause-odd : goal.returns-then-is_err-clause-odd
-returns-then-is_err-clause-odd g c = (crowded g (goal.at.returns-then-is_err-clause-odd g c).After-bump_met).odd
+returns-then-is_err-clause-odd g c = (crowded g (goal.at.returns-then-is_err-clause-odd g c).After-bump_analyzed).odd
 
 pub returns-then-is_err-clause-active : goal.returns-then-is_err-clause-active
-returns-then-is_err-clause-active g c = (crowded g (goal.at.returns-then-is_err-clause-active g c).After-bump_met).active
+returns-then-is_err-clause-active g c = (crowded g (goal.at.returns-then-is_err-clause-active g c).After-bump_analyzed).active
 
 pub returns-else-is_err-clause-leads : goal.returns-else-is_err-clause-leads
 returns-else-is_err-clause-leads g c = (behind g (goal.at.returns-else-is_err-clause-leads g c).After-learn_lemma).leads

@@ -2,7 +2,7 @@ use Rattle.std.proofs.Common.{All, length, subst, sym}
 use Rattle.std.proofs.lemmas.List.Sorted.{All-permutation}
 use Rattle.analyze.specs.AnalysisData.{IsVariable}
 use Rattle.ring_run.specs.declared.variables.Bump.{Bump}
-use Rattle.ring_run.proofs.variables.bump_met.Goals as goal
+use Rattle.ring_run.proofs.variables.bump_analyzed.Goals as goal
 
 pub bump_each-requires : goal.bump_each-requires
 bump_each-requires c = record {

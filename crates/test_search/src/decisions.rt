@@ -26,8 +26,8 @@ fn decisions(
     Ok(decided)
 }
 
-// The first six words of the reference generator (seed 42, stream 54) end in the bits 1, 1, 0, 1, 1, 0. The variable that
-// came last into the queue is decided first, and one that is not active never.
+// The first six words of the reference generator (seed 42, stream 54) end in the bits 1, 1, 0, 1, 1, 0. In ring 54 the scores
+// decide: while none rose, the least variable comes first, and one that is not active never.
 #[test]
 fn first_phases_are_the_generators(rt: HostRuntime) -> Result<(), Fail> {
     let alloc = rt.alloc();
@@ -35,32 +35,37 @@ fn first_phases_are_the_generators(rt: HostRuntime) -> Result<(), Fail> {
     let mut trail = Trail::new(alloc, 6)?;
     let decided = decisions(alloc, &mut decider, &mut trail, 6)?;
     let wanted = [
-        Some(Lit::new(6, true)),
-        Some(Lit::new(5, false)),
-        Some(Lit::new(3, true)),
-        Some(Lit::new(2, false)),
         Some(Lit::new(1, false)),
+        Some(Lit::new(2, false)),
+        Some(Lit::new(3, true)),
+        Some(Lit::new(5, false)),
+        Some(Lit::new(6, true)),
         None,
     ];
     assert!(rt; decided.as_slice() == wanted.as_slice());
     Ok(())
 }
 
-// What is bumped comes next, with the phase that was saved; what lost its value is found again.
+// What is bumped comes next, with the phase that was saved; what lost its value is found again. By the queue (ring 55) what
+// was bumped last comes first, and by the scores (ring 54) what was bumped more often.
 #[test]
 fn bumped_variables_come_first(rt: HostRuntime) -> Result<(), Fail> {
     let alloc = rt.alloc();
+    let one = Lit::new(1, false);
     let not_two = Lit::new(2, true);
-    let mut decider = Decider::new(alloc, &[true, true, true], 42, 54)?;
-    let mut trail = Trail::new(alloc, 3)?;
-    decider.bump(1);
-    decider.bump(2);
-    decider.save(not_two);
-    let decided = decisions(alloc, &mut decider, &mut trail, 2)?;
-    let wanted = [Some(not_two), Some(Lit::new(1, false))];
-    assert!(rt; decided.as_slice() == wanted.as_slice());
-    trail.back_to(0);
-    decider.save(not_two);
-    assert!(rt; decider.next(&trail) == Some(not_two));
+    for ring in [54, 55] {
+        let mut decider = Decider::new(alloc, &[true, true, true], 42, ring)?;
+        let mut trail = Trail::new(alloc, 3)?;
+        decider.bump(2);
+        decider.bump(1);
+        decider.bump(2);
+        decider.save(one);
+        decider.save(not_two);
+        let decided = decisions(alloc, &mut decider, &mut trail, 2)?;
+        assert!(rt; decided.as_slice() == [Some(not_two), Some(one)].as_slice());
+        trail.back_to(0);
+        decider.save(not_two);
+        assert!(rt; decider.next(&trail) == Some(not_two));
+    }
     Ok(())
 }

@@ -1,0 +1,15 @@
+use Rattle.std.proofs.Common.{◌≡◌, ◌<◌, ◌+◌, length}
+use Rattle.ring_decide.specs.HeapData.{AreSizes, IsFree, KeepsOthers}
+use Rattle.ring_decide.proofs.heap.Heap.rise.Given as goal
+
+abbrev pub invariant-loop-at : goal.invariant-loop-at
+invariant-loop-at l = record {
+  sizes : AreSizes l.self l.fn.self;
+  len : length l.self.places ≡ l.self.vars + 1;
+  place : l.at < l.self.count;
+  free : IsFree l.self l.at;
+  kept : KeepsOthers l.fn.self l.self l.var;
+}
+
+abbrev pub decreases-loop-at : goal.decreases-loop-at
+decreases-loop-at l = l.at

@@ -1,0 +1,7 @@
+-- A queue of variables: how many there are, which was bumped last, and when each was.
+use Rattle.std.specs.Prelude.{ℕ, List}
+
+pub record QueueData : Type 0 where
+  pub vars : ℕ
+  pub last : ℕ
+  pub stamps : List ℕ

@@ -4,6 +4,7 @@ use Rattle.std.specs.List.{slice_index}
 use Rattle.ring_decide.specs.declared.heap.Heap.TheInside.{Inside}
 use Rattle.ring_decide.specs.Tables.{AreUpTo}
 
+-- the tables of a heap agree, which every call keeps
 pub record IsHeap (h : Inside) : Type 0 where
   pub small : length h.listed.items ≤ 2 ^ 30
   pub places_len : length h.places.items ≡ length h.listed.items + 1

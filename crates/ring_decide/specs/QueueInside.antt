@@ -8,6 +8,7 @@ use Rattle.ring_decide.specs.Tables.{AreUpTo}
 abbrev pub vars_of : Inside → ℕ
 vars_of q = length q.stamps.items - 1
 
+-- the tables of a queue agree, which every call keeps
 pub record IsQueue (q : Inside) : Type 0 where
   pub small : vars_of q ≤ 2 ^ 30
   pub stamps_len : length q.stamps.items ≡ vars_of q + 1

@@ -2,6 +2,7 @@
 use Rattle.std.specs.Prelude.{ℕ, ◌+◌, ◌-◌, ◌^◌, min, List}
 use Rattle.std.specs.List.{slice_index}
 
+-- what contracts see of the scores: the score of each variable, and what a bump adds
 pub record ScoresData : Type 0 where
   pub vars : ℕ
   pub scores : List ℕ

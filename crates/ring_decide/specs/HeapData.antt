@@ -2,7 +2,7 @@
 use Rattle.std.specs.Prelude.{◌≡◌, ◌≢◌, ℕ, ◌<◌, ◌≤◌, ◌⊎◌, List}
 use Rattle.std.specs.List.{slice_index}
 
--- what contracts see of a heap: the variables it is of, how many are in it, and which stands at each place
+-- what contracts see of a heap: how many variables there are, how many are in it, and the place of each variable
 pub record HeapData : Type 0 where
   pub vars : ℕ
   pub count : ℕ

@@ -55,7 +55,7 @@ distinct_vars t (p ∷ ps) shape d h =
     eqb-false p q.0 (apart_In p ps q.0 (IsDistinct-head nat_eq p ps d) q.1) same))
     (distinct_vars t ps shape (IsDistinct-tail nat_eq p ps d) (λ q i. h q (inr i)))
 
--- the places of the lemma can be looked at
+-- the point is above level 0, and of a level up to m
 pub point_up_to : (held : Held) (steps : List TrailStep) (m : ℕ) (c : List Literal) (ms : List Bool) (u : ℕ) → 1 ≤ m → IsWalked held steps m c ms u → IsUpTo steps m u
 point_up_to held steps m c ms u pos w = let l = w.point.level in record { in_range = w.point.in_range; above = omega arith; within = omega arith }
 

@@ -1,2 +1,4 @@
 mod Decoding
+mod Finding
+pub mod Loaded
 mod Waiting

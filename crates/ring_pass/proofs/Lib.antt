@@ -18,6 +18,7 @@ mod OffersSeen
 mod OtherRings
 mod PollsHere
 mod RingPorts
+mod Scans
 mod SeenHere
 mod Stays
 mod StopsHere

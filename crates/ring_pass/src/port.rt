@@ -1,8 +1,8 @@
 // All calls together: a ring with its pass is a port.
 use crate::pass::RingPass;
 use io_edge::Sink;
-use ring_port::{Gate, Port, PortStop, Set};
-use sat_words::{Cref, Head, Lit, Stop};
+use ring_port::{Gate, Port, PortStop, Set, Shape};
+use sat_words::{Cref, Head, Lit, Stop, Values};
 use std::sync::Wait;
 
 impl<'a, S: Sink, G: Gate, H: Wait> Port for RingPass<'a, S, G, H> {
@@ -18,6 +18,14 @@ impl<'a, S: Sink, G: Gate, H: Wait> Port for RingPass<'a, S, G, H> {
 
     fn read_lit(&mut self, c: Cref, i: u32) -> Lit {
         self.read_lit(c, i)
+    }
+
+    fn shape(&mut self, c: Cref) -> Shape {
+        self.shape(c)
+    }
+
+    fn find_open(&mut self, c: Cref, values: &Values, other: Lit) -> Option<Lit> {
+        self.find_open(c, values, other)
     }
 
     fn learn(&mut self, lits: &[Lit], glue: u32) -> Result<Option<Cref>, PortStop> {

@@ -1,11 +1,12 @@
 // The calls that only read.
 ghost use Rattle.std.specs.Prelude.{◌≡◌, ◌<◌, Some, IfSome, IsSome, length, slice_get};
+ghost use Rattle.ring_port.specs.Scan.{first_open};
 ghost use Rattle.ring_port.specs.PortState.{IsPort, held_at, lits_at, head_of};
 
 use crate::pass::RingPass;
 use io_edge::Sink;
-use ring_port::Gate;
-use sat_words::{Cref, Head, Lit};
+use ring_port::{Gate, Shape};
+use sat_words::{Cref, Head, Lit, Values};
 
 impl<'a, S: Sink, G: Gate, H> RingPass<'a, S, G, H> {
     /// The greatest variable, which no call changes.
@@ -36,5 +37,30 @@ impl<'a, S: Sink, G: Gate, H> RingPass<'a, S, G, H> {
         ensures port { IsPort self.new }
     {
         ref_count::read_lit(self.table, &mut self.pass, c, i)
+    }
+
+    /// The size and the glue of a clause that is held, by one step.
+    pub fn shape(&mut self, c: Cref) -> Shape
+        requires { IsSome (held_at self.old c.address) }
+        ensures size { result.size ≡ length (lits_at self.old c.address) }
+        ensures glue { IfSome (held_at self.old c.address) (λ h. result.glue ≡ h.glue) }
+        ensures same { self.new ≡ self.old }
+        ensures port { IsPort self.new }
+    {
+        let shape = ref_count::read_shape(self.table, &mut self.pass, c);
+        Shape {
+            size: shape.0,
+            glue: shape.1,
+        }
+    }
+
+    /// The first literal of a clause that is held which is not false under these values and isn't the other one.
+    pub fn find_open(&mut self, c: Cref, values: &Values, other: Lit) -> Option<Lit>
+        requires { IsSome (held_at self.old c.address) }
+        ensures first { result ≡ first_open values.now other (lits_at self.old c.address) }
+        ensures same { self.new ≡ self.old }
+        ensures port { IsPort self.new }
+    {
+        ref_count::find_open(self.table, &mut self.pass, c, values, other)
     }
 }

@@ -1,3 +1,4 @@
+mod Finding
 pub mod Holdings
 pub mod LogSteps
 pub mod Dropping

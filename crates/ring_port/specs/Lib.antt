@@ -8,3 +8,4 @@ pub mod Spare
 pub mod Store
 pub mod OwnLog
 pub mod PlainPort
+pub mod Scan

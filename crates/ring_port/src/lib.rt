@@ -10,6 +10,7 @@ mod plain_calls;
 mod plain_lines;
 mod plain_port;
 mod port;
+mod scan;
 mod spare;
 mod starts;
 mod stops;
@@ -25,5 +26,6 @@ pub use laws::{
 pub use plain_port::PlainPort;
 pub use port::Port;
 pub use sat_words::Set;
+pub use scan::Shape;
 pub use starts::Starts;
 pub use stops::PortStop;

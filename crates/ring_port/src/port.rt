@@ -7,10 +7,12 @@ ghost use Rattle.ring_port.specs.Log.{KeepsLog};
 ghost use Rattle.ring_port.specs.Port.{is_usable, IsClause, IsFreshClause, Learned, IsPartOfHeld, Derived, KeepsHeld, UnitWritten, EmptyWritten, Took, Looked, SetStop};
 ghost use Rattle.ring_port.specs.Deleting.{IsNotTaken, Dropped, Tidied};
 ghost use Rattle.ring_port.specs.Reducing.{MayReduce, Noted};
+ghost use Rattle.ring_port.specs.Scan.{first_open};
 ghost use Rattle.ring_port.specs.Exchange.{class_at, other_rings, OfferedAs, Polled};
 
+use crate::scan::{Shape, is_open};
 use crate::stops::PortStop;
-use sat_words::{Cref, Head, Lit, Set, Stop};
+use sat_words::{Cref, Head, Lit, Set, Stop, Values};
 
 /// The whole outside of a ring: the clauses that it holds, the log that it writes, the units and the stop that it shares
 /// with other rings.
@@ -42,6 +44,38 @@ pub trait Port {
         ensures value { slice_get (lits_at (state self.old) c.address) i ≡ Some result }
         ensures same { state self.new ≡ state self.old }
         ensures port { IsPort (state self.new) };
+
+    /// The size and the glue of a clause that is held, if its number is not asked for.
+    fn shape(&mut self, c: Cref) -> Shape
+        requires { IsSome (held_at (state self.old) c.address) }
+        ensures size { result.size ≡ length (lits_at (state self.old) c.address) }
+        ensures glue { IfSome (held_at (state self.old) c.address) (λ h. result.glue ≡ h.glue) }
+        ensures same { state self.new ≡ state self.old }
+        ensures port { IsPort (state self.new) }
+    {
+        let head = self.head(c);
+        Shape {
+            size: head.size,
+            glue: head.glue,
+        }
+    }
+
+    /// The first literal of a clause that is held which is not false under these values and isn't the other one.
+    fn find_open(&mut self, c: Cref, values: &Values, other: Lit) -> Option<Lit>
+        requires { IsSome (held_at (state self.old) c.address) }
+        ensures first { result ≡ first_open values.now other (lits_at (state self.old) c.address) }
+        ensures same { state self.new ≡ state self.old }
+        ensures port { IsPort (state self.new) }
+    {
+        let size = self.head(c).size;
+        for i in 0..size {
+            let lit = self.read_lit(c, i);
+            if is_open(values, other, lit) {
+                return Some(lit);
+            }
+        }
+        None
+    }
 
     /// Learns a clause that was found at a conflict: its line is written, and it is held from then on with its literals
     /// in this order. The glue is that of `Head`. Of one literal it is a unit, which has no address and is seen. The clause

@@ -2,6 +2,8 @@
 //! starts. A change must go to all of them: values and places tell the steps, and the starts part them by level.
 ghost use Rattle.std.specs.Prelude.{◌≡◌, ◌↔◌, ◌≤◌, ◌<◌, ◌+◌, ◌++◌, ◌^◌, ◌∷◌, [], IfOk, IsTrue, IsNone, ℕ, None, length, take, MatchOption, MatchBool};
 ghost use Rattle.std.specs.Vec.{vec_capacity};
+ghost use Rattle.sat_words.specs.Literal.{Literal, opposite};
+ghost use Rattle.sat_words.specs.Values.{is_true};
 ghost use Rattle.ring_trail.specs.TrailData.{TrailData, IsTrail, IsNext, IsPlaceOf, HasNoPlace, IsTrueOn, IsFalseOn, value_of, level_of, reason_of, lit_at, level_at, reason_at, start_of, decided, assigned, cut_back};
 ghost use Rattle.ring_trail.specs.Inside.{IsKept, ArePlaces};
 
@@ -118,6 +120,14 @@ impl Trail {
         ensures { IsTrue result ↔ IsFalseOn self.now.steps lit }
     {
         self.values.is_false(lit)
+    }
+
+    /// The values of all variables, for who looks at many literals.
+    pub fn values(&self) -> &Values
+        ensures is_true { (l : Literal) → l.var ≤ self.now.vars → IsTrue (is_true result.now l) ↔ IsTrueOn self.now.steps l }
+        ensures is_false { (l : Literal) → l.var ≤ self.now.vars → IsTrue (is_true result.now (opposite l)) ↔ IsFalseOn self.now.steps l }
+    {
+        &self.values
     }
 
     /// Whether the literal is true or false; none if its variable has no value.

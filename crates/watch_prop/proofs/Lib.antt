@@ -6,6 +6,7 @@ pub mod Reasons
 pub mod Visits
 pub mod Advancing
 pub mod Entries
+pub mod Opens
 pub mod Ranks
 pub mod Settling
 pub mod Detaching

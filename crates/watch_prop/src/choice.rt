@@ -84,7 +84,7 @@ fn choose<P: Port>(port: &mut P, trail: &Trail, clause: Cref) -> Best
     ensures same { P.state port.new ≡ P.state port.old }
     ensures best { IsBest trail.now (lits_at (P.state port.old) clause.address) (length (lits_at (P.state port.old) clause.address)) result }
 {
-    let size = port.head(clause).size;
+    let size = port.shape(clause).size;
     let first = port.read_lit(clause, 0);
     let second = port.read_lit(clause, 1);
     let mut best = start(first, rank(trail, first), second, rank(trail, second));

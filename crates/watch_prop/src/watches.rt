@@ -63,7 +63,7 @@ fn first_watch<P: Port>(port: &mut P, c: Cref) -> Watch
     ensures pair { IsPair (lits_at (P.state port.old) c.address) result }
 {
     let _vars = port.vars();
-    let size = port.head(c).size;
+    let size = port.shape(c).size;
     let first = port.read_lit(c, 0);
     let second = port.read_lit(c, 1);
     Watch {

@@ -83,7 +83,7 @@ impl Watches {
         ensures gone { (l : Literal) → has (lits_at (P.state port.old) c.address) l ≡ true → IsGoneFrom self.old self.new c.address l }
     {
         let _vars = port.vars();
-        let size = port.head(c).size;
+        let size = port.shape(c).size;
         for i in 0..size {
             let lit = port.read_lit(c, i);
             self.free_at(lit, c);

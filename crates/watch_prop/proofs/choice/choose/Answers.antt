@@ -14,12 +14,12 @@ pub loop-i-init : goal.loop-i-init
 loop-i-init g c =
     let s = g.P.Port.state c.args.port.now in
     let lits = lits_at s c.args.clause.address in
-    let e1 = read _ s c.args.clause.address 0 c.read_lit-first.result c.head-size.ensures.same c.read_lit-first.ensures.value in
-    let s1 = c.read_lit-first.ensures.same ∙ c.head-size.ensures.same in
+    let e1 = read _ s c.args.clause.address 0 c.read_lit-first.result c.shape-size.ensures.same c.read_lit-first.ensures.value in
+    let s1 = c.read_lit-first.ensures.same ∙ c.shape-size.ensures.same in
     let e2 = read _ s c.args.clause.address 1 c.read_lit-second.result s1 c.read_lit-second.ensures.value in
     record {
       same = c.read_lit-second.ensures.same ∙ s1;
-      size = c.head-size.ensures.size;
+      size = c.shape-size.ensures.size;
       best = subst (λ (b : Best). IsBest c.args.trail.now lits 2 b) (sym c.start-best.ensures)
           (IsBest-start c.args.trail.now lits c.read_lit-first.result c.rank.result c.read_lit-second.result c.rank-2.result c.requires.long.distinct e1 e2 c.rank.ensures c.rank-2.ensures);
     }

@@ -17,12 +17,12 @@ read s r a i l e q = subst (λ (f : PortState). slice_get (lits_at f a) i ≡ So
 pub read_lit-first-requires-clause-inside : goal.read_lit-first-requires-clause-inside
 read_lit-first-requires-clause-inside g c =
     let n = (shape (g.P.Port.state c.args.port.now) c.args.c.address c.vars-vars.ensures.port c.requires).long in
-    subst (λ (s : PortState). 0 < length (lits_at s c.args.c.address)) (sym c.head-size.ensures.same) (omega arith)
+    subst (λ (s : PortState). 0 < length (lits_at s c.args.c.address)) (sym c.shape-size.ensures.same) (omega arith)
 
 pub read_lit-second-requires-clause-inside : goal.read_lit-second-requires-clause-inside
 read_lit-second-requires-clause-inside g c =
     let n = (shape (g.P.Port.state c.args.port.now) c.args.c.address c.vars-vars.ensures.port c.requires).long in
-    subst (λ (s : PortState). 1 < length (lits_at s c.args.c.address)) (sym (c.read_lit-first.ensures.same ∙ c.head-size.ensures.same)) (omega arith)
+    subst (λ (s : PortState). 1 < length (lits_at s c.args.c.address)) (sym (c.read_lit-first.ensures.same ∙ c.shape-size.ensures.same)) (omega arith)
 
 two : (n : ℕ) → nat_eq n 2 ≡ true → n ≡ 2
 two n e = grind (arith, nat_tests)
@@ -33,11 +33,11 @@ returns-clause-pair g c =
     let a = c.args.c.address in
     let lits = lits_at s a in
     let long = shape s a c.vars-vars.ensures.port c.requires in
-    let e = read _ s a 0 c.read_lit-first.result c.head-size.ensures.same c.read_lit-first.ensures.value in
-    let f = read _ s a 1 c.read_lit-second.result (c.read_lit-first.ensures.same ∙ c.head-size.ensures.same) c.read_lit-second.ensures.value in
+    let e = read _ s a 0 c.read_lit-first.result c.shape-size.ensures.same c.read_lit-first.ensures.value in
+    let f = read _ s a 1 c.read_lit-second.result (c.read_lit-first.ensures.same ∙ c.shape-size.ensures.same) c.read_lit-second.ensures.value in
     record {
       first = has_at lits 0 c.read_lit-first.result e;
       second = has_at lits 1 c.read_lit-second.result f;
       apart = two_apart lits c.read_lit-first.result c.read_lit-second.result long.distinct e f;
-      only = λ q. sym c.head-size.ensures.size ∙ two c.head-size.result.size q;
+      only = λ q. sym c.shape-size.ensures.size ∙ two c.shape-size.result.size q;
     }

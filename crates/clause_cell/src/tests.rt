@@ -119,7 +119,7 @@ impl Numbers {
 }
 
 /// The number of words that the map has.
-const WORDS: u64 = 96;
+const WORDS: u64 = 2048;
 
 /// Which words are free, one by one, and the ranges that were taken.
 #[derive(Drop)]
@@ -203,13 +203,18 @@ fn give_both(holes: &mut Holes, map: &mut Map, numbers: &mut Numbers) -> Result<
     give(holes, first, len)
 }
 
+// All words are taken one by one. Then more are given back than taken, so that the holes come to several blocks and run
+// together again.
 #[test]
 fn holes_are_those_of_a_map(rt: HostRuntime) -> Result<(), Fail> {
     let mut holes = hole(rt.alloc(), 0, WORDS)?;
     let mut map = Map::new(rt.alloc())?;
     let mut numbers = Numbers { state: 1 };
-    for _ in 0..3000 {
-        if numbers.below(2) == 0 {
+    for _ in 0..WORDS {
+        take_both(&rt, &mut holes, &mut map, 1)?;
+    }
+    for _ in 0..6000 {
+        if numbers.below(3) == 0 {
             let need = 1 + numbers.below(9) as u64;
             take_both(&rt, &mut holes, &mut map, need)?;
         } else {
@@ -245,7 +250,7 @@ fn many_holes_stand(rt: HostRuntime) -> Result<(), Fail> {
 #[test]
 fn many_holes_are_taken_and_given_back(rt: HostRuntime) -> Result<(), Fail> {
     let mut holes = many_holes(rt.alloc())?;
-    for _ in 0..5000 {
+    for _ in 0..100_000 {
         assert_eq!(rt; holes.take(3), Ok(4 * HOLES));
         give(&mut holes, 4 * HOLES, 3)?;
         assert_eq!(rt; holes.take(2), Ok(0));

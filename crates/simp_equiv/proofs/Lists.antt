@@ -10,7 +10,7 @@ use Rattle.simp_equiv.specs.Graphs.{targets}
 use Rattle.simp_equiv.specs.Searches.{mark_in, stack_in, is_new, Searching, ClosedTo}
 use Rattle.simp_equiv.specs.declared.components.Mark.{Mark}
 use Rattle.simp_equiv.specs.declared.components.Mark.TheVariants.{New, Open, Closed}
-use Rattle.simp_equiv.specs.declared.components.Visit.{Visit}
+use Rattle.simp_equiv.specs.declared.components.StackFrame.{StackFrame}
 use Rattle.simp_equiv.proofs.Steps.{Grown, ClosedFrom}
 
 pub reverse_last : {X : Type 0} (xs : List X) (x : X) → reverse (xs ++ x ∷ []) ≡ x ∷ reverse xs
@@ -68,7 +68,7 @@ targets_few (t ∷ G) (suc v) = omega (arith, sum_cons length t G, targets_few G
 
 -- Closing
 
-pub closed_lists : (G : List (List ℕ)) (marks after : List Mark) (stack : List ℕ) (fs : List Visit) (closed place : ℕ) → ClosedTo stack marks after closed place
+pub closed_lists : (G : List (List ℕ)) (marks after : List Mark) (stack : List ℕ) (fs : List StackFrame) (closed place : ℕ) → ClosedTo stack marks after closed place
     → Searching G (mark_in marks) (stack_in stack) (length stack) fs closed → ClosedFrom (mark_in marks) (mark_in after) place closed
 closed_lists G marks after stack fs closed place k s = record {
   above = λ v q e le. let t = s.placed v q e in ap (mark_in after) (sym t.1) ∙ k.from_place q le t.0;

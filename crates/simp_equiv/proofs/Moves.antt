@@ -10,25 +10,25 @@ use Rattle.simp_equiv.specs.Searches.{mark_in, stack_in, is_new, left_of, most_l
 use Rattle.simp_equiv.specs.States.{IsSearching, frames_of, Onward, IsStep, IsExplored, number_of}
 use Rattle.simp_equiv.specs.declared.components.Mark.{Mark}
 use Rattle.simp_equiv.specs.declared.components.Mark.TheVariants.{New, Open, Closed}
-use Rattle.simp_equiv.specs.declared.components.Visit.{Visit}
+use Rattle.simp_equiv.specs.declared.components.StackFrame.{StackFrame}
 use Rattle.simp_equiv.specs.declared.components.Search.{Search}
 use Rattle.simp_equiv.proofs.Steps.{ClosedFrom, taken_on, with_low, start_root, meet_new, meet_open, meet_closed, finish_into, close_component, connected_same, same_connected}
 use Rattle.simp_equiv.proofs.Lists.{reverse_last, set_same, open_in_range, grown_lists, count_opened, count_alike, targets_few, closed_lists, count_closed}
 
 -- what a step shows of the four parts after it
-record Made (G : List (List ℕ)) (before marks : List Mark) (stack : List ℕ) (fs : List Visit) (closed work : ℕ) : Type 0 where
+record Made (G : List (List ℕ)) (before marks : List Mark) (stack : List ℕ) (fs : List StackFrame) (closed work : ℕ) : Type 0 where
   search : IsSearch G marks stack fs closed
   falls : work_left G marks fs < work
   onward : Onward before marks
 
-as_step : (G : List (List ℕ)) (old new : Search) (fs gs : List Visit) (marks : List Mark) (stack : List ℕ) (closed : ℕ)
+as_step : (G : List (List ℕ)) (old new : Search) (fs gs : List StackFrame) (marks : List Mark) (stack : List ℕ) (closed : ℕ)
     → Made G old.marks.items marks stack gs closed (work_left G old.marks.items fs)
     → new.marks.items ≡ marks → new.stack.items ≡ stack → frames_of new ≡ gs → new.closed ≡ closed → IsStep G old new fs
 as_step G old new fs gs marks stack closed made e f g h =
     let m : Made G old.marks.items new.marks.items new.stack.items (frames_of new) new.closed (work_left G old.marks.items fs) =
     subst (λ (x : List Mark). Made G old.marks.items x new.stack.items (frames_of new) new.closed (work_left G old.marks.items fs)) (sym e)
     (subst (λ (x : List ℕ). Made G old.marks.items marks x (frames_of new) new.closed (work_left G old.marks.items fs)) (sym f)
-    (subst (λ (x : List Visit). Made G old.marks.items marks stack x new.closed (work_left G old.marks.items fs)) (sym g)
+    (subst (λ (x : List StackFrame). Made G old.marks.items marks stack x new.closed (work_left G old.marks.items fs)) (sym g)
     (subst (λ (x : ℕ). Made G old.marks.items marks stack gs x (work_left G old.marks.items fs)) (sym h) made))) in
     record { searching = m.search; falls = m.falls; onward = m.onward }
 
@@ -50,7 +50,7 @@ work_opened c d k a b l r S e lt le q =
     let m : c * k ≡ (d + 1) * k = ap (λ n. n * k) (sym e) in
     omega (arith, m)
 
-opened : (G : List (List ℕ)) (marks : List Mark) (stack : List ℕ) (f : Visit) (fs : List Visit) (closed v : ℕ) → IsSearch G marks stack (f ∷ fs) closed
+opened : (G : List (List ℕ)) (marks : List Mark) (stack : List ℕ) (f : StackFrame) (fs : List StackFrame) (closed v : ℕ) → IsSearch G marks stack (f ∷ fs) closed
     → f.next < length (targets G f.node) → v ≡ slice_index_or (targets G f.node) f.next v → v < length marks → mark_in marks v ≡ New
     → Made G marks (set marks v (Open (length stack))) (stack ++ v ∷ []) (first_frame v (length stack) ∷ taken_on f f.low ∷ fs) closed (work_left G marks (f ∷ fs))
 opened G marks stack f fs closed v s more here lt fresh =
@@ -77,7 +77,7 @@ opened G marks stack f fs closed v s more here lt fresh =
     }
 
 -- an edge to a new node
-pub step_new : (G : List (List ℕ)) (old new : Search) (f : Visit) (v : ℕ) → IsSearching G old (f ∷ frames_of old)
+pub step_new : (G : List (List ℕ)) (old new : Search) (f : StackFrame) (v : ℕ) → IsSearching G old (f ∷ frames_of old)
     → f.next < length (targets G f.node) → v ≡ slice_index_or (targets G f.node) f.next v → v < length old.marks.items → mark_in old.marks.items v ≡ New
     → new.marks.items ≡ set old.marks.items v (Open (length old.stack.items)) → new.stack.items ≡ old.stack.items ++ v ∷ []
     → new.frames.items ≡ (old.frames.items ++ taken_on f f.low ∷ []) ++ first_frame v (length old.stack.items) ∷ [] → new.closed ≡ old.closed
@@ -85,10 +85,10 @@ pub step_new : (G : List (List ℕ)) (old new : Search) (f : Visit) (v : ℕ) �
 step_new G old new f v s more here lt fresh e g h k =
     as_step G old new (f ∷ frames_of old) _ _ _ _ (opened G old.marks.items old.stack.items f (frames_of old) old.closed v s more here lt fresh) e g
     (ap reverse h ∙ reverse_last (old.frames.items ++ taken_on f f.low ∷ []) (first_frame v (length old.stack.items))
-    ∙ ap (λ (x : List Visit). first_frame v (length old.stack.items) ∷ x) (reverse_last old.frames.items (taken_on f f.low))) k
+    ∙ ap (λ (x : List StackFrame). first_frame v (length old.stack.items) ∷ x) (reverse_last old.frames.items (taken_on f f.low))) k
 
 -- an edge to another node
-retaken : (G : List (List ℕ)) (marks : List Mark) (stack : List ℕ) (f : Visit) (fs : List Visit) (closed low : ℕ) → IsSearch G marks stack (f ∷ fs) closed
+retaken : (G : List (List ℕ)) (marks : List Mark) (stack : List ℕ) (f : StackFrame) (fs : List StackFrame) (closed low : ℕ) → IsSearch G marks stack (f ∷ fs) closed
     → f.next < length (targets G f.node) → Searching G (mark_in marks) (stack_in stack) (length stack) (taken_on f low ∷ fs) closed
     → Made G marks marks stack (taken_on f low ∷ fs) closed (work_left G marks (f ∷ fs))
 retaken G marks stack f fs closed low s more after = record {
@@ -101,7 +101,7 @@ retaken G marks stack f fs closed low s more after = record {
   onward = λ v e. e;
 }
 
-pub step_open : (G : List (List ℕ)) (old new : Search) (f : Visit) (v q low : ℕ) → IsSearching G old (f ∷ frames_of old)
+pub step_open : (G : List (List ℕ)) (old new : Search) (f : StackFrame) (v q low : ℕ) → IsSearching G old (f ∷ frames_of old)
     → f.next < length (targets G f.node) → v ≡ slice_index_or (targets G f.node) f.next v → mark_in old.marks.items v ≡ Open q
     → low ≤ f.low → low ≤ q → (low ≡ f.low) ⊎ (low ≡ q)
     → new.marks.items ≡ old.marks.items → new.stack.items ≡ old.stack.items
@@ -113,7 +113,7 @@ step_open G old new f v q low s more here marked le le_q which e g h k =
     (meet_open G (mark_in old.marks.items) (stack_in old.stack.items) (length old.stack.items) v q f (frames_of old) old.closed s.searching more here marked low le le_q which)) e g
     (ap reverse h ∙ reverse_last old.frames.items (taken_on f low)) k
 
-pub step_closed : (G : List (List ℕ)) (old new : Search) (f : Visit) (v d : ℕ) → IsSearching G old (f ∷ frames_of old)
+pub step_closed : (G : List (List ℕ)) (old new : Search) (f : StackFrame) (v d : ℕ) → IsSearching G old (f ∷ frames_of old)
     → f.next < length (targets G f.node) → v ≡ slice_index_or (targets G f.node) f.next v → mark_in old.marks.items v ≡ Closed d
     → new.marks.items ≡ old.marks.items → new.stack.items ≡ old.stack.items
     → new.frames.items ≡ old.frames.items ++ taken_on f f.low ∷ [] → new.closed ≡ old.closed
@@ -125,7 +125,7 @@ step_closed G old new f v d s more here marked e g h k =
     (ap reverse h ∙ reverse_last old.frames.items (taken_on f f.low)) k
 
 -- a frame that ends below another
-finished : (G : List (List ℕ)) (marks : List Mark) (stack : List ℕ) (f b : Visit) (fs : List Visit) (closed low : ℕ) → IsSearch G marks stack (f ∷ b ∷ fs) closed
+finished : (G : List (List ℕ)) (marks : List Mark) (stack : List ℕ) (f b : StackFrame) (fs : List StackFrame) (closed low : ℕ) → IsSearch G marks stack (f ∷ b ∷ fs) closed
     → length (targets G f.node) ≤ f.next → f.low < f.place → low ≤ b.low → low ≤ f.low → (low ≡ b.low) ⊎ (low ≡ f.low)
     → Made G marks marks stack (with_low b low ∷ fs) closed (work_left G marks (f ∷ b ∷ fs))
 finished G marks stack f b fs closed low s over less le_b le_f which = record {
@@ -142,7 +142,7 @@ finished G marks stack f b fs closed low s over less le_b le_f which = record {
   onward = λ v e. e;
 }
 
-pub step_finish : (G : List (List ℕ)) (old new : Search) (f b : Visit) (rest : List Visit) (low : ℕ) → IsSearching G old (f ∷ frames_of old)
+pub step_finish : (G : List (List ℕ)) (old new : Search) (f b : StackFrame) (rest : List StackFrame) (low : ℕ) → IsSearching G old (f ∷ frames_of old)
     → old.frames.items ≡ rest ++ b ∷ []
     → length (targets G f.node) ≤ f.next → f.low < f.place → low ≤ b.low → low ≤ f.low → (low ≡ b.low) ⊎ (low ≡ f.low)
     → new.marks.items ≡ old.marks.items → new.stack.items ≡ old.stack.items
@@ -150,17 +150,17 @@ pub step_finish : (G : List (List ℕ)) (old new : Search) (f b : Visit) (rest :
     → IsStep G old new (f ∷ frames_of old)
 step_finish G old new f b rest low s was over less le_b le_f which e g h k =
     let back : frames_of old ≡ b ∷ reverse rest = ap reverse was ∙ reverse_last rest b in
-    let t : IsSearching G old (f ∷ b ∷ reverse rest) = subst (λ (x : List Visit). IsSearching G old (f ∷ x)) back s in
-    subst (λ (x : List Visit). IsStep G old new (f ∷ x)) (sym back)
+    let t : IsSearching G old (f ∷ b ∷ reverse rest) = subst (λ (x : List StackFrame). IsSearching G old (f ∷ x)) back s in
+    subst (λ (x : List StackFrame). IsStep G old new (f ∷ x)) (sym back)
     (as_step G old new (f ∷ b ∷ reverse rest) _ _ _ _ (finished G old.marks.items old.stack.items f b (reverse rest) old.closed low t over less le_b le_f which) e g
     (ap reverse h ∙ reverse_last rest (with_low b low)) k)
 
 -- if no frame is left the low place is the frame's own
-pub lowest : (G : List (List ℕ)) (s : Search) (f : Visit) → IsSearching G s (f ∷ []) → f.low < f.place → ⊥
+pub lowest : (G : List (List ℕ)) (s : Search) (f : StackFrame) → IsSearching G s (f ∷ []) → f.low < f.place → ⊥
 lowest G s f h lt = let e : f.place ≡ 0 = h.searching.governed.1 in omega arith
 
 -- a component is closed
-pub step_close : (G : List (List ℕ)) (old new : Search) (f : Visit) → IsSearching G old (f ∷ frames_of old)
+pub step_close : (G : List (List ℕ)) (old new : Search) (f : StackFrame) → IsSearching G old (f ∷ frames_of old)
     → length (targets G f.node) ≤ f.next → f.place ≤ f.low
     → ClosedTo old.stack.items old.marks.items new.marks.items old.closed f.place → new.stack.items ≡ take f.place old.stack.items
     → new.frames.items ≡ old.frames.items → new.closed ≡ old.closed + 1
@@ -201,18 +201,18 @@ step_close G old new f s over high k g h n =
 
 -- Ranges
 
-pub target_in_range : (G : List (List ℕ)) (s : Search) (f : Visit) (fs : List Visit) (v : ℕ) → InRange G → IsSearching G s fs
+pub target_in_range : (G : List (List ℕ)) (s : Search) (f : StackFrame) (fs : List StackFrame) (v : ℕ) → InRange G → IsSearching G s fs
     → f.next < length (targets G f.node) → v ≡ slice_index_or (targets G f.node) f.next v → v < length s.marks.items
 target_in_range G s f fs v range h more here = let lt : v < length G = range f.node v (f.next, more, sym here) in let e = h.sized in omega arith
 
-pub frame_in_range : (G : List (List ℕ)) (s : Search) (f : Visit) (fs : List Visit) → IsSearching G s (f ∷ fs) → f.node < length G
+pub frame_in_range : (G : List (List ℕ)) (s : Search) (f : StackFrame) (fs : List StackFrame) → IsSearching G s (f ∷ fs) → f.node < length G
 frame_in_range G s f fs h =
     let c = h.searching.governed.0 in
     let e : mark_in s.marks.items f.node ≡ Open f.place = ap (mark_in s.marks.items) (sym c.here) ∙ h.searching.marked f.place c.within in
     let lt : f.node < length s.marks.items = open_in_range s.marks.items f.node f.place e in
     let z = h.sized in omega arith
 
-pub stack_in_range : (G : List (List ℕ)) (s : Search) (fs : List Visit) → IsSearching G s fs → (p : ℕ) → p < length s.stack.items → slice_index_or s.stack.items p 0 < length s.marks.items
+pub stack_in_range : (G : List (List ℕ)) (s : Search) (fs : List StackFrame) → IsSearching G s fs → (p : ℕ) → p < length s.stack.items → slice_index_or s.stack.items p 0 < length s.marks.items
 stack_in_range G s fs h p lt = open_in_range s.marks.items (stack_in s.stack.items p) p (h.searching.marked p lt)
 
 -- the mark that was read
@@ -227,9 +227,9 @@ pub root_opened : (G : List (List ℕ)) (old new : Search) (v : ℕ) → IsSearc
     → new.frames.items ≡ old.frames.items ++ first_frame v (length old.stack.items) ∷ [] → new.closed ≡ old.closed
     → IsSearching G new (frames_of new)
 root_opened G old new v s none lt fresh e g h k =
-    (as_step G old new (v_frame ∷ []) _ _ _ _ made e g (ap reverse (h ∙ ap (λ (x : List Visit). x ++ v_frame ∷ []) none)) k).searching
+    (as_step G old new (v_frame ∷ []) _ _ _ _ made e g (ap reverse (h ∙ ap (λ (x : List StackFrame). x ++ v_frame ∷ []) none)) k).searching
   where
-    v_frame : Visit
+    v_frame : StackFrame
     v_frame = first_frame v (length old.stack.items)
 
     made : Made G old.marks.items (set old.marks.items v (Open (length old.stack.items))) (old.stack.items ++ v ∷ []) (first_frame v (length old.stack.items) ∷ []) old.closed (work_left G old.marks.items (first_frame v (length old.stack.items) ∷ []))
@@ -253,7 +253,7 @@ root_opened G old new v s none lt fresh e g h k =
 -- no frame is left
 pub explored : (G : List (List ℕ)) (old new : Search) → IsSearching G new (frames_of new) → new.frames.items ≡ [] → Onward old.marks.items new.marks.items → IsExplored G old new
 explored G old new s none on = record {
-  searching = subst (λ (x : List Visit). IsSearching G new x) (ap reverse none) s;
+  searching = subst (λ (x : List StackFrame). IsSearching G new x) (ap reverse none) s;
   empty = none;
   onward = on;
 }

@@ -6,7 +6,7 @@ use Rattle.simp_equiv.specs.Graphs.{targets, Edge, Walk, Reaches, Connected}
 use Rattle.simp_equiv.specs.Searches.{Settled, is_closed, is_open, InCharge, Governed, Searching, first_frame}
 use Rattle.simp_equiv.specs.declared.components.Mark.{Mark}
 use Rattle.simp_equiv.specs.declared.components.Mark.TheVariants.{New, Open, Closed}
-use Rattle.simp_equiv.specs.declared.components.Visit.{Visit}
+use Rattle.simp_equiv.specs.declared.components.StackFrame.{StackFrame}
 use Rattle.simp_equiv.proofs.Ways.{stay, chain, along}
 
 -- What settled nodes need
@@ -19,7 +19,7 @@ settled_lower m low lower y le (is_open q e h) = is_open q e (omega arith)
 abbrev pub Forward : (ℕ → Mark) → (ℕ → Mark) → Type 0
 Forward m n = (low y : ℕ) → Settled m low y → Settled n low y
 
-pub charge_forward : (G : List (List ℕ)) (m n : ℕ → Mark) (at to : ℕ → ℕ) (f : Visit) (top : ℕ) → Forward m n → ((p : ℕ) → p < top → to p ≡ at p) → InCharge G m at f top → InCharge G n to f top
+pub charge_forward : (G : List (List ℕ)) (m n : ℕ → Mark) (at to : ℕ → ℕ) (f : StackFrame) (top : ℕ) → Forward m n → ((p : ℕ) → p < top → to p ≡ at p) → InCharge G m at f top → InCharge G n to f top
 charge_forward G m n at to f top go same c = record {
   here = same f.place c.within ∙ c.here;
   within = c.within;
@@ -31,14 +31,14 @@ charge_forward G m n at to f top go same c = record {
       (t.0, t.1, subst (λ (x : ℕ). Reaches (Edge G) x (to t.0)) (sym (same p b)) (subst (λ (x : ℕ). Reaches (Edge G) (at p) x) (sym (same t.0 (let l = t.1 in omega arith))) t.2));
 }
 
-pub governed_forward : (G : List (List ℕ)) (m n : ℕ → Mark) (at to : ℕ → ℕ) (fs : List Visit) (top : ℕ) → Forward m n → ((p : ℕ) → p < top → to p ≡ at p) → Governed G m at fs top → Governed G n to fs top
+pub governed_forward : (G : List (List ℕ)) (m n : ℕ → Mark) (at to : ℕ → ℕ) (fs : List StackFrame) (top : ℕ) → Forward m n → ((p : ℕ) → p < top → to p ≡ at p) → Governed G m at fs top → Governed G n to fs top
 governed_forward G m n at to [] top go same g = g
 governed_forward G m n at to (f ∷ fs) top go same g =
     (charge_forward G m n at to f top go same g.0, governed_forward G m n at to fs f.place go (λ p h. same p (let a = h in let w = g.0.within in omega arith)) g.1)
 
 -- From each place that the frame is in charge of its own is reached, and so from each lower one
 
-below_reached : (G : List (List ℕ)) (m : ℕ → Mark) (at : ℕ → ℕ) (f : Visit) (top : ℕ) → InCharge G m at f top
+below_reached : (G : List (List ℕ)) (m : ℕ → Mark) (at : ℕ → ℕ) (f : StackFrame) (top : ℕ) → InCharge G m at f top
     → ((p q : ℕ) → p ≤ q → q < top → Reaches (Edge G) (at p) (at q)) → (n p : ℕ) → p < n → p < top → Reaches (Edge G) (at p) (at f.place)
 below_reached G m at f top c up zero p h lt = absurd (omega arith)
 below_reached G m at f top c up (suc n) p h lt =
@@ -50,7 +50,7 @@ below_reached G m at f top c up (suc n) p h lt =
       | inr under ↦ up p f.place under c.within
     ]
 
-pub all_reach : (G : List (List ℕ)) (m : ℕ → Mark) (at : ℕ → ℕ) (f : Visit) (fs : List Visit) (top closed : ℕ) → Searching G m at top (f ∷ fs) closed → (p : ℕ) → p < top → Reaches (Edge G) (at p) f.node
+pub all_reach : (G : List (List ℕ)) (m : ℕ → Mark) (at : ℕ → ℕ) (f : StackFrame) (fs : List StackFrame) (top closed : ℕ) → Searching G m at top (f ∷ fs) closed → (p : ℕ) → p < top → Reaches (Edge G) (at p) f.node
 all_reach G m at f fs top closed s p lt =
     subst (λ (x : ℕ). Reaches (Edge G) (at p) x) s.governed.0.here (below_reached G m at f top s.governed.0 s.upwards (suc p) p (omega arith) lt)
 
@@ -68,7 +68,7 @@ grown_forward : (m n : ℕ → Mark) (at to : ℕ → ℕ) (top v : ℕ) → Gro
 grown_forward m n at to top v g low y (is_closed c e) = is_closed c (g.others y (λ k. absurd (let h : New ≡ Closed c = sym g.fresh ∙ ap m (sym k) ∙ e in cc)) ∙ e)
 grown_forward m n at to top v g low y (is_open q e h) = is_open q (g.others y (λ k. absurd (let h : New ≡ Open q = sym g.fresh ∙ ap m (sym k) ∙ e in cc)) ∙ e) h
 
-open_node : (G : List (List ℕ)) (m n : ℕ → Mark) (at to : ℕ → ℕ) (top v : ℕ) (fs gs : List Visit) (closed : ℕ) → Grown m n at to top v
+open_node : (G : List (List ℕ)) (m n : ℕ → Mark) (at to : ℕ → ℕ) (top v : ℕ) (fs gs : List StackFrame) (closed : ℕ) → Grown m n at to top v
     → Searching G m at top fs closed → ((p : ℕ) → p < top → Reaches (Edge G) (at p) v) → Governed G n to gs top
     → Searching G n to (top + 1) (first_frame v top ∷ gs) closed
 open_node G m n at to top v fs gs closed g s reach gov = record {
@@ -133,11 +133,11 @@ pub start_root : (G : List (List ℕ)) (m n : ℕ → Mark) (at to : ℕ → ℕ
 start_root G m n at to top v closed g s = open_node G m n at to top v [] [] closed g s (λ p h. let e : top ≡ 0 = s.governed in absurd (omega arith)) s.governed
 
 -- the frame with one more edge taken, and this low place
-abbrev pub taken_on : Visit → ℕ → Visit
+abbrev pub taken_on : StackFrame → ℕ → StackFrame
 taken_on f low = record { node = f.node; place = f.place; next = f.next + 1; low = low }
 
 -- one more edge
-take_more : (G : List (List ℕ)) (m : ℕ → Mark) (f : Visit) (low v : ℕ) → low ≤ f.low
+take_more : (G : List (List ℕ)) (m : ℕ → Mark) (f : StackFrame) (low v : ℕ) → low ≤ f.low
     → ((i y : ℕ) → i < f.next → i < length (targets G f.node) → slice_index_or (targets G f.node) i y ≡ y → Settled m f.low y)
     → v ≡ slice_index_or (targets G f.node) f.next v → Settled m low v
     → (i y : ℕ) → i < f.next + 1 → i < length (targets G f.node) → slice_index_or (targets G f.node) i y ≡ y → Settled m low y
@@ -154,7 +154,7 @@ take_more G m f low v le before here now i y h k e =
     same_place (x ∷ xs) zero d e h = refl
     same_place (x ∷ xs) (suc i) d e h = same_place xs i d e (omega arith)
 
-with_taken : (G : List (List ℕ)) (m : ℕ → Mark) (at : ℕ → ℕ) (f : Visit) (low top v : ℕ) → InCharge G m at f top → low ≤ f.low → Reaches (Edge G) f.node (at low)
+with_taken : (G : List (List ℕ)) (m : ℕ → Mark) (at : ℕ → ℕ) (f : StackFrame) (low top v : ℕ) → InCharge G m at f top → low ≤ f.low → Reaches (Edge G) f.node (at low)
     → v ≡ slice_index_or (targets G f.node) f.next v → Settled m low v → InCharge G m at (taken_on f low) top
 with_taken G m at f low top v c le reach here now = record {
   here = c.here;
@@ -166,7 +166,7 @@ with_taken G m at f low top v c le reach here now = record {
   lower = c.lower;
 }
 
-pub meet_new : (G : List (List ℕ)) (m n : ℕ → Mark) (at to : ℕ → ℕ) (top v : ℕ) (f : Visit) (fs : List Visit) (closed : ℕ) → Grown m n at to top v
+pub meet_new : (G : List (List ℕ)) (m n : ℕ → Mark) (at to : ℕ → ℕ) (top v : ℕ) (f : StackFrame) (fs : List StackFrame) (closed : ℕ) → Grown m n at to top v
     → Searching G m at top (f ∷ fs) closed → f.next < length (targets G f.node) → v ≡ slice_index_or (targets G f.node) f.next v
     → Searching G n to (top + 1) (first_frame v top ∷ taken_on f f.low ∷ fs) closed
 meet_new G m n at to top v f fs closed g s more here =
@@ -179,7 +179,7 @@ meet_new G m n at to top v f fs closed g s more here =
       governed_forward G m n at to fs f.place go (λ p h. g.under p (let w = c.within in omega arith)) s.governed.1,
     )
 
-with_frames : (G : List (List ℕ)) (m : ℕ → Mark) (at : ℕ → ℕ) (top : ℕ) (fs gs : List Visit) (closed : ℕ) → Searching G m at top fs closed → Governed G m at gs top → Searching G m at top gs closed
+with_frames : (G : List (List ℕ)) (m : ℕ → Mark) (at : ℕ → ℕ) (top : ℕ) (fs gs : List StackFrame) (closed : ℕ) → Searching G m at top fs closed → Governed G m at gs top → Searching G m at top gs closed
 with_frames G m at top fs gs closed s g = record {
   placed = s.placed;
   marked = s.marked;
@@ -190,7 +190,7 @@ with_frames G m at top fs gs closed s g = record {
   together = s.together;
 }
 
-pub meet_open : (G : List (List ℕ)) (m : ℕ → Mark) (at : ℕ → ℕ) (top v q : ℕ) (f : Visit) (fs : List Visit) (closed : ℕ)
+pub meet_open : (G : List (List ℕ)) (m : ℕ → Mark) (at : ℕ → ℕ) (top v q : ℕ) (f : StackFrame) (fs : List StackFrame) (closed : ℕ)
     → Searching G m at top (f ∷ fs) closed → f.next < length (targets G f.node) → v ≡ slice_index_or (targets G f.node) f.next v → m v ≡ Open q
     → (low : ℕ) → low ≤ f.low → low ≤ q → (low ≡ f.low) ⊎ (low ≡ q)
     → Searching G m at top (taken_on f low ∷ fs) closed
@@ -202,7 +202,7 @@ meet_open G m at top v q f fs closed s more here marked low le le_q which =
     ] in
     with_frames G m at top (f ∷ fs) (taken_on f low ∷ fs) closed s (with_taken G m at f low top v c le reach here (is_open q marked le_q), s.governed.1)
 
-pub meet_closed : (G : List (List ℕ)) (m : ℕ → Mark) (at : ℕ → ℕ) (top v d : ℕ) (f : Visit) (fs : List Visit) (closed : ℕ)
+pub meet_closed : (G : List (List ℕ)) (m : ℕ → Mark) (at : ℕ → ℕ) (top v d : ℕ) (f : StackFrame) (fs : List StackFrame) (closed : ℕ)
     → Searching G m at top (f ∷ fs) closed → v ≡ slice_index_or (targets G f.node) f.next v → m v ≡ Closed d
     → Searching G m at top (taken_on f f.low ∷ fs) closed
 meet_closed G m at top v d f fs closed s here marked =
@@ -212,7 +212,7 @@ meet_closed G m at top v d f fs closed s here marked =
 -- A frame is finished
 
 -- all edges from the places that the frame is in charge of
-all_settled : (G : List (List ℕ)) (m : ℕ → Mark) (at : ℕ → ℕ) (f : Visit) (top : ℕ) → InCharge G m at f top → length (targets G f.node) ≤ f.next
+all_settled : (G : List (List ℕ)) (m : ℕ → Mark) (at : ℕ → ℕ) (f : StackFrame) (top : ℕ) → InCharge G m at f top → length (targets G f.node) ≤ f.next
     → (p : ℕ) → f.place ≤ p → p < top → (y : ℕ) → Edge G (at p) y → Settled m f.low y
 all_settled G m at f top c over p le lt y e =
     elim (cases_lt f.place p) as (λ _. Settled m f.low y) [
@@ -222,11 +222,11 @@ all_settled G m at f top c over p le lt y e =
           c.taken own.0 y (let l : own.0 < length (targets G f.node) = own.1 in omega arith) own.1 own.2)
     ]
 
-abbrev pub with_low : Visit → ℕ → Visit
+abbrev pub with_low : StackFrame → ℕ → StackFrame
 with_low f low = record { node = f.node; place = f.place; next = f.next; low = low }
 
 -- into the one below
-pub finish_into : (G : List (List ℕ)) (m : ℕ → Mark) (at : ℕ → ℕ) (top : ℕ) (f h : Visit) (fs : List Visit) (closed : ℕ)
+pub finish_into : (G : List (List ℕ)) (m : ℕ → Mark) (at : ℕ → ℕ) (top : ℕ) (f h : StackFrame) (fs : List StackFrame) (closed : ℕ)
     → Searching G m at top (f ∷ h ∷ fs) closed → length (targets G f.node) ≤ f.next → f.low < f.place
     → (low : ℕ) → low ≤ h.low → low ≤ f.low → (low ≡ h.low) ⊎ (low ≡ f.low)
     → Searching G m at top (with_low h low ∷ fs) closed
@@ -287,7 +287,7 @@ what_was m n place closed k v = by (m v) refl
           | inr ge ↦ was_above q e ge (k.above v q e ge)
         ]
 
-pub close_component : (G : List (List ℕ)) (m n : ℕ → Mark) (at to : ℕ → ℕ) (top : ℕ) (f : Visit) (fs : List Visit) (closed : ℕ)
+pub close_component : (G : List (List ℕ)) (m n : ℕ → Mark) (at to : ℕ → ℕ) (top : ℕ) (f : StackFrame) (fs : List StackFrame) (closed : ℕ)
     → Searching G m at top (f ∷ fs) closed → length (targets G f.node) ≤ f.next → f.place ≤ f.low
     → ClosedFrom m n f.place closed → ((p : ℕ) → p < f.place → to p ≡ at p)
     → Searching G n to f.place fs (closed + 1)

@@ -4,7 +4,7 @@ use Rattle.std.specs.List.{slice_index, slice_index_or, count_by, sum_by}
 use Rattle.simp_equiv.specs.Graphs.{targets, Edge, Reaches}
 use Rattle.simp_equiv.specs.declared.components.Mark.{Mark}
 use Rattle.simp_equiv.specs.declared.components.Mark.TheVariants.{New, Open, Closed}
-use Rattle.simp_equiv.specs.declared.components.Visit.{Visit}
+use Rattle.simp_equiv.specs.declared.components.StackFrame.{StackFrame}
 
 -- the node is closed, or it stands on the stack at this place or above
 pub data Settled (m : ℕ → Mark) (low y : ℕ) : Type 0 where
@@ -13,7 +13,7 @@ pub data Settled (m : ℕ → Mark) (low y : ℕ) : Type 0 where
 
 -- the frame is in charge of the places from its own up to the next frame's: all nodes there but its own are done, and
 -- from each some lower place is reached; no edge taken there leads to a place below the frame's low one, which its node reaches
-pub record InCharge (G : List (List ℕ)) (m : ℕ → Mark) (at : ℕ → ℕ) (f : Visit) (top : ℕ) : Type 0 where
+pub record InCharge (G : List (List ℕ)) (m : ℕ → Mark) (at : ℕ → ℕ) (f : StackFrame) (top : ℕ) : Type 0 where
   pub here : at f.place ≡ f.node
   pub within : f.place < top
   pub low_place : f.low ≤ f.place
@@ -23,12 +23,12 @@ pub record InCharge (G : List (List ℕ)) (m : ℕ → Mark) (at : ℕ → ℕ) 
   pub lower : (p : ℕ) → f.place < p → p < top → (q : ℕ) × (q < p) × Reaches (Edge G) (at p) (at q)
 
 -- the frames, the deepest first, share the stack among them
-abbrev pub Governed : List (List ℕ) → (ℕ → Mark) → (ℕ → ℕ) → List Visit → ℕ → Type 0
+abbrev pub Governed : List (List ℕ) → (ℕ → Mark) → (ℕ → ℕ) → List StackFrame → ℕ → Type 0
 Governed G m at [] top = top ≡ 0
 Governed G m at (f ∷ fs) top = InCharge G m at f top × Governed G m at fs f.place
 
 -- the search in the midst: m the marks, at the stack, top its height, fs the frames, closed the number of components closed
-pub record Searching (G : List (List ℕ)) (m : ℕ → Mark) (at : ℕ → ℕ) (top : ℕ) (fs : List Visit) (closed : ℕ) : Type 0 where
+pub record Searching (G : List (List ℕ)) (m : ℕ → Mark) (at : ℕ → ℕ) (top : ℕ) (fs : List StackFrame) (closed : ℕ) : Type 0 where
   pub placed : (v q : ℕ) → m v ≡ Open q → (q < top) × (at q ≡ v)
   pub marked : (q : ℕ) → q < top → m (at q) ≡ Open q
   pub upwards : (p q : ℕ) → p ≤ q → q < top → Reaches (Edge G) (at p) (at q)
@@ -46,7 +46,7 @@ abbrev pub stack_in : List ℕ → ℕ → ℕ
 stack_in stack p = slice_index stack p
 
 -- the frame of a node that was just put on the stack
-abbrev pub first_frame : ℕ → ℕ → Visit
+abbrev pub first_frame : ℕ → ℕ → StackFrame
 first_frame v top = record { node = v; place = top; next = 0; low = top }
 
 -- the nodes of the stack from a place on are closed, and no other mark changed
@@ -62,7 +62,7 @@ is_new (Open p) = false
 is_new (Closed c) = false
 
 -- the edges that are left to the frame, and one for itself
-abbrev pub left_of : List (List ℕ) → Visit → ℕ
+abbrev pub left_of : List (List ℕ) → StackFrame → ℕ
 left_of G f = (length (targets G f.node) - f.next) + 1
 
 -- more than any frame begins with
@@ -70,11 +70,11 @@ abbrev pub most_left : List (List ℕ) → ℕ
 most_left G = sum_by length G + 2
 
 -- falls with each step
-abbrev pub work_left : List (List ℕ) → List Mark → List Visit → ℕ
+abbrev pub work_left : List (List ℕ) → List Mark → List StackFrame → ℕ
 work_left G marks fs = count_by is_new marks * most_left G + sum_by (left_of G) fs
 
 -- the state of the search over its vectors, the frames with the deepest first
-pub record IsSearch (G : List (List ℕ)) (marks : List Mark) (stack : List ℕ) (fs : List Visit) (closed : ℕ) : Type 0 where
+pub record IsSearch (G : List (List ℕ)) (marks : List Mark) (stack : List ℕ) (fs : List StackFrame) (closed : ℕ) : Type 0 where
   pub sized : length marks ≡ length G
   pub room : closed + length stack + count_by is_new marks ≤ length G
   pub searching : Searching G (mark_in marks) (stack_in stack) (length stack) fs closed

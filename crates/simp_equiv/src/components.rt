@@ -38,7 +38,7 @@ impl Mark {
 
 /// A node on the way from the root to where the search is.
 #[derive(Clone, Copy)]
-pub(crate) struct Visit {
+pub(crate) struct StackFrame {
     node: usize,
     /// Where it stands on the stack.
     place: usize,
@@ -56,7 +56,7 @@ pub(crate) struct Search {
     /// The nodes that are met and in no component yet.
     stack: Vec<usize>,
     /// The deepest frame is the last.
-    frames: Vec<Visit>,
+    frames: Vec<StackFrame>,
     /// How many components are closed.
     closed: usize,
 }
@@ -72,7 +72,7 @@ fn open(search: &mut Search, node: usize) -> Result<(), AllocError>
     let place = search.stack.len();
     search.marks[node] = Mark::Open(place);
     search.stack.push(node)?;
-    search.frames.push(Visit {
+    search.frames.push(StackFrame {
         node,
         place,
         next: 0,
@@ -85,7 +85,7 @@ fn open(search: &mut Search, node: usize) -> Result<(), AllocError>
 fn take_edge(
     search: &mut Search,
     graph: &[Targets],
-    frame: Visit,
+    frame: StackFrame,
     target: usize,
 ) -> Result<(), AllocError>
     requires range { InRange graph.now }
@@ -98,7 +98,7 @@ fn take_edge(
     let next = frame.next + 1;
     match search.marks[target] {
         Mark::New => {
-            search.frames.push(Visit {
+            search.frames.push(StackFrame {
                 node: frame.node,
                 place: frame.place,
                 next,
@@ -109,7 +109,7 @@ fn take_edge(
         }
         Mark::Open(place) => {
             let low = if place < frame.low { place } else { frame.low };
-            search.frames.push(Visit {
+            search.frames.push(StackFrame {
                 node: frame.node,
                 place: frame.place,
                 next,
@@ -118,7 +118,7 @@ fn take_edge(
             Ok(())
         }
         Mark::Closed(_) => {
-            search.frames.push(Visit {
+            search.frames.push(StackFrame {
                 node: frame.node,
                 place: frame.place,
                 next,
@@ -148,7 +148,7 @@ fn close(search: &mut Search, place: usize)
 }
 
 /// Ends a frame whose edges are all taken.
-fn finish(search: &mut Search, graph: &[Targets], frame: Visit) -> Result<(), AllocError>
+fn finish(search: &mut Search, graph: &[Targets], frame: StackFrame) -> Result<(), AllocError>
     requires range { InRange graph.now }
     requires searching { IsSearching graph.now search.old (frame ∷ frames_of search.old) }
     requires over { length (targets graph.now frame.node) ≤ frame.next }
@@ -161,7 +161,7 @@ fn finish(search: &mut Search, graph: &[Targets], frame: Visit) -> Result<(), Al
             } else {
                 below.low
             };
-            search.frames.push(Visit {
+            search.frames.push(StackFrame {
                 node: below.node,
                 place: below.place,
                 next: below.next,
@@ -175,7 +175,7 @@ fn finish(search: &mut Search, graph: &[Targets], frame: Visit) -> Result<(), Al
 }
 
 /// One step from the deepest frame.
-fn visit(search: &mut Search, graph: &[Targets], frame: Visit) -> Result<(), AllocError>
+fn visit(search: &mut Search, graph: &[Targets], frame: StackFrame) -> Result<(), AllocError>
     requires range { InRange graph.now }
     requires searching { IsSearching graph.now search.old (frame ∷ frames_of search.old) }
     ensures { OnOk result (IsStep graph.now search.old search.new (frame ∷ frames_of search.old)) }

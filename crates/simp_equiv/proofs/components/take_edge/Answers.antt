@@ -1,7 +1,7 @@
 use Rattle.std.proofs.Common.{◌≡◌, ◌<◌, ◌∙◌, length, List, [], ◌∷◌, ◌++◌, ap, arith, inl, inr, refl}
 use Rattle.simp_equiv.specs.Searches.{mark_in, first_frame}
 use Rattle.simp_equiv.specs.declared.components.Mark.TheVariants.{Open}
-use Rattle.simp_equiv.specs.declared.components.Visit.{Visit}
+use Rattle.simp_equiv.specs.declared.components.StackFrame.{StackFrame}
 use Rattle.simp_equiv.proofs.Moves.{target_in_range, mark_read, step_new, step_open, step_closed}
 use Rattle.simp_equiv.proofs.components.take_edge.Goals as goal
 use Rattle.simp_equiv.proofs.components.take_edge.Goals.{then-place-frame, else-place-frame}
@@ -18,7 +18,7 @@ returns-in_ok-open-in-New c =
     let o = c.in_ok-open-in-New.ensures in
     step_new c.args.graph.now c.args.search.now c.open.new.search c.args.frame c.args.target c.requires.searching c.requires.more c.requires.here lt
     (mark_read c.args.search.now.marks.items c.args.target c.index.result.now lt c.index.ensures ∙ c.in-New.is)
-    o.marks o.stack (o.frames ∙ ap (λ (x : List Visit). x ++ first_frame c.args.target (length c.args.search.now.stack.items) ∷ []) c.in_ok-push-in-New.ensures.items) o.closed
+    o.marks o.stack (o.frames ∙ ap (λ (x : List StackFrame). x ++ first_frame c.args.target (length c.args.search.now.stack.items) ∷ []) c.in_ok-push-in-New.ensures.items) o.closed
 
 pub returns-in_ok-push-in-Open : goal.returns-in_ok-push-in-Open
 returns-in_ok-push-in-Open c =

@@ -1,6 +1,6 @@
 // Which variables the ring decides, and what it notes of them on the way: those of the start clauses are active, those that
-// lose their values keep them as their phases, and those analyzed in a conflict move to the end of the queue (sorted by when
-// they were bumped before, as in CaDiCaL).
+// lose their values keep them as their phases, and those analyzed in a conflict are bumped (sorted by when they were bumped
+// before, as in CaDiCaL).
 ghost use Rattle.std.specs.Prelude.{◌≡◌, All, IfOk, OnOk, IsSome, Contains, length, map};
 ghost use Rattle.sat_words.specs.declared.shared.Cref.{Cref};
 ghost use Rattle.ring_port.specs.PortState.{IsPort, held_at, lits_at};
@@ -104,8 +104,8 @@ fn bump_each(decider: &mut Decider, bumps: &[Bump])
     }
 }
 
-/// Moves the variables analyzed in a conflict to the end of the queue, and leaves them in the order in which they stood there.
-/// The list keeps its room from call to call.
+/// Bumps the variables analyzed in a conflict, so that those in the queue keep their order at its end, and lets the decider
+/// count the conflict. The list keeps its room from call to call.
 pub(crate) fn bump_analyzed(
     decider: &mut Decider,
     analyzed: &[u32],
@@ -117,5 +117,6 @@ pub(crate) fn bump_analyzed(
     list_bumps(decider, analyzed, bumps)?;
     bumps.sort_unstable();
     bump_each(decider, bumps.as_slice());
+    decider.conflict();
     Ok(())
 }

@@ -1,11 +1,12 @@
 // `ring_run` over a port of three rings, if another ring's stop appears or its clause comes, and each line is refused.
 use crate::beginning::{begin, join_crowd};
-use crate::runs::{Kind, counted, kind_of, two_clauses};
+use crate::runs::{Kind, counted, kind_of};
 use drat_text::CountedLines;
 use ring_run::{Counts, End, run_ring};
 use sat_words::{Lit, STOP_MEMORY, STOP_ROOM, Stop};
 use std::alloc::Global;
 use std::test::Fail;
+use test_formulas::Problem;
 use test_ports::{Poll, third_stop};
 
 /// By this seed the first words of the reference generator of ring 1 end in the bits 0: all are decided false.
@@ -27,11 +28,22 @@ struct Ran {
     polls: Vec<Poll>,
 }
 
-/// Runs the second of three rings on two clauses that oppose each other after two decisions. Another ring has the clause `2 3`,
-/// and hands it over at the first such poll.
+/// Two clauses that oppose each other if 1 and 2 are false, and the clause of another ring: `1 2`. In the second ring the
+/// scores decide, and as long as none rose the least variable comes first.
+fn opposed_clauses(alloc: Global) -> Result<Problem, Fail> {
+    let one = Lit::new(1, false);
+    let two = Lit::new(2, false);
+    let three = Lit::new(3, false);
+    let problem = Problem::new(alloc, 3);
+    let problem = problem.with(alloc, &[one, two, three])?;
+    let problem = problem.with(alloc, &[one, two, three.not()])?;
+    problem.with(alloc, &[one, two])
+}
+
+/// Runs the second of three rings on two clauses that oppose each other after two decisions. Another ring has a clause, and hands
+/// it over at the first such poll.
 fn run_on_two(alloc: Global, gift: Option<Poll>, quiet: u64, memory: bool) -> Result<Ran, Fail> {
-    let problem = two_clauses(alloc)?;
-    let problem = problem.with(alloc, &[Lit::new(2, false), Lit::new(3, false)])?;
+    let problem = opposed_clauses(alloc)?;
     let lines = CountedLines::new(problem.formula.clauses().len() as u64, 0);
     let (inner, alone) = begin(alloc, problem, 2, SEED, lines)?;
     let (mut port, job) = join_crowd(alloc, inner, alone, gift, quiet, memory)?;
@@ -59,7 +71,7 @@ fn another_ring_stops_it(rt: HostRuntime) -> Result<(), Fail> {
     Ok(())
 }
 
-// Two looks find no stop, and two decisions are made. The lemma `2 3` has one level beside that of its first literal.
+// Two looks find no stop, and two decisions are made. The lemma `2 1` has one level beside that of its first literal.
 #[test]
 fn tells_that_there_is_no_room(rt: HostRuntime) -> Result<(), Fail> {
     let ran = run_on_two(rt.alloc(), None, 9, false)?;
@@ -104,7 +116,7 @@ fn polls_each_other_ring_at_its_start(rt: HostRuntime) -> Result<(), Fail> {
     Ok(())
 }
 
-// If 3 is decided false the clause of another ring makes 2 true, so that no conflict comes, whose lemma would be refused.
+// If 1 is decided false the clause of another ring makes 2 true, so that no conflict comes, whose lemma would be refused.
 #[test]
 fn searches_over_what_it_was_handed(rt: HostRuntime) -> Result<(), Fail> {
     for from in [0, 2] {
@@ -114,7 +126,7 @@ fn searches_over_what_it_was_handed(rt: HostRuntime) -> Result<(), Fail> {
             return Err(Fail::from("no model"));
         };
         assert!(rt; model.truth_of_lit(Lit::new(2, false)));
-        assert!(rt; model.truth_of_lit(Lit::new(3, true)));
+        assert!(rt; model.truth_of_lit(Lit::new(1, true)));
         assert!(rt; (ran.glue, ran.polls.len()) == (None, 8));
     }
     Ok(())

@@ -1,17 +1,11 @@
 // `ring_run` for so long that it reduces its lemmas and makes others shorter.
-ghost use Rattle.std.specs.Prelude.{◌<◌};
+ghost use Rattle.std.specs.Prelude.{◌≤◌};
 
 use crate::runs::{Kind, kind_of, run_in};
 use sat_words::Lit;
 use std::alloc::Global;
 use std::test::Fail;
 use test_formulas::Problem;
-
-/// How many variables each literal of a clause is chosen from.
-const BLOCK: u32 = 60;
-
-/// How many clauses there are.
-const CLAUSES: u32 = 800;
 
 /// Room for the text of the proof, in bytes.
 const ROOM: usize = 1 << 21;
@@ -22,25 +16,34 @@ fn next_word(word: u64) -> u64 {
         .wrapping_add(1_442_695_040_888_963_407)
 }
 
-/// A literal on one of the variables of a block.
-fn chosen(word: u64, block: u32) -> Lit
-    requires { block < 3 }
+/// A literal on one of this many variables after these.
+fn chosen(word: u64, after: u32, size: u32) -> Lit
+    requires after { after ≤ 200 }
+    requires some { 1 ≤ size }
+    requires few { size ≤ 100 }
 {
-    let place = (word >> 40) as u32 % BLOCK;
-    Lit::new(1 + block * BLOCK + place, (word >> 33) & 1 == 1)
+    let place = (word >> 40) as u32 % size;
+    Lit::new(1 + after + place, (word >> 33) & 1 == 1)
 }
 
-/// Clauses of three literals, one of each block.
-fn chosen_clauses(alloc: Global) -> Result<Problem, Fail> {
-    let mut problem = Problem::new(alloc, 3 * BLOCK);
+/// So many clauses of three literals, one of each of three blocks of variables.
+fn chosen_clauses(alloc: Global, size: u32, clauses: u32) -> Result<Problem, Fail>
+    requires some { 1 ≤ size }
+    requires few { size ≤ 100 }
+{
+    let mut problem = Problem::new(alloc, 3 * size);
     let mut word = 1;
-    for _ in 0..CLAUSES {
+    for _ in 0..clauses {
         let first = next_word(word);
         let second = next_word(first);
         word = next_word(second);
         problem = problem.with(
             alloc,
-            &[chosen(first, 0), chosen(second, 1), chosen(word, 2)],
+            &[
+                chosen(first, 0, size),
+                chosen(second, size, size),
+                chosen(word, 2 * size, size),
+            ],
         )?;
     }
     Ok(problem)
@@ -72,8 +75,17 @@ fn long_lines(text: &[u8]) -> u64 {
 #[test]
 fn makes_lemmas_shorter(rt: HostRuntime) -> Result<(), Fail> {
     let alloc = rt.alloc();
-    let (end, counts, sink) = run_in(alloc, chosen_clauses(alloc)?, 4000, ROOM)?;
+    let (end, counts, sink) = run_in(alloc, chosen_clauses(alloc, 60, 830)?, 4000, ROOM)?;
     assert!(rt; kind_of(&end) == Kind::Spent);
     assert!(rt; long_lines(sink.bytes()) > counts.learned);
+    Ok(())
+}
+
+// What conflicts met is decided first, and so some 330 lemmas refute this formula. A ring that bumps nothing learns 2800.
+#[test]
+fn decides_what_conflicts_met(rt: HostRuntime) -> Result<(), Fail> {
+    let alloc = rt.alloc();
+    let (end, _counts, _sink) = run_in(alloc, chosen_clauses(alloc, 30, 420)?, 1000, ROOM)?;
+    assert!(rt; kind_of(&end) == Kind::Refuted);
     Ok(())
 }

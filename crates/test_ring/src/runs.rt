@@ -39,7 +39,7 @@ fn three_clauses(alloc: Global) -> Result<Problem, Fail> {
 }
 
 /// Two clauses that oppose each other if 2 and 3 are false.
-pub(crate) fn two_clauses(alloc: Global) -> Result<Problem, Fail> {
+fn two_clauses(alloc: Global) -> Result<Problem, Fail> {
     let one = Lit::new(1, false);
     let two = Lit::new(2, false);
     let three = Lit::new(3, false);

@@ -6,4 +6,4 @@ mod Numbers
 mod Steps
 mod Undecided
 mod Late
-mod Taken
+pub mod Taken

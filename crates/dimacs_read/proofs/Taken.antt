@@ -8,7 +8,7 @@ use Rattle.sat_words.specs.FormulaData.{FormulaData}
 use Rattle.io_edge.specs.Bytes.{Gives as Hands}
 use Rattle.dimacs_read.specs.Grammar.{Outcome, outcome, front, later, is_newline, lines}
 use Rattle.dimacs_read.specs.Input.{Shows, separator, Gives, Short, Determined, Long}
-use Rattle.dimacs_read.specs.Answer.{IsOpen, IsAnswer}
+use Rattle.dimacs_read.specs.Answer.{IsOpen, IsReadNoFurther, IsAnswer}
 use Rattle.dimacs_read.specs.Body.{IsLawful}
 use Rattle.dimacs_read.specs.Reader.{meaning, newlines, Takes, Halts, Replies, Answers, IsDetermined, FoundLate, Known, Unknown, FoundBy, Before, Behind}
 use Rattle.dimacs_read.specs.declared.reader.Reader.{Reader}
@@ -17,7 +17,7 @@ use Rattle.dimacs_read.specs.declared.stop.Halt.{Halt}
 use Rattle.dimacs_read.specs.declared.stop.Halt.TheVariants.{Bad, Done, Memory}
 use Rattle.dimacs_read.specs.declared.stop.ReadStop.{ReadStop}
 use Rattle.dimacs_read.specs.declared.stop.ReadStop.TheVariants.{Bad as BadInput, ReadFault, Memory as NoMemory}
-use Rattle.dimacs_read.proofs.Undecided.{undecided}
+use Rattle.dimacs_read.proofs.Undecided.{undecided, nothing_shown}
 
 -- the reader stands behind the bytes that the source gave
 pub record HasTaken (left rest : Option (List ℕ)) (r : Reader) (count : ℕ) : Type 0 where
@@ -73,12 +73,13 @@ hands_more : (left mid rest : Option (List ℕ)) (a b : List ℕ) → Hands left
 hands_more left mid None a b p q = p ∙ ap (prepend_known a) q
 hands_more left mid (Some m) a b p q = p ∙ ap (prepend_known a) q ∙ ap (λ (t : List ℕ). Some t) (sym (append_assoc a b m))
 
+-- no byte was handed over
+hands_nothing : (left : Option (List ℕ)) → Hands left left []
+hands_nothing None = refl
+hands_nothing (Some m) = refl
+
 pub at_start : (left : Option (List ℕ)) (r : Reader) → ((text : List ℕ) → meaning r text ≡ outcome text) → IsLawful r.body → r.newlines ≡ 0 → HasTaken left left r 0
-at_start left r means lawful none = record { taken = []; took = nothing left; count_is = refl; few = omega arith; means = means; lawful = lawful; newlines_are = none }
-  where
-    nothing : (left : Option (List ℕ)) → Hands left left []
-    nothing None = refl
-    nothing (Some m) = refl
+at_start left r means lawful none = record { taken = []; took = hands_nothing left; count_is = refl; few = omega arith; means = means; lawful = lawful; newlines_are = none }
 
 pub took_more : (left mid rest : Option (List ℕ)) (r s : Reader) (count n : ℕ) (piece : List ℕ) → HasTaken left mid r count → Hands mid rest piece → Takes r piece s
     → n ≡ length piece → count + n ≤ 2 ^ 33 → HasTaken left rest s (count + n)
@@ -98,6 +99,25 @@ is_open left rest r count has = record {
   took = has.took;
   few = omega (arith, has.few, has.count_is);
   undetermined = λ found shows. undecided r.spot r.newlines r.body found (λ more. has.means more ∙ shows more);
+}
+
+-- the last read failed
+pub no_further : (left rest : Option (List ℕ)) (r : Reader) (count : ℕ) → HasTaken left rest r count → IsReadNoFurther left rest
+no_further left rest r count has = record { between = rest; before = is_open left rest r count has; piece = []; gave = hands_nothing rest; short = omega arith }
+
+-- the last read gave these bytes
+pub a_piece_further : (left mid rest : Option (List ℕ)) (r : Reader) (count n : ℕ) (piece : List ℕ) → HasTaken left mid r count → Hands mid rest piece → n ≡ length piece → n ≤ 2 ^ 16
+    → IsReadNoFurther left rest
+a_piece_further left mid rest r count n piece has hands size few = record { between = mid; before = is_open left mid r count has; piece = piece; gave = hands; short = omega (arith, size, few) }
+
+-- nothing was read
+pub unread : (left : Option (List ℕ)) → IsReadNoFurther left left
+unread left = record {
+  between = left;
+  before = record { taken = []; took = hands_nothing left; few = omega arith; undetermined = λ found shows. nothing_shown found shows };
+  piece = [];
+  gave = hands_nothing left;
+  short = omega arith;
 }
 
 -- the text ends here

@@ -5,7 +5,7 @@ use Rattle.std.specs.Prelude.{codes, nat_eq, nat_lt, nat_le, Ok, Err, Some, None
 use Rattle.std.specs.declared.option.Option.{Option}
 use Rattle.sat_words.specs.Literal.{Literal}
 use Rattle.sat_words.specs.FormulaData.{FormulaData}
-use Rattle.dimacs_read.specs.Grammar.{Outcome, Place, Token, End, unless, judge, signed, opening, ended_by, begun_by}
+use Rattle.dimacs_read.specs.Grammar.{Outcome, outcome, Place, Token, End, unless, judge, signed, opening, ended_by, begun_by}
 use Rattle.dimacs_read.specs.Body.{judged}
 use Rattle.dimacs_read.specs.State.{rest}
 use Rattle.dimacs_read.specs.declared.body.Body.{Body}
@@ -125,6 +125,11 @@ header_undecided (AfterClauses m n) before b found all = apart bad_header (rest 
 
 end_of : (before : ℕ) (b : Body) → bad_token (judged b (record { line = before; item = End } ∷ [])) ≡ false
 end_of before b = ending b.formula.vars b.clauses b.formula.clauses b.begun.items before
+
+-- no outcome is determined before anything was read
+pub nothing_shown : (found : Outcome) → ((more : List ℕ) → outcome more ≡ found) → ⊥
+unfolding bad_header is_header_code bad_token is_token_code
+nothing_shown found all = apart bad_header (outcome (codes "p")) (outcome []) found refl refl (all (codes "p")) (all [])
 
 -- no outcome is determined, however much was read
 pub undecided : (spot : State) (before : ℕ) (b : Body) (found : Outcome) → ((more : List ℕ) → rest spot before b more ≡ found) → ⊥

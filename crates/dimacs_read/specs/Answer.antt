@@ -15,7 +15,17 @@ pub record IsOpen (left rest : Option (List ℕ)) : Type 0 where
   pub few : length taken ≤ 2 ^ 33
   pub undetermined : (found : Outcome) → Shows taken found → ⊥
 
--- the answer to a source with this text left, if it tells it, and what is left of it then
+-- the source was read no further than needed: what was taken before the last read does not determine what the text is, and that
+-- read, of which nothing may have come, gave at most 2^16 bytes
+pub record IsReadNoFurther (left rest : Option (List ℕ)) : Type 0 where
+  -- what the source had left before the last read
+  pub between : Option (List ℕ)
+  pub before : IsOpen left between
+  pub piece : List ℕ
+  pub gave : Gives between rest piece
+  pub short : length piece ≤ 2 ^ 16
+
+-- the answer to a source with this text left, if it is known, and what is left of it then
 abbrev pub IsAnswer : Option (List ℕ) → Option (List ℕ) → Result FormulaData ReadStop → Type 0
 IsAnswer left rest (Ok formula) = IfSome left (λ text. Reads text formula)
 IsAnswer left rest (Err (BadInput code line)) = IfSome left (λ text. Bad text code line)

@@ -1,7 +1,7 @@
 // Reading a formula from a source, in pieces.
 ghost use Rattle.std.specs.Prelude.{◌≡◌, ◌≢◌, ◌≤◌, Err, IfOk};
 ghost use Rattle.io_edge.specs.Causes.{Rose};
-ghost use Rattle.dimacs_read.specs.Answer.{IsAnswer};
+ghost use Rattle.dimacs_read.specs.Answer.{IsAnswer, IsReadNoFurther};
 ghost use Rattle.dimacs_read.specs.Input.{IsInRange};
 ghost use Rattle.dimacs_read.specs.declared.stop.ReadStop.TheVariants.{ReadFault};
 
@@ -21,10 +21,11 @@ const BUFFER: usize = 1 << 16;
 ///
 /// The first bad place of the input decides. As soon as the bytes taken determine the answer, no further byte is asked
 /// for. No line and no token is held whole: a number may have any length, and only its value counts. After an answer
-/// the source stands behind the last piece that was read.
+/// the source stands after the last piece that was read.
 pub fn read<S: Source>(alloc: Global, source: &mut S) -> Result<Formula, ReadStop>
     ensures answer { IsAnswer (S.left source.old) (S.left source.new) result }
-    // Also if the source doesn't tell its text.
+    ensures rest { IsReadNoFurther (S.left source.old) (S.left source.new) }
+    // Also if the text of the source is not known.
     ensures range { IfOk result IsInRange }
     ensures fault { result ≡ Err ReadFault → Rose (S.faults source.old) (S.faults source.new) }
     ensures later { S.faults source.old ≤ S.faults source.new }

@@ -1,5 +1,5 @@
 //! `gimsatul [--threads N] [--conflicts N] [--words N] [--seed N] [--proof PATH] [--no-simplify] [--check] [--make N] [FILE]`
-//! reads a formula in DIMACS CNF from the file, or from standard input if none is given, or makes one, decides it by rings on
+//! reads a formula in DIMACS CNF from the file, or from standard input if no file is given, or makes one, decides it by rings on
 //! threads of their own, prints the answer, and writes a DRAT proof to the path.
 //! `gimsatul` of `top_call` is the whole of it, over any files and streams; `main` gives it the real ones.
 #![tactic(auto)]
@@ -22,27 +22,27 @@ use io_edge::{StdFiles, StdSink, StdSource};
 use ring_port::OpenGate;
 use std::env;
 use std::process::ExitCode;
-use top_call::{End, gimsatul, put_message};
+use top_call::{CallEnd, gimsatul, put_message};
 
-/// The arguments without the program's name; if they cannot be known, the call ends as if words are refused, or memory ran out.
-fn words_of(rt: &HostRuntime) -> Result<Vec<String>, End>
+/// The arguments without the program's name. If they are no text, the call ends as if they were refused, or memory ran out.
+fn words_of(rt: &HostRuntime) -> Result<Vec<String>, CallEnd>
     ensures { IfErr result IsWordsEnd }
 {
     let args = match env::args(rt) {
         Ok(args) => args,
-        Err(error) => return Err(End::of_arguments(error.kind())),
+        Err(error) => return Err(CallEnd::of_arguments(error.kind())),
     };
     let mut words = Vec::new(rt.alloc());
     for word in args.skip(1) {
         if words.push(word).is_err() {
-            return Err(End::Memory);
+            return Err(CallEnd::Memory);
         }
     }
     Ok(words)
 }
 
-/// Tells why the call is not made.
-fn refuse(rt: &HostRuntime, end: &End) -> ExitCode {
+/// Says why the call is not made.
+fn refuse(rt: &HostRuntime, end: &CallEnd) -> ExitCode {
     let _ = put_message(&mut StdSink::new(rt.stderr()), end);
     ExitCode::from(end.status())
 }

@@ -7,7 +7,7 @@ use std::process::Abort;
 use std::sync::Wait;
 use std::test::Fail;
 use std::thread::Threads;
-use top_call::{Remarks, Tally, Verdict, answer_text_to};
+use top_call::{Remarks, SearchVerdict, Tally, answer_text_to};
 
 const ROOM: usize = 8192;
 
@@ -114,7 +114,7 @@ fn check_model(
             &mut again,
             vars as u32,
             &remarks,
-            &Verdict::Satisfiable(model)
+            &SearchVerdict::Satisfiable(model)
         )
         .is_ok()
     );
@@ -122,7 +122,7 @@ fn check_model(
     Ok(())
 }
 
-/// Each ring put each lemma that it offered if each other ring may get it, and offered none that it didn't learn.
+/// Each ring put each lemma that it offered into a slot of each other ring, and offered none that it didn't learn.
 fn check_offers(rt: &impl Abort, tally: &Tally) {
     let learned = tally.learned.as_slice();
     let offered = tally.offered.as_slice();
@@ -217,8 +217,7 @@ pub(crate) fn words_of(alloc: Global, words: &[&str]) -> Result<Vec<String>, Fai
     Ok(strings)
 }
 
-/// The words of a row, before which few words for clauses are asked for if the row asks for no number of them, so that a call
-/// takes little memory.
+/// The arguments of a row. If the row asks for no number of words, few are asked for, so that a call takes little memory.
 fn words_of_row(alloc: Global, row: &Row) -> Result<Vec<String>, Fail> {
     let mut strings = Vec::new(alloc);
     if !row.words.contains(&"--words") {
@@ -231,7 +230,7 @@ fn words_of_row(alloc: Global, row: &Row) -> Result<Vec<String>, Fail> {
     Ok(strings)
 }
 
-/// Makes the call with a standard input that gives at most this many bytes a read.
+/// Makes the call with a standard input that gives at most `piece` bytes a read.
 fn check_row<H: Threads + Wait + Abort + AllocGlobal + Sync>(
     rt: &H,
     row: Row,

@@ -4,16 +4,21 @@ use sat_words::Assignment;
 use std::alloc::{AllocError, Global};
 use std::process::Abort;
 use std::test::Fail;
-use top_call::{Remarks, Summary, Verdict, answer_text_to};
+use top_call::{Remarks, SearchVerdict, Summary, answer_text_to};
 
-/// The model of this many variables in which the first ones are true, as many as `trues`.
-fn model(rt: &impl Abort, alloc: Global, vars: u32, trues: u32) -> Result<Verdict, AllocError> {
+/// The model of `vars` variables of which the first `trues` are true.
+fn model(
+    rt: &impl Abort,
+    alloc: Global,
+    vars: u32,
+    trues: u32,
+) -> Result<SearchVerdict, AllocError> {
     let mut values = Assignment::new(alloc, vars)?;
     for var in 1..=trues {
         assert!(rt; var as usize <= values.len());
         values.set(var, true);
     }
-    Ok(Verdict::Satisfiable(values))
+    Ok(SearchVerdict::Satisfiable(values))
 }
 
 /// Nothing but the answer.
@@ -51,8 +56,8 @@ const MADE_WITHOUT_A_MODEL: Remarks = Remarks {
 fn answers_and_their_texts(rt: HostRuntime) -> Result<(), Fail> {
     let alloc = rt.alloc();
     let table = [
-        (0, PLAIN, Verdict::Unsatisfiable, "s UNSATISFIABLE\n"),
-        (7, PLAIN, Verdict::Unknown, "s UNKNOWN\n"),
+        (0, PLAIN, SearchVerdict::Unsatisfiable, "s UNSATISFIABLE\n"),
+        (7, PLAIN, SearchVerdict::Unknown, "s UNKNOWN\n"),
         (0, PLAIN, model(&rt, alloc, 0, 0)?, "s SATISFIABLE\nv 0\n"),
         (
             3,
@@ -69,7 +74,7 @@ fn answers_and_their_texts(rt: HostRuntime) -> Result<(), Fail> {
         (
             3,
             MADE_WITHOUT_A_MODEL,
-            Verdict::Unknown,
+            SearchVerdict::Unknown,
             "c vars 3\nc clauses 2\ns UNKNOWN\n",
         ),
         (

@@ -27,9 +27,9 @@ pub(crate) struct TestGate {
     hold: Hold,
     /// 1 once ring 0 was held.
     pub(crate) zero: AtomicU64,
-    /// How many lemmas ring 1 has, once it tells.
+    /// How many lemmas ring 1 has learned, as it last said.
     pub(crate) one: AtomicU64,
-    /// How often a ring was let go in vain.
+    /// How often a ring was let go before what it waited for came.
     pub(crate) missed: AtomicU64,
 }
 

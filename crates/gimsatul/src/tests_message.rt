@@ -3,12 +3,12 @@ use io_edge::MemSink;
 use sat_words::NoRoom;
 use std::process::Abort;
 use std::test::Fail;
-use top_call::{End, put_message};
+use top_call::{CallEnd, put_message};
 
 #[test]
-fn the_line_where_there_is_no_room(rt: HostRuntime) -> Result<(), Fail> {
+fn the_line_if_there_is_no_room(rt: HostRuntime) -> Result<(), Fail> {
     let alloc = rt.alloc();
-    let full = End::Room(NoRoom {
+    let full = CallEnd::Room(NoRoom {
         need: (1 << 48) + 1,
         largest: 1 << 48,
     });

@@ -42,8 +42,7 @@ fn rings_run_beside_each_other(rt: HostRuntime) -> Result<(), Fail> {
     Ok(())
 }
 
-/// A ring that is held before it offers its lemma, or after an offer, keeps no other from taking turns, and the log stays one
-/// that is accepted.
+/// A ring that is held before or after it offers its lemma keeps no other ring from taking turns, and the log is accepted.
 #[test]
 fn a_ring_is_held_while_another_goes_on(rt: HostRuntime) -> Result<(), Fail> {
     for point in [Point::Learned, Point::Put] {

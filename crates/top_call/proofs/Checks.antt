@@ -16,7 +16,7 @@ none_bad F L n accepted b =
     let at = each_back (λ before x. is_valid (alive F before) x ≡ true) [] b.before (b.line ∷ b.behind) (subst (Accepted F) b.lines accepted) in
     true≢false (sym at.0 ∙ b.bad)
 
--- lines that were kept are accepted, if they are the journal's
+-- lines that were kept are accepted, if they are those of the journal
 pub kept_accepted : (F : List (List Literal)) (J : List Entry) (kept : Option (List Line)) → IfSome kept (λ L. L ≡ lines F J) → Accepted F (lines F J) → IfSome kept (Accepted F)
 kept_accepted F J None keeps accepted = tt
 kept_accepted F J (Some L) keeps accepted = subst (Accepted F) (sym keeps) accepted

@@ -19,18 +19,18 @@ use Rattle.portfolio_run.specs.declared.answer.Answer.TheVariants as answer
 use Rattle.portfolio_run.specs.declared.plan.Plan.{Plan as SearchPlan}
 use Rattle.portfolio_run.specs.Ruled.{IsRuledThrough}
 use Rattle.portfolio_run.specs.Solved.{Holds, FaultsFit, IsTold, IsFinished, IsSolved, is_verdict, kind_of, unfinished}
-use Rattle.top_call.specs.declared.plan.Plan.{Plan}
+use Rattle.top_call.specs.declared.plan.CallPlan.{CallPlan}
 use Rattle.top_call.specs.declared.report.Tally.{Tally}
-use Rattle.top_call.specs.declared.report.End.{End}
-use Rattle.top_call.specs.declared.report.Verdict.{Verdict}
-use Rattle.top_call.specs.declared.report.Verdict.TheVariants.{Satisfiable, Unsatisfiable, Unknown}
-use Rattle.top_call.specs.declared.report.End.TheVariants.{ProofFault, Room, Memory}
+use Rattle.top_call.specs.declared.report.CallEnd.{CallEnd}
+use Rattle.top_call.specs.declared.report.SearchVerdict.{SearchVerdict}
+use Rattle.top_call.specs.declared.report.SearchVerdict.TheVariants.{Satisfiable, Unsatisfiable, Unknown}
+use Rattle.top_call.specs.declared.report.CallEnd.TheVariants.{ProofFault, Room, Memory}
 use Rattle.dimacs_read.specs.declared.stop.ReadStop.{ReadStop}
 use Rattle.dimacs_read.specs.declared.stop.ReadStop.TheVariants.{Bad, ReadFault}
 use Rattle.dimacs_read.specs.declared.stop.ReadStop.TheVariants as read_stop
 use Rattle.dimacs_read.specs.Answer.{IsAnswer}
 use Rattle.top_call.specs.Ends.{end_of, end_of_read}
-use Rattle.top_call.specs.Run.{Run, Count, Writer, Output, RoseIn, IsStill}
+use Rattle.top_call.specs.Run.{Run, FaultCount, Writer, Output, RoseIn, IsStill}
 use Rattle.top_call.specs.Journaled.{HoldsLog}
 use Rattle.top_call.specs.Finished.{Finishes}
 use Rattle.top_call.specs.Decided.{Decides, verdict_kind}
@@ -38,7 +38,7 @@ use Rattle.top_call.specs.Concluded.{IsVerdictOf}
 use Rattle.top_call.specs.Occurring.{IsOccurring}
 use Rattle.top_call.specs.Tallied.{no_tally, no_lack, zero_tally, rings_tally, counted, noted, AreLearned}
 use Rattle.top_call.specs.Input.{WasGiven}
-use Rattle.top_call.specs.Outcome.{Outcome, IsRun, IsUnread, IsStarted, IsVerdictKind, IsAnswered, printed_of}
+use Rattle.top_call.specs.Outcome.{RunOutcome, IsRun, IsUnread, IsStarted, IsVerdictKind, IsAnswered, printed_of}
 use Rattle.top_call.proofs.Journals.{empty_log}
 use Rattle.top_call.proofs.Checks.{kept_accepted}
 use Rattle.top_call.proofs.Models.{cleared, has_both, both}
@@ -49,7 +49,7 @@ abbrev pub no_formula : FormulaData
 no_formula = record { vars = 0; clauses = [] }
 
 -- no formula was read, and the proof was flushed
-pub unread : {T E : Type 0} (plan : Plan) (text : Option (List ℕ)) (source : Count) (out : Output) (f0 f1 : ℕ) (w0 w1 fl0 fl1 : Option (List ℕ)) (result : Result T E)
+pub unread : {T E : Type 0} (plan : CallPlan) (text : Option (List ℕ)) (source : FaultCount) (out : Output) (f0 f1 : ℕ) (w0 w1 fl0 fl1 : Option (List ℕ)) (result : Result T E)
     → f0 ≡ 0 → IsEmptyWhereTold w0 → w1 ≡ w0 → HasCause f0 f1 result → WasFlushed w1 fl0 fl1 result
     → IsUnread no_formula [] (record { plan = plan; text = text; source = source; proof = Some (record { faults = f1; written = w1; flushed = fl1 }); out = out })
 unread plan text source out f0 f1 w0 w1 fl0 fl1 result quiet empty same cause flush =
@@ -69,7 +69,7 @@ found_verdict plan F J (NoHole lack) occurring occurs is holds ruled = absurd (l
 found_verdict plan F J answer.ProofFault occurring occurs is holds ruled = absurd (let no : ⊥ = cc in no)
 found_verdict plan F J answer.Memory occurring occurs is holds ruled = absurd (let no : ⊥ = cc in no)
 
--- an answer that is known and is no fault of the proof is that of the search
+-- an answer that is no fault of the proof is that of the search
 told_found : (found a : Answer) (before faults : ℕ) → IsTold found a before faults → a ≢ answer.ProofFault → a ≡ found
 told_found found a before faults t other = elim t.ends [
   | inl same ↦ same
@@ -85,7 +85,7 @@ told_found found a before faults t other = elim t.ends [
     by answer.Memory e = e
 
 -- a verdict that an answer comes to holds, and is of its kind
-decided : (plan : SearchPlan) (F : FormulaData) (J : List Entry) (a : Answer) (occurring : List Bool) (result : Result Verdict End) (verdict : Verdict)
+decided : (plan : SearchPlan) (F : FormulaData) (J : List Entry) (a : Answer) (occurring : List Bool) (result : Result SearchVerdict CallEnd) (verdict : SearchVerdict)
     → IsOccurring F.clauses F.vars occurring → IsVerdictOf occurring a result → result ≡ Ok verdict → Holds plan F J a → (is_verdict a ≡ true → IsRuledThrough F plan.rounds J)
     → (kind_of a ≡ verdict_kind verdict) × Decides plan F J verdict
 decided plan F J (Sat model) occurring result verdict occurs is ok holds ruled =
@@ -102,7 +102,7 @@ decided plan F J answer.ProofFault occurring result verdict occurs is ok holds r
 decided plan F J answer.Memory occurring result verdict occurs is ok holds ruled = absurd (let no : ⊥ = cc in no)
 
 -- an answer with a verdict is one
-verdict_is : (a : Answer) (occurring : List Bool) (result : Result Verdict End) (verdict : Verdict) → IsVerdictOf occurring a result → result ≡ Ok verdict → is_verdict a ≡ true
+verdict_is : (a : Answer) (occurring : List Bool) (result : Result SearchVerdict CallEnd) (verdict : SearchVerdict) → IsVerdictOf occurring a result → result ≡ Ok verdict → is_verdict a ≡ true
 verdict_is (Sat model) occurring result verdict is ok = refl
 verdict_is Unsat occurring result verdict is ok = refl
 verdict_is answer.Unknown occurring result verdict is ok = refl
@@ -127,7 +127,7 @@ log_of F J a searched faults flushed written f = record {
 }
 
 -- the rings were to start
-started : (plan : Plan) (text : Option (List ℕ)) (source : Count) (out : Output) (F : FormulaData) (a : Answer) (counts : List Counts) (tally : Tally) (faults : ℕ) (flushed written : Option (List ℕ)) (kept : Option (List Line))
+started : (plan : CallPlan) (text : Option (List ℕ)) (source : FaultCount) (out : Output) (F : FormulaData) (a : Answer) (counts : List Counts) (tally : Tally) (faults : ℕ) (flushed written : Option (List ℕ)) (kept : Option (List Line))
     → (s : IsSolved plan.search F a counts 0 faults flushed written kept) → WasGiven plan.make text F → IsStill source
     → tally ≡ rings_tally (each_counted plan.search.threads counts) no_lack
     → IsStarted (kind_of s.found) no_lack F s.journal tally (record { plan = plan; text = text; source = source; proof = Some (record { faults = faults; written = written; flushed = flushed }); out = out })
@@ -168,7 +168,7 @@ with_lack kind lack F J tally run s = record {
   learned = s.learned;
 }
 
--- a fault of the proof that is known is that of the search, or comes after a verdict
+-- a fault of the proof is that of the search, or comes after a verdict
 fault_found : (plan : SearchPlan) (F : FormulaData) (J : List Entry) (found : Answer) (occurring : List Bool) (faults : ℕ) → IsOccurring F.clauses F.vars occurring → IsTold found answer.ProofFault 0 faults → Holds plan F J found
     → (is_verdict found ≡ true → IsRuledThrough F plan.rounds J) → (kind_of found ≡ Some STOP_PROOF) ⊎ IsVerdictKind (kind_of found) plan F J
 fault_found plan F J (Sat model) occurring faults occurs t holds ruled = inr (found_verdict plan F J (Sat model) occurring occurs refl holds (ruled refl))
@@ -192,18 +192,18 @@ fault_rose plan F J found searched faults t fit later = elim t.ends [
 ]
 
 -- the rings came to no verdict
-stopped : (end : End) (plan : Plan) (text : Option (List ℕ)) (source : Count) (out : Output) (F : FormulaData) (a : Answer) (counts : List Counts) (faults : ℕ) (flushed written : Option (List ℕ)) (kept : Option (List Line))
-    (occurring : List Bool) (result : Result Verdict End) (before tally : Tally) → IsOccurring F.clauses F.vars occurring
+stopped : (end : CallEnd) (plan : CallPlan) (text : Option (List ℕ)) (source : FaultCount) (out : Output) (F : FormulaData) (a : Answer) (counts : List Counts) (faults : ℕ) (flushed written : Option (List ℕ)) (kept : Option (List Line))
+    (occurring : List Bool) (result : Result SearchVerdict CallEnd) (before tally : Tally) → IsOccurring F.clauses F.vars occurring
     → IsVerdictOf occurring a result → result ≡ Err end → (s : IsSolved plan.search F a counts 0 faults flushed written kept) → tally ≡ noted end before → IsStill out.faults
     → IsStarted (kind_of s.found) no_lack F s.journal before (record { plan = plan; text = text; source = source; proof = Some (record { faults = faults; written = written; flushed = flushed }); out = out })
-    → Outcome end F s.journal tally (record { plan = plan; text = text; source = source; proof = Some (record { faults = faults; written = written; flushed = flushed }); out = out })
+    → RunOutcome end F s.journal tally (record { plan = plan; text = text; source = source; proof = Some (record { faults = faults; written = written; flushed = flushed }); out = out })
 stopped end plan text source out F a counts faults flushed written kept occurring result before tally occurs is err s noted_is still began = by a is s.told
   where
     run : Run
     run = record { plan = plan; text = text; source = source; proof = Some (record { faults = faults; written = written; flushed = flushed }); out = out }
 
-    as_end : (e : End) → e ≡ end → Outcome e F s.journal (noted e before) run → Outcome end F s.journal tally run
-    as_end e same o = subst (λ (t : Tally). Outcome end F s.journal t run) (sym noted_is) (subst (λ (x : End). Outcome x F s.journal (noted x before) run) same o)
+    as_end : (e : CallEnd) → e ≡ end → RunOutcome e F s.journal (noted e before) run → RunOutcome end F s.journal tally run
+    as_end e same o = subst (λ (t : Tally). RunOutcome end F s.journal t run) (sym noted_is) (subst (λ (x : CallEnd). RunOutcome x F s.journal (noted x before) run) same o)
 
     at_kind : (b : Answer) → b ≡ s.found → IsStarted (kind_of b) no_lack F s.journal before run × Holds plan.search F s.journal b
     at_kind b same = subst (λ (x : Answer). IsStarted (kind_of x) no_lack F s.journal before run × Holds plan.search F s.journal x) (sym same) (began, s.reached.holds)
@@ -211,7 +211,7 @@ stopped end plan text source out F a counts faults flushed written kept occurrin
     later : s.searched ≤ faults
     later = let g = s.finished.grown in omega (arith, g)
 
-    by : (b : Answer) → IsVerdictOf occurring b result → IsTold s.found b 0 faults → Outcome end F s.journal tally run
+    by : (b : Answer) → IsVerdictOf occurring b result → IsTold s.found b 0 faults → RunOutcome end F s.journal tally run
     by (Sat model) i t = absurd (let e = i.is in let no : ⊥ = cc in no)
     by Unsat i t = absurd (let no : ⊥ = cc in no)
     by answer.Unknown i t = absurd (let no : ⊥ = cc in no)
@@ -230,27 +230,27 @@ stopped end plan text source out F a counts faults flushed written kept occurrin
 
 -- ---- the verdict printed
 
-answered_end : (verdict : Verdict) (F : FormulaData) (J : List Entry) (tally : Tally) (run : Run) → IsAnswered verdict F J tally run → Outcome (end_of verdict) F J tally run
+answered_end : (verdict : SearchVerdict) (F : FormulaData) (J : List Entry) (tally : Tally) (run : Run) → IsAnswered verdict F J tally run → RunOutcome (end_of verdict) F J tally run
 answered_end (Satisfiable model) F J tally run a = a
 answered_end Unsatisfiable F J tally run a = a
 answered_end Unknown F J tally run a = a
 
 -- a verdict was reached, and the proof didn't fail
-finished : (verdict : Verdict) (told : End) (plan : Plan) (F : FormulaData) (J : List Entry) (tally : Tally) (text : Option (List ℕ)) (source : Count) (out : Output) (writer : Writer)
+finished : (verdict : SearchVerdict) (told : CallEnd) (plan : CallPlan) (F : FormulaData) (J : List Entry) (tally : Tally) (text : Option (List ℕ)) (source : FaultCount) (out : Output) (writer : Writer)
     → writer.faults ≡ 0 → Decides plan.search F J verdict → Finishes (printed_of plan F verdict) plan.search.keep_lines verdict told out
     → IsStarted (verdict_kind verdict) no_lack F J tally (record { plan = plan; text = text; source = source; proof = Some writer; out = out })
-    → Outcome told F J tally (record { plan = plan; text = text; source = source; proof = Some writer; out = out })
+    → RunOutcome told F J tally (record { plan = plan; text = text; source = source; proof = Some writer; out = out })
 finished verdict told plan F J tally text source out writer none decided (inl h) s =
     let run : Run = record { plan = plan; text = text; source = source; proof = Some writer; out = out } in
-    subst (λ (e : End). Outcome e F J tally run) (sym h.is)
+    subst (λ (e : CallEnd). RunOutcome e F J tally run) (sym h.is)
     (answered_end verdict F J tally run (record { started = s; decided = decided; printed = h.printed; quiet = record { proof = none; out = h.out } }))
 finished verdict told plan F J tally text source out writer none decided (inr (inl h)) s =
     let run : Run = record { plan = plan; text = text; source = source; proof = Some writer; out = out } in
-    subst (λ (e : End). Outcome e F J tally run) (sym h.is)
+    subst (λ (e : CallEnd). RunOutcome e F J tally run) (sym h.is)
     (record { started = s; verdict = verdict; decided = decided; proof = none; printed = h.printed; rose = h.rose })
 finished verdict told plan F J tally text source out writer none decided (inr (inr h)) s =
     let run : Run = record { plan = plan; text = text; source = source; proof = Some writer; out = out } in
-    subst (λ (e : End). Outcome e F J tally run) (sym h.is)
+    subst (λ (e : CallEnd). RunOutcome e F J tally run) (sym h.is)
     (inr (inr (record { asked = h.asked; started = s; decided = record { verdict = verdict; decides = decided }; quiet = record { proof = none; out = h.out } })))
 
 -- ---- the whole search
@@ -261,7 +261,7 @@ told : (plan : SearchPlan) (F : FormulaData) (a : Answer) (counts : List Counts)
 told plan F a counts faults flushed written kept before after s zeros is = is ∙ ap (counted counts) zeros ∙ counted_is plan.threads counts (sizes plan.threads plan.conflicts F.clauses s.journal counts s.reached.held)
 
 -- a verdict was reached
-pub verdict_run : (plan : Plan) (text : Option (List ℕ)) (source : Count) (out : Output) (F : FormulaData) (a : Answer) (counts : List Counts) (f0 faults : ℕ) (flushed written : Option (List ℕ)) (kept : Option (List Line)) (before tally : Tally) (occurring : List Bool) (result : Result Verdict End) (verdict : Verdict) (end : End)
+pub verdict_run : (plan : CallPlan) (text : Option (List ℕ)) (source : FaultCount) (out : Output) (F : FormulaData) (a : Answer) (counts : List Counts) (f0 faults : ℕ) (flushed written : Option (List ℕ)) (kept : Option (List Line)) (before tally : Tally) (occurring : List Bool) (result : Result SearchVerdict CallEnd) (verdict : SearchVerdict) (end : CallEnd)
     → f0 ≡ 0 → IsSolved plan.search F a counts f0 faults flushed written kept
     → before ≡ zero_tally plan.search.threads → tally ≡ counted counts before
     → IsOccurring F.clauses F.vars occurring → IsVerdictOf occurring a result → result ≡ Ok verdict → Finishes (printed_of plan F verdict) plan.search.keep_lines verdict end out
@@ -283,7 +283,7 @@ verdict_run plan text source out F a counts f0 faults flushed written kept befor
     }
 
 -- none was
-pub stopped_run : (plan : Plan) (text : Option (List ℕ)) (source : Count) (out : Output) (F : FormulaData) (a : Answer) (counts : List Counts) (f0 faults : ℕ) (flushed written : Option (List ℕ)) (kept : Option (List Line)) (before between tally : Tally) (occurring : List Bool) (result : Result Verdict End) (end : End)
+pub stopped_run : (plan : CallPlan) (text : Option (List ℕ)) (source : FaultCount) (out : Output) (F : FormulaData) (a : Answer) (counts : List Counts) (f0 faults : ℕ) (flushed written : Option (List ℕ)) (kept : Option (List Line)) (before between tally : Tally) (occurring : List Bool) (result : Result SearchVerdict CallEnd) (end : CallEnd)
     → f0 ≡ 0 → IsSolved plan.search F a counts f0 faults flushed written kept
     → before ≡ zero_tally plan.search.threads → between ≡ counted counts before → tally ≡ noted end between
     → IsOccurring F.clauses F.vars occurring → IsVerdictOf occurring a result → result ≡ Err end → IsStill out.faults
@@ -299,7 +299,7 @@ stopped_run plan text source out F a counts f0 faults flushed written kept befor
     }
 
 -- the lines that are kept at a verdict are those of the log
-pub kept_lines : (plan : SearchPlan) (F : FormulaData) (a : Answer) (counts : List Counts) (before faults : ℕ) (flushed written : Option (List ℕ)) (kept : Option (List Line)) (occurring : List Bool) (result : Result Verdict End) (verdict : Verdict)
+pub kept_lines : (plan : SearchPlan) (F : FormulaData) (a : Answer) (counts : List Counts) (before faults : ℕ) (flushed written : Option (List ℕ)) (kept : Option (List Line)) (occurring : List Bool) (result : Result SearchVerdict CallEnd) (verdict : SearchVerdict)
     → IsVerdictOf occurring a result → result ≡ Ok verdict → IsSolved plan F a counts before faults flushed written kept → (is_some kept ≡ plan.keep_lines) × IfSome kept (Accepted F.clauses)
 kept_lines plan F a counts before faults flushed written kept occurring result verdict of_answer ok s =
     (same_asked plan.keep_lines refl, kept_accepted F.clauses s.journal kept s.lines_are.are s.reached.stands.accepted)
@@ -322,19 +322,19 @@ read_cases : (stop : ReadStop) (tally : Tally) (rest : Option (List ℕ)) (run :
     → (stop ≢ ReadFault → IsStill run.source) → (stop ≡ ReadFault → RoseIn run.source)
     → tally ≡ noted (end_of_read stop) no_tally → IsStill run.out.faults
     → IsUnread no_formula [] run
-    → Outcome (end_of_read stop) no_formula [] tally run
+    → RunOutcome (end_of_read stop) no_formula [] tally run
 read_cases (Bad code line) tally rest run unmade bad still rose counts unprinted u = record { unmade = unmade; bad = bad; counts = counts; source = still (λ e. cc e); unread = u }
 read_cases ReadFault tally rest run unmade bad still rose counts unprinted u = (rose refl, unmade, record { unread = u; counts = counts; out = unprinted })
 read_cases read_stop.Memory tally rest run unmade bad still rose counts unprinted u = inl (still (λ e. cc e), record { unread = u; counts = counts; out = unprinted })
 
 -- nothing was read
-pub unread_end : (stop : ReadStop) (end : End) (before tally : Tally) (rest : Option (List ℕ)) (run : Run)
+pub unread_end : (stop : ReadStop) (end : CallEnd) (before tally : Tally) (rest : Option (List ℕ)) (run : Run)
     → end ≡ end_of_read stop
     → run.plan.make ≡ None → IsAnswer run.text rest (Err stop)
     → (stop ≢ ReadFault → IsStill run.source) → (stop ≡ ReadFault → RoseIn run.source)
     → before ≡ no_tally → tally ≡ noted end before → IsStill run.out.faults
     → IsUnread no_formula [] run
-    → Outcome end no_formula [] tally run
+    → RunOutcome end no_formula [] tally run
 unread_end stop end before tally rest run is unmade bad still rose none counts unprinted u =
-    subst (λ (e : End). Outcome e no_formula [] tally run) (sym is)
-    (read_cases stop tally rest run unmade bad still rose (counts ∙ ap (λ (e : End). noted e before) is ∙ ap (noted (end_of_read stop)) none) unprinted u)
+    subst (λ (e : CallEnd). RunOutcome e no_formula [] tally run) (sym is)
+    (read_cases stop tally rest run unmade bad still rose (counts ∙ ap (λ (e : CallEnd). noted e before) is ∙ ap (noted (end_of_read stop)) none) unprinted u)

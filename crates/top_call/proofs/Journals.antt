@@ -19,7 +19,7 @@ use Rattle.top_call.specs.Journaled.{HoldsLog}
 pub empty_journal : (rings : ℕ) (clauses : List (List Literal)) → IsJournal rings clauses []
 empty_journal rings clauses = record { fits = tt; accepted = tt; last = tt; spelled = λ k x lt. absurd (omega arith); spaced = tt; of_rings = λ k x lt. absurd (omega arith); plain = λ k x lt. absurd (omega arith); each_new = tt }
 
--- if a writer that says its bytes has none, it holds the text of no line
+-- if a writer's bytes are known and there are none, it holds the text of no line
 pub holds_nothing : (written : Option (List ℕ)) → IsEmptyWhereTold written → HoldsText written []
 holds_nothing None h = tt
 holds_nothing (Some bytes) h = h

@@ -12,14 +12,14 @@ use Rattle.dimacs_read.specs.Input.{Reads, Bad}
 use Rattle.dimacs_read.specs.Codes.{number_of}
 use Rattle.dimacs_read.specs.declared.stop.Code.{Code}
 use Rattle.top_call.specs.declared.report.Tally.{Tally}
-use Rattle.top_call.specs.declared.report.End.{End}
-use Rattle.top_call.specs.declared.report.End.TheVariants.{Satisfiable, Unsatisfiable, Unknown, Usage, BadInput, CannotOpen, CannotCreate, ReadFault, WriteFault, ProofFault, Room, Memory}
-use Rattle.top_call.specs.declared.report.Verdict.{Verdict}
-use Rattle.top_call.specs.declared.report.Verdict.TheVariants as verdict
+use Rattle.top_call.specs.declared.report.CallEnd.{CallEnd}
+use Rattle.top_call.specs.declared.report.CallEnd.TheVariants.{Satisfiable, Unsatisfiable, Unknown, Usage, BadInput, CannotOpen, CannotCreate, ReadFault, WriteFault, ProofFault, Room, Memory}
+use Rattle.top_call.specs.declared.report.SearchVerdict.{SearchVerdict}
+use Rattle.top_call.specs.declared.report.SearchVerdict.TheVariants as verdict
 use Rattle.top_call.specs.Words.{Command, command_of, file_path, make_number, proof_path}
 use Rattle.top_call.specs.Planned.{plan_of}
 use Rattle.top_call.specs.Input.{WasBad, WasGiven}
-use Rattle.top_call.specs.Run.{Call, Count, Writer, RoseIn, IsStill, run_of, source_of, source_in, text_of}
+use Rattle.top_call.specs.Run.{Call, FaultCount, Writer, RoseIn, IsStill, run_of, source_of, source_in, text_of}
 use Rattle.top_call.specs.Journaled.{HoldsLog}
 use Rattle.top_call.specs.Outcome.{CallOutcome, IsCall, IsWhole, IsUnread, IsRefused, IsAnswered, IsBroken, IsStarted, IsCutOff, IsUnproved, IsCrowded, IsStarved, IsUnchecked, IsBarren, IsIdle}
 use Rattle.top_call.specs.Ends.{status_of, model_of}
@@ -69,8 +69,8 @@ unmade_some x y is none some = unlawful_number y.make some (sym (ap (λ (z : Opt
     unlawful_number None h e = cc h
     unlawful_number (Some k) h e = cc e
 
--- standard input didn't fail, where it wasn't read or is what was read
-input_still : (input : Count) (file : Option ℕ) → (file ≡ None) ⊎ IsStill input → IsStill (source_in input file) → IsStill input
+-- standard input didn't fail, if it wasn't read or is what was read
+input_still : (input : FaultCount) (file : Option ℕ) → (file ≡ None) ⊎ IsStill input → IsStill (source_in input file) → IsStill input
 input_still input file (inl none) still = subst (λ (f : Option ℕ). IsStill (source_in input f)) none still
 input_still input file (inr same) still = same
 
@@ -79,30 +79,30 @@ abbrev pub Apart : Type 0
 Apart = (text : List ℕ) (formula : FormulaData) (code : Code) (line : ℕ) → Reads text formula → Bad text code line → ⊥
 
 module _ (F : FormulaData) (J : List Entry) (tally : Tally) (call : Call) where
-  -- a verdict that was known
-  answers : (v : Verdict) → IsStill call.files → (call.file ≡ None) ⊎ IsStill call.input → IsAnswered v F J tally (run_of call) → Answers v F J tally call
+  -- a call that ended with a verdict
+  answers : (v : SearchVerdict) → IsStill call.files → (call.file ≡ None) ⊎ IsStill call.input → IsAnswered v F J tally (run_of call) → Answers v F J tally call
   answers v files input a = record { answered = a; files = files; input = input_still call.input call.file input a.started.source }
 
-  satisfiable : (end : End) → CallOutcome end F J tally call → status_of end ≡ 10 → HasModel (model_of end) F J tally call
+  satisfiable : (end : CallEnd) → CallOutcome end F J tally call → status_of end ≡ 10 → HasModel (model_of end) F J tally call
   satisfiable (Satisfiable model) o e = record { values = model; reported = refl; answers = answers (verdict.Satisfiable model) o.files o.input o.outcome }
   satisfiable _ o e = absurd (omega arith)
 
-  unsatisfiable : (end : End) → CallOutcome end F J tally call → status_of end ≡ 20 → Answers verdict.Unsatisfiable F J tally call
+  unsatisfiable : (end : CallEnd) → CallOutcome end F J tally call → status_of end ≡ 20 → Answers verdict.Unsatisfiable F J tally call
   unsatisfiable Unsatisfiable o e = answers verdict.Unsatisfiable o.files o.input o.outcome
   unsatisfiable _ o e = absurd (omega arith)
 
-  unknown : (end : End) → CallOutcome end F J tally call → status_of end ≡ 0 → IsExhausted F J tally call
+  unknown : (end : CallEnd) → CallOutcome end F J tally call → status_of end ≡ 0 → IsExhausted F J tally call
   unknown Unknown o e = record {
     answers = answers verdict.Unknown o.files o.input o.outcome;
     learned = all_learned (search_in call).threads (search_in call).conflicts F.clauses J tally.learned o.outcome.started.learned o.outcome.decided.holds;
   }
   unknown _ o e = absurd (omega arith)
 
-  usage : (end : End) → CallOutcome end F J tally call → status_of end ≡ 1 → IsUnasked J tally call
+  usage : (end : CallEnd) → CallOutcome end F J tally call → status_of end ≡ 1 → IsUnasked J tally call
   usage Usage o e = record { words = o.0; idle = o.1 }
   usage _ o e = absurd (omega arith)
 
-  refused : (end : End) → CallOutcome end F J tally call → command_of call.words ≡ None → (status_of end ≡ 1) ⊎ (status_of end ≡ 9)
+  refused : (end : CallEnd) → CallOutcome end F J tally call → command_of call.words ≡ None → (status_of end ≡ 1) ⊎ (status_of end ≡ 9)
   refused Usage o e = inl refl
   refused Memory o e = inr refl
   refused CannotOpen o e = absurd (unlawful_file (command_of call.words) o.1 e)
@@ -114,27 +114,27 @@ module _ (F : FormulaData) (J : List Entry) (tally : Tally) (call : Call) where
       let same : tally.line ≡ line = ap (λ (t : Tally). t.line) r.counts in
       record { code = code; refused = subst (λ (n : ℕ). IsRefused code n F J tally (run_of call)) (sym same) r }
 
-  bad_input : (end : End) → CallOutcome end F J tally call → status_of end ≡ 2 → HasBadPlace F J tally call
+  bad_input : (end : CallEnd) → CallOutcome end F J tally call → status_of end ≡ 2 → HasBadPlace F J tally call
   bad_input (BadInput code line) o e = bad_place code line o.outcome
   bad_input _ o e = absurd (omega arith)
 
-  cannot_open : (end : End) → CallOutcome end F J tally call → status_of end ≡ 3 → IsUnopened J tally call
+  cannot_open : (end : CallEnd) → CallOutcome end F J tally call → status_of end ≡ 3 → IsUnopened J tally call
   cannot_open CannotOpen o e = record { rose = o.0; asked = o.1; idle = o.2 }
   cannot_open _ o e = absurd (omega arith)
 
-  cannot_create : (end : End) → CallOutcome end F J tally call → status_of end ≡ 4 → IsUncreated J tally call
+  cannot_create : (end : CallEnd) → CallOutcome end F J tally call → status_of end ≡ 4 → IsUncreated J tally call
   cannot_create CannotCreate o e = record { rose = o.0; asked = o.1; file = o.2; barren = o.3 }
   cannot_create _ o e = absurd (omega arith)
 
-  read_fault : (end : End) → CallOutcome end F J tally call → status_of end ≡ 5 → RoseIn (source_of call) × (make_number (command_of call.words) ≡ None) × IsBroken F J tally (run_of call)
+  read_fault : (end : CallEnd) → CallOutcome end F J tally call → status_of end ≡ 5 → RoseIn (source_of call) × (make_number (command_of call.words) ≡ None) × IsBroken F J tally (run_of call)
   read_fault ReadFault o e = (o.outcome.0, sym (planned (command_of call.words)) ∙ o.outcome.1, o.outcome.2)
   read_fault _ o e = absurd (omega arith)
 
-  write_fault : (end : End) → CallOutcome end F J tally call → status_of end ≡ 6 → IsCutOff F J tally (run_of call)
+  write_fault : (end : CallEnd) → CallOutcome end F J tally call → status_of end ≡ 6 → IsCutOff F J tally (run_of call)
   write_fault WriteFault o e = o.outcome
   write_fault _ o e = absurd (omega arith)
 
-  proof_fault : (end : End) → CallOutcome end F J tally call → status_of end ≡ 7 → IsUnproved F J tally (run_of call)
+  proof_fault : (end : CallEnd) → CallOutcome end F J tally call → status_of end ≡ 7 → IsUnproved F J tally (run_of call)
   proof_fault ProofFault o e = o.outcome
   proof_fault _ o e = absurd (omega arith)
 
@@ -143,7 +143,7 @@ module _ (F : FormulaData) (J : List Entry) (tally : Tally) (call : Call) where
       let same : lack ≡ record { need = tally.need; largest = tally.largest } = λ i. record { need = sym (ap (λ (t : Tally). t.need) c.started.tally_is) i; largest = sym (ap (λ (t : Tally). t.largest) c.started.tally_is) i } in
       subst (λ (l : NoRoom). IsCrowded l F J tally (run_of call)) same c
 
-  room : (end : End) → CallOutcome end F J tally call → status_of end ≡ 8 → IsCrowded (record { need = tally.need; largest = tally.largest }) F J tally (run_of call)
+  room : (end : CallEnd) → CallOutcome end F J tally call → status_of end ≡ 8 → IsCrowded (record { need = tally.need; largest = tally.largest }) F J tally (run_of call)
   room (Room lack) o e = no_room lack o.outcome
   room _ o e = absurd (omega arith)
 
@@ -153,8 +153,8 @@ module _ (F : FormulaData) (J : List Entry) (tally : Tally) (call : Call) where
   made_started : {kind : Option ℕ} {lack : NoRoom} → IsStarted kind lack F J tally (run_of call) → IsSome call.proof
   made_started s = there (HoldsLog F.clauses J s.searched) call.proof s.log
 
-  -- all that the words ask for was made
-  made_all : (end : End) → IsWhole end F J tally call → IsSome call.proof → MadeAll call
+  -- all that was asked for was made
+  made_all : (end : CallEnd) → IsWhole end F J tally call → IsSome call.proof → MadeAll call
   made_all end o proof = record { lawful = o.lawful; file = o.file; proof = proof; files = o.files; input = o.input }
 
   -- memory ran out before anything was made
@@ -195,11 +195,11 @@ module _ (F : FormulaData) (J : List Entry) (tally : Tally) (call : Call) where
   out_of_memory (inl h) = ran_out_idle h.0 h.1
   out_of_memory (inr o) = ran_out_whole o o.outcome
 
-  memory : (end : End) → CallOutcome end F J tally call → status_of end ≡ 9 → RanOut F J tally call
+  memory : (end : CallEnd) → CallOutcome end F J tally call → status_of end ≡ 9 → RanOut F J tally call
   memory Memory o e = out_of_memory o
   memory _ o e = absurd (omega arith)
 
-  known : (end : End) → CallOutcome end F J tally call → IsAnswer (status_of end) ⊎ (status_of end ≡ 1) ⊎ (status_of end ≡ 2) ⊎ (status_of end ≡ 3) ⊎ (status_of end ≡ 4) ⊎ (status_of end ≡ 5) ⊎ (status_of end ≡ 6) ⊎ (status_of end ≡ 7) ⊎ (status_of end ≡ 8) ⊎ (status_of end ≡ 9)
+  known : (end : CallEnd) → CallOutcome end F J tally call → IsAnswer (status_of end) ⊎ (status_of end ≡ 1) ⊎ (status_of end ≡ 2) ⊎ (status_of end ≡ 3) ⊎ (status_of end ≡ 4) ⊎ (status_of end ≡ 5) ⊎ (status_of end ≡ 6) ⊎ (status_of end ≡ 7) ⊎ (status_of end ≡ 8) ⊎ (status_of end ≡ 9)
   known (Satisfiable model) o = search rules
   known Unsatisfiable o = search rules
   known Unknown o = search rules
@@ -213,11 +213,11 @@ module _ (F : FormulaData) (J : List Entry) (tally : Tally) (call : Call) where
   known (Room lack) o = search rules
   known Memory o = search rules
 
-  no_model : (end : End) → CallOutcome end F J tally call → status_of end ≢ 10 → model_of end ≡ None
+  no_model : (end : CallEnd) → CallOutcome end F J tally call → status_of end ≢ 10 → model_of end ≡ None
   no_model (Satisfiable model) o n = absurd (n refl)
   no_model _ o n = refl
 
-  made : (end : End) → CallOutcome end F J tally call → status_of end ≢ 1 → status_of end ≢ 3 → status_of end ≢ 4 → status_of end ≢ 9 → MadeAll call
+  made : (end : CallEnd) → CallOutcome end F J tally call → status_of end ≢ 1 → status_of end ≢ 3 → status_of end ≢ 4 → status_of end ≢ 9 → MadeAll call
   made (Satisfiable model) o a b c d = made_all (Satisfiable model) o (made_started o.outcome.started)
   made Unsatisfiable o a b c d = made_all Unsatisfiable o (made_started o.outcome.started)
   made Unknown o a b c d = made_all Unknown o (made_started o.outcome.started)
@@ -231,7 +231,7 @@ module _ (F : FormulaData) (J : List Entry) (tally : Tally) (call : Call) where
   made (Room lack) o a b c d = made_all (Room lack) o (made_started o.outcome.started)
   made Memory o a b c d = absurd (d refl)
 
-  given : WasGiven (run_of call).plan.make (text_of call) F → WasGiven (make_number (command_of call.words)) (text_of call) F
+  pub given : WasGiven (run_of call).plan.make (text_of call) F → WasGiven (make_number (command_of call.words)) (text_of call) F
   given = subst (λ (m : Option ℕ). WasGiven m (text_of call) F) (planned (command_of call.words))
 
   started : {kind : Option ℕ} {lack : NoRoom} → IsStarted kind lack F J tally (run_of call) → HasJournal F J call
@@ -250,7 +250,7 @@ module _ (F : FormulaData) (J : List Entry) (tally : Tally) (call : Call) where
   stopped (inl h) = barren h.1.barren
   stopped (inr o) = ⊎_elim (λ (b : IsStill (source_of call) × IsBroken F J tally (run_of call)). unread b.1.unread) (λ (s : IsStarved F J tally (run_of call) ⊎ IsUnchecked F J tally (run_of call)). ⊎_elim (λ (x : IsStarved F J tally (run_of call)). started x.started) (λ (x : IsUnchecked F J tally (run_of call)). started x.started) s) o.outcome
 
-  journaled : (end : End) → CallOutcome end F J tally call → HasJournal F J call
+  journaled : (end : CallEnd) → CallOutcome end F J tally call → HasJournal F J call
   journaled (Satisfiable model) o = started o.outcome.started
   journaled Unsatisfiable o = started o.outcome.started
   journaled Unknown o = started o.outcome.started
@@ -286,7 +286,7 @@ module _ (F : FormulaData) (J : List Entry) (tally : Tally) (call : Call) where
   counts_stopped (inl h) = counts_no_tally h.1.barren.counts h.1.barren.nothing
   counts_stopped (inr o) = ⊎_elim (λ (b : IsStill (source_of call) × IsBroken F J tally (run_of call)). counts_no_tally b.1.counts b.1.unread.nothing) (λ (s : IsStarved F J tally (run_of call) ⊎ IsUnchecked F J tally (run_of call)). ⊎_elim (λ (x : IsStarved F J tally (run_of call)). counts_started x.started) (λ (x : IsUnchecked F J tally (run_of call)). counts_started x.started) s) o.outcome
 
-  counted : (end : End) → CallOutcome end F J tally call → IsCounted F J tally call
+  counted : (end : CallEnd) → CallOutcome end F J tally call → IsCounted F J tally call
   counted (Satisfiable model) o = counts_started o.outcome.started
   counted Unsatisfiable o = counts_started o.outcome.started
   counted Unknown o = counts_started o.outcome.started
@@ -308,7 +308,7 @@ module _ (F : FormulaData) (J : List Entry) (tally : Tally) (call : Call) where
         by (inl some) = unmade_some (command_of call.words) must.command must.lawful unmade some
         by (inr r) = apart r.text r.formula code line r.spelled (subst (λ (t : Option (List ℕ)). WasBad t code line) r.told bad)
 
-    complete : (end : End) → CallOutcome end F J tally call → IsAnswer (status_of end) ⊎ (status_of end ≡ 8) ⊎ (status_of end ≡ 9)
+    complete : (end : CallEnd) → CallOutcome end F J tally call → IsAnswer (status_of end) ⊎ (status_of end ≡ 8) ⊎ (status_of end ≡ 9)
     complete (Satisfiable model) o = search rules
     complete Unsatisfiable o = search rules
     complete Unknown o = search rules
@@ -322,7 +322,7 @@ module _ (F : FormulaData) (J : List Entry) (tally : Tally) (call : Call) where
     complete (Room lack) o = search rules
     complete Memory o = search rules
 
-  statuses_of : (apart : Apart) (end : End) → CallOutcome end F J tally call → Statuses call (status_of end) (model_of end) tally
+  statuses_of : (apart : Apart) (end : CallEnd) → CallOutcome end F J tally call → Statuses call (status_of end) (model_of end) tally
   statuses_of apart end o = record {
     formula = F;
     journal = J;
@@ -348,7 +348,7 @@ module _ (F : FormulaData) (J : List Entry) (tally : Tally) (call : Call) where
   }
 
 -- what holds at an end of a call holds at its status
-pub headline : (apart : Apart) (call : Call) (end : End) (tally : Tally) (status : ℕ) (model : Option (List Bool)) → IsCall end tally call → status ≡ status_of end → model ≡ model_of end → Statuses call status model tally
+pub headline : (apart : Apart) (call : Call) (end : CallEnd) (tally : Tally) (status : ℕ) (model : Option (List Bool)) → IsCall end tally call → status ≡ status_of end → model ≡ model_of end → Statuses call status model tally
 headline apart call end tally status model c s m =
     let start = statuses_of c.formula c.journal tally call apart end c.outcome in
     let at_status = subst (λ (n : ℕ). Statuses call n (model_of end) tally) (sym s) start in

@@ -44,7 +44,7 @@ none_learned r (x ∷ J) e = learned_by r x J e (none_learned r J) (is_rulers x)
 
 -- ---- what each ring counted
 
--- what each ring counted, nothing if memory ran out before any could
+-- what each ring counted; nothing if memory ran out before any could
 abbrev pub each_counted : ℕ → List Counts → List Counts
 each_counted rings [] = replicate rings no_counts
 each_counted rings (c ∷ cs) = c ∷ cs

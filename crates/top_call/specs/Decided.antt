@@ -11,8 +11,8 @@ use Rattle.rup_model.specs.Spent.{SpentAll}
 use Rattle.portfolio_run.specs.declared.plan.Plan.{Plan}
 use Rattle.portfolio_run.specs.Ruled.{IsRuledThrough}
 use Rattle.portfolio_run.specs.Solved.{IsModel, IsRefutation}
-use Rattle.top_call.specs.declared.report.Verdict.{Verdict}
-use Rattle.top_call.specs.declared.report.Verdict.TheVariants.{Satisfiable, Unsatisfiable, Unknown}
+use Rattle.top_call.specs.declared.report.SearchVerdict.{SearchVerdict}
+use Rattle.top_call.specs.declared.report.SearchVerdict.TheVariants.{Satisfiable, Unsatisfiable, Unknown}
 
 -- the test whether the variable occurs in the clause
 abbrev pub mentions : List Literal → ℕ → Bool
@@ -22,30 +22,30 @@ mentions clause var = list_any (λ l. l.var == var) clause
 abbrev pub occurs : List (List Literal) → ℕ → Bool
 occurs clauses var = list_any (λ clause. mentions clause var) clauses
 
--- a value for each variable, which make each clause true; a variable that occurs in no clause is false
+-- an assignment with a value for each variable that makes each clause true; a variable that occurs in no clause is false
 pub record IsClearedModel (formula : FormulaData) (model : List Bool) : Type 0 where
   pub is_model : IsModel formula model
   pub idle : (var : ℕ) → occurs formula.clauses var ≡ false → value_of model var ≡ false
 
--- the verdict holds of the formula and the journal: a model; a refutation; each ring has learned its limit of lemmas, each of
--- them new
-abbrev pub Holds : Plan → FormulaData → List Entry → Verdict → Type 0
+-- the verdict holds of the formula and the journal: there is a model; there is a refutation; each ring has learned its limit of
+-- lemmas, each of them new
+abbrev pub Holds : Plan → FormulaData → List Entry → SearchVerdict → Type 0
 Holds plan formula journal (Satisfiable model) = IsClearedModel formula model
 Holds plan formula journal Unsatisfiable = IsRefutation formula.clauses journal
 Holds plan formula journal Unknown = SpentAll formula.clauses journal plan.threads plan.conflicts
 
--- the verdict holds of a run so planned, in which the simplifiers came to their end
-pub record Decides (plan : Plan) (formula : FormulaData) (journal : List Entry) (verdict : Verdict) : Type 0 where
+-- the verdict holds of a run with this plan, in which the simplifiers came to their end
+pub record Decides (plan : Plan) (formula : FormulaData) (journal : List Entry) (verdict : SearchVerdict) : Type 0 where
   pub holds : Holds plan formula journal verdict
   pub ruled : IsRuledThrough formula plan.rounds journal
 
--- the kind of the stop with which the rings come to the verdict, and with none if each is spent
-abbrev pub verdict_kind : Verdict → Option ℕ
+-- the kind of the stop with which the rings come to the verdict; none if each ring has learned its limit
+abbrev pub verdict_kind : SearchVerdict → Option ℕ
 verdict_kind (Satisfiable model) = Some STOP_SAT
 verdict_kind Unsatisfiable = Some STOP_REFUTED
 verdict_kind Unknown = None
 
 -- some verdict holds
 pub record IsDecided (plan : Plan) (formula : FormulaData) (journal : List Entry) : Type 0 where
-  pub verdict : Verdict
+  pub verdict : SearchVerdict
   pub decides : Decides plan formula journal verdict

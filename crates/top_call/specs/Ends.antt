@@ -3,27 +3,29 @@ use Rattle.std.specs.Prelude.{◌≡◌, ◌⊎◌, Bool, not, ℕ, ◌==◌, �
 use Rattle.std.specs.declared.option.Option.{Option}
 use Rattle.dimacs_read.specs.declared.stop.ReadStop.{ReadStop}
 use Rattle.dimacs_read.specs.declared.stop.ReadStop.TheVariants as read_stop
-use Rattle.top_call.specs.declared.report.Verdict.{Verdict}
-use Rattle.top_call.specs.declared.report.Verdict.TheVariants as verdict
-use Rattle.top_call.specs.declared.report.End.{End}
-use Rattle.top_call.specs.declared.report.End.TheVariants as end
+use Rattle.top_call.specs.declared.report.SearchVerdict.{SearchVerdict}
+use Rattle.top_call.specs.declared.report.SearchVerdict.TheVariants as verdict
+use Rattle.top_call.specs.declared.report.CallEnd.{CallEnd}
+use Rattle.top_call.specs.declared.report.CallEnd.TheVariants as end
 
-abbrev pub end_of : Verdict → End
+-- the end of a call whose verdict is printed
+abbrev pub end_of : SearchVerdict → CallEnd
 end_of (verdict.Satisfiable model) = end.Satisfiable model
 end_of verdict.Unsatisfiable = end.Unsatisfiable
 end_of verdict.Unknown = end.Unknown
 
-abbrev pub end_of_read : ReadStop → End
+-- the end of a call whose input was not read
+abbrev pub end_of_read : ReadStop → CallEnd
 end_of_read (read_stop.Bad code line) = end.BadInput code line
 end_of_read read_stop.ReadFault = end.ReadFault
 end_of_read read_stop.Memory = end.Memory
 
--- the end of a call whose words ask for nothing
-abbrev pub IsWordsEnd : End → Type 0
+-- the end of a call whose arguments are refused, or whose memory ran out as they were read
+abbrev pub IsWordsEnd : CallEnd → Type 0
 IsWordsEnd e = (e ≡ end.Usage) ⊎ (e ≡ end.Memory)
 
 -- the exit status
-abbrev pub status_of : End → ℕ
+abbrev pub status_of : CallEnd → ℕ
 status_of (end.Satisfiable model) = 10
 status_of end.Unsatisfiable = 20
 status_of end.Unknown = 0
@@ -37,7 +39,8 @@ status_of end.ProofFault = 7
 status_of (end.Room lack) = 8
 status_of end.Memory = 9
 
-abbrev pub model_of : End → Option (List Bool)
+-- the model of a satisfiable formula
+abbrev pub model_of : CallEnd → Option (List Bool)
 model_of (end.Satisfiable model) = Some model
 model_of _ = None
 

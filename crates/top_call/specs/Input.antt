@@ -1,4 +1,4 @@
--- What the formula is: made, or read of an input, if its text is known.
+-- What the formula is: made, or read from an input, if its text is known.
 use Rattle.std.specs.Prelude.{◌≡◌, ℕ, List, Some, None, IfSome}
 use Rattle.std.specs.declared.option.Option.{Option}
 use Rattle.sat_words.specs.FormulaData.{FormulaData}
@@ -10,7 +10,7 @@ use Rattle.cnf_make.specs.Made.{made}
 abbrev pub WasRead : Option (List ℕ) → FormulaData → Type 0
 WasRead text formula = IfSome text (λ bytes. Reads bytes formula)
 
--- the formula is the one of the number, if one is made, else it was read
+-- the formula is that of the number, if one is made, else it was read
 abbrev pub WasGiven : Option ℕ → Option (List ℕ) → FormulaData → Type 0
 WasGiven None text formula = WasRead text formula
 WasGiven (Some number) text formula = formula ≡ made number

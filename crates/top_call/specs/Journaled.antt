@@ -9,9 +9,10 @@ use Rattle.log_book.specs.Kept.{HoldsText, IsFrontTold}
 use Rattle.portfolio_run.specs.Journaled.{IsCutShort}
 use Rattle.top_call.specs.Run.{Writer}
 
--- a writer that began with no fault had failed `searched` times when the search was over, and `poured` times before its last call:
--- a flush, which made sure of all that was written, or failed. It holds the text of the journal's lines, or if it failed before
--- the flush a front of that and of the text of one line more; if it had not failed in the search, a front of that alone.
+-- A writer that began with no fault had failed `searched` times when the search was over, and `poured` times before its last call.
+-- That was a flush, which made sure of all that was written, or failed. The writer holds the text of the journal's lines. If it
+-- failed before the flush, it holds the text of the first of them and a part of the text of one line more; if it had not failed in the
+-- search, a front of the text.
 pub record HoldsLog (clauses : List (List Literal)) (journal : List Entry) (searched : ℕ) (writer : Writer) : Type 0 where
   pub poured : ℕ
   pub grown : (searched ≤ poured) × (poured ≤ writer.faults)

@@ -13,3 +13,4 @@ pub mod Concluded
 pub mod Tallied
 pub mod Outcome
 pub mod Statuses
+pub mod Promise

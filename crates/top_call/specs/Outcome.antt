@@ -16,20 +16,21 @@ use Rattle.portfolio_run.specs.Solved.{IsUnsettled, FaultsFit}
 use Rattle.dimacs_read.specs.Codes.{number_of}
 use Rattle.dimacs_read.specs.declared.stop.Code.{Code}
 use Rattle.top_call.specs.declared.report.Tally.{Tally}
-use Rattle.top_call.specs.declared.report.End.{End}
-use Rattle.top_call.specs.declared.report.End.TheVariants as end
-use Rattle.top_call.specs.declared.report.Verdict.{Verdict}
-use Rattle.top_call.specs.declared.report.Verdict.TheVariants as verdict
+use Rattle.top_call.specs.declared.report.CallEnd.{CallEnd}
+use Rattle.top_call.specs.declared.report.CallEnd.TheVariants as end
+use Rattle.top_call.specs.declared.report.SearchVerdict.{SearchVerdict}
+use Rattle.top_call.specs.declared.report.SearchVerdict.TheVariants as verdict
 use Rattle.top_call.specs.Words.{command_of, file_path, proof_path}
-use Rattle.top_call.specs.declared.plan.Plan.{Plan}
+use Rattle.top_call.specs.declared.plan.CallPlan.{CallPlan}
 use Rattle.top_call.specs.Input.{WasGiven, WasBad}
 use Rattle.top_call.specs.Answer.{answer_text, remarks_of}
-use Rattle.top_call.specs.Run.{Count, Writer, Output, Run, Call, run_of, HasFile, RoseIn, IsStill, Prints, PrintsPart}
+use Rattle.top_call.specs.Run.{FaultCount, Writer, Output, Run, Call, run_of, HasFile, RoseIn, IsStill, Prints, PrintsPart}
 use Rattle.top_call.specs.Journaled.{HoldsLog}
 use Rattle.top_call.specs.Decided.{Decides, IsDecided, verdict_kind}
 use Rattle.top_call.specs.Tallied.{no_tally, bad_tally, rings_tally, no_lack, AreLearned}
 
--- the proof's writer is there and holds the journal; it had failed this often when the search was over, and its last call was a flush
+-- the proof's writer is there and holds the journal; it had failed `searched` times when the search was over, and its last call was
+-- a flush
 abbrev pub HasLog : FormulaData → List Entry → ℕ → Run → Type 0
 HasLog formula journal searched run = IsSomeAnd run.proof (HoldsLog formula.clauses journal searched)
 
@@ -39,7 +40,7 @@ pub record IsUnread (formula : FormulaData) (journal : List Entry) (run : Run) :
   pub nothing : journal ≡ []
   pub empty : IfSome run.proof (λ writer. IsEmptyWhereTold writer.written)
 
--- no formula was to be made, the text is bad first in this line, with this code, and the source didn't fail
+-- no formula was asked for by its number; the text has its first bad place in this line, with this code; the source didn't fail
 pub record IsRefused (code : Code) (line : ℕ) (formula : FormulaData) (journal : List Entry) (tally : Tally) (run : Run) : Type 0 where
   pub unmade : run.plan.make ≡ None
   pub bad : WasBad run.text code line
@@ -53,11 +54,11 @@ pub record IsBroken (formula : FormulaData) (journal : List Entry) (tally : Tall
   pub counts : tally ≡ no_tally
   pub out : IsStill run.out.faults
 
--- the formula was made, or read without a fault, and as many rings as the words ask for were to start. A journal of this many rings
--- stands, begins with what the ruler wrote in the rounds that the words allow, and is what the rings' steps leave, none of which
--- learned more lemmas than the words allow; the steps come to a stop of this kind, or to none, and where it is a fault of the proof,
--- and else perhaps beside other rings, the writer had failed by then. The writer holds the journal. The tally has what each ring
--- counted, and what was needed and what there was if there was no room.
+-- The formula was made, or read without a fault, and the rings that are asked for were to start. Their journal begins with what the
+-- ruler wrote in the rounds that are allowed, and is what the rings' steps leave; no ring learned more lemmas than allowed. The
+-- steps come to a stop of this kind, or to none. If it is a fault of the proof, the writer had failed by then; else it may have
+-- failed if two rings or more ran. The writer holds the journal. The tally has what each ring counted, and the need and the room if
+-- there was too little.
 pub record IsStarted (kind : Option ℕ) (lack : NoRoom) (formula : FormulaData) (journal : List Entry) (tally : Tally) (run : Run) : Type 0 where
   pub given : WasGiven run.plan.make run.text formula
   pub source : IsStill run.source
@@ -77,13 +78,13 @@ pub record IsQuiet (run : Run) : Type 0 where
   pub proof : IsSomeAnd run.proof (λ writer. writer.faults ≡ 0)
   pub out : IsStill run.out.faults
 
--- what is printed, by what the words ask for: if a formula is made it is told of, and the values of a model are not; where
--- the log is checked that is known
-abbrev pub printed_of : Plan → FormulaData → Verdict → List ℕ
+-- what is printed: if the formula was made, remarks on it and no values of a model; if the log was checked, a remark on that; and the
+-- answer
+abbrev pub printed_of : CallPlan → FormulaData → SearchVerdict → List ℕ
 printed_of plan formula verdict = answer_text formula.vars (remarks_of (is_some plan.make) plan.search.keep_lines formula verdict) verdict
 
 -- the verdict holds, and its text is printed, and nothing else
-pub record IsAnswered (verdict : Verdict) (formula : FormulaData) (journal : List Entry) (tally : Tally) (run : Run) : Type 0 where
+pub record IsAnswered (verdict : SearchVerdict) (formula : FormulaData) (journal : List Entry) (tally : Tally) (run : Run) : Type 0 where
   pub started : IsStarted (verdict_kind verdict) no_lack formula journal tally run
   pub decided : Decides run.plan.search formula journal verdict
   pub printed : Prints run.out (printed_of run.plan formula verdict)
@@ -91,7 +92,7 @@ pub record IsAnswered (verdict : Verdict) (formula : FormulaData) (journal : Lis
 
 -- the output failed in printing a verdict that holds; the proof didn't fail before
 pub record IsCutOff (formula : FormulaData) (journal : List Entry) (tally : Tally) (run : Run) : Type 0 where
-  pub verdict : Verdict
+  pub verdict : SearchVerdict
   pub started : IsStarted (verdict_kind verdict) no_lack formula journal tally run
   pub decided : Decides run.plan.search formula journal verdict
   pub proof : IsSomeAnd run.proof (λ writer. writer.faults ≡ 0)
@@ -133,29 +134,30 @@ pub record IsUnchecked (formula : FormulaData) (journal : List Entry) (tally : T
   pub started : IsStarted (verdict_kind decided.verdict) no_lack formula journal tally run
   pub quiet : IsQuiet run
 
-abbrev pub Outcome : End → FormulaData → List Entry → Tally → Run → Type 0
-Outcome (end.Satisfiable model) F J tally run = IsAnswered (verdict.Satisfiable model) F J tally run
-Outcome end.Unsatisfiable F J tally run = IsAnswered verdict.Unsatisfiable F J tally run
-Outcome end.Unknown F J tally run = IsAnswered verdict.Unknown F J tally run
-Outcome end.Usage F J tally run = ⊥
-Outcome (end.BadInput code line) F J tally run = IsRefused code line F J tally run
-Outcome end.CannotOpen F J tally run = ⊥
-Outcome end.CannotCreate F J tally run = ⊥
-Outcome end.ReadFault F J tally run = RoseIn run.source × (run.plan.make ≡ None) × IsBroken F J tally run
-Outcome end.WriteFault F J tally run = IsCutOff F J tally run
-Outcome end.ProofFault F J tally run = IsUnproved F J tally run
-Outcome (end.Room lack) F J tally run = IsCrowded lack F J tally run
-Outcome end.Memory F J tally run = (IsStill run.source × IsBroken F J tally run) ⊎ IsStarved F J tally run ⊎ IsUnchecked F J tally run
+-- what holds of a run over a source, by its end
+abbrev pub RunOutcome : CallEnd → FormulaData → List Entry → Tally → Run → Type 0
+RunOutcome (end.Satisfiable model) F J tally run = IsAnswered (verdict.Satisfiable model) F J tally run
+RunOutcome end.Unsatisfiable F J tally run = IsAnswered verdict.Unsatisfiable F J tally run
+RunOutcome end.Unknown F J tally run = IsAnswered verdict.Unknown F J tally run
+RunOutcome end.Usage F J tally run = ⊥
+RunOutcome (end.BadInput code line) F J tally run = IsRefused code line F J tally run
+RunOutcome end.CannotOpen F J tally run = ⊥
+RunOutcome end.CannotCreate F J tally run = ⊥
+RunOutcome end.ReadFault F J tally run = RoseIn run.source × (run.plan.make ≡ None) × IsBroken F J tally run
+RunOutcome end.WriteFault F J tally run = IsCutOff F J tally run
+RunOutcome end.ProofFault F J tally run = IsUnproved F J tally run
+RunOutcome (end.Room lack) F J tally run = IsCrowded lack F J tally run
+RunOutcome end.Memory F J tally run = (IsStill run.source × IsBroken F J tally run) ⊎ IsStarved F J tally run ⊎ IsUnchecked F J tally run
 
 -- how a run over a source ended
-pub record IsRun (end : End) (tally : Tally) (run : Run) : Type 0 where
+pub record IsRun (end : CallEnd) (tally : Tally) (run : Run) : Type 0 where
   pub formula : FormulaData
   pub journal : List Entry
-  pub outcome : Outcome end formula journal tally run
+  pub outcome : RunOutcome end formula journal tally run
 
 -- how a run ended whose formula was made or read, over every source that it may have been read from
-abbrev pub Concluded : Plan → FormulaData → End → Tally → Writer → Output → Type 0
-Concluded plan formula end tally writer out = (text : Option (List ℕ)) (source : Count) → WasGiven plan.make text formula → IsStill source
+abbrev pub Concluded : CallPlan → FormulaData → CallEnd → Tally → Writer → Output → Type 0
+Concluded plan formula end tally writer out = (text : Option (List ℕ)) (source : FaultCount) → WasGiven plan.make text formula → IsStill source
     → IsRun end tally (record { plan = plan; text = text; source = source; proof = Some writer; out = out })
 
 -- no proof was created, so nothing was read, logged, counted or printed
@@ -171,15 +173,16 @@ pub record IsIdle (journal : List Entry) (tally : Tally) (call : Call) : Type 0 
   pub barren : IsBarren journal tally call
   pub no_file : call.file ≡ None
 
--- the words were lawful, and no file failed; the file was read if one is given, else standard input
-pub record IsWhole (end : End) (formula : FormulaData) (journal : List Entry) (tally : Tally) (call : Call) : Type 0 where
+-- the arguments are valid, and no file failed; the file was read if one is given, else standard input
+pub record IsWhole (end : CallEnd) (formula : FormulaData) (journal : List Entry) (tally : Tally) (call : Call) : Type 0 where
   pub lawful : IsSome (command_of call.words)
   pub file : HasFile call
-  pub outcome : Outcome end formula journal tally (run_of call)
+  pub outcome : RunOutcome end formula journal tally (run_of call)
   pub files : IsStill call.files
   pub input : (call.file ≡ None) ⊎ IsStill call.input
 
-abbrev pub CallOutcome : End → FormulaData → List Entry → Tally → Call → Type 0
+-- what holds of a call, by its end
+abbrev pub CallOutcome : CallEnd → FormulaData → List Entry → Tally → Call → Type 0
 CallOutcome (end.Satisfiable model) F J tally call = IsWhole (end.Satisfiable model) F J tally call
 CallOutcome end.Unsatisfiable F J tally call = IsWhole end.Unsatisfiable F J tally call
 CallOutcome end.Unknown F J tally call = IsWhole end.Unknown F J tally call
@@ -194,7 +197,7 @@ CallOutcome (end.Room lack) F J tally call = IsWhole (end.Room lack) F J tally c
 CallOutcome end.Memory F J tally call = (IsStill call.files × IsIdle J tally call) ⊎ IsWhole end.Memory F J tally call
 
 -- how a call ended
-pub record IsCall (end : End) (tally : Tally) (call : Call) : Type 0 where
+pub record IsCall (end : CallEnd) (tally : Tally) (call : Call) : Type 0 where
   pub formula : FormulaData
   pub journal : List Entry
   pub outcome : CallOutcome end formula journal tally call

@@ -1,8 +1,8 @@
--- How a formula is decided, by the words.
+-- How a formula is decided, by the arguments.
 use Rattle.std.specs.Prelude.{ℕ, ◌≤◌, ◌^◌, Bool, false, if◌then◌else◌, Some, None}
 use Rattle.std.specs.declared.option.Option.{Option}
 use Rattle.portfolio_run.specs.declared.plan.Plan.{Plan as SearchPlan}
-use Rattle.top_call.specs.declared.plan.Plan.{Plan}
+use Rattle.top_call.specs.declared.plan.CallPlan.{CallPlan}
 use Rattle.top_call.specs.declared.plan.TheConstants.{ROUNDS}
 use Rattle.top_call.specs.Words.{Command}
 
@@ -25,8 +25,8 @@ search_of command = record {
 abbrev pub no_search : SearchPlan
 no_search = record { threads = 0; conflicts = 0; words = 0; seed = 0; rounds = 0; keep_lines = false }
 
--- what the words ask for
-abbrev pub plan_of : Option Command → Plan
+-- what the arguments ask for
+abbrev pub plan_of : Option Command → CallPlan
 plan_of None = record { search = no_search; make = None }
 plan_of (Some command) = record { search = search_of command; make = command.make }
 

@@ -12,8 +12,8 @@ use Rattle.portfolio_run.specs.Journaled.{IsJournal}
 use Rattle.dimacs_read.specs.Input.{Reads}
 use Rattle.dimacs_read.specs.declared.stop.Code.{Code}
 use Rattle.top_call.specs.declared.report.Tally.{Tally}
-use Rattle.top_call.specs.declared.report.Verdict.{Verdict}
-use Rattle.top_call.specs.declared.report.Verdict.TheVariants.{Satisfiable, Unsatisfiable, Unknown}
+use Rattle.top_call.specs.declared.report.SearchVerdict.{SearchVerdict}
+use Rattle.top_call.specs.declared.report.SearchVerdict.TheVariants.{Satisfiable, Unsatisfiable, Unknown}
 use Rattle.top_call.specs.Words.{Command, command_of, file_path, make_number, proof_path}
 use Rattle.top_call.specs.Input.{WasGiven}
 use Rattle.top_call.specs.Run.{Call, HasFile, run_of, source_of, text_of, RoseIn, IsStill}
@@ -22,12 +22,12 @@ use Rattle.top_call.specs.Planned.{plan_of}
 use Rattle.top_call.specs.Tallied.{Tells}
 use Rattle.top_call.specs.Outcome.{IsBroken, IsRefused, IsAnswered, IsCutOff, IsUnproved, IsCrowded, IsStarved, IsUnchecked, IsBarren, IsIdle}
 
--- how the words ask that the ruler and the rings search
+-- how the ruler and the rings are asked to search
 abbrev pub search_in : Call → SearchPlan
 search_in call = (plan_of (command_of call.words)).search
 
 -- the verdict holds of the formula and the journal; nothing failed but perhaps a write to `err`
-pub record Answers (verdict : Verdict) (formula : FormulaData) (journal : List Entry) (tally : Tally) (call : Call) : Type 0 where
+pub record Answers (verdict : SearchVerdict) (formula : FormulaData) (journal : List Entry) (tally : Tally) (call : Call) : Type 0 where
   pub answered : IsAnswered verdict formula journal tally (run_of call)
   pub files : IsStill call.files
   pub input : IsStill call.input
@@ -43,7 +43,7 @@ pub record IsExhausted (formula : FormulaData) (journal : List Entry) (tally : T
   pub answers : Answers Unknown formula journal tally call
   pub learned : tally.learned ≡ replicate (search_in call).threads (search_in call).conflicts
 
--- the words are refused, and nothing was opened or created
+-- the arguments are refused, and nothing was opened or created
 pub record IsUnasked (journal : List Entry) (tally : Tally) (call : Call) : Type 0 where
   pub words : command_of call.words ≡ None
   pub idle : IsIdle journal tally call
@@ -66,8 +66,8 @@ pub record IsUncreated (journal : List Entry) (tally : Tally) (call : Call) : Ty
   pub file : HasFile call
   pub barren : IsBarren journal tally call
 
--- the words are lawful, and all that they ask for was made: the input was opened if a file is given, and the proof was
--- created; no file failed, and standard input did not if a file was read
+-- the arguments are valid, and all that they ask for was made: the input was opened if a file is given, and the proof was
+-- created; no file failed, and if a file was read, standard input did not fail
 pub record MadeAll (call : Call) : Type 0 where
   pub lawful : IsSome (command_of call.words)
   pub file : HasFile call
@@ -75,9 +75,9 @@ pub record MadeAll (call : Call) : Type 0 where
   pub files : IsStill call.files
   pub input : (call.file ≡ None) ⊎ IsStill call.input
 
--- memory ran out: no count rose but perhaps the proof's, and that of `err`; nothing was made, or all that the words ask for, and
--- then no formula was read or made, or the ruler didn't begin, or the search came to no verdict, or it did and the check of the
--- log, which is asked for, came to no end
+-- memory ran out: no count rose except perhaps those of the proof and of `err`. Nothing was made, or all that is asked for; then no
+-- formula was read or made, or the ruler didn't begin, or the search came to no verdict, or it did and the check of the log, which
+-- is asked for, came to no end.
 pub record RanOut (formula : FormulaData) (journal : List Entry) (tally : Tally) (call : Call) : Type 0 where
   pub files : IsStill call.files
   pub input : IsStill call.input
@@ -85,8 +85,8 @@ pub record RanOut (formula : FormulaData) (journal : List Entry) (tally : Tally)
   pub out : IsStill call.out.faults
   pub made : IsIdle journal tally call ⊎ (MadeAll call × (IsBroken formula journal tally (run_of call) ⊎ IsStarved formula journal tally (run_of call) ⊎ IsUnchecked formula journal tally (run_of call)))
 
--- one journal of as many rings as the words ask for stands, of the formula that was read or made, or empty. The proof, if there
--- is one, holds it and was flushed last; it had failed this often when the search was over.
+-- one journal stands, of as many rings as are asked for, of the formula that was read or made, or empty. The proof, if there is
+-- one, holds it and was flushed last; it had failed `searched` times when the search was over.
 pub record HasJournal (formula : FormulaData) (journal : List Entry) (call : Call) : Type 0 where
   pub stands : IsJournal (search_in call).threads formula.clauses journal
   pub of_input : (journal ≡ []) ⊎ WasGiven (make_number (command_of call.words)) (text_of call) formula
@@ -108,8 +108,8 @@ pub record IsReadable (call : Call) : Type 0 where
   pub formula : FormulaData
   pub spelled : Reads text formula
 
--- the words are lawful, a formula is to be made or can be read, and no count rose or stands at its last value but perhaps that
--- of `err`
+-- the arguments are valid, a formula is asked for by its number or can be read, and no count of faults rose or stands at its last
+-- value, except perhaps that of `err`
 pub record MustAnswer (call : Call) : Type 0 where
   pub command : Command
   pub lawful : command_of call.words ≡ Some command
@@ -119,9 +119,11 @@ pub record MustAnswer (call : Call) : Type 0 where
   pub out : RoseIn call.out.faults → ⊥
   pub proof : IfSome call.proof (λ writer. Rose 0 writer.faults → ⊥)
 
+-- the status of an answer: SATISFIABLE, UNSATISFIABLE or UNKNOWN
 abbrev pub IsAnswer : ℕ → Type 0
 IsAnswer status = (status ≡ 10) ⊎ (status ≡ 20) ⊎ (status ≡ 0)
 
+-- what holds of a call, by its status
 pub record Statuses (call : Call) (status : ℕ) (model : Option (List Bool)) (tally : Tally) : Type 0 where
   -- the formula that was read or made, and the journal of the run; each case is of these
   pub formula : FormulaData

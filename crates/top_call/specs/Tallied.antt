@@ -5,8 +5,8 @@ use Rattle.rup_model.specs.declared.journal.Entry.{Entry}
 use Rattle.rup_model.specs.Journal.{learned}
 use Rattle.ring_run.specs.declared.job.Counts.{Counts}
 use Rattle.dimacs_read.specs.Codes.{number_of}
-use Rattle.top_call.specs.declared.report.End.{End}
-use Rattle.top_call.specs.declared.report.End.TheVariants.{BadInput, Room}
+use Rattle.top_call.specs.declared.report.CallEnd.{CallEnd}
+use Rattle.top_call.specs.declared.report.CallEnd.TheVariants.{BadInput, Room}
 use Rattle.top_call.specs.declared.report.Tally.{Tally}
 
 -- before the rings were to start
@@ -17,7 +17,7 @@ no_tally = record { learned = []; offered = []; exported = []; need = 0; largest
 abbrev pub bad_tally : ℕ → ℕ → Tally
 bad_tally code line = record no_tally { code = code; line = line }
 
--- once this many rings are to start, none of which has counted anything
+-- when the rings start, none of which has counted anything
 abbrev pub zero_tally : ℕ → Tally
 zero_tally rings = record no_tally { learned = replicate rings 0; offered = replicate rings 0; exported = replicate rings 0 }
 
@@ -25,7 +25,7 @@ zero_tally rings = record no_tally { learned = replicate rings 0; offered = repl
 abbrev pub no_lack : NoRoom
 no_lack = record { need = 0; largest = 0 }
 
--- what the rings counted, in their order, with what was needed and what there was if there was no room
+-- what the rings counted, in their order, with the need and the room
 abbrev pub rings_tally : List Counts → NoRoom → Tally
 rings_tally counts lack = record {
   learned = map (λ c. c.learned) counts;
@@ -41,7 +41,7 @@ rings_tally counts lack = record {
 abbrev pub over : List ℕ → List ℕ → List ℕ
 over numbers old = numbers ++ drop (length numbers) old
 
--- once the rings have counted these
+-- after the rings have counted these
 abbrev pub counted : List Counts → Tally → Tally
 counted counts tally = record tally {
   learned = over (map (λ c. c.learned) counts) tally.learned;
@@ -49,7 +49,7 @@ counted counts tally = record tally {
   exported = over (map (λ c. c.exported) counts) tally.exported;
 }
 
--- there is a number for each of this many rings
+-- there is a number for each of the rings
 pub record HasRings (rings : ℕ) (tally : Tally) : Type 0 where
   pub learned : length tally.learned ≡ rings
   pub offered : length tally.offered ≡ rings
@@ -61,14 +61,14 @@ pub record Tells (counts : List Counts) (tally : Tally) : Type 0 where
   pub offered : tally.offered ≡ map (λ c. c.offered) counts
   pub exported : tally.exported ≡ map (λ c. c.exported) counts
 
--- a number for each of the rings, that of the lemmas which it has learned, no more than it may
+-- a number for each of the rings, that of the lemmas which it has learned, at most as many as it may
 pub record AreLearned (rings limit : ℕ) (journal : List Entry) (numbers : List ℕ) : Type 0 where
   pub many : length numbers ≡ rings
   pub each : (ring d : ℕ) → ring < rings → slice_index_or numbers ring d ≡ length (learned ring journal)
   pub within : (ring : ℕ) → ring < rings → length (learned ring journal) ≤ limit
 
 -- with the numbers of an end that has some
-abbrev pub noted : End → Tally → Tally
+abbrev pub noted : CallEnd → Tally → Tally
 noted (BadInput code line) tally = record tally { code = number_of code; line = line }
 noted (Room lack) tally = record tally { need = lack.need; largest = lack.largest }
 noted _ tally = tally

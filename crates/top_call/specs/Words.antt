@@ -1,4 +1,4 @@
--- The command line, as `clap` reads it: the arguments that the program has, and what the words ask for.
+-- The command line, as `clap` reads it: the options that the program has, and what the arguments ask for.
 use Rattle.std.specs.Prelude.{◌≡◌, ◌⊎◌, ℕ, ◌^◌, ◌-◌, Bool, false, true, ◌&&◌, if◌then◌else◌, List, [], ◌∷◌, Some, None, is_some, option_map, option_copied, codes}
 use Rattle.std.specs.declared.option.Option.{Option}
 use Rattle.std.specs.Str.{bytes_eq}
@@ -70,7 +70,7 @@ make_rule = record (new_rule (codes "make")) {
 abbrev pub file_rule : Rule
 file_rule = new_rule (codes "file")
 
--- a command whose words have no program's name before them, with no flag for help and none for the version
+-- a command whose arguments have no program's name before them, with no flag for help and none for the version
 abbrev pub bare_app : App
 bare_app = on_top (λ s. record s { no_binary_name = true; disable_help_flag = true; disable_version_flag = true }) (new_app (codes "gimsatul"))
 
@@ -79,7 +79,7 @@ abbrev pub with_rules : App → List Rule → App
 with_rules app [] = app
 with_rules app (rule ∷ rules) = with_rules (with_rule app rule) rules
 
--- the arguments of the program, in their order
+-- the options of the program, in their order
 abbrev pub solver_rules : List Rule
 solver_rules = conflicts_rule ∷ threads_rule ∷ words_rule ∷ seed_rule ∷ proof_rule ∷ no_simplify_rule ∷ check_rule ∷ make_rule ∷ file_rule ∷ []
 
@@ -87,24 +87,25 @@ solver_rules = conflicts_rule ∷ threads_rule ∷ words_rule ∷ seed_rule ∷ 
 abbrev pub solver_app : App
 solver_app = with_rules bare_app solver_rules
 
+-- what the arguments ask for
 pub record Command : Type 0 where
   -- how many rings search
   pub threads : ℕ
   -- how many lemmas each ring may learn
   pub conflicts : ℕ
-  -- how many words there are for clauses
+  -- how many words of 64 bits there are for clauses
   pub words : ℕ
   -- what the first phases are made of
   pub seed : ℕ
-  -- whether nothing is simplified but units
+  -- whether only units are propagated, and nothing else is simplified
   pub no_simplify : Bool
-  -- where the proof goes, if it is wanted
+  -- the path of the proof, if it is wanted
   pub proof : Option (List ℕ)
   -- whether the log is checked
   pub check : Bool
   -- the number of the formula that is made in place of an input, if one is
   pub make : Option ℕ
-  -- if the input comes from, if not from standard input
+  -- the path of the input, if it is not standard input
   pub file : Option (List ℕ)
 
 -- what the program's own command asks for
@@ -125,6 +126,7 @@ asked_by asked = record {
 abbrev pub number_of : List ℕ → ℕ
 number_of text = digits_value 10 (without_leading_plus text)
 
+-- the value of a number's text, if there is one
 abbrev pub number_in : Option (List ℕ) → ℕ
 number_in None = 0
 number_in (Some text) = number_of text
@@ -152,12 +154,12 @@ command_in rows = record {
 abbrev pub unless_both : Command → Option Command
 unless_both command = if is_some command.make && is_some command.file then None else Some command
 
--- the command, unless an error of some kind stands against the words
+-- the command, unless `clap` refuses the arguments with an error of some kind
 abbrev pub unless_refused : Kinds → Command → Option Command
 unless_refused [] command = unless_both command
 unless_refused (kind ∷ kinds) command = None
 
--- what the words ask for; none if `clap` refuses them for another cause than want of memory, or if `--make` stands
+-- what the arguments ask for; none if `clap` refuses them for another cause than want of memory, or if `--make` stands
 -- with FILE
 unfoldable pub command_of : List (List ℕ) → Option Command
 command_of words = unless_refused (fault_of solver_app words) (command_in (matches_of solver_app words))
@@ -183,22 +185,22 @@ pub record HasNumber (id : List ℕ) (low high : ℕ) (matches : ArgMatches) : T
   pub given : one_text (found_of matches) id ≡ Some text
   pub accepted : IsUnsignedIn low high text
 
--- they have one for `--conflicts`
+-- the matches have a number for `--conflicts`
 abbrev pub HasLimit : ArgMatches → Type 0
 HasLimit = HasNumber (codes "conflicts") 1 (10 ^ 12)
 
--- they have one for `--threads`
+-- the matches have a number for `--threads`
 abbrev pub HasThreads : ArgMatches → Type 0
 HasThreads = HasNumber (codes "threads") 1 16
 
--- they have one for `--words`
+-- the matches have a number for `--words`
 abbrev pub HasWords : ArgMatches → Type 0
 HasWords = HasNumber (codes "words") 64 (2 ^ 31)
 
--- they have one for `--seed`
+-- the matches have a number for `--seed`
 abbrev pub HasSeed : ArgMatches → Type 0
 HasSeed = HasNumber (codes "seed") 0 (2 ^ 63 - 1)
 
--- they have one for `--make`, or no value
+-- the matches have a number for `--make`, or no value
 abbrev pub HasMade : ArgMatches → Type 0
 HasMade matches = (one_text (found_of matches) (codes "make") ≡ None) ⊎ HasNumber (codes "make") 0 (2 ^ 63 - 1) matches

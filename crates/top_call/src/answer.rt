@@ -1,5 +1,5 @@
-// Printing the answer, as the SAT Competition asks: the line `s ..`, and a model in lines that begin with `v`. What is known
-// beside it stands before, in lines that begin with `c`.
+// Printing the answer, as the SAT Competition asks: the line `s ..`, and a model in lines that begin with `v`. Remarks stand
+// before it, in lines that begin with `c`.
 ghost use Rattle.std.specs.Prelude.{◌≡◌, ◌+◌, ◌≤◌, ◌^◌, ◌++◌, ◌∷◌, [], List, ℕ, length, codes, OnOk, IfErr};
 ghost use Rattle.sat_words.specs.Literal.{lit_text};
 ghost use Rattle.io_edge.specs.Bytes.{GrowsBy};
@@ -9,7 +9,7 @@ ghost use Rattle.drat_text.specs.declared.piece.TheConstants.{CAPACITY};
 ghost use Rattle.top_call.specs.Answer.{answer_text, head_lines, made_lines, summary_lines, satisfied_line, check_line, verdict_line, count_line, true_literal, value_lines, wrapped};
 
 use crate::remarks::{Remarks, Summary};
-use crate::report::Verdict;
+use crate::report::SearchVerdict;
 use drat_text::Piece;
 use io_edge::{Sink, WriteStop, write_all_of};
 use itoa::Buffer;
@@ -30,13 +30,13 @@ const END: usize = BREAK + 2;
 /// The most bytes of a number's line after its name: twenty digits and a newline.
 const COUNT: usize = 21;
 
-/// The most bytes that are told of a formula that was made.
+/// The most bytes of the remarks on a formula that was made.
 const SUMMARY: usize = 29 + 3 * COUNT;
 
-/// The most bytes before the values: also of the check and of the answer's line.
+/// The most bytes before the values: these remarks, that on the check, and the answer's line.
 const HEAD: usize = SUMMARY + 17 + 16;
 
-/// Prints the answer over a formula with this many variables, and doesn't flush. It takes no memory.
+/// Prints the answer over a formula with `vars` variables, and doesn't flush. It takes no memory.
 ///
 /// The text goes to the sink in pieces of at most 4096 bytes. At `WriteStop` the sink failed and has exactly the first
 /// `taken` bytes of the text, which are not all of it.
@@ -44,7 +44,7 @@ pub fn answer_text_to<O: Sink>(
     out: &mut O,
     vars: u32,
     remarks: &Remarks,
-    verdict: &Verdict,
+    verdict: &SearchVerdict,
 ) -> Result<(), WriteStop>
     requires { vars ≤ 2 ^ 30 }
     ensures all { OnOk result (GrowsBy (O.written out.old) (O.written out.new) (answer_text vars remarks.now verdict.now)) }
@@ -55,16 +55,16 @@ pub fn answer_text_to<O: Sink>(
 {
     let head = head_of(remarks, verdict);
     match verdict {
-        Verdict::Satisfiable(model) => match remarks.made {
+        SearchVerdict::Satisfiable(model) => match remarks.made {
             None => put_values(out, head, vars, model),
             Some(_) => put_last(out, head),
         },
-        Verdict::Unsatisfiable => put_last(out, head),
-        Verdict::Unknown => put_last(out, head),
+        SearchVerdict::Unsatisfiable => put_last(out, head),
+        SearchVerdict::Unknown => put_last(out, head),
     }
 }
 
-/// Adds a line that tells a number.
+/// Adds a line with a number.
 fn push_count(piece: &mut Piece, name: &[u8], count: u64)
     requires room { length piece.old + (length name.now + COUNT) ≤ CAPACITY }
     ensures text { piece.new ≡ piece.old ++ count_line name.now count }
@@ -76,7 +76,7 @@ fn push_count(piece: &mut Piece, name: &[u8], count: u64)
     piece.push_bytes(b"\n");
 }
 
-/// Adds how many clauses the model makes true, if there is one.
+/// Adds the number of clauses that the model makes true, if there is one.
 fn push_satisfied(piece: &mut Piece, satisfied: Option<u64>)
     requires room { length piece.old + (12 + COUNT) ≤ CAPACITY }
     ensures text { piece.new ≡ piece.old ++ satisfied_line satisfied }
@@ -87,7 +87,7 @@ fn push_satisfied(piece: &mut Piece, satisfied: Option<u64>)
     }
 }
 
-/// Adds what is told of a formula that was made, if one was.
+/// Adds the remarks on a formula that was made, if one was.
 fn push_made(piece: &mut Piece, made: Option<Summary>)
     requires room { length piece.old + SUMMARY ≤ CAPACITY }
     ensures text { piece.new ≡ piece.old ++ made_lines made }
@@ -100,7 +100,7 @@ fn push_made(piece: &mut Piece, made: Option<Summary>)
     }
 }
 
-/// Adds that the log was checked, where it was.
+/// Adds that the log was checked, if it was.
 fn push_check(piece: &mut Piece, checked: bool)
     requires room { length piece.old + 17 ≤ CAPACITY }
     ensures text { piece.new ≡ piece.old ++ check_line checked }
@@ -112,20 +112,20 @@ fn push_check(piece: &mut Piece, checked: bool)
 }
 
 /// Adds the answer's line.
-fn push_verdict(piece: &mut Piece, verdict: &Verdict)
+fn push_verdict(piece: &mut Piece, verdict: &SearchVerdict)
     requires room { length piece.old + 16 ≤ CAPACITY }
     ensures text { piece.new ≡ piece.old ++ verdict_line verdict.now }
     ensures fits { length piece.new ≤ length piece.old + 16 }
 {
     match verdict {
-        Verdict::Satisfiable(_) => piece.push_bytes(b"s SATISFIABLE\n"),
-        Verdict::Unsatisfiable => piece.push_bytes(b"s UNSATISFIABLE\n"),
-        Verdict::Unknown => piece.push_bytes(b"s UNKNOWN\n"),
+        SearchVerdict::Satisfiable(_) => piece.push_bytes(b"s SATISFIABLE\n"),
+        SearchVerdict::Unsatisfiable => piece.push_bytes(b"s UNSATISFIABLE\n"),
+        SearchVerdict::Unknown => piece.push_bytes(b"s UNKNOWN\n"),
     }
 }
 
 /// The lines before the values.
-fn head_of(remarks: &Remarks, verdict: &Verdict) -> Piece
+fn head_of(remarks: &Remarks, verdict: &SearchVerdict) -> Piece
     ensures text { result ≡ head_lines remarks.now verdict.now }
     ensures short { length result ≤ HEAD }
 {
@@ -149,7 +149,7 @@ fn put_last<O: Sink>(out: &mut O, text: Piece) -> Result<(), WriteStop>
     Ok(())
 }
 
-/// Writes the lines before the values, the model's values and the `0` after them.
+/// Writes the lines before the values, the model's values, and `0` at their end.
 fn put_values<O: Sink>(
     out: &mut O,
     head: Piece,
@@ -200,7 +200,7 @@ fn push_value(piece: &mut Piece, used: usize, model: &Assignment, var: u32) -> u
     push_number(piece, used, digits.format(value).as_bytes())
 }
 
-/// Adds the number after the `used` bytes of the line, or on a new line if it would have too many. Answers how many
+/// Adds the number after the `used` bytes of the line, or on a new line if the line would get too long. Answers how many
 /// bytes the number's line has then.
 fn push_number(piece: &mut Piece, used: usize, number: &[u8]) -> usize
     requires line { used ≤ WIDTH }

@@ -1,4 +1,4 @@
-// From a source, or the number of a formula, to a printed answer, once the proof is there.
+// From a source, or the number of a formula, to a printed answer, after the proof was created.
 ghost use Rattle.std.specs.Prelude.{◌≡◌, ◌≤◌, ◌<◌, ◌^◌, ◌↔◌, All, Bool, true, false, ℕ, List, IsTrue, Some, None, is_some, if◌then◌else◌, IfOk, IfSome, OnOk, OnErr, length};
 ghost use Rattle.std.specs.Option.{option_map};
 ghost use Rattle.std.specs.declared.option.Option.{Option};
@@ -13,19 +13,20 @@ ghost use Rattle.sat_words.specs.Literal.{IsOn};
 ghost use Rattle.top_call.specs.Finished.{Finishes};
 ghost use Rattle.top_call.specs.Occurring.{IsOccurring};
 ghost use Rattle.top_call.specs.Outcome.{Concluded, IsRun, printed_of};
-ghost use Rattle.top_call.specs.Run.{Count, IsStill};
+ghost use Rattle.top_call.specs.Run.{FaultCount, IsStill, faults_between, output_between, writer_at};
+ghost use Rattle.dimacs_read.specs.Answer.{IsReadNoFurther};
 ghost use Rattle.top_call.specs.Planned.{IsInRange};
 ghost use Rattle.top_call.specs.Tallied.{no_tally, zero_tally};
 
 use crate::answer::answer_text_to;
 use crate::conclude::verdict_of;
 use crate::occurring::occurring_in;
-use crate::plan::Plan;
+use crate::plan::CallPlan;
 use crate::remarks::{Remarks, Summary, summary_of};
-use crate::report::{End, Tally, Verdict};
+use crate::report::{CallEnd, SearchVerdict, Tally};
 use cnf_make::make;
 use dimacs_read::{ReadStop, read};
-use drat_check::{Verdict as LogVerdict, check};
+use drat_check::{Verdict, check};
 use io_edge::{Failed, Sink, Source};
 use portfolio_run::{Solved, solve};
 use ring_port::Gate;
@@ -36,17 +37,17 @@ use std::thread::Threads;
 
 /// How a run over a source ended, and the proof's writer, given back.
 pub struct Decided<P> {
-    pub end: End,
+    pub end: CallEnd,
     pub proof: P,
 }
 
-fn into_end(verdict: Verdict) -> End
+fn into_end(verdict: SearchVerdict) -> CallEnd
     ensures { result ≡ end_of verdict }
 {
     match verdict {
-        Verdict::Satisfiable(model) => End::Satisfiable(model),
-        Verdict::Unsatisfiable => End::Unsatisfiable,
-        Verdict::Unknown => End::Unknown,
+        SearchVerdict::Satisfiable(model) => CallEnd::Satisfiable(model),
+        SearchVerdict::Unsatisfiable => CallEnd::Unsatisfiable,
+        SearchVerdict::Unknown => CallEnd::Unknown,
     }
 }
 
@@ -56,7 +57,7 @@ fn print<O: Sink>(
     out: &mut O,
     vars: u32,
     remarks: &Remarks,
-    verdict: &Verdict,
+    verdict: &SearchVerdict,
 ) -> Result<(), Failed>
     requires { vars ≤ 2 ^ 30 }
     ensures all { OnOk result (GrowsBy (O.written out.old) (O.written out.new) (answer_text vars remarks.now verdict.now)) }
@@ -70,8 +71,8 @@ fn print<O: Sink>(
     }
 }
 
-/// What is told of the formula before the answer, where it was made.
-fn told_of(plan: &Plan, formula: &Formula, verdict: &Verdict) -> Option<Summary>
+/// The remarks on the formula, if it was made.
+fn told_of(plan: &CallPlan, formula: &Formula, verdict: &SearchVerdict) -> Option<Summary>
     ensures { result ≡ (if is_some plan.now.make then Some (summary_of formula.now verdict.now) else None) }
 {
     match plan.make {
@@ -87,9 +88,9 @@ fn check_log(alloc: Global, formula: &Formula, lines: &[Line]) -> Result<bool, A
     ensures { IfOk result (λ refuted. IsTrue refuted ↔ Refutes formula.now.clauses lines.now) }
 {
     match check(alloc, formula, lines)? {
-        LogVerdict::Accepted { empty } => Ok(empty),
+        Verdict::Accepted { empty } => Ok(empty),
         // `accepted`: the check refuses only a log that the definition does not accept
-        LogVerdict::Refused { .. } => unreachable!(),
+        Verdict::Refused { .. } => unreachable!(),
     }
 }
 
@@ -116,30 +117,25 @@ fn check_kept(
 fn finish<O: Sink>(
     alloc: Global,
     formula: &Formula,
-    plan: &Plan,
-    verdict: Verdict,
+    plan: &CallPlan,
+    verdict: SearchVerdict,
     kept: &Option<Vec<Line>>,
     out: &mut O,
-) -> End
+) -> CallEnd
     requires few { formula.now.vars < 2 ^ 28 }
     requires kept { is_some kept.now ≡ plan.now.search.keep_lines }
     requires accepted { IfSome (option_map (λ v. v.items) kept.now) (Accepted formula.now.clauses) }
     ensures finishes { Finishes (printed_of plan.now formula.now verdict) plan.now.search.keep_lines verdict result
-        (record {
-          faults = record { before = O.faults out.old; after = O.faults out.new };
-          before = O.written out.old;
-          after = O.written out.new;
-          flushed = O.flushed out.new;
-        }) }
+        (output_between O.faults O.written O.flushed out.old out.new) }
     ensures unprinted { prints_at (status_of result) ≡ false → out.new ≡ out.old }
 {
     let Ok(checked) = check_kept(alloc, formula, kept) else {
-        return End::Memory;
+        return CallEnd::Memory;
     };
     let made = told_of(plan, formula, &verdict);
     match print(out, formula.vars(), &Remarks { made, checked }, &verdict) {
         Ok(()) => into_end(verdict),
-        Err(Failed) => End::WriteFault,
+        Err(Failed) => CallEnd::WriteFault,
     }
 }
 
@@ -149,7 +145,7 @@ fn search_formula<H: Threads + Wait + Sync, P: Sink + Send, O: Sink, G: Gate + S
     alloc: Global,
     formula: &Formula,
     occurring: Assignment,
-    plan: &Plan,
+    plan: &CallPlan,
     proof: P,
     out: &mut O,
     tally: &mut Tally,
@@ -163,13 +159,8 @@ fn search_formula<H: Threads + Wait + Sync, P: Sink + Send, O: Sink, G: Gate + S
     requires quiet { P.faults proof ≡ 0 }
     requires started { tally.old ≡ zero_tally plan.now.search.threads }
     ensures outcome { Concluded plan.now formula.now result.end tally.new
-        (record { faults = P.faults result.proof; written = P.written result.proof; flushed = P.flushed result.proof })
-        (record {
-          faults = record { before = O.faults out.old; after = O.faults out.new };
-          before = O.written out.old;
-          after = O.written out.new;
-          flushed = O.flushed out.new;
-        }) }
+        (writer_at P.faults P.written P.flushed result.proof)
+        (output_between O.faults O.written O.flushed out.old out.new) }
     ensures target { P.target result.proof ≡ P.target proof }
     ensures unprinted { prints_at (status_of result.end) ≡ false → out.new ≡ out.old }
 {
@@ -192,12 +183,12 @@ fn search_formula<H: Threads + Wait + Sync, P: Sink + Send, O: Sink, G: Gate + S
     }
 }
 
-/// Makes ready for the answer and for the report, searches, and goes on to the printed answer.
+/// Takes the memory of the answer and of the report, searches, with the proof written and flushed, and prints the answer.
 fn decide_formula<H: Threads + Wait + Sync, P: Sink + Send, O: Sink, G: Gate + Sync>(
     rt: &H,
     alloc: Global,
     formula: &Formula,
-    plan: &Plan,
+    plan: &CallPlan,
     proof: P,
     out: &mut O,
     tally: &mut Tally,
@@ -210,13 +201,8 @@ fn decide_formula<H: Threads + Wait + Sync, P: Sink + Send, O: Sink, G: Gate + S
     requires quiet { P.faults proof ≡ 0 }
     requires uncounted { tally.old ≡ no_tally }
     ensures outcome { Concluded plan.now formula.now result.end tally.new
-        (record { faults = P.faults result.proof; written = P.written result.proof; flushed = P.flushed result.proof })
-        (record {
-          faults = record { before = O.faults out.old; after = O.faults out.new };
-          before = O.written out.old;
-          after = O.written out.new;
-          flushed = O.flushed out.new;
-        }) }
+        (writer_at P.faults P.written P.flushed result.proof)
+        (output_between O.faults O.written O.flushed out.old out.new) }
     ensures target { P.target result.proof ≡ P.target proof }
     ensures unprinted { prints_at (status_of result.end) ≡ false → out.new ≡ out.old }
 {
@@ -224,7 +210,7 @@ fn decide_formula<H: Threads + Wait + Sync, P: Sink + Send, O: Sink, G: Gate + S
         let mut proof = proof;
         let _ = proof.flush();
         return Decided {
-            end: End::Memory,
+            end: CallEnd::Memory,
             proof,
         };
     };
@@ -234,7 +220,7 @@ fn decide_formula<H: Threads + Wait + Sync, P: Sink + Send, O: Sink, G: Gate + S
             let mut proof = proof;
             let _ = proof.flush();
             return Decided {
-                end: End::Memory,
+                end: CallEnd::Memory,
                 proof,
             };
         }
@@ -243,13 +229,13 @@ fn decide_formula<H: Threads + Wait + Sync, P: Sink + Send, O: Sink, G: Gate + S
 }
 
 /// How a call ends whose input was not read.
-fn read_end(stop: ReadStop) -> End
+fn read_end(stop: ReadStop) -> CallEnd
     ensures { result ≡ end_of_read stop }
 {
     match stop {
-        ReadStop::Bad { code, line } => End::BadInput { code, line },
-        ReadStop::ReadFault => End::ReadFault,
-        ReadStop::Memory => End::Memory,
+        ReadStop::Bad { code, line } => CallEnd::BadInput { code, line },
+        ReadStop::ReadFault => CallEnd::ReadFault,
+        ReadStop::Memory => CallEnd::Memory,
     }
 }
 
@@ -258,7 +244,7 @@ pub fn decide_over<H: Threads + Wait + Sync, S: Source, P: Sink + Send, O: Sink,
     rt: &H,
     alloc: Global,
     source: &mut S,
-    plan: &Plan,
+    plan: &CallPlan,
     proof: P,
     out: &mut O,
     tally: &mut Tally,
@@ -272,15 +258,11 @@ pub fn decide_over<H: Threads + Wait + Sync, S: Source, P: Sink + Send, O: Sink,
     ensures outcome { IsRun result.end tally.new (record {
       plan = plan.now;
       text = S.left source.old;
-      source = record { before = S.faults source.old; after = S.faults source.new };
-      proof = Some (record { faults = P.faults result.proof; written = P.written result.proof; flushed = P.flushed result.proof });
-      out = record {
-        faults = record { before = O.faults out.old; after = O.faults out.new };
-        before = O.written out.old;
-        after = O.written out.new;
-        flushed = O.flushed out.new;
-      };
+      source = faults_between S.faults source.old source.new;
+      proof = Some (writer_at P.faults P.written P.flushed result.proof);
+      out = output_between O.faults O.written O.flushed out.old out.new;
     }) }
+    ensures rest { IsReadNoFurther (S.left source.old) (S.left source.new) }
     ensures target { P.target result.proof ≡ P.target proof }
     ensures unprinted { prints_at (status_of result.end) ≡ false → out.new ≡ out.old }
 {
@@ -302,7 +284,7 @@ pub fn decide_made<H: Threads + Wait + Sync, P: Sink + Send, O: Sink, G: Gate + 
     rt: &H,
     alloc: Global,
     number: u64,
-    plan: &Plan,
+    plan: &CallPlan,
     proof: P,
     out: &mut O,
     tally: &mut Tally,
@@ -313,17 +295,12 @@ pub fn decide_made<H: Threads + Wait + Sync, P: Sink + Send, O: Sink, G: Gate + 
     requires quiet { P.faults proof ≡ 0 }
     requires uncounted { tally.old ≡ no_tally }
     requires made { plan.now.make ≡ Some number }
-    ensures outcome { (text : Option (List ℕ)) (source : Count) → IsStill source → IsRun result.end tally.new (record {
+    ensures outcome { (text : Option (List ℕ)) (source : FaultCount) → IsStill source → IsRun result.end tally.new (record {
       plan = plan.now;
       text = text;
       source = source;
-      proof = Some (record { faults = P.faults result.proof; written = P.written result.proof; flushed = P.flushed result.proof });
-      out = record {
-        faults = record { before = O.faults out.old; after = O.faults out.new };
-        before = O.written out.old;
-        after = O.written out.new;
-        flushed = O.flushed out.new;
-      };
+      proof = Some (writer_at P.faults P.written P.flushed result.proof);
+      out = output_between O.faults O.written O.flushed out.old out.new;
     }) }
     ensures target { P.target result.proof ≡ P.target proof }
     ensures unprinted { prints_at (status_of result.end) ≡ false → out.new ≡ out.old }
@@ -332,7 +309,7 @@ pub fn decide_made<H: Threads + Wait + Sync, P: Sink + Send, O: Sink, G: Gate + 
     let Ok(formula) = make(alloc, number) else {
         let _ = proof.flush();
         return Decided {
-            end: End::Memory,
+            end: CallEnd::Memory,
             proof,
         };
     };

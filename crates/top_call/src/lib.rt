@@ -1,5 +1,5 @@
-//! The whole call of the program, over any files and streams. `gimsatul` reads the words and the input, lets the formula be
-//! decided, writes the proof and the answer, and reports; `main` of the program makes this call on the real ones.
+//! The whole call of the program, over any files and streams. `gimsatul` reads the arguments and the input, has the formula
+//! decided, writes the proof and the answer, and reports. `main` of the program makes this call on the real ones.
 //!
 //! `answer_text_to` prints an answer and `put_message` says why there is none. `the_plain_form_is_read` is a law of the forms of
 //! input.
@@ -21,5 +21,5 @@ pub use answer::answer_text_to;
 pub use laws::the_plain_form_is_read;
 pub use message::put_message;
 pub use remarks::{Remarks, Summary};
-pub use report::{End, Numbers, Report, Tally, Verdict};
+pub use report::{CallEnd, Report, RingNumbers, SearchVerdict, Tally};
 pub use top::gimsatul;

@@ -1,5 +1,5 @@
 // The line on standard error.
-use crate::report::End;
+use crate::report::CallEnd;
 use dimacs_read::Code;
 use io_edge::{Sink, WriteStop, write_all_of};
 use itoa::Buffer;
@@ -25,18 +25,18 @@ fn put_no_room<E: Sink>(err: &mut E, lack: NoRoom) -> Result<(), WriteStop> {
     write_all_of(err, b"\n")
 }
 
-/// Writes why there is no answer: nothing if there is one.
-pub fn put_message<E: Sink>(err: &mut E, end: &End) -> Result<(), WriteStop> {
+/// Writes why there is no answer. If there is one, writes nothing.
+pub fn put_message<E: Sink>(err: &mut E, end: &CallEnd) -> Result<(), WriteStop> {
     match end {
-        End::Satisfiable(_) | End::Unsatisfiable | End::Unknown => Ok(()),
-        End::Usage => write_all_of(err, b"gimsatul: bad command line\n"),
-        End::BadInput { code, line } => put_bad_place(err, *code, *line),
-        End::CannotOpen => write_all_of(err, b"gimsatul: cannot open input\n"),
-        End::CannotCreate => write_all_of(err, b"gimsatul: cannot create proof\n"),
-        End::ReadFault => write_all_of(err, b"gimsatul: read fault\n"),
-        End::WriteFault => write_all_of(err, b"gimsatul: write fault\n"),
-        End::ProofFault => write_all_of(err, b"gimsatul: proof fault\n"),
-        End::Room(lack) => put_no_room(err, *lack),
-        End::Memory => write_all_of(err, b"gimsatul: out of memory\n"),
+        CallEnd::Satisfiable(_) | CallEnd::Unsatisfiable | CallEnd::Unknown => Ok(()),
+        CallEnd::Usage => write_all_of(err, b"gimsatul: bad command line\n"),
+        CallEnd::BadInput { code, line } => put_bad_place(err, *code, *line),
+        CallEnd::CannotOpen => write_all_of(err, b"gimsatul: cannot open input\n"),
+        CallEnd::CannotCreate => write_all_of(err, b"gimsatul: cannot create proof\n"),
+        CallEnd::ReadFault => write_all_of(err, b"gimsatul: read fault\n"),
+        CallEnd::WriteFault => write_all_of(err, b"gimsatul: write fault\n"),
+        CallEnd::ProofFault => write_all_of(err, b"gimsatul: proof fault\n"),
+        CallEnd::Room(lack) => put_no_room(err, *lack),
+        CallEnd::Memory => write_all_of(err, b"gimsatul: out of memory\n"),
     }
 }

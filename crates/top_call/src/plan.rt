@@ -7,8 +7,8 @@ pub const ROUNDS: u32 = 3;
 
 /// How a formula is decided.
 #[derive(Clone, Copy)]
-pub struct Plan {
-    /// How the ruler and the rings search. The lines of the log are kept if they are to be checked.
+pub struct CallPlan {
+    /// How the ruler and the rings search. The lines of the log are kept if they must be checked.
     pub search: portfolio_run::Plan,
     /// The number of the formula, if it is made and not read.
     pub make: Option<u64>,

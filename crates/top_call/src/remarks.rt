@@ -1,11 +1,11 @@
-// What is known before the answer.
+// The remarks before the answer.
 ghost use Rattle.std.specs.Prelude.{◌≡◌, ℕ, Bool, option_copied};
 ghost use Rattle.top_call.specs.Answer.{satisfied, summary_of, remarks_of};
 
-use crate::report::Verdict;
+use crate::report::SearchVerdict;
 use sat_words::{Assignment, Formula};
 
-/// What is told of a formula that was made.
+/// The remarks on a formula that was made.
 #[derive(Clone, Copy)]
 pub struct Summary {
     pub vars: u32,
@@ -14,10 +14,10 @@ pub struct Summary {
     pub satisfied: Option<u64>,
 }
 
-/// What is known before the answer.
+/// The remarks before the answer.
 #[derive(Clone, Copy)]
 pub struct Remarks {
-    /// Where the formula was made. The values of a model are not printed then.
+    /// Of the formula, if it was made. The values of a model are not printed then.
     pub made: Option<Summary>,
     /// Whether the log was checked, and accepted.
     pub checked: bool,
@@ -36,16 +36,16 @@ fn satisfied(model: &Assignment, formula: &Formula) -> u64
     count
 }
 
-/// What is told of the formula and the verdict on it.
-pub(crate) fn summary_of(formula: &Formula, verdict: &Verdict) -> Summary
+/// The remarks on the formula and the verdict on it.
+pub(crate) fn summary_of(formula: &Formula, verdict: &SearchVerdict) -> Summary
     ensures { result ≡ summary_of formula.now verdict.now }
 {
     Summary {
         vars: formula.vars(),
         clauses: formula.clauses().len() as u64,
         satisfied: match verdict {
-            Verdict::Satisfiable(model) => Some(satisfied(model, formula)),
-            Verdict::Unsatisfiable | Verdict::Unknown => None,
+            SearchVerdict::Satisfiable(model) => Some(satisfied(model, formula)),
+            SearchVerdict::Unsatisfiable | SearchVerdict::Unknown => None,
         },
     }
 }

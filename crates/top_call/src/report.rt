@@ -13,18 +13,18 @@ use std::marker::Model;
 
 /// What the search found of the clauses.
 #[derive(Drop)]
-pub enum Verdict {
+pub enum SearchVerdict {
     /// This assignment makes each clause true.
     Satisfiable(Assignment),
-    /// No assignment does, and the log shows it.
+    /// No assignment makes each clause true, and the log shows it.
     Unsatisfiable,
-    /// Each ring learned its limit of lemmas before one knew.
+    /// Each ring learned its limit of lemmas before one knew the answer.
     Unknown,
 }
 
 /// How a call ends. Each case has its exit status.
 #[derive(Drop)]
-pub enum End {
+pub enum CallEnd {
     Satisfiable(Assignment),
     Unsatisfiable,
     Unknown,
@@ -46,15 +46,15 @@ pub enum End {
     Memory,
 }
 
-impl End {
-    /// The end of a call that is not made since its arguments cannot be known as text: as if words are refused, or memory ran out.
-    pub fn of_arguments(kind: io::ErrorKind) -> End
-        ensures memory { (result ≡ End.Memory) ↔ (kind ≡ ErrorKind.OutOfMemory) }
+impl CallEnd {
+    /// The end of a call that is not made, because its arguments are no text: it ends as if they were refused, or memory ran out.
+    pub fn of_arguments(kind: io::ErrorKind) -> CallEnd
+        ensures memory { (result ≡ CallEnd.Memory) ↔ (kind ≡ ErrorKind.OutOfMemory) }
         ensures ends { IsWordsEnd result }
     {
         match kind {
-            io::ErrorKind::OutOfMemory => End::Memory,
-            _ => End::Usage,
+            io::ErrorKind::OutOfMemory => CallEnd::Memory,
+            _ => CallEnd::Usage,
         }
     }
 
@@ -63,29 +63,29 @@ impl End {
         ensures { result ≡ status_of self.now }
     {
         match self {
-            End::Satisfiable(_) => 10,
-            End::Unsatisfiable => 20,
-            End::Unknown => 0,
-            End::Usage => 1,
-            End::BadInput { .. } => 2,
-            End::CannotOpen => 3,
-            End::CannotCreate => 4,
-            End::ReadFault => 5,
-            End::WriteFault => 6,
-            End::ProofFault => 7,
-            End::Room(_) => 8,
-            End::Memory => 9,
+            CallEnd::Satisfiable(_) => 10,
+            CallEnd::Unsatisfiable => 20,
+            CallEnd::Unknown => 0,
+            CallEnd::Usage => 1,
+            CallEnd::BadInput { .. } => 2,
+            CallEnd::CannotOpen => 3,
+            CallEnd::CannotCreate => 4,
+            CallEnd::ReadFault => 5,
+            CallEnd::WriteFault => 6,
+            CallEnd::ProofFault => 7,
+            CallEnd::Room(_) => 8,
+            CallEnd::Memory => 9,
         }
     }
 }
 
 /// A number for each ring, in the order of the rings.
 #[derive(Drop)]
-pub struct Numbers {
+pub struct RingNumbers {
     numbers: Vec<u64>,
 }
 
-impl Model for Numbers {
+impl Model for RingNumbers {
     ghost use Rattle.std.specs.Prelude.{List, ℕ};
 
     ghost Value = { List ℕ };
@@ -93,21 +93,21 @@ impl Model for Numbers {
     ghost view = { λ n. n.numbers.items };
 }
 
-impl Numbers {
+impl RingNumbers {
     /// No number, and no memory taken.
-    pub fn new(alloc: Global) -> Numbers
+    pub fn new(alloc: Global) -> RingNumbers
         ensures { result ≡ [] }
     {
-        Numbers {
+        RingNumbers {
             numbers: Vec::new(alloc),
         }
     }
 
     /// A zero for each of the rings.
-    pub fn zeros(alloc: Global, rings: u32) -> Result<Numbers, AllocError>
+    pub fn zeros(alloc: Global, rings: u32) -> Result<RingNumbers, AllocError>
         ensures { IfOk result (λ numbers. numbers ≡ replicate rings 0) }
     {
-        Ok(Numbers {
+        Ok(RingNumbers {
             numbers: vec![in alloc; 0; rings as usize]?,
         })
     }
@@ -132,15 +132,16 @@ impl Numbers {
 #[derive(Drop)]
 pub struct Tally {
     /// How many lemmas each ring learned.
-    pub learned: Numbers,
+    pub learned: RingNumbers,
     /// How many clauses each ring put into the slots of others.
-    pub offered: Numbers,
+    pub offered: RingNumbers,
     /// How many of its lemmas each ring offered.
-    pub exported: Numbers,
-    /// How much was needed if there was no room: how many words for a clause, or of a line more than may stand the number of
-    /// lines with it. Else 0.
+    pub exported: RingNumbers,
+    /// If there was no room: the number of words that a clause needs, or the number of lines with the one that is too many.
+    /// Else 0.
     pub need: u64,
-    /// How much there is in one piece if there was no room: of words, or of lines how many may stand. Else 0.
+    /// If there was no room: the number of words in the longest free piece, or the number of lines that a proof may have.
+    /// Else 0.
     pub largest: u64,
     /// The number of the code of the input's first bad place, from 1, if the input was refused, else 0.
     pub code: u8,
@@ -149,14 +150,14 @@ pub struct Tally {
 }
 
 impl Tally {
-    /// That of a call whose rings haven't started. It takes no memory.
+    /// The tally of a call whose rings haven't started. It takes no memory.
     pub fn new(alloc: Global) -> Tally
         ensures { result ≡ no_tally }
     {
         Tally {
-            learned: Numbers::new(alloc),
-            offered: Numbers::new(alloc),
-            exported: Numbers::new(alloc),
+            learned: RingNumbers::new(alloc),
+            offered: RingNumbers::new(alloc),
+            exported: RingNumbers::new(alloc),
             need: 0,
             largest: 0,
             code: 0,
@@ -164,14 +165,14 @@ impl Tally {
         }
     }
 
-    /// That of a call whose rings start.
+    /// The tally of a call whose rings start.
     pub fn with_rings(alloc: Global, rings: u32) -> Result<Tally, AllocError>
         ensures { IfOk result (λ tally. tally ≡ zero_tally rings) }
     {
         Ok(Tally {
-            learned: Numbers::zeros(alloc, rings)?,
-            offered: Numbers::zeros(alloc, rings)?,
-            exported: Numbers::zeros(alloc, rings)?,
+            learned: RingNumbers::zeros(alloc, rings)?,
+            offered: RingNumbers::zeros(alloc, rings)?,
+            exported: RingNumbers::zeros(alloc, rings)?,
             need: 0,
             largest: 0,
             code: 0,
@@ -192,16 +193,16 @@ impl Tally {
         }
     }
 
-    /// Takes the numbers of an end that has some: of a bad place, or of what there was no room for.
-    pub fn note(&mut self, end: &End)
+    /// Takes the numbers of an end that has some: those of a bad place, or of the room that was missing.
+    pub fn note(&mut self, end: &CallEnd)
         ensures { self.new ≡ noted end.now self.old }
     {
         match end {
-            End::BadInput { code, line } => {
+            CallEnd::BadInput { code, line } => {
                 self.code = code.number();
                 self.line = *line;
             }
-            End::Room(lack) => {
+            CallEnd::Room(lack) => {
                 self.need = lack.need;
                 self.largest = lack.largest;
             }

@@ -1,19 +1,21 @@
 // The top call.
-ghost use Rattle.std.specs.Prelude.{◌≡◌, ◌≤◌, ◌⊎◌, Bool, true, false, ℕ, Some, None, map, string_bytes, option_copied, option_map, is_some, IfOk, OnOk, OnErr, IfSome, IsSome, IsSomeAnd};
+ghost use Rattle.std.specs.Prelude.{◌≡◌, ◌≤◌, ◌⊎◌, Bool, true, false, ℕ, Some, None, map, string_bytes, option_copied, option_map, option_and_then, is_some, IfOk, OnOk, OnErr, IfSome, IsSome, IsSomeAnd};
 ghost use Rattle.io_edge.specs.Causes.{HasCause};
 ghost use Rattle.io_edge.specs.Paths.{IsEmptyWhereTold, IsThere};
 ghost use Rattle.top_call.specs.Words.{asked_by, command_of, file_path, make_number, proof_path};
 ghost use Rattle.top_call.specs.Planned.{plan_of, search_of, IsInRange};
-ghost use Rattle.top_call.specs.Run.{target_in, text_left, source_in, writer_of, IsOpened};
+ghost use Rattle.dimacs_read.specs.Answer.{IsReadNoFurther};
+ghost use Rattle.top_call.specs.Run.{target_in, text_left, source_in, writer_of, faults_between, output_between, IsOpened, IsFileRead};
 ghost use Rattle.top_call.specs.Outcome.{IsCall, IsRun};
 ghost use Rattle.top_call.specs.Tallied.{no_tally};
 ghost use Rattle.top_call.specs.Ends.{status_of, model_of, prints_at, leaves_input_at, leaves_files_at};
 ghost use Rattle.top_call.specs.Statuses.{Statuses};
+ghost use Rattle.top_call.specs.Promise.{Promise};
 
 use crate::decide::{Decided, decide_made, decide_over};
 use crate::message::put_message;
-use crate::plan::{Plan, rounds_of};
-use crate::report::{End, Report, Tally};
+use crate::plan::{CallPlan, rounds_of};
+use crate::report::{CallEnd, Report, Tally};
 use crate::words::{Command, parse};
 use dimacs_read::read_or_bad;
 use io_edge::{Failed, Files, Sink, Source};
@@ -22,9 +24,9 @@ use std::alloc::Global;
 use std::sync::Wait;
 use std::thread::Threads;
 
-// How a call ended, with the input and the proof's writer that it made.
-struct Ended<R, W> {
-    end: End,
+// How a call ended, with the reader of the file that it opened and the writer of the proof that it created.
+struct EndedCall<R, W> {
+    end: CallEnd,
     file: Option<R>,
     proof: Option<W>,
     tally: Tally,
@@ -62,7 +64,8 @@ fn create<F: Files>(files: &mut F, path: Option<&str>) -> Result<F::Writer, Fail
     }
 }
 
-/// Decides what the file has, or if there is none what standard input has.
+/// Decides the formula of the file, or of standard input if there is no file.
+#[tactic(auto, using(dimacs_read::proofs::Taken::unread))]
 fn decide_read<
     H: Threads + Wait + Sync,
     R: Source,
@@ -75,12 +78,12 @@ fn decide_read<
     alloc: Global,
     file: Option<R>,
     input: &mut I,
-    plan: &Plan,
+    plan: &CallPlan,
     proof: W,
     out: &mut O,
     tally: Tally,
     gate: &G,
-) -> Ended<R, W>
+) -> EndedCall<R, W>
     requires ranges { IsInRange plan.now.search }
     requires unmade { plan.now.make ≡ None }
     requires fresh { IfSome file (λ reader. R.faults reader ≡ 0) }
@@ -90,20 +93,17 @@ fn decide_read<
     ensures outcome { IsRun result.end result.tally (record {
       plan = plan.now;
       text = text_left R.left file (I.left input.old);
-      source = source_in (record { before = I.faults input.old; after = I.faults input.new }) (option_map R.faults result.file);
+      source = source_in (faults_between I.faults input.old input.new) (option_map R.faults result.file);
       proof = writer_of W.faults W.written W.flushed result.proof;
-      out = record {
-        faults = record { before = O.faults out.old; after = O.faults out.new };
-        before = O.written out.old;
-        after = O.written out.new;
-        flushed = O.flushed out.new;
-      };
+      out = output_between O.faults O.written O.flushed out.old out.new;
     }) }
     ensures file { is_some result.file ≡ is_some file }
     ensures proof { is_some result.proof ≡ true }
     ensures target { IfSome result.proof (λ writer. W.target writer ≡ W.target proof) }
     ensures unprinted { prints_at (status_of result.end) ≡ false → out.new ≡ out.old }
     ensures unread { is_some file ≡ true → input.new ≡ input.old }
+    ensures input_rest { IsReadNoFurther (I.left input.old) (I.left input.new) }
+    ensures file_rest { IfSome result.file (λ reader. IsReadNoFurther (text_left R.left file (I.left input.old)) (R.left reader)) }
     ensures ends { leaves_input_at (status_of result.end) ≡ false }
     ensures opened { leaves_files_at (status_of result.end) true ≡ false }
 {
@@ -121,7 +121,7 @@ fn decide_read<
                 &mut tally,
                 gate,
             );
-            Ended {
+            EndedCall {
                 end,
                 file: Some(reader),
                 proof: Some(proof),
@@ -132,7 +132,7 @@ fn decide_read<
             let Decided { end, proof } = decide_over(
                 rt, alloc, input, plan, proof, out, &mut tally, gate,
             );
-            Ended {
+            EndedCall {
                 end,
                 file: None,
                 proof: Some(proof),
@@ -142,18 +142,19 @@ fn decide_read<
     }
 }
 
-/// Decides the formula that is made, or what the file has, or if there is none what standard input has.
+/// Decides the formula that is made, or that of the file, or of standard input if there is no file.
+#[tactic(auto, using(dimacs_read::proofs::Taken::unread))]
 fn decide<H: Threads + Wait + Sync, R: Source, I: Source, W: Sink + Send, O: Sink, G: Gate + Sync>(
     rt: &H,
     alloc: Global,
     file: Option<R>,
     input: &mut I,
-    plan: &Plan,
+    plan: &CallPlan,
     proof: W,
     out: &mut O,
     tally: Tally,
     gate: &G,
-) -> Ended<R, W>
+) -> EndedCall<R, W>
     requires ranges { IsInRange plan.now.search }
     requires fresh { IfSome file (λ reader. R.faults reader ≡ 0) }
     requires empty { IsEmptyWhereTold (W.written proof) }
@@ -162,14 +163,9 @@ fn decide<H: Threads + Wait + Sync, R: Source, I: Source, W: Sink + Send, O: Sin
     ensures outcome { IsRun result.end result.tally (record {
       plan = plan.now;
       text = text_left R.left file (I.left input.old);
-      source = source_in (record { before = I.faults input.old; after = I.faults input.new }) (option_map R.faults result.file);
+      source = source_in (faults_between I.faults input.old input.new) (option_map R.faults result.file);
       proof = writer_of W.faults W.written W.flushed result.proof;
-      out = record {
-        faults = record { before = O.faults out.old; after = O.faults out.new };
-        before = O.written out.old;
-        after = O.written out.new;
-        flushed = O.flushed out.new;
-      };
+      out = output_between O.faults O.written O.flushed out.old out.new;
     }) }
     ensures file { is_some result.file ≡ is_some file }
     ensures proof { is_some result.proof ≡ true }
@@ -177,6 +173,8 @@ fn decide<H: Threads + Wait + Sync, R: Source, I: Source, W: Sink + Send, O: Sin
     ensures unprinted { prints_at (status_of result.end) ≡ false → out.new ≡ out.old }
     ensures unread { is_some file ≡ true → input.new ≡ input.old }
     ensures made { is_some plan.now.make ≡ true → input.new ≡ input.old }
+    ensures input_rest { IsReadNoFurther (I.left input.old) (I.left input.new) }
+    ensures file_rest { IfSome result.file (λ reader. IsReadNoFurther (text_left R.left file (I.left input.old)) (R.left reader)) }
     ensures ends { leaves_input_at (status_of result.end) ≡ false }
     ensures opened { leaves_files_at (status_of result.end) true ≡ false }
 {
@@ -187,7 +185,7 @@ fn decide<H: Threads + Wait + Sync, R: Source, I: Source, W: Sink + Send, O: Sin
             let Decided { end, proof } = decide_made(
                 rt, alloc, number, plan, proof, out, &mut tally, gate,
             );
-            Ended {
+            EndedCall {
                 end,
                 file,
                 proof: Some(proof),
@@ -197,8 +195,8 @@ fn decide<H: Threads + Wait + Sync, R: Source, I: Source, W: Sink + Send, O: Sin
     }
 }
 
-/// How the words ask that a formula is decided.
-fn plan_in(command: &Command<'_>) -> Plan
+/// How the arguments ask that a formula is decided.
+fn plan_in(command: &Command<'_>) -> CallPlan
     ensures { result ≡ record { search = search_of (asked_by command.now); make = command.now.make } }
 {
     let search = portfolio_run::Plan {
@@ -209,12 +207,13 @@ fn plan_in(command: &Command<'_>) -> Plan
         rounds: rounds_of(command.no_simplify),
         keep_lines: command.check,
     };
-    Plan {
+    CallPlan {
         search,
         make: command.make,
     }
 }
 
+#[tactic(auto, using(dimacs_read::proofs::Taken::unread))]
 fn run<H: Threads + Wait + Sync, F: Files, I: Source, O: Sink, G: Gate + Sync>(
     rt: &H,
     alloc: Global,
@@ -223,21 +222,16 @@ fn run<H: Threads + Wait + Sync, F: Files, I: Source, O: Sink, G: Gate + Sync>(
     input: &mut I,
     out: &mut O,
     gate: &G,
-) -> Ended<F::Reader, F::Writer>
+) -> EndedCall<F::Reader, F::Writer>
     ensures outcome { IsCall result.end result.tally (record {
       words = map string_bytes words.now;
       contents = F.contents files.old;
-      files = record { before = F.faults files.old; after = F.faults files.new };
+      files = faults_between F.faults files.old files.new;
       left = I.left input.old;
-      input = record { before = I.faults input.old; after = I.faults input.new };
+      input = faults_between I.faults input.old input.new;
       file = option_map F.Reader.faults result.file;
       proof = writer_of F.Writer.faults F.Writer.written F.Writer.flushed result.proof;
-      out = record {
-        faults = record { before = O.faults out.old; after = O.faults out.new };
-        before = O.written out.old;
-        after = O.written out.new;
-        flushed = O.flushed out.new;
-      };
+      out = output_between O.faults O.written O.flushed out.old out.new;
     }) }
     ensures target { IfSome result.proof (λ writer. F.Writer.target writer ≡ target_in (F.contents files.old) (proof_path (command_of (map string_bytes words.now)))) }
     ensures unprinted { prints_at (status_of result.end) ≡ false → out.new ≡ out.old }
@@ -245,6 +239,9 @@ fn run<H: Threads + Wait + Sync, F: Files, I: Source, O: Sink, G: Gate + Sync>(
     ensures idle { result.proof ≡ None → input.new ≡ input.old }
     ensures file_alone { is_some (file_path (command_of (map string_bytes words.now))) ≡ true → input.new ≡ input.old }
     ensures made_alone { is_some (make_number (command_of (map string_bytes words.now))) ≡ true → input.new ≡ input.old }
+    ensures input_rest { IsReadNoFurther (I.left input.old) (I.left input.new) }
+    ensures file_rest { IsFileRead F.Reader.left (F.contents files.old) (file_path (command_of (map string_bytes words.now))) result.file }
+    ensures file_unread { status_of result.end ≡ 4 → IsOpened F.Reader.left F.Reader.faults (F.contents files.old) (file_path (command_of (map string_bytes words.now))) result.file }
     ensures contents { F.contents files.new ≡ F.contents files.old }
     ensures unopened { leaves_files_at (status_of result.end) (is_some result.proof) ≡ true → files.new ≡ files.old }
 {
@@ -252,7 +249,7 @@ fn run<H: Threads + Wait + Sync, F: Files, I: Source, O: Sink, G: Gate + Sync>(
     let command = match parse(alloc, words) {
         Ok(command) => command,
         Err(end) => {
-            return Ended {
+            return EndedCall {
                 end,
                 file: None,
                 proof: None,
@@ -263,8 +260,8 @@ fn run<H: Threads + Wait + Sync, F: Files, I: Source, O: Sink, G: Gate + Sync>(
     let file = match open(files, command.file) {
         Ok(file) => file,
         Err(Failed) => {
-            return Ended {
-                end: End::CannotOpen,
+            return EndedCall {
+                end: CallEnd::CannotOpen,
                 file: None,
                 proof: None,
                 tally,
@@ -283,8 +280,8 @@ fn run<H: Threads + Wait + Sync, F: Files, I: Source, O: Sink, G: Gate + Sync>(
             tally,
             gate,
         ),
-        Err(Failed) => Ended {
-            end: End::CannotCreate,
+        Err(Failed) => EndedCall {
+            end: CallEnd::CannotCreate,
             file,
             proof: None,
             tally,
@@ -292,14 +289,14 @@ fn run<H: Threads + Wait + Sync, F: Files, I: Source, O: Sink, G: Gate + Sync>(
     }
 }
 
-fn report_of<R, W>(ended: Ended<R, W>) -> Report<R, W>
+fn report_of<R, W>(ended: EndedCall<R, W>) -> Report<R, W>
     ensures status { result.status ≡ status_of ended.end }
     ensures model { result.model ≡ model_of ended.end }
     ensures file { result.file ≡ ended.file }
     ensures proof { result.proof ≡ ended.proof }
     ensures tally { result.tally ≡ ended.tally }
 {
-    let Ended {
+    let EndedCall {
         end,
         file,
         proof,
@@ -307,7 +304,7 @@ fn report_of<R, W>(ended: Ended<R, W>) -> Report<R, W>
     } = ended;
     let status = end.status();
     let model = match end {
-        End::Satisfiable(model) => Some(model),
+        CallEnd::Satisfiable(model) => Some(model),
         _ => None,
     };
     Report {
@@ -319,13 +316,16 @@ fn report_of<R, W>(ended: Ended<R, W>) -> Report<R, W>
     }
 }
 
-/// All that the program does: reads the words and the input, searches, writes the proof and the answer, and reports. The rings
-/// search on threads of their own, and pass the gate now and then; a call that waits for the log's turn keeps its promise if it
-/// returns.
+/// All that the program does: reads the arguments and the input, searches, writes the proof and the answer, and reports. The
+/// rings search on threads of their own, and pass the gate now and then. A ring waits for its turn at the log, so the clauses
+/// hold if the call returns.
 ///
-/// `words` are the arguments without the program's name. The input is FILE if it is given, and standard input is then
-/// left alone, as if the formula is made. A fault of `err` changes nothing. The first refusal that is met decides, and nothing after it is begun,
-/// except that a proof that was created is always flushed as far as it goes.
+/// `words` are the arguments without the program's name. The input is FILE if it is given. Standard input is left alone then,
+/// and if the formula is made. A fault of `err` changes nothing. The first refusal that is met decides, and nothing after it
+/// is begun, except that a proof that was created is always flushed.
+///
+/// `promise` is the short form of what the answers 10 and 20 mean. `headline` says it of each status, of formulas that are
+/// made, and of what is printed.
 pub fn gimsatul<H: Threads + Wait + Sync, F: Files, I: Source, O: Sink, E: Sink, G: Gate + Sync>(
     rt: &H,
     alloc: Global,
@@ -339,28 +339,27 @@ pub fn gimsatul<H: Threads + Wait + Sync, F: Files, I: Source, O: Sink, E: Sink,
     ensures headline { Statuses (record {
       words = map string_bytes words.now;
       contents = F.contents files.old;
-      files = record { before = F.faults files.old; after = F.faults files.new };
+      files = faults_between F.faults files.old files.new;
       left = I.left input.old;
-      input = record { before = I.faults input.old; after = I.faults input.new };
+      input = faults_between I.faults input.old input.new;
       file = option_map F.Reader.faults result.file;
       proof = writer_of F.Writer.faults F.Writer.written F.Writer.flushed result.proof;
-      out = record {
-        faults = record { before = O.faults out.old; after = O.faults out.new };
-        before = O.written out.old;
-        after = O.written out.new;
-        flushed = O.flushed out.new;
-      };
+      out = output_between O.faults O.written O.flushed out.old out.new;
     }) result.status result.model result.tally }
+    ensures promise { Promise (map string_bytes words.now) (F.contents files.old) (I.left input.old) (option_and_then F.Writer.written result.proof) result.status result.model }
     ensures target { IfSome result.proof (λ writer. F.Writer.target writer ≡ target_in (F.contents files.old) (proof_path (command_of (map string_bytes words.now)))) }
     ensures unprinted { prints_at result.status ≡ false → out.new ≡ out.old }
     ensures unread { leaves_input_at result.status ≡ true → input.new ≡ input.old }
     ensures idle { result.proof ≡ None → input.new ≡ input.old }
     ensures file_alone { is_some (file_path (command_of (map string_bytes words.now))) ≡ true → input.new ≡ input.old }
     ensures made_alone { is_some (make_number (command_of (map string_bytes words.now))) ≡ true → input.new ≡ input.old }
+    ensures input_rest { IsReadNoFurther (I.left input.old) (I.left input.new) }
+    ensures file_rest { IsFileRead F.Reader.left (F.contents files.old) (file_path (command_of (map string_bytes words.now))) result.file }
+    ensures file_unread { result.status ≡ 4 → IsOpened F.Reader.left F.Reader.faults (F.contents files.old) (file_path (command_of (map string_bytes words.now))) result.file }
     ensures contents { F.contents files.new ≡ F.contents files.old }
     ensures unopened { leaves_files_at result.status (is_some result.proof) ≡ true → files.new ≡ files.old }
 {
-    // A text that spells a formula has no bad place, so if the call must answer it does not refuse the input.
+    // A text that spells a formula has no bad place, so a call that must answer does not refuse the input.
     read_or_bad();
     let ended = run(rt, alloc, words, files, input, out, gate);
     let _ = put_message(err, &ended.end);

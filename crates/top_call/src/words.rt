@@ -1,4 +1,4 @@
-// The words of the command line.
+// The arguments of the command line.
 ghost use Rattle.std.specs.Prelude.{◌≡◌, ◌≤◌, ◌^◌, ◌↔◌, false, map, string_bytes, IfOk, IfErr, IsErrOf, Some, None};
 ghost use Rattle.clap.specs.Words.{app_of, found_of, rows_of, rule_of};
 ghost use Rattle.clap.specs.declared.error.kind.ErrorKind.TheVariants.{OutOfMemory};
@@ -6,7 +6,7 @@ ghost use Rattle.top_call.specs.Ends.{IsWordsEnd};
 ghost use Rattle.top_call.specs.Planned.{IsInRange, search_of};
 ghost use Rattle.top_call.specs.Words.{HasThreads, HasLimit, HasWords, HasSeed, HasMade, asked_by, command_in, command_of, unless_both, solver_app, conflicts_rule, threads_rule, words_rule, seed_rule, proof_rule, no_simplify_rule, check_rule, make_rule, file_rule};
 
-use crate::report::End;
+use crate::report::CallEnd;
 use clap::builder::ValueParser;
 use clap::error::ErrorKind;
 use clap::{Arg, ArgAction, ArgMatches};
@@ -30,7 +30,7 @@ const MOST_SEED: u64 = (1 << 63) - 1;
 /// The greatest number of a formula that can be made.
 const MOST_MADE: u64 = (1 << 63) - 1;
 
-/// What the words ask for.
+/// What the arguments ask for.
 #[derive(Clone, Copy)]
 pub struct Command<'a> {
     /// How many rings search.
@@ -41,7 +41,7 @@ pub struct Command<'a> {
     pub words: u64,
     /// What the rings' first phases are made of.
     pub seed: u64,
-    /// Whether nothing is simplified but units.
+    /// Whether only units are propagated, and nothing else is simplified.
     pub no_simplify: bool,
     /// Where the proof goes, if it is wanted.
     pub proof: Option<&'a str>,
@@ -167,7 +167,7 @@ fn threads_in(matches: &ArgMatches<'_>) -> u32
 {
     match matches.get_one::<u64>("threads") {
         Some(number) => number as u32,
-        // `HasThreads`: if the word is left out its default stands
+        // `HasThreads`: if the option is left out its default stands
         None => unreachable!(),
     }
 }
@@ -180,7 +180,7 @@ fn words_in(matches: &ArgMatches<'_>) -> u64
 {
     match matches.get_one::<u64>("words") {
         Some(number) => number,
-        // `HasWords`: if the word is left out its default stands
+        // `HasWords`: if the option is left out its default stands
         None => unreachable!(),
     }
 }
@@ -193,7 +193,7 @@ fn conflicts_in(matches: &ArgMatches<'_>) -> u64
 {
     match matches.get_one::<u64>("conflicts") {
         Some(number) => number,
-        // `HasLimit`: if the word is left out its default stands
+        // `HasLimit`: if the option is left out its default stands
         None => unreachable!(),
     }
 }
@@ -205,12 +205,12 @@ fn seed_in(matches: &ArgMatches<'_>) -> u64
 {
     match matches.get_one::<u64>("seed") {
         Some(number) => number,
-        // `HasSeed`: if the word is left out its default stands
+        // `HasSeed`: if the option is left out its default stands
         None => unreachable!(),
     }
 }
 
-/// Whether nothing is simplified but units.
+/// Whether only units are propagated, and nothing else is simplified.
 fn no_simplify_in(matches: &ArgMatches<'_>) -> bool
     ensures { result ≡ (command_in (rows_of (found_of matches.now))).no_simplify }
 {
@@ -264,40 +264,40 @@ fn command_in<'a>(matches: &ArgMatches<'a>) -> Command<'a>
     }
 }
 
-fn end_of_kind(kind: ErrorKind) -> End
-    ensures memory { (result ≡ End.Memory) ↔ (kind ≡ OutOfMemory) }
+fn end_of_kind(kind: ErrorKind) -> CallEnd
+    ensures memory { (result ≡ CallEnd.Memory) ↔ (kind ≡ OutOfMemory) }
     ensures ends { IsWordsEnd result }
 {
     match kind {
-        ErrorKind::OutOfMemory => End::Memory,
-        _ => End::Usage,
+        ErrorKind::OutOfMemory => CallEnd::Memory,
+        _ => CallEnd::Usage,
     }
 }
 
 /// A formula is made or read from a file, and not both.
-fn unless_both(command: Command<'_>) -> Result<Command<'_>, End>
+fn unless_both(command: Command<'_>) -> Result<Command<'_>, CallEnd>
     ensures asks { IfOk result (λ taken. unless_both (asked_by command.entry) ≡ Some (asked_by taken)) }
     ensures ranges { IsInRange (search_of (asked_by command.entry)) → IfOk result (λ taken. IsInRange (search_of (asked_by taken))) }
     ensures usage { IfErr result (λ end. unless_both (asked_by command.entry) ≡ None) }
-    ensures ends { IfErr result (λ end. end ≡ End.Usage) }
+    ensures ends { IfErr result (λ end. end ≡ CallEnd.Usage) }
 {
     if command.make.is_some() && command.file.is_some() {
-        return Err(End::Usage);
+        return Err(CallEnd::Usage);
     }
     Ok(command)
 }
 
-/// Reads the words, without the program's name. They are refused exactly if `clap` refuses them, and where `--make`
-/// stands with FILE.
-pub fn parse<'a>(alloc: Global, words: &'a [String]) -> Result<Command<'a>, End>
+/// Reads the arguments, without the program's name. They are refused exactly if `clap` refuses them, or `--make` stands with
+/// FILE.
+pub fn parse<'a>(alloc: Global, words: &'a [String]) -> Result<Command<'a>, CallEnd>
     ensures asks { IfOk result (λ command. command_of (map string_bytes words.entry.now) ≡ Some (asked_by command)) }
     ensures ranges { IfOk result (λ command. IsInRange (search_of (asked_by command))) }
-    ensures usage { IsErrOf result End.Usage → command_of (map string_bytes words.entry.now) ≡ None }
+    ensures usage { IsErrOf result CallEnd.Usage → command_of (map string_bytes words.entry.now) ≡ None }
     ensures ends { IfErr result IsWordsEnd }
 {
     let command = match solver(alloc) {
         Ok(command) => command,
-        Err(_) => return Err(End::Memory),
+        Err(_) => return Err(CallEnd::Memory),
     };
     match command.try_get_matches_from(words) {
         Ok(matches) => unless_both(command_in(&matches)),

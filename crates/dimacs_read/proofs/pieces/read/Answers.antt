@@ -1,5 +1,5 @@
 use Rattle.std.proofs.Common.{◌-◌, ◌^◌, arith, rules, take, get_or}
-use Rattle.dimacs_read.proofs.Taken.{room_for, is_open, stopped, past, split_take, take_length, took_more}
+use Rattle.dimacs_read.proofs.Taken.{room_for, is_open, stopped, past, split_take, take_length, took_more, no_further, a_piece_further}
 use Rattle.dimacs_read.proofs.pieces.read.Goals as goal
 
 pub returns-in-Err-clause-answer : goal.returns-in-Err-clause-answer
@@ -53,3 +53,23 @@ loop-reader-preserved g c =
           c.in-Ok.count (take c.in-Ok.count c.read.new.buf) has c.in-Ok.ensures.bytes.0 c.in_default.ensures.ok c.in-Ok.ensures.bound.1 (omega (arith, c.if-count-room.false, has.few));
       still = search rules;
     }
+
+pub returns-in-Err-clause-rest : goal.returns-in-Err-clause-rest
+returns-in-Err-clause-rest g c =
+    rw c.in-Err.ensures.bytes
+    (no_further (g.S.Source.left c.args.source.now) (g.S.Source.left c.loop-reader.source) c.loop-reader.reader c.loop-reader.taken c.loop-reader.invariant.read)
+
+pub returns-in-Ok-eq0-clause-rest : goal.returns-in-Ok-eq0-clause-rest
+returns-in-Ok-eq0-clause-rest g c =
+    a_piece_further (g.S.Source.left c.args.source.now) (g.S.Source.left c.loop-reader.source) (g.S.Source.left c.read.new.self) c.loop-reader.reader c.loop-reader.taken
+    c.in-Ok-eq0.field-0 _ c.loop-reader.invariant.read c.in-Ok-eq0.ensures.bytes.0 c.in-Ok-eq0.ensures.bound.1 (omega (arith, c.in-Ok-eq0.field-0-is))
+
+pub returns-then-count-room-clause-rest : goal.returns-then-count-room-clause-rest
+returns-then-count-room-clause-rest g c =
+    a_piece_further (g.S.Source.left c.args.source.now) (g.S.Source.left c.loop-reader.source) (g.S.Source.left c.read.new.self) c.loop-reader.reader c.loop-reader.taken
+    c.in-Ok.count _ c.loop-reader.invariant.read c.in-Ok.ensures.bytes.0 c.in-Ok.ensures.bound.1 (omega (arith, c.in-Ok.ensures.bound, c.read.auto.buf))
+
+pub returns-in-Err-take_bytes-clause-rest : goal.returns-in-Err-take_bytes-clause-rest
+returns-in-Err-take_bytes-clause-rest g c =
+    a_piece_further (g.S.Source.left c.args.source.now) (g.S.Source.left c.loop-reader.source) (g.S.Source.left c.read.new.self) c.loop-reader.reader c.loop-reader.taken
+    c.in-Ok.count _ c.loop-reader.invariant.read c.in-Ok.ensures.bytes.0 c.in-Ok.ensures.bound.1 (omega (arith, c.in-Ok.ensures.bound, c.read.auto.buf))

@@ -3,7 +3,7 @@ use Rattle.top_call.proofs.Finishes.{no_formula}
 use Rattle.top_call.specs.Words.{file_path}
 use Rattle.top_call.specs.Planned.{plan_of}
 use Rattle.top_call.specs.Run.{text_in}
-use Rattle.top_call.proofs.Lawful.{asked_proof, asked_file, has_file, same_there, file_there, text_same, input_cases, is_call, rose_behind, words_stopped}
+use Rattle.top_call.proofs.Lawful.{asked_proof, asked_file, has_file, same_there, file_there, text_same, input_cases, is_call, rose_behind, words_stopped, none_read, call_opened, opened_read, call_read, words_status, run_status}
 use Rattle.top_call.proofs.top.run.Goals as goal
 
 pub returns-in-Err-clause-outcome : goal.returns-in-Err-clause-outcome
@@ -46,3 +46,29 @@ returns-in-Ok-create-clause-outcome g c =
     })
     (c.in-Ok-create.ensures.cause.quiet ∙ c.in-Ok-open.ensures.cause.quiet)
     (input_cases g.F.Reader.Source.faults c.decide.result.file c.in-Ok-open.file c.decide.ensures.file (λ some. ap g.I.Source.faults (c.decide.ensures.unread some)))
+
+pub returns-in-Err-clause-file_rest : goal.returns-in-Err-clause-file_rest
+returns-in-Err-clause-file_rest g c = none_read g.F.Reader.Source.left g.F.Reader.Source.faults (g.F.Files.contents c.args.files.now) _
+
+pub returns-in-Err-clause-file_unread : goal.returns-in-Err-clause-file_unread
+returns-in-Err-clause-file_unread g c = λ e. absurd (words_status c.in-Err.end c.in-Err.ensures.ends e)
+
+pub returns-in-Err-open-clause-file_rest : goal.returns-in-Err-open-clause-file_rest
+returns-in-Err-open-clause-file_rest g c = none_read g.F.Reader.Source.left g.F.Reader.Source.faults (g.F.Files.contents c.args.files.now) _
+
+pub returns-in-Err-create-clause-file_rest : goal.returns-in-Err-create-clause-file_rest
+returns-in-Err-create-clause-file_rest g c =
+    opened_read g.F.Reader.Source.left g.F.Reader.Source.faults (g.F.Files.contents c.args.files.now) _ c.in-Ok-open.file
+    (call_opened g.F.Reader.Source.left g.F.Reader.Source.faults (g.F.Files.contents c.args.files.now) _ _ c.in-Ok-open.file c.in-Ok.ensures.asks c.in-Ok-open.ensures.opened)
+
+pub returns-in-Err-create-clause-file_unread : goal.returns-in-Err-create-clause-file_unread
+returns-in-Err-create-clause-file_unread g c = λ e.
+    call_opened g.F.Reader.Source.left g.F.Reader.Source.faults (g.F.Files.contents c.args.files.now) _ _ c.in-Ok-open.file c.in-Ok.ensures.asks c.in-Ok-open.ensures.opened
+
+pub returns-in-Ok-create-clause-file_rest : goal.returns-in-Ok-create-clause-file_rest
+returns-in-Ok-create-clause-file_rest g c =
+    call_read g.F.Reader.Source.left g.F.Reader.Source.faults (g.F.Files.contents c.args.files.now) (g.I.Source.left c.args.input.now) _ _ c.in-Ok-open.file c.decide.result.file
+    c.in-Ok.ensures.asks c.in-Ok-open.ensures.opened c.decide.ensures.file c.decide.ensures.file_rest
+
+pub returns-in-Ok-create-clause-file_unread : goal.returns-in-Ok-create-clause-file_unread
+returns-in-Ok-create-clause-file_unread g c = λ e. absurd (run_status _ c.decide.ensures.ends e)

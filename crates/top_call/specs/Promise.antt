@@ -1,0 +1,45 @@
+-- What the program promises of a formula that it reads, in short: at status 10 a model, at status 20 a proof. It follows from what
+-- `Statuses` says, which has all statuses, the formulas that are made (`--make`), and what is printed.
+use Rattle.std.specs.Prelude.{◌≡◌, ℕ, List, Bool, true, Some, None, IfSome, IsSomeAnd}
+use Rattle.std.specs.declared.option.Option.{Option}
+use Rattle.sat_words.specs.Truth.{formula_true}
+use Rattle.sat_words.specs.FormulaData.{FormulaData}
+use Rattle.sat_words.specs.declared.line.Line.{Line}
+use Rattle.rup_model.specs.Log.{Refutes}
+use Rattle.drat_text.specs.Text.{text}
+use Rattle.dimacs_read.specs.Input.{Reads}
+use Rattle.io_edge.specs.Paths.{PathMap}
+use Rattle.top_call.specs.Words.{command_of, file_path, make_number}
+use Rattle.top_call.specs.Run.{text_in}
+
+-- the text, unless a formula is made: then none is read
+abbrev pub unless_made : Option ℕ → Option (List ℕ) → Option (List ℕ)
+unless_made None input = input
+unless_made (Some number) input = None
+
+-- the text of the formula that these words ask to read, if it is known: that of the file, or what standard input has left if no
+-- file is given
+abbrev pub asked_text : List (List ℕ) → Option PathMap → Option (List ℕ) → Option (List ℕ)
+asked_text words files input = unless_made (make_number (command_of words)) (text_in files input (file_path (command_of words)))
+
+-- the text spells a formula in DIMACS CNF, and the assignment makes each of its clauses true
+pub record HasModelOf (input : List ℕ) (model : List Bool) : Type 0 where
+  pub formula : FormulaData
+  pub spelled : Reads input formula
+  pub holds : formula_true model formula.clauses ≡ true
+
+-- the text spells a formula in DIMACS CNF that no assignment makes true. The bytes of the proof, if they are known, are a DRAT
+-- refutation of it: each line is valid where it stands, and the last one adds the empty clause.
+pub record HasProofOf (input : List ℕ) (proof : Option (List ℕ)) : Type 0 where
+  pub formula : FormulaData
+  pub spelled : Reads input formula
+  pub no_model : (model : List Bool) → formula_true model formula.clauses ≡ true → ⊥
+  pub lines : List Line
+  pub refutes : Refutes formula.clauses lines
+  pub written : IfSome proof (λ bytes. bytes ≡ text lines)
+
+-- if the text that the words ask to read is known: status 10 comes only with a model, in the report, of the formula that it spells,
+-- and status 20 only with a proof that the formula has none
+pub record Promise (words : List (List ℕ)) (files : Option PathMap) (input proof : Option (List ℕ)) (status : ℕ) (model : Option (List Bool)) : Type 0 where
+  pub satisfiable : status ≡ 10 → IfSome (asked_text words files input) (λ bytes. IsSomeAnd model (HasModelOf bytes))
+  pub unsatisfiable : status ≡ 20 → IfSome (asked_text words files input) (λ bytes. HasProofOf bytes proof)

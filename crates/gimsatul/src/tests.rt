@@ -797,7 +797,8 @@ fn six_pigeons_in_five_holes(rt: HostRuntime) -> Result<(), Fail> {
         status: 20,
         out: b"s UNSATISFIABLE\n",
         compares_proof: false,
-        learned: &[143],
+        learned: &[0],
+        compares_learned: false,
         ..PLAIN
     };
     check_row(&rt, row, 65536)
@@ -838,7 +839,8 @@ fn checked_logs(rt: HostRuntime) -> Result<(), Fail> {
             status: 20,
             out: b"c proof accepted\ns UNSATISFIABLE\n",
             compares_proof: false,
-            learned: &[143],
+            learned: &[0],
+            compares_learned: false,
             ..PLAIN
         },
         // Four rings, whose lines are of one log.

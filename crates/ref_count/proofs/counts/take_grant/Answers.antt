@@ -17,12 +17,12 @@ swap-requires g c =
     let same = ap (λ (o : CoreOpening). o.rings) seen.opening in
     let rings = seen.standing.rings in
     let size = ap table_words c.requires.pass.2 ∙ sym table.sized in
-    (c.requires.pass.0, rw c.grant.ensures (omega arith), rw c.grant.ensures (grants (StandsFor g.B.Ledger.account g.B.Ledger.stands) table.table.shared.key table.table.shared.table_id.slots pass.id pass.me c.args.ring c.requires.pass.1 c.requires.right))
+    (c.requires.pass.0, rw c.grant-grant.ensures (omega arith), rw c.grant-grant.ensures (grants (StandsFor g.B.Ledger.account g.B.Ledger.stands) table.table.shared.key table.table.shared.table_id.slots pass.id pass.me c.args.ring c.requires.pass.1 c.requires.right))
 
 pub returns-clause-pass : goal.returns-clause-pass
 returns-clause-pass g c =
     let e = c.swap.ensures in
-    let t = (e.2 c.args.ring refl).0 in
+    let t = (e.2 c.args.ring c.grant-grant.ensures).0 in
     let p = c.requires.pass in (
       (e.0 ∙ p.0, ap (λ (v : View). is_ready v.stage) t.1 ∙ p.1, ap (λ (v : View). v.layout) t.1 ∙ p.2, subst Seen (sym t.1) t.2),
       (e.1, t.0),

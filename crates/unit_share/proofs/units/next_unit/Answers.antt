@@ -22,8 +22,8 @@ load-listed-requires g c =
     let p = c.requires.pass in
     (p.0, omega arith, counts_it (StandsFor g.B.Ledger.account g.B.Ledger.stands) table.table.shared.key table.table.shared.table_id.slots c.args.pass.now.id c.args.pass.now.me p.1 c.requires.ring.0)
 
-pub overflow_add-table-2 : goal.overflow_add-table-2
-overflow_add-table-2 g c =
+pub unit-word-requires-clause-place : goal.unit-word-requires-clause-place
+unit-word-requires-clause-place g c =
     let p = c.requires.pass in
     let few = (seen_room c.args.pass.now.me.0 p.3 c.requires.ring.0).0 in
     let e = c.requires.ring.1 in
@@ -55,9 +55,9 @@ load-code-requires g c =
     let lt' : length (only (after_count n v)).core.seen < (only (after_count n v)).listed = subst (λ (q : RingPart). length q.core.seen < q.listed) (sym only_is) lt in
     let w_is : 3 + table.layout.rings + c.args.seen ≡ next_unit_at (after_count n v) = subst (λ (q : RingPart). 3 + table.layout.rings + c.args.seen ≡ unit_at v.layout (length q.core.seen)) (sym only_is) (omega arith) in (
       x.0 ∙ p.0,
-      omega arith,
-      sees_it (StandsFor g.B.Ledger.account g.B.Ledger.stands) table.table.shared.key table.table.shared.table_id.slots c.load-listed.new.seat.id me (3 + table.layout.rings + c.args.seen)
-          (ap (λ (u : View). is_ready u.stage) is ∙ p.1) (subst (λ (u : View). u.parts ≡ only u ∷ []) (sym is) one) (subst (λ (u : View). length (only u).core.seen < (only u).listed) (sym is) lt') (w_is ∙ ap next_unit_at (sym is)),
+      rw c.unit-word.ensures (omega arith),
+      rw c.unit-word.ensures (sees_it (StandsFor g.B.Ledger.account g.B.Ledger.stands) table.table.shared.key table.table.shared.table_id.slots c.load-listed.new.seat.id me (3 + table.layout.rings + c.args.seen)
+          (ap (λ (u : View). is_ready u.stage) is ∙ p.1) (subst (λ (u : View). u.parts ≡ only u ∷ []) (sym is) one) (subst (λ (u : View). length (only u).core.seen < (only u).listed) (sym is) lt') (w_is ∙ ap next_unit_at (sym is))),
     )
 
 -- the code that was read

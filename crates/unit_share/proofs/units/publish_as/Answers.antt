@@ -10,8 +10,8 @@ use Rattle.share_rule.specs.Units.{MayPublish, after_unit}
 use Rattle.share_rule.proofs.Listing.{units_it, lists_it, seen_room, publish_room, still}
 use Rattle.unit_share.proofs.units.publish_as.Goals as goal
 
-pub overflow_add-table-2 : goal.overflow_add-table-2
-overflow_add-table-2 g c =
+pub unit-word-requires-clause-place : goal.unit-word-requires-clause-place
+unit-word-requires-clause-place g c =
     let p = c.requires.pass in
     let u = c.requires.unit in
     let few = (seen_room c.args.pass.now.me.0 p.3 (u.1).writing.0).0 in
@@ -43,7 +43,7 @@ store-requires g c =
     let same = ap (λ (l : Layout). l.vars) p.2 in
     let rings = ap (λ (l : Layout). l.rings) p.2 in
     let vars = c.args.table.now.vars in
-    (p.0, omega arith, units_it (StandsFor g.B.Ledger.account g.B.Ledger.stands) table.table.shared.key table.table.shared.table_id.slots c.args.pass.now.id c.args.pass.now.me c.args.lit (3 + table.layout.rings + c.args.seen) c.code.result p.1 u.1 (omega arith))
+    (p.0, rw c.unit-word.ensures (omega arith), rw c.unit-word.ensures (units_it (StandsFor g.B.Ledger.account g.B.Ledger.stands) table.table.shared.key table.table.shared.table_id.slots c.args.pass.now.id c.args.pass.now.me c.args.lit (3 + table.layout.rings + c.args.seen) c.code.result p.1 u.1 (omega arith)))
 
 pub store-requires-2 : goal.store-requires-2
 store-requires-2 g c =

@@ -10,7 +10,7 @@ use Rattle.ring_run.specs.declared.ring.Ring.{Ring}
 use Rattle.ring_run.specs.declared.course.Next.TheVariants as course
 use Rattle.ring_run.proofs.Asserting.{lemma_asserts}
 use Rattle.ring_run.proofs.Behind.{BehindLemma, behind_end, behind_lemma, behind_memory, can_found}
-use Rattle.ring_run.proofs.lemma.learn_from.Given.{Finish}
+use Rattle.ring_run.proofs.lemma.learn_from.Given.{Over}
 use Rattle.ring_run.proofs.lemma.learn_from.Goals.{After-refute, After-bump_analyzed, After-learn_lemma}
 use Rattle.ring_run.proofs.lemma.learn_from.Goals as goal
 
@@ -24,7 +24,7 @@ learn_lemma-requires-clause-lemma g c =
     (subst (λ (x : PortState). IsAsserting x c.args.ring.now.trail c.analyze.new.self.lits c.in-Lemma.back) (sym c.analyze.ensures.same) asserting)
 
 -- what the empty clause leaves
-refuted : (g : Finish) (c : After-refute g) → BehindLemma (g.P.Port.state c.args.port.now) (g.P.Port.state c.refute.new.port) c.args.ring.now c.args.ring.now c.args.conflict c.analyze.new.self.lits c.args.limit (course.Finish c.refute.result)
+refuted : (g : Over) (c : After-refute g) → BehindLemma (g.P.Port.state c.args.port.now) (g.P.Port.state c.refute.new.port) c.args.ring.now c.args.ring.now c.args.conflict c.analyze.new.self.lits c.args.limit (course.Finish c.refute.result)
 refuted g c =
     let s = g.P.Port.state c.args.port.now in
     let u = g.P.Port.state c.refute.new.port in
@@ -38,7 +38,7 @@ refuted g c =
     c.requires.below c.requires.paced c.requires.offering
 
 -- what is left if there is no room for the analyzed variables
-crowded : (g : Finish) (c : After-bump_analyzed g) → BehindLemma (g.P.Port.state c.args.port.now) (g.P.Port.state c.analyze.new.port) c.args.ring.now (record c.args.ring.now { decider = c.bump_analyzed.new.decider; bumps = c.bump_analyzed.new.bumps }) c.args.conflict c.analyze.new.self.lits c.args.limit (course.Finish Memory)
+crowded : (g : Over) (c : After-bump_analyzed g) → BehindLemma (g.P.Port.state c.args.port.now) (g.P.Port.state c.analyze.new.port) c.args.ring.now (record c.args.ring.now { decider = c.bump_analyzed.new.decider; bumps = c.bump_analyzed.new.bumps }) c.args.conflict c.analyze.new.self.lits c.args.limit (course.Finish Memory)
 crowded g c =
     let old = c.args.ring.now in
     behind_memory (g.P.Port.state c.args.port.now) (g.P.Port.state c.analyze.new.port) old (record old { decider = c.bump_analyzed.new.decider; bumps = c.bump_analyzed.new.bumps }) c.args.conflict c.analyze.new.self.lits c.args.limit c.analyze.ensures.same
@@ -46,7 +46,7 @@ crowded g c =
     c.requires.below c.requires.paced c.requires.offering
 
 -- what learning the lemma leaves
-behind : (g : Finish) (c : After-learn_lemma g) → BehindLemma (g.P.Port.state c.args.port.now) (g.P.Port.state c.learn_lemma.new.port) c.args.ring.now c.learn_lemma.new.ring c.args.conflict c.analyze.new.self.lits c.args.limit c.learn_lemma.result
+behind : (g : Over) (c : After-learn_lemma g) → BehindLemma (g.P.Port.state c.args.port.now) (g.P.Port.state c.learn_lemma.new.port) c.args.ring.now c.learn_lemma.new.ring c.args.conflict c.analyze.new.self.lits c.args.limit c.learn_lemma.result
 behind g c =
     let s = g.P.Port.state c.args.port.now in
     let u = g.P.Port.state c.learn_lemma.new.port in

@@ -1,4 +1,3 @@
 mod Decoding
-mod Finding
 pub mod Loaded
 mod Waiting

@@ -1,11 +1,12 @@
 //! Looking through a cell that is held for a literal that is not false, word by word. Propagation spends most of its time here.
-ghost use Rattle.std.specs.Prelude.{◌≡◌, ℕ, ◌<◌, ◌≤◌, ◌+◌, ◌/◌, ◌^◌, length, find};
+ghost use Rattle.std.specs.Prelude.{◌≡◌, ℕ, ◌<◌, ◌≤◌, ◌+◌, ◌/◌, ◌^◌, length};
 ghost use Rattle.sat_words.specs.Literal.{literal_of};
+ghost use Rattle.sat_words.specs.Values.{first_open};
 ghost use Rattle.clause_cell.specs.Packing.{half, lit_word};
 ghost use Rattle.share_rule.specs.Passes.{IsPassOf, IsSamePass};
 ghost use Rattle.share_rule.specs.Views.{IsHolding, clause_of, glue_in, only};
 ghost use Rattle.share_rule.specs.Steps.{after_load};
-ghost use Rattle.ref_count.specs.Scans.{is_open, OnlyLoaded};
+ghost use Rattle.ref_count.specs.Scans.{OnlyLoaded};
 
 use crate::reads::read_lit;
 use clause_cell::{glue_of, half, size_of};
@@ -53,13 +54,6 @@ fn lit_of(word: u64, place: u32) -> Lit
     Lit::new(code / 2, code % 2 == 1)
 }
 
-/// Whether the literal is not false and isn't the other one.
-fn is_open(values: &Values, other: Lit, lit: Lit) -> bool
-    ensures { result ≡ is_open values.now other lit }
-{
-    !values.is_false(lit) && lit != other
-}
-
 /// The first literal of a cell that the pass's ring holds which is not false under these values and isn't the other one. Each
 /// word is loaded once, and none after that literal's.
 pub fn find_open<B: Ledger>(
@@ -73,17 +67,17 @@ pub fn find_open<B: Ledger>(
     requires held { IsHolding cell.address pass.old.me.0 }
     ensures pass { IsPassOf table.now pass.new × IsSamePass pass.old pass.new }
     ensures loaded { OnlyLoaded pass.old.me.0 pass.new.me.0 }
-    ensures first { result ≡ find (is_open values.now other) (clause_of cell.address pass.old.me.0).lits }
+    ensures first { result ≡ first_open values.now other (clause_of cell.address pass.old.me.0).lits }
 {
     let size = read_shape(table, pass, cell).0;
     for place in 0..size / 2 {
         let word = load_pair(table, pass, cell, place);
         let first = lit_of(word, 2 * place);
-        if is_open(values, other, first) {
+        if values.is_open(other, first) {
             return Some(first);
         }
         let second = lit_of(word, 2 * place + 1);
-        if is_open(values, other, second) {
+        if values.is_open(other, second) {
             return Some(second);
         }
     }
@@ -91,7 +85,7 @@ pub fn find_open<B: Ledger>(
         return None;
     }
     let last = read_lit(table, pass, cell, size - 1);
-    if is_open(values, other, last) {
+    if values.is_open(other, last) {
         return Some(last);
     }
     None

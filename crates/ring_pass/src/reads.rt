@@ -1,6 +1,6 @@
 // The calls that only read.
 ghost use Rattle.std.specs.Prelude.{◌≡◌, ◌<◌, Some, IfSome, IsSome, length, slice_get};
-ghost use Rattle.ring_port.specs.Scan.{first_open};
+ghost use Rattle.sat_words.specs.Values.{first_open};
 ghost use Rattle.ring_port.specs.PortState.{IsPort, held_at, lits_at, head_of};
 
 use crate::pass::RingPass;

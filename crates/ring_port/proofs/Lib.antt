@@ -1,4 +1,3 @@
-mod Finding
 pub mod Holdings
 pub mod LogSteps
 pub mod Dropping

@@ -8,4 +8,3 @@ pub mod Spare
 pub mod Store
 pub mod OwnLog
 pub mod PlainPort
-pub mod Scan

@@ -1,5 +1,6 @@
 ghost use Rattle.std.specs.Prelude.{◌≡◌, ◌≢◌, ◌<◌, ◌≤◌, ◌∷◌, [], true, All, Some, IfSome, IsSome, length, slice_get};
 ghost use Rattle.sat_words.specs.Literal.{Literal};
+ghost use Rattle.sat_words.specs.Values.{first_open};
 ghost use Rattle.sat_words.specs.declared.shared.TheConstants.{STOP_SAT, STOP_REFUTED, STOP_MEMORY};
 ghost use Rattle.rup_model.specs.Rup.{rup};
 ghost use Rattle.ring_port.specs.PortState.{PortState, IsPort, IsOn, held_at, lits_at, head_of, known};
@@ -7,10 +8,9 @@ ghost use Rattle.ring_port.specs.Log.{KeepsLog};
 ghost use Rattle.ring_port.specs.Port.{is_usable, IsClause, IsFreshClause, Learned, IsPartOfHeld, Derived, KeepsHeld, UnitWritten, EmptyWritten, Took, Looked, SetStop};
 ghost use Rattle.ring_port.specs.Deleting.{IsNotTaken, Dropped, Tidied};
 ghost use Rattle.ring_port.specs.Reducing.{MayReduce, Noted};
-ghost use Rattle.ring_port.specs.Scan.{first_open};
 ghost use Rattle.ring_port.specs.Exchange.{class_at, other_rings, OfferedAs, Polled};
 
-use crate::scan::{Shape, is_open};
+use crate::scan::Shape;
 use crate::stops::PortStop;
 use sat_words::{Cref, Head, Lit, Set, Stop, Values};
 
@@ -70,7 +70,7 @@ pub trait Port {
         let size = self.head(c).size;
         for i in 0..size {
             let lit = self.read_lit(c, i);
-            if is_open(values, other, lit) {
+            if values.is_open(other, lit) {
                 return Some(lit);
             }
         }

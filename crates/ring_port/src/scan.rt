@@ -1,8 +1,4 @@
-//! What a port tells of a clause that is looked at again and again: its size and its glue, and whether a literal is not false.
-ghost use Rattle.std.specs.Prelude.{◌≡◌};
-ghost use Rattle.ring_port.specs.Scan.{is_open};
-
-use sat_words::{Lit, Values};
+//! What a port tells of a clause that is looked at again and again: its size and its glue.
 
 /// The size and the glue of a clause.
 #[derive(Clone, Copy, PartialEq, Eq, Debug, Drop)]
@@ -11,11 +7,4 @@ pub struct Shape {
     pub size: u32,
     /// Its glue, as `Head` has it.
     pub glue: u32,
-}
-
-/// Whether the literal is not false and isn't the other one.
-pub(crate) fn is_open(values: &Values, other: Lit, lit: Lit) -> bool
-    ensures { result ≡ is_open values.now other lit }
-{
-    !values.is_false(lit) && lit != other
 }

@@ -147,6 +147,11 @@ fn values_come_and_go(rt: HostRuntime) -> Result<(), Fail> {
     assert!(rt; values.is_true(Lit::new(3, true)));
     assert!(rt; values.is_false(Lit::new(3, false)));
     assert!(rt; !values.is_false(Lit::new(2, false)));
+    let one = Lit::new(1, false);
+    assert!(rt; values.is_open(one, Lit::new(2, false)));
+    assert!(rt; values.is_open(one, Lit::new(3, true)));
+    assert!(rt; !values.is_open(one, one));
+    assert!(rt; !values.is_open(one, Lit::new(3, false)));
     assert_eq!(rt; values.value(1), Some(true));
     values.unset(1);
     assert_eq!(rt; values.value(1), None);

@@ -1,6 +1,6 @@
 ghost use Rattle.std.specs.Prelude.{◌≡◌, ◌+◌, ◌<◌, length, replicate, slice_set, slice_index_or, not, IfOk, None, Some};
 ghost use Rattle.sat_words.specs.Literal.{opposite};
-ghost use Rattle.sat_words.specs.Values.{value_of, is_true};
+ghost use Rattle.sat_words.specs.Values.{value_of, is_true, is_open};
 ghost use Rattle.sat_words.specs.ByCode.{truth_of, value_from};
 ghost use Rattle.sat_words.specs.declared.values.Truth.TheVariants.{Open};
 
@@ -121,5 +121,12 @@ impl Values {
         ensures { result ≡ is_true self.now (opposite lit) }
     {
         matches!(self.truth(lit), Truth::False)
+    }
+
+    /// Whether the literal is not false and isn't the other one, as a clause is looked through that has the other.
+    pub fn is_open(&self, other: Lit, lit: Lit) -> bool
+        ensures { result ≡ is_open self.now other lit }
+    {
+        !self.is_false(lit) && lit != other
     }
 }

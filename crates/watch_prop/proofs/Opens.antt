@@ -6,9 +6,8 @@ use Rattle.std.proofs.lemmas.Bool.{or_left, or_right, or_cases, and_parts, false
 use Rattle.std.proofs.lemmas.Option.{slice_get_within, get_or_from_slice_get}
 use Rattle.sat_words.specs.Literal.{Literal, opposite, same}
 use Rattle.sat_words.specs.Clause.{has}
-use Rattle.sat_words.specs.Values.{is_true}
+use Rattle.sat_words.specs.Values.{is_true, is_open, first_open}
 use Rattle.sat_words.proofs.Members.{same-true, same-refl}
-use Rattle.ring_port.specs.Scan.{is_open, first_open}
 use Rattle.ring_trail.specs.declared.step.TrailStep.{TrailStep}
 use Rattle.ring_trail.specs.TrailData.{IsFalseOn}
 use Rattle.watch_prop.specs.Visiting.{NotFalse, IsOpenIn, AllFalseBut}

@@ -1,5 +1,5 @@
 use Rattle.share_rule.specs.Views.{is_ready}
-use Rattle.std.proofs.Common.{◌∙◌, sym, ap, refl, arith, subst}
+use Rattle.std.proofs.Common.{◌∙◌, sym, ap, arith, subst}
 use Rattle.share_core.specs.declared.part.CoreOpening.{CoreOpening}
 use Rattle.share_rule.specs.Books.{StandsFor}
 use Rattle.share_rule.specs.declared.view.View.{View}

@@ -1,11 +1,10 @@
-use Rattle.std.proofs.Common.{◌≡◌, ◌∙◌, ℕ, ◌+◌, ◌*◌, ◌/◌, ◌-◌, ◌<◌, ◌≤◌, ◌^◌, List, length, sym, ap, refl, arith, subst, Some, Option, false, Bool}
+use Rattle.std.proofs.Common.{◌≡◌, ◌∙◌, ℕ, ◌+◌, ◌*◌, ◌-◌, List, length, sym, ap, arith, Some, false, Bool}
 use Rattle.sat_words.specs.Literal.{Literal}
-use Rattle.share_rule.specs.declared.Layout.{Layout}
+use Rattle.sat_words.specs.Values.{is_open}
 use Rattle.share_rule.specs.declared.view.View.{View}
 use Rattle.share_rule.specs.Views.{clause_of, lit_in}
-use Rattle.ref_count.specs.Scans.{is_open}
-use Rattle.ref_count.proofs.Finding.{found, none_found, none_more}
-use Rattle.ref_count.proofs.Loaded.{loaded, loaded_more, lits_same, holding_same, first_of, second_of}
+use Rattle.sat_words.proofs.Finding.{found, none_found, none_more}
+use Rattle.ref_count.proofs.Loaded.{loaded_more, lits_same, holding_same, first_of, second_of}
 use Rattle.ref_count.proofs.scans.find_open.Goals as goal
 
 abbrev no_lit : Literal

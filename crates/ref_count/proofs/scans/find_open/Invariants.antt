@@ -1,7 +1,8 @@
 use Rattle.std.proofs.Common.{◌≡◌, ℕ, ◌<◌, ◌*◌, false}
+use Rattle.sat_words.specs.Values.{is_open}
 use Rattle.share_rule.specs.Passes.{IsPassOf, IsSamePass}
 use Rattle.share_rule.specs.Views.{clause_of, lit_in}
-use Rattle.ref_count.specs.Scans.{is_open, OnlyLoaded}
+use Rattle.ref_count.specs.Scans.{OnlyLoaded}
 use Rattle.ref_count.proofs.scans.find_open.Given as goal
 
 abbrev pub invariant-loop-place : goal.invariant-loop-place

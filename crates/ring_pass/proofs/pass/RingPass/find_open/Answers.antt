@@ -1,6 +1,6 @@
 use Rattle.std.proofs.Common.{◌∙◌, List, ap, sym, vec_capacity}
 use Rattle.sat_words.specs.Literal.{Literal}
-use Rattle.ring_port.specs.Scan.{first_open}
+use Rattle.sat_words.specs.Values.{first_open}
 use Rattle.ring_pass.proofs.CanOffers.{offer_stays}
 use Rattle.ring_pass.proofs.Scans.{as_looked}
 use Rattle.ring_pass.proofs.Stays.{ring_stays, port_stays, room_stays, units_stay, ring_port, ring_holds, lits_found}

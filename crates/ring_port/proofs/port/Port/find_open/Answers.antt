@@ -1,10 +1,10 @@
-use Rattle.std.proofs.Common.{◌≡◌, ◌∙◌, ℕ, ◌<◌, List, length, sym, ap, arith, subst, Some, false, Bool}
+use Rattle.std.proofs.Common.{◌≡◌, ◌∙◌, List, length, sym, ap, arith, subst, Some, false, Bool}
 use Rattle.std.specs.Prelude.{IsSome, slice_get}
 use Rattle.std.proofs.lemmas.Option.{get_or_from_slice_get}
 use Rattle.sat_words.specs.Literal.{Literal}
+use Rattle.sat_words.specs.Values.{is_open}
 use Rattle.ring_port.specs.PortState.{PortState, held_at, lits_at}
-use Rattle.ring_port.specs.Scan.{is_open}
-use Rattle.ring_port.proofs.Finding.{found, none_found, none_more}
+use Rattle.sat_words.proofs.Finding.{found, none_found, none_more}
 use Rattle.ring_port.proofs.port.Port.find_open.Goals as goal
 
 abbrev no_lit : Literal

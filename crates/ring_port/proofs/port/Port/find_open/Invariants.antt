@@ -1,7 +1,6 @@
-use Rattle.std.proofs.Common.{◌≡◌, ℕ, ◌<◌, false, length, get_or}
-use Rattle.sat_words.specs.Literal.{Literal}
-use Rattle.ring_port.specs.PortState.{PortState, lits_at, IsPort}
-use Rattle.ring_port.specs.Scan.{is_open}
+use Rattle.std.proofs.Common.{◌≡◌, ℕ, ◌<◌, false, get_or}
+use Rattle.sat_words.specs.Values.{is_open}
+use Rattle.ring_port.specs.PortState.{lits_at, IsPort}
 use Rattle.ring_port.proofs.port.Port.find_open.Given as goal
 
 abbrev pub invariant-loop-i : goal.invariant-loop-i

@@ -18,10 +18,11 @@ use Rattle.clause_cell.specs.declared.holes.HoleStop.TheVariants as hole_stop
 use Rattle.rup_model.specs.Log.{OnVariables}
 use Rattle.rup_model.specs.declared.journal.Entry.{Entry}
 use Rattle.rup_model.specs.Journal.{formula_book, lines, added, ring_of}
-use Rattle.rup_model.specs.Opening.{program_opening}
+use Rattle.rup_model.specs.Opening.{AreAscending, program_opening}
 use Rattle.rup_model.specs.Spent.{ruler_part}
 use Rattle.rup_model.proofs.LogLaw.{refutes_none}
 use Rattle.rup_model.proofs.Parts.{rulers_new, rulers_spaced}
+use Rattle.rup_model.proofs.ProgramOpening.{program_ascends}
 use Rattle.drat_text.specs.LineState.{LineState}
 use Rattle.drat_text.specs.Text.{CanBeSpelled, text}
 use Rattle.drat_text.specs.declared.stop.LineStop.{LineStop}
@@ -280,6 +281,7 @@ module _ {S : Type 0} {d : Ghosts S} (written flushed target : S → Option (Lis
             few_vars = few;
             few_words = few_words;
             opens = left_answer.0.opens;
+            ascending = subst AreAscending (sym left_answer.0.starts) (program_ascends F' rulers_journal);
             going = list_any-append is_empty F' (added rulers_journal) ∙ (λ i. left_answer.0.going i || left_answer.0.opens.rulers_part.going i);
             few_entries = omega arith;
             starts = λ k x lt. in_vars table_layout (slice_index_or left.start.items k x).1 (on_left.start k x lt);

@@ -16,7 +16,7 @@ use Rattle.rup_model.specs.declared.journal.TheConstants.{RULER_RING}
 use Rattle.rup_model.specs.declared.journal.Entry.{Entry}
 use Rattle.rup_model.specs.declared.journal.Entry.TheVariants.{Add, Del, Reduce}
 use Rattle.rup_model.specs.Journal.{Book, formula_book, spelled, book_after, book, added, is_told}
-use Rattle.rup_model.specs.Opening.{is_rulers, IsRulersPart, Start, IsStart, IsOpening, start_at, only_literal, program_opening}
+use Rattle.rup_model.specs.Opening.{is_rulers, IsRulersPart, Start, IsStart, AreAscending, IsOpening, start_at, only_literal, program_opening}
 use Rattle.rup_model.proofs.Lists.{In, any_In, has_In, In_has, In_all, all_In, In_get_or}
 use Rattle.rup_model.proofs.Sums.{at_put}
 use Rattle.rup_model.proofs.Units.{two_long}
@@ -144,6 +144,31 @@ numbers_distinct b a (suc n) = by (start_at b a) (λ s e. (started b a s e).0) (
         → IsDistinct nat_eq (numbers_of (cons_option o (starts_from b (a + 1) n)))
     by None f rec = rec
     by (Some s) f rec = (later b s.number (a + 1) n (let q = f s refl in omega arith), rec)
+
+pub less : (m n : ℕ) → m < n → nat_cmp m n ≡ Less
+less m n lt = grind (arith, nat_tests)
+
+rising : (b : Book) (k a n : ℕ) → k < a → AllByRecursion (λ y. nat_cmp k y ≡ Less) (numbers_of (starts_from b a n))
+rising b k a zero lt = tt
+rising b k a (suc n) lt = by (start_at b a) (λ s e. (started b a s e).0) (rising b k (a + 1) n (omega arith))
+  where
+    by : (o : Option Start) → ((s : Start) → o ≡ Some s → s.number ≡ a) → AllByRecursion (λ y. nat_cmp k y ≡ Less) (numbers_of (starts_from b (a + 1) n))
+        → AllByRecursion (λ y. nat_cmp k y ≡ Less) (numbers_of (cons_option o (starts_from b (a + 1) n)))
+    by None f rec = rec
+    by (Some s) f rec = (less k s.number (let q = f s refl in omega arith), rec)
+
+numbers_ascend : (b : Book) (a n : ℕ) → AreAscending (starts_from b a n)
+unfolding IsStrictlySortedBy
+numbers_ascend b a zero = tt
+numbers_ascend b a (suc n) = by (start_at b a) (λ s e. (started b a s e).0) (numbers_ascend b (a + 1) n)
+  where
+    by : (o : Option Start) → ((s : Start) → o ≡ Some s → s.number ≡ a) → AreAscending (starts_from b (a + 1) n) → AreAscending (cons_option o (starts_from b (a + 1) n))
+    by None f rec = rec
+    by (Some s) f rec = (rising b s.number (a + 1) n (let q = f s refl in omega arith), rec)
+
+-- they stand in order of number
+pub program_ascends : (F : List (List Literal)) (J0 : List Entry) → AreAscending (program_opening F J0).starts
+program_ascends F J0 = numbers_ascend (book F J0) 1 (length (F ++ added J0))
 
 -- Units
 

@@ -1,6 +1,8 @@
 -- Openings: what the rings start from, once the ruler is done.
 use Rattle.std.specs.Prelude.{◌≡◌, ℕ, ◌≤◌, Bool, true, false, not, ◌&&◌, ◌||◌, ◌==◌, nat_eq, List, [], ◌∷◌, ◌++◌, map, length, Option, Some, None, is_none, if◌then◌else◌, IfSome}
 use Rattle.std.specs.List.{list_any, list_all, All, IsDistinct, filter, filter_map, range_with_len}
+use Rattle.std.specs.List.Sorted.{IsStrictlySortedBy}
+use Rattle.std.specs.Ordering.{nat_cmp}
 use Rattle.std.specs.Option.{option_and_then}
 use Rattle.std.specs.Set.{unique_keys}
 use Rattle.sat_words.specs.Literal.{Literal, same}
@@ -59,6 +61,10 @@ pub record IsLong (c : List Literal) : Type 0 where
 pub record IsStart (b : Book) (s : Start) : Type 0 where
   pub alive : b.clause s.number ≡ Some s.lits
   pub shape : IsLong s.lits
+
+-- they stand in order of number
+abbrev pub AreAscending : List Start → Type 0
+AreAscending ss = IsStrictlySortedBy nat_cmp (map (λ s. s.number) ss)
 
 -- a journal that the ruler may leave; long clauses that are alive after it, each under a number of its own;
 -- units that are in the formula or were added, none twice

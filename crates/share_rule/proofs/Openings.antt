@@ -1,5 +1,5 @@
 -- The rule holds at the start, and the table is opened.
-use Rattle.std.proofs.Common.{false, true, ◌≡◌, ℕ, zero, suc, ◌*◌, ◌<◌, ◌≤◌, ◌==◌, List, [], ◌∷◌, set, refl, sym, ap, ◌∙◌, subst, arith, eq-eqb, ne_eqb, true≢false, inl, inr, Option, Some, None, Bool}
+use Rattle.std.proofs.Common.{false, true, ◌≡◌, ℕ, zero, suc, ◌*◌, ◌<◌, ◌≤◌, ◌==◌, List, [], ◌∷◌, length, get_or, set, refl, sym, ap, ◌∙◌, subst, arith, eq-eqb, ne_eqb, true≢false, inl, inr, Option, Some, None, Bool}
 use Rattle.std.specs.Prelude.{replicate}
 use mathlib.Core.Option.{some, some-injective, some-ne-none}
 use mathlib.Core.Option as maybe
@@ -51,23 +51,27 @@ module _ {S : Type 0} (stands : S → BookOrigin → Layout → CoreOpening → 
   only_next : (s : Table (Option S) View) (id : ℕ) (v w : View) → get_elem? s.views id ≡ some v → (d : Draft stands k s) → set s.views id w ≡ w ∷ []
   only_next s id v w at d = let o = only_view s id v at d in (λ i. set (d.views i) (o.0 i) w)
 
-  begins_at : (slots id : ℕ) → Allows (Shown stands k) slots id (closed_view k.layout, []) 0 (λ n. n) (began (step slots 0 0 0 maybe.none) (closed_view k.layout, []))
-  begins_at slots id s shown wide at small =
+  -- the load that takes the slot, with nothing in it
+  pub begin_next : (s : Table (Option S) View) (id : ℕ) → Shown stands k s → get_elem? s.views id ≡ some (closed_view k.layout)
+      → Draft stands k (record { words = set s.words 0 (get_or s.words 0 0); homes = set s.homes 0 maybe.none; views = set s.views id (taken_view k.layout) }) × (get_elem? s.homes 0 ≡ some (some None))
+  begin_next s id shown at =
       let d : Draft stands k s = is_draft stands k s id (closed_view k.layout) shown at refl in
       let o = only_view s id (closed_view k.layout) at d in
       let homes : s.homes ≡ some None ∷ [] = d.home (ap (λ (v : View). v.steps) o.1) in (
-        taken_view k.layout,
-        takes 0 None,
-        ap (λ (hs : List (maybe.Option (Option S))). get_elem? hs 0) homes,
-        inl (record {
+        record {
           words = set_itself s.words 0 ∙ d.words;
           view = taken_view k.layout;
           views = only_next s id (closed_view k.layout) (taken_view k.layout) at d;
           closed = (refl, refl, refl);
           home = λ e. absurd (omega arith);
-        }),
-        (refl, refl),
+        },
+        ap (λ (hs : List (maybe.Option (Option S))). get_elem? hs 0) homes,
       )
+
+  begins_at : (slots id : ℕ) → Allows (Shown stands k) slots id (closed_view k.layout, []) 0 (λ n. n) (began (step slots 0 0 0 maybe.none) (closed_view k.layout, []))
+  begins_at slots id s shown wide at small =
+      let n = begin_next s id shown at in
+      (taken_view k.layout, takes 0 None, n.1, inl n.0, (refl, refl))
 
   pub begins : (slots id : ℕ) (me : Me (Option S) View) → me ≡ (closed_view k.layout, [])
       → Allows (Shown stands k) slots id me 0 (λ n. n) (began (step slots 0 0 0 maybe.none) me)
@@ -118,18 +122,27 @@ module _ {S : Type 0} (stands : S → BookOrigin → Layout → CoreOpening → 
       one zero v e = subst (Fits k.layout (opened o) (λ _. 0) (λ _. 0) 0) (some-injective (first_view k.layout o w) v e) fits
       one (suc j) v e = absurd (some-ne-none v (sym e))
 
+  -- the store that opens the table
+  pub open_next : (s : Table (Option S) View) (id entries : ℕ) (o : CoreOpening) (w : BookOrigin) (b : S) → Shown stands k s → 0 < length s.homes → get_elem? s.views id ≡ some (taken_view k.layout) → Opens stands k o w b entries
+      → (n : Shows stands k.layout (record { words = set s.words 0 (256 * entries); homes = set s.homes 0 (some (Some b)); views = set s.views id (first_view k.layout o w) })) × (n.core ≡ opened o)
+  unfolding open_shows
+  open_next s id entries o w b shown some_slot at h =
+      let d : Draft stands k s = is_draft stands k s id (taken_view k.layout) shown at refl in
+      let u : View = first_view k.layout o w in
+      let views : set s.views id u ≡ u ∷ [] = only_next s id (taken_view k.layout) u at d in
+      let hs : List (maybe.Option (Option S)) = set s.homes 0 (some (Some b)) in
+      subst (λ (y : List ℕ × List View). (n : Shows stands k.layout (record { words = set y.0 0 (256 * entries); homes = hs; views = y.1 })) × (n.core ≡ opened o)) (λ i. (sym d.words i, sym views i))
+      (open_shows o w b entries h hs (set_here s.homes 0 (some (Some b)) some_slot), refl)
+
   opens_at : (slots id : ℕ) (o : CoreOpening) (w : BookOrigin) (b : S) (entries : ℕ) → slots ≡ 1 → Opens stands k o w b entries
       → Allows (Shown stands k) slots id (taken_view k.layout, (0, Some b) ∷ []) 0 (λ _. 256 * entries) (λ _. opened_table o w (step slots 0 (256 * entries) 0 maybe.none) (taken_view k.layout, (0, Some b) ∷ []) (256 * entries))
   opens_at slots id o w b entries one h s shown wide at small =
       let d : Draft stands k s = is_draft stands k s id (taken_view k.layout) shown at refl in
       let u : View = first_view k.layout o w in
       let views : set s.views id u ≡ u ∷ [] = only_next s id (taken_view k.layout) u at d in
-      let hs : List (maybe.Option (Option S)) = set s.homes 0 (some (Some b)) in
-      let next : Shows stands k.layout (record { words = set s.words 0 (256 * entries); homes = hs; views = set s.views id u }) =
-      subst (λ (y : List ℕ × List View). Shows stands k.layout (record { words = set y.0 0 (256 * entries); homes = hs; views = y.1 })) (λ i. (sym d.words i, sym views i))
-      (open_shows o w b entries h hs (set_here s.homes 0 (some (Some b)) (omega arith))) in
+      let next = open_next s id entries o w b shown (omega arith) at h in
       let there : get_elem? (set s.views id u) id ≡ some u = ap (λ (vs : List View). get_elem? vs id) views ∙ (λ i. get_elem? (u ∷ []) ((only_view s id (taken_view k.layout) at d).0 i)) in
-      (u, gives, tt, inr next, (refl, refl, seen_of stands k.layout (record { words = set s.words 0 (256 * entries); homes = hs; views = set s.views id u }) id u next there refl))
+      (u, gives, tt, inr next.0, (refl, refl, seen_of stands k.layout (record { words = set s.words 0 (256 * entries); homes = set s.homes 0 (some (Some b)); views = set s.views id u }) id u next.0 there refl))
 
   pub opens : (slots id : ℕ) (me : Me (Option S) View) (o : CoreOpening) (w : BookOrigin) (b : S) (entries : ℕ) → slots ≡ 1 → me ≡ (taken_view k.layout, (0, Some b) ∷ []) → Opens stands k o w b entries
       → Allows (Shown stands k) slots id me 0 (λ _. 256 * entries) (λ _. opened_table o w (step slots 0 (256 * entries) 0 maybe.none) me (256 * entries))

@@ -10,7 +10,7 @@ use Rattle.clause_cell.specs.Free.{largest}
 use Rattle.rup_model.specs.declared.journal.TheConstants.{RULER_RING}
 use Rattle.rup_model.specs.declared.journal.Entry.{Entry}
 use Rattle.rup_model.specs.Journal.{ended}
-use Rattle.rup_model.specs.Opening.{IsOpening}
+use Rattle.rup_model.specs.Opening.{Start, IsOpening, AreAscending}
 use Rattle.share_core.specs.declared.stored.ClauseAt.{ClauseAt}
 use Rattle.share_core.specs.declared.part.CoreOpening.{CoreOpening}
 use Rattle.share_rule.specs.declared.Layout.{Layout}
@@ -33,13 +33,19 @@ starts_at a (s ∷ ss) = record { address = a; number = s.0; lits = s.1 } ∷ st
 abbrev pub begun_with : List (List Literal) → Layout → List Entry → List (ℕ × List Literal) → List Literal → CoreOpening
 begun_with F l J ss us = record { formula = F; rings = l.rings; journal = J; starts = starts_at (first_cell l) ss; units = us }
 
--- a small layout, and an opening whose literals are on its variables; the formula has no empty clause
+-- as the log has them, at no address
+abbrev pub starts_of : List (ℕ × List Literal) → List Start
+starts_of ss = map (λ s. record { number = s.0; lits = s.1 }) ss
+
+-- a small layout, and an opening whose literals are on its variables; the start clauses come in order of number, which is the
+-- order of their words; the formula has no empty clause
 pub record MayBegin (F : List (List Literal)) (l : Layout) (J : List Entry) (ss : List (ℕ × List Literal)) (us : List Literal) : Type 0 where
   pub some_ring : 1 ≤ l.rings
   pub few_rings : l.rings ≤ RULER_RING
   pub few_vars : l.vars ≤ 2 ^ 30
   pub few_words : l.words ≤ 2 ^ 31
-  pub opens : IsOpening F (record { journal = J; starts = map (λ s. record { number = s.0; lits = s.1 }) ss; units = us })
+  pub opens : IsOpening F (record { journal = J; starts = starts_of ss; units = us })
+  pub ascending : AreAscending (starts_of ss)
   pub going : ended F J ≡ false
   pub few_entries : length J ≤ MAX_ENTRIES
   pub starts : All (λ s. InVars l s.1) ss

@@ -1,6 +1,6 @@
 //! What the definitions come to: if clauses lie, that each step is its event, and that what is shown is sound.
-ghost use Rattle.std.specs.Prelude.{◌≡◌, ◌≢◌, ◌⊎◌, ℕ, ◌+◌, ◌-◌, ◌%◌, ◌^◌, ◌<◌, ◌≤◌, true, false, List, [], ◌++◌, ◌∷◌, length, fold, slice_index, slice_set, Option, Some};
-ghost use mathlib.Core.Option.{some};
+ghost use Rattle.std.specs.Prelude.{◌≡◌, ◌≢◌, ◌⊎◌, ℕ, ◌+◌, ◌-◌, ◌*◌, ◌%◌, ◌^◌, ◌<◌, ◌≤◌, true, false, List, [], ◌++◌, ◌∷◌, length, fold, slice_index, slice_set, Option, Some, None};
+ghost use mathlib.Core.Option.{some, none};
 ghost use lib.ListN.{get_elem?};
 ghost use Rattle.atomic_table.specs.Table.{State as Table, stepped, keeps};
 ghost use Rattle.clause_cell.specs.declared.holes.Hole.{Hole};
@@ -11,20 +11,22 @@ ghost use Rattle.rup_model.specs.Journal.{book};
 ghost use Rattle.share_core.specs.declared.event.TheConstants.{MAX_SHARES};
 ghost use Rattle.share_core.specs.declared.event.Event.TheVariants.{Grant, Share, DropCount, OpenCell, Read};
 ghost use Rattle.share_core.specs.declared.part.CoreOpening.{CoreOpening};
-ghost use Rattle.share_core.specs.State.{State};
+ghost use Rattle.share_core.specs.State.{State, opened};
 ghost use Rattle.share_core.specs.Events.{after};
 ghost use Rattle.share_core.specs.Left.{Left};
 ghost use Rattle.share_core.specs.Sound.{Sound};
 ghost use Rattle.share_rule.specs.declared.Layout.{Layout};
 ghost use Rattle.share_rule.specs.declared.rule.Key.{Key};
+ghost use Rattle.share_rule.specs.declared.view.BookOrigin.{BookOrigin};
 ghost use Rattle.share_rule.specs.declared.view.View.{View};
 ghost use Rattle.share_rule.specs.Layout.{first_cell, table_words, grant_at};
 ghost use Rattle.share_rule.specs.Room.{Room, room, room_after, names, Places};
 ghost use Rattle.share_rule.specs.Books.{StandsFor};
-ghost use Rattle.share_rule.specs.Views.{spent_view, IsRight, IsHolding, IsBuilding, IsBuilt, only, clause_of, making_of, is_ready};
+ghost use Rattle.share_rule.specs.Openings.{Opens};
+ghost use Rattle.share_rule.specs.Views.{closed_view, taken_view, first_view, spent_view, IsRight, IsHolding, IsBuilding, IsBuilt, only, clause_of, making_of, is_ready};
 ghost use Rattle.share_rule.specs.Steps.{after_grant, after_share, after_drop, after_store, after_open, after_load, without_right, with_right, joined};
 ghost use Rattle.share_rule.specs.Seen.{Stands, Seen};
-ghost use Rattle.share_rule.specs.Shown.{Shows, ring_of};
+ghost use Rattle.share_rule.specs.Shown.{Draft, Shown, Shows, ring_of};
 
 use crate::Ledger;
 
@@ -66,6 +68,15 @@ pub fn held_clauses_are_in_the_log()
 {}
 
 // Steps: whatever the table is when a step comes, what it shows then is the step's event away
+
+/// Opening a table is no event. A load takes the slot, which has nothing in it, and the table stays as it was made; the store
+/// that brings the book home leaves the opening, whatever the table that is not open is when it comes.
+pub fn a_table_opens_with_no_event<B: Ledger>()
+    ensures begins { (k : Key) (s : Table (Option B) View) (id : ℕ) → Shown (StandsFor B.account B.stands) k s → get_elem? s.views id ≡ some (closed_view k.layout)
+        → Draft (StandsFor B.account B.stands) k (record { words = slice_set s.words 0 (slice_index s.words 0); homes = slice_set s.homes 0 none; views = slice_set s.views id (taken_view k.layout) }) × (get_elem? s.homes 0 ≡ some (some None)) }
+    ensures opens { (k : Key) (s : Table (Option B) View) (id entries : ℕ) (o : CoreOpening) (w : BookOrigin) (book : B) → Shown (StandsFor B.account B.stands) k s → 0 < length s.homes → get_elem? s.views id ≡ some (taken_view k.layout) → Opens (StandsFor B.account B.stands) k o w book entries
+        → (n : Shows (StandsFor B.account B.stands) k.layout (record { words = slice_set s.words 0 (256 * entries); homes = slice_set s.homes 0 (some (Some book)); views = slice_set s.views id (first_view k.layout o w) })) × (n.core ≡ opened o) }
+{}
 
 /// Taking a grant is its event, and finds 1.
 pub fn a_grant_is_its_event<B: Ledger>()

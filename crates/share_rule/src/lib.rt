@@ -36,8 +36,8 @@ pub use exchange_laws::{
 pub use exchange_plays::{Gets, LooksAtStop, Puts, SetsStop};
 pub use laws::{
     a_drop_is_its_event, a_grant_is_its_event, a_join_is_no_event, a_load_is_no_event,
-    a_share_is_its_event, a_split_is_no_event, a_store_is_no_event, an_opening_is_its_event,
-    cells_lie_apart, clauses_lie_apart, entries_change_their_own_words,
+    a_share_is_its_event, a_split_is_no_event, a_store_is_no_event, a_table_opens_with_no_event,
+    an_opening_is_its_event, cells_lie_apart, clauses_lie_apart, entries_change_their_own_words,
     held_clauses_are_in_the_log, longer_journals_fold_on, what_is_shown_is_sound,
 };
 pub use ledger::Ledger;

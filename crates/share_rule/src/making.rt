@@ -52,7 +52,7 @@ fn open_table<O: OpenedWith, B: Ledger>(
 }
 
 /// A table for this formula, with its first pass and the addresses of the start clauses. The start clauses, each with its
-/// number in the log, are placed in the order given, which is that of their numbers. The book has the log that the rings
+/// number in the log, come in order of number and are placed in it. The book has the log that the rings
 /// go on with, `journal`; it gets its holes here. What it is now stays known as its origin.
 pub fn make<B: Ledger>(
     alloc: Global,

@@ -2,6 +2,9 @@
 use Rattle.std.proofs.Common.{◌≡◌, ◌∙◌, ℕ, zero, suc, ◌+◌, ◌<◌, ◌≤◌, ◌&&◌, ◌||◌, nat_eq, Bool, true, false, List, [], ◌∷◌, ◌++◌, not, map, length, All, Option, Some, None, refl, sym, ap, inl, inr, arith, ne_eqb, append-nil}
 use Rattle.std.specs.Prelude.{⊤, nat_le, leb}
 use Rattle.std.specs.List.{list_any, list_all, slice_get, IsDistinct, AllByRecursion}
+use Rattle.std.specs.List.Sorted.{IsStrictlySortedBy}
+use Rattle.std.specs.Ordering.{nat_cmp}
+use Rattle.std.specs.declared.cmp.Ordering.TheVariants.{Less}
 use Rattle.std.specs.Option.{option_map}
 use Rattle.std.proofs.lemmas.Bool.{and_parts, and_from, cases_Bool, false≢true}
 use Rattle.std.proofs.lemmas.List.Elements.{All-from_recursion, All-append, All-cons, All-nil}
@@ -12,11 +15,11 @@ use Rattle.sat_words.specs.Clause.{InOrder, has, same_set, clause_of, distinct_l
 use Rattle.sat_words.specs.FormulaData.{FormulaData}
 use Rattle.sat_words.proofs.Insertion.{clause_of_in_order}
 use Rattle.rup_model.specs.Journal.{formula_book, formula_clause, is_told}
-use Rattle.rup_model.specs.Opening.{IsStart, Start, is_rulers}
+use Rattle.rup_model.specs.Opening.{AreAscending, IsStart, Start, is_rulers}
 use Rattle.rup_model.specs.declared.journal.Entry.{Entry}
 use Rattle.rup_model.proofs.Covers.{same_self}
 use Rattle.rup_model.proofs.Lists.{In, all_In, has_In, In_has, In_append}
-use Rattle.rup_model.proofs.ProgramOpening.{All_from_In, distinct_in_order}
+use Rattle.rup_model.proofs.ProgramOpening.{All_from_In, distinct_in_order, less}
 use Rattle.test_formulas.specs.Problems.{IsFine, IsProblem, starts_of}
 
 none_some : {X : Type 0} (x : X) → None ≡ Some x → ⊥
@@ -35,7 +38,7 @@ fine_from vars c order long opposites all = record {
 
 -- no clause
 pub none_yet : (vars : ℕ) → IsProblem (record { vars = vars; clauses = [] }) [] []
-unfolding IsDistinct
+unfolding IsDistinct IsStrictlySortedBy
 none_yet vars = record {
   opens = record {
     rulers_part = record { rulers = All-nil (λ (e : Entry). is_rulers e ≡ true); going = refl; fits = tt; accepted = tt };
@@ -44,6 +47,7 @@ none_yet vars = record {
     told = All-nil (λ (l : Literal). is_told [] [] l ≡ true);
     distinct = refl;
   };
+  ascending = tt;
   going = refl;
   starts_on = All-nil (λ (s : ℕ × List Literal). All (IsOn vars) s.1);
   units_on = All-nil (IsOn vars);
@@ -69,6 +73,15 @@ distinct_numbers : (ss : List (ℕ × List Literal)) (n : ℕ) (c : List Literal
 unfolding IsDistinct
 distinct_numbers [] n c d b = (tt, tt)
 distinct_numbers (s ∷ ss) n c d b = (apart s.0 ss n c d.0 b.0, distinct_numbers ss n c d.1 b.1)
+
+rises : (m : ℕ) (ss : List (ℕ × List Literal)) (n : ℕ) (c : List Literal) → AllByRecursion (λ y. nat_cmp m y ≡ Less) (numbers ss) → m < n → AllByRecursion (λ y. nat_cmp m y ≡ Less) (numbers (ss ++ (n, c) ∷ []))
+rises m [] n c a lt = (less m n lt, tt)
+rises m (s ∷ ss) n c a lt = (a.0, rises m ss n c a.1 lt)
+
+ascending_numbers : (ss : List (ℕ × List Literal)) (n : ℕ) (c : List Literal) → AreAscending (starts_of ss) → Below n ss → AreAscending (starts_of (ss ++ (n, c) ∷ []))
+unfolding IsStrictlySortedBy
+ascending_numbers [] n c d b = (tt, tt)
+ascending_numbers (s ∷ ss) n c d b = (rises s.0 ss n c d.0 b.0, ascending_numbers ss n c d.1 b.1)
 
 -- Start clauses
 
@@ -165,6 +178,7 @@ with_clause f ss us c p fine =
         told = λ i x lt. any_more (same_set (_ ∷ [])) F c (p.opens.told i x lt);
         distinct = p.opens.distinct;
       };
+      ascending = ascending_numbers ss (length F + 1) c p.ascending (below_from F ss p.opens.starts);
       going = none_empty F c p.going (some c fine.shape.long);
       starts_on = All-append (λ (s : ℕ × List Literal). All (IsOn f.vars) s.1) ss ((length F + 1, c) ∷ []) p.starts_on (All-cons (λ (s : ℕ × List Literal). All (IsOn f.vars) s.1) (length F + 1, c) [] fine.on (All-nil (λ (s : ℕ × List Literal). All (IsOn f.vars) s.1)));
       units_on = p.units_on;
@@ -186,6 +200,7 @@ with_one f ss us l p on none =
         told = All-append (λ (k : Literal). is_told (F ++ (l ∷ []) ∷ []) [] k ≡ true) us (l ∷ []) (λ i x lt. any_more (same_set (_ ∷ [])) F (l ∷ []) (p.opens.told i x lt)) (All-cons (λ (k : Literal). is_told (F ++ (l ∷ []) ∷ []) [] k ≡ true) l [] (told_last F l) (All-nil (λ (k : Literal). is_told (F ++ (l ∷ []) ∷ []) [] k ≡ true)));
         distinct = distinct_units us l p.opens.distinct none;
       };
+      ascending = p.ascending;
       going = none_empty F (l ∷ []) p.going refl;
       starts_on = p.starts_on;
       units_on = All-append (IsOn f.vars) us (l ∷ []) p.units_on (All-cons (IsOn f.vars) l [] on (All-nil (IsOn f.vars)));

@@ -29,6 +29,7 @@ may_begin f ss us l p vars some few_rings few_vars few_words =
       few_vars = few_vars;
       few_words = few_words;
       opens = p.opens;
+      ascending = p.ascending;
       going = ap (list_any is_empty) (append-nil f.clauses) ∙ p.going;
       few_entries = omega arith;
       starts = λ i s lt j k lt2. on _ (p.starts_on i s lt j k lt2);

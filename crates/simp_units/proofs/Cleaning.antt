@@ -40,6 +40,15 @@ not_true : (b : Bool) → not b ≡ true → b ≡ false
 not_true true h = absurd (false≢true h)
 not_true false h = refl
 
+-- of two lists with the same literals
+opposites_alike : (c d : List Literal) → ((l : Literal) → has d l ≡ has c l) → has_opposites c ≡ false → has_opposites d ≡ false
+opposites_alike c d alike none = elim (cases_Bool (has_opposites d)) as (λ _. has_opposites d ≡ false) [
+  | inl h ↦ (
+      let t = In_any (λ l. has d (opposite l)) d h in
+      absurd (true≢false (sym (any_In (λ l. has c (opposite l)) c t.0 (has_In c t.0 (sym (alike t.0) ∙ In_has d t.0 t.1)) (sym (alike (opposite t.0)) ∙ t.2)) ∙ none)))
+  | inr f ↦ f
+]
+
 -- What has no value is no unit's
 
 module _ (w : WorkState) (a : List (Option Bool)) (s : IsSet w a) where
@@ -144,6 +153,7 @@ tidied_whole start w a number rest whole t = record {
   quiet = t.quiet;
   units = t.units;
   lifted = t.lifted;
+  passed = t.passed;
   settled = t.settled;
   free = λ n c h. ⊎_elim
       (λ (f : IsFree w.units c). inl f)
@@ -155,9 +165,9 @@ tidied_whole start w a number rest whole t = record {
   log = t.log;
 }
 
--- the clause is deleted
-pub tidied_deleted : (start old new : WorkState) (a : List (Option Bool)) (number : ℕ) (rest : List ℕ) → Deleted old new number → Lifted old new → IsWork new → KeepsLog old new → Tidied start old a (number ∷ rest) → Tidied start new a rest
-tidied_deleted start old new a number rest h lifted kept log t =
+-- the clause, which is no tautology, is deleted
+pub tidied_deleted : (start old new : WorkState) (a : List (Option Bool)) (number : ℕ) (rest : List ℕ) (h : Deleted old new number) → has_opposites h.clause ≡ false → Lifted old new → IsWork new → KeepsLog old new → Tidied start old a (number ∷ rest) → Tidied start new a rest
+tidied_deleted start old new a number rest h plain lifted kept log t =
     let units : new.units ≡ old.units = ap (λ (w : WorkState). w.units) h.state in
     record {
       set = record {
@@ -170,6 +180,10 @@ tidied_deleted start old new a number rest h lifted kept log t =
       quiet = ap (λ (s : LineState). s.faults) h.put.state ∙ t.quiet;
       units = units ∙ t.units;
       lifted = lifted_along start old new t.lifted lifted;
+      passed = λ n c both. (
+        λ k. (h.others n c).1 ((t.passed n c both).0 k, λ e. apart n c both e ((t.passed n c both).0 k)),
+        λ k. (t.passed n c both).1 ((h.others n c).0 k).0,
+      );
       settled = λ n c k. t.settled n c ((h.others n c).0 k).0;
       free = λ n c k. (let was = (h.others n c).0 k in ⊎_elim
           (λ (f : IsFree old.units c). inl (subst (λ us. IsFree us c) (sym units) f))
@@ -180,11 +194,16 @@ tidied_deleted start old new a number rest h lifted kept log t =
           (t.free n c was.0));
       log = logs_along start old new t.log log;
     }
+  where
+    apart : (n : ℕ) (c : List Literal) → has_opposites c ≡ true → n ≡ number → Contains old.clauses (n, c) → ⊥
+    apart n c both e k =
+        let same_clause : c ≡ h.clause = same_number old.clauses t.set.work.numbers number c h.clause (subst (λ (m : ℕ). Contains old.clauses (m, c)) e k) h.alive in
+        true≢false (sym both ∙ ap has_opposites same_clause ∙ plain)
 
 -- what is left of a clause is added
-pub tidied_added : (start old new : WorkState) (a : List (Option Bool)) (numbers : List ℕ) (lits : List Literal) (made : ℕ) → Added old new lits made → IsSettled a lits → is_empty lits ≡ false
+pub tidied_added : (start old new : WorkState) (a : List (Option Bool)) (numbers : List ℕ) (lits : List Literal) (made : ℕ) → Added old new lits made → has_opposites (clause_of lits) ≡ false → IsSettled a lits → is_empty lits ≡ false
     → ((l : Literal) → has lits l ≡ true → (is_true a l ≡ false) × (is_true a (opposite l) ≡ false)) → IsWork new → KeepsLog old new → Tidied start old a numbers → Tidied start new a numbers
-tidied_added start old new a numbers lits made h settled some untouched kept log t =
+tidied_added start old new a numbers lits made h plain settled some untouched kept log t =
     let units : new.units ≡ old.units = ap (λ (w : WorkState). w.units) h.state in
     let set : IsSet new a = record {
       same = λ l. ap (λ us. has us l) units ∙ t.set.same l;
@@ -198,6 +217,13 @@ tidied_added start old new a numbers lits made h settled some untouched kept log
       quiet = ap (λ (s : LineState). s.faults) h.put.state ∙ t.quiet;
       units = units ∙ t.units;
       lifted = lifted_along start old new t.lifted (lifted_added old new lits made h);
+      passed = λ n c both. (
+        λ k. subst (λ (cs : List (ℕ × List Literal)). Contains cs (n, c)) (sym (ap (λ (w : WorkState). w.clauses) h.state)) (Contains_left old.clauses ((made, clause_of lits) ∷ []) (n, c) ((t.passed n c both).0 k)),
+        λ k. ⊎_elim
+            (λ (was : Contains old.clauses (n, c)). (t.passed n c both).1 was)
+            (λ (q : ◌≡◌ {A = ℕ × List Literal} (made, clause_of lits) (n, c)). absurd (true≢false (sym both ∙ ap (λ (x : ℕ × List Literal). has_opposites x.1) (sym q) ∙ plain)))
+            (apart n c k),
+      );
       settled = λ n c k. ⊎_elim
           (λ (was : Contains old.clauses (n, c)). t.settled n c was)
           (λ (q : ◌≡◌ {A = ℕ × List Literal} (made, clause_of lits) (n, c)). subst (IsSettled a) (ap (λ (x : ℕ × List Literal). x.1) q) (settled_alike a lits (clause_of lits) (has-clause_of lits) settled))
@@ -223,6 +249,7 @@ tidied_start w a numbers s settled every = record {
   quiet = refl;
   units = refl;
   lifted = lifted_self w;
+  passed = λ n c both. (λ k. k, λ k. k);
   settled = settled;
   free = λ n c h. inr (every n c h);
   log = nothing_logged w;
@@ -284,13 +311,13 @@ module _ (w : WorkState) (a : List (Option Bool)) (s : IsSet w a) (number : ℕ)
   part_untouched none l h = (none_In (is_true a) c l none (part_inside l h), not_true (is_true a (opposite l)) (filter_In (λ k. not (is_true a (opposite k))) c l (has_In (left_of a c) l h)).1)
 
 -- a clause with a true literal was to be deleted
-pub tidied_nothing : (old new : WorkState) (a : List (Option Bool)) (number : ℕ) (c : List Literal) → IsSet old a → Contains old.clauses (number, c) → list_any (is_true a) c ≡ true → IsWork new → KeepsLog old new
+pub tidied_nothing : (old new : WorkState) (a : List (Option Bool)) (number : ℕ) (c : List Literal) → IsSet old a → Contains old.clauses (number, c) → has_opposites c ≡ false → list_any (is_true a) c ≡ true → IsWork new → KeepsLog old new
     → (result : Result (Unit {0}) LineStop) → WasDeleted old new number result → WasTidied old new a number result
-tidied_nothing old new a number c s alive holds kept log (Ok done) h =
+tidied_nothing old new a number c s alive plain holds kept log (Ok done) h =
     let u = In_any (is_true a) c holds in
     let same_clause : c ≡ h.clause = same_number old.clauses s.work.numbers number c h.clause alive h.alive in
-    λ start rest t. tidied_deleted start old new a number rest h (lifted_true old new a s number h u.0 (subst (λ d. has d u.0 ≡ true) same_clause (In_has c u.0 u.1)) u.2) kept log t
-tidied_nothing old new a number c s alive holds kept log (Err stop) h = (not_put_cause old new (DelLine h.clause) stop s.going h.left, log)
+    λ start rest t. tidied_deleted start old new a number rest h (ap has_opposites (sym same_clause) ∙ plain) (lifted_true old new a s number h u.0 (subst (λ d. has d u.0 ≡ true) same_clause (In_has c u.0 u.1)) u.2) kept log t
+tidied_nothing old new a number c s alive plain holds kept log (Err stop) h = (not_put_cause old new (DelLine h.clause) stop s.going h.left, log)
 
 -- what is left was added, and the clause was to be deleted
 module _ (old mid new : WorkState) (a : List (Option Bool)) (number : ℕ) (c lits : List Literal) (made : ℕ) (s : IsSet old a) (alive : Contains old.clauses (number, c)) (part : IsPart a c lits) (settled : IsSettled a c)
@@ -307,13 +334,16 @@ module _ (old mid new : WorkState) (a : List (Option Bool)) (number : ℕ) (c li
   shown : IsSettled a lits
   shown = subst (IsSettled a) (sym part.is) (left_settled a c settled)
 
+  plain : has_opposites (clause_of lits) ≡ false
+  plain = opposites_alike lits (clause_of lits) (has-clause_of lits) (ap has_opposites part.is ∙ part_proper old a s number c alive part.no_opposites)
+
   pub tidied_part : (result : Result (Unit {0}) LineStop) → WasDeleted mid new number result → WasTidied old new a number result
   tidied_part (Ok done) h =
       let same_clause : c ≡ h.clause = same_number mid.clauses kept_mid.numbers number c h.clause alive_mid h.alive in
       let lifted : Lifted mid new = lifted_within mid new kept_mid number h (clause_of lits) (known_alive new made (clause_of lits) ((h.others made (clause_of lits)).1 (made_mid, apart)))
       (λ l i. subst (λ d. has d l ≡ true) same_clause (In_has c l (part_inside old a s number c alive l (subst (λ d. has d l ≡ true) part.is (sym (has-clause_of lits l) ∙ In_has (clause_of lits) l i))))) in
-      λ start rest t. tidied_deleted start mid new a number rest h lifted kept log
-      (tidied_added start old mid a (number ∷ rest) lits made added shown (ap is_empty part.is ∙ left_some a c settled)
+      λ start rest t. tidied_deleted start mid new a number rest h (ap has_opposites (sym same_clause) ∙ part.no_opposites) lifted kept log
+      (tidied_added start old mid a (number ∷ rest) lits made added plain shown (ap is_empty part.is ∙ left_some a c settled)
       (λ l k. part_untouched old a s number c alive part.open_yet l (subst (λ d. has d l ≡ true) part.is k)) kept_mid log_mid t)
   tidied_part (Err stop) h = (cause_after old mid new stop (ap (λ (s : LineState). s.faults) added.put.state) (not_put_cause mid new (DelLine h.clause) stop (ap (λ (w : WorkState). w.ended) added.state ∙ ap is_empty part.is ∙ left_some a c settled) h.left), logs_along old mid new log_mid log)
 

@@ -1,12 +1,12 @@
 -- How a run ends.
-use Rattle.std.proofs.Common.{◌≡◌, ◌&&◌, ℕ, Bool, true, false, refl, List, [], ◌∷◌, sym, ap, subst, ◌∙◌, ⊎_elim, Option, Contains, arith, append-nil}
+use Rattle.std.proofs.Common.{◌≡◌, ◌&&◌, ◌||◌, ℕ, Bool, true, false, not, true≢false, refl, List, [], ◌∷◌, sym, ap, subst, ◌∙◌, ⊎_elim, Option, Contains, arith, append-nil}
 use Rattle.std.specs.Prelude.{Result, Ok, Err}
 use Rattle.std.proofs.lemmas.Bool.{and_from, or_left, not_from_false}
 use Rattle.sat_words.specs.Literal.{Literal, opposite, same}
 use Rattle.sat_words.specs.Values.{is_true}
-use Rattle.sat_words.proofs.Members.{same-refl}
+use Rattle.sat_words.proofs.Members.{same-refl, same-true}
 use Rattle.rup_model.specs.Status.{IsSettled}
-use Rattle.sat_words.specs.Clause.{has}
+use Rattle.sat_words.specs.Clause.{has, has_opposites}
 use Rattle.rup_model.proofs.Lists.{In, In_any, In_all, In_has, has_In, In_append, map_In, In_Contains}
 use Rattle.drat_text.specs.declared.stop.LineStop.{LineStop}
 use Rattle.simp_base.specs.WorkState.{WorkState, known, lists, unit_clauses, is_only}
@@ -21,7 +21,7 @@ use Rattle.simp_base.proofs.LiftSteps.{lifted_along, logs_along}
 use Rattle.simp_base.proofs.Lists.{In_All}
 use Rattle.simp_base.proofs.Keeping.{only_told}
 use Rattle.simp_units.specs.Ends.{IsFree, Cleaned, Ends, EndsRefuted}
-use Rattle.simp_units.specs.Progress.{Progress, Propagated, Falsified}
+use Rattle.simp_units.specs.Progress.{IsUnitsClause, Progress, Propagated, Falsified}
 use Rattle.simp_units.specs.Tidied.{Tidied, WasCleaned}
 use Rattle.simp_base.proofs.Known.{known_alive, unit_among}
 
@@ -49,11 +49,30 @@ lone a l s =
     by true e = e
     by false e = refl
 
+-- a literal alone has no opposite beside it
+alone_plain : (l : Literal) → has_opposites (l ∷ []) ≡ false
+alone_plain l = by (same (opposite l) l) refl
+  where
+    other : (b : Bool) → not b ≡ b → ⊥
+    other true e = true≢false (sym e)
+    other false e = true≢false e
+
+    by : (b : Bool) → same (opposite l) l ≡ b → has_opposites (l ∷ []) ≡ false
+    by true e = absurd (other l.neg (ap (λ (k : Literal). k.neg) (same-true (opposite l) l e)))
+    by false e = ap (λ (b : Bool). (b || false) || false) e
+
 cleaned_from : (old mid new : WorkState) (a : List (Option Bool)) → Propagated old mid a → Tidied mid new a [] → Cleaned old new
 cleaned_from old mid new a p t = record {
   open_yet = p.open_yet;
   units = λ l. ap (λ us. has us l) t.units ∙ p.units l;
   free = In_All (IsFree new.units) (lists new.clauses) (λ c i. free_of c (map_In (λ (x : ℕ × List Literal). x.1) new.clauses c i));
+  passed = λ n c both. (
+    λ k. (t.passed n c both).0 (p.progress.stay n c k),
+    λ k. ⊎_elim
+        (λ (was : Contains old.clauses (n, c)). was)
+        (λ (u : IsUnitsClause mid.units c). absurd (true≢false (sym both ∙ ap has_opposites u.alone ∙ alone_plain u.lit)))
+        (p.progress.came n c ((t.passed n c both).1 k)),
+  );
   lifted = lifted_along old mid new (lifted_progress old mid a p.progress) t.lifted;
   vars = (let a = p.set.range in let b = t.set.range in let v = p.progress.vars in omega arith);
   going = t.set.going;

@@ -1,5 +1,5 @@
 -- What propagating the units leaves.
-use Rattle.std.specs.Prelude.{◌≡◌, ℕ, ◌==◌, Bool, true, false, List, [], All, Result, Ok, Err}
+use Rattle.std.specs.Prelude.{◌≡◌, ◌↔◌, ℕ, ◌==◌, Bool, true, false, List, [], All, Contains, Result, Ok, Err}
 use Rattle.std.specs.List.{list_any}
 use Rattle.sat_words.specs.Literal.{Literal}
 use Rattle.sat_words.specs.Clause.{has, has_opposites, two_or_more}
@@ -20,14 +20,19 @@ is_fixed units v = list_any (λ u. u.var == v) units
 abbrev pub IsFree : List Literal → List Literal → Type 0
 IsFree units c = two_or_more c ≡ true → has_opposites c ≡ false → All (λ l. is_fixed units l.var ≡ false) c
 
+-- tautologies are passed over: each stays alive under its number, and none comes
+abbrev pub PassesTautologies : WorkState → WorkState → Type 0
+PassesTautologies old new = (n : ℕ) (c : List Literal) → has_opposites c ≡ true → Contains old.clauses (n, c) ↔ Contains new.clauses (n, c)
+
 -- the rounds from no literal over the clauses and units at entry falsify no clause; the units are what they give, and those
--- whose clauses are alive are among them; no other clause holds a unit's variable; models lift, and the variables are as
--- they were
+-- whose clauses are alive are among them; no other clause but a tautology holds a unit's variable, and tautologies are passed
+-- over; models lift, and the variables are as they were
 pub record Cleaned (old new : WorkState) : Type 0 where
   pub open_yet : conflicts (known old) [] ≡ false
   pub units : (l : Literal) → has new.units l ≡ Rounds (known old) [] l
   pub alone : (l : Literal) → is_alive_unit new l ≡ true → has new.units l ≡ true
   pub free : All (IsFree new.units) (lists new.clauses)
+  pub passed : PassesTautologies old new
   pub lifted : Lifted old new
   pub vars : new.vars ≡ old.vars
   pub going : new.ended ≡ false

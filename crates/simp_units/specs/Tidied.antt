@@ -10,7 +10,7 @@ use Rattle.simp_base.specs.WorkState.{WorkState}
 use Rattle.simp_base.specs.Lifted.{Lifted}
 use Rattle.simp_base.specs.Log.{KeepsLog}
 use Rattle.simp_base.specs.Causes.{HasCause}
-use Rattle.simp_units.specs.Ends.{IsFree}
+use Rattle.simp_units.specs.Ends.{IsFree, PassesTautologies}
 use Rattle.simp_units.specs.Progress.{IsSet}
 use Rattle.simp_units.specs.declared.clean.Remainder.{Remainder}
 use Rattle.simp_units.specs.declared.clean.Remainder.TheVariants.{Whole, Nothing, Part}
@@ -27,9 +27,10 @@ IsUntouched a c = All (λ l. (is_true a l ≡ false) × (is_true a (opposite l) 
 abbrev pub IsWhole : List (Option Bool) → List Literal → Type 0
 IsWhole a c = two_or_more c ≡ true → has_opposites c ≡ false → IsUntouched a c
 
--- a literal of a longer clause is true
+-- a literal of a longer clause without opposites is true
 pub record IsTrueClause (a : List (Option Bool)) (c : List Literal) : Type 0 where
   pub long : two_or_more c ≡ true
+  pub no_opposites : has_opposites c ≡ false
   pub holds : list_any (is_true a) c ≡ true
 
 -- the literals of a longer clause without opposites that are not false
@@ -51,13 +52,14 @@ IsLeftAt w a number Whole = (c : List Literal) → Contains w.clauses (number, c
 IsLeftAt w a number Nothing = (c : List Literal) × Contains w.clauses (number, c) × IsTrueClause a c
 IsLeftAt w a number (Part rest) = (c : List Literal) × Contains w.clauses (number, c) × IsPart a c rest.items
 
--- from the work if propagation ended: models lift, the units are as they were, and each clause is settled, and has no
--- variable of a unit or its number is among the rest
+-- from the work if propagation ended: models lift, the units are as they were, tautologies are passed over, and each clause
+-- is settled, and has no variable of a unit or its number is among the rest
 pub record Tidied (old new : WorkState) (a : List (Option Bool)) (rest : List ℕ) : Type 0 where
   pub set : IsSet new a
   pub quiet : new.output.faults ≡ old.output.faults
   pub units : new.units ≡ old.units
   pub lifted : Lifted old new
+  pub passed : PassesTautologies old new
   pub settled : (n : ℕ) (c : List Literal) → Contains new.clauses (n, c) → IsSettled a c
   pub free : (n : ℕ) (c : List Literal) → Contains new.clauses (n, c) → IsFree new.units c ⊎ Contains rest n
   pub log : KeepsLog old new

@@ -40,7 +40,7 @@ pub returns-in-Nothing-clause-tidied : goal.returns-in-Nothing-clause-tidied
 returns-in-Nothing-clause-tidied g c =
     let w = c.args.work.now in let a = c.args.values.now in
     let t = subst (IsLeftAt w a c.args.number) c.in-Nothing.is c.in_ok-left_at.ensures.what in
-    tidied_nothing w c.delete.new.self a c.args.number t.0 c.requires.set t.1 t.2.holds c.delete.ensures.work (_, c.delete.ensures.log) c.delete.result c.delete.ensures.deleted
+    tidied_nothing w c.delete.new.self a c.args.number t.0 c.requires.set t.1 t.2.no_opposites t.2.holds c.delete.ensures.work (_, c.delete.ensures.log) c.delete.result c.delete.ensures.deleted
 
 pub returns-in_ok-add_rup-in-Part-clause-tidied : goal.returns-in_ok-add_rup-in-Part-clause-tidied
 returns-in_ok-add_rup-in-Part-clause-tidied g c =

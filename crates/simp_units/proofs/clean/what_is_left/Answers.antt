@@ -13,6 +13,7 @@ returns-then-has_true c =
     let n : length c.lits-lits.result.now ≡ length c.args.clause.now = ap (λ (x : List Literal). length x) same in
     record {
       long = two_if_long c.args.clause.now c.lits-lits.ensures.ordered (omega (arith, n, c.if-lits-lt2.false));
+      no_opposites = sym c.is_tautology.ensures ∙ c.if-is_tautology.false;
       holds = ap (list_any (is_true c.args.values.now)) (sym same) ∙ sym c.has_true.ensures ∙ c.if-has_true.true;
     }
 

@@ -14,6 +14,8 @@ mod tests_answer;
 #[cfg(test)]
 mod tests_call;
 #[cfg(test)]
+mod tests_devices;
+#[cfg(test)]
 mod tests_message;
 #[cfg(test)]
 mod tests_rings;

@@ -1,6 +1,6 @@
 // Whole calls over objects in memory.
 use crate::tests_call::{TestGate, call};
-use io_edge::{MemFile, MemFiles, MemOutput, MemSink, MemSource};
+use io_edge::{Files, MemFile, MemFiles, MemOutput, MemSink, MemSource};
 use sat_words::Assignment;
 use std::alloc::Global;
 use std::process::Abort;
@@ -230,7 +230,8 @@ fn words_of_row(alloc: Global, row: &Row) -> Result<Vec<String>, Fail> {
     Ok(strings)
 }
 
-/// Makes the call with a standard input that gives at most `piece` bytes a read.
+/// Makes the call with a standard input that gives at most `piece` bytes a read. If the words are refused, or the input can't be
+/// opened, the proof is not created.
 fn check_row<H: Threads + Wait + Abort + AllocGlobal + Sync>(
     rt: &H,
     row: Row,
@@ -264,6 +265,9 @@ fn check_row<H: Threads + Wait + Abort + AllocGlobal + Sync>(
     check_left(rt, &row, piece, &input);
     check_tally(rt, &row, &report.tally);
     check_model(rt, &row, report.model)?;
+    if !row.opened && matches!(row.status, 1 | 3) {
+        assert!(rt; files.create_output("P").is_ok());
+    }
     check_proof(rt, &row, report.proof)
 }
 

@@ -1,6 +1,6 @@
 // Whole calls over objects in memory.
 use crate::tests_call::{TestGate, call};
-use io_edge::{MemFile, MemFiles, MemOutput, MemSink, MemSource};
+use io_edge::{Files, MemFile, MemFiles, MemOutput, MemSink, MemSource};
 use sat_words::Assignment;
 use std::alloc::Global;
 use std::process::Abort;
@@ -230,7 +230,8 @@ fn words_of_row(alloc: Global, row: &Row) -> Result<Vec<String>, Fail> {
     Ok(strings)
 }
 
-/// Makes the call with a standard input that gives at most `piece` bytes a read.
+/// Makes the call with a standard input that gives at most `piece` bytes a read. If the words are refused, or the input can't be
+/// opened, the proof is not created.
 fn check_row<H: Threads + Wait + Abort + AllocGlobal + Sync>(
     rt: &H,
     row: Row,
@@ -264,6 +265,9 @@ fn check_row<H: Threads + Wait + Abort + AllocGlobal + Sync>(
     check_left(rt, &row, piece, &input);
     check_tally(rt, &row, &report.tally);
     check_model(rt, &row, report.model)?;
+    if !row.opened && matches!(row.status, 1 | 3) {
+        assert!(rt; files.create_output("P").is_ok());
+    }
     check_proof(rt, &row, report.proof)
 }
 
@@ -500,6 +504,126 @@ fn bad_clauses(rt: HostRuntime) -> Result<(), Fail> {
     check_rows(&rt, &rows)
 }
 
+/// Inputs as few tools write them: more blanks, leading zeros, carriage returns.
+#[test]
+fn odd_spellings(rt: HostRuntime) -> Result<(), Fail> {
+    let rows = [
+        Row {
+            input: b"p  cnf  1  1\n01 0\n",
+            out: b"s SATISFIABLE\nv 1 0\n",
+            ..MODEL
+        },
+        Row {
+            words: &["--proof", "P"],
+            input: b"p cnf 1 1\n00\n",
+            status: 20,
+            out: b"s UNSATISFIABLE\n",
+            proof: Some(b"0\n"),
+            ..MODEL
+        },
+        Row {
+            input: b"p cnf 1 1\r\n-1 0\r\n",
+            out: b"s SATISFIABLE\nv -1 0\n",
+            ..MODEL
+        },
+    ];
+    check_rows(&rt, &rows)
+}
+
+#[test]
+fn odd_headers(rt: HostRuntime) -> Result<(), Fail> {
+    let bad = Row {
+        status: 2,
+        err: b"gimsatul: input line 1: BadHeader\n",
+        code: 2,
+        line: 1,
+        ..PLAIN
+    };
+    let rows = [
+        Row {
+            input: b"pcnf 1 1\n",
+            left: b"nf 1 1\n",
+            ..bad
+        },
+        Row {
+            input: b"p cnf 1 1 x\n",
+            left: b"\n",
+            ..bad
+        },
+        // The first bytes of a file that gzip made.
+        Row {
+            input: &[31, 139, 8],
+            left: &[139, 8],
+            err: b"gimsatul: input line 1: NoHeader\n",
+            code: 1,
+            ..bad
+        },
+        Row {
+            input: b"p cnf 99999999999999999999999 1\n",
+            err: b"gimsatul: input line 1: Limit\n",
+            code: 8,
+            ..bad
+        },
+    ];
+    check_rows(&rt, &rows)
+}
+
+#[test]
+fn odd_clauses(rt: HostRuntime) -> Result<(), Fail> {
+    let bad = Row {
+        status: 2,
+        err: b"gimsatul: input line 2: BadToken\n",
+        code: 3,
+        line: 2,
+        ..PLAIN
+    };
+    let rows = [
+        Row {
+            input: b"p cnf 1 1\n-0\n",
+            ..bad
+        },
+        Row {
+            input: b"p cnf 1 1\n1 c 0\n",
+            left: b" 0\n",
+            ..bad
+        },
+        Row {
+            input: b"p cnf 1 1\np cnf 1 1\n",
+            left: b" cnf 1 1\n",
+            ..bad
+        },
+        Row {
+            input: b"p cnf 0 0\n0\n",
+            err: b"gimsatul: input line 2: TooManyClauses\n",
+            code: 5,
+            ..bad
+        },
+        Row {
+            input: b"p cnf 1 1\n1\n%\n",
+            left: b"\n",
+            err: b"gimsatul: input line 3: BadToken\n",
+            line: 3,
+            ..bad
+        },
+        Row {
+            input: b"p cnf 2 2\n1 0\n%\n",
+            left: b"\n",
+            err: b"gimsatul: input line 3: TooFewClauses\n",
+            code: 6,
+            line: 3,
+            ..bad
+        },
+        Row {
+            input: b"p cnf 1 1\n99999999999999999999999 0\n",
+            left: b"0\n",
+            err: b"gimsatul: input line 2: LiteralRange\n",
+            code: 4,
+            ..bad
+        },
+    ];
+    check_rows(&rt, &rows)
+}
+
 /// The same call with other words, each of which is refused or not.
 fn check_words<H: Threads + Wait + Abort + AllocGlobal + Sync>(
     rt: &H,
@@ -666,6 +790,15 @@ fn faults(rt: HostRuntime) -> Result<(), Fail> {
         left: NOTHING,
         ..PLAIN
     };
+    let outside = Row {
+        input: b"p cnf 1 1\n2 0\n",
+        left: b"0\n",
+        status: 2,
+        err: b"gimsatul: input line 2: LiteralRange\n",
+        code: 4,
+        line: 2,
+        ..PLAIN
+    };
     let unprinted = Row {
         status: 6,
         err: b"gimsatul: write fault\n",
@@ -701,6 +834,17 @@ fn faults(rt: HostRuntime) -> Result<(), Fail> {
             line: 1,
             ..PLAIN
         },
+        // A bad input is named, whether or not the proof's flush or the message fails.
+        Row {
+            words: &["--proof", "P"],
+            proof_fails: FIRST,
+            ..outside
+        },
+        Row {
+            err_fails: FIRST,
+            err: b"",
+            ..outside
+        },
         Row {
             out_fails: FIRST,
             ..unprinted
@@ -734,6 +878,13 @@ fn faults_of_the_proof(rt: HostRuntime) -> Result<(), Fail> {
         unproved,
         Row {
             input: b"p cnf 0 1\n0\n",
+            proof_fails: SECOND,
+            proof: Some(b"0\n"),
+            flushes_proof: false,
+            ..unproved
+        },
+        Row {
+            input: b"p cnf 1 2\n1 0\n-1 0\n",
             proof_fails: SECOND,
             proof: Some(b"0\n"),
             flushes_proof: false,

@@ -1,21 +1,21 @@
 // A sink into memory that was taken before.
 // The program never runs this: it stands for real files and streams in tests, where contracts know every byte.
-ghost use Rattle.std.specs.Prelude.{◌≡◌, ◌<◌, ◌≤◌, ◌||◌, [], true, false, None, length, take, Some, IfOk, is_err, nat_lt, vec_capacity, string_bytes};
+ghost use Rattle.std.specs.Prelude.{◌≡◌, ◌<◌, ◌≤◌, ◌||◌, [], true, false, None, length, take, min, Some, IfOk, is_err, nat_lt, vec_capacity, string_bytes};
 ghost use Rattle.std.specs.Option.{option_map};
 ghost use Rattle.std.specs.Io.{WritesAtMost};
 ghost use Rattle.io_edge.specs.Bytes.{Wrote, WasFlushed};
 ghost use Rattle.io_edge.specs.Calls.{fails_next};
 ghost use Rattle.io_edge.specs.Causes.{HasCause};
-ghost use Rattle.io_edge.specs.Memory.{SinkState, new_sink, room_left, after_write, after_flush};
+ghost use Rattle.io_edge.specs.Memory.{SinkState, new_sink, room_left, taken_of, after_write, after_flush};
 
 use crate::schedule::Schedule;
 use crate::{Failed, Sink};
 use std::alloc::{AllocError, Global};
 use std::marker::Model;
 
-/// Keeps what is written, up to a room in bytes that was taken when it was made.
+/// Keeps what is written, up to a room in bytes that was taken when it was made. Each write takes at most `piece` bytes.
 ///
-/// A piece that does not fit into what is left of the room is refused as a whole, and is a fault.
+/// If what a write would take does not fit into what is left of the room, it takes nothing, and is a fault.
 /// Writes and flushes are numbered together from 1 on, and those that `failing` lists fail.
 #[derive(Drop)]
 pub struct MemSink<'a> {
@@ -23,6 +23,7 @@ pub struct MemSink<'a> {
     bytes: Vec<u8>,
     flushed: usize,
     room: usize,
+    piece: usize,
     schedule: Schedule<'a>,
 }
 
@@ -34,22 +35,37 @@ impl<'a> Model for MemSink<'a> {
       written = s.bytes.items;
       flushed = take s.flushed s.bytes.items;
       room = s.room;
+      piece = s.piece;
       calls = s.schedule;
     } };
 
-    ghost invariant = { λ s. (length s.bytes.items ≤ s.room) × (s.room ≤ vec_capacity s.bytes) × (s.flushed ≤ length s.bytes.items) };
+    ghost invariant = { λ s. (length s.bytes.items ≤ s.room) × (s.room ≤ vec_capacity s.bytes) × (s.flushed ≤ length s.bytes.items) × (0 < s.piece) };
 }
 
 impl<'a> MemSink<'a> {
-    /// `room` is how many bytes it can take in all. All memory is taken here.
+    /// `room` is how many bytes it can take in all. Each write takes a whole piece. All memory is taken here.
     pub fn new(alloc: Global, room: usize, failing: &'a [u64]) -> Result<Self, AllocError>
         ensures { IfOk result (λ sink. sink ≡ new_sink room failing.now) }
+    {
+        MemSink::in_pieces(alloc, room, usize::MAX, failing)
+    }
+
+    /// `room` is how many bytes it can take in all, and each write takes at most `piece` of them. All memory is taken here.
+    pub fn in_pieces(
+        alloc: Global,
+        room: usize,
+        piece: usize,
+        failing: &'a [u64],
+    ) -> Result<Self, AllocError>
+        requires { 0 < piece }
+        ensures { IfOk result (λ sink. sink ≡ record (new_sink room failing.now) { piece = piece }) }
     {
         Ok(MemSink {
             path: None,
             bytes: Vec::with_capacity(alloc, room)?,
             flushed: 0,
             room,
+            piece,
             schedule: Schedule::new(failing),
         })
     }
@@ -63,6 +79,7 @@ impl<'a> MemSink<'a> {
             bytes: Vec::new(alloc),
             flushed: 0,
             room: 0,
+            piece: usize::MAX,
             schedule: Schedule::new(&[]),
         }
     }
@@ -130,15 +147,18 @@ impl<'a> Sink for MemSink<'a> {
         ensures flushed { self.new.flushed ≡ self.old.flushed }
         ensures target { self.new.target ≡ self.old.target }
         ensures cause { HasCause self.old.calls.faults self.new.calls.faults result }
-        ensures fails { is_err result ≡ (fails_next self.old.calls || nat_lt (room_left self.old) (length bytes.now)) }
+        ensures fails { is_err result ≡ (fails_next self.old.calls || nat_lt (room_left self.old) (length (taken_of self.old bytes.now))) }
+        ensures size { IfOk result (λ n. n ≡ min (length bytes.now) self.old.piece) }
         ensures after { self.new ≡ after_write self.old bytes.now (is_err result) }
     {
         self.schedule.next_call()?;
+        let count = bytes.len().min(self.piece);
+        let taken = &bytes[..count];
         let room_left = self.room - self.bytes.len();
-        if room_left < bytes.len() || self.bytes.extend_from_slice(bytes).is_err() {
+        if room_left < count || self.bytes.extend_from_slice(taken).is_err() {
             return Err(self.schedule.fault());
         }
-        Ok(bytes.len())
+        Ok(count)
     }
 
     fn flush(&mut self) -> Result<(), Failed>

@@ -85,7 +85,7 @@ fn a_sink_writes_to_a_real_file(rt: HostRuntime) -> Result<(), Fail> {
 #[test]
 fn a_store_opens_and_creates_real_files(rt: HostRuntime) -> Result<(), Fail> {
     let path = scratch_path(&rt, "store")?;
-    let mut files = StdFiles::new(&rt);
+    let mut files = StdFiles::new(&rt, rt.alloc());
     assert!(rt; files.open_input(path.as_str()).is_err());
     assert_eq!(rt; files.faults(), 1);
     match files.create_output(path.as_str()) {
@@ -109,6 +109,27 @@ fn a_store_opens_and_creates_real_files(rt: HostRuntime) -> Result<(), Fail> {
     assert_eq!(rt; write_all_of(&mut nowhere, TEXT), Ok(()));
     assert_eq!(rt; nowhere.flush(), Ok(()));
     fs::remove_file(&rt, path.as_str())?;
+    Ok(())
+}
+
+#[test]
+fn a_file_that_was_opened_is_not_created_anew(rt: HostRuntime) -> Result<(), Fail> {
+    let path = scratch_path(&rt, "kept")?;
+    let other = scratch_path(&rt, "other")?;
+    let folder = env::temp_dir(&rt)?;
+    let dotted = format!(in rt.alloc(); "{}/.{}", folder.as_str(), &path[folder.as_str().len()..])?;
+    fs::write(&rt, path.as_str(), TEXT)?;
+    let mut files = StdFiles::new(&rt, rt.alloc());
+    assert!(rt; files.open_input(path.as_str()).is_ok());
+    assert!(rt; files.create_output(path.as_str()).is_err());
+    assert!(rt; files.create_output(dotted.as_str()).is_err());
+    assert_eq!(rt; files.faults(), 2);
+    assert!(rt; files.create_output(other.as_str()).is_ok());
+    let mut source = StdSource::new(fs::open(&rt, path.as_str())?);
+    let found = read_all(rt.alloc(), &mut source)?;
+    assert!(rt; is_same(&found, TEXT));
+    fs::remove_file(&rt, path.as_str())?;
+    fs::remove_file(&rt, other.as_str())?;
     Ok(())
 }
 
@@ -320,6 +341,20 @@ fn a_sink_in_memory_keeps_to_its_room_and_its_list(rt: HostRuntime) -> Result<()
         assert!(rt; sink.target().is_none());
         assert_eq!(rt; sink.faults(), row.faults);
     }
+    Ok(())
+}
+
+#[test]
+fn a_sink_in_memory_takes_pieces(rt: HostRuntime) -> Result<(), Fail> {
+    let mut sink = MemSink::in_pieces(rt.alloc(), 5, 2, &[3])?;
+    assert_eq!(rt; sink.write(b"abc"), Ok(2));
+    assert_eq!(rt; sink.write(b"c"), Ok(1));
+    assert_eq!(rt; sink.write(b"d"), Err(Failed));
+    assert_eq!(rt; sink.write(b"def"), Ok(2));
+    assert_eq!(rt; sink.write(b""), Ok(0));
+    assert_eq!(rt; sink.write(b"f"), Err(Failed));
+    assert!(rt; is_same(sink.bytes(), b"abcde"));
+    assert_eq!(rt; sink.faults(), 2);
     Ok(())
 }
 

@@ -1,0 +1,92 @@
+// Two rings that meet at the turn in each round. Before the next round each waits for the other. So a ring that nobody wakes, or
+// that sleeps beside a free turn, sleeps for ever.
+ghost use Rattle.std.specs.Prelude.{◌≡◌};
+ghost use Rattle.test_tables.specs.Samples.{IsRing as IsAlone};
+
+use io_edge::Sink;
+use log_book::{Book, give_turn, take_turn};
+use share_rule::Shared;
+use std::alloc::Global;
+use std::sync::Wait;
+use std::sync::atomic::{AtomicU64, Ordering};
+use std::thread::{Threads, join, yield_now};
+use test_tables::Ring;
+
+/// How often the rings meet.
+const ROUNDS: u64 = 5_000;
+
+/// Waits until a ring is through with this many rounds.
+fn wait_for<H: Wait>(rt: &H, through: &AtomicU64, rounds: u64) {
+    for _ in rt.forever() {
+        if through.load(Ordering::SeqCst) >= rounds {
+            return;
+        }
+        yield_now();
+    }
+    // a loop over `forever` has no end
+    unreachable!()
+}
+
+/// Takes the turn, keeps it for this many looks at a count, and gives it back with nothing written.
+fn take_and_give<H: Wait, S: Sink>(
+    rt: &H,
+    alloc: Global,
+    table: &Shared<Book<S>>,
+    ring: &mut Ring<Book<S>>,
+    count: &AtomicU64,
+    looks: u64,
+)
+    requires { IsAlone table.now ring.old.pass ring.old.ring }
+    ensures ring { IsAlone table.now ring.new.pass ring.new.ring }
+    ensures same { ring.new.ring ≡ ring.old.ring }
+{
+    let turn = take_turn(rt, alloc, table, &mut ring.pass, ring.ring);
+    for _ in 0..looks {
+        let _ = count.load(Ordering::SeqCst);
+    }
+    give_turn(table, &mut ring.pass, turn);
+}
+
+/// Takes the turn once in each round, and keeps it longer and longer.
+fn go_through<H: Wait, S: Sink>(
+    rt: &H,
+    alloc: Global,
+    table: &Shared<Book<S>>,
+    ring: Ring<Book<S>>,
+    own: &AtomicU64,
+    other: &AtomicU64,
+) -> Ring<Book<S>>
+    requires { IsAlone table.now ring.pass ring.ring }
+    ensures ring { IsAlone table.now result.pass ring.ring }
+    ensures same { result.ring ≡ ring.ring }
+{
+    let mut ring = ring;
+    for round in 0..ROUNDS {
+        wait_for(rt, other, round);
+        take_and_give(rt, alloc, table, &mut ring, own, round % 256);
+        own.store(round + 1, Ordering::SeqCst);
+    }
+    ring
+}
+
+/// Both rings, each in a thread of its own if threads can be made.
+pub(crate) fn meet<S: Sink + Send, R: Threads + Wait + Sync>(
+    rt: &R,
+    alloc: Global,
+    table: &Shared<Book<S>>,
+    zero: Ring<Book<S>>,
+    one: Ring<Book<S>>,
+) -> (Ring<Book<S>>, Ring<Book<S>>)
+    requires zero { IsAlone table.now zero.pass zero.ring }
+    requires one { IsAlone table.now one.pass one.ring }
+    ensures zero { IsAlone table.now result.0.pass zero.ring × (result.0.ring ≡ zero.ring) }
+    ensures one { IsAlone table.now result.1.pass one.ring × (result.1.ring ≡ one.ring) }
+{
+    let zero_through = AtomicU64::new(0);
+    let one_through = AtomicU64::new(0);
+    join(
+        rt,
+        || go_through(rt, alloc, table, zero, &zero_through, &one_through),
+        || go_through(rt, alloc, table, one, &one_through, &zero_through),
+    )
+}

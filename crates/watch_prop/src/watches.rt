@@ -142,6 +142,7 @@ impl Watches {
         ensures still { IsQuiet self.old (lits_at (P.state port.old)) trail.old → trail.new ≡ trail.old }
         ensures settled { IfOk result (λ _came_to. IsQuiet self.old (lits_at (P.state port.old)) trail.old → NoneWaits self.new) }
     {
+        let _lawful = trail.decision_level();
         self.tidy();
         match self.watch_waiting(port, trail)? {
             Propagated::Conflict(clause) => Ok(Propagated::Conflict(clause)),

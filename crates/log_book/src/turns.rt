@@ -10,8 +10,12 @@ use crate::turn::Turn;
 use io_edge::Sink;
 use share_rule::{Gives, Note, Notes, Pass, Refusal, Shared, Takes};
 use std::alloc::Global;
+use std::hint::spin_loop;
 use std::marker::Brand;
 use std::sync::Wait;
+
+/// How often the turn is tried before a ring parks: it is mostly held for less than parking takes.
+const TRIES: u32 = 100;
 
 /// One try to take the book out with the turn.
 fn try_take<S: Sink>(
@@ -56,7 +60,28 @@ pub(crate) fn try_turn<S: Sink>(
     })
 }
 
-/// Waits for the turn, and parks on its word while another has it.
+/// Tries to take the turn a number of times, one right after the other. None if another had it each time.
+fn try_often<S: Sink>(
+    alloc: Global,
+    table: &Shared<Book<S>>,
+    pass: &mut Pass<Book<S>>,
+    ring: u32,
+) -> Option<Turn<S>>
+    requires pass { IsPassOf table.now pass.old × (pass.old.me.1 ≡ []) }
+    requires ring { IsFree pass.old.me.0 × (ring ≡ (only pass.old.me.0).core.ring) }
+    ensures pass { IsPassOf table.now pass.new × (pass.new.id ≡ pass.old.id) }
+    ensures turn { MatchOption result ((pass.new.me.1 ≡ []) × HasMissed pass.old.me.0 pass.new.me.0) (λ t. (pass.new.me.1 ≡ (0, None) ∷ []) × WasTaken S.written S.flushed S.target S.faults pass.old.me.0 pass.new.me.0 t) }
+{
+    for _ in 0..TRIES {
+        if let Some(turn) = try_turn(alloc, table, pass, ring) {
+            return Some(turn);
+        }
+        spin_loop();
+    }
+    None
+}
+
+/// Waits for the turn. While another has it, it is tried some times, and then the ring parks on its word.
 pub fn take_turn<H: Wait, S: Sink>(
     rt: &H,
     alloc: Global,
@@ -70,7 +95,7 @@ pub fn take_turn<H: Wait, S: Sink>(
     ensures turn { WasTaken S.written S.flushed S.target S.faults pass.old.me.0 pass.new.me.0 result }
 {
     for _ in rt.forever() {
-        if let Some(turn) = try_turn(alloc, table, pass, ring) {
+        if let Some(turn) = try_often(alloc, table, pass, ring) {
             return turn;
         }
         let seen = table.table.shared.peek(0);

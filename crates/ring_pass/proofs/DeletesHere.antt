@@ -1,30 +1,25 @@
 -- Deletions of the clauses that wait.
-use Rattle.std.proofs.Common.{◌≡◌, ℕ, zero, suc, ◌+◌, ◌<◌, ◌≤◌, ◌==◌, Bool, true, false, if◌then◌else◌, List, [], ◌∷◌, ◌++◌, map, length, get_or, take, drop, refl, sym, ap, subst, ◌∙◌, arith, Option, None, eq-eqb, length-append, append_assoc, append-nil}
-use Rattle.std.proofs.lemmas.Bool.{true≢false, or_left}
-use Rattle.std.proofs.lemmas.List.{map-append, length-map}
+use Rattle.std.proofs.Common.{◌≡◌, ℕ, zero, suc, ◌<◌, ◌≤◌, Bool, true, false, List, [], ◌∷◌, ◌++◌, map, length, take, drop, refl, sym, ap, subst, ◌∙◌, arith, Option, None, length-append, append-nil}
+use Rattle.std.proofs.lemmas.List.{length-map}
 use Rattle.std.specs.List.{All}
 use Rattle.sat_words.specs.Literal.{Literal}
 use Rattle.sat_words.specs.Clause.{has}
 use Rattle.sat_words.specs.declared.shared.Cref.{Cref}
 use Rattle.rup_model.specs.declared.journal.Entry.{Entry}
 use Rattle.rup_model.specs.declared.journal.Entry.TheVariants.{Del}
-use Rattle.rup_model.specs.Basics.{one_if}
-use Rattle.rup_model.specs.Journal.{ended}
 use Rattle.atomic_table.specs.declared.shared.Seat.{Seat}
 use Rattle.share_core.specs.declared.part.CoreOpening.{CoreOpening}
 use Rattle.share_core.specs.declared.part.Part.{Part}
 use Rattle.share_core.specs.declared.part.Placed.{Placed}
 use Rattle.share_core.specs.declared.stored.ClauseAt.{ClauseAt}
-use Rattle.share_core.specs.State.{times_at, without_at}
+use Rattle.share_core.specs.State.{times_at}
 use Rattle.share_rule.specs.declared.Shared.{Shared}
-use Rattle.share_rule.specs.declared.note.Note.TheVariants.{Bury}
 use Rattle.share_rule.specs.declared.view.GlueAt.{GlueAt}
-use Rattle.share_rule.specs.declared.view.Refusal.{Refusal}
 use Rattle.share_rule.specs.declared.view.RingPart.{RingPart}
 use Rattle.share_rule.specs.declared.view.View.{View}
 use Rattle.share_rule.specs.Passes.{IsPassOf}
-use Rattle.share_rule.specs.Turns.{IsFree, sheet_after, give_part, newer}
-use Rattle.share_rule.specs.Views.{only, clause_in}
+use Rattle.share_rule.specs.Turns.{IsFree, give_part}
+use Rattle.share_rule.specs.Views.{only}
 use Rattle.log_book.specs.declared.stop.TurnStop.{TurnStop}
 use Rattle.ring_port.specs.declared.stops.PortStop.{PortStop}
 use Rattle.ring_port.specs.Deleting.{deletions, TidiedUpTo, TidiedSome}
@@ -33,12 +28,12 @@ use Rattle.ring_port.specs.PortState.{PortState}
 use Rattle.ring_pass.specs.declared.waiting.Waiting.{Waiting}
 use Rattle.ring_pass.specs.Deletions.{deletions_of, Deleted, DeletedSome}
 use Rattle.ring_pass.specs.Refusals.{port_stop, refused_after, ended_after, answer_noted}
-use Rattle.ring_pass.specs.RingState.{Own, holding_of, port_with, port_of, home_of, IsOwn, IsWaiting, AreWaiting, IsRingPass, HasRoom, HasUnits}
-use Rattle.ring_pass.specs.Writes.{entries_of, sheet_with, Wrote}
+use Rattle.ring_pass.specs.RingState.{Own, holding_of, port_with, port_of, home_of, IsOwn, AreWaiting, IsRingPass, HasRoom, HasUnits}
+use Rattle.ring_pass.specs.Writes.{entries_of, sheet_with}
 use Rattle.ring_pass.proofs.PollsHere.{port_step}
 use Rattle.ring_pass.proofs.RingPorts.{rings_here}
 use Rattle.ring_pass.proofs.Stays.{only_is, one_is, units_keep}
-use Rattle.ring_pass.proofs.TurnsHere.{mine_last, not_ended, refused_here, room_refused, units_refused, ring_turns, end_refused, fault_refused, fault_alone, answer_here}
+use Rattle.ring_pass.proofs.TurnsHere.{refused_here, room_refused, units_refused, ring_turns, end_refused, fault_refused, fault_alone, answer_here}
 use Rattle.std.specs.Option.{option_map}
 
 -- Lists
@@ -56,19 +51,6 @@ are_drop (suc k) [] (h ∷ hs) a = absurd a
 are_drop (suc k) (w ∷ ws) [] a = absurd a
 are_drop (suc k) (w ∷ ws) (h ∷ hs) a = are_drop k ws hs a.1
 
--- the clause at a place, and its place among those that wait
-record IsNext (w : Waiting) (i : ℕ) (hs : List ClauseAt) : Type 0 where
-  clause : ClauseAt
-  is : IsWaiting w clause
-  next : drop i hs ≡ clause ∷ drop (suc i) hs
-  front : take (suc i) hs ≡ take i hs ++ clause ∷ []
-
-are_at : (ws : List Waiting) (hs : List ClauseAt) (i : ℕ) (w : Waiting) → AreWaiting ws hs → i < length ws → w ≡ get_or ws i w → IsNext w i hs
-are_at [] hs i w a lt e = absurd (omega arith)
-are_at (x ∷ ws) [] i w a lt e = absurd a
-are_at (x ∷ ws) (h ∷ hs) zero w a lt e = record { clause = h; is = subst (λ (y : Waiting). IsWaiting y h) (sym e) a.0; next = refl; front = refl }
-are_at (x ∷ ws) (h ∷ hs) (suc i) w a lt e = let t = are_at ws hs i w a.1 (omega arith) e in record { clause = t.clause; is = t.is; next = t.next; front = ap (λ (ks : List ClauseAt). h ∷ ks) t.front }
-
 map_drop : (gs : List GlueAt) (k : ℕ) (hs : List ClauseAt) → map (holding_of gs) (drop k hs) ≡ drop k (map (holding_of gs) hs)
 map_drop gs zero hs = refl
 map_drop gs (suc k) [] = refl
@@ -78,13 +60,6 @@ dels_take : (gs : List GlueAt) (r k : ℕ) (hs : List ClauseAt) → deletions_of
 dels_take gs r zero hs = refl
 dels_take gs r (suc k) [] = refl
 dels_take gs r (suc k) (h ∷ hs) = ap (λ (es : List Entry). Del r h.number ∷ es) (dels_take gs r k hs)
-
--- the first of some clauses is found at its address
-first_here : (h : ClauseAt) (hs : List ClauseAt) (a : ℕ) → a ≡ h.address → (0 < times_at a (h ∷ hs)) × (clause_in a (h ∷ hs) ≡ h) × (without_at a (h ∷ hs) ≡ hs)
-first_here h hs a e =
-    let here : (h.address == a) ≡ true = eq-eqb h.address a (sym e) in
-    let one : one_if (h.address == a) ≡ 1 = ap one_if here in
-    (omega arith, (λ i. if here i then h else clause_in a hs), (λ i. if here i then hs else h ∷ without_at a hs))
 
 -- One after another
 
@@ -112,70 +87,11 @@ deleted_none v one free = record {
   failed_was = λ e. e;
 }
 
--- what waits next
-next_waits : (v w : View) (k : ℕ) (x : Waiting) → Deleted v w k → (n : IsNext x k (only v).core.waiting) → (only w).core.waiting ≡ n.clause ∷ drop (suc k) (only v).core.waiting
-next_waits v w k x d n = ap (λ (p : RingPart). p.core.waiting) (only_is w d.part d.parts) ∙ d.waiting ∙ n.next
-
-pub may_delete : (v w : View) (k : ℕ) (ws : List Waiting) (x : Waiting) → Deleted v w k → AreWaiting ws (only v).core.waiting → k < length ws → x ≡ get_or ws k x
-    → (0 < times_at x.cell.address (only w).core.waiting) × (x.lits.items ≡ (clause_in x.cell.address (only w).core.waiting).lits)
-may_delete v w k ws x d a lt e =
-    let n = are_at ws (only v).core.waiting k x a lt e in
-    let f = first_here n.clause (drop (suc k) (only v).core.waiting) x.cell.address n.is.address in
-    subst (λ (hs : List ClauseAt). (0 < times_at x.cell.address hs) × (x.lits.items ≡ (clause_in x.cell.address hs).lits)) (sym (next_waits v w k x d n)) (f.0, n.is.lits ∙ ap (λ (h : ClauseAt). h.lits) (sym f.1))
-
 -- the ring is free between turns
 pub deleted_free : (v w : View) (k r : ℕ) → Deleted v w k → r ≡ (only v).core.ring → IsFree w × (r ≡ (only w).core.ring)
 deleted_free v w k r d e =
     let now : only w ≡ d.part = only_is w d.part d.parts in
     ((one_is w d.part d.parts, ap (λ (q : RingPart). q.turn) now ∙ d.turn), e ∙ sym (ap (λ (q : RingPart). q.core.ring) now ∙ ap (λ (c : Part). c.ring) d.core))
-
--- the ring's part after one deletion
-abbrev buried_one : View → List Entry → ℕ → Option Refusal → Bool → RingPart
-buried_one v J a x failed = give_part v.opening (sheet_after v.opening (only v).core.ring (sheet_with J (only v)) (Bury a ∷ [])) x failed (only v)
-
-pub deleted_more : (v w u : View) (k : ℕ) (ws : List Waiting) (x : Waiting) → Deleted v w k → AreWaiting ws (only v).core.waiting → k < length ws → x ≡ get_or ws k x → Wrote w u (Bury x.cell.address) → Deleted v u (k + 1)
-deleted_more v w u k ws x d a lt e h =
-    let hs : List ClauseAt = (only v).core.waiting in
-    let n = are_at ws hs k x a lt e in
-    let r : ℕ = (only v).core.ring in
-    let f = first_here n.clause (drop (suc k) hs) x.cell.address n.is.address in
-    let waits = next_waits v w k x d n in
-    let step : suc k ≡ k + 1 = omega arith in
-    let now : only w ≡ d.part = only_is w d.part d.parts in
-    let same : (only w).core ≡ record (only v).core { waiting = (only w).core.waiting; wrote = (only w).core.wrote } = subst (λ (q : RingPart). q.core ≡ record (only v).core { waiting = q.core.waiting; wrote = q.core.wrote }) (sym now) d.core in
-    let ring : (only w).core.ring ≡ r = ap (λ (c : Part). c.ring) same in
-    let number : (clause_in x.cell.address (only w).core.waiting).number ≡ n.clause.number = ap (λ (ks : List ClauseAt). (clause_in x.cell.address ks).number) waits ∙ ap (λ (c : ClauseAt). c.number) f.1 in
-    record {
-      part = buried_one w h.journal x.cell.address h.refused h.failed;
-      parts = h.gave.parts;
-      layout = h.gave.layout ∙ d.layout;
-      opening = h.gave.opening ∙ d.opening;
-      stop = h.gave.stop ∙ d.stop;
-      looks = h.gave.looks ∙ d.looks;
-      core = λ i. record (same i) { waiting = without_at x.cell.address (only w).core.waiting; wrote = (only w).core.wrote ++ record { place = length h.journal; entry = Del (only w).core.ring (clause_in x.cell.address (only w).core.waiting).number } ∷ [] };
-      glues = ap (λ (q : RingPart). q.glues) now ∙ d.glues;
-      gave = ap (λ (q : RingPart). q.gave) now ∙ d.gave;
-      polls = ap (λ (q : RingPart). q.polls) now ∙ d.polls;
-      caught_up = ap (λ (q : RingPart). q.caught_up) now ∙ d.caught_up;
-      turn = refl;
-      refused = ap (λ (y : Option Refusal). newer y (only w).refused) h.quiet ∙ ap (λ (q : RingPart). q.refused) now ∙ d.refused;
-      waiting = ap (without_at x.cell.address) waits ∙ f.2 ∙ ap (λ (m : ℕ). drop m hs) step;
-      wrote = mine_last (only w).core.wrote (record { place = length h.journal; entry = Del (only w).core.ring (clause_in x.cell.address (only w).core.waiting).number })
-          ∙ (λ i. (ap entries_of now ∙ d.wrote) i ++ Del (ring i) (number i) ∷ [])
-          ∙ append_assoc (entries_of (only v)) (deletions_of r (take k hs)) (Del r n.clause.number ∷ [])
-          ∙ ap (λ (es : List Entry). entries_of (only v) ++ es) (sym (map-append (λ (c : ClauseAt). Del r c.number) (take k hs) (n.clause ∷ [])) ∙ ap (deletions_of r) (sym n.front ∙ ap (λ (m : ℕ). take m hs) step));
-      going = λ some. by k refl d.going (not_ended w h.journal h.knows h.going) (ap (λ (q : RingPart). q.ended) now) d.ended_is;
-      ended_is = λ t. or_left (only w).ended (ended w.opening.formula (h.journal ++ Del (only w).core.ring (clause_in x.cell.address (only w).core.waiting).number ∷ [])) (ap (λ (q : RingPart). q.ended) now ∙ d.ended_is t);
-      failed_is = λ t. h.gave.still (ap (λ (q : RingPart). q.failed) now ∙ d.failed_is t);
-      failed_was = λ t. absurd (true≢false (sym t ∙ h.whole));
-    }
-  where
-    by : (m : ℕ) → m ≡ k → (0 < k → (only v).ended ≡ false) → (only w).ended ≡ false → (only w).ended ≡ d.part.ended → ((only v).ended ≡ true → d.part.ended ≡ true) → (only v).ended ≡ false
-    by m same before none is more = cases (only v).ended more
-      where
-        cases : (b : Bool) → (b ≡ true → d.part.ended ≡ true) → b ≡ false
-        cases true f = sym (f refl) ∙ sym is ∙ none
-        cases false f = refl
 
 -- The port
 

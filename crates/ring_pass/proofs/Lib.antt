@@ -1,5 +1,6 @@
 mod AddsHere
 mod Beginning
+mod BuriesHere
 mod CanOffers
 mod CellsHere
 mod DeletesHere

@@ -36,13 +36,13 @@ use Rattle.share_rule.specs.Passes.{IsPassOf}
 use Rattle.share_rule.specs.Seen.{Seen, IsPart}
 use Rattle.share_rule.specs.Steps.{on_first}
 use Rattle.share_rule.specs.Turns.{Sheet, MayNote, journal_in, sheet_after, written_of, take_part, give_part, after_give, newer}
-use Rattle.share_rule.specs.Views.{only, no_part, clause_in}
+use Rattle.share_rule.specs.Views.{only, no_part}
 use Rattle.share_rule.proofs.Moves.{turn_is}
 use Rattle.log_book.specs.declared.stop.TurnStop.{TurnStop}
 use Rattle.log_book.specs.declared.stop.TurnStop.TheVariants.{Ended, Broken, NoHole, Memory, ProofFault}
 use Rattle.log_book.specs.declared.turn.Turn.{Turn}
 use Rattle.log_book.specs.Books.{AreAlike}
-use Rattle.log_book.specs.Turns.{WasTaken, IsTurn, Grown, Refused as TurnRefused, MayNext, IsCause, IsAddCause, noted_as, waiting, sheet}
+use Rattle.log_book.specs.Turns.{WasTaken, IsTurn, Grown, Refused as TurnRefused, MayNext, IsCause, IsAddCause, noted_as, sheet}
 use Rattle.ring_port.specs.declared.stops.PortStop.{PortStop}
 use Rattle.ring_port.specs.declared.stops.PortStop.TheVariants as port
 use Rattle.ring_port.specs.Port.{HasReason, after_refusal, Refused, is_fault, is_usable}
@@ -153,19 +153,21 @@ fault_same t t' e quiet alike = ap (λ k. k.spent) (alike (λ q. true≢false (s
 broken_same : {S : Type 0} {d : Ghosts S} (t t' : Turn S d) → (Broken ≢ ProofFault → AreAlike t.book t'.book) → t'.book.log.lines.spent ≡ t.book.log.lines.spent
 broken_same t t' alike = ap (λ k. k.spent) (alike (λ q. cc q)).lines
 
-pub cause_why : {S : Type 0} {d : Ghosts S} (faults : S → ℕ) (v w : View) (t t' : Turn S d) (J : List Entry) (failed : Bool) (e : TurnStop) → HasTurn v w J failed → t.noted.items ≡ [] → (e ≢ ProofFault → AreAlike t.book t'.book) → IsCause faults w t t' e
-    → IsWhy v.opening J e × TellsFault e t.book.log.lines.spent t'.book.log.lines.spent
-cause_why faults v w t t' J failed e h none alike c = by e alike c
+-- why a turn wrote nothing more behind this journal
+pub cause_tells : {S : Type 0} {d : Ghosts S} (faults : S → ℕ) (v w : View) (t t' : Turn S d) (K : List Entry) (e : TurnStop) → ended v.opening.formula K ≡ ended w.opening.formula (sheet w t).journal → (e ≢ ProofFault → AreAlike t.book t'.book) → IsCause faults w t t' e
+    → IsWhy v.opening K e × TellsFault e t.book.log.lines.spent t'.book.log.lines.spent
+cause_tells faults v w t t' K e same alike c = by e alike c
   where
-    same : ended v.opening.formula J ≡ ended w.opening.formula (sheet w t).journal
-    same i = ended (sym h.opening i).formula (sym (journal_taken v w t J failed h none) i)
-
-    by : (x : TurnStop) → (x ≢ ProofFault → AreAlike t.book t'.book) → IsCause faults w t t' x → IsWhy v.opening J x × TellsFault x t.book.log.lines.spent t'.book.log.lines.spent
+    by : (x : TurnStop) → (x ≢ ProofFault → AreAlike t.book t'.book) → IsCause faults w t t' x → IsWhy v.opening K x × TellsFault x t.book.log.lines.spent t'.book.log.lines.spent
     by Ended a k = (same ∙ k, fault_same t t' Ended refl a)
     by Broken a k = (same ∙ k.0, (k.1, broken_same t t' a ∙ k.1))
     by (NoHole need most) a k = ((same ∙ k.0, let x = k.3 in let y = k.4 in omega arith), (k.1, fault_same t t' (NoHole need most) refl a ∙ k.1))
     by Memory a k = (same ∙ k.0.going, (k.1, fault_same t t' Memory refl a ∙ k.1))
     by ProofFault a k = (same ∙ k.0.going, (k.1, k.2))
+
+pub cause_why : {S : Type 0} {d : Ghosts S} (faults : S → ℕ) (v w : View) (t t' : Turn S d) (J : List Entry) (failed : Bool) (e : TurnStop) → HasTurn v w J failed → t.noted.items ≡ [] → (e ≢ ProofFault → AreAlike t.book t'.book) → IsCause faults w t t' e
+    → IsWhy v.opening J e × TellsFault e t.book.log.lines.spent t'.book.log.lines.spent
+cause_why faults v w t t' J failed e h none alike c = cause_tells faults v w t t' J e (λ i. ended (sym h.opening i).formula (sym (journal_taken v w t J failed h none) i)) alike c
 
 pub add_cause_why : {S : Type 0} {d : Ghosts S} (faults : S → ℕ) (v w : View) (t t' : Turn S d) (J : List Entry) (failed : Bool) (size : ℕ) (e : TurnStop) → HasTurn v w J failed → t.noted.items ≡ [] → (e ≢ ProofFault → AreAlike t.book t'.book) → IsAddCause faults w t t' size e
     → IsWhy v.opening J e × TellsFault e t.book.log.lines.spent t'.book.log.lines.spent
@@ -358,10 +360,6 @@ may_add_unit v J Ruler lit k h = h
 may_add_unit v J Learn lit k h = (λ i. not (list_any (includes (lit ∷ [])) (start_clauses (opening_of v.opening) ++ k.recent_is i))) ∙ h
 may_add_unit v J Derive lit k h = h
 may_add_unit v J UnitLine lit k h = h
-
--- what waits, as the turn has it
-pub waits_here : {S : Type 0} {d : Ghosts S} {lits : List Literal} (v w : View) (t : Turn S d) (J : List Entry) (failed : Bool) (a : ℕ) → HasTurn v w J failed → t.noted.items ≡ [] → lits ≡ (clause_in a (only v).core.waiting).lits → lits ≡ (waiting w t a).lits
-waits_here v w t J failed a h none e = e ∙ ap (λ (s : Sheet). (clause_in a s.part.waiting).lits) (sym (ap (written_of w) none ∙ sheet_taken v w J failed [] h))
 
 -- Results
 

@@ -1,12 +1,20 @@
--- What deleting the clauses that wait does, one in each turn of the log.
-use Rattle.std.specs.Prelude.{◌≡◌, ℕ, ◌<◌, true, false, List, [], ◌∷◌, ◌++◌, map, take, drop, None}
+-- What deleting the clauses that wait does, several in each turn of the log.
+use Rattle.io_edge.specs.declared.edge.Sink.{Ghosts}
+use Rattle.std.specs.Prelude.{◌≡◌, ℕ, ◌<◌, true, false, List, [], ◌∷◌, ◌++◌, map, take, drop, Option, None}
 use Rattle.rup_model.specs.declared.journal.Entry.{Entry}
 use Rattle.rup_model.specs.declared.journal.Entry.TheVariants.{Del}
+use Rattle.rup_model.specs.Journal.{ended}
 use Rattle.share_core.specs.declared.stored.ClauseAt.{ClauseAt}
+use Rattle.share_rule.specs.declared.note.Note.{Note}
+use Rattle.share_rule.specs.declared.note.Note.TheVariants.{Bury}
 use Rattle.share_rule.specs.declared.view.RingPart.{RingPart}
 use Rattle.share_rule.specs.declared.view.View.{View}
+use Rattle.share_rule.specs.Turns.{journal_in}
 use Rattle.share_rule.specs.Views.{only}
 use Rattle.log_book.specs.declared.stop.TurnStop.{TurnStop}
+use Rattle.log_book.specs.declared.turn.Turn.{Turn}
+use Rattle.log_book.specs.Turns.{IsTurn, Refused, IsCause}
+use Rattle.ring_pass.specs.declared.waiting.Waiting.{Waiting}
 use Rattle.ring_pass.specs.Writes.{entries_of, WroteNone}
 
 -- the entries that delete these clauses
@@ -41,3 +49,28 @@ pub record DeletedSome (v w : View) (many : ℕ) (k : ℕ) (e : TurnStop) : Type
   pub middle : View
   pub first : Deleted v middle k
   pub refused : WroteNone middle w e
+
+-- In one turn
+
+-- the notes that delete these clauses, in order
+abbrev pub burials : List Waiting → List Note
+burials ws = map (λ w. Bury w.cell.address) ws
+
+module _ {S : Type 0} {d : Ghosts S} (written flushed target : S → Option (List ℕ)) (faults : S → ℕ) where
+  -- in a turn in which nothing was written before, the first k of the clauses are deleted; unless that is none, the log was not
+  -- ended and no write has failed
+  pub record Buried (v : View) (old new : Turn S d) (ws : List Waiting) (k : ℕ) : Type 0 where
+    pub noted : new.noted.items ≡ burials (take k ws)
+    pub refused : new.refused ≡ old.refused
+    pub turn : IsTurn written flushed target faults v new
+    pub none : k ≡ 0 → new ≡ old
+    pub going : 0 < k → ended v.opening.formula (journal_in (only v).turn) ≡ false
+    pub whole : 0 < k → new.book.log.lines.spent ≡ false
+
+  -- the deletion of the next one was refused for cause
+  pub record BuriedSome (v : View) (old new : Turn S d) (ws : List Waiting) (many k : ℕ) (e : TurnStop) : Type 0 where
+    pub some : k < many
+    pub middle : Turn S d
+    pub first : Buried v old middle ws k
+    pub refused : Refused written flushed target faults v middle new e
+    pub cause : IsCause faults v middle new e

@@ -10,9 +10,9 @@ ghost use Rattle.ring_port.specs.Deleting.{Tidied};
 ghost use Rattle.ring_pass.specs.RingState.{AreWaiting};
 ghost use Rattle.ring_pass.specs.Deletions.{Deleted, DeletedSome};
 
+use crate::burials::write_deletions;
 use crate::pass::RingPass;
 use crate::refusals::refuse;
-use crate::turns::write_deletion;
 use crate::waiting::Waiting;
 use io_edge::Sink;
 use log_book::{Book, TurnStop};
@@ -21,7 +21,7 @@ use share_rule::{Pass, Shared};
 use std::alloc::Global;
 use std::sync::Wait;
 
-/// Deletes the clauses that wait, one in each turn. Refused it answers how many are deleted.
+/// Deletes the clauses that wait, as many in each turn as it may have. Refused it answers how many are deleted.
 fn delete_all<H: Wait, S: Sink>(
     rt: &H,
     alloc: Global,
@@ -37,19 +37,19 @@ fn delete_all<H: Wait, S: Sink>(
     ensures deleted { OnOk result (Deleted pass.old.me.0 pass.new.me.0 (length waiting.now.items)) }
     ensures refused { IfErr result (λ e. DeletedSome pass.old.me.0 pass.new.me.0 (length waiting.now.items) e.0 e.1) }
 {
-    for i in 0..waiting.len() {
-        let deleted = write_deletion(rt, alloc, table, pass, ring, &waiting[i]);
-        match deleted {
-            Ok(()) => {}
-            Err(stop) => return Err((i, stop)),
+    let mut done = 0;
+    while done < waiting.len() {
+        match write_deletions(rt, alloc, table, pass, ring, &waiting[done..]) {
+            Ok(count) => done += count,
+            Err((count, stop)) => return Err((done + count, stop)),
         }
     }
     Ok(())
 }
 
 impl<'a, S: Sink, G: Gate, H: Wait> RingPass<'a, S, G, H> {
-    /// Writes the deletion lines of the clauses that wait, in their order, each in a turn of its own. After a refusal those not
-    /// yet deleted still wait.
+    /// Writes the deletion lines of the clauses that wait, in their order, up to 64 in a turn. After a refusal those not yet
+    /// deleted still wait.
     pub fn tidy(&mut self) -> Result<(), PortStop>
         requires usable { is_usable self.old.refused ≡ true }
         ensures tidied { Tidied self.old self.new result }

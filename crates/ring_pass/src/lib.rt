@@ -1,14 +1,15 @@
 //! The port of a ring over its pass of the shared table. What the ring holds, has seen and has done is the pass's part, and
 //! what the port keeps beside is fields of `RingPass`; contracts see both as the state of a port.
 //!
-//! Calls that write take the log's turn for each entry, and may wait for it; all others take steps that wait for nobody. A
-//! clause is read only while the ring holds it: its number and literals are read before its last count may go, since its
+//! Calls that write take the log's turn for each entry, or for several deletions, and may wait for it; all others take steps
+//! that wait for nobody. A clause is read only while the ring holds it: its number and literals are read before its last count may go, since its
 //! deletion will need them. An offer takes no memory: room for what comes back in it is taken when the clause is learned.
 //! Listed units are seen one by one, and kept until they are given; a unit of the ring's own is listed in a second turn, once
 //! its line stands.
 #![tactic(auto)]
 
 mod additions;
+mod burials;
 mod cells;
 mod clauses;
 mod deletions;

@@ -1,17 +1,15 @@
 // Turns of the log with one entry.
-ghost use Rattle.std.specs.Prelude.{◌≡◌, ◌<◌, ◌≤◌, [], ◌∷◌, true, length, OnOk, IfErr};
+ghost use Rattle.std.specs.Prelude.{◌≡◌, ◌≤◌, [], ◌∷◌, true, length, OnOk, IfErr};
 ghost use Rattle.rup_model.specs.declared.journal.TheConstants.{LEARNED_PER_REDUCTION};
 ghost use Rattle.rup_model.specs.Journal.{recent};
-ghost use Rattle.share_rule.specs.declared.note.Note.TheVariants.{Unit as UnitNote, Empty, Reduce, Bury};
+ghost use Rattle.share_rule.specs.declared.note.Note.TheVariants.{Unit as UnitNote, Empty, Reduce};
 ghost use Rattle.share_core.specs.Learning.{follows, MayAddUnit};
-ghost use Rattle.share_core.specs.State.{times_at};
 ghost use Rattle.share_rule.specs.Layout.{InVars};
 ghost use Rattle.share_rule.specs.Passes.{IsPassOf};
 ghost use Rattle.share_rule.specs.Turns.{IsFree};
-ghost use Rattle.share_rule.specs.Views.{only, clause_in};
+ghost use Rattle.share_rule.specs.Views.{only};
 ghost use Rattle.ring_pass.specs.Writes.{entries_of, Wrote, WroteNone};
 
-use crate::waiting::Waiting;
 use io_edge::Sink;
 use log_book::{Book, TurnStop, give_turn, take_turn};
 use rup_model::Kind;
@@ -85,27 +83,4 @@ pub(crate) fn write_unit<H: Wait, S: Sink>(
     let added = turn.add_unit(pass, alloc, kind, lit);
     give_turn(table, pass, turn);
     added
-}
-
-/// Waits for the turn, deletes a clause that waits in it, and gives it back.
-pub(crate) fn write_deletion<H: Wait, S: Sink>(
-    rt: &H,
-    alloc: Global,
-    table: &Shared<Book<S>>,
-    pass: &mut Pass<Book<S>>,
-    ring: u32,
-    clause: &Waiting,
-) -> Result<(), TurnStop>
-    requires pass { IsPassOf table.now pass.old × (pass.old.me.1 ≡ []) }
-    requires ring { IsFree pass.old.me.0 × (ring ≡ (only pass.old.me.0).core.ring) }
-    requires waits { 0 < times_at clause.now.cell.address (only pass.old.me.0).core.waiting }
-    requires lits { clause.now.lits.items ≡ (clause_in clause.now.cell.address (only pass.old.me.0).core.waiting).lits }
-    ensures pass { IsPassOf table.now pass.new × (pass.new.id ≡ pass.old.id) × (pass.new.me.1 ≡ []) }
-    ensures wrote { OnOk result (Wrote pass.old.me.0 pass.new.me.0 (Bury clause.now.cell.address)) }
-    ensures refused { IfErr result (WroteNone pass.old.me.0 pass.new.me.0) }
-{
-    let mut turn = take_turn(rt, alloc, table, pass, ring);
-    let buried = turn.bury(pass, alloc, clause.cell, clause.lits.as_slice());
-    give_turn(table, pass, turn);
-    buried
 }

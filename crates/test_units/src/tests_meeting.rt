@@ -10,15 +10,47 @@ use std::alloc::Global;
 use std::sync::Wait;
 use std::sync::atomic::{AtomicU64, Ordering};
 use std::thread::{Threads, join, yield_now};
+use std::time::Clock;
 use test_tables::Ring;
 
-/// How often the rings meet.
-const ROUNDS: u64 = 5_000;
+/// How often the rings meet, if that takes a few seconds at most.
+const ROUNDS: u64 = 200_000;
+
+const SECONDS: u64 = 5;
+
+/// The number of rounds of a ring that goes through no more.
+const ALL: u64 = u64::MAX;
+
+/// When the rings are to end, in seconds of the clock.
+fn end_of<H: Clock>(rt: &H) -> u64 {
+    match rt.monotonic() {
+        Ok(now) => now.as_secs().saturating_add(SECONDS),
+        Err(_) => 0,
+    }
+}
+
+/// Whether it is later than that.
+fn is_past<H: Clock>(rt: &H, end: u64) -> bool {
+    match rt.monotonic() {
+        Ok(now) => now.as_secs() > end,
+        Err(_) => true,
+    }
+}
+
+/// Looks a few times whether a ring is through with this many rounds.
+fn is_through(through: &AtomicU64, rounds: u64) -> bool {
+    for _ in 0..200 {
+        if through.load(Ordering::SeqCst) >= rounds {
+            return true;
+        }
+    }
+    false
+}
 
 /// Waits until a ring is through with this many rounds.
 fn wait_for<H: Wait>(rt: &H, through: &AtomicU64, rounds: u64) {
     for _ in rt.forever() {
-        if through.load(Ordering::SeqCst) >= rounds {
+        if is_through(through, rounds) {
             return;
         }
         yield_now();
@@ -48,7 +80,7 @@ fn take_and_give<H: Wait, S: Sink>(
 }
 
 /// Takes the turn once in each round, and keeps it longer and longer.
-fn go_through<H: Wait, S: Sink>(
+fn go_through<H: Wait + Clock, S: Sink>(
     rt: &H,
     alloc: Global,
     table: &Shared<Book<S>>,
@@ -61,16 +93,21 @@ fn go_through<H: Wait, S: Sink>(
     ensures same { result.ring ≡ ring.ring }
 {
     let mut ring = ring;
+    let end = end_of(rt);
     for round in 0..ROUNDS {
+        if round % 256 == 0 && is_past(rt, end) {
+            break;
+        }
         wait_for(rt, other, round);
-        take_and_give(rt, alloc, table, &mut ring, own, round % 256);
+        take_and_give(rt, alloc, table, &mut ring, own, round % 1024);
         own.store(round + 1, Ordering::SeqCst);
     }
+    own.store(ALL, Ordering::SeqCst);
     ring
 }
 
 /// Both rings, each in a thread of its own if threads can be made.
-pub(crate) fn meet<S: Sink + Send, R: Threads + Wait + Sync>(
+pub(crate) fn meet<S: Sink + Send, R: Threads + Wait + Clock + Sync>(
     rt: &R,
     alloc: Global,
     table: &Shared<Book<S>>,

@@ -1,7 +1,9 @@
 -- How a run comes to its end.
-use Rattle.std.specs.Prelude.{◌≡◌, ℕ, ◌<◌, None, Result, IfSome, ⊤}
+use Rattle.std.specs.Prelude.{◌≡◌, ℕ, ◌<◌, Option, None, Some, Result, IfSome, ⊤}
 use Rattle.ring_port.specs.PortState.{PortState}
-use Rattle.ring_port.specs.Port.{EmptyWritten}
+use Rattle.sat_words.specs.declared.shared.Set.{Set}
+use Rattle.sat_words.specs.declared.shared.Set.TheVariants.{Won, Lost}
+use Rattle.ring_port.specs.Port.{EmptyWritten, SetStop}
 use Rattle.ring_port.specs.declared.stops.PortStop.{PortStop}
 use Rattle.ring_port.specs.declared.stops.PortStop.TheVariants as answer
 use Rattle.ring_run.specs.Ended.{Cause, stop_kind}
@@ -58,3 +60,13 @@ WroteEmpty old new = (answered : Result (Unit {0}) PortStop) × EmptyWritten old
 -- every run goes on as it was
 abbrev pub KeepsRuns : PortState → PortState → Type 0
 KeepsRuns old new = (start : PortState) (count : ℕ) → Runs start old count → Runs start new count
+
+-- the end once its stop was to be set: another ring's that stands is the end
+abbrev pub end_set : End → Set → End
+end_set end Won = end
+end_set end (Lost x) = Stopped x
+
+-- the stop of an end was set, if it sets one, and nothing else was done; if another ring's stands, that is the end
+abbrev pub SetsStop : PortState → PortState → Option ℕ → (found end : End) → Type 0
+SetsStop old new None found end = (new ≡ old) × (end ≡ found)
+SetsStop old new (Some kind) found end = (answered : Set) × SetStop old new kind answered × (end ≡ end_set found answered)

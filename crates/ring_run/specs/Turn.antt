@@ -10,7 +10,8 @@ use Rattle.ring_decide.specs.Phases.{first_phases}
 use Rattle.restart_plan.specs.Plan.{begun}
 use Rattle.ring_run.specs.Strategy.{Decides}
 use Rattle.ring_run.specs.Searching.{HasTold}
-use Rattle.ring_run.specs.Ending.{IsRefusal}
+use Rattle.ring_run.specs.Ended.{stop_kind}
+use Rattle.ring_run.specs.Ending.{IsRefusal, SetsStop}
 use Rattle.ring_run.specs.Course.{DecidedNext, LearnsFrom}
 use Rattle.ring_run.specs.Renewal.{Renews, TookImport}
 use Rattle.ring_run.specs.declared.job.Job.{Job}
@@ -108,3 +109,10 @@ pub record IsFirstRing (s : PortState) (job : Job) (ring : Ring) : Type 0 where
 abbrev pub RanJob : PortState → PortState → Job → End → Counts → Type 0
 RanJob s u job end counts =
     ((u ≡ s) × (end ≡ Memory)) ⊎ ((first : Ring) × (last : Ring) × IsFirstRing s job first × Searched s u first last end × (counts.learned ≡ last.learned) × (counts.exported ≡ last.exported) × (counts.offered ≡ last.offered) × (counts.restarts ≡ last.restarts.made))
+
+-- the job was run to an end, and then the stop of that end was set
+pub record HasRun (s u : PortState) (job : Job) (end : End) (counts : Counts) : Type 0 where
+  pub before : PortState
+  pub found : End
+  pub ran : RanJob s before job found counts
+  pub set : SetsStop before u (stop_kind found) found end

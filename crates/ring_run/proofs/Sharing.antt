@@ -112,6 +112,14 @@ module _ (s u : PortState) (old new : Ring) (lits : List Literal) (back glue lim
   pub asked_learned : new.learned ≡ old.learned + 1
   asked_learned = a.learned ∙ shared_count s v old mid lits glue address h
 
+  pub asked_shared : WasShared s v old new lits glue address
+  asked_shared = record {
+    middle = h.shared.middle;
+    learned = h.shared.learned;
+    lent = subst (λ (e : ℕ). HasLent h.shared.middle v address old.exported old.offered e new.offered) (sym a.offers.exported)
+        (subst (λ (o : ℕ). HasLent h.shared.middle v address old.exported old.offered mid.exported o) (sym a.offers.offered) h.shared.lent);
+  }
+
   pub asked_restarts : new.restarts ≡ asked (noted old.restarts glue)
   asked_restarts = a.restarts ∙ ap asked (shared_noted s v old mid lits glue address h)
 
@@ -210,12 +218,7 @@ module _ (s u : PortState) (old new : Ring) (lits : List Literal) (back glue lim
     asked_has_learned = record {
       address = address;
       between = v;
-      shared = record {
-        middle = h.shared.middle;
-        learned = h.shared.learned;
-        lent = subst (λ (e : ℕ). HasLent h.shared.middle v address old.exported old.offered e new.offered) (sym a.offers.exported)
-            (subst (λ (o : ℕ). HasLent h.shared.middle v address old.exported old.offered mid.exported o) (sym a.offers.offered) h.shared.lent);
-      };
+      shared = asked_shared;
       tidied = leaves.tidied;
       stored = stored_at s h.shared.middle u lits glue address h.shared.learned alike;
       restarts = asked_restarts;

@@ -145,6 +145,15 @@ one_turned p q r before between after i place next lt t k =
       short = k.short;
     }
 
+-- the lemma at the place is the first of those that had no turn
+pub cut_turned : (p q : Point) (before between : List Cref) (i place : ℕ) (c : Cref) → i < length before → AreTurned p q before between i place → drop place between ≡ c ∷ drop (place + 1) between → before ≡ take i before ++ c ∷ drop (suc i) before
+cut_turned p q before between i place c lt t there =
+    let d : Cref = slice_index_or before i (record { address = 0 }) in
+    let front : drop i before ≡ d ∷ drop (suc i) before = drop_at i before (record { address = 0 }) lt in
+    let both : (d ∷ (drop (suc i) before ++ t.shorter)) ≡ (c ∷ drop (place + 1) between) = ap (λ (xs : List Cref). xs ++ t.shorter) (sym front) ∙ sym t.rest ∙ there in
+    let same : d ≡ c = heads d c (drop (suc i) before ++ t.shorter) (drop (place + 1) between) both in
+    sym (both_parts i before) ∙ ap (λ (xs : List Cref). take i before ++ xs) (front ∙ ap (λ (x : Cref). x ∷ drop (suc i) before) same)
+
 drop_end : (n : ℕ) (xs : List Cref) → length xs ≤ n → drop n xs ≡ []
 drop_end zero [] h = refl
 drop_end zero (x ∷ xs) h = absurd (omega arith)

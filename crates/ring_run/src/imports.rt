@@ -5,7 +5,8 @@ ghost use Rattle.ring_port.specs.Exchange.{other_rings};
 ghost use Rattle.ring_run.specs.Ended.{slots_of, import_slots, LookedAlong, IsInTime};
 ghost use Rattle.ring_run.specs.Searching.{KeepsOn, OnlyPolled};
 ghost use Rattle.ring_run.specs.Renewal.{TookSlots, TookImport};
-ghost use Rattle.ring_run.specs.Course.{InSearch, KeepsLemmas, MayImport, Leads, KeepsLooking, KeepsOffering, IsPolling, HasPolledBy, KeepsImporting, KeepsTidy, IsInTimeBy, IsOnOrRefused};
+ghost use Rattle.ring_run.specs.Halting.{HaltsImporting};
+ghost use Rattle.ring_run.specs.Course.{InSearch, KeepsLemmas, MayImport, Leads, KeepsLooking, KeepsOffering, IsPolling, HasPolledBy, KeepsImporting, KeepsTidy, IsInTimeBy, IsOnOrRefused, HaltsBy};
 
 use crate::course::{Next, refute};
 use crate::job::End;
@@ -111,6 +112,7 @@ pub(crate) fn import<P: Port>(port: &mut P, ring: &mut Ring) -> Next
     requires import_due { ring.old.import_due ≡ true }
     ensures leads { (limit : ℕ) → ring.old.learned < limit → Leads (P.state port.old) ring.old (P.state port.new) ring.new limit result }
     ensures refused { IsOnOrRefused result }
+    ensures halts { HaltsBy (HaltsImporting (P.state port.old) (P.state port.new)) result }
     ensures took { result ≡ Next.Go → TookImport (P.state port.old) (P.state port.new) ring.old ring.new }
     ensures settled { result ≡ Next.Go → ring.new.import_due ≡ false }
     ensures steps { result ≡ Next.Go → length ring.old.trail.steps ≤ length ring.new.trail.steps }

@@ -7,7 +7,8 @@ ghost use Rattle.ring_run.specs.Ended.{IsInTime};
 ghost use Rattle.ring_run.specs.Searching.{OffersNothing, OpeningSeen, KeepsOn};
 ghost use Rattle.ring_run.specs.Renewal.{IsDue, HasReduced, HasShrunk, IsIdle, HasRenewed, IsResting, HaltsAt};
 ghost use Rattle.ring_run.specs.Ending.{EndsAt, end_refused};
-ghost use Rattle.ring_run.specs.Course.{HasLemmas, MayImport, Leads, KeepsLooking, KeepsOffering, IsPolling, HasPolledBy, KeepsImporting, KeepsTidy, IsInTimeBy, IsOnOrRefused};
+ghost use Rattle.ring_run.specs.Halting.{HaltsReducing, HaltsShrinking, HaltsRenewing};
+ghost use Rattle.ring_run.specs.Course.{HasLemmas, MayImport, Leads, KeepsLooking, KeepsOffering, IsPolling, HasPolledBy, KeepsImporting, KeepsTidy, IsInTimeBy, IsOnOrRefused, HaltsBy};
 
 use crate::course::{Next, end_refused};
 use crate::imports::import;
@@ -28,6 +29,7 @@ fn reduce_lemmas<P: Port>(alloc: Global, port: &mut P, ring: &mut Ring) -> Resul
     requires few { ring.old.reductions < 2 ^ 64 - 1 }
     requires due { IsDue ring.old }
     ensures reduced { OnOk result (HasReduced (P.state port.old) (P.state port.new) ring.old ring.new) }
+    ensures halts { IfErr result (λ stop. HaltsReducing (P.state port.old) (P.state port.new) (end_refused stop)) }
     ensures ok { OnOk result (KeepsOn (P.state port.old) (P.state port.new)) }
     ensures over { IfErr result (λ stop. EndsAt (P.state port.old) (P.state port.new) (end_refused stop)) }
     ensures resting { OnOk result (IsResting (P.state port.new) ring.new) }
@@ -65,6 +67,7 @@ fn shrink_lemmas<P: Port>(alloc: Global, port: &mut P, ring: &mut Ring) -> Resul
     requires few { ring.old.reductions < 2 ^ 64 - 1 }
     requires due { IsDue ring.old }
     ensures shrunk { OnOk result (HasShrunk (P.state port.old) (P.state port.new) ring.old ring.new) }
+    ensures halts { IfErr result (HaltsShrinking (P.state port.old) (P.state port.new) ring.old) }
     ensures over { IfErr result (HaltsAt (P.state port.old) (P.state port.new)) }
     ensures keeps { OnOk result (KeepsOn (P.state port.old) (P.state port.new)) }
     ensures import { OnOk result (MayImport (P.state port.new) ring.new.trail ring.new.watches ring.new.written) }
@@ -100,6 +103,7 @@ fn shrink_due<P: Port>(alloc: Global, port: &mut P, ring: &mut Ring) -> Result<(
     requires listed { HasLemmas (P.state port.old) ring.old }
     requires few { ring.old.reductions < 2 ^ 64 - 1 }
     ensures due { IsDue ring.old → OnOk result (HasShrunk (P.state port.old) (P.state port.new) ring.old ring.new) }
+    ensures halts { IfErr result (λ end. IsDue ring.old × HaltsShrinking (P.state port.old) (P.state port.new) ring.old end) }
     ensures early { ring.old.learned - ring.old.reduced_at < lemmas_before (ring.old.reductions + 1) → IsIdle (P.state port.old) (P.state port.new) ring.old ring.new }
     ensures over { IfErr result (HaltsAt (P.state port.old) (P.state port.new)) }
     ensures keeps { OnOk result (KeepsOn (P.state port.old) (P.state port.new)) }
@@ -131,6 +135,7 @@ pub(crate) fn reduce_vivify_import<P: Port>(alloc: Global, port: &mut P, ring: &
     requires import_due { ring.old.import_due ≡ true }
     ensures leads { (limit : ℕ) → ring.old.learned < limit → Leads (P.state port.old) ring.old (P.state port.new) ring.new limit result }
     ensures refused { IsOnOrRefused result }
+    ensures halts { HaltsBy (HaltsRenewing (P.state port.old) (P.state port.new) ring.old) result }
     ensures settled { result ≡ Next.Go → ring.new.import_due ≡ false }
     ensures renewed { result ≡ Next.Go → HasRenewed (P.state port.old) (P.state port.new) ring.old ring.new }
     ensures unlooked { (P.state port.new).looks ≡ (P.state port.old).looks }

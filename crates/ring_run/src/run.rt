@@ -10,8 +10,8 @@ ghost use Rattle.ring_decide.specs.Phases.{first_phases};
 ghost use Rattle.restart_plan.specs.Plan.{IsRestarting, begun};
 ghost use Rattle.ring_run.specs.Strategy.{Decides};
 ghost use Rattle.ring_run.specs.declared.job.Counts.{Counts};
-ghost use Rattle.ring_run.specs.Ending.{ComesTo, IsUnset, KeepsRuns};
-ghost use Rattle.ring_run.specs.Turn.{RanJob};
+ghost use Rattle.ring_run.specs.Ending.{ComesTo, IsUnset, KeepsRuns, SetsStop};
+ghost use Rattle.ring_run.specs.Turn.{RanJob, HasRun};
 ghost use Rattle.sat_words.specs.declared.shared.Stop.{Stop};
 
 use crate::job::{Counts, End, Job};
@@ -65,7 +65,8 @@ const NOTHING: Counts = Counts {
 /// answers `Stopped` with the stop that stands. A call of the port that was refused for want of memory, room or a write
 /// ends the run. After `Memory` the ring has no answer, and its stop says the other rings so.
 ///
-/// The clauses here are of what a run leaves and counts. What the ring does from turn to turn stands in the clauses of its inner calls.
+/// What the ring does from turn to turn is told by `ran`: an import, and then turns up to that in which it came to its end. Then the
+/// stop of that end is set. The other clauses are of what a run leaves and counts.
 pub fn run_ring<P: Port>(alloc: Global, port: &mut P, job: &Job) -> (End, Counts)
     requires job { IsJobOf (P.state port.old) job.now }
     requires untouched { IsUntouched (P.state port.old) }
@@ -89,6 +90,7 @@ pub fn run_ring<P: Port>(alloc: Global, port: &mut P, job: &Job) -> (End, Counts
     ensures within { result.1.learned ≤ job.now.conflicts }
     ensures spent { (result.0 ≡ End.Spent) ↔ (result.1.learned ≡ job.now.conflicts) }
     ensures ends { Ends (P.state port.new) result.0 }
+    ensures ran { HasRun (P.state port.old) (P.state port.new) job.now result.0 result.1 }
     ensures port { IsPort (P.state port.new) }
 {
     let (end, counts) = run_job(alloc, port, job);
@@ -231,6 +233,7 @@ fn set_stop<P: Port>(port: &mut P, end: End) -> End
     ensures looked { last_looks result ≤ last_looks end }
     ensures only { P.state port.new ≡ record (P.state port.old) { stop = (P.state port.new).stop } }
     ensures answer { (result ≡ end) ⊎ ((x : Stop) × (result ≡ End.Stopped x)) }
+    ensures set { SetsStop (P.state port.old) (P.state port.new) (stop_kind end) end result }
     ensures polled { (made : ℕ) → HasPolled (P.state port.old) made end → HasPolled (P.state port.new) made result }
     ensures imported { (start : PortState) (made : ℕ) → ImportsBy start (P.state port.old) made end → ImportsBy start (P.state port.new) made result }
     ensures tidied { IsTidy (P.state port.old) end → IsTidy (P.state port.new) result }

@@ -15,13 +15,12 @@ use Rattle.ring_run.proofs.Polling.{polls_same, polled_over, polled_halted, poll
 use Rattle.ring_run.proofs.Progress.{stop_seen, looked_goes_on, recent_still}
 use Rattle.ring_run.proofs.Tidying.{refused_halted}
 use Rattle.ring_run.proofs.Turning.{quiet_same, looked_search, compose}
-use Rattle.ring_run.specs.Turn.{ActedAtQuiet}
+use Rattle.ring_run.specs.Turn.{ActedAtQuiet, EndsQuietly}
 use Rattle.ring_run.specs.declared.job.End.{End}
 use Rattle.ring_run.specs.declared.course.Next.TheVariants.{Finish}
 use Rattle.ring_run.specs.Ending.{end_refused}
-use Rattle.ring_run.specs.Course.{EndsQuietly}
 use Rattle.ring_run.specs.Searching.{ToldUnits}
-use Rattle.ring_run.proofs.Acting.{quietly_refused, quietly_on}
+use Rattle.ring_run.proofs.Acting.{quietly_halted, quietly_renewing, quietly_decided}
 use Rattle.ring_run.proofs.Tidying.{refused_refusal}
 use Rattle.ring_run.proofs.decision.decide_next.Goals as goal
 use Rattle.ring_run.proofs.Numbering.{kept_looked}
@@ -330,11 +329,34 @@ pub returns-in-Err-clause-ended : goal.returns-in-Err-clause-ended
 returns-in-Err-clause-ended g c =
     let s = g.P.Port.state c.args.port.now in
     let w = g.P.Port.state c.write_pending.new.port in
-    subst (λ (end : End). EndsQuietly s w (Finish end)) (sym c.end_refused.ensures) (quietly_refused s w (end_refused c.in-Err.stop) (refused_refusal c.in-Err.stop))
+    let old = c.args.ring.now in
+    let ring = c.write_pending.new.ring in
+    let how = c.in-Err.ensures.halts in
+    subst (λ (end : End). EndsQuietly s w old ring (Finish end)) (sym c.end_refused.ensures)
+    (quietly_halted s w old ring (end_refused c.in-Err.stop) (refused_refusal c.in-Err.stop) (
+      record { learned = c.write_pending.ensures.learned; restarts = c.write_pending.ensures.restarts },
+      how.0,
+      subst (λ (x : PortState). ToldUnits x how.0) c.in_default.ensures.looked.1 how.1,
+      inl how.2,
+    ))
 
 pub returns-then-ring-clause-ended : goal.returns-then-ring-clause-ended
-returns-then-ring-clause-ended g c = quietly_on (g.P.Port.state c.args.port.now) (g.P.Port.state c.reduce_vivify_import.new.port) c.reduce_vivify_import.result c.reduce_vivify_import.ensures.refused
+returns-then-ring-clause-ended g c =
+    let s = g.P.Port.state c.args.port.now in
+    let w = g.P.Port.state c.write_pending.new.port in
+    let k = c.reduce_vivify_import.ensures in
+    quietly_renewing s w (g.P.Port.state c.reduce_vivify_import.new.port) c.args.ring.now c.write_pending.new.ring c.reduce_vivify_import.new.ring c.reduce_vivify_import.result k.refused (sym c.write_pending.ensures.import_due ∙ c.if-ring.true)
+    c.write_pending.ensures.same (record { learned = k.learned ∙ c.write_pending.ensures.learned; restarts = k.restarts ∙ c.write_pending.ensures.restarts })
+    (subst (λ (x : PortState). ToldUnits x w) c.in_default.ensures.looked.1 c.in-Ok.ensures.lines) k.halts
 
 pub returns-clause-ended : goal.returns-clause-ended
 returns-clause-ended g c =
-    c.decide.ensures.ended (g.P.Port.state c.args.port.now) (subst (λ (x : PortState). ToldUnits x (g.P.Port.state c.write_pending.new.port)) c.in_default.ensures.looked.1 c.in-Ok.ensures.lines)
+    let s = g.P.Port.state c.args.port.now in
+    let w = g.P.Port.state c.write_pending.new.port in
+    let old = c.args.ring.now in
+    let new = c.decide.new.ring in
+    let k = c.decide.ensures in
+    subst (λ (x : PortState). EndsQuietly s x old new c.decide.result) (sym k.same)
+    (quietly_decided s w old c.write_pending.new.ring new c.decide.result (sym c.write_pending.ensures.import_due ∙ c.if-ring.false) c.write_pending.ensures.same
+    (record { learned = k.learned ∙ c.write_pending.ensures.learned; restarts = k.restarts ∙ c.write_pending.ensures.restarts })
+    (subst (λ (x : PortState). ToldUnits x w) c.in_default.ensures.looked.1 c.in-Ok.ensures.lines) k.ended)

@@ -1,4 +1,4 @@
-use Rattle.std.proofs.Common.{◌≡◌, ◌∙◌, ◌++◌, List, ◌≤◌, ◌<◌, ◌+◌, ℕ, ap, sym, subst, arith, refl, length, None, Bool, false, IsSome, Contains}
+use Rattle.std.proofs.Common.{inl, inr, ◌≡◌, ◌∙◌, ◌++◌, List, ◌≤◌, ◌<◌, ◌+◌, ℕ, ap, sym, subst, arith, refl, length, None, Bool, false, IsSome, Contains}
 use Rattle.std.specs.Prelude.{if◌then◌else◌}
 use Rattle.std.proofs.lemmas.Bool.{false≢true}
 use Rattle.ring_port.specs.PortState.{PortState, Slot, Holding, held_at}
@@ -246,3 +246,9 @@ returns-clause-unlooked g c = ap (λ (x : PortState). x.looks) c.take_clauses.en
 
 pub returns-in-Opposed-clause-refused : goal.returns-in-Opposed-clause-refused
 returns-in-Opposed-clause-refused g c = c.refute.ensures.refusal
+
+pub returns-in-Opposed-clause-halts : goal.returns-in-Opposed-clause-halts
+returns-in-Opposed-clause-halts g c = record { middle = g.P.Port.state c.take_units.new.port; units = c.take_units.ensures.saw; over = inl c.refute.ensures.empty }
+
+pub returns-in-Err-clause-halts : goal.returns-in-Err-clause-halts
+returns-in-Err-clause-halts g c = record { middle = g.P.Port.state c.take_units.new.port; units = c.take_units.ensures.saw; over = inr (c.take_clauses.ensures.only, refl) }

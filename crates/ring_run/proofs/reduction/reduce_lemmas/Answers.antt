@@ -1,4 +1,5 @@
-use Rattle.std.proofs.Common.{◌+◌, refl}
+use Rattle.std.proofs.Common.{◌+◌, ap, inl, inr, refl}
+use Rattle.ring_run.specs.Ending.{end_refused}
 use Rattle.ring_run.proofs.Offering.{nothing_then}
 use Rattle.ring_run.proofs.Progress.{refused_ends}
 use Rattle.ring_run.proofs.Reducing.{noted_goes_on, noted_import, noted_lemmas, noted_nothing, cut_short_over, cut_short_nothing, reduced_goes_on, reduced_import, reduced_nothing, reduced_lemmas, timely_reduce}
@@ -76,3 +77,11 @@ returns-clause-nothing g c =
     let u = g.P.Port.state c.reduce.new.port in
     let ring = c.args.ring.now in
     nothing_then s m u (noted_nothing s m c.in-Ok.ensures.noted) (reduced_nothing m u ring ring.watches c.reduce.new.watches ring.trail.steps c.reduce.new.lemmas.items c.in-Ok-reduce.ensures.reduced)
+
+pub returns-in-Err-clause-halts : goal.returns-in-Err-clause-halts
+returns-in-Err-clause-halts g c = inl (c.in-Err.stop, c.in-Err.ensures.noted, refl)
+
+pub returns-in-Err-reduce-clause-halts : goal.returns-in-Err-reduce-clause-halts
+returns-in-Err-reduce-clause-halts g c =
+    let cut = c.in-Err-reduce.ensures.reduced in
+    inr (g.P.Port.state c.note_reduce.new.self, c.in-Ok.ensures.noted, cut.dropped, cut.port, ap end_refused cut.memory)

@@ -1,4 +1,5 @@
-use Rattle.std.proofs.Common.{List, ◌∙◌, ap, refl, arith, length, Ok}
+use Rattle.std.proofs.Common.{List, ◌∙◌, ap, sym, subst, inl, inr, refl, arith, length, Ok}
+use Rattle.ring_run.specs.Halting.{HaltsReducing}
 use Rattle.ring_run.specs.declared.ring.Ring.{Ring}
 use Rattle.sat_words.specs.Literal.{Literal}
 use Rattle.ring_run.proofs.Listing.{listed_same}
@@ -89,3 +90,25 @@ returns-in-Ok-tidy_up-clause-in_time g c =
     let u = g.P.Port.state c.tidy_up.new.port in
     let none = ap (λ (cs : List (List Literal)). length cs) c.in-Ok-vivify_lemmas.ensures.resting.lately in
     in_time_wrote m u 0 c.in-Ok-tidy_up.ensures.wrote (omega (arith, none))
+
+pub returns-in-Err-clause-halts : goal.returns-in-Err-clause-halts
+returns-in-Err-clause-halts g c =
+    inl (subst (HaltsReducing (g.P.Port.state c.args.port.now) (g.P.Port.state c.reduce_lemmas.new.port)) (sym c.end_refused.ensures) c.in-Err.ensures.halts)
+
+pub returns-in-Err-vivify_lemmas-clause-halts : goal.returns-in-Err-vivify_lemmas-clause-halts
+returns-in-Err-vivify_lemmas-clause-halts g c = inr (g.P.Port.state c.reduce_lemmas.new.port, c.reduce_lemmas.new.ring, c.in-Ok.ensures.reduced, inl c.in-Err-vivify_lemmas.ensures.halts)
+
+pub returns-in-Err-tidy_up-clause-halts : goal.returns-in-Err-tidy_up-clause-halts
+returns-in-Err-tidy_up-clause-halts g c = inr (
+  g.P.Port.state c.reduce_lemmas.new.port,
+  c.reduce_lemmas.new.ring,
+  c.in-Ok.ensures.reduced,
+  inr (record {
+    port = g.P.Port.state c.vivify_lemmas.new.port;
+    after = c.vivify_lemmas.new.ring;
+    vivified = c.in-Ok-vivify_lemmas.ensures.took;
+    stop = c.in-Err-tidy_up.stop;
+    deleting = c.in-Err-tidy_up.ensures.some;
+    over = c.end_refused-in-Err-tidy_up.ensures;
+  }),
+)

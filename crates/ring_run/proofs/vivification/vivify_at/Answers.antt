@@ -60,3 +60,6 @@ returns-in-Ok-Gone-clause-listed g c =
     gone_listed s u old (record new { lemmas = c.remove-in-Ok-Gone.new.self }) d c.args.place c.requires.listed c.requires.resting k.others (there_at c.args.place old.lemmas.items d c.requires.inside c.index-lemma.ensures)
     k.start k.resting.lately (ap (λ (r : Ring). r.learned) same) (ap (λ (r : Ring). r.reductions) same) (ap (λ (r : Ring). r.reduced_at) same)
     (taken_at c.args.place old.lemmas.items new.lemmas.items c.remove-in-Ok-Gone.new.self.items (ap (λ (r : Ring). r.lemmas.items) same) c.remove-in-Ok-Gone.ensures.items)
+
+pub returns-in-Err-clause-halts : goal.returns-in-Err-clause-halts
+returns-in-Err-clause-halts g c = record { lemma = c.index-lemma.result.now; there = there_at c.args.place c.args.ring.now.lemmas.items c.index-lemma.result.now c.requires.inside c.index-lemma.ensures; halts = c.in-Err.ensures.halts }

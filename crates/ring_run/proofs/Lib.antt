@@ -35,3 +35,4 @@ pub mod Resting
 pub mod Turns
 pub mod Shrinking
 pub mod LeftBehind
+pub mod ReducedImports

@@ -1,14 +1,13 @@
 -- What a reduction leaves of what other rings gave.
-use Rattle.std.proofs.Common.{◌≡◌, ◌≢◌, ◌∙◌, ℕ, ◌<◌, ◌≤◌, ◌==◌, false, List, sym, subst, ap, arith, refl, Contains, IsSome}
+use Rattle.std.proofs.Common.{◌≡◌, ◌≢◌, ◌∙◌, ℕ, ◌<◌, ◌==◌, false, List, sym, subst, ap, arith, refl, Contains, IsSome}
 use Rattle.std.specs.Global.{Vec}
 use Rattle.std.specs.Prelude.{All}
 use Rattle.std.specs.List.{list_any}
-use Rattle.sat_words.specs.Literal.{Literal}
 use Rattle.sat_words.specs.Clause.{has}
 use Rattle.sat_words.specs.declared.shared.Cref.{Cref}
 use Rattle.rup_model.specs.Journal.{recent}
 use Rattle.rup_model.proofs.Lists.{Contains_In, In_Contains}
-use Rattle.ring_port.specs.PortState.{PortState, Holding, IsPort, held_at, lits_at}
+use Rattle.ring_port.specs.PortState.{PortState, Holding, IsPort, held_at}
 use Rattle.ring_port.specs.Log.{KeepsLog}
 use Rattle.ring_port.specs.Deleting.{IsNotTaken}
 use Rattle.ring_port.specs.declared.stops.PortStop.{PortStop}
@@ -27,7 +26,7 @@ use Rattle.ring_run.specs.Course.{last_start, HasLemmas}
 use Rattle.ring_run.specs.Renewal.{IsResting, AreUnmixed, AreSetApart, HasReducedLemmas, HasReducedImports, HasReduced}
 use Rattle.ring_run.specs.declared.ring.Ring.{Ring}
 use Rattle.ring_run.proofs.Progress.{out_of_memory}
-use Rattle.ring_run.proofs.Numbering.{KeepsListed, kept_none, grown_none}
+use Rattle.ring_run.proofs.Numbering.{kept_none, grown_none}
 use Rattle.ring_run.proofs.Listing.{listed_with, last_most}
 use Rattle.ring_run.proofs.Reducing.{dropped_goes_on, dropped_import, dropped_nothing, kept_among, dropped_among}
 use Rattle.ring_run.proofs.Resting.{held_member, resting_import, import_resting}

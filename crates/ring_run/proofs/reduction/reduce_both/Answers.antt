@@ -1,12 +1,3 @@
-use Rattle.std.proofs.Common.{◌≡◌, ◌∙◌, List, ap, sym, subst}
-use Rattle.std.specs.Global.{Vec}
-use Rattle.sat_words.specs.declared.shared.Cref.{Cref}
-use Rattle.ring_port.specs.PortState.{PortState}
-use Rattle.ring_trail.specs.TrailData.{TrailData}
-use Rattle.reduce_db.specs.Lemmas.{AreToldApart}
-use Rattle.reduce_db.specs.Reduction.{WasReduced}
-use Rattle.ring_run.specs.Course.{HasLemmas, last_start}
-use Rattle.ring_run.specs.declared.ring.Ring.{Ring}
 use Rattle.ring_run.proofs.Offering.{nothing_then}
 use Rattle.ring_run.proofs.Progress.{out_of_memory}
 use Rattle.ring_run.proofs.ReducedImports.{told_listed, told_apart, told_by, both_reduced, both_same}

@@ -298,7 +298,7 @@ can_bumped s old x lits back glue limit can =
       below = can.below;
       paced = can.paced;
       offering = record { counts = can.offering.counts; few = can.offering.few };
-      listed = record { ordered = p.ordered; glued = p.glued; noted = p.noted; distinct = p.distinct; member = p.member; apart = p.apart; count = p.count; few = p.few };
+      listed = record { ordered = p.ordered; glued = p.glued; noted = p.noted; distinct = p.distinct; member = p.member; apart = p.apart; count = p.count; few = p.few; imported = p.imported; last = p.last };
       lemma = can.lemma;
       counts = can.counts;
     }
@@ -315,7 +315,7 @@ behind_lemma s u old x new conflict lits back glue limit course same can lemma c
       leads = compose course s s u old between new limit (λ start p. p) (comes_leads s u between new lits back glue limit by course came port);
       more = comes_more s u between new lits back glue limit by course came;
       learns = learned_from s u between old new conflict lits back glue course
-          (record { trail = refl; watches = refl; lemmas = refl; reductions = refl; reduced_at = refl; written = refl; decider = same; restarts = refl; learned = refl; exported = refl; offered = refl })
+          (record { trail = refl; watches = refl; lemmas = refl; imports = refl; last_start = refl; reductions = refl; reduced_at = refl; written = refl; decider = same; restarts = refl; learned = refl; exported = refl; offered = refl })
           lemma can.lemma can.counts (comes_learns s u between new lits back glue limit by course came);
       tidied = comes_tidied s u between new lits back glue limit by course came;
       listed = comes_listed s u between new lits back glue limit by course came;

@@ -36,3 +36,4 @@ pub mod Turns
 pub mod Shrinking
 pub mod Halted
 pub mod LeftBehind
+pub mod ReducedImports

@@ -40,6 +40,8 @@ pub record AreSameButBumps (between old : Ring) : Type 0 where
   pub trail : between.trail ≡ old.trail
   pub watches : between.watches ≡ old.watches
   pub lemmas : between.lemmas.items ≡ old.lemmas.items
+  pub imports : between.imports.items ≡ old.imports.items
+  pub last_start : between.last_start ≡ old.last_start
   pub reductions : between.reductions ≡ old.reductions
   pub reduced_at : between.reduced_at ≡ old.reduced_at
   pub written : between.written ≡ old.written
@@ -79,7 +81,7 @@ learns_bumped s u between old new lits back glue Go b p = record {
   restarts = p.restarts ∙ ap (λ (r : Restarting). asked (noted r glue)) b.restarts;
   import_due = p.import_due ∙ ap (λ (r : Restarting). is_due (noted r glue)) b.restarts;
   left = left_alike u (record between { import_due = new.import_due }) (record old { import_due = new.import_due }) new lits back p.address
-      (record { import_due = refl; trail = b.trail; watches = b.watches; lemmas = b.lemmas; reductions = b.reductions; reduced_at = b.reduced_at; written = b.written; decider = b.decider })
+      (record { import_due = refl; trail = b.trail; watches = b.watches; lemmas = b.lemmas; imports = b.imports; last_start = b.last_start; reductions = b.reductions; reduced_at = b.reduced_at; written = b.written; decider = b.decider })
       p.left;
 }
 learns_bumped s u between old new lits back glue (Finish (Sat a)) b p = p

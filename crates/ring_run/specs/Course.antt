@@ -1,5 +1,5 @@
 -- What a ring has while it searches, and what each step of the search comes to.
-use Rattle.std.specs.Prelude.{◌≡◌, ◌≢◌, ◌⊎◌, ℕ, ◌+◌, ◌*◌, ◌<◌, ◌≤◌, true, false, if◌then◌else◌, List, [], ◌∷◌, ◌++◌, map, take, length, All, Contains, Option, Some, Ok, ⊤, IfSome}
+use Rattle.std.specs.Prelude.{◌≡◌, ◌≢◌, ◌⊎◌, ℕ, max, fold, ◌+◌, ◌*◌, ◌<◌, ◌≤◌, true, false, if◌then◌else◌, List, [], ◌∷◌, ◌++◌, map, take, length, All, Contains, Option, Some, Ok, ⊤, IfSome}
 use Rattle.std.specs.Option.{option_to_list, option_map_or}
 use Rattle.sat_words.specs.Literal.{Literal}
 use Rattle.sat_words.specs.declared.shared.Cref.{Cref}
@@ -75,9 +75,11 @@ pub record CanAssert (t : TrailData) (lits : List Literal) (back : ℕ) : Type 0
   pub on : first.var ≤ t.vars
   pub free : (v : TrailData) → WentBack t v back → HasNoPlace v.steps first.var
 
--- the clause joins the lemmas if it has an address, and no reduction is counted
+-- the clause joins the lemmas if it has an address, and no import is listed or left out; no reduction is counted
 pub record Lists (old new : Ring) (address : Option Cref) : Type 0 where
   pub lemmas : new.lemmas.items ≡ old.lemmas.items ++ option_to_list address
+  pub imports : new.imports.items ≡ old.imports.items
+  pub last_start : new.last_start ≡ old.last_start
   pub reductions : new.reductions ≡ old.reductions
   pub reduced_at : new.reduced_at ≡ old.reduced_at
 
@@ -280,9 +282,17 @@ number_at s a = option_map_or (λ (h : Holding). h.number) (held_at s a) 0
 abbrev pub AreOrdered : PortState → List Cref → Type 0
 AreOrdered s cs = IsInOrder (numbers s) (map (λ (c : Cref). number_at s c.address) cs)
 
+-- the greatest address of the clauses, or 0
+abbrev pub last_of : List Cref → ℕ
+last_of cs = fold (λ (last : ℕ) (c : Cref). max last c.address) 0 cs
+
+-- the greatest address of a start clause, or 0
+abbrev pub last_start : PortState → ℕ
+last_start s = last_of (map (λ (h : Holding). record { address = h.address }) s.start)
+
 -- no two lemmas are at the same address, each is attached, and none is at the address of a start clause; they stand in the
 -- order of their lines, and the glue of each is one at least; the lemmas learned since the ring last reduced them are
--- counted, and so are the reductions
+-- counted, and so are the reductions; each import is attached, and where the start clauses end is known
 pub record HasLemmas (s : PortState) (ring : Ring) : Type 0 where
   pub ordered : AreOrdered s ring.lemmas.items
   pub glued : (c : Cref) → Contains ring.lemmas.items c → 1 ≤ glue_at s c.address
@@ -292,6 +302,8 @@ pub record HasLemmas (s : PortState) (ring : Ring) : Type 0 where
   pub apart : (h : Holding) (c : Cref) → Contains s.start h → Contains ring.lemmas.items c → c.address ≢ h.address
   pub count : ring.learned ≡ ring.reduced_at + length (recent s.ring s.mine)
   pub few : ring.reductions ≤ ring.reduced_at
+  pub imported : All (Contains (attached ring.watches)) ring.imports.items
+  pub last : ring.last_start ≡ last_start s
 
 -- where it was so before
 abbrev pub KeepsLemmas : PortState → Ring → PortState → Ring → Type 0

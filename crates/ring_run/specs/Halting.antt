@@ -1,26 +1,50 @@
 -- How a search comes to an end that is no model, no limit of lemmas and no stop of another: what was done before its last call.
-use Rattle.std.specs.Prelude.{◌≡◌, ◌⊎◌, ℕ, ◌+◌, List, ◌∷◌, ◌++◌, drop}
+use Rattle.std.specs.Prelude.{◌≡◌, ◌⊎◌, ℕ, ◌+◌, List, ◌∷◌, ◌++◌, drop, All, Contains}
 use Rattle.sat_words.specs.Literal.{Literal}
 use Rattle.sat_words.specs.declared.shared.Cref.{Cref}
 use Rattle.ring_port.specs.PortState.{PortState}
 use Rattle.ring_port.specs.Deleting.{TidiedSome}
 use Rattle.ring_port.specs.Reducing.{NotedReduce}
 use Rattle.ring_port.specs.declared.stops.PortStop.{PortStop}
+use Rattle.reduce_db.specs.Lemmas.{AreToldApart}
 use Rattle.reduce_db.specs.Dropping.{DroppedAll}
 use Rattle.vivify.specs.Outcome.{IsVivified, WasCutShort}
 use Rattle.vivify.specs.declared.shorten.Vivified.TheVariants.{Unit}
 use Rattle.ring_run.specs.Searching.{OnlySaw, OnlyPolled}
 use Rattle.ring_run.specs.Ending.{EndsRefused, WroteEmpty, HaltsTelling, end_refused}
-use Rattle.ring_run.specs.Renewal.{Point, point, IsDue, HasReduced, IsNamed, TookEach, TookAll, HasShrunk, IsIdle}
+use Rattle.ring_run.specs.Course.{last_start}
+use Rattle.ring_run.specs.Renewal.{Point, point, IsDue, HasReducedLemmas, HasReduced, IsNamed, TookEach, TookAll, HasShrunk, IsIdle}
 use Rattle.ring_run.specs.declared.job.End.{End}
 use Rattle.ring_run.specs.declared.job.End.TheVariants.{Memory}
 use Rattle.ring_run.specs.declared.ring.Ring.{Ring}
 
 -- Reductions
 
--- the Reduce entry was refused; or it was written, and clauses were dropped until there was no memory
-abbrev pub HaltsReducing : PortState → PortState → End → Type 0
-HaltsReducing s u end = EndsRefused s u end ⊎ ((noted : PortState) × NotedReduce s noted × (dropped : List Cref) × DroppedAll noted u dropped × (end ≡ Memory))
+-- some of these clauses were dropped, one after the other, and then there was no memory
+pub record HaltsDropping (s u : PortState) (clauses : List Cref) (end : End) : Type 0 where
+  pub dropped : List Cref
+  pub among : All (Contains clauses) dropped
+  pub port : DroppedAll s u dropped
+  pub memory : end ≡ Memory
+
+-- the Reduce entry was refused; or it was written, and lemmas were dropped until there was no memory
+abbrev pub HaltsReducingLemmas : PortState → PortState → Ring → End → Type 0
+HaltsReducingLemmas s u before end = EndsRefused s u end ⊎ ((noted : PortState) × NotedReduce s noted × HaltsDropping noted u before.lemmas.items end)
+
+-- the imports were told apart from lemmas and start clauses, the Reduce entry was written and the lemmas were reduced; then those
+-- imports were dropped until there was no memory
+pub record HaltsReducingImports (s u : PortState) (before : Ring) (end : End) : Type 0 where
+  pub imports : List Cref
+  pub apart : AreToldApart (last_start s) before.lemmas.items before.imports.items imports
+  pub between : PortState
+  pub ring : Ring
+  pub lemmas_reduced : HasReducedLemmas s between before ring
+  pub halts : HaltsDropping between u imports end
+
+-- there was no memory to tell the imports apart, and nothing was done; or the reduction of the lemmas was cut short, or after it that of
+-- the imports
+abbrev pub HaltsReducing : PortState → PortState → Ring → End → Type 0
+HaltsReducing s u before end = ((u ≡ s) × (end ≡ Memory)) ⊎ (HaltsReducingLemmas s u before end ⊎ HaltsReducingImports s u before end)
 
 -- Vivification
 
@@ -70,7 +94,7 @@ pub record HaltsShrunk (s u : PortState) (ring : Ring) (end : End) : Type 0 wher
 -- the reduction was cut short; or the lemmas were reduced, and then vivification or the deletions were
 abbrev pub HaltsShrinking : PortState → PortState → Ring → End → Type 0
 HaltsShrinking s u before end =
-    HaltsReducing s u end ⊎ ((dropped : PortState) × (between : Ring) × HasReduced s dropped before between × (HaltsVivifying (point dropped between) u between.lemmas.items end ⊎ HaltsShrunk dropped u between end))
+    HaltsReducing s u before end ⊎ ((dropped : PortState) × (between : Ring) × HasReduced s dropped before between × (HaltsVivifying (point dropped between) u between.lemmas.items end ⊎ HaltsShrunk dropped u between end))
 
 -- Imports
 

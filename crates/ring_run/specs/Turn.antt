@@ -15,7 +15,7 @@ use Rattle.ring_run.specs.Searching.{HasTold}
 use Rattle.ring_run.specs.Ended.{stop_kind}
 use Rattle.ring_run.specs.Ending.{EndsRefused, SetsStop}
 use Rattle.ring_run.specs.Halting.{HaltsImporting, HaltsRenewing}
-use Rattle.ring_run.specs.Course.{CountsAlike, DecidedNext, LearnsFrom}
+use Rattle.ring_run.specs.Course.{CountsAlike, DecidedNext, LearnsFrom, last_of}
 use Rattle.ring_run.specs.Renewal.{Renews, TookImport}
 use Rattle.ring_run.specs.declared.job.Job.{Job}
 use Rattle.ring_run.specs.declared.job.Counts.{Counts}
@@ -151,6 +151,8 @@ pub record IsFirstRing (s : PortState) (job : Job) (ring : Ring) : Type 0 where
   pub restarts : ring.restarts ≡ begun (job.ring % 2 == 1)
   pub learned : ring.learned ≡ 0
   pub lemmas : ring.lemmas.items ≡ []
+  pub imports : ring.imports.items ≡ []
+  pub last_start : ring.last_start ≡ last_of job.start
   pub reductions : ring.reductions ≡ 0
   pub reduced_at : ring.reduced_at ≡ 0
   pub written : ring.written ≡ 0

@@ -201,7 +201,7 @@ reduce_vivify_import-requires-clause-listed g c =
     let s = g.P.Port.state c.args.port.now in
     let m = g.P.Port.state c.stopped.new.self in
     let is = c.in_default.ensures.looked.1 in
-    c.in-Ok.ensures.listed (listed_same s m c.args.ring.now c.args.ring.now (ap (λ (x : PortState). x.start) is) (recent_still s m (ap (λ (x : PortState). x.ring) is) (ap (λ (x : PortState). x.mine) is)) refl (λ d there. there) refl refl refl (kept_looked s m c.args.ring.now.lemmas.items _ is) c.requires.listed)
+    c.in-Ok.ensures.listed (listed_same s m c.args.ring.now c.args.ring.now (ap (λ (x : PortState). x.start) is) (recent_still s m (ap (λ (x : PortState). x.ring) is) (ap (λ (x : PortState). x.mine) is)) refl (λ d there. there) refl refl refl (record { imports = refl; last_start = refl }) (kept_looked s m c.args.ring.now.lemmas.items _ is) c.requires.listed)
 
 pub returns-clause-listed : goal.returns-clause-listed
 returns-clause-listed g c = λ on.
@@ -209,7 +209,7 @@ returns-clause-listed g c = λ on.
     let m = g.P.Port.state c.stopped.new.self in
     let is = c.in_default.ensures.looked.1 in
     c.decide.ensures.listed
-    (c.in-Ok.ensures.listed (listed_same s m c.args.ring.now c.args.ring.now (ap (λ (x : PortState). x.start) is) (recent_still s m (ap (λ (x : PortState). x.ring) is) (ap (λ (x : PortState). x.mine) is)) refl (λ d there. there) refl refl refl (kept_looked s m c.args.ring.now.lemmas.items _ is) c.requires.listed)))
+    (c.in-Ok.ensures.listed (listed_same s m c.args.ring.now c.args.ring.now (ap (λ (x : PortState). x.start) is) (recent_still s m (ap (λ (x : PortState). x.ring) is) (ap (λ (x : PortState). x.mine) is)) refl (λ d there. there) refl refl refl (record { imports = refl; last_start = refl }) (kept_looked s m c.args.ring.now.lemmas.items _ is) c.requires.listed)))
 
 pub reduce_vivify_import-requires-clause-few : goal.reduce_vivify_import-requires-clause-few
 reduce_vivify_import-requires-clause-few g c =

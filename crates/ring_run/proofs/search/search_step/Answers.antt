@@ -83,14 +83,14 @@ learn_from-requires-clause-listed g c =
     let s = g.P.Port.state c.args.port.now in
     let between : Ring = record c.args.ring.now { trail = c.propagate.new.trail; watches = c.propagate.new.self } in
     subst (λ (x : PortState). HasLemmas x between) (sym c.propagate.ensures.same)
-    (listed_same s s c.args.ring.now between refl refl refl (λ d there. subst (λ (cs : List Cref). Contains cs d) (sym c.propagate.ensures.attached) there) refl refl refl (kept_none s c.args.ring.now.lemmas.items) c.requires.listed)
+    (listed_same s s c.args.ring.now between refl refl refl (λ d there. subst (λ (cs : List Cref). Contains cs d) (sym c.propagate.ensures.attached) there) refl refl refl (record { imports = refl; last_start = refl }) (kept_none s c.args.ring.now.lemmas.items) c.requires.listed)
 
 pub decide_next-requires-clause-listed : goal.decide_next-requires-clause-listed
 decide_next-requires-clause-listed g c =
     let s = g.P.Port.state c.args.port.now in
     let between : Ring = record c.args.ring.now { trail = c.propagate.new.trail; watches = c.propagate.new.self } in
     subst (λ (x : PortState). HasLemmas x between) (sym c.propagate.ensures.same)
-    (listed_same s s c.args.ring.now between refl refl refl (λ d there. subst (λ (cs : List Cref). Contains cs d) (sym c.propagate.ensures.attached) there) refl refl refl (kept_none s c.args.ring.now.lemmas.items) c.requires.listed)
+    (listed_same s s c.args.ring.now between refl refl refl (λ d there. subst (λ (cs : List Cref). Contains cs d) (sym c.propagate.ensures.attached) there) refl refl refl (record { imports = refl; last_start = refl }) (kept_none s c.args.ring.now.lemmas.items) c.requires.listed)
 
 pub returns-in_default-clause-imports : goal.returns-in_default-clause-imports
 returns-in_default-clause-imports g c = λ start p h.

@@ -13,6 +13,7 @@ loop-search_step-init g c =
       keeps = λ start n p. p;
       resting = c.requires.resting;
       listed = c.requires.listed;
+      unmixed = c.requires.unmixed;
       turned = none_turned (point s c.args.ring.now) c.args.ring.now.lemmas.items;
       steps = omega arith;
       same = refl;
@@ -35,6 +36,7 @@ loop-search_step-preserved g c =
       keeps = λ start n p. k.keeps start n (i.keeps start n p);
       resting = k.resting;
       listed = k.listed;
+      unmixed = k.unmixed;
       turned = one_turned (point s old) (point m mid) (point u new) old.lemmas.items mid.lemmas.items new.lemmas.items c.loop-search_step._search_step c.loop-search_step.place c.in-Ok.next
           (let q = c.loop-search_step-test.true in let n = c.len-search_step-end.ensures in let e = old.lemmas.ok.0 in omega (arith, q, n, e)) i.turned k.took;
       steps = omega (arith, i.steps, k.steps);

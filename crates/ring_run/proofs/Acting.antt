@@ -80,7 +80,11 @@ quiet_turn s u old between new Go p quiet acted ended = record { middle = betwee
 quiet_turn s u old between new (Finish (Sat a)) p quiet acted ended = record { middle = between; propagated = p; quiet = quiet; found = ended }
 quiet_turn s u old between new (Finish Refuted) p quiet acted ended = quiet_halted s u old between new Refuted p quiet ended
 quiet_turn s u old between new (Finish Spent) p quiet acted ended = absurd ended
-quiet_turn s u old between new (Finish (Stopped x)) p quiet acted ended = ended
+quiet_turn s u old between new (Finish (Stopped x)) p quiet acted ended = record {
+  propagated = subst (HasPropagated s old) (sym ended.1) p;
+  quiet = subst (λ (r : Ring). IsQuiet r.watches (lits_at s) r.trail) (sym ended.1) quiet;
+  seen = ended.0;
+}
 quiet_turn s u old between new (Finish (NoHole lack)) p quiet acted ended = quiet_halted s u old between new (NoHole lack) p quiet ended
 quiet_turn s u old between new (Finish ProofFault) p quiet acted ended = quiet_halted s u old between new ProofFault p quiet ended
 quiet_turn s u old between new (Finish Memory) p quiet acted ended = quiet_halted s u old between new Memory p quiet ended

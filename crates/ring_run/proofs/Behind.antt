@@ -120,7 +120,7 @@ module _ (s u : PortState) (old new : Ring) (lits : List Literal) (back glue lim
       }))
 
   pub comes_learns : (course : Next) → ComesOf s u old new lits back glue limit course → LearnsTo s u old new lits back glue course
-  comes_learns course (inl p) = subst (λ (x : Next). LearnsTo s u old new lits back glue x) (sym p.over) 
+  comes_learns course (inl p) = subst (λ (x : Next). LearnsTo s u old new lits back glue x) (sym p.over)
       (learns_halted s u old new lits back glue (end_refused p.stop) (refused_refusal p.stop)
       (inl ((p.stop, p.refused, refl), record { learned = ap (λ (r : Ring). r.learned) p.ring; restarts = ap (λ (r : Ring). r.restarts) p.ring })))
   comes_learns course (inr (inl p)) =

@@ -13,7 +13,7 @@ use Rattle.restart_plan.proofs.Restarting.{exact-more}
 use Rattle.ring_run.specs.Ended.{HasImported, IsInTime, polls_of}
 use Rattle.ring_run.specs.Strategy.{IsPaced}
 use Rattle.ring_run.specs.Searching.{GoesOn, Stands, HasLent, HoldsByGlue, IsAsserting, IsGlueOf}
-use Rattle.ring_run.specs.Course.{InSearch, HasLemmas, HasLeft, HasLearned, IsOffering, IsPolling, IsImporting, SumsUp, imports_of}
+use Rattle.ring_run.specs.Course.{WasShared, InSearch, HasLemmas, HasLeft, HasLearned, IsOffering, IsPolling, IsImporting, SumsUp, imports_of}
 use Rattle.ring_run.specs.Learning.{HasShared, HasAsked, HasLeftTidy, WasFollowed}
 use Rattle.ring_run.specs.declared.course.Next.{Next}
 use Rattle.ring_run.specs.declared.ring.Ring.{Ring}

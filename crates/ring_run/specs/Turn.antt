@@ -3,6 +3,7 @@ use Rattle.std.specs.Prelude.{◌≡◌, ◌⊎◌, ◌%◌, ◌==◌, Bool, tru
 use Rattle.sat_words.specs.Literal.{Literal}
 use Rattle.sat_words.specs.Truth.{lit_true}
 use Rattle.sat_words.specs.declared.shared.Cref.{Cref}
+use Rattle.sat_words.specs.declared.shared.Stop.{Stop}
 use Rattle.ring_port.specs.PortState.{PortState, lits_at}
 use Rattle.ring_trail.specs.TrailData.{HasGrown, IsTrueOn}
 use Rattle.watch_prop.specs.WatchData.{attached}
@@ -91,7 +92,7 @@ abbrev pub EndsQuietly : PortState → PortState → Ring → Ring → Next → 
 EndsQuietly s u old new Go = ⊤
 EndsQuietly s u old new (Finish Spent) = ⊥
 EndsQuietly s u old new (Finish (Sat a)) = FoundModel s u old new a
-EndsQuietly s u old new (Finish (Stopped x)) = u ≡ record s { stop = Some x }
+EndsQuietly s u old new (Finish (Stopped x)) = (u ≡ record s { stop = Some x }) × (new ≡ old)
 EndsQuietly s u old new (Finish end) = HaltsQuietly s u old new end
 
 -- a turn that found a model: nothing was left to propagate
@@ -100,6 +101,12 @@ pub record ModelTurn (s u : PortState) (old new : Ring) (a : List Bool) : Type 0
   pub propagated : HasPropagated s old middle
   pub quiet : IsQuiet middle.watches (lits_at s) middle.trail
   pub found : FoundModel s u middle new a
+
+-- a turn that saw the stop of another: nothing was left to propagate, and nothing was done
+pub record StoppedTurn (s u : PortState) (old new : Ring) (x : Stop) : Type 0 where
+  pub propagated : HasPropagated s old new
+  pub quiet : IsQuiet new.watches (lits_at s) new.trail
+  pub seen : u ≡ record s { stop = Some x }
 
 -- what came after propagation, or that there was no memory for it
 abbrev pub HaltsThen : PortState → PortState → Ring → Ring → End → Type 0
@@ -112,12 +119,12 @@ pub record HaltedTurn (s u : PortState) (old new : Ring) (end : End) : Type 0 wh
   pub propagated : HasPropagated s old middle
   pub halts : HaltsThen s u middle new end
 
--- what a turn comes to; a stop of another was seen before anything was done
+-- what a turn comes to
 abbrev pub TakesTurn : PortState → PortState → Ring → Ring → Next → Type 0
 TakesTurn s u old new Go = TookTurn s u old new
 TakesTurn s u old new (Finish Spent) = SpentTurn s u old new
 TakesTurn s u old new (Finish (Sat a)) = ModelTurn s u old new a
-TakesTurn s u old new (Finish (Stopped x)) = u ≡ record s { stop = Some x }
+TakesTurn s u old new (Finish (Stopped x)) = StoppedTurn s u old new x
 TakesTurn s u old new (Finish end) = HaltedTurn s u old new end
 
 -- Searches

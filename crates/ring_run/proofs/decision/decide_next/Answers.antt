@@ -323,7 +323,7 @@ returns-clause-in_time g c = λ p h.
     (in_time_any w after c.decide.result (in_time_more w old.restarts.since after.restarts.since (sym since) (in_time_wrote s w old.restarts.since lines (h settled))))
 
 pub returns-in-Some-clause-ended : goal.returns-in-Some-clause-ended
-returns-in-Some-clause-ended g c = c.in-Some.ensures.looked.1
+returns-in-Some-clause-ended g c = (c.in-Some.ensures.looked.1, refl)
 
 pub returns-in-Err-clause-ended : goal.returns-in-Err-clause-ended
 returns-in-Err-clause-ended g c =

@@ -2,12 +2,11 @@ use Rattle.std.proofs.Common.{◌≡◌, ◌<◌, ◌≤◌, ◌+◌, ◌*◌, �
 use Rattle.ring_port.specs.PortState.{PortState, lits_at}
 use Rattle.ring_trail.specs.TrailData.{TrailData}
 use Rattle.watch_prop.specs.declared.propagated.Propagated.{Propagated}
-use Rattle.watch_prop.specs.declared.propagated.Propagated.TheVariants.{Quiet, Conflict}
-use Rattle.watch_prop.specs.WatchData.{WatchData, Lits, attached}
+use Rattle.watch_prop.specs.WatchData.{attached}
 use Rattle.watch_prop.specs.Layout.{HaveGrown}
 use Rattle.watch_prop.specs.Advancing.{HasAdvanced}
 use Rattle.watch_prop.specs.Watched.{Watched}
-use Rattle.watch_prop.specs.Propagation.{IsPropagated, IsConflict, IsQuiet}
+use Rattle.watch_prop.specs.Propagation.{IsConflict, IsQuiet}
 use Rattle.watch_prop.proofs.Quiets.{quiet-same, quiet-conflict}
 use Rattle.watch_prop.specs.Visiting.{IsAllSettled, IsEnd}
 use Rattle.watch_prop.proofs.Advancing.{advanced_reasons, advanced_trans, came_to}
@@ -81,8 +80,8 @@ returns-in-Conflict-clause-settled g c = λ quiet.
     let bad : IsConflict w (lits_at s) c.watch_waiting.new.trail c.in-Conflict.clause
     = subst (λ (o : Propagated). IsAllSettled w (lits_at s) c.watch_waiting.new.trail o) c.in-Conflict.is c.in_ok-clause.ensures.settled in
     absurd (quiet-conflict w (lits_at s) t c.in-Conflict.clause c.decision_level-lawful.ensures.trail
-        (quiet-same c.tidy.new.self w (lits_at s) t t k.clauses refl before)
-        (subst (λ (u : TrailData). IsConflict w (lits_at s) u c.in-Conflict.clause) same bad))
+    (quiet-same c.tidy.new.self w (lits_at s) t t k.clauses refl before)
+    (subst (λ (u : TrailData). IsConflict w (lits_at s) u c.in-Conflict.clause) same bad))
 
 pub run-requires-clause-watched : goal.run-requires-clause-watched
 run-requires-clause-watched g c =

@@ -106,10 +106,7 @@ module _ (s m : PortState) (ring mid : Ring) (c : Cref) (p : IsResting s ring) (
     pub left_behind : (left : Vivified) → IsVivified s m ring.watches mid.watches ring.trail.steps c left → ((l : Literal) → left ≡ Unit l → IsFalseOn ring.trail.steps l → ⊥) → LeftBehind m mid left
     left_behind Kept z open_unit =
         let same : m ≡ s = z.state in
-        let clauses : HasClauses m (attached mid.watches) = clauses_left s m ring.watches mid.watches c (Some c) c z.attached_now p.search.clauses stay may.apart (subst (λ (x : PortState). IsSome (held_at x c.address)) (sym same) held)
-        (ap (λ (x : PortState). x.start) same) (ap (λ (x : PortState). recent x.ring x.mine) same ∙ p.lately) (ap (λ (x : PortState). x.taken) same ∙ p.none_taken)
-        (λ l h. ap (λ (x : PortState). has x.seen l) same ∙ p.search.clauses.own.units l (sym (ap (λ (x : PortState). Rattle.rup_model.specs.Opening.adds_unit x.ring x.mine l) same) ∙ h))
-        (ap (λ (x : PortState). x.refused) same) (ap (λ (x : PortState). x.stop) same) port in
+        let clauses : HasClauses m (attached mid.watches) = subst (λ (x : PortState). HasClauses x (attached mid.watches)) (sym same) (subst (HasClauses s) (sym z.attached_now) p.search.clauses) in
         rests_again
         (search_left s m ring.trail ring.watches mid.watches ring.written p.search p.level clauses watched_then reasons_then (ap (λ (x : PortState). x.vars) same) (ap (λ (x : PortState). x.opening) same) (ap (λ (x : PortState). x.seen) same))
         (ap (λ (x : PortState). reductions x.ring x.mine) same) (ap (λ (x : PortState). recent x.ring x.mine) same ∙ p.lately) (ap (λ (x : PortState). x.taken) same ∙ p.none_taken)
@@ -159,10 +156,10 @@ module _ (s m : PortState) (ring mid : Ring) (c : Cref) (p : IsResting s ring) (
   -- the others stay
   pub left_others : (u : PortState) (new : Ring) (left : Vivified) (o : AfterVivify) → IsVivified s m ring.watches mid.watches ring.trail.steps c left → WentOn (point m mid) (point u new) left o → KeepsOthers s u ring.watches new.watches c
   left_others u new Kept o z w =
-      let now : attached new.watches ≡ without (attached ring.watches) c.address ++ c ∷ [] = ap (λ (x : Point). attached x.watches) w.0 ∙ z.attached_now in
+      let now : attached new.watches ≡ attached ring.watches = ap (λ (x : Point). attached x.watches) w.0 ∙ z.attached_now in
       let is : u ≡ s = ap (λ (x : Point). x.port) w.0 ∙ z.state in
       record {
-        others = others_stay s m ring.watches new.watches c (Some c) c now;
+        others = λ d there ne. subst (λ (cs : List Cref). Contains cs d) (sym now) there;
         held = λ a ne some. ap (λ (x : PortState). held_at x a) is;
         grown = grown_none s u (ap (λ (x : PortState). x.mine) is);
         noted = ap (λ (x : PortState). reductions x.ring x.mine) is;
@@ -193,9 +190,9 @@ module _ (s m : PortState) (ring mid : Ring) (c : Cref) (p : IsResting s ring) (
   -- and so is what is left of the lemma
   pub what_is_left : (u : PortState) (new : Ring) (left : Vivified) (o : AfterVivify) → IsVivified s m ring.watches mid.watches ring.trail.steps c left → WentOn (point m mid) (point u new) left o → IsLeft s u new.watches c o
   what_is_left u new Kept o z w =
-      let now : attached new.watches ≡ without (attached ring.watches) c.address ++ c ∷ [] = ap (λ (x : Point). attached x.watches) w.0 ∙ z.attached_now in
+      let now : attached new.watches ≡ attached ring.watches = ap (λ (x : Point). attached x.watches) w.0 ∙ z.attached_now in
       subst (IsLeft s u new.watches c) (sym w.1)
-      (left_member s m ring.watches new.watches c (Some c) c now, ap (λ (x : PortState). held_at x c.address) (ap (λ (x : Point). x.port) w.0 ∙ z.state))
+      (subst (λ (cs : List Cref). Contains cs c) (sym now) may.member, ap (λ (x : PortState). held_at x c.address) (ap (λ (x : Point). x.port) w.0 ∙ z.state))
   what_is_left u new (Shorter d) o z w =
       let now : attached new.watches ≡ without (attached ring.watches) c.address ++ d ∷ [] = ap (λ (x : Point). attached x.watches) w.0 ∙ z.attached_now in
       let b = shorter_behind s m ring.watches ring.trail.steps c p.search.clauses.port held may.glued (p.reduced, p.lately) stay may.apart log port mid.watches d z in

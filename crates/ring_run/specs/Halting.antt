@@ -91,7 +91,7 @@ pub record HaltsShrunk (s u : PortState) (ring : Ring) (end : End) : Type 0 wher
   pub deleting : TidiedSome port u stop
   pub over : end ≡ end_refused stop
 
--- the reduction was cut short; or the lemmas were reduced, and then vivification or the deletions were
+-- the reduction was cut short; or lemmas and imports were reduced, and then vivification or the deletions were
 abbrev pub HaltsShrinking : PortState → PortState → Ring → End → Type 0
 HaltsShrinking s u before end =
     HaltsReducing s u before end ⊎ ((dropped : PortState) × (between : Ring) × HasReduced s dropped before between × (HaltsVivifying (point dropped between) u between.lemmas.items end ⊎ HaltsShrunk dropped u between end))

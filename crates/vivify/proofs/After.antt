@@ -24,8 +24,9 @@ use Rattle.watch_prop.specs.Propagation.{HasReasons, IsQuiet}
 use Rattle.watch_prop.proofs.Growing.{watch_of}
 use Rattle.watch_prop.proofs.Entries.{attachable_held}
 use Rattle.watch_prop.proofs.TrailLaws.{Watched-port, Reasons-more}
-use Rattle.watch_prop.proofs.DetachingLaws.{without-others}
+use Rattle.watch_prop.proofs.DetachingLaws.{without-others, Reasons-without, Closed-at}
 use Rattle.vivify.specs.Walk.{left_of, others}
+use Rattle.vivify.specs.Walking.{IsNoReason}
 use Rattle.vivify.specs.Outcome.{left_at}
 use Rattle.vivify.proofs.Parts.{left_distinct}
 use Rattle.vivify.proofs.Walked.{others_are}
@@ -81,11 +82,21 @@ pub good_walked : (s h : PortState) (w : WatchData) (t u : TrailData) → h ≡ 
 good_walked s h w t u same back watched reasons quiet =
     subst (λ (x : TrailData). Good s w x) back (subst (λ (x : PortState). Good x w u) same record { watched = watched; reasons = reasons; quiet = quiet })
 
-pub good_kept : (s p q : PortState) (v w x : WatchData) (t u : TrailData) (c : Cref) → p ≡ s → q ≡ p → u ≡ t → Good s w t → IsQuiet v (lits_at s) t → Contains (clauses_of v (lits_at s)) (lits_at s c.address)
-    → attached x ≡ attached w ++ c ∷ [] → ((z : TrailData) → Watched w (lits_at p) z → Watched x (lits_at p) z) → Good q x u
-good_kept s p q v w x t u c same after back g quiet member e watched =
-    subst (λ (z : PortState). Good z x u) (sym (after ∙ same)) (subst (λ (z : TrailData). Good s x z) (sym back)
-    (good_attach s w x t c e (subst (λ (z : PortState). Watched x (lits_at z) t) same (watched t (subst (λ (z : PortState). Watched w (lits_at z) t) (sym same) g.watched))) (λ k. quiet.closed k (lits_at s c.address) member) g))
+-- the clause is detached after the walk
+pub good_detached : (s h p : PortState) (v w x : WatchData) (t u : TrailData) (a : ℕ) → h ≡ s → p ≡ h → u ≡ t → Watched w (lits_at h) u → HasReasons (attached w) h u.steps → IsQuiet w (lits_at h) u → IsNoReason s t.steps a → attached w ≡ attached v
+    → ((z : TrailData) → Watched w (lits_at p) z → attached x ≡ without (attached w) a) → ((z : TrailData) → Watched w (lits_at p) z → Watched x (lits_at p) z) → Good s x t × (attached x ≡ without (attached v) a)
+good_detached s h p v w x t u a same still back watched reasons quiet free kept gone left =
+    let g = good_walked s h w t u same back watched reasons quiet in
+    let port : p ≡ s = still ∙ same in
+    let before : Watched w (lits_at p) t = subst (λ (y : PortState). Watched w (lits_at y) t) (sym port) g.watched in
+    let e : attached x ≡ without (attached w) a = gone t before in (
+      record {
+        watched = subst (λ (y : PortState). Watched x (lits_at y) t) port (left t before);
+        reasons = subst (λ (cs : List Cref). HasReasons cs s t.steps) (sym e) (Reasons-without (attached w) s t.steps a free g.reasons);
+        quiet = record { done = g.quiet.done; closed = λ k. Closed-at w x (lits_at s) t.steps a k e (g.quiet.closed k) };
+      },
+      e ∙ ap (λ (cs : List Cref). without cs a) kept,
+    )
 
 seen_more : (p m : PortState) (l : Literal) (kind : Kind) (last : Option ℕ) → WroteUnit p m l kind last → (k : Literal) → has p.seen k ≡ true → has m.seen k ≡ true
 seen_more p m l kind last k x h = k.sees x ∙ or_left (has p.seen x) (same l x) h

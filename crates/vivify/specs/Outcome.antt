@@ -22,11 +22,11 @@ glue_at s a = option_map_or (λ (h : Holding). h.glue) (held_at s a) 0
 abbrev pub left_at : PortState → List Cref → List TrailStep → ℕ → List Literal
 left_at s cs steps a = left_of (others s cs a steps) (lits_at s a)
 
--- all literals are left: nothing is written, and the clause is attached after the others
+-- all literals are left: nothing is written, and what is attached stays
 pub record WasKept (old new : PortState) (v w : WatchData) (steps : List TrailStep) (c : Cref) : Type 0 where
   pub left : left_at old (attached v) steps c.address ≡ lits_at old c.address
   pub state : new ≡ old
-  pub attached_now : attached w ≡ without (attached v) c.address ++ c ∷ []
+  pub attached_now : attached w ≡ attached v
 
 -- fewer are left: their clause was derived and is attached, and then the clause was dropped
 pub record WasShortened (old new : PortState) (v w : WatchData) (steps : List TrailStep) (c d : Cref) : Type 0 where

@@ -73,11 +73,9 @@ pub fn vivify<P: Port>(
     };
     let lits = left.as_slice();
     if lits.len() == head.size as usize {
-        match watches.attach(port, trail, c) {
-            Ok(()) => return Ok(Vivified::Kept),
-            Err(_) => return Err(PortStop::Memory),
-        }
+        return Ok(Vivified::Kept);
     }
+    watches.detach(port, c);
     match lits {
         [] => Ok(Vivified::Empty),
         [lit] => {

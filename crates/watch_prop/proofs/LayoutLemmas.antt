@@ -1,8 +1,9 @@
 -- Lists in one vector: what a change of one stretch leaves to the others.
-use Rattle.std.proofs.Common.{◌≡◌, ◌≢◌, ℕ, zero, suc, ◌<◌, ◌≤◌, ◌+◌, ◌-◌, ◌⊎◌, List, [], ◌∷◌, ◌++◌, length, get_or, take, drop, map, sum, sym, refl, ap, subst, ◌∙◌, inl, inr, arith}
+use Rattle.std.proofs.Common.{◌≡◌, ◌≢◌, ℕ, zero, suc, ◌<◌, ◌≤◌, ◌+◌, ◌-◌, ◌*◌, ◌⊎◌, max, nat_lt, Bool, true, false, cond, List, [], ◌∷◌, ◌++◌, length, get_or, take, drop, map, sum, sym, refl, ap, subst, ◌∙◌, inl, inr, arith}
 use Rattle.std.proofs.Math.ListN.{set}
 use Rattle.std.specs.List.{swap_remove, sum_by}
 use Rattle.std.proofs.lemmas.Bool.{cases_lt}
+use Rattle.std.proofs.lemmas.Bool.Decides.{nat_tests}
 use Rattle.std.proofs.lemmas.List.{length-set, get_or-set_same, get_or-set_other, length-take-le, length-drop, length-append, get_or-take, get_or-drop, get_or_default, get_or_append_left, get_or_push, same_lists, map-set, get_or-map, set-get_or, length-map, get_or_past, take-set, take_all}
 use Rattle.std.proofs.lemmas.List.Sums.{sum_by_more, sum-map}
 use Rattle.watch_prop.specs.declared.watch.Watcher.{Watcher}
@@ -10,7 +11,7 @@ use Rattle.watch_prop.specs.declared.stretches.Stretch.{Stretch}
 use Rattle.watch_prop.specs.Watched.{At}
 use Rattle.sat_words.specs.Literal.{Literal, code_of}
 use Rattle.watch_prop.specs.WatchData.{watchers_at, list_at}
-use Rattle.watch_prop.specs.Layout.{ListData, row_of, AreLaid, HasRoom, AreLaidOut}
+use Rattle.watch_prop.specs.Layout.{ListData, row_of, AreLaid, HasRoom, grown_rooms, AreLaidOut}
 use Rattle.watch_prop.proofs.ListsLemmas.{cases_eq}
 use Rattle.watch_prop.proofs.Slots.{At-set}
 
@@ -301,3 +302,31 @@ pub laid-out-sum : (ss : List Stretch) (n end : ℕ) → n ≡ length ss → Are
 laid-out-sum ss n end e o =
     let f : Stretch → ℕ = λ s. s.room in
     o.total ∙ ap (λ (rs : List Stretch). sum_by f rs) (take_all n ss (omega arith)) ∙ sym (sum-map f ss)
+
+-- Rooms
+
+pub rooms-set : (ss : List Stretch) (i : ℕ) (new : Stretch) → map (λ (s : Stretch). s.room) (set ss i new) ≡ set (map (λ (s : Stretch). s.room) ss) i new.room
+rooms-set ss i new = map-set (λ (s : Stretch). s.room) ss i new
+
+-- a stretch that is changed may keep its room
+pub rooms-kept : (ss : List Stretch) (i : ℕ) (s new : Stretch) → At ss i s → new.room ≡ s.room → map (λ (r : Stretch). r.room) (set ss i new) ≡ map (λ (r : Stretch). r.room) ss
+rooms-kept ss i s new at e =
+    let rooms = map (λ (r : Stretch). r.room) ss in
+    rooms-set ss i new ∙ ap (λ (n : ℕ). set rooms i n) (e ∙ sym (room_there ss i s at)) ∙ set-get_or rooms i 0
+
+less_test : (m n : ℕ) → m < n → nat_lt m n ≡ true
+less_test m n lt = grind (arith, nat_tests)
+
+no_less_test : (m n : ℕ) → n ≤ m → nat_lt m n ≡ false
+no_less_test m n le = grind (arith, nat_tests)
+
+-- a list with room keeps it
+pub grown-kept : (x : ListData) (i : ℕ) → HasRoom x i → grown_rooms x i ≡ x.rooms
+grown-kept x i free =
+    ap (λ (b : Bool). set x.rooms i (cond b (get_or x.rooms i 0) (max (2 * get_or x.rooms i 0) 4))) (less_test (length (get_or x.rows i [])) (get_or x.rooms i 0) free)
+    ∙ set-get_or x.rooms i 0
+
+-- one without gets twice as much
+pub grown-moved : (x : ListData) (i : ℕ) → get_or x.rooms i 0 ≤ length (get_or x.rows i []) → grown_rooms x i ≡ set x.rooms i (max (2 * get_or x.rooms i 0) 4)
+grown-moved x i full =
+    ap (λ (b : Bool). set x.rooms i (cond b (get_or x.rooms i 0) (max (2 * get_or x.rooms i 0) 4))) (no_less_test (length (get_or x.rows i [])) (get_or x.rooms i 0) full)

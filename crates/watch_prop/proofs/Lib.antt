@@ -10,6 +10,10 @@ pub mod Opens
 pub mod Ranks
 pub mod Settling
 pub mod Detaching
+pub mod Asides
+pub mod Passing
+pub mod Rooms
+pub mod Quiets
 pub mod Among
 pub mod TrailLaws
 pub mod DetachingLaws

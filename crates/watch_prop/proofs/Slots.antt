@@ -97,10 +97,10 @@ clauses-set (Some x ∷ ws) (suc i) s new at e = ap (λ (cs : List Cref). x.clau
 pub clauses-push : (ws : List (Option Watch)) (s : Watch) → clauses (ws ++ Some s ∷ []) ≡ clauses ws ++ s.clause ∷ []
 clauses-push ws s = filter_map-append clause_in ws (Some s ∷ [])
 
-same_number : (n : ℕ) → (n == n) ≡ true
+pub same_number : (n : ℕ) → (n == n) ≡ true
 same_number n = grind (arith, nat_tests)
 
-other_number : (m n : ℕ) → m ≢ n → (m == n) ≡ false
+pub other_number : (m n : ℕ) → m ≢ n → (m == n) ≡ false
 other_number m n ne = grind (arith, nat_tests)
 
 -- without a clause that has the address, and with one that has another

@@ -1,5 +1,5 @@
 -- Lists of watchers in one vector, each in a stretch of it.
-use Rattle.std.specs.Prelude.{◌≡◌, ◌≢◌, ℕ, ◌<◌, ◌≤◌, ◌+◌, ◌⊎◌, List, [], length, take, drop}
+use Rattle.std.specs.Prelude.{◌≡◌, ◌≢◌, ℕ, ◌<◌, ◌≤◌, ◌+◌, ◌*◌, ◌⊎◌, max, nat_lt, if◌then◌else◌, List, [], length, take, drop, slice_set}
 use Rattle.std.specs.List.{slice_index_or, sum_by}
 use Rattle.watch_prop.specs.declared.watch.Watcher.{Watcher}
 use Rattle.watch_prop.specs.declared.stretches.Stretch.{Stretch}
@@ -24,6 +24,18 @@ pub record AreLaid (xs : List Watcher) (ss : List Stretch) : Type 0 where
 -- the list at this code has room for one more watcher
 abbrev pub HasRoom : ListData → ℕ → Type 0
 HasRoom x code = length (slice_index_or x.rows code []) < slice_index_or x.rooms code 0
+
+-- the room of a list that gets one more watcher: as before if that is more than it has, else twice as much, and at least four
+abbrev pub grown_room : (len room : ℕ) → ℕ
+grown_room len room = if nat_lt len room then room else max (2 * room) 4
+
+-- the rooms after the list at this code got room for one more watcher; those of the others stay
+abbrev pub grown_rooms : ListData → ℕ → List ℕ
+grown_rooms x code = slice_set x.rooms code (grown_room (length (slice_index_or x.rows code [])) (slice_index_or x.rooms code 0))
+
+-- each list's room is as it was, or it is at least twice as much, and at least four
+abbrev pub HaveGrown : (old new : List ℕ) → Type 0
+HaveGrown old new = (code : ℕ) → (slice_index_or new code 0 ≡ slice_index_or old code 0) ⊎ (max (2 * slice_index_or old code 0) 4 ≤ slice_index_or new code 0)
 
 -- the first n stretches are empty, stand one after the other and end here, which is the sum of their rooms
 pub record AreLaidOut (ss : List Stretch) (n end : ℕ) : Type 0 where

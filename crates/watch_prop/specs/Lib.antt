@@ -8,3 +8,4 @@ pub mod Choice
 pub mod Visiting
 pub mod Detaching
 pub mod Advancing
+pub mod Aside

@@ -34,6 +34,10 @@ pub record IsQuiet (w : WatchData) (lits : Lits) (t : TrailData) : Type 0 where
   pub done : t.done ≡ length t.steps
   pub closed : (k : ℕ) → IsClosed (clauses_of w lits) t.steps k
 
+-- no clause waits for its watches to be chosen
+abbrev pub NoneWaits : WatchData → Type 0
+NoneWaits w = w.settled ≡ length w.slots
+
 -- what propagation came to
 abbrev pub IsPropagated : WatchData → Lits → TrailData → Propagated → Type 0
 IsPropagated w lits t Quiet = IsQuiet w lits t

@@ -11,6 +11,7 @@ ghost use Rattle.ring_trail.specs.Closed.{IsClosed};
 ghost use Rattle.watch_prop.specs.WatchData.{WatchData, Lits, attached, without, clauses_of};
 ghost use Rattle.watch_prop.specs.Watched.{Watched};
 ghost use Rattle.watch_prop.specs.Propagation.{attached_at, HasReasons, IsClosedBelow};
+ghost use Rattle.watch_prop.specs.Aside.{but, only};
 
 /// A literal at the present level keeps the watches.
 pub fn an_assignment_keeps_watches()
@@ -64,4 +65,12 @@ pub fn detaching_keeps_reasons()
 pub fn detaching_keeps_closed()
     ensures at { (w x : WatchData) (lits : Lits) (steps : List TrailStep) (a k : ℕ) → attached x ≡ without (attached w) a → IsClosed (clauses_of w lits) steps k → IsClosed (clauses_of x lits) steps k }
     ensures below { (w x : WatchData) (lits : Lits) (t : TrailData) (a : ℕ) → attached x ≡ without (attached w) a → IsClosedBelow w lits t → IsClosedBelow x lits t }
+{}
+
+/// A clause is set aside by taking the watches without its own, over which the others are attached; and both parts make up
+/// the whole.
+pub fn clauses_may_be_set_aside()
+    ensures others { (w : WatchData) (c : Cref) → attached (but (Some c) w) ≡ without (attached w) c.address }
+    ensures parts { (w : WatchData) (lits : Lits) (t : TrailData) (c : Cref) → Watched w lits t → Watched (but (Some c) w) lits t × Watched (only c w) lits t }
+    ensures whole { (w : WatchData) (lits : Lits) (t : TrailData) (c : Cref) → Watched (but (Some c) w) lits t → Watched (only c w) lits t → Watched w lits t }
 {}

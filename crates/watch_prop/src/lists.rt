@@ -1,11 +1,11 @@
 //! The lists of watchers, one for each literal at its code, in one vector, as Kissat keeps its watches (Biere and others 2020).
 //! A list has a stretch of the vector with room for more; one without room moves to the end of the vector, if it gets twice
-//! the room. No change of one list may touch another, and no watcher may be left after.
-ghost use Rattle.std.specs.Prelude.{◌≡◌, ◌<◌, ◌≤◌, ◌^◌, ◌++◌, ◌∷◌, ◌↔◌, [], IfOk, OnOk, OnErr, IsTrue, Contains, length, sum, slice_index, slice_index_or, slice_set};
+//! the room, and at least four. No change of one list may touch another, and no watcher may be left after.
+ghost use Rattle.std.specs.Prelude.{◌≡◌, ◌<◌, ◌≤◌, ◌^◌, ◌*◌, ◌++◌, ◌∷◌, ◌↔◌, [], max, IfOk, OnOk, OnErr, IsTrue, Contains, length, sum, slice_index, slice_index_or, slice_set};
 ghost use Rattle.sat_words.specs.Literal.{Literal, code_of};
 ghost use Rattle.watch_prop.specs.WatchData.{watchers_at, list_at};
 ghost use Rattle.watch_prop.specs.Lists.{Added, Removed, Reblocked};
-ghost use Rattle.watch_prop.specs.Layout.{HasRoom};
+ghost use Rattle.watch_prop.specs.Layout.{HasRoom, grown_rooms};
 
 use crate::stretches::{Stretch, count_watches, lay_out};
 use crate::watch::{Watch, Watcher};
@@ -85,6 +85,7 @@ impl Lists {
     pub(crate) fn push(&mut self, lit: Lit, watcher: Watcher) -> Result<(), AllocError>
         requires { code_of lit < length self.old.rows }
         ensures ok { OnOk result (Added self.old.rows self.new.rows lit watcher) }
+        ensures rooms { OnOk result (self.new.rooms ≡ grown_rooms self.old (code_of lit)) }
         ensures err { OnErr result (self.new ≡ self.old) }
     {
         let code = lit.code() as usize;
@@ -97,7 +98,8 @@ impl Lists {
     pub(crate) fn take(&mut self, lit: Lit, place: usize)
         requires in_range { code_of lit < length self.old.rows }
         requires there { place < length (list_at self.old.rows lit) }
-        ensures { Removed self.old.rows self.new.rows lit place }
+        ensures removed { Removed self.old.rows self.new.rows lit place }
+        ensures rooms { self.new.rooms ≡ self.old.rooms }
     {
         let code = lit.code() as usize;
         let stretch = self.stretches[code];
@@ -114,7 +116,8 @@ impl Lists {
     pub(crate) fn set_blocker(&mut self, lit: Lit, place: usize, blocker: Lit)
         requires in_range { code_of lit < length self.old.rows }
         requires there { place < length (list_at self.old.rows lit) }
-        ensures { Reblocked self.old.rows self.new.rows lit place blocker }
+        ensures reblocked { Reblocked self.old.rows self.new.rows lit place blocker }
+        ensures rooms { self.new.rooms ≡ self.old.rooms }
     {
         let at = self.stretches[lit.code() as usize].start + place;
         let slot = self.watchers[at].slot;
@@ -156,6 +159,7 @@ impl Lists {
     fn make_room(&mut self, code: usize) -> Result<(), AllocError>
         requires { code < length self.old.rows }
         ensures rows { self.new.rows ≡ self.old.rows }
+        ensures rooms { OnOk result (self.new.rooms ≡ grown_rooms self.old code) }
         ensures ok { OnOk result (HasRoom self.new code) }
         ensures err { OnErr result (self.new ≡ self.old) }
     {
@@ -171,6 +175,7 @@ impl Lists {
     fn move_to_end(&mut self, code: usize) -> Result<(), AllocError>
         requires { code < length self.old.rows }
         ensures rows { self.new.rows ≡ self.old.rows }
+        ensures rooms { OnOk result (self.new.rooms ≡ slice_set self.old.rooms code (max (2 * slice_index_or self.old.rooms code 0) 4)) }
         ensures ok { OnOk result (HasRoom self.new code) }
         ensures err { OnErr result (self.new ≡ self.old) }
     {
@@ -195,7 +200,8 @@ impl Lists {
     fn put(&mut self, code: usize, watcher: Watcher)
         requires in_range { code < length self.old.rows }
         requires room { HasRoom self.old code }
-        ensures { self.new.rows ≡ slice_set self.old.rows code (slice_index_or self.old.rows code [] ++ watcher ∷ []) }
+        ensures rows { self.new.rows ≡ slice_set self.old.rows code (slice_index_or self.old.rows code [] ++ watcher ∷ []) }
+        ensures rooms { self.new.rooms ≡ self.old.rooms }
     {
         let stretch = self.stretches[code];
         self.watchers[stretch.start + stretch.len] = watcher;

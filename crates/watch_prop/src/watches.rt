@@ -1,13 +1,15 @@
 //! The watches of the attached clauses: two literals of each (MiniSat, Eén and Sörensson 2003), and for each literal
 //! the list of the watches to look at when it becomes false. Each call must leave `Watched` of specs/ between watches,
 //! clauses and trail.
-ghost use Rattle.std.specs.Prelude.{◌≡◌, ◌≤◌, ◌<◌, ◌+◌, ◌*◌, ◌^◌, ◌++◌, ◌∷◌, [], IfOk, OnOk, OnErr, IfSome, IfNone, IsSome, Contains, length, sum, slice_index};
+ghost use Rattle.std.specs.Prelude.{◌≡◌, ◌≤◌, ◌<◌, ◌+◌, ◌*◌, ◌^◌, ◌++◌, ◌∷◌, [], IfOk, OnOk, OnErr, IfSome, IfNone, IsSome, Some, Contains, length, sum, slice_index};
 ghost use Rattle.ring_port.specs.PortState.{held_at, lits_at};
 ghost use Rattle.ring_trail.specs.TrailData.{TrailData, HasGrown};
 ghost use Rattle.watch_prop.specs.WatchData.{WatchData, Lits, attached, watchers_at, list_at};
 ghost use Rattle.watch_prop.specs.Watched.{Watched, IsFresh, IsPair};
 ghost use Rattle.watch_prop.specs.Detaching.{Compacted};
-ghost use Rattle.watch_prop.specs.Propagation.{HasReasons, IsClosedBelow, IsPropagated};
+ghost use Rattle.watch_prop.specs.Propagation.{HasReasons, IsClosedBelow, IsQuiet, NoneWaits, IsPropagated};
+ghost use Rattle.watch_prop.specs.Layout.{HaveGrown};
+ghost use Rattle.watch_prop.specs.Aside.{but, only};
 ghost use Rattle.watch_prop.specs.Visiting.{IsEntry, IsStale};
 
 use crate::lists::Lists;
@@ -119,9 +121,11 @@ impl Watches {
     }
 
     /// Makes true at the present level what the attached clauses force, until nothing more is forced or one of them is
-    /// false. Each literal made true has its clause as its reason.
+    /// false. Each literal made true has its clause as its reason. Where nothing was left to propagate, the trail stays as it
+    /// is, and no clause waits afterwards.
     ///
-    /// Where memory runs out the watches are as good as before: some literals may have become true already.
+    /// Where memory runs out the watches are as good as before: some literals may have become true already. A list that needs
+    /// more room gets twice as much, and at least four.
     pub fn propagate<P: Port>(
         &mut self,
         port: &mut P,
@@ -137,12 +141,44 @@ impl Watches {
         ensures reasons { HasReasons (attached self.old) (P.state port.old) trail.new.steps }
         ensures watched { Watched self.new (lits_at (P.state port.old)) trail.new }
         ensures propagated { IfOk result (IsPropagated self.new (lits_at (P.state port.old)) trail.new) }
+        ensures still { IsQuiet self.old (lits_at (P.state port.old)) trail.old → trail.new ≡ trail.old }
+        ensures rooms { 0 < self.old.size → length self.old.slots ≤ 2 * length (attached self.old) + length self.old.lists → HaveGrown self.old.rooms self.new.rooms }
+        ensures settled { IfOk result (λ _came_to. IsQuiet self.old (lits_at (P.state port.old)) trail.old → NoneWaits self.new) }
     {
+        let _lawful = trail.decision_level();
         self.tidy();
         match self.watch_waiting(port, trail)? {
             Propagated::Conflict(clause) => Ok(Propagated::Conflict(clause)),
-            Propagated::Quiet => Ok(self.run(port, trail)?),
+            Propagated::Quiet => Ok(self.run(port, trail, None)?),
         }
+    }
+
+    /// Propagates as `propagate` does, with this clause set aside: over the others that are attached. It stays attached, and
+    /// is as well watched as before on any trail on which it was well watched; so once the trail is as it was, it is one of
+    /// the clauses again. No clause may wait.
+    ///
+    /// It takes no slot out.
+    pub fn propagate_without<P: Port>(
+        &mut self,
+        port: &mut P,
+        trail: &mut Trail,
+        c: Cref,
+    ) -> Result<Propagated, AllocError>
+        requires watched { Watched (but (Some c) self.old) (lits_at (P.state port.old)) trail.old }
+        requires settled { NoneWaits self.old }
+        requires reasons { HasReasons (attached (but (Some c) self.old)) (P.state port.old) trail.old.steps }
+        ensures same { P.state port.new ≡ P.state port.old }
+        ensures attached { attached self.new ≡ attached self.old }
+        ensures vars { self.new.vars ≡ self.old.vars }
+        ensures grown { HasGrown trail.old trail.new }
+        ensures reasons { HasReasons (attached (but (Some c) self.old)) (P.state port.old) trail.new.steps }
+        ensures watched { Watched (but (Some c) self.new) (lits_at (P.state port.old)) trail.new }
+        ensures aside { (t : TrailData) → Watched (only c self.old) (lits_at (P.state port.old)) t → Watched (only c self.new) (lits_at (P.state port.old)) t }
+        ensures settled { NoneWaits self.new }
+        ensures rooms { HaveGrown self.old.rooms self.new.rooms }
+        ensures propagated { IfOk result (IsPropagated (but (Some c) self.new) (lits_at (P.state port.old)) trail.new) }
+    {
+        self.run(port, trail, Some(c))
     }
 
     /// Takes the free slots out, and closes up the vector in which the lists stand. All clauses wait then, and the next
@@ -162,6 +198,7 @@ impl Watches {
         ensures vars { self.new.vars ≡ self.old.vars }
         ensures watched { (lits : Lits) (t : TrailData) → Watched self.old lits t → Watched self.new lits t }
         ensures few { length self.new.slots ≤ 2 * length (attached self.new) + length self.new.lists }
+        ensures rooms { 0 < self.old.size → length self.old.slots ≤ 2 * length (attached self.old) + length self.old.lists → self.new.rooms ≡ self.old.rooms }
     {
         self.thin_out();
         self.make_ready();
@@ -172,6 +209,7 @@ impl Watches {
         ensures slots { self.new.slots ≡ self.old.slots }
         ensures vars { self.new.vars ≡ self.old.vars }
         ensures lists { length self.new.lists ≡ length self.old.lists }
+        ensures rooms { 0 < self.old.size → self.new.rooms ≡ self.old.rooms }
         ensures watched { (lits : Lits) (t : TrailData) → Watched self.old lits t → Watched self.new lits t }
     {
         if self.settled == 0 && self.lists.is_empty() {
@@ -187,6 +225,7 @@ impl Watches {
         ensures vars { self.new.vars ≡ self.old.vars }
         ensures watched { (lits : Lits) (t : TrailData) → Watched self.old lits t → Watched self.new lits t }
         ensures few { length self.new.slots ≤ 2 * length (attached self.new) + length self.new.lists }
+        ensures kept { length self.old.slots ≤ 2 * length (attached self.old) + length self.old.lists → self.new ≡ self.old }
     {
         let used = self.slots.len() - self.free_slots;
         if self.free_slots.saturating_sub(used) > self.lists.count() {

@@ -5,12 +5,13 @@ ghost use Rattle.std.specs.Prelude.{◌≡◌, ◌≤◌, ◌<◌, IfOk, OnOk, O
 ghost use Rattle.sat_words.specs.Literal.{Literal};
 ghost use Rattle.sat_words.specs.declared.shared.Cref.{Cref};
 ghost use Rattle.ring_port.specs.PortState.{PortState, lits_at};
-ghost use Rattle.ring_trail.specs.TrailData.{HasGrown};
+ghost use Rattle.ring_trail.specs.TrailData.{HasGrown, IsTrueOn};
 ghost use Rattle.ring_trail.specs.Reasoned.{ForcesAt};
 ghost use Rattle.ring_trail.specs.Closed.{TrueWithin};
 ghost use Rattle.watch_prop.specs.WatchData.{attached};
 ghost use Rattle.watch_prop.specs.Watched.{At, Watched};
 ghost use Rattle.watch_prop.specs.Propagation.{HasReasons, IsClosedBelow, attached_at};
+ghost use Rattle.watch_prop.specs.Layout.{HaveGrown};
 ghost use Rattle.watch_prop.specs.Advancing.{HasAdvanced};
 ghost use Rattle.watch_prop.specs.Visiting.{NotFalse, Listed, ListsMore, IsSettledTo, IsAllSettled};
 
@@ -85,6 +86,7 @@ impl Watches {
         requires first { first.var ≤ self.old.vars }
         requires second { second.var ≤ self.old.vars }
         ensures ok { OnOk result (Listed self.old self.new watch.now first second) }
+        ensures rooms { HaveGrown self.old.rooms self.new.rooms }
         ensures err { OnErr result (ListsMore self.old self.new second) }
     {
         let slot = self.settled as u32;
@@ -117,6 +119,7 @@ fn make_true(trail: &mut Trail, lit: Lit, clause: Cref)
     ensures reasons { (cs : List Cref) (s : PortState) (d : List Literal) → attached_at cs s clause.address ≡ Some d → ForcesAt trail.old.steps (length trail.old.steps) lit d → HasReasons cs s trail.old.steps → HasReasons cs s trail.new.steps }
     ensures done { trail.new.done ≡ trail.old.done }
     ensures made { TrueWithin trail.new.steps trail.new.level lit }
+    ensures still { IsTrueOn trail.old.steps lit → trail.new ≡ trail.old }
 {
     let _lawful = trail.decision_level();
     if !trail.is_true(lit) {

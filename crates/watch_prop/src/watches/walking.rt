@@ -1,7 +1,7 @@
 //! Unit propagation by two watched literals (MiniSat, Eén and Sörensson 2003): if a literal becomes false, the list of
 //! its watches is walked; each entry finds its clause satisfied, a replacement watch, a literal that is forced, or a
 //! conflict. An entry may leave the list only if it is stale, or if another literal of the clause, which isn't false,
-//! watches from then on.
+//! watches from then on. The entries of a clause that is set aside are passed over, and stay.
 ghost use Rattle.std.specs.Prelude.{◌≡◌, ◌≢◌, ◌≤◌, ◌<◌, ◌+◌, IfOk, OnOk, OnErr, length, slice_index};
 ghost use Rattle.ring_port.specs.PortState.{lits_at};
 ghost use Rattle.ring_trail.specs.TrailData.{IsFalseOn};
@@ -9,7 +9,9 @@ ghost use Rattle.watch_prop.specs.WatchData.{attached, list_at};
 ghost use Rattle.watch_prop.specs.Watched.{Watched};
 ghost use Rattle.watch_prop.specs.Propagation.{HasReasons};
 ghost use Rattle.watch_prop.specs.Advancing.{HasAdvanced};
-ghost use Rattle.watch_prop.specs.Visiting.{IsVisiting, IsEntry, IsVerdict, Replaced, IsVisited, IsWalked, IsEnd};
+ghost use Rattle.watch_prop.specs.Visiting.{IsVisiting, IsEntry, IsStale, IsVerdict, Replaced, IsVisited, IsWalked, IsEnd};
+ghost use Rattle.watch_prop.specs.Layout.{HaveGrown};
+ghost use Rattle.watch_prop.specs.Aside.{but, PassesOver, is_at};
 
 use crate::clause_scan::find_replacement;
 use crate::propagated::Propagated;
@@ -17,26 +19,28 @@ use crate::watch::{ClauseState, ListEntry, Visit, Watch, Watcher};
 use crate::watches::Watches;
 use ring_port::Port;
 use ring_trail::Trail;
-use sat_words::Lit;
+use sat_words::{Cref, Lit};
 use std::alloc::AllocError;
 
 impl Watches {
-    /// Propagates all literals that aren't propagated yet.
+    /// Propagates all literals that aren't propagated yet, over the clauses but the one set aside, if any.
     pub(crate) fn run<P: Port>(
         &mut self,
         port: &mut P,
         trail: &mut Trail,
+        aside: Option<Cref>,
     ) -> Result<Propagated, AllocError>
-        requires watched { Watched self.old (lits_at (P.state port.old)) trail.old }
-        requires reasons { HasReasons (attached self.old) (P.state port.old) trail.old.steps }
+        requires watched { Watched (but aside self.old) (lits_at (P.state port.old)) trail.old }
+        requires reasons { HasReasons (attached (but aside self.old)) (P.state port.old) trail.old.steps }
         ensures same { P.state port.new ≡ P.state port.old }
-        ensures kept { HasAdvanced (P.state port.old) self.old self.new trail.old trail.new }
+        ensures kept { HasAdvanced (P.state port.old) (but aside self.old) (but aside self.new) trail.old trail.new }
+        ensures passed { PassesOver aside (lits_at (P.state port.old)) self.old self.new }
         ensures settled { self.new.settled ≡ self.old.settled }
         ensures len { length self.new.slots ≡ length self.old.slots }
-        ensures ended { IfOk result (IsEnd self.new (lits_at (P.state port.old)) trail.new) }
+        ensures ended { IfOk result (IsEnd (but aside self.new) (lits_at (P.state port.old)) trail.new) }
     {
         while let Some(lit) = trail.next() {
-            match self.walk(port, trail, lit.not())? {
+            match self.walk(port, trail, lit.not(), aside)? {
                 Propagated::Quiet => trail.advance_head(),
                 Propagated::Conflict(clause) => return Ok(Propagated::Conflict(clause)),
             }
@@ -50,22 +54,24 @@ impl Watches {
         port: &mut P,
         trail: &mut Trail,
         lit: Lit,
+        aside: Option<Cref>,
     ) -> Result<Propagated, AllocError>
-        requires watched { Watched self.old (lits_at (P.state port.old)) trail.old }
+        requires watched { Watched (but aside self.old) (lits_at (P.state port.old)) trail.old }
         requires in_range { lit.var ≤ self.old.vars }
         requires now_false { IsFalseOn trail.old.steps lit }
-        requires reasons { HasReasons (attached self.old) (P.state port.old) trail.old.steps }
+        requires reasons { HasReasons (attached (but aside self.old)) (P.state port.old) trail.old.steps }
         ensures same { P.state port.new ≡ P.state port.old }
-        ensures kept { HasAdvanced (P.state port.old) self.old self.new trail.old trail.new }
+        ensures kept { HasAdvanced (P.state port.old) (but aside self.old) (but aside self.new) trail.old trail.new }
+        ensures passed { PassesOver aside (lits_at (P.state port.old)) self.old self.new }
         ensures settled { self.new.settled ≡ self.old.settled }
         ensures len { length self.new.slots ≡ length self.old.slots }
         ensures done { trail.new.done ≡ trail.old.done }
-        ensures walked { IfOk result (IsWalked self.new (lits_at (P.state port.old)) trail.new lit) }
+        ensures walked { IfOk result (IsWalked (but aside self.new) (lits_at (P.state port.old)) trail.new lit) }
     {
         let mut place = self.list_len(lit);
         while place > 0 {
             place -= 1;
-            match self.visit(port, trail, lit, place)? {
+            match self.visit(port, trail, lit, place, aside)? {
                 Visit::Done => {}
                 Visit::Falsified(clause) => return Ok(Propagated::Conflict(clause)),
             }
@@ -80,21 +86,23 @@ impl Watches {
         trail: &mut Trail,
         lit: Lit,
         place: usize,
+        aside: Option<Cref>,
     ) -> Result<Visit, AllocError>
-        requires visiting { IsVisiting self.old (lits_at (P.state port.old)) trail.old lit (place + 1) }
+        requires visiting { IsVisiting (but aside self.old) (lits_at (P.state port.old)) trail.old lit (place + 1) }
         requires in_range { lit.var ≤ self.old.vars }
         requires there { place < length (list_at self.old.lists lit) }
         requires now_false { IsFalseOn trail.old.steps lit }
-        requires reasons { HasReasons (attached self.old) (P.state port.old) trail.old.steps }
+        requires reasons { HasReasons (attached (but aside self.old)) (P.state port.old) trail.old.steps }
         ensures same { P.state port.new ≡ P.state port.old }
-        ensures kept { HasAdvanced (P.state port.old) self.old self.new trail.old trail.new }
+        ensures kept { HasAdvanced (P.state port.old) (but aside self.old) (but aside self.new) trail.old trail.new }
+        ensures passed { PassesOver aside (lits_at (P.state port.old)) self.old self.new }
         ensures settled { self.new.settled ≡ self.old.settled }
         ensures len { length self.new.slots ≡ length self.old.slots }
         ensures done { trail.new.done ≡ trail.old.done }
-        ensures visited { IfOk result (IsVisited self.new (lits_at (P.state port.old)) trail.new lit place) }
+        ensures visited { IfOk result (IsVisited (but aside self.new) (lits_at (P.state port.old)) trail.new lit place) }
     {
         let _level = trail.decision_level();
-        match self.judge(port, trail, lit, place) {
+        match self.judge(port, trail, lit, place, aside) {
             ClauseState::Stale => self.lists.take(lit, place),
             ClauseState::Settled => {}
             ClauseState::Blocked(entry) => self.lists.set_blocker(lit, place, entry.other),
@@ -107,13 +115,21 @@ impl Watches {
 
     /// What a watcher in the list of a false literal asks for. The clause is read only if neither the blocker nor the
     /// other literal is true, and where it has more than two literals.
-    fn judge<P: Port>(&self, port: &mut P, trail: &Trail, lit: Lit, place: usize) -> ClauseState
-        requires watched { Watched self.now (lits_at (P.state port.old)) trail.now }
+    fn judge<P: Port>(
+        &self,
+        port: &mut P,
+        trail: &Trail,
+        lit: Lit,
+        place: usize,
+        aside: Option<Cref>,
+    ) -> ClauseState
+        requires watched { Watched (but aside self.now) (lits_at (P.state port.old)) trail.now }
         requires in_range { lit.var ≤ self.now.vars }
         requires there { place < length (list_at self.now.lists lit) }
         requires now_false { IsFalseOn trail.now.steps lit }
         ensures same { P.state port.new ≡ P.state port.old }
-        ensures verdict { IsVerdict self.now (lits_at (P.state port.old)) trail.now lit (slice_index (list_at self.now.lists lit) place) result }
+        ensures stale { result ≡ ClauseState.Stale → IsStale self.now (slice_index (list_at self.now.lists lit) place) lit }
+        ensures verdict { IsVerdict (but aside self.now) (lits_at (P.state port.old)) trail.now lit (slice_index (list_at self.now.lists lit) place) result }
     {
         let _lawful = trail.decision_level();
         let watcher = self.watcher_at(lit, place);
@@ -124,6 +140,9 @@ impl Watches {
             None => return ClauseState::Stale,
             Some(entry) => entry,
         };
+        if is_aside(aside, entry.clause) {
+            return ClauseState::Settled;
+        }
         if trail.is_true(entry.other) {
             return ClauseState::Blocked(entry);
         }
@@ -153,6 +172,7 @@ impl Watches {
         requires apart { new ≢ lit }
         requires there { place < length (list_at self.old.lists lit) }
         ensures ok { OnOk result (Replaced self.old self.new entry lit new place) }
+        ensures rooms { HaveGrown self.old.rooms self.new.rooms }
         ensures err { OnErr result (self.new ≡ self.old) }
     {
         let watcher = Watcher {
@@ -168,5 +188,15 @@ impl Watches {
             binary: entry.binary,
         });
         Ok(())
+    }
+}
+
+/// Whether a clause is the one set aside.
+fn is_aside(aside: Option<Cref>, clause: Cref) -> bool
+    ensures { result ≡ is_at aside clause.address }
+{
+    match aside {
+        None => false,
+        Some(other) => clause.address == other.address,
     }
 }

@@ -8,7 +8,7 @@ use Rattle.rup_model.proofs.Lists.{In}
 use Rattle.ring_port.specs.PortState.{PortState, IsPort, IsOn, lits_at, held_at}
 use Rattle.ring_port.specs.Port.{IsClause, WroteUnit}
 use Rattle.watch_prop.specs.WatchData.{WatchData, attached}
-use Rattle.ring_trail.specs.TrailData.{TrailData}
+use Rattle.watch_prop.specs.Watched.{Watched}
 use Rattle.watch_prop.specs.Propagation.{HasReasons, IsQuiet}
 use Rattle.rup_model.specs.declared.journal.Kind.TheVariants.{Derive, UnitLine}
 use Rattle.ring_port.specs.Port.{IsPartOfHeld, AddedClause}
@@ -21,25 +21,40 @@ use Rattle.ring_port.specs.declared.stops.PortStop.{PortStop}
 use Rattle.ring_port.specs.declared.stops.PortStop.TheVariants.{Memory}
 use Rattle.ring_trail.specs.declared.step.TrailStep.{TrailStep}
 use Rattle.vivify.proofs.Parts.{left_part, left_distinct, left_whole, left_short}
-use Rattle.vivify.proofs.After.{good_walked, good_kept, good_unit, good_shorter, left_open, left_closed, first_in, others_refused, others_wrote, others_unit, others_shorter}
-use Rattle.vivify.proofs.Shortening.{is_attached, part_clause, wrote_held, head_glue, one_on, not_empty}
+use Rattle.vivify.proofs.After.{good_detached, good_unit, good_shorter, left_open, left_closed, first_in, others_refused, others_wrote, others_unit, others_shorter}
+use Rattle.vivify.proofs.Shortening.{part_clause, wrote_held, head_glue, one_on, not_empty}
+use Rattle.vivify.proofs.shorten.vivify.Given as Given
+use Rattle.vivify.proofs.shorten.vivify.Goals.{After-drop-left-in-empty}
 use Rattle.vivify.proofs.shorten.vivify.Goals as goal
 
 by_short : (a b d size : ℕ) → a ≡ b → size ≡ d → b ≤ d → (a ≡ size → ⊥) → b < d
 by_short a b d size e f le ne = grind (arith, ne)
 
-pub returns-in-empty-clause-vivified : goal.returns-in-empty-clause-vivified
-returns-in-empty-clause-vivified g c =
+-- something is always left
+never : (g : Given.Over) (c : After-drop-left-in-empty g) → ⊥
+never g c =
     let s = g.P.Port.state c.args.port.now in
     let G = others s (attached c.args.watches.now) c.args.c.address c.args.trail.now.steps in
     let d = lits_at s c.args.c.address in
     let is : c.as_slice-lits.result.now ≡ left_of G d = c.as_slice-lits.ensures.value ∙ subst (λ (x : PortState). c.in-Ok.left.items ≡ left_at x (attached c.args.watches.now) c.args.trail.now.steps c.args.c.address) c.head-head.ensures.same c.in-Ok.ensures.left in
     let t = c.args.trail.now in
-    let w = c.literals_left.new.watches in
-    not_empty s c.args.watches.now w t c.args.c c.as_slice-lits.result.now c.decision_level-lawful.ensures.trail c.requires.level
-    (subst (λ (x : PortState). HasReasons (attached w) x t.steps) c.head-head.ensures.same (subst (λ (u : TrailData). HasReasons (attached w) (g.P.Port.state c.head-head.new.self) u.steps) c.in-Ok.ensures.trail c.in-Ok.ensures.reasons))
-    (subst (λ (x : PortState). IsQuiet w (lits_at x) t) c.head-head.ensures.same (subst (λ (u : TrailData). IsQuiet w (lits_at (g.P.Port.state c.head-head.new.self)) u) c.in-Ok.ensures.trail c.in-Ok.ensures.quiet))
-    c.requires.quiet c.requires.member c.in-Ok.ensures.attached is c.in-empty.len_below
+    let w = c.detach.new.self in
+    let both = good_detached s (g.P.Port.state c.head-head.new.self) (g.P.Port.state c.literals_left.new.port) c.args.watches.now c.literals_left.new.watches w t c.literals_left.new.trail c.args.c.address c.head-head.ensures.same c.literals_left.ensures.same
+    c.in-Ok.ensures.trail c.in-Ok.ensures.watched c.in-Ok.ensures.reasons c.in-Ok.ensures.quiet c.requires.free c.in-Ok.ensures.attached c.detach.ensures.attached c.detach.ensures.watched in
+    not_empty s c.args.watches.now w t c.args.c c.as_slice-lits.result.now c.decision_level-lawful.ensures.trail c.requires.level both.0.reasons both.0.quiet
+    c.requires.quiet c.requires.member both.1 is c.in-empty.len_below
+
+pub returns-in-empty-clause-vivified : goal.returns-in-empty-clause-vivified
+returns-in-empty-clause-vivified g c = never g c
+
+pub returns-in-empty-clause-watched : goal.returns-in-empty-clause-watched
+returns-in-empty-clause-watched g c = absurd (never g c)
+
+pub returns-in-empty-clause-reasons : goal.returns-in-empty-clause-reasons
+returns-in-empty-clause-reasons g c = absurd (never g c)
+
+pub returns-in-empty-clause-quiet : goal.returns-in-empty-clause-quiet
+returns-in-empty-clause-quiet g c = absurd (never g c)
 
 pub unit-requires-clause-on : goal.unit-requires-clause-on
 unit-requires-clause-on g c =
@@ -47,7 +62,7 @@ unit-requires-clause-on g c =
     let G = others s (attached c.args.watches.now) c.args.c.address c.args.trail.now.steps in
     let d = lits_at s c.args.c.address in
     let is : c.as_slice-lits.result.now ≡ left_of G d = c.as_slice-lits.ensures.value ∙ subst (λ (x : PortState). c.in-Ok.left.items ≡ left_at x (attached c.args.watches.now) c.args.trail.now.steps c.args.c.address) c.head-head.ensures.same c.in-Ok.ensures.left in
-    subst (λ (x : PortState). IsOn x.vars c.lit-item.result) (sym (c.literals_left.ensures.same ∙ c.head-head.ensures.same))
+    subst (λ (x : PortState). IsOn x.vars c.lit-item.result) (sym (c.detach.ensures.same ∙ c.literals_left.ensures.same ∙ c.head-head.ensures.same))
     (one_on s c.args.c.address c.as_slice-lits.result.now c.lit-item.result
     (part_clause s c.args.c.address c.as_slice-lits.result.now (subst IsPort c.head-head.ensures.same c.head-head.ensures.port) c.requires.held
     (subst (λ (L : List Literal). includes d L ≡ true) (sym is) (left_part G d))
@@ -56,8 +71,8 @@ unit-requires-clause-on g c =
 
 pub drop_clause-requires-clause-held : goal.drop_clause-requires-clause-held
 drop_clause-requires-clause-held g c =
-    wrote_held (g.P.Port.state c.literals_left.new.port) (g.P.Port.state c.unit.new.self) c.lit-item.result _ _ c.args.c.address c.in_ok-unit-in-len1.ensures.written
-    (subst (λ (x : PortState). IsSome (held_at x c.args.c.address)) (sym (c.literals_left.ensures.same ∙ c.head-head.ensures.same)) c.requires.held)
+    wrote_held (g.P.Port.state c.detach.new.port) (g.P.Port.state c.unit.new.self) c.lit-item.result _ _ c.args.c.address c.in_ok-unit-in-len1.ensures.written
+    (subst (λ (x : PortState). IsSome (held_at x c.args.c.address)) (sym (c.detach.ensures.same ∙ c.literals_left.ensures.same ∙ c.head-head.ensures.same)) c.requires.held)
 
 pub derive-requires-clause-clause : goal.derive-requires-clause-clause
 derive-requires-clause-clause g c =
@@ -65,7 +80,7 @@ derive-requires-clause-clause g c =
     let G = others s (attached c.args.watches.now) c.args.c.address c.args.trail.now.steps in
     let d = lits_at s c.args.c.address in
     let is : c.as_slice-lits.result.now ≡ left_of G d = c.as_slice-lits.ensures.value ∙ subst (λ (x : PortState). c.in-Ok.left.items ≡ left_at x (attached c.args.watches.now) c.args.trail.now.steps c.args.c.address) c.head-head.ensures.same c.in-Ok.ensures.left in
-    subst (λ (x : PortState). IsClause x.vars c.as_slice-lits.result.now) (sym (c.literals_left.ensures.same ∙ c.head-head.ensures.same))
+    subst (λ (x : PortState). IsClause x.vars c.as_slice-lits.result.now) (sym (c.detach.ensures.same ∙ c.literals_left.ensures.same ∙ c.head-head.ensures.same))
     (part_clause s c.args.c.address c.as_slice-lits.result.now (subst IsPort c.head-head.ensures.same c.head-head.ensures.port) c.requires.held
     (subst (λ (L : List Literal). includes d L ≡ true) (sym is) (left_part G d))
     (λ q. subst (λ (L : List Literal). distinct_lits L ≡ true) (sym is) (left_distinct G d q)))
@@ -76,11 +91,11 @@ derive-requires-clause-part g c =
     let G = others s (attached c.args.watches.now) c.args.c.address c.args.trail.now.steps in
     let d = lits_at s c.args.c.address in
     let is : c.as_slice-lits.result.now ≡ left_of G d = c.as_slice-lits.ensures.value ∙ subst (λ (x : PortState). c.in-Ok.left.items ≡ left_at x (attached c.args.watches.now) c.args.trail.now.steps c.args.c.address) c.head-head.ensures.same c.in-Ok.ensures.left in
-    subst (λ (x : PortState). IsPartOfHeld x c.as_slice-lits.result.now) (sym (c.literals_left.ensures.same ∙ c.head-head.ensures.same))
+    subst (λ (x : PortState). IsPartOfHeld x c.as_slice-lits.result.now) (sym (c.detach.ensures.same ∙ c.literals_left.ensures.same ∙ c.head-head.ensures.same))
     record { address = c.args.c.address; held = c.requires.held; part = subst (λ (L : List Literal). includes d L ≡ true) (sym is) (left_part G d) }
 
-pub returns-in-Ok-attach-clause-vivified : goal.returns-in-Ok-attach-clause-vivified
-returns-in-Ok-attach-clause-vivified g c =
+pub returns-then-lits-head-clause-vivified : goal.returns-then-lits-head-clause-vivified
+returns-then-lits-head-clause-vivified g c =
     let s = g.P.Port.state c.args.port.now in
     let G = others s (attached c.args.watches.now) c.args.c.address c.args.trail.now.steps in
     let d = lits_at s c.args.c.address in
@@ -89,8 +104,8 @@ returns-in-Ok-attach-clause-vivified g c =
     let size = c.head-head.ensures.size in
     record {
       left = left_whole G d (let q = c.if-lits-head.true in omega (arith, n, size, q));
-      state = c.attach.ensures.same ∙ c.literals_left.ensures.same ∙ c.head-head.ensures.same;
-      attached_now = c.in-Ok-attach.ensures.attached ∙ ap (λ (cs : List Cref). cs ++ c.args.c ∷ []) c.in-Ok.ensures.attached;
+      state = c.literals_left.ensures.same ∙ c.head-head.ensures.same;
+      attached_now = c.in-Ok.ensures.attached;
     }
 
 pub returns-clause-vivified : goal.returns-clause-vivified
@@ -102,6 +117,10 @@ returns-clause-vivified g c =
     let n : length c.as_slice-lits.result.now ≡ length (left_of G d) = ap (λ (L : List Literal). length L) is in
     let size = c.head-head.ensures.size in
     let q = c.if-lits-head.false in
+    let t = c.args.trail.now in
+    let w = c.detach.new.self in
+    let both = good_detached s (g.P.Port.state c.head-head.new.self) (g.P.Port.state c.literals_left.new.port) c.args.watches.now c.literals_left.new.watches w t c.literals_left.new.trail c.args.c.address c.head-head.ensures.same c.literals_left.ensures.same
+    c.in-Ok.ensures.trail c.in-Ok.ensures.watched c.in-Ok.ensures.reasons c.in-Ok.ensures.quiet c.requires.free c.in-Ok.ensures.attached c.detach.ensures.attached c.detach.ensures.watched in
     let short = left_short G d in
     let m = g.P.Port.state c.derive.new.self in
     let h = head_glue s c.args.c.address c.head-head.result c.requires.held c.head-head.ensures.value in
@@ -111,114 +130,111 @@ returns-clause-vivified g c =
       middle = m;
       derived = subst (λ (k : ℕ). AddedClause s m (left_of G d) k Derive c.in_ok-shorter-in_default-lits.shorter) glue
           (subst (λ (L : List Literal). AddedClause s m L c.shorter_glue-glue.result Derive c.in_ok-shorter-in_default-lits.shorter) is
-          (subst (λ (x : PortState). AddedClause x m c.as_slice-lits.result.now c.shorter_glue-glue.result Derive c.in_ok-shorter-in_default-lits.shorter) (c.literals_left.ensures.same ∙ c.head-head.ensures.same) c.in_ok-shorter-in_default-lits.ensures.derived));
-      dropped = subst (λ (x : PortState). DroppedOnce x (g.P.Port.state c.drop_clause-in_default-lits.new.self) c.args.c.address) c.attach-in_default-lits.ensures.same c.in_ok-drop_clause-in_default-lits.ensures.dropped;
-      attached_now = c.in-Ok-attach-2.ensures.attached ∙ ap (λ (cs : List Cref). cs ++ c.in_ok-shorter-in_default-lits.shorter ∷ []) c.in-Ok.ensures.attached;
+          (subst (λ (x : PortState). AddedClause x m c.as_slice-lits.result.now c.shorter_glue-glue.result Derive c.in_ok-shorter-in_default-lits.shorter) (c.detach.ensures.same ∙ c.literals_left.ensures.same ∙ c.head-head.ensures.same) c.in_ok-shorter-in_default-lits.ensures.derived));
+      dropped = subst (λ (x : PortState). DroppedOnce x (g.P.Port.state c.drop_clause-in_default-lits.new.self) c.args.c.address) c.attach.ensures.same c.in_ok-drop_clause-in_default-lits.ensures.dropped;
+      attached_now = c.in-Ok-attach.ensures.attached ∙ ap (λ (cs : List Cref). cs ++ c.in_ok-shorter-in_default-lits.shorter ∷ []) both.1;
     }
 
 -- What holds afterwards
 
-pub returns-in-Ok-attach-clause-watched : goal.returns-in-Ok-attach-clause-watched
-returns-in-Ok-attach-clause-watched g c =
-    let s = g.P.Port.state c.args.port.now in
-    let t = c.args.trail.now in
-    let w = c.literals_left.new.watches in
-    let same = c.literals_left.ensures.same ∙ c.head-head.ensures.same in
-    let good = good_walked s (g.P.Port.state c.head-head.new.self) w t c.literals_left.new.trail c.head-head.ensures.same c.in-Ok.ensures.trail c.in-Ok.ensures.watched c.in-Ok.ensures.reasons c.in-Ok.ensures.quiet in
-    (good_kept s (g.P.Port.state c.literals_left.new.port) (g.P.Port.state c.attach.new.port) c.args.watches.now w c.attach.new.self t c.literals_left.new.trail c.args.c same c.attach.ensures.same c.in-Ok.ensures.trail good c.requires.quiet
-    (is_attached s c.args.watches.now c.args.c c.requires.member) c.in-Ok-attach.ensures.attached c.attach.ensures.watched).watched
+pub returns-then-lits-head-clause-watched : goal.returns-then-lits-head-clause-watched
+returns-then-lits-head-clause-watched g c = subst (λ (x : PortState). Watched c.literals_left.new.watches (lits_at x) c.literals_left.new.trail) (sym c.literals_left.ensures.same) c.in-Ok.ensures.watched
 
-pub returns-in-Ok-attach-clause-reasons : goal.returns-in-Ok-attach-clause-reasons
-returns-in-Ok-attach-clause-reasons g c =
-    let s = g.P.Port.state c.args.port.now in
-    let t = c.args.trail.now in
-    let w = c.literals_left.new.watches in
-    let same = c.literals_left.ensures.same ∙ c.head-head.ensures.same in
-    let good = good_walked s (g.P.Port.state c.head-head.new.self) w t c.literals_left.new.trail c.head-head.ensures.same c.in-Ok.ensures.trail c.in-Ok.ensures.watched c.in-Ok.ensures.reasons c.in-Ok.ensures.quiet in
-    (good_kept s (g.P.Port.state c.literals_left.new.port) (g.P.Port.state c.attach.new.port) c.args.watches.now w c.attach.new.self t c.literals_left.new.trail c.args.c same c.attach.ensures.same c.in-Ok.ensures.trail good c.requires.quiet
-    (is_attached s c.args.watches.now c.args.c c.requires.member) c.in-Ok-attach.ensures.attached c.attach.ensures.watched).reasons
+pub returns-then-lits-head-clause-reasons : goal.returns-then-lits-head-clause-reasons
+returns-then-lits-head-clause-reasons g c = subst (λ (x : PortState). HasReasons (attached c.literals_left.new.watches) x c.literals_left.new.trail.steps) (sym c.literals_left.ensures.same) c.in-Ok.ensures.reasons
 
-pub returns-in-Ok-attach-clause-quiet : goal.returns-in-Ok-attach-clause-quiet
-returns-in-Ok-attach-clause-quiet g c =
-    let s = g.P.Port.state c.args.port.now in
-    let t = c.args.trail.now in
-    let w = c.literals_left.new.watches in
-    let same = c.literals_left.ensures.same ∙ c.head-head.ensures.same in
-    let good = good_walked s (g.P.Port.state c.head-head.new.self) w t c.literals_left.new.trail c.head-head.ensures.same c.in-Ok.ensures.trail c.in-Ok.ensures.watched c.in-Ok.ensures.reasons c.in-Ok.ensures.quiet in
-    (good_kept s (g.P.Port.state c.literals_left.new.port) (g.P.Port.state c.attach.new.port) c.args.watches.now w c.attach.new.self t c.literals_left.new.trail c.args.c same c.attach.ensures.same c.in-Ok.ensures.trail good c.requires.quiet
-    (is_attached s c.args.watches.now c.args.c c.requires.member) c.in-Ok-attach.ensures.attached c.attach.ensures.watched).quiet
+pub returns-then-lits-head-clause-quiet : goal.returns-then-lits-head-clause-quiet
+returns-then-lits-head-clause-quiet g c = subst (λ (x : PortState). IsQuiet c.literals_left.new.watches (lits_at x) c.literals_left.new.trail) (sym c.literals_left.ensures.same) c.in-Ok.ensures.quiet
+
+pub detach-requires-clause-held : goal.detach-requires-clause-held
+detach-requires-clause-held g c = subst (λ (x : PortState). IsSome (held_at x c.args.c.address)) (sym (c.literals_left.ensures.same ∙ c.head-head.ensures.same)) c.requires.held
+
+pub detach-requires-clause-vars : goal.detach-requires-clause-vars
+detach-requires-clause-vars g c = ap (λ (x : PortState). x.vars) (c.literals_left.ensures.same ∙ c.head-head.ensures.same) ∙ c.requires.vars ∙ sym c.literals_left.ensures.vars
 
 pub returns-in-len1-clause-watched : goal.returns-in-len1-clause-watched
 returns-in-len1-clause-watched g c =
     let s = g.P.Port.state c.args.port.now in
     let t = c.args.trail.now in
-    let w = c.literals_left.new.watches in
-    let same = c.literals_left.ensures.same ∙ c.head-head.ensures.same in
-    let good = good_walked s (g.P.Port.state c.head-head.new.self) w t c.literals_left.new.trail c.head-head.ensures.same c.in-Ok.ensures.trail c.in-Ok.ensures.watched c.in-Ok.ensures.reasons c.in-Ok.ensures.quiet in
-    (good_unit s (g.P.Port.state c.literals_left.new.port) (g.P.Port.state c.unit.new.self) (g.P.Port.state c.drop_clause.new.self) c.args.watches.now w t c.literals_left.new.trail c.args.c.address c.lit-item.result _ _ same c.in-Ok.ensures.trail good
-    c.in-Ok.ensures.attached c.in_ok-unit-in-len1.ensures.written c.in_ok-drop_clause-in-len1.ensures.dropped).watched
+    let w = c.detach.new.self in
+    let same = c.detach.ensures.same ∙ c.literals_left.ensures.same ∙ c.head-head.ensures.same in
+    let both = good_detached s (g.P.Port.state c.head-head.new.self) (g.P.Port.state c.literals_left.new.port) c.args.watches.now c.literals_left.new.watches w t c.literals_left.new.trail c.args.c.address c.head-head.ensures.same c.literals_left.ensures.same
+    c.in-Ok.ensures.trail c.in-Ok.ensures.watched c.in-Ok.ensures.reasons c.in-Ok.ensures.quiet c.requires.free c.in-Ok.ensures.attached c.detach.ensures.attached c.detach.ensures.watched in
+    let good = both.0 in
+    (good_unit s (g.P.Port.state c.detach.new.port) (g.P.Port.state c.unit.new.self) (g.P.Port.state c.drop_clause.new.self) c.args.watches.now w t c.literals_left.new.trail c.args.c.address c.lit-item.result _ _ same c.in-Ok.ensures.trail good
+    both.1 c.in_ok-unit-in-len1.ensures.written c.in_ok-drop_clause-in-len1.ensures.dropped).watched
 
 pub returns-in-len1-clause-reasons : goal.returns-in-len1-clause-reasons
 returns-in-len1-clause-reasons g c =
     let s = g.P.Port.state c.args.port.now in
     let t = c.args.trail.now in
-    let w = c.literals_left.new.watches in
-    let same = c.literals_left.ensures.same ∙ c.head-head.ensures.same in
-    let good = good_walked s (g.P.Port.state c.head-head.new.self) w t c.literals_left.new.trail c.head-head.ensures.same c.in-Ok.ensures.trail c.in-Ok.ensures.watched c.in-Ok.ensures.reasons c.in-Ok.ensures.quiet in
-    (good_unit s (g.P.Port.state c.literals_left.new.port) (g.P.Port.state c.unit.new.self) (g.P.Port.state c.drop_clause.new.self) c.args.watches.now w t c.literals_left.new.trail c.args.c.address c.lit-item.result _ _ same c.in-Ok.ensures.trail good
-    c.in-Ok.ensures.attached c.in_ok-unit-in-len1.ensures.written c.in_ok-drop_clause-in-len1.ensures.dropped).reasons
+    let w = c.detach.new.self in
+    let same = c.detach.ensures.same ∙ c.literals_left.ensures.same ∙ c.head-head.ensures.same in
+    let both = good_detached s (g.P.Port.state c.head-head.new.self) (g.P.Port.state c.literals_left.new.port) c.args.watches.now c.literals_left.new.watches w t c.literals_left.new.trail c.args.c.address c.head-head.ensures.same c.literals_left.ensures.same
+    c.in-Ok.ensures.trail c.in-Ok.ensures.watched c.in-Ok.ensures.reasons c.in-Ok.ensures.quiet c.requires.free c.in-Ok.ensures.attached c.detach.ensures.attached c.detach.ensures.watched in
+    let good = both.0 in
+    (good_unit s (g.P.Port.state c.detach.new.port) (g.P.Port.state c.unit.new.self) (g.P.Port.state c.drop_clause.new.self) c.args.watches.now w t c.literals_left.new.trail c.args.c.address c.lit-item.result _ _ same c.in-Ok.ensures.trail good
+    both.1 c.in_ok-unit-in-len1.ensures.written c.in_ok-drop_clause-in-len1.ensures.dropped).reasons
 
 pub returns-in-len1-clause-quiet : goal.returns-in-len1-clause-quiet
 returns-in-len1-clause-quiet g c =
     let s = g.P.Port.state c.args.port.now in
     let t = c.args.trail.now in
-    let w = c.literals_left.new.watches in
-    let same = c.literals_left.ensures.same ∙ c.head-head.ensures.same in
-    let good = good_walked s (g.P.Port.state c.head-head.new.self) w t c.literals_left.new.trail c.head-head.ensures.same c.in-Ok.ensures.trail c.in-Ok.ensures.watched c.in-Ok.ensures.reasons c.in-Ok.ensures.quiet in
-    (good_unit s (g.P.Port.state c.literals_left.new.port) (g.P.Port.state c.unit.new.self) (g.P.Port.state c.drop_clause.new.self) c.args.watches.now w t c.literals_left.new.trail c.args.c.address c.lit-item.result _ _ same c.in-Ok.ensures.trail good
-    c.in-Ok.ensures.attached c.in_ok-unit-in-len1.ensures.written c.in_ok-drop_clause-in-len1.ensures.dropped).quiet
+    let w = c.detach.new.self in
+    let same = c.detach.ensures.same ∙ c.literals_left.ensures.same ∙ c.head-head.ensures.same in
+    let both = good_detached s (g.P.Port.state c.head-head.new.self) (g.P.Port.state c.literals_left.new.port) c.args.watches.now c.literals_left.new.watches w t c.literals_left.new.trail c.args.c.address c.head-head.ensures.same c.literals_left.ensures.same
+    c.in-Ok.ensures.trail c.in-Ok.ensures.watched c.in-Ok.ensures.reasons c.in-Ok.ensures.quiet c.requires.free c.in-Ok.ensures.attached c.detach.ensures.attached c.detach.ensures.watched in
+    let good = both.0 in
+    (good_unit s (g.P.Port.state c.detach.new.port) (g.P.Port.state c.unit.new.self) (g.P.Port.state c.drop_clause.new.self) c.args.watches.now w t c.literals_left.new.trail c.args.c.address c.lit-item.result _ _ same c.in-Ok.ensures.trail good
+    both.1 c.in_ok-unit-in-len1.ensures.written c.in_ok-drop_clause-in-len1.ensures.dropped).quiet
 
 pub returns-clause-watched : goal.returns-clause-watched
 returns-clause-watched g c =
     let s = g.P.Port.state c.args.port.now in
     let t = c.args.trail.now in
-    let w = c.literals_left.new.watches in
-    let same = c.literals_left.ensures.same ∙ c.head-head.ensures.same in
-    let good = good_walked s (g.P.Port.state c.head-head.new.self) w t c.literals_left.new.trail c.head-head.ensures.same c.in-Ok.ensures.trail c.in-Ok.ensures.watched c.in-Ok.ensures.reasons c.in-Ok.ensures.quiet in
+    let w = c.detach.new.self in
+    let same = c.detach.ensures.same ∙ c.literals_left.ensures.same ∙ c.head-head.ensures.same in
+    let both = good_detached s (g.P.Port.state c.head-head.new.self) (g.P.Port.state c.literals_left.new.port) c.args.watches.now c.literals_left.new.watches w t c.literals_left.new.trail c.args.c.address c.head-head.ensures.same c.literals_left.ensures.same
+    c.in-Ok.ensures.trail c.in-Ok.ensures.watched c.in-Ok.ensures.reasons c.in-Ok.ensures.quiet c.requires.free c.in-Ok.ensures.attached c.detach.ensures.attached c.detach.ensures.watched in
+    let good = both.0 in
     let is = c.as_slice-lits.ensures.value ∙ subst (λ (x : PortState). c.in-Ok.left.items ≡ left_at x (attached c.args.watches.now) t.steps c.args.c.address) c.head-head.ensures.same c.in-Ok.ensures.left in
     let L = c.as_slice-lits.result.now in
-    let closed = left_closed s c.args.watches.now w t c.args.c L c.decision_level-lawful.ensures.trail c.requires.level good c.in-Ok.ensures.attached is (subst IsPort c.head-head.ensures.same c.head-head.ensures.port) c.requires.held c.in_default-lits.len_at_least in
-    (good_shorter s (g.P.Port.state c.literals_left.new.port) (g.P.Port.state c.derive.new.self) (g.P.Port.state c.attach-in_default-lits.new.port) (g.P.Port.state c.drop_clause-in_default-lits.new.self) c.args.watches.now w c.attach-in_default-lits.new.self
-    t c.literals_left.new.trail c.args.c c.in_ok-shorter-in_default-lits.shorter L c.shorter_glue-glue.result Derive same c.attach-in_default-lits.ensures.same c.in-Ok.ensures.trail good c.in-Ok.ensures.attached c.requires.held
-    c.in_ok-shorter-in_default-lits.ensures.derived c.in_ok-shorter-in_default-lits.ensures.kept closed c.in-Ok-attach-2.ensures.attached c.attach-in_default-lits.ensures.watched c.in_ok-drop_clause-in_default-lits.ensures.dropped).watched
+    let closed = left_closed s c.args.watches.now w t c.args.c L c.decision_level-lawful.ensures.trail c.requires.level good both.1 is (subst IsPort c.head-head.ensures.same c.head-head.ensures.port) c.requires.held c.in_default-lits.len_at_least in
+    (good_shorter s (g.P.Port.state c.detach.new.port) (g.P.Port.state c.derive.new.self) (g.P.Port.state c.attach.new.port) (g.P.Port.state c.drop_clause-in_default-lits.new.self) c.args.watches.now w c.attach.new.self
+    t c.literals_left.new.trail c.args.c c.in_ok-shorter-in_default-lits.shorter L c.shorter_glue-glue.result Derive same c.attach.ensures.same c.in-Ok.ensures.trail good both.1 c.requires.held
+    c.in_ok-shorter-in_default-lits.ensures.derived c.in_ok-shorter-in_default-lits.ensures.kept closed c.in-Ok-attach.ensures.attached c.attach.ensures.watched c.in_ok-drop_clause-in_default-lits.ensures.dropped).watched
 
 pub returns-clause-reasons : goal.returns-clause-reasons
 returns-clause-reasons g c =
     let s = g.P.Port.state c.args.port.now in
     let t = c.args.trail.now in
-    let w = c.literals_left.new.watches in
-    let same = c.literals_left.ensures.same ∙ c.head-head.ensures.same in
-    let good = good_walked s (g.P.Port.state c.head-head.new.self) w t c.literals_left.new.trail c.head-head.ensures.same c.in-Ok.ensures.trail c.in-Ok.ensures.watched c.in-Ok.ensures.reasons c.in-Ok.ensures.quiet in
+    let w = c.detach.new.self in
+    let same = c.detach.ensures.same ∙ c.literals_left.ensures.same ∙ c.head-head.ensures.same in
+    let both = good_detached s (g.P.Port.state c.head-head.new.self) (g.P.Port.state c.literals_left.new.port) c.args.watches.now c.literals_left.new.watches w t c.literals_left.new.trail c.args.c.address c.head-head.ensures.same c.literals_left.ensures.same
+    c.in-Ok.ensures.trail c.in-Ok.ensures.watched c.in-Ok.ensures.reasons c.in-Ok.ensures.quiet c.requires.free c.in-Ok.ensures.attached c.detach.ensures.attached c.detach.ensures.watched in
+    let good = both.0 in
     let is = c.as_slice-lits.ensures.value ∙ subst (λ (x : PortState). c.in-Ok.left.items ≡ left_at x (attached c.args.watches.now) t.steps c.args.c.address) c.head-head.ensures.same c.in-Ok.ensures.left in
     let L = c.as_slice-lits.result.now in
-    let closed = left_closed s c.args.watches.now w t c.args.c L c.decision_level-lawful.ensures.trail c.requires.level good c.in-Ok.ensures.attached is (subst IsPort c.head-head.ensures.same c.head-head.ensures.port) c.requires.held c.in_default-lits.len_at_least in
-    (good_shorter s (g.P.Port.state c.literals_left.new.port) (g.P.Port.state c.derive.new.self) (g.P.Port.state c.attach-in_default-lits.new.port) (g.P.Port.state c.drop_clause-in_default-lits.new.self) c.args.watches.now w c.attach-in_default-lits.new.self
-    t c.literals_left.new.trail c.args.c c.in_ok-shorter-in_default-lits.shorter L c.shorter_glue-glue.result Derive same c.attach-in_default-lits.ensures.same c.in-Ok.ensures.trail good c.in-Ok.ensures.attached c.requires.held
-    c.in_ok-shorter-in_default-lits.ensures.derived c.in_ok-shorter-in_default-lits.ensures.kept closed c.in-Ok-attach-2.ensures.attached c.attach-in_default-lits.ensures.watched c.in_ok-drop_clause-in_default-lits.ensures.dropped).reasons
+    let closed = left_closed s c.args.watches.now w t c.args.c L c.decision_level-lawful.ensures.trail c.requires.level good both.1 is (subst IsPort c.head-head.ensures.same c.head-head.ensures.port) c.requires.held c.in_default-lits.len_at_least in
+    (good_shorter s (g.P.Port.state c.detach.new.port) (g.P.Port.state c.derive.new.self) (g.P.Port.state c.attach.new.port) (g.P.Port.state c.drop_clause-in_default-lits.new.self) c.args.watches.now w c.attach.new.self
+    t c.literals_left.new.trail c.args.c c.in_ok-shorter-in_default-lits.shorter L c.shorter_glue-glue.result Derive same c.attach.ensures.same c.in-Ok.ensures.trail good both.1 c.requires.held
+    c.in_ok-shorter-in_default-lits.ensures.derived c.in_ok-shorter-in_default-lits.ensures.kept closed c.in-Ok-attach.ensures.attached c.attach.ensures.watched c.in_ok-drop_clause-in_default-lits.ensures.dropped).reasons
 
 pub returns-clause-quiet : goal.returns-clause-quiet
 returns-clause-quiet g c =
     let s = g.P.Port.state c.args.port.now in
     let t = c.args.trail.now in
-    let w = c.literals_left.new.watches in
-    let same = c.literals_left.ensures.same ∙ c.head-head.ensures.same in
-    let good = good_walked s (g.P.Port.state c.head-head.new.self) w t c.literals_left.new.trail c.head-head.ensures.same c.in-Ok.ensures.trail c.in-Ok.ensures.watched c.in-Ok.ensures.reasons c.in-Ok.ensures.quiet in
+    let w = c.detach.new.self in
+    let same = c.detach.ensures.same ∙ c.literals_left.ensures.same ∙ c.head-head.ensures.same in
+    let both = good_detached s (g.P.Port.state c.head-head.new.self) (g.P.Port.state c.literals_left.new.port) c.args.watches.now c.literals_left.new.watches w t c.literals_left.new.trail c.args.c.address c.head-head.ensures.same c.literals_left.ensures.same
+    c.in-Ok.ensures.trail c.in-Ok.ensures.watched c.in-Ok.ensures.reasons c.in-Ok.ensures.quiet c.requires.free c.in-Ok.ensures.attached c.detach.ensures.attached c.detach.ensures.watched in
+    let good = both.0 in
     let is = c.as_slice-lits.ensures.value ∙ subst (λ (x : PortState). c.in-Ok.left.items ≡ left_at x (attached c.args.watches.now) t.steps c.args.c.address) c.head-head.ensures.same c.in-Ok.ensures.left in
     let L = c.as_slice-lits.result.now in
-    let closed = left_closed s c.args.watches.now w t c.args.c L c.decision_level-lawful.ensures.trail c.requires.level good c.in-Ok.ensures.attached is (subst IsPort c.head-head.ensures.same c.head-head.ensures.port) c.requires.held c.in_default-lits.len_at_least in
-    (good_shorter s (g.P.Port.state c.literals_left.new.port) (g.P.Port.state c.derive.new.self) (g.P.Port.state c.attach-in_default-lits.new.port) (g.P.Port.state c.drop_clause-in_default-lits.new.self) c.args.watches.now w c.attach-in_default-lits.new.self
-    t c.literals_left.new.trail c.args.c c.in_ok-shorter-in_default-lits.shorter L c.shorter_glue-glue.result Derive same c.attach-in_default-lits.ensures.same c.in-Ok.ensures.trail good c.in-Ok.ensures.attached c.requires.held
-    c.in_ok-shorter-in_default-lits.ensures.derived c.in_ok-shorter-in_default-lits.ensures.kept closed c.in-Ok-attach-2.ensures.attached c.attach-in_default-lits.ensures.watched c.in_ok-drop_clause-in_default-lits.ensures.dropped).quiet
+    let closed = left_closed s c.args.watches.now w t c.args.c L c.decision_level-lawful.ensures.trail c.requires.level good both.1 is (subst IsPort c.head-head.ensures.same c.head-head.ensures.port) c.requires.held c.in_default-lits.len_at_least in
+    (good_shorter s (g.P.Port.state c.detach.new.port) (g.P.Port.state c.derive.new.self) (g.P.Port.state c.attach.new.port) (g.P.Port.state c.drop_clause-in_default-lits.new.self) c.args.watches.now w c.attach.new.self
+    t c.literals_left.new.trail c.args.c c.in_ok-shorter-in_default-lits.shorter L c.shorter_glue-glue.result Derive same c.attach.ensures.same c.in-Ok.ensures.trail good both.1 c.requires.held
+    c.in_ok-shorter-in_default-lits.ensures.derived c.in_ok-shorter-in_default-lits.ensures.kept closed c.in-Ok-attach.ensures.attached c.attach.ensures.watched c.in_ok-drop_clause-in_default-lits.ensures.dropped).quiet
 
 unit_of : Result Vivified PortStop → Literal → Literal
 unit_of (Ok (Unit l)) k = l
@@ -235,40 +251,35 @@ pub returns-in-len1-clause-open_unit : goal.returns-in-len1-clause-open_unit
 returns-in-len1-clause-open_unit g c = λ l e bad. (
     let s = g.P.Port.state c.args.port.now in
     let t = c.args.trail.now in
-    let w = c.literals_left.new.watches in
-    let same = c.literals_left.ensures.same ∙ c.head-head.ensures.same in
-    let good = good_walked s (g.P.Port.state c.head-head.new.self) w t c.literals_left.new.trail c.head-head.ensures.same c.in-Ok.ensures.trail c.in-Ok.ensures.watched c.in-Ok.ensures.reasons c.in-Ok.ensures.quiet in
+    let w = c.detach.new.self in
+    let same = c.detach.ensures.same ∙ c.literals_left.ensures.same ∙ c.head-head.ensures.same in
+    let both = good_detached s (g.P.Port.state c.head-head.new.self) (g.P.Port.state c.literals_left.new.port) c.args.watches.now c.literals_left.new.watches w t c.literals_left.new.trail c.args.c.address c.head-head.ensures.same c.literals_left.ensures.same
+    c.in-Ok.ensures.trail c.in-Ok.ensures.watched c.in-Ok.ensures.reasons c.in-Ok.ensures.quiet c.requires.free c.in-Ok.ensures.attached c.detach.ensures.attached c.detach.ensures.watched in
+    let good = both.0 in
     let is = c.as_slice-lits.ensures.value ∙ subst (λ (x : PortState). c.in-Ok.left.items ≡ left_at x (attached c.args.watches.now) t.steps c.args.c.address) c.head-head.ensures.same c.in-Ok.ensures.left in
-    left_open s c.args.watches.now w t c.args.c c.as_slice-lits.result.now l c.decision_level-lawful.ensures.trail c.requires.level good c.in-Ok.ensures.attached is
+    left_open s c.args.watches.now w t c.args.c c.as_slice-lits.result.now l c.decision_level-lawful.ensures.trail c.requires.level good both.1 is
     (subst (λ (x : Literal). In x c.as_slice-lits.result.now) (unit_same c.lit-item.result l (Ok (Unit c.lit-item.result)) refl e) (first_in c.as_slice-lits.result.now c.lit-item.result c.in-len1.len_at_least c.lit-item.is)) bad)
 
 pub returns-in-empty-clause-never_empty : goal.returns-in-empty-clause-never_empty
-returns-in-empty-clause-never_empty g c = λ e. (
-    let s = g.P.Port.state c.args.port.now in
-    let t = c.args.trail.now in
-    let w = c.literals_left.new.watches in
-    let same = c.literals_left.ensures.same ∙ c.head-head.ensures.same in
-    let good = good_walked s (g.P.Port.state c.head-head.new.self) w t c.literals_left.new.trail c.head-head.ensures.same c.in-Ok.ensures.trail c.in-Ok.ensures.watched c.in-Ok.ensures.reasons c.in-Ok.ensures.quiet in
-    let is = c.as_slice-lits.ensures.value ∙ subst (λ (x : PortState). c.in-Ok.left.items ≡ left_at x (attached c.args.watches.now) t.steps c.args.c.address) c.head-head.ensures.same c.in-Ok.ensures.left in
-    not_empty s c.args.watches.now w t c.args.c c.as_slice-lits.result.now c.decision_level-lawful.ensures.trail c.requires.level good.reasons good.quiet c.requires.quiet c.requires.member c.in-Ok.ensures.attached is c.in-empty.len_below)
+returns-in-empty-clause-never_empty g c = λ e. never g c
 
 pub returns-in_err-unit-in-len1-clause-others : goal.returns-in_err-unit-in-len1-clause-others
-returns-in_err-unit-in-len1-clause-others g c = λ a ne held. others_refused (g.P.Port.state c.args.port.now) (g.P.Port.state c.literals_left.new.port) (g.P.Port.state c.unit.new.self) a _ (c.literals_left.ensures.same ∙ c.head-head.ensures.same) c.in_err-unit-in-len1.ensures.written
+returns-in_err-unit-in-len1-clause-others g c = λ a ne held. others_refused (g.P.Port.state c.args.port.now) (g.P.Port.state c.detach.new.port) (g.P.Port.state c.unit.new.self) a _ (c.detach.ensures.same ∙ c.literals_left.ensures.same ∙ c.head-head.ensures.same) c.in_err-unit-in-len1.ensures.written
 
 pub returns-in_err-drop_clause-in-len1-clause-others : goal.returns-in_err-drop_clause-in-len1-clause-others
 returns-in_err-drop_clause-in-len1-clause-others g c = λ a ne held.
-    others_wrote (g.P.Port.state c.args.port.now) (g.P.Port.state c.literals_left.new.port) (g.P.Port.state c.unit.new.self) (g.P.Port.state c.drop_clause.new.self) a c.lit-item.result _ _ (c.literals_left.ensures.same ∙ c.head-head.ensures.same)
+    others_wrote (g.P.Port.state c.args.port.now) (g.P.Port.state c.detach.new.port) (g.P.Port.state c.unit.new.self) (g.P.Port.state c.drop_clause.new.self) a c.lit-item.result _ _ (c.detach.ensures.same ∙ c.literals_left.ensures.same ∙ c.head-head.ensures.same)
     c.in_ok-unit-in-len1.ensures.written c.in_err-drop_clause-in-len1.ensures.dropped.1
 
 pub returns-in-len1-clause-others : goal.returns-in-len1-clause-others
 returns-in-len1-clause-others g c = λ a ne held.
-    others_unit (g.P.Port.state c.args.port.now) (g.P.Port.state c.literals_left.new.port) (g.P.Port.state c.unit.new.self) (g.P.Port.state c.drop_clause.new.self) c.args.c.address a c.lit-item.result _ _ (c.literals_left.ensures.same ∙ c.head-head.ensures.same)
+    others_unit (g.P.Port.state c.args.port.now) (g.P.Port.state c.detach.new.port) (g.P.Port.state c.unit.new.self) (g.P.Port.state c.drop_clause.new.self) c.args.c.address a c.lit-item.result _ _ (c.detach.ensures.same ∙ c.literals_left.ensures.same ∙ c.head-head.ensures.same)
     c.in_ok-unit-in-len1.ensures.written c.in_ok-drop_clause-in-len1.ensures.dropped ne
 
 pub returns-clause-others : goal.returns-clause-others
 returns-clause-others g c = λ a ne held.
-    others_shorter (g.P.Port.state c.args.port.now) (g.P.Port.state c.literals_left.new.port) (g.P.Port.state c.derive.new.self) (g.P.Port.state c.attach-in_default-lits.new.port) (g.P.Port.state c.drop_clause-in_default-lits.new.self) c.args.c.address a
-    (c.literals_left.ensures.same ∙ c.head-head.ensures.same) c.in_ok-shorter-in_default-lits.ensures.kept c.attach-in_default-lits.ensures.same c.in_ok-drop_clause-in_default-lits.ensures.dropped ne held
+    others_shorter (g.P.Port.state c.args.port.now) (g.P.Port.state c.detach.new.port) (g.P.Port.state c.derive.new.self) (g.P.Port.state c.attach.new.port) (g.P.Port.state c.drop_clause-in_default-lits.new.self) c.args.c.address a
+    (c.detach.ensures.same ∙ c.literals_left.ensures.same ∙ c.head-head.ensures.same) c.in_ok-shorter-in_default-lits.ensures.kept c.attach.ensures.same c.in_ok-drop_clause-in_default-lits.ensures.dropped ne held
 
 -- a refusal after the line of what is left
 cut_short : (old m n : PortState) (v : WatchData) (steps : List TrailStep) (c : Cref) (r : Result Vivified PortStop) (stop stop' : PortStop) → WroteLeft old m v steps c → n ≡ m → r ≡ Err stop → stop ≡ stop' → stop' ≡ Memory → IfErr r (WasCutShort old n v steps c)
@@ -289,7 +300,7 @@ returns-in_err-drop_clause-in-len1-clause-stopped g c =
     let p = err_from_is_err_and c.from_residual-in_err-drop_clause-in-len1.result c.from_residual-in_err-drop_clause-in-len1.ensures.1 in
     let is = c.as_slice-lits.ensures.value ∙ subst (λ (x : PortState). c.in-Ok.left.items ≡ left_at x (attached c.args.watches.now) t.steps c.args.c.address) c.head-head.ensures.same c.in-Ok.ensures.left in
     let one = one_list c.as_slice-lits.result.now (left_at s (attached c.args.watches.now) t.steps c.args.c.address) c.lit-item.result is c.in-len1.len_at_least c.in-len1.len_below c.lit-item.is in
-    let wrote = subst (λ (x : PortState). WroteUnit x m c.lit-item.result UnitLine x.last) (c.literals_left.ensures.same ∙ c.head-head.ensures.same) c.in_ok-unit-in-len1.ensures.written in
+    let wrote = subst (λ (x : PortState). WroteUnit x m c.lit-item.result UnitLine x.last) (c.detach.ensures.same ∙ c.literals_left.ensures.same ∙ c.head-head.ensures.same) c.in_ok-unit-in-len1.ensures.written in
     cut_short s m (g.P.Port.state c.drop_clause.new.self) c.args.watches.now t.steps c.args.c c.from_residual-in_err-drop_clause-in-len1.result p.0 c.in_err-drop_clause-in-len1.field-0.0
     (inr (c.lit-item.result, one, wrote)) c.in_err-drop_clause-in-len1.ensures.dropped.1 p.1 p.2 c.in_err-drop_clause-in-len1.ensures.dropped.0
 
@@ -307,6 +318,23 @@ returns-in_err-drop_clause-in_default-lits-clause-stopped g c =
     let glue : c.shorter_glue-glue.result ≡ min (glue_at s c.args.c.address) (length (left_of G d) - 1) = c.shorter_glue-glue.ensures ∙ ap (λ (a : ℕ). min a (length c.as_slice-lits.result.now - 1)) h ∙ ap (λ (k : ℕ). min (glue_at s c.args.c.address) (k - 1)) n in
     let added = subst (λ (k : ℕ). AddedClause s m (left_of G d) k Derive c.in_ok-shorter-in_default-lits.shorter) glue
     (subst (λ (L : List Literal). AddedClause s m L c.shorter_glue-glue.result Derive c.in_ok-shorter-in_default-lits.shorter) is
-    (subst (λ (x : PortState). AddedClause x m c.as_slice-lits.result.now c.shorter_glue-glue.result Derive c.in_ok-shorter-in_default-lits.shorter) (c.literals_left.ensures.same ∙ c.head-head.ensures.same) c.in_ok-shorter-in_default-lits.ensures.derived)) in
+    (subst (λ (x : PortState). AddedClause x m c.as_slice-lits.result.now c.shorter_glue-glue.result Derive c.in_ok-shorter-in_default-lits.shorter) (c.detach.ensures.same ∙ c.literals_left.ensures.same ∙ c.head-head.ensures.same) c.in_ok-shorter-in_default-lits.ensures.derived)) in
     cut_short s m (g.P.Port.state c.drop_clause-in_default-lits.new.self) c.args.watches.now t.steps c.args.c c.from_residual-in_err-drop_clause-in_default-lits.result p.0 c.in_err-drop_clause-in_default-lits.field-0.0
-    (inl (c.in_ok-shorter-in_default-lits.shorter, added)) (c.in_err-drop_clause-in_default-lits.ensures.dropped.1 ∙ c.attach-in_default-lits.ensures.same) p.1 p.2 c.in_err-drop_clause-in_default-lits.ensures.dropped.0
+    (inl (c.in_ok-shorter-in_default-lits.shorter, added)) (c.in_err-drop_clause-in_default-lits.ensures.dropped.1 ∙ c.attach.ensures.same) p.1 p.2 c.in_err-drop_clause-in_default-lits.ensures.dropped.0
+
+pub returns-in-len1-clause-vivified : goal.returns-in-len1-clause-vivified
+returns-in-len1-clause-vivified g c =
+    let s = g.P.Port.state c.args.port.now in
+    let t = c.args.trail.now in
+    let w = c.detach.new.self in
+    let m = g.P.Port.state c.unit.new.self in
+    let both = good_detached s (g.P.Port.state c.head-head.new.self) (g.P.Port.state c.literals_left.new.port) c.args.watches.now c.literals_left.new.watches w t c.literals_left.new.trail c.args.c.address c.head-head.ensures.same c.literals_left.ensures.same
+    c.in-Ok.ensures.trail c.in-Ok.ensures.watched c.in-Ok.ensures.reasons c.in-Ok.ensures.quiet c.requires.free c.in-Ok.ensures.attached c.detach.ensures.attached c.detach.ensures.watched in
+    let is = c.as_slice-lits.ensures.value ∙ subst (λ (x : PortState). c.in-Ok.left.items ≡ left_at x (attached c.args.watches.now) t.steps c.args.c.address) c.head-head.ensures.same c.in-Ok.ensures.left in
+    record {
+      left = one_list c.as_slice-lits.result.now (left_at s (attached c.args.watches.now) t.steps c.args.c.address) c.lit-item.result is c.in-len1.len_at_least c.in-len1.len_below c.lit-item.is;
+      middle = m;
+      wrote = subst (λ (x : PortState). WroteUnit x m c.lit-item.result UnitLine x.last) (c.detach.ensures.same ∙ c.literals_left.ensures.same ∙ c.head-head.ensures.same) c.in_ok-unit-in-len1.ensures.written;
+      dropped = c.in_ok-drop_clause-in-len1.ensures.dropped;
+      attached_now = both.1;
+    }

@@ -1,67 +1,88 @@
-use Rattle.std.proofs.Common.{◌≡◌, ◌∙◌, List, [], sym, ap, subst, arith}
-use Rattle.sat_words.specs.Literal.{Literal}
+use Rattle.std.proofs.Common.{◌≡◌, ◌∙◌, List, [], Some, sym, ap, subst, arith}
 use Rattle.sat_words.specs.declared.shared.Cref.{Cref}
 use Rattle.ring_port.specs.PortState.{PortState, lits_at}
 use Rattle.ring_trail.specs.TrailData.{TrailData}
 use Rattle.watch_prop.specs.WatchData.{attached}
 use Rattle.watch_prop.specs.Watched.{Watched}
-use Rattle.watch_prop.specs.Propagation.{HasReasons, IsQuiet}
-use Rattle.watch_prop.proofs.DetachingLaws.{Reasons-without, Closed-at}
-use Rattle.vivify.specs.Walk.{walk_from}
-use Rattle.vivify.specs.Walking.{IsWalking, ground}
-use Rattle.vivify.proofs.Walked.{detached, others_are, back_again, watched_back}
+use Rattle.watch_prop.specs.Aside.{but}
+use Rattle.watch_prop.specs.Propagation.{HasReasons}
+use Rattle.watch_prop.proofs.Quiets.{quiet-same}
+use Rattle.vivify.specs.Walking.{IsWalking, PassedOver, HasWalked}
+use Rattle.vivify.proofs.Walked.{set_aside, is_back, put_back, left_now}
+use Rattle.vivify.proofs.walk.literals_left.Given as Given
+use Rattle.vivify.proofs.walk.literals_left.Goals.{In_ok-walk_clause, After-back_to}
 use Rattle.vivify.proofs.walk.literals_left.Goals as goal
+
+pub propagate-requires-clause-below : goal.propagate-requires-clause-below
+propagate-requires-clause-below g c = λ k lt. c.requires.quiet.closed k
 
 pub walk_clause-requires-clause-walking : goal.walk_clause-requires-clause-walking
 walk_clause-requires-clause-walking g c =
-    let s = g.P.Port.state c.args.port.now in
     let r = c.requires in
-    subst (λ (x : PortState). IsWalking x c.detach.new.self c.args.trail.now c.args.trail.now []) (sym c.detach.ensures.same)
-    (detached s c.args.watches.now c.detach.new.self c.args.trail.now c.args.c.address c.decision_level-lawful.ensures.trail r.level r.quiet r.reasons r.free (c.detach.ensures.attached c.args.trail.now r.watched) (c.detach.ensures.watched c.args.trail.now r.watched))
+    subst (λ (x : PortState). IsWalking x (but (Some c.args.c) c.propagate.new.self) c.propagate.new.trail c.propagate.new.trail []) (sym c.propagate.ensures.same)
+    (set_aside (g.P.Port.state c.args.port.now) c.args.watches.now c.propagate.new.self c.args.trail.now c.propagate.new.trail c.args.c c.decision_level-lawful.ensures.trail r.level r.quiet r.reasons r.free
+    c.propagate.ensures.attached (c.propagate.ensures.still r.quiet) c.propagate.ensures.watched)
+
+pub walk_clause-requires-clause-settled : goal.walk_clause-requires-clause-settled
+walk_clause-requires-clause-settled g c = c.in_ok-propagate.ensures.settled c.requires.quiet
+
+pub walk_clause-requires-clause-vars : goal.walk_clause-requires-clause-vars
+walk_clause-requires-clause-vars g c =
+    ap (λ (s : PortState). s.vars) c.propagate.ensures.same ∙ c.requires.vars ∙ sym c.requires.watched.vars ∙ sym (ap (λ (t : TrailData). t.vars) (c.propagate.ensures.still c.requires.quiet))
 
 pub returns-in_err-walk_clause-clause-attached : goal.returns-in_err-walk_clause-clause-attached
-returns-in_err-walk_clause-clause-attached g c = c.in_err-walk_clause.ensures.attached ∙ c.detach.ensures.attached c.args.trail.now c.requires.watched
+returns-in_err-walk_clause-clause-attached g c = c.walk_clause.ensures.passed.clauses ∙ c.propagate.ensures.attached
+
+pub returns-in_err-walk_clause-clause-vars : goal.returns-in_err-walk_clause-clause-vars
+returns-in_err-walk_clause-clause-vars g c = c.walk_clause.ensures.passed.vars ∙ c.propagate.ensures.vars
 
 pub returns-clause-attached : goal.returns-clause-attached
-returns-clause-attached g c = c.in_ok-walk_clause.ensures.attached ∙ c.detach.ensures.attached c.args.trail.now c.requires.watched
+returns-clause-attached g c = c.walk_clause.ensures.passed.clauses ∙ c.propagate.ensures.attached
+
+pub returns-clause-vars : goal.returns-clause-vars
+returns-clause-vars g c = c.walk_clause.ensures.passed.vars ∙ c.propagate.ensures.vars
+
+-- what the walk did, over the port at the start
+walked : (g : Given.Over) (c : In_ok-walk_clause g) → HasWalked (g.P.Port.state c.args.port.now) (but (Some c.args.c) c.propagate.new.self) (but (Some c.args.c) c.walk_clause.new.watches) c.propagate.new.trail c.walk_clause.new.trail
+    (lits_at (g.P.Port.state c.args.port.now) c.args.c.address) c.walk_clause.new.kept.items
+walked g c =
+    subst (λ (x : PortState). HasWalked x (but (Some c.args.c) c.propagate.new.self) (but (Some c.args.c) c.walk_clause.new.watches) c.propagate.new.trail c.walk_clause.new.trail (lits_at x c.args.c.address) c.walk_clause.new.kept.items)
+    c.propagate.ensures.same c.in_ok-walk_clause.ensures.walked
+
+trail_is : (g : Given.Over) (c : After-back_to g) → c.back_to.new.self ≡ c.args.trail.now
+trail_is g c =
+    c.back_to.ensures.back (omega arith)
+    ∙ is_back (g.P.Port.state c.args.port.now) c.args.watches.now c.propagate.new.self c.walk_clause.new.watches c.args.trail.now c.propagate.new.trail c.walk_clause.new.trail c.args.c c.decision_level-lawful.ensures.trail c.requires.level c.requires.quiet
+    (c.propagate.ensures.still c.requires.quiet) (walked g (goal.at.After-back_to g c).In_ok-walk_clause).above
 
 pub returns-clause-trail : goal.returns-clause-trail
-returns-clause-trail g c =
-    let s = g.P.Port.state c.detach.new.port in
-    let w = c.in_ok-walk_clause.ensures.walked in
-    (c.back_to.ensures.back (omega arith)) ∙ back_again s c.walk_clause.new.watches c.args.trail.now c.walk_clause.new.trail c.decision_level-lawful.ensures.trail c.requires.level c.requires.quiet.done w.above
+returns-clause-trail g c = trail_is g (goal.at.returns-clause-trail g c).After-back_to
 
 pub returns-clause-watched : goal.returns-clause-watched
 returns-clause-watched g c =
-    let s = g.P.Port.state c.detach.new.port in
-    let w = c.in_ok-walk_clause.ensures.walked in
-    let e = (c.back_to.ensures.back (omega arith)) ∙ back_again s c.walk_clause.new.watches c.args.trail.now c.walk_clause.new.trail c.decision_level-lawful.ensures.trail c.requires.level c.requires.quiet.done w.above in
-    subst (λ (t : TrailData). Watched c.walk_clause.new.watches (lits_at (g.P.Port.state c.args.port.now)) t) (sym e)
-    (subst (λ (x : PortState). Watched c.walk_clause.new.watches (lits_at x) c.args.trail.now) c.detach.ensures.same
-    (watched_back s c.walk_clause.new.watches c.args.trail.now c.walk_clause.new.trail c.decision_level-lawful.ensures.trail c.requires.level c.requires.quiet.done w.above))
+    let s = g.P.Port.state c.args.port.now in
+    let passed = subst (λ (x : PortState). PassedOver x c.args.c c.propagate.new.self c.walk_clause.new.watches) c.propagate.ensures.same c.walk_clause.ensures.passed in
+    subst (λ (t : TrailData). Watched c.walk_clause.new.watches (lits_at s) t) (sym (trail_is g (goal.at.returns-clause-watched g c).After-back_to))
+    (put_back s c.args.watches.now c.propagate.new.self c.walk_clause.new.watches c.args.trail.now c.propagate.new.trail c.walk_clause.new.trail c.args.c c.decision_level-lawful.ensures.trail c.requires.level c.requires.quiet
+    (c.propagate.ensures.still c.requires.quiet) (walked g (goal.at.returns-clause-watched g c).In_ok-walk_clause).above c.propagate.ensures.watched passed)
 
 pub returns-clause-quiet : goal.returns-clause-quiet
 returns-clause-quiet g c =
-    let s = g.P.Port.state c.detach.new.port in
-    let w = c.in_ok-walk_clause.ensures.walked in
-    let e = (c.back_to.ensures.back (omega arith)) ∙ back_again s c.walk_clause.new.watches c.args.trail.now c.walk_clause.new.trail c.decision_level-lawful.ensures.trail c.requires.level c.requires.quiet.done w.above in
-    let a = c.in_ok-walk_clause.ensures.attached ∙ c.detach.ensures.attached c.args.trail.now c.requires.watched in
-    subst (λ (t : TrailData). IsQuiet c.walk_clause.new.watches (lits_at (g.P.Port.state c.args.port.now)) t) (sym e)
-    record { done = c.requires.quiet.done; closed = λ k. Closed-at c.args.watches.now c.walk_clause.new.watches (lits_at (g.P.Port.state c.args.port.now)) c.args.trail.now.steps c.args.c.address k a (c.requires.quiet.closed k) }
+    quiet-same c.args.watches.now c.walk_clause.new.watches (lits_at (g.P.Port.state c.args.port.now)) c.args.trail.now c.back_to.new.self
+    (c.walk_clause.ensures.passed.clauses ∙ c.propagate.ensures.attached) (trail_is g (goal.at.returns-clause-quiet g c).After-back_to) c.requires.quiet
 
 pub returns-clause-reasons : goal.returns-clause-reasons
 returns-clause-reasons g c =
-    let s = g.P.Port.state c.detach.new.port in
-    let w = c.in_ok-walk_clause.ensures.walked in
-    let e = (c.back_to.ensures.back (omega arith)) ∙ back_again s c.walk_clause.new.watches c.args.trail.now c.walk_clause.new.trail c.decision_level-lawful.ensures.trail c.requires.level c.requires.quiet.done w.above in
-    let a = c.in_ok-walk_clause.ensures.attached ∙ c.detach.ensures.attached c.args.trail.now c.requires.watched in
-    subst (λ (t : TrailData). HasReasons (attached c.walk_clause.new.watches) (g.P.Port.state c.args.port.now) t.steps) (sym e)
-    (subst (λ (cs : List Cref). HasReasons cs (g.P.Port.state c.args.port.now) c.args.trail.now.steps) (sym a)
-    (Reasons-without (attached c.args.watches.now) (g.P.Port.state c.args.port.now) c.args.trail.now.steps c.args.c.address c.requires.free c.requires.reasons))
+    let s = g.P.Port.state c.args.port.now in
+    subst (λ (t : TrailData). HasReasons (attached c.walk_clause.new.watches) s t.steps) (sym (trail_is g (goal.at.returns-clause-reasons g c).After-back_to))
+    (subst (λ (cs : List Cref). HasReasons cs s c.args.trail.now.steps) (sym (c.walk_clause.ensures.passed.clauses ∙ c.propagate.ensures.attached)) c.requires.reasons)
 
 pub returns-clause-left : goal.returns-clause-left
 returns-clause-left g c =
     let s = g.P.Port.state c.args.port.now in
-    let w = c.in_ok-walk_clause.ensures.walked in
-    subst (λ (x : PortState). c.walk_clause.new.kept.items ≡ walk_from (ground x c.detach.new.self c.args.trail.now) [] (lits_at x c.args.c.address)) c.detach.ensures.same w.left_is
-    ∙ ap (λ (G : List (List Literal)). walk_from G [] (lits_at s c.args.c.address)) (others_are s c.args.watches.now c.detach.new.self c.args.trail.now c.args.c.address (c.detach.ensures.attached c.args.trail.now c.requires.watched))
+    let w = walked g (goal.at.returns-clause-left g c).In_ok-walk_clause in
+    left_now s c.args.watches.now c.propagate.new.self c.walk_clause.new.watches c.args.trail.now c.propagate.new.trail c.walk_clause.new.trail c.args.c c.decision_level-lawful.ensures.trail c.requires.level c.requires.quiet
+    (c.propagate.ensures.still c.requires.quiet) w.above c.walk_clause.new.kept.items (lits_at s c.args.c.address) c.propagate.ensures.attached w.left_is
+
+pub returns-clause-implied : goal.returns-clause-implied
+returns-clause-implied g c = (walked g (goal.at.returns-clause-implied g c).In_ok-walk_clause).implied

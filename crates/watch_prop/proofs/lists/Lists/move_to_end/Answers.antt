@@ -1,11 +1,11 @@
-use Rattle.std.proofs.Common.{◌≡◌, ℕ, ◌<◌, ◌≤◌, ◌+◌, List, length, get_or, map, sym, ap, subst, ◌∙◌, arith}
+use Rattle.std.proofs.Common.{◌≡◌, ℕ, ◌<◌, ◌≤◌, ◌+◌, ◌*◌, max, List, length, get_or, map, sym, ap, subst, ◌∙◌, arith}
 use Rattle.std.proofs.Math.ListN.{set}
 use Rattle.std.proofs.lemmas.List.{length-set, get_or-set_same}
 use Rattle.watch_prop.specs.declared.watch.Watcher.{Watcher}
 use Rattle.watch_prop.specs.declared.stretches.Stretch.{Stretch}
 use Rattle.watch_prop.specs.Watched.{At}
-use Rattle.watch_prop.specs.Layout.{row_of, AreLaid, HasRoom}
-use Rattle.watch_prop.proofs.LayoutLemmas.{data_of, rows-are, stretch-at, rows-moved, laid-moved, length-row, row_there, room_there}
+use Rattle.watch_prop.specs.Layout.{ListData, row_of, AreLaid, HasRoom}
+use Rattle.watch_prop.proofs.LayoutLemmas.{rooms-set, data_of, rows-are, stretch-at, rows-moved, laid-moved, length-row, row_there, room_there}
 use Rattle.watch_prop.proofs.lists.Lists.move_to_end.Goals as goal
 
 at : (c : goal.After-self-1) → At c.self.inside.stretches.items c.args.code c.index-old.result.now
@@ -54,6 +54,16 @@ returns-clause-ok c =
     let few = c.self.invariant.few c.args.code c.index-old.result.now (at c) in
     roomy c.copy_within.new.self.items c.self.inside.stretches.items c.args.code _ (at c).0
     (omega (arith, grown c, fits c, c.len-start.ensures)) (omega (arith, few, c.max-room.ensures))
+
+pub returns-clause-rooms : goal.returns-clause-rooms
+returns-clause-rooms c =
+    let ss = c.self.inside.stretches.items in
+    let s = c.index-old.result.now in
+    let rooms : List ℕ = map (λ (r : Stretch). r.room) ss in
+    let new : Stretch = record { start = c.len-start.result; len = s.len; room = c.max-room.result } in
+    let room : c.max-room.result ≡ max (2 * get_or rooms c.args.code 0) 4 = c.max-room.ensures ∙ ap (λ (n : ℕ). max (2 * n) 4) (sym (room_there ss c.args.code s (at c))) in
+    subst (λ (rs : List ℕ). map (λ (r : Stretch). r.room) (set ss c.args.code new) ≡ set rs c.args.code (max (2 * get_or rs c.args.code 0) 4)) (ap (λ (x : ListData). x.rooms) c.self.view_is)
+    (rooms-set ss c.args.code new ∙ ap (λ (n : ℕ). set rooms c.args.code n) room)
 
 pub invariant_of-self-2 : goal.invariant_of-self-2
 invariant_of-self-2 c =

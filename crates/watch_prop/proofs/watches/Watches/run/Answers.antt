@@ -6,6 +6,8 @@ use Rattle.ring_trail.specs.declared.step.TrailStep.{TrailStep}
 use Rattle.ring_trail.specs.TrailData.{TrailData, IsNext, lit_at}
 use Rattle.watch_prop.specs.declared.propagated.Propagated.{Propagated}
 use Rattle.watch_prop.specs.Advancing.{HasAdvanced}
+use Rattle.watch_prop.specs.Aside.{but, PassesOver}
+use Rattle.watch_prop.proofs.Asides.{passes-refl, passes-trans}
 use Rattle.watch_prop.specs.Visiting.{IsWalked, IsVisiting}
 use Rattle.watch_prop.proofs.Growing.{HasGrown-advance_head, HasGrown-longer, step_grown}
 use Rattle.watch_prop.proofs.Advancing.{advanced_none, advanced_reasons, advanced_trans}
@@ -30,13 +32,24 @@ walk-requires-clause-now_false g c =
     record { place = c.loop-lit.trail.done; before = next.open_yet; false_there = false_next c.loop-lit.trail c.in-Some.lit c.not.result next c.not.ensures }
 
 -- what is kept up to here
-so_far : (g : Over) (c : After-walk g) → HasAdvanced (g.P.Port.state c.args.port.now) c.args.self.now c.walk.new.self c.args.trail.now c.walk.new.trail
+so_far : (g : Over) (c : After-walk g) → HasAdvanced (g.P.Port.state c.args.port.now) (but c.args.aside c.args.self.now) (but c.args.aside c.walk.new.self) c.args.trail.now c.walk.new.trail
 so_far g c = advanced_trans _ _ _ _ _ _ c.loop-lit.invariant.same c.loop-lit.invariant.kept _ _ c.walk.ensures.kept
+
+-- the clause set aside was passed over up to here
+passed_far : (g : Over) (c : After-walk g) → PassesOver c.args.aside (lits_at (g.P.Port.state c.args.port.now)) c.args.self.now c.walk.new.self
+passed_far g c = passes-trans c.args.aside _ _ _ _ _ (ap lits_at c.loop-lit.invariant.same) c.loop-lit.invariant.passed c.walk.ensures.passed
+
+pub returns-in_err-walk-clause-passed : goal.returns-in_err-walk-clause-passed
+returns-in_err-walk-clause-passed g c = passed_far g (goal.at.returns-in_err-walk-clause-passed g c).After-walk
+
+pub returns-in-Conflict-clause-passed : goal.returns-in-Conflict-clause-passed
+returns-in-Conflict-clause-passed g c = passed_far g (goal.at.returns-in-Conflict-clause-passed g c).After-walk
 
 pub loop-lit-init : goal.loop-lit-init
 loop-lit-init g c = record {
   same = refl;
-  kept = advanced_none (g.P.Port.state c.args.port.now) c.args.self.now c.args.trail.now c.requires.reasons c.requires.watched;
+  kept = advanced_none (g.P.Port.state c.args.port.now) (but c.args.aside c.args.self.now) c.args.trail.now c.requires.reasons c.requires.watched;
+  passed = passes-refl c.args.aside _ _ _ refl;
   settled = refl;
   len = refl;
 }
@@ -76,8 +89,8 @@ loop-lit-preserved g c =
     let here : lit_at u.steps u.done ≡ opposite c.not.result
     = ap (λ (k : ℕ). lit_at u.steps k) c.walk.ensures.done ∙ ap (λ (xs : List TrailStep). lit_at xs t.done) grown.steps ∙ ap (λ (s : TrailStep). s.lit) (step_grown t.steps grown.more t.done next.open_yet)
     ∙ false_next t c.in-Some.lit c.not.result next c.not.ensures in
-    let walked = subst (λ (s : PortState). IsWalked c.walk.new.self (lits_at s) u c.not.result c.in_ok-walk.field-0) i.same c.in_ok-walk.ensures.walked in
-    let visiting : IsVisiting c.walk.new.self lits u c.not.result 0 = subst (λ (o : Propagated). IsWalked c.walk.new.self lits u c.not.result o) c.in-Quiet.is walked in
+    let walked = subst (λ (s : PortState). IsWalked (but c.args.aside c.walk.new.self) (lits_at s) u c.not.result c.in_ok-walk.field-0) i.same c.in_ok-walk.ensures.walked in
+    let visiting : IsVisiting (but c.args.aside c.walk.new.self) lits u c.not.result 0 = subst (λ (o : Propagated). IsWalked (but c.args.aside c.walk.new.self) lits u c.not.result o) c.in-Quiet.is walked in
     let now = so_far g (goal.at.loop-lit-preserved g c).After-walk in
     record {
       same = c.walk.ensures.same ∙ i.same;
@@ -86,8 +99,14 @@ loop-lit-preserved g c =
         vars = now.vars;
         grown = HasGrown-advance_head c.args.trail.now u (u.done + 1) now.grown;
         reasons = now.reasons;
-        watched = Watched-advance_head c.walk.new.self lits u c.not.result open_yet here visiting;
+        rooms = now.rooms;
+        still = λ quiet. absurd (
+            let e = now.still quiet in
+            let d : u.done ≡ length u.steps = ap (λ (x : TrailData). x.done) e ∙ quiet.done ∙ sym (ap (λ (x : TrailData). length x.steps) e) in
+            omega (arith, d, open_yet));
+        watched = Watched-advance_head (but c.args.aside c.walk.new.self) lits u c.not.result open_yet here visiting;
       };
+      passed = passed_far g (goal.at.loop-lit-preserved g c).After-walk;
       settled = c.walk.ensures.settled ∙ i.settled;
       len = c.walk.ensures.len ∙ i.len;
     }

@@ -5,7 +5,7 @@ use Rattle.ring_trail.specs.TrailData.{TrailData}
 use Rattle.watch_prop.specs.declared.watch.Watch.{Watch}
 use Rattle.watch_prop.specs.WatchData.{WatchData, Lits, clause_in as slot_clause, attached}
 use Rattle.watch_prop.specs.Watched.{At, Watched}
-use Rattle.watch_prop.specs.Propagation.{HasReasons}
+use Rattle.watch_prop.specs.Propagation.{HasReasons, IsQuiet}
 use Rattle.watch_prop.proofs.Growing.{HasGrown-refl, Watched-grow, clause_in}
 use Rattle.watch_prop.proofs.Reasons.{attached_some}
 use Rattle.watch_prop.proofs.Entries.{on_vars, attachable_held}
@@ -13,6 +13,8 @@ use Rattle.watch_prop.proofs.Ranks.{among_has, best-forces, rank-open}
 use Rattle.watch_prop.proofs.Slots.{free_read}
 use Rattle.watch_prop.proofs.Settling.{waiting, Watched-skip, same_clauses, best-conflict, Watched-listed, Watched-more}
 use Rattle.watch_prop.proofs.Advancing.{advanced_none, advanced_watches}
+use Rattle.watch_prop.proofs.Quiets.{quiet-true}
+use Rattle.watch_prop.proofs.Rooms.{have-same}
 use Rattle.watch_prop.proofs.watches.Watches.settle_one.Given.{Over}
 use Rattle.watch_prop.proofs.watches.Watches.settle_one.Goals.{After-best_watches-best, After-make_true}
 use Rattle.watch_prop.proofs.watches.Watches.settle_one.Goals as goal
@@ -76,7 +78,7 @@ list-requires-2-clause-there g c =
 
 pub returns-in-None-clause-kept : goal.returns-in-None-clause-kept
 returns-in-None-clause-kept g c =
-    advanced_watches (g.P.Port.state c.args.port.now) c.args.self.now _ c.args.trail.now (ap attached c.self.view_is) (ap (λ (w : WatchData). w.vars) c.self.view_is) c.requires.reasons
+    advanced_watches (g.P.Port.state c.args.port.now) c.args.self.now _ c.args.trail.now (ap attached c.self.view_is) (ap (λ (w : WatchData). w.vars) c.self.view_is) (have-same c.args.self.now.rooms c.self.inside.lists.rooms (ap (λ (w : WatchData). w.rooms) c.self.view_is)) c.requires.reasons
     (skipped record { vars = c.self.inside.vars; slots = c.self.inside.slots.items; lists = c.self.inside.lists.rows; rooms = c.self.inside.lists.rooms; size = c.self.inside.lists.size; settled = c.self.inside.settled } c.args.self.now (lits_at (g.P.Port.state c.args.port.now)) c.args.trail.now c.index.result.now c.self.view_is c.requires.there c.index.ensures c.in-None.is c.requires.watched)
 
 pub returns-then-best-decision_level-clause-kept : goal.returns-then-best-decision_level-clause-kept
@@ -85,7 +87,7 @@ returns-then-best-decision_level-clause-kept g c = advanced_none (g.P.Port.state
 pub returns-in_err-list-clause-kept : goal.returns-in_err-list-clause-kept
 returns-in_err-list-clause-kept g c =
     let more = c.in_err-list.ensures.err in
-    advanced_watches (g.P.Port.state c.args.port.now) c.args.self.now c.list.new.self c.args.trail.now (ap (λ (ws : List (Option Watch)). filter_map slot_clause ws) more.slots) more.vars c.requires.reasons
+    advanced_watches (g.P.Port.state c.args.port.now) c.args.self.now c.list.new.self c.args.trail.now (ap (λ (ws : List (Option Watch)). filter_map slot_clause ws) more.slots) more.vars c.list.ensures.rooms c.requires.reasons
     (Watched-more c.args.self.now c.list.new.self (lits_at (g.P.Port.state c.args.port.now)) c.args.trail.now c.in-Some.watch c.best_watches-best.result.second c.requires.watched (here g (goal.at.returns-in_err-list-clause-kept g c).After-best_watches-best) (among_has _ _ _ c.best_watches-best.ensures.best.second_in) more)
 
 pub returns-then-best-decision_level-2-clause-kept : goal.returns-then-best-decision_level-2-clause-kept
@@ -94,7 +96,7 @@ returns-then-best-decision_level-2-clause-kept g c =
     let t = c.args.trail.now in
     advanced_watches (g.P.Port.state c.args.port.now) c.args.self.now c.list.new.self t
     (same_clauses c.args.self.now c.list.new.self c.in-Some.watch c.best_watches-best.result.first c.best_watches-best.result.second at c.in_ok-list.ensures.ok)
-    c.in_ok-list.ensures.ok.vars c.requires.reasons
+    c.in_ok-list.ensures.ok.vars c.list.ensures.rooms c.requires.reasons
     (Watched-listed c.args.self.now c.list.new.self (lits_at (g.P.Port.state c.args.port.now)) t t c.in-Some.watch c.best_watches-best.result c.requires.watched c.decision_level-decision_level.ensures.trail at c.best_watches-best.ensures.best
     (let q = c.if-best-decision_level.false in omega (arith, q, c.decision_level-decision_level.ensures.level)) (HasGrown-refl t) refl
     (λ le. absurd (let q = c.if-best-decision_level-2.true in omega (arith, q, c.decision_level-decision_level.ensures.level, le))) c.requires.below c.in_ok-list.ensures.ok)
@@ -110,6 +112,16 @@ reasons_now g c =
     (attached_some (attached w) s c.in-Some.watch.clause (clause_in w w.settled c.in-Some.watch a) (attachable_held w.vars s c.in-Some.watch.clause.address (c.requires.watched.clauses w.settled c.in-Some.watch a)))
     (best-forces c.args.trail.now d c.best_watches-best.result c.best_watches-best.ensures.best (let q = c.if-best-decision_level-2.false in omega (arith, q, c.decision_level-decision_level.ensures.level))) c.requires.reasons
 
+-- nothing is made true where nothing was left to propagate
+still_now : (g : Over) (c : After-make_true g) → IsQuiet c.args.self.now (lits_at (g.P.Port.state c.args.port.now)) c.args.trail.now → c.make_true.new.trail ≡ c.args.trail.now
+still_now g c quiet =
+    let a = here g (goal.at.After-make_true g c).After-best_watches-best in
+    let w = c.args.self.now in
+    c.make_true.ensures.still
+    (quiet-true w (lits_at (g.P.Port.state c.args.port.now)) c.args.trail.now w.settled c.in-Some.watch c.best_watches-best.result c.decision_level-decision_level.ensures.trail quiet a c.best_watches-best.ensures.best
+    (let q = c.if-best-decision_level-2.false in omega (arith, q, c.decision_level-decision_level.ensures.level))
+    (rank-open c.args.trail.now c.best_watches-best.result.first c.best_watches-best.result.high c.decision_level-decision_level.ensures.trail c.best_watches-best.ensures.best.high_is (let q = c.if-best-decision_level.false in omega (arith, q, c.decision_level-decision_level.ensures.level))))
+
 pub returns-in_err-list-2-clause-kept : goal.returns-in_err-list-2-clause-kept
 returns-in_err-list-2-clause-kept g c =
     let more = c.in_err-list-2.ensures.err in
@@ -122,6 +134,8 @@ returns-in_err-list-2-clause-kept g c =
       watched = Watched-more c.args.self.now c.list-2.new.self lits c.make_true.new.trail c.in-Some.watch c.best_watches-best.result.second
           (Watched-grow c.args.self.now lits c.args.trail.now c.make_true.new.trail c.decision_level-decision_level.ensures.trail.done c.requires.watched c.make_true.ensures.grown c.make_true.ensures.done)
           (here g (goal.at.returns-in_err-list-2-clause-kept g c).After-best_watches-best) (among_has _ _ _ c.best_watches-best.ensures.best.second_in) more;
+      rooms = c.list-2.ensures.rooms;
+      still = still_now g (goal.at.returns-in_err-list-2-clause-kept g c).After-make_true;
     }
 
 pub returns-clause-kept : goal.returns-clause-kept
@@ -136,4 +150,6 @@ returns-clause-kept g c =
       watched = Watched-listed c.args.self.now c.list-2.new.self (lits_at (g.P.Port.state c.args.port.now)) c.args.trail.now c.make_true.new.trail c.in-Some.watch c.best_watches-best.result c.requires.watched c.decision_level-decision_level.ensures.trail at c.best_watches-best.ensures.best
           (let q = c.if-best-decision_level.false in omega (arith, q, c.decision_level-decision_level.ensures.level)) c.make_true.ensures.grown c.make_true.ensures.done
           (λ le. c.make_true.ensures.made) c.requires.below ok;
+      rooms = c.list-2.ensures.rooms;
+      still = still_now g (goal.at.returns-clause-kept g c).After-make_true;
     }

@@ -21,13 +21,18 @@ use Rattle.watch_prop.proofs.Reasons.{attached_some}
 use Rattle.watch_prop.proofs.Entries.{entry_attachable, on_vars, attachable_held}
 use Rattle.watch_prop.proofs.Slots.{clauses-set}
 use Rattle.watch_prop.proofs.Advancing.{advanced_none, advanced_watches}
+use Rattle.watch_prop.specs.Aside.{other_slots, but}
+use Rattle.watch_prop.proofs.Asides.{entry-whole, passes-refl}
+use Rattle.watch_prop.proofs.Passing.{passes-stale, passes-blocked, passes-moved, replaced-but}
+use Rattle.watch_prop.proofs.Quiets.{quiet-forces}
+use Rattle.watch_prop.proofs.Rooms.{have-same}
 use Rattle.watch_prop.proofs.Visits.{visiting-stale, visiting-settled, visiting-blocked, visiting-moved, visiting-forced}
 use Rattle.watch_prop.proofs.watches.Watches.visit.Given.{Over}
 use Rattle.watch_prop.proofs.watches.Watches.visit.Goals as goal
 
 pub replace-requires-clause-new_in_range : goal.replace-requires-clause-new_in_range
 replace-requires-clause-new_in_range g c =
-    let w = c.args.self.now in
+    let w = but c.args.aside c.args.self.now in
     let s = g.P.Port.state c.args.port.now in
     let can = c.in-Moves.ensures.verdict in
     on_vars w.vars w.vars (lits_at s c.in-Moves.entry.clause.address) c.in-Moves.new refl
@@ -39,7 +44,7 @@ forcing_attachable w h t i k c v f = subst (λ (d : Cref). IsAttachable w.vars (
 
 pub assign-requires-clause-in_range : goal.assign-requires-clause-in_range
 assign-requires-clause-in_range g c =
-    let w = c.args.self.now in
+    let w = but c.args.aside c.args.self.now in
     let s = g.P.Port.state c.args.port.now in
     let f = c.in-Forced.ensures.verdict in
     on_vars w.vars c.args.trail.now.vars (lits_at s c.in-Forced.clause.address) c.in-Forced.other c.requires.visiting.watched.vars
@@ -60,7 +65,7 @@ stale_visiting w v h t l place lists rooms size e lt k s r =
 
 pub returns-in-Stale-clause-visited : goal.returns-in-Stale-clause-visited
 returns-in-Stale-clause-visited g c =
-    stale_visiting c.args.self.now record { vars = c.self.inside.vars; slots = c.self.inside.slots.items; lists = c.self.inside.lists.rows; rooms = c.self.inside.lists.rooms; size = c.self.inside.lists.size; settled = c.self.inside.settled } (lits_at (g.P.Port.state c.args.port.now)) c.args.trail.now c.args.lit c.args.place c.take.new.self.rows c.take.new.self.rooms c.take.new.self.size c.self.view_is c.requires.there c.requires.visiting c.in-Stale.ensures.verdict c.take.ensures
+    stale_visiting (but c.args.aside c.args.self.now) (but c.args.aside record { vars = c.self.inside.vars; slots = c.self.inside.slots.items; lists = c.self.inside.lists.rows; rooms = c.self.inside.lists.rooms; size = c.self.inside.lists.size; settled = c.self.inside.settled }) (lits_at (g.P.Port.state c.args.port.now)) c.args.trail.now c.args.lit c.args.place c.take.new.self.rows c.take.new.self.rooms c.take.new.self.size (ap (but c.args.aside) c.self.view_is) c.requires.there c.requires.visiting c.in-Stale.ensures.verdict c.take.ensures.removed
 
 blocked_visiting : (w v : WatchData) (h : Lits) (t : TrailData) (l : Literal) (place : ℕ) (e : ListEntry) (lists : List (List Watcher)) (rooms : List ℕ) (size : ℕ) → v ≡ w → IsTrail t → place < length (list_at w.lists l) → IsVisiting w h t l (place + 1)
     → CanBlock w t l (get_or (list_at w.lists l) place 0) e → Reblocked v.lists lists l place e.other → IsVisiting record v { lists = lists; rooms = rooms; size = size } h t l place × (place ≤ length (list_at lists l))
@@ -72,21 +77,21 @@ blocked_visiting w v h t l place e lists rooms size q trail lt k can r =
       omega (arith, lt', ap (λ (xs : List ℕ). length xs) (r.same l)),
     )
 
-blocked : (g : Over) (c : goal.After-set_blocker g) → IsVisiting record { vars = c.self.inside.vars; slots = c.self.inside.slots.items; lists = c.set_blocker.new.self.rows; rooms = c.set_blocker.new.self.rooms; size = c.set_blocker.new.self.size; settled = c.self.inside.settled } (lits_at (g.P.Port.state c.args.port.now)) c.args.trail.now c.args.lit c.args.place × (c.args.place ≤ length (list_at c.set_blocker.new.self.rows c.args.lit))
+blocked : (g : Over) (c : goal.After-set_blocker g) → IsVisiting record { vars = c.self.inside.vars; slots = other_slots c.args.aside c.self.inside.slots.items; lists = c.set_blocker.new.self.rows; rooms = c.set_blocker.new.self.rooms; size = c.set_blocker.new.self.size; settled = c.self.inside.settled } (lits_at (g.P.Port.state c.args.port.now)) c.args.trail.now c.args.lit c.args.place × (c.args.place ≤ length (list_at c.set_blocker.new.self.rows c.args.lit))
 blocked g c =
-    blocked_visiting c.args.self.now record { vars = c.self.inside.vars; slots = c.self.inside.slots.items; lists = c.self.inside.lists.rows; rooms = c.self.inside.lists.rooms; size = c.self.inside.lists.size; settled = c.self.inside.settled } (lits_at (g.P.Port.state c.args.port.now)) c.args.trail.now c.args.lit c.args.place c.in-Blocked.entry c.set_blocker.new.self.rows c.set_blocker.new.self.rooms c.set_blocker.new.self.size c.self.view_is c.decision_level-level.ensures.trail c.requires.there c.requires.visiting c.in-Blocked.ensures.verdict c.set_blocker.ensures
+    blocked_visiting (but c.args.aside c.args.self.now) (but c.args.aside record { vars = c.self.inside.vars; slots = c.self.inside.slots.items; lists = c.self.inside.lists.rows; rooms = c.self.inside.lists.rooms; size = c.self.inside.lists.size; settled = c.self.inside.settled }) (lits_at (g.P.Port.state c.args.port.now)) c.args.trail.now c.args.lit c.args.place c.in-Blocked.entry c.set_blocker.new.self.rows c.set_blocker.new.self.rooms c.set_blocker.new.self.size (ap (but c.args.aside) c.self.view_is) c.decision_level-level.ensures.trail c.requires.there c.requires.visiting c.in-Blocked.ensures.verdict c.set_blocker.ensures.reblocked
 
 pub returns-in-Blocked-clause-visited : goal.returns-in-Blocked-clause-visited
 returns-in-Blocked-clause-visited g c = blocked g c
 
 pub returns-in-Blocked-clause-kept : goal.returns-in-Blocked-clause-kept
 returns-in-Blocked-clause-kept g c =
-    advanced_watches (g.P.Port.state c.args.port.now) c.args.self.now _ c.args.trail.now (ap attached c.self.view_is) (ap (λ (w : WatchData). w.vars) c.self.view_is) c.requires.reasons
+    advanced_watches (g.P.Port.state c.args.port.now) (but c.args.aside c.args.self.now) _ c.args.trail.now (ap (λ (w : WatchData). attached (but c.args.aside w)) c.self.view_is) (ap (λ (w : WatchData). w.vars) c.self.view_is) (have-same c.args.self.now.rooms c.set_blocker.new.self.rooms (c.set_blocker.ensures.rooms ∙ ap (λ (w : WatchData). w.rooms) c.self.view_is)) c.requires.reasons
     (blocked g c).0.watched
 
 pub returns-in-Settled-clause-visited : goal.returns-in-Settled-clause-visited
 returns-in-Settled-clause-visited g c =
-    (visiting-settled c.args.self.now (lits_at (g.P.Port.state c.args.port.now)) c.args.trail.now c.args.lit c.args.place c.requires.there c.requires.visiting c.in-Settled.ensures.verdict, (let q = c.requires.there in omega arith))
+    (visiting-settled (but c.args.aside c.args.self.now) (lits_at (g.P.Port.state c.args.port.now)) c.args.trail.now c.args.lit c.args.place c.requires.there c.requires.visiting c.in-Settled.ensures.verdict, (let q = c.requires.there in omega arith))
 
 -- a watch that changes its literals keeps its clause
 clauses_same : (w x : WatchData) (h : Lits) (t : TrailData) (l m : Literal) (index place : ℕ) (e : ListEntry) → CanMove w h t l index e m → Replaced w x e l m place → attached x ≡ attached w
@@ -95,10 +100,15 @@ clauses_same w x h t l m index place e can r =
     ap (λ (ws : List (Option Watch)). filter_map slot_clause ws) r.slots
     ∙ clauses-set w.slots e.index can.entry.watch record { clause = e.clause; first = e.other; second = m; binary = e.binary } old_at (sym can.entry.clause)
 
-moved : (g : Over) (c : goal.In_ok-replace-in-Moves g) → IsVisiting c.replace.new.self (lits_at (g.P.Port.state c.args.port.now)) c.args.trail.now c.args.lit c.args.place
+replaced : (g : Over) (c : goal.In_ok-replace-in-Moves g) → Replaced (but c.args.aside c.args.self.now) (but c.args.aside c.replace.new.self) c.in-Moves.entry c.args.lit c.in-Moves.new c.args.place
+replaced g c =
+    let w = c.args.self.now in
+    replaced-but c.args.aside (lits_at (g.P.Port.state c.args.port.now)) w c.replace.new.self c.args.trail.now c.args.lit c.in-Moves.new (get_or (list_at w.lists c.args.lit) c.args.place 0) c.args.place c.in-Moves.entry c.in-Moves.ensures.verdict c.in_ok-replace-in-Moves.ensures.ok
+
+moved : (g : Over) (c : goal.In_ok-replace-in-Moves g) → IsVisiting (but c.args.aside c.replace.new.self) (lits_at (g.P.Port.state c.args.port.now)) c.args.trail.now c.args.lit c.args.place
 moved g c =
-    visiting-moved c.args.self.now c.replace.new.self (lits_at (g.P.Port.state c.args.port.now)) c.args.trail.now c.args.lit c.in-Moves.new c.args.place c.in-Moves.entry
-    c.decision_level-level.ensures.trail.done c.requires.there c.requires.visiting c.in-Moves.ensures.verdict c.in_ok-replace-in-Moves.ensures.ok
+    visiting-moved (but c.args.aside c.args.self.now) (but c.args.aside c.replace.new.self) (lits_at (g.P.Port.state c.args.port.now)) c.args.trail.now c.args.lit c.in-Moves.new c.args.place c.in-Moves.entry
+    c.decision_level-level.ensures.trail.done c.requires.there c.requires.visiting c.in-Moves.ensures.verdict (replaced g c)
 
 pub returns-in_ok-replace-in-Moves-clause-visited : goal.returns-in_ok-replace-in-Moves-clause-visited
 returns-in_ok-replace-in-Moves-clause-visited g c =
@@ -107,12 +117,12 @@ returns-in_ok-replace-in-Moves-clause-visited g c =
     let between : list_at r.between c.args.lit ≡ list_at c.args.self.now.lists c.args.lit = r.added.same c.args.lit (λ q. can.is_open.not_l (sym q)) in
     (moved g c, Removed-len r.between c.replace.new.self.lists c.args.lit c.args.place (subst (λ (xs : List ℕ). c.args.place < length xs) (sym between) c.requires.there) r.removed)
 
-forced : (g : Over) (c : goal.After-assign g) → IsVisiting c.args.self.now (lits_at (g.P.Port.state c.args.port.now)) c.assign.new.self c.args.lit c.args.place
+forced : (g : Over) (c : goal.After-assign g) → IsVisiting (but c.args.aside c.args.self.now) (lits_at (g.P.Port.state c.args.port.now)) c.assign.new.self c.args.lit c.args.place
 forced g c =
     let t = c.args.trail.now in
     let s : TrailStep = record { lit = c.in-Forced.other; level = t.level; reason = Some c.in-Forced.clause } in
     let e = c.assign.ensures.step in
-    visiting-forced c.args.self.now (lits_at (g.P.Port.state c.args.port.now)) t c.assign.new.self c.args.lit c.in-Forced.other c.args.place c.in-Forced.clause s c.decision_level-level.ensures.trail.done c.requires.there c.requires.visiting
+    visiting-forced (but c.args.aside c.args.self.now) (lits_at (g.P.Port.state c.args.port.now)) t c.assign.new.self c.args.lit c.in-Forced.other c.args.place c.in-Forced.clause s c.decision_level-level.ensures.trail.done c.requires.there c.requires.visiting
     c.in-Forced.ensures.verdict refl refl (ap (λ (u : TrailData). u.steps) e) (HasGrown-step t c.assign.new.self s e refl) (ap (λ (u : TrailData). u.done) e)
 
 pub returns-in-Forced-clause-visited : goal.returns-in-Forced-clause-visited
@@ -120,30 +130,30 @@ returns-in-Forced-clause-visited g c = (forced g c, (let q = c.requires.there in
 
 pub returns-in-Stale-clause-kept : goal.returns-in-Stale-clause-kept
 returns-in-Stale-clause-kept g c =
-    advanced_watches (g.P.Port.state c.args.port.now) c.args.self.now _ c.args.trail.now (ap attached c.self.view_is) (ap (λ (w : WatchData). w.vars) c.self.view_is) c.requires.reasons
-    (stale_visiting c.args.self.now record { vars = c.self.inside.vars; slots = c.self.inside.slots.items; lists = c.self.inside.lists.rows; rooms = c.self.inside.lists.rooms; size = c.self.inside.lists.size; settled = c.self.inside.settled } (lits_at (g.P.Port.state c.args.port.now)) c.args.trail.now c.args.lit c.args.place c.take.new.self.rows c.take.new.self.rooms c.take.new.self.size c.self.view_is c.requires.there c.requires.visiting c.in-Stale.ensures.verdict c.take.ensures).0.watched
+    advanced_watches (g.P.Port.state c.args.port.now) (but c.args.aside c.args.self.now) _ c.args.trail.now (ap (λ (w : WatchData). attached (but c.args.aside w)) c.self.view_is) (ap (λ (w : WatchData). w.vars) c.self.view_is) (have-same c.args.self.now.rooms c.take.new.self.rooms (c.take.ensures.rooms ∙ ap (λ (w : WatchData). w.rooms) c.self.view_is)) c.requires.reasons
+    (stale_visiting (but c.args.aside c.args.self.now) (but c.args.aside record { vars = c.self.inside.vars; slots = c.self.inside.slots.items; lists = c.self.inside.lists.rows; rooms = c.self.inside.lists.rooms; size = c.self.inside.lists.size; settled = c.self.inside.settled }) (lits_at (g.P.Port.state c.args.port.now)) c.args.trail.now c.args.lit c.args.place c.take.new.self.rows c.take.new.self.rooms c.take.new.self.size (ap (but c.args.aside) c.self.view_is) c.requires.there c.requires.visiting c.in-Stale.ensures.verdict c.take.ensures.removed).0.watched
 
 pub returns-in-Settled-clause-kept : goal.returns-in-Settled-clause-kept
-returns-in-Settled-clause-kept g c = advanced_none (g.P.Port.state c.args.port.now) c.args.self.now c.args.trail.now c.requires.reasons c.requires.visiting.watched
+returns-in-Settled-clause-kept g c = advanced_none (g.P.Port.state c.args.port.now) (but c.args.aside c.args.self.now) c.args.trail.now c.requires.reasons c.requires.visiting.watched
 
 pub returns-in-False-clause-kept : goal.returns-in-False-clause-kept
-returns-in-False-clause-kept g c = advanced_none (g.P.Port.state c.args.port.now) c.args.self.now c.args.trail.now c.requires.reasons c.requires.visiting.watched
+returns-in-False-clause-kept g c = advanced_none (g.P.Port.state c.args.port.now) (but c.args.aside c.args.self.now) c.args.trail.now c.requires.reasons c.requires.visiting.watched
 
 pub returns-in_err-replace-in-Moves-clause-kept : goal.returns-in_err-replace-in-Moves-clause-kept
 returns-in_err-replace-in-Moves-clause-kept g c =
-    rw c.in_err-replace-in-Moves.ensures.err (advanced_none (g.P.Port.state c.args.port.now) c.args.self.now c.args.trail.now c.requires.reasons c.requires.visiting.watched)
+    rw c.in_err-replace-in-Moves.ensures.err (advanced_none (g.P.Port.state c.args.port.now) (but c.args.aside c.args.self.now) c.args.trail.now c.requires.reasons c.requires.visiting.watched)
 
 pub returns-in_ok-replace-in-Moves-clause-kept : goal.returns-in_ok-replace-in-Moves-clause-kept
 returns-in_ok-replace-in-Moves-clause-kept g c =
     let ok = c.in_ok-replace-in-Moves.ensures.ok in
-    advanced_watches (g.P.Port.state c.args.port.now) c.args.self.now c.replace.new.self c.args.trail.now
-    (clauses_same c.args.self.now c.replace.new.self (lits_at (g.P.Port.state c.args.port.now)) c.args.trail.now c.args.lit c.in-Moves.new (get_or (list_at c.args.self.now.lists c.args.lit) c.args.place 0) c.args.place c.in-Moves.entry c.in-Moves.ensures.verdict ok)
-    ok.vars c.requires.reasons (moved g c).watched
+    advanced_watches (g.P.Port.state c.args.port.now) (but c.args.aside c.args.self.now) (but c.args.aside c.replace.new.self) c.args.trail.now
+    (clauses_same (but c.args.aside c.args.self.now) (but c.args.aside c.replace.new.self) (lits_at (g.P.Port.state c.args.port.now)) c.args.trail.now c.args.lit c.in-Moves.new (get_or (list_at c.args.self.now.lists c.args.lit) c.args.place 0) c.args.place c.in-Moves.entry c.in-Moves.ensures.verdict (replaced g c))
+    ok.vars c.replace.ensures.rooms c.requires.reasons (moved g c).watched
 
 pub returns-in-Forced-clause-kept : goal.returns-in-Forced-clause-kept
 returns-in-Forced-clause-kept g c =
     let t = c.args.trail.now in
-    let w = c.args.self.now in
+    let w = but c.args.aside c.args.self.now in
     let s = g.P.Port.state c.args.port.now in
     let f = c.in-Forced.ensures.verdict in
     let i = get_or (list_at w.lists c.args.lit) c.args.place 0 in
@@ -157,4 +167,39 @@ returns-in-Forced-clause-kept g c =
           (IsReasoned-forced (attached_at (attached w) s) s.seen t c.in-Forced.other c.in-Forced.clause d c.requires.reasons
           (attached_some (attached w) s c.in-Forced.clause member (attachable_held w.vars s c.in-Forced.clause.address (forcing_attachable w (lits_at s) t i c.in-Forced.other c.in-Forced.clause c.requires.visiting.watched f))) f.forces);
       watched = (forced g c).watched;
+      rooms = have-same _ _ refl;
+      still = λ quiet. absurd (quiet-forces w (lits_at s) t i c.in-Forced.other c.in-Forced.clause c.decision_level-level.ensures.trail quiet f);
     }
+
+pub replace-requires-clause-entry : goal.replace-requires-clause-entry
+replace-requires-clause-entry g c =
+    let w = c.args.self.now in
+    entry-whole c.args.aside w (get_or (list_at w.lists c.args.lit) c.args.place 0) c.args.lit c.in-Moves.entry c.in-Moves.ensures.verdict.entry
+
+-- The clause set aside
+
+pub returns-in-Stale-clause-passed : goal.returns-in-Stale-clause-passed
+returns-in-Stale-clause-passed g c =
+    passes-stale c.args.aside (lits_at (g.P.Port.state c.args.port.now)) c.args.self.now record { vars = c.self.inside.vars; slots = c.self.inside.slots.items; lists = c.self.inside.lists.rows; rooms = c.self.inside.lists.rooms; size = c.self.inside.lists.size; settled = c.self.inside.settled } c.args.lit c.args.place c.take.new.self.rows c.take.new.self.rooms c.take.new.self.size c.self.view_is (c.judge.ensures.stale c.in-Stale.is) c.take.ensures.removed
+
+pub returns-in-Blocked-clause-passed : goal.returns-in-Blocked-clause-passed
+returns-in-Blocked-clause-passed g c =
+    passes-blocked c.args.aside (lits_at (g.P.Port.state c.args.port.now)) c.args.self.now record { vars = c.self.inside.vars; slots = c.self.inside.slots.items; lists = c.self.inside.lists.rows; rooms = c.self.inside.lists.rooms; size = c.self.inside.lists.size; settled = c.self.inside.settled } c.args.trail.now c.args.lit c.args.place c.in-Blocked.entry c.set_blocker.new.self.rows c.set_blocker.new.self.rooms c.set_blocker.new.self.size c.self.view_is
+    c.requires.visiting.watched c.in-Blocked.ensures.verdict c.set_blocker.ensures.reblocked
+
+pub returns-in-Settled-clause-passed : goal.returns-in-Settled-clause-passed
+returns-in-Settled-clause-passed g c = passes-refl c.args.aside _ _ _ refl
+
+pub returns-in-False-clause-passed : goal.returns-in-False-clause-passed
+returns-in-False-clause-passed g c = passes-refl c.args.aside _ _ _ refl
+
+pub returns-in-Forced-clause-passed : goal.returns-in-Forced-clause-passed
+returns-in-Forced-clause-passed g c = passes-refl c.args.aside _ _ _ refl
+
+pub returns-in_err-replace-in-Moves-clause-passed : goal.returns-in_err-replace-in-Moves-clause-passed
+returns-in_err-replace-in-Moves-clause-passed g c = passes-refl c.args.aside _ _ _ c.in_err-replace-in-Moves.ensures.err
+
+pub returns-in_ok-replace-in-Moves-clause-passed : goal.returns-in_ok-replace-in-Moves-clause-passed
+returns-in_ok-replace-in-Moves-clause-passed g c =
+    passes-moved c.args.aside (lits_at (g.P.Port.state c.args.port.now)) c.args.self.now c.replace.new.self c.args.trail.now c.args.lit c.in-Moves.new c.args.place c.in-Moves.entry
+    c.requires.visiting.watched c.in-Moves.ensures.verdict c.in_ok-replace-in-Moves.ensures.ok

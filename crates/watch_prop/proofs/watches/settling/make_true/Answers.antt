@@ -26,3 +26,6 @@ returns-then-not-is_true-clause-made c =
     let here = get_or_push t.steps s no_step (length t.steps) refl in
     subst (λ (u : TrailData). TrueWithin u.steps u.level c.args.lit) (sym c.assign.ensures.step)
     record { place = length t.steps; in_range = omega (arith, length-append t.steps (s ∷ [])); true_there = ap (λ (x : TrailStep). x.lit) here; level = omega (arith, ap (λ (x : TrailStep). x.level) here) }
+
+pub returns-then-not-is_true-clause-still : goal.returns-then-not-is_true-clause-still
+returns-then-not-is_true-clause-still c h = absurd (false≢true (sym c.if-not-is_true.true ∙ c.is_true.ensures.1 h))

@@ -1,6 +1,5 @@
-use Rattle.std.proofs.Common.{◌≡◌, ◌∙◌, ℕ, ◌<◌, ◌+◌, ◌++◌, ◌∷◌, [], List, length, drop, get_or, sym, ap, subst, append-nil, add-one}
+use Rattle.std.proofs.Common.{◌≡◌, ◌∙◌, ℕ, ◌+◌, ◌++◌, ◌∷◌, List, drop, get_or, sym, ap, append-nil}
 use Rattle.std.specs.Global.{Vec}
-use Rattle.std.proofs.Math.Seq.{drop-cons}
 use Rattle.std.proofs.lemmas.List.{drop_all}
 use Rattle.sat_words.specs.declared.shared.Cref.{Cref}
 use Rattle.reduce_db.specs.Lemmas.{first_of_each}

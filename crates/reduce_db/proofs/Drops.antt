@@ -138,7 +138,7 @@ stayed (x ∷ cs) ds c h = by (is_among ds x.address) refl h (stayed cs ds c)
     by false e (inl q) f = (inl q, subst (λ (y : Cref). is_among ds y.address ≡ false) q e)
     by false e (inr k) f = let r = f k in (inr r.0, r.1)
 
-no_other : (ds : List Cref) (a : ℕ) → is_among ds a ≡ false → (d : Cref) → Contains ds d → d.address ≢ a
+pub no_other : (ds : List Cref) (a : ℕ) → is_among ds a ≡ false → (d : Cref) → Contains ds d → d.address ≢ a
 no_other ds a e d m is =
     absurd (true≢false (sym (at_it d.address a is) ∙ none_In (λ (c : Cref). c.address == a) ds d e (Contains_In ds d m)))
 

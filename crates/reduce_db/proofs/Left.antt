@@ -31,7 +31,7 @@ no_reason_of true true true e = sym e
 no_reason_of true false true e = absurd (true≢false (sym e))
 no_reason_of false b true e = absurd (true≢false (sym e))
 
-same_cref : (c d : Cref) → c.address ≡ d.address → c ≡ d
+pub same_cref : (c d : Cref) → c.address ≡ d.address → c ≡ d
 same_cref c d e = λ i. record { address = e i }
 
 module _ (s : PortState) (steps : List TrailStep) (lemmas kept dropped : List Cref) (choice : IsChoice s steps lemmas kept dropped) where

@@ -7,3 +7,4 @@ pub mod Choosing
 pub mod Drops
 pub mod Left
 pub mod Changes
+pub mod Telling

@@ -21,6 +21,10 @@ pub record DroppedAll (old new : PortState) (dropped : List Cref) : Type 0 where
   pub state : new ≡ record old { held = new.held; waiting = new.waiting; last = new.last }
   pub others : (a : ℕ) → ((c : Cref) → Contains dropped c → c.address ≢ a) → held_at new a ≡ held_at old a
 
+-- what is held at no address of these clauses is held as it was
+abbrev pub HoldsOthers : PortState → PortState → List Cref → Type 0
+HoldsOthers old new cs = (a : ℕ) → ((c : Cref) → Contains cs c → c.address ≢ a) → held_at new a ≡ held_at old a
+
 -- whatever held between port, watches and trail still does
 pub record StaysReady (old new : PortState) (v w : WatchData) (t : TrailData) : Type 0 where
   pub vars : w.vars ≡ v.vars

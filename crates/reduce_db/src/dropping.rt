@@ -1,5 +1,5 @@
 // Dropping lemmas: all are detached at once, and then each is held once less. The lists of watches are closed up in between.
-ghost use Rattle.std.specs.Prelude.{◌≡◌, false, All, IsSome, OnOk, IfOk, IfErr};
+ghost use Rattle.std.specs.Prelude.{◌≡◌, false, All, IsSome, OnOk, IfOk, IfErr, sum};
 ghost use Rattle.std.specs.List.Sorted.{IsNonDecreasingBy, IsPermutation};
 ghost use Rattle.sat_words.specs.declared.shared.Cref.{Cref};
 ghost use Rattle.ring_port.specs.PortState.{IsPort, held_at, lits_at};
@@ -33,6 +33,7 @@ pub(crate) fn drop_each<P: Port>(
     requires free { All (λ (c : Cref). is_reason trail.now.steps c.address ≡ false) lemmas.now }
     ensures dropped { OnOk result (DroppedAll (P.state port.old) (P.state port.new) lemmas.now) }
     ensures attached { OnOk result (attached watches.new ≡ without_all (attached watches.old) lemmas.now) }
+    ensures closed { OnOk result (watches.new.size ≡ sum watches.new.rooms) }
     ensures ready { OnOk result (StaysReady (P.state port.old) (P.state port.new) watches.old watches.new trail.now) }
     ensures stopped { IfErr result (WasCutShort (P.state port.old) (P.state port.new) lemmas.now) }
     ensures log { KeepsLog (P.state port.old) (P.state port.new) }
@@ -51,7 +52,7 @@ pub(crate) fn drop_each<P: Port>(
 }
 
 /// These clauses in the order of their addresses.
-fn by_address(alloc: Global, clauses: &[Cref]) -> Result<Vec<Cref>, AllocError>
+pub(crate) fn by_address(alloc: Global, clauses: &[Cref]) -> Result<Vec<Cref>, AllocError>
     ensures order { IfOk result (λ sorted. IsNonDecreasingBy (λ (c : Cref). c.address) sorted.items) }
     ensures same { IfOk result (λ sorted. IsPermutation clauses.now sorted.items) }
 {

@@ -1,12 +1,15 @@
 -- What a turn comes to, and turns one after the other.
-use Rattle.std.proofs.Common.{◌≡◌, List, ◌∷◌, inl, inr, refl, subst}
+use Rattle.std.proofs.Common.{◌≡◌, ◌∙◌, ℕ, Bool, true, false, List, ◌∷◌, inl, inr, refl, subst, sym, ap}
 use Rattle.sat_words.specs.Literal.{Literal}
 use Rattle.sat_words.specs.declared.shared.Cref.{Cref}
 use Rattle.ring_port.specs.PortState.{PortState, lits_at}
 use Rattle.watch_prop.specs.Propagation.{IsQuiet, IsConflict}
 use Rattle.ring_run.specs.Ending.{IsRefusal}
-use Rattle.ring_run.specs.Course.{LearnsFrom, EndsQuietly, IsOnOrRefused}
-use Rattle.ring_run.specs.Turn.{HasPropagated, ActedAtQuiet, TookTurn, TakesTurn, CameTo}
+use Rattle.ring_port.specs.declared.stops.PortStop.TheVariants as answer
+use Rattle.ring_run.specs.Searching.{HasTold}
+use Rattle.ring_run.specs.Halting.{HaltsRenewing}
+use Rattle.ring_run.specs.Course.{CountsAlike, LearnsFrom, IsOnOrRefused, HaltsBy}
+use Rattle.ring_run.specs.Turn.{HasPropagated, ActedAtQuiet, TookTurn, HaltedTurn, TakesTurn, CameTo, IsModelFound, EndsDeciding, HaltsQuietly, EndsQuietly}
 use Rattle.ring_run.specs.declared.job.End.{End}
 use Rattle.ring_run.specs.declared.job.End.TheVariants.{Sat, Refuted, Spent, Stopped, NoHole, ProofFault, Memory}
 use Rattle.ring_run.specs.declared.ring.Ring.{Ring}
@@ -14,45 +17,77 @@ use Rattle.ring_run.specs.declared.course.Next.{Next}
 use Rattle.ring_run.specs.declared.course.Next.TheVariants.{Go, Finish}
 
 -- a refusal ends a step that doesn't learn
-pub quietly_refused : (s u : PortState) (end : End) → IsRefusal end → EndsQuietly s u (Finish end)
-quietly_refused s u (Sat a) h = absurd h
-quietly_refused s u Refuted h = tt
-quietly_refused s u Spent h = h
-quietly_refused s u (Stopped x) h = absurd h
-quietly_refused s u (NoHole lack) h = tt
-quietly_refused s u ProofFault h = tt
-quietly_refused s u Memory h = tt
+pub quietly_halted : (s u : PortState) (old new : Ring) (end : End) → IsRefusal end → HaltsQuietly s u old new end → EndsQuietly s u old new (Finish end)
+quietly_halted s u old new (Sat a) h how = absurd h
+quietly_halted s u old new Refuted h how = how
+quietly_halted s u old new Spent h how = h
+quietly_halted s u old new (Stopped x) h how = absurd h
+quietly_halted s u old new (NoHole lack) h how = how
+quietly_halted s u old new ProofFault h how = how
+quietly_halted s u old new Memory h how = how
 
-pub quietly_on : (s u : PortState) (course : Next) → IsOnOrRefused course → EndsQuietly s u course
-quietly_on s u Go h = tt
-quietly_on s u (Finish end) h = quietly_refused s u end h
+-- and so it does where an import was yet to be
+pub quietly_renewing : (s w u : PortState) (old ring new : Ring) (course : Next) → IsOnOrRefused course → old.import_due ≡ true → ring ≡ record old { written = ring.written } → CountsAlike old new → HasTold s w → HaltsBy (HaltsRenewing w u ring) course
+    → EndsQuietly s u old new course
+quietly_renewing s w u old ring new Go h due same counts told how = tt
+quietly_renewing s w u old ring new (Finish end) h due same counts told how = quietly_halted s u old new end h (counts, w, told, inr (due, ring, same, how))
+
+found_alike : (old : Ring) (written : ℕ) (a : List Bool) → IsModelFound (record old { written = written }) a → IsModelFound old a
+found_alike old written a p = record { valued = p.valued; long = p.long; true_there = p.true_there }
+
+-- what a decision comes to after a look and lines of units
+pub quietly_decided : (s w : PortState) (old ring new : Ring) (course : Next) → old.import_due ≡ false → ring ≡ record old { written = ring.written } → CountsAlike old new → HasTold s w → EndsDeciding ring new course → EndsQuietly s w old new course
+quietly_decided s w old ring new Go settled same counts told d = tt
+quietly_decided s w old ring new (Finish (Sat a)) settled same counts told d = record {
+  settled = settled;
+  told = told;
+  found = found_alike old ring.written a (subst (λ (r : Ring). IsModelFound r a) same d.0);
+  same = d.1 ∙ same ∙ ap (λ (r : Ring). record old { written = r.written }) (sym d.1);
+}
+quietly_decided s w old ring new (Finish Refuted) settled same counts told d = absurd d
+quietly_decided s w old ring new (Finish Spent) settled same counts told d = d
+quietly_decided s w old ring new (Finish (Stopped x)) settled same counts told d = absurd d
+quietly_decided s w old ring new (Finish (NoHole lack)) settled same counts told d = absurd d
+quietly_decided s w old ring new (Finish ProofFault) settled same counts told d = absurd d
+quietly_decided s w old ring new (Finish Memory) settled same counts told d = (counts, w, told, inl (answer.Memory, record { reason = tt; state = refl }, refl))
 
 pub refused_over : (course : Next) (end : End) → course ≡ Finish end → IsOnOrRefused course → IsRefusal end
 refused_over course end is h = subst IsOnOrRefused is h
+
+conflict_halted : (s u : PortState) (old between new : Ring) (c : Cref) (lits : List Literal) (end : End) → HasPropagated s old between → IsConflict between.watches (lits_at s) between.trail c → LearnsFrom s u between new c lits (Finish end)
+    → HaltedTurn s u old new end
+conflict_halted s u old between new c lits end p found learned = record { middle = between; propagated = p; halts = inr (inl (record { conflict = c; false_there = found; lits = lits; learned = learned })) }
 
 -- a turn that met a conflict
 pub conflict_turn : (s u : PortState) (old between new : Ring) (c : Cref) (lits : List Literal) (course : Next) → HasPropagated s old between → IsConflict between.watches (lits_at s) between.trail c → LearnsFrom s u between new c lits course
     → TakesTurn s u old new course
 conflict_turn s u old between new c lits Go p found learned = record { middle = between; propagated = p; acted = inl (record { conflict = c; false_there = found; lits = lits; learned = learned }) }
 conflict_turn s u old between new c lits (Finish (Sat a)) p found learned = absurd learned
-conflict_turn s u old between new c lits (Finish Refuted) p found learned = tt
+conflict_turn s u old between new c lits (Finish Refuted) p found learned = conflict_halted s u old between new c lits Refuted p found learned
 conflict_turn s u old between new c lits (Finish Spent) p found learned = record { middle = between; propagated = p; learned = record { conflict = c; false_there = found; lits = lits; learned = learned } }
 conflict_turn s u old between new c lits (Finish (Stopped x)) p found learned = absurd learned
-conflict_turn s u old between new c lits (Finish (NoHole lack)) p found learned = tt
-conflict_turn s u old between new c lits (Finish ProofFault) p found learned = tt
-conflict_turn s u old between new c lits (Finish Memory) p found learned = tt
+conflict_turn s u old between new c lits (Finish (NoHole lack)) p found learned = conflict_halted s u old between new c lits (NoHole lack) p found learned
+conflict_turn s u old between new c lits (Finish ProofFault) p found learned = conflict_halted s u old between new c lits ProofFault p found learned
+conflict_turn s u old between new c lits (Finish Memory) p found learned = conflict_halted s u old between new c lits Memory p found learned
+
+quiet_halted : (s u : PortState) (old between new : Ring) (end : End) → HasPropagated s old between → IsQuiet between.watches (lits_at s) between.trail → HaltsQuietly s u between new end → HaltedTurn s u old new end
+quiet_halted s u old between new end p quiet how = record { middle = between; propagated = p; halts = inr (inr (quiet, how)) }
 
 -- a turn in which nothing was left to propagate
-pub quiet_turn : (s u : PortState) (old between new : Ring) (course : Next) → HasPropagated s old between → IsQuiet between.watches (lits_at s) between.trail → (course ≡ Go → ActedAtQuiet s u between new) → EndsQuietly s u course
+pub quiet_turn : (s u : PortState) (old between new : Ring) (course : Next) → HasPropagated s old between → IsQuiet between.watches (lits_at s) between.trail → (course ≡ Go → ActedAtQuiet s u between new) → EndsQuietly s u between new course
     → TakesTurn s u old new course
 quiet_turn s u old between new Go p quiet acted ended = record { middle = between; propagated = p; acted = inr (quiet, acted refl) }
-quiet_turn s u old between new (Finish (Sat a)) p quiet acted ended = ended
-quiet_turn s u old between new (Finish Refuted) p quiet acted ended = tt
+quiet_turn s u old between new (Finish (Sat a)) p quiet acted ended = record { middle = between; propagated = p; quiet = quiet; found = ended }
+quiet_turn s u old between new (Finish Refuted) p quiet acted ended = quiet_halted s u old between new Refuted p quiet ended
 quiet_turn s u old between new (Finish Spent) p quiet acted ended = absurd ended
-quiet_turn s u old between new (Finish (Stopped x)) p quiet acted ended = ended
-quiet_turn s u old between new (Finish (NoHole lack)) p quiet acted ended = tt
-quiet_turn s u old between new (Finish ProofFault) p quiet acted ended = tt
-quiet_turn s u old between new (Finish Memory) p quiet acted ended = tt
+quiet_turn s u old between new (Finish (Stopped x)) p quiet acted ended = record {
+  propagated = subst (HasPropagated s old) (sym ended.1) p;
+  quiet = subst (λ (r : Ring). IsQuiet r.watches (lits_at s) r.trail) (sym ended.1) quiet;
+  seen = ended.0;
+}
+quiet_turn s u old between new (Finish (NoHole lack)) p quiet acted ended = quiet_halted s u old between new (NoHole lack) p quiet ended
+quiet_turn s u old between new (Finish ProofFault) p quiet acted ended = quiet_halted s u old between new ProofFault p quiet ended
+quiet_turn s u old between new (Finish Memory) p quiet acted ended = quiet_halted s u old between new Memory p quiet ended
 
 -- a turn more
 pub came_further : (s m u : PortState) (old between new : Ring) → CameTo s m old between → TookTurn m u between new → CameTo s u old new

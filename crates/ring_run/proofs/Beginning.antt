@@ -26,7 +26,7 @@ use Rattle.ring_run.specs.Ended.{IsTimely, IsJobOf, IsUntouched, IsOwn, IsNewLin
 use Rattle.ring_run.specs.Strategy.{Decides, IsPaced, AreMarked, OccurMarked, OccursIn}
 use Rattle.ring_run.specs.declared.job.Counts.{Counts}
 use Rattle.ring_run.specs.Searching.{IsHeldBy, AreTold, Runs, GoesOn}
-use Rattle.ring_run.specs.Course.{HasLemmas, MayImport, AreOrdered}
+use Rattle.ring_run.specs.Course.{last_start, HasLemmas, MayImport, AreOrdered}
 use Rattle.ring_run.specs.declared.job.Job.{Job}
 use Rattle.ring_run.specs.declared.ring.Ring.{Ring}
 use Rattle.ring_run.proofs.Numbering.{ordered_none}
@@ -56,8 +56,8 @@ goes_begin s p port = record {
 }
 
 -- no lemma is listed yet
-pub listed_begin : (s : PortState) (ring : Ring) → s.mine ≡ [] → ring.learned ≡ 0 → ring.lemmas.items ≡ [] → ring.reductions ≡ 0 → ring.reduced_at ≡ 0 → HasLemmas s ring
-listed_begin s ring mine learned none reductions_none at = record {
+pub listed_begin : (s : PortState) (ring : Ring) → s.mine ≡ [] → ring.learned ≡ 0 → ring.lemmas.items ≡ [] → ring.reductions ≡ 0 → ring.reduced_at ≡ 0 → ring.imports.items ≡ [] → ring.last_start ≡ last_start s → HasLemmas s ring
+listed_begin s ring mine learned none reductions_none at no_imports last = record {
   ordered = subst (AreOrdered s) (sym none) (ordered_none s);
   glued = λ c m. absurd (Contains_In [] c (subst (λ (cs : List Cref). Contains cs c) none m));
   noted = reductions_none ∙ sym (ap (λ (J : List Entry). reductions s.ring J) mine);
@@ -66,6 +66,8 @@ listed_begin s ring mine learned none reductions_none at = record {
   apart = λ h c there m. absurd (Contains_In [] c (subst (λ (cs : List Cref). Contains cs c) none m));
   count = (let lately = ap (λ (J : List Entry). length (recent s.ring J)) mine in omega (arith, lately, learned, at));
   few = omega (arith, reductions_none, at);
+  imported = subst (All (Contains (attached ring.watches))) (sym no_imports) (All-nil (Contains (attached ring.watches)));
+  last = last;
 }
 
 -- the start clauses of the job are held

@@ -14,7 +14,7 @@ use Rattle.ring_run.specs.Ended.{IsHalted, LookedAlong, import_slots, last_looks
 use Rattle.ring_run.specs.Ending.{ComesTo, EndsAt, IsRefusal, end_refused}
 use Rattle.ring_run.specs.Strategy.{IsPaced}
 use Rattle.ring_run.specs.Searching.{GoesOn, HoldsByGlue, IsAsserting, IsGlueOf, OffersNothing}
-use Rattle.ring_run.specs.Course.{AreSameOffers, InSearch, HasLemmas, IsOffering, IsPolling, HasTidied, KeepsInTime, KeepsImporting, KeepsPolling, KeepsLooking, Leads, LearnsFrom, LearnsTo, SumsUp, imports_of}
+use Rattle.ring_run.specs.Course.{HaltsAtConflict, AreSameOffers, InSearch, HasLemmas, IsOffering, IsPolling, HasTidied, KeepsInTime, KeepsImporting, KeepsPolling, KeepsLooking, Leads, LearnsFrom, LearnsTo, SumsUp, imports_of}
 use Rattle.ring_run.specs.Learning.{ComesOf, WasFollowed}
 use Rattle.ring_run.specs.declared.job.End.{End}
 use Rattle.ring_run.specs.declared.job.End.TheVariants.{Sat, Refuted, Spent, Stopped, NoHole, ProofFault, Memory}
@@ -26,12 +26,12 @@ use Rattle.ring_run.proofs.InTime.{in_time_halted, in_time_more, sums_exact, sum
 use Rattle.ring_run.proofs.Learning.{goes_on_by}
 use Rattle.ring_run.proofs.Lending.{offering_stays}
 use Rattle.ring_run.proofs.Offering.{nothing_refused}
-use Rattle.ring_run.proofs.Outcomes.{from_refusal, learned_from, learns_refusal}
+use Rattle.ring_run.proofs.Outcomes.{from_halted, learned_from, learns_halted}
 use Rattle.ring_run.proofs.Pacing.{paced_last, asked_odd}
 use Rattle.ring_run.proofs.Polling.{polls_as, polls_same, polled_whole, polled_over, polled_halted, at_most_polls, settled_above}
 use Rattle.ring_run.proofs.Progress.{out_of_memory, refused_ends, refused_held, refused_looks, spent}
 use Rattle.ring_run.proofs.Rounds.{imports_along, imports_as, imports_count, imports_halted, imports_over, imports_same, imports_whole, tidy_halted}
-use Rattle.ring_run.proofs.Sharing.{shared_count, shared_goes_on, shared_in_time, shared_looks, shared_noted, shared_offering, shared_polls, shared_stored, asked_count, asked_goes_on, asked_has_learned, asked_imported, asked_in_time, asked_learned, asked_level, asked_listed, asked_looks, asked_made, asked_paced, asked_polled, asked_polling, asked_search, asked_sums}
+use Rattle.ring_run.proofs.Sharing.{shared_count, shared_goes_on, shared_in_time, shared_looks, shared_noted, shared_offering, shared_polls, shared_stored, asked_count, asked_goes_on, asked_has_learned, asked_imported, asked_restarts, asked_shared, asked_in_time, asked_learned, asked_level, asked_listed, asked_looks, asked_made, asked_paced, asked_polled, asked_polling, asked_search, asked_sums}
 use Rattle.ring_run.proofs.Tidying.{refused_halted, refused_last, refused_refusal}
 use Rattle.ring_run.proofs.Turning.{compose}
 
@@ -108,10 +108,21 @@ module _ (s u : PortState) (old new : Ring) (lits : List Literal) (back glue lim
 
   followed_learns : (course : Next) → WasFollowed s u old new lits back glue limit course → LearnsTo s u old new lits back glue course
   followed_learns Go p = asked_has_learned s u old new lits back glue limit Go p p.finished.leaves
-  followed_learns (Finish end) p = learns_refusal s u old new lits back glue end p.finished.leaves.1
+  followed_learns (Finish end) p =
+      learns_halted s u old new lits back glue end p.finished.leaves.1
+      (inr (record {
+        address = p.address;
+        between = p.between;
+        shared = asked_shared s u old new lits back glue limit (Finish end) p;
+        deleting = p.finished.leaves.2;
+        learned = asked_learned s u old new lits back glue limit (Finish end) p;
+        restarts = asked_restarts s u old new lits back glue limit (Finish end) p;
+      }))
 
   pub comes_learns : (course : Next) → ComesOf s u old new lits back glue limit course → LearnsTo s u old new lits back glue course
-  comes_learns course (inl p) = subst (λ (x : Next). LearnsTo s u old new lits back glue x) (sym p.over) (learns_refusal s u old new lits back glue (end_refused p.stop) (refused_refusal p.stop))
+  comes_learns course (inl p) = subst (λ (x : Next). LearnsTo s u old new lits back glue x) (sym p.over)
+      (learns_halted s u old new lits back glue (end_refused p.stop) (refused_refusal p.stop)
+      (inl ((p.stop, p.refused, refl), record { learned = ap (λ (r : Ring). r.learned) p.ring; restarts = ap (λ (r : Ring). r.restarts) p.ring })))
   comes_learns course (inr (inl p)) =
       subst (λ (x : Next). LearnsTo s u old new lits back glue x) (sym p.over)
       (record { address = p.address; shared = p.shared.shared; restarts = shared_noted s u old new lits glue p.address p.shared })
@@ -287,7 +298,7 @@ can_bumped s old x lits back glue limit can =
       below = can.below;
       paced = can.paced;
       offering = record { counts = can.offering.counts; few = can.offering.few };
-      listed = record { ordered = p.ordered; glued = p.glued; noted = p.noted; distinct = p.distinct; member = p.member; apart = p.apart; count = p.count; few = p.few };
+      listed = record { ordered = p.ordered; glued = p.glued; noted = p.noted; distinct = p.distinct; member = p.member; apart = p.apart; count = p.count; few = p.few; imported = p.imported; last = p.last };
       lemma = can.lemma;
       counts = can.counts;
     }
@@ -304,7 +315,7 @@ behind_lemma s u old x new conflict lits back glue limit course same can lemma c
       leads = compose course s s u old between new limit (λ start p. p) (comes_leads s u between new lits back glue limit by course came port);
       more = comes_more s u between new lits back glue limit by course came;
       learns = learned_from s u between old new conflict lits back glue course
-          (record { trail = refl; watches = refl; lemmas = refl; reductions = refl; reduced_at = refl; written = refl; decider = same; restarts = refl; exported = refl; offered = refl })
+          (record { trail = refl; watches = refl; lemmas = refl; imports = refl; last_start = refl; reductions = refl; reduced_at = refl; written = refl; decider = same; restarts = refl; learned = refl; exported = refl; offered = refl })
           lemma can.lemma can.counts (comes_learns s u between new lits back glue limit by course came);
       tidied = comes_tidied s u between new lits back glue limit by course came;
       listed = comes_listed s u between new lits back glue limit by course came;
@@ -342,15 +353,15 @@ pub record IsStill (old new : Ring) : Type 0 where
   pub offers : AreSameOffers old new
 
 -- an end without a lemma
-pub behind_end : (s u : PortState) (old new : Ring) (conflict : Cref) (lits : List Literal) (limit : ℕ) (end : End) → IsStill old new → EndsAt s u end → IsRefusal end → OffersNothing s u → u.held ≡ s.held → u.looks ≡ s.looks
+pub behind_end : (s u : PortState) (old new : Ring) (conflict : Cref) (lits : List Literal) (limit : ℕ) (end : End) → IsStill old new → EndsAt s u end → IsRefusal end → HaltsAtConflict s u old new conflict lits end → OffersNothing s u → u.held ≡ s.held → u.looks ≡ s.looks
     → old.learned < limit → IsPaced old.restarts old.learned limit → IsOffering s old → BehindLemma s u old new conflict lits limit (Finish end)
-behind_end s u old new conflict lits limit end still ends refusal nothing held looks below paced offering =
+behind_end s u old new conflict lits limit end still ends refusal how nothing held looks below paced offering =
     let halted = refusal_halted end refusal in
     let made = ap (λ (r : Restarting). r.made) still.restarts in
     record {
       leads = λ start p. subst (λ (n : ℕ). ComesTo start u n limit end) (sym still.learned) (ends old.learned limit below start p);
       more = λ on. absurd (over_not_on end on);
-      learns = from_refusal s u old new conflict lits end refusal;
+      learns = from_halted s u old new conflict lits end refusal how;
       tidied = tidy_halted u end halted;
       listed = λ on. absurd (over_not_on end on);
       stored = held_stored s u old.trail.steps held;
@@ -373,4 +384,5 @@ pub behind_memory : (s u : PortState) (old new : Ring) (conflict : Cref) (lits :
     → BehindLemma s u old new conflict lits limit (Finish Memory)
 behind_memory s u old new conflict lits limit same still below paced offering = subst (λ (x : PortState). BehindLemma s x old new conflict lits limit (Finish Memory)) (sym same)
     (behind_end s s old new conflict lits limit Memory still (λ count most few start p. out_of_memory start s count most few p) tt
+    (inr (inl (refl, refl, record { learned = still.learned; restarts = still.restarts })))
     (record { shared = refl; polled = refl; polls = refl; caught_up = omega arith; ring = refl; rings = refl; lemmas = refl }) refl refl below paced offering)

@@ -1,14 +1,14 @@
 -- What comes after a lemma that isn't the last.
-use Rattle.std.proofs.Common.{◌≡◌, ◌∙◌, ℕ, Bool, List, [], sym, subst, refl, length}
+use Rattle.std.proofs.Common.{◌≡◌, ◌∙◌, ℕ, Bool, List, [], sym, subst, refl, length, inl, inr}
 use Rattle.std.specs.declared.option.Option.{Option}
 use Rattle.sat_words.specs.Literal.{Literal}
 use Rattle.sat_words.specs.declared.shared.Cref.{Cref}
 use Rattle.ring_port.specs.PortState.{PortState}
-use Rattle.ring_port.specs.Deleting.{TidiedUpTo}
+use Rattle.ring_port.specs.Deleting.{TidiedUpTo, TidiedSome}
 use Rattle.ring_port.specs.declared.stops.PortStop.{PortStop}
 use Rattle.restart_plan.specs.Plan.{Restarting, asked, is_due}
 use Rattle.ring_run.specs.Searching.{KeepsOn, OffersNothing, OnlyWrote}
-use Rattle.ring_run.specs.Ending.{EndsAt, IsRefusal, end_refused}
+use Rattle.ring_run.specs.Ending.{EndsAt, HaltsDeleting, IsRefusal, end_refused}
 use Rattle.ring_run.specs.Course.{HasLeft, AreSameOffers}
 use Rattle.ring_run.specs.Learning.{HasAsked, HasFinished, HasLeftTidy}
 use Rattle.ring_run.specs.declared.job.End.{End}
@@ -37,10 +37,10 @@ asked_then s w old r due restarts import_due nothing held looks = record {
 }
 
 -- the call was refused
-pub finished_refused : (s w : PortState) (old new : Ring) (lits : List Literal) (back : ℕ) (address : Option Cref) (stop : PortStop) (end : End) → end ≡ end_refused stop → EndsAt s w (end_refused stop) → HasAsked s w old new → HasFinished s w old new lits back address (Finish end)
-finished_refused s w old new lits back address stop end is over a = record {
+pub finished_refused : (s w : PortState) (old new : Ring) (lits : List Literal) (back : ℕ) (address : Option Cref) (stop : PortStop) (end : End) → end ≡ end_refused stop → EndsAt s w (end_refused stop) → TidiedSome s w stop → HasAsked s w old new → HasFinished s w old new lits back address (Finish end)
+finished_refused s w old new lits back address stop end is over some a = record {
   asked_for = a;
-  leaves = (subst (EndsAt s w) (sym is) over, subst IsRefusal (sym is) (refused_refusal stop));
+  leaves = (subst (EndsAt s w) (sym is) over, subst IsRefusal (sym is) (refused_refusal stop), inl (stop, some, is));
 }
 
 -- the call that leaves the conflict changes neither the port nor what was asked
@@ -65,10 +65,10 @@ asked_kept s w u old between new same k a = subst (λ (x : PortState). HasAsked 
 
 module _ (s w u : PortState) (old : Ring) (r : Restarting) (due : Bool) (new : Ring) (lits : List Literal) (back : ℕ) (address : Option Cref) (same : u ≡ w) (k : KeepsAsked (asked_ring old r due) new) (a : HasAsked s w old (asked_ring old r due)) (keeps : KeepsOn s w) where
   -- there was no memory
-  pub finished_memory : HasFinished s u old new lits back address (Finish Memory)
-  finished_memory = record {
+  pub finished_memory : TidiedUpTo s w (length s.waiting) → HasFinished s u old new lits back address (Finish Memory)
+  finished_memory tidied = record {
     asked_for = asked_kept s w u old (asked_ring old r due) new same k a;
-    leaves = (subst (λ (x : PortState). EndsAt s x Memory) (sym same) (λ count limit below start p. out_of_memory start w count limit below (keeps start count p)), tt);
+    leaves = (subst (λ (x : PortState). EndsAt s x Memory) (sym same) (λ count limit below start p. out_of_memory start w count limit below (keeps start count p)), tt, subst (λ (x : PortState). HaltsDeleting s x Memory) (sym same) (inr (tidied, refl)));
   }
 
   -- the conflict was left
@@ -82,6 +82,6 @@ module _ (s w u : PortState) (old : Ring) (r : Restarting) (due : Bool) (new : R
       waiting = waiting;
       tidied = tidied;
       left = left_alike w (asked_ring old r due) (record old { import_due = new.import_due }) new lits back address
-          (record { import_due = sym k.import_due; trail = refl; watches = refl; lemmas = refl; reductions = refl; reduced_at = refl; written = refl; decider = refl }) left;
+          (record { import_due = sym k.import_due; trail = refl; watches = refl; lemmas = refl; imports = refl; last_start = refl; reductions = refl; reduced_at = refl; written = refl; decider = refl }) left;
     });
   }

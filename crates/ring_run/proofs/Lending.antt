@@ -151,6 +151,8 @@ pub record AreAlike (mid old : Ring) : Type 0 where
   pub trail : mid.trail ≡ old.trail
   pub watches : mid.watches ≡ old.watches
   pub lemmas : mid.lemmas.items ≡ old.lemmas.items
+  pub imports : mid.imports.items ≡ old.imports.items
+  pub last_start : mid.last_start ≡ old.last_start
   pub reductions : mid.reductions ≡ old.reductions
   pub reduced_at : mid.reduced_at ≡ old.reduced_at
   pub written : mid.written ≡ old.written
@@ -159,6 +161,8 @@ pub record AreAlike (mid old : Ring) : Type 0 where
 lists_alike : (mid old new : Ring) (address : Option Cref) → AreAlike mid old → Lists mid new address → Lists old new address
 lists_alike mid old new address p at = record {
   lemmas = at.lemmas ∙ ap (λ (cs : List Cref). cs ++ option_to_list address) p.lemmas;
+  imports = at.imports ∙ p.imports;
+  last_start = at.last_start ∙ p.last_start;
   reductions = at.reductions ∙ p.reductions;
   reduced_at = at.reduced_at ∙ p.reduced_at;
 }

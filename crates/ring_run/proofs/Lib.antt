@@ -34,4 +34,6 @@ pub mod Shortened
 pub mod Resting
 pub mod Turns
 pub mod Shrinking
+pub mod Halted
 pub mod LeftBehind
+pub mod ReducedImports

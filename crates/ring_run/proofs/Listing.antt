@@ -1,13 +1,13 @@
 -- The lemmas that a ring lists.
-use Rattle.std.proofs.Common.{◌≡◌, ◌≢◌, ◌∙◌, ℕ, ◌+◌, List, [], ◌∷◌, ◌++◌, length, sym, subst, ap, arith, inl, inr, refl, Contains, IsSome, Some, None, Ok, append-nil, ◌≤◌}
-use Rattle.std.specs.Prelude.{All}
+use Rattle.std.proofs.Common.{◌≡◌, ◌≢◌, ◌∙◌, ℕ, ◌+◌, List, [], ◌∷◌, ◌++◌, length, sym, subst, ap, arith, inl, inr, refl, Contains, IsSome, Some, None, Ok, append-nil, ◌≤◌, map}
+use Rattle.std.specs.Prelude.{All, max, fold}
 use Rattle.std.specs.Option.{option_to_list, option_map_or}
 use Rattle.std.specs.declared.option.Option.{Option}
 use Rattle.sat_words.specs.Literal.{Literal}
 use Rattle.sat_words.specs.declared.shared.Cref.{Cref}
 use Rattle.rup_model.specs.declared.journal.Kind.TheVariants.{Learn}
 use Rattle.rup_model.specs.Journal.{recent}
-use Rattle.rup_model.proofs.Lists.{In, Contains_In, In_Contains, In_append, In_append_left, In_append_right}
+use Rattle.rup_model.proofs.Lists.{In, Contains_In, In_Contains, In_map, In_append, In_append_left, In_append_right}
 use Rattle.ring_port.specs.PortState.{PortState, Holding, held_at}
 use Rattle.ring_port.specs.Port.{AddedClause, Learned, KeepsHeld, holding_of}
 use Rattle.ring_port.proofs.Holdings.{All_In}
@@ -16,7 +16,7 @@ use Rattle.watch_prop.specs.WatchData.{attached}
 use Rattle.reduce_db.specs.Lemmas.{AreDistinct}
 use Rattle.reduce_db.proofs.Changes.{distinct_push}
 use Rattle.ring_run.specs.Searching.{AreMoreClauses, HasClauses, IsHeldBy, HasGrownLog}
-use Rattle.ring_run.specs.Course.{HasLemmas, HasLeft, Lists, AreOrdered, numbers, number_at}
+use Rattle.ring_run.specs.Course.{last_of, last_start, HasLemmas, HasLeft, Lists, AreOrdered, numbers, number_at}
 use Rattle.ring_run.specs.declared.ring.Ring.{Ring}
 use Rattle.ring_run.proofs.Progress.{recent_lemma}
 use Rattle.ring_run.specs.Ended.{reductions}
@@ -25,20 +25,56 @@ use Rattle.rup_model.specs.declared.journal.Addition.{Addition}
 use Rattle.rup_model.specs.declared.journal.Entry.TheVariants.{Add}
 use Rattle.vivify.specs.Outcome.{glue_at}
 
--- no lemma more or less, and none detached
-pub listed_same : (s u : PortState) (old new : Ring) → u.start ≡ s.start → recent u.ring u.mine ≡ recent s.ring s.mine → new.lemmas.items ≡ old.lemmas.items → AreMoreClauses (attached old.watches) (attached new.watches)
-    → new.learned ≡ old.learned → new.reductions ≡ old.reductions → new.reduced_at ≡ old.reduced_at → KeepsListed s u old.lemmas.items → HasLemmas s old → HasLemmas u new
-listed_same s u old new start lately items more learned reductions_same at k p = record {
+-- the greatest address is that of none beyond it
+fold_least : (a : ℕ) (cs : List Cref) → a ≤ fold (λ (last : ℕ) (c : Cref). max last c.address) a cs
+fold_least a [] = omega arith
+fold_least a (c ∷ cs) = let more = fold_least (max a c.address) cs in omega (arith, more)
+
+fold_most : (a : ℕ) (cs : List Cref) (c : Cref) → In c cs → c.address ≤ fold (λ (last : ℕ) (c : Cref). max last c.address) a cs
+fold_most a [] c m = absurd m
+fold_most a (d ∷ cs) c (inl is) = let more = fold_least (max a d.address) cs in let e = ap (λ (x : Cref). x.address) is in omega (arith, more, e)
+fold_most a (d ∷ cs) c (inr m) = fold_most (max a d.address) cs c m
+
+pub last_most : (s : PortState) (h : Holding) → Contains s.start h → h.address ≤ last_start s
+last_most s h there =
+    fold_most 0 (map (λ (k : Holding). record { address = k.address }) s.start) (record { address = h.address }) (In_map (λ (k : Holding). record { address = k.address }) s.start h (Contains_In s.start h there))
+
+pub last_same : (s u : PortState) → u.start ≡ s.start → last_start u ≡ last_start s
+last_same s u start = ap (λ (hs : List Holding). last_of (map (λ (k : Holding). record { address = k.address }) hs)) start
+
+-- the imports are those from before
+pub record SameImports (old new : Ring) : Type 0 where
+  pub imports : new.imports.items ≡ old.imports.items
+  pub last_start : new.last_start ≡ old.last_start
+
+pub same_imports : (ring : Ring) → SameImports ring ring
+same_imports ring = record { imports = refl; last_start = refl }
+
+-- no lemma more or less, and none detached; the imports may be others
+pub listed_with : (s u : PortState) (old new : Ring) → u.start ≡ s.start → recent u.ring u.mine ≡ recent s.ring s.mine → new.lemmas.items ≡ old.lemmas.items → All (Contains (attached new.watches)) old.lemmas.items
+    → new.learned ≡ old.learned → new.reductions ≡ old.reductions → new.reduced_at ≡ old.reduced_at → new.last_start ≡ old.last_start → All (Contains (attached new.watches)) new.imports.items → KeepsListed s u old.lemmas.items → HasLemmas s old → HasLemmas u new
+listed_with s u old new start lately items member learned reductions_same at last imported k p = record {
   ordered = subst (AreOrdered u) (sym items) (ordered_kept s u old.lemmas.items (λ c m. k.held c (In_Contains old.lemmas.items c m)) k.grown p.ordered);
   glued = λ c m. (let there = subst (λ (cs : List Cref). Contains cs c) items m in glue_kept (held_at u c.address) (held_at s c.address) (k.held c there) (p.glued c there));
   noted = reductions_same ∙ p.noted ∙ sym k.noted;
   distinct = subst AreDistinct (sym items) p.distinct;
-  member = subst (All (Contains (attached new.watches))) (sym items)
-      (In_All (Contains (attached new.watches)) old.lemmas.items (λ c m. more c (All_In (Contains (attached old.watches)) old.lemmas.items c p.member m)));
-  apart = λ h c there member. p.apart h c (subst (λ (hs : List Holding). Contains hs h) start there) (subst (λ (cs : List Cref). Contains cs c) items member);
+  member = subst (All (Contains (attached new.watches))) (sym items) member;
+  apart = λ h c there inside. p.apart h c (subst (λ (hs : List Holding). Contains hs h) start there) (subst (λ (cs : List Cref). Contains cs c) items inside);
   count = (let many = ap (λ (cs : List (List Literal)). length cs) lately in omega (arith, p.count, learned, at, many));
   few = omega (arith, p.few, reductions_same, at);
+  imported = imported;
+  last = last ∙ p.last ∙ sym (last_same s u start);
 }
+
+-- no lemma more or less, and none detached
+pub listed_same : (s u : PortState) (old new : Ring) → u.start ≡ s.start → recent u.ring u.mine ≡ recent s.ring s.mine → new.lemmas.items ≡ old.lemmas.items → AreMoreClauses (attached old.watches) (attached new.watches)
+    → new.learned ≡ old.learned → new.reductions ≡ old.reductions → new.reduced_at ≡ old.reduced_at → SameImports old new → KeepsListed s u old.lemmas.items → HasLemmas s old → HasLemmas u new
+listed_same s u old new start lately items more learned reductions_same at same k p =
+    listed_with s u old new start lately items (moved old.lemmas.items p.member) learned reductions_same at same.last_start
+    (subst (All (Contains (attached new.watches))) (sym same.imports) (moved old.imports.items p.imported)) k p
+  where
+    moved : (cs : List Cref) → All (Contains (attached old.watches)) cs → All (Contains (attached new.watches)) cs
+    moved cs member = In_All (Contains (attached new.watches)) cs (λ c m. more c (All_In (Contains (attached old.watches)) cs c member m))
 
 none_held : (o : Option Holding) → IsSome o → o ≡ None → ⊥
 none_held None h e = absurd cc
@@ -103,6 +139,9 @@ listed_learned s u w old new lits glue (Some c) clauses k start lately lists now
           let more = recent_lemma s u k.number lits (ap (λ (x : PortState). x.ring) k.state) (ap (λ (x : PortState). x.mine) k.state) in
           omega (arith, p.count, count, lists.reduced_at, many, more));
       few = omega (arith, p.few, lists.reductions, lists.reduced_at);
+      imported = subst (λ (ds : List Cref). All (Contains ds) new.imports.items) (sym now) (subst (All (Contains (cs ++ c ∷ []))) (sym lists.imports)
+          (In_All (Contains (cs ++ c ∷ [])) old.imports.items (λ d m. In_Contains (cs ++ c ∷ []) d (In_append_left cs (c ∷ []) d (Contains_In cs d (All_In (Contains cs) old.imports.items d p.imported m))))));
+      last = lists.last_start ∙ p.last ∙ sym (last_same s w (start ∙ ap (λ (y : PortState). y.start) k.state));
     }
 listed_learned s u w old new lits glue None clauses k start lately lists now count kept alike grown noted bound p =
     let items : new.lemmas.items ≡ old.lemmas.items = lists.lemmas ∙ append-nil old.lemmas.items in
@@ -123,6 +162,8 @@ listed_learned s u w old new lits glue None clauses k start lately lists now cou
           let more = recent_lemma s u k.wrote.number (k.lit ∷ []) (ap (λ (x : PortState). x.ring) k.wrote.state) (ap (λ (x : PortState). x.mine) k.wrote.state) in
           omega (arith, p.count, count, lists.reduced_at, many, more));
       few = omega (arith, p.few, lists.reductions, lists.reduced_at);
+      imported = subst (λ (ds : List Cref). All (Contains ds) new.imports.items) (sym same) (subst (All (Contains (attached old.watches))) (sym lists.imports) p.imported);
+      last = lists.last_start ∙ p.last ∙ sym (last_same s w (start ∙ ap (λ (y : PortState). y.start) k.wrote.state));
     }
 
 -- if the conflict was left

@@ -40,7 +40,9 @@ use Rattle.reduce_db.proofs.Drops.{stays_attached}
 use Rattle.ring_run.specs.Ended.{IsTimely, Stays, IsOwn, reductions}
 use Rattle.ring_run.specs.Searching.{IsHeldBy, HasClauses, GoesOn, OffersNothing, OnlyWrote}
 use Rattle.ring_run.specs.Ending.{ComesTo, end_refused}
-use Rattle.ring_run.specs.Course.{HasLemmas, MayImport, AreOrdered}
+use Rattle.ring_run.specs.Course.{last_start, HasLemmas, MayImport, AreOrdered}
+use Rattle.ring_run.specs.Renewal.{AreUnmixed, AreSetApart}
+use Rattle.ring_run.proofs.Listing.{SameImports, last_same}
 use Rattle.ring_run.specs.declared.ring.Ring.{Ring}
 use Rattle.ring_run.proofs.Remembering.{held_same, lits_same, clause_at_same}
 use Rattle.ring_run.proofs.Lately.{lately_none}
@@ -304,11 +306,11 @@ timely_reduce s ring p due = omega (arith, p.count, p.noted, due)
 
 -- What a call that reduces leaves, after the Reduce entry
 
-kept_among : (s : PortState) (steps : List TrailStep) (lemmas kept dropped : List Cref) → IsChoice s steps lemmas kept dropped → (c : Cref) → Contains kept c → Contains lemmas c
+pub kept_among : (s : PortState) (steps : List TrailStep) (lemmas kept dropped : List Cref) → IsChoice s steps lemmas kept dropped → (c : Cref) → Contains kept c → Contains lemmas c
 kept_among s steps lemmas kept dropped choice c m =
     In_Contains lemmas c (filter_In (λ x. not (choice.drops x)) lemmas c (Contains_In (filter (λ x. not (choice.drops x)) lemmas) c (subst (λ (xs : List Cref). Contains xs c) choice.kept_is m)))
 
-dropped_among : (s : PortState) (steps : List TrailStep) (lemmas kept dropped : List Cref) → IsChoice s steps lemmas kept dropped → All (Contains lemmas) dropped
+pub dropped_among : (s : PortState) (steps : List TrailStep) (lemmas kept dropped : List Cref) → IsChoice s steps lemmas kept dropped → All (Contains lemmas) dropped
 dropped_among s steps lemmas kept dropped choice = subst (All (Contains lemmas)) (sym choice.dropped_is) (All-filter choice.drops (Contains lemmas) lemmas (In_All (Contains lemmas) lemmas (λ c m. In_Contains lemmas c m)))
 
 module _ (s m u : PortState) (ring : Ring) (noted : NotedReduce s m) (listed : HasLemmas s ring) where
@@ -333,10 +335,21 @@ module _ (s m u : PortState) (ring : Ring) (noted : NotedReduce s m) (listed : H
     lately : recent u.ring u.mine ≡ []
     lately = ap (λ (x : PortState). recent x.ring x.mine) done.port.state ∙ noted_lately s m noted
 
+    start_same : u.start ≡ s.start
+    start_same = ap (λ (x : PortState). x.start) done.port.state ∙ noted_start s m noted
+
+    -- no import was dropped
+    pub reduced_apart : (new : Ring) → new.lemmas.items ≡ left → SameImports ring new → AreSetApart s ring → AreSetApart u new
+    reduced_apart new items same a = record {
+      distinct = subst AreDistinct (sym same.imports) a.distinct;
+      beyond = subst (λ (n : ℕ). All (λ (c : Cref). n < c.address) new.imports.items) (sym (last_same s u start_same)) (subst (All (λ (c : Cref). last_start s < c.address)) (sym same.imports) a.beyond);
+      unmixed = λ c d inside import. a.unmixed c d (kept_among m steps lemmas left done.dropped done.choice c (subst (λ (cs : List Cref). Contains cs c) items inside)) (subst (λ (cs : List Cref). Contains cs d) same.imports import);
+    }
+
     -- the lemmas that are left are listed
     pub reduced_lemmas : (new : Ring) → lemmas_before (ring.reductions + 1) ≤ ring.learned - ring.reduced_at → AreLemmas u (attached w) left → new.lemmas.items ≡ left → attached new.watches ≡ attached w
-        → new.learned ≡ ring.learned → new.reductions ≡ ring.reductions + 1 → new.reduced_at ≡ ring.learned → HasLemmas u new
-    reduced_lemmas new due are items now learned_is reductions_is at = record {
+        → new.learned ≡ ring.learned → new.reductions ≡ ring.reductions + 1 → new.reduced_at ≡ ring.learned → SameImports ring new → AreUnmixed ring → attached v ≡ attached ring.watches → HasLemmas u new
+    reduced_lemmas new due are items now learned_is reductions_is at same unmixed watched = record {
       ordered = subst (AreOrdered u) (sym items) ordered_left;
       glued = λ c inside. (
           let there : Contains left c = subst (λ (cs : List Cref). Contains cs c) items inside in
@@ -351,6 +364,11 @@ module _ (s m u : PortState) (ring : Ring) (noted : NotedReduce s m) (listed : H
           (kept_among m steps lemmas left done.dropped done.choice c (subst (λ (cs : List Cref). Contains cs c) items member));
       count = (let none = ap (λ (cs : List (List Literal)). length cs) lately in omega (arith, learned_is, at, none));
       few = omega (arith, listed.few, due, reductions_is, at);
+      imported = subst (All (Contains (attached new.watches))) (sym same.imports) (subst (λ (cs : List Cref). All (Contains cs) ring.imports.items) (sym (now ∙ done.attached_now))
+          (In_All (Contains (without_all (attached v) done.dropped)) ring.imports.items (λ d m. stays_attached (attached v) done.dropped d
+          (subst (λ (cs : List Cref). Contains cs d) (sym watched) (All_In (Contains (attached ring.watches)) ring.imports.items d listed.imported m))
+          (λ e gone. unmixed e d (All_In (Contains lemmas) done.dropped e among (Contains_In done.dropped e gone)) (In_Contains ring.imports.items d m)))));
+      last = same.last_start ∙ listed.last ∙ sym (last_same s u start_same);
     }
       where
         held_left : (c : Cref) → Contains (attached w) c → held_at u c.address ≡ held_at s c.address

@@ -13,7 +13,7 @@ use Rattle.restart_plan.proofs.Restarting.{exact-more}
 use Rattle.ring_run.specs.Ended.{HasImported, IsInTime, polls_of}
 use Rattle.ring_run.specs.Strategy.{IsPaced}
 use Rattle.ring_run.specs.Searching.{GoesOn, Stands, HasLent, HoldsByGlue, IsAsserting, IsGlueOf}
-use Rattle.ring_run.specs.Course.{InSearch, HasLemmas, HasLeft, HasLearned, IsOffering, IsPolling, IsImporting, SumsUp, imports_of}
+use Rattle.ring_run.specs.Course.{WasShared, InSearch, HasLemmas, HasLeft, HasLearned, IsOffering, IsPolling, IsImporting, SumsUp, imports_of}
 use Rattle.ring_run.specs.Learning.{HasShared, HasAsked, HasLeftTidy, WasFollowed}
 use Rattle.ring_run.specs.declared.course.Next.{Next}
 use Rattle.ring_run.specs.declared.ring.Ring.{Ring}
@@ -112,6 +112,14 @@ module _ (s u : PortState) (old new : Ring) (lits : List Literal) (back glue lim
   pub asked_learned : new.learned ≡ old.learned + 1
   asked_learned = a.learned ∙ shared_count s v old mid lits glue address h
 
+  pub asked_shared : WasShared s v old new lits glue address
+  asked_shared = record {
+    middle = h.shared.middle;
+    learned = h.shared.learned;
+    lent = subst (λ (e : ℕ). HasLent h.shared.middle v address old.exported old.offered e new.offered) (sym a.offers.exported)
+        (subst (λ (o : ℕ). HasLent h.shared.middle v address old.exported old.offered mid.exported o) (sym a.offers.offered) h.shared.lent);
+  }
+
   pub asked_restarts : new.restarts ≡ asked (noted old.restarts glue)
   asked_restarts = a.restarts ∙ ap asked (shared_noted s v old mid lits glue address h)
 
@@ -154,6 +162,8 @@ module _ (s u : PortState) (old new : Ring) (lits : List Literal) (back glue lim
           trail = ap (λ (r : Ring). r.trail) h.ring;
           watches = ap (λ (r : Ring). r.watches) h.ring;
           lemmas = ap (λ (r : Ring). r.lemmas.items) h.ring;
+          imports = ap (λ (r : Ring). r.imports.items) h.ring;
+          last_start = ap (λ (r : Ring). r.last_start) h.ring;
           reductions = ap (λ (r : Ring). r.reductions) h.ring;
           reduced_at = ap (λ (r : Ring). r.reduced_at) h.ring;
           written = ap (λ (r : Ring). r.written) h.ring;
@@ -202,7 +212,7 @@ module _ (s u : PortState) (old new : Ring) (lits : List Literal) (back glue lim
         listed_learned s m u old new lits glue address search.clauses h.shared.learned
         (wrote.stays.start ∙ ap (λ (x : PortState). x.start) lent.state)
         (wrote.recent ∙ recent_still m v ring mine)
-        (record { lemmas = lists.0.lemmas; reductions = lists.0.reductions; reduced_at = lists.0.reduced_at }) lists.1 asked_learned
+        (record { lemmas = lists.0.lemmas; imports = lists.0.imports; last_start = lists.0.last_start; reductions = lists.0.reductions; reduced_at = lists.0.reduced_at }) lists.1 asked_learned
         h.kept alike (grown_then m v u (grown_none m v mine) wrote.grown) (wrote.reduced ∙ reductions_still m v ring mine)
         (λ long. (glue_bounds old.trail.steps lits glue counts long).0) q
 
@@ -210,12 +220,7 @@ module _ (s u : PortState) (old new : Ring) (lits : List Literal) (back glue lim
     asked_has_learned = record {
       address = address;
       between = v;
-      shared = record {
-        middle = h.shared.middle;
-        learned = h.shared.learned;
-        lent = subst (λ (e : ℕ). HasLent h.shared.middle v address old.exported old.offered e new.offered) (sym a.offers.exported)
-            (subst (λ (o : ℕ). HasLent h.shared.middle v address old.exported old.offered mid.exported o) (sym a.offers.offered) h.shared.lent);
-      };
+      shared = asked_shared;
       tidied = leaves.tidied;
       stored = stored_at s h.shared.middle u lits glue address h.shared.learned alike;
       restarts = asked_restarts;

@@ -1,8 +1,11 @@
 -- What comes from slots, one after another.
-use Rattle.std.proofs.Common.{◌≡◌, ◌∙◌, ℕ, List, [], ◌∷◌, ◌++◌, Contains, map, sym, subst, ap, arith, append-nil, append_assoc, length-append}
+use Rattle.std.proofs.Common.{◌≡◌, ◌∙◌, ℕ, List, [], ◌∷◌, ◌++◌, Contains, map, sym, subst, ap, arith, append-nil, append_assoc, length-append, inl, inr}
+use Rattle.std.specs.Prelude.{All}
 use Rattle.std.proofs.lemmas.List.{map-append}
 use Rattle.sat_words.specs.declared.shared.Cref.{Cref}
-use Rattle.rup_model.proofs.Lists.{Contains_In, In_Contains, In_append_left}
+use Rattle.rup_model.proofs.Lists.{Contains_In, In_Contains, In_append, In_append_left, In_append_right}
+use Rattle.ring_port.proofs.Holdings.{All_In}
+use Rattle.ring_port.proofs.LogSteps.{In_All}
 use Rattle.watch_prop.specs.WatchData.{attached}
 use Rattle.ring_port.specs.PortState.{PortState, Slot, Holding}
 use Rattle.ring_port.specs.Exchange.{TookClause, looked_into}
@@ -24,28 +27,31 @@ slots_begin s ring = record {
   held = sym (append-nil s.held);
   taken = sym (append-nil s.taken);
   clauses = sym (append-nil (attached ring.watches));
+  imports = sym (append-nil ring.imports.items);
 }
 
 -- a slot in which nothing was
-pub slots_none : (s u : PortState) (old new : Ring) (from class : ℕ) → u ≡ looked_into from class s → attached new.watches ≡ attached old.watches → TookSlots s u old new (slot from class ∷ [])
-slots_none s u old new from class is same = record {
+pub slots_none : (s u : PortState) (old new : Ring) (from class : ℕ) → u ≡ looked_into from class s → attached new.watches ≡ attached old.watches → new.imports.items ≡ old.imports.items → TookSlots s u old new (slot from class ∷ [])
+slots_none s u old new from class is same imports = record {
   polls = ap (λ (x : PortState). x.polls) is;
   came = [];
   few = omega arith;
   held = ap (λ (x : PortState). x.held) is ∙ sym (append-nil s.held);
   taken = ap (λ (x : PortState). x.taken) is ∙ sym (append-nil s.taken);
   clauses = same ∙ sym (append-nil (attached old.watches));
+  imports = imports ∙ sym (append-nil old.imports.items);
 }
 
--- and one in which a clause was, that is attached
-pub slots_one : (s u : PortState) (old new : Ring) (from class : ℕ) (c : Cref) → TookClause s u from class c → attached new.watches ≡ attached old.watches ++ c ∷ [] → TookSlots s u old new (slot from class ∷ [])
-slots_one s u old new from class c took more = record {
+-- and one in which a clause was, that is attached and listed
+pub slots_one : (s u : PortState) (old new : Ring) (from class : ℕ) (c : Cref) → TookClause s u from class c → attached new.watches ≡ attached old.watches ++ c ∷ [] → new.imports.items ≡ old.imports.items ++ c ∷ [] → TookSlots s u old new (slot from class ∷ [])
+slots_one s u old new from class c took more imports = record {
   polls = ap (λ (x : PortState). x.polls) took.state;
   came = took.clause ∷ [];
   few = omega arith;
   held = ap (λ (x : PortState). x.held) took.state;
   taken = ap (λ (x : PortState). x.taken) took.state ∙ ap (λ (a : ℕ). s.taken ++ a ∷ []) (sym took.address);
   clauses = more ∙ ap (λ (a : ℕ). attached old.watches ++ record { address = a } ∷ []) (sym took.address);
+  imports = imports ∙ ap (λ (a : ℕ). old.imports.items ++ record { address = a } ∷ []) (sym took.address);
 }
 
 joined : {A : Type 0} (old middle new xs ys : List A) → middle ≡ old ++ xs → new ≡ middle ++ ys → new ≡ old ++ (xs ++ ys)
@@ -62,6 +68,8 @@ slots_then s m u old between new xs ys slots p q is = subst (TookSlots s u old n
       ∙ ap (λ (ns : List ℕ). s.taken ++ ns) (sym (map-append (λ (h : Holding). h.address) p.came q.came));
   clauses = joined (attached old.watches) (attached between.watches) (attached new.watches) (crefs_of p.came) (crefs_of q.came) p.clauses q.clauses
       ∙ ap (λ (cs : List Cref). attached old.watches ++ cs) (sym (map-append (λ (h : Holding). record { address = h.address }) p.came q.came));
+  imports = joined old.imports.items between.imports.items new.imports.items (crefs_of p.came) (crefs_of q.came) p.imports q.imports
+      ∙ ap (λ (cs : List Cref). old.imports.items ++ cs) (sym (map-append (λ (h : Holding). record { address = h.address }) p.came q.came));
 })
 
 pub slots_as : (s u : PortState) (old new : Ring) (xs slots : List Slot) → xs ≡ slots → TookSlots s u old new xs → TookSlots s u old new slots
@@ -72,3 +80,12 @@ pub slots_more : (s u : PortState) (old new : Ring) (slots : List Slot) → Took
 slots_more s u old new slots p d there =
     subst (λ (cs : List Cref). Contains cs d) (sym p.clauses)
     (In_Contains (attached old.watches ++ crefs_of p.came) d (In_append_left (attached old.watches) (crefs_of p.came) d (Contains_In (attached old.watches) d there)))
+
+-- what is listed stays attached, and so is what came
+pub slots_imports : (s u : PortState) (old new : Ring) (slots : List Slot) → TookSlots s u old new slots → All (Contains (attached old.watches)) old.imports.items → All (Contains (attached new.watches)) new.imports.items
+slots_imports s u old new slots p member =
+    subst (All (Contains (attached new.watches))) (sym p.imports) (In_All (Contains (attached new.watches)) (old.imports.items ++ crefs_of p.came) (λ d m.
+    elim (In_append old.imports.items (crefs_of p.came) d m) as (λ _. Contains (attached new.watches) d) [
+      | inl before ↦ slots_more s u old new slots p d (All_In (Contains (attached old.watches)) old.imports.items d member before)
+      | inr came ↦ subst (λ (cs : List Cref). Contains cs d) (sym p.clauses) (In_Contains (attached old.watches ++ crefs_of p.came) d (In_append_right (attached old.watches) (crefs_of p.came) d came))
+    ]))

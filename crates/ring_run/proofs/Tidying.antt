@@ -18,7 +18,7 @@ use Rattle.rup_model.specs.Opening.{IsNew, adds_unit}
 use Rattle.rup_model.proofs.Additions.{additions-append}
 use Rattle.rup_model.proofs.Sequences.{each_both}
 use Rattle.ring_port.specs.PortState.{PortState, Holding, IsPort, held_at}
-use Rattle.ring_port.specs.Deleting.{deletions, TidiedUpTo, Tidied}
+use Rattle.ring_port.specs.Deleting.{deletions, TidiedUpTo, TidiedSome, Tidied}
 use Rattle.ring_port.specs.Log.{KeepsLog}
 use Rattle.ring_port.specs.declared.stops.PortStop.{PortStop}
 use Rattle.ring_port.specs.declared.stops.PortStop.TheVariants.{Ended, Broken, ProofFault, NoHole, Memory}
@@ -234,6 +234,10 @@ tidied_waiting s u (Err stop) w = tt
 pub tidied_lines : (s u : PortState) (r : Result (Unit {0}) PortStop) → Tidied s u r → OnOk r (TidiedUpTo s u (length s.waiting))
 tidied_lines s u (Ok done) w = w
 tidied_lines s u (Err stop) w = tt
+
+pub tidied_some : (s u : PortState) (r : Result (Unit {0}) PortStop) → Tidied s u r → IfErr r (TidiedSome s u)
+tidied_some s u (Ok done) w = tt
+tidied_some s u (Err stop) w = w
 
 pub tidied_wrote : (s u : PortState) (r : Result (Unit {0}) PortStop) → Tidied s u r → KeepsLog s u → OnOk r (OnlyWrote s u)
 tidied_wrote s u (Ok done) w log =

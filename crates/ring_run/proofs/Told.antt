@@ -1,6 +1,6 @@
 -- Lines of units, one after another, and nothing else.
 use Rattle.std.proofs.Common.{◌≡◌, ◌∙◌, ℕ, List, [], ◌∷◌, ◌++◌, sym, subst, ap, refl, Ok, Err, append-nil, append_assoc}
-use Rattle.std.specs.Prelude.{All, OnOk}
+use Rattle.std.specs.Prelude.{All, OnOk, IfErr}
 use Rattle.std.specs.declared.result.Result.{Result}
 use Rattle.std.proofs.lemmas.List.Elements.{All-append, All-cons, All-nil}
 use Rattle.sat_words.specs.Literal.{Literal}
@@ -10,6 +10,8 @@ use Rattle.ring_port.specs.PortState.{PortState}
 use Rattle.ring_port.specs.Port.{WroteUnit, UnitWritten, entry_of}
 use Rattle.ring_port.specs.declared.stops.PortStop.{PortStop}
 use Rattle.ring_run.specs.Searching.{IsLineOfUnit, ToldUnits}
+use Rattle.ring_run.specs.Ending.{HaltsTelling, end_refused}
+use Rattle.ring_run.specs.declared.job.End.{End}
 
 pub units_none : (s : PortState) → ToldUnits s s
 units_none s = record { entries = []; units = All-nil (IsLineOfUnit s.ring); mine = sym (append-nil s.mine); state = refl }
@@ -36,3 +38,12 @@ units_then s m u p q = record {
   mine = q.mine ∙ ap (λ (J : List Entry). J ++ q.entries) p.mine ∙ append_assoc s.mine p.entries q.entries;
   state = q.state ∙ ap (λ (x : PortState). record x { seen = u.seen; kept = u.kept; caught_up = u.caught_up; mine = u.mine; output = u.output }) p.state;
 }
+
+-- the call was refused
+pub units_halted : (s u : PortState) (l : Literal) (r : Result (Unit {0}) PortStop) → UnitWritten s u l r → IfErr r (λ stop. HaltsTelling s u (end_refused stop))
+units_halted s u l (Ok done) w = tt
+units_halted s u l (Err stop) w = (s, units_none s, (stop, w, refl))
+
+-- and so was one after lines that were written
+pub halted_then : (s m u : PortState) (end : End) → ToldUnits s m → HaltsTelling m u end → HaltsTelling s u end
+halted_then s m u end p q = (q.0, units_then s m q.0 p q.1, q.2)

@@ -12,8 +12,9 @@ use Rattle.ring_port.proofs.LogSteps.{In_All}
 use Rattle.watch_prop.specs.WatchData.{attached}
 use Rattle.reduce_db.specs.Lemmas.{AreDistinct}
 use Rattle.ring_run.specs.Course.{HasLemmas, AreOrdered}
-use Rattle.ring_run.specs.Renewal.{Point, TookLemma, TookEach, TookPlace, IsResting, KeepsOthers, TookAll, IsLeft, in_place, behind}
+use Rattle.ring_run.specs.Renewal.{AreUnmixed, Point, TookLemma, TookEach, TookPlace, IsResting, KeepsOthers, TookAll, IsLeft, in_place, behind}
 use Rattle.ring_run.specs.declared.ring.Ring.{Ring}
+use Rattle.ring_run.proofs.Listing.{SameImports, last_same}
 use Rattle.ring_run.proofs.Resting.{held_member}
 use Rattle.ring_run.specs.declared.vivification.AfterVivify.{AfterVivify}
 use Rattle.ring_run.specs.declared.vivification.AfterVivify.TheVariants.{Unchanged, Replaced}
@@ -145,6 +146,15 @@ one_turned p q r before between after i place next lt t k =
       short = k.short;
     }
 
+-- the lemma at the place is the first of those that had no turn
+pub cut_turned : (p q : Point) (before between : List Cref) (i place : ℕ) (c : Cref) → i < length before → AreTurned p q before between i place → drop place between ≡ c ∷ drop (place + 1) between → before ≡ take i before ++ c ∷ drop (suc i) before
+cut_turned p q before between i place c lt t there =
+    let d : Cref = slice_index_or before i (record { address = 0 }) in
+    let front : drop i before ≡ d ∷ drop (suc i) before = drop_at i before (record { address = 0 }) lt in
+    let both : (d ∷ (drop (suc i) before ++ t.shorter)) ≡ (c ∷ drop (place + 1) between) = ap (λ (xs : List Cref). xs ++ t.shorter) (sym front) ∙ sym t.rest ∙ there in
+    let same : d ≡ c = heads d c (drop (suc i) before ++ t.shorter) (drop (place + 1) between) both in
+    sym (both_parts i before) ∙ ap (λ (xs : List Cref). take i before ++ xs) (front ∙ ap (λ (x : Cref). x ∷ drop (suc i) before) same)
+
 drop_end : (n : ℕ) (xs : List Cref) → length xs ≤ n → drop n xs ≡ []
 drop_end zero [] h = refl
 drop_end zero (x ∷ xs) h = absurd (omega arith)
@@ -193,7 +203,7 @@ record IsListed (s u : PortState) (new : Ring) (d : Cref) : Type 0 where
 
 module _ (s u : PortState) (old new : Ring) (c : Cref) (place : ℕ) (p : HasLemmas s old) (rests : IsResting s old) (k : KeepsOthers s u old.watches new.watches c)
     (there : drop place old.lemmas.items ≡ c ∷ drop (place + 1) old.lemmas.items)
-    (start : u.start ≡ s.start) (lately : recent u.ring u.mine ≡ []) (learned : new.learned ≡ old.learned) (reductions : new.reductions ≡ old.reductions) (at : new.reduced_at ≡ old.reduced_at) where
+    (start : u.start ≡ s.start) (lately : recent u.ring u.mine ≡ []) (learned : new.learned ≡ old.learned) (reductions : new.reductions ≡ old.reductions) (at : new.reduced_at ≡ old.reduced_at) (same : SameImports old new) (unmixed : AreUnmixed old) where
   abbrev front : List Cref
   front = take place old.lemmas.items
 
@@ -231,6 +241,9 @@ module _ (s u : PortState) (old new : Ring) (c : Cref) (place : ℕ) (p : HasLem
     glued = glue_kept (held_at u d.address) (held_at s d.address) (held_as d m) (p.glued d (In_Contains old.lemmas.items d (in_before d m)));
   }
 
+  own_lemma : Contains old.lemmas.items c
+  own_lemma = In_Contains old.lemmas.items c (subst (In c) (sym split) (In_append_right front (c ∷ back) c (inl refl)))
+
   listed_by : (cs : List Cref) → new.lemmas.items ≡ cs → AreDistinct cs → ((d : Cref) → In d cs → IsListed s u new d) → AreOrdered u cs → HasLemmas u new
   listed_by cs items distinct each ordered = record {
     ordered = subst (AreOrdered u) (sym items) ordered;
@@ -243,6 +256,9 @@ module _ (s u : PortState) (old new : Ring) (c : Cref) (place : ℕ) (p : HasLem
         let before = ap (λ (cs : List (List Literal)). length cs) rests.lately in
         omega (arith, p.count, learned, at, many, before));
     few = omega (arith, p.few, reductions, at);
+    imported = subst (All (Contains (attached new.watches))) (sym same.imports)
+        (In_All (Contains (attached new.watches)) old.imports.items (λ d m. k.others d (All_In (Contains (attached old.watches)) old.imports.items d p.imported m) (λ e. unmixed c d own_lemma (In_Contains old.imports.items d m) (sym e))));
+    last = same.last_start ∙ p.last ∙ sym (last_same s u start);
   }
 
   -- if the lemma is left
@@ -280,6 +296,22 @@ module _ (s u : PortState) (old new : Ring) (c : Cref) (place : ℕ) (p : HasLem
   pub gone_listed : new.lemmas.items ≡ front ++ back → HasLemmas u new
   gone_listed items = listed_by (front ++ back) items (distinct_without front back c distinct_before) listed_before (ordered_kept s u (front ++ back) held_as (k.grown) ordered_before)
 
+  pub gone_unmixed : new.lemmas.items ≡ front ++ back → AreUnmixed new
+  gone_unmixed items d e inside import =
+      unmixed d e (In_Contains old.lemmas.items d (in_before d (Contains_In (front ++ back) d (subst (λ (xs : List Cref). Contains xs d) items inside))))
+      (subst (λ (xs : List Cref). Contains xs e) same.imports import)
+
+  -- imports are held, and no clause was at the address of a shorter one
+  pub other_unmixed : (d : Cref) → new.lemmas.items ≡ (front ++ back) ++ d ∷ [] → IsLeft s u new.watches c (Replaced d) → AreUnmixed new
+  other_unmixed d items left x e inside import =
+      let before : Contains old.imports.items e = subst (λ (xs : List Cref). Contains xs e) same.imports import in
+      elim (In_append (front ++ back) (d ∷ []) x (Contains_In ((front ++ back) ++ d ∷ []) x (subst (λ (xs : List Cref). Contains xs x) items inside))) as (λ _. x.address ≢ e.address) [
+        | inl old_one ↦ unmixed x e (In_Contains old.lemmas.items x (in_before x old_one)) before
+        | inr (inl is) ↦ (λ q. none_free (held_at s d.address) (subst (λ (a : ℕ). IsSome (held_at s a)) (sym (ap (λ (y : Cref). y.address) is ∙ q))
+            (held_member s old e rests (All_In (Contains (attached old.watches)) old.imports.items e p.imported (Contains_In old.imports.items e before)))) left.free)
+        | inr (inr none) ↦ absurd none
+      ]
+
   -- if a shorter clause is
   pub other_listed : (d : Cref) → new.lemmas.items ≡ (front ++ back) ++ d ∷ [] → IsLeft s u new.watches c (Replaced d) → ((h : Holding) → Contains s.start h → IsSome (held_at s h.address)) → HasLemmas u new
   other_listed d items left starts =
@@ -297,6 +329,9 @@ module _ (s u : PortState) (old new : Ring) (c : Cref) (place : ℕ) (p : HasLem
         })
         | inr (inr none) ↦ absurd none
       ]
+
+pub unmixed_same : (old new : Ring) → new.lemmas.items ≡ old.lemmas.items → new.imports.items ≡ old.imports.items → AreUnmixed old → AreUnmixed new
+unmixed_same old new lemmas imports p c d inside import = p c d (subst (λ (xs : List Cref). Contains xs c) lemmas inside) (subst (λ (xs : List Cref). Contains xs d) imports import)
 
 -- the lemma kept its place, or lost it
 pub same_place : (p q : Point) (before after : List Cref) (c : Cref) (place : ℕ) → place < length before → drop place before ≡ c ∷ drop (place + 1) before → after ≡ before

@@ -1,5 +1,5 @@
 -- What a ring has while it searches, and what each step of the search comes to.
-use Rattle.std.specs.Prelude.{◌≡◌, ◌≢◌, ◌⊎◌, ℕ, ◌+◌, ◌*◌, ◌<◌, ◌≤◌, true, false, if◌then◌else◌, List, [], ◌∷◌, ◌++◌, map, take, length, All, Contains, Option, Some, Ok, ⊤, IfSome}
+use Rattle.std.specs.Prelude.{◌≡◌, ◌≢◌, ◌⊎◌, ℕ, max, fold, ◌+◌, ◌*◌, ◌<◌, ◌≤◌, true, false, if◌then◌else◌, List, [], ◌∷◌, ◌++◌, map, take, length, All, Contains, Option, Ok, ⊤, IfSome}
 use Rattle.std.specs.Option.{option_to_list, option_map_or}
 use Rattle.sat_words.specs.Literal.{Literal}
 use Rattle.sat_words.specs.declared.shared.Cref.{Cref}
@@ -16,15 +16,16 @@ use Rattle.watch_prop.specs.WatchData.{WatchData, attached}
 use Rattle.watch_prop.specs.Watched.{Watched}
 use Rattle.watch_prop.specs.Propagation.{HasReasons, IsClosedBelow}
 use Rattle.analyze.specs.Lemma.{IsLemma}
+use Rattle.analyze.specs.Levels.{clause_level}
 use Rattle.vivify.specs.Outcome.{glue_at}
 use Rattle.restart_plan.specs.Luby.{luby_sum}
 use Rattle.restart_plan.specs.Plan.{Restarting, luby_unit}
 use Rattle.ring_run.specs.Ended.{HasLooked, HasOffered, HasPolled, polls_of, HasImported, ImportsBy, IsTidy, IsInTime, last_looks, reductions}
 use Rattle.ring_run.specs.Searching.{HasClauses, Stands, OpeningSeen, AreTold, GoesOn, IsAsserting, IsGlueOf, HasLent, HasTold}
 use Rattle.ring_run.specs.Strategy.{saved_above}
-use Rattle.ring_run.specs.Ending.{EndsBy, IsRefusal}
+use Rattle.ring_run.specs.Ending.{EndsBy, IsRefusal, EndsRefused, WroteEmpty, HaltsDeleting}
 use Rattle.ring_run.specs.declared.job.End.{End}
-use Rattle.ring_run.specs.declared.job.End.TheVariants.{Sat, Spent, Stopped}
+use Rattle.ring_run.specs.declared.job.End.TheVariants.{Sat, Spent, Stopped, Memory}
 use Rattle.ring_run.specs.declared.ring.Ring.{Ring}
 use Rattle.ring_run.specs.declared.course.Next.{Next}
 use Rattle.ring_run.specs.declared.course.Next.TheVariants.{Go, Finish}
@@ -74,9 +75,11 @@ pub record CanAssert (t : TrailData) (lits : List Literal) (back : ℕ) : Type 0
   pub on : first.var ≤ t.vars
   pub free : (v : TrailData) → WentBack t v back → HasNoPlace v.steps first.var
 
--- the clause joins the lemmas if it has an address, and no reduction is counted
+-- the clause joins the lemmas if it has an address, and no import is listed or left out; no reduction is counted
 pub record Lists (old new : Ring) (address : Option Cref) : Type 0 where
   pub lemmas : new.lemmas.items ≡ old.lemmas.items ++ option_to_list address
+  pub imports : new.imports.items ≡ old.imports.items
+  pub last_start : new.last_start ≡ old.last_start
   pub reductions : new.reductions ≡ old.reductions
   pub reduced_at : new.reduced_at ≡ old.reduced_at
 
@@ -140,13 +143,32 @@ pub record HasLearned (s u : PortState) (old new : Ring) (lits : List Literal) (
   -- where one was due the trail is at level 0, else at the lemma's level with its first literal true
   pub left : HasLeft u (record old { import_due = new.import_due }) new lits back address
 
+-- as many lemmas and restarts are counted as before
+pub record CountsAlike (old new : Ring) : Type 0 where
+  pub learned : new.learned ≡ old.learned
+  pub restarts : new.restarts ≡ old.restarts
+
+-- the lemma was learned and offered if it has a class, its glue was noted, and it was asked whether a restart is due; then the run came
+-- to its end where the clauses that waited were deleted
+pub record HaltsBehind (s u : PortState) (old new : Ring) (lits : List Literal) (glue : ℕ) (end : End) : Type 0 where
+  pub address : Option Cref
+  pub between : PortState
+  pub shared : WasShared s between old new lits glue address
+  pub deleting : HaltsDeleting between u end
+  pub learned : new.learned ≡ old.learned + 1
+  pub restarts : new.restarts ≡ asked (noted old.restarts glue)
+
+-- the call that learns was refused, or it was made and what came after it ended the run
+abbrev pub HaltsLearning : PortState → PortState → Ring → Ring → List Literal → (glue : ℕ) → End → Type 0
+HaltsLearning s u old new lits glue end = (EndsRefused s u end × CountsAlike old new) ⊎ HaltsBehind s u old new lits glue end
+
 -- what learning a lemma came to: it is no model and no stop of another
 abbrev pub LearnsTo : PortState → PortState → Ring → Ring → List Literal → (back glue : ℕ) → Next → Type 0
 LearnsTo s u old new lits back glue Go = HasLearned s u old new lits back glue
 LearnsTo s u old new lits back glue (Finish Spent) = HasSpent s u old new lits glue
 LearnsTo s u old new lits back glue (Finish (Sat a)) = ⊥
 LearnsTo s u old new lits back glue (Finish (Stopped x)) = ⊥
-LearnsTo s u old new lits back glue (Finish end) = ⊤
+LearnsTo s u old new lits back glue (Finish end) = HaltsLearning s u old new lits glue end
 
 -- the lemma of the conflict with this clause was learned: it is new, and its glue is how many levels its literals but the first have
 pub record LearnedFrom (s u : PortState) (old new : Ring) (conflict : Cref) (lits : List Literal) (course : Next) : Type 0 where
@@ -157,13 +179,20 @@ pub record LearnedFrom (s u : PortState) (old new : Ring) (conflict : Cref) (lit
   pub counted : IsGlueOf old.trail.steps lits glue
   pub learned : LearnsTo s u old new lits back glue course
 
--- what came of a conflict, where the search goes on or the ring is spent; it is no model and no stop of another
+-- how a conflict ended the run: its clause is false at level 0, and the empty clause was to be written; or there was no memory; or the
+-- lemma was to be learned
+abbrev pub HaltsAtConflict : PortState → PortState → Ring → Ring → Cref → List Literal → End → Type 0
+HaltsAtConflict s u old new conflict lits end =
+    ((clause_level old.trail.steps (lits_at s conflict.address) ≡ 0) × WroteEmpty s u end × CountsAlike old new)
+    ⊎ (((u ≡ s) × (end ≡ Memory) × CountsAlike old new) ⊎ LearnedFrom s u old new conflict lits (Finish end))
+
+-- what came of a conflict; it is no model and no stop of another
 abbrev pub LearnsFrom : PortState → PortState → Ring → Ring → Cref → List Literal → Next → Type 0
 LearnsFrom s u old new conflict lits Go = LearnedFrom s u old new conflict lits Go
 LearnsFrom s u old new conflict lits (Finish Spent) = LearnedFrom s u old new conflict lits (Finish Spent)
 LearnsFrom s u old new conflict lits (Finish (Sat a)) = ⊥
 LearnsFrom s u old new conflict lits (Finish (Stopped x)) = ⊥
-LearnsFrom s u old new conflict lits (Finish end) = ⊤
+LearnsFrom s u old new conflict lits (Finish end) = HaltsAtConflict s u old new conflict lits end
 
 -- a literal was decided that the decider may choose; except for what is counted as told nothing else of the ring changed
 pub record HasDecided (old new : Ring) : Type 0 where
@@ -176,15 +205,6 @@ pub record HasDecided (old new : Ring) : Type 0 where
 pub record DecidedNext (s u : PortState) (old new : Ring) : Type 0 where
   pub told : HasTold s u
   pub decided : HasDecided old new
-
--- what a step comes to that doesn't learn: after a look and the lines of units a model may be found, or the look found a stop and
--- nothing was done
-abbrev pub EndsQuietly : PortState → PortState → Next → Type 0
-EndsQuietly s u Go = ⊤
-EndsQuietly s u (Finish Spent) = ⊥
-EndsQuietly s u (Finish (Sat a)) = HasTold s u
-EndsQuietly s u (Finish (Stopped x)) = u ≡ record s { stop = Some x }
-EndsQuietly s u (Finish end) = ⊤
 
 -- the search goes on, or a call was refused or the clauses refuted
 abbrev pub IsOnOrRefused : Next → Type 0
@@ -262,9 +282,17 @@ number_at s a = option_map_or (λ (h : Holding). h.number) (held_at s a) 0
 abbrev pub AreOrdered : PortState → List Cref → Type 0
 AreOrdered s cs = IsInOrder (numbers s) (map (λ (c : Cref). number_at s c.address) cs)
 
+-- the greatest address of the clauses, or 0
+abbrev pub last_of : List Cref → ℕ
+last_of cs = fold (λ (last : ℕ) (c : Cref). max last c.address) 0 cs
+
+-- the greatest address of a start clause, or 0
+abbrev pub last_start : PortState → ℕ
+last_start s = last_of (map (λ (h : Holding). record { address = h.address }) s.start)
+
 -- no two lemmas are at the same address, each is attached, and none is at the address of a start clause; they stand in the
 -- order of their lines, and the glue of each is one at least; the lemmas learned since the ring last reduced them are
--- counted, and so are the reductions
+-- counted, and so are the reductions; each import is attached, and where the start clauses end is known
 pub record HasLemmas (s : PortState) (ring : Ring) : Type 0 where
   pub ordered : AreOrdered s ring.lemmas.items
   pub glued : (c : Cref) → Contains ring.lemmas.items c → 1 ≤ glue_at s c.address
@@ -274,6 +302,8 @@ pub record HasLemmas (s : PortState) (ring : Ring) : Type 0 where
   pub apart : (h : Holding) (c : Cref) → Contains s.start h → Contains ring.lemmas.items c → c.address ≢ h.address
   pub count : ring.learned ≡ ring.reduced_at + length (recent s.ring s.mine)
   pub few : ring.reductions ≤ ring.reduced_at
+  pub imported : All (Contains (attached ring.watches)) ring.imports.items
+  pub last : ring.last_start ≡ last_start s
 
 -- where it was so before
 abbrev pub KeepsLemmas : PortState → Ring → PortState → Ring → Type 0
@@ -342,3 +372,8 @@ SumsUp r = r.odd ≡ true → luby_unit * luby_sum r.made + r.since ≡ r.count
 -- if what is counted as offered was true, it still is
 abbrev pub KeepsOffering : PortState → Ring → PortState → Ring → Type 0
 KeepsOffering old before new ring = IsOffering old before → IsOffering new ring
+
+-- if the step came to an end it came so
+abbrev pub HaltsBy : (End → Type 0) → Next → Type 0
+HaltsBy how Go = ⊤
+HaltsBy how (Finish end) = how end

@@ -1,11 +1,14 @@
 -- How a run comes to its end.
-use Rattle.std.specs.Prelude.{◌≡◌, ℕ, ◌<◌, None, Result, IfSome, ⊤}
+use Rattle.std.specs.Prelude.{◌≡◌, ◌⊎◌, ℕ, ◌<◌, length, Option, None, Some, IfSome, ⊤}
 use Rattle.ring_port.specs.PortState.{PortState}
-use Rattle.ring_port.specs.Port.{EmptyWritten}
+use Rattle.sat_words.specs.declared.shared.Set.{Set}
+use Rattle.sat_words.specs.declared.shared.Set.TheVariants.{Won, Lost}
+use Rattle.ring_port.specs.Port.{EndedLog, Refused, SetStop}
+use Rattle.ring_port.specs.Deleting.{TidiedUpTo, TidiedSome}
 use Rattle.ring_port.specs.declared.stops.PortStop.{PortStop}
 use Rattle.ring_port.specs.declared.stops.PortStop.TheVariants as answer
 use Rattle.ring_run.specs.Ended.{Cause, stop_kind}
-use Rattle.ring_run.specs.Searching.{Runs, GoesOn}
+use Rattle.ring_run.specs.Searching.{Runs, GoesOn, ToldUnits}
 use Rattle.ring_run.specs.declared.job.End.{End}
 use Rattle.ring_run.specs.declared.job.End.TheVariants.{Sat, Refuted, Spent, Stopped, NoHole, ProofFault, Memory}
 
@@ -51,10 +54,32 @@ EndsBy old before new count limit end = (start : PortState) → GoesOn start old
 abbrev pub EndsAt : PortState → PortState → End → Type 0
 EndsAt old new end = (count limit : ℕ) → count < limit → EndsBy old count new count limit end
 
--- the call that writes the empty clause was made, and nothing else
-abbrev pub WroteEmpty : PortState → PortState → Type 0
-WroteEmpty old new = (answered : Result (Unit {0}) PortStop) × EmptyWritten old new answered
+-- a call was refused, which is the end, and nothing else was done; want of memory leaves the port as it was
+abbrev pub EndsRefused : PortState → PortState → End → Type 0
+EndsRefused old new end = (stop : PortStop) × Refused old new stop × (end ≡ end_refused stop)
+
+-- the call that writes the empty clause was made, and nothing else; if it was refused that is the end
+abbrev pub WroteEmpty : PortState → PortState → End → Type 0
+WroteEmpty old new end = (EndedLog old new × (end ≡ Refuted)) ⊎ EndsRefused old new end
+
+-- lines of units were written, then the call that writes the next was refused, and nothing else was done
+abbrev pub HaltsTelling : PortState → PortState → End → Type 0
+HaltsTelling old new end = (middle : PortState) × ToldUnits old middle × EndsRefused middle new end
+
+-- the call that deletes what waited was made, and nothing else: it was refused, or there was no memory left after it
+abbrev pub HaltsDeleting : PortState → PortState → End → Type 0
+HaltsDeleting old new end = ((stop : PortStop) × TidiedSome old new stop × (end ≡ end_refused stop)) ⊎ (TidiedUpTo old new (length old.waiting) × (end ≡ Memory))
 
 -- every run goes on as it was
 abbrev pub KeepsRuns : PortState → PortState → Type 0
 KeepsRuns old new = (start : PortState) (count : ℕ) → Runs start old count → Runs start new count
+
+-- the end once its stop was to be set: another ring's that stands is the end
+abbrev pub end_set : End → Set → End
+end_set end Won = end
+end_set end (Lost x) = Stopped x
+
+-- the stop of an end was set, if it sets one, and nothing else was done; if another ring's stands, that is the end
+abbrev pub SetsStop : PortState → PortState → Option ℕ → (found end : End) → Type 0
+SetsStop old new None found end = (new ≡ old) × (end ≡ found)
+SetsStop old new (Some kind) found end = (answered : Set) × SetStop old new kind answered × (end ≡ end_set found answered)

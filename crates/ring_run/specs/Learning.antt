@@ -9,7 +9,7 @@ use Rattle.ring_port.specs.Deleting.{TidiedUpTo}
 use Rattle.ring_port.specs.declared.stops.PortStop.{PortStop}
 use Rattle.restart_plan.specs.Plan.{noted, asked, is_due}
 use Rattle.ring_run.specs.Searching.{KeepsOn, OffersNothing, OnlyWrote}
-use Rattle.ring_run.specs.Ending.{EndsAt, IsRefusal, end_refused}
+use Rattle.ring_run.specs.Ending.{EndsAt, IsRefusal, HaltsDeleting, end_refused}
 use Rattle.ring_run.specs.Course.{WasShared, HasLeft, AreSameOffers}
 use Rattle.ring_run.specs.declared.job.End.TheVariants.{Spent}
 use Rattle.ring_run.specs.declared.ring.Ring.{Ring}
@@ -48,10 +48,10 @@ pub record HasLeftTidy (s u : PortState) (old new : Ring) (lits : List Literal) 
   pub tidied : TidiedUpTo s u (length s.waiting)
   pub left : HasLeft u (record old { import_due = new.import_due }) new lits back address
 
--- so it was where the search goes on; else a call was refused, or there was no memory
+-- so it was where the search goes on; else the call that deletes was refused, or there was no memory after it
 abbrev pub LeavesBy : PortState → PortState → Ring → Ring → List Literal → (back : ℕ) → Option Cref → Next → Type 0
 LeavesBy s u old new lits back address Go = HasLeftTidy s u old new lits back address
-LeavesBy s u old new lits back address (Finish end) = EndsAt s u end × IsRefusal end
+LeavesBy s u old new lits back address (Finish end) = EndsAt s u end × IsRefusal end × HaltsDeleting s u end
 
 -- what comes after a lemma that isn't the last
 pub record HasFinished (s u : PortState) (old new : Ring) (lits : List Literal) (back : ℕ) (address : Option Cref) (course : Next) : Type 0 where

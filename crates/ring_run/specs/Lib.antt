@@ -5,4 +5,5 @@ pub mod Strategy
 pub mod Course
 pub mod Learning
 pub mod Renewal
+pub mod Halting
 pub mod Turn

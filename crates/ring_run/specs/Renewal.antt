@@ -1,5 +1,5 @@
 -- What a ring does after a restart: it reduces its lemmas, makes some shorter, and imports.
-use Rattle.std.specs.Prelude.{◌≡◌, ℕ, ◌+◌, ◌-◌, ◌<◌, ◌≤◌, ◌⊎◌, true, false, List, [], ◌∷◌, ◌++◌, map, take, drop, length, Contains, None, IsSome, ◌≢◌, ⊤}
+use Rattle.std.specs.Prelude.{◌≡◌, ℕ, ◌+◌, ◌-◌, ◌<◌, ◌≤◌, ◌⊎◌, true, false, List, [], ◌∷◌, ◌++◌, map, take, drop, length, sum, All, Contains, None, IsSome, ◌≢◌, ⊤}
 use Rattle.sat_words.specs.Literal.{Literal}
 use Rattle.sat_words.specs.Clause.{has}
 use Rattle.sat_words.specs.declared.shared.Cref.{Cref}
@@ -11,14 +11,15 @@ use Rattle.ring_trail.specs.TrailData.{TrailData, IsTrail, HasGrown, HasNoPlace,
 use Rattle.watch_prop.specs.WatchData.{WatchData, attached}
 use Rattle.watch_prop.specs.Propagation.{IsQuiet}
 use Rattle.reduce_db.specs.Moment.{lemmas_before}
+use Rattle.reduce_db.specs.Lemmas.{AreDistinct, AreToldApart}
 use Rattle.reduce_db.specs.Reduction.{WasReduced}
 use Rattle.vivify.specs.Outcome.{glue_at, IsVivified}
 use Rattle.vivify.specs.declared.shorten.Vivified.{Vivified}
 use Rattle.vivify.specs.declared.shorten.Vivified.TheVariants.{Kept, Shorter, Unit, Empty}
 use Rattle.ring_run.specs.Ended.{IsHalted, import_slots, last_looks, reductions}
-use Rattle.ring_run.specs.Searching.{OnlySaw, OnlyPolled, OnlyWrote, ToldUnits, HasTold, HasGrownLog, AreTold}
+use Rattle.ring_run.specs.Searching.{OpeningSeen, Stands, OnlySaw, OnlyPolled, OnlyWrote, ToldUnits, HasTold, HasGrownLog, AreTold}
 use Rattle.ring_run.specs.Ending.{EndsAt, IsRefusal}
-use Rattle.ring_run.specs.Course.{InSearch, numbers, number_at, AreOrdered}
+use Rattle.ring_run.specs.Course.{InSearch, last_start, numbers, number_at, AreOrdered}
 use Rattle.ring_run.specs.declared.vivification.AfterVivify.{AfterVivify}
 use Rattle.ring_run.specs.declared.vivification.AfterVivify.TheVariants.{Unchanged, Replaced, Gone}
 use Rattle.ring_run.specs.declared.job.End.{End}
@@ -31,10 +32,40 @@ abbrev pub IsDue : Ring → Type 0
 IsDue ring = lemmas_before (ring.reductions + 1) ≤ ring.learned - ring.reduced_at
 
 -- the Reduce entry was written, and then half of the lemmas that may be dropped were; the reduction is counted
-pub record HasReduced (old new : PortState) (before after : Ring) : Type 0 where
+pub record HasReducedLemmas (old new : PortState) (before after : Ring) : Type 0 where
   pub noted : PortState
   pub entry : NotedReduce old noted
   pub reduced : WasReduced noted new before.watches after.watches before.trail.steps before.lemmas.items after.lemmas.items
+  pub counted : after.reductions ≡ before.reductions + 1
+  pub since : after.reduced_at ≡ before.learned
+
+-- half of the imports that may be dropped were; the vector of watchers is closed up
+pub record HasReducedImports (old new : PortState) (before after : Ring) : Type 0 where
+  pub reduced : WasReduced old new before.watches after.watches before.trail.steps before.imports.items after.imports.items
+  pub closed : after.watches.size ≡ sum after.watches.rooms
+
+-- no import is at a lemma's address
+abbrev pub AreUnmixed : Ring → Type 0
+AreUnmixed ring = (c d : Cref) → Contains ring.lemmas.items c → Contains ring.imports.items d → c.address ≢ d.address
+
+-- no two imports are at the same address, and none is at a lemma's or a start clause's
+pub record AreSetApart (s : PortState) (ring : Ring) : Type 0 where
+  pub distinct : AreDistinct ring.imports.items
+  pub beyond : All (λ (c : Cref). last_start s < c.address) ring.imports.items
+  pub unmixed : AreUnmixed ring
+
+-- the imports were told apart from lemmas and start clauses; the Reduce entry was written; and then half of the lemmas that may be
+-- dropped were, and half of those imports; the vector of watchers is closed up, and the reduction is counted
+pub record HasReduced (old new : PortState) (before after : Ring) : Type 0 where
+  pub imports : List Cref
+  pub apart : AreToldApart (last_start old) before.lemmas.items before.imports.items imports
+  pub noted : PortState
+  pub entry : NotedReduce old noted
+  pub between : PortState
+  pub watches : WatchData
+  pub lemmas_reduced : WasReduced noted between before.watches watches before.trail.steps before.lemmas.items after.lemmas.items
+  pub imports_reduced : WasReduced between new watches after.watches before.trail.steps imports after.imports.items
+  pub closed : after.watches.size ≡ sum after.watches.rooms
   pub counted : after.reductions ≡ before.reductions + 1
   pub since : after.reduced_at ≡ before.learned
 
@@ -195,7 +226,7 @@ pub record HasShrunk (old new : PortState) (before after : Ring) : Type 0 where
   pub vivified_port : PortState
   pub ordered : AreOrdered dropped between.lemmas.items
   pub vivified : TookAll (point dropped between) (point vivified_port after) between.lemmas.items after.lemmas.items
-  pub same : after ≡ record before { trail = after.trail; watches = after.watches; written = after.written; lemmas = after.lemmas; reductions = after.reductions; reduced_at = after.reduced_at }
+  pub same : after ≡ record before { trail = after.trail; watches = after.watches; written = after.written; lemmas = after.lemmas; imports = after.imports; reductions = after.reductions; reduced_at = after.reduced_at }
   pub counted : after.reductions ≡ between.reductions
   pub lines : TidiedUpTo vivified_port new (length vivified_port.waiting)
 
@@ -206,8 +237,8 @@ pub record IsIdle (old new : PortState) (before after : Ring) : Type 0 where
 
 -- Imports
 
--- the ring looked into these slots, in order; each clause that came, of which there are no more than slots, is held, noted as taken
--- and attached once, in the order in which they came
+-- the ring looked into these slots, in order; each clause that came, of which there are no more than slots, is held, noted as taken,
+-- attached and listed once, in the order in which they came
 pub record TookSlots (old new : PortState) (before after : Ring) (slots : List Slot) : Type 0 where
   pub polls : new.polls ≡ old.polls ++ slots
   pub came : List Holding
@@ -215,19 +246,22 @@ pub record TookSlots (old new : PortState) (before after : Ring) (slots : List S
   pub held : new.held ≡ old.held ++ came
   pub taken : new.taken ≡ old.taken ++ map (λ (h : Holding). h.address) came
   pub clauses : attached after.watches ≡ attached before.watches ++ map (λ (h : Holding). record { address = h.address }) came
+  pub imports : after.imports.items ≡ before.imports.items ++ map (λ (h : Holding). record { address = h.address }) came
 
--- an import at level 0: units came and one look found no other listed, and the slots of each other ring were looked into, in order;
--- what became true has no reason
+-- an import at level 0: first units came until one look found no other listed, and each of these and of the opening is true, before any
+-- slot was looked into; then the slots of each other ring were looked into, in order, and no unit came; what became true has no reason
 pub record TookImport (old new : PortState) (before after : Ring) : Type 0 where
   pub middle : PortState
   pub units : OnlySaw old middle
   pub caught_up : middle.caught_up ≡ one_more old.caught_up
+  pub opening : OpeningSeen middle
+  pub stands : Stands middle after.trail
   pub polled : OnlyPolled middle new
   pub slots : TookSlots middle new before after (import_slots middle)
   pub grown : HasGrown before.trail after.trail
   pub bare : (p : ℕ) → length before.trail.steps ≤ p → p < length after.trail.steps → reason_at after.trail.steps p ≡ None
   pub level : after.trail.level ≡ 0
-  pub same : after ≡ record before { trail = after.trail; watches = after.watches; import_due = false }
+  pub same : after ≡ record before { trail = after.trail; watches = after.watches; imports = after.imports; import_due = false }
 
 -- after a restart the lemmas were reduced and vivified where that was due, and nothing was done where it was not; then the ring
 -- imported

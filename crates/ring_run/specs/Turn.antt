@@ -1,17 +1,22 @@
 -- What a ring does in a turn: it propagates, and then learns, renews or decides; and turn by turn in a search.
-use Rattle.std.specs.Prelude.{◌≡◌, ◌⊎◌, ◌%◌, ◌==◌, true, false, List, [], ◌∷◌, Some, ⊤}
+use Rattle.std.specs.Prelude.{◌≡◌, ◌⊎◌, ◌%◌, ◌==◌, Bool, true, false, List, [], ◌∷◌, length, Some, ⊤}
 use Rattle.sat_words.specs.Literal.{Literal}
+use Rattle.sat_words.specs.Truth.{lit_true}
 use Rattle.sat_words.specs.declared.shared.Cref.{Cref}
+use Rattle.sat_words.specs.declared.shared.Stop.{Stop}
 use Rattle.ring_port.specs.PortState.{PortState, lits_at}
-use Rattle.ring_trail.specs.TrailData.{HasGrown}
+use Rattle.ring_trail.specs.TrailData.{HasGrown, IsTrueOn}
 use Rattle.watch_prop.specs.WatchData.{attached}
 use Rattle.watch_prop.specs.Propagation.{IsQuiet, IsConflict, HasReasons}
 use Rattle.ring_decide.specs.Phases.{first_phases}
+use Rattle.ring_decide.specs.DeciderData.{AllValued}
 use Rattle.restart_plan.specs.Plan.{begun}
 use Rattle.ring_run.specs.Strategy.{Decides}
 use Rattle.ring_run.specs.Searching.{HasTold}
-use Rattle.ring_run.specs.Ending.{IsRefusal}
-use Rattle.ring_run.specs.Course.{DecidedNext, LearnsFrom}
+use Rattle.ring_run.specs.Ended.{stop_kind}
+use Rattle.ring_run.specs.Ending.{EndsRefused, SetsStop}
+use Rattle.ring_run.specs.Halting.{HaltsImporting, HaltsRenewing}
+use Rattle.ring_run.specs.Course.{CountsAlike, DecidedNext, LearnsFrom, last_of}
 use Rattle.ring_run.specs.Renewal.{Renews, TookImport}
 use Rattle.ring_run.specs.declared.job.Job.{Job}
 use Rattle.ring_run.specs.declared.job.Counts.{Counts}
@@ -56,13 +61,71 @@ pub record SpentTurn (s u : PortState) (old new : Ring) : Type 0 where
   pub propagated : HasPropagated s old middle
   pub learned : MetConflict s u middle new (Finish Spent)
 
--- what a turn comes to; at a model there was a look and lines of units, and a stop of another was seen before anything was done
+-- each variable that is decided has a value, and the assignment makes the literals of the trail true
+pub record IsModelFound (ring : Ring) (a : List Bool) : Type 0 where
+  pub valued : AllValued ring.decider ring.trail.steps
+  pub long : length a ≡ ring.trail.vars
+  pub true_there : (l : Literal) → IsTrueOn ring.trail.steps l → lit_true a l ≡ true
+
+-- what a decision comes to: it was made, or there was none to make and so a model, for which there may be no memory
+abbrev pub EndsDeciding : Ring → Ring → Next → Type 0
+EndsDeciding old new Go = ⊤
+EndsDeciding old new (Finish (Sat a)) = IsModelFound old a × (new ≡ old)
+EndsDeciding old new (Finish Memory) = ⊤
+EndsDeciding old new (Finish end) = ⊥
+
+-- no import is yet to be, a look and the lines of units came, and then there was nothing to decide
+pub record FoundModel (s u : PortState) (old new : Ring) (a : List Bool) : Type 0 where
+  pub settled : old.import_due ≡ false
+  pub told : HasTold s u
+  pub found : IsModelFound old a
+  pub same : new ≡ record old { written = new.written }
+
+-- how a run came to its end where nothing was left to propagate: after a look and lines of units the next line was refused, or there was no
+-- memory for the model; or an import was yet to be, and it was cut short or what comes before it
+abbrev pub HaltsQuietly : PortState → PortState → Ring → Ring → End → Type 0
+HaltsQuietly s u old new end =
+    CountsAlike old new × (m : PortState) × HasTold s m × (EndsRefused m u end ⊎ ((old.import_due ≡ true) × (ring : Ring) × (ring ≡ record old { written = ring.written }) × HaltsRenewing m u ring end))
+
+-- what a step comes to that doesn't learn: a model may be found, or the look found a stop and nothing was done
+abbrev pub EndsQuietly : PortState → PortState → Ring → Ring → Next → Type 0
+EndsQuietly s u old new Go = ⊤
+EndsQuietly s u old new (Finish Spent) = ⊥
+EndsQuietly s u old new (Finish (Sat a)) = FoundModel s u old new a
+EndsQuietly s u old new (Finish (Stopped x)) = (u ≡ record s { stop = Some x }) × (new ≡ old)
+EndsQuietly s u old new (Finish end) = HaltsQuietly s u old new end
+
+-- a turn that found a model: nothing was left to propagate
+pub record ModelTurn (s u : PortState) (old new : Ring) (a : List Bool) : Type 0 where
+  pub middle : Ring
+  pub propagated : HasPropagated s old middle
+  pub quiet : IsQuiet middle.watches (lits_at s) middle.trail
+  pub found : FoundModel s u middle new a
+
+-- a turn that saw the stop of another: nothing was left to propagate, and nothing was done
+pub record StoppedTurn (s u : PortState) (old new : Ring) (x : Stop) : Type 0 where
+  pub propagated : HasPropagated s old new
+  pub quiet : IsQuiet new.watches (lits_at s) new.trail
+  pub seen : u ≡ record s { stop = Some x }
+
+-- what came after propagation, or that there was no memory for it
+abbrev pub HaltsThen : PortState → PortState → Ring → Ring → End → Type 0
+HaltsThen s u old new end =
+    ((u ≡ s) × (end ≡ Memory) × CountsAlike old new) ⊎ (MetConflict s u old new (Finish end) ⊎ (IsQuiet old.watches (lits_at s) old.trail × HaltsQuietly s u old new end))
+
+-- a turn that was cut short by a refusal, or that refuted the clauses: nothing was done after the call that did
+pub record HaltedTurn (s u : PortState) (old new : Ring) (end : End) : Type 0 where
+  pub middle : Ring
+  pub propagated : HasPropagated s old middle
+  pub halts : HaltsThen s u middle new end
+
+-- what a turn comes to
 abbrev pub TakesTurn : PortState → PortState → Ring → Ring → Next → Type 0
 TakesTurn s u old new Go = TookTurn s u old new
 TakesTurn s u old new (Finish Spent) = SpentTurn s u old new
-TakesTurn s u old new (Finish (Sat a)) = HasTold s u
-TakesTurn s u old new (Finish (Stopped x)) = u ≡ record s { stop = Some x }
-TakesTurn s u old new (Finish end) = ⊤
+TakesTurn s u old new (Finish (Sat a)) = ModelTurn s u old new a
+TakesTurn s u old new (Finish (Stopped x)) = StoppedTurn s u old new x
+TakesTurn s u old new (Finish end) = HaltedTurn s u old new end
 
 -- Searches
 
@@ -79,9 +142,9 @@ pub record CameTo (s u : PortState) (old new : Ring) : Type 0 where
   pub states : List (PortState × Ring)
   pub turns : TookTurns imported_port imported states u new
 
--- a search imports, and then takes turns until one comes to its end; a refusal may end it in the import
+-- a search imports, and then takes turns until one comes to its end; or the import does
 abbrev pub Searched : PortState → PortState → Ring → Ring → End → Type 0
-Searched s u old new end = IsRefusal end ⊎ ((m : PortState) × (middle : Ring) × CameTo s m old middle × TakesTurn m u middle new (Finish end))
+Searched s u old new end = (HaltsImporting s u end × CountsAlike old new) ⊎ ((m : PortState) × (middle : Ring) × CameTo s m old middle × TakesTurn m u middle new (Finish end))
 
 -- Runs
 
@@ -95,6 +158,8 @@ pub record IsFirstRing (s : PortState) (job : Job) (ring : Ring) : Type 0 where
   pub restarts : ring.restarts ≡ begun (job.ring % 2 == 1)
   pub learned : ring.learned ≡ 0
   pub lemmas : ring.lemmas.items ≡ []
+  pub imports : ring.imports.items ≡ []
+  pub last_start : ring.last_start ≡ last_of job.start
   pub reductions : ring.reductions ≡ 0
   pub reduced_at : ring.reduced_at ≡ 0
   pub written : ring.written ≡ 0
@@ -108,3 +173,10 @@ pub record IsFirstRing (s : PortState) (job : Job) (ring : Ring) : Type 0 where
 abbrev pub RanJob : PortState → PortState → Job → End → Counts → Type 0
 RanJob s u job end counts =
     ((u ≡ s) × (end ≡ Memory)) ⊎ ((first : Ring) × (last : Ring) × IsFirstRing s job first × Searched s u first last end × (counts.learned ≡ last.learned) × (counts.exported ≡ last.exported) × (counts.offered ≡ last.offered) × (counts.restarts ≡ last.restarts.made))
+
+-- the job was run to an end, and then the stop of that end was set
+pub record HasRun (s u : PortState) (job : Job) (end : End) (counts : Counts) : Type 0 where
+  pub before : PortState
+  pub found : End
+  pub ran : RanJob s before job found counts
+  pub set : SetsStop before u (stop_kind found) found end

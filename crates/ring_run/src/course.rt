@@ -41,7 +41,7 @@ pub(crate) fn refute<P: Port>(port: &mut P) -> End
     ensures none { last_looks result ≡ 0 }
     ensures halted { IsHalted result }
     ensures refusal { IsRefusal result }
-    ensures empty { WroteEmpty (P.state port.old) (P.state port.new) }
+    ensures empty { WroteEmpty (P.state port.old) (P.state port.new) result }
     ensures port { IsPort (P.state port.new) }
 {
     match port.empty() {

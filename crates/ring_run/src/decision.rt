@@ -2,15 +2,15 @@
 ghost use Rattle.std.specs.Prelude.{◌≡◌, ◌<◌, true, false, length, Some, IfOk, OnOk, IfErr};
 ghost use Rattle.sat_words.specs.Literal.{Literal};
 ghost use Rattle.sat_words.specs.Truth.{lit_true};
-ghost use Rattle.ring_port.specs.PortState.{PortState, IsPort, lits_at};
+ghost use Rattle.ring_port.specs.PortState.{IsPort, lits_at};
 ghost use Rattle.ring_trail.specs.TrailData.{IsTrail, IsTrueOn};
 ghost use Rattle.watch_prop.specs.Propagation.{IsQuiet};
 ghost use Rattle.ring_run.specs.Ended.{Stays};
 ghost use Rattle.ring_run.specs.Strategy.{Decides};
-ghost use Rattle.ring_run.specs.Searching.{OffersNothing, AreFirst, KeepsOn, OnlyWrote, ToldUnits, HasTold};
-ghost use Rattle.ring_run.specs.Ending.{EndsAt, end_refused};
-ghost use Rattle.ring_run.specs.Turn.{ActedAtQuiet};
-ghost use Rattle.ring_run.specs.Course.{AreSameOffers, InSearch, HasLemmas, KeepsLemmas, Leads, IsFurther, KeepsLooking, TakesALook, KeepsOffering, KeepsPolling, IsPolling, HasPolledBy, KeepsImporting, KeepsTidy, KeepsInTime, HasDecided, EndsQuietly};
+ghost use Rattle.ring_run.specs.Searching.{OffersNothing, AreFirst, KeepsOn, OnlyWrote, ToldUnits};
+ghost use Rattle.ring_run.specs.Ending.{EndsAt, HaltsTelling, end_refused};
+ghost use Rattle.ring_run.specs.Turn.{ActedAtQuiet, EndsDeciding, EndsQuietly};
+ghost use Rattle.ring_run.specs.Course.{AreSameOffers, InSearch, HasLemmas, KeepsLemmas, Leads, IsFurther, KeepsLooking, TakesALook, KeepsOffering, KeepsPolling, IsPolling, HasPolledBy, KeepsImporting, KeepsTidy, KeepsInTime, HasDecided};
 
 use crate::course::{Next, end_refused};
 use crate::job::End;
@@ -46,7 +46,7 @@ fn decide<P: Port>(alloc: Global, port: &mut P, ring: &mut Ring, limit: u64) -> 
     requires first { AreFirst ring.old.trail ring.old.written }
     requires settled { ring.old.import_due ≡ false }
     ensures leads { Leads (P.state port.old) ring.old (P.state port.new) ring.new limit result }
-    ensures ended { (s : PortState) → HasTold s (P.state port.old) → EndsQuietly s (P.state port.new) result }
+    ensures ended { EndsDeciding ring.old ring.new result }
     ensures learned { ring.new.learned ≡ ring.old.learned }
     ensures decided { result ≡ Next.Go → HasDecided ring.old ring.new }
     ensures longer { result ≡ Next.Go → length ring.old.trail.steps < length ring.new.trail.steps }
@@ -75,6 +75,7 @@ pub(crate) fn write_pending<P: Port>(port: &mut P, ring: &mut Ring) -> Result<()
     requires search { InSearch (P.state port.old) ring.old }
     ensures ok { OnOk result (KeepsOn (P.state port.old) (P.state port.new)) }
     ensures over { IfErr result (λ stop. EndsAt (P.state port.old) (P.state port.new) (end_refused stop)) }
+    ensures halts { IfErr result (λ stop. HaltsTelling (P.state port.old) (P.state port.new) (end_refused stop)) }
     ensures search { OnOk result (InSearch (P.state port.new) ring.new) }
     ensures held { (P.state port.new).held ≡ (P.state port.old).held }
     ensures looks { (P.state port.new).looks ≡ (P.state port.old).looks }
@@ -118,7 +119,7 @@ pub(crate) fn decide_next<P: Port>(alloc: Global, port: &mut P, ring: &mut Ring,
     requires polling { IsPolling (P.state port.old) ring.old }
     requires listed { HasLemmas (P.state port.old) ring.old }
     ensures leads { Leads (P.state port.old) ring.old (P.state port.new) ring.new limit result }
-    ensures ended { EndsQuietly (P.state port.old) (P.state port.new) result }
+    ensures ended { EndsQuietly (P.state port.old) (P.state port.new) ring.old ring.new result }
     ensures learned { ring.new.learned ≡ ring.old.learned }
     ensures further { result ≡ Next.Go → IsFurther ring.old ring.new }
     ensures acted { result ≡ Next.Go → ActedAtQuiet (P.state port.old) (P.state port.new) ring.old ring.new }

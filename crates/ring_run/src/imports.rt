@@ -5,7 +5,8 @@ ghost use Rattle.ring_port.specs.Exchange.{other_rings};
 ghost use Rattle.ring_run.specs.Ended.{slots_of, import_slots, LookedAlong, IsInTime};
 ghost use Rattle.ring_run.specs.Searching.{KeepsOn, OnlyPolled};
 ghost use Rattle.ring_run.specs.Renewal.{TookSlots, TookImport};
-ghost use Rattle.ring_run.specs.Course.{InSearch, KeepsLemmas, MayImport, Leads, KeepsLooking, KeepsOffering, IsPolling, HasPolledBy, KeepsImporting, KeepsTidy, IsInTimeBy, IsOnOrRefused};
+ghost use Rattle.ring_run.specs.Halting.{HaltsImporting};
+ghost use Rattle.ring_run.specs.Course.{InSearch, KeepsLemmas, MayImport, Leads, KeepsLooking, KeepsOffering, IsPolling, HasPolledBy, KeepsImporting, KeepsTidy, IsInTimeBy, IsOnOrRefused, HaltsBy};
 
 use crate::course::{Next, refute};
 use crate::job::End;
@@ -17,7 +18,7 @@ use std::alloc::AllocError;
 /// The classes of clauses that rings put for each other.
 const CLASSES: u8 = 4;
 
-/// Takes the clause of a class that another ring has put, if there is one, and attaches it.
+/// Takes the clause of a class that another ring has put, if there is one, and attaches and lists it.
 fn take_class<P: Port>(
     port: &mut P,
     ring: &mut Ring,
@@ -37,7 +38,7 @@ fn take_class<P: Port>(
     ensures took { OnOk result (TookSlots (P.state port.old) (P.state port.new) ring.old ring.new (record { ring = from; class = class } ∷ [])) }
     ensures along { LookedAlong (P.state port.old) (P.state port.new) (record { ring = from; class = class } ∷ []) }
     ensures only { OnlyPolled (P.state port.old) (P.state port.new) }
-    ensures same { ring.new ≡ record ring.old { watches = ring.new.watches } }
+    ensures same { ring.new ≡ record ring.old { watches = ring.new.watches; imports = ring.new.imports } }
     ensures port { IsPort (P.state port.new) }
 {
     let Ok(taken) = port.poll(from, class) else {
@@ -47,6 +48,7 @@ fn take_class<P: Port>(
         return Ok(());
     };
     ring.watches.attach(port, &ring.trail, clause)?;
+    ring.imports.push(clause)?;
     Ok(())
 }
 
@@ -64,7 +66,7 @@ fn take_from<P: Port>(port: &mut P, ring: &mut Ring, from: u32) -> Result<(), Al
     ensures took { OnOk result (TookSlots (P.state port.old) (P.state port.new) ring.old ring.new (slots_of from)) }
     ensures along { LookedAlong (P.state port.old) (P.state port.new) (slots_of from) }
     ensures only { OnlyPolled (P.state port.old) (P.state port.new) }
-    ensures same { ring.new ≡ record ring.old { watches = ring.new.watches } }
+    ensures same { ring.new ≡ record ring.old { watches = ring.new.watches; imports = ring.new.imports } }
     ensures port { IsPort (P.state port.new) }
 {
     for class in 0..CLASSES {
@@ -89,7 +91,7 @@ fn take_clauses<P: Port>(port: &mut P, ring: &mut Ring) -> Result<(), AllocError
     ensures took { OnOk result (TookSlots (P.state port.old) (P.state port.new) ring.old ring.new (import_slots (P.state port.old))) }
     ensures along { LookedAlong (P.state port.old) (P.state port.new) (import_slots (P.state port.old)) }
     ensures only { OnlyPolled (P.state port.old) (P.state port.new) }
-    ensures same { ring.new ≡ record ring.old { watches = ring.new.watches } }
+    ensures same { ring.new ≡ record ring.old { watches = ring.new.watches; imports = ring.new.imports } }
     ensures port { IsPort (P.state port.new) }
 {
     for from in 0..ring.place.rings {
@@ -104,13 +106,14 @@ fn take_clauses<P: Port>(port: &mut P, ring: &mut Ring) -> Result<(), AllocError
     Ok(())
 }
 
-/// Takes what the others have: units, and then clauses, which are attached. No import is yet to be then.
+/// Takes what the others have: units, and then clauses, which are attached and listed. No import is yet to be then.
 pub(crate) fn import<P: Port>(port: &mut P, ring: &mut Ring) -> Next
     requires import { MayImport (P.state port.old) ring.old.trail ring.old.watches ring.old.written }
     requires polling { IsPolling (P.state port.old) ring.old }
     requires import_due { ring.old.import_due ≡ true }
     ensures leads { (limit : ℕ) → ring.old.learned < limit → Leads (P.state port.old) ring.old (P.state port.new) ring.new limit result }
     ensures refused { IsOnOrRefused result }
+    ensures halts { HaltsBy (HaltsImporting (P.state port.old) (P.state port.new)) result }
     ensures took { result ≡ Next.Go → TookImport (P.state port.old) (P.state port.new) ring.old ring.new }
     ensures settled { result ≡ Next.Go → ring.new.import_due ≡ false }
     ensures steps { result ≡ Next.Go → length ring.old.trail.steps ≤ length ring.new.trail.steps }

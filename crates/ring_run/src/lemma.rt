@@ -5,7 +5,7 @@ ghost use Rattle.rup_model.specs.Rup.{rup};
 ghost use Rattle.ring_port.specs.PortState.{IsPort, held_at, known, lits_at};
 ghost use Rattle.ring_port.specs.Port.{IsClause, IsFreshClause, Refused, is_usable};
 ghost use Rattle.ring_port.specs.Log.{KeepsLog};
-ghost use Rattle.ring_port.specs.Deleting.{TidiedUpTo};
+ghost use Rattle.ring_port.specs.Deleting.{TidiedUpTo, TidiedSome};
 ghost use Rattle.ring_trail.specs.TrailData.{TrailData, IsTrail};
 ghost use Rattle.watch_prop.specs.WatchData.{attached};
 ghost use Rattle.watch_prop.specs.Watched.{Watched};
@@ -167,6 +167,7 @@ pub(crate) fn tidy_up<P: Port>(port: &mut P) -> Result<(), PortStop>
     ensures seen { OnOk result ((P.state port.new).seen ≡ (P.state port.old).seen) }
     ensures tidied { OnOk result ((P.state port.new).waiting ≡ []) }
     ensures lines { OnOk result (TidiedUpTo (P.state port.old) (P.state port.new) (length (P.state port.old).waiting)) }
+    ensures some { IfErr result (TidiedSome (P.state port.old) (P.state port.new)) }
     ensures held { (P.state port.new).held ≡ (P.state port.old).held }
     ensures looks { (P.state port.new).looks ≡ (P.state port.old).looks }
     ensures nothing { OffersNothing (P.state port.old) (P.state port.new) }

@@ -1,13 +1,14 @@
-// If a restart was made: the ring gives up lemmas if that is due, makes others shorter, and then imports.
+// If a restart was made: the ring gives up lemmas and imports if that is due, makes other lemmas shorter, and then imports.
 ghost use Rattle.std.specs.Prelude.{◌≡◌, ◌<◌, ◌≤◌, ◌+◌, ◌-◌, ◌^◌, ℕ, [], true, false, length, OnOk, IfErr};
 ghost use Rattle.reduce_db.specs.Moment.{lemmas_before};
 ghost use Rattle.ring_port.specs.PortState.{IsPort, lits_at};
 ghost use Rattle.watch_prop.specs.Propagation.{IsQuiet};
 ghost use Rattle.ring_run.specs.Ended.{IsInTime};
 ghost use Rattle.ring_run.specs.Searching.{OffersNothing, OpeningSeen, KeepsOn};
-ghost use Rattle.ring_run.specs.Renewal.{IsDue, HasReduced, HasShrunk, IsIdle, HasRenewed, IsResting, HaltsAt};
+ghost use Rattle.ring_run.specs.Renewal.{IsDue, HasReducedLemmas, HasReducedImports, HasReduced, AreUnmixed, AreSetApart, HasShrunk, IsIdle, HasRenewed, IsResting, HaltsAt};
 ghost use Rattle.ring_run.specs.Ending.{EndsAt, end_refused};
-ghost use Rattle.ring_run.specs.Course.{HasLemmas, MayImport, Leads, KeepsLooking, KeepsOffering, IsPolling, HasPolledBy, KeepsImporting, KeepsTidy, IsInTimeBy, IsOnOrRefused};
+ghost use Rattle.ring_run.specs.Halting.{HaltsDropping, HaltsReducingLemmas, HaltsReducing, HaltsShrinking, HaltsRenewing};
+ghost use Rattle.ring_run.specs.Course.{HasLemmas, MayImport, Leads, KeepsLooking, KeepsOffering, IsPolling, HasPolledBy, KeepsImporting, KeepsTidy, IsInTimeBy, IsOnOrRefused, HaltsBy};
 
 use crate::course::{Next, end_refused};
 use crate::imports::import;
@@ -15,7 +16,7 @@ use crate::job::End;
 use crate::lemma::tidy_up;
 use crate::ring::Ring;
 use crate::vivification::vivify_lemmas;
-use reduce_db::{due, reduce};
+use reduce_db::{due, reduce, tell_apart};
 use ring_port::{Port, PortStop};
 use std::alloc::Global;
 
@@ -25,13 +26,16 @@ fn reduce_lemmas<P: Port>(alloc: Global, port: &mut P, ring: &mut Ring) -> Resul
     requires quiet { IsQuiet ring.old.watches (lits_at (P.state port.old)) ring.old.trail }
     requires opening { OpeningSeen (P.state port.old) }
     requires listed { HasLemmas (P.state port.old) ring.old }
+    requires apart { AreSetApart (P.state port.old) ring.old }
     requires few { ring.old.reductions < 2 ^ 64 - 1 }
     requires due { IsDue ring.old }
-    ensures reduced { OnOk result (HasReduced (P.state port.old) (P.state port.new) ring.old ring.new) }
+    ensures reduced { OnOk result (HasReducedLemmas (P.state port.old) (P.state port.new) ring.old ring.new) }
+    ensures halts { IfErr result (λ stop. HaltsReducingLemmas (P.state port.old) (P.state port.new) ring.old (end_refused stop)) }
     ensures ok { OnOk result (KeepsOn (P.state port.old) (P.state port.new)) }
     ensures over { IfErr result (λ stop. EndsAt (P.state port.old) (P.state port.new) (end_refused stop)) }
     ensures resting { OnOk result (IsResting (P.state port.new) ring.new) }
     ensures listed { OnOk result (HasLemmas (P.state port.new) ring.new) }
+    ensures apart { OnOk result (AreSetApart (P.state port.new) ring.new) }
     ensures same { ring.new ≡ record ring.old { watches = ring.new.watches; lemmas = ring.new.lemmas; reductions = ring.new.reductions; reduced_at = ring.new.reduced_at } }
     ensures looks { (P.state port.new).looks ≡ (P.state port.old).looks }
     ensures nothing { OffersNothing (P.state port.old) (P.state port.new) }
@@ -56,7 +60,79 @@ fn reduce_lemmas<P: Port>(alloc: Global, port: &mut P, ring: &mut Ring) -> Resul
     Ok(())
 }
 
-/// Reduces the lemmas, gives those that are left their turns to be vivified, and writes the deletion lines.
+/// Drops half of the imports that may be dropped. The lemmas have been reduced, so that no import has to be kept.
+fn reduce_imports<P: Port>(alloc: Global, port: &mut P, ring: &mut Ring) -> Result<(), PortStop>
+    requires resting { IsResting (P.state port.old) ring.old }
+    requires listed { HasLemmas (P.state port.old) ring.old }
+    requires apart { AreSetApart (P.state port.old) ring.old }
+    ensures reduced { OnOk result (HasReducedImports (P.state port.old) (P.state port.new) ring.old ring.new) }
+    ensures halts { IfErr result (λ stop. HaltsDropping (P.state port.old) (P.state port.new) ring.old.imports.items (end_refused stop)) }
+    ensures ok { OnOk result (KeepsOn (P.state port.old) (P.state port.new)) }
+    ensures over { IfErr result (λ stop. EndsAt (P.state port.old) (P.state port.new) (end_refused stop)) }
+    ensures resting { OnOk result (IsResting (P.state port.new) ring.new) }
+    ensures listed { OnOk result (HasLemmas (P.state port.new) ring.new) }
+    ensures unmixed { OnOk result (AreUnmixed ring.new) }
+    ensures same { ring.new ≡ record ring.old { watches = ring.new.watches; imports = ring.new.imports } }
+    ensures looks { (P.state port.new).looks ≡ (P.state port.old).looks }
+    ensures nothing { OffersNothing (P.state port.old) (P.state port.new) }
+    ensures port { IsPort (P.state port.new) }
+{
+    match reduce(
+        alloc,
+        port,
+        &mut ring.watches,
+        &ring.trail,
+        &mut ring.imports,
+    ) {
+        Ok(()) => {}
+        Err(stop) => return Err(stop),
+    }
+    Ok(())
+}
+
+/// Tells the imports apart from lemmas and start clauses, and drops half of the lemmas and half of the imports that may be
+/// dropped, after the entry that tells it.
+fn reduce_both<P: Port>(alloc: Global, port: &mut P, ring: &mut Ring) -> Result<(), PortStop>
+    requires import { MayImport (P.state port.old) ring.old.trail ring.old.watches ring.old.written }
+    requires quiet { IsQuiet ring.old.watches (lits_at (P.state port.old)) ring.old.trail }
+    requires opening { OpeningSeen (P.state port.old) }
+    requires listed { HasLemmas (P.state port.old) ring.old }
+    requires few { ring.old.reductions < 2 ^ 64 - 1 }
+    requires due { IsDue ring.old }
+    ensures reduced { OnOk result (HasReduced (P.state port.old) (P.state port.new) ring.old ring.new) }
+    ensures halts { IfErr result (λ stop. HaltsReducing (P.state port.old) (P.state port.new) ring.old (end_refused stop)) }
+    ensures ok { OnOk result (KeepsOn (P.state port.old) (P.state port.new)) }
+    ensures over { IfErr result (λ stop. EndsAt (P.state port.old) (P.state port.new) (end_refused stop)) }
+    ensures resting { OnOk result (IsResting (P.state port.new) ring.new) }
+    ensures listed { OnOk result (HasLemmas (P.state port.new) ring.new) }
+    ensures unmixed { OnOk result (AreUnmixed ring.new) }
+    ensures same { ring.new ≡ record ring.old { watches = ring.new.watches; lemmas = ring.new.lemmas; imports = ring.new.imports; reductions = ring.new.reductions; reduced_at = ring.new.reduced_at } }
+    ensures looks { (P.state port.new).looks ≡ (P.state port.old).looks }
+    ensures nothing { OffersNothing (P.state port.old) (P.state port.new) }
+    ensures port { IsPort (P.state port.new) }
+{
+    let _vars = port.vars();
+    let Ok(apart) = tell_apart(
+        alloc,
+        ring.imports.as_slice(),
+        ring.lemmas.as_slice(),
+        ring.last_start,
+    ) else {
+        return Err(PortStop::Memory);
+    };
+    ring.imports = apart;
+    match reduce_lemmas(alloc, port, ring) {
+        Ok(()) => {}
+        Err(stop) => return Err(stop),
+    }
+    match reduce_imports(alloc, port, ring) {
+        Ok(()) => {}
+        Err(stop) => return Err(stop),
+    }
+    Ok(())
+}
+
+/// Reduces lemmas and imports, gives the lemmas that are left their turns to be vivified, and writes the deletion lines.
 fn shrink_lemmas<P: Port>(alloc: Global, port: &mut P, ring: &mut Ring) -> Result<(), End>
     requires import { MayImport (P.state port.old) ring.old.trail ring.old.watches ring.old.written }
     requires quiet { IsQuiet ring.old.watches (lits_at (P.state port.old)) ring.old.trail }
@@ -65,6 +141,7 @@ fn shrink_lemmas<P: Port>(alloc: Global, port: &mut P, ring: &mut Ring) -> Resul
     requires few { ring.old.reductions < 2 ^ 64 - 1 }
     requires due { IsDue ring.old }
     ensures shrunk { OnOk result (HasShrunk (P.state port.old) (P.state port.new) ring.old ring.new) }
+    ensures halts { IfErr result (HaltsShrinking (P.state port.old) (P.state port.new) ring.old) }
     ensures over { IfErr result (HaltsAt (P.state port.old) (P.state port.new)) }
     ensures keeps { OnOk result (KeepsOn (P.state port.old) (P.state port.new)) }
     ensures import { OnOk result (MayImport (P.state port.new) ring.new.trail ring.new.watches ring.new.written) }
@@ -72,12 +149,12 @@ fn shrink_lemmas<P: Port>(alloc: Global, port: &mut P, ring: &mut Ring) -> Resul
     ensures tidied { OnOk result ((P.state port.new).waiting ≡ []) }
     ensures in_time { OnOk result (IsInTime (P.state port.new) 0) }
     ensures steps { OnOk result (length ring.old.trail.steps ≤ length ring.new.trail.steps) }
-    ensures same { ring.new ≡ record ring.old { trail = ring.new.trail; watches = ring.new.watches; written = ring.new.written; lemmas = ring.new.lemmas; reductions = ring.new.reductions; reduced_at = ring.new.reduced_at } }
+    ensures same { ring.new ≡ record ring.old { trail = ring.new.trail; watches = ring.new.watches; written = ring.new.written; lemmas = ring.new.lemmas; imports = ring.new.imports; reductions = ring.new.reductions; reduced_at = ring.new.reduced_at } }
     ensures looks { (P.state port.new).looks ≡ (P.state port.old).looks }
     ensures nothing { OffersNothing (P.state port.old) (P.state port.new) }
     ensures port { IsPort (P.state port.new) }
 {
-    match reduce_lemmas(alloc, port, ring) {
+    match reduce_both(alloc, port, ring) {
         Ok(()) => {}
         Err(stop) => return Err(end_refused(stop)),
     }
@@ -100,6 +177,7 @@ fn shrink_due<P: Port>(alloc: Global, port: &mut P, ring: &mut Ring) -> Result<(
     requires listed { HasLemmas (P.state port.old) ring.old }
     requires few { ring.old.reductions < 2 ^ 64 - 1 }
     ensures due { IsDue ring.old → OnOk result (HasShrunk (P.state port.old) (P.state port.new) ring.old ring.new) }
+    ensures halts { IfErr result (λ end. IsDue ring.old × HaltsShrinking (P.state port.old) (P.state port.new) ring.old end) }
     ensures early { ring.old.learned - ring.old.reduced_at < lemmas_before (ring.old.reductions + 1) → IsIdle (P.state port.old) (P.state port.new) ring.old ring.new }
     ensures over { IfErr result (HaltsAt (P.state port.old) (P.state port.new)) }
     ensures keeps { OnOk result (KeepsOn (P.state port.old) (P.state port.new)) }
@@ -108,7 +186,7 @@ fn shrink_due<P: Port>(alloc: Global, port: &mut P, ring: &mut Ring) -> Result<(
     ensures tidied { (P.state port.old).waiting ≡ [] → OnOk result ((P.state port.new).waiting ≡ []) }
     ensures in_time { OnOk result (IsInTime (P.state port.new) 0) }
     ensures steps { OnOk result (length ring.old.trail.steps ≤ length ring.new.trail.steps) }
-    ensures same { ring.new ≡ record ring.old { trail = ring.new.trail; watches = ring.new.watches; written = ring.new.written; lemmas = ring.new.lemmas; reductions = ring.new.reductions; reduced_at = ring.new.reduced_at } }
+    ensures same { ring.new ≡ record ring.old { trail = ring.new.trail; watches = ring.new.watches; written = ring.new.written; lemmas = ring.new.lemmas; imports = ring.new.imports; reductions = ring.new.reductions; reduced_at = ring.new.reduced_at } }
     ensures looks { (P.state port.new).looks ≡ (P.state port.old).looks }
     ensures nothing { OffersNothing (P.state port.old) (P.state port.new) }
     ensures port { IsPort (P.state port.new) }
@@ -131,6 +209,7 @@ pub(crate) fn reduce_vivify_import<P: Port>(alloc: Global, port: &mut P, ring: &
     requires import_due { ring.old.import_due ≡ true }
     ensures leads { (limit : ℕ) → ring.old.learned < limit → Leads (P.state port.old) ring.old (P.state port.new) ring.new limit result }
     ensures refused { IsOnOrRefused result }
+    ensures halts { HaltsBy (HaltsRenewing (P.state port.old) (P.state port.new) ring.old) result }
     ensures settled { result ≡ Next.Go → ring.new.import_due ≡ false }
     ensures renewed { result ≡ Next.Go → HasRenewed (P.state port.old) (P.state port.new) ring.old ring.new }
     ensures unlooked { (P.state port.new).looks ≡ (P.state port.old).looks }

@@ -34,7 +34,12 @@ pub(crate) struct Ring {
     /// The lemmas of two literals or more that it learned and still holds, or what vivification left of them, in the order of
     /// their numbers. They are attached.
     pub lemmas: Vec<Cref>,
-    /// How often it reduced these.
+    /// What other rings gave and it still holds, as far as it may give it up. Each is attached, and may be a lemma too, as no port
+    /// says that what is given is not held already. A reduction tells them apart.
+    pub imports: Vec<Cref>,
+    /// The greatest address of a start clause, or 0: what is beyond it is none.
+    pub last_start: u64,
+    /// How often it reduced lemmas and imports.
     pub reductions: u64,
     /// How many lemmas were learned when it last did.
     pub reduced_at: u64,

@@ -9,9 +9,10 @@ ghost use Rattle.ring_run.specs.Searching.{IsHeldBy, OffersNothing};
 ghost use Rattle.ring_decide.specs.Phases.{first_phases};
 ghost use Rattle.restart_plan.specs.Plan.{IsRestarting, begun};
 ghost use Rattle.ring_run.specs.Strategy.{Decides};
+ghost use Rattle.ring_run.specs.Course.{last_of};
 ghost use Rattle.ring_run.specs.declared.job.Counts.{Counts};
-ghost use Rattle.ring_run.specs.Ending.{ComesTo, IsUnset, KeepsRuns};
-ghost use Rattle.ring_run.specs.Turn.{RanJob};
+ghost use Rattle.ring_run.specs.Ending.{ComesTo, IsUnset, KeepsRuns, SetsStop};
+ghost use Rattle.ring_run.specs.Turn.{RanJob, HasRun};
 ghost use Rattle.sat_words.specs.declared.shared.Stop.{Stop};
 
 use crate::job::{Counts, End, Job};
@@ -53,7 +54,7 @@ const NOTHING: Counts = Counts {
 /// listed.
 ///
 /// At a restart, before it imports, the ring reduces its lemmas if that is due: the Reduce entry is written, and the worse half
-/// of those that may be dropped goes. Then each lemma of glue one or two that is left is vivified, in the order of their numbers,
+/// of those that may be dropped goes. So does the worse half of what other rings gave and may be dropped. Then each lemma of glue one or two that is left is vivified, in the order of their numbers,
 /// unless it is true at level 0: a shorter clause takes its place in the log, or a unit, which is made true with what follows from
 /// it. The deletion lines come at once. The start clauses stay held as they are. So if a ring of odd number finds a model, or is
 /// spent, it had reduced its lemmas in time when it restarted last; and at each end each lemma that was learned since the last
@@ -65,7 +66,8 @@ const NOTHING: Counts = Counts {
 /// answers `Stopped` with the stop that stands. A call of the port that was refused for want of memory, room or a write
 /// ends the run. After `Memory` the ring has no answer, and its stop says the other rings so.
 ///
-/// The clauses here are of what a run leaves and counts. What the ring does from turn to turn stands in the clauses of its inner calls.
+/// What the ring does from turn to turn is told by `ran`: an import, and then turns up to that in which it came to its end. Then the
+/// stop of that end is set. The other clauses are of what a run leaves and counts.
 pub fn run_ring<P: Port>(alloc: Global, port: &mut P, job: &Job) -> (End, Counts)
     requires job { IsJobOf (P.state port.old) job.now }
     requires untouched { IsUntouched (P.state port.old) }
@@ -89,6 +91,7 @@ pub fn run_ring<P: Port>(alloc: Global, port: &mut P, job: &Job) -> (End, Counts
     ensures within { result.1.learned ≤ job.now.conflicts }
     ensures spent { (result.0 ≡ End.Spent) ↔ (result.1.learned ≡ job.now.conflicts) }
     ensures ends { Ends (P.state port.new) result.0 }
+    ensures ran { HasRun (P.state port.old) (P.state port.new) job.now result.0 result.1 }
     ensures port { IsPort (P.state port.new) }
 {
     let (end, counts) = run_job(alloc, port, job);
@@ -156,6 +159,17 @@ fn attach_all<P: Port>(
     Ok(())
 }
 
+/// The greatest address of these clauses, or 0.
+fn last_of(clauses: &[Cref]) -> u64
+    ensures { result ≡ last_of clauses.now }
+{
+    let mut last = 0;
+    for clause in clauses {
+        last = last.max(clause.address);
+    }
+    last
+}
+
 /// A ring that has attached the start clauses, and done nothing else: it is yet to import.
 pub(crate) fn make_ring<P: Port>(alloc: Global, port: &mut P, job: &Job) -> Result<Ring, AllocError>
     requires job { IsJobOf (P.state port.old) job.now }
@@ -168,6 +182,8 @@ pub(crate) fn make_ring<P: Port>(alloc: Global, port: &mut P, job: &Job) -> Resu
     ensures watched { IfOk result (λ ring. (t : TrailData) → t.vars ≡ job.now.vars → IsFresh t → Watched ring.watches (lits_at (P.state port.old)) t) }
     ensures learned { IfOk result (λ ring. ring.learned ≡ 0) }
     ensures listed { IfOk result (λ ring. (ring.lemmas.items ≡ []) × (ring.reductions ≡ 0) × (ring.reduced_at ≡ 0)) }
+    ensures imports { IfOk result (λ ring. ring.imports.items ≡ []) }
+    ensures last_start { IfOk result (λ ring. ring.last_start ≡ last_of job.now.start) }
     ensures written { IfOk result (λ ring. ring.written ≡ 0) }
     ensures decider { IfOk result (λ ring. Decides (P.state port.old) ring.decider) }
     ensures phases { IfOk result (λ ring. ring.decider.phase ≡ first_phases job.now.seed job.now.ring job.now.vars) }
@@ -183,6 +199,7 @@ pub(crate) fn make_ring<P: Port>(alloc: Global, port: &mut P, job: &Job) -> Resu
     let decider = Decider::new(alloc, active.as_slice(), job.seed, job.ring)?;
     let restarts = Restarts::new(alloc, job.ring)?;
     let bumps = Vec::with_capacity(alloc, job.vars as usize)?;
+    let last_start = last_of(job.start.as_slice());
     Ok(Ring {
         place: Place {
             ring: job.ring,
@@ -192,6 +209,8 @@ pub(crate) fn make_ring<P: Port>(alloc: Global, port: &mut P, job: &Job) -> Resu
         watches,
         learned: 0,
         lemmas: Vec::new(alloc),
+        imports: Vec::new(alloc),
+        last_start,
         reductions: 0,
         reduced_at: 0,
         written: 0,
@@ -231,6 +250,7 @@ fn set_stop<P: Port>(port: &mut P, end: End) -> End
     ensures looked { last_looks result ≤ last_looks end }
     ensures only { P.state port.new ≡ record (P.state port.old) { stop = (P.state port.new).stop } }
     ensures answer { (result ≡ end) ⊎ ((x : Stop) × (result ≡ End.Stopped x)) }
+    ensures set { SetsStop (P.state port.old) (P.state port.new) (stop_kind end) end result }
     ensures polled { (made : ℕ) → HasPolled (P.state port.old) made end → HasPolled (P.state port.new) made result }
     ensures imported { (start : PortState) (made : ℕ) → ImportsBy start (P.state port.old) made end → ImportsBy start (P.state port.new) made result }
     ensures tidied { IsTidy (P.state port.old) end → IsTidy (P.state port.new) result }

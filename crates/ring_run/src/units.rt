@@ -7,7 +7,7 @@ ghost use Rattle.watch_prop.specs.WatchData.{WatchData, Lits};
 ghost use Rattle.watch_prop.specs.Watched.{Watched};
 ghost use Rattle.watch_prop.specs.Propagation.{HasReasons};
 ghost use Rattle.ring_run.specs.Searching.{AddedSeen, OffersNothing, OnlySaw, Stands, AreTaken, AreTold, UnitsSeen, OnlyWrote, ToldUnits, KeepsOn};
-ghost use Rattle.ring_run.specs.Ending.{EndsAt, end_refused};
+ghost use Rattle.ring_run.specs.Ending.{EndsAt, HaltsTelling, end_refused};
 
 use ring_port::{Port, PortStop};
 use ring_trail::Trail;
@@ -62,6 +62,7 @@ fn write_unit<P: Port>(port: &mut P, trail: &Trail, place: u32) -> Result<(), Po
     requires refused { (P.state port.old).refused ≡ None }
     ensures ok { OnOk result (KeepsOn (P.state port.old) (P.state port.new)) }
     ensures over { IfErr result (λ stop. EndsAt (P.state port.old) (P.state port.new) (end_refused stop)) }
+    ensures halts { IfErr result (λ stop. HaltsTelling (P.state port.old) (P.state port.new) (end_refused stop)) }
     ensures stands { OnOk result (Stands (P.state port.new) trail.now) }
     ensures told { OnOk result (AreTold (P.state port.new) trail.now (place + 1)) }
     ensures units { OnOk result (UnitsSeen (P.state port.new)) }
@@ -94,6 +95,7 @@ pub(crate) fn write_units<P: Port>(
     requires refused { (P.state port.old).refused ≡ None }
     ensures ok { OnOk result (KeepsOn (P.state port.old) (P.state port.new)) }
     ensures over { IfErr result (λ stop. EndsAt (P.state port.old) (P.state port.new) (end_refused stop)) }
+    ensures halts { IfErr result (λ stop. HaltsTelling (P.state port.old) (P.state port.new) (end_refused stop)) }
     ensures stands { OnOk result (Stands (P.state port.new) trail.now) }
     ensures told { OnOk result (AreTold (P.state port.new) trail.now (length trail.now.steps)) }
     ensures units { OnOk result (UnitsSeen (P.state port.new)) }

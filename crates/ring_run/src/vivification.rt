@@ -5,7 +5,8 @@ ghost use Rattle.sat_words.specs.Clause.{has};
 ghost use Rattle.ring_port.specs.PortState.{IsPort, held_at, lits_at};
 ghost use Rattle.ring_trail.specs.TrailData.{IsTrueOn};
 ghost use Rattle.ring_run.specs.Searching.{OffersNothing, KeepsOn};
-ghost use Rattle.ring_run.specs.Renewal.{point, IsNamed, HasFollowed, WentOn, TookLemma, TookAll, TookPlace, IsResting, AwaitsUnit, LeftBehind, HaltsAt, MayVivify, KeepsOthers, IsLeft};
+ghost use Rattle.ring_run.specs.Renewal.{AreUnmixed, point, IsNamed, HasFollowed, WentOn, TookLemma, TookAll, TookPlace, IsResting, AwaitsUnit, LeftBehind, HaltsAt, MayVivify, KeepsOthers, IsLeft};
+ghost use Rattle.ring_run.specs.Halting.{HaltsFollowing, HaltsAtLemma, HaltsAtPlace, HaltsVivifying};
 ghost use Rattle.ring_run.specs.Course.{HasLemmas};
 
 use crate::course::{end_refused, refute};
@@ -72,6 +73,7 @@ fn is_named<P: Port>(port: &mut P, ring: &Ring, c: Cref) -> bool
 fn follow_unit<P: Port>(port: &mut P, ring: &mut Ring, lit: Lit) -> Result<(), End>
     requires awaits { AwaitsUnit (P.state port.old) ring.old lit }
     ensures over { IfErr result (HaltsAt (P.state port.old) (P.state port.new)) }
+    ensures halts { IfErr result (HaltsFollowing (P.state port.old) (P.state port.new)) }
     ensures keeps { OnOk result (KeepsOn (P.state port.old) (P.state port.new)) }
     ensures resting { OnOk result (IsResting (P.state port.new) ring.new) }
     ensures followed { OnOk result (HasFollowed (point (P.state port.old) ring.old) (point (P.state port.new) ring.new) lit) }
@@ -99,6 +101,7 @@ fn follow_unit<P: Port>(port: &mut P, ring: &mut Ring, lit: Lit) -> Result<(), E
 fn settle_left<P: Port>(port: &mut P, ring: &mut Ring, left: Vivified) -> Result<AfterVivify, End>
     requires left { LeftBehind (P.state port.old) ring.old left }
     ensures over { IfErr result (HaltsAt (P.state port.old) (P.state port.new)) }
+    ensures halts { IfErr result (λ end. (l : Literal) × (left ≡ Vivified.Unit l) × HaltsFollowing (P.state port.old) (P.state port.new) end) }
     ensures keeps { OnOk result (KeepsOn (P.state port.old) (P.state port.new)) }
     ensures resting { OnOk result (IsResting (P.state port.new) ring.new) }
     ensures went { IfOk result (WentOn (point (P.state port.old) ring.old) (point (P.state port.new) ring.new) left) }
@@ -128,6 +131,7 @@ fn vivify_lemma<P: Port>(
     requires resting { IsResting (P.state port.old) ring.old }
     requires lemma { MayVivify (P.state port.old) ring.old.watches c }
     ensures over { IfErr result (HaltsAt (P.state port.old) (P.state port.new)) }
+    ensures halts { IfErr result (HaltsAtLemma (point (P.state port.old) ring.old) (P.state port.new) c) }
     ensures keeps { OnOk result (KeepsOn (P.state port.old) (P.state port.new)) }
     ensures resting { OnOk result (IsResting (P.state port.new) ring.new) }
     ensures took { IfOk result (TookLemma (point (P.state port.old) ring.old) (point (P.state port.new) ring.new) c) }
@@ -160,11 +164,14 @@ fn vivify_at<P: Port>(
 ) -> Result<usize, End>
     requires resting { IsResting (P.state port.old) ring.old }
     requires listed { HasLemmas (P.state port.old) ring.old }
+    requires unmixed { AreUnmixed ring.old }
     requires inside { place < length ring.old.lemmas.items }
     ensures over { IfErr result (HaltsAt (P.state port.old) (P.state port.new)) }
+    ensures halts { IfErr result (HaltsAtPlace (point (P.state port.old) ring.old) (P.state port.new) ring.old.lemmas.items place) }
     ensures keeps { OnOk result (KeepsOn (P.state port.old) (P.state port.new)) }
     ensures resting { OnOk result (IsResting (P.state port.new) ring.new) }
     ensures listed { OnOk result (HasLemmas (P.state port.new) ring.new) }
+    ensures unmixed { OnOk result (AreUnmixed ring.new) }
     ensures took { IfOk result (TookPlace (point (P.state port.old) ring.old) (point (P.state port.new) ring.new) ring.old.lemmas.items ring.new.lemmas.items place) }
     ensures steps { OnOk result (length ring.old.trail.steps ≤ length ring.new.trail.steps) }
     ensures same { ring.new ≡ record ring.old { trail = ring.new.trail; watches = ring.new.watches; written = ring.new.written; lemmas = ring.new.lemmas } }
@@ -196,10 +203,13 @@ pub(crate) fn vivify_lemmas<P: Port>(
 ) -> Result<(), End>
     requires resting { IsResting (P.state port.old) ring.old }
     requires listed { HasLemmas (P.state port.old) ring.old }
+    requires unmixed { AreUnmixed ring.old }
     ensures over { IfErr result (HaltsAt (P.state port.old) (P.state port.new)) }
+    ensures halts { IfErr result (HaltsVivifying (point (P.state port.old) ring.old) (P.state port.new) ring.old.lemmas.items) }
     ensures keeps { OnOk result (KeepsOn (P.state port.old) (P.state port.new)) }
     ensures resting { OnOk result (IsResting (P.state port.new) ring.new) }
     ensures listed { OnOk result (HasLemmas (P.state port.new) ring.new) }
+    ensures unmixed { OnOk result (AreUnmixed ring.new) }
     ensures took { OnOk result (TookAll (point (P.state port.old) ring.old) (point (P.state port.new) ring.new) ring.old.lemmas.items ring.new.lemmas.items) }
     ensures steps { OnOk result (length ring.old.trail.steps ≤ length ring.new.trail.steps) }
     ensures same { ring.new ≡ record ring.old { trail = ring.new.trail; watches = ring.new.watches; written = ring.new.written; lemmas = ring.new.lemmas } }

@@ -5,8 +5,9 @@ ghost use Rattle.test_ring.specs.ReductionRow.{IsRow};
 use crate::reducing::{one_start, reduce_five};
 use drat_text::SinkLines;
 use io_edge::MemSink;
-use reduce_db::due;
+use reduce_db::{due, tell_apart};
 use ring_port::{PlainPort, Port};
+use sat_words::Cref;
 use std::alloc::Global;
 use std::test::Fail;
 
@@ -46,5 +47,16 @@ fn moments_are_apart(rt: HostRuntime) -> Result<(), Fail> {
     let late = [due(2000, 1), due(2300, 2)];
     assert!(rt; early == [false, false, false]);
     assert!(rt; late == [true, true]);
+    Ok(())
+}
+
+// 9 and 7 come twice, 5 is at the address of another, and 2 is not after 2.
+#[test]
+fn clauses_are_told_apart(rt: HostRuntime) -> Result<(), Fail> {
+    let alloc = rt.alloc();
+    let clauses = [9, 2, 7, 9, 5, 7].map(|address| Cref { address });
+    let apart = tell_apart(alloc, &clauses, &[Cref { address: 5 }], 2)?;
+    let left = [7, 9].map(|address| Cref { address });
+    assert!(rt; apart.as_slice() == left.as_slice());
     Ok(())
 }

@@ -11,15 +11,17 @@ use Rattle.watch_prop.specs.Advancing.{HasAdvanced}
 use Rattle.watch_prop.specs.Visiting.{IsEnd}
 use Rattle.watch_prop.proofs.Growing.{HasGrown-refl, HasGrown-trans, closed_at}
 use Rattle.watch_prop.proofs.Reasons.{Reasons-over, Reasons-back}
+use Rattle.watch_prop.specs.Layout.{HaveGrown}
+use Rattle.watch_prop.proofs.Rooms.{have-same, have-trans}
 use Rattle.watch_prop.proofs.Quiets.{quiet-same}
 
 -- nothing was done
 pub advanced_none : (s : PortState) (w : WatchData) (t : TrailData) → HasReasons (attached w) s t.steps → Watched w (lits_at s) t → HasAdvanced s w w t t
-advanced_none s w t r k = record { clauses = refl; vars = refl; grown = HasGrown-refl t; reasons = r; watched = k; still = λ q. refl }
+advanced_none s w t r k = record { clauses = refl; vars = refl; grown = HasGrown-refl t; reasons = r; watched = k; rooms = have-same _ _ refl; still = λ q. refl }
 
 -- only the watches changed
-pub advanced_watches : (s : PortState) (v w : WatchData) (t : TrailData) → attached w ≡ attached v → w.vars ≡ v.vars → HasReasons (attached v) s t.steps → Watched w (lits_at s) t → HasAdvanced s v w t t
-advanced_watches s v w t e f r k = record { clauses = e; vars = f; grown = HasGrown-refl t; reasons = r; watched = k; still = λ q. refl }
+pub advanced_watches : (s : PortState) (v w : WatchData) (t : TrailData) → attached w ≡ attached v → w.vars ≡ v.vars → HaveGrown v.rooms w.rooms → HasReasons (attached v) s t.steps → Watched w (lits_at s) t → HasAdvanced s v w t t
+advanced_watches s v w t e f g r k = record { clauses = e; vars = f; grown = HasGrown-refl t; reasons = r; watched = k; rooms = g; still = λ q. refl }
 
 -- one part after another, over the same port
 module _ (s r : PortState) (a b : WatchData) (t u : TrailData) (e : r ≡ s) (p : HasAdvanced s a b t u) where
@@ -33,6 +35,7 @@ module _ (s r : PortState) (a b : WatchData) (t u : TrailData) (e : r ≡ s) (p 
     grown = HasGrown-trans t u v p.grown q.grown;
     reasons = Reasons-back (attached a) (attached b) s r v.steps p.clauses e q.reasons;
     watched = subst (λ (x : PortState). Watched c (lits_at x) v) e q.watched;
+    rooms = have-trans a.rooms b.rooms c.rooms p.rooms q.rooms;
     still = λ quiet. (
         let f : u ≡ t = p.still quiet in
         q.still (subst (λ (x : PortState). IsQuiet b (lits_at x) u) (sym e) (quiet-same a b (lits_at s) t u p.clauses f quiet)) ∙ f);

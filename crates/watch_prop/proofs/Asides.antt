@@ -1,13 +1,13 @@
 -- Watches with a clause set aside.
-use Rattle.std.proofs.Common.{◌≡◌, ◌≢◌, ◌∙◌, ℕ, zero, suc, ◌<◌, ◌≤◌, ◌+◌, ◌==◌, ◌⊎◌, Bool, true, false, not, cond, List, [], ◌∷◌, length, map, Option, Some, None, sym, refl, ap, subst, inl, inr, arith, Contains, get_or}
+use Rattle.std.proofs.Common.{◌≡◌, ◌≢◌, ◌∙◌, ℕ, zero, suc, ◌<◌, ◌≤◌, ◌==◌, ◌⊎◌, Bool, true, false, not, cond, List, [], ◌∷◌, length, map, Option, Some, None, sym, refl, ap, subst, inl, inr, arith, Contains, get_or}
 use Rattle.std.specs.List.{filter_map}
 use Rattle.std.proofs.Math.ListN.{set}
 use Rattle.std.proofs.lemmas.Bool.{true≢false, eqb-true}
-use Rattle.std.proofs.lemmas.List.{length-set, length-map}
+use Rattle.std.proofs.lemmas.List.{length-map}
 use Rattle.sat_words.specs.Literal.{Literal}
 use Rattle.sat_words.specs.Clause.{has}
 use Rattle.sat_words.specs.declared.shared.Cref.{Cref}
-use Rattle.ring_trail.specs.TrailData.{TrailData, IsTrail, IsTrueOn, IsFalseOn}
+use Rattle.ring_trail.specs.TrailData.{TrailData}
 use Rattle.watch_prop.specs.declared.watch.Watch.{Watch}
 use Rattle.watch_prop.specs.declared.watch.Watcher.{Watcher}
 use Rattle.watch_prop.specs.declared.watch.ListEntry.{ListEntry}
@@ -15,18 +15,13 @@ use Rattle.watch_prop.specs.WatchData.{WatchData, Lits, clause_in as slot_clause
 use Rattle.watch_prop.specs.Watched.{At, Watched, IsSettled, IsBlocking}
 use Rattle.watch_prop.specs.Detaching.{Thinned}
 use Rattle.watch_prop.specs.Lists.{Removed}
-use Rattle.watch_prop.specs.Visiting.{IsEntry, IsStale, IsSatisfied, Replaced}
+use Rattle.watch_prop.specs.Visiting.{IsEntry, IsStale, IsSatisfied}
 use Rattle.watch_prop.specs.Aside.{unless_at, if_at, is_at, other_slots, but, only, PassesOver}
 use Rattle.watch_prop.proofs.ListsLemmas.{cases_eq, Listed-removed}
-use Rattle.watch_prop.proofs.Slots.{unsome, At-same, watch-set, same_number, other_number, clauses-set}
+use Rattle.watch_prop.proofs.Slots.{unsome, At-same, same_number, other_number}
 use Rattle.watch_prop.proofs.Detaching.{Watched-thinned}
-use Rattle.watch_prop.proofs.Growing.{clause_in}
 
 -- Slots
-
--- the slots with their watches put through one of the two tests
-cut : (ℕ → Option Watch → Option Watch) → ℕ → List (Option Watch) → List (Option Watch)
-cut f a ws = map (f a) ws
 
 unless_there : (a : ℕ) (s : Watch) → s.clause.address ≡ a → unless_at a (Some s) ≡ None
 unless_there a s e = ap (λ (b : Bool). cond b None (Some s)) (ap (λ (n : ℕ). s.clause.address == n) (sym e) ∙ same_number s.clause.address)

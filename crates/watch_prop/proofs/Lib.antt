@@ -12,6 +12,7 @@ pub mod Settling
 pub mod Detaching
 pub mod Asides
 pub mod Passing
+pub mod Rooms
 pub mod Quiets
 pub mod Among
 pub mod TrailLaws

@@ -1,5 +1,5 @@
 -- What each verdict leaves of the clause set aside.
-use Rattle.std.proofs.Common.{◌≡◌, ◌≢◌, ◌∙◌, ℕ, ◌<◌, ◌≤◌, List, Option, Some, length, get_or, sym, refl, ap, subst, inl, inr, arith, ◌⊎◌, Contains, map}
+use Rattle.std.proofs.Common.{◌≡◌, ◌∙◌, ℕ, ◌≤◌, List, Option, Some, get_or, sym, refl, ap, subst, inl, inr, arith, ◌⊎◌, Contains, map}
 use Rattle.std.specs.List.{filter_map}
 use Rattle.std.proofs.lemmas.List.{length-map}
 use Rattle.sat_words.specs.Literal.{Literal}

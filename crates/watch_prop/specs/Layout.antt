@@ -33,6 +33,10 @@ grown_room len room = if nat_lt len room then room else max (2 * room) 4
 abbrev pub grown_rooms : ListData → ℕ → List ℕ
 grown_rooms x code = slice_set x.rooms code (grown_room (length (slice_index_or x.rows code [])) (slice_index_or x.rooms code 0))
 
+-- each list's room is as it was, or it is at least twice as much, and at least four
+abbrev pub HaveGrown : (old new : List ℕ) → Type 0
+HaveGrown old new = (code : ℕ) → (slice_index_or new code 0 ≡ slice_index_or old code 0) ⊎ (max (2 * slice_index_or old code 0) 4 ≤ slice_index_or new code 0)
+
 -- the first n stretches are empty, stand one after the other and end here, which is the sum of their rooms
 pub record AreLaidOut (ss : List Stretch) (n end : ℕ) : Type 0 where
   pub empty : (i : ℕ) (s : Stretch) → i < n → At ss i s → s.len ≡ 0

@@ -17,8 +17,8 @@ mod watches;
 pub use laws::{
     a_decision_keeps_watches, an_assignment_keeps_watches, attached_clauses_keep_reasons,
     attached_clauses_keep_watches, attached_clauses_may_be_reasons, attached_reasons_are_held,
-    clauses_may_be_set_aside, detaching_keeps_closed, detaching_keeps_reasons, detaching_leaves_the_others,
-    going_back_keeps_watches,
+    clauses_may_be_set_aside, detaching_keeps_closed, detaching_keeps_reasons,
+    detaching_leaves_the_others, going_back_keeps_watches,
 };
 pub use propagated::Propagated;
 pub use rounds::{

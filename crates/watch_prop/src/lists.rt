@@ -98,7 +98,8 @@ impl Lists {
     pub(crate) fn take(&mut self, lit: Lit, place: usize)
         requires in_range { code_of lit < length self.old.rows }
         requires there { place < length (list_at self.old.rows lit) }
-        ensures { Removed self.old.rows self.new.rows lit place }
+        ensures removed { Removed self.old.rows self.new.rows lit place }
+        ensures rooms { self.new.rooms ≡ self.old.rooms }
     {
         let code = lit.code() as usize;
         let stretch = self.stretches[code];
@@ -115,7 +116,8 @@ impl Lists {
     pub(crate) fn set_blocker(&mut self, lit: Lit, place: usize, blocker: Lit)
         requires in_range { code_of lit < length self.old.rows }
         requires there { place < length (list_at self.old.rows lit) }
-        ensures { Reblocked self.old.rows self.new.rows lit place blocker }
+        ensures reblocked { Reblocked self.old.rows self.new.rows lit place blocker }
+        ensures rooms { self.new.rooms ≡ self.old.rooms }
     {
         let at = self.stretches[lit.code() as usize].start + place;
         let slot = self.watchers[at].slot;

@@ -8,6 +8,7 @@ ghost use Rattle.watch_prop.specs.WatchData.{WatchData, Lits, attached, watchers
 ghost use Rattle.watch_prop.specs.Watched.{Watched, IsFresh, IsPair};
 ghost use Rattle.watch_prop.specs.Detaching.{Compacted};
 ghost use Rattle.watch_prop.specs.Propagation.{HasReasons, IsClosedBelow, IsQuiet, NoneWaits, IsPropagated};
+ghost use Rattle.watch_prop.specs.Layout.{HaveGrown};
 ghost use Rattle.watch_prop.specs.Aside.{but, only};
 ghost use Rattle.watch_prop.specs.Visiting.{IsEntry, IsStale};
 
@@ -123,7 +124,8 @@ impl Watches {
     /// false. Each literal made true has its clause as its reason. Where nothing was left to propagate, the trail stays as it
     /// is, and no clause waits afterwards.
     ///
-    /// Where memory runs out the watches are as good as before: some literals may have become true already.
+    /// Where memory runs out the watches are as good as before: some literals may have become true already. A list that needs
+    /// more room gets twice as much, and at least four.
     pub fn propagate<P: Port>(
         &mut self,
         port: &mut P,
@@ -140,6 +142,7 @@ impl Watches {
         ensures watched { Watched self.new (lits_at (P.state port.old)) trail.new }
         ensures propagated { IfOk result (IsPropagated self.new (lits_at (P.state port.old)) trail.new) }
         ensures still { IsQuiet self.old (lits_at (P.state port.old)) trail.old → trail.new ≡ trail.old }
+        ensures rooms { 0 < self.old.size → length self.old.slots ≤ 2 * length (attached self.old) + length self.old.lists → HaveGrown self.old.rooms self.new.rooms }
         ensures settled { IfOk result (λ _came_to. IsQuiet self.old (lits_at (P.state port.old)) trail.old → NoneWaits self.new) }
     {
         let _lawful = trail.decision_level();
@@ -172,6 +175,7 @@ impl Watches {
         ensures watched { Watched (but (Some c) self.new) (lits_at (P.state port.old)) trail.new }
         ensures aside { (t : TrailData) → Watched (only c self.old) (lits_at (P.state port.old)) t → Watched (only c self.new) (lits_at (P.state port.old)) t }
         ensures settled { NoneWaits self.new }
+        ensures rooms { HaveGrown self.old.rooms self.new.rooms }
         ensures propagated { IfOk result (IsPropagated (but (Some c) self.new) (lits_at (P.state port.old)) trail.new) }
     {
         self.run(port, trail, Some(c))
@@ -194,6 +198,7 @@ impl Watches {
         ensures vars { self.new.vars ≡ self.old.vars }
         ensures watched { (lits : Lits) (t : TrailData) → Watched self.old lits t → Watched self.new lits t }
         ensures few { length self.new.slots ≤ 2 * length (attached self.new) + length self.new.lists }
+        ensures rooms { 0 < self.old.size → length self.old.slots ≤ 2 * length (attached self.old) + length self.old.lists → self.new.rooms ≡ self.old.rooms }
     {
         self.thin_out();
         self.make_ready();
@@ -204,6 +209,7 @@ impl Watches {
         ensures slots { self.new.slots ≡ self.old.slots }
         ensures vars { self.new.vars ≡ self.old.vars }
         ensures lists { length self.new.lists ≡ length self.old.lists }
+        ensures rooms { 0 < self.old.size → self.new.rooms ≡ self.old.rooms }
         ensures watched { (lits : Lits) (t : TrailData) → Watched self.old lits t → Watched self.new lits t }
     {
         if self.settled == 0 && self.lists.is_empty() {
@@ -219,6 +225,7 @@ impl Watches {
         ensures vars { self.new.vars ≡ self.old.vars }
         ensures watched { (lits : Lits) (t : TrailData) → Watched self.old lits t → Watched self.new lits t }
         ensures few { length self.new.slots ≤ 2 * length (attached self.new) + length self.new.lists }
+        ensures kept { length self.old.slots ≤ 2 * length (attached self.old) + length self.old.lists → self.new ≡ self.old }
     {
         let used = self.slots.len() - self.free_slots;
         if self.free_slots.saturating_sub(used) > self.lists.count() {

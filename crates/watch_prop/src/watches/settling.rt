@@ -11,6 +11,7 @@ ghost use Rattle.ring_trail.specs.Closed.{TrueWithin};
 ghost use Rattle.watch_prop.specs.WatchData.{attached};
 ghost use Rattle.watch_prop.specs.Watched.{At, Watched};
 ghost use Rattle.watch_prop.specs.Propagation.{HasReasons, IsClosedBelow, attached_at};
+ghost use Rattle.watch_prop.specs.Layout.{HaveGrown};
 ghost use Rattle.watch_prop.specs.Advancing.{HasAdvanced};
 ghost use Rattle.watch_prop.specs.Visiting.{NotFalse, Listed, ListsMore, IsSettledTo, IsAllSettled};
 
@@ -85,6 +86,7 @@ impl Watches {
         requires first { first.var ≤ self.old.vars }
         requires second { second.var ≤ self.old.vars }
         ensures ok { OnOk result (Listed self.old self.new watch.now first second) }
+        ensures rooms { HaveGrown self.old.rooms self.new.rooms }
         ensures err { OnErr result (ListsMore self.old self.new second) }
     {
         let slot = self.settled as u32;

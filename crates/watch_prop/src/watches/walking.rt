@@ -10,6 +10,7 @@ ghost use Rattle.watch_prop.specs.Watched.{Watched};
 ghost use Rattle.watch_prop.specs.Propagation.{HasReasons};
 ghost use Rattle.watch_prop.specs.Advancing.{HasAdvanced};
 ghost use Rattle.watch_prop.specs.Visiting.{IsVisiting, IsEntry, IsStale, IsVerdict, Replaced, IsVisited, IsWalked, IsEnd};
+ghost use Rattle.watch_prop.specs.Layout.{HaveGrown};
 ghost use Rattle.watch_prop.specs.Aside.{but, PassesOver, is_at};
 
 use crate::clause_scan::find_replacement;
@@ -171,6 +172,7 @@ impl Watches {
         requires apart { new ≢ lit }
         requires there { place < length (list_at self.old.lists lit) }
         ensures ok { OnOk result (Replaced self.old self.new entry lit new place) }
+        ensures rooms { HaveGrown self.old.rooms self.new.rooms }
         ensures err { OnErr result (self.new ≡ self.old) }
     {
         let watcher = Watcher {

@@ -12,7 +12,7 @@ use Rattle.ring_trail.specs.declared.step.TrailStep.{TrailStep}
 use Rattle.watch_prop.specs.WatchData.{WatchData, attached, without_all}
 use Rattle.reduce_db.specs.Lemmas.{AreDistinct}
 use Rattle.reduce_db.specs.Choice.{IsChoice}
-use Rattle.reduce_db.specs.Dropping.{DroppedAll}
+use Rattle.reduce_db.specs.Dropping.{DroppedAll, HoldsOthers}
 use Rattle.reduce_db.specs.Reduction.{Reduced, WasCutShort}
 use Rattle.reduce_db.proofs.Left.{dropped_distinct, dropped_each, lemmas_left}
 use Rattle.reduce_db.proofs.reducing.reduce.Goals as goal
@@ -62,3 +62,29 @@ returns-clause-lemmas g c =
     lemmas_left s c.args.trail.now.steps c.args.lemmas.now.items c.in-Ok.choice.kept.items c.in-Ok.choice.dropped.items choice new (attached c.args.watches.now) (attached c.drop_each.new.watches) c.requires.lemmas
     (subst (DroppedAll s new) c.as_slice-2.ensures.value (subst (λ (q : PortState). DroppedAll q new c.as_slice-2.result.now) c.choose.ensures.same c.in_ok-drop_each.ensures.dropped))
     (c.in_ok-drop_each.ensures.attached ∙ ap (without_all (attached c.args.watches.now)) c.as_slice-2.ensures.value)
+
+-- what is dropped is among the lemmas
+others_kept : (old new : PortState) (lemmas dropped : List Cref) → All (Contains lemmas) dropped → DroppedAll old new dropped → HoldsOthers old new lemmas
+others_kept old new lemmas dropped among gone a apart = gone.others a (λ c there. apart c (All_In (Contains lemmas) dropped c among (Rattle.rup_model.proofs.Lists.Contains_In dropped c there)))
+
+pub returns-in_err-drop_each-clause-others : goal.returns-in_err-drop_each-clause-others
+returns-in_err-drop_each-clause-others g c =
+    let s = g.P.Port.state c.args.port.now in
+    let new = g.P.Port.state c.drop_each.new.port in
+    let choice = subst (λ (xs : List Cref). IsChoice s c.args.trail.now.steps xs c.in-Ok.choice.kept.items c.in-Ok.choice.dropped.items) c.as_slice.ensures.value c.in-Ok.ensures.choice in
+    let short = subst (λ (xs : List Cref). WasCutShort s new xs c.in_err-drop_each.field-0.0) c.as_slice-2.ensures.value
+    (subst (λ (q : PortState). WasCutShort q new c.as_slice-2.result.now c.in_err-drop_each.field-0.0) c.choose.ensures.same c.in_err-drop_each.ensures.stopped) in
+    let lemmas = c.args.lemmas.now.items in
+    let among = dropped_each s c.args.trail.now.steps lemmas c.in-Ok.choice.kept.items c.in-Ok.choice.dropped.items choice (Contains lemmas) (All-contains_itself lemmas) in
+    others_kept s new lemmas short.dropped
+    (In_All (Contains lemmas) short.dropped (λ x m. All_In (Contains lemmas) c.in-Ok.choice.dropped.items x among (Rattle.rup_model.proofs.Lists.Contains_In c.in-Ok.choice.dropped.items x (All_In (Contains c.in-Ok.choice.dropped.items) short.dropped x short.among m))))
+    short.port
+
+pub returns-clause-others : goal.returns-clause-others
+returns-clause-others g c =
+    let s = g.P.Port.state c.args.port.now in
+    let new = g.P.Port.state c.drop_each.new.port in
+    let choice = subst (λ (xs : List Cref). IsChoice s c.args.trail.now.steps xs c.in-Ok.choice.kept.items c.in-Ok.choice.dropped.items) c.as_slice.ensures.value c.in-Ok.ensures.choice in
+    let lemmas = c.args.lemmas.now.items in
+    others_kept s new lemmas c.in-Ok.choice.dropped.items (dropped_each s c.args.trail.now.steps lemmas c.in-Ok.choice.kept.items c.in-Ok.choice.dropped.items choice (Contains lemmas) (All-contains_itself lemmas))
+    (subst (DroppedAll s new) c.as_slice-2.ensures.value (subst (λ (q : PortState). DroppedAll q new c.as_slice-2.result.now) c.choose.ensures.same c.in_ok-drop_each.ensures.dropped))

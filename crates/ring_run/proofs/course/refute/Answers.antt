@@ -1,4 +1,4 @@
-use Rattle.std.proofs.Common.{subst, sym}
+use Rattle.std.proofs.Common.{subst, sym, inl, inr, refl}
 use Rattle.ring_run.specs.Ended.{IsHalted}
 use Rattle.ring_run.specs.Ending.{ComesTo, IsRefusal}
 use Rattle.ring_run.proofs.Tidying.{refused_halted, refused_refusal}
@@ -29,7 +29,7 @@ pub returns-in-Err-clause-refusal : goal.returns-in-Err-clause-refusal
 returns-in-Err-clause-refusal g c = subst IsRefusal (sym c.end_refused.ensures) (refused_refusal c.in-Err.stop)
 
 pub returns-in-Ok-clause-empty : goal.returns-in-Ok-clause-empty
-returns-in-Ok-clause-empty g c = (c.empty.result, c.empty.ensures.written)
+returns-in-Ok-clause-empty g c = inl (c.in-Ok.ensures.written, refl)
 
 pub returns-in-Err-clause-empty : goal.returns-in-Err-clause-empty
-returns-in-Err-clause-empty g c = (c.empty.result, c.empty.ensures.written)
+returns-in-Err-clause-empty g c = inr (c.in-Err.stop, c.in-Err.ensures.written, c.end_refused.ensures)

@@ -39,4 +39,7 @@ pub returns-in-Some-clause-decided : goal.returns-in-Some-clause-decided
 returns-in-Some-clause-decided g c = λ on. record { lit = c.in-Some.lit; chosen = c.in-Some.ensures.some; trail = c.decide.ensures.step; same = ap (λ (d : DeciderData). record c.args.ring.now { trail = c.decide.new.self; decider = d }) c.next.ensures.same }
 
 pub returns-in-Ok-clause-ended : goal.returns-in-Ok-clause-ended
-returns-in-Ok-clause-ended g c = λ s told. told
+returns-in-Ok-clause-ended g c = (
+  record { valued = c.next.ensures.none c.in_default.is; long = c.in-Ok.ensures.long; true_there = c.in-Ok.ensures.all },
+  ap (λ (d : DeciderData). record c.args.ring.now { decider = d }) c.next.ensures.same,
+)

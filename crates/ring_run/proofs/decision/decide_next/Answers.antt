@@ -15,13 +15,12 @@ use Rattle.ring_run.proofs.Polling.{polls_same, polled_over, polled_halted, poll
 use Rattle.ring_run.proofs.Progress.{stop_seen, looked_goes_on, recent_still}
 use Rattle.ring_run.proofs.Tidying.{refused_halted}
 use Rattle.ring_run.proofs.Turning.{quiet_same, looked_search, compose}
-use Rattle.ring_run.specs.Turn.{ActedAtQuiet}
+use Rattle.ring_run.specs.Turn.{ActedAtQuiet, EndsQuietly}
 use Rattle.ring_run.specs.declared.job.End.{End}
 use Rattle.ring_run.specs.declared.course.Next.TheVariants.{Finish}
 use Rattle.ring_run.specs.Ending.{end_refused}
-use Rattle.ring_run.specs.Course.{EndsQuietly}
 use Rattle.ring_run.specs.Searching.{ToldUnits}
-use Rattle.ring_run.proofs.Acting.{quietly_refused, quietly_on}
+use Rattle.ring_run.proofs.Acting.{quietly_halted, quietly_renewing, quietly_decided}
 use Rattle.ring_run.proofs.Tidying.{refused_refusal}
 use Rattle.ring_run.proofs.decision.decide_next.Goals as goal
 use Rattle.ring_run.proofs.Numbering.{kept_looked}
@@ -202,7 +201,7 @@ reduce_vivify_import-requires-clause-listed g c =
     let s = g.P.Port.state c.args.port.now in
     let m = g.P.Port.state c.stopped.new.self in
     let is = c.in_default.ensures.looked.1 in
-    c.in-Ok.ensures.listed (listed_same s m c.args.ring.now c.args.ring.now (ap (λ (x : PortState). x.start) is) (recent_still s m (ap (λ (x : PortState). x.ring) is) (ap (λ (x : PortState). x.mine) is)) refl (λ d there. there) refl refl refl (kept_looked s m c.args.ring.now.lemmas.items _ is) c.requires.listed)
+    c.in-Ok.ensures.listed (listed_same s m c.args.ring.now c.args.ring.now (ap (λ (x : PortState). x.start) is) (recent_still s m (ap (λ (x : PortState). x.ring) is) (ap (λ (x : PortState). x.mine) is)) refl (λ d there. there) refl refl refl (record { imports = refl; last_start = refl }) (kept_looked s m c.args.ring.now.lemmas.items _ is) c.requires.listed)
 
 pub returns-clause-listed : goal.returns-clause-listed
 returns-clause-listed g c = λ on.
@@ -210,7 +209,7 @@ returns-clause-listed g c = λ on.
     let m = g.P.Port.state c.stopped.new.self in
     let is = c.in_default.ensures.looked.1 in
     c.decide.ensures.listed
-    (c.in-Ok.ensures.listed (listed_same s m c.args.ring.now c.args.ring.now (ap (λ (x : PortState). x.start) is) (recent_still s m (ap (λ (x : PortState). x.ring) is) (ap (λ (x : PortState). x.mine) is)) refl (λ d there. there) refl refl refl (kept_looked s m c.args.ring.now.lemmas.items _ is) c.requires.listed)))
+    (c.in-Ok.ensures.listed (listed_same s m c.args.ring.now c.args.ring.now (ap (λ (x : PortState). x.start) is) (recent_still s m (ap (λ (x : PortState). x.ring) is) (ap (λ (x : PortState). x.mine) is)) refl (λ d there. there) refl refl refl (record { imports = refl; last_start = refl }) (kept_looked s m c.args.ring.now.lemmas.items _ is) c.requires.listed)))
 
 pub reduce_vivify_import-requires-clause-few : goal.reduce_vivify_import-requires-clause-few
 reduce_vivify_import-requires-clause-few g c =
@@ -324,17 +323,40 @@ returns-clause-in_time g c = λ p h.
     (in_time_any w after c.decide.result (in_time_more w old.restarts.since after.restarts.since (sym since) (in_time_wrote s w old.restarts.since lines (h settled))))
 
 pub returns-in-Some-clause-ended : goal.returns-in-Some-clause-ended
-returns-in-Some-clause-ended g c = c.in-Some.ensures.looked.1
+returns-in-Some-clause-ended g c = (c.in-Some.ensures.looked.1, refl)
 
 pub returns-in-Err-clause-ended : goal.returns-in-Err-clause-ended
 returns-in-Err-clause-ended g c =
     let s = g.P.Port.state c.args.port.now in
     let w = g.P.Port.state c.write_pending.new.port in
-    subst (λ (end : End). EndsQuietly s w (Finish end)) (sym c.end_refused.ensures) (quietly_refused s w (end_refused c.in-Err.stop) (refused_refusal c.in-Err.stop))
+    let old = c.args.ring.now in
+    let ring = c.write_pending.new.ring in
+    let how = c.in-Err.ensures.halts in
+    subst (λ (end : End). EndsQuietly s w old ring (Finish end)) (sym c.end_refused.ensures)
+    (quietly_halted s w old ring (end_refused c.in-Err.stop) (refused_refusal c.in-Err.stop) (
+      record { learned = c.write_pending.ensures.learned; restarts = c.write_pending.ensures.restarts },
+      how.0,
+      subst (λ (x : PortState). ToldUnits x how.0) c.in_default.ensures.looked.1 how.1,
+      inl how.2,
+    ))
 
 pub returns-then-ring-clause-ended : goal.returns-then-ring-clause-ended
-returns-then-ring-clause-ended g c = quietly_on (g.P.Port.state c.args.port.now) (g.P.Port.state c.reduce_vivify_import.new.port) c.reduce_vivify_import.result c.reduce_vivify_import.ensures.refused
+returns-then-ring-clause-ended g c =
+    let s = g.P.Port.state c.args.port.now in
+    let w = g.P.Port.state c.write_pending.new.port in
+    let k = c.reduce_vivify_import.ensures in
+    quietly_renewing s w (g.P.Port.state c.reduce_vivify_import.new.port) c.args.ring.now c.write_pending.new.ring c.reduce_vivify_import.new.ring c.reduce_vivify_import.result k.refused (sym c.write_pending.ensures.import_due ∙ c.if-ring.true)
+    c.write_pending.ensures.same (record { learned = k.learned ∙ c.write_pending.ensures.learned; restarts = k.restarts ∙ c.write_pending.ensures.restarts })
+    (subst (λ (x : PortState). ToldUnits x w) c.in_default.ensures.looked.1 c.in-Ok.ensures.lines) k.halts
 
 pub returns-clause-ended : goal.returns-clause-ended
 returns-clause-ended g c =
-    c.decide.ensures.ended (g.P.Port.state c.args.port.now) (subst (λ (x : PortState). ToldUnits x (g.P.Port.state c.write_pending.new.port)) c.in_default.ensures.looked.1 c.in-Ok.ensures.lines)
+    let s = g.P.Port.state c.args.port.now in
+    let w = g.P.Port.state c.write_pending.new.port in
+    let old = c.args.ring.now in
+    let new = c.decide.new.ring in
+    let k = c.decide.ensures in
+    subst (λ (x : PortState). EndsQuietly s x old new c.decide.result) (sym k.same)
+    (quietly_decided s w old c.write_pending.new.ring new c.decide.result (sym c.write_pending.ensures.import_due ∙ c.if-ring.false) c.write_pending.ensures.same
+    (record { learned = k.learned ∙ c.write_pending.ensures.learned; restarts = k.restarts ∙ c.write_pending.ensures.restarts })
+    (subst (λ (x : PortState). ToldUnits x w) c.in_default.ensures.looked.1 c.in-Ok.ensures.lines) k.ended)

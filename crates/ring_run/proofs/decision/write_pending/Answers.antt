@@ -13,4 +13,4 @@ returns-in-Ok-clause-search g c =
 pub returns-in-Ok-clause-listed : goal.returns-in-Ok-clause-listed
 returns-in-Ok-clause-listed g c = λ p.
     let wrote = c.in-Ok.ensures.wrote in
-    listed_same (g.P.Port.state c.args.port.now) (g.P.Port.state c.write_units.new.port) c.args.ring.now (record c.args.ring.now { written = c.len-ring.result }) wrote.stays.start wrote.recent refl (λ d there. there) refl refl refl (kept_wrote (g.P.Port.state c.args.port.now) (g.P.Port.state c.write_units.new.port) c.args.ring.now.lemmas.items wrote) p
+    listed_same (g.P.Port.state c.args.port.now) (g.P.Port.state c.write_units.new.port) c.args.ring.now (record c.args.ring.now { written = c.len-ring.result }) wrote.stays.start wrote.recent refl (λ d there. there) refl refl refl (record { imports = refl; last_start = refl }) (kept_wrote (g.P.Port.state c.args.port.now) (g.P.Port.state c.write_units.new.port) c.args.ring.now.lemmas.items wrote) p

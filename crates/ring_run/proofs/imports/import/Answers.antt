@@ -1,20 +1,21 @@
-use Rattle.std.proofs.Common.{◌≡◌, ◌∙◌, ◌++◌, List, ◌≤◌, ◌<◌, ◌+◌, ℕ, ap, sym, subst, arith, refl, length, None, Bool, false, IsSome, Contains}
+use Rattle.std.proofs.Common.{inl, inr, ◌≡◌, ◌∙◌, ◌++◌, List, ◌≤◌, ◌<◌, ◌+◌, ℕ, ap, sym, subst, arith, refl, length, None, Bool, false, IsSome, Contains}
 use Rattle.std.specs.Prelude.{if◌then◌else◌}
 use Rattle.std.proofs.lemmas.Bool.{false≢true}
 use Rattle.ring_port.specs.PortState.{PortState, Slot, Holding, held_at}
 use Rattle.ring_run.specs.Ended.{polls_of, LookedAlong, rounds, import_slots}
-use Rattle.ring_run.specs.Searching.{OffersNothing, GoesOn, IsHeldBy}
+use Rattle.ring_run.specs.Searching.{OffersNothing, GoesOn, IsHeldBy, Stands}
 use Rattle.rup_model.specs.Journal.{learned}
 use Rattle.ring_run.specs.Course.{imports_of}
 use Rattle.ring_run.specs.declared.ring.Ring.{Ring}
 use Rattle.ring_run.proofs.Offering.{nothing_then}
 use Rattle.ring_run.proofs.Lending.{saw_nothing, offering_stays, offering_kept}
-use Rattle.ring_run.proofs.Listing.{listed_same}
+use Rattle.ring_run.proofs.Listing.{listed_with}
+use Rattle.ring_port.proofs.LogSteps.{In_All}
 use Rattle.ring_run.proofs.Turning.{saw_search}
 use Rattle.ring_run.proofs.Learning.{goes_on_by}
 use Rattle.ring_run.proofs.Progress.{out_of_memory, recent_still}
 use Rattle.ring_run.proofs.Polling.{imported, imported_most, polls_same, polled_over, polled_halted, place_moved}
-use Rattle.ring_run.proofs.Slots.{slots_more}
+use Rattle.ring_run.proofs.Slots.{slots_more, slots_imports}
 use Rattle.ring_run.proofs.imports.import.Goals as goal
 use Rattle.ring_run.proofs.Numbering.{grown_none, reductions_still}
 use Rattle.ring_run.proofs.Remembering.{held_same}
@@ -148,9 +149,14 @@ returns-clause-listed g c = λ on p.
     let only = c.take_clauses.ensures.only.state in
     let saw = c.take_units.ensures.saw in
     let ring = c.args.ring.now in
-    listed_same s u c.args.ring.now (record after { import_due = false }) (ap (λ (x : PortState). x.start) only ∙ saw.stays.start)
+    let took = c.in-Ok.ensures.took in
+    let between : Ring = record ring { trail = c.take_units.new.trail } in
+    listed_with s u c.args.ring.now (record after { import_due = false }) (ap (λ (x : PortState). x.start) only ∙ saw.stays.start)
     (recent_still m u (ap (λ (x : PortState). x.ring) only) (ap (λ (x : PortState). x.mine) only) ∙ recent_still s m saw.stays.ring saw.mine)
-    (ap (λ (r : Ring). r.lemmas.items) same) (slots_more m u (record ring { trail = c.take_units.new.trail }) after (import_slots m) c.in-Ok.ensures.took) (ap (λ (r : Ring). r.learned) same) (ap (λ (r : Ring). r.reductions) same) (ap (λ (r : Ring). r.reduced_at) same)
+    (ap (λ (r : Ring). r.lemmas.items) same)
+    (In_All (Contains (attached after.watches)) ring.lemmas.items (λ d inside. slots_more m u between after (import_slots m) took d (All_In (Contains (attached ring.watches)) ring.lemmas.items d p.member inside)))
+    (ap (λ (r : Ring). r.learned) same) (ap (λ (r : Ring). r.reductions) same) (ap (λ (r : Ring). r.reduced_at) same) (ap (λ (r : Ring). r.last_start) same)
+    (slots_imports m u between after (import_slots m) took p.imported)
     (record {
       held = λ d there. (
           let before : IsSome (held_at s d.address) = All_In (IsHeldBy s) (attached ring.watches) d c.requires.import.clauses.held
@@ -227,12 +233,14 @@ returns-clause-took g c = λ on.
       middle = g.P.Port.state c.take_units.new.port;
       units = units.saw;
       caught_up = c.take_units.ensures.caught_up c.in-True.is;
+      opening = units.taken.1;
+      stands = subst (Stands (g.P.Port.state c.take_units.new.port)) (sym trail) units.taken.0;
       polled = c.take_clauses.ensures.only;
-      slots = record { polls = slots.polls; came = slots.came; few = slots.few; held = slots.held; taken = slots.taken; clauses = slots.clauses };
+      slots = record { polls = slots.polls; came = slots.came; few = slots.few; held = slots.held; taken = slots.taken; clauses = slots.clauses; imports = slots.imports };
       grown = subst (HasGrown ring.trail) (sym trail) units.grown;
       bare = subst (λ (t : TrailData). (p : ℕ) → length ring.trail.steps ≤ p → p < length t.steps → reason_at t.steps p ≡ None) (sym trail) units.bare;
       level = ap (λ (t : TrailData). t.level) trail ∙ units.grown.level ∙ c.requires.import.level;
-      same = ap (λ (r : Ring). record r { import_due = false }) same ∙ ap (λ (t : TrailData). record ring { trail = t; watches = after.watches; import_due = false }) (sym trail);
+      same = ap (λ (r : Ring). record r { import_due = false }) same ∙ ap (λ (t : TrailData). record ring { trail = t; watches = after.watches; imports = after.imports; import_due = false }) (sym trail);
     })
 
 pub returns-in-Opposed-clause-unlooked : goal.returns-in-Opposed-clause-unlooked
@@ -246,3 +254,9 @@ returns-clause-unlooked g c = ap (λ (x : PortState). x.looks) c.take_clauses.en
 
 pub returns-in-Opposed-clause-refused : goal.returns-in-Opposed-clause-refused
 returns-in-Opposed-clause-refused g c = c.refute.ensures.refusal
+
+pub returns-in-Opposed-clause-halts : goal.returns-in-Opposed-clause-halts
+returns-in-Opposed-clause-halts g c = record { middle = g.P.Port.state c.take_units.new.port; units = c.take_units.ensures.saw; over = inl c.refute.ensures.empty }
+
+pub returns-in-Err-clause-halts : goal.returns-in-Err-clause-halts
+returns-in-Err-clause-halts g c = record { middle = g.P.Port.state c.take_units.new.port; units = c.take_units.ensures.saw; over = inr (c.take_clauses.ensures.only, refl) }

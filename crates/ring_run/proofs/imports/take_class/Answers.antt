@@ -44,6 +44,13 @@ returns-in_err-attach-clause-keeps g c =
     let took : TookClause s u c.args.from c.args.class c.in-Some.clause = subst (λ (o : Option Cref). Polled s u c.args.from c.args.class (Ok o)) c.in-Some.is c.in-Ok.ensures.polled in
     subst (KeepsOn s) (sym c.attach.ensures.same) (polls_keep s u (c.in-Some.clause ∷ []) (polled_some s u c.args.from c.args.class c.in-Some.clause took c.poll.ensures.kept) (omega arith) c.poll.ensures.log c.poll.ensures.port)
 
+pub returns-in_err-push-clause-keeps : goal.returns-in_err-push-clause-keeps
+returns-in_err-push-clause-keeps g c =
+    let s = g.P.Port.state c.args.port.now in
+    let u = g.P.Port.state c.poll.new.self in
+    let took : TookClause s u c.args.from c.args.class c.in-Some.clause = subst (λ (o : Option Cref). Polled s u c.args.from c.args.class (Ok o)) c.in-Some.is c.in-Ok.ensures.polled in
+    subst (KeepsOn s) (sym c.attach.ensures.same) (polls_keep s u (c.in-Some.clause ∷ []) (polled_some s u c.args.from c.args.class c.in-Some.clause took c.poll.ensures.kept) (omega arith) c.poll.ensures.log c.poll.ensures.port)
+
 pub returns-clause-keeps : goal.returns-clause-keeps
 returns-clause-keeps g c =
     let s = g.P.Port.state c.args.port.now in
@@ -66,13 +73,13 @@ pub returns-in_default-taken-clause-took : goal.returns-in_default-taken-clause-
 returns-in_default-taken-clause-took g c =
     let s = g.P.Port.state c.args.port.now in
     let u = g.P.Port.state c.poll.new.self in
-    slots_none s u c.args.ring.now c.args.ring.now c.args.from c.args.class (subst (λ (o : Option Cref). Polled s u c.args.from c.args.class (Ok o)) c.in_default-taken.is c.in-Ok.ensures.polled) refl
+    slots_none s u c.args.ring.now c.args.ring.now c.args.from c.args.class (subst (λ (o : Option Cref). Polled s u c.args.from c.args.class (Ok o)) c.in_default-taken.is c.in-Ok.ensures.polled) refl refl
 
 pub returns-clause-took : goal.returns-clause-took
 returns-clause-took g c =
     let s = g.P.Port.state c.args.port.now in
     let u = g.P.Port.state c.poll.new.self in
     let old = c.args.ring.now in
-    let new : Ring = record old { watches = c.attach.new.self } in
+    let new : Ring = record old { watches = c.attach.new.self; imports = c.push.new.self } in
     let took : TookClause s u c.args.from c.args.class c.in-Some.clause = subst (λ (o : Option Cref). Polled s u c.args.from c.args.class (Ok o)) c.in-Some.is c.in-Ok.ensures.polled in
-    subst (λ (x : PortState). TookSlots s x old new (slot c.args.from c.args.class ∷ [])) (sym c.attach.ensures.same) (slots_one s u old new c.args.from c.args.class c.in-Some.clause took c.in_ok-attach.ensures.attached)
+    subst (λ (x : PortState). TookSlots s x old new (slot c.args.from c.args.class ∷ [])) (sym c.attach.ensures.same) (slots_one s u old new c.args.from c.args.class c.in-Some.clause took c.in_ok-attach.ensures.attached c.in_ok-push.ensures.items)

@@ -14,6 +14,6 @@ invariant-loop-from g l = record {
   polled : (g.P.Port.state l.port).polled ≡ min ((g.P.Port.state l.fn.port).polled + 4 * length (others_below (g.P.Port.state l.fn.port).ring l.from)) (2 ^ 64 - 1);
   took : TookSlots (g.P.Port.state l.fn.port) (g.P.Port.state l.port) l.fn.ring l.ring (round_below (g.P.Port.state l.fn.port).ring l.from);
   only : OnlyPolled (g.P.Port.state l.fn.port) (g.P.Port.state l.port);
-  same : l.ring ≡ record l.fn.ring { watches = l.ring.watches };
+  same : l.ring ≡ record l.fn.ring { watches = l.ring.watches; imports = l.ring.imports };
   port : IsPort (g.P.Port.state l.port);
 }

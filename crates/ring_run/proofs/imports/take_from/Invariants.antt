@@ -13,6 +13,6 @@ invariant-loop-class g l = record {
   polled : (g.P.Port.state l.port).polled ≡ min ((g.P.Port.state l.fn.port).polled + l.class) (2 ^ 64 - 1);
   took : TookSlots (g.P.Port.state l.fn.port) (g.P.Port.state l.port) l.fn.ring l.ring (classes_below l.from l.class);
   only : OnlyPolled (g.P.Port.state l.fn.port) (g.P.Port.state l.port);
-  same : l.ring ≡ record l.fn.ring { watches = l.ring.watches };
+  same : l.ring ≡ record l.fn.ring { watches = l.ring.watches; imports = l.ring.imports };
   port : IsPort (g.P.Port.state l.port);
 }

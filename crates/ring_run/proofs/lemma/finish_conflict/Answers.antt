@@ -11,7 +11,7 @@ returns-in-Err-clause-finished g c =
     let w = g.P.Port.state c.tidy_up.new.port in
     let old = c.args.ring.now in
     finished_refused s w old (asked_ring old c.due-ring.new.self c.due-ring.result) c.args.lits.now c.args.back c.args.address c.in-Err.stop c.end_refused.result c.end_refused.ensures
-    (c.in-Err.ensures.over)
+    (c.in-Err.ensures.over) c.in-Err.ensures.some
     (asked_then s w old c.due-ring.new.self c.due-ring.result c.due-ring.ensures.asked c.due-ring.ensures.due c.tidy_up.ensures.nothing c.tidy_up.ensures.held c.tidy_up.ensures.looks)
 
 pub returns-in-Ok-leave_conflict-clause-finished : goal.returns-in-Ok-leave_conflict-clause-finished
@@ -40,4 +40,4 @@ returns-in-Err-leave_conflict-clause-finished g c =
     finished_memory s w (g.P.Port.state c.leave_conflict.new.port) old r due new c.args.lits.now c.args.back c.args.address left.same
     (record { learned = left.learned; restarts = left.restarts; import_due = left.import_due; active = left.active; offers = left.offers })
     (asked_then s w old r due c.due-ring.ensures.asked c.due-ring.ensures.due c.tidy_up.ensures.nothing c.tidy_up.ensures.held c.tidy_up.ensures.looks)
-    c.in-Ok.ensures.ok
+    c.in-Ok.ensures.ok c.in-Ok.ensures.lines

@@ -16,6 +16,8 @@ returns-clause-restarted g c =
       clauses = c.in_ok-attach_lemma.ensures.attached ∙ ap (λ (w : WatchData). attached w ++ option_to_list c.args.address) same;
       listed = record {
         lemmas = c.in_ok-attach_lemma.ensures.listed ∙ ap (λ (r : Ring). r.lemmas.items ++ option_to_list c.args.address) c.go_back.ensures.same;
+        imports = ap (λ (r : Ring). r.imports.items) c.go_back.ensures.same;
+        last_start = ap (λ (r : Ring). r.last_start) c.go_back.ensures.same;
         reductions = ap (λ (r : Ring). r.reductions) c.go_back.ensures.same;
         reduced_at = ap (λ (r : Ring). r.reduced_at) c.go_back.ensures.same;
       };

@@ -1,4 +1,4 @@
-use Rattle.ring_run.proofs.Tidying.{tidied_keeps, tidied_over, tidied_wrote, tidied_seen, tidied_waiting, tidied_held, tidied_looks, tidied_nothing, tidied_lines}
+use Rattle.ring_run.proofs.Tidying.{tidied_keeps, tidied_over, tidied_wrote, tidied_seen, tidied_waiting, tidied_held, tidied_looks, tidied_nothing, tidied_lines, tidied_some}
 use Rattle.ring_run.proofs.lemma.tidy_up.Goals as goal
 
 pub returns-clause-ok : goal.returns-clause-ok
@@ -27,3 +27,6 @@ returns-clause-nothing g c = tidied_nothing (g.P.Port.state c.args.port.now) (g.
 
 pub returns-clause-lines : goal.returns-clause-lines
 returns-clause-lines g c = tidied_lines (g.P.Port.state c.args.port.now) (g.P.Port.state c.tidy.new.self) c.tidy.result c.tidy.ensures.tidied
+
+pub returns-clause-some : goal.returns-clause-some
+returns-clause-some g c = tidied_some (g.P.Port.state c.args.port.now) (g.P.Port.state c.tidy.new.self) c.tidy.result c.tidy.ensures.tidied

@@ -1,7 +1,8 @@
-use Rattle.std.proofs.Common.{◌+◌, refl}
+use Rattle.std.proofs.Common.{◌+◌, ap, inl, inr, refl}
+use Rattle.ring_run.specs.Ending.{end_refused}
 use Rattle.ring_run.proofs.Offering.{nothing_then}
 use Rattle.ring_run.proofs.Progress.{refused_ends}
-use Rattle.ring_run.proofs.Reducing.{noted_goes_on, noted_import, noted_lemmas, noted_nothing, cut_short_over, cut_short_nothing, reduced_goes_on, reduced_import, reduced_nothing, reduced_lemmas, timely_reduce}
+use Rattle.ring_run.proofs.Reducing.{noted_goes_on, noted_import, noted_lemmas, noted_nothing, cut_short_over, cut_short_nothing, reduced_goes_on, reduced_import, reduced_nothing, reduced_lemmas, reduced_apart, timely_reduce}
 use Rattle.ring_run.proofs.Resting.{import_resting}
 use Rattle.ring_run.proofs.Shrinking.{reduced_opening, reduced_quiet, reduced_lately, reduced_none, reduced_some}
 use Rattle.ring_run.proofs.reduction.reduce_lemmas.Goals as goal
@@ -68,6 +69,15 @@ returns-clause-listed g c =
     let ring = c.args.ring.now in
     reduced_lemmas s m (g.P.Port.state c.reduce.new.port) ring c.in-Ok.ensures.noted c.requires.listed ring.watches c.reduce.new.watches ring.trail.steps c.reduce.new.lemmas.items c.in-Ok-reduce.ensures.reduced
     (record ring { watches = c.reduce.new.watches; lemmas = c.reduce.new.lemmas; reductions = ring.reductions + 1; reduced_at = ring.learned }) c.requires.due c.in-Ok-reduce.ensures.lemmas refl refl refl refl refl
+    (record { imports = refl; last_start = refl }) c.requires.apart.unmixed refl
+
+pub returns-clause-apart : goal.returns-clause-apart
+returns-clause-apart g c =
+    let s = g.P.Port.state c.args.port.now in
+    let m = g.P.Port.state c.note_reduce.new.self in
+    let ring = c.args.ring.now in
+    reduced_apart s m (g.P.Port.state c.reduce.new.port) ring c.in-Ok.ensures.noted c.requires.listed ring.watches c.reduce.new.watches ring.trail.steps c.reduce.new.lemmas.items c.in-Ok-reduce.ensures.reduced
+    (record ring { watches = c.reduce.new.watches; lemmas = c.reduce.new.lemmas; reductions = ring.reductions + 1; reduced_at = ring.learned }) refl (record { imports = refl; last_start = refl }) c.requires.apart
 
 pub returns-clause-nothing : goal.returns-clause-nothing
 returns-clause-nothing g c =
@@ -76,3 +86,11 @@ returns-clause-nothing g c =
     let u = g.P.Port.state c.reduce.new.port in
     let ring = c.args.ring.now in
     nothing_then s m u (noted_nothing s m c.in-Ok.ensures.noted) (reduced_nothing m u ring ring.watches c.reduce.new.watches ring.trail.steps c.reduce.new.lemmas.items c.in-Ok-reduce.ensures.reduced)
+
+pub returns-in-Err-clause-halts : goal.returns-in-Err-clause-halts
+returns-in-Err-clause-halts g c = inl (c.in-Err.stop, c.in-Err.ensures.noted, refl)
+
+pub returns-in-Err-reduce-clause-halts : goal.returns-in-Err-reduce-clause-halts
+returns-in-Err-reduce-clause-halts g c =
+    let cut = c.in-Err-reduce.ensures.reduced in
+    inr (g.P.Port.state c.note_reduce.new.self, c.in-Ok.ensures.noted, record { dropped = cut.dropped; among = cut.among; port = cut.port; memory = ap end_refused cut.memory })

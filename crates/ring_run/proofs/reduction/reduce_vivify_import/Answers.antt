@@ -1,4 +1,8 @@
-use Rattle.std.proofs.Common.{ap, sym, ◌∙◌, subst, ◌≡◌, ℕ, arith}
+use Rattle.std.proofs.Common.{ap, sym, ◌∙◌, ◌+◌, ◌-◌, subst, ◌≡◌, ◌⊎◌, ℕ, arith, inl, inr}
+use Rattle.std.proofs.lemmas.Bool.{cases_lt}
+use Rattle.reduce_db.specs.Moment.{lemmas_before}
+use Rattle.ring_run.specs.Renewal.{IsDue, HasShrunk, IsIdle}
+use Rattle.ring_run.proofs.Halted.{renewing_halted}
 use Rattle.ring_run.specs.Ended.{HasPolled}
 use Rattle.ring_run.specs.Ending.{ComesTo}
 use Rattle.ring_run.specs.Searching.{GoesOn}
@@ -126,3 +130,19 @@ returns-clause-in_time g c = c.import.ensures.in_time (let h = c.in-Ok.ensures.i
 
 pub returns-in-Err-clause-refused : goal.returns-in-Err-clause-refused
 returns-in-Err-clause-refused g c = c.in-Err.ensures.over.refusal
+
+pub returns-in-Err-clause-halts : goal.returns-in-Err-clause-halts
+returns-in-Err-clause-halts g c = inl c.in-Err.ensures.halts
+
+pub returns-clause-halts : goal.returns-clause-halts
+returns-clause-halts g c =
+    let s = g.P.Port.state c.args.port.now in
+    let m = g.P.Port.state c.shrink_due.new.port in
+    let old = c.args.ring.now in
+    let ring = c.shrink_due.new.ring in
+    let shrunk : (IsDue old × HasShrunk s m old ring) ⊎ IsIdle s m old ring =
+    elim (cases_lt (old.learned - old.reduced_at) (lemmas_before (old.reductions + 1))) as (λ _. (IsDue old × HasShrunk s m old ring) ⊎ IsIdle s m old ring) [
+      | inl early ↦ inr (c.in-Ok.ensures.early early)
+      | inr due ↦ inl (due, c.in-Ok.ensures.due due)
+    ] in
+    renewing_halted s m (g.P.Port.state c.import.new.port) old ring c.import.result shrunk c.import.ensures.halts

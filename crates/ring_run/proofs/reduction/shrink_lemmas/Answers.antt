@@ -1,4 +1,5 @@
-use Rattle.std.proofs.Common.{List, ◌∙◌, ap, refl, arith, length, Ok}
+use Rattle.std.proofs.Common.{List, ◌∙◌, ap, sym, subst, inl, inr, refl, arith, length, Ok}
+use Rattle.ring_run.specs.Halting.{HaltsReducing}
 use Rattle.ring_run.specs.declared.ring.Ring.{Ring}
 use Rattle.sat_words.specs.Literal.{Literal}
 use Rattle.ring_run.proofs.Listing.{listed_same}
@@ -12,28 +13,28 @@ use Rattle.ring_run.proofs.InTime.{in_time_wrote}
 
 pub returns-in-Err-clause-over : goal.returns-in-Err-clause-over
 returns-in-Err-clause-over g c =
-    refused_halts (g.P.Port.state c.args.port.now) (g.P.Port.state c.reduce_lemmas.new.port) c.in-Err.stop c.end_refused.result c.end_refused.ensures c.in-Err.ensures.over
+    refused_halts (g.P.Port.state c.args.port.now) (g.P.Port.state c.reduce_both.new.port) c.in-Err.stop c.end_refused.result c.end_refused.ensures c.in-Err.ensures.over
 
 pub returns-in-Err-vivify_lemmas-clause-over : goal.returns-in-Err-vivify_lemmas-clause-over
 returns-in-Err-vivify_lemmas-clause-over g c =
-    halts_then (g.P.Port.state c.args.port.now) (g.P.Port.state c.reduce_lemmas.new.port) (g.P.Port.state c.vivify_lemmas.new.port) c.in-Err-vivify_lemmas.end c.in-Ok.ensures.ok c.in-Err-vivify_lemmas.ensures.over
+    halts_then (g.P.Port.state c.args.port.now) (g.P.Port.state c.reduce_both.new.port) (g.P.Port.state c.vivify_lemmas.new.port) c.in-Err-vivify_lemmas.end c.in-Ok.ensures.ok c.in-Err-vivify_lemmas.ensures.over
 
 pub returns-in-Err-vivify_lemmas-clause-nothing : goal.returns-in-Err-vivify_lemmas-clause-nothing
 returns-in-Err-vivify_lemmas-clause-nothing g c =
-    nothing_then (g.P.Port.state c.args.port.now) (g.P.Port.state c.reduce_lemmas.new.port) (g.P.Port.state c.vivify_lemmas.new.port) c.reduce_lemmas.ensures.nothing c.vivify_lemmas.ensures.nothing
+    nothing_then (g.P.Port.state c.args.port.now) (g.P.Port.state c.reduce_both.new.port) (g.P.Port.state c.vivify_lemmas.new.port) c.reduce_both.ensures.nothing c.vivify_lemmas.ensures.nothing
 
 pub returns-in-Ok-tidy_up-clause-shrunk : goal.returns-in-Ok-tidy_up-clause-shrunk
 returns-in-Ok-tidy_up-clause-shrunk g c = record {
-  dropped = g.P.Port.state c.reduce_lemmas.new.port;
-  between = c.reduce_lemmas.new.ring;
+  dropped = g.P.Port.state c.reduce_both.new.port;
+  between = c.reduce_both.new.ring;
   reduced = c.in-Ok.ensures.reduced;
-  same_trail = ap (λ (r : Ring). r.trail) c.reduce_lemmas.ensures.same;
+  same_trail = ap (λ (r : Ring). r.trail) c.reduce_both.ensures.same;
   vivified_port = g.P.Port.state c.vivify_lemmas.new.port;
   ordered = c.in-Ok.ensures.listed.ordered;
   vivified = c.in-Ok-vivify_lemmas.ensures.took;
   same = c.vivify_lemmas.ensures.same
-      ∙ ap (λ (r : Ring). record r { trail = c.vivify_lemmas.new.ring.trail; watches = c.vivify_lemmas.new.ring.watches; written = c.vivify_lemmas.new.ring.written; lemmas = c.vivify_lemmas.new.ring.lemmas }) c.reduce_lemmas.ensures.same
-      ∙ shrunk_same c.args.ring.now c.reduce_lemmas.new.ring c.vivify_lemmas.new.ring (ap (λ (r : Ring). r.reductions) c.vivify_lemmas.ensures.same) (ap (λ (r : Ring). r.reduced_at) c.vivify_lemmas.ensures.same);
+      ∙ ap (λ (r : Ring). record r { trail = c.vivify_lemmas.new.ring.trail; watches = c.vivify_lemmas.new.ring.watches; written = c.vivify_lemmas.new.ring.written; lemmas = c.vivify_lemmas.new.ring.lemmas }) c.reduce_both.ensures.same
+      ∙ shrunk_same c.args.ring.now c.reduce_both.new.ring c.vivify_lemmas.new.ring (ap (λ (r : Ring). r.imports) c.vivify_lemmas.ensures.same) (ap (λ (r : Ring). r.reductions) c.vivify_lemmas.ensures.same) (ap (λ (r : Ring). r.reduced_at) c.vivify_lemmas.ensures.same);
   counted = ap (λ (r : Ring). r.reductions) c.vivify_lemmas.ensures.same;
   lines = c.in-Ok-tidy_up.ensures.lines;
 }
@@ -54,19 +55,19 @@ returns-in-Ok-tidy_up-clause-listed g c =
     let u = g.P.Port.state c.tidy_up.new.port in
     let ring = c.vivify_lemmas.new.ring in
     let wrote = c.in-Ok-tidy_up.ensures.wrote in
-    listed_same m u ring ring wrote.stays.start wrote.recent refl (λ d there. there) refl refl refl (kept_wrote m u ring.lemmas.items wrote) c.in-Ok-vivify_lemmas.ensures.listed
+    listed_same m u ring ring wrote.stays.start wrote.recent refl (λ d there. there) refl refl refl (record { imports = refl; last_start = refl }) (kept_wrote m u ring.lemmas.items wrote) c.in-Ok-vivify_lemmas.ensures.listed
 
 pub returns-in-Ok-tidy_up-clause-steps : goal.returns-in-Ok-tidy_up-clause-steps
 returns-in-Ok-tidy_up-clause-steps g c =
-    let same = ap (λ (r : Ring). length r.trail.steps) c.reduce_lemmas.ensures.same in
+    let same = ap (λ (r : Ring). length r.trail.steps) c.reduce_both.ensures.same in
     omega (arith, same, c.in-Ok-vivify_lemmas.ensures.steps)
 
 pub returns-in-Ok-tidy_up-clause-nothing : goal.returns-in-Ok-tidy_up-clause-nothing
 returns-in-Ok-tidy_up-clause-nothing g c =
     let s = g.P.Port.state c.args.port.now in
-    let m = g.P.Port.state c.reduce_lemmas.new.port in
+    let m = g.P.Port.state c.reduce_both.new.port in
     let v = g.P.Port.state c.vivify_lemmas.new.port in
-    nothing_then s m (g.P.Port.state c.tidy_up.new.port) c.reduce_lemmas.ensures.nothing (nothing_then m v (g.P.Port.state c.tidy_up.new.port) c.vivify_lemmas.ensures.nothing c.tidy_up.ensures.nothing)
+    nothing_then s m (g.P.Port.state c.tidy_up.new.port) c.reduce_both.ensures.nothing (nothing_then m v (g.P.Port.state c.tidy_up.new.port) c.vivify_lemmas.ensures.nothing c.tidy_up.ensures.nothing)
 
 pub returns-in-Err-tidy_up-clause-over : goal.returns-in-Err-tidy_up-clause-over
 returns-in-Err-tidy_up-clause-over g c =
@@ -79,9 +80,9 @@ returns-in-Err-tidy_up-clause-over g c =
 pub returns-in-Err-tidy_up-clause-nothing : goal.returns-in-Err-tidy_up-clause-nothing
 returns-in-Err-tidy_up-clause-nothing g c =
     let s = g.P.Port.state c.args.port.now in
-    let m = g.P.Port.state c.reduce_lemmas.new.port in
+    let m = g.P.Port.state c.reduce_both.new.port in
     let v = g.P.Port.state c.vivify_lemmas.new.port in
-    nothing_then s m (g.P.Port.state c.tidy_up.new.port) c.reduce_lemmas.ensures.nothing (nothing_then m v (g.P.Port.state c.tidy_up.new.port) c.vivify_lemmas.ensures.nothing c.tidy_up.ensures.nothing)
+    nothing_then s m (g.P.Port.state c.tidy_up.new.port) c.reduce_both.ensures.nothing (nothing_then m v (g.P.Port.state c.tidy_up.new.port) c.vivify_lemmas.ensures.nothing c.tidy_up.ensures.nothing)
 
 pub returns-in-Ok-tidy_up-clause-in_time : goal.returns-in-Ok-tidy_up-clause-in_time
 returns-in-Ok-tidy_up-clause-in_time g c =
@@ -89,3 +90,25 @@ returns-in-Ok-tidy_up-clause-in_time g c =
     let u = g.P.Port.state c.tidy_up.new.port in
     let none = ap (λ (cs : List (List Literal)). length cs) c.in-Ok-vivify_lemmas.ensures.resting.lately in
     in_time_wrote m u 0 c.in-Ok-tidy_up.ensures.wrote (omega (arith, none))
+
+pub returns-in-Err-clause-halts : goal.returns-in-Err-clause-halts
+returns-in-Err-clause-halts g c =
+    inl (subst (HaltsReducing (g.P.Port.state c.args.port.now) (g.P.Port.state c.reduce_both.new.port) c.args.ring.now) (sym c.end_refused.ensures) c.in-Err.ensures.halts)
+
+pub returns-in-Err-vivify_lemmas-clause-halts : goal.returns-in-Err-vivify_lemmas-clause-halts
+returns-in-Err-vivify_lemmas-clause-halts g c = inr (g.P.Port.state c.reduce_both.new.port, c.reduce_both.new.ring, c.in-Ok.ensures.reduced, inl c.in-Err-vivify_lemmas.ensures.halts)
+
+pub returns-in-Err-tidy_up-clause-halts : goal.returns-in-Err-tidy_up-clause-halts
+returns-in-Err-tidy_up-clause-halts g c = inr (
+  g.P.Port.state c.reduce_both.new.port,
+  c.reduce_both.new.ring,
+  c.in-Ok.ensures.reduced,
+  inr (record {
+    port = g.P.Port.state c.vivify_lemmas.new.port;
+    after = c.vivify_lemmas.new.ring;
+    vivified = c.in-Ok-vivify_lemmas.ensures.took;
+    stop = c.in-Err-tidy_up.stop;
+    deleting = c.in-Err-tidy_up.ensures.some;
+    over = c.end_refused-in-Err-tidy_up.ensures;
+  }),
+)

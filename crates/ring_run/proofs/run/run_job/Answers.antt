@@ -8,7 +8,7 @@ use Rattle.ring_trail.specs.TrailData.{TrailData}
 use Rattle.ring_port.specs.PortState.{PortState}
 use Rattle.ring_run.specs.Searching.{GoesOn}
 use Rattle.ring_run.specs.Ending.{ComesTo}
-use Rattle.ring_run.specs.Course.{HasLemmas, MayImport, IsOffering, IsPolling}
+use Rattle.ring_run.specs.Course.{last_of, HasLemmas, MayImport, IsOffering, IsPolling}
 use Rattle.ring_run.specs.declared.job.End.TheVariants.{Memory}
 use Rattle.ring_run.proofs.Beginning.{listed_begin, goes_begin, begun, paced_begin, restarted_by, restarted_none}
 use Rattle.ring_run.proofs.Progress.{out_of_memory}
@@ -133,7 +133,7 @@ search-end-requires-clause-listed g c =
     let s = g.P.Port.state c.args.port.now in
     let listed = c.in-Ok.ensures.listed in
     subst (λ (x : PortState). HasLemmas x c.in-Ok.ring) (sym c.in-Ok.ensures.same)
-    (listed_begin s c.in-Ok.ring c.requires.untouched.mine c.in-Ok.ensures.learned listed.0 listed.1 listed.2)
+    (listed_begin s c.in-Ok.ring c.requires.untouched.mine c.in-Ok.ensures.learned listed.0 listed.1 listed.2 c.in-Ok.ensures.imports (c.in-Ok.ensures.last_start ∙ ap last_of c.requires.job.start))
 
 pub returns-clause-imported : goal.returns-clause-imported
 returns-clause-imported g c =
@@ -191,6 +191,8 @@ returns-clause-ran g c =
         restarts = made.restarts;
         learned = made.learned;
         lemmas = made.listed.0;
+        imports = made.imports;
+        last_start = made.last_start;
         reductions = made.listed.1;
         reduced_at = made.listed.2;
         written = made.written;

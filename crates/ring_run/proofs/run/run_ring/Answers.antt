@@ -47,3 +47,11 @@ returns-clause-in_time g c = c.set_stop.ensures.in_time c.run_job-end.result.1 c
 
 pub returns-clause-lately : goal.returns-clause-lately
 returns-clause-lately g c = (c.set_stop.ensures.runs (g.P.Port.state c.args.port.now) c.run_job-end.result.1.learned c.run_job-end.ensures.ends.runs).lately
+
+pub returns-clause-ran : goal.returns-clause-ran
+returns-clause-ran g c = record {
+  before = g.P.Port.state c.run_job-end.new.port;
+  found = c.run_job-end.result.0;
+  ran = c.run_job-end.ensures.ran;
+  set = c.set_stop.ensures.set;
+}

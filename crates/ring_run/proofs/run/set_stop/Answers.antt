@@ -1,5 +1,8 @@
 use Rattle.std.specs.Prelude.{Some}
-use Rattle.std.proofs.Common.{ap, inl, inr, refl}
+use Rattle.std.proofs.Common.{ap, inl, inr, refl, subst, ℕ}
+use Rattle.sat_words.specs.declared.shared.Set.TheVariants.{Won, Lost}
+use Rattle.ring_run.specs.Ending.{SetsStop}
+use Rattle.ring_run.specs.declared.job.End.TheVariants.{Stopped}
 use Rattle.ring_port.specs.PortState.{PortState}
 use Rattle.ring_run.proofs.Polling.{polled_stopped}
 use Rattle.ring_run.proofs.Offering.{nothing_set}
@@ -67,3 +70,20 @@ returns-in-Lost-clause-answer g c = inr (c.in-Lost.stop, refl)
 
 pub returns-in_default-clause-answer : goal.returns-in_default-clause-answer
 returns-in_default-clause-answer g c = inl refl
+
+pub returns-in-Won-clause-set : goal.returns-in-Won-clause-set
+returns-in-Won-clause-set g c =
+    let s = g.P.Port.state c.args.port.now in
+    let u = g.P.Port.state c.stop.new.self in
+    subst (λ (o : Option ℕ). SetsStop s u o c.args.end c.args.end) (sym c.in-Some.is ∙ c.stop_kind.ensures) (Won, c.in-Won.ensures.set, refl)
+
+pub returns-in-Lost-clause-set : goal.returns-in-Lost-clause-set
+returns-in-Lost-clause-set g c =
+    let s = g.P.Port.state c.args.port.now in
+    let u = g.P.Port.state c.stop.new.self in
+    subst (λ (o : Option ℕ). SetsStop s u o c.args.end (Stopped c.in-Lost.stop)) (sym c.in-Some.is ∙ c.stop_kind.ensures) (Lost c.in-Lost.stop, c.in-Lost.ensures.set, refl)
+
+pub returns-in_default-clause-set : goal.returns-in_default-clause-set
+returns-in_default-clause-set g c =
+    let s = g.P.Port.state c.args.port.now in
+    subst (λ (o : Option ℕ). SetsStop s s o c.args.end c.args.end) (sym c.in_default.is ∙ c.stop_kind.ensures) (refl, refl)

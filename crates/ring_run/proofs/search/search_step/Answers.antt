@@ -1,4 +1,4 @@
-use Rattle.std.proofs.Common.{◌∙◌, ◌≤◌, ◌+◌, List, length, subst, sym, ap, refl, arith, length-append, Contains}
+use Rattle.std.proofs.Common.{◌∙◌, ◌≤◌, ◌+◌, List, length, subst, sym, ap, refl, inl, arith, length-append, Contains}
 use Rattle.sat_words.specs.declared.shared.Cref.{Cref}
 use Rattle.ring_trail.specs.declared.step.TrailStep.{TrailStep}
 use Rattle.ring_run.specs.Ended.{polls_of}
@@ -17,8 +17,8 @@ use Rattle.ring_run.specs.Ended.{HasImported, LookedAlong, rounds, import_slots}
 use Rattle.ring_run.proofs.InTime.{sums_exact}
 use Rattle.ring_run.specs.Ended.{IsInTime}
 use Rattle.ring_run.specs.Course.{SumsUp}
-use Rattle.ring_run.specs.Course.{LearnsFrom, EndsQuietly}
-use Rattle.ring_run.specs.Turn.{ActedAtQuiet}
+use Rattle.ring_run.specs.Course.{LearnsFrom}
+use Rattle.ring_run.specs.Turn.{ActedAtQuiet, EndsQuietly}
 use Rattle.ring_run.proofs.Acting.{conflict_turn, quiet_turn}
 
 pub learn_from-requires-clause-search : goal.learn_from-requires-clause-search
@@ -83,14 +83,14 @@ learn_from-requires-clause-listed g c =
     let s = g.P.Port.state c.args.port.now in
     let between : Ring = record c.args.ring.now { trail = c.propagate.new.trail; watches = c.propagate.new.self } in
     subst (λ (x : PortState). HasLemmas x between) (sym c.propagate.ensures.same)
-    (listed_same s s c.args.ring.now between refl refl refl (λ d there. subst (λ (cs : List Cref). Contains cs d) (sym c.propagate.ensures.attached) there) refl refl refl (kept_none s c.args.ring.now.lemmas.items) c.requires.listed)
+    (listed_same s s c.args.ring.now between refl refl refl (λ d there. subst (λ (cs : List Cref). Contains cs d) (sym c.propagate.ensures.attached) there) refl refl refl (record { imports = refl; last_start = refl }) (kept_none s c.args.ring.now.lemmas.items) c.requires.listed)
 
 pub decide_next-requires-clause-listed : goal.decide_next-requires-clause-listed
 decide_next-requires-clause-listed g c =
     let s = g.P.Port.state c.args.port.now in
     let between : Ring = record c.args.ring.now { trail = c.propagate.new.trail; watches = c.propagate.new.self } in
     subst (λ (x : PortState). HasLemmas x between) (sym c.propagate.ensures.same)
-    (listed_same s s c.args.ring.now between refl refl refl (λ d there. subst (λ (cs : List Cref). Contains cs d) (sym c.propagate.ensures.attached) there) refl refl refl (kept_none s c.args.ring.now.lemmas.items) c.requires.listed)
+    (listed_same s s c.args.ring.now between refl refl refl (λ d there. subst (λ (cs : List Cref). Contains cs d) (sym c.propagate.ensures.attached) there) refl refl refl (record { imports = refl; last_start = refl }) (kept_none s c.args.ring.now.lemmas.items) c.requires.listed)
 
 pub returns-in_default-clause-imports : goal.returns-in_default-clause-imports
 returns-in_default-clause-imports g c = λ start p h.
@@ -136,7 +136,7 @@ returns-in-Quiet-clause-took g c =
     (record { same = refl; grown = c.propagate.ensures.grown; clauses = c.propagate.ensures.attached; reasons = c.propagate.ensures.reasons })
     (subst (IsPropagated c.propagate.new.self (lits_at s) c.propagate.new.trail) c.in-Quiet.is c.in-Ok.ensures.propagated)
     (λ on. subst (λ (x : PortState). ActedAtQuiet x u between c.decide_next.new.ring) c.propagate.ensures.same (c.decide_next.ensures.acted on))
-    (subst (λ (x : PortState). EndsQuietly x u c.decide_next.result) c.propagate.ensures.same c.decide_next.ensures.ended)
+    (subst (λ (x : PortState). EndsQuietly x u between c.decide_next.new.ring c.decide_next.result) c.propagate.ensures.same c.decide_next.ensures.ended)
 
 pub returns-in-Conflict-clause-in_time : goal.returns-in-Conflict-clause-in_time
 returns-in-Conflict-clause-in_time g c = λ p h.
@@ -151,3 +151,10 @@ returns-in-Quiet-clause-in_time g c = λ p h.
     c.decide_next.ensures.in_time
     (subst (λ (x : PortState). IsPolling x between) (sym c.propagate.ensures.same) (record { place = p.place; polled = p.polled; low = λ e. c.propagate.ensures.grown.level ∙ p.low e }))
     (λ settled. subst (λ (x : PortState). IsInTime x between.restarts.since) (sym c.propagate.ensures.same) (h settled))
+
+pub returns-in_default-clause-took : goal.returns-in_default-clause-took
+returns-in_default-clause-took g c = record {
+  middle = record c.args.ring.now { trail = c.propagate.new.trail; watches = c.propagate.new.self };
+  propagated = record { same = refl; grown = c.propagate.ensures.grown; clauses = c.propagate.ensures.attached; reasons = c.propagate.ensures.reasons };
+  halts = inl (c.propagate.ensures.same, refl, record { learned = refl; restarts = refl });
+}

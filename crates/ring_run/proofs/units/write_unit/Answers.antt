@@ -21,7 +21,7 @@ use Rattle.ring_run.proofs.Offering.{nothing_none, nothing_unit}
 use Rattle.ring_run.proofs.Remembering.{added_seen}
 use Rattle.ring_run.proofs.Telling.{told_skipped, told_written}
 use Rattle.ring_run.proofs.Standing.{stands_written, place_on}
-use Rattle.ring_run.proofs.Told.{units_none, units_by}
+use Rattle.ring_run.proofs.Told.{units_none, units_by, units_halted}
 use Rattle.ring_run.proofs.units.write_unit.Goals as goal
 
 keeps_on : (s u : PortState) (l : Literal) (r : Result (Unit {0}) PortStop) → IsOn s.vars l → UnitsSeen s → has s.seen l ≡ false → UnitWritten s u l r → KeepsLog s u → IsPort u → OnOk r (KeepsOn s u)
@@ -110,3 +110,6 @@ returns-then-is_none-clause-lines g c = units_none (g.P.Port.state c.args.port.n
 
 pub returns-clause-lines : goal.returns-clause-lines
 returns-clause-lines g c = units_by (g.P.Port.state c.args.port.now) (g.P.Port.state c.unit.new.self) c.lit_at.result c.unit.result c.unit.ensures.written
+
+pub returns-clause-halts : goal.returns-clause-halts
+returns-clause-halts g c = units_halted (g.P.Port.state c.args.port.now) (g.P.Port.state c.unit.new.self) c.lit_at.result c.unit.result c.unit.ensures.written

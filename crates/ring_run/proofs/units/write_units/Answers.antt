@@ -1,7 +1,8 @@
 use Rattle.std.proofs.Common.{◌∙◌, refl}
 use Rattle.ring_run.proofs.Offering.{nothing_none, nothing_then}
 use Rattle.ring_run.proofs.Progress.{wrote_none, wrote_by}
-use Rattle.ring_run.proofs.Told.{units_none, units_then}
+use Rattle.ring_run.specs.Ending.{end_refused}
+use Rattle.ring_run.proofs.Told.{units_none, units_then, halted_then}
 use Rattle.ring_run.proofs.units.write_units.Goals as goal
 
 pub loop-place-init : goal.loop-place-init
@@ -42,3 +43,7 @@ loop-place-preserved g c = record {
 
 pub returns-in-Err-clause-nothing : goal.returns-in-Err-clause-nothing
 returns-in-Err-clause-nothing g c = nothing_then (g.P.Port.state c.args.port.now) (g.P.Port.state c.loop-place.port) (g.P.Port.state c.write_unit.new.port) c.loop-place.invariant.nothing c.in-Err.ensures.nothing
+
+pub returns-in-Err-clause-halts : goal.returns-in-Err-clause-halts
+returns-in-Err-clause-halts g c =
+    halted_then (g.P.Port.state c.args.port.now) (g.P.Port.state c.loop-place.port) (g.P.Port.state c.write_unit.new.port) (end_refused c.in-Err.stop) c.loop-place.invariant.lines c.in-Err.ensures.halts

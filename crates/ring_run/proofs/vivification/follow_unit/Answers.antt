@@ -1,4 +1,4 @@
-use Rattle.std.proofs.Common.{◌≡◌, ◌∙◌, ℕ, [], subst, ap, sym, length, None, arith}
+use Rattle.std.proofs.Common.{◌≡◌, ◌∙◌, ℕ, [], subst, ap, sym, inl, inr, refl, length, None, arith}
 use Rattle.rup_model.specs.Journal.{recent}
 use Rattle.ring_port.specs.PortState.{PortState, lits_at}
 use Rattle.ring_trail.specs.TrailData.{TrailData, IsTrail, HasGrown, assigned}
@@ -6,7 +6,7 @@ use Rattle.watch_prop.specs.WatchData.{WatchData, attached}
 use Rattle.watch_prop.specs.Watched.{Watched}
 use Rattle.watch_prop.specs.Propagation.{HasReasons, IsClosedBelow, IsPropagated, IsConflict, IsQuiet}
 use Rattle.ring_run.specs.Searching.{GoesOn, OnlyWrote, ToldUnits, AreTold}
-use Rattle.ring_run.specs.Ending.{EndsAt, end_refused}
+use Rattle.ring_run.specs.Ending.{EndsAt, WroteEmpty, HaltsTelling, end_refused}
 use Rattle.ring_run.specs.Course.{Searches}
 use Rattle.ring_run.proofs.Resting.{conflict_refutes}
 use Rattle.ring_run.proofs.Shrinking.{refused_halts}
@@ -112,3 +112,14 @@ returns-in-Err-clause-over g c =
     let s = g.P.Port.state c.args.port.now in
     let u = g.P.Port.state c.write_pending.new.port in
     refused_halts s u c.in-Err.stop c.end_refused.result c.end_refused.ensures (subst (λ (x : PortState). EndsAt x u (end_refused c.in-Err.stop)) c.propagate.ensures.same c.in-Err.ensures.over)
+
+pub returns-in_default-clause-halts : goal.returns-in_default-clause-halts
+returns-in_default-clause-halts g c = inl (c.propagate.ensures.same, refl)
+
+pub returns-in-Conflict-clause-halts : goal.returns-in-Conflict-clause-halts
+returns-in-Conflict-clause-halts g c = inr (inl (subst (λ (x : PortState). WroteEmpty x (g.P.Port.state c.refute.new.port) c.refute.result) c.propagate.ensures.same c.refute.ensures.empty))
+
+pub returns-in-Err-clause-halts : goal.returns-in-Err-clause-halts
+returns-in-Err-clause-halts g c =
+    let u = g.P.Port.state c.write_pending.new.port in
+    inr (inr (subst (λ (x : PortState). HaltsTelling x u c.end_refused.result) c.propagate.ensures.same (subst (HaltsTelling (g.P.Port.state c.propagate.new.port) u) (sym c.end_refused.ensures) c.in-Err.ensures.halts)))

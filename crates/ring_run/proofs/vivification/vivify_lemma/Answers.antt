@@ -1,4 +1,4 @@
-use Rattle.std.proofs.Common.{◌≡◌, ◌≢◌, ◌∙◌, ℕ, IsSome, subst, ap, refl, Ok}
+use Rattle.std.proofs.Common.{◌≡◌, ◌≢◌, ◌∙◌, ℕ, IsSome, subst, ap, inl, inr, refl, Ok}
 use Rattle.ring_port.specs.PortState.{PortState, held_at}
 use Rattle.ring_port.specs.Log.{KeepsLog}
 use Rattle.vivify.specs.Outcome.{IsVivified, WasCutShort}
@@ -133,3 +133,22 @@ returns-in-Err-clause-nothing g c =
     let port = c.vivify.ensures.port in
     let cut : WasCutShort s m ring.watches ring.trail.steps lemma c.in-Err.stop = subst (λ (x : PortState). WasCutShort x m ring.watches ring.trail.steps lemma c.in-Err.stop) same c.in-Err.ensures.stopped in
     (cut_rest s m ring mid lemma c.requires.resting c.requires.lemma named stay log port c.in-Err.stop cut).0
+
+pub returns-in-Ok-clause-halts : goal.returns-in-Ok-clause-halts
+returns-in-Ok-clause-halts g c =
+    let s = g.P.Port.state c.args.port.now in
+    let m = g.P.Port.state c.vivify.new.port in
+    let ring = c.args.ring.now in
+    let mid : Ring = record ring { trail = c.vivify.new.trail; watches = c.vivify.new.watches } in
+    let lemma = c.args.c in
+    let z : IsVivified s m ring.watches mid.watches ring.trail.steps lemma c.in-Ok.left = subst (λ (x : PortState). IsVivified x m ring.watches mid.watches ring.trail.steps lemma c.in-Ok.left) c.is_named.ensures.same c.in-Ok.ensures.vivified in
+    err_then c.settle_left.result c.settle_left.ensures.halts
+    (λ end h. (c.is_named.ensures.yes c.if-not-is_named.false, inr (record { lit = h.0; between = point m mid; vivified = subst (IsVivified s m ring.watches mid.watches ring.trail.steps lemma) h.1 z; following = h.2 })))
+
+pub returns-in-Err-clause-halts : goal.returns-in-Err-clause-halts
+returns-in-Err-clause-halts g c =
+    let m = g.P.Port.state c.vivify.new.port in
+    let ring = c.args.ring.now in
+    let lemma = c.args.c in
+    let cut = subst (λ (x : PortState). WasCutShort x m ring.watches ring.trail.steps lemma c.in-Err.stop) c.is_named.ensures.same c.in-Err.ensures.stopped in
+    (c.is_named.ensures.yes c.if-not-is_named.false, inl (c.in-Err.stop, cut, c.end_refused.ensures))

@@ -8,7 +8,6 @@ use Rattle.rup_model.proofs.Lists.{In}
 use Rattle.ring_port.specs.PortState.{PortState, IsPort, IsOn, lits_at, held_at}
 use Rattle.ring_port.specs.Port.{IsClause, WroteUnit}
 use Rattle.watch_prop.specs.WatchData.{WatchData, attached}
-use Rattle.ring_trail.specs.TrailData.{TrailData}
 use Rattle.watch_prop.specs.Watched.{Watched}
 use Rattle.watch_prop.specs.Propagation.{HasReasons, IsQuiet}
 use Rattle.rup_model.specs.declared.journal.Kind.TheVariants.{Derive, UnitLine}

@@ -1,15 +1,13 @@
-use Rattle.std.proofs.Common.{◌≡◌, ◌∙◌, List, [], Some, true, sym, ap, subst, arith}
-use Rattle.sat_words.specs.Literal.{Literal}
+use Rattle.std.proofs.Common.{◌≡◌, ◌∙◌, List, [], Some, sym, ap, subst, arith}
 use Rattle.sat_words.specs.declared.shared.Cref.{Cref}
-use Rattle.rup_model.specs.Rup.{rup}
-use Rattle.ring_port.specs.PortState.{PortState, lits_at, known}
-use Rattle.ring_trail.specs.TrailData.{TrailData, IsTrail}
+use Rattle.ring_port.specs.PortState.{PortState, lits_at}
+use Rattle.ring_trail.specs.TrailData.{TrailData}
 use Rattle.watch_prop.specs.WatchData.{attached}
 use Rattle.watch_prop.specs.Watched.{Watched}
 use Rattle.watch_prop.specs.Aside.{but}
-use Rattle.watch_prop.specs.Propagation.{HasReasons, IsQuiet}
+use Rattle.watch_prop.specs.Propagation.{HasReasons}
 use Rattle.watch_prop.proofs.Quiets.{quiet-same}
-use Rattle.vivify.specs.Walking.{IsWalking, PassedOver, HasWalked, IsAbove}
+use Rattle.vivify.specs.Walking.{IsWalking, PassedOver, HasWalked}
 use Rattle.vivify.proofs.Walked.{set_aside, is_back, put_back, left_now}
 use Rattle.vivify.proofs.walk.literals_left.Given as Given
 use Rattle.vivify.proofs.walk.literals_left.Goals.{In_ok-walk_clause, After-back_to}

@@ -6,7 +6,8 @@ use Rattle.watch_prop.specs.WatchData.{WatchData, watchers_at, list_at}
 use Rattle.watch_prop.specs.Watched.{At}
 use Rattle.watch_prop.specs.Lists.{Added}
 use Rattle.watch_prop.specs.Visiting.{ListsMore}
-use Rattle.watch_prop.specs.Layout.{ListData}
+use Rattle.watch_prop.specs.Layout.{ListData, HaveGrown}
+use Rattle.watch_prop.proofs.Rooms.{have-same, have-trans, have-pushed}
 use Rattle.watch_prop.proofs.Slots.{HasFree-set}
 use Rattle.watch_prop.proofs.watches.Watches.list.Goals as goal
 
@@ -44,3 +45,17 @@ invariant_of-self-2 c =
       HasFree-set c.self.inside.slots.items c.self.inside.settled c.args.watch.now _ c.self.inside.free_slots at refl i.2,
       omega (arith, i.3, length-set c.self.inside.slots.items c.self.inside.settled (Some record { clause = c.args.watch.now.clause; first = c.args.first; second = c.args.second; binary = c.args.watch.now.binary })),
     )
+
+pub returns-clause-rooms : goal.returns-clause-rooms
+returns-clause-rooms c =
+    subst (λ (x : WatchData). HaveGrown x.rooms c.push-2.new.self.rooms) c.self.view_is
+    (have-trans _ _ _ (have-pushed c.self.inside.lists _ _ c.in_ok-push.ensures.rooms) (have-pushed c.push.new.self _ _ c.in_ok-push-2.ensures.rooms))
+
+pub returns-in_err-push-clause-rooms : goal.returns-in_err-push-clause-rooms
+returns-in_err-push-clause-rooms c =
+    subst (λ (x : WatchData). HaveGrown x.rooms c.push.new.self.rooms) c.self.view_is (have-same c.self.inside.lists.rooms c.push.new.self.rooms (ap (λ (x : ListData). x.rooms) c.in_err-push.ensures.err))
+
+pub returns-in_err-push-2-clause-rooms : goal.returns-in_err-push-2-clause-rooms
+returns-in_err-push-2-clause-rooms c =
+    subst (λ (x : WatchData). HaveGrown x.rooms c.push-2.new.self.rooms) c.self.view_is
+    (have-trans _ _ _ (have-pushed c.self.inside.lists _ _ c.in_ok-push.ensures.rooms) (have-same c.push.new.self.rooms c.push-2.new.self.rooms (ap (λ (x : ListData). x.rooms) c.in_err-push-2.ensures.err)))

@@ -1,12 +1,12 @@
-use Rattle.std.proofs.Common.{◌≡◌, refl, sym, subst, length, arith}
+use Rattle.std.proofs.Common.{◌≡◌, ◌<◌, ◌≤◌, ◌+◌, ◌*◌, ℕ, List, refl, sym, subst, length, arith}
 use Rattle.ring_port.specs.PortState.{PortState, lits_at}
 use Rattle.ring_trail.specs.TrailData.{TrailData}
 use Rattle.watch_prop.specs.declared.propagated.Propagated.{Propagated}
-use Rattle.watch_prop.specs.declared.propagated.Propagated.TheVariants.{Quiet, Conflict}
-use Rattle.watch_prop.specs.WatchData.{WatchData, Lits}
+use Rattle.watch_prop.specs.WatchData.{attached}
+use Rattle.watch_prop.specs.Layout.{HaveGrown}
 use Rattle.watch_prop.specs.Advancing.{HasAdvanced}
 use Rattle.watch_prop.specs.Watched.{Watched}
-use Rattle.watch_prop.specs.Propagation.{IsPropagated, IsConflict, IsQuiet}
+use Rattle.watch_prop.specs.Propagation.{IsConflict, IsQuiet}
 use Rattle.watch_prop.proofs.Quiets.{quiet-same, quiet-conflict}
 use Rattle.watch_prop.specs.Visiting.{IsAllSettled, IsEnd}
 use Rattle.watch_prop.proofs.Advancing.{advanced_reasons, advanced_trans, came_to}
@@ -80,9 +80,32 @@ returns-in-Conflict-clause-settled g c = λ quiet.
     let bad : IsConflict w (lits_at s) c.watch_waiting.new.trail c.in-Conflict.clause
     = subst (λ (o : Propagated). IsAllSettled w (lits_at s) c.watch_waiting.new.trail o) c.in-Conflict.is c.in_ok-clause.ensures.settled in
     absurd (quiet-conflict w (lits_at s) t c.in-Conflict.clause c.decision_level-lawful.ensures.trail
-        (quiet-same c.tidy.new.self w (lits_at s) t t k.clauses refl before)
-        (subst (λ (u : TrailData). IsConflict w (lits_at s) u c.in-Conflict.clause) same bad))
+    (quiet-same c.tidy.new.self w (lits_at s) t t k.clauses refl before)
+    (subst (λ (u : TrailData). IsConflict w (lits_at s) u c.in-Conflict.clause) same bad))
 
 pub run-requires-clause-watched : goal.run-requires-clause-watched
 run-requires-clause-watched g c =
     subst (λ (s : PortState). Watched c.watch_waiting.new.self (lits_at s) c.watch_waiting.new.trail) (sym c.watch_waiting.ensures.same) c.watch_waiting.ensures.kept.watched
+
+-- Rooms
+
+grown_then : (g : Over) (c : After-watch_waiting g) (rooms : List ℕ) → HaveGrown c.tidy.new.self.rooms rooms → 0 < c.args.self.now.size → length c.args.self.now.slots ≤ 2 * length (attached c.args.self.now) + length c.args.self.now.lists → HaveGrown c.args.self.now.rooms rooms
+grown_then g c rooms h some few = subst (λ (rs : List ℕ). HaveGrown rs rooms) (c.tidy.ensures.rooms some few) h
+
+pub returns-in_err-clause-clause-rooms : goal.returns-in_err-clause-clause-rooms
+returns-in_err-clause-clause-rooms g c = grown_then g (goal.at.returns-in_err-clause-clause-rooms g c).After-watch_waiting _ c.watch_waiting.ensures.kept.rooms
+
+pub returns-in-Conflict-clause-rooms : goal.returns-in-Conflict-clause-rooms
+returns-in-Conflict-clause-rooms g c = grown_then g (goal.at.returns-in-Conflict-clause-rooms g c).After-watch_waiting _ c.watch_waiting.ensures.kept.rooms
+
+pub returns-in_err-run-in-Quiet-clause-rooms : goal.returns-in_err-run-in-Quiet-clause-rooms
+returns-in_err-run-in-Quiet-clause-rooms g c = grown_then g (goal.at.returns-in_err-run-in-Quiet-clause-rooms g c).After-watch_waiting _ (both g (goal.at.returns-in_err-run-in-Quiet-clause-rooms g c).After-run).rooms
+
+pub returns-in_ok-run-in-Quiet-clause-rooms : goal.returns-in_ok-run-in-Quiet-clause-rooms
+returns-in_ok-run-in-Quiet-clause-rooms g c = grown_then g (goal.at.returns-in_ok-run-in-Quiet-clause-rooms g c).After-watch_waiting _ (both g (goal.at.returns-in_ok-run-in-Quiet-clause-rooms g c).After-run).rooms
+
+pub returns-in_err-run-in-Quiet-clause-watched : goal.returns-in_err-run-in-Quiet-clause-watched
+returns-in_err-run-in-Quiet-clause-watched g c = (both g (goal.at.returns-in_err-run-in-Quiet-clause-watched g c).After-run).watched
+
+pub returns-in_ok-run-in-Quiet-clause-watched : goal.returns-in_ok-run-in-Quiet-clause-watched
+returns-in_ok-run-in-Quiet-clause-watched g c = (both g (goal.at.returns-in_ok-run-in-Quiet-clause-watched g c).After-run).watched

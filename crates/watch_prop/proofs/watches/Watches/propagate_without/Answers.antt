@@ -1,4 +1,4 @@
-use Rattle.std.proofs.Common.{◌≡◌, ◌∙◌, sym, refl, length, Some, Result, Ok, Err, IfOk}
+use Rattle.std.proofs.Common.{◌∙◌, sym, refl, Some, Result, Ok, Err, IfOk}
 use Rattle.ring_port.specs.PortState.{lits_at}
 use Rattle.watch_prop.specs.declared.propagated.Propagated.{Propagated}
 use Rattle.watch_prop.specs.Aside.{but}

@@ -99,6 +99,7 @@ loop-lit-preserved g c =
         vars = now.vars;
         grown = HasGrown-advance_head c.args.trail.now u (u.done + 1) now.grown;
         reasons = now.reasons;
+        rooms = now.rooms;
         still = λ quiet. absurd (
             let e = now.still quiet in
             let d : u.done ≡ length u.steps = ap (λ (x : TrailData). x.done) e ∙ quiet.done ∙ sym (ap (λ (x : TrailData). length x.steps) e) in

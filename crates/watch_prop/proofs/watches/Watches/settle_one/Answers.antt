@@ -14,6 +14,7 @@ use Rattle.watch_prop.proofs.Slots.{free_read}
 use Rattle.watch_prop.proofs.Settling.{waiting, Watched-skip, same_clauses, best-conflict, Watched-listed, Watched-more}
 use Rattle.watch_prop.proofs.Advancing.{advanced_none, advanced_watches}
 use Rattle.watch_prop.proofs.Quiets.{quiet-true}
+use Rattle.watch_prop.proofs.Rooms.{have-same}
 use Rattle.watch_prop.proofs.watches.Watches.settle_one.Given.{Over}
 use Rattle.watch_prop.proofs.watches.Watches.settle_one.Goals.{After-best_watches-best, After-make_true}
 use Rattle.watch_prop.proofs.watches.Watches.settle_one.Goals as goal
@@ -77,7 +78,7 @@ list-requires-2-clause-there g c =
 
 pub returns-in-None-clause-kept : goal.returns-in-None-clause-kept
 returns-in-None-clause-kept g c =
-    advanced_watches (g.P.Port.state c.args.port.now) c.args.self.now _ c.args.trail.now (ap attached c.self.view_is) (ap (λ (w : WatchData). w.vars) c.self.view_is) c.requires.reasons
+    advanced_watches (g.P.Port.state c.args.port.now) c.args.self.now _ c.args.trail.now (ap attached c.self.view_is) (ap (λ (w : WatchData). w.vars) c.self.view_is) (have-same c.args.self.now.rooms c.self.inside.lists.rooms (ap (λ (w : WatchData). w.rooms) c.self.view_is)) c.requires.reasons
     (skipped record { vars = c.self.inside.vars; slots = c.self.inside.slots.items; lists = c.self.inside.lists.rows; rooms = c.self.inside.lists.rooms; size = c.self.inside.lists.size; settled = c.self.inside.settled } c.args.self.now (lits_at (g.P.Port.state c.args.port.now)) c.args.trail.now c.index.result.now c.self.view_is c.requires.there c.index.ensures c.in-None.is c.requires.watched)
 
 pub returns-then-best-decision_level-clause-kept : goal.returns-then-best-decision_level-clause-kept
@@ -86,7 +87,7 @@ returns-then-best-decision_level-clause-kept g c = advanced_none (g.P.Port.state
 pub returns-in_err-list-clause-kept : goal.returns-in_err-list-clause-kept
 returns-in_err-list-clause-kept g c =
     let more = c.in_err-list.ensures.err in
-    advanced_watches (g.P.Port.state c.args.port.now) c.args.self.now c.list.new.self c.args.trail.now (ap (λ (ws : List (Option Watch)). filter_map slot_clause ws) more.slots) more.vars c.requires.reasons
+    advanced_watches (g.P.Port.state c.args.port.now) c.args.self.now c.list.new.self c.args.trail.now (ap (λ (ws : List (Option Watch)). filter_map slot_clause ws) more.slots) more.vars c.list.ensures.rooms c.requires.reasons
     (Watched-more c.args.self.now c.list.new.self (lits_at (g.P.Port.state c.args.port.now)) c.args.trail.now c.in-Some.watch c.best_watches-best.result.second c.requires.watched (here g (goal.at.returns-in_err-list-clause-kept g c).After-best_watches-best) (among_has _ _ _ c.best_watches-best.ensures.best.second_in) more)
 
 pub returns-then-best-decision_level-2-clause-kept : goal.returns-then-best-decision_level-2-clause-kept
@@ -95,7 +96,7 @@ returns-then-best-decision_level-2-clause-kept g c =
     let t = c.args.trail.now in
     advanced_watches (g.P.Port.state c.args.port.now) c.args.self.now c.list.new.self t
     (same_clauses c.args.self.now c.list.new.self c.in-Some.watch c.best_watches-best.result.first c.best_watches-best.result.second at c.in_ok-list.ensures.ok)
-    c.in_ok-list.ensures.ok.vars c.requires.reasons
+    c.in_ok-list.ensures.ok.vars c.list.ensures.rooms c.requires.reasons
     (Watched-listed c.args.self.now c.list.new.self (lits_at (g.P.Port.state c.args.port.now)) t t c.in-Some.watch c.best_watches-best.result c.requires.watched c.decision_level-decision_level.ensures.trail at c.best_watches-best.ensures.best
     (let q = c.if-best-decision_level.false in omega (arith, q, c.decision_level-decision_level.ensures.level)) (HasGrown-refl t) refl
     (λ le. absurd (let q = c.if-best-decision_level-2.true in omega (arith, q, c.decision_level-decision_level.ensures.level, le))) c.requires.below c.in_ok-list.ensures.ok)
@@ -133,6 +134,7 @@ returns-in_err-list-2-clause-kept g c =
       watched = Watched-more c.args.self.now c.list-2.new.self lits c.make_true.new.trail c.in-Some.watch c.best_watches-best.result.second
           (Watched-grow c.args.self.now lits c.args.trail.now c.make_true.new.trail c.decision_level-decision_level.ensures.trail.done c.requires.watched c.make_true.ensures.grown c.make_true.ensures.done)
           (here g (goal.at.returns-in_err-list-2-clause-kept g c).After-best_watches-best) (among_has _ _ _ c.best_watches-best.ensures.best.second_in) more;
+      rooms = c.list-2.ensures.rooms;
       still = still_now g (goal.at.returns-in_err-list-2-clause-kept g c).After-make_true;
     }
 
@@ -148,5 +150,6 @@ returns-clause-kept g c =
       watched = Watched-listed c.args.self.now c.list-2.new.self (lits_at (g.P.Port.state c.args.port.now)) c.args.trail.now c.make_true.new.trail c.in-Some.watch c.best_watches-best.result c.requires.watched c.decision_level-decision_level.ensures.trail at c.best_watches-best.ensures.best
           (let q = c.if-best-decision_level.false in omega (arith, q, c.decision_level-decision_level.ensures.level)) c.make_true.ensures.grown c.make_true.ensures.done
           (λ le. c.make_true.ensures.made) c.requires.below ok;
+      rooms = c.list-2.ensures.rooms;
       still = still_now g (goal.at.returns-clause-kept g c).After-make_true;
     }

@@ -25,6 +25,7 @@ use Rattle.watch_prop.specs.Aside.{other_slots, but}
 use Rattle.watch_prop.proofs.Asides.{entry-whole, passes-refl}
 use Rattle.watch_prop.proofs.Passing.{passes-stale, passes-blocked, passes-moved, replaced-but}
 use Rattle.watch_prop.proofs.Quiets.{quiet-forces}
+use Rattle.watch_prop.proofs.Rooms.{have-same}
 use Rattle.watch_prop.proofs.Visits.{visiting-stale, visiting-settled, visiting-blocked, visiting-moved, visiting-forced}
 use Rattle.watch_prop.proofs.watches.Watches.visit.Given.{Over}
 use Rattle.watch_prop.proofs.watches.Watches.visit.Goals as goal
@@ -64,7 +65,7 @@ stale_visiting w v h t l place lists rooms size e lt k s r =
 
 pub returns-in-Stale-clause-visited : goal.returns-in-Stale-clause-visited
 returns-in-Stale-clause-visited g c =
-    stale_visiting (but c.args.aside c.args.self.now) (but c.args.aside record { vars = c.self.inside.vars; slots = c.self.inside.slots.items; lists = c.self.inside.lists.rows; rooms = c.self.inside.lists.rooms; size = c.self.inside.lists.size; settled = c.self.inside.settled }) (lits_at (g.P.Port.state c.args.port.now)) c.args.trail.now c.args.lit c.args.place c.take.new.self.rows c.take.new.self.rooms c.take.new.self.size (ap (but c.args.aside) c.self.view_is) c.requires.there c.requires.visiting c.in-Stale.ensures.verdict c.take.ensures
+    stale_visiting (but c.args.aside c.args.self.now) (but c.args.aside record { vars = c.self.inside.vars; slots = c.self.inside.slots.items; lists = c.self.inside.lists.rows; rooms = c.self.inside.lists.rooms; size = c.self.inside.lists.size; settled = c.self.inside.settled }) (lits_at (g.P.Port.state c.args.port.now)) c.args.trail.now c.args.lit c.args.place c.take.new.self.rows c.take.new.self.rooms c.take.new.self.size (ap (but c.args.aside) c.self.view_is) c.requires.there c.requires.visiting c.in-Stale.ensures.verdict c.take.ensures.removed
 
 blocked_visiting : (w v : WatchData) (h : Lits) (t : TrailData) (l : Literal) (place : ℕ) (e : ListEntry) (lists : List (List Watcher)) (rooms : List ℕ) (size : ℕ) → v ≡ w → IsTrail t → place < length (list_at w.lists l) → IsVisiting w h t l (place + 1)
     → CanBlock w t l (get_or (list_at w.lists l) place 0) e → Reblocked v.lists lists l place e.other → IsVisiting record v { lists = lists; rooms = rooms; size = size } h t l place × (place ≤ length (list_at lists l))
@@ -78,14 +79,14 @@ blocked_visiting w v h t l place e lists rooms size q trail lt k can r =
 
 blocked : (g : Over) (c : goal.After-set_blocker g) → IsVisiting record { vars = c.self.inside.vars; slots = other_slots c.args.aside c.self.inside.slots.items; lists = c.set_blocker.new.self.rows; rooms = c.set_blocker.new.self.rooms; size = c.set_blocker.new.self.size; settled = c.self.inside.settled } (lits_at (g.P.Port.state c.args.port.now)) c.args.trail.now c.args.lit c.args.place × (c.args.place ≤ length (list_at c.set_blocker.new.self.rows c.args.lit))
 blocked g c =
-    blocked_visiting (but c.args.aside c.args.self.now) (but c.args.aside record { vars = c.self.inside.vars; slots = c.self.inside.slots.items; lists = c.self.inside.lists.rows; rooms = c.self.inside.lists.rooms; size = c.self.inside.lists.size; settled = c.self.inside.settled }) (lits_at (g.P.Port.state c.args.port.now)) c.args.trail.now c.args.lit c.args.place c.in-Blocked.entry c.set_blocker.new.self.rows c.set_blocker.new.self.rooms c.set_blocker.new.self.size (ap (but c.args.aside) c.self.view_is) c.decision_level-level.ensures.trail c.requires.there c.requires.visiting c.in-Blocked.ensures.verdict c.set_blocker.ensures
+    blocked_visiting (but c.args.aside c.args.self.now) (but c.args.aside record { vars = c.self.inside.vars; slots = c.self.inside.slots.items; lists = c.self.inside.lists.rows; rooms = c.self.inside.lists.rooms; size = c.self.inside.lists.size; settled = c.self.inside.settled }) (lits_at (g.P.Port.state c.args.port.now)) c.args.trail.now c.args.lit c.args.place c.in-Blocked.entry c.set_blocker.new.self.rows c.set_blocker.new.self.rooms c.set_blocker.new.self.size (ap (but c.args.aside) c.self.view_is) c.decision_level-level.ensures.trail c.requires.there c.requires.visiting c.in-Blocked.ensures.verdict c.set_blocker.ensures.reblocked
 
 pub returns-in-Blocked-clause-visited : goal.returns-in-Blocked-clause-visited
 returns-in-Blocked-clause-visited g c = blocked g c
 
 pub returns-in-Blocked-clause-kept : goal.returns-in-Blocked-clause-kept
 returns-in-Blocked-clause-kept g c =
-    advanced_watches (g.P.Port.state c.args.port.now) (but c.args.aside c.args.self.now) _ c.args.trail.now (ap (λ (w : WatchData). attached (but c.args.aside w)) c.self.view_is) (ap (λ (w : WatchData). w.vars) c.self.view_is) c.requires.reasons
+    advanced_watches (g.P.Port.state c.args.port.now) (but c.args.aside c.args.self.now) _ c.args.trail.now (ap (λ (w : WatchData). attached (but c.args.aside w)) c.self.view_is) (ap (λ (w : WatchData). w.vars) c.self.view_is) (have-same c.args.self.now.rooms c.set_blocker.new.self.rooms (c.set_blocker.ensures.rooms ∙ ap (λ (w : WatchData). w.rooms) c.self.view_is)) c.requires.reasons
     (blocked g c).0.watched
 
 pub returns-in-Settled-clause-visited : goal.returns-in-Settled-clause-visited
@@ -129,8 +130,8 @@ returns-in-Forced-clause-visited g c = (forced g c, (let q = c.requires.there in
 
 pub returns-in-Stale-clause-kept : goal.returns-in-Stale-clause-kept
 returns-in-Stale-clause-kept g c =
-    advanced_watches (g.P.Port.state c.args.port.now) (but c.args.aside c.args.self.now) _ c.args.trail.now (ap (λ (w : WatchData). attached (but c.args.aside w)) c.self.view_is) (ap (λ (w : WatchData). w.vars) c.self.view_is) c.requires.reasons
-    (stale_visiting (but c.args.aside c.args.self.now) (but c.args.aside record { vars = c.self.inside.vars; slots = c.self.inside.slots.items; lists = c.self.inside.lists.rows; rooms = c.self.inside.lists.rooms; size = c.self.inside.lists.size; settled = c.self.inside.settled }) (lits_at (g.P.Port.state c.args.port.now)) c.args.trail.now c.args.lit c.args.place c.take.new.self.rows c.take.new.self.rooms c.take.new.self.size (ap (but c.args.aside) c.self.view_is) c.requires.there c.requires.visiting c.in-Stale.ensures.verdict c.take.ensures).0.watched
+    advanced_watches (g.P.Port.state c.args.port.now) (but c.args.aside c.args.self.now) _ c.args.trail.now (ap (λ (w : WatchData). attached (but c.args.aside w)) c.self.view_is) (ap (λ (w : WatchData). w.vars) c.self.view_is) (have-same c.args.self.now.rooms c.take.new.self.rooms (c.take.ensures.rooms ∙ ap (λ (w : WatchData). w.rooms) c.self.view_is)) c.requires.reasons
+    (stale_visiting (but c.args.aside c.args.self.now) (but c.args.aside record { vars = c.self.inside.vars; slots = c.self.inside.slots.items; lists = c.self.inside.lists.rows; rooms = c.self.inside.lists.rooms; size = c.self.inside.lists.size; settled = c.self.inside.settled }) (lits_at (g.P.Port.state c.args.port.now)) c.args.trail.now c.args.lit c.args.place c.take.new.self.rows c.take.new.self.rooms c.take.new.self.size (ap (but c.args.aside) c.self.view_is) c.requires.there c.requires.visiting c.in-Stale.ensures.verdict c.take.ensures.removed).0.watched
 
 pub returns-in-Settled-clause-kept : goal.returns-in-Settled-clause-kept
 returns-in-Settled-clause-kept g c = advanced_none (g.P.Port.state c.args.port.now) (but c.args.aside c.args.self.now) c.args.trail.now c.requires.reasons c.requires.visiting.watched
@@ -147,7 +148,7 @@ returns-in_ok-replace-in-Moves-clause-kept g c =
     let ok = c.in_ok-replace-in-Moves.ensures.ok in
     advanced_watches (g.P.Port.state c.args.port.now) (but c.args.aside c.args.self.now) (but c.args.aside c.replace.new.self) c.args.trail.now
     (clauses_same (but c.args.aside c.args.self.now) (but c.args.aside c.replace.new.self) (lits_at (g.P.Port.state c.args.port.now)) c.args.trail.now c.args.lit c.in-Moves.new (get_or (list_at c.args.self.now.lists c.args.lit) c.args.place 0) c.args.place c.in-Moves.entry c.in-Moves.ensures.verdict (replaced g c))
-    ok.vars c.requires.reasons (moved g c).watched
+    ok.vars c.replace.ensures.rooms c.requires.reasons (moved g c).watched
 
 pub returns-in-Forced-clause-kept : goal.returns-in-Forced-clause-kept
 returns-in-Forced-clause-kept g c =
@@ -166,6 +167,7 @@ returns-in-Forced-clause-kept g c =
           (IsReasoned-forced (attached_at (attached w) s) s.seen t c.in-Forced.other c.in-Forced.clause d c.requires.reasons
           (attached_some (attached w) s c.in-Forced.clause member (attachable_held w.vars s c.in-Forced.clause.address (forcing_attachable w (lits_at s) t i c.in-Forced.other c.in-Forced.clause c.requires.visiting.watched f))) f.forces);
       watched = (forced g c).watched;
+      rooms = have-same _ _ refl;
       still = λ quiet. absurd (quiet-forces w (lits_at s) t i c.in-Forced.other c.in-Forced.clause c.decision_level-level.ensures.trail quiet f);
     }
 
@@ -178,12 +180,12 @@ replace-requires-clause-entry g c =
 
 pub returns-in-Stale-clause-passed : goal.returns-in-Stale-clause-passed
 returns-in-Stale-clause-passed g c =
-    passes-stale c.args.aside (lits_at (g.P.Port.state c.args.port.now)) c.args.self.now record { vars = c.self.inside.vars; slots = c.self.inside.slots.items; lists = c.self.inside.lists.rows; rooms = c.self.inside.lists.rooms; size = c.self.inside.lists.size; settled = c.self.inside.settled } c.args.lit c.args.place c.take.new.self.rows c.take.new.self.rooms c.take.new.self.size c.self.view_is (c.judge.ensures.stale c.in-Stale.is) c.take.ensures
+    passes-stale c.args.aside (lits_at (g.P.Port.state c.args.port.now)) c.args.self.now record { vars = c.self.inside.vars; slots = c.self.inside.slots.items; lists = c.self.inside.lists.rows; rooms = c.self.inside.lists.rooms; size = c.self.inside.lists.size; settled = c.self.inside.settled } c.args.lit c.args.place c.take.new.self.rows c.take.new.self.rooms c.take.new.self.size c.self.view_is (c.judge.ensures.stale c.in-Stale.is) c.take.ensures.removed
 
 pub returns-in-Blocked-clause-passed : goal.returns-in-Blocked-clause-passed
 returns-in-Blocked-clause-passed g c =
     passes-blocked c.args.aside (lits_at (g.P.Port.state c.args.port.now)) c.args.self.now record { vars = c.self.inside.vars; slots = c.self.inside.slots.items; lists = c.self.inside.lists.rows; rooms = c.self.inside.lists.rooms; size = c.self.inside.lists.size; settled = c.self.inside.settled } c.args.trail.now c.args.lit c.args.place c.in-Blocked.entry c.set_blocker.new.self.rows c.set_blocker.new.self.rooms c.set_blocker.new.self.size c.self.view_is
-    c.requires.visiting.watched c.in-Blocked.ensures.verdict c.set_blocker.ensures
+    c.requires.visiting.watched c.in-Blocked.ensures.verdict c.set_blocker.ensures.reblocked
 
 pub returns-in-Settled-clause-passed : goal.returns-in-Settled-clause-passed
 returns-in-Settled-clause-passed g c = passes-refl c.args.aside _ _ _ refl

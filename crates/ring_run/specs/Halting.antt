@@ -1,0 +1,118 @@
+-- How a search comes to an end that is no model, no limit of lemmas and no stop of another: what was done before its last call.
+use Rattle.std.specs.Prelude.{◌≡◌, ◌⊎◌, ℕ, ◌+◌, List, ◌∷◌, ◌++◌, drop, All, Contains}
+use Rattle.sat_words.specs.Literal.{Literal}
+use Rattle.sat_words.specs.declared.shared.Cref.{Cref}
+use Rattle.ring_port.specs.PortState.{PortState}
+use Rattle.ring_port.specs.Deleting.{TidiedSome}
+use Rattle.ring_port.specs.Reducing.{NotedReduce}
+use Rattle.ring_port.specs.declared.stops.PortStop.{PortStop}
+use Rattle.reduce_db.specs.Lemmas.{AreToldApart}
+use Rattle.reduce_db.specs.Dropping.{DroppedAll}
+use Rattle.vivify.specs.Outcome.{IsVivified, WasCutShort}
+use Rattle.vivify.specs.declared.shorten.Vivified.TheVariants.{Unit}
+use Rattle.ring_run.specs.Searching.{OnlySaw, OnlyPolled}
+use Rattle.ring_run.specs.Ending.{EndsRefused, WroteEmpty, HaltsTelling, end_refused}
+use Rattle.ring_run.specs.Course.{last_start}
+use Rattle.ring_run.specs.Renewal.{Point, point, IsDue, HasReducedLemmas, HasReduced, IsNamed, TookEach, TookAll, HasShrunk, IsIdle}
+use Rattle.ring_run.specs.declared.job.End.{End}
+use Rattle.ring_run.specs.declared.job.End.TheVariants.{Memory}
+use Rattle.ring_run.specs.declared.ring.Ring.{Ring}
+
+-- Reductions
+
+-- some of these clauses were dropped, one after the other, and then there was no memory
+pub record HaltsDropping (s u : PortState) (clauses : List Cref) (end : End) : Type 0 where
+  pub dropped : List Cref
+  pub among : All (Contains clauses) dropped
+  pub port : DroppedAll s u dropped
+  pub memory : end ≡ Memory
+
+-- the Reduce entry was refused; or it was written, and lemmas were dropped until there was no memory
+abbrev pub HaltsReducingLemmas : PortState → PortState → Ring → End → Type 0
+HaltsReducingLemmas s u before end = EndsRefused s u end ⊎ ((noted : PortState) × NotedReduce s noted × HaltsDropping noted u before.lemmas.items end)
+
+-- the imports were told apart from lemmas and start clauses, the Reduce entry was written and the lemmas were reduced; then those
+-- imports were dropped until there was no memory
+pub record HaltsReducingImports (s u : PortState) (before : Ring) (end : End) : Type 0 where
+  pub imports : List Cref
+  pub apart : AreToldApart (last_start s) before.lemmas.items before.imports.items imports
+  pub between : PortState
+  pub ring : Ring
+  pub lemmas_reduced : HasReducedLemmas s between before ring
+  pub halts : HaltsDropping between u imports end
+
+-- there was no memory to tell the imports apart, and nothing was done; or the reduction of the lemmas was cut short, or after it that of
+-- the imports
+abbrev pub HaltsReducing : PortState → PortState → Ring → End → Type 0
+HaltsReducing s u before end = ((u ≡ s) × (end ≡ Memory)) ⊎ (HaltsReducingLemmas s u before end ⊎ HaltsReducingImports s u before end)
+
+-- Vivification
+
+-- a unit that was left of a lemma was made true: there was no memory to propagate it, or a clause became false and the empty clause was
+-- to be written, or the line of a unit was refused
+abbrev pub HaltsFollowing : PortState → PortState → End → Type 0
+HaltsFollowing s u end = ((u ≡ s) × (end ≡ Memory)) ⊎ (WroteEmpty s u end ⊎ HaltsTelling s u end)
+
+-- a unit was left of the lemma, and then it was followed
+pub record HaltsBehindUnit (p : Point) (u : PortState) (c : Cref) (end : End) : Type 0 where
+  pub lit : Literal
+  pub between : Point
+  pub vivified : IsVivified p.port between.port p.watches between.watches p.trail.steps c (Unit lit)
+  pub following : HaltsFollowing between.port u end
+
+-- the lemma is one of those that are vivified, and that was cut short, or a unit was left of it and following that was
+abbrev pub HaltsAtLemma : Point → PortState → Cref → End → Type 0
+HaltsAtLemma p u c end = IsNamed p c × (((stop : PortStop) × WasCutShort p.port u p.watches p.trail.steps c stop × (end ≡ end_refused stop)) ⊎ HaltsBehindUnit p u c end)
+
+-- so it was of the lemma at this place
+pub record HaltsAtPlace (p : Point) (u : PortState) (lemmas : List Cref) (place : ℕ) (end : End) : Type 0 where
+  pub lemma : Cref
+  pub there : drop place lemmas ≡ lemma ∷ drop (place + 1) lemmas
+  pub halts : HaltsAtLemma p u lemma end
+
+-- the first lemmas had their turns, and that of the next one was cut short
+pub record HaltsVivifying (p : Point) (u : PortState) (lemmas : List Cref) (end : End) : Type 0 where
+  pub between : Point
+  pub done : List Cref
+  pub kept : List Cref
+  pub shorter : List Cref
+  pub each : TookEach p between done kept shorter
+  pub lemma : Cref
+  pub later : List Cref
+  pub parts : lemmas ≡ done ++ lemma ∷ later
+  pub halts : HaltsAtLemma between u lemma end
+
+-- all lemmas had their turns, and then the deletion of a clause that waited was refused
+pub record HaltsShrunk (s u : PortState) (ring : Ring) (end : End) : Type 0 where
+  pub port : PortState
+  pub after : Ring
+  pub vivified : TookAll (point s ring) (point port after) ring.lemmas.items after.lemmas.items
+  pub stop : PortStop
+  pub deleting : TidiedSome port u stop
+  pub over : end ≡ end_refused stop
+
+-- the reduction was cut short; or lemmas and imports were reduced, and then vivification or the deletions were
+abbrev pub HaltsShrinking : PortState → PortState → Ring → End → Type 0
+HaltsShrinking s u before end =
+    HaltsReducing s u before end ⊎ ((dropped : PortState) × (between : Ring) × HasReduced s dropped before between × (HaltsVivifying (point dropped between) u between.lemmas.items end ⊎ HaltsShrunk dropped u between end))
+
+-- Imports
+
+-- units came, and one of them is false, so that the empty clause was to be written; or clauses came until there was no memory
+pub record HaltsImporting (s u : PortState) (end : End) : Type 0 where
+  pub middle : PortState
+  pub units : OnlySaw s middle
+  pub over : WroteEmpty middle u end ⊎ (OnlyPolled middle u × (end ≡ Memory))
+
+-- Both
+
+-- the lemmas were reduced and vivified if that was due, and else nothing was done; then the import came to the end
+pub record HaltsRenewed (s u : PortState) (before : Ring) (end : End) : Type 0 where
+  pub middle : PortState
+  pub ring : Ring
+  pub shrunk : (IsDue before × HasShrunk s middle before ring) ⊎ IsIdle s middle before ring
+  pub importing : HaltsImporting middle u end
+
+-- a reduction was due and it or vivification was cut short, or the import was
+abbrev pub HaltsRenewing : PortState → PortState → Ring → End → Type 0
+HaltsRenewing s u before end = (IsDue before × HaltsShrinking s u before end) ⊎ HaltsRenewed s u before end

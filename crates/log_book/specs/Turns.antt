@@ -144,6 +144,12 @@ module _ {S : Type 0} {d : Ghosts S} (written flushed target : S → Option (Lis
     pub still : (only v).failed ≡ true → b.log.lines.spent ≡ true
     pub alone : v.opening.rings ≡ 1 → b.log.lines.spent ≡ true → (only v).failed ≡ true
 
+  -- the same after tries that missed it
+  pub record WasOut (v w : View) (b : Book S d) : Type 0 where
+    pub before : View
+    pub missed : HasMissed v before
+    pub out : HasBook before w b
+
   -- the pass's ring has taken the turn, in which nothing is written yet
   pub record HasTaken (v w : View) (t : Turn S d) : Type 0 where
     pub book : HasBook v w t.book

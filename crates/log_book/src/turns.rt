@@ -3,7 +3,7 @@ ghost use Rattle.std.specs.Prelude.{◌≡◌, ℕ, ◌+◌, [], ◌∷◌, None
 ghost use Rattle.share_rule.specs.Passes.{IsPassOf};
 ghost use Rattle.share_rule.specs.Views.{only};
 ghost use Rattle.share_rule.specs.Turns.{IsFree, IsWriting, MayWrite, WasRefused, written_of, after_give};
-ghost use Rattle.log_book.specs.Turns.{Stands, IsTurn, HasBook, HasTaken, WasTaken, HasMissed};
+ghost use Rattle.log_book.specs.Turns.{Stands, IsTurn, HasBook, WasOut, WasTaken, HasMissed};
 
 use crate::book::Book;
 use crate::turn::Turn;
@@ -40,41 +40,20 @@ fn try_take<S: Sink>(
     words.exchange(pass, 0, None)
 }
 
-/// One try to take the turn, in which nothing is written yet. None if another has it, or had it meanwhile.
-pub(crate) fn try_turn<S: Sink>(
-    alloc: Global,
-    table: &Shared<Book<S>>,
-    pass: &mut Pass<Book<S>>,
-    ring: u32,
-) -> Option<Turn<S>>
-    requires pass { IsPassOf table.now pass.old × (pass.old.me.1 ≡ []) }
-    requires ring { IsFree pass.old.me.0 × (ring ≡ (only pass.old.me.0).core.ring) }
-    ensures pass { IsPassOf table.now pass.new × (pass.new.id ≡ pass.old.id) }
-    ensures turn { MatchOption result ((pass.new.me.1 ≡ []) × HasMissed pass.old.me.0 pass.new.me.0) (λ t. (pass.new.me.1 ≡ (0, None) ∷ []) × HasTaken S.written S.flushed S.target S.faults pass.old.me.0 pass.new.me.0 t) }
-{
-    let book = try_take(table, pass, ring)?;
-    Some(Turn {
-        book,
-        noted: Vec::new(alloc),
-        refused: None,
-    })
-}
-
-/// Tries to take the turn a number of times, one right after the other. None if another had it each time.
+/// Tries to take the book out with the turn a number of times, one right after the other. None if another had it each time.
 fn try_often<S: Sink>(
-    alloc: Global,
     table: &Shared<Book<S>>,
     pass: &mut Pass<Book<S>>,
     ring: u32,
-) -> Option<Turn<S>>
+) -> Option<Book<S>>
     requires pass { IsPassOf table.now pass.old × (pass.old.me.1 ≡ []) }
     requires ring { IsFree pass.old.me.0 × (ring ≡ (only pass.old.me.0).core.ring) }
     ensures pass { IsPassOf table.now pass.new × (pass.new.id ≡ pass.old.id) }
-    ensures turn { MatchOption result ((pass.new.me.1 ≡ []) × HasMissed pass.old.me.0 pass.new.me.0) (λ t. (pass.new.me.1 ≡ (0, None) ∷ []) × WasTaken S.written S.flushed S.target S.faults pass.old.me.0 pass.new.me.0 t) }
+    ensures turn { MatchOption result ((pass.new.me.1 ≡ []) × HasMissed pass.old.me.0 pass.new.me.0) (λ book. (pass.new.me.1 ≡ (0, None) ∷ []) × WasOut S.written S.flushed S.target S.faults pass.old.me.0 pass.new.me.0 book) }
 {
     for _ in 0..TRIES {
-        if let Some(turn) = try_turn(alloc, table, pass, ring) {
-            return Some(turn);
+        if let Some(book) = try_take(table, pass, ring) {
+            return Some(book);
         }
         spin_loop();
     }
@@ -94,9 +73,16 @@ pub fn take_turn<H: Wait, S: Sink>(
     ensures pass { IsPassOf table.now pass.new × (pass.new.id ≡ pass.old.id) × (pass.new.me.1 ≡ (0, None) ∷ []) }
     ensures turn { WasTaken S.written S.flushed S.target S.faults pass.old.me.0 pass.new.me.0 result }
 {
+    let mut noted = Vec::new(alloc);
+    // without room now it is asked for with the first note
+    let _room = noted.reserve(1);
     for _ in rt.forever() {
-        if let Some(turn) = try_often(alloc, table, pass, ring) {
-            return turn;
+        if let Some(book) = try_often(table, pass, ring) {
+            return Turn {
+                book,
+                noted,
+                refused: None,
+            };
         }
         let seen = table.table.shared.peek(0);
         if seen % 256 != 0 {

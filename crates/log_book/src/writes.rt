@@ -1,6 +1,7 @@
 // What a turn writes.
 ghost use Rattle.std.specs.Prelude.{◌≡◌, ◌≤◌, ◌<◌, ◌⊎◌, length, IfOk, IfErr, OnOk};
 ghost use Rattle.share_rule.specs.declared.note.Note.TheVariants.{Clause, Unit as UnitNote, Empty, Reduce, Bury};
+ghost use Rattle.rup_model.specs.Log.{lits_of};
 ghost use Rattle.share_rule.specs.Seen.{Seen};
 ghost use Rattle.share_rule.specs.Turns.{next_number};
 ghost use Rattle.clause_cell.specs.Free.{largest};
@@ -16,6 +17,16 @@ use rup_model::Kind;
 use sat_words::{Cref, Line, Lit, Lits};
 use share_rule::{Note, Pass};
 use std::alloc::Global;
+
+/// The literals of a line, taken out of it.
+fn lits_in(line: Line) -> Lits
+    ensures { result ≡ lits_of line }
+{
+    match line {
+        Line::Add(lits) => lits,
+        Line::Del(lits) => lits,
+    }
+}
 
 impl<S: Sink> Turn<S> {
     pub(crate) fn write_unit(
@@ -173,9 +184,6 @@ impl<S: Sink> Turn<S> {
         let Ok(copy) = Lits::from_slice(alloc, lits) else {
             return Err(self.no_memory(need));
         };
-        let Ok(noted) = Lits::from_slice(alloc, lits) else {
-            return Err(self.no_memory(need));
-        };
         let line = Line::Add(copy);
         if self.make_room(&line).is_err() {
             return Err(self.no_memory(need));
@@ -192,7 +200,7 @@ impl<S: Sink> Turn<S> {
             Ok(_) => {
                 self.noted.push_reserved(Note::Clause {
                     kind,
-                    lits: noted,
+                    lits: lits_in(line),
                     glue,
                     address,
                 });

@@ -30,8 +30,11 @@ struct Moment {
 
 /// Where the two rings, three variables and four clauses have these words.
 const SLOT: usize = 15;
+
 const SPARE: usize = 41;
+
 const PAIR: usize = 45;
+
 const LATER: u64 = 49;
 
 /// The word at a place, which the table has.

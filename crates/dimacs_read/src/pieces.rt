@@ -1,6 +1,8 @@
 // Reading a formula from a source, in pieces.
-ghost use Rattle.std.specs.Prelude.{◌≡◌, ◌≢◌, ◌≤◌, Err, IfOk};
-ghost use Rattle.io_edge.specs.Causes.{Rose};
+ghost use Rattle.std.specs.Prelude.{◌≡◌, ◌≢◌, ◌≤◌, Err, IfOk, IfErr, OnErr, true, is_err};
+ghost use Rattle.std.specs.Io.{ReadsAtMost};
+ghost use Rattle.io_edge.specs.Bytes.{WasRead};
+ghost use Rattle.io_edge.specs.Causes.{HasCause, one_more};
 ghost use Rattle.dimacs_read.specs.Answer.{IsAnswer, IsReadNoFurther};
 ghost use Rattle.dimacs_read.specs.Input.{IsInRange};
 ghost use Rattle.dimacs_read.specs.declared.stop.ReadStop.TheVariants.{ReadFault};
@@ -17,6 +19,21 @@ const LIMIT: usize = 1 << 33;
 /// How many bytes are asked for at once, at most.
 const BUFFER: usize = 1 << 16;
 
+/// Reads the next piece.
+fn read_piece<S: Source>(source: &mut S, buf: &mut [u8]) -> Result<usize, ReadStop>
+    ensures bound { ReadsAtMost result buf.new }
+    ensures bytes { WasRead (S.left source.old) (S.left source.new) result buf.new }
+    ensures cause { HasCause (S.faults source.old) (S.faults source.new) result }
+    ensures once { OnErr result (S.faults source.new ≡ one_more (S.faults source.old)) }
+    ensures failed { S.failed source.new ≡ is_err result }
+    ensures stop { IfErr result (λ stop. stop ≡ ReadFault) }
+{
+    match source.read(buf) {
+        Ok(count) => Ok(count),
+        Err(Failed) => Err(ReadStop::ReadFault),
+    }
+}
+
 /// Reads a formula in DIMACS CNF, to the end of the source or to the `%` that ends the formula.
 ///
 /// The first bad place of the input decides. As soon as the bytes taken determine the answer, no further byte is asked
@@ -27,7 +44,9 @@ pub fn read<S: Source>(alloc: Global, source: &mut S) -> Result<Formula, ReadSto
     ensures rest { IsReadNoFurther (S.left source.old) (S.left source.new) }
     // Also if the text of the source is not known.
     ensures range { IfOk result IsInRange }
-    ensures fault { result ≡ Err ReadFault → Rose (S.faults source.old) (S.faults source.new) }
+    // One read failed, and it was the last one.
+    ensures fault { result ≡ Err ReadFault → S.faults source.new ≡ one_more (S.faults source.old) }
+    ensures failed { result ≡ Err ReadFault → S.failed source.new ≡ true }
     ensures later { S.faults source.old ≤ S.faults source.new }
     ensures quiet { result ≢ Err ReadFault → S.faults source.new ≡ S.faults source.old }
 {
@@ -35,8 +54,8 @@ pub fn read<S: Source>(alloc: Global, source: &mut S) -> Result<Formula, ReadSto
     let mut buffer = [0u8; BUFFER];
     let mut taken = 0;
     loop {
-        match source.read(&mut buffer) {
-            Err(Failed) => return Err(ReadStop::ReadFault),
+        match read_piece(source, &mut buffer) {
+            Err(stop) => return Err(stop),
             Ok(0) => return reader.finish(alloc),
             Ok(count) => {
                 let room = LIMIT - taken;

@@ -17,6 +17,10 @@ no_calls failing = record { failing = failing; made = 0; faults = 0 }
 abbrev pub fails_next : Calls → Bool
 fails_next calls = list_any (λ number. number == one_more calls.made) calls.failing
 
+-- the number of the last call is listed
+abbrev pub has_failed : Calls → Bool
+has_failed calls = list_any (λ number. number == calls.made) calls.failing
+
 -- one call more, which failed or not
 abbrev pub after_call : Calls → Bool → Calls
 after_call calls failed = record calls { made = one_more calls.made; faults = (if failed then one_more calls.faults else calls.faults) }

@@ -1,10 +1,10 @@
 // A source over bytes in memory.
 // The program never runs this: it stands for real files and streams in tests, where contracts know every byte.
-ghost use Rattle.std.specs.Prelude.{◌≡◌, ◌<◌, min, length, Some, IfOk, is_err};
+ghost use Rattle.std.specs.Prelude.{◌≡◌, ◌<◌, min, length, Some, IfOk, OnErr, is_err};
 ghost use Rattle.std.specs.Io.{ReadsAtMost};
 ghost use Rattle.io_edge.specs.Bytes.{WasRead};
-ghost use Rattle.io_edge.specs.Calls.{fails_next, no_calls};
-ghost use Rattle.io_edge.specs.Causes.{HasCause};
+ghost use Rattle.io_edge.specs.Calls.{fails_next, has_failed, no_calls};
+ghost use Rattle.io_edge.specs.Causes.{HasCause, one_more};
 ghost use Rattle.io_edge.specs.Memory.{SourceState, HasRead};
 
 use crate::schedule::Schedule;
@@ -69,10 +69,14 @@ impl<'a> Source for MemSource<'a> {
 
     ghost faults = { λ source. source.calls.faults };
 
+    ghost failed = { λ source. has_failed source.calls };
+
     fn read(&mut self, buf: &mut [u8]) -> Result<usize, Failed>
         ensures bound { ReadsAtMost result buf.new }
         ensures bytes { WasRead (Some self.old.left) (Some self.new.left) result buf.new }
         ensures cause { HasCause self.old.calls.faults self.new.calls.faults result }
+        ensures once { OnErr result (self.new.calls.faults ≡ one_more self.old.calls.faults) }
+        ensures failed { has_failed self.new.calls ≡ is_err result }
         ensures fails { is_err result ≡ fails_next self.old.calls }
         ensures size { IfOk result (λ n. n ≡ min (min (length buf.new) (length self.old.left)) self.old.piece) }
         ensures after { HasRead self.old self.new result }

@@ -1,8 +1,8 @@
 -- Arguments that are valid, and calls with such arguments.
-use Rattle.std.proofs.Common.{◌≡◌, ◌⊎◌, ℕ, true, false, List, [], Some, None, refl, ap, sym, subst, inl, inr, ◌∙◌, arith}
+use Rattle.std.proofs.Common.{◌≡◌, ◌⊎◌, ℕ, true, false, List, [], Some, None, refl, ap, sym, subst, inl, inr, ◌∙◌, ◌≤◌, arith}
 use Rattle.std.specs.Prelude.{IfSome, IsSome, is_some, option_map}
 use Rattle.std.specs.declared.option.Option.{Option}
-use Rattle.io_edge.specs.Causes.{Rose}
+use Rattle.io_edge.specs.Causes.{Rose, one_more}
 use Rattle.std.proofs.lemmas.Bool.{true≢false}
 use Rattle.io_edge.specs.Paths.{PathMap, IsThere}
 use Rattle.dimacs_read.specs.Answer.{IsReadNoFurther}
@@ -12,12 +12,14 @@ use Rattle.top_call.specs.declared.report.CallEnd.{CallEnd}
 use Rattle.top_call.specs.Words.{Command, command_of, proof_path, file_path}
 use Rattle.sat_words.specs.FormulaData.{FormulaData}
 use Rattle.rup_model.specs.declared.journal.Entry.{Entry}
-use Rattle.top_call.specs.Run.{Run, Call, HasFile, IsStill, IsOpened, IsFileRead, source_of, text_of, text_in, text_left}
+use Rattle.dimacs_read.specs.declared.stop.ReadStop.{ReadStop}
+use Rattle.dimacs_read.specs.declared.stop.ReadStop.TheVariants as read_stop
+use Rattle.top_call.specs.Run.{FaultCount, RoseIn, Run, Call, HasFile, IsStill, IsOpened, IsFileRead, source_of, text_of, text_in, text_left}
 use Rattle.top_call.specs.declared.plan.CallPlan.{CallPlan}
 use Rattle.top_call.specs.Planned.{plan_of}
 use Rattle.top_call.specs.Outcome.{RunOutcome, CallOutcome, IsCall, IsRun, IsWhole}
 use Rattle.top_call.specs.Tallied.{no_tally}
-use Rattle.top_call.specs.Ends.{IsWordsEnd, status_of, leaves_input_at, leaves_files_at}
+use Rattle.top_call.specs.Ends.{IsWordsEnd, end_of_read, status_of, leaves_input_at, leaves_files_at}
 use Rattle.top_call.specs.declared.report.CallEnd.TheVariants.{Satisfiable, Unsatisfiable, Unknown, Usage, BadInput, CannotOpen, CannotCreate, ReadFault, WriteFault, ProofFault, Room, Memory}
 use Rattle.top_call.proofs.Finishes.{no_formula}
 
@@ -66,6 +68,10 @@ words_stopped end tally call (inr is) usage counts file proof files input out =
 -- a count that rose after a call that left it
 pub rose_behind : (before between after : ℕ) → between ≡ before → Rose between after → Rose before after
 rose_behind before between after same rose = subst (λ (n : ℕ). Rose n after) same rose
+
+-- a count that is one higher rose
+pub rose_once : (before after : ℕ) → after ≡ one_more before → Rose before after
+rose_once before after is = subst (λ (n : ℕ). one_more before ≤ n) (sym is) (omega arith)
 
 -- what holds of a run over what was opened holds of its call
 module _ {R : Type 0} (left : R → Option (List ℕ)) (faults : R → ℕ) (contents : Option PathMap) (input : Option (List ℕ)) where
@@ -117,6 +123,27 @@ run_ends WriteFault tally run r = (refl, refl)
 run_ends ProofFault tally run r = (refl, refl)
 run_ends (Room lack) tally run r = (refl, refl)
 run_ends Memory tally run r = (refl, refl)
+
+-- a run over a source that has never failed ends in no fault of it
+pub still_run : (end : CallEnd) (tally : Tally) (run : Run) → IsRun end tally run → run.source ≡ record { before = 0; after = 0 } → status_of end ≡ 5 → ⊥
+still_run (Satisfiable model) tally run r is e = omega (arith, e)
+still_run Unsatisfiable tally run r is e = omega (arith, e)
+still_run Unknown tally run r is e = omega (arith, e)
+still_run Usage tally run r is e = omega (arith, e)
+still_run (BadInput code line) tally run r is e = omega (arith, e)
+still_run CannotOpen tally run r is e = omega (arith, e)
+still_run CannotCreate tally run r is e = omega (arith, e)
+still_run ReadFault tally run r is e = let rose : Rose 0 0 = subst (λ (s : FaultCount). RoseIn s) is r.outcome.0 in omega (arith, rose)
+still_run WriteFault tally run r is e = omega (arith, e)
+still_run ProofFault tally run r is e = omega (arith, e)
+still_run (Room lack) tally run r is e = omega (arith, e)
+still_run Memory tally run r is e = omega (arith, e)
+
+-- the input was not read because a read failed
+pub read_failed : (stop : ReadStop) (end : CallEnd) → end ≡ end_of_read stop → status_of end ≡ 5 → stop ≡ read_stop.ReadFault
+read_failed (read_stop.Bad code line) end is e = absurd (let no : 2 ≡ 5 = sym (ap status_of is) ∙ e in omega (arith, no))
+read_failed read_stop.ReadFault end is e = refl
+read_failed read_stop.Memory end is e = absurd (let no : 9 ≡ 5 = sym (ap status_of is) ∙ e in omega (arith, no))
 
 -- what is left of the input
 module _ {R : Type 0} (left : R → Option (List ℕ)) (faults : R → ℕ) (contents : Option PathMap) where

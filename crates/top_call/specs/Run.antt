@@ -1,8 +1,8 @@
 -- What a caller sees of a call: arguments, counts of faults, and bytes, if they are known.
-use Rattle.std.specs.Prelude.{◌≡◌, ℕ, List, Some, None, is_some, IfSome, IsSomeAnd}
+use Rattle.std.specs.Prelude.{◌≡◌, ℕ, Bool, true, List, Some, None, is_some, IfSome, IsSomeAnd}
 use Rattle.std.specs.declared.option.Option.{Option}
 use Rattle.io_edge.specs.Bytes.{GrowsBy, GrowsByPart}
-use Rattle.io_edge.specs.Causes.{Rose}
+use Rattle.io_edge.specs.Causes.{Rose, one_more}
 use Rattle.io_edge.specs.Paths.{PathMap, told_at, told_target, IsThere}
 use Rattle.dimacs_read.specs.Answer.{IsReadNoFurther}
 use Rattle.top_call.specs.declared.plan.CallPlan.{CallPlan}
@@ -98,6 +98,11 @@ pub record HasFile (call : Call) : Type 0 where
 abbrev pub RoseIn : FaultCount → Type 0
 RoseIn count = Rose count.before count.after
 
+-- between these states of a source one read failed, and it was the last one
+pub record FailedLast {S : Type 0} (failed : S → Bool) (faults : S → ℕ) (old new : S) : Type 0 where
+  pub last : failed new ≡ true
+  pub once : faults new ≡ one_more (faults old)
+
 -- the count did not rise
 abbrev pub IsStill : FaultCount → Type 0
 IsStill count = count.after ≡ count.before
@@ -130,3 +135,7 @@ IsOpened left faults contents (Some path) file = IsSomeAnd file (λ reader. (lef
 abbrev pub IsFileRead : {R : Type 0} → (R → Option (List ℕ)) → Option PathMap → Option (List ℕ) → Option R → Type 0
 IsFileRead left contents None file = file ≡ None
 IsFileRead left contents (Some path) file = IfSome file (λ reader. IsReadNoFurther (told_at contents path) (left reader))
+
+-- one read of the file that was opened failed, and it was the last one
+abbrev pub FileFailedLast : {R : Type 0} → (R → Bool) → (R → ℕ) → Option R → Type 0
+FileFailedLast failed faults file = IfSome file (λ reader. (failed reader ≡ true) × (faults reader ≡ 1))

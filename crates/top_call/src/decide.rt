@@ -13,7 +13,7 @@ ghost use Rattle.sat_words.specs.Literal.{IsOn};
 ghost use Rattle.top_call.specs.Finished.{Finishes};
 ghost use Rattle.top_call.specs.Occurring.{IsOccurring};
 ghost use Rattle.top_call.specs.Outcome.{Concluded, IsRun, printed_of};
-ghost use Rattle.top_call.specs.Run.{FaultCount, IsStill, faults_between, output_between, writer_at};
+ghost use Rattle.top_call.specs.Run.{FailedLast, FaultCount, IsStill, faults_between, output_between, writer_at};
 ghost use Rattle.dimacs_read.specs.Answer.{IsReadNoFurther};
 ghost use Rattle.top_call.specs.Planned.{IsInRange};
 ghost use Rattle.top_call.specs.Tallied.{no_tally, zero_tally};
@@ -263,6 +263,7 @@ pub fn decide_over<H: Threads + Wait + Sync, S: Source, P: Sink + Send, O: Sink,
       out = output_between O.faults O.written O.flushed out.old out.new;
     }) }
     ensures rest { IsReadNoFurther (S.left source.old) (S.left source.new) }
+    ensures failed { status_of result.end ≡ 5 → FailedLast S.failed S.faults source.old source.new }
     ensures target { P.target result.proof ≡ P.target proof }
     ensures unprinted { prints_at (status_of result.end) ≡ false → out.new ≡ out.old }
 {

@@ -79,6 +79,7 @@ stopped_processing old now new n stop p h = (cause_after old now new stop p.redu
 pub ends_done : (old new : WorkState) (n : ℕ) → new.output.last < n → Processed old new n → Subsumed old new
 ends_done old new n above p = record {
   reduced = λ m q c d i j ne part other. p.below m q c d i j ne (let low = All_In (λ (x : ℕ × List Literal). x.0 ≤ new.output.last) new.clauses (m, c) p.reduces.work.given (Contains_In new.clauses (m, c) i) in omega arith) part other;
+  passed = p.reduces.passed;
   covered = p.reduces.covered;
   parts = p.reduces.parts;
   vars = p.reduces.vars;

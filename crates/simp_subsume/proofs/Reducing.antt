@@ -3,6 +3,7 @@ use Rattle.std.proofs.Common.{◌≡◌, ◌≢◌, ℕ, ◌<◌, true, false, L
 use mathlib.Core.Logic.{dite}
 use native.Mathlib.Decide.{ℕ_discrete}
 use Rattle.std.specs.List.{Contains}
+use Rattle.std.proofs.lemmas.Bool.{true≢false}
 use Rattle.sat_words.specs.Literal.{Literal}
 use Rattle.sat_words.specs.Clause.{has, includes}
 use Rattle.rup_model.proofs.Lists.{In, In_has, has_In, In_append, map_In, Contains_In, In_Contains}
@@ -11,6 +12,7 @@ use Rattle.simp_base.specs.WorkState.{WorkState, IsWork, known, lists, unit_clau
 use Rattle.simp_base.specs.Calls.{Deleted}
 use Rattle.simp_base.specs.Lifted.{Lifted}
 use Rattle.simp_base.specs.Log.{KeepsLog}
+use Rattle.simp_base.specs.Parts.{takes_part}
 use Rattle.simp_base.proofs.Known.{known_alive, unit_among, nothing_logged}
 use Rattle.simp_base.proofs.LiftSteps.{logs_along}
 use Rattle.simp_base.proofs.Removal.{same_number}
@@ -50,6 +52,7 @@ reduces_self w going unspent kept = record {
   vars = refl;
   units = λ l h. h;
   stack = refl;
+  passed = λ n c none h. h;
   covered = λ c h. (c, h, includes_self c);
   parts = λ c h. (c, h, includes_self c);
   later = omega arith;
@@ -66,6 +69,7 @@ reduces_along a b c f g = record {
   stack = g.stack ∙ f.stack;
   vars = g.vars ∙ f.vars;
   units = λ l h. g.units l (f.units l h);
+  passed = λ n c none h. g.passed n c none (f.passed n c none h);
   covered = λ x h. (let t = f.covered x h in let u = g.covered t.0 t.1 in (u.0, u.1, includes_along x t.0 u.0 t.2 u.2));
   parts = λ x h. (let t = g.parts x h in let u = f.parts t.0 t.1 in (u.0, u.1, includes_along u.0 t.0 x u.2 t.2));
   later = (let p = f.later in let q = g.later in omega arith);
@@ -86,8 +90,8 @@ lifted_reduced old new r = record {
 
 -- a clause that contains something that is known afterwards was deleted
 pub reduces_deleted : (old new : WorkState) → old.ended ≡ false → old.output.spent ≡ false → IsWork old → IsWork new → KeepsLog old new → (number : ℕ) (h : Deleted old new number)
-    → (e : List Literal) → Contains (known new) e → includes h.clause e ≡ true → Reduces old new
-reduces_deleted old new going unspent was kept log number h e among inside = record {
+    → takes_part h.clause ≡ true → (e : List Literal) → Contains (known new) e → includes h.clause e ≡ true → Reduces old new
+reduces_deleted old new going unspent was kept log number h part e among inside = record {
   going = ap (λ (w : WorkState). w.ended) h.state ∙ going;
   unspent = ap (λ (s : LineState). s.spent) h.put.state ∙ unspent;
   work = kept;
@@ -95,6 +99,9 @@ reduces_deleted old new going unspent was kept log number h e among inside = rec
   stack = ap (λ (w : WorkState). w.stack) h.state;
   vars = ap (λ (w : WorkState). w.vars) h.state;
   units = λ l i. ap (λ (w : WorkState). has w.units l) h.state ∙ i;
+  passed = λ n x none i. dite (ℕ_discrete n number)
+      (λ (q : n ≡ number). absurd (true≢false (sym part ∙ ap takes_part (same_number old.clauses was.numbers number h.clause x h.alive (subst (λ (m : ℕ). Contains old.clauses (m, x)) q i)) ∙ none)))
+      (λ (ne : n ≢ number). (h.others n x).1 (i, ne));
   covered = λ c k. known_by (λ x. (d : List Literal) × Contains (known new) d × (includes x d ≡ true)) old
       (λ n x i. dite (ℕ_discrete n number)
       (λ (q : n ≡ number). (e, among, subst (λ y. includes y e ≡ true) (same_number old.clauses was.numbers number h.clause x h.alive (subst (λ (m : ℕ). Contains old.clauses (m, x)) q i)) inside))
@@ -120,6 +127,7 @@ reduces_grown old new lits kept g number d alive inside = record {
   stack = g.stack;
   vars = g.vars;
   units = g.units_stay;
+  passed = λ n x none i. g.stay n x i;
   covered = λ c k. known_by (λ x. (d : List Literal) × Contains (known new) d × (includes x d ≡ true)) old
       (λ n x i. (x, alive_known new n x (g.stay n x i), includes_self x))
       (λ l i. (l ∷ [], unit_known new l (g.units_stay l i), includes_self (l ∷ [])))

@@ -88,7 +88,7 @@ pub was_compared_going : (old new : WorkState) (n m : ℕ) (c d : List Literal) 
     → (result : Result (Unit {0}) LineStop) → WasDeleted old new m result → WasCompared old new n c m result
 was_compared_going old new n m c d going unspent was kept log loaded alive ne s (Ok done) h =
     λ start rest t. compared_replaced start old new n m c d rest was s.part alive ne (record {
-      reduces = reduces_deleted old new going unspent was kept log m h c (alive_known new n c ((h.others n c).1 (loaded.alive, λ e. ne (sym e))))
+      reduces = reduces_deleted old new going unspent was kept log m h (ap takes_part (sym (same_number old.clauses was.numbers m d h.clause alive h.alive)) ∙ s.part) c (alive_known new n c ((h.others n c).1 (loaded.alive, λ e. ne (sym e))))
           (subst (λ x. includes x c ≡ true) (same_number old.clauses was.numbers m d h.clause alive h.alive) s.subsumes);
       gone = λ q f i. ((h.others q f).0 i).1;
       came = λ q f i. inl ((h.others q f).0 i).0;
@@ -121,7 +121,7 @@ module _ (old mid new : WorkState) (n m : ℕ) (c d rest : List Literal) (was : 
       let e = left_known h in
       record {
         reduces = reduces_along old mid new (reduces_grown old mid rest kept_mid g m d alive inside)
-            (reduces_deleted mid new g.going g.unspent kept_mid kept log m h e.0 e.1 (subst (λ x. includes x e.0 ≡ true) (same_number mid.clauses kept_mid.numbers m d h.clause (g.stay m d alive) h.alive) e.2));
+            (reduces_deleted mid new g.going g.unspent kept_mid kept log m h (ap takes_part (sym (same_number mid.clauses kept_mid.numbers m d h.clause (g.stay m d alive) h.alive)) ∙ s.part) e.0 e.1 (subst (λ x. includes x e.0 ≡ true) (same_number mid.clauses kept_mid.numbers m d h.clause (g.stay m d alive) h.alive) e.2));
         gone = λ q f i. ((h.others q f).0 i).1;
         came = λ q f i. ⊎_elim
             (λ (j : Contains old.clauses (q, f)). inl j)

@@ -9,7 +9,7 @@ use Rattle.simp_base.specs.Causes.{HasCause}
 use Rattle.simp_base.specs.Log.{KeepsLog}
 use Rattle.simp_base.specs.Parts.{takes_part}
 use Rattle.simp_subsume.specs.Related.{subsumes, strengthens, IsUnrelated}
-use Rattle.simp_subsume.specs.Ends.{EachContains, EachContained}
+use Rattle.simp_subsume.specs.Ends.{PassesOthers, EachContains, EachContained}
 use Rattle.simp_subsume.specs.declared.relation.Relation.{Relation}
 use Rattle.simp_subsume.specs.declared.relation.Relation.TheVariants.{Apart, Within, Flipped}
 use Rattle.simp_subsume.specs.declared.compare.Fate.{Fate}
@@ -65,7 +65,7 @@ IsFateAt w n c m (Shrinks rest) = (d : List Literal) × Contains w.clauses (m, d
 
 -- Works
 
--- what is known got shorter, and nothing else has changed
+-- what is known got shorter, the clauses that take no part stay, and nothing else has changed
 pub record Reduces (old new : WorkState) : Type 0 where
   pub going : new.ended ≡ false
   pub unspent : new.output.spent ≡ false
@@ -74,6 +74,7 @@ pub record Reduces (old new : WorkState) : Type 0 where
   pub stack : new.stack ≡ old.stack
   pub vars : new.vars ≡ old.vars
   pub units : (l : Literal) → has old.units l ≡ true → has new.units l ≡ true
+  pub passed : PassesOthers old new
   pub covered : EachContains (known old) (known new)
   pub parts : EachContained (known old) (known new)
   pub later : old.output.last ≤ new.output.last

@@ -23,10 +23,15 @@ EachContains F G = (c : List Literal) → Contains F c → (d : List Literal) ×
 abbrev pub EachContained : List (List Literal) → List (List Literal) → Type 0
 EachContained F G = (d : List Literal) → Contains G d → (c : List Literal) × Contains F c × (includes c d ≡ true)
 
--- no clause is contained in another one; what was known contains something that is known, and what is known is a part of
+-- the clauses that take no part stay, each under its number: tautologies, and clauses of one literal
+abbrev pub PassesOthers : WorkState → WorkState → Type 0
+PassesOthers old new = (n : ℕ) (c : List Literal) → takes_part c ≡ false → Contains old.clauses (n, c) → Contains new.clauses (n, c)
+
+-- no clause is contained in another one, and those that take no part stay; what was known contains something that is known, and what is known is a part of
 -- something that was; each unit is still listed; nothing came to the stack, and models lift
 pub record Subsumed (old new : WorkState) : Type 0 where
   pub reduced : IsReduced new.clauses
+  pub passed : PassesOthers old new
   pub covered : EachContains (known old) (known new)
   pub parts : EachContained (known old) (known new)
   pub vars : new.vars ≡ old.vars

@@ -1,5 +1,5 @@
 // Reading a formula from a source, in pieces.
-ghost use Rattle.std.specs.Prelude.{◌≡◌, ◌≢◌, ◌≤◌, Err, IfOk, IfErr, OnErr, true, is_err};
+ghost use Rattle.std.specs.Prelude.{◌≡◌, ◌≢◌, ◌≤◌, Err, IfOk, OnErr, true, is_err};
 ghost use Rattle.std.specs.Io.{ReadsAtMost};
 ghost use Rattle.io_edge.specs.Bytes.{WasRead};
 ghost use Rattle.io_edge.specs.Causes.{HasCause, one_more};
@@ -19,19 +19,15 @@ const LIMIT: usize = 1 << 33;
 /// How many bytes are asked for at once, at most.
 const BUFFER: usize = 1 << 16;
 
-/// Reads the next piece.
-fn read_piece<S: Source>(source: &mut S, buf: &mut [u8]) -> Result<usize, ReadStop>
+/// Reads the next piece, by one read.
+fn read_piece<S: Source>(source: &mut S, buf: &mut [u8]) -> Result<usize, Failed>
     ensures bound { ReadsAtMost result buf.new }
     ensures bytes { WasRead (S.left source.old) (S.left source.new) result buf.new }
     ensures cause { HasCause (S.faults source.old) (S.faults source.new) result }
     ensures once { OnErr result (S.faults source.new ≡ one_more (S.faults source.old)) }
     ensures failed { S.failed source.new ≡ is_err result }
-    ensures stop { IfErr result (λ stop. stop ≡ ReadFault) }
 {
-    match source.read(buf) {
-        Ok(count) => Ok(count),
-        Err(Failed) => Err(ReadStop::ReadFault),
-    }
+    source.read(buf)
 }
 
 /// Reads a formula in DIMACS CNF, to the end of the source or to the `%` that ends the formula.
@@ -55,7 +51,7 @@ pub fn read<S: Source>(alloc: Global, source: &mut S) -> Result<Formula, ReadSto
     let mut taken = 0;
     loop {
         match read_piece(source, &mut buffer) {
-            Err(stop) => return Err(stop),
+            Err(Failed) => return Err(ReadStop::ReadFault),
             Ok(0) => return reader.finish(alloc),
             Ok(count) => {
                 let room = LIMIT - taken;

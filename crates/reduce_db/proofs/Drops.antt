@@ -14,7 +14,6 @@ use Rattle.sat_words.specs.declared.shared.Cref.{Cref}
 use Rattle.rup_model.proofs.Lists.{In, In_map, map_In, In_append_left, In_append_right, In_get_or, none_In, Contains_In, In_Contains}
 use Rattle.ring_port.specs.PortState.{Holding, PortState, held_at, lits_at, lits_in, clause_at}
 use Rattle.ring_port.specs.Deleting.{DroppedOnce}
-use Rattle.ring_port.proofs.LogSteps.{In_All}
 use Rattle.ring_port.proofs.Holdings.{All_In}
 use Rattle.ring_port.proofs.PlainLemmas.{dropped_others}
 use Rattle.ring_trail.specs.declared.step.TrailStep.{TrailStep}
@@ -51,16 +50,6 @@ distinct_before [] i d e a lt h = absurd (omega arith)
 distinct_before (x ∷ xs) zero d e a lt h = absurd h
 distinct_before (x ∷ xs) (suc i) d e a lt (inl q) = λ z. a.0 i d (omega arith) (sym z ∙ ap (λ (c : Cref). c.address) (sym q))
 distinct_before (x ∷ xs) (suc i) d e a lt (inr m) = distinct_before xs i d e a.1 (omega arith) m
-
-take_In : (xs : List Cref) (i : ℕ) (e : Cref) → In e (take i xs) → In e xs
-take_In [] zero e h = h
-take_In [] (suc i) e h = h
-take_In (x ∷ xs) zero e h = absurd h
-take_In (x ∷ xs) (suc i) e (inl q) = inl q
-take_In (x ∷ xs) (suc i) e (inr m) = inr (take_In xs i e m)
-
-pub take_among : (xs : List Cref) (i : ℕ) → All (Contains xs) (take i xs)
-take_among xs i = In_All (Contains xs) (take i xs) (λ x m. In_Contains xs x (take_In xs i x m))
 
 -- The port
 

@@ -1,5 +1,5 @@
 -- What a reduction comes to.
-use Rattle.std.specs.Prelude.{◌≡◌, List, All, Contains, Result, Ok, Err}
+use Rattle.std.specs.Prelude.{◌≡◌, ◌⊎◌, List, [], ◌++◌, All, Contains, Result, Ok, Err}
 use Rattle.sat_words.specs.declared.shared.Cref.{Cref}
 use Rattle.ring_port.specs.declared.stops.PortStop.{PortStop}
 use Rattle.ring_port.specs.declared.stops.PortStop.TheVariants.{Memory}
@@ -16,14 +16,21 @@ pub record WasReduced (old new : PortState) (v w : WatchData) (steps : List Trai
   pub port : DroppedAll old new dropped
   pub attached_now : attached w ≡ without_all (attached v) dropped
 
--- memory ran out once some of the lemmas were dropped
-pub record WasCutShort (old new : PortState) (lemmas : List Cref) (stop : PortStop) : Type 0 where
+-- these are the first ones of those that a choice drops
+pub record IsFrontOfChoice (s : PortState) (steps : List TrailStep) (lemmas dropped : List Cref) : Type 0 where
+  pub left : List Cref
+  pub more : List Cref
+  pub choice : IsChoice s steps lemmas left (dropped ++ more)
+
+-- memory ran out if none of the lemmas was dropped yet, or the first ones of those that were chosen
+pub record WasCutShort (old new : PortState) (steps : List TrailStep) (lemmas : List Cref) (stop : PortStop) : Type 0 where
   pub memory : stop ≡ Memory
   pub dropped : List Cref
   pub among : All (Contains lemmas) dropped
+  pub front : (dropped ≡ []) ⊎ IsFrontOfChoice old steps lemmas dropped
   pub port : DroppedAll old new dropped
 
 -- what `reduce` did
 abbrev pub Reduced : PortState → PortState → WatchData → WatchData → List TrailStep → List Cref → List Cref → Result (Unit {0}) PortStop → Type 0
 Reduced old new v w steps lemmas left (Ok done) = WasReduced old new v w steps lemmas left
-Reduced old new v w steps lemmas left (Err stop) = WasCutShort old new lemmas stop
+Reduced old new v w steps lemmas left (Err stop) = WasCutShort old new steps lemmas stop

@@ -9,8 +9,7 @@ ghost use Rattle.watch_prop.specs.WatchData.{attached, without_all};
 ghost use Rattle.watch_prop.specs.Watched.{Watched};
 ghost use Rattle.reduce_db.specs.Lemmas.{AreDistinct};
 ghost use Rattle.reduce_db.specs.Choice.{is_reason};
-ghost use Rattle.reduce_db.specs.Dropping.{DroppedAll, StaysReady};
-ghost use Rattle.reduce_db.specs.Reduction.{WasCutShort};
+ghost use Rattle.reduce_db.specs.Dropping.{DroppedAll, DroppedSome, StaysReady};
 
 use ring_port::{Port, PortStop};
 use ring_trail::Trail;
@@ -35,7 +34,7 @@ pub(crate) fn drop_each<P: Port>(
     ensures attached { OnOk result (attached watches.new ≡ without_all (attached watches.old) lemmas.now) }
     ensures closed { OnOk result (watches.new.size ≡ sum watches.new.rooms) }
     ensures ready { OnOk result (StaysReady (P.state port.old) (P.state port.new) watches.old watches.new trail.now) }
-    ensures stopped { IfErr result (WasCutShort (P.state port.old) (P.state port.new) lemmas.now) }
+    ensures stopped { IfErr result (DroppedSome (P.state port.old) (P.state port.new) lemmas.now) }
     ensures log { KeepsLog (P.state port.old) (P.state port.new) }
     ensures port { IsPort (P.state port.new) }
 {

@@ -6,7 +6,7 @@ use Rattle.ring_port.specs.PortState.{PortState, lits_at}
 use Rattle.watch_prop.specs.Propagation.{IsQuiet, IsConflict}
 use Rattle.ring_run.specs.Ending.{IsRefusal}
 use Rattle.ring_port.specs.declared.stops.PortStop.TheVariants as answer
-use Rattle.ring_run.specs.Searching.{HasTold}
+use Rattle.ring_run.specs.Searching.{HasTold, FixedSeen}
 use Rattle.ring_run.specs.Halting.{HaltsRenewing}
 use Rattle.ring_run.specs.Course.{CountsAlike, LearnsFrom, IsOnOrRefused, HaltsBy}
 use Rattle.ring_run.specs.Turn.{HasPropagated, ActedAtQuiet, TookTurn, HaltedTurn, TakesTurn, CameTo, IsModelFound, EndsDeciding, HaltsQuietly, EndsQuietly}
@@ -36,20 +36,21 @@ found_alike : (old : Ring) (written : ℕ) (a : List Bool) → IsModelFound (rec
 found_alike old written a p = record { valued = p.valued; long = p.long; true_there = p.true_there }
 
 -- what a decision comes to after a look and lines of units
-pub quietly_decided : (s w : PortState) (old ring new : Ring) (course : Next) → old.import_due ≡ false → ring ≡ record old { written = ring.written } → CountsAlike old new → HasTold s w → EndsDeciding ring new course → EndsQuietly s w old new course
-quietly_decided s w old ring new Go settled same counts told d = tt
-quietly_decided s w old ring new (Finish (Sat a)) settled same counts told d = record {
+pub quietly_decided : (s w : PortState) (old ring new : Ring) (course : Next) → old.import_due ≡ false → ring ≡ record old { written = ring.written } → CountsAlike old new → HasTold s w → FixedSeen w old.trail → EndsDeciding ring new course → EndsQuietly s w old new course
+quietly_decided s w old ring new Go settled same counts told seen d = tt
+quietly_decided s w old ring new (Finish (Sat a)) settled same counts told seen d = record {
   settled = settled;
   told = told;
+  seen = seen;
   found = found_alike old ring.written a (subst (λ (r : Ring). IsModelFound r a) same d.0);
   same = d.1 ∙ same ∙ ap (λ (r : Ring). record old { written = r.written }) (sym d.1);
 }
-quietly_decided s w old ring new (Finish Refuted) settled same counts told d = absurd d
-quietly_decided s w old ring new (Finish Spent) settled same counts told d = d
-quietly_decided s w old ring new (Finish (Stopped x)) settled same counts told d = absurd d
-quietly_decided s w old ring new (Finish (NoHole lack)) settled same counts told d = absurd d
-quietly_decided s w old ring new (Finish ProofFault) settled same counts told d = absurd d
-quietly_decided s w old ring new (Finish Memory) settled same counts told d = (counts, w, told, inl (answer.Memory, record { reason = tt; state = refl }, refl))
+quietly_decided s w old ring new (Finish Refuted) settled same counts told seen d = absurd d
+quietly_decided s w old ring new (Finish Spent) settled same counts told seen d = d
+quietly_decided s w old ring new (Finish (Stopped x)) settled same counts told seen d = absurd d
+quietly_decided s w old ring new (Finish (NoHole lack)) settled same counts told seen d = absurd d
+quietly_decided s w old ring new (Finish ProofFault) settled same counts told seen d = absurd d
+quietly_decided s w old ring new (Finish Memory) settled same counts told seen d = (counts, w, told, inl (answer.Memory, record { reason = tt; state = refl }, refl))
 
 pub refused_over : (course : Next) (end : End) → course ≡ Finish end → IsOnOrRefused course → IsRefusal end
 refused_over course end is h = subst IsOnOrRefused is h

@@ -122,10 +122,10 @@ module _ (s u : PortState) (old new : Ring) (lits : List Literal) (back glue lim
   pub comes_learns : (course : Next) → ComesOf s u old new lits back glue limit course → LearnsTo s u old new lits back glue course
   comes_learns course (inl p) = subst (λ (x : Next). LearnsTo s u old new lits back glue x) (sym p.over)
       (learns_halted s u old new lits back glue (end_refused p.stop) (refused_refusal p.stop)
-      (inl ((p.stop, p.refused, refl), record { learned = ap (λ (r : Ring). r.learned) p.ring; restarts = ap (λ (r : Ring). r.restarts) p.ring })))
+      (inl ((p.stop, p.refused, refl), record { learned = ap (λ (r : Ring). r.learned) p.ring; restarts = ap (λ (r : Ring). r.restarts) p.ring; exported = ap (λ (r : Ring). r.exported) p.ring; offered = ap (λ (r : Ring). r.offered) p.ring })))
   comes_learns course (inr (inl p)) =
       subst (λ (x : Next). LearnsTo s u old new lits back glue x) (sym p.over)
-      (record { address = p.address; shared = p.shared.shared; restarts = shared_noted s u old new lits glue p.address p.shared })
+      (record { address = p.address; shared = p.shared.shared; learned = shared_count s u old new lits glue p.address p.shared; restarts = shared_noted s u old new lits glue p.address p.shared })
   comes_learns course (inr (inr p)) = followed_learns course p
 
   followed_tidied : (course : Next) → WasFollowed s u old new lits back glue limit course → HasTidied u course
@@ -384,5 +384,5 @@ pub behind_memory : (s u : PortState) (old new : Ring) (conflict : Cref) (lits :
     → BehindLemma s u old new conflict lits limit (Finish Memory)
 behind_memory s u old new conflict lits limit same still below paced offering = subst (λ (x : PortState). BehindLemma s x old new conflict lits limit (Finish Memory)) (sym same)
     (behind_end s s old new conflict lits limit Memory still (λ count most few start p. out_of_memory start s count most few p) tt
-    (inr (inl (refl, refl, record { learned = still.learned; restarts = still.restarts })))
+    (inr (inl (refl, refl, record { learned = still.learned; restarts = still.restarts; exported = still.offers.exported; offered = still.offers.offered })))
     (record { shared = refl; polled = refl; polls = refl; caught_up = omega arith; ring = refl; rings = refl; lemmas = refl }) refl refl below paced offering)

@@ -60,7 +60,7 @@ shared_alike s u between old new lits glue address b p = record {
 }
 
 halts_bumped : (s u : PortState) (between old new : Ring) (lits : List Literal) (glue : ℕ) (end : End) → AreSameButBumps between old → HaltsLearning s u between new lits glue end → HaltsLearning s u old new lits glue end
-halts_bumped s u between old new lits glue end b (inl p) = inl (p.0, record { learned = p.1.learned ∙ b.learned; restarts = p.1.restarts ∙ b.restarts })
+halts_bumped s u between old new lits glue end b (inl p) = inl (p.0, record { learned = p.1.learned ∙ b.learned; restarts = p.1.restarts ∙ b.restarts; exported = p.1.exported ∙ b.exported; offered = p.1.offered ∙ b.offered })
 halts_bumped s u between old new lits glue end b (inr p) = inr (record {
   address = p.address;
   between = p.between;
@@ -78,6 +78,7 @@ learns_bumped s u between old new lits back glue Go b p = record {
   between = p.between;
   shared = shared_alike s p.between between old new lits glue p.address b p.shared;
   tidied = p.tidied;
+  learned = p.learned ∙ ap (λ (n : ℕ). n + 1) b.learned;
   restarts = p.restarts ∙ ap (λ (r : Restarting). asked (noted r glue)) b.restarts;
   import_due = p.import_due ∙ ap (λ (r : Restarting). is_due (noted r glue)) b.restarts;
   left = left_alike u (record between { import_due = new.import_due }) (record old { import_due = new.import_due }) new lits back p.address
@@ -89,6 +90,7 @@ learns_bumped s u between old new lits back glue (Finish Refuted) b p = halts_bu
 learns_bumped s u between old new lits back glue (Finish Spent) b p = record {
   address = p.address;
   shared = shared_alike s u between old new lits glue p.address b p.shared;
+  learned = p.learned ∙ ap (λ (n : ℕ). n + 1) b.learned;
   restarts = p.restarts ∙ ap (λ (r : Restarting). noted r glue) b.restarts;
 }
 learns_bumped s u between old new lits back glue (Finish (Stopped x)) b p = p

@@ -69,12 +69,12 @@ module _ (s u : PortState) (ring : Ring) (listed : HasLemmas s ring) (rests : Is
     apart = In_All (λ (c : Cref). IsNotTaken s c.address) imports (λ c m. ap (list_any (λ b. b == c.address)) rests.none_taken);
   }
 
-  pub given_up_over : (stop : PortStop) → WasCutShort s u imports stop → KeepsLog s u → IsPort u → EndsAt s u (end_refused stop)
+  pub given_up_over : (stop : PortStop) → WasCutShort s u ring.trail.steps imports stop → KeepsLog s u → IsPort u → EndsAt s u (end_refused stop)
   given_up_over stop w log port n limit below start p =
       subst (λ (x : PortStop). ComesTo start u n limit (end_refused x)) (sym w.memory)
       (out_of_memory start u n limit below (dropped_goes_on s u w.dropped imports w.port w.among start_apart rests.lately start n p log port))
 
-  pub given_up_nothing : (stop : PortStop) → WasCutShort s u imports stop → OffersNothing s u
+  pub given_up_nothing : (stop : PortStop) → WasCutShort s u ring.trail.steps imports stop → OffersNothing s u
   given_up_nothing stop w = dropped_nothing s u w.dropped w.port
 
   module _ (w : WatchData) (v : Vec Cref) (done : WasReduced s u ring.watches w ring.trail.steps imports v.items) where
@@ -152,12 +152,13 @@ module _ (s m u : PortState) (ring between new : Ring) (v : Vec Cref) (first : b
 
 module _ (s m u : PortState) (ring between : Ring) (v : Vec Cref) (first : between ≡ record ring { imports = v; watches = between.watches; lemmas = between.lemmas; reductions = between.reductions; reduced_at = between.reduced_at }) where
   -- what is said if the imports were not all dropped
-  pub both_halt : HasLemmas s ring → AreToldApart ring.last_start ring.lemmas.items ring.imports.items v.items → HasReducedLemmas s m (record ring { imports = v }) between → (end : End) → HaltsDropping m u between.imports.items end → HaltsReducingImports s u ring end
+  pub both_halt : HasLemmas s ring → AreToldApart ring.last_start ring.lemmas.items ring.imports.items v.items → HasReducedLemmas s m (record ring { imports = v }) between → (end : End) → HaltsDropping m u between.trail.steps between.imports.items end → HaltsReducingImports s u ring end
   both_halt p told own end cut = record {
     imports = v.items;
     apart = subst (λ (n : ℕ). AreToldApart n ring.lemmas.items ring.imports.items v.items) p.last told;
     between = m;
     ring = between;
     lemmas_reduced = record { noted = own.noted; entry = own.entry; reduced = own.reduced; counted = own.counted; since = own.since };
-    halts = subst (λ (cs : List Cref). HaltsDropping m u cs end) (ap (λ (r : Ring). r.imports.items) first) cut;
+    halts = subst (λ (steps : List TrailStep). HaltsDropping m u steps v.items end) (ap (λ (r : Ring). r.trail.steps) first)
+        (subst (λ (cs : List Cref). HaltsDropping m u between.trail.steps cs end) (ap (λ (r : Ring). r.imports.items) first) cut);
   }

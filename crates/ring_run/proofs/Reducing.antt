@@ -320,7 +320,7 @@ module _ (s m u : PortState) (ring : Ring) (noted : NotedReduce s m) (listed : H
   apart_then : (h : Holding) (c : Cref) → Contains m.start h → Contains lemmas c → c.address ≢ h.address
   apart_then h c there member = listed.apart h c (subst (λ (hs : List Holding). Contains hs h) (noted_start s m noted) there) member
 
-  pub cut_short_over : (stop : PortStop) → WasCutShort m u lemmas stop → KeepsLog m u → IsPort u → (start : PortState) (n limit : ℕ) → n < limit → GoesOn start m n → ComesTo start u n limit (end_refused stop)
+  pub cut_short_over : (stop : PortStop) → WasCutShort m u ring.trail.steps lemmas stop → KeepsLog m u → IsPort u → (start : PortState) (n limit : ℕ) → n < limit → GoesOn start m n → ComesTo start u n limit (end_refused stop)
   cut_short_over stop w log port start n limit below p =
       subst (λ (x : PortStop). ComesTo start u n limit (end_refused x)) (sym w.memory)
       (out_of_memory start u n limit below (dropped_goes_on m u w.dropped lemmas w.port w.among apart_then (noted_lately s m noted) start n p log port))
@@ -387,7 +387,7 @@ module _ (s m u : PortState) (ring : Ring) (noted : NotedReduce s m) (listed : H
   reduced_import t v w n left done p ready port =
       dropped_import m u done.dropped lemmas done.port (dropped_among m t.steps lemmas left done.dropped done.choice) apart_then t v w n p done.attached_now ready (noted_none s m noted) (noted_lately s m noted) port
 
-pub cut_short_nothing : (m u : PortState) (ring : Ring) (stop : PortStop) → WasCutShort m u ring.lemmas.items stop → OffersNothing m u
+pub cut_short_nothing : (m u : PortState) (ring : Ring) (stop : PortStop) → WasCutShort m u ring.trail.steps ring.lemmas.items stop → OffersNothing m u
 cut_short_nothing m u ring stop w = dropped_nothing m u w.dropped w.port
 
 pub reduced_nothing : (m u : PortState) (ring : Ring) (v w : WatchData) (steps : List TrailStep) (left : List Cref) → WasReduced m u v w steps ring.lemmas.items left → OffersNothing m u

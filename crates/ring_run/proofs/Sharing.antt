@@ -222,6 +222,7 @@ module _ (s u : PortState) (old new : Ring) (lits : List Literal) (back glue lim
       between = v;
       shared = asked_shared;
       tidied = leaves.tidied;
+      learned = asked_learned;
       stored = stored_at s h.shared.middle u lits glue address h.shared.learned alike;
       restarts = asked_restarts;
       import_due = asked_pending;

@@ -20,7 +20,6 @@ use Rattle.ring_run.specs.Renewal.{HaltsAt}
 use Rattle.ring_run.specs.Course.{IsLooking}
 use Rattle.ring_run.specs.declared.job.End.{End}
 use Rattle.ring_run.specs.declared.ring.Ring.{Ring}
-use Rattle.std.specs.Global.{Vec}
 use Rattle.std.specs.Prelude.{Result, Ok, Err, IfOk, OnOk}
 use Rattle.ring_run.proofs.Reducing.{noted_lately, noted_none}
 use Rattle.ring_run.proofs.Remembering.{lits_same}
@@ -72,11 +71,3 @@ ok_of (Err e) f p = tt
 pub if_ok_then : {A E : Type 0} {P Q : A → Type 0} (r : Result A E) → IfOk r P → ((a : A) → P a → Q a) → IfOk r Q
 if_ok_then (Ok a) p f = f a p
 if_ok_then (Err e) p f = tt
-
--- what reducing and vivifying leave of a ring
-pub shrunk_same : (old between new : Ring) → new.imports ≡ between.imports → new.reductions ≡ between.reductions → new.reduced_at ≡ between.reduced_at
-    → (record old { trail = new.trail; watches = new.watches; written = new.written; lemmas = new.lemmas; imports = between.imports; reductions = between.reductions; reduced_at = between.reduced_at }) ≡ (record old { trail = new.trail; watches = new.watches; written = new.written; lemmas = new.lemmas; imports = new.imports; reductions = new.reductions; reduced_at = new.reduced_at })
-shrunk_same old between new imports reductions reduced_at =
-    ap (λ (v : Vec Cref). record old { trail = new.trail; watches = new.watches; written = new.written; lemmas = new.lemmas; imports = v; reductions = between.reductions; reduced_at = between.reduced_at }) (sym imports)
-    ∙ ap (λ (n : ℕ). record old { trail = new.trail; watches = new.watches; written = new.written; lemmas = new.lemmas; imports = new.imports; reductions = n; reduced_at = between.reduced_at }) (sym reductions)
-    ∙ ap (λ (n : ℕ). record old { trail = new.trail; watches = new.watches; written = new.written; lemmas = new.lemmas; imports = new.imports; reductions = new.reductions; reduced_at = n }) (sym reduced_at)

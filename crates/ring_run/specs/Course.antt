@@ -21,7 +21,7 @@ use Rattle.vivify.specs.Outcome.{glue_at}
 use Rattle.restart_plan.specs.Luby.{luby_sum}
 use Rattle.restart_plan.specs.Plan.{Restarting, luby_unit}
 use Rattle.ring_run.specs.Ended.{HasLooked, HasOffered, HasPolled, polls_of, HasImported, ImportsBy, IsTidy, IsInTime, last_looks, reductions}
-use Rattle.ring_run.specs.Searching.{HasClauses, Stands, OpeningSeen, AreTold, GoesOn, IsAsserting, IsGlueOf, HasLent, HasTold}
+use Rattle.ring_run.specs.Searching.{HasClauses, Stands, OpeningSeen, AreTold, FixedSeen, GoesOn, IsAsserting, IsGlueOf, HasLent, HasTold}
 use Rattle.ring_run.specs.Strategy.{saved_above}
 use Rattle.ring_run.specs.Ending.{EndsBy, IsRefusal, EndsRefused, WroteEmpty, HaltsDeleting}
 use Rattle.ring_run.specs.declared.job.End.{End}
@@ -120,10 +120,11 @@ pub record WasShared (old new : PortState) (before after : Ring) (lits : List Li
   pub learned : Learned old middle lits glue (Ok address)
   pub lent : HasLent middle new address before.exported before.offered after.exported after.offered
 
--- the lemma was learned, offered if it has a class, and its glue noted; nothing else was done at the port
+-- the lemma was learned, offered if it has a class, and counted, and its glue noted; nothing else was done at the port
 pub record HasSpent (s u : PortState) (old new : Ring) (lits : List Literal) (glue : ℕ) : Type 0 where
   pub address : Option Cref
   pub shared : WasShared s u old new lits glue address
+  pub learned : new.learned ≡ old.learned + 1
   pub restarts : new.restarts ≡ noted old.restarts glue
 
 -- a lemma was learned that asks for this level and has this glue, and its conflict left
@@ -136,6 +137,8 @@ pub record HasLearned (s u : PortState) (old new : Ring) (lits : List Literal) (
   pub between : PortState
   pub shared : WasShared s between old new lits glue address
   pub tidied : TidiedUpTo between u (length between.waiting)
+  -- the lemma is counted
+  pub learned : new.learned ≡ old.learned + 1
   -- the glue was noted for the restarts, and it was asked whether one is due
   pub restarts : new.restarts ≡ asked (noted old.restarts glue)
   -- an import is yet to be exactly if one was due
@@ -143,10 +146,12 @@ pub record HasLearned (s u : PortState) (old new : Ring) (lits : List Literal) (
   -- where one was due the trail is at level 0, else at the lemma's level with its first literal true
   pub left : HasLeft u (record old { import_due = new.import_due }) new lits back address
 
--- as many lemmas and restarts are counted as before
+-- as many lemmas, offers and restarts are counted as before
 pub record CountsAlike (old new : Ring) : Type 0 where
   pub learned : new.learned ≡ old.learned
   pub restarts : new.restarts ≡ old.restarts
+  pub exported : new.exported ≡ old.exported
+  pub offered : new.offered ≡ old.offered
 
 -- the lemma was learned and offered if it has a class, its glue was noted, and it was asked whether a restart is due; then the run came
 -- to its end where the clauses that waited were deleted
@@ -201,9 +206,10 @@ pub record HasDecided (old new : Ring) : Type 0 where
   pub trail : new.trail ≡ decided old.trail lit
   pub same : new ≡ record old { trail = new.trail; written = new.written }
 
--- after a look and the lines of units a literal was decided
+-- after a look and the lines of units, of which none is missing, a literal was decided
 pub record DecidedNext (s u : PortState) (old new : Ring) : Type 0 where
   pub told : HasTold s u
+  pub seen : FixedSeen u old.trail
   pub decided : HasDecided old new
 
 -- the search goes on, or a call was refused or the clauses refuted

@@ -1,13 +1,15 @@
 -- How a search comes to an end that is no model, no limit of lemmas and no stop of another: what was done before its last call.
-use Rattle.std.specs.Prelude.{◌≡◌, ◌⊎◌, ℕ, ◌+◌, List, ◌∷◌, ◌++◌, drop, All, Contains}
+use Rattle.std.specs.Prelude.{◌≡◌, ◌⊎◌, ℕ, ◌+◌, List, [], ◌∷◌, ◌++◌, drop, All, Contains}
 use Rattle.sat_words.specs.Literal.{Literal}
 use Rattle.sat_words.specs.declared.shared.Cref.{Cref}
 use Rattle.ring_port.specs.PortState.{PortState}
 use Rattle.ring_port.specs.Deleting.{TidiedSome}
 use Rattle.ring_port.specs.Reducing.{NotedReduce}
 use Rattle.ring_port.specs.declared.stops.PortStop.{PortStop}
+use Rattle.ring_trail.specs.declared.step.TrailStep.{TrailStep}
 use Rattle.reduce_db.specs.Lemmas.{AreToldApart}
 use Rattle.reduce_db.specs.Dropping.{DroppedAll}
+use Rattle.reduce_db.specs.Reduction.{IsFrontOfChoice}
 use Rattle.vivify.specs.Outcome.{IsVivified, WasCutShort}
 use Rattle.vivify.specs.declared.shorten.Vivified.TheVariants.{Unit}
 use Rattle.ring_run.specs.Searching.{OnlySaw, OnlyPolled}
@@ -20,16 +22,17 @@ use Rattle.ring_run.specs.declared.ring.Ring.{Ring}
 
 -- Reductions
 
--- some of these clauses were dropped, one after the other, and then there was no memory
-pub record HaltsDropping (s u : PortState) (clauses : List Cref) (end : End) : Type 0 where
+-- of these clauses none was dropped yet, or the first ones of those that were chosen, one after the other, and then there was no memory
+pub record HaltsDropping (s u : PortState) (steps : List TrailStep) (clauses : List Cref) (end : End) : Type 0 where
   pub dropped : List Cref
   pub among : All (Contains clauses) dropped
+  pub front : (dropped ≡ []) ⊎ IsFrontOfChoice s steps clauses dropped
   pub port : DroppedAll s u dropped
   pub memory : end ≡ Memory
 
 -- the Reduce entry was refused; or it was written, and lemmas were dropped until there was no memory
 abbrev pub HaltsReducingLemmas : PortState → PortState → Ring → End → Type 0
-HaltsReducingLemmas s u before end = EndsRefused s u end ⊎ ((noted : PortState) × NotedReduce s noted × HaltsDropping noted u before.lemmas.items end)
+HaltsReducingLemmas s u before end = EndsRefused s u end ⊎ ((noted : PortState) × NotedReduce s noted × HaltsDropping noted u before.trail.steps before.lemmas.items end)
 
 -- the imports were told apart from lemmas and start clauses, the Reduce entry was written and the lemmas were reduced; then those
 -- imports were dropped until there was no memory
@@ -39,7 +42,7 @@ pub record HaltsReducingImports (s u : PortState) (before : Ring) (end : End) : 
   pub between : PortState
   pub ring : Ring
   pub lemmas_reduced : HasReducedLemmas s between before ring
-  pub halts : HaltsDropping between u imports end
+  pub halts : HaltsDropping between u before.trail.steps imports end
 
 -- there was no memory to tell the imports apart, and nothing was done; or the reduction of the lemmas was cut short, or after it that of
 -- the imports
@@ -110,7 +113,7 @@ pub record HaltsImporting (s u : PortState) (end : End) : Type 0 where
 pub record HaltsRenewed (s u : PortState) (before : Ring) (end : End) : Type 0 where
   pub middle : PortState
   pub ring : Ring
-  pub shrunk : (IsDue before × HasShrunk s middle before ring) ⊎ IsIdle s middle before ring
+  pub shrunk : (IsDue before × HasShrunk s middle before ring) ⊎ ((IsDue before → ⊥) × IsIdle s middle before ring)
   pub importing : HaltsImporting middle u end
 
 -- a reduction was due and it or vivification was cut short, or the import was

@@ -17,7 +17,7 @@ use Rattle.vivify.specs.Outcome.{glue_at, IsVivified}
 use Rattle.vivify.specs.declared.shorten.Vivified.{Vivified}
 use Rattle.vivify.specs.declared.shorten.Vivified.TheVariants.{Kept, Shorter, Unit, Empty}
 use Rattle.ring_run.specs.Ended.{IsHalted, import_slots, last_looks, reductions}
-use Rattle.ring_run.specs.Searching.{OpeningSeen, Stands, OnlySaw, OnlyPolled, OnlyWrote, ToldUnits, HasTold, HasGrownLog, AreTold}
+use Rattle.ring_run.specs.Searching.{OpeningSeen, Stands, OnlySaw, OnlyPolled, OnlyWrote, ToldUnits, HasTold, HasGrownLog, AreTold, FixedSeen}
 use Rattle.ring_run.specs.Ending.{EndsAt, IsRefusal}
 use Rattle.ring_run.specs.Course.{InSearch, last_start, numbers, number_at, AreOrdered}
 use Rattle.ring_run.specs.declared.vivification.AfterVivify.{AfterVivify}
@@ -217,17 +217,17 @@ IsLeft s u w c Gone = ⊤
 
 -- Both
 
--- the lemmas were reduced, those left had their turns in the order of their lines, and then all clauses that waited were deleted
+-- the lemmas were reduced, those left had their turns in the order of their lines, and then all clauses that waited were deleted; nothing
+-- else of the ring changed
 pub record HasShrunk (old new : PortState) (before after : Ring) : Type 0 where
   pub dropped : PortState
   pub between : Ring
   pub reduced : HasReduced old dropped before between
-  pub same_trail : between.trail ≡ before.trail
+  pub reduced_ring : between ≡ record before { watches = between.watches; lemmas = between.lemmas; imports = between.imports; reductions = between.reductions; reduced_at = between.reduced_at }
   pub vivified_port : PortState
   pub ordered : AreOrdered dropped between.lemmas.items
   pub vivified : TookAll (point dropped between) (point vivified_port after) between.lemmas.items after.lemmas.items
-  pub same : after ≡ record before { trail = after.trail; watches = after.watches; written = after.written; lemmas = after.lemmas; imports = after.imports; reductions = after.reductions; reduced_at = after.reduced_at }
-  pub counted : after.reductions ≡ between.reductions
+  pub same : after ≡ record between { trail = after.trail; watches = after.watches; written = after.written; lemmas = after.lemmas }
   pub lines : TidiedUpTo vivified_port new (length vivified_port.waiting)
 
 -- nothing was done
@@ -259,6 +259,7 @@ pub record TookImport (old new : PortState) (before after : Ring) : Type 0 where
   pub polled : OnlyPolled middle new
   pub slots : TookSlots middle new before after (import_slots middle)
   pub grown : HasGrown before.trail after.trail
+  pub shape : IsTrail after.trail
   pub bare : (p : ℕ) → length before.trail.steps ≤ p → p < length after.trail.steps → reason_at after.trail.steps p ≡ None
   pub level : after.trail.level ≡ 0
   pub same : after ≡ record before { trail = after.trail; watches = after.watches; imports = after.imports; import_due = false }
@@ -269,11 +270,12 @@ pub record HasRenewed (old new : PortState) (before after : Ring) : Type 0 where
   pub due : IsDue before → (middle : PortState) × (ring : Ring) × HasShrunk old middle before ring × TookImport middle new ring after
   pub early : before.learned - before.reduced_at < lemmas_before (before.reductions + 1) → TookImport old new before after
 
--- after a look and the lines of units the ring renewed, and took no look more
+-- after a look and the lines of units, of which none is missing, the ring renewed, and took no look more
 pub record Renews (old new : PortState) (before after : Ring) : Type 0 where
   pub middle : PortState
   pub ring : Ring
   pub told : HasTold old middle
+  pub seen : FixedSeen middle before.trail
   pub unlooked : new.looks ≡ middle.looks
   pub same_ring : ring ≡ record before { written = ring.written }
   pub renewed : HasRenewed middle new ring after

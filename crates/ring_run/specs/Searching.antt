@@ -152,6 +152,10 @@ pub record UnitsSeen (s : PortState) : Type 0 where
 abbrev pub AreFirst : TrailData → ℕ → Type 0
 AreFirst t n = (p : ℕ) → p < length t.steps → level_at t.steps p ≡ 0 → p < n
 
+-- each literal at level 0 is seen: it was given, or the ring has written its line
+abbrev pub FixedSeen : PortState → TrailData → Type 0
+FixedSeen s t = (p : ℕ) → p < length t.steps → level_at t.steps p ≡ 0 → has s.seen (lit_at t.steps p) ≡ true
+
 -- the first n literals are at level 0 and seen; of those after, none that has a reason is seen; above level 0 none of these
 -- is at level 0
 pub record AreTold (s : PortState) (t : TrailData) (n : ℕ) : Type 0 where

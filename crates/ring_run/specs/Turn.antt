@@ -5,14 +5,14 @@ use Rattle.sat_words.specs.Truth.{lit_true}
 use Rattle.sat_words.specs.declared.shared.Cref.{Cref}
 use Rattle.sat_words.specs.declared.shared.Stop.{Stop}
 use Rattle.ring_port.specs.PortState.{PortState, lits_at}
-use Rattle.ring_trail.specs.TrailData.{HasGrown, IsTrueOn}
+use Rattle.ring_trail.specs.TrailData.{IsTrail, HasGrown, IsTrueOn}
 use Rattle.watch_prop.specs.WatchData.{attached}
 use Rattle.watch_prop.specs.Propagation.{IsQuiet, IsConflict, HasReasons}
 use Rattle.ring_decide.specs.Phases.{first_phases}
 use Rattle.ring_decide.specs.DeciderData.{AllValued}
 use Rattle.restart_plan.specs.Plan.{begun}
 use Rattle.ring_run.specs.Strategy.{Decides}
-use Rattle.ring_run.specs.Searching.{HasTold}
+use Rattle.ring_run.specs.Searching.{HasTold, FixedSeen}
 use Rattle.ring_run.specs.Ended.{stop_kind}
 use Rattle.ring_run.specs.Ending.{EndsRefused, SetsStop}
 use Rattle.ring_run.specs.Halting.{HaltsImporting, HaltsRenewing}
@@ -46,6 +46,7 @@ Acted s u old new = MetConflict s u old new Go ⊎ (IsQuiet old.watches (lits_at
 pub record HasPropagated (s : PortState) (old new : Ring) : Type 0 where
   pub same : new ≡ record old { trail = new.trail; watches = new.watches }
   pub grown : HasGrown old.trail new.trail
+  pub shape : IsTrail new.trail
   pub clauses : attached new.watches ≡ attached old.watches
   pub reasons : HasReasons (attached old.watches) s new.trail.steps
 
@@ -74,10 +75,11 @@ EndsDeciding old new (Finish (Sat a)) = IsModelFound old a × (new ≡ old)
 EndsDeciding old new (Finish Memory) = ⊤
 EndsDeciding old new (Finish end) = ⊥
 
--- no import is yet to be, a look and the lines of units came, and then there was nothing to decide
+-- no import is yet to be, a look and the lines of units came, of which none is missing, and then there was nothing to decide
 pub record FoundModel (s u : PortState) (old new : Ring) (a : List Bool) : Type 0 where
   pub settled : old.import_due ≡ false
   pub told : HasTold s u
+  pub seen : FixedSeen u old.trail
   pub found : IsModelFound old a
   pub same : new ≡ record old { written = new.written }
 

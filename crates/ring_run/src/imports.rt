@@ -6,7 +6,7 @@ ghost use Rattle.ring_run.specs.Ended.{slots_of, import_slots, LookedAlong, IsIn
 ghost use Rattle.ring_run.specs.Searching.{KeepsOn, OnlyPolled};
 ghost use Rattle.ring_run.specs.Renewal.{TookSlots, TookImport};
 ghost use Rattle.ring_run.specs.Halting.{HaltsImporting};
-ghost use Rattle.ring_run.specs.Course.{InSearch, KeepsLemmas, MayImport, Leads, KeepsLooking, KeepsOffering, IsPolling, HasPolledBy, KeepsImporting, KeepsTidy, IsInTimeBy, IsOnOrRefused, HaltsBy};
+ghost use Rattle.ring_run.specs.Course.{AreSameOffers, InSearch, KeepsLemmas, MayImport, Leads, KeepsLooking, KeepsOffering, IsPolling, HasPolledBy, KeepsImporting, KeepsTidy, IsInTimeBy, IsOnOrRefused, HaltsBy};
 
 use crate::course::{Next, refute};
 use crate::job::End;
@@ -122,6 +122,7 @@ pub(crate) fn import<P: Port>(port: &mut P, ring: &mut Ring) -> Next
     ensures tidied { KeepsTidy (P.state port.old) (P.state port.new) result }
     ensures in_time { IsInTime (P.state port.old) ring.old.restarts.since → IsInTimeBy (P.state port.new) ring.new result }
     ensures offering { KeepsOffering (P.state port.old) ring.old (P.state port.new) ring.new }
+    ensures offers { AreSameOffers ring.old ring.new }
     ensures looks { KeepsLooking (P.state port.old) ring.old (P.state port.new) ring.new result }
     ensures unlooked { (P.state port.new).looks ≡ (P.state port.old).looks }
     ensures learned { ring.new.learned ≡ ring.old.learned }

@@ -148,8 +148,8 @@ fn offer_lemma<P: Port>(port: &mut P, ring: &mut Ring, address: Option<Cref>)
     let Some(clause) = address else {
         return;
     };
-    let head = port.head(clause);
-    if class_of(head.size, head.glue).is_none() {
+    let shape = port.shape(clause);
+    if class_of(shape.size, shape.glue).is_none() {
         return;
     }
     let places = port.offer(clause);

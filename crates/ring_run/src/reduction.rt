@@ -8,7 +8,7 @@ ghost use Rattle.ring_run.specs.Searching.{OffersNothing, OpeningSeen, KeepsOn};
 ghost use Rattle.ring_run.specs.Renewal.{IsDue, HasReducedLemmas, HasReducedImports, HasReduced, AreUnmixed, AreSetApart, HasShrunk, IsIdle, HasRenewed, IsResting, HaltsAt};
 ghost use Rattle.ring_run.specs.Ending.{EndsAt, end_refused};
 ghost use Rattle.ring_run.specs.Halting.{HaltsDropping, HaltsReducingLemmas, HaltsReducing, HaltsShrinking, HaltsRenewing};
-ghost use Rattle.ring_run.specs.Course.{HasLemmas, MayImport, Leads, KeepsLooking, KeepsOffering, IsPolling, HasPolledBy, KeepsImporting, KeepsTidy, IsInTimeBy, IsOnOrRefused, HaltsBy};
+ghost use Rattle.ring_run.specs.Course.{AreSameOffers, HasLemmas, MayImport, Leads, KeepsLooking, KeepsOffering, IsPolling, HasPolledBy, KeepsImporting, KeepsTidy, IsInTimeBy, IsOnOrRefused, HaltsBy};
 
 use crate::course::{Next, end_refused};
 use crate::imports::import;
@@ -66,7 +66,7 @@ fn reduce_imports<P: Port>(alloc: Global, port: &mut P, ring: &mut Ring) -> Resu
     requires listed { HasLemmas (P.state port.old) ring.old }
     requires apart { AreSetApart (P.state port.old) ring.old }
     ensures reduced { OnOk result (HasReducedImports (P.state port.old) (P.state port.new) ring.old ring.new) }
-    ensures halts { IfErr result (λ stop. HaltsDropping (P.state port.old) (P.state port.new) ring.old.imports.items (end_refused stop)) }
+    ensures halts { IfErr result (λ stop. HaltsDropping (P.state port.old) (P.state port.new) ring.old.trail.steps ring.old.imports.items (end_refused stop)) }
     ensures ok { OnOk result (KeepsOn (P.state port.old) (P.state port.new)) }
     ensures over { IfErr result (λ stop. EndsAt (P.state port.old) (P.state port.new) (end_refused stop)) }
     ensures resting { OnOk result (IsResting (P.state port.new) ring.new) }
@@ -219,6 +219,7 @@ pub(crate) fn reduce_vivify_import<P: Port>(alloc: Global, port: &mut P, ring: &
     ensures tidied { KeepsTidy (P.state port.old) (P.state port.new) result }
     ensures in_time { IsInTimeBy (P.state port.new) ring.new result }
     ensures offering { KeepsOffering (P.state port.old) ring.old (P.state port.new) ring.new }
+    ensures offers { AreSameOffers ring.old ring.new }
     ensures looks { KeepsLooking (P.state port.old) ring.old (P.state port.new) ring.new result }
     ensures listed { result ≡ Next.Go → HasLemmas (P.state port.new) ring.new }
     ensures learned { ring.new.learned ≡ ring.old.learned }

@@ -53,6 +53,7 @@ fn search_step<P: Port>(
     ensures port { IsPort (P.state port.new) }
 {
     let Ok(propagated) = ring.watches.propagate(port, &mut ring.trail) else {
+        let _level = ring.trail.decision_level();
         return Next::Finish(End::Memory);
     };
     let _lawful = ring.trail.decision_level();

@@ -27,7 +27,7 @@ fn mark_clause<P: Port>(port: &mut P, clause: Cref, marks: &mut Vec<bool>)
     ensures all { AreMarked marks.new.items (lits_at (P.state port.old) clause.address) }
     ensures only { AreMarkedBy marks.old.items marks.new.items (lits_at (P.state port.old) clause.address) }
 {
-    let size = port.head(clause).size;
+    let size = port.shape(clause).size;
     for i in 0..size {
         let lit = port.read_lit(clause, i);
         marks[lit.var() as usize - 1] = true;

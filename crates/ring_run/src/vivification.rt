@@ -43,7 +43,7 @@ fn is_true<P: Port>(port: &mut P, trail: &Trail, c: Cref) -> bool
     ensures yes { result ≡ true → (l : Literal) × (has (lits_at (P.state port.old) c.address) l ≡ true) × IsTrueOn trail.now.steps l }
     ensures no { result ≡ false → (l : Literal) → has (lits_at (P.state port.old) c.address) l ≡ true → IsTrueOn trail.now.steps l → ⊥ }
 {
-    let size = port.head(c).size;
+    let size = port.shape(c).size;
     for i in 0..size {
         let lit = port.read_lit(c, i);
         if trail.is_false(lit.not()) {
@@ -62,7 +62,7 @@ fn is_named<P: Port>(port: &mut P, ring: &Ring, c: Cref) -> bool
     ensures yes { result ≡ true → IsNamed (point (P.state port.old) ring.now) c }
     ensures no { result ≡ false → IsNamed (point (P.state port.old) ring.now) c → ⊥ }
 {
-    let glue = port.head(c).glue;
+    let glue = port.shape(c).glue;
     if glue > GREATEST_GLUE {
         return false;
     }

@@ -1,26 +1,25 @@
-use Rattle.std.proofs.Common.{◌≡◌, ◌∙◌, ℕ, List, take, IsSome, Result, Err, sym, ap, subst}
+use Rattle.std.proofs.Common.{◌≡◌, ◌∙◌, ℕ, List, [], take, drop, IsSome, Result, Err, refl, sym, ap, subst}
 use Rattle.std.specs.Prelude.{IfErr}
 use Rattle.std.specs.List.Sorted.{IsNonDecreasingBy}
-use Rattle.std.proofs.lemmas.List.{take_all}
+use Rattle.std.proofs.lemmas.List.{take_all, take-append-drop}
 use Rattle.std.proofs.lemmas.Result.{err_from_is_err_and}
 use Rattle.ring_port.specs.declared.stops.PortStop.{PortStop}
 use Rattle.ring_port.specs.declared.stops.PortStop.TheVariants.{Memory}
 use Rattle.sat_words.specs.declared.shared.Cref.{Cref}
 use Rattle.ring_port.specs.PortState.{PortState, lits_at}
 use Rattle.watch_prop.specs.WatchData.{attached, without_all}
-use Rattle.reduce_db.specs.Dropping.{DroppedAll}
-use Rattle.reduce_db.specs.Reduction.{WasCutShort}
-use Rattle.reduce_db.proofs.Drops.{dropped_none, dropped_more, held_yet, take_among, without_again, ready_dropped}
+use Rattle.reduce_db.specs.Dropping.{DroppedAll, DroppedSome}
+use Rattle.reduce_db.proofs.Drops.{dropped_none, dropped_more, held_yet, without_again, ready_dropped}
 use Rattle.reduce_db.proofs.dropping.drop_each.Given.{Over}
 use Rattle.reduce_db.proofs.dropping.drop_each.Goals as goal
 
 abbrev no_cref : Cref
 no_cref = record { address = 0 }
 
-cut_short : (old s new : PortState) (lemmas : List Cref) (i : ℕ) (r : Result (Unit {0}) PortStop) (stop stop' : PortStop) → r ≡ Err stop → stop ≡ stop' → stop' ≡ Memory → new ≡ s → DroppedAll old s (take i lemmas) → IfErr r (WasCutShort old new lemmas)
+cut_short : (old s new : PortState) (lemmas : List Cref) (i : ℕ) (r : Result (Unit {0}) PortStop) (stop stop' : PortStop) → r ≡ Err stop → stop ≡ stop' → stop' ≡ Memory → new ≡ s → DroppedAll old s (take i lemmas) → IfErr r (DroppedSome old new lemmas)
 cut_short old s new lemmas i r stop stop' e is memory same k =
-    subst (λ (x : Result (Unit {0}) PortStop). IfErr x (WasCutShort old new lemmas)) (sym e)
-    record { memory = is ∙ memory; dropped = take i lemmas; among = take_among lemmas i; port = subst (λ (x : PortState). DroppedAll old x (take i lemmas)) (sym same) k }
+    subst (λ (x : Result (Unit {0}) PortStop). IfErr x (DroppedSome old new lemmas)) (sym e)
+    record { memory = is ∙ memory; dropped = take i lemmas; more = drop i lemmas; parts = take-append-drop i lemmas; port = subst (λ (x : PortState). DroppedAll old x (take i lemmas)) (sym same) k }
 
 pub detach_all-requires : goal.detach_all-requires
 detach_all-requires g c = subst (IsNonDecreasingBy (λ (d : Cref). d.address)) (sym c.as_slice.ensures.value) c.in-Ok.ensures.order
@@ -32,6 +31,9 @@ pub drop_clause-requires-clause-held : goal.drop_clause-requires-clause-held
 drop_clause-requires-clause-held g c =
     subst IsSome (sym (held_yet (g.P.Port.state c.args.port.now) (g.P.Port.state c.loop-c.port) c.args.lemmas.now c.loop-c.c-index c.requires.distinct c.loop-c-test.true c.loop-c.invariant.dropped))
     (c.requires.held c.loop-c.c-index no_cref c.loop-c-test.true)
+
+pub returns-in_default-clause-stopped : goal.returns-in_default-clause-stopped
+returns-in_default-clause-stopped g c = record { memory = refl; dropped = []; more = c.args.lemmas.now; parts = refl; port = dropped_none (g.P.Port.state c.args.port.now) }
 
 pub returns-in_err-drop_clause-clause-stopped : goal.returns-in_err-drop_clause-clause-stopped
 returns-in_err-drop_clause-clause-stopped g c =

@@ -19,8 +19,9 @@ use Rattle.ring_run.specs.Turn.{ActedAtQuiet, EndsQuietly}
 use Rattle.ring_run.specs.declared.job.End.{End}
 use Rattle.ring_run.specs.declared.course.Next.TheVariants.{Finish}
 use Rattle.ring_run.specs.Ending.{end_refused}
-use Rattle.ring_run.specs.Searching.{ToldUnits}
+use Rattle.ring_run.specs.Searching.{FixedSeen, ToldUnits}
 use Rattle.ring_run.proofs.Acting.{quietly_halted, quietly_renewing, quietly_decided}
+use Rattle.ring_run.proofs.Telling.{fixed_seen}
 use Rattle.ring_run.proofs.Tidying.{refused_refusal}
 use Rattle.ring_run.proofs.decision.decide_next.Goals as goal
 use Rattle.ring_run.proofs.Numbering.{kept_looked}
@@ -272,6 +273,7 @@ returns-then-ring-clause-acted g c = λ on.
         middle = w;
         ring = c.write_pending.new.ring;
         told = subst (λ (x : PortState). ToldUnits x w) c.in_default.ensures.looked.1 c.in-Ok.ensures.lines;
+        seen = subst (FixedSeen w) c.write_pending.ensures.trail (fixed_seen w c.write_pending.new.ring.trail c.write_pending.new.ring.written c.in-Ok.ensures.search.told c.in-Ok.ensures.first);
         unlooked = c.reduce_vivify_import.ensures.unlooked;
         same_ring = c.write_pending.ensures.same;
         renewed = c.reduce_vivify_import.ensures.renewed on;
@@ -291,6 +293,7 @@ returns-clause-acted g c = λ on.
       sym c.write_pending.ensures.import_due ∙ c.if-ring.false,
       record {
         told = subst (λ (x : PortState). ToldUnits x w) c.in_default.ensures.looked.1 c.in-Ok.ensures.lines;
+        seen = subst (FixedSeen w) c.write_pending.ensures.trail (fixed_seen w c.write_pending.new.ring.trail c.write_pending.new.ring.written c.in-Ok.ensures.search.told c.in-Ok.ensures.first);
         decided = record {
           lit = p.lit;
           chosen = subst (λ (r : Ring). IsDecided r.decider r.trail.steps p.lit) told p.chosen;
@@ -334,7 +337,7 @@ returns-in-Err-clause-ended g c =
     let how = c.in-Err.ensures.halts in
     subst (λ (end : End). EndsQuietly s w old ring (Finish end)) (sym c.end_refused.ensures)
     (quietly_halted s w old ring (end_refused c.in-Err.stop) (refused_refusal c.in-Err.stop) (
-      record { learned = c.write_pending.ensures.learned; restarts = c.write_pending.ensures.restarts },
+      record { learned = c.write_pending.ensures.learned; restarts = c.write_pending.ensures.restarts; exported = c.write_pending.ensures.offers.exported; offered = c.write_pending.ensures.offers.offered },
       how.0,
       subst (λ (x : PortState). ToldUnits x how.0) c.in_default.ensures.looked.1 how.1,
       inl how.2,
@@ -346,7 +349,8 @@ returns-then-ring-clause-ended g c =
     let w = g.P.Port.state c.write_pending.new.port in
     let k = c.reduce_vivify_import.ensures in
     quietly_renewing s w (g.P.Port.state c.reduce_vivify_import.new.port) c.args.ring.now c.write_pending.new.ring c.reduce_vivify_import.new.ring c.reduce_vivify_import.result k.refused (sym c.write_pending.ensures.import_due ∙ c.if-ring.true)
-    c.write_pending.ensures.same (record { learned = k.learned ∙ c.write_pending.ensures.learned; restarts = k.restarts ∙ c.write_pending.ensures.restarts })
+    c.write_pending.ensures.same
+    (record { learned = k.learned ∙ c.write_pending.ensures.learned; restarts = k.restarts ∙ c.write_pending.ensures.restarts; exported = k.offers.exported ∙ c.write_pending.ensures.offers.exported; offered = k.offers.offered ∙ c.write_pending.ensures.offers.offered })
     (subst (λ (x : PortState). ToldUnits x w) c.in_default.ensures.looked.1 c.in-Ok.ensures.lines) k.halts
 
 pub returns-clause-ended : goal.returns-clause-ended
@@ -358,5 +362,6 @@ returns-clause-ended g c =
     let k = c.decide.ensures in
     subst (λ (x : PortState). EndsQuietly s x old new c.decide.result) (sym k.same)
     (quietly_decided s w old c.write_pending.new.ring new c.decide.result (sym c.write_pending.ensures.import_due ∙ c.if-ring.false) c.write_pending.ensures.same
-    (record { learned = k.learned ∙ c.write_pending.ensures.learned; restarts = k.restarts ∙ c.write_pending.ensures.restarts })
-    (subst (λ (x : PortState). ToldUnits x w) c.in_default.ensures.looked.1 c.in-Ok.ensures.lines) k.ended)
+    (record { learned = k.learned ∙ c.write_pending.ensures.learned; restarts = k.restarts ∙ c.write_pending.ensures.restarts; exported = k.offers.exported ∙ c.write_pending.ensures.offers.exported; offered = k.offers.offered ∙ c.write_pending.ensures.offers.offered })
+    (subst (λ (x : PortState). ToldUnits x w) c.in_default.ensures.looked.1 c.in-Ok.ensures.lines)
+    (subst (FixedSeen w) c.write_pending.ensures.trail (fixed_seen w c.write_pending.new.ring.trail c.write_pending.new.ring.written c.in-Ok.ensures.search.told c.in-Ok.ensures.first)) k.ended)

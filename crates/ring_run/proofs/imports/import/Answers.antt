@@ -22,7 +22,7 @@ use Rattle.ring_run.proofs.Remembering.{held_same}
 use Rattle.ring_port.proofs.Holdings.{All_In}
 use Rattle.rup_model.proofs.Lists.{Contains_In}
 use Rattle.watch_prop.specs.WatchData.{attached}
-use Rattle.ring_trail.specs.TrailData.{TrailData, HasGrown, reason_at}
+use Rattle.ring_trail.specs.TrailData.{TrailData, IsTrail, HasGrown, reason_at}
 use Rattle.std.specs.declared.option.Option.{Option}
 use Rattle.ring_run.proofs.Rounds.{imports_halted, imports_over, imports_same, imports_count, imports_part, imports_more, slots_same}
 use Rattle.ring_run.proofs.InTime.{in_time_halted, in_time_same, in_time_more}
@@ -238,6 +238,7 @@ returns-clause-took g c = λ on.
       polled = c.take_clauses.ensures.only;
       slots = record { polls = slots.polls; came = slots.came; few = slots.few; held = slots.held; taken = slots.taken; clauses = slots.clauses; imports = slots.imports };
       grown = subst (HasGrown ring.trail) (sym trail) units.grown;
+      shape = subst IsTrail (sym trail) c.take_units.ensures.trail;
       bare = subst (λ (t : TrailData). (p : ℕ) → length ring.trail.steps ≤ p → p < length t.steps → reason_at t.steps p ≡ None) (sym trail) units.bare;
       level = ap (λ (t : TrailData). t.level) trail ∙ units.grown.level ∙ c.requires.import.level;
       same = ap (λ (r : Ring). record r { import_due = false }) same ∙ ap (λ (t : TrailData). record ring { trail = t; watches = after.watches; imports = after.imports; import_due = false }) (sym trail);

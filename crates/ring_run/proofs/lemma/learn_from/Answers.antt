@@ -33,7 +33,7 @@ refuted g c =
     behind_end s u old old c.args.conflict c.analyze.new.self.lits c.args.limit c.refute.result
     (record { learned = refl; restarts = refl; active = refl; offers = record { exported = refl; offered = refl; place = refl } })
     (subst (λ (x : PortState). EndsAt x u c.refute.result) same c.refute.ensures.ends) c.refute.ensures.refusal
-    (inl (c.in-Empty.ensures.found.0, subst (λ (x : PortState). WroteEmpty x u c.refute.result) same c.refute.ensures.empty, record { learned = refl; restarts = refl }))
+    (inl (c.in-Empty.ensures.found.0, subst (λ (x : PortState). WroteEmpty x u c.refute.result) same c.refute.ensures.empty, record { learned = refl; restarts = refl; exported = refl; offered = refl }))
     (subst (λ (x : PortState). OffersNothing x u) same c.refute.ensures.nothing)
     (subst (λ (x : PortState). u.held ≡ x.held) same c.refute.ensures.held) (subst (λ (x : PortState). u.looks ≡ x.looks) same c.refute.ensures.looks)
     c.requires.below c.requires.paced c.requires.offering

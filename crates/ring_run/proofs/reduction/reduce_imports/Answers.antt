@@ -19,7 +19,7 @@ returns-in-Err-clause-nothing g c =
 pub returns-in-Err-clause-halts : goal.returns-in-Err-clause-halts
 returns-in-Err-clause-halts g c =
     let cut = c.in-Err.ensures.reduced in
-    record { dropped = cut.dropped; among = cut.among; port = cut.port; memory = ap end_refused cut.memory }
+    record { dropped = cut.dropped; among = cut.among; front = cut.front; port = cut.port; memory = ap end_refused cut.memory }
 
 pub returns-clause-ok : goal.returns-clause-ok
 returns-clause-ok g c =

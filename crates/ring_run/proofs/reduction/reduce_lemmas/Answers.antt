@@ -93,4 +93,4 @@ returns-in-Err-clause-halts g c = inl (c.in-Err.stop, c.in-Err.ensures.noted, re
 pub returns-in-Err-reduce-clause-halts : goal.returns-in-Err-reduce-clause-halts
 returns-in-Err-reduce-clause-halts g c =
     let cut = c.in-Err-reduce.ensures.reduced in
-    inr (g.P.Port.state c.note_reduce.new.self, c.in-Ok.ensures.noted, record { dropped = cut.dropped; among = cut.among; port = cut.port; memory = ap end_refused cut.memory })
+    inr (g.P.Port.state c.note_reduce.new.self, c.in-Ok.ensures.noted, record { dropped = cut.dropped; among = cut.among; front = cut.front; port = cut.port; memory = ap end_refused cut.memory })

@@ -2,7 +2,7 @@ use Rattle.std.proofs.Common.{ap, sym, ◌∙◌, ◌+◌, ◌-◌, subst, ◌�
 use Rattle.std.proofs.lemmas.Bool.{cases_lt}
 use Rattle.reduce_db.specs.Moment.{lemmas_before}
 use Rattle.ring_run.specs.Renewal.{IsDue, HasShrunk, IsIdle}
-use Rattle.ring_run.proofs.Halted.{renewing_halted}
+use Rattle.ring_run.proofs.Halted.{not_yet, renewing_halted}
 use Rattle.ring_run.specs.Ended.{HasPolled}
 use Rattle.ring_run.specs.Ending.{ComesTo}
 use Rattle.ring_run.specs.Searching.{GoesOn}
@@ -140,9 +140,9 @@ returns-clause-halts g c =
     let m = g.P.Port.state c.shrink_due.new.port in
     let old = c.args.ring.now in
     let ring = c.shrink_due.new.ring in
-    let shrunk : (IsDue old × HasShrunk s m old ring) ⊎ IsIdle s m old ring =
-    elim (cases_lt (old.learned - old.reduced_at) (lemmas_before (old.reductions + 1))) as (λ _. (IsDue old × HasShrunk s m old ring) ⊎ IsIdle s m old ring) [
-      | inl early ↦ inr (c.in-Ok.ensures.early early)
+    let shrunk : (IsDue old × HasShrunk s m old ring) ⊎ ((IsDue old → ⊥) × IsIdle s m old ring) =
+    elim (cases_lt (old.learned - old.reduced_at) (lemmas_before (old.reductions + 1))) as (λ _. (IsDue old × HasShrunk s m old ring) ⊎ ((IsDue old → ⊥) × IsIdle s m old ring)) [
+      | inl early ↦ inr (not_yet old early, c.in-Ok.ensures.early early)
       | inr due ↦ inl (due, c.in-Ok.ensures.due due)
     ] in
     renewing_halted s m (g.P.Port.state c.import.new.port) old ring c.import.result shrunk c.import.ensures.halts

@@ -1,4 +1,4 @@
-use Rattle.std.proofs.Common.{List, ◌∙◌, ap, sym, subst, inl, inr, refl, arith, length, Ok}
+use Rattle.std.proofs.Common.{List, ap, sym, subst, inl, inr, refl, arith, length, Ok}
 use Rattle.ring_run.specs.Halting.{HaltsReducing}
 use Rattle.ring_run.specs.declared.ring.Ring.{Ring}
 use Rattle.sat_words.specs.Literal.{Literal}
@@ -6,7 +6,7 @@ use Rattle.ring_run.proofs.Listing.{listed_same}
 use Rattle.ring_run.proofs.Offering.{nothing_then}
 use Rattle.ring_run.proofs.Reducing.{wrote_import}
 use Rattle.ring_run.proofs.Resting.{resting_import}
-use Rattle.ring_run.proofs.Shrinking.{refused_halts, halts_then, shrunk_same}
+use Rattle.ring_run.proofs.Shrinking.{refused_halts, halts_then}
 use Rattle.ring_run.proofs.reduction.shrink_lemmas.Goals as goal
 use Rattle.ring_run.proofs.Numbering.{kept_wrote}
 use Rattle.ring_run.proofs.InTime.{in_time_wrote}
@@ -28,14 +28,11 @@ returns-in-Ok-tidy_up-clause-shrunk g c = record {
   dropped = g.P.Port.state c.reduce_both.new.port;
   between = c.reduce_both.new.ring;
   reduced = c.in-Ok.ensures.reduced;
-  same_trail = ap (λ (r : Ring). r.trail) c.reduce_both.ensures.same;
+  reduced_ring = c.reduce_both.ensures.same;
   vivified_port = g.P.Port.state c.vivify_lemmas.new.port;
   ordered = c.in-Ok.ensures.listed.ordered;
   vivified = c.in-Ok-vivify_lemmas.ensures.took;
-  same = c.vivify_lemmas.ensures.same
-      ∙ ap (λ (r : Ring). record r { trail = c.vivify_lemmas.new.ring.trail; watches = c.vivify_lemmas.new.ring.watches; written = c.vivify_lemmas.new.ring.written; lemmas = c.vivify_lemmas.new.ring.lemmas }) c.reduce_both.ensures.same
-      ∙ shrunk_same c.args.ring.now c.reduce_both.new.ring c.vivify_lemmas.new.ring (ap (λ (r : Ring). r.imports) c.vivify_lemmas.ensures.same) (ap (λ (r : Ring). r.reductions) c.vivify_lemmas.ensures.same) (ap (λ (r : Ring). r.reduced_at) c.vivify_lemmas.ensures.same);
-  counted = ap (λ (r : Ring). r.reductions) c.vivify_lemmas.ensures.same;
+  same = c.vivify_lemmas.ensures.same;
   lines = c.in-Ok-tidy_up.ensures.lines;
 }
 

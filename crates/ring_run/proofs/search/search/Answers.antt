@@ -98,7 +98,7 @@ pub returns-in-Finish-search_step-clause-in_time : goal.returns-in-Finish-search
 returns-in-Finish-search_step-clause-in_time g c = λ h. c.in-Finish-search_step.ensures.in_time c.loop-end.invariant.polling (c.loop-end.invariant.in_time h)
 
 pub returns-in-Finish-clause-searched : goal.returns-in-Finish-clause-searched
-returns-in-Finish-clause-searched g c = inl (c.in-Finish.ensures.halts, record { learned = c.import.ensures.learned; restarts = c.import.ensures.restarts })
+returns-in-Finish-clause-searched g c = inl (c.in-Finish.ensures.halts, record { learned = c.import.ensures.learned; restarts = c.import.ensures.restarts; exported = c.import.ensures.offers.exported; offered = c.import.ensures.offers.offered })
 
 pub returns-in-Finish-search_step-clause-searched : goal.returns-in-Finish-search_step-clause-searched
 returns-in-Finish-search_step-clause-searched g c = inr (g.P.Port.state c.loop-end.port, c.loop-end.ring, c.loop-end.invariant.came, c.in-Finish-search_step.ensures.took)

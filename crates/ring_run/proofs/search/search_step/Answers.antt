@@ -122,7 +122,7 @@ returns-in-Conflict-clause-took g c =
     let old = c.args.ring.now in
     let between : Ring = record old { trail = c.propagate.new.trail; watches = c.propagate.new.self } in
     conflict_turn s (g.P.Port.state c.learn_from.new.port) old between c.learn_from.new.ring c.in-Conflict.conflict c.learn_from.new.analysis.lits c.learn_from.result
-    (record { same = refl; grown = c.propagate.ensures.grown; clauses = c.propagate.ensures.attached; reasons = c.propagate.ensures.reasons })
+    (record { same = refl; grown = c.propagate.ensures.grown; shape = c.decision_level-lawful.ensures.trail; clauses = c.propagate.ensures.attached; reasons = c.propagate.ensures.reasons })
     (subst (IsPropagated c.propagate.new.self (lits_at s) c.propagate.new.trail) c.in-Conflict.is c.in-Ok.ensures.propagated)
     (subst (λ (x : PortState). LearnsFrom x (g.P.Port.state c.learn_from.new.port) between c.learn_from.new.ring c.in-Conflict.conflict c.learn_from.new.analysis.lits c.learn_from.result) c.propagate.ensures.same c.learn_from.ensures.learns)
 
@@ -133,7 +133,7 @@ returns-in-Quiet-clause-took g c =
     let between : Ring = record old { trail = c.propagate.new.trail; watches = c.propagate.new.self } in
     let u = g.P.Port.state c.decide_next.new.port in
     quiet_turn s u old between c.decide_next.new.ring c.decide_next.result
-    (record { same = refl; grown = c.propagate.ensures.grown; clauses = c.propagate.ensures.attached; reasons = c.propagate.ensures.reasons })
+    (record { same = refl; grown = c.propagate.ensures.grown; shape = c.decision_level-lawful.ensures.trail; clauses = c.propagate.ensures.attached; reasons = c.propagate.ensures.reasons })
     (subst (IsPropagated c.propagate.new.self (lits_at s) c.propagate.new.trail) c.in-Quiet.is c.in-Ok.ensures.propagated)
     (λ on. subst (λ (x : PortState). ActedAtQuiet x u between c.decide_next.new.ring) c.propagate.ensures.same (c.decide_next.ensures.acted on))
     (subst (λ (x : PortState). EndsQuietly x u between c.decide_next.new.ring c.decide_next.result) c.propagate.ensures.same c.decide_next.ensures.ended)
@@ -155,6 +155,6 @@ returns-in-Quiet-clause-in_time g c = λ p h.
 pub returns-in_default-clause-took : goal.returns-in_default-clause-took
 returns-in_default-clause-took g c = record {
   middle = record c.args.ring.now { trail = c.propagate.new.trail; watches = c.propagate.new.self };
-  propagated = record { same = refl; grown = c.propagate.ensures.grown; clauses = c.propagate.ensures.attached; reasons = c.propagate.ensures.reasons };
-  halts = inl (c.propagate.ensures.same, refl, record { learned = refl; restarts = refl });
+  propagated = record { same = refl; grown = c.propagate.ensures.grown; shape = c.decision_level-level.ensures.trail; clauses = c.propagate.ensures.attached; reasons = c.propagate.ensures.reasons };
+  halts = inl (c.propagate.ensures.same, refl, record { learned = refl; restarts = refl; exported = refl; offered = refl });
 }

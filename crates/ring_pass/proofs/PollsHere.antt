@@ -2,6 +2,7 @@
 use Rattle.std.proofs.Common.{◌≡◌, ◌≢◌, ℕ, suc, ◌+◌, ◌<◌, ◌==◌, Bool, true, false, if◌then◌else◌, List, [], ◌∷◌, ◌++◌, map, refl, sym, ap, subst, ◌∙◌, inl, arith, Option, Some, None, eq-eqb, ne_eqb}
 use Rattle.std.specs.Prelude.{Ok}
 use Rattle.std.specs.List.{All}
+use Rattle.std.proofs.lemmas.List.{map-append}
 use Rattle.sat_words.specs.Literal.{Literal}
 use Rattle.sat_words.specs.declared.shared.Cref.{Cref}
 use Rattle.rup_model.specs.Basics.{one_if}
@@ -23,12 +24,12 @@ use Rattle.share_rule.specs.Views.{only, glue_in}
 use Rattle.share_rule.specs.Seen.{Seen}
 use Rattle.share_rule.specs.Exchanges.{KeepsGlues, took_part, after_get}
 use Rattle.pool_exchange.specs.Found.{IsFound}
-use Rattle.ring_port.specs.PortState.{Holding, PortState, Slot, IsKept, held_at, one_more}
+use Rattle.ring_port.specs.PortState.{Holding, PortState, IsKept, held_at, one_more}
 use Rattle.ring_port.specs.Port.{KeepsHeld}
 use Rattle.ring_port.specs.Exchange.{Polled}
 use Rattle.ring_port.proofs.Holdings.{found_in_front}
 use Rattle.ring_pass.specs.declared.waiting.Waiting.{Waiting}
-use Rattle.ring_pass.specs.RingState.{Own, port_with, port_of, home_of, holding_of, slot_of, IsOwn, IsRingPass, HasRoom, HasUnits}
+use Rattle.ring_pass.specs.RingState.{Own, port_with, port_of, home_of, holding_of, slot_of, looks_before, IsOwn, IsRingPass, HasRoom, HasUnits}
 use Rattle.ring_pass.proofs.RingPorts.{copy_of, kept_of, waiting_copy, waits_free}
 use Rattle.ring_pass.proofs.Stays.{only_is, one_is, one_changed, ring_changes, name_stays, units_keep}
 
@@ -59,15 +60,15 @@ map_crefs : (cs : List Cref) (x : Cref) → map (λ (y : Cref). y.address) (cs +
 map_crefs [] x = refl
 map_crefs (y ∷ cs) x = ap (λ (ks : List ℕ). y.address ∷ ks) (map_crefs cs x)
 
-map_slots : (ps : List Poll) (x : Poll) → map slot_of (ps ++ x ∷ []) ≡ map slot_of ps ++ slot_of x ∷ []
-map_slots [] x = refl
-map_slots (y ∷ ps) x = ap (λ (ks : List Slot). slot_of y ∷ ks) (map_slots ps x)
-
 -- Parts
+
+-- the poll of a slot
+abbrev poll_of : (from class : ℕ) → RingPart → Poll
+poll_of from class p = record { from = from; class = class; caught_up = p.caught_up }
 
 -- the slot is noted
 abbrev noted_part : (from class : ℕ) → RingPart → RingPart
-noted_part from class p = record p { polls = p.polls ++ record { from = from; class = class } ∷ [] }
+noted_part from class p = record p { polls = p.polls ++ poll_of from class p ∷ [] }
 
 -- if nothing came out
 none_part : (from class : ℕ) (h : ClauseAt) (g : ℕ) (p : RingPart) → h.address ≡ 0 → took_part from class h g p ≡ noted_part from class p
@@ -136,7 +137,7 @@ pub polled_here : (v w : View) (s : Seen w) (o : Own) (k : ℕ) (ts : List Cref)
 polled_here v w s o k ts home from class h g None one is lay op st lk f keeps more taken hm =
     port_step v w (noted_part from class (only v)) (record o { polled = k; taken = ts; home = home }) is lay op st lk
     ∙ (λ i. port_with v (noted_part from class (only v)) (record o { polled = more i; taken = taken i; home = hm i }))
-    ∙ (λ i. record (port_of v o) { polled = one_more o.polled; polls = map_slots (only v).polls (record { from = from; class = class }) i })
+    ∙ (λ i. record (port_of v o) { polled = one_more o.polled; polls = map-append slot_of (only v).polls (poll_of from class (only v) ∷ []) i; polls_after = map-append looks_before (only v).polls (poll_of from class (only v) ∷ []) i })
 polled_here v w s o k ts home from class h g (Some c) one is lay op st lk f keeps more taken hm =
     let p : RingPart = only v in
     let gs : List GlueAt = record { number = h.number; glue = g } ∷ p.glues in
@@ -156,7 +157,8 @@ polled_here v w s o k ts home from class h g (Some c) one is lay op st lk f keep
             held = (map_last gs p.core.held h ∙ (λ j. map_same p.glues gs p.core.held held_glues j ++ holding_of gs h ∷ [])) i;
             waiting = map_same p.glues gs p.core.waiting waiting_glues i;
             polled = one_more o.polled;
-            polls = map_slots p.polls (record { from = from; class = class }) i;
+            polls = map-append slot_of p.polls (poll_of from class p ∷ []) i;
+            polls_after = map-append looks_before p.polls (poll_of from class p ∷ []) i;
             taken = map_crefs o.taken c i;
           });
     }

@@ -66,6 +66,10 @@ offer_of n = record { ring = n.to; class = n.class; address = n.address }
 abbrev pub slot_of : Poll → Slot
 slot_of q = record { ring = q.from; class = q.class }
 
+-- how often no other unit was listed before a poll, as the port knows it
+abbrev pub looks_before : Poll → ℕ
+looks_before q = min q.caught_up (2 ^ 64 - 1)
+
 -- a stop as the port knows it
 abbrev pub stop_as : CoreStop → Stop
 stop_as s = record { kind = s.kind; ring = s.ring }
@@ -90,6 +94,7 @@ port_with v p o = record {
   shared = p.core.shared;
   polled = o.polled;
   polls = map slot_of p.polls;
+  polls_after = map looks_before p.polls;
   puts = map offer_of p.core.puts;
   taken = map (λ (c : Cref). c.address) o.taken;
   vars = v.layout.vars;
@@ -204,6 +209,7 @@ begun_as v r home = record {
   shared = 0;
   polled = 0;
   polls = [];
+  polls_after = [];
   puts = [];
   taken = [];
   vars = v.layout.vars;

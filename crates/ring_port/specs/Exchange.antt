@@ -59,9 +59,10 @@ OfferedAs old new (Some class) address = Offered old new class address
 
 -- Polls
 
--- it was looked once more, into the slot of the other ring for this class
+-- it was looked once more, into the slot of the other ring for this class; so often `next_unit` had found by then that no other unit
+-- is listed
 abbrev pub looked_into : (ring class : ℕ) → PortState → PortState
-looked_into ring class s = record s { polled = one_more s.polled; polls = s.polls ++ record { ring = ring; class = class } ∷ [] }
+looked_into ring class s = record s { polled = one_more s.polled; polls = s.polls ++ record { ring = ring; class = class } ∷ []; polls_after = s.polls_after ++ s.caught_up ∷ [] }
 
 -- a clause of the other ring is held from now on
 pub record TookClause (old new : PortState) (ring class : ℕ) (c : Cref) : Type 0 where

@@ -58,6 +58,8 @@ pub record PortState : Type 0 where
   pub polled : ℕ
   -- if it looked each time, in order
   pub polls : List Slot
+  -- at each of these polls, how often `next_unit` had found until then that no other unit is listed
+  pub polls_after : List ℕ
   -- what it has put for other rings, in order
   pub puts : List Offer
   -- the addresses that it has taken from other rings since its last Reduce entry

@@ -43,9 +43,9 @@ KeepsGlues h g p = All (λ k. glue_in k.number (with_glue h g p.glues) ≡ glue_
 abbrev pub gave_part : PutNote → ClauseAt → ℕ → RingPart → RingPart
 gave_part n h g p = record p { core = put_part n h p.core; glues = with_glue h g p.glues; gave = p.gave ++ clause_in n.address p.core.held ∷ [] }
 
--- it holds what came out, and notes the slot
+-- it holds what came out, and notes the slot, with how often it had found no other unit listed
 abbrev pub took_part : ℕ → ℕ → ClauseAt → ℕ → RingPart → RingPart
-took_part from class h g p = record p { core = got_part h p.core; glues = with_glue h g p.glues; polls = p.polls ++ record { from = from; class = class } ∷ [] }
+took_part from class h g p = record p { core = got_part h p.core; glues = with_glue h g p.glues; polls = p.polls ++ record { from = from; class = class; caught_up = p.caught_up } ∷ [] }
 
 -- a count is swapped into the ring's slot for another
 abbrev pub after_put : ℕ → ℕ → ℕ → ClauseAt → ℕ → View → View

@@ -77,6 +77,8 @@ pub struct Poll {
     pub from: u32,
     /// The class.
     pub class: u8,
+    /// How often the ring had read by then how many units are listed, if it had seen as many.
+    pub caught_up: u64,
 }
 
 /// What one ring has.

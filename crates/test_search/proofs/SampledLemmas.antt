@@ -14,7 +14,7 @@ use Rattle.watch_prop.specs.WatchData.{WatchData, Lits, attached, without}
 use Rattle.watch_prop.specs.Watched.{Watched, IsFresh}
 use Rattle.watch_prop.specs.Propagation.{attached_at, HasReasons}
 use Rattle.watch_prop.proofs.ListsLemmas.{cases_eq}
-use Rattle.watch_prop.proofs.Slots.{without-there, without-other}
+use Rattle.watch_prop.proofs.SlotsLemmas.{without-there, without-other}
 use Rattle.watch_prop.proofs.TrailLaws.{Watched-assign}
 use Rattle.test_search.specs.declared.sampled.SampleClause.{SampleClause}
 use Rattle.test_search.specs.declared.sampled.SampleClause.TheVariants.{First, Second, Third}

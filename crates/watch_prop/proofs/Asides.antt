@@ -18,7 +18,7 @@ use Rattle.watch_prop.specs.Lists.{Removed}
 use Rattle.watch_prop.specs.Visiting.{IsEntry, IsStale, IsSatisfied}
 use Rattle.watch_prop.specs.Aside.{unless_at, if_at, is_at, other_slots, but, only, PassesOver}
 use Rattle.watch_prop.proofs.ListsLemmas.{cases_eq, Listed-removed}
-use Rattle.watch_prop.proofs.Slots.{unsome, At-same, same_number, other_number}
+use Rattle.watch_prop.proofs.SlotsLemmas.{unsome, At-same, same_number, other_number}
 use Rattle.watch_prop.proofs.Detaching.{Watched-thinned}
 
 -- Slots

@@ -13,7 +13,7 @@ use Rattle.watch_prop.specs.WatchData.{WatchData, Lits, attached, watchers_at, l
 use Rattle.watch_prop.specs.Watched.{At, IsAttachable, IsSettled, Watched}
 use Rattle.watch_prop.specs.Detaching.{Thinned, Freed, FreedAll, IsGoneFrom, Compacted}
 use Rattle.watch_prop.proofs.ListsLemmas.{take_split}
-use Rattle.watch_prop.proofs.Slots.{watch-freed, without-freed, without-none, without_all-none, without_all-again}
+use Rattle.watch_prop.proofs.SlotsLemmas.{watch-freed, without-freed, without-none, without_all-none, without_all-again}
 
 Thinned-refl : (w : WatchData) → Thinned w w
 Thinned-refl w = record { vars = refl; settled = refl; len = refl; only = λ i s at. at; lists = refl }

@@ -12,7 +12,7 @@ use Rattle.ring_trail.proofs.Causes.{IsReasoned-held}
 use Rattle.watch_prop.specs.WatchData.{WatchData, Lits, attached, clauses_of, without}
 use Rattle.watch_prop.specs.Propagation.{attached_at, HasReasons, IsClosedBelow}
 use Rattle.watch_prop.proofs.ListsLemmas.{cases_eq}
-use Rattle.watch_prop.proofs.Slots.{without-there, without-other}
+use Rattle.watch_prop.proofs.SlotsLemmas.{without-there, without-other}
 use Rattle.watch_prop.proofs.TrailLaws.{attached_is, attached_at-in}
 
 address_of : (x c : Cref) → x ≡ c → x.address ≡ c.address

@@ -16,7 +16,7 @@ use Rattle.watch_prop.specs.Propagation.{IsConflict}
 use Rattle.watch_prop.specs.Visiting.{IsEntry, AllFalseBut, IsForcing, IsSatisfied}
 use Rattle.watch_prop.proofs.Growing.{clause_in, TrueOn-within}
 use Rattle.watch_prop.proofs.Reasons.{long_held}
-use Rattle.watch_prop.proofs.Slots.{watch-same}
+use Rattle.watch_prop.proofs.SlotsLemmas.{watch-same}
 
 pub entry_attachable : (w : WatchData) (h : Lits) (t : TrailData) (i : ℕ) (l : Literal) (e : ListEntry) → Watched w h t → IsEntry w i l e → IsAttachable w.vars (h e.clause.address)
 entry_attachable w h t i l e k n = subst (λ (c : Cref). IsAttachable w.vars (h c.address)) n.clause (k.clauses i n.watch n.there)

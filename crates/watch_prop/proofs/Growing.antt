@@ -16,7 +16,7 @@ use Rattle.watch_prop.specs.WatchData.{WatchData, Lits, attached, clauses_of}
 use Rattle.watch_prop.specs.Watched.{At, IsPair, IsGuarded, IsSettled, Watched}
 use Rattle.watch_prop.specs.Visiting.{NotFalse}
 use Rattle.watch_prop.proofs.ListsLemmas.{cases_eq, cases_lit}
-use Rattle.watch_prop.proofs.Slots.{slot_in, slot_of}
+use Rattle.watch_prop.proofs.SlotsLemmas.{slot_in, slot_of}
 
 -- Steps
 

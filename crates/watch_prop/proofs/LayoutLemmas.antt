@@ -13,7 +13,7 @@ use Rattle.sat_words.specs.Literal.{Literal, code_of}
 use Rattle.watch_prop.specs.WatchData.{watchers_at, list_at}
 use Rattle.watch_prop.specs.Layout.{ListData, row_of, AreLaid, HasRoom, grown_rooms, AreLaidOut}
 use Rattle.watch_prop.proofs.ListsLemmas.{cases_eq}
-use Rattle.watch_prop.proofs.Slots.{At-set}
+use Rattle.watch_prop.proofs.SlotsLemmas.{At-set}
 
 -- Rows
 

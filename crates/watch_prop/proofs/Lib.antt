@@ -1,6 +1,7 @@
 pub mod ListsLemmas
 pub mod LayoutLemmas
-pub mod Slots
+pub mod SlotsLemmas
+pub mod Packing
 pub mod Growing
 pub mod Reasons
 pub mod Visits

@@ -14,7 +14,7 @@ use Rattle.watch_prop.specs.Lists.{Removed, Reblocked}
 use Rattle.watch_prop.specs.Visiting.{IsStale, CanBlock, CanMove, IsEntry, Replaced}
 use Rattle.watch_prop.specs.Aside.{if_at, other_slots, but, only, PassesOver}
 use Rattle.watch_prop.proofs.ListsLemmas.{Listed-removed}
-use Rattle.watch_prop.proofs.Slots.{clauses-set}
+use Rattle.watch_prop.proofs.SlotsLemmas.{clauses-set}
 use Rattle.watch_prop.proofs.Entries.{on_vars, entry_attachable, entry_two}
 use Rattle.watch_prop.proofs.Asides.{IsOther, others-len, other-at, others-set, only-set, only-at, entry-none, Watched-dropped, Watched-besides}
 

@@ -1,5 +1,5 @@
 -- Clauses that wait, and those that come.
-use Rattle.std.proofs.Common.{◌≡◌, ◌≢◌, ℕ, ◌<◌, ◌≤◌, ◌+◌, ◌⊎◌, List, [], ◌∷◌, ◌++◌, length, get_or, map, Option, Some, sym, refl, ap, subst, ◌∙◌, inl, inr, arith, All, true, Contains}
+use Rattle.std.proofs.Common.{◌≡◌, ◌≢◌, ℕ, ◌<◌, ◌≤◌, ◌+◌, ◌⊎◌, List, [], ◌∷◌, ◌++◌, length, get_or, map, Option, Some, None, sym, refl, ap, subst, ◌∙◌, inl, inr, arith, All, true, Contains}
 use Rattle.std.specs.List.{filter_map}
 use Rattle.std.proofs.lemmas.List.{length-set, length-append, get_or_append_left}
 use Rattle.sat_words.specs.Literal.{Literal}
@@ -18,13 +18,13 @@ use Rattle.watch_prop.specs.Propagation.{IsClosedBelow, IsConflict}
 use Rattle.watch_prop.specs.Visiting.{ListsMore, Listed}
 use Rattle.watch_prop.specs.Choice.{IsBest}
 use Rattle.watch_prop.proofs.ListsLemmas.{cases_eq}
-use Rattle.watch_prop.proofs.Slots.{clauses-set, watch-same, watch-set, watch-push}
+use Rattle.watch_prop.proofs.SlotsLemmas.{clauses-set, watch-same, watch-set, watch-push, watch_read}
 use Rattle.watch_prop.proofs.Entries.{on_vars}
 use Rattle.watch_prop.proofs.Growing.{Watched-grow, clause_in, clause_of}
 use Rattle.watch_prop.proofs.Ranks.{best-guarded, best-false, among_has}
 
-pub waiting : (v w : WatchData) (o : Option Watch) (s : Watch) → v ≡ w → w.settled < length w.slots → o ≡ get_or v.slots v.settled o → o ≡ Some s → At w.slots w.settled (Some s)
-waiting v w o s e lt q is = subst (λ (y : Option Watch). At w.slots w.settled y) is (subst (λ (x : WatchData). At x.slots x.settled o) e (subst (λ (x : WatchData). x.settled < length x.slots) (sym e) lt, sym q))
+pub waiting : (v w : WatchData) (o : Option Watch) (s : Watch) → v ≡ w → w.settled < length w.slots → o ≡ get_or v.slots v.settled None → o ≡ Some s → At w.slots w.settled (Some s)
+waiting v w o s e lt q is = subst (λ (x : WatchData). At x.slots x.settled (Some s)) e (watch_read v.slots v.settled o s (subst (λ (x : WatchData). x.settled < length x.slots) (sym e) lt) q is)
 
 pub same_clauses : (w x : WatchData) (s : Watch) (k l : Literal) → At w.slots w.settled (Some s) → Listed w x s k l → attached x ≡ attached w
 same_clauses w x s k l at r = ap (λ (ws : List (Option Watch)). filter_map slot_clause ws) r.slots ∙ clauses-set w.slots w.settled s record { clause = s.clause; first = k; second = l; binary = s.binary } at refl

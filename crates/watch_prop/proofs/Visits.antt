@@ -16,7 +16,7 @@ use Rattle.watch_prop.specs.Lists.{Removed, Reblocked}
 use Rattle.watch_prop.specs.Visiting.{IsVisiting, IsStale, Replaced, CanMove, CanBlock, IsForcing, IsSatisfied}
 use Rattle.watch_prop.proofs.ListsLemmas.{cases_eq, Listed-removed, take_split}
 use Rattle.watch_prop.proofs.Growing.{opposite-eq, Watched-grow, HasTrue-grow, IsGuarded-open}
-use Rattle.watch_prop.proofs.Slots.{watch-same, watch-set}
+use Rattle.watch_prop.proofs.SlotsLemmas.{watch-same, watch-set}
 use Rattle.watch_prop.proofs.Entries.{on_vars, entry_attachable, entry_two, entry_satisfied}
 
 pub visiting-start : (w : WatchData) (h : Lits) (t : TrailData) (l : Literal) (n : ℕ) → n ≡ length (list_at w.lists l) → Watched w h t → IsVisiting w h t l n

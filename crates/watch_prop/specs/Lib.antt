@@ -4,6 +4,7 @@ pub mod Propagation
 pub mod Rounds
 pub mod Lists
 pub mod Layout
+pub mod Packed
 pub mod Choice
 pub mod Visiting
 pub mod Detaching

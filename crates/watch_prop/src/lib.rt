@@ -10,6 +10,7 @@ mod laws;
 mod lists;
 mod propagated;
 mod rounds;
+mod slots;
 mod stretches;
 mod watch;
 mod watches;

@@ -7,8 +7,9 @@ ghost use Rattle.watch_prop.specs.WatchData.{watchers_at, list_at};
 ghost use Rattle.watch_prop.specs.Lists.{Added, Removed, Reblocked};
 ghost use Rattle.watch_prop.specs.Layout.{HasRoom, grown_rooms};
 
+use crate::slots::Slots;
 use crate::stretches::{Stretch, count_watches, lay_out};
-use crate::watch::{Watch, Watcher};
+use crate::watch::Watcher;
 use sat_words::Lit;
 use std::alloc::{AllocError, Global};
 use std::marker::Model;
@@ -144,7 +145,7 @@ impl Lists {
 
     /// Empties all lists and gives each room for the watches of these slots, if there is memory for them; a list without room
     /// gets it later.
-    pub(crate) fn make_ready(&mut self, slots: &[Option<Watch>])
+    pub(crate) fn make_ready(&mut self, slots: &Slots)
         ensures len { length self.new.rows ≡ length self.old.rows }
         ensures empty { (l : Literal) → watchers_at self.new.rows l ≡ [] }
     {

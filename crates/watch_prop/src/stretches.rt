@@ -3,7 +3,7 @@
 ghost use Rattle.std.specs.Prelude.{◌≡◌, ◌≤◌, length};
 ghost use Rattle.watch_prop.specs.Layout.{AreLaidOut};
 
-use crate::watch::Watch;
+use crate::slots::Slots;
 use sat_words::Lit;
 
 /// Where a list stands in the vector, how many watchers it has, and for how many there is room.
@@ -35,11 +35,11 @@ pub(crate) fn lay_out(stretches: &mut Vec<Stretch>, size: usize) -> usize
 }
 
 /// Counts the watches of each literal.
-pub(crate) fn count_watches(stretches: &mut Vec<Stretch>, slots: &[Option<Watch>])
+pub(crate) fn count_watches(stretches: &mut Vec<Stretch>, slots: &Slots)
     ensures { length stretches.new.items ≡ length stretches.old.items }
 {
-    for slot in slots {
-        match slot {
+    for index in 0..slots.len() {
+        match slots.get(index) {
             None => {}
             Some(watch) => {
                 count_watch(stretches, watch.first);

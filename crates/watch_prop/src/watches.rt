@@ -14,6 +14,7 @@ ghost use Rattle.watch_prop.specs.Visiting.{IsEntry, IsStale};
 
 use crate::lists::Lists;
 use crate::propagated::Propagated;
+use crate::slots::Slots;
 use crate::watch::{ListEntry, Watch, Watcher};
 use ring_port::Port;
 use ring_trail::Trail;
@@ -38,7 +39,7 @@ mod walking;
 /// takes the free slots out once they outnumber the others and the lists.
 #[derive(Drop)]
 pub struct Watches {
-    slots: Vec<Option<Watch>>,
+    slots: Slots,
     lists: Lists,
     settled: usize,
     free_slots: usize,
@@ -52,9 +53,9 @@ impl Model for Watches {
 
     ghost Value = { WatchData };
 
-    ghost view = { λ w. record { vars = w.vars; slots = w.slots.items; lists = w.lists.rows; rooms = w.lists.rooms; size = w.lists.size; settled = w.settled } };
+    ghost view = { λ w. record { vars = w.vars; slots = w.slots; lists = w.lists.rows; rooms = w.lists.rooms; size = w.lists.size; settled = w.settled } };
 
-    ghost invariant = { λ w. (w.vars ≤ 2 ^ 30) × (length w.lists.rows ≡ 2 * w.vars + 2) × (length (filter_map clause_in w.slots.items) + w.free_slots ≡ length w.slots.items) × (length w.slots.items ≤ 2 ^ 32) };
+    ghost invariant = { λ w. (w.vars ≤ 2 ^ 30) × (length w.lists.rows ≡ 2 * w.vars + 2) × (length (filter_map clause_in w.slots) + w.free_slots ≡ length w.slots) × (length w.slots ≤ 2 ^ 32) };
 }
 
 /// A watch of a clause by its first two literals.
@@ -85,7 +86,7 @@ impl Watches {
         ensures watched { IfOk result (λ w. (lits : Lits) (t : TrailData) → t.vars ≡ vars → IsFresh t → Watched w lits t) }
     {
         Ok(Watches {
-            slots: Vec::new(alloc),
+            slots: Slots::new(alloc),
             lists: Lists::new(alloc, 2 * vars as usize + 2)?,
             settled: 0,
             free_slots: 0,
@@ -96,7 +97,8 @@ impl Watches {
     /// Attaches a clause that is held, whatever its literals are on the trail. One that is unit or false is looked at by the
     /// next `propagate`.
     ///
-    /// Of a clause of two literals the port isn't asked again. If each of the 2^32 slots is taken, there is no memory.
+    /// Of a clause of two literals the port isn't asked again. If each of the 2^32 slots is taken, or the clause's address is
+    /// 2^62 or more, there is no memory.
     pub fn attach<P: Port>(
         &mut self,
         port: &mut P,
@@ -116,7 +118,7 @@ impl Watches {
             return Err(AllocError);
         }
         let watch = first_watch(port, c);
-        self.slots.push(Some(watch))?;
+        self.slots.push(watch)?;
         Ok(())
     }
 
@@ -213,7 +215,7 @@ impl Watches {
         ensures watched { (lits : Lits) (t : TrailData) → Watched self.old lits t → Watched self.new lits t }
     {
         if self.settled == 0 && self.lists.is_empty() {
-            self.lists.make_ready(self.slots.as_slice());
+            self.lists.make_ready(&self.slots);
         }
     }
 
@@ -237,7 +239,7 @@ impl Watches {
     fn take_free_out(&mut self)
         ensures { Compacted self.old self.new }
     {
-        self.slots.retain(|slot| slot.is_some());
+        self.slots.keep_used();
         self.lists.close_up();
         self.settled = 0;
         self.free_slots = 0;
@@ -245,13 +247,11 @@ impl Watches {
 
     /// The watch at an index, if the literal is one of its two.
     fn entry(&self, index: u32, lit: Lit) -> Option<ListEntry>
+        requires { index < length self.now.slots }
         ensures found { IfSome result (IsEntry self.now index lit) }
         ensures stale { IfNone result (IsStale self.now index lit) }
     {
-        if index as usize >= self.slots.len() {
-            return None;
-        }
-        let watch = match &self.slots[index as usize] {
+        let watch = match self.slots.get(index as usize) {
             None => return None,
             Some(watch) => watch,
         };

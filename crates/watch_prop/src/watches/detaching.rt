@@ -54,7 +54,7 @@ impl Watches {
         ensures freed { FreedAll self.old self.new gone.now }
         ensures gone { (s : Watch) → At self.new.slots index (Some s) → is_among gone.now s.clause.address ≡ false }
     {
-        match self.slots[index] {
+        match self.slots.get(index) {
             None => {}
             Some(watch) => {
                 if is_among(gone, watch.clause) {
@@ -113,11 +113,11 @@ impl Watches {
         if index >= self.slots.len() {
             return;
         }
-        match self.slots[index] {
+        match self.slots.get(index) {
             None => {}
             Some(watch) => {
                 if watch.clause.address == c.address {
-                    self.slots[index] = None;
+                    self.slots.free(index);
                     self.free_slots += 1;
                 }
             }

@@ -59,7 +59,7 @@ impl Watches {
         ensures len { length self.new.slots ≡ length self.old.slots }
         ensures settled { IfOk result (IsSettledTo self.old self.new (lits_at (P.state port.old)) trail.new) }
     {
-        let watch = match self.slots[self.settled] {
+        let watch = match self.slots.get(self.settled) {
             None => {
                 self.settled += 1;
                 return Ok(Visit::Done);
@@ -81,11 +81,11 @@ impl Watches {
     }
 
     /// Lists the first watch that waits, at two literals of its clause, each with the other as its blocker.
-    fn list(&mut self, watch: &Watch, first: Lit, second: Lit) -> Result<(), AllocError>
-        requires there { At self.old.slots self.old.settled (Some watch.now) }
+    fn list(&mut self, _watch: &Watch, first: Lit, second: Lit) -> Result<(), AllocError>
+        requires there { At self.old.slots self.old.settled (Some _watch.now) }
         requires first { first.var ≤ self.old.vars }
         requires second { second.var ≤ self.old.vars }
-        ensures ok { OnOk result (Listed self.old self.new watch.now first second) }
+        ensures ok { OnOk result (Listed self.old self.new _watch.now first second) }
         ensures rooms { HaveGrown self.old.rooms self.new.rooms }
         ensures err { OnErr result (ListsMore self.old self.new second) }
     {
@@ -100,12 +100,7 @@ impl Watches {
         };
         self.lists.push(first, at_first)?;
         self.lists.push(second, at_second)?;
-        self.slots[self.settled] = Some(Watch {
-            clause: watch.clause,
-            first,
-            second,
-            binary: watch.binary,
-        });
+        self.slots.set_literals(self.settled, first, second);
         self.settled += 1;
         Ok(())
     }

@@ -15,7 +15,7 @@ ghost use Rattle.watch_prop.specs.Aside.{but, PassesOver, is_at};
 
 use crate::clause_scan::find_replacement;
 use crate::propagated::Propagated;
-use crate::watch::{ClauseState, ListEntry, Visit, Watch, Watcher};
+use crate::watch::{ClauseState, ListEntry, Visit, Watcher};
 use crate::watches::Watches;
 use ring_port::Port;
 use ring_trail::Trail;
@@ -181,12 +181,8 @@ impl Watches {
         };
         self.lists.push(new, watcher)?;
         self.lists.take(lit, place);
-        self.slots[entry.index as usize] = Some(Watch {
-            clause: entry.clause,
-            first: entry.other,
-            second: new,
-            binary: entry.binary,
-        });
+        self.slots
+            .set_literals(entry.index as usize, entry.other, new);
         Ok(())
     }
 }

@@ -3,7 +3,7 @@ use Rattle.std.proofs.lemmas.Bool.{false≢true}
 use Rattle.ring_port.specs.PortState.{lits_at}
 use Rattle.ring_trail.proofs.Truths.{neither}
 use Rattle.watch_prop.specs.Aside.{but}
-use Rattle.watch_prop.proofs.Asides.{entry-other, entry-aside, stale-other}
+use Rattle.watch_prop.proofs.Asides.{entry-other, entry-aside, stale-other, others-len}
 use Rattle.watch_prop.proofs.Entries.{all_on_vars, attachable_held, entry_attachable, entry_pair, on_vars, entry_two, blocker_satisfied, entry_conflict, entry_forces}
 use Rattle.watch_prop.proofs.watches.Watches.judge.Goals as goal
 
@@ -31,6 +31,11 @@ pub is_true-requires : goal.is_true-requires
 is_true-requires g c =
     let b = c.requires.watched.blocking c.args.lit c.watcher_at-watcher.result c.watcher_at-watcher.ensures.listed in
     omega (arith, b.on, c.requires.watched.vars)
+
+pub entry-requires : goal.entry-requires
+entry-requires g c =
+    let b = c.requires.watched.blocking c.args.lit c.watcher_at-watcher.result c.watcher_at-watcher.ensures.listed in
+    omega (arith, b.slot, others-len c.args.aside c.args.self.now.slots)
 
 pub find_replacement-requires-clause-pair : goal.find_replacement-requires-clause-pair
 find_replacement-requires-clause-pair g c =

@@ -1,14 +1,16 @@
-use Rattle.std.proofs.Common.{◌≡◌, ℕ, List, Some, subst, sym, ap, refl, ◌∙◌, length, Result, Ok, Err, OnErr, Contains, ◌⊎◌, inl, inr, arith}
-use Rattle.std.proofs.lemmas.List.{length-set}
+use Rattle.std.proofs.Common.{◌≡◌, ◌+◌, ℕ, List, Option, Some, None, get_or, subst, sym, ap, refl, ◌∙◌, length, Result, Ok, Err, OnErr, Contains, ◌⊎◌, inl, inr, arith}
+use Rattle.std.proofs.Math.ListN.{set}
 use Rattle.sat_words.specs.Literal.{Literal}
+use Rattle.watch_prop.specs.declared.watch.Watch.{Watch}
 use Rattle.watch_prop.specs.declared.watch.Watcher.{Watcher}
 use Rattle.watch_prop.specs.WatchData.{WatchData, watchers_at, list_at}
+use Rattle.watch_prop.specs.Packed.{with_literals}
 use Rattle.watch_prop.specs.Watched.{At}
 use Rattle.watch_prop.specs.Lists.{Added}
-use Rattle.watch_prop.specs.Visiting.{ListsMore}
+use Rattle.watch_prop.specs.Visiting.{Listed, ListsMore}
 use Rattle.watch_prop.specs.Layout.{ListData, HaveGrown}
 use Rattle.watch_prop.proofs.Rooms.{have-same, have-trans, have-pushed}
-use Rattle.watch_prop.proofs.Slots.{HasFree-set}
+use Rattle.watch_prop.proofs.SlotsLemmas.{HasFree-relit, len-relit, relit}
 use Rattle.watch_prop.proofs.watches.Watches.list.Goals as goal
 
 on_err : {T E : Type 0} (r : Result T E) (P : Type 0) → P → OnErr r P
@@ -33,17 +35,35 @@ more v w a b rooms size l k e r q =
 pub returns-in_err-push-2-clause-err : goal.returns-in_err-push-2-clause-err
 returns-in_err-push-2-clause-err c =
     on_err c.from_residual-in_err-push-2.result _
-    (more record { vars = c.self.inside.vars; slots = c.self.inside.slots.items; lists = c.self.inside.lists.rows; rooms = c.self.inside.lists.rooms; size = c.self.inside.lists.size; settled = c.self.inside.settled } c.args.self.now
+    (more record { vars = c.self.inside.vars; slots = c.self.inside.slots; lists = c.self.inside.lists.rows; rooms = c.self.inside.lists.rooms; size = c.self.inside.lists.size; settled = c.self.inside.settled } c.args.self.now
     c.push.new.self.rows c.push-2.new.self.rows c.push-2.new.self.rooms c.push-2.new.self.size c.args.first c.args.second c.self.view_is c.in_ok-push.ensures.ok (ap (λ (x : ListData). x.rows) c.in_err-push-2.ensures.err))
+
+listed : (v w : WatchData) (ws : List (Option Watch)) (a b : List (List Watcher)) (rooms : List ℕ) (size : ℕ) (s : Watch) (k l : Literal) → v ≡ w → At w.slots w.settled (Some s) → ws ≡ set v.slots v.settled (with_literals (get_or v.slots v.settled None) k l) → Added v.lists a k record { slot = v.settled; blocker = l } → Added a b l record { slot = v.settled; blocker = k }
+    → Listed w record { vars = v.vars; slots = ws; lists = b; rooms = rooms; size = size; settled = v.settled + 1 } s k l
+listed v w ws a b rooms size s k l e at q one two =
+    subst (λ (x : WatchData). Listed x record { vars = v.vars; slots = ws; lists = b; rooms = rooms; size = size; settled = v.settled + 1 } s k l) e
+    record {
+      vars = refl;
+      settled = refl;
+      slots = q ∙ relit v.slots v.settled s k l (subst (λ (x : WatchData). At x.slots x.settled (Some s)) (sym e) at);
+      between = a;
+      added = one;
+      added_too = two;
+    }
+
+pub returns-clause-ok : goal.returns-clause-ok
+returns-clause-ok c =
+    listed record { vars = c.self.inside.vars; slots = c.self.inside.slots; lists = c.self.inside.lists.rows; rooms = c.self.inside.lists.rooms; size = c.self.inside.lists.size; settled = c.self.inside.settled } c.args.self.now
+    c.set_literals.new.self c.push.new.self.rows c.push-2.new.self.rows c.push-2.new.self.rooms c.push-2.new.self.size c.args._watch.now c.args.first c.args.second c.self.view_is c.requires.there c.set_literals.ensures c.in_ok-push.ensures.ok c.in_ok-push-2.ensures.ok
 
 pub invariant_of-self-2 : goal.invariant_of-self-2
 invariant_of-self-2 c =
     let i = c.self.invariant in
-    let at = subst (λ (x : WatchData). At x.slots x.settled (Some c.args.watch.now)) (sym c.self.view_is) c.requires.there in (
+    let at = subst (λ (x : WatchData). At x.slots x.settled (Some c.args._watch.now)) (sym c.self.view_is) c.requires.there in (
       i.0,
       c.in_ok-push-2.ensures.ok.len ∙ c.in_ok-push.ensures.ok.len ∙ i.1,
-      HasFree-set c.self.inside.slots.items c.self.inside.settled c.args.watch.now _ c.self.inside.free_slots at refl i.2,
-      omega (arith, i.3, length-set c.self.inside.slots.items c.self.inside.settled (Some record { clause = c.args.watch.now.clause; first = c.args.first; second = c.args.second; binary = c.args.watch.now.binary })),
+      HasFree-relit c.self.inside.slots c.set_literals.new.self c.self.inside.settled c.args._watch.now c.args.first c.args.second c.self.inside.free_slots at c.set_literals.ensures i.2,
+      omega (arith, i.3, len-relit c.self.inside.slots c.set_literals.new.self c.self.inside.settled c.args.first c.args.second c.set_literals.ensures),
     )
 
 pub returns-clause-rooms : goal.returns-clause-rooms

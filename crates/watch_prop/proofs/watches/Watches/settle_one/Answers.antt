@@ -10,7 +10,7 @@ use Rattle.watch_prop.proofs.Growing.{HasGrown-refl, Watched-grow, clause_in}
 use Rattle.watch_prop.proofs.Reasons.{attached_some}
 use Rattle.watch_prop.proofs.Entries.{on_vars, attachable_held}
 use Rattle.watch_prop.proofs.Ranks.{among_has, best-forces, rank-open}
-use Rattle.watch_prop.proofs.Slots.{free_read}
+use Rattle.watch_prop.proofs.SlotsLemmas.{free_read}
 use Rattle.watch_prop.proofs.Settling.{waiting, Watched-skip, same_clauses, best-conflict, Watched-listed, Watched-more}
 use Rattle.watch_prop.proofs.Advancing.{advanced_none, advanced_watches}
 use Rattle.watch_prop.proofs.Quiets.{quiet-true}
@@ -19,13 +19,13 @@ use Rattle.watch_prop.proofs.watches.Watches.settle_one.Given.{Over}
 use Rattle.watch_prop.proofs.watches.Watches.settle_one.Goals.{After-best_watches-best, After-make_true}
 use Rattle.watch_prop.proofs.watches.Watches.settle_one.Goals as goal
 
-skipped : (v w : WatchData) (h : Lits) (t : TrailData) (o : Option Watch) → v ≡ w → w.settled < length w.slots → o ≡ get_or v.slots v.settled o → o ≡ None → Watched w h t → Watched record v { settled = v.settled + 1 } h t
+skipped : (v w : WatchData) (h : Lits) (t : TrailData) (o : Option Watch) → v ≡ w → w.settled < length w.slots → o ≡ get_or v.slots v.settled None → o ≡ None → Watched w h t → Watched record v { settled = v.settled + 1 } h t
 skipped v w h t o e lt q is k =
     Watched-skip v h t (v.settled + 1) (subst (λ (x : WatchData). Watched x h t) (sym e) k) (subst (λ (x : WatchData). x.settled < length x.slots) (sym e) lt) refl (λ s at. free_read v.slots v.settled o s q is at)
 
 -- the watch that waits
 here : (g : Over) (c : After-best_watches-best g) → At c.args.self.now.slots c.args.self.now.settled (Some c.in-Some.watch)
-here g c = waiting record { vars = c.self.inside.vars; slots = c.self.inside.slots.items; lists = c.self.inside.lists.rows; rooms = c.self.inside.lists.rooms; size = c.self.inside.lists.size; settled = c.self.inside.settled } c.args.self.now c.index.result.now c.in-Some.watch c.self.view_is c.requires.there c.index.ensures c.in-Some.is
+here g c = waiting record { vars = c.self.inside.vars; slots = c.self.inside.slots; lists = c.self.inside.lists.rows; rooms = c.self.inside.lists.rooms; size = c.self.inside.lists.size; settled = c.self.inside.settled } c.args.self.now c.get.result c.in-Some.watch c.self.view_is c.requires.there c.get.ensures c.in-Some.is
 
 pub returns-then-best-decision_level-clause-settled : goal.returns-then-best-decision_level-clause-settled
 returns-then-best-decision_level-clause-settled g c =
@@ -79,7 +79,7 @@ list-requires-2-clause-there g c =
 pub returns-in-None-clause-kept : goal.returns-in-None-clause-kept
 returns-in-None-clause-kept g c =
     advanced_watches (g.P.Port.state c.args.port.now) c.args.self.now _ c.args.trail.now (ap attached c.self.view_is) (ap (λ (w : WatchData). w.vars) c.self.view_is) (have-same c.args.self.now.rooms c.self.inside.lists.rooms (ap (λ (w : WatchData). w.rooms) c.self.view_is)) c.requires.reasons
-    (skipped record { vars = c.self.inside.vars; slots = c.self.inside.slots.items; lists = c.self.inside.lists.rows; rooms = c.self.inside.lists.rooms; size = c.self.inside.lists.size; settled = c.self.inside.settled } c.args.self.now (lits_at (g.P.Port.state c.args.port.now)) c.args.trail.now c.index.result.now c.self.view_is c.requires.there c.index.ensures c.in-None.is c.requires.watched)
+    (skipped record { vars = c.self.inside.vars; slots = c.self.inside.slots; lists = c.self.inside.lists.rows; rooms = c.self.inside.lists.rooms; size = c.self.inside.lists.size; settled = c.self.inside.settled } c.args.self.now (lits_at (g.P.Port.state c.args.port.now)) c.args.trail.now c.get.result c.self.view_is c.requires.there c.get.ensures c.in-None.is c.requires.watched)
 
 pub returns-then-best-decision_level-clause-kept : goal.returns-then-best-decision_level-clause-kept
 returns-then-best-decision_level-clause-kept g c = advanced_none (g.P.Port.state c.args.port.now) c.args.self.now c.args.trail.now c.requires.reasons c.requires.watched

@@ -1,7 +1,6 @@
-use Rattle.std.proofs.Common.{arith, rules, ◌^◌, ◌≡◌, ℕ, List, [], Option, Some, ap, refl, subst, sum, ◌∙◌, Contains}
+use Rattle.std.proofs.Common.{arith, ◌^◌, ◌≡◌, ℕ, List, [], Option, Some, ap, refl, subst, sum, ◌∙◌, Contains}
 use Rattle.std.specs.List.{filter, filter_map}
 use Rattle.std.specs.Option.{is_some}
-use Rattle.std.proofs.lemmas.Fn.{filter_same}
 use Rattle.std.proofs.lemmas.List.Elements.{All-filter, All-contains_itself}
 use Rattle.sat_words.specs.Literal.{Literal}
 use Rattle.watch_prop.specs.declared.watch.Watch.{Watch}
@@ -9,7 +8,7 @@ use Rattle.watch_prop.specs.declared.watch.Watcher.{Watcher}
 use Rattle.watch_prop.specs.WatchData.{WatchData, clause_in, watchers_at}
 use Rattle.watch_prop.specs.Watched.{At}
 use Rattle.watch_prop.specs.Detaching.{Compacted}
-use Rattle.watch_prop.proofs.Slots.{clauses-kept, HasFree-none, kept-within}
+use Rattle.watch_prop.proofs.SlotsLemmas.{clauses-kept, HasFree-none, kept-within}
 use Rattle.watch_prop.proofs.watches.Watches.take_free_out.Goals as goal
 
 -- a slot that is kept was there before
@@ -28,10 +27,9 @@ compacted v w ws lists rooms size e none closed q = subst (λ (x : WatchData). C
 }
 
 pub returns : goal.returns
-returns c = compacted record { vars = c.self.inside.vars; slots = c.self.inside.slots.items; lists = c.self.inside.lists.rows; rooms = c.self.inside.lists.rooms; size = c.self.inside.lists.size; settled = c.self.inside.settled } c.args.self.now c.retain.new.self.items c.close_up.new.self.rows c.close_up.new.self.rooms c.close_up.new.self.size c.self.view_is c.close_up.ensures.empty c.close_up.ensures.closed (filter_same _ is_some _ (λ x b f k. search rules) _ _ c.retain.ensures.filtered)
+returns c = compacted record { vars = c.self.inside.vars; slots = c.self.inside.slots; lists = c.self.inside.lists.rows; rooms = c.self.inside.lists.rooms; size = c.self.inside.lists.size; settled = c.self.inside.settled } c.args.self.now c.keep_used.new.self c.close_up.new.self.rows c.close_up.new.self.rooms c.close_up.new.self.size c.self.view_is c.close_up.ensures.empty c.close_up.ensures.closed c.keep_used.ensures
 
 pub invariant_of-self : goal.invariant_of-self
 invariant_of-self c =
     let i = c.self.invariant in
-    let kept = filter_same _ is_some _ (λ x b f k. search rules) _ _ c.retain.ensures.filtered in
-    (i.0, c.close_up.ensures.len ∙ i.1, HasFree-none c.self.inside.slots.items c.retain.new.self.items kept, kept-within c.self.inside.slots.items c.retain.new.self.items (2 ^ 32) kept i.3)
+    (i.0, c.close_up.ensures.len ∙ i.1, HasFree-none c.self.inside.slots c.keep_used.new.self c.keep_used.ensures, kept-within c.self.inside.slots c.keep_used.new.self (2 ^ 32) c.keep_used.ensures i.3)

@@ -19,7 +19,7 @@ use Rattle.watch_prop.proofs.ListsLemmas.{Removed-len}
 use Rattle.watch_prop.proofs.Growing.{HasGrown-step, clause_in}
 use Rattle.watch_prop.proofs.Reasons.{attached_some}
 use Rattle.watch_prop.proofs.Entries.{entry_attachable, on_vars, attachable_held}
-use Rattle.watch_prop.proofs.Slots.{clauses-set}
+use Rattle.watch_prop.proofs.SlotsLemmas.{clauses-set}
 use Rattle.watch_prop.proofs.Advancing.{advanced_none, advanced_watches}
 use Rattle.watch_prop.specs.Aside.{other_slots, but}
 use Rattle.watch_prop.proofs.Asides.{entry-whole, passes-refl}
@@ -65,7 +65,7 @@ stale_visiting w v h t l place lists rooms size e lt k s r =
 
 pub returns-in-Stale-clause-visited : goal.returns-in-Stale-clause-visited
 returns-in-Stale-clause-visited g c =
-    stale_visiting (but c.args.aside c.args.self.now) (but c.args.aside record { vars = c.self.inside.vars; slots = c.self.inside.slots.items; lists = c.self.inside.lists.rows; rooms = c.self.inside.lists.rooms; size = c.self.inside.lists.size; settled = c.self.inside.settled }) (lits_at (g.P.Port.state c.args.port.now)) c.args.trail.now c.args.lit c.args.place c.take.new.self.rows c.take.new.self.rooms c.take.new.self.size (ap (but c.args.aside) c.self.view_is) c.requires.there c.requires.visiting c.in-Stale.ensures.verdict c.take.ensures.removed
+    stale_visiting (but c.args.aside c.args.self.now) (but c.args.aside record { vars = c.self.inside.vars; slots = c.self.inside.slots; lists = c.self.inside.lists.rows; rooms = c.self.inside.lists.rooms; size = c.self.inside.lists.size; settled = c.self.inside.settled }) (lits_at (g.P.Port.state c.args.port.now)) c.args.trail.now c.args.lit c.args.place c.take.new.self.rows c.take.new.self.rooms c.take.new.self.size (ap (but c.args.aside) c.self.view_is) c.requires.there c.requires.visiting c.in-Stale.ensures.verdict c.take.ensures.removed
 
 blocked_visiting : (w v : WatchData) (h : Lits) (t : TrailData) (l : Literal) (place : ℕ) (e : ListEntry) (lists : List (List Watcher)) (rooms : List ℕ) (size : ℕ) → v ≡ w → IsTrail t → place < length (list_at w.lists l) → IsVisiting w h t l (place + 1)
     → CanBlock w t l (get_or (list_at w.lists l) place 0) e → Reblocked v.lists lists l place e.other → IsVisiting record v { lists = lists; rooms = rooms; size = size } h t l place × (place ≤ length (list_at lists l))
@@ -77,9 +77,9 @@ blocked_visiting w v h t l place e lists rooms size q trail lt k can r =
       omega (arith, lt', ap (λ (xs : List ℕ). length xs) (r.same l)),
     )
 
-blocked : (g : Over) (c : goal.After-set_blocker g) → IsVisiting record { vars = c.self.inside.vars; slots = other_slots c.args.aside c.self.inside.slots.items; lists = c.set_blocker.new.self.rows; rooms = c.set_blocker.new.self.rooms; size = c.set_blocker.new.self.size; settled = c.self.inside.settled } (lits_at (g.P.Port.state c.args.port.now)) c.args.trail.now c.args.lit c.args.place × (c.args.place ≤ length (list_at c.set_blocker.new.self.rows c.args.lit))
+blocked : (g : Over) (c : goal.After-set_blocker g) → IsVisiting record { vars = c.self.inside.vars; slots = other_slots c.args.aside c.self.inside.slots; lists = c.set_blocker.new.self.rows; rooms = c.set_blocker.new.self.rooms; size = c.set_blocker.new.self.size; settled = c.self.inside.settled } (lits_at (g.P.Port.state c.args.port.now)) c.args.trail.now c.args.lit c.args.place × (c.args.place ≤ length (list_at c.set_blocker.new.self.rows c.args.lit))
 blocked g c =
-    blocked_visiting (but c.args.aside c.args.self.now) (but c.args.aside record { vars = c.self.inside.vars; slots = c.self.inside.slots.items; lists = c.self.inside.lists.rows; rooms = c.self.inside.lists.rooms; size = c.self.inside.lists.size; settled = c.self.inside.settled }) (lits_at (g.P.Port.state c.args.port.now)) c.args.trail.now c.args.lit c.args.place c.in-Blocked.entry c.set_blocker.new.self.rows c.set_blocker.new.self.rooms c.set_blocker.new.self.size (ap (but c.args.aside) c.self.view_is) c.decision_level-level.ensures.trail c.requires.there c.requires.visiting c.in-Blocked.ensures.verdict c.set_blocker.ensures.reblocked
+    blocked_visiting (but c.args.aside c.args.self.now) (but c.args.aside record { vars = c.self.inside.vars; slots = c.self.inside.slots; lists = c.self.inside.lists.rows; rooms = c.self.inside.lists.rooms; size = c.self.inside.lists.size; settled = c.self.inside.settled }) (lits_at (g.P.Port.state c.args.port.now)) c.args.trail.now c.args.lit c.args.place c.in-Blocked.entry c.set_blocker.new.self.rows c.set_blocker.new.self.rooms c.set_blocker.new.self.size (ap (but c.args.aside) c.self.view_is) c.decision_level-level.ensures.trail c.requires.there c.requires.visiting c.in-Blocked.ensures.verdict c.set_blocker.ensures.reblocked
 
 pub returns-in-Blocked-clause-visited : goal.returns-in-Blocked-clause-visited
 returns-in-Blocked-clause-visited g c = blocked g c
@@ -131,7 +131,7 @@ returns-in-Forced-clause-visited g c = (forced g c, (let q = c.requires.there in
 pub returns-in-Stale-clause-kept : goal.returns-in-Stale-clause-kept
 returns-in-Stale-clause-kept g c =
     advanced_watches (g.P.Port.state c.args.port.now) (but c.args.aside c.args.self.now) _ c.args.trail.now (ap (λ (w : WatchData). attached (but c.args.aside w)) c.self.view_is) (ap (λ (w : WatchData). w.vars) c.self.view_is) (have-same c.args.self.now.rooms c.take.new.self.rooms (c.take.ensures.rooms ∙ ap (λ (w : WatchData). w.rooms) c.self.view_is)) c.requires.reasons
-    (stale_visiting (but c.args.aside c.args.self.now) (but c.args.aside record { vars = c.self.inside.vars; slots = c.self.inside.slots.items; lists = c.self.inside.lists.rows; rooms = c.self.inside.lists.rooms; size = c.self.inside.lists.size; settled = c.self.inside.settled }) (lits_at (g.P.Port.state c.args.port.now)) c.args.trail.now c.args.lit c.args.place c.take.new.self.rows c.take.new.self.rooms c.take.new.self.size (ap (but c.args.aside) c.self.view_is) c.requires.there c.requires.visiting c.in-Stale.ensures.verdict c.take.ensures.removed).0.watched
+    (stale_visiting (but c.args.aside c.args.self.now) (but c.args.aside record { vars = c.self.inside.vars; slots = c.self.inside.slots; lists = c.self.inside.lists.rows; rooms = c.self.inside.lists.rooms; size = c.self.inside.lists.size; settled = c.self.inside.settled }) (lits_at (g.P.Port.state c.args.port.now)) c.args.trail.now c.args.lit c.args.place c.take.new.self.rows c.take.new.self.rooms c.take.new.self.size (ap (but c.args.aside) c.self.view_is) c.requires.there c.requires.visiting c.in-Stale.ensures.verdict c.take.ensures.removed).0.watched
 
 pub returns-in-Settled-clause-kept : goal.returns-in-Settled-clause-kept
 returns-in-Settled-clause-kept g c = advanced_none (g.P.Port.state c.args.port.now) (but c.args.aside c.args.self.now) c.args.trail.now c.requires.reasons c.requires.visiting.watched
@@ -180,11 +180,11 @@ replace-requires-clause-entry g c =
 
 pub returns-in-Stale-clause-passed : goal.returns-in-Stale-clause-passed
 returns-in-Stale-clause-passed g c =
-    passes-stale c.args.aside (lits_at (g.P.Port.state c.args.port.now)) c.args.self.now record { vars = c.self.inside.vars; slots = c.self.inside.slots.items; lists = c.self.inside.lists.rows; rooms = c.self.inside.lists.rooms; size = c.self.inside.lists.size; settled = c.self.inside.settled } c.args.lit c.args.place c.take.new.self.rows c.take.new.self.rooms c.take.new.self.size c.self.view_is (c.judge.ensures.stale c.in-Stale.is) c.take.ensures.removed
+    passes-stale c.args.aside (lits_at (g.P.Port.state c.args.port.now)) c.args.self.now record { vars = c.self.inside.vars; slots = c.self.inside.slots; lists = c.self.inside.lists.rows; rooms = c.self.inside.lists.rooms; size = c.self.inside.lists.size; settled = c.self.inside.settled } c.args.lit c.args.place c.take.new.self.rows c.take.new.self.rooms c.take.new.self.size c.self.view_is (c.judge.ensures.stale c.in-Stale.is) c.take.ensures.removed
 
 pub returns-in-Blocked-clause-passed : goal.returns-in-Blocked-clause-passed
 returns-in-Blocked-clause-passed g c =
-    passes-blocked c.args.aside (lits_at (g.P.Port.state c.args.port.now)) c.args.self.now record { vars = c.self.inside.vars; slots = c.self.inside.slots.items; lists = c.self.inside.lists.rows; rooms = c.self.inside.lists.rooms; size = c.self.inside.lists.size; settled = c.self.inside.settled } c.args.trail.now c.args.lit c.args.place c.in-Blocked.entry c.set_blocker.new.self.rows c.set_blocker.new.self.rooms c.set_blocker.new.self.size c.self.view_is
+    passes-blocked c.args.aside (lits_at (g.P.Port.state c.args.port.now)) c.args.self.now record { vars = c.self.inside.vars; slots = c.self.inside.slots; lists = c.self.inside.lists.rows; rooms = c.self.inside.lists.rooms; size = c.self.inside.lists.size; settled = c.self.inside.settled } c.args.trail.now c.args.lit c.args.place c.in-Blocked.entry c.set_blocker.new.self.rows c.set_blocker.new.self.rooms c.set_blocker.new.self.size c.self.view_is
     c.requires.visiting.watched c.in-Blocked.ensures.verdict c.set_blocker.ensures.reblocked
 
 pub returns-in-Settled-clause-passed : goal.returns-in-Settled-clause-passed

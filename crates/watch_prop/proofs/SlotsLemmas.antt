@@ -6,9 +6,11 @@ use Rattle.std.specs.Option.{is_some}
 use Rattle.std.proofs.lemmas.Bool.Decides.{nat_tests}
 use Rattle.std.proofs.lemmas.List.{length-set, get_or-set_same, get_or-set_other, get_or_default, get_or_append_left, get_or_push, length-append}
 use Rattle.std.proofs.lemmas.List.Elements.{filter_map-append}
+use Rattle.sat_words.specs.Literal.{Literal}
 use Rattle.sat_words.specs.declared.shared.Cref.{Cref}
 use Rattle.watch_prop.specs.declared.watch.Watch.{Watch}
 use Rattle.watch_prop.specs.WatchData.{clause_in, without, is_among, without_all}
+use Rattle.watch_prop.specs.Packed.{with_literals}
 use Rattle.watch_prop.specs.Watched.{At}
 use Rattle.watch_prop.proofs.ListsLemmas.{cases_eq}
 
@@ -30,12 +32,12 @@ At-set {X} xs j i y x a =
     ]
 
 -- a watch that was read
-pub watch_read : (ws : List (Option Watch)) (i : ℕ) (o : Option Watch) (s : Watch) → i < length ws → o ≡ get_or ws i o → o ≡ Some s → At ws i (Some s)
-watch_read ws i o s lt q is = subst (λ (y : Option Watch). At ws i y) is (lt, sym q)
+pub watch_read : (ws : List (Option Watch)) (i : ℕ) (o : Option Watch) (s : Watch) → i < length ws → o ≡ get_or ws i None → o ≡ Some s → At ws i (Some s)
+watch_read ws i o s lt q is = (lt, get_or_default ws i (Some s) None lt ∙ sym q ∙ is)
 
 -- a free slot has no watch
-pub free_read : (ws : List (Option Watch)) (i : ℕ) (o : Option Watch) (s : Watch) → o ≡ get_or ws i o → o ≡ None → At ws i (Some s) → ⊥
-free_read ws i o s q is at = (let z : None ≡ Some s = sym is ∙ q ∙ get_or_default ws i o (Some s) at.0 ∙ at.1 in cc)
+pub free_read : (ws : List (Option Watch)) (i : ℕ) (o : Option Watch) (s : Watch) → o ≡ get_or ws i None → o ≡ None → At ws i (Some s) → ⊥
+free_read ws i o s q is at = (let z : None ≡ Some s = sym is ∙ q ∙ get_or_default ws i None (Some s) at.0 ∙ at.1 in cc)
 
 -- the watch in a slot is one
 pub watch-same : (ws : List (Option Watch)) (i : ℕ) (s t : Watch) → At ws i (Some s) → At ws i (Some t) → s ≡ t
@@ -64,6 +66,13 @@ watch-push ws i new s a =
       | inl e ↦ inl (unsome s new (sym a.1 ∙ get_or_push ws (Some new) (Some s) i (sym e)))
       | inr ne ↦ (let lt : i < length ws = (let q = a.0 in omega (arith, n)) in inr (lt, sym (get_or_append_left ws (Some new ∷ []) (Some s) i lt) ∙ a.1))
     ]
+
+-- a watch that got other literals
+pub relit : (ws : List (Option Watch)) (i : ℕ) (s : Watch) (k l : Literal) → At ws i (Some s) → set ws i (with_literals (get_or ws i None) k l) ≡ set ws i (Some record { clause = s.clause; first = k; second = l; binary = s.binary })
+relit ws i s k l at = ap (λ (o : Option Watch). set ws i (with_literals o k l)) (get_or_default ws i None (Some s) at.0 ∙ at.1)
+
+pub len-relit : (ws xs : List (Option Watch)) (i : ℕ) (k l : Literal) → xs ≡ set ws i (with_literals (get_or ws i None) k l) → length xs ≡ length ws
+len-relit ws xs i k l e = ap (λ (ys : List (Option Watch)). length ys) e ∙ length-set ws i (with_literals (get_or ws i None) k l)
 
 -- The clauses of slots
 
@@ -193,6 +202,10 @@ HasFree-freed ws i s n at h = omega (arith, h, one-freed ws i s at, length-set w
 
 pub HasFree-set : (ws : List (Option Watch)) (i : ℕ) (s new : Watch) (n : ℕ) → At ws i (Some s) → new.clause ≡ s.clause → HasFree ws n → HasFree (set ws i (Some new)) n
 HasFree-set ws i s new n at e h = omega (arith, h, length-set ws i (Some new), ap (λ (cs : List Cref). length cs) (clauses-set ws i s new at e))
+
+pub HasFree-relit : (ws xs : List (Option Watch)) (i : ℕ) (s : Watch) (k l : Literal) (n : ℕ) → At ws i (Some s) → xs ≡ set ws i (with_literals (get_or ws i None) k l) → HasFree ws n → HasFree xs n
+HasFree-relit ws xs i s k l n at e h =
+    subst (λ (ys : List (Option Watch)). HasFree ys n) (sym (e ∙ relit ws i s k l at)) (HasFree-set ws i s record { clause = s.clause; first = k; second = l; binary = s.binary } n at refl h)
 
 pub HasFree-none : (ws xs : List (Option Watch)) → xs ≡ filter is_some ws → HasFree xs 0
 HasFree-none ws xs e = subst (λ (ys : List (Option Watch)). HasFree ys 0) (sym e) (let r = each-kept ws in omega (arith, r))

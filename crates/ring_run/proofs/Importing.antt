@@ -319,14 +319,15 @@ taken_held s u ring class c w port =
 pub only_none : (s : PortState) → OnlyPolled s s
 only_none s = record { kept = λ a h. refl; state = refl }
 
-only_eta : (s : PortState) (held : List Holding) (taken : List ℕ) (polled : ℕ) (polls : List Slot) → KeepsHeld s (record s { held = held; taken = taken; polled = polled; polls = polls }) → OnlyPolled s (record s { held = held; taken = taken; polled = polled; polls = polls })
-only_eta s held taken polled polls kept = record { kept = kept; state = refl }
+only_eta : (s : PortState) (held : List Holding) (taken : List ℕ) (polled : ℕ) (polls : List Slot) (after : List ℕ) → KeepsHeld s (record s { held = held; taken = taken; polled = polled; polls = polls; polls_after = after })
+    → OnlyPolled s (record s { held = held; taken = taken; polled = polled; polls = polls; polls_after = after })
+only_eta s held taken polled polls after kept = record { kept = kept; state = refl }
 
 pub only_looked : (s u : PortState) (ring class : ℕ) → u ≡ looked_into ring class s → OnlyPolled s u
-only_looked s u ring class is = subst (OnlyPolled s) (sym is) (only_eta s s.held s.taken (one_more s.polled) (s.polls ++ record { ring = ring; class = class } ∷ []) (λ a h. held_same s (looked_into ring class s) a refl))
+only_looked s u ring class is = subst (OnlyPolled s) (sym is) (only_eta s s.held s.taken (one_more s.polled) (s.polls ++ record { ring = ring; class = class } ∷ []) (s.polls_after ++ s.caught_up ∷ []) (λ a h. held_same s (looked_into ring class s) a refl))
 
 pub only_took : (s u : PortState) (ring class : ℕ) (c : Cref) → TookClause s u ring class c → KeepsHeld s u → OnlyPolled s u
-only_took s u ring class c w kept = subst (OnlyPolled s) (sym w.state) (only_eta s (s.held ++ w.clause ∷ []) (s.taken ++ c.address ∷ []) (one_more s.polled) (s.polls ++ record { ring = ring; class = class } ∷ []) (subst (KeepsHeld s) w.state kept))
+only_took s u ring class c w kept = subst (OnlyPolled s) (sym w.state) (only_eta s (s.held ++ w.clause ∷ []) (s.taken ++ c.address ∷ []) (one_more s.polled) (s.polls ++ record { ring = ring; class = class } ∷ []) (s.polls_after ++ s.caught_up ∷ []) (subst (KeepsHeld s) w.state kept))
 
 pub only_same : (s u : PortState) → u ≡ s → OnlyPolled s u
 only_same s u is = subst (OnlyPolled s) (sym is) (only_none s)
@@ -335,5 +336,5 @@ pub only_then : (s u w : PortState) → OnlyPolled s u → OnlyPolled u w → On
 only_then s u w p q =
     record {
       kept = λ a h. q.kept a (subst (λ (o : Option Holding). IsSome o) (sym (p.kept a h)) h) ∙ p.kept a h;
-      state = q.state ∙ ap (λ (x : PortState). record x { held = w.held; taken = w.taken; polled = w.polled; polls = w.polls }) p.state;
+      state = q.state ∙ ap (λ (x : PortState). record x { held = w.held; taken = w.taken; polled = w.polled; polls = w.polls; polls_after = w.polls_after }) p.state;
     }

@@ -249,6 +249,7 @@ pub record Unchanged (s u : PortState) : Type 0 where
   pub shared : u.shared ≡ s.shared
   pub polled : u.polled ≡ s.polled
   pub polls : u.polls ≡ s.polls
+  pub polls_after : u.polls_after ≡ s.polls_after
   pub caught_up : u.caught_up ≡ s.caught_up
   pub puts : u.puts ≡ s.puts
   pub taken : u.taken ≡ s.taken
@@ -271,6 +272,7 @@ but_noted s refused ended output = record {
   shared = refl;
   polled = refl;
   polls = refl;
+  polls_after = refl;
   caught_up = refl;
   puts = refl;
   taken = refl;

@@ -149,6 +149,7 @@ module _ (s u : PortState) (w : NotedReduce s u) where
     shared = ap (λ (x : PortState). x.shared) w.state;
     polled = ap (λ (x : PortState). x.polled) w.state;
     polls = ap (λ (x : PortState). x.polls) w.state;
+    polls_after = ap (λ (x : PortState). x.polls_after) w.state;
     caught_up = (let same = ap (λ (x : PortState). x.caught_up) w.state in omega (arith, same));
     ring = ap (λ (x : PortState). x.ring) w.state;
     rings = ap (λ (x : PortState). x.rings) w.state;
@@ -290,6 +291,7 @@ dropped_nothing s u dropped gone = record {
   shared = ap (λ (x : PortState). x.shared) gone.state;
   polled = ap (λ (x : PortState). x.polled) gone.state;
   polls = ap (λ (x : PortState). x.polls) gone.state;
+  polls_after = ap (λ (x : PortState). x.polls_after) gone.state;
   caught_up = (let same = ap (λ (x : PortState). x.caught_up) gone.state in omega (arith, same));
   ring = ap (λ (x : PortState). x.ring) gone.state;
   rings = ap (λ (x : PortState). x.rings) gone.state;

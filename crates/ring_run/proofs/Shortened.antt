@@ -46,6 +46,7 @@ pub record Behind (s u : PortState) (e : Entry) : Type 0 where
   pub shared : u.shared ≡ s.shared
   pub polled : u.polled ≡ s.polled
   pub polls : u.polls ≡ s.polls
+  pub polls_after : u.polls_after ≡ s.polls_after
   pub caught_up : min s.caught_up (2 ^ 64 - 1) ≤ u.caught_up
   pub taken : u.taken ≡ s.taken
   pub home : u.home ≡ s.home
@@ -64,6 +65,7 @@ added_behind s m lits glue d w = record {
   shared = ap (λ (x : PortState). x.shared) w.state;
   polled = ap (λ (x : PortState). x.polled) w.state;
   polls = ap (λ (x : PortState). x.polls) w.state;
+  polls_after = ap (λ (x : PortState). x.polls_after) w.state;
   caught_up = (let same = ap (λ (x : PortState). x.caught_up) w.state in omega (arith, same));
   taken = ap (λ (x : PortState). x.taken) w.state;
   home = ap (λ (x : PortState). x.home) w.state;
@@ -83,6 +85,7 @@ unit_behind s m l last w = record {
   shared = ap (λ (x : PortState). x.shared) w.state;
   polled = ap (λ (x : PortState). x.polled) w.state;
   polls = ap (λ (x : PortState). x.polls) w.state;
+  polls_after = ap (λ (x : PortState). x.polls_after) w.state;
   caught_up = omega (arith, w.looked);
   taken = ap (λ (x : PortState). x.taken) w.state;
   home = ap (λ (x : PortState). x.home) w.state;
@@ -102,6 +105,7 @@ dropped_behind s m u e a b w = record {
   shared = ap (λ (x : PortState). x.shared) w.state ∙ b.shared;
   polled = ap (λ (x : PortState). x.polled) w.state ∙ b.polled;
   polls = ap (λ (x : PortState). x.polls) w.state ∙ b.polls;
+  polls_after = ap (λ (x : PortState). x.polls_after) w.state ∙ b.polls_after;
   caught_up = (let same = ap (λ (x : PortState). x.caught_up) w.state in omega (arith, same, b.caught_up));
   taken = ap (λ (x : PortState). x.taken) w.state ∙ b.taken;
   home = ap (λ (x : PortState). x.home) w.state ∙ b.home;
@@ -121,6 +125,7 @@ same_behind s m u e b q = record {
   shared = q.shared ∙ b.shared;
   polled = q.polled ∙ b.polled;
   polls = q.polls ∙ b.polls;
+  polls_after = q.polls_after ∙ b.polls_after;
   caught_up = omega (arith, b.caught_up, q.caught_up);
   taken = q.taken ∙ b.taken;
   home = q.home ∙ b.home;
@@ -147,6 +152,7 @@ behind_nothing s u x b other = record {
   shared = b.shared;
   polled = b.polled;
   polls = b.polls;
+  polls_after = b.polls_after;
   caught_up = b.caught_up;
   ring = b.ring;
   rings = b.rings;
@@ -297,6 +303,7 @@ module _ (s u : PortState) (v : WatchData) (steps : List TrailStep) (c : Cref) (
                 shared = same.shared;
                 polled = same.polled;
                 polls = same.polls;
+                polls_after = same.polls_after;
                 caught_up = omega (arith, same.caught_up);
                 ring = same.ring;
                 rings = same.rings;

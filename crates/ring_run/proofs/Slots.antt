@@ -22,6 +22,7 @@ crefs_of hs = map (λ (h : Holding). record { address = h.address }) hs
 pub slots_begin : (s : PortState) (ring : Ring) → TookSlots s s ring ring []
 slots_begin s ring = record {
   polls = sym (append-nil s.polls);
+  moments = sym (append-nil s.polls_after);
   came = [];
   few = omega arith;
   held = sym (append-nil s.held);
@@ -34,6 +35,7 @@ slots_begin s ring = record {
 pub slots_none : (s u : PortState) (old new : Ring) (from class : ℕ) → u ≡ looked_into from class s → attached new.watches ≡ attached old.watches → new.imports.items ≡ old.imports.items → TookSlots s u old new (slot from class ∷ [])
 slots_none s u old new from class is same imports = record {
   polls = ap (λ (x : PortState). x.polls) is;
+  moments = ap (λ (x : PortState). x.polls_after) is;
   came = [];
   few = omega arith;
   held = ap (λ (x : PortState). x.held) is ∙ sym (append-nil s.held);
@@ -46,6 +48,7 @@ slots_none s u old new from class is same imports = record {
 pub slots_one : (s u : PortState) (old new : Ring) (from class : ℕ) (c : Cref) → TookClause s u from class c → attached new.watches ≡ attached old.watches ++ c ∷ [] → new.imports.items ≡ old.imports.items ++ c ∷ [] → TookSlots s u old new (slot from class ∷ [])
 slots_one s u old new from class c took more imports = record {
   polls = ap (λ (x : PortState). x.polls) took.state;
+  moments = ap (λ (x : PortState). x.polls_after) took.state;
   came = took.clause ∷ [];
   few = omega arith;
   held = ap (λ (x : PortState). x.held) took.state;
@@ -57,10 +60,17 @@ slots_one s u old new from class c took more imports = record {
 joined : {A : Type 0} (old middle new xs ys : List A) → middle ≡ old ++ xs → new ≡ middle ++ ys → new ≡ old ++ (xs ++ ys)
 joined old middle new xs ys first then = then ∙ ap (λ ws. ws ++ ys) first ∙ append_assoc old xs ys
 
--- more slots after these
-pub slots_then : (s m u : PortState) (old between new : Ring) (xs ys slots : List Slot) → TookSlots s m old between xs → TookSlots m u between new ys → slots ≡ xs ++ ys → TookSlots s u old new slots
-slots_then s m u old between new xs ys slots p q is = subst (TookSlots s u old new) (sym is) (record {
+-- this number once for each slot
+abbrev pub each_at : ℕ → List Slot → List ℕ
+each_at n xs = map (λ (_x : Slot). n) xs
+
+-- more slots after these, before another look for units
+pub slots_then : (s m u : PortState) (old between new : Ring) (xs ys slots : List Slot) → TookSlots s m old between xs → TookSlots m u between new ys → m.caught_up ≡ s.caught_up → slots ≡ xs ++ ys → TookSlots s u old new slots
+slots_then s m u old between new xs ys slots p q unlooked is = subst (TookSlots s u old new) (sym is) (record {
   polls = joined s.polls m.polls u.polls xs ys p.polls q.polls;
+  moments = joined s.polls_after m.polls_after u.polls_after (each_at s.caught_up xs) (each_at m.caught_up ys) p.moments q.moments
+      ∙ ap (λ (n : ℕ). s.polls_after ++ (each_at s.caught_up xs ++ each_at n ys)) unlooked
+      ∙ ap (λ (ns : List ℕ). s.polls_after ++ ns) (sym (map-append (λ (_x : Slot). s.caught_up) xs ys));
   came = p.came ++ q.came;
   few = (let came = length-append p.came q.came in let all = length-append xs ys in omega (arith, p.few, q.few, came, all));
   held = joined s.held m.held u.held p.came q.came p.held q.held;

@@ -111,6 +111,7 @@ saw_more s u w l p took log =
       shared = ap (λ (x : PortState). x.shared) took.state ∙ p.shared;
       polled = ap (λ (x : PortState). x.polled) took.state ∙ p.polled;
       polls = ap (λ (x : PortState). x.polls) took.state ∙ p.polls;
+      polls_after = ap (λ (x : PortState). x.polls_after) took.state ∙ p.polls_after;
       caught_up = (let same = ap (λ (x : PortState). x.caught_up) took.state in omega (arith, same, p.caught_up));
       waiting = ap (λ (x : PortState). x.waiting) took.state ∙ p.waiting;
       taken = ap (λ (x : PortState). x.taken) took.state ∙ p.taken;
@@ -138,6 +139,7 @@ saw_none s u w p took log = record {
   shared = ap (λ (x : PortState). x.shared) took.state ∙ p.shared;
   polled = ap (λ (x : PortState). x.polled) took.state ∙ p.polled;
   polls = ap (λ (x : PortState). x.polls) took.state ∙ p.polls;
+  polls_after = ap (λ (x : PortState). x.polls_after) took.state ∙ p.polls_after;
   caught_up = (let same = ap (λ (x : PortState). x.caught_up) took.state in omega (arith, same, p.caught_up));
   waiting = ap (λ (x : PortState). x.waiting) took.state ∙ p.waiting;
   taken = ap (λ (x : PortState). x.taken) took.state ∙ p.taken;

@@ -73,6 +73,7 @@ record Deleted (s u : PortState) (hs : List Holding) : Type 0 where
   pub shared : u.shared ≡ s.shared
   pub polled : u.polled ≡ s.polled
   pub polls : u.polls ≡ s.polls
+  pub polls_after : u.polls_after ≡ s.polls_after
   pub caught_up : u.caught_up ≡ s.caught_up
   pub taken : u.taken ≡ s.taken
   pub home : u.home ≡ s.home
@@ -93,6 +94,7 @@ deleted_eta s waiting hs output = record {
   shared = refl;
   polled = refl;
   polls = refl;
+  polls_after = refl;
   caught_up = refl;
   taken = refl;
   home = refl;
@@ -117,6 +119,7 @@ deleted_then s m u hs p q = record {
   shared = q.shared ∙ p.shared;
   polled = q.polled ∙ p.polled;
   polls = q.polls ∙ p.polls;
+  polls_after = q.polls_after ∙ p.polls_after;
   caught_up = q.caught_up ∙ p.caught_up;
   taken = q.taken ∙ p.taken;
   home = q.home ∙ p.home;
@@ -206,7 +209,7 @@ module _ (s u : PortState) (hs : List Holding) (d : Deleted s u hs) (log : Keeps
   }
 
   deleted_nothing : OffersNothing s u
-  deleted_nothing = record { shared = d.shared; polled = d.polled; polls = d.polls; caught_up = omega (arith, d.caught_up); ring = d.ring; rings = d.rings; lemmas = deleted_learned }
+  deleted_nothing = record { shared = d.shared; polled = d.polled; polls = d.polls; polls_after = d.polls_after; caught_up = omega (arith, d.caught_up); ring = d.ring; rings = d.rings; lemmas = deleted_learned }
 
 -- What a call that tidies leaves
 

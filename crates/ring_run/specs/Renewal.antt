@@ -237,10 +237,11 @@ pub record IsIdle (old new : PortState) (before after : Ring) : Type 0 where
 
 -- Imports
 
--- the ring looked into these slots, in order; each clause that came, of which there are no more than slots, is held, noted as taken,
--- attached and listed once, in the order in which they came
+-- the ring looked into these slots, in order, each time after as many looks for units as before the first; each clause that came, of
+-- which there are no more than slots, is held, noted as taken, attached and listed once, in the order in which they came
 pub record TookSlots (old new : PortState) (before after : Ring) (slots : List Slot) : Type 0 where
   pub polls : new.polls ≡ old.polls ++ slots
+  pub moments : new.polls_after ≡ old.polls_after ++ map (λ (_slot : Slot). old.caught_up) slots
   pub came : List Holding
   pub few : length came ≤ length slots
   pub held : new.held ≡ old.held ++ came
@@ -249,7 +250,8 @@ pub record TookSlots (old new : PortState) (before after : Ring) (slots : List S
   pub imports : after.imports.items ≡ before.imports.items ++ map (λ (h : Holding). record { address = h.address }) came
 
 -- an import at level 0: first units came until one look found no other listed, and each of these and of the opening is true, before any
--- slot was looked into; then the slots of each other ring were looked into, in order, and no unit came; what became true has no reason
+-- slot was looked into; then the slots of each other ring were looked into, in order, and no unit came; the port has noted that each
+-- slot was looked into after one look more that found no other unit listed; what became true has no reason
 pub record TookImport (old new : PortState) (before after : Ring) : Type 0 where
   pub middle : PortState
   pub units : OnlySaw old middle
@@ -258,6 +260,7 @@ pub record TookImport (old new : PortState) (before after : Ring) : Type 0 where
   pub stands : Stands middle after.trail
   pub polled : OnlyPolled middle new
   pub slots : TookSlots middle new before after (import_slots middle)
+  pub moments : new.polls_after ≡ old.polls_after ++ map (λ (_slot : Slot). one_more old.caught_up) (import_slots old)
   pub grown : HasGrown before.trail after.trail
   pub shape : IsTrail after.trail
   pub bare : (p : ℕ) → length before.trail.steps ≤ p → p < length after.trail.steps → reason_at after.trail.steps p ≡ None

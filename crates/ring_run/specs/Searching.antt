@@ -60,6 +60,7 @@ pub record OffersNothing (old new : PortState) : Type 0 where
   pub shared : new.shared ≡ old.shared
   pub polled : new.polled ≡ old.polled
   pub polls : new.polls ≡ old.polls
+  pub polls_after : new.polls_after ≡ old.polls_after
   pub caught_up : min old.caught_up (2 ^ 64 - 1) ≤ new.caught_up
   pub ring : new.ring ≡ old.ring
   pub rings : new.rings ≡ old.rings
@@ -82,6 +83,7 @@ pub record OnlySaw (old new : PortState) : Type 0 where
   pub shared : new.shared ≡ old.shared
   pub polled : new.polled ≡ old.polled
   pub polls : new.polls ≡ old.polls
+  pub polls_after : new.polls_after ≡ old.polls_after
   pub caught_up : min old.caught_up (2 ^ 64 - 1) ≤ new.caught_up
   pub waiting : new.waiting ≡ old.waiting
   pub taken : new.taken ≡ old.taken
@@ -92,10 +94,10 @@ pub record OnlySaw (old new : PortState) : Type 0 where
   pub looks : new.looks ≡ old.looks
   pub more : (l : Literal) → has old.seen l ≡ true → has new.seen l ≡ true
 
--- no call has changed more than what is held and taken, and where and how often the ring has polled; what was held still is
+-- no call has changed more than what is held and taken, and where, when and how often the ring has polled; what was held still is
 pub record OnlyPolled (old new : PortState) : Type 0 where
   pub kept : KeepsHeld old new
-  pub state : new ≡ record old { held = new.held; taken = new.taken; polled = new.polled; polls = new.polls }
+  pub state : new ≡ record old { held = new.held; taken = new.taken; polled = new.polled; polls = new.polls; polls_after = new.polls_after }
 
 -- the ring's entries are those from before, and perhaps more after them
 abbrev pub HasGrownLog : PortState → PortState → Type 0

@@ -15,7 +15,7 @@ use Rattle.ring_port.specs.Port.{KeepsHeld}
 use Rattle.ring_port.specs.Exchange.{TookClause}
 use Rattle.ring_port.proofs.Holdings.{All_In}
 use Rattle.ring_port.proofs.PlainLemmas.{kept_pushed}
-use Rattle.test_ports.specs.Crowd.{Asked, asked, crowd_of, front, IsLast, slot_of}
+use Rattle.test_ports.specs.Crowd.{Asked, asked, crowd_of, front, IsLast, slot_of, looks_before}
 use Rattle.test_ports.specs.declared.crowd.Poll.{Poll}
 
 pub held_same : (s u : PortState) (a : ℕ) → u.held ≡ s.held → held_at u a ≡ held_at s a
@@ -129,11 +129,12 @@ crowd_goes_on s taken stop other looks more refused told polled polled_more p is
 
 -- one poll more
 abbrev pub asked_again : ℕ → ℕ → Asked → Asked
-asked_again from class q = record { polled = one_more q.polled; polls = q.polls ++ record { ring = from; class = class } ∷ []; caught_up = q.caught_up }
+asked_again from class q = record { polled = one_more q.polled; polls = q.polls ++ record { ring = from; class = class } ∷ []; polls_after = q.polls_after ++ q.caught_up ∷ []; caught_up = q.caught_up }
 
-pub asked_more : (n k m : ℕ) (ps qs : List Poll) (from class : ℕ) → m ≡ one_more n → qs ≡ ps ++ record { from = from; class = class } ∷ [] → asked m qs k ≡ asked_again from class (asked n ps k)
+pub asked_more : (n k m : ℕ) (ps qs : List Poll) (from class : ℕ) → m ≡ one_more n → qs ≡ ps ++ record { from = from; class = class; caught_up = k } ∷ [] → asked m qs k ≡ asked_again from class (asked n ps k)
 asked_more n k m ps qs from class more is =
-    (λ i. asked (more i) (is i) k) ∙ (λ i. record { polled = one_more n; polls = map-append slot_of ps (record { from = from; class = class } ∷ []) i; caught_up = k })
+    let x : Poll = record { from = from; class = class; caught_up = k } in
+    (λ i. asked (more i) (is i) k) ∙ (λ i. record { polled = one_more n; polls = map-append slot_of ps (x ∷ []) i; polls_after = map-append looks_before ps (x ∷ []) i; caught_up = k })
 
 -- How the last clause is taken
 

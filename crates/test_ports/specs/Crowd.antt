@@ -20,19 +20,24 @@ abbrev pub taken_of : Option Cref → List ℕ
 taken_of None = []
 taken_of (Some c) = c.address ∷ []
 
--- how often it was polled and for which slots, and how often no unit was left
+-- how often it was polled and for which slots, how often no unit was left before each of these polls, and how often until now
 pub record Asked : Type 0 where
   pub polled : ℕ
   pub polls : List Slot
+  pub polls_after : List ℕ
   pub caught_up : ℕ
 
 -- the slot that a poll looks into
 abbrev pub slot_of : Poll → Slot
 slot_of p = record { ring = p.from; class = p.class }
 
+-- how often no unit was left before a poll
+abbrev pub looks_before : Poll → ℕ
+looks_before p = p.caught_up
+
 -- what is asked of the slots at this number of polls
 abbrev pub asked : ℕ → List Poll → ℕ → Asked
-asked polled ps caught_up = record { polled = polled; polls = map slot_of ps; caught_up = caught_up }
+asked polled ps caught_up = record { polled = polled; polls = map slot_of ps; polls_after = map looks_before ps; caught_up = caught_up }
 
 -- it starts with all clauses of the port in memory but the last, has no units and writes nothing; the other rings have nothing
 -- for it but this last one
@@ -51,6 +56,7 @@ crowd_of s taken stop looks refused q = record {
   shared = 0;
   polled = q.polled;
   polls = q.polls;
+  polls_after = q.polls_after;
   puts = [];
   taken = taken_of taken;
   vars = s.vars;

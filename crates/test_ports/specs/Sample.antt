@@ -40,6 +40,7 @@ sample_state = record {
   shared = 0;
   polled = 0;
   polls = [];
+  polls_after = [];
   puts = [];
   taken = [];
   vars = 5;

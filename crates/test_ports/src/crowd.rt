@@ -17,6 +17,17 @@ pub struct Poll {
     pub from: u32,
     /// The class.
     pub class: u8,
+    /// How often it had been asked for a unit by then.
+    pub caught_up: u64,
+}
+
+/// A slot in which another ring's clause lies.
+#[derive(Clone, Copy, PartialEq, Eq, Debug)]
+pub struct Gift {
+    /// The ring that put it.
+    pub from: u32,
+    /// The class.
+    pub class: u8,
 }
 
 /// The port of the second of three rings, over what a port in memory holds. The last clause of that is another ring's, which
@@ -27,7 +38,7 @@ pub struct Crowd<L: LineOut> {
     /// Where the other ring's clause is.
     last: Cref,
     /// At which poll it is handed over.
-    gift: Option<Poll>,
+    gift: Option<Gift>,
     /// The clause, once it was taken.
     taken: Option<Cref>,
     stop: Option<Stop>,
@@ -42,7 +53,7 @@ pub struct Crowd<L: LineOut> {
     polled: u64,
     /// How often it was asked for a unit.
     caught_up: u64,
-    /// Which ring was polled and for which class, in order.
+    /// Which ring was polled and for which class, in order, and after how many asks for a unit.
     polls: Vec<Poll>,
 }
 
@@ -94,7 +105,7 @@ impl<L: LineOut + Drop> Crowd<L> {
     pub fn over(
         alloc: Global,
         inner: PlainPort<L>,
-        gift: Option<Poll>,
+        gift: Option<Gift>,
         quiet: u64,
         memory: bool,
     ) -> Result<(Crowd<L>, Vec<Cref>), Fail>
@@ -127,7 +138,7 @@ impl<L: LineOut + Drop> Crowd<L> {
         Ok((crowd, start))
     }
 
-    /// Which ring was polled and for which class, in order.
+    /// Which ring was polled and for which class, in order, and after how many asks for a unit.
     pub fn into_polls(self) -> Vec<Poll> {
         self.polls
     }
@@ -200,12 +211,17 @@ impl<L: LineOut> Port for Crowd<L> {
 
     /// Nothing is there but the clause of the other ring.
     fn poll(&mut self, from: u32, class: u8) -> Result<Option<Cref>, PortStop> {
-        let poll = Poll { from, class };
+        let poll = Poll {
+            from,
+            class,
+            caught_up: self.caught_up,
+        };
         if self.polls.push(poll).is_err() {
             return Err(PortStop::Memory);
         }
         self.polled = self.polled.saturating_add(1);
-        if self.gift != Some(poll) {
+        let slot = Gift { from, class };
+        if self.gift != Some(slot) {
             return Ok(None);
         }
         match self.taken {

@@ -4,5 +4,5 @@
 mod crowd;
 mod port;
 
-pub use crowd::{Crowd, Poll, third_stop};
+pub use crowd::{Crowd, Gift, Poll, third_stop};
 pub use port::SamplePort;

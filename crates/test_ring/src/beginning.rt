@@ -14,7 +14,7 @@ use sat_words::Cref;
 use std::alloc::Global;
 use std::test::Fail;
 use test_formulas::Problem;
-use test_ports::{Crowd, Poll};
+use test_ports::{Crowd, Gift};
 
 /// The port in memory over a problem, on variables that literals can have.
 pub fn open_problem<L: LineOut + Drop>(
@@ -100,7 +100,7 @@ pub fn join_crowd<L: LineOut + Drop>(
     alloc: Global,
     inner: PlainPort<L>,
     alone: Job,
-    gift: Option<Poll>,
+    gift: Option<Gift>,
     quiet: u64,
     memory: bool,
 ) -> Result<(Crowd<L>, Job), Fail>

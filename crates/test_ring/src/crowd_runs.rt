@@ -7,7 +7,7 @@ use sat_words::{Lit, STOP_MEMORY, STOP_ROOM, Stop};
 use std::alloc::Global;
 use std::test::Fail;
 use test_formulas::Problem;
-use test_ports::{Poll, third_stop};
+use test_ports::{Gift, Poll, third_stop};
 
 /// By this seed the first words of the reference generator of ring 1 end in the bits 0: all are decided false.
 const SEED: u64 = 2;
@@ -42,7 +42,7 @@ fn opposed_clauses(alloc: Global) -> Result<Problem, Fail> {
 
 /// Runs the second of three rings on two clauses that oppose each other after two decisions. Another ring has a clause, and hands
 /// it over at the first such poll.
-fn run_on_two(alloc: Global, gift: Option<Poll>, quiet: u64, memory: bool) -> Result<Ran, Fail> {
+fn run_on_two(alloc: Global, gift: Option<Gift>, quiet: u64, memory: bool) -> Result<Ran, Fail> {
     let problem = opposed_clauses(alloc)?;
     let lines = CountedLines::new(problem.formula.clauses().len() as u64, 0);
     let (inner, alone) = begin(alloc, problem, 2, SEED, lines)?;
@@ -94,19 +94,51 @@ fn tells_that_memory_ran_out(rt: HostRuntime) -> Result<(), Fail> {
     Ok(())
 }
 
-/// The polls of the four classes of the first ring, and then of those of the third.
+/// The polls of the four classes of the first ring, and then of those of the third, each after one ask for a unit.
 static EACH_SLOT: [Poll; 8] = [
-    Poll { from: 0, class: 0 },
-    Poll { from: 0, class: 1 },
-    Poll { from: 0, class: 2 },
-    Poll { from: 0, class: 3 },
-    Poll { from: 2, class: 0 },
-    Poll { from: 2, class: 1 },
-    Poll { from: 2, class: 2 },
-    Poll { from: 2, class: 3 },
+    Poll {
+        from: 0,
+        class: 0,
+        caught_up: 1,
+    },
+    Poll {
+        from: 0,
+        class: 1,
+        caught_up: 1,
+    },
+    Poll {
+        from: 0,
+        class: 2,
+        caught_up: 1,
+    },
+    Poll {
+        from: 0,
+        class: 3,
+        caught_up: 1,
+    },
+    Poll {
+        from: 2,
+        class: 0,
+        caught_up: 1,
+    },
+    Poll {
+        from: 2,
+        class: 1,
+        caught_up: 1,
+    },
+    Poll {
+        from: 2,
+        class: 2,
+        caught_up: 1,
+    },
+    Poll {
+        from: 2,
+        class: 3,
+        caught_up: 1,
+    },
 ];
 
-// It polled each slot once, before it decided anything.
+// It polled each slot once, after it had asked for units and before it decided anything.
 #[test]
 fn polls_each_other_ring_at_its_start(rt: HostRuntime) -> Result<(), Fail> {
     let ran = run_on_two(rt.alloc(), None, 0, false)?;
@@ -120,7 +152,7 @@ fn polls_each_other_ring_at_its_start(rt: HostRuntime) -> Result<(), Fail> {
 #[test]
 fn searches_over_what_it_was_handed(rt: HostRuntime) -> Result<(), Fail> {
     for from in [0, 2] {
-        let gift = Poll { from, class: 0 };
+        let gift = Gift { from, class: 0 };
         let ran = run_on_two(rt.alloc(), Some(gift), 9, false)?;
         let End::Sat(model) = &ran.end else {
             return Err(Fail::from("no model"));

@@ -1,7 +1,7 @@
 use Rattle.std.proofs.Common.{inl, inr, ◌≡◌, ◌∙◌, ◌++◌, List, ◌≤◌, ◌<◌, ◌+◌, ℕ, ap, sym, subst, arith, refl, length, None, Bool, false, IsSome, Contains}
 use Rattle.std.specs.Prelude.{if◌then◌else◌}
 use Rattle.std.proofs.lemmas.Bool.{false≢true}
-use Rattle.ring_port.specs.PortState.{PortState, Slot, Holding, held_at}
+use Rattle.ring_port.specs.PortState.{PortState, Slot, Holding, held_at, one_more}
 use Rattle.ring_run.specs.Ended.{polls_of, LookedAlong, rounds, import_slots}
 use Rattle.ring_run.specs.Searching.{OffersNothing, GoesOn, IsHeldBy, Stands}
 use Rattle.rup_model.specs.Journal.{learned}
@@ -15,7 +15,7 @@ use Rattle.ring_run.proofs.Turning.{saw_search}
 use Rattle.ring_run.proofs.Learning.{goes_on_by}
 use Rattle.ring_run.proofs.Progress.{out_of_memory, recent_still}
 use Rattle.ring_run.proofs.Polling.{imported, imported_most, polls_same, polled_over, polled_halted, place_moved}
-use Rattle.ring_run.proofs.Slots.{slots_more, slots_imports}
+use Rattle.ring_run.proofs.Slots.{each_at, slots_more, slots_imports}
 use Rattle.ring_run.proofs.imports.import.Goals as goal
 use Rattle.ring_run.proofs.Numbering.{grown_none, reductions_still}
 use Rattle.ring_run.proofs.Remembering.{held_same}
@@ -229,14 +229,19 @@ returns-clause-took g c = λ on.
     let same = c.take_clauses.ensures.same in
     let trail : after.trail ≡ c.take_units.new.trail = ap (λ (r : Ring). r.trail) same in
     let slots = c.in-Ok.ensures.took in
+    let s = g.P.Port.state c.args.port.now in
+    let m = g.P.Port.state c.take_units.new.port in
+    let looked = c.take_units.ensures.caught_up c.in-True.is in
     record {
       middle = g.P.Port.state c.take_units.new.port;
       units = units.saw;
-      caught_up = c.take_units.ensures.caught_up c.in-True.is;
+      caught_up = looked;
       opening = units.taken.1;
       stands = subst (Stands (g.P.Port.state c.take_units.new.port)) (sym trail) units.taken.0;
       polled = c.take_clauses.ensures.only;
-      slots = record { polls = slots.polls; came = slots.came; few = slots.few; held = slots.held; taken = slots.taken; clauses = slots.clauses; imports = slots.imports };
+      slots = record { polls = slots.polls; moments = slots.moments; came = slots.came; few = slots.few; held = slots.held; taken = slots.taken; clauses = slots.clauses; imports = slots.imports };
+      moments = slots.moments ∙ ap (λ (ns : List ℕ). ns ++ each_at m.caught_up (import_slots m)) units.saw.polls_after ∙ ap (λ (n : ℕ). s.polls_after ++ each_at n (import_slots m)) looked
+          ∙ ap (λ (xs : List Slot). s.polls_after ++ each_at (one_more s.caught_up) xs) (slots_same s m units.saw.stays.ring units.saw.stays.rings);
       grown = subst (HasGrown ring.trail) (sym trail) units.grown;
       shape = subst IsTrail (sym trail) c.take_units.ensures.trail;
       bare = subst (λ (t : TrailData). (p : ℕ) → length ring.trail.steps ≤ p → p < length t.steps → reason_at t.steps p ≡ None) (sym trail) units.bare;

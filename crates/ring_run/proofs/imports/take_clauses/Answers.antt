@@ -1,4 +1,5 @@
 use Rattle.std.proofs.Common.{◌≡◌, ◌≢◌, ◌∙◌, ◌≤◌, ◌+◌, length, arith, ap, sym}
+use Rattle.ring_port.specs.PortState.{PortState}
 use Rattle.ring_port.specs.Exchange.{other_rings}
 use Rattle.ring_run.specs.declared.ring.Place.{Place}
 use Rattle.ring_run.specs.declared.ring.Ring.{Ring}
@@ -35,7 +36,7 @@ loop-from-preserved g c =
       search = taken.search;
       polled = omega (arith, taken.polled, i.polled, next);
       took = slots_then s (g.P.Port.state c.loop-from.port) (g.P.Port.state c.take_from.new.port) c.args.ring.now c.loop-from.ring c.take_from.new.ring (round_below s.ring c.loop-from.from) (slots_of c.loop-from.from)
-          (round_below s.ring (c.loop-from.from + 1)) i.took taken.took (round_other s.ring c.loop-from.from other);
+          (round_below s.ring (c.loop-from.from + 1)) i.took taken.took (ap (λ (x : PortState). x.caught_up) i.only.state) (round_other s.ring c.loop-from.from other);
       only = only_then s (g.P.Port.state c.loop-from.port) (g.P.Port.state c.take_from.new.port) i.only taken.only;
       same = taken.same ∙ ap (λ (r : Ring). record r { watches = c.take_from.new.ring.watches; imports = c.take_from.new.ring.imports }) i.same;
       port = taken.port;

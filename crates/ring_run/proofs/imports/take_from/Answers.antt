@@ -1,4 +1,5 @@
 use Rattle.std.proofs.Common.{◌∙◌, ◌+◌, ◌∷◌, [], arith, ap}
+use Rattle.ring_port.specs.PortState.{PortState}
 use Rattle.ring_run.specs.declared.ring.Ring.{Ring}
 use Rattle.ring_run.proofs.Importing.{only_then}
 use Rattle.ring_run.proofs.imports.take_from.Goals as goal
@@ -18,7 +19,7 @@ loop-class-preserved g c =
       search = taken.search;
       polled = omega (arith, taken.polled, i.polled);
       took = slots_then (g.P.Port.state c.args.port.now) (g.P.Port.state c.loop-class.port) (g.P.Port.state c.take_class.new.port) c.args.ring.now c.loop-class.ring c.take_class.new.ring (classes_below c.args.from c.loop-class.class)
-          (slot c.args.from c.loop-class.class ∷ []) (classes_below c.args.from (c.loop-class.class + 1)) i.took taken.took (class_more c.args.from c.loop-class.class);
+          (slot c.args.from c.loop-class.class ∷ []) (classes_below c.args.from (c.loop-class.class + 1)) i.took taken.took (ap (λ (x : PortState). x.caught_up) i.only.state) (class_more c.args.from c.loop-class.class);
       only = only_then (g.P.Port.state c.args.port.now) (g.P.Port.state c.loop-class.port) (g.P.Port.state c.take_class.new.port) i.only taken.only;
       same = taken.same ∙ ap (λ (r : Ring). record r { watches = c.take_class.new.ring.watches; imports = c.take_class.new.ring.imports }) i.same;
       port = taken.port;

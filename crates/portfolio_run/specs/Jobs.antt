@@ -5,7 +5,8 @@ use Rattle.ring_run.specs.declared.job.Counts.{Counts}
 use Rattle.ring_run.specs.declared.job.End.{End}
 use Rattle.ring_run.specs.declared.job.End.TheVariants.{Spent}
 use Rattle.ring_run.specs.declared.job.Job.{Job}
-use Rattle.ring_run.specs.Ended.{IsJobOf, IsUntouched, Stays, IsOwn, IsCounted, HasRestarted, HasPolled, ImportsBy, IsTidy, ReducesBy, AreNew, AreNewLines, AreSpaced, AreTimely, HoldsGlued, HasLooked, last_looks, Ends}
+use Rattle.ring_run.specs.Ended.{IsJobOf, IsUntouched, Stays, IsOwn, IsCounted, HasRestarted, HasPolled, ImportsBy, IsTidy, ReducesBy, AreNew, AreNewLines, AreSpaced, AreTimely, HoldsGlued, HoldsRecent, HasLooked, last_looks, Ends}
+use Rattle.ring_run.specs.Turn.{HasRun as RingHasRun}
 
 -- the job is this port's, which has done nothing yet
 pub record IsReady (s : PortState) (job : Job) : Type 0 where
@@ -23,6 +24,7 @@ pub record RanTo (old : PortState) (job : Job) (new : PortState) (end : End) (co
   pub spaced : AreSpaced new
   pub timely : AreTimely new
   pub glued : HoldsGlued old new
+  pub lately : HoldsRecent new
   pub looked : HasLooked (old.looks + counts.learned + last_looks end) new
   pub counted : IsCounted new counts
   pub restarted : HasRestarted old.ring job.conflicts counts
@@ -33,6 +35,7 @@ pub record RanTo (old : PortState) (job : Job) (new : PortState) (end : End) (co
   pub within : counts.learned ≤ job.conflicts
   pub spent : (end ≡ Spent) ↔ (counts.learned ≡ job.conflicts)
   pub ends : Ends new end
+  pub ran : RingHasRun old new job end counts
   pub port : IsPort new
 
 -- the ring has run

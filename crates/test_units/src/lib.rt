@@ -11,6 +11,8 @@ pub use learners::{
 pub use writers::{Writer, begin_writers, gather_writers, make_three, new_book, write_all};
 
 #[cfg(test)]
+mod tests_meeting;
+#[cfg(test)]
 mod tests_row;
 #[cfg(test)]
 mod tests_units;

@@ -2,6 +2,7 @@
 ghost use Rattle.std.specs.Prelude.{◌≤◌, ◌<◌, ◌^◌};
 
 use crate::learners::begin_over_three;
+use crate::tests_meeting::meet;
 use crate::tests_row::play;
 use crate::writers::{begin_writers, gather_writers, make_three, new_book, write_all};
 use io_edge::MemSink;
@@ -89,5 +90,25 @@ fn two_rings_hand_over(rt: HostRuntime) -> Result<(), Fail> {
     assert_eq!(rt; end, Ok(()));
     assert!(rt; sink.bytes() == b"1 2 0\n1 2 0\nd 1 2 0\n2 0\n".as_slice());
     assert_eq!(rt; lines.map(|lines| lines.len()), Some(4));
+    Ok(())
+}
+
+/// Two rings on threads take the turn in rounds, and each waits for the other before the next round. No ring sleeps for ever.
+#[test]
+fn two_rings_wake_each_other(rt: HostRuntime) -> Result<(), Fail> {
+    let problem = make_three(rt.alloc())?;
+    let sink = MemSink::new(rt.alloc(), 64, &[])?;
+    let book = new_book(rt.alloc(), &problem.formula, sink, false)?;
+    let (table, mut first, cells) = open_with(rt.alloc(), &problem, 2, 64, book)?;
+    let cell = start_cell(&first, cells.as_slice(), 0)?;
+    let zero = begin_over_three(&table, &mut first, 0, cell);
+    let one = begin_over_three(&table, &mut first, 1, cell);
+    let (zero, one) = meet(&rt, rt.alloc(), &table, zero, one);
+    gather(&table, &mut first, one);
+    gather(&table, &mut first, zero);
+    let book = close(table, first);
+    assert_eq!(rt; book.entries, 0);
+    let (end, _, _) = book.finish();
+    assert_eq!(rt; end, Ok(()));
     Ok(())
 }

@@ -1,6 +1,6 @@
 //! What the rings do, a call or two at a time.
-ghost use Rattle.std.specs.Prelude.{◌≡◌, ◌++◌, ◌∷◌, [], Some, IfOk, IfSome, OnOk, IsSome, MatchOption, length};
-ghost use Rattle.rup_model.specs.declared.journal.Kind.TheVariants.{UnitLine};
+ghost use Rattle.std.specs.Prelude.{◌≡◌, ◌++◌, ◌∷◌, [], Some, None, IfOk, IfSome, OnOk, IsSome, MatchOption, length};
+ghost use Rattle.rup_model.specs.declared.journal.Kind.TheVariants.{Learn, UnitLine};
 ghost use Rattle.ring_port.specs.PortState.{held_at, head_of, lits_at};
 ghost use Rattle.ring_port.specs.Port.{LearnedClause, WroteUnit};
 ghost use Rattle.ring_port.specs.Deleting.{IsNotTaken, DroppedOnce};
@@ -48,6 +48,18 @@ pub fn learn_pair<P: Port>(port: &mut P) -> Result<Cref, Miss>
     let lits = [Lit::new(1, false), Lit::new(2, false)];
     match port.learn(&lits, 1) {
         Ok(Some(c)) => Ok(c),
+        _ => Err(Miss::NotLearned),
+    }
+}
+
+/// Learns the unit 2, which is listed then.
+pub fn learn_two<P: Port>(port: &mut P) -> Result<(), Miss>
+    requires { IsBegun (P.state port.old) }
+    ensures learned { OnOk result (WroteUnit (P.state port.old) (P.state port.new) (plus 2) Learn None) }
+    ensures same { OnOk result (Stays (P.state port.old) (P.state port.new)) }
+{
+    match port.learn(&[Lit::new(2, false)], 1) {
+        Ok(None) => Ok(()),
         _ => Err(Miss::NotLearned),
     }
 }

@@ -1,5 +1,5 @@
 -- Arguments that are valid, and calls with such arguments.
-use Rattle.std.proofs.Common.{◌≡◌, ◌⊎◌, ℕ, true, false, List, [], Some, None, refl, ap, sym, subst, inl, inr, ◌∙◌, ◌≤◌, arith}
+use Rattle.std.proofs.Common.{◌≡◌, ◌⊎◌, ℕ, Bool, true, false, List, [], Some, None, refl, ap, sym, subst, inl, inr, ◌∙◌, ◌≤◌, arith}
 use Rattle.std.specs.Prelude.{IfSome, IsSome, is_some, option_map}
 use Rattle.std.specs.declared.option.Option.{Option}
 use Rattle.io_edge.specs.Causes.{Rose, one_more}
@@ -14,7 +14,7 @@ use Rattle.sat_words.specs.FormulaData.{FormulaData}
 use Rattle.rup_model.specs.declared.journal.Entry.{Entry}
 use Rattle.dimacs_read.specs.declared.stop.ReadStop.{ReadStop}
 use Rattle.dimacs_read.specs.declared.stop.ReadStop.TheVariants as read_stop
-use Rattle.top_call.specs.Run.{FaultCount, RoseIn, Run, Call, HasFile, IsStill, IsOpened, IsFileRead, source_of, text_of, text_in, text_left}
+use Rattle.top_call.specs.Run.{FaultCount, RoseIn, FailedLast, HasFailedLast, FileFailedLast, Run, Call, HasFile, IsStill, IsOpened, IsFileRead, source_of, text_of, text_in, text_left}
 use Rattle.top_call.specs.declared.plan.CallPlan.{CallPlan}
 use Rattle.top_call.specs.Planned.{plan_of}
 use Rattle.top_call.specs.Outcome.{RunOutcome, CallOutcome, IsCall, IsRun, IsWhole}
@@ -174,6 +174,24 @@ module _ {R : Type 0} (left : R → Option (List ℕ)) (faults : R → ℕ) (con
   pub file_kept : (input : Option (List ℕ)) (file : Option R) → IfSome file (λ reader. IsReadNoFurther (text_left left file input) (left reader))
   file_kept input None = tt
   file_kept input (Some reader) = unread (left reader)
+
+-- a file that was opened and failed
+module _ {R : Type 0} (left : R → Option (List ℕ)) (failed : R → Bool) (faults : R → ℕ) (contents : Option PathMap) where
+  -- from its opening on
+  pub opened_failed : (before after : R) → faults before ≡ 0 → FailedLast left failed faults before after → HasFailedLast left failed faults (left before) after
+  opened_failed before after none f = record { unread = f.unread; last = f.last; once = f.once ∙ ap one_more none }
+
+  file_failed : (input : Option (List ℕ)) (path : Option (List ℕ)) (file after : Option R) → IsOpened left faults contents path file → is_some after ≡ is_some file
+      → IfSome after (HasFailedLast left failed faults (text_left left file input)) → FileFailedLast left failed faults contents path after
+  file_failed input None file None is same h = refl
+  file_failed input None file (Some after) is same h = absurd (true≢false (same ∙ ap (λ (f : Option R). is_some f) is))
+  file_failed input (Some path) None after is same h = absurd is
+  file_failed input (Some path) (Some reader) None is same h = tt
+  file_failed input (Some path) (Some reader) (Some after) is same h = subst (λ (t : Option (List ℕ)). HasFailedLast left failed faults t after) is.0 h
+
+  pub call_failed : (input : Option (List ℕ)) (found : Option Command) (command : Command) (file after : Option R) → found ≡ Some command → IsOpened left faults contents command.file file → is_some after ≡ is_some file
+      → IfSome after (HasFailedLast left failed faults (text_left left file input)) → FileFailedLast left failed faults contents (file_path found) after
+  call_failed input found command file after is opened same h = subst (λ (x : Option Command). FileFailedLast left failed faults contents (file_path x) after) (sym is) (file_failed input command.file file after opened same h)
 
 -- arguments that are refused come to another status than a proof that could not be created
 pub words_status : (end : CallEnd) → IsWordsEnd end → status_of end ≡ 4 → ⊥

@@ -4,7 +4,7 @@ use Rattle.std.specs.declared.option.Option.{Option}
 use Rattle.io_edge.specs.Bytes.{GrowsBy, GrowsByPart}
 use Rattle.io_edge.specs.Causes.{Rose, one_more}
 use Rattle.io_edge.specs.Paths.{PathMap, told_at, told_target, IsThere}
-use Rattle.dimacs_read.specs.Answer.{IsReadNoFurther}
+use Rattle.dimacs_read.specs.Answer.{IsOpen, IsReadNoFurther}
 use Rattle.top_call.specs.declared.plan.CallPlan.{CallPlan}
 use Rattle.top_call.specs.Words.{command_of, file_path}
 use Rattle.top_call.specs.Planned.{plan_of}
@@ -98,8 +98,9 @@ pub record HasFile (call : Call) : Type 0 where
 abbrev pub RoseIn : FaultCount → Type 0
 RoseIn count = Rose count.before count.after
 
--- between these states of a source one read failed, and it was the last one
-pub record FailedLast {S : Type 0} (failed : S → Bool) (faults : S → ℕ) (old new : S) : Type 0 where
+-- between these states of a source one read failed, and it was the last one; what was read before does not determine what the text is
+pub record FailedLast {S : Type 0} (left : S → Option (List ℕ)) (failed : S → Bool) (faults : S → ℕ) (old new : S) : Type 0 where
+  pub unread : IsOpen (left old) (left new)
   pub last : failed new ≡ true
   pub once : faults new ≡ one_more (faults old)
 
@@ -136,6 +137,14 @@ abbrev pub IsFileRead : {R : Type 0} → (R → Option (List ℕ)) → Option Pa
 IsFileRead left contents None file = file ≡ None
 IsFileRead left contents (Some path) file = IfSome file (λ reader. IsReadNoFurther (told_at contents path) (left reader))
 
--- one read of the file that was opened failed, and it was the last one
-abbrev pub FileFailedLast : {R : Type 0} → (R → Bool) → (R → ℕ) → Option R → Type 0
-FileFailedLast failed faults file = IfSome file (λ reader. (failed reader ≡ true) × (faults reader ≡ 1))
+-- of a source that began with this text and no fault one read failed, and it was the last one; what was read before does not
+-- determine what the text is
+pub record HasFailedLast {R : Type 0} (left : R → Option (List ℕ)) (failed : R → Bool) (faults : R → ℕ) (text : Option (List ℕ)) (reader : R) : Type 0 where
+  pub unread : IsOpen text (left reader)
+  pub last : failed reader ≡ true
+  pub once : faults reader ≡ 1
+
+-- so it is of the file that was opened, if one was
+abbrev pub FileFailedLast : {R : Type 0} → (R → Option (List ℕ)) → (R → Bool) → (R → ℕ) → Option PathMap → Option (List ℕ) → Option R → Type 0
+FileFailedLast left failed faults contents None file = file ≡ None
+FileFailedLast left failed faults contents (Some path) file = IfSome file (HasFailedLast left failed faults (told_at contents path))

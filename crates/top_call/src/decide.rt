@@ -263,7 +263,7 @@ pub fn decide_over<H: Threads + Wait + Sync, S: Source, P: Sink + Send, O: Sink,
       out = output_between O.faults O.written O.flushed out.old out.new;
     }) }
     ensures rest { IsReadNoFurther (S.left source.old) (S.left source.new) }
-    ensures failed { status_of result.end ≡ 5 → FailedLast S.failed S.faults source.old source.new }
+    ensures failed { status_of result.end ≡ 5 → FailedLast S.left S.failed S.faults source.old source.new }
     ensures target { P.target result.proof ≡ P.target proof }
     ensures unprinted { prints_at (status_of result.end) ≡ false → out.new ≡ out.old }
 {

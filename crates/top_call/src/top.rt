@@ -5,7 +5,7 @@ ghost use Rattle.io_edge.specs.Paths.{IsEmptyWhereTold, IsThere};
 ghost use Rattle.top_call.specs.Words.{asked_by, command_of, file_path, make_number, proof_path};
 ghost use Rattle.top_call.specs.Planned.{plan_of, search_of, IsInRange};
 ghost use Rattle.dimacs_read.specs.Answer.{IsReadNoFurther};
-ghost use Rattle.top_call.specs.Run.{FailedLast, FileFailedLast, target_in, text_left, source_in, writer_of, faults_between, output_between, IsOpened, IsFileRead};
+ghost use Rattle.top_call.specs.Run.{FailedLast, HasFailedLast, FileFailedLast, target_in, text_left, source_in, writer_of, faults_between, output_between, IsOpened, IsFileRead};
 ghost use Rattle.top_call.specs.Outcome.{IsCall, IsRun};
 ghost use Rattle.top_call.specs.Tallied.{no_tally};
 ghost use Rattle.top_call.specs.Ends.{status_of, model_of, prints_at, leaves_input_at, leaves_files_at};
@@ -104,8 +104,8 @@ fn decide_read<
     ensures unread { is_some file ≡ true → input.new ≡ input.old }
     ensures input_rest { IsReadNoFurther (I.left input.old) (I.left input.new) }
     ensures file_rest { IfSome result.file (λ reader. IsReadNoFurther (text_left R.left file (I.left input.old)) (R.left reader)) }
-    ensures input_failed { status_of result.end ≡ 5 → result.file ≡ None → FailedLast I.failed I.faults input.old input.new }
-    ensures file_failed { status_of result.end ≡ 5 → FileFailedLast R.failed R.faults result.file }
+    ensures input_failed { status_of result.end ≡ 5 → result.file ≡ None → FailedLast I.left I.failed I.faults input.old input.new }
+    ensures file_failed { status_of result.end ≡ 5 → IfSome result.file (HasFailedLast R.left R.failed R.faults (text_left R.left file (I.left input.old))) }
     ensures ends { leaves_input_at (status_of result.end) ≡ false }
     ensures opened { leaves_files_at (status_of result.end) true ≡ false }
 {
@@ -177,8 +177,8 @@ fn decide<H: Threads + Wait + Sync, R: Source, I: Source, W: Sink + Send, O: Sin
     ensures made { is_some plan.now.make ≡ true → input.new ≡ input.old }
     ensures input_rest { IsReadNoFurther (I.left input.old) (I.left input.new) }
     ensures file_rest { IfSome result.file (λ reader. IsReadNoFurther (text_left R.left file (I.left input.old)) (R.left reader)) }
-    ensures input_failed { status_of result.end ≡ 5 → result.file ≡ None → FailedLast I.failed I.faults input.old input.new }
-    ensures file_failed { status_of result.end ≡ 5 → FileFailedLast R.failed R.faults result.file }
+    ensures input_failed { status_of result.end ≡ 5 → result.file ≡ None → FailedLast I.left I.failed I.faults input.old input.new }
+    ensures file_failed { status_of result.end ≡ 5 → IfSome result.file (HasFailedLast R.left R.failed R.faults (text_left R.left file (I.left input.old))) }
     ensures ends { leaves_input_at (status_of result.end) ≡ false }
     ensures opened { leaves_files_at (status_of result.end) true ≡ false }
 {
@@ -245,8 +245,8 @@ fn run<H: Threads + Wait + Sync, F: Files, I: Source, O: Sink, G: Gate + Sync>(
     ensures made_alone { is_some (make_number (command_of (map string_bytes words.now))) ≡ true → input.new ≡ input.old }
     ensures input_rest { IsReadNoFurther (I.left input.old) (I.left input.new) }
     ensures file_rest { IsFileRead F.Reader.left (F.contents files.old) (file_path (command_of (map string_bytes words.now))) result.file }
-    ensures input_failed { status_of result.end ≡ 5 → result.file ≡ None → FailedLast I.failed I.faults input.old input.new }
-    ensures file_failed { status_of result.end ≡ 5 → FileFailedLast F.Reader.failed F.Reader.faults result.file }
+    ensures input_failed { status_of result.end ≡ 5 → result.file ≡ None → FailedLast I.left I.failed I.faults input.old input.new }
+    ensures file_failed { status_of result.end ≡ 5 → FileFailedLast F.Reader.left F.Reader.failed F.Reader.faults (F.contents files.old) (file_path (command_of (map string_bytes words.now))) result.file }
     ensures file_unread { status_of result.end ≡ 4 → IsOpened F.Reader.left F.Reader.faults (F.contents files.old) (file_path (command_of (map string_bytes words.now))) result.file }
     ensures contents { F.contents files.new ≡ F.contents files.old }
     ensures unopened { leaves_files_at (status_of result.end) (is_some result.proof) ≡ true → files.new ≡ files.old }
@@ -361,8 +361,8 @@ pub fn gimsatul<H: Threads + Wait + Sync, F: Files, I: Source, O: Sink, E: Sink,
     ensures made_alone { is_some (make_number (command_of (map string_bytes words.now))) ≡ true → input.new ≡ input.old }
     ensures input_rest { IsReadNoFurther (I.left input.old) (I.left input.new) }
     ensures file_rest { IsFileRead F.Reader.left (F.contents files.old) (file_path (command_of (map string_bytes words.now))) result.file }
-    ensures input_failed { result.status ≡ 5 → result.file ≡ None → FailedLast I.failed I.faults input.old input.new }
-    ensures file_failed { result.status ≡ 5 → FileFailedLast F.Reader.failed F.Reader.faults result.file }
+    ensures input_failed { result.status ≡ 5 → result.file ≡ None → FailedLast I.left I.failed I.faults input.old input.new }
+    ensures file_failed { result.status ≡ 5 → FileFailedLast F.Reader.left F.Reader.failed F.Reader.faults (F.contents files.old) (file_path (command_of (map string_bytes words.now))) result.file }
     ensures file_unread { result.status ≡ 4 → IsOpened F.Reader.left F.Reader.faults (F.contents files.old) (file_path (command_of (map string_bytes words.now))) result.file }
     ensures contents { F.contents files.new ≡ F.contents files.old }
     ensures unopened { leaves_files_at result.status (is_some result.proof) ≡ true → files.new ≡ files.old }

@@ -1,5 +1,8 @@
 use Rattle.std.proofs.Common.{ℕ, [], refl, subst, sym}
 use Rattle.std.specs.declared.option.Option.{Option}
+use Rattle.std.specs.Prelude.{Err}
+use Rattle.dimacs_read.specs.Answer.{IsAnswer}
+use Rattle.dimacs_read.specs.declared.stop.ReadStop.{ReadStop}
 use Rattle.top_call.specs.Input.{WasGiven}
 use Rattle.top_call.proofs.Finishes.{no_formula, unread, unread_end}
 use Rattle.top_call.proofs.Lawful.{rose_once, still_run, read_failed}
@@ -23,7 +26,7 @@ returns-clause-outcome g c =
 pub returns-in-Err-clause-failed : goal.returns-in-Err-clause-failed
 returns-in-Err-clause-failed g c = λ e.
     let failed = read_failed c.in-Err.stop c.read_end-end.result c.read_end-end.ensures e in
-    record { last = c.in-Err.ensures.failed (cc failed); once = c.in-Err.ensures.fault (cc failed) }
+    record { unread = subst (λ (stop : ReadStop). IsAnswer (g.S.Source.left c.args.source.now) (g.S.Source.left c.read.new.source) (Err stop)) failed c.in-Err.ensures.answer; last = c.in-Err.ensures.failed (cc failed); once = c.in-Err.ensures.fault (cc failed) }
 
 pub returns-clause-failed : goal.returns-clause-failed
 returns-clause-failed g c = λ e. absurd

@@ -1,5 +1,5 @@
 -- What a search keeps of its port and its trail.
-use Rattle.std.specs.Prelude.{◌≡◌, ◌⊎◌, ℕ, ◌+◌, ◌-◌, ◌^◌, min, ◌<◌, ◌≤◌, true, false, List, [], ◌∷◌, ◌++◌, map, length, drop, All, Contains, Option, Some, None, IsSome}
+use Rattle.std.specs.Prelude.{◌≡◌, ◌⊎◌, ℕ, ◌+◌, ◌-◌, ◌^◌, min, ◌<◌, ◌≤◌, ◌||◌, true, false, List, [], ◌∷◌, ◌++◌, map, length, drop, All, Contains, Option, Some, None, IsSome}
 use Rattle.std.specs.List.{list_any}
 use Rattle.sat_words.specs.Literal.{Literal}
 use Rattle.sat_words.specs.Clause.{has, is_empty}
@@ -122,11 +122,15 @@ IsLineOfUnit r (Add x) = (x.ring ≡ r) × (x.kind ≡ UnitLine) × (length x.li
 IsLineOfUnit r (Del q n) = ⊥
 IsLineOfUnit r (Reduce q) = ⊥
 
--- lines of units were written, which are seen then, and nothing else was done; units that others listed meanwhile may be kept
+-- lines of units were written, and nothing else was done; the units seen are those seen before and those whose lines were written; if a
+-- line was written, units that others listed meanwhile may be kept, and more looks that found no other listed may be counted
 pub record ToldUnits (old new : PortState) : Type 0 where
   pub entries : List Entry
   pub units : All (IsLineOfUnit old.ring) entries
   pub mine : new.mine ≡ old.mine ++ entries
+  pub sees : (k : Literal) → has new.seen k ≡ (has old.seen k || adds_unit old.ring entries k)
+  pub looked : old.caught_up ≤ new.caught_up
+  pub idle : entries ≡ [] → (new.caught_up ≡ old.caught_up) × (new.kept ≡ old.kept)
   pub state : new ≡ record old { seen = new.seen; kept = new.kept; caught_up = new.caught_up; mine = new.mine; output = new.output }
 
 -- one look found no stop, and after it lines of units may have been written

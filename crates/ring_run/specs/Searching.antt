@@ -77,7 +77,8 @@ abbrev pub HasLent : PortState → PortState → Option Cref → (exported offer
 HasLent old new None exported offered more told = (new ≡ old) × (more ≡ exported) × (told ≡ offered)
 HasLent old new (Some c) exported offered more told = HasLentBy old new (class_at old c.address) c.address exported offered more told
 
--- of what is listed here no call has changed more than what is seen
+-- no unit seen is forgotten, and no look for units, as far as these are counted; more of both may have come; what else is listed here is
+-- as it was
 pub record OnlySaw (old new : PortState) : Type 0 where
   pub stays : Stays old new
   pub shared : new.shared ≡ old.shared

@@ -62,11 +62,13 @@ pub record SpentTurn (s u : PortState) (old new : Ring) : Type 0 where
   pub propagated : HasPropagated s old middle
   pub learned : MetConflict s u middle new (Finish Spent)
 
--- each variable that is decided has a value, and the assignment makes the literals of the trail true
+-- each variable that is decided has a value, and the assignment makes the literals of the trail true; a variable without a value is
+-- false
 pub record IsModelFound (ring : Ring) (a : List Bool) : Type 0 where
   pub valued : AllValued ring.decider ring.trail.steps
   pub long : length a ≡ ring.trail.vars
   pub true_there : (l : Literal) → IsTrueOn ring.trail.steps l → lit_true a l ≡ true
+  pub rest : (l : Literal) → l.neg ≡ false → lit_true a l ≡ true → IsTrueOn ring.trail.steps l
 
 -- what a decision comes to: it was made, or there was none to make and so a model, for which there may be no memory
 abbrev pub EndsDeciding : Ring → Ring → Next → Type 0

@@ -16,11 +16,11 @@ use Rattle.ring_run.proofs.Remembering.{adds_append, adds_one}
 use Rattle.ring_run.specs.Ending.{HaltsTelling, end_refused}
 use Rattle.ring_run.specs.declared.job.End.{End}
 
-or_none : (b : Bool) → (b || false) ≡ b
+pub or_none : (b : Bool) → (b || false) ≡ b
 or_none true = refl
 or_none false = refl
 
-or_assoc : (a b c : Bool) → ((a || b) || c) ≡ (a || (b || c))
+pub or_assoc : (a b c : Bool) → ((a || b) || c) ≡ (a || (b || c))
 or_assoc true b c = refl
 or_assoc false b c = refl
 

@@ -255,10 +255,9 @@ pub record PolledSome (old new : PortState) (slots : List Slot) : Type 0 where
   pub along : LookedAlong old new slots
   pub moments : new.polls_after ≡ old.polls_after ++ map (λ (_slot : Slot). old.caught_up) along.looked
 
--- an import at level 0: first more units may have come to be seen, and one look found no other listed; each unit that is seen then is
--- true, and those of the opening are among them; after that the slots of each other ring were looked into, in order, and nothing else was
--- done at the port; it has noted of each of these slots that just one look more had found no other unit listed; what became true has no
--- reason
+-- an import at level 0: first units came, until one look found no other listed; each unit that is seen then is true, and those of the
+-- opening are among them; after that the slots of each other ring were looked into, in order, and nothing else was done at the port; it has
+-- noted of each of these slots that it was looked into after one look more that found no other unit listed; what became true has no reason
 pub record TookImport (old new : PortState) (before after : Ring) : Type 0 where
   pub middle : PortState
   pub units : OnlySaw old middle

@@ -77,8 +77,8 @@ abbrev pub HasLent : PortState → PortState → Option Cref → (exported offer
 HasLent old new None exported offered more told = (new ≡ old) × (more ≡ exported) × (told ≡ offered)
 HasLent old new (Some c) exported offered more told = HasLentBy old new (class_at old c.address) c.address exported offered more told
 
--- no unit seen is forgotten, and no look for units, as far as these are counted; more of both may have come; what else is listed here is
--- as it was
+-- units may have come, and looks that found no other listed may have been counted, and nothing else was done; the port notes what came, in
+-- order, and the units seen are those seen before and those that came; no look is forgotten, as far as these are counted
 pub record OnlySaw (old new : PortState) : Type 0 where
   pub stays : Stays old new
   pub shared : new.shared ≡ old.shared
@@ -94,6 +94,10 @@ pub record OnlySaw (old new : PortState) : Type 0 where
   pub refused : new.refused ≡ old.refused
   pub looks : new.looks ≡ old.looks
   pub more : (l : Literal) → has old.seen l ≡ true → has new.seen l ≡ true
+  pub came : List Literal
+  pub given : new.given ≡ old.given ++ came
+  pub sees : (l : Literal) → has new.seen l ≡ (has old.seen l || has came l)
+  pub state : new ≡ record old { seen = new.seen; given = new.given; coming = new.coming; kept = new.kept; caught_up = new.caught_up }
 
 -- no call has changed more than what is held and taken, and where, when and how often the ring has polled; what was held still is
 pub record OnlyPolled (old new : PortState) : Type 0 where

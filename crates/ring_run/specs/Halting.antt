@@ -111,8 +111,7 @@ pub record HaltsTaking (s middle u : PortState) (end : End) : Type 0 where
   pub polled : PolledSome middle u (import_slots middle)
   pub memory : end ≡ Memory
 
--- units came, and one of them is false, so that the empty clause was to be written; or none of them is, and clauses came until there was
--- no memory
+-- units came; then the empty clause was to be written, or clauses came until there was no memory
 pub record HaltsImporting (s u : PortState) (end : End) : Type 0 where
   pub middle : PortState
   pub units : OnlySaw s middle

@@ -27,13 +27,13 @@ quietly_halted s u old new ProofFault h how = how
 quietly_halted s u old new Memory h how = how
 
 -- and so it does where an import was yet to be
-pub quietly_renewing : (s w u : PortState) (old ring new : Ring) (course : Next) → IsOnOrRefused course → old.import_due ≡ true → ring ≡ record old { written = ring.written } → CountsAlike old new → HasTold s w → HaltsBy (HaltsRenewing w u ring) course
+pub quietly_renewing : (s w u : PortState) (old ring new : Ring) (course : Next) → IsOnOrRefused course → old.import_due ≡ true → ring ≡ record old { written = ring.written } → CountsAlike old new → HasTold s w → FixedSeen w old.trail → HaltsBy (HaltsRenewing w u ring) course
     → EndsQuietly s u old new course
-quietly_renewing s w u old ring new Go h due same counts told how = tt
-quietly_renewing s w u old ring new (Finish end) h due same counts told how = quietly_halted s u old new end h (counts, w, told, inr (due, ring, same, how))
+quietly_renewing s w u old ring new Go h due same counts told seen how = tt
+quietly_renewing s w u old ring new (Finish end) h due same counts told seen how = quietly_halted s u old new end h (counts, w, told, inr (seen, due, ring, same, how))
 
 found_alike : (old : Ring) (written : ℕ) (a : List Bool) → IsModelFound (record old { written = written }) a → IsModelFound old a
-found_alike old written a p = record { valued = p.valued; long = p.long; true_there = p.true_there }
+found_alike old written a p = record { valued = p.valued; long = p.long; true_there = p.true_there; rest = p.rest }
 
 -- what a decision comes to after a look and lines of units
 pub quietly_decided : (s w : PortState) (old ring new : Ring) (course : Next) → old.import_due ≡ false → ring ≡ record old { written = ring.written } → CountsAlike old new → HasTold s w → FixedSeen w old.trail → EndsDeciding ring new course → EndsQuietly s w old new course

@@ -37,3 +37,4 @@ pub mod Shrinking
 pub mod Halted
 pub mod LeftBehind
 pub mod ReducedImports
+pub mod Models

@@ -1,9 +1,9 @@
 -- What a ring learned and wrote is among what is attached and seen.
-use Rattle.std.proofs.Common.{◌≡◌, ◌∙◌, ℕ, ◌==◌, ◌≤◌, ◌⊎◌, inl, inr, Bool, true, false, not, List, [], ◌∷◌, ◌++◌, length, map, cond, sym, subst, ap, arith, refl, Contains}
-use Rattle.std.specs.Prelude.{All, ◌&&◌}
+use Rattle.std.proofs.Common.{◌≡◌, ◌∙◌, ℕ, ◌==◌, ◌≤◌, ◌⊎◌, inl, inr, Bool, true, false, not, List, [], ◌∷◌, ◌++◌, length, map, cond, sym, subst, ap, arith, refl, Contains, eq-eqb}
+use Rattle.std.specs.Prelude.{All, ◌&&◌, ◌||◌}
 use Rattle.std.specs.List.{list_any, list_all, filter}
 use Rattle.std.specs.declared.option.Option.{Option}
-use Rattle.std.proofs.lemmas.Bool.{or_left, or_right, or_cases, and_parts, false≢true}
+use Rattle.std.proofs.lemmas.Bool.{or_left, or_right, or_cases, and_parts, and_from, false≢true}
 use Rattle.std.proofs.lemmas.List.{map-append}
 use Rattle.std.proofs.lemmas.List.Elements.{filter-append}
 use Rattle.std.proofs.lemmas.List.Folds.{list_any-append}
@@ -81,16 +81,19 @@ recent_cases r J x d h =
       | inr new ↦ inr (learned_is r x d new)
     ]
 
-pub unit_cases : (r : ℕ) (J : List Entry) (x : Addition) (l : Literal) → adds_unit r (J ++ Add x ∷ []) l ≡ true → (adds_unit r J l ≡ true) ⊎ (same_set (l ∷ []) x.lits ≡ true)
-unit_cases r J x l h =
+-- the units of entries and of more after them
+pub adds_append : (r : ℕ) (J K : List Entry) (l : Literal) → adds_unit r (J ++ K) l ≡ (adds_unit r J l || adds_unit r K l)
+adds_append r J K l =
     let p : Addition → Bool = λ y. y.ring == r in
     let lits : Addition → List Literal = λ y. y.lits in
-    let parts : map lits (filter p (additions (J ++ Add x ∷ []))) ≡ map lits (filter p (additions J)) ++ map lits (filter p (x ∷ []))
-    = ap (λ (ys : List Addition). map lits (filter p ys)) (additions-append J (Add x ∷ [])) ∙ ap (map lits) (filter-append p (additions J) (x ∷ []))
-    ∙ map-append lits (filter p (additions J)) (filter p (x ∷ [])) in
-    elim (or_cases (adds_unit r J l) (list_any (same_set (l ∷ [])) (map lits (filter p (x ∷ []))))
-    (sym (ap (list_any (same_set (l ∷ []))) parts ∙ list_any-append (same_set (l ∷ [])) (map lits (filter p (additions J))) (map lits (filter p (x ∷ [])))) ∙ h))
-    as (λ _. (adds_unit r J l ≡ true) ⊎ (same_set (l ∷ []) x.lits ≡ true)) [
+    let parts : map lits (filter p (additions (J ++ K))) ≡ map lits (filter p (additions J)) ++ map lits (filter p (additions K))
+    = ap (λ (ys : List Addition). map lits (filter p ys)) (additions-append J K) ∙ ap (map lits) (filter-append p (additions J) (additions K))
+    ∙ map-append lits (filter p (additions J)) (filter p (additions K)) in
+    ap (list_any (same_set (l ∷ []))) parts ∙ list_any-append (same_set (l ∷ [])) (map lits (filter p (additions J))) (map lits (filter p (additions K)))
+
+pub unit_cases : (r : ℕ) (J : List Entry) (x : Addition) (l : Literal) → adds_unit r (J ++ Add x ∷ []) l ≡ true → (adds_unit r J l ≡ true) ⊎ (same_set (l ∷ []) x.lits ≡ true)
+unit_cases r J x l h =
+    elim (or_cases (adds_unit r J l) (adds_unit r (Add x ∷ []) l) (sym (adds_append r J (Add x ∷ []) l) ∙ h)) as (λ _. (adds_unit r J l ≡ true) ⊎ (same_set (l ∷ []) x.lits ≡ true)) [
       | inl old ↦ inl old
       | inr new ↦ inr (by (x.ring == r) new)
     ]
@@ -109,6 +112,28 @@ same_unit l k e = by (and_parts (list_all (has (l ∷ [])) (k ∷ [])) (list_all
           | inl is ↦ same-true l k is
           | inr none ↦ absurd (false≢true none)
         ]
+
+-- the line of a unit adds that unit
+pub adds_one : (r : ℕ) (x : Addition) (l k : Literal) → x.ring ≡ r → x.lits ≡ l ∷ [] → adds_unit r (Add x ∷ []) k ≡ same l k
+adds_one r x l k ring lits = alike (adds_unit r (Add x ∷ []) k) (same l k) (λ h.
+    elim (unit_cases r [] x k h) as (λ _. same l k ≡ true) [
+      | inl none ↦ absurd (false≢true none)
+      | inr is ↦ ap (same l) (same_unit k l (ap (same_set (k ∷ [])) (sym lits) ∙ is)) ∙ same-refl l
+    ]) (λ h. by (x.ring == r) (eq-eqb x.ring r ring) (ap (same_set (k ∷ [])) lits ∙ ap (λ (m : Literal). same_set (k ∷ []) (m ∷ [])) (same-true l k h) ∙ own k))
+  where
+    own : (m : Literal) → same_set (m ∷ []) (m ∷ []) ≡ true
+    own m =
+        let inside : (has (m ∷ []) m && true) ≡ true = and_from (has (m ∷ []) m) true (or_left (same m m) false (same-refl m)) refl in
+        and_from (list_all (has (m ∷ [])) (m ∷ [])) (list_all (has (m ∷ [])) (m ∷ [])) inside inside
+
+    alike : (b c : Bool) → (b ≡ true → c ≡ true) → (c ≡ true → b ≡ true) → b ≡ c
+    alike true c there back = sym (there refl)
+    alike false true there back = back refl
+    alike false false there back = refl
+
+    by : (b : Bool) → b ≡ true → same_set (k ∷ []) x.lits ≡ true → list_any (same_set (k ∷ [])) (map (λ (y : Addition). y.lits) (cond b (x ∷ []) [])) ≡ true
+    by true is e = or_left (same_set (k ∷ []) x.lits) false e
+    by false is e = absurd (false≢true is)
 
 -- no clause of two literals that differ is a unit
 pub no_unit : (l : Literal) (c : List Literal) → 2 ≤ length c → distinct_lits c ≡ true → same_set (l ∷ []) c ≡ true → ⊥

@@ -1,5 +1,5 @@
 -- What comes from slots, one after another.
-use Rattle.std.proofs.Common.{◌≡◌, ◌∙◌, ℕ, List, [], ◌∷◌, ◌++◌, Contains, map, sym, subst, ap, arith, append-nil, append_assoc, length-append, inl, inr}
+use Rattle.std.proofs.Common.{◌≡◌, ◌∙◌, ℕ, List, [], ◌∷◌, ◌++◌, Contains, map, sym, subst, ap, arith, refl, append-nil, append_assoc, length-append, inl, inr}
 use Rattle.std.specs.Prelude.{All}
 use Rattle.std.proofs.lemmas.List.{map-append}
 use Rattle.sat_words.specs.declared.shared.Cref.{Cref}
@@ -9,9 +9,9 @@ use Rattle.ring_port.proofs.LogSteps.{In_All}
 use Rattle.watch_prop.specs.WatchData.{attached}
 use Rattle.ring_port.specs.PortState.{PortState, Slot, Holding}
 use Rattle.ring_port.specs.Exchange.{TookClause, looked_into}
-use Rattle.ring_run.specs.Renewal.{TookSlots}
+use Rattle.ring_run.specs.Renewal.{TookSlots, PolledSome}
 use Rattle.ring_run.specs.declared.ring.Ring.{Ring}
-use Rattle.ring_run.proofs.Rounds.{slot}
+use Rattle.ring_run.proofs.Rounds.{IsFront, front_then, front_more, slot}
 
 abbrev addresses_of : List Holding → List ℕ
 addresses_of hs = map (λ (h : Holding). h.address) hs
@@ -84,6 +84,40 @@ slots_then s m u old between new xs ys slots p q unlooked is = subst (TookSlots 
 
 pub slots_as : (s u : PortState) (old new : Ring) (xs slots : List Slot) → xs ≡ slots → TookSlots s u old new xs → TookSlots s u old new slots
 slots_as s u old new xs slots is p = subst (TookSlots s u old new) is p
+
+-- Some of the slots
+
+some_front : (s u : PortState) (xs slots : List Slot) → u.polls ≡ s.polls ++ xs → u.polls_after ≡ s.polls_after ++ each_at s.caught_up xs → IsFront xs slots → PolledSome s u slots
+some_front s u xs slots polls moments front = record { along = record { looked = xs; left = front.0; polls = polls; parts = front.1 }; moments = moments }
+
+-- none yet
+pub some_none : (s u : PortState) (slots : List Slot) → u ≡ s → PolledSome s u slots
+some_none s u slots is = record {
+  along = record { looked = []; left = slots; polls = ap (λ (x : PortState). x.polls) is ∙ sym (append-nil s.polls); parts = refl };
+  moments = ap (λ (x : PortState). x.polls_after) is ∙ sym (append-nil s.polls_after);
+}
+
+-- just one
+pub some_looked : (s u : PortState) (from class : ℕ) → u ≡ looked_into from class s → PolledSome s u (slot from class ∷ [])
+some_looked s u from class is = some_front s u (slot from class ∷ []) (slot from class ∷ []) (ap (λ (x : PortState). x.polls) is) (ap (λ (x : PortState). x.polls_after) is) ([], refl)
+
+pub some_took : (s u w : PortState) (from class : ℕ) (c : Cref) → TookClause s u from class c → w ≡ u → PolledSome s w (slot from class ∷ [])
+some_took s u w from class c took same = subst (λ (x : PortState). PolledSome s x (slot from class ∷ [])) (sym same)
+    (some_front s u (slot from class ∷ []) (slot from class ∷ []) (ap (λ (x : PortState). x.polls) took.state) (ap (λ (x : PortState). x.polls_after) took.state) ([], refl))
+
+-- those of a step, among more
+pub some_slots : (s u : PortState) (old new : Ring) (xs slots : List Slot) → TookSlots s u old new xs → IsFront xs slots → PolledSome s u slots
+some_slots s u old new xs slots p front = some_front s u xs slots p.polls p.moments front
+
+-- and after these some of the next ones
+pub some_then : (s m u : PortState) (old between : Ring) (done xs slots : List Slot) → TookSlots s m old between done → m.caught_up ≡ s.caught_up → PolledSome m u xs → IsFront (done ++ xs) slots → PolledSome s u slots
+some_then s m u old between done xs slots p unlooked q front =
+    let some = q.along.looked in
+    some_front s u (done ++ some) slots (joined s.polls m.polls u.polls done some p.polls q.along.polls)
+    (joined s.polls_after m.polls_after u.polls_after (each_at s.caught_up done) (each_at m.caught_up some) p.moments q.moments
+    ∙ ap (λ (n : ℕ). s.polls_after ++ (each_at s.caught_up done ++ each_at n some)) unlooked
+    ∙ ap (λ (ns : List ℕ). s.polls_after ++ ns) (sym (map-append (λ (_x : Slot). s.caught_up) done some)))
+    (front_then (done ++ some) (done ++ xs) slots (front_more done some xs (q.along.left, q.along.parts)) front)
 
 -- what was attached still is
 pub slots_more : (s u : PortState) (old new : Ring) (slots : List Slot) → TookSlots s u old new slots → (d : Cref) → Contains (attached old.watches) d → Contains (attached new.watches) d

@@ -1,17 +1,18 @@
 -- What is seen, and what is true for good.
-use Rattle.std.proofs.Common.{◌≡◌, ◌∙◌, ℕ, ◌<◌, ◌≤◌, true, false, not, List, [], ◌∷◌, ◌++◌, length, sym, subst, ap, arith, inl, inr, ◌⊎◌, None, append_assoc, length-append}
+use Rattle.std.proofs.Common.{◌≡◌, ◌∙◌, ℕ, ◌-◌, ◌<◌, ◌≤◌, ◌||◌, Bool, true, false, not, List, [], ◌∷◌, ◌++◌, length, sym, subst, ap, arith, inl, inr, ◌⊎◌, None, refl, append-nil, append_assoc, length-append}
 use Rattle.std.specs.Option.{option_map}
 use Rattle.std.specs.declared.option.Option.{Option}
 use Rattle.std.proofs.lemmas.Bool.{or_left, or_right, or_cases, false≢true}
 use Rattle.std.proofs.lemmas.List.{get_or_append_left}
 use Rattle.std.proofs.lemmas.List.Elements.{All-append, All-cons, All-nil}
+use Rattle.std.proofs.lemmas.List.Folds.{list_any-append}
 use Rattle.std.proofs.Math.Seq.{get_or-append_seam}
 use Rattle.sat_words.specs.Literal.{Literal, same}
 use Rattle.sat_words.specs.Clause.{has}
 use Rattle.sat_words.specs.declared.shared.Cref.{Cref}
-use Rattle.sat_words.proofs.Members.{same-true, same-refl}
+use Rattle.sat_words.proofs.Members.{same-true, same-refl, same_equiv}
 use Rattle.rup_model.specs.Rup.{rup}
-use Rattle.ring_port.specs.PortState.{PortState, IsPort, known}
+use Rattle.ring_port.specs.PortState.{PortState, IsPort, known, one_more}
 use Rattle.ring_port.specs.Port.{TookUnit, TookNone, WroteUnit, Sees}
 use Rattle.rup_model.specs.declared.journal.Kind.{Kind}
 use Rattle.rup_model.specs.declared.journal.Kind.TheVariants.{UnitLine}
@@ -31,6 +32,7 @@ use Rattle.ring_port.specs.PortState.{clause_at}
 use Rattle.ring_run.specs.Searching.{OnlySaw, OpeningSeen, Stands}
 use Rattle.ring_run.proofs.LevelZero.{false_at_zero}
 use Rattle.ring_run.proofs.Remembering.{HoldsAlike, held_same, clause_alike, clause_at_same}
+use Rattle.ring_run.proofs.Told.{or_none, or_assoc}
 
 -- a literal that is true stays so as the trail grows
 pub within_more : (steps more : List TrailStep) (k : ℕ) (l : Literal) → TrueWithin steps k l → TrueWithin (steps ++ more) k l
@@ -95,6 +97,51 @@ sees_old old new l k sees h = sees k ∙ or_left (has old k) (same l k) h
 pub sees_new : (old new : List Literal) (l : Literal) → Sees old new l → has new l ≡ true
 sees_new old new l sees = sees l ∙ or_right (has old l) (same l l) (same-refl l)
 
+-- nothing but what is seen, given and yet to come has changed, and how many looks found no more
+abbrev OnlySeen : PortState → PortState → Type 0
+OnlySeen s u = u ≡ record s { seen = u.seen; given = u.given; coming = u.coming; kept = u.kept; caught_up = u.caught_up }
+
+unit_alone : (u w : PortState) (l : Literal) → TookUnit u w l → OnlySeen u w
+unit_alone u w l took = subst (OnlySeen u) (sym took.state) (of w.seen w.coming)
+  where
+    of : (seen : List Literal) (coming : ℕ) → OnlySeen u (record u { seen = seen; given = u.given ++ l ∷ []; coming = coming; kept = u.kept - 1 })
+    of seen coming = refl
+
+look_alone : (u w : PortState) → TookNone u w → OnlySeen u w
+look_alone u w took = subst (OnlySeen u) (sym took.state) of
+  where
+    of : OnlySeen u (record u { caught_up = one_more u.caught_up })
+    of = refl
+
+alone_then : (s u w : PortState) → OnlySeen s u → OnlySeen u w → OnlySeen s w
+alone_then s u w p q = q ∙ ap (λ (x : PortState). record x { seen = w.seen; given = w.given; coming = w.coming; kept = w.kept; caught_up = w.caught_up }) p
+
+-- one more came
+came_more : (came : List Literal) (l k : Literal) → has (came ++ l ∷ []) k ≡ (has came k || same l k)
+came_more came l k = list_any-append (same k) came (l ∷ []) ∙ ap (λ (b : Bool). has came k || b) (or_none (same k l) ∙ same_equiv.symm k l)
+
+pub saw_begin : (s : PortState) → OnlySaw s s
+saw_begin s = record {
+  stays = record { start = refl; opening = refl; vars = refl; ring = refl; rings = refl; polled = omega arith; home = refl; log = λ o h. h };
+  shared = refl;
+  polled = refl;
+  polls = refl;
+  polls_after = refl;
+  caught_up = omega arith;
+  waiting = refl;
+  taken = refl;
+  held = refl;
+  mine = refl;
+  stop = refl;
+  refused = refl;
+  looks = refl;
+  more = λ k h. h;
+  came = [];
+  given = sym (append-nil s.given);
+  sees = λ k. sym (or_none (has s.seen k));
+  state = refl;
+}
+
 pub saw_more : (s u w : PortState) (l : Literal) → OnlySaw s u → TookUnit u w l → KeepsLog u w → OnlySaw s w
 saw_more s u w l p took log =
     record {
@@ -121,6 +168,10 @@ saw_more s u w l p took log =
       refused = ap (λ (x : PortState). x.refused) took.state ∙ p.refused;
       looks = ap (λ (x : PortState). x.looks) took.state ∙ p.looks;
       more = λ k h. sees_old u.seen w.seen l k took.sees (p.more k h);
+      came = p.came ++ l ∷ [];
+      given = ap (λ (x : PortState). x.given) took.state ∙ ap (λ (ls : List Literal). ls ++ l ∷ []) p.given ∙ append_assoc s.given p.came (l ∷ []);
+      sees = λ k. took.sees k ∙ ap (λ (b : Bool). b || same l k) (p.sees k) ∙ or_assoc (has s.seen k) (has p.came k) (same l k) ∙ ap (λ (b : Bool). has s.seen k || b) (sym (came_more p.came l k));
+      state = alone_then s u w p.state (unit_alone u w l took);
     }
 
 -- a look that found no other unit
@@ -149,6 +200,10 @@ saw_none s u w p took log = record {
   refused = ap (λ (x : PortState). x.refused) took.state ∙ p.refused;
   looks = ap (λ (x : PortState). x.looks) took.state ∙ p.looks;
   more = λ k h. ap (λ (ls : List Literal). has ls k) (ap (λ (x : PortState). x.seen) took.state) ∙ p.more k h;
+  came = p.came;
+  given = ap (λ (x : PortState). x.given) took.state ∙ p.given;
+  sees = λ k. ap (λ (ls : List Literal). has ls k) (ap (λ (x : PortState). x.seen) took.state) ∙ p.sees k;
+  state = alone_then s u w p.state (look_alone u w took);
 }
 
 pub stands_none : (u w : PortState) (t : TrailData) → Stands u t → TookNone u w → Stands w t

@@ -2,7 +2,7 @@
 use Rattle.std.specs.Prelude.{◌≡◌, ◌⊎◌, ℕ, ◌+◌, List, [], ◌∷◌, ◌++◌, drop, All, Contains}
 use Rattle.sat_words.specs.Literal.{Literal}
 use Rattle.sat_words.specs.declared.shared.Cref.{Cref}
-use Rattle.ring_port.specs.PortState.{PortState}
+use Rattle.ring_port.specs.PortState.{PortState, one_more}
 use Rattle.ring_port.specs.Deleting.{TidiedSome}
 use Rattle.ring_port.specs.Reducing.{NotedReduce}
 use Rattle.ring_port.specs.declared.stops.PortStop.{PortStop}
@@ -12,10 +12,11 @@ use Rattle.reduce_db.specs.Dropping.{DroppedAll}
 use Rattle.reduce_db.specs.Reduction.{IsFrontOfChoice}
 use Rattle.vivify.specs.Outcome.{IsVivified, WasCutShort}
 use Rattle.vivify.specs.declared.shorten.Vivified.TheVariants.{Unit}
-use Rattle.ring_run.specs.Searching.{OnlySaw, OnlyPolled}
+use Rattle.ring_run.specs.Ended.{import_slots}
+use Rattle.ring_run.specs.Searching.{OpeningSeen, OnlySaw, OnlyPolled}
 use Rattle.ring_run.specs.Ending.{EndsRefused, WroteEmpty, HaltsTelling, end_refused}
 use Rattle.ring_run.specs.Course.{last_start}
-use Rattle.ring_run.specs.Renewal.{Point, point, IsDue, HasReducedLemmas, HasReduced, IsNamed, TookEach, TookAll, HasShrunk, IsIdle}
+use Rattle.ring_run.specs.Renewal.{Point, point, IsDue, HasReducedLemmas, HasReduced, IsNamed, TookEach, TookAll, HasShrunk, IsIdle, PolledSome}
 use Rattle.ring_run.specs.declared.job.End.{End}
 use Rattle.ring_run.specs.declared.job.End.TheVariants.{Memory}
 use Rattle.ring_run.specs.declared.ring.Ring.{Ring}
@@ -101,11 +102,20 @@ HaltsShrinking s u before end =
 
 -- Imports
 
--- units came, and one of them is false, so that the empty clause was to be written; or clauses came until there was no memory
+-- units came until one look found no other listed, and each of the opening is seen; then slots were looked into, from the first on and in
+-- order, each after that look, until there was no memory
+pub record HaltsTaking (s middle u : PortState) (end : End) : Type 0 where
+  pub caught_up : middle.caught_up ≡ one_more s.caught_up
+  pub opening : OpeningSeen middle
+  pub only : OnlyPolled middle u
+  pub polled : PolledSome middle u (import_slots middle)
+  pub memory : end ≡ Memory
+
+-- units came; then the empty clause was to be written, or clauses came until there was no memory
 pub record HaltsImporting (s u : PortState) (end : End) : Type 0 where
   pub middle : PortState
   pub units : OnlySaw s middle
-  pub over : WroteEmpty middle u end ⊎ (OnlyPolled middle u × (end ≡ Memory))
+  pub over : WroteEmpty middle u end ⊎ HaltsTaking s middle u end
 
 -- Both
 

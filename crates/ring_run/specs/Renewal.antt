@@ -16,7 +16,7 @@ use Rattle.reduce_db.specs.Reduction.{WasReduced}
 use Rattle.vivify.specs.Outcome.{glue_at, IsVivified}
 use Rattle.vivify.specs.declared.shorten.Vivified.{Vivified}
 use Rattle.vivify.specs.declared.shorten.Vivified.TheVariants.{Kept, Shorter, Unit, Empty}
-use Rattle.ring_run.specs.Ended.{IsHalted, import_slots, last_looks, reductions}
+use Rattle.ring_run.specs.Ended.{IsHalted, import_slots, LookedAlong, last_looks, reductions}
 use Rattle.ring_run.specs.Searching.{OpeningSeen, Stands, OnlySaw, OnlyPolled, OnlyWrote, ToldUnits, HasTold, HasGrownLog, AreTold, FixedSeen}
 use Rattle.ring_run.specs.Ending.{EndsAt, IsRefusal}
 use Rattle.ring_run.specs.Course.{InSearch, last_start, numbers, number_at, AreOrdered}
@@ -249,9 +249,15 @@ pub record TookSlots (old new : PortState) (before after : Ring) (slots : List S
   pub clauses : attached after.watches ≡ attached before.watches ++ map (λ (h : Holding). record { address = h.address }) came
   pub imports : after.imports.items ≡ before.imports.items ++ map (λ (h : Holding). record { address = h.address }) came
 
--- an import at level 0: first units came until one look found no other listed, and each of these and of the opening is true, before any
--- slot was looked into; then the slots of each other ring were looked into, in order, and no unit came; the port has noted that each
--- slot was looked into after one look more that found no other unit listed; what became true has no reason
+-- the ring looked into some of these slots, from the first on and in order, or into all, each time after as many looks for units as
+-- before the first
+pub record PolledSome (old new : PortState) (slots : List Slot) : Type 0 where
+  pub along : LookedAlong old new slots
+  pub moments : new.polls_after ≡ old.polls_after ++ map (λ (_slot : Slot). old.caught_up) along.looked
+
+-- an import at level 0: first units came, until one look found no other listed; each unit that is seen then is true, and those of the
+-- opening are among them; after that the slots of each other ring were looked into, in order, and nothing else was done at the port; it has
+-- noted of each of these slots that it was looked into after one look more that found no other unit listed; what became true has no reason
 pub record TookImport (old new : PortState) (before after : Ring) : Type 0 where
   pub middle : PortState
   pub units : OnlySaw old middle

@@ -1,5 +1,5 @@
 -- What a search keeps of its port and its trail.
-use Rattle.std.specs.Prelude.{◌≡◌, ◌⊎◌, ℕ, ◌+◌, ◌-◌, ◌^◌, min, ◌<◌, ◌≤◌, true, false, List, [], ◌∷◌, ◌++◌, map, length, drop, All, Contains, Option, Some, None, IsSome}
+use Rattle.std.specs.Prelude.{◌≡◌, ◌⊎◌, ℕ, ◌+◌, ◌-◌, ◌^◌, min, ◌<◌, ◌≤◌, ◌||◌, true, false, List, [], ◌∷◌, ◌++◌, map, length, drop, All, Contains, Option, Some, None, IsSome}
 use Rattle.std.specs.List.{list_any}
 use Rattle.sat_words.specs.Literal.{Literal}
 use Rattle.sat_words.specs.Clause.{has, is_empty}
@@ -77,7 +77,8 @@ abbrev pub HasLent : PortState → PortState → Option Cref → (exported offer
 HasLent old new None exported offered more told = (new ≡ old) × (more ≡ exported) × (told ≡ offered)
 HasLent old new (Some c) exported offered more told = HasLentBy old new (class_at old c.address) c.address exported offered more told
 
--- of what is listed here no call has changed more than what is seen
+-- units may have come, and looks that found no other listed may have been counted, and nothing else was done; the port notes what came, in
+-- order, and the units seen are those seen before and those that came; no look is forgotten, as far as these are counted
 pub record OnlySaw (old new : PortState) : Type 0 where
   pub stays : Stays old new
   pub shared : new.shared ≡ old.shared
@@ -93,6 +94,10 @@ pub record OnlySaw (old new : PortState) : Type 0 where
   pub refused : new.refused ≡ old.refused
   pub looks : new.looks ≡ old.looks
   pub more : (l : Literal) → has old.seen l ≡ true → has new.seen l ≡ true
+  pub came : List Literal
+  pub given : new.given ≡ old.given ++ came
+  pub sees : (l : Literal) → has new.seen l ≡ (has old.seen l || has came l)
+  pub state : new ≡ record old { seen = new.seen; given = new.given; coming = new.coming; kept = new.kept; caught_up = new.caught_up }
 
 -- no call has changed more than what is held and taken, and where, when and how often the ring has polled; what was held still is
 pub record OnlyPolled (old new : PortState) : Type 0 where
@@ -122,11 +127,15 @@ IsLineOfUnit r (Add x) = (x.ring ≡ r) × (x.kind ≡ UnitLine) × (length x.li
 IsLineOfUnit r (Del q n) = ⊥
 IsLineOfUnit r (Reduce q) = ⊥
 
--- lines of units were written, which are seen then, and nothing else was done; units that others listed meanwhile may be kept
+-- lines of units were written, and nothing else was done; the units seen are those seen before and those whose lines were written; if a
+-- line was written, units that others listed meanwhile may be kept, and more looks that found no other listed may be counted
 pub record ToldUnits (old new : PortState) : Type 0 where
   pub entries : List Entry
   pub units : All (IsLineOfUnit old.ring) entries
   pub mine : new.mine ≡ old.mine ++ entries
+  pub sees : (k : Literal) → has new.seen k ≡ (has old.seen k || adds_unit old.ring entries k)
+  pub looked : old.caught_up ≤ new.caught_up
+  pub idle : entries ≡ [] → (new.caught_up ≡ old.caught_up) × (new.kept ≡ old.kept)
   pub state : new ≡ record old { seen = new.seen; kept = new.kept; caught_up = new.caught_up; mine = new.mine; output = new.output }
 
 -- one look found no stop, and after it lines of units may have been written

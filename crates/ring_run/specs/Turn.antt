@@ -42,7 +42,7 @@ abbrev pub Acted : PortState → PortState → Ring → Ring → Type 0
 Acted s u old new = MetConflict s u old new Go ⊎ (IsQuiet old.watches (lits_at s) old.trail × ActedAtQuiet s u old new)
 
 -- propagation changes the trail and the watches alone: the same clauses are attached, and the trail grows by literals that one of them
--- forces
+-- forces, or at level 0 by units that are seen
 pub record HasPropagated (s : PortState) (old new : Ring) : Type 0 where
   pub same : new ≡ record old { trail = new.trail; watches = new.watches }
   pub grown : HasGrown old.trail new.trail
@@ -62,11 +62,13 @@ pub record SpentTurn (s u : PortState) (old new : Ring) : Type 0 where
   pub propagated : HasPropagated s old middle
   pub learned : MetConflict s u middle new (Finish Spent)
 
--- each variable that is decided has a value, and the assignment makes the literals of the trail true
+-- each variable that is decided has a value, and the assignment makes the literals of the trail true; a variable without a value is
+-- false
 pub record IsModelFound (ring : Ring) (a : List Bool) : Type 0 where
   pub valued : AllValued ring.decider ring.trail.steps
   pub long : length a ≡ ring.trail.vars
   pub true_there : (l : Literal) → IsTrueOn ring.trail.steps l → lit_true a l ≡ true
+  pub rest : (l : Literal) → l.neg ≡ false → lit_true a l ≡ true → IsTrueOn ring.trail.steps l
 
 -- what a decision comes to: it was made, or there was none to make and so a model, for which there may be no memory
 abbrev pub EndsDeciding : Ring → Ring → Next → Type 0
@@ -84,10 +86,10 @@ pub record FoundModel (s u : PortState) (old new : Ring) (a : List Bool) : Type 
   pub same : new ≡ record old { written = new.written }
 
 -- how a run came to its end where nothing was left to propagate: after a look and lines of units the next line was refused, or there was no
--- memory for the model; or an import was yet to be, and it was cut short or what comes before it
+-- memory for the model; or none of these lines is missing, an import was yet to be, and it was cut short or what comes before it
 abbrev pub HaltsQuietly : PortState → PortState → Ring → Ring → End → Type 0
 HaltsQuietly s u old new end =
-    CountsAlike old new × (m : PortState) × HasTold s m × (EndsRefused m u end ⊎ ((old.import_due ≡ true) × (ring : Ring) × (ring ≡ record old { written = ring.written }) × HaltsRenewing m u ring end))
+    CountsAlike old new × (m : PortState) × HasTold s m × (EndsRefused m u end ⊎ (FixedSeen m old.trail × (old.import_due ≡ true) × (ring : Ring) × (ring ≡ record old { written = ring.written }) × HaltsRenewing m u ring end))
 
 -- what a step comes to that doesn't learn: a model may be found, or the look found a stop and nothing was done
 abbrev pub EndsQuietly : PortState → PortState → Ring → Ring → Next → Type 0

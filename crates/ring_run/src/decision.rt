@@ -22,11 +22,12 @@ use ring_trail::Trail;
 use sat_words::Assignment;
 use std::alloc::{AllocError, Global};
 
-/// The assignment that makes the literals of the trail true.
+/// The assignment that makes the literals of the trail true. A variable without a value is false.
 fn model_of(alloc: Global, trail: &Trail) -> Result<Assignment, AllocError>
     requires { IsTrail trail.now }
     ensures long { IfOk result (λ model. length model ≡ trail.now.vars) }
     ensures all { IfOk result (λ model. (l : Literal) → IsTrueOn trail.now.steps l → lit_true model l ≡ true) }
+    ensures rest { IfOk result (λ model. (l : Literal) → l.neg ≡ false → lit_true model l ≡ true → IsTrueOn trail.now.steps l) }
 {
     let mut model = Assignment::new(alloc, trail.vars())?;
     for place in 0..trail.len() {

@@ -2,9 +2,9 @@
 ghost use Rattle.std.specs.Prelude.{◌≡◌, ◌≢◌, ◌<◌, ◌≤◌, ◌+◌, ◌++◌, ◌∷◌, [], ◌*◌, ◌-◌, ◌^◌, ℕ, min, true, false, length, OnOk};
 ghost use Rattle.ring_port.specs.PortState.{IsPort, one_more};
 ghost use Rattle.ring_port.specs.Exchange.{other_rings};
-ghost use Rattle.ring_run.specs.Ended.{slots_of, import_slots, LookedAlong, IsInTime};
+ghost use Rattle.ring_run.specs.Ended.{slots_of, import_slots, IsInTime};
 ghost use Rattle.ring_run.specs.Searching.{KeepsOn, OnlyPolled};
-ghost use Rattle.ring_run.specs.Renewal.{TookSlots, TookImport};
+ghost use Rattle.ring_run.specs.Renewal.{TookSlots, PolledSome, TookImport};
 ghost use Rattle.ring_run.specs.Halting.{HaltsImporting};
 ghost use Rattle.ring_run.specs.Course.{AreSameOffers, InSearch, KeepsLemmas, MayImport, Leads, KeepsLooking, KeepsOffering, IsPolling, HasPolledBy, KeepsImporting, KeepsTidy, IsInTimeBy, IsOnOrRefused, HaltsBy};
 
@@ -36,7 +36,7 @@ fn take_class<P: Port>(
     ensures polled { OnOk result ((P.state port.new).polled ≡ one_more (P.state port.old).polled) }
     ensures few { (P.state port.new).polled ≤ one_more (P.state port.old).polled }
     ensures took { OnOk result (TookSlots (P.state port.old) (P.state port.new) ring.old ring.new (record { ring = from; class = class } ∷ [])) }
-    ensures along { LookedAlong (P.state port.old) (P.state port.new) (record { ring = from; class = class } ∷ []) }
+    ensures some { PolledSome (P.state port.old) (P.state port.new) (record { ring = from; class = class } ∷ []) }
     ensures only { OnlyPolled (P.state port.old) (P.state port.new) }
     ensures same { ring.new ≡ record ring.old { watches = ring.new.watches; imports = ring.new.imports } }
     ensures port { IsPort (P.state port.new) }
@@ -64,7 +64,7 @@ fn take_from<P: Port>(port: &mut P, ring: &mut Ring, from: u32) -> Result<(), Al
     ensures polled { OnOk result ((P.state port.new).polled ≡ min ((P.state port.old).polled + 4) (2 ^ 64 - 1)) }
     ensures few { (P.state port.new).polled ≤ min ((P.state port.old).polled + 4) (2 ^ 64 - 1) }
     ensures took { OnOk result (TookSlots (P.state port.old) (P.state port.new) ring.old ring.new (slots_of from)) }
-    ensures along { LookedAlong (P.state port.old) (P.state port.new) (slots_of from) }
+    ensures some { PolledSome (P.state port.old) (P.state port.new) (slots_of from) }
     ensures only { OnlyPolled (P.state port.old) (P.state port.new) }
     ensures same { ring.new ≡ record ring.old { watches = ring.new.watches; imports = ring.new.imports } }
     ensures port { IsPort (P.state port.new) }
@@ -89,7 +89,7 @@ fn take_clauses<P: Port>(port: &mut P, ring: &mut Ring) -> Result<(), AllocError
     ensures polled { OnOk result ((P.state port.new).polled ≡ min ((P.state port.old).polled + 4 * length (other_rings (P.state port.old))) (2 ^ 64 - 1)) }
     ensures few { (P.state port.new).polled ≤ min ((P.state port.old).polled + 4 * length (other_rings (P.state port.old))) (2 ^ 64 - 1) }
     ensures took { OnOk result (TookSlots (P.state port.old) (P.state port.new) ring.old ring.new (import_slots (P.state port.old))) }
-    ensures along { LookedAlong (P.state port.old) (P.state port.new) (import_slots (P.state port.old)) }
+    ensures some { PolledSome (P.state port.old) (P.state port.new) (import_slots (P.state port.old)) }
     ensures only { OnlyPolled (P.state port.old) (P.state port.new) }
     ensures same { ring.new ≡ record ring.old { watches = ring.new.watches; imports = ring.new.imports } }
     ensures port { IsPort (P.state port.new) }

@@ -40,6 +40,6 @@ returns-in-Some-clause-decided g c = λ on. record { lit = c.in-Some.lit; chosen
 
 pub returns-in-Ok-clause-ended : goal.returns-in-Ok-clause-ended
 returns-in-Ok-clause-ended g c = (
-  record { valued = c.next.ensures.none c.in_default.is; long = c.in-Ok.ensures.long; true_there = c.in-Ok.ensures.all },
+  record { valued = c.next.ensures.none c.in_default.is; long = c.in-Ok.ensures.long; true_there = c.in-Ok.ensures.all; rest = c.in-Ok.ensures.rest },
   ap (λ (d : DeciderData). record c.args.ring.now { decider = d }) c.next.ensures.same,
 )

@@ -351,7 +351,8 @@ returns-then-ring-clause-ended g c =
     quietly_renewing s w (g.P.Port.state c.reduce_vivify_import.new.port) c.args.ring.now c.write_pending.new.ring c.reduce_vivify_import.new.ring c.reduce_vivify_import.result k.refused (sym c.write_pending.ensures.import_due ∙ c.if-ring.true)
     c.write_pending.ensures.same
     (record { learned = k.learned ∙ c.write_pending.ensures.learned; restarts = k.restarts ∙ c.write_pending.ensures.restarts; exported = k.offers.exported ∙ c.write_pending.ensures.offers.exported; offered = k.offers.offered ∙ c.write_pending.ensures.offers.offered })
-    (subst (λ (x : PortState). ToldUnits x w) c.in_default.ensures.looked.1 c.in-Ok.ensures.lines) k.halts
+    (subst (λ (x : PortState). ToldUnits x w) c.in_default.ensures.looked.1 c.in-Ok.ensures.lines)
+    (subst (FixedSeen w) c.write_pending.ensures.trail (fixed_seen w c.write_pending.new.ring.trail c.write_pending.new.ring.written c.in-Ok.ensures.search.told c.in-Ok.ensures.first)) k.halts
 
 pub returns-clause-ended : goal.returns-clause-ended
 returns-clause-ended g c =

@@ -189,7 +189,7 @@ returns-in-Err-clause-imports g c = λ start p h.
     let before = imports_count start m (imports_of ring) made none (imports_same start s m (imports_of ring) (saw_nothing s m c.take_units.ensures.saw) h) in
     let same : after.restarts.made ≡ made = ap (λ (r : Ring). r.restarts.made) c.take_clauses.ensures.same in
     subst (λ (k : ℕ). LookedAlong start u (rounds k (import_slots u))) (let e : made + 1 ≡ 1 + after.restarts.made = omega (arith, same) in e)
-    (imports_part start m u made (ap (λ (x : PortState). x.ring) only) (ap (λ (x : PortState). x.rings) only) before c.take_clauses.ensures.along)
+    (imports_part start m u made (ap (λ (x : PortState). x.ring) only) (ap (λ (x : PortState). x.rings) only) before c.take_clauses.ensures.some.along)
 
 pub returns-clause-imports : goal.returns-clause-imports
 returns-clause-imports g c = λ start p h.
@@ -265,4 +265,10 @@ pub returns-in-Opposed-clause-halts : goal.returns-in-Opposed-clause-halts
 returns-in-Opposed-clause-halts g c = record { middle = g.P.Port.state c.take_units.new.port; units = c.take_units.ensures.saw; over = inl c.refute.ensures.empty }
 
 pub returns-in-Err-clause-halts : goal.returns-in-Err-clause-halts
-returns-in-Err-clause-halts g c = record { middle = g.P.Port.state c.take_units.new.port; units = c.take_units.ensures.saw; over = inr (c.take_clauses.ensures.only, refl) }
+returns-in-Err-clause-halts g c =
+    let units = c.in-True.ensures in
+    record {
+      middle = g.P.Port.state c.take_units.new.port;
+      units = units.saw;
+      over = inr (record { caught_up = c.take_units.ensures.caught_up c.in-True.is; opening = units.taken.1; only = c.take_clauses.ensures.only; polled = c.take_clauses.ensures.some; memory = refl });
+    }

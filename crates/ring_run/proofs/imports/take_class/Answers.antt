@@ -11,7 +11,7 @@ use Rattle.ring_run.proofs.Importing.{polled_none, polled_some, polls_keep, poll
 use Rattle.ring_run.specs.Renewal.{TookSlots}
 use Rattle.ring_run.specs.declared.ring.Ring.{Ring}
 use Rattle.ring_run.proofs.Rounds.{slot}
-use Rattle.ring_run.proofs.Slots.{slots_none, slots_one}
+use Rattle.ring_run.proofs.Slots.{slots_none, slots_one, some_none, some_looked, some_took}
 use Rattle.ring_run.proofs.imports.take_class.Goals as goal
 
 pub returns-in_default-taken-clause-search : goal.returns-in_default-taken-clause-search
@@ -68,6 +68,34 @@ returns-clause-search g c =
     subst (λ (x : PortState). Searches x ring.trail c.attach.new.self ring.written) (sym c.attach.ensures.same)
     (polls_search s u (clause ∷ []) (polled_some s u c.args.from c.args.class clause took c.poll.ensures.kept) (omega arith) ring.trail ring.watches c.attach.new.self ring.written c.requires.search c.requires.level c.poll.ensures.port
     c.in_ok-attach.ensures.attached (All-cons (IsHeldBy u) clause [] (taken_held s u c.args.from c.args.class clause took c.poll.ensures.port) (All-nil (IsHeldBy u))) c.attach.ensures.watched)
+
+pub returns-in_default-clause-some : goal.returns-in_default-clause-some
+returns-in_default-clause-some g c = some_none (g.P.Port.state c.args.port.now) (g.P.Port.state c.poll.new.self) (slot c.args.from c.args.class ∷ []) c.in_default.ensures.polled.1
+
+pub returns-in_default-taken-clause-some : goal.returns-in_default-taken-clause-some
+returns-in_default-taken-clause-some g c =
+    some_looked (g.P.Port.state c.args.port.now) (g.P.Port.state c.poll.new.self) c.args.from c.args.class (subst (λ (o : Option Cref). Polled (g.P.Port.state c.args.port.now) (g.P.Port.state c.poll.new.self) c.args.from c.args.class (Ok o)) c.in_default-taken.is c.in-Ok.ensures.polled)
+
+pub returns-in_err-attach-clause-some : goal.returns-in_err-attach-clause-some
+returns-in_err-attach-clause-some g c =
+    let s = g.P.Port.state c.args.port.now in
+    let u = g.P.Port.state c.poll.new.self in
+    let took : TookClause s u c.args.from c.args.class c.in-Some.clause = subst (λ (o : Option Cref). Polled s u c.args.from c.args.class (Ok o)) c.in-Some.is c.in-Ok.ensures.polled in
+    some_took s u (g.P.Port.state c.attach.new.port) c.args.from c.args.class c.in-Some.clause took c.attach.ensures.same
+
+pub returns-in_err-push-clause-some : goal.returns-in_err-push-clause-some
+returns-in_err-push-clause-some g c =
+    let s = g.P.Port.state c.args.port.now in
+    let u = g.P.Port.state c.poll.new.self in
+    let took : TookClause s u c.args.from c.args.class c.in-Some.clause = subst (λ (o : Option Cref). Polled s u c.args.from c.args.class (Ok o)) c.in-Some.is c.in-Ok.ensures.polled in
+    some_took s u (g.P.Port.state c.attach.new.port) c.args.from c.args.class c.in-Some.clause took c.attach.ensures.same
+
+pub returns-clause-some : goal.returns-clause-some
+returns-clause-some g c =
+    let s = g.P.Port.state c.args.port.now in
+    let u = g.P.Port.state c.poll.new.self in
+    let took : TookClause s u c.args.from c.args.class c.in-Some.clause = subst (λ (o : Option Cref). Polled s u c.args.from c.args.class (Ok o)) c.in-Some.is c.in-Ok.ensures.polled in
+    some_took s u (g.P.Port.state c.attach.new.port) c.args.from c.args.class c.in-Some.clause took c.attach.ensures.same
 
 pub returns-in_default-taken-clause-took : goal.returns-in_default-taken-clause-took
 returns-in_default-taken-clause-took g c =

@@ -6,8 +6,8 @@ use Rattle.ring_run.specs.declared.ring.Ring.{Ring}
 use Rattle.ring_run.proofs.Importing.{only_then}
 use Rattle.ring_run.proofs.Polling.{others_below, below_other, below_own, below_rings}
 use Rattle.ring_run.proofs.imports.take_clauses.Goals as goal
-use Rattle.ring_run.proofs.Slots.{slots_then, slots_as}
-use Rattle.ring_run.proofs.Rounds.{along_then, along_front, round_below, round_other, round_own, round_front, ring_front}
+use Rattle.ring_run.proofs.Slots.{slots_then, slots_as, some_then, some_slots}
+use Rattle.ring_run.proofs.Rounds.{round_below, round_other, round_own, round_front, ring_front}
 use Rattle.ring_run.specs.Ended.{slots_of, import_slots}
 
 pub returns-in-Err-clause-keeps : goal.returns-in-Err-clause-keeps
@@ -50,14 +50,15 @@ loop-from-preserved-then-from-ring g c =
     let next = below_own s.ring c.loop-from.from (c.if-from-ring.true ∙ own) in
     record { keeps = i.keeps; search = i.search; polled = omega (arith, i.polled, next); took = slots_as s (g.P.Port.state c.loop-from.port) c.args.ring.now c.loop-from.ring (round_below s.ring c.loop-from.from) (round_below s.ring (c.loop-from.from + 1)) (sym (round_own s.ring c.loop-from.from (c.if-from-ring.true ∙ own))) i.took; only = i.only; same = i.same; port = i.port }
 
-pub returns-in-Err-clause-along : goal.returns-in-Err-clause-along
-returns-in-Err-clause-along g c =
+pub returns-in-Err-clause-some : goal.returns-in-Err-clause-some
+returns-in-Err-clause-some g c =
     let s = g.P.Port.state c.args.port.now in
     let i = c.loop-from.invariant in
     let from = c.loop-from.from in
     let own : c.loop-from.ring.place.ring ≡ s.ring = ap (λ (r : Ring). r.place.ring) i.same ∙ ap (λ (p : Place). p.ring) c.requires.place in
     let many : c.args.ring.now.place.rings ≡ s.rings = ap (λ (p : Place). p.rings) c.requires.place in
-    along_then s (g.P.Port.state c.loop-from.port) (g.P.Port.state c.take_from.new.port) (round_below s.ring from) (slots_of from) (import_slots s) i.took.polls c.take_from.ensures.along
+    some_then s (g.P.Port.state c.loop-from.port) (g.P.Port.state c.take_from.new.port) c.args.ring.now c.loop-from.ring (round_below s.ring from) (slots_of from) (import_slots s) i.took (ap (λ (x : PortState). x.caught_up) i.only.state)
+    c.take_from.ensures.some
     (ring_front s.ring from s.rings (λ e. c.if-from-ring.false (e ∙ sym own)) (omega (arith, c.loop-from-test.true, many)))
 
 pub returns-clause-took : goal.returns-clause-took
@@ -67,9 +68,9 @@ returns-clause-took g c =
     let e : c.loop-from.from ≡ s.rings = omega (arith, c.loop-from-test.false, c.loop-from.auto.from-end, many) in
     slots_as s (g.P.Port.state c.loop-from.port) c.args.ring.now c.loop-from.ring (round_below s.ring c.loop-from.from) (import_slots s) (ap (round_below s.ring) e) c.loop-from.invariant.took
 
-pub returns-clause-along : goal.returns-clause-along
-returns-clause-along g c =
+pub returns-clause-some : goal.returns-clause-some
+returns-clause-some g c =
     let s = g.P.Port.state c.args.port.now in
     let many : c.args.ring.now.place.rings ≡ s.rings = ap (λ (p : Place). p.rings) c.requires.place in
-    along_front s (g.P.Port.state c.loop-from.port) (round_below s.ring c.loop-from.from) (import_slots s) c.loop-from.invariant.took.polls
+    some_slots s (g.P.Port.state c.loop-from.port) c.args.ring.now c.loop-from.ring (round_below s.ring c.loop-from.from) (import_slots s) c.loop-from.invariant.took
     (round_front s.ring c.loop-from.from s.rings (omega (arith, c.loop-from.auto.from-end, many)))

@@ -64,6 +64,10 @@ loop-lit-preserved g c =
       port = c.next_unit.ensures.port;
     }
 
+pub returns-in-Some-false-clause-saw : goal.returns-in-Some-false-clause-saw
+returns-in-Some-false-clause-saw g c =
+    saw_more (g.P.Port.state c.args.port.now) (g.P.Port.state c.loop-lit.port) (g.P.Port.state c.next_unit.new.self) c.in-Some.lit c.loop-lit.invariant.saw c.in-Some.ensures.took c.next_unit.ensures.log
+
 pub returns-in-Some-false-clause-keeps : goal.returns-in-Some-false-clause-keeps
 returns-in-Some-false-clause-keeps g c = λ start n p.
     unit_taken (g.P.Port.state c.loop-lit.port) (g.P.Port.state c.next_unit.new.self) c.in-Some.lit c.in-Some.ensures.took c.loop-lit.invariant.added c.next_unit.ensures.log c.next_unit.ensures.port start n

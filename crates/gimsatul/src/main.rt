@@ -55,7 +55,7 @@ fn main(rt: HostRuntime) -> ExitCode {
         Ok(words) => words,
         Err(end) => return refuse(&rt, &end),
     };
-    let mut files = StdFiles::new(&rt, rt.alloc());
+    let mut files = StdFiles::new(&rt);
     let mut input = StdSource::new(rt.stdin());
     let mut out = StdSink::new(rt.stdout());
     let mut err = StdSink::new(rt.stderr());

@@ -7,6 +7,7 @@ use crate::{
 };
 use std::alloc::Global;
 use std::io::{Read, Write};
+use std::os::unix::fs::symlink;
 use std::process::Abort;
 use std::test::Fail;
 use std::{env, fs, io, process};
@@ -85,7 +86,7 @@ fn a_sink_writes_to_a_real_file(rt: HostRuntime) -> Result<(), Fail> {
 #[test]
 fn a_store_opens_and_creates_real_files(rt: HostRuntime) -> Result<(), Fail> {
     let path = scratch_path(&rt, "store")?;
-    let mut files = StdFiles::new(&rt, rt.alloc());
+    let mut files = StdFiles::new(&rt);
     assert!(rt; files.open_input(path.as_str()).is_err());
     assert_eq!(rt; files.faults(), 1);
     match files.create_output(path.as_str()) {
@@ -117,18 +118,30 @@ fn a_file_that_was_opened_is_not_created_anew(rt: HostRuntime) -> Result<(), Fai
     let path = scratch_path(&rt, "kept")?;
     let other = scratch_path(&rt, "other")?;
     let dotted = format!(in rt.alloc(); "/.{path}")?;
+    let link = scratch_path(&rt, "link")?;
+    let twin = scratch_path(&rt, "twin")?;
     fs::write(&rt, path.as_str(), TEXT)?;
-    let mut files = StdFiles::new(&rt, rt.alloc());
+    symlink(&rt, path.as_str(), link.as_str())?;
+    fs::hard_link(&rt, path.as_str(), twin.as_str())?;
+    let mut files = StdFiles::new(&rt);
     assert!(rt; files.open_input(path.as_str()).is_ok());
-    assert!(rt; files.create_output(path.as_str()).is_err());
-    assert!(rt; files.create_output(dotted.as_str()).is_err());
-    assert_eq!(rt; files.faults(), 2);
+    for name in [&path, &dotted, &link, &twin] {
+        assert!(rt; files.create_output(name.as_str()).is_err(), "{name}");
+    }
+    assert_eq!(rt; files.faults(), 4);
     assert!(rt; files.create_output(other.as_str()).is_ok());
     let mut source = StdSource::new(fs::open(&rt, path.as_str())?);
     let found = read_all(rt.alloc(), &mut source)?;
     assert!(rt; is_same(&found, TEXT));
-    fs::remove_file(&rt, path.as_str())?;
-    fs::remove_file(&rt, other.as_str())?;
+    // The other file is opened then, and the first one may be created. A device may be both.
+    assert!(rt; files.open_input(other.as_str()).is_ok());
+    assert!(rt; files.create_output(twin.as_str()).is_ok());
+    assert!(rt; files.open_input("/dev/null").is_ok());
+    assert!(rt; files.create_output("/dev/null").is_ok());
+    assert_eq!(rt; files.faults(), 4);
+    for name in [&path, &other, &link, &twin] {
+        fs::remove_file(&rt, name.as_str())?;
+    }
     Ok(())
 }
 

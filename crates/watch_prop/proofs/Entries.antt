@@ -67,13 +67,13 @@ entry_forces w h t i l e k n f free all = record {
   };
 }
 
-pub entry_satisfied : (w : WatchData) (h : Lits) (t : TrailData) (i : ℕ) (l : Literal) (e : ListEntry) → IsTrail t → Watched w h t → IsEntry w i l e → IsTrueOn t.steps e.other → IsSatisfied w h t i
-entry_satisfied w h t i l e trail k n f s at =
+pub entry_satisfied : (w : WatchData) (h : Lits) (t : TrailData) (i : ℕ) (l k : Literal) (e : ListEntry) → IsTrail t → IsEntry w i l e → has (h e.clause.address) k ≡ true → IsTrueOn t.steps k → IsSatisfied w h t i
+entry_satisfied w h t i l k e trail n inside f s at =
     let same : n.watch ≡ s = watch-same w.slots i n.watch s n.there at in
     record {
-      lit = e.other;
-      has_lit = subst (λ (d : Cref). has (h d.address) e.other ≡ true) (sym n.clause ∙ ap (λ (y : Watch). y.clause) same) (entry_pair w h t i l e k n).1;
-      within = TrueOn-within t e.other trail f;
+      lit = k;
+      has_lit = subst (λ (d : Cref). has (h d.address) k ≡ true) (sym n.clause ∙ ap (λ (y : Watch). y.clause) same) inside;
+      within = TrueOn-within t k trail f;
     }
 
 -- a blocker that is true spares the look at the clause

@@ -29,13 +29,14 @@ passes-stale o h w v l place lists rooms size q stale r =
           (subst (λ (x : WatchData). Watched (only c x) h t) (sym q) k);
     }
 
-pub passes-blocked : (o : Option Cref) (h : Lits) (w v : WatchData) (t : TrailData) (l : Literal) (place : ℕ) (e : ListEntry) (lists : List (List Watcher)) (rooms : List ℕ) (size : ℕ) → v ≡ w
-    → Watched (but o w) h t → CanBlock (but o w) t l (get_or (list_at w.lists l) place 0) e → Reblocked v.lists lists l place e.other → PassesOver o h w record v { lists = lists; rooms = rooms; size = size }
-passes-blocked o h w v t l place e lists rooms size q watched can r =
+pub passes-blocked : (o : Option Cref) (h : Lits) (w v : WatchData) (t : TrailData) (l b : Literal) (place : ℕ) (lists : List (List Watcher)) (rooms : List ℕ) (size : ℕ) → v ≡ w
+    → Watched (but o w) h t → CanBlock (but o w) h t l (get_or (list_at w.lists l) place 0) b → Reblocked v.lists lists l place b → PassesOver o h w record v { lists = lists; rooms = rooms; size = size }
+passes-blocked o h w v t l b place lists rooms size q watched can r =
+    let e = can.e in
     let i = get_or (list_at v.lists l) place 0 in
     let n : IsEntry (but o v) i l e = subst (λ (x : WatchData). IsEntry (but o x) (get_or (list_at x.lists l) place 0) l e) (sym q) can.entry in
     let k : Watched (but o v) h t = subst (λ (x : WatchData). Watched (but o x) h t) (sym q) watched in
-    let on : e.other.var ≤ v.vars = on_vars v.vars v.vars (h e.clause.address) e.other refl (entry_attachable (but o v) h t i l e k n) (entry_two (but o v) h t i l e k n).second in
+    let on : b.var ≤ v.vars = on_vars v.vars v.vars (h e.clause.address) b refl (entry_attachable (but o v) h t i l e k n) can.inside in
     record {
       clauses = ap attached q;
       watched = λ c u is old.

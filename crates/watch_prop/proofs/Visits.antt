@@ -80,14 +80,14 @@ visiting-settled w h t l place lt v one = record {
       ];
 }
 
--- the other watch, which is true, becomes the blocker
-pub visiting-blocked : (w : WatchData) (h : Lits) (t : TrailData) (l : Literal) (place : ℕ) (e : ListEntry) (lists : List (List Watcher)) (rooms : List ℕ) (size : ℕ) → IsTrail t → place < length (list_at w.lists l) → IsVisiting w h t l (place + 1)
-    → CanBlock w t l (get_or (list_at w.lists l) place 0) e → Reblocked w.lists lists l place e.other → IsVisiting record w { lists = lists; rooms = rooms; size = size } h t l place
-visiting-blocked w h t l place e lists rooms size trail lt v can r =
+-- a literal of the clause that is true becomes the blocker
+pub visiting-blocked : (w : WatchData) (h : Lits) (t : TrailData) (l b : Literal) (place : ℕ) (lists : List (List Watcher)) (rooms : List ℕ) (size : ℕ) → IsTrail t → place < length (list_at w.lists l) → IsVisiting w h t l (place + 1)
+    → CanBlock w h t l (get_or (list_at w.lists l) place 0) b → Reblocked w.lists lists l place b → IsVisiting record w { lists = lists; rooms = rooms; size = size } h t l place
+visiting-blocked w h t l b place lists rooms size trail lt v can r =
     let k = v.watched in
+    let e = can.e in
     let i = get_or (list_at w.lists l) place 0 in
     let x : WatchData = record w { lists = lists; rooms = rooms; size = size } in
-    let two = entry_two w h t i l e k can.entry in
     let kept : (m : Literal) (j : ℕ) → Contains (list_at w.lists m) j → Contains (list_at lists m) j = λ m j c. subst (λ (xs : List ℕ). Contains xs j) (sym (r.same m)) c in
     let watched : Watched x h t = record {
       vars = k.vars;
@@ -103,19 +103,19 @@ visiting-blocked w h t l place e lists rooms size trail lt v can r =
             second_guarded = z.second_guarded;
           };
       blocking = λ n y there. elim (r.only n y there) as (λ _. IsBlocking x h y) [
-        | inl was ↦ (let b = k.blocking n y was in record { slot = b.slot; on = b.on; inside = b.inside })
+        | inl was ↦ (let z = k.blocking n y was in record { slot = z.slot; on = z.on; inside = z.inside })
         | inr q ↦ record {
           slot = (let z = can.entry.there.0 in omega (arith, z, q.0));
-          on = subst (λ (m : Literal). m.var ≤ w.vars) (sym q.1) (on_vars w.vars w.vars (h e.clause.address) e.other refl (entry_attachable w h t i l e k can.entry) two.second);
+          on = subst (λ (m : Literal). m.var ≤ w.vars) (sym q.1) (on_vars w.vars w.vars (h e.clause.address) b refl (entry_attachable w h t i l e k can.entry) can.inside);
           inside = λ s at.
               let same : can.entry.watch ≡ s = watch-same w.slots i can.entry.watch s can.entry.there (subst (λ (m : ℕ). At w.slots m (Some s)) q.0 at) in
               subst (λ (m : Literal). has (h s.clause.address) m ≡ true) (sym q.1)
-              (subst (λ (d : Cref). has (h d.address) e.other ≡ true) (sym can.entry.clause ∙ ap (λ (z : Watch). z.clause) same) two.second);
+              (subst (λ (d : Cref). has (h d.address) b ≡ true) (sym can.entry.clause ∙ ap (λ (z : Watch). z.clause) same) can.inside);
         }
       ];
       fresh = k.fresh;
     } in
-    let satisfied : IsSatisfied w h t i = entry_satisfied w h t i l e trail k can.entry can.is_true in
+    let satisfied : IsSatisfied w h t i = entry_satisfied w h t i l b e trail can.entry can.inside can.is_true in
     let old = visiting-settled w h t l place lt v satisfied in
     record {
       watched = watched;

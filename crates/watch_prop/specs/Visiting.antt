@@ -84,16 +84,18 @@ pub record IsForcing (w : WatchData) (lits : Lits) (t : TrailData) (index : ℕ)
 abbrev pub IsSatisfied : WatchData → Lits → TrailData → ℕ → Type 0
 IsSatisfied w lits t index = (s : Watch) → At w.slots index (Some s) → HasTrue t.steps t.level (lits s.clause.address)
 
--- the other literal of the watch at the index is true
-pub record CanBlock (w : WatchData) (t : TrailData) (l : Literal) (index : ℕ) (e : ListEntry) : Type 0 where
+-- the literal is true, and one of the clause whose watch is at the index
+pub record CanBlock (w : WatchData) (lits : Lits) (t : TrailData) (l : Literal) (index : ℕ) (k : Literal) : Type 0 where
+  pub e : ListEntry
   pub entry : IsEntry w index l e
-  pub is_true : IsTrueOn t.steps e.other
+  pub inside : has (lits e.clause.address) k ≡ true
+  pub is_true : IsTrueOn t.steps k
 
 -- what the literals say of a clause
 abbrev pub IsVerdict : WatchData → Lits → TrailData → Literal → ℕ → ClauseState → Type 0
 IsVerdict w lits t l index Stale = IsStale w index l
 IsVerdict w lits t l index Settled = IsSatisfied w lits t index
-IsVerdict w lits t l index (Blocked e) = CanBlock w t l index e
+IsVerdict w lits t l index (Blocked k) = CanBlock w lits t l index k
 IsVerdict w lits t l index (Moves e k) = CanMove w lits t l index e k
 IsVerdict w lits t l index (Forced k c) = IsForcing w lits t index k c
 IsVerdict w lits t l index (False c) = IsConflict w lits t c

@@ -16,8 +16,8 @@ use std::marker::Model;
 
 /// The least room of a list that has any.
 const LEAST_ROOM: usize = 4;
-/// More watchers than this are not kept: there is no memory for them.
-const MOST_WATCHERS: usize = 1 << 40;
+/// A longer vector of watchers is not kept, so that a place in it takes 32 bits: there is no memory for it.
+const MOST_WATCHERS: u32 = u32::MAX;
 
 /// The watchers of all literals.
 #[derive(Drop)]
@@ -69,7 +69,7 @@ impl Lists {
         requires { code_of lit < length self.now.rows }
         ensures { result ≡ length (list_at self.now.rows lit) }
     {
-        self.stretches[lit.code() as usize].len
+        self.stretches[lit.code() as usize].len as usize
     }
 
     /// The watcher at a place in the list of a literal.
@@ -79,7 +79,7 @@ impl Lists {
         ensures slot { result.slot ≡ slice_index (list_at self.now.rows lit) place }
         ensures listed { Contains (watchers_at self.now.rows lit) result }
     {
-        self.watchers[self.stretches[lit.code() as usize].start + place]
+        self.watchers[self.stretches[lit.code() as usize].start as usize + place]
     }
 
     /// Puts a watcher at the end of the list of a literal. If memory runs out, nothing changes.
@@ -104,8 +104,9 @@ impl Lists {
     {
         let code = lit.code() as usize;
         let stretch = self.stretches[code];
-        let last = self.watchers[stretch.start + stretch.len - 1];
-        self.watchers[stretch.start + place] = last;
+        let start = stretch.start as usize;
+        let last = self.watchers[start + stretch.len as usize - 1];
+        self.watchers[start + place] = last;
         self.stretches[code] = Stretch {
             start: stretch.start,
             len: stretch.len - 1,
@@ -120,7 +121,7 @@ impl Lists {
         ensures reblocked { Reblocked self.old.rows self.new.rows lit place blocker }
         ensures rooms { self.new.rooms ≡ self.old.rooms }
     {
-        let at = self.stretches[lit.code() as usize].start + place;
+        let at = self.stretches[lit.code() as usize].start as usize + place;
         let slot = self.watchers[at].slot;
         self.watchers[at] = Watcher { slot, blocker };
     }
@@ -132,8 +133,9 @@ impl Lists {
         ensures empty { (l : Literal) → watchers_at self.new.rows l ≡ [] }
         ensures closed { self.new.size ≡ sum self.new.rooms }
     {
-        let end = lay_out(&mut self.stretches, self.watchers.len());
-        self.watchers.truncate(end);
+        let size = self.watchers.len().min(MOST_WATCHERS as usize);
+        let end = lay_out(&mut self.stretches, size as u32);
+        self.watchers.truncate(end as usize);
     }
 
     /// Whether the vector is empty, so that no list has a place in it.
@@ -151,7 +153,7 @@ impl Lists {
     {
         count_watches(&mut self.stretches, slots);
         let end = lay_out(&mut self.stretches, MOST_WATCHERS);
-        if self.watchers.resize(end, filler()).is_err() {
+        if self.watchers.resize(end as usize, filler()).is_err() {
             lay_out(&mut self.stretches, 0);
         }
     }
@@ -181,18 +183,19 @@ impl Lists {
         ensures err { OnErr result (self.new ≡ self.old) }
     {
         let start = self.watchers.len();
-        if start > MOST_WATCHERS {
+        let old = self.stretches[code];
+        let room = (2 * old.room as usize).max(LEAST_ROOM);
+        if room > (MOST_WATCHERS as usize).saturating_sub(start) {
             return Err(AllocError);
         }
-        let old = self.stretches[code];
-        let room = (2 * old.room).max(LEAST_ROOM);
         self.watchers.resize(start + room, filler())?;
+        let from = old.start as usize;
         self.watchers
-            .copy_within(old.start..old.start + old.len, start);
+            .copy_within(from..from + old.len as usize, start);
         self.stretches[code] = Stretch {
-            start,
+            start: start as u32,
             len: old.len,
-            room,
+            room: room as u32,
         };
         Ok(())
     }
@@ -205,7 +208,7 @@ impl Lists {
         ensures rooms { self.new.rooms ≡ self.old.rooms }
     {
         let stretch = self.stretches[code];
-        self.watchers[stretch.start + stretch.len] = watcher;
+        self.watchers[stretch.start as usize + stretch.len as usize] = watcher;
         self.stretches[code] = Stretch {
             start: stretch.start,
             len: stretch.len + 1,

@@ -9,19 +9,19 @@ use sat_words::Lit;
 /// Where a list stands in the vector, how many watchers it has, and for how many there is room.
 #[derive(Clone, Copy)]
 pub(crate) struct Stretch {
-    pub(crate) start: usize,
-    pub(crate) len: usize,
-    pub(crate) room: usize,
+    pub(crate) start: u32,
+    pub(crate) len: u32,
+    pub(crate) room: u32,
 }
 
 /// Lets empty stretches stand one after the other in a vector of this size, each with as much room as it had watchers, and
 /// tells where the last one ends.
-pub(crate) fn lay_out(stretches: &mut Vec<Stretch>, size: usize) -> usize
+pub(crate) fn lay_out(stretches: &mut Vec<Stretch>, size: u32) -> u32
     ensures len { length stretches.new.items ≡ length stretches.old.items }
     ensures laid { AreLaidOut stretches.new.items (length stretches.new.items) result }
     ensures inside { result ≤ size }
 {
-    let mut end = 0;
+    let mut end: u32 = 0;
     for i in 0..stretches.len() {
         let room = stretches[i].len.min(size - end);
         stretches[i] = Stretch {

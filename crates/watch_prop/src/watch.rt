@@ -33,8 +33,8 @@ pub(crate) enum ClauseState {
     Stale,
     /// Nothing: a literal of the clause is true.
     Settled,
-    /// The other literal of this watch as its blocker, which is true.
-    Blocked(ListEntry),
+    /// This literal of its clause, which is true, as its blocker.
+    Blocked(Lit),
     /// To be moved to this literal, which isn't false.
     Moves(ListEntry, Lit),
     /// That this literal becomes true, for this clause.

@@ -1,11 +1,13 @@
 //! Unit propagation by two watched literals (MiniSat, Eén and Sörensson 2003): if a literal becomes false, the list of
 //! its watches is walked; each entry finds its clause satisfied, a replacement watch, a literal that is forced, or a
 //! conflict. An entry may leave the list only if it is stale, or if another literal of the clause, which isn't false,
-//! watches from then on. The entries of a clause that is set aside are passed over, and stay.
-ghost use Rattle.std.specs.Prelude.{◌≡◌, ◌≢◌, ◌≤◌, ◌<◌, ◌+◌, IfOk, OnOk, OnErr, length, slice_index};
+//! watches from then on. If such a literal is true, the entry stays with it as its blocker (as in CaDiCaL: Biere and others
+//! 2020), which spares the move. The entries of a clause that is set aside are passed over, and stay.
+ghost use Rattle.std.specs.Prelude.{◌≡◌, ◌≢◌, ◌≤◌, ◌<◌, ◌+◌, Option, IfOk, OnOk, OnErr, length, slice_index};
 ghost use Rattle.ring_port.specs.PortState.{lits_at};
 ghost use Rattle.ring_trail.specs.TrailData.{IsFalseOn};
-ghost use Rattle.watch_prop.specs.WatchData.{attached, list_at};
+ghost use Rattle.sat_words.specs.declared.shared.Cref.{Cref};
+ghost use Rattle.watch_prop.specs.WatchData.{Lits, attached, list_at};
 ghost use Rattle.watch_prop.specs.Watched.{Watched};
 ghost use Rattle.watch_prop.specs.Propagation.{HasReasons};
 ghost use Rattle.watch_prop.specs.Advancing.{HasAdvanced};
@@ -68,15 +70,33 @@ impl Watches {
         ensures done { trail.new.done ≡ trail.old.done }
         ensures walked { IfOk result (IsWalked (but aside self.new) (lits_at (P.state port.old)) trail.new lit) }
     {
-        let mut place = self.list_len(lit);
+        let mut place = self.pass_satisfied(trail, lit, self.list_len(lit));
         while place > 0 {
             place -= 1;
             match self.visit(port, trail, lit, place, aside)? {
                 Visit::Done => {}
                 Visit::Falsified(clause) => return Ok(Propagated::Conflict(clause)),
             }
+            place = self.pass_satisfied(trail, lit, place);
         }
         Ok(Propagated::Quiet)
+    }
+
+    /// Passes over the watchers in the list of a literal that became false whose blockers are true, from below this place
+    /// down, and answers the place above the first one that isn't passed over; 0 if all are.
+    fn pass_satisfied(&self, trail: &Trail, lit: Lit, place: usize) -> usize
+        requires in_range { lit.var ≤ self.now.vars }
+        requires inside { place ≤ length (list_at self.now.lists lit) }
+        ensures below { result ≤ place }
+        ensures visiting { (aside : Option Cref) (lits : Lits) → IsVisiting (but aside self.now) lits trail.now lit place → IsVisiting (but aside self.now) lits trail.now lit result }
+    {
+        let _lawful = trail.decision_level();
+        let values = trail.values();
+        let mut left = place;
+        while left > 0 && values.is_true(self.watcher_at(lit, left - 1).blocker) {
+            left -= 1;
+        }
+        left
     }
 
     /// Looks at one entry of the list of a literal that became false.
@@ -105,7 +125,7 @@ impl Watches {
         match self.judge(port, trail, lit, place, aside) {
             ClauseState::Stale => self.lists.take(lit, place),
             ClauseState::Settled => {}
-            ClauseState::Blocked(entry) => self.lists.set_blocker(lit, place, entry.other),
+            ClauseState::Blocked(blocker) => self.lists.set_blocker(lit, place, blocker),
             ClauseState::Moves(entry, new) => self.replace(entry, lit, new, place)?,
             ClauseState::Forced(other, clause) => trail.assign(other, Some(clause)),
             ClauseState::False(clause) => return Ok(Visit::Falsified(clause)),
@@ -113,8 +133,8 @@ impl Watches {
         Ok(Visit::Done)
     }
 
-    /// What a watcher in the list of a false literal asks for. The clause is read only if neither the blocker nor the
-    /// other literal is true, and where it has more than two literals.
+    /// What a watcher in the list of a false literal, whose blocker isn't true, asks for. The clause is read only if the other
+    /// literal isn't true either, and if it has more than two literals.
     fn judge<P: Port>(
         &self,
         port: &mut P,
@@ -133,9 +153,6 @@ impl Watches {
     {
         let _lawful = trail.decision_level();
         let watcher = self.watcher_at(lit, place);
-        if trail.is_true(watcher.blocker) {
-            return ClauseState::Settled;
-        }
         let entry = match self.entry(watcher.slot, lit) {
             None => return ClauseState::Stale,
             Some(entry) => entry,
@@ -144,10 +161,16 @@ impl Watches {
             return ClauseState::Settled;
         }
         if trail.is_true(entry.other) {
-            return ClauseState::Blocked(entry);
+            return ClauseState::Blocked(entry.other);
         }
         match find_replacement(port, trail, &entry, lit) {
-            Some(new) => ClauseState::Moves(entry, new),
+            Some(new) => {
+                if trail.is_true(new) {
+                    ClauseState::Blocked(new)
+                } else {
+                    ClauseState::Moves(entry, new)
+                }
+            }
             None => {
                 if trail.is_false(entry.other) {
                     ClauseState::False(entry.clause)

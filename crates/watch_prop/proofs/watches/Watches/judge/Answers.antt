@@ -4,11 +4,11 @@ use Rattle.ring_port.specs.PortState.{lits_at}
 use Rattle.ring_trail.proofs.Truths.{neither}
 use Rattle.watch_prop.specs.Aside.{but}
 use Rattle.watch_prop.proofs.Asides.{entry-other, entry-aside, stale-other, others-len}
-use Rattle.watch_prop.proofs.Entries.{all_on_vars, attachable_held, entry_attachable, entry_pair, on_vars, entry_two, blocker_satisfied, entry_conflict, entry_forces}
+use Rattle.watch_prop.proofs.Entries.{all_on_vars, attachable_held, entry_attachable, entry_pair, on_vars, entry_two, entry_conflict, entry_forces}
 use Rattle.watch_prop.proofs.watches.Watches.judge.Goals as goal
 
-pub is_true-requires-2 : goal.is_true-requires-2
-is_true-requires-2 g c =
+pub is_true-requires : goal.is_true-requires
+is_true-requires g c =
     let w = but c.args.aside c.args.self.now in
     let s = g.P.Port.state c.args.port.now in
     let t = c.args.trail.now in
@@ -27,11 +27,6 @@ is_false-requires g c =
     (entry_attachable w (lits_at s) t c.watcher_at-watcher.result.slot c.args.lit c.in-Some.entry c.requires.watched e)
     (entry_pair w (lits_at s) t c.watcher_at-watcher.result.slot c.args.lit c.in-Some.entry c.requires.watched e).1
 
-pub is_true-requires : goal.is_true-requires
-is_true-requires g c =
-    let b = c.requires.watched.blocking c.args.lit c.watcher_at-watcher.result c.watcher_at-watcher.ensures.listed in
-    omega (arith, b.on, c.requires.watched.vars)
-
 pub entry-requires : goal.entry-requires
 entry-requires g c =
     let b = c.requires.watched.blocking c.args.lit c.watcher_at-watcher.result c.watcher_at-watcher.ensures.listed in
@@ -40,11 +35,6 @@ entry-requires g c =
 pub find_replacement-requires-clause-pair : goal.find_replacement-requires-clause-pair
 find_replacement-requires-clause-pair g c =
     entry_two (but c.args.aside c.args.self.now) (lits_at (g.P.Port.state c.args.port.now)) c.args.trail.now c.watcher_at-watcher.result.slot c.args.lit c.in-Some.entry c.requires.watched (entry-other c.args.aside c.args.self.now c.watcher_at-watcher.result.slot c.args.lit c.in-Some.entry (sym c.is_aside.ensures ∙ c.if-is_aside.false) c.in-Some.ensures.found)
-
-pub returns-then-is_true-clause-verdict : goal.returns-then-is_true-clause-verdict
-returns-then-is_true-clause-verdict g c =
-    blocker_satisfied (but c.args.aside c.args.self.now) (lits_at (g.P.Port.state c.args.port.now)) c.args.trail.now _ c.watcher_at-watcher.result c.decision_level-lawful.ensures.trail
-    (c.requires.watched.blocking c.args.lit c.watcher_at-watcher.result c.watcher_at-watcher.ensures.listed) c.watcher_at-watcher.ensures.slot (c.is_true.ensures.0 c.if-is_true.true)
 
 pub returns-then-is_false-clause-verdict : goal.returns-then-is_false-clause-verdict
 returns-then-is_false-clause-verdict g c =
@@ -57,7 +47,7 @@ returns-else-is_false-clause-verdict g c =
     (entry_forces (but c.args.aside c.args.self.now) (lits_at (g.P.Port.state c.args.port.now)) c.args.trail.now c.watcher_at-watcher.result.slot c.args.lit c.in-Some.entry
     c.requires.watched (entry-other c.args.aside c.args.self.now c.watcher_at-watcher.result.slot c.args.lit c.in-Some.entry (sym c.is_aside.ensures ∙ c.if-is_aside.false) c.in-Some.ensures.found) c.requires.now_false
     (neither c.args.trail.now.steps c.in-Some.entry.other
-    (λ p. false≢true (sym c.if-is_true-2.false ∙ c.is_true-2.ensures.1 p))
+    (λ p. false≢true (sym c.if-is_true.false ∙ c.is_true.ensures.1 p))
     (λ p. false≢true (sym c.if-is_false.false ∙ c.is_false.ensures.1 p)))
     c.in-None-find_replacement.ensures.none)
 
@@ -70,12 +60,36 @@ returns-then-is_aside-clause-verdict g c =
     rw (← c.watcher_at-watcher.ensures.slot)
     (entry-aside c.args.aside c.args.self.now (lits_at (g.P.Port.state c.args.port.now)) c.args.trail.now c.watcher_at-watcher.result.slot c.args.lit c.in-Some.entry (sym c.is_aside.ensures ∙ c.if-is_aside.true) c.in-Some.ensures.found)
 
+pub returns-then-is_true-clause-verdict : goal.returns-then-is_true-clause-verdict
+returns-then-is_true-clause-verdict g c =
+    rw (← c.watcher_at-watcher.ensures.slot)
+    (
+    let e = entry-other c.args.aside c.args.self.now c.watcher_at-watcher.result.slot c.args.lit c.in-Some.entry (sym c.is_aside.ensures ∙ c.if-is_aside.false) c.in-Some.ensures.found in
+    record {
+      e = c.in-Some.entry;
+      entry = e;
+      inside = (entry_pair (but c.args.aside c.args.self.now) (lits_at (g.P.Port.state c.args.port.now)) c.args.trail.now c.watcher_at-watcher.result.slot c.args.lit c.in-Some.entry c.requires.watched e).1;
+      is_true = c.is_true.ensures.0 c.if-is_true.true;
+    })
+
+pub is_true-requires-in-Some-find_replacement : goal.is_true-requires-in-Some-find_replacement
+is_true-requires-in-Some-find_replacement g c =
+    let w = but c.args.aside c.args.self.now in
+    let s = g.P.Port.state c.args.port.now in
+    let t = c.args.trail.now in
+    let e = entry-other c.args.aside c.args.self.now c.watcher_at-watcher.result.slot c.args.lit c.in-Some.entry (sym c.is_aside.ensures ∙ c.if-is_aside.false) c.in-Some.ensures.found in
+    on_vars w.vars t.vars (lits_at s c.in-Some.entry.clause.address) c.in-Some-find_replacement.new c.requires.watched.vars
+    (entry_attachable w (lits_at s) t c.watcher_at-watcher.result.slot c.args.lit c.in-Some.entry c.requires.watched e)
+    c.in-Some-find_replacement.ensures.found.inside
+
 pub returns-then-is_true-2-clause-verdict : goal.returns-then-is_true-2-clause-verdict
 returns-then-is_true-2-clause-verdict g c =
     rw (← c.watcher_at-watcher.ensures.slot)
     record {
+      e = c.in-Some.entry;
       entry = entry-other c.args.aside c.args.self.now c.watcher_at-watcher.result.slot c.args.lit c.in-Some.entry (sym c.is_aside.ensures ∙ c.if-is_aside.false) c.in-Some.ensures.found;
-      is_true = c.is_true-2.ensures.0 c.if-is_true-2.true;
+      inside = c.in-Some-find_replacement.ensures.found.inside;
+      is_true = c.is_true-in-Some-find_replacement.ensures.0 c.if-is_true-2.true;
     }
 
 pub find_replacement-requires-clause-held : goal.find_replacement-requires-clause-held

@@ -67,19 +67,19 @@ pub returns-in-Stale-clause-visited : goal.returns-in-Stale-clause-visited
 returns-in-Stale-clause-visited g c =
     stale_visiting (but c.args.aside c.args.self.now) (but c.args.aside record { vars = c.self.inside.vars; slots = c.self.inside.slots; lists = c.self.inside.lists.rows; rooms = c.self.inside.lists.rooms; size = c.self.inside.lists.size; settled = c.self.inside.settled }) (lits_at (g.P.Port.state c.args.port.now)) c.args.trail.now c.args.lit c.args.place c.take.new.self.rows c.take.new.self.rooms c.take.new.self.size (ap (but c.args.aside) c.self.view_is) c.requires.there c.requires.visiting c.in-Stale.ensures.verdict c.take.ensures.removed
 
-blocked_visiting : (w v : WatchData) (h : Lits) (t : TrailData) (l : Literal) (place : ℕ) (e : ListEntry) (lists : List (List Watcher)) (rooms : List ℕ) (size : ℕ) → v ≡ w → IsTrail t → place < length (list_at w.lists l) → IsVisiting w h t l (place + 1)
-    → CanBlock w t l (get_or (list_at w.lists l) place 0) e → Reblocked v.lists lists l place e.other → IsVisiting record v { lists = lists; rooms = rooms; size = size } h t l place × (place ≤ length (list_at lists l))
-blocked_visiting w v h t l place e lists rooms size q trail lt k can r =
+blocked_visiting : (w v : WatchData) (h : Lits) (t : TrailData) (l b : Literal) (place : ℕ) (lists : List (List Watcher)) (rooms : List ℕ) (size : ℕ) → v ≡ w → IsTrail t → place < length (list_at w.lists l) → IsVisiting w h t l (place + 1)
+    → CanBlock w h t l (get_or (list_at w.lists l) place 0) b → Reblocked v.lists lists l place b → IsVisiting record v { lists = lists; rooms = rooms; size = size } h t l place × (place ≤ length (list_at lists l))
+blocked_visiting w v h t l b place lists rooms size q trail lt k can r =
     let lt' = subst (λ (x : WatchData). place < length (list_at x.lists l)) (sym q) lt in (
-      visiting-blocked v h t l place e lists rooms size trail lt'
+      visiting-blocked v h t l b place lists rooms size trail lt'
           (subst (λ (x : WatchData). IsVisiting x h t l (place + 1)) (sym q) k)
-          (subst (λ (x : WatchData). CanBlock x t l (get_or (list_at x.lists l) place 0) e) (sym q) can) r,
+          (subst (λ (x : WatchData). CanBlock x h t l (get_or (list_at x.lists l) place 0) b) (sym q) can) r,
       omega (arith, lt', ap (λ (xs : List ℕ). length xs) (r.same l)),
     )
 
 blocked : (g : Over) (c : goal.After-set_blocker g) → IsVisiting record { vars = c.self.inside.vars; slots = other_slots c.args.aside c.self.inside.slots; lists = c.set_blocker.new.self.rows; rooms = c.set_blocker.new.self.rooms; size = c.set_blocker.new.self.size; settled = c.self.inside.settled } (lits_at (g.P.Port.state c.args.port.now)) c.args.trail.now c.args.lit c.args.place × (c.args.place ≤ length (list_at c.set_blocker.new.self.rows c.args.lit))
 blocked g c =
-    blocked_visiting (but c.args.aside c.args.self.now) (but c.args.aside record { vars = c.self.inside.vars; slots = c.self.inside.slots; lists = c.self.inside.lists.rows; rooms = c.self.inside.lists.rooms; size = c.self.inside.lists.size; settled = c.self.inside.settled }) (lits_at (g.P.Port.state c.args.port.now)) c.args.trail.now c.args.lit c.args.place c.in-Blocked.entry c.set_blocker.new.self.rows c.set_blocker.new.self.rooms c.set_blocker.new.self.size (ap (but c.args.aside) c.self.view_is) c.decision_level-level.ensures.trail c.requires.there c.requires.visiting c.in-Blocked.ensures.verdict c.set_blocker.ensures.reblocked
+    blocked_visiting (but c.args.aside c.args.self.now) (but c.args.aside record { vars = c.self.inside.vars; slots = c.self.inside.slots; lists = c.self.inside.lists.rows; rooms = c.self.inside.lists.rooms; size = c.self.inside.lists.size; settled = c.self.inside.settled }) (lits_at (g.P.Port.state c.args.port.now)) c.args.trail.now c.args.lit c.in-Blocked.blocker c.args.place c.set_blocker.new.self.rows c.set_blocker.new.self.rooms c.set_blocker.new.self.size (ap (but c.args.aside) c.self.view_is) c.decision_level-level.ensures.trail c.requires.there c.requires.visiting c.in-Blocked.ensures.verdict c.set_blocker.ensures.reblocked
 
 pub returns-in-Blocked-clause-visited : goal.returns-in-Blocked-clause-visited
 returns-in-Blocked-clause-visited g c = blocked g c
@@ -184,7 +184,7 @@ returns-in-Stale-clause-passed g c =
 
 pub returns-in-Blocked-clause-passed : goal.returns-in-Blocked-clause-passed
 returns-in-Blocked-clause-passed g c =
-    passes-blocked c.args.aside (lits_at (g.P.Port.state c.args.port.now)) c.args.self.now record { vars = c.self.inside.vars; slots = c.self.inside.slots; lists = c.self.inside.lists.rows; rooms = c.self.inside.lists.rooms; size = c.self.inside.lists.size; settled = c.self.inside.settled } c.args.trail.now c.args.lit c.args.place c.in-Blocked.entry c.set_blocker.new.self.rows c.set_blocker.new.self.rooms c.set_blocker.new.self.size c.self.view_is
+    passes-blocked c.args.aside (lits_at (g.P.Port.state c.args.port.now)) c.args.self.now record { vars = c.self.inside.vars; slots = c.self.inside.slots; lists = c.self.inside.lists.rows; rooms = c.self.inside.lists.rooms; size = c.self.inside.lists.size; settled = c.self.inside.settled } c.args.trail.now c.args.lit c.in-Blocked.blocker c.args.place c.set_blocker.new.self.rows c.set_blocker.new.self.rooms c.set_blocker.new.self.size c.self.view_is
     c.requires.visiting.watched c.in-Blocked.ensures.verdict c.set_blocker.ensures.reblocked
 
 pub returns-in-Settled-clause-passed : goal.returns-in-Settled-clause-passed

@@ -35,8 +35,9 @@ loop-place-init g c = record {
   settled = refl;
   len = refl;
   done = refl;
-  visiting = visiting-start (but c.args.aside c.args.self.now) (lits_at (g.P.Port.state c.args.port.now)) c.args.trail.now c.args.lit c.list_len-place.result c.list_len-place.ensures c.requires.watched;
-  inside = omega (arith, c.list_len-place.ensures);
+  visiting = c.pass_satisfied-place.ensures.visiting c.args.aside (lits_at (g.P.Port.state c.args.port.now))
+      (visiting-start (but c.args.aside c.args.self.now) (lits_at (g.P.Port.state c.args.port.now)) c.args.trail.now c.args.lit c.list_len.result c.list_len.ensures c.requires.watched);
+  inside = omega (arith, c.list_len.ensures, c.pass_satisfied-place.ensures.below);
 }
 
 pub visit-requires-clause-now_false : goal.visit-requires-clause-now_false
@@ -64,6 +65,6 @@ loop-place-preserved g c =
       settled = c.visit.ensures.settled ∙ i.settled;
       len = c.visit.ensures.len ∙ i.len;
       done = c.visit.ensures.done ∙ i.done;
-      visiting = d.0;
-      inside = d.1;
+      visiting = c.pass_satisfied-place-in-loop-place.ensures.visiting c.args.aside (lits_at (g.P.Port.state c.args.port.now)) d.0;
+      inside = (let below = c.pass_satisfied-place-in-loop-place.ensures.below in omega (arith, below, d.1));
     }

@@ -60,6 +60,7 @@ module _ (old added removed new : WorkState) (t : List ℕ) (numbers : List ℕ)
     stands = table.stands;
     free = λ c h. free_from sin c (λ q. let m = alive_by new.clauses c h in
         let lt = (r.left m.0 c (subst (λ (cs : List (ℕ × List Literal)). Contains cs (m.0, c)) clauses m.1) q).1 in absurd (omega arith));
+    passed = λ n c q h. subst (λ (cs : List (ℕ × List Literal)). Contains cs (n, c)) (sym clauses) (r.stay n c q h);
     became = λ c h. subst (λ (w : List (List Literal)). Becomes sin c w) (sym known_same) (r.became c h);
     came = λ c h. let m = alive_by new.clauses c h in ⊎_elim
         (λ (i : Contains old.clauses (m.0, c)). inl (In_Contains (lists old.clauses) c (In_map (λ (x : ℕ × List Literal). x.1) old.clauses (m.0, c) (Contains_In old.clauses (m.0, c) i))))

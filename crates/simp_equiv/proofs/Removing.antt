@@ -122,6 +122,7 @@ module _ (start now : WorkState) (sin : Literal → Literal) (numbers : List ℕ
   removing_start = record {
     on = t.on;
     settled = settled;
+    stay = λ n c q h. t.stay n c h;
     came = t.came;
     became = λ c h. known_by (λ x. Becomes sin x (known now)) start became_alive became_unit c (Contains_In (known start) c h);
     left = λ n c h r. ⊎_elim
@@ -168,6 +169,10 @@ module _ (old new : WorkState) (sin : Literal → Literal) (n : ℕ) (c : List L
     kept = λ start rest t. record {
       on = goes_along start old new t.on (removed_on h);
       settled = t.settled;
+      stay = λ m x q i. let j = t.stay m x q i in (h.others m x).1 (
+        j,
+        λ e. true≢false (sym (ap (is_replaced sin) (same_number old.clauses kept.numbers n x c (subst (λ (k : ℕ). Contains old.clauses (k, x)) e j) alive) ∙ r) ∙ q),
+      );
       came = λ m x i. t.came m x ((h.others m x).0 i).0;
       became = λ x i. still_became h t.settled x (t.became x i);
       left = λ m x i q. ⊎_elim
@@ -188,6 +193,7 @@ removed_none w sin n going unspent kept none = record {
   kept = λ start rest t. record {
     on = t.on;
     settled = t.settled;
+    stay = t.stay;
     came = t.came;
     became = t.became;
     left = λ m x i q. ⊎_elim

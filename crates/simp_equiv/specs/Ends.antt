@@ -1,5 +1,5 @@
 -- What the replacing of equivalent literals leaves.
-use Rattle.std.specs.Prelude.{◌≡◌, ◌⊎◌, true, false, List, ◌++◌, All, Contains, Result, Ok, Err}
+use Rattle.std.specs.Prelude.{◌≡◌, ◌⊎◌, ℕ, true, false, List, ◌++◌, All, Contains, Result, Ok, Err}
 use Rattle.sat_words.specs.Literal.{Literal, opposite}
 use Rattle.sat_words.specs.Clause.{has, has_opposites, two_or_more}
 use Rattle.drat_text.specs.declared.stop.LineStop.{LineStop}
@@ -9,21 +9,26 @@ use Rattle.simp_base.specs.declared.work.Run.{Run}
 use Rattle.simp_base.specs.declared.work.Run.TheVariants.{Done, Refuted}
 use Rattle.simp_equiv.specs.Graphs.{Connected}
 use Rattle.simp_equiv.specs.Implications.{Implied, IsConsistent, StandsFor}
-use Rattle.simp_equiv.specs.Replacements.{Becomes, Comes, replacements, replaced_entries}
+use Rattle.simp_equiv.specs.Replacements.{is_replaced, Becomes, Comes, replacements, replaced_entries}
 use Rattle.simp_base.specs.Causes.{HasCause}
 
 -- a clause of two literals or more without opposites has no variable for which another one stands
 abbrev pub IsFree : (Literal → Literal) → List Literal → Type 0
 IsFree stand_in c = two_or_more c ≡ true → has_opposites c ≡ false → All (λ l. (stand_in l).var ≡ l.var) c
 
+-- a clause that has no literal to replace, or that takes no part, as a tautology, stays under its number
+abbrev pub PassesOthers : (Literal → Literal) → WorkState → WorkState → Type 0
+PassesOthers stand_in old new = (n : ℕ) (c : List Literal) → is_replaced stand_in c ≡ false → Contains old.clauses (n, c) → Contains new.clauses (n, c)
+
 -- in the graph at entry no component has a literal and its negation, and one literal stands for each: in no clause is
--- another one left; what was known became what is known by replacing literals, and no other clause came; the stack took
--- two entries for each variable that is replaced, so that models lift
+-- another one left; what was known became what is known by replacing literals, no other clause came, and one that is not to be
+-- replaced stays; the stack took two entries for each variable that is replaced, so that models lift
 pub record Substituted (old new : WorkState) : Type 0 where
   pub consistent : IsConsistent (Implied old)
   pub stand_in : Literal → Literal
   pub stands : (l : Literal) → StandsFor (Implied old) l (stand_in l)
   pub free : (c : List Literal) → Contains (lists new.clauses) c → IsFree stand_in c
+  pub passed : PassesOthers stand_in old new
   pub became : (c : List Literal) → Contains (known old) c → Becomes stand_in c (known new)
   pub came : (c : List Literal) → Contains (lists new.clauses) c → Contains (lists old.clauses) c ⊎ Comes stand_in (lists old.clauses) c
   pub stack : new.stack ≡ old.stack ++ replaced_entries (replacements stand_in old.vars)

@@ -75,10 +75,11 @@ WereAdded old new stand_in numbers (Ok done) = Adding old new stand_in []
 WereAdded old new stand_in numbers (Err stop) = HasCause old new stop × KeepsLog old new
 
 -- from the work at the start: what becomes of each clause and unit is known, and each clause that is to be replaced has
--- its number in the rest
+-- its number in the rest; the others stay
 pub record Removing (start now : WorkState) (stand_in : Literal → Literal) (rest : List ℕ) : Type 0 where
   pub on : GoesOn start now
   pub settled : (l : Literal) → stand_in (stand_in l) ≡ stand_in l
+  pub stay : (n : ℕ) (c : List Literal) → is_replaced stand_in c ≡ false → Contains start.clauses (n, c) → Contains now.clauses (n, c)
   pub came : (n : ℕ) (c : List Literal) → Contains now.clauses (n, c) → Contains start.clauses (n, c) ⊎ Comes stand_in (lists start.clauses) c
   pub became : (c : List Literal) → Contains (known start) c → Becomes stand_in c (known now)
   pub left : (n : ℕ) (c : List Literal) → Contains now.clauses (n, c) → is_replaced stand_in c ≡ true → Contains rest n

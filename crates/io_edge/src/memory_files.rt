@@ -2,7 +2,7 @@
 // The program never runs this: it stands for real files and streams in tests, where contracts know every byte.
 ghost use Rattle.std.specs.Prelude.{◌≡◌, ◌||◌, [], None, Some, IfOk, OnOk, IfSome, is_err, is_none, if◌then◌else◌, remove, option_map, string_bytes, unwrap_or};
 ghost use Rattle.io_edge.specs.Calls.{fails_next, no_calls, after_call};
-ghost use Rattle.io_edge.specs.Causes.{HasCause};
+ghost use Rattle.io_edge.specs.Causes.{HasCause, one_more};
 ghost use Rattle.io_edge.specs.Files.{file_state, file_states};
 ghost use Rattle.io_edge.specs.Memory.{OutputState, StoreState, path_map, file_at, output_at, new_sink, IsCreated};
 ghost use Rattle.io_edge.specs.Paths.{told_at, told_target, IsThere, IsEmptyWhereTold};
@@ -75,6 +75,8 @@ pub struct MemFiles<'a> {
     outputs: Vec<MemOutput<'a>>,
     spare: MemSink<'a>,
     schedule: Schedule<'a>,
+    openings: u64,
+    creations: u64,
 }
 
 impl<'a> Model for MemFiles<'a> {
@@ -86,6 +88,7 @@ impl<'a> Model for MemFiles<'a> {
       spare_room = s.spare.room;
       spare_failing = s.spare.calls.failing;
       calls = s.schedule;
+      tried = record { openings = s.openings; creations = s.creations };
     } };
 
     ghost invariant = { λ s. s.spare ≡ new_sink s.spare.room s.spare.calls.failing };
@@ -108,6 +111,7 @@ impl<'a> MemFiles<'a> {
           spare_room = spare.entry.room;
           spare_failing = spare.entry.calls.failing;
           calls = no_calls failing.now;
+          tried = record { openings = 0; creations = 0 };
         } }
     {
         MemFiles {
@@ -116,6 +120,8 @@ impl<'a> MemFiles<'a> {
             outputs,
             spare,
             schedule: Schedule::new(failing),
+            openings: 0,
+            creations: 0,
         }
     }
 
@@ -155,6 +161,8 @@ impl<'a> Files for MemFiles<'a> {
 
     ghost faults = { λ store. store.calls.faults };
 
+    ghost tried = { λ store. Some store.tried };
+
     #[tactic(auto, using(crate::proofs::Stores::bytes_at_file_at))]
     fn open_input(&mut self, path: &str) -> Result<MemSource<'a>, Failed>
         ensures left { IfOk result (λ reader. Some reader.left ≡ told_at (Some (path_map self.old.files)) path.now) }
@@ -163,8 +171,9 @@ impl<'a> Files for MemFiles<'a> {
         ensures cause { HasCause self.old.calls.faults self.new.calls.faults result }
         ensures fails { is_err result ≡ (fails_next self.old.calls || is_none (file_at self.old.files path.now)) }
         ensures opened { IfOk result (λ reader. IfSome (file_at self.old.files path.now) (λ file. reader ≡ record { left = file.bytes; piece = usize.MAX; calls = no_calls file.failing })) }
-        ensures after { self.new ≡ record self.old { calls = after_call self.old.calls (is_err result) } }
+        ensures after { self.new ≡ record self.old { calls = after_call self.old.calls (is_err result); tried = record self.old.tried { openings = one_more self.old.tried.openings } } }
     {
+        self.openings = self.openings.saturating_add(1);
         self.schedule.next_call()?;
         match find_file(self.files, path) {
             Some(file) => Ok(MemSource::new(file.bytes, file.fails)),
@@ -184,8 +193,10 @@ impl<'a> Files for MemFiles<'a> {
         ensures after { self.new ≡ record self.old {
           outputs = (if is_err result then self.old.outputs else remove self.old.outputs (unwrap_or (output_at self.old.outputs path.now) 0));
           calls = after_call self.old.calls (is_err result);
+          tried = record self.old.tried { creations = one_more self.old.tried.creations };
         } }
     {
+        self.creations = self.creations.saturating_add(1);
         self.schedule.next_call()?;
         match find_output(&self.outputs, path) {
             Some(place) => Ok(self.outputs.remove(place).into_sink()),

@@ -3,7 +3,7 @@ use Rattle.std.specs.Prelude.{◌≡◌, ℕ, Bool, true, List, Some, None, is_s
 use Rattle.std.specs.declared.option.Option.{Option}
 use Rattle.io_edge.specs.Bytes.{GrowsBy, GrowsByPart}
 use Rattle.io_edge.specs.Causes.{Rose, one_more}
-use Rattle.io_edge.specs.Paths.{PathMap, told_at, told_target, IsThere}
+use Rattle.io_edge.specs.Paths.{PathMap, Tried, told_at, told_target, after_opening, after_creation, IsThere}
 use Rattle.dimacs_read.specs.Answer.{IsOpen, IsReadNoFurther}
 use Rattle.top_call.specs.declared.plan.CallPlan.{CallPlan}
 use Rattle.top_call.specs.Words.{command_of, file_path}
@@ -126,6 +126,16 @@ target_in contents (Some path) = told_target contents path
 abbrev pub writer_of : {W : Type 0} → (W → ℕ) → (W → Option (List ℕ)) → (W → Option (List ℕ)) → Option W → Option Writer
 writer_of faults written flushed None = None
 writer_of faults written flushed (Some writer) = Some (writer_at faults written flushed writer)
+
+-- what the store tells after the input was to be opened once, if a path is given for it
+abbrev pub opened_once : Option (List ℕ) → Option Tried → Option Tried
+opened_once None tried = tried
+opened_once (Some path) tried = after_opening tried
+
+-- and after the proof was to be created once, if a path is given for it
+abbrev pub created_once : Option (List ℕ) → Option Tried → Option Tried
+created_once None tried = tried
+created_once (Some path) tried = after_creation tried
 
 -- the input was opened if a path is given for it, and its reader has the path's bytes left, and no fault
 abbrev pub IsOpened : {R : Type 0} → (R → Option (List ℕ)) → (R → ℕ) → Option PathMap → Option (List ℕ) → Option R → Type 0

@@ -1,11 +1,11 @@
 // The top call.
-ghost use Rattle.std.specs.Prelude.{◌≡◌, ◌≤◌, ◌⊎◌, Bool, true, false, ℕ, Some, None, map, string_bytes, option_copied, option_map, option_and_then, is_some, IfOk, OnOk, OnErr, IfSome, IsSome, IsSomeAnd};
+ghost use Rattle.std.specs.Prelude.{◌≡◌, ◌≢◌, ◌≤◌, ◌⊎◌, Bool, true, false, ℕ, Some, None, map, string_bytes, option_copied, option_map, option_and_then, is_some, IfOk, OnOk, OnErr, IfSome, IsSome, IsSomeAnd};
 ghost use Rattle.io_edge.specs.Causes.{HasCause};
 ghost use Rattle.io_edge.specs.Paths.{IsEmptyWhereTold, IsThere};
 ghost use Rattle.top_call.specs.Words.{asked_by, command_of, file_path, make_number, proof_path};
 ghost use Rattle.top_call.specs.Planned.{plan_of, search_of, IsInRange};
 ghost use Rattle.dimacs_read.specs.Answer.{IsReadNoFurther};
-ghost use Rattle.top_call.specs.Run.{FailedLast, HasFailedLast, FileFailedLast, target_in, text_left, source_in, writer_of, faults_between, output_between, IsOpened, IsFileRead};
+ghost use Rattle.top_call.specs.Run.{FailedLast, HasFailedLast, FileFailedLast, opened_once, created_once, target_in, text_left, source_in, writer_of, faults_between, output_between, IsOpened, IsFileRead};
 ghost use Rattle.top_call.specs.Outcome.{IsCall, IsRun};
 ghost use Rattle.top_call.specs.Tallied.{no_tally};
 ghost use Rattle.top_call.specs.Ends.{status_of, model_of, prints_at, leaves_input_at, leaves_files_at};
@@ -37,6 +37,7 @@ fn open<F: Files>(files: &mut F, path: Option<&str>) -> Result<Option<F::Reader>
     ensures opened { IfOk result (λ file. IsOpened F.Reader.left F.Reader.faults (F.contents files.old) (option_copied path.entry) file) }
     ensures there { OnOk result (IfSome (option_copied path.entry) (IsThere (F.contents files.old))) }
     ensures contents { F.contents files.new ≡ F.contents files.old }
+    ensures tried { F.tried files.new ≡ opened_once (option_copied path.entry) (F.tried files.old) }
     ensures cause { HasCause (F.faults files.old) (F.faults files.new) result }
     ensures asked { OnErr result (IsSome (option_copied path.entry)) }
 {
@@ -55,6 +56,7 @@ fn create<F: Files>(files: &mut F, path: Option<&str>) -> Result<F::Writer, Fail
     ensures fresh { IfOk result (λ writer. F.Writer.faults writer ≡ 0) }
     ensures target { IfOk result (λ writer. F.Writer.target writer ≡ target_in (F.contents files.old) (option_copied path.entry)) }
     ensures contents { F.contents files.new ≡ F.contents files.old }
+    ensures tried { F.tried files.new ≡ created_once (option_copied path.entry) (F.tried files.old) }
     ensures cause { HasCause (F.faults files.old) (F.faults files.new) result }
     ensures asked { OnErr result (IsSome (option_copied path.entry)) }
 {
@@ -250,6 +252,8 @@ fn run<H: Threads + Wait + Sync, F: Files, I: Source, O: Sink, G: Gate + Sync>(
     ensures file_unread { status_of result.end ≡ 4 → IsOpened F.Reader.left F.Reader.faults (F.contents files.old) (file_path (command_of (map string_bytes words.now))) result.file }
     ensures contents { F.contents files.new ≡ F.contents files.old }
     ensures unopened { leaves_files_at (status_of result.end) (is_some result.proof) ≡ true → files.new ≡ files.old }
+    ensures uncreated { status_of result.end ≡ 3 → F.tried files.new ≡ opened_once (file_path (command_of (map string_bytes words.now))) (F.tried files.old) }
+    ensures tried { leaves_files_at (status_of result.end) (is_some result.proof) ≡ false → status_of result.end ≢ 3 → F.tried files.new ≡ created_once (proof_path (command_of (map string_bytes words.now))) (opened_once (file_path (command_of (map string_bytes words.now))) (F.tried files.old)) }
 {
     let tally = Tally::new(alloc);
     let command = match parse(alloc, words) {
@@ -366,6 +370,8 @@ pub fn gimsatul<H: Threads + Wait + Sync, F: Files, I: Source, O: Sink, E: Sink,
     ensures file_unread { result.status ≡ 4 → IsOpened F.Reader.left F.Reader.faults (F.contents files.old) (file_path (command_of (map string_bytes words.now))) result.file }
     ensures contents { F.contents files.new ≡ F.contents files.old }
     ensures unopened { leaves_files_at result.status (is_some result.proof) ≡ true → files.new ≡ files.old }
+    ensures uncreated { result.status ≡ 3 → F.tried files.new ≡ opened_once (file_path (command_of (map string_bytes words.now))) (F.tried files.old) }
+    ensures tried { leaves_files_at result.status (is_some result.proof) ≡ false → result.status ≢ 3 → F.tried files.new ≡ created_once (proof_path (command_of (map string_bytes words.now))) (opened_once (file_path (command_of (map string_bytes words.now))) (F.tried files.old)) }
 {
     // A text that spells a formula has no bad place, so a call that must answer does not refuse the input.
     read_or_bad();

@@ -9,5 +9,6 @@ create_output-tells g c = record {
   target = on_any_ok c.result _ refl;
   fresh = c.ensures.fresh;
   contents = refl;
+  tried = refl;
   cause = c.ensures.cause;
 }

@@ -2,10 +2,10 @@
 
 Seeded random formulas of up to 16 variables, chains of equivalences, gates, colourings, pigeonhole formulas and formulas with
 the empty clause go through the program with `--proof`, each simplified and with `--no-simplify`, with 1, 2, 4, 8 or 16 rings,
-few words for clauses or many, half of the runs with `--check`, half with a seed and some with a small limit of lemmas, most
-formulas in odd spellings, on standard input or as a file. Its answer is compared with a truth table, its `v` lines with the
-clauses and the format, and every line of its proof with the definition of DRAT. Before that, a damaged proof and a wrong
-model are tried, which must be caught. Real files that fail, refused words, refused inputs and a table with too few words bring
+few words for clauses or many, half of the runs with `--check`, half with a seed, half with `--binary` and some with a small
+limit of lemmas, most formulas in odd spellings, on standard input or as a file. Its answer is compared with a truth table, its
+`v` lines with the clauses and the format, and every line of its proof, as text or in binary, with the definition of DRAT. Before
+that, a damaged proof and a wrong model are tried, which must be caught. Real files that fail, refused words, refused inputs and a table with too few words bring
 the program to each status but 9, and each time the folder that it runs in must have no file but those that were to be there.
 Nothing here shares code with the program.
 """
@@ -182,20 +182,61 @@ def is_rat(clauses, literals):
     )
 
 
-def check_proof(clauses, text):
-    """Whether each line is valid where it stands; answers whether the empty clause was added."""
-    alive = [frozenset(clause) for clause in clauses]
-    ended = False
+def text_lines(proof):
+    """The lines of a textual proof: whether each deletes, and its literals."""
+    text = proof.decode("ascii")
     if text and not text.endswith("\n"):
         raise Wrong("the proof's last line has no newline")
+    lines = []
     for number, line in enumerate(text.splitlines(), 1):
         parts = LINE.fullmatch(line)
         if parts is None:
             raise Wrong("line %d of the proof is not in the format: %r" % (number, line))
-        literals = [int(word) for word in parts.group(2).split()]
+        lines.append((bool(parts.group(1)), [int(word) for word in parts.group(2).split()]))
+    return lines
+
+
+def binary_number(proof, place):
+    """The number at a place in binary, in groups of seven bits, and the place behind it."""
+    number = shift = 0
+    while place < len(proof):
+        byte = proof[place]
+        place += 1
+        number |= (byte & 127) << shift
+        shift += 7
+        if byte < 128:
+            if byte == 0 and shift > 7:
+                raise Wrong("a number of the proof has a group too many")
+            return number, place
+    raise Wrong("the proof ends inside a number")
+
+
+def binary_lines(proof):
+    """The lines of a proof in binary: whether each deletes, and its literals."""
+    lines, place = [], 0
+    while place < len(proof):
+        mark = proof[place : place + 1]
+        if mark not in (b"a", b"d"):
+            raise Wrong("line %d of the proof begins with %r" % (len(lines) + 1, mark))
+        literals = []
+        number, place = binary_number(proof, place + 1)
+        while number != 0:
+            if number == 1:
+                raise Wrong("line %d of the proof has a literal of no variable" % (len(lines) + 1))
+            literals.append(-(number // 2) if number % 2 else number // 2)
+            number, place = binary_number(proof, place)
+        lines.append((mark == b"d", literals))
+    return lines
+
+
+def check_proof(clauses, proof, binary=False):
+    """Whether each line is valid where it stands; answers whether the empty clause was added."""
+    alive = [frozenset(clause) for clause in clauses]
+    ended = False
+    for number, (deletes, literals) in enumerate(binary_lines(proof) if binary else text_lines(proof), 1):
         if ended:
             raise Wrong("line %d of the proof stands behind the empty clause" % number)
-        if parts.group(1):
+        if deletes:
             clause = frozenset(literals)
             if clause not in alive or len(clause) == 1:
                 raise Wrong("line %d of the proof deletes no clause of two literals or more" % number)
@@ -242,11 +283,12 @@ def check_no_room(out, err):
         raise Wrong("status 8 with %r on standard error and %r printed" % (err, out))
 
 
-def check_answer(variables, clauses, status, out, err, proof, satisfiable, checked=False, limited=False, narrow=False):
-    """`limited` says that the rings may learn few lemmas, `narrow` that there are few words for clauses."""
+def check_answer(variables, clauses, status, out, err, proof, satisfiable, checked=False, limited=False, narrow=False, binary=False):
+    """`limited` says that the rings may learn few lemmas, `narrow` that there are few words for clauses, `binary` that the proof is in
+    binary."""
     if status == 8 and narrow:
         check_no_room(out, err)
-        check_proof(clauses, proof)
+        check_proof(clauses, proof, binary)
         return
     lines = out.split("\n")
     if lines[-1] != "":
@@ -258,7 +300,7 @@ def check_answer(variables, clauses, status, out, err, proof, satisfiable, check
         lines = lines[1:]
     if err:
         raise Wrong("something on standard error: %r" % err)
-    ended = check_proof(clauses, proof)
+    ended = check_proof(clauses, proof, binary)
     if status == 10:
         if lines[:1] != ["s SATISFIABLE"] or ended:
             raise Wrong("status 10 with another answer or with a refutation")
@@ -278,21 +320,24 @@ def check_answer(variables, clauses, status, out, err, proof, satisfiable, check
 
 
 class Options:
-    """How the program is to decide: by how many rings, with how many words for clauses and lemmas for each ring, from which seed,
-    and whether it simplifies and checks its log. None leaves an option out."""
+    """How the program is to decide: by how many rings, with how many words for clauses, slots for each two rings and class, and
+    lemmas for each ring, from which seed, whether it simplifies and checks its log, and whether the proof is in binary. None
+    leaves an option out."""
 
     def __init__(self, rng, simplified):
-        self.simplified, self.checked = simplified, rng.random() < 0.5
+        self.simplified, self.checked, self.binary = simplified, rng.random() < 0.5, rng.random() < 0.5
         self.numbers = {
             "--threads": rng.choice([1, 2, 4, 8, 16]),
             "--words": rng.choice([64, 256, 1024] + [65536] * 6) if rng.random() < 0.95 else None,
+            "--slots": rng.choice([None, 1, 3, 16]),
             "--conflicts": rng.choice([None] * 4 + [1, 10]),
             "--seed": rng.choice([None, rng.getrandbits(63)]),
         }
 
     def words(self):
         named = [word for name, number in self.numbers.items() if number is not None for word in (name, str(number))]
-        return named + ["--check"] * self.checked + ["--no-simplify"] * (not self.simplified)
+        flags = {"--check": self.checked, "--binary": self.binary, "--no-simplify": not self.simplified}
+        return named + [flag for flag, is_used in flags.items() if is_used]
 
 
 def run(program, folder, variables, clauses, satisfiable, text, from_file, options):
@@ -310,8 +355,8 @@ def run(program, folder, variables, clauses, satisfiable, text, from_file, optio
         stderr=subprocess.PIPE,
         timeout=60,
     )
-    with open(path, "rb") as proof:
-        text = proof.read().decode("ascii")
+    with open(path, "rb") as file:
+        proof = file.read()
     os.remove(path)
     check_answer(
         variables,
@@ -319,11 +364,12 @@ def run(program, folder, variables, clauses, satisfiable, text, from_file, optio
         done.returncode,
         done.stdout.decode("ascii"),
         done.stderr.decode("ascii"),
-        text,
+        proof,
         satisfiable,
         options.checked,
         options.numbers["--conflicts"] is not None,
         options.numbers["--words"] is not None,
+        options.binary,
     )
 
 
@@ -349,6 +395,8 @@ def statuses():
         "--threads 17",
         "--words 63",
         "--words 2147483649",
+        "--slots 0",
+        "--slots 17",
         "--conflicts 0",
         "--proof",
         "--other",
@@ -358,6 +406,7 @@ def statuses():
         "--make -1",
         "--make 9223372036854775808",
         "--check --check",
+        "--binary --binary",
         "--seed -1",
         "--seed 9223372036854775808",
     ]:
@@ -397,6 +446,8 @@ def statuses():
     yield Case(8, ["--no-simplify", "--words", "64"], chain, stderr="gimsatul: no room: need 5, largest hole 4\n")
     yield Case(10, [], MODEL, stdout="s SATISFIABLE\nv -1 2 0\n")
     yield Case(20, ["input"], MODEL, REFUTED, stdout="s UNSATISFIABLE\n", here=["input"])
+    yield Case(20, ["--binary", "--proof", "proof"], REFUTED, stdout="s UNSATISFIABLE\n", here=["proof"])
+    yield Case(7, ["--binary", "--proof", FULL], REFUTED, stderr="gimsatul: proof fault\n")
 
 
 def try_status(program, case):
@@ -431,9 +482,9 @@ def check_left(case, folder):
     if "proof" not in case.here:
         return
     with open(os.path.join(folder, "proof"), "rb") as file:
-        text = file.read().decode("ascii")
+        proof = file.read()
     if case.status in (2, 5):
-        if text:
+        if proof:
             raise Wrong("%r: a proof of what was not read" % (case.words,))
         return
     numbers = [int(word) for word in case.stdin.decode("ascii").split()[4:]]
@@ -443,7 +494,7 @@ def check_left(case, folder):
             clauses.append([])
         else:
             clauses[-1].append(number)
-    check_proof(clauses[:-1], text)
+    check_proof(clauses[:-1], proof, "--binary" in case.words)
 
 
 def must_catch(what, check):
@@ -457,16 +508,21 @@ def must_catch(what, check):
 
 def try_itself():
     clauses = [[1, 2], [1, -2], [-1, 2], [-1, -2]]
-    check_answer(2, clauses, 20, "s UNSATISFIABLE\n", "", "1 0\n0\n", False)
-    must_catch("a lemma left out", lambda: check_answer(2, clauses, 20, "s UNSATISFIABLE\n", "", "0\n", False))
-    must_catch("a lemma changed", lambda: check_proof([[1, 2], [1, -2]], "-1 0\n"))
-    must_catch("a deletion of no clause", lambda: check_proof([[1, 2]], "d 1 3 0\n"))
-    must_catch("a line cut short", lambda: check_proof(clauses, "1 0\n0"))
-    must_catch("a proof without its end", lambda: check_answer(2, clauses, 20, "s UNSATISFIABLE\n", "", "1 0\n", False))
+    check_answer(2, clauses, 20, "s UNSATISFIABLE\n", "", b"1 0\n0\n", False)
+    must_catch("a lemma left out", lambda: check_answer(2, clauses, 20, "s UNSATISFIABLE\n", "", b"0\n", False))
+    must_catch("a lemma changed", lambda: check_proof([[1, 2], [1, -2]], b"-1 0\n"))
+    must_catch("a deletion of no clause", lambda: check_proof([[1, 2]], b"d 1 3 0\n"))
+    must_catch("a line cut short", lambda: check_proof(clauses, b"1 0\n0"))
+    must_catch("a proof without its end", lambda: check_answer(2, clauses, 20, "s UNSATISFIABLE\n", "", b"1 0\n", False))
+    check_answer(2, clauses, 20, "s UNSATISFIABLE\n", "", b"a\2\0d\5\2\0a\0", False, binary=True)
+    must_catch("a sign turned in binary", lambda: check_proof([[1, 2], [1, -2]], b"a\3\0", True))
+    must_catch("a text in place of a binary proof", lambda: check_proof(clauses, b"1 0\n0\n", True))
+    must_catch("a binary line cut short", lambda: check_proof(clauses, b"a\2\0a", True))
+    must_catch("a number in two groups for one", lambda: check_proof(clauses, b"a\x82\0\0", True))
     check_model(2, [[1, -2]], ["v 1 2 0"])
     must_catch("a wrong model", lambda: check_model(2, [[1, -2]], ["v -1 2 0"]))
     must_catch("a variable left out", lambda: check_model(2, [[1]], ["v 1 0"]))
-    must_catch("a check that is not told", lambda: check_answer(2, clauses, 20, "s UNSATISFIABLE\n", "", "1 0\n0\n", False, True))
+    must_catch("a check that is not told", lambda: check_answer(2, clauses, 20, "s UNSATISFIABLE\n", "", b"1 0\n0\n", False, True))
     must_catch("a long line", lambda: check_model(60, [], ["v " + " ".join(str(-v) for v in range(1, 61)) + " 0"]))
 
 

@@ -1,9 +1,9 @@
 -- Bytes are a text or have one first bad line.
 use Rattle.std.proofs.Common.{◌≡◌, ◌∙◌, ℕ, ◌+◌, List, [], ◌∷◌, ◌++◌, length, refl, ap, sym, arith, append_assoc, append-nil}
 use Rattle.sat_words.specs.declared.line.Line.{Line}
-use Rattle.drat_text.specs.Text.{line_text, text, CanBeSpelled}
+use Rattle.drat_text.specs.Text.{line_text, text, IsSpelled, CanBeSpelled}
 use Rattle.drat_text.specs.Read.{IsTextOf, BeginsWithLine, IsBadLine}
-use Rattle.drat_text.proofs.Unique.{IsSpelled, others, same_line, line_has_bytes}
+use Rattle.drat_text.proofs.Unique.{others, same_line, line_has_bytes}
 
 begins : (x : Line) (more bytes : List ℕ) → IsSpelled x → bytes ≡ line_text x ++ more → BeginsWithLine bytes
 begins x more bytes on e = record { line = x; more = more; spelled = on; split = e }

@@ -1,8 +1,9 @@
--- A front of the text of some lines ends in one of them.
+-- A front of the bytes of some lines ends in one of them.
 use Rattle.std.proofs.Common.{◌≡◌, ◌∙◌, ℕ, List, [], ◌∷◌, ◌++◌, length, take, refl, ap, sym, append_assoc, append-nil, ◌⊎◌, inl, inr, arith}
 use Rattle.std.proofs.lemmas.List.{take_all}
 use Rattle.sat_words.specs.declared.line.Line.{Line}
-use Rattle.drat_text.specs.Text.{line_text, text}
+use Rattle.sat_words.specs.declared.line.ProofFormat.{ProofFormat}
+use Rattle.drat_text.specs.Spelling.{spelling, proof_bytes}
 use Rattle.drat_text.specs.Front.{IsCutText}
 
 -- the front ends within the first part, or goes on after it
@@ -20,35 +21,36 @@ ends (x ∷ front) rest (y ∷ a) b e =
       | inr (more, e1, e2) ↦ inr (more, ap (λ (n : ℕ). n ∷ front) same ∙ ap (λ (xs : List ℕ). y ∷ xs) e1, e2)
     ]
 
--- it ends within the first line
-here : (y : Line) (others : List Line) (front : List ℕ) → front ≡ take (length front) (line_text y) → IsCutText (y ∷ others) front
-here y others front e = record { first = []; line = y; others = others; cut = length front; split = refl; ends = e }
+module _ (f : ProofFormat) where
+  -- it ends within the first line
+  here : (y : Line) (others : List Line) (front : List ℕ) → front ≡ take (length front) (spelling f y) → IsCutText f (y ∷ others) front
+  here y others front e = record { first = []; line = y; others = others; cut = length front; split = refl; ends = e }
 
-later : (y : Line) (lines : List Line) (front more : List ℕ) → front ≡ line_text y ++ more → IsCutText lines more → IsCutText (y ∷ lines) front
-later y lines front more e t = record {
-  first = y ∷ t.first;
-  line = t.line;
-  others = t.others;
-  cut = t.cut;
-  split = ap (λ (xs : List Line). y ∷ xs) t.split;
-  ends = e ∙ ap (λ (xs : List ℕ). line_text y ++ xs) t.ends ∙ sym (append_assoc (line_text y) (text t.first) (take t.cut (line_text t.line)));
-}
+  later : (y : Line) (lines : List Line) (front more : List ℕ) → front ≡ spelling f y ++ more → IsCutText f lines more → IsCutText f (y ∷ lines) front
+  later y lines front more e t = record {
+    first = y ∷ t.first;
+    line = t.line;
+    others = t.others;
+    cut = t.cut;
+    split = ap (λ (xs : List Line). y ∷ xs) t.split;
+    ends = e ∙ ap (λ (xs : List ℕ). spelling f y ++ xs) t.ends ∙ sym (append_assoc (spelling f y) (proof_bytes f t.first) (take t.cut (spelling f t.line)));
+  }
 
--- nothing stands behind the last line
-last : (x : Line) (front rest : List ℕ) → Ends front rest (line_text x) [] → IsCutText (x ∷ []) front
-last x front rest (inl e) = here x [] front e
-last x front rest (inr (more, e, none)) = here x [] front (all more e none)
-  where
-    all : (more : List ℕ) → front ≡ line_text x ++ more → more ++ rest ≡ [] → front ≡ take (length front) (line_text x)
-    all [] e none =
-        let same : front ≡ line_text x = e ∙ append-nil (line_text x) in
-        same ∙ sym (take_all (length front) (line_text x) (omega (arith, ap (λ (xs : List ℕ). length xs) same)))
-    all (b ∷ more) e none = absurd (let no : ⊥ = cc in no)
+  -- nothing stands after the last line
+  last : (x : Line) (front rest : List ℕ) → Ends front rest (spelling f x) [] → IsCutText f (x ∷ []) front
+  last x front rest (inl e) = here x [] front e
+  last x front rest (inr (more, e, none)) = here x [] front (all more e none)
+    where
+      all : (more : List ℕ) → front ≡ spelling f x ++ more → more ++ rest ≡ [] → front ≡ take (length front) (spelling f x)
+      all [] e none =
+          let same : front ≡ spelling f x = e ∙ append-nil (spelling f x) in
+          same ∙ sym (take_all (length front) (spelling f x) (omega (arith, ap (λ (xs : List ℕ). length xs) same)))
+      all (b ∷ more) e none = absurd (let no : ⊥ = cc in no)
 
-pub cut_text : (L : List Line) (x : Line) (front rest : List ℕ) → front ++ rest ≡ text (L ++ x ∷ []) → IsCutText (L ++ x ∷ []) front
-cut_text [] x front rest e = last x front rest (ends front rest (line_text x) [] e)
-cut_text (y ∷ L) x front rest e =
-    elim (ends front rest (line_text y) (text (L ++ x ∷ [])) e) as (λ _. IsCutText (y ∷ L ++ x ∷ []) front) [
-      | inl short ↦ here y (L ++ x ∷ []) front short
-      | inr (more, e1, e2) ↦ later y (L ++ x ∷ []) front more e1 (cut_text L x more rest e2)
-    ]
+  pub cut_text : (L : List Line) (x : Line) (front rest : List ℕ) → front ++ rest ≡ proof_bytes f (L ++ x ∷ []) → IsCutText f (L ++ x ∷ []) front
+  cut_text [] x front rest e = last x front rest (ends front rest (spelling f x) [] e)
+  cut_text (y ∷ L) x front rest e =
+      elim (ends front rest (spelling f y) (proof_bytes f (L ++ x ∷ [])) e) as (λ _. IsCutText f (y ∷ L ++ x ∷ []) front) [
+        | inl short ↦ here y (L ++ x ∷ []) front short
+        | inr (more, e1, e2) ↦ later y (L ++ x ∷ []) front more e1 (cut_text L x more rest e2)
+      ]

@@ -1,6 +1,7 @@
 -- What an output has of a journal once one line more was put, or failed.
-use Rattle.std.proofs.Common.{◌≡◌, ℕ, List, [], ◌∷◌, ◌++◌, sym, ap, subst, ◌∙◌, append_assoc, append-nil}
+use Rattle.std.proofs.Common.{◌≡◌, ℕ, List, [], ◌∷◌, ◌++◌, Some, None, refl, sym, ap, subst, ◌∙◌, append_assoc, append-nil}
 use Rattle.std.specs.List.{All, fold}
+use Rattle.std.specs.declared.option.Option.{Option}
 use Rattle.std.specs.Io.KnownBytes.{append_known}
 use Rattle.std.proofs.lemmas.List.Sums.{fold-append}
 use Rattle.sat_words.specs.Literal.{IsOn}
@@ -10,34 +11,75 @@ use Rattle.rup_model.specs.Log.{Accepted, lits_of}
 use Rattle.rup_model.specs.Journal.{Book, formula_book, book_after, book, lines, lines_after, lines_from}
 use Rattle.io_edge.specs.Causes.{Rose}
 use Rattle.io_edge.proofs.Growth.{append_known-append}
-use Rattle.drat_text.specs.Text.{text, line_text}
-use Rattle.drat_text.specs.LineState.{LineState}
+use Rattle.sat_words.specs.declared.line.ProofFormat.{ProofFormat}
+use Rattle.drat_text.specs.Spelling.{spelling, proof_bytes}
+use Rattle.drat_text.specs.LineState.{LineState, with_lines}
 use Rattle.drat_text.specs.LineOut.{PutLine, FailedLine}
-use Rattle.drat_text.specs.JournalText.{Origin, later_text, HasText, HasTextCut}
+use Rattle.drat_text.specs.JournalText.{Origin, later_lines, later_bytes, HasText, HasTextCut}
 
-pub text_last : (L : List Line) (x : Line) → text (L ++ x ∷ []) ≡ text L ++ line_text x
-text_last [] x = append-nil (line_text x)
-text_last (y ∷ L) x = ap (λ t. line_text y ++ t) (text_last L x) ∙ sym (append_assoc (line_text y) (text L) (line_text x))
+pub bytes_last : (f : ProofFormat) (L : List Line) (x : Line) → proof_bytes f (L ++ x ∷ []) ≡ proof_bytes f L ++ spelling f x
+bytes_last f [] x = append-nil (spelling f x)
+bytes_last f (y ∷ L) x = ap (λ t. spelling f y ++ t) (bytes_last f L x) ∙ sym (append_assoc (spelling f y) (proof_bytes f L) (spelling f x))
 
--- one entry more, which has one line there
-pub lines_from_last : (b : Book) (J : List Entry) (e : Entry) (x : Line) → lines_after (fold book_after b J) e ≡ x ∷ [] → lines_from b (J ++ e ∷ []) ≡ lines_from b J ++ x ∷ []
-lines_from_last b [] e x one = ap (λ (L : List Line). L ++ []) one
-lines_from_last b (y ∷ J) e x one =
-    ap (λ (L : List Line). lines_after b y ++ L) (lines_from_last (book_after b y) J e x one)
-    ∙ sym (append_assoc (lines_after b y) (lines_from (book_after b y) J) (x ∷ []))
+-- one entry more, which has these lines there
+lines_from_next : (b : Book) (J : List Entry) (e : Entry) (L : List Line) → lines_after (fold book_after b J) e ≡ L → lines_from b (J ++ e ∷ []) ≡ lines_from b J ++ L
+lines_from_next b [] e L has = append-nil (lines_after b e) ∙ has
+lines_from_next b (y ∷ J) e L has =
+    ap (λ (K : List Line). lines_after b y ++ K) (lines_from_next (book_after b y) J e L has)
+    ∙ sym (append_assoc (lines_after b y) (lines_from (book_after b y) J) L)
+
+-- lines that are kept, with none more, and with some and then others
+with_none : (kept : Option (List Line)) → kept ≡ with_lines kept []
+with_none None = refl
+with_none (Some L) = ap Some (sym (append-nil L))
+
+with_both : (kept : Option (List Line)) (L M : List Line) → with_lines (with_lines kept L) M ≡ with_lines kept (L ++ M)
+with_both None L M = refl
+with_both (Some K) L M = ap Some (append_assoc K L M)
+
+none_more : (w : Option (List ℕ)) → w ≡ append_known w []
+none_more None = refl
+none_more (Some bytes) = ap Some (sym (append-nil bytes))
+
+-- no entry came yet
+pub has_text_begun : (o : Origin) → HasText o [] o.output
+has_text_begun o = record { quiet = refl; format = refl; bytes = none_more o.output.written; kept = with_none o.output.kept }
+
+module _ (o : Origin) (mine : List Entry) where
+  later_next : (e : Entry) (L : List Line) → lines_after (book o.formula (o.journal ++ mine)) e ≡ L → later_lines o (mine ++ e ∷ []) ≡ later_lines o mine ++ L
+  later_next e L has =
+      lines_from_next (book o.formula o.journal) mine e L (ap (λ k. lines_after k e) (sym (fold-append book_after (formula_book o.formula) o.journal mine)) ∙ has)
+
+  -- an entry without a line came
+  pub has_text_still : (a : LineState) (e : Entry) → lines_after (book o.formula (o.journal ++ mine)) e ≡ [] → HasText o mine a → HasText o (mine ++ e ∷ []) a
+  has_text_still a e none was =
+      let same : later_lines o (mine ++ e ∷ []) ≡ later_lines o mine = later_next e [] none ∙ append-nil (later_lines o mine) in
+      record {
+        quiet = was.quiet;
+        format = was.format;
+        bytes = was.bytes ∙ ap (λ (L : List Line). append_known o.output.written (proof_bytes o.output.format L)) (sym same);
+        kept = was.kept ∙ ap (with_lines o.output.kept) (sym same);
+      }
 
 module _ (o : Origin) (mine : List Entry) (a b : LineState) (x : Line) (was : HasText o mine a) where
+  -- how the line is spelled
+  abbrev word : List ℕ
+  word = spelling o.output.format x
+
   -- the line stands
   pub has_text_next : (e : Entry) → lines_after (book o.formula (o.journal ++ mine)) e ≡ x ∷ [] → (number : ℕ) → PutLine a b x number → HasText o (mine ++ e ∷ []) b
   has_text_next e one number put =
-      let next : later_text o (mine ++ e ∷ []) ≡ later_text o mine ++ line_text x =
-      ap text (lines_from_last (book o.formula o.journal) mine e x (ap (λ k. lines_after k e) (sym (fold-append book_after (formula_book o.formula) o.journal mine)) ∙ one))
-      ∙ text_last (lines_from (book o.formula o.journal) mine) x
-      in record {
+      let more : later_lines o (mine ++ e ∷ []) ≡ later_lines o mine ++ x ∷ [] = later_next o mine e (x ∷ []) one in
+      let next : later_bytes o (mine ++ e ∷ []) ≡ later_bytes o mine ++ word = ap (proof_bytes o.output.format) more ∙ bytes_last o.output.format (later_lines o mine) x in
+      record {
         quiet = ap (λ (s : LineState). s.faults) put.state ∙ was.quiet;
+        format = ap (λ (s : LineState). s.format) put.state ∙ was.format;
         bytes =
-            ap (λ (s : LineState). s.written) put.state ∙ ap (λ w. append_known w (line_text x)) was.bytes
-            ∙ append_known-append o.output.written (later_text o mine) (line_text x) ∙ ap (append_known o.output.written) (sym next);
+            ap (λ (s : LineState). s.written) put.state ∙ (λ i. append_known (was.bytes i) (spelling (was.format i) x))
+            ∙ append_known-append o.output.written (later_bytes o mine) word ∙ ap (append_known o.output.written) (sym next);
+        kept =
+            ap (λ (s : LineState). s.kept) put.state ∙ ap (λ k. with_lines k (x ∷ [])) was.kept
+            ∙ with_both o.output.kept (later_lines o mine) (x ∷ []) ∙ ap (with_lines o.output.kept) (sym more);
       }
 
   -- the output failed at the line
@@ -50,7 +92,7 @@ module _ (o : Origin) (mine : List Entry) (a b : LineState) (x : Line) (was : Ha
     front = record {
       rest = failed.front.rest;
       whole =
-          sym (append_known-append o.output.written (later_text o mine) (line_text x))
-          ∙ ap (λ w. append_known w (line_text x)) (sym was.bytes) ∙ failed.front.whole;
+          sym (append_known-append o.output.written (later_bytes o mine) word)
+          ∙ (λ i. append_known (sym was.bytes i) (spelling (sym was.format i) x)) ∙ failed.front.whole;
     };
   }

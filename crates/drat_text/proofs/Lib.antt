@@ -4,6 +4,9 @@ pub mod LitText
 mod LineText
 mod Tokens
 mod Unique
+mod SevenBits
+mod BinaryUnique
+mod Spellings
 pub mod Fronts
 mod Gathering
 mod Reading

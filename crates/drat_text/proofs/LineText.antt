@@ -1,23 +1,25 @@
--- A line's text, from its parts.
-use Rattle.std.proofs.Common.{◌≡◌, ◌∙◌, ℕ, ◌+◌, ◌<◌, List, [], ◌∷◌, ◌++◌, length, get_or, take, drop, take-append-drop, append_assoc, append-nil, ap, sym, codes}
+-- The literals of a line, spelled one by one.
+use Rattle.std.proofs.Common.{◌≡◌, ◌∙◌, ℕ, ◌+◌, ◌<◌, List, [], ◌∷◌, ◌++◌, length, get_or, take, drop, take-append-drop, append_assoc, append-nil, ap, sym}
+use Rattle.std.specs.List.{flat_map}
 use Rattle.std.proofs.lemmas.List.{take_more}
 use Rattle.std.proofs.lemmas.List.Concat.{flat_map-append}
-use Rattle.sat_words.specs.Literal.{Literal, lit_text}
-use Rattle.drat_text.specs.Text.{lits_text}
+use Rattle.sat_words.specs.Literal.{Literal}
 
--- the literals before a place, and one more
-pub lits_text_more : (lits : List Literal) (i : ℕ) (lit : Literal) → i < length lits → lit ≡ get_or lits i lit
-    → lits_text (take (i + 1) lits) ≡ lits_text (take i lits) ++ (lit_text lit ++ codes " ")
-lits_text_more lits i lit low is =
-    ap lits_text (take_more lits i lit low ∙ ap (λ (x : Literal). take i lits ++ x ∷ []) (sym is))
-    ∙ flat_map-append (λ x. lit_text x ++ codes " ") (take i lits) (lit ∷ [])
-    ∙ ap (λ (xs : List ℕ). lits_text (take i lits) ++ xs) (append-nil (lit_text lit ++ codes " "))
+module _ (word : Literal → List ℕ) (lits : List Literal) (i : ℕ) (lit : Literal) (low : i < length lits) (is : lit ≡ get_or lits i lit) where
+  -- the literals before a place, and one more
+  pub words_more : flat_map word (take (i + 1) lits) ≡ flat_map word (take i lits) ++ word lit
+  words_more =
+      ap (flat_map word) (take_more lits i lit low ∙ ap (λ (x : Literal). take i lits ++ x ∷ []) (sym is))
+      ∙ flat_map-append word (take i lits) (lit ∷ [])
+      ∙ ap (λ (xs : List ℕ). flat_map word (take i lits) ++ xs) (append-nil (word lit))
 
--- the literals before a place, the one there, and the rest of the line
-pub lits_text_split : (lits : List Literal) (i : ℕ) (lit : Literal) → i < length lits → lit ≡ get_or lits i lit
-    → lits_text lits ++ codes "0\n" ≡ (lits_text (take i lits) ++ (lit_text lit ++ codes " ")) ++ (lits_text (drop (i + 1) lits) ++ codes "0\n")
-lits_text_split lits i lit low is =
-    ap (λ (xs : List ℕ). xs ++ codes "0\n")
-    (ap lits_text (sym (take-append-drop (i + 1) lits)) ∙ flat_map-append (λ x. lit_text x ++ codes " ") (take (i + 1) lits) (drop (i + 1) lits))
-    ∙ append_assoc (lits_text (take (i + 1) lits)) (lits_text (drop (i + 1) lits)) (codes "0\n")
-    ∙ ap (λ (xs : List ℕ). xs ++ (lits_text (drop (i + 1) lits) ++ codes "0\n")) (lits_text_more lits i lit low is)
+  -- the literals before a place, the one there, and the rest of the line
+  pub words_split : (end : List ℕ) → flat_map word lits ++ end ≡ (flat_map word (take i lits) ++ word lit) ++ (flat_map word (drop (i + 1) lits) ++ end)
+  words_split end =
+      ap (λ (xs : List ℕ). xs ++ end) (ap (flat_map word) (sym (take-append-drop (i + 1) lits)) ∙ flat_map-append word (take (i + 1) lits) (drop (i + 1) lits))
+      ∙ append_assoc (flat_map word (take (i + 1) lits)) (flat_map word (drop (i + 1) lits)) end
+      ∙ ap (λ (xs : List ℕ). xs ++ (flat_map word (drop (i + 1) lits) ++ end)) words_more
+
+  -- the same with the one there before the rest
+  pub words_at : (end : List ℕ) → flat_map word lits ++ end ≡ flat_map word (take i lits) ++ (word lit ++ (flat_map word (drop (i + 1) lits) ++ end))
+  words_at end = words_split end ∙ append_assoc (flat_map word (take i lits)) (word lit) (flat_map word (drop (i + 1) lits) ++ end)

@@ -1,14 +1,10 @@
--- The text determines the lines.
+-- The text of a line shows which line it is, and where it ends.
 use Rattle.std.proofs.Common.{◌≡◌, ◌∙◌, ℕ, suc, ◌<◌, ◌≤◌, ◌^◌, All, List, [], ◌∷◌, ◌++◌, refl, ap, sym, arith, length, length-append, append_assoc, codes}
 use Rattle.sat_words.specs.Literal.{Literal, IsOn, lit_text}
 use Rattle.sat_words.specs.declared.line.Line.{Line}
 use Rattle.sat_words.specs.declared.line.Line.TheVariants.{Add, Del}
-use Rattle.rup_model.specs.Log.{lits_of}
-use Rattle.drat_text.specs.Text.{lits_text, line_text, text, CanBeSpelled}
+use Rattle.drat_text.specs.Text.{lits_text, line_text, IsSpelled}
 use Rattle.drat_text.proofs.Tokens.{IsToken, lit_text_is_token, token_ends, same_from_lit_text}
-
-abbrev pub IsSpelled : Line → Type 0
-IsSpelled x = All (IsOn (2 ^ 30)) (lits_of x)
 
 -- what holds of all holds of those after the first
 pub others : {X : Type 0} (P : X → Type 0) (x : X) (xs : List X) → All P (x ∷ xs) → All P xs
@@ -58,7 +54,7 @@ lits_have_no_d mark d (l ∷ c) s t p q on e =
 pub line_ends : (c : List Literal) (s : List ℕ) → (lits_text c ++ codes "0\n") ++ s ≡ lits_text c ++ 48 ∷ 10 ∷ s
 line_ends c s = append_assoc (lits_text c) (48 ∷ 10 ∷ []) s
 
-pub same_line : (a b : Line) (s t : List ℕ) → All (IsOn (2 ^ 30)) (lits_of a) → All (IsOn (2 ^ 30)) (lits_of b)
+pub same_line : (a b : Line) (s t : List ℕ) → IsSpelled a → IsSpelled b
     → line_text a ++ s ≡ line_text b ++ t → (a ≡ b) × (s ≡ t)
 same_line (Add c) (Add d) s t p q e =
     let both = same_lits c d s t p q (sym (line_ends c s) ∙ e ∙ line_ends d t) in
@@ -76,13 +72,3 @@ lits_end c s = simp length-append (omega arith)
 pub line_has_bytes : (a : Line) (s : List ℕ) → [] ≡ line_text a ++ s → ⊥
 line_has_bytes (Add c) s e = let none : 0 ≡ length ((lits_text c ++ codes "0\n") ++ s) = ap length e in absurd (omega (arith, lits_end c s))
 line_has_bytes (Del c) s e = cc
-
-pub same_lines : (L M : List Line) → CanBeSpelled L → CanBeSpelled M → text L ≡ text M → L ≡ M
-same_lines [] [] p q e = refl
-same_lines [] (b ∷ M) p q e = absurd (line_has_bytes b (text M) e)
-same_lines (a ∷ L) [] p q e = absurd (line_has_bytes a (text L) (sym e))
-same_lines (a ∷ L) (b ∷ M) p q e =
-    let both = same_line a b (text L) (text M) (p 0 a (omega arith)) (q 0 b (omega arith)) e in
-    let first : a ≡ b = both.0 in
-    let rest : L ≡ M = same_lines L M (others IsSpelled a L p) (others IsSpelled b M q) both.1 in
-    cc

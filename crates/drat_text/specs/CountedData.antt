@@ -1,11 +1,13 @@
 -- Lines that are counted and not spelled.
 use Rattle.std.specs.Prelude.{ℕ, Bool, false, None, if◌then◌else◌}
+use Rattle.sat_words.specs.declared.line.ProofFormat.TheVariants.{Text}
 use Rattle.drat_text.specs.Count.{Count}
 use Rattle.drat_text.specs.LineState.{LineState}
 
--- they tell no text; a line that failed is one fault
+-- they tell no bytes, whatever the format; a line that failed is one fault
 abbrev pub counted_state : Count → Bool → LineState
 counted_state n spent = record {
+  format = Text;
   entries = n.entries;
   last = n.last;
   spent = spent;
@@ -13,6 +15,7 @@ counted_state n spent = record {
   written = None;
   target = None;
   flushed = None;
+  kept = None;
 }
 
 -- none stands yet

@@ -1,4 +1,4 @@
--- The text of a journal's later entries, in an output that has the lines of those before.
+-- The bytes of a journal's later entries, in an output that has the lines of those before.
 use Rattle.std.specs.Prelude.{◌≡◌, ℕ, List, ◌∷◌, [], ◌++◌, All}
 use Rattle.std.specs.Io.KnownBytes.{append_known}
 use Rattle.sat_words.specs.Literal.{Literal, IsOn}
@@ -8,8 +8,8 @@ use Rattle.rup_model.specs.Log.{Accepted, lits_of}
 use Rattle.rup_model.specs.Journal.{book, lines, lines_from}
 use Rattle.io_edge.specs.Bytes.{IsFront}
 use Rattle.io_edge.specs.Causes.{Rose}
-use Rattle.drat_text.specs.Text.{text, line_text}
-use Rattle.drat_text.specs.LineState.{LineState}
+use Rattle.drat_text.specs.Spelling.{spelling, proof_bytes}
+use Rattle.drat_text.specs.LineState.{LineState, with_lines}
 
 -- what the later entries came after: the formula, the journal before them, and the line output as it then was
 pub record Origin : Type 0 where
@@ -17,20 +17,26 @@ pub record Origin : Type 0 where
   pub journal : List Entry
   pub output : LineState
 
--- the text of the later entries' lines
-abbrev pub later_text : Origin → List Entry → List ℕ
-later_text o mine = text (lines_from (book o.formula o.journal) mine)
+-- the later entries' lines
+abbrev pub later_lines : Origin → List Entry → List Line
+later_lines o mine = lines_from (book o.formula o.journal) mine
 
--- the output has the text of the later lines, and has not failed since
+-- the bytes of these lines
+abbrev pub later_bytes : Origin → List Entry → List ℕ
+later_bytes o mine = proof_bytes o.output.format (later_lines o mine)
+
+-- the output has the bytes of the later lines in its format, keeps them if it keeps lines, and has not failed since
 pub record HasText (o : Origin) (mine : List Entry) (out : LineState) : Type 0 where
   pub quiet : out.faults ≡ o.output.faults
-  pub bytes : out.written ≡ append_known o.output.written (later_text o mine)
+  pub format : out.format ≡ o.output.format
+  pub bytes : out.written ≡ append_known o.output.written (later_bytes o mine)
+  pub kept : out.kept ≡ with_lines o.output.kept (later_lines o mine)
 
 -- the output failed at a line that is accepted after the others and is on the variables; what was written is a front of
--- the text of all of them
+-- the bytes of all of them
 pub record HasTextCut (o : Origin) (mine : List Entry) (vars : ℕ) (out : LineState) : Type 0 where
   pub line : Line
   pub accepted : Accepted o.formula (lines o.formula (o.journal ++ mine) ++ line ∷ [])
   pub on : All (IsOn vars) (lits_of line)
   pub rose : Rose o.output.faults out.faults
-  pub front : IsFront out.written (append_known o.output.written (later_text o mine ++ line_text line))
+  pub front : IsFront out.written (append_known o.output.written (later_bytes o mine ++ spelling o.output.format line))

@@ -1,4 +1,6 @@
 pub mod Text
+pub mod Binary
+pub mod Spelling
 pub mod Cut
 pub mod PieceCut
 pub mod LineState

@@ -19,6 +19,10 @@ line_text (Del lits) = codes "d " ++ lits_text lits ++ codes "0\n"
 abbrev pub text : List Line → List ℕ
 text lines = flat_map line_text lines
 
--- each variable of the lines is one that a proof may name: 1 to 2^30
+-- each variable of the line is one that a proof may name: 1 to 2^30
+abbrev pub IsSpelled : Line → Type 0
+IsSpelled x = All (IsOn (2 ^ 30)) (lits_of x)
+
+-- so is each of the lines
 abbrev pub CanBeSpelled : List Line → Type 0
-CanBeSpelled L = All (λ x. All (IsOn (2 ^ 30)) (lits_of x)) L
+CanBeSpelled L = All IsSpelled L

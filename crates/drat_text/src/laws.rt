@@ -1,18 +1,25 @@
-// What holds of the text of lines; the calls compute nothing.
+// What holds of the bytes of lines; the calls compute nothing.
 ghost use Rattle.std.specs.Prelude.{◌≡◌, List, ℕ, ◌∷◌, ◌++◌, []};
 ghost use Rattle.sat_words.specs.declared.line.Line.{Line};
-ghost use Rattle.drat_text.specs.Text.{text, CanBeSpelled};
+ghost use Rattle.sat_words.specs.declared.line.ProofFormat.{ProofFormat};
+ghost use Rattle.drat_text.specs.Text.{CanBeSpelled, IsSpelled};
+ghost use Rattle.drat_text.specs.Spelling.{spelling, proof_bytes};
 ghost use Rattle.drat_text.specs.Front.{IsCutText};
 ghost use Rattle.drat_text.specs.Read.{IsTextOf, IsBadLine};
 
-/// Each line has one spelling and shows where it ends, so two lists of lines with the same text are the same.
-pub fn text_determines_lines()
-    ensures { (L M : List Line) → CanBeSpelled L → CanBeSpelled M → text L ≡ text M → L ≡ M }
+/// Two lists of lines that have the same bytes in one format are the same.
+pub fn bytes_determine_lines()
+    ensures { (format : ProofFormat) (L M : List Line) → CanBeSpelled L → CanBeSpelled M → proof_bytes format L ≡ proof_bytes format M → L ≡ M }
 {}
 
-/// What is a front of the text of one line or more is the text of some first lines and a front of the next line's.
+/// Each line shows where it ends: no line's spelling is a front of another line's.
+pub fn no_spelling_begins_another()
+    ensures { (format : ProofFormat) (a b : Line) (rest : List ℕ) → IsSpelled a → IsSpelled b → spelling format a ++ rest ≡ spelling format b → a ≡ b }
+{}
+
+/// What is a front of the bytes of one line or more is the bytes of some first lines and a front of the next line's.
 pub fn a_front_ends_in_a_line()
-    ensures { (L : List Line) (x : Line) (front rest : List ℕ) → front ++ rest ≡ text (L ++ x ∷ []) → IsCutText (L ++ x ∷ []) front }
+    ensures { (format : ProofFormat) (L : List Line) (x : Line) (front rest : List ℕ) → front ++ rest ≡ proof_bytes format (L ++ x ∷ []) → IsCutText format (L ++ x ∷ []) front }
 {}
 
 /// Bytes that are the text of lines have no bad line, and others have at most one that is the first bad.

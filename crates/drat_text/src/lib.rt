@@ -1,9 +1,12 @@
-//! The text of a DRAT proof: what stands in its lines. `LineOut` is where the lines of a log go one by one, and
-//! `SinkLines` writes them to a sink, `CountedLines` spells none. `read_lines` reads such a text. `Piece` is a small fixed buffer that another text is written over.
+//! The bytes of a DRAT proof, as text or in binary: how its lines are spelled. `LineOut` is where the lines of a log go one
+//! by one, and `SinkLines` writes them to a sink, `CountedLines` spells none. `put_binary` writes one line in binary, and
+//! `read_lines` reads a text. `Piece` is a small fixed buffer that another text is written over.
 #![tactic(auto)]
 
+mod binary;
 mod blocks;
 mod counted_lines;
+mod groups;
 mod laws;
 mod line;
 mod line_out;
@@ -13,9 +16,13 @@ mod read;
 mod sink_lines;
 mod stop;
 
+pub use binary::put_binary;
 pub use blocks::BLOCK;
 pub use counted_lines::CountedLines;
-pub use laws::{a_front_ends_in_a_line, one_line_is_the_first_bad, text_determines_lines};
+pub use laws::{
+    a_front_ends_in_a_line, bytes_determine_lines, no_spelling_begins_another,
+    one_line_is_the_first_bad,
+};
 pub use line_out::LineOut;
 pub use piece::{CAPACITY, Piece};
 pub use read::{ReadLinesStop, read_lines};

@@ -1,15 +1,16 @@
-// The spelling of a line.
+// The spelling of a line, as text and in the format that is asked for.
 ghost use Rattle.std.specs.Prelude.{◌≡◌, ◌<◌, ◌++◌, length, codes, MatchResult};
 ghost use Rattle.std.specs.Fmt.{signed_decimal};
 ghost use Rattle.sat_words.specs.Literal.{lit_text};
 ghost use Rattle.drat_text.specs.Gathered.{Gathers, Breaks};
+ghost use Rattle.drat_text.specs.Spelling.{spelling};
 ghost use Rattle.drat_text.specs.Text.{lits_text, line_text};
 ghost use Rattle.drat_text.specs.declared.blocks.TheConstants.{BLOCK};
 
 use crate::blocks::Blocks;
 use io_edge::{Failed, Sink};
 use itoa::Buffer;
-use sat_words::{Line, Lit};
+use sat_words::{Line, Lit, ProofFormat};
 
 /// The number that stands for the literal.
 pub(crate) fn number_of(lit: Lit) -> i32
@@ -20,15 +21,18 @@ pub(crate) fn number_of(lit: Lit) -> i32
 }
 
 impl<S: Sink> Blocks<S> {
-    /// Puts the line, unless its text would go nowhere.
-    pub(crate) fn spell(&mut self, line: &Line) -> Result<(), Failed>
+    /// Puts the line in this format, unless it would go nowhere.
+    pub(crate) fn spell(&mut self, format: ProofFormat, line: &Line) -> Result<(), Failed>
         requires room { length self.old.waiting < BLOCK }
-        ensures { MatchResult result (λ _. Gathers S.written S.flushed S.target S.faults self.old self.new (line_text line.now)) (λ _. Breaks S.written S.flushed S.target S.faults self.old self.new (line_text line.now)) }
+        ensures { MatchResult result (λ _. Gathers S.written S.flushed S.target S.faults self.old self.new (spelling format line.now)) (λ _. Breaks S.written S.flushed S.target S.faults self.old self.new (spelling format line.now)) }
     {
         if self.is_nowhere() {
             return Ok(());
         }
-        self.put_line(line)
+        match format {
+            ProofFormat::Text => self.put_line(line),
+            ProofFormat::Binary => self.put_binary_line(line),
+        }
     }
 
     /// Puts the line, as textual DRAT: the format that the proof checker drat-trim reads. For the clause 1 or not 2 it is

@@ -1,4 +1,4 @@
-// If the lines of a log go, one by one.
+// Where the lines of a log go, one by one.
 ghost use Rattle.std.specs.Prelude.{◌≡◌, false};
 ghost use Rattle.drat_text.specs.LineState.{LineState};
 ghost use Rattle.drat_text.specs.LineOut.{WasPut};
@@ -8,8 +8,7 @@ use sat_words::Line;
 
 /// Takes the lines of a log, and gives each addition the next number.
 ///
-/// The numbers begin after those of the formula's clauses. A text has one list of lines, so that where the text of the
-/// lines is known, the lines are.
+/// The numbers begin after those of the formula's clauses. In one format, bytes have one list of lines.
 pub trait LineOut {
     /// What contracts see of it.
     ghost told: { Self → LineState };

@@ -1,13 +1,14 @@
-// The lines of a log as the text of a DRAT proof.
+// The lines of a log as a DRAT proof.
 ghost use Rattle.std.specs.Prelude.{◌≡◌, ◌≢◌, Err, ◌≤◌, ◌<◌, ◌+◌, ◌^◌, [], true, false, length, is_err, IfOk, IfErr, OnOk, OnErr};
 ghost use Rattle.std.specs.Io.KnownBytes.{append_known};
 ghost use Rattle.io_edge.specs.Bytes.{IsFront};
 ghost use Rattle.io_edge.specs.Causes.{HasCause};
 ghost use Rattle.io_edge.specs.Paths.{IsEmptyWhereTold};
-ghost use Rattle.drat_text.specs.SinkData.{SinkData, told_by};
+ghost use Rattle.sat_words.specs.declared.line.ProofFormat.TheVariants.{Text};
+ghost use Rattle.drat_text.specs.SinkData.{SinkData, told_by, begun_lines};
 ghost use Rattle.drat_text.specs.LineOut.{WasPut};
 ghost use Rattle.drat_text.specs.declared.stop.LineStop.TheVariants.{Memory};
-ghost use Rattle.drat_text.specs.Text.{line_text};
+ghost use Rattle.drat_text.specs.Spelling.{spelling};
 ghost use Rattle.drat_text.specs.declared.blocks.TheConstants.{BLOCK};
 
 use crate::blocks::Blocks;
@@ -15,17 +16,18 @@ use crate::line_out::LineOut;
 use crate::numbers::Numbers;
 use crate::stop::LineStop;
 use io_edge::{Failed, Sink};
-use sat_words::Line;
+use sat_words::{Line, ProofFormat};
 use std::alloc::{AllocFailed, Global};
 use std::marker::Model;
 
 /// Writes the lines to a sink and keeps none. It does not flush.
 ///
-/// The text is written in blocks of `BLOCK` bytes, so that a write may end within a line; the memory of one block is taken
-/// in `new`, and no other. `finish` writes what is left. After a fault the sink has a front of the text of the lines, that
+/// The bytes are written in blocks of `BLOCK` bytes, so that a write may end within a line; the memory of one block is taken
+/// at first, and no other. `finish` writes what is left. After a fault the sink has a front of the bytes of the lines, that
 /// which failed being the last. No line is spelled for a sink that leads nowhere.
 #[derive(Drop)]
 pub struct SinkLines<S> {
+    format: ProofFormat,
     numbers: Numbers,
     spent: bool,
     blocks: Blocks<S>,
@@ -38,22 +40,38 @@ impl<S> Model for SinkLines<S> {
 
     ghost Value = { SinkData S };
 
-    ghost view = { λ p. record { entries = p.numbers.entries; last = p.numbers.last; spent = p.spent; waiting = p.blocks.waiting; sink = p.blocks.sink } };
+    ghost view = { λ p. record { format = p.format; entries = p.numbers.entries; last = p.numbers.last; spent = p.spent; waiting = p.blocks.waiting; sink = p.blocks.sink } };
 
     ghost invariant = { λ p. length p.blocks.waiting < BLOCK };
 }
 
 impl<S: Sink> SinkLines<S> {
-    /// Lines for a formula of this many clauses, in a sink to which nothing was written. Refused for memory it gives the
-    /// sink back.
+    /// Lines as text.
     pub fn new(alloc: Global, clauses: u64, sink: S) -> Result<Self, AllocFailed<S>>
         requires few { clauses ≤ 2 ^ 63 }
         requires empty { IsEmptyWhereTold (S.written sink) }
-        ensures made { IfOk result (λ lines. lines ≡ record { entries = 0; last = clauses; spent = false; waiting = []; sink = sink }) }
+        ensures made { IfOk result (λ lines. lines ≡ begun_lines Text clauses sink) }
+        ensures back { IfErr result (λ refused. refused.value ≡ sink) }
+    {
+        SinkLines::with_format(alloc, ProofFormat::Text, clauses, sink)
+    }
+
+    /// Lines in this format for a formula of this many clauses, in a sink to which nothing was written. Refused for memory
+    /// it gives the sink back.
+    pub fn with_format(
+        alloc: Global,
+        format: ProofFormat,
+        clauses: u64,
+        sink: S,
+    ) -> Result<Self, AllocFailed<S>>
+        requires few { clauses ≤ 2 ^ 63 }
+        requires empty { IsEmptyWhereTold (S.written sink) }
+        ensures made { IfOk result (λ lines. lines ≡ begun_lines format clauses sink) }
         ensures back { IfErr result (λ refused. refused.value ≡ sink) }
     {
         match Blocks::new(alloc, sink) {
             Ok(blocks) => Ok(SinkLines {
+                format,
                 numbers: Numbers::after(clauses),
                 spent: false,
                 blocks,
@@ -101,12 +119,12 @@ impl<S: Sink> LineOut for SinkLines<S> {
         requires unspent { self.old.spent ≡ false }
         ensures put { WasPut (told_by S.written S.flushed S.target S.faults self.old) (told_by S.written S.flushed S.target S.faults self.new) line.now result }
         ensures memory { result ≢ Err Memory }
-        ensures gathers { length self.old.waiting + length (line_text line.now) < BLOCK → self.new.sink ≡ self.old.sink }
+        ensures gathers { length self.old.waiting + length (spelling self.old.format line.now) < BLOCK → self.new.sink ≡ self.old.sink }
     {
         if self.numbers.is_full() {
             return Err(LineStop::Full);
         }
-        if self.blocks.spell(line).is_err() {
+        if self.blocks.spell(self.format, line).is_err() {
             self.spent = true;
             return Err(LineStop::ProofFault);
         }

@@ -1,9 +1,9 @@
 use crate::{
-    LineOut, ReadLinesStop, SinkLines, a_front_ends_in_a_line, one_line_is_the_first_bad,
-    read_lines, text_determines_lines,
+    LineOut, ReadLinesStop, SinkLines, a_front_ends_in_a_line, bytes_determine_lines,
+    no_spelling_begins_another, one_line_is_the_first_bad, put_binary, read_lines,
 };
 use io_edge::{Failed, MemSink, NullSink, Sink};
-use sat_words::{Line, Lit, Lits};
+use sat_words::{Line, Lit, Lits, ProofFormat};
 use std::alloc::AllocGlobal;
 use std::process::Abort;
 use std::test::Fail;
@@ -39,8 +39,64 @@ fn lines_and_their_texts(rt: HostRuntime) -> Result<(), Fail> {
         assert_eq!(rt; end, Ok(()), "{text}");
         assert!(rt; sink.bytes() == text.as_bytes(), "{text}");
     }
-    text_determines_lines();
+    bytes_determine_lines();
+    no_spelling_begins_another();
     a_front_ends_in_a_line();
+    Ok(())
+}
+
+#[test]
+fn lines_in_binary(rt: HostRuntime) -> Result<(), Fail> {
+    let alloc = rt.alloc();
+    let one = Lit::new(1, false);
+    let two = Lit::new(2, true);
+    let table: [(Line, &[u8]); 4] = [
+        (
+            Line::Add(Lits::from_slice(alloc, &[one, two])?),
+            &[97, 2, 5, 0],
+        ),
+        (
+            Line::Del(Lits::from_slice(alloc, &[Lit::new(63, true), Lit::new(64, false)])?),
+            &[100, 127, 128, 1, 0],
+        ),
+        (Line::Add(Lits::from_slice(alloc, &[])?), &[97, 0]),
+        (
+            Line::Add(Lits::from_slice(alloc, &[Lit::new(1 << 30, false)])?),
+            &[97, 128, 128, 128, 128, 8, 0],
+        ),
+    ];
+    for (line, wanted) in &table {
+        let mut alone = MemSink::new(alloc, 64, &[2])?;
+        assert!(rt; put_binary(&mut alone, line).is_ok());
+        assert!(rt; alone.bytes() == *wanted);
+        let sink = MemSink::new(alloc, 64, &[2])?;
+        let Ok(mut lines) = SinkLines::with_format(alloc, ProofFormat::Binary, 0, sink) else {
+            return Err("no memory".into());
+        };
+        assert!(rt; lines.put(line).is_ok());
+        let (end, sink) = lines.finish();
+        assert_eq!(rt; end, Ok(()));
+        assert!(rt; sink.bytes() == *wanted);
+    }
+    Ok(())
+}
+
+/// A line of 6,002 bytes goes to the sink in two pieces, the second of which fails.
+#[test]
+fn a_line_in_binary_is_cut(rt: HostRuntime) -> Result<(), Fail> {
+    let alloc = rt.alloc();
+    let mut lits = Vec::new(alloc);
+    for _ in 0..3000 {
+        lits.push(Lit::new(64, false))?;
+    }
+    let line = Line::Add(Lits::from_vec(lits));
+    let mut sink = MemSink::new(alloc, 8192, &[2])?;
+    let stop = put_binary(&mut sink, &line);
+    assert!(rt; stop.is_err_and(|stop| stop.taken == sink.bytes().len()));
+    assert!(rt; sink.bytes().len() > 4000 && sink.bytes().len() < 4097);
+    let mut whole = MemSink::new(alloc, 8192, &[])?;
+    assert!(rt; put_binary(&mut whole, &line).is_ok());
+    assert_eq!(rt; whole.bytes().len(), 6002);
     Ok(())
 }
 

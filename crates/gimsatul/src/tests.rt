@@ -147,13 +147,15 @@ fn check_tally(rt: &impl Abort, row: &Row, tally: &Tally) {
     assert_eq!(rt; tally.line, row.line);
 }
 
-/// How many lines have no literal, and whether the last is one.
-fn empty_lines(bytes: &[u8]) -> (u64, bool) {
+/// How many lines have no literal, and whether the last is one. A line in binary ends with a zero byte, and has no other.
+fn empty_lines(bytes: &[u8], binary: bool) -> (u64, bool) {
+    let end = if binary { 0 } else { b'\n' };
+    let empty: &[u8] = if binary { b"a" } else { b"0" };
     let mut count = 0;
     let mut last = false;
-    for line in bytes.split(|byte| *byte == b'\n') {
+    for line in bytes.split(|byte| *byte == end) {
         if !line.is_empty() {
-            last = is_same(line, b"0");
+            last = is_same(line, empty);
             if last {
                 count = u64::saturating_add(count, 1);
             }
@@ -167,7 +169,8 @@ fn check_writer(rt: &impl Abort, row: &Row, wanted: &[u8], writer: &MemSink<'_>)
     let taken = writer.bytes();
     assert!(rt; !row.compares_proof || is_same(taken, wanted));
     if row.ends_log {
-        assert_eq!(rt; empty_lines(taken), (1, true));
+        let binary = row.words.contains(&"--binary");
+        assert_eq!(rt; empty_lines(taken, binary), (1, true));
     }
     let sure: &[u8] = if row.flushes_proof { taken } else { b"" };
     assert!(rt; is_same(writer.flushed_bytes(), sure));
@@ -413,6 +416,64 @@ fn refutations(rt: HostRuntime) -> Result<(), Fail> {
     check_rows(&rt, &rows)
 }
 
+/// The proof in binary: `a` adds a clause and `d` deletes one, a literal is twice its variable, and one more if it is
+/// negative, and a zero byte ends the line.
+#[test]
+fn refutations_in_binary(rt: HostRuntime) -> Result<(), Fail> {
+    let refuted = Row {
+        words: &["--binary", "--proof", "P"],
+        status: 20,
+        out: b"s UNSATISFIABLE\n",
+        proof: Some(&[97, 0]),
+        ..MODEL
+    };
+    let rows = [
+        Row {
+            input: b"p cnf 1 2\n1 0\n-1 0\n",
+            ..refuted
+        },
+        Row {
+            input: TWO_VARIABLES,
+            proof: Some(&[97, 2, 0, 100, 2, 5, 0, 97, 4, 0, 100, 3, 4, 0, 97, 0]),
+            ..refuted
+        },
+        Row {
+            words: &[
+                "--threads",
+                "1",
+                "--no-simplify",
+                "--check",
+                "--binary",
+                "--proof",
+                "P",
+            ],
+            input: TWO_VARIABLES,
+            out: b"c proof accepted\ns UNSATISFIABLE\n",
+            proof: Some(&[97, 4, 0, 97, 0]),
+            learned: &[1],
+            ..refuted
+        },
+        // Without a path the format is of what goes nowhere.
+        Row {
+            words: &["--binary"],
+            input: TWO_VARIABLES,
+            compares_proof: false,
+            ..refuted
+        },
+        // A write fails.
+        Row {
+            input: TWO_VARIABLES,
+            proof_fails: FIRST,
+            status: 7,
+            out: b"",
+            err: b"gimsatul: proof fault\n",
+            proof: Some(b""),
+            ..refuted
+        },
+    ];
+    check_rows(&rt, &rows)
+}
+
 #[test]
 fn bad_headers(rt: HostRuntime) -> Result<(), Fail> {
     let bad = Row {
@@ -646,17 +707,23 @@ fn words_that_are_refused(rt: HostRuntime) -> Result<(), Fail> {
         proof: None,
         ..PLAIN
     };
-    let table: [&[&str]; 24] = [
+    let table: [&[&str]; 30] = [
         &["--seed", "-1"],
         &["--seed", "9223372036854775808"],
         &["--seed", "1", "--seed", "1"],
+        &["--walk", "-1"],
+        &["--walk", "1000000001"],
         &["--make", "7", "x.cnf"],
         &["--make", "-1"],
         &["--make", "9223372036854775808"],
         &["--check", "--check"],
+        &["--binary", "--binary"],
         &["--threads", "0"],
         &["--threads", "17"],
         &["--threads", "1", "--threads", "1"],
+        &["--slots", "0"],
+        &["--slots", "17"],
+        &["--slots", "1", "--slots", "1"],
         &["--words", "63"],
         &["--words", "2147483649"],
         &["--words", "64", "--words", "64"],
@@ -681,8 +748,11 @@ fn words_that_are_taken(rt: HostRuntime) -> Result<(), Fail> {
         out: b"s SATISFIABLE\nv 0\n",
         ..MODEL
     };
-    let table: [&[&str]; 7] = [
+    let table: [&[&str]; 10] = [
         &["--seed", "9223372036854775807"],
+        &["--walk", "1000000000"],
+        &["--slots", "1"],
+        &["--slots", "16"],
         &["--threads", "4"],
         &["--threads=+4"],
         &["--threads", "04"],
@@ -1005,6 +1075,16 @@ fn checked_logs(rt: HostRuntime) -> Result<(), Fail> {
             compares_learned: false,
             ..PLAIN
         },
+        Row {
+            words: &["--threads", "4", "--no-simplify", "--check", "--binary"],
+            input: PIGEONS,
+            status: 20,
+            out: b"c proof accepted\ns UNSATISFIABLE\n",
+            compares_proof: false,
+            learned: &[0, 0, 0, 0],
+            compares_learned: false,
+            ..PLAIN
+        },
     ];
     for row in &rows {
         check_row(&rt, *row, 65536)?;
@@ -1026,7 +1106,19 @@ fn one_log_of_two_rings(rt: HostRuntime) -> Result<(), Fail> {
         compares_learned: false,
         ..PLAIN
     };
-    check_rows(&rt, &[row])
+    let binary = Row {
+        words: &[
+            "--threads",
+            "2",
+            "--no-simplify",
+            "--check",
+            "--binary",
+            "--proof",
+            "P",
+        ],
+        ..row
+    };
+    check_rows(&rt, &[row, binary])
 }
 
 /// Twelve clauses of three literals, each in a cell of five words, leave four words of 64.
@@ -1103,5 +1195,18 @@ fn one_lemma_and_no_more(rt: HostRuntime) -> Result<(), Fail> {
         learned: &[1],
         ..PLAIN
     };
-    check_row(&rt, row, 65536)
+    let walked = Row {
+        words: &[
+            "--threads",
+            "1",
+            "--conflicts",
+            "1",
+            "--no-simplify",
+            "--walk",
+            "1000",
+        ],
+        ..row
+    };
+    check_row(&rt, row, 65536)?;
+    check_row(&rt, walked, 65536)
 }

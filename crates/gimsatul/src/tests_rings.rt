@@ -66,15 +66,17 @@ fn a_ring_is_held_while_another_goes_on(rt: HostRuntime) -> Result<(), Fail> {
     Ok(())
 }
 
-/// However many rings there are, they write one log that is accepted.
+/// However many rings and slots there are, the rings write one log that is accepted.
 #[test]
 fn many_rings_write_one_log(rt: HostRuntime) -> Result<(), Fail> {
-    for threads in ["1", "2", "4", "8", "16"] {
+    for (threads, slots) in [("1", "3"), ("2", "1"), ("4", "3"), ("8", "16"), ("16", "1")] {
         let status = decide(
             &rt,
             &[
                 "--threads",
                 threads,
+                "--slots",
+                slots,
                 "--no-simplify",
                 "--check",
                 "--words",

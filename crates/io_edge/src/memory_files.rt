@@ -1,6 +1,6 @@
 // A store of files in memory.
 // The program never runs this: it stands for real files and streams in tests, where contracts know every byte.
-ghost use Rattle.std.specs.Prelude.{◌≡◌, ◌||◌, [], None, Some, IfOk, OnOk, IfSome, is_err, is_none, if◌then◌else◌, remove, option_map, string_bytes, unwrap_or};
+ghost use Rattle.std.specs.Prelude.{◌≡◌, ◌||◌, [], None, Some, IfOk, OnOk, OnErr, IfSome, is_err, is_none, if◌then◌else◌, remove, option_map, string_bytes, unwrap_or};
 ghost use Rattle.io_edge.specs.Calls.{fails_next, no_calls, after_call};
 ghost use Rattle.io_edge.specs.Causes.{HasCause, one_more};
 ghost use Rattle.io_edge.specs.Files.{file_state, file_states};
@@ -169,6 +169,7 @@ impl<'a> Files for MemFiles<'a> {
         ensures there { OnOk result (IsThere (Some (path_map self.old.files)) path.now) }
         ensures fresh { IfOk result (λ reader. reader.calls.faults ≡ 0) }
         ensures cause { HasCause self.old.calls.faults self.new.calls.faults result }
+        ensures once { OnErr result (self.new.calls.faults ≡ one_more self.old.calls.faults) }
         ensures fails { is_err result ≡ (fails_next self.old.calls || is_none (file_at self.old.files path.now)) }
         ensures opened { IfOk result (λ reader. IfSome (file_at self.old.files path.now) (λ file. reader ≡ record { left = file.bytes; piece = usize.MAX; calls = no_calls file.failing })) }
         ensures after { self.new ≡ record self.old { calls = after_call self.old.calls (is_err result); tried = record self.old.tried { openings = one_more self.old.tried.openings } } }
@@ -188,6 +189,7 @@ impl<'a> Files for MemFiles<'a> {
         ensures target { IfOk result (λ writer. writer.target ≡ Some path.now) }
         ensures fresh { IfOk result (λ writer. writer.calls.faults ≡ 0) }
         ensures cause { HasCause self.old.calls.faults self.new.calls.faults result }
+        ensures once { OnErr result (self.new.calls.faults ≡ one_more self.old.calls.faults) }
         ensures fails { is_err result ≡ (fails_next self.old.calls || is_none (output_at self.old.outputs path.now)) }
         ensures created { IfOk result (λ writer. IfSome (output_at self.old.outputs path.now) (λ place. IsCreated self.old.outputs place writer)) }
         ensures after { self.new ≡ record self.old {

@@ -1,11 +1,11 @@
 // A sink into memory that was taken before.
 // The program never runs this: it stands for real files and streams in tests, where contracts know every byte.
-ghost use Rattle.std.specs.Prelude.{◌≡◌, ◌<◌, ◌≤◌, ◌||◌, [], true, false, None, length, take, min, Some, IfOk, is_err, nat_lt, vec_capacity, string_bytes};
+ghost use Rattle.std.specs.Prelude.{◌≡◌, ◌<◌, ◌≤◌, ◌||◌, [], true, false, None, length, take, min, Some, IfOk, OnErr, is_err, nat_lt, vec_capacity, string_bytes};
 ghost use Rattle.std.specs.Option.{option_map};
 ghost use Rattle.std.specs.Io.{WritesAtMost};
 ghost use Rattle.io_edge.specs.Bytes.{Wrote, WasFlushed};
 ghost use Rattle.io_edge.specs.Calls.{fails_next};
-ghost use Rattle.io_edge.specs.Causes.{HasCause};
+ghost use Rattle.io_edge.specs.Causes.{HasCause, one_more};
 ghost use Rattle.io_edge.specs.Memory.{SinkState, new_sink, room_left, taken_of, after_write, after_flush};
 
 use crate::schedule::Schedule;
@@ -147,6 +147,7 @@ impl<'a> Sink for MemSink<'a> {
         ensures flushed { self.new.flushed ≡ self.old.flushed }
         ensures target { self.new.target ≡ self.old.target }
         ensures cause { HasCause self.old.calls.faults self.new.calls.faults result }
+        ensures once { OnErr result (self.new.calls.faults ≡ one_more self.old.calls.faults) }
         ensures fails { is_err result ≡ (fails_next self.old.calls || nat_lt (room_left self.old) (length (taken_of self.old bytes.now))) }
         ensures size { IfOk result (λ n. n ≡ min (length bytes.now) self.old.piece) }
         ensures after { self.new ≡ after_write self.old bytes.now (is_err result) }
@@ -166,6 +167,7 @@ impl<'a> Sink for MemSink<'a> {
         ensures flushed { WasFlushed (Some self.new.written) (Some self.old.flushed) (Some self.new.flushed) result }
         ensures target { self.new.target ≡ self.old.target }
         ensures cause { HasCause self.old.calls.faults self.new.calls.faults result }
+        ensures once { OnErr result (self.new.calls.faults ≡ one_more self.old.calls.faults) }
         ensures fails { is_err result ≡ fails_next self.old.calls }
         ensures after { self.new ≡ after_flush self.old (is_err result) }
     {

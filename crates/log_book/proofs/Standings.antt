@@ -14,9 +14,7 @@ use Rattle.rup_model.specs.Log.{Accepted, lits_of}
 use Rattle.rup_model.specs.Journal.{Book as Numbers, book, book_after, lines, lines_after, added, ended}
 use Rattle.rup_model.proofs.Additions.{added-append}
 use Rattle.rup_model.proofs.Numbers.{book_last, lines_last}
-use Rattle.std.specs.Io.KnownBytes.{append_known}
-use Rattle.drat_text.specs.Text.{text}
-use Rattle.drat_text.specs.LineState.{LineState, last_after}
+use Rattle.drat_text.specs.LineState.{LineState, last_after, with_lines}
 use Rattle.drat_text.specs.SinkData.{told_by}
 use Rattle.drat_text.specs.JournalText.{Origin, HasText, HasTextCut}
 use Rattle.drat_text.proofs.JournalLines.{has_text_next, has_text_cut}
@@ -41,26 +39,19 @@ use Rattle.log_book.specs.declared.turn.Turn.{Turn}
 use Rattle.log_book.specs.declared.stop.TurnStop.{TurnStop}
 use Rattle.log_book.specs.declared.stop.TurnStop.TheVariants as stop
 use Rattle.log_book.specs.Books.{AreAlike, ends, begun, began, account_of, IsLogOf, HasPut, HasFailed}
-use Rattle.log_book.specs.Kept.{with_line}
 use Rattle.log_book.specs.Turns.{sheet, noted_as, MayNext, CouldWrite, IsGrounded, IsTurn}
 
 pub ended_last : (F : List (List Literal)) (J : List Entry) (e : Entry) → ended F (J ++ e ∷ []) ≡ (ended F J || list_any is_empty (added (e ∷ [])))
 ended_last F J e = ap (λ (G : List (List Literal)). list_any is_empty (F ++ G)) (added-append J (e ∷ [])) ∙ ap (list_any is_empty) (sym (append_assoc F (added J) (added (e ∷ [])))) ∙ list_any-append is_empty (F ++ added J) (added (e ∷ []))
 
 -- kept lines
-pub kept_grown : (old new : Maybe (List Line)) (all : List Line) (x : Line) → new ≡ with_line old x → ((ls : List Line) → old ≡ Some ls → ls ≡ all) → (ls : List Line) → new ≡ Some ls → ls ≡ all ++ x ∷ []
+pub kept_grown : (old new : Maybe (List Line)) (all : List Line) (x : Line) → new ≡ with_lines old (x ∷ []) → ((ls : List Line) → old ≡ Some ls → ls ≡ all) → (ls : List Line) → new ≡ Some ls → ls ≡ all ++ x ∷ []
 kept_grown None new all x e h ls is = absurd (none_some ls (sym e ∙ is))
 kept_grown (Some ms) new all x e h ls is = sym (some_same (ms ++ x ∷ []) ls (sym e ∙ is)) ∙ ap (λ (ks : List Line). ks ++ x ∷ []) (h ms refl)
 
-some_with : (kept : Maybe (List Line)) (x : Line) → is_some (with_line kept x) ≡ is_some kept
+some_with : (kept : Maybe (List Line)) (x : Line) → is_some (with_lines kept (x ∷ [])) ≡ is_some kept
 some_with None x = refl
 some_with (Some ls) x = refl
-
--- an entry without a line leaves the text
-pub text_still : (F : List (List Literal)) (out : LineState) (J : List Entry) (e : Entry) (now : LineState) → lines_after (book F J) e ≡ [] → HasText (begun F out) J now → HasText (begun F out) (J ++ e ∷ []) now
-text_still F out J e now none h =
-    let same : lines F (J ++ e ∷ []) ≡ lines F J = lines_last F J e ∙ ap (λ (ls : List Line). lines F J ++ ls) none ∙ append-nil (lines F J) in
-    record { quiet = h.quiet; bytes = h.bytes ∙ ap (λ (ls : List Line). append_known out.written (text ls)) (sym same) }
 
 -- a refusal stands behind more notes
 refused_next : (o : CoreOpening) (J : List Entry) (e : Entry) (failed : Bool) (x : Refusal) → IsRefused o J failed x → IsRefused o (J ++ e ∷ []) failed x
@@ -158,7 +149,7 @@ module _ {S : Type 0} {d : Ghosts S} (written flushed target : S → Maybe (List
       line_turn t' x number line noted_is refused_is b b_lines b_entries b_ended b_kept c put log_are entries_are ended_are holes_are last end =
           let state = put.put.state in
           let lines_are : t'.book.log.lines ≡ c.log.lines = ap (λ k. k.lines) log_are in
-          let kept_are : t'.book.log.kept.lines ≡ with_line t.book.log.kept.lines x = ap (λ k. k.kept.lines) log_are ∙ put.kept ∙ ap (λ k. with_line k x) b_kept in
+          let kept_are : t'.book.log.kept.lines ≡ with_lines t.book.log.kept.lines (x ∷ []) = ap (λ k. k.kept.lines) log_are ∙ put.kept ∙ ap (λ k. with_lines k (x ∷ [])) b_kept in
           let whole : t'.book.log.lines.spent ≡ false = ap (λ l. l.spent) lines_are ∙ ap (λ (l : LineState). l.spent) state ∙ ap (λ l. l.spent) b_lines ∙ could.1 in
           let was : HasText O J (told_by written flushed target faults b.log.lines) = subst (λ l. HasText O J (told_by written flushed target faults l)) (sym b_lines) (h.stands.log.sink.whole could.1) in
           let bytes = has_text_next O J (told_by written flushed target faults b.log.lines) (told_by written flushed target faults c.log.lines) x was e line number put.put in (
@@ -186,7 +177,7 @@ module _ {S : Type 0} {d : Ghosts S} (written flushed target : S → Maybe (List
           let state = failed.failed.state in
           let J' : (sheet v t').journal ≡ J = ap (λ (ns : List Note). (written_of v ns).journal) noted_is in
           let lines_are : t'.book.log.lines ≡ c.log.lines = ap (λ k. k.lines) log_are in
-          let kept_are : t'.book.log.kept.lines ≡ with_line t.book.log.kept.lines x = ap (λ k. k.kept.lines) log_are ∙ failed.kept ∙ ap (λ k. with_line k x) b_kept in
+          let kept_are : t'.book.log.kept.lines ≡ t.book.log.kept.lines = ap (λ k. k.kept.lines) log_are ∙ failed.kept ∙ b_kept in
           let spent : t'.book.log.lines.spent ≡ true = ap (λ l. l.spent) lines_are ∙ ap (λ (l : LineState). l.spent) state in
           let was : HasText O J (told_by written flushed target faults b.log.lines) = subst (λ l. HasText O J (told_by written flushed target faults l)) (sym b_lines) (h.stands.log.sink.whole could.1) in
           let cut = has_text_cut O J (told_by written flushed target faults b.log.lines) (told_by written flushed target faults c.log.lines) x was (next_accepted x line) v.layout.vars on failed.failed in (
@@ -199,7 +190,7 @@ module _ {S : Type 0} {d : Ghosts S} (written flushed target : S → Maybe (List
                 log = record {
                   entries = entries_are ∙ failed.entries ∙ b_entries ∙ h.stands.log.entries;
                   last = ap (λ l. suc l.last) lines_are ∙ ap (λ (l : LineState). suc l.last) state ∙ ap (λ l. suc l.last) b_lines ∙ h.stands.log.last;
-                  keeps = ap is_some kept_are ∙ some_with t.book.log.kept.lines x ∙ h.stands.log.keeps;
+                  keeps = ap is_some kept_are ∙ h.stands.log.keeps;
                   kept = λ q. absurd (true≢false (sym spent ∙ q));
                   sink = record {
                     whole = λ q. absurd (true≢false (sym spent ∙ q));

@@ -1,22 +1,22 @@
 -- What a book is, and what its sink stands for.
 use Rattle.io_edge.specs.declared.edge.Sink.{Ghosts}
-use Rattle.std.specs.Prelude.{◌≡◌, ◌+◌, ◌||◌, ℕ, suc, Bool, true, false, List, [], length, Some, None, is_some, if◌then◌else◌}
+use Rattle.std.specs.Prelude.{◌≡◌, ◌+◌, ◌||◌, ℕ, suc, Bool, true, false, List, [], ◌∷◌, length, Some, None, is_some, if◌then◌else◌}
 use Rattle.std.specs.declared.option.Option.{Option}
 use Rattle.sat_words.specs.Literal.{Literal}
 use Rattle.sat_words.specs.Clause.{is_empty}
 use Rattle.sat_words.specs.declared.line.Line.{Line}
 use Rattle.sat_words.specs.declared.line.Line.TheVariants.{Add, Del}
+use Rattle.sat_words.specs.declared.line.ProofFormat.{ProofFormat}
 use Rattle.rup_model.specs.declared.journal.Entry.{Entry}
 use Rattle.rup_model.specs.Journal.{book, lines}
 use Rattle.drat_text.specs.Text.{CanBeSpelled}
-use Rattle.drat_text.specs.LineState.{LineState}
+use Rattle.drat_text.specs.LineState.{LineState, with_lines}
 use Rattle.drat_text.specs.LineOut.{PutLine, FailedLine}
-use Rattle.drat_text.specs.SinkData.{told_by}
+use Rattle.drat_text.specs.SinkData.{told_by, begun_lines}
 use Rattle.drat_text.specs.JournalText.{Origin, HasText, HasTextCut}
 use Rattle.share_rule.specs.declared.Layout.{Layout}
 use Rattle.share_rule.specs.declared.view.BookOrigin.{BookOrigin}
 use Rattle.share_rule.specs.Books.{Account}
-use Rattle.log_book.specs.Kept.{with_line, with_kept}
 use Rattle.log_book.specs.declared.book.Book.{Book}
 
 -- the line adds the empty clause
@@ -29,13 +29,17 @@ abbrev pub no_byte : Bool → Option (List ℕ)
 no_byte true = Some []
 no_byte false = None
 
+-- no line yet, if lines are asked for
+abbrev pub no_line : Bool → Option (List Line)
+no_line asked = if asked then Some [] else None
+
 -- a line output, which had these bytes and faults, before the first line of a log for this formula
 abbrev pub begun : List (List Literal) → LineState → Origin
 begun F out = record { formula = F; journal = []; output = out }
 
 -- what a book that began so told then
 abbrev pub began : BookOrigin → List (List Literal) → LineState
-began w F = record { entries = 0; last = length F; spent = false; faults = w.faults; written = no_byte w.tells; target = w.target; flushed = w.flushed }
+began w F = record { format = w.format; entries = 0; last = length F; spent = false; faults = w.faults; written = no_byte w.tells; target = w.target; flushed = w.flushed; kept = None }
 
 -- The book itself
 
@@ -44,9 +48,9 @@ abbrev pub account_of : {S : Type 0} {d : Ghosts S} → Book S d → Account
 account_of b = record { entries = b.entries; last = b.log.lines.last; ended = b.ended; broken = b.log.lines.spent; holes = b.holes; kept = b.log.kept.lines }
 
 -- nothing stands in it yet
-pub record IsNew {S : Type 0} {d : Ghosts S} (clauses : ℕ) (sink : S) (asked : Bool) (b : Book S d) : Type 0 where
-  pub lines : b.log.lines ≡ record { entries = 0; last = clauses; spent = false; waiting = []; sink = sink }
-  pub kept : b.log.kept.lines ≡ (if asked then Some [] else None)
+pub record IsNew {S : Type 0} {d : Ghosts S} (f : ProofFormat) (clauses : ℕ) (sink : S) (asked : Bool) (b : Book S d) : Type 0 where
+  pub lines : b.log.lines ≡ begun_lines f clauses sink
+  pub kept : b.log.kept.lines ≡ no_line asked
   pub entries : b.entries ≡ 0
   pub ended : b.ended ≡ false
   pub holes : b.holes ≡ []
@@ -77,41 +81,42 @@ pub record IsCutOff (o : Origin) (J : List Entry) (vars : ℕ) (out : LineState)
   pub target : out.target ≡ o.output.target
 
 -- what a new book tells
-abbrev pub told_new : {S : Type 0} (written flushed target : S → Option (List ℕ)) (faults : S → ℕ) → ℕ → S → Bool → LineState
-told_new written flushed target faults clauses sink asked = with_kept (if asked then Some [] else None) (told_by written flushed target faults (record { entries = 0; last = clauses; spent = false; waiting = []; sink = sink }))
+abbrev pub told_new : {S : Type 0} (written flushed target : S → Option (List ℕ)) (faults : S → ℕ) → ProofFormat → ℕ → S → Bool → LineState
+told_new written flushed target faults f clauses sink asked = record (told_by written flushed target faults (begun_lines f clauses sink)) { kept = no_line asked }
 
--- the origin tells this sink, which has not failed since, and that lines are kept where that was asked for
-pub record IsFrom {S : Type 0} (target : S → Option (List ℕ)) (faults : S → ℕ) (sink : S) (asked : Bool) (w : BookOrigin) : Type 0 where
+-- the origin tells this format and this sink, which has not failed since, and that lines are kept if that was asked for
+pub record IsFrom {S : Type 0} (target : S → Option (List ℕ)) (faults : S → ℕ) (f : ProofFormat) (sink : S) (asked : Bool) (w : BookOrigin) : Type 0 where
+  pub format_is : w.format ≡ f
   pub target_is : w.target ≡ target sink
   pub faults_are : w.faults ≡ faults sink
   pub keeps : w.keeps ≡ asked
 
 module _ {S : Type 0} {d : Ghosts S} (written flushed target : S → Option (List ℕ)) (faults : S → ℕ) where
-  -- the lines as they are known, with the entries that have none and by the lines that are kept
+  -- the lines as they are known, with the entries that have none, and those that are kept
   abbrev pub told_of : Book S d → LineState
-  told_of b = record (with_kept b.log.kept.lines (told_by written flushed target faults b.log.lines)) { entries = b.entries }
+  told_of b = record (told_by written flushed target faults b.log.lines) { entries = b.entries; kept = b.log.kept.lines }
 
-  -- what its sink tells, and whether it keeps its lines
+  -- how it spells its lines, what its sink tells, and whether it keeps the lines
   abbrev pub origin_of : Book S d → BookOrigin
-  origin_of b = record { tells = is_some (written b.log.lines.sink); target = target b.log.lines.sink; flushed = flushed b.log.lines.sink; faults = faults b.log.lines.sink; keeps = is_some b.log.kept.lines }
+  origin_of b = record { format = b.log.lines.format; tells = is_some (written b.log.lines.sink); target = target b.log.lines.sink; flushed = flushed b.log.lines.sink; faults = faults b.log.lines.sink; keeps = is_some b.log.kept.lines }
 
   -- the line stands, under this number
   pub record HasPut (old new : Book S d) (line : Line) (number : ℕ) : Type 0 where
     pub put : PutLine (told_by written flushed target faults old.log.lines) (told_by written flushed target faults new.log.lines) line number
-    pub kept : new.log.kept.lines ≡ with_line old.log.kept.lines line
+    pub kept : new.log.kept.lines ≡ with_lines old.log.kept.lines (line ∷ [])
     pub entries : new.entries ≡ old.entries + 1
     pub ended : new.ended ≡ (old.ended || ends line)
     pub holes : new.holes ≡ old.holes
 
-  -- the sink failed at it; it is kept
+  -- the sink failed at it; it is not kept
   pub record HasFailed (old new : Book S d) (line : Line) : Type 0 where
     pub failed : FailedLine (told_by written flushed target faults old.log.lines) (told_by written flushed target faults new.log.lines) line
-    pub kept : new.log.kept.lines ≡ with_line old.log.kept.lines line
+    pub kept : new.log.kept.lines ≡ old.log.kept.lines
     pub entries : new.entries ≡ old.entries
     pub ended : new.ended ≡ old.ended
     pub holes : new.holes ≡ old.holes
 
-  -- its sink has failed since this origin exactly if a line failed; what it has, and after it what waits, is the text of
+  -- its sink has failed since this origin exactly if a line failed; what it has, and after it what waits, is the bytes of
   -- the journal's lines, and where one failed a front of it; it was not flushed, and is for the same path
   pub record IsLogOf (b : Book S d) (w : BookOrigin) (l : Layout) (F : List (List Literal)) (J : List Entry) : Type 0 where
     pub whole : b.log.lines.spent ≡ false → HasText (begun F (began w F)) J (told_by written flushed target faults b.log.lines)
@@ -119,9 +124,10 @@ module _ {S : Type 0} {d : Ghosts S} (written flushed target : S → Option (Lis
     pub target_is : target b.log.lines.sink ≡ w.target
     pub flushed_is : flushed b.log.lines.sink ≡ w.flushed
 
-  -- since it had this sink, in which nothing was written, the book failed at a line after those of the journal
-  pub record IsCutLog (sink : S) (b : Book S d) (l : Layout) (F : List (List Literal)) (J : List Entry) : Type 0 where
+  -- since it had this format and this sink, in which nothing was written, the book failed at a line after those of the journal
+  pub record IsCutLog (f : ProofFormat) (sink : S) (b : Book S d) (l : Layout) (F : List (List Literal)) (J : List Entry) : Type 0 where
     pub origin : BookOrigin
+    pub format_is : origin.format ≡ f
     pub target_is : origin.target ≡ target sink
     pub faults_are : origin.faults ≡ faults sink
     pub log : IsLogOf b origin l F J

@@ -6,6 +6,7 @@ ghost use Rattle.io_edge.specs.Bytes.{IsFront};
 ghost use Rattle.io_edge.specs.Causes.{HasCause, Rose};
 ghost use Rattle.io_edge.specs.Paths.{IsEmptyWhereTold};
 ghost use Rattle.sat_words.specs.Literal.{Literal};
+ghost use Rattle.sat_words.specs.declared.line.ProofFormat.{ProofFormat};
 ghost use Rattle.sat_words.specs.declared.shared.TheConstants.{MAX_ENTRIES};
 ghost use Rattle.rup_model.specs.declared.journal.Entry.{Entry};
 ghost use Rattle.share_rule.specs.declared.Layout.{Layout};
@@ -17,9 +18,9 @@ ghost use Rattle.log_book.specs.Kept.{IsReady};
 use crate::book::Book;
 use crate::log_lines::LogLines;
 use clause_cell::Holes;
-use drat_text::{LineOut, LineStop, text_determines_lines};
+use drat_text::{LineOut, LineStop};
 use io_edge::{Failed, Sink};
-use sat_words::{Line, MAX_ENTRIES};
+use sat_words::{Line, MAX_ENTRIES, ProofFormat};
 use std::alloc::{AllocError, AllocFailed, Global};
 
 /// Whether the line adds the empty clause.
@@ -34,23 +35,24 @@ fn is_end(line: &Line) -> bool
 
 impl<S: Sink> Book<S> {
     /// A book for a formula of this many clauses, in a sink to which nothing was written. It has no line yet, and no word is
-    /// free. Refused for memory it gives the sink back.
+    /// free. Its lines are spelled in this format. Refused for memory it gives the sink back.
     pub fn new(
         alloc: Global,
+        format: ProofFormat,
         clauses: u64,
         sink: S,
         keep_lines: bool,
     ) -> Result<Self, AllocFailed<S>>
         requires few { clauses ≤ 2 ^ 63 }
         requires empty { IsEmptyWhereTold (S.written sink) }
-        ensures made { IfOk result (λ book. IsNew clauses sink keep_lines book) }
-        ensures told { IfOk result (λ book. told_of S.written S.flushed S.target S.faults book ≡ told_new S.written S.flushed S.target S.faults clauses sink keep_lines) }
+        ensures made { IfOk result (λ book. IsNew format clauses sink keep_lines book) }
+        ensures told { IfOk result (λ book. told_of S.written S.flushed S.target S.faults book ≡ told_new S.written S.flushed S.target S.faults format clauses sink keep_lines) }
         ensures back { IfErr result (λ refused. refused.value ≡ sink) }
     {
         let Ok(holes) = Holes::new(alloc, 0, 0) else {
             return Err(AllocFailed { value: sink });
         };
-        match LogLines::new(alloc, clauses, sink, keep_lines) {
+        match LogLines::new(alloc, format, clauses, sink, keep_lines) {
             Ok(log) => Ok(Book {
                 log,
                 entries: 0,
@@ -68,20 +70,17 @@ impl<S: Sink> Book<S> {
         self.log.last()
     }
 
-    /// A table can be made over a book that was filled through the bound of a line output, if it says the text of a
+    /// A table can be made over a book that was filled through the bound of a line output, if it says the bytes of a
     /// journal's lines since it was new. Where the output failed at a line after those, what its sink has is known too. The
     /// call computes nothing.
     pub fn has_its_log(&self)
-        ensures whole { (F : List (List Literal)) (J : List Entry) (l : Layout) (sink : S) (asked : Bool) → IsEmptyWhereTold (S.written sink)
-            → IsFilled (begun F (told_new S.written S.flushed S.target S.faults (length F) sink asked)) J (told_of S.written S.flushed S.target S.faults self.now)
-            → HasLog account_of (IsLogOf S.written S.flushed S.target S.faults) self.now (origin_of S.written S.flushed S.target S.faults self.now) l F J × IsFrom S.target S.faults sink asked (origin_of S.written S.flushed S.target S.faults self.now) }
-        ensures cut { (F : List (List Literal)) (J : List Entry) (l : Layout) (sink : S) (asked : Bool) → IsEmptyWhereTold (S.written sink)
-            → IsCutOff (begun F (told_new S.written S.flushed S.target S.faults (length F) sink asked)) J l.vars (told_of S.written S.flushed S.target S.faults self.now)
-            → IsCutLog S.written S.flushed S.target S.faults sink self.now l F J }
-    {
-        self.log.keeps_step();
-        text_determines_lines();
-    }
+        ensures whole { (F : List (List Literal)) (J : List Entry) (l : Layout) (f : ProofFormat) (sink : S) (asked : Bool) → IsEmptyWhereTold (S.written sink)
+            → IsFilled (begun F (told_new S.written S.flushed S.target S.faults f (length F) sink asked)) J (told_of S.written S.flushed S.target S.faults self.now)
+            → HasLog account_of (IsLogOf S.written S.flushed S.target S.faults) self.now (origin_of S.written S.flushed S.target S.faults self.now) l F J × IsFrom S.target S.faults f sink asked (origin_of S.written S.flushed S.target S.faults self.now) }
+        ensures cut { (F : List (List Literal)) (J : List Entry) (l : Layout) (f : ProofFormat) (sink : S) (asked : Bool) → IsEmptyWhereTold (S.written sink)
+            → IsCutOff (begun F (told_new S.written S.flushed S.target S.faults f (length F) sink asked)) J l.vars (told_of S.written S.flushed S.target S.faults self.now)
+            → IsCutLog S.written S.flushed S.target S.faults f sink self.now l F J }
+    {}
 
     /// Makes ready for the line: what follows takes no memory.
     pub(crate) fn prepare(&mut self, line: &Line) -> Result<(), AllocError>

@@ -1,10 +1,11 @@
 // The lines, if they are asked for.
-ghost use Rattle.std.specs.Prelude.{◌≡◌, ◌<◌, ◌^◌, All, [], Some, None, IfOk, OnOk, if◌then◌else◌};
+ghost use Rattle.std.specs.Prelude.{◌≡◌, [], ◌∷◌, IfOk, OnOk};
 ghost use Rattle.std.specs.Option.{option_map};
-ghost use Rattle.sat_words.specs.Literal.{IsOn};
-ghost use Rattle.log_book.specs.Kept.{with_line, IsReady, IsSpelled};
+ghost use Rattle.drat_text.specs.LineState.{with_lines};
+ghost use Rattle.log_book.specs.Kept.{IsReady};
+ghost use Rattle.log_book.specs.Books.{no_line};
 
-use sat_words::{Line, Lit, Lits};
+use sat_words::{Line, Lits};
 use std::alloc::{AllocError, Global};
 use std::marker::Model;
 
@@ -26,39 +27,19 @@ impl Model for Kept {
     ghost view = { λ k. record { lines = option_map (λ v. v.items) k.lines; room = unwrap_or (option_map (λ v. vec_capacity v - vec_len v) k.lines) 1; next = k.next } };
 }
 
-/// The same literal. Its variable is one that a proof may name.
-fn same(lit: Lit) -> Lit
-    ensures is { result ≡ lit }
-    ensures on { IsOn (2 ^ 30) lit }
-{
-    Lit::new(lit.var(), lit.is_neg())
-}
-
-fn copy_of_lits(alloc: Global, lits: &[Lit]) -> Result<Lits, AllocError>
-    ensures is { IfOk result (λ copy. copy ≡ lits.now) }
-    ensures on { OnOk result (All (IsOn (2 ^ 30)) lits.now) }
-{
-    let mut copy = Vec::with_capacity(alloc, lits.len())?;
-    for lit in lits {
-        copy.push(same(*lit))?;
-    }
-    Ok(Lits::from_vec(copy))
-}
-
 fn copy_of(alloc: Global, line: &Line) -> Result<Line, AllocError>
-    ensures is { IfOk result (λ copy. copy ≡ line.now) }
-    ensures on { OnOk result (IsSpelled line.now) }
+    ensures { IfOk result (λ copy. copy ≡ line.now) }
 {
     match line {
-        Line::Add(lits) => Ok(Line::Add(copy_of_lits(alloc, lits.as_slice())?)),
-        Line::Del(lits) => Ok(Line::Del(copy_of_lits(alloc, lits.as_slice())?)),
+        Line::Add(lits) => Ok(Line::Add(Lits::from_slice(alloc, lits.as_slice())?)),
+        Line::Del(lits) => Ok(Line::Del(Lits::from_slice(alloc, lits.as_slice())?)),
     }
 }
 
 impl Kept {
     /// No line yet.
     pub(crate) fn new(alloc: Global, asked: bool) -> Kept
-        ensures { result.lines ≡ (if asked then Some [] else None) }
+        ensures { result.lines ≡ no_line asked }
     {
         Kept {
             alloc,
@@ -82,7 +63,7 @@ impl Kept {
     /// Keeps the line after the others.
     pub(crate) fn keep(&mut self, _line: &Line)
         requires { IsReady self.old _line.now }
-        ensures { self.new.lines ≡ with_line self.old.lines _line.now }
+        ensures { self.new.lines ≡ with_lines self.old.lines (_line.now ∷ []) }
     {
         if let Some(lines) = &mut self.lines {
             if let Some(line) = self.next.take() {

@@ -1,19 +1,20 @@
 // The lines on their way to the sink, of which a list is kept if that is asked for.
-ghost use Rattle.std.specs.Prelude.{◌≡◌, ◌≢◌, ◌≤◌, ◌^◌, [], true, false, Some, None, Err, is_err, IfOk, IfErr, OnOk, OnErr, if◌then◌else◌};
+ghost use Rattle.std.specs.Prelude.{◌≡◌, ◌≢◌, ◌≤◌, ◌^◌, [], true, false, Err, is_err, IfOk, IfErr, OnOk, OnErr};
 ghost use Rattle.std.specs.Option.{option_map};
 ghost use Rattle.std.specs.Io.KnownBytes.{append_known};
 ghost use Rattle.io_edge.specs.Bytes.{IsFront};
 ghost use Rattle.io_edge.specs.Causes.{HasCause};
 ghost use Rattle.io_edge.specs.Paths.{IsEmptyWhereTold};
 ghost use Rattle.drat_text.specs.LineOut.{WasPut};
-ghost use Rattle.drat_text.specs.SinkData.{told_by};
+ghost use Rattle.drat_text.specs.SinkData.{told_by, begun_lines};
 ghost use Rattle.drat_text.specs.declared.stop.LineStop.TheVariants.{Memory};
-ghost use Rattle.log_book.specs.Kept.{kept_after, IsReady, AreInStep};
+ghost use Rattle.log_book.specs.Kept.{kept_after, IsReady};
+ghost use Rattle.log_book.specs.Books.{no_line};
 
 use crate::kept::Kept;
 use drat_text::{LineOut, LineStop, SinkLines};
 use io_edge::{Failed, Sink};
-use sat_words::Line;
+use sat_words::{Line, ProofFormat};
 use std::alloc::{AllocError, AllocFailed, Global};
 use std::marker::Model;
 
@@ -27,32 +28,32 @@ pub struct LogLines<S: Sink> {
 
 impl<S: Sink> Model for LogLines<S> {
     ghost use Rattle.std.specs.Prelude.{◌≡◌};
-    ghost use Rattle.drat_text.specs.SinkData.{told_by};
-    ghost use Rattle.log_book.specs.Kept.{LogData, AreInStep};
+    ghost use Rattle.log_book.specs.Kept.{LogData};
 
     ghost Value = { LogData S };
 
     ghost view = { λ p. record { lines = p.lines; kept = p.kept } };
 
-    ghost invariant = { λ p. (p.last ≡ p.lines.last) × AreInStep p.kept.lines (told_by S.written S.flushed S.target S.faults p.lines) };
+    ghost invariant = { λ p. p.last ≡ p.lines.last };
 }
 
 impl<S: Sink> LogLines<S> {
-    /// No line yet, for a formula of this many clauses and in a sink to which nothing was written. Refused for memory it gives
-    /// the sink back.
+    /// No line yet, for a formula of this many clauses and in a sink to which nothing was written. The lines are spelled in
+    /// this format. Refused for memory it gives the sink back.
     pub(crate) fn new(
         alloc: Global,
+        format: ProofFormat,
         clauses: u64,
         sink: S,
         keep_lines: bool,
     ) -> Result<Self, AllocFailed<S>>
         requires few { clauses ≤ 2 ^ 63 }
         requires empty { IsEmptyWhereTold (S.written sink) }
-        ensures made { IfOk result (λ log. log.lines ≡ record { entries = 0; last = clauses; spent = false; waiting = []; sink = sink }) }
-        ensures kept { IfOk result (λ log. log.kept.lines ≡ (if keep_lines then Some [] else None)) }
+        ensures made { IfOk result (λ log. log.lines ≡ begun_lines format clauses sink) }
+        ensures kept { IfOk result (λ log. log.kept.lines ≡ no_line keep_lines) }
         ensures back { IfErr result (λ refused. refused.value ≡ sink) }
     {
-        match SinkLines::new(alloc, clauses, sink) {
+        match SinkLines::with_format(alloc, format, clauses, sink) {
             Ok(lines) => Ok(LogLines {
                 lines,
                 last: clauses,
@@ -76,13 +77,6 @@ impl<S: Sink> LogLines<S> {
         self.last
     }
 
-    /// Kept lines are in step with those on their way.
-    pub(crate) fn keeps_step(&self)
-        ensures { AreInStep self.now.kept.lines (told_by S.written S.flushed S.target S.faults self.now.lines) }
-    {
-        let _ = &self.kept;
-    }
-
     /// Makes ready for the line: what follows takes no memory.
     pub(crate) fn prepare(&mut self, line: &Line) -> Result<(), AllocError>
         ensures same { (self.new.lines ≡ self.old.lines) × (self.new.kept.lines ≡ self.old.kept.lines) }
@@ -91,7 +85,7 @@ impl<S: Sink> LogLines<S> {
         self.kept.prepare(line)
     }
 
-    /// Puts the line after the others, and keeps it, also the line at which writing failed.
+    /// Puts the line after the others, and keeps it if it stands.
     pub(crate) fn put(&mut self, line: &Line) -> Result<u64, LineStop>
         requires unspent { self.old.lines.spent ≡ false }
         requires ready { IsReady self.old.kept line.now }
@@ -107,12 +101,7 @@ impl<S: Sink> LogLines<S> {
                 }
                 Ok(number)
             }
-            Err(LineStop::ProofFault) => {
-                self.kept.keep(line);
-                Err(LineStop::ProofFault)
-            }
-            Err(LineStop::Full) => Err(LineStop::Full),
-            Err(LineStop::Memory) => Err(LineStop::Memory),
+            Err(stop) => Err(stop),
         }
     }
 

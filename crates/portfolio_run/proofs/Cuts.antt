@@ -1,4 +1,4 @@
--- A writer that has a front of the text of lines.
+-- A writer that has a front of the bytes of lines.
 use Rattle.std.proofs.Common.{◌≡◌, ◌∙◌, ◌^◌, ℕ, zero, suc, true, false, List, [], ◌∷◌, ◌++◌, Some, None, refl, sym, ap, subst, arith, append_assoc, append-nil}
 use Rattle.std.specs.Prelude.{All}
 use Rattle.std.specs.declared.option.Option.{Option}
@@ -14,15 +14,14 @@ use Rattle.rup_model.specs.Rup.{rup}
 use Rattle.rup_model.specs.Journal.{lines}
 use Rattle.rup_model.specs.declared.journal.Entry.{Entry}
 use Rattle.rup_model.proofs.Sequences.{each_last, each_front}
-use Rattle.drat_text.specs.Text.{CanBeSpelled, text, line_text}
+use Rattle.sat_words.specs.declared.line.ProofFormat.{ProofFormat}
+use Rattle.drat_text.specs.Text.{CanBeSpelled, IsSpelled}
+use Rattle.drat_text.specs.Spelling.{spelling, proof_bytes}
 use Rattle.drat_text.specs.Front.{IsCutText}
 use Rattle.drat_text.proofs.Fronts.{cut_text}
-use Rattle.drat_text.proofs.JournalLines.{text_last}
+use Rattle.drat_text.proofs.JournalLines.{bytes_last}
 use Rattle.log_book.specs.Kept.{HoldsText, IsFrontTold}
 use Rattle.portfolio_run.specs.Journaled.{IsCutShort}
-
-abbrev IsSpelled : Line → Type 0
-IsSpelled x = All (IsOn (2 ^ 30)) (lits_of x)
 
 front_All : {X : Type 0} (P : X → Type 0) (xs ys : List X) → All P (xs ++ ys) → All P xs
 front_All P [] ys all k d lt = absurd (omega arith)
@@ -43,10 +42,10 @@ within (y ∷ first) others (z ∷ L) line x e =
     let t = within first others L line x tail in
     (t.0, ap (λ (w : Line). w ∷ L) same ∙ ap (λ (ws : List Line). y ∷ ws) t.1)
 
-module _ (F : List (List Literal)) (J : List Entry) (L more : List Line) (x : Line) (front_of : lines F J ≡ L ++ more)
+module _ (f : ProofFormat) (F : List (List Literal)) (J : List Entry) (L more : List Line) (x : Line) (front_of : lines F J ≡ L ++ more)
     (accepted : Accepted F (L ++ x ∷ [])) (spelled : CanBeSpelled (L ++ x ∷ [])) where
-  -- a front of the text of these lines
-  cut_at : (bytes : List ℕ) → IsCutText (L ++ x ∷ []) bytes → IsCutShort F J (Some bytes)
+  -- a front of the bytes of these lines
+  cut_at : (bytes : List ℕ) → IsCutText f (L ++ x ∷ []) bytes → IsCutShort f F J (Some bytes)
   cut_at bytes t =
       let w = within t.first t.others L t.line x t.split in
       let whole : L ++ x ∷ [] ≡ (t.first ++ t.line ∷ []) ++ t.others = t.split ∙ sym (append_assoc t.first (t.line ∷ []) t.others) in
@@ -61,13 +60,13 @@ module _ (F : List (List Literal)) (J : List Entry) (L more : List Line) (x : Li
         bytes = t.ends;
       }
 
-  pub cut_short : (all written : Option (List ℕ)) → HoldsText all (text (L ++ x ∷ [])) → IsFront written all → IsCutShort F J written
-  cut_short all None holds f = record { front = L; rest = more; front_of = front_of; line = x; cut = 0; accepted = accepted; spelled = spelled; bytes = tt }
-  cut_short None (Some bytes) holds f = absurd (let e = f.whole in let no : ⊥ = cc in no)
-  cut_short (Some xs) (Some bytes) holds f =
-      let e = f.whole in
-      let same : xs ≡ bytes ++ f.rest = cc in
-      cut_at bytes (cut_text L x bytes f.rest (sym same ∙ holds))
+  pub cut_short : (all written : Option (List ℕ)) → HoldsText all (proof_bytes f (L ++ x ∷ [])) → IsFront written all → IsCutShort f F J written
+  cut_short all None holds g = record { front = L; rest = more; front_of = front_of; line = x; cut = 0; accepted = accepted; spelled = spelled; bytes = tt }
+  cut_short None (Some bytes) holds g = absurd (let e = g.whole in let no : ⊥ = cc in no)
+  cut_short (Some xs) (Some bytes) holds g =
+      let e = g.whole in
+      let same : xs ≡ bytes ++ g.rest = cc in
+      cut_at bytes (cut_text f L x bytes g.rest (sym same ∙ holds))
 
 -- what holds a text holds one that is longer once it grew
 pub longer : (w : Option (List ℕ)) (t u : List ℕ) → HoldsText w t → HoldsText (append_known w u) (t ++ u)
@@ -99,16 +98,16 @@ any_line_is_spelled zero x lt (suc zero) l less = record { low = omega arith; hi
 any_line_is_spelled zero x lt (suc (suc j)) l less = absurd (omega arith)
 any_line_is_spelled (suc k) x lt j l less = absurd (omega arith)
 
--- a writer that has a front of the journal's text
-pub cut_whole : (F : List (List Literal)) (J : List Entry) (all written : Option (List ℕ)) → Accepted F (lines F J) → CanBeSpelled (lines F J) → HoldsText all (text (lines F J)) → IsFront written all → IsCutShort F J written
-cut_whole F J all written accepted spelled holds f =
+-- a writer that has a front of the journal's bytes
+pub cut_whole : (f : ProofFormat) (F : List (List Literal)) (J : List Entry) (all written : Option (List ℕ)) → Accepted F (lines F J) → CanBeSpelled (lines F J) → HoldsText all (proof_bytes f (lines F J)) → IsFront written all → IsCutShort f F J written
+cut_whole f F J all written accepted spelled holds g =
     let L : List Line = lines F J in
-    cut_short F J L [] any_line (sym (append-nil L))
+    cut_short f F J L [] any_line (sym (append-nil L))
     (each_last (λ before y. is_valid (alive F before) y ≡ true) [] L any_line accepted (any_line_is_valid (alive F L)))
     (All-append IsSpelled L (any_line ∷ []) spelled any_line_is_spelled)
-    (append_known all (line_text any_line)) written
-    (subst (HoldsText (append_known all (line_text any_line))) (sym (text_last L any_line)) (longer all (text L) (line_text any_line) holds))
-    (front_of_more written all (line_text any_line) f)
+    (append_known all (spelling f any_line)) written
+    (subst (HoldsText (append_known all (spelling f any_line))) (sym (bytes_last f L any_line)) (longer all (proof_bytes f L) (spelling f any_line) holds))
+    (front_of_more written all (spelling f any_line) g)
 
 -- a front of the bytes of a text is one of the text
 pub front_told : (w all : Option (List ℕ)) (t : List ℕ) → HoldsText all t → IsFront w all → IsFrontTold w t

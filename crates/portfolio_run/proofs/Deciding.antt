@@ -55,7 +55,7 @@ use Rattle.portfolio_run.proofs.Behind.{IsAlike}
 pub record IsDecided (plan : Plan) (F : FormulaData) (answer : Answer) (tally : List Counts) (Failed Calm : Type 0) (J : List Entry) : Type 0 where
   pub stands : IsJournal plan.threads F.clauses J
   pub ruled : IsRuledThrough F plan.rounds J
-  pub held : IsHeld plan.threads plan.conflicts F.clauses J tally
+  pub held : IsHeld plan.threads plan.slots plan.conflicts F.clauses J tally
   pub stop : HasStop held (kind_of answer)
   pub holds : Holds plan F J answer
   pub rose : answer ≡ ProofFault → Failed
@@ -162,10 +162,11 @@ module _ (plan : Plan) (F : FormulaData) (left : Simplified) (l : Layout) (origi
         (subst (λ (q : CoreOpening). IsProgramOpening F.clauses J0 (opening_of q)) (sym g.opening_is)
         (record { journal_is = refl; starts = placed_starts (first_cell l) left.start.items ∙ g.left_is.starts; units = g.left_is.units }))
 
-    ran_once : RanOnce plan.threads plan.conflicts F.clauses J tally
+    ran_once : RanOnce plan.threads plan.slots plan.conflicts F.clauses J tally
     ran_once = record {
       opening = s.core.opening;
       rings_are = ap (λ (q : CoreOpening). q.rings) g.opening_is ∙ g.rings_are;
+      depth_is = ap (λ (q : CoreOpening). q.depth) g.opening_is ∙ g.depth_is;
       formula_is = ap (λ (q : CoreOpening). q.formula) g.opening_is;
       program = program;
       core = s.core;

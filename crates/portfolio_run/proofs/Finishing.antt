@@ -15,9 +15,11 @@ use Rattle.rup_model.specs.Log.{lits_of}
 use Rattle.rup_model.specs.Journal.{lines}
 use Rattle.rup_model.specs.declared.journal.Entry.{Entry}
 use Rattle.drat_text.specs.LineState.{LineState}
-use Rattle.drat_text.specs.Text.{text, line_text}
+use Rattle.sat_words.specs.declared.line.ProofFormat.{ProofFormat}
+use Rattle.drat_text.specs.Text.{IsSpelled}
+use Rattle.drat_text.specs.Spelling.{spelling, proof_bytes}
 use Rattle.drat_text.specs.SinkData.{told_by}
-use Rattle.drat_text.proofs.JournalLines.{text_last}
+use Rattle.drat_text.proofs.JournalLines.{bytes_last}
 use Rattle.log_book.specs.declared.book.Book.{Book}
 use Rattle.log_book.specs.Books.{no_byte}
 use Rattle.log_book.specs.Ended.{HasEnded}
@@ -72,23 +74,34 @@ module _ {S : Type 0} {d : Ghosts S} (written flushed target : S → Option (Lis
   rose : b.log.lines.spent ≡ true → Rose (faults sink) (faults b.log.lines.sink)
   rose q = subst (λ (n : ℕ). Rose n (faults b.log.lines.sink)) h.records.faults_are (h.records.log.cut q).rose
 
-  whole : b.log.lines.spent ≡ false → HoldsText out.written (text (lines F J))
-  whole q = subst (λ (w : Option (List ℕ)). HoldsText w (text (lines F J))) (sym (h.records.log.whole q).bytes) (holds_since h.records.origin.tells (text (lines F J)))
+  -- the bytes of the journal's lines
+  abbrev all_bytes : List ℕ
+  all_bytes = proof_bytes plan.format (lines F J)
 
-  short_cut : (now : Option (List ℕ)) → IsFront now out.written → b.log.lines.spent ≡ true → IsCutShort F J now
-  short_cut now f q =
+  whole : b.log.lines.spent ≡ false → HoldsText out.written all_bytes
+  whole q =
+      let o = h.records.origin in
+      let told : HoldsText out.written (proof_bytes o.format (lines F J)) =
+      subst (λ (w : Option (List ℕ)). HoldsText w (proof_bytes o.format (lines F J))) (sym (h.records.log.whole q).bytes) (holds_since o.tells (proof_bytes o.format (lines F J))) in
+      subst (λ (f : ProofFormat). HoldsText out.written (proof_bytes f (lines F J))) h.records.format_is told
+
+  short_cut : (now : Option (List ℕ)) → IsFront now out.written → b.log.lines.spent ≡ true → IsCutShort plan.format F J now
+  short_cut now front q =
       let c = h.records.log.cut q in
-      let all = append_known (no_byte h.records.origin.tells) (text (lines F J) ++ line_text c.line) in
-      cut_short F J (lines F J) [] c.line (sym (append-nil (lines F J))) c.accepted
-      (All-append (λ x. All (IsOn (2 ^ 30)) (lits_of x)) (lines F J) (c.line ∷ []) h.reached.stands.spelled
-      (cons_All (λ x. All (IsOn (2 ^ 30)) (lits_of x)) c.line [] (spell_all h.records.layout.vars h.records.few (lits_of c.line) c.on) (λ k d lt. absurd (omega arith))))
-      all now (subst (HoldsText all) (sym (text_last (lines F J) c.line)) (holds_since h.records.origin.tells (text (lines F J) ++ line_text c.line)))
-      (front_of_front now out.written all f c.front)
+      let o = h.records.origin in
+      let more : List ℕ = proof_bytes o.format (lines F J) ++ spelling o.format c.line in
+      let all = append_known (no_byte o.tells) more in
+      subst (λ (f : ProofFormat). IsCutShort f F J now) h.records.format_is
+      (cut_short o.format F J (lines F J) [] c.line (sym (append-nil (lines F J))) c.accepted
+      (All-append IsSpelled (lines F J) (c.line ∷ []) h.reached.stands.spelled
+      (cons_All IsSpelled c.line [] (spell_all h.records.layout.vars h.records.few (lits_of c.line) c.on) (λ k d lt. absurd (omega arith))))
+      all now (subst (HoldsText all) (sym (bytes_last o.format (lines F J) c.line)) (holds_since o.tells more))
+      (front_of_front now out.written all front c.front))
 
-  short : (now : Option (List ℕ)) → IsFront now out.written → IsCutShort F J now
-  short now f = elim (cases_Bool b.log.lines.spent) as (λ _. IsCutShort F J now) [
+  short : (now : Option (List ℕ)) → IsFront now out.written → IsCutShort plan.format F J now
+  short now f = elim (cases_Bool b.log.lines.spent) as (λ _. IsCutShort plan.format F J now) [
     | inl q ↦ short_cut now f q
-    | inr q ↦ cut_whole F J out.written now h.reached.stands.accepted h.reached.stands.spelled (whole q) f
+    | inr q ↦ cut_whole plan.format F J out.written now h.reached.stands.accepted h.reached.stands.spelled (whole q) f
   ]
 
   -- a sink that failed now, or before, has failed since
@@ -102,22 +115,22 @@ module _ {S : Type 0} {d : Ghosts S} (written flushed target : S → Option (Lis
   target_stays now same = same ∙ h.records.log.target_is ∙ h.records.target_is
 
   module _ (now : S) (e : HasEnded written flushed faults b now) (bytes : IsFront (written now) out.written) where
-    poured_whole : (Rose (faults sink) e.poured → ⊥) → HoldsText (written now) (text (lines F J))
-    poured_whole calm = elim (cases_Bool b.log.lines.spent) as (λ _. HoldsText (written now) (text (lines F J))) [
+    poured_whole : (Rose (faults sink) e.poured → ⊥) → HoldsText (written now) all_bytes
+    poured_whole calm = elim (cases_Bool b.log.lines.spent) as (λ _. HoldsText (written now) all_bytes) [
       | inl q ↦ absurd (calm (subst (λ (n : ℕ). Rose (faults sink) n) (sym (e.broken q)) (rose q)))
       | inr q ↦ elim (e.whole q) [
-        | inl all ↦ subst (λ (w : Option (List ℕ)). HoldsText w (text (lines F J))) (sym all.1) (whole q)
+        | inl all ↦ subst (λ (w : Option (List ℕ)). HoldsText w all_bytes) (sym all.1) (whole q)
         | inr failed ↦ absurd (calm (subst (λ (n : ℕ). Rose n e.poured) (still q) failed))
       ]
     ]
 
-    front : (Rose (faults sink) (faults b.log.lines.sink) → ⊥) → IsFrontTold (written now) (text (lines F J))
-    front calm = elim (cases_Bool b.log.lines.spent) as (λ _. IsFrontTold (written now) (text (lines F J))) [
+    front : (Rose (faults sink) (faults b.log.lines.sink) → ⊥) → IsFrontTold (written now) all_bytes
+    front calm = elim (cases_Bool b.log.lines.spent) as (λ _. IsFrontTold (written now) all_bytes) [
       | inl q ↦ absurd (calm (rose q))
-      | inr q ↦ front_told (written now) out.written (text (lines F J)) (whole q) bytes
+      | inr q ↦ front_told (written now) out.written all_bytes (whole q) bytes
     ]
 
-    finished : (told : Answer) → (is_verdict told ≡ true → HoldsText (written now) (text (lines F J))) → IsFinished F J told (faults sink) (faults b.log.lines.sink) (faults now) (flushed now) (written now)
+    finished : (told : Answer) → (is_verdict told ≡ true → HoldsText (written now) all_bytes) → IsFinished plan.format F J told (faults sink) (faults b.log.lines.sink) (faults now) (flushed now) (written now)
     finished told sure = record {
       poured = e.poured;
       grown = (e.grown, e.later);
@@ -127,7 +140,7 @@ module _ {S : Type 0} {d : Ghosts S} (written flushed target : S → Option (Lis
       short = short (written now) bytes;
     }
       where
-        by : IsSure (faults sink) e.poured told → HoldsText (written now) (text (lines F J))
+        by : IsSure (faults sink) e.poured told → HoldsText (written now) all_bytes
         by (inl verdict) = sure verdict
         by (inr calm) = poured_whole calm
 
@@ -142,7 +155,7 @@ module _ {S : Type 0} {d : Ghosts S} (written flushed target : S → Option (Lis
           searched = faults b.log.lines.sink;
           reached = h.reached;
           told = record { ends = inl refl; quiet = λ _. quiet ∙ still q };
-          finished = finished answer (λ _. subst (λ (w : Option (List ℕ)). HoldsText w (text (lines F J))) (sym all) (whole q));
+          finished = finished answer (λ _. subst (λ (w : Option (List ℕ)). HoldsText w all_bytes) (sym all) (whole q));
           lines_are = record {
             are = if_kept kept (lines F J) (λ ls is. h.records.kept q ls (sym same ∙ is));
             asked_for = λ some. sym asked ∙ some;

@@ -49,6 +49,7 @@ pub record GoesOn (plan : Plan) (F : FormulaData) (left : Simplified) (l : Layou
   pub few_rings : plan.threads ≤ RULER_RING
   pub rings_are : l.rings ≡ plan.threads
   pub vars_are : l.vars ≡ F.vars
+  pub depth_is : l.depth ≡ plan.slots
   pub rulers : AreRulers J0
   pub on_ruler : All (All (IsOn F.vars)) (added J0)
   pub left_is : IsSimplified F J0 left
@@ -61,13 +62,13 @@ pub record GoesOn (plan : Plan) (F : FormulaData) (left : Simplified) (l : Layou
 
 module _ {S : Type 0} {d : Ghosts S} (written flushed target : S → Option (List ℕ)) (faults : S → ℕ) (sink : S) (plan : Plan) (F : FormulaData) (old : Book S d) (left : Simplified) (l : Layout) (origin : BookOrigin)
     (few : F.vars ≤ 2 ^ 30) (on : All (All (IsOn F.vars)) F.clauses) (some : 1 ≤ plan.conflicts) (some_ring : 1 ≤ plan.threads) (few_rings : plan.threads ≤ RULER_RING)
-    (was : WasRuled written flushed target faults sink plan F old (Ok (LeftOver left))) (rings_are : l.rings ≡ plan.threads) (vars_are : l.vars ≡ F.vars)
+    (was : WasRuled written flushed target faults sink plan F old (Ok (LeftOver left))) (rings_are : l.rings ≡ plan.threads) (vars_are : l.vars ≡ F.vars) (depth_is : l.depth ≡ plan.slots)
     (w : View) (same : IsSameTable (first_view l (began_with F l was.ruled.journal left) origin) w) (s : Seen w) where
   abbrev J0 : List Entry
   J0 = was.ruled.journal
 
   abbrev first : LineState
-  first = told_new written flushed target faults (length F.clauses) sink plan.keep_lines
+  first = told_new written flushed target faults plan.format (length F.clauses) sink plan.keep_lines
 
   rulers : AreRulers J0
   rulers = was.ruled.stands.rulers
@@ -130,6 +131,7 @@ module _ {S : Type 0} {d : Ghosts S} (written flushed target : S → Option (Lis
     few_rings = few_rings;
     rings_are = rings_are;
     vars_are = vars_are;
+    depth_is = depth_is;
     rulers = rulers;
     on_ruler = subst (λ (n : ℕ). All (All (IsOn n)) (added J0)) was.ruled.vars was.ruled.stands.on;
     left_is = answered.0;
@@ -142,15 +144,16 @@ module _ {S : Type 0} {d : Ghosts S} (written flushed target : S → Option (Lis
   }
 
   -- the book has come to the journal
-  pub records : (b : Book S d) (fault : Bool) → origin.faults ≡ faults sink → origin.target ≡ target sink
-      → StandsFor account_of (IsLogOf written flushed target faults) b w.origin w.layout w.opening s.core.journal fault → Records written flushed target faults sink F.clauses s.core.journal b
-  records b fault faults_are target_is h =
+  pub records : (b : Book S d) (fault : Bool) → origin.format ≡ plan.format → origin.faults ≡ faults sink → origin.target ≡ target sink
+      → StandsFor account_of (IsLogOf written flushed target faults) b w.origin w.layout w.opening s.core.journal fault → Records written flushed target faults plan.format sink F.clauses s.core.journal b
+  records b fault format_is faults_are target_is h =
       let formula_is : w.opening.formula ≡ F.clauses = ap (λ (o : CoreOpening). o.formula) same.opening in
       let vars_there : w.layout.vars ≡ F.vars = ap (λ (m : Layout). m.vars) same.layout ∙ vars_are in
       record {
         origin = w.origin;
         layout = w.layout;
         few = omega (arith, vars_there);
+        format_is = ap (λ (x : BookOrigin). x.format) same.origin ∙ format_is;
         faults_are = ap (λ (x : BookOrigin). x.faults) same.origin ∙ faults_are;
         target_is = ap (λ (x : BookOrigin). x.target) same.origin ∙ target_is;
         log = subst (λ (G : List (List Literal)). IsLogOf written flushed target faults b w.origin w.layout G s.core.journal) formula_is h.log.sink;

@@ -24,7 +24,9 @@ use Rattle.rup_model.proofs.LogLaw.{refutes_none}
 use Rattle.rup_model.proofs.Parts.{rulers_new, rulers_spaced}
 use Rattle.rup_model.proofs.ProgramOpening.{program_ascends}
 use Rattle.drat_text.specs.LineState.{LineState}
-use Rattle.drat_text.specs.Text.{CanBeSpelled, text}
+use Rattle.sat_words.specs.declared.line.ProofFormat.{ProofFormat}
+use Rattle.drat_text.specs.Text.{CanBeSpelled}
+use Rattle.drat_text.specs.Spelling.{proof_bytes}
 use Rattle.drat_text.specs.declared.stop.LineStop.{LineStop}
 use Rattle.drat_text.specs.declared.stop.LineStop.TheVariants as line_stop
 use Rattle.simp_base.specs.Log.{HasLines}
@@ -108,7 +110,7 @@ module _ (plan : Plan) (formula : FormulaData) (old now : LineState) (result : R
     alone = λ _. (all_rulers J rulers).1;
   }
 
-  abbrev held : IsHeld plan.threads plan.conflicts F J tally
+  abbrev held : IsHeld plan.threads plan.slots plan.conflicts F J tally
   held = inl (record { rulers = (all_rulers J rulers).1; none = none })
 
   pub unsettled : IsUnrefuted J → IsUnsettled plan.threads plan.conflicts J
@@ -191,15 +193,15 @@ module _ (plan : Plan) (formula : FormulaData) (old now : LineState) (result : R
 module _ {S : Type 0} {d : Ghosts S} (written flushed target : S → Option (List ℕ)) (faults : S → ℕ) where
   -- what a book promises that was filled through the bound of a line output
   abbrev pub LogLaw : Book S d → Type 0
-  LogLaw b = (F : List (List Literal)) (J : List Entry) (l : Layout) (sink : S) (asked : Bool) → IsEmptyWhereTold (written sink)
-      → IsFilled (begun F (told_new written flushed target faults (length F) sink asked)) J (told_of written flushed target faults b)
-      → HasLog account_of (IsLogOf written flushed target faults) b (origin_of written flushed target faults b) l F J × IsFrom target faults sink asked (origin_of written flushed target faults b)
+  LogLaw b = (F : List (List Literal)) (J : List Entry) (l : Layout) (f : ProofFormat) (sink : S) (asked : Bool) → IsEmptyWhereTold (written sink)
+      → IsFilled (begun F (told_new written flushed target faults f (length F) sink asked)) J (told_of written flushed target faults b)
+      → HasLog account_of (IsLogOf written flushed target faults) b (origin_of written flushed target faults b) l F J × IsFrom target faults f sink asked (origin_of written flushed target faults b)
 
   -- and one whose sink failed meanwhile
   abbrev pub CutLaw : Book S d → Type 0
-  CutLaw b = (F : List (List Literal)) (J : List Entry) (l : Layout) (sink : S) (asked : Bool) → IsEmptyWhereTold (written sink)
-      → IsCutOff (begun F (told_new written flushed target faults (length F) sink asked)) J l.vars (told_of written flushed target faults b)
-      → IsCutLog written flushed target faults sink b l F J
+  CutLaw b = (F : List (List Literal)) (J : List Entry) (l : Layout) (f : ProofFormat) (sink : S) (asked : Bool) → IsEmptyWhereTold (written sink)
+      → IsCutOff (begun F (told_new written flushed target faults f (length F) sink asked)) J l.vars (told_of written flushed target faults b)
+      → IsCutLog written flushed target faults f sink b l F J
 
   module _ (sink : S) (plan : Plan) (formula : FormulaData) (b : Book S d) (result : Result Outcome LineStop) (tally : List Counts) (few : formula.vars ≤ 2 ^ 30) (on : All (All (IsOn formula.vars)) formula.clauses)
       (rings : 1 ≤ plan.threads) (some : 1 ≤ plan.conflicts) (none : tally ≡ replicate plan.threads no_counts) (was : WasRuled written flushed target faults sink plan formula b result) where
@@ -211,14 +213,14 @@ module _ {S : Type 0} {d : Ghosts S} (written flushed target : S → Option (Lis
     rulers_journal = was.ruled.journal
 
     abbrev before : LineState
-    before = told_new written flushed target faults (length F') sink plan.keep_lines
+    before = told_new written flushed target faults plan.format (length F') sink plan.keep_lines
 
     abbrev told : LineState
     told = told_of written flushed target faults b
 
     -- the layout of a table for these rings
     abbrev pub table_layout : Layout
-    table_layout = record { rings = plan.threads; vars = formula.vars; words = plan.words }
+    table_layout = record { rings = plan.threads; vars = formula.vars; words = plan.words; depth = plan.slots }
 
     lines_are : HasLines (work_origin formula before) rulers_journal formula.vars told
     lines_are = has_lines plan formula before told result tally few on rings some (inr none) refl refl refl was.ruled
@@ -226,25 +228,25 @@ module _ {S : Type 0} {d : Ghosts S} (written flushed target : S → Option (Lis
     filled_book : told.spent ≡ false → IsFilled (begun F' before) rulers_journal told
     filled_book = filled plan formula before told result tally few on rings some (inr none) refl refl refl was.ruled
 
-    records_whole : LogLaw b → b.log.lines.spent ≡ false → Records written flushed target faults sink F' rulers_journal b
+    records_whole : LogLaw b → b.log.lines.spent ≡ false → Records written flushed target faults plan.format sink F' rulers_journal b
     records_whole law q =
-        let h = law F' rulers_journal table_layout sink plan.keep_lines was.empty (filled_book q) in
-        record { origin = origin_of written flushed target faults b; layout = table_layout; few = few; faults_are = h.1.faults_are; target_is = h.1.target_is; log = h.0.sink; kept = h.0.kept }
+        let h = law F' rulers_journal table_layout plan.format sink plan.keep_lines was.empty (filled_book q) in
+        record { origin = origin_of written flushed target faults b; layout = table_layout; few = few; format_is = h.1.format_is; faults_are = h.1.faults_are; target_is = h.1.target_is; log = h.0.sink; kept = h.0.kept }
 
-    records_cut : CutLaw b → b.log.lines.spent ≡ true → Records written flushed target faults sink F' rulers_journal b
+    records_cut : CutLaw b → b.log.lines.spent ≡ true → Records written flushed target faults plan.format sink F' rulers_journal b
     records_cut law q =
-        let h = law F' rulers_journal table_layout sink plan.keep_lines was.empty (record { spent = q; text = lines_are.short q; target = lines_are.target }) in
-        record { origin = h.origin; layout = table_layout; few = few; faults_are = h.faults_are; target_is = h.target_is; log = h.log; kept = λ c. absurd (true≢false (sym q ∙ c)) }
+        let h = law F' rulers_journal table_layout plan.format sink plan.keep_lines was.empty (record { spent = q; text = lines_are.short q; target = lines_are.target }) in
+        record { origin = h.origin; layout = table_layout; few = few; format_is = h.format_is; faults_are = h.faults_are; target_is = h.target_is; log = h.log; kept = λ c. absurd (true≢false (sym q ∙ c)) }
 
-    pub records : LogLaw b → CutLaw b → Records written flushed target faults sink F' rulers_journal b
-    records law cut = elim (cases_Bool b.log.lines.spent) as (λ _. Records written flushed target faults sink F' rulers_journal b) [
+    pub records : LogLaw b → CutLaw b → Records written flushed target faults plan.format sink F' rulers_journal b
+    records law cut = elim (cases_Bool b.log.lines.spent) as (λ _. Records written flushed target faults plan.format sink F' rulers_journal b) [
       | inl q ↦ records_cut cut q
       | inr q ↦ records_whole law q
     ]
 
-    -- lines are kept where that was asked for
+    -- lines are kept if that was asked for
     asked : LogLaw b → b.log.lines.spent ≡ false → is_some b.log.kept.lines ≡ plan.keep_lines
-    asked law q = (law F' rulers_journal table_layout sink plan.keep_lines was.empty (filled_book q)).1.keeps
+    asked law q = (law F' rulers_journal table_layout plan.format sink plan.keep_lines was.empty (filled_book q)).1.keeps
 
     pub refuted_book : LogLaw b → CutLaw b → result ≡ Ok NoModel → HasReached written flushed target faults sink plan formula Unsat tally b
     refuted_book law cut is = record { journal = rulers_journal; records = records law cut; reached = refuted plan formula before told result tally few on rings some (inr none) refl refl refl was.ruled is; asked = asked law }
@@ -270,8 +272,8 @@ module _ {S : Type 0} {d : Ghosts S} (written flushed target : S → Option (Lis
       }
 
       -- a table may be made
-      pub may_begin : plan.threads ≤ 16 → plan.words ≤ 2 ^ 31 → MayBegin F' table_layout rulers_journal left.start.items left.units.items
-      may_begin few_rings few_words =
+      pub may_begin : plan.threads ≤ 16 → plan.words ≤ 2 ^ 31 → 1 ≤ plan.slots → plan.slots ≤ 16 → MayBegin F' table_layout rulers_journal left.start.items left.units.items
+      may_begin few_rings few_words some_slot few_slots =
           let entries = (filled_book left_unspent).entries in
           let small = b.few in
           let on_left = left_answer.0.on in
@@ -280,6 +282,8 @@ module _ {S : Type 0} {d : Ghosts S} (written flushed target : S → Option (Lis
             few_rings = few_rings;
             few_vars = few;
             few_words = few_words;
+            some_slot = some_slot;
+            few_slots = few_slots;
             opens = left_answer.0.opens;
             ascending = subst AreAscending (sym left_answer.0.starts) (program_ascends F' rulers_journal);
             going = list_any-append is_empty F' (added rulers_journal) ∙ (λ i. left_answer.0.going i || left_answer.0.opens.rulers_part.going i);
@@ -290,18 +294,18 @@ module _ {S : Type 0} {d : Ghosts S} (written flushed target : S → Option (Lis
 
       -- over the book, which began with the sink
       pub has_log : LogLaw b
-          → HasLog account_of (IsLogOf written flushed target faults) b (origin_of written flushed target faults b) table_layout F' rulers_journal × IsFrom target faults sink plan.keep_lines (origin_of written flushed target faults b)
-      has_log law = law F' rulers_journal table_layout sink plan.keep_lines was.empty (filled_book left_unspent)
+          → HasLog account_of (IsLogOf written flushed target faults) b (origin_of written flushed target faults b) table_layout F' rulers_journal × IsFrom target faults plan.format sink plan.keep_lines (origin_of written flushed target faults b)
+      has_log law = law F' rulers_journal table_layout plan.format sink plan.keep_lines was.empty (filled_book left_unspent)
 
 -- memory ran out before a line was put, and the sink was flushed
 pub starved : (plan : Plan) (formula : FormulaData) (tally : List Counts) (before faults : ℕ) (flushed written : Option (List ℕ)) → formula.vars ≤ 2 ^ 30 → All (All (IsOn formula.vars)) formula.clauses → 1 ≤ plan.threads → 1 ≤ plan.conflicts
     → (tally ≡ []) ⊎ (tally ≡ replicate plan.threads no_counts) → IsEmptyWhereTold written → before ≤ faults → IsClosed before faults flushed written → IsSolved plan formula Memory tally before faults flushed written None
 starved plan formula tally before faults flushed written few on rings some none empty later closed =
-    let old : LineState = record { entries = 0; last = length formula.clauses; spent = false; faults = before; written = written; target = None; flushed = None } in
+    let old : LineState = record { format = plan.format; entries = 0; last = length formula.clauses; spent = false; faults = before; written = written; target = None; flushed = None; kept = None } in
     let was : Ruled formula plan.rounds old old (Err line_stop.Memory) = none_made formula plan.rounds old refl refl refl on old refl in
     let h : IsReached plan formula Memory tally before before was.journal = stopped plan formula old old (Err line_stop.Memory) tally few on rings some none refl refl refl was line_stop.Memory refl in
-    let L = lines formula.clauses was.journal in
-    let holds : HoldsText written (text L) = told_text written (text L) empty ((has_lines plan formula old old (Err line_stop.Memory) tally few on rings some none refl refl refl was).whole refl).bytes in
+    let bytes : List ℕ = proof_bytes plan.format (lines formula.clauses was.journal) in
+    let holds : HoldsText written bytes = told_text written bytes empty ((has_lines plan formula old old (Err line_stop.Memory) tally few on rings some none refl refl refl was).whole refl).bytes in
     record {
       journal = was.journal;
       found = Memory;
@@ -313,8 +317,8 @@ starved plan formula tally before faults flushed written few on rings some none 
         grown = (omega arith, later);
         closed = closed;
         whole = λ _. holds;
-        front = λ _. front_told written written (text L) holds (front_of_same written);
-        short = cut_whole formula.clauses was.journal written written h.stands.accepted h.stands.spelled holds (front_of_same written);
+        front = λ _. front_told written written bytes holds (front_of_same written);
+        short = cut_whole plan.format formula.clauses was.journal written written h.stands.accepted h.stands.spelled holds (front_of_same written);
       };
       lines_are = record { are = tt; asked_for = λ e. absurd (true≢false (sym e)); quiet = λ e. absurd (true≢false (sym e)); there = λ asked other sure. absurd (other refl) };
     }

@@ -34,11 +34,12 @@ pub record IsTallied (rings limit ring : ℕ) (events : List Event) (journal : L
   pub offered_is : counts.offered ≡ (rings - 1) * counts.exported
   pub restarted : HasRestarted ring limit counts
 
--- a list of enabled events leads from the program's opening for these rings to a state with this journal: so no clause was
--- deleted that a ring, a slot or an open grant still had; each ring counted what it did
-pub record RanOnce (rings limit : ℕ) (clauses : List (List Literal)) (journal : List Entry) (tally : List Counts) : Type 0 where
+-- a list of enabled events leads from the program's opening for these rings, each two of which have so many slots for each class, to a
+-- state with this journal: so no clause was deleted that a ring, a slot or an open grant still had; each ring counted what it did
+pub record RanOnce (rings slots limit : ℕ) (clauses : List (List Literal)) (journal : List Entry) (tally : List Counts) : Type 0 where
   pub opening : CoreOpening
   pub rings_are : opening.rings ≡ rings
+  pub depth_is : opening.depth ≡ slots
   pub formula_is : opening.formula ≡ clauses
   pub program : IsProgramOpening clauses (ruler_part journal) (opening_of opening)
   pub core : State
@@ -57,11 +58,11 @@ pub record NoneRan (rings : ℕ) (journal : List Entry) (tally : List Counts) : 
   pub none : (tally ≡ []) ⊎ (tally ≡ replicate rings no_counts)
 
 -- either
-abbrev pub IsHeld : ℕ → ℕ → List (List Literal) → List Entry → List Counts → Type 0
-IsHeld rings limit clauses journal tally = NoneRan rings journal tally ⊎ RanOnce rings limit clauses journal tally
+abbrev pub IsHeld : (rings slots limit : ℕ) → List (List Literal) → List Entry → List Counts → Type 0
+IsHeld rings slots limit clauses journal tally = NoneRan rings journal tally ⊎ RanOnce rings slots limit clauses journal tally
 
 -- the stop to which the steps of the rings come is of this kind, or there is none; if no ring ran, none has found a model and none
 -- is spent
-abbrev pub HasStop : {rings limit : ℕ} {clauses : List (List Literal)} {journal : List Entry} {tally : List Counts} → IsHeld rings limit clauses journal tally → Option ℕ → Type 0
+abbrev pub HasStop : {rings slots limit : ℕ} {clauses : List (List Literal)} {journal : List Entry} {tally : List Counts} → IsHeld rings slots limit clauses journal tally → Option ℕ → Type 0
 HasStop (inl none) kind = (kind ≢ Some STOP_SAT) × (kind ≢ None)
 HasStop (inr ran) kind = option_map (λ stop. stop.kind) ran.core.stop ≡ kind

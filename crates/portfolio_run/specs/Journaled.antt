@@ -5,6 +5,7 @@ use Rattle.std.specs.declared.option.Option.{Option}
 use Rattle.sat_words.specs.Literal.{Literal}
 use Rattle.sat_words.specs.Clause.{is_empty}
 use Rattle.sat_words.specs.declared.line.Line.{Line}
+use Rattle.sat_words.specs.declared.line.ProofFormat.{ProofFormat}
 use Rattle.rup_model.specs.declared.journal.Entry.{Entry}
 use Rattle.rup_model.specs.declared.journal.Entry.TheVariants.{Add, Del, Reduce}
 use Rattle.rup_model.specs.Basics.{EachAfter}
@@ -12,7 +13,8 @@ use Rattle.rup_model.specs.Log.{Accepted}
 use Rattle.rup_model.specs.Journal.{added, lines, ring_of, Fits, EmptyLast, IsSpaced}
 use Rattle.rup_model.specs.Opening.{is_rulers, program_opening, IsNew}
 use Rattle.rup_model.specs.Spent.{ruler_part, rings_part}
-use Rattle.drat_text.specs.Text.{CanBeSpelled, text, line_text}
+use Rattle.drat_text.specs.Text.{CanBeSpelled}
+use Rattle.drat_text.specs.Spelling.{spelling, proof_bytes}
 use Rattle.log_book.specs.Kept.{HoldsText}
 use Rattle.ring_run.specs.Ended.{IsOfKind}
 
@@ -44,8 +46,8 @@ pub record IsJournal (rings : ℕ) (clauses : List (List Literal)) (journal : Li
 abbrev pub IsUnrefuted : List Entry → Type 0
 IsUnrefuted journal = list_any is_empty (added journal) ≡ false
 
--- some lines of the journal, and the front of one line more; all of them are accepted
-pub record IsCutShort (clauses : List (List Literal)) (journal : List Entry) (written : Option (List ℕ)) : Type 0 where
+-- the bytes of some lines of the journal in this format, and a front of one line's more; all of the lines are accepted
+pub record IsCutShort (format : ProofFormat) (clauses : List (List Literal)) (journal : List Entry) (written : Option (List ℕ)) : Type 0 where
   pub front : List Line
   pub rest : List Line
   pub front_of : lines clauses journal ≡ front ++ rest
@@ -53,4 +55,4 @@ pub record IsCutShort (clauses : List (List Literal)) (journal : List Entry) (wr
   pub cut : ℕ
   pub accepted : Accepted clauses (front ++ line ∷ [])
   pub spelled : CanBeSpelled (front ++ line ∷ [])
-  pub bytes : HoldsText written (text front ++ take cut (line_text line))
+  pub bytes : HoldsText written (proof_bytes format front ++ take cut (spelling format line))

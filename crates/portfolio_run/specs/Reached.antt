@@ -8,6 +8,7 @@ use Rattle.io_edge.specs.Paths.{IsEmptyWhereTold}
 use Rattle.sat_words.specs.Literal.{Literal}
 use Rattle.sat_words.specs.FormulaData.{FormulaData}
 use Rattle.sat_words.specs.declared.line.Line.{Line}
+use Rattle.sat_words.specs.declared.line.ProofFormat.{ProofFormat}
 use Rattle.rup_model.specs.declared.journal.Entry.{Entry}
 use Rattle.rup_model.specs.Journal.{lines}
 use Rattle.sat_words.specs.declared.shared.TheConstants.{MAX_ENTRIES}
@@ -40,12 +41,13 @@ use Rattle.portfolio_run.specs.Solved.{IsReached}
 -- The book
 
 module _ {S : Type 0} {d : Ghosts S} (written flushed target : S → Option (List ℕ)) (faults : S → ℕ) where
-  -- since it had this sink, in which nothing was written, the book has come to the lines of this journal, or has failed at the
-  -- line after them; lines that are kept are those
-  pub record Records (sink : S) (F : List (List Literal)) (J : List Entry) (b : Book S d) : Type 0 where
+  -- since it had this format and this sink, in which nothing was written, the book has come to the lines of this journal, or has
+  -- failed at the line after them; lines that are kept are those
+  pub record Records (format : ProofFormat) (sink : S) (F : List (List Literal)) (J : List Entry) (b : Book S d) : Type 0 where
     pub origin : BookOrigin
     pub layout : Layout
     pub few : layout.vars ≤ 2 ^ 30
+    pub format_is : origin.format ≡ format
     pub faults_are : origin.faults ≡ faults sink
     pub target_is : origin.target ≡ target sink
     pub log : IsLogOf written flushed target faults b origin layout F J
@@ -54,11 +56,11 @@ module _ {S : Type 0} {d : Ghosts S} (written flushed target : S → Option (Lis
   -- the ruler has come to this over the formula, and wrote its lines into this book, which began with this sink
   pub record WasRuled (sink : S) (plan : Plan) (formula : FormulaData) (b : Book S d) (result : Result Outcome LineStop) : Type 0 where
     pub empty : IsEmptyWhereTold (written sink)
-    pub ruled : Ruled formula plan.rounds (told_new written flushed target faults (length formula.clauses) sink plan.keep_lines) (told_of written flushed target faults b) result
+    pub ruled : Ruled formula plan.rounds (told_new written flushed target faults plan.format (length formula.clauses) sink plan.keep_lines) (told_of written flushed target faults b) result
 
   -- its run, as it is known
   abbrev pub run_to : S → Plan → FormulaData → Book S d → Result Outcome LineStop → RulersRun
-  run_to sink plan formula b result = record { formula = formula; rounds = plan.rounds; before = told_new written flushed target faults (length formula.clauses) sink plan.keep_lines; now = told_of written flushed target faults b; result = result }
+  run_to sink plan formula b result = record { formula = formula; rounds = plan.rounds; before = told_new written flushed target faults plan.format (length formula.clauses) sink plan.keep_lines; now = told_of written flushed target faults b; result = result }
 
 -- The answer
 
@@ -77,7 +79,7 @@ unmade_answer hole_stop.Memory = Memory
 -- asked for
 pub record HasReached {S : Type 0} {d : Ghosts S} (written flushed target : S → Option (List ℕ)) (faults : S → ℕ) (sink : S) (plan : Plan) (formula : FormulaData) (answer : Answer) (tally : List Counts) (b : Book S d) : Type 0 where
   pub journal : List Entry
-  pub records : Records written flushed target faults sink formula.clauses journal b
+  pub records : Records written flushed target faults plan.format sink formula.clauses journal b
   pub reached : IsReached plan formula answer tally (faults sink) (faults b.log.lines.sink) journal
   pub asked : b.log.lines.spent ≡ false → is_some b.log.kept.lines ≡ plan.keep_lines
 

@@ -6,12 +6,13 @@ use Rattle.sat_words.specs.Literal.{Literal}
 use Rattle.sat_words.specs.Truth.{formula_true}
 use Rattle.sat_words.specs.FormulaData.{FormulaData}
 use Rattle.sat_words.specs.declared.line.Line.{Line}
+use Rattle.sat_words.specs.declared.line.ProofFormat.{ProofFormat}
 use Rattle.sat_words.specs.declared.shared.TheConstants.{STOP_SAT, STOP_REFUTED, STOP_ROOM, STOP_PROOF, STOP_MEMORY}
 use Rattle.rup_model.specs.declared.journal.Entry.{Entry}
 use Rattle.rup_model.specs.Log.{Refutes}
 use Rattle.rup_model.specs.Journal.{ring_of, lines, learned}
 use Rattle.rup_model.specs.Spent.{SpentAll, ruler_part}
-use Rattle.drat_text.specs.Text.{text}
+use Rattle.drat_text.specs.Spelling.{proof_bytes}
 use Rattle.log_book.specs.Ended.{IsClosed}
 use Rattle.log_book.specs.Kept.{HoldsText, IsFrontTold}
 use Rattle.ring_run.specs.declared.job.Counts.{Counts}
@@ -89,7 +90,7 @@ pub record FaultsFit (plan : Plan) (formula : FormulaData) (journal : List Entry
 pub record IsReached (plan : Plan) (formula : FormulaData) (answer : Answer) (tally : List Counts) (before searched : ℕ) (journal : List Entry) : Type 0 where
   pub stands : IsJournal plan.threads formula.clauses journal
   pub ruled : IsRuled formula plan.rounds journal
-  pub held : IsHeld plan.threads plan.conflicts formula.clauses journal tally
+  pub held : IsHeld plan.threads plan.slots plan.conflicts formula.clauses journal tally
   pub stop : HasStop held (kind_of answer)
   pub holds : Holds plan formula journal answer
   pub through : is_verdict answer ≡ true → IsRuledThrough formula plan.rounds journal
@@ -106,15 +107,15 @@ abbrev pub IsSure : (before poured : ℕ) → Answer → Type 0
 IsSure before poured answer = (is_verdict answer ≡ true) ⊎ (Rose before poured → ⊥)
 
 -- what the sink has of the proof, when it had failed this often before, by the search's end and now: what was left of the lines was
--- written and the sink then flushed, when it had failed `poured` times. It has the text of the journal's lines; if a line had
--- failed a front of that, or of it and one line more.
-pub record IsFinished (clauses : List (List Literal)) (journal : List Entry) (answer : Answer) (before searched faults : ℕ) (flushed written : Option (List ℕ)) : Type 0 where
+-- written and the sink then flushed, when it had failed `poured` times. It has the bytes of the journal's lines in this format; if a
+-- line had failed a front of that, or of it and one line more.
+pub record IsFinished (format : ProofFormat) (clauses : List (List Literal)) (journal : List Entry) (answer : Answer) (before searched faults : ℕ) (flushed written : Option (List ℕ)) : Type 0 where
   pub poured : ℕ
   pub grown : (searched ≤ poured) × (poured ≤ faults)
   pub closed : IsClosed poured faults flushed written
-  pub whole : IsSure before poured answer → HoldsText written (text (lines clauses journal))
-  pub front : (Rose before searched → ⊥) → IsFrontTold written (text (lines clauses journal))
-  pub short : IsCutShort clauses journal written
+  pub whole : IsSure before poured answer → HoldsText written (proof_bytes format (lines clauses journal))
+  pub front : (Rose before searched → ⊥) → IsFrontTold written (proof_bytes format (lines clauses journal))
+  pub short : IsCutShort format clauses journal written
 
 -- lines come back where they were to be kept and no call of the sink failed, unless memory ran out, and at no other time; they are
 -- the journal's
@@ -132,5 +133,5 @@ pub record IsSolved (plan : Plan) (formula : FormulaData) (answer : Answer) (tal
   pub searched : ℕ
   pub reached : IsReached plan formula found tally before searched journal
   pub told : IsTold found answer before faults
-  pub finished : IsFinished formula.clauses journal answer before searched faults flushed written
+  pub finished : IsFinished plan.format formula.clauses journal answer before searched faults flushed written
   pub lines_are : AreKept plan.keep_lines formula.clauses journal answer before faults kept

@@ -1,3 +1,5 @@
+use sat_words::ProofFormat;
+
 /// How a formula is decided.
 #[derive(Clone, Copy, PartialEq, Eq, Debug, Drop)]
 pub struct Plan {
@@ -7,10 +9,16 @@ pub struct Plan {
     pub conflicts: u64,
     /// How many words of 64 bits there are for clauses, up to 2^31.
     pub words: u64,
+    /// How many slots each two rings have for each class of clauses, from 1 to 16.
+    pub slots: u32,
     /// What the first phases of the variables are made of, with each ring's number.
     pub seed: u64,
+    /// How many steps each ring walks after its first import, up to 10^9.
+    pub walk: u64,
     /// How many rounds of simplifiers the formula may get before the search; in none, units alone are propagated.
     pub rounds: u32,
+    /// How the lines of the log are spelled.
+    pub format: ProofFormat,
     /// Whether the lines of the log are kept, for a check.
     pub keep_lines: bool,
 }

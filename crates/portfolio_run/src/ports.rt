@@ -29,7 +29,7 @@ fn job_of<S: Sink>(
     plan: &Plan,
     ring: u32,
 ) -> Result<Job, AllocError>
-    ensures { IfOk result (λ job. job ≡ record { ring = ring; rings = table.now.layout.rings; vars = table.now.layout.vars; start = start.now; conflicts = plan.now.conflicts; seed = plan.now.seed }) }
+    ensures { IfOk result (λ job. job ≡ record { ring = ring; rings = table.now.layout.rings; vars = table.now.layout.vars; start = start.now; conflicts = plan.now.conflicts; seed = plan.now.seed; walk = plan.now.walk }) }
 {
     let start = start.to_vec(alloc)?;
     Ok(Job {
@@ -39,6 +39,7 @@ fn job_of<S: Sink>(
         start: Addresses::from_vec(start),
         conflicts: plan.conflicts,
         seed: plan.seed,
+        walk: plan.walk,
     })
 }
 

@@ -105,6 +105,7 @@ fn solve_noted<S: Sink + Send, G: Gate + Sync, H: Threads + Wait + Sync>(
     requires threads { (1 ≤ plan.now.threads) × (plan.now.threads ≤ 16) }
     requires conflicts { 1 ≤ plan.now.conflicts }
     requires words { plan.now.words ≤ 2 ^ 31 }
+    requires slots { (1 ≤ plan.now.slots) × (plan.now.slots ≤ 16) }
     requires few { formula.now.vars ≤ 2 ^ 30 }
     requires on { All (All (IsOn formula.now.vars)) formula.now.clauses }
     requires empty { IsEmptyWhereTold (S.written known.0) }
@@ -151,6 +152,7 @@ fn solve_left<S: Sink + Send, G: Gate + Sync, H: Threads + Wait + Sync>(
     requires threads { (1 ≤ plan.now.threads) × (plan.now.threads ≤ 16) }
     requires conflicts { 1 ≤ plan.now.conflicts }
     requires words { plan.now.words ≤ 2 ^ 31 }
+    requires slots { (1 ≤ plan.now.slots) × (plan.now.slots ≤ 16) }
     requires few { formula.now.vars ≤ 2 ^ 30 }
     requires on { All (All (IsOn formula.now.vars)) formula.now.clauses }
     requires ruled { WasRuled S.written S.flushed S.target S.faults known.0 plan.now formula.now book (Ok (LeftOver left)) }
@@ -179,6 +181,7 @@ fn solve_counted<S: Sink + Send, G: Gate + Sync, H: Threads + Wait + Sync>(
     requires threads { (1 ≤ plan.now.threads) × (plan.now.threads ≤ 16) }
     requires conflicts { 1 ≤ plan.now.conflicts }
     requires words { plan.now.words ≤ 2 ^ 31 }
+    requires slots { (1 ≤ plan.now.slots) × (plan.now.slots ≤ 16) }
     requires few { formula.now.vars ≤ 2 ^ 30 }
     requires on { All (All (IsOn formula.now.vars)) formula.now.clauses }
     requires empty { IsEmptyWhereTold (S.written given) }
@@ -188,7 +191,7 @@ fn solve_counted<S: Sink + Send, G: Gate + Sync, H: Threads + Wait + Sync>(
     ensures counted { result.answer ≢ answer.Memory → length result.tally.items ≡ plan.now.threads }
 {
     let clauses = formula.clauses().len() as u64;
-    let book = match Book::new(alloc, clauses, sink, plan.keep_lines) {
+    let book = match Book::new(alloc, plan.format, clauses, sink, plan.keep_lines) {
         Ok(book) => book,
         Err(refused) => return starved(refused.value, tally, formula, plan),
     };
@@ -219,6 +222,7 @@ pub fn solve<S: Sink + Send, G: Gate + Sync, H: Threads + Wait + Sync>(
     requires threads { (1 ≤ plan.now.threads) × (plan.now.threads ≤ 16) }
     requires conflicts { 1 ≤ plan.now.conflicts }
     requires words { plan.now.words ≤ 2 ^ 31 }
+    requires slots { (1 ≤ plan.now.slots) × (plan.now.slots ≤ 16) }
     requires few { formula.now.vars ≤ 2 ^ 30 }
     requires on { All (All (IsOn formula.now.vars)) formula.now.clauses }
     requires empty { IsEmptyWhereTold (S.written sink) }

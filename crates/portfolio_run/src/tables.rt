@@ -38,6 +38,7 @@ pub(crate) fn open_table<S: Sink>(
     requires threads { (1 ≤ plan.now.threads) × (plan.now.threads ≤ 16) }
     requires conflicts { 1 ≤ plan.now.conflicts }
     requires words { plan.now.words ≤ 2 ^ 31 }
+    requires slots { (1 ≤ plan.now.slots) × (plan.now.slots ≤ 16) }
     requires few { formula.now.vars ≤ 2 ^ 30 }
     requires on { All (All (IsOn formula.now.vars)) formula.now.clauses }
     requires empty { IsEmptyWhereTold (S.written known.0) }
@@ -50,6 +51,7 @@ pub(crate) fn open_table<S: Sink>(
         rings: plan.threads,
         vars: formula.vars(),
         words: plan.words,
+        depth: plan.slots,
     };
     make(
         alloc,

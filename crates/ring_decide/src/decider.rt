@@ -11,7 +11,7 @@ use crate::turns::Turns;
 use rand_pcg::Lcg64Xsh32;
 use random_bits::lowest_bits;
 use ring_trail::Trail;
-use sat_words::Lit;
+use sat_words::{Assignment, Lit};
 use std::alloc::{AllocError, Global};
 use std::marker::Model;
 
@@ -121,6 +121,22 @@ impl Decider {
         self.scores.free(var);
     }
 
+    /// The phases of the variables, as an assignment.
+    pub fn phases(&self, alloc: Global) -> Result<Assignment, AllocError>
+        ensures phases { IfOk result (λ a. a ≡ self.now.phase) }
+        ensures long { length self.now.phase ≡ length self.now.active }
+    {
+        assignment_of(alloc, self.phase.as_slice())
+    }
+
+    /// Each variable has its value in the assignment as its phase from now on.
+    pub fn take_phases(&mut self, values: &Assignment)
+        requires { length values.now ≡ length self.old.active }
+        ensures { self.new ≡ record self.old { phase = values.now } }
+    {
+        write_values(values, &mut self.phase);
+    }
+
     /// The active variable without a value that the queue or the scores lead to, as the turn is.
     fn found(&mut self, trail: &Trail) -> Option<u32>
         requires vars { trail.now.vars ≡ length self.old.active }
@@ -151,4 +167,27 @@ impl Decider {
         }
         None
     }
+}
+
+/// Writes the values of an assignment, variable 1 first, over as many others.
+fn write_values(values: &Assignment, over: &mut Vec<bool>)
+    requires len { length values.now ≡ length over.old.items }
+    requires small { length values.now ≤ 2 ^ 30 }
+    ensures { over.new.items ≡ values.now }
+{
+    for i in 0..over.len() {
+        over[i] = values.value(i as u32 + 1);
+    }
+}
+
+/// The assignment with these values, variable 1 first.
+fn assignment_of(alloc: Global, values: &[bool]) -> Result<Assignment, AllocError>
+    requires { length values.now ≤ 2 ^ 30 }
+    ensures { IfOk result (λ a. a ≡ values.now) }
+{
+    let mut assignment = Assignment::new(alloc, values.len() as u32)?;
+    for i in 0..values.len() {
+        assignment.set(i as u32 + 1, values[i]);
+    }
+    Ok(assignment)
 }

@@ -22,6 +22,7 @@ use Rattle.ring_pass.specs.declared.waiting.Waiting.{Waiting}
 use Rattle.ring_pass.specs.Giving.{unless_cell}
 use Rattle.ring_pass.specs.Looks.{OnlyLooked}
 use Rattle.ring_pass.specs.RingState.{AreShort, HasRoom, CanOffer, pending}
+use Rattle.ring_pass.proofs.NextPlaces.{places_stay}
 use Rattle.ring_pass.proofs.OffersHere.{first_front}
 use Rattle.ring_pass.proofs.PollsHere.{after_part, got_parts}
 use Rattle.ring_pass.proofs.Stays.{only_is, only_same, one_changed}
@@ -32,8 +33,8 @@ IsNext p longest last = IfSome last (λ c. (0 < times_at c.address p.core.held) 
 
 -- Looks
 
-pub offer_stays : (v w : View) (last : Option Cref) (s : Spares) → OnlyLooked v w → CanOffer (only v) v.opening.rings last s → CanOffer (only w) w.opening.rings last s
-offer_stays v w last s h r = subst (λ (p : RingPart). CanOffer p w.opening.rings last s) (sym (only_same v w h)) (subst (λ (o : CoreOpening). CanOffer (only v) o.rings last s) (sym h.opening) r)
+pub offer_stays : (v w : View) (last : Option Cref) (s : Spares) → OnlyLooked v w → CanOffer (only v) v.opening last s → CanOffer (only w) w.opening last s
+offer_stays v w last s h r = subst (λ (p : RingPart). CanOffer p w.opening last s) (sym (only_same v w h)) (subst (λ (o : CoreOpening). CanOffer (only v) o last s) (sym h.opening) r)
 
 -- Drops
 
@@ -79,15 +80,15 @@ next_drops p a n longest (Some c) lt next = dite (ℕ_discrete c.address a)
     (subst (λ (b : ℕ). (0 < times_at c.address (without_at b p.core.held)) × (length (clause_in c.address (without_at b p.core.held)).lits ≤ longest)) (sym at)
     (omega arith, subst (λ (h : ClauseAt). length h.lits ≤ longest) (sym (first_without a c.address p.core.held ne)) next.1)))
 
-pub offer_drops : (v w : View) (a n : ℕ) (last now : Option Cref) (s : Spares) → now ≡ unless_cell last a → v.parts ≡ only v ∷ [] → w ≡ after_drop a n v → 0 < times_at a (only v).core.held → CanOffer (only v) v.opening.rings last s → CanOffer (only w) w.opening.rings now s
+pub offer_drops : (v w : View) (a n : ℕ) (last now : Option Cref) (s : Spares) → now ≡ unless_cell last a → v.parts ≡ only v ∷ [] → w ≡ after_drop a n v → 0 < times_at a (only v).core.held → CanOffer (only v) v.opening last s → CanOffer (only w) w.opening now s
 offer_drops v w a n last now s ended one is lt r =
     let part = only_is w (drop_part a n (only v)) (one_changed (drop_part a n) v w one (ap (λ (u : View). u.parts) is)) in
     let less = pending_less v.opening.rings a last in
     let enough = r.enough in
-    subst (λ (l : Option Cref). CanOffer (only w) w.opening.rings l s) (sym ended)
-    (subst (λ (o : CoreOpening). CanOffer (only w) o.rings (unless_cell last a) s) (sym (ap (λ (u : View). u.opening) is))
-    (subst (λ (y : RingPart). CanOffer y v.opening.rings (unless_cell last a) s) (sym part)
-    (record { buffers = r.buffers; enough = omega arith; gave = r.gave; next = next_drops (only v) a n s.longest last lt r.next })))
+    subst (λ (l : Option Cref). CanOffer (only w) w.opening l s) (sym ended)
+    (subst (λ (o : CoreOpening). CanOffer (only w) o (unless_cell last a) s) (sym (ap (λ (u : View). u.opening) is))
+    (subst (λ (y : RingPart). CanOffer y v.opening (unless_cell last a) s) (sym part)
+    (record { buffers = r.buffers; enough = omega arith; gave = r.gave; next = next_drops (only v) a n s.longest last lt r.next; places = r.places })))
 
 -- Looks into slots
 
@@ -98,22 +99,23 @@ next_more p h longest (Some c) next =
     let some = next.0 in
     (omega arith, subst (λ (k : ClauseAt). length k.lits ≤ longest) (sym (first_front c.address p.core.held (h ∷ []) next.0)) next.1)
 
-offer_after : (from class : ℕ) (h : ClauseAt) (g : ℕ) (x : Option Cref) (p : RingPart) (rings : ℕ) (last : Option Cref) (s : Spares) → CanOffer p rings last s → CanOffer (after_part from class h g x p) rings last s
-offer_after from class h g None p rings last s r = record { buffers = r.buffers; enough = r.enough; gave = r.gave; next = r.next }
-offer_after from class h g (Some c) p rings last s r = record { buffers = r.buffers; enough = r.enough; gave = r.gave; next = next_more p h s.longest last r.next }
+offer_after : (from class place : ℕ) (h : ClauseAt) (g : ℕ) (x : Option Cref) (p : RingPart) (o : CoreOpening) (last : Option Cref) (s : Spares) → CanOffer p o last s → CanOffer (after_part from class place h g x p) o last s
+offer_after from class place h g None p o last s r = record { buffers = r.buffers; enough = r.enough; gave = r.gave; next = r.next; places = r.places }
+offer_after from class place h g (Some c) p o last s r = record { buffers = r.buffers; enough = r.enough; gave = r.gave; next = next_more p h s.longest last r.next; places = r.places }
 
-pub offer_polls : (v w : View) (from class : ℕ) (h : ClauseAt) (g : ℕ) (x : Option Cref) (last : Option Cref) (s : Spares) → v.parts ≡ only v ∷ [] → w ≡ after_get from class h g v → IsFound h.address x → CanOffer (only v) v.opening.rings last s → CanOffer (only w) w.opening.rings last s
-offer_polls v w from class h g x last s one is f r =
-    subst (λ (o : CoreOpening). CanOffer (only w) o.rings last s) (sym (ap (λ (u : View). u.opening) is))
-    (subst (λ (y : RingPart). CanOffer y v.opening.rings last s) (sym (only_is w (after_part from class h g x (only v)) (got_parts v w from class h g x one is f))) (offer_after from class h g x (only v) v.opening.rings last s r))
+pub offer_polls : (v w : View) (from class place : ℕ) (h : ClauseAt) (g : ℕ) (x : Option Cref) (last : Option Cref) (s : Spares) → v.parts ≡ only v ∷ [] → w ≡ after_get from class place h g v → IsFound h.address x → CanOffer (only v) v.opening last s → CanOffer (only w) w.opening last s
+offer_polls v w from class place h g x last s one is f r =
+    subst (λ (o : CoreOpening). CanOffer (only w) o last s) (sym (ap (λ (u : View). u.opening) is))
+    (subst (λ (y : RingPart). CanOffer y v.opening last s) (sym (only_is w (after_part from class place h g x (only v)) (got_parts v w from class place h g x one is f))) (offer_after from class place h g x (only v) v.opening last s r))
 
 -- Steps that leave what is held and given
 
-pub offer_turns : (v w : View) (x : RingPart) (last : Option Cref) (s : Spares) → w.opening ≡ v.opening → w.parts ≡ x ∷ [] → x.core.held ≡ (only v).core.held → x.gave ≡ (only v).gave → CanOffer (only v) v.opening.rings last s → CanOffer (only w) w.opening.rings last s
-offer_turns v w x last s opening is held gave r =
-    subst (λ (o : CoreOpening). CanOffer (only w) o.rings last s) (sym opening) (subst (λ (y : RingPart). CanOffer y v.opening.rings last s) (sym (only_is w x is)) (record {
+pub offer_turns : (v w : View) (x : RingPart) (last : Option Cref) (s : Spares) → w.opening ≡ v.opening → w.parts ≡ x ∷ [] → x.core.held ≡ (only v).core.held → x.gave ≡ (only v).gave → x.core.ring ≡ (only v).core.ring → x.core.puts ≡ (only v).core.puts → CanOffer (only v) v.opening last s → CanOffer (only w) w.opening last s
+offer_turns v w x last s opening is held gave ring puts r =
+    subst (λ (o : CoreOpening). CanOffer (only w) o last s) (sym opening) (subst (λ (y : RingPart). CanOffer y v.opening last s) (sym (only_is w x is)) (record {
       buffers = r.buffers;
       enough = r.enough;
       gave = subst (AreShort s.longest) (sym gave) r.gave;
       next = subst (λ (hs : List ClauseAt). IfSome last (λ c. (0 < times_at c.address hs) × (length (clause_in c.address hs).lits ≤ s.longest))) (sym held) r.next;
+      places = places_stay ring puts r.places;
     }))

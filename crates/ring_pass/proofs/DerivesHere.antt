@@ -42,6 +42,7 @@ use Rattle.ring_pass.specs.Adding.{Added, clause_with, placed_line}
 use Rattle.ring_pass.specs.RingState.{Own, port_with, port_of, home_of, holding_of, IsOwn, IsRingPass, HasRoom, HasUnits, CanOffer, AreShort}
 use Rattle.ring_pass.proofs.OffersHere.{first_front}
 use Rattle.ring_pass.proofs.PollsHere.{port_step, map_last, map_same}
+use Rattle.ring_pass.proofs.NextPlaces.{places_stay}
 use Rattle.ring_pass.proofs.RingPorts.{held_here, there_here, nothing_here, lits_here}
 use Rattle.ring_pass.proofs.Stays.{only_is}
 use Rattle.ring_pass.proofs.TurnsHere.{mine_last, ring_turns, room_turns, units_turns}
@@ -196,11 +197,12 @@ next_stays hs h longest (Some c) next =
     let some = next.0 in
     (omega arith, subst (λ (k : ClauseAt). length k.lits ≤ longest) (sym (first_front c.address hs (h ∷ []) next.0)) next.1)
 
-pub offer_adds : (v w : View) (kind : Kind) (lits : List Literal) (glue a : ℕ) (last : Option Cref) (s : Spares) → Added v w kind lits glue a → CanOffer (only v) v.opening.rings last s → CanOffer (only w) w.opening.rings last s
+pub offer_adds : (v w : View) (kind : Kind) (lits : List Literal) (glue a : ℕ) (last : Option Cref) (s : Spares) → Added v w kind lits glue a → CanOffer (only v) v.opening last s → CanOffer (only w) w.opening last s
 offer_adds v w kind lits glue a last s f r =
-    subst (λ (o : CoreOpening). CanOffer (only w) o.rings last s) (sym f.opening) (subst (λ (y : RingPart). CanOffer y v.opening.rings last s) (sym (only_is w f.part f.parts)) (record {
+    subst (λ (o : CoreOpening). CanOffer (only w) o last s) (sym f.opening) (subst (λ (y : RingPart). CanOffer y v.opening last s) (sym (only_is w f.part f.parts)) (record {
       buffers = r.buffers;
       enough = r.enough;
       gave = subst (AreShort s.longest) (sym f.gave) r.gave;
       next = subst (λ (hs : List ClauseAt). IfSome last (λ c. (0 < times_at c.address hs) × (length (clause_in c.address hs).lits ≤ s.longest))) (sym (ap (λ (k : Part). k.held) f.core)) (next_stays (only v).core.held (clause_with a f.number lits) s.longest last r.next);
+      places = places_stay (ap (λ (k : Part). k.ring) f.core) (ap (λ (k : Part). k.puts) f.core) r.places;
     }))

@@ -26,7 +26,8 @@ use Rattle.ring_port.specs.PortState.{Holding, PortState, IsOn, held_at}
 use Rattle.ring_pass.specs.declared.spares.Spares.{Spares}
 use Rattle.ring_pass.specs.declared.waiting.Waiting.{Waiting}
 use Rattle.ring_pass.specs.Adding.{Added, clause_with, placed_line}
-use Rattle.ring_pass.specs.RingState.{Own, port_of, holding_of, HasRoom, CanOffer, AreShort, AreWaiting, IsBuffer}
+use Rattle.ring_pass.specs.RingState.{Own, port_of, holding_of, HasRoom, AreNext, CanOffer, AreShort, AreWaiting, IsBuffer}
+use Rattle.ring_pass.proofs.NextPlaces.{places_stay}
 use Rattle.ring_pass.specs.Writes.{entries_of}
 use Rattle.ring_pass.proofs.DerivesHere.{last_found}
 use Rattle.ring_pass.proofs.DropsHere.{pending_few}
@@ -63,13 +64,13 @@ room_learns v w seen lits glue c last ws ws' room room' f same large m =
 short_more : (n m : ℕ) (hs : List ClauseAt) → n ≤ m → AreShort n hs → AreShort m hs
 short_more n m hs le short = all_map (λ (h : ClauseAt). length h.lits ≤ n) (λ (h : ClauseAt). length h.lits ≤ m) hs (λ h i k. omega arith) short
 
-pub offer_learns : (v w : View) (lits : List Literal) (glue : ℕ) (c : Cref) (last : Option Cref) (s s' : Spares) → Added v w Learn lits glue c.address → All (IsBuffer s'.longest) s'.buffers.items → v.opening.rings - 1 ≤ length s'.buffers.items → length lits ≤ s'.longest → s.longest ≤ s'.longest → CanOffer (only v) v.opening.rings last s
-    → CanOffer (only w) w.opening.rings (Some c) s'
-offer_learns v w lits glue c last s s' f buffers enough short longer r =
+pub offer_learns : (v w : View) (lits : List Literal) (glue : ℕ) (c : Cref) (last : Option Cref) (s s' : Spares) → Added v w Learn lits glue c.address → All (IsBuffer s'.longest) s'.buffers.items → v.opening.rings - 1 ≤ length s'.buffers.items → length lits ≤ s'.longest → s.longest ≤ s'.longest → s'.places ≡ s.places → CanOffer (only v) v.opening last s
+    → CanOffer (only w) w.opening (Some c) s'
+offer_learns v w lits glue c last s s' f buffers enough short longer same r =
     let h : ClauseAt = clause_with c.address f.number lits in
     let one : one_if (c.address == c.address) ≡ 1 = ap one_if (eq-eqb c.address c.address refl) in
     let both = at_both c.address (only v).core.held (clause_with c.address f.number lits ∷ []) in
-    subst (λ (o : CoreOpening). CanOffer (only w) o.rings (Some c) s') (sym f.opening) (subst (λ (y : RingPart). CanOffer y v.opening.rings (Some c) s') (sym (only_is w f.part f.parts)) (record {
+    subst (λ (o : CoreOpening). CanOffer (only w) o (Some c) s') (sym f.opening) (subst (λ (y : RingPart). CanOffer y v.opening (Some c) s') (sym (only_is w f.part f.parts)) (record {
       buffers = buffers;
       enough = enough;
       gave = subst (AreShort s'.longest) (sym f.gave) (short_more s.longest s'.longest (only v).gave longer r.gave);
@@ -77,15 +78,17 @@ offer_learns v w lits glue c last s s' f buffers enough short longer r =
         omega arith,
         subst (λ (k : ClauseAt). length k.lits ≤ s'.longest) (sym (last_found c.address (only v).core.held (clause_with c.address f.number lits) refl f.not_held)) short,
       );
+      places = places_stay (ap (λ (k : Part). k.ring) f.core) (ap (λ (k : Part). k.puts) f.core) (subst (AreNext (only v).core.ring (only v).core.puts v.opening) (sym same) r.places);
     }))
 
 -- with more buffers, which are longer
-pub offer_larger : (p : RingPart) (rings : ℕ) (last : Option Cref) (s s' : Spares) → All (IsBuffer s'.longest) s'.buffers.items → rings - 1 ≤ length s'.buffers.items → s.longest ≤ s'.longest → CanOffer p rings last s → CanOffer p rings last s'
-offer_larger p rings last s s' buffers enough longer r = record {
+pub offer_larger : (p : RingPart) (o : CoreOpening) (last : Option Cref) (s s' : Spares) → All (IsBuffer s'.longest) s'.buffers.items → o.rings - 1 ≤ length s'.buffers.items → s.longest ≤ s'.longest → s'.places ≡ s.places → CanOffer p o last s → CanOffer p o last s'
+offer_larger p o last s s' buffers enough longer same r = record {
   buffers = buffers;
-  enough = (let few = pending_few rings last in omega arith);
+  enough = (let few = pending_few o.rings last in omega arith);
   gave = short_more s.longest s'.longest p.gave longer r.gave;
   next = by last r.next;
+  places = subst (AreNext p.core.ring p.core.puts o) (sym same) r.places;
 }
   where
     by : (l : Option Cref) → IfSome l (λ c. (0 < times_at c.address p.core.held) × (length (clause_in c.address p.core.held).lits ≤ s.longest)) → IfSome l (λ c. (0 < times_at c.address p.core.held) × (length (clause_in c.address p.core.held).lits ≤ s'.longest))
@@ -98,8 +101,8 @@ offer_larger p rings last s s' buffers enough longer r = record {
 pub room_none : {p : RingPart} {rings : ℕ} {ws : List Waiting} {room : ℕ} (last : Option Cref) → HasRoom p rings last ws room → HasRoom p rings None ws room
 room_none last m = record { waits = m.waits; places = (let k = m.places in omega arith); few = (let k = m.few in omega arith) }
 
-pub offer_none : {p : RingPart} {rings : ℕ} {s : Spares} (last : Option Cref) → CanOffer p rings last s → CanOffer p rings None s
-offer_none last r = record { buffers = r.buffers; enough = omega arith; gave = r.gave; next = tt }
+pub offer_none : {p : RingPart} {o : CoreOpening} {s : Spares} (last : Option Cref) → CanOffer p o last s → CanOffer p o None s
+offer_none last r = record { buffers = r.buffers; enough = omega arith; gave = r.gave; next = tt; places = r.places }
 
 pub unit_keeps : {s t : PortState} {l : Literal} {kind : Kind} {last : Option ℕ} → WroteUnit s t l kind last → KeepsHeld s t
 unfolding held_at

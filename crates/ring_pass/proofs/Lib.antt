@@ -12,6 +12,7 @@ mod LearnsHere
 mod ListsHere
 mod MadeHere
 mod NewsHere
+mod NextPlaces
 mod OfferTurns
 mod OfferedHere
 mod OffersHere

@@ -1,6 +1,6 @@
 -- What the port says after an offer.
-use Rattle.std.proofs.Common.{◌≡◌, ℕ, suc, ◌+◌, ◌-◌, ◌*◌, ◌<◌, ◌≤◌, ◌==◌, Bool, true, false, ◌&&◌, nat_le, if◌then◌else◌, List, [], ◌∷◌, ◌++◌, map, length, refl, sym, ap, subst, ◌∙◌, arith, Option, Some, None, IfSome, IsSome, length-append}
-use Rattle.std.specs.Prelude.{All, count_by, fold}
+use Rattle.std.proofs.Common.{◌≡◌, ◌≢◌, ℕ, suc, ◌+◌, ◌-◌, ◌*◌, ◌%◌, ◌<◌, ◌≤◌, ◌==◌, Bool, true, false, ◌&&◌, nat_le, if◌then◌else◌, List, [], ◌∷◌, ◌++◌, map, length, refl, sym, ap, subst, ◌∙◌, arith, Option, Some, None, IfSome, IsSome, length-append}
+use Rattle.std.specs.Prelude.{All, count_by, fold, slice_index, slice_set}
 use Rattle.std.specs.Option.{option_map, option_and_then}
 use Rattle.std.proofs.lemmas.Bool.{false≢true}
 use Rattle.std.proofs.lemmas.Bool.Decides.{leb_tells}
@@ -34,12 +34,13 @@ use Rattle.share_rule.specs.declared.view.View.{View}
 use Rattle.share_rule.specs.Passes.{IsPassOf, IsSamePass}
 use Rattle.share_rule.specs.Seen.{Seen}
 use Rattle.share_rule.specs.Views.{only, clause_in, clause_of, glue_in}
-use Rattle.ring_port.specs.Exchange.{class_of, class_at, Offered, OfferedAs}
+use Rattle.ring_port.specs.Exchange.{class_of, class_at, next_place, Offered, OfferedAs}
 use Rattle.ring_port.specs.PortState.{Holding, Offer, PortState, held_at}
 use Rattle.ring_pass.specs.declared.spares.Spares.{Spares}
 use Rattle.ring_pass.specs.declared.waiting.Waiting.{Waiting}
 use Rattle.ring_pass.specs.Offering.{others, puts_for, CanTakeBack, PutFor}
-use Rattle.ring_pass.specs.RingState.{Own, port_with, port_of, home_of, holding_of, offer_of, IsOwn, IsRingPass, AreShort, HasRoom, CanOffer, pending}
+use Rattle.ring_pass.specs.RingState.{Own, port_with, port_of, home_of, holding_of, offer_of, IsOwn, IsRingPass, AreShort, HasRoom, AreNext, CanOffer, pending}
+use Rattle.ring_pass.proofs.NextPlaces.{offers_at, map_puts, offers_same, next_offered}
 use Rattle.ring_pass.proofs.OtherRings.{others_fewer}
 use Rattle.ring_pass.proofs.PollsHere.{map_same}
 use Rattle.ring_pass.proofs.RingPorts.{part_of, rings_here, held_here, there_here, nothing_here}
@@ -56,14 +57,6 @@ map_long : (gs : List GlueAt) (xs : List ClauseAt) → length (map (holding_of g
 map_long gs [] = refl
 map_long gs (x ∷ xs) = ap suc (map_long gs xs)
 
-map_puts : (ns : List PutNote) (class a : ℕ) (tos : List ℕ) → map offer_of (ns ++ puts_for class a tos) ≡ map offer_of ns ++ map (λ (r : ℕ). record { ring = r; class = class; address = a }) tos
-map_puts [] class a tos = by tos
-  where
-    by : (rs : List ℕ) → map offer_of (puts_for class a rs) ≡ map (λ (r : ℕ). record { ring = r; class = class; address = a }) rs
-    by [] = refl
-    by (r ∷ rs) = ap (λ (os : List Offer). record { ring = r; class = class; address = a } ∷ os) (by rs)
-map_puts (n ∷ ns) class a tos = ap (λ (os : List Offer). offer_of n ∷ os) (map_puts ns class a tos)
-
 -- how often the port holds a clause is how often the ring does
 times_from : (gs : List GlueAt) (hs : List ClauseAt) (a k : ℕ) → fold (λ n (h : Holding). n + one_if (h.address == a)) k (map (holding_of gs) hs) ≡ k + times_at a hs
 times_from gs [] a k = omega arith
@@ -74,7 +67,7 @@ times_here gs hs a = times_from gs hs a 0 ∙ (let e : 0 + times_at a hs ≡ tim
 
 -- The port
 
-module _ (v w : View) (o : Own) (home : List ℕ) (class a : ℕ) (tos : List ℕ) (f : PutFor v w class a tos) where
+module _ (v w : View) (o : Own) (home : List ℕ) (class place a : ℕ) (tos : List ℕ) (f : PutFor v w class place a tos) where
   same_clause : (b : ℕ) → 0 < times_at b (only v).core.held → holding_of (only w).glues (clause_of b w) ≡ holding_of (only v).glues (clause_of b v)
   same_clause b lt =
       let cl = f.part.held.clause b lt in
@@ -90,8 +83,9 @@ module _ (v w : View) (o : Own) (home : List ℕ) (class a : ℕ) (tos : List �
       let lt : 0 < times_at b (only v).core.held = omega arith in
       (held_here w (record o { last = None; home = home }) b (there_here w (record o { last = None; home = home }) b (omega arith))).1 ∙ ap (λ (h : Holding). Some h) (same_clause b lt) ∙ sym (held_here v o b (there_here v o b lt)).1)
 
-  pub offered_here : home ≡ o.home → tos ≡ others (only v).core.ring v.opening.rings → Offered (port_of v o) (port_of w (record o { last = None; home = home })) class a
-  offered_here hm is = record {
+  pub offered_here : home ≡ o.home → tos ≡ others (only v).core.ring v.opening.rings → ((r : ℕ) → r < v.opening.rings → r ≢ (only v).core.ring → place ≡ next_place (port_of v o) r class)
+      → Offered (port_of v o) (port_of w (record o { last = None; home = home })) class a
+  offered_here hm is next = record {
     back = map (holding_of (only w).glues) f.part.back;
     few = (let few = f.part.few in let long = map_long (only w).glues f.part.back in let e = ap length is in omega arith);
     same = same_at;
@@ -100,7 +94,8 @@ module _ (v w : View) (o : Own) (home : List ℕ) (class a : ℕ) (tos : List �
         ∙ (λ i. record (port_of v o) {
           held = map (holding_of (only w).glues) (only w).core.held;
           shared = (only v).core.shared + length (is i);
-          puts = (map_puts (only v).core.puts class a tos ∙ ap (λ (rs : List ℕ). map offer_of (only v).core.puts ++ map (λ (r : ℕ). record { ring = r; class = class; address = a }) rs) is) i;
+          puts = (map_puts (only v).core.puts class place a tos ∙ ap (λ (rs : List ℕ). map offer_of (only v).core.puts ++ offers_at class place a rs) is
+              ∙ ap (λ (os : List Offer). map offer_of (only v).core.puts ++ os) (offers_same (only v).core.ring v.opening.rings class place a (λ r. next_place (port_of v o) r class) next)) i;
           waiting = (map_both (only w).glues (only v).core.waiting f.part.back ∙ ap (λ (hs : List Holding). hs ++ map (holding_of (only w).glues) f.part.back) (map_same (only v).glues (only w).glues (only v).core.waiting f.part.glues)) i;
           last = None;
         });
@@ -187,8 +182,9 @@ pub record HasOffer (v : View) (ws : List Waiting) (room : ℕ) (s : Spares) (a 
   pub many : (only v).core.shared + length (others (only v).core.ring v.opening.rings) ≤ MAX_SHARES
   pub short : AreShort s.longest (only v).gave × (length (clause_of a v).lits ≤ s.longest)
   pub back : CanTakeBack (only v) ws room s (length (others (only v).core.ring v.opening.rings))
+  pub places : AreNext (only v).core.ring (only v).core.puts v.opening s.places
 
-pub has_offer : (v : View) (seen : Seen v) (ws : List Waiting) (room : ℕ) (s : Spares) (last : Option Cref) (a : ℕ) → v.parts ≡ only v ∷ [] → option_map (λ (c : Cref). c.address) last ≡ Some a → HasRoom (only v) v.opening.rings last ws room → CanOffer (only v) v.opening.rings last s → HasOffer v ws room s a
+pub has_offer : (v : View) (seen : Seen v) (ws : List Waiting) (room : ℕ) (s : Spares) (last : Option Cref) (a : ℕ) → v.parts ≡ only v ∷ [] → option_map (λ (c : Cref). c.address) last ≡ Some a → HasRoom (only v) v.opening.rings last ws room → CanOffer (only v) v.opening last s → HasOffer v ws room s a
 has_offer v seen ws room s last a one is h c =
     let t = last_cell last a is in
     let fewer = others_fewer (only v).core.ring v.opening.rings (ring_below v seen one) in
@@ -203,42 +199,54 @@ has_offer v seen ws room s last a one is h c =
       many = omega arith;
       short = (c.gave, subst (λ (b : ℕ). length (clause_of b v).lits ≤ s.longest) t.2 next.1);
       back = record { waits = h.waits; places = omega arith; buffers = c.buffers; enough = omega arith };
+      places = c.places;
     }
 
 -- For a ring with its pass
 
-pub ring_offers : {B : Type 0} {t : Shared B} {p : Seat (Option B) View} {n : ℕ} {st : List Cref} {o : Own} (q : Seat (Option B) View) (class a : ℕ) (tos : List ℕ) → IsRingPass t p n st o → IsPassOf t q → IsSamePass p q → PutFor p.me.0 q.me.0 class a tos
+pub ring_offers : {B : Type 0} {t : Shared B} {p : Seat (Option B) View} {n : ℕ} {st : List Cref} {o : Own} (q : Seat (Option B) View) (class place a : ℕ) (tos : List ℕ) → IsRingPass t p n st o → IsPassOf t q → IsSamePass p q → PutFor p.me.0 q.me.0 class place a tos
     → IsRingPass t q n st (record o { last = None; home = home_of q })
-ring_offers {B} {t} {p} {n} {st} {o} q class a tos r pass same f =
+ring_offers {B} {t} {p} {n} {st} {o} q class place a tos r pass same f =
     ring_changes q (only q.me.0) (record o { last = None; home = home_of q }) r pass same f.opening f.one (ap (λ (y : RingPart). y.core.ring) f.part.part) (ap (λ (y : RingPart). y.turn) f.part.part) refl
-    (own_offers p.me.0 q.me.0 o (home_of q) class a tos f r.own) (λ lone e. r.alone_is lone (ap (λ (y : RingPart). y.failed) (sym f.part.part) ∙ e))
+    (own_offers p.me.0 q.me.0 o (home_of q) class place a tos f r.own) (λ lone e. r.alone_is lone (ap (λ (y : RingPart). y.failed) (sym f.part.part) ∙ e))
 
-pub room_offers : (v w : View) (class a : ℕ) (tos : List ℕ) (ws : List Waiting) (room : ℕ) (s : Spares) → PutFor v w class a tos → (only v).core.shared + length tos ≤ 15 * length (only v).core.wrote → CanTakeBack (only w) ws room s 0 → HasRoom (only w) w.opening.rings None ws room
-room_offers v w class a tos ws room s f few back =
+pub room_offers : (v w : View) (class place a : ℕ) (tos : List ℕ) (ws : List Waiting) (room : ℕ) (s : Spares) → PutFor v w class place a tos → (only v).core.shared + length tos ≤ 15 * length (only v).core.wrote → CanTakeBack (only w) ws room s 0 → HasRoom (only w) w.opening.rings None ws room
+room_offers v w class place a tos ws room s f few back =
     let shared = ap (λ (y : RingPart). y.core.shared) f.part.part in
     let wrote = ap (λ (y : RingPart). length y.core.wrote) f.part.part in
     let places = back.places in
     record { waits = back.waits; places = omega arith; few = omega arith }
 
-pub offer_offers : (v w : View) (class a : ℕ) (tos : List ℕ) (ws : List Waiting) (room : ℕ) (s s' : Spares) → PutFor v w class a tos → AreShort s.longest (only v).gave × (length (clause_of a v).lits ≤ s.longest) → s'.longest ≡ s.longest → CanTakeBack (only w) ws room s' 0
-    → CanOffer (only w) w.opening.rings None s'
-offer_offers v w class a tos ws room s s' f short same back = record {
+pub offer_offers : (v w : View) (class place a : ℕ) (tos : List ℕ) (ws : List Waiting) (room : ℕ) (s s' : Spares) (places : List ℕ) → class < 4 → place ≡ slice_index s.places class → tos ≡ others (only v).core.ring v.opening.rings → AreNext (only v).core.ring (only v).core.puts v.opening s.places
+    → places ≡ slice_set s.places class ((place + 1) % v.opening.depth) → PutFor v w class place a tos → AreShort s.longest (only v).gave × (length (clause_of a v).lits ≤ s.longest) → s'.longest ≡ s.longest → CanTakeBack (only w) ws room s' 0
+    → CanOffer (only w) w.opening None (record s' { places = places })
+offer_offers v w class place a tos ws room s s' places few place_is all next moved f short same back = record {
   buffers = back.buffers;
   enough = omega arith;
   gave = subst (λ (n : ℕ). AreShort n (only w).gave) (sym same) (f.part.gave s.longest short.1 short.0);
   next = tt;
+  places =
+      let ring : (only w).core.ring ≡ (only v).core.ring = ap (λ (y : RingPart). y.core.ring) f.part.part in
+      let puts : (only w).core.puts ≡ (only v).core.puts ++ puts_for class place a tos = ap (λ (y : RingPart). y.core.puts) f.part.part in
+      let now = next_offered (only v).core.ring (only v).core.puts v.opening s.places class a few next in
+      subst (λ (y : (ℕ × List PutNote) × (CoreOpening × List ℕ)). AreNext y.0.0 y.0.1 y.1.0 y.1.1)
+      (λ i. ((sym ring i, (ap (λ (x : ℕ × List ℕ). (only v).core.puts ++ puts_for class x.0 a x.1) (λ j. (sym place_is j, sym all j)) ∙ sym puts) i), (sym f.opening i, (ap (λ (n : ℕ). slice_set s.places class ((n + 1) % v.opening.depth)) (sym place_is) ∙ sym moved) i))) now;
 }
 
-pub port_offers : {B : Type 0} {t : Shared B} {p : Seat (Option B) View} {n : ℕ} {st : List Cref} {o : Own} (q : Seat (Option B) View) (s : PortState) (class a : ℕ) (k : Option ℕ) (tos : List ℕ) → k ≡ Some class → tos ≡ others (only p.me.0).core.ring p.me.0.opening.rings → IsRingPass t p n st o → IsPassOf t q → port_of p.me.0 o ≡ s → PutFor p.me.0 q.me.0 class a tos
+pub port_offers : {B : Type 0} {t : Shared B} {p : Seat (Option B) View} {n : ℕ} {st : List Cref} {o : Own} (q : Seat (Option B) View) (s : PortState) (class place a : ℕ) (k : Option ℕ) (tos : List ℕ) → k ≡ Some class → tos ≡ others (only p.me.0).core.ring p.me.0.opening.rings → ((r : ℕ) → r < p.me.0.opening.rings → r ≢ (only p.me.0).core.ring → place ≡ next_place (port_of p.me.0 o) r class) → IsRingPass t p n st o → IsPassOf t q → port_of p.me.0 o ≡ s → PutFor p.me.0 q.me.0 class place a tos
     → OfferedAs s (port_of q.me.0 (record o { last = None; home = home_of q })) k a
-port_offers {B} {t} {p} {n} {st} {o} q s class a k tos is all r pass view f =
+port_offers {B} {t} {p} {n} {st} {o} q s class place a k tos is all next r pass view f =
     subst (λ (x : Option ℕ). OfferedAs s (port_of q.me.0 (record o { last = None; home = home_of q })) x a) (sym is)
     (subst (λ (y : PortState). Offered y (port_of q.me.0 (record o { last = None; home = home_of q })) class a) view
-    (offered_here p.me.0 q.me.0 o (home_of q) class a tos f (name_stays q r pass) all))
+    (offered_here p.me.0 q.me.0 o (home_of q) class place a tos f (name_stays q r pass) all next))
 
 -- the other rings, by the table's layout
 pub rings_same : (v : View) (seen : Seen v) (ring : ℕ) (l : Layout) → v.parts ≡ only v ∷ [] → ring ≡ (only v).core.ring → v.layout ≡ l → others ring l.rings ≡ others (only v).core.ring v.opening.rings
 rings_same v seen ring l one mine lay = λ i. others (mine i) ((ap (λ (k : Layout). k.rings) (sym lay) ∙ (rings_here v seen one).1) i)
+
+-- and the slots
+pub depth_same : (v : View) (seen : Seen v) (l : Layout) → v.layout ≡ l → v.opening.depth ≡ l.depth
+depth_same v seen l lay = ap (λ (o : CoreOpening). o.depth) seen.opening ∙ sym seen.standing.depth ∙ ap (λ (k : Layout). k.depth) lay
 
 pub some_not_none : (x : Option ℕ) → x ≡ None → IsSome x → ⊥
 some_not_none None e h = false≢true h

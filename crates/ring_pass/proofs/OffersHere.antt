@@ -102,12 +102,12 @@ glue_next n x g gs apart = dite (ℕ_discrete x.address 0)
 
 -- One put
 
-abbrev pub put_note : (to class a : ℕ) → PutNote
-put_note to class a = record { to = to; class = class; address = a }
+abbrev pub put_note : (to class place a : ℕ) → PutNote
+put_note to class place a = record { to = to; class = class; place = place; address = a }
 
 -- the part once the count is in the slot
-abbrev pub swapped : (to class a : ℕ) (x : ClauseAt) (g : ℕ) → RingPart → RingPart
-swapped to class a x g p = gave_part (put_note to class a) x g (share_part a p)
+abbrev pub swapped : (to class place a : ℕ) (x : ClauseAt) (g : ℕ) → RingPart → RingPart
+swapped to class place a x g p = gave_part (put_note to class place a) x g (share_part a p)
 
 -- what waits after a count was given up
 abbrev pub back_of : ℕ → ClauseAt → List ClauseAt
@@ -127,10 +127,10 @@ back_behind found h ws = by (found == 1)
     by true = refl
     by false = sym (append-nil ws)
 
-module _ (p : RingPart) (to class a : ℕ) (x : ClauseAt) (g : ℕ) (lt : 0 < times_at a p.core.held) (one : OneEach p.core.held) (each : OneEach (swapped to class a x g p).core.held)
+module _ (p : RingPart) (to class place a : ℕ) (x : ClauseAt) (g : ℕ) (lt : 0 < times_at a p.core.held) (one : OneEach p.core.held) (each : OneEach (swapped to class place a x g p).core.held)
     (keeps : KeepsGlues x g (share_part a p)) (apart : x.address ≢ 0 → (k : ClauseAt) → In k p.core.waiting → k.number ≢ x.number) where
   q : RingPart
-  q = swapped to class a x g p
+  q = swapped to class place a x g p
 
   keeps_one : (k : ClauseAt) → In k p.core.held → glue_in k.number (with_glue x g p.glues) ≡ glue_in k.number p.glues
   keeps_one k i = all_in (λ (y : ClauseAt). glue_in y.number (with_glue x g p.glues) ≡ glue_in y.number p.glues) (p.core.held ++ clause_in a p.core.held ∷ []) k (In_append_left p.core.held (clause_in a p.core.held ∷ []) k i) keeps
@@ -146,14 +146,14 @@ module _ (p : RingPart) (to class a : ℕ) (x : ClauseAt) (g : ℕ) (lt : 0 < ti
   times_none e b = ap (times_at b) (with_none x (left a p.core.held lt) e) ∙ left_times a p.core.held lt b
 
   -- nothing came back
-  pub put_none : x.address ≡ 0 → PutPart p (swapped to class a x g p) class a (to ∷ [])
+  pub put_none : x.address ≡ 0 → PutPart p (swapped to class place a x g p) class place a (to ∷ [])
   put_none e = record {
     back = [];
     few = omega arith;
-    held = held_same p (swapped to class a x g p) a lt (swapped to class a x g p).core.held one each (in_with x (left a p.core.held lt)) (λ k i. i) (times_none e) keeps_one;
+    held = held_same p (swapped to class place a x g p) a lt (swapped to class place a x g p).core.held one each (in_with x (left a p.core.held lt)) (λ k i. i) (times_none e) keeps_one;
     glues = waiting_glues;
     gave = gave_short;
-    part = λ i. record (swapped to class a x g p) { core = record (swapped to class a x g p).core { waiting = sym (append-nil p.core.waiting) i } };
+    part = λ i. record (swapped to class place a x g p) { core = record (swapped to class place a x g p).core { waiting = sym (append-nil p.core.waiting) i } };
   }
 
   some_there : x.address ≢ 0 → 0 < times_at x.address (with_cell x (left a p.core.held lt))
@@ -175,15 +175,15 @@ module _ (p : RingPart) (to class a : ℕ) (x : ClauseAt) (g : ℕ) (lt : 0 < ti
       (λ nz. let m = at_some x b hs nz in omega arith)
 
   -- a clause came back, and its count was given up
-  pub put_some : (found : ℕ) → x.address ≢ 0 → PutPart p (drop_part x.address found (swapped to class a x g p)) class a (to ∷ [])
+  pub put_some : (found : ℕ) → x.address ≢ 0 → PutPart p (drop_part x.address found (swapped to class place a x g p)) class place a (to ∷ [])
   put_some found ne = record {
     back = back_of found (clause_in x.address (with_cell x (left a p.core.held lt)));
     few = back_short found (clause_in x.address (with_cell x (left a p.core.held lt)));
-    held = held_same p (drop_part x.address found (swapped to class a x g p)) a lt (swapped to class a x g p).core.held one each (in_with x (left a p.core.held lt))
+    held = held_same p (drop_part x.address found (swapped to class place a x g p)) a lt (swapped to class place a x g p).core.held one each (in_with x (left a p.core.held lt))
         (λ k i. without_in (clause_in x.address (with_cell x (left a p.core.held lt))).address (with_cell x (left a p.core.held lt)) k i) (times_some ne) keeps_one;
     glues = waiting_glues;
     gave = gave_short;
-    part = λ i. record (drop_part x.address found (swapped to class a x g p)) { core = record (drop_part x.address found (swapped to class a x g p)).core { waiting = back_behind found (clause_in x.address (with_cell x (left a p.core.held lt))) p.core.waiting i } };
+    part = λ i. record (drop_part x.address found (swapped to class place a x g p)) { core = record (drop_part x.address found (swapped to class place a x g p)).core { waiting = back_behind found (clause_in x.address (with_cell x (left a p.core.held lt))) p.core.waiting i } };
   }
 
 -- Puts one after the other
@@ -195,8 +195,8 @@ same_both_held p q r s t = record {
   glue = λ a lt. ap (λ (h : ClauseAt). glue_in h.number r.glues) (sym (s.clause a lt)) ∙ t.glue a (let m = s.times a in omega arith) ∙ ap (λ (h : ClauseAt). glue_in h.number q.glues) (s.clause a lt) ∙ s.glue a lt;
 }
 
-pub put_both : (p q r : RingPart) (class a : ℕ) (xs ys : List ℕ) → 0 < times_at a p.core.held → PutPart p q class a xs → PutPart q r class a ys → PutPart p r class a (xs ++ ys)
-put_both p q r class a xs ys lt s t =
+pub put_both : (p q r : RingPart) (class place a : ℕ) (xs ys : List ℕ) → 0 < times_at a p.core.held → PutPart p q class place a xs → PutPart q r class place a ys → PutPart p r class place a (xs ++ ys)
+put_both p q r class place a xs ys lt s t =
     let long = length-append xs ys in
     let more = length-append s.back t.back in
     let few = s.few in
@@ -216,7 +216,7 @@ put_both p q r class a xs ys lt s t =
               held = r.core.held;
               waiting = (s.part i).core.waiting ++ t.back;
               shared = (s.part i).core.shared + length ys;
-              puts = (s.part i).core.puts ++ puts_for class a ys;
+              puts = (s.part i).core.puts ++ puts_for class place a ys;
             };
             glues = r.glues;
             gave = r.gave;
@@ -226,7 +226,7 @@ put_both p q r class a xs ys lt s t =
               held = r.core.held;
               waiting = append_assoc p.core.waiting s.back t.back i;
               shared = (let e : (p.core.shared + length xs) + length ys ≡ p.core.shared + length (xs ++ ys) = omega arith in e) i;
-              puts = (append_assoc p.core.puts (puts_for class a xs) (puts_for class a ys) ∙ ap (λ (ns : List PutNote). p.core.puts ++ ns) (sym (puts_both class a xs ys))) i;
+              puts = (append_assoc p.core.puts (puts_for class place a xs) (puts_for class place a ys) ∙ ap (λ (ns : List PutNote). p.core.puts ++ ns) (sym (puts_both class place a xs ys))) i;
             };
             glues = r.glues;
             gave = r.gave;
@@ -234,8 +234,8 @@ put_both p q r class a xs ys lt s t =
     }
 
 -- and none
-pub put_nothing : (p : RingPart) (class a : ℕ) → PutPart p p class a []
-put_nothing p class a = record {
+pub put_nothing : (p : RingPart) (class place a : ℕ) → PutPart p p class place a []
+put_nothing p class place a = record {
   back = [];
   few = omega arith;
   held = record { times = λ b. refl; clause = λ b lt. refl; glue = λ b lt. refl };

@@ -43,8 +43,8 @@ share_holds v u a found is h =
     let lt = h.1 in
     (one_is u (share_part a (only v)) parts, subst (λ (y : RingPart). 0 < times_at a y.core.held) (sym (only_is u (share_part a (only v)) parts)) (omega arith))
 
-module _ (v u w : View) (sv : Seen v) (sw : Seen w) (to class a found : ℕ) (x : ClauseAt) (g : ℕ) (one : v.parts ≡ only v ∷ []) (lt : 0 < times_at a (only v).core.held) (shares : u ≡ after_share a found v)
-    (puts : w ≡ after_put to class a x g u) (keeps : KeepsGlues x g (only u)) where
+module _ (v u w : View) (sv : Seen v) (sw : Seen w) (to class place a found : ℕ) (x : ClauseAt) (g : ℕ) (one : v.parts ≡ only v ∷ []) (lt : 0 < times_at a (only v).core.held) (shares : u ≡ after_share a found v)
+    (puts : w ≡ after_put to class place a x g u) (keeps : KeepsGlues x g (only u)) where
   shared_parts : u.parts ≡ share_part a (only v) ∷ []
   shared_parts = one_changed (share_part a) v u one (ap (λ (y : View). y.parts) shares)
 
@@ -54,14 +54,14 @@ module _ (v u w : View) (sv : Seen v) (sw : Seen w) (to class a found : ℕ) (x 
   shared_is : only u ≡ share_part a (only v)
   shared_is = only_is u (share_part a (only v)) shared_parts
 
-  pub put_parts : w.parts ≡ swapped to class a x g (only v) ∷ []
-  put_parts = one_changed (gave_part (put_note to class a) x g) u w shared_one (ap (λ (y : View). y.parts) puts) ∙ (λ i. gave_part (put_note to class a) x g (shared_is i) ∷ [])
+  pub put_parts : w.parts ≡ swapped to class place a x g (only v) ∷ []
+  put_parts = one_changed (gave_part (put_note to class place a) x g) u w shared_one (ap (λ (y : View). y.parts) puts) ∙ (λ i. gave_part (put_note to class place a) x g (shared_is i) ∷ [])
 
-  pub put_is : only w ≡ swapped to class a x g (only v)
-  put_is = only_is w (swapped to class a x g (only v)) put_parts
+  pub put_is : only w ≡ swapped to class place a x g (only v)
+  put_is = only_is w (swapped to class place a x g (only v)) put_parts
 
   pub put_one : w.parts ≡ only w ∷ []
-  put_one = one_is w (swapped to class a x g (only v)) put_parts
+  put_one = one_is w (swapped to class place a x g (only v)) put_parts
 
   pub put_layout : w.layout ≡ v.layout
   put_layout = ap (λ (y : View). y.layout) puts ∙ ap (λ (y : View). y.layout) shares
@@ -78,23 +78,23 @@ module _ (v u w : View) (sv : Seen v) (sw : Seen w) (to class a found : ℕ) (x 
   pub put_waiting : (only w).core.waiting ≡ (only v).core.waiting
   put_waiting = ap (λ (y : RingPart). y.core.waiting) put_is
 
-  put_each : OneEach (swapped to class a x g (only v)).core.held
+  put_each : OneEach (swapped to class place a x g (only v)).core.held
   put_each = subst (λ (y : RingPart). OneEach y.core.held) put_is (each_of w sw put_one)
 
   put_keeps : KeepsGlues x g (share_part a (only v))
   put_keeps = subst (KeepsGlues x g) shared_is keeps
 
-  there : x.address ≢ 0 → In x (swapped to class a x g (only v)).core.held
+  there : x.address ≢ 0 → In x (swapped to class place a x g (only v)).core.held
   there ne = with_in x _ ne
 
   put_apart : x.address ≢ 0 → (k : ClauseAt) → In k (only v).core.waiting → k.number ≢ x.number
   put_apart ne k i = numbers_apart w sw put_one x k (subst (λ (y : RingPart). In x y.core.held) (sym put_is) (there ne)) (subst (In k) (sym put_waiting) i)
 
   -- nothing came back
-  pub nothing_back : x.address ≡ 0 → PutFor v w class a (to ∷ [])
+  pub nothing_back : x.address ≡ 0 → PutFor v w class place a (to ∷ [])
   nothing_back e = record {
     one = put_one;
-    part = subst (λ (y : RingPart). PutPart (only v) y class a (to ∷ [])) (sym put_is) (put_none (only v) to class a x g lt (each_of v sv one) put_each put_keeps put_apart e);
+    part = subst (λ (y : RingPart). PutPart (only v) y class place a (to ∷ [])) (sym put_is) (put_none (only v) to class place a x g lt (each_of v sv one) put_each put_keeps put_apart e);
     layout = put_layout;
     opening = put_opening;
     stop = put_stop;
@@ -102,13 +102,13 @@ module _ (v u w : View) (sv : Seen v) (sw : Seen w) (to class a found : ℕ) (x 
   }
 
   -- a clause did, and its count was given up
-  pub given_back : (z : View) (n : ℕ) → x.address ≢ 0 → GaveBack w z x.address n → PutFor v z class a (to ∷ [])
+  pub given_back : (z : View) (n : ℕ) → x.address ≢ 0 → GaveBack w z x.address n → PutFor v z class place a (to ∷ [])
   given_back z n ne gave =
-      let parts : z.parts ≡ drop_part x.address n (swapped to class a x g (only v)) ∷ [] = gave.parts ∙ (λ i. drop_part x.address n (put_is i) ∷ []) in
+      let parts : z.parts ≡ drop_part x.address n (swapped to class place a x g (only v)) ∷ [] = gave.parts ∙ (λ i. drop_part x.address n (put_is i) ∷ []) in
       record {
-        one = one_is z (drop_part x.address n (swapped to class a x g (only v))) parts;
-        part = subst (λ (y : RingPart). PutPart (only v) y class a (to ∷ [])) (sym (only_is z (drop_part x.address n (swapped to class a x g (only v))) parts))
-            (put_some (only v) to class a x g lt (each_of v sv one) put_each put_keeps put_apart n ne);
+        one = one_is z (drop_part x.address n (swapped to class place a x g (only v))) parts;
+        part = subst (λ (y : RingPart). PutPart (only v) y class place a (to ∷ [])) (sym (only_is z (drop_part x.address n (swapped to class place a x g (only v))) parts))
+            (put_some (only v) to class place a x g lt (each_of v sv one) put_each put_keeps put_apart n ne);
         layout = gave.layout ∙ put_layout;
         opening = gave.opening ∙ put_opening;
         stop = gave.stop ∙ put_stop;
@@ -126,13 +126,13 @@ module _ (v u w : View) (sv : Seen v) (sw : Seen w) (to class a found : ℕ) (x 
 
 -- Puts one after the other
 
-pub for_none : (v : View) (class a : ℕ) → v.parts ≡ only v ∷ [] → PutFor v v class a []
-for_none v class a one = record { one = one; part = put_nothing (only v) class a; layout = refl; opening = refl; stop = refl; looks = refl }
+pub for_none : (v : View) (class place a : ℕ) → v.parts ≡ only v ∷ [] → PutFor v v class place a []
+for_none v class place a one = record { one = one; part = put_nothing (only v) class place a; layout = refl; opening = refl; stop = refl; looks = refl }
 
-pub for_both : (u v w : View) (class a : ℕ) (xs ys : List ℕ) → 0 < times_at a (only u).core.held → PutFor u v class a xs → PutFor v w class a ys → PutFor u w class a (xs ++ ys)
-for_both u v w class a xs ys lt f g = record {
+pub for_both : (u v w : View) (class place a : ℕ) (xs ys : List ℕ) → 0 < times_at a (only u).core.held → PutFor u v class place a xs → PutFor v w class place a ys → PutFor u w class place a (xs ++ ys)
+for_both u v w class place a xs ys lt f g = record {
   one = g.one;
-  part = put_both (only u) (only v) (only w) class a xs ys lt f.part g.part;
+  part = put_both (only u) (only v) (only w) class place a xs ys lt f.part g.part;
   layout = g.layout ∙ f.layout;
   opening = g.opening ∙ f.opening;
   stop = g.stop ∙ f.stop;
@@ -140,20 +140,20 @@ for_both u v w class a xs ys lt f g = record {
 }
 
 -- what is held stays held, with its clause
-pub for_holding : (v w : View) (class a : ℕ) (tos : List ℕ) → PutFor v w class a tos → IsHolding a v → IsHolding a w
-for_holding v w class a tos f h = (f.one, let t = f.part.held.times a in let lt = h.1 in omega arith)
+pub for_holding : (v w : View) (class place a : ℕ) (tos : List ℕ) → PutFor v w class place a tos → IsHolding a v → IsHolding a w
+for_holding v w class place a tos f h = (f.one, let t = f.part.held.times a in let lt = h.1 in omega arith)
 
-pub for_clause : (v w : View) (class a : ℕ) (tos : List ℕ) → PutFor v w class a tos → IsHolding a v → clause_of a w ≡ clause_of a v
-for_clause v w class a tos f h = f.part.held.clause a h.1
+pub for_clause : (v w : View) (class place a : ℕ) (tos : List ℕ) → PutFor v w class place a tos → IsHolding a v → clause_of a w ≡ clause_of a v
+for_clause v w class place a tos f h = f.part.held.clause a h.1
 
-pub for_ring : (v w : View) (class a : ℕ) (tos : List ℕ) → PutFor v w class a tos → (only w).core.ring ≡ (only v).core.ring
-for_ring v w class a tos f = ap (λ (y : RingPart). y.core.ring) f.part.part
+pub for_ring : (v w : View) (class place a : ℕ) (tos : List ℕ) → PutFor v w class place a tos → (only w).core.ring ≡ (only v).core.ring
+for_ring v w class place a tos f = ap (λ (y : RingPart). y.core.ring) f.part.part
 
-pub for_turn : (v w : View) (class a : ℕ) (tos : List ℕ) → PutFor v w class a tos → (only w).turn ≡ (only v).turn
-for_turn v w class a tos f = ap (λ (y : RingPart). y.turn) f.part.part
+pub for_turn : (v w : View) (class place a : ℕ) (tos : List ℕ) → PutFor v w class place a tos → (only w).turn ≡ (only v).turn
+for_turn v w class place a tos f = ap (λ (y : RingPart). y.turn) f.part.part
 
-pub for_shared : (v w : View) (class a : ℕ) (tos : List ℕ) → PutFor v w class a tos → (only w).core.shared ≡ (only v).core.shared + length tos
-for_shared v w class a tos f = ap (λ (y : RingPart). y.core.shared) f.part.part
+pub for_shared : (v w : View) (class place a : ℕ) (tos : List ℕ) → PutFor v w class place a tos → (only w).core.shared ≡ (only v).core.shared + length tos
+for_shared v w class place a tos f = ap (λ (y : RingPart). y.core.shared) f.part.part
 
-pub for_gave : (v w : View) (class a n : ℕ) (tos : List ℕ) → PutFor v w class a tos → length (clause_of a v).lits ≤ n → AreShort n (only v).gave → AreShort n (only w).gave
-for_gave v w class a n tos f le short = f.part.gave n le short
+pub for_gave : (v w : View) (class place a n : ℕ) (tos : List ℕ) → PutFor v w class place a tos → length (clause_of a v).lits ≤ n → AreShort n (only v).gave → AreShort n (only w).gave
+for_gave v w class place a n tos f le short = f.part.gave n le short

@@ -59,9 +59,9 @@ others_fewer ring (suc n) lt =
     (λ ne. let less = others_fewer ring n (omega arith) in let long = ap length (sym (ap (others ring) up) ∙ next_other ring n ne) in let sum = length-append (others ring n) (n ∷ []) in omega arith)
 
 -- what is put for some and then for others
-pub puts_both : (class a : ℕ) (xs ys : List ℕ) → puts_for class a (xs ++ ys) ≡ puts_for class a xs ++ puts_for class a ys
-puts_both class a [] ys = refl
-puts_both class a (x ∷ xs) ys = ap (λ (zs : List PutNote). record { to = x; class = class; address = a } ∷ zs) (puts_both class a xs ys)
+pub puts_both : (class place a : ℕ) (xs ys : List ℕ) → puts_for class place a (xs ++ ys) ≡ puts_for class place a xs ++ puts_for class place a ys
+puts_both class place a [] ys = refl
+puts_both class place a (x ∷ xs) ys = ap (λ (zs : List PutNote). record { to = x; class = class; place = place; address = a } ∷ zs) (puts_both class place a xs ys)
 
 -- another ring is one more of them
 pub others_next : (ring n m : ℕ) → (n ≡ ring → ⊥) → n < m → length (others ring n) + 1 ≤ length (others ring m)

@@ -215,6 +215,7 @@ module _ (v : View) (s : Seen v) (one : v.parts ≡ only v ∷ []) where
         opening = All_from_In (IsOn v.layout.vars) v.opening.units (λ l i. unit_on l (opening_listed l i));
         stop = stop_on v.stop refl;
         ring = subst (λ (q : CoreOpening). (only v).core.ring < q.rings) (sym s.opening) part_of.ring;
+        deep = subst (λ (q : CoreOpening). 1 ≤ q.depth) (sym s.opening) sound_of.opens.some_slot;
       }
 
 -- there is a ring at least, and the layout says how many there are
@@ -246,4 +247,4 @@ pub home_same : {B : Type 0} (t : Shared B) (p q : Seat (Option B) View) → IsP
 home_same t p q a b =
     let id : q.table_id ≡ p.table_id = b.0 ∙ sym a.0 in
     let lay : q.me.0.layout ≡ p.me.0.layout = b.2 ∙ sym a.2 in
-    λ i. (lay i).rings ∷ (lay i).vars ∷ (lay i).words ∷ (id i).words ∷ (id i).slots ∷ (id i).views_name ∷ (id i).atom ∷ (id i).block ∷ (id i).offset ∷ (id i).slot_names
+    λ i. (lay i).rings ∷ (lay i).vars ∷ (lay i).words ∷ (lay i).depth ∷ (id i).words ∷ (id i).slots ∷ (id i).views_name ∷ (id i).atom ∷ (id i).block ∷ (id i).offset ∷ (id i).slot_names

@@ -345,6 +345,6 @@ left_one (suc n) (suc i) (y ∷ ys) x le lt e d =
     }
 
 -- the next offer takes no memory still
-pub offer_unit : {v w u : View} {kind : Kind} {lit : Literal} {arrived arrived' : List Literal} (last : Option Cref) (s : Spares) → Wrote v w (UnitNote kind lit) → Listed w u arrived arrived' lit → CanOffer (only v) v.opening.rings last s → CanOffer (only u) u.opening.rings last s
+pub offer_unit : {v w u : View} {kind : Kind} {lit : Literal} {arrived arrived' : List Literal} (last : Option Cref) (s : Spares) → Wrote v w (UnitNote kind lit) → Listed w u arrived arrived' lit → CanOffer (only v) v.opening last s → CanOffer (only u) u.opening last s
 offer_unit {v} {w} {u} {kind} {lit} {arrived} {arrived'} last s h l r =
-    offer_turns v u l.part last s (l.opening ∙ h.gave.opening) l.parts (ap (λ (c : Part). c.held) l.core ∙ ap (λ (x : RingPart). x.core.held) (line_is h)) (l.gave ∙ ap (λ (x : RingPart). x.gave) (line_is h)) r
+    offer_turns v u l.part last s (l.opening ∙ h.gave.opening) l.parts (ap (λ (c : Part). c.held) l.core ∙ ap (λ (x : RingPart). x.core.held) (line_is h)) (l.gave ∙ ap (λ (x : RingPart). x.gave) (line_is h)) (ap (λ (c : Part). c.ring) l.core ∙ ap (λ (x : RingPart). x.core.ring) (line_is h)) (ap (λ (c : Part). c.puts) l.core ∙ ap (λ (x : RingPart). x.core.puts) (line_is h)) r

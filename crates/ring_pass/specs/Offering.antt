@@ -16,9 +16,9 @@ use Rattle.ring_pass.specs.RingState.{AreWaiting, IsBuffer, AreShort}
 abbrev pub others : (ring n : ℕ) → List ℕ
 others ring n = filter (λ r. not (r == ring)) (range_with_len 0 n)
 
--- the cell put for each of these rings
-abbrev pub puts_for : (class address : ℕ) → List ℕ → List PutNote
-puts_for class address tos = map (λ r. record { to = r; class = class; address = address }) tos
+-- the cell put for each of these rings, at this place
+abbrev pub puts_for : (class place address : ℕ) → List ℕ → List PutNote
+puts_for class place address tos = map (λ r. record { to = r; class = class; place = place; address = address }) tos
 
 -- n clauses that come back can be read before their counts are given up, and can wait
 pub record CanTakeBack (p : RingPart) (ws : List Waiting) (room : ℕ) (s : Spares) (n : ℕ) : Type 0 where
@@ -34,7 +34,7 @@ pub record SameHeld (p q : RingPart) : Type 0 where
   pub glue : (a : ℕ) → 0 < times_at a p.core.held → glue_in (clause_in a p.core.held).number q.glues ≡ glue_in (clause_in a p.core.held).number p.glues
 
 -- the part of a ring that has put a cell, which it holds, for these rings: at most as many clauses came back, which wait
-pub record PutPart (p q : RingPart) (class a : ℕ) (tos : List ℕ) : Type 0 where
+pub record PutPart (p q : RingPart) (class place a : ℕ) (tos : List ℕ) : Type 0 where
   pub back : List ClauseAt
   pub few : length back ≤ length tos
   pub held : SameHeld p q
@@ -45,16 +45,16 @@ pub record PutPart (p q : RingPart) (class a : ℕ) (tos : List ℕ) : Type 0 wh
       held = q.core.held;
       waiting = p.core.waiting ++ back;
       shared = p.core.shared + length tos;
-      puts = p.core.puts ++ puts_for class a tos;
+      puts = p.core.puts ++ puts_for class place a tos;
     };
     glues = q.glues;
     gave = q.gave;
   }
 
 -- the pass of that ring
-pub record PutFor (v w : View) (class a : ℕ) (tos : List ℕ) : Type 0 where
+pub record PutFor (v w : View) (class place a : ℕ) (tos : List ℕ) : Type 0 where
   pub one : w.parts ≡ only w ∷ []
-  pub part : PutPart (only v) (only w) class a tos
+  pub part : PutPart (only v) (only w) class place a tos
   pub layout : w.layout ≡ v.layout
   pub opening : w.opening ≡ v.opening
   pub stop : w.stop ≡ v.stop

@@ -1,5 +1,5 @@
 -- A ring with its pass, as a port.
-use Rattle.std.specs.Prelude.{◌≡◌, Bool, ℕ, ◌+◌, ◌-◌, ◌*◌, ◌<◌, ◌≤◌, true, false, not, ⊤, List, [], ◌∷◌, map, length, take, drop, filter, min, ◌^◌, All, Option, Some, None, IfSome, vec_capacity}
+use Rattle.std.specs.Prelude.{◌≡◌, ◌≢◌, Bool, ℕ, ◌+◌, ◌-◌, ◌*◌, ◌%◌, ◌<◌, ◌≤◌, slice_index, true, false, not, ⊤, List, [], ◌∷◌, map, length, take, drop, filter, min, ◌^◌, All, Option, Some, None, IfSome, vec_capacity}
 use Rattle.std.specs.Option.{option_map}
 use Rattle.std.specs.Global.{Vec}
 use Rattle.sat_words.specs.Literal.{Literal}
@@ -8,6 +8,7 @@ use Rattle.sat_words.specs.declared.shared.Cref.{Cref}
 use Rattle.sat_words.specs.declared.shared.Stop.{Stop}
 use Rattle.atomic_table.specs.declared.shared.Seat.{Seat}
 use Rattle.share_core.specs.declared.event.Stop.{Stop as CoreStop}
+use Rattle.share_core.specs.declared.part.CoreOpening.{CoreOpening}
 use Rattle.share_core.specs.declared.part.Placed.{Placed}
 use Rattle.share_core.specs.declared.stored.ClauseAt.{ClauseAt}
 use Rattle.share_core.specs.declared.stored.PutNote.{PutNote}
@@ -21,6 +22,7 @@ use Rattle.share_rule.specs.FirstWords.{addresses}
 use Rattle.share_rule.specs.Passes.{IsPassOf}
 use Rattle.share_rule.specs.Views.{only, clause_in, glue_in, start_glues}
 use Rattle.ring_port.specs.declared.stops.PortStop.{PortStop}
+use Rattle.ring_port.specs.Exchange.{puts_for}
 use Rattle.ring_port.specs.Port.{is_usable}
 use Rattle.ring_port.specs.PortState.{Holding, Offer, Slot, PortState}
 use Rattle.ring_pass.specs.declared.spares.Spares.{Spares}
@@ -60,11 +62,11 @@ holding_of gs h = record { address = h.address; number = h.number; glue = glue_i
 
 -- an offer as the port knows it
 abbrev pub offer_of : PutNote → Offer
-offer_of n = record { ring = n.to; class = n.class; address = n.address }
+offer_of n = record { ring = n.to; class = n.class; place = n.place; address = n.address }
 
 -- a poll as the port knows it
 abbrev pub slot_of : Poll → Slot
-slot_of q = record { ring = q.from; class = q.class }
+slot_of q = record { ring = q.from; class = q.class; place = q.place }
 
 -- how often no other unit was listed before a poll, as the port knows it
 abbrev pub looks_before : Poll → ℕ
@@ -100,6 +102,7 @@ port_with v p o = record {
   vars = v.layout.vars;
   ring = p.core.ring;
   rings = v.opening.rings;
+  depth = v.opening.depth;
   last = option_map (λ (c : Cref). c.address) o.last;
   stop = option_map stop_as v.stop;
   looks = min v.looks (2 ^ 64 - 1);
@@ -115,7 +118,7 @@ port_of v o = port_with v (only v) o
 
 -- the name of the table of a pass, with its layout
 abbrev pub home_of : {B : Type 0} → Seat (Option B) View → List ℕ
-home_of p = p.me.0.layout.rings ∷ p.me.0.layout.vars ∷ p.me.0.layout.words ∷ p.table_id.words ∷ p.table_id.slots ∷ p.table_id.views_name ∷ p.table_id.atom ∷ p.table_id.block ∷ p.table_id.offset ∷ p.table_id.slot_names
+home_of p = p.me.0.layout.rings ∷ p.me.0.layout.vars ∷ p.me.0.layout.words ∷ p.me.0.layout.depth ∷ p.table_id.words ∷ p.table_id.slots ∷ p.table_id.views_name ∷ p.table_id.atom ∷ p.table_id.block ∷ p.table_id.offset ∷ p.table_id.slot_names
 
 -- What is kept of it
 
@@ -170,13 +173,21 @@ AreShort n hs = All (λ h. length h.lits ≤ n) hs
 abbrev pub IsBuffer : ℕ → Vec Literal → Type 0
 IsBuffer n b = (b.items ≡ []) × (n ≤ vec_capacity b)
 
+-- the place that the next clause of each class takes at every other ring: so many of the class were put for that ring, modulo the
+-- depth
+pub record AreNext (ring : ℕ) (puts : List PutNote) (o : CoreOpening) (places : List ℕ) : Type 0 where
+  pub four : length places ≡ 4
+  pub there : (class : ℕ) → class < 4 → slice_index places class < o.depth
+  pub next : (to class : ℕ) → to < o.rings → to ≢ ring → class < 4 → slice_index places class ≡ puts_for (map offer_of puts) to class % o.depth
+
 -- what the ring has put, and may put next, is no longer than the longest; what comes back in the next offer can be read into
--- buffers of that length before its count is given up
-pub record CanOffer (p : RingPart) (rings : ℕ) (last : Option Cref) (s : Spares) : Type 0 where
+-- buffers of that length before its count is given up; the places of the next offers are known
+pub record CanOffer (p : RingPart) (o : CoreOpening) (last : Option Cref) (s : Spares) : Type 0 where
   pub buffers : All (IsBuffer s.longest) s.buffers.items
-  pub enough : pending rings last ≤ length s.buffers.items
+  pub enough : pending o.rings last ≤ length s.buffers.items
   pub gave : AreShort s.longest p.gave
   pub next : IfSome last (λ c. (0 < times_at c.address p.core.held) × (length (clause_in c.address p.core.held).lits ≤ s.longest))
+  pub places : AreNext p.core.ring p.core.puts o s.places
 
 -- the pass has this ring alone, which has not the turn; these are the addresses of the start clauses; a lone ring that
 -- knows of a failed write was refused for a fault
@@ -215,6 +226,7 @@ begun_as v r home = record {
   vars = v.layout.vars;
   ring = r;
   rings = v.opening.rings;
+  depth = v.opening.depth;
   last = None;
   stop = option_map stop_as v.stop;
   looks = min v.looks (2 ^ 64 - 1);

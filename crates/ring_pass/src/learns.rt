@@ -43,6 +43,7 @@ fn make_spares(
 ) -> Result<(), AllocError>
     requires buffers { All (IsBuffer spares.old.longest) spares.old.buffers.items }
     ensures made { OnOk result (All (IsBuffer spares.new.longest) spares.new.buffers.items × (count ≤ length spares.new.buffers.items) × (size ≤ spares.new.longest) × (spares.old.longest ≤ spares.new.longest)) }
+    ensures places { spares.new.places ≡ spares.old.places }
     ensures same { OnErr result (spares.new ≡ spares.old) }
 {
     if spares.buffers.len() >= count && spares.longest >= size {
@@ -50,7 +51,8 @@ fn make_spares(
     }
     let longest = size.max(spares.longest);
     let buffers = empty_buffers(alloc, count, longest)?;
-    *spares = Spares { buffers, longest };
+    spares.buffers = buffers;
+    spares.longest = longest;
     Ok(())
 }
 

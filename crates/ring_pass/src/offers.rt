@@ -34,6 +34,8 @@ struct Offering<'a, G> {
     cell: Cref,
     /// Its class.
     class: u8,
+    /// The place of the slots that it goes into.
+    place: u32,
 }
 
 /// Gives up the count of a clause that came back. If nobody holds it any more it waits, with its number and its literals,
@@ -54,7 +56,7 @@ fn give_back<B: Ledger, G: Gate>(
     ensures pass { IsPassOf table.now pass.new × IsSamePass pass.old pass.new }
     ensures given { (found : ℕ) × GaveBack pass.old.me.0 pass.new.me.0 cell.address found }
     ensures room { (n : ℕ) → CanTakeBack (only pass.old.me.0) waiting.old.items (vec_capacity waiting.old) spares.old (n + 1) → CanTakeBack (only pass.new.me.0) waiting.new.items (vec_capacity waiting.new) spares.new n }
-    ensures longest { spares.new.longest ≡ spares.old.longest }
+    ensures longest { (spares.new.longest ≡ spares.old.longest) × (spares.new.places ≡ spares.old.places) }
 {
     let head = read_head(table, pass, cell);
     let mut lits = spares.buffers.take_last();
@@ -90,15 +92,16 @@ fn put_for<B: Ledger, G: Gate>(
     requires ring { IsRing offering.now.ring pass.old.me.0 }
     requires to { IsOther to pass.old.me.0 }
     requires class { offering.now.class < 4 }
+    requires place { offering.now.place < table.now.layout.depth }
     requires held { IsHolding offering.now.cell.address pass.old.me.0 }
     requires turn { (only pass.old.me.0).turn ≡ None }
     requires shares { (only pass.old.me.0).core.shared < MAX_SHARES }
     requires short { AreShort spares.old.longest (only pass.old.me.0).gave × (length (clause_of offering.now.cell.address pass.old.me.0).lits ≤ spares.old.longest) }
     requires room { CanTakeBack (only pass.old.me.0) waiting.old.items (vec_capacity waiting.old) spares.old 1 }
     ensures pass { IsPassOf table.now pass.new × IsSamePass pass.old pass.new }
-    ensures put { PutFor pass.old.me.0 pass.new.me.0 offering.now.class offering.now.cell.address (to ∷ []) }
+    ensures put { PutFor pass.old.me.0 pass.new.me.0 offering.now.class offering.now.place offering.now.cell.address (to ∷ []) }
     ensures room { (n : ℕ) → CanTakeBack (only pass.old.me.0) waiting.old.items (vec_capacity waiting.old) spares.old (n + 1) → CanTakeBack (only pass.new.me.0) waiting.new.items (vec_capacity waiting.new) spares.new n }
-    ensures longest { spares.new.longest ≡ spares.old.longest }
+    ensures longest { (spares.new.longest ≡ spares.old.longest) × (spares.new.places ≡ spares.old.places) }
 {
     share(table, pass, offering.cell);
     let back = put(
@@ -107,6 +110,7 @@ fn put_for<B: Ledger, G: Gate>(
         offering.ring,
         to,
         offering.class,
+        offering.place,
         offering.cell,
     );
     offering
@@ -129,16 +133,17 @@ fn put_for_all<B: Ledger, G: Gate>(
     requires pass { IsPassOf table.now pass.old }
     requires ring { IsRing offering.now.ring pass.old.me.0 }
     requires class { offering.now.class < 4 }
+    requires place { offering.now.place < table.now.layout.depth }
     requires held { IsHolding offering.now.cell.address pass.old.me.0 }
     requires turn { (only pass.old.me.0).turn ≡ None }
     requires shares { (only pass.old.me.0).core.shared + length (others offering.now.ring table.now.layout.rings) ≤ MAX_SHARES }
     requires short { AreShort spares.old.longest (only pass.old.me.0).gave × (length (clause_of offering.now.cell.address pass.old.me.0).lits ≤ spares.old.longest) }
     requires room { CanTakeBack (only pass.old.me.0) waiting.old.items (vec_capacity waiting.old) spares.old (length (others offering.now.ring table.now.layout.rings)) }
     ensures pass { IsPassOf table.now pass.new × IsSamePass pass.old pass.new }
-    ensures put { PutFor pass.old.me.0 pass.new.me.0 offering.now.class offering.now.cell.address (others offering.now.ring table.now.layout.rings) }
+    ensures put { PutFor pass.old.me.0 pass.new.me.0 offering.now.class offering.now.place offering.now.cell.address (others offering.now.ring table.now.layout.rings) }
     ensures many { result ≡ length (others offering.now.ring table.now.layout.rings) }
     ensures room { CanTakeBack (only pass.new.me.0) waiting.new.items (vec_capacity waiting.new) spares.new 0 }
-    ensures longest { spares.new.longest ≡ spares.old.longest }
+    ensures longest { (spares.new.longest ≡ spares.old.longest) × (spares.new.places ≡ spares.old.places) }
 {
     let mut puts = 0;
     for to in 0..table.layout.rings {
@@ -152,8 +157,8 @@ fn put_for_all<B: Ledger, G: Gate>(
 }
 
 impl<'a, S: Sink, G: Gate, H> RingPass<'a, S, G, H> {
-    /// Puts the clause that was learned last if each other ring may get it, once for each, and answers for how many. A
-    /// clause that it takes the place of is held once less. What is offered stays held.
+    /// Puts the clause that was learned last if each other ring may get it, once for each, and answers for how many. Those of a
+    /// class go into its slots in turn. A clause that it takes the place of is held once less. What is offered stays held.
     pub fn offer(&mut self, c: Cref) -> u64
         requires held { IsSome (held_at self.old c.address) }
         requires last { self.old.last ≡ Some c.address }
@@ -174,14 +179,17 @@ impl<'a, S: Sink, G: Gate, H> RingPass<'a, S, G, H> {
             learned: self.learned,
             cell: c,
             class,
+            place: self.spares.places[class as usize],
         };
         self.last = None;
-        put_for_all(
+        let puts = put_for_all(
             self.table,
             &mut self.pass,
             &offering,
             &mut self.waiting,
             &mut self.spares,
-        )
+        );
+        self.spares.move_on(class, self.table.layout.depth);
+        puts
     }
 }

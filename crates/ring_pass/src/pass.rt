@@ -71,7 +71,7 @@ impl<'a, S: Sink, G: Gate, H> Model for RingPass<'a, S, G, H> {
       home = home_of p.pass;
     }) × HasRoom (only p.pass.me.0) p.pass.me.0.opening.rings p.last p.waiting.items (vec_capacity p.waiting)
         × HasUnits (only p.pass.me.0) p.pass.me.0.layout.vars p.seen.items (vec_capacity p.seen) (vec_capacity p.arrived)
-        × CanOffer (only p.pass.me.0) p.pass.me.0.opening.rings p.last p.spares };
+        × CanOffer (only p.pass.me.0) p.pass.me.0.opening p.last p.spares };
 }
 
 impl<'a, S: Sink, G: Gate, H> RingPass<'a, S, G, H> {
@@ -117,6 +117,7 @@ impl<'a, S: Sink, G: Gate, H> RingPass<'a, S, G, H> {
             spares: Spares {
                 buffers: Vec::new(alloc),
                 longest: 0,
+                places: [0; 4],
             },
             last: None,
             learned: 0,

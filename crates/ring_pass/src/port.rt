@@ -12,6 +12,10 @@ impl<'a, S: Sink, G: Gate, H: Wait> Port for RingPass<'a, S, G, H> {
         self.vars()
     }
 
+    fn depth(&self) -> u32 {
+        self.depth()
+    }
+
     fn head(&mut self, c: Cref) -> Head {
         self.head(c)
     }
@@ -60,8 +64,8 @@ impl<'a, S: Sink, G: Gate, H: Wait> Port for RingPass<'a, S, G, H> {
         self.offer(c)
     }
 
-    fn poll(&mut self, from: u32, class: u8) -> Result<Option<Cref>, PortStop> {
-        self.poll(from, class)
+    fn poll(&mut self, from: u32, class: u8, place: u32) -> Result<Option<Cref>, PortStop> {
+        self.poll(from, class, place)
     }
 
     fn next_unit(&mut self) -> Option<Lit> {

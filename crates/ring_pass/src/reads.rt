@@ -17,6 +17,14 @@ impl<'a, S: Sink, G: Gate, H> RingPass<'a, S, G, H> {
         self.table.layout.vars
     }
 
+    /// How many slots each two rings have for each class, which no call changes.
+    pub fn depth(&self) -> u32
+        ensures value { result ≡ self.now.depth }
+        ensures port { IsPort self.now }
+    {
+        self.table.layout.depth
+    }
+
     /// The size, the glue and the number of a clause that is held.
     pub fn head(&mut self, c: Cref) -> Head
         requires { IsSome (held_at self.old c.address) }

@@ -3,7 +3,6 @@ use Rattle.std.proofs.Common.{◌≡◌, ◌≢◌, inl, inr, ℕ, zero, suc, �
 use Rattle.std.specs.List.{list_any, All, AllByRecursion, IsDistinct, find, range_with_len}
 use Rattle.std.specs.Prelude.{nat_eq}
 use Rattle.std.specs.declared.option.Option.{Option}
-use Rattle.std.specs.Io.KnownBytes.{append_known}
 use Rattle.std.proofs.lemmas.Bool.{or_parts, false≢true, eqb-false}
 use Rattle.std.proofs.lemmas.List.Folds.{list_any-append}
 use Rattle.sat_words.specs.Literal.{Literal}
@@ -15,6 +14,7 @@ use Rattle.rup_model.specs.Journal.{book, lines, added, LogSound}
 use Rattle.rup_model.specs.Opening.{Start, IsOpening, IsStart}
 use Rattle.rup_model.proofs.Additions.{added-append}
 use Rattle.drat_text.specs.LineState.{LineState}
+use Rattle.drat_text.proofs.JournalLines.{has_text_begun}
 use Rattle.ring_port.specs.PortState.{Holding, AreApart, IsKept, IsOn, HoldsStart, held_at}
 use Rattle.rup_model.proofs.Lists.{In, Contains_In}
 use Rattle.std.proofs.lemmas.Map.Keys.{IsDistinct-head, IsDistinct-tail}
@@ -84,10 +84,6 @@ empty_last_from before (e ∷ rest) none = (
   empty_last_from (before ++ e ∷ []) rest (ap (λ J. list_any is_empty (added J)) (append_assoc before (e ∷ []) rest) ∙ none),
 )
 
-pub known_none : (w : Option (List ℕ)) → append_known w [] ≡ w
-known_none None = refl
-known_none (Some xs) = ap Some (append-nil xs)
-
 -- what a port has when it is made
 abbrev pub begun_data : ℕ → List (ℕ × List Literal) → List Literal → ℕ → LogData → PlainData
 begun_data vars ss units room g = record { vars = vars; start = placed_from 0 ss; held = placed_from 0 ss; waiting = []; opening = units; passed = 0; given = []; given_room = room; written = []; log = g; last = None; stop = None; looks = 0; caught_up = 0 }
@@ -152,7 +148,7 @@ module _ (F : List (List Literal)) (vars : ℕ) (ss : List (ℕ × List Literal)
           last = ap (λ K. (book F K).next) alone ∙ h.lines.last;
           usable = sym (ap not unspent);
           caused = tt;
-          whole = λ q. record { quiet = refl; bytes = sym (known_none out.written) };
+          whole = λ q. has_text_begun o;
           short = λ q. absurd (false≢true (sym unspent ∙ q));
           target = refl;
           flushed = refl;

@@ -4,7 +4,6 @@ use Rattle.std.specs.List.{list_any, All, Contains}
 use Rattle.std.specs.Prelude.{IsSomeAnd}
 use Rattle.std.specs.Option.{unwrap_or}
 use Rattle.std.specs.declared.option.Option.{Option}
-use Rattle.std.specs.Io.KnownBytes.{append_known}
 use Rattle.std.proofs.lemmas.Bool.{false≢true}
 use Rattle.std.proofs.lemmas.List.Elements.{All-append}
 use Rattle.sat_words.specs.Literal.{Literal}
@@ -21,9 +20,8 @@ use Rattle.rup_model.proofs.Units.{long_two}
 use Rattle.rup_model.proofs.Numbers.{book_last, lines_last}
 use Rattle.rup_model.proofs.JournalSteps.{not_added, log_dels}
 use Rattle.rup_model.proofs.Additions.{added-append}
-use Rattle.drat_text.specs.Text.{line_text}
 use Rattle.drat_text.specs.LineState.{LineState}
-use Rattle.drat_text.specs.LineOut.{PutLine}
+use Rattle.drat_text.specs.LineOut.{PutLine, with_line}
 use Rattle.drat_text.proofs.JournalLines.{has_text_next}
 use Rattle.ring_port.specs.PortState.{Holding, PortState, IsOn}
 use Rattle.ring_port.specs.Log.{Origin, Keeps, StandsOver, HasLines, journal_of}
@@ -88,7 +86,7 @@ module _ (o : Origin) (s : PortState) (h : StandsOver o s) (w : Holding) (rest :
 
     module _ (a b : LineState) (out : s.output ≡ Some a) (unspent : a.spent ≡ false) (number : ℕ) (did : PutLine a b (DelLine w.lits) number) where
       abbrev put_output : LineState
-      put_output = record a { entries = a.entries + 1; written = append_known a.written (line_text (DelLine w.lits)) }
+      put_output = with_line a (DelLine w.lits)
 
       abbrev after_deletion : PortState
       after_deletion = record s { waiting = rest; mine = s.mine ++ deletes ∷ []; output = Some b }

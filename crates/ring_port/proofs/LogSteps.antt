@@ -3,7 +3,6 @@ use Rattle.std.proofs.Common.{◌≡◌, ℕ, zero, suc, ◌+◌, ◌<◌, ◌==
 use Rattle.std.specs.List.{list_any, All, Contains}
 use Rattle.std.specs.Prelude.{IsSomeAnd}
 use Rattle.std.specs.declared.option.Option.{Option}
-use Rattle.std.specs.Io.KnownBytes.{append_known}
 use Rattle.std.proofs.lemmas.Bool.{or_left, or_right, false≢true}
 use Rattle.std.proofs.lemmas.List.Elements.{All-append}
 use Rattle.std.proofs.lemmas.List.Folds.{list_any-append}
@@ -27,9 +26,8 @@ use Rattle.rup_model.proofs.Numbers.{journal_matches, clause_below, book_last, l
 use Rattle.rup_model.proofs.JournalSteps.{not_added, log_adds}
 use Rattle.rup_model.proofs.Additions.{added-append, told_more}
 use Rattle.rup_model.proofs.Told.{told_alive}
-use Rattle.drat_text.specs.Text.{line_text}
 use Rattle.drat_text.specs.LineState.{LineState}
-use Rattle.drat_text.specs.LineOut.{PutLine, FailedLine}
+use Rattle.drat_text.specs.LineOut.{PutLine, FailedLine, with_line}
 use Rattle.drat_text.proofs.JournalLines.{has_text_next, has_text_cut}
 use Rattle.sat_words.specs.declared.shared.Stop.{Stop}
 use Rattle.sat_words.specs.declared.shared.TheConstants.{MAX_ENTRIES}
@@ -203,7 +201,7 @@ caused_same s t a (Some Memory) same c = c
 module _ (o : Origin) (s : PortState) (h : StandsOver o s) (ring : s.ring ≡ 0) (lits : List Literal) (kind : Kind) (number : ℕ)
     (follows : rup (known s) lits ≡ true) (going : s.ended ≡ false) (on : All (IsOn s.vars) lits) (a b : LineState) (out : s.output ≡ Some a) (unspent : a.spent ≡ false) (put : PutLine a b (AddLine lits) number) where
   abbrev put_output : LineState
-  put_output = record a { entries = a.entries + 1; last = a.last + 1; written = append_known a.written (line_text (AddLine lits)) }
+  put_output = with_line a (AddLine lits)
 
   pub number_is : number ≡ (book o.formula (journal_of o s)).next
   number_is = put.given ∙ sym (output_of o s a h out).last

@@ -59,6 +59,7 @@ plain_port p h = record {
   opening = h.opening;
   stop = own_stop p.stop h.stop;
   ring = omega arith;
+  deep = omega arith;
 }
 
 -- what is looked up

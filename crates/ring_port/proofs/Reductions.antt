@@ -1,32 +1,24 @@
 -- What the note of a reduction keeps of the one journal behind its port.
 use Rattle.std.proofs.Common.{◌≡◌, true, false, List, [], ◌∷◌, ◌++◌, length, sym, refl, ap, subst, ◌∙◌, Some, None, append_assoc, append-nil}
-use Rattle.std.specs.List.{list_any, All, fold}
+use Rattle.std.specs.List.{list_any, All}
 use Rattle.std.specs.Prelude.{IsSomeAnd}
 use Rattle.std.specs.declared.option.Option.{Option}
-use Rattle.std.specs.Io.KnownBytes.{append_known}
 use Rattle.std.proofs.lemmas.Bool.{not-true, false≢true}
 use Rattle.std.proofs.lemmas.List.Elements.{All-append}
 use Rattle.sat_words.specs.Literal.{Literal}
 use Rattle.sat_words.specs.Clause.{same_set, is_empty}
-use Rattle.sat_words.specs.declared.line.Line.{Line}
 use Rattle.rup_model.specs.declared.journal.Entry.{Entry}
 use Rattle.rup_model.specs.declared.journal.Entry.TheVariants.{Reduce}
-use Rattle.rup_model.specs.Journal.{Book, book_after, book, lines, lines_after, lines_from, added, ring_of, LogSound}
+use Rattle.rup_model.specs.Journal.{Book, book, lines, added, ring_of, LogSound}
 use Rattle.rup_model.proofs.Numbers.{book_last, lines_last}
 use Rattle.rup_model.proofs.JournalSteps.{not_added, log_reduces}
 use Rattle.rup_model.proofs.Additions.{added-append}
-use Rattle.drat_text.specs.Text.{text}
 use Rattle.drat_text.specs.LineState.{LineState}
-use Rattle.drat_text.specs.JournalText.{later_text, HasText}
+use Rattle.drat_text.proofs.JournalLines.{has_text_still}
 use Rattle.ring_port.specs.PortState.{PortState, IsOn}
 use Rattle.ring_port.specs.Port.{is_usable}
 use Rattle.ring_port.specs.Log.{Origin, StandsOver, HasLines, journal_of}
 use Rattle.ring_port.proofs.LogSteps.{one_All, caused_same}
-
--- the entry of a reduction, which has no line
-lines_from_none : (b : Book) (K : List Entry) (e : Entry) → lines_after (fold book_after b K) e ≡ [] → lines_from b (K ++ e ∷ []) ≡ lines_from b K
-lines_from_none b [] e none = ap (λ (L : List Line). L ++ []) none
-lines_from_none b (y ∷ K) e none = ap (λ (L : List Line). lines_after b y ++ L) (lines_from_none (book_after b y) K e none)
 
 module _ (o : Origin) (s : PortState) (h : StandsOver o s) where
   abbrev F : List (List Literal)
@@ -53,22 +45,18 @@ module _ (o : Origin) (s : PortState) (h : StandsOver o s) where
   own_added : added (s.mine ++ Reduce s.ring ∷ []) ≡ added s.mine
   own_added = added-append s.mine (Reduce s.ring ∷ []) ∙ append-nil (added s.mine)
 
-  text_same : later_text o (s.mine ++ Reduce s.ring ∷ []) ≡ later_text o s.mine
-  text_same = ap text (lines_from_none (book F o.journal) s.mine (Reduce s.ring) refl)
-
   abbrev after_reduce : PortState
   after_reduce = record s { mine = s.mine ++ Reduce s.ring ∷ []; taken = [] }
 
   has_lines_still : is_usable s.refused ≡ true → (a : LineState) → HasLines o s a → HasLines o after_reduce a
   has_lines_still usable a was =
       let unspent : a.spent ≡ false = not-true a.spent (sym was.usable ∙ usable) in
-      let same : HasText o s.mine a = was.whole unspent in
       record {
         entries = was.entries ∙ ap (λ L. length L) (sym lines_same);
         last = ap (λ (k : Book). k.next) book_same ∙ was.last;
         usable = was.usable;
         caused = caused_same s after_reduce a s.refused refl was.caused;
-        whole = λ q. record { quiet = same.quiet; bytes = same.bytes ∙ ap (append_known o.output.written) (sym text_same) };
+        whole = λ q. has_text_still o s.mine a (Reduce s.ring) refl (was.whole unspent);
         short = λ q. absurd (false≢true (sym unspent ∙ q));
         target = was.target;
         flushed = was.flushed;

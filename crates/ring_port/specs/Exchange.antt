@@ -1,5 +1,5 @@
 -- What a port does when rings hand each other clauses.
-use Rattle.std.specs.Prelude.{◌≡◌, ℕ, ◌+◌, ◌≤◌, ◌==◌, count_by, ◌&&◌, not, nat_le, List, [], ◌∷◌, ◌++◌, if◌then◌else◌, map, filter, length, Option, Some, None, Result, Ok, Err}
+use Rattle.std.specs.Prelude.{◌≡◌, ℕ, ◌+◌, ◌%◌, ◌≤◌, ◌==◌, count_by, ◌&&◌, not, nat_le, List, [], ◌∷◌, ◌++◌, if◌then◌else◌, map, filter, length, Option, Some, None, Result, Ok, Err}
 use Rattle.std.specs.List.{range_with_len}
 use Rattle.std.specs.Option.{option_and_then}
 use Rattle.sat_words.specs.declared.shared.Cref.{Cref}
@@ -29,9 +29,18 @@ class_at s a = option_and_then (λ h. class_of (length h.lits) h.glue) (held_at 
 abbrev pub other_rings : PortState → List ℕ
 other_rings s = filter (λ r. not (r == s.ring)) (range_with_len 0 s.rings)
 
--- the clause put for each other ring
+-- how many clauses of a class were put for a ring
+abbrev pub puts_for : List Offer → (ring class : ℕ) → ℕ
+puts_for puts ring class = count_by (λ o. o.ring == ring && o.class == class) puts
+
+-- the place of the next clause of a class for a ring: the clauses go into their slots in turn, from the first on
+abbrev pub next_place : PortState → (ring class : ℕ) → ℕ
+next_place s ring class = puts_for s.puts ring class % s.depth
+
+-- the clause put for each other ring, each time at the next place
 abbrev pub offers_to : PortState → (class address : ℕ) → List Offer
-offers_to s class address = map (λ r. record { ring = r; class = class; address = address }) (other_rings s)
+offers_to s class address =
+    map (λ r. record { ring = r; class = class; place = next_place s r class; address = address }) (other_rings s)
 
 -- how often a clause is held at an address
 abbrev pub times_held : PortState → ℕ → ℕ
@@ -59,20 +68,20 @@ OfferedAs old new (Some class) address = Offered old new class address
 
 -- Polls
 
--- it was looked once more, into the slot of the other ring for this class; so often `next_unit` had found by then that no other unit
--- is listed
-abbrev pub looked_into : (ring class : ℕ) → PortState → PortState
-looked_into ring class s = record s { polled = one_more s.polled; polls = s.polls ++ record { ring = ring; class = class } ∷ []; polls_after = s.polls_after ++ s.caught_up ∷ [] }
+-- it was looked once more, into the slot of the other ring for this class at this place; so often `next_unit` had found by then that no
+-- other unit is listed
+abbrev pub looked_into : (ring class place : ℕ) → PortState → PortState
+looked_into ring class place s = record s { polled = one_more s.polled; polls = s.polls ++ record { ring = ring; class = class; place = place } ∷ []; polls_after = s.polls_after ++ s.caught_up ∷ [] }
 
 -- a clause of the other ring is held from now on
-pub record TookClause (old new : PortState) (ring class : ℕ) (c : Cref) : Type 0 where
+pub record TookClause (old new : PortState) (ring class place : ℕ) (c : Cref) : Type 0 where
   pub clause : Holding
   pub address : clause.address ≡ c.address
   pub kept : IsKept old.vars clause
-  pub state : new ≡ record (looked_into ring class old) { held = old.held ++ clause ∷ []; taken = old.taken ++ c.address ∷ [] }
+  pub state : new ≡ record (looked_into ring class place old) { held = old.held ++ clause ∷ []; taken = old.taken ++ c.address ∷ [] }
 
 -- what `poll` did
-abbrev pub Polled : PortState → PortState → (ring class : ℕ) → Result (Option Cref) PortStop → Type 0
-Polled old new ring class (Ok None) = new ≡ looked_into ring class old
-Polled old new ring class (Ok (Some c)) = TookClause old new ring class c
-Polled old new ring class (Err stop) = (stop ≡ Memory) × (new ≡ old)
+abbrev pub Polled : PortState → PortState → (ring class place : ℕ) → Result (Option Cref) PortStop → Type 0
+Polled old new ring class place (Ok None) = new ≡ looked_into ring class place old
+Polled old new ring class place (Ok (Some c)) = TookClause old new ring class place c
+Polled old new ring class place (Err stop) = (stop ≡ Memory) × (new ≡ old)

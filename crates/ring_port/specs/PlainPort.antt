@@ -38,7 +38,7 @@ pub record PlainData : Type 0 where
   pub looks : ℕ
   pub caught_up : ℕ
 
--- the port of ring 0, of 1 ring
+-- the port of ring 0, of 1 ring, which has no other to have slots with: their number is the least
 abbrev pub state_of : PlainData → PortState
 state_of p = record {
   held = p.held;
@@ -60,6 +60,7 @@ state_of p = record {
   vars = p.vars;
   ring = 0;
   rings = 1;
+  depth = 1;
   last = option_map (λ c. c.address) p.last;
   stop = p.stop;
   looks = p.looks;
@@ -145,6 +146,7 @@ begun_with vars starts units output = record {
   vars = vars;
   ring = 0;
   rings = 1;
+  depth = 1;
   last = None;
   stop = None;
   looks = 0;

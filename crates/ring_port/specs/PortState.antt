@@ -19,16 +19,19 @@ pub record Holding : Type 0 where
   pub glue : ℕ
   pub lits : List Literal
 
--- a clause that was put if another ring may get it: for which ring, in which class, and its address
+-- a clause that was put if another ring may get it: for which ring, in which class, at which place of the slots that the two rings
+-- have for the class, and its address
 pub record Offer : Type 0 where
   pub ring : ℕ
   pub class : ℕ
+  pub place : ℕ
   pub address : ℕ
 
--- if another ring may have put a clause for this one: the other ring, and the class
+-- if another ring may have put a clause for this one: the other ring, the class, and the place among their slots for the class
 pub record Slot : Type 0 where
   pub ring : ℕ
   pub class : ℕ
+  pub place : ℕ
 
 -- what a ring knows of the outside, and what it did there
 pub record PortState : Type 0 where
@@ -70,6 +73,8 @@ pub record PortState : Type 0 where
   pub ring : ℕ
   -- how many rings there are
   pub rings : ℕ
+  -- how many slots each two rings have for each class
+  pub depth : ℕ
   -- the address of the clause that was learned last, until it is offered
   pub last : Option ℕ
   -- the stop that was seen or set
@@ -135,7 +140,7 @@ AreApart (h ∷ hs) = All (λ k. k.address ≢ h.address) hs × AreApart hs
 
 -- each clause held or waiting is long and on the variables; an address has one clause, however often it is held, and none
 -- is both held and waiting, or waits twice; what was taken is held, and what was given is seen; start clauses and units are on the
--- variables; the stop is one of the rings'
+-- variables; the stop is one of the rings'; each two rings have a slot for each class
 pub record IsPort (s : PortState) : Type 0 where
   pub held : All (IsKept s.vars) s.held
   pub one : (h k : Holding) → Contains s.held h → Contains s.held k → h.address ≡ k.address → h ≡ k
@@ -149,6 +154,7 @@ pub record IsPort (s : PortState) : Type 0 where
   pub opening : All (IsOn s.vars) s.opening
   pub stop : IfSome s.stop (IsStop s.rings)
   pub ring : s.ring < s.rings
+  pub deep : 1 ≤ s.depth
 
 -- The opening
 

@@ -27,6 +27,12 @@ impl<L: LineOut> Port for PlainPort<L> {
         self.vars
     }
 
+    /// There is no other ring, so that no slot is used.
+    fn depth(&self) -> u32 {
+        let _looks = self.looks;
+        1
+    }
+
     fn head(&mut self, c: Cref) -> Head
         requires { IsSome (held_at self.old.state c.address) }
         ensures value { IfSome (held_at self.old.state c.address) (λ h. result ≡ head_of h) }
@@ -170,7 +176,7 @@ impl<L: LineOut> Port for PlainPort<L> {
     }
 
     /// There is no other ring, so that nobody may call this.
-    fn poll(&mut self, _from: u32, _class: u8) -> Result<Option<Cref>, PortStop> {
+    fn poll(&mut self, _from: u32, _class: u8, _place: u32) -> Result<Option<Cref>, PortStop> {
         let _looks = self.looks;
         Ok(None)
     }

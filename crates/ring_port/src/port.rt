@@ -29,6 +29,12 @@ pub trait Port {
         ensures value { result ≡ (state self.now).vars }
         ensures port { IsPort (state self.now) };
 
+    /// How many slots each two rings have for each class, which no call changes. As the variables it is the port's to know,
+    /// so that a ring keeps no copy of it.
+    fn depth(&self) -> u32
+        ensures value { result ≡ (state self.now).depth }
+        ensures port { IsPort (state self.now) };
+
     /// The size, the glue and the number of a clause that is held.
     fn head(&mut self, c: Cref) -> Head
         requires { IsSome (held_at (state self.old) c.address) }
@@ -145,8 +151,9 @@ pub trait Port {
         ensures log { KeepsLog (state self.old) (state self.new) }
         ensures port { IsPort (state self.new) };
 
-    /// Puts the clause that was learned last if each other ring may get it, once for each, and answers for how many. A
-    /// clause that it takes the place of is held once less. What is offered stays held.
+    /// Puts the clause that was learned last if each other ring may get it, once for each, and answers for how many. Those
+    /// of a class go into its slots in turn, from place 0 on. A clause that it takes the place of is held once less. What
+    /// is offered stays held.
     fn offer(&mut self, c: Cref) -> u64
         requires held { IsSome (held_at (state self.old) c.address) }
         requires last { (state self.old).last ≡ Some c.address }
@@ -156,13 +163,14 @@ pub trait Port {
         ensures log { KeepsLog (state self.old) (state self.new) }
         ensures port { IsPort (state self.new) };
 
-    /// Takes the clause of a class that another ring has put for this one, which is held from then on; none if nothing is
-    /// there. Either way it looked into that slot once. It is refused for want of memory alone.
-    fn poll(&mut self, from: u32, class: u8) -> Result<Option<Cref>, PortStop>
+    /// Takes the clause of a class that another ring has put for this one at a place, from 0, which is held from then on;
+    /// none if nothing is there. Either way it looked into that slot once. It is refused for want of memory alone.
+    fn poll(&mut self, from: u32, class: u8, place: u32) -> Result<Option<Cref>, PortStop>
         requires other { from ≢ (state self.old).ring }
         requires ring { from < (state self.old).rings }
         requires class { class ≤ 3 }
-        ensures polled { Polled (state self.old) (state self.new) from class result }
+        requires place { place < (state self.old).depth }
+        ensures polled { Polled (state self.old) (state self.new) from class place result }
         ensures kept { KeepsHeld (state self.old) (state self.new) }
         ensures log { KeepsLog (state self.old) (state self.new) }
         ensures port { IsPort (state self.new) };

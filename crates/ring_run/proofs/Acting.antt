@@ -6,10 +6,11 @@ use Rattle.ring_port.specs.PortState.{PortState, lits_at}
 use Rattle.watch_prop.specs.Propagation.{IsQuiet, IsConflict}
 use Rattle.ring_run.specs.Ending.{IsRefusal}
 use Rattle.ring_port.specs.declared.stops.PortStop.TheVariants as answer
-use Rattle.ring_run.specs.Searching.{HasTold, FixedSeen}
+use Rattle.ring_run.specs.Searching.{HasTold, SeesFixed}
 use Rattle.ring_run.specs.Halting.{HaltsRenewing}
 use Rattle.ring_run.specs.Course.{CountsAlike, LearnsFrom, IsOnOrRefused, HaltsBy}
-use Rattle.ring_run.specs.Turn.{HasPropagated, ActedAtQuiet, TookTurn, HaltedTurn, TakesTurn, CameTo, IsModelFound, EndsDeciding, HaltsQuietly, EndsQuietly}
+use Rattle.ring_run.specs.Turn.{HasPropagated, ActedAtQuiet, TookTurn, HaltedTurn, TakesTurn, CameTo, HasModel, EndsDeciding, HaltsQuietly, EndsQuietly}
+use Rattle.ring_run.specs.declared.job.Job.{Job}
 use Rattle.ring_run.specs.declared.job.End.{End}
 use Rattle.ring_run.specs.declared.job.End.TheVariants.{Sat, Refuted, Spent, Stopped, NoHole, ProofFault, Memory}
 use Rattle.ring_run.specs.declared.ring.Ring.{Ring}
@@ -27,22 +28,23 @@ quietly_halted s u old new ProofFault h how = how
 quietly_halted s u old new Memory h how = how
 
 -- and so it does where an import was yet to be
-pub quietly_renewing : (s w u : PortState) (old ring new : Ring) (course : Next) → IsOnOrRefused course → old.import_due ≡ true → ring ≡ record old { written = ring.written } → CountsAlike old new → HasTold s w → FixedSeen w old.trail → HaltsBy (HaltsRenewing w u ring) course
+pub quietly_renewing : (s w u : PortState) (old ring new : Ring) (course : Next) → IsOnOrRefused course → old.import_due ≡ true → ring ≡ record old { written = ring.written } → CountsAlike old new → HasTold s w → SeesFixed w old.trail → HaltsBy (HaltsRenewing w u ring) course
     → EndsQuietly s u old new course
 quietly_renewing s w u old ring new Go h due same counts told seen how = tt
-quietly_renewing s w u old ring new (Finish end) h due same counts told seen how = quietly_halted s u old new end h (counts, w, told, inr (seen, due, ring, same, how))
+quietly_renewing s w u old ring new (Finish end) h due same counts told seen how = quietly_halted s u old new end h (counts, w, told, seen.alone, inr (seen, due, ring, same, how))
 
-found_alike : (old : Ring) (written : ℕ) (a : List Bool) → IsModelFound (record old { written = written }) a → IsModelFound old a
-found_alike old written a p = record { valued = p.valued; long = p.long; true_there = p.true_there; rest = p.rest }
+found_alike : (s : PortState) (old : Ring) (written : ℕ) (a : List Bool) → HasModel s (record old { written = written }) a → HasModel s old a
+found_alike s old written a (inl p) = inl (record { valued = p.valued; long = p.long; true_there = p.true_there; rest = p.rest })
+found_alike s old written a (inr p) = inr (record { start = p.start; agrees = p.agrees })
 
 -- what a decision comes to after a look and lines of units
-pub quietly_decided : (s w : PortState) (old ring new : Ring) (course : Next) → old.import_due ≡ false → ring ≡ record old { written = ring.written } → CountsAlike old new → HasTold s w → FixedSeen w old.trail → EndsDeciding ring new course → EndsQuietly s w old new course
+pub quietly_decided : (s w : PortState) (old ring new : Ring) (course : Next) → old.import_due ≡ false → ring ≡ record old { written = ring.written } → CountsAlike old new → HasTold s w → SeesFixed w old.trail → EndsDeciding w ring new course → EndsQuietly s w old new course
 quietly_decided s w old ring new Go settled same counts told seen d = tt
 quietly_decided s w old ring new (Finish (Sat a)) settled same counts told seen d = record {
   settled = settled;
   told = told;
   seen = seen;
-  found = found_alike old ring.written a (subst (λ (r : Ring). IsModelFound r a) same d.0);
+  found = found_alike w old ring.written a (subst (λ (r : Ring). HasModel w r a) same d.0);
   same = d.1 ∙ same ∙ ap (λ (r : Ring). record old { written = r.written }) (sym d.1);
 }
 quietly_decided s w old ring new (Finish Refuted) settled same counts told seen d = absurd d
@@ -50,7 +52,7 @@ quietly_decided s w old ring new (Finish Spent) settled same counts told seen d 
 quietly_decided s w old ring new (Finish (Stopped x)) settled same counts told seen d = absurd d
 quietly_decided s w old ring new (Finish (NoHole lack)) settled same counts told seen d = absurd d
 quietly_decided s w old ring new (Finish ProofFault) settled same counts told seen d = absurd d
-quietly_decided s w old ring new (Finish Memory) settled same counts told seen d = (counts, w, told, inl (answer.Memory, record { reason = tt; state = refl }, refl))
+quietly_decided s w old ring new (Finish Memory) settled same counts told seen d = (counts, w, told, seen.alone, inl (answer.Memory, record { reason = tt; state = refl }, refl))
 
 pub refused_over : (course : Next) (end : End) → course ≡ Finish end → IsOnOrRefused course → IsRefusal end
 refused_over course end is h = subst IsOnOrRefused is h
@@ -91,5 +93,5 @@ quiet_turn s u old between new (Finish ProofFault) p quiet acted ended = quiet_h
 quiet_turn s u old between new (Finish Memory) p quiet acted ended = quiet_halted s u old between new Memory p quiet ended
 
 -- a turn more
-pub came_further : (s m u : PortState) (old between new : Ring) → CameTo s m old between → TookTurn m u between new → CameTo s u old new
-came_further s m u old between new p search_step = record { imported_port = p.imported_port; imported = p.imported; first = p.first; states = (m, between) ∷ p.states; turns = (p.turns, search_step) }
+pub came_further : (job : Job) (s m u : PortState) (old between new : Ring) → CameTo job s m old between → TookTurn m u between new → CameTo job s u old new
+came_further job s m u old between new p search_step = record { imported_port = p.imported_port; imported = p.imported; first = p.first; walked = p.walked; model = p.model; walk = p.walk; states = (m, between) ∷ p.states; turns = (p.turns, search_step) }

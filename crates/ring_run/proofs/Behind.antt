@@ -385,4 +385,4 @@ pub behind_memory : (s u : PortState) (old new : Ring) (conflict : Cref) (lits :
 behind_memory s u old new conflict lits limit same still below paced offering = subst (λ (x : PortState). BehindLemma s x old new conflict lits limit (Finish Memory)) (sym same)
     (behind_end s s old new conflict lits limit Memory still (λ count most few start p. out_of_memory start s count most few p) tt
     (inr (inl (refl, refl, record { learned = still.learned; restarts = still.restarts; exported = still.offers.exported; offered = still.offers.offered })))
-    (record { shared = refl; polled = refl; polls = refl; polls_after = refl; caught_up = omega arith; ring = refl; rings = refl; lemmas = refl }) refl refl below paced offering)
+    (record { shared = refl; polled = refl; polls = refl; polls_after = refl; caught_up = omega arith; ring = refl; rings = refl; depth = refl; lemmas = refl }) refl refl below paced offering)

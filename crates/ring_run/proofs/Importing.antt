@@ -128,6 +128,7 @@ module _ (s w : PortState) (k : Literal) (took : TookUnit s w k) (seen : AddedSe
     vars = ap (λ (x : PortState). x.vars) took.state;
     ring = ap (λ (x : PortState). x.ring) took.state;
     rings = ap (λ (x : PortState). x.rings) took.state;
+    depth = ap (λ (x : PortState). x.depth) took.state;
     polled = omega (arith, ap (λ (x : PortState). x.polled) took.state);
     home = ap (λ (x : PortState). x.home) took.state;
     log = log;
@@ -162,6 +163,7 @@ pub record Polls (s u : PortState) (given : List Cref) : Type 0 where
   pub vars : u.vars ≡ s.vars
   pub ring : u.ring ≡ s.ring
   pub rings : u.rings ≡ s.rings
+  pub depth : u.depth ≡ s.depth
   pub polled : u.polled ≡ one_more s.polled
   pub taken : u.taken ≡ s.taken ++ map (λ (c : Cref). c.address) given
   pub home : u.home ≡ s.home
@@ -173,13 +175,14 @@ pub record Polls (s u : PortState) (given : List Cref) : Type 0 where
   pub kept : KeepsHeld s u
   pub holds : (h : Holding) → Contains u.held h → Contains s.held h ⊎ Contains (map (λ (c : Cref). c.address) given) h.address
 
-pub polled_none : (s u : PortState) (ring class : ℕ) → u ≡ looked_into ring class s → Polls s u []
-polled_none s u ring class is = subst (λ (x : PortState). Polls s x []) (sym is) (record {
+pub polled_none : (s u : PortState) (ring class place : ℕ) → u ≡ looked_into ring class place s → Polls s u []
+polled_none s u ring class place is = subst (λ (x : PortState). Polls s x []) (sym is) (record {
   start = refl;
   opening = refl;
   vars = refl;
   ring = refl;
   rings = refl;
+  depth = refl;
   polled = refl;
   taken = sym (append-nil s.taken);
   home = refl;
@@ -188,17 +191,18 @@ polled_none s u ring class is = subst (λ (x : PortState). Polls s x []) (sym is
   mine = refl;
   stop = refl;
   refused = refl;
-  kept = λ a h. held_same s (looked_into ring class s) a refl;
+  kept = λ a h. held_same s (looked_into ring class place s) a refl;
   holds = λ h there. inl there;
 })
 
-pub polled_some : (s u : PortState) (ring class : ℕ) (c : Cref) → TookClause s u ring class c → KeepsHeld s u → Polls s u (c ∷ [])
-polled_some s u ring class c w kept = record {
+pub polled_some : (s u : PortState) (ring class place : ℕ) (c : Cref) → TookClause s u ring class place c → KeepsHeld s u → Polls s u (c ∷ [])
+polled_some s u ring class place c w kept = record {
   start = ap (λ (x : PortState). x.start) w.state;
   opening = ap (λ (x : PortState). x.opening) w.state;
   vars = ap (λ (x : PortState). x.vars) w.state;
   ring = ap (λ (x : PortState). x.ring) w.state;
   rings = ap (λ (x : PortState). x.rings) w.state;
+  depth = ap (λ (x : PortState). x.depth) w.state;
   polled = ap (λ (x : PortState). x.polled) w.state;
   taken = ap (λ (x : PortState). x.taken) w.state;
   home = ap (λ (x : PortState). x.home) w.state;
@@ -227,6 +231,7 @@ module _ (s u : PortState) (given : List Cref) (d : Polls s u given) (one : leng
     vars = d.vars;
     ring = d.ring;
     rings = d.rings;
+    depth = d.depth;
     polled = omega (arith, d.polled);
     home = d.home;
     log = log;
@@ -310,8 +315,8 @@ module _ (s u : PortState) (given : List Cref) (d : Polls s u given) (one : leng
       }
 
 -- what a poll took is held
-pub taken_held : (s u : PortState) (ring class : ℕ) (c : Cref) → TookClause s u ring class c → IsPort u → IsHeldBy u c
-taken_held s u ring class c w port =
+pub taken_held : (s u : PortState) (ring class place : ℕ) (c : Cref) → TookClause s u ring class place c → IsPort u → IsHeldBy u c
+taken_held s u ring class place c w port =
     All_In (λ a. IsSome (held_at u a)) u.taken c.address port.taken
     (subst (In c.address) (sym (ap (λ (x : PortState). x.taken) w.state)) (In_append_right s.taken (c.address ∷ []) c.address (inl refl)))
 
@@ -323,11 +328,11 @@ only_eta : (s : PortState) (held : List Holding) (taken : List ℕ) (polled : �
     → OnlyPolled s (record s { held = held; taken = taken; polled = polled; polls = polls; polls_after = after })
 only_eta s held taken polled polls after kept = record { kept = kept; state = refl }
 
-pub only_looked : (s u : PortState) (ring class : ℕ) → u ≡ looked_into ring class s → OnlyPolled s u
-only_looked s u ring class is = subst (OnlyPolled s) (sym is) (only_eta s s.held s.taken (one_more s.polled) (s.polls ++ record { ring = ring; class = class } ∷ []) (s.polls_after ++ s.caught_up ∷ []) (λ a h. held_same s (looked_into ring class s) a refl))
+pub only_looked : (s u : PortState) (ring class place : ℕ) → u ≡ looked_into ring class place s → OnlyPolled s u
+only_looked s u ring class place is = subst (OnlyPolled s) (sym is) (only_eta s s.held s.taken (one_more s.polled) (s.polls ++ record { ring = ring; class = class; place = place } ∷ []) (s.polls_after ++ s.caught_up ∷ []) (λ a h. held_same s (looked_into ring class place s) a refl))
 
-pub only_took : (s u : PortState) (ring class : ℕ) (c : Cref) → TookClause s u ring class c → KeepsHeld s u → OnlyPolled s u
-only_took s u ring class c w kept = subst (OnlyPolled s) (sym w.state) (only_eta s (s.held ++ w.clause ∷ []) (s.taken ++ c.address ∷ []) (one_more s.polled) (s.polls ++ record { ring = ring; class = class } ∷ []) (s.polls_after ++ s.caught_up ∷ []) (subst (KeepsHeld s) w.state kept))
+pub only_took : (s u : PortState) (ring class place : ℕ) (c : Cref) → TookClause s u ring class place c → KeepsHeld s u → OnlyPolled s u
+only_took s u ring class place c w kept = subst (OnlyPolled s) (sym w.state) (only_eta s (s.held ++ w.clause ∷ []) (s.taken ++ c.address ∷ []) (one_more s.polled) (s.polls ++ record { ring = ring; class = class; place = place } ∷ []) (s.polls_after ++ s.caught_up ∷ []) (subst (KeepsHeld s) w.state kept))
 
 pub only_same : (s u : PortState) → u ≡ s → OnlyPolled s u
 only_same s u is = subst (OnlyPolled s) (sym is) (only_none s)

@@ -46,6 +46,7 @@ lent_stays s u p log =
       vars = ap (λ (x : PortState). x.vars) is;
       ring = ap (λ (x : PortState). x.ring) is;
       rings = ap (λ (x : PortState). x.rings) is;
+      depth = ap (λ (x : PortState). x.depth) is;
       polled = omega (arith, ap (λ (x : PortState). x.polled) is);
       home = ap (λ (x : PortState). x.home) is;
       log = log;
@@ -240,7 +241,7 @@ offering_learned s u v old new steps glue lits address p w counts lent learned =
 }
 
 pub saw_nothing : (s u : PortState) → OnlySaw s u → OffersNothing s u
-saw_nothing s u p = nothing_same s u p.shared p.polled p.polls p.polls_after p.caught_up p.stays.ring p.stays.rings p.mine
+saw_nothing s u p = nothing_same s u p.shared p.polled p.polls p.polls_after p.caught_up p.stays.ring p.stays.rings p.stays.depth p.mine
 
 -- a lemma that has an address is held
 pub lent_held : (s u v : PortState) (lits : List Literal) (glue : ℕ) (address : Option Cref) → Learned s u lits glue (Ok address) → OnlyLent u v → IfSome address (λ c. IsSome (held_at v c.address))

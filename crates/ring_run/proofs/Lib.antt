@@ -38,3 +38,5 @@ pub mod Halted
 pub mod LeftBehind
 pub mod ReducedImports
 pub mod Models
+pub mod WalkLemmas
+pub mod WalkEnds

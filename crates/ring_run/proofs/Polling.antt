@@ -4,6 +4,7 @@ use Rattle.std.specs.Prelude.{◌≢◌, ◌⊎◌, suc, zero, if◌then◌else�
 use Rattle.sat_words.specs.declared.shared.Stop.{Stop}
 use Rattle.std.specs.List.{range_with_len}
 use Rattle.std.proofs.lemmas.List.Elements.{filter-append}
+use Rattle.std.proofs.Math.Nat.{mul-le-mul_left}
 use Rattle.ring_port.specs.PortState.{PortState}
 use Rattle.ring_port.specs.Exchange.{other_rings}
 use Rattle.ring_port.proofs.Beginnings.{range_more}
@@ -50,6 +51,10 @@ below_most ring n (suc k) =
 pub below_rings : (ring n rings : ℕ) → n ≤ rings → length (others_below ring n) ≤ length (others_below ring rings)
 below_rings ring n rings le = subst (λ (m : ℕ). length (others_below ring n) ≤ length (others_below ring m)) (let e : n + (rings - n) ≡ rings = omega arith in e) (below_most ring n (rings - n))
 
+-- a number once more
+pub one_more_time : (n k m : ℕ) → m ≡ k + 1 → n * m ≡ n * k + n
+one_more_time n k m is = ap (λ (j : ℕ). n * j) is ∙ (let e : n * (k + 1) ≡ n * k + n = omega arith in e)
+
 -- the ring's place is that of the port
 abbrev pub place_at : ℕ → ℕ → Place
 place_at ring rings = record { ring = ring; rings = rings }
@@ -57,23 +62,27 @@ place_at ring rings = record { ring = ring; rings = rings }
 pub place_moved : (p : Place) (s u : PortState) → u.ring ≡ s.ring → u.rings ≡ s.rings → p ≡ record { ring = s.ring; rings = s.rings } → p ≡ record { ring = u.ring; rings = u.rings }
 place_moved p s u ring rings is = is ∙ ap (λ (n : ℕ). place_at n s.rings) (sym ring) ∙ ap (place_at u.ring) (sym rings)
 
+-- as many polls are due at a port of the same ring among as many rings, with as many slots
+pub polls_moved : (s u : PortState) (k : ℕ) → u.ring ≡ s.ring → u.rings ≡ s.rings → u.depth ≡ s.depth → polls_of u k ≡ polls_of s k
+polls_moved s u k ring rings depth =
+    ap (λ (n : ℕ). min (4 * u.depth * (n * k)) (2 ^ 64 - 1)) (others_same s u ring rings)
+    ∙ ap (λ (d : ℕ). min (4 * d * (length (other_rings s) * k)) (2 ^ 64 - 1)) depth
+
 -- one import more
-spread : (n k : ℕ) → 4 * (n * (k + 1)) ≡ 4 * (n * k) + 4 * n
-spread n k = omega arith
+spread : (m n k : ℕ) → m * (n * (k + 1)) ≡ m * (n * k) + m * n
+spread m n k = omega arith
 
-pub imported : (s u : PortState) (k : ℕ) → u.ring ≡ s.ring → u.rings ≡ s.rings → s.polled ≡ polls_of s k → u.polled ≡ min (s.polled + 4 * length (other_rings s)) (2 ^ 64 - 1) → u.polled ≡ polls_of u (k + 1)
-imported s u k ring rings before after =
-    let same = others_same s u ring rings in
-    let n : ℕ = length (other_rings s) in
-    let more = spread n k in
-    subst (λ (m : ℕ). u.polled ≡ min (4 * (m * (k + 1))) (2 ^ 64 - 1)) (sym same) (omega (arith, before, after, more))
+pub imported : (s u : PortState) (k : ℕ) → u.ring ≡ s.ring → u.rings ≡ s.rings → u.depth ≡ s.depth → s.polled ≡ polls_of s k → u.polled ≡ min (s.polled + 4 * s.depth * length (other_rings s)) (2 ^ 64 - 1) → u.polled ≡ polls_of u (k + 1)
+imported s u k ring rings depth before after =
+    let more = spread (4 * s.depth) (length (other_rings s)) k in
+    let here : u.polled ≡ polls_of s (k + 1) = omega (arith, before, after, more) in
+    here ∙ sym (polls_moved s u (k + 1) ring rings depth)
 
-pub imported_most : (s u : PortState) (k : ℕ) → u.ring ≡ s.ring → u.rings ≡ s.rings → s.polled ≡ polls_of s k → u.polled ≤ min (s.polled + 4 * length (other_rings s)) (2 ^ 64 - 1) → u.polled ≤ polls_of u (k + 1)
-imported_most s u k ring rings before after =
-    let same = others_same s u ring rings in
-    let n : ℕ = length (other_rings s) in
-    let more = spread n k in
-    subst (λ (m : ℕ). u.polled ≤ min (4 * (m * (k + 1))) (2 ^ 64 - 1)) (sym same) (omega (arith, before, after, more))
+pub imported_most : (s u : PortState) (k : ℕ) → u.ring ≡ s.ring → u.rings ≡ s.rings → u.depth ≡ s.depth → s.polled ≡ polls_of s k → u.polled ≤ min (s.polled + 4 * s.depth * length (other_rings s)) (2 ^ 64 - 1) → u.polled ≤ polls_of u (k + 1)
+imported_most s u k ring rings depth before after =
+    let more = spread (4 * s.depth) (length (other_rings s)) k in
+    let here : u.polled ≤ polls_of s (k + 1) = omega (arith, before, after, more) in
+    subst (λ (m : ℕ). u.polled ≤ m) (sym (polls_moved s u (k + 1) ring rings depth)) here
 
 -- nothing was polled by this ring of these rings
 pub record SamePolls (s u : PortState) : Type 0 where
@@ -82,23 +91,24 @@ pub record SamePolls (s u : PortState) : Type 0 where
   pub caught_up : min s.caught_up (2 ^ 64 - 1) ≤ u.caught_up
   pub ring : u.ring ≡ s.ring
   pub rings : u.rings ≡ s.rings
+  pub depth : u.depth ≡ s.depth
 
 pub same_nothing : (s u : PortState) → OffersNothing s u → SamePolls s u
-same_nothing s u p = record { polled = p.polled; polls = p.polls; caught_up = p.caught_up; ring = p.ring; rings = p.rings }
+same_nothing s u p = record { polled = p.polled; polls = p.polls; caught_up = p.caught_up; ring = p.ring; rings = p.rings; depth = p.depth }
 
 pub same_then : (s u w : PortState) → SamePolls s u → SamePolls u w → SamePolls s w
-same_then s u w p q = record { polled = q.polled ∙ p.polled; polls = q.polls ∙ p.polls; caught_up = omega (arith, p.caught_up, q.caught_up); ring = q.ring ∙ p.ring; rings = q.rings ∙ p.rings }
+same_then s u w p q = record { polled = q.polled ∙ p.polled; polls = q.polls ∙ p.polls; caught_up = omega (arith, p.caught_up, q.caught_up); ring = q.ring ∙ p.ring; rings = q.rings ∙ p.rings; depth = q.depth ∙ p.depth }
 
 pub same_learned : (s u : PortState) (lits : List Literal) (glue : ℕ) (address : Option Cref) → Learned s u lits glue (Ok address) → SamePolls s u
-same_learned s u lits glue (Some c) w = record { polled = ap (λ (x : PortState). x.polled) w.state; polls = ap (λ (x : PortState). x.polls) w.state; caught_up = (let same = ap (λ (x : PortState). x.caught_up) w.state in omega (arith, same)); ring = ap (λ (x : PortState). x.ring) w.state; rings = ap (λ (x : PortState). x.rings) w.state }
-same_learned s u lits glue None w = record { polled = ap (λ (x : PortState). x.polled) w.wrote.state; polls = ap (λ (x : PortState). x.polls) w.wrote.state; caught_up = omega (arith, w.wrote.looked); ring = ap (λ (x : PortState). x.ring) w.wrote.state; rings = ap (λ (x : PortState). x.rings) w.wrote.state }
+same_learned s u lits glue (Some c) w = record { polled = ap (λ (x : PortState). x.polled) w.state; polls = ap (λ (x : PortState). x.polls) w.state; caught_up = (let same = ap (λ (x : PortState). x.caught_up) w.state in omega (arith, same)); ring = ap (λ (x : PortState). x.ring) w.state; rings = ap (λ (x : PortState). x.rings) w.state; depth = ap (λ (x : PortState). x.depth) w.state }
+same_learned s u lits glue None w = record { polled = ap (λ (x : PortState). x.polled) w.wrote.state; polls = ap (λ (x : PortState). x.polls) w.wrote.state; caught_up = omega (arith, w.wrote.looked); ring = ap (λ (x : PortState). x.ring) w.wrote.state; rings = ap (λ (x : PortState). x.rings) w.wrote.state; depth = ap (λ (x : PortState). x.depth) w.wrote.state }
 
 pub same_lent : (s u : PortState) → OnlyLent s u → SamePolls s u
-same_lent s u p = record { polled = ap (λ (x : PortState). x.polled) p.state; polls = ap (λ (x : PortState). x.polls) p.state; caught_up = (let same = ap (λ (x : PortState). x.caught_up) p.state in omega (arith, same)); ring = ap (λ (x : PortState). x.ring) p.state; rings = ap (λ (x : PortState). x.rings) p.state }
+same_lent s u p = record { polled = ap (λ (x : PortState). x.polled) p.state; polls = ap (λ (x : PortState). x.polls) p.state; caught_up = (let same = ap (λ (x : PortState). x.caught_up) p.state in omega (arith, same)); ring = ap (λ (x : PortState). x.ring) p.state; rings = ap (λ (x : PortState). x.rings) p.state; depth = ap (λ (x : PortState). x.depth) p.state }
 
 -- the counts are those of a port that has not polled since
 pub polls_as : (s u : PortState) (k : ℕ) → SamePolls s u → s.polled ≡ polls_of s k → u.polled ≡ polls_of u k
-polls_as s u k p is = p.polled ∙ is ∙ ap (λ (n : ℕ). min (4 * (n * k)) (2 ^ 64 - 1)) (sym (others_same s u p.ring p.rings))
+polls_as s u k p is = p.polled ∙ is ∙ sym (polls_moved s u k p.ring p.rings p.depth)
 
 pub polls_same : (s u : PortState) (k : ℕ) → OffersNothing s u → s.polled ≡ polls_of s k → u.polled ≡ polls_of u k
 polls_same s u k p is = polls_as s u k (same_nothing s u p) is
@@ -106,9 +116,8 @@ polls_same s u k p is = polls_as s u k (same_nothing s u p) is
 pub at_most_polls : (s : PortState) (k m : ℕ) → k ≤ m → s.polled ≡ polls_of s k → s.polled ≤ polls_of s m
 at_most_polls s k m le is =
     let n : ℕ = length (other_rings s) in
-    let parts : n * (k + (m - k)) ≡ n * k + n * (m - k) = omega arith in
-    let whole : n * m ≡ n * k + n * (m - k) = ap (λ (j : ℕ). n * j) (let e : m ≡ k + (m - k) = omega arith in e) ∙ parts in
-    omega (arith, is, whole)
+    let most : 4 * s.depth * (n * k) ≤ 4 * s.depth * (n * m) = mul-le-mul_left (4 * s.depth) (mul-le-mul_left n le) in
+    omega (arith, is, most)
 
 imports_bound : (made : ℕ) (b : Bool) → (if b then made else made + 1) ≤ made + 1
 imports_bound made true = omega arith
@@ -147,17 +156,14 @@ polling_begin s ring none place import_due made level = record {
     imports = ap (λ (b : Bool). if b then ring.restarts.made else ring.restarts.made + 1) import_due ∙ made
 
     polls_zero : polls_of s 0 ≡ 0
-    polls_zero = (let none : length (other_rings s) * 0 ≡ 0 = omega arith in omega (arith, none))
+    polls_zero = (let none : 4 * s.depth * (length (other_rings s) * 0) ≡ 0 = omega arith in omega (arith, none))
 
 -- if the stop of an end is set
 pub polled_stopped : (s u : PortState) (made : ℕ) (end result : End) → OffersNothing s u → (result ≡ end) ⊎ ((x : Stop) × (result ≡ Stopped x)) → HasPolled s made end → HasPolled u made result
 polled_stopped s u made end result nothing (inl is) p = subst (HasPolled u made) (sym is) (by end p)
   where
-    n : ℕ
-    n = length (other_rings s)
-
     same : polls_of u (1 + made) ≡ polls_of s (1 + made)
-    same = ap (λ (k : ℕ). min (4 * (k * (1 + made))) (2 ^ 64 - 1)) (others_same s u nothing.ring nothing.rings)
+    same = polls_moved s u (1 + made) nothing.ring nothing.rings nothing.depth
 
     by : (x : End) → HasPolled s made x → HasPolled u made x
     by (Sat a) q = nothing.polled ∙ q ∙ sym same
@@ -170,7 +176,7 @@ polled_stopped s u made end result nothing (inl is) p = subst (HasPolled u made)
 polled_stopped s u made end result nothing (inr (x, is)) p = subst (HasPolled u made) (sym is) (omega (arith, nothing.polled, by end p, same))
   where
     same : polls_of u (1 + made) ≡ polls_of s (1 + made)
-    same = ap (λ (k : ℕ). min (4 * (k * (1 + made))) (2 ^ 64 - 1)) (others_same s u nothing.ring nothing.rings)
+    same = polls_moved s u (1 + made) nothing.ring nothing.rings nothing.depth
 
     by : (x : End) → HasPolled s made x → s.polled ≤ polls_of s (1 + made)
     by (Sat a) q = omega (arith, q)

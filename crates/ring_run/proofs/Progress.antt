@@ -50,6 +50,7 @@ stays_by s u w p q = record {
   vars = q.vars ∙ p.vars;
   ring = q.ring ∙ p.ring;
   rings = q.rings ∙ p.rings;
+  depth = q.depth ∙ p.depth;
   polled = omega (arith, q.polled, p.polled);
   home = q.home ∙ p.home;
   log = λ o h. q.log o (p.log o h);
@@ -179,6 +180,7 @@ stays_unit s u l kind last w log = record {
   vars = ap (λ (x : PortState). x.vars) w.state;
   ring = ap (λ (x : PortState). x.ring) w.state;
   rings = ap (λ (x : PortState). x.rings) w.state;
+  depth = ap (λ (x : PortState). x.depth) w.state;
   polled = omega (arith, ap (λ (x : PortState). x.polled) w.state);
   home = ap (λ (x : PortState). x.home) w.state;
   log = log;
@@ -245,6 +247,7 @@ pub record Unchanged (s u : PortState) : Type 0 where
   pub vars : u.vars ≡ s.vars
   pub ring : u.ring ≡ s.ring
   pub rings : u.rings ≡ s.rings
+  pub depth : u.depth ≡ s.depth
   pub waiting : u.waiting ≡ s.waiting
   pub shared : u.shared ≡ s.shared
   pub polled : u.polled ≡ s.polled
@@ -268,6 +271,7 @@ but_noted s refused ended output = record {
   vars = refl;
   ring = refl;
   rings = refl;
+  depth = refl;
   waiting = refl;
   shared = refl;
   polled = refl;
@@ -326,6 +330,7 @@ stays_same s u p log = record {
   vars = p.vars;
   ring = p.ring;
   rings = p.rings;
+  depth = p.depth;
   polled = omega (arith, p.polled);
   home = p.home;
   log = log;
@@ -377,6 +382,7 @@ stays_learned s u lits glue c w log = record {
   vars = ap (λ (x : PortState). x.vars) w.state;
   ring = ap (λ (x : PortState). x.ring) w.state;
   rings = ap (λ (x : PortState). x.rings) w.state;
+  depth = ap (λ (x : PortState). x.depth) w.state;
   polled = omega (arith, ap (λ (x : PortState). x.polled) w.state);
   home = ap (λ (x : PortState). x.home) w.state;
   log = log;
@@ -481,6 +487,7 @@ empty_refutes start s u n limit below p w log port =
       vars = ap (λ (x : PortState). x.vars) w.state;
       ring = ap (λ (x : PortState). x.ring) w.state;
       rings = ap (λ (x : PortState). x.rings) w.state;
+      depth = ap (λ (x : PortState). x.depth) w.state;
       polled = omega (arith, ap (λ (x : PortState). x.polled) w.state);
       home = ap (λ (x : PortState). x.home) w.state;
       log = log;
@@ -512,7 +519,7 @@ wrote_none s = record {
   recent = refl;
   reduced = refl;
   grown = grown_none s s refl;
-  stays = record { start = refl; opening = refl; vars = refl; ring = refl; rings = refl; polled = omega arith; home = refl; log = λ o h. h };
+  stays = record { start = refl; opening = refl; vars = refl; ring = refl; rings = refl; depth = refl; polled = omega arith; home = refl; log = λ o h. h };
   taken = refl;
   held = refl;
   own = λ cs p. p;
@@ -561,6 +568,7 @@ counted_wrote s u k n is log = record {
     vars = ap (λ (x : PortState). x.vars) is;
     ring = ap (λ (x : PortState). x.ring) is;
     rings = ap (λ (x : PortState). x.rings) is;
+    depth = ap (λ (x : PortState). x.depth) is;
     polled = omega (arith, ap (λ (x : PortState). x.polled) is);
     home = ap (λ (x : PortState). x.home) is;
     log = log;
@@ -601,6 +609,7 @@ runs_stopped start s u n stop p is log port =
       vars = ap (λ (x : PortState). x.vars) is;
       ring = ap (λ (x : PortState). x.ring) is;
       rings = ap (λ (x : PortState). x.rings) is;
+      depth = ap (λ (x : PortState). x.depth) is;
       polled = omega (arith, ap (λ (x : PortState). x.polled) is);
       home = ap (λ (x : PortState). x.home) is;
       log = log;

@@ -91,6 +91,7 @@ module _ (s u : PortState) (w : NotedReduce s u) where
     vars = ap (λ (x : PortState). x.vars) w.state;
     ring = ap (λ (x : PortState). x.ring) w.state;
     rings = ap (λ (x : PortState). x.rings) w.state;
+    depth = ap (λ (x : PortState). x.depth) w.state;
     polled = omega (arith, ap (λ (x : PortState). x.polled) w.state);
     home = ap (λ (x : PortState). x.home) w.state;
     log = log;
@@ -153,6 +154,7 @@ module _ (s u : PortState) (w : NotedReduce s u) where
     caught_up = (let same = ap (λ (x : PortState). x.caught_up) w.state in omega (arith, same));
     ring = ap (λ (x : PortState). x.ring) w.state;
     rings = ap (λ (x : PortState). x.rings) w.state;
+    depth = ap (λ (x : PortState). x.depth) w.state;
     lemmas = ap (λ (x : PortState). learned x.ring x.mine) w.state
         ∙ ap (λ (xs : List Addition). map (λ (x : Addition). x.lits) (filter (λ (x : Addition). (x.ring == s.ring) && is_learn x.kind) xs)) (same_additions s.ring s.mine);
   }
@@ -213,6 +215,7 @@ module _ (s u : PortState) (dropped lemmas : List Cref) (gone : DroppedAll s u d
     vars = ap (λ (x : PortState). x.vars) gone.state;
     ring = ap (λ (x : PortState). x.ring) gone.state;
     rings = ap (λ (x : PortState). x.rings) gone.state;
+    depth = ap (λ (x : PortState). x.depth) gone.state;
     polled = omega (arith, ap (λ (x : PortState). x.polled) gone.state);
     home = ap (λ (x : PortState). x.home) gone.state;
     log = log;
@@ -295,6 +298,7 @@ dropped_nothing s u dropped gone = record {
   caught_up = (let same = ap (λ (x : PortState). x.caught_up) gone.state in omega (arith, same));
   ring = ap (λ (x : PortState). x.ring) gone.state;
   rings = ap (λ (x : PortState). x.rings) gone.state;
+  depth = ap (λ (x : PortState). x.depth) gone.state;
   lemmas = ap (λ (x : PortState). learned x.ring x.mine) gone.state;
 }
 

@@ -8,7 +8,7 @@ use Rattle.std.proofs.lemmas.Grind.{flat_map-append}
 use Rattle.sat_words.specs.declared.shared.Stop.{Stop}
 use Rattle.ring_port.specs.PortState.{PortState, Slot, one_more}
 use Rattle.ring_port.proofs.Beginnings.{range_more}
-use Rattle.ring_run.specs.Ended.{slots_of, import_slots, rounds, LookedAlong, HasImported, ImportsBy, IsTidy, IsHalted}
+use Rattle.ring_run.specs.Ended.{places_of, slots_of, import_slots, rounds, LookedAlong, HasImported, ImportsBy, IsTidy, IsHalted}
 use Rattle.ring_run.specs.Searching.{OffersNothing}
 use Rattle.ring_run.specs.Course.{imports_of, HasImportedBy, HasTidied}
 use Rattle.ring_run.specs.declared.course.Next.{Next}
@@ -56,70 +56,98 @@ pub looked_then : (s m u : PortState) (done xs slots : List Slot) → m.polls �
 looked_then s m u done xs slots is after parts =
     after ∙ ap (λ (ws : List Slot). ws ++ xs) is ∙ append_assoc s.polls done xs ∙ ap (λ (ws : List Slot). s.polls ++ ws) (sym parts)
 
+-- a list that grows from number to number begins with what it was at each lesser one
+ahead : (below : ℕ → List Slot) (next : ℕ → List Slot) → ((n : ℕ) → below (n + 1) ≡ below n ++ next n) → (n k : ℕ) → IsFront (below n) (below (n + k))
+ahead below next more n zero = ([], append-nil (below n) ∙ ap below (let e : n ≡ n + zero = omega arith in e))
+ahead below next more n (suc k) =
+    front_then (below n) (below (n + k)) (below (n + suc k)) (ahead below next more n k)
+    (next (n + k), sym (more (n + k)) ∙ ap below (let e : (n + k) + 1 ≡ n + suc k = omega arith in e))
+
+front_below : (below : ℕ → List Slot) (next : ℕ → List Slot) → ((n : ℕ) → below (n + 1) ≡ below n ++ next n) → (n all : ℕ) → n ≤ all → IsFront (below n) (below all)
+front_below below next more n all le =
+    front_as (below n) (below (n + (all - n))) (below all) (ap below (let e : n + (all - n) ≡ all = omega (arith, le) in e)) (ahead below next more n (all - n))
+
+-- Place by place
+
+abbrev pub slot : (ring class place : ℕ) → Slot
+slot ring class place = record { ring = ring; class = class; place = place }
+
+-- the slots of the places below a number
+abbrev pub places_below : (ring class n : ℕ) → List Slot
+places_below ring class n = places_of n ring class
+
+pub place_more : (ring class n : ℕ) → places_below ring class (n + 1) ≡ places_below ring class n ++ slot ring class n ∷ []
+place_more ring class n = map-range_with_len_more (slot ring class) 0 n n (omega arith)
+
+pub places_front : (depth ring class n : ℕ) → n ≤ depth → IsFront (places_below ring class n) (places_of depth ring class)
+places_front depth ring class n le = front_below (places_below ring class) (λ p. slot ring class p ∷ []) (place_more ring class) n depth le
+
+-- the slot at a place stands next
+pub place_front : (depth ring class n : ℕ) → n < depth → IsFront (places_below ring class n ++ slot ring class n ∷ []) (places_of depth ring class)
+place_front depth ring class n lt = subst (λ (xs : List Slot). IsFront xs (places_of depth ring class)) (place_more ring class n) (places_front depth ring class (n + 1) (omega (arith, lt)))
+
+pub places_all : (depth ring class n : ℕ) → n ≡ depth → places_below ring class n ≡ places_of depth ring class
+places_all depth ring class n is = ap (places_below ring class) is
+
 -- Class by class
 
-abbrev pub slot : (ring class : ℕ) → Slot
-slot ring class = record { ring = ring; class = class }
-
 -- the slots of the classes below a number
-abbrev pub classes_below : (ring n : ℕ) → List Slot
-classes_below ring n = map (slot ring) (range_with_len 0 n)
+abbrev pub classes_below : (depth ring n : ℕ) → List Slot
+classes_below depth ring n = flat_map (places_of depth ring) (range_with_len 0 n)
 
-pub class_more : (ring n : ℕ) → classes_below ring (n + 1) ≡ classes_below ring n ++ slot ring n ∷ []
-class_more ring n = map-range_with_len_more (slot ring) 0 n n (omega arith)
+pub class_more : (depth ring n : ℕ) → classes_below depth ring (n + 1) ≡ classes_below depth ring n ++ places_of depth ring n
+class_more depth ring n =
+    ap (flat_map (places_of depth ring)) (sym (range_more n)) ∙ flat_map-append (places_of depth ring) (range_with_len 0 n) (n ∷ [])
+    ∙ ap (λ (xs : List Slot). classes_below depth ring n ++ xs) (append-nil (places_of depth ring n))
 
-class_ahead : (ring n k : ℕ) → IsFront (classes_below ring n) (classes_below ring (n + k))
-class_ahead ring n zero = ([], append-nil (classes_below ring n) ∙ ap (classes_below ring) (let e : n ≡ n + zero = omega arith in e))
-class_ahead ring n (suc k) =
-    front_then (classes_below ring n) (classes_below ring (n + k)) (classes_below ring (n + suc k)) (class_ahead ring n k)
-    (slot ring (n + k) ∷ [], sym (class_more ring (n + k)) ∙ ap (classes_below ring) (let e : (n + k) + 1 ≡ n + suc k = omega arith in e))
+pub classes_front : (depth ring n : ℕ) → n ≤ 4 → IsFront (classes_below depth ring n) (slots_of depth ring)
+classes_front depth ring n le = front_below (classes_below depth ring) (places_of depth ring) (class_more depth ring) n 4 le
 
-pub classes_front : (ring n : ℕ) → n ≤ 4 → IsFront (classes_below ring n) (slots_of ring)
-classes_front ring n le = front_as (classes_below ring n) (classes_below ring (n + (4 - n))) (slots_of ring) (ap (classes_below ring) (let e : n + (4 - n) ≡ 4 = omega (arith, le) in e)) (class_ahead ring n (4 - n))
+-- the slots of a class stand next
+pub class_front : (depth ring n : ℕ) → n < 4 → IsFront (classes_below depth ring n ++ places_of depth ring n) (slots_of depth ring)
+class_front depth ring n lt = subst (λ (xs : List Slot). IsFront xs (slots_of depth ring)) (class_more depth ring n) (classes_front depth ring (n + 1) (omega (arith, lt)))
 
--- the slot of a class stands next
-pub class_front : (ring n : ℕ) → n < 4 → IsFront (classes_below ring n ++ slot ring n ∷ []) (slots_of ring)
-class_front ring n lt = subst (λ (xs : List Slot). IsFront xs (slots_of ring)) (class_more ring n) (classes_front ring (n + 1) (omega (arith, lt)))
-
-pub classes_all : (ring n : ℕ) → n ≡ 4 → classes_below ring n ≡ slots_of ring
-classes_all ring n is = ap (classes_below ring) is
+pub classes_all : (depth ring n : ℕ) → n ≡ 4 → classes_below depth ring n ≡ slots_of depth ring
+classes_all depth ring n is = ap (classes_below depth ring) is
 
 -- Ring by ring
 
 -- the slots of the other rings below a number
-abbrev pub round_below : (ring n : ℕ) → List Slot
-round_below ring n = flat_map slots_of (others_below ring n)
+abbrev pub round_below : (depth ring n : ℕ) → List Slot
+round_below depth ring n = flat_map (slots_of depth) (others_below ring n)
 
-round_more : (ring n : ℕ) → round_below ring (n + 1) ≡ round_below ring n ++ flat_map slots_of (cond (not (n == ring)) (n ∷ []) [])
-round_more ring n =
+-- the slots of a ring, unless it is the ring itself
+abbrev slots_if_other : (depth ring n : ℕ) → List Slot
+slots_if_other depth ring n = flat_map (slots_of depth) (cond (not (n == ring)) (n ∷ []) [])
+
+round_more : (depth ring n : ℕ) → round_below depth ring (n + 1) ≡ round_below depth ring n ++ slots_if_other depth ring n
+round_more depth ring n =
     let p : ℕ → Bool = λ r. not (r == ring) in
-    ap (λ (ns : List ℕ). flat_map slots_of (filter p ns)) (sym (range_more n)) ∙ ap (flat_map slots_of) (filter-append p (range_with_len 0 n) (n ∷ [])) ∙ flat_map-append slots_of (filter p (range_with_len 0 n)) (filter p (n ∷ []))
+    ap (λ (ns : List ℕ). flat_map (slots_of depth) (filter p ns)) (sym (range_more n)) ∙ ap (flat_map (slots_of depth)) (filter-append p (range_with_len 0 n) (n ∷ []))
+    ∙ flat_map-append (slots_of depth) (filter p (range_with_len 0 n)) (filter p (n ∷ []))
 
-pub round_other : (ring n : ℕ) → n ≢ ring → round_below ring (n + 1) ≡ round_below ring n ++ slots_of n
-round_other ring n other = round_more ring n ∙ ap (λ (b : Bool). round_below ring n ++ flat_map slots_of (cond (not b) (n ∷ []) [])) (ne_eqb n ring other)
+pub round_other : (depth ring n : ℕ) → n ≢ ring → round_below depth ring (n + 1) ≡ round_below depth ring n ++ slots_of depth n
+round_other depth ring n other =
+    round_more depth ring n ∙ ap (λ (b : Bool). round_below depth ring n ++ flat_map (slots_of depth) (cond (not b) (n ∷ []) [])) (ne_eqb n ring other)
+    ∙ ap (λ (xs : List Slot). round_below depth ring n ++ xs) (append-nil (slots_of depth n))
 
-pub round_own : (ring n : ℕ) → n ≡ ring → round_below ring (n + 1) ≡ round_below ring n
-round_own ring n is = round_more ring n ∙ ap (λ (b : Bool). round_below ring n ++ flat_map slots_of (cond (not b) (n ∷ []) [])) (eq-eqb n ring is) ∙ append-nil (round_below ring n)
+pub round_own : (depth ring n : ℕ) → n ≡ ring → round_below depth ring (n + 1) ≡ round_below depth ring n
+round_own depth ring n is =
+    round_more depth ring n ∙ ap (λ (b : Bool). round_below depth ring n ++ flat_map (slots_of depth) (cond (not b) (n ∷ []) [])) (eq-eqb n ring is) ∙ append-nil (round_below depth ring n)
 
-round_ahead : (ring n k : ℕ) → IsFront (round_below ring n) (round_below ring (n + k))
-round_ahead ring n zero = ([], append-nil (round_below ring n) ∙ ap (round_below ring) (let e : n ≡ n + zero = omega arith in e))
-round_ahead ring n (suc k) =
-    front_then (round_below ring n) (round_below ring (n + k)) (round_below ring (n + suc k)) (round_ahead ring n k)
-    (flat_map slots_of (cond (not ((n + k) == ring)) ((n + k) ∷ []) []), sym (round_more ring (n + k)) ∙ ap (round_below ring) (let e : (n + k) + 1 ≡ n + suc k = omega arith in e))
-
-pub round_front : (ring n rings : ℕ) → n ≤ rings → IsFront (round_below ring n) (round_below ring rings)
-round_front ring n rings le =
-    front_as (round_below ring n) (round_below ring (n + (rings - n))) (round_below ring rings) (ap (round_below ring) (let e : n + (rings - n) ≡ rings = omega (arith, le) in e)) (round_ahead ring n (rings - n))
+pub round_front : (depth ring n rings : ℕ) → n ≤ rings → IsFront (round_below depth ring n) (round_below depth ring rings)
+round_front depth ring n rings le = front_below (round_below depth ring) (slots_if_other depth ring) (round_more depth ring) n rings le
 
 -- the slots of another ring stand next
-pub ring_front : (ring n rings : ℕ) → n ≢ ring → n < rings → IsFront (round_below ring n ++ slots_of n) (round_below ring rings)
-ring_front ring n rings other lt = subst (λ (xs : List Slot). IsFront xs (round_below ring rings)) (round_other ring n other) (round_front ring (n + 1) rings (omega (arith, lt)))
+pub ring_front : (depth ring n rings : ℕ) → n ≢ ring → n < rings → IsFront (round_below depth ring n ++ slots_of depth n) (round_below depth ring rings)
+ring_front depth ring n rings other lt =
+    subst (λ (xs : List Slot). IsFront xs (round_below depth ring rings)) (round_other depth ring n other) (round_front depth ring (n + 1) rings (omega (arith, lt)))
 
 -- Import by import
 
-pub slots_same : (s u : PortState) → u.ring ≡ s.ring → u.rings ≡ s.rings → import_slots u ≡ import_slots s
-slots_same s u ring rings =
-    ap (λ (r : ℕ). round_below r u.rings) ring ∙ ap (round_below s.ring) rings
+pub slots_same : (s u : PortState) → u.ring ≡ s.ring → u.rings ≡ s.rings → u.depth ≡ s.depth → import_slots u ≡ import_slots s
+slots_same s u ring rings depth =
+    ap (λ (r : ℕ). round_below u.depth r u.rings) ring ∙ ap (round_below u.depth s.ring) rings ∙ ap (λ (d : ℕ). round_below d s.ring s.rings) depth
 
 rounds_next : (m n : ℕ) (xs : List Slot) → m ≡ suc n → rounds m xs ≡ rounds n xs ++ xs
 unfolding rounds
@@ -148,7 +176,7 @@ imports_none s u is = subst (λ (x : PortState). HasImported s x 0) (sym is) (re
 -- a ring that has imported nothing since
 pub imports_as : (start s u : PortState) (n : ℕ) → SamePolls s u → HasImported start s n → HasImported start u n
 imports_as start s u n p h = record {
-  polls = p.polls ∙ h.polls ∙ ap (λ (xs : List Slot). start.polls ++ rounds n xs) (sym (slots_same s u p.ring p.rings));
+  polls = p.polls ∙ h.polls ∙ ap (λ (xs : List Slot). start.polls ++ rounds n xs) (sym (slots_same s u p.ring p.rings p.depth));
   caught_up = omega (arith, h.caught_up, p.caught_up);
 }
 
@@ -159,18 +187,18 @@ pub imports_count : (start s : PortState) (n m : ℕ) → n ≡ m → HasImporte
 imports_count start s n m is h = subst (HasImported start s) is h
 
 -- one import more
-pub imports_more : (start s u : PortState) (n : ℕ) → u.ring ≡ s.ring → u.rings ≡ s.rings → HasImported start s n → u.polls ≡ s.polls ++ import_slots s → u.caught_up ≡ one_more s.caught_up → HasImported start u (n + 1)
-imports_more start s u n ring rings h looked caught_up = record {
+pub imports_more : (start s u : PortState) (n : ℕ) → u.ring ≡ s.ring → u.rings ≡ s.rings → u.depth ≡ s.depth → HasImported start s n → u.polls ≡ s.polls ++ import_slots s → u.caught_up ≡ one_more s.caught_up → HasImported start u (n + 1)
+imports_more start s u n ring rings depth h looked caught_up = record {
   polls = looked_then start s u (rounds n (import_slots s)) (import_slots s) (rounds (n + 1) (import_slots s)) h.polls looked (rounds_more n (import_slots s))
-      ∙ ap (λ (xs : List Slot). start.polls ++ rounds (n + 1) xs) (sym (slots_same s u ring rings));
+      ∙ ap (λ (xs : List Slot). start.polls ++ rounds (n + 1) xs) (sym (slots_same s u ring rings depth));
   caught_up = omega (arith, h.caught_up, caught_up);
 }
 
 -- or a part of it
-pub imports_part : (start s u : PortState) (n : ℕ) → u.ring ≡ s.ring → u.rings ≡ s.rings → HasImported start s n → LookedAlong s u (import_slots s) → LookedAlong start u (rounds (n + 1) (import_slots u))
-imports_part start s u n ring rings h along =
+pub imports_part : (start s u : PortState) (n : ℕ) → u.ring ≡ s.ring → u.rings ≡ s.rings → u.depth ≡ s.depth → HasImported start s n → LookedAlong s u (import_slots s) → LookedAlong start u (rounds (n + 1) (import_slots u))
+imports_part start s u n ring rings depth h along =
     let S = import_slots s in
-    subst (λ (xs : List Slot). LookedAlong start u (rounds (n + 1) xs)) (sym (slots_same s u ring rings))
+    subst (λ (xs : List Slot). LookedAlong start u (rounds (n + 1) xs)) (sym (slots_same s u ring rings depth))
     (along_then start s u (rounds n S) S (rounds (n + 1) S) h.polls along ([], append-nil (rounds n S ++ S) ∙ sym (rounds_more n S)))
 
 pub imports_along : (start s : PortState) (n m : ℕ) → n ≤ m → HasImported start s n → LookedAlong start s (rounds m (import_slots s))
@@ -240,7 +268,7 @@ along_stopped start s u n p d = record {
   looked = d.looked;
   left = d.left;
   polls = p.polls ∙ d.polls;
-  parts = d.parts ∙ ap (λ (xs : List Slot). rounds n xs) (sym (slots_same s u p.ring p.rings));
+  parts = d.parts ∙ ap (λ (xs : List Slot). rounds n xs) (sym (slots_same s u p.ring p.rings p.depth));
 }
 
 pub imports_stopped : (start s u : PortState) (made : ℕ) (end result : End) → OffersNothing s u → (result ≡ end) ⊎ ((x : Stop) × (result ≡ Stopped x)) → ImportsBy start s made end → ImportsBy start u made result

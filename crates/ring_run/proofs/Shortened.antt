@@ -43,6 +43,7 @@ pub record Behind (s u : PortState) (e : Entry) : Type 0 where
   pub vars : u.vars ≡ s.vars
   pub ring : u.ring ≡ s.ring
   pub rings : u.rings ≡ s.rings
+  pub depth : u.depth ≡ s.depth
   pub shared : u.shared ≡ s.shared
   pub polled : u.polled ≡ s.polled
   pub polls : u.polls ≡ s.polls
@@ -62,6 +63,7 @@ added_behind s m lits glue d w = record {
   vars = ap (λ (x : PortState). x.vars) w.state;
   ring = ap (λ (x : PortState). x.ring) w.state;
   rings = ap (λ (x : PortState). x.rings) w.state;
+  depth = ap (λ (x : PortState). x.depth) w.state;
   shared = ap (λ (x : PortState). x.shared) w.state;
   polled = ap (λ (x : PortState). x.polled) w.state;
   polls = ap (λ (x : PortState). x.polls) w.state;
@@ -82,6 +84,7 @@ unit_behind s m l last w = record {
   vars = ap (λ (x : PortState). x.vars) w.state;
   ring = ap (λ (x : PortState). x.ring) w.state;
   rings = ap (λ (x : PortState). x.rings) w.state;
+  depth = ap (λ (x : PortState). x.depth) w.state;
   shared = ap (λ (x : PortState). x.shared) w.state;
   polled = ap (λ (x : PortState). x.polled) w.state;
   polls = ap (λ (x : PortState). x.polls) w.state;
@@ -102,6 +105,7 @@ dropped_behind s m u e a b w = record {
   vars = ap (λ (x : PortState). x.vars) w.state ∙ b.vars;
   ring = ap (λ (x : PortState). x.ring) w.state ∙ b.ring;
   rings = ap (λ (x : PortState). x.rings) w.state ∙ b.rings;
+  depth = ap (λ (x : PortState). x.depth) w.state ∙ b.depth;
   shared = ap (λ (x : PortState). x.shared) w.state ∙ b.shared;
   polled = ap (λ (x : PortState). x.polled) w.state ∙ b.polled;
   polls = ap (λ (x : PortState). x.polls) w.state ∙ b.polls;
@@ -122,6 +126,7 @@ same_behind s m u e b q = record {
   vars = q.vars ∙ b.vars;
   ring = q.ring ∙ b.ring;
   rings = q.rings ∙ b.rings;
+  depth = q.depth ∙ b.depth;
   shared = q.shared ∙ b.shared;
   polled = q.polled ∙ b.polled;
   polls = q.polls ∙ b.polls;
@@ -142,6 +147,7 @@ behind_stays s u e b log = record {
   vars = b.vars;
   ring = b.ring;
   rings = b.rings;
+  depth = b.depth;
   polled = omega (arith, b.polled);
   home = b.home;
   log = log;
@@ -156,6 +162,7 @@ behind_nothing s u x b other = record {
   caught_up = b.caught_up;
   ring = b.ring;
   rings = b.rings;
+  depth = b.depth;
   lemmas = ap (λ (r : ℕ). learned r u.mine) b.ring ∙ ap (learned s.ring) b.mine ∙ learned-append s.ring s.mine (Rattle.rup_model.specs.declared.journal.Entry.TheVariants.Add x ∷ [])
       ∙ ap (λ (cs : List (List Literal)). learned s.ring s.mine ++ cs) (none_learned s.ring x other) ∙ append-nil (learned s.ring s.mine);
 }
@@ -307,6 +314,7 @@ module _ (s u : PortState) (v : WatchData) (steps : List TrailStep) (c : Cref) (
                 caught_up = omega (arith, same.caught_up);
                 ring = same.ring;
                 rings = same.rings;
+                depth = same.depth;
                 lemmas = ap (λ (q : ℕ). learned q u.mine) same.ring ∙ ap (learned m.ring) same.mine;
               }),
               same.looks ∙ ap (λ (x : PortState). x.looks) is,

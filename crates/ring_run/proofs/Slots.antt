@@ -32,8 +32,8 @@ slots_begin s ring = record {
 }
 
 -- a slot in which nothing was
-pub slots_none : (s u : PortState) (old new : Ring) (from class : ℕ) → u ≡ looked_into from class s → attached new.watches ≡ attached old.watches → new.imports.items ≡ old.imports.items → TookSlots s u old new (slot from class ∷ [])
-slots_none s u old new from class is same imports = record {
+pub slots_none : (s u : PortState) (old new : Ring) (from class place : ℕ) → u ≡ looked_into from class place s → attached new.watches ≡ attached old.watches → new.imports.items ≡ old.imports.items → TookSlots s u old new (slot from class place ∷ [])
+slots_none s u old new from class place is same imports = record {
   polls = ap (λ (x : PortState). x.polls) is;
   moments = ap (λ (x : PortState). x.polls_after) is;
   came = [];
@@ -45,8 +45,8 @@ slots_none s u old new from class is same imports = record {
 }
 
 -- and one in which a clause was, that is attached and listed
-pub slots_one : (s u : PortState) (old new : Ring) (from class : ℕ) (c : Cref) → TookClause s u from class c → attached new.watches ≡ attached old.watches ++ c ∷ [] → new.imports.items ≡ old.imports.items ++ c ∷ [] → TookSlots s u old new (slot from class ∷ [])
-slots_one s u old new from class c took more imports = record {
+pub slots_one : (s u : PortState) (old new : Ring) (from class place : ℕ) (c : Cref) → TookClause s u from class place c → attached new.watches ≡ attached old.watches ++ c ∷ [] → new.imports.items ≡ old.imports.items ++ c ∷ [] → TookSlots s u old new (slot from class place ∷ [])
+slots_one s u old new from class place c took more imports = record {
   polls = ap (λ (x : PortState). x.polls) took.state;
   moments = ap (λ (x : PortState). x.polls_after) took.state;
   came = took.clause ∷ [];
@@ -98,12 +98,12 @@ some_none s u slots is = record {
 }
 
 -- just one
-pub some_looked : (s u : PortState) (from class : ℕ) → u ≡ looked_into from class s → PolledSome s u (slot from class ∷ [])
-some_looked s u from class is = some_front s u (slot from class ∷ []) (slot from class ∷ []) (ap (λ (x : PortState). x.polls) is) (ap (λ (x : PortState). x.polls_after) is) ([], refl)
+pub some_looked : (s u : PortState) (from class place : ℕ) → u ≡ looked_into from class place s → PolledSome s u (slot from class place ∷ [])
+some_looked s u from class place is = some_front s u (slot from class place ∷ []) (slot from class place ∷ []) (ap (λ (x : PortState). x.polls) is) (ap (λ (x : PortState). x.polls_after) is) ([], refl)
 
-pub some_took : (s u w : PortState) (from class : ℕ) (c : Cref) → TookClause s u from class c → w ≡ u → PolledSome s w (slot from class ∷ [])
-some_took s u w from class c took same = subst (λ (x : PortState). PolledSome s x (slot from class ∷ [])) (sym same)
-    (some_front s u (slot from class ∷ []) (slot from class ∷ []) (ap (λ (x : PortState). x.polls) took.state) (ap (λ (x : PortState). x.polls_after) took.state) ([], refl))
+pub some_took : (s u w : PortState) (from class place : ℕ) (c : Cref) → TookClause s u from class place c → w ≡ u → PolledSome s w (slot from class place ∷ [])
+some_took s u w from class place c took same = subst (λ (x : PortState). PolledSome s x (slot from class place ∷ [])) (sym same)
+    (some_front s u (slot from class place ∷ []) (slot from class place ∷ []) (ap (λ (x : PortState). x.polls) took.state) (ap (λ (x : PortState). x.polls_after) took.state) ([], refl))
 
 -- those of a step, among more
 pub some_slots : (s u : PortState) (old new : Ring) (xs slots : List Slot) → TookSlots s u old new xs → IsFront xs slots → PolledSome s u slots

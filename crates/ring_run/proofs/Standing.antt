@@ -122,7 +122,7 @@ came_more came l k = list_any-append (same k) came (l ∷ []) ∙ ap (λ (b : Bo
 
 pub saw_begin : (s : PortState) → OnlySaw s s
 saw_begin s = record {
-  stays = record { start = refl; opening = refl; vars = refl; ring = refl; rings = refl; polled = omega arith; home = refl; log = λ o h. h };
+  stays = record { start = refl; opening = refl; vars = refl; ring = refl; rings = refl; depth = refl; polled = omega arith; home = refl; log = λ o h. h };
   shared = refl;
   polled = refl;
   polls = refl;
@@ -151,6 +151,7 @@ saw_more s u w l p took log =
         vars = ap (λ (x : PortState). x.vars) took.state ∙ p.stays.vars;
         ring = ap (λ (x : PortState). x.ring) took.state ∙ p.stays.ring;
         rings = ap (λ (x : PortState). x.rings) took.state ∙ p.stays.rings;
+        depth = ap (λ (x : PortState). x.depth) took.state ∙ p.stays.depth;
         polled = omega (arith, ap (λ (x : PortState). x.polled) took.state, p.stays.polled);
         home = ap (λ (x : PortState). x.home) took.state ∙ p.stays.home;
         log = λ o h. log o (p.stays.log o h);
@@ -183,6 +184,7 @@ saw_none s u w p took log = record {
     vars = ap (λ (x : PortState). x.vars) took.state ∙ p.stays.vars;
     ring = ap (λ (x : PortState). x.ring) took.state ∙ p.stays.ring;
     rings = ap (λ (x : PortState). x.rings) took.state ∙ p.stays.rings;
+    depth = ap (λ (x : PortState). x.depth) took.state ∙ p.stays.depth;
     polled = omega (arith, ap (λ (x : PortState). x.polled) took.state, p.stays.polled);
     home = ap (λ (x : PortState). x.home) took.state ∙ p.stays.home;
     log = λ o h. log o (p.stays.log o h);

@@ -24,7 +24,7 @@ use Rattle.ring_trail.proofs.Causes.{back-kept}
 use Rattle.watch_prop.specs.WatchData.{WatchData, attached}
 use Rattle.watch_prop.specs.Propagation.{IsQuiet}
 use Rattle.ring_run.specs.Ended.{searched, IsTold}
-use Rattle.ring_run.specs.Searching.{SeenTrue, Stands, AreFirst, AreTold, FixedSeen, IsAmong}
+use Rattle.ring_run.specs.Searching.{SeenTrue, Stands, AreFirst, AreTold, FixedSeen, SeesFixed, IsAmong}
 use Rattle.ring_run.specs.Course.{Searches, WentBack}
 use Rattle.ring_run.proofs.Remembering.{stands_there}
 
@@ -41,6 +41,10 @@ apart_signs false e = false≢true e
 -- if each literal at level 0 is one of those that are known
 pub fixed_seen : (s : PortState) (t : TrailData) (n : ℕ) → AreTold s t n → AreFirst t n → FixedSeen s t
 fixed_seen s t n told first p inside level = told.first p (first p inside level)
+
+-- and what is seen is true
+pub sees_fixed : (s : PortState) (t : TrailData) (n : ℕ) → AreTold s t n → AreFirst t n → SeenTrue s t.steps → SeesFixed s t
+sees_fixed s t n told first alone = record { each = fixed_seen s t n told first; alone = alone }
 
 -- what is true on the first steps stands at no place after them
 unseen_behind : (s : PortState) (steps : List TrailStep) (v : TrailData) (q : ℕ) → SeenTrue s steps → IsTrail v → length steps ≤ length v.steps → ((p : ℕ) → p < length steps → step_at v.steps p ≡ step_at steps p)

@@ -70,6 +70,7 @@ record Deleted (s u : PortState) (hs : List Holding) : Type 0 where
   pub vars : u.vars ≡ s.vars
   pub ring : u.ring ≡ s.ring
   pub rings : u.rings ≡ s.rings
+  pub depth : u.depth ≡ s.depth
   pub shared : u.shared ≡ s.shared
   pub polled : u.polled ≡ s.polled
   pub polls : u.polls ≡ s.polls
@@ -91,6 +92,7 @@ deleted_eta s waiting hs output = record {
   vars = refl;
   ring = refl;
   rings = refl;
+  depth = refl;
   shared = refl;
   polled = refl;
   polls = refl;
@@ -116,6 +118,7 @@ deleted_then s m u hs p q = record {
   vars = q.vars ∙ p.vars;
   ring = q.ring ∙ p.ring;
   rings = q.rings ∙ p.rings;
+  depth = q.depth ∙ p.depth;
   shared = q.shared ∙ p.shared;
   polled = q.polled ∙ p.polled;
   polls = q.polls ∙ p.polls;
@@ -146,6 +149,7 @@ module _ (s u : PortState) (hs : List Holding) (d : Deleted s u hs) (log : Keeps
     vars = d.vars;
     ring = d.ring;
     rings = d.rings;
+    depth = d.depth;
     polled = omega (arith, d.polled);
     home = d.home;
     log = log;
@@ -209,7 +213,7 @@ module _ (s u : PortState) (hs : List Holding) (d : Deleted s u hs) (log : Keeps
   }
 
   deleted_nothing : OffersNothing s u
-  deleted_nothing = record { shared = d.shared; polled = d.polled; polls = d.polls; polls_after = d.polls_after; caught_up = omega (arith, d.caught_up); ring = d.ring; rings = d.rings; lemmas = deleted_learned }
+  deleted_nothing = record { shared = d.shared; polled = d.polled; polls = d.polls; polls_after = d.polls_after; caught_up = omega (arith, d.caught_up); ring = d.ring; rings = d.rings; depth = d.depth; lemmas = deleted_learned }
 
 -- What a call that tidies leaves
 

@@ -11,7 +11,8 @@ use Rattle.rup_model.specs.Opening.{adds_unit}
 use Rattle.ring_port.specs.PortState.{PortState}
 use Rattle.ring_port.specs.Port.{WroteUnit, UnitWritten, entry_of}
 use Rattle.ring_port.specs.declared.stops.PortStop.{PortStop}
-use Rattle.ring_run.specs.Searching.{IsLineOfUnit, ToldUnits}
+use Rattle.ring_trail.specs.declared.step.TrailStep.{TrailStep}
+use Rattle.ring_run.specs.Searching.{IsLineOfUnit, ToldUnits, SeenTrue}
 use Rattle.ring_run.proofs.Remembering.{adds_append, adds_one}
 use Rattle.ring_run.specs.Ending.{HaltsTelling, end_refused}
 use Rattle.ring_run.specs.declared.job.End.{End}
@@ -79,10 +80,10 @@ units_then s m u p q = record {
 }
 
 -- the call was refused
-pub units_halted : (s u : PortState) (l : Literal) (r : Result (Unit {0}) PortStop) → UnitWritten s u l r → IfErr r (λ stop. HaltsTelling s u (end_refused stop))
-units_halted s u l (Ok done) w = tt
-units_halted s u l (Err stop) w = (s, units_none s, (stop, w, refl))
+pub units_halted : (s u : PortState) (l : Literal) (steps : List TrailStep) (r : Result (Unit {0}) PortStop) → SeenTrue s steps → UnitWritten s u l r → IfErr r (λ stop. HaltsTelling s u steps (end_refused stop))
+units_halted s u l steps (Ok done) alone w = tt
+units_halted s u l steps (Err stop) alone w = (s, units_none s, alone, (stop, w, refl))
 
 -- and so was one after lines that were written
-pub halted_then : (s m u : PortState) (end : End) → ToldUnits s m → HaltsTelling m u end → HaltsTelling s u end
-halted_then s m u end p q = (q.0, units_then s m q.0 p q.1, q.2)
+pub halted_then : (s m u : PortState) (steps : List TrailStep) (end : End) → ToldUnits s m → HaltsTelling m u steps end → HaltsTelling s u steps end
+halted_then s m u steps end p q = (q.0, units_then s m q.0 p q.1, q.2, q.3)

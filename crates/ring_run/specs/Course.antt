@@ -21,7 +21,7 @@ use Rattle.vivify.specs.Outcome.{glue_at}
 use Rattle.restart_plan.specs.Luby.{luby_sum}
 use Rattle.restart_plan.specs.Plan.{Restarting, luby_unit}
 use Rattle.ring_run.specs.Ended.{HasLooked, HasOffered, HasPolled, polls_of, HasImported, ImportsBy, IsTidy, IsInTime, last_looks, reductions}
-use Rattle.ring_run.specs.Searching.{HasClauses, Stands, OpeningSeen, AreTold, FixedSeen, GoesOn, IsAsserting, IsGlueOf, HasLent, HasTold}
+use Rattle.ring_run.specs.Searching.{HasClauses, Stands, OpeningSeen, AreTold, SeesFixed, GoesOn, IsAsserting, IsGlueOf, HasLent, HasTold}
 use Rattle.ring_run.specs.Strategy.{saved_above}
 use Rattle.ring_run.specs.Ending.{EndsBy, IsRefusal, EndsRefused, WroteEmpty, HaltsDeleting}
 use Rattle.ring_run.specs.declared.job.End.{End}
@@ -209,7 +209,7 @@ pub record HasDecided (old new : Ring) : Type 0 where
 -- after a look and the lines of units, of which none is missing, a literal was decided
 pub record DecidedNext (s u : PortState) (old new : Ring) : Type 0 where
   pub told : HasTold s u
-  pub seen : FixedSeen u old.trail
+  pub seen : SeesFixed u old.trail
   pub decided : HasDecided old new
 
 -- the search goes on, or a call was refused or the clauses refuted

@@ -1,6 +1,6 @@
 -- What a run of a ring says: what it asks of its port, what it wrote, and what each end says.
 use Rattle.std.specs.Prelude.{◌≡◌, ◌≢◌, ◌≤◌, ◌<◌, ◌⊎◌, ℕ, zero, suc, ◌+◌, ◌-◌, ◌*◌, ◌%◌, ◌^◌, ◌==◌, min, Bool, true, false, List, [], ◌∷◌, ◌++◌, map, filter, length, All, Contains, Option, Some, None, IfSome, nat_le, ◌&&◌, ⊤}
-use Rattle.std.specs.List.{list_any, flat_map}
+use Rattle.std.specs.List.{list_any, flat_map, range_with_len}
 use Rattle.sat_words.specs.Literal.{Literal}
 use Rattle.sat_words.specs.Clause.{has, is_empty}
 use Rattle.sat_words.specs.Truth.{lit_true, clause_true}
@@ -57,6 +57,7 @@ pub record Stays (old new : PortState) : Type 0 where
   pub vars : new.vars ≡ old.vars
   pub ring : new.ring ≡ old.ring
   pub rings : new.rings ≡ old.rings
+  pub depth : new.depth ≡ old.depth
   pub polled : min old.polled (2 ^ 64 - 1) ≤ new.polled
   pub home : new.home ≡ old.home
   pub log : KeepsLog old new
@@ -201,9 +202,9 @@ pub record HasOffered (s : PortState) (exported offered : ℕ) : Type 0 where
   pub few : exported ≤ length (filter is_long (learned s.ring s.mine))
   pub told : offered ≡ min s.shared (2 ^ 64 - 1)
 
--- this many polls, of four classes of each other ring this often, up to the last value of 64 bits
+-- this many polls, of each place of four classes of each other ring this often, up to the last value of 64 bits
 abbrev pub polls_of : PortState → ℕ → ℕ
-polls_of s imports = min (4 * (length (other_rings s) * imports)) (2 ^ 64 - 1)
+polls_of s imports = min (4 * s.depth * (length (other_rings s) * imports)) (2 ^ 64 - 1)
 
 -- the ring has neither found a model nor learned its limit of lemmas
 abbrev pub IsHalted : End → Type 0
@@ -218,13 +219,17 @@ HasPolled s restarts (Sat a) = s.polled ≡ polls_of s (1 + restarts)
 HasPolled s restarts Spent = s.polled ≡ polls_of s (1 + restarts)
 HasPolled s restarts _ = s.polled ≤ polls_of s (1 + restarts)
 
--- if a ring looks for clauses of another ring, in order: classes 0, 1, 2 and 3
-abbrev pub slots_of : ℕ → List Slot
-slots_of r = map (λ c. record { ring = r; class = c }) (0 ∷ 1 ∷ 2 ∷ 3 ∷ [])
+-- if a ring looks for clauses of one class of another ring, in order: the places of their slots, so many
+abbrev pub places_of : (depth ring class : ℕ) → List Slot
+places_of depth r c = map (λ p. record { ring = r; class = c; place = p }) (range_with_len 0 depth)
+
+-- if it looks for clauses of another ring, in order: each place of the classes 0, 1, 2 and 3
+abbrev pub slots_of : (depth ring : ℕ) → List Slot
+slots_of depth r = flat_map (places_of depth r) (0 ∷ 1 ∷ 2 ∷ 3 ∷ [])
 
 -- if it looks at an import, in order: the slots of each other ring
 abbrev pub import_slots : PortState → List Slot
-import_slots s = flat_map slots_of (other_rings s)
+import_slots s = flat_map (slots_of s.depth) (other_rings s)
 
 -- these slots this often, one time after the other
 unfoldable pub rounds : ℕ → List Slot → List Slot

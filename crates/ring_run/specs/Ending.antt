@@ -1,5 +1,5 @@
 -- How a run comes to its end.
-use Rattle.std.specs.Prelude.{◌≡◌, ◌⊎◌, ℕ, ◌<◌, length, Option, None, Some, IfSome, ⊤}
+use Rattle.std.specs.Prelude.{◌≡◌, ◌⊎◌, ℕ, ◌<◌, List, length, Option, None, Some, IfSome, ⊤}
 use Rattle.ring_port.specs.PortState.{PortState}
 use Rattle.sat_words.specs.declared.shared.Set.{Set}
 use Rattle.sat_words.specs.declared.shared.Set.TheVariants.{Won, Lost}
@@ -8,7 +8,8 @@ use Rattle.ring_port.specs.Deleting.{TidiedUpTo, TidiedSome}
 use Rattle.ring_port.specs.declared.stops.PortStop.{PortStop}
 use Rattle.ring_port.specs.declared.stops.PortStop.TheVariants as answer
 use Rattle.ring_run.specs.Ended.{Cause, stop_kind}
-use Rattle.ring_run.specs.Searching.{Runs, GoesOn, ToldUnits}
+use Rattle.ring_trail.specs.declared.step.TrailStep.{TrailStep}
+use Rattle.ring_run.specs.Searching.{Runs, GoesOn, ToldUnits, SeenTrue}
 use Rattle.ring_run.specs.declared.job.End.{End}
 use Rattle.ring_run.specs.declared.job.End.TheVariants.{Sat, Refuted, Spent, Stopped, NoHole, ProofFault, Memory}
 
@@ -62,9 +63,10 @@ EndsRefused old new end = (stop : PortStop) × Refused old new stop × (end ≡ 
 abbrev pub WroteEmpty : PortState → PortState → End → Type 0
 WroteEmpty old new end = (EndedLog old new × (end ≡ Refuted)) ⊎ EndsRefused old new end
 
--- lines of units were written, then the call that writes the next was refused, and nothing else was done
-abbrev pub HaltsTelling : PortState → PortState → End → Type 0
-HaltsTelling old new end = (middle : PortState) × ToldUnits old middle × EndsRefused middle new end
+-- lines of units were written, all of literals that these steps make true without a decision; then the call that writes the next was
+-- refused, and nothing else was done
+abbrev pub HaltsTelling : PortState → PortState → List TrailStep → End → Type 0
+HaltsTelling old new steps end = (middle : PortState) × ToldUnits old middle × SeenTrue middle steps × EndsRefused middle new end
 
 -- the call that deletes what waited was made, and nothing else: it was refused, or there was no memory left after it
 abbrev pub HaltsDeleting : PortState → PortState → End → Type 0

@@ -1,5 +1,5 @@
 -- How a search comes to an end that is no model, no limit of lemmas and no stop of another: what was done before its last call.
-use Rattle.std.specs.Prelude.{◌≡◌, ◌⊎◌, ℕ, ◌+◌, List, [], ◌∷◌, ◌++◌, drop, All, Contains}
+use Rattle.std.specs.Prelude.{◌≡◌, ◌⊎◌, ℕ, ◌+◌, List, [], ◌∷◌, ◌++◌, drop, All, Contains, None}
 use Rattle.sat_words.specs.Literal.{Literal}
 use Rattle.sat_words.specs.declared.shared.Cref.{Cref}
 use Rattle.ring_port.specs.PortState.{PortState, one_more}
@@ -7,6 +7,7 @@ use Rattle.ring_port.specs.Deleting.{TidiedSome}
 use Rattle.ring_port.specs.Reducing.{NotedReduce}
 use Rattle.ring_port.specs.declared.stops.PortStop.{PortStop}
 use Rattle.ring_trail.specs.declared.step.TrailStep.{TrailStep}
+use Rattle.ring_trail.specs.TrailData.{TrailData, HasGrown, assigned}
 use Rattle.reduce_db.specs.Lemmas.{AreToldApart}
 use Rattle.reduce_db.specs.Dropping.{DroppedAll}
 use Rattle.reduce_db.specs.Reduction.{IsFrontOfChoice}
@@ -52,17 +53,17 @@ HaltsReducing s u before end = ((u ≡ s) × (end ≡ Memory)) ⊎ (HaltsReducin
 
 -- Vivification
 
--- a unit that was left of a lemma was made true: there was no memory to propagate it, or a clause became false and the empty clause was
--- to be written, or the line of a unit was refused
-abbrev pub HaltsFollowing : PortState → PortState → End → Type 0
-HaltsFollowing s u end = ((u ≡ s) × (end ≡ Memory)) ⊎ (WroteEmpty s u end ⊎ HaltsTelling s u end)
+-- a unit that was left of a lemma was made true on a trail: there was no memory to propagate it, or a clause became false and the empty
+-- clause was to be written, or the trail grew and the line of a unit on it was refused
+abbrev pub HaltsFollowing : PortState → PortState → TrailData → End → Type 0
+HaltsFollowing s u t end = ((u ≡ s) × (end ≡ Memory)) ⊎ (WroteEmpty s u end ⊎ ((v : TrailData) × HasGrown t v × HaltsTelling s u v.steps end))
 
 -- a unit was left of the lemma, and then it was followed
 pub record HaltsBehindUnit (p : Point) (u : PortState) (c : Cref) (end : End) : Type 0 where
   pub lit : Literal
   pub between : Point
   pub vivified : IsVivified p.port between.port p.watches between.watches p.trail.steps c (Unit lit)
-  pub following : HaltsFollowing between.port u end
+  pub following : HaltsFollowing between.port u (assigned between.trail lit None) end
 
 -- the lemma is one of those that are vivified, and that was cut short, or a unit was left of it and following that was
 abbrev pub HaltsAtLemma : Point → PortState → Cref → End → Type 0

@@ -6,4 +6,5 @@ pub mod Course
 pub mod Learning
 pub mod Renewal
 pub mod Halting
+pub mod Walked
 pub mod Turn

@@ -17,7 +17,7 @@ use Rattle.vivify.specs.Outcome.{glue_at, IsVivified}
 use Rattle.vivify.specs.declared.shorten.Vivified.{Vivified}
 use Rattle.vivify.specs.declared.shorten.Vivified.TheVariants.{Kept, Shorter, Unit, Empty}
 use Rattle.ring_run.specs.Ended.{IsHalted, import_slots, LookedAlong, last_looks, reductions}
-use Rattle.ring_run.specs.Searching.{OpeningSeen, Stands, OnlySaw, OnlyPolled, OnlyWrote, ToldUnits, HasTold, HasGrownLog, AreTold, FixedSeen}
+use Rattle.ring_run.specs.Searching.{OpeningSeen, Stands, OnlySaw, OnlyPolled, OnlyWrote, ToldUnits, HasTold, HasGrownLog, AreTold, SeenTrue, SeesFixed}
 use Rattle.ring_run.specs.Ending.{EndsAt, IsRefusal}
 use Rattle.ring_run.specs.Course.{InSearch, last_start, numbers, number_at, AreOrdered}
 use Rattle.ring_run.specs.declared.vivification.AfterVivify.{AfterVivify}
@@ -86,13 +86,14 @@ pub record IsNamed (p : Point) (c : Cref) : Type 0 where
   pub few : glue_at p.port c.address ≤ 2
   pub none_true : (l : Literal) → has (lits_at p.port c.address) l ≡ true → IsTrueOn p.trail.steps l → ⊥
 
--- the unit was made true, and the trail grew from there at its level; each literal is known, by lines of units alone, and nothing is
--- left to propagate
+-- the unit was made true, and the trail grew from there at its level; each literal is known, by lines of units alone, and no other unit
+-- is; nothing is left to propagate
 pub record HasFollowed (p q : Point) (l : Literal) : Type 0 where
   pub grown : HasGrown (assigned p.trail l None) q.trail
   pub lines : OnlyWrote p.port q.port
   pub units : ToldUnits p.port q.port
   pub told : AreTold q.port q.trail (length q.trail.steps)
+  pub alone : SeenTrue q.port q.trail.steps
   pub same_clauses : attached q.watches ≡ attached p.watches
   pub quiet : IsQuiet q.watches (lits_at q.port) q.trail
 
@@ -284,7 +285,7 @@ pub record Renews (old new : PortState) (before after : Ring) : Type 0 where
   pub middle : PortState
   pub ring : Ring
   pub told : HasTold old middle
-  pub seen : FixedSeen middle before.trail
+  pub seen : SeesFixed middle before.trail
   pub unlooked : new.looks ≡ middle.looks
   pub same_ring : ring ≡ record before { written = ring.written }
   pub renewed : HasRenewed middle new ring after

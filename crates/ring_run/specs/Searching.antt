@@ -64,6 +64,7 @@ pub record OffersNothing (old new : PortState) : Type 0 where
   pub caught_up : min old.caught_up (2 ^ 64 - 1) ≤ new.caught_up
   pub ring : new.ring ≡ old.ring
   pub rings : new.rings ≡ old.rings
+  pub depth : new.depth ≡ old.depth
   pub lemmas : learned new.ring new.mine ≡ learned old.ring old.mine
 
 -- a lemma of this class was offered to each other ring and counted; one without a class was not
@@ -166,6 +167,11 @@ AreFirst t n = (p : ℕ) → p < length t.steps → level_at t.steps p ≡ 0 →
 -- each literal at level 0 is seen: it was given, or the ring has written its line
 abbrev pub FixedSeen : PortState → TrailData → Type 0
 FixedSeen s t = (p : ℕ) → p < length t.steps → level_at t.steps p ≡ 0 → has s.seen (lit_at t.steps p) ≡ true
+
+-- the units seen are the literals at level 0
+pub record SeesFixed (s : PortState) (t : TrailData) : Type 0 where
+  pub each : FixedSeen s t
+  pub alone : SeenTrue s t.steps
 
 -- the first n literals are at level 0 and seen; of those after, none that has a reason is seen; above level 0 none of these
 -- is at level 0

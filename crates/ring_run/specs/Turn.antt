@@ -1,5 +1,5 @@
 -- What a ring does in a turn: it propagates, and then learns, renews or decides; and turn by turn in a search.
-use Rattle.std.specs.Prelude.{◌≡◌, ◌⊎◌, ◌%◌, ◌==◌, Bool, true, false, List, [], ◌∷◌, length, Some, ⊤}
+use Rattle.std.specs.Prelude.{◌≡◌, ◌⊎◌, ◌<◌, ◌%◌, ◌==◌, Bool, true, false, List, [], ◌∷◌, length, Option, Some, ⊤}
 use Rattle.sat_words.specs.Literal.{Literal}
 use Rattle.sat_words.specs.Truth.{lit_true}
 use Rattle.sat_words.specs.declared.shared.Cref.{Cref}
@@ -9,15 +9,16 @@ use Rattle.ring_trail.specs.TrailData.{IsTrail, HasGrown, IsTrueOn}
 use Rattle.watch_prop.specs.WatchData.{attached}
 use Rattle.watch_prop.specs.Propagation.{IsQuiet, IsConflict, HasReasons}
 use Rattle.ring_decide.specs.Phases.{first_phases}
-use Rattle.ring_decide.specs.DeciderData.{AllValued}
+use Rattle.ring_decide.specs.DeciderData.{DeciderData, AllValued}
 use Rattle.restart_plan.specs.Plan.{begun}
 use Rattle.ring_run.specs.Strategy.{Decides}
-use Rattle.ring_run.specs.Searching.{HasTold, FixedSeen}
+use Rattle.ring_run.specs.Searching.{HasTold, SeenTrue, SeesFixed}
 use Rattle.ring_run.specs.Ended.{stop_kind}
 use Rattle.ring_run.specs.Ending.{EndsRefused, SetsStop}
 use Rattle.ring_run.specs.Halting.{HaltsImporting, HaltsRenewing}
 use Rattle.ring_run.specs.Course.{CountsAlike, DecidedNext, LearnsFrom, last_of}
 use Rattle.ring_run.specs.Renewal.{Renews, TookImport}
+use Rattle.ring_run.specs.Walked.{Walks, IsWalkedModel}
 use Rattle.ring_run.specs.declared.job.Job.{Job}
 use Rattle.ring_run.specs.declared.job.Counts.{Counts}
 use Rattle.ring_run.specs.declared.job.End.{End}
@@ -70,26 +71,31 @@ pub record IsModelFound (ring : Ring) (a : List Bool) : Type 0 where
   pub true_there : (l : Literal) → IsTrueOn ring.trail.steps l → lit_true a l ≡ true
   pub rest : (l : Literal) → l.neg ≡ false → lit_true a l ≡ true → IsTrueOn ring.trail.steps l
 
--- what a decision comes to: it was made, or there was none to make and so a model, for which there may be no memory
-abbrev pub EndsDeciding : Ring → Ring → Next → Type 0
-EndsDeciding old new Go = ⊤
-EndsDeciding old new (Finish (Sat a)) = IsModelFound old a × (new ≡ old)
-EndsDeciding old new (Finish Memory) = ⊤
-EndsDeciding old new (Finish end) = ⊥
+-- a model: there is nothing to decide, or a walk found it and nothing is decided
+abbrev pub HasModel : PortState → Ring → List Bool → Type 0
+HasModel s ring a = IsModelFound ring a ⊎ IsWalkedModel s ring a
 
--- no import is yet to be, a look and the lines of units came, of which none is missing, and then there was nothing to decide
+-- what a decision comes to: it was made, or there was a model, for which there may be no memory
+abbrev pub EndsDeciding : PortState → Ring → Ring → Next → Type 0
+EndsDeciding s old new Go = ⊤
+EndsDeciding s old new (Finish (Sat a)) = HasModel s old a × (new ≡ old)
+EndsDeciding s old new (Finish Memory) = ⊤
+EndsDeciding s old new (Finish end) = ⊥
+
+-- no import is yet to be, a look and the lines of units came, of which none is missing, and then there was a model
 pub record FoundModel (s u : PortState) (old new : Ring) (a : List Bool) : Type 0 where
   pub settled : old.import_due ≡ false
   pub told : HasTold s u
-  pub seen : FixedSeen u old.trail
-  pub found : IsModelFound old a
+  pub seen : SeesFixed u old.trail
+  pub found : HasModel u old a
   pub same : new ≡ record old { written = new.written }
 
--- how a run came to its end where nothing was left to propagate: after a look and lines of units the next line was refused, or there was no
--- memory for the model; or none of these lines is missing, an import was yet to be, and it was cut short or what comes before it
+-- how a run came to its end where nothing was left to propagate: after a look and lines of units, all of literals at level 0, the next line
+-- was refused, or there was no memory for the model; or none of these lines is missing, an import was yet to be, and it was cut short or
+-- what comes before it
 abbrev pub HaltsQuietly : PortState → PortState → Ring → Ring → End → Type 0
 HaltsQuietly s u old new end =
-    CountsAlike old new × (m : PortState) × HasTold s m × (EndsRefused m u end ⊎ (FixedSeen m old.trail × (old.import_due ≡ true) × (ring : Ring) × (ring ≡ record old { written = ring.written }) × HaltsRenewing m u ring end))
+    CountsAlike old new × (m : PortState) × HasTold s m × SeenTrue m old.trail.steps × (EndsRefused m u end ⊎ (SeesFixed m old.trail × (old.import_due ≡ true) × (ring : Ring) × (ring ≡ record old { written = ring.written }) × HaltsRenewing m u ring end))
 
 -- what a step comes to that doesn't learn: a model may be found, or the look found a stop and nothing was done
 abbrev pub EndsQuietly : PortState → PortState → Ring → Ring → Next → Type 0
@@ -138,17 +144,29 @@ abbrev pub TookTurns : PortState → Ring → List (PortState × Ring) → PortS
 TookTurns s old [] u new = (u ≡ s) × (new ≡ old)
 TookTurns s old (last ∷ earlier) u new = TookTurns s old earlier last.0 last.1 × TookTurn last.0 u last.1 new
 
--- an import, and then turns
-pub record CameTo (s u : PortState) (old new : Ring) : Type 0 where
+-- an import, a walk if the job says so, and then turns
+pub record CameTo (job : Job) (s u : PortState) (old new : Ring) : Type 0 where
   pub imported_port : PortState
   pub imported : Ring
   pub first : TookImport s imported_port old imported
+  pub walked : DeciderData
+  pub model : Option (List Bool)
+  pub walk : Walks imported_port job imported.trail.steps imported.decider walked model
   pub states : List (PortState × Ring)
-  pub turns : TookTurns imported_port imported states u new
+  pub turns : TookTurns imported_port (record imported { decider = walked }) states u new
 
--- a search imports, and then takes turns until one comes to its end; or the import does
-abbrev pub Searched : PortState → PortState → Ring → Ring → End → Type 0
-Searched s u old new end = (HaltsImporting s u end × CountsAlike old new) ⊎ ((m : PortState) × (middle : Ring) × CameTo s m old middle × TakesTurn m u middle new (Finish end))
+-- an import, and then no memory for the walk
+pub record HaltsWalking (job : Job) (s u : PortState) (old new : Ring) (end : End) : Type 0 where
+  pub imported : Ring
+  pub first : TookImport s u old imported
+  pub some : 0 < job.walk
+  pub counts : CountsAlike old new
+  pub is : end ≡ Memory
+
+-- a search imports and walks, and then takes turns until one comes to its end; or the import or the walk does
+abbrev pub Searched : Job → PortState → PortState → Ring → Ring → End → Type 0
+Searched job s u old new end =
+    (HaltsImporting s u end × CountsAlike old new) ⊎ (HaltsWalking job s u old new end ⊎ ((m : PortState) × (middle : Ring) × CameTo job s m old middle × TakesTurn m u middle new (Finish end)))
 
 -- Runs
 
@@ -176,7 +194,7 @@ pub record IsFirstRing (s : PortState) (job : Job) (ring : Ring) : Type 0 where
 -- ring nothing was done
 abbrev pub RanJob : PortState → PortState → Job → End → Counts → Type 0
 RanJob s u job end counts =
-    ((u ≡ s) × (end ≡ Memory)) ⊎ ((first : Ring) × (last : Ring) × IsFirstRing s job first × Searched s u first last end × (counts.learned ≡ last.learned) × (counts.exported ≡ last.exported) × (counts.offered ≡ last.offered) × (counts.restarts ≡ last.restarts.made))
+    ((u ≡ s) × (end ≡ Memory)) ⊎ ((first : Ring) × (last : Ring) × IsFirstRing s job first × Searched job s u first last end × (counts.learned ≡ last.learned) × (counts.exported ≡ last.exported) × (counts.offered ≡ last.offered) × (counts.restarts ≡ last.restarts.made))
 
 -- the job was run to an end, and then the stop of that end was set
 pub record HasRun (s u : PortState) (job : Job) (end : End) (counts : Counts) : Type 0 where

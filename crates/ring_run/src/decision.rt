@@ -7,6 +7,7 @@ ghost use Rattle.ring_trail.specs.TrailData.{IsTrail, IsTrueOn};
 ghost use Rattle.watch_prop.specs.Propagation.{IsQuiet};
 ghost use Rattle.ring_run.specs.Ended.{Stays};
 ghost use Rattle.ring_run.specs.Strategy.{Decides};
+ghost use Rattle.ring_run.specs.Walked.{IsFound};
 ghost use Rattle.ring_run.specs.Searching.{OffersNothing, AreFirst, KeepsOn, OnlyWrote, ToldUnits};
 ghost use Rattle.ring_run.specs.Ending.{EndsAt, HaltsTelling, end_refused};
 ghost use Rattle.ring_run.specs.Turn.{ActedAtQuiet, EndsDeciding, EndsQuietly};
@@ -17,6 +18,7 @@ use crate::job::End;
 use crate::reduction::reduce_vivify_import;
 use crate::ring::Ring;
 use crate::units::write_units;
+use crate::walking::{agrees, end_found};
 use ring_port::{Port, PortStop};
 use ring_trail::Trail;
 use sat_words::Assignment;
@@ -37,17 +39,24 @@ fn model_of(alloc: Global, trail: &Trail) -> Result<Assignment, AllocError>
     Ok(model)
 }
 
-/// Decides a variable of the start clauses that has no value. If there is none, each of these is true. A look that found no
-/// stop came before.
-fn decide<P: Port>(alloc: Global, port: &mut P, ring: &mut Ring, limit: u64) -> Next
+/// Decides a variable of the start clauses that has no value. If there is none, each of these is true. So it is if the walk found
+/// an assignment, and that makes true what is true without a decision. A look that found no stop came before.
+fn decide<P: Port>(
+    alloc: Global,
+    port: &mut P,
+    ring: &mut Ring,
+    limit: u64,
+    model: &Option<Assignment>,
+) -> Next
     requires search { InSearch (P.state port.old) ring.old }
     requires below { ring.old.learned < limit }
     requires decides { Decides (P.state port.old) ring.old.decider }
     requires quiet { IsQuiet ring.old.watches (lits_at (P.state port.old)) ring.old.trail }
     requires first { AreFirst ring.old.trail ring.old.written }
     requires settled { ring.old.import_due ≡ false }
+    requires found { IsFound (P.state port.old) model.now }
     ensures leads { Leads (P.state port.old) ring.old (P.state port.new) ring.new limit result }
-    ensures ended { EndsDeciding ring.old ring.new result }
+    ensures ended { EndsDeciding (P.state port.old) ring.old ring.new result }
     ensures learned { ring.new.learned ≡ ring.old.learned }
     ensures decided { result ≡ Next.Go → HasDecided ring.old ring.new }
     ensures longer { result ≡ Next.Go → length ring.old.trail.steps < length ring.new.trail.steps }
@@ -61,6 +70,9 @@ fn decide<P: Port>(alloc: Global, port: &mut P, ring: &mut Ring, limit: u64) -> 
     ensures port { IsPort (P.state port.new) }
     ensures same { P.state port.new ≡ P.state port.old }
 {
+    if agrees(model, &ring.trail) {
+        return end_found(alloc, model);
+    }
     if let Some(lit) = ring.decider.next(&ring.trail) {
         ring.trail.decide(lit);
         return Next::Go;
@@ -76,7 +88,7 @@ pub(crate) fn write_pending<P: Port>(port: &mut P, ring: &mut Ring) -> Result<()
     requires search { InSearch (P.state port.old) ring.old }
     ensures ok { OnOk result (KeepsOn (P.state port.old) (P.state port.new)) }
     ensures over { IfErr result (λ stop. EndsAt (P.state port.old) (P.state port.new) (end_refused stop)) }
-    ensures halts { IfErr result (λ stop. HaltsTelling (P.state port.old) (P.state port.new) (end_refused stop)) }
+    ensures halts { IfErr result (λ stop. HaltsTelling (P.state port.old) (P.state port.new) ring.old.trail.steps (end_refused stop)) }
     ensures search { OnOk result (InSearch (P.state port.new) ring.new) }
     ensures held { (P.state port.new).held ≡ (P.state port.old).held }
     ensures looks { (P.state port.new).looks ≡ (P.state port.old).looks }
@@ -112,13 +124,20 @@ pub(crate) fn write_pending<P: Port>(port: &mut P, ring: &mut Ring) -> Result<()
 
 /// If nothing is left to propagate: looks for a stop, writes what is true for good, and decides; after a restart it
 /// reduces its lemmas if that is due, and imports.
-pub(crate) fn decide_next<P: Port>(alloc: Global, port: &mut P, ring: &mut Ring, limit: u64) -> Next
+pub(crate) fn decide_next<P: Port>(
+    alloc: Global,
+    port: &mut P,
+    ring: &mut Ring,
+    limit: u64,
+    model: &Option<Assignment>,
+) -> Next
     requires search { InSearch (P.state port.old) ring.old }
     requires below { ring.old.learned < limit }
     requires decides { Decides (P.state port.old) ring.old.decider }
     requires quiet { IsQuiet ring.old.watches (lits_at (P.state port.old)) ring.old.trail }
     requires polling { IsPolling (P.state port.old) ring.old }
     requires listed { HasLemmas (P.state port.old) ring.old }
+    requires found { IsFound (P.state port.old) model.now }
     ensures leads { Leads (P.state port.old) ring.old (P.state port.new) ring.new limit result }
     ensures ended { EndsQuietly (P.state port.old) (P.state port.new) ring.old ring.new result }
     ensures learned { ring.new.learned ≡ ring.old.learned }
@@ -145,5 +164,5 @@ pub(crate) fn decide_next<P: Port>(alloc: Global, port: &mut P, ring: &mut Ring,
     if ring.import_due {
         return reduce_vivify_import(alloc, port, ring);
     }
-    decide(alloc, port, ring, limit)
+    decide(alloc, port, ring, limit, model)
 }

@@ -2,7 +2,7 @@
 ghost use Rattle.std.specs.Prelude.{◌≡◌, ◌≢◌, ◌<◌, ◌≤◌, ◌+◌, ◌++◌, ◌∷◌, [], ◌*◌, ◌-◌, ◌^◌, ℕ, min, true, false, length, OnOk};
 ghost use Rattle.ring_port.specs.PortState.{IsPort, one_more};
 ghost use Rattle.ring_port.specs.Exchange.{other_rings};
-ghost use Rattle.ring_run.specs.Ended.{slots_of, import_slots, IsInTime};
+ghost use Rattle.ring_run.specs.Ended.{places_of, slots_of, import_slots, IsInTime};
 ghost use Rattle.ring_run.specs.Searching.{KeepsOn, OnlyPolled};
 ghost use Rattle.ring_run.specs.Renewal.{TookSlots, PolledSome, TookImport};
 ghost use Rattle.ring_run.specs.Halting.{HaltsImporting};
@@ -18,7 +18,43 @@ use std::alloc::AllocError;
 /// The classes of clauses that rings put for each other.
 const CLASSES: u8 = 4;
 
-/// Takes the clause of a class that another ring has put, if there is one, and attaches and lists it.
+/// Takes the clause that another ring has put into a slot, if there is one, and attaches and lists it.
+fn take_slot<P: Port>(
+    port: &mut P,
+    ring: &mut Ring,
+    from: u32,
+    class: u8,
+    place: u32,
+) -> Result<(), AllocError>
+    requires search { InSearch (P.state port.old) ring.old }
+    requires level { ring.old.trail.level ≡ 0 }
+    requires other { from ≢ (P.state port.old).ring }
+    requires inside { from < (P.state port.old).rings }
+    requires class { class ≤ 3 }
+    requires place { place < (P.state port.old).depth }
+    requires bounded { (P.state port.old).polled ≤ 2 ^ 64 - 1 }
+    ensures keeps { KeepsOn (P.state port.old) (P.state port.new) }
+    ensures search { OnOk result (InSearch (P.state port.new) ring.new) }
+    ensures polled { OnOk result ((P.state port.new).polled ≡ one_more (P.state port.old).polled) }
+    ensures few { (P.state port.new).polled ≤ one_more (P.state port.old).polled }
+    ensures took { OnOk result (TookSlots (P.state port.old) (P.state port.new) ring.old ring.new (record { ring = from; class = class; place = place } ∷ [])) }
+    ensures some { PolledSome (P.state port.old) (P.state port.new) (record { ring = from; class = class; place = place } ∷ []) }
+    ensures only { OnlyPolled (P.state port.old) (P.state port.new) }
+    ensures same { ring.new ≡ record ring.old { watches = ring.new.watches; imports = ring.new.imports } }
+    ensures port { IsPort (P.state port.new) }
+{
+    let Ok(taken) = port.poll(from, class, place) else {
+        return Err(AllocError);
+    };
+    let Some(clause) = taken else {
+        return Ok(());
+    };
+    ring.watches.attach(port, &ring.trail, clause)?;
+    ring.imports.push(clause)?;
+    Ok(())
+}
+
+/// Takes what another ring has put of a class, place by place.
 fn take_class<P: Port>(
     port: &mut P,
     ring: &mut Ring,
@@ -33,22 +69,20 @@ fn take_class<P: Port>(
     requires bounded { (P.state port.old).polled ≤ 2 ^ 64 - 1 }
     ensures keeps { KeepsOn (P.state port.old) (P.state port.new) }
     ensures search { OnOk result (InSearch (P.state port.new) ring.new) }
-    ensures polled { OnOk result ((P.state port.new).polled ≡ one_more (P.state port.old).polled) }
-    ensures few { (P.state port.new).polled ≤ one_more (P.state port.old).polled }
-    ensures took { OnOk result (TookSlots (P.state port.old) (P.state port.new) ring.old ring.new (record { ring = from; class = class } ∷ [])) }
-    ensures some { PolledSome (P.state port.old) (P.state port.new) (record { ring = from; class = class } ∷ []) }
+    ensures polled { OnOk result ((P.state port.new).polled ≡ min ((P.state port.old).polled + (P.state port.old).depth) (2 ^ 64 - 1)) }
+    ensures few { (P.state port.new).polled ≤ min ((P.state port.old).polled + (P.state port.old).depth) (2 ^ 64 - 1) }
+    ensures took { OnOk result (TookSlots (P.state port.old) (P.state port.new) ring.old ring.new (places_of (P.state port.old).depth from class)) }
+    ensures some { PolledSome (P.state port.old) (P.state port.new) (places_of (P.state port.old).depth from class) }
     ensures only { OnlyPolled (P.state port.old) (P.state port.new) }
     ensures same { ring.new ≡ record ring.old { watches = ring.new.watches; imports = ring.new.imports } }
     ensures port { IsPort (P.state port.new) }
 {
-    let Ok(taken) = port.poll(from, class) else {
-        return Err(AllocError);
-    };
-    let Some(clause) = taken else {
-        return Ok(());
-    };
-    ring.watches.attach(port, &ring.trail, clause)?;
-    ring.imports.push(clause)?;
+    for place in 0..port.depth() {
+        match take_slot(port, ring, from, class, place) {
+            Ok(()) => {}
+            Err(refused) => return Err(refused),
+        }
+    }
     Ok(())
 }
 
@@ -61,10 +95,10 @@ fn take_from<P: Port>(port: &mut P, ring: &mut Ring, from: u32) -> Result<(), Al
     requires bounded { (P.state port.old).polled ≤ 2 ^ 64 - 1 }
     ensures keeps { KeepsOn (P.state port.old) (P.state port.new) }
     ensures search { OnOk result (InSearch (P.state port.new) ring.new) }
-    ensures polled { OnOk result ((P.state port.new).polled ≡ min ((P.state port.old).polled + 4) (2 ^ 64 - 1)) }
-    ensures few { (P.state port.new).polled ≤ min ((P.state port.old).polled + 4) (2 ^ 64 - 1) }
-    ensures took { OnOk result (TookSlots (P.state port.old) (P.state port.new) ring.old ring.new (slots_of from)) }
-    ensures some { PolledSome (P.state port.old) (P.state port.new) (slots_of from) }
+    ensures polled { OnOk result ((P.state port.new).polled ≡ min ((P.state port.old).polled + 4 * (P.state port.old).depth) (2 ^ 64 - 1)) }
+    ensures few { (P.state port.new).polled ≤ min ((P.state port.old).polled + 4 * (P.state port.old).depth) (2 ^ 64 - 1) }
+    ensures took { OnOk result (TookSlots (P.state port.old) (P.state port.new) ring.old ring.new (slots_of (P.state port.old).depth from)) }
+    ensures some { PolledSome (P.state port.old) (P.state port.new) (slots_of (P.state port.old).depth from) }
     ensures only { OnlyPolled (P.state port.old) (P.state port.new) }
     ensures same { ring.new ≡ record ring.old { watches = ring.new.watches; imports = ring.new.imports } }
     ensures port { IsPort (P.state port.new) }
@@ -86,8 +120,8 @@ fn take_clauses<P: Port>(port: &mut P, ring: &mut Ring) -> Result<(), AllocError
     requires bounded { (P.state port.old).polled ≤ 2 ^ 64 - 1 }
     ensures keeps { KeepsOn (P.state port.old) (P.state port.new) }
     ensures search { OnOk result (InSearch (P.state port.new) ring.new) }
-    ensures polled { OnOk result ((P.state port.new).polled ≡ min ((P.state port.old).polled + 4 * length (other_rings (P.state port.old))) (2 ^ 64 - 1)) }
-    ensures few { (P.state port.new).polled ≤ min ((P.state port.old).polled + 4 * length (other_rings (P.state port.old))) (2 ^ 64 - 1) }
+    ensures polled { OnOk result ((P.state port.new).polled ≡ min ((P.state port.old).polled + 4 * (P.state port.old).depth * length (other_rings (P.state port.old))) (2 ^ 64 - 1)) }
+    ensures few { (P.state port.new).polled ≤ min ((P.state port.old).polled + 4 * (P.state port.old).depth * length (other_rings (P.state port.old))) (2 ^ 64 - 1) }
     ensures took { OnOk result (TookSlots (P.state port.old) (P.state port.new) ring.old ring.new (import_slots (P.state port.old))) }
     ensures some { PolledSome (P.state port.old) (P.state port.new) (import_slots (P.state port.old)) }
     ensures only { OnlyPolled (P.state port.old) (P.state port.new) }

@@ -48,8 +48,10 @@ pub struct Job {
     pub start: Addresses,
     /// How many lemmas the ring may learn.
     pub conflicts: u64,
-    /// What the first phases of the variables are made of, with the ring's number.
+    /// What the first phases of the variables are made of, with the ring's number, and what a walk draws.
     pub seed: u64,
+    /// How many steps the ring walks after its first import; with none it makes no walk.
+    pub walk: u64,
 }
 
 /// What a ring counted.

@@ -20,6 +20,7 @@ mod search;
 mod units;
 mod variables;
 mod vivification;
+mod walking;
 
 pub use job::{Addresses, Counts, End, Job};
 pub use run::run_ring;

@@ -120,7 +120,7 @@ fn run_job<P: Port>(alloc: Global, port: &mut P, job: &Job) -> (End, Counts)
     let Ok(mut analysis) = Analysis::new(alloc, job.vars) else {
         return (End::Memory, NOTHING);
     };
-    let end = search(alloc, port, &mut ring, &mut analysis, job.conflicts);
+    let end = search(alloc, port, &mut ring, &mut analysis, job);
     (end, counts_of(&ring))
 }
 

@@ -1,7 +1,8 @@
 // The search: it propagates, and then learns or decides, until an end.
 ghost use Rattle.std.specs.Prelude.{◌≡◌, ◌<◌, ◌+◌, ℕ, [], true};
 ghost use Rattle.ring_port.specs.PortState.{PortState, IsPort};
-ghost use Rattle.ring_run.specs.Ended.{HasLooked, HasPolled, ImportsBy, IsTidy, IsInTime, last_looks};
+ghost use Rattle.ring_run.specs.Walked.{IsFound};
+ghost use Rattle.ring_run.specs.Ended.{IsJobOf, HasLooked, HasPolled, ImportsBy, IsTidy, IsInTime, last_looks};
 ghost use Rattle.ring_run.specs.Strategy.{Decides, IsPaced};
 ghost use Rattle.ring_run.specs.Searching.{GoesOn};
 ghost use Rattle.ring_run.specs.Ending.{ComesTo};
@@ -11,11 +12,13 @@ ghost use Rattle.ring_run.specs.Course.{IsOffering, InSearch, HasLemmas, MayImpo
 use crate::course::Next;
 use crate::decision::decide_next;
 use crate::imports::import;
-use crate::job::End;
+use crate::job::{End, Job};
 use crate::lemma::learn_from;
 use crate::ring::Ring;
+use crate::walking::walk_first;
 use analyze::Analysis;
 use ring_port::Port;
+use sat_words::Assignment;
 use std::alloc::Global;
 use watch_prop::Propagated;
 
@@ -26,6 +29,7 @@ fn search_step<P: Port>(
     ring: &mut Ring,
     analysis: &mut Analysis,
     limit: u64,
+    model: &Option<Assignment>,
 ) -> Next
     requires search { InSearch (P.state port.old) ring.old }
     requires below { ring.old.learned < limit }
@@ -35,6 +39,7 @@ fn search_step<P: Port>(
     requires polling { IsPolling (P.state port.old) ring.old }
     requires listed { HasLemmas (P.state port.old) ring.old }
     requires vars { analysis.old.vars ≡ ring.old.trail.vars }
+    requires found { IsFound (P.state port.old) model.now }
     ensures leads { Leads (P.state port.old) ring.old (P.state port.new) ring.new limit result }
     ensures further { result ≡ Next.Go → IsFurther ring.old ring.new }
     ensures looks { KeepsLooking (P.state port.old) ring.old (P.state port.new) ring.new result }
@@ -59,38 +64,39 @@ fn search_step<P: Port>(
     let _lawful = ring.trail.decision_level();
     match propagated {
         Propagated::Conflict(conflict) => learn_from(port, ring, analysis, conflict, limit),
-        Propagated::Quiet => decide_next(alloc, port, ring, limit),
+        Propagated::Quiet => decide_next(alloc, port, ring, limit, model),
     }
 }
 
-/// Imports, and then searches until an end, as MiniSat does: propagates, and at a conflict learns from it and goes back, or
-/// else decides.
+/// Imports, walks if the job says so, and then searches until an end, as MiniSat does: propagates, and at a conflict learns from it
+/// and goes back, or else decides.
 pub(crate) fn search<P: Port>(
     alloc: Global,
     port: &mut P,
     ring: &mut Ring,
     analysis: &mut Analysis,
-    limit: u64,
+    job: &Job,
 ) -> End
     requires import { MayImport (P.state port.old) ring.old.trail ring.old.watches ring.old.written }
     requires import_due { ring.old.import_due ≡ true }
     requires goes { GoesOn (P.state port.old) (P.state port.old) ring.old.learned }
-    requires below { ring.old.learned < limit }
+    requires below { ring.old.learned < job.now.conflicts }
     requires decides { Decides (P.state port.old) ring.old.decider }
-    requires paced { IsPaced ring.old.restarts ring.old.learned limit }
+    requires paced { IsPaced ring.old.restarts ring.old.learned job.now.conflicts }
     requires offering { IsOffering (P.state port.old) ring.old }
     requires polling { IsPolling (P.state port.old) ring.old }
     requires listed { HasLemmas (P.state port.old) ring.old }
     requires vars { analysis.old.vars ≡ ring.old.trail.vars }
-    ensures ends { ComesTo (P.state port.old) (P.state port.new) ring.new.learned limit result }
+    requires job { IsJobOf (P.state port.old) job.now }
+    ensures ends { ComesTo (P.state port.old) (P.state port.new) ring.new.learned job.now.conflicts result }
     ensures looks { (base : ℕ) → IsLooking base (P.state port.old) ring.old → HasLooked (base + ring.new.learned + last_looks result) (P.state port.new) }
-    ensures paced { IsPaced ring.new.restarts ring.new.learned limit }
+    ensures paced { IsPaced ring.new.restarts ring.new.learned job.now.conflicts }
     ensures offering { IsOffering (P.state port.new) ring.new }
     ensures polled { HasPolled (P.state port.new) ring.new.restarts.made result }
     ensures imported { (start : PortState) → IsImporting start (P.state port.old) ring.old → ImportsBy start (P.state port.new) ring.new.restarts.made result }
     ensures tidied { (P.state port.old).waiting ≡ [] → IsTidy (P.state port.new) result }
     ensures in_time { IsInTime (P.state port.old) ring.old.restarts.since → IsInTimeAt (P.state port.new) ring.new.restarts result }
-    ensures searched { Searched (P.state port.old) (P.state port.new) ring.old ring.new result }
+    ensures searched { Searched job.now (P.state port.old) (P.state port.new) ring.old ring.new result }
     ensures sums { SumsUp ring.new.restarts }
     ensures odd { ring.new.restarts.odd ≡ ring.old.restarts.odd }
     ensures port { IsPort (P.state port.new) }
@@ -98,8 +104,11 @@ pub(crate) fn search<P: Port>(
     if let Next::Finish(end) = import(port, ring) {
         return end;
     }
+    let Ok(model) = walk_first(alloc, port, &ring.trail, &mut ring.decider, job) else {
+        return End::Memory;
+    };
     loop {
-        if let Next::Finish(end) = search_step(alloc, port, ring, analysis, limit) {
+        if let Next::Finish(end) = search_step(alloc, port, ring, analysis, job.conflicts, &model) {
             return end;
         }
     }

@@ -62,7 +62,7 @@ fn write_unit<P: Port>(port: &mut P, trail: &Trail, place: u32) -> Result<(), Po
     requires refused { (P.state port.old).refused ≡ None }
     ensures ok { OnOk result (KeepsOn (P.state port.old) (P.state port.new)) }
     ensures over { IfErr result (λ stop. EndsAt (P.state port.old) (P.state port.new) (end_refused stop)) }
-    ensures halts { IfErr result (λ stop. HaltsTelling (P.state port.old) (P.state port.new) (end_refused stop)) }
+    ensures halts { IfErr result (λ stop. HaltsTelling (P.state port.old) (P.state port.new) trail.now.steps (end_refused stop)) }
     ensures stands { OnOk result (Stands (P.state port.new) trail.now) }
     ensures told { OnOk result (AreTold (P.state port.new) trail.now (place + 1)) }
     ensures units { OnOk result (UnitsSeen (P.state port.new)) }
@@ -95,7 +95,7 @@ pub(crate) fn write_units<P: Port>(
     requires refused { (P.state port.old).refused ≡ None }
     ensures ok { OnOk result (KeepsOn (P.state port.old) (P.state port.new)) }
     ensures over { IfErr result (λ stop. EndsAt (P.state port.old) (P.state port.new) (end_refused stop)) }
-    ensures halts { IfErr result (λ stop. HaltsTelling (P.state port.old) (P.state port.new) (end_refused stop)) }
+    ensures halts { IfErr result (λ stop. HaltsTelling (P.state port.old) (P.state port.new) trail.now.steps (end_refused stop)) }
     ensures stands { OnOk result (Stands (P.state port.new) trail.now) }
     ensures told { OnOk result (AreTold (P.state port.new) trail.now (length trail.now.steps)) }
     ensures units { OnOk result (UnitsSeen (P.state port.new)) }

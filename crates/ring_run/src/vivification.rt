@@ -1,9 +1,9 @@
 // Where lemmas were reduced: those of small glue that are left are made shorter if that can be done (Li and others 2017).
-ghost use Rattle.std.specs.Prelude.{◌≡◌, ◌≤◌, ◌<◌, true, false, length, IfOk, IfErr, OnOk, IsSome};
+ghost use Rattle.std.specs.Prelude.{◌≡◌, ◌≤◌, ◌<◌, true, false, length, None, IfOk, IfErr, OnOk, IsSome};
 ghost use Rattle.sat_words.specs.Literal.{Literal};
 ghost use Rattle.sat_words.specs.Clause.{has};
 ghost use Rattle.ring_port.specs.PortState.{IsPort, held_at, lits_at};
-ghost use Rattle.ring_trail.specs.TrailData.{IsTrueOn};
+ghost use Rattle.ring_trail.specs.TrailData.{IsTrueOn, assigned};
 ghost use Rattle.ring_run.specs.Searching.{OffersNothing, KeepsOn};
 ghost use Rattle.ring_run.specs.Renewal.{AreUnmixed, point, IsNamed, HasFollowed, WentOn, TookLemma, TookAll, TookPlace, IsResting, AwaitsUnit, LeftBehind, HaltsAt, MayVivify, KeepsOthers, IsLeft};
 ghost use Rattle.ring_run.specs.Halting.{HaltsFollowing, HaltsAtLemma, HaltsAtPlace, HaltsVivifying};
@@ -73,7 +73,7 @@ fn is_named<P: Port>(port: &mut P, ring: &Ring, c: Cref) -> bool
 fn follow_unit<P: Port>(port: &mut P, ring: &mut Ring, lit: Lit) -> Result<(), End>
     requires awaits { AwaitsUnit (P.state port.old) ring.old lit }
     ensures over { IfErr result (HaltsAt (P.state port.old) (P.state port.new)) }
-    ensures halts { IfErr result (HaltsFollowing (P.state port.old) (P.state port.new)) }
+    ensures halts { IfErr result (HaltsFollowing (P.state port.old) (P.state port.new) (assigned ring.old.trail lit None)) }
     ensures keeps { OnOk result (KeepsOn (P.state port.old) (P.state port.new)) }
     ensures resting { OnOk result (IsResting (P.state port.new) ring.new) }
     ensures followed { OnOk result (HasFollowed (point (P.state port.old) ring.old) (point (P.state port.new) ring.new) lit) }
@@ -101,7 +101,7 @@ fn follow_unit<P: Port>(port: &mut P, ring: &mut Ring, lit: Lit) -> Result<(), E
 fn settle_left<P: Port>(port: &mut P, ring: &mut Ring, left: Vivified) -> Result<AfterVivify, End>
     requires left { LeftBehind (P.state port.old) ring.old left }
     ensures over { IfErr result (HaltsAt (P.state port.old) (P.state port.new)) }
-    ensures halts { IfErr result (λ end. (l : Literal) × (left ≡ Vivified.Unit l) × HaltsFollowing (P.state port.old) (P.state port.new) end) }
+    ensures halts { IfErr result (λ end. (l : Literal) × (left ≡ Vivified.Unit l) × HaltsFollowing (P.state port.old) (P.state port.new) (assigned ring.old.trail l None) end) }
     ensures keeps { OnOk result (KeepsOn (P.state port.old) (P.state port.new)) }
     ensures resting { OnOk result (IsResting (P.state port.new) ring.new) }
     ensures went { IfOk result (WentOn (point (P.state port.old) ring.old) (point (P.state port.new) ring.new) left) }

@@ -80,3 +80,12 @@ pub enum Line {
     /// Deletes one clause with these literals, in whatever order.
     Del(Lits),
 }
+
+/// How the lines of a proof are spelled.
+#[derive(Clone, Copy, PartialEq, Eq, Debug, Drop)]
+pub enum ProofFormat {
+    /// DRAT as text: `1 -2 0`, or `d 1 -2 0` for a deletion.
+    Text,
+    /// Binary DRAT, as drat-trim reads it: `a` or `d`, the literals as numbers in groups of seven bits, and a zero byte.
+    Binary,
+}

@@ -59,11 +59,12 @@ new_data o = record {
   formula = o.formula;
   starts = o.starts;
   first = o.units;
+  depth = o.depth;
   journal = [];
   lines = [];
   cells = map (start_stored o.rings) o.starts;
   rings = replicate o.rings no_ring;
-  slots = replicate (4 * (o.rings * o.rings)) 0;
+  slots = replicate (4 * (o.rings * o.rings) * o.depth) 0;
   units = o.units;
   turn = None;
   stop = None;
@@ -71,12 +72,12 @@ new_data o = record {
 
 pub new_shown : (o : CoreOpening) (d : CoreData) → o.journal ≡ [] → d ≡ new_data o → state_of d ≡ opened o
 new_shown o d none is = ap state_of is ∙ states_same (state_of (new_data o)) (opened o)
-    (let e = count_all o.rings no_ring in λ i. record { formula = o.formula; rings = e i; journal = sym none i; starts = o.starts; units = o.units })
-    (sym none) (cells_open o.rings o.starts) (λ r. ap (λ (x : RingState). x.granted) (same_all o.rings no_ring r)) (λ r. ap (part_of r []) (same_all o.rings no_ring r)) (λ k. same_all (4 * (o.rings * o.rings)) 0 k) refl refl refl
+    (let e = count_all o.rings no_ring in λ i. record { formula = o.formula; rings = e i; depth = o.depth; journal = sym none i; starts = o.starts; units = o.units })
+    (sym none) (cells_open o.rings o.starts) (λ r. ap (λ (x : RingState). x.granted) (same_all o.rings no_ring r)) (λ r. ap (part_of r []) (same_all o.rings no_ring r)) (λ k. same_all (4 * (o.rings * o.rings) * o.depth) 0 k) refl refl refl
 
 pub new_kept : (o : CoreOpening) (d : CoreData) → IsCoreOpening o → o.journal ≡ [] → d ≡ new_data o → Kept d
 new_kept o d op none is = record {
-  wide = ap (λ (x : CoreData). length x.slots) is ∙ count_all (4 * (o.rings * o.rings)) 0 ∙ (let e = count_all o.rings no_ring in λ j. 4 * (sym e j * sym e j)) ∙ ap (λ (x : CoreData). 4 * (length x.rings * length x.rings)) (sym is);
+  wide = ap (λ (x : CoreData). length x.slots) is ∙ count_all (4 * (o.rings * o.rings) * o.depth) 0 ∙ (let e = count_all o.rings no_ring in λ j. 4 * (sym e j * sym e j) * o.depth) ∙ ap (λ (x : CoreData). 4 * (length x.rings * length x.rings) * x.depth) (sym is);
   sound = subst Sound (sym (new_shown o d none is)) (opened_sound o op);
   logged = subst Logged (sym is) refl;
 }

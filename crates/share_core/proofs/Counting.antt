@@ -126,11 +126,15 @@ counts_moved o c d r k v g p s m = record {
     bounds : (nd nc fr rp gr R F G : ℕ) → nd + fr ≤ nc + rp → gr ≡ rp → G + fr ≡ F + gr → nc ≤ R + F → nd ≤ R + G
     bounds nd nc fr rp gr R F G a b c' d' = omega arith
 
-pub slot_below : (o : CoreOpening) (i j k : ℕ) → i < o.rings → j < o.rings → k < 4 → slot_of o i j k < slots o
-slot_below o i j k a b t = let n : ℕ = o.rings in let m : suc i * n ≤ n * n = mul-le-mul_right n a in let s = suc-mul i n in omega arith
+-- numbers of two digits are below the bound of both
+two_below : (q n d p : ℕ) → q < n → p < d → q * d + p < n * d
+two_below q n d p a b = let m : suc q * d ≤ n * d = mul-le-mul_right d a in let s = suc-mul q d in omega arith
 
-pub slots_some : (o : CoreOpening) → 1 ≤ o.rings → 0 < slots o
-slots_some o h = let n : ℕ = o.rings in let m : 1 * n ≤ n * n = mul-le-mul_right n h in omega arith
+pub slot_below : (o : CoreOpening) (i j k p : ℕ) → i < o.rings → j < o.rings → k < 4 → p < o.depth → slot_of o i j k p < slots o
+slot_below o i j k p a b t u = let n : ℕ = o.rings in let m = two_below i n n j a b in two_below (4 * (i * n + j) + k) (4 * (n * n)) o.depth p (omega arith) u
+
+pub slots_some : (o : CoreOpening) → IsCoreOpening o → 0 < slots o
+slots_some o op = let q = slot_below o 0 0 0 0 op.some_ring op.some_ring (omega arith) op.some_slot in omega arith
 
 -- What a ring holds, what a slot has and what waits
 

@@ -128,12 +128,12 @@ decides c (Read r a) = both _ _ _ _ (below r c.opening.rings) (stands a (c.part 
 decides c (Share r a) = other _ _ _ (both _ _ _ _ (both _ _ _ _ (below r c.opening.rings) (stands a (c.part r).held)) (below (c.part r).shared MAX_SHARES)) (λ h. (h.0.0, h.0.1, h.1)) (λ h. ((h.0, h.1), h.2))
 decides c (DropCount r a) = both _ _ _ _ (below r c.opening.rings) (stands a (c.part r).held)
 decides c (Bury r a) = other _ _ _ (both _ _ _ _ (writing c r) (stands a (c.part r).waiting)) (λ h. (h.0.0, h.0.1, h.1)) (λ h. ((h.0, h.1), h.2))
-decides c (Put r to k a) = other _ _ _
-    (both _ _ _ _ (both _ _ _ _ (below r c.opening.rings) (both _ _ _ _ (below to c.opening.rings) (both _ _ _ _ (differ to r) (below k 4)))) (stands a (c.part r).held))
-    (λ h. (h.0.0, h.0.1.0, h.0.1.1.0, h.0.1.1.1, h.1)) (λ h. ((h.0, (h.1, (h.2, h.3))), h.4))
-decides c (Get r from k) = other _ _ _
-    (both _ _ _ _ (below r c.opening.rings) (both _ _ _ _ (below from c.opening.rings) (both _ _ _ _ (differ from r) (below k 4))))
-    (λ h. (h.0, h.1.0, h.1.1.0, h.1.1.1)) (λ h. (h.0, (h.1, (h.2, h.3))))
+decides c (Put r to k l a) = other _ _ _
+    (both _ _ _ _ (both _ _ _ _ (below r c.opening.rings) (both _ _ _ _ (below to c.opening.rings) (both _ _ _ _ (differ to r) (both _ _ _ _ (below k 4) (below l c.opening.depth))))) (stands a (c.part r).held))
+    (λ h. (h.0.0, h.0.1.0, h.0.1.1.0, h.0.1.1.1.0, h.0.1.1.1.1, h.1)) (λ h. ((h.0, (h.1, (h.2, (h.3, h.4)))), h.5))
+decides c (Get r from k l) = other _ _ _
+    (both _ _ _ _ (below r c.opening.rings) (both _ _ _ _ (below from c.opening.rings) (both _ _ _ _ (differ from r) (both _ _ _ _ (below k 4) (below l c.opening.depth)))))
+    (λ h. (h.0, h.1.0, h.1.1.0, h.1.1.1.0, h.1.1.1.1)) (λ h. (h.0, (h.1, (h.2, (h.3, h.4)))))
 decides c (Publish r lit) = other _ _ _
     (both _ _ _ _ (below r c.opening.rings) (both _ _ _ _ (turn_of r c.turn) (both _ _ _ _ (itself _) (both _ _ _ _ (equal (length (c.part r).seen) (length c.units)) (negated (has c.units lit))))))
     (λ h. (h.0, h.1.0, h.1.1.0, h.1.1.1.0, h.1.1.1.1)) (λ h. (h.0, (h.1, (h.2, (h.3, h.4)))))

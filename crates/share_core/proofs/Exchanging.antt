@@ -36,7 +36,7 @@ grants c r s e =
       opens = s.opens;
       counts = counts_moved c.opening c d r 0 (c.slot 0) true p s.counts (record {
         ring = e.0;
-        place = slots_some c.opening s.opens.some_ring;
+        place = slots_some c.opening s.opens;
         part_here = put_here c.part r p;
         part_else = λ i n. put_else c.part r p i n;
         granted_here = put_here c.granted r true;
@@ -100,23 +100,23 @@ swaps c d r k v p s lt kt dc dg dp ds ring shared waiting mk zeros moves = count
 slot_copy : (c : State) (i : ℕ) → Sound c → i < slots c.opening → c.slot i ≢ 0 → IsCopy c.cell (clause_at c (c.slot i))
 slot_copy c i s lt nz = let t = slot_cell c.opening c s.counts i lt nz in clause_is c (c.slot i) t.0 c.cell t.1 (keeps_same c.cell)
 
-pub puts : (c : State) (r to k a : ℕ) → Sound c → IsEnabled c (Put r to k a) → Sound (after c (Put r to k a))
-puts c r to k a s e =
-    let d : State = after c (Put r to k a) in
-    let i : ℕ = slot_of c.opening r to k in
+pub puts : (c : State) (r to k l a : ℕ) → Sound c → IsEnabled c (Put r to k l a) → Sound (after c (Put r to k l a))
+puts c r to k l a s e =
+    let d : State = after c (Put r to k l a) in
+    let i : ℕ = slot_of c.opening r to k l in
     let old : ClauseAt = clause_at c (c.slot i) in
-    let p : Part = put_part (record { to = to; class = k; address = a }) old (c.part r) in
-    let lt = slot_below c.opening r to k e.0 e.1 e.3 in
+    let p : Part = put_part (record { to = to; class = k; place = l; address = a }) old (c.part r) in
+    let lt = slot_below c.opening r to k l e.0 e.1 e.3 e.4 in
     record {
       opens = s.opens;
       counts = swaps c d r i a p s e.0 lt refl refl refl refl (s.counts.named r) refl refl refl
           (let z = s.counts.addresses r in let y = at_fewer a 0 (c.part r).held in let q = at_some_zero old (without_at a (c.part r).held) in omega arith)
-          (λ b nz. let x = at_some old b (without_at a (c.part r).held) nz in let y = at_without a b (c.part r).held e.4 in omega arith);
+          (λ b nz. let x = at_some old b (without_at a (c.part r).held) nz in let y = at_without a b (c.part r).held e.5 in omega arith);
       starts = s.starts;
       copies = copies_put c r p s (all_some (IsCopy c.cell) old (without_at a (c.part r).held) (all_without (IsCopy c.cell) a (c.part r).held (s.copies.held r e.0)) (λ nz. slot_copy c i s lt nz)) (s.copies.making r e.0) (s.copies.waiting r e.0);
       cells = s.cells;
       whole = s.whole;
-      slots = slots_put c.opening c d r to k a p s.slots e.1 e.3 refl refl refl;
+      slots = slots_put c.opening c d r to k l a p s.slots e.1 e.3 e.4 refl refl refl;
       log = s.log;
       entries = owned_same c.opening c r p s.entries refl;
       freshness = s.freshness;
@@ -125,13 +125,13 @@ puts c r to k a s e =
       stops = s.stops;
     }
 
-pub gets : (c : State) (r from k : ℕ) → Sound c → IsEnabled c (Get r from k) → Sound (after c (Get r from k))
-gets c r from k s e =
-    let d : State = after c (Get r from k) in
-    let i : ℕ = slot_of c.opening from r k in
+pub gets : (c : State) (r from k l : ℕ) → Sound c → IsEnabled c (Get r from k l) → Sound (after c (Get r from k l))
+gets c r from k l s e =
+    let d : State = after c (Get r from k l) in
+    let i : ℕ = slot_of c.opening from r k l in
     let old : ClauseAt = clause_at c (c.slot i) in
     let p : Part = got_part old (c.part r) in
-    let lt = slot_below c.opening from r k e.1 e.0 e.3 in
+    let lt = slot_below c.opening from r k l e.1 e.0 e.3 e.4 in
     record {
       opens = s.opens;
       counts = swaps c d r i 0 p s e.0 lt refl refl refl refl (s.counts.named r) refl refl refl

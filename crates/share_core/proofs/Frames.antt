@@ -110,7 +110,7 @@ pub part_moves : (c d : State) (r : ℕ) (p : Part) → Sound c → r < c.openin
     → Counts c.opening d
 part_moves c d r p s lt dp dg ds balance waits making makes_here makes_else nowhere address few bounded named = counts_moved c.opening c d r 0 (c.slot 0) (c.granted r) p s.counts (record {
   ring = lt;
-  place = slots_some c.opening s.opens.some_ring;
+  place = slots_some c.opening s.opens;
   part_here = (λ j. dp j r) ∙ put_here c.part r p;
   part_else = λ i n. (λ j. dp j i) ∙ put_else c.part r p i n;
   granted_here = λ j. dg j r;

@@ -59,8 +59,8 @@ slots_put slots s v lt k = sym (at_put (λ i. get_or slots i 0) s v (λ (q : ℕ
     (λ e. sym (get_or-set_same slots s v 0 lt) ∙ ap (λ (i : ℕ). get_or (set slots s v) i 0) (sym e))
     (λ ne. sym (get_or-set_other slots s k v 0 ne)))
 
-opening_same : (d : CoreData) (r : ℕ) (x : RingState) → ◌≡◌ {A = CoreOpening} (record { formula = d.formula; rings = length (set d.rings r x); journal = []; starts = d.starts; units = d.first }) (state_of d).opening
-opening_same d r x = let e = length-set d.rings r x in λ i. record { formula = d.formula; rings = e i; journal = []; starts = d.starts; units = d.first }
+opening_same : (d : CoreData) (r : ℕ) (x : RingState) → ◌≡◌ {A = CoreOpening} (record { formula = d.formula; rings = length (set d.rings r x); depth = d.depth; journal = []; starts = d.starts; units = d.first }) (state_of d).opening
+opening_same d r x = let e = length-set d.rings r x in λ i. record { formula = d.formula; rings = e i; depth = d.depth; journal = []; starts = d.starts; units = d.first }
 
 module _ (d : CoreData) (r : ℕ) (x : RingState) (p : Part) (lt : r < length d.rings) (same : x.granted ≡ (ring_in d.rings r).granted) where
   pub recounted_shown : (a n : ℕ) → part_of r d.journal x ≡ p → state_of (record d { cells = recounted a n d.cells; rings = set d.rings r x }) ≡ recounts (state_of d) r a n p
@@ -114,22 +114,22 @@ module _ (d : CoreData) (r : ℕ) (m : RingState) (lt : r < length d.rings) (own
       let f : W ≡ cond (count_at (cell_in a d.cells) == 1) ((ring_in d.rings r).waiting ++ clause_at (state_of d) a ∷ []) (ring_in d.rings r).waiting = Ws ∙ (λ j. cond (count_at (cell_in a d.cells) == 1) ((mine j).waiting ++ hs j ∷ []) (mine j).waiting) in
       λ j. record { ring = r; held = e j; making = (mine j).making; waiting = f j; seen = (mine j).seen; shared = (mine j).shared; wrote = placed r 0 d.journal; puts = (mine j).puts })
 
-  pub put_shown : (to k a : ℕ) (h : ClauseAt) (H : List ClauseAt) (P : List PutNote) → slot_of (state_of d).opening r to k < length d.slots
-      → h ≡ clause_at (state_of d) (get_or d.slots (slot_of (state_of d).opening r to k) 0) → H ≡ with_cell h (without_at a m.held) → P ≡ m.puts ++ record { to = to; class = k; address = a } ∷ []
-      → state_of (record d { slots = set d.slots (slot_of (state_of d).opening r to k) a; rings = set d.rings r (record m { held = H; puts = P }) }) ≡ after (state_of d) (Put r to k a)
-  put_shown to k a h H P room hs Hs Ps =
-      let s : ℕ = slot_of (state_of d).opening r to k in
+  pub put_shown : (to k l a : ℕ) (h : ClauseAt) (H : List ClauseAt) (P : List PutNote) → slot_of (state_of d).opening r to k l < length d.slots
+      → h ≡ clause_at (state_of d) (get_or d.slots (slot_of (state_of d).opening r to k l) 0) → H ≡ with_cell h (without_at a m.held) → P ≡ m.puts ++ record { to = to; class = k; place = l; address = a } ∷ []
+      → state_of (record d { slots = set d.slots (slot_of (state_of d).opening r to k l) a; rings = set d.rings r (record m { held = H; puts = P }) }) ≡ after (state_of d) (Put r to k l a)
+  put_shown to k l a h H P room hs Hs Ps =
+      let s : ℕ = slot_of (state_of d).opening r to k l in
       let old : ClauseAt = clause_at (state_of d) (get_or d.slots s 0) in
-      exchanged_shown d r (record m { held = H; puts = P }) (put_part (record { to = to; class = k; address = a }) old ((state_of d).part r)) lt (λ j. (mine j).granted) s a room
+      exchanged_shown d r (record m { held = H; puts = P }) (put_part (record { to = to; class = k; place = l; address = a }) old ((state_of d).part r)) lt (λ j. (mine j).granted) s a room
       (let e : H ≡ with_cell old (without_at a (ring_in d.rings r).held) = Hs ∙ (λ j. with_cell (hs j) (without_at a (mine j).held)) in
-      let f : P ≡ (ring_in d.rings r).puts ++ record { to = to; class = k; address = a } ∷ [] = Ps ∙ (λ j. (mine j).puts ++ record { to = to; class = k; address = a } ∷ []) in
+      let f : P ≡ (ring_in d.rings r).puts ++ record { to = to; class = k; place = l; address = a } ∷ [] = Ps ∙ (λ j. (mine j).puts ++ record { to = to; class = k; place = l; address = a } ∷ []) in
       λ j. record { ring = r; held = e j; making = (mine j).making; waiting = (mine j).waiting; seen = (mine j).seen; shared = (mine j).shared; wrote = placed r 0 d.journal; puts = f j })
 
-  pub get_shown : (from k : ℕ) (h : ClauseAt) (H : List ClauseAt) → slot_of (state_of d).opening from r k < length d.slots
-      → h ≡ clause_at (state_of d) (get_or d.slots (slot_of (state_of d).opening from r k) 0) → H ≡ with_cell h m.held
-      → state_of (record d { slots = set d.slots (slot_of (state_of d).opening from r k) 0; rings = set d.rings r (record m { held = H }) }) ≡ after (state_of d) (Get r from k)
-  get_shown from k h H room hs Hs =
-      let s : ℕ = slot_of (state_of d).opening from r k in
+  pub get_shown : (from k l : ℕ) (h : ClauseAt) (H : List ClauseAt) → slot_of (state_of d).opening from r k l < length d.slots
+      → h ≡ clause_at (state_of d) (get_or d.slots (slot_of (state_of d).opening from r k l) 0) → H ≡ with_cell h m.held
+      → state_of (record d { slots = set d.slots (slot_of (state_of d).opening from r k l) 0; rings = set d.rings r (record m { held = H }) }) ≡ after (state_of d) (Get r from k l)
+  get_shown from k l h H room hs Hs =
+      let s : ℕ = slot_of (state_of d).opening from r k l in
       let old : ClauseAt = clause_at (state_of d) (get_or d.slots s 0) in
       exchanged_shown d r (record m { held = H }) (got_part old ((state_of d).part r)) lt (λ j. (mine j).granted) s 0 room
       (let e : H ≡ with_cell old (ring_in d.rings r).held = Hs ∙ (λ j. with_cell (hs j) (mine j).held) in

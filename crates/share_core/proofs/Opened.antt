@@ -169,7 +169,7 @@ module _ (o : CoreOpening) (op : IsCoreOpening o) where
             (λ (q : Contains (map (λ (s : ClauseAt). s.number) o.starts) n). (let t = map_In (λ (s : ClauseAt). s.number) o.starts n (Contains_In (map (λ (s : ClauseAt). s.number) o.starts) n q) in
             (t.0.address, record { lits = t.0.lits; number = t.0.number; count = o.rings; maker = None }, start_some o.rings o.starts t.0 t.1 op.apart, t.2)))
             (λ (q : b.next ≤ n). absurd (let z = clause_below b (alive_lines o.formula (lines o.formula o.journal)) n c (journal_matches o.formula o.journal ruler.fits) alive in omega arith)) shared;
-        slots = λ r to k a b' c' nz. absurd (nz refl);
+        slots = λ r to k l a b' c' d' nz. absurd (nz refl);
         log = record {
           log = record { fits = ruler.fits; accepted = ruler.accepted; empty_last = never_empty [] o.journal ruler.going };
           room = op.room;

@@ -47,9 +47,9 @@ count_fits d a k =
 pub count_some : (d : CoreData) (r a : ℕ) → Kept d → r < length d.rings → 0 < times_at a ((state_of d).part r).held → 0 < count_at (cell_in a d.cells)
 count_some d r a k lt h = let t = held_counted (state_of d).opening (state_of d) k.sound.counts r a lt h in let e = k.sound.counts.counts a t.0 in let p = t.1 in omega arith
 
--- each slot has its place
-pub slot_room : (d : CoreData) (from to k : ℕ) → length d.slots ≡ 4 * (length d.rings * length d.rings) → from < length d.rings → to < length d.rings → k < 4 → slot_of (state_of d).opening from to k < length d.slots
-slot_room d from to k wide a b h = let q = slot_below (state_of d).opening from to k a b h in omega arith
+-- there is each slot
+pub slot_room : (d : CoreData) (from to k l : ℕ) → length d.slots ≡ 4 * (length d.rings * length d.rings) * d.depth → from < length d.rings → to < length d.rings → k < 4 → l < d.depth → slot_of (state_of d).opening from to k l < length d.slots
+slot_room d from to k l wide a b h p = let q = slot_below (state_of d).opening from to k l a b h p in omega arith
 
 -- the line of a deletion spells the cell's clause
 pub bury_logged : (d : CoreData) (r a : ℕ) (J : List Entry) (L : List Line) (ls : List Literal) → Kept d → r < length d.rings → 0 < times_at a ((state_of d).part r).waiting

@@ -14,8 +14,9 @@ use Rattle.share_core.proofs.Steps.{event_sound, event_opening}
 pub kept_after : (d n : CoreData) (e : Event) → Kept d → IsEnabled (state_of d) e → state_of n ≡ after (state_of d) e → Logged n → length n.slots ≡ length d.slots → Kept n
 kept_after d n e k enabled is logged slots =
     let R : length n.rings ≡ length d.rings = ap (λ (s : State). s.opening.rings) is ∙ ap (λ o. o.rings) (event_opening (state_of d) e) in
+    let D : n.depth ≡ d.depth = ap (λ (s : State). s.opening.depth) is ∙ ap (λ o. o.depth) (event_opening (state_of d) e) in
     record {
-      wide = slots ∙ k.wide ∙ (λ j. 4 * (sym R j * sym R j));
+      wide = slots ∙ k.wide ∙ (λ j. 4 * (sym R j * sym R j) * sym D j);
       sound = subst Sound (sym is) (event_sound (state_of d) e k.sound enabled);
       logged = logged;
     }

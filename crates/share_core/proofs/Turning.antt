@@ -51,8 +51,8 @@ quiet c r (Read q a) t ne h = record { journal = refl; units = refl; turn = t; f
 quiet c r (Share q a) t ne h = record { journal = refl; units = refl; turn = t; free = counted_free c a _ }
 quiet c r (DropCount q a) t ne h = record { journal = refl; units = refl; turn = t; free = counted_free c a _ }
 quiet c r (Bury q a) t ne h = absurd (ne (not_two c.turn r q t h.1.turn))
-quiet c r (Put q to k a) t ne h = record { journal = refl; units = refl; turn = t; free = λ b is. is }
-quiet c r (Get q from k) t ne h = record { journal = refl; units = refl; turn = t; free = λ b is. is }
+quiet c r (Put q to k l a) t ne h = record { journal = refl; units = refl; turn = t; free = λ b is. is }
+quiet c r (Get q from k l) t ne h = record { journal = refl; units = refl; turn = t; free = λ b is. is }
 quiet c r (Publish q l) t ne h = absurd (ne (not_two c.turn r q t h.1))
 quiet c r (See q) t ne h = record { journal = refl; units = refl; turn = t; free = λ b is. is }
 quiet c r (Stop q kind) t ne h = record { journal = refl; units = refl; turn = t; free = λ b is. is }
@@ -126,8 +126,8 @@ stays c d (Read r a) o J u t p g f h = (still_ring c d o J u t r p r h.0, still_
 stays c d (Share r a) o J u t p g f h = (still_ring c d o J u t r p r h.0, still_held c d o J u t r p a h.1, of_part c d o J u t r p (λ (x : Part). x.shared < MAX_SHARES) h.2)
 stays c d (DropCount r a) o J u t p g f h = (still_ring c d o J u t r p r h.0, still_held c d o J u t r p a h.1)
 stays c d (Bury r a) o J u t p g f h = (still_ring c d o J u t r p r h.0, still_writes c d o J u t r p h.1, of_part c d o J u t r p (λ (x : Part). 0 < times_at a x.waiting) h.2)
-stays c d (Put r to k a) o J u t p g f h = (still_ring c d o J u t r p r h.0, still_ring c d o J u t r p to h.1, h.2, h.3, still_held c d o J u t r p a h.4)
-stays c d (Get r from k) o J u t p g f h = (still_ring c d o J u t r p r h.0, still_ring c d o J u t r p from h.1, h.2, h.3)
+stays c d (Put r to k l a) o J u t p g f h = (still_ring c d o J u t r p r h.0, still_ring c d o J u t r p to h.1, h.2, h.3, subst (λ (w : CoreOpening). l < w.depth) (sym o) h.4, still_held c d o J u t r p a h.5)
+stays c d (Get r from k l) o J u t p g f h = (still_ring c d o J u t r p r h.0, still_ring c d o J u t r p from h.1, h.2, h.3, subst (λ (w : CoreOpening). l < w.depth) (sym o) h.4)
 stays c d (Publish r l) o J u t p g f h = (
   still_ring c d o J u t r p r h.0,
   t ∙ h.1,

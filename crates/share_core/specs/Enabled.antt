@@ -53,9 +53,9 @@ IsEnabled c (Share r a) = IsRing c r × Holds c r a × ((c.part r).shared < MAX_
 IsEnabled c (DropCount r a) = IsRing c r × Holds c r a
 -- the cell waits at the ring
 IsEnabled c (Bury r a) = IsRing c r × Writes c r × (0 < times_at a (c.part r).waiting)
--- for another ring, of one of the four classes
-IsEnabled c (Put r to k a) = IsRing c r × IsRing c to × (to ≢ r) × (k < 4) × Holds c r a
-IsEnabled c (Get r from k) = IsRing c r × IsRing c from × (from ≢ r) × (k < 4)
+-- for another ring, of one of the four classes, at a place that there is
+IsEnabled c (Put r to k i a) = IsRing c r × IsRing c to × (to ≢ r) × (k < 4) × (i < c.opening.depth) × Holds c r a
+IsEnabled c (Get r from k i) = IsRing c r × IsRing c from × (from ≢ r) × (k < 4) × (i < c.opening.depth)
 -- the turn is the ring's; the unit is in the formula or was added; the ring has seen all units, and this is none
 IsEnabled c (Publish r lit) =
     IsRing c r × (c.turn ≡ Some r) × (is_told c.opening.formula c.journal lit ≡ true) × (length (c.part r).seen ≡ length c.units) × (has c.units lit ≡ false)

@@ -140,8 +140,8 @@ after c (Read r a) = c
 after c (Share r a) = recounted c r a (count_at (c.cell a) + 1) (shared_part (clause_at c a) (c.part r))
 after c (DropCount r a) = recounted c r a (count_at (c.cell a) - 1) (dropped_part (clause_at c a) (count_at (c.cell a)) (c.part r))
 after c (Bury r a) = buried c r a
-after c (Put r to k a) = let s = slot_of c.opening r to k in exchanged c r s a (put_part (record { to = to; class = k; address = a }) (clause_at c (c.slot s)) (c.part r))
-after c (Get r from k) = let s = slot_of c.opening from r k in exchanged c r s 0 (got_part (clause_at c (c.slot s)) (c.part r))
+after c (Put r to k i a) = let s = slot_of c.opening r to k i in exchanged c r s a (put_part (record { to = to; class = k; place = i; address = a }) (clause_at c (c.slot s)) (c.part r))
+after c (Get r from k i) = let s = slot_of c.opening from r k i in exchanged c r s 0 (got_part (clause_at c (c.slot s)) (c.part r))
 after c (Publish r lit) = record c { units = c.units ++ lit ∷ []; part = put c.part r (seen_part lit (c.part r)) }
 after c (See r) = record c { part = put c.part r (seen_part (unit_at c.units (length (c.part r).seen)) (c.part r)) }
 after c (Stop r kind) = record c { stop = first_stop c.stop (record { kind = kind; ring = r }) }

@@ -41,9 +41,9 @@ may_tell c r Learn lits = may_learn c.opening c.journal (c.part r) r lits
 may_tell c r Derive lits = false
 may_tell c r UnitLine lits = true
 
--- the other is another ring, and the class one of the four
-abbrev pub exchanges : State → ℕ → ℕ → ℕ → Bool
-exchanges c r other k = nat_lt r c.opening.rings && (nat_lt other c.opening.rings && (not (other == r) && nat_lt k 4))
+-- the other is another ring, the class one of the four, and there is such a place
+abbrev pub exchanges : State → ℕ → ℕ → ℕ → ℕ → Bool
+exchanges c r other k i = nat_lt r c.opening.rings && (nat_lt other c.opening.rings && (not (other == r) && (nat_lt k 4 && nat_lt i c.opening.depth)))
 
 -- the guard of an event
 abbrev pub is_enabled : State → Event → Bool
@@ -59,8 +59,8 @@ is_enabled c (Read r a) = holds c r a
 is_enabled c (Share r a) = holds c r a && nat_lt (c.part r).shared MAX_SHARES
 is_enabled c (DropCount r a) = holds c r a
 is_enabled c (Bury r a) = writes c r && has_at a (c.part r).waiting
-is_enabled c (Put r to k a) = exchanges c r to k && has_at a (c.part r).held
-is_enabled c (Get r from k) = exchanges c r from k
+is_enabled c (Put r to k i a) = exchanges c r to k i && has_at a (c.part r).held
+is_enabled c (Get r from k i) = exchanges c r from k i
 is_enabled c (Publish r lit) =
     nat_lt r c.opening.rings && (is_ring r c.turn && (is_told c.opening.formula c.journal lit && (length (c.part r).seen == length c.units && not (has c.units lit))))
 is_enabled c (See r) = nat_lt r c.opening.rings && nat_lt (length (c.part r).seen) (length c.units)

@@ -56,12 +56,13 @@ part_of r J x = record { ring = r; held = x.held; making = x.making; waiting = x
 
 -- Cores
 
--- the formula's clauses, the start clauses and the units listed from the start; the journal and its lines; cells, rings,
--- slots, listed units, turn and stop
+-- the formula's clauses, the start clauses, the units listed from the start and the depth; the journal and its lines;
+-- cells, rings, slots, listed units, turn and stop
 pub record CoreData : Type 0 where
   pub formula : List (List Literal)
   pub starts : List ClauseAt
   pub first : List Literal
+  pub depth : ℕ
   pub journal : List Entry
   pub lines : List Line
   pub cells : List StoredCell
@@ -74,7 +75,7 @@ pub record CoreData : Type 0 where
 -- the state that a core shows, by look-ups in its lists; the ruler wrote nothing
 abbrev pub state_of : CoreData → State
 state_of d = record {
-  opening = record { formula = d.formula; rings = length d.rings; journal = []; starts = d.starts; units = d.first };
+  opening = record { formula = d.formula; rings = length d.rings; depth = d.depth; journal = []; starts = d.starts; units = d.first };
   journal = d.journal;
   cell = λ a. cell_in a d.cells;
   granted = λ r. (ring_in d.rings r).granted;
@@ -91,6 +92,7 @@ data_of o p = record {
   formula = o.formula.clauses;
   starts = o.starts;
   first = o.units;
+  depth = o.depth;
   journal = p.journal;
   lines = p.lines;
   cells = p.cells.items;
@@ -107,7 +109,7 @@ Logged d = d.lines ≡ lines d.formula d.journal
 
 -- every slot has its place; the state is sound, and the lines are those of the journal
 pub record Kept (d : CoreData) : Type 0 where
-  pub wide : length d.slots ≡ 4 * (length d.rings * length d.rings)
+  pub wide : length d.slots ≡ 4 * (length d.rings * length d.rings) * d.depth
   pub sound : Sound (state_of d)
   pub logged : Logged d
 
@@ -118,8 +120,8 @@ abbrev pub start_at : List (List Literal) → ℕ × ℕ → ClauseAt
 start_at F p = record { address = p.0; number = p.1; lits = unwrap_or (formula_clause F p.1) [] }
 
 -- the opening with these pairs of an address and a number for its start clauses; the ruler wrote nothing
-abbrev pub core_opening : List (List Literal) → List (ℕ × ℕ) → List Literal → ℕ → CoreOpening
-core_opening F start units rings = record { formula = F; rings = rings; journal = []; starts = map (start_at F) start; units = units }
+abbrev pub core_opening : List (List Literal) → List (ℕ × ℕ) → List Literal → ℕ → ℕ → CoreOpening
+core_opening F start units rings depth = record { formula = F; rings = rings; depth = depth; journal = []; starts = map (start_at F) start; units = units }
 
 -- a start clause's open cell, with this count
 abbrev pub start_stored : ℕ → ClauseAt → StoredCell

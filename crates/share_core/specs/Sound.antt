@@ -82,17 +82,17 @@ AllInCells o J cell = (n : ℕ) (c : List Literal) → IsShared o n → (book o.
 
 -- Slots
 
--- the address of a put, if it is the slot for this ring and class
-abbrev pub put_after : ℕ → ℕ → ℕ → PutNote → ℕ
-put_after to class a n = if (n.to == to) && (n.class == class) then n.address else a
+-- the address of a put, if it is the slot for this ring and class at this place
+abbrev pub put_after : ℕ → ℕ → ℕ → ℕ → PutNote → ℕ
+put_after to class place a n = if (n.to == to) && ((n.class == class) && (n.place == place)) then n.address else a
 
--- the address that was last put for this ring and class
-abbrev pub last_put : ℕ → ℕ → List PutNote → ℕ
-last_put to class puts = fold (put_after to class) 0 puts
+-- the address that was last put for this ring and class at this place
+abbrev pub last_put : ℕ → ℕ → ℕ → List PutNote → ℕ
+last_put to class place puts = fold (put_after to class place) 0 puts
 
 -- a slot is empty, or has what was last put there
 abbrev pub SlotsSound : CoreOpening → State → Type 0
-SlotsSound o c = (r to k : ℕ) → r < o.rings → to < o.rings → k < 4 → c.slot (slot_of o r to k) ≢ 0 → c.slot (slot_of o r to k) ≡ last_put to k (c.part r).puts
+SlotsSound o c = (r to k i : ℕ) → r < o.rings → to < o.rings → k < 4 → i < o.depth → c.slot (slot_of o r to k i) ≢ 0 → c.slot (slot_of o r to k i) ≡ last_put to k i (c.part r).puts
 
 -- The journal
 

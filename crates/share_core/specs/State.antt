@@ -7,6 +7,7 @@ use Rattle.rup_model.specs.declared.journal.Entry.{Entry}
 use Rattle.rup_model.specs.Basics.{one_if}
 use Rattle.rup_model.specs.Opening.{Opening, IsOpening}
 use Rattle.sat_words.specs.declared.shared.TheConstants.{MAX_ENTRIES}
+use Rattle.share_core.specs.declared.event.TheConstants.{MAX_DEPTH}
 use Rattle.share_core.specs.declared.event.Stop.{Stop}
 use Rattle.share_core.specs.declared.stored.ClauseAt.{ClauseAt}
 use Rattle.share_core.specs.declared.stored.Cell.{Cell}
@@ -36,10 +37,13 @@ with_cell h hs = if h.address == 0 then hs else hs ++ h ∷ []
 abbrev pub opening_of : CoreOpening → Opening
 opening_of o = record { journal = o.journal; starts = map (λ s. record { number = s.number; lits = s.lits }) o.starts; units = o.units }
 
--- an opening for 1 to 16 rings, with its start clauses at addresses that are not 0 and differ
+-- an opening for 1 to 16 rings, with 1 to 16 slots for each two rings and class, and its start clauses at addresses that
+-- are not 0 and differ
 pub record IsCoreOpening (o : CoreOpening) : Type 0 where
   pub some_ring : 1 ≤ o.rings
   pub few_rings : o.rings ≤ RULER_RING
+  pub some_slot : 1 ≤ o.depth
+  pub few_slots : o.depth ≤ MAX_DEPTH
   pub opens : IsOpening o.formula (opening_of o)
   pub room : length o.journal ≤ MAX_ENTRIES
   pub placed : All (λ s. s.address ≢ 0) o.starts
@@ -53,7 +57,7 @@ blank r = record { ring = r; held = []; making = []; waiting = []; seen = []; sh
 
 -- States
 
--- cells by address, grants that were taken and parts by ring, slots by place, with 0 for an empty one
+-- cells by address, grants that were taken and parts by ring, slots in order, with 0 for an empty one
 pub record State : Type 0 where
   pub opening : CoreOpening
   pub journal : List Entry
@@ -110,10 +114,10 @@ maker_at (Some x) = x.maker
 abbrev pub clause_at : State → ℕ → ClauseAt
 clause_at c a = record { address = a; number = number_at (c.cell a); lits = lits_at (c.cell a) }
 
--- how many slots there are: for each two rings one for each of four classes
+-- how many slots there are: for each two rings as many as the depth for each of four classes
 abbrev pub slots : CoreOpening → ℕ
-slots o = 4 * (o.rings * o.rings)
+slots o = 4 * (o.rings * o.rings) * o.depth
 
--- the place of a ring's slot for another ring
-abbrev pub slot_of : CoreOpening → ℕ → ℕ → ℕ → ℕ
-slot_of o from to class = 4 * (from * o.rings + to) + class
+-- where a ring's slot for another ring stands, by its class and its place among those of the class
+abbrev pub slot_of : CoreOpening → ℕ → ℕ → ℕ → ℕ → ℕ
+slot_of o from to class place = (4 * (from * o.rings + to) + class) * o.depth + place

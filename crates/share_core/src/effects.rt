@@ -5,6 +5,7 @@ ghost use Rattle.sat_words.specs.declared.line.Line.TheVariants.{Add as AddLine,
 ghost use Rattle.rup_model.specs.declared.journal.Entry.TheVariants.{Add as AddEntry};
 ghost use Rattle.rup_model.specs.Journal.{book};
 ghost use Rattle.share_core.specs.declared.event.Event.TheVariants.{Grant, TakeTurn, GiveTurn, AddClause, AddUnit, AddEmpty, Reduce as ReduceEvent, OpenCell, Share, DropCount, Bury, Put, Get, Publish, See, Stop as StopEvent};
+ghost use Rattle.share_core.specs.declared.event.TheConstants.{MAX_DEPTH};
 ghost use Rattle.share_core.specs.declared.progress.Origin.{Origin};
 ghost use Rattle.share_core.specs.State.{clause_at};
 ghost use Rattle.share_core.specs.Enabled.{IsEnabled};
@@ -22,15 +23,37 @@ use sat_words::{Line, Lit, Lits, MAX_ENTRIES};
 use std::alloc::{AllocError, Global};
 
 impl Progress {
-    /// The place of a ring's slot for another ring.
-    pub(crate) fn slot_of(&self, from: u32, to: u32, class: u8) -> usize
+    /// Where the first of a ring's slots for another ring and a class stands, if there is one for each two rings and
+    /// class.
+    fn pool_of(&self, from: u32, to: u32, class: u8) -> usize
         requires few { length self.now.rings.items ≤ 16 }
         requires from { from < length self.now.rings.items }
         requires to { to < length self.now.rings.items }
         requires class { class < 4 }
-        ensures { result ≡ 4 * (from * length self.now.rings.items + to) + class }
+        ensures pool { result ≡ 4 * (from * length self.now.rings.items + to) + class }
+        ensures small { result < 1024 }
     {
         4 * (from as usize * self.rings.len() + to as usize) + class as usize
+    }
+
+    /// Where a ring's slot for another ring stands.
+    pub(crate) fn slot_of(
+        &self,
+        origin: &Origin,
+        from: u32,
+        to: u32,
+        class: u8,
+        place: u32,
+    ) -> usize
+        requires few { length self.now.rings.items ≤ 16 }
+        requires from { from < length self.now.rings.items }
+        requires to { to < length self.now.rings.items }
+        requires class { class < 4 }
+        requires shallow { origin.now.depth ≤ MAX_DEPTH }
+        requires place { place < origin.now.depth }
+        ensures { result ≡ (4 * (from * length self.now.rings.items + to) + class) * origin.now.depth + place }
+    {
+        self.pool_of(from, to, class) * origin.depth as usize + place as usize
     }
 
     /// The clause whose address is in the slot.
@@ -271,20 +294,26 @@ impl Progress {
         ring: u32,
         to: u32,
         class: u8,
+        place: u32,
         address: u64,
     ) -> Result<(), AllocError>
         requires kept { Kept (data_of origin.now self.old) }
-        requires enabled { IsEnabled (state_of (data_of origin.now self.old)) (Put ring to class address) }
-        ensures after { OnOk result (state_of (data_of origin.now self.new) ≡ after (state_of (data_of origin.now self.old)) (Put ring to class address)) }
+        requires enabled { IsEnabled (state_of (data_of origin.now self.old)) (Put ring to class place address) }
+        ensures after { OnOk result (state_of (data_of origin.now self.new) ≡ after (state_of (data_of origin.now self.old)) (Put ring to class place address)) }
         ensures logged { OnOk result (Logged (data_of origin.now self.new)) }
         ensures wide { OnOk result (length self.new.slots.items ≡ length self.old.slots.items) }
     {
-        let slot = self.slot_of(ring, to, class);
+        let slot = self.slot_of(origin, ring, to, class, place);
         let found = self.found_in(alloc, slot)?;
         let own = &mut self.rings[ring as usize];
         remove_at(&mut own.held, address);
         add_cell(&mut own.held, found)?;
-        own.puts.push(PutNote { to, class, address })?;
+        own.puts.push(PutNote {
+            to,
+            class,
+            place,
+            address,
+        })?;
         self.slots[slot] = address;
         Ok(())
     }
@@ -297,14 +326,15 @@ impl Progress {
         ring: u32,
         from: u32,
         class: u8,
+        place: u32,
     ) -> Result<(), AllocError>
         requires kept { Kept (data_of origin.now self.old) }
-        requires enabled { IsEnabled (state_of (data_of origin.now self.old)) (Get ring from class) }
-        ensures after { OnOk result (state_of (data_of origin.now self.new) ≡ after (state_of (data_of origin.now self.old)) (Get ring from class)) }
+        requires enabled { IsEnabled (state_of (data_of origin.now self.old)) (Get ring from class place) }
+        ensures after { OnOk result (state_of (data_of origin.now self.new) ≡ after (state_of (data_of origin.now self.old)) (Get ring from class place)) }
         ensures logged { OnOk result (Logged (data_of origin.now self.new)) }
         ensures wide { OnOk result (length self.new.slots.items ≡ length self.old.slots.items) }
     {
-        let slot = self.slot_of(from, ring, class);
+        let slot = self.slot_of(origin, from, ring, class, place);
         let found = self.found_in(alloc, slot)?;
         let own = &mut self.rings[ring as usize];
         add_cell(&mut own.held, found)?;

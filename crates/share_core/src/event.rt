@@ -4,6 +4,9 @@ use sat_words::{Lit, Lits};
 /// No ring shares its clauses more often than this, so that no count overflows a word.
 pub const MAX_SHARES: u64 = 1 << 56;
 
+/// There are no more slots than this for each two rings and class.
+pub const MAX_DEPTH: u32 = 16;
+
 /// Why the rings stop, and who said so. The kinds are 1 for a model, 2 for a refutation, 3 for want of room, 4 for a
 /// fault of the proof's output and 5 for want of memory.
 #[derive(Clone, Copy, PartialEq, Eq, Debug)]
@@ -15,7 +18,7 @@ pub struct Stop {
 }
 
 /// One step of one ring. Addresses are plain names of cells, never 0. Rings are numbered from 0, and classes, by which
-/// pools order clauses, are 0 to 3.
+/// pools order clauses, are 0 to 3. The slots for two rings and a class have their places, from 0.
 #[derive(Drop)]
 pub enum Event {
     /// Takes the ring's grant: from then on the ring itself holds each start clause.
@@ -98,7 +101,7 @@ pub enum Event {
         /// Where the cell stands.
         address: u64,
     },
-    /// Puts a cell that the ring holds into its slot for another ring, and takes back what was there.
+    /// Puts a cell that the ring holds into a slot of its own for another ring, and takes back what was there.
     Put {
         /// Whose step it is.
         ring: u32,
@@ -106,10 +109,12 @@ pub enum Event {
         to: u32,
         /// The class of the slot.
         class: u8,
+        /// The place of the slot.
+        place: u32,
         /// Where the cell stands.
         address: u64,
     },
-    /// Takes what is in the slot that another ring has for this one.
+    /// Takes what is in a slot that another ring has for this one.
     Get {
         /// Whose step it is.
         ring: u32,
@@ -117,6 +122,8 @@ pub enum Event {
         from: u32,
         /// The class of the slot.
         class: u8,
+        /// The place of the slot.
+        place: u32,
     },
     /// Lists a unit.
     Publish {

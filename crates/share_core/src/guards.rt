@@ -9,7 +9,7 @@ ghost use Rattle.rup_model.specs.Journal.{recent, is_ring};
 ghost use Rattle.share_core.specs.declared.progress.Origin.{Origin};
 ghost use Rattle.share_core.specs.Learning.{follows, may_learn, may_derive};
 ghost use Rattle.share_core.specs.Machine.{has_at, data_of, ring_in, state_of};
-ghost use Rattle.share_core.specs.Guards.{is_long, may_add, may_tell, writes, holds, is_enabled};
+ghost use Rattle.share_core.specs.Guards.{is_long, may_add, may_tell, writes, holds, exchanges, is_enabled};
 
 use crate::cells::is_free;
 use crate::event::{Event, MAX_SHARES};
@@ -169,10 +169,14 @@ impl Progress {
             && count_recent(self.journal.as_slice(), ring) as u64 >= LEARNED_PER_REDUCTION
     }
 
-    fn may_exchange(&self, ring: u32, other: u32, class: u8) -> bool
-        ensures { result ≡ (nat_lt ring (length self.now.rings.items) && (nat_lt other (length self.now.rings.items) && (not (other == ring) && nat_lt class 4))) }
+    fn may_exchange(&self, origin: &Origin, ring: u32, other: u32, class: u8, place: u32) -> bool
+        ensures { result ≡ exchanges (state_of (data_of origin.now self.now)) ring other class place }
     {
-        self.is_ring(ring) && self.is_ring(other) && other != ring && class < 4
+        self.is_ring(ring)
+            && self.is_ring(other)
+            && other != ring
+            && class < 4
+            && place < origin.depth
     }
 
     fn may_publish(&self, origin: &Origin, ring: u32, lit: Lit) -> bool
@@ -234,11 +238,18 @@ impl Progress {
                 ring,
                 to,
                 class,
+                place,
                 address,
             } => {
-                self.may_exchange(*ring, *to, *class) && has_at(&self.ring(*ring).held, *address)
+                self.may_exchange(origin, *ring, *to, *class, *place)
+                    && has_at(&self.ring(*ring).held, *address)
             }
-            Event::Get { ring, from, class } => self.may_exchange(*ring, *from, *class),
+            Event::Get {
+                ring,
+                from,
+                class,
+                place,
+            } => self.may_exchange(origin, *ring, *from, *class, *place),
             Event::Publish { ring, lit } => self.may_publish(origin, *ring, *lit),
             Event::See { ring } => {
                 self.is_ring(*ring) && self.ring(*ring).seen.len() < self.units.len()

@@ -25,7 +25,7 @@ pub use cell_laws::{
     cells_hold_the_clauses, counts_are_bounded, numbers_are_below_the_next, slots_have_open_cells,
     what_a_ring_builds, what_a_ring_holds, what_follows_is_valid, what_waits,
 };
-pub use event::{Event, MAX_SHARES, Stop};
+pub use event::{Event, MAX_DEPTH, MAX_SHARES, Stop};
 pub use laws::{
     enabled_events_keep_sound, enabled_lists_join, entries_are_of_rings, events_keep_sound,
     events_leave_states, journals_grow, openings_are_sound, recent_by_own_entries, sound_is_plain,

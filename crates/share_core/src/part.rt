@@ -3,13 +3,15 @@ use rup_model::Entry;
 use sat_words::Lit;
 use std::collections::LinkedList;
 
-/// The formula, the number of rings, the ruler's journal, the start clauses in their cells, and the units that are
-/// listed from the start. No value of it is made.
+/// The formula, the numbers of rings and of slots, the ruler's journal, the start clauses in their cells, and the units
+/// that are listed from the start. No value of it is made.
 pub struct CoreOpening {
     /// The formula's clauses.
     pub formula: LinkedList<LinkedList<Lit>>,
     /// How many rings there are.
     pub rings: u32,
+    /// How many slots there are for each two rings and class.
+    pub depth: u32,
     /// What the ruler wrote.
     pub journal: LinkedList<Entry>,
     /// The start clauses, with their addresses.

@@ -22,6 +22,7 @@ pub(crate) struct Origin {
     pub(crate) formula: Formula,
     pub(crate) starts: Items<ClauseAt>,
     pub(crate) units: Items<Lit>,
+    pub(crate) depth: u32,
 }
 
 /// What the events have changed so far.

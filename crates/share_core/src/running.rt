@@ -84,9 +84,15 @@ impl Progress {
                 ring,
                 to,
                 class,
+                place,
                 address,
-            } => self.put(alloc, origin, *ring, *to, *class, *address),
-            Event::Get { ring, from, class } => self.get(alloc, origin, *ring, *from, *class),
+            } => self.put(alloc, origin, *ring, *to, *class, *place, *address),
+            Event::Get {
+                ring,
+                from,
+                class,
+                place,
+            } => self.get(alloc, origin, *ring, *from, *class, *place),
             Event::Publish { ring, lit } => self.publish(origin, *ring, *lit),
             Event::See { ring } => self.see(origin, *ring),
             Event::Stop { ring, kind } => {
@@ -225,16 +231,17 @@ fn listed(alloc: Global, units: &[Lit]) -> Result<Items<Lit>, AllocError>
 
 impl Core {
     /// The machine before the first event. Start clauses are given by their addresses and their numbers in the formula,
-    /// from 1.
+    /// from 1. The depth is how many slots there are for each two rings and class.
     pub fn new(
         alloc: Global,
         formula: Formula,
         start: &[(u64, u64)],
         units: &[Lit],
         rings: u32,
+        depth: u32,
     ) -> Result<Core, AllocError>
-        requires { IsCoreOpening (core_opening formula.clauses start.now units.now rings) }
-        ensures { IfOk result (λ core. state_of core ≡ opened (core_opening formula.clauses start.now units.now rings)) }
+        requires { IsCoreOpening (core_opening formula.clauses start.now units.now rings depth) }
+        ensures { IfOk result (λ core. state_of core ≡ opened (core_opening formula.clauses start.now units.now rings depth)) }
     {
         let starts = start_clauses(alloc, formula.clauses(), start)?;
         let cells = start_cells(alloc, starts.as_slice(), rings)?;
@@ -243,7 +250,10 @@ impl Core {
             lines: Items::new(alloc),
             cells,
             rings: blank_rings(alloc, rings)?,
-            slots: empty_slots(alloc, 4 * (rings as usize * rings as usize))?,
+            slots: empty_slots(
+                alloc,
+                4 * (rings as usize * rings as usize) * depth as usize,
+            )?,
             units: listed(alloc, units)?,
             turn: None,
             stop: None,
@@ -253,6 +263,7 @@ impl Core {
                 formula,
                 starts,
                 units: listed(alloc, units)?,
+                depth,
             },
             progress,
         })
@@ -290,15 +301,19 @@ impl Core {
     }
 
     /// The address in a ring's slot for another ring; 0 if it is empty, or there is none.
-    pub fn slot(&self, from: u32, to: u32, class: u8) -> u64
-        ensures there { let c = state_of self.now in from < c.opening.rings → to < c.opening.rings → class < 4 → result ≡ c.slot (slot_of c.opening from to class) }
-        ensures none { let c = state_of self.now in (c.opening.rings ≤ from) ⊎ (c.opening.rings ≤ to) ⊎ (4 ≤ class) → result ≡ 0 }
+    pub fn slot(&self, from: u32, to: u32, class: u8, place: u32) -> u64
+        ensures there { let c = state_of self.now in from < c.opening.rings → to < c.opening.rings → class < 4 → place < c.opening.depth → result ≡ c.slot (slot_of c.opening from to class place) }
+        ensures none { let c = state_of self.now in (c.opening.rings ≤ from) ⊎ (c.opening.rings ≤ to) ⊎ (4 ≤ class) ⊎ (c.opening.depth ≤ place) → result ≡ 0 }
     {
-        if !self.progress.is_ring(from) || !self.progress.is_ring(to) || class >= 4 {
+        if !self.progress.is_ring(from)
+            || !self.progress.is_ring(to)
+            || class >= 4
+            || place >= self.origin.depth
+        {
             return 0;
         }
-        let place = self.progress.slot_of(from, to, class);
-        self.progress.slots[place]
+        let slot = self.progress.slot_of(&self.origin, from, to, class, place);
+        self.progress.slots[slot]
     }
 
     /// The listed units, in order.

@@ -28,13 +28,15 @@ pub struct Cell {
     pub maker: Option<u32>,
 }
 
-/// A put: for which ring, of which class, which address.
+/// A put: for which ring, of which class, at which place, which address.
 #[derive(Clone, Copy)]
 pub struct PutNote {
     /// For which ring.
     pub to: u32,
     /// Of which class.
     pub class: u8,
+    /// At which place.
+    pub place: u32,
     /// Where the cell stands.
     pub address: u64,
 }

@@ -230,6 +230,8 @@ module _ (F : List (List Literal)) (l : Layout) (J : List Entry) (ss : List (ℕ
   begun_opens = record {
     some_ring = may.some_ring;
     few_rings = may.few_rings;
+    some_slot = may.some_slot;
+    few_slots = may.few_slots;
     opens = subst (λ starts. IsOpening F (record { journal = J; starts = starts; units = us })) (sym (same_starts (first_cell l) ss)) may.opens;
     room = may.few_entries;
     placed = All_from_In (λ s. s.address ≢ 0) (starts_at (first_cell l) ss) (λ h i e. let low = (start_vars l ss (first_cell l) may.starts h i).0 in omega arith);
@@ -247,6 +249,7 @@ module _ (F : List (List Literal)) (l : Layout) (J : List Entry) (ss : List (ℕ
   pub begun_places : total ss ≤ l.words → Places l (opened (begun_with F l J ss us))
   begun_places le = record {
     rings = refl;
+    depth = refl;
     small = may.few_vars;
     words = λ a x e. let s = cell_start l.rings (starts_at (first_cell l) ss) a x e in
         subst (λ (y : ℕ × Cell). (room l (begun_with F l J ss us) J).words y.1.number ≡ Some (range y.0 (words_for (length y.1.lits)))) (λ i. (s.2 i, s.3 i))

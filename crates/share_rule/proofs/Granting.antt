@@ -56,9 +56,9 @@ unstopped granted r (Some t) h closed = λ i. if ne_eqb t.ring r (λ e. true≢f
 
 -- and has put nothing into a slot
 none_given : (c d : State) (r : ℕ) → Sound c → r < c.opening.rings → d.opening ≡ c.opening → d.slot ≡ c.slot → c.part r ≡ blank r → HasGiven d r []
-none_given c d r sound lt same slots fresh = subst (λ (y : CoreOpening × (ℕ → ℕ)). (to class : ℕ) → to < y.0.rings → class < 4 → y.1 (slot_of y.0 r to class) ≢ 0 → Contains [] (clause_at d (y.1 (slot_of y.0 r to class))))
+none_given c d r sound lt same slots fresh = subst (λ (y : CoreOpening × (ℕ → ℕ)). (to class place : ℕ) → to < y.0.rings → class < 4 → place < y.0.depth → y.1 (slot_of y.0 r to class place) ≢ 0 → Contains [] (clause_at d (y.1 (slot_of y.0 r to class place))))
     (λ i. (sym same i, sym slots i))
-    (λ to class lt' few some. absurd (some (sound.slots r to class lt lt' few some ∙ ap (λ (q : Part). last_put to class q.puts) fresh)))
+    (λ to class place lt' few at some. absurd (some (sound.slots r to class place lt lt' few at some ∙ ap (λ (q : Part). last_put to class place q.puts) fresh)))
 
 module _ {S : Type 0} (stands : S → BookOrigin → Layout → CoreOpening → List Entry → Bool → Type 0) (k : Key) where
   grant_stops : (o : Option Stop) (v : View) → {r : ℕ} → IsStopOf o v.stop v.parts → IsStopOf o v.stop (new_part v.opening r ∷ v.parts)
@@ -109,7 +109,7 @@ module _ {S : Type 0} (stands : S → BookOrigin → Layout → CoreOpening → 
       } in
       let frame : Frame r c d h.glue h.glue = frame_of r c d h.glue (record { opening = refl; journal = refl; turn = refl; units = refl; stop = refl; slots = λ _. refl; clauses = λ _. refl }) else_where others in
       let next = acted stands l s h d h.glue id r v w (set s.words (grant_at r) 0) s.homes at (left_one c.opening c (Grant r) h.left (lt, closed))
-      (record { rings = h.places.rings; small = h.places.small; words = h.places.words; vars = h.places.vars; starts = h.places.starts; entries = h.places.entries; units = h.places.units; few = h.places.few; first = h.places.first })
+      (record { rings = h.places.rings; depth = h.places.depth; small = h.places.small; words = h.places.words; vars = h.places.vars; starts = h.places.starts; entries = h.places.entries; units = h.places.units; few = h.places.few; first = h.places.first })
       (grant_words l c h.glue s.words r p (standing_of stands l s h) in_layout h.words) frame own lt here h.fault h.home
       (record {
         rights = λ i it. let q = times_without r i v.rights some_right in dite (ℕ_discrete i r)

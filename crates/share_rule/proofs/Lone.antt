@@ -30,8 +30,8 @@ stays_lone c (Read r a) on h = h
 stays_lone c (Share r a) on h = h
 stays_lone c (DropCount r a) on h = h
 stays_lone c (Bury r a) on h = h
-stays_lone c (Put r to k a) on h = let one = h.0 in let mine : r < c.opening.rings = on.0 in let other : to < c.opening.rings = on.1 in absurd (on.2 (omega arith))
-stays_lone c (Get r from k) on h = (h.0, λ s. at_put c.slot (slot_of c.opening from r k) 0 (λ (n : ℕ). n ≡ 0) s (λ _. refl) (λ _. h.1 s))
+stays_lone c (Put r to k i a) on h = let one = h.0 in let mine : r < c.opening.rings = on.0 in let other : to < c.opening.rings = on.1 in absurd (on.2 (omega arith))
+stays_lone c (Get r from k i) on h = (h.0, λ s. at_put c.slot (slot_of c.opening from r k i) 0 (λ (n : ℕ). n ≡ 0) s (λ _. refl) (λ _. h.1 s))
 stays_lone c (Publish r lit) on h = h
 stays_lone c (See r) on h = h
 stays_lone c (Stop r kind) on h = h

@@ -105,9 +105,9 @@ refused_more o J was now more (NoHole need largest) lt = lt
 -- what slots have is the same if slots and clauses are
 pub given_same : (c d : State) (i : ℕ) (gave : List ClauseAt) → d.opening ≡ c.opening → ((k : ℕ) → d.slot k ≡ c.slot k) → ((a : ℕ) → clause_at d a ≡ clause_at c a) → HasGiven c i gave → HasGiven d i gave
 given_same c d i gave same slots clauses h = subst
-    (λ (o : CoreOpening). (to class : ℕ) → to < o.rings → class < 4 → d.slot (slot_of o i to class) ≢ 0 → Contains gave (clause_at d (d.slot (slot_of o i to class)))) (sym same)
-    (λ to class lt few some. let k : ℕ = slot_of c.opening i to class in
-    subst (λ (h' : ClauseAt). Contains gave h') (sym (ap (clause_at d) (slots k) ∙ clauses (c.slot k))) (h to class lt few (λ e. some (slots k ∙ e))))
+    (λ (o : CoreOpening). (to class place : ℕ) → to < o.rings → class < 4 → place < o.depth → d.slot (slot_of o i to class place) ≢ 0 → Contains gave (clause_at d (d.slot (slot_of o i to class place)))) (sym same)
+    (λ to class place lt few at some. let k : ℕ = slot_of c.opening i to class place in
+    subst (λ (h' : ClauseAt). Contains gave h') (sym (ap (clause_at d) (slots k) ∙ clauses (c.slot k))) (h to class place lt few at (λ e. some (slots k ∙ e))))
 
 -- what another stop leaves of the pass's
 pub stops_same : (o : Option Stop) (v w : View) (q : RingPart) → v.parts ≡ only v ∷ [] → w.parts ≡ q ∷ [] → w.stop ≡ v.stop → q.set ≡ (only v).set → IsStopOf o v.stop v.parts → IsStopOf o w.stop w.parts

@@ -87,6 +87,7 @@ module _ (l : Layout) (small : table_words l ≤ 2 ^ 63) (r : ℕ) where
       left = left';
       places = record {
         rings = pl.rings;
+        depth = pl.depth;
         small = pl.small;
         words = λ a x is. ap (λ (m : Room). m.words x.number) (room_next e ∙ free) ∙ pl.words a x is;
         vars = pl.vars;
@@ -174,6 +175,7 @@ module _ (l : Layout) (small : table_words l ≤ 2 ^ 63) (r : ℕ) where
           left = left_one o c (event.AddClause r kind lits a) left (lt, writes going, k.0, k.1, free, some, k.2);
           places = record {
             rings = pl.rings;
+            depth = pl.depth;
             small = pl.small;
             words = λ b y. at_put c.cell a (Some new) (λ (q : Option Cell). q ≡ Some y → (room l o (c.journal ++ e ∷ [])).words y.number ≡ Some (range b (words_for (length y.lits)))) b
                 (λ here is. subst (λ (z : Cell). (room l o (c.journal ++ e ∷ [])).words z.number ≡ Some (range b (words_for (length z.lits)))) (some_same new y is)
@@ -244,6 +246,7 @@ module _ (l : Layout) (small : table_words l ≤ 2 ^ 63) (r : ℕ) where
           left = left_one o c (event.Bury r a) left (lt, writes going, k);
           places = record {
             rings = pl.rings;
+            depth = pl.depth;
             small = pl.small;
             words = λ b y. at_put c.cell a None (λ (q : Option Cell). q ≡ Some y → (room l o (c.journal ++ e ∷ [])).words y.number ≡ Some (range b (words_for (length y.lits)))) b
                 (λ here is. absurd (none_some y is))

@@ -197,6 +197,7 @@ module _ (l : Layout) (small : table_words l ≤ 2 ^ 63) where
   pub places_stand : (c : State) → Sound c → Places l c → Stands l c
   places_stand c sound p = record {
     rings = p.rings;
+    depth = p.depth;
     inside = λ a x e. let t = (room_sound c.opening c.journal).some x.number (range a (words_for (length x.lits))) (p.words a x e) in (t.1, t.2);
     apart = λ a b x y e f ne. ranges_apart (room l c.opening c.journal) x.number y.number (range a (words_for (length x.lits))) (range b (words_for (length y.lits))) (room_sound c.opening c.journal) (p.words a x e) (p.words b y f)
         (λ q. ne (sound.cells.own a b x y e f q));
@@ -243,5 +244,9 @@ square : (n : ℕ) → n ≤ 16 → n * n ≤ 16 * 16
 square n le = let a : n * n ≤ n * 16 = mul-le-mul_left n le in let b : n * 16 ≤ 16 * 16 = mul-le-mul_right 16 le in omega arith
 
 -- the table is small
-pub few_words : (l : Layout) → l.rings ≤ 16 → l.vars ≤ 2 ^ 30 → l.words ≤ 2 ^ 31 → table_words l < 2 ^ 62
-few_words l r v w = let q = square l.rings r in omega arith
+pub few_words : (l : Layout) → l.rings ≤ 16 → l.vars ≤ 2 ^ 30 → l.words ≤ 2 ^ 31 → l.depth ≤ 16 → table_words l < 2 ^ 62
+few_words l r v w d =
+    let q = square l.rings r in
+    let m : 4 * (l.rings * l.rings) ≤ 4 * (16 * 16) = omega arith in
+    let a : 4 * (l.rings * l.rings) * l.depth ≤ 4 * (16 * 16) * l.depth = mul-le-mul_right l.depth m in
+    omega arith

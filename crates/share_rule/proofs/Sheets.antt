@@ -107,11 +107,11 @@ long_entry m n lits r kind le = ⊎_elim
 -- what slots have stays as given
 pub noted_given : (r : ℕ) (c d : State) (glue glue' : ℕ → ℕ) (i : ℕ) (gave : List ClauseAt) → Sound c → Beside r c d glue glue' → i < c.opening.rings → HasGiven c i gave → HasGiven d i gave
 noted_given r c d glue glue' i gave sound b lt h = subst
-    (λ (o : CoreOpening). (to class : ℕ) → to < o.rings → class < 4 → d.slot (slot_of o i to class) ≢ 0 → Contains gave (clause_at d (d.slot (slot_of o i to class)))) (sym b.opening)
-    (λ to class there few some.
-    let k : ℕ = slot_of c.opening i to class in
+    (λ (o : CoreOpening). (to class place : ℕ) → to < o.rings → class < 4 → place < o.depth → d.slot (slot_of o i to class place) ≢ 0 → Contains gave (clause_at d (d.slot (slot_of o i to class place)))) (sym b.opening)
+    (λ to class place there few at some.
+    let k : ℕ = slot_of c.opening i to class place in
     let was : c.slot k ≢ 0 = λ e. some (b.slot k ∙ e) in
-    let x = slot_open c k sound (slot_below c.opening i to class lt there few) was in
+    let x = slot_open c k sound (slot_below c.opening i to class place lt there few at) was in
     let same : d.cell (c.slot k) ≡ c.cell (c.slot k) = b.counted (c.slot k) x.0 x.1.0 x.2 ∙ sym x.1.0 in
     let clause : clause_at d (d.slot k) ≡ clause_at c (c.slot k) = ap (clause_at d) (b.slot k) ∙ (λ j. record { address = c.slot k; number = number_at (same j); lits = lits_at (same j) }) in
-    subst (λ (y : ClauseAt). Contains gave y) (sym clause) (h to class there few was))
+    subst (λ (y : ClauseAt). Contains gave y) (sym clause) (h to class place there few at was))

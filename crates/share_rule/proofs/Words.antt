@@ -88,6 +88,7 @@ module _ (l : Layout) (c : State) (st : Stands l c) (a n : ℕ) (x : Cell) (is :
   pub places_recounted : Places l c → Places l (recounted c r a n p)
   places_recounted pl = record {
     rings = pl.rings;
+    depth = pl.depth;
     small = pl.small;
     words = λ b y e. let o = was b y e in subst (λ (k : ℕ × List Literal). (room l c.opening c.journal).words k.0 ≡ Some (range b (words_for (length k.1)))) (λ i. (o.2 i, o.3 i)) (pl.words b o.0 o.1);
     vars = λ b y e. let o = was b y e in subst (λ k. InVars l k) o.3 (pl.vars b o.0 o.1);

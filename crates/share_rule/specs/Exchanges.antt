@@ -27,9 +27,9 @@ IsOther r v = (v.parts ≡ only v ∷ []) × (r < v.opening.rings) × (r ≢ (on
 
 -- Slots
 
--- the word of the slot of one ring for another
-abbrev pub slot_word : View → ℕ → ℕ → ℕ → ℕ
-slot_word v from to class = slot_at v.layout (slot_of v.opening from to class)
+-- the word of a slot of one ring for another
+abbrev pub slot_word : View → ℕ → ℕ → ℕ → ℕ → ℕ
+slot_word v from to class place = slot_at v.layout (slot_of v.opening from to class place)
 
 -- the list with the glue of a clause; at address 0 there is none
 abbrev pub with_glue : ClauseAt → ℕ → List GlueAt → List GlueAt
@@ -44,16 +44,16 @@ abbrev pub gave_part : PutNote → ClauseAt → ℕ → RingPart → RingPart
 gave_part n h g p = record p { core = put_part n h p.core; glues = with_glue h g p.glues; gave = p.gave ++ clause_in n.address p.core.held ∷ [] }
 
 -- it holds what came out, and notes the slot, with how often it had found no other unit listed
-abbrev pub took_part : ℕ → ℕ → ClauseAt → ℕ → RingPart → RingPart
-took_part from class h g p = record p { core = got_part h p.core; glues = with_glue h g p.glues; polls = p.polls ++ record { from = from; class = class; caught_up = p.caught_up } ∷ [] }
+abbrev pub took_part : ℕ → ℕ → ℕ → ClauseAt → ℕ → RingPart → RingPart
+took_part from class place h g p = record p { core = got_part h p.core; glues = with_glue h g p.glues; polls = p.polls ++ record { from = from; class = class; place = place; caught_up = p.caught_up } ∷ [] }
 
--- a count is swapped into the ring's slot for another
-abbrev pub after_put : ℕ → ℕ → ℕ → ClauseAt → ℕ → View → View
-after_put to class a h g v = stepped (slot_word v (only v).core.ring to class) (Swap a) h.address (changed (gave_part (record { to = to; class = class; address = a }) h g) v)
+-- a count is swapped into a slot of the ring for another
+abbrev pub after_put : ℕ → ℕ → ℕ → ℕ → ClauseAt → ℕ → View → View
+after_put to class place a h g v = stepped (slot_word v (only v).core.ring to class place) (Swap a) h.address (changed (gave_part (record { to = to; class = class; place = place; address = a }) h g) v)
 
--- a count is swapped out of another ring's slot for this one
-abbrev pub after_get : ℕ → ℕ → ClauseAt → ℕ → View → View
-after_get from class h g v = stepped (slot_word v from (only v).core.ring class) (Swap 0) h.address (changed (took_part from class h g) v)
+-- a count is swapped out of a slot of another ring for this one
+abbrev pub after_get : ℕ → ℕ → ℕ → ClauseAt → ℕ → View → View
+after_get from class place h g v = stepped (slot_word v from (only v).core.ring class place) (Swap 0) h.address (changed (took_part from class place h g) v)
 
 -- The stop
 

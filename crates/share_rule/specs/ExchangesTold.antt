@@ -10,13 +10,13 @@ use Rattle.share_rule.specs.Told.{Knows}
 module _ {S : Type 0} where
   -- whichever slot the word is, the clause at the address that came out is held with its glue; the ring gave it before
   abbrev pub did_put : Step S → Me S View → ℕ → Me S View → Type 0
-  did_put st m n m' = (to class : ℕ) → to < m.0.opening.rings → class < 4 → st.word ≡ slot_word m.0 (only m.0).core.ring to class
-      → (h : ClauseAt) × (g : ℕ) × Knows (after_put to class st.first h g m.0) m m' × (h.address ≡ n) × KeepsGlues h g (only m.0) × (n ≢ 0 → Contains (only m.0).gave h)
+  did_put st m n m' = (to class place : ℕ) → to < m.0.opening.rings → class < 4 → place < m.0.opening.depth → st.word ≡ slot_word m.0 (only m.0).core.ring to class place
+      → (h : ClauseAt) × (g : ℕ) × Knows (after_put to class place st.first h g m.0) m m' × (h.address ≡ n) × KeepsGlues h g (only m.0) × (n ≢ 0 → Contains (only m.0).gave h)
 
   -- the same of what another ring gave
   abbrev pub did_get : Step S → Me S View → ℕ → Me S View → Type 0
-  did_get st m n m' = (from class : ℕ) → from < m.0.opening.rings → class < 4 → st.word ≡ slot_word m.0 from (only m.0).core.ring class
-      → (h : ClauseAt) × (g : ℕ) × Knows (after_get from class h g m.0) m m' × (h.address ≡ n) × KeepsGlues h g (only m.0)
+  did_get st m n m' = (from class place : ℕ) → from < m.0.opening.rings → class < 4 → place < m.0.opening.depth → st.word ≡ slot_word m.0 from (only m.0).core.ring class place
+      → (h : ClauseAt) × (g : ℕ) × Knows (after_get from class place h g m.0) m m' × (h.address ≡ n) × KeepsGlues h g (only m.0)
 
   -- the stop that stands, if any
   abbrev pub looked_at_stop : Step S → Me S View → ℕ → Me S View → Type 0

@@ -11,6 +11,7 @@ use Rattle.rup_model.specs.declared.journal.TheConstants.{RULER_RING}
 use Rattle.rup_model.specs.declared.journal.Entry.{Entry}
 use Rattle.rup_model.specs.Journal.{ended}
 use Rattle.rup_model.specs.Opening.{Start, IsOpening, AreAscending}
+use Rattle.share_core.specs.declared.event.TheConstants.{MAX_DEPTH}
 use Rattle.share_core.specs.declared.stored.ClauseAt.{ClauseAt}
 use Rattle.share_core.specs.declared.part.CoreOpening.{CoreOpening}
 use Rattle.share_rule.specs.declared.Layout.{Layout}
@@ -31,7 +32,7 @@ starts_at a (s ∷ ss) = record { address = a; number = s.0; lits = s.1 } ∷ st
 
 -- what the rings start from
 abbrev pub begun_with : List (List Literal) → Layout → List Entry → List (ℕ × List Literal) → List Literal → CoreOpening
-begun_with F l J ss us = record { formula = F; rings = l.rings; journal = J; starts = starts_at (first_cell l) ss; units = us }
+begun_with F l J ss us = record { formula = F; rings = l.rings; depth = l.depth; journal = J; starts = starts_at (first_cell l) ss; units = us }
 
 -- as the log has them, at no address
 abbrev pub starts_of : List (ℕ × List Literal) → List Start
@@ -44,6 +45,8 @@ pub record MayBegin (F : List (List Literal)) (l : Layout) (J : List Entry) (ss 
   pub few_rings : l.rings ≤ RULER_RING
   pub few_vars : l.vars ≤ 2 ^ 30
   pub few_words : l.words ≤ 2 ^ 31
+  pub some_slot : 1 ≤ l.depth
+  pub few_slots : l.depth ≤ MAX_DEPTH
   pub opens : IsOpening F (record { journal = J; starts = starts_of ss; units = us })
   pub ascending : AreAscending (starts_of ss)
   pub going : ended F J ≡ false

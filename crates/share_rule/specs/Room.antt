@@ -70,6 +70,7 @@ room l o J = fold room_after (start_room l o.starts) (drop (length o.journal) J)
 -- there are no more than two a variable
 pub record Places (l : Layout) (c : State) : Type 0 where
   pub rings : l.rings ≡ c.opening.rings
+  pub depth : l.depth ≡ c.opening.depth
   pub small : l.vars ≤ 2 ^ 30
   pub words : (a : ℕ) (x : Cell) → c.cell a ≡ Some x → (room l c.opening c.journal).words x.number ≡ Some (range a (words_for (length x.lits)))
   pub vars : (a : ℕ) (x : Cell) → c.cell a ≡ Some x → InVars l x.lits

@@ -24,6 +24,7 @@ use Rattle.share_rule.specs.Views.{glue_in, own_stop}
 -- the words of cells lie in the table and don't overlap; all literals are on the layout's variables
 pub record Stands (l : Layout) (c : State) : Type 0 where
   pub rings : l.rings ≡ c.opening.rings
+  pub depth : l.depth ≡ c.opening.depth
   pub inside : (a : ℕ) (x : Cell) → c.cell a ≡ Some x → (first_cell l ≤ a) × (a + words_for (length x.lits) ≤ table_words l)
   pub apart : (a b : ℕ) (x y : Cell) → c.cell a ≡ Some x → c.cell b ≡ Some y → a ≢ b → (a + words_for (length x.lits) ≤ b) ⊎ (b + words_for (length y.lits) ≤ a)
   pub vars : (a : ℕ) (x : Cell) → c.cell a ≡ Some x → InVars l x.lits
@@ -44,7 +45,8 @@ IsRefused o J failed (NoHole need largest) = largest < need
 
 -- what the ring's slots have for others is among these clauses
 abbrev pub HasGiven : State → ℕ → List ClauseAt → Type 0
-HasGiven c r gave = (to class : ℕ) → to < c.opening.rings → class < 4 → c.slot (slot_of c.opening r to class) ≢ 0 → Contains gave (clause_at c (c.slot (slot_of c.opening r to class)))
+HasGiven c r gave = (to class place : ℕ) → to < c.opening.rings → class < 4 → place < c.opening.depth → c.slot (slot_of c.opening r to class place) ≢ 0
+    → Contains gave (clause_at c (c.slot (slot_of c.opening r to class place)))
 
 -- the part is the ring's; the glues are those of the clauses that it holds and builds; what it knows of the turn, of the
 -- listed units, of the log's end, of the stop and of its slots is so

@@ -12,6 +12,7 @@ use Rattle.share_rule.specs.declared.view.StoredWord.{StoredWord}
 use Rattle.share_rule.specs.declared.view.RingPart.{RingPart}
 use Rattle.share_rule.specs.declared.view.Stage.{Stage}
 use Rattle.share_rule.specs.declared.view.Stage.TheVariants.{Draft, Open, Spent}
+use Rattle.sat_words.specs.declared.line.ProofFormat.TheVariants.{Text}
 use Rattle.share_rule.specs.declared.view.BookOrigin.{BookOrigin}
 use Rattle.share_rule.specs.declared.view.View.{View}
 use Rattle.clause_cell.specs.Packing.{pair_of, words_for}
@@ -76,11 +77,11 @@ in_draft Spent = false
 
 -- of a table that is not open
 abbrev pub no_opening : CoreOpening
-no_opening = record { formula = []; rings = 0; journal = []; starts = []; units = [] }
+no_opening = record { formula = []; rings = 0; depth = 0; journal = []; starts = []; units = [] }
 
 -- of none
 abbrev pub no_origin : BookOrigin
-no_origin = record { tells = false; target = None; flushed = None; faults = 0; keeps = false }
+no_origin = record { format = Text; tells = false; target = None; flushed = None; faults = 0; keeps = false }
 
 -- before the table is open
 abbrev pub closed_view : Layout → View
@@ -100,7 +101,7 @@ first_view l o w = view l o w (up_to o.rings)
 
 -- what a pass is left with that was joined to another
 abbrev pub spent_view : View
-spent_view = record (closed_view (record { rings = 0; vars = 0; words = 0 })) { stage = Spent }
+spent_view = record (closed_view (record { rings = 0; vars = 0; words = 0; depth = 0 })) { stage = Spent }
 
 -- no ring's
 abbrev pub no_part : RingPart

@@ -21,16 +21,16 @@ use crate::Ledger;
 
 /// Putting a count into a slot is its event. What comes out is what the slot had; the ring had given it.
 pub fn a_put_is_its_event<B: Ledger>()
-    ensures { (k : Key) (s : Table (Option B) View) (h : Shows (StandsFor B.account B.stands) k.layout s) (id to class a : ℕ) (v : View) → get_elem? s.views id ≡ some v → is_ready v.stage ≡ true → IsHolding a v → IsOther to v → class < 4
-        → (x : ClauseAt) × (g : ℕ) × (x.address ≡ slice_index s.words (slot_word v (ring_of (only v)) to class)) × KeepsGlues x g (only v) × (x.address ≢ 0 → Contains (only v).gave x)
-        × ((n : Shows (StandsFor B.account B.stands) k.layout (stepped s (slot_word v (ring_of (only v)) to class) a id [] (after_put to class a x g v) keeps)) × (n.core ≡ after h.core (Put (ring_of (only v)) to class a))) }
+    ensures { (k : Key) (s : Table (Option B) View) (h : Shows (StandsFor B.account B.stands) k.layout s) (id to class place a : ℕ) (v : View) → get_elem? s.views id ≡ some v → is_ready v.stage ≡ true → IsHolding a v → IsOther to v → class < 4 → place < v.opening.depth
+        → (x : ClauseAt) × (g : ℕ) × (x.address ≡ slice_index s.words (slot_word v (ring_of (only v)) to class place)) × KeepsGlues x g (only v) × (x.address ≢ 0 → Contains (only v).gave x)
+        × ((n : Shows (StandsFor B.account B.stands) k.layout (stepped s (slot_word v (ring_of (only v)) to class place) a id [] (after_put to class place a x g v) keeps)) × (n.core ≡ after h.core (Put (ring_of (only v)) to class place a))) }
 {}
 
 /// Getting what another ring's slot has is its event.
 pub fn a_get_is_its_event<B: Ledger>()
-    ensures { (k : Key) (s : Table (Option B) View) (h : Shows (StandsFor B.account B.stands) k.layout s) (id from class : ℕ) (v : View) → get_elem? s.views id ≡ some v → is_ready v.stage ≡ true → IsOther from v → class < 4
-        → (x : ClauseAt) × (g : ℕ) × (x.address ≡ slice_index s.words (slot_word v from (ring_of (only v)) class)) × KeepsGlues x g (only v)
-        × ((n : Shows (StandsFor B.account B.stands) k.layout (stepped s (slot_word v from (ring_of (only v)) class) 0 id [] (after_get from class x g v) keeps)) × (n.core ≡ after h.core (Get (ring_of (only v)) from class))) }
+    ensures { (k : Key) (s : Table (Option B) View) (h : Shows (StandsFor B.account B.stands) k.layout s) (id from class place : ℕ) (v : View) → get_elem? s.views id ≡ some v → is_ready v.stage ≡ true → IsOther from v → class < 4 → place < v.opening.depth
+        → (x : ClauseAt) × (g : ℕ) × (x.address ≡ slice_index s.words (slot_word v from (ring_of (only v)) class place)) × KeepsGlues x g (only v)
+        × ((n : Shows (StandsFor B.account B.stands) k.layout (stepped s (slot_word v from (ring_of (only v)) class place) 0 id [] (after_get from class place x g v) keeps)) × (n.core ≡ after h.core (Get (ring_of (only v)) from class place))) }
 {}
 
 /// Trying to set the stop is its event, also if one stands: then it has no effect.

@@ -33,7 +33,7 @@ fn push_units(words: &mut Vec<u64>, units: &[Lit]) -> Result<(), AllocError>
 
 /// The words below the cells: no turn, no stop, the listed units, open grants, empty slots. There is room for all words.
 fn low_words(alloc: Global, layout: Layout, units: &[Lit]) -> Result<Vec<u64>, AllocError>
-    requires layout { (layout.rings ≤ 16) × (layout.vars ≤ 2 ^ 30) × (layout.words ≤ 2 ^ 31) }
+    requires layout { (layout.rings ≤ 16) × (layout.vars ≤ 2 ^ 30) × (layout.words ≤ 2 ^ 31) × (layout.depth ≤ 16) }
     requires units { length units.now ≤ 2 * layout.vars }
     ensures { IfOk result (λ v. v.items ≡ low_words layout units.now) }
 {
@@ -103,7 +103,7 @@ fn place_starts(
     words: &mut Vec<u64>,
     start: &[(u64, Clause)],
 ) -> Result<(Holes, Vec<Cref>), HoleStop>
-    requires layout { (layout.rings ≤ 16) × (layout.vars ≤ 2 ^ 30) × (layout.words ≤ 2 ^ 31) }
+    requires layout { (layout.rings ≤ 16) × (layout.vars ≤ 2 ^ 30) × (layout.words ≤ 2 ^ 31) × (layout.depth ≤ 16) }
     requires short { All (λ s. length s.1 < 2 ^ 32) start.now }
     ensures words { OnOk result (words.new.items ≡ words.old.items ++ start_words layout.rings start.now) }
     ensures holes { IfOk result (λ p. p.0 ≡ (start_room layout (starts_at (first_cell layout) start.now)).holes) }
@@ -129,7 +129,7 @@ pub(crate) fn lay_out(
     start: &[(u64, Clause)],
     units: &[Lit],
 ) -> Result<(Vec<u64>, Holes, Vec<Cref>), HoleStop>
-    requires layout { (layout.rings ≤ 16) × (layout.vars ≤ 2 ^ 30) × (layout.words ≤ 2 ^ 31) }
+    requires layout { (layout.rings ≤ 16) × (layout.vars ≤ 2 ^ 30) × (layout.words ≤ 2 ^ 31) × (layout.depth ≤ 16) }
     requires short { All (λ s. length s.1 < 2 ^ 32) start.now }
     requires units { length units.now ≤ 2 * layout.vars }
     ensures words { IfOk result (λ p. p.0.items ≡ first_words layout start.now units.now) }

@@ -58,7 +58,7 @@ pub use view::{
     BookOrigin, GlueAt, LastStep, Op, Poll, Refusal, RingPart, Stage, StoredWord, Taken, View,
 };
 
-/// How many rings, variables and words for cells a table has.
+/// How many rings, variables, words for cells and slots a table has.
 #[derive(Clone, Copy)]
 pub struct Layout {
     /// The rings, at most 16.
@@ -67,6 +67,8 @@ pub struct Layout {
     pub vars: u32,
     /// The words for cells, at most 2^31.
     pub words: u64,
+    /// The slots for each two rings and class, 1 to 16.
+    pub depth: u32,
 }
 
 /// The table with its layout. Each step on it takes a pass.
@@ -81,5 +83,6 @@ pub struct Shared<B: Ledger> {
     pub ghost rings: { layout.rings ≤ 16 },
     pub ghost vars: { layout.vars ≤ 2 ^ 30 },
     pub ghost words: { layout.words ≤ 2 ^ 31 },
+    pub ghost depth: { layout.depth ≤ 16 },
     pub ghost keyed: { table.shared.key.layout ≡ layout },
 }

@@ -21,24 +21,35 @@ impl Layout {
         3 + self.rings as usize + place as usize
     }
 
-    /// The word of the slot of one ring for another, for clauses of this class.
-    pub fn slot(self, from: u32, to: u32, class: u8) -> usize
+    /// Which slot is that of one ring for another and this class, if there is one for each two rings and class.
+    fn pool(self, from: u32, to: u32, class: u8) -> usize
+        requires rings { (from < self.rings) × (to < self.rings) × (self.rings ≤ 16) }
+        requires class { class < 4 }
+        ensures pool { result ≡ 4 * (from * self.rings + to) + class }
+        ensures small { result < 1024 }
+    {
+        4 * (from as usize * self.rings as usize + to as usize) + class as usize
+    }
+
+    /// The word of a slot of one ring for another, for clauses of this class, by its place among those of the class.
+    pub fn slot(self, from: u32, to: u32, class: u8, place: u32) -> usize
         requires rings { (from < self.rings) × (to < self.rings) × (self.rings ≤ 16) }
         requires vars { self.vars ≤ 2 ^ 30 }
         requires class { class < 4 }
-        ensures { result ≡ slot_at self (4 * (from * self.rings + to) + class) }
+        requires place { (place < self.depth) × (self.depth ≤ 16) }
+        ensures { result ≡ slot_at self ((4 * (from * self.rings + to) + class) * self.depth + place) }
     {
-        let rings = self.rings as usize;
-        let slot = 4 * (from as usize * rings + to as usize) + class as usize;
-        3 + rings + 2 * self.vars as usize + slot
+        let slot = self.pool(from, to, class) * self.depth as usize + place as usize;
+        3 + self.rings as usize + 2 * self.vars as usize + slot
     }
 
     /// The first word for cells.
     pub fn first_cell(self) -> u64
-        requires { (self.rings ≤ 16) × (self.vars ≤ 2 ^ 30) }
+        requires { (self.rings ≤ 16) × (self.vars ≤ 2 ^ 30) × (self.depth ≤ 16) }
         ensures { result ≡ first_cell self }
     {
         let rings = self.rings as u64;
-        3 + rings + 2 * self.vars as u64 + 4 * (rings * rings)
+        let slots = 4 * (rings * rings) * self.depth as u64;
+        3 + rings + 2 * self.vars as u64 + slots
     }
 }

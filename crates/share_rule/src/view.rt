@@ -1,7 +1,7 @@
 //! What a pass knows. No value of these types is made: each stands in a pass as a fact.
 use crate::Layout;
 use rup_model::Entry;
-use sat_words::Lit;
+use sat_words::{Lit, ProofFormat};
 use share_core::{ClauseAt, CoreOpening, Part, Stop};
 use std::collections::LinkedList;
 
@@ -71,12 +71,14 @@ pub enum Refusal {
     },
 }
 
-/// A look into the slot of a class that another ring has for this one.
+/// A look into a slot of a class that another ring has for this one.
 pub struct Poll {
     /// The other ring.
     pub from: u32,
     /// The class.
     pub class: u8,
+    /// The place of the slot.
+    pub place: u32,
     /// How often the ring had read by then how many units are listed, if it had seen as many.
     pub caught_up: u64,
 }
@@ -113,8 +115,10 @@ pub struct RingPart {
     pub caught_up: u64,
 }
 
-/// What a book was when the table was made: what its sink told, and whether it keeps its lines.
+/// What a book was when the table was made: how it spells its lines, what its sink told, and whether it keeps its lines.
 pub struct BookOrigin {
+    /// How its lines are spelled.
+    pub format: ProofFormat,
     /// The sink says its bytes; there was none then.
     pub tells: bool,
     /// The path that the sink is for, if it is known.

@@ -3,7 +3,6 @@ use Rattle.std.proofs.Common.{◌≡◌, ℕ, zero, suc, ◌+◌, ◌<◌, false
 use Rattle.std.proofs.lemmas.Bool.{true≢false}
 use Rattle.std.specs.List.{All, slice_get}
 use Rattle.std.specs.Option.{option_map}
-use Rattle.std.specs.Io.KnownBytes.{append_known}
 use Rattle.sat_words.specs.Literal.{Literal, IsOn}
 use Rattle.sat_words.specs.Clause.{clause_of}
 use Rattle.sat_words.specs.FormulaData.{FormulaData}
@@ -11,6 +10,7 @@ use Rattle.rup_model.specs.Journal.{formula_clause}
 use Rattle.rup_model.proofs.Lists.{In, In_Contains, Contains_In}
 use Rattle.rup_model.proofs.JournalSteps.{log_starts}
 use Rattle.drat_text.specs.LineState.{LineState}
+use Rattle.drat_text.proofs.JournalLines.{has_text_begun}
 use Rattle.simp_base.specs.WorkState.{IsWork, lists, numbered, begun}
 use Rattle.simp_base.specs.Log.{Stands}
 use Rattle.simp_base.proofs.Keeping.{clause_of_on}
@@ -74,17 +74,13 @@ begun_stands F out unspent blank last = record {
   lines = record {
     entries = blank;
     last = (let z = last in omega arith);
-    whole = λ q. record { quiet = refl; bytes = none_more out.written };
+    whole = λ q. has_text_begun (record { formula = F.clauses; journal = []; output = out });
     short = λ q. absurd (true≢false (sym q ∙ unspent));
     target = refl;
     flushed = refl;
   };
 }
   where
-    none_more : (w : Option (List ℕ)) → w ≡ append_known w []
-    none_more None = refl
-    none_more (Some xs) = ap Some (sym (append-nil xs))
-
     all : (n : ℕ) (c : List Literal) → formula_clause F.clauses n ≡ Some c → Contains (numbered 1 F.clauses) (n, c)
     all zero c is = absurd (cc)
     all (suc i) c is = let e : 1 + i ≡ suc i = omega arith in In_Contains (numbered 1 F.clauses) (suc i, c) (subst (λ j. In (j, c) (numbered 1 F.clauses)) e (all_from 1 F.clauses i c is))

@@ -3,7 +3,6 @@ use Rattle.std.proofs.Common.{◌≡◌, ◌≢◌, ◌↔◌, ℕ, zero, suc, �
 use Rattle.std.specs.List.{list_any, All, Contains, slice_get}
 use Rattle.std.specs.Option.{unwrap_or, option_map}
 use Rattle.std.specs.List.{fold}
-use Rattle.std.specs.Io.KnownBytes.{append_known}
 use Rattle.std.proofs.lemmas.Bool.{or_left, and_from, false≢true}
 use Rattle.std.proofs.lemmas.List.Elements.{All-append}
 use Rattle.std.proofs.lemmas.List.Folds.{list_any-append}
@@ -29,9 +28,8 @@ use Rattle.rup_model.proofs.Units.{two_more}
 use Rattle.rup_model.proofs.Numbers.{spelled_same, journal_matches, clause_below, clause_copies, book_last, lines_last, rup_alive_sets}
 use Rattle.rup_model.proofs.Additions.{added-append, told_more}
 use Rattle.rup_model.proofs.Told.{told_alive}
-use Rattle.drat_text.specs.Text.{line_text}
 use Rattle.drat_text.specs.LineState.{LineState, last_after}
-use Rattle.drat_text.specs.LineOut.{PutLine, FailedLine}
+use Rattle.drat_text.specs.LineOut.{PutLine, FailedLine, with_line}
 use Rattle.drat_text.specs.declared.stop.LineStop.{LineStop}
 use Rattle.drat_text.specs.declared.stop.LineStop.TheVariants.{ProofFault, Full, Memory}
 use Rattle.std.specs.Prelude.{Result, Ok, Err}
@@ -84,7 +82,7 @@ module _ (o : Origin) (mine : List Entry) (w : WorkState) (h : Stands o mine w) 
     pub has_lines_next : (b : LineState) (number : ℕ) → w.output.spent ≡ false → PutLine w.output b x number → (book_after (book F J) e).next ≡ last_after w.output.last x + 1 → HasLines o (mine ++ e ∷ []) w.vars b
     has_lines_next b number unspent put next =
         let was = h.lines in
-        let put_output : LineState = record w.output { entries = w.output.entries + 1; last = last_after w.output.last x; written = append_known w.output.written (line_text x) } in
+        let put_output : LineState = with_line w.output x in
         subst (λ v. HasLines o (mine ++ e ∷ []) w.vars v) (sym put.state) (record {
           entries = (let n = was.entries in let p = ap (λ L. length L) lines_next in let m = length-append (lines F J) (x ∷ []) in omega arith);
           last = ap (λ (k : Book). k.next) book_next ∙ next;

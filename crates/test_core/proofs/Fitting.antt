@@ -87,19 +87,23 @@ placed_in F hs e h i z =
     let a = and_parts (not (h.address == 0)) _ m.1 in
     true≢false (sym a.0 ∙ ap not (eq-eqb h.address 0 z))
 
-pub opening_from : (F : List (List Literal)) (ps : List (ℕ × ℕ)) (us : List Literal) (rings : ℕ) → opens F (map (start_at F) ps) us rings ≡ true → IsCoreOpening (core_opening F ps us rings)
-opening_from F ps us rings e =
+pub opening_from : (F : List (List Literal)) (ps : List (ℕ × ℕ)) (us : List Literal) (rings depth : ℕ) → opens F (map (start_at F) ps) us rings depth ≡ true → IsCoreOpening (core_opening F ps us rings depth)
+opening_from F ps us rings depth e =
     let hs = map (start_at F) ps in
     let a = and_parts (leb 1 rings) _ e in
     let b = and_parts (leb rings 16) _ a.1 in
-    let c = and_parts (list_all (start_fits F) hs) _ b.1 in
+    let k = and_parts (leb 1 depth) _ b.1 in
+    let m = and_parts (leb depth 16) _ k.1 in
+    let c = and_parts (list_all (start_fits F) hs) _ m.1 in
     let d = and_parts (stand_apart hs) _ c.1 in
     let u = and_parts (list_all (is_told F []) us) (distinct_lits us) d.1 in
     record {
       some_ring = leb_yes 1 rings a.0;
       few_rings = leb_yes rings 16 b.0;
+      some_slot = leb_yes 1 depth k.0;
+      few_slots = leb_yes depth 16 m.0;
       opens = record {
-        rulers_part = record { rulers = λ k x lt. absurd (omega arith); going = refl; fits = tt; accepted = tt };
+        rulers_part = record { rulers = λ n x lt. absurd (omega arith); going = refl; fits = tt; accepted = tt };
         starts = All_from_In _ _ (starts_in F ps c.0);
         numbers = distinct hs d.0;
         told = AllPass-from_list_all (is_told F []) us u.0;

@@ -17,5 +17,5 @@ stand_apart [] = true
 stand_apart (s ∷ ss) = not (list_any (λ h. (h.address == s.address) || (h.number == s.number)) ss) && stand_apart ss
 
 -- they make an opening
-abbrev pub opens : List (List Literal) → List ClauseAt → List Literal → ℕ → Bool
-opens F ss us rings = nat_le 1 rings && (nat_le rings 16 && (list_all (start_fits F) ss && (stand_apart ss && (list_all (is_told F []) us && distinct_lits us))))
+abbrev pub opens : List (List Literal) → List ClauseAt → List Literal → ℕ → ℕ → Bool
+opens F ss us rings depth = nat_le 1 rings && (nat_le rings 16 && (nat_le 1 depth && (nat_le depth 16 && (list_all (start_fits F) ss && (stand_apart ss && (list_all (is_told F []) us && distinct_lits us))))))

@@ -62,25 +62,27 @@ fn addition(alloc: Global, ring: u32, kind: Kind, words: &[&'static str]) -> Res
 }
 
 fn put(ring: u32, words: &[&'static str]) -> Result<Event, Fail> {
-    let [address, "for", to, "class", class] = words else {
+    let [address, "for", to, "class", class, "place", place] = words else {
         return Err(Fail::from("no put"));
     };
     Ok(Event::Put {
         ring,
         to: to.parse()?,
         class: class.parse()?,
+        place: place.parse()?,
         address: address.parse()?,
     })
 }
 
 fn get(ring: u32, words: &[&'static str]) -> Result<Event, Fail> {
-    let ["from", from, "class", class] = words else {
+    let ["from", from, "class", class, "place", place] = words else {
         return Err(Fail::from("no get"));
     };
     Ok(Event::Get {
         ring,
         from: from.parse()?,
         class: class.parse()?,
+        place: place.parse()?,
     })
 }
 

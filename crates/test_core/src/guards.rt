@@ -15,21 +15,21 @@ pub(crate) const NO_RINGS: &str = "\
 2 share 20 = refused
 2 drop 20 = refused
 2 bury 20 = refused
-2 put 20 for 0 class 0 = refused
-2 get from 0 class 0 = refused
+2 put 20 for 0 class 0 place 0 = refused
+2 get from 0 class 0 place 0 = refused
 2 publish 2 = refused
 2 see = refused
 2 stop 1 = refused
 0 grant = done
-0 put 20 for 2 class 0 = refused
-0 get from 2 class 0 = refused
-0 put 20 for 1 class 0 = done
-0 get from 1 class 0 = done
+0 put 20 for 2 class 0 place 0 = refused
+0 get from 2 class 0 place 0 = refused
+0 put 20 for 1 class 0 place 0 = done
+0 get from 1 class 0 place 0 = done
 leaves
 20 : clause 1, count 2
 25 : clause 2, count 2, held 1 by 0
 30 : clause 3, count 2, held 1 by 0
-slot of 0 for 1 class 0 : 20
+slot of 0 for 1 class 0 place 0 : 20
 units, seen 0 0 0 0
 ";
 
@@ -203,25 +203,28 @@ turn of 0
 
 /// Slots between three rings.
 pub(crate) const EXCHANGE: &str = "\
-0 put 20 for 1 class 3 = refused # not held
+0 put 20 for 1 class 3 place 0 = refused # not held
 0 grant = done
 1 grant = done
-0 put 20 for 0 class 3 = refused # to itself
-0 put 20 for 1 class 4 = refused # no class
-0 put 50 for 1 class 3 = refused # no cell
-0 get from 0 class 3 = refused # from itself
-0 get from 1 class 4 = refused # no class
-0 put 20 for 1 class 3 = done
-0 put 20 for 1 class 3 = refused # not held any more
-0 put 25 for 2 class 3 = done
-1 get from 0 class 2 = done # nothing there
-1 get from 2 class 3 = done
-1 get from 0 class 3 = done
-1 get from 0 class 3 = done # nothing any more
+0 put 20 for 0 class 3 place 0 = refused # to itself
+0 put 20 for 1 class 4 place 0 = refused # no class
+0 put 20 for 1 class 3 place 2 = refused # no place
+0 put 50 for 1 class 3 place 0 = refused # no cell
+0 get from 0 class 3 place 0 = refused # from itself
+0 get from 1 class 4 place 0 = refused # no class
+0 get from 1 class 3 place 2 = refused # no place
+0 put 20 for 1 class 3 place 0 = done
+0 put 20 for 1 class 3 place 0 = refused # not held any more
+0 put 25 for 2 class 3 place 1 = done
+1 get from 0 class 2 place 0 = done # nothing there
+1 get from 0 class 3 place 1 = done # nothing there
+1 get from 2 class 3 place 0 = done
+1 get from 0 class 3 place 0 = done
+1 get from 0 class 3 place 0 = done # nothing any more
 leaves
 20 : clause 1, count 3, held 2 by 1
 25 : clause 2, count 3, held 1 by 1
 30 : clause 3, count 3, held 1 by 0, held 1 by 1
-slot of 0 for 2 class 3 : 25
+slot of 0 for 2 class 3 place 1 : 25
 units, seen 0 0 0 0
 ";

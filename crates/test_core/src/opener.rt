@@ -57,11 +57,13 @@ pub fn all_told(units: &[Lit], clauses: &[Clause]) -> bool
 }
 
 /// Whether a core may be opened with these.
-pub fn opens(clauses: &[Clause], starts: &[ClauseAt], units: &[Lit], rings: u32) -> bool
-    ensures { result ≡ opens clauses.now starts.now units.now rings }
+pub fn opens(clauses: &[Clause], starts: &[ClauseAt], units: &[Lit], rings: u32, depth: u32) -> bool
+    ensures { result ≡ opens clauses.now starts.now units.now rings depth }
 {
     1 <= rings
         && rings <= 16
+        && 1 <= depth
+        && depth <= 16
         && all_fit(starts, clauses)
         && stand_apart(starts)
         && all_told(units, clauses)
@@ -117,12 +119,13 @@ pub fn core_over(
     start: &[(u64, u64)],
     units: &[Lit],
     rings: u32,
+    depth: u32,
 ) -> Result<Core, Fail>
-    ensures { IfOk result (λ core. state_of core ≡ opened (core_opening formula.clauses start.now units.now rings)) }
+    ensures { IfOk result (λ core. state_of core ≡ opened (core_opening formula.clauses start.now units.now rings depth)) }
 {
     let starts = start_clauses(alloc, formula.clauses(), start)?;
-    if !opens(formula.clauses(), starts.as_slice(), units, rings) {
+    if !opens(formula.clauses(), starts.as_slice(), units, rings, depth) {
         return Err(Fail::from("no opening"));
     }
-    Ok(Core::new(alloc, formula, start, units, rings)?)
+    Ok(Core::new(alloc, formula, start, units, rings, depth)?)
 }

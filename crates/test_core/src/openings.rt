@@ -77,7 +77,12 @@ impl Opening {
 
 /// The core over an opening as text: the number of variables, and then a line for each clause, by the address of its cell,
 /// and for each listed unit.
-pub(crate) fn open(rt: &impl AllocGlobal, text: &'static str, rings: u32) -> Result<Core, Fail> {
+pub(crate) fn open(
+    rt: &impl AllocGlobal,
+    text: &'static str,
+    rings: u32,
+    depth: u32,
+) -> Result<Core, Fail> {
     let alloc = rt.alloc();
     let Some((vars, lines)) = text.split_once(" variables\n") else {
         return Err(Fail::from("no opening"));
@@ -95,5 +100,12 @@ pub(crate) fn open(rt: &impl AllocGlobal, text: &'static str, rings: u32) -> Res
         start,
         units,
     } = opening;
-    core_over(alloc, formula, start.as_slice(), units.as_slice(), rings)
+    core_over(
+        alloc,
+        formula,
+        start.as_slice(),
+        units.as_slice(),
+        rings,
+        depth,
+    )
 }

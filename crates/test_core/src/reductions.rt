@@ -47,7 +47,7 @@ fn learn_units(alloc: Global, core: &mut Core) -> Result<Step, Fail> {
 
 #[test]
 fn reduces_after_two_thousand(rt: HostRuntime) -> Result<(), Fail> {
-    let mut core = open(&rt, FOUR, 1)?;
+    let mut core = open(&rt, FOUR, 1, 1)?;
     walk(&rt, &mut core, &read(rt.alloc(), KNOWS_ALL)?)?;
     assert_eq!(rt; learn_units(rt.alloc(), &mut core)?, Step::Done);
     walk(&rt, &mut core, &read(rt.alloc(), AT_1999)?)?;

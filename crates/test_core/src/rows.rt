@@ -48,15 +48,15 @@ pub(crate) const PUT_TWICE: &str = "\
 0 learn 60 : 2 3 = done
 0 give-turn = done
 0 open 60 = done
-0 put 50 for 1 class 0 = done
-0 put 60 for 1 class 0 = done
+0 put 50 for 1 class 0 place 0 = done
+0 put 60 for 1 class 0 place 0 = done
 0 drop 50 = done
 0 take-turn = done
 0 bury 50 = done
 0 give-turn = done
 1 grant = done
-1 get from 0 class 0 = done
-1 get from 0 class 0 = done
+1 get from 0 class 0 place 0 = done
+1 get from 0 class 0 place 0 = done
 0 read 60 = refused
 1 read 60 = done
 leaves
@@ -67,6 +67,26 @@ leaves
 line 1 2 0
 line 2 3 0
 line d 1 2 0
+units, seen 0 0 0 0
+";
+
+/// Two cells are put into the two slots of a class. Nothing comes back out, and the other ring takes both.
+pub(crate) const PUT_BESIDE: &str = "\
+0 grant = done
+1 grant = done
+0 put 20 for 1 class 0 place 0 = done
+0 put 25 for 1 class 0 place 1 = done
+0 put 30 for 1 class 0 place 2 = refused # no place
+1 get from 0 class 0 place 2 = refused # no place
+1 get from 0 class 0 place 1 = done
+1 get from 0 class 0 place 0 = done
+1 get from 0 class 0 place 0 = done # nothing any more
+0 put 30 for 1 class 0 place 1 = done
+leaves
+20 : clause 1, count 2, held 2 by 1
+25 : clause 2, count 2, held 2 by 1
+30 : clause 3, count 2, held 1 by 1
+slot of 0 for 1 class 0 place 1 : 30
 units, seen 0 0 0 0
 ";
 

@@ -8,6 +8,9 @@ use std::test::Fail;
 /// One more than any row has, so that what is said of a ring that is not there is seen too.
 const RINGS: u32 = 4;
 
+/// One more than any row has.
+const PLACES: u32 = 3;
+
 /// What is seen of the cell at the address: nothing if there is none.
 fn write_cell(text: &mut String, core: &Core, address: u64) -> Result<(), Fail> {
     let count = core.count(address);
@@ -30,14 +33,17 @@ fn write_cell(text: &mut String, core: &Core, address: u64) -> Result<(), Fail> 
     Ok(())
 }
 
-/// The slots that are not empty; there is none of class 4.
-fn write_slots(text: &mut String, core: &Core, from: u32) -> Result<(), Fail> {
-    for place in 0..5 * RINGS {
-        let to = place / 5;
-        let class = (place % 5) as u8;
-        let address = core.slot(from, to, class);
+/// The ring's slots for another that are not empty; there is none of class 4.
+fn write_slots(text: &mut String, core: &Core, from: u32, to: u32) -> Result<(), Fail> {
+    for slot in 0..5 * PLACES {
+        let class = (slot / PLACES) as u8;
+        let place = slot % PLACES;
+        let address = core.slot(from, to, class, place);
         if address != 0 {
-            writeln!(text, "slot of {from} for {to} class {class} : {address}")?;
+            writeln!(
+                text,
+                "slot of {from} for {to} class {class} place {place} : {address}"
+            )?;
         }
     }
     Ok(())
@@ -91,8 +97,8 @@ fn write_cells(text: &mut String, core: &Core) -> Result<(), Fail> {
 }
 
 fn write_pools(text: &mut String, core: &Core) -> Result<(), Fail> {
-    for from in 0..RINGS {
-        write_slots(text, core, from)?;
+    for pair in 0..RINGS * RINGS {
+        write_slots(text, core, pair / RINGS, pair % RINGS)?;
     }
     Ok(())
 }

@@ -4,7 +4,7 @@
 use crate::events::{Row, read};
 use crate::guards::{CELLS, CLAUSES, EXCHANGE, NO_RINGS, TURNS, UNITS};
 use crate::openings::{EMPTY, FOUR, GIVEN, THREE, open};
-use crate::rows::{ENDED_BEFORE, EQUAL_LEMMAS, OPENING_UNITS, PUT_TWICE};
+use crate::rows::{ENDED_BEFORE, EQUAL_LEMMAS, OPENING_UNITS, PUT_BESIDE, PUT_TWICE};
 use crate::seen::state;
 use share_core::{Core, Step};
 use std::process::Abort;
@@ -67,64 +67,70 @@ fn check_row(
     rt: &(impl Abort + AllocGlobal),
     opening: &'static str,
     rings: u32,
+    depth: u32,
     text: &'static str,
 ) -> Result<(), Fail> {
     let Some((table, left)) = text.split_once("leaves\n") else {
         return Err(Fail::from("a row leaves something"));
     };
     let row = read(rt.alloc(), table)?;
-    let mut core = open(rt, opening, rings)?;
+    let mut core = open(rt, opening, rings, depth)?;
     check_steps(rt, &mut core, &row, left)?;
-    let mut core = open(rt, opening, rings)?;
+    let mut core = open(rt, opening, rings, depth)?;
     check_run(rt, &mut core, &row, left)
 }
 
 #[test]
 fn refuses_events_of_no_ring(rt: HostRuntime) -> Result<(), Fail> {
-    check_row(&rt, THREE, 2, NO_RINGS)
+    check_row(&rt, THREE, 2, 1, NO_RINGS)
 }
 
 #[test]
 fn guards_turns_and_grants(rt: HostRuntime) -> Result<(), Fail> {
-    check_row(&rt, THREE, 2, TURNS)
+    check_row(&rt, THREE, 2, 1, TURNS)
 }
 
 #[test]
 fn guards_clauses(rt: HostRuntime) -> Result<(), Fail> {
-    check_row(&rt, THREE, 2, CLAUSES)
+    check_row(&rt, THREE, 2, 1, CLAUSES)
 }
 
 #[test]
 fn guards_units_and_the_end(rt: HostRuntime) -> Result<(), Fail> {
-    check_row(&rt, FOUR, 2, UNITS)
+    check_row(&rt, FOUR, 2, 1, UNITS)
 }
 
 #[test]
 fn guards_cells(rt: HostRuntime) -> Result<(), Fail> {
-    check_row(&rt, THREE, 2, CELLS)
+    check_row(&rt, THREE, 2, 1, CELLS)
 }
 
 #[test]
 fn guards_exchange(rt: HostRuntime) -> Result<(), Fail> {
-    check_row(&rt, THREE, 3, EXCHANGE)
+    check_row(&rt, THREE, 3, 2, EXCHANGE)
 }
 
 #[test]
 fn equal_lemmas_are_two_copies(rt: HostRuntime) -> Result<(), Fail> {
-    check_row(&rt, THREE, 2, EQUAL_LEMMAS)
+    check_row(&rt, THREE, 2, 1, EQUAL_LEMMAS)
 }
 
 #[test]
 fn what_comes_out_of_a_slot_is_held(rt: HostRuntime) -> Result<(), Fail> {
-    check_row(&rt, THREE, 2, PUT_TWICE)
+    check_row(&rt, THREE, 2, 1, PUT_TWICE)
+}
+
+#[test]
+fn puts_into_two_places_both_come_out(rt: HostRuntime) -> Result<(), Fail> {
+    check_row(&rt, THREE, 2, 2, PUT_BESIDE)
 }
 
 #[test]
 fn opening_units_are_listed(rt: HostRuntime) -> Result<(), Fail> {
-    check_row(&rt, GIVEN, 2, OPENING_UNITS)
+    check_row(&rt, GIVEN, 2, 1, OPENING_UNITS)
 }
 
 #[test]
 fn the_empty_clause_may_be_given(rt: HostRuntime) -> Result<(), Fail> {
-    check_row(&rt, EMPTY, 2, ENDED_BEFORE)
+    check_row(&rt, EMPTY, 2, 1, ENDED_BEFORE)
 }

@@ -11,6 +11,9 @@ use std::test::Fail;
 
 const RINGS: u32 = 3;
 
+/// How many slots there are for each two rings and class.
+const DEPTH: u32 = 2;
+
 /// How many events a walk tries.
 const EVENTS: u32 = 700;
 
@@ -39,6 +42,10 @@ impl Words {
 
     fn class(&mut self) -> u8 {
         self.below(2) as u8
+    }
+
+    fn place(&mut self) -> u32 {
+        self.below(DEPTH)
     }
 
     /// One of 20, 25, and so on to 45: start clauses stand at the first of them.
@@ -110,17 +117,20 @@ impl Words {
         let ring = self.ring();
         let other = self.ring();
         let class = self.class();
+        let place = self.place();
         if self.below(2) == 0 {
             return Event::Get {
                 ring,
                 from: other,
                 class,
+                place,
             };
         }
         Event::Put {
             ring,
             to: other,
             class,
+            place,
             address: self.address(),
         }
     }
@@ -153,8 +163,9 @@ impl Words {
 /// How many of the ring's slots have the address.
 fn in_slots(core: &Core, from: u32, address: u64) -> u64 {
     let mut found: u64 = 0;
-    for place in 0..4 * RINGS {
-        if core.slot(from, place / 4, (place % 4) as u8) == address {
+    for slot in 0..4 * RINGS * DEPTH {
+        let pool = slot / DEPTH;
+        if core.slot(from, pool / 4, (pool % 4) as u8, slot % DEPTH) == address {
             found = found.saturating_add(1);
         }
     }
@@ -192,7 +203,7 @@ fn wander(
     last: u64,
     seed: u64,
 ) -> Result<u32, Fail> {
-    let mut core = open(rt, opening, RINGS)?;
+    let mut core = open(rt, opening, RINGS, DEPTH)?;
     let mut words = Words { state: seed };
     let mut done: u32 = 0;
     let mut grants: u64 = RINGS as u64;

@@ -64,12 +64,12 @@ two_read (x ∷ y ∷ []) a b n e f = two_lits x y a b (ap (λ (o : Option Liter
 two_read (x ∷ y ∷ z ∷ zs) a b n e f = absurd (omega (arith, n))
 
 -- a look leaves the clauses that are held
-pub lits_stay : (s : PortState) (a : ℕ) → lits_at (looked_into 0 0 s) a ≡ lits_at s a
+pub lits_stay : (s : PortState) (a : ℕ) → lits_at (looked_into 0 0 0 s) a ≡ lits_at s a
 unfolding held_at
 lits_stay s a = refl
 
 -- and their heads
-pub heads_stay : (s : PortState) (a : ℕ) → held_at (looked_into 0 0 s) a ≡ held_at s a
+pub heads_stay : (s : PortState) (a : ℕ) → held_at (looked_into 0 0 0 s) a ≡ held_at s a
 unfolding held_at
 heads_stay s a = refl
 
@@ -91,6 +91,7 @@ player_left : (old new : PortState) (a : ℕ) (d : List Literal) (f : List Liter
 player_left old new a d f one two three lacks_it k there h = record {
   vars = ap (λ (s : PortState). s.vars) k.state ∙ h.vars;
   rings = ap (λ (s : PortState). s.rings) k.state ∙ h.rings;
+  depth = ap (λ (s : PortState). s.depth) k.state ∙ h.depth;
   usable = ap (λ (s : PortState). is_usable s.refused) k.state ∙ h.usable;
   one = (h.one.0, at_left old new a h.one.0 first d f one lacks_it k there h.one.1);
   two = (h.two.0, at_left old new a h.two.0 second d f two lacks_it k there h.two.1);
@@ -140,6 +141,7 @@ player_tidied s t n k h =
     record {
       vars = ap (λ (x : PortState). x.vars) k.state ∙ h.vars;
       rings = ap (λ (x : PortState). x.rings) k.state ∙ h.rings;
+      depth = ap (λ (x : PortState). x.depth) k.state ∙ h.depth;
       usable = ap (λ (x : PortState). is_usable x.refused) k.state ∙ h.usable;
       one = (h.one.0, at_same s t h.one.0 first same h.one.1);
       two = (h.two.0, at_same s t h.two.0 second same h.two.1);
@@ -173,6 +175,7 @@ module _ {B : Type 0} (t : Shared B) (s : PortState) (v : View) (r : ℕ) (home 
     player = record {
       vars = ap (λ (x : PortState). x.vars) is ∙ ap (λ (l : Layout). l.vars) layout ∙ four_is.vars;
       rings = ap (λ (x : PortState). x.rings) is ∙ four_is.rings;
+      depth = ap (λ (x : PortState). x.depth) is ∙ four_is.depth;
       usable = ap (λ (x : PortState). is_usable x.refused) is;
       one = (_, at_start s _ (held 0 none (omega arith)));
       two = (_, at_start s _ (held 1 none (omega arith)));
@@ -194,12 +197,13 @@ module _ {B : Type 0} (t : Shared B) (s : PortState) (v : View) (r : ℕ) (home 
 pub home_left : {B : Type 0} (t : Shared B) (s m u : PortState) → IsHome t s → Stays s m → Stays m u → IsHome t u
 home_left t s m u h a b = λ p pass. b.home ∙ a.home ∙ h p pass
 
-pub opened : {B : Type 0} (t : Shared B) (o : CoreOpening) (cs : List Cref) (F : List (List Literal)) (ss : List (ℕ × List Literal)) (us : List Literal) (rings vars words : ℕ)
-    → t.layout ≡ record { rings = rings; vars = vars; words = words } → o ≡ begun_with F t.layout [] ss us → cs ≡ addresses o.starts → rings ≡ 2 → vars ≡ 3 → ss ≡ four → BeginsWithFour t o cs
-opened t o cs F ss us rings vars words layout is cells two three_vars starts_are = record {
+pub opened : {B : Type 0} (t : Shared B) (o : CoreOpening) (cs : List Cref) (F : List (List Literal)) (ss : List (ℕ × List Literal)) (us : List Literal) (rings vars words depth : ℕ)
+    → t.layout ≡ record { rings = rings; vars = vars; words = words; depth = depth } → o ≡ begun_with F t.layout [] ss us → cs ≡ addresses o.starts → rings ≡ 2 → vars ≡ 3 → depth ≡ 1 → ss ≡ four → BeginsWithFour t o cs
+opened t o cs F ss us rings vars words depth layout is cells two three_vars one starts_are = record {
   from = first_cell t.layout;
   starts = ap (λ (x : CoreOpening). x.starts) is ∙ ap (starts_at (first_cell t.layout)) starts_are;
   rings = ap (λ (x : CoreOpening). x.rings) is ∙ ap (λ (m : Layout). m.rings) layout ∙ two;
+  depth = ap (λ (x : CoreOpening). x.depth) is ∙ ap (λ (m : Layout). m.depth) layout ∙ one;
   vars = ap (λ (m : Layout). m.vars) layout ∙ three_vars;
   cells = cells;
 }

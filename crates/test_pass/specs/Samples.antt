@@ -54,10 +54,11 @@ pub record IsAt (s : PortState) (a : ℕ) (c : List Literal) : Type 0 where
   pub held : IsSome (held_at s a)
   pub lits : lits_at s a ≡ c
 
--- one of two rings on three variables, which holds the first three clauses and whose lines have not failed
+-- one of two rings on three variables, with one slot for each class, which holds the first three clauses and whose lines have not failed
 pub record IsPlayer (s : PortState) : Type 0 where
   pub vars : s.vars ≡ 3
   pub rings : s.rings ≡ 2
+  pub depth : s.depth ≡ 1
   pub usable : is_usable s.refused ≡ true
   pub one : (a : ℕ) × IsAt s a first
   pub two : (a : ℕ) × IsAt s a second
@@ -106,6 +107,7 @@ pub record BeginsWithFour {B : Type 0} (t : Shared B) (o : CoreOpening) (cs : Li
   pub from : ℕ
   pub starts : o.starts ≡ starts_at from four
   pub rings : o.rings ≡ 2
+  pub depth : o.depth ≡ 1
   pub vars : t.layout.vars ≡ 3
   pub cells : cs ≡ addresses o.starts
 

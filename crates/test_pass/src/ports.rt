@@ -1,6 +1,7 @@
 //! Rings over a small table, as ports, and back.
 ghost use Rattle.std.specs.Prelude.{◌≡◌, ◌<◌, ◌+◌, ◌∷◌, [], false, true, length, IfOk, OnOk, slice_get, Some};
 ghost use Rattle.io_edge.specs.Paths.{IsEmptyWhereTold};
+ghost use Rattle.sat_words.specs.declared.line.ProofFormat.TheVariants.{Text};
 ghost use Rattle.log_book.specs.Books.{account_of, origin_of, IsLogOf, IsNew};
 ghost use Rattle.share_rule.specs.declared.Layout.{Layout};
 ghost use Rattle.share_rule.specs.Books.{HasLog};
@@ -13,7 +14,7 @@ use io_edge::Sink;
 use log_book::Book;
 use ring_pass::RingPass;
 use ring_port::Gate;
-use sat_words::{Cref, Formula, Lit};
+use sat_words::{Cref, Formula, Lit, ProofFormat};
 use share_rule::{Pass, Shared};
 use std::alloc::Global;
 use std::sync::Wait;
@@ -42,14 +43,14 @@ pub fn make_four(alloc: Global) -> Result<Problem, Fail>
 pub fn new_book<S: Sink + Drop>(alloc: Global, formula: &Formula, sink: S) -> Result<Book<S>, Fail>
     requires { IsEmptyWhereTold (S.written sink) }
     ensures log { IfOk result (λ b. (l : Layout) → HasLog account_of (IsLogOf S.written S.flushed S.target S.faults) b (origin_of S.written S.flushed S.target S.faults b) l formula.now.clauses []) }
-    ensures made { IfOk result (λ b. IsNew (length formula.now.clauses) sink true b) }
+    ensures made { IfOk result (λ b. IsNew Text (length formula.now.clauses) sink true b) }
     ensures whole { IfOk result (λ b. b.log.lines.spent ≡ false) }
 {
     let clauses = formula.clauses().len() as u64;
     if clauses > 1 << 32 {
         return Err("too many clauses".into());
     }
-    match Book::new(alloc, clauses, sink, true) {
+    match Book::new(alloc, ProofFormat::Text, clauses, sink, true) {
         Ok(book) => {
             book.has_its_log();
             Ok(book)
@@ -61,18 +62,18 @@ pub fn new_book<S: Sink + Drop>(alloc: Global, formula: &Formula, sink: S) -> Re
 /// A table with its first pass and the addresses of the start cells.
 pub type Opened<S> = (Shared<Book<S>>, Pass<Book<S>>, Vec<Cref>);
 
-/// A table for two rings over the four clauses.
+/// A table for two rings over the four clauses, with one slot for each class.
 pub fn open_four<S: Sink + Drop>(alloc: Global, sink: S) -> Result<Opened<S>, Fail>
     requires { IsEmptyWhereTold (S.written sink) }
     ensures first { IfOk result (λ m. IsFirst m.0 m.1 0) }
     ensures parts { IfOk result (λ m. m.1.me.0.parts ≡ []) }
-    ensures layout { IfOk result (λ m. m.0.layout ≡ record { rings = 2; vars = 3; words = 64 }) }
+    ensures layout { IfOk result (λ m. m.0.layout ≡ record { rings = 2; vars = 3; words = 64; depth = 1 }) }
     ensures opening { IfOk result (λ m. m.1.me.0.opening ≡ begun_with (first ∷ second ∷ third ∷ spare ∷ []) m.0.layout [] four []) }
     ensures four { IfOk result (λ m. BeginsWithFour m.0 m.1.me.0.opening m.2.items) }
 {
     let problem = make_four(alloc)?;
     let book = new_book(alloc, &problem.formula, sink)?;
-    open_with(alloc, &problem, 2, 64, book)
+    open_with(alloc, &problem, 2, 64, 1, book)
 }
 
 /// The address of the fourth cell.

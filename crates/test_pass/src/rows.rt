@@ -169,11 +169,11 @@ pub fn write_two<P: Port>(port: &mut P) -> Result<(), Miss>
 /// Looks for a clause of two literals that ring 0 has put.
 pub fn hear<P: Port>(port: &mut P) -> Result<Option<Cref>, Miss>
     requires { IsListener (P.state port.old) (P.state port.old).taken }
-    ensures polled { IfOk result (λ found. Polled (P.state port.old) (P.state port.new) 0 0 (Ok found)) }
+    ensures polled { IfOk result (λ found. Polled (P.state port.old) (P.state port.new) 0 0 0 (Ok found)) }
     ensures none { IfOk result (λ found. MatchOption found (IsListener (P.state port.new) (P.state port.old).taken) (λ c. IsListener (P.state port.new) ((P.state port.old).taken ++ c.address ∷ []) × IsSome (held_at (P.state port.new) c.address))) }
     ensures same { OnOk result (Keeps (P.state port.old) (P.state port.new)) }
 {
-    match port.poll(0, 0) {
+    match port.poll(0, 0, 0) {
         Ok(found) => Ok(found),
         Err(_) => Err(Miss::Memory),
     }

@@ -104,6 +104,7 @@ crowd_begins s p = record {
   opening = λ k d lt. absurd (omega arith);
   stop = tt;
   ring = omega arith;
+  deep = omega arith;
 }
 
 -- What stays if nothing is taken
@@ -123,17 +124,18 @@ crowd_goes_on s taken stop other looks more refused told polled polled_more p is
   opening = p.opening;
   stop = is_stop;
   ring = p.ring;
+  deep = p.deep;
 }
 
 -- Polls
 
 -- one poll more
-abbrev pub asked_again : ℕ → ℕ → Asked → Asked
-asked_again from class q = record { polled = one_more q.polled; polls = q.polls ++ record { ring = from; class = class } ∷ []; polls_after = q.polls_after ++ q.caught_up ∷ []; caught_up = q.caught_up }
+abbrev pub asked_again : ℕ → ℕ → ℕ → Asked → Asked
+asked_again from class place q = record { polled = one_more q.polled; polls = q.polls ++ record { ring = from; class = class; place = place } ∷ []; polls_after = q.polls_after ++ q.caught_up ∷ []; caught_up = q.caught_up }
 
-pub asked_more : (n k m : ℕ) (ps qs : List Poll) (from class : ℕ) → m ≡ one_more n → qs ≡ ps ++ record { from = from; class = class; caught_up = k } ∷ [] → asked m qs k ≡ asked_again from class (asked n ps k)
-asked_more n k m ps qs from class more is =
-    let x : Poll = record { from = from; class = class; caught_up = k } in
+pub asked_more : (n k m : ℕ) (ps qs : List Poll) (from class place : ℕ) → m ≡ one_more n → qs ≡ ps ++ record { from = from; class = class; place = place; caught_up = k } ∷ [] → asked m qs k ≡ asked_again from class place (asked n ps k)
+asked_more n k m ps qs from class place more is =
+    let x : Poll = record { from = from; class = class; place = place; caught_up = k } in
     (λ i. asked (more i) (is i) k) ∙ (λ i. record { polled = one_more n; polls = map-append slot_of ps (x ∷ []) i; polls_after = map-append looks_before ps (x ∷ []) i; caught_up = k })
 
 -- How the last clause is taken
@@ -142,8 +144,8 @@ among_last : (s : PortState) (l : ℕ) (last : IsLast s l) → In last.clause s.
 among_last s l last = subst (λ (hs : List Holding). In last.clause hs) (sym last.there) (In_append_right (front s.held) (last.clause ∷ []) last.clause (inl refl))
 
 module _ (s : PortState) (c : Cref) (last : IsLast s c.address) (port : IsPort s) (stop : Option Stop) (looks : ℕ) (refused : Option PortStop) (polled : Asked) where
-  pub took : (from class : ℕ) (n : Asked) → n ≡ asked_again from class polled → TookClause (crowd_of s None stop looks refused polled) (crowd_of s (Some c) stop looks refused n) from class c
-  took from class n e = record {
+  pub took : (from class place : ℕ) (n : Asked) → n ≡ asked_again from class place polled → TookClause (crowd_of s None stop looks refused polled) (crowd_of s (Some c) stop looks refused n) from class place c
+  took from class place n e = record {
     clause = last.clause;
     address = last.address;
     kept = All_In (IsKept s.vars) s.held last.clause port.held (among_last s c.address last);
@@ -166,6 +168,7 @@ module _ (s : PortState) (c : Cref) (last : IsLast s c.address) (port : IsPort s
     opening = old.opening;
     stop = old.stop;
     ring = old.ring;
+    deep = old.deep;
   }
 
   pub keeps_held : (n : Asked) → KeepsHeld (crowd_of s None stop looks refused polled) (crowd_of s (Some c) stop looks refused n)

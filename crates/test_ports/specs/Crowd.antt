@@ -29,7 +29,7 @@ pub record Asked : Type 0 where
 
 -- the slot that a poll looks into
 abbrev pub slot_of : Poll → Slot
-slot_of p = record { ring = p.from; class = p.class }
+slot_of p = record { ring = p.from; class = p.class; place = p.place }
 
 -- how often no unit was left before a poll
 abbrev pub looks_before : Poll → ℕ
@@ -40,7 +40,7 @@ abbrev pub asked : ℕ → List Poll → ℕ → Asked
 asked polled ps caught_up = record { polled = polled; polls = map slot_of ps; polls_after = map looks_before ps; caught_up = caught_up }
 
 -- it starts with all clauses of the port in memory but the last, has no units and writes nothing; the other rings have nothing
--- for it but this last one
+-- for it but this last one; each two rings have two slots for each class
 abbrev pub crowd_of : PortState → Option Cref → Option Stop → ℕ → Option PortStop → Asked → PortState
 crowd_of s taken stop looks refused q = record {
   held = held_of s.held taken;
@@ -62,6 +62,7 @@ crowd_of s taken stop looks refused q = record {
   vars = s.vars;
   ring = 1;
   rings = 3;
+  depth = 2;
   last = None;
   stop = stop;
   looks = looks;

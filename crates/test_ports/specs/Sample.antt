@@ -46,6 +46,7 @@ sample_state = record {
   vars = 5;
   ring = 0;
   rings = 2;
+  depth = 2;
   last = None;
   stop = Some (record { kind = 1; ring = 1 });
   looks = 0;
@@ -55,9 +56,9 @@ sample_state = record {
   home = [];
 }
 
--- the first clause, put for the other ring
+-- the first clause, put for the other ring into the first slot of its class
 abbrev pub put_first : Offer
-put_first = record { ring = 1; class = 0; address = 1 }
+put_first = record { ring = 1; class = 0; place = 0; address = 1 }
 
 -- as many lemmas as a reduction needs
 pub enough : List Entry

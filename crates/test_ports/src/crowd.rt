@@ -17,6 +17,8 @@ pub struct Poll {
     pub from: u32,
     /// The class.
     pub class: u8,
+    /// The place.
+    pub place: u32,
     /// How often it had been asked for a unit by then.
     pub caught_up: u64,
 }
@@ -28,7 +30,12 @@ pub struct Gift {
     pub from: u32,
     /// The class.
     pub class: u8,
+    /// The place among the slots that the two rings have for the class.
+    pub place: u32,
 }
+
+/// How many slots each two rings have for each class.
+const DEPTH: u32 = 2;
 
 /// The port of the second of three rings, over what a port in memory holds. The last clause of that is another ring's, which
 /// may hand it over. Another ring's stop appears after this many looks, and no line can be written.
@@ -53,7 +60,7 @@ pub struct Crowd<L: LineOut> {
     polled: u64,
     /// How often it was asked for a unit.
     caught_up: u64,
-    /// Which ring was polled and for which class, in order, and after how many asks for a unit.
+    /// Which ring was polled, for which class and at which place, in order, and after how many asks for a unit.
     polls: Vec<Poll>,
 }
 
@@ -138,7 +145,7 @@ impl<L: LineOut + Drop> Crowd<L> {
         Ok((crowd, start))
     }
 
-    /// Which ring was polled and for which class, in order, and after how many asks for a unit.
+    /// Which ring was polled, for which class and at which place, in order, and after how many asks for a unit.
     pub fn into_polls(self) -> Vec<Poll> {
         self.polls
     }
@@ -149,6 +156,11 @@ impl<L: LineOut> Port for Crowd<L> {
 
     fn vars(&self) -> u32 {
         self.inner.vars()
+    }
+
+    fn depth(&self) -> u32 {
+        let _looks = self.looks;
+        DEPTH
     }
 
     fn head(&mut self, c: Cref) -> Head {
@@ -210,17 +222,18 @@ impl<L: LineOut> Port for Crowd<L> {
     }
 
     /// Nothing is there but the clause of the other ring.
-    fn poll(&mut self, from: u32, class: u8) -> Result<Option<Cref>, PortStop> {
+    fn poll(&mut self, from: u32, class: u8, place: u32) -> Result<Option<Cref>, PortStop> {
         let poll = Poll {
             from,
             class,
+            place,
             caught_up: self.caught_up,
         };
         if self.polls.push(poll).is_err() {
             return Err(PortStop::Memory);
         }
         self.polled = self.polled.saturating_add(1);
-        let slot = Gift { from, class };
+        let slot = Gift { from, class, place };
         if self.gift != Some(slot) {
             return Ok(None);
         }

@@ -5,7 +5,7 @@ ghost use Rattle.test_ports.specs.Sample.{sample_state, sample_at};
 use ring_port::{Port, PortStop, Set};
 use sat_words::{Cref, Head, Lit, STOP_SAT, Stop};
 
-/// The port of the first of two rings, over the variables 1 to 5. It holds three clauses at the addresses 1 to 3: `-1 2`,
+/// The port of the first of two rings, which have two slots for each class, over the variables 1 to 5. It holds three clauses at the addresses 1 to 3: `-1 2`,
 /// `-4 -1 5` and `-4 -2 -5`. The units 1 and 4 were seen, and the other ring has stopped. Each call that writes is refused
 /// for want of memory.
 #[derive(Drop)]
@@ -48,6 +48,10 @@ impl Port for SamplePort {
 
     fn vars(&self) -> u32 {
         5
+    }
+
+    fn depth(&self) -> u32 {
+        2
     }
 
     fn head(&mut self, c: Cref) -> Head {
@@ -114,7 +118,7 @@ impl Port for SamplePort {
         1
     }
 
-    fn poll(&mut self, _from: u32, _class: u8) -> Result<Option<Cref>, PortStop> {
+    fn poll(&mut self, _from: u32, _class: u8, _place: u32) -> Result<Option<Cref>, PortStop> {
         Err(PortStop::Memory)
     }
 

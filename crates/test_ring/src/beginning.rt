@@ -90,6 +90,7 @@ pub fn begin<L: LineOut + Drop>(
         start,
         conflicts,
         seed,
+        walk: 0,
     };
     Ok((port, job))
 }

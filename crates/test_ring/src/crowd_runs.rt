@@ -94,48 +94,25 @@ fn tells_that_memory_ran_out(rt: HostRuntime) -> Result<(), Fail> {
     Ok(())
 }
 
-/// The polls of the four classes of the first ring, and then of those of the third, each after one ask for a unit.
-static EACH_SLOT: [Poll; 8] = [
-    Poll {
-        from: 0,
-        class: 0,
-        caught_up: 1,
-    },
-    Poll {
-        from: 0,
-        class: 1,
-        caught_up: 1,
-    },
-    Poll {
-        from: 0,
-        class: 2,
-        caught_up: 1,
-    },
-    Poll {
-        from: 0,
-        class: 3,
-        caught_up: 1,
-    },
-    Poll {
-        from: 2,
-        class: 0,
-        caught_up: 1,
-    },
-    Poll {
-        from: 2,
-        class: 1,
-        caught_up: 1,
-    },
-    Poll {
-        from: 2,
-        class: 2,
-        caught_up: 1,
-    },
-    Poll {
-        from: 2,
-        class: 3,
-        caught_up: 1,
-    },
+/// Ring, class and place of the slots that it looks into at an import: both places of the four classes of the first ring, and
+/// then those of the third.
+static EACH_SLOT: [(u32, u8, u32); 16] = [
+    (0, 0, 0),
+    (0, 0, 1),
+    (0, 1, 0),
+    (0, 1, 1),
+    (0, 2, 0),
+    (0, 2, 1),
+    (0, 3, 0),
+    (0, 3, 1),
+    (2, 0, 0),
+    (2, 0, 1),
+    (2, 1, 0),
+    (2, 1, 1),
+    (2, 2, 0),
+    (2, 2, 1),
+    (2, 3, 0),
+    (2, 3, 1),
 ];
 
 // It polled each slot once, after it had asked for units and before it decided anything.
@@ -144,22 +121,30 @@ fn polls_each_other_ring_at_its_start(rt: HostRuntime) -> Result<(), Fail> {
     let ran = run_on_two(rt.alloc(), None, 0, false)?;
     assert!(rt; kind_of(&ran.end) == Kind::Stopped);
     assert!(rt; ran.counts == counted(0, 0));
-    assert!(rt; ran.polls.as_slice() == EACH_SLOT.as_slice());
+    assert!(rt; ran.polls.len() == EACH_SLOT.len());
+    for (poll, slot) in ran.polls.iter().zip(EACH_SLOT.iter()) {
+        assert!(rt; (poll.from, poll.class, poll.place) == *slot);
+        assert!(rt; poll.caught_up == 1);
+    }
     Ok(())
 }
 
 // If 1 is decided false the clause of another ring makes 2 true, so that no conflict comes, whose lemma would be refused.
 #[test]
 fn searches_over_what_it_was_handed(rt: HostRuntime) -> Result<(), Fail> {
-    for from in [0, 2] {
-        let gift = Gift { from, class: 0 };
+    for (from, place) in [(0, 1), (2, 0)] {
+        let gift = Gift {
+            from,
+            class: 0,
+            place,
+        };
         let ran = run_on_two(rt.alloc(), Some(gift), 9, false)?;
         let End::Sat(model) = &ran.end else {
             return Err(Fail::from("no model"));
         };
         assert!(rt; model.truth_of_lit(Lit::new(2, false)));
         assert!(rt; model.truth_of_lit(Lit::new(1, true)));
-        assert!(rt; (ran.glue, ran.polls.len()) == (None, 8));
+        assert!(rt; (ran.glue, ran.polls.len()) == (None, 16));
     }
     Ok(())
 }

@@ -27,10 +27,11 @@ fn copy_of(alloc: Global, line: &Line) -> Result<Line, AllocError>
 
 impl LineOut for ListLines {
     ghost use Rattle.std.specs.Prelude.{None, Some, false, vec_len};
+    ghost use Rattle.sat_words.specs.declared.line.ProofFormat.TheVariants.{Text};
     ghost use Rattle.drat_text.specs.Text.{text};
 
-    // It says the text of the lines.
-    ghost told = { λ l. record { entries = vec_len l.lines; last = l.last; spent = false; faults = 0; written = Some (text l.lines.items); target = None; flushed = None } };
+    // It says the text of the lines, and keeps them.
+    ghost told = { λ l. record { format = Text; entries = vec_len l.lines; last = l.last; spent = false; faults = 0; written = Some (text l.lines.items); target = None; flushed = None; kept = Some l.lines.items } };
 
     fn put(&mut self, line: &Line) -> Result<u64, LineStop> {
         if self.lines.len() as u64 >= MAX_ENTRIES || self.last == u64::MAX {

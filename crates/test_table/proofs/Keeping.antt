@@ -13,9 +13,9 @@ use Rattle.share_rule.specs.Exchanges.{gave_part, after_put}
 use Rattle.pool_exchange.proofs.Places.{held_there}
 
 -- what a ring held of other cells it holds after a put
-pub put_keeps : (to class a : ℕ) (h : ClauseAt) (g : ℕ) (v w : View) → v.parts ≡ only v ∷ [] → w ≡ after_put to class a h g v → 0 < times_at a (only v).core.held → (b : ℕ) → b ≢ a → 0 < times_at b (only v).core.held → 0 < times_at b (only w).core.held
-put_keeps to class a h g v w one is has b ne there =
-    let n : PutNote = record { to = to; class = class; address = a } in
+pub put_keeps : (to class place a : ℕ) (h : ClauseAt) (g : ℕ) (v w : View) → v.parts ≡ only v ∷ [] → w ≡ after_put to class place a h g v → 0 < times_at a (only v).core.held → (b : ℕ) → b ≢ a → 0 < times_at b (only v).core.held → 0 < times_at b (only w).core.held
+put_keeps to class place a h g v w one is has b ne there =
+    let n : PutNote = record { to = to; class = class; place = place; address = a } in
     let xs : List ClauseAt = without_at a (only v).core.held in
     let t = at_without a b (only v).core.held has in
     let z : one_if (a == b) ≡ 0 = ap one_if (ne_eqb a b (λ e. ne (sym e))) in

@@ -7,17 +7,22 @@ ghost use Rattle.log_book.specs.Books.{IsNew, told_of};
 use drat_text::{LineOut, LineStop};
 use io_edge::Sink;
 use log_book::Book;
-use sat_words::Line;
+use sat_words::{Line, ProofFormat};
 use std::alloc::Global;
 use std::test::Fail;
 
-/// A book for a formula of one clause, in a sink to which nothing was written.
-pub fn new_book<S: Sink + Drop>(alloc: Global, sink: S, keep_lines: bool) -> Result<Book<S>, Fail>
+/// A book in this format for a formula of one clause, in a sink to which nothing was written.
+pub fn new_book<S: Sink + Drop>(
+    alloc: Global,
+    format: ProofFormat,
+    sink: S,
+    keep_lines: bool,
+) -> Result<Book<S>, Fail>
     requires { IsEmptyWhereTold (S.written sink) }
-    ensures made { IfOk result (λ b. IsNew 1 sink keep_lines b) }
+    ensures made { IfOk result (λ b. IsNew format 1 sink keep_lines b) }
     ensures unspent { IfOk result (λ b. b.log.lines.spent ≡ false) }
 {
-    match Book::new(alloc, 1, sink, keep_lines) {
+    match Book::new(alloc, format, 1, sink, keep_lines) {
         Ok(book) => Ok(book),
         Err(_) => Err(Fail::from("no memory")),
     }

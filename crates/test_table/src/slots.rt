@@ -1,4 +1,4 @@
-//! The first slot between two rings.
+//! The slots of the first class between two rings.
 ghost use Rattle.std.specs.Prelude.{◌≡◌, ◌≢◌, ◌<◌, ◌↔◌, ℕ, IfSome, IsSome, None};
 ghost use Rattle.pool_exchange.specs.Found.{IsFound};
 ghost use Rattle.ref_count.specs.Drops.{IsDropped};
@@ -15,23 +15,26 @@ use sat_words::Cref;
 use share_rule::{Ledger, Shared};
 use test_tables::Ring;
 
-/// Puts a cell that the ring holds into its first slot for another. It still holds what it held of others.
+/// Puts a cell that the ring holds into its slot for another at this place, in the first class. It still holds what it
+/// held of others.
 pub fn put_first<B: Ledger>(
     table: &Shared<B>,
     ring: &mut Ring<B>,
     to: u32,
+    place: u32,
     cell: Cref,
 ) -> Option<Cref>
     requires ring { IsAlone table.now ring.old.pass ring.old.ring }
     requires to { (to < ring.old.pass.me.0.opening.rings) × (to ≢ ring.old.ring) }
+    requires place { place < table.now.layout.depth }
     requires held { 0 < times_at cell.address (only ring.old.pass.me.0).core.held }
     ensures ring { IsAlone table.now ring.new.pass ring.new.ring }
-    ensures swapped { (h : ClauseAt) × (g : ℕ) × (ring.new.pass.me.0 ≡ after_put to 0 cell.address h g ring.old.pass.me.0) × IsFound h.address result }
+    ensures swapped { (h : ClauseAt) × (g : ℕ) × (ring.new.pass.me.0 ≡ after_put to 0 place cell.address h g ring.old.pass.me.0) × IsFound h.address result }
     ensures back { IfSome result (λ c. 0 < times_at c.address (only ring.new.pass.me.0).core.held) }
     ensures held { (a : ℕ) → a ≢ cell.address → 0 < times_at a (only ring.old.pass.me.0).core.held → 0 < times_at a (only ring.new.pass.me.0).core.held }
     ensures same { (ring.new.ring ≡ ring.old.ring) × (ring.new.pass.me.0.opening ≡ ring.old.pass.me.0.opening) }
 {
-    put(table, &mut ring.pass, ring.ring, to, 0, cell)
+    put(table, &mut ring.pass, ring.ring, to, 0, place, cell)
 }
 
 /// Gives up what came back. Whether it was the last count is known.
@@ -54,14 +57,20 @@ pub fn give_back<B: Ledger>(
     }
 }
 
-/// Gets what another ring's first slot for this one has.
-pub fn get_first<B: Ledger>(table: &Shared<B>, ring: &mut Ring<B>, from: u32) -> Option<Cref>
+/// Gets what another ring's slot for this one has at this place, in the first class.
+pub fn get_first<B: Ledger>(
+    table: &Shared<B>,
+    ring: &mut Ring<B>,
+    from: u32,
+    place: u32,
+) -> Option<Cref>
     requires ring { IsAlone table.now ring.old.pass ring.old.ring }
     requires from { (from < ring.old.pass.me.0.opening.rings) × (from ≢ ring.old.ring) }
+    requires place { place < table.now.layout.depth }
     ensures ring { IsAlone table.now ring.new.pass ring.new.ring }
-    ensures swapped { (h : ClauseAt) × (g : ℕ) × (ring.new.pass.me.0 ≡ after_get from 0 h g ring.old.pass.me.0) × IsFound h.address result }
+    ensures swapped { (h : ClauseAt) × (g : ℕ) × (ring.new.pass.me.0 ≡ after_get from 0 place h g ring.old.pass.me.0) × IsFound h.address result }
     ensures held { IfSome result (λ c. 0 < times_at c.address (only ring.new.pass.me.0).core.held) }
     ensures same { (ring.new.ring ≡ ring.old.ring) × (ring.new.pass.me.0.opening ≡ ring.old.pass.me.0.opening) }
 {
-    get(table, &mut ring.pass, ring.ring, from, 0)
+    get(table, &mut ring.pass, ring.ring, from, 0, place)
 }

@@ -5,7 +5,7 @@ use crate::books::{new_book, put_one};
 use drat_text::LineStop;
 use io_edge::{Failed, MemSink, Sink};
 use log_book::Book;
-use sat_words::{Line, Lit, Lits};
+use sat_words::{Line, Lit, Lits, ProofFormat};
 use std::alloc::Global;
 use std::test::Fail;
 
@@ -13,7 +13,12 @@ use std::test::Fail;
 fn book<'a>(alloc: Global, fails: &'a [u64], keep: bool) -> Result<Book<MemSink<'a>>, Fail>
     ensures unspent { IfOk result (λ b. b.log.lines.spent ≡ false) }
 {
-    new_book(alloc, MemSink::new(alloc, 1 << 17, fails)?, keep)
+    new_book(
+        alloc,
+        ProofFormat::Text,
+        MemSink::new(alloc, 1 << 17, fails)?,
+        keep,
+    )
 }
 
 /// Puts the line this many times, as long as the numbers from 2 on are answered. Tells how often it was put, and what stopped
@@ -86,7 +91,7 @@ fn lines_are_kept_where_they_are_asked_for(rt: HostRuntime) -> Result<(), Fail> 
     let few = ending(rt.alloc(), &[], 7, true)?;
     let many = ending(rt.alloc(), &[1], 10_930, true)?;
     assert!(rt; few == (7, None, 8, Ok(()), 42, Some(7)));
-    assert!(rt; many == (10_922, FAULT, 10_923, FAILED, 0, Some(10_923)));
+    assert!(rt; many == (10_922, FAULT, 10_923, FAILED, 0, Some(10_922)));
     Ok(())
 }
 

@@ -29,7 +29,7 @@ fn three(alloc: Global) -> Result<Problem, Fail> {
 #[test]
 fn the_last_of_two_rings_is_told(rt: HostRuntime) -> Result<(), Fail> {
     let problem = three(rt.alloc())?;
-    let (table, mut first, cells) = open(rt.alloc(), &problem, 2, 64)?;
+    let (table, mut first, cells) = open(rt.alloc(), &problem, 2, 64, 1)?;
     let places = [
         Cref { address: 27 },
         Cref { address: 32 },
@@ -62,7 +62,7 @@ fn race(
     requires turns { turns < 2 ^ 56 }
 {
     let problem = three(rt.alloc())?;
-    let (table, mut first, cells) = open(rt.alloc(), &problem, rings, 64)?;
+    let (table, mut first, cells) = open(rt.alloc(), &problem, rings, 64, 1)?;
     let cell = start_cell(&first, cells.as_slice(), place)?;
     let mut rings = begin_all(rt.alloc(), &table, &mut first, cell, rings)?;
     let count = rings.len() as u64;
@@ -111,7 +111,7 @@ fn begin_alone(
 ) -> Result<(Shared<SampleBook>, Ring<SampleBook>), Fail>
     ensures { IfOk result (λ x. IsHolder x.0 x.1.pass x.1.ring x.1.cell.address 0) }
 {
-    let (table, mut first, cells) = open(alloc, problem, 1, 64)?;
+    let (table, mut first, cells) = open(alloc, problem, 1, 64, 1)?;
     let cell = start_cell(&first, cells.as_slice(), place)?;
     let ring = begin(&table, &mut first, 0, cell);
     Ok((table, ring))

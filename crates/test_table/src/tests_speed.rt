@@ -1,7 +1,7 @@
 // `log_book`, as bench/turn measures it: lines that are put, and as many bytes that are written plainly.
 use crate::books::{new_book, put_one};
 use io_edge::{Failed, Sink};
-use sat_words::{Line, Lit, Lits};
+use sat_words::{Line, Lit, Lits, ProofFormat};
 use std::alloc::Global;
 use std::test::Fail;
 
@@ -52,9 +52,9 @@ fn long_line(alloc: Global) -> Result<Line, Fail> {
 }
 
 /// Puts a line this often, and says how many bytes came to the sink.
-fn put_lines(alloc: Global, times: u32) -> Result<u64, Fail> {
+fn put_lines(alloc: Global, format: ProofFormat, times: u32) -> Result<u64, Fail> {
     let line = long_line(alloc)?;
-    let mut book = new_book(alloc, Counter { bytes: 0 }, false)?;
+    let mut book = new_book(alloc, format, Counter { bytes: 0 }, false)?;
     for _ in 0..times {
         put_one(&mut book, &line)?;
     }
@@ -64,15 +64,25 @@ fn put_lines(alloc: Global, times: u32) -> Result<u64, Fail> {
 
 #[test]
 fn lines_are_put(rt: HostRuntime) -> Result<(), Fail> {
-    let bytes = put_lines(rt.alloc(), LINES)?;
+    let bytes = put_lines(rt.alloc(), ProofFormat::Text, LINES)?;
     assert!(rt; bytes == LINES as u64 * TEXT.len() as u64);
     Ok(())
 }
 
 #[test]
 fn four_times_as_many_lines_are_put(rt: HostRuntime) -> Result<(), Fail> {
-    let bytes = put_lines(rt.alloc(), 4 * LINES)?;
+    let bytes = put_lines(rt.alloc(), ProofFormat::Text, 4 * LINES)?;
     assert!(rt; bytes == 4 * LINES as u64 * TEXT.len() as u64);
+    Ok(())
+}
+
+/// A line of ten literals in binary: a byte that says what it does, three bytes a literal, and a zero.
+const BINARY: u64 = 32;
+
+#[test]
+fn lines_in_binary_are_put(rt: HostRuntime) -> Result<(), Fail> {
+    let bytes = put_lines(rt.alloc(), ProofFormat::Binary, LINES)?;
+    assert!(rt; bytes == LINES as u64 * BINARY);
     Ok(())
 }
 

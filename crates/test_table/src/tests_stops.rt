@@ -22,7 +22,7 @@ fn begin_two(alloc: Global) -> Result<Begun, Fail>
 {
     let problem = Problem::new(alloc, 2);
     let problem = problem.with(alloc, &[Lit::new(1, false), Lit::new(2, false)])?;
-    let (table, mut first, cells) = open(alloc, &problem, 2, 16)?;
+    let (table, mut first, cells) = open(alloc, &problem, 2, 16, 1)?;
     let cell = start_cell(&first, cells.as_slice(), 0)?;
     let zero = begin(&table, &mut first, 0, cell);
     let one = begin(&table, &mut first, 1, cell);

@@ -46,13 +46,14 @@ fn try_over<B: Ledger + Drop>(
     units: &[Lit],
     rings: u32,
     words: u64,
+    depth: u32,
     book: B,
 ) -> Result<Made<B>, Fail>
     requires problem { IsProblem formula.now start.now units.now }
     requires book { (l : Layout) → HasLog B.account B.stands book (B.origin book) l formula.now.clauses [] }
     requires whole { (B.account book).broken ≡ false }
     ensures first { IfOk result (λ m. IfOk m (λ m. IsFirst m.0 m.1 0 × (m.1.me.0.parts ≡ []))) }
-    ensures layout { IfOk result (λ m. IfOk m (λ m. m.0.layout ≡ record { rings = rings; vars = formula.now.vars; words = words })) }
+    ensures layout { IfOk result (λ m. IfOk m (λ m. m.0.layout ≡ record { rings = rings; vars = formula.now.vars; words = words; depth = depth })) }
     ensures opening { IfOk result (λ m. IfOk m (λ m. m.1.me.0.opening ≡ begun_with formula.now.clauses m.0.layout [] start.now units.now)) }
     ensures cells { IfOk result (λ m. IfOk m (λ m. m.2.items ≡ addresses m.1.me.0.opening.starts)) }
 {
@@ -60,31 +61,50 @@ fn try_over<B: Ledger + Drop>(
     if rings == 0 || rings > 16 || vars > 1 << 30 || words > 1 << 31 {
         return Err(Fail::from("no layout"));
     }
-    let layout = Layout { rings, vars, words };
+    if depth == 0 || depth > 16 {
+        return Err(Fail::from("no slots"));
+    }
+    let layout = Layout {
+        rings,
+        vars,
+        words,
+        depth,
+    };
     match make_over(alloc, formula, layout, start, units, book) {
         Ok(made) => Ok(Ok(made)),
         Err(stop) => Ok(Err(stop)),
     }
 }
 
-/// A table for this many rings over such a book, with its first pass. No line stands in the book yet.
+/// A table for this many rings over such a book, with its first pass. The depth is how many slots there are for each two
+/// rings and class. No line stands in the book yet.
 pub fn open_with<B: Ledger + Drop>(
     alloc: Global,
     problem: &Problem,
     rings: u32,
     words: u64,
+    depth: u32,
     book: B,
 ) -> Result<(Shared<B>, Pass<B>, Vec<Cref>), Fail>
     requires book { (l : Layout) → HasLog B.account B.stands book (B.origin book) l problem.now.formula.clauses [] }
     requires whole { (B.account book).broken ≡ false }
     ensures first { IfOk result (λ m. IsFirst m.0 m.1 0 × (m.1.me.0.parts ≡ [])) }
-    ensures layout { IfOk result (λ m. m.0.layout ≡ record { rings = rings; vars = problem.now.formula.vars; words = words }) }
+    ensures layout { IfOk result (λ m. m.0.layout ≡ record { rings = rings; vars = problem.now.formula.vars; words = words; depth = depth }) }
     ensures opening { IfOk result (λ m. m.1.me.0.opening ≡ begun_with problem.now.formula.clauses m.0.layout [] problem.now.start.items problem.now.units.items) }
     ensures cells { IfOk result (λ m. m.2.items ≡ addresses m.1.me.0.opening.starts) }
 {
     let start = problem.start.as_slice();
     let units = problem.units.as_slice();
-    match try_over(alloc, &problem.formula, start, units, rings, words, book)? {
+    match try_over(
+        alloc,
+        &problem.formula,
+        start,
+        units,
+        rings,
+        words,
+        depth,
+        book,
+    )? {
         Ok(made) => Ok(made),
         Err(_) => Err(Fail::from("no table")),
     }
@@ -107,15 +127,17 @@ pub fn open(
     problem: &Problem,
     rings: u32,
     words: u64,
+    depth: u32,
 ) -> Result<(Shared<SampleBook>, Pass<SampleBook>, Vec<Cref>), Fail>
     ensures first { IfOk result (λ m. IsFirst m.0 m.1 0 × (m.1.me.0.parts ≡ []) × (m.1.me.0.opening.rings ≡ rings)) }
+    ensures depth { IfOk result (λ m. m.0.layout.depth ≡ depth) }
     ensures cells { IfOk result (λ m. m.2.items ≡ addresses m.1.me.0.opening.starts) }
 {
     let book = new_book(alloc, &problem.formula)?;
-    open_with(alloc, problem, rings, words, book)
+    open_with(alloc, problem, rings, words, depth, book)
 }
 
-/// Why no table is made, and the last number of the book that comes back.
+/// Why no table is made with one slot for each two rings and class, and the last number of the book that comes back.
 pub fn refusal(
     alloc: Global,
     problem: &Problem,
@@ -125,7 +147,7 @@ pub fn refusal(
     let start = problem.start.as_slice();
     let units = problem.units.as_slice();
     let book = new_book(alloc, &problem.formula)?;
-    match try_over(alloc, &problem.formula, start, units, rings, words, book)? {
+    match try_over(alloc, &problem.formula, start, units, rings, words, 1, book)? {
         Ok(_) => Err(Fail::from("a table was made")),
         Err(stop) => Ok((stop.why, stop.book.last)),
     }

@@ -18,7 +18,7 @@ ghost use Rattle.test_units.specs.declared.writers.Writer.{Writer};
 use io_edge::Sink;
 use log_book::{Book, give_turn, take_turn};
 use rup_model::Kind;
-use sat_words::{Cref, Formula, Lit};
+use sat_words::{Cref, Formula, Lit, ProofFormat};
 use share_rule::{Pass, Shared};
 use std::alloc::Global;
 use std::sync::Wait;
@@ -58,7 +58,7 @@ pub fn new_book<S: Sink + Drop>(
     if clauses > 1 << 32 {
         return Err(Fail::from("too many clauses"));
     }
-    match Book::new(alloc, clauses, sink, keep_lines) {
+    match Book::new(alloc, ProofFormat::Text, clauses, sink, keep_lines) {
         Ok(book) => {
             book.has_its_log();
             Ok(book)

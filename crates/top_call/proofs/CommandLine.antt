@@ -1,6 +1,6 @@
 -- What a parse of the program's command gives.
 use Rattle.std.proofs.Common.{◌≡◌, ◌∙◌, ◌<◌, ◌≤◌, ◌^◌, ◌-◌, ◌⊎◌, ℕ, zero, suc, Bool, true, false, not, List, [], ◌∷◌, length, map, codes, refl, sym, ap, subst, arith, inl, inr, Some, None, true≢false, is_some}
-use Rattle.std.specs.Prelude.{find, option_map, option_and_then, slice_get}
+use Rattle.std.specs.Prelude.{◌&&◌, find, option_map, option_and_then, slice_get}
 use Rattle.std.specs.List.{All, slice_index_or}
 use Rattle.std.specs.Str.{bytes_eq}
 use Rattle.std.specs.Borrow.{Bor}
@@ -23,7 +23,7 @@ use Rattle.clap.specs.declared.error.kind.ErrorKind.{ErrorKind}
 use Rattle.clap.proofs.CallerLemmas.{default_present, entry_by_id, same_rules_by_id}
 use Rattle.clap.proofs.SimpleLemmas.{is_false, is_nil, plain_fields}
 use Rattle.clap.proofs.WalkLemmas.{both}
-use Rattle.top_call.specs.Words.{Command, HasNumber, HasThreads, HasLimit, HasWords, HasSeed, HasMade, command_in, command_of, unless_both, unless_refused, solver_app, solver_rules, conflicts_rule, threads_rule, words_rule, seed_rule, make_rule}
+use Rattle.top_call.specs.Words.{Command, HasNumber, HasThreads, HasLimit, HasWords, HasSlots, HasSeed, HasWalk, HasMade, command_in, command_of, unless_both, unless_refused, solver_app, solver_rules, conflicts_rule, threads_rule, words_rule, slots_rule, seed_rule, walk_rule, make_rule}
 
 pub solver_simple : is_simple solver_app ≡ true
 solver_simple = refl
@@ -68,77 +68,38 @@ no_condition a simple =
     let s = both _ _ r.1 in
     (is_nil _ q.0, is_none _ s.0)
 
-all_simple : (k : ℕ) (r : Rule) → k < 9 → ((slice_index_or solver_rules k r).is_simple ≡ true) × ((slice_index_or solver_rules k r).is_free ≡ true)
-all_simple zero r lt = (refl, refl)
-all_simple (suc zero) r lt = (refl, refl)
-all_simple (suc (suc zero)) r lt = (refl, refl)
-all_simple (suc (suc (suc zero))) r lt = (refl, refl)
-all_simple (suc (suc (suc (suc zero)))) r lt = (refl, refl)
-all_simple (suc (suc (suc (suc (suc zero))))) r lt = (refl, refl)
-all_simple (suc (suc (suc (suc (suc (suc zero)))))) r lt = (refl, refl)
-all_simple (suc (suc (suc (suc (suc (suc (suc zero))))))) r lt = (refl, refl)
-all_simple (suc (suc (suc (suc (suc (suc (suc (suc zero)))))))) r lt = (refl, refl)
-all_simple (suc (suc (suc (suc (suc (suc (suc (suc (suc k))))))))) r lt = absurd (omega arith)
+-- each rule passes the test
+abbrev passes : (Rule → Bool) → List Rule → Bool
+passes test [] = true
+passes test (x ∷ rules) = test x && passes test rules
 
-one_limit : (k : ℕ) (r : Rule) → k < 9 → bytes_eq (slice_index_or solver_rules k r).id (codes "conflicts") ≡ true → k ≡ 0
-one_limit zero r lt e = refl
-one_limit (suc zero) r lt e = absurd (true≢false (sym e))
-one_limit (suc (suc zero)) r lt e = absurd (true≢false (sym e))
-one_limit (suc (suc (suc zero))) r lt e = absurd (true≢false (sym e))
-one_limit (suc (suc (suc (suc zero)))) r lt e = absurd (true≢false (sym e))
-one_limit (suc (suc (suc (suc (suc zero))))) r lt e = absurd (true≢false (sym e))
-one_limit (suc (suc (suc (suc (suc (suc zero)))))) r lt e = absurd (true≢false (sym e))
-one_limit (suc (suc (suc (suc (suc (suc (suc zero))))))) r lt e = absurd (true≢false (sym e))
-one_limit (suc (suc (suc (suc (suc (suc (suc (suc zero)))))))) r lt e = absurd (true≢false (sym e))
-one_limit (suc (suc (suc (suc (suc (suc (suc (suc (suc k))))))))) r lt e = absurd (omega arith)
+each_passes : (test : Rule → Bool) (rules : List Rule) → passes test rules ≡ true → (k : ℕ) (r : Rule) → k < length rules → test (slice_index_or rules k r) ≡ true
+each_passes test [] e k r lt = absurd (omega arith)
+each_passes test (x ∷ rules) e zero r lt = (both _ _ e).0
+each_passes test (x ∷ rules) e (suc k) r lt = each_passes test rules (both _ _ e).1 k r (omega arith)
 
-one_threads : (k : ℕ) (r : Rule) → k < 9 → bytes_eq (slice_index_or solver_rules k r).id (codes "threads") ≡ true → k ≡ 1
-one_threads zero r lt e = absurd (true≢false (sym e))
-one_threads (suc zero) r lt e = refl
-one_threads (suc (suc zero)) r lt e = absurd (true≢false (sym e))
-one_threads (suc (suc (suc zero))) r lt e = absurd (true≢false (sym e))
-one_threads (suc (suc (suc (suc zero)))) r lt e = absurd (true≢false (sym e))
-one_threads (suc (suc (suc (suc (suc zero))))) r lt e = absurd (true≢false (sym e))
-one_threads (suc (suc (suc (suc (suc (suc zero)))))) r lt e = absurd (true≢false (sym e))
-one_threads (suc (suc (suc (suc (suc (suc (suc zero))))))) r lt e = absurd (true≢false (sym e))
-one_threads (suc (suc (suc (suc (suc (suc (suc (suc zero)))))))) r lt e = absurd (true≢false (sym e))
-one_threads (suc (suc (suc (suc (suc (suc (suc (suc (suc k))))))))) r lt e = absurd (omega arith)
+-- no rule has the id but the one at the place
+abbrev is_alone : List ℕ → List Rule → ℕ → Bool
+is_alone id [] place = true
+is_alone id (x ∷ rules) zero = passes (λ r. not (bytes_eq r.id id)) rules
+is_alone id (x ∷ rules) (suc place) = not (bytes_eq x.id id) && is_alone id rules place
 
-one_words : (k : ℕ) (r : Rule) → k < 9 → bytes_eq (slice_index_or solver_rules k r).id (codes "words") ≡ true → k ≡ 2
-one_words zero r lt e = absurd (true≢false (sym e))
-one_words (suc zero) r lt e = absurd (true≢false (sym e))
-one_words (suc (suc zero)) r lt e = refl
-one_words (suc (suc (suc zero))) r lt e = absurd (true≢false (sym e))
-one_words (suc (suc (suc (suc zero)))) r lt e = absurd (true≢false (sym e))
-one_words (suc (suc (suc (suc (suc zero))))) r lt e = absurd (true≢false (sym e))
-one_words (suc (suc (suc (suc (suc (suc zero)))))) r lt e = absurd (true≢false (sym e))
-one_words (suc (suc (suc (suc (suc (suc (suc zero))))))) r lt e = absurd (true≢false (sym e))
-one_words (suc (suc (suc (suc (suc (suc (suc (suc zero)))))))) r lt e = absurd (true≢false (sym e))
-one_words (suc (suc (suc (suc (suc (suc (suc (suc (suc k))))))))) r lt e = absurd (omega arith)
+other_id : (b : Bool) → not b ≡ true → b ≡ true → ⊥
+other_id b e h = true≢false (sym e ∙ ap not h)
 
-one_seed : (k : ℕ) (r : Rule) → k < 9 → bytes_eq (slice_index_or solver_rules k r).id (codes "seed") ≡ true → k ≡ 3
-one_seed zero r lt e = absurd (true≢false (sym e))
-one_seed (suc zero) r lt e = absurd (true≢false (sym e))
-one_seed (suc (suc zero)) r lt e = absurd (true≢false (sym e))
-one_seed (suc (suc (suc zero))) r lt e = refl
-one_seed (suc (suc (suc (suc zero)))) r lt e = absurd (true≢false (sym e))
-one_seed (suc (suc (suc (suc (suc zero))))) r lt e = absurd (true≢false (sym e))
-one_seed (suc (suc (suc (suc (suc (suc zero)))))) r lt e = absurd (true≢false (sym e))
-one_seed (suc (suc (suc (suc (suc (suc (suc zero))))))) r lt e = absurd (true≢false (sym e))
-one_seed (suc (suc (suc (suc (suc (suc (suc (suc zero)))))))) r lt e = absurd (true≢false (sym e))
-one_seed (suc (suc (suc (suc (suc (suc (suc (suc (suc k))))))))) r lt e = absurd (omega arith)
+alone_at : (id : List ℕ) (rules : List Rule) (place : ℕ) → is_alone id rules place ≡ true → (k : ℕ) (r : Rule) → k < length rules → bytes_eq (slice_index_or rules k r).id id ≡ true → k ≡ place
+alone_at id [] place e k r lt h = absurd (omega arith)
+alone_at id (x ∷ rules) zero e zero r lt h = refl
+alone_at id (x ∷ rules) zero e (suc k) r lt h = absurd (other_id (bytes_eq (slice_index_or rules k r).id id) (each_passes (λ y. not (bytes_eq y.id id)) rules e k r (omega arith)) h)
+alone_at id (x ∷ rules) (suc place) e zero r lt h = absurd (other_id (bytes_eq x.id id) (both _ _ e).0 h)
+alone_at id (x ∷ rules) (suc place) e (suc k) r lt h = ap suc (alone_at id rules place (both _ _ e).1 k r (omega arith) h)
 
-one_make : (k : ℕ) (r : Rule) → k < 9 → bytes_eq (slice_index_or solver_rules k r).id (codes "make") ≡ true → k ≡ 7
-one_make zero r lt e = absurd (true≢false (sym e))
-one_make (suc zero) r lt e = absurd (true≢false (sym e))
-one_make (suc (suc zero)) r lt e = absurd (true≢false (sym e))
-one_make (suc (suc (suc zero))) r lt e = absurd (true≢false (sym e))
-one_make (suc (suc (suc (suc zero)))) r lt e = absurd (true≢false (sym e))
-one_make (suc (suc (suc (suc (suc zero))))) r lt e = absurd (true≢false (sym e))
-one_make (suc (suc (suc (suc (suc (suc zero)))))) r lt e = absurd (true≢false (sym e))
-one_make (suc (suc (suc (suc (suc (suc (suc zero))))))) r lt e = refl
-one_make (suc (suc (suc (suc (suc (suc (suc (suc zero)))))))) r lt e = absurd (true≢false (sym e))
-one_make (suc (suc (suc (suc (suc (suc (suc (suc (suc k))))))))) r lt e = absurd (omega arith)
+-- how many rules there are
+abbrev rules_count : ℕ
+rules_count = 12
+
+all_simple : (k : ℕ) (r : Rule) → k < rules_count → ((slice_index_or solver_rules k r).is_simple ≡ true) × ((slice_index_or solver_rules k r).is_free ≡ true)
+all_simple k r lt = (each_passes (λ x. x.is_simple) solver_rules refl k r lt, each_passes (λ x. x.is_free) solver_rules refl k r lt)
 
 first_arg : (xs : List Arg) → 0 < length xs → Arg
 first_arg [] lt = absurd (omega arith)
@@ -159,6 +120,14 @@ threads_alone (inr h) = true≢false (sym (ap (λ (t : List ℕ). bytes_eq t (co
 words_alone : (codes "words" ≡ codes "help") ⊎ (codes "words" ≡ codes "version") → ⊥
 words_alone (inl h) = long_id (codes "words") (codes "help") h (λ e. absurd (omega (arith, e)))
 words_alone (inr h) = long_id (codes "words") (codes "version") h (λ e. absurd (omega (arith, e)))
+
+slots_alone : (codes "slots" ≡ codes "help") ⊎ (codes "slots" ≡ codes "version") → ⊥
+slots_alone (inl h) = long_id (codes "slots") (codes "help") h (λ e. absurd (omega (arith, e)))
+slots_alone (inr h) = long_id (codes "slots") (codes "version") h (λ e. absurd (omega (arith, e)))
+
+walk_alone : (codes "walk" ≡ codes "help") ⊎ (codes "walk" ≡ codes "version") → ⊥
+walk_alone (inl h) = true≢false (sym (ap (λ (t : List ℕ). bytes_eq t (codes "help")) h))
+walk_alone (inr h) = long_id (codes "walk") (codes "version") h (λ e. absurd (omega (arith, e)))
 
 seed_alone : (codes "seed" ≡ codes "help") ⊎ (codes "seed" ≡ codes "version") → ⊥
 seed_alone (inl h) = true≢false (sym (ap (λ (t : List ℕ). bytes_eq t (codes "help")) h))
@@ -242,9 +211,9 @@ entry_found (x ∷ xs) id (i, lt, at) = go (entry_found xs id) (bytes_eq x.0.now
 
 -- an option of the command that takes a number
 record IsOption (place low high : ℕ) (id : List ℕ) (rule : Rule) : Type 0 where
-  pub within : place < 9
+  pub within : place < rules_count
   pub at : (d : Rule) → slice_index_or solver_rules place d ≡ rule
-  pub alone : (k : ℕ) (r : Rule) → k < 9 → bytes_eq (slice_index_or solver_rules k r).id id ≡ true → k ≡ place
+  pub alone : (k : ℕ) (r : Rule) → k < rules_count → bytes_eq (slice_index_or solver_rules k r).id id ≡ true → k ≡ place
   pub named : id ≡ [] → ⊥
   pub other : (id ≡ codes "help") ⊎ (id ≡ codes "version") → ⊥
   pub id_is : rule.id ≡ id
@@ -254,25 +223,31 @@ record IsOption (place low high : ℕ) (id : List ℕ) (rule : Rule) : Type 0 wh
   pub one : (unwrap_or_range rule.range).start_inclusive ≡ 1
 
 limit_option : IsOption 0 1 (10 ^ 12) (codes "conflicts") conflicts_rule
-limit_option = record { within = omega arith; at = λ d. refl; alone = one_limit; named = λ e. cc e; other = limit_alone; id_is = refl; simple = refl; sets = refl; parser = refl; one = refl }
+limit_option = record { within = omega arith; at = λ d. refl; alone = alone_at (codes "conflicts") solver_rules 0 refl; named = λ e. cc e; other = limit_alone; id_is = refl; simple = refl; sets = refl; parser = refl; one = refl }
 
 threads_option : IsOption 1 1 16 (codes "threads") threads_rule
-threads_option = record { within = omega arith; at = λ d. refl; alone = one_threads; named = λ e. cc e; other = threads_alone; id_is = refl; simple = refl; sets = refl; parser = refl; one = refl }
+threads_option = record { within = omega arith; at = λ d. refl; alone = alone_at (codes "threads") solver_rules 1 refl; named = λ e. cc e; other = threads_alone; id_is = refl; simple = refl; sets = refl; parser = refl; one = refl }
 
 words_option : IsOption 2 64 (2 ^ 31) (codes "words") words_rule
-words_option = record { within = omega arith; at = λ d. refl; alone = one_words; named = λ e. cc e; other = words_alone; id_is = refl; simple = refl; sets = refl; parser = refl; one = refl }
+words_option = record { within = omega arith; at = λ d. refl; alone = alone_at (codes "words") solver_rules 2 refl; named = λ e. cc e; other = words_alone; id_is = refl; simple = refl; sets = refl; parser = refl; one = refl }
 
-seed_option : IsOption 3 0 (2 ^ 63 - 1) (codes "seed") seed_rule
-seed_option = record { within = omega arith; at = λ d. refl; alone = one_seed; named = λ e. cc e; other = seed_alone; id_is = refl; simple = refl; sets = refl; parser = refl; one = refl }
+slots_option : IsOption 3 1 16 (codes "slots") slots_rule
+slots_option = record { within = omega arith; at = λ d. refl; alone = alone_at (codes "slots") solver_rules 3 refl; named = λ e. cc e; other = slots_alone; id_is = refl; simple = refl; sets = refl; parser = refl; one = refl }
 
-make_option : IsOption 7 0 (2 ^ 63 - 1) (codes "make") make_rule
-make_option = record { within = omega arith; at = λ d. refl; alone = one_make; named = λ e. cc e; other = make_alone; id_is = refl; simple = refl; sets = refl; parser = refl; one = refl }
+seed_option : IsOption 4 0 (2 ^ 63 - 1) (codes "seed") seed_rule
+seed_option = record { within = omega arith; at = λ d. refl; alone = alone_at (codes "seed") solver_rules 4 refl; named = λ e. cc e; other = seed_alone; id_is = refl; simple = refl; sets = refl; parser = refl; one = refl }
+
+walk_option : IsOption 5 0 (10 ^ 9) (codes "walk") walk_rule
+walk_option = record { within = omega arith; at = λ d. refl; alone = alone_at (codes "walk") solver_rules 5 refl; named = λ e. cc e; other = walk_alone; id_is = refl; simple = refl; sets = refl; parser = refl; one = refl }
+
+make_option : IsOption 10 0 (2 ^ 63 - 1) (codes "make") make_rule
+make_option = record { within = omega arith; at = λ d. refl; alone = alone_at (codes "make") solver_rules 10 refl; named = λ e. cc e; other = make_alone; id_is = refl; simple = refl; sets = refl; parser = refl; one = refl }
 
 module _ (c : ClapCommand) (m : ArgMatches) (app : app_of c ≡ solver_app) (p : IsParsedFrom c m) where
   rules_are : map rule_of (args_of c) ≡ solver_rules
   rules_are = ap (λ (a : App). a.top.rules) app
 
-  long : length (args_of c) ≡ 9
+  long : length (args_of c) ≡ rules_count
   long = sym (length-map (args_of c) rule_of) ∙ ap length rules_are
 
   rule_at : (k : ℕ) (d : Arg) → k < length (args_of c) → rule_of (slice_index_or (args_of c) k d) ≡ slice_index_or solver_rules k (rule_of d)
@@ -373,10 +348,18 @@ module _ (c : ClapCommand) (m : ArgMatches) (app : app_of c ≡ solver_app) (p :
   pub words_of : HasWords m
   words_of = number_by_default 2 64 (2 ^ 31) (codes "words") words_rule words_option refl
 
+  -- they have one for `--slots`
+  pub slots_of : HasSlots m
+  slots_of = number_by_default 3 1 16 (codes "slots") slots_rule slots_option refl
+
   -- they have one for `--seed`
   pub seed_of : HasSeed m
-  seed_of = number_by_default 3 0 (2 ^ 63 - 1) (codes "seed") seed_rule seed_option refl
+  seed_of = number_by_default 4 0 (2 ^ 63 - 1) (codes "seed") seed_rule seed_option refl
+
+  -- they have one for `--walk`
+  pub walk_of : HasWalk m
+  walk_of = number_by_default 5 0 (10 ^ 9) (codes "walk") walk_rule walk_option refl
 
   -- they have one for `--make`, or none
   pub made_of : HasMade m
-  made_of = number_or_none 7 0 (2 ^ 63 - 1) (codes "make") make_rule make_option
+  made_of = number_or_none 10 0 (2 ^ 63 - 1) (codes "make") make_rule make_option

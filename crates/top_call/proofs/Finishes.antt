@@ -8,6 +8,7 @@ use Rattle.io_edge.specs.Causes.{HasCause, Rose}
 use Rattle.io_edge.specs.Paths.{IsEmptyWhereTold}
 use Rattle.sat_words.specs.FormulaData.{FormulaData}
 use Rattle.sat_words.specs.declared.line.Line.{Line}
+use Rattle.sat_words.specs.declared.line.ProofFormat.{ProofFormat}
 use Rattle.sat_words.specs.declared.shared.NoRoom.{NoRoom}
 use Rattle.sat_words.specs.declared.shared.TheConstants.{STOP_ROOM, STOP_PROOF}
 use Rattle.rup_model.specs.Log.{Accepted}
@@ -54,7 +55,7 @@ pub unread : {T E : Type 0} (plan : CallPlan) (text : Option (List ℕ)) (source
     → IsUnread no_formula [] (record { plan = plan; text = text; source = source; proof = Some (record { faults = f1; written = w1; flushed = fl1 }); out = out })
 unread plan text source out f0 f1 w0 w1 fl0 fl1 result quiet empty same cause flush =
     let none : IsEmptyWhereTold w1 = subst IsEmptyWhereTold (sym same) empty in
-    record { log = empty_log f0 f1 w1 fl0 fl1 result quiet none cause flush; nothing = refl; empty = none }
+    record { log = empty_log plan.search.format f0 f1 w1 fl0 fl1 result quiet none cause flush; nothing = refl; empty = none }
 
 -- ---- the answer of the rings
 
@@ -115,9 +116,9 @@ sound_verdict : (a : Answer) → is_verdict a ≡ true → a ≢ answer.ProofFau
 sound_verdict a is e = true≢false (sym is ∙ ap is_verdict e)
 
 -- what the proof's writer holds after an answer
-log_of : (F : FormulaData) (J : List Entry) (a : Answer) (searched faults : ℕ) (flushed written : Option (List ℕ)) → IsFinished F.clauses J a 0 searched faults flushed written
-    → HoldsLog F.clauses J searched (record { faults = faults; written = written; flushed = flushed })
-log_of F J a searched faults flushed written f = record {
+log_of : (format : ProofFormat) (F : FormulaData) (J : List Entry) (a : Answer) (searched faults : ℕ) (flushed written : Option (List ℕ)) → IsFinished format F.clauses J a 0 searched faults flushed written
+    → HoldsLog format F.clauses J searched (record { faults = faults; written = written; flushed = flushed })
+log_of format F J a searched faults flushed written f = record {
   poured = f.poured;
   grown = f.grown;
   closed = f.closed;
@@ -133,9 +134,10 @@ started : (plan : CallPlan) (text : Option (List ℕ)) (source : FaultCount) (ou
     → IsStarted (kind_of s.found) no_lack F s.journal tally (record { plan = plan; text = text; source = source; proof = Some (record { faults = faults; written = written; flushed = flushed }); out = out })
 started plan text source out F a counts tally faults flushed written kept s given still is =
     let rings : ℕ = plan.search.threads in
+    let slots : ℕ = plan.search.slots in
     let limit : ℕ = plan.search.conflicts in
-    let held = held_each rings limit F.clauses s.journal counts s.reached.held in
-    let long = long_each rings counts (sizes rings limit F.clauses s.journal counts s.reached.held) in
+    let held = held_each rings slots limit F.clauses s.journal counts s.reached.held in
+    let long = long_each rings counts (sizes rings slots limit F.clauses s.journal counts s.reached.held) in
     record {
       given = given;
       source = still;
@@ -143,12 +145,12 @@ started plan text source out F a counts tally faults flushed written kept s give
       ruled = s.reached.ruled;
       counts = each_counted rings counts;
       held = held;
-      stop = stop_each rings limit F.clauses s.journal counts s.reached.held (kind_of s.found) s.reached.stop;
+      stop = stop_each rings slots limit F.clauses s.journal counts s.reached.held (kind_of s.found) s.reached.stop;
       searched = s.searched;
       faults_fit = s.reached.faults_fit;
-      log = log_of F s.journal a s.searched faults flushed written s.finished;
+      log = log_of plan.search.format F s.journal a s.searched faults flushed written s.finished;
       tally_is = is;
-      learned = subst (λ (t : Tally). AreLearned rings limit s.journal t.learned) (sym is) (are_learned rings limit F.clauses s.journal (each_counted rings counts) held long);
+      learned = subst (λ (t : Tally). AreLearned rings limit s.journal t.learned) (sym is) (are_learned rings slots limit F.clauses s.journal (each_counted rings counts) held long);
     }
 
 -- with what there was no room for
@@ -258,7 +260,7 @@ finished verdict told plan F J tally text source out writer none decided (inr (i
 -- the tally after an answer
 told : (plan : SearchPlan) (F : FormulaData) (a : Answer) (counts : List Counts) (faults : ℕ) (flushed written : Option (List ℕ)) (kept : Option (List Line)) (before after : Tally)
     → IsSolved plan F a counts 0 faults flushed written kept → before ≡ zero_tally plan.threads → after ≡ counted counts before → after ≡ rings_tally (each_counted plan.threads counts) no_lack
-told plan F a counts faults flushed written kept before after s zeros is = is ∙ ap (counted counts) zeros ∙ counted_is plan.threads counts (sizes plan.threads plan.conflicts F.clauses s.journal counts s.reached.held)
+told plan F a counts faults flushed written kept before after s zeros is = is ∙ ap (counted counts) zeros ∙ counted_is plan.threads counts (sizes plan.threads plan.slots plan.conflicts F.clauses s.journal counts s.reached.held)
 
 -- a verdict was reached
 pub verdict_run : (plan : CallPlan) (text : Option (List ℕ)) (source : FaultCount) (out : Output) (F : FormulaData) (a : Answer) (counts : List Counts) (f0 faults : ℕ) (flushed written : Option (List ℕ)) (kept : Option (List Line)) (before tally : Tally) (occurring : List Bool) (result : Result SearchVerdict CallEnd) (verdict : SearchVerdict) (end : CallEnd)

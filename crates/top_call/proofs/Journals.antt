@@ -7,6 +7,7 @@ use Rattle.io_edge.specs.Causes.{HasCause}
 use Rattle.io_edge.specs.Paths.{IsEmptyWhereTold}
 use Rattle.sat_words.specs.Literal.{Literal, IsOn}
 use Rattle.sat_words.specs.declared.line.Line.TheVariants.{Add}
+use Rattle.sat_words.specs.declared.line.ProofFormat.{ProofFormat}
 use Rattle.rup_model.specs.Log.{is_valid}
 use Rattle.rup_model.specs.Rup.{rup}
 use Rattle.drat_text.specs.Text.{CanBeSpelled}
@@ -19,7 +20,7 @@ use Rattle.top_call.specs.Journaled.{HoldsLog}
 pub empty_journal : (rings : ℕ) (clauses : List (List Literal)) → IsJournal rings clauses []
 empty_journal rings clauses = record { fits = tt; accepted = tt; last = tt; spelled = λ k x lt. absurd (omega arith); spaced = tt; of_rings = λ k x lt. absurd (omega arith); plain = λ k x lt. absurd (omega arith); each_new = tt }
 
--- if a writer's bytes are known and there are none, it holds the text of no line
+-- if a writer's bytes are known and there are none, it holds those of no line
 pub holds_nothing : (written : Option (List ℕ)) → IsEmptyWhereTold written → HoldsText written []
 holds_nothing None h = tt
 holds_nothing (Some bytes) h = h
@@ -42,8 +43,8 @@ any_spelled zero x lt = any_on
 any_spelled (suc k) x lt = absurd (omega arith)
 
 -- no line, and nothing of one more
-cut_nothing : (written : Option (List ℕ)) → IsEmptyWhereTold written → IsCutShort [] [] written
-cut_nothing written h = record { front = []; rest = []; front_of = refl; line = Add any_lits; cut = 0; accepted = (any_valid, tt); spelled = any_spelled; bytes = holds_nothing written h }
+cut_nothing : (f : ProofFormat) (written : Option (List ℕ)) → IsEmptyWhereTold written → IsCutShort f [] [] written
+cut_nothing f written h = record { front = []; rest = []; front_of = refl; line = Add any_lits; cut = 0; accepted = (any_valid, tt); spelled = any_spelled; bytes = holds_nothing written h }
 
 -- and a front of it
 front_of_nothing : (written : Option (List ℕ)) → IsEmptyWhereTold written → IsFrontTold written []
@@ -51,13 +52,13 @@ front_of_nothing None h = tt
 front_of_nothing (Some bytes) h = subst (λ (bs : List ℕ). IsFront (Some bs) (Some [])) (sym h) (record { rest = []; whole = refl })
 
 -- a writer with no byte that was flushed holds the journal of no entry
-pub empty_log : {T E : Type 0} (f0 f1 : ℕ) (w fl0 fl1 : Option (List ℕ)) (result : Result T E) → f0 ≡ 0 → IsEmptyWhereTold w → HasCause f0 f1 result → WasFlushed w fl0 fl1 result
-    → HoldsLog [] [] 0 (record { faults = f1; written = w; flushed = fl1 })
-empty_log f0 f1 w fl0 fl1 result quiet empty cause flush = record {
+pub empty_log : {T E : Type 0} (f : ProofFormat) (f0 f1 : ℕ) (w fl0 fl1 : Option (List ℕ)) (result : Result T E) → f0 ≡ 0 → IsEmptyWhereTold w → HasCause f0 f1 result → WasFlushed w fl0 fl1 result
+    → HoldsLog f [] [] 0 (record { faults = f1; written = w; flushed = fl1 })
+empty_log f f0 f1 w fl0 fl1 result quiet empty cause flush = record {
   poured = 0;
   grown = (omega arith, omega arith);
   closed = subst (λ (n : ℕ). IsClosed n f1 fl1 w) quiet (flush_closes f0 f1 w fl0 fl1 result cause flush);
   whole = λ none. holds_nothing w empty;
-  short = λ some. cut_nothing w empty;
+  short = λ some. cut_nothing f w empty;
   front = λ none. front_of_nothing w empty;
 }

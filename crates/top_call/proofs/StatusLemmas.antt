@@ -148,10 +148,10 @@ module _ (F : FormulaData) (J : List Entry) (tally : Tally) (call : Call) where
   room _ o e = absurd (omega arith)
 
   made_broken : IsBroken F J tally (run_of call) → IsSome call.proof
-  made_broken b = there (HoldsLog F.clauses J 0) call.proof b.unread.log
+  made_broken b = there (HoldsLog (search_in call).format F.clauses J 0) call.proof b.unread.log
 
   made_started : {kind : Option ℕ} {lack : NoRoom} → IsStarted kind lack F J tally (run_of call) → IsSome call.proof
-  made_started s = there (HoldsLog F.clauses J s.searched) call.proof s.log
+  made_started s = there (HoldsLog (search_in call).format F.clauses J s.searched) call.proof s.log
 
   -- all that was asked for was made
   made_all : (end : CallEnd) → IsWhole end F J tally call → IsSome call.proof → MadeAll call
@@ -222,7 +222,7 @@ module _ (F : FormulaData) (J : List Entry) (tally : Tally) (call : Call) where
   made Unsatisfiable o a b c d = made_all Unsatisfiable o (made_started o.outcome.started)
   made Unknown o a b c d = made_all Unknown o (made_started o.outcome.started)
   made Usage o a b c d = absurd (a refl)
-  made (BadInput code line) o a b c d = made_all (BadInput code line) o (there (HoldsLog F.clauses J 0) call.proof o.outcome.unread.log)
+  made (BadInput code line) o a b c d = made_all (BadInput code line) o (there (HoldsLog (search_in call).format F.clauses J 0) call.proof o.outcome.unread.log)
   made CannotOpen o a b c d = absurd (b refl)
   made CannotCreate o a b c d = absurd (c refl)
   made ReadFault o a b c d = made_all ReadFault o (made_broken o.outcome.2)
@@ -235,16 +235,16 @@ module _ (F : FormulaData) (J : List Entry) (tally : Tally) (call : Call) where
   given = subst (λ (m : Option ℕ). WasGiven m (text_of call) F) (planned (command_of call.words))
 
   started : {kind : Option ℕ} {lack : NoRoom} → IsStarted kind lack F J tally (run_of call) → HasJournal F J call
-  started s = record { stands = s.journal_stands; of_input = inr (given s.given); searched = s.searched; log = if_there (HoldsLog F.clauses J s.searched) call.proof s.log }
+  started s = record { stands = s.journal_stands; of_input = inr (given s.given); searched = s.searched; log = if_there (HoldsLog (search_in call).format F.clauses J s.searched) call.proof s.log }
 
   nothing_stands : J ≡ [] → IsJournal (search_in call).threads F.clauses J
   nothing_stands none = subst (IsJournal (search_in call).threads F.clauses) (sym none) (empty_journal (search_in call).threads F.clauses)
 
   unread : IsUnread F J (run_of call) → HasJournal F J call
-  unread u = record { stands = nothing_stands u.nothing; of_input = inl u.nothing; searched = 0; log = if_there (HoldsLog F.clauses J 0) call.proof u.log }
+  unread u = record { stands = nothing_stands u.nothing; of_input = inl u.nothing; searched = 0; log = if_there (HoldsLog (search_in call).format F.clauses J 0) call.proof u.log }
 
   barren : IsBarren J tally call → HasJournal F J call
-  barren b = record { stands = nothing_stands b.nothing; of_input = inl b.nothing; searched = 0; log = if_none (HoldsLog F.clauses J 0) call.proof b.no_proof }
+  barren b = record { stands = nothing_stands b.nothing; of_input = inl b.nothing; searched = 0; log = if_none (HoldsLog (search_in call).format F.clauses J 0) call.proof b.no_proof }
 
   stopped : (IsStill call.files × IsIdle J tally call) ⊎ IsWhole Memory F J tally call → HasJournal F J call
   stopped (inl h) = barren h.1.barren

@@ -58,30 +58,31 @@ full_each rings [] e = ap (λ (n : ℕ). replicate n no_counts) (sym e)
 full_each rings (c ∷ cs) e = refl
 
 -- the rings counted nothing, or each did
-pub sizes : (rings limit : ℕ) (F : List (List Literal)) (J : List Entry) (counts : List Counts) → IsHeld rings limit F J counts → (counts ≡ []) ⊎ (length counts ≡ rings)
-sizes rings limit F J counts (inl h) = elim h.none [
+pub sizes : (rings slots limit : ℕ) (F : List (List Literal)) (J : List Entry) (counts : List Counts) → IsHeld rings slots limit F J counts → (counts ≡ []) ⊎ (length counts ≡ rings)
+sizes rings slots limit F J counts (inl h) = elim h.none [
   | inl e ↦ inl e
   | inr e ↦ inr (ap length e ∙ length-replicate rings no_counts)
 ]
-sizes rings limit F J counts (inr h) = inr h.many
+sizes rings slots limit F J counts (inr h) = inr h.many
 
 pub long_each : (rings : ℕ) (counts : List Counts) → (counts ≡ []) ⊎ (length counts ≡ rings) → length (each_counted rings counts) ≡ rings
 long_each rings counts (inl e) = ap (λ (cs : List Counts). length (each_counted rings cs)) e ∙ length-replicate rings no_counts
 long_each rings counts (inr e) = ap length (full_each rings counts e) ∙ e
 
-pub held_each : (rings limit : ℕ) (F : List (List Literal)) (J : List Entry) (counts : List Counts) → IsHeld rings limit F J counts → IsHeld rings limit F J (each_counted rings counts)
-held_each rings limit F J counts (inl h) = inl (record {
+pub held_each : (rings slots limit : ℕ) (F : List (List Literal)) (J : List Entry) (counts : List Counts) → IsHeld rings slots limit F J counts → IsHeld rings slots limit F J (each_counted rings counts)
+held_each rings slots limit F J counts (inl h) = inl (record {
   rulers = h.rulers;
   none = inr (elim h.none [
     | inl e ↦ ap (each_counted rings) e
     | inr e ↦ ap (each_counted rings) e ∙ none_each rings
   ]);
 })
-held_each rings limit F J counts (inr h) =
+held_each rings slots limit F J counts (inr h) =
     let same : each_counted rings counts ≡ counts = full_each rings counts h.many in
     inr (record {
       opening = h.opening;
       rings_are = h.rings_are;
+      depth_is = h.depth_is;
       formula_is = h.formula_is;
       program = h.program;
       core = h.core;
@@ -92,10 +93,10 @@ held_each rings limit F J counts (inr h) =
     })
 
 -- with the same stop
-pub stop_each : (rings limit : ℕ) (F : List (List Literal)) (J : List Entry) (counts : List Counts) (held : IsHeld rings limit F J counts) (kind : Option ℕ) → HasStop held kind → HasStop (held_each rings limit F J counts held) kind
+pub stop_each : (rings slots limit : ℕ) (F : List (List Literal)) (J : List Entry) (counts : List Counts) (held : IsHeld rings slots limit F J counts) (kind : Option ℕ) → HasStop held kind → HasStop (held_each rings slots limit F J counts held) kind
 unfolding held_each
-stop_each rings limit F J counts (inl h) kind stop = stop
-stop_each rings limit F J counts (inr h) kind stop = stop
+stop_each rings slots limit F J counts (inl h) kind stop = stop
+stop_each rings slots limit F J counts (inr h) kind stop = stop
 
 -- ---- the lists of the tally
 
@@ -150,9 +151,9 @@ counted_is rings counts size =
 -- ---- the lemmas of each ring
 
 -- the numbers are those of the journal's lemmas
-pub are_learned : (rings limit : ℕ) (F : List (List Literal)) (J : List Entry) (counts : List Counts) → IsHeld rings limit F J counts → length counts ≡ rings
+pub are_learned : (rings slots limit : ℕ) (F : List (List Literal)) (J : List Entry) (counts : List Counts) → IsHeld rings slots limit F J counts → length counts ≡ rings
     → AreLearned rings limit J (map (λ c. c.learned) counts)
-are_learned rings limit F J counts held long = record {
+are_learned rings slots limit F J counts held long = record {
   many = length-map counts (λ (c : Counts). c.learned) ∙ long;
   each = λ ring d lt. get_or-map (λ (c : Counts). c.learned) counts ring no_counts d (omega (arith, long)) ∙ (one ring lt).0;
   within = λ ring lt. (one ring lt).1;
@@ -161,7 +162,7 @@ are_learned rings limit F J counts held long = record {
     one : (ring : ℕ) → ring < rings → ((slice_index_or counts ring no_counts).learned ≡ length (learned ring J)) × (length (learned ring J) ≤ limit)
     one ring lt = by held
       where
-        by : IsHeld rings limit F J counts → ((slice_index_or counts ring no_counts).learned ≡ length (learned ring J)) × (length (learned ring J) ≤ limit)
+        by : IsHeld rings slots limit F J counts → ((slice_index_or counts ring no_counts).learned ≡ length (learned ring J)) × (length (learned ring J) ≤ limit)
         by (inl h) =
             let none = none_learned ring J h.rulers in
             let zero_is : length (learned ring J) ≡ 0 = ap length none in

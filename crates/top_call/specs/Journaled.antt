@@ -3,20 +3,21 @@ use Rattle.std.specs.Prelude.{◌≡◌, ◌≤◌, ℕ, List}
 use Rattle.sat_words.specs.Literal.{Literal}
 use Rattle.rup_model.specs.declared.journal.Entry.{Entry}
 use Rattle.rup_model.specs.Journal.{lines}
-use Rattle.drat_text.specs.Text.{text}
+use Rattle.sat_words.specs.declared.line.ProofFormat.{ProofFormat}
+use Rattle.drat_text.specs.Spelling.{proof_bytes}
 use Rattle.log_book.specs.Ended.{IsClosed}
 use Rattle.log_book.specs.Kept.{HoldsText, IsFrontTold}
 use Rattle.portfolio_run.specs.Journaled.{IsCutShort}
 use Rattle.top_call.specs.Run.{Writer}
 
 -- A writer that began with no fault had failed `searched` times when the search was over, and `poured` times before its last call.
--- That was a flush, which made sure of all that was written, or failed. The writer holds the text of the journal's lines. If it
--- failed before the flush, it holds the text of the first of them and a part of the text of one line more; if it had not failed in the
--- search, a front of the text.
-pub record HoldsLog (clauses : List (List Literal)) (journal : List Entry) (searched : ℕ) (writer : Writer) : Type 0 where
+-- That was a flush, which made sure of all that was written, or failed. The writer holds the bytes of the journal's lines in this
+-- format. If it failed before the flush, it holds the bytes of the first of them and a front of one line's more; if it had not failed
+-- in the search, a front of the bytes.
+pub record HoldsLog (format : ProofFormat) (clauses : List (List Literal)) (journal : List Entry) (searched : ℕ) (writer : Writer) : Type 0 where
   pub poured : ℕ
   pub grown : (searched ≤ poured) × (poured ≤ writer.faults)
   pub closed : IsClosed poured writer.faults writer.flushed writer.written
-  pub whole : poured ≡ 0 → HoldsText writer.written (text (lines clauses journal))
-  pub short : (poured ≡ 0 → ⊥) → IsCutShort clauses journal writer.written
-  pub front : searched ≡ 0 → IsFrontTold writer.written (text (lines clauses journal))
+  pub whole : poured ≡ 0 → HoldsText writer.written (proof_bytes format (lines clauses journal))
+  pub short : (poured ≡ 0 → ⊥) → IsCutShort format clauses journal writer.written
+  pub front : searched ≡ 0 → IsFrontTold writer.written (proof_bytes format (lines clauses journal))

@@ -29,10 +29,10 @@ use Rattle.top_call.specs.Journaled.{HoldsLog}
 use Rattle.top_call.specs.Decided.{Decides, IsDecided, verdict_kind}
 use Rattle.top_call.specs.Tallied.{no_tally, bad_tally, rings_tally, no_lack, AreLearned}
 
--- the proof's writer is there and holds the journal; it had failed `searched` times when the search was over, and its last call was
+-- the proof's writer is there and holds the journal in the plan's format; it had failed `searched` times when the search was over, and its last call was
 -- a flush
 abbrev pub HasLog : FormulaData → List Entry → ℕ → Run → Type 0
-HasLog formula journal searched run = IsSomeAnd run.proof (HoldsLog formula.clauses journal searched)
+HasLog formula journal searched run = IsSomeAnd run.proof (HoldsLog run.plan.search.format formula.clauses journal searched)
 
 -- no formula was read: the proof's writer is there, with no byte, and was only flushed
 pub record IsUnread (formula : FormulaData) (journal : List Entry) (run : Run) : Type 0 where
@@ -65,7 +65,7 @@ pub record IsStarted (kind : Option ℕ) (lack : NoRoom) (formula : FormulaData)
   pub journal_stands : IsJournal run.plan.search.threads formula.clauses journal
   pub ruled : IsRuled formula run.plan.search.rounds journal
   pub counts : List Counts
-  pub held : IsHeld run.plan.search.threads run.plan.search.conflicts formula.clauses journal counts
+  pub held : IsHeld run.plan.search.threads run.plan.search.slots run.plan.search.conflicts formula.clauses journal counts
   pub stop : HasStop held kind
   pub searched : ℕ
   pub faults_fit : FaultsFit run.plan.search formula journal 0 searched kind

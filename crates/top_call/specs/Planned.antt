@@ -4,7 +4,7 @@ use Rattle.std.specs.declared.option.Option.{Option}
 use Rattle.portfolio_run.specs.declared.plan.Plan.{Plan as SearchPlan}
 use Rattle.top_call.specs.declared.plan.CallPlan.{CallPlan}
 use Rattle.top_call.specs.declared.plan.TheConstants.{ROUNDS}
-use Rattle.top_call.specs.Words.{Command}
+use Rattle.top_call.specs.Words.{Command, proof_format}
 
 -- how many rounds the ruler may take
 abbrev pub rounds_of : Bool → ℕ
@@ -16,23 +16,29 @@ search_of command = record {
   threads = command.threads;
   conflicts = command.conflicts;
   words = command.words;
+  slots = command.slots;
   seed = command.seed;
+  walk = command.walk;
   rounds = rounds_of command.no_simplify;
+  format = proof_format (Some command);
   keep_lines = command.check;
 }
 
 -- the search of no command
 abbrev pub no_search : SearchPlan
-no_search = record { threads = 0; conflicts = 0; words = 0; seed = 0; rounds = 0; keep_lines = false }
+no_search = record { threads = 0; conflicts = 0; words = 0; slots = 0; seed = 0; walk = 0; rounds = 0; format = proof_format None; keep_lines = false }
 
 -- what the arguments ask for
 abbrev pub plan_of : Option Command → CallPlan
 plan_of None = record { search = no_search; make = None }
 plan_of (Some command) = record { search = search_of command; make = command.make }
 
--- what is asked of a search can be done: 1 to 16 rings, each of which may learn a lemma, over no more words than can be numbered
+-- what is asked of a search can be done: 1 to 16 rings, each of which may learn a lemma, over no more words than can be numbered, with
+-- 1 to 16 slots for each two rings and class
 pub record IsInRange (plan : SearchPlan) : Type 0 where
   pub some_rings : 1 ≤ plan.threads
   pub few_rings : plan.threads ≤ 16
   pub some_lemmas : 1 ≤ plan.conflicts
   pub few_words : plan.words ≤ 2 ^ 31
+  pub some_slots : 1 ≤ plan.slots
+  pub few_slots : plan.slots ≤ 16

@@ -6,10 +6,11 @@ use Rattle.sat_words.specs.Truth.{formula_true}
 use Rattle.sat_words.specs.FormulaData.{FormulaData}
 use Rattle.sat_words.specs.declared.line.Line.{Line}
 use Rattle.rup_model.specs.Log.{Refutes}
-use Rattle.drat_text.specs.Text.{text}
+use Rattle.sat_words.specs.declared.line.ProofFormat.{ProofFormat}
+use Rattle.drat_text.specs.Spelling.{proof_bytes}
 use Rattle.dimacs_read.specs.Input.{Reads}
 use Rattle.io_edge.specs.Paths.{PathMap}
-use Rattle.top_call.specs.Words.{command_of, file_path, make_number}
+use Rattle.top_call.specs.Words.{command_of, file_path, make_number, proof_format}
 use Rattle.top_call.specs.Run.{text_in}
 
 -- the text, unless a formula is made: then none is read
@@ -29,17 +30,17 @@ pub record HasModelOf (input : List ℕ) (model : List Bool) : Type 0 where
   pub holds : formula_true model formula.clauses ≡ true
 
 -- the text spells a formula in DIMACS CNF that no assignment makes true. The bytes of the proof, if they are known, are a DRAT
--- refutation of it: each line is valid where it stands, and the last one adds the empty clause.
-pub record HasProofOf (input : List ℕ) (proof : Option (List ℕ)) : Type 0 where
+-- refutation of it in this format: each line is valid where it stands, and the last one adds the empty clause.
+pub record HasProofOf (format : ProofFormat) (input : List ℕ) (proof : Option (List ℕ)) : Type 0 where
   pub formula : FormulaData
   pub spelled : Reads input formula
   pub no_model : (model : List Bool) → formula_true model formula.clauses ≡ true → ⊥
   pub lines : List Line
   pub refutes : Refutes formula.clauses lines
-  pub written : IfSome proof (λ bytes. bytes ≡ text lines)
+  pub written : IfSome proof (λ bytes. bytes ≡ proof_bytes format lines)
 
 -- if the text that the words ask to read is known: status 10 comes only with a model, in the report, of the formula that it spells,
--- and status 20 only with a proof that the formula has none
+-- and status 20 only with a proof that the formula has none, in the format that the words ask for
 pub record Promise (words : List (List ℕ)) (files : Option PathMap) (input proof : Option (List ℕ)) (status : ℕ) (model : Option (List Bool)) : Type 0 where
   pub satisfiable : status ≡ 10 → IfSome (asked_text words files input) (λ bytes. IsSomeAnd model (HasModelOf bytes))
-  pub unsatisfiable : status ≡ 20 → IfSome (asked_text words files input) (λ bytes. HasProofOf bytes proof)
+  pub unsatisfiable : status ≡ 20 → IfSome (asked_text words files input) (λ bytes. HasProofOf (proof_format (command_of words)) bytes proof)

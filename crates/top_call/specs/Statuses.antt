@@ -86,19 +86,19 @@ pub record RanOut (formula : FormulaData) (journal : List Entry) (tally : Tally)
   pub made : IsIdle journal tally call ⊎ (MadeAll call × (IsBroken formula journal tally (run_of call) ⊎ IsStarved formula journal tally (run_of call) ⊎ IsUnchecked formula journal tally (run_of call)))
 
 -- one journal stands, of as many rings as are asked for, of the formula that was read or made, or empty. The proof, if there is
--- one, holds it and was flushed last; it had failed `searched` times when the search was over.
+-- one, holds it in the format that is asked for and was flushed last; it had failed `searched` times when the search was over.
 pub record HasJournal (formula : FormulaData) (journal : List Entry) (call : Call) : Type 0 where
   pub stands : IsJournal (search_in call).threads formula.clauses journal
   pub of_input : (journal ≡ []) ⊎ WasGiven (make_number (command_of call.words)) (text_of call) formula
   pub searched : ℕ
-  pub log : IfSome call.proof (HoldsLog formula.clauses journal searched)
+  pub log : IfSome call.proof (HoldsLog (search_in call).format formula.clauses journal searched)
 
 -- the ruler alone wrote the journal, or a list of enabled steps of the rings from the ruler's end on leaves it: so no clause was
 -- deleted that a ring, a place of an exchange or an open grant still had. The tally has what each ring counted, its lemmas, those
 -- that it offered, and the places of other rings in which it put them, one for each of them and lemma.
 pub record IsCounted (formula : FormulaData) (journal : List Entry) (tally : Tally) (call : Call) : Type 0 where
   pub counts : List Counts
-  pub held : IsHeld (search_in call).threads (search_in call).conflicts formula.clauses journal counts
+  pub held : IsHeld (search_in call).threads (search_in call).slots (search_in call).conflicts formula.clauses journal counts
   pub told : Tells counts tally
 
 -- the text is known and spells a formula

@@ -5,6 +5,8 @@ use Rattle.std.specs.Str.{bytes_eq}
 use Rattle.std.specs.Str.Parse.{digits_value, without_leading_plus}
 use Rattle.clap.specs.Words.{App, Kinds, Row, Rule, fault_of, first_of, matches_of, one_of, found_of, one_text, IsUnsignedIn, new_app, new_rule, with_rule}
 use Rattle.clap.specs.Simple.{on_top}
+use Rattle.sat_words.specs.declared.line.ProofFormat.{ProofFormat}
+use Rattle.sat_words.specs.declared.line.ProofFormat.TheVariants.{Text, Binary}
 use Rattle.top_call.specs.declared.words.Command.{Command as Asked}
 use Rattle.clap.specs.declared.parser.matches.ArgMatches.{ArgMatches}
 use Rattle.clap.specs.declared.builder.action.ArgAction.TheVariants.{Set, SetTrue}
@@ -37,6 +39,15 @@ words_rule = record (new_rule (codes "words")) {
   defaults = codes "16777216" ∷ [];
 }
 
+-- `--slots N`, with N from 1 to 16; without it N is 1
+abbrev pub slots_rule : Rule
+slots_rule = record (new_rule (codes "slots")) {
+  long = Some (codes "slots");
+  action = Some Set;
+  parser = Some (Unsigned 1 16);
+  defaults = codes "1" ∷ [];
+}
+
 -- `--seed N`, with N from 0 to 2^63 - 1; without it N is 0
 abbrev pub seed_rule : Rule
 seed_rule = record (new_rule (codes "seed")) {
@@ -46,9 +57,22 @@ seed_rule = record (new_rule (codes "seed")) {
   defaults = codes "0" ∷ [];
 }
 
+-- `--walk N`, with N from 0 to 10^9; without it N is 0
+abbrev pub walk_rule : Rule
+walk_rule = record (new_rule (codes "walk")) {
+  long = Some (codes "walk");
+  action = Some Set;
+  parser = Some (Unsigned 0 (10 ^ 9));
+  defaults = codes "0" ∷ [];
+}
+
 -- `--proof PATH`
 abbrev pub proof_rule : Rule
 proof_rule = record (new_rule (codes "proof")) { long = Some (codes "proof") }
+
+-- `--binary`
+abbrev pub binary_rule : Rule
+binary_rule = record (new_rule (codes "binary")) { long = Some (codes "binary"); action = Some SetTrue }
 
 -- `--no-simplify`
 abbrev pub no_simplify_rule : Rule
@@ -81,7 +105,7 @@ with_rules app (rule ∷ rules) = with_rules (with_rule app rule) rules
 
 -- the options of the program, in their order
 abbrev pub solver_rules : List Rule
-solver_rules = conflicts_rule ∷ threads_rule ∷ words_rule ∷ seed_rule ∷ proof_rule ∷ no_simplify_rule ∷ check_rule ∷ make_rule ∷ file_rule ∷ []
+solver_rules = conflicts_rule ∷ threads_rule ∷ words_rule ∷ slots_rule ∷ seed_rule ∷ walk_rule ∷ proof_rule ∷ binary_rule ∷ no_simplify_rule ∷ check_rule ∷ make_rule ∷ file_rule ∷ []
 
 -- the program's command
 abbrev pub solver_app : App
@@ -95,12 +119,18 @@ pub record Command : Type 0 where
   pub conflicts : ℕ
   -- how many words of 64 bits there are for clauses
   pub words : ℕ
+  -- how many slots each two rings have for each class of clauses
+  pub slots : ℕ
   -- what the first phases are made of
   pub seed : ℕ
+  -- how many steps each ring walks before it searches
+  pub walk : ℕ
   -- whether only units are propagated, and nothing else is simplified
   pub no_simplify : Bool
   -- the path of the proof, if it is wanted
   pub proof : Option (List ℕ)
+  -- whether the proof is written in binary
+  pub binary : Bool
   -- whether the log is checked
   pub check : Bool
   -- the number of the formula that is made in place of an input, if one is
@@ -114,9 +144,12 @@ asked_by asked = record {
   threads = asked.threads;
   conflicts = asked.conflicts;
   words = asked.words;
+  slots = asked.slots;
   seed = asked.seed;
+  walk = asked.walk;
   no_simplify = asked.no_simplify;
   proof = option_copied asked.proof;
+  binary = asked.binary;
   check = asked.check;
   make = asked.make;
   file = option_copied asked.file;
@@ -142,9 +175,12 @@ command_in rows = record {
   threads = number_in (one_of (codes "threads") rows);
   conflicts = number_in (one_of (codes "conflicts") rows);
   words = number_in (one_of (codes "words") rows);
+  slots = number_in (one_of (codes "slots") rows);
   seed = number_in (one_of (codes "seed") rows);
+  walk = number_in (one_of (codes "walk") rows);
   no_simplify = flag_in (first_of (codes "no-simplify") rows);
   proof = first_of (codes "proof") rows;
+  binary = flag_in (first_of (codes "binary") rows);
   check = flag_in (first_of (codes "check") rows);
   make = option_map number_of (one_of (codes "make") rows);
   file = first_of (codes "file") rows;
@@ -168,6 +204,11 @@ command_of words = unless_refused (fault_of solver_app words) (command_in (match
 abbrev pub proof_path : Option Command → Option (List ℕ)
 proof_path None = None
 proof_path (Some command) = command.proof
+
+-- how the lines of the proof are spelled: as text, unless it is asked for in binary
+abbrev pub proof_format : Option Command → ProofFormat
+proof_format None = Text
+proof_format (Some command) = if command.binary then Binary else Text
 
 -- the path that is given for the input
 abbrev pub file_path : Option Command → Option (List ℕ)
@@ -197,9 +238,17 @@ HasThreads = HasNumber (codes "threads") 1 16
 abbrev pub HasWords : ArgMatches → Type 0
 HasWords = HasNumber (codes "words") 64 (2 ^ 31)
 
+-- the matches have a number for `--slots`
+abbrev pub HasSlots : ArgMatches → Type 0
+HasSlots = HasNumber (codes "slots") 1 16
+
 -- the matches have a number for `--seed`
 abbrev pub HasSeed : ArgMatches → Type 0
 HasSeed = HasNumber (codes "seed") 0 (2 ^ 63 - 1)
+
+-- the matches have a number for `--walk`
+abbrev pub HasWalk : ArgMatches → Type 0
+HasWalk = HasNumber (codes "walk") 0 (10 ^ 9)
 
 -- the matches have a number for `--make`, or no value
 abbrev pub HasMade : ArgMatches → Type 0

@@ -1,6 +1,10 @@
 // How a formula is decided.
 ghost use Rattle.std.specs.Prelude.{◌≡◌};
+ghost use Rattle.std.specs.Prelude.{if◌then◌else◌};
+ghost use Rattle.sat_words.specs.declared.line.ProofFormat.TheVariants.{Text, Binary};
 ghost use Rattle.top_call.specs.Planned.{rounds_of};
+
+use sat_words::ProofFormat;
 
 /// How many rounds of simplifiers a formula may get.
 pub const ROUNDS: u32 = 3;
@@ -19,4 +23,15 @@ pub fn rounds_of(no_simplify: bool) -> u32
     ensures { result ≡ rounds_of no_simplify }
 {
     if no_simplify { 0 } else { ROUNDS }
+}
+
+/// How the lines of the proof are spelled.
+pub fn format_of(binary: bool) -> ProofFormat
+    ensures { result ≡ (if binary then Binary else Text) }
+{
+    if binary {
+        ProofFormat::Binary
+    } else {
+        ProofFormat::Text
+    }
 }

@@ -14,7 +14,7 @@ ghost use Rattle.top_call.specs.Promise.{Promise};
 
 use crate::decide::{Decided, decide_made, decide_over};
 use crate::message::put_message;
-use crate::plan::{CallPlan, rounds_of};
+use crate::plan::{CallPlan, format_of, rounds_of};
 use crate::report::{CallEnd, Report, Tally};
 use crate::words::{Command, parse};
 use dimacs_read::read_or_bad;
@@ -209,8 +209,11 @@ fn plan_in(command: &Command<'_>) -> CallPlan
         threads: command.threads,
         conflicts: command.conflicts,
         words: command.words,
+        slots: command.slots,
         seed: command.seed,
+        walk: command.walk,
         rounds: rounds_of(command.no_simplify),
+        format: format_of(command.binary),
         keep_lines: command.check,
     };
     CallPlan {

@@ -4,7 +4,7 @@ ghost use Rattle.clap.specs.Words.{app_of, found_of, rows_of, rule_of};
 ghost use Rattle.clap.specs.declared.error.kind.ErrorKind.TheVariants.{OutOfMemory};
 ghost use Rattle.top_call.specs.Ends.{IsWordsEnd};
 ghost use Rattle.top_call.specs.Planned.{IsInRange, search_of};
-ghost use Rattle.top_call.specs.Words.{HasThreads, HasLimit, HasWords, HasSeed, HasMade, asked_by, command_in, command_of, unless_both, solver_app, conflicts_rule, threads_rule, words_rule, seed_rule, proof_rule, no_simplify_rule, check_rule, make_rule, file_rule};
+ghost use Rattle.top_call.specs.Words.{HasThreads, HasLimit, HasWords, HasSlots, HasSeed, HasWalk, HasMade, asked_by, command_in, command_of, unless_both, solver_app, conflicts_rule, threads_rule, words_rule, slots_rule, seed_rule, walk_rule, proof_rule, binary_rule, no_simplify_rule, check_rule, make_rule, file_rule};
 
 use crate::report::CallEnd;
 use clap::builder::ValueParser;
@@ -21,11 +21,17 @@ const LEAST_WORDS: u64 = 64;
 /// The most words for clauses.
 const MOST_WORDS: u64 = 1 << 31;
 
+/// The most slots that each two rings have for each class of clauses.
+const MOST_SLOTS: u64 = 16;
+
 /// The most lemmas that a ring may be allowed to learn.
 const MOST_CONFLICTS: u64 = 1_000_000_000_000;
 
 /// The greatest seed.
 const MOST_SEED: u64 = (1 << 63) - 1;
+
+/// The most steps of a walk.
+const MOST_WALK: u64 = 1_000_000_000;
 
 /// The greatest number of a formula that can be made.
 const MOST_MADE: u64 = (1 << 63) - 1;
@@ -39,17 +45,23 @@ pub struct Command<'a> {
     pub conflicts: u64,
     /// How many words of 64 bits there are for clauses.
     pub words: u64,
+    /// How many slots each two rings have for each class of clauses.
+    pub slots: u32,
     /// What the rings' first phases are made of.
     pub seed: u64,
+    /// How many steps each ring walks before it searches.
+    pub walk: u64,
     /// Whether only units are propagated, and nothing else is simplified.
     pub no_simplify: bool,
     /// Where the proof goes, if it is wanted.
     pub proof: Option<&'a str>,
+    /// Whether the proof is written in binary.
+    pub binary: bool,
     /// Whether the log is checked.
     pub check: bool,
     /// The number of the formula that is made in place of an input, if one is.
     pub make: Option<u64>,
-    /// If the input comes from, if not from standard input.
+    /// The path of the input, if it is not standard input.
     pub file: Option<&'a str>,
 }
 
@@ -86,6 +98,17 @@ fn words_arg<'a>(alloc: Global) -> Arg<'a>
         .default_value("16777216")
 }
 
+fn slots_arg<'a>(alloc: Global) -> Arg<'a>
+    ensures rule { rule_of result ≡ slots_rule }
+    ensures local { result.global ≡ false }
+{
+    Arg::new(alloc, "slots")
+        .long("slots")
+        .action(ArgAction::Set)
+        .value_parser(ValueParser::unsigned(1, MOST_SLOTS))
+        .default_value("1")
+}
+
 fn seed_arg<'a>(alloc: Global) -> Arg<'a>
     ensures rule { rule_of result ≡ seed_rule }
     ensures local { result.global ≡ false }
@@ -97,11 +120,31 @@ fn seed_arg<'a>(alloc: Global) -> Arg<'a>
         .default_value("0")
 }
 
+fn walk_arg<'a>(alloc: Global) -> Arg<'a>
+    ensures rule { rule_of result ≡ walk_rule }
+    ensures local { result.global ≡ false }
+{
+    Arg::new(alloc, "walk")
+        .long("walk")
+        .action(ArgAction::Set)
+        .value_parser(ValueParser::unsigned(0, MOST_WALK))
+        .default_value("0")
+}
+
 fn proof_arg<'a>(alloc: Global) -> Arg<'a>
     ensures rule { rule_of result ≡ proof_rule }
     ensures local { result.global ≡ false }
 {
     Arg::new(alloc, "proof").long("proof")
+}
+
+fn binary_arg<'a>(alloc: Global) -> Arg<'a>
+    ensures rule { rule_of result ≡ binary_rule }
+    ensures local { result.global ≡ false }
+{
+    Arg::new(alloc, "binary")
+        .long("binary")
+        .action(ArgAction::SetTrue)
 }
 
 fn no_simplify_arg<'a>(alloc: Global) -> Arg<'a>
@@ -150,8 +193,11 @@ fn solver<'a>(alloc: Global) -> Result<clap::Command<'a>, AllocError>
     bare.arg(conflicts_arg(alloc))?
         .arg(threads_arg(alloc))?
         .arg(words_arg(alloc))?
+        .arg(slots_arg(alloc))?
         .arg(seed_arg(alloc))?
+        .arg(walk_arg(alloc))?
         .arg(proof_arg(alloc))?
+        .arg(binary_arg(alloc))?
         .arg(no_simplify_arg(alloc))?
         .arg(check_arg(alloc))?
         .arg(make_arg(alloc))?
@@ -185,6 +231,20 @@ fn words_in(matches: &ArgMatches<'_>) -> u64
     }
 }
 
+/// How many slots each two rings have for each class of clauses.
+fn slots_in(matches: &ArgMatches<'_>) -> u32
+    requires { HasSlots matches.now }
+    ensures number { result ≡ (command_in (rows_of (found_of matches.now))).slots }
+    ensures some { 1 ≤ result }
+    ensures few { result ≤ 16 }
+{
+    match matches.get_one::<u64>("slots") {
+        Some(number) => number as u32,
+        // `HasSlots`: if the option is left out its default stands
+        None => unreachable!(),
+    }
+}
+
 /// How many lemmas each ring may learn.
 fn conflicts_in(matches: &ArgMatches<'_>) -> u64
     requires { HasLimit matches.now }
@@ -207,6 +267,28 @@ fn seed_in(matches: &ArgMatches<'_>) -> u64
         Some(number) => number,
         // `HasSeed`: if the option is left out its default stands
         None => unreachable!(),
+    }
+}
+
+/// How many steps each ring walks before it searches.
+fn walk_in(matches: &ArgMatches<'_>) -> u64
+    requires { HasWalk matches.now }
+    ensures { result ≡ (command_in (rows_of (found_of matches.now))).walk }
+{
+    match matches.get_one::<u64>("walk") {
+        Some(number) => number,
+        // `HasWalk`: if the option is left out its default stands
+        None => unreachable!(),
+    }
+}
+
+/// Whether the proof is written in binary.
+fn binary_in(matches: &ArgMatches<'_>) -> bool
+    ensures { result ≡ (command_in (rows_of (found_of matches.now))).binary }
+{
+    match matches.get_str("binary") {
+        Some(value) => value == "true",
+        None => false,
     }
 }
 
@@ -246,7 +328,9 @@ fn command_in<'a>(matches: &ArgMatches<'a>) -> Command<'a>
     requires threads { HasThreads matches.now }
     requires limit { HasLimit matches.now }
     requires words { HasWords matches.now }
+    requires slots { HasSlots matches.now }
     requires seed { HasSeed matches.now }
+    requires walk { HasWalk matches.now }
     requires made { HasMade matches.now }
     ensures asks { command_in (rows_of (found_of matches.now)) ≡ asked_by result }
     ensures ranges { IsInRange (search_of (asked_by result)) }
@@ -255,9 +339,12 @@ fn command_in<'a>(matches: &ArgMatches<'a>) -> Command<'a>
         threads: threads_in(matches),
         conflicts: conflicts_in(matches),
         words: words_in(matches),
+        slots: slots_in(matches),
         seed: seed_in(matches),
+        walk: walk_in(matches),
         no_simplify: no_simplify_in(matches),
         proof: matches.get_str("proof"),
+        binary: binary_in(matches),
         check: check_in(matches),
         make: make_in(matches),
         file: matches.get_str("file"),

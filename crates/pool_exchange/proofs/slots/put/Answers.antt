@@ -35,13 +35,13 @@ swap-found-requires g c =
     let one = c.requires.ring.0 in
     let m = c.requires.ring.1 in
     let t = ring_fits v p.3 one in
-    let at = slot_lies v p.3 one l (only v).core.ring c.args.to c.args.class c.slot-slot.result p.2 t.0 c.requires.to.1 c.requires.class
-    (c.slot-slot.ensures ∙ (λ i. slot_at l (4 * (m i * l.rings + c.args.to) + c.args.class))) in
+    let at = slot_lies v p.3 one l (only v).core.ring c.args.to c.args.class c.args.place c.slot-slot.result p.2 t.0 c.requires.to.1 c.requires.class c.requires.place
+    (c.slot-slot.ensures ∙ (λ i. slot_at l ((4 * (m i * l.rings + c.args.to) + c.args.class) * l.depth + c.args.place))) in
     let sized = table.sized in (
       p.0,
       omega arith,
       subst (λ (n : ℕ). Allows (Shown (StandsFor g.B.Ledger.account g.B.Ledger.stands) table.table.shared.key) table.table.shared.table_id.slots pass.id pass.me n (λ _. c.args.cell.address) (did_put (step table.table.shared.table_id.slots n c.args.cell.address 0 maybe.none) pass.me))
-          at.0 (puts (StandsFor g.B.Ledger.account g.B.Ledger.stands) table.table.shared.key table.table.shared.table_id.slots pass.id pass.me c.args.to c.args.class c.args.cell.address p.1 c.requires.held c.requires.to c.requires.class),
+          at.0 (puts (StandsFor g.B.Ledger.account g.B.Ledger.stands) table.table.shared.key table.table.shared.table_id.slots pass.id pass.me c.args.to c.args.class c.args.place c.args.cell.address p.1 c.requires.held c.requires.to c.requires.class at.2),
     )
 
 pub returns-clause-pass : goal.returns-clause-pass
@@ -53,9 +53,9 @@ returns-clause-pass g c =
     let one = c.requires.ring.0 in
     let m = c.requires.ring.1 in
     let t = ring_fits v p.3 one in
-    let at = slot_lies v p.3 one l (only v).core.ring c.args.to c.args.class c.slot-slot.result p.2 t.0 c.requires.to.1 c.requires.class
-    (c.slot-slot.ensures ∙ (λ i. slot_at l (4 * (m i * l.rings + c.args.to) + c.args.class))) in
-    let told = e.2 c.args.to c.args.class c.requires.to.1 c.requires.class (sym at.0) in
+    let at = slot_lies v p.3 one l (only v).core.ring c.args.to c.args.class c.args.place c.slot-slot.result p.2 t.0 c.requires.to.1 c.requires.class c.requires.place
+    (c.slot-slot.ensures ∙ (λ i. slot_at l ((4 * (m i * l.rings + c.args.to) + c.args.class) * l.depth + c.args.place))) in
+    let told = e.2 c.args.to c.args.class c.args.place c.requires.to.1 c.requires.class at.2 (sym at.0) in
     let k = told.2 in (
       (e.0 ∙ p.0, ap (λ (u : View). is_ready u.stage) k.1 ∙ p.1, ap (λ (u : View). u.layout) k.1 ∙ p.2, subst Seen (sym k.1) k.2),
       (e.1, k.0),
@@ -70,9 +70,9 @@ returns-clause-part g c =
     let one = c.requires.ring.0 in
     let m = c.requires.ring.1 in
     let t = ring_fits v p.3 one in
-    let at = slot_lies v p.3 one l (only v).core.ring c.args.to c.args.class c.slot-slot.result p.2 t.0 c.requires.to.1 c.requires.class
-    (c.slot-slot.ensures ∙ (λ i. slot_at l (4 * (m i * l.rings + c.args.to) + c.args.class))) in
-    let told = e.2 c.args.to c.args.class c.requires.to.1 c.requires.class (sym at.0) in
+    let at = slot_lies v p.3 one l (only v).core.ring c.args.to c.args.class c.args.place c.slot-slot.result p.2 t.0 c.requires.to.1 c.requires.class c.requires.place
+    (c.slot-slot.ensures ∙ (λ i. slot_at l ((4 * (m i * l.rings + c.args.to) + c.args.class) * l.depth + c.args.place))) in
+    let told = e.2 c.args.to c.args.class c.args.place c.requires.to.1 c.requires.class at.2 (sym at.0) in
     (told.0, told.1, told.2.1, subst (λ (n : ℕ). IsFound n c.cell_at.result) (sym told.3) c.cell_at.ensures, told.4, λ nz. told.5 (λ z. nz (told.3 ∙ z)))
 
 pub returns-clause-held : goal.returns-clause-held
@@ -84,8 +84,8 @@ returns-clause-held g c =
     let one = c.requires.ring.0 in
     let m = c.requires.ring.1 in
     let t = ring_fits v p.3 one in
-    let at = slot_lies v p.3 one l (only v).core.ring c.args.to c.args.class c.slot-slot.result p.2 t.0 c.requires.to.1 c.requires.class
-    (c.slot-slot.ensures ∙ (λ i. slot_at l (4 * (m i * l.rings + c.args.to) + c.args.class))) in
-    let told = e.2 c.args.to c.args.class c.requires.to.1 c.requires.class (sym at.0) in
+    let at = slot_lies v p.3 one l (only v).core.ring c.args.to c.args.class c.args.place c.slot-slot.result p.2 t.0 c.requires.to.1 c.requires.class c.requires.place
+    (c.slot-slot.ensures ∙ (λ i. slot_at l ((4 * (m i * l.rings + c.args.to) + c.args.class) * l.depth + c.args.place))) in
+    let told = e.2 c.args.to c.args.class c.args.place c.requires.to.1 c.requires.class at.2 (sym at.0) in
     found_held told.0.address c.cell_at.result c.swap-found.new.seat.me.0 (subst (λ (n : ℕ). IsFound n c.cell_at.result) (sym told.3) c.cell_at.ensures)
-    (put_holds c.args.to c.args.class c.args.cell.address told.0 told.1 v c.swap-found.new.seat.me.0 one told.2.1)
+    (put_holds c.args.to c.args.class c.args.place c.args.cell.address told.0 told.1 v c.swap-found.new.seat.me.0 one told.2.1)

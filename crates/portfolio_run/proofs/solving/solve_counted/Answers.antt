@@ -19,9 +19,9 @@ solve_left-requires g c κs within =
     let b = c.simplify-outcome.result.1 in
     let q = c.requires.1.1.1.1.1.1 in
     let was : WasRuled w f t fa g.given plan F b c.simplify-outcome.result.0 = record {
-      empty = q.1.1.1.1.1.1.0;
+      empty = q.1.1.1.1.1.1.1.0;
       ruled = subst (λ (s : LineState). Ruled F plan.rounds s (told_of w f t fa b) c.simplify-outcome.result.0)
-          (c.in-Ok.ensures.told ∙ (λ i. told_new w f t fa (length (c.clauses.ensures i)) (q.0 i) plan.keep_lines)) c.simplify-outcome.ensures;
+          (c.in-Ok.ensures.told ∙ (λ i. told_new w f t fa plan.format (length (c.clauses.ensures i)) (q.0 i) plan.keep_lines)) c.simplify-outcome.ensures;
     } in
     let is : c.simplify-outcome.result.0 ≡ Ok (LeftOver c.in-Ok-Simplified.left) = c.in-Ok-Simplified.is ∙ ap Ok c.in-Ok-Simplified.field-0-is in (
       within.0,
@@ -45,7 +45,10 @@ solve_left-requires g c κs within =
                         q.1.1.1.1.0,
                         (
                           q.1.1.1.1.1.0,
-                          (subst (WasRuled w f t fa g.given plan F b) is was, (refl, q.1.1.1.1.1.1.1)),
+                          (
+                            q.1.1.1.1.1.1.0,
+                            (subst (WasRuled w f t fa g.given plan F b) is was, (refl, q.1.1.1.1.1.1.1.1)),
+                          ),
                         ),
                       ),
                     ),
@@ -69,12 +72,12 @@ finish-requires g c κs within =
     let b = c.simplify-outcome.result.1 in
     let q = c.requires.1.1.1.1.1.1 in
     let was : WasRuled w f t fa g.given plan F b c.simplify-outcome.result.0 = record {
-      empty = q.1.1.1.1.1.1.0;
+      empty = q.1.1.1.1.1.1.1.0;
       ruled = subst (λ (s : LineState). Ruled F plan.rounds s (told_of w f t fa b) c.simplify-outcome.result.0)
-          (c.in-Ok.ensures.told ∙ (λ i. told_new w f t fa (length (c.clauses.ensures i)) (q.0 i) plan.keep_lines)) c.simplify-outcome.ensures;
+          (c.in-Ok.ensures.told ∙ (λ i. told_new w f t fa plan.format (length (c.clauses.ensures i)) (q.0 i) plan.keep_lines)) c.simplify-outcome.ensures;
     } in (
       within,
-      refuted_book w f t fa g.given plan F b c.simplify-outcome.result.0 c.args.tally.items q.1.1.1.1.0 q.1.1.1.1.1.0 q.1.0.0 q.1.1.0 q.1.1.1.1.1.1.1 was c.has_its_log.ensures.whole c.has_its_log.ensures.cut
+      refuted_book w f t fa g.given plan F b c.simplify-outcome.result.0 c.args.tally.items q.1.1.1.1.1.0 q.1.1.1.1.1.1.0 q.1.0.0 q.1.1.0 q.1.1.1.1.1.1.1.1 was c.has_its_log.ensures.whole c.has_its_log.ensures.cut
           (c.in-Ok-Refuted.is ∙ ap Ok c.in-Ok-Refuted.field-0-is),
     )
 
@@ -89,11 +92,11 @@ finish-requires-in-Err-outcome g c κs within =
     let b = c.simplify-outcome.result.1 in
     let q = c.requires.1.1.1.1.1.1 in
     let was : WasRuled w f t fa g.given plan F b c.simplify-outcome.result.0 = record {
-      empty = q.1.1.1.1.1.1.0;
+      empty = q.1.1.1.1.1.1.1.0;
       ruled = subst (λ (s : LineState). Ruled F plan.rounds s (told_of w f t fa b) c.simplify-outcome.result.0)
-          (c.in-Ok.ensures.told ∙ (λ i. told_new w f t fa (length (c.clauses.ensures i)) (q.0 i) plan.keep_lines)) c.simplify-outcome.ensures;
+          (c.in-Ok.ensures.told ∙ (λ i. told_new w f t fa plan.format (length (c.clauses.ensures i)) (q.0 i) plan.keep_lines)) c.simplify-outcome.ensures;
     } in (
       within,
       subst (λ (a : Answer). HasReached w f t fa g.given plan F a c.args.tally.items b) (sym c.answer_of_stop.ensures)
-          (stopped_book w f t fa g.given plan F b c.simplify-outcome.result.0 c.args.tally.items q.1.1.1.1.0 q.1.1.1.1.1.0 q.1.0.0 q.1.1.0 q.1.1.1.1.1.1.1 was c.has_its_log.ensures.whole c.has_its_log.ensures.cut c.in-Err-outcome.stop c.in-Err-outcome.is),
+          (stopped_book w f t fa g.given plan F b c.simplify-outcome.result.0 c.args.tally.items q.1.1.1.1.1.0 q.1.1.1.1.1.1.0 q.1.0.0 q.1.1.0 q.1.1.1.1.1.1.1.1 was c.has_its_log.ensures.whole c.has_its_log.ensures.cut c.in-Err-outcome.stop c.in-Err-outcome.is),
     )

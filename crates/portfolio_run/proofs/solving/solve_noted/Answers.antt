@@ -20,16 +20,16 @@ close_table-requires g c κs within =
         (
           q.1.0,
           (
-            q.1.1.1.0,
+            q.1.1.1.1.0,
             (
-              q.1.1.1.1.0,
+              q.1.1.1.1.1.0,
               record {
                 left = c.args.left;
                 first = c.in-Ok.first;
                 cells = c.in-Ok.cells.items;
                 opened = o;
                 home = home_of c.in-Ok.first;
-                searched = subst (λ (ds : List Counts). HasSearched c.in-Ok.table c.in-Ok.first.me.0 (home_of c.in-Ok.first) c.args.plan.now c.args.left.stack c.search-answer.new.first ds c.search-answer.new.tally.items c.search-answer.result) q.1.1.1.1.1.1.1 c.search-answer.ensures;
+                searched = subst (λ (ds : List Counts). HasSearched c.in-Ok.table c.in-Ok.first.me.0 (home_of c.in-Ok.first) c.args.plan.now c.args.left.stack c.search-answer.new.first ds c.search-answer.new.tally.items c.search-answer.result) q.1.1.1.1.1.1.1.1 c.search-answer.ensures;
               },
             ),
           ),
@@ -42,7 +42,7 @@ returns-in-Ok-clause-counted g c =
     let q = c.requires.1.1.1.1.1.1 in
     let o = c.in-Ok.ensures.opened in
     let rings : c.in-Ok.first.me.0.opening.rings ≡ c.args.plan.now.threads = ap (λ m. m.0.opening.rings) o.me ∙ ap (λ l. l.rings) o.layout_is in
-    let many = ap (λ (ds : List Counts). length ds) q.1.1.1.1.1.1.1 ∙ length-replicate c.args.plan.now.threads no_counts in
+    let many = ap (λ (ds : List Counts). length ds) q.1.1.1.1.1.1.1.1 ∙ length-replicate c.args.plan.now.threads no_counts in
     ap (λ (ds : List Counts). length ds) c.close_table.ensures.tally
     ∙ all_counted c.in-Ok.table c.in-Ok.first.me.0 _ c.args.plan.now _ c.search-answer.new.first c.args.tally.items c.search-answer.new.tally.items c.search-answer.result (many ∙ sym rings) c.search-answer.ensures
     ∙ rings

@@ -20,5 +20,5 @@ overflow_add-cell g c =
     let e = (building_of c.args.pass.now.me.0 c.requires.pass.3 c.args.cell.address c.requires.building).1 in
     let hi = c.requires.place.1 in
     let size = ap table_words c.requires.pass.2 in
-    let few = few_words c.args.table.now.layout c.args.table.now.rings c.args.table.now.vars c.args.table.now.words in
+    let few = few_words c.args.table.now.layout c.args.table.now.rings c.args.table.now.vars c.args.table.now.words c.args.table.now.depth in
     omega arith

@@ -14,7 +14,7 @@ overflow_add-cell g c =
     let h = held_of c.args.pass.now.me.0 c.requires.pass.3 c.args.cell.address c.requires.held in
     let e = h.ends in
     let size = ap table_words c.requires.pass.2 in
-    let few = few_words c.args.table.now.layout c.args.table.now.rings c.args.table.now.vars c.args.table.now.words in
+    let few = few_words c.args.table.now.layout c.args.table.now.rings c.args.table.now.vars c.args.table.now.words c.args.table.now.depth in
     omega arith
 
 pub load-number-requires : goal.load-number-requires
@@ -31,7 +31,7 @@ overflow_add-cell-2 g c =
     let h = held_of c.args.pass.now.me.0 c.requires.pass.3 c.args.cell.address c.requires.held in
     let e = h.ends in
     let size = ap table_words c.requires.pass.2 in
-    let few = few_words c.args.table.now.layout c.args.table.now.rings c.args.table.now.vars c.args.table.now.words in
+    let few = few_words c.args.table.now.layout c.args.table.now.rings c.args.table.now.vars c.args.table.now.words c.args.table.now.depth in
     omega arith
 
 pub load-head-requires : goal.load-head-requires
@@ -60,7 +60,7 @@ returns-clause-size g c =
     let words = c.args.table.now.words in
     let b = h.begins in
     let lw = ap (λ (l : Layout). l.words) c.requires.pass.2 in
-    let few = few_words c.args.table.now.layout c.args.table.now.rings c.args.table.now.vars c.args.table.now.words in
+    let few = few_words c.args.table.now.layout c.args.table.now.rings c.args.table.now.vars c.args.table.now.words c.args.table.now.depth in
     let w = subst (λ (u : View). IsWord u (a + 2) c.load-head.result) c.load-number.ensures.2.0.1 c.load-head.ensures.2.1 in
     let is = w.head_is a c.requires.held.1 refl in
     let f = c.size_of.ensures in
@@ -76,7 +76,7 @@ returns-clause-glue g c =
     let words = c.args.table.now.words in
     let b = h.begins in
     let lw = ap (λ (l : Layout). l.words) c.requires.pass.2 in
-    let few = few_words c.args.table.now.layout c.args.table.now.rings c.args.table.now.vars c.args.table.now.words in
+    let few = few_words c.args.table.now.layout c.args.table.now.rings c.args.table.now.vars c.args.table.now.words c.args.table.now.depth in
     let w = subst (λ (u : View). IsWord u (a + 2) c.load-head.result) c.load-number.ensures.2.0.1 c.load-head.ensures.2.1 in
     let is = w.head_is a c.requires.held.1 refl in
     let f = c.glue_of.ensures in

@@ -14,7 +14,7 @@ overflow_add-cell g c =
     let h = held_of c.args.pass.now.me.0 c.requires.pass.3 c.args.cell.address c.requires.held in
     let e = h.ends in
     let size = ap table_words c.requires.pass.2 in
-    let few = few_words c.args.table.now.layout c.args.table.now.rings c.args.table.now.vars c.args.table.now.words in
+    let few = few_words c.args.table.now.layout c.args.table.now.rings c.args.table.now.vars c.args.table.now.words c.args.table.now.depth in
     omega arith
 
 pub overflow_add-cell-2 : goal.overflow_add-cell-2
@@ -23,7 +23,7 @@ overflow_add-cell-2 g c =
     let e = h.ends in
     let lt = c.requires.place in
     let size = ap table_words c.requires.pass.2 in
-    let few = few_words c.args.table.now.layout c.args.table.now.rings c.args.table.now.vars c.args.table.now.words in
+    let few = few_words c.args.table.now.layout c.args.table.now.rings c.args.table.now.vars c.args.table.now.words c.args.table.now.depth in
     omega arith
 
 pub load-word-requires : goal.load-word-requires

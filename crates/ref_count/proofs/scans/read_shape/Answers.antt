@@ -13,7 +13,7 @@ overflow_add-cell g c =
     let h = held_of c.args.pass.now.me.0 c.requires.pass.3 c.args.cell.address c.requires.held in
     let e = h.ends in
     let size = ap table_words c.requires.pass.2 in
-    let few = few_words c.args.table.now.layout c.args.table.now.rings c.args.table.now.vars c.args.table.now.words in
+    let few = few_words c.args.table.now.layout c.args.table.now.rings c.args.table.now.vars c.args.table.now.words c.args.table.now.depth in
     omega arith
 
 pub load-head-requires : goal.load-head-requires
@@ -35,7 +35,7 @@ returns-clause-size g c =
     let words = c.args.table.now.words in
     let b = h.begins in
     let lw = ap (λ (l : Layout). l.words) c.requires.pass.2 in
-    let few = few_words c.args.table.now.layout c.args.table.now.rings c.args.table.now.vars c.args.table.now.words in
+    let few = few_words c.args.table.now.layout c.args.table.now.rings c.args.table.now.vars c.args.table.now.words c.args.table.now.depth in
     let is = c.load-head.ensures.2.1.head_is a c.requires.held.1 refl in
     let f = c.size_of.ensures in
     omega arith
@@ -50,7 +50,7 @@ returns-clause-glue g c =
     let words = c.args.table.now.words in
     let b = h.begins in
     let lw = ap (λ (l : Layout). l.words) c.requires.pass.2 in
-    let few = few_words c.args.table.now.layout c.args.table.now.rings c.args.table.now.vars c.args.table.now.words in
+    let few = few_words c.args.table.now.layout c.args.table.now.rings c.args.table.now.vars c.args.table.now.words c.args.table.now.depth in
     let is = c.load-head.ensures.2.1.head_is a c.requires.held.1 refl in
     let f = c.glue_of.ensures in
     omega arith

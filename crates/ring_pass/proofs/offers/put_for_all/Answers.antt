@@ -12,10 +12,10 @@ pub loop-to-init : goal.loop-to-init
 loop-to-init g c = record {
   pass = c.requires.pass;
   same = (refl, refl);
-  put = for_none c.args.pass.now.me.0 c.args.offering.now.class c.args.offering.now.cell.address c.requires.ring.0;
+  put = for_none c.args.pass.now.me.0 c.args.offering.now.class c.args.offering.now.place c.args.offering.now.cell.address c.requires.ring.0;
   many = refl;
   room = λ n can. back_fewer (only c.args.pass.now.me.0) c.args.waiting.now.items (vec_capacity c.args.waiting.now) (n + 0) n c.args.spares.now (omega arith) can;
-  longest = refl;
+  longest = (refl, refl);
 }
 
 pub loop-to-preserved-then-to-offering : goal.loop-to-preserved-then-to-offering
@@ -25,7 +25,7 @@ loop-to-preserved-then-to-offering g c =
     record {
       pass = inv.pass;
       same = inv.same;
-      put = subst (PutFor c.args.pass.now.me.0 c.loop-to.pass.me.0 c.args.offering.now.class c.args.offering.now.cell.address) same inv.put;
+      put = subst (PutFor c.args.pass.now.me.0 c.loop-to.pass.me.0 c.args.offering.now.class c.args.offering.now.place c.args.offering.now.cell.address) same inv.put;
       many = inv.many ∙ ap length same;
       room = λ n can. inv.room n (back_fewer (only c.args.pass.now.me.0) c.args.waiting.now.items (vec_capacity c.args.waiting.now) _ (n + length (others c.args.offering.now.ring c.loop-to.to)) c.args.spares.now (let e = ap length same in omega arith) can);
       longest = inv.longest;
@@ -45,11 +45,11 @@ loop-to-preserved g c =
     record {
       pass = e.pass.0;
       same = (e.pass.1.0 ∙ inv.same.0, e.pass.1.1 ∙ inv.same.1);
-      put = subst (PutFor c.args.pass.now.me.0 c.put_for.new.pass.me.0 c.args.offering.now.class c.args.offering.now.cell.address) more
-          (for_both c.args.pass.now.me.0 c.loop-to.pass.me.0 c.put_for.new.pass.me.0 c.args.offering.now.class c.args.offering.now.cell.address (others c.args.offering.now.ring to) (to ∷ []) c.requires.held.1 inv.put e.put);
+      put = subst (PutFor c.args.pass.now.me.0 c.put_for.new.pass.me.0 c.args.offering.now.class c.args.offering.now.place c.args.offering.now.cell.address) more
+          (for_both c.args.pass.now.me.0 c.loop-to.pass.me.0 c.put_for.new.pass.me.0 c.args.offering.now.class c.args.offering.now.place c.args.offering.now.cell.address (others c.args.offering.now.ring to) (to ∷ []) c.requires.held.1 inv.put e.put);
       many = (let sum = length-append (others c.args.offering.now.ring to) (to ∷ []) in omega arith);
       room = λ n can. e.room n (inv.room (n + 1) (back_fewer (only c.args.pass.now.me.0) c.args.waiting.now.items (vec_capacity c.args.waiting.now) _ ((n + 1) + length (others c.args.offering.now.ring to)) c.args.spares.now (let sum = length-append (others c.args.offering.now.ring to) (to ∷ []) in omega arith) can));
-      longest = e.longest ∙ inv.longest;
+      longest = (e.longest.0 ∙ inv.longest.0, e.longest.1 ∙ inv.longest.1);
     }
 
 pub returns-clause-room : goal.returns-clause-room
@@ -63,7 +63,7 @@ put_for-requires-clause-shares g c =
     let u : View = c.loop-to.pass.me.0 in
     let to : ℕ = c.loop-to.to in
     let ring : ℕ = c.args.offering.now.ring in
-    let now = for_shared v u c.args.offering.now.class c.args.offering.now.cell.address (others ring to) c.loop-to.invariant.put in
+    let now = for_shared v u c.args.offering.now.class c.args.offering.now.place c.args.offering.now.cell.address (others ring to) c.loop-to.invariant.put in
     let less = others_next ring to c.args.table.now.layout.rings c.if-to-offering.false c.loop-to-test.true in
     let few = c.requires.shares in
     omega arith
@@ -73,12 +73,13 @@ put_for-requires-clause-short g c =
     let v : View = c.args.pass.now.me.0 in
     let u : View = c.loop-to.pass.me.0 in
     let class : ℕ = c.args.offering.now.class in
+    let place : ℕ = c.args.offering.now.place in
     let a : ℕ = c.args.offering.now.cell.address in
     let tos : List ℕ = others c.args.offering.now.ring c.loop-to.to in
     let put = c.loop-to.invariant.put in
-    subst (λ (n : ℕ). AreShort n (only u).gave × (length (clause_of a u).lits ≤ n)) (sym c.loop-to.invariant.longest) (
-      for_gave v u class a c.args.spares.now.longest tos put c.requires.short.1 c.requires.short.0,
-      subst (λ (h : ClauseAt). length h.lits ≤ c.args.spares.now.longest) (sym (for_clause v u class a tos put c.requires.held)) c.requires.short.1,
+    subst (λ (n : ℕ). AreShort n (only u).gave × (length (clause_of a u).lits ≤ n)) (sym c.loop-to.invariant.longest.0) (
+      for_gave v u class place a c.args.spares.now.longest tos put c.requires.short.1 c.requires.short.0,
+      subst (λ (h : ClauseAt). length h.lits ≤ c.args.spares.now.longest) (sym (for_clause v u class place a tos put c.requires.held)) c.requires.short.1,
     )
 
 pub put_for-requires-clause-room : goal.put_for-requires-clause-room

@@ -4,7 +4,9 @@ use Rattle.ring_run.proofs.Deciding.{decided_search, model_found}
 use Rattle.ring_run.proofs.Progress.{out_of_memory}
 use Rattle.ring_run.proofs.Learning.{goes_on_by}
 use Rattle.ring_run.proofs.decision.decide.Goals as goal
-use Rattle.std.proofs.Common.{◌∙◌, ap, subst, sym}
+use Rattle.std.proofs.Common.{◌≡◌, ◌≤◌, ◌∙◌, ap, arith, inl, length, List, Bool, subst, sym}
+use Rattle.std.specs.Prelude.{◌^◌}
+use Rattle.ring_run.proofs.WalkEnds.{found_leads, if_some}
 use Rattle.std.proofs.lemmas.Bool.{false≢true}
 use Rattle.ring_run.proofs.Polling.{polled_whole, polled_over}
 use Rattle.ring_trail.specs.TrailData.{TrailData, IsTrail}
@@ -40,6 +42,20 @@ returns-in-Some-clause-decided g c = λ on. record { lit = c.in-Some.lit; chosen
 
 pub returns-in-Ok-clause-ended : goal.returns-in-Ok-clause-ended
 returns-in-Ok-clause-ended g c = (
-  record { valued = c.next.ensures.none c.in_default.is; long = c.in-Ok.ensures.long; true_there = c.in-Ok.ensures.all; rest = c.in-Ok.ensures.rest },
+  inl (record { valued = c.next.ensures.none c.in_default.is; long = c.in-Ok.ensures.long; true_there = c.in-Ok.ensures.all; rest = c.in-Ok.ensures.rest }),
   ap (λ (d : DeciderData). record c.args.ring.now { decider = d }) c.next.ensures.same,
 )
+
+-- the walk found a model
+
+pub end_found-requires : goal.end_found-requires
+end_found-requires g c = if_some c.args.model.now (λ (a : List Bool). length a ≤ 2 ^ 30) (λ a is.
+    let long = (c.requires.found a is).long in
+    let vars = c.requires.search.stands.vars in
+    let small = c.requires.search.trail.small in
+    omega arith)
+
+pub returns-then-agrees-clause-leads : goal.returns-then-agrees-clause-leads
+returns-then-agrees-clause-leads g c =
+    let found = c.agrees.ensures.0 c.if-agrees.true in
+    found_leads (g.P.Port.state c.args.port.now) c.args.ring.now c.args.limit c.args.model.now c.end_found.result c.requires.search c.requires.below c.requires.quiet c.requires.first c.requires.found found.0 found.1 found.2 c.end_found.ensures

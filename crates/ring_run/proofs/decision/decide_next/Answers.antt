@@ -8,6 +8,7 @@ use Rattle.ring_run.specs.Ending.{ComesTo}
 use Rattle.ring_run.specs.Course.{imports_of, IsOffering}
 use Rattle.ring_run.specs.declared.ring.Ring.{Ring}
 use Rattle.ring_run.proofs.Deciding.{decides_by}
+use Rattle.ring_run.proofs.WalkEnds.{found_by}
 use Rattle.ring_run.proofs.Lending.{offering_stays}
 use Rattle.ring_run.proofs.Listing.{listed_same}
 use Rattle.ring_run.proofs.Offering.{nothing_looked, nothing_then}
@@ -19,9 +20,9 @@ use Rattle.ring_run.specs.Turn.{ActedAtQuiet, EndsQuietly}
 use Rattle.ring_run.specs.declared.job.End.{End}
 use Rattle.ring_run.specs.declared.course.Next.TheVariants.{Finish}
 use Rattle.ring_run.specs.Ending.{end_refused}
-use Rattle.ring_run.specs.Searching.{FixedSeen, ToldUnits}
+use Rattle.ring_run.specs.Searching.{SeesFixed, ToldUnits}
 use Rattle.ring_run.proofs.Acting.{quietly_halted, quietly_renewing, quietly_decided}
-use Rattle.ring_run.proofs.Telling.{fixed_seen}
+use Rattle.ring_run.proofs.Telling.{sees_fixed}
 use Rattle.ring_run.proofs.Tidying.{refused_refusal}
 use Rattle.ring_run.proofs.decision.decide_next.Goals as goal
 use Rattle.ring_run.proofs.Numbering.{kept_looked}
@@ -273,7 +274,7 @@ returns-then-ring-clause-acted g c = λ on.
         middle = w;
         ring = c.write_pending.new.ring;
         told = subst (λ (x : PortState). ToldUnits x w) c.in_default.ensures.looked.1 c.in-Ok.ensures.lines;
-        seen = subst (FixedSeen w) c.write_pending.ensures.trail (fixed_seen w c.write_pending.new.ring.trail c.write_pending.new.ring.written c.in-Ok.ensures.search.told c.in-Ok.ensures.first);
+        seen = subst (SeesFixed w) c.write_pending.ensures.trail (sees_fixed w c.write_pending.new.ring.trail c.write_pending.new.ring.written c.in-Ok.ensures.search.told c.in-Ok.ensures.first c.in-Ok.ensures.search.stands.seen);
         unlooked = c.reduce_vivify_import.ensures.unlooked;
         same_ring = c.write_pending.ensures.same;
         renewed = c.reduce_vivify_import.ensures.renewed on;
@@ -293,7 +294,7 @@ returns-clause-acted g c = λ on.
       sym c.write_pending.ensures.import_due ∙ c.if-ring.false,
       record {
         told = subst (λ (x : PortState). ToldUnits x w) c.in_default.ensures.looked.1 c.in-Ok.ensures.lines;
-        seen = subst (FixedSeen w) c.write_pending.ensures.trail (fixed_seen w c.write_pending.new.ring.trail c.write_pending.new.ring.written c.in-Ok.ensures.search.told c.in-Ok.ensures.first);
+        seen = subst (SeesFixed w) c.write_pending.ensures.trail (sees_fixed w c.write_pending.new.ring.trail c.write_pending.new.ring.written c.in-Ok.ensures.search.told c.in-Ok.ensures.first c.in-Ok.ensures.search.stands.seen);
         decided = record {
           lit = p.lit;
           chosen = subst (λ (r : Ring). IsDecided r.decider r.trail.steps p.lit) told p.chosen;
@@ -340,7 +341,8 @@ returns-in-Err-clause-ended g c =
       record { learned = c.write_pending.ensures.learned; restarts = c.write_pending.ensures.restarts; exported = c.write_pending.ensures.offers.exported; offered = c.write_pending.ensures.offers.offered },
       how.0,
       subst (λ (x : PortState). ToldUnits x how.0) c.in_default.ensures.looked.1 how.1,
-      inl how.2,
+      how.2,
+      inl how.3,
     ))
 
 pub returns-then-ring-clause-ended : goal.returns-then-ring-clause-ended
@@ -352,7 +354,7 @@ returns-then-ring-clause-ended g c =
     c.write_pending.ensures.same
     (record { learned = k.learned ∙ c.write_pending.ensures.learned; restarts = k.restarts ∙ c.write_pending.ensures.restarts; exported = k.offers.exported ∙ c.write_pending.ensures.offers.exported; offered = k.offers.offered ∙ c.write_pending.ensures.offers.offered })
     (subst (λ (x : PortState). ToldUnits x w) c.in_default.ensures.looked.1 c.in-Ok.ensures.lines)
-    (subst (FixedSeen w) c.write_pending.ensures.trail (fixed_seen w c.write_pending.new.ring.trail c.write_pending.new.ring.written c.in-Ok.ensures.search.told c.in-Ok.ensures.first)) k.halts
+    (subst (SeesFixed w) c.write_pending.ensures.trail (sees_fixed w c.write_pending.new.ring.trail c.write_pending.new.ring.written c.in-Ok.ensures.search.told c.in-Ok.ensures.first c.in-Ok.ensures.search.stands.seen)) k.halts
 
 pub returns-clause-ended : goal.returns-clause-ended
 returns-clause-ended g c =
@@ -365,4 +367,11 @@ returns-clause-ended g c =
     (quietly_decided s w old c.write_pending.new.ring new c.decide.result (sym c.write_pending.ensures.import_due ∙ c.if-ring.false) c.write_pending.ensures.same
     (record { learned = k.learned ∙ c.write_pending.ensures.learned; restarts = k.restarts ∙ c.write_pending.ensures.restarts; exported = k.offers.exported ∙ c.write_pending.ensures.offers.exported; offered = k.offers.offered ∙ c.write_pending.ensures.offers.offered })
     (subst (λ (x : PortState). ToldUnits x w) c.in_default.ensures.looked.1 c.in-Ok.ensures.lines)
-    (subst (FixedSeen w) c.write_pending.ensures.trail (fixed_seen w c.write_pending.new.ring.trail c.write_pending.new.ring.written c.in-Ok.ensures.search.told c.in-Ok.ensures.first)) k.ended)
+    (subst (SeesFixed w) c.write_pending.ensures.trail (sees_fixed w c.write_pending.new.ring.trail c.write_pending.new.ring.written c.in-Ok.ensures.search.told c.in-Ok.ensures.first c.in-Ok.ensures.search.stands.seen)) k.ended)
+
+pub decide-requires-clause-found : goal.decide-requires-clause-found
+decide-requires-clause-found g c =
+    let s = g.P.Port.state c.args.port.now in
+    let w = g.P.Port.state c.write_pending.new.port in
+    let stays = c.in-Ok.ensures.stays in
+    found_by s w c.args.model.now (stays.start ∙ ap (λ (x : PortState). x.start) c.in_default.ensures.looked.1) (stays.vars ∙ ap (λ (x : PortState). x.vars) c.in_default.ensures.looked.1) c.requires.found

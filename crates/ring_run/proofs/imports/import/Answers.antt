@@ -71,7 +71,7 @@ returns-in-Err-clause-polls g c =
     let before : m.polled ≡ polls_of m made = subst (λ (k : ℕ). m.polled ≡ polls_of m k) none (polls_same s m (imports_of ring) (saw_nothing s m c.take_units.ensures.saw) c.requires.polling.polled) in
     let same : after.restarts.made ≡ made = ap (λ (r : Ring). r.restarts.made) c.take_clauses.ensures.same in
     subst (λ (k : ℕ). u.polled ≤ polls_of u k) (let e : made + 1 ≡ 1 + after.restarts.made = omega (arith, same) in e)
-    (imported_most m u made (ap (λ (x : PortState). x.ring) c.take_clauses.ensures.only.state) (ap (λ (x : PortState). x.rings) c.take_clauses.ensures.only.state) before c.take_clauses.ensures.few)
+    (imported_most m u made (ap (λ (x : PortState). x.ring) c.take_clauses.ensures.only.state) (ap (λ (x : PortState). x.rings) c.take_clauses.ensures.only.state) (ap (λ (x : PortState). x.depth) c.take_clauses.ensures.only.state) before c.take_clauses.ensures.few)
 
 pub returns-in-Err-clause-offering : goal.returns-in-Err-clause-offering
 returns-in-Err-clause-offering g c = λ p.
@@ -114,7 +114,7 @@ returns-clause-polls g c =
       place = ap (λ (r : Ring). r.place) c.take_clauses.ensures.same
           ∙ place_moved ring.place s u (ap (λ (x : PortState). x.ring) only ∙ nothing.ring) (ap (λ (x : PortState). x.rings) only ∙ nothing.rings) c.requires.polling.place;
       polled = subst (λ (k : ℕ). u.polled ≡ polls_of u k) (let e : made + 1 ≡ after.restarts.made + 1 = omega (arith, same) in e)
-          (imported m u made (ap (λ (x : PortState). x.ring) only) (ap (λ (x : PortState). x.rings) only) before c.in-Ok.ensures.polled);
+          (imported m u made (ap (λ (x : PortState). x.ring) only) (ap (λ (x : PortState). x.rings) only) (ap (λ (x : PortState). x.depth) only) before c.in-Ok.ensures.polled);
       low = λ e. absurd (false≢true e);
     }
 
@@ -189,7 +189,7 @@ returns-in-Err-clause-imports g c = λ start p h.
     let before = imports_count start m (imports_of ring) made none (imports_same start s m (imports_of ring) (saw_nothing s m c.take_units.ensures.saw) h) in
     let same : after.restarts.made ≡ made = ap (λ (r : Ring). r.restarts.made) c.take_clauses.ensures.same in
     subst (λ (k : ℕ). LookedAlong start u (rounds k (import_slots u))) (let e : made + 1 ≡ 1 + after.restarts.made = omega (arith, same) in e)
-    (imports_part start m u made (ap (λ (x : PortState). x.ring) only) (ap (λ (x : PortState). x.rings) only) before c.take_clauses.ensures.some.along)
+    (imports_part start m u made (ap (λ (x : PortState). x.ring) only) (ap (λ (x : PortState). x.rings) only) (ap (λ (x : PortState). x.depth) only) before c.take_clauses.ensures.some.along)
 
 pub returns-clause-imports : goal.returns-clause-imports
 returns-clause-imports g c = λ start p h.
@@ -204,9 +204,9 @@ returns-clause-imports g c = λ start p h.
     let none : imports_of ring ≡ made = ap (λ (b : Bool). if b then made else made + 1) c.requires.import_due in
     let same : after.restarts.made ≡ made = ap (λ (r : Ring). r.restarts.made) c.take_clauses.ensures.same in
     let looked : u.polls ≡ s.polls ++ import_slots s =
-    c.in-Ok.ensures.took.polls ∙ ap (λ (xs : List Slot). xs ++ import_slots m) saw.polls ∙ ap (λ (xs : List Slot). s.polls ++ xs) (slots_same s m saw.stays.ring saw.stays.rings) in
+    c.in-Ok.ensures.took.polls ∙ ap (λ (xs : List Slot). xs ++ import_slots m) saw.polls ∙ ap (λ (xs : List Slot). s.polls ++ xs) (slots_same s m saw.stays.ring saw.stays.rings saw.stays.depth) in
     imports_count start u (made + 1) (after.restarts.made + 1) (omega (arith, same))
-    (imports_more start s u made (ap (λ (x : PortState). x.ring) only ∙ saw.stays.ring) (ap (λ (x : PortState). x.rings) only ∙ saw.stays.rings) (imports_count start s (imports_of ring) made none h) looked
+    (imports_more start s u made (ap (λ (x : PortState). x.ring) only ∙ saw.stays.ring) (ap (λ (x : PortState). x.rings) only ∙ saw.stays.rings) (ap (λ (x : PortState). x.depth) only ∙ saw.stays.depth) (imports_count start s (imports_of ring) made none h) looked
     (ap (λ (x : PortState). x.caught_up) only ∙ c.take_units.ensures.caught_up c.in-True.is))
 
 pub returns-in-Opposed-clause-in_time : goal.returns-in-Opposed-clause-in_time
@@ -241,7 +241,7 @@ returns-clause-took g c = λ on.
       polled = c.take_clauses.ensures.only;
       slots = record { polls = slots.polls; moments = slots.moments; came = slots.came; few = slots.few; held = slots.held; taken = slots.taken; clauses = slots.clauses; imports = slots.imports };
       moments = slots.moments ∙ ap (λ (ns : List ℕ). ns ++ each_at m.caught_up (import_slots m)) units.saw.polls_after ∙ ap (λ (n : ℕ). s.polls_after ++ each_at n (import_slots m)) looked
-          ∙ ap (λ (xs : List Slot). s.polls_after ++ each_at (one_more s.caught_up) xs) (slots_same s m units.saw.stays.ring units.saw.stays.rings);
+          ∙ ap (λ (xs : List Slot). s.polls_after ++ each_at (one_more s.caught_up) xs) (slots_same s m units.saw.stays.ring units.saw.stays.rings units.saw.stays.depth);
       grown = subst (HasGrown ring.trail) (sym trail) units.grown;
       shape = subst IsTrail (sym trail) c.take_units.ensures.trail;
       bare = subst (λ (t : TrailData). (p : ℕ) → length ring.trail.steps ≤ p → p < length t.steps → reason_at t.steps p ≡ None) (sym trail) units.bare;

@@ -1,4 +1,4 @@
-use Rattle.std.proofs.Common.{◌≡◌, ◌+◌, ◌-◌, ◌^◌, min}
+use Rattle.std.proofs.Common.{◌≡◌, ◌+◌, ◌-◌, ◌*◌, ◌^◌, min}
 use Rattle.ring_port.specs.PortState.{IsPort}
 use Rattle.ring_run.specs.Searching.{KeepsOn, OnlyPolled}
 use Rattle.ring_run.specs.Course.{InSearch}
@@ -10,8 +10,8 @@ abbrev pub invariant-loop-class : goal.invariant-loop-class
 invariant-loop-class g l = record {
   keeps : KeepsOn (g.P.Port.state l.fn.port) (g.P.Port.state l.port);
   search : InSearch (g.P.Port.state l.port) l.ring;
-  polled : (g.P.Port.state l.port).polled ≡ min ((g.P.Port.state l.fn.port).polled + l.class) (2 ^ 64 - 1);
-  took : TookSlots (g.P.Port.state l.fn.port) (g.P.Port.state l.port) l.fn.ring l.ring (classes_below l.from l.class);
+  polled : (g.P.Port.state l.port).polled ≡ min ((g.P.Port.state l.fn.port).polled + (g.P.Port.state l.fn.port).depth * l.class) (2 ^ 64 - 1);
+  took : TookSlots (g.P.Port.state l.fn.port) (g.P.Port.state l.port) l.fn.ring l.ring (classes_below (g.P.Port.state l.fn.port).depth l.from l.class);
   only : OnlyPolled (g.P.Port.state l.fn.port) (g.P.Port.state l.port);
   same : l.ring ≡ record l.fn.ring { watches = l.ring.watches; imports = l.ring.imports };
   port : IsPort (g.P.Port.state l.port);

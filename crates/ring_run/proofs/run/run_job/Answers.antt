@@ -201,7 +201,7 @@ returns-clause-ran g c =
         place = made.place;
         import_due = made.import_due;
       },
-      subst (λ (x : PortState). Searched x u first last c.search-end.result) made.same c.search-end.ensures.searched,
+      subst (λ (x : PortState). Searched c.args.job.now x u first last c.search-end.result) made.same c.search-end.ensures.searched,
       c.counts_of.ensures.learned,
       c.counts_of.ensures.exported,
       c.counts_of.ensures.offered,

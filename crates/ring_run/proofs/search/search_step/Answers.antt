@@ -10,6 +10,7 @@ use Rattle.ring_run.specs.Searching.{GoesOn}
 use Rattle.ring_run.specs.declared.ring.Ring.{Ring}
 use Rattle.ring_run.proofs.Turning.{grown_search, compose, further_grown}
 use Rattle.ring_run.proofs.Listing.{listed_same}
+use Rattle.ring_run.specs.Walked.{IsFound}
 use Rattle.ring_run.proofs.search.search_step.Goals as goal
 use Rattle.ring_run.proofs.Numbering.{kept_none}
 use Rattle.ring_run.proofs.Rounds.{imports_over}
@@ -158,3 +159,6 @@ returns-in_default-clause-took g c = record {
   propagated = record { same = refl; grown = c.propagate.ensures.grown; shape = c.decision_level-level.ensures.trail; clauses = c.propagate.ensures.attached; reasons = c.propagate.ensures.reasons };
   halts = inl (c.propagate.ensures.same, refl, record { learned = refl; restarts = refl; exported = refl; offered = refl });
 }
+
+pub decide_next-requires-clause-found : goal.decide_next-requires-clause-found
+decide_next-requires-clause-found g c = subst (λ (x : PortState). IsFound x c.args.model.now) (sym c.propagate.ensures.same) c.requires.found

@@ -112,4 +112,4 @@ pub returns-clause-lines : goal.returns-clause-lines
 returns-clause-lines g c = units_by (g.P.Port.state c.args.port.now) (g.P.Port.state c.unit.new.self) c.lit_at.result c.unit.result c.unit.ensures.written
 
 pub returns-clause-halts : goal.returns-clause-halts
-returns-clause-halts g c = units_halted (g.P.Port.state c.args.port.now) (g.P.Port.state c.unit.new.self) c.lit_at.result c.unit.result c.unit.ensures.written
+returns-clause-halts g c = units_halted (g.P.Port.state c.args.port.now) (g.P.Port.state c.unit.new.self) c.lit_at.result c.args.trail.now.steps c.unit.result c.requires.stands.seen c.unit.ensures.written

@@ -46,4 +46,4 @@ returns-in-Err-clause-nothing g c = nothing_then (g.P.Port.state c.args.port.now
 
 pub returns-in-Err-clause-halts : goal.returns-in-Err-clause-halts
 returns-in-Err-clause-halts g c =
-    halted_then (g.P.Port.state c.args.port.now) (g.P.Port.state c.loop-place.port) (g.P.Port.state c.write_unit.new.port) (end_refused c.in-Err.stop) c.loop-place.invariant.lines c.in-Err.ensures.halts
+    halted_then (g.P.Port.state c.args.port.now) (g.P.Port.state c.loop-place.port) (g.P.Port.state c.write_unit.new.port) c.args.trail.now.steps (end_refused c.in-Err.stop) c.loop-place.invariant.lines c.in-Err.ensures.halts

@@ -103,6 +103,7 @@ returns-in-Ok-write_pending-clause-followed g c =
       lines = subst (λ (x : PortState). OnlyWrote x u) c.propagate.ensures.same k.wrote;
       units = subst (λ (x : PortState). ToldUnits x u) c.propagate.ensures.same k.lines;
       told = subst (AreTold u c.write_pending.new.ring.trail) rests.whole k.search.told;
+      alone = k.search.stands.seen;
       same_clauses = ap (λ (x : WatchData). attached x) c.write_pending.ensures.watches ∙ c.propagate.ensures.attached;
       quiet = rests.quiet;
     }
@@ -122,4 +123,7 @@ returns-in-Conflict-clause-halts g c = inr (inl (subst (λ (x : PortState). Wrot
 pub returns-in-Err-clause-halts : goal.returns-in-Err-clause-halts
 returns-in-Err-clause-halts g c =
     let u = g.P.Port.state c.write_pending.new.port in
-    inr (inr (subst (λ (x : PortState). HaltsTelling x u c.end_refused.result) c.propagate.ensures.same (subst (HaltsTelling (g.P.Port.state c.propagate.new.port) u) (sym c.end_refused.ensures) c.in-Err.ensures.halts)))
+    let t = c.propagate.new.trail in
+    let grown : HasGrown (assigned c.args.ring.now.trail c.args.lit None) t = subst (λ (x : TrailData). HasGrown x t) c.assign.ensures.step c.propagate.ensures.grown in
+    let refused = subst (HaltsTelling (g.P.Port.state c.propagate.new.port) u t.steps) (sym c.end_refused.ensures) c.in-Err.ensures.halts in
+    inr (inr (t, grown, subst (λ (x : PortState). HaltsTelling x u t.steps c.end_refused.result) c.propagate.ensures.same refused))

@@ -34,6 +34,7 @@ invariant_of-table g c =
       rings = b.few_rings;
       vars = b.few_vars;
       words = b.few_words;
+      depth = b.few_slots;
       keyed = ap (λ (k : Key). k.layout) e.5;
     }
 
@@ -54,7 +55,7 @@ open_table-requires-clause-opens g c =
     let n = c.entries-entries.ensures ∙ h.entries in
     let start : Opens (StandsFor g.B.Ledger.account g.B.Ledger.stands) (record { layout = l; words = c.in-Ok.laid.0 }) o w c.with_holes-book.result c.entries-entries.result = record {
       opens = begun_opens F l J ss us b;
-      small = (let k = few_words l b.few_rings b.few_vars b.few_words in omega arith);
+      small = (let k = few_words l b.few_rings b.few_vars b.few_words b.few_slots in omega arith);
       words = subst (λ (ws : List ℕ). Words l (opened o) (λ _. 0) (slice_set ws 0 (256 * c.entries-entries.result))) (sym c.in-Ok.ensures.words) (begun_words F l J ss us few fits (256 * c.entries-entries.result) (omega arith));
       places = begun_places F l J ss us b fits;
       few = (let k = b.few_entries in omega arith);

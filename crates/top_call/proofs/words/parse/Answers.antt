@@ -3,7 +3,7 @@ use Rattle.std.specs.Prelude.{string_bytes, Result, IfErr, IsErrOf}
 use Rattle.std.proofs.lemmas.Result.{IfOk-weaker}
 use Rattle.clap.specs.Words.{App, fault_of, is_simple, is_simple_and_free, kind_of, matches_of}
 use Rattle.top_call.specs.Words.{command_in, unless_both}
-use Rattle.top_call.proofs.CommandLine.{threads_of, limit_of, words_of, seed_of, made_of, lawful_words, refused_words, solver_simple, solver_free}
+use Rattle.top_call.proofs.CommandLine.{threads_of, limit_of, words_of, slots_of, seed_of, walk_of, made_of, lawful_words, refused_words, solver_simple, solver_free}
 use Rattle.top_call.proofs.words.parse.Goals as goal
 
 pub command_in-requires-clause-limit : goal.command_in-requires-clause-limit
@@ -15,8 +15,14 @@ command_in-requires-clause-threads c = threads_of c.in-Ok.command _ c.in-Ok.ensu
 pub command_in-requires-clause-words : goal.command_in-requires-clause-words
 command_in-requires-clause-words c = words_of c.in-Ok.command _ c.in-Ok.ensures c.in-Ok-try_get_matches_from.ensures.parsed
 
+pub command_in-requires-clause-slots : goal.command_in-requires-clause-slots
+command_in-requires-clause-slots c = slots_of c.in-Ok.command _ c.in-Ok.ensures c.in-Ok-try_get_matches_from.ensures.parsed
+
 pub command_in-requires-clause-seed : goal.command_in-requires-clause-seed
 command_in-requires-clause-seed c = seed_of c.in-Ok.command _ c.in-Ok.ensures c.in-Ok-try_get_matches_from.ensures.parsed
+
+pub command_in-requires-clause-walk : goal.command_in-requires-clause-walk
+command_in-requires-clause-walk c = walk_of c.in-Ok.command _ c.in-Ok.ensures c.in-Ok-try_get_matches_from.ensures.parsed
 
 pub command_in-requires-clause-made : goal.command_in-requires-clause-made
 command_in-requires-clause-made c = made_of c.in-Ok.command _ c.in-Ok.ensures c.in-Ok-try_get_matches_from.ensures.parsed

@@ -11,4 +11,5 @@ create_output-tells g c = record {
   contents = refl;
   tried = refl;
   cause = c.ensures.cause;
+  once = c.ensures.once;
 }

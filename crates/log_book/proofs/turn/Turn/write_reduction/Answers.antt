@@ -4,13 +4,14 @@ use Rattle.rup_model.specs.declared.journal.Entry.TheVariants.{Reduce as ReduceE
 use Rattle.rup_model.specs.Journal.{lines}
 use Rattle.drat_text.specs.SinkData.{told_by}
 use Rattle.drat_text.specs.JournalText.{HasText}
+use Rattle.drat_text.proofs.JournalLines.{has_text_still}
 use Rattle.share_rule.specs.declared.note.Note.{Note}
 use Rattle.share_rule.specs.declared.note.Note.TheVariants.{Reduce}
 use Rattle.share_rule.specs.declared.view.View.{View}
 use Rattle.share_rule.specs.Views.{only}
 use Rattle.log_book.specs.Books.{begun, began}
 use Rattle.log_book.specs.Turns.{sheet}
-use Rattle.log_book.proofs.Standings.{note_turn, text_still}
+use Rattle.log_book.proofs.Standings.{note_turn}
 use Rattle.log_book.proofs.turn.Turn.write_reduction.Goals as goal
 
 pub returns-clause-added : goal.returns-clause-added
@@ -31,7 +32,7 @@ returns-clause-added g c =
           (x.3 ∙ h.stands.holes could.1) x.1 (ap (λ l. suc l.lines.last) x.0 ∙ h.stands.log.last) (x.2 ∙ or_none t.book.ended)
           (ap (λ l. is_some l.kept.lines) x.0)
           (λ ls q. h.stands.log.kept could.1 ls (sym (ap (λ l. l.kept.lines) x.0) ∙ q) ∙ sym (append-nil (lines F J)))
-          (subst (λ l. HasText (begun F (began v.origin F)) (J ++ ReduceEntry (only v).core.ring ∷ []) (told_by g.S.Sink.written g.S.Sink.flushed g.S.Sink.target g.S.Sink.faults l.lines)) (sym x.0) (text_still F (began v.origin F) J (ReduceEntry (only v).core.ring) _ refl (h.stands.log.sink.whole could.1)))
+          (subst (λ l. HasText (begun F (began v.origin F)) (J ++ ReduceEntry (only v).core.ring ∷ []) (told_by g.S.Sink.written g.S.Sink.flushed g.S.Sink.target g.S.Sink.faults l.lines)) (sym x.0) (has_text_still (begun F (began v.origin F)) J _ (ReduceEntry (only v).core.ring) refl (h.stands.log.sink.whole could.1)))
           (ap (λ l. g.S.Sink.target l.lines.sink) x.0) (ap (λ l. g.S.Sink.flushed l.lines.sink) x.0);
       going = could;
       whole = ap (λ l. l.lines.spent) x.0 ∙ could.1;

@@ -3,7 +3,7 @@ use Rattle.rup_model.specs.declared.journal.Kind.TheVariants.{Learn}
 use Rattle.share_rule.specs.declared.Layout.{Layout}
 use Rattle.share_rule.specs.declared.view.View.{View}
 use Rattle.ring_port.specs.Port.{is_usable}
-use Rattle.ring_port.specs.PortState.{PortState}
+use Rattle.ring_port.specs.PortState.{PortState, held_at}
 use Rattle.ring_pass.specs.RingState.{home_of}
 use Rattle.ring_pass.proofs.DerivesHere.{long_here, on_here, added_as, added_keeps, refused_keeps, ring_adds, units_adds}
 use Rattle.ring_pass.proofs.DropsHere.{on_ok, room_grows}
@@ -30,6 +30,12 @@ add_clause-added-requires-clause-on g c = on_here c.self.inside.pass.me.0 _ c.ar
 pub returns-then-is_err-clause-port : goal.returns-then-is_err-clause-port
 returns-then-is_err-clause-port g c = ring_port c.self.invariant.0
 
+pub returns-then-is_err-clause-kept : goal.returns-then-is_err-clause-kept
+returns-then-is_err-clause-kept g c = λ a _. ap (λ (s : PortState). held_at s a) c.self.view_is
+
+pub returns-then-is_err-2-clause-kept : goal.returns-then-is_err-2-clause-kept
+returns-then-is_err-2-clause-kept g c = λ a _. ap (λ (s : PortState). held_at s a) c.self.view_is
+
 pub returns-then-is_err-2-clause-port : goal.returns-then-is_err-2-clause-port
 returns-then-is_err-2-clause-port g c = ring_port c.self.invariant.0
 
@@ -49,7 +55,7 @@ invariant_of-self-in-Ok g c =
       ring_adds c.add_clause-added.new.pass Learn c.args.lits.now c.args.glue c.in-Ok.cell.address (Some c.in-Ok.cell) c.self.invariant.0 e.pass.0 e.pass.1 e.pass.2 f,
       room_learns v w c.self.invariant.0.pass.3 c.args.lits.now c.args.glue c.in-Ok.cell c.self.inside.last c.self.inside.waiting.items c.reserve.new.self.items (vec_capacity c.self.inside.waiting) (vec_capacity c.reserve.new.self) f c.reserve.ensures.items (omega arith) c.self.invariant.1,
       units_adds v w Learn c.args.lits.now c.args.glue c.in-Ok.cell.address c.self.inside.seen.items (vec_capacity c.self.inside.seen) (vec_capacity c.self.inside.arrived) f c.self.invariant.2,
-      offer_learns v w c.args.lits.now c.args.glue c.in-Ok.cell c.self.inside.last c.self.inside.spares c.make_spares.new.spares f made.0 (omega arith) (made.2) made.3 c.self.invariant.3,
+      offer_learns v w c.args.lits.now c.args.glue c.in-Ok.cell c.self.inside.last c.self.inside.spares c.make_spares.new.spares f made.0 (omega arith) (made.2) made.3 c.make_spares.ensures.places c.self.invariant.3,
     )
 
 pub returns-in-Ok-clause-learned : goal.returns-in-Ok-clause-learned
@@ -77,7 +83,7 @@ invariant_of-self-in-Err g c =
       room_refused v w c.in-Err.stop c.self.inside.last c.reserve.new.self.items (vec_capacity c.reserve.new.self) f
           (room_grows _ v.opening.rings c.self.inside.last c.self.inside.waiting.items c.reserve.new.self.items (vec_capacity c.self.inside.waiting) (vec_capacity c.reserve.new.self) c.self.invariant.1 c.reserve.ensures.items c.reserve.ensures.capacity),
       units_refused v w c.in-Err.stop c.self.inside.seen.items (vec_capacity c.self.inside.seen) (vec_capacity c.self.inside.arrived) f c.self.invariant.2,
-      offer_refused v w c.in-Err.stop c.self.inside.last c.make_spares.new.spares f (offer_larger _ v.opening.rings c.self.inside.last c.self.inside.spares c.make_spares.new.spares made.0 (omega arith) made.3 c.self.invariant.3),
+      offer_refused v w c.in-Err.stop c.self.inside.last c.make_spares.new.spares f (offer_larger _ v.opening c.self.inside.last c.self.inside.spares c.make_spares.new.spares made.0 (omega arith) made.3 c.make_spares.ensures.places c.self.invariant.3),
     )
 
 pub returns-in-Err-clause-learned : goal.returns-in-Err-clause-learned

@@ -58,10 +58,10 @@ pub returns-in-None-clause-polled : goal.returns-in-None-clause-polled
 returns-in-None-clause-polled g c =
     let i = c.self.inside in
     let before = ap (λ (t : Option Cref). crowd_of i.inner.state t i.stop i.looks i.refused (asked i.polled i.polls.items i.caught_up)) (sym c.in-None.is) ∙ c.self.view_is in
-    subst (λ (s : PortState). TookClause s (crowd_of i.inner.state (Some i.last) i.stop i.looks i.refused (asked c.saturating_add-self-inside.result c.push.new.self.items i.caught_up)) c.args.from c.args.class i.last) before
-    (took i.inner.state i.last c.self.invariant.1 c.self.invariant.2 i.stop i.looks i.refused (asked i.polled i.polls.items i.caught_up) c.args.from c.args.class (asked c.saturating_add-self-inside.result c.push.new.self.items i.caught_up)
-    (asked_more i.polled i.caught_up c.saturating_add-self-inside.result i.polls.items c.push.new.self.items c.args.from c.args.class c.saturating_add-self-inside.ensures
-    (c.push.ensures.items ∙ ap (λ (b : Bool). if b then i.polls.items ++ record { from = c.args.from; class = c.args.class; caught_up = i.caught_up } ∷ [] else i.polls.items) (ok_of c.push.result (sym c.if-is_err.ensures.value)))))
+    subst (λ (s : PortState). TookClause s (crowd_of i.inner.state (Some i.last) i.stop i.looks i.refused (asked c.saturating_add-self-inside.result c.push.new.self.items i.caught_up)) c.args.from c.args.class c.args.place i.last) before
+    (took i.inner.state i.last c.self.invariant.1 c.self.invariant.2 i.stop i.looks i.refused (asked i.polled i.polls.items i.caught_up) c.args.from c.args.class c.args.place (asked c.saturating_add-self-inside.result c.push.new.self.items i.caught_up)
+    (asked_more i.polled i.caught_up c.saturating_add-self-inside.result i.polls.items c.push.new.self.items c.args.from c.args.class c.args.place c.saturating_add-self-inside.ensures
+    (c.push.ensures.items ∙ ap (λ (b : Bool). if b then i.polls.items ++ record { from = c.args.from; class = c.args.class; place = c.args.place; caught_up = i.caught_up } ∷ [] else i.polls.items) (ok_of c.push.result (sym c.if-is_err.ensures.value)))))
 
 pub returns-in-None-clause-kept : goal.returns-in-None-clause-kept
 returns-in-None-clause-kept g c =

@@ -1,0 +1,8 @@
+use Rattle.std.proofs.Common.{◌≡◌, ℕ, ◌<◌, false, length, get_or}
+use Rattle.ring_decide.proofs.decider.assignment_of.Given as goal
+
+abbrev pub invariant-loop-i : goal.invariant-loop-i
+invariant-loop-i l = record {
+  len : length l.assignment ≡ length l.values;
+  each : (k : ℕ) → k < l.i → get_or l.assignment k false ≡ get_or l.values k false;
+}

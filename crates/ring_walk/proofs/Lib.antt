@@ -1,0 +1,16 @@
+pub mod Ordered
+pub mod Spacing
+pub mod Listing
+pub mod Raising
+pub mod Truths
+pub mod Taking
+pub mod Ranking
+pub mod Flipping
+pub mod Values
+pub mod Walking
+pub mod Filling
+pub mod Keeping
+pub mod CountLemmas
+pub mod Units
+pub mod Drawing
+pub mod Turning

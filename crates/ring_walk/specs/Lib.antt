@@ -1,0 +1,9 @@
+pub mod Listed
+pub mod Tally
+pub mod Truths
+pub mod Occurrences
+pub mod KeptData
+pub mod KeptInside
+pub mod WalkData
+pub mod Inside
+pub mod Walk

@@ -49,7 +49,8 @@ impl<S: Sink> Blocks<S> {
         ensures { MatchResult result (λ _. Gathers S.written S.flushed S.target S.faults self.old self.new (lits_bytes lits.now ++ 0 ∷ [])) (λ _. Breaks S.written S.flushed S.target S.faults self.old self.new (lits_bytes lits.now ++ 0 ∷ [])) }
     {
         for lit in lits {
-            match self.append(Groups::of(lit.code()).as_slice()) {
+            let groups = Groups::of(lit.code());
+            match self.append_front(groups.window(), groups.len()) {
                 Ok(()) => {}
                 Err(Failed) => return Err(Failed),
             }

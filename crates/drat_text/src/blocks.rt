@@ -1,5 +1,5 @@
 // Bytes that gather before a sink, and are written in blocks.
-ghost use Rattle.std.specs.Prelude.{◌≡◌, ◌+◌, ◌≤◌, ◌<◌, ◌++◌, [], true, None, length, IfOk, IfErr, OnOk, OnErr, MatchResult};
+ghost use Rattle.std.specs.Prelude.{◌≡◌, ◌+◌, ◌≤◌, ◌<◌, ◌++◌, [], true, None, length, take, IfOk, IfErr, OnOk, OnErr, MatchResult};
 ghost use Rattle.io_edge.specs.Bytes.{IsFront};
 ghost use Rattle.io_edge.specs.Causes.{HasCause};
 ghost use Rattle.drat_text.specs.Gathered.{bytes_in, Gathers, Breaks};
@@ -71,6 +71,26 @@ impl<S: Sink> Blocks<S> {
         self.len = end;
     }
 
+    /// Lets go what waits after so many bytes.
+    fn truncate(&mut self, len: usize)
+        requires { len ≤ length self.old.waiting }
+        ensures { self.new ≡ record { waiting = take len self.old.waiting; sink = self.old.sink } }
+    {
+        self.len = len;
+    }
+
+    /// Puts so many of the bytes, if all of them have room: to copy a number of bytes that is known beforehand takes less time.
+    #[inline(always)]
+    fn push_front(&mut self, bytes: &[u8], count: usize)
+        requires room { length self.old.waiting + length bytes.now ≤ BLOCK }
+        requires count { count ≤ length bytes.now }
+        ensures { self.new ≡ record { waiting = self.old.waiting ++ take count bytes.now; sink = self.old.sink } }
+    {
+        let len = self.len + count;
+        self.push(bytes);
+        self.truncate(len);
+    }
+
     /// Writes what waits. In either case nothing waits then.
     pub(crate) fn write_out(&mut self) -> Result<(), Failed>
         ensures all { OnOk result (S.written self.new.sink ≡ bytes_in S.written self.old) }
@@ -112,5 +132,20 @@ impl<S: Sink> Blocks<S> {
             }
             Err(Failed) => Err(Failed),
         }
+    }
+
+    /// Puts so many of the bytes, as `append` does. It is the faster if the number of all the bytes is known beforehand.
+    #[inline(always)]
+    pub(crate) fn append_front(&mut self, bytes: &[u8], count: usize) -> Result<(), Failed>
+        requires room { length self.old.waiting < BLOCK }
+        requires short { length bytes.now ≤ BLOCK }
+        requires count { count ≤ length bytes.now }
+        ensures { MatchResult result (λ _. Gathers S.written S.flushed S.target S.faults self.old self.new (take count bytes.now)) (λ _. Breaks S.written S.flushed S.target S.faults self.old self.new (take count bytes.now)) }
+    {
+        if bytes.len() < BLOCK - self.len {
+            self.push_front(bytes, count);
+            return Ok(());
+        }
+        self.append(&bytes[..count])
     }
 }

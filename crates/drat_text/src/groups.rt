@@ -1,5 +1,5 @@
 // Numbers in groups of seven bits.
-ghost use Rattle.std.specs.Prelude.{◌≡◌, ◌≤◌, length};
+ghost use Rattle.std.specs.Prelude.{◌≡◌, ◌≤◌, length, take};
 ghost use Rattle.drat_text.specs.Binary.{groups};
 
 use std::marker::Model;
@@ -50,5 +50,22 @@ impl Groups {
         ensures short { length result.now ≤ 5 }
     {
         &self.bytes[..self.len]
+    }
+
+    /// How many groups there are.
+    #[inline(always)]
+    pub(crate) fn len(&self) -> usize
+        ensures { result ≡ length self.now }
+    {
+        self.len
+    }
+
+    /// The groups, and others after them: five in all.
+    #[inline(always)]
+    pub(crate) fn window(&self) -> &[u8]
+        ensures front { take (length self.now) result.now ≡ self.now }
+        ensures size { length result.now ≡ 5 }
+    {
+        &self.bytes
     }
 }

@@ -15,6 +15,7 @@ mod piece;
 mod read;
 mod sink_lines;
 mod stop;
+mod words;
 
 pub use binary::put_binary;
 pub use blocks::BLOCK;

@@ -8,8 +8,8 @@ ghost use Rattle.drat_text.specs.Text.{lits_text, line_text};
 ghost use Rattle.drat_text.specs.declared.blocks.TheConstants.{BLOCK};
 
 use crate::blocks::Blocks;
+use crate::words::Word;
 use io_edge::{Failed, Sink};
-use itoa::Buffer;
 use sat_words::{Line, Lit, ProofFormat};
 
 /// The number that stands for the literal.
@@ -67,10 +67,7 @@ impl<S: Sink> Blocks<S> {
         requires room { length self.old.waiting < BLOCK }
         ensures { MatchResult result (λ _. Gathers S.written S.flushed S.target S.faults self.old self.new (lit_text lit ++ codes " ")) (λ _. Breaks S.written S.flushed S.target S.faults self.old self.new (lit_text lit ++ codes " ")) }
     {
-        let mut digits = Buffer::new();
-        match self.append(digits.format(number_of(lit)).as_bytes()) {
-            Ok(()) => self.append(b" "),
-            Err(Failed) => Err(Failed),
-        }
+        let word = Word::of(lit);
+        self.append_front(word.window(), word.len())
     }
 }

@@ -10,9 +10,9 @@ returns-in-Err g c =
     let lits = c.args.lits.now in
     let i = c.loop-lit.lit-index in
     let lit = c.lit-item.result in
-    let word : c.as_slice.result.now ≡ lit_bytes lit = search rules in
-    subst (Breaks g.S.Sink.written g.S.Sink.flushed g.S.Sink.target g.S.Sink.faults c.args.self.now c.append.new.self) (sym (words_split lit_bytes lits i lit c.loop-lit-test.true c.lit-item.is (0 ∷ [])))
-    (breaks_longer g.S.Sink.written g.S.Sink.flushed g.S.Sink.target g.S.Sink.faults c.args.self.now c.append.new.self
+    let word : take c.len.result c.window.result.now ≡ lit_bytes lit = search rules in
+    subst (Breaks g.S.Sink.written g.S.Sink.flushed g.S.Sink.target g.S.Sink.faults c.args.self.now c.append_front.new.self) (sym (words_split lit_bytes lits i lit c.loop-lit-test.true c.lit-item.is (0 ∷ [])))
+    (breaks_longer g.S.Sink.written g.S.Sink.flushed g.S.Sink.target g.S.Sink.faults c.args.self.now c.append_front.new.self
     (lits_bytes (take i lits) ++ lit_bytes lit) (lits_bytes (drop (i + 1) lits) ++ 0 ∷ [])
-    (breaks_then g.S.Sink.written g.S.Sink.flushed g.S.Sink.target g.S.Sink.faults c.args.self.now c.loop-lit.self c.append.new.self (lits_bytes (take i lits)) (lit_bytes lit)
-    c.loop-lit.invariant (subst (Breaks g.S.Sink.written g.S.Sink.flushed g.S.Sink.target g.S.Sink.faults c.loop-lit.self c.append.new.self) word c.in-Err.ensures)))
+    (breaks_then g.S.Sink.written g.S.Sink.flushed g.S.Sink.target g.S.Sink.faults c.args.self.now c.loop-lit.self c.append_front.new.self (lits_bytes (take i lits)) (lit_bytes lit)
+    c.loop-lit.invariant (subst (Breaks g.S.Sink.written g.S.Sink.flushed g.S.Sink.target g.S.Sink.faults c.loop-lit.self c.append_front.new.self) word c.in-Err.ensures)))

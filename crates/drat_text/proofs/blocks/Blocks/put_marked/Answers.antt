@@ -1,6 +1,6 @@
 use Rattle.std.proofs.Common.{◌++◌, ◌∷◌, []}
 use Rattle.drat_text.specs.Binary.{lits_bytes}
-use Rattle.drat_text.proofs.Gathering.{breaks_longer, then_either}
+use Rattle.drat_text.proofs.Gathering.{breaks_longer}
 use Rattle.drat_text.proofs.blocks.Blocks.put_marked.Goals as goal
 
 pub returns-in-Err : goal.returns-in-Err

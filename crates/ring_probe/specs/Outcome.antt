@@ -1,5 +1,5 @@
 -- What a probe of a literal comes to.
-use Rattle.std.specs.Prelude.{◌≡◌, ◌⊎◌, ℕ, Bool, true, false, List, [], ◌∷◌, map, None}
+use Rattle.std.specs.Prelude.{◌≡◌, ◌⊎◌, Bool, true, false, List, [], ◌∷◌, map, None}
 use Rattle.sat_words.specs.Literal.{Literal, opposite}
 use Rattle.sat_words.specs.declared.shared.Cref.{Cref}
 use Rattle.rup_model.specs.Rup.{conflicts}
@@ -13,8 +13,8 @@ use Rattle.ring_trail.specs.TrailData.{TrailData, HasGrown, assigned}
 use Rattle.watch_prop.specs.WatchData.{WatchData}
 use Rattle.watch_prop.specs.Propagation.{IsConflict, IsQuiet}
 use Rattle.watch_prop.specs.Rounds.{fixed_of, with_units, AllTrueOn}
-use Rattle.ring_probe.specs.declared.probe.Probed.{Probed}
-use Rattle.ring_probe.specs.declared.probe.Probed.TheVariants.{Holds, Unit, Empty}
+use Rattle.ring_probe.specs.declared.probing.Probed.{Probed}
+use Rattle.ring_probe.specs.declared.probing.Probed.TheVariants.{Holds, Unit, Empty}
 
 -- whether a literal fails: propagation from it alone, over the clauses at some addresses and the literals true at level 0, falsifies a
 -- clause

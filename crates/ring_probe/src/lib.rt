@@ -2,6 +2,6 @@
 //! (Freeman 1995; Lynce and Marques-Silva 2003).
 #![tactic(auto)]
 
-mod probe;
+mod probing;
 
-pub use probe::{Probed, probe};
+pub use probing::{Probed, probe};

@@ -16,7 +16,7 @@ use sat_words::Lit;
 use watch_prop::Watches;
 
 /// What became of a literal that was probed.
-#[derive(Clone, Copy)]
+#[derive(Clone, Copy, PartialEq, Eq, Debug)]
 pub enum Probed {
     /// It doesn't fail: it may be true or false.
     Holds,
@@ -48,8 +48,10 @@ pub fn probe<P: Port>(
     requires on { IsOn (P.state port.old).vars literal }
     requires free { value_of trail.old.steps literal.var ≡ None }
     requires usable { is_usable (P.state port.old).refused ≡ true }
-    ensures probed { IfOk result (IsProbed (P.state port.old) (P.state port.new) (attached watches.old) watches.new trail.old trail.new literal) }
-    ensures stopped { IfErr result (WasCutShort (P.state port.old) (P.state port.new) (attached watches.old) trail.old literal) }
+    ensures probed { IfOk result
+        (IsProbed (P.state port.old) (P.state port.new) (attached watches.old) watches.new trail.old trail.new literal) }
+    ensures stopped { IfErr result
+        (WasCutShort (P.state port.old) (P.state port.new) (attached watches.old) trail.old literal) }
     ensures attached { attached watches.new ≡ attached watches.old }
     ensures vars { watches.new.vars ≡ watches.old.vars }
     ensures watched { Watched watches.new (lits_at (P.state port.new)) trail.new }

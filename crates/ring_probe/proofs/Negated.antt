@@ -9,7 +9,8 @@ use Rattle.sat_words.proofs.Members.{same-true, same-refl}
 use Rattle.rup_model.specs.Rup.{conflicts, rup}
 use Rattle.rup_model.specs.declared.journal.Kind.TheVariants.{UnitLine}
 use Rattle.rup_model.proofs.Lists.{In, has_In, In_has, In_map, In_get_or, In_append_right, Contains_In, In_Contains}
-use Rattle.ring_port.specs.PortState.{PortState, lits_at, known}
+use Rattle.ring_port.specs.PortState.{PortState, IsPort, lits_at, known}
+use Rattle.ring_port.specs.Log.{KeepsLog}
 use Rattle.ring_port.specs.Port.{WroteUnit, EndedLog}
 use Rattle.ring_trail.specs.declared.step.TrailStep.{TrailStep}
 use Rattle.ring_trail.specs.TrailData.{TrailData, IsTrail, IsTrueOn, IsFalseClause, HasGrown, no_step, step_at, lit_at, assigned}
@@ -164,5 +165,15 @@ module _ (s m : PortState) (v w : WatchData) (t u : TrailData) (l : Literal) (p 
       (subst (λ (A : List Literal). conflicts (known m) A ≡ true) (decisions_none u p.shape level_then)
       (derived_conflict (known m) (decisions_of u.steps) u.steps (lits_at m c.address) (derived_known m u.steps (Reasons-held (attached w) m u.steps reasons_after)) (conflict_known m w u c p.watched bad) bad.false_all))
 
-  pub failed_both : (n : PortState) (c : Cref) → IsConflict w (lits_at m) u c → EndedLog m n → FailedBoth s n (attached v) w t u l
-  failed_both n c bad ended = record { middle = m; after = after; clause = c; conflict = bad; other = other_fails c bad; ended = ended }
+  pub failed_both : (n : PortState) (c : Cref) → IsConflict w (lits_at m) u c → EndedLog m n → KeepsLog s m → IsPort m → KeepsLog m n → FailedBoth s n (attached v) w t u l
+  failed_both n c bad ended log port log_after = record {
+    middle = m;
+    after = after;
+    clause = c;
+    conflict = bad;
+    other = other_fails c bad;
+    ended = ended;
+    log = log;
+    port = port;
+    log_after = log_after;
+  }

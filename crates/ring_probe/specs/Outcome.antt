@@ -4,7 +4,8 @@ use Rattle.sat_words.specs.Literal.{Literal, opposite}
 use Rattle.sat_words.specs.declared.shared.Cref.{Cref}
 use Rattle.rup_model.specs.Rup.{conflicts}
 use Rattle.rup_model.specs.declared.journal.Kind.TheVariants.{UnitLine}
-use Rattle.ring_port.specs.PortState.{PortState, lits_at}
+use Rattle.ring_port.specs.PortState.{PortState, IsPort, lits_at}
+use Rattle.ring_port.specs.Log.{KeepsLog}
 use Rattle.ring_port.specs.Port.{WroteUnit, EndedLog, Refused}
 use Rattle.ring_port.specs.declared.stops.PortStop.{PortStop}
 use Rattle.ring_port.specs.declared.stops.PortStop.TheVariants.{Memory}
@@ -41,7 +42,7 @@ pub record FailedAlone (old new : PortState) (cs : List Cref) (w : WatchData) (t
   pub other : fails old cs t.steps (opposite l) ≡ false
 
 -- the literal fails, and once its negation was true a clause was false: the empty clause was written; so the negation fails too, if each
--- unit seen was true before
+-- unit seen was true before; between the two lines and after them the log stands as it did
 pub record FailedBoth (old new : PortState) (cs : List Cref) (w : WatchData) (t u : TrailData) (l : Literal) : Type 0 where
   pub middle : PortState
   pub after : HasFailed old middle cs t u l
@@ -49,6 +50,9 @@ pub record FailedBoth (old new : PortState) (cs : List Cref) (w : WatchData) (t 
   pub conflict : IsConflict w (lits_at middle) u clause
   pub other : AllTrueOn t.steps old.seen → fails old cs t.steps (opposite l) ≡ true
   pub ended : EndedLog middle new
+  pub log : KeepsLog old middle
+  pub port : IsPort middle
+  pub log_after : KeepsLog middle new
 
 -- what a probe over the clauses at some addresses came to
 abbrev pub IsProbed : PortState → PortState → List Cref → WatchData → TrailData → TrailData → Literal → Probed → Type 0
@@ -57,9 +61,12 @@ IsProbed old new cs w t u l (Unit k) = FailedAlone old new cs w t u l k
 IsProbed old new cs w t u l Empty = FailedBoth old new cs w t u l
 
 -- a call was refused: nothing was written before it, or the line of the negation was; the literal fails, or there was no memory to see
--- whether it does, and nothing was done
+-- whether it does, and nothing was done; before that call and after it the log stands as it did
 pub record WasCutShort (old new : PortState) (cs : List Cref) (t : TrailData) (l : Literal) (stop : PortStop) : Type 0 where
   pub middle : PortState
   pub before : (middle ≡ old) ⊎ WroteUnit old middle (opposite l) UnitLine old.last
   pub refused : Refused middle new stop
+  pub log : KeepsLog old middle
+  pub port : IsPort middle
+  pub log_after : KeepsLog middle new
   pub cause : (fails old cs t.steps l ≡ true) ⊎ ((stop ≡ Memory) × (middle ≡ old))

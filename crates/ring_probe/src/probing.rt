@@ -125,6 +125,7 @@ fn follow_negation<P: Port>(
     requires on { IsOn (P.state port.old).vars literal }
     requires free { value_of trail.old.steps literal.var ≡ None }
     requires usable { is_usable (P.state port.old).refused ≡ true }
+    requires port { IsPort (P.state port.old) }
     requires failed { fails (P.state port.old) (attached watches.old) trail.old.steps literal ≡ true }
     requires implied { rup (known (P.state port.old)) (opposite literal ∷ []) ≡ true }
     ensures probed { IfOk result

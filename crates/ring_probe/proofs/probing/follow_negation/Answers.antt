@@ -76,7 +76,7 @@ propagate-followed-requires-clause-reasons g c =
 pub returns-in_err-unit-clause-stopped : goal.returns-in_err-unit-clause-stopped
 returns-in_err-unit-clause-stopped g c =
     let p = err_from_is_err_and c.from_residual.result c.from_residual.ensures.1 in
-    rw (p.1, p.2) (record { middle = g.P.Port.state c.args.port.now; before = inl refl; refused = c.in_err-unit.ensures.written; cause = inl c.requires.failed })
+    rw (p.1, p.2) (record { middle = g.P.Port.state c.args.port.now; before = inl refl; refused = c.in_err-unit.ensures.written; log = λ o h. h; port = c.requires.port; log_after = c.unit.ensures.log; cause = inl c.requires.failed })
 
 pub returns-in_err-unit-clause-watched : goal.returns-in_err-unit-clause-watched
 returns-in_err-unit-clause-watched g c =
@@ -121,6 +121,9 @@ returns-in_default-clause-stopped g c = record {
   middle = g.P.Port.state c.unit.new.self;
   before = inr (wrote g (goal.at.returns-in_default-clause-stopped g c).In_ok-unit);
   refused = record { reason = tt; state = c.propagate-followed.ensures.same };
+  log = c.unit.ensures.log;
+  port = c.unit.ensures.port;
+  log_after = λ o h. subst (StandsOver o) (sym c.propagate-followed.ensures.same) h;
   cause = inl c.requires.failed;
 }
 
@@ -209,6 +212,7 @@ returns-in_ok-empty-in-Conflict-clause-probed g c =
     let at = goal.at.returns-in_ok-empty-in-Conflict-clause-probed g c in
     failed_both s m c.args.watches.now c.propagate-followed.new.self c.args.trail.now c.propagate-followed.new.trail c.args.literal (followed g at.After-decision_level-lawful) n c.in-Conflict.field-0 (conflict_now g at.In-Conflict)
     (subst (λ (x : PortState). EndedLog x n) c.propagate-followed.ensures.same c.in_ok-empty-in-Conflict.ensures.written)
+    c.unit.ensures.log c.unit.ensures.port (λ o h. c.empty.ensures.log o (subst (StandsOver o) (sym c.propagate-followed.ensures.same) h))
 
 pub returns-in_ok-empty-in-Conflict-clause-watched : goal.returns-in_ok-empty-in-Conflict-clause-watched
 returns-in_ok-empty-in-Conflict-clause-watched g c =
@@ -248,6 +252,9 @@ returns-in_err-empty-in-Conflict-clause-stopped g c =
       middle = g.P.Port.state c.unit.new.self;
       before = inr (wrote g at.In_ok-unit);
       refused = subst (λ (x : PortState). Refused x n c.in_err-empty-in-Conflict.field-0.0) c.propagate-followed.ensures.same c.in_err-empty-in-Conflict.ensures.written;
+      log = c.unit.ensures.log;
+      port = c.unit.ensures.port;
+      log_after = λ o h. c.empty.ensures.log o (subst (StandsOver o) (sym c.propagate-followed.ensures.same) h);
       cause = inl c.requires.failed;
     })
 

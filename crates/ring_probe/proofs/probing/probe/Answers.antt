@@ -24,6 +24,9 @@ returns-in_default-clause-stopped g c = record {
   middle = g.P.Port.state c.literal_fails.new.port;
   before = inl c.literal_fails.ensures.same;
   refused = record { reason = tt; state = refl };
+  log = λ o h. subst (StandsOver o) (sym c.literal_fails.ensures.same) h;
+  port = subst IsPort (sym c.literal_fails.ensures.same) c.vars-vars.ensures.port;
+  log_after = λ o h. h;
   cause = inr (refl, c.literal_fails.ensures.same);
 }
 
@@ -123,6 +126,9 @@ follow_negation-requires-clause-free g c = ap (λ (x : TrailData). value_of x.st
 
 pub follow_negation-requires-clause-usable : goal.follow_negation-requires-clause-usable
 follow_negation-requires-clause-usable g c = ap (λ (x : PortState). is_usable x.refused) c.literal_fails.ensures.same ∙ c.requires.usable
+
+pub follow_negation-requires-clause-port : goal.follow_negation-requires-clause-port
+follow_negation-requires-clause-port g c = subst IsPort (sym c.literal_fails.ensures.same) c.vars-vars.ensures.port
 
 pub follow_negation-requires-clause-failed : goal.follow_negation-requires-clause-failed
 follow_negation-requires-clause-failed g c =

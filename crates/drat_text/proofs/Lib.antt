@@ -8,6 +8,7 @@ mod SevenBits
 mod BinaryUnique
 mod Spellings
 pub mod Fronts
+mod DigitCounts
 mod Gathering
 mod Reading
 mod BadLines

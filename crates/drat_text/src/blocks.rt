@@ -1,9 +1,11 @@
 // Bytes that gather before a sink, and are written in blocks.
-ghost use Rattle.std.specs.Prelude.{◌≡◌, ◌+◌, ◌≤◌, ◌<◌, ◌++◌, [], true, None, length, take, IfOk, IfErr, OnOk, OnErr, MatchResult};
+ghost use Rattle.std.specs.Prelude.{◌≡◌, ◌+◌, ◌≤◌, ◌<◌, ◌++◌, [], true, None, ◌∷◌, ◌↔◌, IsTrue, length, take, IfOk, IfErr, OnOk, OnErr, MatchResult};
+ghost use Rattle.std.specs.Fmt.{decimal};
 ghost use Rattle.io_edge.specs.Bytes.{IsFront};
 ghost use Rattle.io_edge.specs.Causes.{HasCause};
 ghost use Rattle.drat_text.specs.Gathered.{bytes_in, Gathers, Breaks};
 
+use crate::digits::write_number;
 use io_edge::{Failed, Sink, write_all_of};
 use std::alloc::{AllocFailed, Global};
 use std::marker::Model;
@@ -69,6 +71,33 @@ impl<S: Sink> Blocks<S> {
         let end = self.len + bytes.len();
         self.bytes[self.len..end].copy_from_slice(bytes);
         self.len = end;
+    }
+
+    /// Whether so many bytes would not come to a block.
+    #[inline(always)]
+    pub(crate) fn has_room(&self, count: usize) -> bool
+        ensures { IsTrue result ↔ (length self.now.waiting + count < BLOCK) }
+    {
+        count < BLOCK - self.len
+    }
+
+    #[inline(always)]
+    pub(crate) fn push_byte(&mut self, byte: u8)
+        requires { length self.old.waiting < BLOCK }
+        ensures { self.new ≡ record { waiting = self.old.waiting ++ byte ∷ []; sink = self.old.sink } }
+    {
+        self.bytes[self.len] = byte;
+        self.len += 1;
+    }
+
+    /// Puts the digits of a number, in place: a copy of bytes just written would wait for them.
+    #[inline(always)]
+    pub(crate) fn push_number(&mut self, number: u32)
+        requires { length self.old.waiting + 10 < BLOCK }
+        ensures put { self.new ≡ record { waiting = self.old.waiting ++ decimal number; sink = self.old.sink } }
+        ensures few { length self.new.waiting ≤ length self.old.waiting + 10 }
+    {
+        self.len = write_number(self.bytes.as_mut_slice(), self.len, number);
     }
 
     /// Lets go what waits after so many bytes.

@@ -6,6 +6,7 @@
 mod binary;
 mod blocks;
 mod counted_lines;
+mod digits;
 mod groups;
 mod laws;
 mod line;
@@ -15,7 +16,6 @@ mod piece;
 mod read;
 mod sink_lines;
 mod stop;
-mod words;
 
 pub use binary::put_binary;
 pub use blocks::BLOCK;

@@ -1,10 +1,12 @@
-//! Tests of whole rings and of a ring's steps, of reduction and of vivification. They stand above these crates, so that each
-//! of these is proved once.
+//! Tests of whole rings and of a ring's steps, of reduction, of vivification and of probing. They stand above these crates, so
+//! that each of these is proved once.
 #![tactic(auto)]
 
 pub mod beginning;
 #[cfg(test)]
 mod crowd_runs;
+#[cfg(test)]
+mod failed_literals;
 #[cfg(test)]
 mod long_runs;
 #[cfg(test)]

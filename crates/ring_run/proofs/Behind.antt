@@ -315,7 +315,7 @@ behind_lemma s u old x new conflict lits back glue limit course same can lemma c
       leads = compose course s s u old between new limit (λ start p. p) (comes_leads s u between new lits back glue limit by course came port);
       more = comes_more s u between new lits back glue limit by course came;
       learns = learned_from s u between old new conflict lits back glue course
-          (record { trail = refl; watches = refl; lemmas = refl; imports = refl; last_start = refl; reductions = refl; reduced_at = refl; written = refl; decider = same; restarts = refl; learned = refl; exported = refl; offered = refl })
+          (record { trail = refl; watches = refl; lemmas = refl; imports = refl; last_start = refl; reductions = refl; reduced_at = refl; next_probe = refl; written = refl; decider = same; restarts = refl; learned = refl; exported = refl; offered = refl })
           lemma can.lemma can.counts (comes_learns s u between new lits back glue limit by course came);
       tidied = comes_tidied s u between new lits back glue limit by course came;
       listed = comes_listed s u between new lits back glue limit by course came;

@@ -82,6 +82,6 @@ module _ (s w u : PortState) (old : Ring) (r : Restarting) (due : Bool) (new : R
       waiting = waiting;
       tidied = tidied;
       left = left_alike w (asked_ring old r due) (record old { import_due = new.import_due }) new lits back address
-          (record { import_due = sym k.import_due; trail = refl; watches = refl; lemmas = refl; imports = refl; last_start = refl; reductions = refl; reduced_at = refl; written = refl; decider = refl }) left;
+          (record { import_due = sym k.import_due; trail = refl; watches = refl; lemmas = refl; imports = refl; last_start = refl; reductions = refl; reduced_at = refl; next_probe = refl; written = refl; decider = refl }) left;
     });
   }

@@ -156,6 +156,7 @@ pub record AreAlike (mid old : Ring) : Type 0 where
   pub last_start : mid.last_start ≡ old.last_start
   pub reductions : mid.reductions ≡ old.reductions
   pub reduced_at : mid.reduced_at ≡ old.reduced_at
+  pub next_probe : mid.next_probe ≡ old.next_probe
   pub written : mid.written ≡ old.written
   pub decider : mid.decider ≡ old.decider
 
@@ -166,6 +167,7 @@ lists_alike mid old new address p at = record {
   last_start = at.last_start ∙ p.last_start;
   reductions = at.reductions ∙ p.reductions;
   reduced_at = at.reduced_at ∙ p.reduced_at;
+  next_probe = at.next_probe ∙ p.next_probe;
 }
 
 saved_alike : (mid old : Ring) (k : ℕ) → AreAlike mid old → saved_above mid.decider mid.trail.steps k ≡ saved_above old.decider old.trail.steps k

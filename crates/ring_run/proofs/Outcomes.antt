@@ -44,6 +44,7 @@ pub record AreSameButBumps (between old : Ring) : Type 0 where
   pub last_start : between.last_start ≡ old.last_start
   pub reductions : between.reductions ≡ old.reductions
   pub reduced_at : between.reduced_at ≡ old.reduced_at
+  pub next_probe : between.next_probe ≡ old.next_probe
   pub written : between.written ≡ old.written
   pub decider : between.decider ≡ old.decider
   pub restarts : between.restarts ≡ old.restarts
@@ -82,7 +83,7 @@ learns_bumped s u between old new lits back glue Go b p = record {
   restarts = p.restarts ∙ ap (λ (r : Restarting). asked (noted r glue)) b.restarts;
   import_due = p.import_due ∙ ap (λ (r : Restarting). is_due (noted r glue)) b.restarts;
   left = left_alike u (record between { import_due = new.import_due }) (record old { import_due = new.import_due }) new lits back p.address
-      (record { import_due = refl; trail = b.trail; watches = b.watches; lemmas = b.lemmas; imports = b.imports; last_start = b.last_start; reductions = b.reductions; reduced_at = b.reduced_at; written = b.written; decider = b.decider })
+      (record { import_due = refl; trail = b.trail; watches = b.watches; lemmas = b.lemmas; imports = b.imports; last_start = b.last_start; reductions = b.reductions; reduced_at = b.reduced_at; next_probe = b.next_probe; written = b.written; decider = b.decider })
       p.left;
 }
 learns_bumped s u between old new lits back glue (Finish (Sat a)) b p = p

@@ -164,6 +164,7 @@ module _ (s u : PortState) (old new : Ring) (lits : List Literal) (back glue lim
           lemmas = ap (λ (r : Ring). r.lemmas.items) h.ring;
           imports = ap (λ (r : Ring). r.imports.items) h.ring;
           last_start = ap (λ (r : Ring). r.last_start) h.ring;
+          next_probe = ap (λ (r : Ring). r.next_probe) h.ring;
           reductions = ap (λ (r : Ring). r.reductions) h.ring;
           reduced_at = ap (λ (r : Ring). r.reduced_at) h.ring;
           written = ap (λ (r : Ring). r.written) h.ring;
@@ -212,7 +213,7 @@ module _ (s u : PortState) (old new : Ring) (lits : List Literal) (back glue lim
         listed_learned s m u old new lits glue address search.clauses h.shared.learned
         (wrote.stays.start ∙ ap (λ (x : PortState). x.start) lent.state)
         (wrote.recent ∙ recent_still m v ring mine)
-        (record { lemmas = lists.0.lemmas; imports = lists.0.imports; last_start = lists.0.last_start; reductions = lists.0.reductions; reduced_at = lists.0.reduced_at }) lists.1 asked_learned
+        (record { lemmas = lists.0.lemmas; imports = lists.0.imports; last_start = lists.0.last_start; reductions = lists.0.reductions; reduced_at = lists.0.reduced_at; next_probe = lists.0.next_probe }) lists.1 asked_learned
         h.kept alike (grown_then m v u (grown_none m v mine) wrote.grown) (wrote.reduced ∙ reductions_still m v ring mine)
         (λ long. (glue_bounds old.trail.steps lits glue counts long).0) q
 

@@ -75,13 +75,15 @@ pub record CanAssert (t : TrailData) (lits : List Literal) (back : ℕ) : Type 0
   pub on : first.var ≤ t.vars
   pub free : (v : TrailData) → WentBack t v back → HasNoPlace v.steps first.var
 
--- the clause joins the lemmas if it has an address, and no import is listed or left out; no reduction is counted
+-- the clause joins the lemmas if it has an address, and no import is listed or left out; no reduction is counted, and probing goes on where it
+-- would have
 pub record Lists (old new : Ring) (address : Option Cref) : Type 0 where
   pub lemmas : new.lemmas.items ≡ old.lemmas.items ++ option_to_list address
   pub imports : new.imports.items ≡ old.imports.items
   pub last_start : new.last_start ≡ old.last_start
   pub reductions : new.reductions ≡ old.reductions
   pub reduced_at : new.reduced_at ≡ old.reduced_at
+  pub next_probe : new.next_probe ≡ old.next_probe
 
 -- the trail went back, the values lost were saved, the clause was attached if it has an address, and the first literal was
 -- made true

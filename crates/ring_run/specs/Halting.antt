@@ -1,25 +1,28 @@
 -- How a search comes to an end that is no model, no limit of lemmas and no stop of another: what was done before its last call.
-use Rattle.std.specs.Prelude.{◌≡◌, ◌⊎◌, ℕ, ◌+◌, List, [], ◌∷◌, ◌++◌, drop, All, Contains, None}
-use Rattle.sat_words.specs.Literal.{Literal}
+use Rattle.std.specs.Prelude.{◌≡◌, ◌⊎◌, ℕ, zero, suc, ◌+◌, List, [], ◌∷◌, ◌++◌, drop, All, Contains, None}
+use Rattle.sat_words.specs.Literal.{Literal, literal_of}
 use Rattle.sat_words.specs.declared.shared.Cref.{Cref}
 use Rattle.ring_port.specs.PortState.{PortState, one_more}
 use Rattle.ring_port.specs.Deleting.{TidiedSome}
 use Rattle.ring_port.specs.Reducing.{NotedReduce}
 use Rattle.ring_port.specs.declared.stops.PortStop.{PortStop}
 use Rattle.ring_trail.specs.declared.step.TrailStep.{TrailStep}
-use Rattle.ring_trail.specs.TrailData.{TrailData, HasGrown, assigned}
+use Rattle.ring_trail.specs.TrailData.{TrailData, HasGrown, HasNoPlace, assigned}
+use Rattle.watch_prop.specs.WatchData.{WatchData}
 use Rattle.reduce_db.specs.Lemmas.{AreToldApart}
 use Rattle.reduce_db.specs.Dropping.{DroppedAll}
 use Rattle.reduce_db.specs.Reduction.{IsFrontOfChoice}
 use Rattle.vivify.specs.Outcome.{IsVivified, WasCutShort}
 use Rattle.vivify.specs.declared.shorten.Vivified.TheVariants.{Unit}
+use Rattle.ring_probe.specs.Outcome.{IsProbed, WasCutShort as ProbeWasCutShort}
+use Rattle.ring_probe.specs.declared.probe.Probed.TheVariants as came_of
 use Rattle.ring_run.specs.Ended.{import_slots}
 use Rattle.ring_run.specs.Searching.{OpeningSeen, OnlySaw, OnlyPolled}
 use Rattle.ring_run.specs.Ending.{EndsRefused, WroteEmpty, HaltsTelling, end_refused}
 use Rattle.ring_run.specs.Course.{last_start}
-use Rattle.ring_run.specs.Renewal.{Point, point, IsDue, HasReducedLemmas, HasReduced, IsNamed, TookEach, TookAll, HasShrunk, IsIdle, PolledSome}
+use Rattle.ring_run.specs.Renewal.{Point, point, IsDue, HasReducedLemmas, HasReduced, IsNamed, TookEach, most_probes, round_from, HasValue, WasProbed, HasVivified, HasProbed, HasShrunk, IsIdle, PolledSome}
 use Rattle.ring_run.specs.declared.job.End.{End}
-use Rattle.ring_run.specs.declared.job.End.TheVariants.{Memory}
+use Rattle.ring_run.specs.declared.job.End.TheVariants.{Refuted, Memory}
 use Rattle.ring_run.specs.declared.ring.Ring.{Ring}
 
 -- Reductions
@@ -87,19 +90,59 @@ pub record HaltsVivifying (p : Point) (u : PortState) (lemmas : List Cref) (end 
   pub parts : lemmas ≡ done ++ lemma ∷ later
   pub halts : HaltsAtLemma between u lemma end
 
--- all lemmas had their turns, and then the deletion of a clause that waited was refused
+-- Probing
+
+-- the literal failed, and then the line of a unit that is true was refused
+pub record HaltsBehindProbe (p : Point) (u : PortState) (l : Literal) (end : End) : Type 0 where
+  pub lit : Literal
+  pub between : Point
+  pub probed : IsProbed p.port between.port p.watches between.watches p.trail between.trail l (came_of.Unit lit)
+  pub telling : HaltsTelling between.port u between.trail.steps end
+
+-- the literal failed, and so did its negation: the empty clause was written
+pub record RefutesAtProbe (p : Point) (u : PortState) (l : Literal) (end : End) : Type 0 where
+  pub watches : WatchData
+  pub trail : TrailData
+  pub probed : IsProbed p.port u p.watches watches p.trail trail l came_of.Empty
+  pub over : end ≡ Refuted
+
+-- a probe was cut short, or it refuted the clauses, or the lines after it were cut short
+abbrev pub HaltsAtProbe : Point → PortState → Literal → End → Type 0
+HaltsAtProbe p u l end = ((stop : PortStop) × ProbeWasCutShort p.port u p.watches p.trail l stop × (end ≡ end_refused stop)) ⊎ (RefutesAtProbe p u l end ⊎ HaltsBehindProbe p u l end)
+
+-- the literals of these codes had their turns, one after the other and so many at most that were probed, and the probe of one came to the
+-- end
+abbrev pub HaltsProbing : Point → PortState → (most : ℕ) → (codes : List ℕ) → End → Type 0
+HaltsProbing p u zero codes end = ⊥
+HaltsProbing p u (suc most) [] end = ⊥
+HaltsProbing p u (suc most) (c ∷ codes) end =
+    (HasValue p.trail.steps (literal_of c) × HaltsProbing p u (suc most) codes end)
+    ⊎ (HasNoPlace p.trail.steps (literal_of c).var × (HaltsAtProbe p u (literal_of c) end ⊎ ((between : Point) × WasProbed p between (literal_of c) × HaltsProbing between u most codes end)))
+
+-- so it was once round at most, from where probing was to go on
+abbrev pub HaltsInRound : Point → PortState → (code : ℕ) → End → Type 0
+HaltsInRound p u code end = HaltsProbing p u most_probes (round_from p.trail.vars code) end
+
+-- literals were probed, and then the deletion of a clause that waited was refused
 pub record HaltsShrunk (s u : PortState) (ring : Ring) (end : End) : Type 0 where
   pub port : PortState
   pub after : Ring
-  pub vivified : TookAll (point s ring) (point port after) ring.lemmas.items after.lemmas.items
+  pub probed : HasProbed s port ring after
   pub stop : PortStop
   pub deleting : TidiedSome port u stop
   pub over : end ≡ end_refused stop
 
--- the reduction was cut short; or lemmas and imports were reduced, and then vivification or the deletions were
+-- all lemmas had their turns, and then probing came to the end, or the deletions after it did
+pub record HaltsVivified (s u : PortState) (ring : Ring) (end : End) : Type 0 where
+  pub port : PortState
+  pub after : Ring
+  pub vivified : HasVivified s port ring after
+  pub halts : HaltsInRound (point port after) u after.next_probe end ⊎ HaltsShrunk port u after end
+
+-- the reduction was cut short; or lemmas and imports were reduced, and then vivification was, or what comes after it
 abbrev pub HaltsShrinking : PortState → PortState → Ring → End → Type 0
 HaltsShrinking s u before end =
-    HaltsReducing s u before end ⊎ ((dropped : PortState) × (between : Ring) × HasReduced s dropped before between × (HaltsVivifying (point dropped between) u between.lemmas.items end ⊎ HaltsShrunk dropped u between end))
+    HaltsReducing s u before end ⊎ ((dropped : PortState) × (between : Ring) × HasReduced s dropped before between × (HaltsVivifying (point dropped between) u between.lemmas.items end ⊎ HaltsVivified dropped u between end))
 
 -- Imports
 
@@ -120,13 +163,13 @@ pub record HaltsImporting (s u : PortState) (end : End) : Type 0 where
 
 -- Both
 
--- the lemmas were reduced and vivified if that was due, and else nothing was done; then the import came to the end
+-- the lemmas were reduced and vivified and literals probed if that was due, and else nothing was done; then the import came to the end
 pub record HaltsRenewed (s u : PortState) (before : Ring) (end : End) : Type 0 where
   pub middle : PortState
   pub ring : Ring
   pub shrunk : (IsDue before × HasShrunk s middle before ring) ⊎ ((IsDue before → ⊥) × IsIdle s middle before ring)
   pub importing : HaltsImporting middle u end
 
--- a reduction was due and it or vivification was cut short, or the import was
+-- a reduction was due and it, vivification or probing came to the end, or the import did
 abbrev pub HaltsRenewing : PortState → PortState → Ring → End → Type 0
 HaltsRenewing s u before end = (IsDue before × HaltsShrinking s u before end) ⊎ HaltsRenewed s u before end

@@ -1,13 +1,15 @@
--- What a ring does after a restart: it reduces its lemmas, makes some shorter, and imports.
-use Rattle.std.specs.Prelude.{◌≡◌, ℕ, ◌+◌, ◌-◌, ◌<◌, ◌≤◌, ◌⊎◌, true, false, List, [], ◌∷◌, ◌++◌, map, take, drop, length, sum, All, Contains, None, IsSome, ◌≢◌, ⊤}
-use Rattle.sat_words.specs.Literal.{Literal}
+-- What a ring does after a restart: it reduces its lemmas, makes some shorter, probes literals, and imports.
+use Rattle.std.specs.Prelude.{◌≡◌, ℕ, zero, suc, ◌+◌, ◌-◌, ◌*◌, ◌<◌, ◌≤◌, ◌⊎◌, true, false, nat_le, nat_lt, List, [], ◌∷◌, ◌++◌, map, filter, take, drop, length, sum, All, Contains, None, IsSome, ◌≢◌, ⊤}
+use Rattle.std.specs.List.{range_with_len}
+use Rattle.sat_words.specs.Literal.{Literal, literal_of}
 use Rattle.sat_words.specs.Clause.{has}
 use Rattle.sat_words.specs.declared.shared.Cref.{Cref}
 use Rattle.rup_model.specs.Journal.{recent}
 use Rattle.ring_port.specs.PortState.{PortState, Holding, Slot, held_at, lits_at, one_more}
 use Rattle.ring_port.specs.Deleting.{TidiedUpTo}
 use Rattle.ring_port.specs.Reducing.{NotedReduce}
-use Rattle.ring_trail.specs.TrailData.{TrailData, IsTrail, HasGrown, HasNoPlace, IsTrueOn, assigned, reason_at}
+use Rattle.ring_trail.specs.declared.step.TrailStep.{TrailStep}
+use Rattle.ring_trail.specs.TrailData.{TrailData, IsTrail, HasGrown, HasNoPlace, IsTrueOn, IsFalseOn, assigned, reason_at}
 use Rattle.watch_prop.specs.WatchData.{WatchData, attached}
 use Rattle.watch_prop.specs.Propagation.{IsQuiet}
 use Rattle.reduce_db.specs.Moment.{lemmas_before}
@@ -16,6 +18,9 @@ use Rattle.reduce_db.specs.Reduction.{WasReduced}
 use Rattle.vivify.specs.Outcome.{glue_at, IsVivified}
 use Rattle.vivify.specs.declared.shorten.Vivified.{Vivified}
 use Rattle.vivify.specs.declared.shorten.Vivified.TheVariants.{Kept, Shorter, Unit, Empty}
+use Rattle.ring_probe.specs.Outcome.{IsProbed}
+use Rattle.ring_probe.specs.declared.probe.Probed.{Probed}
+use Rattle.ring_probe.specs.declared.probe.Probed.TheVariants as came_of
 use Rattle.ring_run.specs.Ended.{IsHalted, import_slots, LookedAlong, last_looks, reductions}
 use Rattle.ring_run.specs.Searching.{OpeningSeen, Stands, OnlySaw, OnlyPolled, OnlyWrote, ToldUnits, HasTold, HasGrownLog, AreTold, SeenTrue, SeesFixed}
 use Rattle.ring_run.specs.Ending.{EndsAt, IsRefusal}
@@ -152,6 +157,55 @@ pub record TookPlace (p q : Point) (before after : List Cref) (place next : ℕ)
   pub rest : drop next after ≡ drop (place + 1) before ++ behind left
   pub short : next ≤ length after
 
+-- Probing
+
+-- how many literals are probed at most
+abbrev pub most_probes : ℕ
+most_probes = 1000
+
+-- the codes of the literals on so many variables: those from this code on, and then those below it
+abbrev pub round_from : (vars code : ℕ) → List ℕ
+round_from vars code = filter (λ c. nat_le code c) (range_with_len 2 (2 * vars)) ++ filter (λ c. nat_lt c code) (range_with_len 2 (2 * vars))
+
+-- the literal is true or false
+abbrev pub HasValue : List TrailStep → Literal → Type 0
+HasValue steps l = IsTrueOn steps l ⊎ IsFalseOn steps l
+
+-- lines of units were written until each literal of the trail is known, and no other unit is; nothing else was done
+pub record HasToldAll (p q : Point) : Type 0 where
+  pub lines : OnlyWrote p.port q.port
+  pub units : ToldUnits p.port q.port
+  pub told : AreTold q.port p.trail (length p.trail.steps)
+  pub alone : SeenTrue q.port p.trail.steps
+  pub same : q ≡ record p { port = q.port }
+
+-- what comes after a probe: the lines of what became true, if the literal failed, and else nothing
+abbrev pub HasSettled : Point → Point → Probed → Type 0
+HasSettled p q came_of.Holds = q ≡ p
+HasSettled p q (came_of.Unit l) = HasToldAll p q
+HasSettled p q came_of.Empty = ⊥
+
+-- the literal was probed
+pub record WasProbed (p q : Point) (l : Literal) : Type 0 where
+  pub outcome : Probed
+  pub between : Point
+  pub probed : IsProbed p.port between.port p.watches between.watches p.trail between.trail l outcome
+  pub same_clauses : attached between.watches ≡ attached p.watches
+  pub after : HasSettled between q outcome
+
+-- the literals of these codes had their turns, one after the other: one without a value was probed, and another passed over, until so
+-- many were probed; probing goes on at the code after the last of these
+abbrev pub ProbedEach : Point → Point → (most : ℕ) → (codes : List ℕ) → (code next : ℕ) → Type 0
+ProbedEach p q zero codes code next = (q ≡ p) × (next ≡ code)
+ProbedEach p q (suc most) [] code next = (q ≡ p) × (next ≡ code)
+ProbedEach p q (suc most) (c ∷ codes) code next =
+    (HasValue p.trail.steps (literal_of c) × ProbedEach p q (suc most) codes (c + 1) next)
+    ⊎ (HasNoPlace p.trail.steps (literal_of c).var × ((between : Point) × WasProbed p between (literal_of c) × ProbedEach between q most codes (c + 1) next))
+
+-- literals without a value were probed by code: from where probing was to go on, then from the least one, and at most once round
+abbrev pub ProbedRound : Point → Point → (code next : ℕ) → Type 0
+ProbedRound p q code next = ProbedEach p q most_probes (round_from p.trail.vars code) code next
+
 -- What holds meanwhile
 
 -- the ring rests at level 0: nothing is left to propagate, each literal is known, and nothing that was learned or taken has to
@@ -218,18 +272,30 @@ IsLeft s u w c Gone = ⊤
 
 -- Both
 
--- the lemmas were reduced, those left had their turns in the order of their lines, and then all clauses that waited were deleted; nothing
--- else of the ring changed
+-- the lemmas listed had their turns, and nothing else of the ring changed
+pub record HasVivified (old new : PortState) (before after : Ring) : Type 0 where
+  pub took : TookAll (point old before) (point new after) before.lemmas.items after.lemmas.items
+  pub same : after ≡ record before { trail = after.trail; watches = after.watches; written = after.written; lemmas = after.lemmas }
+
+-- literals were probed, and nothing else of the ring changed
+pub record HasProbed (old new : PortState) (before after : Ring) : Type 0 where
+  pub round : ProbedRound (point old before) (point new after) before.next_probe after.next_probe
+  pub same : after ≡ record before { trail = after.trail; watches = after.watches; written = after.written; next_probe = after.next_probe }
+
+-- the lemmas were reduced, those left had their turns in the order of their lines, then literals were probed, and then all clauses that
+-- waited were deleted; nothing else of the ring changed
 pub record HasShrunk (old new : PortState) (before after : Ring) : Type 0 where
   pub dropped : PortState
   pub between : Ring
   pub reduced : HasReduced old dropped before between
   pub reduced_ring : between ≡ record before { watches = between.watches; lemmas = between.lemmas; imports = between.imports; reductions = between.reductions; reduced_at = between.reduced_at }
-  pub vivified_port : PortState
   pub ordered : AreOrdered dropped between.lemmas.items
-  pub vivified : TookAll (point dropped between) (point vivified_port after) between.lemmas.items after.lemmas.items
-  pub same : after ≡ record between { trail = after.trail; watches = after.watches; written = after.written; lemmas = after.lemmas }
-  pub lines : TidiedUpTo vivified_port new (length vivified_port.waiting)
+  pub vivified_port : PortState
+  pub vivified_ring : Ring
+  pub vivified : HasVivified dropped vivified_port between vivified_ring
+  pub probed_port : PortState
+  pub probed : HasProbed vivified_port probed_port vivified_ring after
+  pub lines : TidiedUpTo probed_port new (length probed_port.waiting)
 
 -- nothing was done
 pub record IsIdle (old new : PortState) (before after : Ring) : Type 0 where
@@ -274,8 +340,8 @@ pub record TookImport (old new : PortState) (before after : Ring) : Type 0 where
   pub level : after.trail.level ≡ 0
   pub same : after ≡ record before { trail = after.trail; watches = after.watches; imports = after.imports; import_due = false }
 
--- after a restart the lemmas were reduced and vivified where that was due, and nothing was done where it was not; then the ring
--- imported
+-- after a restart the lemmas were reduced and vivified and literals probed where that was due, and nothing was done where it was not; then
+-- the ring imported
 pub record HasRenewed (old new : PortState) (before after : Ring) : Type 0 where
   pub due : IsDue before → (middle : PortState) × (ring : Ring) × HasShrunk old middle before ring × TookImport middle new ring after
   pub early : before.learned - before.reduced_at < lemmas_before (before.reductions + 1) → TookImport old new before after

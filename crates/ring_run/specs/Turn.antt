@@ -171,7 +171,7 @@ Searched job s u old new end =
 -- Runs
 
 -- the ring that a job begins with: nothing has a value, the start clauses are attached, the first phases come of the seed and the
--- ring's number, nothing was learned, listed, told or offered, and the import at the start is yet to be
+-- ring's number, nothing was learned, listed, told or offered, the import at the start is yet to be, and probing begins with the least code
 pub record IsFirstRing (s : PortState) (job : Job) (ring : Ring) : Type 0 where
   pub trail : ring.trail ≡ record { vars = job.vars; level = 0; steps = []; done = 0 }
   pub clauses : attached ring.watches ≡ job.start
@@ -189,6 +189,7 @@ pub record IsFirstRing (s : PortState) (job : Job) (ring : Ring) : Type 0 where
   pub offered : ring.offered ≡ 0
   pub place : ring.place ≡ record { ring = job.ring; rings = job.rings }
   pub import_due : ring.import_due ≡ true
+  pub next_probe : ring.next_probe ≡ 2
 
 -- a run of a job is a search that begins with such a ring, and counts what that has counted at last; if there was no memory for a
 -- ring nothing was done

@@ -43,6 +43,8 @@ pub(crate) struct Ring {
     pub reductions: u64,
     /// How many lemmas were learned when it last did.
     pub reduced_at: u64,
+    /// The code of the literal with which probing goes on. If no literal on the variables has it, probing begins with the least code.
+    pub next_probe: u32,
     /// How many of the first literals at level 0 have their lines.
     pub written: u32,
     /// Which variable is decided next, and how.

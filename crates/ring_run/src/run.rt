@@ -16,6 +16,7 @@ ghost use Rattle.ring_run.specs.Turn.{RanJob, HasRun};
 ghost use Rattle.sat_words.specs.declared.shared.Stop.{Stop};
 
 use crate::job::{Counts, End, Job};
+use crate::probing::LEAST_CODE;
 use crate::ring::{Place, Ring};
 use crate::search::search;
 use crate::variables::active_of;
@@ -191,6 +192,7 @@ pub(crate) fn make_ring<P: Port>(alloc: Global, port: &mut P, job: &Job) -> Resu
     ensures restarts { IfOk result (λ ring. ring.restarts ≡ begun (job.now.ring % 2 == 1)) }
     ensures place { IfOk result (λ ring. ring.place ≡ record { ring = job.now.ring; rings = job.now.rings }) }
     ensures import_due { IfOk result (λ ring. ring.import_due ≡ true) }
+    ensures next_probe { IfOk result (λ ring. ring.next_probe ≡ 2) }
 {
     let trail = Trail::new(alloc, job.vars)?;
     let mut watches = Watches::new(alloc, job.vars)?;
@@ -213,6 +215,7 @@ pub(crate) fn make_ring<P: Port>(alloc: Global, port: &mut P, job: &Job) -> Resu
         last_start,
         reductions: 0,
         reduced_at: 0,
+        next_probe: LEAST_CODE,
         written: 0,
         decider,
         restarts,

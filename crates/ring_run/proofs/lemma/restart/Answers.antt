@@ -20,6 +20,7 @@ returns-clause-restarted g c =
         last_start = ap (λ (r : Ring). r.last_start) c.go_back.ensures.same;
         reductions = ap (λ (r : Ring). r.reductions) c.go_back.ensures.same;
         reduced_at = ap (λ (r : Ring). r.reduced_at) c.go_back.ensures.same;
+        next_probe = ap (λ (r : Ring). r.next_probe) c.go_back.ensures.same;
       };
       written = ap (λ (r : Ring). r.written) c.go_back.ensures.same;
       watched = λ t w. c.in_ok-attach_lemma.ensures.watched t (subst (λ (x : WatchData). Watched x (lits_at s) t) (sym same) w);

@@ -200,6 +200,7 @@ returns-clause-ran g c =
         offered = made.none.1;
         place = made.place;
         import_due = made.import_due;
+        next_probe = made.next_probe;
       },
       subst (λ (x : PortState). Searched c.args.job.now x u first last c.search-end.result) made.same c.search-end.ensures.searched,
       c.counts_of.ensures.learned,

@@ -36,6 +36,8 @@ pub mod Turns
 pub mod Shrinking
 pub mod Halted
 pub mod LeftBehind
+pub mod Codes
+pub mod Probing
 pub mod ReducedImports
 pub mod Models
 pub mod WalkLemmas

@@ -29,7 +29,7 @@ use Rattle.watch_prop.specs.Propagation.{HasReasons, IsQuiet, IsConflict, attach
 use Rattle.watch_prop.proofs.TrailLaws.{Watched-assign, Reasons-held}
 use Rattle.watch_prop.proofs.DetachingLaws.{without-others}
 use Rattle.vivify.specs.Walking.{IsNoReason}
-use Rattle.ring_run.specs.Searching.{IsHeldBy, HasClauses, OpeningSeen, UnitsSeen}
+use Rattle.ring_run.specs.Searching.{IsHeldBy, HasClauses, OpeningSeen, UnitsSeen, Stands, AreTold}
 use Rattle.ring_run.specs.Course.{Searches, MayImport}
 use Rattle.ring_run.specs.Renewal.{IsResting}
 use Rattle.ring_run.specs.declared.ring.Ring.{Ring}
@@ -175,27 +175,40 @@ module _ (s u : PortState) (t : TrailData) (v w : WatchData) (n : ℕ) (p : Sear
   }
 
   -- after a unit, once it is true
-  pub search_unit : (l : Literal) → Sees s.seen u.seen l → HasNoPlace t.steps l.var → IsTrail (assigned t l None) → Searches u (assigned t l None) w n
-  search_unit l sees free shape =
-      let x : TrailStep = record { lit = l; level = t.level; reason = None } in
-      let more : HasReasons (attached w) u (assigned t l None).steps = IsReasoned-seen (attached_at (attached w) u) u.seen t l None reasons level (sees_new s.seen u.seen l sees) in
-      record {
-        clauses = clauses;
-        opening = λ k h. sees_old s.seen u.seen l k sees (p.opening k (ap (λ (ls : List Literal). has ls k) (sym opening) ∙ h));
-        stands = record {
+  module _ (l : Literal) (sees : Sees s.seen u.seen l) where
+    unit_reasons : HasReasons (attached w) u (assigned t l None).steps
+    unit_reasons = IsReasoned-seen (attached_at (attached w) u) u.seen t l None reasons level (sees_new s.seen u.seen l sees)
+
+    pub unit_opening : OpeningSeen u
+    unit_opening k h = sees_old s.seen u.seen l k sees (p.opening k (ap (λ (ls : List Literal). has ls k) (sym opening) ∙ h))
+
+    pub unit_stands : Stands u (assigned t l None)
+    unit_stands =
+        let x : TrailStep = record { lit = l; level = t.level; reason = None } in
+        record {
           vars = p.stands.vars ∙ sym vars;
-          reasoned = Reasons-held (attached w) u (assigned t l None).steps more;
+          reasoned = Reasons-held (attached w) u (assigned t l None).steps unit_reasons;
           seen = λ k h. elim (or_cases (has s.seen k) (same l k) (sym (sees k) ∙ h)) as (λ _. TrueWithin (t.steps ++ x ∷ []) 0 k) [
             | inl old ↦ within_more t.steps (x ∷ []) 0 k (p.stands.seen k old)
             | inr e ↦ subst (TrueWithin (t.steps ++ x ∷ []) 0) (same-true l k e) (within_last t.steps x 0 (omega (arith, level)))
           ];
-        };
-        trail = shape;
-        watched = Watched-assign w (lits_at u) t l None p.trail watched;
-        closed = λ k below. absurd (omega (arith, level, below));
-        reasons = more;
-        told = told_step u t (assigned t l None) x n refl (told_unit s u t n l sees free p.told) (λ none. absurd (false≢true none)) (λ up. absurd (omega (arith, up, level))) (λ up. up);
-      }
+        }
+
+    pub unit_told : HasNoPlace t.steps l.var → AreTold u (assigned t l None) n
+    unit_told free =
+        told_step u t (assigned t l None) (record { lit = l; level = t.level; reason = None }) n refl (told_unit s u t n l sees free p.told) (λ none. absurd (false≢true none)) (λ up. absurd (omega (arith, up, level))) (λ up. up)
+
+    pub search_unit : HasNoPlace t.steps l.var → IsTrail (assigned t l None) → Searches u (assigned t l None) w n
+    search_unit free shape = record {
+      clauses = clauses;
+      opening = unit_opening;
+      stands = unit_stands;
+      trail = shape;
+      watched = Watched-assign w (lits_at u) t l None p.trail watched;
+      closed = λ k below. absurd (omega (arith, level, below));
+      reasons = unit_reasons;
+      told = unit_told free;
+    }
 
 -- a clause that is false at level 0 refutes what is held and seen
 pub conflict_refutes : (s : PortState) (t : TrailData) (w x : WatchData) (n : ℕ) (c : Cref) → Searches s t w n → t.level ≡ 0 → IsConflict x (lits_at s) t c → attached x ≡ attached w → rup (known s) [] ≡ true

@@ -8,7 +8,7 @@ use Rattle.ring_port.specs.Reducing.{NotedReduce}
 use Rattle.ring_port.specs.declared.stops.PortStop.{PortStop}
 use Rattle.ring_trail.specs.declared.step.TrailStep.{TrailStep}
 use Rattle.ring_trail.specs.TrailData.{TrailData, HasGrown, HasNoPlace, assigned}
-use Rattle.watch_prop.specs.WatchData.{WatchData}
+use Rattle.watch_prop.specs.WatchData.{WatchData, attached}
 use Rattle.reduce_db.specs.Lemmas.{AreToldApart}
 use Rattle.reduce_db.specs.Dropping.{DroppedAll}
 use Rattle.reduce_db.specs.Reduction.{IsFrontOfChoice}
@@ -96,19 +96,23 @@ pub record HaltsVivifying (p : Point) (u : PortState) (lemmas : List Cref) (end 
 pub record HaltsBehindProbe (p : Point) (u : PortState) (l : Literal) (end : End) : Type 0 where
   pub lit : Literal
   pub between : Point
-  pub probed : IsProbed p.port between.port p.watches between.watches p.trail between.trail l (came_of.Unit lit)
+  pub probed : IsProbed p.port between.port (attached p.watches) between.watches p.trail between.trail l (came_of.Unit lit)
   pub telling : HaltsTelling between.port u between.trail.steps end
 
 -- the literal failed, and so did its negation: the empty clause was written
 pub record RefutesAtProbe (p : Point) (u : PortState) (l : Literal) (end : End) : Type 0 where
   pub watches : WatchData
   pub trail : TrailData
-  pub probed : IsProbed p.port u p.watches watches p.trail trail l came_of.Empty
+  pub probed : IsProbed p.port u (attached p.watches) watches p.trail trail l came_of.Empty
   pub over : end ≡ Refuted
 
 -- a probe was cut short, or it refuted the clauses, or the lines after it were cut short
 abbrev pub HaltsAtProbe : Point → PortState → Literal → End → Type 0
-HaltsAtProbe p u l end = ((stop : PortStop) × ProbeWasCutShort p.port u p.watches p.trail l stop × (end ≡ end_refused stop)) ⊎ (RefutesAtProbe p u l end ⊎ HaltsBehindProbe p u l end)
+HaltsAtProbe p u l end = ((stop : PortStop) × ProbeWasCutShort p.port u (attached p.watches) p.trail l stop × (end ≡ end_refused stop)) ⊎ (RefutesAtProbe p u l end ⊎ HaltsBehindProbe p u l end)
+
+-- a code's literal has no value, and its probe came to the end
+abbrev pub HaltsAtCode : Point → PortState → (code : ℕ) → End → Type 0
+HaltsAtCode p u c end = HasNoPlace p.trail.steps (literal_of c).var × HaltsAtProbe p u (literal_of c) end
 
 -- the literals of these codes had their turns, one after the other and so many at most that were probed, and the probe of one came to the
 -- end
@@ -117,7 +121,7 @@ HaltsProbing p u zero codes end = ⊥
 HaltsProbing p u (suc most) [] end = ⊥
 HaltsProbing p u (suc most) (c ∷ codes) end =
     (HasValue p.trail.steps (literal_of c) × HaltsProbing p u (suc most) codes end)
-    ⊎ (HasNoPlace p.trail.steps (literal_of c).var × (HaltsAtProbe p u (literal_of c) end ⊎ ((between : Point) × WasProbed p between (literal_of c) × HaltsProbing between u most codes end)))
+    ⊎ (HaltsAtCode p u c end ⊎ (HasNoPlace p.trail.steps (literal_of c).var × ((between : Point) × WasProbed p between (literal_of c) × HaltsProbing between u most codes end)))
 
 -- so it was once round at most, from where probing was to go on
 abbrev pub HaltsInRound : Point → PortState → (code : ℕ) → End → Type 0

@@ -1,5 +1,5 @@
 -- What a ring does after a restart: it reduces its lemmas, makes some shorter, probes literals, and imports.
-use Rattle.std.specs.Prelude.{◌≡◌, ℕ, zero, suc, ◌+◌, ◌-◌, ◌*◌, ◌<◌, ◌≤◌, ◌⊎◌, true, false, nat_le, nat_lt, List, [], ◌∷◌, ◌++◌, map, filter, take, drop, length, sum, All, Contains, None, IsSome, ◌≢◌, ⊤}
+use Rattle.std.specs.Prelude.{◌≡◌, ℕ, zero, suc, ◌+◌, ◌-◌, ◌*◌, ◌<◌, ◌≤◌, ◌⊎◌, true, false, nat_le, nat_lt, ◌&&◌, if◌then◌else◌, List, [], ◌∷◌, ◌++◌, map, filter, take, drop, length, sum, All, Contains, None, IsSome, ◌≢◌, ⊤}
 use Rattle.std.specs.List.{range_with_len}
 use Rattle.sat_words.specs.Literal.{Literal, literal_of}
 use Rattle.sat_words.specs.Clause.{has}
@@ -189,7 +189,7 @@ HasSettled p q came_of.Empty = ⊥
 pub record WasProbed (p q : Point) (l : Literal) : Type 0 where
   pub outcome : Probed
   pub between : Point
-  pub probed : IsProbed p.port between.port p.watches between.watches p.trail between.trail l outcome
+  pub probed : IsProbed p.port between.port (attached p.watches) between.watches p.trail between.trail l outcome
   pub same_clauses : attached between.watches ≡ attached p.watches
   pub after : HasSettled between q outcome
 
@@ -235,6 +235,15 @@ LeftBehind s ring Kept = IsResting s ring
 LeftBehind s ring (Shorter d) = IsResting s ring
 LeftBehind s ring (Unit l) = AwaitsUnit s ring l
 LeftBehind s ring Empty = ⊥
+
+-- this code if a literal on the variables has it, and else the least one
+abbrev pub code_on : (vars code : ℕ) → ℕ
+code_on vars code = if nat_le 2 code && nat_le code (2 * vars + 1) then code else 2
+
+-- a code's literal had its turn: it has a value, and nothing was done; or it was probed, so that one literal less may be
+abbrev pub TookCode : Point → Point → (code left rest : ℕ) → Type 0
+TookCode p q c left rest =
+    (HasValue p.trail.steps (literal_of c) × (q ≡ p) × (rest ≡ left)) ⊎ (HasNoPlace p.trail.steps (literal_of c).var × WasProbed p q (literal_of c) × (left ≡ rest + 1))
 
 -- it comes to an end that is no model, no limit of lemmas and no stop of another, and takes no look
 pub record HaltsAt (old new : PortState) (end : End) : Type 0 where

@@ -4,8 +4,8 @@
 //! clause of the first unique implication point, goes back to where that forces its first literal, and makes this true; or it
 //! restarts, and goes back to level 0. Where nothing is left to propagate it decides a variable of the start clauses without a
 //! value. A conflict without decisions refutes the clauses, and where each of these variables has a value there is a model.
-//! The clauses that it started with or learned are propagated by two watched literals. Behind a restart it gives up lemmas
-//! of great glue, and vivifies those of small glue.
+//! The clauses that it started with or learned are propagated by two watched literals. After a restart it gives up lemmas
+//! of great glue, vivifies those of small glue, and probes literals without a value.
 #![tactic(auto)]
 
 mod course;
@@ -13,6 +13,7 @@ mod decision;
 mod imports;
 mod job;
 mod lemma;
+mod probing;
 mod reduction;
 mod ring;
 mod run;
@@ -23,4 +24,5 @@ mod vivification;
 mod walking;
 
 pub use job::{Addresses, Counts, End, Job};
+pub use probing::PROBES;
 pub use run::run_ring;

@@ -1,4 +1,5 @@
-// If a restart was made: the ring gives up lemmas and imports if that is due, makes other lemmas shorter, and then imports.
+// If a restart was made: the ring gives up lemmas and imports if that is due, makes other lemmas shorter, probes literals, and then
+// imports.
 ghost use Rattle.std.specs.Prelude.{◌≡◌, ◌<◌, ◌≤◌, ◌+◌, ◌-◌, ◌^◌, ℕ, [], true, false, length, OnOk, IfErr};
 ghost use Rattle.reduce_db.specs.Moment.{lemmas_before};
 ghost use Rattle.ring_port.specs.PortState.{IsPort, lits_at};
@@ -14,6 +15,7 @@ use crate::course::{Next, end_refused};
 use crate::imports::import;
 use crate::job::End;
 use crate::lemma::tidy_up;
+use crate::probing::probe_literals;
 use crate::ring::Ring;
 use crate::vivification::vivify_lemmas;
 use reduce_db::{due, reduce, tell_apart};
@@ -132,7 +134,7 @@ fn reduce_both<P: Port>(alloc: Global, port: &mut P, ring: &mut Ring) -> Result<
     Ok(())
 }
 
-/// Reduces lemmas and imports, gives the lemmas that are left their turns to be vivified, and writes the deletion lines.
+/// Reduces lemmas and imports, gives the lemmas that are left their turns to be vivified, probes literals, and writes the deletion lines.
 fn shrink_lemmas<P: Port>(alloc: Global, port: &mut P, ring: &mut Ring) -> Result<(), End>
     requires import { MayImport (P.state port.old) ring.old.trail ring.old.watches ring.old.written }
     requires quiet { IsQuiet ring.old.watches (lits_at (P.state port.old)) ring.old.trail }
@@ -149,7 +151,7 @@ fn shrink_lemmas<P: Port>(alloc: Global, port: &mut P, ring: &mut Ring) -> Resul
     ensures tidied { OnOk result ((P.state port.new).waiting ≡ []) }
     ensures in_time { OnOk result (IsInTime (P.state port.new) 0) }
     ensures steps { OnOk result (length ring.old.trail.steps ≤ length ring.new.trail.steps) }
-    ensures same { ring.new ≡ record ring.old { trail = ring.new.trail; watches = ring.new.watches; written = ring.new.written; lemmas = ring.new.lemmas; imports = ring.new.imports; reductions = ring.new.reductions; reduced_at = ring.new.reduced_at } }
+    ensures same { ring.new ≡ record ring.old { trail = ring.new.trail; watches = ring.new.watches; written = ring.new.written; lemmas = ring.new.lemmas; imports = ring.new.imports; reductions = ring.new.reductions; reduced_at = ring.new.reduced_at; next_probe = ring.new.next_probe } }
     ensures looks { (P.state port.new).looks ≡ (P.state port.old).looks }
     ensures nothing { OffersNothing (P.state port.old) (P.state port.new) }
     ensures port { IsPort (P.state port.new) }
@@ -162,13 +164,17 @@ fn shrink_lemmas<P: Port>(alloc: Global, port: &mut P, ring: &mut Ring) -> Resul
         Ok(()) => {}
         Err(end) => return Err(end),
     }
+    match probe_literals(port, ring) {
+        Ok(()) => {}
+        Err(end) => return Err(end),
+    }
     match tidy_up(port) {
         Ok(()) => Ok(()),
         Err(stop) => Err(end_refused(stop)),
     }
 }
 
-/// Reduces and vivifies the lemmas if that is due. At level 0, if each literal has its line and nothing is left to
+/// Reduces and vivifies the lemmas and probes literals if that is due. At level 0, if each literal has its line and nothing is left to
 /// propagate.
 fn shrink_due<P: Port>(alloc: Global, port: &mut P, ring: &mut Ring) -> Result<(), End>
     requires import { MayImport (P.state port.old) ring.old.trail ring.old.watches ring.old.written }
@@ -186,7 +192,7 @@ fn shrink_due<P: Port>(alloc: Global, port: &mut P, ring: &mut Ring) -> Result<(
     ensures tidied { (P.state port.old).waiting ≡ [] → OnOk result ((P.state port.new).waiting ≡ []) }
     ensures in_time { OnOk result (IsInTime (P.state port.new) 0) }
     ensures steps { OnOk result (length ring.old.trail.steps ≤ length ring.new.trail.steps) }
-    ensures same { ring.new ≡ record ring.old { trail = ring.new.trail; watches = ring.new.watches; written = ring.new.written; lemmas = ring.new.lemmas; imports = ring.new.imports; reductions = ring.new.reductions; reduced_at = ring.new.reduced_at } }
+    ensures same { ring.new ≡ record ring.old { trail = ring.new.trail; watches = ring.new.watches; written = ring.new.written; lemmas = ring.new.lemmas; imports = ring.new.imports; reductions = ring.new.reductions; reduced_at = ring.new.reduced_at; next_probe = ring.new.next_probe } }
     ensures looks { (P.state port.new).looks ≡ (P.state port.old).looks }
     ensures nothing { OffersNothing (P.state port.old) (P.state port.new) }
     ensures port { IsPort (P.state port.new) }
@@ -198,7 +204,7 @@ fn shrink_due<P: Port>(alloc: Global, port: &mut P, ring: &mut Ring) -> Result<(
     shrink_lemmas(alloc, port, ring)
 }
 
-/// Reduces and vivifies the lemmas if that is due, and imports. No import is yet to be then.
+/// Reduces and vivifies the lemmas and probes literals if that is due, and imports. No import is yet to be then.
 pub(crate) fn reduce_vivify_import<P: Port>(alloc: Global, port: &mut P, ring: &mut Ring) -> Next
     requires import { MayImport (P.state port.old) ring.old.trail ring.old.watches ring.old.written }
     requires quiet { IsQuiet ring.old.watches (lits_at (P.state port.old)) ring.old.trail }

@@ -55,11 +55,15 @@ const NOTHING: Counts = Counts {
 /// listed.
 ///
 /// At a restart, before it imports, the ring reduces its lemmas if that is due: the Reduce entry is written, and the worse half
-/// of those that may be dropped goes. So does the worse half of what other rings gave and may be dropped. Then each lemma of glue one or two that is left is vivified, in the order of their numbers,
-/// unless it is true at level 0: a shorter clause takes its place in the log, or a unit, which is made true with what follows from
-/// it. The deletion lines come at once. The start clauses stay held as they are. So if a ring of odd number finds a model, or is
-/// spent, it had reduced its lemmas in time when it restarted last; and at each end each lemma that was learned since the last
-/// Reduce entry is held, or is a unit that is seen.
+/// of those that may be dropped goes. So does the worse half of what other rings gave and may be dropped. Then each lemma of
+/// glue one or two that is left is vivified, in the order of their numbers, unless it is true at level 0: a shorter clause
+/// takes its place in the log, or a unit, which is made true with what follows from it. After that literals without a value are
+/// probed (failed literals, Freeman 1995): by code, at most `PROBES`, from where the ring stopped probing last and then from
+/// the least code, at most once round. If propagation from one alone makes a clause false, its negation is true: its line is
+/// written, and those of what follows from it before the next probe; if that makes a clause false too, the ring has refuted the
+/// clauses. The deletion lines come at once. The start clauses stay held as they are. So if a ring of odd number finds a model,
+/// or is spent, it had reduced its lemmas in time when it restarted last; and at each end each lemma that was learned since the
+/// last Reduce entry is held, or is a unit that is seen.
 ///
 /// The deletion lines of what an offer brought back come after the lemma: if none waited at the start, none does at a model.
 ///

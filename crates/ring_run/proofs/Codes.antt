@@ -43,11 +43,11 @@ pub code_there : (vars code : ℕ) → 2 ≤ code → code ≤ 2 * vars + 1 → 
 code_there vars code low high = code_inside vars code low high
 
 code_least : (vars : ℕ) → code_on vars 2 ≡ 2
-code_least vars = either (nat_le 2 2 && nat_le 2 (2 * vars + 1))
+code_least vars = either (nat_le 2 2 && nat_le 2 (2 * vars + 1)) 2
   where
-    either : (b : Bool) → (if b then 2 else 2) ≡ 2
-    either true = refl
-    either false = refl
+    either : (b : Bool) (n : ℕ) → (if b then n else n) ≡ n
+    either true n = refl
+    either false n = refl
 
 -- so many codes from this one on, each after the one before, and the least one after the greatest
 abbrev pub codes_from : (vars code n : ℕ) → List ℕ
@@ -156,12 +156,12 @@ round_is vars code = elim (cases_lt code 2) as (λ _. round_from vars code ≡ c
 
 -- one turn, and the others
 pub took_code : (p m q : Point) (c left rest : ℕ) (codes : List ℕ) (code next : ℕ) → 1 ≤ left → TookCode p m c left rest → ProbedEach m q rest codes (c + 1) next → ProbedEach p q left (c ∷ codes) code next
-took_code p m q c zero rest codes code next some took then = absurd (omega (arith, some))
-took_code p m q c (suc left) rest codes code next some (inl k) then =
-    inl (k.0, subst (λ (n : ℕ). ProbedEach p q n codes (c + 1) next) k.2 (subst (λ (x : Point). ProbedEach x q rest codes (c + 1) next) k.1 then))
-took_code p m q c (suc left) rest codes code next some (inr k) then =
+took_code p m q c zero rest codes code next some took later = absurd (omega (arith, some))
+took_code p m q c (suc left) rest codes code next some (inl k) later =
+    inl (k.0, subst (λ (n : ℕ). ProbedEach p q n codes (c + 1) next) k.2 (subst (λ (x : Point). ProbedEach x q rest codes (c + 1) next) k.1 later))
+took_code p m q c (suc left) rest codes code next some (inr k) later =
     let same : rest ≡ left = (let is = k.2 in omega (arith, is)) in
-    inr (k.0, m, k.1, subst (λ (n : ℕ). ProbedEach m q n codes (c + 1) next) same then)
+    inr (k.0, m, k.1, subst (λ (n : ℕ). ProbedEach m q n codes (c + 1) next) same later)
 
 -- no other
 pub took_none : (p : Point) (left : ℕ) (codes : List ℕ) (code : ℕ) → (left ≡ 0) ⊎ (codes ≡ []) → ProbedEach p p left codes code code
@@ -175,12 +175,12 @@ halted_here p u c zero codes end some how = absurd (omega (arith, some))
 halted_here p u c (suc left) codes end some how = inr (inl how)
 
 pub halted_later : (p m : Point) (u : PortState) (c left rest : ℕ) (codes : List ℕ) (end : End) → 1 ≤ left → TookCode p m c left rest → HaltsProbing m u rest codes end → HaltsProbing p u left (c ∷ codes) end
-halted_later p m u c zero rest codes end some took then = absurd (omega (arith, some))
-halted_later p m u c (suc left) rest codes end some (inl k) then =
-    inl (k.0, subst (λ (n : ℕ). HaltsProbing p u n codes end) k.2 (subst (λ (x : Point). HaltsProbing x u rest codes end) k.1 then))
-halted_later p m u c (suc left) rest codes end some (inr k) then =
+halted_later p m u c zero rest codes end some took later = absurd (omega (arith, some))
+halted_later p m u c (suc left) rest codes end some (inl k) later =
+    inl (k.0, subst (λ (n : ℕ). HaltsProbing p u n codes end) k.2 (subst (λ (x : Point). HaltsProbing x u rest codes end) k.1 later))
+halted_later p m u c (suc left) rest codes end some (inr k) later =
     let same : rest ≡ left = (let is = k.2 in omega (arith, is)) in
-    inr (inr (k.0, m, k.1, subst (λ (n : ℕ). HaltsProbing m u n codes end) same then))
+    inr (inr (k.0, m, k.1, subst (λ (n : ℕ). HaltsProbing m u n codes end) same later))
 
 -- Whatever the turns that are left come to, all of them come to
 

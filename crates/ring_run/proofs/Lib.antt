@@ -37,7 +37,7 @@ pub mod Shrinking
 pub mod Halted
 pub mod LeftBehind
 pub mod Codes
-pub mod Probing
+pub mod Probes
 pub mod ReducedImports
 pub mod Models
 pub mod WalkLemmas

@@ -15,7 +15,7 @@ use Rattle.reduce_db.specs.Reduction.{IsFrontOfChoice}
 use Rattle.vivify.specs.Outcome.{IsVivified, WasCutShort}
 use Rattle.vivify.specs.declared.shorten.Vivified.TheVariants.{Unit}
 use Rattle.ring_probe.specs.Outcome.{IsProbed, WasCutShort as ProbeWasCutShort}
-use Rattle.ring_probe.specs.declared.probe.Probed.TheVariants as came_of
+use Rattle.ring_probe.specs.declared.failed.Probed.TheVariants as came_of
 use Rattle.ring_run.specs.Ended.{import_slots}
 use Rattle.ring_run.specs.Searching.{OpeningSeen, OnlySaw, OnlyPolled}
 use Rattle.ring_run.specs.Ending.{EndsRefused, WroteEmpty, HaltsTelling, end_refused}
@@ -121,7 +121,7 @@ HaltsProbing p u zero codes end = ⊥
 HaltsProbing p u (suc most) [] end = ⊥
 HaltsProbing p u (suc most) (c ∷ codes) end =
     (HasValue p.trail.steps (literal_of c) × HaltsProbing p u (suc most) codes end)
-    ⊎ (HaltsAtCode p u c end ⊎ (HasNoPlace p.trail.steps (literal_of c).var × ((between : Point) × WasProbed p between (literal_of c) × HaltsProbing between u most codes end)))
+    ⊎ (HaltsAtCode p u c end ⊎ (HasNoPlace p.trail.steps (literal_of c).var × (between : Point) × WasProbed p between (literal_of c) × HaltsProbing between u most codes end))
 
 -- so it was once round at most, from where probing was to go on
 abbrev pub HaltsInRound : Point → PortState → (code : ℕ) → End → Type 0

@@ -19,8 +19,8 @@ use Rattle.vivify.specs.Outcome.{glue_at, IsVivified}
 use Rattle.vivify.specs.declared.shorten.Vivified.{Vivified}
 use Rattle.vivify.specs.declared.shorten.Vivified.TheVariants.{Kept, Shorter, Unit, Empty}
 use Rattle.ring_probe.specs.Outcome.{IsProbed}
-use Rattle.ring_probe.specs.declared.probe.Probed.{Probed}
-use Rattle.ring_probe.specs.declared.probe.Probed.TheVariants as came_of
+use Rattle.ring_probe.specs.declared.failed.Probed.{Probed}
+use Rattle.ring_probe.specs.declared.failed.Probed.TheVariants as came_of
 use Rattle.ring_run.specs.Ended.{IsHalted, import_slots, LookedAlong, last_looks, reductions}
 use Rattle.ring_run.specs.Searching.{OpeningSeen, Stands, OnlySaw, OnlyPolled, OnlyWrote, ToldUnits, HasTold, HasGrownLog, AreTold, SeenTrue, SeesFixed}
 use Rattle.ring_run.specs.Ending.{EndsAt, IsRefusal}
@@ -200,7 +200,7 @@ ProbedEach p q zero codes code next = (q ≡ p) × (next ≡ code)
 ProbedEach p q (suc most) [] code next = (q ≡ p) × (next ≡ code)
 ProbedEach p q (suc most) (c ∷ codes) code next =
     (HasValue p.trail.steps (literal_of c) × ProbedEach p q (suc most) codes (c + 1) next)
-    ⊎ (HasNoPlace p.trail.steps (literal_of c).var × ((between : Point) × WasProbed p between (literal_of c) × ProbedEach between q most codes (c + 1) next))
+    ⊎ (HasNoPlace p.trail.steps (literal_of c).var × (between : Point) × WasProbed p between (literal_of c) × ProbedEach between q most codes (c + 1) next)
 
 -- literals without a value were probed by code: from where probing was to go on, then from the least one, and at most once round
 abbrev pub ProbedRound : Point → Point → (code next : ℕ) → Type 0

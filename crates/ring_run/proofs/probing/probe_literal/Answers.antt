@@ -5,14 +5,14 @@ use Rattle.ring_port.specs.PortState.{PortState}
 use Rattle.ring_trail.specs.TrailData.{TrailData}
 use Rattle.watch_prop.specs.WatchData.{WatchData, attached}
 use Rattle.ring_probe.specs.Outcome.{IsProbed, DidNotFail, FailedAlone, FailedBoth, WasCutShort}
-use Rattle.ring_probe.specs.declared.probe.Probed.{Probed}
-use Rattle.ring_probe.specs.declared.probe.Probed.TheVariants as came_of
+use Rattle.ring_probe.specs.declared.failed.Probed.{Probed}
+use Rattle.ring_probe.specs.declared.failed.Probed.TheVariants as came_of
 use Rattle.ring_run.specs.Course.{HasLemmas}
 use Rattle.ring_run.specs.Ending.{HaltsTelling, end_refused}
 use Rattle.ring_run.specs.Renewal.{point}
 use Rattle.ring_run.specs.declared.ring.Ring.{Ring}
 use Rattle.ring_run.proofs.Offering.{nothing_none, nothing_then}
-use Rattle.ring_run.proofs.Probing.{failed_keeps, failed_nothing, failed_looks, failed_search, failed_listed, failed_longer, told_resting, told_all, refuted_halts, refuted_nothing, refuted_looks, cut_over, cut_nothing, cut_looks, holds_resting, holds_listed}
+use Rattle.ring_run.proofs.Probes.{failed_keeps, failed_nothing, failed_looks, failed_search, failed_listed, failed_longer, told_resting, told_all, refuted_halts, refuted_nothing, refuted_looks, cut_over, cut_nothing, cut_looks, holds_resting, holds_listed}
 use Rattle.ring_run.proofs.Progress.{usable_none}
 use Rattle.ring_run.proofs.Shrinking.{refused_halts, halts_then}
 use Rattle.ring_run.proofs.Standing.{no_value}
@@ -149,8 +149,8 @@ write_pending-requires g c =
     let z : FailedAlone s m (attached ring.watches) w ring.trail t lit c.in-Ok-Unit.field-0-field-0 = subst (IsProbed s m (attached ring.watches) w ring.trail t lit) c.in-Ok-Unit.field-0-is c.in-Ok-Unit.ensures.probed in
     record { search = failed_search s ring lit c.requires.resting on c.requires.free m z.after.wrote c.probe.ensures.log c.probe.ensures.port w t z.after.grown c.probe.ensures.attached c.probe.ensures.trail c.probe.ensures.level c.probe.ensures.watched c.probe.ensures.reasons }
 
-pub returns-in-Ok-write_pending-clause-resting : goal.returns-in-Ok-write_pending-clause-resting
-returns-in-Ok-write_pending-clause-resting g c =
+pub returns-in-Ok-clause-resting : goal.returns-in-Ok-clause-resting
+returns-in-Ok-clause-resting g c =
     let s = g.P.Port.state c.args.port.now in
     let m = g.P.Port.state c.probe.new.port in
     let ring = c.args.ring.now in
@@ -159,10 +159,10 @@ returns-in-Ok-write_pending-clause-resting g c =
     let lit = c.args.lit in
     let on : IsOn s.vars lit = subst (λ (n : ℕ). IsOn n lit) c.requires.resting.search.stands.vars c.requires.on in
     let z : FailedAlone s m (attached ring.watches) w ring.trail t lit c.in-Ok-Unit.field-0-field-0 = subst (IsProbed s m (attached ring.watches) w ring.trail t lit) c.in-Ok-Unit.field-0-is c.in-Ok-Unit.ensures.probed in
-    told_resting s ring lit c.requires.resting on c.requires.free m z.after.wrote c.probe.ensures.log c.probe.ensures.port w t z.after.grown c.probe.ensures.attached c.probe.ensures.trail c.probe.ensures.level c.probe.ensures.watched c.probe.ensures.reasons (g.P.Port.state c.write_pending.new.port) c.write_pending.new.ring c.write_pending.ensures.trail c.write_pending.ensures.watches c.in-Ok-write_pending.ensures.search c.in-Ok-write_pending.ensures.wrote z.quiet (c.in-Ok-write_pending.ensures.whole c.probe.ensures.level)
+    told_resting s ring lit c.requires.resting on c.requires.free m z.after.wrote c.probe.ensures.log c.probe.ensures.port w t z.after.grown c.probe.ensures.attached c.probe.ensures.trail c.probe.ensures.level c.probe.ensures.watched c.probe.ensures.reasons (g.P.Port.state c.write_pending.new.port) c.write_pending.new.ring c.write_pending.ensures.trail c.write_pending.ensures.watches c.in-Ok.ensures.search c.in-Ok.ensures.wrote z.quiet (c.in-Ok.ensures.whole c.probe.ensures.level)
 
-pub returns-in-Ok-write_pending-clause-listed : goal.returns-in-Ok-write_pending-clause-listed
-returns-in-Ok-write_pending-clause-listed g c =
+pub returns-in-Ok-clause-listed : goal.returns-in-Ok-clause-listed
+returns-in-Ok-clause-listed g c =
     let s = g.P.Port.state c.args.port.now in
     let m = g.P.Port.state c.probe.new.port in
     let ring = c.args.ring.now in
@@ -171,10 +171,10 @@ returns-in-Ok-write_pending-clause-listed g c =
     let lit = c.args.lit in
     let on : IsOn s.vars lit = subst (λ (n : ℕ). IsOn n lit) c.requires.resting.search.stands.vars c.requires.on in
     let z : FailedAlone s m (attached ring.watches) w ring.trail t lit c.in-Ok-Unit.field-0-field-0 = subst (IsProbed s m (attached ring.watches) w ring.trail t lit) c.in-Ok-Unit.field-0-is c.in-Ok-Unit.ensures.probed in
-    c.in-Ok-write_pending.ensures.listed (failed_listed s ring lit c.requires.resting on c.requires.free m z.after.wrote c.probe.ensures.log c.probe.ensures.port w t z.after.grown c.probe.ensures.attached c.probe.ensures.trail c.probe.ensures.level c.probe.ensures.watched c.probe.ensures.reasons c.requires.listed)
+    c.in-Ok.ensures.listed (failed_listed s ring lit c.requires.resting on c.requires.free m z.after.wrote c.probe.ensures.log c.probe.ensures.port w t z.after.grown c.probe.ensures.attached c.probe.ensures.trail c.probe.ensures.level c.probe.ensures.watched c.probe.ensures.reasons c.requires.listed)
 
-pub returns-in-Ok-write_pending-clause-keeps : goal.returns-in-Ok-write_pending-clause-keeps
-returns-in-Ok-write_pending-clause-keeps g c =
+pub returns-in-Ok-clause-keeps : goal.returns-in-Ok-clause-keeps
+returns-in-Ok-clause-keeps g c =
     let s = g.P.Port.state c.args.port.now in
     let m = g.P.Port.state c.probe.new.port in
     let ring = c.args.ring.now in
@@ -183,10 +183,10 @@ returns-in-Ok-write_pending-clause-keeps g c =
     let lit = c.args.lit in
     let on : IsOn s.vars lit = subst (λ (n : ℕ). IsOn n lit) c.requires.resting.search.stands.vars c.requires.on in
     let z : FailedAlone s m (attached ring.watches) w ring.trail t lit c.in-Ok-Unit.field-0-field-0 = subst (IsProbed s m (attached ring.watches) w ring.trail t lit) c.in-Ok-Unit.field-0-is c.in-Ok-Unit.ensures.probed in
-    λ start n p. c.in-Ok-write_pending.ensures.ok start n (failed_keeps s ring lit c.requires.resting on c.requires.free m z.after.wrote c.probe.ensures.log c.probe.ensures.port start n p)
+    λ start n p. c.in-Ok.ensures.ok start n (failed_keeps s ring lit c.requires.resting on c.requires.free m z.after.wrote c.probe.ensures.log c.probe.ensures.port start n p)
 
-pub returns-in-Ok-write_pending-clause-probed : goal.returns-in-Ok-write_pending-clause-probed
-returns-in-Ok-write_pending-clause-probed g c =
+pub returns-in-Ok-clause-probed : goal.returns-in-Ok-clause-probed
+returns-in-Ok-clause-probed g c =
     let s = g.P.Port.state c.args.port.now in
     let m = g.P.Port.state c.probe.new.port in
     let ring = c.args.ring.now in
@@ -200,11 +200,11 @@ returns-in-Ok-write_pending-clause-probed g c =
       between = record { port = m; watches = w; trail = t };
       probed = z;
       same_clauses = c.probe.ensures.attached;
-      after = told_all s ring lit c.requires.resting on c.requires.free m z.after.wrote c.probe.ensures.log c.probe.ensures.port w t z.after.grown c.probe.ensures.attached c.probe.ensures.trail c.probe.ensures.level c.probe.ensures.watched c.probe.ensures.reasons (g.P.Port.state c.write_pending.new.port) c.write_pending.new.ring c.write_pending.ensures.trail c.write_pending.ensures.watches c.in-Ok-write_pending.ensures.search c.in-Ok-write_pending.ensures.wrote z.quiet (c.in-Ok-write_pending.ensures.whole c.probe.ensures.level) c.in-Ok-write_pending.ensures.lines;
+      after = told_all s ring lit c.requires.resting on c.requires.free m z.after.wrote c.probe.ensures.log c.probe.ensures.port w t z.after.grown c.probe.ensures.attached c.probe.ensures.trail c.probe.ensures.level c.probe.ensures.watched c.probe.ensures.reasons (g.P.Port.state c.write_pending.new.port) c.write_pending.new.ring c.write_pending.ensures.trail c.write_pending.ensures.watches c.in-Ok.ensures.search c.in-Ok.ensures.wrote z.quiet (c.in-Ok.ensures.whole c.probe.ensures.level) c.in-Ok.ensures.lines;
     }
 
-pub returns-in-Ok-write_pending-clause-vars : goal.returns-in-Ok-write_pending-clause-vars
-returns-in-Ok-write_pending-clause-vars g c =
+pub returns-in-Ok-clause-vars : goal.returns-in-Ok-clause-vars
+returns-in-Ok-clause-vars g c =
     let s = g.P.Port.state c.args.port.now in
     let m = g.P.Port.state c.probe.new.port in
     let ring = c.args.ring.now in
@@ -215,8 +215,8 @@ returns-in-Ok-write_pending-clause-vars g c =
     let z : FailedAlone s m (attached ring.watches) w ring.trail t lit c.in-Ok-Unit.field-0-field-0 = subst (IsProbed s m (attached ring.watches) w ring.trail t lit) c.in-Ok-Unit.field-0-is c.in-Ok-Unit.ensures.probed in
     ap (λ (x : TrailData). x.vars) c.write_pending.ensures.trail ∙ z.after.grown.vars
 
-pub returns-in-Ok-write_pending-clause-steps : goal.returns-in-Ok-write_pending-clause-steps
-returns-in-Ok-write_pending-clause-steps g c =
+pub returns-in-Ok-clause-steps : goal.returns-in-Ok-clause-steps
+returns-in-Ok-clause-steps g c =
     let s = g.P.Port.state c.args.port.now in
     let m = g.P.Port.state c.probe.new.port in
     let ring = c.args.ring.now in
@@ -227,8 +227,8 @@ returns-in-Ok-write_pending-clause-steps g c =
     let z : FailedAlone s m (attached ring.watches) w ring.trail t lit c.in-Ok-Unit.field-0-field-0 = subst (IsProbed s m (attached ring.watches) w ring.trail t lit) c.in-Ok-Unit.field-0-is c.in-Ok-Unit.ensures.probed in
     (let same = ap (λ (x : TrailData). length x.steps) c.write_pending.ensures.trail in let long = failed_longer s ring lit c.requires.resting on c.requires.free m z.after.wrote c.probe.ensures.log c.probe.ensures.port w t z.after.grown c.probe.ensures.attached c.probe.ensures.trail c.probe.ensures.level c.probe.ensures.watched c.probe.ensures.reasons in omega (arith, same, long))
 
-pub returns-in-Ok-write_pending-clause-looks : goal.returns-in-Ok-write_pending-clause-looks
-returns-in-Ok-write_pending-clause-looks g c =
+pub returns-in-Ok-clause-looks : goal.returns-in-Ok-clause-looks
+returns-in-Ok-clause-looks g c =
     let s = g.P.Port.state c.args.port.now in
     let m = g.P.Port.state c.probe.new.port in
     let ring = c.args.ring.now in
@@ -239,8 +239,8 @@ returns-in-Ok-write_pending-clause-looks g c =
     let z : FailedAlone s m (attached ring.watches) w ring.trail t lit c.in-Ok-Unit.field-0-field-0 = subst (IsProbed s m (attached ring.watches) w ring.trail t lit) c.in-Ok-Unit.field-0-is c.in-Ok-Unit.ensures.probed in
     c.write_pending.ensures.looks ∙ failed_looks s ring lit c.requires.resting on c.requires.free m z.after.wrote c.probe.ensures.log c.probe.ensures.port
 
-pub returns-in-Ok-write_pending-clause-nothing : goal.returns-in-Ok-write_pending-clause-nothing
-returns-in-Ok-write_pending-clause-nothing g c =
+pub returns-in-Ok-clause-nothing : goal.returns-in-Ok-clause-nothing
+returns-in-Ok-clause-nothing g c =
     let s = g.P.Port.state c.args.port.now in
     let m = g.P.Port.state c.probe.new.port in
     let ring = c.args.ring.now in
@@ -262,8 +262,8 @@ returns-in-Err-write_pending-clause-over g c =
     let on : IsOn s.vars lit = subst (λ (n : ℕ). IsOn n lit) c.requires.resting.search.stands.vars c.requires.on in
     let z : FailedAlone s m (attached ring.watches) w ring.trail t lit c.in-Ok-Unit.field-0-field-0 = subst (IsProbed s m (attached ring.watches) w ring.trail t lit) c.in-Ok-Unit.field-0-is c.in-Ok-Unit.ensures.probed in
     let u = g.P.Port.state c.write_pending.new.port in
-    let end = c.end_refused-in-Err-write_pending.result in
-    halts_then s m u end (failed_keeps s ring lit c.requires.resting on c.requires.free m z.after.wrote c.probe.ensures.log c.probe.ensures.port) (refused_halts m u c.in-Err-write_pending.stop end c.end_refused-in-Err-write_pending.ensures c.in-Err-write_pending.ensures.over)
+    let end = c.end_refused.result in
+    halts_then s m u end (failed_keeps s ring lit c.requires.resting on c.requires.free m z.after.wrote c.probe.ensures.log c.probe.ensures.port) (refused_halts m u c.in-Err-write_pending.stop end c.end_refused.ensures c.in-Err-write_pending.ensures.over)
 
 pub returns-in-Err-write_pending-clause-halts : goal.returns-in-Err-write_pending-clause-halts
 returns-in-Err-write_pending-clause-halts g c =
@@ -280,7 +280,7 @@ returns-in-Err-write_pending-clause-halts g c =
       lit = c.in-Ok-Unit.field-0-field-0;
       between = record { port = m; watches = w; trail = t };
       probed = z;
-      telling = subst (HaltsTelling m u t.steps) (sym c.end_refused-in-Err-write_pending.ensures) c.in-Err-write_pending.ensures.halts;
+      telling = subst (HaltsTelling m u t.steps) (sym c.end_refused.ensures) c.in-Err-write_pending.ensures.halts;
     }))
 
 pub returns-in-Err-write_pending-clause-looks : goal.returns-in-Err-write_pending-clause-looks
@@ -364,7 +364,7 @@ returns-in-Err-clause-over g c =
     let w = c.probe.new.watches in
     let lit = c.args.lit in
     let on : IsOn s.vars lit = subst (λ (n : ℕ). IsOn n lit) c.requires.resting.search.stands.vars c.requires.on in
-    refused_halts s m c.in-Err.stop c.end_refused.result c.end_refused.ensures (cut_over s ring lit c.requires.resting on c.requires.free m c.in-Err.stop c.in-Err.ensures.stopped c.probe.ensures.port)
+    refused_halts s m c.in-Err.stop c.end_refused-in-Err.result c.end_refused-in-Err.ensures (cut_over s ring lit c.requires.resting on c.requires.free m c.in-Err.stop c.in-Err.ensures.stopped c.probe.ensures.port)
 
 pub returns-in-Err-clause-halts : goal.returns-in-Err-clause-halts
 returns-in-Err-clause-halts g c =
@@ -375,7 +375,7 @@ returns-in-Err-clause-halts g c =
     let w = c.probe.new.watches in
     let lit = c.args.lit in
     let on : IsOn s.vars lit = subst (λ (n : ℕ). IsOn n lit) c.requires.resting.search.stands.vars c.requires.on in
-    inl (c.in-Err.stop, c.in-Err.ensures.stopped, c.end_refused.ensures)
+    inl (c.in-Err.stop, c.in-Err.ensures.stopped, c.end_refused-in-Err.ensures)
 
 pub returns-in-Err-clause-looks : goal.returns-in-Err-clause-looks
 returns-in-Err-clause-looks g c =

@@ -43,7 +43,7 @@ loop-turn-preserved g c =
           let took : TookCode (point m mid) (point u new) (code_on vars mid.next_probe) c.loop-turn.left c.in-Ok.rest = subst (λ (v : ℕ). TookCode (point m mid) (point u new) (code_on v mid.next_probe) c.loop-turn.left c.in-Ok.rest) i.vars k.took in
           let next : new.next_probe ≡ code_on vars mid.next_probe + 1 = c.probe_next.ensures.next ∙ ap (λ (v : ℕ). code_on v mid.next_probe + 1) i.vars in
           subst (λ (n : ℕ). GoesRound (point s old) (point u new) old.next_probe c.in-Ok.rest (codes_from vars n (2 * vars - (c.loop-turn._turn + 1))) n) (sym next)
-          (round_on (point s old) (point m mid) (point u new) vars old.next_probe c.loop-turn.left c.in-Ok.rest mid.next_probe c.loop-turn._turn (omega (arith, c.loop-turn-test.true)) (omega (arith, c.if-left.false)) took i.round));
+          (round_on (point s old) (point m mid) (point u new) vars old.next_probe c.loop-turn.left c.in-Ok.rest mid.next_probe c.loop-turn._turn (omega (arith, c.loop-turn-test.true)) (omega (arith, c.if-left-eq0.false)) took i.round));
       steps = omega (arith, i.steps, k.steps);
       same = c.probe_next.ensures.same ∙ ap (λ (r : Ring). record r { trail = new.trail; watches = new.watches; written = new.written; next_probe = new.next_probe }) i.same;
       looks = c.probe_next.ensures.looks ∙ i.looks;
@@ -55,7 +55,7 @@ pub probe_next-requires-clause-some : goal.probe_next-requires-clause-some
 probe_next-requires-clause-some g c = omega (arith, c.loop-turn-test.true, c.loop-turn.invariant.vars)
 
 pub probe_next-requires-clause-left : goal.probe_next-requires-clause-left
-probe_next-requires-clause-left g c = omega (arith, c.if-left.false)
+probe_next-requires-clause-left g c = omega (arith, c.if-left-eq0.false)
 
 pub returns-in-Err-clause-over : goal.returns-in-Err-clause-over
 returns-in-Err-clause-over g c =
@@ -70,17 +70,17 @@ returns-in-Err-clause-halts g c =
     let mid = c.loop-turn.ring in
     let i = c.loop-turn.invariant in
     let how : HaltsAtCode (point m mid) u (code_on old.trail.vars mid.next_probe) c.in-Err.end = subst (λ (v : ℕ). HaltsAtCode (point m mid) u (code_on v mid.next_probe) c.in-Err.end) i.vars c.in-Err.ensures.halts in
-    round_halted (point s old) (point m mid) u old.trail.vars old.next_probe c.loop-turn.left mid.next_probe c.loop-turn._turn c.in-Err.end (omega (arith, c.loop-turn-test.true)) (omega (arith, c.if-left.false)) how i.round
+    round_halted (point s old) (point m mid) u old.trail.vars old.next_probe c.loop-turn.left mid.next_probe c.loop-turn._turn c.in-Err.end (omega (arith, c.loop-turn-test.true)) (omega (arith, c.if-left-eq0.false)) how i.round
 
 pub returns-in-Err-clause-nothing : goal.returns-in-Err-clause-nothing
 returns-in-Err-clause-nothing g c =
     nothing_then (g.P.Port.state c.args.port.now) (g.P.Port.state c.loop-turn.port) (g.P.Port.state c.probe_next.new.port) c.loop-turn.invariant.nothing c.probe_next.ensures.nothing
 
-pub returns-then-left-clause-round : goal.returns-then-left-clause-round
-returns-then-left-clause-round g c =
+pub returns-then-left-eq0-clause-round : goal.returns-then-left-eq0-clause-round
+returns-then-left-eq0-clause-round g c =
     let old = c.args.ring.now in
     let mid = c.loop-turn.ring in
-    round_over (point (g.P.Port.state c.args.port.now) old) (point (g.P.Port.state c.loop-turn.port) mid) old.trail.vars old.next_probe c.loop-turn.left mid.next_probe c.loop-turn._turn (inl c.if-left.true) c.loop-turn.invariant.round
+    round_over (point (g.P.Port.state c.args.port.now) old) (point (g.P.Port.state c.loop-turn.port) mid) old.trail.vars old.next_probe c.loop-turn.left mid.next_probe c.loop-turn._turn (inl c.if-left-eq0.true) c.loop-turn.invariant.round
 
 pub returns-clause-round : goal.returns-clause-round
 returns-clause-round g c =

@@ -1,5 +1,5 @@
 -- What a probe of a literal leaves of a ring that rests.
-use Rattle.std.proofs.Common.{◌≡◌, ◌∙◌, ◌⊎◌, ℕ, ◌≤◌, Bool, true, false, List, sym, subst, ap, arith, refl, inl, inr, Contains, Some, None, length, length-append, Ok}
+use Rattle.std.proofs.Common.{◌≡◌, ◌∙◌, ◌⊎◌, ℕ, ◌≤◌, Bool, true, false, List, [], ◌∷◌, sym, subst, ap, arith, refl, inl, inr, Contains, Some, None, length, length-append, Ok}
 use Rattle.std.specs.Prelude.{MatchOption, MatchBool}
 use Rattle.std.specs.Option.{is_some}
 use Rattle.std.specs.declared.option.Option.{Option}
@@ -28,7 +28,7 @@ use Rattle.ring_run.specs.Course.{Searches, InSearch, HasLemmas}
 use Rattle.ring_run.specs.Renewal.{Point, point, HasValue, IsResting, HaltsAt, HasToldAll}
 use Rattle.ring_run.specs.declared.job.End.TheVariants.{Refuted}
 use Rattle.ring_run.specs.declared.ring.Ring.{Ring}
-use Rattle.ring_run.proofs.Listing.{listed_same, same_imports}
+use Rattle.ring_run.proofs.Listing.{listed_same}
 use Rattle.ring_run.proofs.Numbering.{kept_wrote}
 use Rattle.ring_run.proofs.Offering.{nothing_none, nothing_then, nothing_unit, nothing_empty, nothing_refused}
 use Rattle.ring_run.proofs.Progress.{unit_goes_on, wrote_none, wrote_unit, refused_ends, refused_looks, empty_refutes}
@@ -118,7 +118,7 @@ module _ (s : PortState) (ring : Ring) (l : Literal) (p : IsResting s ring) (on 
       pub failed_listed : HasLemmas s ring → HasLemmas m (record ring { trail = t; watches = w })
       failed_listed listed =
           listed_same s m ring (record ring { trail = t; watches = w }) failed_wrote.stays.start failed_wrote.recent refl (λ d there. subst (λ (cs : List Cref). Contains cs d) (sym same) there) refl refl refl
-          (same_imports ring) (kept_wrote s m ring.lemmas.items failed_wrote) listed
+          (record { imports = refl; last_start = refl }) (kept_wrote s m ring.lemmas.items failed_wrote) listed
 
       pub failed_longer : length ring.trail.steps ≤ length t.steps
       failed_longer =
@@ -212,7 +212,7 @@ module _ (s : PortState) (ring : Ring) (l : Literal) (p : IsResting s ring) (on 
     pub holds_listed : HasLemmas s ring → HasLemmas m (record ring { trail = t; watches = w })
     holds_listed listed = subst (λ (x : PortState). HasLemmas x (record ring { trail = t; watches = w })) (sym held.state)
         (listed_same s s ring (record ring { trail = t; watches = w }) refl refl refl (λ d there. subst (λ (cs : List Cref). Contains cs d) (sym same) there) refl refl refl
-        (same_imports ring) (kept_wrote s s ring.lemmas.items (wrote_none s)) listed)
+        (record { imports = refl; last_start = refl }) (kept_wrote s s ring.lemmas.items (wrote_none s)) listed)
 
 -- probing goes on elsewhere, and what was done after that
 pub moved_same : (old mid new : Ring) (code : ℕ) → mid ≡ record old { next_probe = code } → new ≡ record mid { trail = new.trail; watches = new.watches; written = new.written }

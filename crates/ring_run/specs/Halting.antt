@@ -15,7 +15,7 @@ use Rattle.reduce_db.specs.Reduction.{IsFrontOfChoice}
 use Rattle.vivify.specs.Outcome.{IsVivified, WasCutShort}
 use Rattle.vivify.specs.declared.shorten.Vivified.TheVariants.{Unit}
 use Rattle.ring_probe.specs.Outcome.{IsProbed, WasCutShort as ProbeWasCutShort}
-use Rattle.ring_probe.specs.declared.failed.Probed.TheVariants as came_of
+use Rattle.ring_probe.specs.declared.probing.Probed.TheVariants as came_of
 use Rattle.ring_run.specs.Ended.{import_slots}
 use Rattle.ring_run.specs.Searching.{OpeningSeen, OnlySaw, OnlyPolled}
 use Rattle.ring_run.specs.Ending.{EndsRefused, WroteEmpty, HaltsTelling, end_refused}

@@ -19,8 +19,8 @@ use Rattle.vivify.specs.Outcome.{glue_at, IsVivified}
 use Rattle.vivify.specs.declared.shorten.Vivified.{Vivified}
 use Rattle.vivify.specs.declared.shorten.Vivified.TheVariants.{Kept, Shorter, Unit, Empty}
 use Rattle.ring_probe.specs.Outcome.{IsProbed}
-use Rattle.ring_probe.specs.declared.failed.Probed.{Probed}
-use Rattle.ring_probe.specs.declared.failed.Probed.TheVariants as came_of
+use Rattle.ring_probe.specs.declared.probing.Probed.{Probed}
+use Rattle.ring_probe.specs.declared.probing.Probed.TheVariants as came_of
 use Rattle.ring_run.specs.Ended.{IsHalted, import_slots, LookedAlong, last_looks, reductions}
 use Rattle.ring_run.specs.Searching.{OpeningSeen, Stands, OnlySaw, OnlyPolled, OnlyWrote, ToldUnits, HasTold, HasGrownLog, AreTold, SeenTrue, SeesFixed}
 use Rattle.ring_run.specs.Ending.{EndsAt, IsRefusal}

@@ -5,8 +5,8 @@ use Rattle.ring_port.specs.PortState.{PortState}
 use Rattle.ring_trail.specs.TrailData.{TrailData}
 use Rattle.watch_prop.specs.WatchData.{WatchData, attached}
 use Rattle.ring_probe.specs.Outcome.{IsProbed, DidNotFail, FailedAlone, FailedBoth, WasCutShort}
-use Rattle.ring_probe.specs.declared.failed.Probed.{Probed}
-use Rattle.ring_probe.specs.declared.failed.Probed.TheVariants as came_of
+use Rattle.ring_probe.specs.declared.probing.Probed.{Probed}
+use Rattle.ring_probe.specs.declared.probing.Probed.TheVariants as came_of
 use Rattle.ring_run.specs.Course.{HasLemmas}
 use Rattle.ring_run.specs.Ending.{HaltsTelling, end_refused}
 use Rattle.ring_run.specs.Renewal.{point}
@@ -146,7 +146,7 @@ write_pending-requires g c =
     let w = c.probe.new.watches in
     let lit = c.args.lit in
     let on : IsOn s.vars lit = subst (λ (n : ℕ). IsOn n lit) c.requires.resting.search.stands.vars c.requires.on in
-    let z : FailedAlone s m (attached ring.watches) w ring.trail t lit c.in-Ok-Unit.field-0-field-0 = subst (IsProbed s m (attached ring.watches) w ring.trail t lit) c.in-Ok-Unit.field-0-is c.in-Ok-Unit.ensures.probed in
+    let z : FailedAlone s m (attached ring.watches) w ring.trail t lit c.in-Ok-Unit.field-0-0 = subst (IsProbed s m (attached ring.watches) w ring.trail t lit) c.in-Ok-Unit.field-0-is c.in-Ok-Unit.ensures.probed in
     record { search = failed_search s ring lit c.requires.resting on c.requires.free m z.after.wrote c.probe.ensures.log c.probe.ensures.port w t z.after.grown c.probe.ensures.attached c.probe.ensures.trail c.probe.ensures.level c.probe.ensures.watched c.probe.ensures.reasons }
 
 pub returns-in-Ok-clause-resting : goal.returns-in-Ok-clause-resting
@@ -158,7 +158,7 @@ returns-in-Ok-clause-resting g c =
     let w = c.probe.new.watches in
     let lit = c.args.lit in
     let on : IsOn s.vars lit = subst (λ (n : ℕ). IsOn n lit) c.requires.resting.search.stands.vars c.requires.on in
-    let z : FailedAlone s m (attached ring.watches) w ring.trail t lit c.in-Ok-Unit.field-0-field-0 = subst (IsProbed s m (attached ring.watches) w ring.trail t lit) c.in-Ok-Unit.field-0-is c.in-Ok-Unit.ensures.probed in
+    let z : FailedAlone s m (attached ring.watches) w ring.trail t lit c.in-Ok-Unit.field-0-0 = subst (IsProbed s m (attached ring.watches) w ring.trail t lit) c.in-Ok-Unit.field-0-is c.in-Ok-Unit.ensures.probed in
     told_resting s ring lit c.requires.resting on c.requires.free m z.after.wrote c.probe.ensures.log c.probe.ensures.port w t z.after.grown c.probe.ensures.attached c.probe.ensures.trail c.probe.ensures.level c.probe.ensures.watched c.probe.ensures.reasons (g.P.Port.state c.write_pending.new.port) c.write_pending.new.ring c.write_pending.ensures.trail c.write_pending.ensures.watches c.in-Ok.ensures.search c.in-Ok.ensures.wrote z.quiet (c.in-Ok.ensures.whole c.probe.ensures.level)
 
 pub returns-in-Ok-clause-listed : goal.returns-in-Ok-clause-listed
@@ -170,7 +170,7 @@ returns-in-Ok-clause-listed g c =
     let w = c.probe.new.watches in
     let lit = c.args.lit in
     let on : IsOn s.vars lit = subst (λ (n : ℕ). IsOn n lit) c.requires.resting.search.stands.vars c.requires.on in
-    let z : FailedAlone s m (attached ring.watches) w ring.trail t lit c.in-Ok-Unit.field-0-field-0 = subst (IsProbed s m (attached ring.watches) w ring.trail t lit) c.in-Ok-Unit.field-0-is c.in-Ok-Unit.ensures.probed in
+    let z : FailedAlone s m (attached ring.watches) w ring.trail t lit c.in-Ok-Unit.field-0-0 = subst (IsProbed s m (attached ring.watches) w ring.trail t lit) c.in-Ok-Unit.field-0-is c.in-Ok-Unit.ensures.probed in
     c.in-Ok.ensures.listed (failed_listed s ring lit c.requires.resting on c.requires.free m z.after.wrote c.probe.ensures.log c.probe.ensures.port w t z.after.grown c.probe.ensures.attached c.probe.ensures.trail c.probe.ensures.level c.probe.ensures.watched c.probe.ensures.reasons c.requires.listed)
 
 pub returns-in-Ok-clause-keeps : goal.returns-in-Ok-clause-keeps
@@ -182,7 +182,7 @@ returns-in-Ok-clause-keeps g c =
     let w = c.probe.new.watches in
     let lit = c.args.lit in
     let on : IsOn s.vars lit = subst (λ (n : ℕ). IsOn n lit) c.requires.resting.search.stands.vars c.requires.on in
-    let z : FailedAlone s m (attached ring.watches) w ring.trail t lit c.in-Ok-Unit.field-0-field-0 = subst (IsProbed s m (attached ring.watches) w ring.trail t lit) c.in-Ok-Unit.field-0-is c.in-Ok-Unit.ensures.probed in
+    let z : FailedAlone s m (attached ring.watches) w ring.trail t lit c.in-Ok-Unit.field-0-0 = subst (IsProbed s m (attached ring.watches) w ring.trail t lit) c.in-Ok-Unit.field-0-is c.in-Ok-Unit.ensures.probed in
     λ start n p. c.in-Ok.ensures.ok start n (failed_keeps s ring lit c.requires.resting on c.requires.free m z.after.wrote c.probe.ensures.log c.probe.ensures.port start n p)
 
 pub returns-in-Ok-clause-probed : goal.returns-in-Ok-clause-probed
@@ -194,9 +194,9 @@ returns-in-Ok-clause-probed g c =
     let w = c.probe.new.watches in
     let lit = c.args.lit in
     let on : IsOn s.vars lit = subst (λ (n : ℕ). IsOn n lit) c.requires.resting.search.stands.vars c.requires.on in
-    let z : FailedAlone s m (attached ring.watches) w ring.trail t lit c.in-Ok-Unit.field-0-field-0 = subst (IsProbed s m (attached ring.watches) w ring.trail t lit) c.in-Ok-Unit.field-0-is c.in-Ok-Unit.ensures.probed in
+    let z : FailedAlone s m (attached ring.watches) w ring.trail t lit c.in-Ok-Unit.field-0-0 = subst (IsProbed s m (attached ring.watches) w ring.trail t lit) c.in-Ok-Unit.field-0-is c.in-Ok-Unit.ensures.probed in
     record {
-      outcome = came_of.Unit c.in-Ok-Unit.field-0-field-0;
+      outcome = came_of.Unit c.in-Ok-Unit.field-0-0;
       between = record { port = m; watches = w; trail = t };
       probed = z;
       same_clauses = c.probe.ensures.attached;
@@ -212,7 +212,7 @@ returns-in-Ok-clause-vars g c =
     let w = c.probe.new.watches in
     let lit = c.args.lit in
     let on : IsOn s.vars lit = subst (λ (n : ℕ). IsOn n lit) c.requires.resting.search.stands.vars c.requires.on in
-    let z : FailedAlone s m (attached ring.watches) w ring.trail t lit c.in-Ok-Unit.field-0-field-0 = subst (IsProbed s m (attached ring.watches) w ring.trail t lit) c.in-Ok-Unit.field-0-is c.in-Ok-Unit.ensures.probed in
+    let z : FailedAlone s m (attached ring.watches) w ring.trail t lit c.in-Ok-Unit.field-0-0 = subst (IsProbed s m (attached ring.watches) w ring.trail t lit) c.in-Ok-Unit.field-0-is c.in-Ok-Unit.ensures.probed in
     ap (λ (x : TrailData). x.vars) c.write_pending.ensures.trail ∙ z.after.grown.vars
 
 pub returns-in-Ok-clause-steps : goal.returns-in-Ok-clause-steps
@@ -224,7 +224,7 @@ returns-in-Ok-clause-steps g c =
     let w = c.probe.new.watches in
     let lit = c.args.lit in
     let on : IsOn s.vars lit = subst (λ (n : ℕ). IsOn n lit) c.requires.resting.search.stands.vars c.requires.on in
-    let z : FailedAlone s m (attached ring.watches) w ring.trail t lit c.in-Ok-Unit.field-0-field-0 = subst (IsProbed s m (attached ring.watches) w ring.trail t lit) c.in-Ok-Unit.field-0-is c.in-Ok-Unit.ensures.probed in
+    let z : FailedAlone s m (attached ring.watches) w ring.trail t lit c.in-Ok-Unit.field-0-0 = subst (IsProbed s m (attached ring.watches) w ring.trail t lit) c.in-Ok-Unit.field-0-is c.in-Ok-Unit.ensures.probed in
     (let same = ap (λ (x : TrailData). length x.steps) c.write_pending.ensures.trail in let long = failed_longer s ring lit c.requires.resting on c.requires.free m z.after.wrote c.probe.ensures.log c.probe.ensures.port w t z.after.grown c.probe.ensures.attached c.probe.ensures.trail c.probe.ensures.level c.probe.ensures.watched c.probe.ensures.reasons in omega (arith, same, long))
 
 pub returns-in-Ok-clause-looks : goal.returns-in-Ok-clause-looks
@@ -236,7 +236,7 @@ returns-in-Ok-clause-looks g c =
     let w = c.probe.new.watches in
     let lit = c.args.lit in
     let on : IsOn s.vars lit = subst (λ (n : ℕ). IsOn n lit) c.requires.resting.search.stands.vars c.requires.on in
-    let z : FailedAlone s m (attached ring.watches) w ring.trail t lit c.in-Ok-Unit.field-0-field-0 = subst (IsProbed s m (attached ring.watches) w ring.trail t lit) c.in-Ok-Unit.field-0-is c.in-Ok-Unit.ensures.probed in
+    let z : FailedAlone s m (attached ring.watches) w ring.trail t lit c.in-Ok-Unit.field-0-0 = subst (IsProbed s m (attached ring.watches) w ring.trail t lit) c.in-Ok-Unit.field-0-is c.in-Ok-Unit.ensures.probed in
     c.write_pending.ensures.looks ∙ failed_looks s ring lit c.requires.resting on c.requires.free m z.after.wrote c.probe.ensures.log c.probe.ensures.port
 
 pub returns-in-Ok-clause-nothing : goal.returns-in-Ok-clause-nothing
@@ -248,7 +248,7 @@ returns-in-Ok-clause-nothing g c =
     let w = c.probe.new.watches in
     let lit = c.args.lit in
     let on : IsOn s.vars lit = subst (λ (n : ℕ). IsOn n lit) c.requires.resting.search.stands.vars c.requires.on in
-    let z : FailedAlone s m (attached ring.watches) w ring.trail t lit c.in-Ok-Unit.field-0-field-0 = subst (IsProbed s m (attached ring.watches) w ring.trail t lit) c.in-Ok-Unit.field-0-is c.in-Ok-Unit.ensures.probed in
+    let z : FailedAlone s m (attached ring.watches) w ring.trail t lit c.in-Ok-Unit.field-0-0 = subst (IsProbed s m (attached ring.watches) w ring.trail t lit) c.in-Ok-Unit.field-0-is c.in-Ok-Unit.ensures.probed in
     nothing_then s m (g.P.Port.state c.write_pending.new.port) (failed_nothing s ring lit c.requires.resting on c.requires.free m z.after.wrote c.probe.ensures.log c.probe.ensures.port) c.write_pending.ensures.nothing
 
 pub returns-in-Err-write_pending-clause-over : goal.returns-in-Err-write_pending-clause-over
@@ -260,7 +260,7 @@ returns-in-Err-write_pending-clause-over g c =
     let w = c.probe.new.watches in
     let lit = c.args.lit in
     let on : IsOn s.vars lit = subst (λ (n : ℕ). IsOn n lit) c.requires.resting.search.stands.vars c.requires.on in
-    let z : FailedAlone s m (attached ring.watches) w ring.trail t lit c.in-Ok-Unit.field-0-field-0 = subst (IsProbed s m (attached ring.watches) w ring.trail t lit) c.in-Ok-Unit.field-0-is c.in-Ok-Unit.ensures.probed in
+    let z : FailedAlone s m (attached ring.watches) w ring.trail t lit c.in-Ok-Unit.field-0-0 = subst (IsProbed s m (attached ring.watches) w ring.trail t lit) c.in-Ok-Unit.field-0-is c.in-Ok-Unit.ensures.probed in
     let u = g.P.Port.state c.write_pending.new.port in
     let end = c.end_refused.result in
     halts_then s m u end (failed_keeps s ring lit c.requires.resting on c.requires.free m z.after.wrote c.probe.ensures.log c.probe.ensures.port) (refused_halts m u c.in-Err-write_pending.stop end c.end_refused.ensures c.in-Err-write_pending.ensures.over)
@@ -274,10 +274,10 @@ returns-in-Err-write_pending-clause-halts g c =
     let w = c.probe.new.watches in
     let lit = c.args.lit in
     let on : IsOn s.vars lit = subst (λ (n : ℕ). IsOn n lit) c.requires.resting.search.stands.vars c.requires.on in
-    let z : FailedAlone s m (attached ring.watches) w ring.trail t lit c.in-Ok-Unit.field-0-field-0 = subst (IsProbed s m (attached ring.watches) w ring.trail t lit) c.in-Ok-Unit.field-0-is c.in-Ok-Unit.ensures.probed in
+    let z : FailedAlone s m (attached ring.watches) w ring.trail t lit c.in-Ok-Unit.field-0-0 = subst (IsProbed s m (attached ring.watches) w ring.trail t lit) c.in-Ok-Unit.field-0-is c.in-Ok-Unit.ensures.probed in
     let u = g.P.Port.state c.write_pending.new.port in
     inr (inr (record {
-      lit = c.in-Ok-Unit.field-0-field-0;
+      lit = c.in-Ok-Unit.field-0-0;
       between = record { port = m; watches = w; trail = t };
       probed = z;
       telling = subst (HaltsTelling m u t.steps) (sym c.end_refused.ensures) c.in-Err-write_pending.ensures.halts;
@@ -292,7 +292,7 @@ returns-in-Err-write_pending-clause-looks g c =
     let w = c.probe.new.watches in
     let lit = c.args.lit in
     let on : IsOn s.vars lit = subst (λ (n : ℕ). IsOn n lit) c.requires.resting.search.stands.vars c.requires.on in
-    let z : FailedAlone s m (attached ring.watches) w ring.trail t lit c.in-Ok-Unit.field-0-field-0 = subst (IsProbed s m (attached ring.watches) w ring.trail t lit) c.in-Ok-Unit.field-0-is c.in-Ok-Unit.ensures.probed in
+    let z : FailedAlone s m (attached ring.watches) w ring.trail t lit c.in-Ok-Unit.field-0-0 = subst (IsProbed s m (attached ring.watches) w ring.trail t lit) c.in-Ok-Unit.field-0-is c.in-Ok-Unit.ensures.probed in
     c.write_pending.ensures.looks ∙ failed_looks s ring lit c.requires.resting on c.requires.free m z.after.wrote c.probe.ensures.log c.probe.ensures.port
 
 pub returns-in-Err-write_pending-clause-nothing : goal.returns-in-Err-write_pending-clause-nothing
@@ -304,7 +304,7 @@ returns-in-Err-write_pending-clause-nothing g c =
     let w = c.probe.new.watches in
     let lit = c.args.lit in
     let on : IsOn s.vars lit = subst (λ (n : ℕ). IsOn n lit) c.requires.resting.search.stands.vars c.requires.on in
-    let z : FailedAlone s m (attached ring.watches) w ring.trail t lit c.in-Ok-Unit.field-0-field-0 = subst (IsProbed s m (attached ring.watches) w ring.trail t lit) c.in-Ok-Unit.field-0-is c.in-Ok-Unit.ensures.probed in
+    let z : FailedAlone s m (attached ring.watches) w ring.trail t lit c.in-Ok-Unit.field-0-0 = subst (IsProbed s m (attached ring.watches) w ring.trail t lit) c.in-Ok-Unit.field-0-is c.in-Ok-Unit.ensures.probed in
     nothing_then s m (g.P.Port.state c.write_pending.new.port) (failed_nothing s ring lit c.requires.resting on c.requires.free m z.after.wrote c.probe.ensures.log c.probe.ensures.port) c.write_pending.ensures.nothing
 
 pub returns-in-Ok-Empty-clause-over : goal.returns-in-Ok-Empty-clause-over

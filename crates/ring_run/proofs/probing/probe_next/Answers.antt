@@ -33,7 +33,7 @@ pub returns-then-is_some-clause-took : goal.returns-then-is_some-clause-took
 returns-then-is_some-clause-took g c =
     let s = g.P.Port.state c.args.port.now in
     let same = c.take_literal-lit.ensures.same in
-    let has = valued c.take_literal-lit.new.ring.trail.steps c.take_literal-lit.result c.truth.result c.truth.ensures.truth c.if-is_some.true in
+    let has = valued c.take_literal-lit.new.ring.trail.steps c.take_literal-lit.result c.truth.result c.truth.ensures.truth (sym c.is_some.ensures ∙ c.if-is_some.true) in
     inl (
       subst (λ (t : TrailData). HasValue t.steps (literal_of (code_on c.args.ring.now.trail.vars c.args.ring.now.next_probe))) (ap (λ (r : Ring). r.trail) same)
           (subst (HasValue c.take_literal-lit.new.ring.trail.steps) c.take_literal-lit.ensures.literal has),
@@ -77,7 +77,7 @@ pub probe_literal-requires-clause-on : goal.probe_literal-requires-clause-on
 probe_literal-requires-clause-on g c = subst (λ (n : ℕ). IsOn n c.take_literal-lit.result) (sym (ap (λ (r : Ring). r.trail.vars) c.take_literal-lit.ensures.same)) c.take_literal-lit.ensures.on
 
 pub probe_literal-requires-clause-free : goal.probe_literal-requires-clause-free
-probe_literal-requires-clause-free g c = valueless c.take_literal-lit.new.ring.trail.steps c.take_literal-lit.result c.truth.result c.truth.ensures.truth c.if-is_some.false
+probe_literal-requires-clause-free g c = valueless c.take_literal-lit.new.ring.trail.steps c.take_literal-lit.result c.truth.result c.truth.ensures.truth (sym c.is_some.ensures ∙ c.if-is_some.false)
 
 pub returns-in-Ok-clause-took : goal.returns-in-Ok-clause-took
 returns-in-Ok-clause-took g c =
@@ -87,7 +87,7 @@ returns-in-Ok-clause-took g c =
     let q = point (g.P.Port.state c.probe_literal.new.port) c.probe_literal.new.ring in
     let same = c.take_literal-lit.ensures.same in
     let lit = c.take_literal-lit.ensures.literal in
-    let free = valueless mid.trail.steps c.take_literal-lit.result c.truth.result c.truth.ensures.truth c.if-is_some.false in
+    let free = valueless mid.trail.steps c.take_literal-lit.result c.truth.result c.truth.ensures.truth (sym c.is_some.ensures ∙ c.if-is_some.false) in
     let some = c.requires.left in
     inr (
       subst (λ (t : TrailData). HasNoPlace t.steps (literal_of (code_on old.trail.vars old.next_probe)).var) (ap (λ (r : Ring). r.trail) same)
@@ -127,7 +127,7 @@ returns-in-Err-clause-halts g c =
     let u = g.P.Port.state c.probe_literal.new.port in
     let same = c.take_literal-lit.ensures.same in
     let lit = c.take_literal-lit.ensures.literal in
-    let free = valueless mid.trail.steps c.take_literal-lit.result c.truth.result c.truth.ensures.truth c.if-is_some.false in
+    let free = valueless mid.trail.steps c.take_literal-lit.result c.truth.result c.truth.ensures.truth (sym c.is_some.ensures ∙ c.if-is_some.false) in
     (
       subst (λ (t : TrailData). HasNoPlace t.steps (literal_of (code_on old.trail.vars old.next_probe)).var) (ap (λ (r : Ring). r.trail) same)
           (subst (λ (l : Literal). HasNoPlace mid.trail.steps l.var) lit free),

@@ -135,21 +135,21 @@ round_is vars code = elim (cases_lt code 2) as (λ _. round_from vars code ≡ c
       ∙ sym (codes_up vars (2 * vars) 2 (omega arith) (omega arith))
       ∙ sym (codes_anew vars (2 * vars) code (code_below vars code low)))
   | inr some ↦ (elim (cases_lt (2 * vars + 2) code) as (λ _. round_from vars code ≡ codes_from vars code (2 * vars)) [
-      | inl high ↦ (
-          ap (λ (cs : List ℕ). cs ++ filter (λ c. nat_lt c code) (range_with_len 2 (2 * vars))) (none_from code (2 * vars) 2 (omega (arith, high)))
-          ∙ all_below code (2 * vars) 2 (omega (arith, high))
-          ∙ sym (codes_up vars (2 * vars) 2 (omega arith) (omega arith))
-          ∙ sym (codes_anew vars (2 * vars) code (code_above vars code (omega (arith, high)))))
-      | inr inside ↦ (
-          let n : ℕ = code - 2 in
-          let m : ℕ = 2 * vars + 2 - code in
-          let first : 2 + n ≡ code = omega (arith, some) in
-          let whole : 2 * vars ≡ n + m = omega (arith, some, inside) in
-          ap (λ (cs : List ℕ). cs ++ filter (λ c. nat_lt c code) (range_with_len 2 (2 * vars))) (upper_part code m n (2 * vars) 2 whole first)
-          ∙ ap (λ (cs : List ℕ). range_with_len code m ++ cs) (lower_part code m n (2 * vars) 2 whole first)
-          ∙ sym (codes_over vars n m (2 * vars) code (omega (arith, whole)) some (omega (arith, inside))
-          ∙ ap (λ (cs : List ℕ). range_with_len code m ++ cs) (codes_anew vars n (2 * vars + 2) (code_above vars (2 * vars + 2) (omega arith)) ∙ codes_up vars n 2 (omega arith) (omega (arith, some, inside)))))
-    ])
+    | inl high ↦ (
+        ap (λ (cs : List ℕ). cs ++ filter (λ c. nat_lt c code) (range_with_len 2 (2 * vars))) (none_from code (2 * vars) 2 (omega (arith, high)))
+        ∙ all_below code (2 * vars) 2 (omega (arith, high))
+        ∙ sym (codes_up vars (2 * vars) 2 (omega arith) (omega arith))
+        ∙ sym (codes_anew vars (2 * vars) code (code_above vars code (omega (arith, high)))))
+    | inr inside ↦ (
+        let n : ℕ = code - 2 in
+        let m : ℕ = 2 * vars + 2 - code in
+        let first : 2 + n ≡ code = omega (arith, some) in
+        let whole : 2 * vars ≡ n + m = omega (arith, some, inside) in
+        ap (λ (cs : List ℕ). cs ++ filter (λ c. nat_lt c code) (range_with_len 2 (2 * vars))) (upper_part code m n (2 * vars) 2 whole first)
+        ∙ ap (λ (cs : List ℕ). range_with_len code m ++ cs) (lower_part code m n (2 * vars) 2 whole first)
+        ∙ sym (codes_over vars n m (2 * vars) code (omega (arith, whole)) some (omega (arith, inside))
+        ∙ ap (λ (cs : List ℕ). range_with_len code m ++ cs) (codes_anew vars n (2 * vars + 2) (code_above vars (2 * vars + 2) (omega arith)) ∙ codes_up vars n 2 (omega arith) (omega (arith, some, inside)))))
+  ])
 ]
 
 -- Turns
@@ -200,8 +200,7 @@ pub round_on : (p m q : Point) (vars code left rest now i : ℕ) → i < 2 * var
 round_on p m q vars code left rest now i lt some took k =
     let c = code_on vars now in
     let codes = codes_from vars (c + 1) (2 * vars - (i + 1)) in
-    let same : codes_from vars now (2 * vars - i) ≡ c ∷ codes = codes_next vars now (2 * vars) i lt in
-    (
+    let same : codes_from vars now (2 * vars - i) ≡ c ∷ codes = codes_next vars now (2 * vars) i lt in (
       λ r next all. k.0 r next (subst (λ (cs : List ℕ). ProbedEach m r left cs now next) (sym same) (took_code m q r c left rest codes now next some took all)),
       λ u end all. k.1 u end (subst (λ (cs : List ℕ). HaltsProbing m u left cs end) (sym same) (halted_later m q u c left rest codes end some took all)),
     )

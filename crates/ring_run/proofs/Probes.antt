@@ -10,7 +10,7 @@ use Rattle.sat_words.specs.declared.shared.Cref.{Cref}
 use Rattle.rup_model.specs.declared.journal.Kind.TheVariants.{UnitLine}
 use Rattle.rup_model.specs.Journal.{recent}
 use Rattle.ring_port.specs.PortState.{PortState, IsPort, IsOn, lits_at}
-use Rattle.ring_port.specs.Port.{WroteUnit, EndedLog, Refused}
+use Rattle.ring_port.specs.Port.{WroteUnit, EndedLog}
 use Rattle.ring_port.specs.Log.{KeepsLog}
 use Rattle.ring_port.specs.declared.stops.PortStop.{PortStop}
 use Rattle.ring_trail.specs.declared.step.TrailStep.{TrailStep}
@@ -20,17 +20,17 @@ use Rattle.watch_prop.specs.WatchData.{WatchData, Lits, attached}
 use Rattle.watch_prop.specs.Watched.{Watched}
 use Rattle.watch_prop.specs.Propagation.{HasReasons, IsQuiet}
 use Rattle.watch_prop.proofs.TrailLaws.{Reasons-more, Reasons-held}
-use Rattle.ring_probe.specs.Outcome.{DidNotFail, HasFailed, FailedAlone, FailedBoth, WasCutShort}
+use Rattle.ring_probe.specs.Outcome.{DidNotFail, WasCutShort}
 use Rattle.ring_run.specs.Ended.{reductions}
 use Rattle.ring_run.specs.Searching.{HasClauses, KeepsOn, OffersNothing, OnlyWrote, ToldUnits, AreTold}
 use Rattle.ring_run.specs.Ending.{EndsAt, end_refused}
 use Rattle.ring_run.specs.Course.{Searches, InSearch, HasLemmas}
-use Rattle.ring_run.specs.Renewal.{Point, point, HasValue, IsResting, HaltsAt, HasToldAll}
+use Rattle.ring_run.specs.Renewal.{point, HasValue, IsResting, HaltsAt, HasToldAll}
 use Rattle.ring_run.specs.declared.job.End.TheVariants.{Refuted}
 use Rattle.ring_run.specs.declared.ring.Ring.{Ring}
 use Rattle.ring_run.proofs.Listing.{listed_same}
 use Rattle.ring_run.proofs.Numbering.{kept_wrote}
-use Rattle.ring_run.proofs.Offering.{nothing_none, nothing_then, nothing_unit, nothing_empty, nothing_refused}
+use Rattle.ring_run.proofs.Offering.{nothing_then, nothing_unit, nothing_empty, nothing_refused}
 use Rattle.ring_run.proofs.Progress.{unit_goes_on, wrote_none, wrote_unit, refused_ends, refused_looks, empty_refutes}
 use Rattle.ring_run.proofs.Remembering.{lits_same, clause_at_same}
 use Rattle.ring_run.proofs.Resting.{seen_units, unseen_open, search_left, unit_opening, unit_stands, unit_told}
@@ -220,6 +220,6 @@ pub moved_same : (old mid new : Ring) (code : ℕ) → mid ≡ record old { next
 moved_same old mid new code first then =
     let next : new.next_probe ≡ code = ap (λ (r : Ring). r.next_probe) then ∙ ap (λ (r : Ring). r.next_probe) first in (
       then ∙ ap (λ (r : Ring). record r { trail = new.trail; watches = new.watches; written = new.written }) first
-      ∙ ap (λ (n : ℕ). record old { trail = new.trail; watches = new.watches; written = new.written; next_probe = n }) (sym next),
+          ∙ ap (λ (n : ℕ). record old { trail = new.trail; watches = new.watches; written = new.written; next_probe = n }) (sym next),
       next,
     )

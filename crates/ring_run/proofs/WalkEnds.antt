@@ -1,6 +1,5 @@
 -- A model that a walk found, and a search that goes on with it.
-use Rattle.std.proofs.Common.{◌≡◌, ◌∙◌, ℕ, ◌+◌, ◌<◌, ◌≤◌, Bool, true, false, List, [], ◌∷◌, length, get_or, Option, Some, None, IfSome, sym, ap, subst, refl, inl, inr, arith, All}
-use Rattle.std.specs.Prelude.{◌^◌}
+use Rattle.std.proofs.Common.{◌≡◌, ◌∙◌, ℕ, ◌<◌, Bool, true, List, get_or, Option, Some, None, IfSome, sym, subst, refl, inl, inr}
 use Rattle.std.specs.List.{Contains}
 use Rattle.std.proofs.lemmas.List.{get_or_default}
 use Rattle.sat_words.specs.Literal.{Literal}
@@ -12,15 +11,13 @@ use Rattle.ring_trail.specs.TrailData.{IsTrueOn}
 use Rattle.ring_trail.specs.Closed.{TrueWithin}
 use Rattle.watch_prop.specs.Propagation.{IsQuiet}
 use Rattle.ring_run.specs.Ended.{IsModelOf}
-use Rattle.ring_run.specs.Searching.{AreFirst, GoesOn}
+use Rattle.ring_run.specs.Searching.{AreFirst}
 use Rattle.ring_run.specs.Ending.{EndsBy}
-use Rattle.ring_run.specs.Course.{InSearch, Leads, TakesALook}
-use Rattle.ring_run.specs.Walked.{IsStartModel, Agrees, IsFound, IsWalkedModel, EndsFound}
+use Rattle.ring_run.specs.Course.{InSearch, Leads}
+use Rattle.ring_run.specs.Walked.{IsStartModel, Agrees, IsFound, EndsFound}
 use Rattle.ring_run.specs.declared.ring.Ring.{Ring}
-use Rattle.ring_run.specs.declared.job.End.{End}
-use Rattle.ring_run.specs.declared.job.End.TheVariants.{Sat, Memory}
+use Rattle.ring_run.specs.declared.job.End.TheVariants.{Sat}
 use Rattle.ring_run.specs.declared.course.Next.{Next}
-use Rattle.ring_run.specs.declared.course.Next.TheVariants.{Finish}
 use Rattle.ring_run.proofs.Progress.{usable_none, out_of_memory}
 use Rattle.ring_run.proofs.Telling.{told_model}
 

@@ -1,23 +1,22 @@
 -- What a walk over the start clauses stands on, and what it finds.
-use Rattle.std.proofs.Common.{◌≡◌, ◌∙◌, ℕ, zero, suc, ◌+◌, ◌*◌, ◌<◌, ◌≤◌, ◌==◌, cond, Bool, true, false, not, List, [], ◌∷◌, ◌++◌, length, map, take, get_or, Option, Some, None, sym, ap, subst, refl, inl, inr, arith, All}
-use Rattle.std.specs.Prelude.{slice_get, if◌then◌else◌}
-use Rattle.std.specs.List.{count_by, list_any, Contains}
+use Rattle.std.proofs.Common.{◌≡◌, ◌∙◌, ℕ, zero, suc, ◌+◌, ◌<◌, cond, Bool, true, false, not, List, [], ◌∷◌, ◌++◌, length, map, take, get_or, Option, Some, sym, ap, subst, refl, inl, inr, arith, All}
+use Rattle.std.specs.Prelude.{slice_get}
+use Rattle.std.specs.List.{Contains}
 use Rattle.std.proofs.lemmas.Bool.{cases_Bool, false≢true, true≢false}
 use Rattle.std.proofs.lemmas.List.{take_more, get_or-map, length-map}
 use Rattle.std.proofs.lemmas.List.Sums.{get_or-le-sum_by}
 use Rattle.std.proofs.lemmas.Option.{get_or_from_slice_get, slice_get_within}
 use Rattle.sat_words.specs.Literal.{Literal, IsOn, opposite}
 use Rattle.sat_words.specs.Clause.{has, has_opposites, clause_of}
-use Rattle.sat_words.specs.Truth.{lit_true, clause_true}
+use Rattle.sat_words.specs.Truth.{clause_true}
 use Rattle.sat_words.specs.declared.shared.Cref.{Cref}
 use Rattle.sat_words.proofs.Members.{clause_true_alike}
 use Rattle.sat_words.proofs.Insertion.{has-clause_of}
 use Rattle.rup_model.proofs.Lists.{In, In_any, In_get_or, In_has, has_In, In_map, In_Contains}
 use Rattle.ring_port.specs.PortState.{PortState, Holding, held_at, lits_at, lits_in, IsKept}
 use Rattle.ring_trail.specs.declared.step.TrailStep.{TrailStep}
-use Rattle.ring_trail.specs.TrailData.{TrailData, IsTrail, no_step, var_at, lit_at}
-use Rattle.ring_walk.specs.WalkData.{WalkData, IsNew, false_under}
-use Rattle.ring_walk.specs.Walk.{HasWalked, MakesSteps}
+use Rattle.ring_trail.specs.TrailData.{TrailData, IsTrail, no_step, lit_at}
+use Rattle.ring_walk.specs.WalkData.{false_under}
 use Rattle.ring_walk.proofs.Ordered.{all_has}
 use Rattle.ring_run.specs.Walked.{walked_clauses, lits_of, IsStartModel}
 

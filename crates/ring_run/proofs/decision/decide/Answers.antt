@@ -4,7 +4,7 @@ use Rattle.ring_run.proofs.Deciding.{decided_search, model_found}
 use Rattle.ring_run.proofs.Progress.{out_of_memory}
 use Rattle.ring_run.proofs.Learning.{goes_on_by}
 use Rattle.ring_run.proofs.decision.decide.Goals as goal
-use Rattle.std.proofs.Common.{◌≡◌, ◌≤◌, ◌∙◌, ap, arith, inl, length, List, Bool, subst, sym}
+use Rattle.std.proofs.Common.{◌≤◌, ◌∙◌, ap, arith, inl, length, List, Bool, subst, sym}
 use Rattle.std.specs.Prelude.{◌^◌}
 use Rattle.ring_run.proofs.WalkEnds.{found_leads, if_some}
 use Rattle.std.proofs.lemmas.Bool.{false≢true}

@@ -1,4 +1,4 @@
-use Rattle.std.proofs.Common.{◌≡◌, ◌∙◌, ◌+◌, ◌∷◌, [], arith, ap}
+use Rattle.std.proofs.Common.{◌∙◌, ◌+◌, ◌∷◌, [], arith, ap}
 use Rattle.ring_port.specs.PortState.{PortState}
 use Rattle.ring_run.specs.declared.ring.Ring.{Ring}
 use Rattle.ring_run.proofs.Importing.{only_then}

@@ -1,16 +1,11 @@
-use Rattle.std.proofs.Common.{◌≡◌, ◌≢◌, ◌∙◌, ◌≤◌, ℕ, ap, inl, inr, refl, arith, subst, sym, length, Ok}
-use Rattle.std.specs.Prelude.{OnOk}
-use Rattle.sat_words.specs.Literal.{Literal, IsOn}
+use Rattle.std.proofs.Common.{◌≡◌, ◌≢◌, ◌∙◌, ℕ, ap, inl, inr, refl, arith, subst, sym, length}
+use Rattle.sat_words.specs.Literal.{IsOn}
 use Rattle.ring_port.specs.PortState.{PortState}
 use Rattle.ring_trail.specs.TrailData.{TrailData}
-use Rattle.watch_prop.specs.WatchData.{WatchData, attached}
-use Rattle.ring_probe.specs.Outcome.{IsProbed, DidNotFail, FailedAlone, FailedBoth, WasCutShort}
-use Rattle.ring_probe.specs.declared.probing.Probed.{Probed}
+use Rattle.watch_prop.specs.WatchData.{attached}
+use Rattle.ring_probe.specs.Outcome.{IsProbed, DidNotFail, FailedAlone, FailedBoth}
 use Rattle.ring_probe.specs.declared.probing.Probed.TheVariants as came_of
-use Rattle.ring_run.specs.Course.{HasLemmas}
-use Rattle.ring_run.specs.Ending.{HaltsTelling, end_refused}
-use Rattle.ring_run.specs.Renewal.{point}
-use Rattle.ring_run.specs.declared.ring.Ring.{Ring}
+use Rattle.ring_run.specs.Ending.{HaltsTelling}
 use Rattle.ring_run.proofs.Offering.{nothing_none, nothing_then}
 use Rattle.ring_run.proofs.Probes.{failed_keeps, failed_nothing, failed_looks, failed_search, failed_listed, failed_longer, told_resting, told_all, refuted_halts, refuted_nothing, refuted_looks, cut_over, cut_nothing, cut_looks, holds_resting, holds_listed}
 use Rattle.ring_run.proofs.Progress.{usable_none}

@@ -1,4 +1,4 @@
-use Rattle.std.proofs.Common.{◌≡◌, ◌∙◌, ◌≤◌, ◌<◌, ◌+◌, ◌-◌, ◌*◌, ℕ, ap, inl, inr, refl, arith, subst, sym}
+use Rattle.std.proofs.Common.{◌≡◌, ◌∙◌, ◌+◌, ◌-◌, ◌*◌, ℕ, ap, inl, inr, refl, arith, subst, sym}
 use Rattle.ring_run.specs.Renewal.{point, TookCode, code_on}
 use Rattle.ring_run.specs.Halting.{HaltsAtCode}
 use Rattle.ring_run.specs.declared.ring.Ring.{Ring}

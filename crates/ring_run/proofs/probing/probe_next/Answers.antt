@@ -1,10 +1,9 @@
-use Rattle.std.proofs.Common.{◌≡◌, ◌∙◌, ◌≤◌, ◌+◌, ℕ, ap, inl, inr, refl, arith, subst, sym, length}
+use Rattle.std.proofs.Common.{◌∙◌, ◌+◌, ℕ, ap, inl, inr, refl, arith, subst, sym, length}
 use Rattle.sat_words.specs.Literal.{Literal, IsOn, literal_of}
-use Rattle.ring_port.specs.PortState.{PortState}
 use Rattle.ring_trail.specs.TrailData.{TrailData, HasNoPlace}
 use Rattle.ring_run.specs.Course.{HasLemmas}
-use Rattle.ring_run.specs.Renewal.{point, HasValue, WasProbed, TookCode, IsResting, code_on}
-use Rattle.ring_run.specs.Halting.{HaltsAtProbe, HaltsAtCode}
+use Rattle.ring_run.specs.Renewal.{point, HasValue, WasProbed, IsResting, code_on}
+use Rattle.ring_run.specs.Halting.{HaltsAtProbe}
 use Rattle.ring_run.specs.declared.ring.Ring.{Ring}
 use Rattle.ring_run.proofs.Offering.{nothing_none}
 use Rattle.ring_run.proofs.Probes.{valued, valueless, moved_resting, moved_listed, moved_same}
@@ -127,8 +126,7 @@ returns-in-Err-clause-halts g c =
     let u = g.P.Port.state c.probe_literal.new.port in
     let same = c.take_literal-lit.ensures.same in
     let lit = c.take_literal-lit.ensures.literal in
-    let free = valueless mid.trail.steps c.take_literal-lit.result c.truth.result c.truth.ensures.truth (sym c.is_some.ensures ∙ c.if-is_some.false) in
-    (
+    let free = valueless mid.trail.steps c.take_literal-lit.result c.truth.result c.truth.ensures.truth (sym c.is_some.ensures ∙ c.if-is_some.false) in (
       subst (λ (t : TrailData). HasNoPlace t.steps (literal_of (code_on old.trail.vars old.next_probe)).var) (ap (λ (r : Ring). r.trail) same)
           (subst (λ (l : Literal). HasNoPlace mid.trail.steps l.var) lit free),
       subst (λ (r : Ring). HaltsAtProbe (point s r) u (literal_of (code_on old.trail.vars old.next_probe)) c.in-Err.end) same

@@ -1,4 +1,4 @@
-use Rattle.std.proofs.Common.{◌≡◌, ◌∙◌, ℕ, ◌+◌, ◌<◌, ◌≤◌, ◌==◌, Bool, true, false, List, length, map, Option, Some, None, refl, sym, ap, subst, inl, inr, arith, All}
+use Rattle.std.proofs.Common.{◌≡◌, ◌∙◌, ℕ, ◌+◌, Bool, List, length, map, Some, None, sym, ap, subst, arith, All}
 use Rattle.std.specs.Prelude.{if◌then◌else◌}
 use Rattle.std.proofs.lemmas.Bool.{eq-eqb, ne_eqb}
 use Rattle.rand_pcg.specs.Lcg.{Lcg}
@@ -6,14 +6,13 @@ use Rattle.random_bits.specs.Bits.{generator_of}
 use Rattle.sat_words.specs.Literal.{Literal, IsOn}
 use Rattle.sat_words.specs.Clause.{clause_of, has_opposites}
 use Rattle.sat_words.specs.declared.shared.Cref.{Cref}
-use Rattle.ring_port.specs.PortState.{PortState, lits_at}
-use Rattle.ring_trail.specs.TrailData.{TrailData, IsTrail}
+use Rattle.ring_port.specs.PortState.{lits_at}
 use Rattle.ring_decide.specs.DeciderData.{DeciderData}
-use Rattle.ring_walk.specs.WalkData.{WalkData, IsNew, false_under}
+use Rattle.ring_walk.specs.WalkData.{IsNew, false_under}
 use Rattle.ring_walk.specs.Walk.{HasWalked}
 use Rattle.ring_walk.proofs.Walking.{best_long}
 use Rattle.ring_run.specs.Searching.{IsHeldBy}
-use Rattle.ring_run.specs.Walked.{walked_clauses, lits_of, WalkedFrom, IsStartModel}
+use Rattle.ring_run.specs.Walked.{walked_clauses, lits_of, IsStartModel}
 use Rattle.ring_run.proofs.Beginning.{starts_held}
 use Rattle.ring_run.proofs.WalkLemmas.{walked_are, on_walked, units_on, units_apart, start_model}
 use Rattle.ring_run.proofs.walking.walk_from.Goals as goal

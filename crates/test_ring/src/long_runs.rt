@@ -26,12 +26,12 @@ fn chosen(word: u64, after: u32, size: u32) -> Lit
     Lit::new(1 + after + place, (word >> 33) & 1 == 1)
 }
 
-/// So many clauses of three literals more, one of each of the first three blocks of variables of this size.
-fn with_chosen(alloc: Global, problem: Problem, size: u32, clauses: u32) -> Result<Problem, Fail>
+/// So many clauses of three literals, one of each of three blocks of variables.
+fn chosen_clauses(alloc: Global, size: u32, clauses: u32) -> Result<Problem, Fail>
     requires some { 1 ≤ size }
     requires few { size ≤ 100 }
 {
-    let mut problem = problem;
+    let mut problem = Problem::new(alloc, 3 * size);
     let mut word = 1;
     for _ in 0..clauses {
         let first = next_word(word);
@@ -47,24 +47,6 @@ fn with_chosen(alloc: Global, problem: Problem, size: u32, clauses: u32) -> Resu
         )?;
     }
     Ok(problem)
-}
-
-/// So many clauses of three literals, one of each of three blocks of variables.
-fn chosen_clauses(alloc: Global, size: u32, clauses: u32) -> Result<Problem, Fail>
-    requires some { 1 ≤ size }
-    requires few { size ≤ 100 }
-{
-    with_chosen(alloc, Problem::new(alloc, 3 * size), size, clauses)
-}
-
-/// Whether this is a line of the text.
-fn has_line(text: &[u8], wanted: &[u8]) -> bool {
-    for line in text.split(|byte| *byte == b'\n') {
-        if line == wanted {
-            return true;
-        }
-    }
-    false
 }
 
 /// How many lines add a clause of two literals or more.
@@ -96,22 +78,6 @@ fn makes_lemmas_shorter(rt: HostRuntime) -> Result<(), Fail> {
     let (end, counts, sink) = run_in(alloc, chosen_clauses(alloc, 60, 830)?, 4000, ROOM)?;
     assert!(rt; kind_of(&end) == Kind::Spent);
     assert!(rt; long_lines(sink.bytes()) > counts.learned);
-    Ok(())
-}
-
-// If 181 is true then so are 182 and its negation. But 182 is decided before it, and then no clause is false: so no lemma says it, and
-// only a probe finds it.
-#[test]
-fn finds_a_failed_literal(rt: HostRuntime) -> Result<(), Fail> {
-    let alloc = rt.alloc();
-    let failed = Lit::new(181, false);
-    let last = Lit::new(182, false);
-    let problem = with_chosen(alloc, Problem::new(alloc, 182), 60, 830)?;
-    let problem = problem.with(alloc, &[failed.not(), last])?;
-    let problem = problem.with(alloc, &[failed.not(), last.not()])?;
-    let (end, _counts, sink) = run_in(alloc, problem, 3000, ROOM)?;
-    assert!(rt; kind_of(&end) == Kind::Spent);
-    assert!(rt; has_line(sink.bytes(), b"-181 0"));
     Ok(())
 }
 

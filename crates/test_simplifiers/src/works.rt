@@ -1,8 +1,10 @@
 //! Works on a formula, whose lines are counted or kept as text.
 ghost use Rattle.std.specs.Prelude.{◌≡◌, false, [], All, IfOk, length};
 ghost use Rattle.drat_text.specs.CountedData.{begun_counting};
+ghost use Rattle.drat_text.specs.SinkData.{begun_lines};
 ghost use Rattle.io_edge.specs.Memory.{new_sink};
 ghost use Rattle.sat_words.specs.Literal.{IsOn};
+ghost use Rattle.sat_words.specs.declared.line.ProofFormat.TheVariants.{Text};
 ghost use Rattle.simp_base.specs.WorkState.{IsWork, begun};
 
 use drat_text::{CountedLines, SinkLines};
@@ -25,7 +27,7 @@ pub fn text_lines(
     formula: &Formula,
     room: usize,
 ) -> Result<SinkLines<MemSink<'static>>, Fail>
-    ensures { IfOk result (λ lines. lines ≡ record { entries = 0; last = length formula.now.clauses; spent = false; waiting = []; sink = new_sink room [] }) }
+    ensures { IfOk result (λ lines. lines ≡ begun_lines Text (length formula.now.clauses) (new_sink room [])) }
 {
     let sink = MemSink::new(alloc, room, &[])?;
     match SinkLines::new(alloc, formula.clauses().len() as u64, sink) {

@@ -62,11 +62,12 @@ module _ (w : WorkState) (u : ℕ) (le : w.vars ≤ u) where
   }
 
 pub continues_grows : (entries : List Entry) (a b : WorkState) → Continues entries a b → Grows entries a b
-continues_grows entries a b c = record { vars = (let e = c.vars in omega arith); stands = c.stands }
+continues_grows entries a b c = record { vars = (let e = c.vars in omega arith); few = λ le. subst (λ (n : ℕ). n ≤ 2 ^ 30) (sym c.vars) le; stands = c.stands }
 
 pub grows_along : (fs gs : List Entry) (a b c : WorkState) → Grows fs a b → Grows gs b c → Grows (fs ++ gs) a c
 grows_along fs gs a b c f g = record {
   vars = (let p = f.vars in let q = g.vars in omega arith);
+  few = λ le. g.few (f.few le);
   stands = λ o mine h. subst (λ es. Stands o es c) (append_assoc mine fs gs) (g.stands o (mine ++ fs) (f.stands o mine h));
 }
 
@@ -84,7 +85,7 @@ kept_widened old new (Ok None) kept was = subst IsWork (sym was.state) kept
 kept_widened old new (Err stop) kept was = subst IsWork (sym was.1) kept
 
 grows_none : (w : WorkState) → Grows [] w w
-grows_none w = record { vars = omega arith; stands = nothing_more_of }
+grows_none w = record { vars = omega arith; few = λ le. le; stands = nothing_more_of }
   where
     nothing_more_of : (o : Origin) (mine : List Entry) → Stands o mine w → Stands o (mine ++ []) w
     nothing_more_of o mine h = nothing_more o mine w h
@@ -92,6 +93,7 @@ grows_none w = record { vars = omega arith; stands = nothing_more_of }
 pub grows_widened : (old new : WorkState) (result : Result (Option Literal) LineStop) → WasWidened old new result → Grows [] old new
 grows_widened old new (Ok (Some l)) was = subst (Grows [] old) (sym was.state) (record {
   vars = one_more old;
+  few = λ _. (let lt = was.below in omega arith);
   stands = λ o mine h. nothing_more o mine (record old { vars = old.vars + 1 }) (stands_wider old (old.vars + 1) (one_more old) o mine h);
 })
 grows_widened old new (Ok None) was = subst (Grows [] old) (sym was.state) (grows_none old)

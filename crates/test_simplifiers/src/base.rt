@@ -109,11 +109,13 @@ fn defines_variable(alloc: Global, work: &mut Written, one: Lit, two: Lit) -> Re
     if both.var() != 3 || both.is_neg() || work.vars() != 3 {
         return Ok(false);
     }
-    Ok(adds_by_rat(alloc, work, &[both, one.not()])?
-        && adds_by_rat(alloc, work, &[both, two.not()])?
-        && adds_by_rat(alloc, work, &[both.not(), two, one])?
-        && work.last_number() == 4
-        && work.line_count() == 3)
+    Ok(
+        adds_by_rat(alloc, work, &[both, one.not()])?
+            && adds_by_rat(alloc, work, &[both, two.not()])?
+            && adds_by_rat(alloc, work, &[both.not(), two, one])?
+            && work.last_number() == 4
+            && work.line_count() == 3,
+    )
 }
 
 #[test]

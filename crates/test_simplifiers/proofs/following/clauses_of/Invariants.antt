@@ -3,4 +3,4 @@ use Rattle.simp_base.specs.WorkState.{lists}
 use Rattle.test_simplifiers.proofs.following.clauses_of.Given as goal
 
 abbrev pub invariant-loop-cell : goal.invariant-loop-cell
-invariant-loop-cell g l = l.clauses.items ≡ lists (take l.cell-index l.clauses-2)
+invariant-loop-cell g l = l.clauses.items ≡ lists (take l.cell-index l.cell-items)

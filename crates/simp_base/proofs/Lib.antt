@@ -14,3 +14,6 @@ pub mod Filters
 pub mod Long
 pub mod Truths
 pub mod Stacking
+pub mod WiderClauses
+pub mod Validity
+pub mod Widening

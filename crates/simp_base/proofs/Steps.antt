@@ -3,7 +3,7 @@ use Rattle.std.proofs.Common.{◌≡◌, ◌≢◌, ◌↔◌, ℕ, zero, suc, �
 use Rattle.std.specs.List.{list_any, All, Contains, slice_get}
 use Rattle.std.specs.Option.{unwrap_or, option_map}
 use Rattle.std.specs.List.{fold}
-use Rattle.std.proofs.lemmas.Bool.{or_left, and_from, false≢true}
+use Rattle.std.proofs.lemmas.Bool.{and_from, false≢true}
 use Rattle.std.proofs.lemmas.List.Elements.{All-append}
 use Rattle.std.proofs.lemmas.List.Folds.{list_any-append}
 use Rattle.sat_words.specs.Literal.{Literal, IsOn}
@@ -17,7 +17,7 @@ use Rattle.rup_model.specs.Rup.{rup}
 use Rattle.rup_model.specs.Log.{Accepted, alive, is_valid, lits_of}
 use Rattle.rup_model.specs.Journal.{Book, spelled, formula_book, book_after, book, lines, lines_after, added, is_told, IsFit, LogSound}
 use Rattle.rup_model.specs.Opening.{is_rulers}
-use Rattle.rup_model.proofs.Lists.{In, In_any, any_In, In_append, In_append_left, In_append_right, In_map, map_In, Contains_In, In_Contains}
+use Rattle.rup_model.proofs.Lists.{In, In_any, any_In, In_append_left, In_append_right, In_map, map_In, Contains_In, In_Contains}
 use Rattle.sat_words.proofs.Insertion.{same_set-clause_of}
 use Rattle.simp_base.proofs.Keeping.{only_told}
 use Rattle.rup_model.proofs.Sums.{put_here, put_else, at_put}
@@ -25,9 +25,8 @@ use Rattle.rup_model.proofs.Sequences.{each_last}
 use Rattle.rup_model.proofs.Covers.{same_self, same_back}
 use Rattle.rup_model.proofs.Copies.{copies_any}
 use Rattle.rup_model.proofs.Units.{two_more}
-use Rattle.rup_model.proofs.Numbers.{spelled_same, journal_matches, clause_below, clause_copies, book_last, lines_last, rup_alive_sets}
+use Rattle.rup_model.proofs.Numbers.{spelled_same, journal_matches, clause_below, clause_copies, book_last, lines_last}
 use Rattle.rup_model.proofs.Additions.{added-append, told_more}
-use Rattle.rup_model.proofs.Told.{told_alive}
 use Rattle.drat_text.specs.LineState.{LineState, last_after}
 use Rattle.drat_text.specs.LineOut.{PutLine, FailedLine, with_line}
 use Rattle.drat_text.specs.declared.stop.LineStop.{LineStop}
@@ -36,10 +35,11 @@ use Rattle.std.specs.Prelude.{Result, Ok, Err}
 use Rattle.drat_text.specs.JournalText.{Origin}
 use Rattle.drat_text.proofs.JournalLines.{has_text_next, has_text_cut}
 use Rattle.model_stack.specs.declared.stack.Fix.{Fix}
-use Rattle.simp_base.specs.WorkState.{WorkState, IsWork, known, lists, unit_clauses, is_only, is_alive_unit}
+use Rattle.simp_base.specs.WorkState.{WorkState, IsWork, known, lists, is_only, is_alive_unit}
 use Rattle.simp_base.specs.Log.{journal_of, Stands, HasLines, Continues}
 use Rattle.simp_base.specs.Calls.{ruler_adds, ruler_deletes, on_ok, NotPut, WasAdded, WasDeleted, IsListed, WasListed, entries_for, unit_entries}
 use Rattle.simp_base.proofs.Lists.{All_In, one_All, Contains_left, Contains_last, Contains_apart}
+use Rattle.simp_base.proofs.Validity.{left_alive, IsValidOver, rup_valid}
 
 or_none : (b : Bool) → (b || false) ≡ b
 or_none true = refl
@@ -121,22 +121,10 @@ module _ (o : Origin) (mine : List Entry) (w : WorkState) (h : Stands o mine w) 
   pub all_told_next : All (λ l. is_told F grown l ≡ true) w.units
   all_told_next k d lt = told_next _ (h.told k d lt)
 
--- what is known is alive
-alive_known : (o : Origin) (mine : List Entry) (w : WorkState) → Stands o mine w → (d : List Literal) → In d (known w)
-    → (n : ℕ) × (c : List Literal) × ((book o.formula (journal_of o mine)).clause n ≡ Some c) × (same_set d c ≡ true)
-alive_known o mine w h d i =
-    ⊎_elim
-    (λ k. (let t = map_In (λ (c : ℕ × List Literal). c.1) w.clauses d k in
-    (t.0.0, t.0.1, h.held t.0.0 t.0.1 (In_Contains w.clauses t.0 t.1), subst (λ (y : List Literal). same_set d y ≡ true) (sym t.2) (same_self d))))
-    (λ k. (let t = map_In (λ l. l ∷ []) w.units d k in
-    let u = told_alive o.formula (journal_of o mine) t.0 h.sound.fits (All_In (λ l. is_told o.formula (journal_of o mine) l ≡ true) w.units t.0 h.told t.1) in
-    (u.0, u.1, u.2, subst (λ (y : List Literal). same_set y u.1 ≡ true) t.2 u.3)))
-    (In_append (lists w.clauses) (unit_clauses w.units) d i)
-
 -- An addition
 
 module _ (o : Origin) (mine : List Entry) (w : WorkState) (h : Stands o mine w) (lits : List Literal) (number : ℕ)
-    (follows : rup (known w) lits ≡ true) (going : w.ended ≡ false) where
+    (valid : is_valid (left_alive o mine) (AddLine lits) ≡ true) (going : w.ended ≡ false) where
   abbrev FA : List (List Literal)
   FA = o.formula
 
@@ -145,9 +133,6 @@ module _ (o : Origin) (mine : List Entry) (w : WorkState) (h : Stands o mine w) 
 
   abbrev ea : Entry
   ea = ruler_adds number lits
-
-  pub valid_add : is_valid (alive FA (lines FA JA)) (AddLine lits) ≡ true
-  valid_add = or_left _ _ (rup_alive_sets (book FA JA) (alive FA (lines FA JA)) (known w) lits (journal_matches FA JA h.sound.fits) (alive_known o mine w h) follows)
 
   added_grown : added (journal_of o (mine ++ ea ∷ [])) ≡ added JA ++ lits ∷ []
   added_grown = ap added (grown_is o mine w h ea (AddLine lits)) ∙ added-append JA (ea ∷ [])
@@ -190,14 +175,14 @@ module _ (o : Origin) (mine : List Entry) (w : WorkState) (h : Stands o mine w) 
     pub stands_added : (b : LineState) → w.output.spent ≡ false → All (IsOn w.vars) lits → PutLine w.output b (AddLine lits) number
         → Stands o (mine ++ ea ∷ []) (record w { clauses = w.clauses ++ (number, clause_of lits) ∷ []; ended = is_empty lits; output = b })
     stands_added b unspent on line = record {
-      sound = sound_next o mine w h ea (AddLine lits) refl valid_add (record { numbered = next; names = tt }) going;
+      sound = sound_next o mine w h ea (AddLine lits) refl valid (record { numbered = next; names = tt }) going;
       rulers = All-append (λ y. is_rulers y ≡ true) mine (ea ∷ []) h.rulers (one_All (λ y. is_rulers y ≡ true) ea refl);
       on = subst (λ G. All (All (IsOn w.vars)) G) (sym (added-append mine (ea ∷ []))) (All-append (All (IsOn w.vars)) (added mine) (lits ∷ []) h.on (one_All (All (IsOn w.vars)) lits on));
       ended = ended_next;
       held = held_next;
       all = all_next;
       told = all_told_next o mine w h ea (AddLine lits);
-      lines = has_lines_next o mine w h ea (AddLine lits) refl valid_add (record { numbered = next; names = tt }) going b number unspent line (let l = h.lines.last in omega arith);
+      lines = has_lines_next o mine w h ea (AddLine lits) refl valid (record { numbered = next; names = tt }) going b number unspent line (let l = h.lines.last in omega arith);
     }
 
 -- A deletion
@@ -256,7 +241,7 @@ one_clause o mine w h n c d i j = let e : Some c ≡ Some d = sym (h.held n c i)
 pub on_clause : (w : WorkState) → IsWork w → (n : ℕ) (c : List Literal) → Contains w.clauses (n, c) → All (IsOn w.vars) c
 on_clause w kept n c i = All_In (All (IsOn w.vars)) (lists w.clauses) c kept.clauses_on (In_map (λ (x : ℕ × List Literal). x.1) w.clauses (n, c) (Contains_In w.clauses (n, c) i))
 
-nothing_more : (o : Origin) (mine : List Entry) (w : WorkState) → Stands o mine w → Stands o (mine ++ []) w
+pub nothing_more : (o : Origin) (mine : List Entry) (w : WorkState) → Stands o mine w → Stands o (mine ++ []) w
 nothing_more o mine w h = subst (λ es. Stands o es w) (sym (append-nil mine)) h
 
 not_put : (o : Origin) (mine : List Entry) (old new : WorkState) (h : Stands o mine old) (e : Entry) (x : Line) → lines_after (book o.formula (journal_of o mine)) e ≡ x ∷ []
@@ -279,21 +264,21 @@ not_put_vars old new x Memory h = ap (λ (w : WorkState). w.vars) h
 next_number : (o : Origin) (mine : List Entry) (w : WorkState) → Stands o mine w → w.output.last + 1 ≡ (book o.formula (journal_of o mine)).next
 next_number o mine w h = sym h.lines.last
 
-added_stands : (old new : WorkState) (lits : List Literal) (result : Result ℕ LineStop) → old.output.spent ≡ false → old.ended ≡ false → rup (known old) lits ≡ true → All (IsOn old.vars) lits
+added_stands : (old new : WorkState) (lits : List Literal) (result : Result ℕ LineStop) → old.output.spent ≡ false → old.ended ≡ false → IsValidOver old lits → All (IsOn old.vars) lits
     → WasAdded old new lits result → Follows (on_ok result (ruler_adds (old.output.last + 1) lits ∷ [])) old new
-added_stands old new lits (Ok number) unspent going follows on was o mine h =
+added_stands old new lits (Ok number) unspent going valid on was o mine h =
     let given : number ≡ old.output.last + 1 = was.put.given in
     subst (Stands o (mine ++ ruler_adds (old.output.last + 1) lits ∷ [])) (sym was.state)
     (subst (λ (k : ℕ). Stands o (mine ++ ruler_adds (old.output.last + 1) lits ∷ []) (record old { clauses = old.clauses ++ (k, clause_of lits) ∷ []; ended = is_empty lits; output = new.output })) (sym given)
-    (stands_added o mine old h lits (old.output.last + 1) follows going (next_number o mine old h) new.output unspent on
+    (stands_added o mine old h lits (old.output.last + 1) (valid o mine h) going (next_number o mine old h) new.output unspent on
     (subst (λ k. PutLine old.output new.output (AddLine lits) k) given was.put)))
-added_stands old new lits (Err stop) unspent going follows on was o mine h =
-    not_put o mine old new h (ruler_adds (old.output.last + 1) lits) (AddLine lits) refl (valid_add o mine old h lits (old.output.last + 1) follows going)
+added_stands old new lits (Err stop) unspent going valid on was o mine h =
+    not_put o mine old new h (ruler_adds (old.output.last + 1) lits) (AddLine lits) refl (valid o mine h)
     (record { numbered = next_number o mine old h; names = tt }) going unspent on stop was
 
-pub added_keeps : (old new : WorkState) (lits : List Literal) (result : Result ℕ LineStop) → old.output.spent ≡ false → old.ended ≡ false → rup (known old) lits ≡ true → All (IsOn old.vars) lits
+pub added_keeps : (old new : WorkState) (lits : List Literal) (result : Result ℕ LineStop) → old.output.spent ≡ false → old.ended ≡ false → IsValidOver old lits → All (IsOn old.vars) lits
     → WasAdded old new lits result → Continues (on_ok result (ruler_adds (old.output.last + 1) lits ∷ [])) old new
-added_keeps old new lits result unspent going follows on was = record { vars = same result was; stands = added_stands old new lits result unspent going follows on was }
+added_keeps old new lits result unspent going valid on was = record { vars = same result was; stands = added_stands old new lits result unspent going valid on was }
   where
     same : (r : Result ℕ LineStop) → WasAdded old new lits r → new.vars ≡ old.vars
     same (Ok number) h = ap (λ (w : WorkState). w.vars) h.state
@@ -393,7 +378,7 @@ module _ (old new : WorkState) (l : Literal) (unspent : old.output.spent ≡ fal
       let n : ℕ = old.output.last + 1 in
       let b : LineState = new.output in
       let added : Stands o (mine ++ ruler_adds n (l ∷ []) ∷ []) (record old { clauses = old.clauses ++ (n, l ∷ []) ∷ []; ended = false; output = b }) =
-      stands_added o mine old h (l ∷ []) n follows going (next_number o mine old h) b unspent (one_All (IsOn old.vars) l on) (subst (λ k. PutLine old.output b (AddLine (l ∷ [])) k) given was.put) in
+      stands_added o mine old h (l ∷ []) n (rup_valid old (l ∷ []) follows o mine h) going (next_number o mine old h) b unspent (one_All (IsOn old.vars) l on) (subst (λ k. PutLine old.output b (AddLine (l ∷ [])) k) given was.put) in
       let told : is_told o.formula (journal_of o (mine ++ ruler_adds n (l ∷ []) ∷ [])) l ≡ true =
       subst (λ K. is_told o.formula K l ≡ true) (append_assoc o.journal mine (ruler_adds n (l ∷ []) ∷ [])) (told_here o.formula (journal_of o mine) n l) in
       let both = stands_listed o (mine ++ ruler_adds n (l ∷ []) ∷ []) (record old { clauses = old.clauses ++ (n, l ∷ []) ∷ []; ended = false; output = b }) added l told in
@@ -403,7 +388,7 @@ module _ (old new : WorkState) (l : Literal) (unspent : old.output.spent ≡ fal
   listed_stands : (result : Result (Unit {0}) LineStop) → WasListed old new l result → Follows (on_ok result (unit_entries old l)) old new
   listed_stands (Ok done) was o mine h = listed_by (has old.units l) (is_alive_unit old l) refl was o mine h
   listed_stands (Err stop) was o mine h =
-      not_put o mine old new h (ruler_adds (old.output.last + 1) (l ∷ [])) (AddLine (l ∷ [])) refl (valid_add o mine old h (l ∷ []) (old.output.last + 1) follows going)
+      not_put o mine old new h (ruler_adds (old.output.last + 1) (l ∷ [])) (AddLine (l ∷ [])) refl (rup_valid old (l ∷ []) follows o mine h)
       (record { numbered = next_number o mine old h; names = tt }) going unspent (one_All (IsOn old.vars) l on) stop was
 
   pub listed_keeps : (result : Result (Unit {0}) LineStop) → WasListed old new l result → Continues (on_ok result (unit_entries old l)) old new

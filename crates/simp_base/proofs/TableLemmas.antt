@@ -28,6 +28,9 @@ code_on vars codes l on e = by l.neg on.high
 pub codes_on : (vars codes : ℕ) (lits : List Literal) → All (IsOn vars) lits → codes ≡ 2 * (vars + 1) → All (λ l. code_of l < codes) lits
 codes_on vars codes lits all e k d lt = code_on vars codes (get_or lits k d) (all k d lt) e
 
+pub each_codes_on : (vars codes : ℕ) (G : List (List Literal)) → All (All (IsOn vars)) G → codes ≡ 2 * (vars + 1) → All (All (λ l. code_of l < codes)) G
+each_codes_on vars codes G all e k d lt = codes_on vars codes (get_or G k d) (all k d lt) e
+
 module _ (cells : List (ℕ × List Literal)) (places : List ℕ) (singles : List Bool) (notes : List (List ℕ)) (t : IsTable cells places singles notes) where
   -- more was noted
   pub table_noted : (more : List (List ℕ)) → KeptNotes notes more → IsTable cells places singles more

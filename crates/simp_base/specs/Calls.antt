@@ -1,5 +1,5 @@
 -- What each call does to a work, from the state before it to the state after it.
-use Rattle.std.specs.Prelude.{◌≡◌, ◌≢◌, ℕ, ◌+◌, ◌||◌, ◌↔◌, Bool, true, false, List, [], ◌∷◌, ◌++◌, Contains, Result, Ok, Err, ⊤}
+use Rattle.std.specs.Prelude.{◌≡◌, ◌≢◌, ℕ, ◌+◌, ◌^◌, ◌<◌, ◌≤◌, ◌||◌, ◌↔◌, Bool, true, false, List, [], ◌∷◌, ◌++◌, Contains, Option, Some, None, Result, Ok, Err, ⊤}
 use Rattle.sat_words.specs.Literal.{Literal}
 use Rattle.sat_words.specs.Clause.{has, is_empty, clause_of}
 use Rattle.sat_words.specs.declared.line.Line.{Line}
@@ -105,3 +105,26 @@ entries_for false w l = ruler_adds (w.output.last + 1) (l ∷ []) ∷ []
 -- the entries that listing a unit writes: none if its clause is alive
 abbrev pub unit_entries : WorkState → Literal → List Entry
 unit_entries w l = entries_for (has w.units l || is_alive_unit w l) w l
+
+-- Variables
+
+-- the positive literal of the variable after the last
+abbrev pub next_literal : WorkState → Literal
+next_literal w = record { var = w.vars + 1; neg = false }
+
+-- there is one variable more, the literal is its positive one, and nothing else changed
+pub record Widened (old new : WorkState) (l : Literal) : Type 0 where
+  pub below : old.vars < 2 ^ 30
+  pub literal : l ≡ next_literal old
+  pub state : new ≡ record old { vars = old.vars + 1 }
+
+-- the next variable would pass the last that a literal can have, and nothing changed
+pub record FoundLast (old new : WorkState) : Type 0 where
+  pub last : 2 ^ 30 ≤ old.vars
+  pub state : new ≡ old
+
+-- what asking for a variable more did, by its answer: a refusal for memory changes nothing
+abbrev pub WasWidened : WorkState → WorkState → Result (Option Literal) LineStop → Type 0
+WasWidened old new (Ok (Some l)) = Widened old new l
+WasWidened old new (Ok None) = FoundLast old new
+WasWidened old new (Err stop) = (stop ≡ Memory) × (new ≡ old)

@@ -1,5 +1,5 @@
 -- The log of a simplifier: one journal, whose lines its output has and whose clauses are those of the work.
-use Rattle.std.specs.Prelude.{◌≡◌, ℕ, ◌+◌, true, false, List, ◌++◌, length, All, Contains, Some}
+use Rattle.std.specs.Prelude.{◌≡◌, ◌≤◌, ◌^◌, ℕ, ◌+◌, true, false, List, ◌++◌, length, All, Contains, Some}
 use Rattle.std.specs.List.{list_any}
 use Rattle.sat_words.specs.Literal.{Literal, IsOn}
 use Rattle.sat_words.specs.Clause.{is_empty}
@@ -44,3 +44,14 @@ pub record Continues (entries : List Entry) (old new : WorkState) : Type 0 where
 -- whatever a work stands over, it still does after some entries of its own, the same over each origin
 abbrev pub KeepsLog : WorkState → WorkState → Type 0
 KeepsLog old new = (entries : List Entry) × Continues entries old new
+
+-- whatever a work stands over, it still does once these entries follow; there may be more variables, but none that a literal
+-- cannot have
+pub record Grows (entries : List Entry) (old new : WorkState) : Type 0 where
+  pub vars : old.vars ≤ new.vars
+  pub few : old.vars ≤ 2 ^ 30 → new.vars ≤ 2 ^ 30
+  pub stands : (o : Origin) (mine : List Entry) → Stands o mine old → Stands o (mine ++ entries) new
+
+-- it does after some entries of its own, the same over each origin
+abbrev pub GrowsLog : WorkState → WorkState → Type 0
+GrowsLog old new = (entries : List Entry) × Grows entries old new

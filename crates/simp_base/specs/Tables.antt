@@ -52,8 +52,9 @@ pub record RemovedNumber (old new : List (ℕ × List Literal)) (number : ℕ) :
   pub here : (d : ℕ × List Literal) → (slice_index_or old place d).0 ≡ number
   pub removed : Removed old new place
 
--- the units in their order; how many codes of literals there are; for how many more there is room
+-- the units in their order; how many codes of literals there are; for how many more units and codes there is room
 pub record UnitData : Type 0 where
   pub units : List Literal
   pub codes : ℕ
   pub room : ℕ
+  pub code_room : ℕ

@@ -3,7 +3,7 @@
 // A table gives each number its place. The last clause takes the place of one that is removed, so that all is done in
 // constant time except for the notes of the literals. What the tables have of numbers that are not alive is not cleared: it
 // is passed over where it is read.
-ghost use Rattle.std.specs.Prelude.{◌≡◌, ◌<◌, ◌≤◌, ◌+◌, ◌*◌, ◌^◌, ℕ, List, [], ◌∷◌, ◌++◌, ◌||◌, true, false, length, All, Contains, IfOk, IfSome, IfNone, OnOk, vec_len};
+ghost use Rattle.std.specs.Prelude.{◌≡◌, ◌<◌, ◌≤◌, ◌+◌, ◌*◌, ◌^◌, ℕ, List, [], ◌∷◌, ◌++◌, ◌||◌, true, false, length, All, Contains, IfOk, IfSome, IfNone, OnOk, OnErr, vec_len};
 ghost use Rattle.std.specs.List.{list_any, slice_index_or};
 ghost use Rattle.sat_words.specs.Literal.{Literal, code_of};
 ghost use Rattle.sat_words.specs.Clause.{has, two_or_more};
@@ -199,5 +199,20 @@ impl ClauseTable {
             let moved = self.cells[place].0;
             self.places[moved as usize] = place;
         }
+    }
+
+    /// Has one variable more, which stands in no clause. After an error it has the variables that it had.
+    pub(crate) fn widen(&mut self) -> Result<(), AllocError>
+        requires { All (All (λ l. code_of l < self.old.codes)) (lists self.old.clauses) }
+        ensures clauses { self.new.clauses ≡ self.old.clauses }
+        ensures next { self.new.next ≡ self.old.next }
+        ensures ok { OnOk result (self.new.codes ≡ self.old.codes + 2) }
+        ensures err { OnErr result (self.new.codes ≡ self.old.codes) }
+    {
+        self.alone.reserve(2)?;
+        self.occurrences.widen(self.alloc)?;
+        self.alone.push_reserved(false);
+        self.alone.push_reserved(false);
+        Ok(())
     }
 }

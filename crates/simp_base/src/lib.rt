@@ -15,8 +15,9 @@ mod work;
 
 pub use drat_text::LineStop;
 pub use laws::{
-    contained_clauses_lift, ended_refutes, lifted_composes, lifted_itself, logs_compose,
-    strengthened_clauses_follow,
+    contained_clauses_lift, continuing_grows, ended_refutes, growing_composes,
+    implied_clauses_lift, lifted_composes, lifted_itself, logs_compose, rat_over_the_same_sets,
+    strengthened_clauses_follow, wider_clauses_follow,
 };
 pub use part::takes_part;
 pub use tautology::is_tautology;

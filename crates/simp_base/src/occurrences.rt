@@ -1,5 +1,5 @@
 // For each literal the numbers of clauses that hold it.
-ghost use Rattle.std.specs.Prelude.{◌≡◌, ◌<◌, ◌+◌, ◌*◌, ℕ, List, [], ◌∷◌, ◌++◌, length, replicate, slice_set, IfOk, OnOk, All};
+ghost use Rattle.std.specs.Prelude.{◌≡◌, ◌<◌, ◌+◌, ◌*◌, ℕ, List, [], ◌∷◌, ◌++◌, length, replicate, slice_set, IfOk, OnOk, OnErr, All};
 ghost use Rattle.std.specs.List.{slice_index_or};
 ghost use Rattle.sat_words.specs.Literal.{Literal, code_of};
 ghost use Rattle.simp_base.specs.Tables.{Noted, KeptNotes};
@@ -62,5 +62,16 @@ impl Occurrences {
         ensures { result.now ≡ slice_index_or self.now (code_of lit) [] }
     {
         self.lists[lit.code() as usize].as_slice()
+    }
+
+    /// Has one variable more, with nothing noted for its literals. After an error it is as it was.
+    pub(crate) fn widen(&mut self, alloc: Global) -> Result<(), AllocError>
+        ensures ok { OnOk result (self.new ≡ self.old ++ [] ∷ [] ∷ []) }
+        ensures err { OnErr result (self.new ≡ self.old) }
+    {
+        self.lists.reserve(2)?;
+        self.lists.push_reserved(Vec::new(alloc));
+        self.lists.push_reserved(Vec::new(alloc));
+        Ok(())
     }
 }

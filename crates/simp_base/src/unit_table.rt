@@ -1,5 +1,5 @@
 // The units listed, found by literal.
-ghost use Rattle.std.specs.Prelude.{◌≡◌, ◌<◌, ◌≤◌, ◌+◌, ◌*◌, [], ◌∷◌, ◌++◌, IfOk, OnOk};
+ghost use Rattle.std.specs.Prelude.{◌≡◌, ◌<◌, ◌≤◌, ◌+◌, ◌*◌, [], ◌∷◌, ◌++◌, IfOk, OnOk, All};
 ghost use Rattle.sat_words.specs.Literal.{code_of};
 ghost use Rattle.sat_words.specs.Clause.{has};
 
@@ -23,7 +23,12 @@ impl Model for UnitTable {
 
     ghost Value = { UnitData };
 
-    ghost view = { λ t. record { units = t.list.items; codes = vec_len t.listed; room = vec_capacity t.list - vec_len t.list } };
+    ghost view = { λ t. record {
+      units = t.list.items;
+      codes = vec_len t.listed;
+      room = vec_capacity t.list - vec_len t.list;
+      code_room = vec_capacity t.listed - vec_len t.listed;
+    } };
 
     ghost invariant = { λ t. (l : Literal) → code_of l < vec_len t.listed → slice_index_or t.listed.items (code_of l) false ≡ has t.list.items l };
 }
@@ -83,5 +88,26 @@ impl UnitTable {
     {
         self.list.push_reserved(lit);
         self.listed[lit.code() as usize] = true;
+    }
+
+    /// Takes room for the codes of one variable more.
+    pub(crate) fn make_code_room(&mut self) -> Result<(), AllocError>
+        ensures units { self.new.units ≡ self.old.units }
+        ensures codes { self.new.codes ≡ self.old.codes }
+        ensures room { OnOk result (2 ≤ self.new.code_room) }
+    {
+        self.listed.reserve(2)?;
+        Ok(())
+    }
+
+    /// Has one variable more, for the codes of which there is room. It has no unit.
+    pub(crate) fn widen(&mut self)
+        requires room { 2 ≤ self.old.code_room }
+        requires known { All (λ l. code_of l < self.old.codes) self.old.units }
+        ensures units { self.new.units ≡ self.old.units }
+        ensures codes { self.new.codes ≡ self.old.codes + 2 }
+    {
+        self.listed.push_reserved(false);
+        self.listed.push_reserved(false);
     }
 }

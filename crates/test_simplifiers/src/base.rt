@@ -1,9 +1,9 @@
 // `simp_base`, the calls of a work: each once, a deletion whose line stands or fails, and which clauses are tautologies.
 ghost use Rattle.std.specs.Prelude.{◌≡◌, ◌∷◌, [], true, false, All, IfOk};
 ghost use Rattle.sat_words.specs.Literal.{IsOn};
-ghost use Rattle.sat_words.specs.Clause.{has_opposites};
+ghost use Rattle.sat_words.specs.Clause.{has_opposites, is_empty};
 
-use crate::{follows, formula_of, is_on, literals, text_work};
+use crate::{follows, formula_of, is_on, is_rat_there, literals, text_work};
 use drat_text::{CountedLines, SinkLines};
 use io_edge::MemSink;
 use sat_words::{Clause, Formula, Lit};
@@ -79,6 +79,59 @@ fn each_call_goes_well(rt: HostRuntime) -> Result<(), Fail> {
     assert!(rt; adds_clause(alloc, &mut work, one, two)?);
     assert!(rt; lists_unit(alloc, &mut work, one)?);
     assert!(rt; leaves_one_line(work, one));
+    Ok(())
+}
+
+/// Adds the clause of these literals by a line that is RAT on the first of them.
+fn adds_by_rat(alloc: Global, work: &mut Written, lits: &[Lit]) -> Result<bool, Fail>
+    requires unspent { work.old.output.spent ≡ false }
+    requires going { work.old.ended ≡ false }
+    requires on { All (IsOn work.old.vars) lits.now }
+    requires more { is_empty lits.now ≡ false }
+    ensures { IfOk result (λ yes. yes ≡ true → (work.new.output.spent ≡ false) × (work.new.ended ≡ false) × (work.new.vars ≡ work.old.vars)) }
+{
+    if !is_rat_there(alloc, work, lits)? {
+        return Ok(false);
+    }
+    Ok(work.add_rat(lits).is_ok())
+}
+
+/// A variable that stands for a clause of two literals: it comes after the last, and three RAT lines define it.
+fn defines_variable(alloc: Global, work: &mut Written, one: Lit, two: Lit) -> Result<bool, Fail>
+    requires unspent { work.old.output.spent ≡ false }
+    requires going { work.old.ended ≡ false }
+    requires one { IsOn work.old.vars one }
+    requires two { IsOn work.old.vars two }
+{
+    let Ok(Some(both)) = work.fresh() else {
+        return Ok(false);
+    };
+    if both.var() != 3 || both.is_neg() || work.vars() != 3 {
+        return Ok(false);
+    }
+    Ok(
+        adds_by_rat(alloc, work, &[both, one.not()])?
+            && adds_by_rat(alloc, work, &[both, two.not()])?
+            && adds_by_rat(alloc, work, &[both.not(), two, one])?
+            && work.last_number() == 4
+            && work.line_count() == 3,
+    )
+}
+
+#[test]
+fn a_fresh_variable_and_rat_lines(rt: HostRuntime) -> Result<(), Fail> {
+    let alloc = rt.alloc();
+    let formula = formula_of(alloc, 2, &[1, 2, 0])?;
+    assert!(rt; is_on(&formula));
+    let mut work = text_work(alloc, &formula, 64)?;
+    assert!(rt; defines_variable(alloc, &mut work, Lit::new(1, false), Lit::new(2, false))?);
+    let Ok(Some(next)) = work.fresh() else {
+        return Err("no variable".into());
+    };
+    assert_eq!(rt; next.var(), 4);
+    let (end, sink) = work.into_parts().output.finish();
+    assert!(rt; end.is_ok());
+    assert!(rt; sink.bytes() == b"3 -1 0\n3 -2 0\n-3 2 1 0\n".as_slice());
     Ok(())
 }
 

@@ -1,11 +1,11 @@
-//! What follows from one clause of a work.
+//! What follows from the clauses of a work.
 ghost use Rattle.std.specs.Prelude.{◌≡◌, ◌∷◌, [], List, true, Contains, IfOk};
-ghost use Rattle.rup_model.specs.Rup.{rup};
+ghost use Rattle.rup_model.specs.Rup.{rup, rat};
 ghost use Rattle.sat_words.specs.Literal.{Literal};
-ghost use Rattle.simp_base.specs.WorkState.{known};
+ghost use Rattle.simp_base.specs.WorkState.{known, lists};
 
 use drat_text::LineOut;
-use rup_model::is_rup;
+use rup_model::{is_rat, is_rup};
 use sat_words::{Lit, Lits};
 use simp_base::Work;
 use std::alloc::{AllocError, Global};
@@ -28,4 +28,27 @@ pub fn follows<L: LineOut>(
         }
         None => Ok(false),
     }
+}
+
+/// The literals of the clauses that are alive.
+fn clauses_of<L: LineOut>(alloc: Global, work: &Work<L>) -> Result<Vec<Lits>, AllocError>
+    ensures { IfOk result (λ clauses. clauses.items ≡ lists work.now.clauses) }
+{
+    let mut clauses = Vec::new(alloc);
+    for cell in work.clauses() {
+        clauses.push(Lits::from_slice(alloc, cell.1.lits())?)?;
+    }
+    Ok(clauses)
+}
+
+/// Whether the clause of these literals is RAT on the first of them over the clauses that are alive.
+pub fn is_rat_there<L: LineOut>(
+    alloc: Global,
+    work: &Work<L>,
+    lits: &[Lit],
+) -> Result<bool, AllocError>
+    ensures { IfOk result (λ yes. yes ≡ rat (lists work.now.clauses) lits.now) }
+{
+    let clauses = clauses_of(alloc, work)?;
+    is_rat(alloc, clauses.as_slice(), lits)
 }

@@ -21,7 +21,8 @@ use Rattle.simp_base.proofs.Removal.{same_number}
 use Rattle.simp_base.proofs.Truths.{lit_true-opposite}
 use Rattle.simp_add.specs.Common.{clause_at, others, mentions, is_alive, is_common, common_at, commons}
 use Rattle.simp_add.specs.Rule.{additions, adds, is_replaced, IsPartner, Exchanged}
-use Rattle.simp_add.specs.Stages.{IsReplaceable, Grown, Removed, CanCome, set_at, AreLong, AreShared, Done}
+use Rattle.simp_add.specs.Stages.{IsReplaceable, Grown, Removed, CanCome, set_at, AreLong, Done}
+use Rattle.simp_add.specs.Shared.{AreShared}
 use Rattle.simp_add.proofs.Finding.{Cell, Counts, parts, counted_at, there_alive, alive_there, others_in, whole_set, refuted}
 use Rattle.simp_add.proofs.Sharing.{common_counted, free_of, replaced_by, replaced_first, replaced_second}
 use Rattle.simp_add.proofs.Fewer.{twice_as_many}

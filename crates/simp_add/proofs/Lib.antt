@@ -1,4 +1,5 @@
 pub mod OneMore
+pub mod Listing
 pub mod Ranges
 pub mod Finding
 pub mod Counting

@@ -17,7 +17,7 @@ use Rattle.simp_add.specs.declared.alike.Alike.{Alike}
 use Rattle.simp_add.specs.Common.{others, mentions, is_alive, is_common, is_first, is_counted, common_at, commons}
 use Rattle.simp_add.specs.Alike.{AreAlike, numbers_with}
 use Rattle.simp_add.specs.Rule.{is_replaced}
-use Rattle.simp_add.specs.Stages.{Sharing, SharesOne, AreShared}
+use Rattle.simp_add.specs.Shared.{Sharing, SharesOne, AreShared}
 use Rattle.simp_add.proofs.Finding.{Cell, others_in, in_others, whole_set, whole_has, alive_there, there_alive, counts_at, counted_at, Counts, parts}
 
 -- Sets with the same literals

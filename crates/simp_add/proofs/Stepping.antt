@@ -16,7 +16,8 @@ use Rattle.simp_base.proofs.LiftSteps.{lifted_along, lifted_self}
 use Rattle.simp_base.proofs.Widening.{continues_grows, grows_along, work_wider, on_wider}
 use Rattle.simp_add.specs.Common.{mentions, commons}
 use Rattle.simp_add.specs.Rule.{IsPartner, HasNoPartner, Exchanged, Replaced, Passed, Turn, Ran, IsOver, nth_literal}
-use Rattle.simp_add.specs.Stages.{GoesOn, Stops, AreShared, IsReplaceable, Done, Stepped, HasNoVariable, Passing}
+use Rattle.simp_add.specs.Shared.{AreShared}
+use Rattle.simp_add.specs.Stages.{GoesOn, Stops, IsReplaceable, Done, Stepped, HasNoVariable, Passing}
 use Rattle.simp_add.specs.Ends.{Shortened}
 use Rattle.simp_add.proofs.Finding.{refuted}
 use Rattle.simp_add.proofs.Growing.{goes_self, goes_along, continues_self, stopped_after}

@@ -1,9 +1,9 @@
 -- What the additions and the deletions of one replacement do, and what a literal's turn does.
 use Rattle.std.specs.Prelude.{◌≡◌, ◌↔◌, ⊤, ℕ, ◌+◌, ◌<◌, ◌≤◌, ◌^◌, true, false, List, [], ◌∷◌, ◌++◌, ◌⊎◌, map, length, Contains, Option, Some, Result, Ok, Err}
-use Rattle.std.specs.List.{filter, filter_map}
+use Rattle.std.specs.List.{list_all}
 use Rattle.std.specs.Option.{option_map, unwrap_or}
 use Rattle.sat_words.specs.Literal.{Literal, IsOn, opposite, code_of, same}
-use Rattle.sat_words.specs.Clause.{has, same_set, two_or_more}
+use Rattle.sat_words.specs.Clause.{has, two_or_more}
 use Rattle.rup_model.specs.declared.journal.Entry.{Entry}
 use Rattle.drat_text.specs.declared.stop.LineStop.{LineStop}
 use Rattle.simp_base.specs.WorkState.{WorkState, IsWork, lists, numbered}
@@ -11,7 +11,8 @@ use Rattle.simp_base.specs.Causes.{HasCause}
 use Rattle.simp_base.specs.Lifted.{Lifted}
 use Rattle.simp_base.specs.Log.{Continues, Grows, GrowsLog}
 use Rattle.simp_base.specs.Calls.{ruler_deletes, next_literal}
-use Rattle.simp_add.specs.Common.{clause_at, others, mentions, is_alive, common_at, commons}
+use Rattle.simp_add.specs.Common.{clause_at, others, mentions, is_alive}
+use Rattle.simp_add.specs.Shared.{AreShared}
 use Rattle.simp_add.specs.Rule.{additions, adds, is_replaced, Distinct, Exchanged, IsPartner, Turn, Ran, IsOver, nth_literal}
 use Rattle.simp_add.specs.declared.passes.Ending.{Ending}
 use Rattle.simp_add.specs.declared.passes.Ending.TheVariants.{Over, NoVariable}
@@ -28,25 +29,6 @@ pub record GoesOn (old new : WorkState) : Type 0 where
 -- a call was refused for its cause
 abbrev pub Stops : WorkState → WorkState → LineStop → Type 0
 Stops old new stop = HasCause old new stop × GrowsLog old new
-
--- What is shared
-
--- by number, the first literal's clauses with the common sets, as they count, and all clauses of both literals with them
-pub record AreShared (w : WorkState) (l k : Literal) (firsts gone : List ℕ) : Type 0 where
-  pub sets : filter_map (common_at w.clauses l k) firsts ≡ commons w l k
-  pub counts : (n : ℕ) → Contains firsts n → (C : List Literal) × (common_at w.clauses l k n ≡ Some C)
-  pub every : (n : ℕ) → Contains gone n ↔ ((c : List Literal) × Contains w.clauses (n, c) × (is_replaced (lists w.clauses) l k c ≡ true))
-
--- the sets of the clauses with these numbers that counted, and all clauses of both literals with these sets
-pub record Sharing (w : WorkState) (l k : Literal) (numbers firsts gone : List ℕ) : Type 0 where
-  pub sets : filter_map (common_at w.clauses l k) firsts ≡ filter_map (common_at w.clauses l k) numbers
-  pub counts : (n : ℕ) → Contains firsts n → (C : List Literal) × (common_at w.clauses l k n ≡ Some C)
-  pub sound : (n : ℕ) → Contains gone n → (c : List Literal) × Contains w.clauses (n, c) × (is_replaced (lists w.clauses) l k c ≡ true)
-  pub every : (m : ℕ) (C : List Literal) → Contains numbers m → common_at w.clauses l k m ≡ Some C → (n : ℕ) (c : List Literal) → Contains w.clauses (n, c) → (same_set (l ∷ C) c ≡ true) ⊎ (same_set (k ∷ C) c ≡ true) → Contains gone n
-
--- one number more was looked at
-abbrev pub SharesOne : WorkState → Literal → Literal → ℕ → List ℕ → List ℕ → List ℕ → List ℕ → Type 0
-SharesOne w l k n firsts gone new_firsts new_gone = (numbers : List ℕ) → Sharing w l k numbers firsts gone → Sharing w l k (numbers ++ n ∷ []) new_firsts new_gone
 
 -- Additions
 

@@ -5,7 +5,7 @@ ghost use Rattle.sat_words.specs.Literal.{Literal, IsOn, code_of};
 ghost use Rattle.sat_words.specs.Clause.{has};
 ghost use Rattle.simp_base.specs.WorkState.{IsWork};
 ghost use Rattle.simp_add.specs.Alike.{has_lit, numbers_with};
-ghost use Rattle.simp_add.specs.Stages.{AreShared, SharesOne};
+ghost use Rattle.simp_add.specs.Shared.{AreShared, SharesOne};
 
 use crate::alike::{Alike, is_later, list_alike};
 use crate::numbers::load;

@@ -1,5 +1,5 @@
 // Whether a clause has the literals of another list and just one more.
-ghost use Rattle.std.specs.Prelude.{◌≡◌, ◌<◌, ◌≤◌, length, drop};
+ghost use Rattle.std.specs.Prelude.{◌≡◌, ◌<◌, ◌≤◌, false, length, drop};
 ghost use Rattle.std.specs.List.{slice_index_or};
 ghost use Rattle.sat_words.specs.Literal.{Literal, same};
 ghost use Rattle.simp_add.specs.Alike.{one_more, same_list};

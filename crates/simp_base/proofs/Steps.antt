@@ -3,7 +3,7 @@ use Rattle.std.proofs.Common.{◌≡◌, ◌≢◌, ◌↔◌, ℕ, zero, suc, �
 use Rattle.std.specs.List.{list_any, All, Contains, slice_get}
 use Rattle.std.specs.Option.{unwrap_or, option_map}
 use Rattle.std.specs.List.{fold}
-use Rattle.std.proofs.lemmas.Bool.{or_left, and_from, false≢true}
+use Rattle.std.proofs.lemmas.Bool.{and_from, false≢true}
 use Rattle.std.proofs.lemmas.List.Elements.{All-append}
 use Rattle.std.proofs.lemmas.List.Folds.{list_any-append}
 use Rattle.sat_words.specs.Literal.{Literal, IsOn}
@@ -17,7 +17,7 @@ use Rattle.rup_model.specs.Rup.{rup}
 use Rattle.rup_model.specs.Log.{Accepted, alive, is_valid, lits_of}
 use Rattle.rup_model.specs.Journal.{Book, spelled, formula_book, book_after, book, lines, lines_after, added, is_told, IsFit, LogSound}
 use Rattle.rup_model.specs.Opening.{is_rulers}
-use Rattle.rup_model.proofs.Lists.{In, In_any, any_In, In_append, In_append_left, In_append_right, In_map, map_In, Contains_In, In_Contains}
+use Rattle.rup_model.proofs.Lists.{In, In_any, any_In, In_append_left, In_append_right, In_map, map_In, Contains_In, In_Contains}
 use Rattle.sat_words.proofs.Insertion.{same_set-clause_of}
 use Rattle.simp_base.proofs.Keeping.{only_told}
 use Rattle.rup_model.proofs.Sums.{put_here, put_else, at_put}
@@ -25,9 +25,8 @@ use Rattle.rup_model.proofs.Sequences.{each_last}
 use Rattle.rup_model.proofs.Covers.{same_self, same_back}
 use Rattle.rup_model.proofs.Copies.{copies_any}
 use Rattle.rup_model.proofs.Units.{two_more}
-use Rattle.rup_model.proofs.Numbers.{spelled_same, journal_matches, clause_below, clause_copies, book_last, lines_last, rup_alive_sets}
+use Rattle.rup_model.proofs.Numbers.{spelled_same, journal_matches, clause_below, clause_copies, book_last, lines_last}
 use Rattle.rup_model.proofs.Additions.{added-append, told_more}
-use Rattle.rup_model.proofs.Told.{told_alive}
 use Rattle.drat_text.specs.LineState.{LineState, last_after}
 use Rattle.drat_text.specs.LineOut.{PutLine, FailedLine, with_line}
 use Rattle.drat_text.specs.declared.stop.LineStop.{LineStop}
@@ -36,7 +35,7 @@ use Rattle.std.specs.Prelude.{Result, Ok, Err}
 use Rattle.drat_text.specs.JournalText.{Origin}
 use Rattle.drat_text.proofs.JournalLines.{has_text_next, has_text_cut}
 use Rattle.model_stack.specs.declared.stack.Fix.{Fix}
-use Rattle.simp_base.specs.WorkState.{WorkState, IsWork, known, lists, unit_clauses, is_only, is_alive_unit}
+use Rattle.simp_base.specs.WorkState.{WorkState, IsWork, known, lists, is_only, is_alive_unit}
 use Rattle.simp_base.specs.Log.{journal_of, Stands, HasLines, Continues}
 use Rattle.simp_base.specs.Calls.{ruler_adds, ruler_deletes, on_ok, NotPut, WasAdded, WasDeleted, IsListed, WasListed, entries_for, unit_entries}
 use Rattle.simp_base.proofs.Lists.{All_In, one_All, Contains_left, Contains_last, Contains_apart}

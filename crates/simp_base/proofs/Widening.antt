@@ -1,5 +1,5 @@
 -- A work of more variables, and tables of more codes.
-use Rattle.std.proofs.Common.{◌≡◌, ℕ, zero, suc, ◌+◌, ◌*◌, ◌^◌, ◌<◌, ◌≤◌, ◌||◌, Bool, true, false, List, [], ◌∷◌, ◌++◌, length, get_or, refl, sym, ap, ◌∙◌, subst, inl, inr, arith, Option, Some, None, Contains, length-append}
+use Rattle.std.proofs.Common.{◌≡◌, ℕ, zero, suc, ◌+◌, ◌^◌, ◌<◌, ◌≤◌, Bool, true, false, List, [], ◌∷◌, ◌++◌, length, get_or, refl, sym, ap, ◌∙◌, subst, inl, inr, arith, Option, Some, None, Contains, length-append}
 use Rattle.std.specs.Prelude.{Result, Ok, Err}
 use Rattle.std.specs.List.{All, list_any}
 use Rattle.std.proofs.lemmas.Bool.{cases_lt, cases_Bool}
@@ -9,11 +9,10 @@ use Rattle.rup_model.specs.declared.journal.Entry.{Entry}
 use Rattle.rup_model.specs.Log.{lits_of}
 use Rattle.rup_model.proofs.Lists.{In_any, has_In}
 use Rattle.drat_text.specs.declared.stop.LineStop.{LineStop}
-use Rattle.drat_text.specs.JournalText.{Origin, HasTextCut}
-use Rattle.drat_text.specs.LineState.{LineState}
-use Rattle.simp_base.specs.WorkState.{WorkState, IsWork, IsFixOn, lists, is_only}
-use Rattle.simp_base.specs.Log.{Stands, HasLines, Continues, Grows, GrowsLog, journal_of}
-use Rattle.simp_base.specs.Calls.{Widened, FoundLast, WasWidened}
+use Rattle.drat_text.specs.JournalText.{Origin}
+use Rattle.simp_base.specs.WorkState.{WorkState, IsWork, lists, is_only}
+use Rattle.simp_base.specs.Log.{Stands, Continues, Grows, GrowsLog}
+use Rattle.simp_base.specs.Calls.{WasWidened}
 use Rattle.simp_base.specs.Tables.{IsTable}
 use Rattle.simp_base.proofs.Lists.{All_In}
 use Rattle.simp_base.proofs.Keeping.{only_told}
@@ -84,7 +83,7 @@ kept_widened old new (Ok (Some l)) kept was = subst IsWork (sym was.state) (work
 kept_widened old new (Ok None) kept was = subst IsWork (sym was.state) kept
 kept_widened old new (Err stop) kept was = subst IsWork (sym was.1) kept
 
-grows_none : (w : WorkState) → Grows [] w w
+pub grows_none : (w : WorkState) → Grows [] w w
 grows_none w = record { vars = omega arith; few = λ le. le; stands = nothing_more_of }
   where
     nothing_more_of : (o : Origin) (mine : List Entry) → Stands o mine w → Stands o (mine ++ []) w

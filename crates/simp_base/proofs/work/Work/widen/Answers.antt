@@ -1,6 +1,8 @@
-use Rattle.std.proofs.Common.{◌≡◌, ◌+◌, ap, sym, ◌∙◌, subst, arith}
-use Rattle.drat_text.specs.LineState.{LineState}
-use Rattle.simp_base.specs.WorkState.{WorkState}
-use Rattle.simp_base.proofs.TableLemmas.{codes_on, each_codes_on}
-use Rattle.simp_base.proofs.Widening.{work_wider}
+use Rattle.simp_base.specs.WorkState.{lists}
+use Rattle.simp_base.proofs.TableLemmas.{each_codes_on}
 use Rattle.simp_base.proofs.work.Work.widen.Goals as goal
+
+pub widen-requires : goal.widen-requires
+widen-requires g c =
+    let i = c.self.inside in
+    each_codes_on i.vars i.clauses.codes (lists i.clauses.clauses) c.self.invariant.0.clauses_on c.self.invariant.2

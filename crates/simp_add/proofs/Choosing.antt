@@ -76,6 +76,14 @@ set_back cs l j lt h = dite (ℕ_discrete (code_of j) (code_of l))
     (λ (e : code_of j ≡ code_of l). ap (count_of (set cs (code_of l) nothing)) (code_eq j l e) ∙ set_here cs l nothing lt)
     (λ (ne : code_of j ≢ code_of l). set_there cs l j nothing ne ∙ h)
 
+-- one count more set back
+pub back_next : (now : List Count) (lits : List Literal) (i : ℕ) (l : Literal) → i < length lits → l ≡ get_or lits i l → code_of l < length now
+    → ((j : Literal) → Contains (take i lits) j → count_of now j ≡ nothing) → (j : Literal) → Contains (take (i + 1) lits) j → count_of (set now (code_of l) nothing) j ≡ nothing
+back_next now lits i l lt is within t j h = ⊎_elim
+    (λ (q : Contains (take i lits) j). set_back now l j within (t j q))
+    (λ (e : get_or lits i l ≡ j). ap (count_of (set now (code_of l) nothing)) (sym (is ∙ e)) ∙ set_here now l nothing within)
+    (Contains-push_cases (take i lits) (get_or lits i l) j (subst (λ (xs : List Literal). Contains xs j) (take_more lits i l lt) h))
+
 pub all_back : (l : Literal) (old new : List Count) (touched : List Literal) → AreTouched l old touched → ((j : Literal) → Contains touched j → count_of new j ≡ nothing) → ((j : Literal) → count_of old j ≡ nothing → count_of new j ≡ nothing) → IsClear new
 all_back l old new touched t there others j = dite (ℕ_discrete (count_of old j).sets 0)
     (λ (e : (count_of old j).sets ≡ 0). others j (t.clear j e))

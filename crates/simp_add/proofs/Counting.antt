@@ -1,5 +1,5 @@
 -- Counts of common sets, by literal.
-use Rattle.std.proofs.Common.{◌≡◌, ◌≢◌, ◌∙◌, ℕ, zero, suc, ◌+◌, ◌<◌, ◌≤◌, ◌==◌, ◌^◌, Bool, true, false, not, ◌||◌, ◌&&◌, cond, List, [], ◌∷◌, ◌++◌, length, take, drop, get_or, set, Option, Some, None, sym, refl, ap, subst, arith, inl, inr, ◌⊎◌, ⊎_elim, ne_eqb, Contains}
+use Rattle.std.proofs.Common.{◌≡◌, ◌≢◌, ◌∙◌, ℕ, zero, suc, ◌+◌, ◌<◌, ◌≤◌, ◌==◌, ◌^◌, Bool, true, false, not, ◌||◌, ◌&&◌, cond, List, [], ◌∷◌, ◌++◌, length, take, drop, get_or, set, Option, Some, None, sym, refl, ap, subst, arith, inl, inr, ◌⊎◌, ⊎_elim, ne_eqb, Contains, length-append}
 use Rattle.std.specs.List.{list_any, filter_map, cons_option}
 use Rattle.std.proofs.lemmas.Bool.{or_left, or_right, or_cases, or_parts, and_parts, and_from, cases_Bool, cases_eq, eq-eqb, true≢false, false≢true, not-true}
 use Rattle.std.proofs.lemmas.List.{take_more, length-set, get_or-set_same, get_or-set_other}
@@ -112,7 +112,7 @@ module _ (l : Literal) (C : List Literal) (stamp : ℕ) (found : List Alike) (i 
     (was : Raised l C stamp (take i found) old now) where
   -- it may be no partner
   pub raised_not : may_pair l C a.lit ≡ false → Raised l C stamp (take (i + 1) found) old now
-  raised_not no j = was j ∙ ap (λ (b : Bool). cond b (raised (count_of old j) stamp) (count_of old j)) (sym (paired_more l C found i a j lt is ∙ same_pairs (same a.lit j) refl))
+  raised_not away j = was j ∙ ap (λ (b : Bool). cond b (raised (count_of old j) stamp) (count_of old j)) (sym (paired_more l C found i a j lt is ∙ same_pairs (same a.lit j) refl))
     where
       rest : Bool
       rest = list_any (λ (x : Alike). same x.lit j) (take i found)
@@ -126,12 +126,12 @@ module _ (l : Literal) (C : List Literal) (stamp : ℕ) (found : List Alike) (i 
       or_off false = refl
 
       same_pairs : (b : Bool) → same a.lit j ≡ b → (may_pair l C j && (rest || same a.lit j)) ≡ (may_pair l C j && rest)
-      same_pairs true e = off (may_pair l C j) (rest || same a.lit j) (ap (may_pair l C) (sym (same-true a.lit j e)) ∙ no)
+      same_pairs true e = off (may_pair l C j) (rest || same a.lit j) (ap (may_pair l C) (sym (same-true a.lit j e)) ∙ away)
       same_pairs false e = ap (λ (b : Bool). may_pair l C j && b) (ap (λ (b : Bool). rest || b) e ∙ or_off rest)
 
   -- it is raised
   pub raised_one : may_pair l C a.lit ≡ true → code_of a.lit < length now → Raised l C stamp (take (i + 1) found) old (set now (code_of a.lit) (raised (count_of now a.lit) stamp))
-  raised_one yes within j = by (same a.lit j) refl
+  raised_one pairs within j = by (same a.lit j) refl
     where
       rest : Bool
       rest = list_any (λ (x : Alike). same x.lit j) (take i found)
@@ -155,7 +155,7 @@ module _ (l : Literal) (C : List Literal) (stamp : ℕ) (found : List Alike) (i 
       by true e =
           let one : a.lit ≡ j = same-true a.lit j e in
           let here : count_of whole j ≡ raised (count_of now j) stamp = subst (λ (x : Literal). count_of whole x ≡ raised (count_of now x) stamp) one (set_here now a.lit (raised (count_of now a.lit) stamp) within) in
-          let on : is_paired l C (take (i + 1) found) j ≡ true = paired_more l C found i a j lt is ∙ and_from _ _ (ap (may_pair l C) (sym one) ∙ yes) (ap (λ (b : Bool). rest || b) e ∙ or_on rest) in
+          let on : is_paired l C (take (i + 1) found) j ≡ true = paired_more l C found i a j lt is ∙ and_from _ _ (ap (may_pair l C) (sym one) ∙ pairs) (ap (λ (b : Bool). rest || b) e ∙ or_on rest) in
           here ∙ ap (λ (c : Count). raised c stamp) (was j) ∙ once (is_paired l C (take i found) j) ∙ sym (ap (λ (b : Bool). cond b (raised (count_of old j) stamp) (count_of old j)) on)
       by false e =
           set_there now a.lit j (raised (count_of now a.lit) stamp) (differs a.lit j e) ∙ was j
@@ -170,6 +170,7 @@ pub counted_nothing : (w : WorkState) (l : Literal) (n : ℕ) (cs : List Count) 
 counted_nothing w l n cs none = record {
   sets = λ j lt. (let z : length (filter_map (common_at w.clauses l j) (n ∷ [])) ≡ 0 = sets_at w l j n None (none j lt) in omega arith);
   stamps = λ j bound a b. a;
+  few = λ j. omega arith;
   wide = refl;
 }
 
@@ -178,6 +179,7 @@ pub counted_raised : (w : WorkState) (l : Literal) (n : ℕ) (C : List Literal) 
 counted_raised w l n C found old new wide low r at = record {
   sets = λ j lt. sets j (is_paired l C found j) (r j) (at j lt);
   stamps = λ j bound a b. stamps j bound a b (is_paired l C found j) (r j);
+  few = λ j. few j (is_paired l C found j) (r j);
   wide = wide;
 }
   where
@@ -197,6 +199,39 @@ counted_raised w l n C found old new wide low r at = record {
     stamps j bound a b true e = let q : (count_of new j).stamp ≡ n + 1 = ap (λ (c : Count). c.stamp) e ∙ raised_stamp (count_of old j) (n + 1) in omega arith
     stamps j bound a b false e = let q : (count_of new j).stamp ≡ (count_of old j).stamp = ap (λ (c : Count). c.stamp) e in omega arith
 
+    few : (j : Literal) → (b : Bool) → count_of new j ≡ cond b (raised (count_of old j) (n + 1)) (count_of old j) → (count_of new j).sets ≤ (count_of old j).sets + 1
+    few j true e = ⊎_elim
+        (λ (q : (raised (count_of old j) (n + 1)).sets ≡ (count_of old j).sets + 1). (let s = ap (λ (c : Count). c.sets) e in omega arith))
+        (λ (q : raised (count_of old j) (n + 1) ≡ count_of old j). (let s = ap (λ (c : Count). c.sets) (e ∙ q) in omega arith))
+        (raised_sets (count_of old j) (n + 1))
+    few j false e = (let s = ap (λ (c : Count). c.sets) e in omega arith)
+
+-- Nothing counted
+
+-- nothing is counted yet
+pub empty_is : {X : Type 0} (xs : List X) → length xs ≡ 0 → xs ≡ []
+empty_is [] e = refl
+empty_is (x ∷ xs) e = absurd (omega arith)
+
+pub touched_none : (l : Literal) (cs : List Count) (touched : List Literal) → IsClear cs → length touched ≡ 0 → AreTouched l cs touched
+touched_none l cs touched clear none = record {
+  every = λ j h. absurd (let e = ap (λ (c : Count). c.sets) (clear j) in omega arith);
+  clear = λ j h. clear j;
+  after = λ j h. absurd (nowhere j h);
+  within = λ j h. absurd (nowhere j h);
+}
+  where
+    nowhere : (j : Literal) → Contains touched j → ⊥
+    nowhere j h = Contains_In [] j (subst (λ (xs : List Literal). Contains xs j) (empty_is touched none) h)
+
+-- a count can be raised, if those before could
+pub room_left : (l : Literal) (C : List Literal) (stamp : ℕ) (found : List Alike) (old now : List Count) (j : Literal) → HasRoom old → Raised l C stamp found old now → (count_of now j).stamp ≢ stamp → (count_of now j).sets + 1 < 2 ^ 64
+room_left l C stamp found old now j room r ne = by (is_paired l C found j) (r j)
+  where
+    by : (b : Bool) → count_of now j ≡ cond b (raised (count_of old j) stamp) (count_of old j) → (count_of now j).sets + 1 < 2 ^ 64
+    by true e = absurd (ne (ap (λ (c : Count). c.stamp) e ∙ raised_stamp (count_of old j) stamp))
+    by false e = (let s = ap (λ (c : Count). c.sets) e in let h = room j in omega arith)
+
 -- All clauses counted
 
 pub counted_more : (w : WorkState) (l : Literal) (numbers : List ℕ) (i : ℕ) (old new : List Count) → i < length numbers → AreCounted w l (take i numbers) old → CountedOne w l (get_or numbers i 0) old new → AreCounted w l (take (i + 1) numbers) new
@@ -204,18 +239,14 @@ counted_more w l numbers i old new lt a one j up =
     let e : filter_map (common_at w.clauses l j) (take (i + 1) numbers) ≡ filter_map (common_at w.clauses l j) (take i numbers) ++ filter_map (common_at w.clauses l j) (get_or numbers i 0 ∷ []) =
     ap (filter_map (common_at w.clauses l j)) (take_more numbers i 0 lt) ∙ filter_map-append (common_at w.clauses l j) (take i numbers) (get_or numbers i 0 ∷ []) in
     let n = ap (λ (xs : List (List Literal)). length xs) e in
-    let m = length_both (filter_map (common_at w.clauses l j) (take i numbers)) (filter_map (common_at w.clauses l j) (get_or numbers i 0 ∷ [])) in
+    let m = length-append (filter_map (common_at w.clauses l j) (take i numbers)) (filter_map (common_at w.clauses l j) (get_or numbers i 0 ∷ [])) in
     let p = a j up in let q = one.sets j up in omega arith
-  where
-    length_both : (xs ys : List (List Literal)) → length (xs ++ ys) ≡ length xs + length ys
-    length_both [] ys = refl
-    length_both (x ∷ xs) ys = let r = length_both xs ys in omega arith
 
 -- no more sets than numbers
 pub few_sets : {Y : Type 0} (f : ℕ → Option Y) (ns : List ℕ) → length (filter_map f ns) ≤ length ns
 few_sets f [] = omega arith
-few_sets {Y} f (n ∷ ns) = by (f n)
+few_sets {Y} f (n ∷ ns) = by (f n) (few_sets f ns)
   where
-    by : (o : Option Y) → length (cons_option o (filter_map f ns)) ≤ suc (length ns)
-    by None = let r = few_sets f ns in omega arith
-    by (Some y) = let r = few_sets f ns in omega arith
+    by : (o : Option Y) → length (filter_map f ns) ≤ length ns → length (cons_option o (filter_map f ns)) ≤ suc (length ns)
+    by None r = omega arith
+    by (Some y) r = omega arith

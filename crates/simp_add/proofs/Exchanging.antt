@@ -26,7 +26,7 @@ use Rattle.simp_add.specs.Shared.{AreShared}
 use Rattle.simp_add.proofs.Finding.{Cell, Counts, parts, counted_at, there_alive, alive_there, others_in, whole_set, refuted}
 use Rattle.simp_add.proofs.Sharing.{common_counted, free_of, replaced_by, replaced_first, replaced_second}
 use Rattle.simp_add.proofs.Fewer.{twice_as_many}
-use Rattle.simp_add.proofs.Growing.{goes_along, continues_along, rat_new, set_is, grown_stay, grown_parts, numbered_In, In_numbered, alive_more}
+use Rattle.simp_add.proofs.Growing.{goes_along, continues_along, grown_along, rat_new, set_is, grown_stay, grown_parts, numbered_In, In_numbered, alive_more}
 
 module _ (w : WorkState) (x l k : Literal) (firsts gone : List ℕ) (r : IsReplaceable w x l k firsts gone) where
   abbrev Cs : List (List Literal)
@@ -134,6 +134,21 @@ module _ (w : WorkState) (x l k : Literal) (firsts gone : List ℕ) (r : IsRepla
                 v.1.1)
           ];
         }
+
+    sets_in : (ns : List ℕ) → ((n : ℕ) → Contains ns n → Contains firsts n) → map (λ n. opposite x ∷ set_at b.clauses l n) ns ≡ map (λ (C : List Literal). opposite x ∷ C) (filter_map (common_at w.clauses l k) ns)
+    sets_in [] f = refl
+    sets_in (n ∷ ns) f =
+        let t = r.shared.counts n (f n (In_Contains (n ∷ ns) n (inl refl))) in
+        let u = counted_at w l k n t.0 t.1 in
+        let is : set_at b.clauses l n ≡ t.0 = set_is b both.on.work l n u.0 (grown_stay w b (pair l ∷ pair k ∷ []) both n u.0 u.1) ∙ sym u.3 in
+        let rest = sets_in ns (λ m h. f m (In_Contains (n ∷ ns) m (inr (Contains_In ns m h)))) in
+        (λ i. (opposite x ∷ is i) ∷ rest i) ∙ ap (λ (o : Option (List Literal)). map (λ (C : List Literal). opposite x ∷ C) (cons_option o (filter_map (common_at w.clauses l k) ns))) (sym t.1)
+
+    pub sets_are : map (λ n. opposite x ∷ set_at b.clauses l n) firsts ≡ map (λ (C : List Literal). opposite x ∷ C) Cs
+    sets_are = sets_in firsts (λ n h. h) ∙ ap (map (λ (C : List Literal). opposite x ∷ C)) r.shared.sets
+
+    pub all_grown : (d : WorkState) → Grown b d (map (λ n. opposite x ∷ set_at b.clauses l n) firsts) → Grown w d (additions x l k Cs)
+    all_grown d g = grown_along w b d (pair l ∷ pair k ∷ []) (map (λ (C : List Literal). opposite x ∷ C) Cs) both (subst (λ (ms : List (List Literal)). Grown b d ms) sets_are g)
 
   -- The clauses that go have two literals or more
 

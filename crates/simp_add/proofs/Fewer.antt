@@ -2,7 +2,7 @@
 use Rattle.std.proofs.Common.{◌≡◌, ◌≢◌, ◌∙◌, ℕ, zero, suc, ◌+◌, ◌<◌, ◌≤◌, Bool, true, false, List, [], ◌∷◌, ◌++◌, map, length, Option, Some, None, sym, refl, ap, subst, arith, inl, inr, ◌⊎◌, ⊎_elim, Contains, cond, ◌||◌, ◌&&◌}
 use Rattle.std.specs.List.{filter, filter_map, cons_option, range_with_len, list_any}
 use Rattle.std.specs.Prelude.{nat_lt}
-use Rattle.std.proofs.lemmas.Bool.{true≢false, false≢true, cases_order, or_cases, or_left, or_right, and_from, not-true}
+use Rattle.std.proofs.lemmas.Bool.{true≢false, false≢true, cases_order, or_cases, or_left, or_right, and_from, not-true, lt-ltb}
 use Rattle.sat_words.specs.Literal.{Literal, same, code_of}
 use Rattle.sat_words.specs.Clause.{has, same_set}
 use Rattle.sat_words.proofs.Members.{same-true, same-refl}
@@ -49,11 +49,11 @@ module _ {X : Type 0} {Y : Type 0} (R : X → Y → Type 0) (one : (x z : X) (y 
 
 -- Numbers that give something
 
-is_some : {Y : Type 0} → Option Y → Bool
+abbrev is_some : {Y : Type 0} → Option Y → Bool
 is_some None = false
 is_some (Some y) = true
 
-somes : {Y : Type 0} → (ℕ → Option Y) → List ℕ → List ℕ
+abbrev somes : {Y : Type 0} → (ℕ → Option Y) → List ℕ → List ℕ
 somes f ns = filter (λ n. is_some (f n)) ns
 
 as_many : {Y : Type 0} (f : ℕ → Option Y) (ns : List ℕ) → length (somes f ns) ≡ length (filter_map f ns)
@@ -87,7 +87,7 @@ filter_apart p (n ∷ ns) d = by (p n) (filter_apart p ns d.1)
     by false e = e
 
 -- each number on either side
-sides : List ℕ → List (ℕ × Bool)
+abbrev sides : List ℕ → List (ℕ × Bool)
 sides [] = []
 sides (n ∷ ns) = (n, true) ∷ (n, false) ∷ sides ns
 
@@ -113,11 +113,11 @@ twice_long (n ∷ ns) = let r = twice_long ns in omega arith
 
 module _ (w : WorkState) (kept : IsWork w) (l k : Literal) (differ : same l k ≡ false) (gone : List ℕ)
     (there : (m : ℕ) (C : List Literal) → common_at w.clauses l k m ≡ Some C → (n : ℕ) (c : List Literal) → Contains w.clauses (n, c) → (same_set (l ∷ C) c ≡ true) ⊎ (same_set (k ∷ C) c ≡ true) → Contains gone n) where
-  f : ℕ → Option (List Literal)
+  abbrev f : ℕ → Option (List Literal)
   f = common_at w.clauses l k
 
   -- the clause with the number y is that of m on this side
-  On : ℕ × Bool → ℕ → Type 0
+  abbrev On : ℕ × Bool → ℕ → Type 0
   On (m, true) y = (m ≡ y) × ((C : List Literal) × (f m ≡ Some C))
   On (m, false) y = (C : List Literal) × (f m ≡ Some C) × ((d : List Literal) × Contains w.clauses (y, d) × (same_set (k ∷ C) d ≡ true))
 
@@ -144,7 +144,7 @@ module _ (w : WorkState) (kept : IsWork w) (l k : Literal) (differ : same l k �
   ]
     where
       is_lt : (a b : ℕ) → a < b → nat_lt a b ≡ true
-      is_lt a b h = omega arith
+      is_lt a b h = lt-ltb a b h
 
   seconds_one : (m z y : ℕ) → On (m, false) y → On (z, false) y → m ≡ z
   seconds_one m z y a b =

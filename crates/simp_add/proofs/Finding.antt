@@ -2,7 +2,7 @@
 use Rattle.std.proofs.Common.{◌≡◌, ◌≢◌, ◌∙◌, ℕ, zero, suc, ◌+◌, ◌<◌, ◌≤◌, ◌==◌, ltb, Bool, true, false, not, ◌||◌, ◌&&◌, cond, List, [], ◌∷◌, map, length, Option, Some, None, sym, refl, ap, subst, arith, inl, inr, ◌⊎◌, ⊎_elim, ne_eqb, Contains}
 use Rattle.std.specs.Prelude.{nat_lt}
 use Rattle.std.specs.List.{list_any, filter}
-use Rattle.std.proofs.lemmas.Bool.{or_left, or_right, or_cases, or_parts, and_parts, and_from, cases_Bool, cases_eq, eq-eqb, true≢false, false≢true, not-true}
+use Rattle.std.proofs.lemmas.Bool.{or_left, or_right, or_cases, or_parts, and_parts, and_from, cases_Bool, cases_eq, eq-eqb, true≢false, false≢true, not-true, lt-ltb}
 use Rattle.sat_words.specs.Literal.{Literal, opposite, same, code_of}
 use Rattle.sat_words.specs.Clause.{has, same_set, is_empty, InOrder}
 use Rattle.sat_words.proofs.Members.{same-true, same-refl}
@@ -141,16 +141,16 @@ pub record Counts (cs : List Cell) (l k : Literal) (n : ℕ) (c : List Literal) 
 pub parts : (cs : List Cell) (l k : Literal) (n : ℕ) (c : List Literal) → is_counted cs l k n c ≡ true → Counts cs l k n c
 parts cs l k n c h =
     let C = others l c in
-    let a = and_parts (has c l) (is_first cs n c && is_common (lists cs) l k C) h in
-    let b = and_parts (is_first cs n c) (is_common (lists cs) l k C) a.1 in
-    let d = and_parts (not (is_empty C)) (not (mentions l C) && not (mentions k C) && is_alive (lists cs) (l ∷ C) && is_alive (lists cs) (k ∷ C)) b.1 in
-    let e = and_parts (not (mentions l C)) (not (mentions k C) && is_alive (lists cs) (l ∷ C) && is_alive (lists cs) (k ∷ C)) d.1 in
-    let f = and_parts (not (mentions k C)) (is_alive (lists cs) (l ∷ C) && is_alive (lists cs) (k ∷ C)) e.1 in
-    let g = and_parts (is_alive (lists cs) (l ∷ C)) (is_alive (lists cs) (k ∷ C)) f.1 in
-    record { holds = a.0; first = b.0; some = not-true _ d.0; not_first = not-true _ e.0; not_second = not-true _ f.0; one = g.0; other = g.1 }
+    let a = and_parts (has c l && is_first cs n c) (is_common (lists cs) l k C) h in
+    let b = and_parts (has c l) (is_first cs n c) a.0 in
+    let d = and_parts (not (is_empty C) && not (mentions l C) && not (mentions k C) && is_alive (lists cs) (l ∷ C)) (is_alive (lists cs) (k ∷ C)) a.1 in
+    let e = and_parts (not (is_empty C) && not (mentions l C) && not (mentions k C)) (is_alive (lists cs) (l ∷ C)) d.0 in
+    let f = and_parts (not (is_empty C) && not (mentions l C)) (not (mentions k C)) e.0 in
+    let g = and_parts (not (is_empty C)) (not (mentions l C)) f.0 in
+    record { holds = b.0; first = b.1; some = not-true _ g.0; not_first = not-true _ g.1; not_second = not-true _ f.1; one = e.1; other = d.1 }
 
 pub whole : (cs : List Cell) (l k : Literal) (n : ℕ) (c : List Literal) → Counts cs l k n c → is_counted cs l k n c ≡ true
-whole cs l k n c t = and_from _ _ t.holds (and_from _ _ t.first (and_from _ _ (ap not t.some) (and_from _ _ (ap not t.not_first) (and_from _ _ (ap not t.not_second) (and_from _ _ t.one t.other)))))
+whole cs l k n c t = and_from _ _ (and_from _ _ t.holds t.first) (and_from _ _ (and_from _ _ (and_from _ _ (and_from _ _ (ap not t.some) (ap not t.not_first)) (ap not t.not_second)) t.one) t.other)
 
 -- Loaded
 
@@ -163,7 +163,7 @@ not_loaded w l k n rest h = nothing_at w l k n (λ c i. refuted _ (λ t.
 -- the literals that have the set beside them, by what was found
 module _ (w : WorkState) (kept : IsWork w) (l k : Literal) (n : ℕ) (c : List Literal) (i : Contains w.clauses (n, c)) (h : has c l ≡ true)
     (some : is_empty (others l c) ≡ false) (apart : mentions l (others l c) ≡ false) (found : List Alike) (a : AreAlike w (others l c) found) where
-  C : List Literal
+  abbrev C : List Literal
   C = others l c
 
   free : has C l ≡ false
@@ -217,7 +217,7 @@ module _ (w : WorkState) (kept : IsWork w) (l k : Literal) (n : ℕ) (c : List L
   counts_by_found lt first = both_true _ _ forth back
     where
       is_lt : (a b : ℕ) → a < b → nat_lt a b ≡ true
-      is_lt a b h = omega arith
+      is_lt a b h = lt-ltb a b h
 
       forth : is_counted w.clauses l k n c ≡ true → is_paired l C found k ≡ true
       forth t =
@@ -242,3 +242,20 @@ module _ (w : WorkState) (kept : IsWork w) (l k : Literal) (n : ℕ) (c : List L
 
   pub later_counts_not : is_later found l n ≡ true → is_counted w.clauses l k n c ≡ false
   later_counts_not t = refuted _ (λ u. true≢false (sym t ∙ later_first ∙ ap not (parts w.clauses l k n c u).first))
+
+-- What is loaded
+
+pub loaded_none : (w : WorkState) (l : Literal) (n : ℕ) (rest : List Literal) → ((c : List Literal) → Contains w.clauses (n, c) → ⊥) → IsLoaded w l n rest false
+loaded_none w l n rest none = λ c i h. absurd (none c i)
+
+pub loaded_not : (w : WorkState) → IsWork w → (l : Literal) (n : ℕ) (c : List Literal) (rest : List Literal) → Contains w.clauses (n, c) → has c l ≡ false → IsLoaded w l n rest false
+loaded_not w kept l n c rest i away = λ d j h. absurd (true≢false (sym h ∙ ap (λ (x : List Literal). has x l) (same_number w.clauses kept.numbers n d c j i) ∙ away))
+
+pub loaded_by : (w : WorkState) → IsWork w → (l : Literal) (n : ℕ) (c rest : List Literal) → Contains w.clauses (n, c) → has c l ≡ true → InOrder c → rest ≡ others l c → (b : Bool) → b ≡ (not (is_empty rest) && not (mentions l rest)) → IsLoaded w l n rest b
+loaded_by w kept l n c rest i h o e true q = let p = and_parts (not (is_empty rest)) (not (mentions l rest)) (sym q) in (c, i, h, e, not-true _ p.0, not-true _ p.1, o)
+loaded_by w kept l n c rest i h o e false q = λ d j g. ap (λ (x : List Literal). is_empty (others l x) || mentions l (others l x)) (same_number w.clauses kept.numbers n d c j i) ∙ ap (λ (x : List Literal). is_empty x || mentions l x) (sym e) ∙ either (is_empty rest) (mentions l rest) (sym q)
+  where
+    either : (a b : Bool) → (not a && not b) ≡ false → (a || b) ≡ true
+    either true b z = refl
+    either false true z = refl
+    either false false z = absurd (true≢false z)

@@ -1,9 +1,9 @@
 -- Clauses come, each valid where it stands.
 use Rattle.std.proofs.Common.{◌≡◌, ◌≢◌, ◌∙◌, ℕ, zero, suc, ◌+◌, ◌<◌, ◌≤◌, Bool, true, false, not, ◌||◌, List, [], ◌∷◌, ◌++◌, map, length, take, get_or, sym, refl, ap, subst, arith, inl, inr, ◌⊎◌, ⊎_elim, Contains, append-nil, append_assoc, length-append}
-use Rattle.std.specs.Prelude.{Result, Ok, Err}
 use Rattle.std.specs.List.{list_all, filter, All}
 use Rattle.std.proofs.lemmas.Bool.{or_left, or_right, or_cases, cases_Bool, true≢false, false≢true}
 use Rattle.std.proofs.lemmas.List.{take_more}
+use Rattle.std.proofs.lemmas.List.Elements.{Contains-get_or}
 use Rattle.sat_words.specs.Literal.{Literal, opposite, same, IsOn}
 use Rattle.sat_words.specs.Clause.{has, same_set, is_empty, clause_of}
 use Rattle.sat_words.specs.declared.line.Line.TheVariants.{Add as AddLine}
@@ -15,8 +15,9 @@ use Rattle.rup_model.proofs.Lists.{In, In_any, In_all, In_has, has_In, In_map, m
 use Rattle.rup_model.proofs.Quietly.{follows_unless, quiet_open}
 use Rattle.drat_text.specs.LineState.{LineState}
 use Rattle.drat_text.specs.declared.stop.LineStop.{LineStop}
+use Rattle.drat_text.specs.declared.stop.LineStop.TheVariants.{Memory}
 use Rattle.simp_base.specs.WorkState.{WorkState, IsWork, lists, numbered}
-use Rattle.simp_base.specs.Calls.{ruler_adds, on_ok, Added, WasAdded}
+use Rattle.simp_base.specs.Calls.{ruler_adds, Added, NotPut}
 use Rattle.simp_base.specs.Log.{Stands, Continues, Grows, GrowsLog}
 use Rattle.simp_base.proofs.Filters.{In_filter}
 use Rattle.simp_base.proofs.Stopping.{not_put_cause, cause_after}
@@ -28,7 +29,7 @@ use Rattle.sat_words.proofs.Insertion.{has-clause_of}
 use Rattle.simp_base.proofs.Lists.{In_All}
 use Rattle.simp_base.proofs.Known.{on_alive}
 use Rattle.std.specs.Option.{option_map, unwrap_or}
-use Rattle.simp_add.specs.Stages.{GoesOn, Stops, Grown, WasGrown, CanCome, set_at}
+use Rattle.simp_add.specs.Stages.{GoesOn, Stops, Grown, CanCome, set_at}
 
 -- Works
 
@@ -86,7 +87,7 @@ grown_along a b c xs ys f g =
       last = (let e = f.last in let h = g.last in let l = length-append xs ys in omega arith);
     }
 
-grown_added : (old new : WorkState) (lits : List Literal) (number : ℕ) → old.output.spent ≡ false → is_empty lits ≡ false → IsWork new → Added old new lits number
+pub grown_added : (old new : WorkState) (lits : List Literal) (number : ℕ) → old.output.spent ≡ false → is_empty lits ≡ false → IsWork new → Added old new lits number
     → Continues (ruler_adds (old.output.last + 1) lits ∷ []) old new → Grown old new (lits ∷ [])
 grown_added old new lits number unspent some kept h log = record {
   on = record {
@@ -103,11 +104,15 @@ grown_added old new lits number unspent some kept h log = record {
   last = ap (λ (s : LineState). s.last) h.put.state;
 }
 
-pub was_grown : (old new : WorkState) (lits : List Literal) (result : Result ℕ LineStop) → old.ended ≡ false → old.output.spent ≡ false → is_empty lits ≡ false → IsWork new → WasAdded old new lits result
-    → Continues (on_ok result (ruler_adds (old.output.last + 1) lits ∷ [])) old new → (answer : Result (Unit {0}) LineStop) → ((stop : LineStop) → result ≡ Err stop → answer ≡ Err stop) → ((n : ℕ) → result ≡ Ok n → answer ≡ Ok tt) → WasGrown old new (lits ∷ []) answer
-was_grown old new lits (Ok n) going unspent some kept h log answer err ok = subst (WasGrown old new (lits ∷ [])) (sym (ok n refl)) (grown_added old new lits n unspent some kept h log)
-was_grown old new lits (Err stop) going unspent some kept h log answer err ok =
-    subst (WasGrown old new (lits ∷ [])) (sym (err stop refl)) (not_put_cause old new (AddLine lits) stop going h, ([], continues_grows [] old new log))
+pub not_added : (old new : WorkState) (lits : List Literal) (stop : LineStop) → old.ended ≡ false → NotPut old new (AddLine lits) stop → Continues [] old new → Stops old new stop
+not_added old new lits stop going h log = (not_put_cause old new (AddLine lits) stop going h, ([], continues_grows [] old new log))
+
+-- memory ran out before a line was put
+pub no_memory : (w : WorkState) → w.ended ≡ false → Stops w w Memory
+no_memory w going = ((refl, going), ([], continues_grows [] w w (continues_self w)))
+
+pub grown_log : (a b : WorkState) (made : List (List Literal)) → Grown a b made → GrowsLog a b
+grown_log a b made g = (adds (a.output.last + 1) made, continues_grows (adds (a.output.last + 1) made) a b g.log)
 
 -- Validity
 
@@ -197,3 +202,45 @@ on_comes w x l n kept h = In_All (IsOn w.vars) (opposite x ∷ set_at w.clauses 
         let m = others_in l k h.clause (In_has (others l h.clause) k (subst (λ (C : List Literal). In k C) is j)) in
         on_alive w kept n h.clause h.alive k (has_In h.clause k m.0)))
     i)
+
+-- a literal is not its negation
+pub differs : (x : Literal) → same x (opposite x) ≡ false
+differs x = elim (cases_Bool (same x (opposite x))) as (λ _. same x (opposite x) ≡ false) [
+  | inl e ↦ absurd (by x.neg (λ i. (same-true x (opposite x) e i).neg))
+  | inr f ↦ f
+]
+  where
+    by : (b : Bool) → b ≡ not b → ⊥
+    by true q = true≢false q
+    by false q = true≢false (sym q)
+
+module _ (a b : WorkState) (x l : Literal) (numbers : List ℕ) (i : ℕ) (kept : IsWork a) (come : (n : ℕ) → Contains numbers n → CanCome a x l n)
+    (g : Grown a b (map (λ n. opposite x ∷ set_at a.clauses l n) (take i numbers))) where
+  in_take : (ns : List ℕ) (j n : ℕ) → In n (take j ns) → In n ns
+  in_take [] zero n h = h
+  in_take [] (suc j) n h = h
+  in_take (m ∷ ns) zero n h = absurd h
+  in_take (m ∷ ns) (suc j) n (inl e) = inl e
+  in_take (m ∷ ns) (suc j) n (inr h) = inr (in_take ns j n h)
+
+  pub commons_come : (n : ℕ) → Contains numbers n → CanCome b x l n
+  commons_come n h = comes_later a b x l n (map (λ m. opposite x ∷ set_at a.clauses l m) (take i numbers)) kept g.on.work g
+      (λ d q. (
+          let t = map_In (λ m. opposite x ∷ set_at a.clauses l m) (take i numbers) d q in
+          let f = (come t.0 (In_Contains numbers t.0 (in_take numbers i t.0 t.1))).free in
+          ap (λ (c : List Literal). has c x) (sym t.2) ∙ (λ j. differs x j || f j)))
+      (come n h)
+
+  pub commons_next : (c : WorkState) → i < length numbers → Grown b c ((opposite x ∷ set_at b.clauses l (get_or numbers i 0)) ∷ []) → Grown a c (map (λ n. opposite x ∷ set_at a.clauses l n) (take (i + 1) numbers))
+  commons_next c lt one =
+      let n = get_or numbers i 0 in
+      let h = come n (Contains-get_or numbers i 0 lt) in
+      let same_at : set_at b.clauses l n ≡ set_at a.clauses l n = set_is b g.on.work l n h.clause (grown_stay a b (map (λ m. opposite x ∷ set_at a.clauses l m) (take i numbers)) g n h.clause h.alive) ∙ sym (set_is a kept l n h.clause h.alive) in
+      let whole : map (λ m. opposite x ∷ set_at a.clauses l m) (take (i + 1) numbers) ≡ map (λ m. opposite x ∷ set_at a.clauses l m) (take i numbers) ++ (opposite x ∷ set_at a.clauses l n) ∷ [] =
+      ap (map (λ m. opposite x ∷ set_at a.clauses l m)) (take_more numbers i 0 lt) ∙ map_both (take i numbers) (n ∷ []) in
+      subst (λ (ms : List (List Literal)). Grown a c ms) (sym whole)
+      (grown_along a b c (map (λ m. opposite x ∷ set_at a.clauses l m) (take i numbers)) ((opposite x ∷ set_at a.clauses l n) ∷ []) g (subst (λ (C : List Literal). Grown b c ((opposite x ∷ C) ∷ [])) same_at one))
+    where
+      map_both : (xs ys : List ℕ) → map (λ m. opposite x ∷ set_at a.clauses l m) (xs ++ ys) ≡ map (λ m. opposite x ∷ set_at a.clauses l m) xs ++ map (λ m. opposite x ∷ set_at a.clauses l m) ys
+      map_both [] ys = refl
+      map_both (n ∷ xs) ys = ap (λ (zs : List (List Literal)). (opposite x ∷ set_at a.clauses l n) ∷ zs) (map_both xs ys)

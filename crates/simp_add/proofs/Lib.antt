@@ -2,6 +2,7 @@ pub mod OneMore
 pub mod Listing
 pub mod Ranges
 pub mod Finding
+pub mod Loading
 pub mod Counting
 pub mod Choosing
 pub mod Sharing

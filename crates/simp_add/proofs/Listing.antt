@@ -12,13 +12,8 @@ use Rattle.rup_model.proofs.Lists.{Contains_In}
 use Rattle.simp_base.specs.WorkState.{WorkState, IsWork}
 use Rattle.simp_base.proofs.Removal.{same_number}
 use Rattle.simp_add.specs.declared.alike.Alike.{Alike}
-use Rattle.simp_add.specs.Alike.{one_more, IsAlike, AreAlike}
+use Rattle.simp_add.specs.Alike.{one_more, IsAlike, AreAlike, Listed}
 use Rattle.simp_add.proofs.OneMore.{members, is_new, is_found}
-
--- those of the clauses with these numbers
-pub record Listed (w : WorkState) (C : List Literal) (numbers : List ℕ) (found : List Alike) : Type 0 where
-  pub sound : (a : Alike) → Contains found a → IsAlike w C a.number (Some a.lit)
-  pub every : (n : ℕ) (d : List Literal) (j : Literal) → Contains numbers n → Contains w.clauses (n, d) → has C j ≡ false → same_set (j ∷ C) d ≡ true → Contains found (record { lit = j; number = n })
 
 pub listed_none : (w : WorkState) (C : List Literal) → Listed w C [] []
 listed_none w C = record { sound = λ a h. absurd (Contains_In [] a h); every = λ n d j h. absurd (Contains_In [] n h) }
@@ -59,11 +54,11 @@ listed_all w C numbers found rare h every t = record {
 
 -- one clause
 pub alike_none : (w : WorkState) (C : List Literal) (n : ℕ) → ((c : List Literal) → Contains w.clauses (n, c) → ⊥) → IsAlike w C n None
-alike_none w C n none d j i free s = none d i
+alike_none w C n none = λ d j i free s. none d i
 
 pub alike_by : (w : WorkState) → IsWork w → (C : List Literal) (n : ℕ) (d : List Literal) → Contains w.clauses (n, d) → InOrder C → InOrder d → (o : Option Literal) → o ≡ one_more C d → IsAlike w C n o
 alike_by w kept C n d i oc od (Some j) e = (d, i, is_new C d j od (sym e), same_set_from (j ∷ C) d (λ m. sym (members C d j (sym e) m)))
-alike_by w kept C n d i oc od None e c j k free s =
+alike_by w kept C n d i oc od None e = λ c j k free s.
     let is : c ≡ d = same_number w.clauses kept.numbers n c d k i in
     let some : one_more C d ≡ Some j = is_found C d j oc od free (subst (λ (x : List Literal). same_set (j ∷ C) x ≡ true) is s) in
     let no : None ≡ Some j = e ∙ some in

@@ -1,5 +1,5 @@
 -- A list that has one literal more than another.
-use Rattle.std.proofs.Common.{◌≡◌, ◌≢◌, ◌∙◌, ℕ, zero, suc, ◌+◌, ◌<◌, ◌≤◌, ltb, Bool, true, false, ◌||◌, ◌&&◌, cond, nat_eq, List, [], ◌∷◌, length, drop, get_or, Option, Some, None, sym, refl, ap, subst, arith, IsTrue}
+use Rattle.std.proofs.Common.{◌≡◌, ◌≢◌, ◌∙◌, ℕ, zero, suc, ◌+◌, ◌<◌, ◌≤◌, ltb, Bool, true, false, ◌||◌, ◌&&◌, cond, nat_eq, List, [], ◌∷◌, length, drop, get_or, Option, Some, None, sym, refl, ap, subst, arith, inl, inr, take}
 use Rattle.std.specs.declared.cmp.Ordering.TheVariants.{Less}
 use Rattle.std.specs.List.{AllByRecursion}
 use Rattle.std.specs.List.Sorted.{IsStrictlySortedBy}
@@ -7,6 +7,7 @@ use Rattle.std.specs.Ordering.{on, nat_cmp}
 use Rattle.std.specs.Cmp.Lexicographic.{pointwise}
 use Rattle.std.proofs.lemmas.Bool.{or_left, or_right, or_cases, or_parts, and_parts, and_from, cases_Bool, true≢false, false≢true}
 use Rattle.std.proofs.lemmas.Bool.Decides.{nat_tests}
+use Rattle.std.specs.Prelude.{◌-◌}
 use Rattle.sat_words.specs.Literal.{Literal, same, code_of, lit_cmp}
 use Rattle.sat_words.specs.Clause.{has, InOrder, same_set, insert_lit}
 use Rattle.sat_words.proofs.Members.{same-true, same-refl, equal_lists}
@@ -117,16 +118,16 @@ is_new (l ∷ c) (k ∷ d) j o h = by (same l k) (same_list (l ∷ c) d) refl re
 -- each list in order with one literal more is found
 inserted : (c : List Literal) (j : Literal) → has c j ≡ false → one_more c (insert_lit j c) ≡ Some j
 inserted [] j h = refl
-inserted (k ∷ c) j h = by (same j k) (ltb (code_of j) (code_of k)) refl (or_parts (same j k) (has c j) h)
+inserted (k ∷ c) j h = by (same j k) (ltb (code_of j) (code_of k)) refl (or_parts (same j k) (has c j) h) (inserted c j)
   where
-    by : (a b : Bool) → same j k ≡ a → (same j k ≡ false) × (has c j ≡ false) → one_more (k ∷ c) (cond a (k ∷ c) (cond b (j ∷ k ∷ c) (k ∷ insert_lit j c))) ≡ Some j
-    by true b e p = absurd (true≢false (sym e ∙ p.0))
-    by false true e p =
+    by : (a b : Bool) → same j k ≡ a → (same j k ≡ false) × (has c j ≡ false) → (has c j ≡ false → one_more c (insert_lit j c) ≡ Some j) → one_more (k ∷ c) (cond a (k ∷ c) (cond b (j ∷ k ∷ c) (k ∷ insert_lit j c))) ≡ Some j
+    by true b e p rec = absurd (true≢false (sym e ∙ p.0))
+    by false true e p rec =
         ap (λ (x : Bool). cond x (one_more c (k ∷ c)) (cond (same_list (k ∷ c) (k ∷ c)) (Some j) None)) (same_symm k j ∙ p.0)
         ∙ ap (λ (x : Bool). cond x (Some j) None) (same_list_refl (k ∷ c))
-    by false false e p =
+    by false false e p rec =
         ap (λ (x : Bool). cond x (one_more c (insert_lit j c)) (cond (same_list (k ∷ c) (insert_lit j c)) (Some k) None)) (same-refl k)
-        ∙ inserted c j p.1
+        ∙ rec p.1
 
 pub is_found : (c d : List Literal) (j : Literal) → InOrder c → InOrder d → has c j ≡ false → same_set (j ∷ c) d ≡ true → one_more c d ≡ Some j
 is_found c d j oc od free same_members =
@@ -143,7 +144,7 @@ drop_here (l ∷ c) (suc i) x lt = drop_here c i x (omega arith)
 pub step_on : (c d : List Literal) (i : ℕ) (x : Literal) → i < length c → i < length d → same (get_or c i x) (get_or d i x) ≡ true → one_more (drop (suc i) c) (drop (suc i) d) ≡ one_more (drop i c) (drop i d)
 step_on c d i x lc ld s =
     sym (ap (λ (b : Bool). cond b (one_more (drop (suc i) c) (drop (suc i) d)) (cond (same_list (get_or c i x ∷ drop (suc i) c) (drop (suc i) d)) (Some (get_or d i x)) None)) s)
-    ∙ (λ k. one_more (drop_here c i x lc (~ k)) (drop_here d i x ld (~ k)))
+    ∙ (let p = sym (drop_here c i x lc) in let q = sym (drop_here d i x ld) in λ k. one_more (p k) (q k))
 
 pub differs_at : (c d : List Literal) (i : ℕ) (x : Literal) → i ≤ length c → length d ≡ suc (length c) → (i < length c → same (get_or c i x) (get_or d i x) ≡ false)
     → one_more (drop i c) (drop i d) ≡ cond (same_list (drop i c) (drop (suc i) d)) (Some (get_or d i x)) None
@@ -154,3 +155,19 @@ differs_at [] d (suc i) x le len ne = absurd (omega arith)
 differs_at (l ∷ c) [] i x le len ne = absurd (omega arith)
 differs_at (l ∷ c) (k ∷ d) zero x le len ne = ap (λ (b : Bool). cond b (one_more c d) (cond (same_list (l ∷ c) d) (Some k) None)) (ne (omega arith))
 differs_at (l ∷ c) (k ∷ d) (suc i) x le len ne = differs_at c d i x (omega arith) (omega arith) (λ lt. ne (omega arith))
+
+-- a part up to the end
+pub take_whole : {X : Type 0} (xs : List X) (i : ℕ) → length xs ≤ i → take i xs ≡ xs
+take_whole [] zero le = refl
+take_whole [] (suc i) le = refl
+take_whole (x ∷ xs) zero le = absurd (omega arith)
+take_whole (x ∷ xs) (suc i) le = ap (λ (ys : List _). x ∷ ys) (take_whole xs i (omega arith))
+
+long_rest : (c : List Literal) (p : ℕ) → length (drop p c) ≤ length c - p
+long_rest [] zero = omega arith
+long_rest [] (suc p) = omega arith
+long_rest (x ∷ c) zero = omega arith
+long_rest (x ∷ c) (suc p) = let r = long_rest c p in omega arith
+
+pub rest_of : (c : List Literal) (p : ℕ) → take (length c - p) (drop p c) ≡ drop p c
+rest_of c p = take_whole (drop p c) (length c - p) (long_rest c p)

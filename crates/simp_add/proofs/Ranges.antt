@@ -8,7 +8,7 @@ use native.Mathlib.Decide.{ℕ_discrete}
 use Rattle.rup_model.proofs.Lists.{In, In_get_or, Contains_In, In_Contains}
 
 -- each number from this one on, and above those before it
-pub abbrev Rising : ℕ → List ℕ → Type 0
+abbrev pub Rising : ℕ → List ℕ → Type 0
 Rising a [] = ⊤
 Rising a (n ∷ ns) = (a ≤ n) × Rising (suc n) ns
 

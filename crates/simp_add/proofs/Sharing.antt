@@ -4,6 +4,7 @@ use Rattle.std.specs.Prelude.{nat_lt}
 use Rattle.std.specs.List.{list_any, filter, filter_map, cons_option, range_with_len}
 use Rattle.std.specs.List.Sorted.{IsStrictlyIncreasing}
 use Rattle.std.proofs.lemmas.Bool.{or_left, or_right, or_cases, or_parts, and_parts, and_from, cases_Bool, true≢false, false≢true, not-true}
+use Rattle.std.proofs.lemmas.Bool.Decides.{nat_tests}
 use Rattle.std.proofs.lemmas.List.Elements.{filter_map-append, Contains-append_left, Contains-append_right, Contains-append_cases, Contains-push, Contains-push_cases}
 use Rattle.sat_words.specs.Literal.{Literal, opposite, same}
 use Rattle.sat_words.specs.Clause.{has, same_set, is_empty}
@@ -21,9 +22,6 @@ use Rattle.simp_add.specs.Shared.{Sharing, SharesOne, AreShared}
 use Rattle.simp_add.proofs.Finding.{Cell, others_in, in_others, whole_set, whole_has, alive_there, there_alive, counts_at, counted_at, Counts, parts}
 
 -- Sets with the same literals
-
-Same : List Literal → List Literal → Type 0
-Same C D = (j : Literal) → has C j ≡ has D j
 
 same_empty : (C D : List Literal) → ((j : Literal) → has C j ≡ has D j) → is_empty C ≡ is_empty D
 same_empty [] [] s = refl
@@ -69,11 +67,11 @@ record CommonParts (G : List (List Literal)) (l k : Literal) (C : List Literal) 
 
 common_parts : (G : List (List Literal)) (l k : Literal) (C : List Literal) → is_common G l k C ≡ true → CommonParts G l k C
 common_parts G l k C h =
-    let d = and_parts (not (is_empty C)) (not (mentions l C) && not (mentions k C) && is_alive G (l ∷ C) && is_alive G (k ∷ C)) h in
-    let e = and_parts (not (mentions l C)) (not (mentions k C) && is_alive G (l ∷ C) && is_alive G (k ∷ C)) d.1 in
-    let f = and_parts (not (mentions k C)) (is_alive G (l ∷ C) && is_alive G (k ∷ C)) e.1 in
-    let g = and_parts (is_alive G (l ∷ C)) (is_alive G (k ∷ C)) f.1 in
-    record { not_first = not-true _ e.0; not_second = not-true _ f.0; one = g.0; other = g.1 }
+    let d = and_parts (not (is_empty C) && not (mentions l C) && not (mentions k C) && is_alive G (l ∷ C)) (is_alive G (k ∷ C)) h in
+    let e = and_parts (not (is_empty C) && not (mentions l C) && not (mentions k C)) (is_alive G (l ∷ C)) d.0 in
+    let f = and_parts (not (is_empty C) && not (mentions l C)) (not (mentions k C)) e.0 in
+    let g = and_parts (not (is_empty C)) (not (mentions l C)) f.0 in
+    record { not_first = not-true _ g.1; not_second = not-true _ f.1; one = e.1; other = d.1 }
 
 pub free_of : (l : Literal) (C : List Literal) → mentions l C ≡ false → has C l ≡ false
 free_of l C h = (or_parts (has C l) (has C (opposite l)) h).0
@@ -93,7 +91,7 @@ first_copy cs (suc bound) n c lt h = elim (cases_Bool (list_any (λ (d : Cell). 
 ]
   where
     lt_of : (a b : ℕ) → nat_lt a b ≡ true → a < b
-    lt_of a b e = omega arith
+    lt_of a b e = grind (arith, nat_tests)
 
 -- a common set counts at some number
 pub counted_somewhere : (w : WorkState) → IsWork w → (l k : Literal) (C : List Literal) → is_common (lists w.clauses) l k C ≡ true
@@ -105,15 +103,14 @@ counted_somewhere w kept l k C h =
     let s : same_set (l ∷ C) f.1 ≡ true = same_chain (l ∷ C) a.1 f.1 a.3 f.3 in
     let alike = others_are l C f.1 (free_of l C p.not_first) s in
     let holds : has f.1 l ≡ true = sym (same_has (l ∷ C) f.1 s l) ∙ or_left _ _ (same-refl l) in
-    let counts : is_counted w.clauses l k f.0 f.1 ≡ true = and_from _ _ holds (and_from _ _ f.4 (same_common (lists w.clauses) l k (others l f.1) C alike ∙ h)) in
+    let counts : is_counted w.clauses l k f.0 f.1 ≡ true = and_from _ _ (and_from _ _ holds f.4) (same_common (lists w.clauses) l k (others l f.1) C alike ∙ h) in
     (f.0, others l f.1, counts_at w kept l k f.0 f.1 f.2 counts, alike)
 
 -- what counts is common
 pub common_counted : (w : WorkState) (l k : Literal) (m : ℕ) (C : List Literal) → common_at w.clauses l k m ≡ Some C → is_common (lists w.clauses) l k C ≡ true
 common_counted w l k m C e =
     let t = counted_at w l k m C e in
-    let q = (and_parts (has t.0 l) (is_first w.clauses m t.0 && is_common (lists w.clauses) l k (others l t.0)) t.2).1 in
-    ap (is_common (lists w.clauses) l k) t.3 ∙ (and_parts (is_first w.clauses m t.0) (is_common (lists w.clauses) l k (others l t.0)) q).1
+    ap (is_common (lists w.clauses) l k) t.3 ∙ (and_parts (has t.0 l && is_first w.clauses m t.0) (is_common (lists w.clauses) l k (others l t.0)) t.2).1
 
 -- a clause that is one of the literals with a common set is replaced
 pub replaced_first : (w : WorkState) (l k : Literal) (C d : List Literal) → is_common (lists w.clauses) l k C ≡ true → same_set (l ∷ C) d ≡ true → is_replaced (lists w.clauses) l k d ≡ true
@@ -144,7 +141,7 @@ replaced_by w kept l k c h = elim (or_cases (has c l && is_common (lists w.claus
 -- Number by number
 
 module _ (w : WorkState) (l k : Literal) where
-  f : ℕ → Option (List Literal)
+  abbrev f : ℕ → Option (List Literal)
   f = common_at w.clauses l k
 
   pub sharing_none : Sharing w l k [] [] []
@@ -160,7 +157,7 @@ module _ (w : WorkState) (l k : Literal) where
     sets = t.sets ∙ sym (filter_map-append f numbers (n ∷ []) ∙ ap (λ (o : Option (List Literal)). filter_map f numbers ++ cons_option o []) none ∙ append-nil (filter_map f numbers));
     counts = t.counts;
     sound = t.sound;
-    every = λ m C h e. ⊎_elim (λ (i : Contains numbers m). t.every m C i e) (λ (q : n ≡ m). absurd (let no : None ≡ Some C = sym none ∙ ap f q ∙ e in let z : ⊥ = cc in z)) (Contains-push_cases numbers n m h);
+    every = λ m C h e. ⊎_elim (λ (i : Contains numbers m). t.every m C i e) (λ (q : n ≡ m). absurd (let wrong : None ≡ Some C = sym none ∙ ap f q ∙ e in let z : ⊥ = cc in z)) (Contains-push_cases numbers n m h);
   }
 
   -- the numbers of the clauses found with one of the literals

@@ -26,6 +26,11 @@ abbrev pub IsAlike : WorkState → List Literal → ℕ → Option Literal → T
 IsAlike w C n (Some j) = (d : List Literal) × Contains w.clauses (n, d) × (has C j ≡ false) × (same_set (j ∷ C) d ≡ true)
 IsAlike w C n None = (d : List Literal) (j : Literal) → Contains w.clauses (n, d) → has C j ≡ false → same_set (j ∷ C) d ≡ true → ⊥
 
+-- these are those of the clauses with these numbers
+pub record Listed (w : WorkState) (C : List Literal) (numbers : List ℕ) (found : List Alike) : Type 0 where
+  pub sound : (a : Alike) → Contains found a → IsAlike w C a.number (Some a.lit)
+  pub every : (n : ℕ) (d : List Literal) (j : Literal) → Contains numbers n → Contains w.clauses (n, d) → has C j ≡ false → same_set (j ∷ C) d ≡ true → Contains found (record { lit = j; number = n })
+
 -- these are all clauses that have the literals of the list and one more
 pub record AreAlike (w : WorkState) (C : List Literal) (found : List Alike) : Type 0 where
   pub sound : (a : Alike) → Contains found a → IsAlike w C a.number (Some a.lit)
@@ -39,10 +44,6 @@ IsLoaded w l n rest false = (c : List Literal) → Contains w.clauses (n, c) →
 -- a clause with the same literals as that of this number has a smaller one
 abbrev pub is_later : List Alike → Literal → ℕ → Bool
 is_later found l n = list_any (λ a. same a.lit l && nat_lt a.number n) found
-
--- one of the clauses has the literal
-abbrev pub has_lit : List Alike → Literal → Bool
-has_lit found l = list_any (λ a. same a.lit l) found
 
 -- the numbers of those that have one of the two literals
 abbrev pub numbers_with : Literal → Literal → List Alike → List ℕ

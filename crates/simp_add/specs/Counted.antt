@@ -43,9 +43,9 @@ pub record AreTouched (l : Literal) (cs : List Count) (touched : List Literal) :
   pub after : (j : Literal) → Contains touched j → code_of l < code_of j
   pub within : (j : Literal) → Contains touched j → code_of j < length cs
 
--- no count is near the greatest word
+-- each count can be raised
 abbrev pub HasRoom : List Count → Type 0
-HasRoom cs = (j : Literal) → (count_of cs j).sets + 2 < 2 ^ 64
+HasRoom cs = (j : Literal) → (count_of cs j).sets + 1 < 2 ^ 64
 
 -- the clauses with these numbers were counted: each literal of greater code has the common sets that count at them
 abbrev pub AreCounted : WorkState → Literal → List ℕ → List Count → Type 0
@@ -55,6 +55,7 @@ AreCounted w l ns cs = (j : Literal) → code_of l < code_of j → (count_of cs 
 pub record CountedOne (w : WorkState) (l : Literal) (n : ℕ) (old new : List Count) : Type 0 where
   pub sets : (j : Literal) → code_of l < code_of j → (count_of new j).sets ≡ (count_of old j).sets + length (filter_map (common_at w.clauses l j) (n ∷ []))
   pub stamps : (j : Literal) → (bound : ℕ) → (count_of old j).stamp ≤ bound → n + 1 ≤ bound → (count_of new j).stamp ≤ bound
+  pub few : (j : Literal) → (count_of new j).sets ≤ (count_of old j).sets + 1
   pub wide : length new ≡ length old
 
 -- the best of the literals counted: with the most sets, at least three, and among these of least code; or none has three

@@ -1,10 +1,11 @@
 // The clauses that have the literals of a list and one more.
 //
 // Each of them is noted for each literal of the list, so that those noted for one of these are enough, the one with the fewest.
-ghost use Rattle.std.specs.Prelude.{◌≡◌, ◌<◌, ◌++◌, ◌∷◌, [], true, length, All, OnOk, IfErr};
+ghost use Rattle.std.specs.Prelude.{◌≡◌, ◌<◌, ◌++◌, ◌∷◌, [], ℕ, List, true, length, All, OnOk, IfErr};
 ghost use Rattle.sat_words.specs.Literal.{IsOn};
 ghost use Rattle.sat_words.specs.Clause.{has, InOrder};
-ghost use Rattle.simp_add.specs.Alike.{IsAlike, AreAlike, is_later};
+ghost use Rattle.simp_base.specs.WorkState.{IsWork};
+ghost use Rattle.simp_add.specs.Alike.{IsAlike, Listed, AreAlike, is_later};
 
 use crate::one_more::one_more;
 use drat_text::{LineOut, LineStop};
@@ -43,8 +44,10 @@ fn alike_at<L: LineOut>(work: &Work<L>, rest: &[Lit], number: u64) -> Option<Lit
     requires ordered { InOrder rest.now }
     ensures { IsAlike work.now rest.now number result }
 {
-    let clause = work.clause(number)?;
-    one_more(rest, clause.lits())
+    match work.clause(number) {
+        Some(clause) => one_more(rest, clause.lits()),
+        None => None,
+    }
 }
 
 fn push(found: &mut Vec<Alike>, lit: Lit, number: u64) -> Result<(), LineStop>
@@ -54,6 +57,27 @@ fn push(found: &mut Vec<Alike>, lit: Lit, number: u64) -> Result<(), LineStop>
     match found.push(Alike { lit, number }) {
         Ok(()) => Ok(()),
         Err(_) => Err(LineStop::Memory),
+    }
+}
+
+/// Puts the clause with this number if it has the literals of the list and one more.
+fn put_alike<L: LineOut>(
+    work: &Work<L>,
+    rest: &[Lit],
+    number: u64,
+    found: &mut Vec<Alike>,
+) -> Result<(), LineStop>
+    requires ordered { InOrder rest.now }
+    requires work { IsWork work.now }
+    ensures listed { OnOk result ((numbers : List ℕ) → Listed work.now rest.now numbers found.old.items → Listed work.now rest.now (numbers ++ number ∷ []) found.new.items) }
+    ensures memory { IfErr result (λ stop. stop ≡ LineStop.Memory) }
+{
+    match alike_at(work, rest, number) {
+        Some(lit) => {
+            push(found, lit, number)?;
+            Ok(())
+        }
+        None => Ok(()),
     }
 }
 
@@ -69,12 +93,13 @@ pub(crate) fn list_alike<L: LineOut>(
     ensures alike { OnOk result (AreAlike work.now rest.now found.new.items) }
     ensures memory { IfErr result (λ stop. stop ≡ LineStop.Memory) }
 {
+    let _clauses = work.clauses();
     let rare = rarest(work, rest);
     found.clear();
     for number in work.occurrences(rare) {
-        match alike_at(work, rest, *number) {
-            Some(lit) => push(found, lit, *number)?,
-            None => {}
+        match put_alike(work, rest, *number, found) {
+            Ok(()) => {}
+            Err(stop) => return Err(stop),
         }
     }
     Ok(())

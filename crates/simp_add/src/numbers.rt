@@ -55,6 +55,13 @@ fn may_be_common(rest: &[Lit], lit: Lit) -> bool
     !rest.is_empty() && !rest.contains(&lit) && !rest.contains(&lit.not())
 }
 
+/// Whether the list has the literal.
+fn holds(lits: &[Lit], lit: Lit) -> bool
+    ensures { result ≡ has lits.now lit }
+{
+    lits.contains(&lit)
+}
+
 /// Loads the other literals of the clause with this number. Answers whether the clause is alive and has the literal, and the
 /// others may be a common set.
 pub(crate) fn load<L: LineOut>(
@@ -69,7 +76,7 @@ pub(crate) fn load<L: LineOut>(
     let Some(clause) = work.clause(number) else {
         return Ok(false);
     };
-    if !clause.lits().contains(&lit) {
+    if !holds(clause.lits(), lit) {
         return Ok(false);
     }
     rest.clear();

@@ -3,9 +3,11 @@
 // The new literal stands for both: it or the first, it or the second; and its negation comes with each common set. Each of these
 // clauses has the RAT property on the new variable, and the old ones follow from them (M. Järvisalo, M. J. H. Heule and
 // A. Biere, "Inprocessing Rules", IJCAR 2012), so that the old ones are deleted last.
-ghost use Rattle.std.specs.Prelude.{◌≡◌, ◌∷◌, [], ℕ, List, map, Contains, false};
-ghost use Rattle.sat_words.specs.Literal.{Literal, opposite};
-ghost use Rattle.simp_base.specs.WorkState.{IsWork};
+ghost use Rattle.std.specs.Prelude.{◌≡◌, ◌∷◌, [], ℕ, List, map, All, Contains, OnOk, true, false};
+ghost use Rattle.sat_words.specs.Literal.{Literal, IsOn, opposite};
+ghost use Rattle.rup_model.specs.Rup.{rat};
+ghost use Rattle.simp_base.specs.WorkState.{IsWork, lists};
+ghost use Rattle.simp_add.specs.Common.{others};
 ghost use Rattle.simp_add.specs.Stages.{IsReplaceable, CanCome, set_at, AreLong, WasGrown, WasRemoved, WasExchanged};
 
 use crate::numbers::put_others;
@@ -13,6 +15,32 @@ use crate::shared::Shared;
 use drat_text::{LineOut, LineStop};
 use sat_words::Lit;
 use simp_base::Work;
+use std::alloc::AllocError;
+
+/// Puts a literal and then those of the list but one, in the place of what was there.
+fn fill(lits: &mut Vec<Lit>, first: Lit, clause: &[Lit], but: Lit) -> Result<(), AllocError>
+    ensures { OnOk result (lits.new.items ≡ first ∷ others but clause.now) }
+{
+    lits.clear();
+    lits.push(first)?;
+    put_others(lits, clause, but)?;
+    Ok(())
+}
+
+/// Adds the new literal with another one.
+fn add_pair<L: LineOut>(work: &mut Work<L>, fresh: Lit, other: Lit) -> Result<(), LineStop>
+    requires unspent { work.old.output.spent ≡ false }
+    requires going { work.old.ended ≡ false }
+    requires rat { rat (lists work.old.clauses) (fresh ∷ other ∷ []) ≡ true }
+    requires on { All (IsOn work.old.vars) (fresh ∷ other ∷ []) }
+    ensures grown { WasGrown work.old work.new ((fresh ∷ other ∷ []) ∷ []) result }
+    ensures work { IsWork work.new }
+{
+    match work.add_rat(&[fresh, other]) {
+        Ok(_) => Ok(()),
+        Err(stop) => Err(stop),
+    }
+}
 
 /// Adds the negation of the new literal with the others of the clause with this number.
 fn add_common<L: LineOut>(
@@ -33,12 +61,14 @@ fn add_common<L: LineOut>(
         // the numbers are those of clauses that are alive
         unreachable!()
     };
-    lits.clear();
-    if lits.push(fresh.not()).is_err() || put_others(lits, clause.lits(), lit).is_err() {
-        return Err(LineStop::Memory);
+    match fill(lits, fresh.not(), clause.lits(), lit) {
+        Ok(()) => {}
+        Err(_) => return Err(LineStop::Memory),
     }
-    work.add_rat(lits.as_slice())?;
-    Ok(())
+    match work.add_rat(lits.as_slice()) {
+        Ok(_) => Ok(()),
+        Err(stop) => Err(stop),
+    }
 }
 
 /// Adds the negation of the new literal with each common set.
@@ -112,8 +142,14 @@ pub(crate) fn replace<L: LineOut>(
     ensures exchanged { WasExchanged work.old work.new fresh lit partner result }
     ensures work { IsWork work.new }
 {
-    work.add_rat(&[fresh, lit])?;
-    work.add_rat(&[fresh, partner])?;
+    match add_pair(work, fresh, lit) {
+        Ok(()) => {}
+        Err(stop) => return Err(stop),
+    }
+    match add_pair(work, fresh, partner) {
+        Ok(()) => {}
+        Err(stop) => return Err(stop),
+    }
     match add_commons(work, fresh, lit, shared.firsts.as_slice()) {
         Ok(()) => remove_all(work, shared.gone.as_slice()),
         Err(stop) => Err(stop),

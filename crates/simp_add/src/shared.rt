@@ -4,7 +4,8 @@ ghost use Rattle.std.specs.List.Sorted.{IsStrictlyIncreasing};
 ghost use Rattle.sat_words.specs.Literal.{Literal, IsOn, code_of};
 ghost use Rattle.sat_words.specs.Clause.{has};
 ghost use Rattle.simp_base.specs.WorkState.{IsWork};
-ghost use Rattle.simp_add.specs.Alike.{has_lit, numbers_with};
+ghost use Rattle.simp_add.specs.Alike.{numbers_with};
+ghost use Rattle.simp_add.specs.Counted.{is_paired};
 ghost use Rattle.simp_add.specs.Shared.{AreShared, SharesOne};
 
 use crate::alike::{Alike, is_later, list_alike};
@@ -24,11 +25,11 @@ pub(crate) struct Shared {
     pub(crate) gone: Vec<u64>,
 }
 
-/// Whether one of the clauses has the literal.
-fn has_lit(found: &[Alike], lit: Lit) -> bool
-    ensures { result ≡ has_lit found.now lit }
+/// Whether one of the clauses has the literal, and that may be a partner.
+fn is_paired(first: Lit, rest: &[Lit], found: &[Alike], lit: Lit) -> bool
+    ensures { result ≡ is_paired first rest.now found.now lit }
 {
-    found.iter().any(|alike| alike.lit == lit)
+    may_pair(first, rest, lit) && found.iter().any(|alike| alike.lit == lit)
 }
 
 /// Puts the numbers of the clauses that have one of the two literals.
@@ -100,14 +101,14 @@ fn share_one<L: LineOut>(
         return Ok(());
     }
     list_alike(work, rest.as_slice(), found)?;
-    if is_later(found.as_slice(), lit, number) || !may_pair(lit, rest.as_slice(), partner) {
+    if is_later(found.as_slice(), lit, number) {
         return Ok(());
     }
-    if has_lit(found.as_slice(), partner) {
-        shared.put(number, found.as_slice(), lit, partner)
-    } else {
-        Ok(())
+    if !is_paired(lit, rest.as_slice(), found.as_slice(), partner) {
+        return Ok(());
     }
+    shared.put(number, found.as_slice(), lit, partner)?;
+    Ok(())
 }
 
 /// The clauses of the two literals with their common sets. The numbers are those of the clauses with the first one.
@@ -123,6 +124,7 @@ pub(crate) fn shared_of<L: LineOut>(
     ensures shared { IfOk result (λ shared. AreShared work.now lit partner shared.firsts.items shared.gone.items) }
     ensures memory { IfErr result (λ stop. stop ≡ LineStop.Memory) }
 {
+    let _clauses = work.clauses();
     let mut shared = Shared::none(work.alloc());
     let mut rest = Vec::new(work.alloc());
     let mut found = Vec::new(work.alloc());

@@ -1,7 +1,7 @@
 // A count for each literal, by code: in how many common sets it is the second one.
 //
 // A clause may have copies. A count has the stamp of the set that raised it last, so that one set raises it once.
-ghost use Rattle.std.specs.Prelude.{◌≡◌, ◌<◌, ◌≤◌, ◌+◌, ◌*◌, ◌^◌, List, length, slice_set, Contains, IfOk, OnOk, IfSome};
+ghost use Rattle.std.specs.Prelude.{◌≡◌, ◌≢◌, ◌<◌, ◌≤◌, ◌+◌, ◌*◌, ◌^◌, ◌⊎◌, List, length, slice_set, Contains, IfOk, OnOk, IfSome};
 ghost use Rattle.sat_words.specs.Literal.{Literal, code_of};
 ghost use Rattle.simp_add.specs.Counted.{count_of, raised, nothing, IsClear, AreTouched, IsBetter, IsBest};
 
@@ -32,7 +32,7 @@ pub(crate) struct Tally {
 
 /// The count once the set with this stamp was counted.
 fn raised(count: Count, stamp: u64) -> Count
-    requires { count.sets + 1 < 2 ^ 64 }
+    requires { count.stamp ≢ stamp → count.sets + 1 < 2 ^ 64 }
     ensures { result ≡ raised count stamp }
 {
     if count.stamp == stamp {
@@ -43,6 +43,29 @@ fn raised(count: Count, stamp: u64) -> Count
             stamp,
         }
     }
+}
+
+/// The literal of less code.
+fn lesser(first: Lit, second: Lit) -> Lit
+    ensures { ((result ≡ first) × (code_of first < code_of second)) ⊎ ((result ≡ second) × (code_of second ≤ code_of first)) }
+{
+    if first.code() < second.code() {
+        first
+    } else {
+        second
+    }
+}
+
+/// Lists the literal if no set was counted for it before.
+fn touch(touched: &mut Vec<Lit>, lit: Lit, sets: u64) -> Result<(), AllocError>
+    ensures kept { OnOk result ((j : Literal) → Contains touched.old.items j → Contains touched.new.items j) }
+    ensures only { OnOk result ((j : Literal) → Contains touched.new.items j → Contains touched.old.items j ⊎ (lit ≡ j)) }
+    ensures there { OnOk result (sets ≡ 0 → Contains touched.new.items lit) }
+{
+    if sets == 0 {
+        touched.push(lit)?;
+    }
+    Ok(())
 }
 
 impl Tally {
@@ -75,17 +98,23 @@ impl Tally {
     pub(crate) fn raise(&mut self, first: Lit, lit: Lit, stamp: u64) -> Result<(), AllocError>
         requires within { code_of lit < length self.old.counts.items }
         requires after { code_of first < code_of lit }
-        requires room { (count_of self.old.counts.items lit).sets + 1 < 2 ^ 64 }
+        requires room { (count_of self.old.counts.items lit).stamp ≢ stamp → (count_of self.old.counts.items lit).sets + 1 < 2 ^ 64 }
         requires touched { AreTouched first self.old.counts.items self.old.touched.items }
         ensures counts { OnOk result (self.new.counts.items ≡ slice_set self.old.counts.items (code_of lit) (raised (count_of self.old.counts.items lit) stamp)) }
         ensures touched { OnOk result (AreTouched first self.new.counts.items self.new.touched.items) }
     {
-        let count = self.counts[lit.code() as usize];
-        if count.sets == 0 {
-            self.touched.push(lit)?;
-        }
+        let count = self.count(lit);
+        touch(&mut self.touched, lit, count.sets)?;
         self.counts[lit.code() as usize] = raised(count, stamp);
         Ok(())
+    }
+
+    /// The count of the literal.
+    fn count(&self, lit: Lit) -> Count
+        requires { code_of lit < length self.now.counts.items }
+        ensures { result ≡ count_of self.now.counts.items lit }
+    {
+        self.counts[lit.code() as usize]
     }
 
     /// How many sets were counted for the literal.
@@ -93,7 +122,7 @@ impl Tally {
         requires { code_of lit < length self.now.counts.items }
         ensures { result ≡ (count_of self.now.counts.items lit).sets }
     {
-        self.counts[lit.code() as usize].sets
+        self.count(lit).sets
     }
 
     /// The better one: that with more sets, at least three; of two with as many that of less code.
@@ -113,8 +142,8 @@ impl Tally {
         if sets > most {
             return Some(lit);
         }
-        if sets == most && lit.code() < other.code() {
-            return Some(lit);
+        if sets == most {
+            return Some(lesser(lit, other));
         }
         Some(other)
     }

@@ -23,8 +23,8 @@ use Rattle.simp_add.proofs.Counting.{code_eq, set_here, set_there}
 
 module _ (cs : List Count) (lit : Literal) where
   pub few_stays : (best : Option Literal) → (count_of cs lit).sets < 3 → IsBetter cs best lit best
-  few_stays None few touched b j h = ⊎_elim (λ (i : Contains touched j). b j i) (λ (e : lit ≡ j). subst (λ (x : Literal). (count_of cs x).sets < 3) e few) (Contains-push_cases touched lit j h)
-  few_stays (Some k) few touched b = (
+  few_stays None few = λ touched b j h. ⊎_elim (λ (i : Contains touched j). b j i) (λ (e : lit ≡ j). subst (λ (x : Literal). (count_of cs x).sets < 3) e few) (Contains-push_cases touched lit j h)
+  few_stays (Some k) few = λ touched b. (
       Contains-append_left touched (lit ∷ []) k b.0,
       b.1,
       λ j h. ⊎_elim (λ (i : Contains touched j). b.2 j i) (λ (e : lit ≡ j). (let f = subst (λ (x : Literal). (count_of cs x).sets < 3) e few in let t = b.1 in omega arith)) (Contains-push_cases touched lit j h),
@@ -107,7 +107,7 @@ module _ (w : WorkState) (l : Literal) (kept : IsWork w) (numbers : List ℕ) (u
     as_counted k lt = ap (λ (xs : List (List Literal)). length xs) (commons_are k) ∙ sym (counted k lt)
 
     pub is_partner : (o : Option Literal) → IsBest cs touched o → MatchOption o (HasNoPartner w l) (λ k. IsPartner w l k)
-    is_partner None b k lt =
+    is_partner None b = λ k lt.
         let e = as_counted k lt in
         let few : (count_of cs k).sets < 3 = dite (ℕ_discrete (count_of cs k).sets 0) (λ (z : (count_of cs k).sets ≡ 0). omega arith) (λ (ne : (count_of cs k).sets ≢ 0). b k (t.every k (omega arith))) in
         omega arith

@@ -1,7 +1,7 @@
 -- The clauses of two literals with their common sets are twice as many as the sets, or more.
 use Rattle.std.proofs.Common.{◌≡◌, ◌≢◌, ◌∙◌, ℕ, zero, suc, ◌+◌, ◌<◌, ◌≤◌, Bool, true, false, List, [], ◌∷◌, ◌++◌, map, length, Option, Some, None, sym, refl, ap, subst, arith, inl, inr, ◌⊎◌, ⊎_elim, Contains, cond, ◌||◌, ◌&&◌}
 use Rattle.std.specs.List.{filter, filter_map, cons_option, range_with_len, list_any}
-use Rattle.std.specs.Prelude.{nat_lt}
+use Rattle.std.specs.Prelude.{nat_lt, ⊤}
 use Rattle.std.proofs.lemmas.Bool.{true≢false, false≢true, cases_order, or_cases, or_left, or_right, and_from, not-true, lt-ltb}
 use Rattle.sat_words.specs.Literal.{Literal, same, code_of}
 use Rattle.sat_words.specs.Clause.{has, same_set}

@@ -59,6 +59,7 @@ fn count_one<L: LineOut>(
     rest: &mut Vec<Lit>,
     found: &mut Vec<Alike>,
 ) -> Result<(), LineStop>
+    requires work { IsWork work.now }
     requires wide { length tally.old.counts.items ≡ 2 * (work.now.vars + 1) }
     requires room { HasRoom tally.old.counts.items }
     requires stamps { (j : Literal) → (count_of tally.old.counts.items j).stamp ≤ number }
@@ -88,6 +89,7 @@ fn count_all<L: LineOut>(
     numbers: &[u64],
     tally: &mut Tally,
 ) -> Result<(), LineStop>
+    requires work { IsWork work.now }
     requires wide { length tally.old.counts.items ≡ 2 * (work.now.vars + 1) }
     requires clear { IsClear tally.old.counts.items }
     requires none { length tally.old.touched.items ≡ 0 }

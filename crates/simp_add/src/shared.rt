@@ -1,7 +1,8 @@
 // The clauses of two literals with their common sets.
 ghost use Rattle.std.specs.Prelude.{◌≡◌, ◌<◌, ◌++◌, ◌∷◌, [], ℕ, List, true, Contains, IfOk, IfErr, OnOk};
+ghost use Rattle.std.specs.List.{list_any};
 ghost use Rattle.std.specs.List.Sorted.{IsStrictlyIncreasing};
-ghost use Rattle.sat_words.specs.Literal.{Literal, IsOn, code_of};
+ghost use Rattle.sat_words.specs.Literal.{Literal, IsOn, code_of, same};
 ghost use Rattle.sat_words.specs.Clause.{has};
 ghost use Rattle.simp_base.specs.WorkState.{IsWork};
 ghost use Rattle.simp_add.specs.Alike.{numbers_with};
@@ -25,11 +26,18 @@ pub(crate) struct Shared {
     pub(crate) gone: Vec<u64>,
 }
 
+/// Whether one of the clauses has the literal.
+fn has_lit(found: &[Alike], lit: Lit) -> bool
+    ensures { result ≡ list_any (λ a. same a.lit lit) found.now }
+{
+    found.iter().any(|alike| alike.lit == lit)
+}
+
 /// Whether one of the clauses has the literal, and that may be a partner.
 fn is_paired(first: Lit, rest: &[Lit], found: &[Alike], lit: Lit) -> bool
     ensures { result ≡ is_paired first rest.now found.now lit }
 {
-    may_pair(first, rest, lit) && found.iter().any(|alike| alike.lit == lit)
+    may_pair(first, rest, lit) && has_lit(found, lit)
 }
 
 /// Puts the numbers of the clauses that have one of the two literals.
@@ -93,6 +101,7 @@ fn share_one<L: LineOut>(
     rest: &mut Vec<Lit>,
     found: &mut Vec<Alike>,
 ) -> Result<(), LineStop>
+    requires work { IsWork work.now }
     requires after { code_of lit < code_of partner }
     ensures shares { OnOk result (SharesOne work.now lit partner number shared.old.firsts.items shared.old.gone.items shared.new.firsts.items shared.new.gone.items) }
     ensures memory { IfErr result (λ stop. stop ≡ LineStop.Memory) }

@@ -7,7 +7,7 @@ use Rattle.simp_add.proofs.alike.put_alike.Goals as goal
 
 pub returns-in_ok-push-in-Some-clause-listed : goal.returns-in_ok-push-in-Some-clause-listed
 returns-in_ok-push-in-Some-clause-listed g c numbers t =
-    subst (λ (xs : List Alike). Listed c.args.work.now c.args.rest.now (numbers ++ c.args.number ∷ []) xs) (sym c.in_ok-push.ensures.ok)
+    subst (λ (xs : List Alike). Listed c.args.work.now c.args.rest.now (numbers ++ c.args.number ∷ []) xs) (sym c.in_ok-push-in-Some.ensures.ok)
     (listed_one c.args.work.now c.requires.work c.args.rest.now numbers c.args.found.now.items c.args.number c.in-Some.lit c.in-Some.ensures t)
 
 pub returns-in-None-clause-listed : goal.returns-in-None-clause-listed

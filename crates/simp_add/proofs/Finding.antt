@@ -17,7 +17,7 @@ use Rattle.simp_add.specs.Common.{clause_at, others, mentions, is_alive, is_comm
 use Rattle.simp_add.specs.Alike.{IsAlike, AreAlike, IsLoaded, is_later}
 use Rattle.simp_add.specs.Counted.{may_pair, is_paired}
 
-abbrev Cell : Type 0
+abbrev pub Cell : Type 0
 Cell = ℕ × List Literal
 
 -- By number

@@ -1,5 +1,7 @@
 -- The clauses of two literals are exchanged for those of a new one.
 use Rattle.std.proofs.Common.{◌≡◌, ◌≢◌, ◌∙◌, ℕ, zero, suc, ◌+◌, ◌<◌, ◌≤◌, Bool, true, false, not, ◌||◌, List, [], ◌∷◌, ◌++◌, map, length, Option, Some, None, sym, refl, ap, subst, arith, inl, inr, ◌⊎◌, ⊎_elim, Contains, append-nil, append_assoc, length-append}
+use Rattle.std.specs.Prelude.{Result, Ok, Err}
+use Rattle.drat_text.specs.declared.stop.LineStop.{LineStop}
 use Rattle.std.specs.List.{filter_map, cons_option, range_with_len, All, list_any, list_all}
 use Rattle.std.proofs.lemmas.Bool.{or_left, or_right, or_cases, or_parts, and_parts, cases_Bool, true≢false, false≢true}
 use Rattle.sat_words.specs.Literal.{Literal, opposite, same, IsOn, code_of}
@@ -21,12 +23,12 @@ use Rattle.simp_base.proofs.Removal.{same_number}
 use Rattle.simp_base.proofs.Truths.{lit_true-opposite}
 use Rattle.simp_add.specs.Common.{clause_at, others, mentions, is_alive, is_common, common_at, commons}
 use Rattle.simp_add.specs.Rule.{additions, adds, is_replaced, IsPartner, Exchanged}
-use Rattle.simp_add.specs.Stages.{IsReplaceable, Grown, Removed, CanCome, set_at, AreLong, Done}
+use Rattle.simp_add.specs.Stages.{IsReplaceable, Grown, Removed, CanCome, set_at, AreLong, Done, WasRemoved, WasExchanged}
 use Rattle.simp_add.specs.Shared.{AreShared}
 use Rattle.simp_add.proofs.Finding.{Cell, Counts, parts, counted_at, there_alive, alive_there, others_in, whole_set, refuted}
 use Rattle.simp_add.proofs.Sharing.{common_counted, free_of, replaced_by, replaced_first, replaced_second}
 use Rattle.simp_add.proofs.Fewer.{twice_as_many}
-use Rattle.simp_add.proofs.Growing.{goes_along, continues_along, grown_along, rat_new, set_is, grown_stay, grown_parts, numbered_In, In_numbered, alive_more}
+use Rattle.simp_add.proofs.Growing.{goes_along, continues_along, grown_along, grown_log, stopped_after, rat_new, set_is, grown_stay, grown_parts, numbered_In, In_numbered, alive_more}
 
 module _ (w : WorkState) (x l k : Literal) (firsts gone : List ℕ) (r : IsReplaceable w x l k firsts gone) where
   abbrev Cs : List (List Literal)
@@ -198,9 +200,9 @@ module _ (w : WorkState) (x l k : Literal) (firsts gone : List ℕ) (r : IsRepla
 
     module _ (z : WorkState) (rem : Removed d z gone) where
       goes : (n : ℕ) (c : List Literal) → Contains w.clauses (n, c) → is_replaced (lists w.clauses) l k c ≡ false → Contains gone n → ⊥
-      goes n c i no h =
+      goes n c i away h =
           let t = (r.shared.every n).0 h in
-          true≢false (sym t.2 ∙ ap (is_replaced (lists w.clauses) l k) (same_number w.clauses r.work.numbers n t.0 c t.1 i) ∙ no)
+          true≢false (sym t.2 ∙ ap (is_replaced (lists w.clauses) l k) (same_number w.clauses r.work.numbers n t.0 c t.1 i) ∙ away)
 
       new_stays : (n : ℕ) (c : List Literal) → In {X = Cell} (n, c) (numbered (w.output.last + 1) made) → Contains z.clauses (n, c)
       new_stays n c i = (rem.clauses n c).1 (
@@ -340,6 +342,7 @@ module _ (w : WorkState) (x l k : Literal) (firsts gone : List ℕ) (r : IsRepla
       }
 
       pub done : Done w z x l k
+      unfolding lifted
       done = record {
         on = goes_along w d z grown.on rem.on;
         vars = rem.vars ∙ grown.vars;
@@ -349,3 +352,7 @@ module _ (w : WorkState) (x l k : Literal) (firsts gone : List ℕ) (r : IsRepla
         lifted = lifted;
         unmended = refl;
       }
+
+    pub exchanged_after : (z : WorkState) (result : Result (Unit {0}) LineStop) → WasRemoved d z gone result → WasExchanged w z x l k result
+    exchanged_after z (Ok d_one) h = done z h
+    exchanged_after z (Err stop) h = stopped_after w d z stop grown.on.quiet (grown_log w d made grown) h

@@ -101,8 +101,7 @@ sides_apart : (ns : List ℕ) → Apart ns → Apart (sides ns)
 sides_apart [] d = tt
 sides_apart (n ∷ ns) d = (
     (λ i. ⊎_elim (λ (e : (n, false) ≡ (n, true)). true≢false (sym (ap (λ (z : ℕ × Bool). z.1) e))) (λ (j : In (n, true) (sides ns)). d.0 (sides_In ns (n, true) j)) i),
-    (λ i. d.0 (sides_In ns (n, false) i)),
-    sides_apart ns d.1,
+    ((λ i. d.0 (sides_In ns (n, false) i)), sides_apart ns d.1),
 )
 
 twice_long : (ns : List ℕ) → length (sides ns) ≡ length ns + length ns

@@ -58,7 +58,7 @@ none_at cs n none = by (clause_at cs n) refl
 
 -- The others of a clause
 
-refuted : (b : Bool) → (b ≡ true → ⊥) → b ≡ false
+pub refuted : (b : Bool) → (b ≡ true → ⊥) → b ≡ false
 refuted true f = absurd (f refl)
 refuted false f = refl
 

@@ -2,7 +2,9 @@
 use Rattle.std.proofs.Common.{◌≡◌, ◌≢◌, ◌∙◌, ℕ, zero, suc, ◌+◌, ◌<◌, ◌≤◌, ◌==◌, Bool, true, false, List, [], ◌∷◌, ◌++◌, map, length, take, get_or, sym, refl, ap, subst, arith, inl, inr, ◌⊎◌, ⊎_elim, Contains, append-nil, append_assoc, length-append}
 use Rattle.std.specs.Prelude.{Result, Ok, Err}
 use Rattle.std.specs.List.{sum_by, list_any}
-use Rattle.std.proofs.lemmas.Bool.{cases_Bool, cases_eq, true≢false, eq-eqb, eqb_tells}
+use Rattle.std.proofs.lemmas.Bool.{cases_Bool, cases_eq, true≢false, eq-eqb}
+use Rattle.std.proofs.lemmas.Bool.Decides.{eqb_tells}
+use Rattle.std.proofs.lemmas.List.Sums.{sum_by-append}
 use Rattle.std.proofs.lemmas.List.{take_more}
 use Rattle.std.proofs.lemmas.List.Elements.{Contains-append_left, Contains-append_right, Contains-append_cases}
 use Rattle.sat_words.specs.Literal.{Literal}
@@ -47,7 +49,7 @@ map_append (x ∷ xs) ys = ap (λ (es : List Entry). ruler_deletes x ∷ es) (ma
 
 ones : {X : Type 0} (xs : List X) → sum_by (λ (x : X). 1) xs ≡ length xs
 ones [] = refl
-ones (x ∷ xs) = ap suc (ones xs)
+ones {X} (x ∷ xs) = let a = sum_by-append (λ (x : X). 1) (x ∷ []) xs in let b = ones xs in omega arith
 
 -- Nothing
 
@@ -71,7 +73,7 @@ removed_none w n going unspent kept none = record {
   gone = [];
   log = continues_self w;
   once = tt;
-  named = λ m. (λ h. absurd (Contains_In [] m h), λ h. absurd (none h.1 (subst (λ (k : ℕ). Contains w.clauses (k, h.1)) (sym (only n m h.0)) h.2)));
+  named = λ m. (λ h. absurd (Contains_In [] m h), λ h. absurd (none h.1.0 (subst (λ (k : ℕ). Contains w.clauses (k, h.1.0)) (sym (only n m h.0)) h.1.1)));
   clauses = λ m c. (λ h. (h, λ i. none c (subst (λ (k : ℕ). Contains w.clauses (k, c)) (sym (only n m i)) h)), λ h. h.0);
   count = omega arith;
 }
@@ -122,7 +124,7 @@ removed_along a b c xs ys f g = record {
       (Contains-append_cases f.gone g.gone n h),
       λ h. elim (member xs n) as (λ _. Contains (f.gone ++ g.gone) n) [
         | inl i ↦ Contains-append_left f.gone g.gone n ((f.named n).1 (i, h.1))
-        | inr no ↦ Contains-append_right f.gone g.gone n ((g.named n).1 (⊎_elim (λ (i : Contains xs n). absurd (no i)) (λ (i : Contains ys n). i) (Contains-append_cases xs ys n h.0), (h.1.0, (f.clauses n h.1.0).1 (h.1.1, no))))
+        | inr away ↦ Contains-append_right f.gone g.gone n ((g.named n).1 (⊎_elim (λ (i : Contains xs n). absurd (away i)) (λ (i : Contains ys n). i) (Contains-append_cases xs ys n h.0), (h.1.0, (f.clauses n h.1.0).1 (h.1.1, away))))
       ],
   );
   clauses = λ n x. (

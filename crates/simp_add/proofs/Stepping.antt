@@ -1,5 +1,5 @@
 -- One literal's turn, and one after another.
-use Rattle.std.proofs.Common.{◌≡◌, ◌≢◌, ◌∙◌, ℕ, zero, suc, ◌+◌, ◌<◌, ◌≤◌, ◌^◌, Bool, true, false, not, ◌||◌, List, [], ◌∷◌, ◌++◌, length, Option, Some, None, sym, refl, ap, subst, arith, inl, inr, ◌⊎◌, ⊎_elim, Contains, append-nil}
+use Rattle.std.proofs.Common.{◌≡◌, ◌≢◌, ◌∙◌, ℕ, zero, suc, ◌+◌, ◌<◌, ◌≤◌, ◌^◌, ◌-◌, Bool, true, false, not, ◌||◌, List, [], ◌∷◌, ◌++◌, length, Option, Some, None, sym, refl, ap, subst, arith, inl, inr, ◌⊎◌, ⊎_elim, Contains, append-nil, append_assoc}
 use Rattle.std.specs.Prelude.{Result, Ok, Err}
 use Rattle.std.proofs.lemmas.Bool.{or_left, or_cases, cases_Bool, true≢false}
 use Rattle.sat_words.specs.Literal.{Literal, opposite, same, IsOn, literal_of}
@@ -12,7 +12,7 @@ use Rattle.simp_base.specs.Calls.{Widened, next_literal}
 use Rattle.simp_base.specs.Log.{Continues, Grows, GrowsLog}
 use Rattle.simp_base.specs.Lifted.{Lifted}
 use Rattle.simp_base.proofs.Known.{on_alive}
-use Rattle.simp_base.proofs.LiftSteps.{lifted_along, lifted_self}
+use Rattle.model_stack.proofs.Walk.{lifts_along}
 use Rattle.simp_base.proofs.Widening.{continues_grows, grows_along, work_wider, on_wider}
 use Rattle.simp_add.specs.Common.{mentions, commons}
 use Rattle.simp_add.specs.Rule.{IsPartner, HasNoPartner, Exchanged, Replaced, Passed, Turn, Ran, IsOver, nth_literal}
@@ -21,6 +21,16 @@ use Rattle.simp_add.specs.Stages.{GoesOn, Stops, IsReplaceable, Done, Stepped, H
 use Rattle.simp_add.specs.Ends.{Shortened}
 use Rattle.simp_add.proofs.Finding.{refuted}
 use Rattle.simp_add.proofs.Growing.{goes_self, goes_along, continues_self, stopped_after}
+
+abbrev lifted_self : (w : WorkState) → Lifted w w
+lifted_self w = record { fixes = []; stack = sym (append-nil w.stack); lifts = λ m h. h }
+
+abbrev lifted_along : (a b c : WorkState) → Lifted a b → Lifted b c → Lifted a c
+lifted_along a b c f g = record {
+  fixes = f.fixes ++ g.fixes;
+  stack = g.stack ∙ ap (λ s. s ++ g.fixes) f.stack ∙ append_assoc a.stack f.fixes g.fixes;
+  lifts = lifts_along (known a) (known b) (known c) f.fixes g.fixes f.lifts g.lifts;
+}
 
 grows_self : (w : WorkState) → Grows [] w w
 grows_self w = continues_grows [] w w (continues_self w)
@@ -120,5 +130,25 @@ shortened start now n p over = record {
   quiet = p.on.quiet;
 }
 
-pub over_without : (w : WorkState) (n : ℕ) → HasNoVariable w w (nth_literal n) → IsOver n w
-over_without w n h = inr (inr (h.partner, h.is, h.last))
+-- by code
+
+nth_at : (code : ℕ) → 2 ≤ code → nth_literal (code - 2) ≡ literal_of code
+nth_at code le = ap literal_of (let e : (code - 2) + 2 ≡ code = omega arith in e)
+
+pub over_at : (w : WorkState) (code vars : ℕ) → 2 ≤ code → vars ≡ w.vars → (vars < (literal_of code).var) ⊎ (2 ^ 30 < (literal_of code).var) → IsOver (code - 2) w
+over_at w code vars le e h =
+    let same_lit = nth_at code le in
+    ⊎_elim
+    (λ (q : vars < (literal_of code).var). inl (subst (λ (v : ℕ). v < (nth_literal (code - 2)).var) e (subst (λ (y : Literal). vars < y.var) (sym same_lit) q)))
+    (λ (q : 2 ^ 30 < (literal_of code).var). inr (inl (subst (λ (y : Literal). 2 ^ 30 < y.var) (sym same_lit) q)))
+    h
+
+pub passing_at : (start now new : WorkState) (code : ℕ) (l : Literal) → 2 ≤ code → l ≡ literal_of code → Passing start now (code - 2) → Stepped now new l → Passing start new (code + 1 - 2)
+passing_at start now new code l le is p s =
+    subst (λ (n : ℕ). Passing start new n) (let e : suc (code - 2) ≡ code + 1 - 2 = omega arith in e)
+    (passing_next start now new (code - 2) p (subst (λ (y : Literal). Stepped now new y) (is ∙ sym (nth_at code le)) s))
+
+pub without_variable : (start now new : WorkState) (code : ℕ) (l : Literal) → 2 ≤ code → l ≡ literal_of code → Passing start now (code - 2) → HasNoVariable now new l → Shortened start new
+without_variable start now new code l le is p h =
+    subst (λ (v : WorkState). Shortened start v) (sym h.same)
+    (shortened start now (code - 2) p (inr (inr (h.partner, subst (λ (y : Literal). IsPartner now y h.partner) (is ∙ sym (nth_at code le)) h.is, h.last))))

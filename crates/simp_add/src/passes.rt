@@ -94,6 +94,7 @@ pub fn run<L: LineOut>(work: &mut Work<L>) -> Result<Run, LineStop>
     ensures log { GrowsLog work.old work.new }
     ensures work { IsWork work.new }
 {
+    let _clauses = work.clauses();
     let Ok(made) = Tally::new(work.alloc(), work.vars()) else {
         return Err(LineStop::Memory);
     };

@@ -3,7 +3,7 @@ use Rattle.simp_add.proofs.Choosing.{is_partner}
 use Rattle.simp_add.proofs.partner.partner_of.Goals as goal
 
 pub best-best-requires : goal.best-best-requires
-best-best-requires g c = c.in_ok-count_all.ensures.touched.within
+best-best-requires g c = record { within = c.in_ok-count_all.ensures.touched.within }
 
 pub returns-clause-partner : goal.returns-clause-partner
 returns-clause-partner g c =

@@ -25,48 +25,48 @@ module _ (cs : List Count) (lit : Literal) where
   pub few_stays : (best : Option Literal) → (count_of cs lit).sets < 3 → IsBetter cs best lit best
   few_stays None few = λ touched b j h. ⊎_elim (λ (i : Contains touched j). b j i) (λ (e : lit ≡ j). subst (λ (x : Literal). (count_of cs x).sets < 3) e few) (Contains-push_cases touched lit j h)
   few_stays (Some k) few = λ touched b. (
-      Contains-append_left touched (lit ∷ []) k b.0,
-      b.1,
-      λ j h. ⊎_elim (λ (i : Contains touched j). b.2 j i) (λ (e : lit ≡ j). (let f = subst (λ (x : Literal). (count_of cs x).sets < 3) e few in let t = b.1 in omega arith)) (Contains-push_cases touched lit j h),
-      λ j h lt. ⊎_elim (λ (i : Contains touched j). b.3 j i lt) (λ (e : lit ≡ j). (let f = subst (λ (x : Literal). (count_of cs x).sets < 3) e few in let t = b.1 in omega arith)) (Contains-push_cases touched lit j h),
+    Contains-append_left touched (lit ∷ []) k b.0,
+    b.1,
+    λ j h. ⊎_elim (λ (i : Contains touched j). b.2 j i) (λ (e : lit ≡ j). (let f = subst (λ (x : Literal). (count_of cs x).sets < 3) e few in let t = b.1 in omega arith)) (Contains-push_cases touched lit j h),
+    λ j h lt. ⊎_elim (λ (i : Contains touched j). b.3 j i lt) (λ (e : lit ≡ j). (let f = subst (λ (x : Literal). (count_of cs x).sets < 3) e few in let t = b.1 in omega arith)) (Contains-push_cases touched lit j h),
   )
 
   pub first_one : 3 ≤ (count_of cs lit).sets → IsBetter cs None lit (Some lit)
   first_one enough touched b = (
-      Contains-push touched lit,
-      enough,
-      λ j h. ⊎_elim (λ (i : Contains touched j). (let f = b j i in omega arith)) (λ (e : lit ≡ j). (let s = ap (λ (x : Literal). (count_of cs x).sets) e in omega arith)) (Contains-push_cases touched lit j h),
-      λ j h lt. ⊎_elim (λ (i : Contains touched j). (let f = b j i in omega arith)) (λ (e : lit ≡ j). absurd (let s = ap code_of e in omega arith)) (Contains-push_cases touched lit j h),
+    Contains-push touched lit,
+    enough,
+    λ j h. ⊎_elim (λ (i : Contains touched j). (let f = b j i in omega arith)) (λ (e : lit ≡ j). (let s = ap (λ (x : Literal). (count_of cs x).sets) e in omega arith)) (Contains-push_cases touched lit j h),
+    λ j h lt. ⊎_elim (λ (i : Contains touched j). (let f = b j i in omega arith)) (λ (e : lit ≡ j). absurd (let s = ap code_of e in omega arith)) (Contains-push_cases touched lit j h),
   )
 
   pub more_wins : (k : Literal) → 3 ≤ (count_of cs lit).sets → (count_of cs k).sets < (count_of cs lit).sets → IsBetter cs (Some k) lit (Some lit)
   more_wins k enough more touched b = (
-      Contains-push touched lit,
-      enough,
-      λ j h. ⊎_elim (λ (i : Contains touched j). (let f = b.2 j i in omega arith)) (λ (e : lit ≡ j). (let s = ap (λ (x : Literal). (count_of cs x).sets) e in omega arith)) (Contains-push_cases touched lit j h),
-      λ j h lt. ⊎_elim (λ (i : Contains touched j). (let f = b.2 j i in omega arith)) (λ (e : lit ≡ j). absurd (let s = ap code_of e in omega arith)) (Contains-push_cases touched lit j h),
+    Contains-push touched lit,
+    enough,
+    λ j h. ⊎_elim (λ (i : Contains touched j). (let f = b.2 j i in omega arith)) (λ (e : lit ≡ j). (let s = ap (λ (x : Literal). (count_of cs x).sets) e in omega arith)) (Contains-push_cases touched lit j h),
+    λ j h lt. ⊎_elim (λ (i : Contains touched j). (let f = b.2 j i in omega arith)) (λ (e : lit ≡ j). absurd (let s = ap code_of e in omega arith)) (Contains-push_cases touched lit j h),
   )
 
   pub less_wins : (k : Literal) → 3 ≤ (count_of cs lit).sets → (count_of cs lit).sets ≡ (count_of cs k).sets → code_of lit < code_of k → IsBetter cs (Some k) lit (Some lit)
   less_wins k enough as_many less touched b = (
-      Contains-push touched lit,
-      enough,
-      λ j h. ⊎_elim (λ (i : Contains touched j). (let f = b.2 j i in omega arith)) (λ (e : lit ≡ j). (let s = ap (λ (x : Literal). (count_of cs x).sets) e in omega arith)) (Contains-push_cases touched lit j h),
-      λ j h lt. ⊎_elim (λ (i : Contains touched j). (let f = b.3 j i (omega arith) in omega arith)) (λ (e : lit ≡ j). absurd (let s = ap code_of e in omega arith)) (Contains-push_cases touched lit j h),
+    Contains-push touched lit,
+    enough,
+    λ j h. ⊎_elim (λ (i : Contains touched j). (let f = b.2 j i in omega arith)) (λ (e : lit ≡ j). (let s = ap (λ (x : Literal). (count_of cs x).sets) e in omega arith)) (Contains-push_cases touched lit j h),
+    λ j h lt. ⊎_elim (λ (i : Contains touched j). (let f = b.3 j i (omega arith) in omega arith)) (λ (e : lit ≡ j). absurd (let s = ap code_of e in omega arith)) (Contains-push_cases touched lit j h),
   )
 
   pub old_stays : (k : Literal) → (count_of cs lit).sets ≤ (count_of cs k).sets → ((count_of cs lit).sets ≡ (count_of cs k).sets → code_of k ≤ code_of lit) → IsBetter cs (Some k) lit (Some k)
   old_stays k le tie touched b = (
-      Contains-append_left touched (lit ∷ []) k b.0,
-      b.1,
-      λ j h. ⊎_elim (λ (i : Contains touched j). b.2 j i) (λ (e : lit ≡ j). (let s = ap (λ (x : Literal). (count_of cs x).sets) e in omega arith)) (Contains-push_cases touched lit j h),
-      λ j h lt. ⊎_elim (λ (i : Contains touched j). b.3 j i lt)
-          (λ (e : lit ≡ j). (
-              let s = ap (λ (x : Literal). (count_of cs x).sets) e in
-              let c = ap code_of e in
-              let ne : (count_of cs lit).sets ≢ (count_of cs k).sets = (λ q. (let t = tie q in omega arith)) in
-              omega arith))
-          (Contains-push_cases touched lit j h),
+    Contains-append_left touched (lit ∷ []) k b.0,
+    b.1,
+    λ j h. ⊎_elim (λ (i : Contains touched j). b.2 j i) (λ (e : lit ≡ j). (let s = ap (λ (x : Literal). (count_of cs x).sets) e in omega arith)) (Contains-push_cases touched lit j h),
+    λ j h lt. ⊎_elim (λ (i : Contains touched j). b.3 j i lt)
+        (λ (e : lit ≡ j). (
+        let s = ap (λ (x : Literal). (count_of cs x).sets) e in
+        let c = ap code_of e in
+        let ne : (count_of cs lit).sets ≢ (count_of cs k).sets = (λ q. (let t = tie q in omega arith)) in
+        omega arith))
+        (Contains-push_cases touched lit j h),
   )
 
 -- Counts set back

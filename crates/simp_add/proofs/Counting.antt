@@ -67,13 +67,13 @@ touched_raised l lit cs touched more stamp lt up t kept only here = record {
       (λ (ne : code_of j ≢ code_of lit). kept j (t.every j (let s = ap (λ (c : Count). c.sets) (set_there cs lit j new ne) in omega arith)));
   clear = λ j h. dite (ℕ_discrete (code_of j) (code_of lit))
       (λ (e : code_of j ≡ code_of lit). (
-          let is : j ≡ lit = code_eq j lit e in
-          let at : count_of (set cs (code_of lit) new) j ≡ new = ap (count_of (set cs (code_of lit) new)) is ∙ set_here cs lit new lt in
-          let z : new.sets ≡ 0 = sym (ap (λ (c : Count). c.sets) at) ∙ h in
-          ⊎_elim
-          (λ (q : new.sets ≡ (count_of cs lit).sets + 1). absurd (omega arith))
-          (λ (q : new ≡ count_of cs lit). at ∙ q ∙ t.clear lit (sym (ap (λ (c : Count). c.sets) q) ∙ z))
-          (raised_sets (count_of cs lit) stamp)))
+      let is : j ≡ lit = code_eq j lit e in
+      let at : count_of (set cs (code_of lit) new) j ≡ new = ap (count_of (set cs (code_of lit) new)) is ∙ set_here cs lit new lt in
+      let z : new.sets ≡ 0 = sym (ap (λ (c : Count). c.sets) at) ∙ h in
+      ⊎_elim
+      (λ (q : new.sets ≡ (count_of cs lit).sets + 1). absurd (omega arith))
+      (λ (q : new ≡ count_of cs lit). at ∙ q ∙ t.clear lit (sym (ap (λ (c : Count). c.sets) q) ∙ z))
+      (raised_sets (count_of cs lit) stamp)))
       (λ (ne : code_of j ≢ code_of lit). set_there cs lit j new ne ∙ t.clear j (sym (ap (λ (c : Count). c.sets) (set_there cs lit j new ne)) ∙ h));
   after = λ j h. ⊎_elim (λ (i : Contains touched j). t.after j i) (λ (e : lit ≡ j). subst (λ (x : Literal). code_of l < code_of x) e up) (only j h);
   within = λ j h. (let long = length-set cs (code_of lit) new in ⊎_elim

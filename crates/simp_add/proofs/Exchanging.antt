@@ -206,8 +206,8 @@ module _ (w : WorkState) (x l k : Literal) (firsts gone : List ℕ) (r : IsRepla
 
       new_stays : (n : ℕ) (c : List Literal) → In {X = Cell} (n, c) (numbered (w.output.last + 1) made) → Contains z.clauses (n, c)
       new_stays n c i = (rem.clauses n c).1 (
-          subst (λ (cs : List Cell). Contains cs (n, c)) (sym grown.clauses) (In_Contains (w.clauses ++ numbered (w.output.last + 1) made) (n, c) (In_append_right w.clauses (numbered (w.output.last + 1) made) (n, c) i)),
-          λ h. (let t = (r.shared.every n).0 h in let le = old_number n t.0 t.1 in let ge = (numbered_In (w.output.last + 1) made n c i).0 in omega arith),
+        subst (λ (cs : List Cell). Contains cs (n, c)) (sym grown.clauses) (In_Contains (w.clauses ++ numbered (w.output.last + 1) made) (n, c) (In_append_right w.clauses (numbered (w.output.last + 1) made) (n, c) i)),
+        λ h. (let t = (r.shared.every n).0 h in let le = old_number n t.0 t.1 in let ge = (numbered_In (w.output.last + 1) made n c i).0 in omega arith),
       )
 
       pub exchanged : Exchanged w z x l k (adds (w.output.last + 1) made ++ map ruler_deletes rem.gone)
@@ -216,20 +216,20 @@ module _ (w : WorkState) (x l k : Literal) (firsts gone : List ℕ) (r : IsRepla
         are = refl;
         once = rem.once;
         every = λ n. (
-            λ h. (r.shared.every n).0 ((rem.named n).0 h).0,
-            λ h. (rem.named n).1 ((r.shared.every n).1 h, (h.0, grown_stay w d made grown n h.0 h.1)),
+          λ h. (r.shared.every n).0 ((rem.named n).0 h).0,
+          λ h. (rem.named n).1 ((r.shared.every n).1 h, (h.0, grown_stay w d made grown n h.0 h.1)),
         );
         clauses = λ n c. (
-            λ h. (
-                let p = (rem.clauses n c).0 h in
-                elim (grown_parts w d made grown n c p.0) as (λ _. (Contains w.clauses (n, c) × (is_replaced (lists w.clauses) l k c ≡ false)) ⊎ Contains (numbered (w.output.last + 1) made) (n, c)) [
-                  | inl old ↦ inl (old, refuted _ (λ e. p.1 ((r.shared.every n).1 (c, old, e))))
-                  | inr new ↦ inr (In_Contains (numbered (w.output.last + 1) made) (n, c) new)
-                ]),
-            λ h. ⊎_elim
-            (λ (old : Contains w.clauses (n, c) × (is_replaced (lists w.clauses) l k c ≡ false)). (rem.clauses n c).1 (grown_stay w d made grown n c old.0, goes n c old.0 old.1))
-            (λ (new : Contains (numbered (w.output.last + 1) made) (n, c)). new_stays n c (Contains_In (numbered (w.output.last + 1) made) (n, c) new))
-            h,
+          λ h. (
+              let p = (rem.clauses n c).0 h in
+              elim (grown_parts w d made grown n c p.0) as (λ _. (Contains w.clauses (n, c) × (is_replaced (lists w.clauses) l k c ≡ false)) ⊎ Contains (numbered (w.output.last + 1) made) (n, c)) [
+                | inl old ↦ inl (old, refuted _ (λ e. p.1 ((r.shared.every n).1 (c, old, e))))
+                | inr new ↦ inr (In_Contains (numbered (w.output.last + 1) made) (n, c) new)
+              ]),
+          λ h. ⊎_elim
+              (λ (old : Contains w.clauses (n, c) × (is_replaced (lists w.clauses) l k c ≡ false)). (rem.clauses n c).1 (grown_stay w d made grown n c old.0, goes n c old.0 old.1))
+              (λ (new : Contains (numbered (w.output.last + 1) made) (n, c)). new_stays n c (Contains_In (numbered (w.output.last + 1) made) (n, c) new))
+              h,
         );
         fewer = (
             let twice = twice_as_many w r.work l k differ rem.gone (λ m C e n c i s. (rem.named n).1 (in_gone m C e n c i s, (c, grown_stay w d made grown n c i))) in
@@ -246,10 +246,14 @@ module _ (w : WorkState) (x l k : Literal) (firsts gone : List ℕ) (r : IsRepla
           differ = refuted _ (λ e. let lt = r.partner.after in let q = ap code_of (same-true l k e) in omega arith)
 
           in_gone : (m : ℕ) (C : List Literal) → common_at w.clauses l k m ≡ Some C → (n : ℕ) (c : List Literal) → Contains w.clauses (n, c) → (same_set (l ∷ C) c ≡ true) ⊎ (same_set (k ∷ C) c ≡ true) → Contains gone n
-          in_gone m C e n c i s = (r.shared.every n).1 (c, i, ⊎_elim
-              (λ (q : same_set (l ∷ C) c ≡ true). replaced_first w l k C c (common_counted w l k m C e) q)
-              (λ (q : same_set (k ∷ C) c ≡ true). replaced_second w l k C c (common_counted w l k m C e) q)
-              s)
+          in_gone m C e n c i s = (r.shared.every n).1 (
+            c,
+            i,
+            ⊎_elim
+                (λ (q : same_set (l ∷ C) c ≡ true). replaced_first w l k C c (common_counted w l k m C e) q)
+                (λ (q : same_set (k ∷ C) c ≡ true). replaced_second w l k C c (common_counted w l k m C e) q)
+                s,
+          )
 
           numbered_long : (n : ℕ) (cs : List (List Literal)) → length (numbered n cs) ≡ length cs
           numbered_long n [] = refl
@@ -325,12 +329,12 @@ module _ (w : WorkState) (x l k : Literal) (firsts gone : List ℕ) (r : IsRepla
         each : (c : List Literal) → In c (known w) → clause_true A c ≡ true
         each c i = ⊎_elim
             (λ (h : In c (lists w.clauses)). (
-                let t = map_In (λ (y : Cell). y.1) w.clauses c h in
-                let there : Contains w.clauses (t.0.0, c) = subst (λ (y : List Literal). Contains w.clauses (t.0.0, y)) t.2 (In_Contains w.clauses t.0 t.1) in
-                elim (cases_Bool (is_replaced (lists w.clauses) l k c)) as (λ _. clause_true A c ≡ true) [
-                  | inl e ↦ true_replaced c e
-                  | inr f ↦ all_In (clause_true A) (known z) c all (known_alive z t.0.0 c ((exchanged.clauses t.0.0 c).1 (inl (there, f))))
-                ]))
+            let t = map_In (λ (y : Cell). y.1) w.clauses c h in
+            let there : Contains w.clauses (t.0.0, c) = subst (λ (y : List Literal). Contains w.clauses (t.0.0, y)) t.2 (In_Contains w.clauses t.0 t.1) in
+            elim (cases_Bool (is_replaced (lists w.clauses) l k c)) as (λ _. clause_true A c ≡ true) [
+              | inl e ↦ true_replaced c e
+              | inr f ↦ all_In (clause_true A) (known z) c all (known_alive z t.0.0 c ((exchanged.clauses t.0.0 c).1 (inl (there, f))))
+            ]))
             (λ (h : In c (unit_clauses w.units)). all_In (clause_true A) (known z) c all (In_append_right (lists z.clauses) (unit_clauses z.units) c (subst (λ us. In c (unit_clauses us)) (sym (rem.on.units ∙ grown.on.units)) h)))
             (In_append (lists w.clauses) (unit_clauses w.units) c i)
 

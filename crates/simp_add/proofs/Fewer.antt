@@ -43,8 +43,8 @@ module _ {X : Type 0} {Y : Type 0} (R : X → Y → Type 0) (one : (x z : X) (y 
       let a = f x (inl refl) in
       let s = split a.0 ys a.1 in
       let r = pigeons xs s.rest d.1 (λ z i. (
-          let b = f z (inr i) in
-          (b.0, ⊎_elim (λ (q : a.0 ≡ b.0). absurd (d.0 (subst (λ (v : X). In v xs) (one z x a.0 (subst (R z) (sym q) b.2) a.2) i))) (λ (h : In b.0 s.rest). h) (s.stays b.0 b.1), b.2))) in
+      let b = f z (inr i) in
+      (b.0, ⊎_elim (λ (q : a.0 ≡ b.0). absurd (d.0 (subst (λ (v : X). In v xs) (one z x a.0 (subst (R z) (sym q) b.2) a.2) i))) (λ (h : In b.0 s.rest). h) (s.stays b.0 b.1), b.2))) in
       let l = s.less in omega arith
 
 -- Numbers that give something
@@ -100,8 +100,8 @@ sides_In (n ∷ ns) y (inr (inr i)) = inr (sides_In ns y i)
 sides_apart : (ns : List ℕ) → Apart ns → Apart (sides ns)
 sides_apart [] d = tt
 sides_apart (n ∷ ns) d = (
-    (λ i. ⊎_elim (λ (e : (n, false) ≡ (n, true)). true≢false (sym (ap (λ (z : ℕ × Bool). z.1) e))) (λ (j : In (n, true) (sides ns)). d.0 (sides_In ns (n, true) j)) i),
-    ((λ i. d.0 (sides_In ns (n, false) i)), sides_apart ns d.1),
+  (λ i. ⊎_elim (λ (e : (n, false) ≡ (n, true)). true≢false (sym (ap (λ (z : ℕ × Bool). z.1) e))) (λ (j : In (n, true) (sides ns)). d.0 (sides_In ns (n, true) j)) i),
+  ((λ i. d.0 (sides_In ns (n, false) i)), sides_apart ns d.1),
 )
 
 twice_long : (ns : List ℕ) → length (sides ns) ≡ length ns + length ns
@@ -182,7 +182,7 @@ module _ (w : WorkState) (kept : IsWork w) (l k : Literal) (differ : same l k �
   twice_as_many =
       let ns = range_with_len 0 (w.output.last + 1) in
       let le = pigeons On one_side (sides (somes f ns)) gone (sides_apart (somes f ns) (filter_apart (λ n. is_some (f n)) ns (range_apart 0 (w.output.last + 1))))
-          (all_on (somes f ns) (λ n i. some_of (f n) (filter_In (λ m. is_some (f m)) ns n i).1)) in
+      (all_on (somes f ns) (λ n i. some_of (f n) (filter_In (λ m. is_some (f m)) ns n i).1)) in
       let a = twice_long (somes f ns) in
       let b = as_many f ns in
       omega arith

@@ -198,9 +198,9 @@ pub on_comes : (w : WorkState) (x l : Literal) (n : ℕ) → IsWork w → CanCom
 on_comes w x l n kept h = In_All (IsOn w.vars) (opposite x ∷ set_at w.clauses l n) (λ k i. ⊎_elim
     (λ (e : opposite x ≡ k). subst (IsOn w.vars) e (record { low = h.new.low; high = h.new.high }))
     (λ (j : In k (set_at w.clauses l n)). (
-        let is = set_is w kept l n h.clause h.alive in
-        let m = others_in l k h.clause (In_has (others l h.clause) k (subst (λ (C : List Literal). In k C) is j)) in
-        on_alive w kept n h.clause h.alive k (has_In h.clause k m.0)))
+    let is = set_is w kept l n h.clause h.alive in
+    let m = others_in l k h.clause (In_has (others l h.clause) k (subst (λ (C : List Literal). In k C) is j)) in
+    on_alive w kept n h.clause h.alive k (has_In h.clause k m.0)))
     i)
 
 -- a literal is not its negation
@@ -226,9 +226,9 @@ module _ (a b : WorkState) (x l : Literal) (numbers : List ℕ) (i : ℕ) (kept 
   pub commons_come : (n : ℕ) → Contains numbers n → CanCome b x l n
   commons_come n h = comes_later a b x l n (map (λ m. opposite x ∷ set_at a.clauses l m) (take i numbers)) kept g.on.work g
       (λ d q. (
-          let t = map_In (λ m. opposite x ∷ set_at a.clauses l m) (take i numbers) d q in
-          let f = (come t.0 (In_Contains numbers t.0 (in_take numbers i t.0 t.1))).free in
-          ap (λ (c : List Literal). has c x) (sym t.2) ∙ (λ j. differs x j || f j)))
+      let t = map_In (λ m. opposite x ∷ set_at a.clauses l m) (take i numbers) d q in
+      let f = (come t.0 (In_Contains numbers t.0 (in_take numbers i t.0 t.1))).free in
+      ap (λ (c : List Literal). has c x) (sym t.2) ∙ (λ j. differs x j || f j)))
       (come n h)
 
   pub commons_next : (c : WorkState) → i < length numbers → Grown b c ((opposite x ∷ set_at b.clauses l (get_or numbers i 0)) ∷ []) → Grown a c (map (λ n. opposite x ∷ set_at a.clauses l n) (take (i + 1) numbers))

@@ -40,9 +40,9 @@ listed_one w kept C numbers found n k one t = record {
   every = λ m d j h i free s. ⊎_elim
       (λ (q : Contains numbers m). Contains-append_left found (record { lit = k; number = n } ∷ []) (record { lit = j; number = m }) (t.every m d j q i free s))
       (λ (e : n ≡ m). (
-          let is : d ≡ one.0 = same_number w.clauses kept.numbers m d one.0 i (subst (λ (y : ℕ). Contains w.clauses (y, one.0)) e one.1) in
-          let lit : j ≡ k = one_lit C d j k free s (subst (λ (c : List Literal). same_set (k ∷ C) c ≡ true) (sym is) one.3) in
-          subst (λ (b : Alike). Contains (found ++ record { lit = k; number = n } ∷ []) b) (λ z. record { lit = sym lit z; number = e z }) (Contains-push found (record { lit = k; number = n }))))
+      let is : d ≡ one.0 = same_number w.clauses kept.numbers m d one.0 i (subst (λ (y : ℕ). Contains w.clauses (y, one.0)) e one.1) in
+      let lit : j ≡ k = one_lit C d j k free s (subst (λ (c : List Literal). same_set (k ∷ C) c ≡ true) (sym is) one.3) in
+      subst (λ (b : Alike). Contains (found ++ record { lit = k; number = n } ∷ []) b) (λ z. record { lit = sym lit z; number = e z }) (Contains-push found (record { lit = k; number = n }))))
       (Contains-push_cases numbers n m h);
 }
 

@@ -38,26 +38,26 @@ module _ {Y : Type 0} (f : ℕ → Option Y) where
   ranged : (a k : ℕ) (ns : List ℕ) → Rising a ns → ((n : ℕ) → a + k ≤ n → f n ≡ None) → ((n : ℕ) → a ≤ n → (f n ≡ None) ⊎ In n ns) → filter_map f (range_with_len a k) ≡ filter_map f ns
   ranged a zero ns r beyond every = sym (nothing_comes ns (λ n i. beyond n (let le = past a ns n r i in omega arith)))
   ranged a (suc k) [] r beyond every =
-      ap (λ o. cons_option o (filter_map f (range_with_len (a + 1) k))) (elim (every a (omega arith)) as (λ _. f a ≡ None) [ | inl e ↦ e | inr i ↦ absurd i ])
+      ap (λ o. cons_option o (filter_map f (range_with_len (a + 1) k))) (elim (every a (omega arith)) as (λ _. f a ≡ None) [ inl e ↦ e | inr i ↦ absurd i ])
       ∙ ranged (a + 1) k [] tt (λ n le. beyond n (omega arith)) (λ n le. every n (omega arith))
   ranged a (suc k) (m ∷ ns) r beyond every = dite (ℕ_discrete a m)
       (λ (e : a ≡ m). (
-          let rest = ranged (a + 1) k ns (subst (λ (b : ℕ). Rising b ns) (let s : suc m ≡ a + 1 = omega arith in s) r.1) (λ n le. beyond n (omega arith))
-          (λ n le. elim (every n (omega arith)) as (λ _. (f n ≡ None) ⊎ In n ns) [
-            | inl h ↦ inl h
-            | inr (inl q) ↦ absurd (omega arith)
-            | inr (inr i) ↦ inr i
-          ]) in
-          (λ i. cons_option (f (e i)) (rest i))))
+      let rest = ranged (a + 1) k ns (subst (λ (b : ℕ). Rising b ns) (let s : suc m ≡ a + 1 = omega arith in s) r.1) (λ n le. beyond n (omega arith))
+      (λ n le. elim (every n (omega arith)) as (λ _. (f n ≡ None) ⊎ In n ns) [
+        | inl h ↦ inl h
+        | inr (inl q) ↦ absurd (omega arith)
+        | inr (inr i) ↦ inr i
+      ]) in
+      (λ i. cons_option (f (e i)) (rest i))))
       (λ (ne : a ≢ m). (
-          let lt : a < m = (let le = r.0 in omega arith) in
-          let none : f a ≡ None = elim (every a (omega arith)) as (λ _. f a ≡ None) [
-            | inl h ↦ h
-            | inr i ↦ absurd (let le = past m (m ∷ ns) a (omega arith, r.1) i in omega arith)
-          ] in
-          ap (λ o. cons_option o (filter_map f (range_with_len (a + 1) k))) none
-          ∙ ranged (a + 1) k (m ∷ ns) (omega arith, r.1) (λ n le. beyond n (omega arith)) (λ n le. every n (omega arith))))
+      let lt : a < m = (let le = r.0 in omega arith) in
+      let none : f a ≡ None = elim (every a (omega arith)) as (λ _. f a ≡ None) [
+        | inl h ↦ h
+        | inr i ↦ absurd (let le = past m (m ∷ ns) a (omega arith, r.1) i in omega arith)
+      ] in
+      ap (λ o. cons_option o (filter_map f (range_with_len (a + 1) k))) none
+      ∙ ranged (a + 1) k (m ∷ ns) (omega arith, r.1) (λ n le. beyond n (omega arith)) (λ n le. every n (omega arith))))
 
   pub by_numbers : (last : ℕ) (ns : List ℕ) → IsStrictlyIncreasing ns → ((n : ℕ) → last < n → f n ≡ None) → ((n : ℕ) → (f n ≡ None) ⊎ Contains ns n) → filter_map f (range_with_len 0 (last + 1)) ≡ filter_map f ns
   by_numbers last ns up beyond every =
-      ranged 0 (last + 1) ns (rising ns up) (λ n le. beyond n (omega arith)) (λ n le. elim (every n) as (λ _. (f n ≡ None) ⊎ In n ns) [ | inl h ↦ inl h | inr i ↦ inr (Contains_In ns n i) ])
+      ranged 0 (last + 1) ns (rising ns up) (λ n le. beyond n (omega arith)) (λ n le. elim (every n) as (λ _. (f n ≡ None) ⊎ In n ns) [ inl h ↦ inl h | inr i ↦ inr (Contains_In ns n i) ])

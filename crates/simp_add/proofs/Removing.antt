@@ -31,7 +31,7 @@ member xs n = elim (cases_Bool (list_any (λ (m : ℕ). m == n) xs)) as (λ _. C
 ]
   where
     is : (m : ℕ) → (m == n) ≡ true → m ≡ n
-    is m h = elim (eqb_tells m n) as (λ _. m ≡ n) [ | inl t ↦ t.1 | inr f ↦ absurd (true≢false (sym h ∙ f.0)) ]
+    is m h = elim (eqb_tells m n) as (λ _. m ≡ n) [ inl t ↦ t.1 | inr f ↦ absurd (true≢false (sym h ∙ f.0)) ]
 
 pub only : (n m : ℕ) → Contains (n ∷ []) m → n ≡ m
 only n m h = ⊎_elim (λ (e : n ≡ m). e) (λ (z : In m []). absurd z) (Contains_In (n ∷ []) m h)
@@ -39,8 +39,8 @@ only n m h = ⊎_elim (λ (e : n ≡ m). e) (λ (z : In m []). absurd z) (Contai
 pub distinct_append : (xs ys : List ℕ) → Distinct xs → Distinct ys → ((n : ℕ) → Contains xs n → Contains ys n → ⊥) → Distinct (xs ++ ys)
 distinct_append [] ys d e apart = e
 distinct_append (x ∷ xs) ys d e apart = (
-    λ h. ⊎_elim (λ (i : Contains xs x). d.0 i) (λ (i : Contains ys x). apart x (In_Contains (x ∷ xs) x (inl refl)) i) (Contains-append_cases xs ys x h),
-    distinct_append xs ys d.1 e (λ n h. apart n (In_Contains (x ∷ xs) n (inr (Contains_In xs n h)))),
+  λ h. ⊎_elim (λ (i : Contains xs x). d.0 i) (λ (i : Contains ys x). apart x (In_Contains (x ∷ xs) x (inl refl)) i) (Contains-append_cases xs ys x h),
+  distinct_append xs ys d.1 e (λ n h. apart n (In_Contains (x ∷ xs) n (inr (Contains_In xs n h)))),
 )
 
 map_append : (xs ys : List ℕ) → map ruler_deletes (xs ++ ys) ≡ map ruler_deletes xs ++ map ruler_deletes ys
@@ -95,8 +95,8 @@ removed_one old new n going unspent kept h log = record {
   once = (λ i. Contains_In [] n i, tt);
   named = λ m. (λ i. (i, (h.clause, subst (λ (k : ℕ). Contains old.clauses (k, h.clause)) (only n m i) h.alive)), λ i. i.0);
   clauses = λ m c. (
-      λ i. (((h.others m c).0 i).0, λ j. ((h.others m c).0 i).1 (sym (only n m j))),
-      λ i. (h.others m c).1 (i.0, λ e. i.1 (In_Contains (n ∷ []) m (inl (sym e)))),
+    λ i. (((h.others m c).0 i).0, λ j. ((h.others m c).0 i).1 (sym (only n m j))),
+    λ i. (h.others m c).1 (i.0, λ e. i.1 (In_Contains (n ∷ []) m (inl (sym e)))),
   );
   count =
       (let a = h.each.weighs (λ (x : ℕ × List Literal). 1) in
@@ -118,18 +118,18 @@ removed_along a b c xs ys f g = record {
   log = subst (λ (es : List Entry). Continues es a c) (sym (map_append f.gone g.gone)) (continues_along (map ruler_deletes f.gone) (map ruler_deletes g.gone) a b c f.log g.log);
   once = distinct_append f.gone g.gone f.once g.once (λ n h i. (let p = (f.named n).0 h in let q = (g.named n).0 i in ((f.clauses n q.1.0).0 q.1.1).1 p.0));
   named = λ n. (
-      λ h. ⊎_elim
-      (λ (i : Contains f.gone n). (let p = (f.named n).0 i in (Contains-append_left xs ys n p.0, p.1)))
-      (λ (i : Contains g.gone n). (let p = (g.named n).0 i in (Contains-append_right xs ys n p.0, (p.1.0, ((f.clauses n p.1.0).0 p.1.1).0))))
-      (Contains-append_cases f.gone g.gone n h),
-      λ h. elim (member xs n) as (λ _. Contains (f.gone ++ g.gone) n) [
-        | inl i ↦ Contains-append_left f.gone g.gone n ((f.named n).1 (i, h.1))
-        | inr away ↦ Contains-append_right f.gone g.gone n ((g.named n).1 (⊎_elim (λ (i : Contains xs n). absurd (away i)) (λ (i : Contains ys n). i) (Contains-append_cases xs ys n h.0), (h.1.0, (f.clauses n h.1.0).1 (h.1.1, away))))
-      ],
+    λ h. ⊎_elim
+        (λ (i : Contains f.gone n). (let p = (f.named n).0 i in (Contains-append_left xs ys n p.0, p.1)))
+        (λ (i : Contains g.gone n). (let p = (g.named n).0 i in (Contains-append_right xs ys n p.0, (p.1.0, ((f.clauses n p.1.0).0 p.1.1).0))))
+        (Contains-append_cases f.gone g.gone n h),
+    λ h. elim (member xs n) as (λ _. Contains (f.gone ++ g.gone) n) [
+      | inl i ↦ Contains-append_left f.gone g.gone n ((f.named n).1 (i, h.1))
+      | inr away ↦ Contains-append_right f.gone g.gone n ((g.named n).1 (⊎_elim (λ (i : Contains xs n). absurd (away i)) (λ (i : Contains ys n). i) (Contains-append_cases xs ys n h.0), (h.1.0, (f.clauses n h.1.0).1 (h.1.1, away))))
+    ],
   );
   clauses = λ n x. (
-      λ h. (let p = (g.clauses n x).0 h in let q = (f.clauses n x).0 p.0 in (q.0, λ i. ⊎_elim (λ (j : Contains xs n). q.1 j) (λ (j : Contains ys n). p.1 j) (Contains-append_cases xs ys n i))),
-      λ h. (g.clauses n x).1 ((f.clauses n x).1 (h.0, λ j. h.1 (Contains-append_left xs ys n j)), λ j. h.1 (Contains-append_right xs ys n j)),
+    λ h. (let p = (g.clauses n x).0 h in let q = (f.clauses n x).0 p.0 in (q.0, λ i. ⊎_elim (λ (j : Contains xs n). q.1 j) (λ (j : Contains ys n). p.1 j) (Contains-append_cases xs ys n i))),
+    λ h. (g.clauses n x).1 ((f.clauses n x).1 (h.0, λ j. h.1 (Contains-append_left xs ys n j)), λ j. h.1 (Contains-append_right xs ys n j)),
   );
   count = (let p = f.count in let q = g.count in let r = length-append f.gone g.gone in omega arith);
 }

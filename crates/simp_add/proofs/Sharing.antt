@@ -166,7 +166,7 @@ module _ (w : WorkState) (l k : Literal) where
       let p = λ (a : Alike). same a.lit l || same a.lit k in
       let t = map_In (λ (a : Alike). a.number) (filter p found) n h in
       let u = filter_In p found t.0 t.1 in
-      (t.0, u.0, t.2, elim (or_cases (same t.0.lit l) (same t.0.lit k) u.1) as (λ _. (t.0.lit ≡ l) ⊎ (t.0.lit ≡ k)) [ | inl e ↦ inl (same-true t.0.lit l e) | inr e ↦ inr (same-true t.0.lit k e) ])
+      (t.0, u.0, t.2, elim (or_cases (same t.0.lit l) (same t.0.lit k) u.1) as (λ _. (t.0.lit ≡ l) ⊎ (t.0.lit ≡ k)) [ inl e ↦ inl (same-true t.0.lit l e) | inr e ↦ inr (same-true t.0.lit k e) ])
 
   In_with : (found : List Alike) (a : Alike) → In a found → (same a.lit l || same a.lit k) ≡ true → In a.number (numbers_with l k found)
   In_with found a i h = In_map (λ (b : Alike). b.number) (filter (λ (b : Alike). same b.lit l || same b.lit k) found) a (In_filter (λ (b : Alike). same b.lit l || same b.lit k) found a i h)
@@ -188,30 +188,36 @@ module _ (w : WorkState) (l k : Literal) where
       one : (m : ℕ) → Contains (numbers_with l k found) m → (c : List Literal) × Contains w.clauses (m, c) × (is_replaced (lists w.clauses) l k c ≡ true)
       one m i =
           let u = with_In found m (Contains_In (numbers_with l k found) m i) in
-          let s = a.sound u.0 (In_Contains found u.0 u.1) in
-          (s.0, subst (λ (x : ℕ). Contains w.clauses (x, s.0)) u.2 s.1, ⊎_elim
-          (λ (q : u.0.lit ≡ l). replaced_first w l k C s.0 common (subst (λ (x : Literal). same_set (x ∷ C) s.0 ≡ true) q s.3))
-          (λ (q : u.0.lit ≡ k). replaced_second w l k C s.0 common (subst (λ (x : Literal). same_set (x ∷ C) s.0 ≡ true) q s.3))
-          u.3)
+          let s = a.sound u.0 (In_Contains found u.0 u.1) in (
+            s.0,
+            subst (λ (x : ℕ). Contains w.clauses (x, s.0)) u.2 s.1,
+            ⊎_elim
+                (λ (q : u.0.lit ≡ l). replaced_first w l k C s.0 common (subst (λ (x : Literal). same_set (x ∷ C) s.0 ≡ true) q s.3))
+                (λ (q : u.0.lit ≡ k). replaced_second w l k C s.0 common (subst (λ (x : Literal). same_set (x ∷ C) s.0 ≡ true) q s.3))
+                u.3,
+          )
 
       all : (D : List Literal) → D ≡ C → (x : ℕ) (c : List Literal) → Contains w.clauses (x, c) → (same_set (l ∷ D) c ≡ true) ⊎ (same_set (k ∷ D) c ≡ true) → Contains (numbers_with l k found) x
       all D is x c i s =
           let p = common_parts (lists w.clauses) l k C common in
           ⊎_elim
           (λ (q : same_set (l ∷ D) c ≡ true). (
-              let y = a.every x c l i (free_of l C p.not_first) (subst (λ (E : List Literal). same_set (l ∷ E) c ≡ true) is q) in
-              In_Contains (numbers_with l k found) x (In_with found (record { lit = l; number = x }) (Contains_In found (record { lit = l; number = x }) y) (or_left _ _ (same-refl l)))))
+          let y = a.every x c l i (free_of l C p.not_first) (subst (λ (E : List Literal). same_set (l ∷ E) c ≡ true) is q) in
+          In_Contains (numbers_with l k found) x (In_with found (record { lit = l; number = x }) (Contains_In found (record { lit = l; number = x }) y) (or_left _ _ (same-refl l)))))
           (λ (q : same_set (k ∷ D) c ≡ true). (
-              let y = a.every x c k i (free_of k C p.not_second) (subst (λ (E : List Literal). same_set (k ∷ E) c ≡ true) is q) in
-              In_Contains (numbers_with l k found) x (In_with found (record { lit = k; number = x }) (Contains_In found (record { lit = k; number = x }) y) (or_right _ _ (same-refl k)))))
+          let y = a.every x c k i (free_of k C p.not_second) (subst (λ (E : List Literal). same_set (k ∷ E) c ≡ true) is q) in
+          In_Contains (numbers_with l k found) x (In_with found (record { lit = k; number = x }) (Contains_In found (record { lit = k; number = x }) y) (or_right _ _ (same-refl k)))))
           s
 
   pub shared_all : IsWork w → (numbers firsts gone : List ℕ) → commons w l k ≡ filter_map f numbers → ((n : ℕ) (c : List Literal) → Contains w.clauses (n, c) → has c l ≡ true → Contains numbers n) → Sharing w l k numbers firsts gone → AreShared w l k firsts gone
   shared_all kept numbers firsts gone are every t = record {
     sets = t.sets ∙ sym are;
     counts = t.counts;
-    every = λ n. (t.sound n, λ h. (
-        let r = replaced_by w kept l k h.0 h.2 in
-        let u = counted_at w l k r.0 r.1 r.2 in
-        t.every r.0 r.1 (every r.0 u.0 u.1 (parts w.clauses l k r.0 u.0 u.2).holds) r.2 n h.0 h.1 r.3));
+    every = λ n. (
+      t.sound n,
+      λ h. (
+          let r = replaced_by w kept l k h.0 h.2 in
+          let u = counted_at w l k r.0 r.1 r.2 in
+          t.every r.0 r.1 (every r.0 u.0 u.1 (parts w.clauses l k r.0 u.0 u.2).holds) r.2 n h.0 h.1 r.3),
+    );
   }

@@ -74,11 +74,15 @@ stepped_done old mid new x l k partner wide log h =
       on = record { going = d.on.going; unspent = d.on.unspent; work = d.on.work; quiet = d.on.quiet; units = d.on.units; stack = d.on.stack };
       entries = d.entries;
       log = grows_along [] d.entries old (record old { vars = old.vars + 1 }) new g (continues_grows d.entries (record old { vars = old.vars + 1 }) new d.log);
-      turn = inr (k, partner, record {
-        room = wide.below;
-        vars = d.vars;
-        exchanged = (let e = d.exchanged in record { gone = e.gone; are = e.are; once = e.once; every = e.every; clauses = e.clauses; fewer = e.fewer });
-      });
+      turn = inr (
+        k,
+        partner,
+        record {
+          room = wide.below;
+          vars = d.vars;
+          exchanged = (let e = d.exchanged in record { gone = e.gone; are = e.are; once = e.once; every = e.every; clauses = e.clauses; fewer = e.fewer });
+        },
+      );
       lifted = record { fixes = d.lifted.fixes; stack = d.lifted.stack; lifts = d.lifted.lifts };
       unmended = d.unmended;
       fewer = (let lt = d.exchanged.fewer in omega arith);

@@ -70,13 +70,7 @@ impl Shared {
     }
 
     /// Puts the clause with this number, and with it all clauses of both literals with its set.
-    fn put(
-        &mut self,
-        number: u64,
-        found: &[Alike],
-        lit: Lit,
-        partner: Lit,
-    ) -> Result<(), LineStop>
+    fn put(&mut self, number: u64, found: &[Alike], lit: Lit, partner: Lit) -> Result<(), LineStop>
         ensures firsts { OnOk result (self.new.firsts.items ≡ self.old.firsts.items ++ number ∷ []) }
         ensures gone { OnOk result (self.new.gone.items ≡ self.old.gone.items ++ numbers_with lit partner found.now) }
         ensures memory { IfErr result (λ stop. stop ≡ LineStop.Memory) }

@@ -16,13 +16,15 @@ loop-alike-preserved c =
     let t : Raised l C stamp (take (i + 1) found) old c.if-may_pair.tally.counts.items × AreTouched l c.if-may_pair.tally.counts.items c.if-may_pair.tally.touched.items × (length c.if-may_pair.tally.counts.items ≡ length old) =
     elim c.if-may_pair.branch [
       | then-may_pair+in_ok-raise w ↦ (
-          let e = ap (λ t. t.counts.items) w.tally-is ∙ w.in_ok-raise.ensures.counts in
-          (subst (λ (cs : List Count). Raised l C stamp (take (i + 1) found) old cs) (sym e) (raised_one l C stamp found i a old now c.loop-alike-test.true (sym c.alike-item.is) inv.raised (sym c.may_pair.ensures ∙ w.if-may_pair.true) within),
-           subst (λ t. AreTouched l t.counts.items t.touched.items) (sym w.tally-is) w.in_ok-raise.ensures.touched,
-           ap (λ (cs : List Count). length cs) e ∙ length-set now (code_of a.lit) (raised (count_of now a.lit) stamp) ∙ inv.wide))
+          let e = ap (λ t. t.counts.items) w.tally-is ∙ w.in_ok-raise.ensures.counts in (
+            subst (λ (cs : List Count). Raised l C stamp (take (i + 1) found) old cs) (sym e) (raised_one l C stamp found i a old now c.loop-alike-test.true (sym c.alike-item.is) inv.raised (sym c.may_pair.ensures ∙ w.if-may_pair.true) within),
+            subst (λ t. AreTouched l t.counts.items t.touched.items) (sym w.tally-is) w.in_ok-raise.ensures.touched,
+            ap (λ (cs : List Count). length cs) e ∙ length-set now (code_of a.lit) (raised (count_of now a.lit) stamp) ∙ inv.wide,
+          ))
       | else-may_pair w ↦ (
-          subst (λ t. Raised l C stamp (take (i + 1) found) old t.counts.items) (sym w.tally-is) (raised_not l C stamp found i a old now c.loop-alike-test.true (sym c.alike-item.is) inv.raised (sym c.may_pair.ensures ∙ w.if-may_pair.false)),
-          subst (λ t. AreTouched l t.counts.items t.touched.items) (sym w.tally-is) inv.touched,
-          ap (λ t. length t.counts.items) w.tally-is ∙ inv.wide)
+        subst (λ t. Raised l C stamp (take (i + 1) found) old t.counts.items) (sym w.tally-is) (raised_not l C stamp found i a old now c.loop-alike-test.true (sym c.alike-item.is) inv.raised (sym c.may_pair.ensures ∙ w.if-may_pair.false)),
+        subst (λ t. AreTouched l t.counts.items t.touched.items) (sym w.tally-is) inv.touched,
+        ap (λ t. length t.counts.items) w.tally-is ∙ inv.wide,
+      )
     ] in
     record { raised = t.0; touched = t.1; wide = t.2 }

@@ -1,0 +1,13 @@
+pub mod OneMore
+pub mod Listing
+pub mod Ranges
+pub mod Finding
+pub mod Loading
+pub mod Counting
+pub mod Choosing
+pub mod Sharing
+pub mod Growing
+pub mod Removing
+pub mod Fewer
+pub mod Exchanging
+pub mod Stepping

@@ -1,12 +1,12 @@
 // `ruler_simp` on small formulas: the lines that it writes and what it leaves of each, by its rounds, and a line that fails.
-ghost use Rattle.std.specs.Prelude.{All};
+ghost use Rattle.std.specs.Prelude.{◌≡◌, false, All};
 ghost use Rattle.ruler_simp.specs.Ruled.{AreOn};
 ghost use Rattle.sat_words.specs.Literal.{IsOn};
 
 use crate::{model_of, numbers_of};
 use drat_text::{LineStop, SinkLines};
 use io_edge::MemSink;
-use ruler_simp::{Outcome, Simplified, simplify};
+use ruler_simp::{Outcome, Schedule, Simplified, simplify};
 use sat_words::Formula;
 use std::alloc::Global;
 use std::test::Fail;
@@ -106,21 +106,34 @@ const TWICE: &[i32] = &[
 
 /// Whether what is left is as in the row, and has a model of the formula if it has no clause.
 fn is_left(alloc: Global, row: &Row, formula: &Formula, left: &Simplified) -> Result<bool, Fail>
-    requires { AreOn formula.now.vars left.now }
+    requires { AreOn left.now.vars left.now }
 {
     let Some((starts, units)) = row.left else {
         return Ok(false);
     };
     let units = literals(alloc, VARS, units)?;
     let numbers = numbers_of(alloc, left)?;
+    if left.vars != formula.vars() {
+        return Ok(false);
+    }
     if numbers.as_slice() != starts || left.units.as_slice() != units.as_slice() {
         return Ok(false);
     }
     if !starts.is_empty() {
         return Ok(true);
     }
-    let model = model_of(alloc, formula.vars(), left)?;
+    let model = model_of(alloc, left.vars, left)?;
     Ok(model.formula_true(formula))
+}
+
+/// This many rounds, in which no variables are added.
+fn without_additions(rounds: u32) -> Schedule
+    ensures { result ≡ record { rounds = rounds; additions = false } }
+{
+    Schedule {
+        rounds,
+        additions: false,
+    }
 }
 
 /// Whether these are the lines.
@@ -136,7 +149,7 @@ fn is_as_told(alloc: Global, row: &Row) -> Result<bool, Fail> {
         return Ok(false);
     }
     let lines = text_lines(alloc, &formula, 128)?;
-    let (answer, lines) = simplify(alloc, &formula, row.rounds, lines);
+    let (answer, lines) = simplify(alloc, &formula, without_additions(row.rounds), lines);
     if !is_written(lines, row.text) {
         return Ok(false);
     }
@@ -166,7 +179,8 @@ fn starts_left(
 ) -> Result<Option<usize>, LineStop>
     requires { All (All (IsOn formula.now.vars)) formula.now.clauses }
 {
-    match simplify(alloc, formula, rounds, counted_lines(formula, failing)).0 {
+    let lines = counted_lines(formula, failing);
+    match simplify(alloc, formula, without_additions(rounds), lines).0 {
         Ok(Outcome::Simplified(left)) => Ok(Some(left.start.len())),
         Ok(Outcome::Refuted) => Ok(None),
         Err(stop) => Err(stop),

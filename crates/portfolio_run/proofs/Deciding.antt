@@ -240,7 +240,7 @@ module _ (plan : Plan) (F : FormulaData) (left : Simplified) (l : Layout) (origi
           (unrefuted_at r lt none)
 
       holds_by : (kind : ℕ) (x : End) → end_at r ≡ x → Cause (port_at r lt) x → stop_kind x ≡ Some kind → Holds plan F J (answer_of left.stack x)
-      holds_by kind (end.Sat a) is c won = model F J0 left g.left_is (start_glues (starts_at (first_cell l) left.start.items)) (first_cell l) a (c.0.long ∙ g.vars_are) c.0.start c.0.opening
+      holds_by kind (end.Sat a) is c won = model F J0 left g.left_is (start_glues (starts_at (first_cell l) left.start.items)) (first_cell l) a g.left_vars (c.0.long ∙ g.vars_are) c.0.start c.0.opening
       holds_by kind end.Refuted is c won = refutation F J0 K plan.threads (starts_from v) t g.left_is.going (log_ended c.0)
       holds_by kind end.Spent is c won = absurd (none_some kind won)
       holds_by kind (end.Stopped x) is c won = absurd (none_some kind won)

@@ -30,7 +30,7 @@ use Rattle.ruler_simp.specs.Rounds.{SimplifiedTo}
 use Rattle.ruler_simp.specs.Ruled.{IsAnswer, IsSimplified}
 use Rattle.portfolio_run.specs.declared.plan.Plan.{Plan}
 use Rattle.portfolio_run.specs.Reached.{Records, WasRuled}
-use Rattle.portfolio_run.specs.Ruled.{IsRuled, IsRuledThrough}
+use Rattle.portfolio_run.specs.Ruled.{without_additions, IsRuled, IsRuledThrough}
 use Rattle.portfolio_run.specs.Seats.{IsSameTable}
 use Rattle.portfolio_run.proofs.Placing.{same_rest}
 use Rattle.portfolio_run.proofs.Rulers.{AreRulers}
@@ -53,6 +53,7 @@ pub record GoesOn (plan : Plan) (F : FormulaData) (left : Simplified) (l : Layou
   pub rulers : AreRulers J0
   pub on_ruler : All (All (IsOn F.vars)) (added J0)
   pub left_is : IsSimplified F J0 left
+  pub left_vars : left.vars ≡ F.vars
   pub through : IsRuledThrough F plan.rounds (J0 ++ K)
   pub opening_is : s.core.opening ≡ began_with F l J0 left
   pub journal_is : s.core.journal ≡ J0 ++ K
@@ -114,7 +115,7 @@ module _ {S : Type 0} {d : Ghosts S} (written flushed target : S → Option (Lis
     last = refl;
     work = was.ruled.work;
     result = Ok Done;
-    ran = subst (SimplifiedTo plan.rounds (begun F first) was.ruled.work (Ok Done)) (sym ruler_is) was.ruled.ran;
+    ran = subst (SimplifiedTo (without_additions plan.rounds) (begun F first) was.ruled.work (Ok Done)) (sym ruler_is) was.ruled.ran;
     alone = λ other. absurd (other refl);
   }
 
@@ -133,8 +134,9 @@ module _ {S : Type 0} {d : Ghosts S} (written flushed target : S → Option (Lis
     vars_are = vars_are;
     depth_is = depth_is;
     rulers = rulers;
-    on_ruler = subst (λ (n : ℕ). All (All (IsOn n)) (added J0)) was.ruled.vars was.ruled.stands.on;
+    on_ruler = subst (λ (n : ℕ). All (All (IsOn n)) (added J0)) (was.ruled.vars refl) was.ruled.stands.on;
     left_is = answered.0;
+    left_vars = was.ruled.has_vars ∙ was.ruled.vars refl;
     through = through;
     opening_is = opening_is;
     journal_is = journal_is;

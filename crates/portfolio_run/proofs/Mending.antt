@@ -1,5 +1,5 @@
 -- A model of what the rings start from, mended by the ruler's stack.
-use Rattle.std.proofs.Common.{◌≡◌, ◌∙◌, ◌+◌, ℕ, suc, Bool, true, false, List, [], ◌∷◌, ◌++◌, map, length, refl, sym, ap, arith}
+use Rattle.std.proofs.Common.{subst, ◌≡◌, ◌∙◌, ◌+◌, ℕ, suc, Bool, true, false, List, [], ◌∷◌, ◌++◌, map, length, refl, sym, ap, arith}
 use Rattle.std.specs.Prelude.{All}
 use Rattle.std.specs.Cmp.Derive.{both_true}
 use Rattle.std.proofs.lemmas.Bool.{or_left}
@@ -76,8 +76,8 @@ module _ (F : FormulaData) (J0 : List Entry) (left : Simplified) (h : IsSimplifi
     units = h.units;
   }
 
-  pub model : (a : List Bool) → length a ≡ F.vars → All (λ (x : Holding). clause_true a x.lits ≡ true) (map (holding_of gs) (starts_at k left.start.items)) → All (λ l. lit_true a l ≡ true) left.units.items → IsModel F (extend left.stack a)
-  model a long starts units = record {
+  pub model : (a : List Bool) → left.vars ≡ F.vars → length a ≡ F.vars → All (λ (x : Holding). clause_true a x.lits ≡ true) (map (holding_of gs) (starts_at k left.start.items)) → All (λ l. lit_true a l ≡ true) left.units.items → IsModel F (extend left.stack a)
+  model a same long starts units = record {
     holds = h.lifts a (all_true a (lists left.start.items) (unit_clauses left.units.items) (starts_true a gs k left.start.items starts) (units_true a left.units.items units));
-    long = extended_long F.vars left.stack a h.on.stack long;
+    long = extended_long F.vars left.stack a (subst (λ (v : ℕ). All (IsFixOn v) left.stack) same h.on.stack) long;
   }

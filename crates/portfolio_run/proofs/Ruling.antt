@@ -34,7 +34,7 @@ use Rattle.simp_base.specs.WorkState.{begun as begun_work}
 use Rattle.ruler_simp.specs.declared.ruling.Outcome.{Outcome}
 use Rattle.ruler_simp.specs.declared.ruling.Outcome.TheVariants.{Simplified as LeftOver, Refuted as NoModel}
 use Rattle.ruler_simp.specs.declared.ruling.Simplified.{Simplified}
-use Rattle.ruler_simp.specs.Ruled.{IsAnswer, Ruled, run_of, origin_of as work_origin}
+use Rattle.ruler_simp.specs.Ruled.{AreOn, IsAnswer, HasVars, Ruled, run_of, origin_of as work_origin}
 use Rattle.ruler_simp.specs.Rounds.{SimplifiedTo}
 use Rattle.ruler_simp.proofs.Telling.{none_made}
 use Rattle.share_core.proofs.Counting.{some_same, none_some}
@@ -53,7 +53,7 @@ use Rattle.portfolio_run.specs.declared.plan.Plan.{Plan}
 use Rattle.portfolio_run.specs.Held.{IsHeld, no_counts}
 use Rattle.portfolio_run.specs.Journaled.{IsJournal, IsUnrefuted}
 use Rattle.portfolio_run.specs.Reached.{Records, WasRuled, HasReached, stopped_answer, unmade_answer}
-use Rattle.portfolio_run.specs.Ruled.{IsRuled, IsRuledThrough}
+use Rattle.portfolio_run.specs.Ruled.{without_additions, IsRuled, IsRuledThrough}
 use Rattle.portfolio_run.specs.Solved.{is_verdict, kind_of, Holds, IsUnsettled, IsReached, IsSolved}
 use Rattle.portfolio_run.proofs.Cuts.{cut_whole, front_of_same, front_told}
 use Rattle.portfolio_run.proofs.Rulers.{AreRulers, all_rulers, rulers_learned, rulers_lines, rulers_of_no_ring, rulers_plain}
@@ -70,7 +70,7 @@ no_hole l ss need most (front, rest, s, split, n, m, lt) = lt
 
 module _ (plan : Plan) (formula : FormulaData) (old now : LineState) (result : Result Outcome LineStop) (tally : List Counts) (few : formula.vars ≤ 2 ^ 30) (on : All (All (IsOn formula.vars)) formula.clauses)
     (rings : 1 ≤ plan.threads) (some : 1 ≤ plan.conflicts) (none : (tally ≡ []) ⊎ (tally ≡ replicate plan.threads no_counts)) (unspent : old.spent ≡ false) (begins : old.entries ≡ 0) (last_is : old.last ≡ length formula.clauses)
-    (was : Ruled formula plan.rounds old now result) where
+    (was : Ruled formula (without_additions plan.rounds) old now result) where
   abbrev F : List (List Literal)
   F = formula.clauses
 
@@ -81,10 +81,10 @@ module _ (plan : Plan) (formula : FormulaData) (old now : LineState) (result : R
   rulers = was.stands.rulers
 
   pub has_lines : HasLines (work_origin formula old) J formula.vars now
-  has_lines = subst (λ (s : LineState). HasLines (work_origin formula old) J formula.vars s) (sym was.output) (subst (λ (n : ℕ). HasLines (work_origin formula old) J n was.work.output) was.vars was.stands.lines)
+  has_lines = subst (λ (s : LineState). HasLines (work_origin formula old) J formula.vars s) (sym was.output) (subst (λ (n : ℕ). HasLines (work_origin formula old) J n was.work.output) (was.vars refl) was.stands.lines)
 
   pub spelled : CanBeSpelled (lines F J)
-  spelled = spelled_from formula.vars few (formula_book F) J (formula_on formula.vars F on) (subst (λ (n : ℕ). All (All (IsOn n)) (added J)) was.vars was.stands.on)
+  spelled = spelled_from formula.vars few (formula_book F) J (formula_on formula.vars F on) (subst (λ (n : ℕ). All (All (IsOn n)) (added J)) (was.vars refl) was.stands.on)
 
   pub journal_stands : IsJournal plan.threads F J
   journal_stands = record {
@@ -106,7 +106,7 @@ module _ (plan : Plan) (formula : FormulaData) (old now : LineState) (result : R
     last = last_is;
     work = was.work;
     result = run_of result;
-    ran = subst (SimplifiedTo plan.rounds (begun_work formula old) was.work (run_of result)) (sym (all_rulers J rulers).0) was.ran;
+    ran = subst (SimplifiedTo (without_additions plan.rounds) (begun_work formula old) was.work (run_of result)) (sym (all_rulers J rulers).0) was.ran;
     alone = λ _. (all_rulers J rulers).1;
   }
 
@@ -259,6 +259,10 @@ module _ {S : Type 0} {d : Ghosts S} (written flushed target : S → Option (Lis
       left_answer : IsAnswer formula rulers_journal before told (Ok (LeftOver left))
       left_answer = subst (IsAnswer formula rulers_journal before told) is was.ruled.answer
 
+      -- it has the formula's variables
+      left_vars : left.vars ≡ formula.vars
+      left_vars = subst (HasVars was.ruled.work.vars) is was.ruled.has_vars ∙ was.ruled.vars refl
+
       pub left_unspent : b.log.lines.spent ≡ false
       left_unspent = left_answer.1.unspent
 
@@ -276,7 +280,7 @@ module _ {S : Type 0} {d : Ghosts S} (written flushed target : S → Option (Lis
       may_begin few_rings few_words some_slot few_slots =
           let entries = (filled_book left_unspent).entries in
           let small = b.few in
-          let on_left = left_answer.0.on in
+          let on_left : AreOn formula.vars left = subst (λ (v : ℕ). AreOn v left) left_vars left_answer.0.on in
           record {
             some_ring = rings;
             few_rings = few_rings;
@@ -302,7 +306,7 @@ pub starved : (plan : Plan) (formula : FormulaData) (tally : List Counts) (befor
     → (tally ≡ []) ⊎ (tally ≡ replicate plan.threads no_counts) → IsEmptyWhereTold written → before ≤ faults → IsClosed before faults flushed written → IsSolved plan formula Memory tally before faults flushed written None
 starved plan formula tally before faults flushed written few on rings some none empty later closed =
     let old : LineState = record { format = plan.format; entries = 0; last = length formula.clauses; spent = false; faults = before; written = written; target = None; flushed = None; kept = None } in
-    let was : Ruled formula plan.rounds old old (Err line_stop.Memory) = none_made formula plan.rounds old refl refl refl on old refl in
+    let was : Ruled formula (without_additions plan.rounds) old old (Err line_stop.Memory) = none_made formula (without_additions plan.rounds) old refl refl refl on old refl in
     let h : IsReached plan formula Memory tally before before was.journal = stopped plan formula old old (Err line_stop.Memory) tally few on rings some none refl refl refl was line_stop.Memory refl in
     let bytes : List ℕ = proof_bytes plan.format (lines formula.clauses was.journal) in
     let holds : HoldsText written bytes = told_text written bytes empty ((has_lines plan formula old old (Err line_stop.Memory) tally few on rings some none refl refl refl was).whole refl).bytes in

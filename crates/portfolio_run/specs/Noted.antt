@@ -6,6 +6,7 @@ use Rattle.drat_text.specs.LineState.{LineState}
 use Rattle.drat_text.specs.declared.stop.LineStop.{LineStop}
 use Rattle.ruler_simp.specs.declared.ruling.Outcome.{Outcome}
 use Rattle.ruler_simp.specs.Ruled.{Ruled}
+use Rattle.portfolio_run.specs.Ruled.{without_additions}
 
 -- the formula, the rounds, what the output told before and after, and the answer
 pub record RulersRun : Type 0 where
@@ -17,7 +18,7 @@ pub record RulersRun : Type 0 where
 
 -- the ruler ran so
 abbrev pub RanSo : RulersRun → Type 0
-RanSo r = Ruled r.formula r.rounds r.before r.now r.result
+RanSo r = Ruled r.formula (without_additions r.rounds) r.before r.now r.result
 
 -- and this is what it wrote
 pub record WroteSo (r : RulersRun) (journal : List Entry) : Type 0 where

@@ -8,7 +8,12 @@ use Rattle.drat_text.specs.declared.stop.LineStop.{LineStop}
 use Rattle.simp_base.specs.WorkState.{WorkState, begun}
 use Rattle.simp_base.specs.declared.work.Run.{Run}
 use Rattle.simp_base.specs.declared.work.Run.TheVariants.{Done}
+use Rattle.ruler_simp.specs.declared.rounds.Schedule.{Schedule}
 use Rattle.ruler_simp.specs.Rounds.{SimplifiedTo}
+
+-- this many rounds, in which no variables are added
+abbrev pub without_additions : ℕ → Schedule
+without_additions rounds = record { rounds = rounds; additions = false }
 
 -- the simplifiers ran over the formula in this many rounds, their lines going to an output that had none, wrote the front of the
 -- journal and came to this; no ring wrote anything unless they were done
@@ -19,7 +24,7 @@ pub record IsRuled (formula : FormulaData) (rounds : ℕ) (journal : List Entry)
   pub last : output.last ≡ length formula.clauses
   pub work : WorkState
   pub result : Result Run LineStop
-  pub ran : SimplifiedTo rounds (begun formula output) work result (ruler_part journal)
+  pub ran : SimplifiedTo (without_additions rounds) (begun formula output) work result (ruler_part journal)
   pub alone : result ≢ Ok Done → rings_part journal ≡ []
 
 -- the simplifiers ran to their end, and no line of theirs was refused

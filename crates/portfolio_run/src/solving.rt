@@ -23,7 +23,7 @@ use io_edge::Sink;
 use log_book::Book;
 use ring_port::Gate;
 use ring_run::Counts;
-use ruler_simp::{Outcome, Simplified, simplify};
+use ruler_simp::{Outcome, Schedule, Simplified, simplify};
 use sat_words::{Formula, MAX_ENTRIES, NoRoom};
 use share_rule::MakeStop;
 use std::alloc::{AllocError, Global};
@@ -195,7 +195,11 @@ fn solve_counted<S: Sink + Send, G: Gate + Sync, H: Threads + Wait + Sync>(
         Ok(book) => book,
         Err(refused) => return starved(refused.value, tally, formula, plan),
     };
-    let (outcome, book) = simplify(alloc, formula, plan.rounds, book);
+    let schedule = Schedule {
+        rounds: plan.rounds,
+        additions: false,
+    };
+    let (outcome, book) = simplify(alloc, formula, schedule, book);
     book.has_its_log();
     match outcome {
         Ok(Outcome::Simplified(left)) => solve_left(

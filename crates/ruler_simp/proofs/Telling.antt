@@ -1,5 +1,5 @@
 -- What simplifying a formula comes to.
-use Rattle.std.proofs.Common.{◌≡◌, ◌∙◌, ℕ, zero, suc, ◌+◌, ◌<◌, ◌≤◌, nat_eq, true, false, List, [], ◌∷◌, ◌++◌, map, filter, length, refl, sym, ap, subst, inl, arith, length-append, Some}
+use Rattle.std.proofs.Common.{◌≡◌, ◌∙◌, ℕ, zero, suc, ◌+◌, ◌<◌, ◌≤◌, nat_eq, Bool, true, false, List, [], ◌∷◌, ◌++◌, map, filter, length, refl, sym, ap, subst, inl, arith, length-append, Some}
 use Rattle.std.specs.Prelude.{Result, Ok, Err}
 use Rattle.std.specs.List.{list_any, All, IsDistinct}
 use Rattle.std.proofs.lemmas.List.Sorted.{IsPermutation-sym, Contains-permutation}
@@ -27,16 +27,18 @@ use Rattle.simp_base.specs.declared.work.Run.TheVariants.{Done as RunDone, Refut
 use Rattle.simp_base.proofs.Begin.{begun_work, begun_stands}
 use Rattle.simp_base.proofs.Filters.{filter_In}
 use Rattle.simp_base.proofs.Lists.{All_In}
+use Rattle.simp_base.proofs.Widening.{grows_none}
 use Rattle.ruler_simp.specs.declared.ruling.Simplified.{Simplified}
 use Rattle.ruler_simp.specs.declared.ruling.Outcome.{Outcome}
 use Rattle.ruler_simp.specs.declared.ruling.Outcome.TheVariants.{Simplified as LeftOver, Refuted as NoModel}
 use Rattle.ruler_simp.specs.declared.passes.Simplifier.TheVariants.{Units}
 use Rattle.ruler_simp.specs.Passes.{RunTo}
-use Rattle.ruler_simp.specs.Rounds.{SimplifiedTo, WasSimplified}
+use Rattle.ruler_simp.specs.declared.rounds.Schedule.{Schedule}
+use Rattle.ruler_simp.specs.Rounds.{SimplifiedIn, WasSimplified}
 use Rattle.ruler_simp.specs.Left.{start_of, left_clauses, IsLeft, IsTaken}
 use Rattle.ruler_simp.specs.Ruled.{AreOn, IsSimplified, origin_of, Ruled}
 use Rattle.ruler_simp.proofs.Going.{IsReady, GoesOn, IsOver}
-use Rattle.ruler_simp.proofs.Running.{continues_none, whole_log, whole_comes, whole_first, whole_last}
+use Rattle.ruler_simp.proofs.Running.{whole_log, whole_vars, whole_comes, whole_first, whole_last}
 use Rattle.ruler_simp.proofs.Units.{ordered, rulers_part, units_are}
 use Rattle.ruler_simp.proofs.Numbered.{Cell, starts_are}
 use Rattle.ruler_simp.proofs.Leaving.{good, none_empty, formula_holds, known_holds}
@@ -94,12 +96,12 @@ module _ (F : FormulaData) (out : LineState) (J : List Entry) (w : WorkState) (s
     starts = starts;
     units = λ l. ap (λ (us : List Literal). has us l) left.units ∙ units_are F.clauses out J w st goes.ready.going alone l;
     lifts = lifts;
-    on = subst (λ (v : ℕ). AreOn v s) goes.vars (on_left w s kept left);
+    on = subst (λ (v : ℕ). AreOn v s) (sym left.vars) (on_left w s kept left);
   }
 
 -- The call
 
-module _ (F : FormulaData) (rounds : ℕ) (old : LineState) (unspent : old.spent ≡ false) (blank : old.entries ≡ 0) (last : old.last ≡ length F.clauses) (on : All (All (IsOn F.vars)) F.clauses) where
+module _ (F : FormulaData) (schedule : Schedule) (old : LineState) (unspent : old.spent ≡ false) (blank : old.entries ≡ 0) (last : old.last ≡ length F.clauses) (on : All (All (IsOn F.vars)) F.clauses) where
   ready : IsReady (begun F old)
   ready = record { going = refl; unspent = unspent }
 
@@ -107,19 +109,22 @@ module _ (F : FormulaData) (rounds : ℕ) (old : LineState) (unspent : old.spent
   begins = begun_stands F old unspent blank last
 
   module _ (w : WorkState) (kept : IsWork w) (new : LineState) (out : new ≡ w.output) where
-    pub ruled : (answer : Result Run LineStop) → WasSimplified rounds (begun F old) w answer → (result : Result Outcome LineStop) → IsTaken answer w result → Ruled F rounds old new result
+    pub ruled : (answer : Result Run LineStop) → WasSimplified schedule (begun F old) w answer → (result : Result Outcome LineStop) → IsTaken answer w result → Ruled F schedule old new result
     ruled (Ok RunDone) h (Ok (LeftOver s)) left = (
-        let goes : GoesOn (begun F old) w = whole_comes rounds (begun F old) w (Ok RunDone) h.0 ready h.1 in
-        let log = whole_log rounds (begun F old) w (Ok RunDone) h.0 h.1 in
+        let goes : GoesOn (begun F old) w = whole_comes schedule (begun F old) w (Ok RunDone) h.0 ready h.1 in
+        let log = whole_log schedule (begun F old) w (Ok RunDone) h.0 h.1 in
         let stands = log.stands (origin_of F old) [] begins in
-        let first = whole_first rounds (begun F old) w h.0 h.1 in
-        let end = whole_last rounds (begun F old) w h.0 h.1 in
+        let first = whole_first schedule (begun F old) w h.0 h.1 in
+        let end = whole_last schedule (begun F old) w h.0 h.1 in
         record {
           journal = h.0;
           work = w;
           ran = h.1;
           stands = stands;
-          vars = log.vars;
+          more = log.vars;
+          few = log.few;
+          vars = λ none. whole_vars schedule (begun F old) w (Ok RunDone) h.0 none h.1;
+          has_vars = left.vars;
           output = out;
           answer = (
             simplified F old h.0 w stands kept goes (none_empty F old first.1.open_yet) end.1.alone s left,
@@ -130,15 +135,18 @@ module _ (F : FormulaData) (rounds : ℕ) (old : LineState) (unspent : old.spent
     ruled (Ok RunDone) h (Err stop) left = absurd left
     ruled (Ok RunRefuted) h (Ok (LeftOver s)) left = absurd left
     ruled (Ok RunRefuted) h (Ok NoModel) left = (
-        let over : IsOver (begun F old) w = whole_comes rounds (begun F old) w (Ok RunRefuted) h.0 ready h.1 in
-        let log = whole_log rounds (begun F old) w (Ok RunRefuted) h.0 h.1 in
+        let over : IsOver (begun F old) w = whole_comes schedule (begun F old) w (Ok RunRefuted) h.0 ready h.1 in
+        let log = whole_log schedule (begun F old) w (Ok RunRefuted) h.0 h.1 in
         let stands = log.stands (origin_of F old) [] begins in
         record {
           journal = h.0;
           work = w;
           ran = h.1;
           stands = stands;
-          vars = log.vars;
+          more = log.vars;
+          few = log.few;
+          vars = λ none. whole_vars schedule (begun F old) w (Ok RunRefuted) h.0 none h.1;
+          has_vars = tt;
           output = out;
           answer = (
             added_empty_refutes F.clauses h.0 stands.sound (sym stands.ended ∙ over.ended),
@@ -148,34 +156,40 @@ module _ (F : FormulaData) (rounds : ℕ) (old : LineState) (unspent : old.spent
     ruled (Ok RunRefuted) h (Err stop) left = absurd left
     ruled (Err why) h (Ok outcome) left = absurd left
     ruled (Err why) h (Err stop) left = (
-        let log = whole_log rounds (begun F old) w (Err why) h.0 h.1 in
+        let log = whole_log schedule (begun F old) w (Err why) h.0 h.1 in
         let stands = log.stands (origin_of F old) [] begins in
-        let cause = whole_comes rounds (begun F old) w (Err why) h.0 ready h.1 in
-        subst (λ (x : LineStop). Ruled F rounds old new (Err x)) (sym left) (record {
+        let cause = whole_comes schedule (begun F old) w (Err why) h.0 ready h.1 in
+        subst (λ (x : LineStop). Ruled F schedule old new (Err x)) (sym left) (record {
           journal = h.0;
           work = w;
           ran = h.1;
           stands = stands;
-          vars = log.vars;
+          more = log.vars;
+          few = log.few;
+          vars = λ none. whole_vars schedule (begun F old) w (Err why) h.0 none h.1;
+          has_vars = tt;
           output = out;
           answer = (subst (λ (y : LineState). HasOutputCause old y why) (sym out) cause.0, sym stands.ended ∙ cause.1);
         }))
 
   -- there was no memory for the work
-  pub none_made : (new : LineState) → new ≡ old → Ruled F rounds old new (Err Memory)
+  pub none_made : (new : LineState) → new ≡ old → Ruled F schedule old new (Err Memory)
   none_made new same = record {
     journal = [];
     work = begun F old;
-    ran = stopped rounds;
+    ran = stopped schedule.additions schedule.rounds;
     stands = begins;
-    vars = refl;
+    more = omega arith;
+    few = λ le. le;
+    vars = λ none. refl;
+    has_vars = tt;
     output = same;
     answer = (ap (λ (x : LineState). x.faults) same, refl);
   }
     where
       units : RunTo (Units ∷ []) (begun F old) (begun F old) (Err Memory) []
-      units = inl (record { ends = (refl, refl); log = continues_none (begun F old); work = begun_work F old last on }, λ e. let none : ⊥ = cc in none)
+      units = inl (record { ends = (refl, refl); log = grows_none (begun F old); vars = λ none. refl; work = begun_work F old last on }, λ e. let none : ⊥ = cc in none)
 
-      stopped : (n : ℕ) → SimplifiedTo n (begun F old) (begun F old) (Err Memory) []
-      stopped zero = units
-      stopped (suc n) = inl (inl (record { ends = (refl, refl); log = continues_none (begun F old); work = begun_work F old last on }, λ e. let none : ⊥ = cc in none), λ e. absurd (let none : ⊥ = cc in none))
+      stopped : (additions : Bool) (n : ℕ) → SimplifiedIn additions n (begun F old) (begun F old) (Err Memory) []
+      stopped additions zero = units
+      stopped additions (suc n) = inl (inl (record { ends = (refl, refl); log = grows_none (begun F old); vars = λ none. refl; work = begun_work F old last on }, λ e. let none : ⊥ = cc in none), λ e. absurd (let none : ⊥ = cc in none))

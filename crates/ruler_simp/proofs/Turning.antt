@@ -3,10 +3,11 @@ use Rattle.std.proofs.Common.{◌≡◌, ◌≢◌, ℕ, suc, List, [], ◌∷�
 use Rattle.std.specs.Prelude.{Ok}
 use Rattle.rup_model.specs.declared.journal.Entry.{Entry}
 use Rattle.simp_base.specs.WorkState.{WorkState, IsWork}
-use Rattle.simp_base.specs.Log.{KeepsLog}
+use Rattle.std.proofs.Common.{Bool, false}
+use Rattle.simp_base.specs.Log.{GrowsLog}
 use Rattle.simp_base.specs.declared.work.Run.TheVariants.{Done}
 use Rattle.ruler_simp.specs.declared.passes.Simplifier.{Simplifier}
-use Rattle.ruler_simp.specs.Passes.{Ends, RunTo, WereRun, round_passes}
+use Rattle.ruler_simp.specs.Passes.{Ends, RunTo, WereRun, adds_variables, round_passes}
 use Rattle.ruler_simp.specs.Rounds.{WroteNothing, RoundsTo, WereRounds}
 use Rattle.ruler_simp.proofs.Going.{IsReady, GoesOn, pass_comes}
 use Rattle.ruler_simp.proofs.Running.{End, row_comes}
@@ -24,20 +25,20 @@ pub row_start : (passes : List Simplifier) (w : WorkState) → IsReady w → IsW
 row_start passes w ready kept = record { ready = ready; work = kept; before = []; leads = λ new result later h. h }
 
 -- one is done
-pub row_next : (passes : List Simplifier) (p : Simplifier) (rest : List Simplifier) (start now new : WorkState) → Row passes (p ∷ rest) start now → Ends p now new (Ok Done) → KeepsLog now new → IsWork new → Row passes rest start new
-row_next passes p rest start now new r ends log kept = (
+pub row_next : (passes : List Simplifier) (p : Simplifier) (rest : List Simplifier) (start now new : WorkState) → Row passes (p ∷ rest) start now → Ends p now new (Ok Done) → GrowsLog now new → (adds_variables p ≡ false → new.vars ≡ now.vars) → IsWork new → Row passes rest start new
+row_next passes p rest start now new r ends log vars kept = (
     let goes : GoesOn now new = pass_comes p now new (Ok Done) ends in
     record {
       ready = goes.ready;
       work = kept;
       before = r.before ++ log.0;
       leads = λ w result later h. subst (λ (es : List Entry). RunTo passes start w result es) (sym (append_assoc r.before log.0 later))
-          (r.leads w result (log.0 ++ later) (inr (new, log.0, later, record { ends = ends; log = log.1; work = kept }, h, refl)));
+          (r.leads w result (log.0 ++ later) (inr (new, log.0, later, record { ends = ends; log = log.1; vars = vars; work = kept }, h, refl)));
     })
 
 -- one is not
-pub row_stop : (passes : List Simplifier) (p : Simplifier) (rest : List Simplifier) (start now new : WorkState) (result : End) → Row passes (p ∷ rest) start now → Ends p now new result → KeepsLog now new → IsWork new → result ≢ Ok Done → WereRun passes start new result
-row_stop passes p rest start now new result r ends log kept ne = (r.before ++ log.0, r.leads new result log.0 (inl (record { ends = ends; log = log.1; work = kept }, ne)))
+pub row_stop : (passes : List Simplifier) (p : Simplifier) (rest : List Simplifier) (start now new : WorkState) (result : End) → Row passes (p ∷ rest) start now → Ends p now new result → GrowsLog now new → (adds_variables p ≡ false → new.vars ≡ now.vars) → IsWork new → result ≢ Ok Done → WereRun passes start new result
+row_stop passes p rest start now new result r ends log vars kept ne = (r.before ++ log.0, r.leads new result log.0 (inl (record { ends = ends; log = log.1; vars = vars; work = kept }, ne)))
 
 -- all are
 pub row_end : (passes : List Simplifier) (start now : WorkState) → Row passes [] start now → WereRun passes start now (Ok Done)
@@ -45,33 +46,33 @@ row_end passes start now r = (r.before ++ [], r.leads now (Ok Done) [] (refl, re
 
 -- In rounds
 
-pub record Turns (n m : ℕ) (start now : WorkState) : Type 0 where
+pub record Turns (additions : Bool) (n m : ℕ) (start now : WorkState) : Type 0 where
   pub ready : IsReady now
   pub work : IsWork now
   pub before : List Entry
-  pub leads : (new : WorkState) (result : End) (later : List Entry) → RoundsTo m now new result later → RoundsTo n start new result (before ++ later)
+  pub leads : (new : WorkState) (result : End) (later : List Entry) → RoundsTo additions m now new result later → RoundsTo additions n start new result (before ++ later)
 
-pub turns_start : (n : ℕ) (w : WorkState) → IsReady w → IsWork w → Turns n n w w
-turns_start n w ready kept = record { ready = ready; work = kept; before = []; leads = λ new result later h. h }
+pub turns_start : (additions : Bool) (n : ℕ) (w : WorkState) → IsReady w → IsWork w → Turns additions n n w w
+turns_start additions n w ready kept = record { ready = ready; work = kept; before = []; leads = λ new result later h. h }
 
 -- a round wrote a line
-pub turns_next : (n m : ℕ) (start now new : WorkState) → Turns n (suc m) start now → WereRun round_passes now new (Ok Done) → IsWork new → (WroteNothing now new → ⊥) → Turns n m start new
-turns_next n m start now new t h kept wrote = (
-    let goes : GoesOn now new = row_comes round_passes now new (Ok Done) h.0 t.ready h.1 in
+pub turns_next : (additions : Bool) (n m : ℕ) (start now new : WorkState) → Turns additions n (suc m) start now → WereRun (round_passes additions) now new (Ok Done) → IsWork new → (WroteNothing now new → ⊥) → Turns additions n m start new
+turns_next additions n m start now new t h kept wrote = (
+    let goes : GoesOn now new = row_comes (round_passes additions) now new (Ok Done) h.0 t.ready h.1 in
     record {
       ready = goes.ready;
       work = kept;
       before = t.before ++ h.0;
-      leads = λ w result later k. subst (λ (es : List Entry). RoundsTo n start w result es) (sym (append_assoc t.before h.0 later))
+      leads = λ w result later k. subst (λ (es : List Entry). RoundsTo additions n start w result es) (sym (append_assoc t.before h.0 later))
           (t.leads w result (h.0 ++ later) (inr (new, h.0, later, h.1, wrote, k, refl)));
     })
 
 -- the last round
-pub turns_last : (n m : ℕ) (start now new : WorkState) (result : End) → Turns n (suc m) start now → WereRun round_passes now new result → (result ≡ Ok Done → WroteNothing now new) → WereRounds n start new result
-turns_last n m start now new result t h none = (t.before ++ h.0, t.leads new result h.0 (inl (h.1, none)))
+pub turns_last : (additions : Bool) (n m : ℕ) (start now new : WorkState) (result : End) → Turns additions n (suc m) start now → WereRun (round_passes additions) now new result → (result ≡ Ok Done → WroteNothing now new) → WereRounds additions n start new result
+turns_last additions n m start now new result t h none = (t.before ++ h.0, t.leads new result h.0 (inl (h.1, none)))
 
 -- all rounds were run
-pub turns_end : (n m : ℕ) (start now : WorkState) → m ≡ 0 → Turns n m start now → WereRounds n start now (Ok Done)
-turns_end n m start now e t =
-    let last : Turns n 0 start now = subst (λ (k : ℕ). Turns n k start now) e t in
+pub turns_end : (additions : Bool) (n m : ℕ) (start now : WorkState) → m ≡ 0 → Turns additions n m start now → WereRounds additions n start now (Ok Done)
+turns_end additions n m start now e t =
+    let last : Turns additions n 0 start now = subst (λ (k : ℕ). Turns additions n k start now) e t in
     (last.before ++ [], last.leads now (Ok Done) [] (refl, refl, refl))

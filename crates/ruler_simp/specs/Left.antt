@@ -21,8 +21,9 @@ start_of c = record { number = c.0; lits = c.1 }
 abbrev pub left_clauses : Simplified → List (List Literal)
 left_clauses s = lists s.start.items ++ unit_clauses s.units.items
 
--- the clauses of the work that take part, in order of number, its units and its stack
+-- the variables of the work, those of its clauses that take part, in order of number, its units and its stack
 pub record IsLeft (w : WorkState) (s : Simplified) : Type 0 where
+  pub vars : s.vars ≡ w.vars
   pub kept : IsPermutation (filter (λ c. takes_part c.1) w.clauses) s.start.items
   pub sorted : IsNonDecreasingBy (λ c. c.0) s.start.items
   pub units : s.units.items ≡ w.units

@@ -1,5 +1,5 @@
 -- What simplifying a formula promises.
-use Rattle.std.specs.Prelude.{◌≡◌, ℕ, false, List, [], map, All, Result, Ok, Err}
+use Rattle.std.specs.Prelude.{◌≡◌, ◌≤◌, ◌^◌, ℕ, false, List, [], map, All, Result, Ok, Err}
 use Rattle.std.specs.List.{list_any}
 use Rattle.sat_words.specs.Literal.{Literal, IsOn}
 use Rattle.sat_words.specs.Clause.{has, is_empty}
@@ -20,6 +20,7 @@ use Rattle.simp_base.specs.declared.work.Run.TheVariants.{Done as RunDone, Refut
 use Rattle.ruler_simp.specs.declared.ruling.Simplified.{Simplified}
 use Rattle.ruler_simp.specs.declared.ruling.Outcome.{Outcome}
 use Rattle.ruler_simp.specs.declared.ruling.Outcome.TheVariants.{Simplified as LeftOver, Refuted as NoModel}
+use Rattle.ruler_simp.specs.declared.rounds.Schedule.{Schedule}
 use Rattle.ruler_simp.specs.Rounds.{SimplifiedTo}
 use Rattle.ruler_simp.specs.Left.{start_of, left_clauses}
 
@@ -35,14 +36,14 @@ pub record AreOn (vars : ℕ) (s : Simplified) : Type 0 where
   pub stack : All (IsFixOn vars) s.stack
 
 -- the formula has no empty clause; after this journal the start clauses, in their order, and the units are those of the
--- program's opening; each model of them, mended by the stack, is one of the formula
+-- program's opening; each model of them, mended by the stack, is one of the formula; all are on the variables that are left
 pub record IsSimplified (F : FormulaData) (journal : List Entry) (s : Simplified) : Type 0 where
   pub going : list_any is_empty F.clauses ≡ false
   pub opens : IsOpening F.clauses (record { journal = journal; starts = map start_of s.start.items; units = s.units.items })
   pub starts : map start_of s.start.items ≡ (program_opening F.clauses journal).starts
   pub units : (l : Literal) → has s.units.items l ≡ has (program_opening F.clauses journal).units l
   pub lifts : Lifts F.clauses (left_clauses s) s.stack
-  pub on : AreOn F.vars s
+  pub on : AreOn s.vars s
 
 -- no entry adds the empty clause
 abbrev pub IsUnended : List Entry → Type 0
@@ -65,14 +66,23 @@ run_of (Err stop) = Err stop
 abbrev pub origin_of : FormulaData → LineState → Origin
 origin_of F output = record { formula = F.clauses; journal = []; output = output }
 
--- the simplifiers ran over the formula in this many rounds, and left a work and a journal; the work stands over the journal,
--- so that each of its lines is valid where it stands, all of them on the formula's variables, and the output has them; the
--- answer is what they came to
-pub record Ruled (F : FormulaData) (rounds : ℕ) (old new : LineState) (result : Result Outcome LineStop) : Type 0 where
+-- what is left has the variables of the work
+abbrev pub HasVars : ℕ → Result Outcome LineStop → Type 0
+HasVars vars (Ok (LeftOver s)) = s.vars ≡ vars
+HasVars vars (Ok NoModel) = Unit {0}
+HasVars vars (Err stop) = Unit {0}
+
+-- the simplifiers ran over the formula in the rounds of this schedule, and left a work and a journal; the work stands over the
+-- journal, so that each of its lines is valid where it stands, all of them on the work's variables, and the output has them;
+-- these are the formula's, and more only if the schedule has additions; the answer is what they came to
+pub record Ruled (F : FormulaData) (schedule : Schedule) (old new : LineState) (result : Result Outcome LineStop) : Type 0 where
   pub journal : List Entry
   pub work : WorkState
-  pub ran : SimplifiedTo rounds (begun F old) work (run_of result) journal
+  pub ran : SimplifiedTo schedule (begun F old) work (run_of result) journal
   pub stands : Stands (origin_of F old) journal work
-  pub vars : work.vars ≡ F.vars
+  pub more : F.vars ≤ work.vars
+  pub few : F.vars ≤ 2 ^ 30 → work.vars ≤ 2 ^ 30
+  pub vars : schedule.additions ≡ false → work.vars ≡ F.vars
+  pub has_vars : HasVars work.vars result
   pub output : new ≡ work.output
   pub answer : IsAnswer F journal old new result

@@ -7,4 +7,5 @@ mod ruling;
 mod starts;
 
 pub use passes::Simplifier;
+pub use rounds::Schedule;
 pub use ruling::{Outcome, Simplified, simplify};

@@ -1,8 +1,8 @@
 // One simplifier of those that a round has.
 ghost use Rattle.std.specs.Prelude.{◌≡◌, false};
 ghost use Rattle.simp_base.specs.WorkState.{IsWork};
-ghost use Rattle.simp_base.specs.Log.{KeepsLog};
-ghost use Rattle.ruler_simp.specs.Passes.{Ends};
+ghost use Rattle.simp_base.specs.Log.{GrowsLog};
+ghost use Rattle.ruler_simp.specs.Passes.{Ends, adds_variables};
 
 use drat_text::{LineOut, LineStop};
 use simp_base::{Run, Work};
@@ -18,6 +18,8 @@ pub enum Simplifier {
     Equivalence,
     /// Variables are eliminated if this makes no more clauses.
     Elimination,
+    /// Clauses are replaced by fewer ones over a variable that is added.
+    Addition,
 }
 
 impl Simplifier {
@@ -27,7 +29,8 @@ impl Simplifier {
         requires unspent { work.old.output.spent ≡ false }
         requires going { work.old.ended ≡ false }
         ensures ends { Ends self work.old work.new result }
-        ensures log { KeepsLog work.old work.new }
+        ensures log { GrowsLog work.old work.new }
+        ensures vars { adds_variables self ≡ false → work.new.vars ≡ work.old.vars }
         ensures work { IsWork work.new }
     {
         match self {
@@ -35,6 +38,7 @@ impl Simplifier {
             Simplifier::Subsumption => simp_subsume::run(work),
             Simplifier::Equivalence => simp_equiv::run(work),
             Simplifier::Elimination => simp_elim::run(work),
+            Simplifier::Addition => simp_add::run(work),
         }
     }
 }

@@ -12,6 +12,15 @@ use crate::passes::Simplifier;
 use drat_text::{LineOut, LineStop};
 use simp_base::{Run, Work};
 
+/// How a formula is simplified.
+#[derive(Clone, Copy, PartialEq, Eq, Debug)]
+pub struct Schedule {
+    /// How many rounds the simplifiers may get; in none, units alone are propagated.
+    pub rounds: u32,
+    /// Whether variables are added in each round.
+    pub additions: bool,
+}
+
 /// Runs the simplifiers one after another, until one is not done.
 fn run_all<L: LineOut>(work: &mut Work<L>, passes: &[Simplifier]) -> Result<Run, LineStop>
     requires unspent { work.old.output.spent ≡ false }
@@ -30,39 +39,54 @@ fn run_all<L: LineOut>(work: &mut Work<L>, passes: &[Simplifier]) -> Result<Run,
     Ok(Run::Done)
 }
 
-/// One round. The units come first, since they make the other simplifiers' work less, and last, since these leave some.
-fn run_round<L: LineOut>(work: &mut Work<L>) -> Result<Run, LineStop>
+/// One round, with additions or without. The units come first, since they make the other simplifiers' work less, and last,
+/// since these leave some. Additions come after elimination, which would take their variables out again.
+fn run_round<L: LineOut>(work: &mut Work<L>, additions: bool) -> Result<Run, LineStop>
     requires unspent { work.old.output.spent ≡ false }
     requires going { work.old.ended ≡ false }
     requires work { IsWork work.old }
-    ensures ran { WereRun round_passes work.old work.new result }
+    ensures ran { WereRun (round_passes additions) work.old work.new result }
     ensures work { IsWork work.new }
 {
-    run_all(
-        work,
-        &[
-            Simplifier::Units,
-            Simplifier::Subsumption,
-            Simplifier::Equivalence,
-            Simplifier::Elimination,
-            Simplifier::Units,
-        ],
-    )
+    if additions {
+        run_all(
+            work,
+            &[
+                Simplifier::Units,
+                Simplifier::Subsumption,
+                Simplifier::Equivalence,
+                Simplifier::Elimination,
+                Simplifier::Addition,
+                Simplifier::Units,
+            ],
+        )
+    } else {
+        run_all(
+            work,
+            &[
+                Simplifier::Units,
+                Simplifier::Subsumption,
+                Simplifier::Equivalence,
+                Simplifier::Elimination,
+                Simplifier::Units,
+            ],
+        )
+    }
 }
 
-/// Rounds, as many as these, or fewer if one writes no line.
-fn run_rounds<L: LineOut>(work: &mut Work<L>, rounds: u32) -> Result<Run, LineStop>
+/// Rounds, as many as the schedule has, or fewer if one writes no line.
+fn run_rounds<L: LineOut>(work: &mut Work<L>, schedule: Schedule) -> Result<Run, LineStop>
     requires unspent { work.old.output.spent ≡ false }
     requires going { work.old.ended ≡ false }
     requires work { IsWork work.old }
-    ensures ran { WereRounds rounds work.old work.new result }
+    ensures ran { WereRounds schedule.additions schedule.rounds work.old work.new result }
     ensures work { IsWork work.new }
 {
-    for done in 0..rounds {
+    for done in 0..schedule.rounds {
         // The invariant goes by the rounds that are done.
         let _ = done;
         let before = work.line_count();
-        match run_round(work) {
+        match run_round(work, schedule.additions) {
             Ok(Run::Done) => {}
             Ok(Run::Refuted) => return Ok(Run::Refuted),
             Err(stop) => return Err(stop),
@@ -74,17 +98,17 @@ fn run_rounds<L: LineOut>(work: &mut Work<L>, rounds: u32) -> Result<Run, LineSt
     Ok(Run::Done)
 }
 
-/// Simplifies the work in this many rounds; in none, units alone are propagated.
-pub(crate) fn run<L: LineOut>(work: &mut Work<L>, rounds: u32) -> Result<Run, LineStop>
+/// Simplifies the work in the rounds of the schedule; in none, units alone are propagated.
+pub(crate) fn run<L: LineOut>(work: &mut Work<L>, schedule: Schedule) -> Result<Run, LineStop>
     requires unspent { work.old.output.spent ≡ false }
     requires going { work.old.ended ≡ false }
     requires work { IsWork work.old }
-    ensures ran { WasSimplified rounds work.old work.new result }
+    ensures ran { WasSimplified schedule work.old work.new result }
     ensures work { IsWork work.new }
 {
-    if rounds == 0 {
+    if schedule.rounds == 0 {
         run_all(work, &[Simplifier::Units])
     } else {
-        run_rounds(work, rounds)
+        run_rounds(work, schedule)
     }
 }

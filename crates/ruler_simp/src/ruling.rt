@@ -4,7 +4,7 @@ ghost use Rattle.sat_words.specs.Literal.{IsOn};
 ghost use Rattle.ruler_simp.specs.Left.{IsTaken};
 ghost use Rattle.ruler_simp.specs.Ruled.{Ruled};
 
-use crate::rounds::run;
+use crate::rounds::{Schedule, run};
 use crate::starts::starts_of;
 use drat_text::{LineOut, LineStop};
 use model_stack::Stack;
@@ -15,6 +15,8 @@ use std::alloc::Global;
 /// What is left of a formula.
 #[derive(Drop)]
 pub struct Simplified {
+    /// The number of variables: the formula's, and after them those that were added.
+    pub vars: u32,
     /// The clauses of two literals or more that are alive, except for tautologies: each with its number in the log, in order of
     /// number.
     pub start: Vec<(u64, Clause)>,
@@ -38,6 +40,7 @@ fn take<L: LineOut>(answer: Result<Run, LineStop>, work: Work<L>) -> (Result<Out
     ensures taken { IsTaken answer work result.0 }
     ensures output { L.told result.1 ≡ work.output }
 {
+    let vars = work.vars();
     let Parts {
         clauses,
         units,
@@ -48,6 +51,7 @@ fn take<L: LineOut>(answer: Result<Run, LineStop>, work: Work<L>) -> (Result<Out
         Ok(Run::Done) => {
             let start = starts_of(clauses);
             let simplified = Simplified {
+                vars,
                 start,
                 units,
                 stack,
@@ -59,28 +63,29 @@ fn take<L: LineOut>(answer: Result<Run, LineStop>, work: Work<L>) -> (Result<Out
     }
 }
 
-/// Simplifies a formula in this many rounds: each propagates units, deletes clauses that contain others or makes them
-/// shorter, replaces equivalent literals, eliminates variables, and propagates units again. A round that writes no line is
-/// the last. In no round units alone are propagated.
+/// Simplifies a formula in the rounds of a schedule: each propagates units, deletes clauses that contain others or makes them
+/// shorter, replaces equivalent literals, eliminates variables, replaces clauses by fewer ones over variables that it adds, if
+/// the schedule has additions, and propagates units again. A round that writes no line is the last. In no round units alone
+/// are propagated.
 ///
 /// The lines go to the output, which has none yet and comes back with each answer. After a fault it takes no more lines;
 /// after any error nothing else is left.
 pub fn simplify<L: LineOut>(
     alloc: Global,
     formula: &Formula,
-    rounds: u32,
+    schedule: Schedule,
     output: L,
 ) -> (Result<Outcome, LineStop>, L)
     requires unspent { (L.told output).spent ≡ false }
     requires blank { (L.told output).entries ≡ 0 }
     requires last { (L.told output).last ≡ length formula.now.clauses }
     requires on { All (All (IsOn formula.now.vars)) formula.now.clauses }
-    ensures { Ruled formula.now rounds (L.told output) (L.told result.1) result.0 }
+    ensures { Ruled formula.now schedule (L.told output) (L.told result.1) result.0 }
 {
     let mut work = match Work::new(alloc, formula, output) {
         Ok(work) => work,
         Err(refused) => return (Err(LineStop::Memory), refused.value),
     };
-    let answer = run(&mut work, rounds);
+    let answer = run(&mut work, schedule);
     take(answer, work)
 }

@@ -15,21 +15,21 @@ loop-pass-preserved g c =
     let passes = c.args.passes.now in let i = c.loop-pass.pass-index in let p : Simplifier = get_or passes i Units in
     let start = c.args.work.now in let now = c.loop-pass.work in let new = c.run.new.work in
     row_next passes p (drop (i + 1) passes) start now new (subst (λ rest. Row passes rest start now) (front passes i c.loop-pass-test.true) c.loop-pass.invariant)
-    (subst (λ r. Ends p now new r) (c.in-Ok-Done.is ∙ ap Ok c.in-Ok-Done.field-0-is) c.run.ensures.ends) c.run.ensures.log c.run.ensures.work
+    (subst (λ r. Ends p now new r) (c.in-Ok-Done.is ∙ ap Ok c.in-Ok-Done.field-0-is) c.run.ensures.ends) c.run.ensures.log c.run.ensures.vars c.run.ensures.work
 
 pub returns-in-Ok-Refuted-clause-ran : goal.returns-in-Ok-Refuted-clause-ran
 returns-in-Ok-Refuted-clause-ran g c =
     let passes = c.args.passes.now in let i = c.loop-pass.pass-index in let p : Simplifier = get_or passes i Units in
     let start = c.args.work.now in let now = c.loop-pass.work in let new = c.run.new.work in
     row_stop passes p (drop (i + 1) passes) start now new _ (subst (λ rest. Row passes rest start now) (front passes i c.loop-pass-test.true) c.loop-pass.invariant)
-    (subst (λ r. Ends p now new r) (c.in-Ok-Refuted.is ∙ ap Ok c.in-Ok-Refuted.field-0-is) c.run.ensures.ends) c.run.ensures.log c.run.ensures.work (λ e. let none : ⊥ = cc in none)
+    (subst (λ r. Ends p now new r) (c.in-Ok-Refuted.is ∙ ap Ok c.in-Ok-Refuted.field-0-is) c.run.ensures.ends) c.run.ensures.log c.run.ensures.vars c.run.ensures.work (λ e. let none : ⊥ = cc in none)
 
 pub returns-in-Err-clause-ran : goal.returns-in-Err-clause-ran
 returns-in-Err-clause-ran g c =
     let passes = c.args.passes.now in let i = c.loop-pass.pass-index in let p : Simplifier = get_or passes i Units in
     let start = c.args.work.now in let now = c.loop-pass.work in let new = c.run.new.work in
     row_stop passes p (drop (i + 1) passes) start now new _ (subst (λ rest. Row passes rest start now) (front passes i c.loop-pass-test.true) c.loop-pass.invariant)
-    (subst (λ r. Ends p now new r) c.in-Err.is c.run.ensures.ends) c.run.ensures.log c.run.ensures.work (λ e. let none : ⊥ = cc in none)
+    (subst (λ r. Ends p now new r) c.in-Err.is c.run.ensures.ends) c.run.ensures.log c.run.ensures.vars c.run.ensures.work (λ e. let none : ⊥ = cc in none)
 
 pub returns-clause-ran : goal.returns-clause-ran
 returns-clause-ran g c =

@@ -1,15 +1,15 @@
 -- The best of the literals counted is the partner.
-use Rattle.std.proofs.Common.{◌≡◌, ◌≢◌, ◌∙◌, ℕ, suc, ◌+◌, ◌<◌, ◌≤◌, Bool, true, false, not, cond, List, [], ◌∷◌, ◌++◌, length, take, get_or, set, Option, Some, None, sym, refl, ap, subst, arith, inl, inr, ◌⊎◌, ⊎_elim, Contains, MatchOption}
-use Rattle.std.specs.List.{filter_map, range_with_len}
+use Rattle.std.proofs.Common.{◌≡◌, ◌≢◌, ◌∙◌, ℕ, ◌+◌, ◌<◌, ◌≤◌, true, List, [], ◌∷◌, length, take, get_or, set, Option, Some, None, sym, refl, ap, subst, arith, inl, inr, ◌⊎◌, ⊎_elim, Contains, MatchOption}
+use Rattle.std.specs.List.{filter_map}
 use Rattle.std.specs.List.Sorted.{IsStrictlyIncreasing}
-use Rattle.std.proofs.lemmas.List.{take_more, length-set}
+use Rattle.std.proofs.lemmas.List.{take_more}
 use Rattle.std.proofs.lemmas.List.Elements.{Contains-append_left, Contains-push, Contains-push_cases}
 use mathlib.Core.Logic.{dite}
 use native.Mathlib.Decide.{ℕ_discrete}
 use Rattle.sat_words.specs.Literal.{Literal, code_of}
 use Rattle.sat_words.specs.Clause.{has}
-use Rattle.rup_model.proofs.Lists.{In_map, Contains_In}
-use Rattle.simp_base.specs.WorkState.{WorkState, IsWork, lists}
+use Rattle.rup_model.proofs.Lists.{Contains_In}
+use Rattle.simp_base.specs.WorkState.{WorkState, IsWork}
 use Rattle.simp_base.proofs.Lists.{All_In}
 use Rattle.simp_add.specs.declared.tally.Count.{Count}
 use Rattle.simp_add.specs.Common.{common_at, commons}

@@ -1,16 +1,15 @@
 -- Counts of common sets, by literal.
-use Rattle.std.proofs.Common.{◌≡◌, ◌≢◌, ◌∙◌, ℕ, zero, suc, ◌+◌, ◌<◌, ◌≤◌, ◌==◌, ◌^◌, Bool, true, false, not, ◌||◌, ◌&&◌, cond, List, [], ◌∷◌, ◌++◌, length, take, drop, get_or, set, Option, Some, None, sym, refl, ap, subst, arith, inl, inr, ◌⊎◌, ⊎_elim, ne_eqb, Contains, length-append}
+use Rattle.std.proofs.Common.{◌≡◌, ◌≢◌, ◌∙◌, ℕ, suc, ◌+◌, ◌<◌, ◌≤◌, ◌^◌, Bool, true, false, ◌||◌, ◌&&◌, cond, List, [], ◌∷◌, ◌++◌, length, take, get_or, set, Option, Some, None, sym, refl, ap, subst, arith, inl, inr, ◌⊎◌, ⊎_elim, ne_eqb, Contains, length-append}
 use Rattle.std.specs.List.{list_any, filter_map, cons_option}
-use Rattle.std.proofs.lemmas.Bool.{or_left, or_right, or_cases, or_parts, and_parts, and_from, cases_Bool, cases_eq, eq-eqb, true≢false, false≢true, not-true}
+use Rattle.std.proofs.lemmas.Bool.{and_from, cases_eq, eq-eqb, true≢false}
 use Rattle.std.proofs.lemmas.List.{take_more, length-set, get_or-set_same, get_or-set_other}
 use Rattle.std.proofs.lemmas.List.Elements.{filter_map-append}
 use mathlib.Core.Logic.{dite}
 use native.Mathlib.Decide.{ℕ_discrete}
-use Rattle.sat_words.specs.Literal.{Literal, opposite, same, code_of, literal_of}
-use Rattle.sat_words.specs.Clause.{has}
+use Rattle.sat_words.specs.Literal.{Literal, same, code_of, literal_of}
 use Rattle.sat_words.proofs.Members.{same-true, same-refl}
 use Rattle.sat_words.specs.Codes.{literal_of-code_of}
-use Rattle.rup_model.proofs.Lists.{In, any_In, In_any, In_append, In_append_left, In_append_right, Contains_In, In_Contains}
+use Rattle.rup_model.proofs.Lists.{Contains_In}
 use Rattle.simp_base.specs.WorkState.{WorkState}
 use Rattle.simp_add.specs.declared.alike.Alike.{Alike}
 use Rattle.simp_add.specs.declared.tally.Count.{Count}

@@ -1,18 +1,18 @@
 -- The clauses of two literals are exchanged for those of a new one.
-use Rattle.std.proofs.Common.{◌≡◌, ◌≢◌, ◌∙◌, ℕ, zero, suc, ◌+◌, ◌<◌, ◌≤◌, Bool, true, false, not, ◌||◌, List, [], ◌∷◌, ◌++◌, map, length, Option, Some, None, sym, refl, ap, subst, arith, inl, inr, ◌⊎◌, ⊎_elim, Contains, append-nil, append_assoc, length-append}
+use Rattle.std.proofs.Common.{◌≡◌, ◌≢◌, ◌∙◌, ℕ, zero, suc, ◌+◌, ◌<◌, ◌≤◌, Bool, true, false, not, ◌||◌, List, [], ◌∷◌, ◌++◌, map, length, Option, Some, None, sym, refl, ap, subst, arith, inl, inr, ◌⊎◌, ⊎_elim, Contains, append-nil, length-append}
 use Rattle.std.specs.Prelude.{Result, Ok, Err}
 use Rattle.drat_text.specs.declared.stop.LineStop.{LineStop}
-use Rattle.std.specs.List.{filter_map, cons_option, range_with_len, All, list_any, list_all}
-use Rattle.std.proofs.lemmas.Bool.{or_left, or_right, or_cases, or_parts, and_parts, cases_Bool, true≢false, false≢true}
+use Rattle.std.specs.List.{filter_map, cons_option, range_with_len, All, list_all}
+use Rattle.std.proofs.lemmas.Bool.{or_left, or_right, or_parts, cases_Bool, true≢false, false≢true}
 use Rattle.sat_words.specs.Literal.{Literal, opposite, same, IsOn, code_of}
 use Rattle.sat_words.specs.Clause.{has, same_set, clause_of, two_or_more, is_empty}
 use Rattle.sat_words.specs.Truth.{lit_true, clause_true, formula_true}
-use Rattle.sat_words.proofs.Members.{same-true, same-refl, opposite-opposite, clause_true_alike}
+use Rattle.sat_words.proofs.Members.{same-true, same-refl, clause_true_alike}
 use Rattle.sat_words.proofs.Insertion.{has-clause_of}
 use Rattle.rup_model.specs.Rup.{rat}
-use Rattle.rup_model.proofs.Covers.{same_has, has_same, same_back}
-use Rattle.rup_model.proofs.Lists.{In, any_In, In_any, all_In, In_all, In_has, has_In, In_map, map_In, In_append, In_append_left, In_append_right, Contains_In, In_Contains}
-use Rattle.simp_base.specs.WorkState.{WorkState, IsWork, lists, known, unit_clauses, numbered}
+use Rattle.rup_model.proofs.Covers.{same_has}
+use Rattle.rup_model.proofs.Lists.{In, any_In, In_any, all_In, In_all, In_has, has_In, In_map, map_In, In_append, In_append_right, Contains_In, In_Contains}
+use Rattle.simp_base.specs.WorkState.{WorkState, lists, known, unit_clauses, numbered}
 use mathlib.Core.Logic.{dite}
 use native.Mathlib.Decide.{ℕ_discrete}
 use Rattle.simp_base.specs.Calls.{ruler_deletes}
@@ -21,11 +21,10 @@ use Rattle.simp_base.proofs.Lists.{In_All, All_In}
 use Rattle.simp_base.proofs.Known.{known_alive, on_alive}
 use Rattle.simp_base.proofs.Removal.{same_number}
 use Rattle.simp_base.proofs.Truths.{lit_true-opposite}
-use Rattle.simp_add.specs.Common.{clause_at, others, mentions, is_alive, is_common, common_at, commons}
-use Rattle.simp_add.specs.Rule.{additions, adds, is_replaced, IsPartner, Exchanged}
+use Rattle.simp_add.specs.Common.{others, is_alive, common_at, commons}
+use Rattle.simp_add.specs.Rule.{additions, adds, is_replaced, Exchanged}
 use Rattle.simp_add.specs.Stages.{IsReplaceable, Grown, Removed, CanCome, set_at, AreLong, Done, WasRemoved, WasExchanged}
-use Rattle.simp_add.specs.Shared.{AreShared}
-use Rattle.simp_add.proofs.Finding.{Cell, Counts, parts, counted_at, there_alive, alive_there, others_in, whole_set, refuted}
+use Rattle.simp_add.proofs.Finding.{Cell, parts, counted_at, there_alive, others_in, refuted}
 use Rattle.simp_add.proofs.Sharing.{common_counted, free_of, replaced_by, replaced_first, replaced_second}
 use Rattle.simp_add.proofs.Fewer.{twice_as_many}
 use Rattle.simp_add.proofs.Growing.{goes_along, continues_along, grown_along, grown_log, stopped_after, rat_new, set_is, grown_stay, grown_parts, numbered_In, In_numbered, alive_more}

@@ -1,19 +1,18 @@
 -- The clauses of two literals with their common sets are twice as many as the sets, or more.
-use Rattle.std.proofs.Common.{◌≡◌, ◌≢◌, ◌∙◌, ℕ, zero, suc, ◌+◌, ◌<◌, ◌≤◌, Bool, true, false, List, [], ◌∷◌, ◌++◌, map, length, Option, Some, None, sym, refl, ap, subst, arith, inl, inr, ◌⊎◌, ⊎_elim, Contains, cond, ◌||◌, ◌&&◌}
-use Rattle.std.specs.List.{filter, filter_map, cons_option, range_with_len, list_any}
+use Rattle.std.proofs.Common.{◌≡◌, ◌∙◌, ℕ, zero, suc, ◌+◌, ◌<◌, ◌≤◌, Bool, true, false, List, [], ◌∷◌, length, Option, Some, None, sym, refl, ap, subst, arith, inl, inr, ◌⊎◌, ⊎_elim, Contains, cond, ◌||◌, ◌&&◌}
+use Rattle.std.specs.List.{filter, filter_map, cons_option, range_with_len}
 use Rattle.std.specs.Prelude.{nat_lt, ⊤}
-use Rattle.std.proofs.lemmas.Bool.{true≢false, false≢true, cases_order, or_cases, or_left, or_right, and_from, not-true, lt-ltb}
-use Rattle.sat_words.specs.Literal.{Literal, same, code_of}
+use Rattle.std.proofs.lemmas.Bool.{true≢false, false≢true, cases_order, or_cases, and_from, not-true, lt-ltb}
+use Rattle.sat_words.specs.Literal.{Literal, same}
 use Rattle.sat_words.specs.Clause.{has, same_set}
-use Rattle.sat_words.proofs.Members.{same-true, same-refl}
-use Rattle.rup_model.proofs.Covers.{same_has, same_back, same_chain}
+use Rattle.rup_model.proofs.Covers.{same_has}
 use Rattle.sat_words.proofs.Insertion.{same_set_from}
-use Rattle.rup_model.proofs.Lists.{In, any_In, none_In, In_append, In_append_left, In_append_right, In_map, map_In, Contains_In, In_Contains}
-use Rattle.simp_base.specs.WorkState.{WorkState, IsWork, lists}
+use Rattle.rup_model.proofs.Lists.{In, any_In, Contains_In}
+use Rattle.simp_base.specs.WorkState.{WorkState, IsWork}
 use Rattle.simp_base.proofs.Removal.{same_number}
 use Rattle.simp_base.proofs.Filters.{filter_In}
 use Rattle.simp_add.specs.Common.{others, is_first, common_at, commons}
-use Rattle.simp_add.proofs.Finding.{Cell, Counts, parts, counted_at, there_alive, whole_has, whole_set}
+use Rattle.simp_add.proofs.Finding.{Cell, parts, counted_at, there_alive, whole_has, whole_set}
 use Rattle.simp_add.proofs.Sharing.{free_of, others_are}
 
 -- More pigeons, more holes

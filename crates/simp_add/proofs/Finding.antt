@@ -1,20 +1,20 @@
 -- Clauses found by number, and the common sets that count at a number.
-use Rattle.std.proofs.Common.{◌≡◌, ◌≢◌, ◌∙◌, ℕ, zero, suc, ◌+◌, ◌<◌, ◌≤◌, ◌==◌, ltb, Bool, true, false, not, ◌||◌, ◌&&◌, cond, List, [], ◌∷◌, map, length, Option, Some, None, sym, refl, ap, subst, arith, inl, inr, ◌⊎◌, ⊎_elim, ne_eqb, Contains}
+use Rattle.std.proofs.Common.{◌≡◌, ◌∙◌, ℕ, ◌<◌, Bool, true, false, not, ◌||◌, ◌&&◌, cond, List, [], ◌∷◌, Option, Some, None, sym, refl, ap, subst, inl, inr, ⊎_elim, ne_eqb, Contains}
 use Rattle.std.specs.Prelude.{nat_lt}
-use Rattle.std.specs.List.{list_any, filter}
-use Rattle.std.proofs.lemmas.Bool.{or_left, or_right, or_cases, or_parts, and_parts, and_from, cases_Bool, cases_eq, eq-eqb, true≢false, false≢true, not-true, lt-ltb}
+use Rattle.std.specs.List.{list_any}
+use Rattle.std.proofs.lemmas.Bool.{or_left, or_right, or_cases, or_parts, and_parts, and_from, cases_Bool, cases_eq, eq-eqb, true≢false, not-true, lt-ltb}
 use Rattle.sat_words.specs.Literal.{Literal, opposite, same, code_of}
 use Rattle.sat_words.specs.Clause.{has, same_set, is_empty, InOrder}
 use Rattle.sat_words.proofs.Members.{same-true, same-refl}
-use Rattle.rup_model.proofs.Covers.{both_true, same_has, has_same, same_back, same_self, same_chain}
-use Rattle.rup_model.proofs.Lists.{In, any_In, In_any, none_In, all_In, In_all, In_map, map_In, has_In, In_has, Contains_In, In_Contains}
+use Rattle.rup_model.proofs.Covers.{both_true, same_back, same_chain}
+use Rattle.rup_model.proofs.Lists.{In, any_In, In_any, In_map, map_In, has_In, In_has, Contains_In, In_Contains}
 use Rattle.sat_words.proofs.Insertion.{same_set_from}
 use Rattle.simp_base.specs.WorkState.{WorkState, IsWork, HaveOwnNumbers, lists}
 use Rattle.simp_base.proofs.Filters.{In_filter, filter_In}
 use Rattle.simp_base.proofs.Removal.{same_number}
 use Rattle.simp_add.specs.declared.alike.Alike.{Alike}
 use Rattle.simp_add.specs.Common.{clause_at, others, mentions, is_alive, is_common, is_first, is_counted, common_in, common_at}
-use Rattle.simp_add.specs.Alike.{IsAlike, AreAlike, IsLoaded, is_later}
+use Rattle.simp_add.specs.Alike.{AreAlike, IsLoaded, is_later}
 use Rattle.simp_add.specs.Counted.{may_pair, is_paired}
 
 abbrev pub Cell : Type 0

@@ -1,28 +1,28 @@
 -- Clauses come, each valid where it stands.
-use Rattle.std.proofs.Common.{◌≡◌, ◌≢◌, ◌∙◌, ℕ, zero, suc, ◌+◌, ◌<◌, ◌≤◌, Bool, true, false, not, ◌||◌, List, [], ◌∷◌, ◌++◌, map, length, take, get_or, sym, refl, ap, subst, arith, inl, inr, ◌⊎◌, ⊎_elim, Contains, append-nil, append_assoc, length-append}
-use Rattle.std.specs.List.{list_all, filter, All}
-use Rattle.std.proofs.lemmas.Bool.{or_left, or_right, or_cases, cases_Bool, true≢false, false≢true}
+use Rattle.std.proofs.Common.{◌≡◌, ◌∙◌, ℕ, zero, suc, ◌+◌, ◌<◌, ◌≤◌, Bool, true, false, not, ◌||◌, List, [], ◌∷◌, ◌++◌, map, length, take, get_or, sym, refl, ap, subst, arith, inl, inr, ◌⊎◌, ⊎_elim, Contains, append-nil, append_assoc, length-append}
+use Rattle.std.specs.List.{filter, All}
+use Rattle.std.proofs.lemmas.Bool.{or_left, or_right, or_cases, cases_Bool, true≢false}
 use Rattle.std.proofs.lemmas.List.{take_more}
 use Rattle.std.proofs.lemmas.List.Elements.{Contains-get_or}
 use Rattle.sat_words.specs.Literal.{Literal, opposite, same, IsOn}
 use Rattle.sat_words.specs.Clause.{has, same_set, is_empty, clause_of}
 use Rattle.sat_words.specs.declared.line.Line.TheVariants.{Add as AddLine}
-use Rattle.sat_words.proofs.Members.{same-true, same-refl, opposite-opposite}
+use Rattle.sat_words.proofs.Members.{same-true, opposite-opposite}
 use Rattle.rup_model.specs.Rup.{rup, rat, rat_on, resolvent}
 use Rattle.rup_model.specs.declared.journal.Entry.{Entry}
-use Rattle.rup_model.proofs.Covers.{same_has, has_same, same_back}
-use Rattle.rup_model.proofs.Lists.{In, In_any, In_all, In_has, has_In, In_map, map_In, In_append, In_append_left, In_append_right, Contains_In, In_Contains}
+use Rattle.rup_model.proofs.Covers.{has_same, same_back}
+use Rattle.rup_model.proofs.Lists.{In, In_any, In_all, In_has, has_In, map_In, In_append, In_append_left, In_append_right, Contains_In, In_Contains}
 use Rattle.rup_model.proofs.Quietly.{follows_unless, quiet_open}
 use Rattle.drat_text.specs.LineState.{LineState}
 use Rattle.drat_text.specs.declared.stop.LineStop.{LineStop}
 use Rattle.drat_text.specs.declared.stop.LineStop.TheVariants.{Memory}
 use Rattle.simp_base.specs.WorkState.{WorkState, IsWork, lists, numbered}
 use Rattle.simp_base.specs.Calls.{ruler_adds, Added, NotPut}
-use Rattle.simp_base.specs.Log.{Stands, Continues, Grows, GrowsLog}
+use Rattle.simp_base.specs.Log.{Stands, Continues, GrowsLog}
 use Rattle.simp_base.proofs.Filters.{In_filter}
 use Rattle.simp_base.proofs.Stopping.{not_put_cause, cause_after}
 use Rattle.simp_base.proofs.Widening.{continues_grows, logs_grow_along}
-use Rattle.simp_add.specs.Common.{clause_at, others, is_alive}
+use Rattle.simp_add.specs.Common.{others, is_alive}
 use Rattle.simp_add.specs.Rule.{adds}
 use Rattle.simp_add.proofs.Finding.{there_at, others_in, there_alive, alive_there}
 use Rattle.sat_words.proofs.Insertion.{has-clause_of}

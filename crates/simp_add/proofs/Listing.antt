@@ -1,7 +1,6 @@
 -- The clauses with the literals of a list and one more, as far as they were looked for.
-use Rattle.std.proofs.Common.{◌≡◌, ◌∙◌, ℕ, ◌+◌, ◌<◌, true, false, List, [], ◌∷◌, ◌++◌, length, take, get_or, Option, Some, None, sym, refl, ap, subst, inl, inr, ◌⊎◌, ⊎_elim, Contains}
+use Rattle.std.proofs.Common.{◌≡◌, ◌∙◌, ℕ, true, false, List, [], ◌∷◌, ◌++◌, Option, Some, None, sym, subst, ⊎_elim, Contains}
 use Rattle.std.proofs.lemmas.Bool.{or_left, or_right, or_cases, true≢false}
-use Rattle.std.proofs.lemmas.List.{take_more}
 use Rattle.std.proofs.lemmas.List.Elements.{Contains-append_left, Contains-push, Contains-push_cases}
 use Rattle.sat_words.specs.Literal.{Literal, same}
 use Rattle.sat_words.proofs.Members.{same-true, same-refl}

@@ -1,10 +1,10 @@
 -- What follows of a set that was loaded, and of the clauses found with it.
-use Rattle.std.proofs.Common.{◌≡◌, ◌∙◌, ℕ, suc, ◌+◌, ◌*◌, ◌<◌, ◌≤◌, Bool, true, false, not, cond, List, [], ◌∷◌, length, Option, Some, None, sym, refl, ap, subst, arith, Contains}
+use Rattle.std.proofs.Common.{◌≡◌, ◌∙◌, ℕ, ◌+◌, ◌*◌, ◌<◌, ◌≤◌, Bool, true, false, not, cond, List, [], ◌∷◌, length, Some, None, sym, refl, ap, subst, arith, Contains}
 use Rattle.std.specs.List.{All}
-use Rattle.std.proofs.lemmas.Bool.{or_left, true≢false, false≢true, cases_Bool}
+use Rattle.std.proofs.lemmas.Bool.{or_left, true≢false}
 use Rattle.std.proofs.lemmas.List.Kept.{IsStrictlySortedBy-filter}
 use Rattle.sat_words.specs.Literal.{Literal, IsOn, same, code_of, lit_cmp}
-use Rattle.sat_words.specs.Clause.{has, same_set, is_empty, InOrder}
+use Rattle.sat_words.specs.Clause.{has, is_empty, InOrder}
 use Rattle.sat_words.proofs.Members.{same-refl}
 use Rattle.rup_model.proofs.Covers.{same_has}
 use Rattle.rup_model.proofs.Lists.{has_In, In_has}
@@ -14,7 +14,7 @@ use Rattle.simp_base.proofs.Known.{on_alive}
 use Rattle.simp_base.proofs.Removal.{same_number}
 use Rattle.simp_add.specs.declared.alike.Alike.{Alike}
 use Rattle.simp_add.specs.Common.{others, mentions, is_first, is_counted, common_at, common_in}
-use Rattle.simp_add.specs.Alike.{IsAlike, AreAlike, IsLoaded, is_later}
+use Rattle.simp_add.specs.Alike.{AreAlike, IsLoaded, is_later}
 use Rattle.simp_add.specs.Counted.{is_paired}
 use Rattle.simp_add.proofs.Finding.{others_in, nothing_at, there_at, later_first, later_counts_not, counts_by_found}
 

@@ -1,20 +1,19 @@
 -- A list that has one literal more than another.
-use Rattle.std.proofs.Common.{◌≡◌, ◌≢◌, ◌∙◌, ℕ, zero, suc, ◌+◌, ◌<◌, ◌≤◌, ltb, Bool, true, false, ◌||◌, ◌&&◌, cond, nat_eq, List, [], ◌∷◌, length, drop, get_or, Option, Some, None, sym, refl, ap, subst, arith, inl, inr, take}
+use Rattle.std.proofs.Common.{◌≡◌, ◌∙◌, ℕ, zero, suc, ◌<◌, ◌≤◌, ltb, Bool, true, false, ◌||◌, cond, List, [], ◌∷◌, length, drop, get_or, Option, Some, None, sym, refl, ap, subst, arith, inl, inr, take}
 use Rattle.std.specs.declared.cmp.Ordering.TheVariants.{Less}
 use Rattle.std.specs.List.{AllByRecursion}
 use Rattle.std.specs.List.Sorted.{IsStrictlySortedBy}
-use Rattle.std.specs.Ordering.{on, nat_cmp}
-use Rattle.std.specs.Cmp.Lexicographic.{pointwise}
-use Rattle.std.proofs.lemmas.Bool.{or_left, or_right, or_cases, or_parts, and_parts, and_from, cases_Bool, true≢false, false≢true}
+use Rattle.std.specs.Ordering.{nat_cmp}
+use Rattle.std.proofs.lemmas.Bool.{or_left, or_parts, and_parts, and_from, cases_Bool, true≢false, false≢true}
 use Rattle.std.proofs.lemmas.Bool.Decides.{nat_tests}
 use Rattle.std.specs.Prelude.{◌-◌}
 use Rattle.sat_words.specs.Literal.{Literal, same, code_of, lit_cmp}
 use Rattle.sat_words.specs.Clause.{has, InOrder, same_set, insert_lit}
-use Rattle.sat_words.proofs.Members.{same-true, same-refl, equal_lists}
+use Rattle.sat_words.proofs.Members.{same-true, same-refl}
 use Rattle.sat_words.proofs.Insertion.{has-insert_lit, InOrder-insert_lit}
 use Rattle.sat_words.proofs.Canonical.{same_clause}
 use Rattle.rup_model.proofs.Covers.{both_true, same_has}
-use Rattle.rup_model.proofs.Lists.{In, has_In, In_has}
+use Rattle.rup_model.proofs.Lists.{In, has_In}
 use Rattle.simp_add.specs.Alike.{same_list, one_more}
 
 -- Equal lists

@@ -1,12 +1,12 @@
 -- What numbers in a range give, if all that give something are among some numbers, ascending.
-use Rattle.std.proofs.Common.{◌≡◌, ◌≢◌, ◌∙◌, ℕ, zero, suc, ◌+◌, ◌<◌, ◌≤◌, List, [], ◌∷◌, length, get_or, Option, Some, None, sym, refl, ap, subst, arith, inl, inr, ◌⊎◌}
+use Rattle.std.proofs.Common.{◌≡◌, ◌≢◌, ◌∙◌, ℕ, zero, suc, ◌+◌, ◌<◌, ◌≤◌, List, [], ◌∷◌, length, get_or, Option, None, sym, refl, ap, subst, arith, inl, inr, ◌⊎◌}
 use Rattle.std.specs.Prelude.{⊤}
-use Rattle.std.specs.List.{filter_map, cons_option, range_with_len, Contains, AllPairs}
+use Rattle.std.specs.List.{filter_map, cons_option, range_with_len, Contains}
 use Rattle.std.specs.List.Sorted.{IsStrictlyIncreasing}
 use Rattle.std.proofs.lemmas.List.Kept.{AllPairs-from_increasing}
 use mathlib.Core.Logic.{dite}
 use native.Mathlib.Decide.{ℕ_discrete}
-use Rattle.rup_model.proofs.Lists.{In, In_get_or, Contains_In, In_Contains}
+use Rattle.rup_model.proofs.Lists.{In, Contains_In}
 
 -- each number from this one on, and above those before it
 abbrev pub Rising : ℕ → List ℕ → Type 0

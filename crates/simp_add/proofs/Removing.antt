@@ -1,8 +1,8 @@
 -- Clauses are deleted by their numbers.
-use Rattle.std.proofs.Common.{◌≡◌, ◌≢◌, ◌∙◌, ℕ, zero, suc, ◌+◌, ◌<◌, ◌≤◌, ◌==◌, Bool, true, false, List, [], ◌∷◌, ◌++◌, map, length, take, get_or, sym, refl, ap, subst, arith, inl, inr, ◌⊎◌, ⊎_elim, Contains, append-nil, append_assoc, length-append}
+use Rattle.std.proofs.Common.{◌≡◌, ◌∙◌, ℕ, ◌+◌, ◌<◌, ◌==◌, true, false, List, [], ◌∷◌, ◌++◌, map, length, take, get_or, sym, refl, ap, subst, arith, inl, inr, ◌⊎◌, ⊎_elim, Contains, length-append}
 use Rattle.std.specs.Prelude.{Result, Ok, Err}
 use Rattle.std.specs.List.{sum_by, list_any}
-use Rattle.std.proofs.lemmas.Bool.{cases_Bool, cases_eq, true≢false, eq-eqb}
+use Rattle.std.proofs.lemmas.Bool.{cases_Bool, true≢false, eq-eqb}
 use Rattle.std.proofs.lemmas.Bool.Decides.{eqb_tells}
 use Rattle.std.proofs.lemmas.List.Sums.{sum_by-append}
 use Rattle.std.proofs.lemmas.List.{take_more}
@@ -10,16 +10,16 @@ use Rattle.std.proofs.lemmas.List.Elements.{Contains-append_left, Contains-appen
 use Rattle.sat_words.specs.Literal.{Literal}
 use Rattle.sat_words.specs.declared.line.Line.TheVariants.{Del as DelLine}
 use Rattle.rup_model.specs.declared.journal.Entry.{Entry}
-use Rattle.rup_model.proofs.Lists.{In, any_In, In_any, none_In, Contains_In, In_Contains}
+use Rattle.rup_model.proofs.Lists.{In, In_any, none_In, Contains_In, In_Contains}
 use Rattle.drat_text.specs.LineState.{LineState}
 use Rattle.drat_text.specs.declared.stop.LineStop.{LineStop}
-use Rattle.simp_base.specs.WorkState.{WorkState, IsWork, lists}
+use Rattle.simp_base.specs.WorkState.{WorkState, IsWork}
 use Rattle.simp_base.specs.Calls.{ruler_deletes, on_ok, Deleted, WasDeleted}
 use Rattle.simp_base.specs.Log.{Continues}
 use Rattle.simp_base.proofs.Stopping.{not_put_cause}
 use Rattle.simp_base.proofs.Widening.{continues_grows}
 use Rattle.simp_add.specs.Rule.{Distinct}
-use Rattle.simp_add.specs.Stages.{GoesOn, Stops, Removed, WasRemoved}
+use Rattle.simp_add.specs.Stages.{Removed, WasRemoved}
 use Rattle.simp_add.proofs.Growing.{goes_self, goes_along, continues_self, continues_along}
 
 -- Lists

@@ -1,17 +1,16 @@
 -- The common sets and the clauses with them, number by number.
-use Rattle.std.proofs.Common.{◌≡◌, ◌≢◌, ◌∙◌, ℕ, zero, suc, ◌+◌, ◌<◌, ◌≤◌, Bool, true, false, not, ◌||◌, ◌&&◌, cond, List, [], ◌∷◌, ◌++◌, map, length, Option, Some, None, sym, refl, ap, subst, arith, inl, inr, ◌⊎◌, ⊎_elim, Contains, append-nil, append_assoc}
+use Rattle.std.proofs.Common.{◌≡◌, ◌∙◌, ℕ, zero, suc, ◌<◌, Bool, true, false, not, ◌||◌, ◌&&◌, List, [], ◌∷◌, ◌++◌, Option, Some, None, sym, refl, ap, subst, arith, inl, inr, ◌⊎◌, ⊎_elim, Contains, append-nil}
 use Rattle.std.specs.Prelude.{nat_lt}
-use Rattle.std.specs.List.{list_any, filter, filter_map, cons_option, range_with_len}
-use Rattle.std.specs.List.Sorted.{IsStrictlyIncreasing}
+use Rattle.std.specs.List.{list_any, filter, filter_map, cons_option}
 use Rattle.std.proofs.lemmas.Bool.{or_left, or_right, or_cases, or_parts, and_parts, and_from, cases_Bool, true≢false, false≢true, not-true}
 use Rattle.std.proofs.lemmas.Bool.Decides.{nat_tests}
-use Rattle.std.proofs.lemmas.List.Elements.{filter_map-append, Contains-append_left, Contains-append_right, Contains-append_cases, Contains-push, Contains-push_cases}
+use Rattle.std.proofs.lemmas.List.Elements.{filter_map-append, Contains-append_left, Contains-append_right, Contains-append_cases, Contains-push_cases}
 use Rattle.sat_words.specs.Literal.{Literal, opposite, same}
 use Rattle.sat_words.specs.Clause.{has, same_set, is_empty}
 use Rattle.sat_words.proofs.Members.{same-true, same-refl}
 use Rattle.sat_words.proofs.Insertion.{same_set_from}
-use Rattle.rup_model.proofs.Covers.{both_true, same_has, has_same, same_back, same_self, same_chain}
-use Rattle.rup_model.proofs.Lists.{In, any_In, In_any, In_map, map_In, has_In, In_has, Contains_In, In_Contains}
+use Rattle.rup_model.proofs.Covers.{both_true, same_has, same_self, same_chain}
+use Rattle.rup_model.proofs.Lists.{In, any_In, In_any, In_map, map_In, Contains_In, In_Contains}
 use Rattle.simp_base.specs.WorkState.{WorkState, IsWork, lists}
 use Rattle.simp_base.proofs.Filters.{In_filter, filter_In}
 use Rattle.simp_add.specs.declared.alike.Alike.{Alike}
@@ -19,7 +18,7 @@ use Rattle.simp_add.specs.Common.{others, mentions, is_alive, is_common, is_firs
 use Rattle.simp_add.specs.Alike.{AreAlike, numbers_with}
 use Rattle.simp_add.specs.Rule.{is_replaced}
 use Rattle.simp_add.specs.Shared.{Sharing, SharesOne, AreShared}
-use Rattle.simp_add.proofs.Finding.{Cell, others_in, in_others, whole_set, whole_has, alive_there, there_alive, counts_at, counted_at, Counts, parts}
+use Rattle.simp_add.proofs.Finding.{Cell, others_in, in_others, whole_has, there_alive, counts_at, counted_at, parts}
 
 -- Sets with the same literals
 

@@ -1,23 +1,21 @@
 -- One literal's turn, and one after another.
-use Rattle.std.proofs.Common.{◌≡◌, ◌≢◌, ◌∙◌, ℕ, zero, suc, ◌+◌, ◌<◌, ◌≤◌, ◌^◌, ◌-◌, Bool, true, false, not, ◌||◌, List, [], ◌∷◌, ◌++◌, length, Option, Some, None, sym, refl, ap, subst, arith, inl, inr, ◌⊎◌, ⊎_elim, Contains, append-nil, append_assoc}
-use Rattle.std.specs.Prelude.{Result, Ok, Err}
-use Rattle.std.proofs.lemmas.Bool.{or_left, or_cases, cases_Bool, true≢false}
-use Rattle.sat_words.specs.Literal.{Literal, opposite, same, IsOn, literal_of}
+use Rattle.std.proofs.Common.{◌≡◌, ◌∙◌, ℕ, suc, ◌+◌, ◌<◌, ◌≤◌, ◌^◌, ◌-◌, false, List, [], ◌++◌, sym, refl, ap, subst, arith, inl, inr, ◌⊎◌, ⊎_elim, Contains, append-nil, append_assoc}
+use Rattle.std.proofs.lemmas.Bool.{or_cases}
+use Rattle.sat_words.specs.Literal.{Literal, opposite, IsOn, literal_of}
 use Rattle.sat_words.specs.Clause.{has}
-use Rattle.rup_model.specs.declared.journal.Entry.{Entry}
 use Rattle.rup_model.proofs.Lists.{has_In}
 use Rattle.drat_text.specs.declared.stop.LineStop.{LineStop}
 use Rattle.simp_base.specs.WorkState.{WorkState, IsWork, known}
 use Rattle.simp_base.specs.Calls.{Widened, next_literal}
-use Rattle.simp_base.specs.Log.{Continues, Grows, GrowsLog}
+use Rattle.simp_base.specs.Log.{Grows}
 use Rattle.simp_base.specs.Lifted.{Lifted}
 use Rattle.simp_base.proofs.Known.{on_alive}
 use Rattle.model_stack.proofs.Walk.{lifts_along}
 use Rattle.simp_base.proofs.Widening.{continues_grows, grows_along, work_wider, on_wider}
-use Rattle.simp_add.specs.Common.{mentions, commons}
-use Rattle.simp_add.specs.Rule.{IsPartner, HasNoPartner, Exchanged, Replaced, Passed, Turn, Ran, IsOver, nth_literal}
+use Rattle.simp_add.specs.Common.{mentions}
+use Rattle.simp_add.specs.Rule.{IsPartner, HasNoPartner, IsOver, nth_literal}
 use Rattle.simp_add.specs.Shared.{AreShared}
-use Rattle.simp_add.specs.Stages.{GoesOn, Stops, IsReplaceable, Done, Stepped, HasNoVariable, Passing}
+use Rattle.simp_add.specs.Stages.{Stops, IsReplaceable, Done, Stepped, HasNoVariable, Passing}
 use Rattle.simp_add.specs.Ends.{Shortened}
 use Rattle.simp_add.proofs.Finding.{refuted}
 use Rattle.simp_add.proofs.Growing.{goes_self, goes_along, continues_self, stopped_after}

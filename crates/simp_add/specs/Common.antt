@@ -1,5 +1,5 @@
 -- Sets of literals that are common to two literals: with either of them they are clauses.
-use Rattle.std.specs.Prelude.{ℕ, ◌+◌, ◌==◌, Bool, true, false, not, ◌&&◌, ◌||◌, nat_lt, List, [], ◌∷◌, Option, Some, None, if◌then◌else◌}
+use Rattle.std.specs.Prelude.{ℕ, ◌+◌, ◌==◌, Bool, not, ◌&&◌, ◌||◌, nat_lt, List, [], ◌∷◌, Option, Some, None, if◌then◌else◌}
 use Rattle.std.specs.List.{list_any, filter, filter_map, range_with_len}
 use Rattle.sat_words.specs.Literal.{Literal, opposite, same}
 use Rattle.sat_words.specs.Clause.{has, same_set, is_empty}

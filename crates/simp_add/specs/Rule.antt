@@ -1,6 +1,6 @@
 -- The rule of bounded variable addition (N. Manthey, M. J. H. Heule and A. Biere, "Automated Reencoding of Boolean Formulas",
 -- HVC 2012): two literals with three common sets or more get a variable that stands for both.
-use Rattle.std.specs.Prelude.{◌≡◌, ◌⊎◌, ◌↔◌, ⊤, ℕ, zero, suc, ◌+◌, ◌*◌, ◌^◌, ◌<◌, ◌≤◌, Bool, true, false, not, ◌&&◌, ◌||◌, List, [], ◌∷◌, ◌++◌, map, length, Contains}
+use Rattle.std.specs.Prelude.{◌≡◌, ◌⊎◌, ◌↔◌, ⊤, ℕ, zero, suc, ◌+◌, ◌^◌, ◌<◌, ◌≤◌, Bool, true, false, ◌&&◌, ◌||◌, List, [], ◌∷◌, ◌++◌, map, length, Contains}
 use Rattle.sat_words.specs.Literal.{Literal, opposite, literal_of, code_of}
 use Rattle.sat_words.specs.Clause.{has}
 use Rattle.rup_model.specs.declared.journal.Entry.{Entry}

@@ -1,8 +1,7 @@
 -- What the additions and the deletions of one replacement do, and what a literal's turn does.
-use Rattle.std.specs.Prelude.{◌≡◌, ◌↔◌, ⊤, ℕ, ◌+◌, ◌<◌, ◌≤◌, ◌^◌, true, false, List, [], ◌∷◌, ◌++◌, ◌⊎◌, map, length, Contains, Option, Some, Result, Ok, Err}
-use Rattle.std.specs.List.{list_all}
+use Rattle.std.specs.Prelude.{◌≡◌, ◌↔◌, ⊤, ℕ, ◌+◌, ◌≤◌, ◌^◌, true, false, List, [], ◌∷◌, ◌++◌, map, length, Contains, Result, Ok, Err}
 use Rattle.std.specs.Option.{option_map, unwrap_or}
-use Rattle.sat_words.specs.Literal.{Literal, IsOn, opposite, code_of, same}
+use Rattle.sat_words.specs.Literal.{Literal, IsOn, same}
 use Rattle.sat_words.specs.Clause.{has, two_or_more}
 use Rattle.rup_model.specs.declared.journal.Entry.{Entry}
 use Rattle.drat_text.specs.declared.stop.LineStop.{LineStop}
@@ -10,10 +9,10 @@ use Rattle.simp_base.specs.WorkState.{WorkState, IsWork, lists, numbered}
 use Rattle.simp_base.specs.Causes.{HasCause}
 use Rattle.simp_base.specs.Lifted.{Lifted}
 use Rattle.simp_base.specs.Log.{Continues, Grows, GrowsLog}
-use Rattle.simp_base.specs.Calls.{ruler_deletes, next_literal}
+use Rattle.simp_base.specs.Calls.{ruler_deletes}
 use Rattle.simp_add.specs.Common.{clause_at, others, mentions, is_alive}
 use Rattle.simp_add.specs.Shared.{AreShared}
-use Rattle.simp_add.specs.Rule.{additions, adds, is_replaced, Distinct, Exchanged, IsPartner, Turn, Ran, IsOver, nth_literal}
+use Rattle.simp_add.specs.Rule.{adds, Distinct, Exchanged, IsPartner, Turn, Ran}
 use Rattle.simp_add.specs.declared.passes.Ending.{Ending}
 use Rattle.simp_add.specs.declared.passes.Ending.TheVariants.{Over, NoVariable}
 

@@ -69,7 +69,8 @@ fn put_alike<L: LineOut>(
 ) -> Result<(), LineStop>
     requires ordered { InOrder rest.now }
     requires work { IsWork work.now }
-    ensures listed { OnOk result ((numbers : List ℕ) → Listed work.now rest.now numbers found.old.items → Listed work.now rest.now (numbers ++ number ∷ []) found.new.items) }
+    ensures listed { OnOk result ((numbers : List ℕ) → Listed work.now rest.now numbers found.old.items
+        → Listed work.now rest.now (numbers ++ number ∷ []) found.new.items) }
     ensures memory { IfErr result (λ stop. stop ≡ LineStop.Memory) }
 {
     match alike_at(work, rest, number) {

@@ -27,7 +27,8 @@ fn ascending(alloc: Global, numbers: &[u64]) -> Result<Vec<u64>, AllocError>
 pub(crate) fn numbers_of<L: LineOut>(work: &Work<L>, lit: Lit) -> Result<Vec<u64>, LineStop>
     requires on { IsOn work.now.vars lit }
     ensures rising { IfOk result (λ ns. IsStrictlyIncreasing ns.items) }
-    ensures every { IfOk result (λ ns. (n : ℕ) (c : List Literal) → Contains work.now.clauses (n, c) → has c lit ≡ true → Contains ns.items n) }
+    ensures every { IfOk result (λ ns. (n : ℕ) (c : List Literal) → Contains work.now.clauses (n, c) → has c lit ≡ true
+        → Contains ns.items n) }
     ensures memory { IfErr result (λ stop. stop ≡ LineStop.Memory) }
 {
     match ascending(work.alloc(), work.occurrences(lit)) {

@@ -18,7 +18,8 @@ fn common_length(fewer: &[Lit], more: &[Lit]) -> usize
     requires { length fewer.now < length more.now }
     ensures within { result ≤ length fewer.now }
     ensures rest { one_more (drop result fewer.now) (drop result more.now) ≡ one_more fewer.now more.now }
-    ensures differs { (d : Literal) → result < length fewer.now → same (slice_index_or fewer.now result d) (slice_index_or more.now result d) ≡ false }
+    ensures differs { (d : Literal) → result < length fewer.now
+        → same (slice_index_or fewer.now result d) (slice_index_or more.now result d) ≡ false }
 {
     for i in 0..fewer.len() {
         if fewer[i] != more[i] {

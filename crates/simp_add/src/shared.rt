@@ -97,7 +97,8 @@ fn share_one<L: LineOut>(
 ) -> Result<(), LineStop>
     requires work { IsWork work.now }
     requires after { code_of lit < code_of partner }
-    ensures shares { OnOk result (SharesOne work.now lit partner number shared.old.firsts.items shared.old.gone.items shared.new.firsts.items shared.new.gone.items) }
+    ensures shares { OnOk result (SharesOne work.now lit partner number shared.old.firsts.items shared.old.gone.items
+        shared.new.firsts.items shared.new.gone.items) }
     ensures memory { IfErr result (λ stop. stop ≡ LineStop.Memory) }
 {
     if !load(work, lit, number, rest)? {

@@ -100,7 +100,8 @@ impl Tally {
         requires after { code_of first < code_of lit }
         requires room { (count_of self.old.counts.items lit).stamp ≢ stamp → (count_of self.old.counts.items lit).sets + 1 < 2 ^ 64 }
         requires touched { AreTouched first self.old.counts.items self.old.touched.items }
-        ensures counts { OnOk result (self.new.counts.items ≡ slice_set self.old.counts.items (code_of lit) (raised (count_of self.old.counts.items lit) stamp)) }
+        ensures counts { OnOk result (self.new.counts.items ≡ slice_set self.old.counts.items (code_of lit)
+            (raised (count_of self.old.counts.items lit) stamp)) }
         ensures touched { OnOk result (AreTouched first self.new.counts.items self.new.touched.items) }
     {
         let count = self.count(lit);

@@ -12,6 +12,8 @@ pub use simplifiers::{Simplifier, run};
 pub use works::{counted_lines, counted_work, text_lines, text_work};
 
 #[cfg(test)]
+mod addition;
+#[cfg(test)]
 mod base;
 #[cfg(test)]
 mod elimination;

@@ -1,4 +1,4 @@
-use Rattle.std.proofs.Common.{◌≡◌, [], List, ℕ, take, get_or, sym, subst}
+use Rattle.std.proofs.Common.{[], List, ℕ, take, sym, subst}
 use Rattle.std.proofs.lemmas.List.{take_more}
 use Rattle.sat_words.specs.Literal.{IsOn}
 use Rattle.rup_model.proofs.Lists.{has_In}

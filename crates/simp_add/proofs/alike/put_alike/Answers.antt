@@ -1,7 +1,6 @@
-use Rattle.std.proofs.Common.{◌≡◌, ◌++◌, ◌∷◌, [], List, ℕ, sym, subst, Some, None, Option}
-use Rattle.sat_words.specs.Literal.{Literal}
+use Rattle.std.proofs.Common.{◌++◌, ◌∷◌, [], List, sym, subst}
 use Rattle.simp_add.specs.declared.alike.Alike.{Alike}
-use Rattle.simp_add.specs.Alike.{IsAlike, Listed}
+use Rattle.simp_add.specs.Alike.{Listed}
 use Rattle.simp_add.proofs.Listing.{listed_not, listed_one}
 use Rattle.simp_add.proofs.alike.put_alike.Goals as goal
 

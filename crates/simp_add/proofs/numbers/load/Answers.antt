@@ -1,4 +1,4 @@
-use Rattle.std.proofs.Common.{◌≡◌, ◌∙◌, ◌++◌, ◌&&◌, not, true, false, List, sym, ap}
+use Rattle.std.proofs.Common.{◌∙◌, ◌++◌, ◌&&◌, not, List, sym, ap}
 use Rattle.sat_words.specs.Literal.{Literal}
 use Rattle.sat_words.specs.Clause.{has, is_empty}
 use Rattle.simp_add.specs.Common.{others, mentions}

@@ -1,6 +1,6 @@
-use Rattle.std.proofs.Common.{◌≡◌, ◌∙◌, ℕ, ◌+◌, suc, false, List, length, drop, get_or, cond, Option, Some, None, sym, ap, arith, add-one}
+use Rattle.std.proofs.Common.{◌≡◌, ◌∙◌, ℕ, ◌+◌, suc, false, length, drop, get_or, cond, Some, None, sym, ap, arith, add-one}
 use Rattle.sat_words.specs.Literal.{Literal}
-use Rattle.simp_add.specs.Alike.{one_more, same_list}
+use Rattle.simp_add.specs.Alike.{same_list}
 use Rattle.simp_add.proofs.OneMore.{other_length, differs_at, rest_of}
 use Rattle.simp_add.proofs.one_more.one_more.Goals as goal
 

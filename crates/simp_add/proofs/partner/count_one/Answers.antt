@@ -1,6 +1,6 @@
-use Rattle.std.proofs.Common.{◌≡◌, ◌∙◌, ◌+◌, ◌<◌, ℕ, Bool, true, false, cond, List, length, Option, Some, None, sym, ap, subst, arith, Contains}
+use Rattle.std.proofs.Common.{◌≡◌, ◌∙◌, ◌+◌, Bool, true, false, List, sym, ap, subst, arith, Contains}
 use Rattle.std.specs.List.{All}
-use Rattle.sat_words.specs.Literal.{Literal, IsOn, code_of}
+use Rattle.sat_words.specs.Literal.{Literal, IsOn}
 use Rattle.sat_words.specs.Clause.{InOrder}
 use Rattle.simp_add.specs.declared.alike.Alike.{Alike}
 use Rattle.simp_add.specs.Alike.{AreAlike, IsLoaded, is_later}

@@ -1,4 +1,3 @@
-use Rattle.std.specs.Prelude.{MatchOption}
 use Rattle.simp_add.proofs.Choosing.{is_partner}
 use Rattle.simp_add.proofs.partner.partner_of.Goals as goal
 

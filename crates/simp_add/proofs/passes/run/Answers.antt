@@ -1,4 +1,4 @@
-use Rattle.std.proofs.Common.{◌≡◌, ◌∙◌, ◌+◌, ◌-◌, ◌*◌, ◌<◌, ◌≤◌, ◌^◌, ℕ, refl, sym, ap, subst, arith, inl, inr}
+use Rattle.std.proofs.Common.{◌∙◌, ◌+◌, ◌-◌, ◌*◌, ℕ, refl, ap, subst, arith, inr}
 use Rattle.std.specs.Prelude.{Ok}
 use Rattle.simp_add.specs.Stages.{WasStepped}
 use Rattle.simp_add.proofs.Stepping.{passing_none, passing_at, stopped_passing, shortened, over_at, without_variable}

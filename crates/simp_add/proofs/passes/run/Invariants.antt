@@ -1,4 +1,4 @@
-use Rattle.std.proofs.Common.{◌≡◌, ◌≤◌, ◌+◌, ◌-◌, ◌*◌, length}
+use Rattle.std.proofs.Common.{◌≡◌, ◌+◌, ◌-◌, ◌*◌, length}
 use Rattle.simp_add.specs.Counted.{IsClear}
 use Rattle.simp_add.specs.Stages.{Passing}
 use Rattle.simp_add.proofs.passes.run.Given as goal

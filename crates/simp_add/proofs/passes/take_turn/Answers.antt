@@ -1,6 +1,6 @@
-use Rattle.std.proofs.Common.{◌≡◌, ℕ, List, Option, Some, None, sym, subst, Contains, MatchOption}
+use Rattle.std.proofs.Common.{ℕ, List, sym, subst, Contains, MatchOption}
 use Rattle.std.specs.Prelude.{Ok}
-use Rattle.simp_base.specs.Calls.{Widened, WasWidened}
+use Rattle.simp_base.specs.Calls.{WasWidened}
 use Rattle.simp_add.specs.Rule.{IsPartner, HasNoPartner}
 use Rattle.simp_add.proofs.Stepping.{stepped_none, stepped_done, replaceable}
 use Rattle.simp_add.proofs.passes.take_turn.Goals as goal

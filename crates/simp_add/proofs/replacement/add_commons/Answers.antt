@@ -1,4 +1,4 @@
-use Rattle.std.proofs.Common.{◌≡◌, ℕ, List, ◌∷◌, [], get_or, map, take, subst}
+use Rattle.std.proofs.Common.{ℕ, List, ◌∷◌, [], get_or, map, take, subst}
 use Rattle.std.proofs.lemmas.List.Elements.{Contains-get_or}
 use Rattle.sat_words.specs.Literal.{opposite}
 use Rattle.simp_add.specs.Stages.{Grown, WasGrown, set_at}

@@ -1,4 +1,4 @@
-use Rattle.std.proofs.Common.{◌≡◌, ℕ, [], ◌∷◌, get_or, map, subst, Contains}
+use Rattle.std.proofs.Common.{ℕ, [], ◌∷◌, get_or, map, subst, Contains}
 use Rattle.std.proofs.lemmas.List.Elements.{Contains-get_or}
 use Rattle.simp_base.specs.Calls.{ruler_deletes}
 use Rattle.simp_base.proofs.Widening.{continues_grows}

@@ -1,7 +1,7 @@
-use Rattle.std.proofs.Common.{◌≡◌, ◌∷◌, [], ℕ, List, map, sym, subst, Contains}
+use Rattle.std.proofs.Common.{◌∷◌, [], ℕ, List, map, sym, subst, Contains}
 use Rattle.std.specs.List.{All}
 use Rattle.sat_words.specs.Literal.{IsOn, opposite}
-use Rattle.simp_add.specs.Stages.{Grown, Removed, WasRemoved, set_at}
+use Rattle.simp_add.specs.Stages.{Grown, WasRemoved, set_at}
 use Rattle.simp_add.proofs.Growing.{stopped_after, grown_log, grown_along}
 use Rattle.simp_add.proofs.Exchanging.{first_rat, second_rat, second_on, pair_on, sets_come, all_grown, gone_long, exchanged_after}
 use Rattle.simp_add.proofs.replacement.replace.Goals as goal

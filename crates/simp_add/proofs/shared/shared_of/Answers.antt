@@ -1,4 +1,4 @@
-use Rattle.std.proofs.Common.{◌≡◌, ◌++◌, ◌∷◌, [], List, ℕ, get_or, take, subst, sym}
+use Rattle.std.proofs.Common.{[], List, ℕ, take, subst, sym}
 use Rattle.std.proofs.lemmas.List.{take_more}
 use Rattle.simp_add.specs.Shared.{Sharing}
 use Rattle.simp_add.proofs.OneMore.{take_whole}

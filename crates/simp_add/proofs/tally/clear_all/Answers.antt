@@ -1,8 +1,6 @@
-use Rattle.std.proofs.Common.{◌≡◌, ◌∙◌, ◌<◌, ℕ, List, length, get_or, set, take, sym, ap, subst, arith, Contains}
+use Rattle.std.proofs.Common.{◌≡◌, ◌∙◌, ◌<◌, ℕ, List, length, set, sym, subst, arith, Contains}
 use Rattle.std.proofs.lemmas.List.{length-set}
-use Rattle.std.proofs.lemmas.List.Elements.{Contains-get_or}
 use Rattle.sat_words.specs.Literal.{Literal, code_of}
-use Rattle.simp_add.specs.declared.tally.Count.{Count}
 use Rattle.simp_add.specs.Counted.{count_of, nothing}
 use Rattle.simp_add.proofs.OneMore.{take_whole}
 use Rattle.simp_add.proofs.Choosing.{back_next, set_back}

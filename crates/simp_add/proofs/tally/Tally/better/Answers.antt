@@ -1,6 +1,6 @@
-use Rattle.std.proofs.Common.{◌≡◌, ◌∙◌, ◌<◌, ◌≤◌, Option, Some, None, sym, ap, subst, arith, ⊎_elim}
+use Rattle.std.proofs.Common.{◌≡◌, ◌<◌, ◌≤◌, Option, Some, sym, subst, arith, ⊎_elim}
 use Rattle.sat_words.specs.Literal.{Literal, code_of}
-use Rattle.simp_add.specs.Counted.{IsBetter, count_of}
+use Rattle.simp_add.specs.Counted.{IsBetter}
 use Rattle.simp_add.proofs.Choosing.{first_one, more_wins, less_wins, old_stays}
 use Rattle.simp_add.proofs.tally.Tally.better.Goals as goal
 

@@ -1,7 +1,7 @@
-use Rattle.std.proofs.Common.{◌≡◌, ◌∙◌, ℕ, List, set, get_or, sym, ap, subst}
+use Rattle.std.proofs.Common.{◌≡◌, ◌∙◌, ℕ, set, sym, ap, subst}
 use Rattle.sat_words.specs.Literal.{code_of}
 use Rattle.simp_add.specs.declared.tally.Count.{Count}
-use Rattle.simp_add.specs.Counted.{AreTouched, raised, count_of, nothing}
+use Rattle.simp_add.specs.Counted.{AreTouched, raised, count_of}
 use Rattle.simp_add.proofs.Counting.{touched_raised}
 use Rattle.simp_add.proofs.tally.Tally.raise.Goals as goal
 

@@ -109,7 +109,7 @@ fn finds_a_failed_literal(rt: HostRuntime) -> Result<(), Fail> {
     let problem = with_chosen(alloc, Problem::new(alloc, 182), 60, 830)?;
     let problem = problem.with(alloc, &[failed.not(), last])?;
     let problem = problem.with(alloc, &[failed.not(), last.not()])?;
-    let (end, _counts, sink) = run_in(alloc, problem, 3000, ROOM)?;
+    let (end, _counts, sink) = run_in(alloc, problem, 3500, ROOM)?;
     assert!(rt; kind_of(&end) == Kind::Spent);
     assert!(rt; has_line(sink.bytes(), b"-181 0"));
     Ok(())

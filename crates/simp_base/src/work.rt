@@ -6,10 +6,12 @@ ghost use Rattle.std.specs.Prelude.{◌≡◌, ◌<◌, ◌≤◌, ◌+◌, ◌^
 ghost use Rattle.sat_words.specs.Literal.{Literal, IsOn};
 ghost use Rattle.sat_words.specs.Clause.{has, has_opposites, two_or_more};
 ghost use Rattle.sat_words.specs.declared.line.Line.TheVariants.{Del as DelLine};
-ghost use Rattle.rup_model.specs.Rup.{rup, rat};
-ghost use Rattle.simp_base.specs.WorkState.{IsWork, known, lists, begun, is_unit, has_unit};
-ghost use Rattle.simp_base.specs.Log.{Stands, Continues, Grows};
-ghost use Rattle.simp_base.specs.Calls.{ruler_adds, ruler_deletes, on_ok, WasAdded, WasAddedLine, WasDeleted, WasListed, WasWidened, unit_entries};
+ghost use Rattle.rup_model.specs.Rup.{rup};
+ghost use Rattle.simp_base.specs.WorkState.{IsWork, known, begun, is_unit, has_unit};
+ghost use Rattle.simp_base.specs.Log.{Stands, Continues};
+ghost use Rattle.simp_base.specs.Calls.{ruler_adds, ruler_deletes, on_ok, WasAdded, WasAddedLine, WasDeleted, WasListed, unit_entries};
+
+mod extension;
 
 use crate::beginning::table_of;
 use crate::clause_table::ClauseTable;
@@ -19,9 +21,6 @@ use model_stack::Stack;
 use sat_words::{Clause, Formula, Line, Lit, Lits};
 use std::alloc::{AllocFailed, Global};
 use std::marker::Model;
-
-/// The last variable that a literal can have.
-const LAST_VAR: u32 = 1 << 30;
 
 /// How a simplifier ended.
 #[derive(Clone, Copy, PartialEq, Eq, Debug)]
@@ -231,58 +230,6 @@ impl<L: LineOut> Work<L> {
         // The check knows the work's invariant once a field is used.
         let _ = &self.alloc;
         self.put_clause(lits)
-    }
-
-    /// Adds a clause that is a resolution asymmetric tautology (RAT; Järvisalo, Heule and Biere 2012) on its first literal
-    /// over the clauses alive: its resolvents with all of them on that literal follow by unit propagation. Answers its
-    /// number. The line has the literals in the order given, so that a reader of the log takes the same first one.
-    ///
-    /// Models of the clauses before need not be models of the one that is added.
-    pub fn add_rat(&mut self, lits: &[Lit]) -> Result<u64, LineStop>
-        requires unspent { self.old.output.spent ≡ false }
-        requires going { self.old.ended ≡ false }
-        requires rat { rat (lists self.old.clauses) lits.now ≡ true }
-        requires on { All (IsOn self.old.vars) lits.now }
-        ensures added { WasAdded self.old self.new lits.now result }
-        ensures log { Continues (on_ok result (ruler_adds (self.old.output.last + 1) lits.now ∷ [])) self.old self.new }
-        ensures work { IsWork self.new }
-    {
-        // The check knows the work's invariant once a field is used.
-        let _ = &self.alloc;
-        self.put_clause(lits)
-    }
-
-    /// A variable that stands nowhere: its positive literal. It is the one after all variables of the formula and of the log,
-    /// and from now on one of the work's. None if that would pass 2^30, the last variable that a literal can have. It writes
-    /// no line. Memory is the one refusal.
-    pub fn fresh(&mut self) -> Result<Option<Lit>, LineStop>
-        ensures widened { WasWidened self.old self.new result }
-        ensures log { Grows [] self.old self.new }
-        ensures work { IsWork self.new }
-    {
-        // The check knows the work's invariant once a field is used.
-        let _ = &self.alloc;
-        self.widen()
-    }
-
-    /// Has one variable more, if a literal can have it, and answers its positive literal.
-    fn widen(&mut self) -> Result<Option<Lit>, LineStop>
-        ensures { WasWidened self.old self.new result }
-    {
-        if self.vars >= LAST_VAR {
-            return Ok(None);
-        }
-        let literal = Lit::new(self.vars + 1, false);
-        // Room is taken first, so that a refusal leaves all tables as wide as they were.
-        if self.units.make_code_room().is_err() {
-            return Err(LineStop::Memory);
-        }
-        if self.clauses.widen().is_err() {
-            return Err(LineStop::Memory);
-        }
-        self.units.widen();
-        self.vars += 1;
-        Ok(Some(literal))
     }
 
     /// Puts the line that adds the clause, and keeps the clause under its number.

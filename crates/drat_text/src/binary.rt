@@ -8,7 +8,7 @@ ghost use Rattle.drat_text.specs.Gathered.{Gathers, Breaks};
 ghost use Rattle.drat_text.specs.declared.blocks.TheConstants.{BLOCK};
 
 use crate::blocks::Blocks;
-use crate::groups::Groups;
+use crate::groups::{Groups, MOST};
 use crate::piece::Piece;
 use io_edge::{Failed, Sink, WriteStop};
 use sat_words::{Line, Lit};
@@ -48,14 +48,36 @@ impl<S: Sink> Blocks<S> {
         requires room { length self.old.waiting < BLOCK }
         ensures { MatchResult result (λ _. Gathers S.written S.flushed S.target S.faults self.old self.new (lits_bytes lits.now ++ 0 ∷ [])) (λ _. Breaks S.written S.flushed S.target S.faults self.old self.new (lits_bytes lits.now ++ 0 ∷ [])) }
     {
+        match self.put_groups(lits) {
+            Ok(()) => self.append(&[0]),
+            Err(Failed) => Err(Failed),
+        }
+    }
+
+    /// Puts the groups of the literals' codes: in one go if they have room at their most.
+    fn put_groups(&mut self, lits: &[Lit]) -> Result<(), Failed>
+        requires room { length self.old.waiting < BLOCK }
+        ensures { MatchResult result (λ _. Gathers S.written S.flushed S.target S.faults self.old self.new (lits_bytes lits.now)) (λ _. Breaks S.written S.flushed S.target S.faults self.old self.new (lits_bytes lits.now)) }
+    {
+        if lits.len() < self.room() / MOST {
+            self.push_codes(lits);
+            return Ok(());
+        }
+        self.append_codes(lits)
+    }
+
+    /// Puts the groups of the literals' codes, one literal after the other. One of them may fill a block.
+    fn append_codes(&mut self, lits: &[Lit]) -> Result<(), Failed>
+        requires room { length self.old.waiting < BLOCK }
+        ensures { MatchResult result (λ _. Gathers S.written S.flushed S.target S.faults self.old self.new (lits_bytes lits.now)) (λ _. Breaks S.written S.flushed S.target S.faults self.old self.new (lits_bytes lits.now)) }
+    {
         for lit in lits {
-            let groups = Groups::of(lit.code());
-            match self.append_front(groups.window(), groups.len()) {
+            match self.append(Groups::of(lit.code()).as_slice()) {
                 Ok(()) => {}
                 Err(Failed) => return Err(Failed),
             }
         }
-        self.append(&[0])
+        Ok(())
     }
 }
 

@@ -34,10 +34,15 @@ impl<S: Sink> Blocks<S> {
         }
     }
 
+    /// Puts the whole line, in one go if it has room at its longest.
     fn put_marked(&mut self, mark: u8, lits: &[Lit]) -> Result<(), Failed>
         requires room { length self.old.waiting < BLOCK }
         ensures { MatchResult result (λ _. Gathers S.written S.flushed S.target S.faults self.old self.new (marked_bytes mark lits.now)) (λ _. Breaks S.written S.flushed S.target S.faults self.old self.new (marked_bytes mark lits.now)) }
     {
+        if lits.len() < self.room() / MOST {
+            self.push_marked(mark, lits);
+            return Ok(());
+        }
         match self.append(&[mark]) {
             Ok(()) => self.put_codes(lits),
             Err(Failed) => Err(Failed),
@@ -48,22 +53,10 @@ impl<S: Sink> Blocks<S> {
         requires room { length self.old.waiting < BLOCK }
         ensures { MatchResult result (λ _. Gathers S.written S.flushed S.target S.faults self.old self.new (lits_bytes lits.now ++ 0 ∷ [])) (λ _. Breaks S.written S.flushed S.target S.faults self.old self.new (lits_bytes lits.now ++ 0 ∷ [])) }
     {
-        match self.put_groups(lits) {
+        match self.append_codes(lits) {
             Ok(()) => self.append(&[0]),
             Err(Failed) => Err(Failed),
         }
-    }
-
-    /// Puts the groups of the literals' codes: in one go if they have room at their most.
-    fn put_groups(&mut self, lits: &[Lit]) -> Result<(), Failed>
-        requires room { length self.old.waiting < BLOCK }
-        ensures { MatchResult result (λ _. Gathers S.written S.flushed S.target S.faults self.old self.new (lits_bytes lits.now)) (λ _. Breaks S.written S.flushed S.target S.faults self.old self.new (lits_bytes lits.now)) }
-    {
-        if lits.len() < self.room() / MOST {
-            self.push_codes(lits);
-            return Ok(());
-        }
-        self.append_codes(lits)
     }
 
     /// Puts the groups of the literals' codes, one literal after the other. One of them may fill a block.

@@ -1,15 +1,15 @@
 // Bytes that gather before a sink, and are written in blocks.
-ghost use Rattle.std.specs.Prelude.{◌≡◌, ◌+◌, ◌*◌, ◌≤◌, ◌<◌, ◌++◌, [], true, None, length, IfOk, IfErr, OnOk, OnErr, MatchResult};
+ghost use Rattle.std.specs.Prelude.{◌≡◌, ◌+◌, ◌*◌, ◌≤◌, ◌<◌, ◌++◌, [], true, None, codes, length, IfOk, IfErr, OnOk, OnErr, MatchResult};
 ghost use Rattle.io_edge.specs.Bytes.{IsFront};
 ghost use Rattle.io_edge.specs.Causes.{HasCause};
-ghost use Rattle.drat_text.specs.Binary.{lits_bytes};
+ghost use Rattle.drat_text.specs.Binary.{marked_bytes};
 ghost use Rattle.drat_text.specs.Gathered.{bytes_in, Gathers, Breaks};
 ghost use Rattle.drat_text.specs.Text.{lits_text};
 ghost use Rattle.drat_text.specs.declared.groups.TheConstants.{MOST};
 ghost use Rattle.drat_text.specs.declared.literals.TheConstants.{LONGEST};
 
-use crate::groups::write_codes;
-use crate::literals::write_lits;
+use crate::groups::write_marked;
+use crate::literals::write_rest;
 use io_edge::{Failed, Sink, write_all_of};
 use sat_words::Lit;
 use std::alloc::{AllocFailed, Global};
@@ -86,22 +86,22 @@ impl<S: Sink> Blocks<S> {
         BLOCK - self.len
     }
 
-    /// Puts the literals' texts, each with a space after it. No byte of them is copied.
+    /// Puts the literals' texts, each with a space after it, and the end of a line. They are written where they are to stand.
     pub(crate) fn push_lits(&mut self, lits: &[Lit])
-        requires room { length self.old.waiting + LONGEST * length lits.now < BLOCK }
-        ensures put { self.new ≡ record { waiting = self.old.waiting ++ lits_text lits.now; sink = self.old.sink } }
+        requires room { length self.old.waiting + LONGEST * length lits.now + 2 < BLOCK }
+        ensures put { self.new ≡ record { waiting = self.old.waiting ++ (lits_text lits.now ++ codes "0\n"); sink = self.old.sink } }
         ensures few { length self.new.waiting < BLOCK }
     {
-        self.len = write_lits(self.bytes.as_mut_slice(), self.len, lits);
+        self.len = write_rest(self.bytes.as_mut_slice(), self.len, lits);
     }
 
-    /// Puts the groups of the literals' codes. No byte of them is copied.
-    pub(crate) fn push_codes(&mut self, lits: &[Lit])
-        requires room { length self.old.waiting + MOST * length lits.now < BLOCK }
-        ensures put { self.new ≡ record { waiting = self.old.waiting ++ lits_bytes lits.now; sink = self.old.sink } }
+    /// Puts a byte, the groups of the literals' codes, and a zero. They are written where they are to stand.
+    pub(crate) fn push_marked(&mut self, mark: u8, lits: &[Lit])
+        requires room { length self.old.waiting + MOST * length lits.now + 2 < BLOCK }
+        ensures put { self.new ≡ record { waiting = self.old.waiting ++ marked_bytes mark lits.now; sink = self.old.sink } }
         ensures few { length self.new.waiting < BLOCK }
     {
-        self.len = write_codes(self.bytes.as_mut_slice(), self.len, lits);
+        self.len = write_marked(self.bytes.as_mut_slice(), self.len, mark, lits);
     }
 
     /// Writes what waits. In either case nothing waits then.

@@ -1,6 +1,6 @@
 // Numbers in groups of seven bits.
 ghost use Rattle.std.specs.Prelude.{◌≡◌, ◌≤◌, ◌+◌, ◌*◌, ◌++◌, length, take};
-ghost use Rattle.drat_text.specs.Binary.{groups, lits_bytes};
+ghost use Rattle.drat_text.specs.Binary.{groups, lits_bytes, marked_bytes};
 ghost use Rattle.drat_text.specs.declared.groups.TheConstants.{MOST};
 
 use sat_words::Lit;
@@ -27,8 +27,9 @@ fn write_groups(bytes: &mut [u8], at: usize, number: u32) -> usize
     at + size + 1
 }
 
-/// Writes the groups of the literals' codes from a place on, and answers where they end. What stands before is as it was.
-pub(crate) fn write_codes(bytes: &mut [u8], start: usize, lits: &[Lit]) -> usize
+/// Writes the groups of the literals' codes.
+#[inline(always)]
+fn write_codes(bytes: &mut [u8], start: usize, lits: &[Lit]) -> usize
     requires room { start + MOST * length lits.now ≤ length bytes.old }
     ensures written { take result bytes.new ≡ take start bytes.old ++ lits_bytes lits.now }
     ensures end { result ≤ start + MOST * length lits.now }
@@ -38,6 +39,19 @@ pub(crate) fn write_codes(bytes: &mut [u8], start: usize, lits: &[Lit]) -> usize
         at = write_groups(bytes, at, lit.code());
     }
     at
+}
+
+/// Writes a byte from a place on, the groups of the literals' codes, and a zero. Answers where they end. What stands before is
+/// as it was.
+pub(crate) fn write_marked(bytes: &mut [u8], start: usize, mark: u8, lits: &[Lit]) -> usize
+    requires room { start + MOST * length lits.now + 2 ≤ length bytes.old }
+    ensures written { take result bytes.new ≡ take start bytes.old ++ marked_bytes mark lits.now }
+    ensures end { result ≤ start + MOST * length lits.now + 2 }
+{
+    bytes[start] = mark;
+    let at = write_codes(bytes, start + 1, lits);
+    bytes[at] = 0;
+    at + 1
 }
 
 /// A number in groups of seven bits, as binary DRAT has them.

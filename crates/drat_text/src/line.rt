@@ -51,26 +51,19 @@ impl<S: Sink> Blocks<S> {
         }
     }
 
+    /// Puts the literals' texts and the end of the line: in one go if all of them have room at their longest.
     fn put_lits(&mut self, lits: &[Lit]) -> Result<(), Failed>
         requires room { length self.old.waiting < BLOCK }
         ensures { MatchResult result (λ _. Gathers S.written S.flushed S.target S.faults self.old self.new (lits_text lits.now ++ codes "0\n")) (λ _. Breaks S.written S.flushed S.target S.faults self.old self.new (lits_text lits.now ++ codes "0\n")) }
-    {
-        match self.put_words(lits) {
-            Ok(()) => self.append(b"0\n"),
-            Err(Failed) => Err(Failed),
-        }
-    }
-
-    /// Puts the literals' texts, each with a space after it: in one go if they have room at their longest.
-    fn put_words(&mut self, lits: &[Lit]) -> Result<(), Failed>
-        requires room { length self.old.waiting < BLOCK }
-        ensures { MatchResult result (λ _. Gathers S.written S.flushed S.target S.faults self.old self.new (lits_text lits.now)) (λ _. Breaks S.written S.flushed S.target S.faults self.old self.new (lits_text lits.now)) }
     {
         if lits.len() < self.room() / LONGEST {
             self.push_lits(lits);
             return Ok(());
         }
-        self.append_lits(lits)
+        match self.append_lits(lits) {
+            Ok(()) => self.append(b"0\n"),
+            Err(Failed) => Err(Failed),
+        }
     }
 
     /// Puts the literals' texts one by one, each with a space after it. One of them may fill a block.

@@ -34,9 +34,10 @@ fn write_lit(bytes: &mut [u8], at: usize, lit: Lit) -> usize
     end + 1
 }
 
-/// Writes the literals' texts from a place on, each with a space after it, and answers where they end. What stands before
-/// is as it was. The place is a variable of the loop, so that no byte waits for a place that is read from memory.
-pub(crate) fn write_lits(bytes: &mut [u8], start: usize, lits: &[Lit]) -> usize
+/// Writes the literals' texts, each with a space after it. The place is a variable of the loop, so that no byte waits for a
+/// place that is read from memory.
+#[inline(always)]
+fn write_lits(bytes: &mut [u8], start: usize, lits: &[Lit]) -> usize
     requires room { start + LONGEST * length lits.now ≤ length bytes.old }
     ensures written { take result bytes.new ≡ take start bytes.old ++ lits_text lits.now }
     ensures end { result ≤ start + LONGEST * length lits.now }
@@ -46,4 +47,17 @@ pub(crate) fn write_lits(bytes: &mut [u8], start: usize, lits: &[Lit]) -> usize
         at = write_lit(bytes, at, *lit);
     }
     at
+}
+
+/// Writes the literals' texts from a place on, each with a space after it, and the end of a line. Answers where it ends. What
+/// stands before is as it was.
+pub(crate) fn write_rest(bytes: &mut [u8], start: usize, lits: &[Lit]) -> usize
+    requires room { start + LONGEST * length lits.now + 2 ≤ length bytes.old }
+    ensures written { take result bytes.new ≡ take start bytes.old ++ (lits_text lits.now ++ codes "0\n") }
+    ensures end { result ≤ start + LONGEST * length lits.now + 2 }
+{
+    let at = write_lits(bytes, start, lits);
+    bytes[at] = b'0';
+    bytes[at + 1] = b'\n';
+    at + 2
 }

@@ -6,5 +6,5 @@ use Rattle.drat_text.proofs.digits.write_four.Goals as goal
 pub returns-clause-written : goal.returns-clause-written
 returns-clause-written c =
     let n = c.args.number in
-    two_words (take c.args.at c.args.bytes.now) (take c.write_pair.result c.write_pair.new.bytes) (take c.write_pair-2.result c.write_pair-2.new.bytes)
-    (pair (n / 100)) (pair (n % 100)) (four n) c.write_pair.ensures.written c.write_pair-2.ensures.written refl
+    two_words (take c.args.at c.args.bytes.now) (take c.write_pair-middle.result c.write_pair-middle.new.bytes) (take c.write_pair.result c.write_pair.new.bytes)
+    (pair (n / 100)) (pair (n % 100)) (four n) c.write_pair-middle.ensures.written c.write_pair.ensures.written refl

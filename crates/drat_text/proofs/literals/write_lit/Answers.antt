@@ -9,9 +9,9 @@ pub returns-clause-written : goal.returns-clause-written
 returns-clause-written c =
     let front = take c.args.at c.args.bytes.now in
     let lit = c.args.lit in
-    let end = c.write_number.result in
-    let bytes = c.write_number.new.bytes in
+    let end = c.write_number-end.result in
+    let bytes = c.write_number-end.new.bytes in
     two_words front (take end bytes) (take (end + 1) (set bytes end 32)) (lit_text lit) (codes " ") (lit_text lit ++ codes " ")
-    (two_words front (take c.write_sign.result c.write_sign.new.bytes) (take end bytes) (cond lit.neg (codes "-") []) (decimal lit.var) (lit_text lit)
-    c.write_sign.ensures.written c.write_number.ensures.written (sign_and_digits lit))
+    (two_words front (take c.write_sign-first.result c.write_sign-first.new.bytes) (take end bytes) (cond lit.neg (codes "-") []) (decimal lit.var) (lit_text lit)
+    c.write_sign-first.ensures.written c.write_number-end.ensures.written (sign_and_digits lit))
     (take_more_set bytes end 32 (omega arith)) refl

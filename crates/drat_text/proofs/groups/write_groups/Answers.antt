@@ -1,4 +1,4 @@
-use Rattle.std.proofs.Common.{◌≡◌, ◌∙◌, ◌+◌, ◌-◌, ◌++◌, ◌%◌, ℕ, List, take, set, ap, refl, arith}
+use Rattle.std.proofs.Common.{◌≡◌, ◌∙◌, ◌+◌, ◌-◌, ◌++◌, ◌%◌, ℕ, List, take, set, ap, arith}
 use Rattle.std.specs.Prelude.{◌/◌}
 use Rattle.std.proofs.lemmas.List.{take_more_set}
 use Rattle.drat_text.specs.Binary.{groups}
@@ -6,7 +6,13 @@ use Rattle.drat_text.proofs.SevenBits.{fits_five, groups_next, groups_end}
 use Rattle.drat_text.proofs.groups.write_groups.Goals as goal
 
 pub loop-rest-init : goal.loop-rest-init
-loop-rest-init c = record { low = omega arith; fits = fits_five c.args.number (omega arith); whole = refl }
+loop-rest-init c =
+    let here : c.args.at + 0 ≡ c.args.at = omega arith in
+    record {
+      low = omega arith;
+      fits = fits_five c.args.number (omega arith);
+      whole = ap (λ (n : ℕ). take n c.args.bytes.now ++ groups 5 c.args.number) here;
+    }
 
 pub loop-rest-preserved : goal.loop-rest-preserved
 loop-rest-preserved c =

@@ -1,4 +1,4 @@
-use Rattle.std.proofs.Common.{◌++◌, ◌+◌, ◌∷◌, [], take, set, arith, refl}
+use Rattle.std.proofs.Common.{◌++◌, ◌+◌, ◌∷◌, [], take, set, length-set, arith, refl}
 use Rattle.std.proofs.lemmas.List.{take_more_set}
 use Rattle.drat_text.specs.Binary.{lits_bytes}
 use Rattle.drat_text.proofs.Words.{two_words}
@@ -15,4 +15,4 @@ returns-clause-written c =
     let codes = lits_bytes c.args.lits.now in
     two_words front (take at bytes) (take (at + 1) (set bytes at 0)) (mark ∷ codes) (0 ∷ []) (mark ∷ (codes ++ 0 ∷ []))
     (two_words front (take (start + 1) begun) (take at bytes) (mark ∷ []) codes (mark ∷ codes) (take_more_set c.args.bytes.now start mark (omega arith)) c.write_codes-at.ensures.written refl)
-    (take_more_set bytes at 0 (omega arith)) refl
+    (take_more_set bytes at 0 (omega (arith, length-set c.args.bytes.now start mark))) refl

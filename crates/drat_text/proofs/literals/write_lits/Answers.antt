@@ -11,8 +11,8 @@ loop-lit-preserved c =
     let lits = c.args.lits.now in
     let lit = c.lit-item.result in
     record {
-      written = two_words (take c.args.start c.args.bytes.now) (take l.at l.bytes) (take c.write_lit.result c.write_lit.new.bytes)
+      written = two_words (take c.args.start c.args.bytes.now) (take l.at l.bytes) (take c.write_lit-at.result c.write_lit-at.new.bytes)
       (lits_text (take l.lit-index lits)) (lit_text lit ++ codes " ") (lits_text (take (l.lit-index + 1) lits))
-      l.invariant.written c.write_lit.ensures.written (sym (words_more (λ x. lit_text x ++ codes " ") lits l.lit-index lit c.loop-lit-test.true c.lit-item.is));
-      end = omega (arith, l.invariant.end, c.write_lit.ensures.end);
+      l.invariant.written c.write_lit-at.ensures.written (sym (words_more (λ x. lit_text x ++ codes " ") lits l.lit-index lit c.loop-lit-test.true c.lit-item.is));
+      end = omega (arith, l.invariant.end, c.write_lit-at.ensures.end);
     }

@@ -12,7 +12,7 @@ loop-lit-preserved c =
     let lit = c.lit-item.result in
     record {
       written = two_words (take c.args.start c.args.bytes.now) (take l.at l.bytes) (take c.write_lit-at.result c.write_lit-at.new.bytes)
-      (lits_text (take l.lit-index lits)) (lit_text lit ++ codes " ") (lits_text (take (l.lit-index + 1) lits))
-      l.invariant.written c.write_lit-at.ensures.written (sym (words_more (λ x. lit_text x ++ codes " ") lits l.lit-index lit c.loop-lit-test.true c.lit-item.is));
+          (lits_text (take l.lit-index lits)) (lit_text lit ++ codes " ") (lits_text (take (l.lit-index + 1) lits))
+          l.invariant.written c.write_lit-at.ensures.written (sym (words_more (λ x. lit_text x ++ codes " ") lits l.lit-index lit c.loop-lit-test.true c.lit-item.is));
       end = omega (arith, l.invariant.end, c.write_lit-at.ensures.end);
     }

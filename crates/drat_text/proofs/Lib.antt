@@ -8,7 +8,7 @@ mod SevenBits
 mod BinaryUnique
 mod Spellings
 pub mod Fronts
-mod Pairs
+mod Triples
 mod Words
 mod Gathering
 mod Reading

@@ -1,10 +1,14 @@
--- Digits that are written two and four at a time.
-use Rattle.std.specs.Prelude.{ℕ, ◌+◌, ◌/◌, ◌%◌, List, [], ◌∷◌, ◌++◌}
+-- Digits that are written three at a time.
+use Rattle.std.specs.Prelude.{ℕ, ◌+◌, ◌/◌, ◌%◌, ◌==◌, List, [], ◌∷◌, if◌then◌else◌}
 
--- the two digits of a number below 100
-abbrev pub pair : ℕ → List ℕ
-pair number = (48 + number / 10) ∷ (48 + number % 10) ∷ []
+-- the digit at a place of a list that has three digits of each number from 0 on
+abbrev pub digit_at : ℕ → ℕ
+digit_at place = if place % 3 == 0 then place / 3 / 100 else if place % 3 == 1 then place / 3 / 10 % 10 else place / 3 % 10
 
--- the four digits of a number below 10000
-abbrev pub four : ℕ → List ℕ
-four number = pair (number / 100) ++ pair (number % 100)
+-- the bytes of three digits from a place on
+abbrev pub window : ℕ → List ℕ
+window place = (48 + digit_at place) ∷ (48 + digit_at (place + 1)) ∷ (48 + digit_at (place + 2)) ∷ []
+
+-- the three digits of a number below 1000
+abbrev pub three : ℕ → List ℕ
+three number = (48 + number / 100) ∷ (48 + number / 10 % 10) ∷ (48 + number % 10) ∷ []

@@ -1,9 +1,9 @@
-use Rattle.std.proofs.Common.{arith}
-use Rattle.drat_text.proofs.Pairs.{digit_set, decimal_two}
+use Rattle.std.proofs.Common.{◌∙◌, ◌++◌, ◌-◌, List, ℕ, take, ap, arith}
+use Rattle.drat_text.proofs.Triples.{first_digits}
 use Rattle.drat_text.proofs.digits.write_first.Goals as goal
 
-pub returns-then-number-lt10-clause-written : goal.returns-then-number-lt10-clause-written
-returns-then-number-lt10-clause-written c = digit_set c.args.at c.args.number c.args.bytes.now (omega arith) (omega arith)
-
 pub returns-clause-written : goal.returns-clause-written
-returns-clause-written c = rw (decimal_two c.args.number (omega arith) c.requires.few) c.write_pair.ensures.written
+returns-clause-written c =
+    let zeros = c.zeros_before-zeros in
+    c.write_window.ensures (3 - zeros.result) (omega arith)
+    ∙ ap (λ (xs : List ℕ). take c.args.at c.args.bytes.now ++ xs) (first_digits c.args.number zeros.result c.requires.few zeros.ensures.one zeros.ensures.two zeros.ensures.three)

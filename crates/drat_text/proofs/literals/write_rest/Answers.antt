@@ -1,6 +1,6 @@
 use Rattle.std.proofs.Common.{◌++◌, ◌+◌, take, set, codes, arith, refl}
 use Rattle.drat_text.specs.Text.{lits_text}
-use Rattle.drat_text.proofs.Pairs.{two_set}
+use Rattle.drat_text.proofs.Triples.{two_set}
 use Rattle.drat_text.proofs.Words.{two_words}
 use Rattle.drat_text.proofs.literals.write_rest.Goals as goal
 

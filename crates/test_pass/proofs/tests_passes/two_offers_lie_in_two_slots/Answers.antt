@@ -7,7 +7,7 @@ pub join_ring-requires-clause-home : goal.join_ring-requires-clause-home
 join_ring-requires-clause-home g c = λ p pass. c.in_ok-taken.ensures.same.same.home ∙ c.in_ok-one.ensures.home p pass
 
 pub join_ring-requires-2-clause-home : goal.join_ring-requires-2-clause-home
-join_ring-requires-2-clause-home g c = λ p pass. c.in_ok-once.ensures.same.same.home ∙ c.in_ok-zero.ensures.home p pass
+join_ring-requires-2-clause-home g c = λ p pass. c.in_ok-_later.ensures.same.same.home ∙ c.in_ok-zero.ensures.home p pass
 
 pub close-requires-clause-whole : goal.close-requires-clause-whole
 close-requires-clause-whole g c = λ r lt. c.join_ring-2.ensures.rings r (omega arith) lt

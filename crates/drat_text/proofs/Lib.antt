@@ -8,7 +8,8 @@ mod SevenBits
 mod BinaryUnique
 mod Spellings
 pub mod Fronts
-mod DigitCounts
+mod Triples
+mod Words
 mod Gathering
 mod Reading
 mod BadLines

@@ -13,13 +13,15 @@ module _ (word : Literal → List ℕ) (lits : List Literal) (i : ℕ) (lit : Li
       ∙ flat_map-append word (take i lits) (lit ∷ [])
       ∙ ap (λ (xs : List ℕ). flat_map word (take i lits) ++ xs) (append-nil (word lit))
 
-  -- the literals before a place, the one there, and the rest of the line
-  pub words_split : (end : List ℕ) → flat_map word lits ++ end ≡ (flat_map word (take i lits) ++ word lit) ++ (flat_map word (drop (i + 1) lits) ++ end)
-  words_split end =
-      ap (λ (xs : List ℕ). xs ++ end) (ap (flat_map word) (sym (take-append-drop (i + 1) lits)) ∙ flat_map-append word (take (i + 1) lits) (drop (i + 1) lits))
-      ∙ append_assoc (flat_map word (take (i + 1) lits)) (flat_map word (drop (i + 1) lits)) end
-      ∙ ap (λ (xs : List ℕ). xs ++ (flat_map word (drop (i + 1) lits) ++ end)) words_more
+  -- the literals before a place, the one there, and those after it
+  pub words_split : flat_map word lits ≡ (flat_map word (take i lits) ++ word lit) ++ flat_map word (drop (i + 1) lits)
+  words_split =
+      ap (flat_map word) (sym (take-append-drop (i + 1) lits)) ∙ flat_map-append word (take (i + 1) lits) (drop (i + 1) lits)
+      ∙ ap (λ (xs : List ℕ). xs ++ flat_map word (drop (i + 1) lits)) words_more
 
-  -- the same with the one there before the rest
+  -- the same with the one there before the rest of the line
   pub words_at : (end : List ℕ) → flat_map word lits ++ end ≡ flat_map word (take i lits) ++ (word lit ++ (flat_map word (drop (i + 1) lits) ++ end))
-  words_at end = words_split end ∙ append_assoc (flat_map word (take i lits)) (word lit) (flat_map word (drop (i + 1) lits) ++ end)
+  words_at end =
+      ap (λ (xs : List ℕ). xs ++ end) words_split
+      ∙ append_assoc (flat_map word (take i lits) ++ word lit) (flat_map word (drop (i + 1) lits)) end
+      ∙ append_assoc (flat_map word (take i lits)) (word lit) (flat_map word (drop (i + 1) lits) ++ end)

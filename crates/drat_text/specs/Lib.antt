@@ -11,5 +11,6 @@ pub mod SinkData
 pub mod Gathered
 pub mod Front
 pub mod Number
+pub mod Digits
 pub mod Read
 pub mod JournalText

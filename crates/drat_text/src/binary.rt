@@ -8,7 +8,7 @@ ghost use Rattle.drat_text.specs.Gathered.{Gathers, Breaks};
 ghost use Rattle.drat_text.specs.declared.blocks.TheConstants.{BLOCK};
 
 use crate::blocks::Blocks;
-use crate::groups::Groups;
+use crate::groups::{Groups, MOST};
 use crate::piece::Piece;
 use io_edge::{Failed, Sink, WriteStop};
 use sat_words::{Line, Lit};
@@ -34,10 +34,15 @@ impl<S: Sink> Blocks<S> {
         }
     }
 
+    /// Puts the whole line, in one go if it has room at its longest.
     fn put_marked(&mut self, mark: u8, lits: &[Lit]) -> Result<(), Failed>
         requires room { length self.old.waiting < BLOCK }
         ensures { MatchResult result (λ _. Gathers S.written S.flushed S.target S.faults self.old self.new (marked_bytes mark lits.now)) (λ _. Breaks S.written S.flushed S.target S.faults self.old self.new (marked_bytes mark lits.now)) }
     {
+        if lits.len() < self.room() / MOST {
+            self.push_marked(mark, lits);
+            return Ok(());
+        }
         match self.append(&[mark]) {
             Ok(()) => self.put_codes(lits),
             Err(Failed) => Err(Failed),
@@ -48,14 +53,24 @@ impl<S: Sink> Blocks<S> {
         requires room { length self.old.waiting < BLOCK }
         ensures { MatchResult result (λ _. Gathers S.written S.flushed S.target S.faults self.old self.new (lits_bytes lits.now ++ 0 ∷ [])) (λ _. Breaks S.written S.flushed S.target S.faults self.old self.new (lits_bytes lits.now ++ 0 ∷ [])) }
     {
+        match self.append_codes(lits) {
+            Ok(()) => self.append(&[0]),
+            Err(Failed) => Err(Failed),
+        }
+    }
+
+    /// Puts the groups of the literals' codes, one literal after the other. One of them may fill a block.
+    fn append_codes(&mut self, lits: &[Lit]) -> Result<(), Failed>
+        requires room { length self.old.waiting < BLOCK }
+        ensures { MatchResult result (λ _. Gathers S.written S.flushed S.target S.faults self.old self.new (lits_bytes lits.now)) (λ _. Breaks S.written S.flushed S.target S.faults self.old self.new (lits_bytes lits.now)) }
+    {
         for lit in lits {
-            let groups = Groups::of(lit.code());
-            match self.append_front(groups.window(), groups.len()) {
+            match self.append(Groups::of(lit.code()).as_slice()) {
                 Ok(()) => {}
                 Err(Failed) => return Err(Failed),
             }
         }
-        self.append(&[0])
+        Ok(())
     }
 }
 

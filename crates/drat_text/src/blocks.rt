@@ -1,12 +1,17 @@
 // Bytes that gather before a sink, and are written in blocks.
-ghost use Rattle.std.specs.Prelude.{◌≡◌, ◌+◌, ◌≤◌, ◌<◌, ◌++◌, [], true, None, ◌∷◌, ◌↔◌, IsTrue, length, take, IfOk, IfErr, OnOk, OnErr, MatchResult};
-ghost use Rattle.std.specs.Fmt.{decimal};
+ghost use Rattle.std.specs.Prelude.{◌≡◌, ◌+◌, ◌*◌, ◌≤◌, ◌<◌, ◌++◌, [], true, None, codes, length, IfOk, IfErr, OnOk, OnErr, MatchResult};
 ghost use Rattle.io_edge.specs.Bytes.{IsFront};
 ghost use Rattle.io_edge.specs.Causes.{HasCause};
+ghost use Rattle.drat_text.specs.Binary.{marked_bytes};
 ghost use Rattle.drat_text.specs.Gathered.{bytes_in, Gathers, Breaks};
+ghost use Rattle.drat_text.specs.Text.{lits_text};
+ghost use Rattle.drat_text.specs.declared.groups.TheConstants.{MOST};
+ghost use Rattle.drat_text.specs.declared.literals.TheConstants.{LONGEST};
 
-use crate::digits::write_number;
+use crate::groups::write_marked;
+use crate::literals::write_rest;
 use io_edge::{Failed, Sink, write_all_of};
+use sat_words::Lit;
 use std::alloc::{AllocFailed, Global};
 use std::marker::Model;
 
@@ -73,51 +78,30 @@ impl<S: Sink> Blocks<S> {
         self.len = end;
     }
 
-    /// Whether so many bytes would not come to a block.
+    /// How many bytes would come to a block.
     #[inline(always)]
-    pub(crate) fn has_room(&self, count: usize) -> bool
-        ensures { IsTrue result ↔ (length self.now.waiting + count < BLOCK) }
+    pub(crate) fn room(&self) -> usize
+        ensures { length self.now.waiting + result ≡ BLOCK }
     {
-        count < BLOCK - self.len
+        BLOCK - self.len
     }
 
-    #[inline(always)]
-    pub(crate) fn push_byte(&mut self, byte: u8)
-        requires { length self.old.waiting < BLOCK }
-        ensures { self.new ≡ record { waiting = self.old.waiting ++ byte ∷ []; sink = self.old.sink } }
+    /// Puts the literals' texts, each with a space after it, and the end of a line. They are written where they are to stand.
+    pub(crate) fn push_lits(&mut self, lits: &[Lit])
+        requires room { length self.old.waiting + LONGEST * length lits.now + 2 < BLOCK }
+        ensures put { self.new ≡ record { waiting = self.old.waiting ++ (lits_text lits.now ++ codes "0\n"); sink = self.old.sink } }
+        ensures few { length self.new.waiting < BLOCK }
     {
-        self.bytes[self.len] = byte;
-        self.len += 1;
+        self.len = write_rest(self.bytes.as_mut_slice(), self.len, lits);
     }
 
-    /// Puts the digits of a number, in place: a copy of bytes just written would wait for them.
-    #[inline(always)]
-    pub(crate) fn push_number(&mut self, number: u32)
-        requires { length self.old.waiting + 10 < BLOCK }
-        ensures put { self.new ≡ record { waiting = self.old.waiting ++ decimal number; sink = self.old.sink } }
-        ensures few { length self.new.waiting ≤ length self.old.waiting + 10 }
+    /// Puts a byte, the groups of the literals' codes, and a zero. They are written where they are to stand.
+    pub(crate) fn push_marked(&mut self, mark: u8, lits: &[Lit])
+        requires room { length self.old.waiting + MOST * length lits.now + 2 < BLOCK }
+        ensures put { self.new ≡ record { waiting = self.old.waiting ++ marked_bytes mark lits.now; sink = self.old.sink } }
+        ensures few { length self.new.waiting < BLOCK }
     {
-        self.len = write_number(self.bytes.as_mut_slice(), self.len, number);
-    }
-
-    /// Lets go what waits after so many bytes.
-    fn truncate(&mut self, len: usize)
-        requires { len ≤ length self.old.waiting }
-        ensures { self.new ≡ record { waiting = take len self.old.waiting; sink = self.old.sink } }
-    {
-        self.len = len;
-    }
-
-    /// Puts so many of the bytes, if all of them have room: to copy a number of bytes that is known beforehand takes less time.
-    #[inline(always)]
-    fn push_front(&mut self, bytes: &[u8], count: usize)
-        requires room { length self.old.waiting + length bytes.now ≤ BLOCK }
-        requires count { count ≤ length bytes.now }
-        ensures { self.new ≡ record { waiting = self.old.waiting ++ take count bytes.now; sink = self.old.sink } }
-    {
-        let len = self.len + count;
-        self.push(bytes);
-        self.truncate(len);
+        self.len = write_marked(self.bytes.as_mut_slice(), self.len, mark, lits);
     }
 
     /// Writes what waits. In either case nothing waits then.
@@ -161,20 +145,5 @@ impl<S: Sink> Blocks<S> {
             }
             Err(Failed) => Err(Failed),
         }
-    }
-
-    /// Puts so many of the bytes, as `append` does. It is the faster if the number of all the bytes is known beforehand.
-    #[inline(always)]
-    pub(crate) fn append_front(&mut self, bytes: &[u8], count: usize) -> Result<(), Failed>
-        requires room { length self.old.waiting < BLOCK }
-        requires short { length bytes.now ≤ BLOCK }
-        requires count { count ≤ length bytes.now }
-        ensures { MatchResult result (λ _. Gathers S.written S.flushed S.target S.faults self.old self.new (take count bytes.now)) (λ _. Breaks S.written S.flushed S.target S.faults self.old self.new (take count bytes.now)) }
-    {
-        if bytes.len() < BLOCK - self.len {
-            self.push_front(bytes, count);
-            return Ok(());
-        }
-        self.append(&bytes[..count])
     }
 }

@@ -11,6 +11,7 @@ mod groups;
 mod laws;
 mod line;
 mod line_out;
+mod literals;
 mod numbers;
 mod piece;
 mod read;

@@ -1,20 +1,17 @@
 // The spelling of a line, as text and in the format that is asked for.
-ghost use Rattle.std.specs.Prelude.{◌≡◌, ◌<◌, ◌≤◌, ◌+◌, ◌++◌, length, codes, MatchResult};
+ghost use Rattle.std.specs.Prelude.{◌≡◌, ◌<◌, ◌++◌, length, codes, MatchResult};
 ghost use Rattle.std.specs.Fmt.{signed_decimal};
 ghost use Rattle.sat_words.specs.Literal.{lit_text};
 ghost use Rattle.drat_text.specs.Gathered.{Gathers, Breaks};
 ghost use Rattle.drat_text.specs.Spelling.{spelling};
 ghost use Rattle.drat_text.specs.Text.{lits_text, line_text};
 ghost use Rattle.drat_text.specs.declared.blocks.TheConstants.{BLOCK};
-ghost use Rattle.drat_text.specs.declared.line.TheConstants.{LONGEST};
 
 use crate::blocks::Blocks;
+use crate::literals::LONGEST;
 use io_edge::{Failed, Sink};
 use itoa::Buffer;
 use sat_words::{Line, Lit, ProofFormat};
-
-/// The most bytes of a literal's text and of the space after it: a sign, ten digits and the space.
-const LONGEST: usize = 12;
 
 /// The number that stands for the literal.
 pub(crate) fn number_of(lit: Lit) -> i32
@@ -54,45 +51,35 @@ impl<S: Sink> Blocks<S> {
         }
     }
 
+    /// Puts the literals' texts and the end of the line: in one go if all of them have room at their longest.
     fn put_lits(&mut self, lits: &[Lit]) -> Result<(), Failed>
         requires room { length self.old.waiting < BLOCK }
         ensures { MatchResult result (λ _. Gathers S.written S.flushed S.target S.faults self.old self.new (lits_text lits.now ++ codes "0\n")) (λ _. Breaks S.written S.flushed S.target S.faults self.old self.new (lits_text lits.now ++ codes "0\n")) }
     {
+        if lits.len() < self.room() / LONGEST {
+            self.push_lits(lits);
+            return Ok(());
+        }
+        match self.append_lits(lits) {
+            Ok(()) => self.append(b"0\n"),
+            Err(Failed) => Err(Failed),
+        }
+    }
+
+    /// Puts the literals' texts one by one, each with a space after it. One of them may fill a block.
+    fn append_lits(&mut self, lits: &[Lit]) -> Result<(), Failed>
+        requires room { length self.old.waiting < BLOCK }
+        ensures { MatchResult result (λ _. Gathers S.written S.flushed S.target S.faults self.old self.new (lits_text lits.now)) (λ _. Breaks S.written S.flushed S.target S.faults self.old self.new (lits_text lits.now)) }
+    {
         for lit in lits {
-            match self.put_lit(*lit) {
+            match self.append_lit(*lit) {
                 Ok(()) => {}
                 Err(Failed) => return Err(Failed),
             }
         }
-        self.append(b"0\n")
+        Ok(())
     }
 
-    fn put_lit(&mut self, lit: Lit) -> Result<(), Failed>
-        requires room { length self.old.waiting < BLOCK }
-        ensures { MatchResult result (λ _. Gathers S.written S.flushed S.target S.faults self.old self.new (lit_text lit ++ codes " ")) (λ _. Breaks S.written S.flushed S.target S.faults self.old self.new (lit_text lit ++ codes " ")) }
-    {
-        if self.has_room(LONGEST) {
-            self.push_lit(lit);
-            return Ok(());
-        }
-        self.append_lit(lit)
-    }
-
-    /// Puts the literal's text and a space, for both of which there is room.
-    #[inline(always)]
-    fn push_lit(&mut self, lit: Lit)
-        requires room { length self.old.waiting + LONGEST < BLOCK }
-        ensures put { self.new ≡ record { waiting = self.old.waiting ++ (lit_text lit ++ codes " "); sink = self.old.sink } }
-        ensures few { length self.new.waiting ≤ length self.old.waiting + LONGEST }
-    {
-        if lit.is_neg() {
-            self.push_byte(b'-');
-        }
-        self.push_number(lit.var());
-        self.push_byte(b' ');
-    }
-
-    /// Puts the literal's text and a space, of which the first may fill a block.
     fn append_lit(&mut self, lit: Lit) -> Result<(), Failed>
         requires room { length self.old.waiting < BLOCK }
         ensures { MatchResult result (λ _. Gathers S.written S.flushed S.target S.faults self.old self.new (lit_text lit ++ codes " ")) (λ _. Breaks S.written S.flushed S.target S.faults self.old self.new (lit_text lit ++ codes " ")) }

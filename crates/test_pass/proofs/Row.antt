@@ -1,5 +1,5 @@
 -- What the rings of the tests know.
-use Rattle.std.proofs.Common.{◌≡◌, ◌≢◌, ◌∙◌, ◌==◌, ℕ, ◌||◌, Bool, not, filter, true, false, true≢false, List, [], ◌∷◌, map, All, Contains, length, refl, sym, ap, subst, arith, Some, IsSome, Option}
+use Rattle.std.proofs.Common.{◌≡◌, ◌≤◌, ◌≢◌, ◌∙◌, ◌==◌, ℕ, ◌||◌, Bool, not, filter, true, false, true≢false, List, [], ◌∷◌, map, All, Contains, length, refl, sym, ap, subst, arith, Some, IsSome, Option}
 use Rattle.std.specs.Prelude.{slice_get}
 use Rattle.std.specs.List.{range_with_len}
 use Rattle.std.specs.Option.{unwrap_or}
@@ -64,14 +64,14 @@ two_read (x ∷ y ∷ []) a b n e f = two_lits x y a b (ap (λ (o : Option Liter
 two_read (x ∷ y ∷ z ∷ zs) a b n e f = absurd (omega (arith, n))
 
 -- a look leaves the clauses that are held
-pub lits_stay : (s : PortState) (a : ℕ) → lits_at (looked_into 0 0 0 s) a ≡ lits_at s a
+pub lits_stay : (s : PortState) (place a : ℕ) → lits_at (looked_into 0 0 place s) a ≡ lits_at s a
 unfolding held_at
-lits_stay s a = refl
+lits_stay s place a = refl
 
 -- and their heads
-pub heads_stay : (s : PortState) (a : ℕ) → held_at (looked_into 0 0 0 s) a ≡ held_at s a
+pub heads_stay : (s : PortState) (place a : ℕ) → held_at (looked_into 0 0 place s) a ≡ held_at s a
 unfolding held_at
-heads_stay s a = refl
+heads_stay s place a = refl
 
 -- a ring has the same others as long as it plays
 pub others_stay : (s t : PortState) → IsPlayer s → IsPlayer t → t.ring ≡ s.ring → length (other_rings t) ≡ length (other_rings s)
@@ -91,7 +91,7 @@ player_left : (old new : PortState) (a : ℕ) (d : List Literal) (f : List Liter
 player_left old new a d f one two three lacks_it k there h = record {
   vars = ap (λ (s : PortState). s.vars) k.state ∙ h.vars;
   rings = ap (λ (s : PortState). s.rings) k.state ∙ h.rings;
-  depth = ap (λ (s : PortState). s.depth) k.state ∙ h.depth;
+  depth = subst (λ (n : ℕ). 1 ≤ n) (sym (ap (λ (s : PortState). s.depth) k.state)) h.depth;
   usable = ap (λ (s : PortState). is_usable s.refused) k.state ∙ h.usable;
   one = (h.one.0, at_left old new a h.one.0 first d f one lacks_it k there h.one.1);
   two = (h.two.0, at_left old new a h.two.0 second d f two lacks_it k there h.two.1);
@@ -99,7 +99,7 @@ player_left old new a d f one two three lacks_it k there h = record {
 }
 
 stays_left : (old new : PortState) (a : ℕ) → DroppedOnce old new a → Stays old new
-stays_left old new a k = record { ring = ap (λ (s : PortState). s.ring) k.state; home = ap (λ (s : PortState). s.home) k.state }
+stays_left old new a k = record { ring = ap (λ (s : PortState). s.ring) k.state; depth = ap (λ (s : PortState). s.depth) k.state; home = ap (λ (s : PortState). s.home) k.state }
 
 -- three literals, or the negation of 1; or 3 or its negation
 abbrev is_start : List Literal → Bool
@@ -141,7 +141,7 @@ player_tidied s t n k h =
     record {
       vars = ap (λ (x : PortState). x.vars) k.state ∙ h.vars;
       rings = ap (λ (x : PortState). x.rings) k.state ∙ h.rings;
-      depth = ap (λ (x : PortState). x.depth) k.state ∙ h.depth;
+      depth = subst (λ (n : ℕ). 1 ≤ n) (sym (ap (λ (x : PortState). x.depth) k.state)) h.depth;
       usable = ap (λ (x : PortState). is_usable x.refused) k.state ∙ h.usable;
       one = (h.one.0, at_same s t h.one.0 first same h.one.1);
       two = (h.two.0, at_same s t h.two.0 second same h.two.1);
@@ -170,12 +170,15 @@ module _ {B : Type 0} (t : Shared B) (s : PortState) (v : View) (r : ℕ) (home 
   held : All (λ (h : Holding). held_at s h.address ≡ Some h) (starts four_is.from)
   held = held_starts s four_is.from start_is holds
 
+  pub depth_is : s.depth ≡ v.opening.depth
+  depth_is = ap (λ (x : PortState). x.depth) is
+
   pub begins : v.layout ≡ t.layout → IsBegun s
   begins layout = record {
     player = record {
       vars = ap (λ (x : PortState). x.vars) is ∙ ap (λ (l : Layout). l.vars) layout ∙ four_is.vars;
       rings = ap (λ (x : PortState). x.rings) is ∙ four_is.rings;
-      depth = ap (λ (x : PortState). x.depth) is ∙ four_is.depth;
+      depth = subst (λ (n : ℕ). 1 ≤ n) (sym depth_is) four_is.depth;
       usable = ap (λ (x : PortState). is_usable x.refused) is;
       one = (_, at_start s _ (held 0 none (omega arith)));
       two = (_, at_start s _ (held 1 none (omega arith)));
@@ -198,12 +201,12 @@ pub home_left : {B : Type 0} (t : Shared B) (s m u : PortState) → IsHome t s �
 home_left t s m u h a b = λ p pass. b.home ∙ a.home ∙ h p pass
 
 pub opened : {B : Type 0} (t : Shared B) (o : CoreOpening) (cs : List Cref) (F : List (List Literal)) (ss : List (ℕ × List Literal)) (us : List Literal) (rings vars words depth : ℕ)
-    → t.layout ≡ record { rings = rings; vars = vars; words = words; depth = depth } → o ≡ begun_with F t.layout [] ss us → cs ≡ addresses o.starts → rings ≡ 2 → vars ≡ 3 → depth ≡ 1 → ss ≡ four → BeginsWithFour t o cs
-opened t o cs F ss us rings vars words depth layout is cells two three_vars one starts_are = record {
+    → t.layout ≡ record { rings = rings; vars = vars; words = words; depth = depth } → o ≡ begun_with F t.layout [] ss us → cs ≡ addresses o.starts → rings ≡ 2 → vars ≡ 3 → 1 ≤ depth → ss ≡ four → BeginsWithFour t o cs
+opened t o cs F ss us rings vars words depth layout is cells two three_vars some starts_are = record {
   from = first_cell t.layout;
   starts = ap (λ (x : CoreOpening). x.starts) is ∙ ap (starts_at (first_cell t.layout)) starts_are;
   rings = ap (λ (x : CoreOpening). x.rings) is ∙ ap (λ (m : Layout). m.rings) layout ∙ two;
-  depth = ap (λ (x : CoreOpening). x.depth) is ∙ ap (λ (m : Layout). m.depth) layout ∙ one;
+  depth = subst (λ (n : ℕ). 1 ≤ n) (sym (ap (λ (x : CoreOpening). x.depth) is ∙ ap (λ (m : Layout). m.depth) layout)) some;
   vars = ap (λ (m : Layout). m.vars) layout ∙ three_vars;
   cells = cells;
 }

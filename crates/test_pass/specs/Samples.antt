@@ -1,5 +1,5 @@
 -- What the rings of the tests start from, and what they know.
-use Rattle.std.specs.Prelude.{◌≡◌, ℕ, true, false, List, [], ◌∷◌, map, IsSome, Option}
+use Rattle.std.specs.Prelude.{◌≡◌, ◌≤◌, ℕ, true, false, List, [], ◌∷◌, map, IsSome, Option}
 use Rattle.sat_words.specs.Literal.{Literal}
 use Rattle.rup_model.specs.Journal.{fresh}
 use Rattle.atomic_table.specs.declared.shared.Seat.{Seat}
@@ -54,11 +54,11 @@ pub record IsAt (s : PortState) (a : ℕ) (c : List Literal) : Type 0 where
   pub held : IsSome (held_at s a)
   pub lits : lits_at s a ≡ c
 
--- one of two rings on three variables, with one slot for each class, which holds the first three clauses and whose lines have not failed
+-- one of two rings on three variables, with slots for each class, which holds the first three clauses and whose lines have not failed
 pub record IsPlayer (s : PortState) : Type 0 where
   pub vars : s.vars ≡ 3
   pub rings : s.rings ≡ 2
-  pub depth : s.depth ≡ 1
+  pub depth : 1 ≤ s.depth
   pub usable : is_usable s.refused ≡ true
   pub one : (a : ℕ) × IsAt s a first
   pub two : (a : ℕ) × IsAt s a second
@@ -86,9 +86,10 @@ pub record IsDone (s : PortState) : Type 0 where
   pub player : IsPlayer s
   pub taken : s.taken ≡ []
 
--- the ring and the table stay
+-- the ring, the number of its slots and the table stay
 pub record Stays (old new : PortState) : Type 0 where
   pub ring : new.ring ≡ old.ring
+  pub depth : new.depth ≡ old.depth
   pub home : new.home ≡ old.home
 
 -- and so does the clause that the rings give up later
@@ -107,7 +108,7 @@ pub record BeginsWithFour {B : Type 0} (t : Shared B) (o : CoreOpening) (cs : Li
   pub from : ℕ
   pub starts : o.starts ≡ starts_at from four
   pub rings : o.rings ≡ 2
-  pub depth : o.depth ≡ 1
+  pub depth : 1 ≤ o.depth
   pub vars : t.layout.vars ≡ 3
   pub cells : cs ≡ addresses o.starts
 

@@ -1,5 +1,5 @@
 //! Rings over a small table, as ports, and back.
-ghost use Rattle.std.specs.Prelude.{◌≡◌, ◌<◌, ◌+◌, ◌∷◌, [], false, true, length, IfOk, OnOk, slice_get, Some};
+ghost use Rattle.std.specs.Prelude.{◌≡◌, ◌≤◌, ◌<◌, ◌+◌, ◌∷◌, [], false, true, length, IfOk, OnOk, slice_get, Some};
 ghost use Rattle.io_edge.specs.Paths.{IsEmptyWhereTold};
 ghost use Rattle.sat_words.specs.declared.line.ProofFormat.TheVariants.{Text};
 ghost use Rattle.log_book.specs.Books.{account_of, origin_of, IsLogOf, IsNew};
@@ -62,18 +62,19 @@ pub fn new_book<S: Sink + Drop>(alloc: Global, formula: &Formula, sink: S) -> Re
 /// A table with its first pass and the addresses of the start cells.
 pub type Opened<S> = (Shared<Book<S>>, Pass<Book<S>>, Vec<Cref>);
 
-/// A table for two rings over the four clauses, with one slot for each class.
-pub fn open_four<S: Sink + Drop>(alloc: Global, sink: S) -> Result<Opened<S>, Fail>
-    requires { IsEmptyWhereTold (S.written sink) }
+/// A table for two rings over the four clauses, with so many slots for each class.
+pub fn open_four<S: Sink + Drop>(alloc: Global, depth: u32, sink: S) -> Result<Opened<S>, Fail>
+    requires empty { IsEmptyWhereTold (S.written sink) }
+    requires deep { 1 ≤ depth }
     ensures first { IfOk result (λ m. IsFirst m.0 m.1 0) }
     ensures parts { IfOk result (λ m. m.1.me.0.parts ≡ []) }
-    ensures layout { IfOk result (λ m. m.0.layout ≡ record { rings = 2; vars = 3; words = 64; depth = 1 }) }
+    ensures layout { IfOk result (λ m. m.0.layout ≡ record { rings = 2; vars = 3; words = 64; depth = depth }) }
     ensures opening { IfOk result (λ m. m.1.me.0.opening ≡ begun_with (first ∷ second ∷ third ∷ spare ∷ []) m.0.layout [] four []) }
     ensures four { IfOk result (λ m. BeginsWithFour m.0 m.1.me.0.opening m.2.items) }
 {
     let problem = make_four(alloc)?;
     let book = new_book(alloc, &problem.formula, sink)?;
-    open_with(alloc, &problem, 2, 64, 1, book)
+    open_with(alloc, &problem, 2, 64, depth, book)
 }
 
 /// The address of the fourth cell.
@@ -101,6 +102,7 @@ pub fn port_of<'a, S: Sink, G: Gate, H: Wait>(
     ensures begun { IfOk result (λ p. IsBegun p) }
     ensures spare { IfOk result (λ p. (c : Cref) → slice_get start.now 3 ≡ Some c → IsAt p c.address spare) }
     ensures ring { IfOk result (λ p. p.ring ≡ ring.ring) }
+    ensures depth { IfOk result (λ p. p.depth ≡ ring.pass.me.0.opening.depth) }
     ensures home { IfOk result (λ p. IsHome table.now p) }
 {
     let Ring { pass, ring, .. } = ring;
@@ -128,6 +130,7 @@ pub fn begin_port<'a, S: Sink, G: Gate, H: Wait>(
     ensures begun { IfOk result (λ p. IsBegun p) }
     ensures spare { IfOk result (λ p. (c : Cref) → slice_get start.now 3 ≡ Some c → IsAt p c.address spare) }
     ensures ring { IfOk result (λ p. p.ring ≡ ring) }
+    ensures depth { IfOk result (λ p. p.depth ≡ first.old.me.0.opening.depth) }
     ensures home { IfOk result (λ p. IsHome table.now p) }
 {
     let cell = start_cell(first, start, 0)?;

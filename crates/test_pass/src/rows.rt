@@ -1,5 +1,5 @@
 //! What the rings do, a call or two at a time.
-ghost use Rattle.std.specs.Prelude.{◌≡◌, ◌++◌, ◌∷◌, [], Some, None, IfOk, IfSome, OnOk, IsSome, MatchOption, length};
+ghost use Rattle.std.specs.Prelude.{◌≡◌, ◌<◌, ◌++◌, ◌∷◌, [], Some, None, IfOk, IfSome, OnOk, IsSome, MatchOption, length};
 ghost use Rattle.rup_model.specs.declared.journal.Kind.TheVariants.{Learn, UnitLine};
 ghost use Rattle.ring_port.specs.PortState.{held_at, head_of, lits_at};
 ghost use Rattle.ring_port.specs.Port.{LearnedClause, WroteUnit};
@@ -166,17 +166,28 @@ pub fn write_two<P: Port>(port: &mut P) -> Result<(), Miss>
     }
 }
 
-/// Looks for a clause of two literals that ring 0 has put.
+/// Looks for a clause of two literals that ring 0 has put at a place.
+pub fn hear_at<P: Port>(port: &mut P, place: u32) -> Result<Option<Cref>, Miss>
+    requires listener { IsListener (P.state port.old) (P.state port.old).taken }
+    requires place { place < (P.state port.old).depth }
+    ensures polled { IfOk result (λ found. Polled (P.state port.old) (P.state port.new) 0 0 place (Ok found)) }
+    ensures none { IfOk result (λ found. MatchOption found (IsListener (P.state port.new) (P.state port.old).taken) (λ c. IsListener (P.state port.new) ((P.state port.old).taken ++ c.address ∷ []) × IsSome (held_at (P.state port.new) c.address))) }
+    ensures same { OnOk result (Keeps (P.state port.old) (P.state port.new)) }
+{
+    match port.poll(0, 0, place) {
+        Ok(found) => Ok(found),
+        Err(_) => Err(Miss::Memory),
+    }
+}
+
+/// Looks for one at the first place.
 pub fn hear<P: Port>(port: &mut P) -> Result<Option<Cref>, Miss>
     requires { IsListener (P.state port.old) (P.state port.old).taken }
     ensures polled { IfOk result (λ found. Polled (P.state port.old) (P.state port.new) 0 0 0 (Ok found)) }
     ensures none { IfOk result (λ found. MatchOption found (IsListener (P.state port.new) (P.state port.old).taken) (λ c. IsListener (P.state port.new) ((P.state port.old).taken ++ c.address ∷ []) × IsSome (held_at (P.state port.new) c.address))) }
     ensures same { OnOk result (Keeps (P.state port.old) (P.state port.new)) }
 {
-    match port.poll(0, 0, 0) {
-        Ok(found) => Ok(found),
-        Err(_) => Err(Miss::Memory),
-    }
+    hear_at(port, 0)
 }
 
 /// The head of a clause, and its literals, which are two.
@@ -228,6 +239,46 @@ pub fn hear_once<P: Port>(port: &mut P) -> Result<(Cref, Head, Lit, Lit), Miss>
         return Err(Miss::NotPut);
     };
     Ok((found, head, first, second))
+}
+
+/// Takes what ring 0 has put at a place: its two literals.
+pub fn take_at<P: Port>(port: &mut P, place: u32) -> Result<(Lit, Lit), Miss>
+    requires listener { IsListener (P.state port.old) (P.state port.old).taken }
+    requires place { place < (P.state port.old).depth }
+    ensures listener { OnOk result (IsListener (P.state port.new) (P.state port.new).taken) }
+    ensures same { OnOk result (Keeps (P.state port.old) (P.state port.new)) }
+{
+    let Some(found) = hear_at(port, place)? else {
+        return Err(Miss::Nothing);
+    };
+    let (_head, first, second) = read_pair(port, found)?;
+    Ok((first, second))
+}
+
+/// Finds nothing at a place.
+pub fn miss_at<P: Port>(port: &mut P, place: u32) -> Result<(), Miss>
+    requires listener { IsListener (P.state port.old) (P.state port.old).taken }
+    requires place { place < (P.state port.old).depth }
+    ensures listener { OnOk result (IsListener (P.state port.new) (P.state port.new).taken) }
+    ensures same { OnOk result (Keeps (P.state port.old) (P.state port.new)) }
+{
+    match hear_at(port, place)? {
+        None => Ok(()),
+        Some(_) => Err(Miss::NotPut),
+    }
+}
+
+/// Takes what ring 0 has put at both places, in their order, and finds nothing more at them.
+pub fn take_both<P: Port>(port: &mut P) -> Result<[(Lit, Lit); 2], Miss>
+    requires listener { IsListener (P.state port.old) [] }
+    requires deep { (P.state port.old).depth ≡ 2 }
+    ensures same { OnOk result (Keeps (P.state port.old) (P.state port.new)) }
+{
+    let first = take_at(port, 0)?;
+    let second = take_at(port, 1)?;
+    miss_at(port, 0)?;
+    miss_at(port, 1)?;
+    Ok([first, second])
 }
 
 /// What ring 0 told, and ring 1 heard.

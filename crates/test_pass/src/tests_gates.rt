@@ -312,7 +312,7 @@ fn hold(
     lines: &[u8],
 ) -> Result<(), Fail> {
     let alloc = rt.alloc();
-    let (table, mut first, cells) = open_four(alloc, MemSink::new(alloc, 64, &[])?)?;
+    let (table, mut first, cells) = open_four(alloc, 1, MemSink::new(alloc, 64, &[])?)?;
     let gate = Holding::new(point_of(case));
     let start = cells.as_slice();
     let zero = begin_port(rt, alloc, &table, &gate, &mut first, 0, start)?;

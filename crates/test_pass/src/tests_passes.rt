@@ -1,6 +1,6 @@
 // `ring_pass` by hand: two rings over one table, one call after another.
 use crate::ports::{begin_port, fourth, join_ring, open_four};
-use crate::rows::{give_up_and_tell, hand_over};
+use crate::rows::{give_up_and_tell, hand_over, offer_both, take_both};
 use io_edge::MemSink;
 use ring_port::{Gate, Point};
 use sat_words::{Head, Lit};
@@ -15,6 +15,25 @@ struct Counts {
     learned: AtomicU64,
     dropped: AtomicU64,
     put: AtomicU64,
+}
+
+impl Counts {
+    fn new() -> Counts {
+        Counts {
+            learned: AtomicU64::new(0),
+            dropped: AtomicU64::new(0),
+            put: AtomicU64::new(0),
+        }
+    }
+
+    /// How many learned, put and dropped.
+    fn all(&self) -> [u64; 3] {
+        [
+            self.learned.load(Ordering::SeqCst),
+            self.put.load(Ordering::SeqCst),
+            self.dropped.load(Ordering::SeqCst),
+        ]
+    }
 }
 
 impl Gate for Counts {
@@ -34,12 +53,8 @@ impl Gate for Counts {
 #[test]
 fn two_rings_share_and_tell(rt: HostRuntime) -> Result<(), Fail> {
     let alloc = rt.alloc();
-    let (table, mut first, cells) = open_four(alloc, MemSink::new(alloc, 64, &[])?)?;
-    let gate = Counts {
-        learned: AtomicU64::new(0),
-        dropped: AtomicU64::new(0),
-        put: AtomicU64::new(0),
-    };
+    let (table, mut first, cells) = open_four(alloc, 1, MemSink::new(alloc, 64, &[])?)?;
+    let gate = Counts::new();
     let start = cells.as_slice();
     let mut zero = begin_port(&rt, alloc, &table, &gate, &mut first, 0, start)?;
     let mut one = begin_port(&rt, alloc, &table, &gate, &mut first, 1, start)?;
@@ -53,19 +68,39 @@ fn two_rings_share_and_tell(rt: HostRuntime) -> Result<(), Fail> {
         glue: 1,
         number: 6,
     };
-    let counts = [
-        gate.learned.load(Ordering::SeqCst),
-        gate.put.load(Ordering::SeqCst),
-        gate.dropped.load(Ordering::SeqCst),
-    ];
     assert!(rt; heard.offered == (1, 1));
     assert!(rt; heard.head == head);
     assert!(rt; heard.lits == (Lit::new(2, false), Lit::new(3, true)));
     assert!(rt; [unit, none] == [Some(Lit::new(2, false)), None]);
-    assert!(rt; counts == [2, 2, 2]);
+    assert!(rt; gate.all() == [2, 2, 2]);
     let (end, sink, lines) = close(table, first).finish();
     assert!(rt; end == Ok(()));
     assert!(rt; sink.bytes() == b"1 2 0\n2 -3 0\nd 1 2 0\nd 2 3 0\n2 0\n".as_slice());
     assert!(rt; lines.map(|lines| lines.len()) == Some(5));
+    Ok(())
+}
+
+/// With two slots of a class ring 0 gives a clause up that it has offered, and offers a second one. Nothing comes back, so that
+/// none is held by nobody, and ring 1 takes both: the first offered from the first place.
+#[test]
+fn two_offers_lie_in_two_slots(rt: HostRuntime) -> Result<(), Fail> {
+    let alloc = rt.alloc();
+    let (table, mut first, cells) = open_four(alloc, 2, MemSink::new(alloc, 64, &[])?)?;
+    let gate = Counts::new();
+    let start = cells.as_slice();
+    let mut zero = begin_port(&rt, alloc, &table, &gate, &mut first, 0, start)?;
+    let mut one = begin_port(&rt, alloc, &table, &gate, &mut first, 1, start)?;
+    let (_later, once, again) = offer_both(&mut zero)?;
+    let taken = take_both(&mut one)?;
+    join_ring(&table, &mut first, one, 1);
+    join_ring(&table, &mut first, zero, 0);
+    let one_two = (Lit::new(1, false), Lit::new(2, false));
+    let two_not_three = (Lit::new(2, false), Lit::new(3, true));
+    assert!(rt; (once, again) == (1, 1));
+    assert!(rt; taken == [one_two, two_not_three]);
+    assert!(rt; gate.all() == [2, 2, 0]);
+    let (end, sink, _) = close(table, first).finish();
+    assert!(rt; end == Ok(()));
+    assert!(rt; sink.bytes() == b"1 2 0\n2 -3 0\n".as_slice());
     Ok(())
 }

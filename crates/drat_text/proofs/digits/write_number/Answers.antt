@@ -1,15 +1,17 @@
-use Rattle.std.proofs.Common.{rules, ◌≡◌, ◌≤◌, ◌+◌, ◌++◌, take, drop, length, subst, ap, ℕ, arith}
+use Rattle.std.proofs.Common.{◌/◌, ◌%◌, take, sym, arith}
 use Rattle.std.specs.Fmt.{decimal}
-use Rattle.drat_text.proofs.DigitCounts.{front_and_word}
+use Rattle.drat_text.specs.Digits.{three}
+use Rattle.drat_text.proofs.Triples.{decimal_more}
+use Rattle.drat_text.proofs.Words.{two_words}
 use Rattle.drat_text.proofs.digits.write_number.Goals as goal
 
 pub returns-clause-written : goal.returns-clause-written
 returns-clause-written c =
-    let w = c.write_digits in
-    let end = c.args.at + c.count_of_digits.result in
-    let start : w.result ≡ c.args.at = omega (arith, w.ensures.start, c.count_of_digits.ensures.digits) in
-    let whole : end ≡ c.args.at + length (decimal c.args.number) = ap (λ (n : ℕ). c.args.at + n) c.count_of_digits.ensures.digits in
-    let low : c.args.at ≤ length w.new.buf = search rules in
-    let front : take c.args.at w.new.buf ≡ take c.args.at c.args.bytes.now = subst (λ (n : ℕ). take n w.new.buf ≡ take n c.args.bytes.now) start w.ensures.before in
-    let back : drop c.args.at w.new.buf ≡ decimal c.args.number ++ drop end c.args.bytes.now = subst (λ (n : ℕ). drop n w.new.buf ≡ decimal c.args.number ++ drop end c.args.bytes.now) start w.ensures.written in
-    front_and_word c.args.at end w.new.buf c.args.bytes.now (decimal c.args.number) whole low front back
+    let n = c.args.number in
+    let high = n / 1000 in
+    let front = take c.args.at c.args.bytes.now in
+    let middle = take c.write_three-middle.result c.write_three-middle.new.bytes in
+    two_words front middle (take c.write_three.result c.write_three.new.bytes) (decimal high) (three (n % 1000)) (decimal n)
+    (two_words front (take c.write_six-first.result c.write_six-first.new.bytes) middle (decimal (high / 1000)) (three (high % 1000)) (decimal high)
+    c.write_six-first.ensures.written c.write_three-middle.ensures.written (sym (decimal_more high (omega arith) (omega arith))))
+    c.write_three.ensures.written (sym (decimal_more n (omega arith) (omega arith)))

@@ -1,18 +1,7 @@
-use Rattle.std.proofs.Common.{◌++◌, take, drop, codes, subst, sym, ◌+◌}
-use Rattle.sat_words.specs.Literal.{lit_text}
+use Rattle.std.proofs.Common.{codes}
 use Rattle.drat_text.specs.Text.{lits_text}
-use Rattle.drat_text.specs.Gathered.{Breaks}
-use Rattle.drat_text.proofs.LineText.{words_split}
-use Rattle.drat_text.proofs.Gathering.{breaks_then, breaks_longer}
+use Rattle.drat_text.proofs.Gathering.{breaks_longer}
 use Rattle.drat_text.proofs.blocks.Blocks.put_lits.Goals as goal
 
 pub returns-in-Err : goal.returns-in-Err
-returns-in-Err g c =
-    let lits = c.args.lits.now in
-    let i = c.loop-lit.lit-index in
-    let lit = c.lit-item.result in
-    subst (Breaks g.S.Sink.written g.S.Sink.flushed g.S.Sink.target g.S.Sink.faults c.args.self.now c.put_lit.new.self) (sym (words_split (λ x. lit_text x ++ codes " ") lits i lit c.loop-lit-test.true c.lit-item.is (codes "0\n")))
-    (breaks_longer g.S.Sink.written g.S.Sink.flushed g.S.Sink.target g.S.Sink.faults c.args.self.now c.put_lit.new.self
-    (lits_text (take i lits) ++ (lit_text lit ++ codes " ")) (lits_text (drop (i + 1) lits) ++ codes "0\n")
-    (breaks_then g.S.Sink.written g.S.Sink.flushed g.S.Sink.target g.S.Sink.faults c.args.self.now c.loop-lit.self c.put_lit.new.self (lits_text (take i lits)) (lit_text lit ++ codes " ")
-    c.loop-lit.invariant c.in-Err.ensures))
+returns-in-Err g c = breaks_longer g.S.Sink.written g.S.Sink.flushed g.S.Sink.target g.S.Sink.faults c.args.self.now c.append_lits.new.self (lits_text c.args.lits.now) (codes "0\n") c.in-Err.ensures

@@ -1,7 +1,7 @@
 use Rattle.std.proofs.Common.{take}
 use Rattle.drat_text.specs.Binary.{lits_bytes}
 use Rattle.drat_text.specs.Gathered.{Gathers}
-use Rattle.drat_text.proofs.blocks.Blocks.put_codes.Given as goal
+use Rattle.drat_text.proofs.blocks.Blocks.append_codes.Given as goal
 
 abbrev pub invariant-loop-lit : goal.invariant-loop-lit
 invariant-loop-lit g l = Gathers g.S.Sink.written g.S.Sink.flushed g.S.Sink.target g.S.Sink.faults l.fn.self l.self (lits_bytes (take l.lit-index l.lits))

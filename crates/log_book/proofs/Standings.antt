@@ -21,6 +21,7 @@ use Rattle.drat_text.proofs.JournalLines.{has_text_next, has_text_cut}
 use Rattle.share_core.specs.declared.part.CoreOpening.{CoreOpening}
 use Rattle.share_core.proofs.Leaving.{left_sound}
 use Rattle.share_core.proofs.Counting.{some_same, none_some}
+use Rattle.share_rule.specs.declared.Layout.{Layout}
 use Rattle.share_rule.specs.declared.note.Note.{Note}
 use Rattle.share_rule.specs.declared.view.View.{View}
 use Rattle.share_rule.specs.declared.view.Refusal.{Refusal}
@@ -54,11 +55,11 @@ some_with None x = refl
 some_with (Some ls) x = refl
 
 -- a refusal stands behind more notes
-refused_next : (o : CoreOpening) (J : List Entry) (e : Entry) (failed : Bool) (x : Refusal) → IsRefused o J failed x → IsRefused o (J ++ e ∷ []) failed x
-refused_next o J e failed Ended q = ended_last o.formula J e ∙ (λ i. q i || list_any is_empty (added (e ∷ [])))
-refused_next o J e failed Broken q = q
-refused_next o J e failed ProofFault q = q
-refused_next o J e failed (NoHole need most) q = q
+refused_next : (l : Layout) (o : CoreOpening) (J : List Entry) (e : Entry) (failed : Bool) (x : Refusal) → IsRefused l o J failed x → IsRefused l o (J ++ e ∷ []) failed x
+refused_next l o J e failed Ended q = ended_last o.formula J e ∙ (λ i. q i || list_any is_empty (added (e ∷ [])))
+refused_next l o J e failed Broken q = q
+refused_next l o J e failed ProofFault q = q
+refused_next l o J e failed (NoHole need most) q = q
 
 module _ {S : Type 0} {d : Ghosts S} (written flushed target : S → Maybe (List ℕ)) (faults : S → ℕ) where
   module _ (v : View) (t : Turn S d) (s : Seen v) (h : IsTurn written flushed target faults v t) where
@@ -121,7 +122,7 @@ module _ {S : Type 0} {d : Ghosts S} (written flushed target : S → Maybe (List
           record {
             writing = h.writing;
             may = subst (λ (ns : List Note). MayWrite v ns) (sym noted_is) more.0;
-            refused = subst (λ (y : Maybe Refusal × (List Entry × Bool)). IfSome y.0 (λ z. IsRefused o y.1.0 y.1.1 z) × ((only v).failed ≡ true → y.1.1 ≡ true)) (λ i. (sym refused_is i, (sym J' i, (could.1 ∙ sym whole) i)))
+            refused = subst (λ (y : Maybe Refusal × (List Entry × Bool)). IfSome y.0 (λ z. IsRefused v.layout o y.1.0 y.1.1 z) × ((only v).failed ≡ true → y.1.1 ≡ true)) (λ i. (sym refused_is i, (sym J' i, (could.1 ∙ sym whole) i)))
                 (next_refused t.refused h.refused.0, h.refused.1);
             stands = subst (λ (y : List Entry × Bool). StandsFor account_of (IsLogOf written flushed target faults) t'.book v.origin v.layout o y.0 y.1) (λ i. (sym J' i, sym whole i)) (record {
               log = record {
@@ -137,9 +138,9 @@ module _ {S : Type 0} {d : Ghosts S} (written flushed target : S → Maybe (List
             });
           }
         where
-          next_refused : (x : Maybe Refusal) → IfSome x (λ z. IsRefused v.opening J t.book.log.lines.spent z) → IfSome x (λ z. IsRefused v.opening (J ++ e ∷ []) t.book.log.lines.spent z)
+          next_refused : (x : Maybe Refusal) → IfSome x (λ z. IsRefused v.layout v.opening J t.book.log.lines.spent z) → IfSome x (λ z. IsRefused v.layout v.opening (J ++ e ∷ []) t.book.log.lines.spent z)
           next_refused None q = q
-          next_refused (Some z) q = refused_next v.opening J e t.book.log.lines.spent z q
+          next_refused (Some z) q = refused_next v.layout v.opening J e t.book.log.lines.spent z q
 
       -- the line stands
       pub line_turn : (t' : Turn S d) (x : Line) (number : ℕ) → lines_after (book v.opening.formula J) e ≡ x ∷ [] → t'.noted.items ≡ t.noted.items ++ n ∷ [] → t'.refused ≡ t.refused
@@ -164,9 +165,9 @@ module _ {S : Type 0} {d : Ghosts S} (written flushed target : S → Maybe (List
             whole,
           )
 
-      more_refused : (x : Maybe Refusal) (now : Bool) → (t.book.log.lines.spent ≡ true → now ≡ true) → IfSome x (λ z. IsRefused v.opening J t.book.log.lines.spent z) → IfSome x (λ z. IsRefused v.opening J now z)
+      more_refused : (x : Maybe Refusal) (now : Bool) → (t.book.log.lines.spent ≡ true → now ≡ true) → IfSome x (λ z. IsRefused v.layout v.opening J t.book.log.lines.spent z) → IfSome x (λ z. IsRefused v.layout v.opening J now z)
       more_refused None now more q = q
-      more_refused (Some z) now more q = refused_more v.opening J t.book.log.lines.spent now more z q
+      more_refused (Some z) now more q = refused_more v.layout v.opening J t.book.log.lines.spent now more z q
 
       -- the sink failed at the line
       pub failed_turn : (t' : Turn S d) (x : Line) → lines_after (book v.opening.formula J) e ≡ x ∷ [] → All (IsOn v.layout.vars) (lits_of x) → t'.noted.items ≡ t.noted.items → t'.refused ≡ t.refused
@@ -184,7 +185,7 @@ module _ {S : Type 0} {d : Ghosts S} (written flushed target : S → Maybe (List
             record {
               writing = h.writing;
               may = subst (λ (ns : List Note). MayWrite v ns) (sym noted_is) h.may;
-              refused = subst (λ (y : Maybe Refusal × List Entry). IfSome y.0 (λ z. IsRefused o y.1 t'.book.log.lines.spent z) × ((only v).failed ≡ true → t'.book.log.lines.spent ≡ true)) (λ i. (sym refused_is i, sym J' i))
+              refused = subst (λ (y : Maybe Refusal × List Entry). IfSome y.0 (λ z. IsRefused v.layout o y.1 t'.book.log.lines.spent z) × ((only v).failed ≡ true → t'.book.log.lines.spent ≡ true)) (λ i. (sym refused_is i, sym J' i))
                   (more_refused t.refused t'.book.log.lines.spent (λ _. spent) h.refused.0, λ _. spent);
               stands = subst (λ (K : List Entry). StandsFor account_of (IsLogOf written flushed target faults) t'.book v.origin v.layout o K t'.book.log.lines.spent) (sym J') (record {
                 log = record {
@@ -217,7 +218,7 @@ module _ {S : Type 0} {d : Ghosts S} (written flushed target : S → Maybe (List
         record {
           writing = h.writing;
           may = subst (λ (ns : List Note). MayWrite v ns) (sym noted_is) h.may;
-          refused = subst (λ (y : Maybe Refusal × (List Entry × Bool)). IfSome y.0 (λ z. IsRefused o y.1.0 y.1.1 z) × ((only v).failed ≡ true → y.1.1 ≡ true)) (λ i. (sym refused_is i, (sym J' i, sym spent i))) h.refused;
+          refused = subst (λ (y : Maybe Refusal × (List Entry × Bool)). IfSome y.0 (λ z. IsRefused v.layout o y.1.0 y.1.1 z) × ((only v).failed ≡ true → y.1.1 ≡ true)) (λ i. (sym refused_is i, (sym J' i, sym spent i))) h.refused;
           stands = subst (λ (y : List Entry × Bool). StandsFor account_of (IsLogOf written flushed target faults) t'.book v.origin v.layout o y.0 y.1) (λ i. (sym J' i, sym spent i)) (record {
             log = record {
               entries = alike.entries ∙ log.entries;
@@ -246,7 +247,7 @@ module _ {S : Type 0} {d : Ghosts S} (written flushed target : S → Maybe (List
       stands = h.stands;
     })
       where
-        cause : (f : TurnStop) → IsGrounded v t f → IfSome (noted_as f t.refused) (λ z. IsRefused v.opening J t.book.log.lines.spent z)
+        cause : (f : TurnStop) → IsGrounded v t f → IfSome (noted_as f t.refused) (λ z. IsRefused v.layout v.opening J t.book.log.lines.spent z)
         cause stop.Ended q = q
         cause stop.Broken q = q
         cause (stop.NoHole need most) q = q

@@ -62,11 +62,11 @@ module _ (l : Layout) (small : table_words l ≤ 2 ^ 63) (r : ℕ) where
     room_next : (e : Entry) → room l o (c.journal ++ e ∷ []) ≡ room_after M e
     room_next e = room_more l o c.journal (e ∷ []) (begins_long c sound)
 
-    still : (K : List Entry) → ended o.formula c.journal ≡ false → (failed : Bool) (x : Refusal) → IsRefused o c.journal failed x → IsRefused o K failed x
-    still K going failed Ended e = absurd (true≢false (sym e ∙ going))
-    still K going failed Broken h = h
-    still K going failed ProofFault h = h
-    still K going failed (NoHole need largest) lt = lt
+    still : (K : List Entry) → ended o.formula c.journal ≡ false → (k : Layout) (failed : Bool) (x : Refusal) → IsRefused k o c.journal failed x → IsRefused k o K failed x
+    still K going k failed Ended e = absurd (true≢false (sym e ∙ going))
+    still K going k failed Broken h = h
+    still K going k failed ProofFault h = h
+    still K going k failed (NoHole need largest) lt = lt
 
     writes : IsGoing o s.journal → Writes c r
     writes g = subst (λ (J : List Entry). IsGoing o J → Writes c r) (sym sh.journal) (λ k. record { turn = turn; going = k.going; room = k.room }) g

@@ -33,6 +33,7 @@ use Rattle.sat_words.specs.Literal.{Literal}
 use Rattle.share_core.proofs.Leaving.{left_sound}
 use Rattle.share_rule.proofs.Parts.{cell_below, number_below}
 use Rattle.share_rule.specs.Room.{Places}
+use Rattle.share_rule.specs.Tight.{IsTight}
 use Rattle.share_rule.specs.Shown.{Words, Fits, Shows, IsHome, IsOut, KnowsFault, SomeTold, WasTold, ring_of}
 use Rattle.share_rule.proofs.Telling.{told_one, only_told, still_told}
 use Rattle.share_rule.proofs.Lists.{both_true, times_at_part, off}
@@ -93,14 +94,14 @@ pub refused_same : (l : Layout) (c d : State) → d.opening ≡ c.opening → d.
 refused_same l c d o j failed Ended e = (λ i. ended (o i).formula (j i)) ∙ e
 refused_same l c d o j failed Broken h = h
 refused_same l c d o j failed ProofFault h = h
-refused_same l c d o j failed (NoHole need largest) lt = lt
+refused_same l c d o j failed (NoHole need most) h = subst (λ (y : CoreOpening × List Entry). IsTight l y.0 y.1 need most) (λ i. (sym o i, sym j i)) h
 
 -- a ring that is told of a failed write was refused for as good a cause
 pub refused_more : (l : Layout) (o : CoreOpening) (J : List Entry) (was now : Bool) → (was ≡ true → now ≡ true) → (x : Refusal) → IsRefused l o J was x → IsRefused l o J now x
 refused_more l o J was now more Ended e = e
 refused_more l o J was now more Broken e = more e
 refused_more l o J was now more ProofFault e = more e
-refused_more l o J was now more (NoHole need largest) lt = lt
+refused_more l o J was now more (NoHole need most) h = h
 
 -- what slots have is the same if slots and clauses are
 pub given_same : (c d : State) (i : ℕ) (gave : List ClauseAt) → d.opening ≡ c.opening → ((k : ℕ) → d.slot k ≡ c.slot k) → ((a : ℕ) → clause_at d a ≡ clause_at c a) → HasGiven c i gave → HasGiven d i gave

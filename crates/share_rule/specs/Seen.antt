@@ -19,6 +19,7 @@ use Rattle.share_rule.specs.declared.view.Refusal.TheVariants.{Ended, Broken, Pr
 use Rattle.share_rule.specs.declared.view.View.{View}
 use Rattle.share_rule.specs.Layout.{first_cell, table_words, InVars}
 use Rattle.share_rule.specs.Room.{Places}
+use Rattle.share_rule.specs.Tight.{IsTight}
 use Rattle.share_rule.specs.Views.{glue_in, own_stop}
 
 -- the words of cells lie in the table and don't overlap; all literals are on the layout's variables
@@ -41,7 +42,7 @@ abbrev pub IsRefused : Layout → CoreOpening → List Entry → Bool → Refusa
 IsRefused l o J failed Ended = ended o.formula J ≡ true
 IsRefused l o J failed Broken = failed ≡ true
 IsRefused l o J failed ProofFault = failed ≡ true
-IsRefused l o J failed (NoHole need largest) = largest < need
+IsRefused l o J failed (NoHole need most) = IsTight l o J need most
 
 -- what the ring's slots have for others is among these clauses
 abbrev pub HasGiven : State → ℕ → List ClauseAt → Type 0

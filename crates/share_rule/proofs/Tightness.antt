@@ -1,5 +1,5 @@
 -- Room that was wanted once.
-use Rattle.std.proofs.Common.{◌≡◌, ℕ, ◌<◌, List, ◌++◌, ap, ◌∙◌, inl, inr, arith, append_assoc, length-append}
+use Rattle.std.proofs.Common.{ℕ, ◌<◌, List, ◌++◌, ap, ◌∙◌, inl, inr, arith, append_assoc, length-append}
 use Rattle.rup_model.specs.declared.journal.Entry.{Entry}
 use Rattle.share_core.specs.declared.part.CoreOpening.{CoreOpening}
 use Rattle.share_rule.specs.declared.Layout.{Layout}

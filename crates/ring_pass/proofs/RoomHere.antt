@@ -15,7 +15,7 @@ use Rattle.ring_port.specs.declared.stops.PortStop.TheVariants as port
 use Rattle.ring_pass.specs.Refusals.{answer_noted, last_refusal}
 
 -- whether room was wanted
-wants : Option PortStop → Bool
+abbrev wants : Option PortStop → Bool
 wants None = false
 wants (Some port.Ended) = false
 wants (Some port.Broken) = false
@@ -24,7 +24,7 @@ wants (Some port.Memory) = false
 wants (Some port.ProofFault) = false
 
 -- how much
-lack_in : NoRoom → Option PortStop → NoRoom
+abbrev lack_in : NoRoom → Option PortStop → NoRoom
 lack_in d None = d
 lack_in d (Some port.Ended) = d
 lack_in d (Some port.Broken) = d
